@@ -1,0 +1,5 @@
+use Rattle.pg_board.proofs.BoardLemmas.{write_sets}
+use Rattle.pg_board.proofs.board.Board.put.Goals as goal
+
+pub returns : goal.returns
+returns c = write_sets _ _ c.self.view_is c.self.invariant _ _ _ _ c.index.ensures.value c.replaced-self-inside.ensures.square

@@ -1,0 +1,6 @@
+pub mod Squares
+pub mod Men
+pub mod Tally
+pub mod Placement
+pub mod Bits
+pub mod Sets
