@@ -1,0 +1,239 @@
+-- Attack by sets of squares, man by man and ray by ray. Leads to the contract of `attacked`.
+use Rattle.std.proofs.Common.{◌≡◌, ◌≢◌, ℕ, ◌-◌, ◌^◌, ◌<◌, ◌⊎◌, ◌↔◌, inl, inr, IsTrue, Bool, true, false, ◌&&◌, Option, Some, None, refl, sym, ap, ◌∙◌, subst, arith, bit_and, w64, lt_of_le_of_lt}
+use Rattle.std.specs.Int.{trailing_zeros, leading_zeros}
+use Rattle.std.specs.Bool.{Decides}
+use Rattle.std.proofs.lemmas.Nat.{and_le_l}
+use Rattle.pg_board.specs.declared.man.Color.{Color}
+use Rattle.pg_board.specs.declared.man.Color.TheVariants.{White, Black}
+use Rattle.pg_board.specs.declared.man.Kind.{Kind}
+use Rattle.pg_board.specs.declared.man.Kind.TheVariants.{Pawn, Knight, Bishop, Rook, Queen, King}
+use Rattle.pg_board.specs.declared.man.Man.{Man}
+use Rattle.pg_board.specs.Bits.{has, has-and, has-none, has-first, has-last}
+use Rattle.pg_board.specs.Men.{man, other, is_man, is_man_decides, is_held}
+use Rattle.pg_board.specs.Placement.{Placement, get, get_on}
+use Rattle.pg_position.specs.declared.direction.Direction.{Direction}
+use Rattle.pg_position.specs.declared.direction.Direction.TheVariants.{North, NorthEast, East, SouthEast, South, SouthWest, West, NorthWest}
+use Rattle.pg_position.specs.Geometry.{InPattern, IsBetween}
+use Rattle.pg_position.specs.Rays.{OnRay, IsIn, ascends, slides}
+use Rattle.pg_position.specs.SquareSets.{IsSetOf}
+use Rattle.pg_position.specs.Attack.{IsClear, Attacks, AttacksFrom}
+use Rattle.pg_position.specs.Lines.{AttackedBy, AttackedAlong, IsBlocked, IsFree, ByStep, Straight, Diagonal}
+use Rattle.pg_position.proofs.SetLemmas.{and_true, second}
+use Rattle.pg_position.proofs.LineLemmas.{between_forth, between_back, slide_pattern, bishop_ray, rook_ray, queen_ray, pawn_near, knight_near, king_near}
+
+-- a man that attacks by one step, by the set of the squares that it attacks from
+leap : (b : Placement) (m : Man) (s mask men : ℕ) (r : Bool) (P : ℕ → Type 0)
+    → IsSetOf mask P
+    → ((q : ℕ) → q < 64 → has men q ≡ is_man m (get b q))
+    → ((q : ℕ) → P q → InPattern m.color m.kind q s)
+    → ((q : ℕ) → InPattern m.color m.kind q s → P q)
+    → ((q t : ℕ) → InPattern m.color m.kind q s → ¬ IsBetween q t s)
+    → Decides r ((q : ℕ) × (q < 64) × (has mask q ≡ true) × (has men q ≡ true))
+    → IsTrue r ↔ AttackedBy b m s
+unfolding AttackedBy IsClear
+leap b m s mask men r P masks mens to from near d = (
+  λ e. let (q, l, x, y) = d.0 e in
+      let p : InPattern m.color m.kind q s = to q ((masks q l).0 x) in
+      (q, l, (is_man_decides m (get b q)).0 (sym (mens q l) ∙ y), p, λ t k bet. absurd (near q t p bet)),
+  λ (q, l, g, p, c). d.1 (q, l, (masks q l).1 (from q p), mens q l ∙ (is_man_decides m (get b q)).1 g),
+)
+
+knight_turn : (c d : Color) (r s : ℕ) → InPattern c Knight r s → InPattern d Knight s r
+unfolding InPattern
+knight_turn c d r s p = elim p [ inl (x, y) ↦ inl (omega arith, omega arith) | inr (x, y) ↦ inr (omega arith, omega arith) ]
+
+king_turn : (c d : Color) (r s : ℕ) → InPattern c King r s → InPattern d King s r
+unfolding InPattern
+king_turn c d r s (n, x, y) = (omega arith, omega arith, omega arith)
+
+pawn_turn : (c : Color) (r s : ℕ) → InPattern c Pawn r s → InPattern (other c) Pawn s r
+unfolding InPattern
+pawn_turn White r s (x, y) = (omega arith, omega arith)
+pawn_turn Black r s (x, y) = (omega arith, omega arith)
+
+pawn_back : (c : Color) (r s : ℕ) → InPattern (other c) Pawn s r → InPattern c Pawn r s
+unfolding InPattern
+pawn_back White r s (x, y) = (omega arith, omega arith)
+pawn_back Black r s (x, y) = (omega arith, omega arith)
+
+module _ (b : Placement) (c : Color) (s mask men : ℕ) (r : Bool) where
+  pub knight_attacked : (m : Man) → m ≡ man c Knight → ((d : Color) → IsSetOf mask (InPattern d Knight s)) → ((q : ℕ) → q < 64 → has men q ≡ is_man m (get b q)) → Decides r ((q : ℕ) × (q < 64) × (has mask q ≡ true) × (has men q ≡ true)) → IsTrue r ↔ AttackedBy b (man c Knight) s
+  knight_attacked m e masks mens d = leap b (man c Knight) s mask men r (InPattern c Knight s) (masks c) (λ q l. mens q l ∙ ap (λ x. is_man x (get b q)) e) (λ q p. knight_turn c c s q p) (λ q p. knight_turn c c q s p) (λ q t p. knight_near c q t s p) d
+
+  pub king_attacked : (m : Man) → m ≡ man c King → ((d : Color) → IsSetOf mask (InPattern d King s)) → ((q : ℕ) → q < 64 → has men q ≡ is_man m (get b q)) → Decides r ((q : ℕ) × (q < 64) × (has mask q ≡ true) × (has men q ≡ true)) → IsTrue r ↔ AttackedBy b (man c King) s
+  king_attacked m e masks mens d = leap b (man c King) s mask men r (InPattern c King s) (masks c) (λ q l. mens q l ∙ ap (λ x. is_man x (get b q)) e) (λ q p. king_turn c c s q p) (λ q p. king_turn c c q s p) (λ q t p. king_near c q t s p) d
+
+  pub pawn_attacked : (m : Man) (o : Color) → m ≡ man c Pawn → o ≡ other c → IsSetOf mask (InPattern o Pawn s) → ((q : ℕ) → q < 64 → has men q ≡ is_man m (get b q)) → Decides r ((q : ℕ) × (q < 64) × (has mask q ≡ true) × (has men q ≡ true)) → IsTrue r ↔ AttackedBy b (man c Pawn) s
+  pawn_attacked m o e f masks mens d = leap b (man c Pawn) s mask men r (InPattern (other c) Pawn s) (subst (λ (x : Color). IsSetOf mask (InPattern x Pawn s)) f masks) (λ q l. mens q l ∙ ap (λ x. is_man x (get b q)) e) (λ q p. pawn_back c q s p) (λ q p. pawn_turn c q s p) (λ q t p. pawn_near c q t s p) d
+
+-- ---- the first man on a ray
+held_none : (o : Option Man) → is_held o ≡ false → o ≡ None
+held_none None e = refl
+held_none (Some m) e = absurd (cc)
+
+pub not_held : (o : Option Man) → is_held o ≡ true → o ≢ None
+not_held None e _ = absurd (cc)
+not_held (Some m) e f = absurd (cc)
+
+pub held_on : (b : Placement) (x : ℕ) → is_held (get b x) ≡ true → x < 64
+held_on b x e = elim (get b x) as (λ o. get b x ≡ o → is_held o ≡ true → x < 64) [
+  | None ↦ λ _ f. absurd (cc)
+  | Some m ↦ λ g _. get_on b x m g
+] refl e
+
+module _ (b : Placement) (d : Direction) (s line occ : ℕ) (rays : IsSetOf line (OnRay d s)) (held : (q : ℕ) → q < 64 → has occ q ≡ is_held (get b q)) where
+  off_ray : (t : ℕ) → t < 64 → OnRay d s t → has (bit_and line occ) t ≡ false → get b t ≡ None
+  off_ray t l o e =
+      let on : has line t ≡ true = (rays t l).1 o in
+      let both : has (bit_and line occ) t ≡ has line t && has occ t = has-and line occ t in
+      let h : has occ t ≡ is_held (get b t) = held t l in
+      held_none (get b t) (sym h ∙ second (has line t) (has occ t) on (sym both ∙ e))
+
+  pub ray_none : bit_and line occ ≡ 0 → (t : ℕ) → t < 64 → OnRay d s t → get b t ≡ None
+  ray_none z t l o = off_ray t l o (ap (λ n. has n t) z ∙ has-none t)
+
+  module _ (fits : line < 2 ^ 64) (some : bit_and line occ ≢ 0) where
+    positive : 0 < bit_and line occ
+    positive = omega arith
+
+    small : bit_and line occ < 2 ^ 64
+    small = lt_of_le_of_lt (and_le_l line occ) fits
+
+    at_bit : (x : ℕ) → x < 64 → has (bit_and line occ) x ≡ true → OnRay d s x × (is_held (get b x) ≡ true)
+    at_bit x l e = let (p, q) = and_true (has line x) (has occ x) (sym (has-and line occ x) ∙ e) in ((rays x l).0 p, sym (held x l) ∙ q)
+
+    pub ray_first : (x : ℕ) → ascends d ≡ true → x ≡ trailing_zeros w64 (bit_and line occ) → IsBlocked b d s x
+    unfolding IsFree
+    ray_first x up e =
+        let f = has-first (bit_and line occ) positive small in
+        let l : x < 64 = subst (λ (y : ℕ). y < 64) (sym e) f.0 in
+        let h = at_bit x l (ap (has (bit_and line occ)) e ∙ f.1) in
+        record {
+          on = h.0;
+          held = h.1;
+          free = λ t k o bef.
+              let lt : t < x = subst (λ (v : Bool). IsIn v t x) up bef in
+              off_ray t k o (f.2 t (subst (λ (y : ℕ). t < y) e lt));
+        }
+
+    pub ray_last : (x : ℕ) → ascends d ≡ false → x ≡ 63 - leading_zeros w64 (bit_and line occ) → IsBlocked b d s x
+    unfolding IsFree
+    ray_last x up e =
+        let f = has-last (bit_and line occ) x positive small e in
+        let h = at_bit x f.0 f.1 in
+        record {
+          on = h.0;
+          held = h.1;
+          free = λ t k o bef.
+              let lt : x < t = subst (λ (v : Bool). IsIn v t x) up bef in
+              off_ray t k o (f.2 t lt);
+        }
+
+-- of two squares, one comes first
+order : (u : Bool) (r x : ℕ) → ¬ IsIn u r x → ¬ IsIn u x r → r ≡ x
+order true r x f g = let f : ¬ (r < x) = f in let g : ¬ (x < r) = g in omega arith
+order false r x f g = let f : ¬ (x < r) = f in let g : ¬ (r < x) = g in omega arith
+
+module _ (b : Placement) (c : Color) (d : Direction) (s : ℕ) where
+  pub along_none : ((t : ℕ) → t < 64 → OnRay d s t → get b t ≡ None) → ¬ AttackedAlong b c d s
+  unfolding AttackedAlong
+  along_none h (r, m, l, g, e, t, o, cl) = let n : get b r ≡ None = h r l o in absurd (cc)
+
+  module _ (x : ℕ) (h : IsBlocked b d s x) where
+    l : x < 64
+    l = held_on b x h.held
+
+    clear_to : IsClear b x s
+    unfolding IsClear IsFree
+    clear_to t k bet = let (o, bef) = between_forth d s x t h.on bet in h.free t k o bef
+
+    pub along_from : (m : Man) → get b x ≡ Some m → m.color ≡ c → slides d m.kind ≡ true → AttackedAlong b c d s
+    unfolding AttackedAlong
+    along_from m g e t = (x, m, l, g, e, t, h.on, clear_to)
+
+    only : (r : ℕ) (m : Man) → r < 64 → get b r ≡ Some m → OnRay d s r → IsClear b r s → r ≡ x
+    unfolding IsClear IsFree
+    only r m k g o cl = order (ascends d) r x
+        (λ bef. let n : get b r ≡ None = h.free r k o bef in absurd (cc))
+        (λ bef. not_held (get b x) h.held (cl x l (between_back d s r x o h.on bef)))
+
+    pub along_at : AttackedAlong b c d s → (m : Man) × (get b x ≡ Some m) × (m.color ≡ c) × (slides d m.kind ≡ true)
+    unfolding AttackedAlong
+    along_at (r, m, k, g, e, t, o, cl) = let same : r ≡ x = only r m k g o cl in (m, ap (get b) (sym same) ∙ g, e, t)
+
+    module _ (men i : ℕ) (k : Kind) (m : Man) (r : Bool) (same : m ≡ man c k) (mens : (q : ℕ) → q < 64 → has men q ≡ is_man m (get b q)) (at : i ≡ x) (is : r ≡ has men i) where
+      test_is : r ≡ is_man (man c k) (get b x)
+      test_is = is ∙ ap (has men) at ∙ mens x l ∙ ap (λ y. is_man y (get b x)) same
+
+      pub along_true : slides d k ≡ true → r ≡ true → AttackedAlong b c d s
+      along_true t e = along_from (man c k) ((is_man_decides (man c k) (get b x)).0 (sym test_is ∙ e)) refl t
+
+      pub along_is : (y : Man) → get b x ≡ Some y → y.color ≡ c → y.kind ≡ k → r ≡ true
+      along_is y g e f = let whole : y ≡ man c k = λ j. record { color = e j; kind = f j } in
+          test_is ∙ (is_man_decides (man c k) (get b x)).1 (g ∙ ap Some whole)
+
+    -- the first test failed: the second decides
+    pub along_else : (k : Kind) (a r : Bool) → ((j : Kind) → (slides d j ≡ true) ↔ ((j ≡ k) ⊎ (j ≡ Queen)))
+        → ((y : Man) → get b x ≡ Some y → y.color ≡ c → y.kind ≡ k → a ≡ true) → a ≡ false
+        → ((y : Man) → get b x ≡ Some y → y.color ≡ c → y.kind ≡ Queen → r ≡ true)
+        → AttackedAlong b c d s → r ≡ true
+    along_else k a r kinds one off two h =
+        let (m, g, e, t) = along_at h in
+        elim ((kinds m.kind).0 t) [
+          | inl f ↦ let yes : a ≡ true = one m g e f in absurd (cc)
+          | inr f ↦ two m g e f
+        ]
+
+-- ---- every attack
+pub by_man : (b : Placement) (c : Color) (k : Kind) (s : ℕ) → AttackedBy b (man c k) s → Attacks b c s
+unfolding AttackedBy Attacks AttacksFrom
+by_man b c k s (r, l, g, p, cl) = (r, l, (man c k, g, refl, p, cl))
+
+pub by_along : (b : Placement) (c : Color) (d : Direction) (s : ℕ) → AttackedAlong b c d s → Attacks b c s
+unfolding AttackedAlong Attacks AttacksFrom
+by_along b c d s (r, m, l, g, e, t, o, cl) = (r, l, (m, g, e, slide_pattern d m.color m.kind s r t o, cl))
+
+-- an attack is by a man of one step or along a ray
+abbrev pub Split : Placement → Color → ℕ → Type 0
+Split b c s = (AttackedBy b (man c Pawn) s ⊎ AttackedBy b (man c Knight) s ⊎ AttackedBy b (man c King) s) ⊎ ((d : Direction) × AttackedAlong b c d s)
+
+pub split : (b : Placement) (c : Color) (s : ℕ) → Attacks b c s → Split b c s
+unfolding AttackedAlong AttackedBy Attacks AttacksFrom
+split b c s (r, l, (m, g, e, p, cl)) =
+    let whole : (k : Kind) → m.kind ≡ k → m ≡ man c k = λ k f i. record { color = e i; kind = f i } in
+    let step : (k : Kind) → m.kind ≡ k → AttackedBy b (man c k) s = λ k f.
+    (r, l, g ∙ ap Some (whole k f), subst (λ (x : Man). InPattern x.color x.kind r s) (whole k f) p, cl) in
+    let pattern : (k : Kind) → m.kind ≡ k → InPattern m.color k r s = λ k f. subst (λ (x : Kind). InPattern m.color x r s) f p in
+    elim m.kind as (λ k. m.kind ≡ k → Split b c s) [
+      | Pawn ↦ λ f. inl (inl (step Pawn f))
+      | Knight ↦ λ f. inl (inr (inl (step Knight f)))
+      | King ↦ λ f. inl (inr (inr (step King f)))
+      | Bishop ↦ λ f. let (d, t, o) = bishop_ray m.color s r (pattern Bishop f) in inr (d, (r, m, l, g, e, ap (slides d) f ∙ t, o, cl))
+      | Rook ↦ λ f. let (d, t, o) = rook_ray m.color s r (pattern Rook f) in inr (d, (r, m, l, g, e, ap (slides d) f ∙ t, o, cl))
+      | Queen ↦ λ f. let (d, t, o) = queen_ray m.color s r (pattern Queen f) in inr (d, (r, m, l, g, e, ap (slides d) f ∙ t, o, cl))
+    ] refl
+
+by_direction : (b : Placement) (c : Color) (d : Direction) (s : ℕ) → AttackedAlong b c d s → Straight b c s ⊎ Diagonal b c s
+by_direction b c North s h = inl (inl (h))
+by_direction b c East s h = inl (inr (inl (h)))
+by_direction b c South s h = inl (inr (inr (inl (h))))
+by_direction b c West s h = inl (inr (inr (inr (h))))
+by_direction b c NorthEast s h = inr (inl (h))
+by_direction b c SouthEast s h = inr (inr (inl (h)))
+by_direction b c SouthWest s h = inr (inr (inr (inl (h))))
+by_direction b c NorthWest s h = inr (inr (inr (inr (h))))
+
+pub attacks_forth : (b : Placement) (c : Color) (s : ℕ) → Attacks b c s → ByStep b c s ⊎ Straight b c s ⊎ Diagonal b c s
+attacks_forth b c s h = elim (split b c s h) [ inl x ↦ inl x | inr (d, y) ↦ inr (by_direction b c d s y) ]
+
+pub attacks_back : (b : Placement) (c : Color) (s : ℕ) → ByStep b c s ⊎ Straight b c s ⊎ Diagonal b c s → Attacks b c s
+attacks_back b c s h = elim h [
+  | inl x ↦ elim x [
+    | inl y ↦ by_man b c Pawn s y
+    | inr z ↦ elim z [ inl y ↦ by_man b c Knight s y | inr y ↦ by_man b c King s y ]
+  ]
+  | inr x ↦ elim x [
+    | inl y ↦ elim y [ inl u ↦ by_along b c North s u | inr v ↦ elim v [ inl u ↦ by_along b c East s u | inr w ↦ elim w [ inl u ↦ by_along b c South s u | inr u ↦ by_along b c West s u ] ] ]
+    | inr y ↦ elim y [ inl u ↦ by_along b c NorthEast s u | inr v ↦ elim v [ inl u ↦ by_along b c SouthEast s u | inr w ↦ elim w [ inl u ↦ by_along b c SouthWest s u | inr u ↦ by_along b c NorthWest s u ] ] ]
+  ]
+]

@@ -1,0 +1,10 @@
+pub mod PatternTests
+pub mod TableLemmas
+pub mod LineLemmas
+pub mod AttackLemmas
+pub mod ReachLemmas
+pub mod SetLemmas
+pub mod StepLemmas
+pub mod ValidLemmas
+pub mod ArrayLemmas
+pub mod FutureLemmas

@@ -1,0 +1,223 @@
+-- Where a man may capture, by sets of squares. Leads to the contracts of `reach` and `is_clear`.
+use Rattle.std.proofs.Common.{◌≡◌, ℕ, ◌-◌, ◌^◌, ◌<◌, ◌⊎◌, ◌↔◌, IsTrue, inl, inr, Bool, true, false, not, cond, ◌&&◌, None, eqb, refl, sym, ap, ◌∙◌, subst, arith, bit_and, bit_or, w64}
+use Rattle.std.specs.Int.{bit_not}
+use Rattle.std.proofs.lemmas.Nat.Bits.{bit_at_not}
+use Rattle.std.proofs.lemmas.Bool.Decides.{Decides-or, Decides-and, Decides-not, Decides-at, Decides-like}
+use Rattle.pg_board.specs.declared.man.Color.{Color}
+use Rattle.pg_board.specs.declared.man.Kind.{Kind}
+use Rattle.pg_board.specs.declared.man.Kind.TheVariants.{Pawn, Knight, Bishop, Rook, Queen, King}
+use Rattle.pg_board.specs.Bits.{has, has-and, has-or, bit_has}
+use Rattle.pg_board.specs.Placement.{Placement, get, empty, get-empty}
+use Rattle.pg_position.specs.declared.direction.Direction.{Direction}
+use Rattle.pg_position.specs.declared.direction.Direction.TheVariants.{North, NorthEast, East, SouthEast, South, SouthWest, West, NorthWest}
+use Rattle.pg_position.specs.Geometry.{OnOneLine, InPattern, IsBetween}
+use Rattle.pg_position.specs.Rays.{OnRay, Before, IsIn, ascends, slides, is_straight}
+use Rattle.pg_position.specs.SquareSets.{IsSetOf}
+use Rattle.pg_position.specs.Attack.{IsClear, Reaches}
+use Rattle.pg_position.specs.Lines.{IsBlocked, IsFree, ReachesAlong, ReachesStraight, ReachesDiagonal}
+use Rattle.pg_position.proofs.LineLemmas.{between_forth, between_back, slide_pattern, bishop_ray, rook_ray, queen_ray, pawn_near, knight_near, king_near}
+use Rattle.pg_position.proofs.AttackLemmas.{not_held, held_on}
+
+-- ---- sets
+flipped : (b : Bool) → eqb (1 - cond b 1 0) 1 ≡ not b
+flipped true = refl
+flipped false = refl
+
+has-not : (n q : ℕ) → n < 2 ^ 64 → q < 64 → has (bit_not w64 n) q ≡ not (has n q)
+has-not n q l k = ap (λ x. eqb x 1) (bit_at_not w64 n q l k ∙ ap (λ x. 1 - x) (bit_has n q)) ∙ flipped (has n q)
+
+pub set_like : {P Q : ℕ → Type 0} (n : ℕ) → ((q : ℕ) → q < 64 → P q → Q q) → ((q : ℕ) → q < 64 → Q q → P q) → IsSetOf n P → IsSetOf n Q
+set_like n f g h q l = Decides-like (has n q) (f q l) (g q l) (h q l)
+
+pub set_or : {P Q : ℕ → Type 0} (a b : ℕ) → IsSetOf a P → IsSetOf b Q → IsSetOf (bit_or a b) (λ q. P q ⊎ Q q)
+set_or a b f g q l = Decides-at _ _ (has-or a b q) (Decides-or _ _ (f q l) (g q l))
+
+pub set_without : {P Q : ℕ → Type 0} (a b : ℕ) → b < 2 ^ 64 → IsSetOf a P → IsSetOf b Q → IsSetOf (bit_and a (bit_not w64 b)) (λ q. P q × ¬ Q q)
+set_without a b s f g q l = Decides-at _ _ (has-and a (bit_not w64 b) q ∙ ap (λ y. has a q && y) (has-not b q s l)) (Decides-and _ _ (f q l) (Decides-not _ (g q l)))
+
+-- ---- turned round
+unnot : (b : Bool) → not b ≡ true → b ≡ false
+unnot true e = absurd (cc)
+unnot false e = refl
+
+line_turn : (r s : ℕ) → OnOneLine r s → OnOneLine s r
+line_turn r s e = elim e [ inl x ↦ inl (sym x) | inr x ↦ inr (sym x) ]
+
+pub between_turn : (r t s : ℕ) → IsBetween r t s → IsBetween s t r
+unfolding IsBetween
+between_turn r t s (n, m, wf, wr, z) = (
+  m,
+  n,
+  omega arith,
+  omega arith,
+  elim z [
+    | inl (x, y, w) ↦ inl (line_turn t s y, line_turn r t x, line_turn r s w)
+    | inr (x, y) ↦ inr (omega arith, omega arith)
+  ],
+)
+
+bishop_turn : (c : Color) (r s : ℕ) → InPattern c Bishop r s → InPattern c Bishop s r
+unfolding InPattern
+bishop_turn c r s (n, e) = (omega arith, omega arith)
+
+rook_turn : (c : Color) (r s : ℕ) → InPattern c Rook r s → InPattern c Rook s r
+unfolding InPattern
+rook_turn c r s (n, e) = (omega arith, line_turn r s e)
+
+queen_turn : (c : Color) (r s : ℕ) → InPattern c Queen r s → InPattern c Queen s r
+unfolding InPattern
+queen_turn c r s (n, e) = (omega arith, elim e [ inl x ↦ inl (line_turn r s x) | inr x ↦ inr (omega arith) ])
+
+-- ---- on one ray
+pub beyond_forth : (d : Direction) (s x t : ℕ) → OnRay d s x → OnRay d x t → OnRay d s t × Before d x t
+unfolding OnRay
+beyond_forth North s x t (a, b) (e, f) = ((omega arith, omega arith), omega arith)
+beyond_forth NorthEast s x t (a, b) (e, f) = ((omega arith, omega arith), omega arith)
+beyond_forth East s x t (a, b) (e, f) = ((omega arith, omega arith), omega arith)
+beyond_forth SouthEast s x t (a, b) (e, f) = ((omega arith, omega arith), omega arith)
+beyond_forth South s x t (a, b) (e, f) = ((omega arith, omega arith), omega arith)
+beyond_forth SouthWest s x t (a, b) (e, f) = ((omega arith, omega arith), omega arith)
+beyond_forth West s x t (a, b) (e, f) = ((omega arith, omega arith), omega arith)
+beyond_forth NorthWest s x t (a, b) (e, f) = ((omega arith, omega arith), omega arith)
+
+pub beyond_back : (d : Direction) (s x t : ℕ) → OnRay d s x → OnRay d s t → Before d x t → OnRay d x t
+unfolding OnRay
+beyond_back North s x t (a, b) (e, f) l = (omega arith, omega arith)
+beyond_back NorthEast s x t (a, b) (e, f) l = (omega arith, omega arith)
+beyond_back East s x t (a, b) (e, f) l = (omega arith, omega arith)
+beyond_back SouthEast s x t (a, b) (e, f) l = (omega arith, omega arith)
+beyond_back South s x t (a, b) (e, f) l = (omega arith, omega arith)
+beyond_back SouthWest s x t (a, b) (e, f) l = (omega arith, omega arith)
+beyond_back West s x t (a, b) (e, f) l = (omega arith, omega arith)
+beyond_back NorthWest s x t (a, b) (e, f) l = (omega arith, omega arith)
+
+after : (u : Bool) (a b c : ℕ) → IsIn u a b → ¬ IsIn u c b → IsIn u a c
+after true a b c l h = let f : ¬ (c < b) = h in omega arith
+after false a b c l h = let f : ¬ (b < c) = h in omega arith
+
+-- the squares of a ray up to its first man
+module _ (b : Placement) (d : Direction) (s line : ℕ) (rays : IsSetOf line (OnRay d s)) where
+  pub reach_open : ((t : ℕ) → t < 64 → OnRay d s t → get b t ≡ None) → IsSetOf line (ReachesAlong b d s)
+  unfolding IsFree
+  reach_open h = set_like line (λ q l o. (o, λ t k p _. h t k p)) (λ q l r. r.0) rays
+
+  pub reach_blocked : (x past : ℕ) → past < 2 ^ 64 → IsBlocked b d s x → IsSetOf past (OnRay d x) → IsSetOf (bit_and line (bit_not w64 past)) (ReachesAlong b d s)
+  unfolding IsFree
+  reach_blocked x past fits h beyond = let l : x < 64 = held_on b x h.held in set_like (bit_and line (bit_not w64 past))
+      (λ q k (o, far). (o, λ t j p bef. h.free t j p (after (ascends d) t q x bef (λ lt. far (beyond_back d s x q h.on o lt)))))
+      (λ q k (o, free). (o, λ p. not_held (get b x) h.held (free x l h.on (beyond_forth d s x q h.on p).1)))
+      (set_without line past fits rays beyond)
+
+-- ---- all rays of a man
+along_pattern : (b : Placement) (c : Color) (k : Kind) (d : Direction) (s t : ℕ) → (InPattern c k t s → InPattern c k s t) → slides d k ≡ true → ReachesAlong b d s t → Reaches b c k s t
+unfolding IsFree IsClear
+along_pattern b c k d s t turn e (o, free) = (turn (slide_pattern d c k s t e o), λ u l bet. let (p, bef) = between_forth d s t u o (between_turn s u t bet) in free u l p bef)
+
+along_free : (b : Placement) (d : Direction) (s t : ℕ) → OnRay d s t → IsClear b s t → ReachesAlong b d s t
+unfolding IsFree IsClear
+along_free b d s t o cl = (o, λ u l p bef. cl u l (between_turn t u s (between_back d s t u o p bef)))
+
+straight_of : (b : Placement) (d : Direction) (s t : ℕ) → is_straight d ≡ true → ReachesAlong b d s t → ReachesStraight b s t
+straight_of b North s t e h = inl (inl (inl h))
+straight_of b East s t e h = inl (inl (inr h))
+straight_of b South s t e h = inl (inr h)
+straight_of b West s t e h = inr h
+straight_of b NorthEast s t e h = absurd (cc)
+straight_of b SouthEast s t e h = absurd (cc)
+straight_of b SouthWest s t e h = absurd (cc)
+straight_of b NorthWest s t e h = absurd (cc)
+
+diagonal_of : (b : Placement) (d : Direction) (s t : ℕ) → is_straight d ≡ false → ReachesAlong b d s t → ReachesDiagonal b s t
+diagonal_of b NorthEast s t e h = inl (inl (inl h))
+diagonal_of b SouthEast s t e h = inl (inl (inr h))
+diagonal_of b SouthWest s t e h = inl (inr h)
+diagonal_of b NorthWest s t e h = inr h
+diagonal_of b North s t e h = absurd (cc)
+diagonal_of b East s t e h = absurd (cc)
+diagonal_of b South s t e h = absurd (cc)
+diagonal_of b West s t e h = absurd (cc)
+
+straight_dir : (b : Placement) (s t : ℕ) → ReachesStraight b s t → (d : Direction) × (is_straight d ≡ true) × ReachesAlong b d s t
+straight_dir b s t h = elim h [
+  | inl x ↦ elim x [
+    | inl y ↦ elim y [ inl z ↦ (North, refl, z) | inr z ↦ (East, refl, z) ]
+    | inr z ↦ (South, refl, z)
+  ]
+  | inr z ↦ (West, refl, z)
+]
+
+diagonal_dir : (b : Placement) (s t : ℕ) → ReachesDiagonal b s t → (d : Direction) × (is_straight d ≡ false) × ReachesAlong b d s t
+diagonal_dir b s t h = elim h [
+  | inl x ↦ elim x [
+    | inl y ↦ elim y [ inl z ↦ (NorthEast, refl, z) | inr z ↦ (SouthEast, refl, z) ]
+    | inr z ↦ (SouthWest, refl, z)
+  ]
+  | inr z ↦ (NorthWest, refl, z)
+]
+
+module _ (b : Placement) (c : Color) (s n : ℕ) where
+  pub reach_rook : IsSetOf n (ReachesStraight b s) → IsSetOf n (Reaches b c Rook s)
+  reach_rook h = set_like n
+      (λ q l r. let (d, e, a) = straight_dir b s q r in along_pattern b c Rook d s q (rook_turn c q s) e a)
+      (λ q l (p, cl). let (d, e, o) = rook_ray c s q (rook_turn c s q p) in straight_of b d s q e (along_free b d s q o cl))
+      h
+
+  pub reach_bishop : IsSetOf n (ReachesDiagonal b s) → IsSetOf n (Reaches b c Bishop s)
+  reach_bishop h = set_like n
+      (λ q l r. let (d, e, a) = diagonal_dir b s q r in along_pattern b c Bishop d s q (bishop_turn c q s) (ap not e) a)
+      (λ q l (p, cl). let (d, e, o) = bishop_ray c s q (bishop_turn c s q p) in diagonal_of b d s q (unnot (is_straight d) e) (along_free b d s q o cl))
+      h
+
+  pub reach_queen : IsSetOf n (λ t. ReachesStraight b s t ⊎ ReachesDiagonal b s t) → IsSetOf n (Reaches b c Queen s)
+  reach_queen h = set_like n
+      (λ q l r. elim r [
+        | inl x ↦ let (d, e, a) = straight_dir b s q x in along_pattern b c Queen d s q (queen_turn c q s) refl a
+        | inr x ↦ let (d, e, a) = diagonal_dir b s q x in along_pattern b c Queen d s q (queen_turn c q s) refl a
+      ])
+      (λ q l (p, cl). let (d, e, o) = queen_ray c s q (queen_turn c s q p) in
+      elim (is_straight d) as (λ v. is_straight d ≡ v → ReachesStraight b s q ⊎ ReachesDiagonal b s q) [
+        | true ↦ λ w. inl (straight_of b d s q w (along_free b d s q o cl))
+        | false ↦ λ w. inr (diagonal_of b d s q w (along_free b d s q o cl))
+      ] refl)
+      h
+
+  -- of a step
+  reach_step : (k : Kind) → ((t u : ℕ) → InPattern c k s t → ¬ IsBetween s u t) → IsSetOf n (InPattern c k s) → IsSetOf n (Reaches b c k s)
+  unfolding IsClear
+  reach_step k near h = set_like n (λ q l p. (p, λ u j bet. absurd (near q u p bet))) (λ q l r. r.0) h
+
+  pub reach_pawn : IsSetOf n (InPattern c Pawn s) → IsSetOf n (Reaches b c Pawn s)
+  reach_pawn h = reach_step Pawn (λ t u p. pawn_near c s u t p) h
+
+  pub reach_knight : IsSetOf n (InPattern c Knight s) → IsSetOf n (Reaches b c Knight s)
+  reach_knight h = reach_step Knight (λ t u p. knight_near c s u t p) h
+
+  pub reach_king : IsSetOf n (InPattern c King s) → IsSetOf n (Reaches b c King s)
+  reach_king h = reach_step King (λ t u p. king_near c s u t p) h
+
+pub reach_as : (b : Placement) (c : Color) (s n : ℕ) (k j : Kind) → k ≡ j → IsSetOf n (Reaches b c j s) → IsSetOf n (Reaches b c k s)
+reach_as b c s n k j e h = subst (λ (x : Kind). IsSetOf n (Reaches b c x s)) (sym e) h
+
+-- ---- a clear line
+queen_between : (c : Color) (r t s : ℕ) → IsBetween r t s → InPattern c Queen r s
+unfolding InPattern IsBetween
+queen_between c r t s (n, m, wf, wr, z) = (
+  omega arith,
+  elim z [ inl (x, y, w) ↦ inl w | inr (x, y) ↦ inr y ],
+)
+
+-- where a queen does not get there, the line is clear only if she would not on the empty board e
+pub clear_else : (b e : Placement) (c : Color) (r s : ℕ) (x y : Bool) → e ≡ empty → x ≡ false
+    → IsTrue x ↔ Reaches b c Queen r s → IsTrue y ↔ Reaches e c Queen r s → IsTrue (not y) ↔ IsClear b r s
+unfolding IsClear
+clear_else b e c r s x y is off here there = (
+  λ f t l bet.
+      let nothing : (u : ℕ) → get e u ≡ None = λ u. ap (λ p. get p u) is ∙ get-empty u in
+      let no : y ≡ false = unnot y f in
+      let yes : y ≡ true = there.1 (queen_between c r t s bet, λ u k _. nothing u) in
+      absurd (cc),
+  λ cl. elim y as (λ v. y ≡ v → not v ≡ true) [
+    | true ↦ λ f. let (p, _) = there.0 f in let on : x ≡ true = here.1 (p, cl) in absurd (cc)
+    | false ↦ λ _. refl
+  ] refl,
+)

@@ -1,0 +1,90 @@
+-- Sets of squares: when two meet, and their members from an index on. Leads to the contracts of `meets` and `first_from`.
+use Rattle.std.proofs.Common.{◌≡◌, ◌≢◌, ℕ, ◌-◌, ◌*◌, ◌%◌, ◌^◌, ◌<◌, ◌≤◌, Bool, true, false, eqb, refl, sym, ap, ◌∙◌, subst, arith, bit_and, w64, not, ltb, ltb-true, ltb-false, lt_of_le_of_lt, ◌&&◌}
+use Rattle.std.proofs.lemmas.Nat.{and_le_l}
+use Rattle.std.proofs.lemmas.Nat.Bits.{ones_shl, bit_at_mask_inside, bit_at_mask_below}
+use Rattle.std.proofs.lemmas.Bool.Decides.{Decides-eqb}
+use Rattle.std.specs.Bool.{Decides}
+use Rattle.std.specs.Int.{trailing_zeros}
+use Rattle.pg_board.specs.Bits.{has, has-first, has-none, has-and}
+use Rattle.pg_position.specs.SquareSets.{HasNoneFrom, IsFirstFrom}
+
+pub and_true : (x y : Bool) → x && y ≡ true → (x ≡ true) × (y ≡ true)
+and_true true true e = (refl, refl)
+and_true true false e = absurd (cc)
+and_true false y e = absurd (cc)
+
+pub second : (x y : Bool) → x ≡ true → x && y ≡ false → y ≡ false
+second true y e f = f
+second false y e f = absurd (cc)
+
+both_true : (x y : Bool) → x ≡ true → y ≡ true → x && y ≡ true
+both_true x y e f = cc
+
+not_nought : (n : ℕ) → not (eqb n 0) ≡ true → 0 < n
+not_nought n e = elim (eqb n 0) as (λ v. eqb n 0 ≡ v → not v ≡ true → 0 < n) [
+  | true ↦ λ _ f. absurd (cc)
+  | false ↦ λ t f. grind (arith, Decides-eqb)
+] refl e
+
+-- the numbers that share a bit
+pub meets_decides : (a b : ℕ) → a < 2 ^ 64 → Decides (not (eqb (bit_and a b) 0)) ((q : ℕ) × (q < 64) × (has a q ≡ true) × (has b q ≡ true))
+meets_decides a b l = (
+  λ e.
+      let n : ℕ = bit_and a b in
+      let first = has-first n (not_nought n e) (lt_of_le_of_lt (and_le_l a b) l) in
+      let parts = and_true (has a (trailing_zeros w64 n)) (has b (trailing_zeros w64 n)) (sym (has-and a b (trailing_zeros w64 n)) ∙ first.1) in
+      (trailing_zeros w64 n, first.0, parts.0, parts.1),
+  λ (q, k, x, y).
+      let on : has (bit_and a b) q ≡ true = has-and a b q ∙ both_true _ _ x y in
+      elim (eqb (bit_and a b) 0) as (λ v. eqb (bit_and a b) 0 ≡ v → not v ≡ true) [
+        | true ↦ λ t. let z : bit_and a b ≡ 0 = (Decides-eqb (bit_and a b) 0).0 t in
+            let off : has (bit_and a b) q ≡ false = ap (λ n. has n q) z ∙ has-none q in absurd (cc)
+        | false ↦ λ t. refl
+      ] refl,
+)
+
+-- the squares of the set n from f on
+abbrev pub kept_from : ℕ → ℕ → ℕ
+kept_from n f = bit_and n ((2 ^ 64 - 1) * 2 ^ f % 2 ^ 64)
+
+and_yes : (b : Bool) → b && true ≡ b
+and_yes true = refl
+and_yes false = refl
+
+and_no : (b : Bool) → b && false ≡ false
+and_no true = refl
+and_no false = refl
+
+above_same : (n f : ℕ) → f < 64 → (q : ℕ) → f ≤ q → q < 64 → has (kept_from n f) q ≡ has n q
+above_same n f l q u k =
+    has-and n ((2 ^ 64 - 1) * 2 ^ f % 2 ^ 64) q
+    ∙ ap (λ v. has n q && v) (ap (λ x. has x q) (ones_shl 64 f (omega arith)) ∙ ap (λ b. eqb b 1) (bit_at_mask_inside f 64 q u k))
+    ∙ and_yes (has n q)
+
+below_none : (n f : ℕ) → f < 64 → (q : ℕ) → q < f → has (kept_from n f) q ≡ false
+below_none n f l q u =
+    has-and n ((2 ^ 64 - 1) * 2 ^ f % 2 ^ 64) q
+    ∙ ap (λ v. has n q && v) (ap (λ x. has x q) (ones_shl 64 f (omega arith)) ∙ ap (λ b. eqb b 1) (bit_at_mask_below f 64 q u))
+    ∙ and_no (has n q)
+
+pub place_none : (n f : ℕ) → f < 64 → bit_and n ((2 ^ 64 - 1) * 2 ^ f % 2 ^ 64) ≡ 0 → HasNoneFrom n f
+place_none n f l z q u k =
+    let zero_there : has (bit_and n ((2 ^ 64 - 1) * 2 ^ f % 2 ^ 64)) q ≡ false = ap (λ x. has x q) z ∙ has-none q in
+    sym (above_same n f l q u k) ∙ zero_there
+
+pub place_first : (n f x : ℕ) → f < 64 → n < 2 ^ 64 → kept_from n f ≢ 0 → x ≡ trailing_zeros w64 (kept_from n f) → IsFirstFrom n f x
+place_first n f x l fits some e =
+    let pos : 0 < kept_from n f = omega arith in
+    let t = has-first (kept_from n f) pos (lt_of_le_of_lt (and_le_l n _) fits) in
+    let low : x < 64 = subst (λ (y : ℕ). y < 64) (sym e) t.0 in
+    let here : has (kept_from n f) x ≡ true = ap (has (kept_from n f)) e ∙ t.1 in
+    let le : f ≤ x = elim (ltb x f) as (λ v. ltb x f ≡ v → f ≤ x) [
+      | true ↦ λ w. let off : has (kept_from n f) x ≡ false = below_none n f l x (ltb-true x f w) in absurd (cc)
+      | false ↦ λ w. ltb-false x f w
+    ] refl in
+    record {
+      on_board = low;
+      reached = le;
+      member = sym (above_same n f l x le low) ∙ here;
+      before = λ q u k. sym (above_same n f l q u (omega arith)) ∙ t.2 q (subst (λ (y : ℕ). q < y) e k);
+    }

@@ -1,0 +1,23 @@
+use Rattle.std.proofs.Common.{inl, inr, refl}
+use Rattle.pg_board.specs.declared.man.Kind.TheVariants.{Queen}
+use Rattle.pg_position.proofs.AttackLemmas.{along_none, along_true, along_is, along_else}
+use Rattle.pg_position.proofs.attack.attacked_along.Goals as goal
+
+pub returns-then-contains : goal.returns-then-contains
+returns-then-contains c = (
+  λ _. along_true _ _ _ _ _ c.in-Some.ensures _ _ _ _ _ c.man.ensures c.squares_of.ensures c.index-i.ensures.value c.contains.ensures ((c.slider.ensures _).1 (inl refl)) c.if-contains.true,
+  λ _. c.if-contains.true,
+)
+
+pub returns-else-contains : goal.returns-else-contains
+returns-else-contains c = (
+  λ e. along_true _ _ _ _ _ c.in-Some.ensures _ _ _ _ _ c.man-else-contains.ensures c.squares_of-else-contains.ensures c.index-i.ensures.value c.contains-else-contains.ensures ((c.slider.ensures Queen).1 (inr refl)) e,
+  λ a. along_else _ _ _ _ _ c.in-Some.ensures _ _ _ c.slider.ensures
+      (along_is _ _ _ _ _ c.in-Some.ensures _ _ _ _ _ c.man.ensures c.squares_of.ensures c.index-i.ensures.value c.contains.ensures)
+      c.if-contains.false
+      (along_is _ _ _ _ _ c.in-Some.ensures _ _ _ _ _ c.man-else-contains.ensures c.squares_of-else-contains.ensures c.index-i.ensures.value c.contains-else-contains.ensures)
+      a,
+)
+
+pub returns-in-None : goal.returns-in-None
+returns-in-None c = (λ e. absurd (cc), λ a. absurd (along_none _ _ _ _ c.in-None.ensures a))

@@ -1,0 +1,15 @@
+-- Games: lists of legal moves, one after another; and placements that no game of so many plies comes to.
+use Rattle.std.specs.Prelude.{◌≡◌, ◌≢◌, ℕ, List, [], ◌∷◌, length}
+use Rattle.pg_board.specs.Placement.{Placement}
+use Rattle.pg_position.specs.declared.state.State.{State}
+use Rattle.pg_position.specs.declared.moves.Move.{Move}
+use Rattle.pg_position.specs.Step.{Legal}
+
+-- the moves are a game from p, and r is its last position
+abbrev pub IsGame : State → List Move → State → Type 0
+IsGame p [] r = p ≡ r
+IsGame p (m ∷ ms) r = (q : State) × Legal p m q × IsGame q ms r
+
+-- no game of k plies from p ends on the placement d
+unfoldable pub Barren : Placement → State → ℕ → Type 0
+Barren d p k = (ms : List Move) (r : State) → length ms ≡ k → IsGame p ms r → r.board ≢ d

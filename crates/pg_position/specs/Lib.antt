@@ -1,0 +1,11 @@
+pub mod Geometry
+pub mod Attack
+pub mod Position
+pub mod Array
+pub mod Step
+pub mod Game
+pub mod Future
+pub mod Equality
+pub mod SquareSets
+pub mod Rays
+pub mod Lines

@@ -1,0 +1,116 @@
+//! Which squares a colour attacks.
+ghost use Rattle.std.specs.Prelude.{◌≡◌, ℕ, ◌<◌, ◌↔◌, IsTrue, ◌⊎◌, MatchOption, None};
+ghost use Rattle.pg_board.specs.Men.{man};
+ghost use Rattle.pg_board.specs.Placement.{get};
+ghost use Rattle.pg_position.specs.Rays.{OnRay};
+ghost use Rattle.pg_position.specs.Attack.{Attacks};
+ghost use Rattle.pg_position.specs.Lines.{AttackedBy, AttackedAlong, IsBlocked, ByStep, Straight, Diagonal};
+
+use crate::direction::Direction;
+use crate::masks::{king_mask, knight_mask, pawn_mask, ray};
+use crate::square_sets::meets;
+use pg_board::{Board, Color, Kind, Man, Square, contains};
+
+// The man of a colour and a kind.
+pub fn man(color: Color, kind: Kind) -> Man
+    ensures { result ≡ man color kind }
+{
+    Man { color, kind }
+}
+
+/// The first square in a direction with a man; none where the ray is empty up to the edge.
+pub fn blocker(board: &Board, direction: Direction, square: Square) -> Option<Square>
+    ensures { MatchOption result ((t : ℕ) → t < 64 → OnRay direction square t → get board.now t ≡ None) (λ x. IsBlocked board.now direction square x) }
+{
+    let blockers = ray(direction, square) & board.occupied();
+    if blockers == 0 {
+        None
+    } else if direction.ascends() {
+        Some(Square::at(blockers.trailing_zeros() as u8))
+    } else {
+        Some(Square::at((63 - blockers.leading_zeros()) as u8))
+    }
+}
+
+fn knight_attacks(board: &Board, square: Square, by: Color) -> bool
+    ensures { IsTrue result ↔ AttackedBy board.now (man by Kind.Knight) square }
+{
+    meets(knight_mask(square), board.squares_of(man(by, Kind::Knight)))
+}
+
+fn king_attacks(board: &Board, square: Square, by: Color) -> bool
+    ensures { IsTrue result ↔ AttackedBy board.now (man by Kind.King) square }
+{
+    meets(king_mask(square), board.squares_of(man(by, Kind::King)))
+}
+
+// Whether a pawn of the colour attacks the square: it does from where a pawn of the other colour on
+// the square would attack.
+pub fn pawn_attacks(board: &Board, square: Square, by: Color) -> bool
+    ensures { IsTrue result ↔ AttackedBy board.now (man by Kind.Pawn) square }
+{
+    meets(
+        pawn_mask(by.other(), square),
+        board.squares_of(man(by, Kind::Pawn)),
+    )
+}
+
+// Whether a man that stands in this direction attacks the square along it.
+fn attacked_along(board: &Board, direction: Direction, square: Square, by: Color) -> bool
+    ensures { IsTrue result ↔ AttackedAlong board.now by direction square }
+{
+    match blocker(board, direction, square) {
+        Some(first) => {
+            let i = first.index();
+            contains(board.squares_of(man(by, direction.slider())), i)
+                || contains(board.squares_of(man(by, Kind::Queen)), i)
+        }
+        None => false,
+    }
+}
+
+// Whether a man of one step attacks the square.
+fn attacked_by_step(board: &Board, square: Square, by: Color) -> bool
+    ensures { IsTrue result ↔ ByStep board.now by square }
+{
+    pawn_attacks(board, square, by)
+        || knight_attacks(board, square, by)
+        || king_attacks(board, square, by)
+}
+
+// Whether a rook or a queen attacks the square along a file or a rank.
+fn attacked_straight(board: &Board, square: Square, by: Color) -> bool
+    ensures { IsTrue result ↔ Straight board.now by square }
+{
+    attacked_along(board, Direction::North, square, by)
+        || attacked_along(board, Direction::East, square, by)
+        || attacked_along(board, Direction::South, square, by)
+        || attacked_along(board, Direction::West, square, by)
+}
+
+// Whether a bishop or a queen attacks the square along a diagonal.
+fn attacked_diagonal(board: &Board, square: Square, by: Color) -> bool
+    ensures { IsTrue result ↔ Diagonal board.now by square }
+{
+    attacked_along(board, Direction::NorthEast, square, by)
+        || attacked_along(board, Direction::SouthEast, square, by)
+        || attacked_along(board, Direction::SouthWest, square, by)
+        || attacked_along(board, Direction::NorthWest, square, by)
+}
+
+fn attacked_by_any(board: &Board, square: Square, by: Color) -> bool
+    ensures { IsTrue result ↔ (ByStep board.now by square ⊎ Straight board.now by square ⊎ Diagonal board.now by square) }
+{
+    attacked_by_step(board, square, by)
+        || attacked_straight(board, square, by)
+        || attacked_diagonal(board, square, by)
+}
+
+/// Whether a man of the colour `by` attacks the square: it could capture there by its pattern. One
+/// that may not move there, because its own king would then be attacked, attacks it too
+/// (FIDE articles 3.1.2 and 3.1.3).
+pub fn attacked(board: &Board, square: Square, by: Color) -> bool
+    ensures { IsTrue result ↔ Attacks board.now by square }
+{
+    attacked_by_any(board, square, by)
+}

@@ -1,0 +1,96 @@
+//! What stands where, and a man that goes from a square to another.
+ghost use Rattle.std.specs.Prelude.{◌≡◌, ◌↔◌, ◌≤◌, ◌<◌, ℕ, IsTrue};
+ghost use Rattle.pg_board.specs.Squares.{file};
+ghost use Rattle.pg_position.specs.Geometry.{IsForward};
+ghost use Rattle.pg_position.specs.Attack.{Reaches};
+ghost use Rattle.pg_position.specs.Position.{Stands, IsVacant, InCheck};
+ghost use Rattle.pg_position.specs.Step.{IsEnemy, Goes, MustPromote, relocated};
+
+use crate::attack::{attacked, man};
+use crate::reaching::reaches;
+use crate::square_sets::first_from;
+use pg_board::{Board, Color, Kind, Man, Square};
+
+pub fn stands(board: &Board, color: Color, kind: Kind, square: Square) -> bool
+    ensures { IsTrue result ↔ Stands board.now color kind square }
+{
+    match board.get(square) {
+        Some(man) => man.color == color && man.kind == kind,
+        None => false,
+    }
+}
+
+pub fn is_vacant(board: &Board, square: Square) -> bool
+    ensures { IsTrue result ↔ IsVacant board.now square }
+{
+    board.get(square).is_none()
+}
+
+#[tactic(auto, unfolding(crate::specs::Step::IsEnemy))]
+pub fn is_enemy(board: &Board, color: Color, square: Square) -> bool
+    ensures { IsTrue result ↔ IsEnemy board.now color square }
+{
+    match board.get(square) {
+        Some(man) => man.color == color.other(),
+        None => false,
+    }
+}
+
+// Whether `to` is so many ranks forward.
+pub fn is_forward(color: Color, ranks: u8, from: Square, to: Square) -> bool
+    requires { ranks < 9 }
+    ensures { IsTrue result ↔ IsForward color ranks from to }
+{
+    match color {
+        Color::White => to.rank() == from.rank() + ranks,
+        Color::Black => from.rank() == to.rank() + ranks,
+    }
+}
+
+// Whether a man may go to an empty square.
+#[tactic(auto, unfolding(crate::specs::Step::Goes))]
+pub fn goes(board: &Board, man: &Man, from: Square, to: Square) -> bool
+    ensures { IsTrue result ↔ Goes board.now man.now.color man.now.kind from to }
+{
+    match man.kind {
+        Kind::Pawn => from.file() == to.file() && is_forward(man.color, 1, from, to),
+        _ => reaches(board, *man, from, to),
+    }
+}
+
+pub fn must_promote(kind: Kind, color: Color, square: Square) -> bool
+    ensures { IsTrue result ↔ MustPromote kind color square }
+{
+    kind == Kind::Pawn
+        && match color {
+            Color::White => square.rank() == 8,
+            Color::Black => square.rank() == 1,
+        }
+}
+
+// Takes what stands on `from` to `to`.
+pub fn relocate(board: &mut Board, from: Square, to: Square)
+    ensures { board.new ≡ relocated board.old from to }
+{
+    match board.take(from) {
+        Some(man) => board.put(to, man),
+        None => {
+            board.take(to);
+        }
+    }
+}
+
+// Whether a king of the colour is attacked.
+pub fn in_check(board: &Board, color: Color) -> bool
+    ensures { IsTrue result ↔ InCheck board.now color }
+{
+    let kings = board.squares_of(man(color, Kind::King));
+    let mut from = 0;
+    while let Some(king) = first_from(kings, from) {
+        if attacked(board, king, color.other()) {
+            return true;
+        }
+        from = king.index() + 1;
+    }
+    false
+}

@@ -1,0 +1,135 @@
+//! The six cases of a step, as tests.
+ghost use Rattle.std.specs.Prelude.{◌≡◌, ◌≢◌, ℕ, ◌+◌, ◌-◌, ◌*◌, ◌<◌, ◌≤◌, ◌↔◌, ◌⊎◌, IsTrue, MatchOption, Some, None, true};
+ghost use Rattle.pg_board.specs.Men.{other, man};
+ghost use Rattle.pg_position.specs.Geometry.{InPattern};
+ghost use Rattle.pg_position.specs.Step.{IsPlain, IsCapture, IsDoubleAdvance, IsEnPassant, IsPromotion, IsCastling, IsWay, MustPromote, IsEnemy};
+ghost use Rattle.pg_position.specs.Position.{IsVacant};
+
+use crate::attack::{attacked, man};
+use crate::boards::{goes, is_enemy, is_vacant, must_promote};
+use crate::homes::{king_crossed, king_home, king_target, rook_home};
+use crate::masks::pawn_mask;
+use crate::moves::{Move, Way};
+use crate::reaching::{is_clear, reaches};
+use crate::rights::Wing;
+use crate::state::State;
+use pg_board::{Color, Kind, Square, contains};
+
+pub fn is_plain(state: &State, kind: Kind, m: &Move) -> bool
+    ensures { IsTrue result ↔ IsPlain state.now kind m.now }
+{
+    m.promotion.is_none()
+        && !must_promote(kind, state.side, m.to)
+        && is_vacant(&state.board, m.to)
+        && goes(&state.board, &man(state.side, kind), m.from, m.to)
+}
+
+pub fn is_capture(state: &State, kind: Kind, m: &Move) -> bool
+    ensures { IsTrue result ↔ IsCapture state.now kind m.now }
+{
+    m.promotion.is_none()
+        && !must_promote(kind, state.side, m.to)
+        && is_enemy(&state.board, state.side, m.to)
+        && reaches(&state.board, man(state.side, kind), m.from, m.to)
+}
+
+// Whether a pawn on its home rank goes two forward over an empty square to an empty square.
+pub fn is_double_advance(state: &State, kind: Kind, m: &Move) -> bool
+    ensures { IsTrue result ↔ IsDoubleAdvance state.now kind m.now }
+{
+    m.promotion.is_none()
+        && kind == Kind::Pawn
+        && match state.side {
+            Color::White => {
+                m.from.rank() == 2
+                    && m.to.index() == m.from.index() + 16
+                    && is_vacant(&state.board, Square::at(m.from.index() + 8))
+            }
+            Color::Black => {
+                m.from.rank() == 7
+                    && m.to.index() == m.from.index() - 16
+                    && is_vacant(&state.board, Square::at(m.from.index() - 8))
+            }
+        }
+        && is_vacant(&state.board, m.to)
+}
+
+pub fn is_en_passant(state: &State, kind: Kind, m: &Move) -> bool
+    ensures { IsTrue result ↔ IsEnPassant state.now kind m.now }
+{
+    m.promotion.is_none()
+        && kind == Kind::Pawn
+        && state.passed == Some(m.to)
+        && contains(pawn_mask(state.side, m.from), m.to.index())
+}
+
+pub fn is_promotion(state: &State, kind: Kind, m: &Move, piece: Kind) -> bool
+    ensures { IsTrue result ↔ IsPromotion state.now kind m.now piece }
+{
+    m.promotion == Some(piece)
+        && piece != Kind::Pawn
+        && piece != Kind::King
+        && must_promote(kind, state.side, m.to)
+        && ((is_vacant(&state.board, m.to)
+            && goes(&state.board, &man(state.side, kind), m.from, m.to))
+            || (is_enemy(&state.board, state.side, m.to)
+                && reaches(&state.board, man(state.side, kind), m.from, m.to)))
+}
+
+pub fn is_castling(state: &State, kind: Kind, m: &Move, wing: Wing) -> bool
+    ensures { IsTrue result ↔ IsCastling state.now kind m.now wing }
+{
+    let home = king_home(state.side);
+    let target = king_target(state.side, wing);
+    m.promotion.is_none()
+        && kind == Kind::King
+        && m.from == home
+        && m.to == target
+        && state.rights.holds(state.side, wing)
+        && is_clear(&state.board, home, rook_home(state.side, wing))
+        && !attacked(&state.board, home, state.side.other())
+        && !attacked(
+            &state.board,
+            king_crossed(state.side, wing),
+            state.side.other(),
+        )
+        && !attacked(&state.board, target, state.side.other())
+}
+
+// The case that a move without promotion is, if it is one.
+fn quiet_way(state: &State, kind: Kind, m: &Move) -> Option<Way>
+    requires { m.now.promotion ≡ None }
+    ensures { MatchOption result ((w : Way) → ¬ IsWay state.now kind m.now w) (λ w. IsWay state.now kind m.now w) }
+{
+    if is_plain(state, kind, m) {
+        Some(Way::Plain)
+    } else if is_capture(state, kind, m) {
+        Some(Way::Capture)
+    } else if is_double_advance(state, kind, m) {
+        Some(Way::DoubleAdvance)
+    } else if is_en_passant(state, kind, m) {
+        Some(Way::EnPassant)
+    } else if is_castling(state, kind, m, Wing::KingSide) {
+        Some(Way::Castling(Wing::KingSide))
+    } else if is_castling(state, kind, m, Wing::QueenSide) {
+        Some(Way::Castling(Wing::QueenSide))
+    } else {
+        None
+    }
+}
+
+// The case that the move is, if it is one.
+pub fn way(state: &State, kind: Kind, m: &Move) -> Option<Way>
+    ensures { MatchOption result ((w : Way) → ¬ IsWay state.now kind m.now w) (λ w. IsWay state.now kind m.now w) }
+{
+    match m.promotion {
+        Some(piece) => {
+            if is_promotion(state, kind, m, piece) {
+                Some(Way::Promotion(piece))
+            } else {
+                None
+            }
+        }
+        None => quiet_way(state, kind, m),
+    }
+}

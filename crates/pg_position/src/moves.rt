@@ -1,0 +1,26 @@
+use crate::rights::Wing;
+use pg_board::{Kind, Square};
+
+/// A move: where a man goes from, where it goes to, and what a pawn becomes there. Castling is the
+/// king's move of two squares. Moves are ordered by `from`, then `to`, then promotion: none before
+/// pawn, knight, bishop, rook, queen and king (FIDE article 3).
+#[derive(Clone, Copy, Debug, PartialEq, Eq, PartialOrd, Ord, Hash)]
+pub struct Move {
+    /// The square that the man leaves.
+    pub from: Square,
+    /// The square that it comes to.
+    pub to: Square,
+    /// The kind that a pawn becomes on the furthest rank, and none in every other move.
+    pub promotion: Option<Kind>,
+}
+
+/// The six cases of a step.
+#[derive(Clone, Copy, Debug, PartialEq, Eq)]
+pub enum Way {
+    Plain,
+    Capture,
+    DoubleAdvance,
+    EnPassant,
+    Promotion(Kind),
+    Castling(Wing),
+}

@@ -1,0 +1,109 @@
+//! The state that a step leaves.
+ghost use Rattle.std.specs.Prelude.{◌≡◌, ℕ, ◌+◌, ◌-◌, ◌<◌};
+ghost use Rattle.pg_position.specs.Position.{IsPosition};
+ghost use Rattle.pg_position.specs.Step.{IsWay, relocated, board_after, passed_after, touches, keeps, rights_after, after};
+
+use crate::boards::relocate;
+use crate::homes::{king_crossed, king_home, rook_home};
+use crate::moves::{Move, Way};
+use crate::rights::{Rights, Wing};
+use crate::state::State;
+use pg_board::{Board, Color, Kind, Man, Square};
+
+impl Move {
+    fn touches(&self, square: Square) -> bool
+        ensures { result ≡ touches self.now square }
+    {
+        self.from == square || self.to == square
+    }
+}
+
+impl Rights {
+    fn keeps(&self, m: &Move, color: Color, wing: Wing) -> bool
+        ensures { result ≡ keeps self.now m.now color wing }
+    {
+        self.holds(color, wing)
+            && !(m.touches(king_home(color)) || m.touches(rook_home(color, wing)))
+    }
+
+    // The rights that a move leaves.
+    fn after(&self, m: &Move) -> Rights
+        ensures { result ≡ rights_after self.now m.now }
+    {
+        Rights {
+            white_king: self.keeps(m, Color::White, Wing::KingSide),
+            white_queen: self.keeps(m, Color::White, Wing::QueenSide),
+            black_king: self.keeps(m, Color::Black, Wing::KingSide),
+            black_queen: self.keeps(m, Color::Black, Wing::QueenSide),
+        }
+    }
+}
+
+impl State {
+    // The square that a two-square advance passes, if the move is one.
+    fn passed_after(&self, kind: Kind, m: &Move, way: Way) -> Option<Square>
+        requires { IsWay self.now kind m.now way }
+        ensures { result ≡ passed_after self.now m.now way }
+    {
+        match way {
+            Way::DoubleAdvance => match self.side {
+                Color::White => Some(Square::at(m.from.index() + 8)),
+                Color::Black => Some(Square::at(m.from.index() - 8)),
+            },
+            _ => None,
+        }
+    }
+
+    // The board that the move leaves.
+    fn board_after(&self, kind: Kind, m: &Move, way: Way) -> Board
+        requires position { IsPosition self.now }
+        requires way { IsWay self.now kind m.now way }
+        ensures { result ≡ board_after self.now m.now way }
+    {
+        let mut board = self.board;
+        match way {
+            Way::Plain | Way::Capture | Way::DoubleAdvance => relocate(&mut board, m.from, m.to),
+            Way::EnPassant => {
+                relocate(&mut board, m.from, m.to);
+                let taken = match self.side {
+                    Color::White => Square::at(m.to.index() - 8),
+                    Color::Black => Square::at(m.to.index() + 8),
+                };
+                board.take(taken);
+            }
+            Way::Promotion(piece) => {
+                board.take(m.from);
+                board.put(
+                    m.to,
+                    Man {
+                        color: self.side,
+                        kind: piece,
+                    },
+                );
+            }
+            Way::Castling(wing) => {
+                relocate(&mut board, m.from, m.to);
+                relocate(
+                    &mut board,
+                    rook_home(self.side, wing),
+                    king_crossed(self.side, wing),
+                );
+            }
+        }
+        board
+    }
+
+    // The state that the move leaves.
+    pub fn after(&self, kind: Kind, m: &Move, way: Way) -> State
+        requires position { IsPosition self.now }
+        requires way { IsWay self.now kind m.now way }
+        ensures { result ≡ after self.now m.now way }
+    {
+        State {
+            board: self.board_after(kind, m, way),
+            side: self.side.other(),
+            rights: self.rights.after(m),
+            passed: self.passed_after(kind, m, way),
+        }
+    }
+}
