@@ -2,13 +2,14 @@
 ghost use Rattle.std.specs.Prelude.{◌≡◌, ◌↔◌, ◌≤◌, ◌<◌, ℕ, IsTrue};
 ghost use Rattle.pg_board.specs.Squares.{file};
 ghost use Rattle.pg_position.specs.Geometry.{IsForward};
-ghost use Rattle.pg_position.specs.Attack.{Reaches};
+ghost use Rattle.pg_position.specs.Attack.{Reaches, Attacks};
 ghost use Rattle.pg_position.specs.Position.{Stands, IsVacant, InCheck};
 ghost use Rattle.pg_position.specs.Step.{IsEnemy, Goes, MustPromote, relocated};
 
 use crate::attack::{attacked, man};
 use crate::reaching::reaches;
 use crate::square_sets::first_from;
+use crate::state::State;
 use pg_board::{Board, Color, Kind, Man, Square};
 
 pub fn stands(board: &Board, color: Color, kind: Kind, square: Square) -> bool
@@ -93,4 +94,20 @@ pub fn in_check(board: &Board, color: Color) -> bool
         from = king.index() + 1;
     }
     false
+}
+
+impl State {
+    // Whether a man of the colour attacks the square.
+    pub fn is_attacked(&self, square: Square, by: Color) -> bool
+        ensures { IsTrue result ↔ Attacks self.now.board by square }
+    {
+        attacked(&self.board, square, by)
+    }
+
+    // Whether a king of the side to move is attacked.
+    pub fn is_in_check(&self) -> bool
+        ensures { IsTrue result ↔ InCheck self.now.board self.now.side }
+    {
+        in_check(&self.board, self.side)
+    }
 }

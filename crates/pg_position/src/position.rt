@@ -9,7 +9,6 @@ ghost use Rattle.pg_position.specs.Equality.{state_eq, state_eq_decides};
 ghost use Rattle.pg_position.specs.declared.state.State.{State};
 
 use crate::array::array_board;
-use crate::attack::attacked;
 use crate::boards::in_check;
 use crate::clauses::{has_good_kings, has_good_passed, has_good_pawns, has_good_rights};
 use crate::equality::same_state;
@@ -143,14 +142,14 @@ impl Position {
     pub fn attacked(&self, square: Square, by: Color) -> bool
         ensures { IsTrue result ↔ Attacks self.now.board by square }
     {
-        attacked(&self.state.board, square, by)
+        self.state.is_attacked(square, by)
     }
 
     /// Whether the king of the side to move is attacked (FIDE article 3.9.1).
     pub fn in_check(&self) -> bool
         ensures { IsTrue result ↔ InCheck self.now.board self.now.side }
     {
-        in_check(&self.state.board, self.state.side)
+        self.state.is_in_check()
     }
 
     /// The position that a legal move leads to. Any other move is refused, with the first of these
