@@ -112,36 +112,36 @@ passed_fine Black s h = (omega arith, omega arith)
 
 -- squares of castling
 
-castle_between : (c : Color) (w : Wing) → IsBetween (king_home c) (king_crossed c w) (rook_home c w) × IsBetween (king_home c) (king_target c w) (rook_home c w)
+pub castle_between : (c : Color) (w : Wing) → IsBetween (king_home c) (king_crossed c w) (rook_home c w) × IsBetween (king_home c) (king_target c w) (rook_home c w)
 unfolding IsBetween
 castle_between White KingSide = ((omega arith, omega arith, refl, refl, inl (inr refl, inr refl, inr refl)), (omega arith, omega arith, refl, refl, inl (inr refl, inr refl, inr refl)))
 castle_between White QueenSide = ((omega arith, omega arith, refl, refl, inl (inr refl, inr refl, inr refl)), (omega arith, omega arith, refl, refl, inl (inr refl, inr refl, inr refl)))
 castle_between Black KingSide = ((omega arith, omega arith, refl, refl, inl (inr refl, inr refl, inr refl)), (omega arith, omega arith, refl, refl, inl (inr refl, inr refl, inr refl)))
 castle_between Black QueenSide = ((omega arith, omega arith, refl, refl, inl (inr refl, inr refl, inr refl)), (omega arith, omega arith, refl, refl, inl (inr refl, inr refl, inr refl)))
 
-record CastleSquares (c : Color) (w : Wing) : Type 0 where
-  home_low : king_home c < 64
-  rook_low : rook_home c w < 64
-  crossed_low : king_crossed c w < 64
-  target_low : king_target c w < 64
-  crossed_home : king_crossed c w ≢ king_home c
-  crossed_target : king_crossed c w ≢ king_target c w
-  target_home : king_target c w ≢ king_home c
-  rook_home_apart : rook_home c w ≢ king_home c
-  rook_target : rook_home c w ≢ king_target c w
-  rook_crossed : rook_home c w ≢ king_crossed c w
+pub record CastleSquares (c : Color) (w : Wing) : Type 0 where
+  pub home_low : king_home c < 64
+  pub rook_low : rook_home c w < 64
+  pub crossed_low : king_crossed c w < 64
+  pub target_low : king_target c w < 64
+  pub crossed_home : king_crossed c w ≢ king_home c
+  pub crossed_target : king_crossed c w ≢ king_target c w
+  pub target_home : king_target c w ≢ king_home c
+  pub rook_home_apart : rook_home c w ≢ king_home c
+  pub rook_target : rook_home c w ≢ king_target c w
+  pub rook_crossed : rook_home c w ≢ king_crossed c w
 
-castle_squares : (c : Color) (w : Wing) → CastleSquares c w
+pub castle_squares : (c : Color) (w : Wing) → CastleSquares c w
 castle_squares White KingSide = record { home_low = omega arith; rook_low = omega arith; crossed_low = omega arith; target_low = omega arith; crossed_home = omega arith; crossed_target = omega arith; target_home = omega arith; rook_home_apart = omega arith; rook_target = omega arith; rook_crossed = omega arith }
 castle_squares White QueenSide = record { home_low = omega arith; rook_low = omega arith; crossed_low = omega arith; target_low = omega arith; crossed_home = omega arith; crossed_target = omega arith; target_home = omega arith; rook_home_apart = omega arith; rook_target = omega arith; rook_crossed = omega arith }
 castle_squares Black KingSide = record { home_low = omega arith; rook_low = omega arith; crossed_low = omega arith; target_low = omega arith; crossed_home = omega arith; crossed_target = omega arith; target_home = omega arith; rook_home_apart = omega arith; rook_target = omega arith; rook_crossed = omega arith }
 castle_squares Black QueenSide = record { home_low = omega arith; rook_low = omega arith; crossed_low = omega arith; target_low = omega arith; crossed_home = omega arith; crossed_target = omega arith; target_home = omega arith; rook_home_apart = omega arith; rook_target = omega arith; rook_crossed = omega arith }
 
-record CastleVacant (b : Board) (c : Color) (w : Wing) : Type 0 where
-  crossed : IsVacant b (king_crossed c w)
-  target : IsVacant b (king_target c w)
+pub record CastleVacant (b : Board) (c : Color) (w : Wing) : Type 0 where
+  pub crossed : IsVacant b (king_crossed c w)
+  pub target : IsVacant b (king_target c w)
 
-castle_vacant : (b : Board) (c : Color) (w : Wing) → IsClear b (king_home c) (rook_home c w) → CastleVacant b c w
+pub castle_vacant : (b : Board) (c : Color) (w : Wing) → IsClear b (king_home c) (rook_home c w) → CastleVacant b c w
 unfolding IsClear
 castle_vacant b c w clear = let q : CastleSquares c w = castle_squares c w in record { crossed = clear (king_crossed c w) q.crossed_low (castle_between c w).0; target = clear (king_target c w) q.target_low (castle_between c w).1 }
 

@@ -1,0 +1,46 @@
+//! Reads records of one byte from memory, as many as its argument says (1,000 where there is none),
+//! and prints how many were read. To measure: run it with 10000000.
+#![tactic(auto)]
+
+ghost use Rattle.std.specs.Prelude.{◌≡◌, ◌*◌, ◌≤◌, List, length, IfOk, IfSome, OnOk};
+ghost use Rattle.std.specs.List.{flat_map};
+ghost use Rattle.pg_certificate.specs.declared.record.Record.{Record};
+ghost use Rattle.pg_certificate.specs.Spelling.{spelling};
+ghost use Rattle.pg_certificate.specs.Reader.{PullsAtMost};
+
+use pg_certificate::{FromRead, ReadFault, RecordReader, Source};
+use std::{env, io};
+
+/// Reads this many records and then the end, and answers how many were expansions.
+fn count_expansions<S: Source>(source: &mut S, count: u64) -> Result<u64, ReadFault>
+    ensures spelled { OnOk result (IfSome (S.left source.old) (λ bytes. (records : List Record)
+        × (length records ≡ count) × (bytes ≡ flat_map spelling records))) }
+    ensures counted { IfOk result (λ n. n ≤ count) }
+    ensures pulls { PullsAtMost (5 * count) (S.left source.old) (S.left source.new) result }
+{
+    let mut reader = RecordReader::new();
+    let mut expansions = 0;
+    for read in 0..count {
+        if let pg_certificate::Record::Expand { named: _ } = reader.next_record(source)? {
+            expansions += 1;
+        }
+    }
+    reader.end(source)?;
+    Ok(expansions)
+}
+
+fn main(rt: HostRuntime) -> io::Result<()> {
+    let mut count = 1_000u32;
+    for word in env::args(&rt)? {
+        if let Ok(number) = word.as_str().parse() {
+            count = number;
+        }
+    }
+    let bytes = vec![in rt.alloc(); 1u8; count as usize]?;
+    let mut source = FromRead::new(bytes.as_slice());
+    match count_expansions(&mut source, count as u64) {
+        Ok(expansions) => println!(rt; "records {expansions}")?,
+        Err(fault) => println!(rt; "{fault}")?,
+    }
+    Ok(())
+}

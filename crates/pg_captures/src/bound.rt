@@ -1,0 +1,30 @@
+ghost use Rattle.std.specs.Prelude.{◌≡◌, ℕ, ◌↔◌, IsTrue};
+ghost use Rattle.pg_board.specs.Placement.{Placement};
+ghost use Rattle.pg_position.specs.declared.state.State.{State};
+ghost use Rattle.pg_position.specs.Position.{IsPosition};
+ghost use Rattle.pg_position.specs.Game.{Barren};
+
+use pg_fen::Diagram;
+use pg_position::Position;
+
+/// A test that excludes games to a diagram. Its law: what it excludes is barren, which means that no
+/// list of so many legal moves from the position ends on the diagram.
+pub trait Bound: Drop {
+    /// The code by which a certificate names the bound.
+    ghost code_of: { Self → ℕ };
+
+    /// What the bound excludes: a placement to come to, from a position, in so many plies. Its
+    /// answers depend on nothing else.
+    ghost excluded: { Self → Placement → State → ℕ → Type 0 };
+
+    /// The code by which a certificate names the bound, 0 to 255.
+    fn code(&self) -> u8
+        ensures { result ≡ code_of self.now };
+
+    /// Whether the bound excludes every game of `left` plies from the position to the diagram.
+    fn excludes(&self, diagram: &Diagram, position: &Position, left: u8) -> bool
+        ensures { IsTrue result ↔ excluded self.now diagram.now position.now left };
+
+    /// The law: what is excluded cannot be reached.
+    ghost sound: { (b : Self) (d : Placement) (p : State) (k : ℕ) → IsPosition p → excluded b d p k → Barren d p k };
+}

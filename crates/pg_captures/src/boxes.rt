@@ -1,0 +1,50 @@
+//! Bounds in a list, of any types: the first one with a code.
+ghost use Rattle.std.specs.Prelude.{◌≡◌, ℕ, ◌↔◌, IsTrue, MatchOption, Some, None, true};
+ghost use Rattle.pg_captures.specs.Lists.{first_of};
+ghost use Rattle.pg_position.specs.Game.{Barren};
+
+use crate::bound::Bound;
+use pg_fen::Diagram;
+use pg_position::Position;
+
+fn excludes_box(bound: &Box<dyn Bound>, diagram: &Diagram, position: &Position, left: u8) -> bool
+    ensures { IsTrue result ↔ excluded bound.now diagram.now position.now left }
+{
+    bound.excludes(diagram, position, left)
+}
+
+// Whether one bound excludes; what it says is so for a bound that was never seen.
+fn ask(bound: &Box<dyn Bound>, diagram: &Diagram, position: &Position, left: u8) -> bool
+    ensures value { IsTrue result ↔ excluded bound.now diagram.now position.now left }
+    ensures barren { IsTrue result → Barren diagram.now position.now left }
+{
+    position.side();
+    excludes_box(bound, diagram, position, left)
+}
+
+fn code_of_box(bound: &Box<dyn Bound>) -> u8
+    ensures { result ≡ code_of bound.now }
+{
+    bound.code()
+}
+
+/// Whether the first bound in the list with this code excludes every game of `left` plies from the
+/// position to the diagram; none where no bound has the code. A yes means that there is no such
+/// game, whatever bounds the list holds.
+pub fn first_excludes(
+    bounds: &[Box<dyn Bound>],
+    code: u8,
+    diagram: &Diagram,
+    position: &Position,
+    left: u8,
+) -> Option<bool>
+    ensures first { MatchOption result (first_of (λ b. code_of b) code bounds.now ≡ None) (λ yes. (b : _) × (first_of (λ e. code_of e) code bounds.now ≡ Some b) × (IsTrue yes ↔ excluded b diagram.now position.now left)) }
+    ensures barren { result ≡ Some true → Barren diagram.now position.now left }
+{
+    for bound in bounds {
+        if code_of_box(bound) == code {
+            return Some(ask(bound, diagram, position, left));
+        }
+    }
+    None
+}

@@ -1,0 +1,77 @@
+ghost use Rattle.std.specs.Prelude.{◌≡◌, ℕ, ◌↔◌, ◌≤◌, IsTrue, pos, ◌-ℤ◌};
+ghost use Rattle.pg_captures.specs.Owed.{plies_left, victims, CapturesFor, CapturesHolds};
+
+use crate::bound::Bound;
+use crate::counts::all_men;
+use pg_board::{Board, Color};
+use pg_fen::Diagram;
+use pg_position::Position;
+
+/// How many of the next `plies` plies are the colour's, where `side` is to move first.
+pub fn plies_left(side: Color, color: Color, plies: u8) -> u8
+    ensures { result ≡ plies_left side color plies }
+{
+    if side == color {
+        plies / 2 + plies % 2
+    } else {
+        plies / 2
+    }
+}
+
+/// How many men the other colour has on a board, 0 to 64: those that the colour may capture.
+pub fn victims_of(board: &Board, color: Color) -> u8
+    ensures value { result ≡ victims color board.now }
+    ensures few { result ≤ 64 }
+{
+    all_men(board, color.other())
+}
+
+/// How many men of the other colour the colour has to capture on the way to the diagram: those of
+/// the position less those of the diagram, -64 to 64. Where it is negative no game leads there.
+pub fn owed(color: Color, diagram: &Diagram, position: &Position) -> i16
+    ensures { result ≡ (pos (victims color position.now.board) -ℤ pos (victims color diagram.now)) }
+{
+    let here = i16::from(victims_of(&position.board(), color));
+    let there = i16::from(victims_of(&diagram.board(), color));
+    here - there
+}
+
+fn captures_hold_for(diagram: &Diagram, position: &Position, left: u8, color: Color) -> bool
+    ensures { IsTrue result ↔ CapturesFor diagram.now position.now.board position.now.side left color }
+{
+    let here = victims_of(&position.board(), color);
+    let there = victims_of(&diagram.board(), color);
+    here < there || plies_left(position.side(), color, left) + there < here
+}
+
+#[tactic(auto, unfolding(crate::specs::Owed::CapturesHolds))]
+fn captures_hold(diagram: &Diagram, position: &Position, left: u8) -> bool
+    ensures { IsTrue result ↔ CapturesHolds diagram.now position.now left }
+{
+    captures_hold_for(diagram, position, left, Color::White)
+        || captures_hold_for(diagram, position, left, Color::Black)
+}
+
+/// The bound by captures, code 1. Each capture is a ply of its own colour: it excludes where a
+/// colour owes fewer captures than none, or more than it has plies left.
+#[derive(Drop)]
+pub struct Captures;
+
+impl Bound for Captures {
+    ghost use Rattle.pg_captures.specs.Owed.{CapturesHolds};
+    ghost use Rattle.pg_captures.specs.CapturesLaw.{captures_barren};
+
+    ghost code_of = { λ b. 1 };
+
+    ghost excluded = { λ b d p k. CapturesHolds d p k };
+
+    ghost sound = { λ b d p k valid h. captures_barren d p k valid h };
+
+    fn code(&self) -> u8 {
+        1
+    }
+
+    fn excludes(&self, diagram: &Diagram, position: &Position, left: u8) -> bool {
+        captures_hold(diagram, position, left)
+    }
+}

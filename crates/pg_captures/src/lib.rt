@@ -1,0 +1,19 @@
+//! Bounds: tests that exclude games to a diagram. The trait `Bound` with its law, and the bounds by
+//! captures and by promotions.
+#![tactic(auto)]
+
+mod bound;
+mod boxes;
+mod captures;
+mod classes;
+mod counts;
+mod promotions;
+
+pub use bound::Bound;
+pub use boxes::first_excludes;
+pub use captures::{Captures, owed, plies_left, victims_of};
+pub use classes::Class;
+pub use promotions::Promotions;
+
+#[cfg(test)]
+mod tests;

@@ -1,0 +1,75 @@
+ghost use Rattle.std.specs.Prelude.{◌≡◌, ℕ, ◌↔◌, ◌≤◌, IsTrue};
+ghost use Rattle.pg_captures.specs.Owed.{missing, shortage, PromotionsFor, PromotionsHolds};
+
+use crate::bound::Bound;
+use crate::classes::Class;
+use crate::counts::{class_men, pawns};
+use pg_board::{Board, Color};
+use pg_fen::Diagram;
+use pg_position::Position;
+
+// How many men of a class the board has too few.
+#[tactic(auto, unfolding(crate::specs::Owed::missing))]
+fn missing(wanted: &Board, board: &Board, color: Color, class: Class) -> u8
+    ensures value { result ≡ missing wanted.now board.now color class }
+    ensures few { result ≤ 64 }
+{
+    class_men(wanted, color, class).saturating_sub(class_men(board, color, class))
+}
+
+// How many men of all classes the board has too few.
+#[tactic(auto, unfolding(crate::specs::Owed::shortage))]
+fn shortage(wanted: &Board, board: &Board, color: Color) -> u16
+    ensures value { result ≡ shortage wanted.now board.now color }
+    ensures few { result ≤ 320 }
+{
+    let queens = u16::from(missing(wanted, board, color, Class::Queens));
+    let rooks = u16::from(missing(wanted, board, color, Class::Rooks));
+    let knights = u16::from(missing(wanted, board, color, Class::Knights));
+    let light = u16::from(missing(wanted, board, color, Class::LightBishops));
+    let dark = u16::from(missing(wanted, board, color, Class::DarkBishops));
+    queens + rooks + knights + light + dark
+}
+
+fn promotions_hold_for(wanted: &Board, board: &Board, color: Color) -> bool
+    ensures { IsTrue result ↔ PromotionsFor wanted.now board.now color }
+{
+    let here = u16::from(pawns(board, color));
+    let there = u16::from(pawns(wanted, color));
+    here < shortage(wanted, board, color) + there
+}
+
+#[tactic(auto, unfolding(crate::specs::Owed::PromotionsHolds))]
+fn promotions_hold(diagram: &Diagram, position: &Position) -> bool
+    ensures { IsTrue result ↔ PromotionsHolds diagram.now position.now }
+{
+    let wanted = diagram.board();
+    let board = position.board();
+    promotions_hold_for(&wanted, &board, Color::White)
+        || promotions_hold_for(&wanted, &board, Color::Black)
+}
+
+/// The bound by promotions, code 2. Each man that the diagram has above those of the position must
+/// be a promoted pawn: it excludes where a colour lacks more queens, rooks, knights, bishops on
+/// light squares and bishops on dark squares than it has pawns above those of the diagram.
+#[derive(Drop)]
+pub struct Promotions;
+
+impl Bound for Promotions {
+    ghost use Rattle.pg_captures.specs.Owed.{PromotionsHolds};
+    ghost use Rattle.pg_captures.specs.PromotionsLaw.{promotions_barren};
+
+    ghost code_of = { λ b. 2 };
+
+    ghost excluded = { λ b d p k. PromotionsHolds d p };
+
+    ghost sound = { λ b d p k valid h. promotions_barren d p k valid h };
+
+    fn code(&self) -> u8 {
+        2
+    }
+
+    fn excludes(&self, diagram: &Diagram, position: &Position, left: u8) -> bool {
+        promotions_hold(diagram, position)
+    }
+}

@@ -1,0 +1,5 @@
+pub mod Known
+pub mod Numbers
+pub mod RecordLaws
+pub mod HeaderLemmas
+pub mod HeaderLaws

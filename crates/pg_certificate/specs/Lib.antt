@@ -1,0 +1,6 @@
+pub mod Spelling
+pub mod Reading
+pub mod Reader
+pub mod Writer
+pub mod Stream
+pub mod Laws

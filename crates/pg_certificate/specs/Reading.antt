@@ -1,0 +1,75 @@
+-- Reading from a list of bytes: the value at its front and the bytes after it, or the refusal that is met first.
+use Rattle.std.specs.Prelude.{ℕ, Bool, true, false, List, [], ◌∷◌, length, take, drop, Option, Some, None, Result, Ok, Err, nat_lt, ◌==◌, ◌&&◌, slice_index, if◌then◌else◌}
+use Rattle.std.specs.Int.{w32, from_be_bytes}
+use Rattle.std.specs.Option.{option_map}
+use Rattle.pg_certificate.specs.declared.fault.ReadFault.{ReadFault}
+use Rattle.pg_certificate.specs.declared.fault.ReadFault.TheVariants.{Truncated, Magic, UnknownRecord, Trailing}
+use Rattle.pg_certificate.specs.declared.record.Header.{Header}
+use Rattle.pg_certificate.specs.declared.record.Record.{Record}
+use Rattle.pg_certificate.specs.declared.record.Record.TheVariants.{Expand, Cut, Ref}
+
+-- reading on from what was read
+infixl 10 ◌>>=◌
+abbrev pub ◌>>=◌ : {A B : Type 0} → Result A ReadFault → (A → Result B ReadFault) → Result B ReadFault
+(Ok x) >>= f = f x
+(Err e) >>= f = Err e
+
+-- whether a byte is left; it stays
+abbrev pub more_at : List ℕ → Result (Bool × List ℕ) ReadFault
+more_at [] = Ok (false, [])
+more_at (b ∷ rest) = Ok (true, b ∷ rest)
+
+-- nothing
+abbrev pub end_at : List ℕ → Result (Unit {0} × List ℕ) ReadFault
+end_at [] = Ok (tt, [])
+end_at (b ∷ rest) = Err Trailing
+
+-- one byte
+abbrev pub byte_at : List ℕ → Result (ℕ × List ℕ) ReadFault
+byte_at [] = Err Truncated
+byte_at (b ∷ rest) = Ok (b, rest)
+
+-- so many bytes
+abbrev pub exactly : ℕ → List ℕ → Result (List ℕ × List ℕ) ReadFault
+exactly n bytes = if nat_lt (length bytes) n then Err Truncated else Ok (take n bytes, drop n bytes)
+
+-- a number of four bytes, most significant byte first
+abbrev pub number_at : List ℕ → Result (ℕ × List ℕ) ReadFault
+number_at bytes = exactly 4 bytes >>= λ x. Ok (from_be_bytes w32 x.0, x.1)
+
+-- the record whose first byte was read
+abbrev pub record_after : ℕ × List ℕ → Result (Record × List ℕ) ReadFault
+record_after x =
+    if x.0 == 1 then Ok (Expand false, x.1) else
+    if x.0 == 5 then Ok (Expand true, x.1) else
+    if x.0 == 2 then (byte_at x.1 >>= λ y. Ok (Cut y.0, y.1)) else
+    if x.0 == 3 then (number_at x.1 >>= λ y. Ok (Ref y.0, y.1)) else
+    Err (UnknownRecord x.0)
+
+-- a record
+abbrev pub record_at : List ℕ → Result (Record × List ℕ) ReadFault
+record_at bytes = byte_at bytes >>= record_after
+
+-- the version that a digit stands for, where there is such a version
+abbrev pub version_named : ℕ → Option ℕ
+version_named digit = if digit == 49 then Some 1 else None
+
+-- the version whose magic is the first four bytes: PGC and its digit
+abbrev pub version_of : List ℕ → Option ℕ
+version_of text =
+    if (slice_index text 0 == 80) && (slice_index text 1 == 71) && (slice_index text 2 == 67)
+    then version_named (slice_index text 3)
+    else None
+
+-- the header that 37 bytes spell: the magic, one byte of plies, 32 bytes of diagram
+abbrev pub header_of : List ℕ → Option Header
+header_of text = option_map (λ version. record { version = version; plies = slice_index text 4; diagram = drop 5 text }) (version_of text)
+
+-- the header with the bytes after it, where there is one
+abbrev pub header_or_magic : Option Header → List ℕ → Result (Header × List ℕ) ReadFault
+header_or_magic None rest = Err Magic
+header_or_magic (Some h) rest = Ok (h, rest)
+
+-- a header: too few bytes come before a wrong magic
+abbrev pub header_at : List ℕ → Result (Header × List ℕ) ReadFault
+header_at bytes = exactly 37 bytes >>= λ x. header_or_magic (header_of x.0) x.1

@@ -1,0 +1,140 @@
+ghost use Rattle.std.specs.Prelude.{◌≡◌};
+
+use super::*;
+use pg_trial::{FailsAt, OneByte, TakesNothing};
+use std::fs;
+use std::fs::File;
+use std::io::ErrorKind;
+use std::process::Abort;
+
+/// The header of the array.
+fn array_header() -> Header
+    ensures { result.version ≡ 1 }
+{
+    let mut diagram = [0; 32];
+    diagram.copy_from_slice(&ARRAY_HEADER[5..]);
+    Header {
+        version: 1,
+        plies: 0,
+        diagram,
+    }
+}
+
+/// Writes a header, each record so many times, and the end, and answers the first refusal.
+fn write_all(
+    sink: &mut impl Sink,
+    writer: &mut RecordWriter,
+    times: u64,
+) -> Result<(), WriteFault> {
+    writer.header(&array_header(), sink)?;
+    for _ in 0..times {
+        for record in &RECORDS {
+            writer.put_record(record, sink)?;
+        }
+    }
+    writer.finish(sink)
+}
+
+/// Reads a header, each record so many times, and the end.
+fn reads_them_again(rt: &impl Abort, source: &mut impl Source, times: u64) {
+    let mut reader = RecordReader::new();
+    assert_eq!(rt; reader.header(source), Ok(array_header()));
+    for _ in 0..times {
+        for record in RECORDS {
+            assert_eq!(rt; reader.next_record(source), Ok(record));
+        }
+    }
+    assert_eq!(rt; reader.end(source), Ok(()));
+}
+
+/// Every call answers Failed.
+fn stays_failed(rt: &impl Abort, sink: &mut impl Sink, writer: &mut RecordWriter) {
+    for _ in 0..2 {
+        assert_eq!(rt;
+            writer.header(&array_header(), sink),
+            Err(WriteFault::Failed)
+        );
+        assert_eq!(rt;
+            writer.put_record(&Record::Cut(4), sink),
+            Err(WriteFault::Failed)
+        );
+        assert_eq!(rt; writer.finish(sink), Err(WriteFault::Failed));
+    }
+}
+
+#[test]
+fn each_record_is_written(rt: HostRuntime) -> Result<(), Fail> {
+    let mut sink = ToWrite::new(Vec::new(rt.alloc()));
+    assert_eq!(rt; write_all(&mut sink, &mut RecordWriter::new(), 1), Ok(()));
+    let bytes = sink.into_inner();
+    let mut wanted = Vec::new(rt.alloc());
+    wanted.extend_from_slice(&ARRAY_HEADER)?;
+    wanted.extend_from_slice(&RECORD_BYTES)?;
+    assert_eq!(rt; bytes.as_slice(), wanted.as_slice());
+    Ok(())
+}
+
+#[test]
+fn what_was_written_is_read(rt: HostRuntime) -> Result<(), Fail> {
+    let mut sink = ToWrite::new(OneByte::new(Vec::new(rt.alloc())));
+    assert_eq!(rt;
+        write_all(&mut sink, &mut RecordWriter::new(), 2_000),
+        Ok(())
+    );
+    let bytes = sink.into_inner().into_inner();
+    assert_eq!(rt; bytes.len(), 37 + 9 * 2_000);
+    reads_them_again(&rt, &mut FromRead::new(bytes.as_slice()), 2_000);
+    Ok(())
+}
+
+#[test]
+fn a_file_is_written_and_read(rt: HostRuntime) -> Result<(), Fail> {
+    let mut sink = ToWrite::new(File::create(&rt, "records.pgc")?);
+    assert_eq!(rt;
+        write_all(&mut sink, &mut RecordWriter::new(), 1_000),
+        Ok(())
+    );
+    let _ = sink.into_inner();
+    let mut source = FromRead::new(File::open(&rt, "records.pgc")?);
+    reads_them_again(&rt, &mut source, 1_000);
+    fs::remove_file(&rt, "records.pgc")?;
+    Ok(())
+}
+
+#[test]
+fn a_failed_write_is_not_tried_again(rt: HostRuntime) -> Result<(), Fail> {
+    for kind in [ErrorKind::Interrupted, ErrorKind::Other] {
+        for at in 0..46 {
+            let pieces = OneByte::new(Vec::new(rt.alloc()));
+            let mut sink = ToWrite::new(FailsAt::new(pieces, at, kind));
+            let mut writer = RecordWriter::new();
+            let written = write_all(&mut sink, &mut writer, 1);
+            assert_eq!(rt; written, Err(WriteFault::Write), "at {at}");
+            assert!(rt; sink.failed());
+            stays_failed(&rt, &mut sink, &mut writer);
+            assert_eq!(rt; sink.push(&[1]), Err(Refused));
+            assert_eq!(rt; sink.into_inner().calls(), at + 1);
+        }
+        for at in 0..3 {
+            let inner = Vec::new(rt.alloc());
+            let mut sink = ToWrite::new(FailsAt::new(inner, at, kind));
+            let mut writer = RecordWriter::new();
+            let written = write_all(&mut sink, &mut writer, 1_000);
+            assert_eq!(rt; written, Err(WriteFault::Write), "at {at}");
+            stays_failed(&rt, &mut sink, &mut writer);
+        }
+    }
+    Ok(())
+}
+
+#[test]
+fn a_writer_that_takes_nothing_has_failed(rt: HostRuntime) {
+    let mut sink = ToWrite::new(TakesNothing);
+    let mut writer = RecordWriter::new();
+    assert_eq!(rt;
+        write_all(&mut sink, &mut writer, 1),
+        Err(WriteFault::Write)
+    );
+    assert!(rt; sink.failed());
+    stays_failed(&rt, &mut sink, &mut writer);
+}

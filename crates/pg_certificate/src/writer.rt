@@ -1,0 +1,160 @@
+//! The header and the records of a certificate, written to a sink.
+ghost use Rattle.std.specs.Prelude.{◌≡◌, ◌<◌, [], ◌∷◌, ◌++◌, length, true, false, OnOk};
+ghost use Rattle.std.specs.Io.KnownBytes.{Appends, Keeps};
+ghost use Rattle.pg_certificate.specs.Spelling.{spelling, header_spelling, IsVersion};
+ghost use Rattle.pg_certificate.specs.Writer.{written, RefusesOnce};
+
+use crate::fault::WriteFault;
+use crate::record::{Header, Record};
+use crate::source::{Refused, Sink};
+use std::marker::Model;
+
+/// The room of the buffer, in bytes.
+const CAPACITY: usize = 4096;
+
+/// Writes a certificate: its header first, then its records, and `finish` last. The writer holds up
+/// to 4,096 bytes before it pushes them, so each call is to be given the same sink.
+///
+/// Contracts see the bytes that it holds and whether it has refused. What is written is the bytes
+/// of the sink and then those that it holds. After any refusal every call answers Failed and leaves
+/// the sink as it is.
+#[derive(Drop)]
+pub struct RecordWriter {
+    buffer: [u8; CAPACITY],
+    end: usize,
+    failed: bool,
+}
+
+// What is held is the first `end` bytes. The buffer counts as full once a call has refused, so a
+// byte that has room may be kept with no other test.
+impl Model for RecordWriter {
+    ghost use Rattle.std.specs.Prelude.{◌≡◌, ◌≤◌, true, take};
+    ghost use Rattle.pg_certificate.specs.Writer.{WriterState};
+
+    ghost Value = { WriterState };
+
+    ghost view = { λ w. record { held = take w.end w.buffer; failed = w.failed } };
+
+    ghost invariant = { λ w. (w.end ≤ 4096) × (w.failed ≡ true → w.end ≡ 4096) };
+}
+
+impl RecordWriter {
+    /// A writer that holds no byte and has not refused.
+    pub fn new() -> RecordWriter
+        ensures held { result.held ≡ [] }
+        ensures failed { result.failed ≡ false }
+    {
+        RecordWriter {
+            buffer: [0; CAPACITY],
+            end: 0,
+            failed: false,
+        }
+    }
+
+    /// Writes the header, 37 bytes. It is called first, and once.
+    ///
+    /// Write where the sink has failed. Failed after any refusal.
+    pub fn header<W: Sink>(&mut self, header: &Header, sink: &mut W) -> Result<(), WriteFault>
+        requires { IsVersion header.now.version }
+        ensures bytes { OnOk result (Appends
+            (written (W.held sink.old) self.old) (written (W.held sink.new) self.new)
+            (header_spelling header.now)) }
+        ensures refuses { RefusesOnce self.old.failed self.new.failed (W.has_failed sink.new) result }
+        ensures untouched { self.old.failed ≡ true → sink.new ≡ sink.old }
+    {
+        self.bytes(b"PGC", sink)?;
+        self.byte(b'0' + header.version, sink)?;
+        self.byte(header.plies, sink)?;
+        self.bytes(&header.diagram, sink)
+    }
+
+    /// Writes a record, 1 to 5 bytes.
+    ///
+    /// Write where the sink has failed. Failed after any refusal.
+    pub fn put_record<W: Sink>(&mut self, node: &Record, sink: &mut W) -> Result<(), WriteFault>
+        ensures bytes { OnOk result (Appends
+            (written (W.held sink.old) self.old) (written (W.held sink.new) self.new)
+            (spelling node.now)) }
+        ensures refuses { RefusesOnce self.old.failed self.new.failed (W.has_failed sink.new) result }
+        ensures untouched { self.old.failed ≡ true → sink.new ≡ sink.old }
+    {
+        match *node {
+            Record::Expand { named: false } => self.byte(1, sink),
+            Record::Expand { named: true } => self.byte(5, sink),
+            Record::Cut(code) => {
+                self.byte(2, sink)?;
+                self.byte(code, sink)
+            }
+            Record::Ref(number) => {
+                self.byte(3, sink)?;
+                self.bytes(&number.to_be_bytes(), sink)
+            }
+        }
+    }
+
+    /// Pushes all that is held, so that the sink has the whole certificate.
+    ///
+    /// Write where the sink has failed. Failed after any refusal.
+    pub fn finish<W: Sink>(&mut self, sink: &mut W) -> Result<(), WriteFault>
+        ensures bytes { OnOk result (Keeps (written (W.held sink.old) self.old) (W.held sink.new)) }
+        ensures empty { OnOk result (self.new.held ≡ []) }
+        ensures refuses { RefusesOnce self.old.failed self.new.failed (W.has_failed sink.new) result }
+        ensures untouched { self.old.failed ≡ true → sink.new ≡ sink.old }
+    {
+        if self.failed {
+            return Err(WriteFault::Failed);
+        }
+        match sink.push(&self.buffer[..self.end]) {
+            Ok(()) => {
+                self.end = 0;
+                Ok(())
+            }
+            Err(Refused) => {
+                self.end = CAPACITY;
+                self.failed = true;
+                Err(WriteFault::Write)
+            }
+        }
+    }
+
+    /// Holds one byte more.
+    fn keep(&mut self, byte: u8)
+        requires { length self.old.held < 4096 }
+        ensures held { self.new.held ≡ self.old.held ++ byte ∷ [] }
+        ensures failed { self.new.failed ≡ self.old.failed }
+        ensures runs { self.old.failed ≡ false }
+    {
+        self.buffer[self.end] = byte;
+        self.end += 1;
+    }
+
+    /// Writes one byte.
+    fn byte<W: Sink>(&mut self, byte: u8, sink: &mut W) -> Result<(), WriteFault>
+        ensures bytes { OnOk result (Appends
+            (written (W.held sink.old) self.old) (written (W.held sink.new) self.new)
+            (byte ∷ [])) }
+        ensures refuses { RefusesOnce self.old.failed self.new.failed (W.has_failed sink.new) result }
+        ensures untouched { self.old.failed ≡ true → sink.new ≡ sink.old }
+    {
+        if self.end == CAPACITY {
+            self.finish(sink)?;
+        }
+        self.keep(byte);
+        Ok(())
+    }
+
+    /// Writes bytes one after the other.
+    fn bytes<W: Sink>(&mut self, bytes: &[u8], sink: &mut W) -> Result<(), WriteFault>
+        requires { 0 < length bytes.now }
+        ensures bytes { OnOk result (Appends
+            (written (W.held sink.old) self.old) (written (W.held sink.new) self.new)
+            bytes.now) }
+        ensures refuses { RefusesOnce self.old.failed self.new.failed (W.has_failed sink.new) result }
+        ensures untouched { self.old.failed ≡ true → sink.new ≡ sink.old }
+    {
+        for byte in bytes {
+            self.byte(*byte, sink)?;
+        }
+        Ok(())
+    }
+}

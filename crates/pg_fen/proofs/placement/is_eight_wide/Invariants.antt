@@ -1,0 +1,7 @@
+use Rattle.std.proofs.Common.{◌≡◌, ◌+◌, drop}
+use Rattle.std.specs.List.{sum_by}
+use Rattle.pg_fen.specs.PlacementText.{width_of}
+use Rattle.pg_fen.proofs.placement.is_eight_wide.Given as goal
+
+abbrev pub invariant-loop-byte : goal.invariant-loop-byte
+invariant-loop-byte l = sum_by width_of l.rank + l.left ≡ 8 + sum_by width_of (drop l.byte-index l.rank)

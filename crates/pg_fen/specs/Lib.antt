@@ -1,0 +1,10 @@
+pub mod DetailText
+pub mod DiagramText
+pub mod Fields
+pub mod Grammar
+pub mod Lengths
+pub mod Letters
+pub mod Packing
+pub mod PlacementText
+pub mod PositionText
+pub mod PositionWriting

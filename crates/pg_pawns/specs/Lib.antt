@@ -1,0 +1,2 @@
+pub mod PawnFiles
+pub mod PawnFilesLaw

@@ -1,0 +1,85 @@
+ghost use Rattle.std.specs.Prelude.{◌≡◌, ℕ, ◌↔◌, ◌<◌, ◌≤◌, IsTrue};
+ghost use Rattle.pg_captures.specs.Owed.{victims};
+ghost use Rattle.pg_pawns.specs.PawnFiles.{line_need, shift, PawnFilesFor, PawnFilesHolds};
+
+use crate::files::{left_pawns, right_pawns};
+use pg_board::{Board, Color};
+use pg_captures::{Bound, victims_of};
+use pg_fen::Diagram;
+use pg_position::Position;
+
+// How many pawns are short left and right of the line after the file `n + 1`.
+#[tactic(auto, unfolding(crate::specs::PawnFiles::line_need))]
+fn line_need(wanted: &Board, board: &Board, color: Color, n: u8) -> u16
+    requires { n < 7 }
+    ensures value { result ≡ line_need wanted.now board.now color n }
+    ensures few { result ≤ 128 }
+{
+    let left = left_pawns(wanted, color, n).saturating_sub(left_pawns(board, color, n));
+    let right = right_pawns(wanted, color, n).saturating_sub(right_pawns(board, color, n));
+    u16::from(left) + u16::from(right)
+}
+
+// How many file changes the pawns need.
+#[tactic(auto, using(crate::proofs::FileLemmas::totals), unfolding(crate::specs::PawnFiles::shift))]
+fn shift(wanted: &Board, board: &Board, color: Color) -> u16
+    ensures value { result ≡ shift wanted.now board.now color }
+    ensures few { result ≤ 896 }
+{
+    let mut sum = 0;
+    for n in 0..7u8 {
+        sum += line_need(wanted, board, color, n);
+    }
+    sum
+}
+
+/// How many changes of file the colour's pawns need on the way from the position to the diagram:
+/// over the seven lines between neighbouring files, the pawns that the diagram has above those of
+/// the position on the left, and on the right, 0 to 896.
+pub fn shift_need(color: Color, diagram: &Diagram, position: &Position) -> u16
+    ensures { result ≡ shift diagram.now position.now.board color }
+{
+    shift(&diagram.board(), &position.board(), color)
+}
+
+fn pawn_files_hold_for(wanted: &Board, board: &Board, color: Color) -> bool
+    ensures { IsTrue result ↔ PawnFilesFor wanted.now board.now color }
+{
+    let here = u16::from(victims_of(board, color));
+    let there = u16::from(victims_of(wanted, color));
+    here < shift(wanted, board, color) + there
+}
+
+#[tactic(auto, unfolding(crate::specs::PawnFiles::PawnFilesHolds))]
+fn pawn_files_hold(diagram: &Diagram, position: &Position) -> bool
+    ensures { IsTrue result ↔ PawnFilesHolds diagram.now position.now }
+{
+    let wanted = diagram.board();
+    let board = position.board();
+    pawn_files_hold_for(&wanted, &board, Color::White)
+        || pawn_files_hold_for(&wanted, &board, Color::Black)
+}
+
+/// The bound by pawn files, code 3. A pawn changes its file by a capture alone, one file at a time:
+/// it excludes where the pawns of a colour need more changes of file than the colour owes captures.
+#[derive(Drop)]
+pub struct PawnFiles;
+
+impl Bound for PawnFiles {
+    ghost use Rattle.pg_pawns.specs.PawnFiles.{PawnFilesHolds};
+    ghost use Rattle.pg_pawns.specs.PawnFilesLaw.{files_barren};
+
+    ghost code_of = { λ b. 3 };
+
+    ghost excluded = { λ b d p k. PawnFilesHolds d p };
+
+    ghost sound = { λ b d p k valid h. files_barren d p k valid h };
+
+    fn code(&self) -> u8 {
+        3
+    }
+
+    fn excludes(&self, diagram: &Diagram, position: &Position, left: u8) -> bool {
+        pawn_files_hold(diagram, position)
+    }
+}

@@ -1,0 +1,25 @@
+-- What the readers and writers for tests hold.
+use Rattle.std.specs.Prelude.{ℕ}
+use Rattle.pg_trial.specs.declared.endless.Endless.{Endless}
+use Rattle.pg_trial.specs.declared.fails_at.FailsAt.{FailsAt}
+use Rattle.pg_trial.specs.declared.one_byte.OneByte.{OneByte}
+
+-- the byte that an endless reader gives
+abbrev pub byte_of : Endless → ℕ
+byte_of reader = reader.byte
+
+-- the calls that were made of one that fails at a call
+abbrev pub calls_of : {T : Type 0} → FailsAt T → ℕ
+calls_of failing = failing.calls
+
+-- the number of the call that fails
+abbrev pub at_of : {T : Type 0} → FailsAt T → ℕ
+at_of failing = failing.at
+
+-- the reader or the writer that one which fails at a call passes calls on to
+abbrev pub within : {T : Type 0} → FailsAt T → T
+within failing = failing.inner
+
+-- the reader or the writer of which one byte a call is handed on
+abbrev pub whole : {T : Type 0} → OneByte T → T
+whole piecewise = piecewise.inner
