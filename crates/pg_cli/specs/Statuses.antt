@@ -1,0 +1,18 @@
+-- The status with which the program ends where nothing is reported.
+use Rattle.std.specs.Prelude.{ℕ}
+use Rattle.pg_cli.specs.declared.faults.GamesFault.{GamesFault}
+use Rattle.pg_cli.specs.declared.faults.GamesFault.TheVariants.{At, TooMany, Repeated, Memory as NoRoom}
+use Rattle.pg_cli.specs.declared.faults.RunFault.{RunFault}
+use Rattle.pg_cli.specs.declared.faults.RunFault.TheVariants.{Diagram, Length, Games, Check, Write, Memory}
+
+abbrev pub games_status : GamesFault → ℕ
+games_status NoRoom = 3
+games_status f = 2
+
+abbrev pub status_of : RunFault → ℕ
+status_of (Diagram f) = 2
+status_of (Length f) = 2
+status_of (Games f) = games_status f
+status_of (Check f) = 1
+status_of Write = 4
+status_of Memory = 3
