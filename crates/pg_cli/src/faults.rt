@@ -1,8 +1,9 @@
 //! Why a check is refused, with the texts that the program prints.
 ghost use Rattle.std.specs.Prelude.{◌≡◌};
-ghost use Rattle.pg_cli.specs.Statuses.{status_of};
+ghost use Rattle.pg_cli.specs.Statuses.{status_of, count_status_of};
 
 use pg_fen::{FenFault, LengthFault};
+use pg_moves::CountFault;
 use thiserror::Error;
 
 /// Why a word of a game is refused.
@@ -86,5 +87,32 @@ pub fn status(fault: &RunFault) -> u8
         RunFault::Games(_) => 2,
         RunFault::Check(_) => 1,
         RunFault::Write => 4,
+    }
+}
+
+/// Why no number is written, the first of these that holds.
+#[derive(Debug, Clone, Copy, PartialEq, Eq, Error)]
+pub enum CountRunFault {
+    /// The position is refused.
+    #[error("{0}")]
+    Position(FenFault),
+    /// The count is refused.
+    #[error("{0}")]
+    Count(CountFault),
+    /// The writer has failed.
+    #[error("write fault")]
+    Write,
+}
+
+/// The status with which the program ends: 2 for a bad position and a count too large, 3 for want of
+/// memory, 4 for a write fault.
+pub fn count_status(fault: &CountRunFault) -> u8
+    ensures { result ≡ count_status_of fault.now }
+{
+    match fault {
+        CountRunFault::Position(_) => 2,
+        CountRunFault::Count(CountFault::Memory) => 3,
+        CountRunFault::Count(_) => 2,
+        CountRunFault::Write => 4,
     }
 }

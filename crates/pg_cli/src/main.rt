@@ -1,6 +1,7 @@
-//! The program `pg`: `pg check DIAGRAM LENGTH [GAMES]`.
+//! The program `pg`: `pg check DIAGRAM LENGTH [GAMES]` and `pg count FEN PLIES`.
 #![tactic(auto)]
 
+mod counts;
 mod faults;
 mod game;
 mod games;
@@ -8,7 +9,8 @@ mod input;
 mod run;
 mod words;
 
-use crate::faults::status;
+use crate::counts::run_count;
+use crate::faults::{count_status, status};
 use crate::input::{InputFault, read_all};
 use crate::run::run;
 use clap::{Arg, ArgMatches, Command};
@@ -41,7 +43,24 @@ fn command<'a>(alloc: Global) -> Result<Command<'a>, AllocError> {
     Command::new(alloc, "pg")
         .about("Checks shortest proof games")
         .subcommand_required(true)
-        .subcommand(check)
+        .subcommand(check)?
+        .subcommand(count_command(alloc)?)
+}
+
+fn count_command<'a>(alloc: Global) -> Result<Command<'a>, AllocError> {
+    Command::new(alloc, "count")
+        .about("Prints the number of games of so many plies from a position")
+        .arg(
+            Arg::new(alloc, "FEN")
+                .required(true)
+                .help("The six fields of a FEN, as one word"),
+        )?
+        .arg(
+            Arg::new(alloc, "PLIES")
+                .required(true)
+                .value_parser(clap::value_parser!(u8))
+                .help("How many plies, 8 at most"),
+        )
 }
 
 // Prints why nothing is reported, and gives the status.
@@ -102,6 +121,23 @@ fn check<R: Runtime + AllocGlobal>(rt: &R, words: &ArgMatches<'_>) -> u8 {
     }
 }
 
+// The number of games, on standard output.
+fn count<R: Runtime + AllocGlobal>(rt: &R, words: &ArgMatches<'_>) -> u8 {
+    let text = words.get_str("FEN").unwrap_or("");
+    let plies = words.get_str("PLIES").unwrap_or("");
+    let Ok(plies) = plies.parse::<u8>() else {
+        return 2;
+    };
+    let mut sink = ToWrite::new(io::writer(rt));
+    match run_count(rt.alloc(), text, plies, &mut sink) {
+        Ok(_) => 0,
+        Err(fault) => {
+            let _ = eprintln!(rt; "pg: {fault}");
+            count_status(&fault)
+        }
+    }
+}
+
 fn all_words<R: Runtime + AllocGlobal>(rt: &R) -> io::Result<Vec<String>> {
     let mut words = Vec::new(rt.alloc());
     for word in env::args(rt)? {
@@ -117,6 +153,7 @@ fn obey<R: Runtime + AllocGlobal>(rt: &R, words: &[String]) -> u8 {
     };
     match command.try_get_matches_from(words) {
         Ok(matches) => match matches.subcommand() {
+            Some(("count", inner)) => count(rt, inner),
             Some((_, inner)) => check(rt, inner),
             None => 2,
         },

@@ -110,3 +110,35 @@ fn a_read_that_fails(rt: HostRuntime) -> Result<(), Fail> {
     assert_eq!(rt; whole.as_slice(), text);
     Ok(())
 }
+
+/// The number that is written for a position, or the text of the refusal.
+fn counted<R: Abort + AllocGlobal>(rt: &R, text: &str, plies: u8) -> Result<String, Fail> {
+    let mut sink = ToWrite::new(Vec::new(rt.alloc()));
+    match run_count(rt.alloc(), text, plies, &mut sink) {
+        Ok(_) => {
+            let bytes = sink.into_inner();
+            Ok(String::from_str(rt.alloc(), str::from_utf8(bytes.as_slice())?)?)
+        }
+        Err(fault) => {
+            assert!(rt; sink.into_inner().is_empty(), "{text}");
+            assert_eq!(rt; count_status(&fault), 2, "{text}");
+            Ok(format!(in rt.alloc(); "{fault}")?)
+        }
+    }
+}
+
+#[test]
+fn counts_of_games(rt: HostRuntime) -> Result<(), Fail> {
+    let array = "rnbqkbnr/pppppppp/8/8/8/8/PPPPPPPP/RNBQKBNR w KQkq - 0 1";
+    let mate = "rnb1kbnr/pppp1ppp/8/4p3/6Pq/5P2/PPPPP2P/RNBQKBNR w KQkq - 1 3";
+    for (text, plies, wanted) in [
+        (array, 0, "1\n"),
+        (array, 4, "197281\n"),
+        (mate, 3, "0\n"),
+        (array, 9, "more than 8 plies"),
+        ("8/8", 1, "wrong number of fields"),
+    ] {
+        assert_eq!(rt; counted(&rt, text, plies)?.as_str(), wanted, "{text}");
+    }
+    Ok(())
+}

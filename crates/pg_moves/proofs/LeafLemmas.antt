@@ -1,0 +1,313 @@
+-- How many legal moves there are, square by square.
+use Rattle.std.proofs.Common.{◌≡◌, ◌≢◌, ℕ, zero, suc, ◌+◌, ◌-◌, ◌*◌, ◌^◌, ◌<◌, ◌≤◌, ◌⊎◌, inl, inr, Bool, true, false, eqb, List, [], ◌∷◌, ◌++◌, length, length-append, count_ones, bit_or, refl, sym, ap, subst, arith, ◌∙◌}
+use Rattle.std.specs.List.{sum_by}
+use Rattle.std.proofs.lemmas.Bool.{eqb-false}
+use Rattle.std.proofs.lemmas.Bool.Decides.{eqb_tells, leb_tells}
+use Rattle.std.proofs.lemmas.Nat.Bits.{bit_at_ones}
+use Rattle.std.proofs.lemmas.List.Sums.{sum_by-cons}
+use Rattle.pg_board.specs.declared.man.Color.{Color}
+use Rattle.pg_board.specs.declared.man.Color.TheVariants.{White, Black}
+use Rattle.pg_board.specs.declared.man.Kind.{Kind}
+use Rattle.pg_board.specs.declared.man.Kind.TheVariants.{Pawn, Queen, King}
+use Rattle.pg_board.specs.Squares.{rank}
+use Rattle.pg_board.specs.Tally.{one, count_below, total-none, total-suc}
+use Rattle.pg_board.specs.Bits.{has, has-none, ones-count}
+use Rattle.pg_board.specs.Men.{king_of, other, is_of}
+use Rattle.pg_board.specs.Placement.{Placement, get, get_on, without, IsFirst}
+use Rattle.pg_position.specs.declared.state.State.{State}
+use Rattle.pg_position.specs.declared.moves.Move.{Move}
+use Rattle.pg_position.specs.Geometry.{IsForward, InPattern}
+use Rattle.pg_position.specs.Attack.{Reaches, Attacks}
+use Rattle.pg_position.specs.SquareSets.{IsSetOf, HasNoneFrom, IsFirstFrom}
+use Rattle.pg_position.specs.Position.{Stands, IsOnlyKing, HasOneKing, InCheck, IsPosition}
+use Rattle.pg_position.specs.Step.{Goes, IsOnBoard, last_rank}
+use Rattle.pg_position.proofs.StepLemmas.{same_kind, not_other}
+use Rattle.pg_position.proofs.ReachLemmas.{set_or}
+use Rattle.pg_moves.specs.Moves.{promotion_rank, IsLegal}
+use Rattle.pg_moves.specs.Places.{place, place_of, NoneFrom, IsFirstMove, IsCountBelow, Adds}
+use Rattle.pg_moves.specs.Targets.{plain_move, Strides, Leaps, Advances, Passes, IsFree, FreeOff, IsOrdinary}
+use Rattle.pg_moves.specs.Counts.{IsGameCount}
+use Rattle.pg_moves.proofs.PlaceLemmas.{promotion_low}
+use Rattle.pg_moves.proofs.ListLemmas.{on_board, list_start, list_skip, list_push, list_whole, moves_of, move_list_is}
+use Rattle.pg_moves.proofs.TargetLemmas.{Goals, legal_goals}
+use Rattle.pg_moves.proofs.SearchLemmas.{leap_last, none_ranks, own_gap, promotes}
+use Rattle.pg_moves.proofs.ShelterLemmas.{sure_legal, unseen_lifted}
+use Rattle.pg_moves.proofs.PlayLemmas.{play_of}
+use Rattle.pg_moves.proofs.CountLemmas.{games_of, number_of, number_more, number_is}
+
+-- ---- counts on their way
+pub count_start : (p : State) → IsCountBelow p 0 0
+unfolding IsCountBelow
+count_start p = ([], list_start p, refl)
+
+pub count_skip : (p : State) (low high n : ℕ) → IsCountBelow p low n → low ≤ high → NoneFrom p low high → IsCountBelow p high n
+unfolding IsCountBelow
+count_skip p low high n (ms, list, e) le none = (ms, list_skip p low high ms list le none, e)
+
+pub count_push : (p : State) (n k : ℕ) (m : Move) → IsCountBelow p k n → IsLegal p m → place m ≡ k → IsCountBelow p (k + 1) (n + 1)
+unfolding IsCountBelow
+count_push p n k m (ms, list, e) legal at = (ms ++ m ∷ [], list_push p k ms m list legal at, (let f : length (ms ++ m ∷ []) ≡ length ms + 1 = length-append ms (m ∷ []) in omega arith))
+
+ones : (ms : List Move) (f : Move → ℕ) → ((m : Move) → f m ≡ 1) → sum_by f ms ≡ length ms
+ones [] f h = refl
+ones (m ∷ ms) f h = let a : f m ≡ 1 = h m in let b : sum_by f ms ≡ length ms = ones ms f h in omega (arith, sum_by-cons f m ms)
+
+-- all legal moves counted: that many games of one ply
+pub count_all : (p : State) (n : ℕ) → IsPosition p → IsCountBelow p 28672 n → IsGameCount p 1 n
+unfolding IsCountBelow number_of games_of
+count_all p n pos (ms, list, e) =
+    let whole : ms ≡ moves_of p = move_list_is p ms (list_whole p ms list) in
+    let same : number_of 1 p ≡ n = number_more 0 p ∙ ones (moves_of p) (λ m. number_of 0 (play_of p m)) (λ m. refl) ∙ ap length (sym whole) ∙ e in
+    subst (λ (k : ℕ). IsGameCount p 1 k) same (number_is 1 p pos)
+
+-- ---- a man that is free and ordinary
+module _ (p : State) (k : Kind) (r set : ℕ) (low : r < 64) (here : Stands p.board p.side k r) (free : IsFree p k r) (plain : IsOrdinary p k r) (is : IsSetOf set (Advances p.board p.side k r)) where
+  -- its legal moves are its advances
+  free_forth : (m : Move) → IsLegal p m → m.from ≡ r → (m.to < 64) × Advances p.board p.side k r m.to
+  unfolding Goals IsFree IsOrdinary
+  free_forth m l f = let g : (m.to < 64) × Goals p k r m.to = legal_goals p k r here p.board p.side refl refl m l f in (
+    g.0,
+    elim g.1 [
+      | inl a ↦ a
+      | inr (inl a) ↦ absurd ((plain m.to g.0).1 a.0 a.1)
+      | inr (inr a) ↦ absurd (free.0 a.0)
+    ],
+  )
+
+  unpromoted : (m : Move) → IsLegal p m → m.from ≡ r → promotion_rank m.promotion ≡ 0
+  unfolding IsOrdinary
+  unpromoted m l f = elim (promotes p m l) [
+    | inl e ↦ ap promotion_rank e
+    | inr g ↦ absurd (
+        let a : (m.to < 64) × Advances p.board p.side k r m.to = free_forth m l f in
+        let there : Stands p.board p.side Pawn r = subst (λ (x : ℕ). Stands p.board p.side Pawn x) f g.0 in
+        (plain m.to a.0).0 a.1 (same_kind here there, g.1))
+  ]
+
+  free_legal : (s : ℕ) → s < 64 → has set s ≡ true → IsLegal p (plain_move r s)
+  unfolding IsFree IsOrdinary
+  free_legal s on h = let a : Advances p.board p.side k r s = (is s on).0 h in free.1 s on a ((plain s on).0 a)
+
+  -- no move to the square s, from promotion n on
+  free_none : (s n : ℕ) → s < 64 → n ≤ 7 → (has set s ≡ false) ⊎ (n ≢ 0) → NoneFrom p (place_of r s n) (place_of r s 7)
+  free_none s n on few why = none_ranks p r s n 7 on (omega arith) (λ m l f t a b. elim why [
+    | inl e ↦ (
+        let g : (m.to < 64) × Advances p.board p.side k r m.to = free_forth m l f in
+        let yes_there : has set m.to ≡ true = (is m.to g.0).1 g.1 in
+        let moved : has set m.to ≡ has set s = ap (has set) t in
+        cc)
+    | inr e ↦ (let none : promotion_rank m.promotion ≡ 0 = unpromoted m l f in omega arith)
+  ])
+
+  free_step : (t n : ℕ) (b : Bool) → t < 64 → has set t ≡ b → IsCountBelow p (place_of r t 0) n → IsCountBelow p (place_of r (suc t) 0) (n + one b)
+  free_step t n true on e count =
+      let pushed : IsCountBelow p (place_of r t 0 + 1) (n + 1) = count_push p n (place_of r t 0) (plain_move r t) count (free_legal t on e) refl in
+      let none : NoneFrom p (place_of r t 1) (place_of r t 7) = free_none t 1 on (omega arith) (inr (omega arith)) in
+      let at : place_of r t 1 ≡ place_of r t 0 + 1 = omega arith in
+      let to : place_of r t 7 ≡ place_of r (suc t) 0 = omega arith in
+      count_skip p (place_of r t 0 + 1) (place_of r (suc t) 0) (n + 1) pushed (omega arith) (subst (λ x. NoneFrom p x (place_of r (suc t) 0)) at (subst (λ x. NoneFrom p (place_of r t 1) x) to none))
+  free_step t n false on e count =
+      let none : NoneFrom p (place_of r t 0) (place_of r t 7) = free_none t 0 on (omega arith) (inl e) in
+      let to : place_of r t 7 ≡ place_of r (suc t) 0 = omega arith in
+      let same : n ≡ n + 0 = omega arith in
+      subst (λ x. IsCountBelow p (place_of r (suc t) 0) x) same (count_skip p (place_of r t 0) (place_of r (suc t) 0) n count (omega arith) (subst (λ x. NoneFrom p (place_of r t 0) x) to none))
+
+  free_to : (t n : ℕ) → t ≤ 64 → IsCountBelow p (place_of r 0 0) n → IsCountBelow p (place_of r t 0) (n + count_below (has set) t)
+  free_to zero n le count = let same : n ≡ n + count_below (has set) 0 = omega (arith, total-none (λ q. one (has set q))) in subst (λ x. IsCountBelow p (place_of r 0 0) x) same count
+  free_to (suc t) n le count =
+      let before : IsCountBelow p (place_of r t 0) (n + count_below (has set) t) = free_to t n (omega arith) count in
+      let same : n + count_below (has set) t + one (has set t) ≡ n + count_below (has set) (suc t) = omega (arith, total-suc (λ q. one (has set q)) t) in
+      subst (λ x. IsCountBelow p (place_of r (suc t) 0) x) same (free_step t (n + count_below (has set) t) (has set t) (omega arith) refl before)
+
+  pub free_adds : set < 2 ^ 64 → Adds p (place_of r 0 0) (place_of (r + 1) 0 0) (count_ones set)
+  unfolding Adds
+  free_adds fits n count =
+      let all : IsCountBelow p (place_of r 64 0) (n + count_below (has set) 64) = free_to 64 n (omega arith) count in
+      let at : place_of r 64 0 ≡ place_of (r + 1) 0 0 = omega arith in
+      let size : count_below (has set) 64 ≡ count_ones set = sym (ones-count 64 set fits) in
+      subst (λ x. IsCountBelow p x (n + count_ones set)) at (subst (λ x. IsCountBelow p (place_of r 64 0) (n + x)) size all)
+
+-- ---- which men are free and ordinary
+pub free_none_off : (p : State) (n : ℕ) → n ≡ 2 ^ 64 - 1 → FreeOff p n
+unfolding FreeOff
+free_none_off p n e k r low here off =
+    let full : has (2 ^ 64 - 1) r ≡ true = ap (λ b. eqb b 1) (bit_at_ones 64 r low) in
+    let full_there : has n r ≡ true = ap (λ x. has x r) e ∙ full in
+    absurd (cc)
+
+only_king : (b : Placement) (c : Color) (h : ℕ) → HasOneKing b c → IsFirst b (king_of c) h → IsOnlyKing b c h
+unfolding HasOneKing IsOnlyKing
+only_king b c h (k, king) first =
+    let same : h ≡ k = king.2 h (get_on b h (king_of c) first.found) first.found in
+    subst (λ x. IsOnlyKing b c x) (sym same) king
+
+one_king : (p : State) → IsPosition p → HasOneKing p.board p.side
+one_king p pos = go p.side
+  where
+    go : (c : Color) → HasOneKing p.board c
+    go White = pos.kings.0
+    go Black = pos.kings.1
+
+module _ (p : State) (b : Placement) (c : Color) (h : ℕ) (pos : IsPosition p) (eb : b ≡ p.board) (ec : c ≡ p.side) (first : IsFirst b (king_of c) h) where
+  -- the king of the side to move
+  the_king : IsOnlyKing p.board p.side h
+  the_king = only_king p.board p.side h (one_king p pos) (subst (λ (d : Placement). IsFirst d (king_of p.side) h) eb (subst (λ (d : Color). IsFirst b (king_of d) h) ec first))
+
+  pub free_lifted : (k : Kind) (r : ℕ) → r < 64 → Stands p.board p.side k r → k ≢ King → ¬ Attacks (without b r) (other c) h → IsFree p k r
+  unfolding IsFree
+  free_lifted k r low here no_king lifted =
+      let there : ¬ Attacks (without p.board r) (other p.side) h = (λ a. lifted (subst (λ (d : Placement). Attacks (without d r) (other c) h) (sym eb) (subst (λ (d : Color). Attacks (without p.board r) (other d) h) (sym ec) a))) in
+      (no_king, λ s on a stays. sure_legal p k r h low here the_king no_king there s on a stays)
+
+  pub free_seen : (x y : ℕ) → IsSetOf x (Reaches b c Queen h) → IsSetOf y (λ q. q ≡ h) → ¬ InCheck p.board p.side → FreeOff p (bit_or x y)
+  unfolding FreeOff IsOnlyKing InCheck
+  free_seen x y sees at safe k r low here off =
+      let king : IsOnlyKing p.board p.side h = the_king in
+      let none : Reaches b c Queen h r ⊎ (r ≡ h) → ⊥ = (λ z. let is : has (bit_or x y) r ≡ true = (set_or x y sees at r low).1 z in cc) in
+      let no_king : k ≢ King = (λ e. none (inr (king.2 r low (subst (λ (j : Kind). Stands p.board p.side j r) e here)))) in
+      let unseen : ¬ Reaches b c Queen h r = (λ z. none (inl z)) in
+      let calm : ¬ Attacks b (other c) h = (λ a. safe (h, king.0, king.1, subst (λ (d : Placement). Attacks d (other p.side) h) eb (subst (λ (d : Color). Attacks b (other d) h) ec a))) in
+      free_lifted k r low here no_king (unseen_lifted b c r h low unseen calm)
+
+pub piece_ordinary : (p : State) (k : Kind) (r : ℕ) → k ≢ Pawn → IsOrdinary p k r
+unfolding IsOrdinary
+piece_ordinary p k r ne s on = (λ a must. ne must.0, λ e. absurd (ne e))
+
+early : (c : Color) (r s : ℕ) → IsForward c 1 r s → (c ≡ White → rank r ≢ 7) → (c ≡ Black → rank r ≢ 2) → rank s ≢ last_rank c
+early White r s f a b e = let n : rank r ≢ 7 = a refl in omega arith
+early Black r s f a b e = let n : rank r ≢ 2 = b refl in omega arith
+
+pub pawn_ordinary : (p : State) (k : Kind) (r set : ℕ) → IsSetOf set (Passes p r) → set ≡ 0 → (p.side ≡ White → rank r ≢ 7) → (p.side ≡ Black → rank r ≢ 2) → IsOrdinary p k r
+unfolding IsOrdinary Advances Strides Leaps Goes InPattern
+pawn_ordinary p k r set is none white black s on = (
+  λ a must. (let pawn : Advances p.board p.side Pawn r s = subst (λ (j : Kind). Advances p.board p.side j r s) must.0 a in
+      elim pawn [
+        | inl (inl h) ↦ early p.side r s h.1.1 white black must.1
+        | inl (inr h) ↦ early p.side r s h.1.0.1 white black must.1
+        | inr h ↦ leap_last p.side r s h.1.1 h.1.0 must.1
+      ]),
+  λ e h. (let is_there : has set s ≡ true = (is s on).1 h in let off : has set s ≡ false = ap (λ x. has x s) none ∙ has-none s in cc),
+)
+
+-- ---- the loops
+pub walk_start : (p : State) (low : ℕ) → Adds p low low 0
+unfolding Adds
+walk_start p low c count = let same : c ≡ c + 0 = omega arith in subst (λ x. IsCountBelow p low x) same count
+
+-- a step of the walk over the moves of the man on r
+pub walk_step : (p : State) (r to n t : ℕ) (m : Move) (f g : ℕ) → Adds p (place_of r 0 0) (place_of r to n) t → IsFirstMove p (place_of r to n) (place_of (r + 1) 0 0) m → f ≡ m.to → g ≡ promotion_rank m.promotion → Adds p (place_of r 0 0) (place_of r f (g + 1)) (t + 1)
+unfolding Adds
+walk_step p r to n t m f g adds first a b c count =
+    let on : IsOnBoard m = on_board p m first.legal in
+    let far : m.to < 64 = on.1 in
+    let few : promotion_rank m.promotion < 7 = promotion_low m.promotion in
+    let above : place_of r to n ≤ place m = first.from_low in
+    let below : place m < place_of (r + 1) 0 0 = first.to_high in
+    let from : m.from ≡ r = omega arith in
+    let here : IsCountBelow p (place m) (c + t) = count_skip p (place_of r to n) (place m) (c + t) (adds c count) above first.first in
+    let pushed : IsCountBelow p (place m + 1) (c + t + 1) = count_push p (c + t) (place m) m here first.legal refl in
+    let at : place m + 1 ≡ place_of r f (g + 1) = omega arith in
+    let same : c + t + 1 ≡ c + (t + 1) = omega arith in
+    subst (λ x. IsCountBelow p x (c + (t + 1))) at (subst (λ x. IsCountBelow p (place m + 1) x) same pushed)
+
+pub walk_far : (p : State) (r to n : ℕ) (m : Move) → IsFirstMove p (place_of r to n) (place_of (r + 1) 0 0) m → (to * 7 + n ≤ m.to * 7 + promotion_rank m.promotion)
+walk_far p r to n m first =
+    let on : IsOnBoard m = on_board p m first.legal in
+    let far : m.to < 64 = on.1 in
+    let few : promotion_rank m.promotion < 7 = promotion_low m.promotion in
+    let above : place_of r to n ≤ place m = first.from_low in
+    let below : place m < place_of (r + 1) 0 0 = first.to_high in
+    omega arith
+
+pub walk_end : (p : State) (r to n t : ℕ) → to < 64 → n ≤ 7 → Adds p (place_of r 0 0) (place_of r to n) t → NoneFrom p (place_of r to n) (place_of (r + 1) 0 0) → Adds p (place_of r 0 0) (place_of (r + 1) 0 0) t
+unfolding Adds
+walk_end p r to n t far few adds none c count = count_skip p (place_of r to n) (place_of (r + 1) 0 0) (c + t) (adds c count) (omega arith) none
+
+-- over the squares of the side's own men
+pub square_step : (p : State) (set at s t n k : ℕ) → ((q : ℕ) → q < 64 → has set q ≡ is_of p.side (get p.board q)) → IsCountBelow p (place_of at 0 0) t → IsFirstFrom set at s → Adds p (place_of s 0 0) (place_of (s + 1) 0 0) n → k ≡ s → IsCountBelow p (place_of (k + 1) 0 0) (t + n)
+unfolding Adds
+square_step p set at s t n k own count first adds e =
+    let up : at ≤ s = first.reached in
+    let on : s < 64 = first.on_board in
+    let gap : NoneFrom p (place_of at 0 0) (place_of s 0 0) = own_gap p set at s own up (omega arith) first.before in
+    let there : IsCountBelow p (place_of (s + 1) 0 0) (t + n) = adds t (count_skip p (place_of at 0 0) (place_of s 0 0) t count (omega arith) gap) in
+    let same : place_of (s + 1) 0 0 ≡ place_of (k + 1) 0 0 = omega arith in
+    subst (λ x. IsCountBelow p x (t + n)) same there
+
+pub square_end : (p : State) (set at t : ℕ) → IsPosition p → ((q : ℕ) → q < 64 → has set q ≡ is_of p.side (get p.board q)) → at ≤ 64 → IsCountBelow p (place_of at 0 0) t → HasNoneFrom set at → IsGameCount p 1 t
+square_end p set at t pos own le count none =
+    let gap : NoneFrom p (place_of at 0 0) (place_of 64 0 0) = own_gap p set at 64 own le (omega arith) none in
+    let all : IsCountBelow p (place_of 64 0 0) t = count_skip p (place_of at 0 0) (place_of 64 0 0) t count (omega arith) gap in
+    let same : place_of 64 0 0 ≡ 28672 = omega arith in
+    count_all p t pos (subst (λ x. IsCountBelow p x t) same all)
+
+pub advances_at : (p : State) (k : Kind) (r set : ℕ) (b : Placement) (c : Color) → b ≡ p.board → c ≡ p.side → IsSetOf set (Advances b c k r) → IsSetOf set (Advances p.board p.side k r)
+advances_at p k r set b c eb ec is = subst (λ (d : Placement). IsSetOf set (Advances d p.side k r)) eb (subst (λ (d : Color). IsSetOf set (Advances b d k r)) ec is)
+
+pub free_count : (p : State) (k : Kind) (r set : ℕ) (b : Placement) (c : Color) → b ≡ p.board → c ≡ p.side → r < 64 → Stands p.board p.side k r → IsFree p k r → IsOrdinary p k r → IsSetOf set (Advances b c k r) → set < 2 ^ 64 → Adds p (place_of r 0 0) (place_of (r + 1) 0 0) (count_ones set)
+free_count p k r set b c eb ec low here free plain is fits = free_adds p k r set low here free plain (advances_at p k r set b c eb ec is) fits
+
+-- a rank that a test has ruled out, for the colour at hand
+pub rank_ruled_out : (c d : Color) (r n k : ℕ) → n ≡ rank r → eqb n k ≡ false → c ≡ d → rank r ≢ k
+rank_ruled_out c d r n k e off same f = eqb-false n k off (e ∙ f)
+
+pub other_color : {A : Type 0} (c d : Color) → d ≡ c → d ≡ other c → A
+other_color c d e f = absurd (not_other c (sym e ∙ f))
+
+-- ---- the next move of a free man
+from_there : (r to n f t j : ℕ) → n ≤ 7 → t < 64 → j < 7 → place_of r to n ≤ place_of f t j → place_of f t j < place_of (r + 1) 0 0 → f ≡ r
+from_there r to n f t j a b c d e = omega arith
+
+module _ (p : State) (k : Kind) (r set : ℕ) (low : r < 64) (here : Stands p.board p.side k r) (free : IsFree p k r) (plain : IsOrdinary p k r) (is : IsSetOf set (Advances p.board p.side k r)) (to n at : ℕ) (few : n ≤ 7) (same : n ≡ 0 → at ≡ to) (later : n ≢ 0 → at ≡ to + 1) where
+  -- a legal move from this place on goes to a square of the set from `at` on
+  free_past : (m : Move) → IsLegal p m → place_of r to n ≤ place m → place m < place_of (r + 1) 0 0 → (m.from ≡ r) × (promotion_rank m.promotion ≡ 0) × (at ≤ m.to) × (m.to < 64) × (has set m.to ≡ true)
+  free_past m l above below =
+      let on : IsOnBoard m = on_board p m l in
+      let far : m.to < 64 = on.1 in
+      let small : promotion_rank m.promotion < 7 = promotion_low m.promotion in
+      let from : m.from ≡ r = from_there r to n m.from m.to (promotion_rank m.promotion) few far small above below in
+      let none : promotion_rank m.promotion ≡ 0 = unpromoted p k r set low here free plain is m l from in
+      let g : (m.to < 64) × Advances p.board p.side k r m.to = free_forth p k r set low here free plain is m l from in
+      let reached : at ≤ m.to = elim (eqb_tells n 0) [
+        | inl w ↦ (let e : at ≡ to = same w.1 in let z : n ≡ 0 = w.1 in omega arith)
+        | inr w ↦ (let e : at ≡ to + 1 = later w.1 in let z : n ≢ 0 = w.1 in omega arith)
+      ] in
+      (from, none, reached, far, (is m.to far).1 g.1)
+
+  pub free_found : (s : ℕ) → IsFirstFrom set at s → IsFirstMove p (place_of r to n) (place_of (r + 1) 0 0) (plain_move r s)
+  free_found s first =
+      let on : s < 64 = first.on_board in
+      let up : at ≤ s = first.reached in
+      record {
+        legal = free_legal p k r set low here free plain is s on first.member;
+        from_low = elim (eqb_tells n 0) [
+          | inl w ↦ (let e : at ≡ to = same w.1 in let z : n ≡ 0 = w.1 in omega arith)
+          | inr w ↦ (let e : at ≡ to + 1 = later w.1 in omega arith)
+        ];
+        to_high = omega arith;
+        first = λ m l above. elim (leb_tells (place_of r s 0) (place m)) [
+          | inl w ↦ w.1
+          | inr w ↦ absurd (
+              let near : place m < place_of r s 0 = w.1 in
+              let h : (m.from ≡ r) × (promotion_rank m.promotion ≡ 0) × (at ≤ m.to) × (m.to < 64) × (has set m.to ≡ true) = free_past m l above (omega arith) in
+              let from : m.from ≡ r = h.0 in
+              let none : promotion_rank m.promotion ≡ 0 = h.1 in
+              let off : has set m.to ≡ false = first.before m.to h.2 (omega arith) in
+              let is_there : has set m.to ≡ true = h.4 in
+              cc)
+        ];
+      }
+
+  pub free_last : HasNoneFrom set at → NoneFrom p (place_of r to n) (place_of (r + 1) 0 0)
+  free_last none m l above = elim (leb_tells (place_of (r + 1) 0 0) (place m)) [
+    | inl w ↦ w.1
+    | inr w ↦ absurd (
+        let h : (m.from ≡ r) × (promotion_rank m.promotion ≡ 0) × (at ≤ m.to) × (m.to < 64) × (has set m.to ≡ true) = free_past m l above w.1 in
+        let off : has set m.to ≡ false = none m.to h.2 h.3 in
+        let is_there : has set m.to ≡ true = h.4 in
+        cc)
+  ]
+
+pub free_there : (p : State) (k : Kind) (r tried : ℕ) → r < 64 → Stands p.board p.side k r → FreeOff p tried → has tried r ≡ false → IsFree p k r
+unfolding FreeOff
+free_there p k r tried low here free off = free k r low here off

@@ -1,0 +1,13 @@
+pub mod TargetLemmas
+pub mod SortLemmas
+pub mod DecisionLemmas
+pub mod PlaceLemmas
+pub mod ListLemmas
+pub mod SearchLemmas
+pub mod NextLemmas
+pub mod PlayLemmas
+pub mod LineLemmas
+pub mod ShelterLemmas
+pub mod LeafLemmas
+pub mod GameLemmas
+pub mod CountLemmas

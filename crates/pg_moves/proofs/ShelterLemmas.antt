@@ -1,0 +1,113 @@
+-- A man without which the king would not be attacked either: its moves leave the king unattacked.
+use Rattle.std.proofs.Common.{◌≡◌, ◌≢◌, ℕ, ◌<◌, inl, inr, Some, None, refl, sym, ap, subst, ◌∙◌}
+use Rattle.std.proofs.lemmas.Bool.Decides.{eqb_tells}
+use Rattle.pg_board.specs.declared.man.Color.{Color}
+use Rattle.pg_board.specs.declared.man.Kind.{Kind}
+use Rattle.pg_board.specs.declared.man.Kind.TheVariants.{Queen, King}
+use Rattle.pg_board.specs.declared.man.Man.{Man}
+use Rattle.pg_board.specs.Men.{man, other}
+use Rattle.pg_board.specs.Placement.{Placement, get, without, get-write_same, get-write_other}
+use Rattle.pg_position.specs.declared.state.State.{State}
+use Rattle.pg_position.specs.declared.moves.Way.{Way}
+use Rattle.pg_position.specs.declared.moves.Way.TheVariants.{Plain, Capture, DoubleAdvance}
+use Rattle.pg_position.specs.Geometry.{IsBetween}
+use Rattle.pg_position.specs.Attack.{IsClear, Reaches, AttacksFrom, Attacks}
+use Rattle.pg_position.specs.Position.{Stands, IsOnlyKing, InCheck}
+use Rattle.pg_position.specs.Step.{IsEnemy, MustPromote, IsWay, relocated, after, Step}
+use Rattle.pg_position.proofs.StepLemmas.{same_kind, same_side, not_other}
+use Rattle.pg_moves.specs.Moves.{IsLegal}
+use Rattle.pg_moves.specs.Targets.{plain_move, Strides, Leaps, Advances}
+use Rattle.pg_moves.proofs.LineLemmas.{seen_back, between_more}
+
+not_end : (h u r : ℕ) → IsBetween h u r → u ≢ r
+unfolding IsBetween
+not_end h u r bet = bet.1
+
+-- the placement e is b after a man of the colour, no king, has gone from r to s
+record HasGone (b e : Placement) (c : Color) (k : Kind) (r s : ℕ) : Type 0 where
+  left : get e r ≡ None
+  arrived : get e s ≡ Some (man c k)
+  rest : (t : ℕ) → t ≢ r → t ≢ s → get e t ≡ get b t
+
+module _ (b e : Placement) (c : Color) (k : Kind) (r s h : ℕ) (on : r < 64) (gone : HasGone b e c k r s) (no_king : k ≢ King) (king : IsOnlyKing b c h) where
+  -- the king has not moved
+  same_king : (t : ℕ) → t < 64 → Stands e c King t → (t ≡ h) × (t ≢ r) × (t ≢ s)
+  unfolding IsOnlyKing
+  same_king t low here =
+      let not_s : t ≢ s = (λ f. no_king (let at : get e s ≡ Some (man c King) = subst (λ x. get e x ≡ Some (man c King)) f here in same_kind gone.arrived at)) in
+      let not_r : t ≢ r = (λ f. let at : get e r ≡ Some (man c King) = subst (λ x. get e x ≡ Some (man c King)) f here in let none : get e r ≡ None = gone.left in cc) in
+      let before : Stands b c King t = sym (gone.rest t not_r not_s) ∙ here in
+      (king.2 t low before, not_r, not_s)
+
+  module _ (lifted : ¬ Attacks (without b r) (other c) h) where
+    -- an attack on the king would be there with the man taken off the board
+    no_attack : ¬ Attacks e (other c) h
+    unfolding Attacks AttacksFrom IsClear
+    no_attack (x, low, (m, at, color, pattern, clear)) =
+        let not_s : x ≢ s = (λ f. let there : get e s ≡ Some m = subst (λ y. get e y ≡ Some m) f at in
+        let own : get e s ≡ Some (man c k) = gone.arrived in
+        let same : m ≡ man c k = cc in
+        not_other c (sym (ap (λ (y : Man). y.color) same) ∙ color)) in
+        let not_r : x ≢ r = (λ f. let there : get e r ≡ Some m = subst (λ y. get e y ≡ Some m) f at in let none : get e r ≡ None = gone.left in cc) in
+        let before : get (without b r) x ≡ Some m = get-write_other b r None x not_r ∙ sym (gone.rest x not_r not_s) ∙ at in
+        let taken : (t : ℕ) → t < 64 → IsBetween x t h → t ≢ s = (λ t l bet f. let none : get e t ≡ None = clear t l bet in
+        let own : get e t ≡ Some (man c k) = subst (λ y. get e y ≡ Some (man c k)) (sym f) gone.arrived in cc) in
+        let open_line : (t : ℕ) → t < 64 → IsBetween x t h → get (without b r) t ≡ None = (λ t l bet. elim (eqb_tells t r) [
+          | inl w ↦ subst (λ y. get (without b r) y ≡ None) (sym w.1) (get-write_same b r None on)
+          | inr w ↦ get-write_other b r None t w.1 ∙ sym (gone.rest t w.1 (taken t l bet)) ∙ clear t l bet
+        ]) in
+        lifted (x, low, (m, before, color, pattern, open_line))
+
+    no_check : ¬ InCheck e c
+    unfolding InCheck
+    no_check (t, low, here, attacked) = let f : (t ≡ h) × (t ≢ r) × (t ≢ s) = same_king t low here in no_attack (subst (λ x. Attacks e (other c) x) f.0 attacked)
+
+-- a man that the king does not see, as a queen sees, covers him from no attack
+pub unseen_lifted : (b : Placement) (c : Color) (r h : ℕ) → r < 64 → ¬ Reaches b c Queen h r → ¬ Attacks b (other c) h → ¬ Attacks (without b r) (other c) h
+unfolding Attacks AttacksFrom IsClear
+unseen_lifted b c r h on unseen safe (x, low, (m, at, color, pattern, clear)) =
+    let not_r : x ≢ r = (λ f. let there : get (without b r) r ≡ Some m = subst (λ y. get (without b r) y ≡ Some m) f at in let none : get (without b r) r ≡ None = get-write_same b r None on in cc) in
+    let before : get b x ≡ Some m = sym (get-write_other b r None x not_r) ∙ at in
+    let still : (t : ℕ) → t < 64 → IsBetween x t h → t ≢ r → get b t ≡ None = (λ t l bet ne. sym (get-write_other b r None t ne) ∙ clear t l bet) in
+    let open_line : (t : ℕ) → t < 64 → IsBetween x t h → get b t ≡ None = (λ t l bet. elim (eqb_tells t r) [
+      | inl w ↦ absurd (unseen (
+          let mid : IsBetween x r h = subst (λ y. IsBetween x y h) w.1 bet in
+          (seen_back c x r h mid, λ u v near. still u v (between_more x r h u mid near) (let apart_r : u ≢ r = not_end h u r near in apart_r))))
+      | inr w ↦ still t l bet w.1
+    ]) in
+    safe (x, low, (m, before, color, pattern, open_line))
+
+-- ---- the moves of a man that shelters nothing
+gone_plain : (b : Placement) (c : Color) (k : Kind) (r s : ℕ) → r < 64 → s < 64 → r ≢ s → Stands b c k r → HasGone b (relocated b r s) c k r s
+gone_plain b c k r s low to ne here = record {
+  left = get-write_other (without b r) s (get b r) r ne ∙ get-write_same b r None low;
+  arrived = get-write_same (without b r) s (get b r) to ∙ here;
+  rest = λ t a d. get-write_other (without b r) s (get b r) t d ∙ get-write_other b r None t a;
+}
+
+-- a man goes to a square without a man of its own
+advance_off : (b : Placement) (c : Color) (k : Kind) (r s : ℕ) → Advances b c k r s → (j : Kind) → ¬ Stands b c j s
+unfolding Advances Strides Leaps IsEnemy
+advance_off b c k r s (inl (inl h)) j own = let e : get b s ≡ None = h.0 in let f : get b s ≡ Some (man c j) = own in cc
+advance_off b c k r s (inl (inr h)) j own = not_other c (same_side own h.0.1)
+advance_off b c k r s (inr h) j own = let e : get b s ≡ None = h.1.3 in let f : get b s ≡ Some (man c j) = own in cc
+
+not_here : (b : Placement) (c : Color) (k : Kind) (r s : ℕ) → Stands b c k r → ((j : Kind) → ¬ Stands b c j s) → r ≢ s
+not_here b c k r s here off e = off k (subst (λ x. Stands b c k x) e here)
+
+-- the case of an advance
+advance_way : (p : State) (k : Kind) (r s : ℕ) → Advances p.board p.side k r s → ¬ MustPromote k p.side s → (w : Way) × IsWay p k (plain_move r s) w × ((after p (plain_move r s) w).board ≡ relocated p.board r s)
+unfolding Advances Strides Leaps
+advance_way p k r s (inl (inl h)) stays = (Plain, record { unpromoted = refl; stays = stays; vacant = h.0; goes = h.1 }, refl)
+advance_way p k r s (inl (inr h)) stays = (Capture, record { unpromoted = refl; stays = stays; enemy = h.0; reaches = h.1 }, refl)
+advance_way p k r s (inr (e, h)) stays = (DoubleAdvance, record { unpromoted = refl; pawn = e; home = h.0; two = h.1; crossed = h.2; vacant = h.3 }, refl)
+
+module _ (p : State) (k : Kind) (r h : ℕ) (low : r < 64) (here : Stands p.board p.side k r) (king : IsOnlyKing p.board p.side h) (no_king : k ≢ King) (lifted : ¬ Attacks (without p.board r) (other p.side) h) where
+  -- each of its advances is legal
+  pub sure_legal : (s : ℕ) → s < 64 → Advances p.board p.side k r s → ¬ MustPromote k p.side s → IsLegal p (plain_move r s)
+  unfolding Step
+  sure_legal s to a stays =
+      let w : (w : Way) × IsWay p k (plain_move r s) w × ((after p (plain_move r s) w).board ≡ relocated p.board r s) = advance_way p k r s a stays in
+      let ne : r ≢ s = not_here p.board p.side k r s here (advance_off p.board p.side k r s a) in
+      let clean : ¬ InCheck (relocated p.board r s) p.side = no_check p.board (relocated p.board r s) p.side k r s h low (gone_plain p.board p.side k r s low to ne here) no_king king lifted in
+      (after p (plain_move r s) w.0, ((k, w.0, (low, to), here, w.1, refl), subst (λ (b : Placement). ¬ InCheck b p.side) (sym w.2) clean))

@@ -1,0 +1,235 @@
+-- The sets of squares to which men may go.
+use Rattle.std.proofs.Common.{arith, ◌≡◌, ◌≢◌, ℕ, ◌*◌, ◌%◌, ◌^◌, ◌<◌, ◌⊎◌, inl, inr, ◌↔◌, Bool, true, false, cond, ◌||◌, eqb, bit_and, bit_or, w64, Option, Some, None, refl, sym, ap, ◌∙◌, subst}
+use Rattle.std.specs.Int.{bit_not}
+use Rattle.std.specs.Bool.{Decides}
+use Rattle.std.proofs.lemmas.Bool.Decides.{Decides-like, Decides-and, Decides-eqb, Decides-at}
+use Rattle.pg_board.specs.declared.man.Color.{Color}
+use Rattle.pg_board.specs.declared.man.Color.TheVariants.{White, Black}
+use Rattle.pg_board.specs.declared.man.Kind.{Kind}
+use Rattle.pg_board.specs.declared.man.Kind.TheVariants.{Pawn, Knight, Bishop, Rook, Queen, King}
+use Rattle.pg_board.specs.declared.man.Man.{Man}
+use Rattle.pg_board.specs.Squares.{file, rank}
+use Rattle.pg_board.specs.Men.{man, other, color_eq, color_decides, is_of, is_held}
+use Rattle.pg_board.specs.Placement.{Placement, get}
+use Rattle.pg_board.specs.Bits.{has, has-and, has-or, has-none, has-set}
+use Rattle.pg_position.specs.declared.rights.Wing.{Wing}
+use Rattle.pg_position.specs.declared.rights.Wing.TheVariants.{KingSide, QueenSide}
+use Rattle.pg_position.specs.declared.rights.Rights.{Rights}
+use Rattle.pg_position.specs.declared.state.State.{State}
+use Rattle.pg_position.specs.declared.moves.Move.{Move}
+use Rattle.pg_position.specs.declared.moves.Way.{Way}
+use Rattle.pg_position.specs.declared.moves.Way.TheVariants.{Plain, Capture, DoubleAdvance, EnPassant, Promotion, Castling}
+use Rattle.pg_position.specs.Geometry.{IsForward, InPattern, IsBetween}
+use Rattle.pg_position.specs.Attack.{IsClear, Reaches}
+use Rattle.pg_position.specs.SquareSets.{IsSetOf}
+use Rattle.pg_position.specs.Position.{Stands, IsVacant, king_home, rook_home, ahead}
+use Rattle.pg_position.specs.Step.{IsEnemy, Goes, IsWay, Step, home_rank, king_target}
+use Rattle.pg_position.proofs.StepLemmas.{same_kind, same_side, not_other}
+use Rattle.pg_position.proofs.LineLemmas.{pawn_near}
+use Rattle.pg_position.proofs.ReachLemmas.{set_like, set_or, set_without}
+use Rattle.pg_moves.specs.Moves.{IsLegal}
+use Rattle.pg_moves.specs.Targets.{IsOwn, Strides, Leaps, Advances, Passes, Castles, Covers}
+
+-- ---- sets
+pub set_and : {P Q : ℕ → Type 0} (a b : ℕ) → IsSetOf a P → IsSetOf b Q → IsSetOf (bit_and a b) (λ q. P q × Q q)
+set_and a b f g q l = Decides-at _ _ (has-and a b q) (Decides-and _ _ (f q l) (g q l))
+
+pub set_none : {P : ℕ → Type 0} → ((q : ℕ) → q < 64 → ¬ P q) → IsSetOf 0 P
+set_none h q l = (λ t. absurd (let e : has 0 q ≡ true = t in let f : has 0 q ≡ false = has-none q in let g : true ≡ false = sym e ∙ f in cc), λ x. absurd (h q l x))
+
+pub set_one : (k : ℕ) → k < 64 → IsSetOf (1 * 2 ^ k % 2 ^ 64) (λ q. q ≡ k)
+set_one k l q low =
+    let x : ℕ = 1 * 2 ^ k % 2 ^ 64 in
+    let whole : has (bit_or 0 x) q ≡ has x q = has-or 0 x q ∙ ap (λ t. t || has x q) (has-none q) in
+    Decides-at _ _ (sym whole ∙ has-set 0 k q l ∙ only (eqb q k) q) (Decides-eqb q k)
+  where
+    only : (t : Bool) (q : ℕ) → cond t true (has 0 q) ≡ t
+    only true q = refl
+    only false q = has-none q
+
+-- ---- what stands on a square
+of_decides : (c : Color) (o : Option Man) → Decides (is_of c o) ((k : Kind) × (o ≡ Some (man c k)))
+of_decides c None = (λ e. absurd (cc), λ h. let e : None ≡ Some (man c h.0) = h.1 in absurd (cc))
+of_decides c (Some m) = Decides-like (color_eq m.color c)
+    (λ e. (m.kind, λ i. Some (record { color = e i; kind = m.kind })))
+    (λ h. let e : m ≡ man c h.0 = (let f : Some m ≡ Some (man c h.0) = h.1 in cc) in ap (λ (x : Man). x.color) e)
+    (color_decides m.color c)
+
+held_decides : (o : Option Man) → Decides (is_held o) (o ≢ None)
+held_decides None = (λ e. absurd (cc), λ h. absurd (h refl))
+held_decides (Some m) = (λ _ e. cc, λ _. refl)
+
+module _ (b : Placement) (n : ℕ) where
+  pub own_set : (c : Color) → ((q : ℕ) → q < 64 → has n q ≡ is_of c (get b q)) → IsSetOf n (IsOwn b c)
+  unfolding IsOwn
+  own_set c h q l = Decides-at _ _ (h q l) (of_decides c (get b q))
+
+  pub enemy_set : (c : Color) → ((q : ℕ) → q < 64 → has n q ≡ is_of (other c) (get b q)) → IsSetOf n (IsEnemy b c)
+  unfolding IsEnemy
+  enemy_set c h q l = Decides-at _ _ (h q l) (of_decides (other c) (get b q))
+
+  pub held_set : ((q : ℕ) → q < 64 → has n q ≡ is_held (get b q)) → IsSetOf n (λ q. get b q ≢ None)
+  held_set h q l = Decides-at _ _ (h q l) (held_decides (get b q))
+
+-- a square is empty, or a man of one's own or of the other colour stands there
+vacant_else : (o : Option Man) → (o ≢ None → ⊥) → o ≡ None
+vacant_else None h = refl
+vacant_else (Some m) h = absurd (h (λ e. cc))
+
+who : (c : Color) (o : Option Man) → (o ≡ None) ⊎ (((k : Kind) × (o ≡ Some (man c k))) ⊎ ((k : Kind) × (o ≡ Some (man (other c) k))))
+who c None = inl refl
+who White (Some m) = elim m.color as (λ x. m.color ≡ x → (Some m ≡ None) ⊎ (((k : Kind) × (Some m ≡ Some (man White k))) ⊎ ((k : Kind) × (Some m ≡ Some (man Black k))))) [
+  | White ↦ λ e. inr (inl (m.kind, λ i. Some (record { color = e i; kind = m.kind })))
+  | Black ↦ λ e. inr (inr (m.kind, λ i. Some (record { color = e i; kind = m.kind })))
+] refl
+who Black (Some m) = elim m.color as (λ x. m.color ≡ x → (Some m ≡ None) ⊎ (((k : Kind) × (Some m ≡ Some (man Black k))) ⊎ ((k : Kind) × (Some m ≡ Some (man White k))))) [
+  | White ↦ λ e. inr (inr (m.kind, λ i. Some (record { color = e i; kind = m.kind })))
+  | Black ↦ λ e. inr (inl (m.kind, λ i. Some (record { color = e i; kind = m.kind })))
+] refl
+
+-- ---- strides
+pub pawn_set : (b : Placement) (c : Color) (r reached enemies front held : ℕ) → held < 2 ^ 64
+    → IsSetOf reached (Reaches b c Pawn r) → ((q : ℕ) → q < 64 → has enemies q ≡ is_of (other c) (get b q))
+    → IsSetOf front (λ q. (file r ≡ file q) × IsForward c 1 r q) → ((q : ℕ) → q < 64 → has held q ≡ is_held (get b q))
+    → IsSetOf (bit_or (bit_and reached enemies) (bit_and front (bit_not w64 held))) (Strides b c Pawn r)
+unfolding Strides Goes
+pawn_set b c r reached enemies front held l x e f h = set_like _
+    (λ q _ s. elim s [ inl t ↦ inr (t.1, t.0) | inr t ↦ inl (vacant_else (get b q) t.1, t.0) ])
+    (λ q _ s. elim s [ inl t ↦ inr (t.1, λ n. n t.0) | inr t ↦ inl (t.1, t.0) ])
+    (set_or _ _ (set_and reached enemies x (enemy_set b enemies c e)) (set_without front held l f (held_set b held h)))
+
+goes_piece : (b : Placement) (c : Color) (k : Kind) (r s : ℕ) → k ≢ Pawn → Goes b c k r s ↔ Reaches b c k r s
+unfolding Goes
+goes_piece b c Pawn r s n = absurd (n refl)
+goes_piece b c Knight r s n = (λ h. h, λ h. h)
+goes_piece b c Bishop r s n = (λ h. h, λ h. h)
+goes_piece b c Rook r s n = (λ h. h, λ h. h)
+goes_piece b c Queen r s n = (λ h. h, λ h. h)
+goes_piece b c King r s n = (λ h. h, λ h. h)
+
+not_own : (b : Placement) (c : Color) (k : Kind) (r s : ℕ) → Strides b c k r s → ¬ IsOwn b c s
+unfolding Strides IsOwn IsEnemy
+not_own b c k r s (inl h) (j, own) = let e : get b s ≡ None = h.0 in let f : get b s ≡ Some (man c j) = own in absurd (cc)
+not_own b c k r s (inr h) (j, own) = not_other c (same_side own h.0.1)
+
+pub piece_set : (b : Placement) (c : Color) (k : Kind) (r reached own : ℕ) → k ≢ Pawn → own < 2 ^ 64
+    → IsSetOf reached (Reaches b c k r) → ((q : ℕ) → q < 64 → has own q ≡ is_of c (get b q))
+    → IsSetOf (bit_and reached (bit_not w64 own)) (Strides b c k r)
+unfolding Strides IsOwn IsEnemy
+piece_set b c k r reached own n l x h = set_like _ forth back (set_without reached own l x (own_set b own c h))
+  where
+    forth : (q : ℕ) → q < 64 → Reaches b c k r q × ¬ IsOwn b c q → Strides b c k r q
+    forth q _ s = elim (who c (get b q)) [
+      | inl e ↦ inl (e, (goes_piece b c k r q n).1 s.0)
+      | inr (inl o) ↦ absurd (s.1 o)
+      | inr (inr o) ↦ inr (o, s.0)
+    ]
+
+    back : (q : ℕ) → q < 64 → Strides b c k r q → Reaches b c k r q × ¬ IsOwn b c q
+    back q _ s = (elim s [ inl t ↦ (goes_piece b c k r q n).0 t.1 | inr t ↦ t.1 ], not_own b c k r q s)
+
+pub leap_set : (b : Placement) (c : Color) (r s n : ℕ) → (rank r ≡ home_rank c) × IsVacant b (ahead c 1 r) × IsVacant b (ahead c 2 r) → s ≡ ahead c 2 r → IsSetOf n (λ q. q ≡ s) → IsSetOf n (Leaps b c r)
+unfolding Leaps
+leap_set b c r s n h e set = set_like n (λ q _ f. (h.0, f ∙ e, h.1, rw (f ∙ e) h.2)) (λ q _ l. l.1 ∙ sym e) set
+
+pub leap_none : (b : Placement) (c : Color) (r : ℕ) → ¬ ((rank r ≡ home_rank c) × IsVacant b (ahead c 1 r) × IsVacant b (ahead c 2 r)) → IsSetOf 0 (Leaps b c r)
+unfolding Leaps
+leap_none b c r h = set_none (λ q _ l. h (l.0, l.2, rw (← l.1) l.3))
+
+pub advance_pawn : (b : Placement) (c : Color) (k : Kind) (r x y : ℕ) → k ≡ Pawn → IsSetOf x (Strides b c Pawn r) → IsSetOf y (Leaps b c r) → IsSetOf (bit_or x y) (Advances b c k r)
+unfolding Advances
+advance_pawn b c k r x y e s l = set_like _
+    (λ q _ h. elim h [ inl t ↦ inl (rw e t) | inr t ↦ inr (e, t) ])
+    (λ q _ h. elim h [ inl t ↦ inl (rw e at t) | inr t ↦ inr t.1 ])
+    (set_or x y s l)
+
+pub advance_piece : (b : Placement) (c : Color) (k : Kind) (r x : ℕ) → k ≢ Pawn → IsSetOf x (Strides b c k r) → IsSetOf x (Advances b c k r)
+unfolding Advances
+advance_piece b c k r x n s = set_like x (λ q _ h. inl h) (λ q _ h. elim h [ inl t ↦ t | inr t ↦ absurd (n t.0) ]) s
+
+-- ---- en passant and castling
+pub pass_set : (p : State) (b : Placement) (c : Color) (r s x y : ℕ) → p.side ≡ c → p.passed ≡ Some s → IsSetOf x (Reaches b c Pawn r) → IsSetOf y (λ q. q ≡ s) → IsSetOf (bit_and x y) (Passes p r)
+unfolding Passes IsClear
+pass_set p b c r s x y e f g h = set_like _
+    (λ q _ t. (f ∙ ap Some (sym t.1), rw e t.0.0))
+    (λ q _ t. let way : InPattern c Pawn r q = rw e at t.1 in let same : q ≡ s = (let a : p.passed ≡ Some q = t.0 in cc) in ((way, λ u l bet. absurd (pawn_near c r u q way bet)), same))
+    (set_and x y g h)
+
+pub pass_none : (p : State) (r : ℕ) → p.passed ≡ None → IsSetOf 0 (Passes p r)
+unfolding Passes
+pass_none p r e = set_none (λ q _ t. let a : p.passed ≡ Some q = t.0 in cc)
+
+pub castle_white : (r : Rights) (c : Color) (x y : ℕ) → c ≡ White → IsSetOf x (λ q. (r.white_king ≡ true) × (q ≡ 6)) → IsSetOf y (λ q. (r.white_queen ≡ true) × (q ≡ 2)) → IsSetOf (bit_or x y) (Castles r c)
+unfolding Castles
+castle_white r c x y e g h = rw e (set_like _ forth back (set_or x y g h))
+  where
+    forth : (q : ℕ) → q < 64 → ((r.white_king ≡ true) × (q ≡ 6)) ⊎ ((r.white_queen ≡ true) × (q ≡ 2)) → Castles r White q
+    forth q _ (inl t) = (KingSide, t.0, t.1)
+    forth q _ (inr t) = (QueenSide, t.0, t.1)
+
+    back : (q : ℕ) → q < 64 → Castles r White q → ((r.white_king ≡ true) × (q ≡ 6)) ⊎ ((r.white_queen ≡ true) × (q ≡ 2))
+    back q _ (KingSide, a, b) = inl (a, b)
+    back q _ (QueenSide, a, b) = inr (a, b)
+
+pub castle_black : (r : Rights) (c : Color) (x y : ℕ) → c ≡ Black → IsSetOf x (λ q. (r.black_king ≡ true) × (q ≡ 62)) → IsSetOf y (λ q. (r.black_queen ≡ true) × (q ≡ 58)) → IsSetOf (bit_or x y) (Castles r c)
+unfolding Castles
+castle_black r c x y e g h = rw e (set_like _ forth back (set_or x y g h))
+  where
+    forth : (q : ℕ) → q < 64 → ((r.black_king ≡ true) × (q ≡ 62)) ⊎ ((r.black_queen ≡ true) × (q ≡ 58)) → Castles r Black q
+    forth q _ (inl t) = (KingSide, t.0, t.1)
+    forth q _ (inr t) = (QueenSide, t.0, t.1)
+
+    back : (q : ℕ) → q < 64 → Castles r Black q → ((r.black_king ≡ true) × (q ≡ 62)) ⊎ ((r.black_queen ≡ true) × (q ≡ 58))
+    back q _ (KingSide, a, b) = inl (a, b)
+    back q _ (QueenSide, a, b) = inr (a, b)
+
+-- the castling king comes to an empty square
+castle_vacant : (b : Placement) (c : Color) (w : Wing) → IsClear b (king_home c) (rook_home c w) → IsVacant b (king_target c w)
+unfolding IsClear IsBetween
+castle_vacant b White KingSide clear = clear 6 (omega arith) (λ e. omega arith, λ e. omega arith, refl, refl, inl (inr refl, inr refl, inr refl))
+castle_vacant b White QueenSide clear = clear 2 (omega arith) (λ e. omega arith, λ e. omega arith, refl, refl, inl (inr refl, inr refl, inr refl))
+castle_vacant b Black KingSide clear = clear 62 (omega arith) (λ e. omega arith, λ e. omega arith, refl, refl, inl (inr refl, inr refl, inr refl))
+castle_vacant b Black QueenSide clear = clear 58 (omega arith) (λ e. omega arith, λ e. omega arith, refl, refl, inl (inr refl, inr refl, inr refl))
+
+-- ---- each legal move is an advance, or en passant, or castling
+unfoldable pub Goals : State → Kind → ℕ → ℕ → Type 0
+Goals p k r s = Advances p.board p.side k r s ⊎ (((k ≡ Pawn) × Passes p r s) ⊎ ((k ≡ King) × Castles p.rights p.side s × IsVacant p.board s))
+
+goals : (p : State) (k : Kind) (m : Move) (w : Way) → IsWay p k m w → Goals p k m.from m.to
+unfolding Goals Advances Strides Leaps Passes Castles
+goals p k m Plain h = inl (inl (inl (h.vacant, h.goes)))
+goals p k m Capture h = inl (inl (inr (h.enemy, h.reaches)))
+goals p k m DoubleAdvance h = inl (inr (h.pawn, (h.home, h.two, h.crossed, h.vacant)))
+goals p k m EnPassant h = inr (inl (h.pawn, (h.passed, h.reaches)))
+goals p k m (Promotion x) h = inl (inl h.moves)
+goals p k m (Castling w) h = inr (inr (h.king, (w, h.right, h.target), subst (λ (x : ℕ). IsVacant p.board x) (sym h.target) (castle_vacant p.board p.side w h.clear)))
+
+module _ (p : State) (k : Kind) (r : ℕ) (here : Stands p.board p.side k r) (b : Placement) (c : Color) (eb : b ≡ p.board) (ec : c ≡ p.side) where
+  at_state : (x : ℕ) → IsSetOf x (Advances b c k r) → IsSetOf x (Advances p.board p.side k r)
+  at_state x h = subst (λ (y : Placement). IsSetOf x (Advances y p.side k r)) eb (subst (λ (d : Color). IsSetOf x (Advances b d k r)) ec h)
+
+  pub legal_goals : (m : Move) → IsLegal p m → m.from ≡ r → (m.to < 64) × Goals p k r m.to
+  unfolding Step
+  legal_goals m (q, ((j, w, on, stands, way, e), safe)) f =
+      let there : Stands p.board p.side j r = subst (λ (s : ℕ). Stands p.board p.side j s) f stands in
+      let same : j ≡ k = same_kind there here in
+      (on.1, subst (λ (s : ℕ). Goals p k s m.to) f (subst (λ (x : Kind). Goals p x m.from m.to) same (goals p j m w way)))
+
+  pub covers_pawn : (x y : ℕ) → k ≡ Pawn → IsSetOf x (Advances b c k r) → IsSetOf y (Passes p r) → Covers p r (bit_or x y)
+  unfolding Covers Goals
+  covers_pawn x y e a z m l f = let g : (m.to < 64) × Goals p k r m.to = legal_goals m l f in
+      (set_or x y (at_state x a) z m.to g.0).1 (elim g.1 [ inl t ↦ inl t | inr (inl t) ↦ inr t.1 | inr (inr t) ↦ absurd (let o : k ≡ King = t.0 in cc) ])
+
+  pub covers_king : (x y held : ℕ) → k ≡ King → held < 2 ^ 64 → IsSetOf x (Advances b c k r) → IsSetOf y (Castles p.rights c) → ((q : ℕ) → q < 64 → has held q ≡ is_held (get b q)) → Covers p r (bit_or x (bit_and y (bit_not w64 held)))
+  unfolding Covers Goals
+  covers_king x y held e fits a z h m l f =
+      let g : (m.to < 64) × Goals p k r m.to = legal_goals m l f in
+      let castles : IsSetOf y (Castles p.rights p.side) = subst (λ (d : Color). IsSetOf y (Castles p.rights d)) ec z in
+      let empty : IsVacant p.board m.to → ¬ (get b m.to ≢ None) = (λ v n. n (subst (λ (d : Placement). IsVacant d m.to) (sym eb) v)) in
+      (set_or x (bit_and y (bit_not w64 held)) (at_state x a) (set_without y held fits castles (held_set b held h)) m.to g.0).1
+      (elim g.1 [ inl t ↦ inl t | inr (inl t) ↦ absurd (let o : k ≡ Pawn = t.0 in cc) | inr (inr t) ↦ inr (t.1, empty t.2) ])
+
+  pub covers_piece : (x : ℕ) → k ≢ Pawn → k ≢ King → IsSetOf x (Advances b c k r) → Covers p r x
+  unfolding Covers Goals
+  covers_piece x n o a m l f = let g : (m.to < 64) × Goals p k r m.to = legal_goals m l f in
+      (at_state x a m.to g.0).1 (elim g.1 [ inl t ↦ t | inr (inl t) ↦ absurd (n t.0) | inr (inr t) ↦ absurd (o t.0) ])

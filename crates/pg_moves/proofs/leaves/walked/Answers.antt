@@ -1,0 +1,18 @@
+use Rattle.std.proofs.Common.{arith}
+use Rattle.pg_moves.specs.Places.{place_of}
+use Rattle.pg_moves.proofs.LeafLemmas.{walk_start, walk_step, walk_far, walk_end}
+use Rattle.pg_moves.proofs.leaves.walked.Goals as goal
+
+pub loop-m-init : goal.loop-m-init
+loop-m-init c = record { target = omega arith; place = omega arith; bound = omega arith; walked = walk_start c.args.position.now (place_of c.args.from 0 0) }
+
+pub loop-m-preserved : goal.loop-m-preserved
+loop-m-preserved c = record {
+  target = omega arith;
+  place = omega arith;
+  bound = omega (arith, walk_far c.args.position.now c.args.from c.loop-m.to c.loop-m.rank c.in-Some.m c.in-Some.ensures);
+  walked = walk_step c.args.position.now c.args.from c.loop-m.to c.loop-m.rank c.loop-m.total c.in-Some.m c.index-to.result c.rank_of-rank.result c.loop-m.invariant.walked c.in-Some.ensures c.index-to.ensures.value c.rank_of-rank.ensures.value;
+}
+
+pub returns-clause-count : goal.returns-clause-count
+returns-clause-count c = walk_end c.args.position.now c.args.from c.loop-m.to c.loop-m.rank c.loop-m.total c.loop-m.invariant.target c.loop-m.invariant.place c.loop-m.invariant.walked c.in_default.ensures

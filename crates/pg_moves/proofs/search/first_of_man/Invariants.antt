@@ -1,0 +1,15 @@
+use Rattle.std.proofs.Common.{◌≤◌, ◌-◌}
+use Rattle.pg_moves.specs.Places.{place_of, NoneFrom}
+use Rattle.pg_moves.specs.Targets.{Covers}
+use Rattle.pg_moves.proofs.search.first_of_man.Given as goal
+
+abbrev pub invariant-loop-square : goal.invariant-loop-square
+invariant-loop-square l = record {
+  reached : l.to ≤ l.at;
+  within : l.at ≤ 64;
+  covers : Covers l.position l.from l.set;
+  none : NoneFrom l.position (place_of l.from l.to l.rank) (place_of l.from l.at 0);
+}
+
+abbrev pub decreases-loop-square : goal.decreases-loop-square
+decreases-loop-square l = 64 - l.at

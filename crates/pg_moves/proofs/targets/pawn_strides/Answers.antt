@@ -1,0 +1,6 @@
+use Rattle.std.proofs.Common.{arith}
+use Rattle.pg_moves.proofs.TargetLemmas.{pawn_set}
+use Rattle.pg_moves.proofs.targets.pawn_strides.Goals as goal
+
+pub returns : goal.returns
+returns c = pawn_set c.args.board.now c.args.color c.args.from c.reach.result c.squares_of_color.result c.in_front.result c.occupied.result (omega arith) c.reach.ensures (rw c.other.ensures at c.squares_of_color.ensures) c.in_front.ensures c.occupied.ensures

@@ -1,0 +1,4 @@
+pub mod Moves
+pub mod Places
+pub mod Targets
+pub mod Counts

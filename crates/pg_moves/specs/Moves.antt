@@ -1,0 +1,59 @@
+-- The canonical order of moves, the list of the legal ones, and the next of them.
+use Rattle.std.specs.Prelude.{◌≡◌, ◌↔◌, ℕ, ◌⊎◌, Option, Some, None, List, [], ◌∷◌}
+use Rattle.std.specs.declared.cmp.Ordering.{Ordering}
+use Rattle.std.specs.declared.cmp.Ordering.TheVariants.{Less}
+use Rattle.std.specs.Ordering.{nat_cmp, on, then_cmp}
+use Rattle.std.specs.List.{Contains}
+use Rattle.std.specs.List.Sorted.{IsStrictlySortedBy}
+use Rattle.pg_board.specs.declared.man.Kind.{Kind}
+use Rattle.pg_board.specs.declared.man.Kind.TheVariants.{Pawn, Knight, Bishop, Rook, Queen, King}
+use Rattle.pg_position.specs.declared.state.State.{State}
+use Rattle.pg_position.specs.declared.moves.Move.{Move}
+use Rattle.pg_position.specs.Step.{Legal}
+
+-- the place of a promotion in the order none, pawn, knight, bishop, rook, queen, king
+abbrev pub promotion_rank : Option Kind → ℕ
+promotion_rank None = 0
+promotion_rank (Some Pawn) = 1
+promotion_rank (Some Knight) = 2
+promotion_rank (Some Bishop) = 3
+promotion_rank (Some Rook) = 4
+promotion_rank (Some Queen) = 5
+promotion_rank (Some King) = 6
+
+-- the canonical order: by the square from, then the square to, then the promotion
+abbrev pub move_cmp : Move → Move → Ordering
+move_cmp = then_cmp (on (λ m. m.from) nat_cmp) (then_cmp (on (λ m. m.to) nat_cmp) (on (λ m. promotion_rank m.promotion) nat_cmp))
+
+-- the move a comes before the move b
+abbrev pub IsBefore : Move → Move → Type 0
+IsBefore a b = move_cmp a b ≡ Less
+
+-- the move may be made: it leads somewhere
+abbrev pub IsLegal : State → Move → Type 0
+IsLegal p m = (q : State) × Legal p m q
+
+-- the legal moves, each once, in canonical order
+pub record IsMoveList (p : State) (ms : List Move) : Type 0 where
+  pub ascends : IsStrictlySortedBy move_cmp ms
+  pub has : (m : Move) → Contains ms m ↔ IsLegal p m
+
+-- the move comes after the one handed in, if one is
+abbrev pub IsPast : Option Move → Move → Type 0
+IsPast None m = Unit {0}
+IsPast (Some a) m = IsBefore a m
+
+-- m is the first legal move past the one handed in: each other one comes after m
+pub record IsNext (p : State) (after : Option Move) (m : Move) : Type 0 where
+  pub legal : IsLegal p m
+  pub past : IsPast after m
+  pub first : (n : Move) → IsLegal p n → IsPast after n → (m ≡ n) ⊎ IsBefore m n
+
+-- no legal move comes after the one handed in
+abbrev pub IsLast : State → Option Move → Type 0
+IsLast p after = (m : Move) → IsLegal p m → ¬ IsPast after m
+
+-- the first of a list
+abbrev pub first_in : List Move → Option Move
+first_in [] = None
+first_in (x ∷ xs) = Some x

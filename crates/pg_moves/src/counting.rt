@@ -1,0 +1,77 @@
+ghost use Rattle.std.specs.Prelude.{◌≡◌, ◌<◌, ◌≤◌, ◌↔◌, IfOk, IfErr, IsErrOf, MatchResult};
+ghost use Rattle.pg_position.specs.Step.{Legal};
+ghost use Rattle.pg_moves.specs.Moves.{IsLegal, IsMoveList};
+ghost use Rattle.pg_moves.specs.Counts.{IsGameCount, IsFault};
+
+use crate::fault::CountFault;
+use crate::generate::legal_moves;
+use crate::leaves::count_moves;
+use pg_position::{Move, Position};
+use std::alloc::{AllocError, Global};
+
+fn listed(alloc: Global, position: &Position) -> Result<Vec<Move>, CountFault>
+    ensures ok { IfOk result (λ v. IsMoveList position.now v.items) }
+    ensures err { IfErr result (λ e. e ≡ CountFault.Memory) }
+{
+    match legal_moves(alloc, position) {
+        Ok(moves) => Ok(moves),
+        Err(AllocError) => Err(CountFault::Memory),
+    }
+}
+
+// The position after a move of the list.
+fn played(position: &Position, m: &Move) -> Position
+    requires { IsLegal position.now m.now }
+    ensures { Legal position.now m.now result }
+{
+    match position.play(*m) {
+        Ok(next) => next,
+        Err(_) => unreachable!(),
+    }
+}
+
+// The games of so many plies, 8 at most.
+fn count_from(alloc: Global, position: &Position, plies: u8) -> Result<u64, CountFault>
+    requires { plies ≤ 8 }
+    ensures { MatchResult result
+        (λ n. IsGameCount position.now plies n)
+        (λ e. IsFault position.now plies e) }
+{
+    if plies == 0 {
+        return Ok(1);
+    }
+    if plies == 1 {
+        return Ok(count_moves(position));
+    }
+    position.side();
+    let moves = listed(alloc, position)?;
+    let mut total = 0u64;
+    for m in &moves {
+        let next = played(position, m);
+        match count_from(alloc, &next, plies - 1) {
+            Ok(games) => match total.checked_add(games) {
+                Some(sum) => total = sum,
+                None => return Err(CountFault::Overflow),
+            },
+            Err(fault) => return Err(fault),
+        }
+    }
+    Ok(total)
+}
+
+/// How many games of so many plies go on from the position: 1 for none, and else, over its legal
+/// moves, the sum of the games of one ply less after each.
+///
+/// # Errors
+/// `TooDeep` where `plies` is above 8, and only there; `Overflow` where the number does not fit a
+/// `u64`; `Memory` where memory is refused.
+pub fn count(alloc: Global, position: &Position, plies: u8) -> Result<u64, CountFault>
+    ensures ok { IfOk result (λ n. IsGameCount position.now plies n) }
+    ensures err { IfErr result (λ e. IsFault position.now plies e) }
+    ensures deep { IsErrOf result CountFault.TooDeep ↔ (8 < plies) }
+{
+    if plies > 8 {
+        return Err(CountFault::TooDeep);
+    }
+    count_from(alloc, position, plies)
+}

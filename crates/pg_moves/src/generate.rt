@@ -1,0 +1,46 @@
+ghost use Rattle.std.specs.Prelude.{◌≡◌, MatchOption, IfOk};
+ghost use Rattle.pg_moves.specs.Moves.{IsMoveList, IsNext, IsLast};
+
+use crate::places::rank_of;
+use crate::search::first_move;
+use crate::trials::tried;
+use pg_position::{Move, Position};
+use std::alloc::{AllocError, Global};
+
+/// The first legal move after the one handed in, be that legal or not, or the first of all. None
+/// where no legal move comes after it. Moves are ordered by `from`, then `to`, then promotion. Takes
+/// no memory.
+pub fn next_legal(position: &Position, after: Option<Move>) -> Option<Move>
+    ensures { MatchOption result (IsLast position.now after) (λ m. IsNext position.now after m) }
+{
+    let tried = tried(position);
+    match after {
+        None => first_move(position, tried, 0, 0, 0),
+        Some(m) => first_move(
+            position,
+            tried,
+            m.from.index(),
+            m.to.index(),
+            rank_of(m.promotion) + 1,
+        ),
+    }
+}
+
+/// The legal moves of a position, each once, ordered by `from`, then `to`, then promotion: none
+/// before knight, bishop, rook and queen. Fails where memory does.
+pub fn legal_moves(alloc: Global, position: &Position) -> Result<Vec<Move>, AllocError>
+    ensures { IfOk result (λ v. IsMoveList position.now v.items) }
+{
+    let tried = tried(position);
+    let mut moves = Vec::new(alloc);
+    let mut from = 0;
+    let mut to = 0;
+    let mut rank = 0;
+    while let Some(m) = first_move(position, tried, from, to, rank) {
+        from = m.from.index();
+        to = m.to.index();
+        rank = rank_of(m.promotion) + 1;
+        moves.push(m)?;
+    }
+    Ok(moves)
+}

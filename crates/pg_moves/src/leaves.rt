@@ -1,0 +1,77 @@
+//! How many legal moves a position has, without a trial of those that cannot leave the king attacked.
+ghost use Rattle.std.specs.Prelude.{◌≡◌, ◌≢◌, ℕ, ◌+◌, ◌*◌, ◌<◌, ◌≤◌, IsFalse, Some};
+ghost use Rattle.pg_position.specs.Position.{Stands};
+ghost use Rattle.pg_moves.specs.Places.{place_of, Adds};
+ghost use Rattle.pg_moves.specs.Targets.{IsOwn, FreeOff};
+ghost use Rattle.pg_moves.specs.Counts.{IsGameCount};
+
+use crate::places::rank_of;
+use crate::search::first_of_man;
+use crate::targets::advances;
+use crate::trials::{must_try, tried};
+use pg_board::{Board, Kind, Square};
+use pg_position::{Position, first_from};
+
+// How many legal moves the man on a square has, each tried.
+fn walked(position: &Position, kind: Kind, from: Square) -> u64
+    requires { Stands position.now.board position.now.side kind from }
+    ensures count { Adds position.now (place_of from 0 0) (place_of (from + 1) 0 0) result }
+    ensures bound { result ≤ 448 }
+{
+    let mut total = 0;
+    let mut to = 0;
+    let mut rank = 0;
+    while let Some(m) = first_of_man(position, kind, from, to, rank) {
+        to = m.to.index();
+        rank = rank_of(m.promotion) + 1;
+        total += 1;
+    }
+    total
+}
+
+// How many legal moves the man on a square has.
+fn count_of_man(position: &Position, board: &Board, tried: u64, kind: Kind, from: Square) -> u64
+    requires same { board.now ≡ position.now.board }
+    requires free { FreeOff position.now tried }
+    requires stands { Stands position.now.board position.now.side kind from }
+    ensures count { Adds position.now (place_of from 0 0) (place_of (from + 1) 0 0) result }
+    ensures bound { result ≤ 448 }
+{
+    from.index();
+    if must_try(position, tried, kind, from) {
+        walked(position, kind, from)
+    } else {
+        advances(board, position.side(), kind, from).count_ones() as u64
+    }
+}
+
+// How many legal moves the man of the side to move on a square has.
+#[tactic(auto, using(crate::proofs::SearchLemmas::stands_own))]
+fn count_of_square(position: &Position, board: &Board, tried: u64, from: Square) -> u64
+    requires same { board.now ≡ position.now.board }
+    requires free { FreeOff position.now tried }
+    requires own { IsOwn position.now.board position.now.side from }
+    ensures count { Adds position.now (place_of from 0 0) (place_of (from + 1) 0 0) result }
+    ensures bound { result ≤ 448 }
+{
+    match board.get(from) {
+        Some(man) => count_of_man(position, board, tried, man.kind, from),
+        None => 0,
+    }
+}
+
+// How many legal moves there are.
+pub fn count_moves(position: &Position) -> u64
+    ensures { IsGameCount position.now 1 result }
+{
+    let board = position.board();
+    let tried = tried(position);
+    let own = board.squares_of_color(position.side());
+    let mut total = 0;
+    let mut at = 0;
+    while let Some(square) = first_from(own, at) {
+        total += count_of_square(position, &board, tried, square);
+        at = square.index() + 1;
+    }
+    total
+}

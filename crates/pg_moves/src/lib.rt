@@ -1,0 +1,20 @@
+//! The legal moves of a position, in canonical order, and how many games go on from it.
+#![tactic(auto)]
+
+mod counting;
+mod fault;
+mod generate;
+mod laws;
+mod leaves;
+mod places;
+mod search;
+mod targets;
+mod trials;
+
+pub use counting::count;
+pub use fault::CountFault;
+pub use generate::{legal_moves, next_legal};
+pub use laws::{moves_and_play_are_functions, next_in_list, one_game_count, one_move_list};
+
+#[cfg(test)]
+mod tests;

@@ -1,0 +1,182 @@
+//! The search for the first legal move from a place on.
+ghost use Rattle.std.specs.Prelude.{◌≡◌, ◌≢◌, ℕ, ◌+◌, ◌*◌, ◌<◌, ◌≤◌, ◌↔◌, IsTrue, MatchOption};
+ghost use Rattle.pg_position.specs.Position.{Stands};
+ghost use Rattle.pg_position.specs.Step.{MustPromote};
+ghost use Rattle.pg_moves.specs.Moves.{IsLegal};
+ghost use Rattle.pg_moves.specs.Places.{place, place_of, NoneFrom, IsNextWithin};
+ghost use Rattle.pg_moves.specs.Targets.{IsOwn, Covers, FreeOff, IsFree, IsOrdinary};
+
+use crate::places::{next_square, promotion_at, resume_at};
+use crate::targets::{advances, targets};
+use crate::trials::must_try;
+use pg_board::{Color, Kind, Square};
+use pg_position::{Move, Position, first_from};
+
+fn is_legal(position: &Position, m: &Move) -> bool
+    ensures { IsTrue result ↔ IsLegal position.now m.now }
+{
+    match position.play(*m) {
+        Ok(_) => true,
+        Err(_) => false,
+    }
+}
+
+// The move, if it is legal.
+fn legal_at(position: &Position, from: Square, to: Square, rank: u8) -> Option<Move>
+    requires { rank < 7 }
+    ensures { MatchOption result
+        (NoneFrom position.now (place_of from to rank) (place_of from to (rank + 1)))
+        (λ m. IsLegal position.now m × (place m ≡ place_of from to rank)) }
+{
+    let m = Move {
+        from,
+        to,
+        promotion: promotion_at(rank),
+    };
+    to.index();
+    if is_legal(position, &m) {
+        Some(m)
+    } else {
+        None
+    }
+}
+
+// Whether a pawn comes to the last rank there, so that it promotes.
+fn must_promote(side: Color, kind: Kind, to: Square) -> bool
+    ensures { IsTrue result ↔ MustPromote kind side to }
+{
+    kind == Kind::Pawn
+        && match side {
+            Color::White => to.rank() == 8,
+            Color::Black => to.rank() == 1,
+        }
+}
+
+// The promotions that are to be tried, as two places: none alone, or knight to queen.
+fn promotions(position: &Position, kind: Kind, from: Square, to: Square) -> (u8, u8)
+    requires { Stands position.now.board position.now.side kind from }
+    ensures bound { result.1 ≤ 7 }
+    ensures before { NoneFrom position.now (place_of from to 0) (place_of from to result.0) }
+    ensures rest { NoneFrom position.now (place_of from to result.1) (place_of from to 7) }
+{
+    to.index();
+    if must_promote(position.side(), kind, to) {
+        (2, 6)
+    } else {
+        (0, 1)
+    }
+}
+
+// The first legal move from one square to another, from this promotion on.
+fn first_to(position: &Position, kind: Kind, from: Square, to: Square, rank: u8) -> Option<Move>
+    requires stands { Stands position.now.board position.now.side kind from }
+    requires place { rank ≤ 7 }
+    ensures { IsNextWithin position.now (place_of from to rank) (place_of from to 7) result }
+{
+    let (start, end) = promotions(position, kind, from, to);
+    let start = start.max(rank);
+    for k in start..end {
+        if let Some(m) = legal_at(position, from, to, k) {
+            return Some(m);
+        }
+    }
+    None
+}
+
+// The first legal move of the man on a square, from this target and promotion on.
+pub fn first_of_man(position: &Position, kind: Kind, from: Square, to: u8, rank: u8) -> Option<Move>
+    requires stands { Stands position.now.board position.now.side kind from }
+    requires target { to < 64 }
+    requires place { rank ≤ 7 }
+    ensures { IsNextWithin position.now (place_of from to rank) (place_of (from + 1) 0 0) result }
+{
+    let set = targets(position, kind, from);
+    let mut at = to;
+    while let Some(square) = first_from(set, at) {
+        let start = resume_at(square.index(), to, rank);
+        if let Some(m) = first_to(position, kind, from, square, start) {
+            return Some(m);
+        }
+        at = square.index() + 1;
+    }
+    None
+}
+
+// The first legal move of a man whose moves need no trial, from this target and promotion on.
+fn first_of_free(position: &Position, kind: Kind, from: Square, to: u8, rank: u8) -> Option<Move>
+    requires stands { Stands position.now.board position.now.side kind from }
+    requires free { IsFree position.now kind from }
+    requires ordinary { IsOrdinary position.now kind from }
+    requires target { to < 64 }
+    requires place { rank ≤ 7 }
+    ensures { IsNextWithin position.now (place_of from to rank) (place_of (from + 1) 0 0) result }
+{
+    from.index();
+    let set = advances(&position.board(), position.side(), kind, from);
+    match first_from(set, next_square(to, rank)) {
+        Some(square) => Some(Move {
+            from,
+            to: square,
+            promotion: None,
+        }),
+        None => None,
+    }
+}
+
+// The first legal move of the man on a square, from this target and promotion on.
+fn first_of_kind(
+    position: &Position,
+    tried: u64,
+    kind: Kind,
+    from: Square,
+    to: u8,
+    rank: u8,
+) -> Option<Move>
+    requires free { FreeOff position.now tried }
+    requires stands { Stands position.now.board position.now.side kind from }
+    requires target { to < 64 }
+    requires place { rank ≤ 7 }
+    ensures { IsNextWithin position.now (place_of from to rank) (place_of (from + 1) 0 0) result }
+{
+    if must_try(position, tried, kind, from) {
+        first_of_man(position, kind, from, to, rank)
+    } else {
+        first_of_free(position, kind, from, to, rank)
+    }
+}
+
+// The first legal move from a square, from this target and promotion on.
+#[tactic(auto, using(crate::proofs::SearchLemmas::stands_own))]
+fn first_of_square(position: &Position, tried: u64, from: Square, to: u8, rank: u8) -> Option<Move>
+    requires free { FreeOff position.now tried }
+    requires own { IsOwn position.now.board position.now.side from }
+    requires target { to < 64 }
+    requires place { rank ≤ 7 }
+    ensures { IsNextWithin position.now (place_of from to rank) (place_of (from + 1) 0 0) result }
+{
+    match position.board().get(from) {
+        Some(man) => first_of_kind(position, tried, man.kind, from, to, rank),
+        None => None,
+    }
+}
+
+// The first legal move from these squares and this promotion on.
+pub fn first_move(position: &Position, tried: u64, from: u8, to: u8, rank: u8) -> Option<Move>
+    requires free { FreeOff position.now tried }
+    requires source { from < 64 }
+    requires target { to < 64 }
+    requires place { rank ≤ 7 }
+    ensures { IsNextWithin position.now (place_of from to rank) 28672 result }
+{
+    let own = position.board().squares_of_color(position.side());
+    let mut at = from;
+    while let Some(square) = first_from(own, at) {
+        let start = resume_at(square.index(), from, to);
+        let place = resume_at(square.index(), from, rank);
+        if let Some(m) = first_of_square(position, tried, square, start, place) {
+            return Some(m);
+        }
+        at = square.index() + 1;
+    }
+    None
+}

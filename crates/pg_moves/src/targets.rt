@@ -1,0 +1,174 @@
+//! Where the men of the side to move may go, as sets of squares, their king's safety apart.
+ghost use Rattle.std.specs.Prelude.{◌≡◌, ◌≢◌, ℕ, ◌+◌, ◌-◌, ◌*◌, ◌<◌, ◌↔◌, IsTrue, true, Some};
+ghost use Rattle.pg_board.specs.Squares.{file, rank};
+ghost use Rattle.pg_position.specs.Geometry.{IsForward};
+ghost use Rattle.pg_position.specs.SquareSets.{IsSetOf};
+ghost use Rattle.pg_position.specs.Position.{Stands, IsVacant, ahead};
+ghost use Rattle.pg_position.specs.Step.{home_rank};
+ghost use Rattle.pg_moves.specs.Targets.{IsOwn, Strides, Leaps, Advances, Castles, Passes, Covers};
+
+use pg_board::{Board, Color, Kind, Man, Square};
+use pg_position::{Position, Rights, reach};
+
+// The set of one square.
+pub fn single(square: Square) -> u64
+    ensures { IsSetOf result (λ q. q ≡ square) }
+{
+    1u64 << square.index()
+}
+
+// The square in front, as a set: none at the edge.
+fn in_front(color: Color, from: Square) -> u64
+    ensures { IsSetOf result (λ q. (file from ≡ file q) × IsForward color 1 from q) }
+{
+    match color {
+        Color::White => {
+            if from.index() < 56 {
+                single(Square::at(from.index() + 8))
+            } else {
+                0
+            }
+        }
+        Color::Black => {
+            if from.index() >= 8 {
+                single(Square::at(from.index() - 8))
+            } else {
+                0
+            }
+        }
+    }
+}
+
+// Where a pawn goes one square forward or captures.
+fn pawn_strides(board: &Board, color: Color, from: Square) -> u64
+    ensures { IsSetOf result (Strides board.now color Kind.Pawn from) }
+{
+    let pawn = Man {
+        color,
+        kind: Kind::Pawn,
+    };
+    let taken = reach(board, pawn, from) & board.squares_of_color(color.other());
+    taken | (in_front(color, from) & !board.occupied())
+}
+
+// Where a piece goes or captures.
+fn piece_strides(board: &Board, color: Color, kind: Kind, from: Square) -> u64
+    requires { kind ≢ Kind.Pawn }
+    ensures { IsSetOf result (Strides board.now color kind from) }
+{
+    reach(board, Man { color, kind }, from) & !board.squares_of_color(color)
+}
+
+fn is_vacant(board: &Board, square: Square) -> bool
+    ensures { IsTrue result ↔ IsVacant board.now square }
+{
+    board.get(square).is_none()
+}
+
+// Whether a pawn stands at home with two empty squares in front of it.
+fn can_leap(board: &Board, color: Color, from: Square) -> bool
+    ensures { IsTrue result ↔
+        ((rank from ≡ home_rank color) × IsVacant board.now (ahead color 1 from) × IsVacant board.now (ahead color 2 from)) }
+{
+    match color {
+        Color::White => {
+            from.rank() == 2
+                && is_vacant(board, Square::at(from.index() + 8))
+                && is_vacant(board, Square::at(from.index() + 16))
+        }
+        Color::Black => {
+            from.rank() == 7
+                && is_vacant(board, Square::at(from.index() - 8))
+                && is_vacant(board, Square::at(from.index() - 16))
+        }
+    }
+}
+
+// The square two ranks forward of a pawn's home.
+fn two_ahead(color: Color, from: Square) -> Square
+    requires { rank from ≡ home_rank color }
+    ensures { result ≡ ahead color 2 from }
+{
+    from.index();
+    match color {
+        Color::White => Square::at(from.index() + 16),
+        Color::Black => Square::at(from.index() - 16),
+    }
+}
+
+// Where a pawn at home goes two squares forward.
+fn leaps(board: &Board, color: Color, from: Square) -> u64
+    ensures { IsSetOf result (Leaps board.now color from) }
+{
+    if can_leap(board, color, from) {
+        single(two_ahead(color, from))
+    } else {
+        0
+    }
+}
+
+// Where a man goes or captures, en passant and castling apart.
+pub fn advances(board: &Board, color: Color, kind: Kind, from: Square) -> u64
+    ensures { IsSetOf result (Advances board.now color kind from) }
+{
+    match kind {
+        Kind::Pawn => pawn_strides(board, color, from) | leaps(board, color, from),
+        _ => piece_strides(board, color, kind, from),
+    }
+}
+
+// Where a pawn captures en passant.
+pub fn passes(position: &Position, from: Square) -> u64
+    ensures { IsSetOf result (Passes position.now from) }
+{
+    match position.passed() {
+        Some(square) => {
+            let pawn = Man {
+                color: position.side(),
+                kind: Kind::Pawn,
+            };
+            reach(&position.board(), pawn, from) & single(square)
+        }
+        None => 0,
+    }
+}
+
+// The set of a king's target, if the right to go there is held.
+fn target_if(right: bool, square: Square) -> u64
+    ensures { IsSetOf result (λ q. (right ≡ true) × (q ≡ square)) }
+{
+    if right { single(square) } else { 0 }
+}
+
+// Where a right lets the king castle to.
+fn castles(rights: &Rights, color: Color) -> u64
+    ensures { IsSetOf result (Castles rights.now color) }
+{
+    match color {
+        Color::White => {
+            target_if(rights.white_king, Square::at(6))
+                | target_if(rights.white_queen, Square::at(2))
+        }
+        Color::Black => {
+            target_if(rights.black_king, Square::at(62))
+                | target_if(rights.black_queen, Square::at(58))
+        }
+    }
+}
+
+// Each square to which a legal move of the man may go, and maybe more.
+pub fn targets(position: &Position, kind: Kind, from: Square) -> u64
+    requires { Stands position.now.board position.now.side kind from }
+    ensures { Covers position.now from result }
+{
+    let board = position.board();
+    let side = position.side();
+    match kind {
+        Kind::Pawn => advances(&board, side, kind, from) | passes(position, from),
+        Kind::King => {
+            let castled = castles(&position.rights(), side) & !board.occupied();
+            advances(&board, side, kind, from) | castled
+        }
+        _ => advances(&board, side, kind, from),
+    }
+}

@@ -1,0 +1,127 @@
+use super::*;
+use crate::{CountFault, count};
+use std::alloc::{AllocError, Global};
+
+fn check(rt: &impl Abort, alloc: Global, position: &Position, expected: &[u64]) {
+    let mut plies = 0u8;
+    for games in expected {
+        assert_eq!(rt; count(alloc, position, plies), Ok(*games), "{plies}");
+        plies = plies.saturating_add(1);
+    }
+}
+
+#[test]
+fn array(rt: HostRuntime) {
+    check(
+        &rt,
+        rt.alloc(),
+        &Position::array(),
+        &[1, 20, 400, 8902, 197281],
+    );
+}
+
+#[test]
+fn many_moves(rt: HostRuntime) {
+    let start = position(&rt, MANY, Color::White, "KQkq", "-");
+    check(&rt, rt.alloc(), &start, &[1, 48, 2039, 97862]);
+}
+
+#[test]
+fn few_moves(rt: HostRuntime) {
+    let start = position(&rt, FEW, Color::White, "-", "-");
+    check(&rt, rt.alloc(), &start, &[1, 14, 191, 2812, 43238]);
+}
+
+#[test]
+fn mated(rt: HostRuntime) {
+    let start = position(&rt, MATED, Color::White, "KQkq", "-");
+    check(&rt, rt.alloc(), &start, &[1, 0, 0, 0, 0, 0, 0, 0, 0]);
+}
+
+#[test]
+fn too_deep(rt: HostRuntime) {
+    let array = Position::array();
+    assert_eq!(rt; count(rt.alloc(), &array, 9), Err(CountFault::TooDeep));
+    let mated = position(&rt, MATED, Color::White, "KQkq", "-");
+    assert_eq!(rt; count(rt.alloc(), &mated, 255), Err(CountFault::TooDeep));
+}
+
+#[test]
+fn texts(rt: HostRuntime) -> Result<(), AllocError> {
+    for (fault, text) in [
+        (CountFault::TooDeep, "more than 8 plies"),
+        (CountFault::Overflow, "count too large"),
+        (CountFault::Memory, "out of memory"),
+    ] {
+        assert_eq!(rt; format!(in rt.alloc(); "{fault}")?.as_str(), text);
+    }
+    Ok(())
+}
+
+#[test]
+fn castling(rt: HostRuntime) {
+    for (placement, side, expected) in [
+        ("r3k2r/8/8/8/8/8/8/R3K2R", Color::White, [1, 26, 568, 13744]),
+        (
+            "r3k2r/8/3Q4/8/8/5q2/8/R3K2R",
+            Color::Black,
+            [1, 44, 1494, 50509],
+        ),
+        (
+            "r3k2r/1b4bq/8/8/8/8/7B/R3K2R",
+            Color::White,
+            [1, 26, 1141, 27826],
+        ),
+    ] {
+        let start = position(&rt, placement, side, "KQkq", "-");
+        check(&rt, rt.alloc(), &start, &expected);
+    }
+    let double_check = position(&rt, "4k3/8/8/8/1b6/3n4/8/R3K2R", Color::White, "KQ", "-");
+    check(&rt, rt.alloc(), &double_check, &[1, 3, 63, 1442]);
+}
+
+#[test]
+fn en_passant(rt: HostRuntime) {
+    for (placement, castling, passed, expected) in [
+        ("8/8/8/8/k2Pp2Q/8/8/3K4", "-", "d3", [1, 6, 136, 863]),
+        ("8/8/1k6/2b5/2pP4/8/5K2/8", "-", "d3", [1, 15, 126, 1928]),
+        ("3k4/3p4/8/K1P4r/8/8/8/8", "-", "-", [1, 18, 92, 1670]),
+        ("4k2r/8/8/8/3Pp3/8/1B6/R3K3", "Qk", "d3", [1, 17, 317, 5407]),
+    ] {
+        let start = position(&rt, placement, Color::Black, castling, passed);
+        check(&rt, rt.alloc(), &start, &expected);
+    }
+}
+
+#[test]
+fn promotions(rt: HostRuntime) {
+    for (placement, side, castling, expected) in [
+        (
+            "2K2r2/4P3/8/8/8/8/8/3k4",
+            Color::White,
+            "-",
+            [1, 11, 133, 1442],
+        ),
+        (
+            "n1n5/PPPk4/8/8/8/8/4Kppp/5N1N",
+            Color::Black,
+            "-",
+            [1, 24, 496, 9483],
+        ),
+        (
+            "r3k2r/Pppp1ppp/1b3nbN/nP6/BBP1P3/q4N2/Pp1P2PP/R2Q1RK1",
+            Color::White,
+            "kq",
+            [1, 6, 264, 9467],
+        ),
+        (
+            "rnbq1k1r/pp1Pbppp/2p5/8/2B5/8/PPP1NnPP/RNBQK2R",
+            Color::White,
+            "KQ",
+            [1, 44, 1486, 62379],
+        ),
+    ] {
+        let start = position(&rt, placement, side, castling, "-");
+        check(&rt, rt.alloc(), &start, &expected);
+    }
+}
