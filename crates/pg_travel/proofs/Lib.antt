@@ -1,0 +1,9 @@
+pub mod PairTests
+pub mod Tables
+pub mod WalkLemmas
+pub mod Pieces
+pub mod PawnTables
+pub mod Pawns
+pub mod Values
+pub mod Least
+pub mod Skips

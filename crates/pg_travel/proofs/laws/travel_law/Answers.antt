@@ -1,0 +1,5 @@
+use Rattle.pg_travel.specs.NeedLemmas.{test_is_barren}
+use Rattle.pg_travel.proofs.laws.travel_law.Goals as goal
+
+pub returns : goal.returns
+returns c = test_is_barren

@@ -1,0 +1,162 @@
+-- Walks can be decided, so a least one can be found.
+use Rattle.std.proofs.Common.{◌≡◌, ◌≢◌, ℕ, zero, suc, ◌+◌, ◌<◌, ◌≤◌, ◌⊎◌, inl, inr, Option, Some, None, refl, ap, subst, arith, ◌∙◌}
+use Rattle.std.proofs.lemmas.Bool.Decides.{eqb_tells, leb_tells}
+use Rattle.pg_board.specs.declared.man.Color.{Color}
+use Rattle.pg_board.specs.declared.man.Color.TheVariants.{White, Black}
+use Rattle.pg_board.specs.declared.man.Kind.{Kind}
+use Rattle.pg_board.specs.declared.man.Kind.TheVariants.{Pawn, Knight, Bishop, Rook, Queen, King}
+use Rattle.pg_board.specs.declared.man.Man.{Man}
+use Rattle.pg_board.specs.Placement.{Placement, get}
+use Rattle.pg_board.specs.Squares.{file, rank}
+use Rattle.pg_position.specs.Geometry.{apart, IsForward, OnOneLine, InPattern}
+use Rattle.pg_board.specs.Men.{man}
+use Rattle.pg_position.specs.Position.{Stands}
+use Rattle.pg_position.specs.Step.{home_rank, last_rank}
+use Rattle.pg_travel.specs.Walks.{StepsTo, Becomes, FreeStep, Walk, IsLeast}
+use Rattle.pg_travel.specs.BoardLemmas.{none_some}
+
+pub dec_and : {A B : Type 0} → Dec A → Dec B → Dec (A × B)
+dec_and (yes a) (yes b) = yes (a, b)
+dec_and (no f) b = no (λ h. f h.0)
+dec_and (yes a) (no f) = no (λ h. f h.1)
+
+pub dec_or : {A B : Type 0} → Dec A → Dec B → Dec (A ⊎ B)
+dec_or (yes a) b = yes (inl a)
+dec_or (no f) (yes b) = yes (inr b)
+dec_or (no f) (no g) = no (λ h. elim h [ inl a ↦ f a | inr b ↦ g b ])
+
+pub dec_not : {A : Type 0} → Dec A → Dec (¬ A)
+dec_not (yes a) = no (λ f. f a)
+dec_not (no f) = yes f
+
+pub dec_along : {A B : Type 0} → (A → B) → (B → A) → Dec A → Dec B
+dec_along f g (yes a) = yes (f a)
+dec_along f g (no h) = no (λ b. h (g b))
+
+pub dec_equal : (a b : ℕ) → Dec (a ≡ b)
+dec_equal a b = elim (eqb_tells a b) [ inl w ↦ yes w.1 | inr w ↦ no w.1 ]
+
+pub dec_at_most : (a b : ℕ) → Dec (a ≤ b)
+dec_at_most a b = elim (leb_tells a b) [ inl w ↦ yes w.1 | inr w ↦ no (λ h. omega arith) ]
+
+-- below a bound
+pub dec_below : (P : ℕ → Type 0) → ((n : ℕ) → Dec (P n)) → (b : ℕ) → Dec ((n : ℕ) × (n < b) × P n)
+dec_below P dec zero = no (λ h. absurd (let low : h.0 < 0 = h.1 in omega arith))
+dec_below P dec (suc b) = join (dec_below P dec b) (dec b)
+  where
+    join : Dec ((n : ℕ) × (n < b) × P n) → Dec (P b) → Dec ((n : ℕ) × (n < suc b) × P n)
+    join (yes h) here = yes (h.0, (let low : h.0 < b = h.1 in omega arith), h.2)
+    join (no f) (yes h) = yes (b, omega arith, h)
+    join (no f) (no g) = no (λ h. elim (eqb_tells h.0 b) [ inl w ↦ g (subst P w.1 h.2) | inr w ↦ f (h.0, (let low : h.0 < suc b = h.1 in let ne : h.0 ≢ b = w.1 in omega arith), h.2) ])
+
+pub dec_kinds : (P : Kind → Type 0) → ((k : Kind) → Dec (P k)) → Dec ((k : Kind) × P k)
+dec_kinds P dec = dec_along out back (dec_or (dec Pawn) (dec_or (dec Knight) (dec_or (dec Bishop) (dec_or (dec Rook) (dec_or (dec Queen) (dec King))))))
+  where
+    out : P Pawn ⊎ (P Knight ⊎ (P Bishop ⊎ (P Rook ⊎ (P Queen ⊎ P King)))) → (k : Kind) × P k
+    out (inl h) = (Pawn, h)
+    out (inr (inl h)) = (Knight, h)
+    out (inr (inr (inl h))) = (Bishop, h)
+    out (inr (inr (inr (inl h)))) = (Rook, h)
+    out (inr (inr (inr (inr (inl h))))) = (Queen, h)
+    out (inr (inr (inr (inr (inr h))))) = (King, h)
+
+    back : ((k : Kind) × P k) → P Pawn ⊎ (P Knight ⊎ (P Bishop ⊎ (P Rook ⊎ (P Queen ⊎ P King))))
+    back (Pawn, h) = inl h
+    back (Knight, h) = inr (inl h)
+    back (Bishop, h) = inr (inr (inl h))
+    back (Rook, h) = inr (inr (inr (inl h)))
+    back (Queen, h) = inr (inr (inr (inr (inl h))))
+    back (King, h) = inr (inr (inr (inr (inr h))))
+
+pub dec_kind : (k j : Kind) → Dec (k ≡ j)
+dec_kind Pawn Pawn = yes refl
+dec_kind Knight Knight = yes refl
+dec_kind Bishop Bishop = yes refl
+dec_kind Rook Rook = yes refl
+dec_kind Queen Queen = yes refl
+dec_kind King King = yes refl
+dec_kind k j = no (λ e. cc)
+
+dec_color : (c d : Color) → Dec (c ≡ d)
+dec_color White White = yes refl
+dec_color Black Black = yes refl
+dec_color c d = no (λ e. cc)
+
+dec_forward : (c : Color) (n r s : ℕ) → Dec (IsForward c n r s)
+dec_forward White n r s = dec_equal (rank s) (rank r + n)
+dec_forward Black n r s = dec_equal (rank r) (rank s + n)
+
+dec_line : (r s : ℕ) → Dec (OnOneLine r s)
+dec_line r s = dec_or (dec_equal (file r) (file s)) (dec_equal (rank r) (rank s))
+
+dec_and3 : {A B C : Type 0} → Dec A → Dec B → Dec C → Dec (A × B × C)
+dec_and3 a b c = dec_along (λ h. (h.0, h.1.0, h.1.1)) (λ h. (h.0, (h.1, h.2))) (dec_and a (dec_and b c))
+
+dec_pattern : (c : Color) (k : Kind) (r s : ℕ) → Dec (InPattern c k r s)
+unfolding InPattern
+dec_pattern c Pawn r s = dec_and (dec_equal (apart (file r) (file s)) 1) (dec_forward c 1 r s)
+dec_pattern c Knight r s = dec_or (dec_and (dec_equal (apart (file r) (file s)) 1) (dec_equal (apart (rank r) (rank s)) 2)) (dec_and (dec_equal (apart (file r) (file s)) 2) (dec_equal (apart (rank r) (rank s)) 1))
+dec_pattern c Bishop r s = dec_and (dec_not (dec_equal r s)) (dec_equal (apart (file r) (file s)) (apart (rank r) (rank s)))
+dec_pattern c Rook r s = dec_and (dec_not (dec_equal r s)) (dec_line r s)
+dec_pattern c Queen r s = dec_and (dec_not (dec_equal r s)) (dec_or (dec_line r s) (dec_equal (apart (file r) (file s)) (apart (rank r) (rank s))))
+dec_pattern c King r s = dec_and3 (dec_not (dec_equal r s)) (dec_at_most (apart (file r) (file s)) 1) (dec_at_most (apart (rank r) (rank s)) 1)
+
+dec_steps : (c : Color) (k : Kind) (r s : ℕ) → Dec (StepsTo c k r s)
+unfolding StepsTo
+dec_steps c Pawn r s = dec_or (dec_and (dec_equal (file r) (file s)) (dec_forward c 1 r s)) (dec_or (dec_and3 (dec_equal (rank r) (home_rank c)) (dec_equal (file r) (file s)) (dec_forward c 2 r s)) (dec_pattern c Pawn r s))
+dec_steps c Knight r s = dec_pattern c Knight r s
+dec_steps c Bishop r s = dec_pattern c Bishop r s
+dec_steps c Rook r s = dec_pattern c Rook r s
+dec_steps c Queen r s = dec_pattern c Queen r s
+dec_steps c King r s = dec_pattern c King r s
+
+dec_becomes : (c : Color) (k : Kind) (s : ℕ) (j : Kind) → Dec (Becomes c k s j)
+unfolding Becomes
+dec_becomes c Pawn s j = dec_or (dec_and (dec_equal (rank s) (last_rank c)) (dec_and (dec_not (dec_kind j Pawn)) (dec_not (dec_kind j King)))) (dec_and (dec_not (dec_equal (rank s) (last_rank c))) (dec_kind j Pawn))
+dec_becomes c Knight s j = dec_kind j Knight
+dec_becomes c Bishop s j = dec_kind j Bishop
+dec_becomes c Rook s j = dec_kind j Rook
+dec_becomes c Queen s j = dec_kind j Queen
+dec_becomes c King s j = dec_kind j King
+
+dec_free : (c : Color) (k : Kind) (r : ℕ) (j : Kind) (s : ℕ) → Dec (FreeStep c k r j s)
+dec_free c k r j s = dec_along (λ h. (h.0, h.1.0, h.1.1.0, h.1.1.1)) (λ h. (h.0, (h.1, (h.2, h.3)))) (dec_and (dec_at_most (suc r) 64) (dec_and (dec_at_most (suc s) 64) (dec_and (dec_steps c k r s) (dec_becomes c k s j))))
+
+pub dec_walk : (c : Color) (k : Kind) (r n : ℕ) (j : Kind) (s : ℕ) → Dec (Walk c k r n j s)
+dec_walk c k r zero j s = dec_and (dec_kind k j) (dec_equal r s)
+dec_walk c k r (suc n) j s =
+    dec_along (λ h. (h.0, h.1.0, h.1.2.0, h.1.2.1)) (λ h. (h.0, (h.1, h.2.1, (h.2, h.3))))
+    (dec_kinds (λ i. (t : ℕ) × (t < 64) × (FreeStep c k r i t × Walk c i t n j s))
+    (λ i. dec_below (λ t. FreeStep c k r i t × Walk c i t n j s) (λ t. dec_and (dec_free c k r i t) (dec_walk c i t n j s)) 64))
+
+pub dec_stands : (b : Placement) (c : Color) (k : Kind) (t : ℕ) → Dec (Stands b c k t)
+dec_stands b c k t = go (get b t)
+  where
+    go : (o : Option Man) → Dec (o ≡ Some (man c k))
+    go None = no none_some
+    go (Some m) = dec_along (λ h. ap (λ (x : Color). Some (man x m.kind)) h.0 ∙ ap (λ (x : Kind). Some (man c x)) h.1) (λ e. (ap color_of e, ap kind_of e)) (dec_and (dec_color m.color c) (dec_kind m.kind k))
+      where
+        color_of : Option Man → Color
+        color_of None = White
+        color_of (Some x) = x.color
+
+        kind_of : Option Man → Kind
+        kind_of None = Pawn
+        kind_of (Some x) = x.kind
+
+-- the least number below a bound, or none
+search_below : (P : ℕ → Type 0) → ((n : ℕ) → Dec (P n)) → (b : ℕ) → ((m : ℕ) × (m < b) × IsLeast P m) ⊎ ((m : ℕ) → m < b → ¬ P m)
+search_below P dec zero = inr (λ m low h. omega arith)
+search_below P dec (suc b) = join (search_below P dec b) (dec b)
+  where
+    join : ((m : ℕ) × (m < b) × IsLeast P m) ⊎ ((m : ℕ) → m < b → ¬ P m) → Dec (P b) → ((m : ℕ) × (m < suc b) × IsLeast P m) ⊎ ((m : ℕ) → m < suc b → ¬ P m)
+    join (inl h) here = inl (h.0, (let low : h.0 < b = h.1 in omega arith), h.2)
+    join (inr none) (yes h) = inl (b, omega arith, (h, λ m k. above m k))
+      where
+        above : (m : ℕ) → P m → b ≤ m
+        above m k = elim (leb_tells b m) [ inl w ↦ w.1 | inr w ↦ absurd (none m w.1 k) ]
+    join (inr none) (no f) = inr (λ m low k. elim (eqb_tells m b) [ inl w ↦ f (subst P w.1 k) | inr w ↦ none m (let ne : m ≢ b = w.1 in omega arith) k ])
+
+-- what holds of some number holds of a least one
+pub least : (P : ℕ → Type 0) → ((n : ℕ) → Dec (P n)) → (n : ℕ) → P n → (m : ℕ) × (m ≤ n) × IsLeast P m
+least P dec n h = elim (search_below P dec (suc n)) [ inl w ↦ (w.0, (let low : w.0 < suc n = w.1 in omega arith), w.2) | inr none ↦ absurd (none n (omega arith) h) ]

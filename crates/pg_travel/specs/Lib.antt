@@ -1,0 +1,12 @@
+pub mod Walks
+pub mod Origins
+pub mod Needs
+pub mod Formulas
+pub mod Costs
+pub mod BoardLemmas
+pub mod SumLemmas
+pub mod Decisions
+pub mod MoveLemmas
+pub mod OriginsLemmas
+pub mod NeedLemmas
+pub mod Ways

@@ -1,0 +1,280 @@
+//! Distances: the least number of steps of a man that is alone on the board. 64 stands for none.
+ghost use Rattle.std.specs.Prelude.{◌≡◌, ◌≢◌, ℕ, ◌+◌, ◌-◌, ◌*◌, ◌/◌, ◌%◌, ◌<◌, ◌≤◌, ◌&&◌, ◌||◌, cond, eqb, min, max, IsTrue};
+ghost use Rattle.pg_position.specs.Geometry.{apart};
+ghost use Rattle.pg_travel.specs.Walks.{DistanceIs};
+ghost use Rattle.pg_travel.specs.Formulas.{files, ranks, king, rook, bishop, queen, knight, is_corner, long_way, knight_by, piece, rank_for, pawn_steps, pawn, last_at, least_of, pawn_to, from_pawn, distance_of};
+
+use pg_board::{Color, Kind, Man, Square};
+
+fn apart_by(a: u8, b: u8) -> u8
+    ensures { result ≡ apart a b }
+{
+    if a < b { b - a } else { a - b }
+}
+
+fn files(from: Square, to: Square) -> u8
+    ensures value { result ≡ files from to }
+    ensures low { result < 8 }
+{
+    apart_by(from.file(), to.file())
+}
+
+fn ranks(from: Square, to: Square) -> u8
+    ensures value { result ≡ ranks from to }
+    ensures low { result < 8 }
+{
+    from.index();
+    to.index();
+    apart_by(from.rank(), to.rank())
+}
+
+#[tactic(auto, unfolding(crate::specs::Formulas::king))]
+fn king_steps(from: Square, to: Square) -> u8
+    ensures value { result ≡ king from to }
+    ensures low { result ≤ 64 }
+{
+    files(from, to).max(ranks(from, to))
+}
+
+#[tactic(auto, unfolding(crate::specs::Formulas::rook))]
+fn rook_steps(from: Square, to: Square) -> u8
+    ensures value { result ≡ rook from to }
+    ensures low { result ≤ 64 }
+{
+    if from.index() == to.index() {
+        0
+    } else if files(from, to) == 0 || ranks(from, to) == 0 {
+        1
+    } else {
+        2
+    }
+}
+
+#[tactic(auto, unfolding(crate::specs::Formulas::bishop))]
+fn bishop_steps(from: Square, to: Square) -> u8
+    ensures value { result ≡ bishop from to }
+    ensures low { result ≤ 64 }
+{
+    let files = files(from, to);
+    let ranks = ranks(from, to);
+    if from.index() == to.index() {
+        0
+    } else if files == ranks {
+        1
+    } else if (files + ranks) % 2 == 0 {
+        2
+    } else {
+        64
+    }
+}
+
+#[tactic(auto, unfolding(crate::specs::Formulas::queen))]
+fn queen_steps(from: Square, to: Square) -> u8
+    ensures value { result ≡ queen from to }
+    ensures low { result ≤ 64 }
+{
+    let files = files(from, to);
+    let ranks = ranks(from, to);
+    if from.index() == to.index() {
+        0
+    } else if files == 0 || ranks == 0 || files == ranks {
+        1
+    } else {
+        2
+    }
+}
+
+fn is_corner(s: Square) -> bool
+    ensures { result ≡ is_corner s }
+{
+    let index = s.index();
+    index == 0 || index == 7 || index == 56 || index == 63
+}
+
+fn long_way(x: u8, y: u8) -> u8
+    requires { (x < 8) × (y < 8) }
+    ensures value { result ≡ long_way x y }
+    ensures low { result ≤ 64 }
+{
+    let n = ((x + 1) / 2).max((x + y + 2) / 3);
+    n + (n + x + y) % 2
+}
+
+fn knight_by(x: u8, y: u8, corner: bool) -> u8
+    requires { (x < 8) × (y < 8) }
+    ensures value { result ≡ knight_by x y corner }
+    ensures low { result ≤ 64 }
+{
+    if x == 1 && y == 0 {
+        3
+    } else if x == 2 && y == 2 {
+        4
+    } else if x == 1 && y == 1 {
+        if corner { 4 } else { 2 }
+    } else {
+        long_way(x, y)
+    }
+}
+
+#[tactic(auto, unfolding(crate::specs::Formulas::knight))]
+fn knight_steps(from: Square, to: Square) -> u8
+    ensures value { result ≡ knight from to }
+    ensures low { result ≤ 64 }
+{
+    let files = files(from, to);
+    let ranks = ranks(from, to);
+    knight_by(
+        files.max(ranks),
+        files.min(ranks),
+        is_corner(from) || is_corner(to),
+    )
+}
+
+fn steps(kind: Kind, from: Square, to: Square) -> u8
+    ensures value { result ≡ piece kind from to }
+    ensures low { result ≤ 64 }
+{
+    match kind {
+        Kind::Pawn => 64,
+        Kind::Knight => knight_steps(from, to),
+        Kind::Bishop => bishop_steps(from, to),
+        Kind::Rook => rook_steps(from, to),
+        Kind::Queen => queen_steps(from, to),
+        Kind::King => king_steps(from, to),
+    }
+}
+
+fn rank_for(color: Color, s: Square) -> u8
+    ensures value { result ≡ rank_for color s }
+    ensures low { result < 9 }
+{
+    s.index();
+    match color {
+        Color::White => s.rank(),
+        Color::Black => 9 - s.rank(),
+    }
+}
+
+#[tactic(auto, unfolding(crate::specs::Formulas::pawn_steps))]
+fn pawn_steps(color: Color, from: Square, to: Square) -> u8
+    ensures value { result ≡ pawn_steps color from to }
+    ensures low { result ≤ 64 }
+{
+    let files = files(from, to);
+    let start = rank_for(color, from);
+    let end = rank_for(color, to);
+    if start + files <= end {
+        if start <= 2 && 4 <= end && start + files + 2 <= end {
+            end - start - 1
+        } else {
+            end - start
+        }
+    } else {
+        64
+    }
+}
+
+#[tactic(auto, unfolding(crate::specs::Formulas::pawn))]
+fn pawn(color: Color, from: Square, to: Square) -> u8
+    ensures value { result ≡ pawn color from to }
+    ensures low { result ≤ 64 }
+{
+    if from.index() == to.index() {
+        0
+    } else if rank_for(color, to) == 8 {
+        64
+    } else {
+        pawn_steps(color, from, to)
+    }
+}
+
+fn last_at(color: Color, file: u8) -> Square
+    requires { file < 8 }
+    ensures { result ≡ last_at color file }
+{
+    match color {
+        Color::White => Square::at(56 + file),
+        Color::Black => Square::at(file),
+    }
+}
+
+fn by_promotion(kind: Kind, color: Color, from: Square, to: Square) -> u8
+    ensures value { result ≡ least_of (λ f. pawn_steps color from (last_at color f) + piece kind (last_at color f) to) 8 }
+    ensures low { result ≤ 64 }
+{
+    let mut best = 64u8;
+    for file in 0..8u8 {
+        let last = last_at(color, file);
+        best = best.min(pawn_steps(color, from, last) + steps(kind, last, to));
+    }
+    best
+}
+
+#[tactic(auto, unfolding(crate::specs::Formulas::pawn_to))]
+fn pawn_to(kind: Kind, color: Color, from: Square, to: Square) -> u8
+    ensures value { result ≡ pawn_to (λ r s. piece kind r s) color from to }
+    ensures low { result ≤ 64 }
+{
+    if rank_for(color, from) == 8 {
+        64
+    } else {
+        by_promotion(kind, color, from, to)
+    }
+}
+
+fn from_pawn(kind: Kind, color: Color, from: Square, to: Square) -> u8
+    ensures value { result ≡ from_pawn color kind from to }
+    ensures low { result ≤ 64 }
+{
+    match kind {
+        Kind::Pawn => pawn(color, from, to),
+        Kind::Knight => pawn_to(Kind::Knight, color, from, to),
+        Kind::Bishop => pawn_to(Kind::Bishop, color, from, to),
+        Kind::Rook => pawn_to(Kind::Rook, color, from, to),
+        Kind::Queen => pawn_to(Kind::Queen, color, from, to),
+        Kind::King => 64,
+    }
+}
+
+fn code(kind: Kind) -> u8
+    ensures { result ≡ Rattle.pg_travel.specs.Formulas.code kind }
+{
+    match kind {
+        Kind::Pawn => 0,
+        Kind::Knight => 1,
+        Kind::Bishop => 2,
+        Kind::Rook => 3,
+        Kind::Queen => 4,
+        Kind::King => 5,
+    }
+}
+
+pub fn all_steps(man: Man, from: Square, kind: Kind, to: Square) -> u8
+    ensures value { result ≡ distance_of man.color kind man.kind from to }
+    ensures low { result ≤ 64 }
+{
+    match man.kind {
+        Kind::Pawn => from_pawn(kind, man.color, from, to),
+        _ => {
+            if code(man.kind) == code(kind) {
+                steps(man.kind, from, to)
+            } else {
+                64
+            }
+        }
+    }
+}
+
+/// The distance of a man on one square to a kind on another: in how many free steps, at least, it
+/// comes to be of that kind there, 0 to 10; none where it cannot. A free step is one of a man alone on
+/// the board: a pawn steps one square forward, two from its home rank, or one diagonally forward, and
+/// by the step onto the last rank it becomes a knight, bishop, rook or queen; any other man steps as
+/// it attacks. A pawn on its last rank has no step.
+pub fn distance(man: Man, from: Square, kind: Kind, to: Square) -> Option<u8>
+    ensures { DistanceIs man.color man.kind from kind to result }
+{
+    from.index();
+    to.index();
+    let n = all_steps(man, from, kind, to);
+    if n == 64 { None } else { Some(n) }
+}

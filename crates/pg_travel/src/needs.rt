@@ -1,0 +1,199 @@
+//! The value of a way, the need of a colour and the test of the bound.
+ghost use Rattle.std.specs.Prelude.{◌≡◌, ℕ, ◌+◌, ◌*◌, ◌<◌, ◌≤◌, ◌↔◌, ◌/◌, ◌%◌, IsTrue, Some, None};
+ghost use Rattle.pg_board.specs.Placement.{get};
+ghost use Rattle.pg_board.specs.Men.{color_eq};
+ghost use Rattle.pg_captures.specs.Owed.{plies_left};
+ghost use Rattle.pg_travel.specs.Ways.{wing_of, way_of};
+ghost use Rattle.pg_travel.specs.Origins.{counted, charge, sum_to};
+ghost use Rattle.pg_travel.specs.Formulas.{least_of};
+ghost use Rattle.pg_travel.specs.Costs.{reach_of, nearest, cost_of, cost, ValueIs, SumIs, HeldIs, lesser};
+ghost use Rattle.pg_travel.specs.Needs.{NeedIs, TravelTest};
+
+use crate::castling::{Castling, charge, counted, holds};
+use crate::distances::all_steps;
+use pg_board::{Board, Color, Kind, Man, Square};
+use pg_captures::plies_left;
+use pg_fen::Diagram;
+use pg_position::{Position, first_from};
+
+fn same_side(a: Color, b: Color) -> bool
+    ensures { result ≡ color_eq a b }
+{
+    a == b
+}
+
+// From the man on an origin to a kind on a target, 64 where none of the colour stands there.
+fn reach(
+    color: Color,
+    way: Option<Castling>,
+    kind: Kind,
+    t: Square,
+    o: Square,
+    man: Option<Man>,
+) -> u8
+    ensures value { result ≡ reach_of color (way_of way) kind t o man }
+    ensures low { result ≤ 64 }
+{
+    match man {
+        None => 64,
+        Some(m) => {
+            if same_side(color, m.color) {
+                all_steps(m, counted(color, way, o), kind, t)
+            } else {
+                64
+            }
+        }
+    }
+}
+
+// From the nearest man of the colour to a kind on a target, 64 for none.
+#[tactic(auto, unfolding(crate::specs::Costs::nearest))]
+fn nearest(board: &Board, color: Color, way: Option<Castling>, kind: Kind, t: Square) -> u8
+    ensures value { result ≡ nearest board.now color (way_of way) kind t }
+    ensures low { result ≤ 64 }
+{
+    let own = board.squares_of_color(color);
+    let mut best = 64u8;
+    let mut from = 0u8;
+    while let Some(o) = first_from(own, from) {
+        let man = board.get(o);
+        best = best.min(reach(color, way, kind, t, o, man));
+        from = o.index() + 1;
+    }
+    best
+}
+
+// Whether the man on a square is the one that is to stand there, and counts as standing there.
+fn is_home(color: Color, way: Option<Castling>, t: Square, here: Option<Man>, man: Man) -> bool
+    ensures { IsTrue result → ((here ≡ Some man) × (counted color (way_of way) t ≡ t)) }
+{
+    match here {
+        None => false,
+        Some(m) => m == man && counted(color, way, t).index() == t.index(),
+    }
+}
+
+// What the man of the diagram on a square costs: nothing where it is not of the colour.
+#[tactic(auto, unfolding(crate::specs::Costs::cost))]
+fn cost(board: &Board, goal: &Board, color: Color, way: Option<Castling>, t: Square) -> u8
+    ensures value { result ≡ cost board.now goal.now color (way_of way) t }
+    ensures low { result ≤ 64 }
+{
+    match goal.get(t) {
+        None => 0,
+        Some(m) => {
+            if same_side(color, m.color) {
+                if is_home(color, way, t, board.get(t), m) {
+                    0
+                } else {
+                    nearest(board, color, way, m.kind, t)
+                }
+            } else {
+                0
+            }
+        }
+    }
+}
+
+// The charge of a way and what all men of the diagram cost; none where one has no man to come.
+fn total(board: &Board, goal: &Board, color: Color, way: Option<Castling>) -> Option<u16>
+    ensures { SumIs board.now goal.now color (way_of way) result }
+{
+    let own = goal.squares_of_color(color);
+    let mut total = charge(way);
+    let mut from = 0u8;
+    while let Some(t) = first_from(own, from) {
+        let n = cost(board, goal, color, way, t);
+        if n == 64 {
+            return None;
+        }
+        total += u16::from(n);
+        from = t.index() + 1;
+    }
+    Some(total)
+}
+
+// The value of a way; none where some man of the diagram has no man that can come to it.
+#[tactic(auto, using(crate::proofs::Values::sum_is_value))]
+fn value(position: &Position, diagram: &Diagram, color: Color, way: Option<Castling>) -> Option<u16>
+    ensures { ValueIs position.now diagram.now color (way_of way) result }
+{
+    total(&position.board(), &diagram.board(), color, way)
+}
+
+// The value of a castling way, none where the right is not held too.
+fn castled_value(
+    position: &Position,
+    diagram: &Diagram,
+    color: Color,
+    wing: Castling,
+) -> Option<u16>
+    ensures { HeldIs position.now diagram.now color (Some (wing_of wing)) result }
+{
+    if holds(position.rights(), color, wing) {
+        value(position, diagram, color, Some(wing))
+    } else {
+        None
+    }
+}
+
+fn lesser(a: Option<u16>, b: Option<u16>) -> Option<u16>
+    ensures { result ≡ lesser a b }
+{
+    match a {
+        None => b,
+        Some(x) => match b {
+            None => Some(x),
+            Some(y) => Some(x.min(y)),
+        },
+    }
+}
+
+// The need, where the value of the way without castling is known.
+fn need_by(color: Color, diagram: &Diagram, position: &Position, free: Option<u16>) -> Option<u16>
+    requires { ValueIs position.now diagram.now color None free }
+    ensures { NeedIs position.now diagram.now color result }
+{
+    let short = castled_value(position, diagram, color, Castling::Short);
+    let long = castled_value(position, diagram, color, Castling::Long);
+    let castled = lesser(short, long);
+    lesser(free, castled)
+}
+
+/// The need of a colour: how many plies of its own it needs at least, by distances, to bring its men
+/// from the position onto the squares of the diagram. It is the least value of its ways, none where
+/// no way has one. A way is no castling, or castling by a right that the position holds; its value
+/// is 1 for castling, and for each of the colour's men of the diagram the distance of its nearest
+/// man, where a castling way counts the king and the rook on the squares that they castle to.
+pub fn need(color: Color, diagram: &Diagram, position: &Position) -> Option<u16>
+    ensures { NeedIs position.now diagram.now color result }
+{
+    let free = value(position, diagram, color, None);
+    need_by(color, diagram, position, free)
+}
+
+// Whether a value is known and so many plies pay for it.
+fn pays(plies: u16, value: Option<u16>) -> bool
+    ensures { IsTrue result → (v : ℕ) × (value ≡ Some v) × (v ≤ plies) }
+{
+    match value {
+        None => false,
+        Some(n) => n <= plies,
+    }
+}
+
+// Whether the colour's need does not exist or is above its plies left. The ways by castling are
+// tried only where the way without is not paid for.
+pub fn excludes_for(color: Color, diagram: &Diagram, position: &Position, left: u8) -> bool
+    ensures { IsTrue result ↔ TravelTest position.now diagram.now color left }
+{
+    let plies = u16::from(plies_left(position.side(), color, left));
+    let free = value(position, diagram, color, None);
+    if pays(plies, free) {
+        return false;
+    }
+    match need_by(color, diagram, position, free) {
+        None => true,
+        Some(n) => plies < n,
+    }
+}

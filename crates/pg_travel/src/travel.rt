@@ -1,0 +1,41 @@
+//! The bound by travel.
+ghost use Rattle.std.specs.Prelude.{◌≡◌, ℕ, ◌↔◌, IsTrue};
+ghost use Rattle.pg_travel.specs.Needs.{TravelHolds};
+
+use crate::needs::excludes_for;
+use pg_board::Color;
+use pg_captures::Bound;
+use pg_fen::Diagram;
+use pg_position::Position;
+
+// Whether the test of either colour holds.
+fn travel_holds(diagram: &Diagram, position: &Position, left: u8) -> bool
+    ensures { IsTrue result ↔ TravelHolds diagram.now position.now left }
+{
+    excludes_for(Color::White, diagram, position, left)
+        || excludes_for(Color::Black, diagram, position, left)
+}
+
+/// The bound by travel, code 4. Each man of the diagram comes from one of the position by steps of
+/// its own colour: it excludes where a colour has no need, or a need above its plies left.
+#[derive(Drop)]
+pub struct Travel;
+
+impl Bound for Travel {
+    ghost use Rattle.pg_travel.specs.Needs.{TravelHolds};
+    ghost use Rattle.pg_travel.specs.NeedLemmas.{travel_barren};
+
+    ghost code_of = { λ b. 4 };
+
+    ghost excluded = { λ b d p k. TravelHolds d p k };
+
+    ghost sound = { λ b d p k valid h. travel_barren d p k valid h };
+
+    fn code(&self) -> u8 {
+        4
+    }
+
+    fn excludes(&self, diagram: &Diagram, position: &Position, left: u8) -> bool {
+        travel_holds(diagram, position, left)
+    }
+}
