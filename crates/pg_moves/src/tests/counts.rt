@@ -23,7 +23,7 @@ fn array(rt: HostRuntime) {
 #[test]
 fn many_moves(rt: HostRuntime) {
     let start = position(&rt, MANY, Color::White, "KQkq", "-");
-    check(&rt, rt.alloc(), &start, &[1, 48, 2039, 97862]);
+    check(&rt, rt.alloc(), &start, &[1, 48, 2039, 97862, 4085603]);
 }
 
 #[test]
@@ -61,32 +61,32 @@ fn texts(rt: HostRuntime) -> Result<(), AllocError> {
 #[test]
 fn castling(rt: HostRuntime) {
     for (placement, side, expected) in [
-        ("r3k2r/8/8/8/8/8/8/R3K2R", Color::White, [1, 26, 568, 13744]),
+        ("r3k2r/8/8/8/8/8/8/R3K2R", Color::White, [1, 26, 568, 13744, 314346]),
         (
             "r3k2r/8/3Q4/8/8/5q2/8/R3K2R",
             Color::Black,
-            [1, 44, 1494, 50509],
+            [1, 44, 1494, 50509, 1720476],
         ),
         (
             "r3k2r/1b4bq/8/8/8/8/7B/R3K2R",
             Color::White,
-            [1, 26, 1141, 27826],
+            [1, 26, 1141, 27826, 1274206],
         ),
     ] {
         let start = position(&rt, placement, side, "KQkq", "-");
         check(&rt, rt.alloc(), &start, &expected);
     }
     let double_check = position(&rt, "4k3/8/8/8/1b6/3n4/8/R3K2R", Color::White, "KQ", "-");
-    check(&rt, rt.alloc(), &double_check, &[1, 3, 63, 1442]);
+    check(&rt, rt.alloc(), &double_check, &[1, 3, 63, 1442, 27051]);
 }
 
 #[test]
 fn en_passant(rt: HostRuntime) {
     for (placement, castling, passed, expected) in [
-        ("8/8/8/8/k2Pp2Q/8/8/3K4", "-", "d3", [1, 6, 136, 863]),
-        ("8/8/1k6/2b5/2pP4/8/5K2/8", "-", "d3", [1, 15, 126, 1928]),
-        ("3k4/3p4/8/K1P4r/8/8/8/8", "-", "-", [1, 18, 92, 1670]),
-        ("4k2r/8/8/8/3Pp3/8/1B6/R3K3", "Qk", "d3", [1, 17, 317, 5407]),
+        ("8/8/8/8/k2Pp2Q/8/8/3K4", "-", "d3", [1, 6, 136, 863, 20471]),
+        ("8/8/1k6/2b5/2pP4/8/5K2/8", "-", "d3", [1, 15, 126, 1928, 13931]),
+        ("3k4/3p4/8/K1P4r/8/8/8/8", "-", "-", [1, 18, 92, 1670, 10138]),
+        ("4k2r/8/8/8/3Pp3/8/1B6/R3K3", "Qk", "d3", [1, 17, 317, 5407, 99694]),
     ] {
         let start = position(&rt, placement, Color::Black, castling, passed);
         check(&rt, rt.alloc(), &start, &expected);
@@ -100,25 +100,25 @@ fn promotions(rt: HostRuntime) {
             "2K2r2/4P3/8/8/8/8/8/3k4",
             Color::White,
             "-",
-            [1, 11, 133, 1442],
+            [1, 11, 133, 1442, 19174],
         ),
         (
             "n1n5/PPPk4/8/8/8/8/4Kppp/5N1N",
             Color::Black,
             "-",
-            [1, 24, 496, 9483],
+            [1, 24, 496, 9483, 182838],
         ),
         (
             "r3k2r/Pppp1ppp/1b3nbN/nP6/BBP1P3/q4N2/Pp1P2PP/R2Q1RK1",
             Color::White,
             "kq",
-            [1, 6, 264, 9467],
+            [1, 6, 264, 9467, 422333],
         ),
         (
             "rnbq1k1r/pp1Pbppp/2p5/8/2B5/8/PPP1NnPP/RNBQK2R",
             Color::White,
             "KQ",
-            [1, 44, 1486, 62379],
+            [1, 44, 1486, 62379, 2103487],
         ),
     ] {
         let start = position(&rt, placement, side, castling, "-");

@@ -1,0 +1,39 @@
+#!/usr/bin/env bash
+# Counts games side by side with stockfish (its `go perft`), one thread each, one after the other: the initial array at 5
+# and 6 plies, and two positions rich in moves of every kind at 4 and 5. Prints each count and the seconds it took, start
+# of the program included. Fails where two counts differ.
+# STOCKFISH may name the program to compare with.
+set -eu
+top=$(cd "$(dirname "$(readlink -f "$0")")/.." && pwd)
+stockfish=${STOCKFISH:-$(PATH="$PATH:/usr/games" command -v stockfish)}
+
+seconds() {
+  local start
+  start=$(date +%s%N)
+  "$@"
+  echo $((($(date +%s%N) - start) / 1000000)) | awk '{ printf "%.2f\n", $1 / 1000 }'
+}
+
+stockfish_count() {
+  printf 'position fen %s\ngo perft %s\nquit\n' "$1" "$2" | "$stockfish" | awk '/^Nodes searched/ { print $3 }'
+}
+
+compare() {
+  local ours theirs
+  ours=$(seconds "$top/pg" count "$1" "$2" | paste -sd' ')
+  theirs=$(seconds stockfish_count "$1" "$2" | paste -sd' ')
+  echo "$1 | $2 plies | pg $ours s | stockfish $theirs s"
+  [ "${ours%% *}" = "${theirs%% *}" ]
+}
+
+array='rnbqkbnr/pppppppp/8/8/8/8/PPPPPPPP/RNBQKBNR w KQkq - 0 1'
+many='r3k2r/p1ppqpb1/bn2pnp1/3PN3/1p2P3/2N2Q1p/PPPBBPPP/R3K2R w KQkq - 0 1'
+few='8/2p5/3p4/KP5r/1R3p1k/8/4P1P1/8 w - - 0 1'
+
+"$top/pg" --help >/dev/null # builds the program where that is due
+compare "$array" 5
+compare "$array" 6
+compare "$many" 4
+compare "$many" 5
+compare "$few" 4
+compare "$few" 5
