@@ -61,7 +61,11 @@ fn texts(rt: HostRuntime) -> Result<(), AllocError> {
 #[test]
 fn castling(rt: HostRuntime) {
     for (placement, side, expected) in [
-        ("r3k2r/8/8/8/8/8/8/R3K2R", Color::White, [1, 26, 568, 13744, 314346]),
+        (
+            "r3k2r/8/8/8/8/8/8/R3K2R",
+            Color::White,
+            [1, 26, 568, 13744, 314346],
+        ),
         (
             "r3k2r/8/3Q4/8/8/5q2/8/R3K2R",
             Color::Black,
@@ -84,9 +88,24 @@ fn castling(rt: HostRuntime) {
 fn en_passant(rt: HostRuntime) {
     for (placement, castling, passed, expected) in [
         ("8/8/8/8/k2Pp2Q/8/8/3K4", "-", "d3", [1, 6, 136, 863, 20471]),
-        ("8/8/1k6/2b5/2pP4/8/5K2/8", "-", "d3", [1, 15, 126, 1928, 13931]),
-        ("3k4/3p4/8/K1P4r/8/8/8/8", "-", "-", [1, 18, 92, 1670, 10138]),
-        ("4k2r/8/8/8/3Pp3/8/1B6/R3K3", "Qk", "d3", [1, 17, 317, 5407, 99694]),
+        (
+            "8/8/1k6/2b5/2pP4/8/5K2/8",
+            "-",
+            "d3",
+            [1, 15, 126, 1928, 13931],
+        ),
+        (
+            "3k4/3p4/8/K1P4r/8/8/8/8",
+            "-",
+            "-",
+            [1, 18, 92, 1670, 10138],
+        ),
+        (
+            "4k2r/8/8/8/3Pp3/8/1B6/R3K3",
+            "Qk",
+            "d3",
+            [1, 17, 317, 5407, 99694],
+        ),
     ] {
         let start = position(&rt, placement, Color::Black, castling, passed);
         check(&rt, rt.alloc(), &start, &expected);
