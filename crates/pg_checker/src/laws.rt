@@ -1,0 +1,47 @@
+//! Laws of the walk over a spelled tree, each the contract of a function that does nothing.
+ghost use Rattle.std.specs.Prelude.{◌≡◌, ◌⊎◌, ◌↔◌, ℕ, List, Ok, Err};
+ghost use Rattle.pg_checker.specs.Tree.{Rules, Fault, Trailing};
+ghost use Rattle.pg_checker.specs.Claims.{IsExact, IsRight, IsComplete};
+ghost use Rattle.std.specs.Prelude.{suc, Bool, ◌∷◌, length, ◌≤◌, ◌<◌};
+ghost use Rattle.pg_checker.specs.Tree.{TooManyNamed};
+ghost use Rattle.pg_checker.specs.Claims.{IsCertificate};
+ghost use Rattle.pg_checker.specs.Walk.{State, visit, ◌>>=◌ as and_then};
+ghost use Rattle.pg_checker.specs.Front.{Halts};
+ghost use Rattle.pg_checker.specs.Frames.{Frame, Work, resume, finish, turn, effort};
+ghost use Rattle.pg_checker.specs.Whole.{IsAtNamed, full_from, answer, IsAccepted, IsStopped, HasMore};
+
+/// A yes proves that the list is complete.
+pub fn headline<P, M>()
+    ensures { (r : Rules P M) → IsExact r → IsRight r → (p : P) (a b : ℕ) (bytes : List ℕ) (x : ℕ × ℕ) → answer r p a b bytes ≡ Ok x → IsComplete r p }
+{}
+
+/// A yes is given exactly to the whole spelling of a certificate that fits.
+pub fn exact_acceptance<P, M>()
+    ensures { (r : Rules P M) → IsExact r → (p : P) (a b : ℕ) (bytes : List ℕ) (x : ℕ × ℕ) → answer r p a b bytes ≡ Ok x ↔ IsAccepted r p a b bytes x }
+{}
+
+/// Each fault is the first cause at a front.
+pub fn each_fault<P, M>()
+    ensures { (r : Rules P M) → IsExact r → (p : P) (a b : ℕ) (bytes : List ℕ) (f : Fault M) → answer r p a b bytes ≡ Err f → IsStopped r p a b bytes f ⊎ ((f ≡ Trailing) × HasMore r p a b bytes) }
+{}
+
+/// No true answer is without a certificate.
+pub fn always_a_certificate<P, M>()
+    ensures { (r : Rules P M) (p : P) → IsComplete r p → IsCertificate r p (full_from r (suc r.plies) 0 p) }
+{}
+
+/// Where a front with a first cause is spelled, the walk answers it.
+pub fn fronts_fail<P, M>()
+    ensures { (r : Rules P M) → IsExact r → (n k : ℕ) (g : List M) (p : P) (s : State P) (f : Fault M) → visit r n k g p s ≡ Err f ↔ Halts r n k g p s f }
+{}
+
+/// A turn leaves the answer of the rest unchanged, and less to do.
+pub fn turns<P, M>()
+    ensures same { (r : Rules P M) (n : ℕ) (f : Frame P M) (fs : List (Frame P M)) (found : Bool) (s : State P) → resume r n (f ∷ fs) (found, s) ≡ and_then (turn r n f fs found s) (finish r n) }
+    ensures less { (r : Rules P M) → IsExact r → (most : ℕ) → ((p : P) → length (r.moves p) ≤ most) → (n : ℕ) (f : Frame P M) (fs : List (Frame P M)) (found : Bool) (s : State P) (w : Work r) → turn r n f fs found s ≡ Ok w → effort r most w < effort r most (record { frames = f ∷ fs; found = found; state = s }) }
+{}
+
+/// Where memory runs out, a front without a cause stands before a named node.
+pub fn memory<P, M>()
+    ensures { (r : Rules P M) → IsExact r → ((bytes : List ℕ) → r.read bytes ≡ Err TooManyNamed → ⊥) → (p : P) (a b fewer : ℕ) (bytes : List ℕ) → fewer < b → answer r p a fewer bytes ≡ Err TooManyNamed → IsAtNamed r p a b bytes }
+{}

@@ -1,0 +1,8 @@
+//! The checker of certificates.
+#![tactic(auto)]
+
+mod laws;
+
+pub use laws::{
+    always_a_certificate, each_fault, exact_acceptance, fronts_fail, headline, memory, turns,
+};
