@@ -13,6 +13,12 @@ contains_cases x y xs c = contains_at x y xs c.0 c.1 c.2
 pub contains_none : {X : Type 0} (y : X) → Contains [] y → ⊥
 contains_none y c = absurd (omega (arith, c.1))
 
+pub contains_next : {X : Type 0} (x y : X) (xs : List X) → Contains xs y → Contains (x ∷ xs) y
+contains_next x y xs c = (suc c.0, omega (arith, c.1), c.2)
+
+pub contains_first : {X : Type 0} (x : X) (xs : List X) → Contains (x ∷ xs) x
+contains_first x xs = (0, omega arith, refl)
+
 pub or_left : (a b : Bool) → (a || b) ≡ false → a ≡ false
 or_left false b h = refl
 or_left true b h = absurd (cc)
@@ -21,10 +27,10 @@ pub or_right : (a b : Bool) → (a || b) ≡ false → b ≡ false
 or_right false b h = h
 or_right true b h = absurd (cc)
 
-module _ {P M : Type 0} (r : Rules P M) where
-  -- an entry that is not fertile is barren
+module _ {P M : Type 0} (r : Rules P M) (Met : P → Type 0) where
+  -- an entry is of a position that is met, and one that is not fertile is barren
   abbrev pub IsTold : Entry P → Type 0
-  IsTold e = e.fertile ≡ false → Barren r e.plies e.position
+  IsTold e = Met e.position × (e.fertile ≡ false → Barren r e.plies e.position)
 
   abbrev pub AllTold : List (Entry P) → Type 0
   AllTold [] = Unit {0}
@@ -39,9 +45,9 @@ module _ {P M : Type 0} (r : Rules P M) where
   told_at (d ∷ es) zero e a h = let same : d ≡ e = cc in subst IsTold same a.0
   told_at (d ∷ es) (suc i) e a h = told_at es i e a.1 h
 
-  told_entry : (is_named : Bool) (k : ℕ) (p : P) (f : Bool) → (f ≡ false → Barren r k p) → AllTold (entry r is_named k p f)
-  told_entry true k p f h = (h, tt)
-  told_entry false k p f h = tt
+  told_entry : (is_named : Bool) (k : ℕ) (p : P) (f : Bool) → Met p → (f ≡ false → Barren r k p) → AllTold (entry r is_named k p f)
+  told_entry true k p f met h = ((met, h), tt)
+  told_entry false k p f met h = tt
 
   -- what a tree that fits proves at its place
   record Good (n k : ℕ) (g : List M) (p : P) (t : Tree) : Type 0 where
@@ -73,16 +79,16 @@ module _ {P M : Type 0} (r : Rules P M) where
   step_barren n k g p ts good f [] h = h
   step_barren n k g p ts good f (m ∷ ms) h = good.barren f m h.0 ms h.1
 
-  module _ (right : IsRight r) where
+  module _ (right : IsRight r Met) where
     -- the children, if each subtree that fits is good
-    good_all : (n k : ℕ) → ((g : List M) (p : P) (es : List (Entry P)) (t : Tree) → AllTold es → Fits r n k g p es t → Good n k g p t)
-        → (g : List M) (p : P) (next : List M) (es : List (Entry P)) (ts : Trees) → AllTold es → FitAll r n k g p next es ts → GoodAll n k g p next ts
-    good_all n k ih g p [] es Empty a fit = record { games = λ m ms c h. absurd (contains_none m c); barren = λ f m c. absurd (contains_none m c); told = tt }
-    good_all n k ih g p (m ∷ next) es Empty a fit = absurd fit
-    good_all n k ih g p [] es (First t ts) a fit = absurd fit
-    good_all n k ih g p (m ∷ next) es (First t ts) a fit =
-        let one = ih (g ++ (m ∷ [])) (r.play p m) es t a fit.0 in
-        let others = good_all n k ih g p next (es ++ closed r k (r.play p m) t) ts (told_append es (closed r k (r.play p m) t) a one.told) fit.1 in
+    good_all : (n k : ℕ) → ((g : List M) (p : P) (es : List (Entry P)) (t : Tree) → Met p → AllTold es → Fits r n k g p es t → Good n k g p t)
+        → (g : List M) (p : P) (next : List M) (es : List (Entry P)) (ts : Trees) → ((m : M) → Contains next m → Met (r.play p m)) → AllTold es → FitAll r n k g p next es ts → GoodAll n k g p next ts
+    good_all n k ih g p [] es Empty met a fit = record { games = λ m ms c h. absurd (contains_none m c); barren = λ f m c. absurd (contains_none m c); told = tt }
+    good_all n k ih g p (m ∷ next) es Empty met a fit = absurd fit
+    good_all n k ih g p [] es (First t ts) met a fit = absurd fit
+    good_all n k ih g p (m ∷ next) es (First t ts) met a fit =
+        let one = ih (g ++ (m ∷ [])) (r.play p m) es t (met m (contains_first m next)) a fit.0 in
+        let others = good_all n k ih g p next (es ++ closed r k (r.play p m) t) ts (λ l c. met l (contains_next m l next c)) (told_append es (closed r k (r.play p m) t) a one.told) fit.1 in
         record {
           games = λ l ms c h. ⊎_elim (λ e. let here : Reaches r k (r.play p m) ms = subst (λ (x : M). Reaches r k (r.play p x) ms) (sym e) h in
               let got = one.games ms here in
@@ -93,38 +99,39 @@ module _ {P M : Type 0} (r : Rules P M) where
           told = told_append (closed r k (r.play p m) t) (closed_all r k p next ts) one.told others.told;
         }
 
-    good : (n k : ℕ) (g : List M) (p : P) (es : List (Entry P)) (t : Tree) → AllTold es → Fits r n k g p es t → Good n k g p t
-    good n zero g p es Leaf a fit = record { games = leaf_games n g p es fit; barren = leaf_barren p; told = tt }
-    good n zero g p es (Expand is_named ts) a fit = absurd fit
-    good n zero g p es (Cut code) a fit = absurd fit
-    good n zero g p es (Ref number) a fit = absurd fit
-    good n (suc k) g p es Leaf a fit = absurd fit
-    good n (suc k) g p es (Cut code) a fit =
-        let b = right.cut code (suc k) p fit.1 in
+    good : (n k : ℕ) (g : List M) (p : P) (es : List (Entry P)) (t : Tree) → Met p → AllTold es → Fits r n k g p es t → Good n k g p t
+    good n zero g p es Leaf met a fit = record { games = leaf_games n g p es fit; barren = leaf_barren p; told = tt }
+    good n zero g p es (Expand is_named ts) met a fit = absurd fit
+    good n zero g p es (Cut code) met a fit = absurd fit
+    good n zero g p es (Ref number) met a fit = absurd fit
+    good n (suc k) g p es Leaf met a fit = absurd fit
+    good n (suc k) g p es (Cut code) met a fit =
+        let b = right.cut code (suc k) p met fit.1 in
         record { games = from_barren n (suc k) g p b; barren = λ _. b; told = tt }
-    good n (suc k) g p es (Ref number) a fit =
+    good n (suc k) g p es (Ref number) met a fit =
         let f = fit.1 in
         let e = f.0 in
-        let b : Barren r (suc k) p = right.same (suc k) e.position p f.2 (subst (λ (x : ℕ). Barren r x e.position) f.3 (told_at es number e a f.1 f.4)) in
+        let told = told_at es number e a f.1 in
+        let b : Barren r (suc k) p = right.same (suc k) e.position p told.0 met f.2 (subst (λ (x : ℕ). Barren r x e.position) f.3 (told.1 f.4)) in
         record { games = from_barren n (suc k) g p b; barren = λ _. b; told = tt }
-    good n (suc k) g p es (Expand is_named ts) a fit =
-        let all = good_all n k (good n k) g p (r.moves p) es ts a fit in
+    good n (suc k) g p es (Expand is_named ts) met a fit =
+        let all = good_all n k (good n k) g p (r.moves p) es ts (λ m c. right.next p m met c) a fit in
         record {
           games = step_games n k g p ts all;
           barren = step_barren n k g p ts all;
           told = told_append (closed_all r k p (r.moves p) ts) (entry r is_named (suc k) p (any_fertile r p (r.moves p) ts)) all.told
-              (told_entry is_named (suc k) p (any_fertile r p (r.moves p) ts) (step_barren n k g p ts all));
+              (told_entry is_named (suc k) p (any_fertile r p (r.moves p) ts) met (step_barren n k g p ts all));
         }
 
     -- from length n on, with the trees that are left
-    from : (n : ℕ) (p : P) (es : List (Entry P)) (ts : Trees) → AllTold es → FitFrom r n p es ts → (m : ℕ) (ms : List M) → n < suc m → m < n + count r ts → Reaches r m p ms → (m ≡ r.plies) × (r.is_listed ms ≡ true)
-    from n p es Empty a fit m ms low high h = absurd (omega arith)
-    from n p es (First t ts) a fit m ms low high h =
-        let one = good n n [] p es t a fit.0 in
+    from : (n : ℕ) (p : P) (es : List (Entry P)) (ts : Trees) → Met p → AllTold es → FitFrom r n p es ts → (m : ℕ) (ms : List M) → n < suc m → m < n + count r ts → Reaches r m p ms → (m ≡ r.plies) × (r.is_listed ms ≡ true)
+    from n p es Empty met a fit m ms low high h = absurd (omega arith)
+    from n p es (First t ts) met a fit m ms low high h =
+        let one = good n n [] p es t met a fit.0 in
         ⊎_elim (λ (e : n ≡ m). let here : Reaches r n p ms = subst (λ (x : ℕ). Reaches r x p ms) (sym e) h in
         let got = one.games ms here in (sym e ∙ got.0, got.1))
-        (λ (l : suc n < suc m). from (suc n) p (es ++ closed r n p t) ts (told_append es (closed r n p t) a one.told) fit.1 m ms l (omega arith) h)
+        (λ (l : suc n < suc m). from (suc n) p (es ++ closed r n p t) ts met (told_append es (closed r n p t) a one.told) fit.1 m ms l (omega arith) h)
         (let split : (n ≡ m) ⊎ (suc n < suc m) = grind arith in split)
 
-    pub complete : (p : P) (ts : Trees) → IsCertificate r p ts → IsComplete r p
-    complete p ts fit n ms low h = from 0 p [] ts tt fit.1 n ms (omega arith) (omega (arith, fit.0)) h
+    pub complete : (p : P) (ts : Trees) → Met p → IsCertificate r p ts → IsComplete r p
+    complete p ts met fit n ms low h = from 0 p [] ts met tt fit.1 n ms (omega arith) (omega (arith, fit.0)) h

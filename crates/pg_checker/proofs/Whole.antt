@@ -14,7 +14,7 @@ use Rattle.pg_checker.proofs.Exact.{visit_ok}
 use Rattle.pg_checker.proofs.Back.{same_state, fits_visit}
 use Rattle.pg_checker.proofs.Faults.{bind_err, bind_is}
 use Rattle.pg_checker.proofs.Fronts.{visit_err}
-use Rattle.pg_checker.proofs.Sound.{complete}
+use Rattle.pg_checker.proofs.Sound.{complete, contains_first, contains_next}
 
 module _ {P M : Type 0} (r : Rules P M) where
   record RunsTo (c n : ℕ) (p : P) (s t : State P) : Type 0 where
@@ -171,14 +171,8 @@ module _ {P M : Type 0} (r : Rules P M) where
         (bind_err (run r (suc r.plies) 0 p (start a b bytes)) _ f h)
 
     -- the headline
-    pub sound : IsRight r → (p : P) (a b : ℕ) (bytes : List ℕ) (x : ℕ × ℕ) → answer r p a b bytes ≡ Ok x → IsComplete r p
-    sound right p a b bytes x h = let yes = accepted p a b bytes x h in complete r right p yes.trees yes.fits
-
-  contains_next : {X : Type 0} (x y : X) (xs : List X) → Contains xs y → Contains (x ∷ xs) y
-  contains_next x y xs c = (suc c.0, omega (arith, c.1), c.2)
-
-  contains_first : {X : Type 0} (x : X) (xs : List X) → Contains (x ∷ xs) x
-  contains_first x xs = (0, omega arith, refl)
+    pub sound : (Met : P → Type 0) → IsRight r Met → (p : P) → Met p → (a b : ℕ) (bytes : List ℕ) (x : ℕ × ℕ) → answer r p a b bytes ≡ Ok x → IsComplete r p
+    sound Met right p met a b bytes x h = let yes = accepted p a b bytes x h in complete r Met right p yes.trees met yes.fits
 
   full_all_fits : (n k : ℕ) → ((g : List M) (p : P) (es : List (Entry P)) → ((ms : List M) → Reaches r k p ms → (n ≡ r.plies) × (r.is_listed (g ++ ms) ≡ true)) → Fits r n k g p es (full r k p))
       → (g : List M) (p : P) (ms : List M) (es : List (Entry P)) → ((m : M) (ls : List M) → Contains ms m → Reaches r k (r.play p m) ls → (n ≡ r.plies) × (r.is_listed (g ++ (m ∷ ls)) ≡ true)) → FitAll r n k g p ms es (full_all r (full r k) p ms)

@@ -1,5 +1,5 @@
 //! Laws of the walk over a spelled tree, each the contract of a function that does nothing.
-ghost use Rattle.std.specs.Prelude.{◌≡◌, ◌⊎◌, ◌↔◌, ℕ, List, Ok, Err};
+ghost use Rattle.std.specs.Prelude.{◌≡◌, ◌⊎◌, ◌↔◌, ℕ, List, Ok, Err, true};
 ghost use Rattle.pg_checker.specs.Tree.{Rules, Fault, Trailing};
 ghost use Rattle.pg_checker.specs.Claims.{IsExact, IsRight, IsComplete};
 ghost use Rattle.std.specs.Prelude.{suc, Bool, ◌∷◌, length, ◌≤◌, ◌<◌};
@@ -12,7 +12,7 @@ ghost use Rattle.pg_checker.specs.Whole.{IsAtNamed, full_from, answer, IsAccepte
 
 /// A yes proves that the list is complete.
 pub fn headline<P, M>()
-    ensures { (r : Rules P M) → IsExact r → IsRight r → (p : P) (a b : ℕ) (bytes : List ℕ) (x : ℕ × ℕ) → answer r p a b bytes ≡ Ok x → IsComplete r p }
+    ensures { (r : Rules P M) (met : P → Bool) → IsExact r → IsRight r (λ q. met q ≡ true) → (p : P) → met p ≡ true → (a b : ℕ) (bytes : List ℕ) (x : ℕ × ℕ) → answer r p a b bytes ≡ Ok x → IsComplete r p }
 {}
 
 /// A yes is given exactly to the whole spelling of a certificate that fits.
