@@ -44,6 +44,7 @@ module _ {P M : Type 0} (r : Rules P M) where
 
   module _ (exact : IsExact r) where
     run_ok : (c n : ℕ) (p : P) (s t : State P) → run r c n p s ≡ Ok t → RunsTo c n p s t
+    unfolding run
     run_ok zero n p s t h =
         let e : s ≡ t = cc in
         subst (λ (v : State P). RunsTo zero n p s v) e (record { trees = Empty; many = refl; fits = tt; rest = refl; entries = sym (append-nil s.entries); records_are = omega arith; room = omega arith })
@@ -64,6 +65,7 @@ module _ {P M : Type 0} (r : Rules P M) where
 
     fits_run : (c n : ℕ) (p : P) (s t : State P) (trees : Trees) → count r trees ≡ c → FitFrom r n p s.entries trees
         → s.rest ≡ spelling_all r trees ++ t.rest → t.entries ≡ s.entries ++ closed_from r n p trees → s.records ≡ records_all trees + t.records → s.room ≡ named_all trees + t.room → run r c n p s ≡ Ok t
+    unfolding run
     fits_run zero n p s t Empty many fits a b x y = ap Ok (same_state s t a (sym (b ∙ append-nil s.entries)) (omega arith) (omega arith))
     fits_run (suc c) n p s t Empty many fits a b x y = absurd (omega arith)
     fits_run zero n p s t (First tree ts) many fits a b x y = absurd (omega arith)
@@ -74,6 +76,7 @@ module _ {P M : Type 0} (r : Rules P M) where
         ∙ fits_run c (suc n) p u t ts (omega arith) fits.1 refl (b ∙ sym (append_assoc s.entries (closed r n p tree) (closed_from r (suc n) p ts))) refl refl
 
     run_err : (c n : ℕ) (p : P) (s : State P) (f : Fault M) → run r c n p s ≡ Err f → StopsIn c n p s f
+    unfolding run
     run_err zero n p s f h = absurd (cc)
     run_err (suc c) n p s f h =
         ⊎_elim (λ a. let d = visit_err r exact n n [] p s f a in
@@ -121,6 +124,7 @@ module _ {P M : Type 0} (r : Rules P M) where
     ended_err a b (c ∷ bs) s f h = (λ e. cc, cc)
 
     pub accepted : (p : P) (a b : ℕ) (bytes : List ℕ) (x : ℕ × ℕ) → answer r p a b bytes ≡ Ok x → IsAccepted r p a b bytes x
+    unfolding answer
     accepted p a b bytes x h =
         let d = bind_ok (run r (suc r.plies) 0 p (start a b bytes)) _ x h in
         let t = d.0 in
@@ -139,6 +143,7 @@ module _ {P M : Type 0} (r : Rules P M) where
         }
 
     pub accepts : (p : P) (a b : ℕ) (bytes : List ℕ) (x : ℕ × ℕ) → IsAccepted r p a b bytes x → answer r p a b bytes ≡ Ok x
+    unfolding answer
     accepts p a b bytes x acc =
         let t : State P = record { rest = []; entries = closed_from r 0 p acc.trees; records = a - records_all acc.trees; room = b - named_all acc.trees } in
         let x0 : a - (a - records_all acc.trees) ≡ x.0 = omega (arith, acc.records_are, acc.records_fit) in
@@ -148,6 +153,7 @@ module _ {P M : Type 0} (r : Rules P M) where
         ∙ ap₂ (λ (u v : ℕ). Ok (u, v)) x0 x1
 
     pub stopped : (p : P) (a b : ℕ) (bytes : List ℕ) (f : Fault M) → answer r p a b bytes ≡ Err f → IsStopped r p a b bytes f ⊎ ((f ≡ Trailing) × HasMore r p a b bytes)
+    unfolding answer
     stopped p a b bytes f h =
         ⊎_elim (λ c. let d = run_err (suc r.plies) 0 p (start a b bytes) f c in
         let z : 0 + count r d.before ≡ count r d.before = omega arith in

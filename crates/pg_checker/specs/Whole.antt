@@ -8,7 +8,7 @@ use Rattle.pg_checker.specs.Front.{Front, front_records, front_named, front_spel
 
 module _ {P M : Type 0} (r : Rules P M) where
   -- trees of the lengths n, n + 1, .., as many as said
-  abbrev pub run : ℕ → ℕ → P → State P → Result (State P) (Fault M)
+  unfoldable pub run : ℕ → ℕ → P → State P → Result (State P) (Fault M)
   run zero n p s = Ok s
   run (suc c) n p s = do
     got ← visit r n n [] p s
@@ -19,7 +19,7 @@ module _ {P M : Type 0} (r : Rules P M) where
   ended max_records max_named (b ∷ bs) s = Err Trailing
 
   -- the answer to the bytes after the header: how many records and named nodes, or the first fault
-  abbrev pub answer : P → ℕ → ℕ → List ℕ → Result (ℕ × ℕ) (Fault M)
+  unfoldable pub answer : P → ℕ → ℕ → List ℕ → Result (ℕ × ℕ) (Fault M)
   answer p max_records max_named bytes = do
     s ← run (suc r.plies) 0 p (record { rest = bytes; entries = []; records = max_records; room = max_named })
     ended max_records max_named s.rest s
