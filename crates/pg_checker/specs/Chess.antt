@@ -47,6 +47,11 @@ abbrev pub fault_of : ReadFault → Fault Move
 fault_of (reading.UnknownRecord b) = UnknownRecord b
 fault_of _ = Truncated
 
+-- what was read, with the refusal by its name here
+abbrev pub renamed : Result (Record × List ℕ) ReadFault → Result (Record × List ℕ) (Fault Move)
+renamed (Ok got) = Ok got
+renamed (Err e) = Err (fault_of e)
+
 -- whether the record has a spelling
 abbrev pub is_spelled : Record → Bool
 is_spelled (Expand named) = true

@@ -1,0 +1,132 @@
+-- The walk over chess: its games are those of chess, and a yes proves the exact answer.
+use Rattle.std.proofs.Common.{◌≡◌, ℕ, zero, suc, ◌<◌, true, List, [], ◌∷◌, length, Ok, refl, sym, ◌∙◌, ap, subst, inl, inr, ◌⊎◌, arith}
+use Rattle.std.specs.List.{Contains}
+use Rattle.pg_board.specs.Placement.{Placement, placement_eq_decides}
+use Rattle.pg_position.specs.declared.state.State.{State}
+use Rattle.pg_position.specs.declared.moves.Move.{Move}
+use Rattle.pg_position.specs.Position.{IsPosition}
+use Rattle.pg_position.specs.Step.{Legal}
+use Rattle.pg_position.specs.Game.{IsGame, Barren}
+use Rattle.pg_position.specs.Array.{array_state}
+use Rattle.pg_position.specs.Equality.{state_eq_decides}
+use Rattle.pg_position.proofs.ArrayLemmas.{array_position}
+use Rattle.pg_position.proofs.FutureLemmas.{legal_position}
+use Rattle.pg_moves.specs.Moves.{IsLegal}
+use Rattle.pg_moves.proofs.ListLemmas.{moves_of_is}
+use Rattle.pg_moves.proofs.PlayLemmas.{play_of_is}
+use Rattle.pg_checker.specs.Tree.{Rules, Reaches}
+use Rattle.pg_checker.specs.Tree as tree
+use Rattle.pg_checker.specs.Claims.{IsExact, IsRight, IsComplete, IsCertificate}
+use Rattle.pg_checker.specs.Whole.{answer, full_from}
+use Rattle.pg_checker.specs.Answer.{IsSolution, IsExactAnswer, IsSound}
+use Rattle.pg_checker.specs.Equality.{lists_decides}
+use Rattle.pg_checker.specs.Chess.{Cuts, IsSoundCut, IsChess, chess}
+use Rattle.pg_checker.proofs.Reading.{record_spelled, spelled_record, read_ok, read_spelled}
+use Rattle.pg_checker.proofs.Whole.{sound, full_certificate}
+
+-- the rules are those of chess
+pub chess_is : (d : Placement) (n : ℕ) (games : List (List Move)) (cut : Cuts) → IsChess (chess d n games cut) d n games
+unfolding chess
+chess_is d n games cut = record {
+  moves = moves_of_is;
+  play = play_of_is;
+  goal = λ p. placement_eq_decides p.board d;
+  plies = refl;
+  listed = lists_decides games;
+  same = state_eq_decides;
+  write = λ x. refl;
+  is_record = λ x. (spelled_record x, record_spelled x);
+}
+
+-- their reader takes a record exactly where its bytes stand
+pub chess_exact : (d : Placement) (n : ℕ) (games : List (List Move)) (cut : Cuts) → IsExact (chess d n games cut)
+unfolding chess
+chess_exact d n games cut = record {
+  read = read_ok;
+  write = λ x rest h. read_spelled x rest (spelled_record x h);
+  expanded = λ named. refl;
+}
+
+-- a game of k plies from p that ends on d
+Ends : Placement → State → ℕ → List Move → Type 0
+Ends d p k ms = (length ms ≡ k) × ((q : State) × IsGame p ms q × (q.board ≡ d))
+
+module _ (r : Rules State Move) (d : Placement) (n : ℕ) (games : List (List Move)) (is : IsChess r d n games) where
+  -- a move of the list is legal, and is played
+  played : (p : State) (m : Move) → IsPosition p → Contains (r.moves p) m → Legal p m (r.play p m)
+  played p m pos c =
+      let l : IsLegal p m = ((is.moves p).has m).0 c in
+      subst (λ (q : State). Legal p m q) (sym (is.play p m l.0 pos l.1)) l.1
+
+  met : (p : State) (m : Move) → IsPosition p → Contains (r.moves p) m → IsPosition (r.play p m)
+  met p m pos c = legal_position p m (r.play p m) pos (played p m pos c)
+
+  -- the walk's games are the games of chess
+  game_out : (k : ℕ) (p : State) (ms : List Move) → IsPosition p → Reaches r k p ms → Ends d p k ms
+  unfolding Ends
+  game_out zero p [] pos h = (refl, (p, refl, (is.goal p).0 h))
+  game_out zero p (m ∷ ms) pos h = absurd h
+  game_out (suc k) p [] pos h = absurd h
+  game_out (suc k) p (m ∷ ms) pos h =
+      let legal = played p m pos h.0 in
+      let rest = game_out k (r.play p m) ms (met p m pos h.0) h.1 in
+      (ap suc rest.0, (rest.1.0, (r.play p m, legal, rest.1.1), rest.1.2))
+
+  game_in : (k : ℕ) (p : State) (ms : List Move) → IsPosition p → Ends d p k ms → Reaches r k p ms
+  unfolding Ends
+  game_in zero p [] pos (len, (q, g, e)) = (is.goal p).1 (ap (λ (x : State). x.board) g ∙ e)
+  game_in zero p (m ∷ ms) pos (len, (q, g, e)) = absurd (omega arith)
+  game_in (suc k) p [] pos (len, (q, g, e)) = absurd (omega arith)
+  game_in (suc k) p (m ∷ ms) pos (len, (q, (s, legal, g), e)) =
+      let same : r.play p m ≡ s = is.play p m s pos legal in
+      let rest : Reaches r k s ms = game_in k s ms (legal_position p m s pos legal) (omega arith, (q, g, e)) in
+      (((is.moves p).has m).1 (s, legal), subst (λ (x : State). Reaches r k x ms) (sym same) rest)
+
+  -- bounds and references hide no game from a position on
+  right : IsSoundCut d r.cut → IsRight r IsPosition
+  unfolding Barren Ends
+  right cuts = record {
+    next = met;
+    cut = λ code k p pos e ms h. let g = game_out k p ms pos h in cuts code k p pos e ms g.1.0 g.0 g.1.1 g.1.2;
+    same = λ k q p there here e barren. subst (λ (x : State). tree.Barren r k x) ((is.same q p).0 e) barren;
+  }
+
+  -- a complete list of solutions is the exact answer
+  exact_answer : IsComplete r array_state → IsSound d n games → IsExactAnswer d n games
+  unfolding Ends
+  exact_answer all good = record {
+    once = good.once;
+    has = λ ms. (good.are ms, λ h. let low : n < suc r.plies = (let e = is.plies in omega arith) in (is.listed ms).0 (all n ms low (game_in n array_state ms array_position h)).1);
+    none_shorter = λ m ms less h. let low : m < suc r.plies = (let e = is.plies in omega arith) in let e : m ≡ r.plies = (all m ms low (game_in m array_state ms array_position h)).0 in let f = is.plies in absurd (omega arith);
+  }
+
+  -- an exact answer is a complete list
+  complete_list : IsExactAnswer d n games → IsComplete r array_state
+  unfolding Ends
+  complete_list answer_ m ms low h =
+      let g : IsSolution d m ms = game_out m array_state ms array_position h in
+      at (split m n (let e = is.plies in omega arith)) g
+    where
+      split : (a b : ℕ) → a < suc b → (a < b) ⊎ (a ≡ b)
+      split a b h = let s : (a < b) ⊎ (a ≡ b) = grind arith in s
+
+      at : (m < n) ⊎ (m ≡ n) → IsSolution d m ms → (m ≡ r.plies) × (r.is_listed ms ≡ true)
+      at (inl l) g = absurd (answer_.none_shorter m ms l g)
+      at (inr e) g = (e ∙ sym is.plies, (is.listed ms).1 ((answer_.has ms).1 (subst (λ (x : ℕ). IsSolution d x ms) e g)))
+
+-- a yes proves the exact answer
+pub yes_is_exact : (d : Placement) (n : ℕ) (games : List (List Move)) (cut : Cuts) → IsSoundCut d cut → (a b : ℕ) (bytes : List ℕ) (x : ℕ × ℕ)
+    → answer (chess d n games cut) array_state a b bytes ≡ Ok x → IsSound d n games → IsExactAnswer d n games
+unfolding chess
+yes_is_exact d n games cut cuts a b bytes x h good =
+    let r : Rules State Move = chess d n games cut in
+    let is : IsChess r d n games = chess_is d n games cut in
+    exact_answer r d n games is (sound r (chess_exact d n games cut) IsPosition (right r d n games is cuts) array_state array_position a b bytes x h) good
+
+-- each exact answer has a certificate
+pub exact_has_certificate : (d : Placement) (n : ℕ) (games : List (List Move)) (cut : Cuts) → IsExactAnswer d n games
+    → IsCertificate (chess d n games cut) array_state (full_from (chess d n games cut) (suc n) 0 array_state)
+unfolding chess
+exact_has_certificate d n games cut h =
+    let r : Rules State Move = chess d n games cut in
+    full_certificate r array_state (complete_list r d n games (chess_is d n games cut) h)
