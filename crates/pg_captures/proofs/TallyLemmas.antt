@@ -1,12 +1,12 @@
 -- Counts by sets of squares. Leads to the contracts of the counting functions.
-use Rattle.std.proofs.Common.{◌≡◌, ℕ, ◌<◌, ◌^◌, Bool, true, false, ◌&&◌, not, Option, Some, None, refl, sym, ap, ap₂, ◌∙◌, eqb, count_ones, bit_and}
+use Rattle.std.proofs.Common.{◌≡◌, ℕ, ◌<◌, ◌^◌, Bool, true, false, ◌&&◌, Option, Some, None, refl, sym, ap, ap₂, ◌∙◌, count_ones, bit_and}
 use Rattle.pg_board.specs.declared.man.Color.{Color}
 use Rattle.pg_board.specs.declared.man.Kind.{Kind}
 use Rattle.pg_board.specs.declared.man.Kind.TheVariants.{Pawn, Knight, Bishop, Rook, Queen, King}
 use Rattle.pg_board.specs.declared.man.Man.{Man}
 use Rattle.pg_board.specs.Squares.{is_light, is_dark}
 use Rattle.pg_board.specs.Men.{man, passes, color_eq, kind_eq, man_eq, is_man, is_of}
-use Rattle.pg_board.specs.Tally.{one, total, total_same, count_below_same}
+use Rattle.pg_board.specs.Tally.{one, total_same, count_below_same}
 use Rattle.pg_board.specs.Bits.{has, has-and, ones-count, bits_below, has-bits_below}
 use Rattle.pg_board.specs.Placement.{Placement, get, tally, tally_below, count_of}
 use Rattle.pg_captures.specs.declared.classes.Class.{Class}

@@ -1,21 +1,19 @@
 -- The captures law.
-use Rattle.std.proofs.Common.{◌≡◌, ◌≢◌, ℕ, ◌+◌, ◌-◌, ◌*◌, ◌/◌, ◌<◌, ◌≤◌, ◌⊎◌, inl, inr, Option, Some, None, Bool, true, false, zero, suc, refl, sym, ap, subst, arith, ◌∙◌, cond}
+use Rattle.std.proofs.Common.{◌≡◌, ℕ, ◌+◌, ◌<◌, ◌≤◌, inl, inr, suc, sym, ap, subst, arith}
 use Rattle.pg_board.specs.declared.man.Color.{Color}
 use Rattle.pg_board.specs.declared.man.Color.TheVariants.{White, Black}
 use Rattle.pg_board.specs.declared.man.Kind.{Kind}
 use Rattle.pg_board.specs.Placement.{Placement as Board, tally}
-use Rattle.pg_board.specs.Men.{man, other, color_eq}
-use Rattle.pg_board.specs.Tally.{one}
+use Rattle.pg_board.specs.Men.{other}
 use Rattle.pg_position.specs.declared.state.State.{State}
 use Rattle.pg_position.specs.declared.moves.Move.{Move}
 use Rattle.pg_position.specs.declared.moves.Way.{Way}
 use Rattle.pg_position.specs.Position.{Stands}
-use Rattle.pg_position.specs.Step.{IsWay, board_after, after, Step, Legal}
-use Rattle.pg_board.specs.Squares.{file, rank, is_dark, is_light}
-use Rattle.pg_captures.specs.Counting.{of_color, men, any_man, is_pawn, any_pawn, in_class}
+use Rattle.pg_position.specs.Step.{IsWay, board_after, after, Step}
+use Rattle.pg_captures.specs.Counting.{of_color, men, any_man}
 use Rattle.pg_position.specs.Position.{IsPosition}
 use Rattle.pg_position.specs.Game.{Barren}
-use Rattle.pg_captures.specs.Owed.{plies_left, CapturesFor, CapturesHolds}
+use Rattle.pg_captures.specs.Owed.{CapturesFor, CapturesHolds}
 use Rattle.pg_captures.specs.StepCounts.{their_fall, own_men}
 use Rattle.pg_captures.specs.Potential.{Lasts, FailsAt, barren_from}
 

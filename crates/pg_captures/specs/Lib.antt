@@ -5,3 +5,4 @@ pub mod StepCounts
 pub mod Potential
 pub mod CapturesLaw
 pub mod PromotionsLaw
+pub mod Decided

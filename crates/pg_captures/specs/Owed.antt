@@ -1,5 +1,5 @@
 -- What is left to each side, and the tests of the two bounds. d is the diagram's placement, b a position's.
-use Rattle.std.specs.Prelude.{◌≡◌, ℕ, ◌+◌, ◌-◌, ◌/◌, ◌<◌, ◌⊎◌, cond}
+use Rattle.std.specs.Prelude.{ℕ, ◌+◌, ◌-◌, ◌/◌, ◌<◌, ◌⊎◌, cond}
 use Rattle.pg_board.specs.declared.man.Color.{Color}
 use Rattle.pg_board.specs.Men.{color_eq, other}
 use Rattle.pg_board.specs.Placement.{Placement}

@@ -1,13 +1,11 @@
 -- The promotions law.
-use Rattle.std.proofs.Common.{◌≡◌, ◌≢◌, ℕ, ◌+◌, ◌-◌, ◌*◌, ◌/◌, ◌%◌, ◌<◌, ◌≤◌, ◌⊎◌, inl, inr, Option, Some, None, Bool, true, false, zero, suc, refl, sym, ap, subst, arith, ◌∙◌, cond, not, ◌&&◌, leb, nat_eq}
+use Rattle.std.proofs.Common.{◌≡◌, ℕ, ◌+◌, ◌%◌, ◌<◌, ◌≤◌, ◌⊎◌, inl, inr, Bool, true, false, refl, sym, ap, subst, arith, not, nat_eq}
 use Rattle.pg_board.specs.declared.man.Color.{Color}
 use Rattle.pg_board.specs.declared.man.Color.TheVariants.{White, Black}
 use Rattle.pg_board.specs.declared.man.Kind.{Kind}
 use Rattle.pg_board.specs.declared.man.Kind.TheVariants.{Pawn, Knight, Bishop, Rook, Queen, King}
-use Rattle.pg_position.specs.declared.rights.Wing.{Wing}
-use Rattle.pg_position.specs.declared.rights.Wing.TheVariants.{KingSide, QueenSide}
 use Rattle.pg_board.specs.Placement.{Placement as Board, tally}
-use Rattle.pg_board.specs.Men.{man, other, color_eq}
+use Rattle.pg_board.specs.Men.{other}
 use Rattle.pg_board.specs.Tally.{one}
 use Rattle.pg_captures.specs.declared.classes.Class.{Class}
 use Rattle.pg_captures.specs.declared.classes.Class.TheVariants.{Queens, Rooks, Knights, LightBishops, DarkBishops}
@@ -15,14 +13,14 @@ use Rattle.pg_position.specs.declared.state.State.{State}
 use Rattle.pg_position.specs.declared.moves.Move.{Move}
 use Rattle.pg_position.specs.declared.moves.Way.{Way}
 use Rattle.pg_position.specs.declared.moves.Way.TheVariants.{Plain, Capture, DoubleAdvance, EnPassant, Promotion, Castling}
-use Rattle.pg_position.specs.Geometry.{apart, IsForward, OnOneDiagonal, InPattern}
-use Rattle.pg_position.specs.Position.{Stands, ahead, king_home, rook_home}
-use Rattle.pg_position.specs.Step.{Goes, MustPromote, IsPiece, king_crossed, IsPlain, IsCapture, IsDoubleAdvance, IsEnPassant, IsPromotion, IsCastling, IsWay, board_after, after, Step, Legal}
+use Rattle.pg_position.specs.Geometry.{apart, OnOneDiagonal, InPattern}
+use Rattle.pg_position.specs.Position.{Stands, rook_home}
+use Rattle.pg_position.specs.Step.{Goes, IsPiece, king_crossed, IsPlain, IsCapture, IsWay, board_after, after, Step}
 use Rattle.pg_board.specs.Squares.{file, rank, is_dark}
-use Rattle.pg_captures.specs.Counting.{of_color, men, any_man, is_pawn, any_pawn, in_class}
+use Rattle.pg_captures.specs.Counting.{of_color, men, is_pawn, any_pawn, in_class}
 use Rattle.pg_position.specs.Position.{IsPosition}
 use Rattle.pg_position.specs.Game.{Barren}
-use Rattle.pg_captures.specs.StepCounts.{placed, rook_leaves, rook_comes, own_tally, their_tally, their_fall, own_men, taken_at}
+use Rattle.pg_captures.specs.StepCounts.{own_tally, their_fall}
 use Rattle.pg_captures.specs.Potential.{Lasts, FailsAt, barren_from}
 use Rattle.pg_captures.specs.Owed.{missing, shortage, PromotionsFor, PromotionsHolds}
 

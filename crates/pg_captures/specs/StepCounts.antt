@@ -1,20 +1,18 @@
 -- What a turn does to any count.
-use Rattle.std.proofs.Common.{◌≡◌, ◌≢◌, ℕ, ◌+◌, ◌-◌, ◌*◌, ◌<◌, ◌≤◌, ◌⊎◌, inl, inr, Option, Some, None, Bool, true, false, zero, suc, refl, sym, ap, subst, arith, ◌∙◌, length, ◌&&◌}
+use Rattle.std.proofs.Common.{◌≡◌, ◌≢◌, ℕ, ◌+◌, ◌<◌, ◌≤◌, ◌⊎◌, inl, inr, Option, Some, None, Bool, true, refl, sym, ap, arith, ◌∙◌, ◌&&◌}
 use Rattle.pg_board.specs.declared.man.Color.{Color}
 use Rattle.pg_board.specs.declared.man.Color.TheVariants.{White, Black}
 use Rattle.pg_board.specs.declared.man.Kind.{Kind}
-use Rattle.pg_board.specs.declared.man.Kind.TheVariants.{Pawn, Knight, Bishop, Rook, Queen, King}
+use Rattle.pg_board.specs.declared.man.Kind.TheVariants.{Pawn, Rook}
 use Rattle.pg_position.specs.declared.rights.Wing.{Wing}
-use Rattle.pg_position.specs.declared.rights.Wing.TheVariants.{KingSide, QueenSide}
 use Rattle.pg_board.specs.declared.man.Man.{Man}
-use Rattle.pg_board.specs.Placement.{Placement as Board, get, write, tally, tally-write, get-write_same, get-write_other, get_on}
+use Rattle.pg_board.specs.Placement.{Placement as Board, get, write, tally, tally-write, get-write_other, get_on}
 use Rattle.pg_position.specs.declared.state.State.{State}
 use Rattle.pg_position.specs.declared.moves.Move.{Move}
 use Rattle.pg_position.specs.declared.moves.Way.{Way}
 use Rattle.pg_position.specs.declared.moves.Way.TheVariants.{Plain, Capture, DoubleAdvance, EnPassant, Promotion, Castling}
-use Rattle.pg_position.specs.Attack.{IsClear}
 use Rattle.pg_position.specs.Position.{Stands, IsVacant, king_home, rook_home, ahead, IsHome, RightsClause, IsPassed, IsPosition}
-use Rattle.pg_position.specs.Step.{king_crossed, king_target, IsEnemy, IsPlain, IsCapture, IsDoubleAdvance, IsEnPassant, IsPromotion, IsCastling, IsWay, relocated, board_after, after, Step, Legal}
+use Rattle.pg_position.specs.Step.{king_crossed, king_target, IsEnemy, IsEnPassant, IsPromotion, IsCastling, IsWay, relocated, board_after}
 use Rattle.pg_board.specs.Tally.{one, one-le}
 use Rattle.pg_board.specs.Men.{man, other, passes, color_eq}
 use Rattle.pg_captures.specs.Counting.{of_color, men, any_man}

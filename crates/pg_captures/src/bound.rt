@@ -1,4 +1,4 @@
-ghost use Rattle.std.specs.Prelude.{◌≡◌, ℕ, ◌↔◌, IsTrue};
+ghost use Rattle.std.specs.Prelude.{◌≡◌, ℕ, Bool, true};
 ghost use Rattle.pg_board.specs.Placement.{Placement};
 ghost use Rattle.pg_position.specs.declared.state.State.{State};
 ghost use Rattle.pg_position.specs.Position.{IsPosition};
@@ -13,9 +13,9 @@ pub trait Bound: Drop {
     /// The code by which a certificate names the bound.
     ghost code_of: { Self → ℕ };
 
-    /// What the bound excludes: a placement to come to, from a position, in so many plies. Its
+    /// Whether the bound excludes: a placement to come to, from a position, in so many plies. Its
     /// answers depend on nothing else.
-    ghost excluded: { Self → Placement → State → ℕ → Type 0 };
+    ghost excluded: { Self → Placement → State → ℕ → Bool };
 
     /// The code by which a certificate names the bound, 0 to 255.
     fn code(&self) -> u8
@@ -23,8 +23,8 @@ pub trait Bound: Drop {
 
     /// Whether the bound excludes every game of `left` plies from the position to the diagram.
     fn excludes(&self, diagram: &Diagram, position: &Position, left: u8) -> bool
-        ensures { IsTrue result ↔ excluded self.now diagram.now position.now left };
+        ensures { result ≡ excluded self.now diagram.now position.now left };
 
     /// The law: what is excluded cannot be reached.
-    ghost sound: { (b : Self) (d : Placement) (p : State) (k : ℕ) → IsPosition p → excluded b d p k → Barren d p k };
+    ghost sound: { (b : Self) (d : Placement) (p : State) (k : ℕ) → IsPosition p → excluded b d p k ≡ true → Barren d p k };
 }

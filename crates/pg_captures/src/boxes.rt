@@ -1,5 +1,6 @@
 //! Bounds in a list, of any types: the first one with a code.
-ghost use Rattle.std.specs.Prelude.{◌≡◌, ℕ, ◌↔◌, IsTrue, MatchOption, Some, None, true};
+ghost use Rattle.std.specs.Prelude.{◌≡◌, ℕ, IsTrue, Some, None, true};
+ghost use Rattle.std.specs.Option.{option_map};
 ghost use Rattle.pg_captures.specs.Lists.{first_of};
 ghost use Rattle.pg_position.specs.Game.{Barren};
 
@@ -8,14 +9,14 @@ use pg_fen::Diagram;
 use pg_position::Position;
 
 fn excludes_box(bound: &Box<dyn Bound>, diagram: &Diagram, position: &Position, left: u8) -> bool
-    ensures { IsTrue result ↔ excluded bound.now diagram.now position.now left }
+    ensures { result ≡ excluded bound.now diagram.now position.now left }
 {
     bound.excludes(diagram, position, left)
 }
 
 // Whether one bound excludes; what it says is so for a bound that was never seen.
 fn ask(bound: &Box<dyn Bound>, diagram: &Diagram, position: &Position, left: u8) -> bool
-    ensures value { IsTrue result ↔ excluded bound.now diagram.now position.now left }
+    ensures value { result ≡ excluded bound.now diagram.now position.now left }
     ensures barren { IsTrue result → Barren diagram.now position.now left }
 {
     position.side();
@@ -38,7 +39,7 @@ pub fn first_excludes(
     position: &Position,
     left: u8,
 ) -> Option<bool>
-    ensures first { MatchOption result (first_of (λ b. code_of b) code bounds.now ≡ None) (λ yes. (b : _) × (first_of (λ e. code_of e) code bounds.now ≡ Some b) × (IsTrue yes ↔ excluded b diagram.now position.now left)) }
+    ensures first { result ≡ option_map (λ b. excluded b diagram.now position.now left) (first_of (λ b. code_of b) code bounds.now) }
     ensures barren { result ≡ Some true → Barren diagram.now position.now left }
 {
     for bound in bounds {

@@ -58,14 +58,14 @@ fn captures_hold(diagram: &Diagram, position: &Position, left: u8) -> bool
 pub struct Captures;
 
 impl Bound for Captures {
-    ghost use Rattle.pg_captures.specs.Owed.{CapturesHolds};
     ghost use Rattle.pg_captures.specs.CapturesLaw.{captures_barren};
+    ghost use Rattle.pg_captures.specs.Decided.{captures_test, captures_test_tells};
 
     ghost code_of = { λ b. 1 };
 
-    ghost excluded = { λ b d p k. CapturesHolds d p k };
+    ghost excluded = { λ b d p k. captures_test d p k };
 
-    ghost sound = { λ b d p k valid h. captures_barren d p k valid h };
+    ghost sound = { λ b d p k valid h. captures_barren d p k valid ((captures_test_tells d p k).0 h) };
 
     fn code(&self) -> u8 {
         1

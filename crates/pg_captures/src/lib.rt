@@ -7,12 +7,14 @@ mod boxes;
 mod captures;
 mod classes;
 mod counts;
+mod laws;
 mod promotions;
 
 pub use bound::Bound;
 pub use boxes::first_excludes;
 pub use captures::{Captures, owed, plies_left, victims_of};
 pub use classes::Class;
+pub use laws::tests_are_exact;
 pub use promotions::Promotions;
 
 #[cfg(test)]

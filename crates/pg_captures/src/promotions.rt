@@ -56,14 +56,14 @@ fn promotions_hold(diagram: &Diagram, position: &Position) -> bool
 pub struct Promotions;
 
 impl Bound for Promotions {
-    ghost use Rattle.pg_captures.specs.Owed.{PromotionsHolds};
     ghost use Rattle.pg_captures.specs.PromotionsLaw.{promotions_barren};
+    ghost use Rattle.pg_captures.specs.Decided.{promotions_test, promotions_test_tells};
 
     ghost code_of = { λ b. 2 };
 
-    ghost excluded = { λ b d p k. PromotionsHolds d p };
+    ghost excluded = { λ b d p k. promotions_test d p };
 
-    ghost sound = { λ b d p k valid h. promotions_barren d p k valid h };
+    ghost sound = { λ b d p k valid h. promotions_barren d p k valid ((promotions_test_tells d p).0 h) };
 
     fn code(&self) -> u8 {
         2

@@ -70,11 +70,14 @@ struct Never {
 }
 
 impl Bound for Never {
+    ghost use Rattle.std.specs.Prelude.{false};
+    ghost use Rattle.pg_captures.specs.Decided.{never_excludes};
+
     ghost code_of = { λ b. b.code };
 
-    ghost excluded = { λ b d p k. ⊥ };
+    ghost excluded = { λ b d p k. false };
 
-    ghost sound = { λ b d p k valid h. absurd h };
+    ghost sound = { λ b d p k valid h. never_excludes h };
 
     fn code(&self) -> u8 {
         self.code

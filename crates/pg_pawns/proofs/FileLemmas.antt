@@ -1,16 +1,15 @@
 -- The tables of files, and the pawns on one side of a line. Leads to the counts of pawns.
-use Rattle.std.proofs.Common.{◌≡◌, ℕ, zero, suc, ◌+◌, ◌<◌, ◌^◌, Bool, ◌&&◌, not, get_or, refl, sym, ap, ◌∙◌, arith, count_ones, bit_and, nat_le, lt_of_le_of_lt}
+use Rattle.std.proofs.Common.{◌≡◌, ℕ, zero, suc, ◌+◌, ◌<◌, ◌^◌, ◌&&◌, not, get_or, refl, ap, ◌∙◌, arith, count_ones, bit_and, nat_le, lt_of_le_of_lt}
 use Rattle.std.proofs.lemmas.Nat.{and_le_l}
 use Rattle.pg_board.specs.declared.man.Color.{Color}
-use Rattle.pg_board.specs.declared.man.Kind.{Kind}
 use Rattle.pg_board.specs.declared.man.Kind.TheVariants.{Pawn}
 use Rattle.pg_board.specs.declared.man.Man.{Man}
 use Rattle.pg_board.specs.Squares.{file}
-use Rattle.pg_board.specs.Men.{man, passes, kind_eq, is_man}
+use Rattle.pg_board.specs.Men.{man, is_man}
 use Rattle.pg_board.specs.Tally.{total, total-none, total-more}
 use Rattle.pg_board.specs.Bits.{has, bits_below, has-bits_below}
 use Rattle.pg_board.specs.Placement.{Placement, get}
-use Rattle.pg_captures.specs.Counting.{of_color, men, is_pawn}
+use Rattle.pg_captures.specs.Counting.{of_color, men}
 use Rattle.pg_captures.proofs.TallyLemmas.{tally_set, masked_set, pawn_like}
 use Rattle.pg_pawns.specs.PawnFiles.{pawn_left, pawn_right}
 use Rattle.pg_pawns.specs.declared.files.TheConstants.{LEFT_FILES, RIGHT_FILES}

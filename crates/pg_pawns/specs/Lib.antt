@@ -1,2 +1,3 @@
 pub mod PawnFiles
 pub mod PawnFilesLaw
+pub mod Decided

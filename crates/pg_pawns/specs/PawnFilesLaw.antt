@@ -1,22 +1,20 @@
 -- The pawn-files law: no legal move turns the captures owed less the shifts needed from negative to not negative.
-use Rattle.std.proofs.Common.{◌≡◌, ◌≢◌, ℕ, ◌+◌, ◌-◌, ◌*◌, ◌/◌, ◌%◌, ◌<◌, ◌≤◌, ◌⊎◌, inl, inr, Option, Some, None, Bool, true, false, zero, suc, refl, sym, ap, subst, arith, ◌∙◌, cond, not, ◌&&◌, leb, nat_eq}
+use Rattle.std.proofs.Common.{◌≡◌, ◌≢◌, ℕ, ◌+◌, ◌%◌, ◌<◌, ◌≤◌, ◌⊎◌, inl, inr, Some, Bool, true, false, refl, sym, ap, subst, arith, ◌∙◌, not, ◌&&◌, leb}
 use Rattle.pg_board.specs.declared.man.Color.{Color}
 use Rattle.pg_board.specs.declared.man.Color.TheVariants.{White, Black}
 use Rattle.pg_board.specs.declared.man.Kind.{Kind}
 use Rattle.pg_board.specs.declared.man.Kind.TheVariants.{Pawn, Knight, Bishop, Rook, Queen, King}
-use Rattle.pg_position.specs.declared.rights.Wing.{Wing}
-use Rattle.pg_position.specs.declared.rights.Wing.TheVariants.{KingSide, QueenSide}
 use Rattle.pg_board.specs.Squares.{file, rank}
 use Rattle.pg_board.specs.Men.{man, other, color_eq}
-use Rattle.pg_board.specs.Tally.{one, total, total_same, total_changed, total-le, total-zero, one-le}
+use Rattle.pg_board.specs.Tally.{one, total, total_same, total_changed, total-le, total-zero}
 use Rattle.pg_board.specs.Placement.{Placement as Board, get, tally}
 use Rattle.pg_position.specs.declared.state.State.{State}
 use Rattle.pg_position.specs.declared.moves.Move.{Move}
 use Rattle.pg_position.specs.declared.moves.Way.{Way}
 use Rattle.pg_position.specs.declared.moves.Way.TheVariants.{Plain, Capture, DoubleAdvance, EnPassant, Promotion, Castling}
-use Rattle.pg_position.specs.Geometry.{apart, IsForward, OnOneDiagonal, InPattern}
-use Rattle.pg_position.specs.Position.{IsPosition, IsPassed, Stands, ahead, king_home, rook_home}
-use Rattle.pg_position.specs.Step.{home_rank, IsEnemy, Goes, MustPromote, IsPiece, king_crossed, IsPlain, IsCapture, IsDoubleAdvance, IsEnPassant, IsPromotion, IsCastling, IsWay, board_after, after, Step, Legal}
+use Rattle.pg_position.specs.Geometry.{apart, InPattern}
+use Rattle.pg_position.specs.Position.{IsPosition, IsPassed, Stands, ahead}
+use Rattle.pg_position.specs.Step.{home_rank, IsEnemy, Goes, king_crossed, IsWay, board_after, after, Step}
 use Rattle.pg_captures.specs.Counting.{of_color, men, any_man, is_pawn}
 use Rattle.pg_position.specs.Game.{Barren}
 use Rattle.pg_captures.specs.StepCounts.{worth, placed, rook_leaves, rook_comes, own_tally, their_tally, their_fall, own_men, taken_at}

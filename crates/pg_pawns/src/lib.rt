@@ -2,8 +2,10 @@
 #![tactic(auto)]
 
 mod files;
+mod laws;
 mod shifts;
 
+pub use laws::test_is_exact;
 pub use shifts::{PawnFiles, shift_need};
 
 #[cfg(test)]

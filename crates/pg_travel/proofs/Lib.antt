@@ -1,9 +1,1 @@
-pub mod PairTests
-pub mod Tables
-pub mod WalkLemmas
-pub mod Pieces
-pub mod PawnTables
-pub mod Pawns
-pub mod Values
-pub mod Least
 pub mod Skips

@@ -10,3 +10,12 @@ pub mod MoveLemmas
 pub mod OriginsLemmas
 pub mod NeedLemmas
 pub mod Ways
+pub mod PairTests
+pub mod Tables
+pub mod WalkLemmas
+pub mod Pieces
+pub mod PawnTables
+pub mod Pawns
+pub mod Values
+pub mod Least
+pub mod Decided

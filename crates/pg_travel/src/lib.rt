@@ -9,7 +9,7 @@ mod needs;
 mod travel;
 
 pub use distances::distance;
-pub use laws::{origins_law, travel_law};
+pub use laws::{origins_law, test_is_exact, travel_law};
 pub use needs::need;
 pub use travel::Travel;
 

@@ -114,7 +114,7 @@ fn total(board: &Board, goal: &Board, color: Color, way: Option<Castling>) -> Op
 }
 
 // The value of a way; none where some man of the diagram has no man that can come to it.
-#[tactic(auto, using(crate::proofs::Values::sum_is_value))]
+#[tactic(auto, using(crate::specs::Values::sum_is_value))]
 fn value(position: &Position, diagram: &Diagram, color: Color, way: Option<Castling>) -> Option<u16>
     ensures { ValueIs position.now diagram.now color (way_of way) result }
 {

@@ -1,4 +1,4 @@
-use Rattle.std.proofs.Common.{◌≡◌, subst, sym, ap, ◌∙◌}
+use Rattle.std.proofs.Common.{sym, ap, ◌∙◌}
 use Rattle.pg_board.specs.Squares.{is_light, is_dark}
 use Rattle.pg_board.specs.Men.{passes}
 use Rattle.pg_board.specs.Placement.{get}

@@ -1,4 +1,4 @@
-use Rattle.std.proofs.Common.{◌≡◌, ◌≤◌, ap, ◌∙◌, subst, sym, ℕ}
+use Rattle.std.proofs.Common.{◌≤◌, ap, ◌∙◌, subst, sym, ℕ}
 use Rattle.pg_board.specs.Placement.{count_of, tally-le}
 use Rattle.pg_captures.proofs.TallyLemmas.{pawns_counted}
 use Rattle.pg_captures.proofs.counts.pawns.Goals as goal

@@ -1,6 +1,6 @@
 use Rattle.std.proofs.Common.{◌≡◌, ℕ, ◌+◌, min, ap, arith, ◌∙◌}
 use Rattle.pg_travel.specs.Formulas.{piece, pawn_steps, last_at, least_of}
-use Rattle.pg_travel.proofs.Pawns.{least_of_more, least_of_none}
+use Rattle.pg_travel.specs.Pawns.{least_of_more, least_of_none}
 use Rattle.pg_travel.proofs.distances.by_promotion.Goals as goal
 
 pub loop-file-init : goal.loop-file-init

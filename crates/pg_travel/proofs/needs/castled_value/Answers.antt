@@ -2,7 +2,7 @@ use Rattle.std.proofs.Common.{ap, sym, ◌∙◌}
 use Rattle.pg_position.specs.declared.rights.Rights.{Rights}
 use Rattle.pg_position.specs.Position.{holds}
 use Rattle.pg_travel.specs.Ways.{wing_of}
-use Rattle.pg_travel.proofs.Least.{held_by_value}
+use Rattle.pg_travel.specs.Least.{held_by_value}
 use Rattle.pg_travel.proofs.needs.castled_value.Goals as goal
 
 pub returns-then-holds : goal.returns-then-holds

@@ -1,6 +1,6 @@
 use Rattle.std.proofs.Common.{sym, ◌∙◌}
 use Rattle.pg_travel.specs.Ways.{way_of}
-use Rattle.pg_travel.proofs.Values.{cost_home}
+use Rattle.pg_travel.specs.Values.{cost_home}
 use Rattle.pg_travel.proofs.needs.cost.Goals as goal
 
 pub returns-then-is_home-clause-value : goal.returns-then-is_home-clause-value

@@ -3,7 +3,7 @@ use Rattle.pg_board.specs.declared.man.Color.{Color}
 use Rattle.std.proofs.lemmas.Bool.Decides.{nat_tests}
 use Rattle.pg_captures.specs.Owed.{plies_left}
 use Rattle.pg_travel.specs.Needs.{TravelTest}
-use Rattle.pg_travel.proofs.Least.{test_none, test_some, test_paid}
+use Rattle.pg_travel.specs.Least.{test_none, test_some, test_paid}
 use Rattle.pg_travel.proofs.needs.excludes_for.Goals as goal
 
 tells : (a n b : ℕ) → a ≡ b → IsTrue (nat_lt a n) → b < n

@@ -4,7 +4,7 @@ use Rattle.pg_board.specs.Placement.{get}
 use Rattle.pg_travel.specs.Ways.{way_of}
 use Rattle.pg_travel.specs.Formulas.{least_of}
 use Rattle.pg_travel.specs.Costs.{reach_of, nearest}
-use Rattle.pg_travel.proofs.Pawns.{least_of_more, least_of_none}
+use Rattle.pg_travel.specs.Pawns.{least_of_more, least_of_none}
 use Rattle.pg_travel.proofs.Skips.{least_skip, reach_off}
 use Rattle.pg_travel.proofs.needs.nearest.Goals as goal
 

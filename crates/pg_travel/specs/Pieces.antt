@@ -8,9 +8,9 @@ use Rattle.pg_board.specs.Squares.{file, rank}
 use Rattle.pg_position.specs.Geometry.{InPattern}
 use Rattle.pg_travel.specs.Walks.{StepsTo, Becomes, FreeStep, DistanceIs}
 use Rattle.pg_travel.specs.Formulas.{files, ranks, king, rook, bishop, queen, knight, piece, answer, PieceLaw}
-use Rattle.pg_travel.proofs.PairTests.{Fits, fits}
-use Rattle.pg_travel.proofs.Tables.{knight_to, bishop_to, rook_to, queen_to, king_to, knight_fits, bishop_fits, rook_fits, queen_fits, king_fits}
-use Rattle.pg_travel.proofs.WalkLemmas.{Local, distance}
+use Rattle.pg_travel.specs.PairTests.{Fits, fits}
+use Rattle.pg_travel.specs.Tables.{knight_to, bishop_to, rook_to, queen_to, king_to, knight_fits, bishop_fits, rook_fits, queen_fits, king_fits}
+use Rattle.pg_travel.specs.WalkLemmas.{Local, distance}
 
 abbrev pub goes_to : Kind → ℕ → ℕ → Bool
 goes_to Pawn r s = false

@@ -4,7 +4,7 @@ use Rattle.pg_board.specs.declared.man.Color.{Color}
 use Rattle.pg_board.specs.declared.man.Color.TheVariants.{White, Black}
 use Rattle.pg_board.specs.Squares.{file, rank}
 use Rattle.pg_travel.specs.Formulas.{files, rook, bishop, queen, knight, pawn_steps, pawn, least_of, pawn_to}
-use Rattle.pg_travel.proofs.PairTests.{all_below, gather, all_of, any_of, fits_at, fits_row, fits_rows}
+use Rattle.pg_travel.specs.PairTests.{all_below, gather, all_of, any_of, fits_at, fits_row, fits_rows}
 
 -- where a pawn steps, as a test: n ranks forward
 abbrev pub forward_by : Color → ℕ → ℕ → ℕ → Bool

@@ -2,7 +2,7 @@
 use Rattle.std.proofs.Common.{◌≡◌, ℕ, Bool, true, ◌&&◌, ◌||◌, not, refl, eqb, leb}
 use Rattle.pg_board.specs.Squares.{file, rank}
 use Rattle.pg_travel.specs.Formulas.{files, ranks, king, rook, bishop, queen, knight}
-use Rattle.pg_travel.proofs.PairTests.{all_below, gather, all_of, any_of, fits_at, fits_row, fits_rows}
+use Rattle.pg_travel.specs.PairTests.{all_below, gather, all_of, any_of, fits_at, fits_row, fits_rows}
 
 -- the patterns as tests
 unfoldable pub knight_to : ℕ → ℕ → Bool

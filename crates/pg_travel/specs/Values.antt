@@ -17,7 +17,7 @@ use Rattle.pg_travel.specs.Origins.{counted, HasNone}
 use Rattle.pg_travel.specs.Needs.{Comes, IsValue}
 use Rattle.pg_travel.specs.Formulas.{least_of, distance_of}
 use Rattle.pg_travel.specs.Costs.{reach_of, nearest, cost_of, cost, SumLaw}
-use Rattle.pg_travel.proofs.Pawns.{walk_bounds, some_by_steps}
+use Rattle.pg_travel.specs.Pawns.{walk_bounds, some_by_steps}
 
 least_at_most : (f : ℕ → ℕ) (n t : ℕ) → t < n → least_of f n ≤ f t
 unfolding least_of

@@ -1,0 +1,5 @@
+use Rattle.pg_captures.specs.Decided.{promotions_test_is}
+use Rattle.pg_captures.proofs.promotions.PromotionsBound.excludes.Goals as goal
+
+pub returns : goal.returns
+returns c = promotions_test_is c.args.diagram.now c.args.position.now c.promotions_hold.result c.promotions_hold.ensures
