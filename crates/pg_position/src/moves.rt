@@ -14,6 +14,22 @@ pub struct Move {
     pub promotion: Option<Kind>,
 }
 
+/// The move from a1 to a1, which no rule gives: what fills a list of fixed capacity before its moves
+/// are written.
+impl Default for Move {
+    ghost use Rattle.std.specs.Prelude.{◌≡◌, None};
+
+    ghost is_default = { λ m. (m.from ≡ 0) × (m.to ≡ 0) × (m.promotion ≡ None) };
+
+    fn default() -> Move {
+        Move {
+            from: Square::at(0),
+            to: Square::at(0),
+            promotion: None,
+        }
+    }
+}
+
 /// The six cases of a step.
 #[derive(Clone, Copy, Debug, PartialEq, Eq)]
 pub enum Way {

@@ -1,4 +1,4 @@
-use Rattle.std.proofs.Common.{◌≡◌, ap, ◌∙◌, arith}
+use Rattle.std.proofs.Common.{ap, ◌∙◌, arith}
 use Rattle.pg_board.specs.Placement.{get, get-empty}
 use Rattle.pg_position.proofs.ArrayLemmas.{array_from, next_put, next_skipped}
 use Rattle.pg_position.proofs.array.array_board.Goals.{in-Some, in-None}
