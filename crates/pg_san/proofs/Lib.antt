@@ -1,0 +1,3 @@
+pub mod GameLemmas
+pub mod OrderLemmas
+pub mod PlaceLemmas

@@ -1,0 +1,87 @@
+-- The canonical order of games: a total order, in which games that tie are one.
+use Rattle.std.proofs.Common.{◌≡◌, ◌≢◌, ◌↔◌, ℕ, zero, suc, ◌+◌, ◌<◌, ◌≤◌, ◌⊎◌, inl, inr, Option, Some, None, List, [], ◌∷◌, ◌++◌, length, get_or, take, drop, refl, sym, ap, subst, arith, ◌∙◌}
+use Rattle.std.specs.declared.cmp.Ordering.{Ordering}
+use Rattle.std.specs.declared.cmp.Ordering.TheVariants.{Less, Equal, Greater}
+use Rattle.std.specs.Ordering.{ordering_then, ordering_reverse, nat_cmp}
+use Rattle.std.specs.Cmp.{IsTotalOrder}
+use Rattle.std.specs.Cmp.Lexicographic.{slice_cmp}
+use Rattle.std.proofs.lemmas.Cmp.{lists_total, ranked, tied_itself}
+use Rattle.std.proofs.lemmas.List.Elements.{Contains-get_or}
+use Rattle.std.specs.List.{Contains}
+use Rattle.std.specs.List.Sorted.{IsStrictlySortedBy}
+use Rattle.pg_position.specs.declared.moves.Move.{Move}
+use Rattle.pg_position.specs.contracts.moves.MoveOrd.TheImpl.{cmp-value}
+use Rattle.pg_board.specs.declared.man.Kind.{Kind}
+use Rattle.pg_board.specs.declared.man.Kind.TheVariants.{Pawn, Knight, Bishop, Rook, Queen, King}
+use Rattle.pg_moves.specs.Moves.{move_cmp, promotion_rank}
+use Rattle.pg_moves.proofs.PlaceLemmas.{move_cmp_total, same_parts}
+use Rattle.pg_moves.proofs.SortLemmas.{sorted_none, sorted_below, sorted_rest, Contains-none}
+use Rattle.pg_san.specs.Games.{game_cmp, IsFromArray, IsGames, IsPlace}
+
+pub game_cmp_total : IsTotalOrder game_cmp
+game_cmp_total = lists_total move_cmp_total
+
+pub no_games : IsGames []
+no_games = record { ascends = sorted_none game_cmp; legal = λ g h. absurd (Contains-none g h); few = omega arith }
+
+-- what the derived order of moves computes to: promotions by their kinds, none first
+move_at : ℕ → ℕ → Option Kind → Move
+move_at r s o = record { from = r; to = s; promotion = o }
+
+derived_at : (r s t u : ℕ) (o p : Option Kind) → cmp-value.it (move_at r s o) (move_at t u p) ≡ move_cmp (move_at r s o) (move_at t u p)
+unfolding move_at
+derived_at r s t u None (Some Pawn) = refl
+derived_at r s t u (Some Pawn) (Some Pawn) = refl
+derived_at r s t u (Some Knight) (Some Pawn) = refl
+derived_at r s t u (Some Bishop) (Some Pawn) = refl
+derived_at r s t u (Some Rook) (Some Pawn) = refl
+derived_at r s t u (Some Queen) (Some Pawn) = refl
+derived_at r s t u (Some King) (Some Pawn) = refl
+derived_at r s t u _ _ = refl
+
+alike : (R S : Move → Move → Ordering) → ((a b : Move) → R a b ≡ S a b) → (xs ys : List Move) → slice_cmp R xs ys ≡ slice_cmp S xs ys
+alike R S e [] [] = refl
+alike R S e [] (y ∷ ys) = refl
+alike R S e (x ∷ xs) [] = refl
+alike R S e (x ∷ xs) (y ∷ ys) = λ i. ordering_then (e x y i) (alike R S e xs ys i)
+
+pub derived_cmp : (a b : List Move) → slice_cmp cmp-value.it a b ≡ game_cmp a b
+unfolding move_at
+derived_cmp a b = alike cmp-value.it move_cmp (λ m n. derived_at m.from m.to n.from n.to m.promotion n.promotion) a b
+
+-- ---- games that tie are one
+then_equal : (a b : Ordering) → ordering_then a b ≡ Equal → (a ≡ Equal) × (b ≡ Equal)
+then_equal Less b h = absurd (cc)
+then_equal Equal b h = (refl, h)
+then_equal Greater b h = absurd (cc)
+
+same_move : (a b : Move) → move_cmp a b ≡ Equal → a ≡ b
+same_move a b h =
+    let p = then_equal (nat_cmp a.from b.from) (ordering_then (nat_cmp a.to b.to) (nat_cmp (promotion_rank a.promotion) (promotion_rank b.promotion))) h in
+    let q = then_equal (nat_cmp a.to b.to) (nat_cmp (promotion_rank a.promotion) (promotion_rank b.promotion)) p.1 in
+    same_parts a b (ranked a.from b.from Equal (sym p.0)) (ranked a.to b.to Equal (sym q.0)) (ranked (promotion_rank a.promotion) (promotion_rank b.promotion) Equal (sym q.1))
+
+pub same_game : (a b : List Move) → game_cmp a b ≡ Equal → a ≡ b
+same_game [] [] h = refl
+same_game [] (y ∷ ys) h = absurd (cc)
+same_game (x ∷ xs) [] h = absurd (cc)
+same_game (x ∷ xs) (y ∷ ys) h =
+    let p = then_equal (move_cmp x y) (game_cmp xs ys) h in
+    let e : x ≡ y = same_move x y p.0 in
+    let f : xs ≡ ys = same_game xs ys p.1 in
+    cc
+
+pub not_before_itself : (g : List Move) → game_cmp g g ≡ Less → ⊥
+not_before_itself g h = let e : game_cmp g g ≡ Equal = tied_itself game_cmp_total g in cc
+
+-- ---- ascending lists
+pub after_before : (a b : List Move) → game_cmp a b ≡ Less → game_cmp b a ≡ Greater
+after_before a b h = game_cmp_total.antisymm b a ∙ ap ordering_reverse h
+
+pub before_after : (a b : List Move) → game_cmp a b ≡ Greater → game_cmp b a ≡ Less
+before_after a b h = game_cmp_total.antisymm b a ∙ ap ordering_reverse h
+
+pub next_later : (gs : List (List Move)) (k : ℕ) (d : List Move) → IsStrictlySortedBy game_cmp gs → suc k < length gs → game_cmp (get_or gs k d) (get_or gs (suc k) d) ≡ Less
+next_later [] k d s l = absurd (omega arith)
+next_later (x ∷ xs) zero d s l = sorted_below game_cmp x (get_or xs 0 d) xs s (Contains-get_or xs 0 d (omega arith))
+next_later (x ∷ xs) (suc k) d s l = next_later xs k d (sorted_rest game_cmp x xs s) (omega arith)

@@ -1,0 +1,146 @@
+//! Lists of different games in canonical order.
+ghost use Rattle.std.specs.Prelude.{◌≡◌, ◌<◌, ◌≤◌, ◌↔◌, IsTrue, List, [], length, MatchOption, MatchResult, IfErr, OnOk, OnErr, Some, slice_get, map};
+ghost use Rattle.std.specs.List.{Contains};
+ghost use Rattle.std.specs.List.Sorted.{IsStrictlySortedBy};
+ghost use Rattle.pg_san.specs.Games.{game_cmp, IsFromArray, IsGames, IsPlace};
+ghost use Rattle.pg_san.specs.Adding.{IsIllegalAt, IsAdded, IsAddFault, IsNew};
+
+use crate::adding::AddFault;
+use pg_position::{Move, Position};
+use std::alloc::{AllocError, Global};
+use std::cmp::Ordering;
+use std::marker::Model;
+
+// The most games that a list holds.
+const MOST: usize = 4096;
+
+/// Different games from the initial array, in canonical order: the first moves that differ decide,
+/// and a game comes before each that goes on from it. At most 4,096 games. Contracts see the list of
+/// the games, each a list of moves.
+#[derive(Drop)]
+pub struct Games {
+    games: Vec<Vec<Move>>,
+}
+
+impl Model for Games {
+    ghost use Rattle.std.specs.Prelude.{List, map};
+    ghost use Rattle.pg_position.specs.declared.moves.Move.{Move};
+    ghost use Rattle.pg_san.specs.Games.{IsGames};
+
+    ghost Value = { List (List Move) };
+
+    ghost view = { λ g. map (λ v. v.items) g.games.items };
+
+    ghost invariant = { λ g. IsGames (map (λ v. v.items) g.games.items) };
+}
+
+// How two games stand in the canonical order.
+fn compare(a: &[Move], b: &[Move]) -> Ordering
+    ensures { result ≡ game_cmp a.now b.now }
+{
+    a.cmp(b)
+}
+
+// The first ply, counted from 1, whose move is not legal.
+fn first_illegal(game: &[Move]) -> Option<usize>
+    ensures { MatchOption result (IsFromArray game.now) (λ ply. IsIllegalAt game.now ply) }
+{
+    let mut position = Position::array();
+    for (i, m) in game.iter().enumerate() {
+        match position.play(*m) {
+            Ok(next) => position = next,
+            Err(_) => return Some(i + 1),
+        }
+    }
+    None
+}
+
+// Where the game stands among games in canonical order, or, where it is not among them, would stand.
+fn place(games: &Vec<Vec<Move>>, game: &[Move]) -> Result<usize, usize>
+    requires { IsStrictlySortedBy game_cmp (map (λ v. v.items) games.now.items) }
+    ensures { MatchResult result
+        (λ _. Contains (map (λ v. v.items) games.now.items) game.now)
+        (λ i. IsPlace (map (λ v. v.items) games.now.items) game.now i) }
+{
+    games.binary_search_by(|held| compare(held.as_slice(), game))
+}
+
+impl Games {
+    /// The list of no game. What the list grows by is taken from `alloc`.
+    pub fn new(alloc: Global) -> Games
+        ensures { result ≡ [] }
+    {
+        Games {
+            games: Vec::new(alloc),
+        }
+    }
+
+    /// How many games it holds.
+    pub fn len(&self) -> usize
+        ensures value { result ≡ length self.now }
+        ensures games { IsGames self.now }
+    {
+        self.games.len()
+    }
+
+    /// The game with this index, counted from 0 in canonical order; none from `len` on.
+    pub fn game(&self, i: usize) -> Option<&[Move]>
+        ensures { MatchOption result (length self.now ≤ i) (λ g. slice_get self.now i ≡ Some g.now) }
+    {
+        match self.games.get(i) {
+            Some(game) => Some(game.as_slice()),
+            None => None,
+        }
+    }
+
+    /// Whether it holds the game.
+    pub fn contains(&self, game: &[Move]) -> bool
+        ensures { IsTrue result ↔ Contains self.now game.now }
+    {
+        place(&self.games, game).is_ok()
+    }
+
+    // Puts a game of its own at its place.
+    fn put(&mut self, i: usize, game: Vec<Move>) -> Result<(), AllocError>
+        requires fresh { IsNew self.old game.items }
+        requires at { IsPlace self.old game.items i }
+        ensures ok { OnOk result (IsAdded self.old game.items self.new) }
+        ensures err { OnErr result (self.new ≡ self.old) }
+    {
+        self.games.insert(i, game)?;
+        Ok(())
+    }
+
+    /// Adds a game: then it holds this one more, at its place in canonical order, and nothing else
+    /// changes. A refusal leaves the list as it was.
+    ///
+    /// # Errors
+    /// The first of these that holds: `IllegalMove` with a ply, counted from 1, where the moves before
+    /// it are a game from the initial array and its own move is not legal after them; `TooMany` where
+    /// the list holds 4,096 games; `Repeated` where it holds this game; `Memory` where memory is
+    /// refused.
+    pub fn add(&mut self, game: &[Move]) -> Result<(), AddFault>
+        ensures ok { OnOk result (IsAdded self.old game.now self.new) }
+        ensures err { IfErr result (λ e. IsAddFault self.old game.now e) }
+        ensures unchanged { OnErr result (self.new ≡ self.old) }
+    {
+        if let Some(ply) = first_illegal(game) {
+            return Err(AddFault::IllegalMove(ply));
+        }
+        if self.len() >= MOST {
+            return Err(AddFault::TooMany);
+        }
+        let i = match place(&self.games, game) {
+            Ok(_) => return Err(AddFault::Repeated),
+            Err(i) => i,
+        };
+        let copy = match Vec::from_slice(*self.games.allocator(), game) {
+            Ok(copy) => copy,
+            Err(_) => return Err(AddFault::Memory),
+        };
+        match self.put(i, copy) {
+            Ok(()) => Ok(()),
+            Err(_) => Err(AddFault::Memory),
+        }
+    }
+}
