@@ -51,11 +51,12 @@ pub fn acceptance_law()
         → answer (chess d n games cut) array_state a b bytes ≡ Ok x ↔ IsAccepted (chess d n games cut) array_state a b bytes x }
 {}
 
-/// Each fault is the first cause at a front, or bytes behind a certificate that fits.
+/// A fault is answered exactly where it is the first cause at a front, or, for Trailing, where bytes
+/// stand behind a certificate that fits.
 pub fn faults_law()
     ensures { (d : Placement) (n : ℕ) (games : List (List Move)) (cut : Cuts) (a b : ℕ) (bytes : List ℕ) (f : Fault Move)
         → answer (chess d n games cut) array_state a b bytes ≡ Err f
-        → IsStopped (chess d n games cut) array_state a b bytes f ⊎ ((f ≡ Trailing) × HasMore (chess d n games cut) array_state a b bytes) }
+        ↔ (IsStopped (chess d n games cut) array_state a b bytes f ⊎ ((f ≡ Trailing) × HasMore (chess d n games cut) array_state a b bytes)) }
 {}
 
 /// Where there is room for fewer named nodes than allowed, the walk comes to the next of them

@@ -18,9 +18,10 @@ pub fn exact_acceptance<P, M>()
     ensures { (r : Rules P M) → IsExact r → (p : P) (a b : ℕ) (bytes : List ℕ) (x : ℕ × ℕ) → answer r p a b bytes ≡ Ok x ↔ IsAccepted r p a b bytes x }
 {}
 
-/// Each fault is the first cause at a front.
+/// A fault is answered exactly where it is the first cause at a front, or, for Trailing, where bytes
+/// stand behind a certificate that fits.
 pub fn each_fault<P, M>()
-    ensures { (r : Rules P M) → IsExact r → (p : P) (a b : ℕ) (bytes : List ℕ) (f : Fault M) → answer r p a b bytes ≡ Err f → IsStopped r p a b bytes f ⊎ ((f ≡ Trailing) × HasMore r p a b bytes) }
+    ensures { (r : Rules P M) → IsExact r → (p : P) (a b : ℕ) (bytes : List ℕ) (f : Fault M) → answer r p a b bytes ≡ Err f ↔ (IsStopped r p a b bytes f ⊎ ((f ≡ Trailing) × HasMore r p a b bytes)) }
 {}
 
 /// No true answer is without a certificate.
