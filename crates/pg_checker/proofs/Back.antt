@@ -46,7 +46,7 @@ module _ {P M : Type 0} (r : Rules P M) where
       is_record = is;
     }
 
-    ref_fits : (e : Entry P) (o : Option (Entry P)) (k : ℕ) (p : P) (s : State P) → o ≡ Some e → r.is_same e.position p ≡ true → e.plies ≡ k → e.fertile ≡ false → ref_answer r o k p s ≡ Ok (Done, s)
+    pub ref_fits : (e : Entry P) (o : Option (Entry P)) (k : ℕ) (p : P) (s : State P) → o ≡ Some e → r.is_same e.position p ≡ true → e.plies ≡ k → e.fertile ≡ false → ref_answer r o k p s ≡ Ok (Done, s)
     ref_fits e o k p s a b c d =
         let q : nat_eq e.plies k ≡ true = eq-eqb e.plies k c in
         rw (a, b, q, d) refl

@@ -1,5 +1,5 @@
 -- The walk over chess: its games are those of chess, and a yes proves the exact answer.
-use Rattle.std.proofs.Common.{◌≡◌, ℕ, zero, suc, ◌<◌, true, List, [], ◌∷◌, length, Ok, refl, sym, ◌∙◌, ap, subst, inl, inr, ◌⊎◌, arith}
+use Rattle.std.proofs.Common.{◌≡◌, ℕ, zero, suc, ◌<◌, ◌≤◌, true, List, [], ◌∷◌, length, Ok, Err, refl, sym, ◌∙◌, ap, subst, inl, inr, ◌⊎◌, arith}
 use Rattle.std.specs.List.{Contains}
 use Rattle.pg_board.specs.Placement.{Placement, placement_eq_decides}
 use Rattle.pg_position.specs.declared.state.State.{State}
@@ -12,16 +12,16 @@ use Rattle.pg_position.specs.Equality.{state_eq_decides}
 use Rattle.pg_position.proofs.ArrayLemmas.{array_position}
 use Rattle.pg_position.proofs.FutureLemmas.{legal_position}
 use Rattle.pg_moves.specs.Moves.{IsLegal}
-use Rattle.pg_moves.proofs.ListLemmas.{moves_of_is}
+use Rattle.pg_moves.proofs.ListLemmas.{moves_of_is, few_moves}
 use Rattle.pg_moves.proofs.PlayLemmas.{play_of_is}
-use Rattle.pg_checker.specs.Tree.{Rules, Reaches}
+use Rattle.pg_checker.specs.Tree.{Rules, Reaches, TooManyNamed}
 use Rattle.pg_checker.specs.Tree as tree
 use Rattle.pg_checker.specs.Claims.{IsExact, IsRight, IsComplete, IsCertificate}
 use Rattle.pg_checker.specs.Whole.{answer, full_from}
 use Rattle.pg_checker.specs.Answer.{IsSolution, IsExactAnswer, IsSound}
 use Rattle.pg_checker.specs.Equality.{lists_decides}
 use Rattle.pg_checker.specs.Chess.{Cuts, IsSoundCut, IsChess, chess}
-use Rattle.pg_checker.proofs.Reading.{record_spelled, spelled_record, read_ok, read_spelled}
+use Rattle.pg_checker.proofs.Reading.{record_spelled, spelled_record, read_ok, read_spelled, read_few}
 use Rattle.pg_checker.proofs.Whole.{sound, full_certificate}
 
 -- the rules are those of chess
@@ -130,3 +130,17 @@ unfolding chess
 exact_has_certificate d n games cut h =
     let r : Rules State Move = chess d n games cut in
     full_certificate r array_state (complete_list r d n games (chess_is d n games cut) h)
+
+-- no state has more moves than there are pairs of squares and promotions
+pub chess_few : (d : Placement) (n : ℕ) (games : List (List Move)) (cut : Cuts) (p : State) → length ((chess d n games cut).moves p) ≤ 28672
+unfolding chess
+chess_few d n games cut p = few_moves p
+
+pub chess_cut : (d : Placement) (n : ℕ) (games : List (List Move)) (cut : Cuts) → (chess d n games cut).cut ≡ cut
+unfolding chess
+chess_cut d n games cut = refl
+
+-- no refusal to read is one of too many names
+pub chess_plain : (d : Placement) (n : ℕ) (games : List (List Move)) (cut : Cuts) (bytes : List ℕ) → (chess d n games cut).read bytes ≡ Err TooManyNamed → ⊥
+unfolding chess
+chess_plain d n games cut bytes h = read_few bytes h

@@ -39,7 +39,7 @@ module _ {P M : Type 0} (r : Rules P M) where
     room : s.room ≡ (named_all before + front_named front) + state.room
     cause : CauseAt r (n + count r before) place.plies place.game place.position state f
 
-  abbrev start : ℕ → ℕ → List ℕ → State P
+  abbrev pub start : ℕ → ℕ → List ℕ → State P
   start max_records max_named bytes = record { rest = bytes; entries = []; records = max_records; room = max_named }
 
   module _ (exact : IsExact r) where
@@ -63,7 +63,7 @@ module _ {P M : Type 0} (r : Rules P M) where
           room = omega (arith, one.took.room, more.room);
         }
 
-    fits_run : (c n : ℕ) (p : P) (s t : State P) (trees : Trees) → count r trees ≡ c → FitFrom r n p s.entries trees
+    pub fits_run : (c n : ℕ) (p : P) (s t : State P) (trees : Trees) → count r trees ≡ c → FitFrom r n p s.entries trees
         → s.rest ≡ spelling_all r trees ++ t.rest → t.entries ≡ s.entries ++ closed_from r n p trees → s.records ≡ records_all trees + t.records → s.room ≡ named_all trees + t.room → run r c n p s ≡ Ok t
     unfolding run
     fits_run zero n p s t Empty many fits a b x y = ap Ok (same_state s t a (sym (b ∙ append-nil s.entries)) (omega arith) (omega arith))

@@ -1,13 +1,11 @@
-//! Laws of the walk over a spelled tree, each the contract of a function that does nothing.
-ghost use Rattle.std.specs.Prelude.{◌≡◌, ◌⊎◌, ◌↔◌, ℕ, List, Ok, Err, true};
-ghost use Rattle.pg_checker.specs.Tree.{Rules, Fault, Trailing};
-ghost use Rattle.pg_checker.specs.Claims.{IsExact, IsRight, IsComplete};
-ghost use Rattle.std.specs.Prelude.{suc, Bool, ◌∷◌, length, ◌≤◌, ◌<◌};
-ghost use Rattle.pg_checker.specs.Tree.{TooManyNamed};
-ghost use Rattle.pg_checker.specs.Claims.{IsCertificate};
-ghost use Rattle.pg_checker.specs.Walk.{State, visit, ◌>>=◌ as and_then};
-ghost use Rattle.pg_checker.specs.Front.{Halts};
+//! Laws of the walk over a spelled tree, each the contract of a function that does nothing. They
+//! hold of every game, whatever its rules `r` are.
+ghost use Rattle.std.specs.Prelude.{◌≡◌, ◌⊎◌, ◌↔◌, ◌∷◌, ◌++◌, ◌≤◌, ◌<◌, ℕ, suc, Bool, true, List, length, Ok, Err};
+ghost use Rattle.pg_checker.specs.Claims.{IsExact, IsRight, IsComplete, IsCertificate};
 ghost use Rattle.pg_checker.specs.Frames.{Frame, Work, resume, finish, turn, effort};
+ghost use Rattle.pg_checker.specs.Front.{Halts};
+ghost use Rattle.pg_checker.specs.Tree.{Rules, Fault, Trailing, TooManyNamed};
+ghost use Rattle.pg_checker.specs.Walk.{State, Shape, head, visit, ◌>>=◌ as and_then};
 ghost use Rattle.pg_checker.specs.Whole.{IsAtNamed, full_from, answer, IsAccepted, IsStopped, HasMore};
 
 /// A yes proves that the list is complete.
@@ -20,9 +18,10 @@ pub fn exact_acceptance<P, M>()
     ensures { (r : Rules P M) → IsExact r → (p : P) (a b : ℕ) (bytes : List ℕ) (x : ℕ × ℕ) → answer r p a b bytes ≡ Ok x ↔ IsAccepted r p a b bytes x }
 {}
 
-/// Each fault is the first cause at a front.
+/// A fault is answered exactly where it is the first cause at a front, or, for Trailing, where bytes
+/// stand behind a certificate that fits.
 pub fn each_fault<P, M>()
-    ensures { (r : Rules P M) → IsExact r → (p : P) (a b : ℕ) (bytes : List ℕ) (f : Fault M) → answer r p a b bytes ≡ Err f → IsStopped r p a b bytes f ⊎ ((f ≡ Trailing) × HasMore r p a b bytes) }
+    ensures { (r : Rules P M) → IsExact r → (p : P) (a b : ℕ) (bytes : List ℕ) (f : Fault M) → answer r p a b bytes ≡ Err f ↔ (IsStopped r p a b bytes f ⊎ ((f ≡ Trailing) × HasMore r p a b bytes)) }
 {}
 
 /// No true answer is without a certificate.
@@ -44,4 +43,10 @@ pub fn turns<P, M>()
 /// Where memory runs out, a front without a cause stands before a named node.
 pub fn memory<P, M>()
     ensures { (r : Rules P M) → IsExact r → ((bytes : List ℕ) → r.read bytes ≡ Err TooManyNamed → ⊥) → (p : P) (a b fewer : ℕ) (bytes : List ℕ) → fewer < b → answer r p a fewer bytes ≡ Err TooManyNamed → IsAtNamed r p a b bytes }
+{}
+
+/// A record, and a whole tree, are read alike whatever comes after the bytes that they take.
+pub fn only_what_is_taken<P, M>()
+    ensures record_ { (r : Rules P M) → IsExact r → (k : ℕ) (p : P) (s t : State P) (shape : Shape) (bytes rest : List ℕ) → head r k p s ≡ Ok (shape, t) → s.rest ≡ bytes ++ t.rest → head r k p (record s { rest = bytes ++ rest }) ≡ Ok (shape, record t { rest = rest }) }
+    ensures tree { (r : Rules P M) → IsExact r → (n k : ℕ) (g : List M) (p : P) (s t : State P) (found : Bool) (bytes rest : List ℕ) → visit r n k g p s ≡ Ok (found, t) → s.rest ≡ bytes ++ t.rest → visit r n k g p (record s { rest = bytes ++ rest }) ≡ Ok (found, record t { rest = rest }) }
 {}

@@ -1,8 +1,13 @@
-//! The checker of certificates.
+//! The checker of certificates: what a certificate proves, and the walk that reads one.
 #![tactic(auto)]
 
+mod chess_laws;
 mod laws;
 
+pub use chess_laws::{
+    acceptance_law, always_law, chess_law, faults_law, headline_law, memory_law, reading_law,
+};
 pub use laws::{
-    always_a_certificate, each_fault, exact_acceptance, fronts_fail, headline, memory, turns,
+    always_a_certificate, each_fault, exact_acceptance, fronts_fail, headline, memory,
+    only_what_is_taken, turns,
 };

@@ -1,0 +1,67 @@
+//! Laws of the walk over chess, each the contract of a function that does nothing. Lengths are in
+//! plies.
+ghost use Rattle.std.specs.Prelude.{◌≡◌, ◌⊎◌, ◌↔◌, ◌++◌, ◌≤◌, ◌<◌, ℕ, suc, List, length, Ok, Err};
+ghost use Rattle.pg_board.specs.Placement.{Placement};
+ghost use Rattle.pg_position.specs.declared.state.State.{State};
+ghost use Rattle.pg_position.specs.declared.moves.Move.{Move};
+ghost use Rattle.pg_position.specs.Array.{array_state};
+ghost use Rattle.pg_certificate.specs.declared.fault.ReadFault.{ReadFault};
+ghost use Rattle.pg_certificate.specs.declared.record.Record.{Record};
+ghost use Rattle.pg_certificate.specs.Laws.{AreBytes};
+ghost use Rattle.pg_certificate.specs.Reading.{record_at};
+ghost use Rattle.pg_certificate.specs.Spelling.{spelling, IsRecord};
+ghost use Rattle.pg_checker.specs.Answer.{IsExactAnswer, IsSound};
+ghost use Rattle.pg_checker.specs.Chess.{Cuts, IsSoundCut, IsChess, chess, fault_of, renamed, read};
+ghost use Rattle.pg_checker.specs.Claims.{IsExact, IsCertificate};
+ghost use Rattle.pg_checker.specs.Tree.{Fault, Trailing, TooManyNamed};
+ghost use Rattle.pg_checker.specs.Whole.{IsAtNamed, full_from, answer, IsAccepted, IsStopped, HasMore};
+
+/// The rules by which the walk goes are those of chess, their records are those of certificates, and
+/// no state has more than 28,672 moves.
+pub fn chess_law()
+    ensures rules { (d : Placement) (n : ℕ) (games : List (List Move)) (cut : Cuts) → IsChess (chess d n games cut) d n games }
+    ensures cuts { (d : Placement) (n : ℕ) (games : List (List Move)) (cut : Cuts) → (chess d n games cut).cut ≡ cut }
+    ensures records { (d : Placement) (n : ℕ) (games : List (List Move)) (cut : Cuts) → IsExact (chess d n games cut) }
+    ensures few { (d : Placement) (n : ℕ) (games : List (List Move)) (cut : Cuts) (p : State) → length ((chess d n games cut).moves p) ≤ 28672 }
+{}
+
+/// The walk reads records as they are read from bytes.
+pub fn reading_law()
+    ensures bytes { (bytes : List ℕ) → AreBytes bytes → read bytes ≡ renamed (record_at bytes) }
+    ensures spelled { (x : Record) (rest : List ℕ) → IsRecord x → read (spelling x ++ rest) ≡ Ok (x, rest) }
+    ensures refusals { (bytes : List ℕ) (e : ReadFault) → record_at bytes ≡ Err e → read bytes ≡ Err (fault_of e) }
+{}
+
+/// A yes to a sound list proves the exact answer.
+pub fn headline_law()
+    ensures { (d : Placement) (n : ℕ) (games : List (List Move)) (cut : Cuts) → IsSoundCut d cut
+        → (a b : ℕ) (bytes : List ℕ) (x : ℕ × ℕ) → answer (chess d n games cut) array_state a b bytes ≡ Ok x
+        → IsSound d n games → IsExactAnswer d n games }
+{}
+
+/// No exact answer is without a certificate: that which expands every node with a ply left fits.
+pub fn always_law()
+    ensures { (d : Placement) (n : ℕ) (games : List (List Move)) (cut : Cuts) → IsExactAnswer d n games
+        → IsCertificate (chess d n games cut) array_state (full_from (chess d n games cut) (suc n) 0 array_state) }
+{}
+
+/// A yes is given exactly to the whole spelling of a certificate that fits, within the limits.
+pub fn acceptance_law()
+    ensures { (d : Placement) (n : ℕ) (games : List (List Move)) (cut : Cuts) (a b : ℕ) (bytes : List ℕ) (x : ℕ × ℕ)
+        → answer (chess d n games cut) array_state a b bytes ≡ Ok x ↔ IsAccepted (chess d n games cut) array_state a b bytes x }
+{}
+
+/// A fault is answered exactly where it is the first cause at a front, or, for Trailing, where bytes
+/// stand behind a certificate that fits.
+pub fn faults_law()
+    ensures { (d : Placement) (n : ℕ) (games : List (List Move)) (cut : Cuts) (a b : ℕ) (bytes : List ℕ) (f : Fault Move)
+        → answer (chess d n games cut) array_state a b bytes ≡ Err f
+        ↔ (IsStopped (chess d n games cut) array_state a b bytes f ⊎ ((f ≡ Trailing) × HasMore (chess d n games cut) array_state a b bytes)) }
+{}
+
+/// Where there is room for fewer named nodes than allowed, the walk comes to the next of them
+/// without a cause to stop.
+pub fn memory_law()
+    ensures { (d : Placement) (n : ℕ) (games : List (List Move)) (cut : Cuts) (a b fewer : ℕ) (bytes : List ℕ) → fewer < b
+        → answer (chess d n games cut) array_state a fewer bytes ≡ Err TooManyNamed → IsAtNamed (chess d n games cut) array_state a b bytes }
+{}
