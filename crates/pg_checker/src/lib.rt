@@ -3,6 +3,10 @@
 
 mod chess_laws;
 mod laws;
+mod machine;
+mod node;
+mod stop;
+mod table;
 
 pub use chess_laws::{
     acceptance_law, always_law, chess_law, faults_law, headline_law, memory_law, reading_law,

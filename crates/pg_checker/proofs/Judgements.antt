@@ -1,0 +1,79 @@
+-- What judging one record says. Leads to the contract of `judge`.
+use Rattle.std.proofs.Common.{◌≡◌, ℕ, ◌+◌, ◌<◌, ◌⊎◌, inl, inr, List, [], true, false, Option, Some, None, map, slice_get, Result, Ok, Err, refl, sym, ◌∙◌, ap, subst, arith}
+use Rattle.pg_board.specs.Placement.{Placement}
+use Rattle.pg_position.specs.declared.state.State.{State}
+use Rattle.pg_position.specs.declared.moves.Move.{Move}
+use Rattle.pg_certificate.specs.declared.record.Record.TheVariants.{Expand, Cut, Ref}
+use Rattle.pg_checker.specs.Tree as tree
+use Rattle.pg_checker.specs.Walk as walk
+use Rattle.pg_checker.specs.Walk.{judge, cut_answer, ref_answer, take_room}
+use Rattle.pg_checker.specs.Chess.{Cuts, chess}
+use Rattle.pg_checker.specs.Judging.{Judgement, Ends, Judges, ended_of, refer_answer}
+use Rattle.pg_checker.specs.Machine.{entry_of, entries_of, state_at}
+use Rattle.pg_checker.specs.Steps.{Stops, cause_of}
+use Rattle.pg_checker.specs.declared.machine.Machine.{Machine}
+use Rattle.pg_checker.specs.declared.machine.Node.{Node}
+use Rattle.pg_checker.specs.declared.machine.Node.TheVariants as node
+use Rattle.pg_checker.specs.declared.stop.Cause.{Cause}
+use Rattle.pg_checker.specs.declared.stop.Cause.TheVariants as cause
+use Rattle.pg_checker.specs.declared.stop.Stop.{Stop}
+use Rattle.pg_checker.specs.declared.stop.Stop.TheVariants as stop
+use Rattle.pg_checker.proofs.Goings.{stays, consumes_none}
+
+-- a node that ends at once, where the walk says so of each state with the machine's entries
+ends : (m : Machine) (judged : Judgement) (res : Result (Unit {0}) Cause) → ((rest : List ℕ) (n : ℕ) → EndsAs res (judged (state_at m rest n)) (state_at m rest n)) → Judges m m judged (ended_of res)
+unfolding Stops
+ends m judged (Ok u) h known = stays known m.room _ _ h
+ends m judged (Err c) h None = tt
+ends m judged (Err c) h (Some bytes) = h bytes m.room
+
+said : (m : Machine) (judged : Judgement) (res : Result (Unit {0}) Cause) (result : Result Node Stop) → result ≡ ended_of res → Judges m m judged (ended_of res) → Judges m m judged result
+said m judged res result e h = subst (λ (v : Result Node Stop). Judges m m judged v) (sym e) h
+
+module _ (d : Placement) (l : ℕ) (games : List (List Move)) (cut : Cuts) (k : ℕ) (p : State) where
+  pub cut_judged : (m : Machine) (code : ℕ) (res : Result (Unit {0}) Cause) (result : Result Node Stop) → result ≡ ended_of res → Ends res (cut_answer (cut code p k) code) → Judges m m (judge (chess d l games cut) k p (Cut code)) result
+  unfolding chess
+  cut_judged m code res result e h = said m (judge (chess d l games cut) k p (Cut code)) res result e (ends m (judge (chess d l games cut) k p (Cut code)) res (λ rest n. h (state_at m rest n)))
+
+  refers : (o : Option (tree.Entry State)) (s : walk.State State) → ref_answer (chess d l games cut) o k p s ≡ refer_answer o k p s
+  unfolding chess
+  refers None s = refl
+  refers (Some e) s = refl
+
+  pub ref_judged : (m : Machine) (number : ℕ) (res : Result (Unit {0}) Cause) (result : Result Node Stop) → result ≡ ended_of res → Ends res (refer_answer (slice_get (map entry_of m.table.entries) number) k p) → Judges m m (judge (chess d l games cut) k p (Ref number)) result
+  ref_judged m number res result e h =
+      said m (judge (chess d l games cut) k p (Ref number)) res result e
+      (ends m (judge (chess d l games cut) k p (Ref number)) res (λ rest n. subst (λ (v : Result (walk.Shape × walk.State State) (tree.Fault Move)). EndsAs res v (state_at m rest n)) (sym (refers (slice_get (map entry_of m.table.entries) number) (state_at m rest n))) (h (state_at m rest n))))
+
+  -- an expanded node
+  pub opened_judged : (m : Machine) → Judges m m (judge (chess d l games cut) k p (Expand false)) (Ok (node.Opened false))
+  opened_judged m known = stays known m.room _ _ (λ rest n. refl)
+
+  -- a named one takes room
+  pub named_judged : (old new : Machine) → new.room + 1 ≡ old.room → new.table.entries ≡ old.table.entries → new.records ≡ old.records → Judges old new (judge (chess d l games cut) k p (Expand true)) (Ok (node.Opened true))
+  named_judged old new room entries records known = record {
+    taken = [];
+    used = 1;
+    consumes = consumes_none known;
+    spends = omega arith;
+    same = λ rest n. ap (λ (s : walk.State State). Ok (walk.Opened true, s)) (states old new rest n entries records);
+  }
+    where
+      states : (old new : Machine) (rest : List ℕ) (n : ℕ) → new.table.entries ≡ old.table.entries → new.records ≡ old.records → record (state_at old rest (1 + n)) { room = n } ≡ state_at new rest n
+      states old new rest n entries records = λ i. record { rest = rest; entries = map entry_of (sym entries i); records = sym records i; room = n }
+
+  pub full_judged : (old : Machine) (s : Stop) → ((s ≡ stop.Because cause.TooManyNamed) × (old.room ≡ 0)) ⊎ ((s ≡ stop.Memory) × (0 < old.room)) → (new : Machine) → Judges old new (judge (chess d l games cut) k p (Expand true)) (Err s)
+  full_judged old s h new known = elim h [ inl w ↦ subst (Stops known old.room walks) (sym w.0) (full known w.1) | inr w ↦ subst (Stops known old.room walks) (sym w.0) (refused known w.1) ]
+    where
+      walks : List ℕ → ℕ → Result (walk.Shape × walk.State State) (tree.Fault Move)
+      walks bytes n = judge (chess d l games cut) k p (Expand true) (state_at old bytes n)
+
+      full : (known : Option (List ℕ)) → old.room ≡ 0 → Stops known old.room walks (stop.Because cause.TooManyNamed)
+      unfolding Stops
+      full None e = tt
+      full (Some bytes) e = ap (λ (n : ℕ). walks bytes n) e
+
+      refused : (known : Option (List ℕ)) → 0 < old.room → Stops known old.room walks stop.Memory
+      unfolding Stops
+      refused None low = tt
+      refused (Some bytes) low = (0, low, refl)

@@ -1,0 +1,53 @@
+-- What judging a record says, by code, against the walk.
+use Rattle.std.specs.Prelude.{◌≡◌, ℕ, List, Option, Some, None, ◌&&◌, nat_eq, Result, Ok, Err}
+use Rattle.pg_position.specs.declared.state.State.{State}
+use Rattle.pg_position.specs.declared.moves.Move.{Move}
+use Rattle.pg_position.specs.Equality.{state_eq}
+use Rattle.pg_certificate.specs.declared.fault.ReadFault.{ReadFault}
+use Rattle.pg_certificate.specs.declared.fault.ReadFault.TheVariants as reading
+use Rattle.pg_checker.specs.Tree as tree
+use Rattle.pg_checker.specs.Walk as walk
+use Rattle.pg_checker.specs.Machine.{state_at, shape_of}
+use Rattle.pg_checker.specs.Steps.{cause_of, Says}
+use Rattle.pg_checker.specs.declared.machine.Machine.{Machine}
+use Rattle.pg_checker.specs.declared.machine.Node.{Node}
+use Rattle.pg_checker.specs.declared.machine.Node.TheVariants as node
+use Rattle.pg_checker.specs.declared.stop.Cause.{Cause}
+use Rattle.pg_checker.specs.declared.stop.Cause.TheVariants as cause
+use Rattle.pg_checker.specs.declared.stop.Stop.{Stop}
+use Rattle.pg_checker.specs.declared.stop.Stop.TheVariants as stop
+
+-- a refusal to read a record as a stop
+abbrev pub stop_of : ReadFault → Stop
+stop_of (reading.UnknownRecord b) = stop.Because (cause.UnknownRecord b)
+stop_of reading.Truncated = stop.Because cause.Truncated
+stop_of reading.Magic = stop.Because cause.Truncated
+stop_of reading.Trailing = stop.Because cause.Truncated
+stop_of reading.Read = stop.Read
+stop_of reading.Failed = stop.Read
+
+-- a walk from a state to a shape and a state
+abbrev pub Judgement : Type 0
+Judgement = walk.State State → Result (walk.Shape × walk.State State) (tree.Fault Move)
+
+-- a node that ends at once and leaves the state, or a cause, in each state
+abbrev pub EndsAs : Result (Unit {0}) Cause → Result (walk.Shape × walk.State State) (tree.Fault Move) → walk.State State → Type 0
+EndsAs (Ok u) answer s = answer ≡ Ok (walk.Done, s)
+EndsAs (Err c) answer s = answer ≡ Err (cause_of c)
+
+abbrev pub Ends : Result (Unit {0}) Cause → Judgement → Type 0
+Ends result judged = (s : walk.State State) → EndsAs result (judged s) s
+
+-- the same as what a node says
+abbrev pub ended_of : Result (Unit {0}) Cause → Result Node Stop
+ended_of (Ok u) = Ok node.Done
+ended_of (Err c) = Err (stop.Because c)
+
+-- what a reference to an entry says, where equal positions are the same
+abbrev pub refer_answer : Option (tree.Entry State) → ℕ → State → Judgement
+refer_answer None k p s = Err tree.RefUnknown
+refer_answer (Some e) k p s = walk.differs_or (state_eq e.position p && nat_eq e.plies k) e.fertile s
+
+-- the code judged as the walk judges, whatever bytes are to come
+abbrev pub Judges : Machine → Machine → Judgement → Result Node Stop → Type 0
+Judges old new judged result = (known : Option (List ℕ)) → Says known known old.room new.room (λ bytes n. judged (state_at old bytes n)) (λ node rest n. (shape_of node, state_at new rest n)) result

@@ -1,0 +1,80 @@
+-- What the values of the machine stand for: the frames of the walk, its entries and its state.
+use Rattle.std.specs.Prelude.{◌≡◌, ℕ, zero, suc, ◌+◌, ◌≤◌, Bool, true, false, List, [], ◌∷◌, ◌++◌, length, take, map, filter, reverse, Option, Some, None}
+use Rattle.std.specs.declared.cmp.Ordering.{Ordering}
+use Rattle.std.specs.declared.cmp.Ordering.TheVariants.{Less, Equal, Greater}
+use Rattle.pg_position.specs.declared.state.State.{State}
+use Rattle.pg_position.specs.declared.moves.Move.{Move}
+use Rattle.pg_moves.specs.Moves.{move_cmp}
+use Rattle.pg_moves.proofs.ListLemmas.{moves_of}
+use Rattle.pg_checker.specs.Tree as tree
+use Rattle.pg_checker.specs.Tree.{one_if}
+use Rattle.pg_checker.specs.Walk as walk
+use Rattle.pg_checker.specs.Frames as frames
+use Rattle.pg_checker.specs.declared.table.Entry.{Entry}
+use Rattle.pg_checker.specs.declared.machine.Frame.{Frame}
+use Rattle.pg_checker.specs.declared.machine.Machine.{Machine}
+use Rattle.pg_checker.specs.declared.machine.Node.{Node}
+use Rattle.pg_checker.specs.declared.machine.Node.TheVariants as node
+
+-- ---- moves that are left
+abbrev pub is_less : Ordering → Bool
+is_less Less = true
+is_less Equal = false
+is_less Greater = false
+
+-- the legal moves after the last one that was played, all of them where none was
+unfoldable pub left_after : State → Option Move → List Move
+left_after p None = moves_of p
+left_after p (Some m) = filter (λ n. is_less (move_cmp m n)) (moves_of p)
+
+-- ---- frames, the topmost first
+-- the move that was played last at a node
+abbrev pub played : Option Move → List Move
+played None = []
+played (Some m) = m ∷ []
+
+-- the game that leads to the node below the topmost frame
+unfoldable pub path : List Frame → List Move
+path [] = []
+path (f ∷ fs) = path fs ++ played f.last
+
+abbrev pub frame_of : Frame → List Frame → frames.Frame State Move
+frame_of f fs = record { game = path fs; position = f.position; plies = f.plies; left = left_after f.position f.last; named = f.named; found = f.found }
+
+unfoldable pub frames_of : List Frame → List (frames.Frame State Move)
+frames_of [] = []
+frames_of (f ∷ fs) = frame_of f fs ∷ frames_of fs
+
+-- how many of them are named
+unfoldable pub count_named : List Frame → ℕ
+count_named [] = 0
+count_named (f ∷ fs) = one_if f.named + count_named fs
+
+-- ---- entries
+abbrev pub entry_of : Entry → tree.Entry State
+entry_of e = record { position = e.position; plies = e.plies; fertile = e.fertile }
+
+abbrev pub entries_of : Machine → List (tree.Entry State)
+entries_of m = map entry_of m.table.entries
+
+-- ---- the state of the walk, with bytes to come and room for named nodes
+abbrev pub state_at : Machine → List ℕ → ℕ → walk.State State
+state_at m rest room = record { rest = rest; entries = entries_of m; records = m.records; room = room }
+
+abbrev pub shape_of : Node → walk.Shape
+shape_of node.Done = walk.Done
+shape_of (node.Opened is_named) = walk.Opened is_named
+
+abbrev pub work_at : (r : tree.Rules State Move) → Machine → List ℕ → ℕ → frames.Work r
+work_at r m rest room = record { frames = frames_of (reverse m.frames.items); found = m.found; state = state_at m rest room }
+
+-- how many named nodes a record opens
+abbrev pub opened : Node → ℕ
+opened node.Done = 0
+opened (node.Opened is_named) = one_if is_named
+
+-- ---- what holds between the calls: no read has failed, and a place is kept for each named node that is open
+pub record IsReady (m : Machine) (pending : ℕ) : Type 0 where
+  pub runs : m.reader.failed ≡ false
+  pub held : length m.reader.held ≤ 4096
+  pub kept : m.table.kept ≡ pending + count_named (reverse m.frames.items)
