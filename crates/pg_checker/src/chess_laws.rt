@@ -10,10 +10,10 @@ ghost use Rattle.pg_certificate.specs.declared.record.Record.{Record};
 ghost use Rattle.pg_certificate.specs.Laws.{AreBytes};
 ghost use Rattle.pg_certificate.specs.Reading.{record_at};
 ghost use Rattle.pg_certificate.specs.Spelling.{spelling, IsRecord};
-ghost use Rattle.pg_checker.specs.Answer.{IsExactAnswer, IsSound};
+ghost use Rattle.pg_checker.specs.Answer.{IsExactAnswer, AreSolutions};
 ghost use Rattle.pg_checker.specs.Chess.{Cuts, IsSoundCut, IsChess, chess, fault_of, renamed, read};
 ghost use Rattle.pg_checker.specs.Claims.{IsExact, IsCertificate};
-ghost use Rattle.pg_checker.specs.Tree.{Fault, Trailing, TooManyNamed};
+ghost use Rattle.pg_checker.specs.Tree.{Rules, Trees, Fault, Trailing, TooManyNamed, spelling_all, records_all};
 ghost use Rattle.pg_checker.specs.Whole.{IsAtNamed, full_from, answer, IsAccepted, IsStopped, HasMore};
 
 /// The rules by which the walk goes are those of chess, their records are those of certificates, and
@@ -36,13 +36,17 @@ pub fn reading_law()
 pub fn headline_law()
     ensures { (d : Placement) (n : ℕ) (games : List (List Move)) (cut : Cuts) → IsSoundCut d cut
         → (a b : ℕ) (bytes : List ℕ) (x : ℕ × ℕ) → answer (chess d n games cut) array_state a b bytes ≡ Ok x
-        → IsSound d n games → IsExactAnswer d n games }
+        → AreSolutions d n games → IsExactAnswer d n games }
 {}
 
-/// No exact answer is without a certificate: that which expands every node with a ply left fits.
+/// No exact answer is without a certificate: that which expands every node with a ply left fits, and
+/// its bytes are answered by a yes, whatever the limit of named nodes.
 pub fn always_law()
-    ensures { (d : Placement) (n : ℕ) (games : List (List Move)) (cut : Cuts) → IsExactAnswer d n games
+    ensures fits { (d : Placement) (n : ℕ) (games : List (List Move)) (cut : Cuts) → IsExactAnswer d n games
         → IsCertificate (chess d n games cut) array_state (full_from (chess d n games cut) (suc n) 0 array_state) }
+    ensures accepted { (d : Placement) (n : ℕ) (games : List (List Move)) (cut : Cuts) → IsExactAnswer d n games
+        → let r : Rules State Move = chess d n games cut in let trees : Trees = full_from r (suc n) 0 array_state in
+        (a b : ℕ) → records_all trees ≤ a → answer r array_state a b (spelling_all r trees) ≡ Ok (records_all trees, 0) }
 {}
 
 /// A yes is given exactly to the whole spelling of a certificate that fits, within the limits.
