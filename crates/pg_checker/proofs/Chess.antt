@@ -20,7 +20,7 @@ use Rattle.pg_checker.specs.Claims.{IsExact, IsRight, IsComplete, IsCertificate}
 use Rattle.pg_checker.specs.Whole.{answer, full_from}
 use Rattle.pg_checker.specs.Answer.{IsSolution, IsExactAnswer, AreSolutions}
 use Rattle.pg_checker.specs.Equality.{lists_decides}
-use Rattle.pg_checker.specs.Chess.{Cuts, IsSoundCut, IsChess, chess}
+use Rattle.pg_checker.specs.Chess.{Cuts, IsSoundCut, IsChess, read, chess}
 use Rattle.pg_checker.proofs.Reading.{record_spelled, spelled_record, read_ok, read_spelled, read_few}
 use Rattle.pg_checker.proofs.Full.{full_accepted}
 use Rattle.pg_checker.proofs.Whole.{sound, full_certificate}
@@ -149,6 +149,10 @@ chess_few d n games cut p = few_moves p
 pub chess_cut : (d : Placement) (n : ℕ) (games : List (List Move)) (cut : Cuts) → (chess d n games cut).cut ≡ cut
 unfolding chess
 chess_cut d n games cut = refl
+
+pub chess_read : (d : Placement) (n : ℕ) (games : List (List Move)) (cut : Cuts) → (chess d n games cut).read ≡ read
+unfolding chess
+chess_read d n games cut = refl
 
 -- no refusal to read is one of too many names
 pub chess_plain : (d : Placement) (n : ℕ) (games : List (List Move)) (cut : Cuts) (bytes : List ℕ) → (chess d n games cut).read bytes ≡ Err TooManyNamed → ⊥
