@@ -1,6 +1,6 @@
 //! Laws of the walk over chess, each the contract of a function that does nothing. Lengths are in
 //! plies.
-ghost use Rattle.std.specs.Prelude.{◌≡◌, ◌⊎◌, ◌↔◌, ◌∷◌, ◌++◌, ◌≤◌, ◌<◌, ℕ, suc, List, [], Option, Some, None, length, Ok, Err};
+ghost use Rattle.std.specs.Prelude.{◌≡◌, ◌≢◌, ◌⊎◌, ◌↔◌, ◌∷◌, ◌++◌, ◌≤◌, ◌<◌, ℕ, suc, List, [], Option, Some, None, length, Ok, Err};
 ghost use Rattle.pg_board.specs.Placement.{Placement};
 ghost use Rattle.pg_position.specs.declared.state.State.{State};
 ghost use Rattle.pg_position.specs.declared.moves.Move.{Move};
@@ -8,14 +8,14 @@ ghost use Rattle.pg_position.specs.Array.{array_state};
 ghost use Rattle.pg_moves.specs.Moves.{IsNext, IsLast};
 ghost use Rattle.pg_certificate.specs.declared.fault.ReadFault.{ReadFault};
 ghost use Rattle.pg_certificate.specs.declared.record.Record.{Record};
-ghost use Rattle.pg_certificate.specs.Laws.{AreBytes};
+ghost use Rattle.pg_certificate.specs.Laws.{AreBytes, IsCutShort};
 ghost use Rattle.pg_certificate.specs.Reading.{record_at};
 ghost use Rattle.pg_certificate.specs.Spelling.{spelling, IsRecord};
 ghost use Rattle.pg_checker.specs.Answer.{IsExactAnswer, AreSolutions};
 ghost use Rattle.pg_checker.specs.Chess.{Cuts, IsSoundCut, IsChess, chess, fault_of, renamed, read};
 ghost use Rattle.pg_checker.specs.Claims.{IsExact, IsCertificate};
 ghost use Rattle.pg_checker.specs.Left.{left_after};
-ghost use Rattle.pg_checker.specs.Tree.{Rules, Trees, Fault, Trailing, TooManyNamed, spelling_all, records_all};
+ghost use Rattle.pg_checker.specs.Tree.{Rules, Trees, Fault, Truncated, UnknownRecord, Trailing, TooManyNamed, spelling_all, records_all};
 ghost use Rattle.pg_checker.specs.Whole.{IsAtNamed, full_from, answer, IsAccepted, IsStopped, HasMore};
 
 /// The rules by which the walk goes are those of chess, with the bounds handed in and the records of
@@ -28,10 +28,13 @@ pub fn chess_law()
     ensures few { (d : Placement) (n : ℕ) (games : List (List Move)) (cut : Cuts) (p : State) → length ((chess d n games cut).moves p) ≤ 28672 }
 {}
 
-/// The walk reads records as they are read from bytes.
+/// The walk reads records as they are read from bytes: Truncated stands where the bytes are less than
+/// a whole record, and UnknownRecord where no record begins with the first of them.
 pub fn reading_law()
     ensures bytes { (bytes : List ℕ) → AreBytes bytes → read bytes ≡ renamed (record_at bytes) }
     ensures spelled { (x : Record) (rest : List ℕ) → IsRecord x → read (spelling x ++ rest) ≡ Ok (x, rest) }
+    ensures truncated { (bytes : List ℕ) → AreBytes bytes → read bytes ≡ Err Truncated ↔ IsCutShort bytes }
+    ensures unknown { (b : ℕ) (rest : List ℕ) → read (b ∷ rest) ≡ Err (UnknownRecord b) ↔ ((x : Record) (more : List ℕ) → spelling x ≢ b ∷ more) }
     ensures refusals { (bytes : List ℕ) (e : ReadFault) → record_at bytes ≡ Err e → read bytes ≡ Err (fault_of e) }
 {}
 
