@@ -14,14 +14,15 @@ use Rattle.pg_position.proofs.FutureLemmas.{legal_position}
 use Rattle.pg_moves.specs.Moves.{IsLegal}
 use Rattle.pg_moves.proofs.ListLemmas.{moves_of_is, few_moves}
 use Rattle.pg_moves.proofs.PlayLemmas.{play_of_is}
-use Rattle.pg_checker.specs.Tree.{Rules, Reaches, TooManyNamed}
+use Rattle.pg_checker.specs.Tree.{Rules, Trees, Reaches, TooManyNamed, spelling_all, records_all}
 use Rattle.pg_checker.specs.Tree as tree
 use Rattle.pg_checker.specs.Claims.{IsExact, IsRight, IsComplete, IsCertificate}
 use Rattle.pg_checker.specs.Whole.{answer, full_from}
-use Rattle.pg_checker.specs.Answer.{IsSolution, IsExactAnswer, IsSound}
+use Rattle.pg_checker.specs.Answer.{IsSolution, IsExactAnswer, AreSolutions}
 use Rattle.pg_checker.specs.Equality.{lists_decides}
-use Rattle.pg_checker.specs.Chess.{Cuts, IsSoundCut, IsChess, chess}
+use Rattle.pg_checker.specs.Chess.{Cuts, IsSoundCut, IsChess, read, chess}
 use Rattle.pg_checker.proofs.Reading.{record_spelled, spelled_record, read_ok, read_spelled, read_few}
+use Rattle.pg_checker.proofs.Full.{full_accepted}
 use Rattle.pg_checker.proofs.Whole.{sound, full_certificate}
 
 -- the rules are those of chess
@@ -92,7 +93,7 @@ module _ (r : Rules State Move) (d : Placement) (n : ℕ) (games : List (List Mo
   }
 
   -- a complete list of solutions is the exact answer
-  exact_answer : IsComplete r array_state → IsSound d n games → IsExactAnswer d n games
+  exact_answer : IsComplete r array_state → AreSolutions d n games → IsExactAnswer d n games
   unfolding Ends
   exact_answer all good = record {
     once = good.once;
@@ -116,7 +117,7 @@ module _ (r : Rules State Move) (d : Placement) (n : ℕ) (games : List (List Mo
 
 -- a yes proves the exact answer
 pub yes_is_exact : (d : Placement) (n : ℕ) (games : List (List Move)) (cut : Cuts) → IsSoundCut d cut → (a b : ℕ) (bytes : List ℕ) (x : ℕ × ℕ)
-    → answer (chess d n games cut) array_state a b bytes ≡ Ok x → IsSound d n games → IsExactAnswer d n games
+    → answer (chess d n games cut) array_state a b bytes ≡ Ok x → AreSolutions d n games → IsExactAnswer d n games
 unfolding chess
 yes_is_exact d n games cut cuts a b bytes x h good =
     let r : Rules State Move = chess d n games cut in
@@ -131,6 +132,15 @@ exact_has_certificate d n games cut h =
     let r : Rules State Move = chess d n games cut in
     full_certificate r array_state (complete_list r d n games (chess_is d n games cut) h)
 
+-- and its bytes are answered by a yes
+pub exact_is_accepted : (d : Placement) (n : ℕ) (games : List (List Move)) (cut : Cuts) → IsExactAnswer d n games
+    → let r : Rules State Move = chess d n games cut in let trees : Trees = full_from r (suc n) 0 array_state in
+    (a b : ℕ) → records_all trees ≤ a → answer r array_state a b (spelling_all r trees) ≡ Ok (records_all trees, 0)
+unfolding chess
+exact_is_accepted d n games cut h a b few =
+    let r : Rules State Move = chess d n games cut in
+    full_accepted r (chess_exact d n games cut) array_state (complete_list r d n games (chess_is d n games cut) h) a b few
+
 -- no state has more moves than there are pairs of squares and promotions
 pub chess_few : (d : Placement) (n : ℕ) (games : List (List Move)) (cut : Cuts) (p : State) → length ((chess d n games cut).moves p) ≤ 28672
 unfolding chess
@@ -139,6 +149,10 @@ chess_few d n games cut p = few_moves p
 pub chess_cut : (d : Placement) (n : ℕ) (games : List (List Move)) (cut : Cuts) → (chess d n games cut).cut ≡ cut
 unfolding chess
 chess_cut d n games cut = refl
+
+pub chess_read : (d : Placement) (n : ℕ) (games : List (List Move)) (cut : Cuts) → (chess d n games cut).read ≡ read
+unfolding chess
+chess_read d n games cut = refl
 
 -- no refusal to read is one of too many names
 pub chess_plain : (d : Placement) (n : ℕ) (games : List (List Move)) (cut : Cuts) (bytes : List ℕ) → (chess d n games cut).read bytes ≡ Err TooManyNamed → ⊥

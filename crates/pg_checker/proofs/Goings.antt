@@ -15,9 +15,9 @@ consumes_none (Some xs) = refl
 
 pub consumes_then : (a b c : Option (List ℕ)) (xs ys : List ℕ) → Consumes a b xs → Consumes b c ys → Consumes a c (xs ++ ys)
 consumes_then None b c xs ys h k = tt
-consumes_then (Some as) None c xs ys h k = absurd h
-consumes_then (Some as) (Some bs) None xs ys h k = absurd k
-consumes_then (Some as) (Some bs) (Some cs) xs ys h k = h ∙ (ap (λ (v : List ℕ). xs ++ v) k ∙ sym (append_assoc xs ys cs))
+consumes_then (Some xs0) None c xs ys h k = absurd h
+consumes_then (Some xs0) (Some ys0) None xs ys h k = absurd k
+consumes_then (Some xs0) (Some ys0) (Some zs0) xs ys h k = h ∙ (ap (λ (v : List ℕ). xs ++ v) k ∙ sym (append_assoc xs ys zs0))
 
 module _ {A B : Type 0} where
   -- nothing is taken
@@ -65,12 +65,12 @@ module _ {A B : Type 0} where
   stops_on None b room left first second stop.Memory g h = tt
   stops_on None b room left first second stop.Read g h = tt
   stops_on None b room left first second (stop.Because c) g h = tt
-  stops_on (Some as) None room left first second s g h = absurd (g.consumes)
-  stops_on (Some as) (Some bs) room left first second stop.Read g h = tt
-  stops_on (Some as) (Some bs) room left first second stop.Memory g h =
-      (let x : room ≡ g.used + left = g.spends in let y : h.0 < left = h.1 in (g.used + h.0, (omega arith), ap (λ (v : List ℕ). first v (g.used + h.0)) g.consumes ∙ g.same bs h.0 ∙ h.2))
-  stops_on (Some as) (Some bs) room left first second (stop.Because c) g h =
-      ap (λ (v : List ℕ). first v room) g.consumes ∙ ap (λ (m : ℕ). first (g.taken ++ bs) m) g.spends ∙ g.same bs left ∙ h
+  stops_on (Some xs0) None room left first second s g h = absurd (g.consumes)
+  stops_on (Some xs0) (Some ys0) room left first second stop.Read g h = tt
+  stops_on (Some xs0) (Some ys0) room left first second stop.Memory g h =
+      (let x : room ≡ g.used + left = g.spends in let y : h.0 < left = h.1 in (g.used + h.0, (omega arith), ap (λ (v : List ℕ). first v (g.used + h.0)) g.consumes ∙ g.same ys0 h.0 ∙ h.2))
+  stops_on (Some xs0) (Some ys0) room left first second (stop.Because c) g h =
+      ap (λ (v : List ℕ). first v room) g.consumes ∙ ap (λ (m : ℕ). first (g.taken ++ ys0) m) g.spends ∙ g.same ys0 left ∙ h
 
   -- a stop of the first piece
   pub stops_then : (a : Option (List ℕ)) (room : ℕ) (first : Answer A) (f : A → Result B (tree.Fault Move)) (s : Stop) → Stops a room first s → Stops a room (λ rest n. first rest n >>= f) s
@@ -78,9 +78,9 @@ module _ {A B : Type 0} where
   stops_then None room first f stop.Memory h = tt
   stops_then None room first f stop.Read h = tt
   stops_then None room first f (stop.Because c) h = tt
-  stops_then (Some as) room first f stop.Read h = tt
-  stops_then (Some as) room first f stop.Memory h = (h.0, h.1, ap (λ (v : Result A (tree.Fault Move)). v >>= f) h.2)
-  stops_then (Some as) room first f (stop.Because c) h = ap (λ (v : Result A (tree.Fault Move)). v >>= f) h
+  stops_then (Some xs0) room first f stop.Read h = tt
+  stops_then (Some xs0) room first f stop.Memory h = (h.0, h.1, ap (λ (v : Result A (tree.Fault Move)). v >>= f) h.2)
+  stops_then (Some xs0) room first f (stop.Because c) h = ap (λ (v : Result A (tree.Fault Move)). v >>= f) h
 
   -- the same walk, said otherwise
   pub stops_as : (a : Option (List ℕ)) (room : ℕ) (first first' : Answer A) (s : Stop) → ((rest : List ℕ) (n : ℕ) → first' rest n ≡ first rest n) → Stops a room first s → Stops a room first' s
@@ -88,6 +88,6 @@ module _ {A B : Type 0} where
   stops_as None room first first' stop.Memory e h = tt
   stops_as None room first first' stop.Read e h = tt
   stops_as None room first first' (stop.Because c) e h = tt
-  stops_as (Some as) room first first' stop.Read e h = tt
-  stops_as (Some as) room first first' stop.Memory e h = (h.0, h.1, e as h.0 ∙ h.2)
-  stops_as (Some as) room first first' (stop.Because c) e h = e as room ∙ h
+  stops_as (Some xs0) room first first' stop.Read e h = tt
+  stops_as (Some xs0) room first first' stop.Memory e h = (h.0, h.1, e xs0 h.0 ∙ h.2)
+  stops_as (Some xs0) room first first' (stop.Because c) e h = e xs0 room ∙ h

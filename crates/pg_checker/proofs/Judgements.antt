@@ -63,17 +63,16 @@ module _ (d : Placement) (l : ℕ) (games : List (List Move)) (cut : Cuts) (k : 
       states old new rest n entries records = λ i. record { rest = rest; entries = map entry_of (sym entries i); records = sym records i; room = n }
 
   pub full_judged : (old : Machine) (s : Stop) → ((s ≡ stop.Because cause.TooManyNamed) × (old.room ≡ 0)) ⊎ ((s ≡ stop.Memory) × (0 < old.room)) → (new : Machine) → Judges old new (judge (chess d l games cut) k p (Expand true)) (Err s)
+  unfolding Stops
   full_judged old s h new known = elim h [ inl w ↦ subst (Stops known old.room walks) (sym w.0) (full known w.1) | inr w ↦ subst (Stops known old.room walks) (sym w.0) (refused known w.1) ]
     where
       walks : List ℕ → ℕ → Result (walk.Shape × walk.State State) (tree.Fault Move)
       walks bytes n = judge (chess d l games cut) k p (Expand true) (state_at old bytes n)
 
       full : (known : Option (List ℕ)) → old.room ≡ 0 → Stops known old.room walks (stop.Because cause.TooManyNamed)
-      unfolding Stops
       full None e = tt
       full (Some bytes) e = ap (λ (n : ℕ). walks bytes n) e
 
       refused : (known : Option (List ℕ)) → 0 < old.room → Stops known old.room walks stop.Memory
-      unfolding Stops
       refused None low = tt
       refused (Some bytes) low = (0, low, refl)

@@ -19,6 +19,6 @@ pub record IsExactAnswer (d : Placement) (n : ℕ) (games : List (List Move)) : 
   pub none_shorter : (m : ℕ) (ms : List Move) → m < n → ¬ IsSolution d m ms
 
 -- each game of the list is a solution, and the list has it once
-pub record IsSound (d : Placement) (n : ℕ) (games : List (List Move)) : Type 0 where
+pub record AreSolutions (d : Placement) (n : ℕ) (games : List (List Move)) : Type 0 where
   pub once : IsOnce games
   pub are : (ms : List Move) → Contains games ms → IsSolution d n ms

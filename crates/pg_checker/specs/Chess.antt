@@ -67,6 +67,7 @@ unfoldable pub read : List ℕ → Result (Record × List ℕ) (Fault Move)
 read bytes = taken bytes (record_at bytes)
 
 -- ---- the rules
+-- chess, with the diagram d, n plies, the listed games and the bounds handed in; the records are those of certificates
 unfoldable pub chess : Placement → ℕ → List (List Move) → Cuts → Rules State Move
 chess d n games cut = record {
   moves = moves_of;

@@ -15,7 +15,7 @@ module _ {P M : Type 0} (r : Rules P M) where
   -- what is assumed of records: the reader takes a record exactly where its bytes stand
   pub record IsExact : Type 0 where
     pub read : (bytes : List ℕ) (got : Record × List ℕ) → r.read bytes ≡ Ok got → (bytes ≡ r.write got.0 ++ got.1) × (r.is_record got.0 ≡ true)
-    pub write : (record_ : Record) (rest : List ℕ) → r.is_record record_ ≡ true → r.read (r.write record_ ++ rest) ≡ Ok (record_, rest)
+    pub write : (x : Record) (rest : List ℕ) → r.is_record x ≡ true → r.read (r.write x ++ rest) ≡ Ok (x, rest)
     pub expanded : (is_named : Bool) → r.is_record (Expanded is_named) ≡ true
 
   -- trees of lengths n, n + 1, .. from p fit, each after the entries of those before

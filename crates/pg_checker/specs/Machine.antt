@@ -1,13 +1,10 @@
 -- What the values of the machine stand for: the frames of the walk, its entries and its state.
-use Rattle.std.specs.Prelude.{◌≡◌, ℕ, zero, suc, ◌+◌, ◌≤◌, Bool, true, false, List, [], ◌∷◌, ◌++◌, length, take, map, filter, reverse, Option, Some, None}
-use Rattle.std.specs.declared.cmp.Ordering.{Ordering}
-use Rattle.std.specs.declared.cmp.Ordering.TheVariants.{Less, Equal, Greater}
+use Rattle.std.specs.Prelude.{◌≡◌, ℕ, ◌+◌, ◌≤◌, false, List, [], ◌∷◌, ◌++◌, length, map, reverse, Option, Some, None}
 use Rattle.pg_position.specs.declared.state.State.{State}
 use Rattle.pg_position.specs.declared.moves.Move.{Move}
-use Rattle.pg_moves.specs.Moves.{move_cmp}
-use Rattle.pg_moves.proofs.ListLemmas.{moves_of}
 use Rattle.pg_checker.specs.Tree as tree
 use Rattle.pg_checker.specs.Tree.{one_if}
+use Rattle.pg_checker.specs.Left.{left_after}
 use Rattle.pg_checker.specs.Walk as walk
 use Rattle.pg_checker.specs.Frames as frames
 use Rattle.pg_checker.specs.declared.table.Entry.{Entry}
@@ -15,17 +12,6 @@ use Rattle.pg_checker.specs.declared.machine.Frame.{Frame}
 use Rattle.pg_checker.specs.declared.machine.Machine.{Machine}
 use Rattle.pg_checker.specs.declared.machine.Node.{Node}
 use Rattle.pg_checker.specs.declared.machine.Node.TheVariants as node
-
--- ---- moves that are left
-abbrev pub is_less : Ordering → Bool
-is_less Less = true
-is_less Equal = false
-is_less Greater = false
-
--- the legal moves after the last one that was played, all of them where none was
-unfoldable pub left_after : State → Option Move → List Move
-left_after p None = moves_of p
-left_after p (Some m) = filter (λ n. is_less (move_cmp m n)) (moves_of p)
 
 -- ---- frames, the topmost first
 -- the move that was played last at a node

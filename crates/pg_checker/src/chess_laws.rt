@@ -1,48 +1,66 @@
 //! Laws of the walk over chess, each the contract of a function that does nothing. Lengths are in
 //! plies.
-ghost use Rattle.std.specs.Prelude.{◌≡◌, ◌⊎◌, ◌↔◌, ◌++◌, ◌≤◌, ◌<◌, ℕ, suc, List, length, Ok, Err};
+ghost use Rattle.std.specs.Prelude.{◌≡◌, ◌≢◌, ◌⊎◌, ◌↔◌, ◌∷◌, ◌++◌, ◌≤◌, ◌<◌, ℕ, suc, List, [], Option, Some, None, length, Ok, Err};
 ghost use Rattle.pg_board.specs.Placement.{Placement};
 ghost use Rattle.pg_position.specs.declared.state.State.{State};
 ghost use Rattle.pg_position.specs.declared.moves.Move.{Move};
 ghost use Rattle.pg_position.specs.Array.{array_state};
+ghost use Rattle.pg_moves.specs.Moves.{IsNext, IsLast};
 ghost use Rattle.pg_certificate.specs.declared.fault.ReadFault.{ReadFault};
 ghost use Rattle.pg_certificate.specs.declared.record.Record.{Record};
-ghost use Rattle.pg_certificate.specs.Laws.{AreBytes};
+ghost use Rattle.pg_certificate.specs.Laws.{AreBytes, IsCutShort};
 ghost use Rattle.pg_certificate.specs.Reading.{record_at};
 ghost use Rattle.pg_certificate.specs.Spelling.{spelling, IsRecord};
-ghost use Rattle.pg_checker.specs.Answer.{IsExactAnswer, IsSound};
+ghost use Rattle.pg_checker.specs.Answer.{IsExactAnswer, AreSolutions};
 ghost use Rattle.pg_checker.specs.Chess.{Cuts, IsSoundCut, IsChess, chess, fault_of, renamed, read};
 ghost use Rattle.pg_checker.specs.Claims.{IsExact, IsCertificate};
-ghost use Rattle.pg_checker.specs.Tree.{Fault, Trailing, TooManyNamed};
+ghost use Rattle.pg_checker.specs.Left.{left_after};
+ghost use Rattle.pg_checker.specs.Tree.{Rules, Trees, Fault, Truncated, UnknownRecord, Trailing, TooManyNamed, spelling_all, records_all};
 ghost use Rattle.pg_checker.specs.Whole.{IsAtNamed, full_from, answer, IsAccepted, IsStopped, HasMore};
 
-/// The rules by which the walk goes are those of chess, their records are those of certificates, and
-/// no state has more than 28,672 moves.
+/// The rules by which the walk goes are those of chess, with the bounds handed in and the records of
+/// certificates, and no state has more than 28,672 moves.
 pub fn chess_law()
     ensures rules { (d : Placement) (n : ℕ) (games : List (List Move)) (cut : Cuts) → IsChess (chess d n games cut) d n games }
     ensures cuts { (d : Placement) (n : ℕ) (games : List (List Move)) (cut : Cuts) → (chess d n games cut).cut ≡ cut }
+    ensures reads { (d : Placement) (n : ℕ) (games : List (List Move)) (cut : Cuts) → (chess d n games cut).read ≡ read }
     ensures records { (d : Placement) (n : ℕ) (games : List (List Move)) (cut : Cuts) → IsExact (chess d n games cut) }
     ensures few { (d : Placement) (n : ℕ) (games : List (List Move)) (cut : Cuts) (p : State) → length ((chess d n games cut).moves p) ≤ 28672 }
 {}
 
-/// The walk reads records as they are read from bytes.
+/// The walk reads records as they are read from bytes: Truncated stands where the bytes are less than
+/// a whole record, and UnknownRecord where no record begins with the first of them.
 pub fn reading_law()
     ensures bytes { (bytes : List ℕ) → AreBytes bytes → read bytes ≡ renamed (record_at bytes) }
     ensures spelled { (x : Record) (rest : List ℕ) → IsRecord x → read (spelling x ++ rest) ≡ Ok (x, rest) }
+    ensures truncated { (bytes : List ℕ) → AreBytes bytes → read bytes ≡ Err Truncated ↔ IsCutShort bytes }
+    ensures unknown { (b : ℕ) (rest : List ℕ) → read (b ∷ rest) ≡ Err (UnknownRecord b) ↔ ((x : Record) (more : List ℕ) → spelling x ≢ b ∷ more) }
     ensures refusals { (bytes : List ℕ) (e : ReadFault) → record_at bytes ≡ Err e → read bytes ≡ Err (fault_of e) }
 {}
 
-/// A yes to a sound list proves the exact answer.
+/// Of the moves that the rules have for a position the next legal one comes first, and what is left
+/// after it is what is left of them.
+pub fn left_law()
+    ensures start { (d : Placement) (n : ℕ) (games : List (List Move)) (cut : Cuts) (p : State) → (chess d n games cut).moves p ≡ left_after p None }
+    ensures next { (p : State) (last : Option Move) (m : Move) → IsNext p last m → left_after p last ≡ m ∷ left_after p (Some m) }
+    ensures end { (p : State) (last : Option Move) → IsLast p last → left_after p last ≡ [] }
+{}
+
+/// A yes to a list of solutions proves the exact answer.
 pub fn headline_law()
     ensures { (d : Placement) (n : ℕ) (games : List (List Move)) (cut : Cuts) → IsSoundCut d cut
         → (a b : ℕ) (bytes : List ℕ) (x : ℕ × ℕ) → answer (chess d n games cut) array_state a b bytes ≡ Ok x
-        → IsSound d n games → IsExactAnswer d n games }
+        → AreSolutions d n games → IsExactAnswer d n games }
 {}
 
-/// No exact answer is without a certificate: that which expands every node with a ply left fits.
+/// No exact answer is without a certificate: that which expands every node with a ply left fits, and
+/// its bytes are answered by a yes, whatever the limit of named nodes.
 pub fn always_law()
-    ensures { (d : Placement) (n : ℕ) (games : List (List Move)) (cut : Cuts) → IsExactAnswer d n games
+    ensures fits { (d : Placement) (n : ℕ) (games : List (List Move)) (cut : Cuts) → IsExactAnswer d n games
         → IsCertificate (chess d n games cut) array_state (full_from (chess d n games cut) (suc n) 0 array_state) }
+    ensures accepted { (d : Placement) (n : ℕ) (games : List (List Move)) (cut : Cuts) → IsExactAnswer d n games
+        → let r : Rules State Move = chess d n games cut in let trees : Trees = full_from r (suc n) 0 array_state in
+        (a b : ℕ) → records_all trees ≤ a → answer r array_state a b (spelling_all r trees) ≡ Ok (records_all trees, 0) }
 {}
 
 /// A yes is given exactly to the whole spelling of a certificate that fits, within the limits.
@@ -59,8 +77,8 @@ pub fn faults_law()
         ↔ (IsStopped (chess d n games cut) array_state a b bytes f ⊎ ((f ≡ Trailing) × HasMore (chess d n games cut) array_state a b bytes)) }
 {}
 
-/// Where there is room for fewer named nodes than allowed, the walk comes to the next of them
-/// without a cause to stop.
+/// Where a walk that may keep fewer named nodes than are allowed answers TooManyNamed, the walk that
+/// may keep all comes to that place without a cause to stop, and a named node is next.
 pub fn memory_law()
     ensures { (d : Placement) (n : ℕ) (games : List (List Move)) (cut : Cuts) (a b fewer : ℕ) (bytes : List ℕ) → fewer < b
         → answer (chess d n games cut) array_state a fewer bytes ≡ Err TooManyNamed → IsAtNamed (chess d n games cut) array_state a b bytes }

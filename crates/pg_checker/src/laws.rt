@@ -4,7 +4,7 @@ ghost use Rattle.std.specs.Prelude.{◌≡◌, ◌⊎◌, ◌↔◌, ◌∷◌, 
 ghost use Rattle.pg_checker.specs.Claims.{IsExact, IsRight, IsComplete, IsCertificate};
 ghost use Rattle.pg_checker.specs.Frames.{Frame, Work, resume, finish, turn, effort};
 ghost use Rattle.pg_checker.specs.Front.{Halts};
-ghost use Rattle.pg_checker.specs.Tree.{Rules, Fault, Trailing, TooManyNamed};
+ghost use Rattle.pg_checker.specs.Tree.{Rules, Fault, Trailing, TooManyNamed, spelling_all, records_all};
 ghost use Rattle.pg_checker.specs.Walk.{State, Shape, head, visit, ◌>>=◌ as and_then};
 ghost use Rattle.pg_checker.specs.Whole.{IsAtNamed, full_from, answer, IsAccepted, IsStopped, HasMore};
 
@@ -24,9 +24,11 @@ pub fn each_fault<P, M>()
     ensures { (r : Rules P M) → IsExact r → (p : P) (a b : ℕ) (bytes : List ℕ) (f : Fault M) → answer r p a b bytes ≡ Err f ↔ (IsStopped r p a b bytes f ⊎ ((f ≡ Trailing) × HasMore r p a b bytes)) }
 {}
 
-/// No true answer is without a certificate.
+/// No complete list is without a certificate: that which expands every node with a ply left fits,
+/// and its bytes are answered by a yes, whatever the limit of named nodes.
 pub fn always_a_certificate<P, M>()
-    ensures { (r : Rules P M) (p : P) → IsComplete r p → IsCertificate r p (full_from r (suc r.plies) 0 p) }
+    ensures fits { (r : Rules P M) (p : P) → IsComplete r p → IsCertificate r p (full_from r (suc r.plies) 0 p) }
+    ensures accepted { (r : Rules P M) → IsExact r → (p : P) → IsComplete r p → (a b : ℕ) → records_all (full_from r (suc r.plies) 0 p) ≤ a → answer r p a b (spelling_all r (full_from r (suc r.plies) 0 p)) ≡ Ok (records_all (full_from r (suc r.plies) 0 p), 0) }
 {}
 
 /// Where a front with a first cause is spelled, the walk answers it.

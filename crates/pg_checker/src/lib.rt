@@ -9,7 +9,8 @@ mod stop;
 mod table;
 
 pub use chess_laws::{
-    acceptance_law, always_law, chess_law, faults_law, headline_law, memory_law, reading_law,
+    acceptance_law, always_law, chess_law, faults_law, headline_law, left_law, memory_law,
+    reading_law,
 };
 pub use laws::{
     always_a_certificate, each_fault, exact_acceptance, fronts_fail, headline, memory,

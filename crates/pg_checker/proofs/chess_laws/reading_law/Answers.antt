@@ -1,5 +1,6 @@
--- The lemmas of Reading.
+-- The lemmas of Reading and Refusals.
 use Rattle.pg_checker.proofs.Reading.{read_is, read_spelled, read_err}
+use Rattle.pg_checker.proofs.Refusals.{read_short, short_read, read_unknown, unknown_read}
 use Rattle.pg_checker.proofs.chess_laws.reading_law.Goals as goal
 
 pub returns-clause-bytes : goal.returns-clause-bytes
@@ -7,6 +8,12 @@ returns-clause-bytes c = read_is
 
 pub returns-clause-spelled : goal.returns-clause-spelled
 returns-clause-spelled c = read_spelled
+
+pub returns-clause-truncated : goal.returns-clause-truncated
+returns-clause-truncated c = λ bytes fits. (read_short bytes fits, short_read bytes)
+
+pub returns-clause-unknown : goal.returns-clause-unknown
+returns-clause-unknown c = λ b rest. (read_unknown b rest, unknown_read b rest)
 
 pub returns-clause-refusals : goal.returns-clause-refusals
 returns-clause-refusals c = read_err
