@@ -1,11 +1,11 @@
 -- Pieces of the walk, one after the other.
-use Rattle.std.proofs.Common.{◌≡◌, ℕ, ◌+◌, ◌<◌, List, [], ◌++◌, Option, Some, None, IfSome, Result, Ok, Err, refl, sym, ◌∙◌, ap, subst, arith}
+use Rattle.std.proofs.Common.{◌≡◌, ℕ, ◌+◌, ◌<◌, List, [], ◌++◌, Option, Some, None, Result, refl, sym, ◌∙◌, ap, arith}
 use Rattle.std.proofs.lemmas.List.{append_assoc}
 use Rattle.std.specs.Io.KnownBytes.{Consumes}
 use Rattle.pg_position.specs.declared.moves.Move.{Move}
 use Rattle.pg_checker.specs.Tree as tree
 use Rattle.pg_checker.specs.Walk.{◌>>=◌}
-use Rattle.pg_checker.specs.Steps.{Answer, Goes, Stops, cause_of}
+use Rattle.pg_checker.specs.Steps.{Answer, Goes, Stops}
 use Rattle.pg_checker.specs.declared.stop.Stop.{Stop}
 use Rattle.pg_checker.specs.declared.stop.Stop.TheVariants as stop
 
@@ -19,10 +19,10 @@ consumes_then (Some xs0) None c xs ys h k = absurd h
 consumes_then (Some xs0) (Some ys0) None xs ys h k = absurd k
 consumes_then (Some xs0) (Some ys0) (Some zs0) xs ys h k = h ∙ (ap (λ (v : List ℕ). xs ++ v) k ∙ sym (append_assoc xs ys zs0))
 
-module _ {A B : Type 0} where
+module _ {A : Type 0} where
   -- nothing is taken
   pub stays : (known : Option (List ℕ)) (room : ℕ) (first second : Answer A) → ((rest : List ℕ) (n : ℕ) → first rest n ≡ second rest n) → Goes known known room room first second
-  stays known room first second h = record { taken = []; used = 0; consumes = consumes_none known; spends = refl; same = h }
+  stays known room first second h = record { taken = []; used = 0; consumes = consumes_none known; spends = omega arith; same = λ rest n. ap (λ (m : ℕ). first rest m) (let e : 0 + n ≡ n = omega arith in e) ∙ h rest n }
 
   -- one piece after the other
   pub goes_on : (a b c : Option (List ℕ)) (room mid left : ℕ) (first second third : Answer A) → Goes a b room mid first second → Goes b c mid left second third → Goes a c room left first third
@@ -49,16 +49,6 @@ module _ {A B : Type 0} where
     same = λ rest n. h (g.taken ++ rest) (g.used + n) ∙ g.same rest n ∙ k rest n;
   }
 
-  -- with what follows
-  pub goes_then : (a b : Option (List ℕ)) (room left : ℕ) (first second : Answer A) (f : A → Result B (tree.Fault Move)) → Goes a b room left first second → Goes a b room left (λ rest n. first rest n >>= f) (λ rest n. second rest n >>= f)
-  goes_then a b room left first second f g = record {
-    taken = g.taken;
-    used = g.used;
-    consumes = g.consumes;
-    spends = g.spends;
-    same = λ rest n. ap (λ (v : Result A (tree.Fault Move)). v >>= f) (g.same rest n);
-  }
-
   -- a stop of what follows
   pub stops_on : (a b : Option (List ℕ)) (room left : ℕ) (first second : Answer A) (s : Stop) → Goes a b room left first second → Stops b left second s → Stops a room first s
   unfolding Stops
@@ -72,16 +62,6 @@ module _ {A B : Type 0} where
   stops_on (Some xs0) (Some ys0) room left first second (stop.Because c) g h =
       ap (λ (v : List ℕ). first v room) g.consumes ∙ ap (λ (m : ℕ). first (g.taken ++ ys0) m) g.spends ∙ g.same ys0 left ∙ h
 
-  -- a stop of the first piece
-  pub stops_then : (a : Option (List ℕ)) (room : ℕ) (first : Answer A) (f : A → Result B (tree.Fault Move)) (s : Stop) → Stops a room first s → Stops a room (λ rest n. first rest n >>= f) s
-  unfolding Stops
-  stops_then None room first f stop.Memory h = tt
-  stops_then None room first f stop.Read h = tt
-  stops_then None room first f (stop.Because c) h = tt
-  stops_then (Some xs0) room first f stop.Read h = tt
-  stops_then (Some xs0) room first f stop.Memory h = (h.0, h.1, ap (λ (v : Result A (tree.Fault Move)). v >>= f) h.2)
-  stops_then (Some xs0) room first f (stop.Because c) h = ap (λ (v : Result A (tree.Fault Move)). v >>= f) h
-
   -- the same walk, said otherwise
   pub stops_as : (a : Option (List ℕ)) (room : ℕ) (first first' : Answer A) (s : Stop) → ((rest : List ℕ) (n : ℕ) → first' rest n ≡ first rest n) → Stops a room first s → Stops a room first' s
   unfolding Stops
@@ -91,3 +71,24 @@ module _ {A B : Type 0} where
   stops_as (Some xs0) room first first' stop.Read e h = tt
   stops_as (Some xs0) room first first' stop.Memory e h = (h.0, h.1, e xs0 h.0 ∙ h.2)
   stops_as (Some xs0) room first first' (stop.Because c) e h = e xs0 room ∙ h
+
+module _ {A B : Type 0} where
+  -- with what follows
+  pub goes_then : (a b : Option (List ℕ)) (room left : ℕ) (first second : Answer A) (f : A → Result B (tree.Fault Move)) → Goes a b room left first second → Goes a b room left (λ rest n. first rest n >>= f) (λ rest n. second rest n >>= f)
+  goes_then a b room left first second f g = record {
+    taken = g.taken;
+    used = g.used;
+    consumes = g.consumes;
+    spends = g.spends;
+    same = λ rest n. ap (λ (v : Result A (tree.Fault Move)). v >>= f) (g.same rest n);
+  }
+
+  -- a stop of the first piece
+  pub stops_then : (a : Option (List ℕ)) (room : ℕ) (first : Answer A) (f : A → Result B (tree.Fault Move)) (s : Stop) → Stops a room first s → Stops a room (λ rest n. first rest n >>= f) s
+  unfolding Stops
+  stops_then None room first f stop.Memory h = tt
+  stops_then None room first f stop.Read h = tt
+  stops_then None room first f (stop.Because c) h = tt
+  stops_then (Some xs0) room first f stop.Read h = tt
+  stops_then (Some xs0) room first f stop.Memory h = (h.0, h.1, ap (λ (v : Result A (tree.Fault Move)). v >>= f) h.2)
+  stops_then (Some xs0) room first f (stop.Because c) h = ap (λ (v : Result A (tree.Fault Move)). v >>= f) h

@@ -1,16 +1,17 @@
 -- What judging one record says. Leads to the contract of `judge`.
-use Rattle.std.proofs.Common.{◌≡◌, ℕ, ◌+◌, ◌<◌, ◌⊎◌, inl, inr, List, [], true, false, Option, Some, None, map, slice_get, Result, Ok, Err, refl, sym, ◌∙◌, ap, subst, arith}
+use Rattle.std.proofs.Common.{◌≡◌, ℕ, suc, ◌+◌, ◌<◌, ◌⊎◌, inl, inr, List, [], Bool, true, false, Option, Some, None, map, slice_get, Result, Ok, Err, refl, sym, ◌∙◌, ap, subst, arith}
 use Rattle.pg_board.specs.Placement.{Placement}
 use Rattle.pg_position.specs.declared.state.State.{State}
 use Rattle.pg_position.specs.declared.moves.Move.{Move}
+use Rattle.pg_certificate.specs.declared.record.Record.{Record}
 use Rattle.pg_certificate.specs.declared.record.Record.TheVariants.{Expand, Cut, Ref}
 use Rattle.pg_checker.specs.Tree as tree
 use Rattle.pg_checker.specs.Walk as walk
 use Rattle.pg_checker.specs.Walk.{judge, cut_answer, ref_answer, take_room}
 use Rattle.pg_checker.specs.Chess.{Cuts, chess}
-use Rattle.pg_checker.specs.Judging.{Judgement, Ends, Judges, ended_of, refer_answer}
-use Rattle.pg_checker.specs.Machine.{entry_of, entries_of, state_at}
-use Rattle.pg_checker.specs.Steps.{Stops, cause_of}
+use Rattle.pg_checker.specs.Judging.{Judgement, Ends, EndsAs, Judges, ended_of, refer_answer}
+use Rattle.pg_checker.specs.Machine.{entry_of, state_at}
+use Rattle.pg_checker.specs.Steps.{Stops}
 use Rattle.pg_checker.specs.declared.machine.Machine.{Machine}
 use Rattle.pg_checker.specs.declared.machine.Node.{Node}
 use Rattle.pg_checker.specs.declared.machine.Node.TheVariants as node
@@ -56,11 +57,14 @@ module _ (d : Placement) (l : ℕ) (games : List (List Move)) (cut : Cuts) (k : 
     used = 1;
     consumes = consumes_none known;
     spends = omega arith;
-    same = λ rest n. ap (λ (s : walk.State State). Ok (walk.Opened true, s)) (states old new rest n entries records);
+    same = λ rest n.
+        (let e : 1 + n ≡ suc n = omega arith in
+        ap (λ (m : ℕ). judge (chess d l games cut) k p (Expand true) (state_at old rest m)) e
+        ∙ ap (λ (s : walk.State State). Ok (walk.Opened true, s)) (states rest n));
   }
     where
-      states : (old new : Machine) (rest : List ℕ) (n : ℕ) → new.table.entries ≡ old.table.entries → new.records ≡ old.records → record (state_at old rest (1 + n)) { room = n } ≡ state_at new rest n
-      states old new rest n entries records = λ i. record { rest = rest; entries = map entry_of (sym entries i); records = sym records i; room = n }
+      states : (rest : List ℕ) (n : ℕ) → record (state_at old rest (suc n)) { room = n } ≡ state_at new rest n
+      states rest n = λ i. record { rest = rest; entries = map entry_of (sym entries i); records = sym records i; room = n }
 
   pub full_judged : (old : Machine) (s : Stop) → ((s ≡ stop.Because cause.TooManyNamed) × (old.room ≡ 0)) ⊎ ((s ≡ stop.Memory) × (0 < old.room)) → (new : Machine) → Judges old new (judge (chess d l games cut) k p (Expand true)) (Err s)
   unfolding Stops
@@ -76,3 +80,10 @@ module _ (d : Placement) (l : ℕ) (games : List (List Move)) (cut : Cuts) (k : 
       refused : (known : Option (List ℕ)) → 0 < old.room → Stops known old.room walks stop.Memory
       refused None low = tt
       refused (Some bytes) low = (0, low, refl)
+
+  -- the record is this one
+  pub of_record : (old new : Machine) (x y : Record) (res : Result Node Stop) → x ≡ y → Judges old new (judge (chess d l games cut) k p y) res → Judges old new (judge (chess d l games cut) k p x) res
+  of_record old new x y res e h = subst (λ (v : Record). Judges old new (judge (chess d l games cut) k p v) res) (sym e) h
+
+  pub of_named : (old new : Machine) (x : Record) (named held : Bool) (res : Result Node Stop) → x ≡ Expand named → named ≡ held → Judges old new (judge (chess d l games cut) k p (Expand held)) res → Judges old new (judge (chess d l games cut) k p x) res
+  of_named old new x named held res e f h = of_record old new x (Expand held) res (e ∙ ap Expand f) h
