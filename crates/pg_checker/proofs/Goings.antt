@@ -1,5 +1,5 @@
 -- Pieces of the walk, one after the other.
-use Rattle.std.proofs.Common.{◌≡◌, ℕ, ◌+◌, ◌<◌, List, [], ◌++◌, Option, Some, None, Result, refl, sym, ◌∙◌, ap, arith}
+use Rattle.std.proofs.Common.{◌≡◌, ℕ, ◌+◌, ◌<◌, List, [], ◌++◌, Option, Some, None, Result, Ok, Err, refl, sym, ◌∙◌, ap, arith}
 use Rattle.std.proofs.lemmas.List.{append_assoc}
 use Rattle.std.specs.Io.KnownBytes.{Consumes}
 use Rattle.pg_position.specs.declared.moves.Move.{Move}
@@ -92,3 +92,28 @@ module _ {A B : Type 0} where
   stops_then (Some xs0) room first f stop.Read h = tt
   stops_then (Some xs0) room first f stop.Memory h = (h.0, h.1, ap (λ (v : Result A (tree.Fault Move)). v >>= f) h.2)
   stops_then (Some xs0) room first f (stop.Because c) h = ap (λ (v : Result A (tree.Fault Move)). v >>= f) h
+
+module _ {A B : Type 0} where
+  -- a piece that takes no room, with what follows
+  pub goes_reading : (a b : Option (List ℕ)) (room : ℕ) (first : Answer A) (got : List ℕ → A) (f : ℕ → A → Result B (tree.Fault Move)) → Goes a b room room first (λ rest n. Ok (got rest)) → Goes a b room room (λ rest n. first rest n >>= f n) (λ rest n. f n (got rest))
+  goes_reading a b room first got f g =
+      let none : g.used ≡ 0 = (let e : room ≡ g.used + room = g.spends in omega arith) in
+      record {
+        taken = g.taken;
+        used = g.used;
+        consumes = g.consumes;
+        spends = g.spends;
+        same = λ rest n.
+            (let e : g.used + n ≡ n = omega arith in
+            ap (λ (m : ℕ). first (g.taken ++ rest) (g.used + n) >>= f m) e
+            ∙ ap (λ (v : Result A (tree.Fault Move)). v >>= f n) (g.same rest n));
+      }
+
+  pub stops_with : (a : Option (List ℕ)) (room : ℕ) (first : Answer A) (f : ℕ → A → Result B (tree.Fault Move)) (s : Stop) → Stops a room first s → Stops a room (λ rest n. first rest n >>= f n) s
+  unfolding Stops
+  stops_with None room first f stop.Memory h = tt
+  stops_with None room first f stop.Read h = tt
+  stops_with None room first f (stop.Because c) h = tt
+  stops_with (Some xs0) room first f stop.Read h = tt
+  stops_with (Some xs0) room first f stop.Memory h = (h.0, h.1, ap (λ (v : Result A (tree.Fault Move)). v >>= f h.0) h.2)
+  stops_with (Some xs0) room first f (stop.Because c) h = ap (λ (v : Result A (tree.Fault Move)). v >>= f room) h

@@ -1,18 +1,20 @@
 //! The record of a node: read, and judged at the node's position.
-ghost use Rattle.std.specs.Prelude.{◌≡◌, ◌+◌, ◌<◌, ◌⊎◌, slice_get, map, OnOk, IfOk, IfErr};
+ghost use Rattle.std.specs.Prelude.{◌≡◌, ◌+◌, ◌<◌, ◌≤◌, ◌⊎◌, ℕ, Bool, false, length, slice_get, map, OnOk, IfOk, IfErr};
+ghost use Rattle.pg_checker.specs.Chess.{read};
 ghost use Rattle.pg_certificate.specs.Reader.{to_come};
+ghost use Rattle.pg_certificate.specs.Spelling.{IsRecord};
 ghost use Rattle.pg_certificate.specs.declared.record.Record.TheVariants.{Expand, Cut, Ref};
 ghost use Rattle.pg_checker.specs.Cuts.{rules_by, cuts_by};
 ghost use Rattle.pg_checker.specs.Judging.{Ends, Judges, ended_of, refer_answer, stop_of};
-ghost use Rattle.pg_checker.specs.Machine.{entry_of, opened};
+ghost use Rattle.pg_checker.specs.Machine.{entry_of, opened, shape_of, state_at};
 ghost use Rattle.pg_checker.specs.Steps.{Says, FailsRead, TakesFew};
-ghost use Rattle.pg_checker.specs.Walk.{judge as judge_of, cut_answer};
+ghost use Rattle.pg_checker.specs.Walk.{judge as judge_of, head as head_of, cut_answer};
 
 use crate::machine::{Machine, Node, Question};
 use crate::stop::{Cause, Stop};
 use crate::table::Table;
 use pg_captures::first_excludes;
-use pg_certificate::{ReadFault, Record, Source};
+use pg_certificate::{ReadFault, Record, RecordReader, Source};
 use pg_position::Position;
 
 // A refusal to read a record, as a stop. No record is refused as Magic or Trailing.
@@ -93,6 +95,7 @@ fn judge(
 ) -> Result<Node, Stop>
     ensures says { Judges machine.old machine.new (judge_of (rules_by (λ b. code_of b) (λ b. excluded b) question.now.diagram.now question.now.plies question.now.games.now question.now.bounds.now) left position.now «record») result }
     ensures kept { IfOk result (λ node. machine.new.table.kept ≡ machine.old.table.kept + opened node) }
+    ensures fails { (failed : Bool) → FailsRead failed result }
     ensures reader { machine.new.reader ≡ machine.old.reader }
     ensures frames { machine.new.frames ≡ machine.old.frames }
     ensures records { machine.new.records ≡ machine.old.records }
@@ -108,5 +111,70 @@ fn judge(
         }
         Record::Cut(code) => ended(cut(question, position, left, code)),
         Record::Ref(number) => ended(refer(&machine.table, position, left, number)),
+    }
+}
+
+// A record of numbers that fit is one that has a spelling.
+fn spelled(record: Record) -> Record
+    ensures same { result ≡ «record» }
+    ensures spelled { IsRecord result }
+{
+    match record {
+        Record::Expand { named } => Record::Expand { named },
+        Record::Cut(code) => Record::Cut(code),
+        Record::Ref(number) => Record::Ref(number),
+    }
+}
+
+// The record at the front of the bytes to come.
+fn next<S: Source>(reader: &mut RecordReader, source: &mut S) -> Result<Record, Stop>
+    requires { reader.old.failed ≡ false }
+    ensures says { (room : ℕ) → Says
+        (to_come reader.old (S.left source.old)) (to_come reader.new (S.left source.new)) room room
+        (λ bytes _. read bytes) (λ x rest _. (x, rest)) result }
+    ensures runs { OnOk result (reader.new.failed ≡ false) }
+    ensures held { length reader.new.held ≤ 4096 }
+    ensures fails { FailsRead (S.has_failed source.new) result }
+    ensures few { (most : ℕ) → TakesFew
+        (to_come reader.old (S.left source.old)) (to_come reader.new (S.left source.new)) (S.left source.new)
+        (most + 1) most result }
+{
+    match reader.next_record(source) {
+        Ok(record) => Ok(spelled(record)),
+        Err(fault) => Err(stop_of(fault)),
+    }
+}
+
+/// The record of a node with so many plies left.
+pub(crate) fn head<S: Source>(
+    question: &Question,
+    machine: &mut Machine,
+    source: &mut S,
+    position: &Position,
+    left: u8,
+) -> Result<Node, Stop>
+    requires runs { machine.old.reader.failed ≡ false }
+    requires held { length machine.old.reader.held ≤ 4096 }
+    ensures says { Says
+        (to_come machine.old.reader (S.left source.old)) (to_come machine.new.reader (S.left source.new))
+        machine.old.room machine.new.room
+        (λ bytes n. head_of (rules_by (λ b. code_of b) (λ b. excluded b) question.now.diagram.now question.now.plies question.now.games.now question.now.bounds.now) left position.now (state_at machine.old bytes n))
+        (λ node rest n. (shape_of node, state_at machine.new rest n)) result }
+    ensures kept { IfOk result (λ node. machine.new.table.kept ≡ machine.old.table.kept + opened node) }
+    ensures frames { machine.new.frames ≡ machine.old.frames }
+    ensures runs { OnOk result (machine.new.reader.failed ≡ false) }
+    ensures held { length machine.new.reader.held ≤ 4096 }
+    ensures fails { FailsRead (S.has_failed source.new) result }
+    ensures few { TakesFew
+        (to_come machine.old.reader (S.left source.old)) (to_come machine.new.reader (S.left source.new))
+        (S.left source.new) machine.old.records machine.new.records result }
+{
+    if machine.records == 0 {
+        return Err(Stop::Because(Cause::Budget));
+    }
+    machine.records -= 1;
+    match next(&mut machine.reader, source) {
+        Ok(record) => judge(question, machine, position, left, record),
+        Err(stop) => Err(stop),
     }
 }

@@ -1,0 +1,111 @@
+-- Reading the record of a node, and judging it. Leads to the contract of `head`.
+use Rattle.std.proofs.Common.{◌≡◌, ℕ, suc, ◌+◌, ◌-◌, ◌*◌, ◌<◌, ◌≤◌, List, [], ◌++◌, length, Option, Some, None, IfSome, map, Result, Ok, Err, refl, sym, ◌∙◌, ap, subst, arith}
+use Rattle.std.proofs.lemmas.List.{length-append}
+use Rattle.std.specs.Io.KnownBytes.{Consumes, prepend_known}
+use Rattle.pg_board.specs.Placement.{Placement}
+use Rattle.pg_position.specs.declared.state.State.{State}
+use Rattle.pg_position.specs.declared.moves.Move.{Move}
+use Rattle.pg_certificate.specs.declared.fault.ReadFault.{ReadFault}
+use Rattle.pg_certificate.specs.declared.fault.ReadFault.TheVariants as reading
+use Rattle.pg_certificate.specs.declared.record.Record.{Record}
+use Rattle.pg_certificate.specs.Spelling.{spelling, IsRecord}
+use Rattle.pg_certificate.specs.Reading.{record_at}
+use Rattle.pg_certificate.specs.Reader.{Reads}
+use Rattle.pg_checker.specs.Tree as tree
+use Rattle.pg_checker.specs.Walk as walk
+use Rattle.pg_checker.specs.Walk.{judge, head, ◌>>=◌}
+use Rattle.pg_checker.specs.Chess.{Cuts, chess, read}
+use Rattle.pg_checker.specs.Judging.{Judges, stop_of}
+use Rattle.pg_checker.specs.Machine.{entry_of, entries_of, state_at, shape_of}
+use Rattle.pg_checker.specs.Steps.{Answer, Goes, Stops, Says, TakesFew, cause_of}
+use Rattle.pg_checker.specs.declared.machine.Machine.{Machine}
+use Rattle.pg_checker.specs.declared.machine.Node.{Node}
+use Rattle.pg_checker.specs.declared.stop.Cause.TheVariants as cause
+use Rattle.pg_checker.specs.declared.stop.Stop.{Stop}
+use Rattle.pg_checker.specs.declared.stop.Stop.TheVariants as stop
+use Rattle.pg_checker.proofs.Reading.{read_spelled, read_err}
+use Rattle.pg_checker.proofs.Goings.{goes_on, goes_as, goes_reading, stops_on, stops_as, stops_with}
+
+-- a record is read
+pub next_ok : (before after : Option (List ℕ)) (x : Record) → IsRecord x → Consumes before after (spelling x) → (room : ℕ) → Goes before after room room (λ bytes n. read bytes) (λ rest n. Ok (x, rest))
+next_ok before after x fits taken room = record { taken = spelling x; used = 0; consumes = taken; spends = omega arith; same = λ rest n. read_spelled x rest fits }
+
+-- no record is read
+next_err : (before after : Option (List ℕ)) (e : ReadFault) → Reads {A = Record} record_at before after (Err e) → (room : ℕ) → Stops before room (λ bytes n. read bytes) (stop_of e)
+unfolding Stops
+next_err None after reading.Truncated h room = tt
+next_err None after reading.Magic h room = tt
+next_err None after reading.Trailing h room = tt
+next_err None after (reading.UnknownRecord b) h room = tt
+next_err None after reading.Read h room = tt
+next_err None after reading.Failed h room = tt
+next_err (Some bytes) after reading.Truncated h room = read_err bytes reading.Truncated h
+next_err (Some bytes) after reading.Magic h room = read_err bytes reading.Magic h
+next_err (Some bytes) after reading.Trailing h room = read_err bytes reading.Trailing h
+next_err (Some bytes) after (reading.UnknownRecord b) h room = read_err bytes (reading.UnknownRecord b) h
+next_err (Some bytes) after reading.Read h room = tt
+next_err (Some bytes) after reading.Failed h room = tt
+
+pub next_unread : (before after : Option (List ℕ)) (e : ReadFault) (s : Stop) → s ≡ stop_of e → Reads {A = Record} record_at before after (Err e) → (room : ℕ) → Stops before room (λ bytes n. read bytes) s
+next_unread before after e s same h room = subst (Stops before room (λ bytes n. read bytes)) (sym same) (next_err before after e h room)
+
+module _ (d : Placement) (l : ℕ) (games : List (List Move)) (cut : Cuts) (k : ℕ) (p : State) where
+  abbrev heads : Machine → Answer (walk.Shape × walk.State State)
+  heads m bytes n = head (chess d l games cut) k p (state_at m bytes n)
+
+  -- a record less, and then the record that is read is judged
+  abbrev judged : Machine → ℕ → Record × List ℕ → Result (walk.Shape × walk.State State) (tree.Fault Move)
+  judged m n got = judge (chess d l games cut) k p got.0 (state_at m got.1 n)
+
+  head_paid : (old mid : Machine) (left : ℕ) → old.records ≡ suc left → mid.records ≡ left → mid.table.entries ≡ old.table.entries → (bytes : List ℕ) (n : ℕ) → heads old bytes n ≡ (read bytes >>= judged mid n)
+  unfolding chess
+  head_paid old mid left paid kept entries bytes n =
+      ap (λ (r : ℕ). head (chess d l games cut) k p (record (state_at old bytes n) { records = r })) paid
+      ∙ ap (λ (s : walk.State State). read bytes >>= (λ got. judge (chess d l games cut) k p got.0 (record s { rest = got.1; room = n }))) states
+    where
+      states : record { rest = bytes; entries = entries_of old; records = left; room = n } ≡ state_at mid bytes n
+      states = λ i. record { rest = bytes; entries = map entry_of (sym entries i); records = sym kept i; room = n }
+
+  pub head_budget : (before : Option (List ℕ)) (old : Machine) → old.records ≡ 0 → Stops before old.room (heads old) (stop.Because cause.Budget)
+  unfolding Stops
+  head_budget None old e = tt
+  head_budget (Some bytes) old e = ap (λ (r : ℕ). head (chess d l games cut) k p (record (state_at old bytes old.room) { records = r })) e
+
+  pub head_unread : (before : Option (List ℕ)) (old mid : Machine) (left : ℕ) (s : Stop) → old.records ≡ suc left → mid.records ≡ left → mid.table.entries ≡ old.table.entries → Stops before old.room (λ bytes n. read bytes) s → Stops before old.room (heads old) s
+  head_unread before old mid left s paid kept entries h =
+      stops_as before old.room (λ bytes n. read bytes >>= judged mid n) (heads old) s (head_paid old mid left paid kept entries)
+      (stops_with before old.room (λ bytes n. read bytes) (judged mid) s h)
+
+  pub head_judged : (before after : Option (List ℕ)) (old mid new : Machine) (left : ℕ) (x : Record) (res : Result Node Stop) → old.records ≡ suc left → mid.records ≡ left → mid.table.entries ≡ old.table.entries → mid.room ≡ old.room
+      → Goes before after old.room old.room (λ bytes n. read bytes) (λ rest n. Ok (x, rest)) → Judges mid new (judge (chess d l games cut) k p x) res
+      → Says before after old.room new.room (heads old) (λ node rest n. (shape_of node, state_at new rest n)) res
+  head_judged before after old mid new left x (Ok node) paid kept entries room read_ judged_ =
+      goes_as before after old.room new.room (λ bytes n. read bytes >>= judged mid n) (λ rest n. Ok (shape_of node, state_at new rest n)) (heads old) (λ rest n. Ok (shape_of node, state_at new rest n)) (head_paid old mid left paid kept entries) (λ rest n. refl)
+      (goes_on before after after old.room old.room new.room (λ bytes n. read bytes >>= judged mid n) (λ rest n. judged mid n (x, rest)) (λ rest n. Ok (shape_of node, state_at new rest n))
+      (goes_reading before after old.room (λ bytes n. read bytes) (λ rest. (x, rest)) (judged mid) read_)
+      (subst (λ (m : ℕ). Goes after after m new.room (λ rest n. judged mid n (x, rest)) (λ rest n. Ok (shape_of node, state_at new rest n))) room (judged_ after)))
+  head_judged before after old mid new left x (Err s) paid kept entries room read_ judged_ =
+      stops_as before old.room (λ bytes n. read bytes >>= judged mid n) (heads old) s (head_paid old mid left paid kept entries)
+      (stops_on before after old.room old.room (λ bytes n. read bytes >>= judged mid n) (λ rest n. judged mid n (x, rest)) s
+      (goes_reading before after old.room (λ bytes n. read bytes) (λ rest. (x, rest)) (judged mid) read_)
+      (subst (λ (m : ℕ). Stops after m (λ rest n. judged mid n (x, rest)) s) room (judged_ after)))
+
+-- ---- how many bytes are taken
+few_left : (before left : Option (List ℕ)) (held : List ℕ) (most now : ℕ) → length held ≤ 4096 → most ≡ now + 1 → IfSome before (λ bytes. IfSome (prepend_known held left) (λ rest. length bytes + 5 * now ≤ length rest + 5 * (now + 1))) → IfSome before (λ bytes. IfSome left (λ rest. length bytes ≤ length rest + (4096 + 5 * most)))
+few_left None left held most now small e h = tt
+few_left (Some bytes) None held most now small e h = tt
+few_left (Some bytes) (Some rest) held most now small e h = omega (arith, length-append held rest)
+
+pub few_judged : {X Y : Type 0} (before left : Option (List ℕ)) (held : List ℕ) (most now : ℕ) (x : X) (res : Result Y Stop) → length held ≤ 4096 → most ≡ now + 1 → TakesFew before (prepend_known held left) left (now + 1) now (Ok x) → TakesFew before (prepend_known held left) left most now res
+few_judged before left held most now x (Ok y) small e h = subst (λ (m : ℕ). TakesFew before (prepend_known held left) left m now (Ok y)) (sym e) h
+few_judged before left held most now x (Err stop.Read) small e h = tt
+few_judged before left held most now x (Err stop.Memory) small e h = few_left before left held most now small e h
+few_judged before left held most now x (Err (stop.Because c)) small e h = few_left before left held most now small e h
+
+pub few_unread : (X Y : Type 0) (before after left : Option (List ℕ)) (most now other : ℕ) (s : Stop) → most ≡ now + 1 → TakesFew {X = X} before after left (now + 1) now (Err s) → TakesFew {X = Y} before after left most other (Err s)
+few_unread X Y before after left most now other stop.Read e h = tt
+few_unread X Y before after left most now other stop.Memory e h = rw e h
+few_unread X Y before after left most now other (stop.Because c) e h = rw e h
+
+pub few_same : {X : Type 0} (before after other left : Option (List ℕ)) (most now records : ℕ) (res : Result X Stop) → other ≡ after → records ≡ now → TakesFew before after left most now res → TakesFew before other left most records res
+few_same before after other left most now records res e f h = subst (λ (v : Option (List ℕ)). TakesFew before v left most records res) (sym e) (subst (λ (v : ℕ). TakesFew before after left most v res) (sym f) h)
