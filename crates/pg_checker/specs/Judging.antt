@@ -1,5 +1,5 @@
 -- What judging a record says, by code, against the walk.
-use Rattle.std.specs.Prelude.{◌≡◌, ℕ, List, Option, Some, None, ◌&&◌, nat_eq, Result, Ok, Err}
+use Rattle.std.specs.Prelude.{◌≡◌, ℕ, Bool, List, Option, Some, None, ◌&&◌, nat_eq, Result, Ok, Err}
 use Rattle.pg_position.specs.declared.state.State.{State}
 use Rattle.pg_position.specs.declared.moves.Move.{Move}
 use Rattle.pg_position.specs.Equality.{state_eq}
@@ -51,3 +51,8 @@ refer_answer (Some e) k p s = walk.differs_or (state_eq e.position p && nat_eq e
 -- the code judged as the walk judges, whatever bytes are to come
 abbrev pub Judges : Machine → Machine → Judgement → Result Node Stop → Type 0
 Judges old new judged result = (known : Option (List ℕ)) → Says known known old.room new.room (λ bytes n. judged (state_at old bytes n)) (λ node rest n. (shape_of node, state_at new rest n)) result
+
+-- whether a leaf is fertile, or a cause, in each state
+abbrev pub LeafSays : Result Bool Cause → (walk.State State → Result (Bool × walk.State State) (tree.Fault Move)) → Type 0
+LeafSays (Ok found) leaf = (s : walk.State State) → leaf s ≡ Ok (found, s)
+LeafSays (Err c) leaf = (s : walk.State State) → leaf s ≡ Err (cause_of c)

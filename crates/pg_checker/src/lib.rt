@@ -7,6 +7,7 @@ mod machine;
 mod node;
 mod stop;
 mod table;
+mod walk;
 
 pub use chess_laws::{
     acceptance_law, always_law, chess_law, faults_law, headline_law, left_law, memory_law,

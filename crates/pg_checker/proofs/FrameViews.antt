@@ -1,0 +1,41 @@
+-- What one more frame stands for.
+use Rattle.std.proofs.Common.{◌≡◌, ℕ, suc, ◌+◌, ◌<◌, ◌≤◌, List, [], ◌∷◌, ◌++◌, length, reverse, take, get_or, append-nil, Option, Some, None, refl, sym, ◌∙◌, ap, subst, arith}
+use Rattle.std.proofs.lemmas.List.{reverse-append, take_more, length-append}
+use Rattle.pg_position.specs.declared.state.State.{State}
+use Rattle.pg_position.specs.declared.moves.Move.{Move}
+use Rattle.pg_checker.specs.Frames as frames
+use Rattle.pg_checker.specs.Machine.{played, path, frame_of, frames_of, count_named}
+use Rattle.pg_checker.specs.Tree.{one_if}
+use Rattle.pg_checker.specs.declared.machine.Frame.{Frame}
+
+pub path_none : path (reverse {A = Frame} []) ≡ []
+unfolding path
+path_none = refl
+
+pub path_more : (fs : List Frame) (f : Frame) → path (reverse (fs ++ (f ∷ []))) ≡ path (reverse fs) ++ played f.last
+unfolding path
+path_more fs f = ap path (reverse-append fs (f ∷ []))
+
+pub frames_more : (fs : List Frame) (f : Frame) → frames_of (reverse (fs ++ (f ∷ []))) ≡ frame_of f (reverse fs) ∷ frames_of (reverse fs)
+unfolding frames_of
+frames_more fs f = ap frames_of (reverse-append fs (f ∷ []))
+
+pub count_more : (fs : List Frame) (f : Frame) → count_named (reverse (fs ++ (f ∷ []))) ≡ one_if f.named + count_named (reverse fs)
+unfolding count_named
+count_more fs f = ap count_named (reverse-append fs (f ∷ []))
+
+-- the moves along one frame more
+take_one : (fs : List Frame) (i : ℕ) (f : Frame) → i < length fs → f ≡ get_or fs i f → take (i + 1) fs ≡ take i fs ++ (f ∷ [])
+take_one fs i f low is = take_more fs i f low ∙ ap (λ (x : Frame). take i fs ++ (x ∷ [])) (sym is)
+
+pub along_some : (fs : List Frame) (i : ℕ) (f : Frame) (m : Move) (game new : List Move) → i < length fs → f ≡ get_or fs i f → f.last ≡ Some m → (game ≡ path (reverse (take i fs))) × (length game ≤ i) → new ≡ game ++ (m ∷ []) → (new ≡ path (reverse (take (i + 1) fs))) × (length new ≤ i + 1)
+along_some fs i f m game new low is last (e, few) pushed =
+    let one : path (reverse (take (i + 1) fs)) ≡ path (reverse (take i fs)) ++ played f.last = ap (λ (v : List Frame). path (reverse v)) (take_one fs i f low is) ∙ path_more (take i fs) f in
+    let long : length new ≡ length game + 1 = ap length pushed ∙ length-append game (m ∷ []) in
+    (pushed ∙ ap (λ (v : List Move). v ++ (m ∷ [])) e ∙ ap (λ (o : Option Move). path (reverse (take i fs)) ++ played o) (sym last) ∙ sym one, omega arith)
+
+pub along_none : (fs : List Frame) (i : ℕ) (f : Frame) (game new : List Move) → i < length fs → f ≡ get_or fs i f → f.last ≡ None → (game ≡ path (reverse (take i fs))) × (length game ≤ i) → new ≡ game → (new ≡ path (reverse (take (i + 1) fs))) × (length new ≤ i + 1)
+along_none fs i f game new low is last (e, few) kept =
+    let one : path (reverse (take (i + 1) fs)) ≡ path (reverse (take i fs)) ++ played f.last = ap (λ (v : List Frame). path (reverse v)) (take_one fs i f low is) ∙ path_more (take i fs) f in
+    let none : path (reverse (take i fs)) ++ played f.last ≡ path (reverse (take i fs)) = ap (λ (o : Option Move). path (reverse (take i fs)) ++ played o) last ∙ append-nil (path (reverse (take i fs))) in
+    (kept ∙ e ∙ sym (one ∙ none), rw kept (omega arith))
