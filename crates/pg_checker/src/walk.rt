@@ -35,12 +35,7 @@ fn game_along(frames: &[Frame]) -> ArrayVec<Move, 128>
 
 // A node with no ply left, in the tree of a length: whether its placement is the diagram. Where it
 // is, the length must be the stated one and the game must be listed.
-fn leaf(
-    question: &Question,
-    tree: u8,
-    frames: &[Frame],
-    position: &Position,
-) -> Result<bool, Cause>
+fn leaf(question: &Question, tree: u8, frames: &[Frame], position: &Position) -> Result<bool, Cause>
     requires { length frames.now ≤ 128 }
     ensures { LeafSays result (leaf_of (rules_by (λ b. code_of b) (λ b. excluded b) question.now.diagram.now question.now.plies question.now.games.now question.now.bounds.now) tree (path (reverse frames.now)) position.now) }
 {
@@ -56,4 +51,109 @@ fn leaf(
     } else {
         Err(Cause::Unlisted(game))
     }
+}
+
+// A node is entered: it ends at once, or it is open from now on.
+fn enter<S: Source>(
+    question: &Question,
+    tree: u8,
+    left: u8,
+    position: &Position,
+    machine: &mut Machine,
+    source: &mut S,
+) -> Result<(), Stop>
+    requires depth { left + length machine.old.frames.items ≡ tree }
+    requires limit { tree ≤ 128 }
+    requires kept { machine.old.table.kept ≡ count_named (reverse machine.old.frames.items) }
+    requires runs { machine.old.reader.failed ≡ false }
+    requires held { length machine.old.reader.held ≤ 4096 }
+    ensures says { Says
+        (to_come machine.old.reader (S.left source.old)) (to_come machine.new.reader (S.left source.new))
+        machine.old.room machine.new.room
+        (λ bytes n. enter_of (rules_by (λ b. code_of b) (λ b. excluded b) question.now.diagram.now question.now.plies question.now.games.now question.now.bounds.now) tree left (path (reverse machine.old.frames.items)) position.now (frames_of (reverse machine.old.frames.items)) (state_at machine.old bytes n))
+        (λ _ rest n. work_at (rules_by (λ b. code_of b) (λ b. excluded b) question.now.diagram.now question.now.plies question.now.games.now question.now.bounds.now) machine.new rest n) result }
+    ensures kept { OnOk result (machine.new.table.kept ≡ count_named (reverse machine.new.frames.items)) }
+    ensures runs { OnOk result (machine.new.reader.failed ≡ false) }
+    ensures held { length machine.new.reader.held ≤ 4096 }
+    ensures fails { FailsRead (S.has_failed source.new) result }
+    ensures few { TakesFew
+        (to_come machine.old.reader (S.left source.old)) (to_come machine.new.reader (S.left source.new))
+        (S.left source.new) machine.old.records machine.new.records result }
+{
+    if left == 0 {
+        return match leaf(question, tree, machine.frames.as_slice(), position) {
+            Ok(found) => {
+                machine.found = found;
+                Ok(())
+            }
+            Err(cause) => Err(Stop::Because(cause)),
+        };
+    }
+    match head(question, machine, source, position, left) {
+        Ok(Node::Done) => {
+            machine.found = false;
+            Ok(())
+        }
+        Ok(Node::Opened(named)) => {
+            machine.found = false;
+            machine.frames.push(Frame {
+                position: *position,
+                plies: left - 1,
+                last: None,
+                named,
+                found: false,
+            });
+            Ok(())
+        }
+        Err(stop) => Err(stop),
+    }
+}
+
+// One turn: the next move of the topmost node is played, or the node closes.
+fn turn<S: Source>(
+    question: &Question,
+    tree: u8,
+    top: Frame,
+    machine: &mut Machine,
+    source: &mut S,
+) -> Result<(), Stop>
+    requires depth { top.plies + suc (length machine.old.frames.items) ≡ tree }
+    requires limit { tree ≤ 128 }
+    requires kept { machine.old.table.kept ≡ one_if top.named + count_named (reverse machine.old.frames.items) }
+    requires runs { machine.old.reader.failed ≡ false }
+    requires held { length machine.old.reader.held ≤ 4096 }
+    ensures says { Says
+        (to_come machine.old.reader (S.left source.old)) (to_come machine.new.reader (S.left source.new))
+        machine.old.room machine.new.room
+        (λ bytes n. turn_of (rules_by (λ b. code_of b) (λ b. excluded b) question.now.diagram.now question.now.plies question.now.games.now question.now.bounds.now) tree (frame_of top (reverse machine.old.frames.items)) (frames_of (reverse machine.old.frames.items)) machine.old.found (state_at machine.old bytes n))
+        (λ _ rest n. work_at (rules_by (λ b. code_of b) (λ b. excluded b) question.now.diagram.now question.now.plies question.now.games.now question.now.bounds.now) machine.new rest n) result }
+    ensures kept { OnOk result (machine.new.table.kept ≡ count_named (reverse machine.new.frames.items)) }
+    ensures runs { OnOk result (machine.new.reader.failed ≡ false) }
+    ensures held { length machine.new.reader.held ≤ 4096 }
+    ensures fails { FailsRead (S.has_failed source.new) result }
+    ensures few { TakesFew
+        (to_come machine.old.reader (S.left source.old)) (to_come machine.new.reader (S.left source.new))
+        (S.left source.new) machine.old.records machine.new.records result }
+{
+    let found = top.found || machine.found;
+    let Some(m) = next_legal(&top.position, top.last) else {
+        if top.named {
+            machine.table.close(Entry {
+                position: top.position,
+                plies: top.plies + 1,
+                fertile: found,
+            });
+        }
+        machine.found = found;
+        return Ok(());
+    };
+    let Ok(next) = top.position.play(m) else {
+        unreachable!();
+    };
+    machine.frames.push(Frame {
+        last: Some(m),
+        found,
+        ..top
+    });
+    enter(question, tree, top.plies, &next, machine, source)
 }
