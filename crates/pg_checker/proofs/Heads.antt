@@ -1,5 +1,5 @@
 -- Reading the record of a node, and judging it. Leads to the contract of `head`.
-use Rattle.std.proofs.Common.{◌≡◌, ℕ, suc, ◌+◌, ◌-◌, ◌*◌, ◌<◌, ◌≤◌, List, [], ◌++◌, length, Option, Some, None, IfSome, map, Result, Ok, Err, refl, sym, ◌∙◌, ap, subst, arith}
+use Rattle.std.proofs.Common.{◌≡◌, ℕ, suc, ◌+◌, ◌*◌, ◌≤◌, List, length, Option, Some, None, IfSome, map, Result, Ok, Err, refl, sym, ◌∙◌, ap, subst, arith}
 use Rattle.std.proofs.lemmas.List.{length-append}
 use Rattle.std.specs.Io.KnownBytes.{Consumes, prepend_known}
 use Rattle.pg_board.specs.Placement.{Placement}
@@ -17,7 +17,7 @@ use Rattle.pg_checker.specs.Walk.{judge, head, ◌>>=◌}
 use Rattle.pg_checker.specs.Chess.{Cuts, chess, read}
 use Rattle.pg_checker.specs.Judging.{Judges, stop_of}
 use Rattle.pg_checker.specs.Machine.{entry_of, entries_of, state_at, shape_of}
-use Rattle.pg_checker.specs.Steps.{Answer, Goes, Stops, Says, TakesFew, cause_of}
+use Rattle.pg_checker.specs.Steps.{Answer, Goes, Stops, Says, TakesFew}
 use Rattle.pg_checker.specs.declared.machine.Machine.{Machine}
 use Rattle.pg_checker.specs.declared.machine.Node.{Node}
 use Rattle.pg_checker.specs.declared.stop.Cause.TheVariants as cause

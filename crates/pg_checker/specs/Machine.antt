@@ -1,5 +1,5 @@
 -- What the values of the machine stand for: the frames of the walk, its entries and its state.
-use Rattle.std.specs.Prelude.{◌≡◌, ℕ, ◌+◌, ◌≤◌, false, List, [], ◌∷◌, ◌++◌, length, map, reverse, Option, Some, None}
+use Rattle.std.specs.Prelude.{◌≡◌, ℕ, ◌+◌, ◌≤◌, Bool, true, false, List, [], ◌∷◌, ◌++◌, length, map, reverse, Option, Some, None}
 use Rattle.pg_position.specs.declared.state.State.{State}
 use Rattle.pg_position.specs.declared.moves.Move.{Move}
 use Rattle.pg_checker.specs.Tree as tree
@@ -39,6 +39,11 @@ count_named (f ∷ fs) = one_if f.named + count_named fs
 -- ---- entries
 abbrev pub entry_of : Entry → tree.Entry State
 entry_of e = record { position = e.position; plies = e.plies; fertile = e.fertile }
+
+-- the entry of a node that closes, where it is named
+abbrev pub entered : Bool → tree.Entry State → List (tree.Entry State)
+entered true e = e ∷ []
+entered false e = []
 
 abbrev pub entries_of : Machine → List (tree.Entry State)
 entries_of m = map entry_of m.table.entries

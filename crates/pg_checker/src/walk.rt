@@ -1,10 +1,13 @@
 //! The walk over the trees of a certificate, with a stack of open nodes.
-ghost use Rattle.std.specs.Prelude.{◌≡◌, ◌+◌, ◌≤◌, suc, false, length, reverse, OnOk};
+ghost use Rattle.std.specs.Prelude.{◌≡◌, ◌+◌, ◌<◌, ◌≤◌, ◌++◌, Some, suc, false, length, map, reverse, OnOk};
+ghost use Rattle.pg_position.specs.Position.{IsPosition};
+ghost use Rattle.pg_position.specs.Step.{Legal};
+ghost use Rattle.pg_moves.specs.Moves.{IsLegal};
 ghost use Rattle.pg_certificate.specs.Reader.{to_come};
 ghost use Rattle.pg_checker.specs.Cuts.{rules_by};
 ghost use Rattle.pg_checker.specs.Frames.{enter as enter_of, turn as turn_of};
 ghost use Rattle.pg_checker.specs.Judging.{LeafSays};
-ghost use Rattle.pg_checker.specs.Machine.{count_named, frame_of, frames_of, path, state_at, work_at};
+ghost use Rattle.pg_checker.specs.Machine.{count_named, entered, entry_of, frame_of, frames_of, path, state_at, work_at};
 ghost use Rattle.pg_checker.specs.Steps.{Says, FailsRead, TakesFew};
 ghost use Rattle.pg_checker.specs.Tree.{one_if};
 ghost use Rattle.pg_checker.specs.Walk.{leaf as leaf_of};
@@ -109,23 +112,69 @@ fn enter<S: Source>(
     }
 }
 
+// The position after a legal move.
+fn after(position: &Position, m: &Move) -> Position
+    requires { IsLegal position.now m.now }
+    ensures legal { Legal position.now m.now result }
+    ensures from { IsPosition position.now }
+{
+    position.side();
+    match position.play(*m) {
+        Ok(next) => next,
+        Err(_) => unreachable!(),
+    }
+}
+
+// An open node whose next move is played.
+fn advanced(top: &Frame, m: &Move, found: bool) -> Frame
+    ensures { result ≡ record top.now { last = Some m.now; found = found } }
+{
+    Frame {
+        last: Some(*m),
+        found,
+        ..*top
+    }
+}
+
+// A node closes: a named one is entered in the table.
+fn close(top: &Frame, found: bool, machine: &mut Machine)
+    requires few { top.now.plies < 128 }
+    requires kept { one_if top.now.named ≤ machine.old.table.kept }
+    ensures entries { map entry_of machine.new.table.entries ≡ map entry_of machine.old.table.entries ++ entered top.now.named (record { position = top.now.position; plies = suc top.now.plies; fertile = found }) }
+    ensures kept { machine.new.table.kept + one_if top.now.named ≡ machine.old.table.kept }
+    ensures found { machine.new.found ≡ found }
+    ensures reader { machine.new.reader ≡ machine.old.reader }
+    ensures frames { machine.new.frames ≡ machine.old.frames }
+    ensures records { machine.new.records ≡ machine.old.records }
+    ensures room { machine.new.room ≡ machine.old.room }
+{
+    machine.found = found;
+    if top.named {
+        machine.table.close(Entry {
+            position: top.position,
+            plies: top.plies + 1,
+            fertile: found,
+        });
+    }
+}
+
 // One turn: the next move of the topmost node is played, or the node closes.
 fn turn<S: Source>(
     question: &Question,
     tree: u8,
-    top: Frame,
+    top: &Frame,
     machine: &mut Machine,
     source: &mut S,
 ) -> Result<(), Stop>
-    requires depth { top.plies + suc (length machine.old.frames.items) ≡ tree }
+    requires depth { top.now.plies + suc (length machine.old.frames.items) ≡ tree }
     requires limit { tree ≤ 128 }
-    requires kept { machine.old.table.kept ≡ one_if top.named + count_named (reverse machine.old.frames.items) }
+    requires kept { machine.old.table.kept ≡ one_if top.now.named + count_named (reverse machine.old.frames.items) }
     requires runs { machine.old.reader.failed ≡ false }
     requires held { length machine.old.reader.held ≤ 4096 }
     ensures says { Says
         (to_come machine.old.reader (S.left source.old)) (to_come machine.new.reader (S.left source.new))
         machine.old.room machine.new.room
-        (λ bytes n. turn_of (rules_by (λ b. code_of b) (λ b. excluded b) question.now.diagram.now question.now.plies question.now.games.now question.now.bounds.now) tree (frame_of top (reverse machine.old.frames.items)) (frames_of (reverse machine.old.frames.items)) machine.old.found (state_at machine.old bytes n))
+        (λ bytes n. turn_of (rules_by (λ b. code_of b) (λ b. excluded b) question.now.diagram.now question.now.plies question.now.games.now question.now.bounds.now) tree (frame_of top.now (reverse machine.old.frames.items)) (frames_of (reverse machine.old.frames.items)) machine.old.found (state_at machine.old bytes n))
         (λ _ rest n. work_at (rules_by (λ b. code_of b) (λ b. excluded b) question.now.diagram.now question.now.plies question.now.games.now question.now.bounds.now) machine.new rest n) result }
     ensures kept { OnOk result (machine.new.table.kept ≡ count_named (reverse machine.new.frames.items)) }
     ensures runs { OnOk result (machine.new.reader.failed ≡ false) }
@@ -136,24 +185,15 @@ fn turn<S: Source>(
         (S.left source.new) machine.old.records machine.new.records result }
 {
     let found = top.found || machine.found;
-    let Some(m) = next_legal(&top.position, top.last) else {
-        if top.named {
-            machine.table.close(Entry {
-                position: top.position,
-                plies: top.plies + 1,
-                fertile: found,
-            });
+    match next_legal(&top.position, top.last) {
+        None => {
+            close(top, found, machine);
+            Ok(())
         }
-        machine.found = found;
-        return Ok(());
-    };
-    let Ok(next) = top.position.play(m) else {
-        unreachable!();
-    };
-    machine.frames.push(Frame {
-        last: Some(m),
-        found,
-        ..top
-    });
-    enter(question, tree, top.plies, &next, machine, source)
+        Some(m) => {
+            let next = after(&top.position, &m);
+            machine.frames.push(advanced(top, &m, found));
+            enter(question, tree, top.plies, &next, machine, source)
+        }
+    }
 }

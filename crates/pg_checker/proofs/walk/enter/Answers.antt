@@ -1,4 +1,4 @@
-use Rattle.std.proofs.Common.{◌≡◌, ◌≢◌, ◌<◌, false, refl, arith}
+use Rattle.std.proofs.Common.{◌≢◌, false, refl, arith}
 use Rattle.pg_certificate.specs.Reader.{to_come}
 use Rattle.pg_checker.specs.Cuts.{cuts_by}
 use Rattle.pg_checker.proofs.Enters.{enter_leaf, enter_stop, enter_unread, enter_done, enter_opened, kept_opened}

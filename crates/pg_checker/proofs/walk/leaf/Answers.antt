@@ -1,4 +1,4 @@
-use Rattle.std.proofs.Common.{◌≡◌, reverse, ◌∙◌}
+use Rattle.std.proofs.Common.{reverse, ◌∙◌}
 use Rattle.pg_checker.specs.Cuts.{cuts_by}
 use Rattle.pg_checker.specs.Machine.{path}
 use Rattle.pg_checker.proofs.Leaves.{leaf_off, leaf_shorter, leaf_listed, leaf_unlisted}
