@@ -25,7 +25,7 @@ use Rattle.pg_checker.proofs.FrameViews.{frames_more, count_more}
 use Rattle.pg_checker.proofs.Left.{rules_start}
 
 module _ (d : Placement) (l : ℕ) (games : List (List Move)) (cut : Cuts) (n k : ℕ) (p : State) where
-  abbrev enters : Machine → Answer (Work (chess d l games cut))
+  abbrev pub enters : Machine → Answer (Work (chess d l games cut))
   enters m rest room = enter (chess d l games cut) n k (path (reverse m.frames.items)) p (frames_of (reverse m.frames.items)) (state_at m rest room)
 
   -- a leaf

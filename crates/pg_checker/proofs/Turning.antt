@@ -36,7 +36,7 @@ kept_pushed m items top advanced same kept pushed =
     omega arith
 
 module _ (d : Placement) (l : ℕ) (games : List (List Move)) (cut : Cuts) (n : ℕ) where
-  abbrev turns : Frame → Machine → Answer (Work (chess d l games cut))
+  abbrev pub turns : Frame → Machine → Answer (Work (chess d l games cut))
   turns top m rest room = turn (chess d l games cut) n (frame_of top (reverse m.frames.items)) (frames_of (reverse m.frames.items)) m.found (state_at m rest room)
 
   turns_at : (top : Frame) (m : Machine) (rest : List ℕ) (room : ℕ) (left : List Move) → left_after top.position top.last ≡ left

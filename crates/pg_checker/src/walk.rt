@@ -1,16 +1,18 @@
 //! The walk over the trees of a certificate, with a stack of open nodes.
-ghost use Rattle.std.specs.Prelude.{◌≡◌, ◌+◌, ◌<◌, ◌≤◌, ◌++◌, Some, suc, false, length, map, reverse, OnOk};
+ghost use Rattle.std.specs.Prelude.{◌≡◌, ◌+◌, ◌<◌, ◌≤◌, ◌++◌, Some, suc, false, [], length, map, reverse, OnOk};
 ghost use Rattle.pg_position.specs.Position.{IsPosition};
 ghost use Rattle.pg_position.specs.Step.{Legal};
 ghost use Rattle.pg_moves.specs.Moves.{IsLegal};
 ghost use Rattle.pg_certificate.specs.Reader.{to_come};
 ghost use Rattle.pg_checker.specs.Cuts.{rules_by};
-ghost use Rattle.pg_checker.specs.Frames.{enter as enter_of, turn as turn_of};
+ghost use Rattle.pg_checker.specs.Frames.{enter as enter_of, finish, turn as turn_of, Stacked};
+ghost use Rattle.pg_checker.specs.Whole.{run as run_of};
+ghost use Rattle.pg_position.specs.Array.{array_state};
 ghost use Rattle.pg_checker.specs.Judging.{LeafSays};
 ghost use Rattle.pg_checker.specs.Machine.{count_named, entered, entry_of, frame_of, frames_of, path, state_at, work_at};
 ghost use Rattle.pg_checker.specs.Steps.{Says, FailsRead, TakesFew};
 ghost use Rattle.pg_checker.specs.Tree.{one_if};
-ghost use Rattle.pg_checker.specs.Walk.{leaf as leaf_of};
+ghost use Rattle.pg_checker.specs.Walk.{leaf as leaf_of, visit};
 
 use crate::machine::{Frame, Machine, Node, Question};
 use crate::node::head;
@@ -195,5 +197,108 @@ fn turn<S: Source>(
             machine.frames.push(advanced(top, &m, found));
             enter(question, tree, top.plies, &next, machine, source)
         }
+    }
+}
+
+// Turns until no node is open.
+fn run<S: Source>(
+    question: &Question,
+    tree: u8,
+    machine: &mut Machine,
+    source: &mut S,
+) -> Result<(), Stop>
+    requires stacked { Stacked tree (frames_of (reverse machine.old.frames.items)) }
+    requires limit { tree ≤ 128 }
+    requires kept { machine.old.table.kept ≡ count_named (reverse machine.old.frames.items) }
+    requires runs { machine.old.reader.failed ≡ false }
+    requires held { length machine.old.reader.held ≤ 4096 }
+    ensures says { Says
+        (to_come machine.old.reader (S.left source.old)) (to_come machine.new.reader (S.left source.new))
+        machine.old.room machine.new.room
+        (λ bytes n. finish (rules_by (λ b. code_of b) (λ b. excluded b) question.now.diagram.now question.now.plies question.now.games.now question.now.bounds.now) tree (work_at (rules_by (λ b. code_of b) (λ b. excluded b) question.now.diagram.now question.now.plies question.now.games.now question.now.bounds.now) machine.old bytes n))
+        (λ _ rest n. (machine.new.found, state_at machine.new rest n)) result }
+    ensures closed { OnOk result (machine.new.frames.items ≡ []) }
+    ensures kept { OnOk result (machine.new.table.kept ≡ 0) }
+    ensures runs { OnOk result (machine.new.reader.failed ≡ false) }
+    ensures held { length machine.new.reader.held ≤ 4096 }
+    ensures fails { FailsRead (S.has_failed source.new) result }
+    ensures few { TakesFew
+        (to_come machine.old.reader (S.left source.old)) (to_come machine.new.reader (S.left source.new))
+        (S.left source.new) machine.old.records machine.new.records result }
+{
+    while let Some(top) = machine.frames.pop() {
+        match turn(question, tree, &top, machine, source) {
+            Ok(()) => {}
+            Err(stop) => return Err(stop),
+        }
+    }
+    Ok(())
+}
+
+// The tree of one length.
+fn tree_of<S: Source>(
+    question: &Question,
+    tree: u8,
+    machine: &mut Machine,
+    source: &mut S,
+) -> Result<(), Stop>
+    requires limit { tree ≤ 128 }
+    requires closed { machine.old.frames.items ≡ [] }
+    requires kept { machine.old.table.kept ≡ 0 }
+    requires runs { machine.old.reader.failed ≡ false }
+    requires held { length machine.old.reader.held ≤ 4096 }
+    ensures says { Says
+        (to_come machine.old.reader (S.left source.old)) (to_come machine.new.reader (S.left source.new))
+        machine.old.room machine.new.room
+        (λ bytes n. visit (rules_by (λ b. code_of b) (λ b. excluded b) question.now.diagram.now question.now.plies question.now.games.now question.now.bounds.now) tree tree [] array_state (state_at machine.old bytes n))
+        (λ _ rest n. (machine.new.found, state_at machine.new rest n)) result }
+    ensures closed { OnOk result (machine.new.frames.items ≡ []) }
+    ensures kept { OnOk result (machine.new.table.kept ≡ 0) }
+    ensures runs { OnOk result (machine.new.reader.failed ≡ false) }
+    ensures held { length machine.new.reader.held ≤ 4096 }
+    ensures fails { FailsRead (S.has_failed source.new) result }
+    ensures few { TakesFew
+        (to_come machine.old.reader (S.left source.old)) (to_come machine.new.reader (S.left source.new))
+        (S.left source.new) machine.old.records machine.new.records result }
+{
+    match enter(question, tree, tree, &Position::array(), machine, source) {
+        Ok(()) => run(question, tree, machine, source),
+        Err(stop) => Err(stop),
+    }
+}
+
+/// The trees of all lengths from 0 to the stated one.
+pub(crate) fn all_trees<S: Source>(
+    question: &Question,
+    machine: &mut Machine,
+    source: &mut S,
+) -> Result<(), Stop>
+    requires limit { question.now.plies ≤ 128 }
+    requires closed { machine.old.frames.items ≡ [] }
+    requires kept { machine.old.table.kept ≡ 0 }
+    requires runs { machine.old.reader.failed ≡ false }
+    requires held { length machine.old.reader.held ≤ 4096 }
+    ensures says { Says
+        (to_come machine.old.reader (S.left source.old)) (to_come machine.new.reader (S.left source.new))
+        machine.old.room machine.new.room
+        (λ bytes n. run_of (rules_by (λ b. code_of b) (λ b. excluded b) question.now.diagram.now question.now.plies question.now.games.now question.now.bounds.now) (suc question.now.plies) 0 array_state (state_at machine.old bytes n))
+        (λ _ rest n. state_at machine.new rest n) result }
+    ensures runs { OnOk result (machine.new.reader.failed ≡ false) }
+    ensures held { length machine.new.reader.held ≤ 4096 }
+    ensures fails { FailsRead (S.has_failed source.new) result }
+    ensures few { TakesFew
+        (to_come machine.old.reader (S.left source.old)) (to_come machine.new.reader (S.left source.new))
+        (S.left source.new) machine.old.records machine.new.records result }
+{
+    let mut tree: u8 = 0;
+    'trees: loop {
+        match tree_of(question, tree, machine, source) {
+            Ok(()) => {}
+            Err(stop) => return Err(stop),
+        }
+        if tree >= question.plies {
+            return Ok(());
+        }
+        tree += 1;
     }
 }

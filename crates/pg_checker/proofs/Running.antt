@@ -1,0 +1,159 @@
+-- The loop over the open nodes. Leads to the contract of `run`.
+use Rattle.std.proofs.Common.{◌≡◌, ℕ, suc, ◌+◌, ◌*◌, ◌<◌, ◌≤◌, Bool, true, false, List, [], ◌∷◌, ◌++◌, length, reverse, map, Option, Some, None, IfSome, Result, Ok, Err, refl, sym, ◌∙◌, ap, subst, arith}
+use Rattle.std.proofs.lemmas.List.{reverse-append, length-reverse}
+use Rattle.std.specs.Io.KnownBytes.{Consumes}
+use Rattle.pg_board.specs.Placement.{Placement}
+use Rattle.pg_position.specs.declared.state.State.{State}
+use Rattle.pg_position.specs.declared.moves.Move.{Move}
+use Rattle.pg_checker.specs.Tree as tree
+use Rattle.pg_checker.specs.Tree.{one_if, Rules}
+use Rattle.pg_checker.specs.Walk as walk
+use Rattle.pg_checker.specs.Walk.{◌>>=◌}
+use Rattle.pg_checker.specs.Frames.{resume, turn, finish, effort, Stacked, Work}
+use Rattle.pg_checker.specs.Chess.{Cuts, chess}
+use Rattle.pg_checker.specs.Machine.{entry_of, frame_of, frames_of, count_named, state_at, work_at}
+use Rattle.pg_checker.specs.Steps.{Answer, Goes, Stops, Says, TakesFew}
+use Rattle.pg_checker.specs.declared.machine.Frame.{Frame}
+use Rattle.pg_checker.specs.declared.machine.Machine.{Machine}
+use Rattle.pg_checker.specs.declared.stop.Stop.{Stop}
+use Rattle.pg_checker.specs.declared.stop.Stop.TheVariants as stop
+use Rattle.pg_checker.proofs.Chess.{chess_exact, chess_few}
+use Rattle.pg_checker.proofs.Frames.{turn_is, turn_less, turn_stacked}
+use Rattle.pg_checker.proofs.FrameViews.{frames_more, count_more}
+use Rattle.pg_checker.proofs.Goings.{stays, goes_on, goes_as, goes_then, stops_on, stops_then, stops_as}
+use Rattle.pg_checker.proofs.Turning.{turns}
+
+-- ---- bytes taken
+-- between two points of the walk, at most five for each record
+abbrev pub Few : Option (List ℕ) → Option (List ℕ) → ℕ → ℕ → Type 0
+Few before after most now = IfSome before (λ bytes. IfSome after (λ rest. length bytes + 5 * now ≤ length rest + 5 * most))
+
+pub few_none : (known : Option (List ℕ)) (n : ℕ) → Few known known n n
+few_none None n = tt
+few_none (Some bytes) n = omega arith
+
+pub few_on : (a b c : Option (List ℕ)) (xs : List ℕ) (most mid now : ℕ) → Consumes a b xs → Few a b most mid → Few b c mid now → Few a c most now
+few_on None b c xs most mid now h f k = tt
+few_on (Some xs0) None c xs most mid now h f k = absurd h
+few_on (Some xs0) (Some ys0) None xs most mid now h f k = tt
+few_on (Some xs0) (Some ys0) (Some zs0) xs most mid now h f k = omega arith
+
+few_end : (a b left : Option (List ℕ)) (xs : List ℕ) (most mid : ℕ) → Consumes a b xs → Few a b most mid → IfSome b (λ bytes. IfSome left (λ rest. length bytes ≤ length rest + (4096 + 5 * mid))) → IfSome a (λ bytes. IfSome left (λ rest. length bytes ≤ length rest + (4096 + 5 * most)))
+few_end None b left xs most mid h f k = tt
+few_end (Some xs0) None left xs most mid h f k = absurd h
+few_end (Some xs0) (Some ys0) None xs most mid h f k = tt
+few_end (Some xs0) (Some ys0) (Some zs0) xs most mid h f k = omega arith
+
+pub few_then : {Y : Type 0} (a b c left : Option (List ℕ)) (xs : List ℕ) (most mid now : ℕ) (res : Result Y Stop) → Consumes a b xs → Few a b most mid → TakesFew b c left mid now res → TakesFew a c left most now res
+few_then a b c left xs most mid now (Ok y) h f k = few_on a b c xs most mid now h f k
+few_then a b c left xs most mid now (Err stop.Read) h f k = tt
+few_then a b c left xs most mid now (Err stop.Memory) h f k = few_end a b left xs most mid h f k
+few_then a b c left xs most mid now (Err (stop.Because q)) h f k = few_end a b left xs most mid h f k
+
+-- a stop says the same of an answer of another type
+pub few_stop : (X Y : Type 0) (a b c left : Option (List ℕ)) (most now other : ℕ) (s : Stop) → TakesFew {X = X} a b left most now (Err s) → TakesFew {X = Y} a c left most other (Err s)
+few_stop X Y a b c left most now other stop.Read h = tt
+few_stop X Y a b c left most now other stop.Memory h = h
+few_stop X Y a b c left most now other (stop.Because q) h = h
+
+-- ---- the stack
+pub no_frames : (items : List Frame) → (0 < length items → false ≡ true) → items ≡ []
+no_frames [] h = refl
+no_frames (f ∷ fs) h = absurd (let e : false ≡ true = h (omega arith) in cc)
+
+popped : (items rest : List Frame) (top : Frame) → items ≡ rest ++ (top ∷ []) → reverse items ≡ top ∷ reverse rest
+popped items rest top e = ap reverse e ∙ reverse-append rest (top ∷ [])
+
+frames_length : (fs : List Frame) → length (frames_of fs) ≡ length fs
+unfolding frames_of
+frames_length [] = refl
+frames_length (f ∷ fs) = ap suc (frames_length fs)
+
+frames_popped : (items rest : List Frame) (top : Frame) → items ≡ rest ++ (top ∷ []) → frames_of (reverse items) ≡ frame_of top (reverse rest) ∷ frames_of (reverse rest)
+frames_popped items rest top e = ap (λ (v : List Frame). frames_of (reverse v)) e ∙ frames_more rest top
+
+pub depth : (n : ℕ) (items rest : List Frame) (top : Frame) → items ≡ rest ++ (top ∷ []) → Stacked n (frames_of (reverse items)) → top.plies + suc (length rest) ≡ n
+depth n items rest top e h =
+    let s : Stacked n (frame_of top (reverse rest) ∷ frames_of (reverse rest)) = subst (λ v. Stacked n v) (frames_popped items rest top e) h in
+    let d = s.0 in
+    omega (arith, d, frames_length (reverse rest), length-reverse rest)
+
+pub kept_popped : (kept : ℕ) (items rest : List Frame) (top : Frame) → items ≡ rest ++ (top ∷ []) → kept ≡ count_named (reverse items) → kept ≡ one_if top.named + count_named (reverse rest)
+kept_popped kept items rest top e h = h ∙ ap (λ (v : List Frame). count_named (reverse v)) e ∙ count_more rest top
+
+pub frames_none : frames_of (reverse {A = Frame} []) ≡ []
+unfolding frames_of
+frames_none = refl
+
+pub count_none : count_named (reverse {A = Frame} []) ≡ 0
+unfolding count_named
+count_none = refl
+
+module _ (d : Placement) (l : ℕ) (games : List (List Move)) (cut : Cuts) (n : ℕ) where
+  abbrev pub finishes : Machine → Answer (Bool × walk.State State)
+  finishes m rest room = finish (chess d l games cut) n (work_at (chess d l games cut) m rest room)
+
+  -- ---- what holds at each turn, from the first machine to this one
+  pub record Runs (before after : Option (List ℕ)) (old now : Machine) : Type 0 where
+    pub stacked : Stacked n (frames_of (reverse now.frames.items))
+    pub kept : now.table.kept ≡ count_named (reverse now.frames.items)
+    pub runs : now.reader.failed ≡ false
+    pub held : length now.reader.held ≤ 4096
+    pub few : Few before after old.records now.records
+    pub goes : Goes before after old.room now.room (finishes old) (finishes now)
+
+  pub runs_start : (known : Option (List ℕ)) (m : Machine) → Stacked n (frames_of (reverse m.frames.items)) → m.table.kept ≡ count_named (reverse m.frames.items) → m.reader.failed ≡ false → length m.reader.held ≤ 4096 → Runs known known m m
+  runs_start known m stacked kept runs held = record { stacked = stacked; kept = kept; runs = runs; held = held; few = few_none known m.records; goes = stays known m.room (finishes m) (finishes m) (λ rest room. refl) }
+
+  -- the next turn, and then the rest
+  turned : (now mid : Machine) (top : Frame) → now.frames.items ≡ mid.frames.items ++ (top ∷ []) → mid.found ≡ now.found → mid.table ≡ now.table → mid.records ≡ now.records → (rest : List ℕ) (room : ℕ) → finishes now rest room ≡ (turns d l games cut n top mid rest room >>= finish (chess d l games cut) n)
+  turned now mid top items found table records rest room =
+      ap (λ v. resume (chess d l games cut) n v (now.found, state_at now rest room)) (frames_popped now.frames.items mid.frames.items top items)
+      ∙ turn_is (chess d l games cut) n (frame_of top (reverse mid.frames.items)) (frames_of (reverse mid.frames.items)) now.found (state_at now rest room)
+      ∙ (λ i. turn (chess d l games cut) n (frame_of top (reverse mid.frames.items)) (frames_of (reverse mid.frames.items)) (sym found i) (record { rest = rest; entries = map entry_of (sym table i).entries; records = sym records i; room = room }) >>= finish (chess d l games cut) n)
+
+  pub runs_on : (before here after : Option (List ℕ)) (old now mid new : Machine) (top : Frame) → Runs before here old now → now.frames.items ≡ mid.frames.items ++ (top ∷ []) → mid.found ≡ now.found → mid.table ≡ now.table → mid.records ≡ now.records → mid.room ≡ now.room
+      → Goes here after mid.room new.room (turns d l games cut n top mid) (λ rest room. Ok (work_at (chess d l games cut) new rest room)) → new.table.kept ≡ count_named (reverse new.frames.items) → new.reader.failed ≡ false → length new.reader.held ≤ 4096 → Few here after mid.records new.records
+      → Runs before after old new
+  runs_on before here after old now mid new top run items found table records room turning kept runs held few = record {
+    stacked = turn_stacked (chess d l games cut) n n (frame_of top (reverse mid.frames.items)) (frames_of (reverse mid.frames.items)) mid.found (state_at mid (turning.taken ++ []) (turning.used + 0)) (work_at (chess d l games cut) new [] 0) (subst (λ v. Stacked n v) (frames_popped now.frames.items mid.frames.items top items) run.stacked) (turning.same [] 0);
+    kept = kept;
+    runs = runs;
+    held = held;
+    few = few_on before here after run.goes.taken old.records now.records new.records run.goes.consumes run.few (subst (λ (m : ℕ). Few here after m new.records) records few);
+    goes = goes_on before here after old.room now.room new.room (finishes old) (finishes now) (finishes new) run.goes
+        (goes_as here after now.room new.room (λ rest x. turns d l games cut n top mid rest x >>= finish (chess d l games cut) n) (finishes new) (finishes now) (finishes new) (turned now mid top items found table records) (λ rest x. refl)
+        (subst (λ (m : ℕ). Goes here after m new.room (λ rest x. turns d l games cut n top mid rest x >>= finish (chess d l games cut) n) (finishes new)) room
+        (goes_then here after mid.room new.room (turns d l games cut n top mid) (λ rest x. Ok (work_at (chess d l games cut) new rest x)) (finish (chess d l games cut) n) turning)));
+  }
+
+  -- there is less to do
+  pub runs_less : (here after : Option (List ℕ)) (now mid new : Machine) (top : Frame) → now.frames.items ≡ mid.frames.items ++ (top ∷ []) → mid.records ≡ now.records
+      → Goes here after mid.room new.room (turns d l games cut n top mid) (λ rest room. Ok (work_at (chess d l games cut) new rest room))
+      → effort (chess d l games cut) 28672 (work_at (chess d l games cut) new [] 0) < effort (chess d l games cut) 28672 (work_at (chess d l games cut) now [] 0)
+  runs_less here after now mid new top items records turning =
+      let less = turn_less (chess d l games cut) (chess_exact d l games cut) 28672 (chess_few d l games cut) n (frame_of top (reverse mid.frames.items)) (frames_of (reverse mid.frames.items)) mid.found (state_at mid (turning.taken ++ []) (turning.used + 0)) (work_at (chess d l games cut) new [] 0) (turning.same [] 0) in
+      subst (λ (m : ℕ). effort (chess d l games cut) 28672 (work_at (chess d l games cut) new [] 0) < effort (chess d l games cut) 28672 (record { frames = frames_of (reverse now.frames.items); found = now.found; state = record (state_at now [] 0) { records = m } })) records
+      (subst (λ v. effort (chess d l games cut) 28672 (work_at (chess d l games cut) new [] 0) < effort (chess d l games cut) 28672 (record { frames = v; found = now.found; state = record (state_at now [] 0) { records = mid.records } })) (sym (frames_popped now.frames.items mid.frames.items top items)) less)
+
+  -- a turn stops
+  pub runs_stop : (before here : Option (List ℕ)) (old now mid : Machine) (top : Frame) (s : Stop) → Runs before here old now → now.frames.items ≡ mid.frames.items ++ (top ∷ []) → mid.found ≡ now.found → mid.table ≡ now.table → mid.records ≡ now.records → mid.room ≡ now.room
+      → Stops here mid.room (turns d l games cut n top mid) s → Stops before old.room (finishes old) s
+  runs_stop before here old now mid top s run items found table records room h =
+      stops_on before here old.room now.room (finishes old) (finishes now) s run.goes
+      (stops_as here now.room (λ rest x. turns d l games cut n top mid rest x >>= finish (chess d l games cut) n) (finishes now) s (turned now mid top items found table records)
+      (subst (λ (m : ℕ). Stops here m (λ rest x. turns d l games cut n top mid rest x >>= finish (chess d l games cut) n) s) room
+      (stops_then here mid.room (turns d l games cut n top mid) (finish (chess d l games cut) n) s h)))
+
+  -- nothing is open
+  pub runs_end : (before here : Option (List ℕ)) (old now : Machine) → Runs before here old now → now.frames.items ≡ [] → Goes before here old.room now.room (finishes old) (λ rest room. Ok (now.found, state_at now rest room))
+  runs_end before here old now run none = goes_as before here old.room now.room (finishes old) (finishes now) (finishes old) (λ rest room. Ok (now.found, state_at now rest room)) (λ rest room. refl) (λ rest room. closed rest room) run.goes
+    where
+      closed : (rest : List ℕ) (room : ℕ) → finishes now rest room ≡ Ok (now.found, state_at now rest room)
+      closed rest room = ap (λ (v : List Frame). finish (chess d l games cut) n (record { frames = frames_of (reverse v); found = now.found; state = state_at now rest room })) none ∙ ap (λ v. resume (chess d l games cut) n v (now.found, state_at now rest room)) empty
+        where
+          empty : frames_of (reverse []) ≡ []
+          empty = frames_none
+
+  pub kept_end : (before here : Option (List ℕ)) (old now : Machine) → Runs before here old now → now.frames.items ≡ [] → now.table.kept ≡ 0
+  kept_end before here old now run none = run.kept ∙ ap (λ (v : List Frame). count_named (reverse v)) none ∙ count_none
