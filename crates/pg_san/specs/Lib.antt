@@ -1,0 +1,4 @@
+pub mod CoreText
+pub mod Said
+pub mod Matching
+pub mod Walk
