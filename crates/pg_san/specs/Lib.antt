@@ -1,2 +1,6 @@
+pub mod CoreText
+pub mod Said
+pub mod Matching
+pub mod Walk
 pub mod Games
 pub mod Adding

@@ -1,8 +1,17 @@
-//! Moves as text, and lists of games.
+//! Moves as text: standard algebraic notation (the PGN standard, section 8.2.3), written in one way
+//! and read in many; and lists of games.
 #![tactic(auto)]
 
 mod adding;
+mod castling;
+mod cores;
+mod fault;
 mod games;
+mod matching;
+mod reading;
+mod said;
 
 pub use adding::AddFault;
+pub use fault::SanFault;
 pub use games::Games;
+pub use reading::read;
