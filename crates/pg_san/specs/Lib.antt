@@ -4,3 +4,7 @@ pub mod Matching
 pub mod Walk
 pub mod Games
 pub mod Adding
+pub mod GameText
+pub mod TextLeft
+pub mod Listing
+pub mod LineReading

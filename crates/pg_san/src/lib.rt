@@ -7,11 +7,16 @@ mod castling;
 mod cores;
 mod fault;
 mod games;
+mod lines;
+mod listing;
+mod listing_fault;
 mod matching;
 mod reading;
 mod said;
+mod words;
 
 pub use adding::AddFault;
 pub use fault::SanFault;
 pub use games::Games;
+pub use listing_fault::GamesFault;
 pub use reading::read;
