@@ -7,7 +7,12 @@ mod cores;
 mod fault;
 mod matching;
 mod reading;
+mod rivals;
 mod said;
+mod spelling;
+mod text;
+mod writing;
 
 pub use fault::SanFault;
 pub use reading::read;
+pub use writing::{San, write};
