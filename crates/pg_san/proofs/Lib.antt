@@ -1,3 +1,6 @@
+pub mod MoveLemmas
+pub mod WalkLemmas
+pub mod RivalLemmas
 pub mod GameLemmas
 pub mod OrderLemmas
 pub mod PlaceLemmas

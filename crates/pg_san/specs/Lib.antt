@@ -2,6 +2,8 @@ pub mod CoreText
 pub mod Said
 pub mod Matching
 pub mod Walk
+pub mod Spelling
+pub mod Writing
 pub mod Games
 pub mod Adding
 pub mod GameText

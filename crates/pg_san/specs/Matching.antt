@@ -1,5 +1,5 @@
 -- Which legal moves are as a text says, and what reading the text in a position gives.
-use Rattle.std.specs.Prelude.{◌≡◌, ◌≢◌, ℕ, ◌⊎◌, Bool, true, List, Option, Some, None, IfSome, Result, Ok, Err}
+use Rattle.std.specs.Prelude.{◌≡◌, ◌≢◌, ℕ, ◌+◌, ◌⊎◌, Bool, true, List, Option, Some, None, IfSome, Result, Ok, Err}
 use Rattle.pg_board.specs.declared.man.Kind.{Kind}
 use Rattle.pg_board.specs.Squares.{file, rank}
 use Rattle.pg_position.specs.declared.rights.Wing.{Wing}
@@ -23,6 +23,11 @@ use Rattle.pg_san.specs.Said.{said_of}
 abbrev pub wing_of : Castling → Wing
 wing_of Short = KingSide
 wing_of Long = QueenSide
+
+-- the way of a king that castles: two files towards the h-file, or towards the a-file
+abbrev pub GoesTwo : Castling → ℕ → ℕ → Type 0
+GoesTwo Short r s = file s ≡ file r + 2
+GoesTwo Long r s = file r ≡ file s + 2
 
 -- the move of a man of kind k captures, en passant included
 abbrev pub Takes : State → Kind → Move → Type 0

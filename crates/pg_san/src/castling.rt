@@ -1,10 +1,6 @@
 //! Castling to either side.
-ghost use Rattle.std.specs.Prelude.{◌↔◌, IsTrue};
-ghost use Rattle.pg_position.specs.declared.state.State.{State};
-ghost use Rattle.pg_position.specs.Position.{Stands};
-ghost use Rattle.pg_position.specs.Step.{IsCastling};
-ghost use Rattle.pg_moves.specs.Moves.{IsLegal};
-ghost use Rattle.pg_san.specs.Matching.{wing_of};
+ghost use Rattle.std.specs.Prelude.{◌≡◌, ◌↔◌, IsTrue};
+ghost use Rattle.pg_san.specs.Matching.{GoesTwo};
 
 use pg_board::Kind;
 use pg_position::Move;
@@ -16,10 +12,9 @@ pub enum Castling {
     Long,
 }
 
-// Whether a legal move of a man of this kind castles so: the king goes two files that way.
+// Whether a man of this kind goes as a king that castles so. In a legal move only castling is so.
 pub fn castles(kind: Kind, m: &Move, castling: Castling) -> bool
-    ensures { (p : State) → IsLegal p m.now → Stands p.board p.side kind m.now.from
-        → (IsTrue result ↔ IsCastling p kind m.now (wing_of castling)) }
+    ensures { IsTrue result ↔ ((kind ≡ Kind.King) × GoesTwo castling m.now.from m.now.to) }
 {
     kind == Kind::King
         && match castling {

@@ -12,7 +12,11 @@ mod listing;
 mod listing_fault;
 mod matching;
 mod reading;
+mod rivals;
 mod said;
+mod spelling;
+mod text;
+mod writing;
 mod words;
 
 pub use adding::AddFault;
@@ -20,3 +24,4 @@ pub use fault::SanFault;
 pub use games::Games;
 pub use listing_fault::GamesFault;
 pub use reading::read;
+pub use writing::{San, write};

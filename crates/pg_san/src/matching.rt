@@ -1,5 +1,5 @@
 //! Whether a legal move is as a text says.
-ghost use Rattle.std.specs.Prelude.{◌≡◌, ◌↔◌, IsTrue, IfSome};
+ghost use Rattle.std.specs.Prelude.{◌≡◌, ◌≢◌, ◌↔◌, IsTrue, IfSome, Some};
 ghost use Rattle.pg_board.specs.Squares.{file, rank};
 ghost use Rattle.pg_position.specs.Position.{Stands, IsPosition};
 ghost use Rattle.pg_position.specs.Step.{IsEnemy, IsEnPassant};
@@ -12,6 +12,7 @@ use crate::said::{Form, Said};
 use pg_board::{Kind, Square};
 use pg_position::{Move, Position};
 
+#[tactic(auto, unfolding(pg_position::specs::Step::IsEnemy))]
 fn is_enemy(position: &Position, square: Square) -> bool
     ensures { IsTrue result ↔ IsEnemy position.now.board position.now.side square }
 {
@@ -21,14 +22,24 @@ fn is_enemy(position: &Position, square: Square) -> bool
     }
 }
 
-// Whether a legal move of a man of this kind captures en passant: no pawn goes straight to the passed
-// square, which the other side's pawn stands behind.
+// Whether a man of this kind comes to the passed square from another file, as a pawn.
+fn is_aside(position: &Position, kind: Kind, m: &Move) -> bool
+    ensures { IsTrue result ↔ ((kind ≡ Kind.Pawn) × (position.now.passed ≡ Some m.now.to) × (file m.now.from ≢ file m.now.to)) }
+{
+    kind == Kind::Pawn
+        && position.passed() == Some(m.to)
+        && m.from.file() != m.to.file()
+}
+
+// Whether a legal move of a man of this kind captures en passant. No pawn goes straight to the passed
+// square: the other side's pawn stands in front of it.
 fn passes(position: &Position, kind: Kind, m: &Move) -> bool
     requires legal { IsLegal position.now m.now }
     requires stands { Stands position.now.board position.now.side kind m.now.from }
     ensures { IsTrue result ↔ IsEnPassant position.now kind m.now }
 {
-    kind == Kind::Pawn && position.passed() == Some(m.to) && m.from.file() != m.to.file()
+    position.side();
+    is_aside(position, kind, m)
 }
 
 // Whether a legal move of a man of this kind captures.
@@ -99,14 +110,23 @@ fn fits_as(position: &Position, said: &Said, kind: Kind, m: &Move) -> bool
     fits_form(position, &said.form, kind, m) && (!said.passing || passes(position, kind, m))
 }
 
+// The kind of the man that makes a legal move.
+#[tactic(auto, using(crate::proofs::MoveLemmas::mover_stands, crate::proofs::MoveLemmas::some_mover))]
+pub fn mover(position: &Position, m: &Move) -> Kind
+    requires { IsLegal position.now m.now }
+    ensures { Stands position.now.board position.now.side result m.now.from }
+{
+    match position.board().get(m.from) {
+        Some(man) => man.kind,
+        None => unreachable!(),
+    }
+}
+
 /// Whether a legal move is as the text says.
-#[tactic(auto, unfolding(crate::specs::Matching::Fits))]
+#[tactic(auto, using(crate::proofs::MoveLemmas::as_stands), unfolding(crate::specs::Matching::Fits))]
 pub fn fits(position: &Position, said: &Said, m: &Move) -> bool
     requires { IsLegal position.now m.now }
     ensures { IsTrue result ↔ Fits position.now said.now m.now }
 {
-    match position.board().get(m.from) {
-        Some(man) => fits_as(position, said, man.kind, m),
-        None => false,
-    }
+    fits_as(position, said, mover(position, m), m)
 }

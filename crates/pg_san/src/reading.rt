@@ -1,8 +1,10 @@
 //! Reading a move.
 ghost use Rattle.std.specs.Prelude.{MatchOption, Some};
 ghost use Rattle.std.specs.Bool.{OnTrue, OnFalse};
+ghost use Rattle.std.specs.Option.{ForSome};
 ghost use Rattle.pg_position.specs.declared.moves.Move.{Move};
 ghost use Rattle.pg_san.specs.Matching.{IsReading};
+ghost use Rattle.pg_moves.specs.Moves.{IsLegal};
 ghost use Rattle.pg_san.specs.Walk.{NoneFits, IsFirstFit};
 
 use crate::fault::SanFault;
@@ -11,8 +13,9 @@ use crate::said::{Said, said_of};
 use pg_moves::next_legal;
 use pg_position::{Move, Position};
 
-// The first legal move that is as the text says, of those after the move handed in, or of all.
+// The first legal move that is as the text says, of those after the legal move handed in, or of all.
 fn next_fit(position: &Position, said: &Said, after: Option<Move>) -> Option<Move>
+    requires { ForSome after (λ m. IsLegal position.now m) }
     ensures { MatchOption result (NoneFits position.now said.now after) (λ m. IsFirstFit position.now said.now after m) }
 {
     let mut last = after;
@@ -27,6 +30,7 @@ fn next_fit(position: &Position, said: &Said, after: Option<Move>) -> Option<Mov
 
 // Whether a legal move after this one is as the text says.
 fn fits_later(position: &Position, said: &Said, first: &Move) -> bool
+    requires { IsLegal position.now first.now }
     ensures yes { OnTrue result ((m : Move) × IsFirstFit position.now said.now (Some first.now) m) }
     ensures no { OnFalse result (NoneFits position.now said.now (Some first.now)) }
 {
