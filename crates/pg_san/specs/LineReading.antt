@@ -2,20 +2,20 @@
 use Rattle.std.specs.Prelude.{◌≡◌, ◌≢◌, ℕ, ◌⊎◌, List, []}
 use Rattle.pg_position.specs.declared.moves.Move.{Move}
 use Rattle.pg_san.specs.declared.listing.LineFault.{LineFault}
-use Rattle.pg_san.specs.declared.listing.LineFault.TheVariants.{At, Memory}
+use Rattle.pg_san.specs.declared.listing.LineFault.TheVariants.{Word, NoMemory}
 use Rattle.pg_san.specs.Adding.{IsAdded}
 use Rattle.pg_san.specs.GameText.{words}
 use Rattle.pg_san.specs.Listing.{IsBadWord, IsBadLine, IsGameLine}
 
 -- why words are no game; nothing is said where memory was refused
 abbrev pub IsWordsFault : List (List ℕ) → LineFault → Type 0
-IsWordsFault ws Memory = Unit {0}
-IsWordsFault ws (At ply cause) = IsBadWord ws ply cause
+IsWordsFault ws NoMemory = Unit {0}
+IsWordsFault ws (Word ply cause) = IsBadWord ws ply cause
 
 -- why a line is no game
 abbrev pub IsGameFault : List ℕ → LineFault → Type 0
-IsGameFault line Memory = Unit {0}
-IsGameFault line (At ply cause) = IsBadLine line ply cause
+IsGameFault line NoMemory = Unit {0}
+IsGameFault line (Word ply cause) = IsBadLine line ply cause
 
 -- behind the line the list holds its game too, or, where the line has no words, is as it was
 unfoldable pub IsLineRead : List ℕ → List (List Move) → List (List Move) → Type 0

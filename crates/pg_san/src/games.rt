@@ -3,7 +3,7 @@ ghost use Rattle.std.specs.Prelude.{◌≡◌, ◌<◌, ◌≤◌, ◌↔◌, Is
 ghost use Rattle.std.specs.List.{Contains};
 ghost use Rattle.std.specs.List.Sorted.{IsStrictlySortedBy};
 ghost use Rattle.pg_san.specs.Games.{game_cmp, IsFromArray, IsGames, IsPlace};
-ghost use Rattle.pg_san.specs.Adding.{IsIllegalAt, IsAdded, IsAddFault, IsNew};
+ghost use Rattle.pg_san.specs.Adding.{IsIllegalAt, IsAdded, IsAddFault, IsNew, IsAdmitFault};
 
 use crate::adding::AddFault;
 use pg_position::{Move, Position};
@@ -12,7 +12,7 @@ use std::cmp::Ordering;
 use std::marker::Model;
 
 // The most games that a list holds.
-const MOST: usize = 4096;
+pub(crate) const MOST: usize = 4096;
 
 /// Different games from the initial array, in canonical order: the first moves that differ decide,
 /// and a game comes before each that goes on from it. At most 4,096 games. Contracts see the list of
@@ -139,6 +139,23 @@ impl Games {
             Err(_) => return Err(AddFault::Memory),
         };
         match self.put(i, copy) {
+            Ok(()) => Ok(()),
+            Err(_) => Err(AddFault::Memory),
+        }
+    }
+
+    // Adds a game that is known to be one, where there is room.
+    pub(crate) fn admit(&mut self, game: Vec<Move>) -> Result<(), AddFault>
+        requires legal { IsFromArray game.items }
+        requires room { length self.old < 4096 }
+        ensures ok { OnOk result (IsAdded self.old game.items self.new) }
+        ensures err { IfErr result (λ e. IsAdmitFault self.old game.items e) }
+    {
+        let i = match place(&self.games, game.as_slice()) {
+            Ok(_) => return Err(AddFault::Repeated),
+            Err(i) => i,
+        };
+        match self.put(i, game) {
             Ok(()) => Ok(()),
             Err(_) => Err(AddFault::Memory),
         }

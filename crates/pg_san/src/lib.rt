@@ -16,12 +16,13 @@ mod rivals;
 mod said;
 mod spelling;
 mod text;
-mod writing;
 mod words;
+mod writing;
 
 pub use adding::AddFault;
 pub use fault::SanFault;
 pub use games::Games;
+pub use listing::read_games;
 pub use listing_fault::GamesFault;
 pub use reading::read;
 pub use writing::{San, write};

@@ -22,7 +22,7 @@ loop-word-preserved c =
 pub returns-in-Err : goal.returns-in-Err
 returns-in-Err c =
     let l : 0 < length c.bare-text.result.now = grind (arith, nat_tests) in
-    let n : c.len.result ≡ vec_len c.loop-word.game = c.len.ensures in
+    let n : c.len.result ≡ length c.loop-word.game.items = omega arith in
     rw n (spelled_bad (words c.args.line.now) (words c.loop-word.rest.now) (words c.in-Some.after.now) c.in-Some.word.now c.bare-text.result.now c.loop-word.game.items c.loop-word.here c.in-Err.cause c.loop-word.invariant c.in-Some.ensures.0 c.bare-text.ensures l c.in-Err.ensures)
 
 pub loop-word-preserved-in-Ok-push : goal.loop-word-preserved-in-Ok-push
