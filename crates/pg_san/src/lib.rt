@@ -8,6 +8,7 @@ mod cores;
 mod fault;
 mod games;
 mod lines;
+mod list_laws;
 mod listing;
 mod listing_fault;
 mod matching;
@@ -22,7 +23,11 @@ mod writing;
 pub use adding::AddFault;
 pub use fault::SanFault;
 pub use games::Games;
+pub use list_laws::{games_stand_once, one_list_of_games};
 pub use listing::read_games;
 pub use listing_fault::GamesFault;
 pub use reading::read;
 pub use writing::{San, write};
+
+#[cfg(test)]
+mod list_tests;

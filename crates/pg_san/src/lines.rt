@@ -18,7 +18,7 @@ fn without_return(line: &[u8]) -> &[u8]
 }
 
 // The first line, and what follows its line feed, if it has one.
-pub fn next_line(text: &[u8]) -> (&[u8], Option<&[u8]>)
+pub(crate) fn next_line(text: &[u8]) -> (&[u8], Option<&[u8]>)
     ensures cut { lines text.now ≡ result.0.now ∷ lines_left result.1 }
     ensures less { length_left result.1 < length text.now + 1 }
 {

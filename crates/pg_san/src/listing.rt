@@ -20,7 +20,7 @@ use std::alloc::Global;
 
 // Why a line is no game.
 #[derive(Clone, Copy, Debug)]
-pub enum LineFault {
+enum LineFault {
     Word(usize, SanFault),
     NoMemory,
 }

@@ -24,7 +24,7 @@ fn word_len(text: &[u8]) -> usize
 }
 
 // The first word, and what follows it.
-pub fn next_word(text: &[u8]) -> Option<(&[u8], &[u8])>
+pub(crate) fn next_word(text: &[u8]) -> Option<(&[u8], &[u8])>
     ensures { MatchOption result
         (words text.now ≡ [])
         (λ r. (words text.now ≡ r.0.now ∷ words r.1.now) × (length r.1.now < length text.now)) }
@@ -52,7 +52,7 @@ fn dot_len(text: &[u8]) -> usize
 
 // The word without a move number at its front.
 #[tactic(auto, unfolding(crate::specs::GameText::bare))]
-pub fn bare(word: &[u8]) -> &[u8]
+pub(crate) fn bare(word: &[u8]) -> &[u8]
     ensures { result.now ≡ bare word.now }
 {
     let digits = digits_len(word);
