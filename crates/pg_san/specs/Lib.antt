@@ -4,3 +4,4 @@ pub mod Matching
 pub mod Walk
 pub mod Spelling
 pub mod Writing
+pub mod Grammar

@@ -5,6 +5,7 @@
 mod castling;
 mod cores;
 mod fault;
+mod laws;
 mod matching;
 mod reading;
 mod rivals;
@@ -14,5 +15,6 @@ mod text;
 mod writing;
 
 pub use fault::SanFault;
+pub use laws::{texts_differ, written_text_is_matched};
 pub use reading::read;
 pub use writing::{San, write};

@@ -66,11 +66,11 @@ fn sign(next: &Position) -> &'static str
     ensures { IsSignOf next.now result.now }
 {
     if !next.in_check() {
-        ""
-    } else if next_legal(next, None).is_none() {
-        "#"
-    } else {
-        "+"
+        return "";
+    }
+    match next_legal(next, None) {
+        Some(_) => "+",
+        None => "#",
     }
 }
 
