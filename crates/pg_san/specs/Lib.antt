@@ -4,6 +4,7 @@ pub mod Matching
 pub mod Walk
 pub mod Spelling
 pub mod Writing
+pub mod Grammar
 pub mod Games
 pub mod Adding
 pub mod GameText

@@ -1,6 +1,6 @@
 use Rattle.std.proofs.Common.{length}
 use Rattle.pg_san.specs.GameText.{words}
-use Rattle.pg_san.proofs.SpellLemmas.{IsSpelled}
+use Rattle.pg_san.proofs.WordReadingLemmas.{IsSpelled}
 use Rattle.pg_san.proofs.listing.read_words.Given as goal
 
 abbrev pub invariant-loop-word : goal.invariant-loop-word

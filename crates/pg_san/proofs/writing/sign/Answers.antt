@@ -1,4 +1,5 @@
+use Rattle.std.proofs.Common.{refl, inl, inr}
 use Rattle.pg_san.proofs.writing.sign.Goals as goal
 
-pub returns-then-is_none : goal.returns-then-is_none
-returns-then-is_none c = let a = c.if-is_none.ensures in let b = c.next_legal.ensures in let d = c.is_none.ensures in ?
+pub returns-in-None : goal.returns-in-None
+returns-in-None c = inr (inr (c.in_check.ensures.0 c.if-not-in_check.false, (λ h. c.in-None.ensures h.0 h.1 tt), refl))
