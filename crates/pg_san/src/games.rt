@@ -1,5 +1,5 @@
 //! Lists of different games in canonical order.
-ghost use Rattle.std.specs.Prelude.{◌≡◌, ◌<◌, ◌≤◌, ◌↔◌, IsTrue, List, [], length, MatchOption, MatchResult, IfErr, OnOk, OnErr, Some, slice_get, map};
+ghost use Rattle.std.specs.Prelude.{◌≡◌, ◌<◌, ◌≤◌, ◌↔◌, IsTrue, List, [], length, MatchOption, IfErr, OnOk, OnErr, Some, slice_get, map};
 ghost use Rattle.std.specs.List.{Contains};
 ghost use Rattle.std.specs.List.Sorted.{IsStrictlySortedBy};
 ghost use Rattle.pg_san.specs.Games.{game_cmp, IsFromArray, IsGames, IsPlace};
@@ -55,14 +55,16 @@ fn first_illegal(game: &[Move]) -> Option<usize>
     None
 }
 
-// Where the game stands among games in canonical order, or, where it is not among them, would stand.
-fn place(games: &Vec<Vec<Move>>, game: &[Move]) -> Result<usize, usize>
+// The place that the game would take among games in canonical order; none where it is among them.
+fn place(games: &Vec<Vec<Move>>, game: &[Move]) -> Option<usize>
     requires { IsStrictlySortedBy game_cmp (map (λ v. v.items) games.now.items) }
-    ensures { MatchResult result
-        (λ _. Contains (map (λ v. v.items) games.now.items) game.now)
+    ensures { MatchOption result
+        (Contains (map (λ v. v.items) games.now.items) game.now)
         (λ i. IsPlace (map (λ v. v.items) games.now.items) game.now i) }
 {
-    games.binary_search_by(|held| compare(held.as_slice(), game))
+    games
+        .binary_search_by(|held| compare(held.as_slice(), game))
+        .err()
 }
 
 impl Games {
@@ -97,7 +99,7 @@ impl Games {
     pub fn contains(&self, game: &[Move]) -> bool
         ensures { IsTrue result ↔ Contains self.now game.now }
     {
-        place(&self.games, game).is_ok()
+        place(&self.games, game).is_none()
     }
 
     // Puts a game of its own at its place.
@@ -130,9 +132,8 @@ impl Games {
         if self.len() >= MOST {
             return Err(AddFault::TooMany);
         }
-        let i = match place(&self.games, game) {
-            Ok(_) => return Err(AddFault::Repeated),
-            Err(i) => i,
+        let Some(i) = place(&self.games, game) else {
+            return Err(AddFault::Repeated);
         };
         let copy = match Vec::from_slice(*self.games.allocator(), game) {
             Ok(copy) => copy,
@@ -151,9 +152,8 @@ impl Games {
         ensures ok { OnOk result (IsAdded self.old game.items self.new) }
         ensures err { IfErr result (λ e. IsAdmitFault self.old game.items e) }
     {
-        let i = match place(&self.games, game.as_slice()) {
-            Ok(_) => return Err(AddFault::Repeated),
-            Err(i) => i,
+        let Some(i) = place(&self.games, game.as_slice()) else {
+            return Err(AddFault::Repeated);
         };
         match self.put(i, game) {
             Ok(()) => Ok(()),
