@@ -12,3 +12,4 @@ pub mod WordLemmas
 pub mod LineLemmas
 pub mod WordReadingLemmas
 pub mod ListingLemmas
+pub mod OneAnswerLemmas

@@ -25,7 +25,7 @@ pub use adding::AddFault;
 pub use fault::SanFault;
 pub use games::Games;
 pub use laws::{texts_differ, written_text_is_matched};
-pub use list_laws::{games_stand_once, one_list_of_games};
+pub use list_laws::{games_stand_once, one_answer_to_a_text, one_list_of_games};
 pub use listing::read_games;
 pub use listing_fault::GamesFault;
 pub use reading::read;

@@ -14,4 +14,4 @@ returns c =
     let within = subst (λ (xs : List (Vec Move Global)). IsSearchInRange r (length xs)) c.deref.ensures.value c.binary_search_by.ensures.bound in
     let at = subst (λ (xs : List (Vec Move Global)). IsBinarySearchResult (λ v. game_cmp v.items c.args.game.now) xs r) c.deref.ensures.value found in
     subst (λ (o : Option ℕ). MatchOption o (Contains (map (λ v. v.items) c.args.games.now.items) c.args.game.now) (λ i. IsPlace (map (λ v. v.items) c.args.games.now.items) c.args.game.now i)) (sym c.err.ensures.value)
-        (searched (λ v. v.items) c.args.games.now.items c.args.game.now r c.requires within at)
+    (searched (λ v. v.items) c.args.games.now.items c.args.game.now r c.requires within at)
