@@ -18,3 +18,6 @@ pub use fault::SanFault;
 pub use laws::{texts_differ, written_text_is_matched};
 pub use reading::read;
 pub use writing::{San, write};
+
+#[cfg(test)]
+mod tests;

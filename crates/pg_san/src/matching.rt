@@ -26,9 +26,7 @@ fn is_enemy(position: &Position, square: Square) -> bool
 fn is_aside(position: &Position, kind: Kind, m: &Move) -> bool
     ensures { IsTrue result ↔ ((kind ≡ Kind.Pawn) × (position.now.passed ≡ Some m.now.to) × (file m.now.from ≢ file m.now.to)) }
 {
-    kind == Kind::Pawn
-        && position.passed() == Some(m.to)
-        && m.from.file() != m.to.file()
+    kind == Kind::Pawn && position.passed() == Some(m.to) && m.from.file() != m.to.file()
 }
 
 // Whether a legal move of a man of this kind captures en passant. No pawn goes straight to the passed

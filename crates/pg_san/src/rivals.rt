@@ -67,9 +67,7 @@ impl Hint {
     fn is_other(position: &Position, kind: Kind, m: &Move, line: Line, square: Square) -> bool
         ensures { IsTrue result ↔ (IsOn line square m.now.from × (square ≢ m.now.from) × Stands position.now.board position.now.side kind square) }
     {
-        line.is_on(square, m.from)
-            && square != m.from
-            && Hint::stands(position, kind, square)
+        line.is_on(square, m.from) && square != m.from && Hint::stands(position, kind, square)
     }
 
     fn is_rival(position: &Position, kind: Kind, m: &Move, line: Line, square: Square) -> bool

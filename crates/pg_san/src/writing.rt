@@ -78,7 +78,9 @@ fn write_move(position: &Position, m: &Move) -> San
     requires { IsLegal position.now m.now }
     ensures { IsSan position.now m.now result.bytes }
 {
-    let Ok(next) = position.play(*m) else { unreachable!() };
+    let Ok(next) = position.play(*m) else {
+        unreachable!()
+    };
     let kind = mover(position, m);
     let form = form(position, kind, m);
     write_form(kind, &form, sign(&next))
