@@ -106,20 +106,20 @@ begins_check check text (inr (inl e)) h = rw e (record { byte = 43; more = text;
 begins_check check text (inr (inr (inl e))) h = rw e (record { byte = 43; more = 43 ∷ text; is = refl; holds = record { bang = refl; query = refl } })
 begins_check check text (inr (inr (inr e))) h = rw e (record { byte = 35; more = text; is = refl; holds = record { bang = refl; query = refl } })
 
+-- a reversed text is its reversed parts, the last first
+pub reversed_whole : (front passing check marks : List ℕ) → reverse (front ++ (passing ++ (check ++ marks))) ≡ reverse marks ++ (reverse check ++ (reverse passing ++ reverse front))
+reversed_whole front passing check marks =
+    let deeper : reverse (passing ++ (check ++ marks)) ≡ reverse marks ++ (reverse check ++ reverse passing) = reverse-append passing (check ++ marks) ∙ ap (λ (x : List ℕ). x ++ reverse passing) (reverse-append check marks) ∙ append_assoc (reverse marks) (reverse check) (reverse passing) in
+    reverse-append front (passing ++ (check ++ marks)) ∙ ap (λ (x : List ℕ). x ++ reverse front) deeper ∙ append_assoc (reverse marks) (reverse check ++ reverse passing) (reverse front) ∙ ap (λ (x : List ℕ). reverse marks ++ x) (append_assoc (reverse check) (reverse passing) (reverse front))
+
 ends_off : (front passing check marks : List ℕ) (t : Bool) → IsPassingText passing t → IsCheckText check → IsMarksText marks → Begins IsQuiet (reverse front)
     → passing_in (without_check (without_marks (reverse (front ++ (passing ++ (check ++ marks)))))) ≡ (t, reverse front)
 ends_off front passing check marks t a b d h =
-    let r : reverse (front ++ (passing ++ (check ++ marks))) ≡ reverse marks ++ (reverse check ++ (reverse passing ++ reverse front)) = back in
+    let r : reverse (front ++ (passing ++ (check ++ marks))) ≡ reverse marks ++ (reverse check ++ (reverse passing ++ reverse front)) = reversed_whole front passing check marks in
     ap (λ (x : List ℕ). passing_in (without_check (without_marks x))) r
     ∙ ap (λ (x : List ℕ). passing_in (without_check x)) (marks_off marks (reverse check ++ (reverse passing ++ reverse front)) d (begins_check check (reverse passing ++ reverse front) b (begins_passing passing (reverse front) t a h)))
     ∙ ap passing_in (check_off check (reverse passing ++ reverse front) b (begins_passing passing (reverse front) t a h))
     ∙ passing_off passing (reverse front) t a h
-  where
-    deeper : reverse (passing ++ (check ++ marks)) ≡ reverse marks ++ (reverse check ++ reverse passing)
-    deeper = reverse-append passing (check ++ marks) ∙ ap (λ (x : List ℕ). x ++ reverse passing) (reverse-append check marks) ∙ append_assoc (reverse marks) (reverse check) (reverse passing)
-
-    back : reverse (front ++ (passing ++ (check ++ marks))) ≡ reverse marks ++ (reverse check ++ (reverse passing ++ reverse front))
-    back = reverse-append front (passing ++ (check ++ marks)) ∙ ap (λ (x : List ℕ). x ++ reverse front) deeper ∙ append_assoc (reverse marks) (reverse check ++ reverse passing) (reverse front) ∙ ap (λ (x : List ℕ). reverse marks ++ x) (append_assoc (reverse check) (reverse passing) (reverse front))
 
 -- ---- what is left ends quietly, and says what it spells
 no_castling : (b : ℕ) (rest : List ℕ) → nat_eq b 79 ≡ false → nat_eq b 48 ≡ false → castling_of (b ∷ rest) ≡ None

@@ -5,3 +5,5 @@ pub mod CoreLemmas
 pub mod EndLemmas
 pub mod SpellLemmas
 pub mod LawLemmas
+pub mod FoundLemmas
+pub mod TextFoundLemmas
