@@ -1,8 +1,8 @@
 -- A core that is spelled is read.
-use Rattle.std.proofs.Common.{◌≡◌, ℕ, zero, suc, ◌+◌, ◌-◌, ◌*◌, ◌≤◌, ◌<◌, Bool, true, false, cond, List, [], ◌∷◌, ◌++◌, length, Option, Some, None, refl, sym, ap, subst, ◌∙◌, arith, inl, inr}
+use Rattle.std.proofs.Common.{◌≡◌, ℕ, ◌+◌, ◌-◌, ◌*◌, ◌≤◌, ◌<◌, Bool, true, false, cond, List, [], ◌∷◌, ◌++◌, Option, Some, None, refl, sym, ap, subst, ◌∙◌, arith, inl, inr}
 use Rattle.std.specs.Char.{to_ascii_uppercase}
-use Rattle.std.specs.Option.{option_map, option_and_then}
-use Rattle.std.specs.Prelude.{reverse, nat_eq, ◌&&◌}
+use Rattle.std.specs.Option.{option_and_then}
+use Rattle.std.specs.Prelude.{reverse, nat_eq}
 use Rattle.std.proofs.lemmas.Bool.Decides.{nat_tests}
 use Rattle.std.proofs.lemmas.List.{reverse-reverse, reverse-append}
 use Rattle.pg_board.specs.declared.man.Kind.{Kind}
@@ -11,9 +11,9 @@ use Rattle.pg_san.specs.declared.cores.Core.{Core}
 use Rattle.pg_san.specs.declared.cores.Parts.{Parts}
 use Rattle.pg_san.specs.declared.cores.Sep.{Sep}
 use Rattle.pg_san.specs.declared.cores.Sep.TheVariants.{Nothing, Cross, Hyphen}
-use Rattle.pg_san.specs.CoreText.{piece_of, promoted_of, is_file, is_rank, square_named, parts_in, promotion_in, piece_core, plain_core, core_of}
-use Rattle.pg_san.specs.Spelling.{IsOfBoard, file_byte, rank_byte, file_text, rank_text, square_text}
-use Rattle.pg_san.specs.Grammar.{sep_text, parts_text, AreOfBoard, IsPieceText, IsPromotionText, IsPlainText}
+use Rattle.pg_san.specs.CoreText.{piece_of, promoted_of, is_file, is_rank, parts_in, promotion_in, plain_core, core_of}
+use Rattle.pg_san.specs.Spelling.{IsOfBoard, file_byte, rank_byte, file_text, rank_text}
+use Rattle.pg_san.specs.Grammar.{sep_text, parts_text, IsPieceText, IsPromotionText, IsPlainText}
 
 -- ---- the tests of the bytes that spell a file, a rank and a square
 pub record RankByte (r : ℕ) : Type 0 where

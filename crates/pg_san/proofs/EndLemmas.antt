@@ -1,23 +1,21 @@
 -- A whole text that is spelled is read: its ends come off, and what is left is castling or a core.
-use Rattle.std.proofs.Common.{◌≡◌, ◌≢◌, ℕ, ◌+◌, ◌-◌, ◌*◌, ◌<◌, ◌≤◌, ◌⊎◌, Bool, true, false, List, [], ◌∷◌, ◌++◌, Option, Some, None, refl, sym, ap, subst, arith, ◌∙◌, inl, inr}
-use Rattle.std.specs.Prelude.{reverse, nat_eq, codes, ◌||◌, ◌==◌}
-use Rattle.std.specs.Option.{option_map, option_and_then}
+use Rattle.std.proofs.Common.{◌≡◌, ℕ, ◌+◌, ◌<◌, ◌≤◌, Bool, true, false, List, [], ◌∷◌, ◌++◌, Option, Some, None, refl, sym, ap, subst, arith, ◌∙◌, inl, inr}
+use Rattle.std.specs.Prelude.{reverse, nat_eq}
+use Rattle.std.specs.Option.{option_map}
 use Rattle.std.proofs.lemmas.Bool.Decides.{nat_tests, eqb_tells}
 use Rattle.std.proofs.lemmas.List.{reverse-reverse, reverse-append, append_assoc}
 use Rattle.pg_board.specs.declared.man.Kind.{Kind}
 use Rattle.pg_board.specs.Squares.{file, rank}
-use Rattle.pg_san.specs.declared.castling.Castling.{Castling}
 use Rattle.pg_san.specs.declared.castling.Castling.TheVariants.{Short, Long}
 use Rattle.pg_san.specs.declared.cores.Core.{Core}
-use Rattle.pg_san.specs.declared.cores.Parts.{Parts}
 use Rattle.pg_san.specs.declared.cores.Sep.{Sep}
 use Rattle.pg_san.specs.declared.said.Form.{Form}
 use Rattle.pg_san.specs.declared.said.Form.TheVariants.{Castles, Moves}
 use Rattle.pg_san.specs.declared.said.Said.{Said}
 use Rattle.pg_san.specs.CoreText.{piece_of, promoted_of, core_of}
-use Rattle.pg_san.specs.Said.{castling_of, form_of, said_by, said_of, is_mark, passing_in, without_mark, without_check, without_marks}
-use Rattle.pg_san.specs.Spelling.{IsOfBoard, file_byte, rank_byte, file_text, rank_text}
-use Rattle.pg_san.specs.Grammar.{sep_text, parts_text, IsPieceText, IsPromotionText, IsPlainText, IsFormText, IsPassingText, IsCheckText, IsMark, IsMarksText, IsSaidText}
+use Rattle.pg_san.specs.Said.{castling_of, form_of, said_by, said_of, passing_in, without_mark, without_check, without_marks}
+use Rattle.pg_san.specs.Spelling.{file_byte, rank_byte, file_text, rank_text}
+use Rattle.pg_san.specs.Grammar.{sep_text, parts_text, IsPieceText, IsPromotionText, IsFormText, IsPassingText, IsCheckText, IsMark, IsMarksText, IsSaidText}
 use Rattle.pg_san.proofs.CoreLemmas.{First, parts_first, reversed_parts, piece_again, plain_again}
 
 -- ---- bytes that begin no end of a reversed text
@@ -108,20 +106,20 @@ begins_check check text (inr (inl e)) h = rw e (record { byte = 43; more = text;
 begins_check check text (inr (inr (inl e))) h = rw e (record { byte = 43; more = 43 ∷ text; is = refl; holds = record { bang = refl; query = refl } })
 begins_check check text (inr (inr (inr e))) h = rw e (record { byte = 35; more = text; is = refl; holds = record { bang = refl; query = refl } })
 
+-- a reversed text is its reversed parts, the last first
+pub reversed_whole : (front passing check marks : List ℕ) → reverse (front ++ (passing ++ (check ++ marks))) ≡ reverse marks ++ (reverse check ++ (reverse passing ++ reverse front))
+reversed_whole front passing check marks =
+    let deeper : reverse (passing ++ (check ++ marks)) ≡ reverse marks ++ (reverse check ++ reverse passing) = reverse-append passing (check ++ marks) ∙ ap (λ (x : List ℕ). x ++ reverse passing) (reverse-append check marks) ∙ append_assoc (reverse marks) (reverse check) (reverse passing) in
+    reverse-append front (passing ++ (check ++ marks)) ∙ ap (λ (x : List ℕ). x ++ reverse front) deeper ∙ append_assoc (reverse marks) (reverse check ++ reverse passing) (reverse front) ∙ ap (λ (x : List ℕ). reverse marks ++ x) (append_assoc (reverse check) (reverse passing) (reverse front))
+
 ends_off : (front passing check marks : List ℕ) (t : Bool) → IsPassingText passing t → IsCheckText check → IsMarksText marks → Begins IsQuiet (reverse front)
     → passing_in (without_check (without_marks (reverse (front ++ (passing ++ (check ++ marks)))))) ≡ (t, reverse front)
 ends_off front passing check marks t a b d h =
-    let r : reverse (front ++ (passing ++ (check ++ marks))) ≡ reverse marks ++ (reverse check ++ (reverse passing ++ reverse front)) = back in
+    let r : reverse (front ++ (passing ++ (check ++ marks))) ≡ reverse marks ++ (reverse check ++ (reverse passing ++ reverse front)) = reversed_whole front passing check marks in
     ap (λ (x : List ℕ). passing_in (without_check (without_marks x))) r
     ∙ ap (λ (x : List ℕ). passing_in (without_check x)) (marks_off marks (reverse check ++ (reverse passing ++ reverse front)) d (begins_check check (reverse passing ++ reverse front) b (begins_passing passing (reverse front) t a h)))
     ∙ ap passing_in (check_off check (reverse passing ++ reverse front) b (begins_passing passing (reverse front) t a h))
     ∙ passing_off passing (reverse front) t a h
-  where
-    deeper : reverse (passing ++ (check ++ marks)) ≡ reverse marks ++ (reverse check ++ reverse passing)
-    deeper = reverse-append passing (check ++ marks) ∙ ap (λ (x : List ℕ). x ++ reverse passing) (reverse-append check marks) ∙ append_assoc (reverse marks) (reverse check) (reverse passing)
-
-    back : reverse (front ++ (passing ++ (check ++ marks))) ≡ reverse marks ++ (reverse check ++ (reverse passing ++ reverse front))
-    back = reverse-append front (passing ++ (check ++ marks)) ∙ ap (λ (x : List ℕ). x ++ reverse front) deeper ∙ append_assoc (reverse marks) (reverse check ++ reverse passing) (reverse front) ∙ ap (λ (x : List ℕ). reverse marks ++ x) (append_assoc (reverse check) (reverse passing) (reverse front))
 
 -- ---- what is left ends quietly, and says what it spells
 no_castling : (b : ℕ) (rest : List ℕ) → nat_eq b 79 ≡ false → nat_eq b 48 ≡ false → castling_of (b ∷ rest) ≡ None

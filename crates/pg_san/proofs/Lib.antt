@@ -5,6 +5,8 @@ pub mod CoreLemmas
 pub mod EndLemmas
 pub mod SpellLemmas
 pub mod LawLemmas
+pub mod FoundLemmas
+pub mod TextFoundLemmas
 pub mod GameLemmas
 pub mod OrderLemmas
 pub mod PlaceLemmas

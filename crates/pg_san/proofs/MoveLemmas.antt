@@ -1,13 +1,13 @@
 -- What a legal move is: its man, the way it goes, and which of its squares tell en passant and castling.
 use Rattle.std.specs.Prelude.{◌↔◌}
-use Rattle.std.proofs.Common.{◌≡◌, ◌≢◌, ℕ, ◌+◌, ◌-◌, ◌*◌, ◌<◌, ◌≤◌, ◌⊎◌, Option, Some, None, refl, sym, ap, subst, arith, ◌∙◌, inl, inr}
+use Rattle.std.proofs.Common.{◌≡◌, ◌≢◌, ℕ, ◌+◌, ◌-◌, ◌*◌, ◌≤◌, Some, None, refl, sym, ap, subst, arith, ◌∙◌, inl, inr}
 use Rattle.pg_board.specs.declared.man.Color.{Color}
 use Rattle.pg_board.specs.declared.man.Color.TheVariants.{White, Black}
 use Rattle.pg_board.specs.declared.man.Kind.{Kind}
 use Rattle.pg_board.specs.declared.man.Kind.TheVariants.{Pawn, King}
 use Rattle.pg_board.specs.declared.man.Man.{Man}
 use Rattle.pg_board.specs.Squares.{file, rank}
-use Rattle.pg_board.specs.Men.{man, other}
+use Rattle.pg_board.specs.Men.{man}
 use Rattle.pg_board.specs.Placement.{Placement as Board, get}
 use Rattle.pg_position.specs.declared.rights.Wing.{Wing}
 use Rattle.pg_position.specs.declared.rights.Wing.TheVariants.{KingSide, QueenSide}
@@ -17,7 +17,7 @@ use Rattle.pg_position.specs.declared.moves.Way.{Way}
 use Rattle.pg_position.specs.declared.moves.Way.TheVariants.{Plain, Capture, DoubleAdvance, EnPassant, Promotion, Castling as CastlingWay}
 use Rattle.pg_position.specs.Geometry.{apart, IsForward, InPattern}
 use Rattle.pg_position.specs.Position.{Stands, IsVacant, ahead, king_home, passed_rank, IsPassed, IsPosition}
-use Rattle.pg_position.specs.Step.{home_rank, last_rank, king_target, IsEnemy, Goes, IsPiece, IsWay, IsEnPassant, IsCastling, Step, Legal}
+use Rattle.pg_position.specs.Step.{home_rank, last_rank, king_target, IsEnemy, Goes, IsPiece, IsWay, IsEnPassant, IsCastling, Step}
 use Rattle.pg_position.proofs.StepLemmas.{same_kind, some_none}
 use Rattle.pg_moves.specs.Moves.{IsLegal}
 use Rattle.pg_san.specs.declared.castling.Castling.{Castling}

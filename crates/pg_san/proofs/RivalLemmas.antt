@@ -1,15 +1,14 @@
 -- Rivals: a man other than a pawn has one legal move to a square at most, without promotion.
-use Rattle.std.proofs.Common.{◌≡◌, ◌≢◌, ℕ, ◌<◌, Option, Some, None, refl, sym, ap, subst, ◌∙◌}
+use Rattle.std.proofs.Common.{◌≡◌, ◌≢◌, ℕ, ◌<◌, refl, subst}
 use Rattle.pg_board.specs.declared.man.Kind.{Kind}
 use Rattle.pg_board.specs.declared.man.Kind.TheVariants.{Pawn}
 use Rattle.pg_position.specs.declared.state.State.{State}
 use Rattle.pg_position.specs.declared.moves.Move.{Move}
-use Rattle.pg_position.specs.Position.{Stands, InCheck}
 use Rattle.pg_moves.specs.Moves.{IsLegal}
 use Rattle.pg_moves.specs.Targets.{plain_move}
 use Rattle.pg_moves.proofs.ListLemmas.{on_board}
 use Rattle.pg_san.specs.declared.rivals.Line.{Line}
-use Rattle.pg_san.specs.Writing.{IsOn, IsRival, HasRival, IsRivalOn, HasLegal}
+use Rattle.pg_san.specs.Writing.{HasRival, IsRivalOn}
 use Rattle.pg_san.proofs.MoveLemmas.{same_move, goer, unpromoted}
 
 pub rival_there : (p : State) (k : Kind) (m : Move) (line : Line) (s : ℕ) → IsRivalOn p k m line s → HasRival p k m line

@@ -1,6 +1,5 @@
 -- What is written of a legal move is spelled by the grammar, says what it is to say, and has room in eight bytes.
 use Rattle.std.proofs.Common.{◌≡◌, ◌≢◌, ℕ, ◌+◌, ◌<◌, ◌≤◌, ◌⊎◌, Bool, true, false, List, [], ◌∷◌, ◌++◌, length, length-append, Option, Some, None, refl, sym, ap, subst, arith, ◌∙◌, inl, inr}
-use Rattle.std.specs.Prelude.{codes}
 use Rattle.std.proofs.lemmas.List.{append-nil}
 use Rattle.pg_board.specs.declared.man.Kind.{Kind}
 use Rattle.pg_board.specs.declared.man.Kind.TheVariants.{Pawn, Knight, Bishop, Rook, Queen, King}
@@ -11,19 +10,18 @@ use Rattle.pg_position.specs.Position.{Stands}
 use Rattle.pg_position.specs.Step.{IsPiece}
 use Rattle.pg_moves.specs.Moves.{IsLegal}
 use Rattle.pg_moves.proofs.ListLemmas.{on_board}
-use Rattle.pg_san.specs.declared.castling.Castling.{Castling}
 use Rattle.pg_san.specs.declared.castling.Castling.TheVariants.{Short, Long}
 use Rattle.pg_san.specs.declared.cores.Core.{Core}
 use Rattle.pg_san.specs.declared.cores.Sep.{Sep}
-use Rattle.pg_san.specs.declared.cores.Sep.TheVariants.{Nothing, Cross, Hyphen}
+use Rattle.pg_san.specs.declared.cores.Sep.TheVariants.{Nothing, Cross}
 use Rattle.pg_san.specs.declared.said.Form.{Form}
 use Rattle.pg_san.specs.declared.said.Form.TheVariants.{Castles, Moves}
 use Rattle.pg_san.specs.declared.said.Said.{Said}
 use Rattle.pg_san.specs.CoreText.{piece_of, core_to, is_cross}
 use Rattle.pg_san.specs.Said.{said_of}
 use Rattle.pg_san.specs.Matching.{Takes}
-use Rattle.pg_san.specs.Spelling.{IsOfBoard, file_text, rank_text, square_text, letter_text, cross_text, promotion_text, written_file, core_text, form_text, IsWritable, IsFormWritable}
-use Rattle.pg_san.specs.Grammar.{sep_text, parts_text, IsPieceText, IsPromotionText, IsPlainText, IsFormText, IsCheckText, IsSaidText}
+use Rattle.pg_san.specs.Spelling.{IsOfBoard, file_text, rank_text, square_text, letter_text, cross_text, promotion_text, written_file, core_text, form_text, IsFormWritable}
+use Rattle.pg_san.specs.Grammar.{parts_text, IsPieceText, IsPromotionText, IsPlainText, IsFormText, IsCheckText, IsSaidText}
 use Rattle.pg_san.specs.Writing.{IsHint, IsPawnHint, IsCore, IsForm, IsSignOf, IsSan}
 use Rattle.pg_san.proofs.MoveLemmas.{Goer, goer, unpromoted, promotes_to, stays_on_file}
 use Rattle.pg_san.proofs.EndLemmas.{said_again}

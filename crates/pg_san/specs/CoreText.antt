@@ -1,7 +1,7 @@
 -- What the core of a move's text says, castling and the ends apart: a letter, a source and a target such as `Nbxd2`, or a
 -- target alone such as `e4`. It is read from its end, so these functions take a text that is reversed. A file is a number,
 -- 1 for a to 8 for h, and a rank is a number 1 to 8.
-use Rattle.std.specs.Prelude.{◌≡◌, ℕ, ◌+◌, ◌-◌, ◌*◌, Bool, true, false, ◌&&◌, ◌==◌, List, [], ◌∷◌, length, reverse, Option, Some, None, if◌then◌else◌, nat_le}
+use Rattle.std.specs.Prelude.{ℕ, ◌+◌, ◌-◌, ◌*◌, Bool, true, false, ◌&&◌, ◌==◌, List, [], ◌∷◌, length, reverse, Option, Some, None, if◌then◌else◌, nat_le}
 use Rattle.std.specs.Option.{option_map, option_and_then}
 use Rattle.std.specs.Char.{to_ascii_uppercase}
 use Rattle.pg_board.specs.declared.man.Kind.{Kind}

@@ -2,7 +2,6 @@
 -- a text is read so exactly where it is spelled so.
 use Rattle.std.specs.Prelude.{◌≡◌, ℕ, ◌<◌, ◌⊎◌, Bool, true, false, List, [], ◌∷◌, ◌++◌, Option, Some, None, codes}
 use Rattle.pg_board.specs.declared.man.Kind.{Kind}
-use Rattle.pg_san.specs.declared.castling.Castling.{Castling}
 use Rattle.pg_san.specs.declared.castling.Castling.TheVariants.{Short, Long}
 use Rattle.pg_san.specs.declared.cores.Core.{Core}
 use Rattle.pg_san.specs.declared.cores.Parts.{Parts}

@@ -1,6 +1,6 @@
 -- What a whole text says of a move: a core or castling, and behind it three ends that may be missing, in this order: `ep`
 -- or `e.p.`; `+`, `++` or `#`; one or two of `!` and `?`.
-use Rattle.std.specs.Prelude.{◌≡◌, ℕ, Bool, true, false, ◌||◌, ◌==◌, List, [], ◌∷◌, reverse, Option, Some, None, if◌then◌else◌, codes}
+use Rattle.std.specs.Prelude.{ℕ, Bool, true, false, ◌||◌, ◌==◌, List, [], ◌∷◌, reverse, Option, Some, None, if◌then◌else◌, codes}
 use Rattle.std.specs.Option.{option_map, option_and_then}
 use Rattle.std.specs.Str.{bytes_eq}
 use Rattle.pg_san.specs.declared.castling.Castling.{Castling}

@@ -1,6 +1,3 @@
-use Rattle.std.proofs.Common.{◌≡◌, subst, sym}
-use Rattle.std.specs.Option.{ForSome}
-use Rattle.pg_position.specs.declared.moves.Move.{Move}
 use Rattle.pg_moves.proofs.SearchLemmas.{not_both}
 use Rattle.pg_san.proofs.WalkLemmas.{walk_on, walk_end, walk_less, legal_some}
 use Rattle.pg_san.proofs.reading.next_fit.Goals as goal

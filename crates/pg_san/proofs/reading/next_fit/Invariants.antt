@@ -1,6 +1,5 @@
-use Rattle.std.proofs.Common.{ℕ, ◌-◌}
+use Rattle.std.proofs.Common.{◌-◌}
 use Rattle.std.specs.Option.{ForSome}
-use Rattle.pg_position.specs.declared.moves.Move.{Move}
 use Rattle.pg_moves.specs.Moves.{IsLegal}
 use Rattle.pg_moves.specs.Places.{start_after}
 use Rattle.pg_san.specs.Walk.{WalkedTo}

@@ -1,4 +1,4 @@
-use Rattle.std.proofs.Common.{◌≡◌, ◌<◌, true, false, refl, arith}
+use Rattle.std.proofs.Common.{◌<◌, refl, arith}
 use Rattle.pg_moves.proofs.SearchLemmas.{not_both}
 use Rattle.pg_san.proofs.RivalLemmas.{rival_there, rival_somewhere}
 use Rattle.pg_san.proofs.rivals.Hint.has_rival.Goals as goal
