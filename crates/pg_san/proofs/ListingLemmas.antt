@@ -1,25 +1,23 @@
 -- A text of games is read one line at a time.
-use Rattle.std.proofs.Common.{◌≡◌, ◌≢◌, ◌↔◌, ℕ, zero, suc, ◌+◌, ◌<◌, ◌≤◌, ◌⊎◌, inl, inr, Bool, true, false, List, [], ◌∷◌, ◌++◌, length, refl, sym, ap, subst, arith, ◌∙◌, append_assoc}
-use Rattle.std.specs.Prelude.{Result, Ok, Err, MatchResult, IsTrue}
+use Rattle.std.proofs.Common.{◌≡◌, ◌≢◌, ◌↔◌, ℕ, ◌+◌, ◌<◌, inl, inr, List, [], ◌∷◌, ◌++◌, length, refl, sym, ap, subst, arith, ◌∙◌, append_assoc}
+use Rattle.std.specs.Prelude.{Result, Ok, Err, MatchResult}
 use Rattle.std.specs.List.{Contains}
 use Rattle.std.proofs.lemmas.List.{append-nil, length-append}
 use Rattle.std.proofs.lemmas.List.Elements.{Contains-append_left, Contains-push, Contains-push_cases}
 use Rattle.pg_position.specs.declared.state.State.{State}
 use Rattle.pg_position.specs.declared.moves.Move.{Move}
 use Rattle.pg_position.specs.Array.{array_state}
-use Rattle.pg_position.specs.Step.{Legal}
 use Rattle.pg_position.specs.Game.{IsGame}
 use Rattle.pg_moves.specs.Counts.{IsOnce}
-use Rattle.pg_moves.proofs.SortLemmas.{Contains-none, Contains-head, Contains-later, Contains-cons}
-use Rattle.pg_san.specs.declared.fault.SanFault.{SanFault}
+use Rattle.pg_moves.proofs.SortLemmas.{Contains-none, Contains-head, Contains-later}
 use Rattle.pg_san.specs.declared.listing.LineFault.{LineFault}
 use Rattle.pg_san.specs.declared.listing.LineFault.TheVariants.{Word, NoMemory}
 use Rattle.pg_san.specs.declared.listing_fault.GamesFault.{GamesFault}
 use Rattle.pg_san.specs.declared.listing_fault.GamesFault.TheVariants.{At, TooMany, Repeated, Memory}
 use Rattle.pg_san.specs.Games.{IsFromArray, IsGames}
-use Rattle.pg_san.specs.Adding.{IsNew, IsAdded}
-use Rattle.pg_san.specs.GameText.{words, bare, dash, lines}
-use Rattle.pg_san.specs.Listing.{Spells, IsGameOf, IsBadWord, IsGameLine, IsBadLine, Give, AreRead, IsListing, IsLine, IsLineFault, IsTextFault}
+use Rattle.pg_san.specs.Adding.{IsAdded}
+use Rattle.pg_san.specs.GameText.{words, dash, lines}
+use Rattle.pg_san.specs.Listing.{Spells, IsGameOf, IsGameLine, IsBadLine, Give, AreRead, IsListing, IsLine, IsLineFault, IsTextFault}
 use Rattle.pg_san.specs.LineReading.{IsWordsFault, IsGameFault, IsLineRead}
 
 -- ---- a line

@@ -1,9 +1,9 @@
 -- A text has one list of games or one first fault: reading is followed word by word and line by line.
-use Rattle.std.proofs.Common.{◌≡◌, ◌≢◌, ◌↔◌, ℕ, zero, suc, ◌+◌, ◌<◌, ◌≤◌, ◌⊎◌, inl, inr, Bool, true, false, Option, Some, None, List, [], ◌∷◌, ◌++◌, length, refl, sym, ap, subst, arith, ◌∙◌, append_assoc}
+use Rattle.std.proofs.Common.{◌≡◌, ◌≢◌, ℕ, suc, ◌+◌, ◌<◌, ◌≤◌, ◌⊎◌, inl, inr, Option, Some, None, List, [], ◌∷◌, ◌++◌, length, refl, sym, ap, subst, arith, ◌∙◌, append_assoc}
 use Rattle.std.specs.Prelude.{Result, Ok, Err}
 use Rattle.std.specs.List.{Contains}
 use Rattle.std.proofs.lemmas.List.{append-nil, length-append}
-use Rattle.std.proofs.lemmas.List.Elements.{Contains-append_left, Contains-append_right, Contains-push}
+use Rattle.std.proofs.lemmas.List.Elements.{Contains-append_right}
 use Rattle.pg_position.specs.declared.state.State.{State}
 use Rattle.pg_position.specs.declared.moves.Move.{Move}
 use Rattle.pg_position.specs.Array.{array_state}
@@ -11,16 +11,14 @@ use Rattle.pg_position.specs.Position.{IsPosition}
 use Rattle.pg_position.specs.Step.{Legal}
 use Rattle.pg_position.proofs.ArrayLemmas.{array_position}
 use Rattle.pg_position.proofs.FutureLemmas.{legal_position, one_result}
-use Rattle.pg_moves.specs.Moves.{IsLegal}
 use Rattle.pg_moves.specs.Counts.{IsOnce}
-use Rattle.pg_moves.proofs.SortLemmas.{Contains-none, Contains-head, Contains-later, Contains-cons}
+use Rattle.pg_moves.proofs.SortLemmas.{Contains-none, Contains-head, Contains-cons}
 use Rattle.pg_san.specs.declared.fault.SanFault.{SanFault}
 use Rattle.pg_san.specs.declared.fault.SanFault.TheVariants.{Shape, NoSuchMove, Ambiguous}
 use Rattle.pg_san.specs.declared.listing_fault.GamesFault.{GamesFault}
 use Rattle.pg_san.specs.declared.listing_fault.GamesFault.TheVariants.{At, TooMany, Repeated, Memory}
 use Rattle.pg_san.specs.Matching.{Matches, IsReading}
-use Rattle.pg_san.specs.Games.{IsGames}
-use Rattle.pg_san.specs.GameText.{words, bare, dash, lines}
+use Rattle.pg_san.specs.GameText.{words, bare, lines}
 use Rattle.pg_san.specs.Listing.{Spells, IsGameOf, IsBadWord, IsGameLine, IsBadLine, Give, AreRead, IsListing, IsLine, IsLineFault, IsTextFault}
 use Rattle.pg_san.proofs.OrderLemmas.{same_games}
 

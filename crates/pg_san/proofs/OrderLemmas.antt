@@ -1,5 +1,5 @@
 -- The canonical order of games: a total order, in which games that tie are one.
-use Rattle.std.proofs.Common.{◌≡◌, ◌≢◌, ◌↔◌, ℕ, zero, suc, ◌+◌, ◌<◌, ◌≤◌, ◌⊎◌, inl, inr, Option, Some, None, List, [], ◌∷◌, ◌++◌, length, get_or, take, drop, refl, sym, ap, subst, arith, ◌∙◌}
+use Rattle.std.proofs.Common.{◌≡◌, ◌↔◌, ℕ, zero, suc, ◌<◌, Option, Some, None, List, [], ◌∷◌, length, get_or, refl, sym, ap, arith, ◌∙◌}
 use Rattle.std.specs.declared.cmp.Ordering.{Ordering}
 use Rattle.std.specs.declared.cmp.Ordering.TheVariants.{Less, Equal, Greater}
 use Rattle.std.specs.Ordering.{ordering_then, ordering_reverse, nat_cmp}
@@ -17,7 +17,7 @@ use Rattle.pg_moves.specs.Moves.{move_cmp, promotion_rank}
 use Rattle.pg_moves.proofs.PlaceLemmas.{move_cmp_total, same_parts}
 use Rattle.pg_moves.proofs.SortLemmas.{sorted_none, sorted_below, sorted_rest, sorted_same, Contains-none}
 use Rattle.pg_moves.specs.Counts.{IsOnce}
-use Rattle.pg_san.specs.Games.{game_cmp, IsFromArray, IsGames, IsPlace}
+use Rattle.pg_san.specs.Games.{game_cmp, IsGames}
 
 pub game_cmp_total : IsTotalOrder game_cmp
 game_cmp_total = lists_total move_cmp_total

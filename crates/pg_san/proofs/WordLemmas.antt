@@ -1,9 +1,8 @@
 -- A line is cut into its words one at a time.
-use Rattle.std.proofs.Common.{◌≡◌, ℕ, suc, ◌+◌, ◌≤◌, ◌<◌, Bool, true, false, cond, List, [], ◌∷◌, ◌++◌, length, take, drop, refl, sym, ap, ◌∙◌, arith}
+use Rattle.std.proofs.Common.{◌≡◌, ℕ, suc, ◌+◌, ◌<◌, Bool, true, false, cond, List, [], ◌∷◌, length, take, drop, refl, arith}
 use Rattle.std.specs.Prelude.{not, nat_lt}
-use Rattle.std.specs.List.{prefix_len, slice_split, onto_first, filter}
+use Rattle.std.specs.List.{prefix_len, slice_split}
 use Rattle.pg_san.specs.GameText.{is_gap, is_word_byte, words}
-use Rattle.std.proofs.lemmas.Bool.{cases_lt, le-ltb}
 
 abbrev has_bytes : List ℕ → Bool
 has_bytes field = nat_lt 0 (length field)

@@ -1,5 +1,5 @@
 -- What the steps of reading a text of games give, a line at a time.
-use Rattle.std.specs.Prelude.{◌≡◌, ◌≢◌, ℕ, ◌⊎◌, List, []}
+use Rattle.std.specs.Prelude.{◌≡◌, ℕ, ◌⊎◌, List, []}
 use Rattle.pg_position.specs.declared.moves.Move.{Move}
 use Rattle.pg_san.specs.declared.listing.LineFault.{LineFault}
 use Rattle.pg_san.specs.declared.listing.LineFault.TheVariants.{Word, NoMemory}

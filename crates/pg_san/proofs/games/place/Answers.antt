@@ -1,4 +1,4 @@
-use Rattle.std.proofs.Common.{◌≡◌, ℕ, List, Option, MatchOption, map, length, sym, subst, rules, Vec, Global}
+use Rattle.std.proofs.Common.{ℕ, List, Option, MatchOption, map, length, sym, subst, rules, Vec, Global}
 use Rattle.std.proofs.lemmas.Fn.{always_returns_same}
 use Rattle.std.specs.List.{Contains}
 use Rattle.std.specs.List.Sorted.{IsSearchInRange, IsBinarySearchResult}

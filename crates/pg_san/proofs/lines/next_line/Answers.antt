@@ -1,8 +1,5 @@
-use Rattle.std.proofs.Common.{◌≡◌, ◌+◌, ◌-◌, ◌∷◌, List, length, take, drop, sym, ap, ◌∙◌}
-use Rattle.std.specs.Str.Lines.{strip_carriage_return}
+use Rattle.std.proofs.Common.{◌+◌}
 use Rattle.std.proofs.lemmas.List.{take_rest}
-use Rattle.memchr.specs.Find.{NoneBefore, Nowhere, Passes, is_byte}
-use Rattle.pg_san.specs.GameText.{lines}
 use Rattle.pg_san.proofs.LineLemmas.{line_at, line_all}
 use Rattle.pg_san.proofs.lines.next_line.Goals as goal
 

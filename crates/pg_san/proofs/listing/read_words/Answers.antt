@@ -1,10 +1,8 @@
-use Rattle.std.proofs.Common.{◌≡◌, ◌≢◌, ◌+◌, ◌<◌, ◌++◌, ◌∷◌, [], List, ℕ, length, vec_len, refl, sym, ap, subst, ◌∙◌, arith}
+use Rattle.std.proofs.Common.{◌≡◌, ◌<◌, [], length, sym, ◌∙◌, arith}
 use Rattle.std.proofs.lemmas.Bool.Decides.{nat_tests}
 use Rattle.std.proofs.lemmas.List.{nil_from_length}
-use Rattle.pg_position.specs.declared.moves.Move.{Move}
-use Rattle.pg_position.specs.declared.state.State.{State}
 use Rattle.pg_san.specs.GameText.{words, bare}
-use Rattle.pg_san.proofs.WordReadingLemmas.{IsSpelled, spelled_none, spelled_whole, spelled_skip, spelled_move, spelled_bad}
+use Rattle.pg_san.proofs.WordReadingLemmas.{spelled_none, spelled_whole, spelled_skip, spelled_move, spelled_bad}
 use Rattle.pg_san.proofs.listing.read_words.Goals as goal
 
 pub loop-word-init : goal.loop-word-init

@@ -1,4 +1,3 @@
-use Rattle.std.proofs.Common.{◌≡◌}
 use Rattle.pg_san.proofs.PlaceLemmas.{fresh}
 use Rattle.pg_san.proofs.games.Games.admit.Goals as goal
 
