@@ -17,7 +17,7 @@ use Rattle.pg_san.specs.declared.listing_fault.GamesFault.TheVariants.{At, TooMa
 use Rattle.pg_san.specs.Games.{IsFromArray, IsGames}
 use Rattle.pg_san.specs.Adding.{IsAdded}
 use Rattle.pg_san.specs.GameText.{words, dash, lines}
-use Rattle.pg_san.specs.Listing.{Spells, IsGameOf, IsGameLine, IsBadLine, Give, AreRead, IsListing, IsLine, IsLineFault, IsTextFault}
+use Rattle.pg_san.specs.Listing.{Spells, AreGame, IsGameLine, IsBadLine, Give, AreRead, IsListing, IsLine, IsLineFault, IsTextFault}
 use Rattle.pg_san.specs.LineReading.{IsWordsFault, IsGameFault, IsLineRead}
 
 -- ---- a line
@@ -25,7 +25,7 @@ pub dash_line : (line : List ℕ) → words line ≢ [] → words line ≡ dash 
 unfolding IsGameLine
 dash_line line some e = (some, inl (e, refl))
 
-game_line : (line : List ℕ) (g : List Move) → words line ≢ [] → words line ≢ dash → IsGameOf (words line) g → IsGameLine line g
+game_line : (line : List ℕ) (g : List Move) → words line ≢ [] → words line ≢ dash → AreGame (words line) g → IsGameLine line g
 unfolding IsGameLine
 game_line line g some other h = (some, inr (other, h))
 
@@ -34,7 +34,7 @@ unfolding IsBadLine
 bad_line line NoMemory some other h = tt
 bad_line line (Word ply cause) some other h = (some, other, h)
 
-pub read_line : {V : Type 0} (f : V → List Move) (line : List ℕ) (r : Result V LineFault) → words line ≢ [] → words line ≢ dash → MatchResult r (λ v. IsGameOf (words line) (f v)) (λ e. IsWordsFault (words line) e) → MatchResult r (λ v. IsGameLine line (f v)) (λ e. IsGameFault line e)
+pub read_line : {V : Type 0} (f : V → List Move) (line : List ℕ) (r : Result V LineFault) → words line ≢ [] → words line ≢ dash → MatchResult r (λ v. AreGame (words line) (f v)) (λ e. IsWordsFault (words line) e) → MatchResult r (λ v. IsGameLine line (f v)) (λ e. IsGameFault line e)
 read_line f line (Ok v) some other h = game_line line (f v) some other h
 read_line f line (Err e) some other h = bad_line line e some other h
 

@@ -19,7 +19,7 @@ use Rattle.pg_san.specs.declared.listing_fault.GamesFault.{GamesFault}
 use Rattle.pg_san.specs.declared.listing_fault.GamesFault.TheVariants.{At, TooMany, Repeated, Memory}
 use Rattle.pg_san.specs.Matching.{Matches, IsReading}
 use Rattle.pg_san.specs.GameText.{words, bare, lines}
-use Rattle.pg_san.specs.Listing.{Spells, IsGameOf, IsBadWord, IsGameLine, IsBadLine, Give, AreRead, IsListing, IsLine, IsLineFault, IsTextFault}
+use Rattle.pg_san.specs.Listing.{Spells, AreGame, IsBadWord, IsGameLine, IsBadLine, Give, AreRead, IsListing, IsLine, IsLineFault, IsTextFault}
 use Rattle.pg_san.proofs.OrderLemmas.{same_games}
 
 -- ---- a word
@@ -120,7 +120,7 @@ one_outcome (w ∷ ws) p r s pos h g = elim h [
 ]
 
 -- ---- a line
-game_gives : (ws : List (List ℕ)) (g : List Move) → IsGameOf ws g → Gives ws array_state (Ok g)
+game_gives : (ws : List (List ℕ)) (g : List Move) → AreGame ws g → Gives ws array_state (Ok g)
 game_gives ws g h = gives_spelled array_state h.0 ws g h.1
 
 bad_gives : (ws : List (List ℕ)) (ply : ℕ) (cause : SanFault) → IsBadWord ws ply cause → Gives ws array_state (Err (ply, cause))

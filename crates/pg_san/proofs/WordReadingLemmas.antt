@@ -9,7 +9,7 @@ use Rattle.pg_position.specs.Step.{Legal}
 use Rattle.pg_san.specs.declared.fault.SanFault.{SanFault}
 use Rattle.pg_san.specs.GameText.{bare}
 use Rattle.pg_san.specs.Matching.{IsReading}
-use Rattle.pg_san.specs.Listing.{Spells, IsGameOf, IsBadWord}
+use Rattle.pg_san.specs.Listing.{Spells, AreGame, IsBadWord}
 
 -- the words so far are these moves and lead here, and the others are left
 pub record IsSpelled (all : List (List ℕ)) (left : List (List ℕ)) (moves : List Move) (here : State) : Type 0 where
@@ -38,7 +38,7 @@ spells_move p q r (x ∷ xs) w ms m s some reads legal = elim s [
   | inr h ↦ inr (h.0, (h.1.0, h.1.1 ++ m ∷ [], h.1.2, ap (λ (x : List Move). x ++ m ∷ []) h.1.3, h.1.4, h.1.5, spells_move h.1.2 q r xs w h.1.1 m h.1.6 some reads legal))
 ]
 
-pub spelled_whole : (all left : List (List ℕ)) (moves : List Move) (here : State) → IsSpelled all left moves here → left ≡ [] → IsGameOf all moves
+pub spelled_whole : (all left : List (List ℕ)) (moves : List Move) (here : State) → IsSpelled all left moves here → left ≡ [] → AreGame all moves
 spelled_whole all left moves here s e =
     let whole : all ≡ s.before = s.is ∙ ap (λ (x : List (List ℕ)). s.before ++ x) e ∙ append-nil s.before in
     (here, subst (λ (x : List (List ℕ)). Spells array_state x moves here) (sym whole) s.spells)

@@ -22,8 +22,8 @@ Spells p (w ∷ ws) ms q =
     ⊎ ((bare w ≢ []) × ((m : Move) × (ns : List Move) × (r : State) × (ms ≡ m ∷ ns) × IsReading p (bare w) (Ok m) × Legal p m r × Spells r ws ns q))
 
 -- the words are this game, from the initial array on
-abbrev pub IsGameOf : List (List ℕ) → List Move → Type 0
-IsGameOf ws g = (q : State) × Spells array_state ws g q
+abbrev pub AreGame : List (List ℕ) → List Move → Type 0
+AreGame ws g = (q : State) × Spells array_state ws g q
 
 -- the words before one of the words are a game, and that word is the move of this ply, counted from 1, but is not read, for this cause
 pub record IsBadWord (ws : List (List ℕ)) (ply : ℕ) (cause : SanFault) : Type 0 where
@@ -40,7 +40,7 @@ pub record IsBadWord (ws : List (List ℕ)) (ply : ℕ) (cause : SanFault) : Typ
 
 -- the line has words, and they are this game: `-` alone is the game of no move
 unfoldable pub IsGameLine : List ℕ → List Move → Type 0
-IsGameLine line g = (words line ≢ []) × (((words line ≡ dash) × (g ≡ [])) ⊎ ((words line ≢ dash) × IsGameOf (words line) g))
+IsGameLine line g = (words line ≢ []) × (((words line ≡ dash) × (g ≡ [])) ⊎ ((words line ≢ dash) × AreGame (words line) g))
 
 -- the line has words, and one of them, the move of this ply, is not read, for this cause
 unfoldable pub IsBadLine : List ℕ → ℕ → SanFault → Type 0

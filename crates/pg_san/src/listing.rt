@@ -5,7 +5,7 @@ ghost use Rattle.pg_position.specs.Array.{array_state};
 ghost use Rattle.pg_position.specs.Step.{Legal};
 ghost use Rattle.pg_moves.specs.Moves.{IsLegal};
 ghost use Rattle.pg_san.specs.GameText.{words, dash};
-ghost use Rattle.pg_san.specs.Listing.{IsGameOf, IsGameLine, IsLineFault, IsListing, IsTextFault};
+ghost use Rattle.pg_san.specs.Listing.{AreGame, IsGameLine, IsLineFault, IsListing, IsTextFault};
 ghost use Rattle.pg_san.specs.LineReading.{IsWordsFault, IsGameFault, IsLineRead};
 
 use crate::adding::AddFault;
@@ -18,7 +18,7 @@ use crate::words::{bare, next_word};
 use pg_position::{Move, Position};
 use std::alloc::Global;
 
-// Why a line is no game.
+// Why a line is no game: the word of a ply, counted from 1, is not read, or memory is refused.
 #[derive(Clone, Copy, Debug)]
 enum LineFault {
     Word(usize, SanFault),
@@ -38,7 +38,7 @@ fn played(position: &Position, m: &Move) -> Position
 
 // The game that the words of a line are.
 fn read_words(alloc: Global, line: &[u8]) -> Result<Vec<Move>, LineFault>
-    ensures { MatchResult result (λ v. IsGameOf (words line.now) v.items) (λ e. IsWordsFault (words line.now) e) }
+    ensures { MatchResult result (λ v. AreGame (words line.now) v.items) (λ e. IsWordsFault (words line.now) e) }
 {
     let mut game = Vec::new(alloc);
     let mut here = Position::array();
@@ -120,12 +120,12 @@ fn read_line(alloc: Global, games: &mut Games, line: &[u8], number: usize) -> Re
     }
 }
 
-/// The games of a text: one game a line, in standard algebraic notation (the PGN standard, section
-/// 8.2), read as by `read`. Lines end at a line feed, with a carriage return before it or not; spaces
-/// and tabs part the words of a line. A line without words is skipped. `-` alone is the game of no
-/// move. From the front of each word a move number, digits and then dots, is dropped once; a word of
-/// which nothing is left is skipped, and a line all of whose words are skipped is the game of no move
-/// too. What the list grows by is taken from `alloc`.
+/// The games of a text: one game a line, its moves in standard algebraic notation (the PGN standard,
+/// section 8.2), read as by `read`. Line feeds part the lines, and one carriage return at the end of a
+/// line is dropped; spaces and tabs part the words of a line. A line without words is skipped. The one
+/// word `-` is the game of no move. From the front of each word a move number, digits and then dots,
+/// is dropped once; a word of which nothing is left is skipped, so a line of such words alone is the
+/// game of no move too. What the list grows by is taken from `alloc`.
 ///
 /// # Errors
 /// Line by line, each numbered from 1, the blank ones included: `TooMany` where a line with words
