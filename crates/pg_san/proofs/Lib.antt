@@ -1,3 +1,17 @@
+pub mod MoveLemmas
+pub mod WalkLemmas
+pub mod RivalLemmas
+pub mod CoreLemmas
+pub mod EndLemmas
+pub mod SpellLemmas
+pub mod LawLemmas
+pub mod FoundLemmas
+pub mod TextFoundLemmas
 pub mod GameLemmas
 pub mod OrderLemmas
 pub mod PlaceLemmas
+pub mod WordLemmas
+pub mod LineLemmas
+pub mod WordReadingLemmas
+pub mod ListingLemmas
+pub mod OneAnswerLemmas

@@ -1,5 +1,5 @@
 -- The canonical order of games: a total order, in which games that tie are one.
-use Rattle.std.proofs.Common.{◌≡◌, ◌≢◌, ◌↔◌, ℕ, zero, suc, ◌+◌, ◌<◌, ◌≤◌, ◌⊎◌, inl, inr, Option, Some, None, List, [], ◌∷◌, ◌++◌, length, get_or, take, drop, refl, sym, ap, subst, arith, ◌∙◌}
+use Rattle.std.proofs.Common.{◌≡◌, ◌↔◌, ℕ, zero, suc, ◌<◌, Option, Some, None, List, [], ◌∷◌, length, get_or, refl, sym, ap, arith, ◌∙◌}
 use Rattle.std.specs.declared.cmp.Ordering.{Ordering}
 use Rattle.std.specs.declared.cmp.Ordering.TheVariants.{Less, Equal, Greater}
 use Rattle.std.specs.Ordering.{ordering_then, ordering_reverse, nat_cmp}
@@ -15,8 +15,9 @@ use Rattle.pg_board.specs.declared.man.Kind.{Kind}
 use Rattle.pg_board.specs.declared.man.Kind.TheVariants.{Pawn, Knight, Bishop, Rook, Queen, King}
 use Rattle.pg_moves.specs.Moves.{move_cmp, promotion_rank}
 use Rattle.pg_moves.proofs.PlaceLemmas.{move_cmp_total, same_parts}
-use Rattle.pg_moves.proofs.SortLemmas.{sorted_none, sorted_below, sorted_rest, Contains-none}
-use Rattle.pg_san.specs.Games.{game_cmp, IsFromArray, IsGames, IsPlace}
+use Rattle.pg_moves.proofs.SortLemmas.{sorted_none, sorted_below, sorted_rest, sorted_same, Contains-none}
+use Rattle.pg_moves.specs.Counts.{IsOnce}
+use Rattle.pg_san.specs.Games.{game_cmp, IsGames}
 
 pub game_cmp_total : IsTotalOrder game_cmp
 game_cmp_total = lists_total move_cmp_total
@@ -85,3 +86,15 @@ pub next_later : (gs : List (List Move)) (k : ℕ) (d : List Move) → IsStrictl
 next_later [] k d s l = absurd (omega arith)
 next_later (x ∷ xs) zero d s l = sorted_below game_cmp x (get_or xs 0 d) xs s (Contains-get_or xs 0 d (omega arith))
 next_later (x ∷ xs) (suc k) d s l = next_later xs k d (sorted_rest game_cmp x xs s) (omega arith)
+
+-- ---- lists of games
+ascending_once : (gs : List (List Move)) → IsStrictlySortedBy game_cmp gs → IsOnce gs
+unfolding IsOnce
+ascending_once [] s = tt
+ascending_once (x ∷ xs) s = (λ c. not_before_itself x (sorted_below game_cmp x x xs s c), ascending_once xs (sorted_rest game_cmp x xs s))
+
+pub games_once : (gs : List (List Move)) → IsGames gs → IsOnce gs
+games_once gs h = ascending_once gs h.ascends
+
+pub same_games : (gs hs : List (List Move)) → IsGames gs → IsGames hs → ((g : List Move) → Contains gs g ↔ Contains hs g) → gs ≡ hs
+same_games gs hs g h same = sorted_same game_cmp game_cmp_total gs hs g.ascends h.ascends (λ x. (same x).0) (λ x. (same x).1)

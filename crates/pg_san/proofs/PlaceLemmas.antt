@@ -1,8 +1,8 @@
 -- Where a game stands among games in canonical order: what a search by halves finds, and what a game more there leaves.
-use Rattle.std.proofs.Common.{◌≡◌, ◌≢◌, ◌↔◌, ℕ, zero, suc, ◌+◌, ◌-◌, ◌<◌, ◌≤◌, ◌⊎◌, inl, inr, Bool, true, false, List, [], ◌∷◌, ◌++◌, map, length, get_or, take, drop, refl, sym, ap, subst, arith, ◌∙◌}
-use Rattle.std.specs.Prelude.{Result, Ok, Err, MatchResult, IsTrue, is_ok}
-use Rattle.std.specs.declared.cmp.Ordering.{Ordering}
-use Rattle.std.specs.declared.cmp.Ordering.TheVariants.{Less, Equal, Greater}
+use Rattle.std.proofs.Common.{◌≡◌, ◌↔◌, ℕ, suc, ◌+◌, ◌-◌, ◌<◌, ◌≤◌, ◌⊎◌, inl, inr, Bool, true, false, List, [], ◌∷◌, ◌++◌, map, length, get_or, take, drop, refl, sym, ap, subst, arith, ◌∙◌}
+use Rattle.std.specs.Prelude.{Option, Some, None, MatchOption, Result, Ok, Err, IsTrue, is_some, not}
+use Rattle.std.specs.Result.{result_err}
+use Rattle.std.specs.declared.cmp.Ordering.TheVariants.{Less, Greater}
 use Rattle.std.specs.Ordering.{ordering_index, is_lt}
 use Rattle.std.specs.List.{All, AllWithin, Contains, insert}
 use Rattle.std.specs.List.Sorted.{IsStrictlySortedBy, IsNonDecreasingBy, IsBinarySearchResult, IsSearchInRange}
@@ -43,7 +43,7 @@ module _ {V : Type 0} (f : V → List Move) where
       let all : All (λ y. P (f y)) (drop i xs) = λ k d low. (let e : get_or (drop i xs) k d ≡ get_or xs (i + k) d = get_or-drop i xs k d in subst (λ (y : V). P (f y)) (sym e) (h (i + k) d (omega arith) (omega arith))) in
       All-contains P (map f (drop i xs)) x (All-map P f (drop i xs) all) (subst (λ (ys : List (List Move)). Contains ys x) (drop-map f i xs) c)
 
-  pub searched : (xs : List V) (g : List Move) (r : Result ℕ ℕ) → IsStrictlySortedBy game_cmp (map f xs) → IsSearchInRange r (length xs) → IsBinarySearchResult (λ v. game_cmp (f v) g) xs r → MatchResult r (λ _. Contains (map f xs) g) (λ i. IsPlace (map f xs) g i)
+  pub searched : (xs : List V) (g : List Move) (r : Result ℕ ℕ) → IsStrictlySortedBy game_cmp (map f xs) → IsSearchInRange r (length xs) → IsBinarySearchResult (λ v. game_cmp (f v) g) xs r → MatchOption (result_err r) (Contains (map f xs) g) (λ i. IsPlace (map f xs) g i)
   searched xs g (Ok i) s within h =
       let n : length (map f xs) ≡ length xs = length-map xs f in
       let d : V = first xs (omega arith) in
@@ -117,10 +117,12 @@ added gs g i games new p =
       one_more = more;
     }
 
--- a search finds the game just where the list has it
-pub contains_by_place : (gs : List (List Move)) (g : List Move) (r : Result ℕ ℕ) (b : Bool) → MatchResult r (λ _. Contains gs g) (λ i. IsPlace gs g i) → b ≡ is_ok r → IsTrue b ↔ Contains gs g
-contains_by_place gs g (Ok i) b h e = (λ _. h, λ _. e)
-contains_by_place gs g (Err i) b h e = (λ t. absurd (let z : b ≡ true = t in cc), λ c. absurd (place_is_free gs g i h c))
+-- there is a place for the game just where the list has it not
+pub contains_by_place : (gs : List (List Move)) (g : List Move) (r : Option ℕ) (b : Bool) → MatchOption r (Contains gs g) (λ i. IsPlace gs g i) → is_some r ≡ not b → IsTrue b ↔ Contains gs g
+contains_by_place gs g None true h e = (λ _. h, λ _. refl)
+contains_by_place gs g None false h e = absurd (cc)
+contains_by_place gs g (Some i) true h e = absurd (cc)
+contains_by_place gs g (Some i) false h e = (λ t. absurd (let z : false ≡ true = t in cc), λ c. absurd (place_is_free gs g i h c))
 
 pub fresh : (gs : List (List Move)) (g : List Move) (i : ℕ) → IsFromArray g → length gs < 4096 → IsPlace gs g i → IsNew gs g
 fresh gs g i legal room p = record { legal = legal; room = room; other = place_is_free gs g i p }

@@ -1,5 +1,5 @@
 -- What adding a game to a list of games changes, and why a game is not added.
-use Rattle.std.specs.Prelude.{◌≡◌, ◌≢◌, ◌↔◌, ℕ, ◌+◌, ◌<◌, ◌≤◌, ◌⊎◌, List, ◌∷◌, ◌++◌, length}
+use Rattle.std.specs.Prelude.{◌≡◌, ◌↔◌, ℕ, ◌+◌, ◌<◌, ◌⊎◌, List, ◌∷◌, ◌++◌, length}
 use Rattle.std.specs.List.{Contains}
 use Rattle.pg_position.specs.declared.state.State.{State}
 use Rattle.pg_position.specs.declared.moves.Move.{Move}
@@ -40,3 +40,10 @@ IsAddFault gs g (IllegalMove ply) = IsIllegalAt g ply
 IsAddFault gs g TooMany = IsFromArray g × (length gs ≡ 4096)
 IsAddFault gs g Repeated = IsFromArray g × (length gs < 4096) × Contains gs g
 IsAddFault gs g Memory = IsNew gs g
+
+-- why a game from the array is not added where there is room: the list has the game, else no memory
+abbrev pub IsAdmitFault : List (List Move) → List Move → AddFault → Type 0
+IsAdmitFault gs g Repeated = Contains gs g
+IsAdmitFault gs g Memory = IsNew gs g
+IsAdmitFault gs g TooMany = ⊥
+IsAdmitFault gs g (IllegalMove ply) = ⊥

@@ -1,5 +1,5 @@
 -- A list of games: at most 4,096 different games from the initial array, in canonical order.
-use Rattle.std.specs.Prelude.{◌≡◌, ◌≢◌, ℕ, ◌+◌, ◌<◌, ◌≤◌, List, ◌∷◌, ◌++◌, length, take, drop}
+use Rattle.std.specs.Prelude.{◌≡◌, ℕ, ◌≤◌, List, length, take, drop}
 use Rattle.std.specs.declared.cmp.Ordering.{Ordering}
 use Rattle.std.specs.declared.cmp.Ordering.TheVariants.{Less}
 use Rattle.std.specs.Cmp.Lexicographic.{slice_cmp}
@@ -9,7 +9,7 @@ use Rattle.pg_position.specs.declared.state.State.{State}
 use Rattle.pg_position.specs.declared.moves.Move.{Move}
 use Rattle.pg_position.specs.Array.{array_state}
 use Rattle.pg_position.specs.Game.{IsGame}
-use Rattle.pg_moves.specs.Moves.{move_cmp, IsLegal}
+use Rattle.pg_moves.specs.Moves.{move_cmp}
 
 -- the canonical order of games: the first moves that differ decide, and a game comes before each that goes on from it
 abbrev pub game_cmp : List Move → List Move → Ordering

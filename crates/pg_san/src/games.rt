@@ -1,9 +1,9 @@
 //! Lists of different games in canonical order.
-ghost use Rattle.std.specs.Prelude.{◌≡◌, ◌<◌, ◌≤◌, ◌↔◌, IsTrue, List, [], length, MatchOption, MatchResult, IfErr, OnOk, OnErr, Some, slice_get, map};
+ghost use Rattle.std.specs.Prelude.{◌≡◌, ◌<◌, ◌≤◌, ◌↔◌, IsTrue, List, [], length, MatchOption, IfErr, OnOk, OnErr, Some, slice_get, map};
 ghost use Rattle.std.specs.List.{Contains};
 ghost use Rattle.std.specs.List.Sorted.{IsStrictlySortedBy};
 ghost use Rattle.pg_san.specs.Games.{game_cmp, IsFromArray, IsGames, IsPlace};
-ghost use Rattle.pg_san.specs.Adding.{IsIllegalAt, IsAdded, IsAddFault, IsNew};
+ghost use Rattle.pg_san.specs.Adding.{IsIllegalAt, IsAdded, IsAddFault, IsNew, IsAdmitFault};
 
 use crate::adding::AddFault;
 use pg_position::{Move, Position};
@@ -12,7 +12,7 @@ use std::cmp::Ordering;
 use std::marker::Model;
 
 // The most games that a list holds.
-const MOST: usize = 4096;
+pub(crate) const MOST: usize = 4096;
 
 /// Different games from the initial array, in canonical order: the first moves that differ decide,
 /// and a game comes before each that goes on from it. At most 4,096 games. Contracts see the list of
@@ -55,14 +55,16 @@ fn first_illegal(game: &[Move]) -> Option<usize>
     None
 }
 
-// Where the game stands among games in canonical order, or, where it is not among them, would stand.
-fn place(games: &Vec<Vec<Move>>, game: &[Move]) -> Result<usize, usize>
+// The place that the game would take among games in canonical order; none where it is among them.
+fn place(games: &Vec<Vec<Move>>, game: &[Move]) -> Option<usize>
     requires { IsStrictlySortedBy game_cmp (map (λ v. v.items) games.now.items) }
-    ensures { MatchResult result
-        (λ _. Contains (map (λ v. v.items) games.now.items) game.now)
+    ensures { MatchOption result
+        (Contains (map (λ v. v.items) games.now.items) game.now)
         (λ i. IsPlace (map (λ v. v.items) games.now.items) game.now i) }
 {
-    games.binary_search_by(|held| compare(held.as_slice(), game))
+    games
+        .binary_search_by(|held| compare(held.as_slice(), game))
+        .err()
 }
 
 impl Games {
@@ -97,7 +99,7 @@ impl Games {
     pub fn contains(&self, game: &[Move]) -> bool
         ensures { IsTrue result ↔ Contains self.now game.now }
     {
-        place(&self.games, game).is_ok()
+        place(&self.games, game).is_none()
     }
 
     // Puts a game of its own at its place.
@@ -130,15 +132,30 @@ impl Games {
         if self.len() >= MOST {
             return Err(AddFault::TooMany);
         }
-        let i = match place(&self.games, game) {
-            Ok(_) => return Err(AddFault::Repeated),
-            Err(i) => i,
+        let Some(i) = place(&self.games, game) else {
+            return Err(AddFault::Repeated);
         };
         let copy = match Vec::from_slice(*self.games.allocator(), game) {
             Ok(copy) => copy,
             Err(_) => return Err(AddFault::Memory),
         };
         match self.put(i, copy) {
+            Ok(()) => Ok(()),
+            Err(_) => Err(AddFault::Memory),
+        }
+    }
+
+    // Adds a game that is known to be one, where there is room.
+    pub(crate) fn admit(&mut self, game: Vec<Move>) -> Result<(), AddFault>
+        requires legal { IsFromArray game.items }
+        requires room { length self.old < 4096 }
+        ensures ok { OnOk result (IsAdded self.old game.items self.new) }
+        ensures err { IfErr result (λ e. IsAdmitFault self.old game.items e) }
+    {
+        let Some(i) = place(&self.games, game.as_slice()) else {
+            return Err(AddFault::Repeated);
+        };
+        match self.put(i, game) {
             Ok(()) => Ok(()),
             Err(_) => Err(AddFault::Memory),
         }

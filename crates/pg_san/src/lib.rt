@@ -1,8 +1,37 @@
-//! Moves as text, and lists of games.
+//! Moves as text: standard algebraic notation (the PGN standard, section 8.2.3), written in one way
+//! and read in many; and lists of games.
 #![tactic(auto)]
 
 mod adding;
+mod castling;
+mod cores;
+mod fault;
 mod games;
+mod laws;
+mod lines;
+mod list_laws;
+mod listing;
+mod listing_fault;
+mod matching;
+mod reading;
+mod rivals;
+mod said;
+mod spelling;
+mod text;
+mod words;
+mod writing;
 
 pub use adding::AddFault;
+pub use fault::SanFault;
 pub use games::Games;
+pub use laws::{text_grammar, texts_differ, written_text_is_matched};
+pub use list_laws::{games_stand_once, one_answer_to_a_text, one_list_of_games};
+pub use listing::read_games;
+pub use listing_fault::GamesFault;
+pub use reading::read;
+pub use writing::{San, write};
+
+#[cfg(test)]
+mod list_tests;
+#[cfg(test)]
+mod tests;

@@ -1,5 +1,4 @@
-use Rattle.std.proofs.Common.{◌≡◌, ◌+◌, ◌<◌, List, [], ◌∷◌, ◌++◌, length, take, drop, ap, sym, subst, refl, arith, ◌∙◌}
-use Rattle.std.proofs.lemmas.List.{take_more}
+use Rattle.std.proofs.Common.{refl, arith}
 use Rattle.pg_san.proofs.GameLemmas.{whole_game, illegal_at, step_game}
 use Rattle.pg_san.proofs.games.first_illegal.Goals as goal
 

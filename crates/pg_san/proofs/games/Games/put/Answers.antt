@@ -1,7 +1,3 @@
-use Rattle.std.proofs.Common.{List, map, sym, subst}
-use Rattle.pg_position.specs.declared.moves.Move.{Move}
-use Rattle.pg_san.specs.Games.{IsPlace}
-use Rattle.pg_san.specs.Adding.{IsNew, IsAdded}
 use Rattle.pg_san.proofs.PlaceLemmas.{put_added}
 use Rattle.pg_san.proofs.games.Games.put.Goals as goal
 

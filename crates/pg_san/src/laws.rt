@@ -1,0 +1,26 @@
+//! Laws of the texts of moves, each the contract of a function that does nothing.
+ghost use Rattle.std.specs.Prelude.{◌≡◌, ◌↔◌, ℕ, List, Some};
+ghost use Rattle.pg_position.specs.declared.state.State.{State};
+ghost use Rattle.pg_position.specs.declared.moves.Move.{Move};
+ghost use Rattle.pg_moves.specs.Moves.{IsLegal};
+ghost use Rattle.pg_san.specs.declared.said.Said.{Said};
+ghost use Rattle.pg_san.specs.Grammar.{IsSaidText};
+ghost use Rattle.pg_san.specs.Matching.{Matches};
+ghost use Rattle.pg_san.specs.Said.{said_of};
+ghost use Rattle.pg_san.specs.Writing.{IsSan};
+
+/// A text says what the grammar of moves spells by it, and nothing else.
+pub fn text_grammar()
+    ensures { (text : List ℕ) (said : Said) → (said_of text ≡ Some said) ↔ IsSaidText text said }
+{}
+
+/// The text that is written for a legal move is matched by that move, and by no other legal move.
+pub fn written_text_is_matched()
+    ensures itself { (p : State) (m : Move) (text : List ℕ) → IsSan p m text → Matches p text m }
+    ensures no_other { (p : State) (m n : Move) (text : List ℕ) → IsSan p m text → IsLegal p n → Matches p text n → n ≡ m }
+{}
+
+/// Two legal moves of a position never share a text.
+pub fn texts_differ()
+    ensures { (p : State) (m n : Move) (text : List ℕ) → IsSan p m text → IsSan p n text → m ≡ n }
+{}

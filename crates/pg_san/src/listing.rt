@@ -1,0 +1,152 @@
+//! Texts of games.
+ghost use Rattle.std.specs.Prelude.{◌≡◌, ◌≢◌, ℕ, ◌+◌, ◌<◌, ◌≤◌, IsTrue, ◌↔◌, MatchResult, IfOk, IfErr, OnOk, OnErr, Ok, Err, [], ◌∷◌, length};
+ghost use Rattle.pg_position.specs.declared.state.State.{State};
+ghost use Rattle.pg_position.specs.Array.{array_state};
+ghost use Rattle.pg_position.specs.Step.{Legal};
+ghost use Rattle.pg_moves.specs.Moves.{IsLegal};
+ghost use Rattle.pg_san.specs.GameText.{words, dash};
+ghost use Rattle.pg_san.specs.Listing.{AreGame, IsGameLine, IsLineFault, IsListing, IsTextFault};
+ghost use Rattle.pg_san.specs.LineReading.{IsWordsFault, IsGameFault, IsLineRead};
+
+use crate::adding::AddFault;
+use crate::fault::SanFault;
+use crate::games::{Games, MOST};
+use crate::lines::next_line;
+use crate::listing_fault::GamesFault;
+use crate::reading::read_bytes;
+use crate::words::{bare, next_word};
+use pg_position::{Move, Position};
+use std::alloc::Global;
+
+// Why a line is no game: the word of a ply, counted from 1, is not read, or memory is refused.
+#[derive(Clone, Copy, Debug)]
+enum LineFault {
+    Word(usize, SanFault),
+    NoMemory,
+}
+
+// The position after a legal move.
+fn played(position: &Position, m: &Move) -> Position
+    requires { IsLegal position.now m.now }
+    ensures { Legal position.now m.now result }
+{
+    match position.play(*m) {
+        Ok(next) => next,
+        Err(_) => unreachable!(),
+    }
+}
+
+// The game that the words of a line are.
+fn read_words(alloc: Global, line: &[u8]) -> Result<Vec<Move>, LineFault>
+    ensures { MatchResult result (λ v. AreGame (words line.now) v.items) (λ e. IsWordsFault (words line.now) e) }
+{
+    let mut game = Vec::new(alloc);
+    let mut here = Position::array();
+    let mut rest = line;
+    while let Some((word, after)) = next_word(rest) {
+        rest = after;
+        let text = bare(word);
+        if !text.is_empty() {
+            let m = match read_bytes(&here, text) {
+                Ok(m) => m,
+                Err(cause) => return Err(LineFault::Word(game.len() + 1, cause)),
+            };
+            here = played(&here, &m);
+            match game.push(m) {
+                Ok(()) => {}
+                Err(_) => return Err(LineFault::NoMemory),
+            }
+        }
+    }
+    Ok(game)
+}
+
+// Whether the one word of a line is `-`.
+fn is_dash(line: &[u8]) -> bool
+    ensures { IsTrue result ↔ (words line.now ≡ dash) }
+{
+    match next_word(line) {
+        Some((word, rest)) => matches!(word, b"-") && next_word(rest).is_none(),
+        None => false,
+    }
+}
+
+// The game of a line that has words.
+fn read_game(alloc: Global, line: &[u8]) -> Result<Vec<Move>, LineFault>
+    requires { words line.now ≢ [] }
+    ensures { MatchResult result (λ v. IsGameLine line.now v.items) (λ e. IsGameFault line.now e) }
+{
+    if is_dash(line) {
+        return Ok(Vec::new(alloc));
+    }
+    read_words(alloc, line)
+}
+
+// Adds the game of a line with words to those of the lines before it.
+fn add_line(alloc: Global, games: &mut Games, line: &[u8], number: usize) -> Result<(), GamesFault>
+    requires { words line.now ≢ [] }
+    ensures ok { OnOk result (IsLineRead line.now games.old games.new) }
+    ensures err { IfErr result (λ e. IsLineFault line.now number games.old e) }
+{
+    if games.len() >= MOST {
+        return Err(GamesFault::TooMany { line: number });
+    }
+    let game = match read_game(alloc, line) {
+        Ok(game) => game,
+        Err(LineFault::Word(ply, cause)) => {
+            return Err(GamesFault::At {
+                line: number,
+                ply,
+                cause,
+            });
+        }
+        Err(LineFault::NoMemory) => return Err(GamesFault::Memory),
+    };
+    match games.admit(game) {
+        Ok(()) => Ok(()),
+        Err(AddFault::Repeated) => Err(GamesFault::Repeated { line: number }),
+        Err(_) => Err(GamesFault::Memory),
+    }
+}
+
+// Reads one line behind those before it: where it has words, the game that they are is added.
+fn read_line(alloc: Global, games: &mut Games, line: &[u8], number: usize) -> Result<(), GamesFault>
+    ensures ok { OnOk result (IsLineRead line.now games.old games.new) }
+    ensures err { IfErr result (λ e. IsLineFault line.now number games.old e) }
+{
+    match next_word(line) {
+        Some(_) => add_line(alloc, games, line, number),
+        None => Ok(()),
+    }
+}
+
+/// The games of a text: one game a line, its moves in standard algebraic notation (the PGN standard,
+/// section 8.2), read as by `read`. Line feeds part the lines, and one carriage return at the end of a
+/// line is dropped; spaces and tabs part the words of a line. A line without words is skipped. The one
+/// word `-` is the game of no move. From the front of each word a move number, digits and then dots,
+/// is dropped once; a word of which nothing is left is skipped, so a line of such words alone is the
+/// game of no move too. What the list grows by is taken from `alloc`.
+///
+/// # Errors
+/// Line by line, each numbered from 1, the blank ones included: `TooMany` where a line with words
+/// would be the 4,097th game; else `At` with the ply, counted from 1, of the first word that is no
+/// move there, and why; else `Repeated` where an earlier line is the same game. `Memory` where memory
+/// is refused.
+pub fn read_games(alloc: Global, text: &str) -> Result<Games, GamesFault>
+    ensures ok { IfOk result (λ games. IsListing text.now games) }
+    ensures err { IfErr result (λ e. IsTextFault text.now e) }
+{
+    let mut games = Games::new(alloc);
+    let mut number = 0;
+    let mut rest = Some(text.as_bytes());
+    while let Some(left) = rest {
+        let (line, after) = next_line(left);
+        rest = after;
+        number += 1;
+        match read_line(alloc, &mut games, line, number) {
+            Ok(()) => {}
+            Err(fault) => return Err(fault),
+        }
+    }
+    Ok(games)
+}

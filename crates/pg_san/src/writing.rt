@@ -1,0 +1,102 @@
+//! Writing a legal move.
+ghost use Rattle.std.specs.Prelude.{◌≡◌, ◌≢◌};
+ghost use Rattle.pg_position.specs.Position.{Stands};
+ghost use Rattle.pg_moves.specs.Moves.{IsLegal};
+ghost use Rattle.pg_san.specs.Writing.{IsCore, IsForm, IsHint, IsPawnHint, IsSignOf, IsSan};
+
+use crate::castling::{Castling, castles};
+use crate::cores::Core;
+use crate::matching::{mover, takes};
+use crate::rivals::Hint;
+use crate::said::Form;
+use crate::spelling::write_form;
+use arrayvec::ArrayString;
+use pg_board::Kind;
+use pg_moves::next_legal;
+use pg_position::{Move, Position};
+
+/// The text of a move: at most eight bytes, as `Qa1xc3+` or `exd8=Q#`.
+pub type San = ArrayString<8>;
+
+fn hint(position: &Position, kind: Kind, m: &Move) -> Hint
+    ensures pawn { kind ≡ Kind.Pawn → IsPawnHint m.now result.file result.rank }
+    ensures other { kind ≢ Kind.Pawn → IsHint position.now kind m.now result.file result.rank }
+{
+    match kind {
+        Kind::Pawn => Hint {
+            file: Some(m.from.file()),
+            rank: None,
+        },
+        _ => Hint::of(position, kind, m),
+    }
+}
+
+fn core(position: &Position, kind: Kind, m: &Move) -> Core
+    requires legal { IsLegal position.now m.now }
+    requires stands { Stands position.now.board position.now.side kind m.now.from }
+    ensures { IsCore position.now kind m.now result }
+{
+    let hint = hint(position, kind, m);
+    Core {
+        kind: Some(kind),
+        file: hint.file,
+        rank: hint.rank,
+        target: m.to,
+        takes: takes(position, kind, m),
+        promotion: m.promotion,
+    }
+}
+
+fn form(position: &Position, kind: Kind, m: &Move) -> Form
+    requires legal { IsLegal position.now m.now }
+    requires stands { Stands position.now.board position.now.side kind m.now.from }
+    ensures { IsForm position.now kind m.now result }
+{
+    if castles(kind, m, Castling::Short) {
+        return Form::Castles(Castling::Short);
+    }
+    if castles(kind, m, Castling::Long) {
+        return Form::Castles(Castling::Long);
+    }
+    Form::Moves(core(position, kind, m))
+}
+
+// `#` for checkmate, `+` for check, else nothing.
+fn sign(next: &Position) -> &'static str
+    ensures { IsSignOf next.now result.now }
+{
+    if !next.in_check() {
+        return "";
+    }
+    match next_legal(next, None) {
+        Some(_) => "+",
+        None => "#",
+    }
+}
+
+fn write_move(position: &Position, m: &Move) -> San
+    requires { IsLegal position.now m.now }
+    ensures { IsSan position.now m.now result.bytes }
+{
+    let Ok(next) = position.play(*m) else {
+        unreachable!()
+    };
+    let kind = mover(position, m);
+    let form = form(position, kind, m);
+    write_form(kind, &form, sign(&next))
+}
+
+/// The text of a legal move (the PGN standard, section 8.2.3). Castling is `O-O` towards the h-file
+/// and `O-O-O` towards the a-file. Otherwise these follow one another: the letter `K`, `Q`, `R`, `B`
+/// or `N` of the man, none for a pawn; what tells it apart; `x` for a capture, en passant included;
+/// the target; `=` and the letter of a promotion. A pawn that captures has its file before the `x`.
+/// Another man is told apart where one more of its kind and colour has a legal move to the same
+/// target: by its file where none of those stands on it, else by its rank where none of those stands
+/// on it, else by both. Last comes `#` for checkmate or `+` for check. The caller knows that the move
+/// is legal. Takes no memory.
+pub fn write(position: &Position, m: Move) -> San
+    requires { IsLegal position.now m }
+    ensures { IsSan position.now m result.bytes }
+{
+    write_move(position, &m)
+}
