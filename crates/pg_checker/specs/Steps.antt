@@ -32,6 +32,7 @@ cause_of cause.RefFertile = tree.RefFertile
 cause_of cause.TooManyNamed = tree.TooManyNamed
 cause_of (cause.Shorter n) = tree.Shorter n
 cause_of (cause.Unlisted line) = tree.Unlisted line.items
+cause_of cause.Trailing = tree.Trailing
 
 -- The walk stops as the code did: where memory was refused, it would stop for want of room with less room; of a read that failed nothing is said here.
 unfoldable pub Stops : {A : Type 0} → Option (List ℕ) → ℕ → Answer A → Stop → Type 0

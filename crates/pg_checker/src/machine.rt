@@ -10,6 +10,7 @@ use pg_position::{Move, Position};
 use pg_san::Games;
 
 /// What is asked of a certificate.
+#[derive(Drop)]
 pub(crate) struct Question<'a> {
     pub(crate) diagram: &'a Diagram,
     pub(crate) plies: u8,

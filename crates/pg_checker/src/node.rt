@@ -17,8 +17,8 @@ use pg_captures::first_excludes;
 use pg_certificate::{ReadFault, Record, RecordReader, Source};
 use pg_position::Position;
 
-// A refusal to read a record, as a stop. No record is refused as Magic or Trailing.
-fn stop_of(fault: ReadFault) -> Stop
+/// A refusal to read a record, as a stop. No record is refused as Magic or Trailing.
+pub(crate) fn stop_of(fault: ReadFault) -> Stop
     ensures { result ≡ stop_of fault }
 {
     match fault {

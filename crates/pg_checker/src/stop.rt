@@ -1,6 +1,5 @@
 //! Why the walk stops.
 use arrayvec::ArrayVec;
-use pg_certificate::ReadFault;
 use pg_position::Move;
 
 /// A cause in the certificate.
@@ -16,6 +15,7 @@ pub(crate) enum Cause {
     TooManyNamed,
     Shorter(u8),
     Unlisted(ArrayVec<Move, 128>),
+    Trailing,
 }
 
 /// Why the walk stops: for want of memory, for a source that fails, or for a cause in the
@@ -24,10 +24,4 @@ pub(crate) enum Stop {
     Memory,
     Read,
     Because(Cause),
-}
-
-impl From<Cause> for Stop {
-    fn from(cause: Cause) -> Stop {
-        Stop::Because(cause)
-    }
 }

@@ -1,8 +1,5 @@
 //! The walk over the trees of a certificate, with a stack of open nodes.
 ghost use Rattle.std.specs.Prelude.{◌≡◌, ◌+◌, ◌<◌, ◌≤◌, ◌++◌, Some, suc, false, [], length, map, reverse, OnOk};
-ghost use Rattle.pg_position.specs.Position.{IsPosition};
-ghost use Rattle.pg_position.specs.Step.{Legal};
-ghost use Rattle.pg_moves.specs.Moves.{IsLegal};
 ghost use Rattle.pg_certificate.specs.Reader.{to_come};
 ghost use Rattle.pg_checker.specs.Cuts.{rules_by};
 ghost use Rattle.pg_checker.specs.Frames.{enter as enter_of, finish, turn as turn_of, Stacked};
@@ -16,6 +13,7 @@ ghost use Rattle.pg_checker.specs.Walk.{leaf as leaf_of, visit};
 
 use crate::machine::{Frame, Machine, Node, Question};
 use crate::node::head;
+use crate::play::after;
 use crate::stop::{Cause, Stop};
 use crate::table::Entry;
 use arrayvec::ArrayVec;
@@ -111,19 +109,6 @@ fn enter<S: Source>(
             Ok(())
         }
         Err(stop) => Err(stop),
-    }
-}
-
-// The position after a legal move.
-fn after(position: &Position, m: &Move) -> Position
-    requires { IsLegal position.now m.now }
-    ensures legal { Legal position.now m.now result }
-    ensures from { IsPosition position.now }
-{
-    position.side();
-    match position.play(*m) {
-        Ok(next) => next,
-        Err(_) => unreachable!(),
     }
 }
 

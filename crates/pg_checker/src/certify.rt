@@ -1,0 +1,191 @@
+//! The check of a certificate.
+ghost use Rattle.std.specs.Prelude.{◌≡◌, ◌+◌, ◌*◌, ◌≤◌, false, [], OnOk, IfErr};
+ghost use Rattle.std.specs.Prelude.{length as length_of};
+ghost use Rattle.std.specs.Io.KnownBytes.{IsAtEnd};
+ghost use Rattle.pg_certificate.specs.Reader.{to_come};
+ghost use Rattle.pg_checker.specs.Answer.{IsExactAnswer};
+ghost use Rattle.pg_checker.specs.Check.{Accepts, Refuses, Takes};
+ghost use Rattle.pg_checker.specs.Checking.{Answers, Headed, HeaderFails, HeaderTakes, WalkTakes, fault_of, header_fault};
+ghost use Rattle.pg_checker.specs.Cuts.{rules_by};
+ghost use Rattle.pg_checker.specs.Steps.{FailsRead};
+
+use crate::fault::Fault;
+use crate::listed::check_listed;
+use crate::machine::{Machine, Question};
+use crate::node::stop_of;
+use crate::stop::{Cause, Stop};
+use crate::table::Table;
+use crate::walk::all_trees;
+use arrayvec::ArrayVec;
+use pg_captures::Bound;
+use pg_certificate::{ReadFault, RecordReader, Source};
+use pg_fen::{Diagram, Length};
+use pg_san::Games;
+use std::alloc::Global;
+
+/// What proved the answer: how many records the certificate has, and how many named nodes.
+#[derive(Clone, Copy, Debug, PartialEq, Eq)]
+pub struct Proved {
+    pub records: u64,
+    pub named: u32,
+}
+
+// A stop of the walk, as a fault.
+fn fault_of(stop: Stop) -> Fault
+    ensures { result ≡ fault_of stop }
+{
+    match stop {
+        Stop::Memory => Fault::Memory,
+        Stop::Read => Fault::Read,
+        Stop::Because(cause) => match cause {
+            Cause::Budget => Fault::Budget,
+            Cause::Truncated => Fault::Truncated,
+            Cause::UnknownRecord(byte) => Fault::UnknownRecord(byte),
+            Cause::UnknownBound(code) => Fault::UnknownBound(code),
+            Cause::CutFails(code) => Fault::CutFails(code),
+            Cause::RefUnknown => Fault::RefUnknown,
+            Cause::RefDiffers => Fault::RefDiffers,
+            Cause::RefFertile => Fault::RefFertile,
+            Cause::TooManyNamed => Fault::TooManyNamed,
+            Cause::Shorter(plies) => Fault::Shorter(plies),
+            Cause::Unlisted(game) => Fault::Unlisted(game),
+            Cause::Trailing => Fault::Trailing,
+        },
+    }
+}
+
+// A refusal to read a header, as a fault.
+fn header_fault(fault: ReadFault) -> Fault
+    ensures { result ≡ header_fault fault }
+{
+    match fault {
+        ReadFault::Magic => Fault::Magic,
+        ReadFault::Read => Fault::Read,
+        ReadFault::Failed => Fault::Read,
+        ReadFault::Truncated => Fault::Truncated,
+        ReadFault::Trailing => Fault::Truncated,
+        ReadFault::UnknownRecord(_) => Fault::Truncated,
+    }
+}
+
+// The header, which must be that of the question.
+fn read_header<S: Source>(
+    question: &Question,
+    reader: &mut RecordReader,
+    source: &mut S,
+) -> Result<(), Fault>
+    requires held { reader.old.held ≡ [] }
+    requires runs { reader.old.failed ≡ false }
+    ensures ok { OnOk result (Headed question.now.diagram.now question.now.plies
+        (S.left source.old) (to_come reader.new (S.left source.new))) }
+    ensures runs { OnOk result (reader.new.failed ≡ false) }
+    ensures held { length_of reader.new.held ≤ 4096 }
+    ensures err { IfErr result (λ e. HeaderFails question.now.diagram.now question.now.plies
+        (S.left source.old) (S.has_failed source.new) e) }
+    ensures pulls { HeaderTakes (S.left source.old) (to_come reader.new (S.left source.new)) (S.left source.new) result }
+{
+    let header = match reader.header(source) {
+        Ok(header) => header,
+        Err(fault) => return Err(header_fault(fault)),
+    };
+    if header.plies != question.plies {
+        Err(Fault::OtherLength)
+    } else if header.diagram != question.diagram.packed() {
+        Err(Fault::OtherDiagram)
+    } else {
+        Ok(())
+    }
+}
+
+// The trees, and the end behind them.
+fn walk<S: Source>(
+    alloc: Global,
+    question: &Question,
+    reader: RecordReader,
+    source: &mut S,
+    max_records: u64,
+    max_named: u32,
+) -> Result<Proved, Stop>
+    requires limit { question.now.plies ≤ 128 }
+    requires runs { reader.failed ≡ false }
+    requires held { length_of reader.held ≤ 4096 }
+    ensures says { Answers (rules_by (λ b. code_of b) (λ b. excluded b) question.now.diagram.now question.now.plies question.now.games.now question.now.bounds.now) (to_come reader (S.left source.old)) max_records max_named result }
+    ensures end { OnOk result (IsAtEnd (S.left source.new)) }
+    ensures fails { FailsRead (S.has_failed source.new) result }
+    ensures pulls { WalkTakes (5 * max_records) (to_come reader (S.left source.old)) (S.left source.new) result }
+{
+    let mut machine = Machine {
+        reader,
+        table: Table::new(alloc),
+        records: max_records,
+        room: max_named,
+        frames: ArrayVec::new(),
+        found: false,
+    };
+    match all_trees(question, &mut machine, source) {
+        Ok(()) => {}
+        Err(stop) => return Err(stop),
+    }
+    match machine.reader.more(source) {
+        Ok(true) => Err(Stop::Because(Cause::Trailing)),
+        Ok(false) => Ok(Proved {
+            records: max_records.saturating_sub(machine.records),
+            named: max_named.saturating_sub(machine.room),
+        }),
+        Err(fault) => Err(stop_of(fault)),
+    }
+}
+
+/// Checks a certificate. Whenever it answers yes to a diagram, a length of n plies and a list of
+/// games, whatever bytes its source gave, the list holds every legal game of exactly n plies from
+/// the initial array whose last placement is the diagram, each once and nothing else, and no legal
+/// game of fewer plies ends on that diagram.
+///
+/// A cut is tested with the first bound in the list that has its code. A named node takes its room
+/// from `alloc` as its record is read; nothing else takes memory. At most
+/// `37 + 390 * max_records + 4,096` bytes are taken from a source that has not failed. A refusal
+/// changes no argument but the source.
+///
+/// # Errors
+/// In the order of testing: `Listed` where a listed game is no solution; at the header `Read` or
+/// `Truncated`, then `Magic`, `OtherLength`, `OtherDiagram`; at each record `Budget` where
+/// `max_records` were read, `Truncated` or `Read`, `UnknownRecord`, `UnknownBound`, `CutFails`,
+/// `RefUnknown`, `RefDiffers`, `RefFertile`, `TooManyNamed` where `max_named` nodes are named,
+/// `Memory` where a growth was refused; at a leaf on the diagram `Shorter` in a tree of fewer plies,
+/// `Unlisted` where the list lacks the game; at the end `Read`, then `Trailing`.
+pub fn check<R: Source>(
+    alloc: Global,
+    diagram: &Diagram,
+    length: Length,
+    games: &Games,
+    bounds: &[Box<dyn Bound>],
+    source: &mut R,
+    max_records: u64,
+    max_named: u32,
+) -> Result<Proved, Fault>
+    ensures headline { OnOk result (IsExactAnswer diagram.now length games.now) }
+    ensures accepted { Accepts (rules_by (λ b. code_of b) (λ b. excluded b) diagram.now length games.now bounds.now) diagram.now games.now max_records max_named (R.left source.old) result }
+    ensures refused { Refuses (rules_by (λ b. code_of b) (λ b. excluded b) diagram.now length games.now bounds.now) diagram.now games.now max_records max_named (R.left source.old) (R.has_failed source.new) result }
+    ensures pulls { Takes (37 + 390 * max_records + 4096) (R.left source.old) (R.left source.new) result }
+    ensures end { OnOk result (IsAtEnd (R.left source.new)) }
+{
+    match check_listed(diagram, length, games) {
+        Ok(()) => {}
+        Err(fault) => return Err(Fault::Listed(fault)),
+    }
+    let question = Question {
+        diagram,
+        plies: length.plies(),
+        games,
+        bounds,
+    };
+    let mut reader = RecordReader::new();
+    match read_header(&question, &mut reader, source) {
+        Ok(()) => {}
+        Err(fault) => return Err(fault),
+    }
+    match walk(alloc, &question, reader, source, max_records, max_named) {
+        Ok(proved) => Ok(proved),
+        Err(stop) => Err(fault_of(stop)),
+    }
+}
