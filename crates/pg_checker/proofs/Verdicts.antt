@@ -18,7 +18,10 @@ use Rattle.pg_certificate.specs.declared.record.Header.{Header}
 use Rattle.pg_certificate.specs.Reading.{header_at}
 use Rattle.pg_certificate.specs.Spelling.{header_spelling, IsHeader}
 use Rattle.pg_certificate.proofs.HeaderLaws.{headers_again, headers_only, headers_refused}
+use Rattle.pg_certificate.specs.declared.record.Record.{Record}
+use Rattle.pg_certificate.specs.declared.record.Record.TheVariants.{Expand, Cut, Ref}
 use Rattle.pg_checker.specs.Tree as tree
+use Rattle.pg_checker.specs.Walk as walk
 use Rattle.pg_checker.specs.Tree.{Rules, spelling_all}
 use Rattle.pg_checker.specs.Answer.{IsSolution, IsExactAnswer, AreSolutions}
 use Rattle.pg_checker.specs.Listed.{IsListFault}
@@ -26,7 +29,7 @@ use Rattle.pg_checker.specs.Chess.{Cuts, IsSoundCut, chess}
 use Rattle.pg_checker.specs.Cuts.{cuts_by}
 use Rattle.pg_checker.specs.Check.{header_for, IsHeaded, IsCertified, Accepts, IsRefused, Refuses, StopsAt, Takes}
 use Rattle.pg_checker.specs.Checking.{Headed, HeaderFails, AreKnown, Answers, fault_of}
-use Rattle.pg_checker.specs.Front.{CauseAt, RecordCause}
+use Rattle.pg_checker.specs.Front.{CauseAt, RecordCause, no_budget, no_record, refused}
 use Rattle.pg_checker.specs.Steps.{Stops, FailsRead, cause_of}
 use Rattle.pg_checker.specs.Whole.{answer, IsAccepted, IsStopped, HasMore, IsAtNamed}
 use Rattle.pg_checker.specs.declared.certify.Proved.{Proved}
@@ -38,7 +41,8 @@ use Rattle.pg_checker.specs.declared.stop.Cause.{Cause}
 use Rattle.pg_checker.specs.declared.stop.Cause.TheVariants as cause
 use Rattle.pg_checker.specs.declared.stop.Stop.{Stop}
 use Rattle.pg_checker.specs.declared.stop.Stop.TheVariants as stop
-use Rattle.pg_checker.proofs.Chess.{chess_exact, chess_plain, yes_is_exact}
+use Rattle.pg_checker.proofs.Chess.{chess_exact, chess_plain, chess_read, yes_is_exact}
+use Rattle.pg_checker.proofs.Reading.{read_no_trailing}
 use Rattle.pg_checker.proofs.Whole.{accepted, accepts, stopped, at_named}
 
 -- ---- bounds
@@ -70,8 +74,21 @@ is_header d l = record { known = refl; whole = packed_length d }
 headed_at : (d : Placement) (l : ℕ) (bytes rest : List ℕ) → IsHeaded d l bytes rest → header_at bytes ≡ Ok (header_for d l, rest)
 headed_at d l bytes rest h = ap header_at h ∙ headers_again (header_for d l) rest (is_header d l)
 
-one_header : (h k : Header) (x y : List ℕ) → Ok {E = reading_fault.ReadFault} (h, x) ≡ Ok (k, y) → h ≡ k
-one_header h k x y e = let both : (h, x) ≡ (k, y) = cc in ap (λ (v : Header × List ℕ). v.0) both
+-- a result has one value, and no fault beside it
+one_ok : {A E : Type 0} (a : Result A E) (x y : A) → a ≡ Ok x → a ≡ Ok y → x ≡ y
+one_ok a x y e f = cc
+
+one_answer : {A E : Type 0} (a : Result A E) (f : E) (x : A) → a ≡ Err f → a ≡ Ok x → ⊥
+one_answer a f x e g = cc
+
+abbrev Headers : Type 0
+Headers = Result (Header × List ℕ) reading_fault.ReadFault
+
+one_header : (a : Headers) (h k : Header) (x y : List ℕ) → a ≡ Ok (h, x) → a ≡ Ok (k, y) → h ≡ k
+one_header a h k x y e f = ap (λ (v : Header × List ℕ). v.0) (one_ok a (h, x) (k, y) e f)
+
+no_header : (a : Headers) (f : reading_fault.ReadFault) (k : Header) (y : List ℕ) → a ≡ Err f → a ≡ Ok (k, y) → ⊥
+no_header a f k y e g = one_answer a f (k, y) e g
 
 module _ (d : Placement) (l : ℕ) (games : List (List Move)) (cut : Cuts) where
   plies_are : (chess d l games cut).plies ≡ l
@@ -118,9 +135,9 @@ module _ (d : Placement) (l : ℕ) (games : List (List Move)) (cut : Cuts) where
   refuted None failed e h ne = tt
   refuted (Some bytes) failed fault.Read h ne = absurd (ne refl)
   refuted (Some bytes) failed fault.Truncated h ne = λ rest at. (let long : length bytes ≡ length (header_spelling (header_for d l) ++ rest) = ap length at in let whole : length (header_spelling (header_for d l) ++ rest) ≡ length (header_spelling (header_for d l)) + length rest = length-append (header_spelling (header_for d l)) rest in let packed : length (packed_of d) ≡ 32 = packed_length d in omega arith)
-  refuted (Some bytes) failed fault.Magic h ne = λ rest at. (let e : Err reading.Magic ≡ Ok (header_for d l, rest) = sym h ∙ headed_at d l bytes rest at in cc)
-  refuted (Some bytes) failed fault.OtherLength h ne = λ rest at. h.3 (ap (λ (v : Header). v.plies) (one_header h.0 (header_for d l) h.1 rest (sym h.2 ∙ headed_at d l bytes rest at)))
-  refuted (Some bytes) failed fault.OtherDiagram h ne = λ rest at. h.4 (ap (λ (v : Header). v.diagram) (one_header h.0 (header_for d l) h.1 rest (sym h.2 ∙ headed_at d l bytes rest at)))
+  refuted (Some bytes) failed fault.Magic h ne = λ rest at. no_header (header_at bytes) reading.Magic (header_for d l) rest h (headed_at d l bytes rest at)
+  refuted (Some bytes) failed fault.OtherLength h ne = λ rest at. h.3 (ap (λ (v : Header). v.plies) (one_header (header_at bytes) h.0 (header_for d l) h.1 rest h.2 (headed_at d l bytes rest at)))
+  refuted (Some bytes) failed fault.OtherDiagram h ne = λ rest at. h.4 (ap (λ (v : Header). v.diagram) (one_header (header_at bytes) h.0 (header_for d l) h.1 rest h.2 (headed_at d l bytes rest at)))
   refuted (Some bytes) failed (fault.Listed x) h ne = absurd h
   refuted (Some bytes) failed fault.Budget h ne = absurd h
   refuted (Some bytes) failed (fault.UnknownRecord x) h ne = absurd h
@@ -178,3 +195,87 @@ module _ (d : Placement) (l : ℕ) (games : List (List Move)) (cut : Cuts) where
   header_refuses a b known failed (fault.Shorter x) all h = absurd h
   header_refuses a b known failed (fault.Unlisted x) all h = absurd h
   header_refuses a b known failed fault.Trailing all h = absurd h
+
+  -- ---- the walk says yes
+  pub walk_headline : (known left : Option (List ℕ)) (a b : ℕ) (proved : Proved) → IsSoundCut d cut → AreSolutions d l games → Answers (chess d l games cut) left a b (Ok proved) → IsExactAnswer d l games
+  walk_headline known left a b proved sound all h = yes_is_exact d l games cut sound a b h.0 (proved.records, proved.named) h.2 all
+
+  pub walk_accepts : (known left : Option (List ℕ)) (a b : ℕ) (proved : Proved) → AreSolutions d l games → Headed d l known left → Answers (chess d l games cut) left a b (Ok proved) → Accepts (chess d l games cut) d games a b known (Ok proved)
+  walk_accepts known left a b proved all at h = (solutions all, go known left at h.1)
+    where
+      go : (known left : Option (List ℕ)) → Headed d l known left → AreKnown left h.0 → IfSome known (λ bytes. IsCertified (chess d l games cut) d a b bytes proved)
+      go None left at k = tt
+      go (Some bytes) None at k = absurd at
+      go (Some bytes) (Some rest) at k = certified a b bytes rest proved at (ap (answer (chess d l games cut) array_state a b) k ∙ h.2)
+
+  -- ---- the walk stops
+  -- no front is stopped by bytes behind the certificate
+  never_trailing : (k : ℕ) (p : State) (s : walk.State State) → RecordCause (chess d l games cut) k p s tree.Trailing → ⊥
+  never_trailing k p s (no_budget e f) = cc
+  never_trailing k p s (no_record e f) = read_no_trailing s.rest (sym (ap (λ (v : List ℕ → Result (Record × List ℕ) (tree.Fault Move)). v s.rest) (chess_read d l games cut)) ∙ f)
+  never_trailing k p s (refused e (Expand false) rest f g) = g
+  never_trailing k p s (refused e (Expand true) rest f g) = g
+  never_trailing k p s (refused e (Cut code) rest f g) = g
+  never_trailing k p s (refused e (Ref number) rest f g) = g
+
+  no_trailing : (n k : ℕ) (g : List Move) (p : State) (s : walk.State State) → CauseAt (chess d l games cut) n k g p s tree.Trailing → ⊥
+  no_trailing n zero g p s c = c
+  no_trailing n (suc k) g p s c = never_trailing (suc k) p s c
+
+  stopped_for : (a b : ℕ) (rest : List ℕ) (f : tree.Fault Move) → f ≢ tree.Trailing → answer (chess d l games cut) array_state a b rest ≡ Err f → IsStopped (chess d l games cut) array_state a b rest f
+  stopped_for a b rest f ne h = elim (stopped (chess d l games cut) (chess_exact d l games cut) array_state a b rest f h) [ inl s ↦ s | inr t ↦ absurd (ne t.0) ]
+
+  trailing_for : (a b : ℕ) (rest : List ℕ) → answer (chess d l games cut) array_state a b rest ≡ Err tree.Trailing → HasMore (chess d l games cut) array_state a b rest
+  trailing_for a b rest h = elim (stopped (chess d l games cut) (chess_exact d l games cut) array_state a b rest tree.Trailing h) [ inl s ↦ absurd (no_trailing _ s.place.plies s.place.game s.place.position s.state s.cause) | inr t ↦ t.1 ]
+
+  -- what is refused is not certified
+  not_both : (a b : ℕ) (bytes rest : List ℕ) (f : tree.Fault Move) → IsHeaded d l bytes rest → answer (chess d l games cut) array_state a b rest ≡ Err f → (proved : Proved) → ¬ IsCertified (chess d l games cut) d a b bytes proved
+  not_both a b bytes rest f at h proved k = one_answer (answer (chess d l games cut) array_state a b rest) f (proved.records, proved.named) h (certified_answer a b bytes rest proved at k)
+
+  because : (a b : ℕ) (known left : Option (List ℕ)) (c : Cause) {Q : List ℕ → Type 0} → Headed d l known left → Stops left b (λ bytes room. answer (chess d l games cut) array_state a room bytes) (stop.Because c)
+      → ((bytes rest : List ℕ) → IsHeaded d l bytes rest → answer (chess d l games cut) array_state a b rest ≡ Err (cause_of c) → Q bytes) → IfSome known Q
+  unfolding Stops
+  because a b None left c at h f = tt
+  because a b (Some bytes) None c at h f = absurd at
+  because a b (Some bytes) (Some rest) c at h f = f bytes rest at h
+
+  pub stop_accepts : (a b : ℕ) (known left : Option (List ℕ)) (s : Stop) → Headed d l known left → Answers (chess d l games cut) left a b (Err s) → Accepts (chess d l games cut) d games a b known (Err (fault_of s))
+  stop_accepts a b known left stop.Memory at h = tt
+  stop_accepts a b known left stop.Read at h = tt
+  stop_accepts a b known left (stop.Because cause.Budget) at h = λ all. because a b known left cause.Budget at h (λ bytes rest. not_both a b bytes rest tree.Budget)
+  stop_accepts a b known left (stop.Because cause.Truncated) at h = λ all. because a b known left cause.Truncated at h (λ bytes rest. not_both a b bytes rest tree.Truncated)
+  stop_accepts a b known left (stop.Because (cause.UnknownRecord x)) at h = λ all. because a b known left (cause.UnknownRecord x) at h (λ bytes rest. not_both a b bytes rest (tree.UnknownRecord x))
+  stop_accepts a b known left (stop.Because (cause.UnknownBound x)) at h = λ all. because a b known left (cause.UnknownBound x) at h (λ bytes rest. not_both a b bytes rest (tree.UnknownBound x))
+  stop_accepts a b known left (stop.Because (cause.CutFails x)) at h = λ all. because a b known left (cause.CutFails x) at h (λ bytes rest. not_both a b bytes rest (tree.CutFails x))
+  stop_accepts a b known left (stop.Because cause.RefUnknown) at h = λ all. because a b known left cause.RefUnknown at h (λ bytes rest. not_both a b bytes rest tree.RefUnknown)
+  stop_accepts a b known left (stop.Because cause.RefDiffers) at h = λ all. because a b known left cause.RefDiffers at h (λ bytes rest. not_both a b bytes rest tree.RefDiffers)
+  stop_accepts a b known left (stop.Because cause.RefFertile) at h = λ all. because a b known left cause.RefFertile at h (λ bytes rest. not_both a b bytes rest tree.RefFertile)
+  stop_accepts a b known left (stop.Because cause.TooManyNamed) at h = λ all. because a b known left cause.TooManyNamed at h (λ bytes rest. not_both a b bytes rest tree.TooManyNamed)
+  stop_accepts a b known left (stop.Because (cause.Shorter x)) at h = λ all. because a b known left (cause.Shorter x) at h (λ bytes rest. not_both a b bytes rest (tree.Shorter x))
+  stop_accepts a b known left (stop.Because (cause.Unlisted x)) at h = λ all. because a b known left (cause.Unlisted x) at h (λ bytes rest. not_both a b bytes rest (tree.Unlisted x.items))
+  stop_accepts a b known left (stop.Because cause.Trailing) at h = λ all. because a b known left cause.Trailing at h (λ bytes rest. not_both a b bytes rest tree.Trailing)
+
+  stops_at : (a b : ℕ) (f : tree.Fault Move) → f ≢ tree.Trailing → (bytes rest : List ℕ) → IsHeaded d l bytes rest → answer (chess d l games cut) array_state a b rest ≡ Err f → StopsAt (chess d l games cut) d a b bytes f
+  stops_at a b f ne bytes rest at h = (rest, headed bytes rest at, stopped_for a b rest f ne h)
+
+  memory_at : (a b : ℕ) (known left : Option (List ℕ)) → Headed d l known left → Stops left b (λ bytes room. answer (chess d l games cut) array_state a room bytes) stop.Memory → IfSome known (λ bytes. IsRefused (chess d l games cut) d a b bytes fault.Memory)
+  unfolding Stops
+  memory_at a b None left at h = tt
+  memory_at a b (Some bytes) None at h = absurd at
+  memory_at a b (Some bytes) (Some rest) at h = (rest, headed bytes rest at, at_named (chess d l games cut) (chess_exact d l games cut) (chess_plain d l games cut) array_state a b h.0 rest h.1 h.2)
+
+  pub stop_refuses : (a b : ℕ) (known left : Option (List ℕ)) (failed : Bool) (s : Stop) → AreSolutions d l games → Headed d l known left → FailsRead {X = Proved} failed (Err s) → Answers (chess d l games cut) left a b (Err s) → Refuses (chess d l games cut) d games a b known failed (Err (fault_of s))
+  stop_refuses a b known left failed stop.Memory all at r h = (solutions all, memory_at a b known left at h)
+  stop_refuses a b known left failed stop.Read all at r h = (solutions all, r)
+  stop_refuses a b known left failed (stop.Because cause.Budget) all at r h = (solutions all, because a b known left cause.Budget at h (stops_at a b tree.Budget (λ e. cc)))
+  stop_refuses a b known left failed (stop.Because cause.Truncated) all at r h = (solutions all, because a b known left cause.Truncated at h (λ bytes rest x y. inr (stops_at a b tree.Truncated (λ e. cc) bytes rest x y)))
+  stop_refuses a b known left failed (stop.Because (cause.UnknownRecord x)) all at r h = (solutions all, because a b known left (cause.UnknownRecord x) at h (stops_at a b (tree.UnknownRecord x) (λ e. cc)))
+  stop_refuses a b known left failed (stop.Because (cause.UnknownBound x)) all at r h = (solutions all, because a b known left (cause.UnknownBound x) at h (stops_at a b (tree.UnknownBound x) (λ e. cc)))
+  stop_refuses a b known left failed (stop.Because (cause.CutFails x)) all at r h = (solutions all, because a b known left (cause.CutFails x) at h (stops_at a b (tree.CutFails x) (λ e. cc)))
+  stop_refuses a b known left failed (stop.Because cause.RefUnknown) all at r h = (solutions all, because a b known left cause.RefUnknown at h (stops_at a b tree.RefUnknown (λ e. cc)))
+  stop_refuses a b known left failed (stop.Because cause.RefDiffers) all at r h = (solutions all, because a b known left cause.RefDiffers at h (stops_at a b tree.RefDiffers (λ e. cc)))
+  stop_refuses a b known left failed (stop.Because cause.RefFertile) all at r h = (solutions all, because a b known left cause.RefFertile at h (stops_at a b tree.RefFertile (λ e. cc)))
+  stop_refuses a b known left failed (stop.Because cause.TooManyNamed) all at r h = (solutions all, because a b known left cause.TooManyNamed at h (stops_at a b tree.TooManyNamed (λ e. cc)))
+  stop_refuses a b known left failed (stop.Because (cause.Shorter x)) all at r h = (solutions all, because a b known left (cause.Shorter x) at h (stops_at a b (tree.Shorter x) (λ e. cc)))
+  stop_refuses a b known left failed (stop.Because (cause.Unlisted x)) all at r h = (solutions all, because a b known left (cause.Unlisted x) at h (stops_at a b (tree.Unlisted x.items) (λ e. cc)))
+  stop_refuses a b known left failed (stop.Because cause.Trailing) all at r h = (solutions all, because a b known left cause.Trailing at h (λ bytes rest x y. (rest, headed bytes rest x, trailing_for a b rest y)))
