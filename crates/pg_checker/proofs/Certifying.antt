@@ -1,9 +1,9 @@
 -- The header, the walk and the answer. Leads to the contracts of `read_header`, `walk` and `check`.
-use Rattle.std.proofs.Common.{◌≡◌, ◌≢◌, ◌↔◌, ℕ, suc, ◌+◌, ◌-◌, ◌*◌, ◌<◌, ◌≤◌, ◌⊎◌, inl, inr, Bool, true, false, List, [], ◌∷◌, ◌++◌, length, map, Option, Some, None, IfSome, not, nat_eq, Result, Ok, Err, refl, sym, ◌∙◌, ap, subst, arith}
+use Rattle.std.proofs.Common.{◌≡◌, ◌≢◌, ℕ, suc, ◌-◌, Bool, true, false, List, [], ◌∷◌, ◌++◌, map, Option, Some, None, IfSome, not, nat_eq, Result, Ok, Err, refl, sym, ◌∙◌, ap, subst}
 use Rattle.std.specs.Cmp.Lexicographic.{pointwise}
 use Rattle.std.proofs.lemmas.Bool.Decides.{Decides-eqb}
 use Rattle.std.proofs.lemmas.Slice.Eq.{slice_eq-Decides}
-use Rattle.std.specs.Io.KnownBytes.{Consumes, IsAtEnd, Keeps, prepend_known}
+use Rattle.std.specs.Io.KnownBytes.{Consumes, IsAtEnd, Keeps}
 use Rattle.pg_board.specs.Placement.{Placement}
 use Rattle.pg_position.specs.declared.state.State.{State}
 use Rattle.pg_position.specs.declared.moves.Move.{Move}
@@ -13,9 +13,7 @@ use Rattle.pg_certificate.specs.declared.fault.ReadFault.{ReadFault}
 use Rattle.pg_certificate.specs.declared.fault.ReadFault.TheVariants as reading
 use Rattle.pg_certificate.specs.declared.record.Header.{Header}
 use Rattle.pg_certificate.specs.Reading.{header_at, more_at}
-use Rattle.pg_certificate.specs.Reader.{ReaderState, to_come, Reads, RefusesOnce}
-use Rattle.pg_certificate.specs.Spelling.{header_spelling, IsHeader}
-use Rattle.pg_certificate.proofs.HeaderLaws.{headers_again, headers_only, headers_refused}
+use Rattle.pg_certificate.specs.Reader.{ReaderState, to_come, Reads}
 use Rattle.pg_checker.specs.Tree as tree
 use Rattle.pg_checker.specs.Tree.{Rules}
 use Rattle.pg_checker.specs.Walk as walk
@@ -31,10 +29,7 @@ use Rattle.pg_checker.specs.declared.stop.Stop.{Stop}
 use Rattle.pg_checker.specs.declared.stop.Stop.TheVariants as stop
 use Rattle.pg_checker.proofs.Goings.{stops_as, stops_with}
 use Rattle.pg_checker.proofs.Planting.{runs_all}
-use Rattle.pg_checker.specs.Check.{header_for, IsHeaded}
-use Rattle.pg_checker.specs.Checking.{AreKnown, Headed, HeaderFails, header_fault}
-use Rattle.pg_checker.specs.declared.fault.Fault.{Fault}
-use Rattle.pg_checker.specs.declared.fault.Fault.TheVariants as fault
+use Rattle.pg_checker.specs.Checking.{AreKnown}
 
 -- ---- the header
 -- with nothing held, what is to come is what is left

@@ -1,5 +1,5 @@
 -- What the check answers, from what its parts answer. Leads to the contract of `check`.
-use Rattle.std.proofs.Common.{◌≡◌, ◌≢◌, ℕ, zero, suc, ◌+◌, ◌*◌, ◌<◌, ◌≤◌, ◌⊎◌, inl, inr, Bool, true, false, cond, nat_eq, List, [], ◌∷◌, ◌++◌, length, Option, Some, None, IfSome, slice_get, Result, Ok, Err, refl, sym, ◌∙◌, ap, subst, arith}
+use Rattle.std.proofs.Common.{◌≡◌, ◌≢◌, ℕ, zero, suc, ◌+◌, inl, inr, Bool, true, false, List, ◌++◌, length, Option, Some, None, IfSome, slice_get, Result, Ok, Err, refl, sym, ◌∙◌, ap, subst, arith}
 use Rattle.std.specs.Option.{option_map}
 use Rattle.std.proofs.lemmas.List.{append_cancel_left, length-append}
 use Rattle.std.proofs.lemmas.Option.{slice_get_within, get_or_from_slice_get}
@@ -17,7 +17,7 @@ use Rattle.pg_certificate.specs.declared.fault.ReadFault.TheVariants as reading
 use Rattle.pg_certificate.specs.declared.record.Header.{Header}
 use Rattle.pg_certificate.specs.Reading.{header_at}
 use Rattle.pg_certificate.specs.Spelling.{header_spelling, IsHeader}
-use Rattle.pg_certificate.proofs.HeaderLaws.{headers_again, headers_only, headers_refused}
+use Rattle.pg_certificate.proofs.HeaderLaws.{headers_again}
 use Rattle.pg_certificate.specs.declared.record.Record.{Record}
 use Rattle.pg_certificate.specs.declared.record.Record.TheVariants.{Expand, Cut, Ref}
 use Rattle.pg_checker.specs.Tree as tree
@@ -27,11 +27,11 @@ use Rattle.pg_checker.specs.Answer.{IsSolution, IsExactAnswer, AreSolutions}
 use Rattle.pg_checker.specs.Listed.{IsListFault}
 use Rattle.pg_checker.specs.Chess.{Cuts, IsSoundCut, chess}
 use Rattle.pg_checker.specs.Cuts.{cuts_by}
-use Rattle.pg_checker.specs.Check.{header_for, IsHeaded, IsCertified, Accepts, IsRefused, Refuses, StopsAt, Takes}
+use Rattle.pg_checker.specs.Check.{header_for, IsHeaded, IsCertified, Accepts, IsRefused, Refuses, StopsAt}
 use Rattle.pg_checker.specs.Checking.{Headed, HeaderFails, AreKnown, Answers, fault_of}
 use Rattle.pg_checker.specs.Front.{CauseAt, RecordCause, no_budget, no_record, refused}
 use Rattle.pg_checker.specs.Steps.{Stops, FailsRead, cause_of}
-use Rattle.pg_checker.specs.Whole.{answer, IsAccepted, IsStopped, HasMore, IsAtNamed}
+use Rattle.pg_checker.specs.Whole.{answer, IsStopped, HasMore}
 use Rattle.pg_checker.specs.declared.certify.Proved.{Proved}
 use Rattle.pg_checker.specs.declared.fault.Fault.{Fault}
 use Rattle.pg_checker.specs.declared.fault.Fault.TheVariants as fault

@@ -1,8 +1,7 @@
 -- The walk answers what the theory answers.
-use Rattle.std.proofs.Common.{false, true, Bool, Ok, refl, subst}
+use Rattle.std.proofs.Common.{false, Bool, Ok, refl, subst}
 use Rattle.pg_certificate.specs.Reader.{to_come, Reads}
 use Rattle.pg_certificate.specs.Reading.{more_at}
-use Rattle.std.specs.Io.KnownBytes.{Keeps, IsAtEnd}
 use Rattle.pg_checker.specs.Cuts.{cuts_by}
 use Rattle.pg_checker.proofs.Certifying.{answers_stop, answers_end, answers_more, answers_unread, end_left}
 use Rattle.pg_checker.proofs.certify.walk.Goals as goal
