@@ -7,3 +7,4 @@ pub mod SpellLemmas
 pub mod LawLemmas
 pub mod FoundLemmas
 pub mod TextFoundLemmas
+pub mod OneTextLemmas
