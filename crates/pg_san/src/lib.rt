@@ -15,7 +15,9 @@ mod text;
 mod writing;
 
 pub use fault::SanFault;
-pub use laws::{one_text, text_grammar, texts_differ, written_text_is_matched};
+pub use laws::{
+    one_text, text_grammar, texts_differ, written_text_is_matched, written_text_is_read,
+};
 pub use reading::read;
 pub use writing::{San, write};
 
