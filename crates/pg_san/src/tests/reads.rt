@@ -1,5 +1,6 @@
 use super::*;
 use crate::{SanFault, read};
+use std::test::Fail;
 
 /// Texts that are read as one move, such as `e2e4`.
 fn check(rt: &impl Abort, position: &Position, texts: &[&str], wanted: &str) {
@@ -130,4 +131,17 @@ fn refuses(rt: HostRuntime) {
     check_fault(&rt, &pinned, &["Nce2"], SanFault::NoSuchMove);
     let free = white(&rt, "4k3/8/8/8/8/2N5/8/4K1N1", "");
     check_fault(&rt, &free, &["Ne2", "Se2+"], SanFault::Ambiguous);
+}
+
+#[test]
+fn names_faults(rt: HostRuntime) -> Result<(), Fail> {
+    for (fault, wanted) in [
+        (SanFault::Shape, "not a move"),
+        (SanFault::NoSuchMove, "no such legal move"),
+        (SanFault::Ambiguous, "ambiguous move"),
+    ] {
+        let text = format!(in rt.alloc(); "{fault}")?;
+        assert_eq!(rt; text.as_str(), wanted);
+    }
+    Ok(())
 }
