@@ -163,3 +163,13 @@ said_found text said h =
 
 pub said_grammar : (text : List ℕ) (said : Said) → (said_of text ≡ Some said) ↔ IsSaidText text said
 said_grammar text said = (said_found text said, said_again text said)
+
+nothing_found : (o : Option Said) (text : List ℕ) → said_of text ≡ o → ((said : Said) → IsSaidText text said → ⊥) → o ≡ None
+nothing_found None text e h = refl
+nothing_found (Some said) text e h = absurd (h said (said_found text said e))
+
+pub nothing_said : (text : List ℕ) → (said_of text ≡ None) ↔ ((said : Said) → IsSaidText text said → ⊥)
+nothing_said text = (
+  λ e said h. (let z : Some said ≡ None = sym (said_again text said h) ∙ e in cc),
+  λ h. nothing_found (said_of text) text refl h,
+)

@@ -1,5 +1,5 @@
 //! Laws of the texts of moves, each the contract of a function that does nothing.
-ghost use Rattle.std.specs.Prelude.{◌≡◌, ◌↔◌, ℕ, List, Some, Result, Ok};
+ghost use Rattle.std.specs.Prelude.{◌≡◌, ◌↔◌, ℕ, List, None, Some, Result, Ok};
 ghost use Rattle.pg_position.specs.declared.state.State.{State};
 ghost use Rattle.pg_position.specs.declared.moves.Move.{Move};
 ghost use Rattle.pg_position.specs.Position.{IsPosition};
@@ -11,9 +11,11 @@ ghost use Rattle.pg_san.specs.Matching.{Matches, IsReading};
 ghost use Rattle.pg_san.specs.Said.{said_of};
 ghost use Rattle.pg_san.specs.Writing.{IsSan};
 
-/// A text says what the grammar of moves spells by it, and nothing else.
+/// A text says what the grammar of moves spells by it, and nothing of a move where the grammar spells
+/// nothing by it.
 pub fn text_grammar()
-    ensures { (text : List ℕ) (said : Said) → (said_of text ≡ Some said) ↔ IsSaidText text said }
+    ensures says { (text : List ℕ) (said : Said) → (said_of text ≡ Some said) ↔ IsSaidText text said }
+    ensures nothing { (text : List ℕ) → (said_of text ≡ None) ↔ ((said : Said) → ¬ IsSaidText text said) }
 {}
 
 /// The text that is written for a legal move is matched by that move, and by no other legal move.

@@ -15,7 +15,7 @@ use pg_board::Kind;
 use pg_moves::next_legal;
 use pg_position::{Move, Position};
 
-/// The text of a move: at most eight bytes, as `Qa1xc3+` or `exd8=Q#`.
+/// The text of a move, as `Qa1xc3+` or `exd8=Q#`.
 pub type San = ArrayString<8>;
 
 fn hint_for(position: &Position, kind: Kind, m: &Move) -> Hint
