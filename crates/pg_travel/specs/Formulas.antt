@@ -79,6 +79,10 @@ least_of f (suc n) = min (least_of f n) (f n)
 unfoldable pub pawn_to : (ℕ → ℕ → ℕ) → Color → ℕ → ℕ → ℕ
 pawn_to to c r s = cond (eqb (rank_for c r) 8) 64 (least_of (λ f. pawn_steps c r (last_at c f) + to (last_at c f) s) 8)
 
+-- the steps that a pawn needs at least to the last rank: one less than the ranks where it can advance two from home
+abbrev pub soonest : Color → ℕ → ℕ
+soonest c r = cond (leb (rank_for c r) 2) (7 - rank_for c r) (8 - rank_for c r)
+
 abbrev pub from_pawn : Color → Kind → ℕ → ℕ → ℕ
 from_pawn c Pawn r s = pawn c r s
 from_pawn c Knight r s = pawn_to knight c r s
