@@ -11,8 +11,8 @@ use Rattle.pg_board.specs.Placement.{Placement, get}
 use Rattle.pg_board.specs.Bits.{has}
 use Rattle.pg_position.specs.declared.rights.Wing.{Wing}
 use Rattle.pg_travel.specs.Origins.{counted}
-use Rattle.pg_travel.specs.Formulas.{rank_for, pawn_steps, last_at, least_of, pawn_to, soonest, knight, bishop, rook, queen, distance_of}
-use Rattle.pg_travel.specs.Costs.{reach_of, reach_from, nearest, nearest_man, is_promoted}
+use Rattle.pg_travel.specs.Formulas.{rank_for, pawn_steps, last_at, least_of, pawn_to, soonest, knight, bishop, rook, queen, distance_of, is_promoted, least_steps}
+use Rattle.pg_travel.specs.Costs.{reach_of, reach_from, nearest, nearest_man}
 use Rattle.pg_travel.specs.Pawns.{by_other, least_of_more}
 use Rattle.pg_travel.proofs.Skips.{least_le, least_skip}
 
@@ -124,13 +124,18 @@ pawn_to_above to c r s = elim (eqb_tells (rank_for c r) 8) [
     above : soonest c r ≤ least_of (λ f. pawn_steps c r (last_at c f) + to (last_at c f) s) 8
     above = least_above (λ f. pawn_steps c r (last_at c f) + to (last_at c f) s) 8 (soonest c r) (soonest_low c r) (λ q low. omega (arith, steps_above c r (last_at c q) (last_rank_is c q low)))
 
-pub no_sooner : (c : Color) (j : Kind) (r s : ℕ) → j ≢ Pawn → soonest c r ≤ distance_of c j Pawn r s
-no_sooner c Pawn r s ne = absurd (ne refl)
-no_sooner c Knight r s ne = pawn_to_above knight c r s
-no_sooner c Bishop r s ne = pawn_to_above bishop c r s
-no_sooner c Rook r s ne = pawn_to_above rook c r s
-no_sooner c Queen r s ne = pawn_to_above queen c r s
-no_sooner c King r s ne = soonest_low c r
+pub no_sooner : (c : Color) (j k : Kind) (r s : ℕ) → least_steps c j k r ≤ distance_of c j k r s
+no_sooner c Knight Pawn r s = pawn_to_above knight c r s
+no_sooner c Bishop Pawn r s = pawn_to_above bishop c r s
+no_sooner c Rook Pawn r s = pawn_to_above rook c r s
+no_sooner c Queen Pawn r s = pawn_to_above queen c r s
+no_sooner c Pawn Pawn r s = omega arith
+no_sooner c King Pawn r s = omega arith
+no_sooner c j Knight r s = omega arith
+no_sooner c j Bishop r s = omega arith
+no_sooner c j Rook r s = omega arith
+no_sooner c j Queen r s = omega arith
+no_sooner c j King r s = omega arith
 
 -- squares without the man leave the least as it is
 pub least_reached_from : (b : Placement) (m : Man) (way : Option Wing) (j : Kind) (t own low high : ℕ) → ((q : ℕ) → q < 64 → has own q ≡ is_man m (get b q)) → low ≤ high → high ≤ 64 → ((q : ℕ) → low ≤ q → q < high → has own q ≡ false) → least_of (λ o. reach_from m way j t o (get b o)) high ≡ least_of (λ o. reach_from m way j t o (get b o)) low

@@ -1,8 +1,7 @@
 -- The value of a way as a number.
-use Rattle.std.specs.Prelude.{◌≡◌, ℕ, ◌+◌, ◌<◌, min, cond, Bool, true, false, Option, Some, None}
+use Rattle.std.specs.Prelude.{◌≡◌, ℕ, ◌+◌, ◌<◌, min, cond, Option, Some, None}
 use Rattle.pg_board.specs.declared.man.Color.{Color}
 use Rattle.pg_board.specs.declared.man.Kind.{Kind}
-use Rattle.pg_board.specs.declared.man.Kind.TheVariants.{Pawn, Knight, Bishop, Rook, Queen, King}
 use Rattle.pg_position.specs.declared.rights.Wing.{Wing}
 use Rattle.pg_board.specs.declared.man.Man.{Man}
 use Rattle.pg_board.specs.Men.{color_eq, is_man}
@@ -28,15 +27,6 @@ reach_from m way j t o here = cond (is_man m here) (distance_of m.color j m.kind
 -- the least over the squares where this man stands
 unfoldable pub nearest_man : Placement → Man → Option Wing → Kind → ℕ → ℕ
 nearest_man b m way j t = least_of (λ o. reach_from m way j t o (get b o)) 64
-
--- whether a pawn can become of the kind
-abbrev pub is_promoted : Kind → Bool
-is_promoted Pawn = false
-is_promoted Knight = true
-is_promoted Bishop = true
-is_promoted Rook = true
-is_promoted Queen = true
-is_promoted King = false
 
 -- what a man of d costs; nothing where none of c stands there
 abbrev pub cost_of : Placement → Color → Option Wing → ℕ → Option Man → ℕ

@@ -6,11 +6,11 @@ ghost use Rattle.pg_captures.specs.Owed.{plies_left};
 ghost use Rattle.pg_travel.specs.Ways.{wing_of, way_of};
 ghost use Rattle.pg_travel.specs.Origins.{counted, charge, sum_to};
 ghost use Rattle.pg_travel.specs.Formulas.{least_of};
-ghost use Rattle.pg_travel.specs.Costs.{nearest_man, is_promoted, nearest, cost_of, cost, ValueIs, SumIs, HeldIs, lesser};
+ghost use Rattle.pg_travel.specs.Costs.{nearest_man, nearest, cost_of, cost, ValueIs, SumIs, HeldIs, lesser};
 ghost use Rattle.pg_travel.specs.Needs.{NeedIs, TravelTest};
 
 use crate::castling::{Castling, charge, counted, holds};
-use crate::distances::closer;
+use crate::distances::{closer, is_promoted};
 use pg_board::{Board, Color, Kind, Man, Square};
 use pg_captures::plies_left;
 use pg_fen::Diagram;
@@ -26,19 +26,6 @@ fn man(color: Color, kind: Kind) -> Man
     ensures { result ≡ man color kind }
 {
     Man { color, kind }
-}
-
-fn is_promoted(kind: Kind) -> bool
-    ensures { result ≡ is_promoted kind }
-{
-    match kind {
-        Kind::Pawn => false,
-        Kind::Knight => true,
-        Kind::Bishop => true,
-        Kind::Rook => true,
-        Kind::Queen => true,
-        Kind::King => false,
-    }
 }
 
 // From the nearest square with this man to a kind on a target, where that is less than `best`.
@@ -74,7 +61,7 @@ fn nearest(board: &Board, color: Color, way: Option<Castling>, kind: Kind, t: Sq
 
 // Whether the man on a square is the one that is to stand there, and counts as standing there.
 fn is_home(color: Color, way: Option<Castling>, t: Square, here: Option<Man>, man: Man) -> bool
-    ensures { IsTrue result → ((here ≡ Some man) × (counted color (way_of way) t ≡ t)) }
+    ensures { IsTrue result ↔ ((here ≡ Some man) × (counted color (way_of way) t ≡ t)) }
 {
     match here {
         None => false,
@@ -183,7 +170,7 @@ pub fn need(color: Color, diagram: &Diagram, position: &Position) -> Option<u16>
 
 // Whether a value is known and so many plies pay for it.
 fn pays(plies: u16, value: Option<u16>) -> bool
-    ensures { IsTrue result → (v : ℕ) × (value ≡ Some v) × (v ≤ plies) }
+    ensures { IsTrue result ↔ ((v : ℕ) × (value ≡ Some v) × (v ≤ plies)) }
 {
     match value {
         None => false,
@@ -193,7 +180,7 @@ fn pays(plies: u16, value: Option<u16>) -> bool
 
 // Whether the colour's need does not exist or is above its plies left. The ways by castling are
 // tried only where the way without is not paid for.
-pub fn excludes_for(color: Color, diagram: &Diagram, position: &Position, left: u8) -> bool
+pub(crate) fn excludes_for(color: Color, diagram: &Diagram, position: &Position, left: u8) -> bool
     ensures { IsTrue result ↔ TravelTest position.now diagram.now color left }
 {
     let plies = u16::from(plies_left(position.side(), color, left));
