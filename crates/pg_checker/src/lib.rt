@@ -24,3 +24,6 @@ pub use laws::{
     only_what_is_taken, turns,
 };
 pub use listed::check_listed;
+
+#[cfg(test)]
+mod tests;

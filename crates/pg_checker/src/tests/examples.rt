@@ -1,0 +1,203 @@
+use super::*;
+use pg_moves::next_legal;
+use pg_position::Position;
+
+#[test]
+fn the_empty_game(rt: HostRuntime) -> Result<(), std::test::Fail> {
+    let asked = ask(&rt, ARRAY, "0", "-");
+    let bytes = headed(&rt, &asked)?;
+    assert_eq!(rt; bytes.len(), 37);
+    assert!(rt; answer(&rt, &asked, &four(&rt)?, &bytes, MANY, 0) == yes(0, 0));
+    Ok(())
+}
+
+#[test]
+fn one_ply(rt: HostRuntime) -> Result<(), std::test::Fail> {
+    let asked = ask(&rt, AFTER_E4, "0.5", "e4");
+    let mut bytes = headed(&rt, &asked)?;
+    bytes.push(1)?;
+    assert!(rt; answer(&rt, &asked, &four(&rt)?, &bytes, MANY, 0) == yes(1, 0));
+    Ok(())
+}
+
+/// A cut by travel in the tree of length 1; in that of length 2 an expansion, thirteen cuts, an
+/// expansion and six cuts: 79 bytes.
+pub fn open_game<R: AllocGlobal>(rt: &R, asked: &Problem) -> Result<Vec<u8>, AllocError> {
+    let mut bytes = headed(rt, asked)?;
+    bytes.extend_from_slice(&[2, 4, 1])?;
+    repeat(&mut bytes, &[2, 4], 13)?;
+    bytes.push(1)?;
+    repeat(&mut bytes, &[2, 4], 6)?;
+    Ok(bytes)
+}
+
+#[test]
+fn e4_e5(rt: HostRuntime) -> Result<(), std::test::Fail> {
+    let asked = ask(&rt, AFTER_E4_E5, "1.0", "1. e4 e5");
+    let bounds = four(&rt)?;
+    let bytes = open_game(&rt, &asked)?;
+    assert_eq!(rt; bytes.len(), 79);
+    assert!(rt; answer(&rt, &asked, &bounds, &bytes, 22, 0) == yes(22, 0));
+    assert!(rt; answer(&rt, &asked, &bounds, &bytes, 21, 0) == Err(Fault::Budget));
+    Ok(())
+}
+
+#[test]
+fn e4_e5_by_expansions(rt: HostRuntime) -> Result<(), std::test::Fail> {
+    let asked = ask(&rt, AFTER_E4_E5, "1.0", "1. e4 e5");
+    let bounds = four(&rt)?;
+    let mut bytes = headed(&rt, &asked)?;
+    repeat(&mut bytes, &[1], 22)?;
+    assert!(rt; answer(&rt, &asked, &bounds, &bytes, 22, 0) == yes(22, 0));
+    assert!(rt; answer(&rt, &asked, &bounds, &bytes, 21, 0) == Err(Fault::Budget));
+    let mut named = headed(&rt, &asked)?;
+    repeat(&mut named, &[5], 22)?;
+    assert!(rt; answer(&rt, &asked, &bounds, &named, 22, 22) == yes(22, 22));
+    assert!(rt; answer(&rt, &asked, &bounds, &named, 22, 21) == Err(Fault::TooManyNamed));
+    Ok(())
+}
+
+const TWO_ORDERS: &str = "rnbqkbnr/pppp1ppp/4p3/8/8/3PP3/PPP2PPP/RNBQKBNR";
+
+/// The node after the first of two moves: nine cuts, an expansion, ten cuts below it.
+fn branch<A: Allocator>(bytes: &mut Vec<u8, A>) -> Result<(), AllocError> {
+    bytes.push(1)?;
+    repeat(bytes, &[2, 4], 9)?;
+    bytes.push(1)?;
+    repeat(bytes, &[2, 4], 10)
+}
+
+fn two_orders<R: AllocGlobal>(rt: &R, asked: &Problem) -> Result<Vec<u8>, AllocError> {
+    let mut bytes = headed(rt, asked)?;
+    bytes.extend_from_slice(&[2, 4, 2, 4, 1])?;
+    repeat(&mut bytes, &[2, 4], 10)?;
+    branch(&mut bytes)?;
+    bytes.extend_from_slice(&[2, 4])?;
+    branch(&mut bytes)?;
+    repeat(&mut bytes, &[2, 4], 7)?;
+    Ok(bytes)
+}
+
+#[test]
+fn two_move_orders(rt: HostRuntime) -> Result<(), std::test::Fail> {
+    let both = ask(&rt, TWO_ORDERS, "1.5", "1. d3 e6 2. e3\n1. e3 e6 2. d3");
+    let first = ask(&rt, TWO_ORDERS, "1.5", "1. d3 e6 2. e3");
+    let second = ask(&rt, TWO_ORDERS, "1.5", "1. e3 e6 2. d3");
+    let bounds = four(&rt)?;
+    let bytes = two_orders(&rt, &both)?;
+    assert_eq!(rt; bytes.len(), 158);
+    assert!(rt; answer(&rt, &both, &bounds, &bytes, MANY, 0).is_ok());
+    let lacks_second = answer(&rt, &first, &bounds, &bytes, MANY, 0);
+    assert!(rt; matches!(lacks_second, Err(Fault::Unlisted(game)) if second.games.contains(&game)));
+    let lacks_first = answer(&rt, &second, &bounds, &bytes, MANY, 0);
+    assert!(rt; matches!(lacks_first, Err(Fault::Unlisted(game)) if first.games.contains(&game)));
+    let mut expanded = headed(&rt, &both)?;
+    repeat(&mut expanded, &[1], 443)?;
+    assert!(rt; answer(&rt, &both, &bounds, &expanded, MANY, 0) == yes(443, 0));
+    Ok(())
+}
+
+#[test]
+fn no_game(rt: HostRuntime) -> Result<(), std::test::Fail> {
+    let asked = ask(&rt, AFTER_E4_E5, "0.5", "");
+    let bounds = four(&rt)?;
+    let mut cut = headed(&rt, &asked)?;
+    cut.extend_from_slice(&[2, 4])?;
+    assert!(rt; answer(&rt, &asked, &bounds, &cut, MANY, 0) == yes(1, 0));
+    let mut expanded = headed(&rt, &asked)?;
+    expanded.push(1)?;
+    assert!(rt; answer(&rt, &asked, &bounds, &expanded, MANY, 0) == yes(1, 0));
+    Ok(())
+}
+
+#[test]
+fn a_shorter_game(rt: HostRuntime) -> Result<(), std::test::Fail> {
+    let bounds = four(&rt)?;
+    let shuffled = ask(&rt, ARRAY, "2.0", "1. Nf3 Nf6 2. Ng1 Ng8");
+    let header = headed(&rt, &shuffled)?;
+    assert!(rt; answer(&rt, &shuffled, &bounds, &header, MANY, 0) == Err(Fault::Shorter(0)));
+    let unlisted = ask(&rt, ARRAY, "2.0", "");
+    assert!(rt; answer(&rt, &unlisted, &bounds, &header, MANY, 0) == Err(Fault::Shorter(0)));
+    let other_parity = ask(&rt, AFTER_E4, "2.0", "");
+    let mut bytes = headed(&rt, &other_parity)?;
+    bytes.push(1)?;
+    assert!(rt; answer(&rt, &other_parity, &bounds, &bytes, MANY, 0) == Err(Fault::Shorter(1)));
+    Ok(())
+}
+
+/// Writes the tree below a position: cut by travel where it excludes, else expanded.
+fn grow<A: Allocator>(
+    bytes: &mut Vec<u8, A>,
+    diagram: &Diagram,
+    position: &Position,
+    left: u8,
+) -> Result<(), AllocError> {
+    if left == 0 {
+        return Ok(());
+    }
+    if Travel.excludes(diagram, position, left) {
+        return bytes.extend_from_slice(&[2, 4]);
+    }
+    bytes.push(1)?;
+    let mut last = None;
+    while let Some(m) = next_legal(position, last) {
+        if let Ok(next) = position.play(m) {
+            grow(bytes, diagram, &next, left - 1)?;
+        }
+        last = Some(m);
+    }
+    Ok(())
+}
+
+#[test]
+fn four_games(rt: HostRuntime) -> Result<(), std::test::Fail> {
+    let text = "1. e4 a6 2. e5 d5 3. exd6\n1. e4 a6 2. e5 d6 3. exd6\n\
+        1. e4 d5 2. exd5 a6 3. d6\n1. e4 d6 2. e5 a6 3. exd6\n";
+    let placement = "rnbqkbnr/1pp1pppp/p2P4/8/8/8/PPPP1PPP/RNBQKBNR";
+    let asked = ask(&rt, placement, "2.5", text);
+    let bounds = four(&rt)?;
+    assert_eq!(rt; asked.games.len(), 4);
+    let mut bytes = headed(&rt, &asked)?;
+    repeat(&mut bytes, &[2, 4], 4)?;
+    grow(&mut bytes, &asked.diagram, &Position::array(), 5)?;
+    assert!(rt; answer(&rt, &asked, &bounds, &bytes, MANY, 0).is_ok());
+    let three = ask(
+        &rt,
+        placement,
+        "2.5",
+        "1. e4 a6 2. e5 d6 3. exd6\n1. e4 d5 2. exd5 a6 3. d6\n1. e4 d6 2. e5 a6 3. exd6",
+    );
+    let missing = ask(&rt, placement, "2.5", "1. e4 a6 2. e5 d5 3. exd6");
+    let lacking = answer(&rt, &three, &bounds, &bytes, MANY, 0);
+    assert!(rt; matches!(lacking, Err(Fault::Unlisted(game)) if missing.games.contains(&game)));
+    Ok(())
+}
+
+#[test]
+fn the_queen_recaptures(rt: HostRuntime) -> Result<(), std::test::Fail> {
+    let asked = ask(&rt, RECAPTURED, "2.0", "1. e4 d5 2. exd5 Qxd5");
+    let bounds = four(&rt)?;
+    let mut bytes = headed(&rt, &asked)?;
+    repeat(&mut bytes, &[1], 9_766)?;
+    assert!(rt; answer(&rt, &asked, &bounds, &bytes, MANY, 0) == yes(9_766, 0));
+    let mut cut = headed(&rt, &asked)?;
+    cut.extend_from_slice(&[2, 1])?;
+    repeat(&mut cut, &[1], 9_765)?;
+    assert_eq!(rt; cut.len(), 9_804);
+    assert!(rt; answer(&rt, &asked, &bounds, &cut, MANY, 0) == yes(9_766, 0));
+    Ok(())
+}
+
+#[test]
+fn fools_mate(rt: HostRuntime) -> Result<(), std::test::Fail> {
+    let asked = ask(
+        &rt,
+        "rnb1kbnr/pppp1ppp/8/4p3/6Pq/5P2/PPPPP2P/RNBQKBNR",
+        "2.0",
+        "1. f3 e5 2. g4 Qh4#\n1. g4 e5 2. f3 Qh4#",
+    );
+    let mut bytes = headed(&rt, &asked)?;
+    repeat(&mut bytes, &[1], 9_766)?;
+    assert!(rt; answer(&rt, &asked, &four(&rt)?, &bytes, MANY, 0) == yes(9_766, 0));
+    Ok(())
+}

@@ -1,0 +1,197 @@
+use super::examples::open_game;
+use super::*;
+use pg_trial::{Endless, FailsAt};
+use std::io::{ErrorKind, Read};
+
+#[test]
+fn listed_games(rt: HostRuntime) -> Result<(), std::test::Fail> {
+    let long = ask(&rt, AFTER_E4_E5, "0.5", "1. e4 e5");
+    assert_eq!(rt;
+        check_listed(&long.diagram, long.length, &long.games),
+        Err(ListFault::WrongLength(0))
+    );
+    let other = ask(&rt, AFTER_E4, "0.5", "d4\ne4");
+    assert_eq!(rt;
+        check_listed(&other.diagram, other.length, &other.games),
+        Err(ListFault::NotReaching(0))
+    );
+    let second = ask(&rt, AFTER_E4, "0.5", "e4\ng4");
+    assert_eq!(rt;
+        check_listed(&second.diagram, second.length, &second.games),
+        Err(ListFault::NotReaching(1))
+    );
+    let good = ask(&rt, AFTER_E4, "0.5", "e4");
+    assert_eq!(rt;
+        check_listed(&good.diagram, good.length, &good.games),
+        Ok(())
+    );
+    let bytes = headed(&rt, &other)?;
+    let said = answer(&rt, &other, &four(&rt)?, &bytes, MANY, 0);
+    assert!(rt; said == Err(Fault::Listed(ListFault::NotReaching(0))));
+    Ok(())
+}
+
+#[test]
+fn each_fault_of_the_header(rt: HostRuntime) -> Result<(), std::test::Fail> {
+    let asked = ask(&rt, AFTER_E4, "0.5", "e4");
+    let bounds = four(&rt)?;
+    let mut bytes = headed(&rt, &asked)?;
+    bytes.push(1)?;
+    let short = answer(&rt, &asked, &bounds, &bytes[..36], MANY, 0);
+    assert!(rt; short == Err(Fault::Truncated));
+    let mut other = headed(&rt, &asked)?;
+    other[0] = 0x58;
+    assert!(rt; answer(&rt, &asked, &bounds, &other, MANY, 0) == Err(Fault::Magic));
+    assert!(rt; answer(&rt, &asked, &bounds, &other[..36], MANY, 0) == Err(Fault::Truncated));
+    let longer = ask(&rt, AFTER_E4, "1.0", "");
+    assert!(rt; answer(&rt, &longer, &bounds, &bytes, MANY, 0) == Err(Fault::OtherLength));
+    let elsewhere = ask(&rt, AFTER_E4_E5, "0.5", "");
+    assert!(rt; answer(&rt, &elsewhere, &bounds, &bytes, MANY, 0) == Err(Fault::OtherDiagram));
+    Ok(())
+}
+
+#[test]
+fn each_fault_of_a_record(rt: HostRuntime) -> Result<(), std::test::Fail> {
+    let asked = ask(&rt, AFTER_E4, "0.5", "e4");
+    let bounds = four(&rt)?;
+    let mut bytes = headed(&rt, &asked)?;
+    bytes.push(7)?;
+    assert!(rt; answer(&rt, &asked, &bounds, &bytes, MANY, 0) == Err(Fault::UnknownRecord(7)));
+    assert!(rt; answer(&rt, &asked, &bounds, &bytes, 0, 0) == Err(Fault::Budget));
+    bytes[37] = 1;
+    bytes.push(1)?;
+    assert!(rt; answer(&rt, &asked, &bounds, &bytes, MANY, 0) == Err(Fault::Trailing));
+    Ok(())
+}
+
+#[test]
+fn each_proper_prefix(rt: HostRuntime) -> Result<(), std::test::Fail> {
+    let asked = ask(&rt, AFTER_E4_E5, "1.0", "1. e4 e5");
+    let bounds = four(&rt)?;
+    let bytes = open_game(&rt, &asked)?;
+    for n in 0..bytes.len() {
+        let said = answer(&rt, &asked, &bounds, &bytes[..n], MANY, 9);
+        assert!(rt; said == Err(Fault::Truncated));
+    }
+    Ok(())
+}
+
+#[test]
+fn each_change_of_a_byte(rt: HostRuntime) -> Result<(), std::test::Fail> {
+    let asked = ask(&rt, AFTER_E4_E5, "1.0", "1. e4 e5");
+    let bounds = four(&rt)?;
+    let mut bytes = open_game(&rt, &asked)?;
+    let mut accepted = 0u32;
+    for i in 0..bytes.len() {
+        let kept = bytes[i];
+        for change in 1..=255u8 {
+            bytes[i] = kept ^ change;
+            let said = check(
+                rt.alloc(),
+                &asked.diagram,
+                asked.length,
+                &asked.games,
+                &bounds,
+                &mut FromRead::new(bytes.as_slice()),
+                MANY,
+                9,
+            );
+            if said.is_ok() {
+                assert!(rt; said == yes(22, 1));
+                assert!(rt; (i == 39 || i == 66) && bytes[i] == 5);
+                accepted = accepted.saturating_add(1);
+            }
+        }
+        bytes[i] = kept;
+    }
+    assert_eq!(rt; accepted, 2);
+    Ok(())
+}
+
+#[test]
+fn endless_certificates(rt: HostRuntime) -> Result<(), std::test::Fail> {
+    let pawn = ask(&rt, PAWN_ON_D3, "64.0", "");
+    let bounds = four(&rt)?;
+    let header = headed(&rt, &pawn)?;
+    let expansions = header.as_slice().chain(Endless::new(1));
+    let budget = check(
+        rt.alloc(),
+        &pawn.diagram,
+        pawn.length,
+        &pawn.games,
+        &bounds,
+        &mut FromRead::new(expansions),
+        1_000,
+        0,
+    );
+    assert!(rt; budget == Err(Fault::Budget));
+    let named = header.as_slice().chain(Endless::new(5));
+    let too_many = check(
+        rt.alloc(),
+        &pawn.diagram,
+        pawn.length,
+        &pawn.games,
+        &bounds,
+        &mut FromRead::new(named),
+        MANY,
+        10,
+    );
+    assert!(rt; too_many == Err(Fault::TooManyNamed));
+    Ok(())
+}
+
+#[test]
+fn each_read_failing_in_turn(rt: HostRuntime) -> Result<(), std::test::Fail> {
+    let asked = ask(&rt, AFTER_E4_E5, "1.0", "1. e4 e5");
+    let bounds = four(&rt)?;
+    let bytes = open_game(&rt, &asked)?;
+    for call in 0..80u64 {
+        let reader = FailsAt::new(OneByte::new(bytes.as_slice()), call, ErrorKind::Interrupted);
+        let said = check(
+            rt.alloc(),
+            &asked.diagram,
+            asked.length,
+            &asked.games,
+            &bounds,
+            &mut FromRead::new(reader),
+            MANY,
+            9,
+        );
+        assert!(rt; said == Err(Fault::Read));
+    }
+    Ok(())
+}
+
+#[test]
+fn faults_have_their_texts(rt: HostRuntime) -> Result<(), std::test::Fail> {
+    let faults = [
+        (
+            Fault::Listed(ListFault::WrongLength(0)),
+            "game 1 does not have the stated length",
+        ),
+        (
+            Fault::Listed(ListFault::NotReaching(11)),
+            "game 12 does not end on the diagram",
+        ),
+        (Fault::Magic, "not a certificate"),
+        (Fault::OtherLength, "certificate for another length"),
+        (Fault::OtherDiagram, "certificate for another diagram"),
+        (Fault::Budget, "record limit reached"),
+        (Fault::Truncated, "truncated certificate"),
+        (Fault::Read, "read fault"),
+        (Fault::UnknownRecord(7), "unknown record byte 7"),
+        (Fault::UnknownBound(9), "unknown bound 9"),
+        (Fault::CutFails(3), "cut 3 does not exclude"),
+        (Fault::RefUnknown, "reference to no closed node"),
+        (Fault::RefDiffers, "reference to another position"),
+        (Fault::RefFertile, "reference to a node with a game"),
+        (Fault::TooManyNamed, "too many named nodes"),
+        (Fault::Memory, "out of memory"),
+        (Fault::Shorter(3), "a game of 3 plies reaches the diagram"),
+        (Fault::Trailing, "bytes after the certificate"),
+    ];
+    for (fault, text) in faults {
+        assert_eq!(rt; format!(in rt.alloc(); "{fault}")?.as_str(), text);
+    }
+    Ok(())
+}
