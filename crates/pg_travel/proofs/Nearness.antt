@@ -70,7 +70,7 @@ either_way n true = refl
 either_way n false = refl
 
 -- a king comes from no pawn
-no_king : (b : Placement) (c : Color) (way : Option Wing) (t n : ℕ) → least_of (λ o. reach_from (man c Pawn) way King t o (get b o)) n ≡ suc 63
+no_king : (b : Placement) (c : Color) (way : Option Wing) (t n : ℕ) → least_of (λ o. reach_from (man c Pawn) way King t o (get b o)) n ≡ 64
 unfolding least_of
 no_king b c way t zero = refl
 no_king b c way t (suc n) = omega (arith, no_king b c way t n, either_way 64 (is_man (man c Pawn) (get b n)))

@@ -8,8 +8,8 @@ use std::io::{ErrorKind, Read, Write};
 
 /// Passes each read, write and flush on to a reader or a writer, and answers one of them, by its
 /// number from 0, with an error in its place. The calls after it are passed on again, so that one
-/// who tries again is found out. What std says of readers and writers cannot tell that a call which
-/// is passed on succeeds, nor that a flush is passed on at all: tests alone show that.
+/// who tries again is found out. The contracts, in std's words, do not tell that a call which is
+/// passed on succeeds, nor that a flush is passed on at all.
 #[derive(Drop)]
 pub struct FailsAt<T> {
     inner: T,
