@@ -1,5 +1,5 @@
 use super::*;
-use pg_moves::next_legal;
+use pg_moves::legal_moves;
 use pg_position::Position;
 
 #[test]
@@ -126,8 +126,9 @@ fn a_shorter_game(rt: HostRuntime) -> Result<(), std::test::Fail> {
 }
 
 /// Writes the tree below a position: cut by travel where it excludes, else expanded.
-fn grow<A: Allocator>(
-    bytes: &mut Vec<u8, A>,
+fn grow<R: AllocGlobal>(
+    rt: &R,
+    bytes: &mut Vec<u8>,
     diagram: &Diagram,
     position: &Position,
     left: u8,
@@ -139,12 +140,10 @@ fn grow<A: Allocator>(
         return bytes.extend_from_slice(&[2, 4]);
     }
     bytes.push(1)?;
-    let mut last = None;
-    while let Some(m) = next_legal(position, last) {
-        if let Ok(next) = position.play(m) {
-            grow(bytes, diagram, &next, left - 1)?;
+    for m in legal_moves(rt.alloc(), position)?.as_slice() {
+        if let Ok(next) = position.play(*m) {
+            grow(rt, bytes, diagram, &next, left - 1)?;
         }
-        last = Some(m);
     }
     Ok(())
 }
@@ -159,7 +158,7 @@ fn four_games(rt: HostRuntime) -> Result<(), std::test::Fail> {
     assert_eq!(rt; asked.games.len(), 4);
     let mut bytes = headed(&rt, &asked)?;
     repeat(&mut bytes, &[2, 4], 4)?;
-    grow(&mut bytes, &asked.diagram, &Position::array(), 5)?;
+    grow(&rt, &mut bytes, &asked.diagram, &Position::array(), 5)?;
     assert!(rt; answer(&rt, &asked, &bounds, &bytes, MANY, 0).is_ok());
     let three = ask(
         &rt,

@@ -1,5 +1,5 @@
 use super::*;
-use pg_moves::next_legal;
+use pg_moves::legal_moves;
 use pg_position::{Move, Position};
 
 /// The pawn on d3 in five plies: a named node in the tree of length 1, three cuts, and the knight
@@ -67,19 +67,14 @@ fn an_open_node_has_no_number(rt: HostRuntime) -> Result<(), std::test::Fail> {
     Ok(())
 }
 
-/// The marks of two nodes: the game to one that is named, and to one that refers to number 0.
-#[derive(Drop)]
-struct Marks<'a> {
-    named: &'a [Move],
-    refers: &'a [Move],
-}
-
-/// Writes the tree below a position that a game leads to: cut by travel where it excludes, else
-/// expanded, apart from the two nodes.
-fn mark<A: Allocator>(
-    bytes: &mut Vec<u8, A>,
-    diagram: &Diagram,
-    marks: &Marks,
+/// Writes the tree below a position that a game leads to: named at one game, a reference to number 0
+/// at another, else cut by travel where it excludes, else expanded.
+fn mark<R: AllocGlobal>(
+    rt: &R,
+    bytes: &mut Vec<u8>,
+    asked: &Problem,
+    named: &[Move],
+    refers: &[Move],
     game: &mut Vec<Move>,
     position: &Position,
     left: u8,
@@ -87,24 +82,22 @@ fn mark<A: Allocator>(
     if left == 0 {
         return Ok(());
     }
-    if game.as_slice() == marks.refers {
+    if game.as_slice() == refers {
         return bytes.extend_from_slice(&[3, 0, 0, 0, 0]);
     }
-    if game.as_slice() == marks.named {
+    if game.as_slice() == named {
         bytes.push(5)?;
-    } else if Travel.excludes(diagram, position, left) {
+    } else if Travel.excludes(&asked.diagram, position, left) {
         return bytes.extend_from_slice(&[2, 4]);
     } else {
         bytes.push(1)?;
     }
-    let mut last = None;
-    while let Some(m) = next_legal(position, last) {
-        if let Ok(next) = position.play(m) {
-            game.push(m)?;
-            mark(bytes, diagram, marks, game, &next, left - 1)?;
+    for m in legal_moves(rt.alloc(), position)?.as_slice() {
+        if let Ok(next) = position.play(*m) {
+            game.push(*m)?;
+            mark(rt, bytes, asked, named, refers, game, &next, left - 1)?;
             game.pop();
         }
-        last = Some(m);
     }
     Ok(())
 }
@@ -117,35 +110,24 @@ fn marked<R: Abort + AllocGlobal>(
     named: &str,
     refers: &str,
 ) -> Result<Result<Proved, Fault>, AllocError> {
-    let (Ok(named), Ok(refers)) = (
-        read_games(rt.alloc(), named),
-        read_games(rt.alloc(), refers),
-    ) else {
+    let named = ask(rt, PAWN_ON_D3, "0", named);
+    let refers = ask(rt, PAWN_ON_D3, "0", refers);
+    let (Some(named), Some(refers)) = (named.games.game(0), refers.games.game(0)) else {
         panic!(rt; "two games");
     };
-    let (Some(named), Some(refers)) = (named.game(0), refers.game(0)) else {
-        panic!(rt; "two games");
-    };
-    let nowhere = Marks {
-        named: &[Move::default()],
-        refers: &[Move::default()],
-    };
-    let marks = Marks { named, refers };
+    let nowhere = [Move::default()];
     let mut bytes = headed(rt, asked)?;
     let mut game = Vec::new(rt.alloc());
     let array = Position::array();
-    for left in 1..asked.length.plies() {
+    let plies = asked.length.plies();
+    for left in 1..plies {
         mark(
-            &mut bytes,
-            &asked.diagram,
-            &nowhere,
-            &mut game,
-            &array,
-            left,
+            rt, &mut bytes, asked, &nowhere, &nowhere, &mut game, &array, left,
         )?;
     }
-    let plies = asked.length.plies();
-    mark(&mut bytes, &asked.diagram, &marks, &mut game, &array, plies)?;
+    mark(
+        rt, &mut bytes, asked, named, refers, &mut game, &array, plies,
+    )?;
     Ok(answer(rt, asked, &four(rt)?, &bytes, MANY, 9))
 }
 
