@@ -49,7 +49,7 @@ module _ {X : Type 0} (test : X → Bool) where
   keeps [] x e h = absurd (Contains-none x h)
   keeps (y ∷ xs) x e h = keeps_at (test y) y x xs refl e (elim (Contains-cons y x xs h) [ inl f ↦ inl f | inr g ↦ inr (keeps xs x e g) ])
 
-left_are : (p : State) (last : Option Move) (m : Move) → Contains (left_after p last) m → IsLegal p m × IsPast last m
+pub left_are : (p : State) (last : Option Move) (m : Move) → Contains (left_after p last) m → IsLegal p m × IsPast last m
 unfolding left_after
 left_are p last m h = let k = kept (comes_after last) (moves_of p) m h in (((moves_of_is p).has m).0 k.1, (after_decides last m).0 k.0)
 

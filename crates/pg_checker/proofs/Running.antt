@@ -1,22 +1,30 @@
 -- The loop over the open nodes. Leads to the contract of `run`.
-use Rattle.std.proofs.Common.{◌≡◌, ℕ, suc, ◌+◌, ◌*◌, ◌<◌, ◌≤◌, Bool, true, false, List, [], ◌∷◌, ◌++◌, length, reverse, map, Option, Some, None, IfSome, Result, Ok, Err, refl, sym, ◌∙◌, ap, subst, arith}
+use Rattle.std.proofs.Common.{◌≡◌, ℕ, suc, ◌+◌, ◌*◌, ◌<◌, ◌≤◌, Bool, true, false, List, [], ◌∷◌, ◌++◌, length, reverse, map, ◌||◌, ◌≢◌, nat_eq, Option, Some, None, IfSome, Result, Ok, Err, refl, sym, ◌∙◌, ap, subst, arith}
 use Rattle.std.proofs.lemmas.List.{reverse-append, length-reverse}
 use Rattle.std.specs.Io.KnownBytes.{Consumes}
 use Rattle.pg_board.specs.Placement.{Placement}
 use Rattle.pg_position.specs.declared.state.State.{State}
 use Rattle.pg_position.specs.declared.moves.Move.{Move}
-use Rattle.pg_checker.specs.Tree.{one_if}
+use Rattle.pg_checker.specs.Tree as tree
+use Rattle.pg_checker.specs.Tree.{one_if, entry}
 use Rattle.pg_checker.specs.Walk as walk
-use Rattle.pg_checker.specs.Walk.{◌>>=◌}
+use Rattle.pg_checker.specs.Walk.{visit, each, leaf_answer, ◌>>=◌}
 use Rattle.pg_checker.specs.Frames.{resume, turn, finish, effort, Stacked}
 use Rattle.pg_checker.specs.Chess.{Cuts, chess}
-use Rattle.pg_checker.specs.Machine.{entry_of, frame_of, frames_of, count_named, state_at, work_at}
+use Rattle.pg_checker.specs.Machine.{entered, entry_of, entries_of, path, frame_of, frames_of, count_named, state_at, work_at}
 use Rattle.pg_checker.specs.Steps.{Answer, Goes, Stops, TakesFew}
 use Rattle.pg_checker.specs.declared.machine.Frame.{Frame}
 use Rattle.pg_checker.specs.declared.machine.Machine.{Machine}
 use Rattle.pg_checker.specs.declared.stop.Stop.{Stop}
 use Rattle.pg_checker.specs.declared.stop.Stop.TheVariants as stop
-use Rattle.pg_checker.proofs.Chess.{chess_exact, chess_few}
+use Rattle.pg_checker.proofs.Chess.{chess_exact, chess_few, chess_is}
+use Rattle.pg_checker.proofs.Left.{left_are}
+use Rattle.pg_moves.proofs.SortLemmas.{Contains-head, Contains-later, Contains-cons, Contains-none, sorted_same}
+use Rattle.std.specs.List.{Contains}
+use Rattle.pg_position.specs.Position.{IsPosition}
+use Rattle.pg_position.specs.Step.{Legal}
+use Rattle.pg_checker.specs.Left.{left_after}
+use Rattle.pg_checker.proofs.Turning.{entry_is}
 use Rattle.pg_checker.proofs.Frames.{turn_is, turn_less, turn_stacked}
 use Rattle.pg_checker.proofs.FrameViews.{frames_more, count_more}
 use Rattle.pg_checker.proofs.Goings.{stays, goes_on, goes_as, goes_then, stops_on, stops_then, stops_as}
@@ -80,6 +88,9 @@ depth n items rest top e h =
 pub kept_popped : (kept : ℕ) (items rest : List Frame) (top : Frame) → items ≡ rest ++ (top ∷ []) → kept ≡ count_named (reverse items) → kept ≡ one_if top.named + count_named (reverse rest)
 kept_popped kept items rest top e h = h ∙ ap (λ (v : List Frame). count_named (reverse v)) e ∙ count_more rest top
 
+pub kept_at_least : (kept : ℕ) (items rest : List Frame) (top : Frame) → items ≡ rest ++ (top ∷ []) → kept ≡ count_named (reverse items) → one_if top.named ≤ kept
+kept_at_least kept items rest top e h = let k : kept ≡ one_if top.named + count_named (reverse rest) = kept_popped kept items rest top e h in omega arith
+
 pub frames_none : frames_of (reverse {A = Frame} []) ≡ []
 unfolding frames_of
 frames_none = refl
@@ -87,6 +98,20 @@ frames_none = refl
 pub count_none : count_named (reverse {A = Frame} []) ≡ 0
 unfolding count_named
 count_none = refl
+
+or_false : (b : Bool) → (b || false) ≡ b
+or_false true = refl
+or_false false = refl
+
+not_goal : (d : Placement) (l : ℕ) (games : List (List Move)) (cut : Cuts) (p : State) → p.board ≢ d → (chess d l games cut).is_goal p ≡ false
+not_goal d l games cut p ne = off ((chess d l games cut).is_goal p) refl
+  where
+    off : (b : Bool) → (chess d l games cut).is_goal p ≡ b → (chess d l games cut).is_goal p ≡ false
+    off false e = e
+    off true e = absurd (ne (((chess_is d l games cut).goal p).0 e))
+
+left_legal : (p : State) (last : Option Move) (m : Move) → Contains (left_after p last) m → (q : State) × Legal p m q
+left_legal p last m c = (left_are p last m c).0
 
 module _ (d : Placement) (l : ℕ) (games : List (List Move)) (cut : Cuts) (n : ℕ) where
   abbrev pub finishes : Machine → Answer (Bool × walk.State State)
@@ -134,6 +159,60 @@ module _ (d : Placement) (l : ℕ) (games : List (List Move)) (cut : Cuts) (n : 
       let less = turn_less (chess d l games cut) (chess_exact d l games cut) 28672 (chess_few d l games cut) n (frame_of top (reverse mid.frames.items)) (frames_of (reverse mid.frames.items)) mid.found (state_at mid (turning.taken ++ []) (turning.used + 0)) (work_at (chess d l games cut) new [] 0) (turning.same [] 0) in
       subst (λ (m : ℕ). effort (chess d l games cut) 28672 (work_at (chess d l games cut) new [] 0) < effort (chess d l games cut) 28672 (record { frames = frames_of (reverse now.frames.items); found = now.found; state = record (state_at now [] 0) { records = m } })) records
       (subst (λ v. effort (chess d l games cut) 28672 (work_at (chess d l games cut) new [] 0) < effort (chess d l games cut) 28672 (record { frames = v; found = now.found; state = record (state_at now [] 0) { records = mid.records } })) (sym (frames_popped now.frames.items mid.frames.items top items)) less)
+
+  -- ---- leaves of which none is on the diagram
+  dry : (p : State) (g : List Move) (ms : List Move) (found : Bool) (s : walk.State State) → ((m : Move) → Contains ms m → (chess d l games cut).is_goal ((chess d l games cut).play p m) ≡ false) → each (chess d l games cut) (visit (chess d l games cut) n 0) g p ms found s ≡ Ok (found, s)
+  dry p g [] found s off = refl
+  dry p g (m ∷ ms) found s off =
+      ap (λ (x : Bool). leaf_answer (chess d l games cut) n (g ++ (m ∷ [])) ((chess d l games cut).play p m) s x (nat_eq n (chess d l games cut).plies) ((chess d l games cut).is_listed (g ++ (m ∷ []))) >>= (λ child. each (chess d l games cut) (visit (chess d l games cut) n 0) g p ms (found || child.0) child.1)) (off m (Contains-head m ms))
+      ∙ (ap (λ (f : Bool). each (chess d l games cut) (visit (chess d l games cut) n 0) g p ms f s) (or_false found) ∙ dry p g ms found s (λ x c. off x (Contains-later m x ms c)))
+
+  -- the node closes at once
+  skipped : (now mid new : Machine) (top : Frame) (found : Bool) → now.frames.items ≡ mid.frames.items ++ (top ∷ []) → top.plies ≡ 0 → ((m : Move) → Contains (left_after top.position top.last) m → (chess d l games cut).is_goal ((chess d l games cut).play top.position m) ≡ false)
+      → found ≡ (top.found || now.found) → new.frames ≡ mid.frames → new.records ≡ now.records → new.found ≡ found → map entry_of new.table.entries ≡ map entry_of now.table.entries ++ entered top.named (record { position = top.position; plies = suc top.plies; fertile = found })
+      → (rest : List ℕ) (room : ℕ) → finishes now rest room ≡ finishes new rest room
+  skipped now mid new top found items last off is same records found_is entries rest room =
+      ap (λ v. resume (chess d l games cut) n v (now.found, state_at now rest room)) (frames_popped now.frames.items mid.frames.items top items)
+      ∙ (ap (λ (k : ℕ). each (chess d l games cut) (visit (chess d l games cut) n k) (path (reverse mid.frames.items)) top.position (left_after top.position top.last) (top.found || now.found) (state_at now rest room) >>= (λ all. walk.close (chess d l games cut) top.named (suc top.plies) top.position all >>= resume (chess d l games cut) n (frames_of (reverse mid.frames.items)))) last
+      ∙ (ap (λ (x : Result (Bool × walk.State State) (tree.Fault Move)). x >>= (λ all. walk.close (chess d l games cut) top.named (suc top.plies) top.position all >>= resume (chess d l games cut) n (frames_of (reverse mid.frames.items)))) (dry top.position (path (reverse mid.frames.items)) (left_after top.position top.last) (top.found || now.found) (state_at now rest room) off)
+      ∙ (λ i. resume (chess d l games cut) n (stack i) (fertile i, record { rest = rest; entries = all i; records = sym records i; room = room }))))
+    where
+      stack : frames_of (reverse mid.frames.items) ≡ frames_of (reverse new.frames.items)
+      stack = rw same refl
+
+      fertile : (top.found || now.found) ≡ new.found
+      fertile = sym (found_is ∙ is)
+
+      all : entries_of now ++ entry (chess d l games cut) top.named (suc top.plies) top.position (top.found || now.found) ≡ entries_of new
+      all = ap (λ (f : Bool). entries_of now ++ entry (chess d l games cut) top.named (suc top.plies) top.position f) (sym is) ∙ ap (λ (v : List (tree.Entry State)). entries_of now ++ v) (entry_is d l games cut n top.named (suc top.plies) top.position found) ∙ sym entries
+
+  -- where no legal move leads to the diagram, no move that is left does
+  none_left : (top : Frame) → IsPosition top.position → ((m : Move) (q : State) → Legal top.position m q → q.board ≢ d) → (m : Move) → Contains (left_after top.position top.last) m → (chess d l games cut).is_goal ((chess d l games cut).play top.position m) ≡ false
+  none_left top valid far m c = goal_off (left_legal top.position top.last m c)
+    where
+      goal_off : (s : (q : State) × Legal top.position m q) → (chess d l games cut).is_goal ((chess d l games cut).play top.position m) ≡ false
+      goal_off (q, legal) =
+          not_goal d l games cut ((chess d l games cut).play top.position m) (λ e. far m q legal (ap (λ (v : State). v.board) (sym ((chess_is d l games cut).play top.position m q valid legal)) ∙ e))
+
+  pub runs_skip : (before here : Option (List ℕ)) (old now mid new : Machine) (top : Frame) (found : Bool) → Runs before here old now → now.frames.items ≡ mid.frames.items ++ (top ∷ []) → top.plies ≡ 0 → IsPosition top.position → ((m : Move) (q : State) → Legal top.position m q → q.board ≢ d)
+      → found ≡ (top.found || now.found) → new.frames ≡ mid.frames → new.room ≡ now.room → new.records ≡ now.records → new.reader ≡ now.reader → new.found ≡ found → new.table.kept + one_if top.named ≡ now.table.kept → map entry_of new.table.entries ≡ map entry_of now.table.entries ++ entered top.named (record { position = top.position; plies = suc top.plies; fertile = found })
+      → Runs before here old new
+  runs_skip before here old now mid new top found run items last valid far is same room records reader found_is kept entries = record {
+    stacked = subst (λ v. Stacked n v) (rw same refl) (subst (λ v. Stacked n v) (frames_popped now.frames.items mid.frames.items top items) run.stacked).1;
+    kept = (let one : now.table.kept ≡ one_if top.named + count_named (reverse mid.frames.items) = kept_popped now.table.kept now.frames.items mid.frames.items top items run.kept in let two : new.table.kept ≡ count_named (reverse mid.frames.items) = omega arith in two ∙ rw same refl);
+    runs = rw reader run.runs;
+    held = rw reader run.held;
+    few = subst (λ (m : ℕ). Few before here old.records m) (sym records) run.few;
+    goes = subst (λ (m : ℕ). Goes before here old.room m (finishes old) (finishes new)) (sym room)
+        (goes_as before here old.room now.room (finishes old) (finishes now) (finishes old) (finishes new) (λ rest x. refl) (skipped now mid new top found items last (none_left top valid far) is same records found_is entries) run.goes);
+  }
+
+  -- there is less to do
+  pub skip_less : (now mid new : Machine) (top : Frame) → now.frames.items ≡ mid.frames.items ++ (top ∷ []) → new.frames ≡ mid.frames → new.records ≡ now.records
+      → effort (chess d l games cut) 28672 (work_at (chess d l games cut) new [] 0) < effort (chess d l games cut) 28672 (work_at (chess d l games cut) now [] 0)
+  skip_less now mid new top items same records =
+      subst (λ v. effort (chess d l games cut) 28672 (work_at (chess d l games cut) new [] 0) < effort (chess d l games cut) 28672 (record { frames = v; found = now.found; state = state_at now [] 0 })) (sym (frames_popped now.frames.items mid.frames.items top items))
+      (rw (same, records) (omega arith))
 
   -- a turn stops
   pub runs_stop : (before here : Option (List ℕ)) (old now mid : Machine) (top : Frame) (s : Stop) → Runs before here old now → now.frames.items ≡ mid.frames.items ++ (top ∷ []) → mid.found ≡ now.found → mid.table ≡ now.table → mid.records ≡ now.records → mid.room ≡ now.room

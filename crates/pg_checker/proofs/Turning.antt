@@ -43,7 +43,7 @@ module _ (d : Placement) (l : ℕ) (games : List (List Move)) (cut : Cuts) (n : 
       → turns top m rest room ≡ turn_at (chess d l games cut) n (frame_of top (reverse m.frames.items)) (frames_of (reverse m.frames.items)) m.found (state_at m rest room) left
   turns_at top m rest room left e = ap (turn_at (chess d l games cut) n (frame_of top (reverse m.frames.items)) (frames_of (reverse m.frames.items)) m.found (state_at m rest room)) e
 
-  entry_is : (named : Bool) (k : ℕ) (p : State) (f : Bool) → entry (chess d l games cut) named k p f ≡ entered named (record { position = p; plies = k; fertile = f })
+  pub entry_is : (named : Bool) (k : ℕ) (p : State) (f : Bool) → entry (chess d l games cut) named k p f ≡ entered named (record { position = p; plies = k; fertile = f })
   entry_is true k p f = refl
   entry_is false k p f = refl
 

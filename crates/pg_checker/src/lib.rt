@@ -7,6 +7,7 @@ mod fault;
 mod laws;
 mod listed;
 mod machine;
+mod nearness;
 mod node;
 mod play;
 mod stop;

@@ -1,5 +1,5 @@
 //! The walk over the trees of a certificate, with a stack of open nodes.
-ghost use Rattle.std.specs.Prelude.{◌≡◌, ◌+◌, ◌<◌, ◌≤◌, ◌++◌, Some, suc, false, [], length, map, reverse, OnOk};
+ghost use Rattle.std.specs.Prelude.{◌≡◌, ◌||◌, ◌+◌, ◌<◌, ◌≤◌, ◌++◌, Some, suc, false, [], length, map, reverse, OnOk};
 ghost use Rattle.pg_certificate.specs.Reader.{to_come};
 ghost use Rattle.pg_checker.specs.Cuts.{rules_by};
 ghost use Rattle.pg_checker.specs.Frames.{enter as enter_of, finish, turn as turn_of, Stacked};
@@ -12,6 +12,7 @@ ghost use Rattle.pg_checker.specs.Tree.{one_if};
 ghost use Rattle.pg_checker.specs.Walk.{leaf as leaf_of, visit};
 
 use crate::machine::{Frame, Machine, Node, Question};
+use crate::nearness::may_reach;
 use crate::node::head;
 use crate::play::after;
 use crate::stop::{Cause, Stop};
@@ -185,7 +186,14 @@ fn turn<S: Source>(
     }
 }
 
-// Turns until no node is open.
+fn either(a: bool, b: bool) -> bool
+    ensures { result ≡ (a || b) }
+{
+    a || b
+}
+
+// Turns until no node is open. A node whose children are leaves, none of them on the diagram, closes
+// at once.
 fn run<S: Source>(
     question: &Question,
     tree: u8,
@@ -212,6 +220,10 @@ fn run<S: Source>(
         (S.left source.new) machine.old.records machine.new.records result }
 {
     while let Some(top) = machine.frames.pop() {
+        if top.plies == 0 && !may_reach(question.diagram, &top.position) {
+            close(&top, either(top.found, machine.found), machine);
+            continue;
+        }
         match turn(question, tree, &top, machine, source) {
             Ok(()) => {}
             Err(stop) => return Err(stop),
