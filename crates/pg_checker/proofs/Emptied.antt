@@ -12,7 +12,6 @@ use Rattle.pg_position.specs.declared.moves.Way.TheVariants.{Plain, Capture, Dou
 use Rattle.pg_position.specs.Position.{Stands, rook_home, ahead}
 use Rattle.pg_position.specs.Step.{Step, Legal, relocated, board_after, king_crossed}
 use Rattle.std.specs.Int.{bit_not}
-
 use Rattle.pg_board.specs.Bits.{has}
 use Rattle.pg_position.specs.SquareSets.{IsSetOf, IsFirstFrom}
 use Rattle.pg_position.proofs.ReachLemmas.{set_without}
