@@ -1,21 +1,16 @@
 -- What is read is spelled: each part that comes off a reversed text stood there, and nothing else did.
-use Rattle.std.proofs.Common.{◌≡◌, ◌≢◌, ℕ, ◌+◌, ◌-◌, ◌*◌, ◌<◌, ◌≤◌, ◌⊎◌, Bool, true, false, cond, List, [], ◌∷◌, ◌++◌, length, Option, Some, None, refl, sym, ap, subst, arith, ◌∙◌, inl, inr}
-use Rattle.std.specs.Prelude.{reverse, nat_eq, codes, ◌||◌, ◌&&◌, ◌==◌}
+use Rattle.std.proofs.Common.{◌≡◌, ℕ, ◌+◌, ◌-◌, ◌*◌, ◌<◌, ◌≤◌, ◌⊎◌, Bool, true, false, cond, List, [], ◌∷◌, ◌++◌, length, Option, Some, None, refl, sym, ap, subst, arith, ◌∙◌, inl, inr}
+use Rattle.std.specs.Prelude.{reverse, nat_eq, ◌&&◌}
 use Rattle.std.specs.Option.{option_map, option_and_then}
 use Rattle.std.proofs.lemmas.Bool.Decides.{nat_tests}
-use Rattle.std.proofs.lemmas.List.{reverse-reverse, reverse-append, append_assoc, nil_from_length}
+use Rattle.std.proofs.lemmas.List.{reverse-reverse, reverse-append, nil_from_length}
 use Rattle.pg_board.specs.declared.man.Kind.{Kind}
 use Rattle.pg_board.specs.Squares.{file, rank}
-use Rattle.pg_san.specs.declared.castling.Castling.{Castling}
-use Rattle.pg_san.specs.declared.castling.Castling.TheVariants.{Short, Long}
 use Rattle.pg_san.specs.declared.cores.Core.{Core}
 use Rattle.pg_san.specs.declared.cores.Parts.{Parts}
 use Rattle.pg_san.specs.declared.cores.Sep.{Sep}
 use Rattle.pg_san.specs.declared.cores.Sep.TheVariants.{Nothing, Cross, Hyphen}
-use Rattle.pg_san.specs.declared.said.Form.{Form}
-use Rattle.pg_san.specs.declared.said.Form.TheVariants.{Castles, Moves}
-use Rattle.pg_san.specs.declared.said.Said.{Said}
-use Rattle.pg_san.specs.CoreText.{piece_of, promoted_of, is_file, is_rank, file_in, rank_in, square_named, square_in, sep_in, without_equals, promotion_by, promotion_in, source_in, parts_by, parts_in, piece_core, plain_core, core_by, core_of}
+use Rattle.pg_san.specs.CoreText.{piece_of, promoted_of, is_file, is_rank, file_in, rank_in, square_in, sep_in, without_equals, promotion_by, promotion_in, source_in, parts_by, parts_in, piece_core, plain_core, core_by, core_of}
 use Rattle.pg_san.specs.Spelling.{IsOfBoard, file_byte, rank_byte, file_text, rank_text}
 use Rattle.pg_san.specs.Grammar.{sep_text, parts_text, AreOfBoard, IsPieceText, IsPromotionText, IsPlainText}
 use Rattle.pg_san.proofs.CoreLemmas.{reversed_parts}

@@ -1,6 +1,6 @@
 -- The text of a legal move is matched by that move alone.
-use Rattle.std.proofs.Common.{◌≡◌, ◌≢◌, ℕ, ◌⊎◌, true, false, List, Option, Some, None, refl, sym, subst, arith, ◌∙◌, inl, inr}
-use Rattle.std.specs.Prelude.{IfSome}
+use Rattle.std.proofs.Common.{ap, ◌≡◌, ◌≢◌, ℕ, ◌⊎◌, true, false, List, Option, Some, None, refl, sym, subst, arith, ◌∙◌, inl, inr}
+use Rattle.std.specs.Prelude.{IfSome, Result, Ok, Err}
 use Rattle.std.proofs.lemmas.Bool.Decides.{eqb_tells}
 use Rattle.pg_board.specs.declared.man.Kind.{Kind}
 use Rattle.pg_board.specs.declared.man.Kind.TheVariants.{Pawn, Knight, Bishop, Rook, Queen, King}
@@ -10,10 +10,12 @@ use Rattle.pg_position.specs.declared.moves.Move.{Move}
 use Rattle.pg_position.specs.Position.{Stands}
 use Rattle.pg_moves.specs.Moves.{IsLegal}
 use Rattle.pg_san.specs.declared.cores.Core.{Core}
+use Rattle.pg_san.specs.declared.fault.SanFault.{SanFault}
+use Rattle.pg_san.specs.declared.fault.SanFault.TheVariants.{Shape, NoSuchMove, Ambiguous}
 use Rattle.pg_san.specs.declared.said.Form.{Form}
 use Rattle.pg_san.specs.declared.said.Form.TheVariants.{Castles, Moves}
 use Rattle.pg_san.specs.declared.said.Said.{Said}
-use Rattle.pg_san.specs.Matching.{wing_of, FitsCore, FitsForm, FitsAs, Fits, Matches}
+use Rattle.pg_san.specs.Matching.{wing_of, FitsCore, FitsForm, FitsAs, Fits, Matches, IsReading}
 use Rattle.pg_san.specs.Writing.{HasRival, IsHint, IsPawnHint, IsCore, IsForm, IsSan}
 use Rattle.pg_san.proofs.MoveLemmas.{same_move, one_pawn, pace_of, Goer, goer, same_castling}
 use Rattle.pg_san.proofs.SpellLemmas.{source_of, plainly, written_says}
@@ -96,3 +98,10 @@ no_other p m n text h l (said, e, (j, fits)) =
 -- two legal moves never share a text
 pub differ : (p : State) (m n : Move) (text : List ℕ) → IsSan p m text → IsSan p n text → m ≡ n
 differ p m n text h g = no_other p n m text g (h.after, h.legal) (itself p m text h)
+
+-- its text is read as the move
+pub read_again : (p : State) (m : Move) (text : List ℕ) (r : Result Move SanFault) → IsSan p m text → IsReading p text r → r ≡ Ok m
+read_again p m text (Ok n) h g = ap Ok (no_other p m n text h g.0 g.1)
+read_again p m text (Err Shape) h g = absurd (let z : Some (plainly h.form) ≡ None = sym (written_says p m text h) ∙ g in cc)
+read_again p m text (Err NoSuchMove) h g = absurd (g.1 m (h.after, h.legal) (itself p m text h))
+read_again p m text (Err Ambiguous) h (a, b, apart, one, two) = absurd (apart (no_other p m a text h one.0 one.1 ∙ sym (no_other p m b text h two.0 two.1)))

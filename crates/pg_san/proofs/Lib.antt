@@ -7,6 +7,7 @@ pub mod SpellLemmas
 pub mod LawLemmas
 pub mod FoundLemmas
 pub mod TextFoundLemmas
+pub mod OneTextLemmas
 pub mod GameLemmas
 pub mod OrderLemmas
 pub mod PlaceLemmas

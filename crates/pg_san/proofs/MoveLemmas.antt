@@ -89,7 +89,7 @@ home_two White Long r s a b = omega arith
 home_two Black Short r s a b = omega arith
 home_two Black Long r s a b = omega arith
 
-castling_two : (p : State) (k : Kind) (m : Move) (castling : Castling) → IsCastling p k m (wing_of castling) → GoesTwo castling m.from m.to
+pub castling_two : (p : State) (k : Kind) (m : Move) (castling : Castling) → IsCastling p k m (wing_of castling) → GoesTwo castling m.from m.to
 castling_two p k m castling h = home_two p.side castling m.from m.to h.home h.target
 
 king_near : (castling : Castling) (c : Color) (r s : ℕ) → InPattern c King r s → GoesTwo castling r s → ⊥

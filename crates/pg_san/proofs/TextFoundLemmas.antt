@@ -1,11 +1,11 @@
 -- A whole text that is read is spelled: castling or a core, and the ends that came off it.
-use Rattle.std.proofs.Common.{◌≡◌, ◌≢◌, ℕ, ◌+◌, ◌-◌, ◌<◌, ◌≤◌, ◌⊎◌, Bool, true, false, cond, List, [], ◌∷◌, ◌++◌, Option, Some, None, refl, sym, ap, subst, arith, ◌∙◌, inl, inr}
-use Rattle.std.specs.Prelude.{reverse, nat_eq, codes, ◌||◌, ◌==◌, ◌↔◌}
+use Rattle.std.proofs.Common.{◌≡◌, ℕ, ◌⊎◌, Bool, true, false, cond, List, [], ◌∷◌, ◌++◌, Option, Some, None, refl, sym, ap, subst, arith, ◌∙◌, inl, inr}
+use Rattle.std.specs.Prelude.{reverse, nat_eq, codes, ◌||◌, ◌↔◌}
 use Rattle.std.specs.Option.{option_map, option_and_then}
 use Rattle.std.specs.Str.{bytes_eq}
 use Rattle.std.proofs.lemmas.Bool.Decides.{nat_tests}
 use Rattle.std.proofs.lemmas.Slice.Eq.{bytes_eq-Decides}
-use Rattle.std.proofs.lemmas.List.{reverse-reverse, reverse-append, append_assoc}
+use Rattle.std.proofs.lemmas.List.{reverse-reverse}
 use Rattle.pg_san.specs.declared.castling.Castling.{Castling}
 use Rattle.pg_san.specs.declared.castling.Castling.TheVariants.{Short, Long}
 use Rattle.pg_san.specs.declared.cores.Core.{Core}
@@ -13,7 +13,7 @@ use Rattle.pg_san.specs.declared.said.Form.{Form}
 use Rattle.pg_san.specs.declared.said.Form.TheVariants.{Castles, Moves}
 use Rattle.pg_san.specs.declared.said.Said.{Said}
 use Rattle.pg_san.specs.CoreText.{core_of}
-use Rattle.pg_san.specs.Said.{castling_of, form_by, form_of, is_mark, without_mark, without_marks, without_plus, without_check, byte_in, ep_in, dots_in, passing_by, passing_in, said_by, said_of}
+use Rattle.pg_san.specs.Said.{castling_of, form_by, form_of, without_mark, without_marks, without_plus, without_check, byte_in, ep_in, dots_in, passing_by, passing_in, said_of}
 use Rattle.pg_san.specs.Grammar.{IsFormText, IsPassingText, IsCheckText, IsMark, IsMarksText, IsSaidText}
 use Rattle.pg_san.proofs.EndLemmas.{reversed_whole, said_again}
 use Rattle.pg_san.proofs.FoundLemmas.{core_found}
@@ -163,3 +163,13 @@ said_found text said h =
 
 pub said_grammar : (text : List ℕ) (said : Said) → (said_of text ≡ Some said) ↔ IsSaidText text said
 said_grammar text said = (said_found text said, said_again text said)
+
+nothing_found : (o : Option Said) (text : List ℕ) → said_of text ≡ o → ((said : Said) → IsSaidText text said → ⊥) → o ≡ None
+nothing_found None text e h = refl
+nothing_found (Some said) text e h = absurd (h said (said_found text said e))
+
+pub nothing_said : (text : List ℕ) → (said_of text ≡ None) ↔ ((said : Said) → IsSaidText text said → ⊥)
+nothing_said text = (
+  λ e said h. (let z : Some said ≡ None = sym (said_again text said h) ∙ e in cc),
+  λ h. nothing_found (said_of text) text refl h,
+)

@@ -1,5 +1,5 @@
 //! Lists of different games in canonical order.
-ghost use Rattle.std.specs.Prelude.{◌≡◌, ◌<◌, ◌≤◌, ◌↔◌, IsTrue, List, [], length, MatchOption, IfErr, OnOk, OnErr, Some, slice_get, map};
+ghost use Rattle.std.specs.Prelude.{◌≡◌, ◌<◌, ◌≤◌, ◌↔◌, IsTrue, [], length, MatchOption, IfErr, OnOk, OnErr, Some, slice_get, map};
 ghost use Rattle.std.specs.List.{Contains};
 ghost use Rattle.std.specs.List.Sorted.{IsStrictlySortedBy};
 ghost use Rattle.pg_san.specs.Games.{game_cmp, IsFromArray, IsGames, IsPlace};
@@ -56,11 +56,11 @@ fn first_illegal(game: &[Move]) -> Option<usize>
 }
 
 // The place that the game would take among games in canonical order; none where it is among them.
-fn place(games: &Vec<Vec<Move>>, game: &[Move]) -> Option<usize>
-    requires { IsStrictlySortedBy game_cmp (map (λ v. v.items) games.now.items) }
+fn place(games: &[Vec<Move>], game: &[Move]) -> Option<usize>
+    requires { IsStrictlySortedBy game_cmp (map (λ v. v.items) games.now) }
     ensures { MatchOption result
-        (Contains (map (λ v. v.items) games.now.items) game.now)
-        (λ i. IsPlace (map (λ v. v.items) games.now.items) game.now i) }
+        (Contains (map (λ v. v.items) games.now) game.now)
+        (λ i. IsPlace (map (λ v. v.items) games.now) game.now i) }
 {
     games
         .binary_search_by(|held| compare(held.as_slice(), game))

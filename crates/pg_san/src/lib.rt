@@ -24,7 +24,9 @@ mod writing;
 pub use adding::AddFault;
 pub use fault::SanFault;
 pub use games::Games;
-pub use laws::{text_grammar, texts_differ, written_text_is_matched};
+pub use laws::{
+    one_text, text_grammar, texts_differ, written_text_is_matched, written_text_is_read,
+};
 pub use list_laws::{games_stand_once, one_answer_to_a_text, one_list_of_games};
 pub use listing::read_games;
 pub use listing_fault::GamesFault;

@@ -283,6 +283,7 @@ fn add_at_last<R: Abort + AllocGlobal>(rt: &R, games: &mut Games, game: &[Move])
     }
 }
 
+/// Passes too where `rt try --test --fail-alloc N` refuses the N-th growth.
 #[test]
 fn refused_growths(rt: HostRuntime) {
     let text = "1. e4 d6 2. e5 a6 3. exd6\n1. e4 a6 2. e5 d6 3. exd6\n1.e4 d5 2. exd5 a6 3. d6\n-";

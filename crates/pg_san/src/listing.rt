@@ -1,7 +1,5 @@
 //! Texts of games.
-ghost use Rattle.std.specs.Prelude.{◌≡◌, ◌≢◌, ℕ, ◌+◌, ◌<◌, ◌≤◌, IsTrue, ◌↔◌, MatchResult, IfOk, IfErr, OnOk, OnErr, Ok, Err, [], ◌∷◌, length};
-ghost use Rattle.pg_position.specs.declared.state.State.{State};
-ghost use Rattle.pg_position.specs.Array.{array_state};
+ghost use Rattle.std.specs.Prelude.{◌≡◌, ◌≢◌, ◌↔◌, IsTrue, MatchResult, IfOk, IfErr, OnOk, OnErr, []};
 ghost use Rattle.pg_position.specs.Step.{Legal};
 ghost use Rattle.pg_moves.specs.Moves.{IsLegal};
 ghost use Rattle.pg_san.specs.GameText.{words, dash};

@@ -3,6 +3,7 @@ ghost use Rattle.std.specs.Prelude.{◌≡◌, ◌≢◌, ◌↔◌, IsTrue};
 ghost use Rattle.pg_position.specs.Position.{Stands};
 ghost use Rattle.pg_moves.specs.Moves.{IsLegal};
 ghost use Rattle.pg_moves.specs.Targets.{plain_move};
+ghost use Rattle.pg_san.specs.Writing.{HasRival, IsHint, IsOn, IsRivalOn};
 
 use pg_board::{Kind, Square};
 use pg_position::{Move, Position};
@@ -16,8 +17,6 @@ pub enum Line {
 }
 
 impl Line {
-    ghost use Rattle.pg_san.specs.Writing.{IsOn};
-
     // Whether the square `other` counts, beside `square`.
     fn is_on(self, other: Square, square: Square) -> bool
         ensures { IsTrue result ↔ IsOn self other square }
@@ -37,85 +36,81 @@ pub struct Hint {
     pub rank: Option<u8>,
 }
 
-impl Hint {
-    ghost use Rattle.pg_san.specs.Writing.{HasRival, IsHint, IsOn, IsRivalOn};
+fn stands(position: &Position, kind: Kind, square: Square) -> bool
+    ensures { IsTrue result ↔ Stands position.now.board position.now.side kind square }
+{
+    match position.board().get(square) {
+        Some(man) => man.color == position.side() && man.kind == kind,
+        None => false,
+    }
+}
 
-    fn stands(position: &Position, kind: Kind, square: Square) -> bool
-        ensures { IsTrue result ↔ Stands position.now.board position.now.side kind square }
-    {
-        match position.board().get(square) {
-            Some(man) => man.color == position.side() && man.kind == kind,
-            None => false,
+fn may_go(position: &Position, from: Square, to: Square) -> bool
+    ensures { IsTrue result ↔ IsLegal position.now (plain_move from to) }
+{
+    let m = Move {
+        from,
+        to,
+        promotion: None,
+    };
+    match position.play(m) {
+        Ok(_) => true,
+        Err(_) => false,
+    }
+}
+
+// Whether another man of this kind stands on the square, and the square counts.
+fn is_other(position: &Position, kind: Kind, m: &Move, line: Line, square: Square) -> bool
+    ensures { IsTrue result ↔ (IsOn line square m.now.from × (square ≢ m.now.from) × Stands position.now.board position.now.side kind square) }
+{
+    line.is_on(square, m.from) && square != m.from && stands(position, kind, square)
+}
+
+fn is_rival(position: &Position, kind: Kind, m: &Move, line: Line, square: Square) -> bool
+    ensures { IsTrue result ↔ IsRivalOn position.now kind m.now line square }
+{
+    is_other(position, kind, m, line, square) && may_go(position, square, m.to)
+}
+
+// Whether another man of this kind, on a square that counts, has a legal move to the same target.
+fn has_rival(position: &Position, kind: Kind, m: &Move, line: Line) -> bool
+    requires { kind ≢ Kind.Pawn }
+    ensures { IsTrue result ↔ HasRival position.now kind m.now line }
+{
+    for i in 0..64u8 {
+        if is_rival(position, kind, m, line, Square::at(i)) {
+            return true;
         }
     }
+    false
+}
 
-    fn may_go(position: &Position, from: Square, to: Square) -> bool
-        ensures { IsTrue result ↔ IsLegal position.now (plain_move from to) }
-    {
-        let m = Move {
-            from,
-            to,
-            promotion: None,
-        };
-        match position.play(m) {
-            Ok(_) => true,
-            Err(_) => false,
+// What tells a man other than a pawn apart.
+pub fn hint_of(position: &Position, kind: Kind, m: &Move) -> Hint
+    requires { kind ≢ Kind.Pawn }
+    ensures { IsHint position.now kind m.now result.file result.rank }
+{
+    let file = m.from.file();
+    let rank = m.from.rank();
+    if !has_rival(position, kind, m, Line::Anywhere) {
+        Hint {
+            file: None,
+            rank: None,
         }
-    }
-
-    // Whether another man of this kind stands on the square, and the square counts.
-    fn is_other(position: &Position, kind: Kind, m: &Move, line: Line, square: Square) -> bool
-        ensures { IsTrue result ↔ (IsOn line square m.now.from × (square ≢ m.now.from) × Stands position.now.board position.now.side kind square) }
-    {
-        line.is_on(square, m.from) && square != m.from && Hint::stands(position, kind, square)
-    }
-
-    fn is_rival(position: &Position, kind: Kind, m: &Move, line: Line, square: Square) -> bool
-        ensures { IsTrue result ↔ IsRivalOn position.now kind m.now line square }
-    {
-        Hint::is_other(position, kind, m, line, square) && Hint::may_go(position, square, m.to)
-    }
-
-    // Whether another man of this kind, on a square that counts, has a legal move to the same target.
-    fn has_rival(position: &Position, kind: Kind, m: &Move, line: Line) -> bool
-        requires { kind ≢ Kind.Pawn }
-        ensures { IsTrue result ↔ HasRival position.now kind m.now line }
-    {
-        for i in 0..64u8 {
-            if Hint::is_rival(position, kind, m, line, Square::at(i)) {
-                return true;
-            }
+    } else if !has_rival(position, kind, m, Line::SameFile) {
+        Hint {
+            file: Some(file),
+            rank: None,
         }
-        false
-    }
-
-    // What tells a man other than a pawn apart.
-    pub fn of(position: &Position, kind: Kind, m: &Move) -> Hint
-        requires { kind ≢ Kind.Pawn }
-        ensures { IsHint position.now kind m.now result.file result.rank }
-    {
-        let file = m.from.file();
-        let rank = m.from.rank();
-        if !Hint::has_rival(position, kind, m, Line::Anywhere) {
-            Hint {
-                file: None,
-                rank: None,
-            }
-        } else if !Hint::has_rival(position, kind, m, Line::SameFile) {
-            Hint {
-                file: Some(file),
-                rank: None,
-            }
-        } else if !Hint::has_rival(position, kind, m, Line::SameRank) {
-            Hint {
-                file: None,
-                rank: Some(rank),
-            }
-        } else {
-            Hint {
-                file: Some(file),
-                rank: Some(rank),
-            }
+    } else if !has_rival(position, kind, m, Line::SameRank) {
+        Hint {
+            file: None,
+            rank: Some(rank),
+        }
+    } else {
+        Hint {
+            file: Some(file),
+            rank: Some(rank),
         }
     }
 }

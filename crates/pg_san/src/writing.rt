@@ -7,7 +7,7 @@ ghost use Rattle.pg_san.specs.Writing.{IsCore, IsForm, IsHint, IsPawnHint, IsSig
 use crate::castling::{Castling, castles};
 use crate::cores::Core;
 use crate::matching::{mover, takes};
-use crate::rivals::Hint;
+use crate::rivals::{Hint, hint_of};
 use crate::said::Form;
 use crate::spelling::write_form;
 use arrayvec::ArrayString;
@@ -15,10 +15,10 @@ use pg_board::Kind;
 use pg_moves::next_legal;
 use pg_position::{Move, Position};
 
-/// The text of a move: at most eight bytes, as `Qa1xc3+` or `exd8=Q#`.
+/// The text of a move, as `Qa1xc3+` or `exd8=Q#`.
 pub type San = ArrayString<8>;
 
-fn hint(position: &Position, kind: Kind, m: &Move) -> Hint
+fn hint_for(position: &Position, kind: Kind, m: &Move) -> Hint
     ensures pawn { kind ≡ Kind.Pawn → IsPawnHint m.now result.file result.rank }
     ensures other { kind ≢ Kind.Pawn → IsHint position.now kind m.now result.file result.rank }
 {
@@ -27,16 +27,16 @@ fn hint(position: &Position, kind: Kind, m: &Move) -> Hint
             file: Some(m.from.file()),
             rank: None,
         },
-        _ => Hint::of(position, kind, m),
+        _ => hint_of(position, kind, m),
     }
 }
 
-fn core(position: &Position, kind: Kind, m: &Move) -> Core
+fn core_for(position: &Position, kind: Kind, m: &Move) -> Core
     requires legal { IsLegal position.now m.now }
     requires stands { Stands position.now.board position.now.side kind m.now.from }
     ensures { IsCore position.now kind m.now result }
 {
-    let hint = hint(position, kind, m);
+    let hint = hint_for(position, kind, m);
     Core {
         kind: Some(kind),
         file: hint.file,
@@ -47,7 +47,7 @@ fn core(position: &Position, kind: Kind, m: &Move) -> Core
     }
 }
 
-fn form(position: &Position, kind: Kind, m: &Move) -> Form
+fn form_for(position: &Position, kind: Kind, m: &Move) -> Form
     requires legal { IsLegal position.now m.now }
     requires stands { Stands position.now.board position.now.side kind m.now.from }
     ensures { IsForm position.now kind m.now result }
@@ -58,11 +58,11 @@ fn form(position: &Position, kind: Kind, m: &Move) -> Form
     if castles(kind, m, Castling::Long) {
         return Form::Castles(Castling::Long);
     }
-    Form::Moves(core(position, kind, m))
+    Form::Moves(core_for(position, kind, m))
 }
 
 // `#` for checkmate, `+` for check, else nothing.
-fn sign(next: &Position) -> &'static str
+fn sign_after(next: &Position) -> &'static str
     ensures { IsSignOf next.now result.now }
 {
     if !next.in_check() {
@@ -82,18 +82,18 @@ fn write_move(position: &Position, m: &Move) -> San
         unreachable!()
     };
     let kind = mover(position, m);
-    let form = form(position, kind, m);
-    write_form(kind, &form, sign(&next))
+    let form = form_for(position, kind, m);
+    write_form(kind, &form, sign_after(&next))
 }
 
 /// The text of a legal move (the PGN standard, section 8.2.3). Castling is `O-O` towards the h-file
 /// and `O-O-O` towards the a-file. Otherwise these follow one another: the letter `K`, `Q`, `R`, `B`
 /// or `N` of the man, none for a pawn; what tells it apart; `x` for a capture, en passant included;
 /// the target; `=` and the letter of a promotion. A pawn that captures has its file before the `x`.
-/// Another man is told apart where one more of its kind and colour has a legal move to the same
-/// target: by its file where none of those stands on it, else by its rank where none of those stands
-/// on it, else by both. Last comes `#` for checkmate or `+` for check. The caller knows that the move
-/// is legal. Takes no memory.
+/// A man other than a pawn is told apart where another of its kind and colour has a legal move to the
+/// same target: by its file where no such other man stands on that file, else by its rank where none
+/// stands on that rank, else by both. Last comes `#` for checkmate or `+` for check. The caller knows
+/// that the move is legal. Takes no memory.
 pub fn write(position: &Position, m: Move) -> San
     requires { IsLegal position.now m }
     ensures { IsSan position.now m result.bytes }

@@ -1,5 +1,7 @@
 use super::*;
 use crate::{SanFault, read};
+use pg_position::Illegal;
+use std::test::Fail;
 
 /// Texts that are read as one move, such as `e2e4`.
 fn check(rt: &impl Abort, position: &Position, texts: &[&str], wanted: &str) {
@@ -128,6 +130,21 @@ fn refuses(rt: HostRuntime) {
     let pinned = white(&rt, "4k3/8/8/8/1b6/2N5/8/4K1N1", "");
     check(&rt, &pinned, &["Ne2", "Nge2"], "g1e2");
     check_fault(&rt, &pinned, &["Nce2"], SanFault::NoSuchMove);
+    let refused = pinned.play(move_of(&rt, "c3e2"));
+    assert!(rt; matches!(refused, Err(Illegal::LeavesCheck)));
     let free = white(&rt, "4k3/8/8/8/8/2N5/8/4K1N1", "");
     check_fault(&rt, &free, &["Ne2", "Se2+"], SanFault::Ambiguous);
+}
+
+#[test]
+fn names_faults(rt: HostRuntime) -> Result<(), Fail> {
+    for (fault, wanted) in [
+        (SanFault::Shape, "not a move"),
+        (SanFault::NoSuchMove, "no such legal move"),
+        (SanFault::Ambiguous, "ambiguous move"),
+    ] {
+        let text = format!(in rt.alloc(); "{fault}")?;
+        assert_eq!(rt; text.as_str(), wanted);
+    }
+    Ok(())
 }

@@ -1,7 +1,7 @@
 use Rattle.std.proofs.Common.{◌<◌, refl, arith}
 use Rattle.pg_moves.proofs.SearchLemmas.{not_both}
 use Rattle.pg_san.proofs.RivalLemmas.{rival_there, rival_somewhere}
-use Rattle.pg_san.proofs.rivals.Hint.has_rival.Goals as goal
+use Rattle.pg_san.proofs.rivals.has_rival.Goals as goal
 
 pub returns-then-is_rival : goal.returns-then-is_rival
 returns-then-is_rival c = (λ t. rival_there c.args.position.now c.args.kind c.args.m.now c.args.line _ (c.is_rival.ensures.0 c.if-is_rival.true), λ h. refl)

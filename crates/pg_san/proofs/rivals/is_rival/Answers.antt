@@ -1,4 +1,4 @@
-use Rattle.pg_san.proofs.rivals.Hint.is_rival.Goals as goal
+use Rattle.pg_san.proofs.rivals.is_rival.Goals as goal
 
 pub returns-then-is_other : goal.returns-then-is_other
 returns-then-is_other c =

@@ -1,6 +1,6 @@
 use Rattle.pg_san.proofs.MoveLemmas.{castles_there}
 use Rattle.pg_san.specs.declared.castling.Castling.TheVariants.{Short, Long}
-use Rattle.pg_san.proofs.writing.form.Goals as goal
+use Rattle.pg_san.proofs.writing.form_for.Goals as goal
 
 pub returns-then-castles : goal.returns-then-castles
 returns-then-castles c = (castles_there c.args.position.now c.args.kind c.args.m.now Short c.requires.legal c.requires.stands).0 (c.castles.ensures.0 c.if-castles.true)
