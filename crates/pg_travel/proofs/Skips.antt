@@ -3,17 +3,16 @@ use Rattle.std.proofs.Common.{◌≡◌, ◌≢◌, ℕ, zero, suc, ◌<◌, ◌
 use Rattle.std.proofs.lemmas.Bool.Decides.{eqb_tells}
 use Rattle.pg_board.specs.declared.man.Color.{Color}
 use Rattle.pg_board.specs.declared.man.Color.TheVariants.{White, Black}
-use Rattle.pg_board.specs.declared.man.Kind.{Kind}
 use Rattle.pg_board.specs.declared.man.Man.{Man}
 use Rattle.pg_board.specs.Men.{color_eq, is_of}
 use Rattle.pg_board.specs.Placement.{Placement, get}
 use Rattle.pg_board.specs.Bits.{has}
 use Rattle.pg_position.specs.declared.rights.Wing.{Wing}
-use Rattle.pg_travel.specs.Origins.{counted, sum_to}
-use Rattle.pg_travel.specs.Formulas.{least_of, distance_of}
-use Rattle.pg_travel.specs.Costs.{reach_of, nearest, cost_of, cost}
+use Rattle.pg_travel.specs.Origins.{sum_to}
+use Rattle.pg_travel.specs.Formulas.{least_of}
+use Rattle.pg_travel.specs.Costs.{nearest, cost_of, cost}
 
-least_le : (f : ℕ → ℕ) (n : ℕ) → least_of f n ≤ 64
+pub least_le : (f : ℕ → ℕ) (n : ℕ) → least_of f n ≤ 64
 unfolding least_of
 least_le f zero = omega arith
 least_le f (suc n) = omega (arith, least_le f n)
@@ -42,10 +41,6 @@ color_sym White Black = refl
 color_sym Black White = refl
 color_sym Black Black = refl
 
-reach_none : (c : Color) (way : Option Wing) (k : Kind) (t q : ℕ) (o : Option Man) → is_of c o ≡ false → reach_of c way k t q o ≡ 64
-reach_none c way k t q None e = refl
-reach_none c way k t q (Some m) e = ap (λ (x : Bool). cond x (distance_of m.color k m.kind (counted c way q) t) 64) (color_sym c m.color ∙ e)
-
 cost_none : (b : Placement) (c : Color) (way : Option Wing) (t : ℕ) (o : Option Man) → is_of c o ≡ false → cost_of b c way t o ≡ 0
 cost_none b c way t None e = refl
 cost_none b c way t (Some m) e = ap (λ (x : Bool). cond x (nearest b c way m.kind t) 0) (color_sym c m.color ∙ e)
@@ -53,9 +48,6 @@ cost_none b c way t (Some m) e = ap (λ (x : Bool). cond x (nearest b c way m.ki
 -- a set of the colour's squares
 abbrev pub IsOwn : Placement → Color → ℕ → Type 0
 IsOwn b c own = (q : ℕ) → q < 64 → has own q ≡ is_of c (get b q)
-
-pub reach_off : (b : Placement) (c : Color) (way : Option Wing) (k : Kind) (t own q : ℕ) → IsOwn b c own → q < 64 → has own q ≡ false → reach_of c way k t q (get b q) ≡ 64
-reach_off b c way k t own q is low off = reach_none c way k t q (get b q) (sym (is q low) ∙ off)
 
 pub cost_off : (b d : Placement) (c : Color) (way : Option Wing) (own q : ℕ) → IsOwn d c own → q < 64 → has own q ≡ false → cost b d c way q ≡ 0
 unfolding cost

@@ -4,7 +4,7 @@ use Rattle.pg_board.specs.declared.man.Color.{Color}
 use Rattle.pg_board.specs.declared.man.Kind.{Kind}
 use Rattle.pg_position.specs.declared.rights.Wing.{Wing}
 use Rattle.pg_board.specs.declared.man.Man.{Man}
-use Rattle.pg_board.specs.Men.{color_eq}
+use Rattle.pg_board.specs.Men.{color_eq, is_man}
 use Rattle.pg_board.specs.Placement.{Placement, get}
 use Rattle.pg_position.specs.declared.state.State.{State}
 use Rattle.pg_travel.specs.Origins.{IsWayOf, counted, charge, sum_to}
@@ -19,6 +19,14 @@ reach_of c way j t o (Some m) = cond (color_eq c m.color) (distance_of m.color j
 -- the least over all squares
 unfoldable pub nearest : Placement → Color → Option Wing → Kind → ℕ → ℕ
 nearest b c way j t = least_of (λ o. reach_of c way j t o (get b o)) 64
+
+-- from one square, where this man stands; 64 where it does not or there is no walk
+abbrev pub reach_from : Man → Option Wing → Kind → ℕ → ℕ → Option Man → ℕ
+reach_from m way j t o here = cond (is_man m here) (distance_of m.color j m.kind (counted m.color way o) t) 64
+
+-- the least over the squares where this man stands
+unfoldable pub nearest_man : Placement → Man → Option Wing → Kind → ℕ → ℕ
+nearest_man b m way j t = least_of (λ o. reach_from m way j t o (get b o)) 64
 
 -- what a man of d costs; nothing where none of c stands there
 abbrev pub cost_of : Placement → Color → Option Wing → ℕ → Option Man → ℕ

@@ -1,5 +1,5 @@
 -- Distances as formulas on numbers. 64 is none.
-use Rattle.std.specs.Prelude.{◌≢◌, ℕ, zero, suc, ◌+◌, ◌-◌, ◌/◌, ◌%◌, ◌<◌, Bool, cond, ◌&&◌, ◌||◌, min, max, eqb, leb, Option, Some, None}
+use Rattle.std.specs.Prelude.{◌≢◌, ℕ, zero, suc, ◌+◌, ◌-◌, ◌/◌, ◌%◌, ◌<◌, Bool, true, false, cond, ◌&&◌, ◌||◌, min, max, eqb, leb, Option, Some, None}
 use Rattle.pg_board.specs.declared.man.Color.{Color}
 use Rattle.pg_board.specs.declared.man.Color.TheVariants.{White, Black}
 use Rattle.pg_board.specs.declared.man.Kind.{Kind}
@@ -79,6 +79,10 @@ least_of f (suc n) = min (least_of f n) (f n)
 unfoldable pub pawn_to : (ℕ → ℕ → ℕ) → Color → ℕ → ℕ → ℕ
 pawn_to to c r s = cond (eqb (rank_for c r) 8) 64 (least_of (λ f. pawn_steps c r (last_at c f) + to (last_at c f) s) 8)
 
+-- the steps that a pawn needs at least to the last rank: one less than the ranks where it can advance two from home
+abbrev pub soonest : Color → ℕ → ℕ
+soonest c r = cond (leb (rank_for c r) 2) (7 - rank_for c r) (8 - rank_for c r)
+
 abbrev pub from_pawn : Color → Kind → ℕ → ℕ → ℕ
 from_pawn c Pawn r s = pawn c r s
 from_pawn c Knight r s = pawn_to knight c r s
@@ -94,6 +98,19 @@ code Bishop = 2
 code Rook = 3
 code Queen = 4
 code King = 5
+
+-- whether a pawn can become of the kind
+abbrev pub is_promoted : Kind → Bool
+is_promoted Pawn = false
+is_promoted Knight = true
+is_promoted Bishop = true
+is_promoted Rook = true
+is_promoted Queen = true
+is_promoted King = false
+
+-- the steps that kind k on r needs at least to be of kind j on any square: a pawn's to the last rank where j is promoted to
+abbrev pub least_steps : Color → Kind → Kind → ℕ → ℕ
+least_steps c j k r = cond (eqb (code k) 0 && is_promoted j) (soonest c r) 0
 
 -- from kind k on r to kind j on s
 abbrev pub distance_of : Color → Kind → Kind → ℕ → ℕ → ℕ

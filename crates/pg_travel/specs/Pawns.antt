@@ -46,7 +46,7 @@ by_piece c Rook r s ne = refl
 by_piece c Queen r s ne = refl
 by_piece c King r s ne = refl
 
-by_other : (c : Color) (j k : Kind) (r s : ℕ) → k ≢ Pawn → k ≢ j → distance_of c j k r s ≡ 64
+pub by_other : (c : Color) (j k : Kind) (r s : ℕ) → k ≢ Pawn → k ≢ j → distance_of c j k r s ≡ 64
 by_other c j Pawn r s ne other = absurd (ne refl)
 by_other c j Knight r s ne other = ap (λ (b : Bool). cond b (knight r s) 64) (codes_differ Knight j other)
 by_other c j Bishop r s ne other = ap (λ (b : Bool). cond b (bishop r s) 64) (codes_differ Bishop j other)

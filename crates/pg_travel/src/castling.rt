@@ -74,7 +74,7 @@ fn king_target(color: Color, wing: Castling) -> u8
 }
 
 // Whether the colour may still castle so.
-pub fn holds(rights: Rights, color: Color, wing: Castling) -> bool
+pub(crate) fn holds(rights: Rights, color: Color, wing: Castling) -> bool
     ensures { result ≡ holds rights color (wing_of wing) }
 {
     match color {
@@ -90,7 +90,7 @@ pub fn holds(rights: Rights, color: Color, wing: Castling) -> bool
 }
 
 // Where a way counts the man on a square.
-pub fn counted(color: Color, way: Option<Castling>, origin: Square) -> Square
+pub(crate) fn counted(color: Color, way: Option<Castling>, origin: Square) -> Square
     ensures { result ≡ counted color (way_of way) origin }
 {
     match way {
@@ -108,7 +108,7 @@ pub fn counted(color: Color, way: Option<Castling>, origin: Square) -> Square
 }
 
 // The plies that a way costs besides the walks.
-pub fn charge(way: Option<Castling>) -> u16
+pub(crate) fn charge(way: Option<Castling>) -> u16
     ensures value { result ≡ charge (way_of way) }
     ensures low { result ≤ 1 }
 {

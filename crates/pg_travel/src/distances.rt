@@ -2,7 +2,7 @@
 ghost use Rattle.std.specs.Prelude.{◌≡◌, ◌≢◌, ℕ, ◌+◌, ◌-◌, ◌*◌, ◌/◌, ◌%◌, ◌<◌, ◌≤◌, ◌&&◌, ◌||◌, cond, eqb, min, max, IsTrue};
 ghost use Rattle.pg_position.specs.Geometry.{apart};
 ghost use Rattle.pg_travel.specs.Walks.{DistanceIs};
-ghost use Rattle.pg_travel.specs.Formulas.{files, ranks, king, rook, bishop, queen, knight, is_corner, long_way, knight_by, piece, rank_for, pawn_steps, pawn, last_at, least_of, pawn_to, from_pawn, distance_of};
+ghost use Rattle.pg_travel.specs.Formulas.{files, ranks, king, rook, bishop, queen, knight, is_corner, long_way, knight_by, piece, rank_for, pawn_steps, pawn, last_at, least_of, pawn_to, soonest, is_promoted, least_steps, from_pawn, distance_of};
 
 use pg_board::{Color, Kind, Man, Square};
 
@@ -249,7 +249,7 @@ fn code(kind: Kind) -> u8
     }
 }
 
-pub fn all_steps(man: Man, from: Square, kind: Kind, to: Square) -> u8
+fn all_steps(man: Man, from: Square, kind: Kind, to: Square) -> u8
     ensures value { result ≡ distance_of man.color kind man.kind from to }
     ensures low { result ≤ 64 }
 {
@@ -262,6 +262,51 @@ pub fn all_steps(man: Man, from: Square, kind: Kind, to: Square) -> u8
                 64
             }
         }
+    }
+}
+
+// How many steps a pawn needs at least to its last rank.
+fn soonest(color: Color, from: Square) -> u8
+    ensures { result ≡ soonest color from }
+{
+    let rank = rank_for(color, from);
+    if rank <= 2 { 7 - rank } else { 8 - rank }
+}
+
+// Whether a pawn can become of the kind.
+pub(crate) fn is_promoted(kind: Kind) -> bool
+    ensures { result ≡ is_promoted kind }
+{
+    match kind {
+        Kind::Pawn => false,
+        Kind::Knight => true,
+        Kind::Bishop => true,
+        Kind::Rook => true,
+        Kind::Queen => true,
+        Kind::King => false,
+    }
+}
+
+// Steps that a man needs at least to be of the kind on any square: those of a pawn to its last rank,
+// where it has to become of the kind.
+fn least_steps(man: Man, from: Square, kind: Kind) -> u8
+    ensures { result ≡ least_steps man.color kind man.kind from }
+{
+    if code(man.kind) == 0 && is_promoted(kind) {
+        soonest(man.color, from)
+    } else {
+        0
+    }
+}
+
+// The distance of a man to a kind on a square, where it is less than `best`.
+pub(crate) fn closer(man: Man, from: Square, kind: Kind, to: Square, best: u8) -> u8
+    ensures { result ≡ min best (distance_of man.color kind man.kind from to) }
+{
+    if best <= least_steps(man, from, kind) {
+        best
+    } else {
+        best.min(all_steps(man, from, kind, to))
     }
 }
 

@@ -1,16 +1,16 @@
 //! The value of a way, the need of a colour and the test of the bound.
-ghost use Rattle.std.specs.Prelude.{◌≡◌, ℕ, ◌+◌, ◌*◌, ◌<◌, ◌≤◌, ◌↔◌, ◌/◌, ◌%◌, IsTrue, Some, None};
+ghost use Rattle.std.specs.Prelude.{◌≡◌, ℕ, ◌+◌, ◌*◌, ◌<◌, ◌≤◌, ◌↔◌, ◌/◌, ◌%◌, min, IsTrue, Some, None};
 ghost use Rattle.pg_board.specs.Placement.{get};
-ghost use Rattle.pg_board.specs.Men.{color_eq};
+ghost use Rattle.pg_board.specs.Men.{color_eq, man};
 ghost use Rattle.pg_captures.specs.Owed.{plies_left};
 ghost use Rattle.pg_travel.specs.Ways.{wing_of, way_of};
 ghost use Rattle.pg_travel.specs.Origins.{counted, charge, sum_to};
 ghost use Rattle.pg_travel.specs.Formulas.{least_of};
-ghost use Rattle.pg_travel.specs.Costs.{reach_of, nearest, cost_of, cost, ValueIs, SumIs, HeldIs, lesser};
+ghost use Rattle.pg_travel.specs.Costs.{nearest_man, nearest, cost_of, cost, ValueIs, SumIs, HeldIs, lesser};
 ghost use Rattle.pg_travel.specs.Needs.{NeedIs, TravelTest};
 
 use crate::castling::{Castling, charge, counted, holds};
-use crate::distances::all_steps;
+use crate::distances::{closer, is_promoted};
 use pg_board::{Board, Color, Kind, Man, Square};
 use pg_captures::plies_left;
 use pg_fen::Diagram;
@@ -22,50 +22,46 @@ fn same_side(a: Color, b: Color) -> bool
     a == b
 }
 
-// From the man on an origin to a kind on a target, 64 where none of the colour stands there.
-fn reach(
-    color: Color,
-    way: Option<Castling>,
-    kind: Kind,
-    t: Square,
-    o: Square,
-    man: Option<Man>,
-) -> u8
-    ensures value { result ≡ reach_of color (way_of way) kind t o man }
-    ensures low { result ≤ 64 }
+fn man(color: Color, kind: Kind) -> Man
+    ensures { result ≡ man color kind }
 {
-    match man {
-        None => 64,
-        Some(m) => {
-            if same_side(color, m.color) {
-                all_steps(m, counted(color, way, o), kind, t)
-            } else {
-                64
-            }
-        }
-    }
+    Man { color, kind }
 }
 
-// From the nearest man of the colour to a kind on a target, 64 for none.
-#[tactic(auto, unfolding(crate::specs::Costs::nearest))]
+// From the nearest square with this man to a kind on a target, where that is less than `best`.
+#[tactic(auto, unfolding(crate::specs::Costs::nearest_man))]
+fn nearer(board: &Board, man: Man, way: Option<Castling>, kind: Kind, t: Square, best: u8) -> u8
+    requires { best ≤ 64 }
+    ensures { result ≡ min best (nearest_man board.now man (way_of way) kind t) }
+{
+    let own = board.squares_of(man);
+    let mut least = best;
+    let mut from = 0u8;
+    while let Some(o) = first_from(own, from) {
+        let origin = counted(man.color, way, o);
+        least = closer(man, origin, kind, t, least);
+        from = o.index() + 1;
+    }
+    least
+}
+
+// From the nearest man of the colour to a kind on a target, 64 for none: from one of the kind, or
+// from a pawn that becomes of it.
 fn nearest(board: &Board, color: Color, way: Option<Castling>, kind: Kind, t: Square) -> u8
     ensures value { result ≡ nearest board.now color (way_of way) kind t }
     ensures low { result ≤ 64 }
 {
-    let own = board.squares_of_color(color);
-    let mut best = 64u8;
-    let mut from = 0u8;
-    while let Some(o) = first_from(own, from) {
-        let man = board.get(o);
-        best = best.min(reach(color, way, kind, t, o, man));
-        from = o.index() + 1;
+    let own = nearer(board, man(color, kind), way, kind, t, 64);
+    if is_promoted(kind) {
+        nearer(board, man(color, Kind::Pawn), way, kind, t, own)
+    } else {
+        own
     }
-    best
 }
 
 // Whether the man on a square is the one that is to stand there, and counts as standing there.
 fn is_home(color: Color, way: Option<Castling>, t: Square, here: Option<Man>, man: Man) -> bool
-    ensures { IsTrue result → ((here ≡ Some man) × (counted color (way_of way) t ≡ t)) }
+    ensures { IsTrue result ↔ ((here ≡ Some man) × (counted color (way_of way) t ≡ t)) }
 {
     match here {
         None => false,
@@ -174,7 +170,7 @@ pub fn need(color: Color, diagram: &Diagram, position: &Position) -> Option<u16>
 
 // Whether a value is known and so many plies pay for it.
 fn pays(plies: u16, value: Option<u16>) -> bool
-    ensures { IsTrue result → (v : ℕ) × (value ≡ Some v) × (v ≤ plies) }
+    ensures { IsTrue result ↔ ((v : ℕ) × (value ≡ Some v) × (v ≤ plies)) }
 {
     match value {
         None => false,
@@ -184,7 +180,7 @@ fn pays(plies: u16, value: Option<u16>) -> bool
 
 // Whether the colour's need does not exist or is above its plies left. The ways by castling are
 // tried only where the way without is not paid for.
-pub fn excludes_for(color: Color, diagram: &Diagram, position: &Position, left: u8) -> bool
+pub(crate) fn excludes_for(color: Color, diagram: &Diagram, position: &Position, left: u8) -> bool
     ensures { IsTrue result ↔ TravelTest position.now diagram.now color left }
 {
     let plies = u16::from(plies_left(position.side(), color, left));

@@ -1,1 +1,3 @@
 pub mod Readers
+pub mod MenTest
+pub mod Codes

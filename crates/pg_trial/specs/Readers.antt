@@ -1,5 +1,9 @@
 -- What the readers and writers for tests hold.
-use Rattle.std.specs.Prelude.{ℕ}
+use Rattle.std.specs.Prelude.{◌≡◌, ℕ, Result}
+use Rattle.std.specs.Result.{IsErrAnd}
+use Rattle.std.specs.IoError.{error_kind}
+use Rattle.std.specs.declared.io.Error.{Error}
+use Rattle.std.specs.declared.io.ErrorKind.{ErrorKind}
 use Rattle.pg_trial.specs.declared.endless.Endless.{Endless}
 use Rattle.pg_trial.specs.declared.fails_at.FailsAt.{FailsAt}
 use Rattle.pg_trial.specs.declared.one_byte.OneByte.{OneByte}
@@ -15,6 +19,14 @@ calls_of failing = failing.calls
 -- the number of the call that fails
 abbrev pub at_of : {T : Type 0} → FailsAt T → ℕ
 at_of failing = failing.at
+
+-- the kind of the error by which it fails
+abbrev pub kind_of : {T : Type 0} → FailsAt T → ErrorKind
+kind_of failing = failing.kind
+
+-- the call is the one that fails: it answers an error of that kind
+abbrev pub FailsWhere : {T A : Type 0} → FailsAt T → Result A Error → Type 0
+FailsWhere failing answer = calls_of failing ≡ at_of failing → IsErrAnd answer (λ e. error_kind e ≡ kind_of failing)
 
 -- the reader or the writer that one which fails at a call passes calls on to
 abbrev pub within : {T : Type 0} → FailsAt T → T

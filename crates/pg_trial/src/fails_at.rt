@@ -1,5 +1,5 @@
 //! A reader or a writer that fails at one call.
-ghost use Rattle.std.specs.Prelude.{◌≡◌, ◌↔◌, ◌+◌, ◌-◌, ◌^◌, min, IsTrue, IsErr};
+ghost use Rattle.std.specs.Prelude.{◌≡◌, ◌↔◌, ◌+◌, ◌-◌, ◌^◌, min, IsTrue};
 ghost use Rattle.std.specs.Io.{ReadsAtMost, WritesAtMost};
 ghost use Rattle.std.specs.Io.KnownBytes.{Keeps, ReadConsumes, WriteAppends};
 
@@ -8,7 +8,8 @@ use std::io::{ErrorKind, Read, Write};
 
 /// Passes each read, write and flush on to a reader or a writer, and answers one of them, by its
 /// number from 0, with an error in its place. The calls after it are passed on again, so that one
-/// who tries again is found out.
+/// who tries again is found out. What std says of readers and writers cannot tell that a call which
+/// is passed on succeeds, nor that a flush is passed on at all: tests alone show that.
 #[derive(Drop)]
 pub struct FailsAt<T> {
     inner: T,
@@ -18,13 +19,14 @@ pub struct FailsAt<T> {
 }
 
 impl<T> FailsAt<T> {
-    ghost use Rattle.pg_trial.specs.Readers.{calls_of, within, at_of};
+    ghost use Rattle.pg_trial.specs.Readers.{calls_of, within, at_of, kind_of};
 
     /// One that no call has reached yet, and that answers the call with this number by an error of
     /// this kind.
     pub fn new(inner: T, at: u64, kind: ErrorKind) -> FailsAt<T>
         ensures inner { within result ≡ inner }
         ensures at { at_of result ≡ at }
+        ensures kind { kind_of result ≡ kind }
         ensures calls { calls_of result ≡ 0 }
     {
         FailsAt {
@@ -61,6 +63,7 @@ impl<T> FailsAt<T> {
         ensures counted { calls_of self.new ≡ min (calls_of self.old + 1) (2 ^ 64 - 1) }
         ensures inner { within self.new ≡ within self.old }
         ensures at { at_of self.new ≡ at_of self.old }
+        ensures kind { kind_of self.new ≡ kind_of self.old }
     {
         let fails = self.calls == self.at;
         self.calls = self.calls.saturating_add(1);
@@ -69,7 +72,7 @@ impl<T> FailsAt<T> {
 }
 
 impl<R: Read> Read for FailsAt<R> {
-    ghost use Rattle.pg_trial.specs.Readers.{calls_of, within, at_of};
+    ghost use Rattle.pg_trial.specs.Readers.{calls_of, within, at_of, kind_of, FailsWhere};
 
     ghost remaining = { λ s. R.remaining s.inner };
 
@@ -77,9 +80,10 @@ impl<R: Read> Read for FailsAt<R> {
         ensures bound { ReadsAtMost result buffer.new }
         ensures bytes { ReadConsumes (R.remaining (within self.old)) (R.remaining (within self.new))
             result buffer.new }
-        ensures fault { calls_of self.old ≡ at_of self.old → IsErr result }
+        ensures fault { FailsWhere self.old result }
         ensures counted { calls_of self.new ≡ min (calls_of self.old + 1) (2 ^ 64 - 1) }
         ensures at { at_of self.new ≡ at_of self.old }
+        ensures kind { kind_of self.new ≡ kind_of self.old }
     {
         if self.fails() {
             return Err(self.kind.into());
@@ -89,7 +93,7 @@ impl<R: Read> Read for FailsAt<R> {
 }
 
 impl<W: Write> Write for FailsAt<W> {
-    ghost use Rattle.pg_trial.specs.Readers.{calls_of, within, at_of};
+    ghost use Rattle.pg_trial.specs.Readers.{calls_of, within, at_of, kind_of, FailsWhere};
 
     ghost contents = { λ s. W.contents s.inner };
 
@@ -97,9 +101,10 @@ impl<W: Write> Write for FailsAt<W> {
         ensures bound { WritesAtMost result bytes.now }
         ensures bytes { WriteAppends (W.contents (within self.old)) (W.contents (within self.new))
             result bytes.now }
-        ensures fault { calls_of self.old ≡ at_of self.old → IsErr result }
+        ensures fault { FailsWhere self.old result }
         ensures counted { calls_of self.new ≡ min (calls_of self.old + 1) (2 ^ 64 - 1) }
         ensures at { at_of self.new ≡ at_of self.old }
+        ensures kind { kind_of self.new ≡ kind_of self.old }
     {
         if self.fails() {
             return Err(self.kind.into());
@@ -109,9 +114,10 @@ impl<W: Write> Write for FailsAt<W> {
 
     fn flush(&mut self) -> io::Result<()>
         ensures bytes { Keeps (W.contents (within self.old)) (W.contents (within self.new)) }
-        ensures fault { calls_of self.old ≡ at_of self.old → IsErr result }
+        ensures fault { FailsWhere self.old result }
         ensures counted { calls_of self.new ≡ min (calls_of self.old + 1) (2 ^ 64 - 1) }
         ensures at { at_of self.new ≡ at_of self.old }
+        ensures kind { kind_of self.new ≡ kind_of self.old }
     {
         if self.fails() {
             return Err(self.kind.into());

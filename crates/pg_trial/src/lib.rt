@@ -1,14 +1,22 @@
-//! Readers and writers of std, for tests alone: of one byte a call, failing at a call, endless,
-//! taking nothing. Their contracts say which bytes they give and take and which call fails, and not
-//! that a call which is passed on succeeds.
+//! What other crates are tried with, for tests alone. Readers and writers of std: of one byte a
+//! call, failing at a call, endless, taking nothing; their contracts say which bytes they give and
+//! take and which call fails, and not that a call which is passed on succeeds. And two bounds: by the
+//! numbers of men, and one that never excludes.
 #![tactic(auto)]
 
 mod endless;
 mod fails_at;
+mod men;
+mod never;
 mod one_byte;
 mod takes_nothing;
 
 pub use endless::Endless;
 pub use fails_at::FailsAt;
+pub use men::{Men, men_test_is_exact};
+pub use never::Never;
 pub use one_byte::OneByte;
 pub use takes_nothing::TakesNothing;
+
+#[cfg(test)]
+mod tests;

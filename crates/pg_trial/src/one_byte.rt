@@ -7,7 +7,8 @@ use std::io;
 use std::io::{Read, Write};
 
 /// Hands each read and write on to a reader or a writer with one byte alone, however many there are
-/// or are wanted.
+/// or are wanted. What std says of readers and writers cannot tell that a call which is handed on
+/// succeeds, that a write takes its byte, nor that a flush is handed on at all: tests alone show that.
 #[derive(Drop)]
 pub struct OneByte<T> {
     inner: T,

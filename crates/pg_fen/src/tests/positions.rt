@@ -24,7 +24,7 @@ fn positions_read_and_written(rt: HostRuntime) {
         "r3k2r/p1ppqpb1/bn2pnp1/3PN3/1p2P3/2N2Q1p/PPPBBPPP/R3K2R w KQkq - 0 1",
         "8/2p5/3p4/KP5r/1R3p1k/8/4P1P1/8 w - - 0 1",
         "4k3/8/8/8/1b6/2N5/8/4K1N1 w - - 0 1",
-        "4k3/8/8/R7/8/8/8/R3K3 w - - 0 1",
+        "4k3/8/8/3R4/8/8/8/R3K3 w - - 0 1",
         "8/7k/8/8/8/Q7/8/Q1Q4K w - - 0 1",
         "4k3/8/8/8/8/8/8/R3K2R w KQ - 0 1",
         "8/4P3/8/8/8/8/k7/4K3 w - - 0 1",

@@ -15,7 +15,7 @@ told a n b e h = grind (arith, nat_tests)
 pub returns-then-pays : goal.returns-then-pays
 returns-then-pays c =
     let e : c.from-plies.result ≡ plies_left c.args.position.now.side c.args.color c.args.left = c.from-plies.ensures ∙ c.plies_left.ensures ∙ ap (λ (s : Color). plies_left s c.args.color c.args.left) c.side.ensures.value in
-    let paid : (v : ℕ) × (c.value-free.result ≡ Some v) × (v ≤ c.from-plies.result) = c.pays.ensures c.if-pays.true in
+    let paid : (v : ℕ) × (c.value-free.result ≡ Some v) × (v ≤ c.from-plies.result) = c.pays.ensures.0 c.if-pays.true in
     let most : paid.0 ≤ plies_left c.args.position.now.side c.args.color c.args.left = subst (λ (x : ℕ). paid.0 ≤ x) e paid.2 in
     ((λ t. cc), (λ t. absurd (test_paid c.args.position.now c.args.diagram.now c.args.color c.args.left c.value-free.result paid.0 c.value-free.ensures paid.1 most t)))
 

@@ -1,0 +1,150 @@
+-- The nearest man that comes to be of a kind is of that kind, or a pawn; and how soon a pawn can be one.
+use Rattle.std.proofs.Common.{◌≡◌, ◌≢◌, ℕ, zero, suc, ◌+◌, ◌<◌, ◌≤◌, ◌⊎◌, inl, inr, Option, Some, None, cond, min, Bool, true, false, refl, sym, ap, arith, ◌∙◌}
+use Rattle.std.proofs.lemmas.Bool.Decides.{eqb_tells}
+use Rattle.pg_board.specs.declared.man.Color.{Color}
+use Rattle.pg_board.specs.declared.man.Color.TheVariants.{White, Black}
+use Rattle.pg_board.specs.declared.man.Kind.{Kind}
+use Rattle.pg_board.specs.declared.man.Kind.TheVariants.{Pawn, Knight, Bishop, Rook, Queen, King}
+use Rattle.pg_board.specs.declared.man.Man.{Man}
+use Rattle.pg_board.specs.Men.{man, kind_eq, is_man, kind_decides}
+use Rattle.pg_board.specs.Placement.{Placement, get}
+use Rattle.pg_board.specs.Bits.{has}
+use Rattle.pg_position.specs.declared.rights.Wing.{Wing}
+use Rattle.pg_travel.specs.Origins.{counted}
+use Rattle.pg_travel.specs.Formulas.{rank_for, pawn_steps, last_at, least_of, pawn_to, soonest, knight, bishop, rook, queen, distance_of, is_promoted, least_steps}
+use Rattle.pg_travel.specs.Costs.{reach_of, reach_from, nearest, nearest_man}
+use Rattle.pg_travel.specs.Pawns.{by_other, least_of_more}
+use Rattle.pg_travel.proofs.Skips.{least_le, least_skip}
+
+-- two least numbers make one
+least_both : (F f g : ℕ → ℕ) (n : ℕ) → ((q : ℕ) → min (F q) 64 ≡ min (min (f q) (g q)) 64) → least_of F n ≡ min (least_of f n) (least_of g n)
+unfolding least_of
+least_both F f g zero h = refl
+least_both F f g (suc n) h = omega (arith, least_both F f g n h, h n, least_le F n, least_le f n, least_le g n)
+
+abbrev KindTells : Kind → Kind → Type 0
+KindTells k j = ((kind_eq k j ≡ true) × (k ≡ j)) ⊎ ((kind_eq k j ≡ false) × (k ≢ j))
+
+kind_tells : (k j : Kind) → KindTells k j
+kind_tells k j = go (kind_eq k j) refl
+  where
+    go : (b : Bool) → kind_eq k j ≡ b → KindTells k j
+    go true e = inl (e, (kind_decides k j).0 e)
+    go false e = inr (e, λ f. (let t : kind_eq k j ≡ true = (kind_decides k j).1 f in cc))
+
+-- what is neither of the kind nor a pawn does not come to be of it
+kinds : (c : Color) (j k : Kind) (r s : ℕ) → min (distance_of c j k r s) 64 ≡ min (min (cond (kind_eq k j) (distance_of c j j r s) 64) (cond (kind_eq k Pawn) (distance_of c j Pawn r s) 64)) 64
+kinds c j k r s = elim (kind_tells k j) [
+  | inl u ↦ elim (kind_tells k Pawn) [ inl v ↦ (let a = own u.0 in let b = pawn v.0 in let e = same u.1 in let f = same_pawn v.1 in omega arith) | inr v ↦ (let a = own u.0 in let b = pawn v.0 in let e = same u.1 in omega arith) ]
+  | inr u ↦ elim (kind_tells k Pawn) [ inl v ↦ (let a = own u.0 in let b = pawn v.0 in let f = same_pawn v.1 in omega arith) | inr v ↦ (let a = own u.0 in let b = pawn v.0 in let e : distance_of c j k r s ≡ 64 = by_other c j k r s v.1 u.1 in omega arith) ]
+]
+  where
+    own : {b : Bool} → kind_eq k j ≡ b → cond (kind_eq k j) (distance_of c j j r s) 64 ≡ cond b (distance_of c j j r s) 64
+    own e = ap (λ (x : Bool). cond x (distance_of c j j r s) 64) e
+
+    pawn : {b : Bool} → kind_eq k Pawn ≡ b → cond (kind_eq k Pawn) (distance_of c j Pawn r s) 64 ≡ cond b (distance_of c j Pawn r s) 64
+    pawn e = ap (λ (x : Bool). cond x (distance_of c j Pawn r s) 64) e
+
+    same : k ≡ j → distance_of c j k r s ≡ distance_of c j j r s
+    same e = ap (λ (x : Kind). distance_of c j x r s) e
+
+    same_pawn : k ≡ Pawn → distance_of c j k r s ≡ distance_of c j Pawn r s
+    same_pawn e = ap (λ (x : Kind). distance_of c j x r s) e
+
+reach_split : (c : Color) (way : Option Wing) (j : Kind) (t q : ℕ) (o : Option Man) → min (reach_of c way j t q o) 64 ≡ min (min (reach_from (man c j) way j t q o) (reach_from (man c Pawn) way j t q o)) 64
+reach_split c way j t q None = refl
+reach_split c way j t q (Some m) = split c m.color
+  where
+    split : (a d : Color) → min (reach_of a way j t q (Some (man d m.kind))) 64 ≡ min (min (reach_from (man a j) way j t q (Some (man d m.kind))) (reach_from (man a Pawn) way j t q (Some (man d m.kind)))) 64
+    split White White = kinds White j m.kind (counted White way q) t
+    split Black Black = kinds Black j m.kind (counted Black way q) t
+    split White Black = refl
+    split Black White = refl
+
+nearest_split : (b : Placement) (c : Color) (way : Option Wing) (j : Kind) (t : ℕ) → nearest b c way j t ≡ min (nearest_man b (man c j) way j t) (nearest_man b (man c Pawn) way j t)
+unfolding nearest nearest_man
+nearest_split b c way j t = least_both (λ o. reach_of c way j t o (get b o)) (λ o. reach_from (man c j) way j t o (get b o)) (λ o. reach_from (man c Pawn) way j t o (get b o)) 64 (λ q. reach_split c way j t q (get b q))
+
+either_way : (n : ℕ) (x : Bool) → cond x n n ≡ n
+either_way n true = refl
+either_way n false = refl
+
+-- a king comes from no pawn
+no_king : (b : Placement) (c : Color) (way : Option Wing) (t n : ℕ) → least_of (λ o. reach_from (man c Pawn) way King t o (get b o)) n ≡ suc 63
+unfolding least_of
+no_king b c way t zero = refl
+no_king b c way t (suc n) = omega (arith, no_king b c way t n, either_way 64 (is_man (man c Pawn) (get b n)))
+
+pub nearest_low : (b : Placement) (c : Color) (way : Option Wing) (j : Kind) (t : ℕ) → nearest b c way j t ≤ 64
+unfolding nearest
+nearest_low b c way j t = least_le (λ o. reach_of c way j t o (get b o)) 64
+
+-- from men of the kind, and pawns where they can become of it
+pub nearest_promoted : (b : Placement) (c : Color) (way : Option Wing) (j : Kind) (t : ℕ) → is_promoted j ≡ true → nearest b c way j t ≡ min (min 64 (nearest_man b (man c j) way j t)) (nearest_man b (man c Pawn) way j t)
+unfolding nearest_man
+nearest_promoted b c way j t e = omega (arith, nearest_split b c way j t, least_le (λ o. reach_from (man c j) way j t o (get b o)) 64)
+
+pub nearest_plain : (b : Placement) (c : Color) (way : Option Wing) (j : Kind) (t : ℕ) → is_promoted j ≡ false → nearest b c way j t ≡ min 64 (nearest_man b (man c j) way j t)
+unfolding nearest_man
+nearest_plain b c way Pawn t e = omega (arith, nearest_split b c way Pawn t, least_le (λ o. reach_from (man c Pawn) way Pawn t o (get b o)) 64)
+nearest_plain b c way King t e = omega (arith, nearest_split b c way King t, no_king b c way t 64)
+nearest_plain b c way Knight t e = cc
+nearest_plain b c way Bishop t e = cc
+nearest_plain b c way Rook t e = cc
+nearest_plain b c way Queen t e = cc
+
+-- each pawn's way to the last rank takes at least so many steps
+
+least_above : (f : ℕ → ℕ) (n x : ℕ) → x ≤ 64 → ((q : ℕ) → q < n → x ≤ f q) → x ≤ least_of f n
+unfolding least_of
+least_above f zero x low h = low
+least_above f (suc n) x low h = omega (arith, least_above f n x low (λ q l. h q (omega arith)), h n (omega arith))
+
+last_rank_is : (c : Color) (f : ℕ) → f < 8 → rank_for c (last_at c f) ≡ 8
+last_rank_is White f low = omega arith
+last_rank_is Black f low = omega arith
+
+steps_above : (c : Color) (r s : ℕ) → rank_for c s ≡ 8 → soonest c r ≤ pawn_steps c r s
+unfolding pawn_steps
+steps_above c r s e = grind (arith)
+
+soonest_low : (c : Color) (r : ℕ) → soonest c r ≤ 64
+soonest_low c r = grind (arith)
+
+pawn_to_above : (to : ℕ → ℕ → ℕ) (c : Color) (r s : ℕ) → soonest c r ≤ pawn_to to c r s
+unfolding pawn_to
+pawn_to_above to c r s = elim (eqb_tells (rank_for c r) 8) [
+  | inl w ↦ (let e : pawn_to to c r s ≡ 64 = ap (λ (x : Bool). cond x 64 over) w.0 in omega (arith, soonest_low c r))
+  | inr w ↦ (let e : pawn_to to c r s ≡ over = ap (λ (x : Bool). cond x 64 over) w.0 in omega (arith, above))
+]
+  where
+    over : ℕ
+    over = least_of (λ f. pawn_steps c r (last_at c f) + to (last_at c f) s) 8
+
+    above : soonest c r ≤ least_of (λ f. pawn_steps c r (last_at c f) + to (last_at c f) s) 8
+    above = least_above (λ f. pawn_steps c r (last_at c f) + to (last_at c f) s) 8 (soonest c r) (soonest_low c r) (λ q low. omega (arith, steps_above c r (last_at c q) (last_rank_is c q low)))
+
+pub no_sooner : (c : Color) (j k : Kind) (r s : ℕ) → least_steps c j k r ≤ distance_of c j k r s
+no_sooner c Knight Pawn r s = pawn_to_above knight c r s
+no_sooner c Bishop Pawn r s = pawn_to_above bishop c r s
+no_sooner c Rook Pawn r s = pawn_to_above rook c r s
+no_sooner c Queen Pawn r s = pawn_to_above queen c r s
+no_sooner c Pawn Pawn r s = omega arith
+no_sooner c King Pawn r s = omega arith
+no_sooner c j Knight r s = omega arith
+no_sooner c j Bishop r s = omega arith
+no_sooner c j Rook r s = omega arith
+no_sooner c j Queen r s = omega arith
+no_sooner c j King r s = omega arith
+
+-- squares without the man leave the least as it is
+pub least_reached_from : (b : Placement) (m : Man) (way : Option Wing) (j : Kind) (t own low high : ℕ) → ((q : ℕ) → q < 64 → has own q ≡ is_man m (get b q)) → low ≤ high → high ≤ 64 → ((q : ℕ) → low ≤ q → q < high → has own q ≡ false) → least_of (λ o. reach_from m way j t o (get b o)) high ≡ least_of (λ o. reach_from m way j t o (get b o)) low
+least_reached_from b m way j t own low high is up most off =
+    least_skip (λ o. reach_from m way j t o (get b o)) low high up
+    (λ q x y. ap (λ (z : Bool). cond z (distance_of m.color j m.kind (counted m.color way q) t) 64) (sym (is q (omega arith)) ∙ off q x y))
+
+-- a square with the man counts
+pub least_reached_at : (b : Placement) (m : Man) (way : Option Wing) (j : Kind) (t own q : ℕ) → ((q : ℕ) → q < 64 → has own q ≡ is_man m (get b q)) → q < 64 → has own q ≡ true → least_of (λ o. reach_from m way j t o (get b o)) (q + 1) ≡ min (least_of (λ o. reach_from m way j t o (get b o)) q) (distance_of m.color j m.kind (counted m.color way q) t)
+least_reached_at b m way j t own q is low on =
+    let e : reach_from m way j t q (get b q) ≡ distance_of m.color j m.kind (counted m.color way q) t = ap (λ (z : Bool). cond z (distance_of m.color j m.kind (counted m.color way q) t) 64) (sym (is q low) ∙ on) in
+    omega (arith, e, least_of_more (λ o. reach_from m way j t o (get b o)) q)
