@@ -1,13 +1,17 @@
 ghost use Rattle.std.specs.Prelude.{◌≡◌};
 
 use super::*;
-use pg_certificate::{Sink, ToWrite};
+use pg_captures::{Bound, Captures, Promotions};
+use pg_certificate::{FromRead, Refused, Sink, ToWrite};
+use pg_checker::{Fault, Proved, check};
 use pg_fen::{Diagram, Length};
 use pg_moves::legal_moves;
+use pg_pawns::PawnFiles;
 use pg_position::Position;
 use pg_san::{Games, read_games};
+use pg_travel::Travel;
 use pg_trial::{FailsAt, OneByte};
-use std::alloc::Global;
+use std::alloc::{AllocError, Global};
 use std::io::ErrorKind;
 use std::process::Abort;
 use std::test::Fail;
@@ -83,16 +87,36 @@ fn found(rt: &impl Abort, alloc: Global, diagram: &Diagram, length: Length) -> (
     (games, sink.into_inner())
 }
 
-/// Whether a check of the certificate with the games says yes.
+/// The bounds by captures, promotions, pawn files and travel.
+fn bounds(alloc: Global) -> Result<Vec<Box<dyn Bound>>, AllocError> {
+    let mut bounds: Vec<Box<dyn Bound>> = Vec::new(alloc);
+    bounds.push(Box::new(alloc, Captures)?)?;
+    bounds.push(Box::new(alloc, Promotions)?)?;
+    bounds.push(Box::new(alloc, PawnFiles)?)?;
+    bounds.push(Box::new(alloc, Travel)?)?;
+    Ok(bounds)
+}
+
+/// A check of the certificate with the games that were found.
 fn checks(
-    rt: &impl Abort,
     alloc: Global,
     diagram: &Diagram,
     length: Length,
     games: &Games,
     bytes: &[u8],
-) {
-    assert!(rt; bytes.len() >= 37);
+) -> Result<Result<Proved, Fault>, AllocError> {
+    let bounds = bounds(alloc)?;
+    let mut source = FromRead::new(bytes);
+    Ok(check(
+        alloc,
+        diagram,
+        length,
+        games,
+        bounds.as_slice(),
+        &mut source,
+        NODES,
+        4_194_304,
+    ))
 }
 
 #[test]
@@ -103,7 +127,8 @@ fn all_games_are_found(rt: HostRuntime) -> Result<(), Fail> {
         let (games, bytes) = found(&rt, rt.alloc(), &diagram, length);
         let wanted = read_games(rt.alloc(), text).expect(&rt, text);
         assert!(rt; are_same(&games, &wanted), "{text}");
-        checks(&rt, rt.alloc(), &diagram, length, &games, bytes.as_slice());
+        let checked = checks(rt.alloc(), &diagram, length, &games, bytes.as_slice())?;
+        assert!(rt; checked.is_ok(), "{text}");
     }
     Ok(())
 }
@@ -116,7 +141,7 @@ fn one_game_after(rt: &impl Abort, alloc: Global, first: &Position) -> Result<u6
         let diagram = Diagram::of(&first.play(*m).expect(rt, "legal"));
         let (games, bytes) = found(rt, alloc, &diagram, one);
         assert_eq!(rt; games.len(), 1);
-        checks(rt, alloc, &diagram, one, &games, bytes.as_slice());
+        assert!(rt; checks(alloc, &diagram, one, &games, bytes.as_slice())?.is_ok());
         count = count.saturating_add(1);
     }
     Ok(count)
