@@ -1,6 +1,5 @@
 -- One tree after the other. Leads to the contracts of `tree_of` and `all_trees`.
-use Rattle.std.proofs.Common.{◌≡◌, ℕ, suc, ◌+◌, ◌-◌, ◌*◌, ◌<◌, ◌≤◌, Bool, true, false, List, [], ◌∷◌, ◌++◌, length, reverse, Option, Some, None, Result, Ok, Err, refl, sym, ◌∙◌, ap, subst, arith}
-use Rattle.std.specs.Io.KnownBytes.{Consumes}
+use Rattle.std.proofs.Common.{◌≡◌, ℕ, suc, ◌+◌, ◌-◌, ◌<◌, ◌≤◌, Bool, false, List, [], ◌++◌, length, reverse, Option, Result, Ok, Err, refl, sym, ◌∙◌, ap, subst, arith}
 use Rattle.pg_board.specs.Placement.{Placement}
 use Rattle.pg_position.specs.declared.state.State.{State}
 use Rattle.pg_position.specs.declared.moves.Move.{Move}
@@ -8,10 +7,10 @@ use Rattle.pg_checker.specs.Tree as tree
 use Rattle.pg_checker.specs.Walk as walk
 use Rattle.pg_checker.specs.Walk.{visit, ◌>>=◌}
 use Rattle.pg_checker.specs.Whole.{run}
-use Rattle.pg_checker.specs.Frames.{finish, enter, Stacked, Work}
+use Rattle.pg_checker.specs.Frames.{finish, enter, Stacked}
 use Rattle.pg_checker.specs.Chess.{Cuts, chess}
 use Rattle.pg_checker.specs.Machine.{path, frames_of, count_named, state_at, work_at}
-use Rattle.pg_checker.specs.Steps.{Answer, Goes, Stops, Says, TakesFew}
+use Rattle.pg_checker.specs.Steps.{Answer, Goes, Stops, Says}
 use Rattle.pg_checker.specs.declared.machine.Frame.{Frame}
 use Rattle.pg_checker.specs.declared.machine.Machine.{Machine}
 use Rattle.pg_checker.specs.declared.stop.Stop.{Stop}

@@ -103,3 +103,24 @@ read_is bytes fits = at (record_at bytes) refl
     at : (o : Result (Record × List ℕ) ReadFault) → record_at bytes ≡ o → taken bytes o ≡ renamed o
     at (Err e) h = refl
     at (Ok got) h = let d = record_takes bytes got.1 got.0 fits h in taken_yes bytes got (record_spelled got.0 d.0) d.1
+
+-- no refusal to read is one of bytes behind the certificate
+no_rest : (e : ReadFault) → fault_of e ≡ tree.Trailing → ⊥
+no_rest Truncated h = cc
+no_rest Magic h = cc
+no_rest (UnknownRecord b) h = cc
+no_rest Read h = cc
+no_rest Trailing h = cc
+no_rest Failed h = cc
+
+taken_whole : (bytes : List ℕ) (o : Result (Record × List ℕ) ReadFault) → taken bytes o ≡ Err tree.Trailing → ⊥
+taken_whole bytes (Err e) h = no_rest e (let d : fault_of e ≡ tree.Trailing = cc in d)
+taken_whole bytes (Ok got) h = at (is_spelled got.0 && bytes_eq bytes (spelling got.0 ++ got.1)) h
+  where
+    at : (b : Bool) → cond {A = Result (Record × List ℕ) (Fault Move)} b (Ok got) (Err tree.Truncated) ≡ Err tree.Trailing → ⊥
+    at true e = cc
+    at false e = cc
+
+pub read_no_trailing : (bytes : List ℕ) → read bytes ≡ Err tree.Trailing → ⊥
+unfolding read
+read_no_trailing bytes h = taken_whole bytes (record_at bytes) h

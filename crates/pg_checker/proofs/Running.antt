@@ -5,14 +5,13 @@ use Rattle.std.specs.Io.KnownBytes.{Consumes}
 use Rattle.pg_board.specs.Placement.{Placement}
 use Rattle.pg_position.specs.declared.state.State.{State}
 use Rattle.pg_position.specs.declared.moves.Move.{Move}
-use Rattle.pg_checker.specs.Tree as tree
-use Rattle.pg_checker.specs.Tree.{one_if, Rules}
+use Rattle.pg_checker.specs.Tree.{one_if}
 use Rattle.pg_checker.specs.Walk as walk
 use Rattle.pg_checker.specs.Walk.{◌>>=◌}
-use Rattle.pg_checker.specs.Frames.{resume, turn, finish, effort, Stacked, Work}
+use Rattle.pg_checker.specs.Frames.{resume, turn, finish, effort, Stacked}
 use Rattle.pg_checker.specs.Chess.{Cuts, chess}
 use Rattle.pg_checker.specs.Machine.{entry_of, frame_of, frames_of, count_named, state_at, work_at}
-use Rattle.pg_checker.specs.Steps.{Answer, Goes, Stops, Says, TakesFew}
+use Rattle.pg_checker.specs.Steps.{Answer, Goes, Stops, TakesFew}
 use Rattle.pg_checker.specs.declared.machine.Frame.{Frame}
 use Rattle.pg_checker.specs.declared.machine.Machine.{Machine}
 use Rattle.pg_checker.specs.declared.stop.Stop.{Stop}

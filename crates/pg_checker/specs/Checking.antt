@@ -9,7 +9,6 @@ use Rattle.pg_certificate.specs.declared.fault.ReadFault as reading_fault
 use Rattle.pg_certificate.specs.declared.fault.ReadFault.TheVariants as reading
 use Rattle.pg_certificate.specs.declared.record.Header.{Header}
 use Rattle.pg_certificate.specs.Reading.{header_at}
-use Rattle.pg_checker.specs.Tree as tree
 use Rattle.pg_checker.specs.Tree.{Rules}
 use Rattle.pg_checker.specs.Whole.{answer}
 use Rattle.pg_checker.specs.Check.{IsHeaded}

@@ -61,7 +61,7 @@ fn count_of_square(position: &Position, board: &Board, tried: u64, from: Square)
 }
 
 // How many legal moves there are.
-pub fn count_moves(position: &Position) -> u64
+pub(crate) fn count_moves(position: &Position) -> u64
     ensures { IsGameCount position.now 1 result }
 {
     let board = position.board();

@@ -5,7 +5,7 @@ ghost use Rattle.pg_moves.specs.Moves.{promotion_rank};
 use pg_board::Kind;
 
 // The promotion at a place in the order none, pawn, knight, bishop, rook, queen, king.
-pub fn promotion_at(rank: u8) -> Option<Kind>
+pub(crate) fn promotion_at(rank: u8) -> Option<Kind>
     requires { rank < 7 }
     ensures { promotion_rank result ≡ rank }
 {
@@ -21,7 +21,7 @@ pub fn promotion_at(rank: u8) -> Option<Kind>
 }
 
 // The place of a promotion in that order.
-pub fn rank_of(promotion: Option<Kind>) -> u8
+pub(crate) fn rank_of(promotion: Option<Kind>) -> u8
     ensures value { result ≡ promotion_rank promotion }
     ensures bound { result < 7 }
 {
@@ -37,7 +37,7 @@ pub fn rank_of(promotion: Option<Kind>) -> u8
 }
 
 // Where a count goes on: at its start from a value, after it from 0.
-pub fn resume_at(i: u8, start: u8, value: u8) -> u8
+pub(crate) fn resume_at(i: u8, start: u8, value: u8) -> u8
     ensures at { i ≡ start → result ≡ value }
     ensures past { i ≢ start → result ≡ 0 }
 {
@@ -46,7 +46,7 @@ pub fn resume_at(i: u8, start: u8, value: u8) -> u8
 
 // The square from which a search goes on where each square has one move: the square itself before its
 // move, the next after it.
-pub fn next_square(to: u8, rank: u8) -> u8
+pub(crate) fn next_square(to: u8, rank: u8) -> u8
     requires { to < 64 }
     ensures before { rank ≡ 0 → result ≡ to }
     ensures after { rank ≢ 0 → result ≡ to + 1 }

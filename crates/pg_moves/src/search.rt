@@ -84,7 +84,13 @@ fn first_to(position: &Position, kind: Kind, from: Square, to: Square, rank: u8)
 }
 
 // The first legal move of the man on a square, from this target and promotion on.
-pub fn first_of_man(position: &Position, kind: Kind, from: Square, to: u8, rank: u8) -> Option<Move>
+pub(crate) fn first_of_man(
+    position: &Position,
+    kind: Kind,
+    from: Square,
+    to: u8,
+    rank: u8,
+) -> Option<Move>
     requires stands { Stands position.now.board position.now.side kind from }
     requires target { to < 64 }
     requires place { rank ≤ 7 }
@@ -161,7 +167,13 @@ fn first_of_square(position: &Position, tried: u64, from: Square, to: u8, rank: 
 }
 
 // The first legal move from these squares and this promotion on.
-pub fn first_move(position: &Position, tried: u64, from: u8, to: u8, rank: u8) -> Option<Move>
+pub(crate) fn first_move(
+    position: &Position,
+    tried: u64,
+    from: u8,
+    to: u8,
+    rank: u8,
+) -> Option<Move>
     requires free { FreeOff position.now tried }
     requires source { from < 64 }
     requires target { to < 64 }

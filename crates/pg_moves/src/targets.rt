@@ -11,7 +11,7 @@ use pg_board::{Board, Color, Kind, Man, Square};
 use pg_position::{Position, Rights, reach};
 
 // The set of one square.
-pub fn single(square: Square) -> u64
+pub(crate) fn single(square: Square) -> u64
     ensures { IsSetOf result (λ q. q ≡ square) }
 {
     1u64 << square.index()
@@ -108,7 +108,7 @@ fn leaps(board: &Board, color: Color, from: Square) -> u64
 }
 
 // Where a man goes or captures, en passant and castling apart.
-pub fn advances(board: &Board, color: Color, kind: Kind, from: Square) -> u64
+pub(crate) fn advances(board: &Board, color: Color, kind: Kind, from: Square) -> u64
     ensures { IsSetOf result (Advances board.now color kind from) }
 {
     match kind {
@@ -118,7 +118,7 @@ pub fn advances(board: &Board, color: Color, kind: Kind, from: Square) -> u64
 }
 
 // Where a pawn captures en passant.
-pub fn passes(position: &Position, from: Square) -> u64
+pub(crate) fn passes(position: &Position, from: Square) -> u64
     ensures { IsSetOf result (Passes position.now from) }
 {
     match position.passed() {
@@ -157,7 +157,7 @@ fn castles(rights: &Rights, color: Color) -> u64
 }
 
 // Each square to which a legal move of the man may go, and maybe more.
-pub fn targets(position: &Position, kind: Kind, from: Square) -> u64
+pub(crate) fn targets(position: &Position, kind: Kind, from: Square) -> u64
     requires { Stands position.now.board position.now.side kind from }
     ensures { Covers position.now from result }
 {

@@ -11,7 +11,7 @@ use pg_position::{Position, attacked, reach};
 
 // The squares of the men whose moves are to be tried: all in check, else the king's and those that a
 // queen would see from there.
-pub fn tried(position: &Position) -> u64
+pub(crate) fn tried(position: &Position) -> u64
     ensures { FreeOff position.now result }
 {
     if position.in_check() {
@@ -75,7 +75,7 @@ fn attacked_without(board: &Board, from: Square, square: Square, by: Color) -> b
 
 // Whether the moves of the man are to be tried: it may leave its king attacked, promote or capture en
 // passant.
-pub fn must_try(position: &Position, tried: u64, kind: Kind, from: Square) -> bool
+pub(crate) fn must_try(position: &Position, tried: u64, kind: Kind, from: Square) -> bool
     requires free { FreeOff position.now tried }
     requires stands { Stands position.now.board position.now.side kind from }
     ensures { IsFalse result → (IsFree position.now kind from × IsOrdinary position.now kind from) }

@@ -34,7 +34,7 @@ fn first_man(square: Square) -> Option<Man>
 }
 
 // The board as a game begins.
-pub fn array_board() -> Board
+pub(crate) fn array_board() -> Board
     ensures { result ≡ array_board }
 {
     let mut board = Board::empty();

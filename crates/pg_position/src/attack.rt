@@ -12,14 +12,14 @@ use crate::square_sets::meets;
 use pg_board::{Board, Color, Kind, Man, Square, contains};
 
 // The man of a colour and a kind.
-pub fn man(color: Color, kind: Kind) -> Man
+pub(crate) fn man(color: Color, kind: Kind) -> Man
     ensures { result ≡ man color kind }
 {
     Man { color, kind }
 }
 
 /// The first square in a direction with a man; none where the ray is empty up to the edge.
-pub fn blocker(board: &Board, direction: Direction, square: Square) -> Option<Square>
+pub(crate) fn blocker(board: &Board, direction: Direction, square: Square) -> Option<Square>
     ensures { MatchOption result ((t : ℕ) → t < 64 → OnRay direction square t → get board.now t ≡ None) (λ x. IsBlocked board.now direction square x) }
 {
     let blockers = ray(direction, square) & board.occupied();
@@ -46,7 +46,7 @@ fn king_attacks(board: &Board, square: Square, by: Color) -> bool
 
 // Whether a pawn of the colour attacks the square: it does from where a pawn of the other colour on
 // the square would attack.
-pub fn pawn_attacks(board: &Board, square: Square, by: Color) -> bool
+pub(crate) fn pawn_attacks(board: &Board, square: Square, by: Color) -> bool
     ensures { IsTrue result ↔ AttackedBy board.now (man by Kind.Pawn) square }
 {
     meets(

@@ -12,7 +12,7 @@ use crate::square_sets::first_from;
 use crate::state::State;
 use pg_board::{Board, Color, Kind, Man, Square};
 
-pub fn stands(board: &Board, color: Color, kind: Kind, square: Square) -> bool
+pub(crate) fn stands(board: &Board, color: Color, kind: Kind, square: Square) -> bool
     ensures { IsTrue result ↔ Stands board.now color kind square }
 {
     match board.get(square) {
@@ -21,14 +21,14 @@ pub fn stands(board: &Board, color: Color, kind: Kind, square: Square) -> bool
     }
 }
 
-pub fn is_vacant(board: &Board, square: Square) -> bool
+pub(crate) fn is_vacant(board: &Board, square: Square) -> bool
     ensures { IsTrue result ↔ IsVacant board.now square }
 {
     board.get(square).is_none()
 }
 
 #[tactic(auto, unfolding(crate::specs::Step::IsEnemy))]
-pub fn is_enemy(board: &Board, color: Color, square: Square) -> bool
+pub(crate) fn is_enemy(board: &Board, color: Color, square: Square) -> bool
     ensures { IsTrue result ↔ IsEnemy board.now color square }
 {
     match board.get(square) {
@@ -38,7 +38,7 @@ pub fn is_enemy(board: &Board, color: Color, square: Square) -> bool
 }
 
 // Whether `to` is so many ranks forward.
-pub fn is_forward(color: Color, ranks: u8, from: Square, to: Square) -> bool
+pub(crate) fn is_forward(color: Color, ranks: u8, from: Square, to: Square) -> bool
     requires { ranks < 9 }
     ensures { IsTrue result ↔ IsForward color ranks from to }
 {
@@ -50,7 +50,7 @@ pub fn is_forward(color: Color, ranks: u8, from: Square, to: Square) -> bool
 
 // Whether a man may go to an empty square.
 #[tactic(auto, unfolding(crate::specs::Step::Goes))]
-pub fn goes(board: &Board, man: &Man, from: Square, to: Square) -> bool
+pub(crate) fn goes(board: &Board, man: &Man, from: Square, to: Square) -> bool
     ensures { IsTrue result ↔ Goes board.now man.now.color man.now.kind from to }
 {
     match man.kind {
@@ -59,7 +59,7 @@ pub fn goes(board: &Board, man: &Man, from: Square, to: Square) -> bool
     }
 }
 
-pub fn must_promote(kind: Kind, color: Color, square: Square) -> bool
+pub(crate) fn must_promote(kind: Kind, color: Color, square: Square) -> bool
     ensures { IsTrue result ↔ MustPromote kind color square }
 {
     kind == Kind::Pawn
@@ -70,7 +70,7 @@ pub fn must_promote(kind: Kind, color: Color, square: Square) -> bool
 }
 
 // Takes what stands on `from` to `to`.
-pub fn relocate(board: &mut Board, from: Square, to: Square)
+pub(crate) fn relocate(board: &mut Board, from: Square, to: Square)
     ensures { board.new ≡ relocated board.old from to }
 {
     match board.take(from) {
@@ -82,7 +82,7 @@ pub fn relocate(board: &mut Board, from: Square, to: Square)
 }
 
 // Whether a king of the colour is attacked.
-pub fn in_check(board: &Board, color: Color) -> bool
+pub(crate) fn in_check(board: &Board, color: Color) -> bool
     ensures { IsTrue result ↔ InCheck board.now color }
 {
     let kings = board.squares_of(man(color, Kind::King));
@@ -98,14 +98,14 @@ pub fn in_check(board: &Board, color: Color) -> bool
 
 impl State {
     // Whether a man of the colour attacks the square.
-    pub fn is_attacked(&self, square: Square, by: Color) -> bool
+    pub(crate) fn is_attacked(&self, square: Square, by: Color) -> bool
         ensures { IsTrue result ↔ Attacks self.now.board by square }
     {
         attacked(&self.board, square, by)
     }
 
     // Whether a king of the side to move is attacked.
-    pub fn is_in_check(&self) -> bool
+    pub(crate) fn is_in_check(&self) -> bool
         ensures { IsTrue result ↔ InCheck self.now.board self.now.side }
     {
         in_check(&self.board, self.side)

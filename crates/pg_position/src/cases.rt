@@ -15,7 +15,7 @@ use crate::rights::Wing;
 use crate::state::State;
 use pg_board::{Color, Kind, Square, contains};
 
-pub fn is_plain(state: &State, kind: Kind, m: &Move) -> bool
+pub(crate) fn is_plain(state: &State, kind: Kind, m: &Move) -> bool
     ensures { IsTrue result ↔ IsPlain state.now kind m.now }
 {
     m.promotion.is_none()
@@ -24,7 +24,7 @@ pub fn is_plain(state: &State, kind: Kind, m: &Move) -> bool
         && goes(&state.board, &man(state.side, kind), m.from, m.to)
 }
 
-pub fn is_capture(state: &State, kind: Kind, m: &Move) -> bool
+pub(crate) fn is_capture(state: &State, kind: Kind, m: &Move) -> bool
     ensures { IsTrue result ↔ IsCapture state.now kind m.now }
 {
     m.promotion.is_none()
@@ -34,7 +34,7 @@ pub fn is_capture(state: &State, kind: Kind, m: &Move) -> bool
 }
 
 // Whether a pawn on its home rank goes two forward over an empty square to an empty square.
-pub fn is_double_advance(state: &State, kind: Kind, m: &Move) -> bool
+pub(crate) fn is_double_advance(state: &State, kind: Kind, m: &Move) -> bool
     ensures { IsTrue result ↔ IsDoubleAdvance state.now kind m.now }
 {
     m.promotion.is_none()
@@ -54,7 +54,7 @@ pub fn is_double_advance(state: &State, kind: Kind, m: &Move) -> bool
         && is_vacant(&state.board, m.to)
 }
 
-pub fn is_en_passant(state: &State, kind: Kind, m: &Move) -> bool
+pub(crate) fn is_en_passant(state: &State, kind: Kind, m: &Move) -> bool
     ensures { IsTrue result ↔ IsEnPassant state.now kind m.now }
 {
     m.promotion.is_none()
@@ -63,7 +63,7 @@ pub fn is_en_passant(state: &State, kind: Kind, m: &Move) -> bool
         && contains(pawn_mask(state.side, m.from), m.to.index())
 }
 
-pub fn is_promotion(state: &State, kind: Kind, m: &Move, piece: Kind) -> bool
+pub(crate) fn is_promotion(state: &State, kind: Kind, m: &Move, piece: Kind) -> bool
     ensures { IsTrue result ↔ IsPromotion state.now kind m.now piece }
 {
     m.promotion == Some(piece)
@@ -76,7 +76,7 @@ pub fn is_promotion(state: &State, kind: Kind, m: &Move, piece: Kind) -> bool
                 && reaches(&state.board, man(state.side, kind), m.from, m.to)))
 }
 
-pub fn is_castling(state: &State, kind: Kind, m: &Move, wing: Wing) -> bool
+pub(crate) fn is_castling(state: &State, kind: Kind, m: &Move, wing: Wing) -> bool
     ensures { IsTrue result ↔ IsCastling state.now kind m.now wing }
 {
     let home = king_home(state.side);
@@ -119,7 +119,7 @@ fn quiet_way(state: &State, kind: Kind, m: &Move) -> Option<Way>
 }
 
 // The case that the move is, if it is one.
-pub fn way(state: &State, kind: Kind, m: &Move) -> Option<Way>
+pub(crate) fn way(state: &State, kind: Kind, m: &Move) -> Option<Way>
     ensures { MatchOption result ((w : Way) → ¬ IsWay state.now kind m.now w) (λ w. IsWay state.now kind m.now w) }
 {
     match m.promotion {

@@ -10,7 +10,7 @@ use crate::state::State;
 use pg_board::{Board, Color, Kind, Man, Square};
 
 // Whether each king of the colour is on this square.
-pub fn has_no_king_but(board: &Board, color: Color, king: Square) -> bool
+pub(crate) fn has_no_king_but(board: &Board, color: Color, king: Square) -> bool
     ensures { IsTrue result ↔ ((t : ℕ) → t < 64 → Stands board.now color Kind.King t → t ≡ king) }
 {
     for i in 0..64u8 {
@@ -22,7 +22,7 @@ pub fn has_no_king_but(board: &Board, color: Color, king: Square) -> bool
 }
 
 #[tactic(auto, unfolding(crate::specs::Position::HasOneKing, crate::specs::Position::IsOnlyKing))]
-pub fn has_one_king(board: &Board, color: Color) -> bool
+pub(crate) fn has_one_king(board: &Board, color: Color) -> bool
     ensures { IsTrue result ↔ HasOneKing board.now color }
 {
     match board.king(color) {
@@ -31,19 +31,19 @@ pub fn has_one_king(board: &Board, color: Color) -> bool
     }
 }
 
-pub fn has_good_kings(board: &Board) -> bool
+pub(crate) fn has_good_kings(board: &Board) -> bool
     ensures { IsTrue result ↔ KingsClause board.now }
 {
     has_one_king(board, Color::White) && has_one_king(board, Color::Black)
 }
 
-pub fn is_inner(square: Square) -> bool
+pub(crate) fn is_inner(square: Square) -> bool
     ensures { IsTrue result ↔ ((rank square ≢ 1) × (rank square ≢ 8)) }
 {
     square.rank() != 1 && square.rank() != 8
 }
 
-pub fn has_no_pawn_at_end(board: &Board, square: Square) -> bool
+pub(crate) fn has_no_pawn_at_end(board: &Board, square: Square) -> bool
     ensures { IsTrue result ↔ ((c : Color) → Stands board.now c Kind.Pawn square → (rank square ≢ 1) × (rank square ≢ 8)) }
 {
     match board.get(square) {
@@ -56,7 +56,7 @@ pub fn has_no_pawn_at_end(board: &Board, square: Square) -> bool
 }
 
 #[tactic(auto, unfolding(crate::specs::Position::PawnsClause))]
-pub fn has_good_pawns(board: &Board) -> bool
+pub(crate) fn has_good_pawns(board: &Board) -> bool
     ensures { IsTrue result ↔ PawnsClause board.now }
 {
     for i in 0..64u8 {
@@ -68,21 +68,21 @@ pub fn has_good_pawns(board: &Board) -> bool
 }
 
 #[tactic(auto, unfolding(crate::specs::Position::IsHome))]
-pub fn is_home(board: &Board, color: Color, wing: Wing) -> bool
+pub(crate) fn is_home(board: &Board, color: Color, wing: Wing) -> bool
     ensures { IsTrue result ↔ IsHome board.now color wing }
 {
     stands(board, color, Kind::King, king_home(color))
         && stands(board, color, Kind::Rook, rook_home(color, wing))
 }
 
-pub fn is_right_good(board: &Board, rights: &Rights, color: Color, wing: Wing) -> bool
+pub(crate) fn is_right_good(board: &Board, rights: &Rights, color: Color, wing: Wing) -> bool
     ensures { IsTrue result ↔ (holds rights.now color wing ≡ true → IsHome board.now color wing) }
 {
     !rights.holds(color, wing) || is_home(board, color, wing)
 }
 
 #[tactic(auto, unfolding(crate::specs::Position::RightsClause))]
-pub fn has_good_rights(board: &Board, rights: &Rights) -> bool
+pub(crate) fn has_good_rights(board: &Board, rights: &Rights) -> bool
     ensures { IsTrue result ↔ RightsClause board.now rights.now }
 {
     is_right_good(board, rights, Color::White, Wing::KingSide)
@@ -92,7 +92,7 @@ pub fn has_good_rights(board: &Board, rights: &Rights) -> bool
 }
 
 #[tactic(auto, unfolding(crate::specs::Position::IsPassed))]
-pub fn is_passed(board: &Board, side: Color, square: Square) -> bool
+pub(crate) fn is_passed(board: &Board, side: Color, square: Square) -> bool
     ensures { IsTrue result ↔ IsPassed board.now side square }
 {
     match side {
@@ -121,7 +121,7 @@ pub fn is_passed(board: &Board, side: Color, square: Square) -> bool
     }
 }
 
-pub fn has_good_passed(state: &State) -> bool
+pub(crate) fn has_good_passed(state: &State) -> bool
     ensures { IsTrue result ↔ PassedClause state.now }
 {
     match state.passed {

@@ -20,14 +20,14 @@ pub enum Direction {
 
 impl Direction {
     /// The place in the table of rays, 0 to 7.
-    pub fn place(self) -> usize
+    pub(crate) fn place(self) -> usize
         ensures { result ≡ place self }
     {
         self as usize
     }
 
     /// Whether it goes along a file or a rank, and not along a diagonal.
-    pub fn is_straight(self) -> bool
+    pub(crate) fn is_straight(self) -> bool
         ensures { result ≡ is_straight self }
     {
         match self {
@@ -37,7 +37,7 @@ impl Direction {
     }
 
     /// Whether the indices of its squares grow.
-    pub fn ascends(self) -> bool
+    pub(crate) fn ascends(self) -> bool
         ensures { result ≡ ascends self }
     {
         match self {
@@ -48,7 +48,7 @@ impl Direction {
     }
 
     /// The kind of man that moves this way, beside the queen.
-    pub fn slider(self) -> Kind
+    pub(crate) fn slider(self) -> Kind
         ensures { (k : Kind) → (slides self k ≡ true) ↔ ((k ≡ result) ⊎ (k ≡ Kind.Queen)) }
     {
         if self.is_straight() {

@@ -31,7 +31,7 @@ impl State {
     }
 }
 
-pub fn same_future(a: &State, b: &State) -> bool
+pub(crate) fn same_future(a: &State, b: &State) -> bool
     ensures { IsTrue result ↔ SameFuture a.now b.now }
 {
     a.board == b.board

@@ -7,7 +7,7 @@ use crate::rights::Wing;
 use pg_board::{Color, Square};
 
 // Where a game begins with the king: e1, e8.
-pub fn king_home(color: Color) -> Square
+pub(crate) fn king_home(color: Color) -> Square
     ensures { result ≡ king_home color }
 {
     match color {
@@ -17,7 +17,7 @@ pub fn king_home(color: Color) -> Square
 }
 
 // Where a game begins with the rook of a wing: h1, a1, h8, a8.
-pub fn rook_home(color: Color, wing: Wing) -> Square
+pub(crate) fn rook_home(color: Color, wing: Wing) -> Square
     ensures { result ≡ rook_home color wing }
 {
     match color {
@@ -33,7 +33,7 @@ pub fn rook_home(color: Color, wing: Wing) -> Square
 }
 
 // What the castling king crosses: f1, d1, f8, d8.
-pub fn king_crossed(color: Color, wing: Wing) -> Square
+pub(crate) fn king_crossed(color: Color, wing: Wing) -> Square
     ensures { result ≡ king_crossed color wing }
 {
     match color {
@@ -49,7 +49,7 @@ pub fn king_crossed(color: Color, wing: Wing) -> Square
 }
 
 // Where the castling king goes: g1, c1, g8, c8.
-pub fn king_target(color: Color, wing: Wing) -> Square
+pub(crate) fn king_target(color: Color, wing: Wing) -> Square
     ensures { result ≡ king_target color wing }
 {
     match color {

@@ -11,7 +11,7 @@ use pg_board::{Color, Kind, Square};
 
 /// The squares that a knight attacks (FIDE article 3.6).
 #[tactic(auto, using(crate::proofs::TableLemmas::knights_at))]
-pub fn knight_mask(square: Square) -> u64
+pub(crate) fn knight_mask(square: Square) -> u64
     ensures { (c : Color) → IsSetOf result (InPattern c Kind.Knight square) }
 {
     KNIGHT[square.index() as usize]
@@ -19,14 +19,14 @@ pub fn knight_mask(square: Square) -> u64
 
 /// The squares that a king attacks (FIDE article 3.8).
 #[tactic(auto, using(crate::proofs::TableLemmas::kings_at))]
-pub fn king_mask(square: Square) -> u64
+pub(crate) fn king_mask(square: Square) -> u64
     ensures { (c : Color) → IsSetOf result (InPattern c Kind.King square) }
 {
     KING[square.index() as usize]
 }
 
 /// The squares that a pawn of the colour attacks (FIDE article 3.7).
-pub fn pawn_mask(color: Color, square: Square) -> u64
+pub(crate) fn pawn_mask(color: Color, square: Square) -> u64
     ensures { IsSetOf result (InPattern color Kind.Pawn square) }
 {
     match color {
@@ -36,7 +36,7 @@ pub fn pawn_mask(color: Color, square: Square) -> u64
 }
 
 /// The squares in a direction, up to the edge of the board.
-pub fn ray(direction: Direction, square: Square) -> u64
+pub(crate) fn ray(direction: Direction, square: Square) -> u64
     ensures { IsSetOf result (OnRay direction square) }
 {
     RAYS[direction.place()][square.index() as usize]

@@ -45,7 +45,7 @@ impl State {
     }
 
     // The state after a legal move.
-    pub fn play(&self, m: &Move) -> Result<State, Illegal>
+    pub(crate) fn play(&self, m: &Move) -> Result<State, Illegal>
         requires { IsPosition self.now }
         ensures ok { IfOk result (λ q. IsPosition q × ((r : State) → (q ≡ r) ↔ Legal self.now m.now r)) }
         ensures err { IfErr result (λ e. IsCause self.now m.now e × ((r : State) → ¬ Legal self.now m.now r)) }

@@ -6,7 +6,7 @@ ghost use Rattle.pg_position.specs.SquareSets.{HasNoneFrom, IsFirstFrom};
 use pg_board::Square;
 
 /// Whether two sets share a square.
-pub fn meets(a: u64, b: u64) -> bool
+pub(crate) fn meets(a: u64, b: u64) -> bool
     ensures { IsTrue result ↔ ((q : ℕ) × (q < 64) × (has a q ≡ true) × (has b q ≡ true)) }
 {
     a & b != 0

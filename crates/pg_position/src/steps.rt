@@ -94,7 +94,7 @@ impl State {
     }
 
     // The state that the move leaves.
-    pub fn after(&self, kind: Kind, m: &Move, way: Way) -> State
+    pub(crate) fn after(&self, kind: Kind, m: &Move, way: Way) -> State
         requires position { IsPosition self.now }
         requires way { IsWay self.now kind m.now way }
         ensures { result ≡ after self.now m.now way }

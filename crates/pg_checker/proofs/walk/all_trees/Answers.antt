@@ -1,5 +1,4 @@
 -- One tree more is read, or stops.
-use Rattle.std.proofs.Common.{◌≡◌, ◌<◌, ◌≤◌, arith}
 use Rattle.pg_position.specs.Array.{array_state}
 use Rattle.pg_certificate.specs.Reader.{to_come}
 use Rattle.pg_checker.specs.Cuts.{cuts_by}

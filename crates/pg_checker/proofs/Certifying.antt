@@ -1,0 +1,152 @@
+-- The header, the walk and the answer. Leads to the contracts of `read_header`, `walk` and `check`.
+use Rattle.std.proofs.Common.{◌≡◌, ◌≢◌, ℕ, suc, ◌-◌, Bool, true, false, List, [], ◌∷◌, ◌++◌, map, Option, Some, None, IfSome, not, nat_eq, Result, Ok, Err, refl, sym, ◌∙◌, ap, subst}
+use Rattle.std.specs.Cmp.Lexicographic.{pointwise}
+use Rattle.std.proofs.lemmas.Bool.Decides.{Decides-eqb}
+use Rattle.std.proofs.lemmas.Slice.Eq.{slice_eq-Decides}
+use Rattle.std.specs.Io.KnownBytes.{Consumes, IsAtEnd, Keeps}
+use Rattle.pg_board.specs.Placement.{Placement}
+use Rattle.pg_position.specs.declared.state.State.{State}
+use Rattle.pg_position.specs.declared.moves.Move.{Move}
+use Rattle.pg_position.specs.Array.{array_state}
+use Rattle.pg_fen.specs.Packing.{packed_of}
+use Rattle.pg_certificate.specs.declared.fault.ReadFault.{ReadFault}
+use Rattle.pg_certificate.specs.declared.fault.ReadFault.TheVariants as reading
+use Rattle.pg_certificate.specs.declared.record.Header.{Header}
+use Rattle.pg_certificate.specs.Reading.{header_at, more_at}
+use Rattle.pg_certificate.specs.Reader.{ReaderState, to_come, Reads}
+use Rattle.pg_checker.specs.Tree as tree
+use Rattle.pg_checker.specs.Tree.{Rules}
+use Rattle.pg_checker.specs.Walk as walk
+use Rattle.pg_checker.specs.Walk.{◌>>=◌}
+use Rattle.pg_checker.specs.Whole.{run, answer, ended}
+use Rattle.pg_checker.specs.Chess.{Cuts, chess}
+use Rattle.pg_checker.specs.Judging.{stop_of}
+use Rattle.pg_checker.specs.Machine.{entry_of, state_at}
+use Rattle.pg_checker.specs.Steps.{Answer, Goes, Stops}
+use Rattle.pg_checker.specs.declared.machine.Machine.{Machine}
+use Rattle.pg_checker.specs.declared.stop.Cause.TheVariants as cause
+use Rattle.pg_checker.specs.declared.stop.Stop.{Stop}
+use Rattle.pg_checker.specs.declared.stop.Stop.TheVariants as stop
+use Rattle.pg_checker.proofs.Goings.{stops_as, stops_with}
+use Rattle.pg_checker.proofs.Planting.{runs_all}
+use Rattle.pg_checker.specs.Checking.{AreKnown}
+
+-- ---- the header
+-- with nothing held, what is to come is what is left
+pub left_alone : (reader : ReaderState) (left : Option (List ℕ)) → reader.held ≡ [] → to_come reader left ≡ left
+left_alone reader None e = refl
+left_alone reader (Some bytes) e = ap (λ (v : List ℕ). Some (v ++ bytes)) e
+
+other_length : (n : ℕ) (known after : Option (List ℕ)) (h : Header) → Reads {A = Header} header_at known after (Ok h) → h.plies ≢ n → IfSome known (λ bytes. (x : Header) × (rest : List ℕ) × (header_at bytes ≡ Ok (x, rest)) × (x.plies ≢ n))
+other_length n None after h read_ ne = tt
+other_length n (Some bytes) None h read_ ne = absurd read_
+other_length n (Some bytes) (Some rest) h read_ ne = (h, rest, read_, ne)
+
+pub header_length : (n : ℕ) (reader : ReaderState) (left after : Option (List ℕ)) (h : Header) → reader.held ≡ [] → Reads {A = Header} header_at (to_come reader left) after (Ok h) → h.plies ≢ n → IfSome left (λ bytes. (x : Header) × (rest : List ℕ) × (header_at bytes ≡ Ok (x, rest)) × (x.plies ≢ n))
+header_length n reader left after h e read_ ne = other_length n left after h (subst (λ (v : Option (List ℕ)). Reads {A = Header} header_at v after (Ok h)) (left_alone reader left e) read_) ne
+
+other_diagram : (d : Placement) (n : ℕ) (known after : Option (List ℕ)) (h : Header) → Reads {A = Header} header_at known after (Ok h) → h.plies ≡ n → h.diagram ≢ packed_of d → IfSome known (λ bytes. (x : Header) × (rest : List ℕ) × (header_at bytes ≡ Ok (x, rest)) × (x.plies ≡ n) × (x.diagram ≢ packed_of d))
+other_diagram d n None after h read_ e ne = tt
+other_diagram d n (Some bytes) None h read_ e ne = absurd read_
+other_diagram d n (Some bytes) (Some rest) h read_ e ne = (h, rest, read_, e, ne)
+
+pub header_diagram : (d : Placement) (n : ℕ) (reader : ReaderState) (left after : Option (List ℕ)) (h : Header) → reader.held ≡ [] → Reads {A = Header} header_at (to_come reader left) after (Ok h) → h.plies ≡ n → h.diagram ≢ packed_of d → IfSome left (λ bytes. (x : Header) × (rest : List ℕ) × (header_at bytes ≡ Ok (x, rest)) × (x.plies ≡ n) × (x.diagram ≢ packed_of d))
+header_diagram d n reader left after h e read_ same ne = other_diagram d n left after h (subst (λ (v : Option (List ℕ)). Reads {A = Header} header_at v after (Ok h)) (left_alone reader left e) read_) same ne
+
+pub unequal : (a b p : List ℕ) (r : Bool) → r ≡ not (pointwise nat_eq a b) → r ≡ true → b ≡ p → a ≢ p
+unequal a b p r e t is = λ same.
+    let yes : pointwise nat_eq a b ≡ true = (slice_eq-Decides Decides-eqb a b (pointwise nat_eq a b) refl).1 (same ∙ sym is) in
+    let no_ : true ≡ not (pointwise nat_eq a b) = sym t ∙ e in
+    refuted (pointwise nat_eq a b) yes no_
+  where
+    refuted : (b : Bool) → b ≡ true → true ≡ not b → ⊥
+    refuted true y n = cc
+    refuted false y n = cc
+
+-- ---- the walk behind the header
+stops_unknown : {A : Type 0} (room : ℕ) (walk_ : Answer A) (s : Stop) → Stops None room walk_ s
+unfolding Stops
+stops_unknown room walk_ stop.Memory = tt
+stops_unknown room walk_ stop.Read = tt
+stops_unknown room walk_ (stop.Because c) = tt
+
+stops_read : {A : Type 0} (known : Option (List ℕ)) (room : ℕ) (walk_ : Answer A) → Stops known room walk_ stop.Read
+unfolding Stops
+stops_read None room walk_ = tt
+stops_read (Some bytes) room walk_ = tt
+
+module _ (d : Placement) (l : ℕ) (games : List (List Move)) (cut : Cuts) where
+  abbrev answers : ℕ → Answer (ℕ × ℕ)
+  answers records bytes room = answer (chess d l games cut) array_state records room bytes
+
+  fresh : (m : Machine) (records : ℕ) → m.table.entries ≡ [] → m.records ≡ records → (bytes : List ℕ) (room : ℕ) → answers records bytes room ≡ (runs_all d l games cut array_state m bytes room >>= (λ s. ended (chess d l games cut) records room s.rest s))
+  unfolding chess answer
+  fresh m records none same bytes room = λ i. run (chess d l games cut) (suc l) 0 array_state (record { rest = bytes; entries = map entry_of (sym none i); records = sym same i; room = room }) >>= (λ s. ended (chess d l games cut) records room s.rest s)
+
+  pub answers_stop : (known : Option (List ℕ)) (m : Machine) (records : ℕ) (s : Stop) → m.table.entries ≡ [] → m.records ≡ records → Stops known m.room (runs_all d l games cut array_state m) s → Stops known m.room (answers records) s
+  answers_stop known m records s none same h =
+      stops_as known m.room (λ bytes room. runs_all d l games cut array_state m bytes room >>= (λ t. ended (chess d l games cut) records room t.rest t)) (answers records) s (fresh m records none same)
+      (stops_with known m.room (runs_all d l games cut array_state m) (λ room t. ended (chess d l games cut) records room t.rest t) s h)
+
+  -- where bytes are taken and others are left, the answer is that of the end
+  comes_to : (known after : Option (List ℕ)) (m new : Machine) (records : ℕ) → m.table.entries ≡ [] → m.records ≡ records → (goes : Goes known after m.room new.room (runs_all d l games cut array_state m) (λ rest room. Ok (state_at new rest room)))
+      → (rest : List ℕ) → answers records (goes.taken ++ rest) m.room ≡ ended (chess d l games cut) records m.room rest (state_at new rest new.room)
+  comes_to known after m new records none same goes rest =
+      fresh m records none same (goes.taken ++ rest) m.room
+      ∙ ap (λ (x : Result (walk.State State) (tree.Fault Move)). x >>= (λ s. ended (chess d l games cut) records m.room s.rest s))
+      (ap (λ (room : ℕ). runs_all d l games cut array_state m (goes.taken ++ rest) room) goes.spends ∙ goes.same rest new.room)
+
+  -- the bytes end there
+  pub answers_end : (known after later : Option (List ℕ)) (m new : Machine) (records : ℕ) → m.table.entries ≡ [] → m.records ≡ records → Goes known after m.room new.room (runs_all d l games cut array_state m) (λ rest room. Ok (state_at new rest room))
+      → (a b : ℕ) → a ≡ records - new.records → b ≡ m.room - new.room → Keeps after later → IsAtEnd later → (bytes : List ℕ) × AreKnown known bytes × (answers records bytes m.room ≡ Ok (a, b))
+  answers_end known after later m new records none same goes a b ea eb kept end = (goes.taken ++ [], all known after later goes.taken goes.consumes kept end, comes_to known after m new records none same goes [] ∙ (λ i. Ok (sym ea i, sym eb i)))
+    where
+      all : (known after later : Option (List ℕ)) (xs : List ℕ) → Consumes known after xs → Keeps after later → IsAtEnd later → AreKnown known (xs ++ [])
+      all None after later xs h k e = tt
+      all (Some bytes) None later xs h k e = absurd h
+      all (Some bytes) (Some ys) None xs h k e = absurd k
+      all (Some bytes) (Some ys) (Some zs) xs h k e = h ∙ ap (λ (v : List ℕ). xs ++ v) (sym k ∙ e)
+
+  -- bytes are left there
+  pub answers_more : (known after later : Option (List ℕ)) (m new : Machine) (records : ℕ) → m.table.entries ≡ [] → m.records ≡ records → Goes known after m.room new.room (runs_all d l games cut array_state m) (λ rest room. Ok (state_at new rest room))
+      → Reads {A = Bool} more_at after later (Ok true) → Stops known m.room (answers records) (stop.Because cause.Trailing)
+  unfolding Stops
+  answers_more None after later m new records none same goes read_ = tt
+  answers_more (Some bytes) None later m new records none same goes read_ = absurd (goes.consumes)
+  answers_more (Some bytes) (Some ys) None m new records none same goes read_ = absurd read_
+  answers_more (Some bytes) (Some ys) (Some zs) m new records none same goes read_ = ap (λ (v : List ℕ). answers records v m.room) goes.consumes ∙ comes_to (Some bytes) (Some ys) m new records none same goes ys ∙ trailing ys read_
+    where
+      trailing : (ys : List ℕ) → more_at ys ≡ Ok (true, zs) → ended (chess d l games cut) records m.room ys (state_at new ys new.room) ≡ Err tree.Trailing
+      trailing [] e = absurd (let both : (true, zs) ≡ (false, []) = cc in let t : true ≡ false = ap (λ (v : Bool × List ℕ). v.0) both in cc)
+      trailing (y ∷ rest) e = refl
+
+  -- the end can not be read
+  pub answers_unread : (known after later : Option (List ℕ)) (m new : Machine) (records : ℕ) (e : ReadFault) (s : Stop) → s ≡ stop_of e → m.table.entries ≡ [] → m.records ≡ records → Goes known after m.room new.room (runs_all d l games cut array_state m) (λ rest room. Ok (state_at new rest room))
+      → Reads {A = Bool} more_at after later (Err e) → Stops known m.room (answers records) s
+  answers_unread known after later m new records e s is none same goes read_ = subst (Stops known m.room (answers records)) (sym is) (go known after e goes.consumes read_)
+    where
+      never : {A : Type 0} (ys : List ℕ) (f : ReadFault) → more_at ys ≡ Err f → A
+      never [] f e = absurd (cc)
+      never (y ∷ rest) f e = absurd (cc)
+
+      go : (known after : Option (List ℕ)) (e : ReadFault) → Consumes known after goes.taken → Reads {A = Bool} more_at after later (Err e) → Stops known m.room (answers records) (stop_of e)
+      go known after reading.Read h r = stops_read known m.room (answers records)
+      go known after reading.Failed h r = stops_read known m.room (answers records)
+      go None after reading.Truncated h r = stops_unknown m.room (answers records) (stop.Because cause.Truncated)
+      go None after reading.Magic h r = stops_unknown m.room (answers records) (stop.Because cause.Truncated)
+      go None after reading.Trailing h r = stops_unknown m.room (answers records) (stop.Because cause.Truncated)
+      go None after (reading.UnknownRecord b) h r = stops_unknown m.room (answers records) (stop.Because (cause.UnknownRecord b))
+      go (Some bytes) None e h r = absurd h
+      go (Some bytes) (Some ys) reading.Truncated h r = never ys reading.Truncated r
+      go (Some bytes) (Some ys) reading.Magic h r = never ys reading.Magic r
+      go (Some bytes) (Some ys) reading.Trailing h r = never ys reading.Trailing r
+      go (Some bytes) (Some ys) (reading.UnknownRecord b) h r = never ys (reading.UnknownRecord b) r
+
+-- nothing is left in the source
+pub end_left : (reader : ReaderState) (left : Option (List ℕ)) → IsAtEnd (to_come reader left) → IsAtEnd left
+end_left reader None h = tt
+end_left reader (Some bytes) h = none_behind reader.held bytes h
+  where
+    none_behind : (xs ys : List ℕ) → xs ++ ys ≡ [] → ys ≡ []
+    none_behind [] ys e = e
+    none_behind (x ∷ xs) ys e = absurd (cc)

@@ -1,0 +1,41 @@
+-- What the parts answer, put together.
+use Rattle.std.proofs.Common.{ℕ, Ok, Err, sym, subst}
+use Rattle.pg_certificate.specs.Reader.{to_come}
+use Rattle.pg_checker.specs.Chess.{chess}
+use Rattle.pg_checker.specs.Check.{Accepts, Refuses}
+use Rattle.pg_checker.specs.declared.fault.Fault.{Fault}
+use Rattle.pg_checker.specs.Checking.{Answers, Headed, HeaderFails}
+use Rattle.pg_checker.specs.Cuts.{cuts_by}
+use Rattle.pg_checker.proofs.Verdicts.{sound_cuts, listed_accepts, listed_refuses, header_accepts, header_refuses, walk_headline, walk_accepts, stop_accepts, stop_refuses}
+use Rattle.pg_checker.proofs.certify.check.Goals as goal
+
+pub returns-in-Err-clause-accepted : goal.returns-in-Err-clause-accepted
+returns-in-Err-clause-accepted g c = listed_accepts c.args.diagram.now c.args.length c.args.games.now (cuts_by (λ b. (goal.Bound-dyn g (b.vtable, b.value)).code_of b.value) (λ b. (goal.Bound-dyn g (b.vtable, b.value)).excluded b.value) c.args.diagram.now c.args.bounds.now) c.args.max_records c.args.max_named (g.R.Source.left c.args.source.now) c.in-Err.fault c.in-Err.ensures.err
+
+pub returns-in-Err-clause-refused : goal.returns-in-Err-clause-refused
+returns-in-Err-clause-refused g c = listed_refuses c.args.diagram.now c.args.length c.args.games.now (cuts_by (λ b. (goal.Bound-dyn g (b.vtable, b.value)).code_of b.value) (λ b. (goal.Bound-dyn g (b.vtable, b.value)).excluded b.value) c.args.diagram.now c.args.bounds.now) c.in-Err.fault c.in-Err.ensures.err
+
+pub returns-in-Err-read_header-clause-accepted : goal.returns-in-Err-read_header-clause-accepted
+returns-in-Err-read_header-clause-accepted g c = header_accepts c.args.diagram.now c.args.length c.args.games.now (cuts_by (λ b. (goal.Bound-dyn g (b.vtable, b.value)).code_of b.value) (λ b. (goal.Bound-dyn g (b.vtable, b.value)).excluded b.value) c.args.diagram.now c.args.bounds.now) c.args.max_records c.args.max_named (g.R.Source.left c.args.source.now) (g.R.Source.has_failed c.read_header.new.source) c.in-Err-read_header.fault (subst (λ (n : ℕ). HeaderFails c.args.diagram.now n (g.R.Source.left c.args.source.now) (g.R.Source.has_failed c.read_header.new.source) c.in-Err-read_header.fault) c.plies.ensures.value c.in-Err-read_header.ensures.err)
+
+pub returns-in-Err-read_header-clause-refused : goal.returns-in-Err-read_header-clause-refused
+returns-in-Err-read_header-clause-refused g c = header_refuses c.args.diagram.now c.args.length c.args.games.now (cuts_by (λ b. (goal.Bound-dyn g (b.vtable, b.value)).code_of b.value) (λ b. (goal.Bound-dyn g (b.vtable, b.value)).excluded b.value) c.args.diagram.now c.args.bounds.now) c.args.max_records c.args.max_named (g.R.Source.left c.args.source.now) (g.R.Source.has_failed c.read_header.new.source) c.in-Err-read_header.fault c.in-Ok.ensures.ok (subst (λ (n : ℕ). HeaderFails c.args.diagram.now n (g.R.Source.left c.args.source.now) (g.R.Source.has_failed c.read_header.new.source) c.in-Err-read_header.fault) c.plies.ensures.value c.in-Err-read_header.ensures.err)
+
+pub returns-in-Ok-walk-clause-headline : goal.returns-in-Ok-walk-clause-headline
+returns-in-Ok-walk-clause-headline g c =
+    walk_headline c.args.diagram.now c.args.length c.args.games.now (cuts_by (λ b. (goal.Bound-dyn g (b.vtable, b.value)).code_of b.value) (λ b. (goal.Bound-dyn g (b.vtable, b.value)).excluded b.value) c.args.diagram.now c.args.bounds.now) (g.R.Source.left c.args.source.now) (to_come c.read_header.new.reader (g.R.Source.left c.read_header.new.source)) c.args.max_records c.args.max_named c.in-Ok-walk.proved
+    (sound_cuts (λ b. (goal.Bound-dyn g (b.vtable, b.value)).code_of b.value) (λ b. (goal.Bound-dyn g (b.vtable, b.value)).excluded b.value) c.args.diagram.now c.args.bounds.now (λ b p k valid h. (g.dyn-1-met b.vtable).0.sound b.value c.args.diagram.now p k valid h))
+    c.in-Ok.ensures.ok (subst (λ (n : ℕ). Answers (chess c.args.diagram.now n c.args.games.now (cuts_by (λ b. (goal.Bound-dyn g (b.vtable, b.value)).code_of b.value) (λ b. (goal.Bound-dyn g (b.vtable, b.value)).excluded b.value) c.args.diagram.now c.args.bounds.now)) (to_come c.read_header.new.reader (g.R.Source.left c.read_header.new.source)) c.args.max_records c.args.max_named (Ok c.in-Ok-walk.proved)) c.plies.ensures.value c.in-Ok-walk.ensures.says)
+
+pub returns-in-Ok-walk-clause-accepted : goal.returns-in-Ok-walk-clause-accepted
+returns-in-Ok-walk-clause-accepted g c = walk_accepts c.args.diagram.now c.args.length c.args.games.now (cuts_by (λ b. (goal.Bound-dyn g (b.vtable, b.value)).code_of b.value) (λ b. (goal.Bound-dyn g (b.vtable, b.value)).excluded b.value) c.args.diagram.now c.args.bounds.now) (g.R.Source.left c.args.source.now) (to_come c.read_header.new.reader (g.R.Source.left c.read_header.new.source)) c.args.max_records c.args.max_named c.in-Ok-walk.proved c.in-Ok.ensures.ok (subst (λ (n : ℕ). Headed c.args.diagram.now n (g.R.Source.left c.args.source.now) (to_come c.read_header.new.reader (g.R.Source.left c.read_header.new.source))) c.plies.ensures.value c.in-Ok-read_header.ensures.ok) (subst (λ (n : ℕ). Answers (chess c.args.diagram.now n c.args.games.now (cuts_by (λ b. (goal.Bound-dyn g (b.vtable, b.value)).code_of b.value) (λ b. (goal.Bound-dyn g (b.vtable, b.value)).excluded b.value) c.args.diagram.now c.args.bounds.now)) (to_come c.read_header.new.reader (g.R.Source.left c.read_header.new.source)) c.args.max_records c.args.max_named (Ok c.in-Ok-walk.proved)) c.plies.ensures.value c.in-Ok-walk.ensures.says)
+
+pub returns-in-Err-walk-clause-accepted : goal.returns-in-Err-walk-clause-accepted
+returns-in-Err-walk-clause-accepted g c =
+    subst (λ (e : Fault). Accepts (chess c.args.diagram.now c.args.length c.args.games.now (cuts_by (λ b. (goal.Bound-dyn g (b.vtable, b.value)).code_of b.value) (λ b. (goal.Bound-dyn g (b.vtable, b.value)).excluded b.value) c.args.diagram.now c.args.bounds.now)) c.args.diagram.now c.args.games.now c.args.max_records c.args.max_named (g.R.Source.left c.args.source.now) (Err e)) (sym c.fault_of.ensures)
+    (stop_accepts c.args.diagram.now c.args.length c.args.games.now (cuts_by (λ b. (goal.Bound-dyn g (b.vtable, b.value)).code_of b.value) (λ b. (goal.Bound-dyn g (b.vtable, b.value)).excluded b.value) c.args.diagram.now c.args.bounds.now) c.args.max_records c.args.max_named (g.R.Source.left c.args.source.now) (to_come c.read_header.new.reader (g.R.Source.left c.read_header.new.source)) c.in-Err-walk.stop (subst (λ (n : ℕ). Headed c.args.diagram.now n (g.R.Source.left c.args.source.now) (to_come c.read_header.new.reader (g.R.Source.left c.read_header.new.source))) c.plies.ensures.value c.in-Ok-read_header.ensures.ok) (subst (λ (n : ℕ). Answers (chess c.args.diagram.now n c.args.games.now (cuts_by (λ b. (goal.Bound-dyn g (b.vtable, b.value)).code_of b.value) (λ b. (goal.Bound-dyn g (b.vtable, b.value)).excluded b.value) c.args.diagram.now c.args.bounds.now)) (to_come c.read_header.new.reader (g.R.Source.left c.read_header.new.source)) c.args.max_records c.args.max_named (Err c.in-Err-walk.stop)) c.plies.ensures.value c.in-Err-walk.ensures.says))
+
+pub returns-in-Err-walk-clause-refused : goal.returns-in-Err-walk-clause-refused
+returns-in-Err-walk-clause-refused g c =
+    subst (λ (e : Fault). Refuses (chess c.args.diagram.now c.args.length c.args.games.now (cuts_by (λ b. (goal.Bound-dyn g (b.vtable, b.value)).code_of b.value) (λ b. (goal.Bound-dyn g (b.vtable, b.value)).excluded b.value) c.args.diagram.now c.args.bounds.now)) c.args.diagram.now c.args.games.now c.args.max_records c.args.max_named (g.R.Source.left c.args.source.now) (g.R.Source.has_failed c.walk.new.source) (Err e)) (sym c.fault_of.ensures)
+    (stop_refuses c.args.diagram.now c.args.length c.args.games.now (cuts_by (λ b. (goal.Bound-dyn g (b.vtable, b.value)).code_of b.value) (λ b. (goal.Bound-dyn g (b.vtable, b.value)).excluded b.value) c.args.diagram.now c.args.bounds.now) c.args.max_records c.args.max_named (g.R.Source.left c.args.source.now) (to_come c.read_header.new.reader (g.R.Source.left c.read_header.new.source)) (g.R.Source.has_failed c.walk.new.source) c.in-Err-walk.stop c.in-Ok.ensures.ok (subst (λ (n : ℕ). Headed c.args.diagram.now n (g.R.Source.left c.args.source.now) (to_come c.read_header.new.reader (g.R.Source.left c.read_header.new.source))) c.plies.ensures.value c.in-Ok-read_header.ensures.ok) c.in-Err-walk.ensures.fails (subst (λ (n : ℕ). Answers (chess c.args.diagram.now n c.args.games.now (cuts_by (λ b. (goal.Bound-dyn g (b.vtable, b.value)).code_of b.value) (λ b. (goal.Bound-dyn g (b.vtable, b.value)).excluded b.value) c.args.diagram.now c.args.bounds.now)) (to_come c.read_header.new.reader (g.R.Source.left c.read_header.new.source)) c.args.max_records c.args.max_named (Err c.in-Err-walk.stop)) c.plies.ensures.value c.in-Err-walk.ensures.says))
