@@ -54,11 +54,11 @@ fn write<W: Sink>(
 /// writes a certificate of version 1 that no others do. The answer is trusted for nothing: a check
 /// of what was written, with the games that were found, says whether it is right.
 ///
-/// Legal moves are visited in canonical order, in a tree for each length from 0 to the stated one. A
-/// node, a position that is visited with at least one ply left, is cut where a bound excludes;
-/// otherwise, where at least two plies are left, it refers to an equal node that closed with no game
-/// below it, if there is one, or it is named, up to 4,194,304 nodes. What the search grows by is
-/// taken from `alloc`.
+/// Legal moves (FIDE article 3) are visited in canonical order, in a tree for each length from 0 to
+/// the stated one. A node, a position that is visited with at least one ply left, is cut where a bound
+/// excludes; otherwise, where at least two plies are left, it refers to an equal node that closed with
+/// no game below it, if there is one, or it is named, up to 4,194,304 nodes. What the search grows by
+/// is taken from `alloc`.
 ///
 /// # Errors
 /// `Budget` where a node more than `max_nodes` would be visited; `Shorter` with the plies of a game

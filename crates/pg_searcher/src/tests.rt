@@ -1,5 +1,3 @@
-ghost use Rattle.std.specs.Prelude.{◌≡◌};
-
 use super::*;
 use pg_captures::{Bound, Captures, Promotions};
 use pg_certificate::{FromRead, Refused, Sink, ToWrite};
@@ -87,17 +85,8 @@ fn found(rt: &impl Abort, alloc: Global, diagram: &Diagram, length: Length) -> (
     (games, sink.into_inner())
 }
 
-/// The bounds by captures, promotions, pawn files and travel.
-fn bounds(alloc: Global) -> Result<Vec<Box<dyn Bound>>, AllocError> {
-    let mut bounds: Vec<Box<dyn Bound>> = Vec::new(alloc);
-    bounds.push(Box::new(alloc, Captures)?)?;
-    bounds.push(Box::new(alloc, Promotions)?)?;
-    bounds.push(Box::new(alloc, PawnFiles)?)?;
-    bounds.push(Box::new(alloc, Travel)?)?;
-    Ok(bounds)
-}
-
-/// A check of the certificate with the games that were found.
+/// What a check of the certificate answers, with the games that were found and the bounds by
+/// captures, promotions, pawn files and travel.
 fn checks(
     alloc: Global,
     diagram: &Diagram,
@@ -105,7 +94,11 @@ fn checks(
     games: &Games,
     bytes: &[u8],
 ) -> Result<Result<Proved, Fault>, AllocError> {
-    let bounds = bounds(alloc)?;
+    let mut bounds: Vec<Box<dyn Bound>> = Vec::new(alloc);
+    bounds.push(Box::new(alloc, Captures)?)?;
+    bounds.push(Box::new(alloc, Promotions)?)?;
+    bounds.push(Box::new(alloc, PawnFiles)?)?;
+    bounds.push(Box::new(alloc, Travel)?)?;
     let mut source = FromRead::new(bytes);
     Ok(check(
         alloc,
@@ -159,37 +152,167 @@ fn one_game_leads_to_each_placement_after_two_plies(rt: HostRuntime) -> Result<(
     Ok(())
 }
 
+/// Two sound problems, each with one game of eight plies, and how many nodes a search visits at most.
+const PROBLEMS: [(&str, u64); 2] = [
+    ("r1bqkbnr/ppp2ppp/3p4/8/8/8/PPPPPPPP/R1BQKBNR", 81_000),
+    (SECOND_PROBLEM, 6_200),
+];
+
+const SECOND_PROBLEM: &str = "rnbqkb1r/ppp2ppp/8/8/8/8/PPPPPPPP/RNBQKB1R";
+
+#[test]
+fn problems_are_settled_with_few_nodes(rt: HostRuntime) -> Result<(), Fail> {
+    let four = length(&rt, "4.0");
+    for (placement, nodes) in PROBLEMS {
+        let diagram = diagram(&rt, placement);
+        let mut sink = ToWrite::new(Vec::new(rt.alloc()));
+        let games = search(rt.alloc(), &diagram, four, nodes, &mut sink).expect(&rt, placement);
+        assert_eq!(rt; games.len(), 1, "{placement}");
+        let bytes = sink.into_inner();
+        let checked = checks(rt.alloc(), &diagram, four, &games, bytes.as_slice())?;
+        assert!(rt; checked.is_ok(), "{placement}");
+    }
+    Ok(())
+}
+
 #[test]
 fn limits(rt: HostRuntime) {
     let (placement, plies, _) = CASES[2];
     let e4_e5 = diagram(&rt, placement);
-    let two = length(&rt, plies);
+    let one = length(&rt, plies);
     assert_eq!(rt;
-        fault(rt.alloc(), &e4_e5, two, 0),
+        fault(rt.alloc(), &e4_e5, one, 0),
         Some(SearchFault::Budget)
     );
     assert_eq!(rt;
-        fault(rt.alloc(), &e4_e5, two, 21),
+        fault(rt.alloc(), &e4_e5, one, 21),
         Some(SearchFault::Budget)
     );
-    assert_eq!(rt; fault(rt.alloc(), &e4_e5, two, 22), None);
+    assert_eq!(rt; fault(rt.alloc(), &e4_e5, one, 22), None);
+    let (array, plies, _) = CASES[0];
+    let array = diagram(&rt, array);
+    assert_eq!(rt; fault(rt.alloc(), &array, length(&rt, plies), 0), None);
+}
+
+#[test]
+fn a_shorter_game(rt: HostRuntime) {
+    let two = length(&rt, "2.0");
     let array = diagram(&rt, ARRAY);
-    let four = length(&rt, "2.0");
     assert_eq!(rt;
-        fault(rt.alloc(), &array, four, 0),
+        fault(rt.alloc(), &array, two, 0),
         Some(SearchFault::Shorter(0))
     );
     let e4 = diagram(&rt, CASES[1].0);
     assert_eq!(rt;
-        fault(rt.alloc(), &e4, four, NODES),
+        fault(rt.alloc(), &e4, two, NODES),
         Some(SearchFault::Shorter(1))
     );
+}
+
+/// Five pawn moves of each side in any order: 120 * 120 games.
+#[test]
+fn too_many_games(rt: HostRuntime) {
     let many = diagram(&rt, "rnbqkbnr/5ppp/ppppp3/8/8/PPPPP3/5PPP/RNBQKBNR");
-    let ten = length(&rt, "5.0");
-    assert_eq!(rt;
-        fault(rt.alloc(), &many, ten, NODES),
-        Some(SearchFault::TooManyGames)
-    );
+    let five = length(&rt, "5.0");
+    let answer = fault(rt.alloc(), &many, five, NODES);
+    assert_eq!(rt; answer, Some(SearchFault::TooManyGames));
+}
+
+#[test]
+fn pieces_of_one_byte(rt: HostRuntime) {
+    let four = length(&rt, "4.0");
+    let diagram = diagram(&rt, SECOND_PROBLEM);
+    let (_, bytes) = found(&rt, rt.alloc(), &diagram, four);
+    let mut sink = ToWrite::new(OneByte::new(Vec::new(rt.alloc())));
+    let games = search(rt.alloc(), &diagram, four, NODES, &mut sink).expect(&rt, "found");
+    assert_eq!(rt; games.len(), 1);
+    assert_eq!(rt; sink.into_inner().into_inner().as_slice(), bytes.as_slice());
+}
+
+/// What a search answers where the write with this number, from 0, is refused, and how many writes
+/// there were.
+fn refused(
+    alloc: Global,
+    diagram: &Diagram,
+    length: Length,
+    at: u64,
+) -> (Option<SearchFault>, u64) {
+    let pieces = FailsAt::new(OneByte::new(Vec::new(alloc)), at, ErrorKind::Other);
+    let mut sink = ToWrite::new(pieces);
+    let fault = search(alloc, diagram, length, NODES, &mut sink).err();
+    (fault, sink.into_inner().calls())
+}
+
+/// Each byte of the certificate is refused in turn, and nothing is written after it.
+#[test]
+fn refused_writes(rt: HostRuntime) {
+    let (placement, plies, _) = CASES[2];
+    let e4_e5 = diagram(&rt, placement);
+    let one = length(&rt, plies);
+    for at in 0..79 {
+        let (fault, writes) = refused(rt.alloc(), &e4_e5, one, at);
+        assert_eq!(rt; fault, Some(SearchFault::Write), "{at}");
+        assert_eq!(rt; writes, at + 1);
+    }
+    assert_eq!(rt; refused(rt.alloc(), &e4_e5, one, 79), (None, 79));
+}
+
+/// The certificate of some problem comes in pieces of 4,096 bytes; each is refused in turn.
+#[test]
+fn refused_pieces(rt: HostRuntime) {
+    let four = length(&rt, "4.0");
+    let diagram = diagram(&rt, SECOND_PROBLEM);
+    for at in 0..4 {
+        let pieces = FailsAt::new(Vec::new(rt.alloc()), at, ErrorKind::Other);
+        let mut sink = ToWrite::new(pieces);
+        let fault = search(rt.alloc(), &diagram, four, NODES, &mut sink).err();
+        let writes = sink.into_inner().calls();
+        if at < 3 {
+            assert_eq!(rt; (fault, writes), (Some(SearchFault::Write), at + 1));
+        } else {
+            assert_eq!(rt; (fault, writes), (None, 3));
+        }
+    }
+}
+
+/// A sink that counts bytes and keeps none, so that it takes no memory.
+#[derive(Drop)]
+struct Counted {
+    bytes: usize,
+}
+
+impl Sink for Counted {
+    ghost use Rattle.std.specs.Prelude.{false, None};
+
+    ghost held = { λ s. None };
+
+    ghost has_failed = { λ s. false };
+
+    fn push(&mut self, bytes: &[u8]) -> Result<(), Refused> {
+        self.bytes = self.bytes.saturating_add(bytes.len());
+        Ok(())
+    }
+
+    fn failed(&self) -> bool {
+        false
+    }
+}
+
+/// Passes too where `rt try --test --fail-alloc N` refuses the N-th growth.
+#[test]
+fn refused_growths(rt: HostRuntime) {
+    let (placement, plies, _) = CASES[2];
+    let e4_e5 = diagram(&rt, placement);
+    let one = length(&rt, plies);
+    for _ in 0..9u8 {
+        let mut sink = Counted { bytes: 0 };
+        match search(rt.alloc(), &e4_e5, one, NODES, &mut sink) {
+            Ok(games) => {
+                assert_eq!(rt; (games.len(), sink.bytes), (1, 79));
+            }
+            Err(fault) => assert_eq!(rt; fault, SearchFault::Memory),
+        }
+    }
 }
 
 #[test]
