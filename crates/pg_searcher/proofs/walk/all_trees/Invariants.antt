@@ -1,0 +1,6 @@
+use Rattle.std.proofs.Common.{◌≡◌, false}
+use Rattle.pg_searcher.proofs.walk.all_trees.Given as goal
+
+-- between two trees the writer has not refused
+abbrev pub invariant-loop-tree : goal.invariant-loop-tree
+invariant-loop-tree g l = l.machine.writer.failed ≡ false

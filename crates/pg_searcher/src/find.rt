@@ -1,0 +1,97 @@
+//! The search for a certificate.
+ghost use Rattle.std.specs.Prelude.{◌≡◌, ◌≤◌, false};
+ghost use Rattle.pg_searcher.specs.Refusals.{Says};
+
+use crate::fault::SearchFault;
+use crate::machine::{Machine, Question};
+use crate::table::Table;
+use crate::walk::all_trees;
+use arrayvec::ArrayVec;
+use pg_certificate::{Header, RecordWriter, Sink};
+use pg_fen::{Diagram, Length};
+use pg_san::Games;
+use std::alloc::Global;
+
+/// The header of the certificate.
+fn header(diagram: &Diagram, plies: u8) -> Header
+    ensures { result.version ≡ 1 }
+{
+    Header {
+        version: 1,
+        plies,
+        diagram: diagram.packed(),
+    }
+}
+
+/// The header, the trees and the end.
+fn write<W: Sink>(
+    question: &Question,
+    machine: &mut Machine,
+    sink: &mut W,
+) -> Result<(), SearchFault>
+    requires limit { question.now.plies ≤ 128 }
+    requires runs { machine.old.writer.failed ≡ false }
+    ensures { Says question.now.plies (W.has_failed sink.new) result }
+{
+    match machine
+        .writer
+        .header(&header(question.diagram, question.plies), sink)
+    {
+        Ok(()) => {}
+        Err(_) => return Err(SearchFault::Write),
+    }
+    match all_trees(question, machine, sink) {
+        Ok(()) => {}
+        Err(fault) => return Err(fault),
+    }
+    match machine.writer.finish(sink) {
+        Ok(()) => Ok(()),
+        Err(_) => Err(SearchFault::Write),
+    }
+}
+
+/// Searches for the games of so many plies from the initial array that end on the diagram, and
+/// writes a certificate of version 1 that no others do. The answer is trusted for nothing: a check
+/// of what was written, with the games that were found, says whether it is right.
+///
+/// Legal moves (FIDE article 3) are visited in canonical order, in a tree for each length from 0 to
+/// the stated one. A node, a position that is visited with at least one ply left, is cut where a bound
+/// excludes; otherwise, where at least two plies are left, it refers to an equal node that closed with
+/// no game below it, if there is one, or it is named, up to 4,194,304 nodes. What the search grows by
+/// is taken from `alloc`.
+///
+/// # Errors
+/// `Budget` where a node more than `max_nodes` would be visited; `Shorter` with the plies of a game
+/// that is shorter than stated and ends on the diagram; `TooManyGames` at the 4,097th game; `Write`
+/// where the sink has failed; `Memory` where memory is refused. After any of them what was written is
+/// to be thrown away.
+pub fn search<W: Sink>(
+    alloc: Global,
+    diagram: &Diagram,
+    length: Length,
+    max_nodes: u64,
+    sink: &mut W,
+) -> Result<Games, SearchFault>
+    ensures { Says length (W.has_failed sink.new) result }
+{
+    let question = Question {
+        diagram,
+        plies: length.plies(),
+    };
+    let mut machine = Machine {
+        writer: RecordWriter::new(),
+        games: Games::new(alloc),
+        table: Table::new(alloc),
+        frames: ArrayVec::new(),
+        nodes: max_nodes,
+        named: 0,
+        closed: 0,
+        found: false,
+    };
+    match write(&question, &mut machine, sink) {
+        Ok(()) => {}
+        Err(fault) => return Err(fault),
+    }
+    let Machine { games, .. } = machine;
+    Ok(games)
+}

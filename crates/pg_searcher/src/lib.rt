@@ -1,0 +1,18 @@
+//! The searcher of certificates: it walks the legal games to a diagram, cuts where a bound excludes,
+//! and writes down what it met. Nothing that it answers is trusted: a certificate counts when it has
+//! been checked.
+#![tactic(auto)]
+
+mod fault;
+mod find;
+mod machine;
+mod node;
+mod play;
+mod table;
+mod walk;
+
+pub use fault::SearchFault;
+pub use find::search;
+
+#[cfg(test)]
+mod tests;
