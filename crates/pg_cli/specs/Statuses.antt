@@ -8,6 +8,8 @@ use Rattle.pg_moves.specs.declared.fault.CountFault.{CountFault}
 use Rattle.pg_moves.specs.declared.fault.CountFault.TheVariants.{TooDeep, Overflow, Memory as NoMemory}
 use Rattle.pg_cli.specs.declared.faults.CountRunFault.{CountRunFault}
 use Rattle.pg_cli.specs.declared.faults.CountRunFault.TheVariants.{Position, Count as Counting, Write as NoWrite}
+use Rattle.pg_report.specs.declared.fault.MovesFault.{MovesFault}
+use Rattle.pg_report.specs.declared.fault.MovesFault.TheVariants.{Position as BadPosition, Memory as NoList, Write as NoLine}
 
 abbrev pub games_status : GamesFault → ℕ
 games_status NoRoom = 3
@@ -29,3 +31,8 @@ abbrev pub count_status_of : CountRunFault → ℕ
 count_status_of (Position f) = 2
 count_status_of (Counting f) = number_status f
 count_status_of NoWrite = 4
+
+abbrev pub moves_status_of : MovesFault → ℕ
+moves_status_of (BadPosition f) = 2
+moves_status_of NoList = 3
+moves_status_of NoLine = 4

@@ -1,9 +1,10 @@
 //! Why a check is refused, with the texts that the program prints.
 ghost use Rattle.std.specs.Prelude.{◌≡◌};
-ghost use Rattle.pg_cli.specs.Statuses.{status_of, count_status_of};
+ghost use Rattle.pg_cli.specs.Statuses.{status_of, count_status_of, moves_status_of};
 
 use pg_fen::{FenFault, LengthFault};
 use pg_moves::CountFault;
+use pg_report::MovesFault;
 use thiserror::Error;
 
 /// Why a word of a game is refused.
@@ -114,5 +115,17 @@ pub fn count_status(fault: &CountRunFault) -> u8
         CountRunFault::Count(CountFault::Memory) => 3,
         CountRunFault::Count(_) => 2,
         CountRunFault::Write => 4,
+    }
+}
+
+/// The status with which the program ends where no moves are written: 2 for a bad position, 3 for
+/// want of memory, 4 for a write fault.
+pub fn moves_status(fault: &MovesFault) -> u8
+    ensures { result ≡ moves_status_of fault.now }
+{
+    match fault {
+        MovesFault::Position(_) => 2,
+        MovesFault::Memory => 3,
+        MovesFault::Write => 4,
     }
 }

@@ -1,4 +1,4 @@
-//! The program `pg`: `pg check DIAGRAM LENGTH [GAMES]` and `pg count FEN PLIES`.
+//! The program `pg`: `pg moves FEN`, `pg count FEN PLIES` and `pg check DIAGRAM LENGTH [GAMES]`.
 #![tactic(auto)]
 
 mod counts;
@@ -10,11 +10,12 @@ mod run;
 mod words;
 
 use crate::counts::run_count;
-use crate::faults::{count_status, status};
+use crate::faults::{count_status, moves_status, status};
 use crate::input::{InputFault, read_all};
 use crate::run::run;
 use clap::{Arg, ArgMatches, Command};
 use pg_certificate::ToWrite;
+use pg_report::run_moves;
 use std::alloc::{AllocError, Global};
 use std::fs::File;
 use std::process::ExitCode;
@@ -44,7 +45,8 @@ fn command<'a>(alloc: Global) -> Result<Command<'a>, AllocError> {
         .about("Checks shortest proof games")
         .subcommand_required(true)
         .subcommand(check)?
-        .subcommand(count_command(alloc)?)
+        .subcommand(count_command(alloc)?)?
+        .subcommand(moves_command(alloc)?)
 }
 
 fn count_command<'a>(alloc: Global) -> Result<Command<'a>, AllocError> {
@@ -60,6 +62,16 @@ fn count_command<'a>(alloc: Global) -> Result<Command<'a>, AllocError> {
                 .required(true)
                 .value_parser(clap::value_parser!(u8))
                 .help("How many plies, 8 at most"),
+        )
+}
+
+fn moves_command<'a>(alloc: Global) -> Result<Command<'a>, AllocError> {
+    Command::new(alloc, "moves")
+        .about("Prints the legal moves of a position, one a line")
+        .arg(
+            Arg::new(alloc, "FEN")
+                .required(true)
+                .help("The six fields of a FEN, as one word"),
         )
 }
 
@@ -138,6 +150,19 @@ fn count<R: Runtime + AllocGlobal>(rt: &R, words: &ArgMatches<'_>) -> u8 {
     }
 }
 
+// The legal moves, on standard output.
+fn moves<R: Runtime + AllocGlobal>(rt: &R, words: &ArgMatches<'_>) -> u8 {
+    let text = words.get_str("FEN").unwrap_or("");
+    let mut sink = ToWrite::new(io::writer(rt));
+    match run_moves(rt.alloc(), text, &mut sink) {
+        Ok(()) => 0,
+        Err(fault) => {
+            let _ = eprintln!(rt; "pg: {fault}");
+            moves_status(&fault)
+        }
+    }
+}
+
 fn all_words<R: Runtime + AllocGlobal>(rt: &R) -> io::Result<Vec<String>> {
     let mut words = Vec::new(rt.alloc());
     for word in env::args(rt)? {
@@ -154,6 +179,7 @@ fn obey<R: Runtime + AllocGlobal>(rt: &R, words: &[String]) -> u8 {
     match command.try_get_matches_from(words) {
         Ok(matches) => match matches.subcommand() {
             Some(("count", inner)) => count(rt, inner),
+            Some(("moves", inner)) => moves(rt, inner),
             Some((_, inner)) => check(rt, inner),
             None => 2,
         },

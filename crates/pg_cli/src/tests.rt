@@ -1,5 +1,6 @@
 use super::*;
 use crate::faults::RunFault;
+use pg_report::MovesFault;
 use pg_trial::{Endless, FailsAt};
 use std::process::Abort;
 use std::test::Fail;
@@ -141,4 +142,13 @@ fn counts_of_games(rt: HostRuntime) -> Result<(), Fail> {
         assert_eq!(rt; counted(&rt, text, plies)?.as_str(), wanted, "{text}");
     }
     Ok(())
+}
+
+#[test]
+fn statuses_of_moves(rt: HostRuntime) {
+    let mut sink = ToWrite::new(Vec::new(rt.alloc()));
+    let fault = run_moves(rt.alloc(), "8/8", &mut sink).err();
+    assert_eq!(rt; fault.map(|fault| moves_status(&fault)), Some(2));
+    assert_eq!(rt; moves_status(&MovesFault::Memory), 3);
+    assert_eq!(rt; moves_status(&MovesFault::Write), 4);
 }

@@ -1,0 +1,5 @@
+pub mod MoveLineLemmas
+pub mod Decimals
+pub mod OutcomeLemmas
+pub mod PlyLemmas
+pub mod ReportLemmas

@@ -1,0 +1,4 @@
+pub mod MovesText
+pub mod Movetext
+pub mod Plies
+pub mod Report
