@@ -5,7 +5,7 @@ mod references;
 
 use super::*;
 use pg_captures::{Bound, Captures, Promotions};
-use pg_certificate::FromRead;
+use pg_certificate::{FromRead, Source};
 use pg_fen::{Diagram, Length};
 use pg_pawns::PawnFiles;
 use pg_san::{Games, read_games};
@@ -53,14 +53,29 @@ fn ask<R: Abort + AllocGlobal>(rt: &R, diagram: &str, length: &str, games: &str)
     }
 }
 
-/// The four bounds, in the order of their codes.
-fn four<R: AllocGlobal>(rt: &R) -> Result<Vec<Box<dyn Bound>>, AllocError> {
+/// What is answered with the four bounds, in the order of their codes.
+fn checked<R: AllocGlobal, S: Source>(
+    rt: &R,
+    problem: &Problem,
+    source: &mut S,
+    max_records: u64,
+    max_named: u32,
+) -> Result<Result<Proved, Fault>, AllocError> {
     let mut bounds: Vec<Box<dyn Bound>> = Vec::new(rt.alloc());
     bounds.push(Box::new(rt.alloc(), Captures)?)?;
     bounds.push(Box::new(rt.alloc(), Promotions)?)?;
     bounds.push(Box::new(rt.alloc(), PawnFiles)?)?;
     bounds.push(Box::new(rt.alloc(), Travel)?)?;
-    Ok(bounds)
+    Ok(check(
+        rt.alloc(),
+        &problem.diagram,
+        problem.length,
+        &problem.games,
+        &bounds,
+        source,
+        max_records,
+        max_named,
+    ))
 }
 
 /// The header of a certificate for the problem.
@@ -84,37 +99,21 @@ fn repeat<A: Allocator>(
     Ok(())
 }
 
-/// What is answered to the bytes, through a reader of one byte a call and one of many.
+/// What is answered with the four bounds to the bytes, through a reader of one byte a call and
+/// one of many.
 fn answer<R: Abort + AllocGlobal>(
     rt: &R,
     problem: &Problem,
-    bounds: &[Box<dyn Bound>],
     bytes: &[u8],
     max_records: u64,
     max_named: u32,
-) -> Result<Proved, Fault> {
-    let one = check(
-        rt.alloc(),
-        &problem.diagram,
-        problem.length,
-        &problem.games,
-        bounds,
-        &mut FromRead::new(OneByte::new(bytes)),
-        max_records,
-        max_named,
-    );
-    let many = check(
-        rt.alloc(),
-        &problem.diagram,
-        problem.length,
-        &problem.games,
-        bounds,
-        &mut FromRead::new(bytes),
-        max_records,
-        max_named,
-    );
-    assert!(rt; one == many);
-    many
+) -> Result<Result<Proved, Fault>, AllocError> {
+    let mut one = FromRead::new(OneByte::new(bytes));
+    let slowly = checked(rt, problem, &mut one, max_records, max_named)?;
+    let mut many = FromRead::new(bytes);
+    let said = checked(rt, problem, &mut many, max_records, max_named)?;
+    assert!(rt; said == slowly);
+    Ok(said)
 }
 
 /// Yes, with so many records and named nodes.

@@ -26,7 +26,7 @@ fn listed_games(rt: HostRuntime) -> Result<(), std::test::Fail> {
         Ok(())
     );
     let bytes = headed(&rt, &other)?;
-    let said = answer(&rt, &other, &four(&rt)?, &bytes, MANY, 0);
+    let said = answer(&rt, &other, &bytes, MANY, 0)?;
     assert!(rt; said == Err(Fault::Listed(ListFault::NotReaching(0))));
     Ok(())
 }
@@ -34,48 +34,45 @@ fn listed_games(rt: HostRuntime) -> Result<(), std::test::Fail> {
 #[test]
 fn each_fault_of_the_header(rt: HostRuntime) -> Result<(), std::test::Fail> {
     let asked = ask(&rt, AFTER_E4, "0.5", "e4");
-    let bounds = four(&rt)?;
     let mut bytes = headed(&rt, &asked)?;
     bytes.push(1)?;
     let mut short = headed(&rt, &asked)?;
     short.truncate(36);
-    assert!(rt; answer(&rt, &asked, &bounds, &short, MANY, 0) == Err(Fault::Truncated));
+    assert!(rt; answer(&rt, &asked, &short, MANY, 0)? == Err(Fault::Truncated));
     let mut other = headed(&rt, &asked)?;
     if let Some(first) = other.first_mut() {
         *first = 0x58;
     }
-    assert!(rt; answer(&rt, &asked, &bounds, &other, MANY, 0) == Err(Fault::Magic));
+    assert!(rt; answer(&rt, &asked, &other, MANY, 0)? == Err(Fault::Magic));
     other.truncate(36);
-    assert!(rt; answer(&rt, &asked, &bounds, &other, MANY, 0) == Err(Fault::Truncated));
+    assert!(rt; answer(&rt, &asked, &other, MANY, 0)? == Err(Fault::Truncated));
     let longer = ask(&rt, AFTER_E4, "1.0", "");
-    assert!(rt; answer(&rt, &longer, &bounds, &bytes, MANY, 0) == Err(Fault::OtherLength));
+    assert!(rt; answer(&rt, &longer, &bytes, MANY, 0)? == Err(Fault::OtherLength));
     let elsewhere = ask(&rt, AFTER_E4_E5, "0.5", "");
-    assert!(rt; answer(&rt, &elsewhere, &bounds, &bytes, MANY, 0) == Err(Fault::OtherDiagram));
+    assert!(rt; answer(&rt, &elsewhere, &bytes, MANY, 0)? == Err(Fault::OtherDiagram));
     Ok(())
 }
 
 #[test]
 fn each_fault_of_a_record(rt: HostRuntime) -> Result<(), std::test::Fail> {
     let asked = ask(&rt, AFTER_E4, "0.5", "e4");
-    let bounds = four(&rt)?;
     let mut unknown = headed(&rt, &asked)?;
     unknown.push(7)?;
-    let said = answer(&rt, &asked, &bounds, &unknown, MANY, 0);
+    let said = answer(&rt, &asked, &unknown, MANY, 0)?;
     assert!(rt; said == Err(Fault::UnknownRecord(7)));
-    assert!(rt; answer(&rt, &asked, &bounds, &unknown, 0, 0) == Err(Fault::Budget));
+    assert!(rt; answer(&rt, &asked, &unknown, 0, 0)? == Err(Fault::Budget));
     let mut longer = headed(&rt, &asked)?;
     longer.extend_from_slice(&[1, 1])?;
-    assert!(rt; answer(&rt, &asked, &bounds, &longer, MANY, 0) == Err(Fault::Trailing));
+    assert!(rt; answer(&rt, &asked, &longer, MANY, 0)? == Err(Fault::Trailing));
     Ok(())
 }
 
 #[test]
 fn each_proper_prefix(rt: HostRuntime) -> Result<(), std::test::Fail> {
     let asked = ask(&rt, AFTER_E4_E5, "1.0", "1. e4 e5");
-    let bounds = four(&rt)?;
     let bytes = open_game(&rt, &asked)?;
     for n in 0..bytes.len() {
-        let said = answer(&rt, &asked, &bounds, &bytes[..n], MANY, 9);
+        let said = answer(&rt, &asked, &bytes[..n], MANY, 9)?;
         assert!(rt; said == Err(Fault::Truncated));
     }
     Ok(())
@@ -84,23 +81,13 @@ fn each_proper_prefix(rt: HostRuntime) -> Result<(), std::test::Fail> {
 #[test]
 fn each_change_of_a_byte(rt: HostRuntime) -> Result<(), std::test::Fail> {
     let asked = ask(&rt, AFTER_E4_E5, "1.0", "1. e4 e5");
-    let bounds = four(&rt)?;
     let mut bytes = open_game(&rt, &asked)?;
     let mut accepted = 0u32;
     for i in 0..bytes.len() {
         let kept = bytes[i];
         for change in 1..=255u8 {
             bytes[i] = kept ^ change;
-            let said = check(
-                rt.alloc(),
-                &asked.diagram,
-                asked.length,
-                &asked.games,
-                &bounds,
-                &mut FromRead::new(bytes.as_slice()),
-                MANY,
-                9,
-            );
+            let said = checked(&rt, &asked, &mut FromRead::new(bytes.as_slice()), MANY, 9)?;
             if said.is_ok() {
                 assert!(rt; said == yes(22, 1));
                 assert!(rt; (i == 39 || i == 66) && bytes[i] == 5);
@@ -116,31 +103,12 @@ fn each_change_of_a_byte(rt: HostRuntime) -> Result<(), std::test::Fail> {
 #[test]
 fn endless_certificates(rt: HostRuntime) -> Result<(), std::test::Fail> {
     let pawn = ask(&rt, PAWN_ON_D3, "64.0", "");
-    let bounds = four(&rt)?;
     let header = headed(&rt, &pawn)?;
     let expansions = header.as_slice().chain(Endless::new(1));
-    let budget = check(
-        rt.alloc(),
-        &pawn.diagram,
-        pawn.length,
-        &pawn.games,
-        &bounds,
-        &mut FromRead::new(expansions),
-        1_000,
-        0,
-    );
+    let budget = checked(&rt, &pawn, &mut FromRead::new(expansions), 1_000, 0)?;
     assert!(rt; budget == Err(Fault::Budget));
     let named = header.as_slice().chain(Endless::new(5));
-    let too_many = check(
-        rt.alloc(),
-        &pawn.diagram,
-        pawn.length,
-        &pawn.games,
-        &bounds,
-        &mut FromRead::new(named),
-        MANY,
-        10,
-    );
+    let too_many = checked(&rt, &pawn, &mut FromRead::new(named), MANY, 10)?;
     assert!(rt; too_many == Err(Fault::TooManyNamed));
     Ok(())
 }
@@ -148,20 +116,10 @@ fn endless_certificates(rt: HostRuntime) -> Result<(), std::test::Fail> {
 #[test]
 fn each_read_failing_in_turn(rt: HostRuntime) -> Result<(), std::test::Fail> {
     let asked = ask(&rt, AFTER_E4_E5, "1.0", "1. e4 e5");
-    let bounds = four(&rt)?;
     let bytes = open_game(&rt, &asked)?;
     for call in 0..80u64 {
         let reader = FailsAt::new(OneByte::new(bytes.as_slice()), call, ErrorKind::Interrupted);
-        let said = check(
-            rt.alloc(),
-            &asked.diagram,
-            asked.length,
-            &asked.games,
-            &bounds,
-            &mut FromRead::new(reader),
-            MANY,
-            9,
-        );
+        let said = checked(&rt, &asked, &mut FromRead::new(reader), MANY, 9)?;
         assert!(rt; said == Err(Fault::Read));
     }
     Ok(())

@@ -34,26 +34,24 @@ const TO_THE_ARRAY: [u8; 13] = [2, 3, 2, 3, 2, 3, 2, 3, 3, 0, 0, 0, 0];
 #[test]
 fn the_knight_shuffle(rt: HostRuntime) -> Result<(), std::test::Fail> {
     let asked = ask(&rt, PAWN_ON_D3, "2.5", "");
-    let bounds = four(&rt)?;
     let bytes = shuffle(&rt, &asked, 5, &TO_THE_ARRAY)?;
     assert_eq!(rt; bytes.len(), 213);
-    assert!(rt; answer(&rt, &asked, &bounds, &bytes, MANY, 1) == yes(89, 1));
-    assert!(rt; answer(&rt, &asked, &bounds, &bytes, MANY, 0) == Err(Fault::TooManyNamed));
+    assert!(rt; answer(&rt, &asked, &bytes, MANY, 1)? == yes(89, 1));
+    assert!(rt; answer(&rt, &asked, &bytes, MANY, 0)? == Err(Fault::TooManyNamed));
     Ok(())
 }
 
 #[test]
 fn references_that_are_refused(rt: HostRuntime) -> Result<(), std::test::Fail> {
     let asked = ask(&rt, PAWN_ON_D3, "2.5", "");
-    let bounds = four(&rt)?;
     let unnamed = shuffle(&rt, &asked, 1, &TO_THE_ARRAY)?;
-    assert!(rt; answer(&rt, &asked, &bounds, &unnamed, MANY, 9) == Err(Fault::RefUnknown));
+    assert!(rt; answer(&rt, &asked, &unnamed, MANY, 9)? == Err(Fault::RefUnknown));
     let next = [2, 3, 2, 3, 2, 3, 2, 3, 3, 0, 0, 0, 1];
     let unknown = shuffle(&rt, &asked, 5, &next)?;
-    assert!(rt; answer(&rt, &asked, &bounds, &unknown, MANY, 9) == Err(Fault::RefUnknown));
+    assert!(rt; answer(&rt, &asked, &unknown, MANY, 9)? == Err(Fault::RefUnknown));
     let earlier = [2, 3, 2, 3, 2, 3, 3, 0, 0, 0, 0];
     let differs = shuffle(&rt, &asked, 5, &earlier)?;
-    assert!(rt; answer(&rt, &asked, &bounds, &differs, MANY, 9) == Err(Fault::RefDiffers));
+    assert!(rt; answer(&rt, &asked, &differs, MANY, 9)? == Err(Fault::RefDiffers));
     Ok(())
 }
 
@@ -62,7 +60,7 @@ fn an_open_node_has_no_number(rt: HostRuntime) -> Result<(), std::test::Fail> {
     let asked = ask(&rt, PAWN_ON_D3, "1.0", "");
     let mut bytes = headed(&rt, &asked)?;
     bytes.extend_from_slice(&[2, 3, 5, 3, 0, 0, 0, 0])?;
-    let said = answer(&rt, &asked, &four(&rt)?, &bytes, MANY, 9);
+    let said = answer(&rt, &asked, &bytes, MANY, 9)?;
     assert!(rt; said == Err(Fault::RefUnknown));
     Ok(())
 }
@@ -128,7 +126,7 @@ fn marked<R: Abort + AllocGlobal>(
     mark(
         rt, &mut bytes, asked, named, refers, &mut game, &array, plies,
     )?;
-    Ok(answer(rt, asked, &four(rt)?, &bytes, MANY, 9))
+    answer(rt, asked, &bytes, MANY, 9)
 }
 
 #[test]
