@@ -3,3 +3,4 @@ pub mod Decimals
 pub mod OutcomeLemmas
 pub mod PlyLemmas
 pub mod ReportLemmas
+pub mod RunLemmas

@@ -1,6 +1,9 @@
-//! Why nothing more is written.
+//! Why nothing is written, or nothing more.
 
-use pg_fen::FenFault;
+use pg_checker::Fault;
+use pg_fen::{FenFault, LengthFault};
+use pg_moves::CountFault;
+use pg_san::GamesFault;
 use thiserror::Error;
 
 /// Why the moves of a position are not written.
@@ -12,6 +15,40 @@ pub enum MovesFault {
     /// A growth was refused.
     #[error("out of memory")]
     Memory,
+    /// The sink has failed. How many bytes went out is not known.
+    #[error("write fault")]
+    Write,
+}
+
+/// Why the number of games from a position is not written.
+#[derive(Debug, Clone, Copy, PartialEq, Eq, Error)]
+pub enum CountRunFault {
+    /// The text is refused as a position.
+    #[error("{0}")]
+    Position(FenFault),
+    /// The games are not counted.
+    #[error("{0}")]
+    Count(CountFault),
+    /// The sink has failed. How many bytes went out is not known.
+    #[error("write fault")]
+    Write,
+}
+
+/// Why a check ends without its report, the first of these that holds.
+#[derive(Debug, PartialEq, Eq, Drop, Error)]
+pub enum RunFault {
+    /// The text is refused as a diagram.
+    #[error("{0}")]
+    Diagram(FenFault),
+    /// The text is refused as a length.
+    #[error("{0}")]
+    Length(LengthFault),
+    /// The text is refused as a list of games.
+    #[error("{0}")]
+    Games(GamesFault),
+    /// The check does not say yes.
+    #[error("{0}")]
+    Check(Fault),
     /// The sink has failed. How many bytes went out is not known.
     #[error("write fault")]
     Write,

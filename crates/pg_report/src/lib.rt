@@ -1,18 +1,36 @@
-//! What the program writes: the legal moves of a position, games, and the report on a list of games.
+//! What the program writes: the legal moves of a position, the number of games from it, and the report on
+//! a diagram, a length and a list of games, after a check of their certificate.
 #![tactic(auto)]
 
+mod counts;
 mod fault;
 mod moves;
 mod movetext;
 mod numbers;
 mod report;
+mod run;
+mod statuses;
 mod verdict;
 
-pub use fault::MovesFault;
+pub use counts::run_count;
+pub use fault::{CountRunFault, MovesFault, RunFault};
 pub use moves::run_moves;
 pub use movetext::write_movetext;
 pub use report::write_report;
+pub use run::{run_check, run_listed};
+pub use statuses::{count_status, moves_status, search_status, status, verdict_status};
 pub use verdict::Verdict;
+
+// What the program uses of the crates below.
+pub use pg_captures::{Bound, Captures, Promotions};
+pub use pg_certificate::{FromRead, Refused, Sink, Source, ToWrite, WriteFault};
+pub use pg_checker::{Fault, check};
+pub use pg_fen::{Diagram, FenFault, Length, LengthFault};
+pub use pg_moves::CountFault;
+pub use pg_pawns::PawnFiles;
+pub use pg_san::{Games, GamesFault};
+pub use pg_searcher::{SearchFault, search};
+pub use pg_travel::Travel;
 
 #[cfg(test)]
 mod report_tests;

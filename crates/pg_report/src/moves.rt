@@ -15,7 +15,7 @@ use pg_san::write;
 use std::alloc::{AllocError, Global};
 
 // The position of a text.
-fn game_of(text: &str) -> Result<FenGame, FenFault>
+pub(crate) fn game_of(text: &str) -> Result<FenGame, FenFault>
     ensures ok { IfOk result (λ game. ReadsAs text.now game.position) }
     ensures err { IfErr result (λ e. IsRefusedAs text.now e) }
 {

@@ -1,0 +1,51 @@
+-- What a run says: of a check, its report or why there is none; of a count, its number or why there is none.
+use Rattle.std.specs.Prelude.{◌≡◌, ℕ, ◌≤◌, Bool, true, List, Option, Ok, Err}
+use Rattle.pg_board.specs.Placement.{Placement}
+use Rattle.pg_position.specs.declared.state.State.{State}
+use Rattle.pg_position.specs.declared.moves.Move.{Move}
+use Rattle.pg_moves.specs.Counts.{IsFault}
+use Rattle.pg_fen.specs.Fields.{fields}
+use Rattle.pg_fen.specs.DiagramText.{diagram_of}
+use Rattle.pg_fen.specs.Lengths.{length_of}
+use Rattle.pg_san.specs.Listing.{IsListing, IsTextFault}
+use Rattle.pg_checker.specs.Answer.{IsExactAnswer}
+use Rattle.pg_checker.specs.Check.{Accepts, Refuses}
+use Rattle.pg_checker.specs.Tree.{Rules}
+use Rattle.pg_report.specs.MovesText.{ReadsAs, IsRefusedAs}
+use Rattle.pg_report.specs.declared.fault.RunFault.{RunFault}
+use Rattle.pg_report.specs.declared.fault.RunFault.TheVariants.{Diagram, Length, Games, Check, Write}
+use Rattle.pg_report.specs.declared.fault.CountRunFault.{CountRunFault}
+use Rattle.pg_report.specs.declared.fault.CountRunFault.TheVariants.{Position, Count, Write as NoNumber}
+
+-- ---- checks
+-- three texts spell the diagram d, a length of n plies and the list of games
+pub record AreSpelled (diagram length games : List ℕ) (d : Placement) (n : ℕ) (list : List (List Move)) : Type 0 where
+  pub diagram_is : diagram_of (fields diagram) ≡ Ok d
+  pub length_is : length_of length ≡ Ok n
+  pub games_are : IsListing games list
+
+-- why a check by the rules r ends without its report: the check does not say yes, for a cause that it has; or it did, and the sink has failed
+abbrev pub IsCheckFault : Rules State Move → Placement → ℕ → List (List Move) → ℕ → ℕ → Option (List ℕ) → Bool → Bool → RunFault → Type 0
+IsCheckFault r d n list max_records max_named known failed broken (Check fault) = Accepts r d list max_records max_named known (Err fault) × Refuses r d list max_records max_named known failed (Err fault)
+IsCheckFault r d n list max_records max_named known failed broken Write = IsExactAnswer d n list × (broken ≡ true)
+IsCheckFault r d n list max_records max_named known failed broken fault = ⊥
+
+-- the cause lies in the texts alone
+abbrev pub IsOfTexts : RunFault → Type 0
+IsOfTexts (Check fault) = ⊥
+IsOfTexts Write = ⊥
+IsOfTexts fault = Unit {0}
+
+-- why three texts and a certificate end without a report: a text is refused, the diagram first, then the length, then the games; else as the check of what they spell
+abbrev pub IsRunFault : (Placement → ℕ → List (List Move) → Rules State Move) → List ℕ → List ℕ → List ℕ → ℕ → ℕ → Option (List ℕ) → Bool → Bool → RunFault → Type 0
+IsRunFault rules diagram length games max_records max_named known failed broken (Diagram fault) = diagram_of (fields diagram) ≡ Err fault
+IsRunFault rules diagram length games max_records max_named known failed broken (Length fault) = ((d : Placement) × (diagram_of (fields diagram) ≡ Ok d)) × (length_of length ≡ Err fault)
+IsRunFault rules diagram length games max_records max_named known failed broken (Games fault) = ((d : Placement) × (diagram_of (fields diagram) ≡ Ok d)) × ((n : ℕ) × (length_of length ≡ Ok n)) × IsTextFault games fault
+IsRunFault rules diagram length games max_records max_named known failed broken fault = (d : Placement) × (n : ℕ) × (list : List (List Move)) × AreSpelled diagram length games d n list × IsCheckFault (rules d n list) d n list max_records max_named known failed broken fault
+
+-- ---- counts
+-- why the number of games of so many plies is not written: the text is refused; else they are not counted; else the sink has failed
+abbrev pub IsCountRunFault : List ℕ → ℕ → Bool → CountRunFault → Type 0
+IsCountRunFault text plies failed (Position fault) = IsRefusedAs text fault
+IsCountRunFault text plies failed (Count fault) = (p : State) × ReadsAs text p × IsFault p plies fault
+IsCountRunFault text plies failed NoNumber = ((p : State) × ReadsAs text p) × (plies ≤ 8) × (failed ≡ true)
