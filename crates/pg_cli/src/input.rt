@@ -1,15 +1,18 @@
-//! Reading a list of games whole.
+//! Lists of games, read whole.
 
+use crate::refusals::{FILES, cannot_open, out_of_memory, refuse};
 use std::alloc::Global;
+use std::fs::File;
 use std::io::Read;
+use std::rt::Runtime;
 use thiserror::Error;
 
 /// The longest list that is read: 16,777,216 bytes.
-const MOST_BYTES: usize = 16_777_216;
+pub(crate) const MOST_BYTES: usize = 16_777_216;
 
 /// Why a list is not read.
 #[derive(Debug, Clone, Copy, PartialEq, Eq, Error)]
-pub enum InputFault {
+pub(crate) enum InputFault {
     /// A read failed, or the list is too long.
     #[error("read fault")]
     Read,
@@ -38,7 +41,7 @@ fn read_more<R: Read>(
 
 /// All the bytes of a reader, 16,777,216 at most. A longer reader, and one that fails, is `Read`; a
 /// fault is not tried again. `Memory` where a growth is refused.
-pub fn read_all<R: Read>(alloc: Global, reader: &mut R) -> Result<Vec<u8>, InputFault> {
+pub(crate) fn read_all<R: Read>(alloc: Global, reader: &mut R) -> Result<Vec<u8>, InputFault> {
     let mut bytes = Vec::new(alloc);
     let mut buffer = [0u8; 4096];
     for _ in 0..u64::MAX {
@@ -47,4 +50,21 @@ pub fn read_all<R: Read>(alloc: Global, reader: &mut R) -> Result<Vec<u8>, Input
         }
     }
     Err(InputFault::Read)
+}
+
+/// The bytes of a list of games, from a file or else from standard input; else what is wrong was said,
+/// and the status.
+pub(crate) fn list<R: Runtime + AllocGlobal>(rt: &R, path: Option<&str>) -> Result<Vec<u8>, u8> {
+    let read = match path {
+        Some(path) => match File::open(rt, path) {
+            Ok(mut file) => read_all(rt.alloc(), &mut file),
+            Err(_) => return Err(cannot_open(rt, path)),
+        },
+        None => read_all(rt.alloc(), &mut rt.reader()),
+    };
+    match read {
+        Ok(bytes) => Ok(bytes),
+        Err(InputFault::Read) => Err(refuse(rt, "read fault", FILES)),
+        Err(InputFault::Memory) => Err(out_of_memory(rt)),
+    }
 }
