@@ -33,6 +33,16 @@ pub use pg_searcher::{SearchFault, search};
 pub use pg_travel::Travel;
 
 #[cfg(test)]
+mod count_tests;
+#[cfg(test)]
+mod fault_tests;
+#[cfg(test)]
+mod memory_tests;
+#[cfg(test)]
+mod refusal_tests;
+#[cfg(test)]
 mod report_tests;
+#[cfg(test)]
+mod run_tests;
 #[cfg(test)]
 mod tests;
