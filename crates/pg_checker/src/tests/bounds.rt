@@ -12,12 +12,12 @@ fn says<R: Abort + AllocGlobal>(
     answer(rt, asked, &bytes, MANY, 0)
 }
 
-/// What is answered with bounds of the test's own.
-fn judged<R: AllocGlobal>(
+/// What is answered with bounds of the test's own to the bytes of a source.
+fn judged_from<R: AllocGlobal, S: Source>(
     rt: &R,
     asked: &Problem,
     bounds: &[Box<dyn Bound>],
-    bytes: &[u8],
+    source: &mut S,
 ) -> Result<Proved, Fault> {
     check(
         rt.alloc(),
@@ -25,10 +25,24 @@ fn judged<R: AllocGlobal>(
         asked.length,
         &asked.games,
         bounds,
-        &mut FromRead::new(bytes),
+        source,
         MANY,
         0,
     )
+}
+
+/// What is answered with bounds of the test's own, through a reader of one byte a call and one of
+/// many.
+fn judged<R: Abort + AllocGlobal>(
+    rt: &R,
+    asked: &Problem,
+    bounds: &[Box<dyn Bound>],
+    bytes: &[u8],
+) -> Result<Proved, Fault> {
+    let slowly = judged_from(rt, asked, bounds, &mut FromRead::new(OneByte::new(bytes)));
+    let said = judged_from(rt, asked, bounds, &mut FromRead::new(bytes));
+    assert!(rt; said == slowly);
+    said
 }
 
 #[test]
@@ -53,12 +67,20 @@ fn cuts_that_do_not(rt: HostRuntime) -> Result<(), std::test::Fail> {
         "2.0",
         "",
     );
-    assert!(rt; says(&rt, &bishop, &[2, 1])? == Err(Fault::CutFails(1)));
+    for code in [1, 3, 4] {
+        assert!(rt; says(&rt, &bishop, &[2, code])? == Err(Fault::CutFails(code)));
+    }
+    let pawn = ask(&rt, PAWN_ON_D3, "2.0", "");
+    for code in [1, 2, 4] {
+        assert!(rt; says(&rt, &pawn, &[2, code])? == Err(Fault::CutFails(code)));
+    }
     let open = ask(&rt, AFTER_E4_E5, "1.0", "");
     assert!(rt; says(&rt, &open, &[2, 3])? == Err(Fault::CutFails(3)));
     assert!(rt; says(&rt, &open, &[2, 2])? == Err(Fault::CutFails(2)));
     assert!(rt; says(&rt, &open, &[2, 4, 2, 4])? == Err(Fault::CutFails(4)));
-    assert!(rt; says(&rt, &open, &[2, 5])? == Err(Fault::UnknownBound(5)));
+    for code in [0, 5, 255] {
+        assert!(rt; says(&rt, &open, &[2, code])? == Err(Fault::UnknownBound(code)));
+    }
     let recaptured = ask(&rt, RECAPTURED, "2.0", "1. e4 d5 2. exd5 Qxd5");
     assert!(rt; says(&rt, &recaptured, &[1, 2, 1])? == Err(Fault::CutFails(1)));
     assert!(rt; says(&rt, &recaptured, &[2, 1, 2, 3])? == Err(Fault::CutFails(3)));
@@ -80,6 +102,10 @@ fn a_bound_of_ones_own(rt: HostRuntime) -> Result<(), std::test::Fail> {
     bounds.push(Box::new(rt.alloc(), Captures)?)?;
     bounds.push(Box::new(rt.alloc(), Men)?)?;
     assert!(rt; judged(&rt, &asked, &bounds, &bytes) == yes(1, 0));
+    let as_many = ask(&rt, AFTER_E4, "0.5", "e4");
+    let mut held = headed(&rt, &as_many)?;
+    held.extend_from_slice(&[2, 9])?;
+    assert!(rt; judged(&rt, &as_many, &bounds, &held) == Err(Fault::CutFails(9)));
     Ok(())
 }
 

@@ -16,6 +16,7 @@ fn one_ply(rt: HostRuntime) -> Result<(), std::test::Fail> {
     let asked = ask(&rt, AFTER_E4, "0.5", "e4");
     let mut bytes = headed(&rt, &asked)?;
     bytes.push(1)?;
+    assert_eq!(rt; bytes.len(), 38);
     assert!(rt; answer(&rt, &asked, &bytes, MANY, 0)? == yes(1, 0));
     Ok(())
 }
@@ -46,6 +47,7 @@ fn e4_e5_by_expansions(rt: HostRuntime) -> Result<(), std::test::Fail> {
     let asked = ask(&rt, AFTER_E4_E5, "1.0", "1. e4 e5");
     let mut bytes = headed(&rt, &asked)?;
     repeat(&mut bytes, &[1], 22)?;
+    assert_eq!(rt; bytes.len(), 59);
     assert!(rt; answer(&rt, &asked, &bytes, 22, 0)? == yes(22, 0));
     assert!(rt; answer(&rt, &asked, &bytes, 21, 0)? == Err(Fault::Budget));
     let mut named = headed(&rt, &asked)?;
@@ -83,14 +85,16 @@ fn two_move_orders(rt: HostRuntime) -> Result<(), std::test::Fail> {
     let second = ask(&rt, TWO_ORDERS, "1.5", "1. e3 e6 2. d3");
     let bytes = two_orders(&rt, &both)?;
     assert_eq!(rt; bytes.len(), 158);
-    assert!(rt; answer(&rt, &both, &bytes, MANY, 0)?.is_ok());
+    assert!(rt; answer(&rt, &both, &bytes, 63, 0)? == yes(63, 0));
+    assert!(rt; answer(&rt, &both, &bytes, 62, 0)? == Err(Fault::Budget));
     let lacks_second = answer(&rt, &first, &bytes, MANY, 0)?;
     assert!(rt; matches!(lacks_second, Err(Fault::Unlisted(game)) if second.games.contains(&game)));
     let lacks_first = answer(&rt, &second, &bytes, MANY, 0)?;
     assert!(rt; matches!(lacks_first, Err(Fault::Unlisted(game)) if first.games.contains(&game)));
     let mut expanded = headed(&rt, &both)?;
     repeat(&mut expanded, &[1], 443)?;
-    assert!(rt; answer(&rt, &both, &expanded, MANY, 0)? == yes(443, 0));
+    assert!(rt; answer(&rt, &both, &expanded, 443, 0)? == yes(443, 0));
+    assert!(rt; answer(&rt, &both, &expanded, 442, 0)? == Err(Fault::Budget));
     Ok(())
 }
 
@@ -171,6 +175,7 @@ fn the_queen_recaptures(rt: HostRuntime) -> Result<(), std::test::Fail> {
     let asked = ask(&rt, RECAPTURED, "2.0", "1. e4 d5 2. exd5 Qxd5");
     let mut bytes = headed(&rt, &asked)?;
     repeat(&mut bytes, &[1], 9_766)?;
+    assert_eq!(rt; bytes.len(), 9_803);
     assert!(rt; answer(&rt, &asked, &bytes, MANY, 0)? == yes(9_766, 0));
     let mut cut = headed(&rt, &asked)?;
     cut.extend_from_slice(&[2, 1])?;

@@ -1,5 +1,6 @@
 use super::examples::open_game;
 use super::*;
+use arrayvec::ArrayVec;
 use pg_trial::{Endless, FailsAt};
 use std::io::{ErrorKind, Read};
 
@@ -28,6 +29,8 @@ fn listed_games(rt: HostRuntime) -> Result<(), std::test::Fail> {
     let bytes = headed(&rt, &other)?;
     let said = answer(&rt, &other, &bytes, MANY, 0)?;
     assert!(rt; said == Err(Fault::Listed(ListFault::NotReaching(0))));
+    let before_the_header = answer(&rt, &long, &[], MANY, 0)?;
+    assert!(rt; before_the_header == Err(Fault::Listed(ListFault::WrongLength(0))));
     Ok(())
 }
 
@@ -44,12 +47,15 @@ fn each_fault_of_the_header(rt: HostRuntime) -> Result<(), std::test::Fail> {
         *first = 0x58;
     }
     assert!(rt; answer(&rt, &asked, &other, MANY, 0)? == Err(Fault::Magic));
+    let all_differs = ask(&rt, AFTER_E4_E5, "1.0", "");
+    assert!(rt; answer(&rt, &all_differs, &other, MANY, 0)? == Err(Fault::Magic));
     other.truncate(36);
     assert!(rt; answer(&rt, &asked, &other, MANY, 0)? == Err(Fault::Truncated));
     let longer = ask(&rt, AFTER_E4, "1.0", "");
     assert!(rt; answer(&rt, &longer, &bytes, MANY, 0)? == Err(Fault::OtherLength));
+    assert!(rt; answer(&rt, &all_differs, &bytes, MANY, 0)? == Err(Fault::OtherLength));
     let elsewhere = ask(&rt, AFTER_E4_E5, "0.5", "");
-    assert!(rt; answer(&rt, &elsewhere, &bytes, MANY, 0)? == Err(Fault::OtherDiagram));
+    assert!(rt; answer(&rt, &elsewhere, &bytes, 0, 0)? == Err(Fault::OtherDiagram));
     Ok(())
 }
 
@@ -64,6 +70,10 @@ fn each_fault_of_a_record(rt: HostRuntime) -> Result<(), std::test::Fail> {
     let mut longer = headed(&rt, &asked)?;
     longer.extend_from_slice(&[1, 1])?;
     assert!(rt; answer(&rt, &asked, &longer, MANY, 0)? == Err(Fault::Trailing));
+    let open = ask(&rt, AFTER_E4_E5, "1.0", "1. e4 e5");
+    let mut bytes = open_game(&rt, &open)?;
+    bytes.push(0)?;
+    assert!(rt; answer(&rt, &open, &bytes, MANY, 0)? == Err(Fault::Trailing));
     Ok(())
 }
 
@@ -151,6 +161,7 @@ fn faults_have_their_texts(rt: HostRuntime) -> Result<(), std::test::Fail> {
         (Fault::TooManyNamed, "too many named nodes"),
         (Fault::Memory, "out of memory"),
         (Fault::Shorter(3), "a game of 3 plies reaches the diagram"),
+        (Fault::Unlisted(ArrayVec::new()), "unlisted game: "),
         (Fault::Trailing, "bytes after the certificate"),
     ];
     for (fault, text) in faults {
