@@ -52,7 +52,7 @@ fn games_left_out(rt: HostRuntime) -> Result<(), Fail> {
     check_unlisted(&rt, "", "1. d3 e6 2. e3")
 }
 
-/// The passed square lapses after a ply, a comment is no move, and a game stands once.
+/// The passed square lapses after a ply, a result is no move, and a game stands once.
 #[test]
 fn lists_that_are_refused(rt: HostRuntime) -> Result<(), Fail> {
     for (games, fault) in [
@@ -121,7 +121,7 @@ fn shorter_games(rt: HostRuntime) -> Result<(), Fail> {
     Ok(())
 }
 
-/// Refused is the certificate of e4 e5 with this change, for that cause.
+/// These bytes are refused as a certificate of e4 e5, for that cause.
 fn check_changed<R: Abort + AllocGlobal>(rt: &R, bytes: &[u8], fault: Fault) -> Result<(), Fail> {
     let answer = refused(rt, E4_E5, bytes, 22)?;
     assert!(rt; answer == Some(RunFault::Check(fault)));
