@@ -1,4 +1,5 @@
 use super::*;
+use arrayvec::ArrayVec;
 use pg_captures::{Bound, Captures, Promotions};
 use pg_certificate::{FromRead, Refused, Sink, ToWrite};
 use pg_checker::{Fault, Proved, check};
@@ -63,12 +64,6 @@ fn length(rt: &impl Abort, text: &str) -> Length {
     Length::read(text).expect(rt, text)
 }
 
-/// What a search of so many nodes answers, thrown away but for its fault.
-fn fault(alloc: Global, diagram: &Diagram, length: Length, nodes: u64) -> Option<SearchFault> {
-    let mut sink = ToWrite::new(Vec::new(alloc));
-    search(alloc, diagram, length, nodes, &mut sink).err()
-}
-
 fn are_same(a: &Games, b: &Games) -> bool {
     for i in 0..b.len() {
         if a.game(i) != b.game(i) {
@@ -76,13 +71,6 @@ fn are_same(a: &Games, b: &Games) -> bool {
         }
     }
     a.len() == b.len()
-}
-
-/// The certificate and the games of a search.
-fn found(rt: &impl Abort, alloc: Global, diagram: &Diagram, length: Length) -> (Games, Vec<u8>) {
-    let mut sink = ToWrite::new(Vec::new(alloc));
-    let games = search(alloc, diagram, length, NODES, &mut sink).expect(rt, "found");
-    (games, sink.into_inner())
 }
 
 /// What a check of the certificate answers, with the games that were found and the bounds by
@@ -112,18 +100,48 @@ fn checks(
     ))
 }
 
+/// Whether a check of the certificate says yes to the games that were found.
+fn holds(alloc: Global, diagram: &Diagram, length: Length, games: &Games, bytes: &[u8]) -> bool {
+    matches!(checks(alloc, diagram, length, games, bytes), Ok(Ok(_)))
+}
+
+/// The certificate and the games of a search; the certificate has been checked.
+fn found(rt: &impl Abort, alloc: Global, diagram: &Diagram, length: Length) -> (Games, Vec<u8>) {
+    let mut sink = ToWrite::new(Vec::new(alloc));
+    let games = search(alloc, diagram, length, NODES, &mut sink).expect(rt, "found");
+    let bytes = sink.into_inner();
+    assert!(rt; holds(alloc, diagram, length, &games, bytes.as_slice()));
+    (games, bytes)
+}
+
+/// The fault of a search of so many nodes. Where there is none the certificate has been checked.
+fn fault(
+    rt: &impl Abort,
+    alloc: Global,
+    diagram: &Diagram,
+    length: Length,
+    nodes: u64,
+) -> Option<SearchFault> {
+    let mut sink = ToWrite::new(Vec::new(alloc));
+    match search(alloc, diagram, length, nodes, &mut sink) {
+        Ok(games) => {
+            let bytes = sink.into_inner();
+            assert!(rt; holds(alloc, diagram, length, &games, bytes.as_slice()));
+            None
+        }
+        Err(fault) => Some(fault),
+    }
+}
+
 #[test]
-fn all_games_are_found(rt: HostRuntime) -> Result<(), Fail> {
+fn all_games_are_found(rt: HostRuntime) {
     for (placement, plies, text) in CASES {
         let diagram = diagram(&rt, placement);
         let length = length(&rt, plies);
-        let (games, bytes) = found(&rt, rt.alloc(), &diagram, length);
+        let (games, _) = found(&rt, rt.alloc(), &diagram, length);
         let wanted = read_games(rt.alloc(), text).expect(&rt, text);
         assert!(rt; are_same(&games, &wanted), "{text}");
-        let checked = checks(rt.alloc(), &diagram, length, &games, bytes.as_slice())?;
-        assert!(rt; checked.is_ok(), "{text}");
     }
-    Ok(())
 }
 
 /// Searches the placement after each second ply, which one game reaches.
@@ -132,9 +150,8 @@ fn one_game_after(rt: &impl Abort, alloc: Global, first: &Position) -> Result<u6
     let mut count = 0u64;
     for m in legal_moves(alloc, first)?.as_slice() {
         let diagram = Diagram::of(&first.play(*m).expect(rt, "legal"));
-        let (games, bytes) = found(rt, alloc, &diagram, one);
+        let (games, _) = found(rt, alloc, &diagram, one);
         assert_eq!(rt; games.len(), 1);
-        assert!(rt; checks(alloc, &diagram, one, &games, bytes.as_slice())?.is_ok());
         count = count.saturating_add(1);
     }
     Ok(count)
@@ -161,7 +178,7 @@ const PROBLEMS: [(&str, u64); 2] = [
 const SECOND_PROBLEM: &str = "rnbqkb1r/ppp2ppp/8/8/8/8/PPPPPPPP/RNBQKB1R";
 
 #[test]
-fn problems_are_settled_with_few_nodes(rt: HostRuntime) -> Result<(), Fail> {
+fn problems_are_settled_with_few_nodes(rt: HostRuntime) {
     let four = length(&rt, "4.0");
     for (placement, nodes) in PROBLEMS {
         let diagram = diagram(&rt, placement);
@@ -169,10 +186,11 @@ fn problems_are_settled_with_few_nodes(rt: HostRuntime) -> Result<(), Fail> {
         let games = search(rt.alloc(), &diagram, four, nodes, &mut sink).expect(&rt, placement);
         assert_eq!(rt; games.len(), 1, "{placement}");
         let bytes = sink.into_inner();
-        let checked = checks(rt.alloc(), &diagram, four, &games, bytes.as_slice())?;
-        assert!(rt; checked.is_ok(), "{placement}");
+        assert!(rt;
+            holds(rt.alloc(), &diagram, four, &games, bytes.as_slice()),
+            "{placement}"
+        );
     }
-    Ok(())
 }
 
 #[test]
@@ -181,17 +199,17 @@ fn limits(rt: HostRuntime) {
     let e4_e5 = diagram(&rt, placement);
     let one = length(&rt, plies);
     assert_eq!(rt;
-        fault(rt.alloc(), &e4_e5, one, 0),
+        fault(&rt, rt.alloc(), &e4_e5, one, 0),
         Some(SearchFault::Budget)
     );
     assert_eq!(rt;
-        fault(rt.alloc(), &e4_e5, one, 21),
+        fault(&rt, rt.alloc(), &e4_e5, one, 21),
         Some(SearchFault::Budget)
     );
-    assert_eq!(rt; fault(rt.alloc(), &e4_e5, one, 22), None);
+    assert_eq!(rt; fault(&rt, rt.alloc(), &e4_e5, one, 22), None);
     let (array, plies, _) = CASES[0];
     let array = diagram(&rt, array);
-    assert_eq!(rt; fault(rt.alloc(), &array, length(&rt, plies), 0), None);
+    assert_eq!(rt; fault(&rt, rt.alloc(), &array, length(&rt, plies), 0), None);
 }
 
 #[test]
@@ -199,12 +217,12 @@ fn a_shorter_game(rt: HostRuntime) {
     let two = length(&rt, "2.0");
     let array = diagram(&rt, ARRAY);
     assert_eq!(rt;
-        fault(rt.alloc(), &array, two, 0),
+        fault(&rt, rt.alloc(), &array, two, 0),
         Some(SearchFault::Shorter(0))
     );
     let e4 = diagram(&rt, CASES[1].0);
     assert_eq!(rt;
-        fault(rt.alloc(), &e4, two, NODES),
+        fault(&rt, rt.alloc(), &e4, two, NODES),
         Some(SearchFault::Shorter(1))
     );
 }
@@ -214,7 +232,7 @@ fn a_shorter_game(rt: HostRuntime) {
 fn too_many_games(rt: HostRuntime) {
     let many = diagram(&rt, "rnbqkbnr/5ppp/ppppp3/8/8/PPPPP3/5PPP/RNBQKBNR");
     let five = length(&rt, "5.0");
-    let answer = fault(rt.alloc(), &many, five, NODES);
+    let answer = fault(&rt, rt.alloc(), &many, five, NODES);
     assert_eq!(rt; answer, Some(SearchFault::TooManyGames));
 }
 
@@ -230,8 +248,9 @@ fn pieces_of_one_byte(rt: HostRuntime) {
 }
 
 /// What a search answers where the write with this number, from 0, is refused, and how many writes
-/// there were.
+/// there were. Where there is no fault the certificate has been checked.
 fn refused(
+    rt: &impl Abort,
     alloc: Global,
     diagram: &Diagram,
     length: Length,
@@ -239,8 +258,17 @@ fn refused(
 ) -> (Option<SearchFault>, u64) {
     let pieces = FailsAt::new(OneByte::new(Vec::new(alloc)), at, ErrorKind::Other);
     let mut sink = ToWrite::new(pieces);
-    let fault = search(alloc, diagram, length, NODES, &mut sink).err();
-    (fault, sink.into_inner().calls())
+    let answer = search(alloc, diagram, length, NODES, &mut sink);
+    let pieces = sink.into_inner();
+    let writes = pieces.calls();
+    match answer {
+        Ok(games) => {
+            let bytes = pieces.into_inner().into_inner();
+            assert!(rt; holds(alloc, diagram, length, &games, bytes.as_slice()));
+            (None, writes)
+        }
+        Err(fault) => (Some(fault), writes),
+    }
 }
 
 /// Each byte of the certificate is refused in turn, and nothing is written after it.
@@ -250,11 +278,11 @@ fn refused_writes(rt: HostRuntime) {
     let e4_e5 = diagram(&rt, placement);
     let one = length(&rt, plies);
     for at in 0..79 {
-        let (fault, writes) = refused(rt.alloc(), &e4_e5, one, at);
+        let (fault, writes) = refused(&rt, rt.alloc(), &e4_e5, one, at);
         assert_eq!(rt; fault, Some(SearchFault::Write), "{at}");
         assert_eq!(rt; writes, at + 1);
     }
-    assert_eq!(rt; refused(rt.alloc(), &e4_e5, one, 79), (None, 79));
+    assert_eq!(rt; refused(&rt, rt.alloc(), &e4_e5, one, 79), (None, 79));
 }
 
 /// The certificate of some problem comes in pieces of 4,096 bytes; each is refused in turn.
@@ -265,23 +293,30 @@ fn refused_pieces(rt: HostRuntime) {
     for at in 0..4 {
         let pieces = FailsAt::new(Vec::new(rt.alloc()), at, ErrorKind::Other);
         let mut sink = ToWrite::new(pieces);
-        let fault = search(rt.alloc(), &diagram, four, NODES, &mut sink).err();
-        let writes = sink.into_inner().calls();
-        if at < 3 {
-            assert_eq!(rt; (fault, writes), (Some(SearchFault::Write), at + 1));
-        } else {
-            assert_eq!(rt; (fault, writes), (None, 3));
+        let answer = search(rt.alloc(), &diagram, four, NODES, &mut sink);
+        let pieces = sink.into_inner();
+        let writes = pieces.calls();
+        match answer {
+            Ok(games) => {
+                assert_eq!(rt; (at, writes), (3, 3));
+                let bytes = pieces.into_inner();
+                assert!(rt; holds(rt.alloc(), &diagram, four, &games, bytes.as_slice()));
+            }
+            Err(fault) => {
+                assert!(rt; at < 3);
+                assert_eq!(rt; (fault, writes), (SearchFault::Write, at + 1));
+            }
         }
     }
 }
 
-/// A sink that counts bytes and keeps none, so that it takes no memory.
+/// A sink of 128 bytes that takes no memory. A piece that does not fit is dropped.
 #[derive(Drop)]
-struct Counted {
-    bytes: usize,
+struct Small {
+    bytes: ArrayVec<u8, 128>,
 }
 
-impl Sink for Counted {
+impl Sink for Small {
     ghost use Rattle.std.specs.Prelude.{false, None};
 
     ghost held = { λ s. None };
@@ -289,8 +324,10 @@ impl Sink for Counted {
     ghost has_failed = { λ s. false };
 
     fn push(&mut self, bytes: &[u8]) -> Result<(), Refused> {
-        self.bytes = self.bytes.saturating_add(bytes.len());
-        Ok(())
+        match self.bytes.try_extend_from_slice(bytes) {
+            Ok(()) => Ok(()),
+            Err(_) => Ok(()),
+        }
     }
 
     fn failed(&self) -> bool {
@@ -298,21 +335,37 @@ impl Sink for Counted {
     }
 }
 
-/// Passes too where `rt try --test --fail-alloc N` refuses the N-th growth.
+/// Passes too where `rt try --test --fail-alloc N` refuses the N-th growth: then one search or one
+/// check of all answers that memory was refused.
 #[test]
 fn refused_growths(rt: HostRuntime) {
     let (placement, plies, _) = CASES[2];
     let e4_e5 = diagram(&rt, placement);
     let one = length(&rt, plies);
+    let mut refused = 0u8;
     for _ in 0..9u8 {
-        let mut sink = Counted { bytes: 0 };
+        let mut sink = Small {
+            bytes: ArrayVec::new(),
+        };
         match search(rt.alloc(), &e4_e5, one, NODES, &mut sink) {
             Ok(games) => {
-                assert_eq!(rt; (games.len(), sink.bytes), (1, 79));
+                assert_eq!(rt; (games.len(), sink.bytes.len()), (1, 79));
+                match checks(rt.alloc(), &e4_e5, one, &games, sink.bytes.as_slice()) {
+                    Ok(Ok(proved)) => assert_eq!(rt; proved.records, 22),
+                    Ok(Err(fault)) => {
+                        assert_eq!(rt; fault, Fault::Memory);
+                        refused = refused.saturating_add(1);
+                    }
+                    Err(_) => refused = refused.saturating_add(1),
+                }
             }
-            Err(fault) => assert_eq!(rt; fault, SearchFault::Memory),
+            Err(fault) => {
+                assert_eq!(rt; fault, SearchFault::Memory);
+                refused = refused.saturating_add(1);
+            }
         }
     }
+    assert!(rt; refused <= 1);
 }
 
 #[test]
