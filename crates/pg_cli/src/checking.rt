@@ -2,7 +2,7 @@
 
 use crate::input::list;
 use crate::progress::{Watch, Watched};
-use crate::refusals::{BAD_INPUT, cannot_open, refuse, refuse_check};
+use crate::refusals::Refusal;
 use clap::ArgMatches;
 use pg_report::{Bound, FromRead, ToWrite, run_check, verdict_status};
 use std::fs::File;
@@ -24,8 +24,8 @@ pub(crate) struct Asked<'a> {
     pub(crate) games: &'a [u8],
 }
 
-/// Checks the certificate that a reader gives, and writes the report; the status.
-pub(crate) fn check_from<R: Runtime + AllocGlobal, C: Read + Drop, W: Write + Drop>(
+/// Checks the certificate that a reader gives, and writes the report; the status of its verdict.
+pub(crate) fn check_from<'a, R: Runtime + AllocGlobal, C: Read + Drop, W: Write + Drop>(
     rt: &R,
     asked: &Asked<'_>,
     bounds: &[Box<dyn Bound>],
@@ -33,9 +33,9 @@ pub(crate) fn check_from<R: Runtime + AllocGlobal, C: Read + Drop, W: Write + Dr
     out: W,
     records: u64,
     screen: bool,
-) -> u8 {
+) -> Result<u8, Refusal<'a>> {
     let Ok(games) = str::from_utf8(asked.games) else {
-        return refuse(rt, "games are not UTF-8", BAD_INPUT);
+        return Err(Refusal::NotUtf8);
     };
     let mut source = Watched::new(
         FromRead::new(certificate),
@@ -55,25 +55,25 @@ pub(crate) fn check_from<R: Runtime + AllocGlobal, C: Read + Drop, W: Write + Dr
     );
     source.end();
     match answer {
-        Ok(verdict) => verdict_status(verdict),
-        Err(fault) => refuse_check(rt, &fault),
+        Ok(verdict) => Ok(verdict_status(verdict)),
+        Err(fault) => Err(Refusal::Check(fault)),
     }
 }
 
 /// `pg check`: the certificate of a file is checked, and the report stands on standard output.
-pub(crate) fn check<R: Runtime + AllocGlobal>(
+pub(crate) fn check<'a, R: Runtime + AllocGlobal>(
     rt: &R,
-    words: &ArgMatches<'_>,
+    words: &ArgMatches<'a>,
     bounds: &[Box<dyn Bound>],
     screen: bool,
-) -> u8 {
+) -> Result<u8, Refusal<'a>> {
     let path = words.get_str("CERT").unwrap_or("");
     let Ok(certificate) = File::open(rt, path) else {
-        return cannot_open(rt, path);
+        return Err(Refusal::Open(path));
     };
     let games = match list(rt, words.get_str("GAMES")) {
         Ok(games) => games,
-        Err(status) => return status,
+        Err(refusal) => return Err(refusal),
     };
     let asked = Asked {
         diagram: words.get_str("DIAGRAM").unwrap_or(""),

@@ -1,47 +1,35 @@
 //! Lists of games, read whole.
 
-use crate::refusals::{FILES, cannot_open, out_of_memory, refuse};
+use crate::refusals::Refusal;
 use std::alloc::Global;
 use std::fs::File;
 use std::io::Read;
 use std::rt::Runtime;
-use thiserror::Error;
 
 /// The longest list that is read: 16,777,216 bytes.
 pub(crate) const MOST_BYTES: usize = 16_777_216;
 
-/// Why a list is not read.
-#[derive(Debug, Clone, Copy, PartialEq, Eq, Error)]
-pub(crate) enum InputFault {
-    /// A read failed, or the list is too long.
-    #[error("read fault")]
-    Read,
-    /// A growth was refused.
-    #[error("out of memory")]
-    Memory,
-}
-
 // Reads once, and appends what came; how much that was.
-fn read_more<R: Read>(
+fn read_more<'a, R: Read>(
     bytes: &mut Vec<u8>,
     reader: &mut R,
     buffer: &mut [u8],
-) -> Result<usize, InputFault> {
+) -> Result<usize, Refusal<'a>> {
     let Ok(count) = reader.read(buffer) else {
-        return Err(InputFault::Read);
+        return Err(Refusal::Read);
     };
     if bytes.len().saturating_add(count) > MOST_BYTES {
-        return Err(InputFault::Read);
+        return Err(Refusal::Read);
     }
     match bytes.extend_from_slice(&buffer[..count]) {
         Ok(()) => Ok(count),
-        Err(_) => Err(InputFault::Memory),
+        Err(_) => Err(Refusal::Memory),
     }
 }
 
 /// All the bytes of a reader, 16,777,216 at most. A longer reader, and one that fails, is `Read`; a
 /// fault is not tried again. `Memory` where a growth is refused.
-pub(crate) fn read_all<R: Read>(alloc: Global, reader: &mut R) -> Result<Vec<u8>, InputFault> {
+pub(crate) fn read_all<'a, R: Read>(alloc: Global, reader: &mut R) -> Result<Vec<u8>, Refusal<'a>> {
     let mut bytes = Vec::new(alloc);
     let mut buffer = [0u8; 4096];
     for _ in 0..u64::MAX {
@@ -49,22 +37,19 @@ pub(crate) fn read_all<R: Read>(alloc: Global, reader: &mut R) -> Result<Vec<u8>
             return Ok(bytes);
         }
     }
-    Err(InputFault::Read)
+    Err(Refusal::Read)
 }
 
-/// The bytes of a list of games, from a file or else from standard input; else what is wrong was said,
-/// and the status.
-pub(crate) fn list<R: Runtime + AllocGlobal>(rt: &R, path: Option<&str>) -> Result<Vec<u8>, u8> {
-    let read = match path {
+/// The bytes of a list of games, from a file or else from standard input.
+pub(crate) fn list<'a, R: Runtime + AllocGlobal>(
+    rt: &R,
+    path: Option<&'a str>,
+) -> Result<Vec<u8>, Refusal<'a>> {
+    match path {
         Some(path) => match File::open(rt, path) {
             Ok(mut file) => read_all(rt.alloc(), &mut file),
-            Err(_) => return Err(cannot_open(rt, path)),
+            Err(_) => Err(Refusal::Open(path)),
         },
         None => read_all(rt.alloc(), &mut rt.reader()),
-    };
-    match read {
-        Ok(bytes) => Ok(bytes),
-        Err(InputFault::Read) => Err(refuse(rt, "read fault", FILES)),
-        Err(InputFault::Memory) => Err(out_of_memory(rt)),
     }
 }

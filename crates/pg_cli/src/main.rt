@@ -11,7 +11,7 @@ mod refusals;
 mod searching;
 
 use crate::commands::pg;
-use crate::refusals::{BAD_INPUT, DONE, out_of_memory};
+use crate::refusals::{BAD_INPUT, DONE, Refusal, refuse};
 use clap::ArgMatches;
 use pg_report::{Bound, Captures, PawnFiles, Promotions, Travel};
 use std::io::IsTerminal;
@@ -27,24 +27,28 @@ fn run<R: Runtime + AllocGlobal>(rt: &R, words: &ArgMatches<'_>, screen: bool) -
     bounds.push(Box::new(rt.alloc(), Promotions)?)?;
     bounds.push(Box::new(rt.alloc(), PawnFiles)?)?;
     bounds.push(Box::new(rt.alloc(), Travel)?)?;
-    Ok(match words.subcommand() {
+    let answer = match words.subcommand() {
         Some(("moves", inner)) => positions::moves(rt, inner),
         Some(("count", inner)) => positions::count(rt, inner),
         Some(("check", inner)) => checking::check(rt, inner, bounds.as_slice(), screen),
         Some(("search", inner)) => searching::search(rt, inner, bounds.as_slice(), screen),
-        _ => BAD_INPUT,
-    })
+        _ => Ok(BAD_INPUT),
+    };
+    match answer {
+        Ok(status) => Ok(status),
+        Err(refusal) => Ok(refuse(rt, &refusal)),
+    }
 }
 
 // Reads the words as commands, and gives the status.
 fn obey<R: Runtime + AllocGlobal>(rt: &R, words: &[String], screen: bool) -> u8 {
     let Ok(command) = pg(rt.alloc()) else {
-        return out_of_memory(rt);
+        return refuse(rt, &Refusal::Memory);
     };
     match command.try_get_matches_from(words) {
         Ok(matches) => match run(rt, &matches, screen) {
             Ok(status) => status,
-            Err(_) => out_of_memory(rt),
+            Err(_) => refuse(rt, &Refusal::Memory),
         },
         Err(error) => {
             let _ = error.print(rt);
@@ -65,7 +69,7 @@ fn all_words<R: Runtime + AllocGlobal>(rt: &R) -> io::Result<Vec<String>> {
 fn program<R: Runtime + AllocGlobal>(rt: &R, screen: bool) -> u8 {
     match all_words(rt) {
         Ok(words) => obey(rt, words.as_slice(), screen),
-        Err(_) => out_of_memory(rt),
+        Err(_) => refuse(rt, &Refusal::Memory),
     }
 }
 

@@ -2,11 +2,11 @@
 
 use crate::checking::{NAMED, RECORDS};
 use crate::progress::{Watch, Watched};
-use crate::refusals::{cannot_open, refuse_check};
+use crate::refusals::Refusal;
 use clap::ArgMatches;
 use pg_report::{
-    Bound, Diagram, FromRead, Games, Length, RunFault, SearchFault, ToWrite, run_listed,
-    search as search_for, search_status, verdict_status,
+    Bound, Diagram, FromRead, Games, Length, RunFault, ToWrite, run_listed, search as search_for,
+    verdict_status,
 };
 use std::fs::File;
 use std::io;
@@ -24,25 +24,25 @@ pub(crate) struct Problem {
 }
 
 /// The problem that two texts spell.
-pub(crate) fn read_problem(diagram: &str, length: &str) -> Result<Problem, RunFault> {
+pub(crate) fn read_problem<'a>(diagram: &str, length: &str) -> Result<Problem, Refusal<'a>> {
     let diagram = match Diagram::read(diagram) {
         Ok(diagram) => diagram,
-        Err(fault) => return Err(RunFault::Diagram(fault)),
+        Err(fault) => return Err(Refusal::Check(RunFault::Diagram(fault))),
     };
     match Length::read(length) {
         Ok(length) => Ok(Problem { diagram, length }),
-        Err(fault) => Err(RunFault::Length(fault)),
+        Err(fault) => Err(Refusal::Check(RunFault::Length(fault))),
     }
 }
 
 /// Searches, and writes the certificate to a writer; the games that were found.
-pub(crate) fn search_to<R: Runtime + AllocGlobal, W: Write + Drop>(
+pub(crate) fn search_to<'a, R: Runtime + AllocGlobal, W: Write + Drop>(
     rt: &R,
     problem: &Problem,
     certificate: W,
     nodes: u64,
     screen: bool,
-) -> Result<Games, SearchFault> {
+) -> Result<Games, Refusal<'a>> {
     let mut sink = Watched::new(ToWrite::new(certificate), Watch::new(rt, "nodes", screen));
     let found = search_for(
         rt.alloc(),
@@ -52,12 +52,15 @@ pub(crate) fn search_to<R: Runtime + AllocGlobal, W: Write + Drop>(
         &mut sink,
     );
     sink.end();
-    found
+    match found {
+        Ok(games) => Ok(games),
+        Err(fault) => Err(Refusal::Search(fault)),
+    }
 }
 
 /// Checks the certificate that a reader gives with the games that were found, and writes the report;
-/// the status.
-pub(crate) fn check_found<R: Runtime + AllocGlobal, C: Read + Drop, W: Write + Drop>(
+/// the status of its verdict.
+pub(crate) fn check_found<'a, R: Runtime + AllocGlobal, C: Read + Drop, W: Write + Drop>(
     rt: &R,
     problem: &Problem,
     games: &Games,
@@ -65,7 +68,7 @@ pub(crate) fn check_found<R: Runtime + AllocGlobal, C: Read + Drop, W: Write + D
     certificate: C,
     out: W,
     screen: bool,
-) -> u8 {
+) -> Result<u8, Refusal<'a>> {
     let mut source = Watched::new(
         FromRead::new(certificate),
         Watch::new(rt, "records", screen),
@@ -84,39 +87,30 @@ pub(crate) fn check_found<R: Runtime + AllocGlobal, C: Read + Drop, W: Write + D
     );
     source.end();
     match answer {
-        Ok(verdict) => verdict_status(verdict),
-        Err(fault) => refuse_check(rt, &fault),
+        Ok(verdict) => Ok(verdict_status(verdict)),
+        Err(fault) => Err(Refusal::Check(fault)),
     }
 }
 
 /// `pg search`: the certificate is written to a file and checked from it, and the report stands on
 /// standard output.
-pub(crate) fn search<R: Runtime + AllocGlobal>(
+pub(crate) fn search<'a, R: Runtime + AllocGlobal>(
     rt: &R,
-    words: &ArgMatches<'_>,
+    words: &ArgMatches<'a>,
     bounds: &[Box<dyn Bound>],
     screen: bool,
-) -> u8 {
+) -> Result<u8, Refusal<'a>> {
     let diagram = words.get_str("DIAGRAM").unwrap_or("");
     let length = words.get_str("LENGTH").unwrap_or("");
     let path = words.get_str("CERT").unwrap_or("");
-    let problem = match read_problem(diagram, length) {
-        Ok(problem) => problem,
-        Err(fault) => return refuse_check(rt, &fault),
-    };
+    let problem = read_problem(diagram, length)?;
     let Ok(file) = File::create(rt, path) else {
-        return cannot_open(rt, path);
+        return Err(Refusal::Open(path));
     };
     let nodes = words.get_one::<u64>("nodes").unwrap_or(NODES);
-    let games = match search_to(rt, &problem, file, nodes, screen) {
-        Ok(games) => games,
-        Err(fault) => {
-            let _ = eprintln!(rt; "pg: {fault}");
-            return search_status(&fault);
-        }
-    };
+    let games = search_to(rt, &problem, file, nodes, screen)?;
     let Ok(file) = File::open(rt, path) else {
-        return cannot_open(rt, path);
+        return Err(Refusal::Open(path));
     };
     check_found(rt, &problem, &games, bounds, file, io::writer(rt), screen)
 }

@@ -1,9 +1,11 @@
 mod checks;
 mod inputs;
 mod lines;
+mod searches;
 mod words;
 
 use super::*;
+use crate::refusals::text_of;
 use pg_report::Diagram;
 use std::alloc::{AllocError, Global};
 use std::process::Abort;
@@ -42,4 +44,24 @@ fn repeated(alloc: Global, byte: u8, times: usize) -> Result<Vec<u8>, AllocError
         bytes.push(byte)?;
     }
     Ok(bytes)
+}
+
+/// The status of an answer, and what is said where there is none.
+fn check_said<R: Abort + AllocGlobal>(
+    rt: &R,
+    answer: Result<u8, Refusal<'_>>,
+    wanted: &str,
+    code: u8,
+) -> Result<(), Fail> {
+    match answer {
+        Ok(status) => {
+            assert_eq!(rt; status, code, "{wanted}");
+            assert_eq!(rt; wanted, "");
+        }
+        Err(refusal) => {
+            assert_eq!(rt; text_of(rt.alloc(), &refusal)?.as_str(), wanted);
+            assert_eq!(rt; refusal.status(), code, "{wanted}");
+        }
+    }
+    Ok(())
 }
