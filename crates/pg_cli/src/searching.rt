@@ -5,8 +5,7 @@ use crate::progress::{Watch, Watched};
 use crate::refusals::Refusal;
 use clap::ArgMatches;
 use pg_report::{
-    Bound, Diagram, FromRead, Games, Length, RunFault, ToWrite, run_listed, search as search_for,
-    verdict_status,
+    Bound, FromRead, Games, Problem, ToWrite, run_listed, search as search_for, verdict_status,
 };
 use std::fs::File;
 use std::io;
@@ -15,25 +14,6 @@ use std::rt::Runtime;
 
 /// So many nodes are visited at most, where the words do not say it.
 const NODES: u64 = 1_000_000;
-
-/// A diagram and a length.
-#[derive(Drop)]
-pub(crate) struct Problem {
-    pub(crate) diagram: Diagram,
-    pub(crate) length: Length,
-}
-
-/// The problem that two texts spell.
-pub(crate) fn read_problem<'a>(diagram: &str, length: &str) -> Result<Problem, Refusal<'a>> {
-    let diagram = match Diagram::read(diagram) {
-        Ok(diagram) => diagram,
-        Err(fault) => return Err(Refusal::Check(RunFault::Diagram(fault))),
-    };
-    match Length::read(length) {
-        Ok(length) => Ok(Problem { diagram, length }),
-        Err(fault) => Err(Refusal::Check(RunFault::Length(fault))),
-    }
-}
 
 /// Searches, and writes the certificate to a writer; the games that were found.
 pub(crate) fn search_to<'a, R: Runtime + AllocGlobal, W: Write + Drop>(
@@ -103,7 +83,10 @@ pub(crate) fn search<'a, R: Runtime + AllocGlobal>(
     let diagram = words.get_str("DIAGRAM").unwrap_or("");
     let length = words.get_str("LENGTH").unwrap_or("");
     let path = words.get_str("CERT").unwrap_or("");
-    let problem = read_problem(diagram, length)?;
+    let problem = match Problem::read(diagram, length) {
+        Ok(problem) => problem,
+        Err(fault) => return Err(Refusal::Check(fault)),
+    };
     let Ok(file) = File::create(rt, path) else {
         return Err(Refusal::Open(path));
     };

@@ -36,10 +36,16 @@ IsOfTexts (Check fault) = ⊥
 IsOfTexts Write = ⊥
 IsOfTexts fault = Unit {0}
 
+-- why two texts are no problem: the first is refused as a diagram; else the second as a length
+abbrev pub IsProblemFault : List ℕ → List ℕ → RunFault → Type 0
+IsProblemFault diagram length (Diagram fault) = diagram_of (fields diagram) ≡ Err fault
+IsProblemFault diagram length (Length fault) = ((d : Placement) × (diagram_of (fields diagram) ≡ Ok d)) × (length_of length ≡ Err fault)
+IsProblemFault diagram length fault = ⊥
+
 -- why three texts and a certificate end without a report: a text is refused, the diagram first, then the length, then the games; else as the check of what they spell
 abbrev pub IsRunFault : (Placement → ℕ → List (List Move) → Rules State Move) → List ℕ → List ℕ → List ℕ → ℕ → ℕ → Option (List ℕ) → Bool → Bool → RunFault → Type 0
-IsRunFault rules diagram length games max_records max_named known failed broken (Diagram fault) = diagram_of (fields diagram) ≡ Err fault
-IsRunFault rules diagram length games max_records max_named known failed broken (Length fault) = ((d : Placement) × (diagram_of (fields diagram) ≡ Ok d)) × (length_of length ≡ Err fault)
+IsRunFault rules diagram length games max_records max_named known failed broken (Diagram fault) = IsProblemFault diagram length (Diagram fault)
+IsRunFault rules diagram length games max_records max_named known failed broken (Length fault) = IsProblemFault diagram length (Length fault)
 IsRunFault rules diagram length games max_records max_named known failed broken (Games fault) = ((d : Placement) × (diagram_of (fields diagram) ≡ Ok d)) × ((n : ℕ) × (length_of length ≡ Ok n)) × IsTextFault games fault
 IsRunFault rules diagram length games max_records max_named known failed broken fault = (d : Placement) × (n : ℕ) × (list : List (List Move)) × AreSpelled diagram length games d n list × IsCheckFault (rules d n list) d n list max_records max_named known failed broken fault
 

@@ -11,6 +11,7 @@ ghost use Rattle.pg_report.specs.Report.{IsVerdict, IsReport};
 ghost use Rattle.pg_report.specs.Run.{AreSpelled, IsCheckFault, IsOfTexts, IsRunFault};
 
 use crate::fault::RunFault;
+use crate::problem::Problem;
 use crate::report::write_report;
 use crate::verdict::Verdict;
 use pg_captures::Bound;
@@ -92,13 +93,9 @@ pub fn run_check<R: Source, W: Sink>(
     ensures unwritten { IfErr result (λ e. e ≢ RunFault.Write → out.new ≡ out.old) }
     ensures unread { IfErr result (λ e. IsOfTexts e → source.new ≡ source.old) }
 {
-    let diagram = match Diagram::read(diagram) {
-        Ok(diagram) => diagram,
-        Err(fault) => return Err(RunFault::Diagram(fault)),
-    };
-    let length = match Length::read(length) {
-        Ok(length) => length,
-        Err(fault) => return Err(RunFault::Length(fault)),
+    let problem = match Problem::read(diagram, length) {
+        Ok(problem) => problem,
+        Err(fault) => return Err(fault),
     };
     let games = match read_games(alloc, games) {
         Ok(games) => games,
@@ -106,8 +103,8 @@ pub fn run_check<R: Source, W: Sink>(
     };
     match run_listed(
         alloc,
-        &diagram,
-        length,
+        &problem.diagram,
+        problem.length,
         &games,
         bounds,
         source,

@@ -1,6 +1,6 @@
 use super::*;
-use crate::searching::{check_found, read_problem, search_to};
-use pg_report::SearchFault;
+use crate::searching::{check_found, search_to};
+use pg_report::{Problem, SearchFault};
 use std::str;
 
 /// A search for the array in no ply, its certificate, and the check of it and of none.
@@ -8,7 +8,7 @@ use std::str;
 fn searches(rt: HostRuntime) -> Result<(), Fail> {
     let none: Vec<Box<dyn Bound>> = Vec::new(rt.alloc());
     let none = none.as_slice();
-    let Ok(problem) = read_problem(ARRAY, "0") else {
+    let Ok(problem) = Problem::read(ARRAY, "0") else {
         panic!(&rt; "a problem");
     };
     let mut bytes = Vec::new(rt.alloc());
@@ -42,7 +42,7 @@ fn searches_that_give_up(rt: HostRuntime) -> Result<(), Fail> {
             "a game of 1 plies reaches the diagram",
         ),
     ] {
-        let Ok(problem) = read_problem(diagram, length) else {
+        let Ok(problem) = Problem::read(diagram, length) else {
             panic!(&rt; "a problem");
         };
         let mut bytes = Vec::new(rt.alloc());
@@ -54,7 +54,10 @@ fn searches_that_give_up(rt: HostRuntime) -> Result<(), Fail> {
         (ARRAY, "64.5", "length above 64.0"),
         (ARRAY, "", "bad length"),
     ] {
-        check_said(&rt, read_problem(diagram, length).map(|_| 0), wanted, 2)?;
+        match Problem::read(diagram, length) {
+            Ok(_) => panic!(&rt; "a refusal"),
+            Err(fault) => check_said(&rt, Err(Refusal::Check(fault)), wanted, 2)?,
+        }
     }
     let many = Refusal::Search(SearchFault::TooManyGames);
     check_said(&rt, Err(many), "more than 4096 games", 1)
