@@ -55,6 +55,17 @@ fn the_castled_rook(rt: HostRuntime) {
     assert_eq!(rt; need(Color::White, &castled, &long_right), Some(3));
 }
 
+/// Each rook can go to either of two squares, and each has to move once: two plies of White's.
+#[test]
+fn both_rooks_move(rt: HostRuntime) {
+    let rooks = diagram(&rt, "4k3/8/8/8/8/R7/R7/4K3");
+    let home = position(&rt, "4k3/8/8/8/8/8/8/R3K2R w - - 0 1");
+    assert_eq!(rt; need(Color::White, &rooks, &home), Some(2));
+    assert!(rt; Travel.excludes(&rooks, &home, 2));
+    assert!(rt; !Travel.excludes(&rooks, &home, 4));
+    assert!(rt; !Travel.excludes(&rooks, &home, 5));
+}
+
 #[test]
 fn some_distances(rt: HostRuntime) {
     let pawn = white(Kind::Pawn);
