@@ -4,7 +4,7 @@
 --     same_placement               two placements with the same man on each square are equal
 --     tally f b, count_of b m      how many men pass a test of their square and themselves; how many are this man
 use Rattle.std.specs.Prelude.{◌≡◌, ◌≢◌, ℕ, zero, suc, ◌+◌, ◌<◌, ◌≤◌, Bool, true, false, cond, ◌&&◌, T, eqb, ltb, Option, Some, None, List, length, map, get_or, refl}
-use Rattle.std.proofs.Common.{sym, ap, ◌∙◌, subst, arith, eq-eqb, ne_eqb, ltb-true, ltb-false, not-le_of_lt, ext_get_or, eqb→eq, add-one}
+use Rattle.std.proofs.Common.{sym, ap, ◌∙◌, subst, arith, eq-eqb, ne_eqb, ltb-true, ltb-false, not-le_of_lt, ext_get_or, eqb→eq}
 use Rattle.std.specs.List.{range_with_len}
 use Rattle.std.specs.Coded.{Coded, coded_list, coded_option}
 use Rattle.std.proofs.lemmas.List.FromFn.{length-map-range_with_len, get_or-map-range_with_len}
@@ -14,9 +14,8 @@ use Rattle.std.proofs.lemmas.Bool.Decides.{Decides-like, Decides-below_and}
 use mathlib.Core.HLevel.{Σ_prop_path}
 use lib.Dec.{T_prop}
 use base.Stored.{coded_via}
-use Rattle.pg_board.specs.declared.man.Color.{Color}
 use Rattle.pg_board.specs.declared.man.Man.{Man}
-use Rattle.pg_board.specs.Men.{man_code, man_eq, passes, is_man, is_man_decides, king_of}
+use Rattle.pg_board.specs.Men.{man_code, man_eq, passes, is_man, is_man_decides}
 use Rattle.pg_board.specs.Tally.{total, one, count_below-le, total_changed, total-more}
 
 -- ---- the type

@@ -1,7 +1,6 @@
 -- A legal move empties at most three squares. Leads to the contract of `may_reach`.
-use Rattle.std.proofs.Common.{◌≡◌, ◌≢◌, ◌↔◌, ℕ, suc, ◌+◌, ◌<◌, ◌≤◌, ◌^◌, ◌⊎◌, inl, inr, IsTrue, Bool, true, false, not, Option, Some, None, refl, sym, ◌∙◌, ap, subst, arith, bit_and, w64}
+use Rattle.std.proofs.Common.{◌≡◌, ◌≢◌, ◌↔◌, ℕ, ◌+◌, ◌<◌, ◌≤◌, ◌^◌, ◌⊎◌, inl, inr, IsTrue, Bool, false, Option, Some, None, refl, sym, ◌∙◌, ap, subst, arith, bit_and, w64}
 use Rattle.std.proofs.lemmas.Bool.Decides.{eqb_tells}
-use Rattle.pg_board.specs.declared.man.Kind.{Kind}
 use Rattle.pg_board.specs.declared.man.Man.{Man}
 use Rattle.pg_board.specs.Placement.{Placement, get, put, without}
 use Rattle.pg_board.specs.Men.{man, other, is_held}
@@ -9,7 +8,7 @@ use Rattle.pg_position.specs.declared.state.State.{State}
 use Rattle.pg_position.specs.declared.moves.Move.{Move}
 use Rattle.pg_position.specs.declared.moves.Way.{Way}
 use Rattle.pg_position.specs.declared.moves.Way.TheVariants.{Plain, Capture, DoubleAdvance, EnPassant, Promotion, Castling}
-use Rattle.pg_position.specs.Position.{Stands, rook_home, ahead}
+use Rattle.pg_position.specs.Position.{rook_home, ahead}
 use Rattle.pg_position.specs.Step.{Step, Legal, relocated, board_after, king_crossed}
 use Rattle.std.specs.Int.{bit_not}
 use Rattle.pg_board.specs.Bits.{has}

@@ -19,7 +19,7 @@ use Rattle.pg_checker.specs.declared.stop.Stop.{Stop}
 use Rattle.pg_checker.specs.declared.stop.Stop.TheVariants as stop
 use Rattle.pg_checker.proofs.Chess.{chess_exact, chess_few, chess_is}
 use Rattle.pg_checker.proofs.Left.{left_are}
-use Rattle.pg_moves.proofs.SortLemmas.{Contains-head, Contains-later, Contains-cons, Contains-none, sorted_same}
+use Rattle.pg_moves.proofs.SortLemmas.{Contains-head, Contains-later}
 use Rattle.std.specs.List.{Contains}
 use Rattle.pg_position.specs.Position.{IsPosition}
 use Rattle.pg_position.specs.Step.{Legal}

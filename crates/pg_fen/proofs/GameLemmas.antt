@@ -1,17 +1,14 @@
 -- A position's text is spelled for it, so it reads as it, and no other is written so.
-use Rattle.std.proofs.Common.{◌≡◌, ◌≢◌, ℕ, ◌+◌, ◌*◌, ◌-◌, ◌/◌, ◌%◌, ◌≤◌, ◌<◌, ◌^◌, Bool, true, false, inl, inr, List, [], ◌∷◌, ◌++◌, length, get_or, Option, Some, None, refl, sym, ap, subst, ◌∙◌, arith}
-use Rattle.std.specs.Prelude.{Result, Ok, Err, ◌↔◌, ◌&&◌, codes}
+use Rattle.std.proofs.Common.{◌≡◌, ℕ, ◌+◌, ◌/◌, ◌%◌, ◌≤◌, ◌<◌, ◌^◌, Bool, true, false, inl, inr, List, [], ◌∷◌, length, Option, Some, None, refl, sym, ap, ◌∙◌, arith}
+use Rattle.std.specs.Prelude.{Result, Ok, Err, ◌↔◌, ◌&&◌}
 use Rattle.std.specs.Fmt.{decimal}
-use Rattle.std.specs.List.{list_all, All}
+use Rattle.std.specs.List.{list_all}
 use Rattle.std.specs.Char.{is_ascii_digit}
 use Rattle.std.specs.Str.{all_ascii_digits}
-use Rattle.std.specs.Str.Parse.{digits_value}
 use Rattle.std.proofs.lemmas.Bool.{and_parts, and_from}
 use Rattle.std.proofs.lemmas.Bool.Decides.{nat_tests}
 use Rattle.std.proofs.lemmas.Fmt.{digits_decimal, digits_value-decimal, decimal_is_IsNumeral}
 use Rattle.std.proofs.lemmas.Str.Parse.{tells_all_ascii_digits, numerals_by_value}
-use Rattle.std.proofs.lemmas.List.Sums.{AllPass-from_list_all}
-use Rattle.std.proofs.lemmas.List.Splits.{slice_split_at, slice_split_none}
 use Rattle.pg_board.specs.declared.man.Color.{Color}
 use Rattle.pg_board.specs.declared.man.Color.TheVariants.{White, Black}
 use Rattle.pg_board.specs.Squares.{rank}
@@ -23,12 +20,12 @@ use Rattle.pg_fen.specs.declared.fault.FenFault.{FenFault}
 use Rattle.pg_fen.specs.declared.details.Details.{Details}
 use Rattle.pg_fen.specs.declared.games.FenGame.{FenGame}
 use Rattle.pg_fen.specs.declared.games.GameParts.{GameParts}
-use Rattle.pg_fen.specs.Fields.{is_gap, is_word_byte, fields}
+use Rattle.pg_fen.specs.Fields.{is_word_byte, fields}
 use Rattle.pg_fen.specs.Grammar.{IsSideText, AreRightsText, IsPassedText, IsNumberText, AreDetailTexts, IsGameText}
 use Rattle.pg_fen.specs.PlacementText.{placement_text, read_placement}
 use Rattle.pg_fen.specs.DetailText.{details_of}
 use Rattle.pg_fen.specs.PositionText.{both_read, game_parts, game_of}
-use Rattle.pg_fen.specs.PositionWriting.{side_text, rights_text, passed_text, spaced, details_text, parts_in, position_text}
+use Rattle.pg_fen.specs.PositionWriting.{side_text, rights_text, passed_text, parts_in, position_text}
 use Rattle.pg_fen.proofs.DetailLemmas.{details_read, details_spelled}
 use Rattle.pg_fen.proofs.DiagramLemmas.{diagram_of_state}
 use Rattle.pg_fen.proofs.GrammarLemmas.{placement_grammar, placement_word, placement_again}

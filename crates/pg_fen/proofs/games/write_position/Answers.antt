@@ -1,6 +1,4 @@
-use Rattle.std.proofs.Common.{◌≡◌, refl, ◌∙◌}
-use Rattle.pg_fen.specs.Fields.{fields}
-use Rattle.pg_fen.specs.PositionText.{game_parts}
+use Rattle.std.proofs.Common.{refl, ◌∙◌}
 use Rattle.pg_fen.specs.PositionWriting.{position_text}
 use Rattle.pg_fen.proofs.GameLemmas.{game_again, game_alone}
 use Rattle.pg_fen.proofs.games.write_position.Goals as goal
