@@ -1,17 +1,16 @@
 #!/usr/bin/env bash
 # Counts games side by side with stockfish (its `go perft`), one thread each, one after the other: the initial array at 5
-# and 6 plies, and two positions rich in moves of every kind at 4 and 5. Prints each count and the seconds it took, start
-# of the program included. Fails where two counts differ.
+# and 6 plies, and two positions rich in moves of every kind at 4 and 5. Prints each count, the seconds
+# of user time that it took, start of the program included, and the ratio: above 1 where stockfish took longer. Fails where
+# two counts differ.
 # STOCKFISH may name the program to compare with.
 set -eu
 top=$(cd "$(dirname "$(readlink -f "$0")")/.." && pwd)
 stockfish=${STOCKFISH:-$(PATH="$PATH:/usr/games" command -v stockfish)}
 
 seconds() {
-  local start
-  start=$(date +%s%N)
-  "$@"
-  echo $((($(date +%s%N) - start) / 1000000)) | awk '{ printf "%.2f\n", $1 / 1000 }'
+  local TIMEFORMAT=%U
+  { time "$@" 2>&3; } 3>&2 2>&1
 }
 
 stockfish_count() {
@@ -22,7 +21,7 @@ compare() {
   local ours theirs
   ours=$(seconds "$top/pg" count "$1" "$2" | paste -sd' ')
   theirs=$(seconds stockfish_count "$1" "$2" | paste -sd' ')
-  echo "$1 | $2 plies | pg $ours s | stockfish $theirs s"
+  echo "$1 | $2 plies | pg $ours s | stockfish $theirs s |" "$(echo "$ours $theirs" | awk '{ printf "%.2f", $4 / ($2 > 0 ? $2 : 0.01) }')"
   [ "${ours%% *}" = "${theirs%% *}" ]
 }
 

@@ -1,24 +1,20 @@
 -- What a run of records consumes and pulls.
 use Rattle.std.proofs.Common.{◌≡◌, ℕ, ◌+◌, ◌*◌, ◌≤◌, List, [], ◌∷◌, ◌++◌, length, Option, Some, None, Ok, Err, sym, ap, subst, arith, length-append}
+use Rattle.std.proofs.lemmas.List.{flat_map_more}
 use Rattle.std.specs.Prelude.{IfSome, IsErrAnd, Result}
 use Rattle.std.specs.List.{flat_map}
 use Rattle.std.specs.Io.KnownBytes.{Consumes}
 use Rattle.pg_certificate.specs.declared.fault.ReadFault.{ReadFault}
 use Rattle.pg_certificate.specs.declared.fault.ReadFault.TheVariants.{Truncated, Magic, UnknownRecord, Read, Trailing, Failed}
 use Rattle.pg_certificate.specs.declared.record.Record.{Record}
-use Rattle.pg_certificate.specs.declared.record.Record.TheVariants.{Expand, Cut, Ref}
-use Rattle.pg_certificate.specs.Spelling.{spelling}
+use Rattle.pg_certificate.specs.Spelling.{spelling, longest_record}
 use Rattle.pg_certificate.specs.Reader.{PullsAtMost}
 
--- a spelling has at most five bytes
-length-spelling : (x : Record) → length (spelling x) ≤ 5
-length-spelling (Expand named) = omega arith
-length-spelling (Cut code) = omega arith
-length-spelling (Ref number) = omega arith
-
-pub length-spellings : (records : List Record) → length (flat_map spelling records) ≤ 5 * length records
-length-spellings [] = omega arith
-length-spellings (x ∷ records) = omega (arith, length-spelling x, length-spellings records, length-append (spelling x) (flat_map spelling records))
+-- one record more
+pub one_longer : (records : List Record) (x : Record) (n : ℕ) → length (flat_map spelling records) ≤ longest_record * n → length (spelling x) ≤ longest_record → length (flat_map spelling (records ++ x ∷ [])) ≤ longest_record * (n + 1)
+one_longer records x n p q =
+    let more : length (flat_map spelling records ++ spelling x) ≡ length (flat_map spelling (records ++ x ∷ [])) = ap length (flat_map_more spelling [] records x) in
+    omega (arith, p, q, more, length-append (flat_map spelling records) (spelling x))
 
 -- of the bytes before, all but n and one buffer are left
 abbrev pub IsWithin : ℕ → Option (List ℕ) → Option (List ℕ) → Type 0

@@ -5,10 +5,10 @@
 ghost use Rattle.std.specs.Prelude.{◌≡◌, ◌*◌, ◌≤◌, List, length, IfOk, IfSome, OnOk};
 ghost use Rattle.std.specs.List.{flat_map};
 ghost use Rattle.pg_certificate.specs.declared.record.Record.{Record};
-ghost use Rattle.pg_certificate.specs.Spelling.{spelling};
+ghost use Rattle.pg_certificate.specs.Spelling.{spelling, longest_record};
 ghost use Rattle.pg_certificate.specs.Reader.{PullsAtMost};
 
-use pg_certificate::{FromRead, ReadFault, RecordReader, Source};
+use pg_certificate::{FromRead, ReadFault, RecordReader, Source, no_spelling_is_longer};
 use std::{env, io};
 
 /// Reads this many records and then the end, and answers how many were expansions.
@@ -16,8 +16,10 @@ fn count_expansions<S: Source>(source: &mut S, count: u64) -> Result<u64, ReadFa
     ensures spelled { OnOk result (IfSome (S.left source.old) (λ bytes. (records : List Record)
         × (length records ≡ count) × (bytes ≡ flat_map spelling records))) }
     ensures counted { IfOk result (λ n. n ≤ count) }
-    ensures pulls { PullsAtMost (5 * count) (S.left source.old) (S.left source.new) result }
+    ensures pulls { PullsAtMost (longest_record * count) (S.left source.old) (S.left source.new) result }
 {
+    // What this law says of a record's bytes is what the bound on all of them rests on.
+    no_spelling_is_longer();
     let mut reader = RecordReader::new();
     let mut expansions = 0;
     for read in 0..count {

@@ -50,6 +50,7 @@ fn count_records(bytes: &[u8]) -> Count {
             }
             Record::Cut(_) => {}
             Record::Ref(_) => count.references = count.references.saturating_add(1),
+            Record::Priced { .. } => {}
         }
     }
     count

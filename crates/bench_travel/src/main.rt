@@ -1,18 +1,20 @@
-//! Measures the bound by travel: `bench_travel ROUNDS` asks `Travel.excludes` eight cases in each
-//! round, and prints how many calls excluded. That is the same at each run; the time is taken from
-//! outside.
+//! Measures the bound by travel and the tests of prices: `bench_travel ROUNDS` asks `Travel.excludes`
+//! eight cases in each round, and prints how many calls excluded. `bench_travel ROUNDS prices` asks
+//! the test of travel prices, and `bench_travel ROUNDS pawns` that of pawn prices, four cases of 16
+//! men a side in each round. What is printed is the same at each run; the time is taken from outside.
 #![tactic(auto)]
 
+use pg_board::Color;
 use pg_captures::Bound;
 use pg_fen::{Diagram, FenFault, read_position};
 use pg_position::Position;
-use pg_travel::Travel;
+use pg_travel::{Prices, Travel};
 use std::alloc::Global;
 use std::env;
 
 #[derive(Debug, Drop, thiserror::Error)]
 enum Fault {
-    #[error("write one number of rounds")]
+    #[error("write a number of rounds, and prices, pawns or nothing")]
     Usage,
     #[error("{0}")]
     Case(FenFault),
@@ -102,25 +104,166 @@ fn count_excluded(cases: &[Case]) -> u64 {
     count
 }
 
-/// The count of all rounds.
-fn run(cases: &[Case], rounds: u64) -> u64 {
+/// The array without rights, and with White's; White has castled, with 5 men on other squares.
+const AT_HOME: &str = "rnbqkbnr/pppppppp/8/8/8/8/PPPPPPPP/RNBQKBNR w - - 0 1";
+
+const WITH_RIGHTS: &str = "rnbqkbnr/pppppppp/8/8/8/8/PPPPPPPP/RNBQKBNR w KQ - 0 1";
+
+const CASTLED: &str = "rnbqkbnr/pppppppp/8/8/2B1P3/5N2/PPPP1PPP/RNBQ1RK1";
+
+/// The least distances of White's men on a1 to d1, f1, g1, a2 to d2, f2 to h2, f3, c4 and e4, with no
+/// castling, after castling king side, and queen side.
+const FREE: [u8; 16] = [0, 0, 0, 0, 1, 2, 0, 0, 0, 0, 0, 0, 0, 1, 1, 1];
+
+const SHORT: [u8; 16] = [0, 0, 0, 0, 0, 0, 0, 0, 0, 0, 0, 0, 0, 1, 1, 1];
+
+const LONG: [u8; 16] = [1, 0, 0, 0, 1, 4, 0, 0, 0, 0, 0, 0, 0, 1, 1, 1];
+
+/// As `FREE`, and one more on every man.
+const RAISED: [u8; 16] = [1, 1, 1, 1, 2, 3, 1, 1, 1, 1, 1, 1, 1, 2, 2, 2];
+
+/// What one call of a test of prices is given.
+#[derive(Drop)]
+struct Priced {
+    diagram: Diagram,
+    position: Position,
+    left: u8,
+    prices: Prices,
+}
+
+fn list(u: &[u8], v: &[u8]) -> anyhow::Result<Prices> {
+    match Prices::new(u, v) {
+        None => Err(Fault::Usage)?,
+        Some(prices) => Ok(prices),
+    }
+}
+
+fn priced_case(position: &str, left: u8, prices: Prices) -> anyhow::Result<Priced> {
+    match case_of(CASTLED, position, left) {
+        Ok(case) => {
+            let Case {
+                diagram,
+                position,
+                left,
+            } = case;
+            Ok(Priced {
+                diagram,
+                position,
+                left,
+                prices,
+            })
+        }
+        Err(fault) => Err(Fault::Case(fault))?,
+    }
+}
+
+/// One way, one way where every target pays something, three ways, and a list that does not fit.
+fn priced_cases(alloc: Global) -> anyhow::Result<Vec<Priced>> {
+    let mut three = list(&[0; 16], &FREE)?;
+    three.add(&[0; 16], &SHORT);
+    three.add(&[0; 16], &LONG);
+    let mut cases = Vec::new(alloc);
+    cases.push(priced_case(AT_HOME, 10, list(&[0; 16], &FREE)?)?)?;
+    cases.push(priced_case(AT_HOME, 10, list(&[1; 16], &RAISED)?)?)?;
+    cases.push(priced_case(WITH_RIGHTS, 6, three)?)?;
+    cases.push(priced_case(AT_HOME, 10, list(&[0; 16], &RAISED)?)?)?;
+    Ok(cases)
+}
+
+/// How many of the travel prices exclude.
+fn count_priced(cases: &[Priced]) -> u64 {
     let mut count = 0u64;
-    for _ in 0..rounds {
-        count = count.saturating_add(count_excluded(cases));
+    for case in cases {
+        let Priced {
+            diagram,
+            position,
+            left,
+            prices,
+        } = case;
+        if pg_travel::prices_exclude(diagram, position, *left, Color::White, prices) {
+            count = count.saturating_add(1);
+        }
     }
     count
 }
 
+/// A white pawn that came to d3 from the e-file.
+const SHIFTED: &str = "rnbqkbnr/pppppppp/8/8/8/3P4/PPPP1PPP/RNBQKBNR";
+
+/// Prices of White's pawns: that list, one more on every pawn, one that does not fit, and all equal.
+const PAWN_LISTS: [([u8; 8], [u8; 8]); 4] = [
+    ([0, 0, 0, 1, 0, 0, 0, 0], [0, 0, 0, 1, 0, 0, 0, 1]),
+    ([1, 1, 1, 2, 1, 1, 1, 1], [1, 1, 1, 2, 1, 1, 1, 2]),
+    ([0, 0, 0, 1, 0, 0, 0, 0], [0, 0, 0, 1, 0, 0, 0, 2]),
+    ([255; 8], [255; 8]),
+];
+
+/// How many of the pawn prices exclude.
+fn count_pawns(diagram: &Diagram, position: &Position) -> u64 {
+    let mut count = 0u64;
+    for (u, v) in PAWN_LISTS {
+        if pg_pawns::prices_exclude(diagram, position, Color::White, &u, &v) {
+            count = count.saturating_add(1);
+        }
+    }
+    count
+}
+
+/// The count of all rounds.
+fn run(alloc: Global, rounds: u64) -> anyhow::Result<u64> {
+    let cases = read_cases(alloc)?;
+    let mut count = 0u64;
+    for _ in 0..rounds {
+        count = count.saturating_add(count_excluded(cases.as_slice()));
+    }
+    Ok(count)
+}
+
+/// The same of travel prices.
+fn run_prices(alloc: Global, rounds: u64) -> anyhow::Result<u64> {
+    let cases = priced_cases(alloc)?;
+    let mut count = 0u64;
+    for _ in 0..rounds {
+        count = count.saturating_add(count_priced(cases.as_slice()));
+    }
+    Ok(count)
+}
+
+/// The same of pawn prices.
+fn run_pawns(rounds: u64) -> anyhow::Result<u64> {
+    let mut count = 0u64;
+    match case_of(SHIFTED, ARRAY, 4) {
+        Ok(case) => {
+            for _ in 0..rounds {
+                count = count.saturating_add(count_pawns(&case.diagram, &case.position));
+            }
+        }
+        Err(fault) => Err(Fault::Case(fault))?,
+    }
+    Ok(count)
+}
+
 fn main(rt: HostRuntime) -> anyhow::Result<()> {
     let mut rounds = None;
+    let mut prices = false;
+    let mut pawns = false;
     for argument in env::args(&rt)?.skip(1) {
-        rounds = argument.as_str().parse::<u64>().ok();
+        match argument.as_str() {
+            "prices" => prices = true,
+            "pawns" => pawns = true,
+            word => rounds = word.parse::<u64>().ok(),
+        }
     }
     match rounds {
         None => Err(Fault::Usage)?,
         Some(rounds) => {
-            let cases = read_cases(rt.alloc())?;
-            let count = run(cases.as_slice(), rounds);
+            let count = if prices {
+                run_prices(rt.alloc(), rounds)?
+            } else if pawns {
+                run_pawns(rounds)?
+            } else {
+                run(rt.alloc(), rounds)?
+            };
             println!(rt; "{count}")?;
         }
     }

@@ -1,5 +1,5 @@
 -- What the contracts of a board say, from its eight sets.
-use Rattle.std.proofs.Common.{◌≡◌, ℕ, ◌<◌, ◌≢◌, ◌^◌, cond, eqb, Option, true, false, Some, None, sym, ap, ◌∙◌, refl, subst, arith, lt_of_le_of_lt, ltb, ltb-true, ltb-false, bit_or, count_ones, w64}
+use Rattle.std.proofs.Common.{◌≡◌, ℕ, ◌<◌, ◌≢◌, ◌^◌, cond, eqb, Option, true, false, Some, None, sym, ap, ◌∙◌, refl, subst, arith, lt_of_le_of_lt, ltb, ltb-true, ltb-false, bit_or, count_ones, w64, ◌↔◌}
 use Rattle.std.specs.Int.{trailing_zeros}
 use Rattle.std.proofs.lemmas.Nat.{and_le_l}
 use Rattle.pg_board.specs.declared.man.Color.{Color}
@@ -9,7 +9,7 @@ use Rattle.pg_board.specs.Tally.{count_below, count_below_same}
 use Rattle.pg_board.specs.Men.{is_man, is_man_decides, is_of, is_held}
 use Rattle.pg_board.specs.Placement.{Placement, placement_of, get, get-placement_of, empty, empty_is, write, write_is, count_of, tally, tally_below, get_off, same_placement, IsFirst}
 use Rattle.pg_board.specs.Bits.{has, has-none, has-first, ones-count}
-use Rattle.pg_board.specs.Sets.{man_in, IsSound, Replaces, Shows, shown, man_in-replaced, set_of, set_of_color, has-set_of, has_color, has-held, sets_of, sets_of-placement_of}
+use Rattle.pg_board.specs.Sets.{man_in, IsSound, Replaces, Shows, shown, man_in-replaced, unlike, unlike_out, unlike_in, set_of, set_of_color, has-set_of, has_color, has-held, sets_of, sets_of-placement_of}
 use Rattle.pg_board.specs.declared.sets.Sets.{Sets}
 
 -- ---- a placement that is made of a function f
@@ -113,3 +113,12 @@ same_from_sets s t a b v w e = sym v ∙ ap (λ u. placement_of (man_in u)) e �
 
 pub sets_from_same : (s t : Sets) (a b : Placement) → placement_of (man_in s) ≡ a → placement_of (man_in t) ≡ b → IsSound s → IsSound t → a ≡ b → s ≡ t
 sets_from_same s t a b v w h k e = sym (sets_of-placement_of s h) ∙ ap sets_of (v ∙ e ∙ sym w) ∙ sets_of-placement_of t k
+
+-- the squares on which two boards differ
+pub sets_differ : (s t : Sets) (a b : Placement) → placement_of (man_in s) ≡ a → placement_of (man_in t) ≡ b → IsSound s → IsSound t → (n : ℕ) → n ≡ unlike s t → (q : ℕ) → q < 64 → (has n q ≡ false) ↔ (get a q ≡ get b q)
+sets_differ s t a b v w h k n is q l =
+    let x : get a q ≡ man_in s q = get_from (man_in s) a q v l in
+    let y : get b q ≡ man_in t q = get_from (man_in t) b q w l in (
+      λ e. x ∙ unlike_out s t q (ap (λ m. has m q) (sym is) ∙ e) ∙ sym y,
+      λ e. ap (λ m. has m q) is ∙ unlike_in s t h k q l (sym x ∙ e ∙ y),
+    )

@@ -6,7 +6,8 @@ use Rattle.std.proofs.lemmas.Bool.{eqb-false}
 use Rattle.std.specs.Int.{bit_at, bit_not, trailing_zeros, leading_zeros}
 use Rattle.std.proofs.lemmas.Nat.{ones_le_self, leading_top}
 use Rattle.std.specs.Int.Count.{ones_step}
-use Rattle.std.proofs.lemmas.Nat.Bits.{bit_at_lowest, bit_at-suc, bit_at-zero, bit_at_and, bit_at_or, bit_at-lt, same_from_bits_below, bit_at_cat_low, bit_at_cat_high, bit_at_set_same, bit_at_set_other, bit_at_clear_same, bit_at_clear_other, bit_at-trailing_zeros, bit_at_above}
+use Rattle.std.proofs.lemmas.Nat.Bits.{bit_at_lowest, bit_at-suc, bit_at-zero, bit_at_and, bit_at_or, bit_at-lt, same_from_bits_below, bit_at_cat_low, bit_at_cat_high, bit_at_set_same, bit_at_set_other, bit_at_clear_same, bit_at_clear_other, bit_at-trailing_zeros, bit_at_above, bit_at_xor}
+use Rattle.std.specs.Int.Bits.{bit_xor}
 use Rattle.pg_board.specs.Tally.{one, count_below, total-none, total-first, count_below_same}
 
 -- that the square q is in the set n
@@ -94,6 +95,27 @@ either false false = refl
 
 pub has-or : (a b q : ℕ) → has (bit_or a b) q ≡ has a q || has b q
 has-or a b q = ap (λ n. eqb n 1) (bit_at_or a b q ∙ ap₂ max (bit_has a q) (bit_has b q)) ∙ either (has a q) (has b q)
+
+odd : (a b : Bool) → ((eqb ((cond a 1 0 + cond b 1 0) % 2) 1 ≡ false) → a ≡ b) × (a ≡ b → eqb ((cond a 1 0 + cond b 1 0) % 2) 1 ≡ false)
+odd true true = (λ _. refl, λ _. refl)
+odd true false = (λ e. cc, λ e. cc)
+odd false true = (λ e. cc, λ e. cc)
+odd false false = (λ _. refl, λ _. refl)
+
+-- out of `a ^ b` is what is in both or in neither
+pub xor_out : (a b q : ℕ) → (has (bit_xor a b) q ≡ false → has a q ≡ has b q) × (has a q ≡ has b q → has (bit_xor a b) q ≡ false)
+xor_out a b q =
+    let is : has (bit_xor a b) q ≡ eqb ((cond (has a q) 1 0 + cond (has b q) 1 0) % 2) 1 =
+    ap (λ n. eqb n 1) (bit_at_xor a b q ∙ ap₂ (λ (x y : ℕ). (x + y) % 2) (bit_has a q) (bit_has b q)) in
+    (λ e. (odd (has a q) (has b q)).0 (sym is ∙ e), λ e. is ∙ (odd (has a q) (has b q)).1 e)
+
+neither : (a b : Bool) → ((a || b) ≡ false → (a ≡ false) × (b ≡ false)) × ((a ≡ false) × (b ≡ false) → (a || b) ≡ false)
+neither true b = (λ e. cc, λ e. cc)
+neither false b = (λ e. (refl, e), λ e. e.1)
+
+pub or_out : (a b q : ℕ) → (has (bit_or a b) q ≡ false → (has a q ≡ false) × (has b q ≡ false)) × ((has a q ≡ false) × (has b q ≡ false) → has (bit_or a b) q ≡ false)
+or_out a b q =
+    (λ e. (neither (has a q) (has b q)).0 (sym (has-or a b q) ∙ e), λ e. has-or a b q ∙ (neither (has a q) (has b q)).1 e)
 
 -- ---- `count_ones` and `trailing_zeros`
 pub ones-count : (k n : ℕ) → n < 2 ^ k → count_ones n ≡ count_below (has n) k

@@ -1,5 +1,6 @@
 -- The eight sets that a `Board` keeps, one for each kind and each colour, as a placement.
 use Rattle.std.specs.Prelude.{◌≡◌, ℕ, ◌^◌, ◌<◌, Bool, true, false, cond, ◌&&◌, ◌||◌, eqb, Option, Some, None, refl, bit_and, bit_or}
+use Rattle.std.specs.Int.Bits.{bit_xor}
 use Rattle.std.proofs.Common.{sym, ap, ap₂, ◌∙◌, subst}
 use Rattle.pg_board.specs.declared.man.Color.{Color}
 use Rattle.pg_board.specs.declared.man.Color.TheVariants.{White, Black}
@@ -8,7 +9,7 @@ use Rattle.pg_board.specs.declared.man.Kind.TheVariants.{Pawn, Knight, Bishop, R
 use Rattle.pg_board.specs.declared.man.Man.{Man}
 use Rattle.pg_board.specs.Men.{is_kind, is_of, is_man, kind_eq, color_eq, is_held}
 use Rattle.pg_board.specs.Placement.{Placement, placement_of, get, get-placement_of}
-use Rattle.pg_board.specs.Bits.{has, same_sets, bits_below, bits_below-lt, has-bits_below, has-and, has-or}
+use Rattle.pg_board.specs.Bits.{has, same_sets, bits_below, bits_below-lt, has-bits_below, has-and, has-or, xor_out, or_out}
 use Rattle.pg_board.specs.declared.sets.Sets.{Sets}
 
 abbrev pub kind_from : Bool → Bool → Bool → Bool → Bool → Kind
@@ -196,3 +197,42 @@ of_either (Some m) = elim m.color as (λ c. (color_eq c White || color_eq c Blac
 
 pub has-held : (s : Sets) → IsSound s → (q : ℕ) → q < 64 → has (bit_or s.white s.black) q ≡ is_held (man_in s q)
 has-held s h q l = has-or s.white s.black q ∙ ap₂ (λ x y. x || y) ((h.shows q l).white) ((h.shows q l).black) ∙ of_either (man_in s q)
+
+-- ---- where two boards differ
+abbrev pub unlike : Sets → Sets → ℕ
+unlike s t = bit_or (bit_or (bit_or (bit_or (bit_or (bit_or (bit_xor s.white t.white) (bit_xor s.black t.black)) (bit_xor s.pawns t.pawns)) (bit_xor s.knights t.knights)) (bit_xor s.bishops t.bishops)) (bit_xor s.rooks t.rooks)) (bit_xor s.queens t.queens)
+
+pub unlike_out : (s t : Sets) (q : ℕ) → has (unlike s t) q ≡ false → man_in s q ≡ man_in t q
+unlike_out s t q e =
+    let h6 = (or_out _ _ q).0 e in
+    let h5 = (or_out _ _ q).0 h6.0 in
+    let h4 = (or_out _ _ q).0 h5.0 in
+    let h3 = (or_out _ _ q).0 h4.0 in
+    let h2 = (or_out _ _ q).0 h3.0 in
+    let h1 = (or_out _ _ q).0 h2.0 in
+    λ i. man_from ((xor_out s.white t.white q).0 h1.0 i) ((xor_out s.black t.black q).0 h1.1 i) (kind_from ((xor_out s.pawns t.pawns q).0 h2.1 i) ((xor_out s.knights t.knights q).0 h3.1 i) ((xor_out s.bishops t.bishops q).0 h4.1 i) ((xor_out s.rooks t.rooks q).0 h5.1 i) ((xor_out s.queens t.queens q).0 h6.1 i))
+
+like : (f : Option Man → Bool) (a b q : ℕ) (x y : Option Man) → has a q ≡ f x → has b q ≡ f y → x ≡ y → has (bit_xor a b) q ≡ false
+like f a b q x y h k e = (xor_out a b q).1 (h ∙ ap f e ∙ sym k)
+
+pub unlike_in : (s t : Sets) → IsSound s → IsSound t → (q : ℕ) → q < 64 → man_in s q ≡ man_in t q → has (unlike s t) q ≡ false
+unlike_in s t h k q l e =
+    let a : Shows s q (man_in s q) = h.shows q l in
+    let b : Shows t q (man_in t q) = k.shows q l in
+    (or_out _ _ q).1 (
+      (or_out _ _ q).1 (
+        (or_out _ _ q).1 (
+          (or_out _ _ q).1 (
+            (or_out _ _ q).1 (
+              (or_out _ _ q).1
+                  (like (is_of White) s.white t.white q _ _ a.white b.white e, like (is_of Black) s.black t.black q _ _ a.black b.black e),
+              like (is_kind Pawn) s.pawns t.pawns q _ _ a.pawns b.pawns e,
+            ),
+            like (is_kind Knight) s.knights t.knights q _ _ a.knights b.knights e,
+          ),
+          like (is_kind Bishop) s.bishops t.bishops q _ _ a.bishops b.bishops e,
+        ),
+        like (is_kind Rook) s.rooks t.rooks q _ _ a.rooks b.rooks e,
+      ),
+      like (is_kind Queen) s.queens t.queens q _ _ a.queens b.queens e,
+    )

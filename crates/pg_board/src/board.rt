@@ -1,11 +1,12 @@
-ghost use Rattle.std.specs.Prelude.{◌≡◌, ℕ, ◌<◌, ◌≢◌, ◌↔◌, IsTrue, MatchOption, Some};
+ghost use Rattle.std.specs.Prelude.{◌≡◌, ℕ, ◌<◌, ◌≢◌, ◌↔◌, IsTrue, MatchOption, Some, false};
 ghost use Rattle.std.specs.Cmp.{partial_equiv_from_equiv, decided};
 ghost use Rattle.pg_board.specs.Men.{king_of, is_man, is_of, is_held};
 ghost use Rattle.pg_board.specs.Placement.{placement_eq, placement_eq_decides, get, empty, put, without, count_of, IsFirst};
 ghost use Rattle.pg_board.specs.Bits.{has};
+ghost use Rattle.pg_board.specs.Sets.{man_in, IsSound};
 
 use crate::man::{Color, Kind, Man};
-use crate::sets::{Sets, color_set, man_at, man_set, replaced, same_sets};
+use crate::sets::{Sets, color_set, differing, man_at, man_set, replaced, same_sets};
 use crate::square::Square;
 use std::marker::Model;
 
@@ -50,6 +51,15 @@ impl Board {
                 black: 0,
             },
         }
+    }
+
+    /// The board of these eight sets, in which each square is in none of them, or in one of a kind and
+    /// in one of a colour.
+    pub fn of_sets(sets: Sets) -> Board
+        requires { IsSound sets }
+        ensures { (q : ℕ) → q < 64 → get result q ≡ man_in sets q }
+    {
+        Board { sets }
     }
 
     /// The man on a square; none where it is empty.
@@ -122,6 +132,13 @@ impl Board {
         ensures { (q : ℕ) → q < 64 → has result q ≡ is_held (get self.now q) }
     {
         self.sets.white | self.sets.black
+    }
+
+    /// The squares that do not hold the same on both boards, as a set of bits.
+    pub fn differing(&self, other: &Board) -> u64
+        ensures { (q : ℕ) → q < 64 → (has result q ≡ false) ↔ (get self.now q ≡ get other.now q) }
+    {
+        differing(&self.sets, &other.sets)
     }
 }
 

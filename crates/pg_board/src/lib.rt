@@ -8,7 +8,7 @@ mod square;
 
 pub use board::Board;
 pub use man::{Color, Kind, Man};
-pub use sets::contains;
+pub use sets::{Sets, contains};
 pub use square::Square;
 
 #[cfg(test)]

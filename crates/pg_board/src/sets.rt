@@ -2,10 +2,11 @@
 ghost use Rattle.std.specs.Prelude.{◌≡◌, ℕ, ◌+◌, ◌<◌, ◌^◌, ◌↔◌, cond, IsTrue, bit_and, eqb};
 ghost use Rattle.pg_board.specs.Men.{is_kind, is_of};
 ghost use Rattle.pg_board.specs.Bits.{has};
-ghost use Rattle.pg_board.specs.Sets.{kind_in, man_in, set_of, set_of_kind, set_of_color, Replaces, AreWords};
+ghost use Rattle.pg_board.specs.Sets.{kind_in, man_in, set_of, set_of_kind, set_of_color, unlike, Replaces, AreWords};
 
 use crate::man::{Color, Kind, Man};
 
+/// The squares of each kind and of each colour: bit q is the square with index q.
 #[derive(Clone, Copy, Debug, PartialEq, Eq)]
 pub struct Sets {
     pub pawns: u64,
@@ -144,4 +145,18 @@ pub fn same_sets(a: &Sets, b: &Sets) -> bool
     ensures { IsTrue result ↔ (a.now ≡ b.now) }
 {
     *a == *b
+}
+
+// The squares that are in a set of the one and not of the other. Kings need no look: a man of no
+// other kind is a king.
+pub fn differing(a: &Sets, b: &Sets) -> u64
+    ensures { result ≡ unlike a.now b.now }
+{
+    (a.white ^ b.white)
+        | (a.black ^ b.black)
+        | (a.pawns ^ b.pawns)
+        | (a.knights ^ b.knights)
+        | (a.bishops ^ b.bishops)
+        | (a.rooks ^ b.rooks)
+        | (a.queens ^ b.queens)
 }

@@ -1,2 +1,3 @@
 pub mod TallyLemmas
 pub mod FirstLemmas
+pub mod SumLemmas

@@ -6,3 +6,10 @@ pub mod Potential
 pub mod CapturesLaw
 pub mod PromotionsLaw
 pub mod Decided
+pub mod FreeSteps
+pub mod BoardLemmas
+pub mod MoveLemmas
+pub mod PriceLists
+pub mod Duality
+pub mod PriceSums
+pub mod PlaceLemmas

@@ -67,11 +67,16 @@ impl Bound for Captures {
 
     ghost sound = { λ b d p k valid h. captures_barren d p k valid ((captures_test_tells d p k).0 h) };
 
-    fn code(&self) -> u8 {
+    fn code(&self) -> u8
+        ensures { result ≡ 1 }
+    {
         1
     }
 
-    fn excludes(&self, diagram: &Diagram, position: &Position, left: u8) -> bool {
+    fn excludes(&self, diagram: &Diagram, position: &Position, left: u8) -> bool
+        ensures fixed { result ≡ captures_test diagram.now position.now left }
+        ensures exact { IsTrue result ↔ CapturesHolds diagram.now position.now left }
+    {
         captures_hold(diagram, position, left)
     }
 }

@@ -19,7 +19,7 @@ fn man(color: Color, kind: Kind) -> Man
     Man { color, kind }
 }
 
-// How many men the colour has.
+/// How many men the colour has.
 pub fn all_men(board: &Board, color: Color) -> u8
     ensures value { result ≡ men color any_man board.now }
     ensures few { result ≤ 64 }
@@ -27,7 +27,7 @@ pub fn all_men(board: &Board, color: Color) -> u8
     board.squares_of_color(color).count_ones() as u8
 }
 
-// How many pawns the colour has.
+/// How many pawns the colour has.
 pub fn pawns(board: &Board, color: Color) -> u8
     ensures value { result ≡ men color any_pawn board.now }
     ensures few { result ≤ 64 }

@@ -7,14 +7,15 @@ mod boxes;
 mod captures;
 mod classes;
 mod counts;
-mod laws;
+mod prices;
 mod promotions;
 
 pub use bound::Bound;
 pub use boxes::first_excludes;
 pub use captures::{Captures, owed, plies_left, victims_of};
 pub use classes::Class;
-pub use laws::tests_are_exact;
+pub use counts::{all_men, pawns};
+pub use prices::price_sum;
 pub use promotions::Promotions;
 
 #[cfg(test)]

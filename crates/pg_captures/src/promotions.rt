@@ -65,11 +65,16 @@ impl Bound for Promotions {
 
     ghost sound = { λ b d p k valid h. promotions_barren d p k valid ((promotions_test_tells d p).0 h) };
 
-    fn code(&self) -> u8 {
+    fn code(&self) -> u8
+        ensures { result ≡ 2 }
+    {
         2
     }
 
-    fn excludes(&self, diagram: &Diagram, position: &Position, left: u8) -> bool {
+    fn excludes(&self, diagram: &Diagram, position: &Position, left: u8) -> bool
+        ensures fixed { result ≡ promotions_test diagram.now position.now }
+        ensures exact { IsTrue result ↔ PromotionsHolds diagram.now position.now }
+    {
         promotions_hold(diagram, position)
     }
 }

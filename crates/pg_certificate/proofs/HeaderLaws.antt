@@ -1,15 +1,16 @@
 -- What reading a header and its spelling have to do with one another.
 use Rattle.std.proofs.Common.{◌≡◌, ◌≢◌, ℕ, ◌<◌, ◌≤◌, ◌⊎◌, inl, inr, true, false, ltb, List, ◌++◌, length, take, drop, Result, Ok, Err, refl, sym, ap, ◌∙◌, arith}
 use Rattle.std.proofs.lemmas.Bool.{cases_lt, lt-ltb, le-ltb}
-use Rattle.std.proofs.lemmas.List.{length-append, length-take, take_at, drop_at, take-append-drop}
+use Rattle.std.proofs.lemmas.List.{length-append, length-take, take-append-drop}
 use Rattle.std.specs.Prelude.{Option}
 use Rattle.pg_certificate.specs.declared.fault.ReadFault.{ReadFault}
 use Rattle.pg_certificate.specs.declared.fault.ReadFault.TheVariants.{Truncated, Magic}
 use Rattle.pg_certificate.specs.declared.record.Header.{Header}
 use Rattle.pg_certificate.specs.Spelling.{header_spelling, IsHeader}
-use Rattle.pg_certificate.specs.Reading.{◌>>=◌, exactly, header_of, header_or_magic, header_at}
+use Rattle.pg_certificate.specs.Reading.{◌>>=◌, header_of, header_or_magic, header_at}
 use Rattle.pg_certificate.specs.Laws.{RefusesWhatIsNoHeader}
 use Rattle.pg_certificate.proofs.HeaderLemmas.{option_tells, header_is, header_again}
+use Rattle.pg_certificate.proofs.Pieces.{all_of}
 
 abbrev Read : Type 0
 Read = Result (Header × List ℕ) ReadFault
@@ -40,15 +41,10 @@ cut_at_37 bytes = elim (cases_lt (length bytes) 37) [
       inr (take 37 bytes, drop 37 bytes, omega (arith, p, length-take 37 bytes), sym (take-append-drop 37 bytes), rw long refl)
 ]
 
-exactly_37 : (text rest : List ℕ) → length text ≡ 37 → exactly 37 (text ++ rest) ≡ Ok (text, rest)
-exactly_37 text rest e =
-    let long : ltb (length (text ++ rest)) 37 ≡ false = le-ltb _ _ (omega (arith, e, length-append text rest)) in
-    rw (long, take_at text rest 37 e, drop_at text rest 37 e) refl
-
 pub headers_again : (h : Header) (rest : List ℕ) → IsHeader h → header_at (header_spelling h ++ rest) ≡ Ok (h, rest)
 headers_again h rest is =
     let len : length (header_spelling h) ≡ 37 = omega (arith, is.whole) in
-    ap (λ (r : Result (List ℕ × List ℕ) ReadFault). r >>= λ x. header_or_magic (header_of x.0) x.1) (exactly_37 (header_spelling h) rest len)
+    ap (λ (r : Result (List ℕ × List ℕ) ReadFault). r >>= λ x. header_or_magic (header_of x.0) x.1) (all_of 37 (header_spelling h) rest len)
     ∙ ap (λ (o : Option Header). header_or_magic o rest) (header_again h is)
 
 pub headers_only : (bytes rest : List ℕ) (h : Header) → header_at bytes ≡ Ok (h, rest) → IsHeader h × (bytes ≡ header_spelling h ++ rest)

@@ -32,12 +32,18 @@ mapped f (Some x) y e = let same : f x ≡ y = cc in (x, refl, same)
 
 digit_is : (digit version : ℕ) → version_named digit ≡ Some version → IsVersion version × (digit ≡ 48 + version)
 digit_is digit version e =
-    elim (chosen (eqb digit 49) (Some 1) None (Some version) e) [
+    elim (chosen (eqb digit 49) (Some 1) (cond (eqb digit 50) (Some 2) None) (Some version) e) [
       | inl k ↦
           let one : version ≡ 1 = cc in
           let same : digit ≡ 49 = eqb-true digit 49 k.0 in
-          (one, omega (arith, one, same))
-      | inr k ↦ absurd cc
+          (inl one, omega (arith, one, same))
+      | inr k ↦ elim (chosen (eqb digit 50) (Some 2) None (Some version) k.1) [
+        | inl j ↦
+            let two : version ≡ 2 = cc in
+            let same : digit ≡ 50 = eqb-true digit 50 j.0 in
+            (inr two, omega (arith, two, same))
+        | inr j ↦ absurd cc
+      ]
     ]
 
 letters_are : (p q r s version : ℕ) (text : List ℕ) → version_of (p ∷ q ∷ r ∷ s ∷ text) ≡ Some version → IsVersion version × (p ≡ 80) × (q ≡ 71) × (r ≡ 67) × (s ≡ 48 + version)
@@ -68,7 +74,8 @@ header_is (p ∷ q ∷ r ∷ s ∷ t ∷ text) h len e =
     (record { known = k.0; whole = omega (arith, len) }, spelled p q r s t m.0 text k.1 k.2 k.3 k.4)
 
 spelled_again : (version plies : ℕ) (diagram : List ℕ) → IsVersion version → header_of (80 ∷ 71 ∷ 67 ∷ (48 + version) ∷ plies ∷ diagram) ≡ Some (record { version = version; plies = plies; diagram = diagram })
-spelled_again version plies diagram e = rw e refl
+spelled_again version plies diagram (inl e) = rw e refl
+spelled_again version plies diagram (inr e) = rw e refl
 
 -- a header is what its spelling is
 pub header_again : (h : Header) → IsHeader h → header_of (header_spelling h) ≡ Some h

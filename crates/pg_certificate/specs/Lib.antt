@@ -1,4 +1,5 @@
 pub mod Spelling
+pub mod Outlines
 pub mod Reading
 pub mod Reader
 pub mod Writer

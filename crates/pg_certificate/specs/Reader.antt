@@ -4,10 +4,11 @@ use Rattle.std.specs.Io.KnownBytes.{prepend_known}
 use Rattle.pg_certificate.specs.declared.fault.ReadFault.{ReadFault}
 use Rattle.pg_certificate.specs.declared.fault.ReadFault.TheVariants.{Read, Failed}
 
--- a reader of records: the bytes that it has pulled and not yet read, and whether it has refused
+-- a reader of records: the bytes that it has pulled and not yet read, whether it has refused, and the version by which it reads records
 pub record ReaderState : Type 0 where
   pub held : List ℕ
   pub failed : Bool
+  pub version : ℕ
 
 -- the bytes that it holds, and then what is left of the source
 abbrev pub to_come : ReaderState → Option (List ℕ) → Option (List ℕ)

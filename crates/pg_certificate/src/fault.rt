@@ -11,7 +11,7 @@ pub enum ReadFault {
     /// There are 37 bytes, and they begin with the magic of no version.
     #[error("not a certificate")]
     Magic,
-    /// No record begins with this byte.
+    /// The first byte that no record of the version can have at its place.
     #[error("unknown record byte {0}")]
     UnknownRecord(u8),
     /// The source has failed.

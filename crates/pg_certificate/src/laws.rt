@@ -1,14 +1,16 @@
 //! What reading and spelling have to do with one another. Each law is a function that does nothing:
 //! its contract is the law.
 ghost use Rattle.std.specs.Prelude.{List, ℕ};
-ghost use Rattle.pg_certificate.specs.Laws.{RecordsAreReadAgain, WhatIsReadIsSpelled, NoSpellingBeginsAnother, TruncatedWhereCutShort, UnknownWhereNoneBegins, HeadersAreReadAgain, WhatIsReadIsAHeader, RefusesWhatIsNoHeader};
+ghost use Rattle.pg_certificate.specs.Laws.{RecordsAreReadAgain, WhatIsReadIsSpelled, NoSpellingBeginsAnother, NoSpellingIsLonger, TruncatedWhereCutShort, UnknownWhereNoneGoesOn, HeadersAreReadAgain, WhatIsReadIsAHeader, RefusesWhatIsNoHeader};
 
-/// Bytes that begin with a record's spelling are read as that record, and what follows is left.
+/// Bytes that begin with the spelling of a record of a version are read as that record by that
+/// version, and what follows is left.
 pub fn records_are_read_again()
     ensures { RecordsAreReadAgain }
 {}
 
-/// The bytes of a record that is read begin with its spelling.
+/// The bytes of a record that is read begin with its spelling, and it is a record of the version by
+/// which it was read.
 pub fn what_is_read_is_spelled()
     ensures { WhatIsReadIsSpelled }
 {}
@@ -19,14 +21,20 @@ pub fn no_spelling_begins_another()
     ensures { NoSpellingBeginsAnother }
 {}
 
+/// No record has more bytes than the longest.
+pub fn no_spelling_is_longer()
+    ensures { NoSpellingIsLonger }
+{}
+
 /// Reading a record answers Truncated exactly where the bytes are less than a whole one.
 pub fn truncated_where_cut_short()
     ensures { TruncatedWhereCutShort }
 {}
 
-/// Reading a record answers UnknownRecord exactly at a byte that no record begins with.
-pub fn unknown_where_none_begins()
-    ensures { UnknownWhereNoneBegins }
+/// Reading a record answers UnknownRecord exactly at the first byte that no record of the version
+/// can have at its place.
+pub fn unknown_where_none_goes_on()
+    ensures { UnknownWhereNoneGoesOn }
 {}
 
 /// Bytes that begin with a header's spelling are read as that header, and what follows is left.

@@ -6,6 +6,7 @@ mod fault;
 mod from_read;
 mod laws;
 mod magic;
+mod outline;
 mod reader;
 mod record;
 mod source;
@@ -15,9 +16,9 @@ mod writer;
 pub use fault::{ReadFault, WriteFault};
 pub use from_read::FromRead;
 pub use laws::{
-    headers_are_read_again, no_spelling_begins_another, records_are_read_again,
-    refuses_what_is_no_header, truncated_where_cut_short, unknown_where_none_begins,
-    what_is_read_is_a_header, what_is_read_is_spelled,
+    headers_are_read_again, no_spelling_begins_another, no_spelling_is_longer,
+    records_are_read_again, refuses_what_is_no_header, truncated_where_cut_short,
+    unknown_where_none_goes_on, what_is_read_is_a_header, what_is_read_is_spelled,
 };
 pub use reader::RecordReader;
 pub use record::{Header, Record};

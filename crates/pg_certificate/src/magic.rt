@@ -13,6 +13,7 @@ fn version_named(digit: u8) -> Option<u8>
 {
     match digit {
         b'1' => Some(1),
+        b'2' => Some(2),
         _ => None,
     }
 }

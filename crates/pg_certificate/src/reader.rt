@@ -1,32 +1,39 @@
 //! The header and the records of a certificate, read from a source.
-ghost use Rattle.std.specs.Prelude.{◌≡◌, ◌↔◌, ◌<◌, ◌≤◌, ◌^◌, ℕ, slice_index, [], ◌∷◌, length, true, false, IfOk, OnOk, IsTrue};
+ghost use Rattle.std.specs.Prelude.{◌≡◌, ◌↔◌, ◌<◌, ◌≤◌, ◌^◌, ◌+◌, ◌*◌, ℕ, List, slice_index, [], ◌∷◌, length, true, false, IfOk, OnOk, OnErr, IsTrue};
 ghost use Rattle.std.specs.Io.KnownBytes.{Keeps, Consumes, IsAtEnd};
 ghost use Rattle.std.specs.Int.{w32, to_be_bytes};
-ghost use Rattle.pg_certificate.specs.Spelling.{spelling, header_spelling};
-ghost use Rattle.pg_certificate.specs.Reading.{more_at, byte_at, exactly, number_at, header_at, record_at, end_at};
+ghost use Rattle.pg_certificate.specs.Spelling.{spelling, header_spelling, longest_record, IsHeader, IsRecord, IsRecordOf};
+ghost use Rattle.pg_certificate.specs.Reading.{more_at, byte_at, byte_from, exactly, number_at, outline_at, lists_at, priced_at, header_at, record_at, end_at};
+ghost use Rattle.pg_certificate.specs.Outlines.{IsOutline, AreListsOf, outline_spelling, lists_spelling};
 ghost use Rattle.pg_certificate.specs.Reader.{to_come, Reads, ReadsAs, RefusesOnce, PullsAtMost};
 
 use crate::fault::ReadFault;
 use crate::magic::{HEADER_LENGTH, header_of};
+use crate::outline::{Outline, color_of, prices_of};
 use crate::record::{Header, Record};
 use crate::source::{Refused, Source};
+use pg_travel::Prices;
 use std::marker::Model;
 
 /// The room of the buffer, in bytes.
 const CAPACITY: usize = 4096;
 
+/// The most bytes that the price lists of a record have: three lists of 64 sources and 64 targets.
+const LONGEST_LISTS: usize = 3 * (64 + 64);
+
 /// Reads a certificate: its header first, then its records. The reader holds up to 4,096 bytes that
 /// it has pulled and not yet read, so each call is to be given the same source.
 ///
-/// Contracts see the bytes that it holds and whether it has refused. The bytes to come are those
-/// that it holds and then those that are left in the source. After any refusal it holds none, and
-/// every call answers Failed and leaves the source as it is.
+/// Contracts see the bytes that it holds, whether it has refused and by which version it reads
+/// records. The bytes to come are those that it holds and then those that are left in the source.
+/// After any refusal it holds none, and every call answers Failed and leaves the source as it is.
 #[derive(Drop)]
 pub struct RecordReader {
     buffer: [u8; CAPACITY],
     start: usize,
     end: usize,
     failed: bool,
+    version: u8,
 }
 
 // What is held is `buffer[start..end]`. It is empty once a call has refused, so a byte that is held
@@ -37,26 +44,30 @@ impl Model for RecordReader {
 
     ghost Value = { ReaderState };
 
-    ghost view = { λ r. record { held = slice_range r.buffer r.start r.end; failed = r.failed } };
+    ghost view = { λ r. record { held = slice_range r.buffer r.start r.end; failed = r.failed; version = r.version } };
 
     ghost invariant = { λ r. (r.start ≤ r.end) × (r.end ≤ 4096) × (r.failed ≡ true → r.start ≡ r.end) };
 }
 
 impl RecordReader {
-    /// A reader that holds no byte and has not refused.
+    /// A reader that holds no byte and has not refused. Until it has read a header it reads records
+    /// by version 1.
     pub fn new() -> RecordReader
         ensures held { result.held ≡ [] }
         ensures failed { result.failed ≡ false }
+        ensures version { result.version ≡ 1 }
     {
         RecordReader {
             buffer: [0; CAPACITY],
             start: 0,
             end: 0,
             failed: false,
+            version: 1,
         }
     }
 
-    /// Reads the header, the first 37 bytes. It is called first, and once.
+    /// Reads the header, the first 37 bytes. It is called first, and once: from then on records are
+    /// read by its version.
     ///
     /// Truncated where fewer than 37 bytes are to come, and otherwise Magic where they begin with
     /// the magic of no version. Read where the source has failed. Failed after any refusal.
@@ -66,15 +77,21 @@ impl RecordReader {
         ensures found { IfOk result (λ h. Consumes
             (to_come self.old (S.left source.old)) (to_come self.new (S.left source.new))
             (header_spelling h)) }
+        ensures spelled { IfOk result (λ h. IsHeader h) }
         ensures refuses { RefusesOnce self.old.failed self.new.failed (S.has_failed source.new) result }
         ensures pulls { PullsAtMost 37 (to_come self.old (S.left source.old)) (S.left source.new) result }
         ensures room { length self.new.held ≤ 4096 }
+        ensures emptied { OnErr result (self.new.held ≡ []) }
+        ensures version { IfOk result (λ h. self.new.version ≡ h.version) }
         ensures untouched { self.old.failed ≡ true → source.new ≡ source.old }
     {
         let mut text = [0; HEADER_LENGTH];
         self.exact(&mut text, source)?;
         match header_of(&text) {
-            Some(header) => Ok(header),
+            Some(header) => {
+                self.version = header.version;
+                Ok(header)
+            }
             None => {
                 self.refuse();
                 Err(ReadFault::Magic)
@@ -82,20 +99,24 @@ impl RecordReader {
         }
     }
 
-    /// Reads the record at the front of the bytes to come.
+    /// Reads the record at the front of the bytes to come, by the version of the header that was
+    /// read.
     ///
-    /// Truncated where they end inside it or no byte is to come. UnknownRecord where no record
-    /// begins with the byte at the front. Read where the source has failed. Failed after any
-    /// refusal.
+    /// Truncated where they end inside it or no byte is to come. UnknownRecord at the first byte
+    /// that no record of the version can have at its place, as soon as it is read. Read where the
+    /// source has failed. Failed after any refusal.
     pub fn next_record<S: Source>(&mut self, source: &mut S) -> Result<Record, ReadFault>
-        ensures bytes { Reads record_at
+        ensures bytes { Reads (record_at self.old.version)
             (to_come self.old (S.left source.old)) (to_come self.new (S.left source.new)) result }
         ensures found { IfOk result (λ x. Consumes
             (to_come self.old (S.left source.old)) (to_come self.new (S.left source.new))
             (spelling x)) }
+        ensures spelled { IfOk result (λ x. IsRecordOf self.old.version x) }
         ensures refuses { RefusesOnce self.old.failed self.new.failed (S.has_failed source.new) result }
-        ensures pulls { PullsAtMost 5 (to_come self.old (S.left source.old)) (S.left source.new) result }
+        ensures pulls { PullsAtMost longest_record (to_come self.old (S.left source.old)) (S.left source.new) result }
         ensures room { length self.new.held ≤ 4096 }
+        ensures emptied { OnErr result (self.new.held ≡ []) }
+        ensures version { self.new.version ≡ self.old.version }
         ensures untouched { self.old.failed ≡ true → source.new ≡ source.old }
     {
         match self.byte(source)? {
@@ -109,6 +130,7 @@ impl RecordReader {
                 let number = self.number(source)?;
                 Ok(Record::Ref(number))
             }
+            6 if self.version == 2 => self.priced(source),
             byte => {
                 self.refuse();
                 Err(ReadFault::UnknownRecord(byte))
@@ -128,6 +150,8 @@ impl RecordReader {
         ensures refuses { RefusesOnce self.old.failed self.new.failed (S.has_failed source.new) result }
         ensures pulls { PullsAtMost 0 (to_come self.old (S.left source.old)) (S.left source.new) result }
         ensures room { length self.new.held ≤ 4096 }
+        ensures emptied { OnErr result (self.new.held ≡ []) }
+        ensures version { self.new.version ≡ self.old.version }
         ensures untouched { self.old.failed ≡ true → source.new ≡ source.old }
     {
         if self.start < self.end {
@@ -146,6 +170,8 @@ impl RecordReader {
         ensures refuses { RefusesOnce self.old.failed self.new.failed (S.has_failed source.new) result }
         ensures pulls { PullsAtMost 0 (to_come self.old (S.left source.old)) (S.left source.new) result }
         ensures room { length self.new.held ≤ 4096 }
+        ensures emptied { OnErr result (self.new.held ≡ []) }
+        ensures version { self.new.version ≡ self.old.version }
         ensures untouched { self.old.failed ≡ true → source.new ≡ source.old }
     {
         if self.more(source)? {
@@ -159,6 +185,7 @@ impl RecordReader {
     fn refuse(&mut self)
         ensures held { self.new.held ≡ [] }
         ensures failed { self.new.failed ≡ true }
+        ensures version { self.new.version ≡ self.old.version }
     {
         self.start = self.end;
         self.failed = true;
@@ -171,6 +198,7 @@ impl RecordReader {
         ensures failed { self.new.failed ≡ self.old.failed }
         ensures runs { self.old.failed ≡ false }
         ensures room { length self.new.held ≤ 4096 }
+        ensures version { self.new.version ≡ self.old.version }
     {
         let byte = self.buffer[self.start];
         self.start += 1;
@@ -189,6 +217,8 @@ impl RecordReader {
         ensures pulls { PullsAtMost 0 (to_come self.old (S.left source.old)) (S.left source.new) result }
         ensures room { length self.new.held ≤ 4096 }
         ensures held { IfOk result (λ more. IsTrue more ↔ 0 < length self.new.held) }
+        ensures emptied { OnErr result (self.new.held ≡ []) }
+        ensures version { self.new.version ≡ self.old.version }
         ensures untouched { self.old.failed ≡ true → source.new ≡ source.old }
     {
         if self.failed {
@@ -217,6 +247,8 @@ impl RecordReader {
         ensures refuses { RefusesOnce self.old.failed self.new.failed (S.has_failed source.new) result }
         ensures pulls { PullsAtMost 1 (to_come self.old (S.left source.old)) (S.left source.new) result }
         ensures room { length self.new.held ≤ 4096 }
+        ensures emptied { OnErr result (self.new.held ≡ []) }
+        ensures version { self.new.version ≡ self.old.version }
         ensures untouched { self.old.failed ≡ true → source.new ≡ source.old }
     {
         if self.start < self.end {
@@ -241,6 +273,8 @@ impl RecordReader {
         ensures pulls { PullsAtMost (length out.old)
             (to_come self.old (S.left source.old)) (S.left source.new) result }
         ensures room { length self.new.held ≤ 4096 }
+        ensures emptied { OnErr result (self.new.held ≡ []) }
+        ensures version { self.new.version ≡ self.old.version }
         ensures untouched { self.old.failed ≡ true → source.new ≡ source.old }
     {
         for i in 0..out.len() {
@@ -259,10 +293,141 @@ impl RecordReader {
         ensures refuses { RefusesOnce self.old.failed self.new.failed (S.has_failed source.new) result }
         ensures pulls { PullsAtMost 4 (to_come self.old (S.left source.old)) (S.left source.new) result }
         ensures room { length self.new.held ≤ 4096 }
+        ensures emptied { OnErr result (self.new.held ≡ []) }
+        ensures version { self.new.version ≡ self.old.version }
         ensures untouched { self.old.failed ≡ true → source.new ≡ source.old }
     {
         let mut bytes = [0; 4];
         self.exact(&mut bytes, source)?;
         Ok(u32::from_be_bytes([bytes[0], bytes[1], bytes[2], bytes[3]]))
+    }
+
+    /// Reads one byte, from the least to the most that may stand there. UnknownRecord at any other.
+    fn byte_from<S: Source>(&mut self, least: u8, most: u8, source: &mut S) -> Result<u8, ReadFault>
+        ensures bytes { Reads (byte_from least most)
+            (to_come self.old (S.left source.old)) (to_come self.new (S.left source.new)) result }
+        ensures text { IfOk result (λ b. Consumes
+            (to_come self.old (S.left source.old)) (to_come self.new (S.left source.new))
+            (b ∷ [])) }
+        ensures within { IfOk result (λ b. (least ≤ b) × (b ≤ most)) }
+        ensures refuses { RefusesOnce self.old.failed self.new.failed (S.has_failed source.new) result }
+        ensures pulls { PullsAtMost 1 (to_come self.old (S.left source.old)) (S.left source.new) result }
+        ensures room { length self.new.held ≤ 4096 }
+        ensures emptied { OnErr result (self.new.held ≡ []) }
+        ensures version { self.new.version ≡ self.old.version }
+        ensures untouched { self.old.failed ≡ true → source.new ≡ source.old }
+    {
+        let byte = self.byte(source)?;
+        if byte < least || most < byte {
+            self.refuse();
+            return Err(ReadFault::UnknownRecord(byte));
+        }
+        Ok(byte)
+    }
+
+    /// Reads what stands before the price lists of a record.
+    fn outline<S: Source>(&mut self, source: &mut S) -> Result<Outline, ReadFault>
+        ensures bytes { Reads outline_at
+            (to_come self.old (S.left source.old)) (to_come self.new (S.left source.new)) result }
+        ensures text { IfOk result (λ o. Consumes
+            (to_come self.old (S.left source.old)) (to_come self.new (S.left source.new))
+            (outline_spelling o)) }
+        ensures fits { IfOk result (λ o. IsOutline o) }
+        ensures refuses { RefusesOnce self.old.failed self.new.failed (S.has_failed source.new) result }
+        ensures pulls { PullsAtMost 5 (to_come self.old (S.left source.old)) (S.left source.new) result }
+        ensures room { length self.new.held ≤ 4096 }
+        ensures emptied { OnErr result (self.new.held ≡ []) }
+        ensures version { self.new.version ≡ self.old.version }
+        ensures untouched { self.old.failed ≡ true → source.new ≡ source.old }
+    {
+        let code = self.byte(source)?;
+        let color = self.byte_from(0, 1, source)?;
+        let ways = self.byte_from(1, 3, source)?;
+        let sources = self.byte_from(0, 64, source)?;
+        let targets = self.byte_from(0, 64, source)?;
+        Ok(Outline {
+            code,
+            color: color_of(color),
+            ways: ways as usize,
+            sources: sources as usize,
+            targets: targets as usize,
+        })
+    }
+
+    /// Reads so many bytes, of which there may be none.
+    fn numbers<S: Source>(&mut self, out: &mut [u8], source: &mut S) -> Result<(), ReadFault>
+        requires runs { self.old.failed ≡ false }
+        requires room { length self.old.held ≤ 4096 }
+        ensures bytes { ReadsAs (λ _. out.new) (exactly (length out.old))
+            (to_come self.old (S.left source.old)) (to_come self.new (S.left source.new)) result }
+        ensures text { OnOk result (Consumes
+            (to_come self.old (S.left source.old)) (to_come self.new (S.left source.new)) out.new) }
+        ensures fits { OnOk result ((k : ℕ) → k < length out.new → slice_index out.new k < 2 ^ 8) }
+        ensures refuses { RefusesOnce self.old.failed self.new.failed (S.has_failed source.new) result }
+        ensures pulls { PullsAtMost (length out.old)
+            (to_come self.old (S.left source.old)) (S.left source.new) result }
+        ensures room { length self.new.held ≤ 4096 }
+        ensures emptied { OnErr result (self.new.held ≡ []) }
+        ensures version { self.new.version ≡ self.old.version }
+        ensures untouched { self.old.failed ≡ true → source.new ≡ source.old }
+    {
+        if out.is_empty() {
+            return Ok(());
+        }
+        self.exact(out, source)
+    }
+
+    /// Reads the price lists of a record, whose bytes come into `bytes`.
+    fn lists<S: Source>(
+        &mut self,
+        outline: &Outline,
+        bytes: &mut [u8],
+        source: &mut S,
+    ) -> Result<Prices, ReadFault>
+        requires fits { IsOutline outline.now }
+        requires whole { length bytes.old ≡ outline.now.ways * (outline.now.sources + outline.now.targets) }
+        requires runs { self.old.failed ≡ false }
+        requires room { length self.old.held ≤ 4096 }
+        ensures bytes { Reads (lists_at outline.now)
+            (to_come self.old (S.left source.old)) (to_come self.new (S.left source.new)) result }
+        ensures text { IfOk result (λ ls. Consumes
+            (to_come self.old (S.left source.old)) (to_come self.new (S.left source.new))
+            (lists_spelling ls)) }
+        ensures fits { IfOk result (λ ls. AreListsOf outline.now ls) }
+        ensures refuses { RefusesOnce self.old.failed self.new.failed (S.has_failed source.new) result }
+        ensures pulls { PullsAtMost (3 * (64 + 64)) (to_come self.old (S.left source.old)) (S.left source.new) result }
+        ensures room { length self.new.held ≤ 4096 }
+        ensures emptied { OnErr result (self.new.held ≡ []) }
+        ensures version { self.new.version ≡ self.old.version }
+        ensures untouched { self.old.failed ≡ true → source.new ≡ source.old }
+    {
+        self.numbers(bytes, source)?;
+        Ok(prices_of(bytes, outline))
+    }
+
+    /// Reads a priced record after its first byte.
+    fn priced<S: Source>(&mut self, source: &mut S) -> Result<Record, ReadFault>
+        requires { self.old.failed ≡ false }
+        ensures bytes { Reads priced_at
+            (to_come self.old (S.left source.old)) (to_come self.new (S.left source.new)) result }
+        ensures text { IfOk result (λ x. (l : List ℕ) × (spelling x ≡ 6 ∷ l) × Consumes
+            (to_come self.old (S.left source.old)) (to_come self.new (S.left source.new)) l) }
+        ensures fits { IfOk result (λ x. IsRecord x) }
+        ensures refuses { RefusesOnce self.old.failed self.new.failed (S.has_failed source.new) result }
+        ensures pulls { PullsAtMost (5 + 3 * (64 + 64)) (to_come self.old (S.left source.old)) (S.left source.new) result }
+        ensures room { length self.new.held ≤ 4096 }
+        ensures emptied { OnErr result (self.new.held ≡ []) }
+        ensures version { self.new.version ≡ self.old.version }
+        ensures untouched { self.old.failed ≡ true → source.new ≡ source.old }
+    {
+        let outline = self.outline(source)?;
+        let mut room = [0; LONGEST_LISTS];
+        let bytes = &mut room[..outline.ways * (outline.sources + outline.targets)];
+        let prices = self.lists(&outline, bytes, source)?;
+        Ok(Record::Priced {
+            code: outline.code,
+            color: outline.color,
+            prices,
+        })
     }
 }

@@ -1,5 +1,8 @@
 //! What a certificate is made of.
 
+use pg_board::Color;
+use pg_travel::Prices;
+
 /// One node of a certificate's trees that has at least one ply left.
 #[derive(Clone, Copy, Debug, PartialEq, Eq)]
 pub enum Record {
@@ -13,12 +16,22 @@ pub enum Record {
     Cut(u8),
     /// The node is like the closed named node with this number, counted from 0.
     Ref(u32),
+    /// No game of the plies that are left ends on the diagram, by price lists for the men of one
+    /// colour. No record of version 1.
+    Priced {
+        /// Which bound the prices belong to.
+        code: u8,
+        /// Whose men they are for.
+        color: Color,
+        /// One list for each way.
+        prices: Prices,
+    },
 }
 
 /// What a certificate is for: its first 37 bytes.
 #[derive(Clone, Copy, Debug, PartialEq, Eq)]
 pub struct Header {
-    /// The version of the format: 1.
+    /// The version of the format: 1 or 2.
     pub version: u8,
     /// The length of the games, in plies.
     pub plies: u8,

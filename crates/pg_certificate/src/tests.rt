@@ -1,3 +1,4 @@
+mod prices;
 mod reading;
 mod writing;
 

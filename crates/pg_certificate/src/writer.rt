@@ -1,12 +1,14 @@
 //! The header and the records of a certificate, written to a sink.
 ghost use Rattle.std.specs.Prelude.{◌≡◌, ◌<◌, [], ◌∷◌, ◌++◌, length, true, false, OnOk};
 ghost use Rattle.std.specs.Io.KnownBytes.{Appends, Keeps};
-ghost use Rattle.pg_certificate.specs.Spelling.{spelling, header_spelling, IsVersion};
+ghost use Rattle.pg_certificate.specs.Spelling.{spelling, header_spelling, prices_spelling, IsVersion};
 ghost use Rattle.pg_certificate.specs.Writer.{written, RefusesOnce};
 
 use crate::fault::WriteFault;
+use crate::outline::color_byte;
 use crate::record::{Header, Record};
 use crate::source::{Refused, Sink};
+use pg_travel::Prices;
 use std::marker::Model;
 
 /// The room of the buffer, in bytes.
@@ -68,7 +70,7 @@ impl RecordWriter {
         self.bytes(&header.diagram, sink)
     }
 
-    /// Writes a record, 1 to 5 bytes.
+    /// Writes a record. It is to be one of the header's version.
     ///
     /// Write where the sink has failed. Failed after any refusal.
     pub fn put_record<W: Sink>(&mut self, node: &Record, sink: &mut W) -> Result<(), WriteFault>
@@ -78,16 +80,26 @@ impl RecordWriter {
         ensures refuses { RefusesOnce self.old.failed self.new.failed (W.has_failed sink.new) result }
         ensures untouched { self.old.failed ≡ true → sink.new ≡ sink.old }
     {
-        match *node {
+        match node {
             Record::Expand { named: false } => self.byte(1, sink),
             Record::Expand { named: true } => self.byte(5, sink),
             Record::Cut(code) => {
                 self.byte(2, sink)?;
-                self.byte(code, sink)
+                self.byte(*code, sink)
             }
             Record::Ref(number) => {
                 self.byte(3, sink)?;
                 self.bytes(&number.to_be_bytes(), sink)
+            }
+            Record::Priced {
+                code,
+                color,
+                prices,
+            } => {
+                self.byte(6, sink)?;
+                self.byte(*code, sink)?;
+                self.byte(color_byte(*color), sink)?;
+                self.prices(prices, sink)
             }
         }
     }
@@ -154,6 +166,38 @@ impl RecordWriter {
     {
         for byte in bytes {
             self.byte(*byte, sink)?;
+        }
+        Ok(())
+    }
+
+    /// Writes numbers, of which there may be none.
+    fn numbers<W: Sink>(&mut self, numbers: &[u8], sink: &mut W) -> Result<(), WriteFault>
+        requires { self.old.failed ≡ false }
+        ensures bytes { OnOk result (Appends
+            (written (W.held sink.old) self.old) (written (W.held sink.new) self.new)
+            numbers.now) }
+        ensures refuses { RefusesOnce self.old.failed self.new.failed (W.has_failed sink.new) result }
+    {
+        if numbers.is_empty() {
+            return Ok(());
+        }
+        self.bytes(numbers, sink)
+    }
+
+    /// Writes how many price lists there are, how many sources and targets each has, and the lists.
+    fn prices<W: Sink>(&mut self, prices: &Prices, sink: &mut W) -> Result<(), WriteFault>
+        requires { self.old.failed ≡ false }
+        ensures bytes { OnOk result (Appends
+            (written (W.held sink.old) self.old) (written (W.held sink.new) self.new)
+            (prices_spelling prices.now)) }
+        ensures refuses { RefusesOnce self.old.failed self.new.failed (W.has_failed sink.new) result }
+    {
+        self.byte(prices.ways() as u8, sink)?;
+        self.byte(prices.sources() as u8, sink)?;
+        self.byte(prices.targets() as u8, sink)?;
+        for way in 0..prices.ways() {
+            self.numbers(prices.u(way), sink)?;
+            self.numbers(prices.v(way), sink)?;
         }
         Ok(())
     }

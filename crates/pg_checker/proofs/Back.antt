@@ -1,8 +1,8 @@
 -- Where a tree that fits is spelled, the walk reads it.
 use Rattle.std.proofs.Common.{◌≡◌, ℕ, zero, suc, ◌+◌, Bool, true, false, ◌||◌, List, [], ◌∷◌, ◌++◌, Option, Some, Result, Ok, slice_get, nat_eq, refl, sym, ◌∙◌, ap, ap₂, subst, arith, append_assoc, append-nil, eq-eqb}
 use Rattle.pg_certificate.specs.declared.record.Record.{Record}
-use Rattle.pg_certificate.specs.declared.record.Record.TheVariants.{Expand as Expanded, Cut as CutBy, Ref as RefTo}
-use Rattle.pg_checker.specs.Tree.{Tree, Trees, Leaf, Expand, Cut, Ref, Empty, First, Entry, Rules, Fits, FitAll, fertile, any_fertile, closed, closed_all, entry, spelling, spelling_all, records, records_all, named, named_all}
+use Rattle.pg_certificate.specs.declared.record.Record.TheVariants.{Expand as Expanded, Cut as CutBy, Ref as RefTo, Priced as PricedBy}
+use Rattle.pg_checker.specs.Tree.{Tree, Trees, Leaf, Expand, Cut, Ref, Priced, Empty, First, Entry, Rules, Fits, FitAll, fertile, any_fertile, closed, closed_all, entry, spelling, spelling_all, records, records_all, named, named_all}
 use Rattle.pg_checker.specs.Walk.{◌>>=◌, State, Done, Opened, spend_of, take_room, cut_answer, ref_answer, judge, head, leaf_answer, each, visit, Took, TookAll}
 use Rattle.pg_checker.specs.Claims.{IsExact}
 use Rattle.pg_checker.proofs.Steps.{Paid}
@@ -84,11 +84,16 @@ module _ {P M : Type 0} (r : Rules P M) where
         leaf_fits n g p s (r.is_goal p) (nat_eq n r.plies) (r.is_listed g) (λ h. (eq-eqb n r.plies (fit h).0, (fit h).1)) ∙ ap (λ (v : State P). Ok (r.is_goal p, v)) e
     fits_visit n zero g p s t (Expand is_named ts) fit took = absurd fit
     fits_visit n zero g p s t (Cut code) fit took = absurd fit
+    fits_visit n zero g p s t (Priced code color prices) fit took = absurd fit
     fits_visit n zero g p s t (Ref number) fit took = absurd fit
     fits_visit n (suc k) g p s t Leaf fit took = absurd fit
     fits_visit n (suc k) g p s t (Cut code) fit took =
         let paid = one_paid (suc k) p s t (Cut code) (CutBy code) took refl refl refl refl fit.0 in
         let e : head r (suc k) p s ≡ Ok (Done, t) = head_pays (suc k) p s t (CutBy code) paid ∙ ap (λ (v : Option Bool). cut_answer {M = M} v code t) fit.1 in
+        bind_is (head r (suc k) p s) _ (Done, t) e
+    fits_visit n (suc k) g p s t (Priced code color prices) fit took =
+        let paid = one_paid (suc k) p s t (Priced code color prices) (PricedBy code color prices) took refl refl refl refl fit.0 in
+        let e : head r (suc k) p s ≡ Ok (Done, t) = head_pays (suc k) p s t (PricedBy code color prices) paid ∙ ap (λ (v : Option Bool). cut_answer {M = M} v code t) fit.1 in
         bind_is (head r (suc k) p s) _ (Done, t) e
     fits_visit n (suc k) g p s t (Ref number) fit took =
         let paid = one_paid (suc k) p s t (Ref number) (RefTo number) took refl refl refl refl fit.0 in

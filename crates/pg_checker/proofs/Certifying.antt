@@ -1,9 +1,10 @@
 -- The header, the walk and the answer. Leads to the contracts of `read_header`, `walk` and `check`.
-use Rattle.std.proofs.Common.{◌≡◌, ◌≢◌, ℕ, suc, ◌-◌, Bool, true, false, List, [], ◌∷◌, ◌++◌, map, Option, Some, None, IfSome, not, nat_eq, Result, Ok, Err, refl, sym, ◌∙◌, ap, subst}
+use Rattle.std.proofs.Common.{inr, ◌≡◌, ◌≢◌, ℕ, suc, ◌-◌, Bool, true, false, List, [], ◌∷◌, ◌++◌, map, ◌*◌, Option, Some, None, IfSome, not, nat_eq, Result, Ok, Err, refl, sym, ◌∙◌, ap, subst}
 use Rattle.std.specs.Cmp.Lexicographic.{pointwise}
 use Rattle.std.proofs.lemmas.Bool.Decides.{Decides-eqb}
 use Rattle.std.proofs.lemmas.Slice.Eq.{slice_eq-Decides}
 use Rattle.std.specs.Io.KnownBytes.{Consumes, IsAtEnd, Keeps}
+use Rattle.pg_certificate.specs.Spelling.{longest_record}
 use Rattle.pg_board.specs.Placement.{Placement}
 use Rattle.pg_position.specs.declared.state.State.{State}
 use Rattle.pg_position.specs.declared.moves.Move.{Move}
@@ -24,9 +25,14 @@ use Rattle.pg_checker.specs.Judging.{stop_of}
 use Rattle.pg_checker.specs.Machine.{entry_of, state_at}
 use Rattle.pg_checker.specs.Steps.{Answer, Goes, Stops}
 use Rattle.pg_checker.specs.declared.machine.Machine.{Machine}
-use Rattle.pg_checker.specs.declared.stop.Cause.TheVariants as cause
-use Rattle.pg_checker.specs.declared.stop.Stop.{Stop}
-use Rattle.pg_checker.specs.declared.stop.Stop.TheVariants as stop
+use Rattle.pg_checker.specs.Halting.{Stop}
+use Rattle.pg_checker.specs.Halting as stop
+use Rattle.pg_checker.specs.declared.halt.Halt.{Halt}
+use Rattle.pg_checker.specs.declared.halt.Halt.TheVariants as halt
+use Rattle.pg_checker.specs.Check.{IsOtherFormat}
+use Rattle.pg_checker.specs.Checking.{WalkTakes}
+use Rattle.pg_checker.specs.Halting.{full}
+use Rattle.pg_checker.specs.Steps.{FailsRead, TakesFew}
 use Rattle.pg_checker.proofs.Goings.{stops_as, stops_with}
 use Rattle.pg_checker.proofs.Planting.{runs_all}
 use Rattle.pg_checker.specs.Checking.{AreKnown}
@@ -44,6 +50,14 @@ other_length n (Some bytes) (Some rest) h read_ ne = (h, rest, read_, ne)
 
 pub header_length : (n : ℕ) (reader : ReaderState) (left after : Option (List ℕ)) (h : Header) → reader.held ≡ [] → Reads {A = Header} header_at (to_come reader left) after (Ok h) → h.plies ≢ n → IfSome left (λ bytes. (x : Header) × (rest : List ℕ) × (header_at bytes ≡ Ok (x, rest)) × (x.plies ≢ n))
 header_length n reader left after h e read_ ne = other_length n left after h (subst (λ (v : Option (List ℕ)). Reads {A = Header} header_at v after (Ok h)) (left_alone reader left e) read_) ne
+
+other_version : (known after : Option (List ℕ)) (h : Header) → Reads {A = Header} header_at known after (Ok h) → h.version ≢ 1 → IfSome known IsOtherFormat
+other_version None after h read_ ne = tt
+other_version (Some bytes) None h read_ ne = absurd read_
+other_version (Some bytes) (Some rest) h read_ ne = inr (h, rest, read_, ne)
+
+pub header_version : (reader : ReaderState) (left after : Option (List ℕ)) (h : Header) → reader.held ≡ [] → Reads {A = Header} header_at (to_come reader left) after (Ok h) → h.version ≢ 1 → IfSome left IsOtherFormat
+header_version reader left after h e read_ ne = other_version left after h (subst (λ (v : Option (List ℕ)). Reads {A = Header} header_at v after (Ok h)) (left_alone reader left e) read_) ne
 
 other_diagram : (d : Placement) (n : ℕ) (known after : Option (List ℕ)) (h : Header) → Reads {A = Header} header_at known after (Ok h) → h.plies ≡ n → h.diagram ≢ packed_of d → IfSome known (λ bytes. (x : Header) × (rest : List ℕ) × (header_at bytes ≡ Ok (x, rest)) × (x.plies ≡ n) × (x.diagram ≢ packed_of d))
 other_diagram d n None after h read_ e ne = tt
@@ -74,6 +88,22 @@ stops_read : {A : Type 0} (known : Option (List ℕ)) (room : ℕ) (walk_ : Answ
 unfolding Stops
 stops_read None room walk_ = tt
 stops_read (Some bytes) room walk_ = tt
+
+pub fails_stop : (X Y : Type 0) (failed : Bool) (s : Stop) → FailsRead {X = X} failed (Err s) → FailsRead {X = Y} failed (Err s)
+fails_stop X Y failed stop.Memory f = tt
+fails_stop X Y failed stop.Read f = f
+fails_stop X Y failed (stop.Because x) f = tt
+
+-- whether a halt is a failed read does not hang on the game
+pub fails_game : (X Y : Type 0) (failed : Bool) (game other : List Move) (h : Halt) → FailsRead {X = X} failed (Err (full game h)) → FailsRead {X = Y} failed (Err (full other h))
+fails_game X Y failed game other halt.Memory f = tt
+fails_game X Y failed game other halt.Read f = f
+fails_game X Y failed game other (halt.Because r) f = tt
+
+pub takes_stop : (before after left : Option (List ℕ)) (most now : ℕ) (s : Stop) → TakesFew {X = Unit {0}} before after left most now (Err s) → WalkTakes (longest_record * most) before left (Err s)
+takes_stop before after left most now stop.Memory f = f
+takes_stop before after left most now stop.Read f = tt
+takes_stop before after left most now (stop.Because x) f = f
 
 module _ (d : Placement) (l : ℕ) (games : List (List Move)) (cut : Cuts) where
   abbrev answers : ℕ → Answer (ℕ × ℕ)
@@ -109,7 +139,7 @@ module _ (d : Placement) (l : ℕ) (games : List (List Move)) (cut : Cuts) where
 
   -- bytes are left there
   pub answers_more : (known after later : Option (List ℕ)) (m new : Machine) (records : ℕ) → m.table.entries ≡ [] → m.records ≡ records → Goes known after m.room new.room (runs_all d l games cut array_state m) (λ rest room. Ok (state_at new rest room))
-      → Reads {A = Bool} more_at after later (Ok true) → Stops known m.room (answers records) (stop.Because cause.Trailing)
+      → Reads {A = Bool} more_at after later (Ok true) → Stops known m.room (answers records) (stop.Because tree.Trailing)
   unfolding Stops
   answers_more None after later m new records none same goes read_ = tt
   answers_more (Some bytes) None later m new records none same goes read_ = absurd (goes.consumes)
@@ -132,10 +162,10 @@ module _ (d : Placement) (l : ℕ) (games : List (List Move)) (cut : Cuts) where
       go : (known after : Option (List ℕ)) (e : ReadFault) → Consumes known after goes.taken → Reads {A = Bool} more_at after later (Err e) → Stops known m.room (answers records) (stop_of e)
       go known after reading.Read h r = stops_read known m.room (answers records)
       go known after reading.Failed h r = stops_read known m.room (answers records)
-      go None after reading.Truncated h r = stops_unknown m.room (answers records) (stop.Because cause.Truncated)
-      go None after reading.Magic h r = stops_unknown m.room (answers records) (stop.Because cause.Truncated)
-      go None after reading.Trailing h r = stops_unknown m.room (answers records) (stop.Because cause.Truncated)
-      go None after (reading.UnknownRecord b) h r = stops_unknown m.room (answers records) (stop.Because (cause.UnknownRecord b))
+      go None after reading.Truncated h r = stops_unknown m.room (answers records) (stop.Because tree.Truncated)
+      go None after reading.Magic h r = stops_unknown m.room (answers records) (stop.Because tree.Truncated)
+      go None after reading.Trailing h r = stops_unknown m.room (answers records) (stop.Because tree.Truncated)
+      go None after (reading.UnknownRecord b) h r = stops_unknown m.room (answers records) (stop.Because (tree.UnknownRecord b))
       go (Some bytes) None e h r = absurd h
       go (Some bytes) (Some ys) reading.Truncated h r = never ys reading.Truncated r
       go (Some bytes) (Some ys) reading.Magic h r = never ys reading.Magic r

@@ -1,5 +1,5 @@
 -- The walk over chess: its games are those of chess, and a yes proves the exact answer.
-use Rattle.std.proofs.Common.{◌≡◌, ℕ, zero, suc, ◌<◌, ◌≤◌, true, List, [], ◌∷◌, length, Ok, Err, refl, sym, ◌∙◌, ap, subst, inl, inr, ◌⊎◌, arith}
+use Rattle.std.proofs.Common.{None, Some, ◌≡◌, ℕ, zero, suc, ◌<◌, ◌≤◌, true, List, [], ◌∷◌, length, Ok, Err, refl, sym, ◌∙◌, ap, subst, inl, inr, ◌⊎◌, arith}
 use Rattle.std.specs.List.{Contains}
 use Rattle.pg_board.specs.Placement.{Placement, placement_eq_decides}
 use Rattle.pg_position.specs.declared.state.State.{State}
@@ -10,7 +10,8 @@ use Rattle.pg_position.specs.Game.{IsGame, Barren}
 use Rattle.pg_position.specs.Array.{array_state}
 use Rattle.pg_position.specs.Equality.{state_eq_decides}
 use Rattle.pg_position.proofs.ArrayLemmas.{array_position}
-use Rattle.pg_position.proofs.FutureLemmas.{legal_position}
+use Rattle.pg_position.specs.Future.{SameFuture}
+use Rattle.pg_position.proofs.FutureLemmas.{legal_position, future_sym, same_games, same_ends}
 use Rattle.pg_moves.specs.Moves.{IsLegal}
 use Rattle.pg_moves.proofs.ListLemmas.{moves_of_is, few_moves}
 use Rattle.pg_moves.proofs.PlayLemmas.{play_of_is}
@@ -35,6 +36,7 @@ chess_is d n games cut = record {
   plies = refl;
   listed = lists_decides games;
   same = state_eq_decides;
+  unpriced = λ code color prices p k. refl;
   write = λ x. refl;
   is_record = λ x. (spelled_record x, record_spelled x);
 }
@@ -83,12 +85,22 @@ module _ (r : Rules State Move) (d : Placement) (n : ℕ) (games : List (List Mo
       let rest : Reaches r k s ms = game_in k s ms (legal_position p m s pos legal) (omega arith, (q, g, e)) in
       (((is.moves p).has m).1 (s, legal), subst (λ (x : State). Reaches r k x ms) (sym same) rest)
 
+  -- what is barren from one position is barren from one with the same future
+  pub same_barren : (k : ℕ) (q p : State) → IsPosition q → IsPosition p → SameFuture q p → tree.Barren r k q → tree.Barren r k p
+  unfolding Ends
+  same_barren k q p there here future barren ms h =
+      let g = game_out k p ms here h in
+      let other = same_games p q ms (future_sym q p future) (g.1.0, g.1.1) in
+      let ends = same_ends q p ms other.0 g.1.0 there future other.1 g.1.1 in
+      barren ms (game_in k q ms there (g.0, (other.0, other.1, ends ∙ g.1.2)))
+
   -- bounds and references hide no game from a position on
   right : IsSoundCut d r.cut → IsRight r IsPosition
   unfolding Barren Ends
   right cuts = record {
     next = met;
     cut = λ code k p pos e ms h. let g = game_out k p ms pos h in cuts code k p pos e ms g.1.0 g.0 g.1.1 g.1.2;
+    priced = λ code color prices k p pos e. absurd (let both : None ≡ Some true = sym (is.unpriced code color prices p k) ∙ e in cc);
     same = λ k q p there here e barren. subst (λ (x : State). tree.Barren r k x) ((is.same q p).0 e) barren;
   }
 

@@ -12,14 +12,16 @@ use Rattle.pg_checker.specs.Frames.{enter, opens, Work}
 use Rattle.pg_checker.specs.Chess.{Cuts, chess}
 use Rattle.pg_checker.specs.Left.{left_after}
 use Rattle.pg_checker.specs.Machine.{path, entry_of, frame_of, frames_of, count_named, opened as opened_by, shape_of, state_at, work_at}
-use Rattle.pg_checker.specs.Steps.{Answer, Goes, Stops, cause_of}
+use Rattle.pg_checker.specs.Steps.{Answer, Goes, Stops}
 use Rattle.pg_checker.specs.declared.machine.Frame.{Frame}
 use Rattle.pg_checker.specs.declared.machine.Machine.{Machine}
 use Rattle.pg_checker.specs.declared.machine.Node.{Node}
 use Rattle.pg_checker.specs.declared.machine.Node.TheVariants as node
-use Rattle.pg_checker.specs.declared.stop.Cause.{Cause}
-use Rattle.pg_checker.specs.declared.stop.Stop.{Stop}
-use Rattle.pg_checker.specs.declared.stop.Stop.TheVariants as stop
+use Rattle.pg_checker.specs.Halting.{Stop}
+use Rattle.pg_checker.specs.Halting as stop
+use Rattle.pg_checker.specs.declared.halt.Halt.TheVariants as halt
+use Rattle.pg_checker.specs.declared.halt.Reason.{Reason}
+use Rattle.pg_checker.specs.Halting.{full, fault_with}
 use Rattle.pg_checker.proofs.Goings.{stays, goes_as, goes_then, stops_then, stops_as}
 use Rattle.pg_checker.proofs.FrameViews.{frames_more, count_more}
 use Rattle.pg_checker.proofs.Left.{rules_start}
@@ -36,11 +38,15 @@ module _ (d : Placement) (l : ℕ) (games : List (List Move)) (cut : Cuts) (n k 
       → Goes known known m.room m.room (enters m) (λ rest room. Ok (work_at (chess d l games cut) (record m { found = found }) rest room))
   enter_leaf known m fs found e is h = stays known m.room (enters m) _ (λ rest room. enter_at m rest room e ∙ ap (λ (x : Result (Bool × walk.State State) (tree.Fault Move)). x >>= (λ got. Ok (record { frames = frames_of (reverse m.frames.items); found = got.0; state = got.1 }))) (ap (λ (v : List Frame). leaf (chess d l games cut) n (path (reverse v)) p (state_at m rest room)) (sym is) ∙ h (state_at m rest room)))
 
-  pub enter_stop : (known : Option (List ℕ)) (m : Machine) (fs : List Frame) (c : Cause) → k ≡ 0 → fs ≡ m.frames.items → ((s : walk.State State) → leaf (chess d l games cut) n (path (reverse fs)) p s ≡ Err (cause_of c))
+  enter_stop : (known : Option (List ℕ)) (m : Machine) (fs : List Frame) (c : (tree.Fault Move)) → k ≡ 0 → fs ≡ m.frames.items → ((s : walk.State State) → leaf (chess d l games cut) n (path (reverse fs)) p s ≡ Err c)
       → Stops known m.room (enters m) (stop.Because c)
   unfolding Stops
   enter_stop None m fs c e is h = tt
   enter_stop (Some bytes) m fs c e is h = enter_at m bytes m.room e ∙ ap (λ (x : Result (Bool × walk.State State) (tree.Fault Move)). x >>= (λ got. Ok (record { frames = frames_of (reverse m.frames.items); found = got.0; state = got.1 }))) (ap (λ (v : List Frame). leaf (chess d l games cut) n (path (reverse v)) p (state_at m bytes m.room)) (sym is) ∙ h (state_at m bytes m.room))
+
+  pub enter_halt : (known : Option (List ℕ)) (m : Machine) (fs : List Frame) (r : Reason) → k ≡ 0 → fs ≡ m.frames.items → ((s : walk.State State) → leaf (chess d l games cut) n (path (reverse fs)) p s ≡ Err (fault_with (path (reverse fs)) r))
+      → Stops known m.room (enters m) (full (path (reverse m.frames.items)) (halt.Because r))
+  enter_halt known m fs r e is h = subst (λ (v : List Frame). Stops known m.room (enters m) (stop.Because (fault_with (path (reverse v)) r))) is (enter_stop known m fs (fault_with (path (reverse fs)) r) e is h)
 
   -- a node with plies left
   enter_below : (m : Machine) (rest : List ℕ) (room : ℕ) → 0 < k → enters m rest room ≡ (head (chess d l games cut) k p (state_at m rest room) >>= (λ got. opens (chess d l games cut) (k - 1) (path (reverse m.frames.items)) p (frames_of (reverse m.frames.items)) got.0 got.1))
@@ -73,7 +79,7 @@ module _ (d : Placement) (l : ℕ) (games : List (List Move)) (cut : Cuts) (n k 
 
   -- a record that opens it
   pub enter_opened : (before after : Option (List ℕ)) (m mid new : Machine) (said : Node) (named : Bool) → said ≡ node.Opened named → 0 < k → mid.frames ≡ m.frames → new.table ≡ mid.table → new.records ≡ mid.records → new.room ≡ mid.room → new.found ≡ false
-      → new.frames.items ≡ mid.frames.items ++ (record { position = p; plies = k - 1; last = None; named = named; found = false } ∷ [])
+      → new.frames.items ≡ mid.frames.items ++ (record { moves = record { position = p; last = None }; plies = k - 1; named = named; found = false } ∷ [])
       → Goes before after m.room mid.room (λ bytes room. head (chess d l games cut) k p (state_at m bytes room)) (λ rest room. Ok (shape_of said, state_at mid rest room))
       → Goes before after m.room new.room (enters m) (λ rest room. Ok (work_at (chess d l games cut) new rest room))
   enter_opened before after m mid new said named is low same table records room found items read_ =
@@ -81,7 +87,7 @@ module _ (d : Placement) (l : ℕ) (games : List (List Move)) (cut : Cuts) (n k 
       (entered before after m mid (walk.Opened named) (λ rest x. work_at (chess d l games cut) new rest x) low (heard before after m mid said (node.Opened named) is read_) (λ rest x i. Ok (record { frames = stack i; found = sym found i; state = states rest x i })))
     where
       top : Frame
-      top = record { position = p; plies = k - 1; last = None; named = named; found = false }
+      top = record { moves = record { position = p; last = None }; plies = k - 1; named = named; found = false }
 
       opened : List Move → List (frames.Frame State Move)
       opened left = record { game = path (reverse m.frames.items); position = p; plies = k - 1; left = left; named = named; found = false } ∷ frames_of (reverse m.frames.items)
@@ -96,9 +102,9 @@ module _ (d : Placement) (l : ℕ) (games : List (List Move)) (cut : Cuts) (n k 
       states rest x = λ i. record { rest = rest; entries = map entry_of (sym table i).entries; records = sym records i; room = x }
 
   pub kept_opened : (m mid new : Machine) (said : Node) (named : Bool) → said ≡ node.Opened named → mid.frames ≡ m.frames → mid.table.kept ≡ m.table.kept + opened_by said → m.table.kept ≡ count_named (reverse m.frames.items)
-      → new.frames.items ≡ mid.frames.items ++ (record { position = p; plies = k - 1; last = None; named = named; found = false } ∷ []) → mid.table.kept ≡ count_named (reverse new.frames.items)
+      → new.frames.items ≡ mid.frames.items ++ (record { moves = record { position = p; last = None }; plies = k - 1; named = named; found = false } ∷ []) → mid.table.kept ≡ count_named (reverse new.frames.items)
   kept_opened m mid new said named is same kept was items =
       let held : mid.table.kept ≡ m.table.kept + one_if named = kept ∙ ap (λ (v : Node). m.table.kept + opened_by v) is in
-      let one : count_named (reverse new.frames.items) ≡ one_if named + count_named (reverse mid.frames.items) = ap (λ (v : List Frame). count_named (reverse v)) items ∙ count_more mid.frames.items (record { position = p; plies = k - 1; last = None; named = named; found = false }) in
+      let one : count_named (reverse new.frames.items) ≡ one_if named + count_named (reverse mid.frames.items) = ap (λ (v : List Frame). count_named (reverse v)) items ∙ count_more mid.frames.items (record { moves = record { position = p; last = None }; plies = k - 1; named = named; found = false }) in
       let two : count_named (reverse mid.frames.items) ≡ count_named (reverse m.frames.items) = rw same refl in
       omega arith

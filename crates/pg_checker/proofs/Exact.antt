@@ -1,8 +1,8 @@
 -- The walk succeeds exactly where it reads a tree that fits.
 use Rattle.std.proofs.Common.{◌≡◌, ℕ, zero, suc, ◌+◌, Bool, true, false, ◌||◌, List, [], ◌∷◌, ◌++◌, Some, Ok, slice_get, nat_eq, refl, sym, ◌∙◌, ap, ap₂, subst, arith, append_assoc, append-nil, eqb-true}
 use Rattle.pg_certificate.specs.declared.record.Record.{Record}
-use Rattle.pg_certificate.specs.declared.record.Record.TheVariants.{Expand as Expanded, Cut as CutBy, Ref as RefTo}
-use Rattle.pg_checker.specs.Tree.{Tree, Trees, Leaf, Expand, Cut, Ref, Empty, First, Entry, Rules, FitAll, fertile, any_fertile, closed, closed_all, entry, spelling, spelling_all, records, named, one_if}
+use Rattle.pg_certificate.specs.declared.record.Record.TheVariants.{Expand as Expanded, Cut as CutBy, Ref as RefTo, Priced as PricedBy}
+use Rattle.pg_checker.specs.Tree.{Tree, Trees, Leaf, Expand, Cut, Ref, Priced, Empty, First, Entry, Rules, FitAll, fertile, any_fertile, closed, closed_all, entry, spelling, spelling_all, records, named, one_if}
 use Rattle.pg_checker.specs.Walk.{State, Shape, Done, Opened, judge, head, each, close, below, visit, Took, TookAll}
 use Rattle.pg_checker.specs.Claims.{IsExact, Reads}
 use Rattle.pg_checker.proofs.Steps.{bind_ok, room_ok, cut_ok, ref_ok, leaf_ok, Paid, head_ok}
@@ -44,6 +44,10 @@ module _ {P M : Type 0} (r : Rules P M) where
   judged n k g p s u (CutBy code) x paid h =
       let d = cut_ok {M = M} (r.cut code p (suc k)) code u x h in
       let here : Says n k g p s Done u = record { tree = Cut code; fits = (paid.is_record, d.0); took = one_record s u (CutBy code) (suc k) p (Cut code) paid refl refl refl refl; found_is = refl } in
+      subst (λ (v : Shape × State P). Says n k g p s v.0 v.1) d.1 here
+  judged n k g p s u (PricedBy code color prices) x paid h =
+      let d = cut_ok {M = M} (r.priced code color prices p (suc k)) code u x h in
+      let here : Says n k g p s Done u = record { tree = Priced code color prices; fits = (paid.is_record, d.0); took = one_record s u (PricedBy code color prices) (suc k) p (Priced code color prices) paid refl refl refl refl; found_is = refl } in
       subst (λ (v : Shape × State P). Says n k g p s v.0 v.1) d.1 here
   judged n k g p s u (RefTo number) x paid h =
       let d = ref_ok r (slice_get u.entries number) (suc k) p u x h in

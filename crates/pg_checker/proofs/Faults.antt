@@ -1,7 +1,7 @@
 -- The walk fails exactly where a front with a cause stands.
 use Rattle.std.proofs.Common.{◌≡◌, ◌≢◌, ℕ, zero, suc, ◌<◌, ◌⊎◌, Bool, true, false, ◌&&◌, List, Option, Some, None, Result, Ok, Err, slice_get, nat_eq, refl, sym, ◌∙◌, ap, ap₂, subst, inl, inr, ⊎_elim, arith, eqb-true, eq-eqb}
 use Rattle.pg_certificate.specs.declared.record.Record.{Record}
-use Rattle.pg_certificate.specs.declared.record.Record.TheVariants.{Expand as Expanded, Cut as CutBy, Ref as RefTo}
+use Rattle.pg_certificate.specs.declared.record.Record.TheVariants.{Expand as Expanded, Cut as CutBy, Ref as RefTo, Priced as PricedBy}
 use Rattle.pg_checker.specs.Tree.{Fault, Budget, UnknownBound, CutFails, RefUnknown, RefDiffers, RefFertile, TooManyNamed, Shorter, Unlisted, Entry, Rules}
 use Rattle.pg_checker.specs.Walk.{◌>>=◌, State, spend_of, take_room, cut_answer, differs_or, ref_answer, judge, head, leaf_answer, leaf}
 use Rattle.pg_checker.specs.Front.{Refuses, RecordCause, no_budget, no_record, refused, LeafCause}
@@ -35,6 +35,12 @@ module _ {P M : Type 0} (r : Rules P M) where
       cut_err None e h = let d : UnknownBound code ≡ f = cc in subst (λ (v : Fault M). Refuses r k p s.entries s.room (CutBy code) v) d (refl, e)
       cut_err (Some false) e h = let d : CutFails code ≡ f = cc in subst (λ (v : Fault M). Refuses r k p s.entries s.room (CutBy code) v) d (refl, e)
       cut_err (Some true) e h = absurd (cc)
+  judge_err k p (PricedBy code color prices) s f h = priced_err (r.priced code color prices p k) refl h
+    where
+      priced_err : (o : Option Bool) → r.priced code color prices p k ≡ o → cut_answer o code s ≡ Err f → Refuses r k p s.entries s.room (PricedBy code color prices) f
+      priced_err None e h = let d : UnknownBound code ≡ f = cc in subst (λ (v : Fault M). Refuses r k p s.entries s.room (PricedBy code color prices) v) d (refl, e)
+      priced_err (Some false) e h = let d : CutFails code ≡ f = cc in subst (λ (v : Fault M). Refuses r k p s.entries s.room (PricedBy code color prices) v) d (refl, e)
+      priced_err (Some true) e h = absurd (cc)
   judge_err k p (RefTo number) s f h = ref_err (slice_get s.entries number) refl h
     where
       ref_last : (x : Entry P) (a b : Bool) → slice_get s.entries number ≡ Some x → (r.is_same x.position p && nat_eq x.plies k) ≡ a → x.fertile ≡ b → differs_or a b s ≡ Err f → Refuses r k p s.entries s.room (RefTo number) f
@@ -49,7 +55,9 @@ module _ {P M : Type 0} (r : Rules P M) where
   refuses_judge : (k : ℕ) (p : P) (got : Record) (s : State P) (f : Fault M) → Refuses r k p s.entries s.room got f → judge r k p got s ≡ Err f
   refuses_judge k p (Expanded true) s TooManyNamed h = ap (λ (n : ℕ). take_room {M = M} n s) h
   refuses_judge k p (CutBy code) s (UnknownBound c) h = rw (h.0, h.1) refl
+  refuses_judge k p (PricedBy code color prices) s (UnknownBound c) h = rw (h.0, h.1) refl
   refuses_judge k p (CutBy code) s (CutFails c) h = rw (h.0, h.1) refl
+  refuses_judge k p (PricedBy code color prices) s (CutFails c) h = rw (h.0, h.1) refl
   refuses_judge k p (RefTo number) s RefUnknown h = ap (λ (o : Option (Entry P)). ref_answer r o k p s) h
   refuses_judge k p (RefTo number) s RefDiffers h = ap (λ (o : Option (Entry P)). ref_answer r o k p s) h.1 ∙ ap (λ (b : Bool). differs_or {M = M} b h.0.fertile s) h.2
   refuses_judge k p (RefTo number) s RefFertile h = ap (λ (o : Option (Entry P)). ref_answer r o k p s) h.1 ∙ ap₂ (λ (a b : Bool). differs_or {M = M} a b s) h.2 h.3

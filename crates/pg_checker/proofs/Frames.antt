@@ -1,7 +1,7 @@
 -- A turn of the loop leaves the answer of the rest unchanged, and less to do.
 use Rattle.std.proofs.Common.{◌≡◌, ℕ, zero, suc, ◌+◌, ◌*◌, ◌<◌, ◌≤◌, Bool, true, false, ◌||◌, List, [], ◌∷◌, ◌++◌, length, Result, Ok, Err, refl, sym, ◌∙◌, ap, subst, arith}
 use Rattle.pg_certificate.specs.declared.record.Record.{Record}
-use Rattle.pg_certificate.specs.declared.record.Record.TheVariants.{Expand as Expanded, Cut as CutBy, Ref as RefTo}
+use Rattle.pg_certificate.specs.declared.record.Record.TheVariants.{Expand as Expanded, Cut as CutBy, Ref as RefTo, Priced as PricedBy}
 use Rattle.pg_checker.specs.Tree.{Fault, Rules, entry}
 use Rattle.pg_checker.specs.Walk.{◌>>=◌, State, Shape, Done, Opened, visit, each, close, head, leaf, below}
 use Rattle.pg_checker.specs.Claims.{IsExact}
@@ -55,6 +55,7 @@ module _ {P M : Type 0} (r : Rules P M) where
   judge_keeps k p (Expanded false) s x h = let e : (Opened false, s) ≡ x = cc in ap (λ (v : Shape × State P). v.1.records) (sym e)
   judge_keeps k p (Expanded true) s x h = ap (λ (v : Shape × State P). v.1.records) (sym (room_ok {M = M} s.room s x h).2)
   judge_keeps k p (CutBy code) s x h = ap (λ (v : Shape × State P). v.1.records) (sym (cut_ok {M = M} (r.cut code p k) code s x h).1)
+  judge_keeps k p (PricedBy code color prices) s x h = ap (λ (v : Shape × State P). v.1.records) (sym (cut_ok {M = M} (r.priced code color prices p k) code s x h).1)
   judge_keeps k p (RefTo number) s x h = ap (λ (v : Shape × State P). v.1.records) (sym (ref_ok r (slice_get s.entries number) k p s x h).5)
 
   opens_less : (most k : ℕ) (g : List M) (p : P) (fs : List (Frame P M)) (shape : Shape) (s : State P) (w : Work r) → length (r.moves p) ≤ most

@@ -6,8 +6,8 @@ use Rattle.pg_position.specs.declared.moves.Move.{Move}
 use Rattle.pg_checker.specs.Tree as tree
 use Rattle.pg_checker.specs.Walk.{◌>>=◌}
 use Rattle.pg_checker.specs.Steps.{Answer, Goes, Stops}
-use Rattle.pg_checker.specs.declared.stop.Stop.{Stop}
-use Rattle.pg_checker.specs.declared.stop.Stop.TheVariants as stop
+use Rattle.pg_checker.specs.Halting.{Stop}
+use Rattle.pg_checker.specs.Halting as stop
 
 pub consumes_none : (known : Option (List ℕ)) → Consumes known known []
 consumes_none None = tt

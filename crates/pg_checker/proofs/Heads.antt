@@ -2,13 +2,14 @@
 use Rattle.std.proofs.Common.{◌≡◌, ℕ, suc, ◌+◌, ◌*◌, ◌≤◌, List, length, Option, Some, None, IfSome, map, Result, Ok, Err, refl, sym, ◌∙◌, ap, subst, arith}
 use Rattle.std.proofs.lemmas.List.{length-append}
 use Rattle.std.specs.Io.KnownBytes.{Consumes, prepend_known}
+use Rattle.pg_certificate.specs.Spelling.{longest_record}
 use Rattle.pg_board.specs.Placement.{Placement}
 use Rattle.pg_position.specs.declared.state.State.{State}
 use Rattle.pg_position.specs.declared.moves.Move.{Move}
 use Rattle.pg_certificate.specs.declared.fault.ReadFault.{ReadFault}
 use Rattle.pg_certificate.specs.declared.fault.ReadFault.TheVariants as reading
 use Rattle.pg_certificate.specs.declared.record.Record.{Record}
-use Rattle.pg_certificate.specs.Spelling.{spelling, IsRecord}
+use Rattle.pg_certificate.specs.Spelling.{spelling, IsRecordOf}
 use Rattle.pg_certificate.specs.Reading.{record_at}
 use Rattle.pg_certificate.specs.Reader.{Reads}
 use Rattle.pg_checker.specs.Tree as tree
@@ -20,18 +21,18 @@ use Rattle.pg_checker.specs.Machine.{entry_of, entries_of, state_at, shape_of}
 use Rattle.pg_checker.specs.Steps.{Answer, Goes, Stops, Says, TakesFew}
 use Rattle.pg_checker.specs.declared.machine.Machine.{Machine}
 use Rattle.pg_checker.specs.declared.machine.Node.{Node}
-use Rattle.pg_checker.specs.declared.stop.Cause.TheVariants as cause
-use Rattle.pg_checker.specs.declared.stop.Stop.{Stop}
-use Rattle.pg_checker.specs.declared.stop.Stop.TheVariants as stop
+use Rattle.pg_checker.specs.Halting.{Stop}
+use Rattle.pg_checker.specs.Halting as stop
+use Rattle.pg_certificate.proofs.RecordLaws.{none_longer}
 use Rattle.pg_checker.proofs.Reading.{read_spelled, read_err}
 use Rattle.pg_checker.proofs.Goings.{goes_on, goes_as, goes_reading, stops_on, stops_as, stops_with}
 
 -- a record is read
-pub next_ok : (before after : Option (List ℕ)) (x : Record) → IsRecord x → Consumes before after (spelling x) → (room : ℕ) → Goes before after room room (λ bytes n. read bytes) (λ rest n. Ok (x, rest))
+pub next_ok : (before after : Option (List ℕ)) (x : Record) → IsRecordOf 1 x → Consumes before after (spelling x) → (room : ℕ) → Goes before after room room (λ bytes n. read bytes) (λ rest n. Ok (x, rest))
 next_ok before after x fits taken room = record { taken = spelling x; used = 0; consumes = taken; spends = omega arith; same = λ rest n. read_spelled x rest fits }
 
 -- no record is read
-next_err : (before after : Option (List ℕ)) (e : ReadFault) → Reads {A = Record} record_at before after (Err e) → (room : ℕ) → Stops before room (λ bytes n. read bytes) (stop_of e)
+next_err : (before after : Option (List ℕ)) (e : ReadFault) → Reads {A = Record} (record_at 1) before after (Err e) → (room : ℕ) → Stops before room (λ bytes n. read bytes) (stop_of e)
 unfolding Stops
 next_err None after reading.Truncated h room = tt
 next_err None after reading.Magic h room = tt
@@ -46,7 +47,7 @@ next_err (Some bytes) after (reading.UnknownRecord b) h room = read_err bytes (r
 next_err (Some bytes) after reading.Read h room = tt
 next_err (Some bytes) after reading.Failed h room = tt
 
-pub next_unread : (before after : Option (List ℕ)) (e : ReadFault) (s : Stop) → s ≡ stop_of e → Reads {A = Record} record_at before after (Err e) → (room : ℕ) → Stops before room (λ bytes n. read bytes) s
+pub next_unread : (before after : Option (List ℕ)) (e : ReadFault) (s : Stop) → s ≡ stop_of e → Reads {A = Record} (record_at 1) before after (Err e) → (room : ℕ) → Stops before room (λ bytes n. read bytes) s
 next_unread before after e s same h room = subst (Stops before room (λ bytes n. read bytes)) (sym same) (next_err before after e h room)
 
 module _ (d : Placement) (l : ℕ) (games : List (List Move)) (cut : Cuts) (k : ℕ) (p : State) where
@@ -66,7 +67,7 @@ module _ (d : Placement) (l : ℕ) (games : List (List Move)) (cut : Cuts) (k : 
       states : record { rest = bytes; entries = entries_of old; records = left; room = n } ≡ state_at mid bytes n
       states = λ i. record { rest = bytes; entries = map entry_of (sym entries i); records = sym kept i; room = n }
 
-  pub head_budget : (before : Option (List ℕ)) (old : Machine) → old.records ≡ 0 → Stops before old.room (heads old) (stop.Because cause.Budget)
+  pub head_budget : (before : Option (List ℕ)) (old : Machine) → old.records ≡ 0 → Stops before old.room (heads old) (stop.Because tree.Budget)
   unfolding Stops
   head_budget None old e = tt
   head_budget (Some bytes) old e = ap (λ (r : ℕ). head (chess d l games cut) k p (record (state_at old bytes old.room) { records = r })) e
@@ -91,7 +92,15 @@ module _ (d : Placement) (l : ℕ) (games : List (List Move)) (cut : Cuts) (k : 
       (subst (λ (m : ℕ). Stops after m (λ rest n. judged mid n (x, rest)) s) room (judged_ after)))
 
 -- ---- how many bytes are taken
-few_left : (before left : Option (List ℕ)) (held : List ℕ) (most now : ℕ) → length held ≤ 4096 → most ≡ now + 1 → IfSome before (λ bytes. IfSome (prepend_known held left) (λ rest. length bytes + 5 * now ≤ length rest + 5 * (now + 1))) → IfSome before (λ bytes. IfSome left (λ rest. length bytes ≤ length rest + (4096 + 5 * most)))
+pub few_record : (before after left : Option (List ℕ)) (x : Record) → IsRecordOf 1 x → Consumes before after (spelling x) → (most : ℕ) → TakesFew before after left (most + 1) most (Ok x)
+few_record None after left x fits taken most = tt
+few_record (Some bytes) None left x fits taken most = tt
+few_record (Some bytes) (Some rest) left x fits taken most =
+    let short : length (spelling x) ≤ longest_record = none_longer x fits.fits in
+    let long : length bytes ≡ length (spelling x) + length rest = ap length taken ∙ length-append (spelling x) rest in
+    omega (arith, short, long)
+
+few_left : (before left : Option (List ℕ)) (held : List ℕ) (most now : ℕ) → length held ≤ 4096 → most ≡ now + 1 → IfSome before (λ bytes. IfSome (prepend_known held left) (λ rest. length bytes + longest_record * now ≤ length rest + longest_record * (now + 1))) → IfSome before (λ bytes. IfSome left (λ rest. length bytes ≤ length rest + (4096 + longest_record * most)))
 few_left None left held most now small e h = tt
 few_left (Some bytes) None held most now small e h = tt
 few_left (Some bytes) (Some rest) held most now small e h = omega (arith, length-append held rest)

@@ -1,47 +1,65 @@
 -- What judging one record says. Leads to the contract of `judge`.
-use Rattle.std.proofs.Common.{◌≡◌, ℕ, suc, ◌+◌, ◌<◌, ◌⊎◌, inl, inr, List, [], Bool, true, false, Option, Some, None, map, slice_get, Result, Ok, Err, refl, sym, ◌∙◌, ap, subst, arith}
+use Rattle.std.proofs.Common.{◌≡◌, ℕ, suc, ◌+◌, ◌<◌, ◌⊎◌, inl, inr, List, [], Bool, true, false, Option, Some, None, IfOk, map, slice_get, Result, Ok, Err, refl, sym, ◌∙◌, ap, subst, arith}
+use Rattle.pg_board.specs.declared.man.Color.{Color}
 use Rattle.pg_board.specs.Placement.{Placement}
+use Rattle.pg_captures.specs.PriceLists.{PriceList}
 use Rattle.pg_position.specs.declared.state.State.{State}
 use Rattle.pg_position.specs.declared.moves.Move.{Move}
 use Rattle.pg_certificate.specs.declared.record.Record.{Record}
-use Rattle.pg_certificate.specs.declared.record.Record.TheVariants.{Expand, Cut, Ref}
+use Rattle.pg_certificate.specs.declared.record.Record.TheVariants.{Expand, Cut, Ref, Priced}
 use Rattle.pg_checker.specs.Tree as tree
 use Rattle.pg_checker.specs.Walk as walk
 use Rattle.pg_checker.specs.Walk.{judge, cut_answer, ref_answer, take_room}
 use Rattle.pg_checker.specs.Chess.{Cuts, chess}
 use Rattle.pg_checker.specs.Judging.{Judgement, Ends, EndsAs, Judges, ended_of, refer_answer}
-use Rattle.pg_checker.specs.Machine.{entry_of, state_at}
+use Rattle.pg_checker.specs.Machine.{entry_of, opened, state_at}
 use Rattle.pg_checker.specs.Steps.{Stops}
 use Rattle.pg_checker.specs.declared.machine.Machine.{Machine}
 use Rattle.pg_checker.specs.declared.machine.Node.{Node}
 use Rattle.pg_checker.specs.declared.machine.Node.TheVariants as node
-use Rattle.pg_checker.specs.declared.stop.Cause.{Cause}
-use Rattle.pg_checker.specs.declared.stop.Cause.TheVariants as cause
-use Rattle.pg_checker.specs.declared.stop.Stop.{Stop}
-use Rattle.pg_checker.specs.declared.stop.Stop.TheVariants as stop
+use Rattle.pg_checker.specs.Halting.{Stop}
+use Rattle.pg_checker.specs.Halting as stop
+use Rattle.pg_checker.specs.declared.halt.Halt.{Halt}
+use Rattle.pg_checker.specs.declared.halt.Halt.TheVariants as halt
+use Rattle.pg_checker.specs.declared.halt.Reason.TheVariants as reason
+use Rattle.pg_checker.specs.Halting.{full}
 use Rattle.pg_checker.proofs.Goings.{stays, consumes_none}
 
 -- a node that ends at once, where the walk says so of each state with the machine's entries
-ends : (m : Machine) (judged : Judgement) (res : Result (Unit {0}) Cause) → ((rest : List ℕ) (n : ℕ) → EndsAs res (judged (state_at m rest n)) (state_at m rest n)) → Judges m m judged (ended_of res)
+ends : (m : Machine) (judged : Judgement) (res : Result (Unit {0}) (tree.Fault Move)) → ((rest : List ℕ) (n : ℕ) → EndsAs res (judged (state_at m rest n)) (state_at m rest n)) → Judges m m judged (ended_of res)
 unfolding Stops
 ends m judged (Ok u) h known = stays known m.room _ _ h
 ends m judged (Err c) h None = tt
 ends m judged (Err c) h (Some bytes) = h bytes m.room
 
-said : (m : Machine) (judged : Judgement) (res : Result (Unit {0}) Cause) (result : Result Node Stop) → result ≡ ended_of res → Judges m m judged (ended_of res) → Judges m m judged result
+said : (m : Machine) (judged : Judgement) (res : Result (Unit {0}) (tree.Fault Move)) (result : Result Node Stop) → result ≡ ended_of res → Judges m m judged (ended_of res) → Judges m m judged result
 said m judged res result e h = subst (λ (v : Result Node Stop). Judges m m judged v) (sym e) h
 
+-- a halt for want of room or memory says so as a stop
+pub halted : {A B : Type 0} (game : List Move) (h : Halt) → ((h ≡ halt.Because reason.TooManyNamed) × A) ⊎ ((h ≡ halt.Memory) × B) → ((full game h ≡ stop.Because tree.TooManyNamed) × A) ⊎ ((full game h ≡ stop.Memory) × B)
+halted game h e = elim e [ inl w ↦ inl (ap (full game) w.0, w.1) | inr w ↦ inr (ap (full game) w.0, w.1) ]
+
+-- a node that ends at once keeps no place
+pub kept_none : (res : Result Node Halt) (k : ℕ) → IfOk res (λ node. opened node ≡ 0) → IfOk res (λ node. k ≡ k + opened node)
+kept_none (Ok node) k e = omega (arith, e)
+kept_none (Err h) k e = tt
+
 module _ (d : Placement) (l : ℕ) (games : List (List Move)) (cut : Cuts) (k : ℕ) (p : State) where
-  pub cut_judged : (m : Machine) (code : ℕ) (res : Result (Unit {0}) Cause) (result : Result Node Stop) → result ≡ ended_of res → Ends res (cut_answer (cut code p k) code) → Judges m m (judge (chess d l games cut) k p (Cut code)) result
+  pub cut_judged : (m : Machine) (code : ℕ) (res : Result (Unit {0}) (tree.Fault Move)) (result : Result Node Stop) → result ≡ ended_of res → Ends res (cut_answer (cut code p k) code) → Judges m m (judge (chess d l games cut) k p (Cut code)) result
   unfolding chess
   cut_judged m code res result e h = said m (judge (chess d l games cut) k p (Cut code)) res result e (ends m (judge (chess d l games cut) k p (Cut code)) res (λ rest n. h (state_at m rest n)))
+
+  -- no record of version 1 has prices
+  pub priced_judged : (m : Machine) (code : ℕ) (color : Color) (prices : List PriceList) (result : Result Node Stop) → result ≡ Err (stop.Because (tree.UnknownBound code)) → Judges m m (judge (chess d l games cut) k p (Priced code color prices)) result
+  unfolding chess
+  priced_judged m code color prices result e = said m (judge (chess d l games cut) k p (Priced code color prices)) (Err (tree.UnknownBound code)) result e (ends m (judge (chess d l games cut) k p (Priced code color prices)) (Err (tree.UnknownBound code)) (λ rest n. refl))
 
   refers : (o : Option (tree.Entry State)) (s : walk.State State) → ref_answer (chess d l games cut) o k p s ≡ refer_answer o k p s
   unfolding chess
   refers None s = refl
   refers (Some e) s = refl
 
-  pub ref_judged : (m : Machine) (number : ℕ) (res : Result (Unit {0}) Cause) (result : Result Node Stop) → result ≡ ended_of res → Ends res (refer_answer (slice_get (map entry_of m.table.entries) number) k p) → Judges m m (judge (chess d l games cut) k p (Ref number)) result
+  pub ref_judged : (m : Machine) (number : ℕ) (res : Result (Unit {0}) (tree.Fault Move)) (result : Result Node Stop) → result ≡ ended_of res → Ends res (refer_answer (slice_get (map entry_of m.table.entries) number) k p) → Judges m m (judge (chess d l games cut) k p (Ref number)) result
   ref_judged m number res result e h =
       said m (judge (chess d l games cut) k p (Ref number)) res result e
       (ends m (judge (chess d l games cut) k p (Ref number)) res (λ rest n. subst (λ (v : Result (walk.Shape × walk.State State) (tree.Fault Move)). EndsAs res v (state_at m rest n)) (sym (refers (slice_get (map entry_of m.table.entries) number) (state_at m rest n))) (h (state_at m rest n))))
@@ -66,14 +84,14 @@ module _ (d : Placement) (l : ℕ) (games : List (List Move)) (cut : Cuts) (k : 
       states : (rest : List ℕ) (n : ℕ) → record (state_at old rest (suc n)) { room = n } ≡ state_at new rest n
       states rest n = λ i. record { rest = rest; entries = map entry_of (sym entries i); records = sym records i; room = n }
 
-  pub full_judged : (old : Machine) (s : Stop) → ((s ≡ stop.Because cause.TooManyNamed) × (old.room ≡ 0)) ⊎ ((s ≡ stop.Memory) × (0 < old.room)) → (new : Machine) → Judges old new (judge (chess d l games cut) k p (Expand true)) (Err s)
+  pub full_judged : (old : Machine) (s : Stop) → ((s ≡ stop.Because tree.TooManyNamed) × (old.room ≡ 0)) ⊎ ((s ≡ stop.Memory) × (0 < old.room)) → (new : Machine) → Judges old new (judge (chess d l games cut) k p (Expand true)) (Err s)
   unfolding Stops
   full_judged old s h new known = elim h [ inl w ↦ subst (Stops known old.room walks) (sym w.0) (full known w.1) | inr w ↦ subst (Stops known old.room walks) (sym w.0) (refused known w.1) ]
     where
       walks : List ℕ → ℕ → Result (walk.Shape × walk.State State) (tree.Fault Move)
       walks bytes n = judge (chess d l games cut) k p (Expand true) (state_at old bytes n)
 
-      full : (known : Option (List ℕ)) → old.room ≡ 0 → Stops known old.room walks (stop.Because cause.TooManyNamed)
+      full : (known : Option (List ℕ)) → old.room ≡ 0 → Stops known old.room walks (stop.Because tree.TooManyNamed)
       full None e = tt
       full (Some bytes) e = ap (λ (n : ℕ). walks bytes n) e
 

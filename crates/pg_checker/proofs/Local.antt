@@ -2,7 +2,7 @@
 use Rattle.std.proofs.Common.{◌≡◌, ℕ, Bool, true, false, List, ◌++◌, Option, Ok, slice_get, sym, ◌∙◌, ap}
 use Rattle.std.proofs.lemmas.List.{append_cancel_right}
 use Rattle.pg_certificate.specs.declared.record.Record.{Record}
-use Rattle.pg_certificate.specs.declared.record.Record.TheVariants.{Expand as Expanded, Cut as CutBy, Ref as RefTo}
+use Rattle.pg_certificate.specs.declared.record.Record.TheVariants.{Expand as Expanded, Cut as CutBy, Ref as RefTo, Priced as PricedBy}
 use Rattle.pg_checker.specs.Tree.{Rules, spelling}
 use Rattle.pg_checker.specs.Walk.{State, Shape, Opened, take_room, cut_answer, judge, head, visit, Took}
 use Rattle.pg_checker.specs.Claims.{IsExact}
@@ -29,6 +29,9 @@ module _ {P M : Type 0} (r : Rules P M) (exact : IsExact r) where
       (ap (λ (n : ℕ). take_room {M = M} n (with_rest rest s)) d.1 ∙ ap (λ (v : Shape × State P). Ok (moved rest v)) d.2, ap (λ (v : Shape × State P). v.1.rest) (sym d.2))
   judge_local k p (CutBy code) s x rest h =
       let d = cut_ok {M = M} (r.cut code p k) code s x h in
+      (ap (λ (o : Option Bool). cut_answer {M = M} o code (with_rest rest s)) d.0 ∙ ap (λ (v : Shape × State P). Ok (moved rest v)) d.1, ap (λ (v : Shape × State P). v.1.rest) (sym d.1))
+  judge_local k p (PricedBy code color prices) s x rest h =
+      let d = cut_ok {M = M} (r.priced code color prices p k) code s x h in
       (ap (λ (o : Option Bool). cut_answer {M = M} o code (with_rest rest s)) d.0 ∙ ap (λ (v : Shape × State P). Ok (moved rest v)) d.1, ap (λ (v : Shape × State P). v.1.rest) (sym d.1))
   judge_local k p (RefTo number) s x rest h =
       let d = ref_ok r (slice_get s.entries number) k p s x h in

@@ -1,5 +1,5 @@
 -- One tree after the other. Leads to the contracts of `tree_of` and `all_trees`.
-use Rattle.std.proofs.Common.{◌≡◌, ℕ, suc, ◌+◌, ◌-◌, ◌<◌, ◌≤◌, Bool, false, List, [], ◌++◌, length, reverse, Option, Result, Ok, Err, refl, sym, ◌∙◌, ap, subst, arith}
+use Rattle.std.proofs.Common.{◌≡◌, ℕ, suc, ◌+◌, ◌-◌, ◌<◌, ◌≤◌, Bool, List, [], ◌++◌, length, reverse, Option, Result, Ok, Err, refl, sym, ◌∙◌, ap, subst, arith}
 use Rattle.pg_board.specs.Placement.{Placement}
 use Rattle.pg_position.specs.declared.state.State.{State}
 use Rattle.pg_position.specs.declared.moves.Move.{Move}
@@ -9,11 +9,11 @@ use Rattle.pg_checker.specs.Walk.{visit, ◌>>=◌}
 use Rattle.pg_checker.specs.Whole.{run}
 use Rattle.pg_checker.specs.Frames.{finish, enter, Stacked}
 use Rattle.pg_checker.specs.Chess.{Cuts, chess}
-use Rattle.pg_checker.specs.Machine.{path, frames_of, count_named, state_at, work_at}
+use Rattle.pg_checker.specs.Machine.{IsReading, path, frames_of, count_named, state_at, work_at}
 use Rattle.pg_checker.specs.Steps.{Answer, Goes, Stops, Says}
 use Rattle.pg_checker.specs.declared.machine.Frame.{Frame}
 use Rattle.pg_checker.specs.declared.machine.Machine.{Machine}
-use Rattle.pg_checker.specs.declared.stop.Stop.{Stop}
+use Rattle.pg_checker.specs.Halting.{Stop}
 use Rattle.pg_checker.proofs.Frames.{start_is, enter_stacked}
 use Rattle.pg_checker.proofs.FrameViews.{path_none}
 use Rattle.pg_checker.proofs.Goings.{stays, goes_on, goes_as, goes_then, stops_on, stops_then, stops_as}
@@ -74,13 +74,13 @@ module _ (d : Placement) (l : ℕ) (games : List (List Move)) (cut : Cuts) (p : 
   pub record Trees (before after : Option (List ℕ)) (n : ℕ) (old now : Machine) : Type 0 where
     pub closed : now.frames.items ≡ []
     pub kept : now.table.kept ≡ 0
-    pub runs : now.reader.failed ≡ false
+    pub runs : IsReading now.reader
     pub held : length now.reader.held ≤ 4096
     pub within : n ≤ l
     pub few : Few before after old.records now.records
     pub goes : Goes before after old.room now.room (runs_all old) (runs_from n now)
 
-  pub trees_start : (known : Option (List ℕ)) (m : Machine) → m.frames.items ≡ [] → m.table.kept ≡ 0 → m.reader.failed ≡ false → length m.reader.held ≤ 4096 → Trees known known 0 m m
+  pub trees_start : (known : Option (List ℕ)) (m : Machine) → m.frames.items ≡ [] → m.table.kept ≡ 0 → IsReading m.reader → length m.reader.held ≤ 4096 → Trees known known 0 m m
   trees_start known m closed kept runs held = record { closed = closed; kept = kept; runs = runs; held = held; within = omega arith; few = few_none known m.records; goes = stays known m.room (runs_all m) (runs_from 0 m) (λ rest room. (let e : suc l - 0 ≡ suc l = omega arith in ap (λ (c : ℕ). run (chess d l games cut) c 0 p (state_at m rest room)) (sym e))) }
 
   next_tree : (n : ℕ) (s : walk.State State) → n ≤ l → run (chess d l games cut) (suc l - n) n p s ≡ (visit (chess d l games cut) n n [] p s >>= (λ got. run (chess d l games cut) (suc l - (n + 1)) (n + 1) p got.1))
@@ -99,7 +99,7 @@ module _ (d : Placement) (l : ℕ) (games : List (List Move)) (cut : Cuts) (p : 
       (goes_then here after now.room new.room (visits n now) (λ rest x. Ok (new.found, state_at new rest x)) (then_trees n) visiting)
 
   pub trees_on : (before here after : Option (List ℕ)) (n : ℕ) (old now new : Machine) → Trees before here n old now → n < l
-      → Goes here after now.room new.room (visits n now) (λ rest room. Ok (new.found, state_at new rest room)) → new.frames.items ≡ [] → new.table.kept ≡ 0 → new.reader.failed ≡ false → length new.reader.held ≤ 4096 → Few here after now.records new.records
+      → Goes here after now.room new.room (visits n now) (λ rest room. Ok (new.found, state_at new rest room)) → new.frames.items ≡ [] → new.table.kept ≡ 0 → IsReading new.reader → length new.reader.held ≤ 4096 → Few here after now.records new.records
       → Trees before after (n + 1) old new
   trees_on before here after n old now new trees low visiting closed kept runs held few = record {
     closed = closed;

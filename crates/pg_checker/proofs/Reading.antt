@@ -1,45 +1,32 @@
 -- Reading a record takes it exactly where its spelling stands.
-use Rattle.std.proofs.Common.{◌≡◌, ℕ, ◌<◌, ◌^◌, Bool, true, false, cond, ◌&&◌, ltb, List, ◌++◌, length, Result, Ok, Err, refl, ◌∙◌, ap, subst, arith, ltb-true}
-use Rattle.std.proofs.lemmas.Bool.{le-ltb, lt-ltb}
-use Rattle.std.proofs.lemmas.Nat.{from_be_bytes-to_be_bytes_4}
+use Rattle.std.proofs.Common.{◌≡◌, ℕ, Bool, true, false, cond, ◌&&◌, List, ◌++◌, Result, Ok, Err, refl, ◌∙◌, ap, subst, arith, ltb-true}
+use Rattle.std.proofs.lemmas.Bool.{lt-ltb}
 use Rattle.std.specs.Str.{bytes_eq}
-use Rattle.std.specs.Int.{w32, to_be_bytes}
 use Rattle.std.proofs.lemmas.Slice.Eq.{bytes_eq-Decides}
 use Rattle.pg_position.specs.declared.moves.Move.{Move}
 use Rattle.pg_certificate.specs.declared.fault.ReadFault.{ReadFault}
 use Rattle.pg_certificate.specs.declared.fault.ReadFault.TheVariants.{Truncated, Magic, UnknownRecord, Read, Trailing, Failed}
 use Rattle.pg_certificate.specs.declared.record.Record.{Record}
-use Rattle.pg_certificate.specs.declared.record.Record.TheVariants.{Expand, Cut, Ref}
-use Rattle.pg_certificate.specs.Spelling.{spelling, IsRecord}
-use Rattle.pg_certificate.specs.Reading.{number_at, record_at}
-use Rattle.pg_certificate.specs.Laws.{AreBytes}
-use Rattle.pg_certificate.proofs.RecordLaws.{record_takes}
+use Rattle.pg_certificate.specs.declared.record.Record.TheVariants.{Expand, Cut, Ref, Priced}
+use Rattle.pg_certificate.specs.Spelling.{spelling, AreBytes, IsRecordOf}
+use Rattle.pg_certificate.specs.Reading.{record_at}
+use Rattle.pg_certificate.proofs.RecordLaws.{records_again, records_taken}
 use Rattle.pg_checker.specs.Tree as tree
 use Rattle.pg_checker.specs.Tree.{Fault, TooManyNamed}
 use Rattle.pg_checker.specs.Chess.{fault_of, renamed, is_spelled, taken, read}
 use Rattle.pg_checker.proofs.Steps.{and_left, and_right}
 
-pub spelled_record : (x : Record) → is_spelled x ≡ true → IsRecord x
-spelled_record (Expand named) h = tt
-spelled_record (Cut code) h = ltb-true code _ h
-spelled_record (Ref number) h = ltb-true number _ h
+pub spelled_record : (x : Record) → is_spelled x ≡ true → IsRecordOf 1 x
+spelled_record (Expand named) h = record { known = tt; fits = tt }
+spelled_record (Cut code) h = record { known = tt; fits = ltb-true code _ h }
+spelled_record (Ref number) h = record { known = tt; fits = ltb-true number _ h }
+spelled_record (Priced code color prices) h = absurd (cc)
 
-pub record_spelled : (x : Record) → IsRecord x → is_spelled x ≡ true
+pub record_spelled : (x : Record) → IsRecordOf 1 x → is_spelled x ≡ true
 record_spelled (Expand named) h = refl
-record_spelled (Cut code) h = lt-ltb code _ h
-record_spelled (Ref number) h = lt-ltb number _ h
-
-four : (n : ℕ) (rest : List ℕ) → n < 2 ^ 32 → number_at (to_be_bytes w32 n ++ rest) ≡ Ok (n, rest)
-four n rest h =
-    let long : ltb (length (to_be_bytes w32 n ++ rest)) 4 ≡ false = le-ltb _ _ (omega arith) in
-    rw (long, from_be_bytes-to_be_bytes_4 n h) refl
-
--- a record that was written is read again
-pub read_again : (x : Record) (rest : List ℕ) → IsRecord x → record_at (spelling x ++ rest) ≡ Ok (x, rest)
-read_again (Expand false) rest h = refl
-read_again (Expand true) rest h = refl
-read_again (Cut code) rest h = refl
-read_again (Ref number) rest h = rw (four number rest h) refl
+record_spelled (Cut code) h = lt-ltb code _ h.fits
+record_spelled (Ref number) h = lt-ltb number _ h.fits
+record_spelled (Priced code color prices) h = absurd (let two : 1 ≡ 2 = h.known in omega arith)
 
 -- a record and the bytes after it are taken where the bytes are those
 taken_yes : (bytes : List ℕ) (got : Record × List ℕ) → is_spelled got.0 ≡ true → bytes ≡ spelling got.0 ++ got.1 → taken bytes (Ok got) ≡ Ok got
@@ -78,31 +65,31 @@ taken_few bytes (Ok got) h = at (is_spelled got.0 && bytes_eq bytes (spelling go
 -- what is read is spelled so
 pub read_ok : (bytes : List ℕ) (x : Record × List ℕ) → read bytes ≡ Ok x → (bytes ≡ spelling x.0 ++ x.1) × (is_spelled x.0 ≡ true)
 unfolding read
-read_ok bytes x h = taken_ok bytes (record_at bytes) x h
+read_ok bytes x h = taken_ok bytes (record_at 1 bytes) x h
 
 -- what is spelled is read
-pub read_spelled : (x : Record) (rest : List ℕ) → IsRecord x → read (spelling x ++ rest) ≡ Ok (x, rest)
+pub read_spelled : (x : Record) (rest : List ℕ) → IsRecordOf 1 x → read (spelling x ++ rest) ≡ Ok (x, rest)
 unfolding read
-read_spelled x rest h = ap (taken (spelling x ++ rest)) (read_again x rest h) ∙ taken_yes (spelling x ++ rest) (x, rest) (record_spelled x h) refl
+read_spelled x rest h = ap (taken (spelling x ++ rest)) (records_again 1 x rest h) ∙ taken_yes (spelling x ++ rest) (x, rest) (record_spelled x h) refl
 
 -- a refusal to read stays one
-pub read_err : (bytes : List ℕ) (e : ReadFault) → record_at bytes ≡ Err e → read bytes ≡ Err (fault_of e)
+pub read_err : (bytes : List ℕ) (e : ReadFault) → record_at 1 bytes ≡ Err e → read bytes ≡ Err (fault_of e)
 unfolding read
 read_err bytes e h = ap (taken bytes) h
 
 -- no refusal to read is one of too many names
 pub read_few : (bytes : List ℕ) → read bytes ≡ Err TooManyNamed → ⊥
 unfolding read
-read_few bytes h = taken_few bytes (record_at bytes) h
+read_few bytes h = taken_few bytes (record_at 1 bytes) h
 
 -- of bytes all is read as records are
-pub read_is : (bytes : List ℕ) → AreBytes bytes → read bytes ≡ renamed (record_at bytes)
+pub read_is : (bytes : List ℕ) → AreBytes bytes → read bytes ≡ renamed (record_at 1 bytes)
 unfolding read
-read_is bytes fits = at (record_at bytes) refl
+read_is bytes fits = at (record_at 1 bytes) refl
   where
-    at : (o : Result (Record × List ℕ) ReadFault) → record_at bytes ≡ o → taken bytes o ≡ renamed o
+    at : (o : Result (Record × List ℕ) ReadFault) → record_at 1 bytes ≡ o → taken bytes o ≡ renamed o
     at (Err e) h = refl
-    at (Ok got) h = let d = record_takes bytes got.1 got.0 fits h in taken_yes bytes got (record_spelled got.0 d.0) d.1
+    at (Ok got) h = let d = records_taken 1 bytes got.1 got.0 fits h in taken_yes bytes got (record_spelled got.0 d.0) d.1
 
 -- no refusal to read is one of bytes behind the certificate
 no_rest : (e : ReadFault) → fault_of e ≡ tree.Trailing → ⊥
@@ -123,4 +110,4 @@ taken_whole bytes (Ok got) h = at (is_spelled got.0 && bytes_eq bytes (spelling 
 
 pub read_no_trailing : (bytes : List ℕ) → read bytes ≡ Err tree.Trailing → ⊥
 unfolding read
-read_no_trailing bytes h = taken_whole bytes (record_at bytes) h
+read_no_trailing bytes h = taken_whole bytes (record_at 1 bytes) h

@@ -1,5 +1,5 @@
 -- When a record is refused for its bytes: where they are less than a whole record, and where no record begins so.
-use Rattle.std.proofs.Common.{◌≡◌, ◌≢◌, ℕ, Bool, true, false, cond, ◌&&◌, eqb, ltb, List, [], ◌∷◌, ◌++◌, length, Result, Ok, Err, refl, sym, ◌∙◌, ap}
+use Rattle.std.proofs.Common.{◌≡◌, ℕ, Bool, true, false, cond, ◌&&◌, eqb, ltb, List, [], ◌∷◌, ◌++◌, length, Result, Ok, Err, refl, sym, ◌∙◌, ap}
 use Rattle.std.specs.Str.{bytes_eq}
 use Rattle.pg_position.specs.declared.moves.Move.{Move}
 use Rattle.pg_certificate.specs.declared.fault.ReadFault.{ReadFault}
@@ -7,8 +7,9 @@ use Rattle.pg_certificate.specs.declared.fault.ReadFault.TheVariants.{Truncated,
 use Rattle.pg_certificate.specs.declared.record.Record.{Record}
 use Rattle.pg_certificate.specs.Spelling.{spelling}
 use Rattle.pg_certificate.specs.Reading.{◌>>=◌, byte_at, exactly, number_at, record_at}
-use Rattle.pg_certificate.specs.Laws.{AreBytes, IsCutShort}
-use Rattle.pg_certificate.proofs.RecordLaws.{truncated_is_short, short_is_truncated, unknown_none, none_unknown}
+use Rattle.pg_certificate.specs.Spelling.{AreBytes}
+use Rattle.pg_certificate.specs.Laws.{IsCutShort, IsUnknownAt}
+use Rattle.pg_certificate.proofs.RecordLaws.{truncated_is_short, short_is_truncated, unknown_at, at_unknown}
 use Rattle.pg_checker.specs.Tree as tree
 use Rattle.pg_checker.specs.Tree.{Fault}
 use Rattle.pg_checker.specs.Chess.{fault_of, renamed, is_spelled, taken, read}
@@ -45,7 +46,7 @@ number_reason : (rest : List ℕ) → HasReason (number_at rest)
 unfolding HasReason IsReason
 number_reason rest = then_one (exactly 4 rest) _ (one_of (ltb (length rest) 4) _ _ tt tt) (λ x. tt)
 
-reason : (bytes : List ℕ) → HasReason (record_at bytes)
+reason : (bytes : List ℕ) → HasReason (record_at 1 bytes)
 unfolding HasReason IsReason
 reason [] = tt
 reason (b ∷ rest) = one_of (eqb b 1) _ _ tt (one_of (eqb b 5) _ _ tt (one_of (eqb b 2) _ _ (then_one (byte_at rest) _ (byte_reason rest) (λ y. tt)) (one_of (eqb b 3) _ _ (then_one (number_at rest) _ (number_reason rest) (λ y. tt)) tt)))
@@ -65,13 +66,13 @@ unfolding HasReason
 renamed_truncated (Ok got) r h = absurd (cc)
 renamed_truncated (Err e) r h = ap Err (truncated_of e r (let d : fault_of e ≡ tree.Truncated = cc in d))
 
-pub read_short : (bytes : List ℕ) → AreBytes bytes → read bytes ≡ Err tree.Truncated → IsCutShort bytes
-read_short bytes fits h = truncated_is_short bytes fits (renamed_truncated (record_at bytes) (reason bytes) (sym (read_is bytes fits) ∙ h))
+pub read_short : (bytes : List ℕ) → AreBytes bytes → read bytes ≡ Err tree.Truncated → IsCutShort 1 bytes
+read_short bytes fits h = truncated_is_short 1 bytes fits (renamed_truncated (record_at 1 bytes) (reason bytes) (sym (read_is bytes fits) ∙ h))
 
-pub short_read : (bytes : List ℕ) → IsCutShort bytes → read bytes ≡ Err tree.Truncated
-short_read bytes h = read_err bytes Truncated (short_is_truncated bytes h)
+pub short_read : (bytes : List ℕ) → AreBytes bytes → IsCutShort 1 bytes → read bytes ≡ Err tree.Truncated
+short_read bytes fits h = read_err bytes Truncated (short_is_truncated 1 bytes fits h)
 
--- no record begins so
+-- no record goes on so
 unknown_of : (e : ReadFault) (b : ℕ) → fault_of e ≡ tree.UnknownRecord b → e ≡ UnknownRecord b
 unknown_of (UnknownRecord c) b h = let d : c ≡ b = cc in ap UnknownRecord d
 unknown_of Truncated b h = absurd (cc)
@@ -88,9 +89,9 @@ taken_unknown bytes (Ok got) b h = absurd (at (is_spelled got.0 && bytes_eq byte
     at true e = cc
     at false e = cc
 
-pub read_unknown : (b : ℕ) (rest : List ℕ) → read (b ∷ rest) ≡ Err (tree.UnknownRecord b) → (x : Record) (more : List ℕ) → spelling x ≢ b ∷ more
+pub read_unknown : (bytes : List ℕ) (x : ℕ) → AreBytes bytes → read bytes ≡ Err (tree.UnknownRecord x) → IsUnknownAt 1 bytes x
 unfolding read
-read_unknown b rest h = unknown_none b rest (taken_unknown (b ∷ rest) (record_at (b ∷ rest)) b h)
+read_unknown bytes x fits h = unknown_at 1 bytes x fits (taken_unknown bytes (record_at 1 bytes) x h)
 
-pub unknown_read : (b : ℕ) (rest : List ℕ) → ((x : Record) (more : List ℕ) → spelling x ≢ b ∷ more) → read (b ∷ rest) ≡ Err (tree.UnknownRecord b)
-unknown_read b rest h = read_err (b ∷ rest) (UnknownRecord b) (none_unknown b rest h)
+pub unknown_read : (bytes : List ℕ) (x : ℕ) → AreBytes bytes → IsUnknownAt 1 bytes x → read bytes ≡ Err (tree.UnknownRecord x)
+unknown_read bytes x fits h = read_err bytes (UnknownRecord x) (at_unknown 1 bytes x fits h)

@@ -1,7 +1,8 @@
 -- The loop over the open nodes. Leads to the contract of `run`.
-use Rattle.std.proofs.Common.{◌≡◌, ℕ, suc, ◌+◌, ◌*◌, ◌<◌, ◌≤◌, Bool, true, false, List, [], ◌∷◌, ◌++◌, length, reverse, map, ◌||◌, ◌≢◌, nat_eq, Option, Some, None, IfSome, Result, Ok, Err, refl, sym, ◌∙◌, ap, subst, arith}
+use Rattle.std.proofs.Common.{append-nil, ◌≡◌, ℕ, suc, ◌+◌, ◌*◌, ◌<◌, ◌≤◌, Bool, true, false, List, [], ◌∷◌, ◌++◌, length, reverse, map, ◌||◌, ◌≢◌, nat_eq, Option, Some, None, IfSome, Result, Ok, Err, refl, sym, ◌∙◌, ap, subst, arith}
 use Rattle.std.proofs.lemmas.List.{reverse-append, length-reverse}
 use Rattle.std.specs.Io.KnownBytes.{Consumes}
+use Rattle.pg_certificate.specs.Spelling.{longest_record}
 use Rattle.pg_board.specs.Placement.{Placement}
 use Rattle.pg_position.specs.declared.state.State.{State}
 use Rattle.pg_position.specs.declared.moves.Move.{Move}
@@ -11,12 +12,12 @@ use Rattle.pg_checker.specs.Walk as walk
 use Rattle.pg_checker.specs.Walk.{visit, each, leaf_answer, ◌>>=◌}
 use Rattle.pg_checker.specs.Frames.{resume, turn, finish, effort, Stacked}
 use Rattle.pg_checker.specs.Chess.{Cuts, chess}
-use Rattle.pg_checker.specs.Machine.{entered, entry_of, entries_of, path, frame_of, frames_of, count_named, state_at, work_at}
+use Rattle.pg_checker.specs.Machine.{IsReading, entered, entry_of, entries_of, path, frame_of, frames_of, count_named, state_at, work_at}
 use Rattle.pg_checker.specs.Steps.{Answer, Goes, Stops, TakesFew}
 use Rattle.pg_checker.specs.declared.machine.Frame.{Frame}
 use Rattle.pg_checker.specs.declared.machine.Machine.{Machine}
-use Rattle.pg_checker.specs.declared.stop.Stop.{Stop}
-use Rattle.pg_checker.specs.declared.stop.Stop.TheVariants as stop
+use Rattle.pg_checker.specs.Halting.{Stop}
+use Rattle.pg_checker.specs.Halting as stop
 use Rattle.pg_checker.proofs.Chess.{chess_exact, chess_few, chess_is}
 use Rattle.pg_checker.proofs.Left.{left_are}
 use Rattle.pg_moves.proofs.SortLemmas.{Contains-head, Contains-later}
@@ -24,6 +25,7 @@ use Rattle.std.specs.List.{Contains}
 use Rattle.pg_position.specs.Position.{IsPosition}
 use Rattle.pg_position.specs.Step.{Legal}
 use Rattle.pg_checker.specs.Left.{left_after}
+use Rattle.pg_checker.specs.Passing.{LeadsElsewhere, AllElsewhere}
 use Rattle.pg_checker.proofs.Turning.{entry_is}
 use Rattle.pg_checker.proofs.Frames.{turn_is, turn_less, turn_stacked}
 use Rattle.pg_checker.proofs.FrameViews.{frames_more, count_more}
@@ -31,9 +33,9 @@ use Rattle.pg_checker.proofs.Goings.{stays, goes_on, goes_as, goes_then, stops_o
 use Rattle.pg_checker.proofs.Turning.{turns}
 
 -- ---- bytes taken
--- between two points of the walk, at most five for each record
+-- between two points of the walk, at most the longest record for each
 abbrev pub Few : Option (List ℕ) → Option (List ℕ) → ℕ → ℕ → Type 0
-Few before after most now = IfSome before (λ bytes. IfSome after (λ rest. length bytes + 5 * now ≤ length rest + 5 * most))
+Few before after most now = IfSome before (λ bytes. IfSome after (λ rest. length bytes + longest_record * now ≤ length rest + longest_record * most))
 
 pub few_none : (known : Option (List ℕ)) (n : ℕ) → Few known known n n
 few_none None n = tt
@@ -45,7 +47,7 @@ few_on (Some xs0) None c xs most mid now h f k = absurd h
 few_on (Some xs0) (Some ys0) None xs most mid now h f k = tt
 few_on (Some xs0) (Some ys0) (Some zs0) xs most mid now h f k = omega arith
 
-few_end : (a b left : Option (List ℕ)) (xs : List ℕ) (most mid : ℕ) → Consumes a b xs → Few a b most mid → IfSome b (λ bytes. IfSome left (λ rest. length bytes ≤ length rest + (4096 + 5 * mid))) → IfSome a (λ bytes. IfSome left (λ rest. length bytes ≤ length rest + (4096 + 5 * most)))
+few_end : (a b left : Option (List ℕ)) (xs : List ℕ) (most mid : ℕ) → Consumes a b xs → Few a b most mid → IfSome b (λ bytes. IfSome left (λ rest. length bytes ≤ length rest + (4096 + longest_record * mid))) → IfSome a (λ bytes. IfSome left (λ rest. length bytes ≤ length rest + (4096 + longest_record * most)))
 few_end None b left xs most mid h f k = tt
 few_end (Some xs0) None left xs most mid h f k = absurd h
 few_end (Some xs0) (Some ys0) None xs most mid h f k = tt
@@ -76,7 +78,7 @@ unfolding frames_of
 frames_length [] = refl
 frames_length (f ∷ fs) = ap suc (frames_length fs)
 
-frames_popped : (items rest : List Frame) (top : Frame) → items ≡ rest ++ (top ∷ []) → frames_of (reverse items) ≡ frame_of top (reverse rest) ∷ frames_of (reverse rest)
+pub frames_popped : (items rest : List Frame) (top : Frame) → items ≡ rest ++ (top ∷ []) → frames_of (reverse items) ≡ frame_of top (reverse rest) ∷ frames_of (reverse rest)
 frames_popped items rest top e = ap (λ (v : List Frame). frames_of (reverse v)) e ∙ frames_more rest top
 
 pub depth : (n : ℕ) (items rest : List Frame) (top : Frame) → items ≡ rest ++ (top ∷ []) → Stacked n (frames_of (reverse items)) → top.plies + suc (length rest) ≡ n
@@ -121,12 +123,12 @@ module _ (d : Placement) (l : ℕ) (games : List (List Move)) (cut : Cuts) (n : 
   pub record Runs (before after : Option (List ℕ)) (old now : Machine) : Type 0 where
     pub stacked : Stacked n (frames_of (reverse now.frames.items))
     pub kept : now.table.kept ≡ count_named (reverse now.frames.items)
-    pub runs : now.reader.failed ≡ false
+    pub runs : IsReading now.reader
     pub held : length now.reader.held ≤ 4096
     pub few : Few before after old.records now.records
     pub goes : Goes before after old.room now.room (finishes old) (finishes now)
 
-  pub runs_start : (known : Option (List ℕ)) (m : Machine) → Stacked n (frames_of (reverse m.frames.items)) → m.table.kept ≡ count_named (reverse m.frames.items) → m.reader.failed ≡ false → length m.reader.held ≤ 4096 → Runs known known m m
+  pub runs_start : (known : Option (List ℕ)) (m : Machine) → Stacked n (frames_of (reverse m.frames.items)) → m.table.kept ≡ count_named (reverse m.frames.items) → IsReading m.reader → length m.reader.held ≤ 4096 → Runs known known m m
   runs_start known m stacked kept runs held = record { stacked = stacked; kept = kept; runs = runs; held = held; few = few_none known m.records; goes = stays known m.room (finishes m) (finishes m) (λ rest room. refl) }
 
   -- the next turn, and then the rest
@@ -137,7 +139,7 @@ module _ (d : Placement) (l : ℕ) (games : List (List Move)) (cut : Cuts) (n : 
       ∙ (λ i. turn (chess d l games cut) n (frame_of top (reverse mid.frames.items)) (frames_of (reverse mid.frames.items)) (sym found i) (record { rest = rest; entries = map entry_of (sym table i).entries; records = sym records i; room = room }) >>= finish (chess d l games cut) n)
 
   pub runs_on : (before here after : Option (List ℕ)) (old now mid new : Machine) (top : Frame) → Runs before here old now → now.frames.items ≡ mid.frames.items ++ (top ∷ []) → mid.found ≡ now.found → mid.table ≡ now.table → mid.records ≡ now.records → mid.room ≡ now.room
-      → Goes here after mid.room new.room (turns d l games cut n top mid) (λ rest room. Ok (work_at (chess d l games cut) new rest room)) → new.table.kept ≡ count_named (reverse new.frames.items) → new.reader.failed ≡ false → length new.reader.held ≤ 4096 → Few here after mid.records new.records
+      → Goes here after mid.room new.room (turns d l games cut n top mid) (λ rest room. Ok (work_at (chess d l games cut) new rest room)) → new.table.kept ≡ count_named (reverse new.frames.items) → IsReading new.reader → length new.reader.held ≤ 4096 → Few here after mid.records new.records
       → Runs before after old new
   runs_on before here after old now mid new top run items found table records room turning kept runs held few = record {
     stacked = turn_stacked (chess d l games cut) n n (frame_of top (reverse mid.frames.items)) (frames_of (reverse mid.frames.items)) mid.found (state_at mid (turning.taken ++ []) (turning.used + 0)) (work_at (chess d l games cut) new [] 0) (subst (λ v. Stacked n v) (frames_popped now.frames.items mid.frames.items top items) run.stacked) (turning.same [] 0);
@@ -161,20 +163,23 @@ module _ (d : Placement) (l : ℕ) (games : List (List Move)) (cut : Cuts) (n : 
       (subst (λ v. effort (chess d l games cut) 28672 (work_at (chess d l games cut) new [] 0) < effort (chess d l games cut) 28672 (record { frames = v; found = now.found; state = record (state_at now [] 0) { records = mid.records } })) (sym (frames_popped now.frames.items mid.frames.items top items)) less)
 
   -- ---- leaves of which none is on the diagram
+  pub dry_front : (p : State) (g : List Move) (passed ms : List Move) (found : Bool) (s : walk.State State) → ((m : Move) → Contains passed m → (chess d l games cut).is_goal ((chess d l games cut).play p m) ≡ false) → each (chess d l games cut) (visit (chess d l games cut) n 0) g p (passed ++ ms) found s ≡ each (chess d l games cut) (visit (chess d l games cut) n 0) g p ms found s
+  dry_front p g [] ms found s off = refl
+  dry_front p g (m ∷ passed) ms found s off =
+      ap (λ (x : Bool). leaf_answer (chess d l games cut) n (g ++ (m ∷ [])) ((chess d l games cut).play p m) s x (nat_eq n (chess d l games cut).plies) ((chess d l games cut).is_listed (g ++ (m ∷ []))) >>= (λ child. each (chess d l games cut) (visit (chess d l games cut) n 0) g p (passed ++ ms) (found || child.0) child.1)) (off m (Contains-head m passed))
+      ∙ (ap (λ (f : Bool). each (chess d l games cut) (visit (chess d l games cut) n 0) g p (passed ++ ms) f s) (or_false found) ∙ dry_front p g passed ms found s (λ x c. off x (Contains-later m x passed c)))
+
   dry : (p : State) (g : List Move) (ms : List Move) (found : Bool) (s : walk.State State) → ((m : Move) → Contains ms m → (chess d l games cut).is_goal ((chess d l games cut).play p m) ≡ false) → each (chess d l games cut) (visit (chess d l games cut) n 0) g p ms found s ≡ Ok (found, s)
-  dry p g [] found s off = refl
-  dry p g (m ∷ ms) found s off =
-      ap (λ (x : Bool). leaf_answer (chess d l games cut) n (g ++ (m ∷ [])) ((chess d l games cut).play p m) s x (nat_eq n (chess d l games cut).plies) ((chess d l games cut).is_listed (g ++ (m ∷ []))) >>= (λ child. each (chess d l games cut) (visit (chess d l games cut) n 0) g p ms (found || child.0) child.1)) (off m (Contains-head m ms))
-      ∙ (ap (λ (f : Bool). each (chess d l games cut) (visit (chess d l games cut) n 0) g p ms f s) (or_false found) ∙ dry p g ms found s (λ x c. off x (Contains-later m x ms c)))
+  dry p g ms found s off = ap (λ (v : List Move). each (chess d l games cut) (visit (chess d l games cut) n 0) g p v found s) (sym (append-nil ms)) ∙ dry_front p g ms [] found s off
 
   -- the node closes at once
-  skipped : (now mid new : Machine) (top : Frame) (found : Bool) → now.frames.items ≡ mid.frames.items ++ (top ∷ []) → top.plies ≡ 0 → ((m : Move) → Contains (left_after top.position top.last) m → (chess d l games cut).is_goal ((chess d l games cut).play top.position m) ≡ false)
-      → found ≡ (top.found || now.found) → new.frames ≡ mid.frames → new.records ≡ now.records → new.found ≡ found → map entry_of new.table.entries ≡ map entry_of now.table.entries ++ entered top.named (record { position = top.position; plies = suc top.plies; fertile = found })
+  skipped : (now mid new : Machine) (top : Frame) (found : Bool) → now.frames.items ≡ mid.frames.items ++ (top ∷ []) → top.plies ≡ 0 → ((m : Move) → Contains (left_after top.moves.position top.moves.last) m → (chess d l games cut).is_goal ((chess d l games cut).play top.moves.position m) ≡ false)
+      → found ≡ (top.found || now.found) → new.frames ≡ mid.frames → new.records ≡ now.records → new.found ≡ found → map entry_of new.table.entries ≡ map entry_of now.table.entries ++ entered top.named (record { position = top.moves.position; plies = suc top.plies; fertile = found })
       → (rest : List ℕ) (room : ℕ) → finishes now rest room ≡ finishes new rest room
   skipped now mid new top found items last off is same records found_is entries rest room =
       ap (λ v. resume (chess d l games cut) n v (now.found, state_at now rest room)) (frames_popped now.frames.items mid.frames.items top items)
-      ∙ (ap (λ (k : ℕ). each (chess d l games cut) (visit (chess d l games cut) n k) (path (reverse mid.frames.items)) top.position (left_after top.position top.last) (top.found || now.found) (state_at now rest room) >>= (λ all. walk.close (chess d l games cut) top.named (suc top.plies) top.position all >>= resume (chess d l games cut) n (frames_of (reverse mid.frames.items)))) last
-      ∙ (ap (λ (x : Result (Bool × walk.State State) (tree.Fault Move)). x >>= (λ all. walk.close (chess d l games cut) top.named (suc top.plies) top.position all >>= resume (chess d l games cut) n (frames_of (reverse mid.frames.items)))) (dry top.position (path (reverse mid.frames.items)) (left_after top.position top.last) (top.found || now.found) (state_at now rest room) off)
+      ∙ (ap (λ (k : ℕ). each (chess d l games cut) (visit (chess d l games cut) n k) (path (reverse mid.frames.items)) top.moves.position (left_after top.moves.position top.moves.last) (top.found || now.found) (state_at now rest room) >>= (λ all. walk.close (chess d l games cut) top.named (suc top.plies) top.moves.position all >>= resume (chess d l games cut) n (frames_of (reverse mid.frames.items)))) last
+      ∙ (ap (λ (x : Result (Bool × walk.State State) (tree.Fault Move)). x >>= (λ all. walk.close (chess d l games cut) top.named (suc top.plies) top.moves.position all >>= resume (chess d l games cut) n (frames_of (reverse mid.frames.items)))) (dry top.moves.position (path (reverse mid.frames.items)) (left_after top.moves.position top.moves.last) (top.found || now.found) (state_at now rest room) off)
       ∙ (λ i. resume (chess d l games cut) n (stack i) (fertile i, record { rest = rest; entries = all i; records = sym records i; room = room }))))
     where
       stack : frames_of (reverse mid.frames.items) ≡ frames_of (reverse new.frames.items)
@@ -183,19 +188,20 @@ module _ (d : Placement) (l : ℕ) (games : List (List Move)) (cut : Cuts) (n : 
       fertile : (top.found || now.found) ≡ new.found
       fertile = sym (found_is ∙ is)
 
-      all : entries_of now ++ entry (chess d l games cut) top.named (suc top.plies) top.position (top.found || now.found) ≡ entries_of new
-      all = ap (λ (f : Bool). entries_of now ++ entry (chess d l games cut) top.named (suc top.plies) top.position f) (sym is) ∙ ap (λ (v : List (tree.Entry State)). entries_of now ++ v) (entry_is d l games cut n top.named (suc top.plies) top.position found) ∙ sym entries
+      all : entries_of now ++ entry (chess d l games cut) top.named (suc top.plies) top.moves.position (top.found || now.found) ≡ entries_of new
+      all = ap (λ (f : Bool). entries_of now ++ entry (chess d l games cut) top.named (suc top.plies) top.moves.position f) (sym is) ∙ ap (λ (v : List (tree.Entry State)). entries_of now ++ v) (entry_is d l games cut n top.named (suc top.plies) top.moves.position found) ∙ sym entries
 
-  -- where no legal move leads to the diagram, no move that is left does
-  none_left : (top : Frame) → IsPosition top.position → ((m : Move) (q : State) → Legal top.position m q → q.board ≢ d) → (m : Move) → Contains (left_after top.position top.last) m → (chess d l games cut).is_goal ((chess d l games cut).play top.position m) ≡ false
-  none_left top valid far m c = goal_off (left_legal top.position top.last m c)
-    where
-      goal_off : (s : (q : State) × Legal top.position m q) → (chess d l games cut).is_goal ((chess d l games cut).play top.position m) ≡ false
-      goal_off (q, legal) =
-          not_goal d l games cut ((chess d l games cut).play top.position m) (λ e. far m q legal (ap (λ (v : State). v.board) (sym ((chess_is d l games cut).play top.position m q valid legal)) ∙ e))
+  -- a legal move that leads elsewhere does not lead to the diagram
+  pub goal_off : (p : State) (m : Move) → IsPosition p → (q : State) × Legal p m q → LeadsElsewhere d p m → (chess d l games cut).is_goal ((chess d l games cut).play p m) ≡ false
+  goal_off p m valid (q, legal) off =
+      not_goal d l games cut ((chess d l games cut).play p m) (λ e. off q legal (ap (λ (v : State). v.board) (sym ((chess_is d l games cut).play p m q valid legal)) ∙ e))
 
-  pub runs_skip : (before here : Option (List ℕ)) (old now mid new : Machine) (top : Frame) (found : Bool) → Runs before here old now → now.frames.items ≡ mid.frames.items ++ (top ∷ []) → top.plies ≡ 0 → IsPosition top.position → ((m : Move) (q : State) → Legal top.position m q → q.board ≢ d)
-      → found ≡ (top.found || now.found) → new.frames ≡ mid.frames → new.room ≡ now.room → new.records ≡ now.records → new.reader ≡ now.reader → new.found ≡ found → new.table.kept + one_if top.named ≡ now.table.kept → map entry_of new.table.entries ≡ map entry_of now.table.entries ++ entered top.named (record { position = top.position; plies = suc top.plies; fertile = found })
+  -- where no move that is left leads to the diagram
+  none_left : (top : Frame) → IsPosition top.moves.position → AllElsewhere d top.moves → (m : Move) → Contains (left_after top.moves.position top.moves.last) m → (chess d l games cut).is_goal ((chess d l games cut).play top.moves.position m) ≡ false
+  none_left top valid far m c = goal_off top.moves.position m valid (left_legal top.moves.position top.moves.last m c) (far m c)
+
+  pub runs_skip : (before here : Option (List ℕ)) (old now mid new : Machine) (top : Frame) (found : Bool) → Runs before here old now → now.frames.items ≡ mid.frames.items ++ (top ∷ []) → top.plies ≡ 0 → IsPosition top.moves.position → AllElsewhere d top.moves
+      → found ≡ (top.found || now.found) → new.frames ≡ mid.frames → new.room ≡ now.room → new.records ≡ now.records → new.reader ≡ now.reader → new.found ≡ found → new.table.kept + one_if top.named ≡ now.table.kept → map entry_of new.table.entries ≡ map entry_of now.table.entries ++ entered top.named (record { position = top.moves.position; plies = suc top.plies; fertile = found })
       → Runs before here old new
   runs_skip before here old now mid new top found run items last valid far is same room records reader found_is kept entries = record {
     stacked = subst (λ v. Stacked n v) (rw same refl) (subst (λ v. Stacked n v) (frames_popped now.frames.items mid.frames.items top items) run.stacked).1;

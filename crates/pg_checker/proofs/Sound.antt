@@ -1,6 +1,6 @@
 -- A certificate that fits proves that the list is complete.
 use Rattle.std.proofs.Common.{◌≡◌, ℕ, zero, suc, ◌+◌, ◌<◌, ◌⊎◌, Bool, true, false, ◌||◌, List, [], ◌∷◌, ◌++◌, length, Some, slice_get, slice_index_or, Contains, refl, sym, ◌∙◌, subst, inl, inr, ⊎_elim, arith, append_assoc, append-nil}
-use Rattle.pg_checker.specs.Tree.{Tree, Trees, Leaf, Expand, Cut, Ref, Empty, First, Entry, Rules, Reaches, Barren, Fits, FitAll, fertile, any_fertile, closed, closed_all, entry}
+use Rattle.pg_checker.specs.Tree.{Tree, Trees, Leaf, Expand, Cut, Ref, Priced, Empty, First, Entry, Rules, Reaches, Barren, Fits, FitAll, fertile, any_fertile, closed, closed_all, entry}
 use Rattle.pg_checker.specs.Claims.{IsRight, FitFrom, count, IsComplete, IsCertificate}
 
 contains_at : {X : Type 0} (x y : X) (xs : List X) (i : ℕ) → i < length (x ∷ xs) → slice_index_or (x ∷ xs) i y ≡ y → (x ≡ y) ⊎ Contains xs y
@@ -103,10 +103,14 @@ module _ {P M : Type 0} (r : Rules P M) (Met : P → Type 0) where
     good n zero g p es Leaf met a fit = record { games = leaf_games n g p es fit; barren = leaf_barren p; told = tt }
     good n zero g p es (Expand is_named ts) met a fit = absurd fit
     good n zero g p es (Cut code) met a fit = absurd fit
+    good n zero g p es (Priced code color prices) met a fit = absurd fit
     good n zero g p es (Ref number) met a fit = absurd fit
     good n (suc k) g p es Leaf met a fit = absurd fit
     good n (suc k) g p es (Cut code) met a fit =
         let b = right.cut code (suc k) p met fit.1 in
+        record { games = from_barren n (suc k) g p b; barren = λ _. b; told = tt }
+    good n (suc k) g p es (Priced code color prices) met a fit =
+        let b = right.priced code color prices (suc k) p met fit.1 in
         record { games = from_barren n (suc k) g p b; barren = λ _. b; told = tt }
     good n (suc k) g p es (Ref number) met a fit =
         let f = fit.1 in

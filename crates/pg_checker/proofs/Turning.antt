@@ -16,7 +16,7 @@ use Rattle.pg_checker.specs.Machine.{path, entered, entry_of, entries_of, frame_
 use Rattle.pg_checker.specs.Steps.{Answer, Goes, Stops, Says}
 use Rattle.pg_checker.specs.declared.machine.Frame.{Frame}
 use Rattle.pg_checker.specs.declared.machine.Machine.{Machine}
-use Rattle.pg_checker.specs.declared.stop.Stop.{Stop}
+use Rattle.pg_checker.specs.Halting.{Stop}
 use Rattle.pg_checker.proofs.Goings.{stays, goes_as, stops_as}
 use Rattle.pg_checker.proofs.FrameViews.{path_more, frames_more, count_more}
 use Rattle.pg_checker.proofs.Left.{left_next, left_last}
@@ -39,7 +39,7 @@ module _ (d : Placement) (l : ℕ) (games : List (List Move)) (cut : Cuts) (n : 
   abbrev pub turns : Frame → Machine → Answer (Work (chess d l games cut))
   turns top m rest room = turn (chess d l games cut) n (frame_of top (reverse m.frames.items)) (frames_of (reverse m.frames.items)) m.found (state_at m rest room)
 
-  turns_at : (top : Frame) (m : Machine) (rest : List ℕ) (room : ℕ) (left : List Move) → left_after top.position top.last ≡ left
+  turns_at : (top : Frame) (m : Machine) (rest : List ℕ) (room : ℕ) (left : List Move) → left_after top.moves.position top.moves.last ≡ left
       → turns top m rest room ≡ turn_at (chess d l games cut) n (frame_of top (reverse m.frames.items)) (frames_of (reverse m.frames.items)) m.found (state_at m rest room) left
   turns_at top m rest room left e = ap (turn_at (chess d l games cut) n (frame_of top (reverse m.frames.items)) (frames_of (reverse m.frames.items)) m.found (state_at m rest room)) e
 
@@ -48,12 +48,12 @@ module _ (d : Placement) (l : ℕ) (games : List (List Move)) (cut : Cuts) (n : 
   entry_is false k p f = refl
 
   -- the node closes
-  pub turn_closes : (known after : Option (List ℕ)) (top : Frame) (m new : Machine) (found : Bool) → after ≡ known → found ≡ (top.found || m.found) → IsLast top.position top.last
-      → new.frames ≡ m.frames → new.room ≡ m.room → new.records ≡ m.records → new.found ≡ found → map entry_of new.table.entries ≡ map entry_of m.table.entries ++ entered top.named (record { position = top.position; plies = suc top.plies; fertile = found })
+  pub turn_closes : (known after : Option (List ℕ)) (top : Frame) (m new : Machine) (found : Bool) → after ≡ known → found ≡ (top.found || m.found) → IsLast top.moves.position top.moves.last
+      → new.frames ≡ m.frames → new.room ≡ m.room → new.records ≡ m.records → new.found ≡ found → map entry_of new.table.entries ≡ map entry_of m.table.entries ++ entered top.named (record { position = top.moves.position; plies = suc top.plies; fertile = found })
       → Goes known after m.room new.room (turns top m) (λ rest room. Ok (work_at (chess d l games cut) new rest room))
   turn_closes known after top m new found there is last same room records found_is entries =
       subst (λ (v : Option (List ℕ)). Goes known v m.room new.room (turns top m) (λ rest x. Ok (work_at (chess d l games cut) new rest x))) (sym there) (subst (λ (left : ℕ). Goes known known m.room left (turns top m) (λ rest x. Ok (work_at (chess d l games cut) new rest x))) (sym room)
-      (stays known m.room (turns top m) (λ rest x. Ok (work_at (chess d l games cut) new rest x)) (λ rest x. turns_at top m rest x [] (left_last top.position top.last last) ∙ closed rest x)))
+      (stays known m.room (turns top m) (λ rest x. Ok (work_at (chess d l games cut) new rest x)) (λ rest x. turns_at top m rest x [] (left_last top.moves.position top.moves.last last) ∙ closed rest x)))
     where
       stack : frames_of (reverse m.frames.items) ≡ frames_of (reverse new.frames.items)
       stack = rw same refl
@@ -61,42 +61,42 @@ module _ (d : Placement) (l : ℕ) (games : List (List Move)) (cut : Cuts) (n : 
       fertile : (top.found || m.found) ≡ new.found
       fertile = sym (found_is ∙ is)
 
-      all : entries_of m ++ entry (chess d l games cut) top.named (suc top.plies) top.position (top.found || m.found) ≡ entries_of new
-      all = ap (λ (f : Bool). entries_of m ++ entry (chess d l games cut) top.named (suc top.plies) top.position f) (sym is) ∙ ap (λ (v : List (tree.Entry State)). entries_of m ++ v) (entry_is top.named (suc top.plies) top.position found) ∙ sym entries
+      all : entries_of m ++ entry (chess d l games cut) top.named (suc top.plies) top.moves.position (top.found || m.found) ≡ entries_of new
+      all = ap (λ (f : Bool). entries_of m ++ entry (chess d l games cut) top.named (suc top.plies) top.moves.position f) (sym is) ∙ ap (λ (v : List (tree.Entry State)). entries_of m ++ v) (entry_is top.named (suc top.plies) top.moves.position found) ∙ sym entries
 
       closed : (rest : List ℕ) (x : ℕ) → turn_at (chess d l games cut) n (frame_of top (reverse m.frames.items)) (frames_of (reverse m.frames.items)) m.found (state_at m rest x) [] ≡ Ok (work_at (chess d l games cut) new rest x)
       closed rest x = λ i. Ok (record { frames = stack i; found = fertile i; state = record { rest = rest; entries = all i; records = sym records i; room = x } })
 
   -- its next move is played
-  plays : (top advanced : Frame) (m mid : Machine) (next : State) (move : Move) → advanced ≡ record top { last = Some move; found = top.found || m.found } → IsNext top.position top.last move → IsPosition top.position → Legal top.position move next
+  plays : (top advanced : Frame) (m mid : Machine) (next : State) (move : Move) → advanced ≡ record top { moves = record { position = top.moves.position; last = Some move }; found = top.found || m.found } → IsNext top.moves.position top.moves.last move → IsPosition top.moves.position → Legal top.moves.position move next
       → mid.frames.items ≡ m.frames.items ++ (advanced ∷ []) → mid.table ≡ m.table → mid.records ≡ m.records → (rest : List ℕ) (x : ℕ)
       → turns top m rest x ≡ enter (chess d l games cut) n top.plies (path (reverse mid.frames.items)) next (frames_of (reverse mid.frames.items)) (state_at mid rest x)
   unfolding chess
   plays top advanced m mid next move is first valid legal pushed table records rest x =
-      turns_at top m rest x (move ∷ left_after top.position (Some move)) (left_next top.position top.last move first)
+      turns_at top m rest x (move ∷ left_after top.moves.position (Some move)) (left_next top.moves.position top.moves.last move first)
       ∙ (λ i. enter (chess d l games cut) n top.plies (game i) (played i) (stack i) (state i))
     where
       game : path (reverse m.frames.items) ++ (move ∷ []) ≡ path (reverse mid.frames.items)
       game = sym (ap (λ (v : List Frame). path (reverse v)) pushed ∙ path_more m.frames.items advanced ∙ rw is refl)
 
-      played : (chess d l games cut).play top.position move ≡ next
-      played = play_of_is top.position move next valid legal
+      played : (chess d l games cut).play top.moves.position move ≡ next
+      played = play_of_is top.moves.position move next valid legal
 
-      stack : record (frame_of top (reverse m.frames.items)) { left = left_after top.position (Some move); found = top.found || m.found } ∷ frames_of (reverse m.frames.items) ≡ frames_of (reverse mid.frames.items)
+      stack : record (frame_of top (reverse m.frames.items)) { left = left_after top.moves.position (Some move); found = top.found || m.found } ∷ frames_of (reverse m.frames.items) ≡ frames_of (reverse mid.frames.items)
       stack = sym (ap (λ (v : List Frame). frames_of (reverse v)) pushed ∙ frames_more m.frames.items advanced ∙ rw is refl)
 
       state : state_at m rest x ≡ state_at mid rest x
       state = λ i. record { rest = rest; entries = map entry_of (sym table i).entries; records = sym records i; room = x }
 
-  pub turn_plays : (before after : Option (List ℕ)) (top advanced : Frame) (m mid new : Machine) (next : State) (move : Move) (found : Bool) (res : Result (Unit {0}) Stop) → advanced ≡ record top { last = Some move; found = found } → found ≡ (top.found || m.found) → IsNext top.position top.last move → IsPosition top.position → Legal top.position move next
+  pub turn_plays : (before after : Option (List ℕ)) (top advanced : Frame) (m mid new : Machine) (next : State) (move : Move) (found : Bool) (res : Result (Unit {0}) Stop) → advanced ≡ record top { moves = record { position = top.moves.position; last = Some move }; found = found } → found ≡ (top.found || m.found) → IsNext top.moves.position top.moves.last move → IsPosition top.moves.position → Legal top.moves.position move next
       → mid.frames.items ≡ m.frames.items ++ (advanced ∷ []) → mid.table ≡ m.table → mid.records ≡ m.records → mid.room ≡ m.room
       → Says before after mid.room new.room (λ rest x. enter (chess d l games cut) n top.plies (path (reverse mid.frames.items)) next (frames_of (reverse mid.frames.items)) (state_at mid rest x)) (λ _ rest x. work_at (chess d l games cut) new rest x) res
       → Says before after m.room new.room (turns top m) (λ _ rest x. work_at (chess d l games cut) new rest x) res
   turn_plays before after top advanced m mid new next move found (Ok u) is or first valid legal pushed table records room h =
       goes_as before after m.room new.room (λ rest x. enter (chess d l games cut) n top.plies (path (reverse mid.frames.items)) next (frames_of (reverse mid.frames.items)) (state_at mid rest x)) (λ rest x. Ok (work_at (chess d l games cut) new rest x)) (turns top m) (λ rest x. Ok (work_at (chess d l games cut) new rest x))
-      (plays top advanced m mid next move (is ∙ ap (λ (f : Bool). record top { last = Some move; found = f }) or) first valid legal pushed table records) (λ rest x. refl)
+      (plays top advanced m mid next move (is ∙ ap (λ (f : Bool). record top { moves = record { position = top.moves.position; last = Some move }; found = f }) or) first valid legal pushed table records) (λ rest x. refl)
       (subst (λ (left : ℕ). Goes before after left new.room (λ rest x. enter (chess d l games cut) n top.plies (path (reverse mid.frames.items)) next (frames_of (reverse mid.frames.items)) (state_at mid rest x)) (λ rest x. Ok (work_at (chess d l games cut) new rest x))) room h)
   turn_plays before after top advanced m mid new next move found (Err s) is or first valid legal pushed table records room h =
       stops_as before m.room (λ rest x. enter (chess d l games cut) n top.plies (path (reverse mid.frames.items)) next (frames_of (reverse mid.frames.items)) (state_at mid rest x)) (turns top m) s
-      (plays top advanced m mid next move (is ∙ ap (λ (f : Bool). record top { last = Some move; found = f }) or) first valid legal pushed table records)
+      (plays top advanced m mid next move (is ∙ ap (λ (f : Bool). record top { moves = record { position = top.moves.position; last = Some move }; found = f }) or) first valid legal pushed table records)
       (subst (λ (left : ℕ). Stops before left (λ rest x. enter (chess d l games cut) n top.plies (path (reverse mid.frames.items)) next (frames_of (reverse mid.frames.items)) (state_at mid rest x)) s) room h)

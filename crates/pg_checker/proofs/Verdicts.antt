@@ -19,7 +19,7 @@ use Rattle.pg_certificate.specs.Reading.{header_at}
 use Rattle.pg_certificate.specs.Spelling.{header_spelling, IsHeader}
 use Rattle.pg_certificate.proofs.HeaderLaws.{headers_again}
 use Rattle.pg_certificate.specs.declared.record.Record.{Record}
-use Rattle.pg_certificate.specs.declared.record.Record.TheVariants.{Expand, Cut, Ref}
+use Rattle.pg_certificate.specs.declared.record.Record.TheVariants.{Expand, Cut, Ref, Priced}
 use Rattle.pg_checker.specs.Tree as tree
 use Rattle.pg_checker.specs.Walk as walk
 use Rattle.pg_checker.specs.Tree.{Rules, spelling_all}
@@ -30,17 +30,15 @@ use Rattle.pg_checker.specs.Cuts.{cuts_by}
 use Rattle.pg_checker.specs.Check.{header_for, IsHeaded, IsCertified, Accepts, IsRefused, Refuses, StopsAt}
 use Rattle.pg_checker.specs.Checking.{Headed, HeaderFails, AreKnown, Answers, fault_of}
 use Rattle.pg_checker.specs.Front.{CauseAt, RecordCause, no_budget, no_record, refused}
-use Rattle.pg_checker.specs.Steps.{Stops, FailsRead, cause_of}
+use Rattle.pg_checker.specs.Steps.{Stops, FailsRead}
 use Rattle.pg_checker.specs.Whole.{answer, IsStopped, HasMore}
 use Rattle.pg_checker.specs.declared.certify.Proved.{Proved}
 use Rattle.pg_checker.specs.declared.fault.Fault.{Fault}
 use Rattle.pg_checker.specs.declared.fault.Fault.TheVariants as fault
 use Rattle.pg_checker.specs.declared.fault.ListFault.{ListFault}
 use Rattle.pg_checker.specs.declared.fault.ListFault.TheVariants.{WrongLength, NotReaching}
-use Rattle.pg_checker.specs.declared.stop.Cause.{Cause}
-use Rattle.pg_checker.specs.declared.stop.Cause.TheVariants as cause
-use Rattle.pg_checker.specs.declared.stop.Stop.{Stop}
-use Rattle.pg_checker.specs.declared.stop.Stop.TheVariants as stop
+use Rattle.pg_checker.specs.Halting.{Stop}
+use Rattle.pg_checker.specs.Halting as stop
 use Rattle.pg_checker.proofs.Chess.{chess_exact, chess_plain, chess_read, yes_is_exact}
 use Rattle.pg_checker.proofs.Reading.{read_no_trailing}
 use Rattle.pg_checker.proofs.Whole.{accepted, accepts, stopped, at_named}
@@ -69,7 +67,7 @@ unfolding packed_of
 packed_length d = length-map-range_with_len (packed_byte d) 0 32
 
 is_header : (d : Placement) (l : ℕ) → IsHeader (header_for d l)
-is_header d l = record { known = refl; whole = packed_length d }
+is_header d l = record { known = inl refl; whole = packed_length d }
 
 headed_at : (d : Placement) (l : ℕ) (bytes rest : List ℕ) → IsHeaded d l bytes rest → header_at bytes ≡ Ok (header_for d l, rest)
 headed_at d l bytes rest h = ap header_at h ∙ headers_again (header_for d l) rest (is_header d l)
@@ -135,7 +133,8 @@ module _ (d : Placement) (l : ℕ) (games : List (List Move)) (cut : Cuts) where
   refuted None failed e h ne = tt
   refuted (Some bytes) failed fault.Read h ne = absurd (ne refl)
   refuted (Some bytes) failed fault.Truncated h ne = λ rest at. (let long : length bytes ≡ length (header_spelling (header_for d l) ++ rest) = ap length at in let whole : length (header_spelling (header_for d l) ++ rest) ≡ length (header_spelling (header_for d l)) + length rest = length-append (header_spelling (header_for d l)) rest in let packed : length (packed_of d) ≡ 32 = packed_length d in omega arith)
-  refuted (Some bytes) failed fault.Magic h ne = λ rest at. no_header (header_at bytes) reading.Magic (header_for d l) rest h (headed_at d l bytes rest at)
+  refuted (Some bytes) failed fault.Magic (inl h) ne = λ rest at. no_header (header_at bytes) reading.Magic (header_for d l) rest h (headed_at d l bytes rest at)
+  refuted (Some bytes) failed fault.Magic (inr h) ne = λ rest at. h.3 (ap (λ (v : Header). v.version) (one_header (header_at bytes) h.0 (header_for d l) h.1 rest h.2 (headed_at d l bytes rest at)))
   refuted (Some bytes) failed fault.OtherLength h ne = λ rest at. h.3 (ap (λ (v : Header). v.plies) (one_header (header_at bytes) h.0 (header_for d l) h.1 rest h.2 (headed_at d l bytes rest at)))
   refuted (Some bytes) failed fault.OtherDiagram h ne = λ rest at. h.4 (ap (λ (v : Header). v.diagram) (one_header (header_at bytes) h.0 (header_for d l) h.1 rest h.2 (headed_at d l bytes rest at)))
   refuted (Some bytes) failed (fault.Listed x) h ne = absurd h
@@ -217,6 +216,7 @@ module _ (d : Placement) (l : ℕ) (games : List (List Move)) (cut : Cuts) where
   never_trailing k p s (refused e (Expand true) rest f g) = g
   never_trailing k p s (refused e (Cut code) rest f g) = g
   never_trailing k p s (refused e (Ref number) rest f g) = g
+  never_trailing k p s (refused e (Priced code color prices) rest f g) = g
 
   no_trailing : (n k : ℕ) (g : List Move) (p : State) (s : walk.State State) → CauseAt (chess d l games cut) n k g p s tree.Trailing → ⊥
   no_trailing n zero g p s c = c
@@ -232,8 +232,8 @@ module _ (d : Placement) (l : ℕ) (games : List (List Move)) (cut : Cuts) where
   not_both : (a b : ℕ) (bytes rest : List ℕ) (f : tree.Fault Move) → IsHeaded d l bytes rest → answer (chess d l games cut) array_state a b rest ≡ Err f → (proved : Proved) → ¬ IsCertified (chess d l games cut) d a b bytes proved
   not_both a b bytes rest f at h proved k = one_answer (answer (chess d l games cut) array_state a b rest) f (proved.records, proved.named) h (certified_answer a b bytes rest proved at k)
 
-  because : (a b : ℕ) (known left : Option (List ℕ)) (c : Cause) {Q : List ℕ → Type 0} → Headed d l known left → Stops left b (λ bytes room. answer (chess d l games cut) array_state a room bytes) (stop.Because c)
-      → ((bytes rest : List ℕ) → IsHeaded d l bytes rest → answer (chess d l games cut) array_state a b rest ≡ Err (cause_of c) → Q bytes) → IfSome known Q
+  because : (a b : ℕ) (known left : Option (List ℕ)) (c : (tree.Fault Move)) {Q : List ℕ → Type 0} → Headed d l known left → Stops left b (λ bytes room. answer (chess d l games cut) array_state a room bytes) (stop.Because c)
+      → ((bytes rest : List ℕ) → IsHeaded d l bytes rest → answer (chess d l games cut) array_state a b rest ≡ Err c → Q bytes) → IfSome known Q
   unfolding Stops
   because a b None left c at h f = tt
   because a b (Some bytes) None c at h f = absurd at
@@ -242,18 +242,18 @@ module _ (d : Placement) (l : ℕ) (games : List (List Move)) (cut : Cuts) where
   pub stop_accepts : (a b : ℕ) (known left : Option (List ℕ)) (s : Stop) → Headed d l known left → Answers (chess d l games cut) left a b (Err s) → Accepts (chess d l games cut) d games a b known (Err (fault_of s))
   stop_accepts a b known left stop.Memory at h = tt
   stop_accepts a b known left stop.Read at h = tt
-  stop_accepts a b known left (stop.Because cause.Budget) at h = λ all. because a b known left cause.Budget at h (λ bytes rest. not_both a b bytes rest tree.Budget)
-  stop_accepts a b known left (stop.Because cause.Truncated) at h = λ all. because a b known left cause.Truncated at h (λ bytes rest. not_both a b bytes rest tree.Truncated)
-  stop_accepts a b known left (stop.Because (cause.UnknownRecord x)) at h = λ all. because a b known left (cause.UnknownRecord x) at h (λ bytes rest. not_both a b bytes rest (tree.UnknownRecord x))
-  stop_accepts a b known left (stop.Because (cause.UnknownBound x)) at h = λ all. because a b known left (cause.UnknownBound x) at h (λ bytes rest. not_both a b bytes rest (tree.UnknownBound x))
-  stop_accepts a b known left (stop.Because (cause.CutFails x)) at h = λ all. because a b known left (cause.CutFails x) at h (λ bytes rest. not_both a b bytes rest (tree.CutFails x))
-  stop_accepts a b known left (stop.Because cause.RefUnknown) at h = λ all. because a b known left cause.RefUnknown at h (λ bytes rest. not_both a b bytes rest tree.RefUnknown)
-  stop_accepts a b known left (stop.Because cause.RefDiffers) at h = λ all. because a b known left cause.RefDiffers at h (λ bytes rest. not_both a b bytes rest tree.RefDiffers)
-  stop_accepts a b known left (stop.Because cause.RefFertile) at h = λ all. because a b known left cause.RefFertile at h (λ bytes rest. not_both a b bytes rest tree.RefFertile)
-  stop_accepts a b known left (stop.Because cause.TooManyNamed) at h = λ all. because a b known left cause.TooManyNamed at h (λ bytes rest. not_both a b bytes rest tree.TooManyNamed)
-  stop_accepts a b known left (stop.Because (cause.Shorter x)) at h = λ all. because a b known left (cause.Shorter x) at h (λ bytes rest. not_both a b bytes rest (tree.Shorter x))
-  stop_accepts a b known left (stop.Because (cause.Unlisted x)) at h = λ all. because a b known left (cause.Unlisted x) at h (λ bytes rest. not_both a b bytes rest (tree.Unlisted x.items))
-  stop_accepts a b known left (stop.Because cause.Trailing) at h = λ all. because a b known left cause.Trailing at h (λ bytes rest. not_both a b bytes rest tree.Trailing)
+  stop_accepts a b known left (stop.Because tree.Budget) at h = λ all. because a b known left tree.Budget at h (λ bytes rest. not_both a b bytes rest tree.Budget)
+  stop_accepts a b known left (stop.Because tree.Truncated) at h = λ all. because a b known left tree.Truncated at h (λ bytes rest. not_both a b bytes rest tree.Truncated)
+  stop_accepts a b known left (stop.Because (tree.UnknownRecord x)) at h = λ all. because a b known left (tree.UnknownRecord x) at h (λ bytes rest. not_both a b bytes rest (tree.UnknownRecord x))
+  stop_accepts a b known left (stop.Because (tree.UnknownBound x)) at h = λ all. because a b known left (tree.UnknownBound x) at h (λ bytes rest. not_both a b bytes rest (tree.UnknownBound x))
+  stop_accepts a b known left (stop.Because (tree.CutFails x)) at h = λ all. because a b known left (tree.CutFails x) at h (λ bytes rest. not_both a b bytes rest (tree.CutFails x))
+  stop_accepts a b known left (stop.Because tree.RefUnknown) at h = λ all. because a b known left tree.RefUnknown at h (λ bytes rest. not_both a b bytes rest tree.RefUnknown)
+  stop_accepts a b known left (stop.Because tree.RefDiffers) at h = λ all. because a b known left tree.RefDiffers at h (λ bytes rest. not_both a b bytes rest tree.RefDiffers)
+  stop_accepts a b known left (stop.Because tree.RefFertile) at h = λ all. because a b known left tree.RefFertile at h (λ bytes rest. not_both a b bytes rest tree.RefFertile)
+  stop_accepts a b known left (stop.Because tree.TooManyNamed) at h = λ all. because a b known left tree.TooManyNamed at h (λ bytes rest. not_both a b bytes rest tree.TooManyNamed)
+  stop_accepts a b known left (stop.Because (tree.Shorter x)) at h = λ all. because a b known left (tree.Shorter x) at h (λ bytes rest. not_both a b bytes rest (tree.Shorter x))
+  stop_accepts a b known left (stop.Because (tree.Unlisted x)) at h = λ all. because a b known left (tree.Unlisted x) at h (λ bytes rest. not_both a b bytes rest (tree.Unlisted x))
+  stop_accepts a b known left (stop.Because tree.Trailing) at h = λ all. because a b known left tree.Trailing at h (λ bytes rest. not_both a b bytes rest tree.Trailing)
 
   stops_at : (a b : ℕ) (f : tree.Fault Move) → f ≢ tree.Trailing → (bytes rest : List ℕ) → IsHeaded d l bytes rest → answer (chess d l games cut) array_state a b rest ≡ Err f → StopsAt (chess d l games cut) d a b bytes f
   stops_at a b f ne bytes rest at h = (rest, headed bytes rest at, stopped_for a b rest f ne h)
@@ -267,15 +267,15 @@ module _ (d : Placement) (l : ℕ) (games : List (List Move)) (cut : Cuts) where
   pub stop_refuses : (a b : ℕ) (known left : Option (List ℕ)) (failed : Bool) (s : Stop) → AreSolutions d l games → Headed d l known left → FailsRead {X = Proved} failed (Err s) → Answers (chess d l games cut) left a b (Err s) → Refuses (chess d l games cut) d games a b known failed (Err (fault_of s))
   stop_refuses a b known left failed stop.Memory all at r h = (solutions all, memory_at a b known left at h)
   stop_refuses a b known left failed stop.Read all at r h = (solutions all, r)
-  stop_refuses a b known left failed (stop.Because cause.Budget) all at r h = (solutions all, because a b known left cause.Budget at h (stops_at a b tree.Budget (λ e. cc)))
-  stop_refuses a b known left failed (stop.Because cause.Truncated) all at r h = (solutions all, because a b known left cause.Truncated at h (λ bytes rest x y. inr (stops_at a b tree.Truncated (λ e. cc) bytes rest x y)))
-  stop_refuses a b known left failed (stop.Because (cause.UnknownRecord x)) all at r h = (solutions all, because a b known left (cause.UnknownRecord x) at h (stops_at a b (tree.UnknownRecord x) (λ e. cc)))
-  stop_refuses a b known left failed (stop.Because (cause.UnknownBound x)) all at r h = (solutions all, because a b known left (cause.UnknownBound x) at h (stops_at a b (tree.UnknownBound x) (λ e. cc)))
-  stop_refuses a b known left failed (stop.Because (cause.CutFails x)) all at r h = (solutions all, because a b known left (cause.CutFails x) at h (stops_at a b (tree.CutFails x) (λ e. cc)))
-  stop_refuses a b known left failed (stop.Because cause.RefUnknown) all at r h = (solutions all, because a b known left cause.RefUnknown at h (stops_at a b tree.RefUnknown (λ e. cc)))
-  stop_refuses a b known left failed (stop.Because cause.RefDiffers) all at r h = (solutions all, because a b known left cause.RefDiffers at h (stops_at a b tree.RefDiffers (λ e. cc)))
-  stop_refuses a b known left failed (stop.Because cause.RefFertile) all at r h = (solutions all, because a b known left cause.RefFertile at h (stops_at a b tree.RefFertile (λ e. cc)))
-  stop_refuses a b known left failed (stop.Because cause.TooManyNamed) all at r h = (solutions all, because a b known left cause.TooManyNamed at h (stops_at a b tree.TooManyNamed (λ e. cc)))
-  stop_refuses a b known left failed (stop.Because (cause.Shorter x)) all at r h = (solutions all, because a b known left (cause.Shorter x) at h (stops_at a b (tree.Shorter x) (λ e. cc)))
-  stop_refuses a b known left failed (stop.Because (cause.Unlisted x)) all at r h = (solutions all, because a b known left (cause.Unlisted x) at h (stops_at a b (tree.Unlisted x.items) (λ e. cc)))
-  stop_refuses a b known left failed (stop.Because cause.Trailing) all at r h = (solutions all, because a b known left cause.Trailing at h (λ bytes rest x y. (rest, headed bytes rest x, trailing_for a b rest y)))
+  stop_refuses a b known left failed (stop.Because tree.Budget) all at r h = (solutions all, because a b known left tree.Budget at h (stops_at a b tree.Budget (λ e. cc)))
+  stop_refuses a b known left failed (stop.Because tree.Truncated) all at r h = (solutions all, because a b known left tree.Truncated at h (λ bytes rest x y. inr (stops_at a b tree.Truncated (λ e. cc) bytes rest x y)))
+  stop_refuses a b known left failed (stop.Because (tree.UnknownRecord x)) all at r h = (solutions all, because a b known left (tree.UnknownRecord x) at h (stops_at a b (tree.UnknownRecord x) (λ e. cc)))
+  stop_refuses a b known left failed (stop.Because (tree.UnknownBound x)) all at r h = (solutions all, because a b known left (tree.UnknownBound x) at h (stops_at a b (tree.UnknownBound x) (λ e. cc)))
+  stop_refuses a b known left failed (stop.Because (tree.CutFails x)) all at r h = (solutions all, because a b known left (tree.CutFails x) at h (stops_at a b (tree.CutFails x) (λ e. cc)))
+  stop_refuses a b known left failed (stop.Because tree.RefUnknown) all at r h = (solutions all, because a b known left tree.RefUnknown at h (stops_at a b tree.RefUnknown (λ e. cc)))
+  stop_refuses a b known left failed (stop.Because tree.RefDiffers) all at r h = (solutions all, because a b known left tree.RefDiffers at h (stops_at a b tree.RefDiffers (λ e. cc)))
+  stop_refuses a b known left failed (stop.Because tree.RefFertile) all at r h = (solutions all, because a b known left tree.RefFertile at h (stops_at a b tree.RefFertile (λ e. cc)))
+  stop_refuses a b known left failed (stop.Because tree.TooManyNamed) all at r h = (solutions all, because a b known left tree.TooManyNamed at h (stops_at a b tree.TooManyNamed (λ e. cc)))
+  stop_refuses a b known left failed (stop.Because (tree.Shorter x)) all at r h = (solutions all, because a b known left (tree.Shorter x) at h (stops_at a b (tree.Shorter x) (λ e. cc)))
+  stop_refuses a b known left failed (stop.Because (tree.Unlisted x)) all at r h = (solutions all, because a b known left (tree.Unlisted x) at h (stops_at a b (tree.Unlisted x) (λ e. cc)))
+  stop_refuses a b known left failed (stop.Because tree.Trailing) all at r h = (solutions all, because a b known left tree.Trailing at h (λ bytes rest x y. (rest, headed bytes rest x, trailing_for a b rest y)))

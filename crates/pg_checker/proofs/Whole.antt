@@ -1,7 +1,7 @@
 -- The answer to the whole of the bytes.
 use Rattle.std.proofs.Common.{◌≡◌, ◌≢◌, ℕ, zero, suc, ◌+◌, ◌-◌, ◌<◌, ◌⊎◌, true, false, List, [], ◌∷◌, ◌++◌, Ok, Err, Contains, refl, sym, ◌∙◌, ap, ap₂, subst, inl, inr, ⊎_elim, arith, append_assoc, append-nil}
 use Rattle.pg_certificate.specs.declared.record.Record.{Record}
-use Rattle.pg_certificate.specs.declared.record.Record.TheVariants.{Expand as Expanded, Cut as CutBy, Ref as RefTo}
+use Rattle.pg_certificate.specs.declared.record.Record.TheVariants.{Expand as Expanded, Cut as CutBy, Ref as RefTo, Priced as PricedBy}
 use Rattle.pg_checker.specs.Tree.{Trees, Empty, First, Fault, Trailing, Entry, Rules, Reaches, Fits, FitAll, fertile, closed, spelling, spelling_all, records_all, named_all}
 use Rattle.pg_checker.specs.Walk.{State, visit, Took}
 use Rattle.pg_checker.specs.Claims.{FitFrom, count, IsCertificate, IsComplete, IsRight, IsExact}
@@ -213,6 +213,7 @@ module _ {P M : Type 0} (r : Rules P M) where
   refused_room k p es room (Expanded true) h = (refl, h)
   refused_room k p es room (Expanded false) h = absurd h
   refused_room k p es room (CutBy code) h = absurd h
+  refused_room k p es room (PricedBy code color prices) h = absurd h
   refused_room k p es room (RefTo number) h = absurd h
 
   no_room : ((bytes : List ℕ) → r.read bytes ≡ Err TooManyNamed → ⊥) → (n k : ℕ) (g : List M) (p : P) (s : State P) → CauseAt r n k g p s TooManyNamed → NoRoom k s

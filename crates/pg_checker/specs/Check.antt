@@ -48,11 +48,15 @@ IsHeaded d n bytes rest = bytes ≡ header_spelling (header_for d n) ++ rest
 abbrev pub StopsAt : Rules State Move → Placement → ℕ → ℕ → List ℕ → tree.Fault Move → Type 0
 StopsAt r d max_records max_named bytes cause = (rest : List ℕ) × IsHeaded d r.plies bytes rest × IsStopped r array_state max_records max_named rest cause
 
+-- the bytes have a header's length and begin with no header of version 1
+abbrev pub IsOtherFormat : List ℕ → Type 0
+IsOtherFormat bytes = (header_at bytes ≡ Err reading.Magic) ⊎ ((h : Header) × (rest : List ℕ) × (header_at bytes ≡ Ok (h, rest)) × (h.version ≢ 1))
+
 -- why the bytes are refused
 abbrev pub IsRefused : Rules State Move → Placement → ℕ → ℕ → List ℕ → Fault → Type 0
 IsRefused r d max_records max_named bytes (fault.Listed e) = Unit {0}
 IsRefused r d max_records max_named bytes fault.Read = Unit {0}
-IsRefused r d max_records max_named bytes fault.Magic = header_at bytes ≡ Err reading.Magic
+IsRefused r d max_records max_named bytes fault.Magic = IsOtherFormat bytes
 IsRefused r d max_records max_named bytes fault.OtherLength = (h : Header) × (rest : List ℕ) × (header_at bytes ≡ Ok (h, rest)) × (h.plies ≢ r.plies)
 IsRefused r d max_records max_named bytes fault.OtherDiagram = (h : Header) × (rest : List ℕ) × (header_at bytes ≡ Ok (h, rest)) × (h.plies ≡ r.plies) × (h.diagram ≢ packed_of d)
 IsRefused r d max_records max_named bytes fault.Truncated = (length bytes < 37) ⊎ StopsAt r d max_records max_named bytes tree.Truncated

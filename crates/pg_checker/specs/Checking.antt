@@ -9,16 +9,16 @@ use Rattle.pg_certificate.specs.declared.fault.ReadFault as reading_fault
 use Rattle.pg_certificate.specs.declared.fault.ReadFault.TheVariants as reading
 use Rattle.pg_certificate.specs.declared.record.Header.{Header}
 use Rattle.pg_certificate.specs.Reading.{header_at}
+use Rattle.pg_checker.specs.Tree as tree
 use Rattle.pg_checker.specs.Tree.{Rules}
 use Rattle.pg_checker.specs.Whole.{answer}
-use Rattle.pg_checker.specs.Check.{IsHeaded}
+use Rattle.pg_checker.specs.Check.{IsHeaded, IsOtherFormat}
 use Rattle.pg_checker.specs.Steps.{Stops}
 use Rattle.pg_checker.specs.declared.certify.Proved.{Proved}
 use Rattle.pg_checker.specs.declared.fault.Fault.{Fault}
 use Rattle.pg_checker.specs.declared.fault.Fault.TheVariants as fault
-use Rattle.pg_checker.specs.declared.stop.Cause.TheVariants as cause
-use Rattle.pg_checker.specs.declared.stop.Stop.{Stop}
-use Rattle.pg_checker.specs.declared.stop.Stop.TheVariants as stop
+use Rattle.pg_checker.specs.Halting.{Stop}
+use Rattle.pg_checker.specs.Halting as stop
 
 -- the header for d and n was taken from the front of the known bytes
 abbrev pub Headed : Placement → ℕ → Option (List ℕ) → Option (List ℕ) → Type 0
@@ -30,7 +30,7 @@ Headed d n (Some bytes) (Some rest) = IsHeaded d n bytes rest
 abbrev pub HeaderFails : Placement → ℕ → Option (List ℕ) → Bool → Fault → Type 0
 HeaderFails d n known failed fault.Read = failed ≡ true
 HeaderFails d n known failed fault.Truncated = IfSome known (λ bytes. length bytes < 37)
-HeaderFails d n known failed fault.Magic = IfSome known (λ bytes. header_at bytes ≡ Err reading.Magic)
+HeaderFails d n known failed fault.Magic = IfSome known IsOtherFormat
 HeaderFails d n known failed fault.OtherLength = IfSome known (λ bytes. (h : Header) × (rest : List ℕ) × (header_at bytes ≡ Ok (h, rest)) × (h.plies ≢ n))
 HeaderFails d n known failed fault.OtherDiagram = IfSome known (λ bytes. (h : Header) × (rest : List ℕ) × (header_at bytes ≡ Ok (h, rest)) × (h.plies ≡ n) × (h.diagram ≢ packed_of d))
 HeaderFails d n known failed e = ⊥
@@ -49,18 +49,18 @@ Answers r known max_records max_named (Err s) = Stops known max_named (λ bytes 
 abbrev pub fault_of : Stop → Fault
 fault_of stop.Memory = fault.Memory
 fault_of stop.Read = fault.Read
-fault_of (stop.Because cause.Budget) = fault.Budget
-fault_of (stop.Because cause.Truncated) = fault.Truncated
-fault_of (stop.Because (cause.UnknownRecord b)) = fault.UnknownRecord b
-fault_of (stop.Because (cause.UnknownBound c)) = fault.UnknownBound c
-fault_of (stop.Because (cause.CutFails c)) = fault.CutFails c
-fault_of (stop.Because cause.RefUnknown) = fault.RefUnknown
-fault_of (stop.Because cause.RefDiffers) = fault.RefDiffers
-fault_of (stop.Because cause.RefFertile) = fault.RefFertile
-fault_of (stop.Because cause.TooManyNamed) = fault.TooManyNamed
-fault_of (stop.Because (cause.Shorter n)) = fault.Shorter n
-fault_of (stop.Because (cause.Unlisted game)) = fault.Unlisted game
-fault_of (stop.Because cause.Trailing) = fault.Trailing
+fault_of (stop.Because tree.Budget) = fault.Budget
+fault_of (stop.Because tree.Truncated) = fault.Truncated
+fault_of (stop.Because (tree.UnknownRecord b)) = fault.UnknownRecord b
+fault_of (stop.Because (tree.UnknownBound c)) = fault.UnknownBound c
+fault_of (stop.Because (tree.CutFails c)) = fault.CutFails c
+fault_of (stop.Because tree.RefUnknown) = fault.RefUnknown
+fault_of (stop.Because tree.RefDiffers) = fault.RefDiffers
+fault_of (stop.Because tree.RefFertile) = fault.RefFertile
+fault_of (stop.Because tree.TooManyNamed) = fault.TooManyNamed
+fault_of (stop.Because (tree.Shorter n)) = fault.Shorter n
+fault_of (stop.Because (tree.Unlisted game)) = fault.Unlisted (record { items = game })
+fault_of (stop.Because tree.Trailing) = fault.Trailing
 
 -- a refusal to read a header as a fault
 abbrev pub header_fault : reading_fault.ReadFault → Fault

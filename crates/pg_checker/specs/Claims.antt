@@ -1,6 +1,8 @@
 -- What the theorems say.
 use Rattle.std.specs.Prelude.{◌≡◌, ℕ, suc, ◌<◌, Bool, true, List, [], ◌++◌, Some, Ok, Contains}
 use Rattle.pg_certificate.specs.declared.record.Record.{Record}
+use Rattle.pg_board.specs.declared.man.Color.{Color}
+use Rattle.pg_captures.specs.PriceLists.{PriceList}
 use Rattle.pg_certificate.specs.declared.record.Record.TheVariants.{Expand as Expanded}
 use Rattle.pg_checker.specs.Tree.{Tree, Trees, Empty, First, Entry, Rules, Reaches, Barren, Fits, fertile, closed}
 use Rattle.pg_checker.specs.Walk.{State, Took}
@@ -10,6 +12,7 @@ module _ {P M : Type 0} (r : Rules P M) where
   pub record IsRight (Met : P → Type 0) : Type 0 where
     pub next : (p : P) (m : M) → Met p → Contains (r.moves p) m → Met (r.play p m)
     pub cut : (code k : ℕ) (p : P) → Met p → r.cut code p k ≡ Some true → Barren r k p
+    pub priced : (code : ℕ) (color : Color) (prices : List PriceList) (k : ℕ) (p : P) → Met p → r.priced code color prices p k ≡ Some true → Barren r k p
     pub same : (k : ℕ) (q p : P) → Met q → Met p → r.is_same q p ≡ true → Barren r k q → Barren r k p
 
   -- what is assumed of records: the reader takes a record exactly where its bytes stand

@@ -1,7 +1,7 @@
 -- Fronts: how far a walk came, and what stopped it there.
 use Rattle.std.specs.Prelude.{◌≡◌, ◌≢◌, ℕ, zero, suc, ◌+◌, ◌<◌, Bool, true, false, ◌&&◌, List, [], ◌∷◌, ◌++◌, Some, None, Ok, Err, slice_get, nat_eq}
 use Rattle.pg_certificate.specs.declared.record.Record.{Record}
-use Rattle.pg_certificate.specs.declared.record.Record.TheVariants.{Expand as Expanded, Cut as CutBy, Ref as RefTo}
+use Rattle.pg_certificate.specs.declared.record.Record.TheVariants.{Expand as Expanded, Cut as CutBy, Ref as RefTo, Priced as PricedBy}
 use Rattle.pg_checker.specs.Tree.{Trees, Empty, First, Fault, Budget, UnknownBound, CutFails, RefUnknown, RefDiffers, RefFertile, TooManyNamed, Shorter, Unlisted, Entry, Rules, Fits, closed, spelling_all, records_all, named_all, one_if}
 use Rattle.pg_checker.specs.Walk.{State}
 
@@ -46,7 +46,9 @@ module _ {P M : Type 0} (r : Rules P M) where
   abbrev pub Refuses : ℕ → P → List (Entry P) → ℕ → Record → Fault M → Type 0
   Refuses k p es room (Expanded true) TooManyNamed = room ≡ 0
   Refuses k p es room (CutBy code) (UnknownBound c) = (c ≡ code) × (r.cut code p k ≡ None)
+  Refuses k p es room (PricedBy code color prices) (UnknownBound c) = (c ≡ code) × (r.priced code color prices p k ≡ None)
   Refuses k p es room (CutBy code) (CutFails c) = (c ≡ code) × (r.cut code p k ≡ Some false)
+  Refuses k p es room (PricedBy code color prices) (CutFails c) = (c ≡ code) × (r.priced code color prices p k ≡ Some false)
   Refuses k p es room (RefTo number) RefUnknown = slice_get es number ≡ None
   Refuses k p es room (RefTo number) RefDiffers = (e : Entry P) × (slice_get es number ≡ Some e) × ((r.is_same e.position p && nat_eq e.plies k) ≡ false)
   Refuses k p es room (RefTo number) RefFertile = (e : Entry P) × (slice_get es number ≡ Some e) × ((r.is_same e.position p && nat_eq e.plies k) ≡ true) × (e.fertile ≡ true)

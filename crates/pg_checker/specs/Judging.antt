@@ -8,21 +8,19 @@ use Rattle.pg_certificate.specs.declared.fault.ReadFault.TheVariants as reading
 use Rattle.pg_checker.specs.Tree as tree
 use Rattle.pg_checker.specs.Walk as walk
 use Rattle.pg_checker.specs.Machine.{state_at, shape_of}
-use Rattle.pg_checker.specs.Steps.{cause_of, Says}
+use Rattle.pg_checker.specs.Steps.{Says}
 use Rattle.pg_checker.specs.declared.machine.Machine.{Machine}
 use Rattle.pg_checker.specs.declared.machine.Node.{Node}
 use Rattle.pg_checker.specs.declared.machine.Node.TheVariants as node
-use Rattle.pg_checker.specs.declared.stop.Cause.{Cause}
-use Rattle.pg_checker.specs.declared.stop.Cause.TheVariants as cause
-use Rattle.pg_checker.specs.declared.stop.Stop.{Stop}
-use Rattle.pg_checker.specs.declared.stop.Stop.TheVariants as stop
+use Rattle.pg_checker.specs.Halting.{Stop}
+use Rattle.pg_checker.specs.Halting as stop
 
 -- a refusal to read a record as a stop
 abbrev pub stop_of : ReadFault → Stop
-stop_of (reading.UnknownRecord b) = stop.Because (cause.UnknownRecord b)
-stop_of reading.Truncated = stop.Because cause.Truncated
-stop_of reading.Magic = stop.Because cause.Truncated
-stop_of reading.Trailing = stop.Because cause.Truncated
+stop_of (reading.UnknownRecord b) = stop.Because (tree.UnknownRecord b)
+stop_of reading.Truncated = stop.Because tree.Truncated
+stop_of reading.Magic = stop.Because tree.Truncated
+stop_of reading.Trailing = stop.Because tree.Truncated
 stop_of reading.Read = stop.Read
 stop_of reading.Failed = stop.Read
 
@@ -31,15 +29,15 @@ abbrev pub Judgement : Type 0
 Judgement = walk.State State → Result (walk.Shape × walk.State State) (tree.Fault Move)
 
 -- a node that ends at once and leaves the state, or a cause, in each state
-abbrev pub EndsAs : Result (Unit {0}) Cause → Result (walk.Shape × walk.State State) (tree.Fault Move) → walk.State State → Type 0
+abbrev pub EndsAs : Result (Unit {0}) (tree.Fault Move) → Result (walk.Shape × walk.State State) (tree.Fault Move) → walk.State State → Type 0
 EndsAs (Ok u) answer s = answer ≡ Ok (walk.Done, s)
-EndsAs (Err c) answer s = answer ≡ Err (cause_of c)
+EndsAs (Err c) answer s = answer ≡ Err c
 
-abbrev pub Ends : Result (Unit {0}) Cause → Judgement → Type 0
+abbrev pub Ends : Result (Unit {0}) (tree.Fault Move) → Judgement → Type 0
 Ends result judged = (s : walk.State State) → EndsAs result (judged s) s
 
 -- the same as what a node says
-abbrev pub ended_of : Result (Unit {0}) Cause → Result Node Stop
+abbrev pub ended_of : Result (Unit {0}) (tree.Fault Move) → Result Node Stop
 ended_of (Ok u) = Ok node.Done
 ended_of (Err c) = Err (stop.Because c)
 
@@ -53,6 +51,6 @@ abbrev pub Judges : Machine → Machine → Judgement → Result Node Stop → T
 Judges old new judged result = (known : Option (List ℕ)) → Says known known old.room new.room (λ bytes n. judged (state_at old bytes n)) (λ node rest n. (shape_of node, state_at new rest n)) result
 
 -- whether a leaf is fertile, or a cause, in each state
-abbrev pub LeafSays : Result Bool Cause → (walk.State State → Result (Bool × walk.State State) (tree.Fault Move)) → Type 0
+abbrev pub LeafSays : Result Bool (tree.Fault Move) → (walk.State State → Result (Bool × walk.State State) (tree.Fault Move)) → Type 0
 LeafSays (Ok found) leaf = (s : walk.State State) → leaf s ≡ Ok (found, s)
-LeafSays (Err c) leaf = (s : walk.State State) → leaf s ≡ Err (cause_of c)
+LeafSays (Err c) leaf = (s : walk.State State) → leaf s ≡ Err c

@@ -2,6 +2,7 @@
 use Rattle.std.specs.Prelude.{◌≡◌, ℕ, ◌+◌, ◌≤◌, Bool, true, false, List, [], ◌∷◌, ◌++◌, length, map, reverse, Option, Some, None}
 use Rattle.pg_position.specs.declared.state.State.{State}
 use Rattle.pg_position.specs.declared.moves.Move.{Move}
+use Rattle.pg_certificate.specs.Reader.{ReaderState}
 use Rattle.pg_checker.specs.Tree as tree
 use Rattle.pg_checker.specs.Tree.{one_if}
 use Rattle.pg_checker.specs.Left.{left_after}
@@ -22,10 +23,10 @@ played (Some m) = m ∷ []
 -- the game that leads to the node below the topmost frame
 unfoldable pub path : List Frame → List Move
 path [] = []
-path (f ∷ fs) = path fs ++ played f.last
+path (f ∷ fs) = path fs ++ played f.moves.last
 
 abbrev pub frame_of : Frame → List Frame → frames.Frame State Move
-frame_of f fs = record { game = path fs; position = f.position; plies = f.plies; left = left_after f.position f.last; named = f.named; found = f.found }
+frame_of f fs = record { game = path fs; position = f.moves.position; plies = f.plies; left = left_after f.moves.position f.moves.last; named = f.named; found = f.found }
 
 unfoldable pub frames_of : List Frame → List (frames.Frame State Move)
 frames_of [] = []
@@ -64,8 +65,13 @@ abbrev pub opened : Node → ℕ
 opened node.Done = 0
 opened (node.Opened is_named) = one_if is_named
 
+-- ---- the reader
+-- it has not refused, and reads records of version 1
+abbrev pub IsReading : ReaderState → Type 0
+IsReading reader = (reader.failed ≡ false) × (reader.version ≡ 1)
+
 -- ---- what holds between the calls: no read has failed, and a place is kept for each named node that is open
 pub record IsReady (m : Machine) (pending : ℕ) : Type 0 where
-  pub runs : m.reader.failed ≡ false
+  pub runs : IsReading m.reader
   pub held : length m.reader.held ≤ 4096
   pub kept : m.table.kept ≡ pending + count_named (reverse m.frames.items)

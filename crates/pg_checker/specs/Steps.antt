@@ -1,12 +1,11 @@
 -- A piece of the walk done by code over a source, whatever the source tells.
 use Rattle.std.specs.Prelude.{◌≡◌, ℕ, ◌+◌, ◌*◌, ◌<◌, ◌≤◌, Bool, true, List, length, ◌++◌, Option, IfSome, Result, Ok, Err}
 use Rattle.std.specs.Io.KnownBytes.{Consumes}
+use Rattle.pg_certificate.specs.Spelling.{longest_record}
 use Rattle.pg_position.specs.declared.moves.Move.{Move}
 use Rattle.pg_checker.specs.Tree as tree
-use Rattle.pg_checker.specs.declared.stop.Cause.{Cause}
-use Rattle.pg_checker.specs.declared.stop.Cause.TheVariants as cause
-use Rattle.pg_checker.specs.declared.stop.Stop.{Stop}
-use Rattle.pg_checker.specs.declared.stop.Stop.TheVariants as stop
+use Rattle.pg_checker.specs.Halting.{Stop}
+use Rattle.pg_checker.specs.Halting as stop
 
 -- an answer that hangs on the bytes to come and on the room for named nodes
 abbrev pub Answer : Type 0 → Type 0
@@ -20,25 +19,11 @@ pub record Goes {A : Type 0} (before after : Option (List ℕ)) (room left : ℕ
   pub spends : room ≡ used + left
   pub same : (rest : List ℕ) (n : ℕ) → first (taken ++ rest) (used + n) ≡ second rest n
 
-abbrev pub cause_of : Cause → tree.Fault Move
-cause_of cause.Budget = tree.Budget
-cause_of cause.Truncated = tree.Truncated
-cause_of (cause.UnknownRecord b) = tree.UnknownRecord b
-cause_of (cause.UnknownBound c) = tree.UnknownBound c
-cause_of (cause.CutFails c) = tree.CutFails c
-cause_of cause.RefUnknown = tree.RefUnknown
-cause_of cause.RefDiffers = tree.RefDiffers
-cause_of cause.RefFertile = tree.RefFertile
-cause_of cause.TooManyNamed = tree.TooManyNamed
-cause_of (cause.Shorter n) = tree.Shorter n
-cause_of (cause.Unlisted line) = tree.Unlisted line.items
-cause_of cause.Trailing = tree.Trailing
-
 -- The walk stops as the code did: where memory was refused, it would stop for want of room with less room; of a read that failed nothing is said here.
 unfoldable pub Stops : {A : Type 0} → Option (List ℕ) → ℕ → Answer A → Stop → Type 0
 Stops before room walk stop.Memory = IfSome before (λ bytes. (fewer : ℕ) × (fewer < room) × (walk bytes fewer ≡ Err tree.TooManyNamed))
 Stops before room walk stop.Read = Unit {0}
-Stops before room walk (stop.Because c) = IfSome before (λ bytes. walk bytes room ≡ Err (cause_of c))
+Stops before room walk (stop.Because c) = IfSome before (λ bytes. walk bytes room ≡ Err c)
 
 -- The code answered what the walk answers: a value, seen by got, or a stop.
 abbrev pub Says : {X A : Type 0} → Option (List ℕ) → Option (List ℕ) → ℕ → ℕ → Answer A → (X → List ℕ → ℕ → A) → Result X Stop → Type 0
@@ -52,9 +37,9 @@ FailsRead failed (Err stop.Read) = failed ≡ true
 FailsRead failed (Err stop.Memory) = Unit {0}
 FailsRead failed (Err (stop.Because c)) = Unit {0}
 
--- Of the known bytes to come, at most five were taken for each record that was read; after a stop, what is not left in the source is that and one buffer of 4,096. A source that has failed does not tell.
+-- Of the known bytes to come, at most the bytes of the longest record were taken for each record that was read; after a stop, what is not left in the source is that and one buffer of 4,096. A source that has failed does not tell.
 abbrev pub TakesFew : {X : Type 0} → Option (List ℕ) → Option (List ℕ) → Option (List ℕ) → ℕ → ℕ → Result X Stop → Type 0
-TakesFew before after left most now (Ok x) = IfSome before (λ bytes. IfSome after (λ rest. length bytes + 5 * now ≤ length rest + 5 * most))
+TakesFew before after left most now (Ok x) = IfSome before (λ bytes. IfSome after (λ rest. length bytes + longest_record * now ≤ length rest + longest_record * most))
 TakesFew before after left most now (Err stop.Read) = Unit {0}
-TakesFew before after left most now (Err stop.Memory) = IfSome before (λ bytes. IfSome left (λ rest. length bytes ≤ length rest + (4096 + 5 * most)))
-TakesFew before after left most now (Err (stop.Because c)) = IfSome before (λ bytes. IfSome left (λ rest. length bytes ≤ length rest + (4096 + 5 * most)))
+TakesFew before after left most now (Err stop.Memory) = IfSome before (λ bytes. IfSome left (λ rest. length bytes ≤ length rest + (4096 + longest_record * most)))
+TakesFew before after left most now (Err (stop.Because c)) = IfSome before (λ bytes. IfSome left (λ rest. length bytes ≤ length rest + (4096 + longest_record * most)))

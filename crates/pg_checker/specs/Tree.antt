@@ -1,7 +1,9 @@
 -- Pruned game trees: when one fits, what it leaves, how it is spelled.
 use Rattle.std.specs.Prelude.{◌≡◌, ℕ, zero, suc, ◌+◌, Bool, true, false, ◌||◌, List, [], ◌∷◌, ◌++◌, Option, Some, Result, slice_get, Contains}
 use Rattle.pg_certificate.specs.declared.record.Record.{Record}
-use Rattle.pg_certificate.specs.declared.record.Record.TheVariants.{Expand as Expanded, Cut as CutBy, Ref as RefTo}
+use Rattle.pg_board.specs.declared.man.Color.{Color}
+use Rattle.pg_captures.specs.PriceLists.{PriceList}
+use Rattle.pg_certificate.specs.declared.record.Record.TheVariants.{Expand as Expanded, Cut as CutBy, Ref as RefTo, Priced as PricedBy}
 
 -- A node with its children in the order of the legal moves.
 mutual
@@ -10,6 +12,7 @@ mutual
     Expand : (named : Bool) (children : Trees) → Tree
     Cut : (code : ℕ) → Tree
     Ref : (number : ℕ) → Tree
+    Priced : (code : ℕ) (color : Color) (prices : List PriceList) → Tree
 
   pub data Trees : Type 0 where
     Empty : Trees
@@ -50,6 +53,8 @@ pub record Rules (P M : Type 0) : Type 0 where
   pub is_same : P → P → Bool
   -- whether the bound of this code excludes; None: no bound has the code
   pub cut : ℕ → P → ℕ → Option Bool
+  -- whether prices of this code and colour exclude; None: no prices have the code
+  pub priced : ℕ → Color → List PriceList → P → ℕ → Option Bool
   -- the bytes of a record, the records that have bytes, and a record at the front of bytes
   pub write : Record → List ℕ
   pub is_record : Record → Bool
@@ -72,6 +77,7 @@ module _ {P M : Type 0} (r : Rules P M) where
     fertile p Leaf = r.is_goal p
     fertile p (Expand named ts) = any_fertile p (r.moves p) ts
     fertile p (Cut code) = false
+    fertile p (Priced code color prices) = false
     fertile p (Ref number) = false
 
     pub any_fertile : P → List M → Trees → Bool
@@ -89,6 +95,7 @@ module _ {P M : Type 0} (r : Rules P M) where
     pub closed : ℕ → P → Tree → List (Entry P)
     closed k p Leaf = []
     closed k p (Cut code) = []
+    closed k p (Priced code color prices) = []
     closed k p (Ref number) = []
     closed zero p (Expand named ts) = []
     closed (suc k) p (Expand named ts) = closed_all k p (r.moves p) ts ++ entry named (suc k) p (any_fertile p (r.moves p) ts)
@@ -110,7 +117,9 @@ module _ {P M : Type 0} (r : Rules P M) where
     Fits n zero g p es (Expand named ts) = ⊥
     Fits n (suc k) g p es (Expand named ts) = FitAll n k g p (r.moves p) es ts
     Fits n zero g p es (Cut code) = ⊥
+    Fits n zero g p es (Priced code color prices) = ⊥
     Fits n (suc k) g p es (Cut code) = (r.is_record (CutBy code) ≡ true) × (r.cut code p (suc k) ≡ Some true)
+    Fits n (suc k) g p es (Priced code color prices) = (r.is_record (PricedBy code color prices) ≡ true) × (r.priced code color prices p (suc k) ≡ Some true)
     Fits n zero g p es (Ref number) = ⊥
     Fits n (suc k) g p es (Ref number) = (r.is_record (RefTo number) ≡ true) × StandsFor es number (suc k) p
 
@@ -128,6 +137,7 @@ module _ {P M : Type 0} (r : Rules P M) where
     spelling Leaf = []
     spelling (Expand named ts) = r.write (Expanded named) ++ spelling_all ts
     spelling (Cut code) = r.write (CutBy code)
+    spelling (Priced code color prices) = r.write (PricedBy code color prices)
     spelling (Ref number) = r.write (RefTo number)
 
     pub spelling_all : Trees → List ℕ
@@ -140,6 +150,7 @@ abbrev mutual
   records Leaf = 0
   records (Expand named ts) = suc (records_all ts)
   records (Cut code) = 1
+  records (Priced code color prices) = 1
   records (Ref number) = 1
 
   pub records_all : Trees → ℕ
@@ -155,6 +166,7 @@ abbrev mutual
   named Leaf = 0
   named (Expand is_named ts) = one_if is_named + named_all ts
   named (Cut code) = 0
+  named (Priced code color prices) = 0
   named (Ref number) = 0
 
   pub named_all : Trees → ℕ

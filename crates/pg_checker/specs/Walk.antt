@@ -1,7 +1,7 @@
 -- The walk: one pass over the bytes, which answers a state or the first fault.
 use Rattle.std.specs.Prelude.{◌≡◌, ℕ, zero, suc, ◌+◌, Bool, true, false, ◌||◌, ◌&&◌, List, [], ◌∷◌, ◌++◌, Option, Some, None, Result, Ok, Err, slice_get, nat_eq}
 use Rattle.pg_certificate.specs.declared.record.Record.{Record}
-use Rattle.pg_certificate.specs.declared.record.Record.TheVariants.{Expand as Expanded, Cut as CutBy, Ref as RefTo}
+use Rattle.pg_certificate.specs.declared.record.Record.TheVariants.{Expand as Expanded, Cut as CutBy, Ref as RefTo, Priced as PricedBy}
 use Rattle.pg_checker.specs.Tree.{Tree, Trees, Fault, Budget, UnknownBound, CutFails, RefUnknown, RefDiffers, RefFertile, TooManyNamed, Shorter, Unlisted, Entry, Rules, closed, closed_all, entry, spelling, spelling_all, records, records_all, named, named_all}
 
 infixl 10 ◌>>=◌
@@ -51,6 +51,7 @@ module _ {P M : Type 0} (r : Rules P M) where
   judge k p (Expanded false) s = Ok (Opened false, s)
   judge k p (Expanded true) s = take_room s.room s
   judge k p (CutBy code) s = cut_answer (r.cut code p k) code s
+  judge k p (PricedBy code color prices) s = cut_answer (r.priced code color prices p k) code s
   judge k p (RefTo number) s = ref_answer (slice_get s.entries number) k p s
 
   -- the record of a node at p with k plies left

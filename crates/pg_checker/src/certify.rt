@@ -1,19 +1,22 @@
 //! The check of a certificate.
-ghost use Rattle.std.specs.Prelude.{◌≡◌, ◌+◌, ◌*◌, ◌≤◌, false, [], OnOk, IfErr};
+ghost use Rattle.std.specs.Prelude.{◌≡◌, ◌+◌, ◌*◌, ◌≤◌, false, [], reverse, OnOk, IfErr};
 ghost use Rattle.std.specs.Prelude.{length as length_of};
 ghost use Rattle.std.specs.Io.KnownBytes.{IsAtEnd};
 ghost use Rattle.pg_certificate.specs.Reader.{to_come};
+ghost use Rattle.pg_certificate.specs.Spelling.{longest_record};
 ghost use Rattle.pg_checker.specs.Answer.{IsExactAnswer};
 ghost use Rattle.pg_checker.specs.Check.{Accepts, Refuses, Takes};
-ghost use Rattle.pg_checker.specs.Checking.{Answers, Headed, HeaderFails, HeaderTakes, WalkTakes, fault_of, header_fault};
+ghost use Rattle.pg_checker.specs.Checking.{Answers, Headed, HeaderFails, HeaderTakes, WalkTakes, header_fault};
 ghost use Rattle.pg_checker.specs.Cuts.{rules_by};
+ghost use Rattle.pg_checker.specs.Halting.{stops};
+ghost use Rattle.pg_checker.specs.Machine.{IsReading, path};
 ghost use Rattle.pg_checker.specs.Steps.{FailsRead};
 
 use crate::fault::Fault;
+use crate::halt::{Halt, Reason, fault_of};
 use crate::listed::check_listed;
 use crate::machine::{Machine, Question};
-use crate::node::stop_of;
-use crate::stop::{Cause, Stop};
+use crate::node::halt_of;
 use crate::table::Table;
 use crate::walk::all_trees;
 use arrayvec::ArrayVec;
@@ -28,30 +31,6 @@ use std::alloc::Global;
 pub struct Proved {
     pub records: u64,
     pub named: u32,
-}
-
-// A stop of the walk, as a fault.
-fn fault_of(stop: Stop) -> Fault
-    ensures { result ≡ fault_of stop }
-{
-    match stop {
-        Stop::Memory => Fault::Memory,
-        Stop::Read => Fault::Read,
-        Stop::Because(cause) => match cause {
-            Cause::Budget => Fault::Budget,
-            Cause::Truncated => Fault::Truncated,
-            Cause::UnknownRecord(byte) => Fault::UnknownRecord(byte),
-            Cause::UnknownBound(code) => Fault::UnknownBound(code),
-            Cause::CutFails(code) => Fault::CutFails(code),
-            Cause::RefUnknown => Fault::RefUnknown,
-            Cause::RefDiffers => Fault::RefDiffers,
-            Cause::RefFertile => Fault::RefFertile,
-            Cause::TooManyNamed => Fault::TooManyNamed,
-            Cause::Shorter(plies) => Fault::Shorter(plies),
-            Cause::Unlisted(game) => Fault::Unlisted(game),
-            Cause::Trailing => Fault::Trailing,
-        },
-    }
 }
 
 // A refusal to read a header, as a fault.
@@ -75,10 +54,10 @@ fn read_header<S: Source>(
     source: &mut S,
 ) -> Result<(), Fault>
     requires held { reader.old.held ≡ [] }
-    requires runs { reader.old.failed ≡ false }
+    requires runs { IsReading reader.old }
     ensures ok { OnOk result (Headed question.now.diagram.now question.now.plies
         (S.left source.old) (to_come reader.new (S.left source.new))) }
-    ensures runs { OnOk result (reader.new.failed ≡ false) }
+    ensures runs { OnOk result (IsReading reader.new) }
     ensures held { length_of reader.new.held ≤ 4096 }
     ensures err { IfErr result (λ e. HeaderFails question.now.diagram.now question.now.plies
         (S.left source.old) (S.has_failed source.new) e) }
@@ -88,7 +67,9 @@ fn read_header<S: Source>(
         Ok(header) => header,
         Err(fault) => return Err(header_fault(fault)),
     };
-    if header.plies != question.plies {
+    if header.version != 1 {
+        Err(Fault::Magic)
+    } else if header.plies != question.plies {
         Err(Fault::OtherLength)
     } else if header.diagram != question.diagram.packed() {
         Err(Fault::OtherDiagram)
@@ -99,40 +80,34 @@ fn read_header<S: Source>(
 
 // The trees, and the end behind them.
 fn walk<S: Source>(
-    alloc: Global,
     question: &Question,
-    reader: RecordReader,
+    machine: &mut Machine,
     source: &mut S,
-    max_records: u64,
-    max_named: u32,
-) -> Result<Proved, Stop>
+) -> Result<Proved, Halt>
     requires limit { question.now.plies ≤ 128 }
-    requires runs { reader.failed ≡ false }
-    requires held { length_of reader.held ≤ 4096 }
-    ensures says { Answers (rules_by (λ b. code_of b) (λ b. excluded b) question.now.diagram.now question.now.plies question.now.games.now question.now.bounds.now) (to_come reader (S.left source.old)) max_records max_named result }
+    requires runs { IsReading machine.old.reader }
+    requires held { length_of machine.old.reader.held ≤ 4096 }
+    requires entries { machine.old.table.entries ≡ [] }
+    requires kept { machine.old.table.kept ≡ 0 }
+    requires closed { machine.old.frames.items ≡ [] }
+    ensures says { Answers (rules_by (λ b. code_of b) (λ b. excluded b) question.now.diagram.now question.now.plies question.now.games.now question.now.bounds.now) (to_come machine.old.reader (S.left source.old)) machine.old.records machine.old.room (stops (path (reverse machine.new.frames.items)) result) }
     ensures end { OnOk result (IsAtEnd (S.left source.new)) }
-    ensures fails { FailsRead (S.has_failed source.new) result }
-    ensures pulls { WalkTakes (5 * max_records) (to_come reader (S.left source.old)) (S.left source.new) result }
+    ensures fails { FailsRead (S.has_failed source.new) (stops [] result) }
+    ensures pulls { WalkTakes (longest_record * machine.old.records) (to_come machine.old.reader (S.left source.old)) (S.left source.new) (stops [] result) }
 {
-    let mut machine = Machine {
-        reader,
-        table: Table::new(alloc),
-        records: max_records,
-        room: max_named,
-        frames: ArrayVec::new(),
-        found: false,
-    };
-    match all_trees(question, &mut machine, source) {
+    let records = machine.records;
+    let room = machine.room;
+    match all_trees(question, machine, source) {
         Ok(()) => {}
-        Err(stop) => return Err(stop),
+        Err(halt) => return Err(halt),
     }
     match machine.reader.more(source) {
-        Ok(true) => Err(Stop::Because(Cause::Trailing)),
+        Ok(true) => Err(Halt::Because(Reason::Trailing)),
         Ok(false) => Ok(Proved {
-            records: max_records.saturating_sub(machine.records),
-            named: max_named.saturating_sub(machine.room),
+            records: records.saturating_sub(machine.records),
+            named: room.saturating_sub(machine.room),
         }),
-        Err(fault) => Err(stop_of(fault)),
+        Err(fault) => Err(halt_of(fault)),
     }
 }
 
@@ -179,13 +154,20 @@ pub fn check<R: Source>(
         games,
         bounds,
     };
-    let mut reader = RecordReader::new();
-    match read_header(&question, &mut reader, source) {
+    let mut machine = Machine {
+        reader: RecordReader::new(),
+        table: Table::new(alloc),
+        records: max_records,
+        room: max_named,
+        frames: ArrayVec::new(),
+        found: false,
+    };
+    match read_header(&question, &mut machine.reader, source) {
         Ok(()) => {}
         Err(fault) => return Err(fault),
     }
-    match walk(alloc, &question, reader, source, max_records, max_named) {
+    match walk(&question, &mut machine, source) {
         Ok(proved) => Ok(proved),
-        Err(stop) => Err(fault_of(stop)),
+        Err(halt) => Err(fault_of(halt, machine.frames.as_slice())),
     }
 }

@@ -8,9 +8,9 @@ ghost use Rattle.pg_position.specs.Array.{array_state};
 ghost use Rattle.pg_moves.specs.Moves.{IsNext, IsLast};
 ghost use Rattle.pg_certificate.specs.declared.fault.ReadFault.{ReadFault};
 ghost use Rattle.pg_certificate.specs.declared.record.Record.{Record};
-ghost use Rattle.pg_certificate.specs.Laws.{AreBytes, IsCutShort};
+ghost use Rattle.pg_certificate.specs.Laws.{IsCutShort, IsUnknownAt};
 ghost use Rattle.pg_certificate.specs.Reading.{record_at};
-ghost use Rattle.pg_certificate.specs.Spelling.{spelling, IsRecord};
+ghost use Rattle.pg_certificate.specs.Spelling.{spelling, AreBytes, IsRecordOf};
 ghost use Rattle.pg_checker.specs.Answer.{IsExactAnswer, AreSolutions};
 ghost use Rattle.pg_checker.specs.Chess.{Cuts, IsSoundCut, IsChess, chess, fault_of, renamed, read};
 ghost use Rattle.pg_checker.specs.Claims.{IsExact, IsCertificate};
@@ -28,14 +28,14 @@ pub fn chess_law()
     ensures few { (d : Placement) (n : ℕ) (games : List (List Move)) (cut : Cuts) (p : State) → length ((chess d n games cut).moves p) ≤ 28672 }
 {}
 
-/// The walk reads records as they are read from bytes: Truncated stands where the bytes are less than
-/// a whole record, and UnknownRecord where no record begins with the first of them.
+/// The walk reads records as those of version 1 are read from bytes: Truncated stands where the bytes
+/// are less than a whole record, and UnknownRecord at the first that no record can have at its place.
 pub fn reading_law()
-    ensures bytes { (bytes : List ℕ) → AreBytes bytes → read bytes ≡ renamed (record_at bytes) }
-    ensures spelled { (x : Record) (rest : List ℕ) → IsRecord x → read (spelling x ++ rest) ≡ Ok (x, rest) }
-    ensures truncated { (bytes : List ℕ) → AreBytes bytes → read bytes ≡ Err Truncated ↔ IsCutShort bytes }
-    ensures unknown { (b : ℕ) (rest : List ℕ) → read (b ∷ rest) ≡ Err (UnknownRecord b) ↔ ((x : Record) (more : List ℕ) → spelling x ≢ b ∷ more) }
-    ensures refusals { (bytes : List ℕ) (e : ReadFault) → record_at bytes ≡ Err e → read bytes ≡ Err (fault_of e) }
+    ensures bytes { (bytes : List ℕ) → AreBytes bytes → read bytes ≡ renamed (record_at 1 bytes) }
+    ensures spelled { (x : Record) (rest : List ℕ) → IsRecordOf 1 x → read (spelling x ++ rest) ≡ Ok (x, rest) }
+    ensures truncated { (bytes : List ℕ) → AreBytes bytes → read bytes ≡ Err Truncated ↔ IsCutShort 1 bytes }
+    ensures unknown { (bytes : List ℕ) (x : ℕ) → AreBytes bytes → read bytes ≡ Err (UnknownRecord x) ↔ IsUnknownAt 1 bytes x }
+    ensures refusals { (bytes : List ℕ) (e : ReadFault) → record_at 1 bytes ≡ Err e → read bytes ≡ Err (fault_of e) }
 {}
 
 /// Of the moves that the rules have for a position the next legal one comes first, and what is left

@@ -1,5 +1,4 @@
 //! Why a list of games or a certificate is refused.
-use crate::stop::{Cause, Stop};
 use arrayvec::ArrayVec;
 use pg_certificate::ReadFault;
 use pg_position::Move;

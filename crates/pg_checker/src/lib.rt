@@ -4,13 +4,13 @@
 mod certify;
 mod chess_laws;
 mod fault;
+mod halt;
 mod laws;
 mod listed;
 mod machine;
 mod nearness;
 mod node;
 mod play;
-mod stop;
 mod table;
 mod walk;
 
@@ -25,6 +25,7 @@ pub use laws::{
     only_what_is_taken, turns,
 };
 pub use listed::check_listed;
+pub use nearness::{may_reach, pass_over};
 
 #[cfg(test)]
 mod tests;

@@ -1,11 +1,13 @@
 //! What the walk holds.
-ghost use Rattle.std.specs.Prelude.{◌≡◌};
+ghost use Rattle.std.specs.Prelude.{◌≡◌, ◌≤◌, length, reverse};
+ghost use Rattle.pg_checker.specs.Machine.{path};
 
 use crate::table::Table;
 use arrayvec::ArrayVec;
 use pg_captures::Bound;
 use pg_certificate::RecordReader;
 use pg_fen::Diagram;
+use pg_moves::LegalMoves;
 use pg_position::{Move, Position};
 use pg_san::Games;
 
@@ -18,13 +20,12 @@ pub(crate) struct Question<'a> {
     pub(crate) bounds: &'a [Box<dyn Bound>],
 }
 
-/// An open node: its position, the plies left below it, the move that was played last, whether it
-/// is named, and whether a child so far is fertile.
-#[derive(Clone, Copy)]
+/// An open node: its position with the moves that are still to be played, the plies left below it,
+/// whether it is named, and whether a child so far is fertile.
+#[derive(Drop)]
 pub(crate) struct Frame {
-    pub(crate) position: Position,
+    pub(crate) moves: LegalMoves,
     pub(crate) plies: u8,
-    pub(crate) last: Option<Move>,
     pub(crate) named: bool,
     pub(crate) found: bool,
 }
@@ -32,9 +33,8 @@ pub(crate) struct Frame {
 impl Default for Frame {
     fn default() -> Frame {
         Frame {
-            position: Position::array(),
+            moves: LegalMoves::new(&Position::array()),
             plies: 0,
-            last: None,
             named: false,
             found: false,
         }
@@ -59,4 +59,19 @@ pub(crate) struct Machine {
     pub(crate) room: u32,
     pub(crate) frames: ArrayVec<Frame, 128>,
     pub(crate) found: bool,
+}
+
+/// The game that leads along the open nodes: the move that was played last at each.
+pub(crate) fn game_along(frames: &[Frame]) -> ArrayVec<Move, 128>
+    requires { length frames.now ≤ 128 }
+    ensures { result.items ≡ path (reverse frames.now) }
+{
+    let mut game = ArrayVec::new();
+    for frame in frames {
+        match frame.moves.last() {
+            Some(m) => game.push(m),
+            None => {}
+        }
+    }
+    game
 }

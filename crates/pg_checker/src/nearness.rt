@@ -1,40 +1,84 @@
 //! Whether a diagram may be one move away.
 ghost use Rattle.std.specs.Prelude.{◌≡◌, ◌≢◌, false};
+ghost use Rattle.pg_moves.specs.Moves.{IsLegal};
 ghost use Rattle.pg_position.specs.declared.state.State.{State};
 ghost use Rattle.pg_position.specs.declared.moves.Move.{Move};
 ghost use Rattle.pg_position.specs.Position.{IsPosition};
 ghost use Rattle.pg_position.specs.Step.{Legal};
-ghost use Rattle.pg_checker.specs.Emptied.{IsEmptied};
+ghost use Rattle.pg_checker.specs.Differing.{Differ};
+ghost use Rattle.pg_checker.specs.Passing.{AllElsewhere, LeadsElsewhere, PassesOver};
 
+use crate::play::after;
+use pg_board::contains;
 use pg_fen::Diagram;
-use pg_position::{Position, first_from};
+use pg_moves::LegalMoves;
+use pg_position::{Move, Position, first_from};
 
-// The squares that are to be emptied on the way to the diagram: bit q for the square q.
-fn to_empty(diagram: &Diagram, position: &Position) -> u64
-    ensures emptied { IsEmptied position.now.board diagram.now result }
+// The squares on which the position is not as the diagram: bit q for the square q.
+fn differing(diagram: &Diagram, position: &Position) -> u64
+    ensures differ { Differ position.now.board diagram.now result }
     ensures position { IsPosition position.now }
 {
-    position.board().occupied() & !diagram.board().occupied()
+    position.board().differing(&diagram.board())
 }
 
-/// Whether a legal move may lead to the diagram's placement. No move empties more than three
-/// squares, so where four are to be emptied the answer is no.
-pub(crate) fn may_reach(diagram: &Diagram, position: &Position) -> bool
+/// Whether a legal move may lead to the diagram's placement. A move changes two squares at least,
+/// that which it leaves and that to which it goes, and four at most, as castling does: where fewer
+/// squares differ or more, the answer is no.
+pub fn may_reach(diagram: &Diagram, position: &Position) -> bool
     ensures far { result ≡ false → (m : Move) (q : State) → Legal position.now m q → q.board ≢ diagram.now }
     ensures position { IsPosition position.now }
 {
-    let squares = to_empty(diagram, position);
+    let squares = differing(diagram, position);
     let Some(first) = first_from(squares, 0) else {
-        return true;
+        return false;
     };
     let Some(second) = first_from(squares, first.index() + 1) else {
-        return true;
+        return false;
     };
     let Some(third) = first_from(squares, second.index() + 1) else {
         return true;
     };
-    match first_from(squares, third.index() + 1) {
-        Some(_fourth) => false,
+    let Some(fourth) = first_from(squares, third.index() + 1) else {
+        return true;
+    };
+    match first_from(squares, fourth.index() + 1) {
+        Some(_fifth) => false,
         None => true,
     }
+}
+
+// Whether a legal move leads to the diagram. It is played only where it leaves one of the squares
+// that differ.
+fn leads(diagram: &Diagram, squares: u64, position: &Position, m: &Move) -> bool
+    requires squares { Differ position.now.board diagram.now squares }
+    requires legal { IsLegal position.now m.now }
+    requires position { IsPosition position.now }
+    ensures { result ≡ false → LeadsElsewhere diagram.now position.now m.now }
+{
+    if !contains(squares, m.from.index()) {
+        return false;
+    }
+    diagram.matches(&after(position, m))
+}
+
+/// Passes over legal moves that do not lead to the diagram, up to the first that does, and answers
+/// whether there is one. It is then the next of the moves.
+pub fn pass_over(diagram: &Diagram, moves: &mut LegalMoves) -> bool
+    ensures passed { PassesOver diagram.now moves.old moves.new }
+    ensures none { result ≡ false → AllElsewhere diagram.now moves.new }
+    ensures position { IsPosition moves.old.position }
+{
+    let position = moves.position();
+    if !may_reach(diagram, &position) {
+        return false;
+    }
+    let squares = differing(diagram, &position);
+    while let Some((m, later)) = moves.step() {
+        if leads(diagram, squares, &position, &m) {
+            return true;
+        }
+        *moves = later;
+    }
+    false
 }

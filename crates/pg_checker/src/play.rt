@@ -11,9 +11,5 @@ pub(crate) fn after(position: &Position, m: &Move) -> Position
     ensures legal { Legal position.now m.now result }
     ensures from { IsPosition position.now }
 {
-    position.side();
-    match position.play(*m) {
-        Ok(next) => next,
-        Err(_) => unreachable!(),
-    }
+    position.after(m)
 }

@@ -1,59 +1,52 @@
 //! The walk over the trees of a certificate, with a stack of open nodes.
-ghost use Rattle.std.specs.Prelude.{◌≡◌, ◌||◌, ◌+◌, ◌<◌, ◌≤◌, ◌++◌, Some, suc, false, [], length, map, reverse, OnOk};
+ghost use Rattle.std.specs.Prelude.{◌≡◌, ◌||◌, ◌+◌, ◌<◌, ◌≤◌, ◌++◌, suc, true, false, [], length, map, reverse, OnOk};
 ghost use Rattle.pg_certificate.specs.Reader.{to_come};
 ghost use Rattle.pg_checker.specs.Cuts.{rules_by};
 ghost use Rattle.pg_checker.specs.Frames.{enter as enter_of, finish, turn as turn_of, Stacked};
 ghost use Rattle.pg_checker.specs.Whole.{run as run_of};
 ghost use Rattle.pg_position.specs.Array.{array_state};
+ghost use Rattle.pg_position.specs.Position.{IsPosition};
+ghost use Rattle.pg_checker.specs.Halting.{faults, stops};
 ghost use Rattle.pg_checker.specs.Judging.{LeafSays};
-ghost use Rattle.pg_checker.specs.Machine.{count_named, entered, entry_of, frame_of, frames_of, path, state_at, work_at};
+ghost use Rattle.pg_checker.specs.Machine.{IsReading, count_named, entered, entry_of, frame_of, frames_of, path, state_at, work_at};
+ghost use Rattle.pg_checker.specs.Passing.{AllElsewhere, PassesOver};
 ghost use Rattle.pg_checker.specs.Steps.{Says, FailsRead, TakesFew};
 ghost use Rattle.pg_checker.specs.Tree.{one_if};
 ghost use Rattle.pg_checker.specs.Walk.{leaf as leaf_of, visit};
 
-use crate::machine::{Frame, Machine, Node, Question};
-use crate::nearness::may_reach;
+use crate::halt::{Halt, Reason};
+use crate::machine::{Frame, Machine, Node, Question, game_along};
+use crate::nearness::pass_over;
 use crate::node::head;
 use crate::play::after;
-use crate::stop::{Cause, Stop};
 use crate::table::Entry;
-use arrayvec::ArrayVec;
 use pg_certificate::Source;
-use pg_moves::next_legal;
-use pg_position::{Move, Position};
-
-// The game that leads along the open nodes: the move that was played last at each.
-fn game_along(frames: &[Frame]) -> ArrayVec<Move, 128>
-    requires { length frames.now ≤ 128 }
-    ensures { result.items ≡ path (reverse frames.now) }
-{
-    let mut game = ArrayVec::new();
-    for frame in frames {
-        match frame.last {
-            Some(m) => game.push(m),
-            None => {}
-        }
-    }
-    game
-}
+use pg_fen::Diagram;
+use pg_moves::LegalMoves;
+use pg_position::Position;
 
 // A node with no ply left, in the tree of a length: whether its placement is the diagram. Where it
 // is, the length must be the stated one and the game must be listed.
-fn leaf(question: &Question, tree: u8, frames: &[Frame], position: &Position) -> Result<bool, Cause>
+fn leaf(
+    question: &Question,
+    tree: u8,
+    frames: &[Frame],
+    position: &Position,
+) -> Result<bool, Reason>
     requires { length frames.now ≤ 128 }
-    ensures { LeafSays result (leaf_of (rules_by (λ b. code_of b) (λ b. excluded b) question.now.diagram.now question.now.plies question.now.games.now question.now.bounds.now) tree (path (reverse frames.now)) position.now) }
+    ensures { LeafSays (faults (path (reverse frames.now)) result) (leaf_of (rules_by (λ b. code_of b) (λ b. excluded b) question.now.diagram.now question.now.plies question.now.games.now question.now.bounds.now) tree (path (reverse frames.now)) position.now) }
 {
     if !question.diagram.matches(position) {
         return Ok(false);
     }
     if tree != question.plies {
-        return Err(Cause::Shorter(tree));
+        return Err(Reason::Shorter(tree));
     }
     let game = game_along(frames);
     if question.games.contains(game.as_slice()) {
         Ok(true)
     } else {
-        Err(Cause::Unlisted(game))
+        Err(Reason::Unlisted)
     }
 }
 
@@ -65,24 +58,24 @@ fn enter<S: Source>(
     position: &Position,
     machine: &mut Machine,
     source: &mut S,
-) -> Result<(), Stop>
+) -> Result<(), Halt>
     requires depth { left + length machine.old.frames.items ≡ tree }
     requires limit { tree ≤ 128 }
     requires kept { machine.old.table.kept ≡ count_named (reverse machine.old.frames.items) }
-    requires runs { machine.old.reader.failed ≡ false }
+    requires runs { IsReading machine.old.reader }
     requires held { length machine.old.reader.held ≤ 4096 }
     ensures says { Says
         (to_come machine.old.reader (S.left source.old)) (to_come machine.new.reader (S.left source.new))
         machine.old.room machine.new.room
         (λ bytes n. enter_of (rules_by (λ b. code_of b) (λ b. excluded b) question.now.diagram.now question.now.plies question.now.games.now question.now.bounds.now) tree left (path (reverse machine.old.frames.items)) position.now (frames_of (reverse machine.old.frames.items)) (state_at machine.old bytes n))
-        (λ _ rest n. work_at (rules_by (λ b. code_of b) (λ b. excluded b) question.now.diagram.now question.now.plies question.now.games.now question.now.bounds.now) machine.new rest n) result }
+        (λ _ rest n. work_at (rules_by (λ b. code_of b) (λ b. excluded b) question.now.diagram.now question.now.plies question.now.games.now question.now.bounds.now) machine.new rest n) (stops (path (reverse machine.new.frames.items)) result) }
     ensures kept { OnOk result (machine.new.table.kept ≡ count_named (reverse machine.new.frames.items)) }
-    ensures runs { OnOk result (machine.new.reader.failed ≡ false) }
+    ensures runs { OnOk result (IsReading machine.new.reader) }
     ensures held { length machine.new.reader.held ≤ 4096 }
-    ensures fails { FailsRead (S.has_failed source.new) result }
+    ensures fails { FailsRead (S.has_failed source.new) (stops [] result) }
     ensures few { TakesFew
         (to_come machine.old.reader (S.left source.old)) (to_come machine.new.reader (S.left source.new))
-        (S.left source.new) machine.old.records machine.new.records result }
+        (S.left source.new) machine.old.records machine.new.records (stops [] result) }
 {
     if left == 0 {
         return match leaf(question, tree, machine.frames.as_slice(), position) {
@@ -90,7 +83,7 @@ fn enter<S: Source>(
                 machine.found = found;
                 Ok(())
             }
-            Err(cause) => Err(Stop::Because(cause)),
+            Err(reason) => Err(Halt::Because(reason)),
         };
     }
     match head(question, machine, source, position, left) {
@@ -101,35 +94,23 @@ fn enter<S: Source>(
         Ok(Node::Opened(named)) => {
             machine.found = false;
             machine.frames.push(Frame {
-                position: *position,
+                moves: LegalMoves::new(position),
                 plies: left - 1,
-                last: None,
                 named,
                 found: false,
             });
             Ok(())
         }
-        Err(stop) => Err(stop),
+        Err(halt) => Err(halt),
     }
 }
 
-// An open node whose next move is played.
-fn advanced(top: &Frame, m: &Move, found: bool) -> Frame
-    ensures { result ≡ record top.now { last = Some m.now; found = found } }
-{
-    Frame {
-        last: Some(*m),
-        found,
-        ..*top
-    }
-}
-
-// A node closes: a named one is entered in the table.
-fn close(top: &Frame, found: bool, machine: &mut Machine)
-    requires few { top.now.plies < 128 }
-    requires kept { one_if top.now.named ≤ machine.old.table.kept }
-    ensures entries { map entry_of machine.new.table.entries ≡ map entry_of machine.old.table.entries ++ entered top.now.named (record { position = top.now.position; plies = suc top.now.plies; fertile = found }) }
-    ensures kept { machine.new.table.kept + one_if top.now.named ≡ machine.old.table.kept }
+// A node with so many plies left below it closes: a named one is entered in the table.
+fn close(position: &Position, plies: u8, named: bool, found: bool, machine: &mut Machine)
+    requires few { plies < 128 }
+    requires kept { one_if named ≤ machine.old.table.kept }
+    ensures entries { map entry_of machine.new.table.entries ≡ map entry_of machine.old.table.entries ++ entered named (record { position = position.now; plies = suc plies; fertile = found }) }
+    ensures kept { machine.new.table.kept + one_if named ≡ machine.old.table.kept }
     ensures found { machine.new.found ≡ found }
     ensures reader { machine.new.reader ≡ machine.old.reader }
     ensures frames { machine.new.frames ≡ machine.old.frames }
@@ -137,10 +118,10 @@ fn close(top: &Frame, found: bool, machine: &mut Machine)
     ensures room { machine.new.room ≡ machine.old.room }
 {
     machine.found = found;
-    if top.named {
+    if named {
         machine.table.close(Entry {
-            position: top.position,
-            plies: top.plies + 1,
+            position: *position,
+            plies: plies + 1,
             fertile: found,
         });
     }
@@ -150,38 +131,51 @@ fn close(top: &Frame, found: bool, machine: &mut Machine)
 fn turn<S: Source>(
     question: &Question,
     tree: u8,
-    top: &Frame,
+    top: Frame,
     machine: &mut Machine,
     source: &mut S,
-) -> Result<(), Stop>
-    requires depth { top.now.plies + suc (length machine.old.frames.items) ≡ tree }
+) -> Result<(), Halt>
+    requires depth { top.plies + suc (length machine.old.frames.items) ≡ tree }
     requires limit { tree ≤ 128 }
-    requires kept { machine.old.table.kept ≡ one_if top.now.named + count_named (reverse machine.old.frames.items) }
-    requires runs { machine.old.reader.failed ≡ false }
+    requires kept { machine.old.table.kept ≡ one_if top.named + count_named (reverse machine.old.frames.items) }
+    requires runs { IsReading machine.old.reader }
     requires held { length machine.old.reader.held ≤ 4096 }
     ensures says { Says
         (to_come machine.old.reader (S.left source.old)) (to_come machine.new.reader (S.left source.new))
         machine.old.room machine.new.room
-        (λ bytes n. turn_of (rules_by (λ b. code_of b) (λ b. excluded b) question.now.diagram.now question.now.plies question.now.games.now question.now.bounds.now) tree (frame_of top.now (reverse machine.old.frames.items)) (frames_of (reverse machine.old.frames.items)) machine.old.found (state_at machine.old bytes n))
-        (λ _ rest n. work_at (rules_by (λ b. code_of b) (λ b. excluded b) question.now.diagram.now question.now.plies question.now.games.now question.now.bounds.now) machine.new rest n) result }
+        (λ bytes n. turn_of (rules_by (λ b. code_of b) (λ b. excluded b) question.now.diagram.now question.now.plies question.now.games.now question.now.bounds.now) tree (frame_of top (reverse machine.old.frames.items)) (frames_of (reverse machine.old.frames.items)) machine.old.found (state_at machine.old bytes n))
+        (λ _ rest n. work_at (rules_by (λ b. code_of b) (λ b. excluded b) question.now.diagram.now question.now.plies question.now.games.now question.now.bounds.now) machine.new rest n) (stops (path (reverse machine.new.frames.items)) result) }
     ensures kept { OnOk result (machine.new.table.kept ≡ count_named (reverse machine.new.frames.items)) }
-    ensures runs { OnOk result (machine.new.reader.failed ≡ false) }
+    ensures runs { OnOk result (IsReading machine.new.reader) }
     ensures held { length machine.new.reader.held ≤ 4096 }
-    ensures fails { FailsRead (S.has_failed source.new) result }
+    ensures fails { FailsRead (S.has_failed source.new) (stops [] result) }
     ensures few { TakesFew
         (to_come machine.old.reader (S.left source.old)) (to_come machine.new.reader (S.left source.new))
-        (S.left source.new) machine.old.records machine.new.records result }
+        (S.left source.new) machine.old.records machine.new.records (stops [] result) }
 {
     let found = top.found || machine.found;
-    match next_legal(&top.position, top.last) {
+    let position = top.moves.position();
+    let Frame {
+        moves,
+        plies,
+        named,
+        ..
+    } = top;
+    let mut moves = moves;
+    match moves.next() {
         None => {
-            close(top, found, machine);
+            close(&position, plies, named, found, machine);
             Ok(())
         }
         Some(m) => {
-            let next = after(&top.position, &m);
-            machine.frames.push(advanced(top, &m, found));
-            enter(question, tree, top.plies, &next, machine, source)
+            let next = after(&position, &m);
+            machine.frames.push(Frame {
+                moves,
+                plies,
+                named,
+                found,
+            });
+            enter(question, tree, plies, &next, machine, source)
         }
     }
 }
@@ -192,41 +186,58 @@ fn either(a: bool, b: bool) -> bool
     a || b
 }
 
-// Turns until no node is open. A node whose children are leaves, none of them on the diagram, closes
-// at once.
+// Whether no move that is left at an open node leads on: its children are leaves, none of them on
+// the diagram. Such moves are passed over.
+fn is_over(diagram: &Diagram, top: &mut Frame) -> bool
+    ensures frame { top.new ≡ record top.old { moves = top.new.moves } }
+    ensures passed { PassesOver diagram.now top.old.moves top.new.moves }
+    ensures inner { 0 < top.old.plies → top.new.moves ≡ top.old.moves }
+    ensures over { result ≡ true → (top.old.plies ≡ 0) × AllElsewhere diagram.now top.new.moves }
+    ensures position { top.old.plies ≡ 0 → IsPosition top.old.moves.position }
+{
+    if top.plies > 0 {
+        return false;
+    }
+    !pass_over(diagram, &mut top.moves)
+}
+
+// Turns until no node is open. Leaves that are not on the diagram are passed over.
 fn run<S: Source>(
     question: &Question,
     tree: u8,
     machine: &mut Machine,
     source: &mut S,
-) -> Result<(), Stop>
+) -> Result<(), Halt>
     requires stacked { Stacked tree (frames_of (reverse machine.old.frames.items)) }
     requires limit { tree ≤ 128 }
     requires kept { machine.old.table.kept ≡ count_named (reverse machine.old.frames.items) }
-    requires runs { machine.old.reader.failed ≡ false }
+    requires runs { IsReading machine.old.reader }
     requires held { length machine.old.reader.held ≤ 4096 }
     ensures says { Says
         (to_come machine.old.reader (S.left source.old)) (to_come machine.new.reader (S.left source.new))
         machine.old.room machine.new.room
         (λ bytes n. finish (rules_by (λ b. code_of b) (λ b. excluded b) question.now.diagram.now question.now.plies question.now.games.now question.now.bounds.now) tree (work_at (rules_by (λ b. code_of b) (λ b. excluded b) question.now.diagram.now question.now.plies question.now.games.now question.now.bounds.now) machine.old bytes n))
-        (λ _ rest n. (machine.new.found, state_at machine.new rest n)) result }
+        (λ _ rest n. (machine.new.found, state_at machine.new rest n)) (stops (path (reverse machine.new.frames.items)) result) }
     ensures closed { OnOk result (machine.new.frames.items ≡ []) }
     ensures kept { OnOk result (machine.new.table.kept ≡ 0) }
-    ensures runs { OnOk result (machine.new.reader.failed ≡ false) }
+    ensures runs { OnOk result (IsReading machine.new.reader) }
     ensures held { length machine.new.reader.held ≤ 4096 }
-    ensures fails { FailsRead (S.has_failed source.new) result }
+    ensures fails { FailsRead (S.has_failed source.new) (stops [] result) }
     ensures few { TakesFew
         (to_come machine.old.reader (S.left source.old)) (to_come machine.new.reader (S.left source.new))
-        (S.left source.new) machine.old.records machine.new.records result }
+        (S.left source.new) machine.old.records machine.new.records (stops [] result) }
 {
     while let Some(top) = machine.frames.pop() {
-        if top.plies == 0 && !may_reach(question.diagram, &top.position) {
-            close(&top, either(top.found, machine.found), machine);
+        let mut top = top;
+        if is_over(question.diagram, &mut top) {
+            let found = either(top.found, machine.found);
+            let position = top.moves.position();
+            close(&position, top.plies, top.named, found, machine);
             continue;
         }
-        match turn(question, tree, &top, machine, source) {
+        match turn(question, tree, top, machine, source) {
             Ok(()) => {}
-            Err(stop) => return Err(stop),
+            Err(halt) => return Err(halt),
         }
     }
     Ok(())
@@ -238,29 +249,29 @@ fn tree_of<S: Source>(
     tree: u8,
     machine: &mut Machine,
     source: &mut S,
-) -> Result<(), Stop>
+) -> Result<(), Halt>
     requires limit { tree ≤ 128 }
     requires closed { machine.old.frames.items ≡ [] }
     requires kept { machine.old.table.kept ≡ 0 }
-    requires runs { machine.old.reader.failed ≡ false }
+    requires runs { IsReading machine.old.reader }
     requires held { length machine.old.reader.held ≤ 4096 }
     ensures says { Says
         (to_come machine.old.reader (S.left source.old)) (to_come machine.new.reader (S.left source.new))
         machine.old.room machine.new.room
         (λ bytes n. visit (rules_by (λ b. code_of b) (λ b. excluded b) question.now.diagram.now question.now.plies question.now.games.now question.now.bounds.now) tree tree [] array_state (state_at machine.old bytes n))
-        (λ _ rest n. (machine.new.found, state_at machine.new rest n)) result }
+        (λ _ rest n. (machine.new.found, state_at machine.new rest n)) (stops (path (reverse machine.new.frames.items)) result) }
     ensures closed { OnOk result (machine.new.frames.items ≡ []) }
     ensures kept { OnOk result (machine.new.table.kept ≡ 0) }
-    ensures runs { OnOk result (machine.new.reader.failed ≡ false) }
+    ensures runs { OnOk result (IsReading machine.new.reader) }
     ensures held { length machine.new.reader.held ≤ 4096 }
-    ensures fails { FailsRead (S.has_failed source.new) result }
+    ensures fails { FailsRead (S.has_failed source.new) (stops [] result) }
     ensures few { TakesFew
         (to_come machine.old.reader (S.left source.old)) (to_come machine.new.reader (S.left source.new))
-        (S.left source.new) machine.old.records machine.new.records result }
+        (S.left source.new) machine.old.records machine.new.records (stops [] result) }
 {
     match enter(question, tree, tree, &Position::array(), machine, source) {
         Ok(()) => run(question, tree, machine, source),
-        Err(stop) => Err(stop),
+        Err(halt) => Err(halt),
     }
 }
 
@@ -269,29 +280,29 @@ pub(crate) fn all_trees<S: Source>(
     question: &Question,
     machine: &mut Machine,
     source: &mut S,
-) -> Result<(), Stop>
+) -> Result<(), Halt>
     requires limit { question.now.plies ≤ 128 }
     requires closed { machine.old.frames.items ≡ [] }
     requires kept { machine.old.table.kept ≡ 0 }
-    requires runs { machine.old.reader.failed ≡ false }
+    requires runs { IsReading machine.old.reader }
     requires held { length machine.old.reader.held ≤ 4096 }
     ensures says { Says
         (to_come machine.old.reader (S.left source.old)) (to_come machine.new.reader (S.left source.new))
         machine.old.room machine.new.room
         (λ bytes n. run_of (rules_by (λ b. code_of b) (λ b. excluded b) question.now.diagram.now question.now.plies question.now.games.now question.now.bounds.now) (suc question.now.plies) 0 array_state (state_at machine.old bytes n))
-        (λ _ rest n. state_at machine.new rest n) result }
-    ensures runs { OnOk result (machine.new.reader.failed ≡ false) }
+        (λ _ rest n. state_at machine.new rest n) (stops (path (reverse machine.new.frames.items)) result) }
+    ensures runs { OnOk result (IsReading machine.new.reader) }
     ensures held { length machine.new.reader.held ≤ 4096 }
-    ensures fails { FailsRead (S.has_failed source.new) result }
+    ensures fails { FailsRead (S.has_failed source.new) (stops [] result) }
     ensures few { TakesFew
         (to_come machine.old.reader (S.left source.old)) (to_come machine.new.reader (S.left source.new))
-        (S.left source.new) machine.old.records machine.new.records result }
+        (S.left source.new) machine.old.records machine.new.records (stops [] result) }
 {
     let mut tree: u8 = 0;
     'trees: loop {
         match tree_of(question, tree, machine, source) {
             Ok(()) => {}
-            Err(stop) => return Err(stop),
+            Err(halt) => return Err(halt),
         }
         if tree >= question.plies {
             return Ok(());

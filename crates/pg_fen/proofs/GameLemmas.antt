@@ -15,7 +15,9 @@ use Rattle.pg_board.specs.Squares.{rank}
 use Rattle.pg_board.specs.Placement.{Placement}
 use Rattle.pg_position.specs.declared.rights.Rights.{Rights}
 use Rattle.pg_position.specs.declared.state.State.{State}
-use Rattle.pg_position.specs.Position.{passed_rank, IsPassed, IsPosition}
+use Rattle.pg_position.specs.declared.refusals.BadPosition.{BadPosition}
+use Rattle.pg_position.specs.declared.refusals.BadPosition.TheVariants.{Kings, PawnRank, Rights as BadRights, EnPassant, Check}
+use Rattle.pg_position.specs.Position.{passed_rank, IsPassed, IsPosition, IsFirstBroken}
 use Rattle.pg_fen.specs.declared.fault.FenFault.{FenFault}
 use Rattle.pg_fen.specs.declared.details.Details.{Details}
 use Rattle.pg_fen.specs.declared.games.FenGame.{FenGame}
@@ -24,7 +26,7 @@ use Rattle.pg_fen.specs.Fields.{is_word_byte, fields}
 use Rattle.pg_fen.specs.Grammar.{IsSideText, AreRightsText, IsPassedText, IsNumberText, AreDetailTexts, IsGameText}
 use Rattle.pg_fen.specs.PlacementText.{placement_text, read_placement}
 use Rattle.pg_fen.specs.DetailText.{details_of}
-use Rattle.pg_fen.specs.PositionText.{both_read, game_parts, game_of}
+use Rattle.pg_fen.specs.PositionText.{both_read, game_parts, game_of, IsGameOf}
 use Rattle.pg_fen.specs.PositionWriting.{side_text, rights_text, passed_text, parts_in, position_text}
 use Rattle.pg_fen.proofs.DetailLemmas.{details_read, details_spelled}
 use Rattle.pg_fen.proofs.DiagramLemmas.{diagram_of_state}
@@ -218,3 +220,15 @@ module _ (text : List ℕ) (g : GameParts) where
 
   pub game_grammar : (game_parts (fields text) ≡ Ok g) ↔ IsGameText text g
   game_grammar = (λ e. game_by (fields text) refl e, game_spelled)
+
+-- ---- what is written is read as this game and not otherwise
+not_broken : (p : State) → IsPosition p → (bad : BadPosition) → IsFirstBroken p bad → ⊥
+not_broken p pos Kings b = b pos.kings
+not_broken p pos PawnRank b = b.1 pos.pawns
+not_broken p pos BadRights b = b.2 pos.homes
+not_broken p pos EnPassant b = b.3 pos.passing
+not_broken p pos Check b = pos.safe b.4
+
+pub game_back : (g : FenGame) → IsPosition g.position → (answer : Result FenGame FenFault) → IsGameOf (parts_in g) answer → answer ≡ Ok g
+game_back g pos (Ok h) (e, _) = ap Ok e
+game_back g pos (Err e) (bad, _, broken) = absurd (not_broken g.position pos bad broken)

@@ -1,6 +1,7 @@
 //! Positions as text, with the two numbers that a text gives beside them.
-ghost use Rattle.std.specs.Prelude.{◌≡◌, ◌<◌, Ok};
+ghost use Rattle.std.specs.Prelude.{◌≡◌, ◌<◌, Result, Ok};
 ghost use Rattle.pg_position.specs.Position.{IsPosition};
+ghost use Rattle.pg_fen.specs.declared.fault.FenFault.{FenFault};
 ghost use Rattle.pg_fen.specs.declared.games.FenGame.{FenGame};
 ghost use Rattle.pg_fen.specs.PositionWriting.{parts_in, position_text};
 ghost use Rattle.pg_fen.specs.Fields.{fields};
@@ -98,10 +99,11 @@ fn details_in(position: &Position, half: u16, full: u16) -> Details
 
 /// The text of a position with its two move numbers: six fields, one space between two of them,
 /// rights in the order `KQkq`, numbers with no leading zeros. The passed square is written where the
-/// position has one. The text reads as this game, and no other game is written so.
+/// position has one. `read_position` answers this game of the text, and no other game is written so.
 pub fn write_position(game: &FenGame) -> ArrayString<93>
     ensures text { result.bytes ≡ position_text game.now }
     ensures read_again { game_parts (fields result.bytes) ≡ Ok (parts_in game.now) }
+    ensures read_back { (answer : Result FenGame FenFault) → IsGameRead (game_parts (fields result.bytes)) answer → answer ≡ Ok game.now }
     ensures alone { (other : FenGame) → IsPosition other.position → other.half < 65536 → other.full < 65536 → position_text other ≡ result.bytes → other ≡ game.now }
 {
     let mut text = ArrayString::new();

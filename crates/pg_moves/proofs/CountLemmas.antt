@@ -258,7 +258,7 @@ module _ (p : State) (k j : ℕ) (ms : List Move) (pos : IsPosition p) (list : I
       let same : follow p j (get_or ms i m) ≡ follow p j m = ap (follow p j) at in
       let all : sum_by (follow p j) ms ≡ number_of k p = whole in
       (few, (number_of k p, number_is k p pos, omega arith))
-  fault_up Memory i m q low at legal h few = few
+  fault_up Memory i m q low at legal h few = (let two : 2 ≤ j = h.0 in omega arith, few)
 
   -- the sum goes on
   pub sum_on : (i : ℕ) (m : Move) (total n sum : ℕ) → i < length ms → get_or ms i m ≡ m → total ≡ sum_by (follow p j) (take i ms) → n ≡ follow p j m → sum ≡ total + n → sum ≡ sum_by (follow p j) (take (i + 1) ms)

@@ -12,8 +12,8 @@ use Rattle.pg_board.specs.declared.man.Kind.TheVariants.{Pawn, Queen, King}
 use Rattle.pg_board.specs.Squares.{rank}
 use Rattle.pg_board.specs.Tally.{one, count_below, total-none, total-suc}
 use Rattle.pg_board.specs.Bits.{has, has-none, ones-count}
-use Rattle.pg_board.specs.Men.{king_of, other, is_of}
-use Rattle.pg_board.specs.Placement.{Placement, get, get_on, without, IsFirst}
+use Rattle.pg_board.specs.Men.{king_of, other}
+use Rattle.pg_board.specs.Placement.{Placement, get_on, without, IsFirst}
 use Rattle.pg_position.specs.declared.state.State.{State}
 use Rattle.pg_position.specs.declared.moves.Move.{Move}
 use Rattle.pg_position.specs.Geometry.{IsForward, InPattern}
@@ -30,7 +30,7 @@ use Rattle.pg_moves.specs.Counts.{IsGameCount}
 use Rattle.pg_moves.proofs.PlaceLemmas.{promotion_low}
 use Rattle.pg_moves.proofs.ListLemmas.{on_board, list_start, list_skip, list_push, list_whole, moves_of, move_list_is}
 use Rattle.pg_moves.proofs.TargetLemmas.{Goals, legal_goals}
-use Rattle.pg_moves.proofs.SearchLemmas.{leap_last, none_ranks, own_gap, promotes}
+use Rattle.pg_moves.proofs.SearchLemmas.{leap_last, none_ranks, promotes}
 use Rattle.pg_moves.proofs.ShelterLemmas.{sure_legal, unseen_lifted}
 use Rattle.pg_moves.proofs.PlayLemmas.{play_of}
 use Rattle.pg_moves.proofs.CountLemmas.{games_of, number_of, number_more, number_is}
@@ -60,6 +60,46 @@ count_all p n pos (ms, list, e) =
     let same : number_of 1 p ≡ n = number_more 0 p ∙ ones (moves_of p) (λ m. number_of 0 (play_of p m)) (λ m. refl) ∙ ap length (sym whole) ∙ e in
     subst (λ (k : ℕ). IsGameCount p 1 k) same (number_is 1 p pos)
 
+-- ---- a man whose legal moves go to the squares of a set, without promotion
+module _ (p : State) (r set : ℕ) (goes : (s : ℕ) → s < 64 → has set s ≡ true → IsLegal p (plain_move r s)) (inside : (m : Move) → IsLegal p m → m.from ≡ r → (m.to < 64) × (has set m.to ≡ true)) (plain : (m : Move) → IsLegal p m → m.from ≡ r → promotion_rank m.promotion ≡ 0) where
+  -- no move to the square s, from promotion n on
+  exact_none : (s n : ℕ) → s < 64 → n ≤ 7 → (has set s ≡ false) ⊎ (n ≢ 0) → NoneFrom p (place_of r s n) (place_of r s 7)
+  exact_none s n on few why = none_ranks p r s n 7 on (omega arith) (λ m l f t a b. elim why [
+    | inl e ↦ (
+        let yes_there : has set m.to ≡ true = (inside m l f).1 in
+        let moved : has set m.to ≡ has set s = ap (has set) t in
+        cc)
+    | inr e ↦ (let none : promotion_rank m.promotion ≡ 0 = plain m l f in omega arith)
+  ])
+
+  exact_step : (t n : ℕ) (b : Bool) → t < 64 → has set t ≡ b → IsCountBelow p (place_of r t 0) n → IsCountBelow p (place_of r (suc t) 0) (n + one b)
+  exact_step t n true on e count =
+      let pushed : IsCountBelow p (place_of r t 0 + 1) (n + 1) = count_push p n (place_of r t 0) (plain_move r t) count (goes t on e) refl in
+      let none : NoneFrom p (place_of r t 1) (place_of r t 7) = exact_none t 1 on (omega arith) (inr (omega arith)) in
+      let at : place_of r t 1 ≡ place_of r t 0 + 1 = omega arith in
+      let to : place_of r t 7 ≡ place_of r (suc t) 0 = omega arith in
+      count_skip p (place_of r t 0 + 1) (place_of r (suc t) 0) (n + 1) pushed (omega arith) (subst (λ x. NoneFrom p x (place_of r (suc t) 0)) at (subst (λ x. NoneFrom p (place_of r t 1) x) to none))
+  exact_step t n false on e count =
+      let none : NoneFrom p (place_of r t 0) (place_of r t 7) = exact_none t 0 on (omega arith) (inl e) in
+      let to : place_of r t 7 ≡ place_of r (suc t) 0 = omega arith in
+      let same : n ≡ n + 0 = omega arith in
+      subst (λ x. IsCountBelow p (place_of r (suc t) 0) x) same (count_skip p (place_of r t 0) (place_of r (suc t) 0) n count (omega arith) (subst (λ x. NoneFrom p (place_of r t 0) x) to none))
+
+  exact_to : (t n : ℕ) → t ≤ 64 → IsCountBelow p (place_of r 0 0) n → IsCountBelow p (place_of r t 0) (n + count_below (has set) t)
+  exact_to zero n le count = let same : n ≡ n + count_below (has set) 0 = omega (arith, total-none (λ q. one (has set q))) in subst (λ x. IsCountBelow p (place_of r 0 0) x) same count
+  exact_to (suc t) n le count =
+      let before : IsCountBelow p (place_of r t 0) (n + count_below (has set) t) = exact_to t n (omega arith) count in
+      let same : n + count_below (has set) t + one (has set t) ≡ n + count_below (has set) (suc t) = omega (arith, total-suc (λ q. one (has set q)) t) in
+      subst (λ x. IsCountBelow p (place_of r (suc t) 0) x) same (exact_step t (n + count_below (has set) t) (has set t) (omega arith) refl before)
+
+  pub exact_adds : set < 2 ^ 64 → Adds p (place_of r 0 0) (place_of (r + 1) 0 0) (count_ones set)
+  unfolding Adds
+  exact_adds fits n count =
+      let all : IsCountBelow p (place_of r 64 0) (n + count_below (has set) 64) = exact_to 64 n (omega arith) count in
+      let at : place_of r 64 0 ≡ place_of (r + 1) 0 0 = omega arith in
+      let size : count_below (has set) 64 ≡ count_ones set = sym (ones-count 64 set fits) in
+      subst (λ x. IsCountBelow p x (n + count_ones set)) at (subst (λ x. IsCountBelow p (place_of r 64 0) (n + x)) size all)
+
 -- ---- a man that is free and ordinary
 module _ (p : State) (k : Kind) (r set : ℕ) (low : r < 64) (here : Stands p.board p.side k r) (free : IsFree p k r) (plain : IsOrdinary p k r) (is : IsSetOf set (Advances p.board p.side k r)) where
   -- its legal moves are its advances
@@ -88,44 +128,8 @@ module _ (p : State) (k : Kind) (r set : ℕ) (low : r < 64) (here : Stands p.bo
   unfolding IsFree IsOrdinary
   free_legal s on h = let a : Advances p.board p.side k r s = (is s on).0 h in free.1 s on a ((plain s on).0 a)
 
-  -- no move to the square s, from promotion n on
-  free_none : (s n : ℕ) → s < 64 → n ≤ 7 → (has set s ≡ false) ⊎ (n ≢ 0) → NoneFrom p (place_of r s n) (place_of r s 7)
-  free_none s n on few why = none_ranks p r s n 7 on (omega arith) (λ m l f t a b. elim why [
-    | inl e ↦ (
-        let g : (m.to < 64) × Advances p.board p.side k r m.to = free_forth m l f in
-        let yes_there : has set m.to ≡ true = (is m.to g.0).1 g.1 in
-        let moved : has set m.to ≡ has set s = ap (has set) t in
-        cc)
-    | inr e ↦ (let none : promotion_rank m.promotion ≡ 0 = unpromoted m l f in omega arith)
-  ])
-
-  free_step : (t n : ℕ) (b : Bool) → t < 64 → has set t ≡ b → IsCountBelow p (place_of r t 0) n → IsCountBelow p (place_of r (suc t) 0) (n + one b)
-  free_step t n true on e count =
-      let pushed : IsCountBelow p (place_of r t 0 + 1) (n + 1) = count_push p n (place_of r t 0) (plain_move r t) count (free_legal t on e) refl in
-      let none : NoneFrom p (place_of r t 1) (place_of r t 7) = free_none t 1 on (omega arith) (inr (omega arith)) in
-      let at : place_of r t 1 ≡ place_of r t 0 + 1 = omega arith in
-      let to : place_of r t 7 ≡ place_of r (suc t) 0 = omega arith in
-      count_skip p (place_of r t 0 + 1) (place_of r (suc t) 0) (n + 1) pushed (omega arith) (subst (λ x. NoneFrom p x (place_of r (suc t) 0)) at (subst (λ x. NoneFrom p (place_of r t 1) x) to none))
-  free_step t n false on e count =
-      let none : NoneFrom p (place_of r t 0) (place_of r t 7) = free_none t 0 on (omega arith) (inl e) in
-      let to : place_of r t 7 ≡ place_of r (suc t) 0 = omega arith in
-      let same : n ≡ n + 0 = omega arith in
-      subst (λ x. IsCountBelow p (place_of r (suc t) 0) x) same (count_skip p (place_of r t 0) (place_of r (suc t) 0) n count (omega arith) (subst (λ x. NoneFrom p (place_of r t 0) x) to none))
-
-  free_to : (t n : ℕ) → t ≤ 64 → IsCountBelow p (place_of r 0 0) n → IsCountBelow p (place_of r t 0) (n + count_below (has set) t)
-  free_to zero n le count = let same : n ≡ n + count_below (has set) 0 = omega (arith, total-none (λ q. one (has set q))) in subst (λ x. IsCountBelow p (place_of r 0 0) x) same count
-  free_to (suc t) n le count =
-      let before : IsCountBelow p (place_of r t 0) (n + count_below (has set) t) = free_to t n (omega arith) count in
-      let same : n + count_below (has set) t + one (has set t) ≡ n + count_below (has set) (suc t) = omega (arith, total-suc (λ q. one (has set q)) t) in
-      subst (λ x. IsCountBelow p (place_of r (suc t) 0) x) same (free_step t (n + count_below (has set) t) (has set t) (omega arith) refl before)
-
   pub free_adds : set < 2 ^ 64 → Adds p (place_of r 0 0) (place_of (r + 1) 0 0) (count_ones set)
-  unfolding Adds
-  free_adds fits n count =
-      let all : IsCountBelow p (place_of r 64 0) (n + count_below (has set) 64) = free_to 64 n (omega arith) count in
-      let at : place_of r 64 0 ≡ place_of (r + 1) 0 0 = omega arith in
-      let size : count_below (has set) 64 ≡ count_ones set = sym (ones-count 64 set fits) in
-      subst (λ x. IsCountBelow p x (n + count_ones set)) at (subst (λ x. IsCountBelow p (place_of r 64 0) (n + x)) size all)
+  free_adds = exact_adds p r set free_legal (λ m l f. let g : (m.to < 64) × Advances p.board p.side k r m.to = free_forth m l f in (g.0, (is m.to g.0).1 g.1)) unpromoted
 
 -- ---- which men are free and ordinary
 pub free_none_off : (p : State) (n : ℕ) → n ≡ 2 ^ 64 - 1 → FreeOff p n
@@ -141,7 +145,7 @@ only_king b c h (k, king) first =
     let same : h ≡ k = king.2 h (get_on b h (king_of c) first.found) first.found in
     subst (λ x. IsOnlyKing b c x) (sym same) king
 
-one_king : (p : State) → IsPosition p → HasOneKing p.board p.side
+pub one_king : (p : State) → IsPosition p → HasOneKing p.board p.side
 one_king p pos = go p.side
   where
     go : (c : Color) → HasOneKing p.board c
@@ -150,7 +154,7 @@ one_king p pos = go p.side
 
 module _ (p : State) (b : Placement) (c : Color) (h : ℕ) (pos : IsPosition p) (eb : b ≡ p.board) (ec : c ≡ p.side) (first : IsFirst b (king_of c) h) where
   -- the king of the side to move
-  the_king : IsOnlyKing p.board p.side h
+  pub the_king : IsOnlyKing p.board p.side h
   the_king = only_king p.board p.side h (one_king p pos) (subst (λ (d : Placement). IsFirst d (king_of p.side) h) eb (subst (λ (d : Color). IsFirst b (king_of d) h) ec first))
 
   pub free_lifted : (k : Kind) (r : ℕ) → r < 64 → Stands p.board p.side k r → k ≢ King → ¬ Attacks (without b r) (other c) h → IsFree p k r
@@ -222,24 +226,6 @@ walk_far p r to n m first =
 pub walk_end : (p : State) (r to n t : ℕ) → to < 64 → n ≤ 7 → Adds p (place_of r 0 0) (place_of r to n) t → NoneFrom p (place_of r to n) (place_of (r + 1) 0 0) → Adds p (place_of r 0 0) (place_of (r + 1) 0 0) t
 unfolding Adds
 walk_end p r to n t far few adds none c count = count_skip p (place_of r to n) (place_of (r + 1) 0 0) (c + t) (adds c count) (omega arith) none
-
--- over the squares of the side's own men
-pub square_step : (p : State) (set at s t n k : ℕ) → ((q : ℕ) → q < 64 → has set q ≡ is_of p.side (get p.board q)) → IsCountBelow p (place_of at 0 0) t → IsFirstFrom set at s → Adds p (place_of s 0 0) (place_of (s + 1) 0 0) n → k ≡ s → IsCountBelow p (place_of (k + 1) 0 0) (t + n)
-unfolding Adds
-square_step p set at s t n k own count first adds e =
-    let up : at ≤ s = first.reached in
-    let on : s < 64 = first.on_board in
-    let gap : NoneFrom p (place_of at 0 0) (place_of s 0 0) = own_gap p set at s own up (omega arith) first.before in
-    let there : IsCountBelow p (place_of (s + 1) 0 0) (t + n) = adds t (count_skip p (place_of at 0 0) (place_of s 0 0) t count (omega arith) gap) in
-    let same : place_of (s + 1) 0 0 ≡ place_of (k + 1) 0 0 = omega arith in
-    subst (λ x. IsCountBelow p x (t + n)) same there
-
-pub square_end : (p : State) (set at t : ℕ) → IsPosition p → ((q : ℕ) → q < 64 → has set q ≡ is_of p.side (get p.board q)) → at ≤ 64 → IsCountBelow p (place_of at 0 0) t → HasNoneFrom set at → IsGameCount p 1 t
-square_end p set at t pos own le count none =
-    let gap : NoneFrom p (place_of at 0 0) (place_of 64 0 0) = own_gap p set at 64 own le (omega arith) none in
-    let all : IsCountBelow p (place_of 64 0 0) t = count_skip p (place_of at 0 0) (place_of 64 0 0) t count (omega arith) gap in
-    let same : place_of 64 0 0 ≡ 28672 = omega arith in
-    count_all p t pos (subst (λ x. IsCountBelow p x t) same all)
 
 pub advances_at : (p : State) (k : Kind) (r set : ℕ) (b : Placement) (c : Color) → b ≡ p.board → c ≡ p.side → IsSetOf set (Advances b c k r) → IsSetOf set (Advances p.board p.side k r)
 advances_at p k r set b c eb ec is = subst (λ (d : Placement). IsSetOf set (Advances d p.side k r)) eb (subst (λ (d : Color). IsSetOf set (Advances b d k r)) ec is)

@@ -5,9 +5,16 @@ pub mod PlaceLemmas
 pub mod ListLemmas
 pub mod SearchLemmas
 pub mod NextLemmas
+pub mod LeftLemmas
 pub mod PlayLemmas
 pub mod LineLemmas
 pub mod ShelterLemmas
 pub mod LeafLemmas
 pub mod GameLemmas
 pub mod CountLemmas
+pub mod BareLemmas
+pub mod KingLemmas
+pub mod ShiftLemmas
+pub mod QuietLemmas
+pub mod CastleLemmas
+pub mod StepsLemmas

@@ -107,7 +107,7 @@ goes_piece b c Rook r s n = (λ h. h, λ h. h)
 goes_piece b c Queen r s n = (λ h. h, λ h. h)
 goes_piece b c King r s n = (λ h. h, λ h. h)
 
-not_own : (b : Placement) (c : Color) (k : Kind) (r s : ℕ) → Strides b c k r s → ¬ IsOwn b c s
+pub not_own : (b : Placement) (c : Color) (k : Kind) (r s : ℕ) → Strides b c k r s → ¬ IsOwn b c s
 unfolding Strides IsOwn IsEnemy
 not_own b c k r s (inl h) (j, own) = let e : get b s ≡ None = h.0 in let f : get b s ≡ Some (man c j) = own in absurd (cc)
 not_own b c k r s (inr h) (j, own) = not_other c (same_side own h.0.1)

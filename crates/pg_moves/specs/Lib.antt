@@ -1,4 +1,6 @@
 pub mod Moves
 pub mod Places
 pub mod Targets
+pub mod Pawns
+pub mod Left
 pub mod Counts

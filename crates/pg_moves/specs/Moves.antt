@@ -1,29 +1,12 @@
--- The canonical order of moves, the list of the legal ones, and the next of them.
-use Rattle.std.specs.Prelude.{◌≡◌, ◌↔◌, ℕ, ◌⊎◌, Option, Some, None, List, [], ◌∷◌}
-use Rattle.std.specs.declared.cmp.Ordering.{Ordering}
+-- The list of the legal moves in canonical order, and the next of them.
+use Rattle.std.specs.Prelude.{◌≡◌, ◌↔◌, ◌⊎◌, Option, Some, None, List, [], ◌∷◌}
 use Rattle.std.specs.declared.cmp.Ordering.TheVariants.{Less}
-use Rattle.std.specs.Ordering.{nat_cmp, on, then_cmp}
 use Rattle.std.specs.List.{Contains}
 use Rattle.std.specs.List.Sorted.{IsStrictlySortedBy}
-use Rattle.pg_board.specs.declared.man.Kind.{Kind}
-use Rattle.pg_board.specs.declared.man.Kind.TheVariants.{Pawn, Knight, Bishop, Rook, Queen, King}
 use Rattle.pg_position.specs.declared.state.State.{State}
 use Rattle.pg_position.specs.declared.moves.Move.{Move}
 use Rattle.pg_position.specs.Step.{Legal}
-
--- the place of a promotion in the order none, pawn, knight, bishop, rook, queen, king
-abbrev pub promotion_rank : Option Kind → ℕ
-promotion_rank None = 0
-promotion_rank (Some Pawn) = 1
-promotion_rank (Some Knight) = 2
-promotion_rank (Some Bishop) = 3
-promotion_rank (Some Rook) = 4
-promotion_rank (Some Queen) = 5
-promotion_rank (Some King) = 6
-
--- the canonical order: by the square from, then the square to, then the promotion
-abbrev pub move_cmp : Move → Move → Ordering
-move_cmp = then_cmp (on (λ m. m.from) nat_cmp) (then_cmp (on (λ m. m.to) nat_cmp) (on (λ m. promotion_rank m.promotion) nat_cmp))
+pub use Rattle.pg_position.specs.Order.{promotion_rank, move_cmp}
 
 -- the move a comes before the move b
 abbrev pub IsBefore : Move → Move → Type 0

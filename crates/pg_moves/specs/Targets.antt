@@ -1,8 +1,10 @@
 -- Where a man of the side to move may go by its pattern, its king's safety apart.
-use Rattle.std.specs.Prelude.{◌≡◌, ◌≢◌, ℕ, ◌<◌, ◌⊎◌, Some, None, true, false}
+use Rattle.std.specs.Prelude.{◌≡◌, ◌≢◌, ℕ, ◌<◌, ◌⊎◌, Option, Some, None, true, false, cond}
 use Rattle.pg_board.specs.declared.man.Color.{Color}
 use Rattle.pg_board.specs.declared.man.Kind.{Kind}
 use Rattle.pg_board.specs.declared.man.Kind.TheVariants.{Pawn, King}
+use Rattle.pg_board.specs.declared.man.Man.{Man}
+use Rattle.pg_board.specs.Men.{is_of}
 use Rattle.pg_board.specs.Squares.{rank}
 use Rattle.pg_board.specs.Bits.{has}
 use Rattle.pg_board.specs.Placement.{Placement}
@@ -45,6 +47,10 @@ unfoldable pub Covers : State → ℕ → ℕ → Type 0
 Covers p r set = (m : Move) → IsLegal p m → m.from ≡ r → has set m.to ≡ true
 
 -- ---- men whose moves need no trial
+-- a man of the colour, else none
+abbrev pub only : Color → Option Man → Option Man
+only c o = cond (is_of c o) o None
+
 -- the move without promotion
 abbrev pub plain_move : ℕ → ℕ → Move
 plain_move r s = record { from = r; to = s; promotion = None }

@@ -24,10 +24,7 @@ fn played(position: &Position, m: &Move) -> Position
     requires { IsLegal position.now m.now }
     ensures { Legal position.now m.now result }
 {
-    match position.play(*m) {
-        Ok(next) => next,
-        Err(_) => unreachable!(),
-    }
+    position.after(m)
 }
 
 // The games of so many plies, 8 at most.

@@ -1,5 +1,6 @@
-ghost use Rattle.std.specs.Prelude.{◌≡◌, MatchOption, IfOk};
-ghost use Rattle.pg_moves.specs.Moves.{IsMoveList, IsNext, IsLast};
+ghost use Rattle.std.specs.Prelude.{◌≡◌, MatchOption, IfOk, IfErr};
+ghost use Rattle.pg_moves.specs.Moves.{IsLegal, IsMoveList, IsNext, IsLast};
+ghost use Rattle.pg_position.specs.declared.moves.Move.{Move};
 
 use crate::places::rank_of;
 use crate::search::first_move;
@@ -27,9 +28,13 @@ pub fn next_legal(position: &Position, after: Option<Move>) -> Option<Move>
 }
 
 /// The legal moves of a position, each once, ordered by `from`, then `to`, then promotion: none
-/// before knight, bishop, rook and queen. Fails where memory does.
+/// before knight, bishop, rook and queen.
+///
+/// # Errors
+/// `AllocError` where memory is refused: not where there is no legal move.
 pub fn legal_moves(alloc: Global, position: &Position) -> Result<Vec<Move>, AllocError>
-    ensures { IfOk result (λ v. IsMoveList position.now v.items) }
+    ensures ok { IfOk result (λ v. IsMoveList position.now v.items) }
+    ensures err { IfErr result (λ _. (m : Move) × IsLegal position.now m) }
 {
     let tried = tried(position);
     let mut moves = Vec::new(alloc);

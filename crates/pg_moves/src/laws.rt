@@ -25,6 +25,7 @@ pub fn moves_and_play_are_functions()
 /// sum over the move list of the games after each move.
 pub fn one_game_count()
     ensures one { (p : State) (k m n : ℕ) → IsGameCount p k m → IsGameCount p k n → m ≡ n }
+    ensures some { (p : State) (k : ℕ) → IsPosition p → (n : ℕ) × IsGameCount p k n }
     ensures none { (p : State) → IsGameCount p 0 1 }
     ensures more { (p : State) (k : ℕ) (ms : List Move) (after : Move → State) (games : Move → ℕ)
         → IsPosition p → IsMoveList p ms

@@ -5,9 +5,11 @@ ghost use Rattle.pg_moves.specs.Places.{place_of, Adds};
 ghost use Rattle.pg_moves.specs.Targets.{IsOwn, FreeOff};
 ghost use Rattle.pg_moves.specs.Counts.{IsGameCount};
 
+use crate::kings::king_targets;
+use crate::pawns::{pawn_ways, quiet_pawns};
 use crate::places::rank_of;
 use crate::search::first_of_man;
-use crate::targets::advances;
+use crate::targets::{advances, targets};
 use crate::trials::{must_try, tried};
 use pg_board::{Board, Kind, Square};
 use pg_position::{Position, first_from};
@@ -18,10 +20,11 @@ fn walked(position: &Position, kind: Kind, from: Square) -> u64
     ensures count { Adds position.now (place_of from 0 0) (place_of (from + 1) 0 0) result }
     ensures bound { result ≤ 448 }
 {
+    let set = targets(position, kind, from);
     let mut total = 0;
     let mut to = 0;
     let mut rank = 0;
-    while let Some(m) = first_of_man(position, kind, from, to, rank) {
+    while let Some(m) = first_of_man(position, kind, from, set, to, rank) {
         to = m.to.index();
         rank = rank_of(m.promotion) + 1;
         total += 1;
@@ -38,10 +41,15 @@ fn count_of_man(position: &Position, board: &Board, tried: u64, kind: Kind, from
     ensures bound { result ≤ 448 }
 {
     from.index();
-    if must_try(position, tried, kind, from) {
-        walked(position, kind, from)
-    } else {
-        advances(board, position.side(), kind, from).count_ones() as u64
+    match kind {
+        Kind::King => king_targets(position, from).count_ones() as u64,
+        _ => {
+            if must_try(position, tried, kind, from) {
+                walked(position, kind, from)
+            } else {
+                advances(board, position.side(), kind, from).count_ones() as u64
+            }
+        }
     }
 }
 
@@ -60,18 +68,22 @@ fn count_of_square(position: &Position, board: &Board, tried: u64, from: Square)
     }
 }
 
-// How many legal moves there are.
+// How many legal moves there are: those of the pawns that need no trial all at once, then man by man.
 pub(crate) fn count_moves(position: &Position) -> u64
     ensures { IsGameCount position.now 1 result }
 {
     let board = position.board();
+    let side = position.side();
     let tried = tried(position);
-    let own = board.squares_of_color(position.side());
+    let own = board.squares_of_color(side);
+    let pawns = quiet_pawns(position, &board, tried);
+    let ways = pawn_ways(&board, side, pawns);
+    let rest = own & !pawns;
     let mut total = 0;
     let mut at = 0;
-    while let Some(square) = first_from(own, at) {
+    while let Some(square) = first_from(rest, at) {
         total += count_of_square(position, &board, tried, square);
         at = square.index() + 1;
     }
-    total
+    total + ways.count()
 }

@@ -4,8 +4,11 @@
 mod counting;
 mod fault;
 mod generate;
+mod kings;
 mod laws;
 mod leaves;
+mod left;
+mod pawns;
 mod places;
 mod search;
 mod targets;
@@ -15,6 +18,7 @@ pub use counting::count;
 pub use fault::CountFault;
 pub use generate::{legal_moves, next_legal};
 pub use laws::{moves_and_play_are_functions, next_in_list, one_game_count, one_move_list};
+pub use left::LegalMoves;
 
 #[cfg(test)]
 mod tests;

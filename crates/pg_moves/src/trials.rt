@@ -1,22 +1,87 @@
 //! Which men's moves are to be tried, since they may leave their king attacked.
-ghost use Rattle.std.specs.Prelude.{◌≡◌, ◌↔◌, IsTrue, IsFalse};
-ghost use Rattle.pg_board.specs.Placement.{without};
+ghost use Rattle.std.specs.Prelude.{◌≡◌, ◌↔◌, ℕ, ◌<◌, IsTrue, IsFalse};
+ghost use Rattle.pg_board.specs.Bits.{has};
+ghost use Rattle.pg_board.specs.Men.{is_of, other};
+ghost use Rattle.pg_board.specs.Placement.{get, without};
 ghost use Rattle.pg_position.specs.Attack.{Attacks};
 ghost use Rattle.pg_position.specs.Position.{Stands};
-ghost use Rattle.pg_moves.specs.Targets.{FreeOff, IsFree, IsOrdinary};
+ghost use Rattle.pg_moves.specs.Targets.{FreeOff, IsFree, IsOrdinary, IsOwn, only};
 
 use crate::targets::{passes, single};
-use pg_board::{Board, Color, Kind, Man, Square, contains};
+use pg_board::{Board, Color, Kind, Man, Sets, Square, contains};
 use pg_position::{Position, attacked, reach};
 
-// The squares of the men whose moves are to be tried: all in check, else the king's and those that a
-// queen would see from there.
+// The squares of a colour where only the men of one colour are left.
+fn left_of(board: &Board, color: Color, side: Color) -> u64
+    ensures { (q : ℕ) → q < 64 → has result q ≡ is_of side (only color (get board.now q)) }
+{
+    match color {
+        Color::White => match side {
+            Color::White => board.squares_of_color(Color::White),
+            Color::Black => 0,
+        },
+        Color::Black => match side {
+            Color::White => 0,
+            Color::Black => board.squares_of_color(Color::Black),
+        },
+    }
+}
+
+// The men of the colour alone.
+fn men_of(board: &Board, color: Color) -> Board
+    ensures { (q : ℕ) → q < 64 → get result q ≡ only color (get board.now q) }
+{
+    let white = left_of(board, color, Color::White);
+    let black = left_of(board, color, Color::Black);
+    let pawns = board.squares_of(Man {
+        color,
+        kind: Kind::Pawn,
+    });
+    let knights = board.squares_of(Man {
+        color,
+        kind: Kind::Knight,
+    });
+    let bishops = board.squares_of(Man {
+        color,
+        kind: Kind::Bishop,
+    });
+    let rooks = board.squares_of(Man {
+        color,
+        kind: Kind::Rook,
+    });
+    let queens = board.squares_of(Man {
+        color,
+        kind: Kind::Queen,
+    });
+    let kings = board.squares_of(Man {
+        color,
+        kind: Kind::King,
+    });
+    Board::of_sets(Sets {
+        pawns,
+        knights,
+        bishops,
+        rooks,
+        queens,
+        kings,
+        white,
+        black,
+    })
+}
+
+// Whether the other colour would attack the square with none of the colour's men on the board.
+fn attacked_bare(board: &Board, square: Square, color: Color) -> bool
+    ensures { IsFalse result → (r : ℕ) → IsOwn board.now color r → ¬ Attacks (without board.now r) (other color) square }
+{
+    attacked(&men_of(board, color.other()), square, color.other())
+}
+
+// The squares of the men whose moves are to be tried: the king's alone where he would not be attacked
+// with none of his men on the board. Else all in check, and else the king's and those that a queen
+// would see from there.
 pub(crate) fn tried(position: &Position) -> u64
     ensures { FreeOff position.now result }
 {
-    if position.in_check() {
-        return u64::MAX;
-    }
     let side = position.side();
     let board = position.board();
     let queen = Man {
@@ -24,7 +89,15 @@ pub(crate) fn tried(position: &Position) -> u64
         kind: Kind::Queen,
     };
     match board.king(side) {
-        Some(king) => reach(&board, queen, king) | single(king),
+        Some(king) => {
+            if !attacked_bare(&board, king, side) {
+                single(king)
+            } else if position.in_check() {
+                u64::MAX
+            } else {
+                reach(&board, queen, king) | single(king)
+            }
+        }
         None => u64::MAX,
     }
 }
@@ -65,7 +138,7 @@ fn shields(position: &Position, kind: Kind, from: Square) -> bool
 }
 
 // Whether the colour would attack `square` with the man on `from` taken off the board.
-fn attacked_without(board: &Board, from: Square, square: Square, by: Color) -> bool
+pub(crate) fn attacked_without(board: &Board, from: Square, square: Square, by: Color) -> bool
     ensures { IsTrue result ↔ Attacks (without board.now from) by square }
 {
     let mut rest = *board;

@@ -1,3 +1,6 @@
 pub mod PawnFiles
 pub mod PawnFilesLaw
 pub mod Decided
+pub mod PawnPrices
+pub mod PawnPricesLaw
+pub mod PriceTests

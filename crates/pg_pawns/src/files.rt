@@ -46,7 +46,7 @@ pub fn right_pawns(board: &Board, color: Color, n: u8) -> u8
     (board.squares_of(pawn(color)) & RIGHT_FILES[n as usize]).count_ones() as u8
 }
 
-fn pawn(color: Color) -> Man
+pub fn pawn(color: Color) -> Man
     ensures { result ≡ man color Kind.Pawn }
 {
     Man {

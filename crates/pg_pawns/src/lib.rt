@@ -2,10 +2,10 @@
 #![tactic(auto)]
 
 mod files;
-mod laws;
+mod prices;
 mod shifts;
 
-pub use laws::test_is_exact;
+pub use prices::prices_exclude;
 pub use shifts::{PawnFiles, shift_need};
 
 #[cfg(test)]

@@ -75,11 +75,16 @@ impl Bound for PawnFiles {
 
     ghost sound = { λ b d p k valid h. files_barren d p k valid ((pawn_files_test_tells d p).0 h) };
 
-    fn code(&self) -> u8 {
+    fn code(&self) -> u8
+        ensures { result ≡ 3 }
+    {
         3
     }
 
-    fn excludes(&self, diagram: &Diagram, position: &Position, left: u8) -> bool {
+    fn excludes(&self, diagram: &Diagram, position: &Position, left: u8) -> bool
+        ensures fixed { result ≡ pawn_files_test diagram.now position.now }
+        ensures exact { IsTrue result ↔ PawnFilesHolds diagram.now position.now }
+    {
         pawn_files_hold(diagram, position)
     }
 }

@@ -1,8 +1,13 @@
 use super::*;
 use pg_board::Color;
 use pg_captures::{Bound, Captures, Promotions};
-use pg_fen::Diagram;
+use pg_fen::{Diagram, read_position};
 use pg_position::Position;
+use std::process::Abort;
+
+fn position(rt: &impl Abort, text: &str) -> Position {
+    read_position(text).expect(rt, text).position
+}
 
 #[test]
 fn a_pawn_from_the_e_file_on_the_d_file(rt: HostRuntime) {
@@ -38,4 +43,98 @@ fn two_files_of_one_pawn(rt: HostRuntime) {
     let array = Position::array();
     assert_eq!(rt; shift_need(Color::White, &diagram, &array), 2);
     assert!(rt; PawnFiles.excludes(&diagram, &array, 40));
+}
+
+/// The array against a pawn that came from the e-file to d3: one capture, and White owes none.
+#[test]
+fn prices_of_the_e_pawn(rt: HostRuntime) {
+    let text = "rnbqkbnr/pppppppp/8/8/8/3P4/PPPP1PPP/RNBQKBNR";
+    let d3 = Diagram::read(text).expect(&rt, text);
+    let array = Position::array();
+    let white = Color::White;
+    let u = [0, 0, 0, 1, 0, 0, 0, 0];
+    let v = [0, 0, 0, 1, 0, 0, 0, 1];
+    assert!(rt; prices_exclude(&d3, &array, white, &u, &v));
+    assert!(rt; !prices_exclude(&d3, &array, Color::Black, &u, &v));
+    assert!(rt; !prices_exclude(&d3, &array, white, &v, &u));
+    assert!(rt; !prices_exclude(&d3, &array, white, &[0; 8], &v));
+    assert!(rt; !prices_exclude(&d3, &array, white, &v, &v));
+    assert!(rt; !prices_exclude(&d3, &array, white, &u, &[0, 0, 0, 1, 0, 0, 0, 2]));
+    assert!(rt; !prices_exclude(&d3, &array, white, &[0; 8], &[0; 8]));
+    assert!(rt; !prices_exclude(&d3, &array, white, &[0; 8], &[255; 8]));
+    assert!(rt; !prices_exclude(&d3, &array, white, &[255; 8], &[255; 8]));
+}
+
+#[test]
+fn prices_for_other_pawns(rt: HostRuntime) {
+    let text = "rnbqkbnr/pppppppp/8/8/8/3P4/PPPP1PPP/RNBQKBNR";
+    let d3 = Diagram::read(text).expect(&rt, text);
+    let array = Position::array();
+    let white = Color::White;
+    let u = [0, 0, 0, 1, 0, 0, 0, 0];
+    let v = [0, 0, 0, 1, 0, 0, 0, 1];
+    for n in [0, 7, 9, 63, 64, 65] {
+        let few = &[0; 65][..n];
+        let full = &[255; 65][..n];
+        assert!(rt; !prices_exclude(&d3, &array, white, &u, full), "{n}");
+        assert!(rt; !prices_exclude(&d3, &array, white, few, &v), "{n}");
+        assert!(rt; !prices_exclude(&d3, &array, white, few, full), "{n}");
+    }
+}
+
+/// A pawn that would have to go back has no cost, so its target may pay anything.
+#[test]
+fn prices_of_a_pawn_that_goes_back(rt: HostRuntime) {
+    for (placed, wanted, color) in [
+        (
+            "4k3/8/8/8/4P3/8/8/4K3 w - - 0 1",
+            "4k3/8/8/8/8/3P4/8/4K3 w - - 0 1",
+            Color::White,
+        ),
+        (
+            "4k3/8/8/4p3/8/8/8/4K3 w - - 0 1",
+            "4k3/8/3p4/8/8/8/8/4K3 w - - 0 1",
+            Color::Black,
+        ),
+    ] {
+        let diagram = Diagram::read(wanted).expect(&rt, wanted);
+        let back = Diagram::read(placed).expect(&rt, placed);
+        let here = position(&rt, placed);
+        let there = position(&rt, wanted);
+        assert!(rt;
+            prices_exclude(&diagram, &here, color, &[0], &[255]),
+            "{wanted}"
+        );
+        assert!(rt;
+            prices_exclude(&back, &there, color, &[0], &[1]),
+            "{placed}"
+        );
+        assert!(rt;
+            !prices_exclude(&back, &there, color, &[0], &[2]),
+            "{placed}"
+        );
+        assert!(rt;
+            !prices_exclude(&back, &there, color, &[0], &[0]),
+            "{placed}"
+        );
+        assert!(rt;
+            !prices_exclude(&back, &there, color.other(), &[], &[]),
+            "{placed}"
+        );
+    }
+}
+
+/// Two files in one rank are no way of a pawn: they have no cost.
+#[test]
+fn prices_of_a_pawn_too_near(rt: HostRuntime) {
+    let here = position(&rt, "4k3/8/8/8/8/8/4P3/4K3 w - - 0 1");
+    let near = "4k3/8/8/8/8/2P5/8/4K3";
+    let far = "4k3/8/8/8/2P5/8/8/4K3";
+    let white = Color::White;
+    let near = Diagram::read(near).expect(&rt, near);
+    let far = Diagram::read(far).expect(&rt, far);
+    assert!(rt; prices_exclude(&near, &here, white, &[0], &[255]));
+    assert!(rt; !prices_exclude(&far, &here, white, &[0], &[255]));
+    assert!(rt; prices_exclude(&far, &here, white, &[0], &[2]));
+    assert!(rt; !prices_exclude(&far, &here, white, &[0], &[3]));
 }

@@ -1,5 +1,5 @@
 -- The initial array is a position.
-use Rattle.std.proofs.Common.{◌≡◌, ◌≢◌, ℕ, zero, suc, ◌+◌, ◌<◌, ◌≤◌, ap, inl, inr, Option, Some, None, Bool, true, false, refl, sym, subst, arith, ◌∙◌, nat_eq, not, ◌&&◌, ◌||◌}
+use Rattle.std.proofs.Common.{◌≡◌, ◌≢◌, ℕ, zero, suc, ◌<◌, inl, inr, Option, Some, None, Bool, true, false, refl, sym, subst, arith, ◌∙◌, nat_eq, not, ◌&&◌, ◌||◌}
 use Rattle.std.proofs.lemmas.Bool.Decides.{eqb_tells}
 use Rattle.pg_board.specs.declared.man.Color.{Color}
 use Rattle.pg_board.specs.declared.man.Color.TheVariants.{White, Black}
@@ -10,7 +10,7 @@ use Rattle.pg_position.specs.declared.rights.Wing.TheVariants.{KingSide, QueenSi
 use Rattle.pg_board.specs.declared.man.Man.{Man}
 use Rattle.pg_board.specs.Squares.{file, rank}
 use Rattle.pg_board.specs.Men.{man}
-use Rattle.pg_board.specs.Placement.{Placement, get, put, get-placement_of, get-write_same, get-write_other, same_placement}
+use Rattle.pg_board.specs.Placement.{Placement, get, get-placement_of, same_placement}
 use Rattle.pg_position.specs.Geometry.{InPattern}
 use Rattle.pg_position.specs.Attack.{Attacks, AttacksFrom}
 use Rattle.pg_position.specs.Position.{Stands, IsOnlyKing, HasOneKing, InCheck, king_home, rook_home, PawnsClause, IsHome, RightsClause, IsPosition}
@@ -199,24 +199,3 @@ array_position = record {
 -- ---- the array is made square by square
 pub array_from : (b : Placement) → ((q : ℕ) → q < 64 → get b q ≡ first_man q) → b ≡ array_board
 array_from b h = same_placement b array_board (λ q l. h q l ∙ sym (array_at q l))
-
-abbrev Made : Placement → ℕ → Type 0
-Made b n = ((q : ℕ) → q < n → get b q ≡ first_man q) × ((q : ℕ) → n ≤ q → get b q ≡ None)
-
-pub next_put : (b d : Placement) (i s : ℕ) (o : Option Man) (m : Man) → s ≡ i → i < 64 → o ≡ first_man s → o ≡ Some m → d ≡ put b s m → Made b i → Made d (i + 1)
-next_put b d i s o m e low f h w (done, rest) = (
-  λ q l. elim (eqb_tells q s) [
-    | inl v ↦ ap (λ x. get x q) w ∙ ap (get (put b s m)) v.1 ∙ get-write_same b s (Some m) (omega arith) ∙ sym h ∙ f ∙ ap first_man (sym v.1)
-    | inr v ↦ ap (λ x. get x q) w ∙ get-write_other b s (Some m) q v.1 ∙ done q (let ne : q ≢ s = v.1 in omega arith)
-  ],
-  λ q l. ap (λ x. get x q) w ∙ get-write_other b s (Some m) q (λ k. omega (arith, k)) ∙ rest q (omega arith),
-)
-
-pub next_skipped : (b d : Placement) (i s : ℕ) (o : Option Man) → s ≡ i → o ≡ first_man s → o ≡ None → d ≡ b → Made b i → Made d (i + 1)
-next_skipped b d i s o e f h w (done, rest) = (
-  λ q l. elim (eqb_tells q i) [
-    | inl v ↦ (let at_i : q ≡ s = v.1 ∙ sym e in ap (λ x. get x q) w ∙ rest q (let same : q ≡ i = v.1 in omega arith) ∙ sym h ∙ f ∙ ap first_man (sym at_i))
-    | inr v ↦ ap (λ x. get x q) w ∙ done q (let ne : q ≢ i = v.1 in omega arith)
-  ],
-  λ q l. ap (λ x. get x q) w ∙ rest q (omega arith),
-)

@@ -1,20 +1,21 @@
 -- Attack by sets of squares, man by man and ray by ray. Leads to the contract of `attacked`.
-use Rattle.std.proofs.Common.{◌≡◌, ◌≢◌, ℕ, ◌-◌, ◌^◌, ◌<◌, ◌⊎◌, ◌↔◌, inl, inr, IsTrue, Bool, true, false, ◌&&◌, Option, Some, None, refl, sym, ap, ◌∙◌, subst, arith, bit_and, w64, lt_of_le_of_lt}
+use Rattle.std.proofs.Common.{◌≡◌, ◌≢◌, ℕ, ◌-◌, ◌^◌, ◌<◌, ◌⊎◌, ◌↔◌, inl, inr, IsTrue, Bool, true, false, ◌&&◌, Option, Some, None, refl, sym, ap, ◌∙◌, subst, arith, bit_and, bit_or, w64, not, lt_of_le_of_lt}
 use Rattle.std.specs.Int.{trailing_zeros, leading_zeros}
 use Rattle.std.specs.Bool.{Decides}
 use Rattle.std.proofs.lemmas.Nat.{and_le_l}
+use Rattle.std.proofs.lemmas.Bool.Decides.{Decides-at, Decides-or}
 use Rattle.pg_board.specs.declared.man.Color.{Color}
 use Rattle.pg_board.specs.declared.man.Color.TheVariants.{White, Black}
 use Rattle.pg_board.specs.declared.man.Kind.{Kind}
 use Rattle.pg_board.specs.declared.man.Kind.TheVariants.{Pawn, Knight, Bishop, Rook, Queen, King}
 use Rattle.pg_board.specs.declared.man.Man.{Man}
-use Rattle.pg_board.specs.Bits.{has, has-and, has-none, has-first, has-last}
+use Rattle.pg_board.specs.Bits.{has, has-and, has-or, has-none, has-first, has-last}
 use Rattle.pg_board.specs.Men.{man, other, is_man, is_man_decides, is_held}
 use Rattle.pg_board.specs.Placement.{Placement, get, get_on}
 use Rattle.pg_position.specs.declared.direction.Direction.{Direction}
 use Rattle.pg_position.specs.declared.direction.Direction.TheVariants.{North, NorthEast, East, SouthEast, South, SouthWest, West, NorthWest}
 use Rattle.pg_position.specs.Geometry.{InPattern, IsBetween}
-use Rattle.pg_position.specs.Rays.{OnRay, IsIn, ascends, slides}
+use Rattle.pg_position.specs.Rays.{OnRay, IsIn, ascends, is_straight, slides}
 use Rattle.pg_position.specs.SquareSets.{IsSetOf}
 use Rattle.pg_position.specs.Attack.{IsClear, Attacks, AttacksFrom}
 use Rattle.pg_position.specs.Lines.{AttackedBy, AttackedAlong, IsBlocked, IsFree, ByStep, Straight, Diagonal}
@@ -183,6 +184,65 @@ module _ (b : Placement) (c : Color) (d : Direction) (s : ℕ) where
           | inl f ↦ let yes : a ≡ true = one m g e f in absurd (cc)
           | inr f ↦ two m g e f
         ]
+
+-- ---- lines without a slider
+pub kind_or_queen : (b : Placement) (c : Color) (k : Kind) (m n : Man) (x y : ℕ) → m ≡ man c k → n ≡ man c Queen → ((q : ℕ) → q < 64 → has x q ≡ is_man m (get b q)) → ((q : ℕ) → q < 64 → has y q ≡ is_man n (get b q)) → IsSetOf (bit_or x y) (λ q. (get b q ≡ Some (man c k)) ⊎ (get b q ≡ Some (man c Queen)))
+kind_or_queen b c k m n x y e f h g q l = Decides-at _ _ (has-or x y q) (Decides-or _ _ (Decides-at _ _ (h q l ∙ ap (λ z. is_man z (get b q)) e) (is_man_decides (man c k) (get b q))) (Decides-at _ _ (g q l ∙ ap (λ z. is_man z (get b q)) f) (is_man_decides (man c Queen) (get b q))))
+
+straight_kind : (d : Direction) (j : Kind) → is_straight d ≡ true → slides d j ≡ true → (j ≡ Rook) ⊎ (j ≡ Queen)
+straight_kind d Pawn e s = absurd (cc)
+straight_kind d Knight e s = absurd (cc)
+straight_kind d Bishop e s = absurd (let f : not true ≡ true = ap not (sym e) ∙ s in cc)
+straight_kind d Rook e s = inl refl
+straight_kind d Queen e s = inr refl
+straight_kind d King e s = absurd (cc)
+
+diagonal_kind : (d : Direction) (j : Kind) → is_straight d ≡ false → slides d j ≡ true → (j ≡ Bishop) ⊎ (j ≡ Queen)
+diagonal_kind d Pawn e s = absurd (cc)
+diagonal_kind d Knight e s = absurd (cc)
+diagonal_kind d Bishop e s = inl refl
+diagonal_kind d Rook e s = absurd (cc)
+diagonal_kind d Queen e s = inr refl
+diagonal_kind d King e s = absurd (cc)
+
+module _ (b : Placement) (c : Color) (s men lines : ℕ) (u : Bool) (met : Decides u ((q : ℕ) × (q < 64) × (has lines q ≡ true) × (has men q ≡ true))) (off : u ≡ false) where
+  none_along : (k : Kind) (d : Direction) → IsSetOf men (λ q. (get b q ≡ Some (man c k)) ⊎ (get b q ≡ Some (man c Queen))) → ((j : Kind) → slides d j ≡ true → (j ≡ k) ⊎ (j ≡ Queen)) → ((q : ℕ) → q < 64 → OnRay d s q → has lines q ≡ true) → ¬ AttackedAlong b c d s
+  unfolding AttackedAlong
+  none_along k d are kinds on (r, m, l, g, e, t, o, cl) =
+      let whole : (j : Kind) → m.kind ≡ j → get b r ≡ Some (man c j) = (λ j f. g ∙ ap Some (λ i. record { color = e i; kind = f i })) in
+      let there : (get b r ≡ Some (man c k)) ⊎ (get b r ≡ Some (man c Queen)) = elim (kinds m.kind t) [ inl f ↦ inl (whole k f) | inr f ↦ inr (whole Queen f) ] in
+      let yes : u ≡ true = met.1 (r, l, on r l o, (are r l).1 there) in
+      absurd (cc)
+
+  pub none_straight : IsSetOf men (λ q. (get b q ≡ Some (man c Rook)) ⊎ (get b q ≡ Some (man c Queen))) → IsSetOf lines (λ q. ((OnRay North s q ⊎ OnRay East s q) ⊎ OnRay South s q) ⊎ OnRay West s q) → IsTrue false ↔ Straight b c s
+  none_straight are on = (
+    λ e. absurd (let f : false ≡ true = e in cc),
+    λ h. absurd (elim h [
+      | inl x ↦ none_along Rook North are (λ j. straight_kind North j refl) (λ q l o. (on q l).1 (inl (inl (inl o)))) x
+      | inr y ↦ elim y [
+        | inl x ↦ none_along Rook East are (λ j. straight_kind East j refl) (λ q l o. (on q l).1 (inl (inl (inr o)))) x
+        | inr z ↦ elim z [
+          | inl x ↦ none_along Rook South are (λ j. straight_kind South j refl) (λ q l o. (on q l).1 (inl (inr o))) x
+          | inr x ↦ none_along Rook West are (λ j. straight_kind West j refl) (λ q l o. (on q l).1 (inr o)) x
+        ]
+      ]
+    ]),
+  )
+
+  pub none_diagonal : IsSetOf men (λ q. (get b q ≡ Some (man c Bishop)) ⊎ (get b q ≡ Some (man c Queen))) → IsSetOf lines (λ q. ((OnRay NorthEast s q ⊎ OnRay SouthEast s q) ⊎ OnRay SouthWest s q) ⊎ OnRay NorthWest s q) → IsTrue false ↔ Diagonal b c s
+  none_diagonal are on = (
+    λ e. absurd (let f : false ≡ true = e in cc),
+    λ h. absurd (elim h [
+      | inl x ↦ none_along Bishop NorthEast are (λ j. diagonal_kind NorthEast j refl) (λ q l o. (on q l).1 (inl (inl (inl o)))) x
+      | inr y ↦ elim y [
+        | inl x ↦ none_along Bishop SouthEast are (λ j. diagonal_kind SouthEast j refl) (λ q l o. (on q l).1 (inl (inl (inr o)))) x
+        | inr z ↦ elim z [
+          | inl x ↦ none_along Bishop SouthWest are (λ j. diagonal_kind SouthWest j refl) (λ q l o. (on q l).1 (inl (inr o))) x
+          | inr x ↦ none_along Bishop NorthWest are (λ j. diagonal_kind NorthWest j refl) (λ q l o. (on q l).1 (inr o)) x
+        ]
+      ]
+    ]),
+  )
 
 -- ---- every attack
 pub by_man : (b : Placement) (c : Color) (k : Kind) (s : ℕ) → AttackedBy b (man c k) s → Attacks b c s

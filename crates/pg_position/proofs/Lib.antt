@@ -8,3 +8,5 @@ pub mod StepLemmas
 pub mod ValidLemmas
 pub mod ArrayLemmas
 pub mod FutureLemmas
+pub mod ArraySets
+pub mod LegalLemmas

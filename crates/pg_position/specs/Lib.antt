@@ -9,3 +9,4 @@ pub mod Equality
 pub mod SquareSets
 pub mod Rays
 pub mod Lines
+pub mod Order

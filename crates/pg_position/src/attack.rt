@@ -1,9 +1,10 @@
 //! Which squares a colour attacks.
-ghost use Rattle.std.specs.Prelude.{◌≡◌, ℕ, ◌<◌, ◌↔◌, IsTrue, ◌⊎◌, MatchOption, None};
+ghost use Rattle.std.specs.Prelude.{◌≡◌, ℕ, ◌<◌, ◌↔◌, IsTrue, ◌⊎◌, MatchOption, Some, None};
 ghost use Rattle.pg_board.specs.Men.{man};
 ghost use Rattle.pg_board.specs.Placement.{get};
 ghost use Rattle.pg_position.specs.Rays.{OnRay};
 ghost use Rattle.pg_position.specs.Attack.{Attacks};
+ghost use Rattle.pg_position.specs.SquareSets.{IsSetOf};
 ghost use Rattle.pg_position.specs.Lines.{AttackedBy, AttackedAlong, IsBlocked, ByStep, Straight, Diagonal};
 
 use crate::direction::Direction;
@@ -78,10 +79,40 @@ fn attacked_by_step(board: &Board, square: Square, by: Color) -> bool
         || king_attacks(board, square, by)
 }
 
+// The men of the colour that are of the kind or queens.
+fn sliders(board: &Board, by: Color, kind: Kind) -> u64
+    ensures { IsSetOf result (λ q. (get board.now q ≡ Some (man by kind)) ⊎ (get board.now q ≡ Some (man by Kind.Queen))) }
+{
+    board.squares_of(man(by, kind)) | board.squares_of(man(by, Kind::Queen))
+}
+
+// The other squares of the file and the rank.
+fn straight_lines(square: Square) -> u64
+    ensures { IsSetOf result (λ q. ((OnRay Direction.North square q ⊎ OnRay Direction.East square q) ⊎ OnRay Direction.South square q) ⊎ OnRay Direction.West square q) }
+{
+    ray(Direction::North, square)
+        | ray(Direction::East, square)
+        | ray(Direction::South, square)
+        | ray(Direction::West, square)
+}
+
+// The other squares of the two diagonals.
+fn diagonal_lines(square: Square) -> u64
+    ensures { IsSetOf result (λ q. ((OnRay Direction.NorthEast square q ⊎ OnRay Direction.SouthEast square q) ⊎ OnRay Direction.SouthWest square q) ⊎ OnRay Direction.NorthWest square q) }
+{
+    ray(Direction::NorthEast, square)
+        | ray(Direction::SouthEast, square)
+        | ray(Direction::SouthWest, square)
+        | ray(Direction::NorthWest, square)
+}
+
 // Whether a rook or a queen attacks the square along a file or a rank.
 fn attacked_straight(board: &Board, square: Square, by: Color) -> bool
     ensures { IsTrue result ↔ Straight board.now by square }
 {
+    if !meets(straight_lines(square), sliders(board, by, Kind::Rook)) {
+        return false;
+    }
     attacked_along(board, Direction::North, square, by)
         || attacked_along(board, Direction::East, square, by)
         || attacked_along(board, Direction::South, square, by)
@@ -92,6 +123,9 @@ fn attacked_straight(board: &Board, square: Square, by: Color) -> bool
 fn attacked_diagonal(board: &Board, square: Square, by: Color) -> bool
     ensures { IsTrue result ↔ Diagonal board.now by square }
 {
+    if !meets(diagonal_lines(square), sliders(board, by, Kind::Bishop)) {
+        return false;
+    }
     attacked_along(board, Direction::NorthEast, square, by)
         || attacked_along(board, Direction::SouthEast, square, by)
         || attacked_along(board, Direction::SouthWest, square, by)

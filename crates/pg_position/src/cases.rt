@@ -96,6 +96,16 @@ pub(crate) fn is_castling(state: &State, kind: Kind, m: &Move, wing: Wing) -> bo
         && !attacked(&state.board, target, state.side.other())
 }
 
+impl State {
+    // Whether the move is a castling of the king.
+    pub(crate) fn castles(&self, m: &Move) -> bool
+        ensures { IsTrue result ↔ ((w : Wing) × IsCastling self.now Kind.King m.now w) }
+    {
+        is_castling(self, Kind::King, m, Wing::KingSide)
+            || is_castling(self, Kind::King, m, Wing::QueenSide)
+    }
+}
+
 // The case that a move without promotion is, if it is one.
 fn quiet_way(state: &State, kind: Kind, m: &Move) -> Option<Way>
     requires { m.now.promotion ≡ None }

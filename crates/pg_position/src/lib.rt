@@ -11,6 +11,7 @@ mod equality;
 mod futures;
 mod homes;
 mod laws;
+mod legal_ways;
 mod masks;
 mod moves;
 mod play;
@@ -26,7 +27,7 @@ mod tables;
 
 pub use attack::attacked;
 pub use laws::{legal_leads_to_a_position, legal_leads_to_one_position, same_future_same_games};
-pub use moves::Move;
+pub use moves::{Move, move_order};
 pub use position::Position;
 pub use reaching::{is_clear, reach, reaches};
 pub use refusals::{BadPosition, Illegal};

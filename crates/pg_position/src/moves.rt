@@ -1,5 +1,9 @@
+ghost use Rattle.std.specs.Prelude.{◌≡◌};
+ghost use Rattle.pg_position.specs.Order.{move_cmp};
+
 use crate::rights::Wing;
 use pg_board::{Kind, Square};
+use std::cmp::Ordering;
 
 /// A move: where a man goes from, where it goes to, and what a pawn becomes there. Castling is the
 /// king's move of two squares. Moves are ordered by `from`, then `to`, then promotion: none before
@@ -12,6 +16,14 @@ pub struct Move {
     pub to: Square,
     /// The kind that a pawn becomes on the furthest rank, and none in every other move.
     pub promotion: Option<Kind>,
+}
+
+/// How two moves are ordered: by the square `from`, then the square `to`, then the promotion, none
+/// before knight, bishop, rook and queen. `cmp` orders them so.
+pub fn move_order(a: &Move, b: &Move) -> Ordering
+    ensures { result ≡ move_cmp a.now b.now }
+{
+    a.cmp(b)
 }
 
 /// The move from a1 to a1, which no rule gives: what fills a list of fixed capacity before its moves

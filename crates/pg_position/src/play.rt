@@ -6,6 +6,7 @@ ghost use Rattle.pg_position.specs.Step.{Step, Legal, IsCause};
 
 use crate::boards::in_check;
 use crate::cases::way;
+use crate::legal_ways::legal_way;
 use crate::moves::Move;
 use crate::refusals::Illegal;
 use crate::state::State;
@@ -61,6 +62,22 @@ impl State {
                     Ok(next)
                 }
             }
+        }
+    }
+
+    // The state after a move that is known to be legal.
+    pub(crate) fn after_legal(&self, m: &Move) -> State
+        requires position { IsPosition self.now }
+        requires legal { (q : State) × Legal self.now m.now q }
+        ensures legal { Legal self.now m.now result }
+        ensures position { IsPosition result }
+    {
+        match self.board.get(m.from) {
+            Some(man) => {
+                let way = legal_way(self, man.kind, m);
+                self.after(man.kind, m, way)
+            }
+            None => unreachable!(),
         }
     }
 }

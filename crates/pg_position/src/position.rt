@@ -3,7 +3,9 @@ ghost use Rattle.std.specs.Cmp.{partial_equiv_from_equiv, decided};
 ghost use Rattle.pg_position.specs.Attack.{Attacks};
 ghost use Rattle.pg_position.specs.Array.{array_state};
 ghost use Rattle.pg_position.specs.Position.{parts, InCheck, IsPosition, IsFirstBroken};
-ghost use Rattle.pg_position.specs.Step.{Legal, IsCause};
+ghost use Rattle.pg_position.specs.Step.{Legal, IsCause, IsCastling};
+ghost use Rattle.pg_board.specs.declared.man.Kind.TheVariants.{King};
+ghost use Rattle.pg_position.specs.declared.rights.Wing.{Wing};
 ghost use Rattle.pg_position.specs.Future.{SameFuture};
 ghost use Rattle.pg_position.specs.Equality.{state_eq, state_eq_decides};
 ghost use Rattle.pg_position.specs.declared.state.State.{State};
@@ -165,6 +167,26 @@ impl Position {
             Ok(state) => Ok(Position { state }),
             Err(e) => Err(e),
         }
+    }
+
+    /// The position that a move leads to which is known to be legal: `play` without its tests.
+    pub fn after(&self, m: &Move) -> Position
+        requires { (q : State) × Legal self.now m.now q }
+        ensures legal { Legal self.now m.now result }
+        ensures from { IsPosition self.now }
+    {
+        Position {
+            state: self.state.after_legal(m),
+        }
+    }
+
+    /// Whether the move is a castling that the rules allow: its right is held, no man stands between king
+    /// and rook, and the king's square, the one that he crosses and the one that he comes to are not
+    /// attacked (FIDE article 3.8.2).
+    pub fn castles(&self, m: &Move) -> bool
+        ensures { IsTrue result ↔ ((w : Wing) × IsCastling self.now King m.now w) }
+    {
+        self.state.castles(m)
     }
 
     /// Whether two positions have the same games: equal boards, sides and rights, and equal passed

@@ -3,12 +3,13 @@ ghost use Rattle.std.specs.Prelude.{◌≡◌, ◌≤◌, false};
 ghost use Rattle.pg_searcher.specs.Refusals.{Says};
 
 use crate::fault::SearchFault;
+use crate::judge::Judge;
 use crate::machine::{Machine, Question};
-use crate::table::Table;
 use crate::walk::all_trees;
 use arrayvec::ArrayVec;
 use pg_certificate::{Header, RecordWriter, Sink};
 use pg_fen::{Diagram, Length};
+use pg_prices::Closed;
 use pg_san::Games;
 use std::alloc::Global;
 
@@ -78,10 +79,15 @@ pub fn search<W: Sink>(
         diagram,
         plies: length.plies(),
     };
+    let judge = match Judge::new(alloc, diagram) {
+        Ok(judge) => judge,
+        Err(_) => return Err(SearchFault::Memory),
+    };
     let mut machine = Machine {
         writer: RecordWriter::new(),
         games: Games::new(alloc),
-        table: Table::new(alloc),
+        judge,
+        closed_nodes: Closed::new(alloc),
         frames: ArrayVec::new(),
         nodes: max_nodes,
         named: 0,

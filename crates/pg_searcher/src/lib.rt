@@ -5,10 +5,10 @@
 
 mod fault;
 mod find;
+mod judge;
 mod machine;
 mod node;
 mod play;
-mod table;
 mod walk;
 
 pub use fault::SearchFault;

@@ -1,10 +1,12 @@
 //! What the search holds.
 
-use crate::table::Table;
+use crate::judge::Judge;
 use arrayvec::ArrayVec;
 use pg_certificate::RecordWriter;
 use pg_fen::Diagram;
-use pg_position::{Move, Position};
+use pg_moves::LegalMoves;
+use pg_position::Position;
+use pg_prices::Closed;
 use pg_san::Games;
 
 /// What is searched for.
@@ -14,12 +16,12 @@ pub(crate) struct Question<'a> {
     pub(crate) plies: u8,
 }
 
-/// An open node: its position, the move that was played last, whether it is named, and whether a
-/// game below it so far ends on the diagram.
-#[derive(Clone, Copy)]
+/// An open node: its position with the moves that are still to be played, its key, whether it is named,
+/// and whether a game below it so far ends on the diagram.
+#[derive(Drop)]
 pub(crate) struct Frame {
-    pub(crate) position: Position,
-    pub(crate) last: Option<Move>,
+    pub(crate) moves: LegalMoves,
+    pub(crate) key: u64,
     pub(crate) named: bool,
     pub(crate) found: bool,
 }
@@ -27,22 +29,23 @@ pub(crate) struct Frame {
 impl Default for Frame {
     fn default() -> Frame {
         Frame {
-            position: Position::array(),
-            last: None,
+            moves: LegalMoves::new(&Position::array()),
+            key: 0,
             named: false,
             found: false,
         }
     }
 }
 
-/// The record writer, the games that were found, the table of closed nodes, the open nodes, how many
-/// nodes may still be visited, how many are named and how many of those have closed. `found` says
+/// The record writer, the games that were found, what judges nodes, the closed nodes, the open nodes,
+/// how many nodes may still be visited, how many are named and how many of those have closed. `found` says
 /// whether a game of the subtree that ended last ends on the diagram.
 #[derive(Drop)]
 pub(crate) struct Machine {
     pub(crate) writer: RecordWriter,
     pub(crate) games: Games,
-    pub(crate) table: Table,
+    pub(crate) judge: Judge,
+    pub(crate) closed_nodes: Closed,
     pub(crate) frames: ArrayVec<Frame, 128>,
     pub(crate) nodes: u64,
     pub(crate) named: u32,

@@ -7,8 +7,5 @@ use pg_position::{Move, Position};
 pub(crate) fn after(position: &Position, m: &Move) -> Position
     requires { IsLegal position.now m.now }
 {
-    match position.play(*m) {
-        Ok(next) => next,
-        Err(_) => unreachable!(),
-    }
+    position.after(m)
 }

@@ -8,7 +8,8 @@ use crate::node::head;
 use crate::play::after;
 use arrayvec::ArrayVec;
 use pg_certificate::{Record, Sink};
-use pg_moves::next_legal;
+use pg_checker::pass_over;
+use pg_moves::LegalMoves;
 use pg_position::{Move, Position};
 use pg_san::AddFault;
 
@@ -18,7 +19,7 @@ fn game_along(frames: &[Frame]) -> ArrayVec<Move, 128>
 {
     let mut game = ArrayVec::new();
     for frame in frames {
-        match frame.last {
+        match frame.moves.last() {
             Some(m) => game.push(m),
             None => {}
         }
@@ -67,15 +68,15 @@ fn leaf(
 }
 
 /// Opens a node.
-fn open(machine: &mut Machine, position: &Position, named: bool)
+fn open(machine: &mut Machine, position: &Position, key: u64, named: bool)
     requires { length machine.old.frames.items < 128 }
     ensures frames { length machine.new.frames.items ≡ length machine.old.frames.items + 1 }
     ensures writer { machine.new.writer ≡ machine.old.writer }
 {
     machine.named = machine.named.saturating_add(u32::from(named));
     machine.frames.push(Frame {
-        position: *position,
-        last: None,
+        moves: LegalMoves::new(position),
+        key,
         named,
         found: false,
     });
@@ -102,19 +103,20 @@ fn enter<W: Sink>(
     }
     machine.found = false;
     match head(question, machine, sink, position, left) {
-        Ok(Record::Expand { named }) => {
-            open(machine, position, named);
+        Ok((Record::Expand { named }, key)) => {
+            open(machine, position, key, named);
             Ok(())
         }
-        Ok(Record::Cut(_)) => Ok(()),
-        Ok(Record::Ref(_)) => Ok(()),
+        Ok((Record::Cut(_), _)) => Ok(()),
+        Ok((Record::Ref(_), _)) => Ok(()),
+        Ok((Record::Priced { .. }, _)) => Ok(()),
         Err(fault) => Err(fault),
     }
 }
 
-/// A node with so many plies left closes: a named one takes its number, and one below which no game
-/// ends on the diagram is entered in the table.
-fn close(top: &Frame, left: u8, machine: &mut Machine) -> Result<(), SearchFault>
+/// A node closes: a named one takes its number, and one below which no game ends on the diagram is
+/// entered among the closed ones.
+fn close(top: &Frame, machine: &mut Machine) -> Result<(), SearchFault>
     ensures frames { machine.new.frames ≡ machine.old.frames }
     ensures writer { machine.new.writer ≡ machine.old.writer }
     ensures says { (plies : ℕ) (failed : Bool) → Says plies failed result }
@@ -128,17 +130,18 @@ fn close(top: &Frame, left: u8, machine: &mut Machine) -> Result<(), SearchFault
     if top.found {
         return Ok(());
     }
-    match machine.table.insert(&top.position, left, number) {
+    match machine.closed_nodes.insert(top.key, number) {
         Ok(()) => Ok(()),
         Err(_) => Err(SearchFault::Memory),
     }
 }
 
-/// One turn: the next move of the topmost node is played, or the node closes.
+/// One turn: the next move of the topmost node is played, or the node closes. Leaves that are not on
+/// the diagram are passed over.
 fn turn<W: Sink>(
     question: &Question,
     tree: u8,
-    top: &Frame,
+    top: Frame,
     machine: &mut Machine,
     sink: &mut W,
 ) -> Result<(), SearchFault>
@@ -149,13 +152,17 @@ fn turn<W: Sink>(
     ensures runs { OnOk result (machine.new.writer.failed ≡ false) }
     ensures says { Says question.now.plies (W.has_failed sink.new) result }
 {
-    let mut top = *top;
+    let mut top = top;
     top.found = top.found || machine.found;
-    let Some(m) = next_legal(&top.position, top.last) else {
-        return close(&top, tree - machine.frames.len() as u8, machine);
+    let left = tree - machine.frames.len() as u8;
+    if left == 1 && !pass_over(question.diagram, &mut top.moves) {
+        return close(&top, machine);
+    }
+    let position = top.moves.position();
+    let Some(m) = top.moves.next() else {
+        return close(&top, machine);
     };
-    let next = after(&top.position, &m);
-    top.last = Some(m);
+    let next = after(&position, &m);
     machine.frames.push(top);
     enter(question, tree, &next, machine, sink)
 }
@@ -181,7 +188,7 @@ fn tree_of<W: Sink>(
         let Some(top) = machine.frames.pop() else {
             return Ok(());
         };
-        match turn(question, tree, &top, machine, sink) {
+        match turn(question, tree, top, machine, sink) {
             Ok(()) => {}
             Err(fault) => return Err(fault),
         }

@@ -1,2 +1,6 @@
 pub mod Skips
 pub mod Nearness
+pub mod PawnRows
+pub mod Within
+pub mod RowLemmas
+pub mod PriceLemmas

@@ -1,6 +1,6 @@
 -- The nearest man that comes to be of a kind is of that kind, or a pawn; and how soon a pawn can be one.
-use Rattle.std.proofs.Common.{◌≡◌, ◌≢◌, ℕ, zero, suc, ◌+◌, ◌<◌, ◌≤◌, ◌⊎◌, inl, inr, Option, Some, None, cond, min, Bool, true, false, refl, sym, ap, arith, ◌∙◌}
-use Rattle.std.proofs.lemmas.Bool.Decides.{eqb_tells}
+use Rattle.std.proofs.Common.{◌≡◌, ◌≢◌, ℕ, zero, suc, ◌+◌, ◌<◌, ◌≤◌, ◌⊎◌, inl, inr, Option, Some, None, cond, min, Bool, true, false, refl, sym, ap, subst, arith, ◌∙◌}
+use Rattle.std.proofs.lemmas.Bool.Decides.{eqb_tells, nat_tests}
 use Rattle.pg_board.specs.declared.man.Color.{Color}
 use Rattle.pg_board.specs.declared.man.Color.TheVariants.{White, Black}
 use Rattle.pg_board.specs.declared.man.Kind.{Kind}
@@ -10,10 +10,12 @@ use Rattle.pg_board.specs.Men.{man, kind_eq, is_man, kind_decides}
 use Rattle.pg_board.specs.Placement.{Placement, get}
 use Rattle.pg_board.specs.Bits.{has}
 use Rattle.pg_position.specs.declared.rights.Wing.{Wing}
+use Rattle.pg_position.specs.declared.rights.Wing.TheVariants.{KingSide, QueenSide}
+use Rattle.pg_position.specs.SquareSets.{IsFirstFrom}
 use Rattle.pg_travel.specs.Origins.{counted}
 use Rattle.pg_travel.specs.Formulas.{rank_for, pawn_steps, last_at, least_of, pawn_to, soonest, knight, bishop, rook, queen, distance_of, is_promoted, least_steps}
-use Rattle.pg_travel.specs.Costs.{reach_of, reach_from, nearest, nearest_man}
-use Rattle.pg_travel.specs.Pawns.{by_other, least_of_more}
+use Rattle.pg_travel.specs.Costs.{reach_of, reach_from, BeyondFar, nearest, nearest_man}
+use Rattle.pg_travel.specs.Pawns.{by_other, least_of_more, least_of_none}
 use Rattle.pg_travel.proofs.Skips.{least_le, least_skip}
 
 -- two least numbers make one
@@ -95,7 +97,7 @@ nearest_plain b c way Queen t e = cc
 
 -- each pawn's way to the last rank takes at least so many steps
 
-least_above : (f : ℕ → ℕ) (n x : ℕ) → x ≤ 64 → ((q : ℕ) → q < n → x ≤ f q) → x ≤ least_of f n
+pub least_above : (f : ℕ → ℕ) (n x : ℕ) → x ≤ 64 → ((q : ℕ) → q < n → x ≤ f q) → x ≤ least_of f n
 unfolding least_of
 least_above f zero x low h = low
 least_above f (suc n) x low h = omega (arith, least_above f n x low (λ q l. h q (omega arith)), h n (omega arith))
@@ -148,3 +150,66 @@ pub least_reached_at : (b : Placement) (m : Man) (way : Option Wing) (j : Kind) 
 least_reached_at b m way j t own q is low on =
     let e : reach_from m way j t q (get b q) ≡ distance_of m.color j m.kind (counted m.color way q) t = ap (λ (z : Bool). cond z (distance_of m.color j m.kind (counted m.color way q) t) 64) (sym (is q low) ∙ on) in
     omega (arith, e, least_of_more (λ o. reach_from m way j t o (get b o)) q)
+
+-- ---- a band of squares
+-- castling leaves the rank
+pub soonest_counted : (c : Color) (way : Option Wing) (q : ℕ) → soonest c (counted c way q) ≡ soonest c q
+soonest_counted c None q = refl
+soonest_counted White (Some KingSide) q = grind (arith, nat_tests)
+soonest_counted White (Some QueenSide) q = grind (arith, nat_tests)
+soonest_counted Black (Some KingSide) q = grind (arith, nat_tests)
+soonest_counted Black (Some QueenSide) q = grind (arith, nat_tests)
+
+-- numbers of at least x are no nearer than that
+pub least_beyond : (f : ℕ → ℕ) (a b x : ℕ) → a ≤ b → ((q : ℕ) → a ≤ q → q < b → x ≤ f q) → min x (least_of f b) ≡ min x (least_of f a)
+unfolding least_of
+least_beyond f a zero x h far = let e : 0 ≡ a = omega arith in ap (λ (n : ℕ). min x (least_of f n)) e
+least_beyond f a (suc b) x h far = elim (eqb_tells (suc b) a) [
+  | inl w ↦ ap (λ (n : ℕ). min x (least_of f n)) w.1
+  | inr w ↦ (let ne : suc b ≢ a = w.1 in let l : a ≤ b = omega arith in omega (arith, least_beyond f a b x l (λ q y z. far q y (omega arith)), far b l (omega arith)))
+]
+
+-- the squares before the band change nothing
+pub band_first : (b : Placement) (m : Man) (way : Option Wing) (j : Kind) (t best first past : ℕ) → best ≤ 64 → BeyondFar b m way j t best first past → best ≡ min best (least_of (λ o. reach_from m way j t o (get b o)) first)
+unfolding BeyondFar
+band_first b m way j t best first past low far =
+    let f : ℕ → ℕ = λ o. reach_from m way j t o (get b o) in
+    let z : 64 ≡ least_of f 0 = least_of_none f in
+    let most : first ≤ 64 = far.0 in
+    let e : min best (least_of f first) ≡ min best (least_of f 0) = least_beyond f 0 first best (omega arith) (λ q x y. far.1 q (omega arith) (inl y)) in
+    omega arith
+
+-- nor do those past it
+pub band_past : (b : Placement) (m : Man) (way : Option Wing) (j : Kind) (t own low o best first past : ℕ) → ((q : ℕ) → q < 64 → has own q ≡ is_man m (get b q)) → BeyondFar b m way j t best first past → IsFirstFrom own low o → past ≤ o → min best (least_of (λ o. reach_from m way j t o (get b o)) 64) ≡ min best (least_of (λ o. reach_from m way j t o (get b o)) low)
+unfolding BeyondFar
+band_past b m way j t own low o best first past is far next over =
+    let f : ℕ → ℕ = λ o. reach_from m way j t o (get b o) in
+    let here : o < 64 = next.on_board in
+    let e : least_of f o ≡ least_of f low = least_reached_from b m way j t own low o is next.reached (omega arith) next.before in
+    let g : min best (least_of f 64) ≡ min best (least_of f o) = least_beyond f o 64 best (omega arith) (λ q x y. far.1 q y (inr (omega arith))) in
+    g ∙ ap (min best) e
+
+either_least : (best d : ℕ) (x : Bool) → best ≤ d → best ≤ 64 → best ≤ cond x d 64
+either_least best d true l m = l
+either_least best d false l m = m
+
+pub pawn_soonest : (c : Color) (j : Kind) (r t : ℕ) → is_promoted j ≡ true → soonest c r ≤ distance_of c j Pawn r t
+pawn_soonest c j r t e =
+    let s : least_steps c j Pawn r ≡ soonest c r = ap (λ (x : Bool). cond x (soonest c r) 0) e in
+    omega (arith, s, no_sooner c j Pawn r t)
+
+-- pawns outside of the band are no nearer than that
+pub pawns_beyond : (b : Placement) (c : Color) (way : Option Wing) (j : Kind) (m : Man) (t best first past : ℕ) → m ≡ man c Pawn → first ≤ 64 → best ≤ 64 → is_promoted j ≡ true → ((q : ℕ) → q < 64 → (q < first) ⊎ (past ≤ q) → best ≤ soonest c q) → BeyondFar b m way j t best first past
+unfolding BeyondFar
+pawns_beyond b c way j m t best first past is low most promoted outside =
+    subst (λ (x : Man). (first ≤ 64) × ((o : ℕ) → o < 64 → (o < first) ⊎ (past ≤ o) → best ≤ reach_from x way j t o (get b o))) (sym is)
+    (low, λ o l out. either_least best (distance_of c j Pawn (counted c way o) t) (is_man (man c Pawn) (get b o)) (omega (arith, outside o l out, soonest_counted c way o, pawn_soonest c j (counted c way o) t promoted)) most)
+
+-- nothing is outside of the whole board
+pub whole_beyond : (b : Placement) (m : Man) (way : Option Wing) (j : Kind) (t best first past : ℕ) → first ≡ 0 → past ≡ 64 → BeyondFar b m way j t best first past
+unfolding BeyondFar
+whole_beyond b m way j t best first past f p = (omega arith, λ o l out. elim out [ inl x ↦ absurd (omega arith) | inr x ↦ absurd (omega arith) ])
+
+pub band_low : (b : Placement) (m : Man) (way : Option Wing) (j : Kind) (t best first past : ℕ) → BeyondFar b m way j t best first past → first ≤ 64
+unfolding BeyondFar
+band_low b m way j t best first past far = far.0

@@ -1,5 +1,5 @@
 -- The value of a way as a number.
-use Rattle.std.specs.Prelude.{◌≡◌, ℕ, ◌+◌, ◌<◌, min, cond, Option, Some, None}
+use Rattle.std.specs.Prelude.{◌≡◌, ℕ, ◌+◌, ◌<◌, ◌≤◌, ◌⊎◌, min, cond, Option, Some, None}
 use Rattle.pg_board.specs.declared.man.Color.{Color}
 use Rattle.pg_board.specs.declared.man.Kind.{Kind}
 use Rattle.pg_position.specs.declared.rights.Wing.{Wing}
@@ -27,6 +27,10 @@ reach_from m way j t o here = cond (is_man m here) (distance_of m.color j m.kind
 -- the least over the squares where this man stands
 unfoldable pub nearest_man : Placement → Man → Option Wing → Kind → ℕ → ℕ
 nearest_man b m way j t = least_of (λ o. reach_from m way j t o (get b o)) 64
+
+-- those that stand before the square first or not before the square past are no nearer than best
+unfoldable pub BeyondFar : Placement → Man → Option Wing → Kind → ℕ → ℕ → ℕ → ℕ → Type 0
+BeyondFar b m way j t best first past = (first ≤ 64) × ((o : ℕ) → o < 64 → (o < first) ⊎ (past ≤ o) → best ≤ reach_from m way j t o (get b o))
 
 -- what a man of d costs; nothing where none of c stands there
 abbrev pub cost_of : Placement → Color → Option Wing → ℕ → Option Man → ℕ

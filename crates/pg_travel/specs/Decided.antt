@@ -36,7 +36,7 @@ cost_low b d c way t = go (get d t)
     go (Some m) = if_own (color_eq c m.color) m
 
 -- the charge of a way and what all men of d cost, where each has a man to come
-sum_of : (b d : Placement) (c : Color) (way : Option Wing) → (o : Option ℕ) × SumIs b d c way o
+pub sum_of : (b d : Placement) (c : Color) (way : Option Wing) → (o : Option ℕ) × SumIs b d c way o
 sum_of b d c way = go (dec_below (λ t. cost b d c way t ≡ 64) (λ t. dec_equal (cost b d c way t) 64) 64)
   where
     go : Dec ((t : ℕ) × (t < 64) × (cost b d c way t ≡ 64)) → (o : Option ℕ) × SumIs b d c way o

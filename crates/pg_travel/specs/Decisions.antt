@@ -12,8 +12,9 @@ use Rattle.pg_position.specs.Geometry.{apart, IsForward, OnOneLine, InPattern}
 use Rattle.pg_board.specs.Men.{man}
 use Rattle.pg_position.specs.Position.{Stands}
 use Rattle.pg_position.specs.Step.{home_rank, last_rank}
-use Rattle.pg_travel.specs.Walks.{StepsTo, Becomes, FreeStep, Walk, IsLeast}
-use Rattle.pg_travel.specs.BoardLemmas.{none_some}
+use Rattle.pg_captures.specs.FreeSteps.{StepsTo, Becomes, FreeStep}
+use Rattle.pg_travel.specs.Walks.{Walk, IsLeast}
+use Rattle.pg_captures.specs.BoardLemmas.{none_some}
 
 pub dec_and : {A B : Type 0} → Dec A → Dec B → Dec (A × B)
 dec_and (yes a) (yes b) = yes (a, b)

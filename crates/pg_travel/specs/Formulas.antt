@@ -1,5 +1,5 @@
 -- Distances as formulas on numbers. 64 is none.
-use Rattle.std.specs.Prelude.{◌≢◌, ℕ, zero, suc, ◌+◌, ◌-◌, ◌/◌, ◌%◌, ◌<◌, Bool, true, false, cond, ◌&&◌, ◌||◌, min, max, eqb, leb, Option, Some, None}
+use Rattle.std.specs.Prelude.{◌≢◌, ℕ, zero, suc, ◌+◌, ◌-◌, ◌*◌, ◌/◌, ◌%◌, ◌<◌, Bool, true, false, cond, ◌&&◌, ◌||◌, min, max, eqb, leb, Option, Some, None}
 use Rattle.pg_board.specs.declared.man.Color.{Color}
 use Rattle.pg_board.specs.declared.man.Color.TheVariants.{White, Black}
 use Rattle.pg_board.specs.declared.man.Kind.{Kind}
@@ -60,6 +60,10 @@ rank_for Black s = 9 - rank s
 -- a pawn's steps from r to s, its promotion apart: as many as ranks, one less where it can advance two from home
 unfoldable pub pawn_steps : Color → ℕ → ℕ → ℕ
 pawn_steps c r s = cond (leb (rank_for c r + files r s) (rank_for c s)) (cond ((leb (rank_for c r) 2 && leb 4 (rank_for c s)) && leb (rank_for c r + files r s + 2) (rank_for c s)) (rank_for c s - rank_for c r - 1) (rank_for c s - rank_for c r)) 64
+
+-- the square as the other colour sees it
+abbrev pub mirrored : ℕ → ℕ
+mirrored s = 8 * (7 - s / 8) + s % 8
 
 -- from pawn to pawn: none onto the last rank
 unfoldable pub pawn : Color → ℕ → ℕ → ℕ

@@ -3,10 +3,8 @@ pub mod Origins
 pub mod Needs
 pub mod Formulas
 pub mod Costs
-pub mod BoardLemmas
 pub mod SumLemmas
 pub mod Decisions
-pub mod MoveLemmas
 pub mod OriginsLemmas
 pub mod NeedLemmas
 pub mod Ways
@@ -19,3 +17,9 @@ pub mod Pawns
 pub mod Values
 pub mod Least
 pub mod Decided
+pub mod Within
+pub mod TravelPrices
+pub mod TravelPricesLaw
+pub mod PriceRecords
+pub mod Rows
+pub mod PriceTests

@@ -11,7 +11,7 @@ use Rattle.pg_position.specs.Game.{Barren}
 use Rattle.pg_captures.specs.Owed.{plies_left}
 use Rattle.pg_travel.specs.Origins.{IsWayOf, charge, counted, sum_to, HasNone, Origins, ReachedIn}
 use Rattle.pg_travel.specs.Needs.{HasValue, TakesDistances, DistancesLaw, Comes, IsValue, TravelTest, TravelHolds, TravelLaw}
-use Rattle.pg_travel.specs.BoardLemmas.{same_kind}
+use Rattle.pg_captures.specs.BoardLemmas.{same_kind}
 use Rattle.pg_travel.specs.SumLemmas.{sum_below}
 use Rattle.pg_travel.specs.OriginsLemmas.{origins_of_game}
 use Rattle.pg_travel.specs.Decisions.{dec_and, dec_along, dec_below, dec_kinds, dec_at_most, dec_walk, dec_stands, least}

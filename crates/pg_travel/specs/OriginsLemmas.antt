@@ -14,10 +14,11 @@ use Rattle.pg_position.specs.declared.moves.Move.{Move}
 use Rattle.pg_board.specs.Men.{other, man, color_eq}
 use Rattle.pg_position.specs.Position.{Stands, king_home, rook_home, IsPosition}
 use Rattle.pg_position.specs.Step.{king_crossed, king_target, Step}
-use Rattle.pg_travel.specs.Walks.{FreeStep, Walk}
+use Rattle.pg_captures.specs.FreeSteps.{FreeStep}
+use Rattle.pg_travel.specs.Walks.{Walk}
 use Rattle.pg_captures.specs.Owed.{plies_left}
 use Rattle.pg_travel.specs.Origins.{IsWayOf, counted, sum_to, Origins, ReachedIn, OriginsLaw}
-use Rattle.pg_travel.specs.MoveLemmas.{KeptRight, OneStep, Castled, Spared, OwnMove, own_step, spared_step, side_step}
+use Rattle.pg_captures.specs.MoveLemmas.{KeptRight, OneStep, Castled, Spared, OwnMove, own_step, spared_step, side_step}
 use Rattle.pg_position.proofs.FutureLemmas.{legal_position}
 use Rattle.pg_travel.specs.SumLemmas.{sum_add, sum_zero, sum_one}
 

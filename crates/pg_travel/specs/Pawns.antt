@@ -8,7 +8,8 @@ use Rattle.pg_board.specs.declared.man.Kind.TheVariants.{Pawn, Knight, Bishop, R
 use Rattle.pg_board.specs.Squares.{file, rank}
 use Rattle.pg_position.specs.Geometry.{InPattern}
 use Rattle.pg_position.specs.Step.{last_rank}
-use Rattle.pg_travel.specs.Walks.{StepsTo, Becomes, FreeStep, Walk, DistanceIs}
+use Rattle.pg_captures.specs.FreeSteps.{StepsTo, Becomes, FreeStep}
+use Rattle.pg_travel.specs.Walks.{Walk, DistanceIs}
 use Rattle.pg_travel.specs.Formulas.{files, king, rook, bishop, queen, knight, piece, pawn, pawn_to, from_pawn, least_of, code, distance_of, DistanceLaw}
 use Rattle.pg_travel.specs.Decisions.{dec_kind}
 use Rattle.pg_travel.specs.PairTests.{Fits, fits}

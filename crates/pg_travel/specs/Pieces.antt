@@ -6,7 +6,8 @@ use Rattle.pg_board.specs.declared.man.Kind.{Kind}
 use Rattle.pg_board.specs.declared.man.Kind.TheVariants.{Pawn, Knight, Bishop, Rook, Queen, King}
 use Rattle.pg_board.specs.Squares.{file, rank}
 use Rattle.pg_position.specs.Geometry.{InPattern}
-use Rattle.pg_travel.specs.Walks.{StepsTo, Becomes, FreeStep, DistanceIs}
+use Rattle.pg_captures.specs.FreeSteps.{StepsTo, Becomes, FreeStep}
+use Rattle.pg_travel.specs.Walks.{DistanceIs}
 use Rattle.pg_travel.specs.Formulas.{files, ranks, king, rook, bishop, queen, knight, piece, answer, PieceLaw}
 use Rattle.pg_travel.specs.PairTests.{Fits, fits}
 use Rattle.pg_travel.specs.Tables.{knight_to, bishop_to, rook_to, queen_to, king_to, knight_fits, bishop_fits, rook_fits, queen_fits, king_fits}

@@ -45,7 +45,7 @@ color_eq_refl : (c : Color) → color_eq c c ≡ true
 color_eq_refl White = refl
 color_eq_refl Black = refl
 
-counted_low : (c : Color) (way : Option Wing) (o : ℕ) → o < 64 → counted c way o < 64
+pub counted_low : (c : Color) (way : Option Wing) (o : ℕ) → o < 64 → counted c way o < 64
 counted_low c None o low = low
 counted_low c (Some w) o low = elim (eqb_tells o (king_home c)) [
   | inl u ↦ rw u.0 (target_low c w)
@@ -105,7 +105,7 @@ nearest_comes p c way j t lt ne = elim (least_reached (λ x. reach_of c way j t 
 
 -- what a man of d costs
 
-cost_man : (b d : Placement) (c : Color) (way : Option Wing) (j : Kind) (t : ℕ) → Stands d c j t → cost b d c way t ≡ nearest b c way j t
+pub cost_man : (b d : Placement) (c : Color) (way : Option Wing) (j : Kind) (t : ℕ) → Stands d c j t → cost b d c way t ≡ nearest b c way j t
 unfolding cost
 cost_man b d c way j t h = ap (cost_of b c way t) h ∙ ap (λ (x : Bool). cond x (nearest b c way j t) 0) (color_eq_refl c)
 

@@ -3,7 +3,8 @@ use Rattle.std.proofs.Common.{◌≡◌, ◌≢◌, ℕ, zero, suc, ◌<◌, ◌
 use Rattle.std.proofs.lemmas.Bool.Decides.{eqb_tells}
 use Rattle.pg_board.specs.declared.man.Color.{Color}
 use Rattle.pg_board.specs.declared.man.Kind.{Kind}
-use Rattle.pg_travel.specs.Walks.{FreeStep, Walk, DistanceIs}
+use Rattle.pg_captures.specs.FreeSteps.{FreeStep}
+use Rattle.pg_travel.specs.Walks.{Walk, DistanceIs}
 use Rattle.pg_travel.specs.Formulas.{answer}
 
 -- D k r s stands for the distance from k on r to j on s, 64 for none. K are the kinds that a man may have on the way

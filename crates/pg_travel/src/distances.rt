@@ -2,8 +2,9 @@
 ghost use Rattle.std.specs.Prelude.{◌≡◌, ◌≢◌, ℕ, ◌+◌, ◌-◌, ◌*◌, ◌/◌, ◌%◌, ◌<◌, ◌≤◌, ◌&&◌, ◌||◌, cond, eqb, min, max, IsTrue};
 ghost use Rattle.pg_position.specs.Geometry.{apart};
 ghost use Rattle.pg_travel.specs.Walks.{DistanceIs};
-ghost use Rattle.pg_travel.specs.Formulas.{files, ranks, king, rook, bishop, queen, knight, is_corner, long_way, knight_by, piece, rank_for, pawn_steps, pawn, last_at, least_of, pawn_to, soonest, is_promoted, least_steps, from_pawn, distance_of};
+ghost use Rattle.pg_travel.specs.Formulas.{files, ranks, king, rook, bishop, queen, knight, is_corner, long_way, knight_by, piece, rank_for, mirrored, pawn_steps, pawn, last_at, least_of, pawn_to, soonest, is_promoted, least_steps, from_pawn, distance_of};
 
+use crate::pawn_table::WHITE_PAWN;
 use pg_board::{Color, Kind, Man, Square};
 
 fn apart_by(a: u8, b: u8) -> u8
@@ -174,17 +175,24 @@ fn pawn_steps(color: Color, from: Square, to: Square) -> u8
     }
 }
 
-#[tactic(auto, unfolding(crate::specs::Formulas::pawn))]
+// The index of the square as the other colour sees it: the ranks turned round.
+fn mirrored(index: u8) -> u8
+    requires { index < 64 }
+    ensures value { result ≡ mirrored index }
+    ensures low { result < 64 }
+{
+    8 * (7 - index / 8) + index % 8
+}
+
 fn pawn(color: Color, from: Square, to: Square) -> u8
     ensures value { result ≡ pawn color from to }
     ensures low { result ≤ 64 }
 {
-    if from.index() == to.index() {
-        0
-    } else if rank_for(color, to) == 8 {
-        64
-    } else {
-        pawn_steps(color, from, to)
+    let start = from.index();
+    let end = to.index();
+    match color {
+        Color::White => WHITE_PAWN[start as usize][end as usize],
+        Color::Black => WHITE_PAWN[mirrored(start) as usize][mirrored(end) as usize],
     }
 }
 
@@ -249,7 +257,7 @@ fn code(kind: Kind) -> u8
     }
 }
 
-fn all_steps(man: Man, from: Square, kind: Kind, to: Square) -> u8
+pub(crate) fn all_steps(man: Man, from: Square, kind: Kind, to: Square) -> u8
     ensures value { result ≡ distance_of man.color kind man.kind from to }
     ensures low { result ≤ 64 }
 {

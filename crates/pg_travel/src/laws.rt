@@ -1,9 +1,5 @@
 //! The laws of travel: statements about games and diagrams, proved by functions with an empty body.
-ghost use Rattle.std.specs.Prelude.{◌≡◌, ◌↔◌, ℕ, true};
-ghost use Rattle.pg_board.specs.Placement.{Placement};
-ghost use Rattle.pg_position.specs.declared.state.State.{State};
-ghost use Rattle.pg_travel.specs.Decided.{travel_test};
-ghost use Rattle.pg_travel.specs.Needs.{DistancesLaw, TravelHolds, TravelLaw};
+ghost use Rattle.pg_travel.specs.Needs.{DistancesLaw, TravelLaw};
 ghost use Rattle.pg_travel.specs.Origins.{OriginsLaw};
 
 /// The origins law. For each game from a position to a placement, and each colour, there are a way
@@ -19,10 +15,4 @@ pub fn origins_law()
 /// so many plies ends on the placement.
 pub fn travel_law()
     ensures { TravelLaw }
-{}
-
-/// The law: what `Travel` answers is yes exactly where its test holds.
-#[tactic(auto, using(crate::specs::Decided::travel_test_tells))]
-pub fn test_is_exact()
-    ensures { (d : Placement) (p : State) (k : ℕ) → travel_test d p k ≡ true ↔ TravelHolds d p k }
 {}

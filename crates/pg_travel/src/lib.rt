@@ -2,15 +2,23 @@
 //! colour can come to their squares of a diagram.
 #![tactic(auto)]
 
+mod bands;
 mod castling;
 mod distances;
 mod laws;
+mod misplaced;
 mod needs;
+mod pawn_table;
+mod price_cuts;
+mod prices;
+mod targets;
 mod travel;
 
 pub use distances::distance;
-pub use laws::{origins_law, test_is_exact, travel_law};
+pub use laws::{origins_law, travel_law};
 pub use needs::need;
+pub use price_cuts::prices_exclude;
+pub use prices::Prices;
 pub use travel::Travel;
 
 #[cfg(test)]

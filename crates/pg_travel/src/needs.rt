@@ -6,41 +6,58 @@ ghost use Rattle.pg_captures.specs.Owed.{plies_left};
 ghost use Rattle.pg_travel.specs.Ways.{wing_of, way_of};
 ghost use Rattle.pg_travel.specs.Origins.{counted, charge, sum_to};
 ghost use Rattle.pg_travel.specs.Formulas.{least_of};
-ghost use Rattle.pg_travel.specs.Costs.{nearest_man, nearest, cost_of, cost, ValueIs, SumIs, HeldIs, lesser};
+ghost use Rattle.pg_travel.specs.Costs.{BeyondFar, nearest_man, nearest, cost_of, cost, ValueIs, SumIs, HeldIs, lesser};
 ghost use Rattle.pg_travel.specs.Needs.{NeedIs, TravelTest};
+ghost use Rattle.pg_travel.specs.Within.{SumWithin, PaysIs, CastledIs};
 
+use crate::bands::{Band, promoting, whole_board};
 use crate::castling::{Castling, charge, counted, holds};
 use crate::distances::{closer, is_promoted};
+use crate::misplaced::{sure_to_cost, to_come};
 use pg_board::{Board, Color, Kind, Man, Square};
 use pg_captures::plies_left;
 use pg_fen::Diagram;
 use pg_position::{Position, first_from};
 
-fn same_side(a: Color, b: Color) -> bool
+pub(crate) fn same_side(a: Color, b: Color) -> bool
     ensures { result ≡ color_eq a b }
 {
     a == b
 }
 
-fn man(color: Color, kind: Kind) -> Man
+pub(crate) fn man(color: Color, kind: Kind) -> Man
     ensures { result ≡ man color kind }
 {
     Man { color, kind }
 }
 
-// From the nearest square with this man to a kind on a target, where that is less than `best`.
+// From the nearest square with this man to a kind on a target, where that is less than `best`. Those
+// outside of a band are no nearer than that.
 #[tactic(auto, unfolding(crate::specs::Costs::nearest_man))]
-fn nearer(board: &Board, man: Man, way: Option<Castling>, kind: Kind, t: Square, best: u8) -> u8
-    requires { best ≤ 64 }
+fn nearer(
+    board: &Board,
+    man: Man,
+    way: Option<Castling>,
+    kind: Kind,
+    t: Square,
+    best: u8,
+    band: Band,
+) -> u8
+    requires low { best ≤ 64 }
+    requires beyond { BeyondFar board.now man (way_of way) kind t best band.first band.past }
     ensures { result ≡ min best (nearest_man board.now man (way_of way) kind t) }
 {
     let own = board.squares_of(man);
     let mut least = best;
-    let mut from = 0u8;
+    let mut from = band.first;
     while let Some(o) = first_from(own, from) {
+        let at = o.index();
+        if band.past <= at {
+            return least;
+        }
         let origin = counted(man.color, way, o);
         least = closer(man, origin, kind, t, least);
-        from = o.index() + 1;
+        from = at + 1;
     }
     least
 }
@@ -51,9 +68,10 @@ fn nearest(board: &Board, color: Color, way: Option<Castling>, kind: Kind, t: Sq
     ensures value { result ≡ nearest board.now color (way_of way) kind t }
     ensures low { result ≤ 64 }
 {
-    let own = nearer(board, man(color, kind), way, kind, t, 64);
+    let own = nearer(board, man(color, kind), way, kind, t, 64, whole_board());
     if is_promoted(kind) {
-        nearer(board, man(color, Kind::Pawn), way, kind, t, own)
+        let pawn = man(color, Kind::Pawn);
+        nearer(board, pawn, way, kind, t, own, promoting(color, own))
     } else {
         own
     }
@@ -104,6 +122,38 @@ fn total(board: &Board, goal: &Board, color: Color, way: Option<Castling>) -> Op
             return None;
         }
         total += u16::from(n);
+        from = t.index() + 1;
+    }
+    Some(total)
+}
+
+// The charge of a way and what all men of the diagram cost; none where that is above the limit, or
+// where one has no man to come.
+fn total_within(
+    board: &Board,
+    goal: &Board,
+    color: Color,
+    way: Option<Castling>,
+    limit: u16,
+) -> Option<u16>
+    ensures { SumWithin board.now goal.now color (way_of way) limit result }
+{
+    let sure = sure_to_cost(board, goal, color, way).count_ones() as u8;
+    if charge(way) + u16::from(sure) > limit {
+        return None;
+    }
+    let squares = to_come(board, goal, color, way);
+    let mut total = charge(way);
+    let mut from = 0u8;
+    while let Some(t) = first_from(squares, from) {
+        let n = cost(board, goal, color, way, t);
+        if n == 64 {
+            return None;
+        }
+        total += u16::from(n);
+        if total > limit {
+            return None;
+        }
         from = t.index() + 1;
     }
     Some(total)
@@ -168,28 +218,52 @@ pub fn need(color: Color, diagram: &Diagram, position: &Position) -> Option<u16>
     need_by(color, diagram, position, free)
 }
 
-// Whether a value is known and so many plies pay for it.
-fn pays(plies: u16, value: Option<u16>) -> bool
-    ensures { IsTrue result ↔ ((v : ℕ) × (value ≡ Some v) × (v ≤ plies)) }
+// Whether so many plies pay for a way.
+fn pays(
+    position: &Position,
+    diagram: &Diagram,
+    color: Color,
+    way: Option<Castling>,
+    plies: u16,
+) -> bool
+    ensures { PaysIs position.now diagram.now color (way_of way) plies result }
 {
-    match value {
+    match total_within(&position.board(), &diagram.board(), color, way, plies) {
         None => false,
         Some(n) => n <= plies,
     }
 }
 
-// Whether the colour's need does not exist or is above its plies left. The ways by castling are
-// tried only where the way without is not paid for.
+// Whether a right is held to castle so, and so many plies pay for it.
+fn pays_castled(
+    position: &Position,
+    diagram: &Diagram,
+    color: Color,
+    right: Castling,
+    plies: u16,
+) -> bool
+    ensures { CastledIs position.now diagram.now color (wing_of right) plies result }
+{
+    if holds(position.rights(), color, right) {
+        pays(position, diagram, color, Some(right), plies)
+    } else {
+        false
+    }
+}
+
+// Whether the colour's need does not exist or is above its plies left: no way is paid for.
 pub(crate) fn excludes_for(color: Color, diagram: &Diagram, position: &Position, left: u8) -> bool
     ensures { IsTrue result ↔ TravelTest position.now diagram.now color left }
 {
     let plies = u16::from(plies_left(position.side(), color, left));
-    let free = value(position, diagram, color, None);
-    if pays(plies, free) {
+    let free = pays(position, diagram, color, None, plies);
+    if free {
         return false;
     }
-    match need_by(color, diagram, position, free) {
-        None => true,
-        Some(n) => plies < n,
+    let short = pays_castled(position, diagram, color, Castling::Short, plies);
+    if short {
+        return false;
     }
+    let long = pays_castled(position, diagram, color, Castling::Long, plies);
+    !long
 }

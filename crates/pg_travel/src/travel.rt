@@ -31,11 +31,16 @@ impl Bound for Travel {
 
     ghost sound = { λ b d p k valid h. travel_barren d p k valid ((travel_test_tells d p k).0 h) };
 
-    fn code(&self) -> u8 {
+    fn code(&self) -> u8
+        ensures { result ≡ 4 }
+    {
         4
     }
 
-    fn excludes(&self, diagram: &Diagram, position: &Position, left: u8) -> bool {
+    fn excludes(&self, diagram: &Diagram, position: &Position, left: u8) -> bool
+        ensures fixed { result ≡ travel_test diagram.now position.now left }
+        ensures exact { IsTrue result ↔ TravelHolds diagram.now position.now left }
+    {
         travel_holds(diagram, position, left)
     }
 }

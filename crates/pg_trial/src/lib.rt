@@ -13,7 +13,7 @@ mod takes_nothing;
 
 pub use endless::Endless;
 pub use fails_at::FailsAt;
-pub use men::{Men, men_test_is_exact};
+pub use men::Men;
 pub use never::Never;
 pub use one_byte::OneByte;
 pub use takes_nothing::TakesNothing;

@@ -46,17 +46,16 @@ impl Bound for Men {
 
     ghost sound = { λ b d p k valid h. men_barren d p k valid ((men_test_tells d p).0 h) };
 
-    fn code(&self) -> u8 {
+    fn code(&self) -> u8
+        ensures { result ≡ 9 }
+    {
         9
     }
 
-    fn excludes(&self, diagram: &Diagram, position: &Position, _left: u8) -> bool {
+    fn excludes(&self, diagram: &Diagram, position: &Position, _left: u8) -> bool
+        ensures fixed { result ≡ men_test diagram.now position.now }
+        ensures exact { IsTrue result ↔ MenHolds diagram.now position.now }
+    {
         men_hold(diagram, position)
     }
 }
-
-/// The law: what `Men` answers is yes exactly where the diagram has more men of a colour.
-#[tactic(auto, using(crate::specs::MenTest::men_test_tells))]
-pub fn men_test_is_exact()
-    ensures { (d : Placement) (p : State) → men_test d p ≡ true ↔ MenHolds d p }
-{}

@@ -32,11 +32,15 @@ impl Bound for Never {
 
     ghost sound = { λ b d p k valid h. never_excludes h };
 
-    fn code(&self) -> u8 {
+    fn code(&self) -> u8
+        ensures { result ≡ code_in self.now }
+    {
         self.code
     }
 
-    fn excludes(&self, _diagram: &Diagram, _position: &Position, _left: u8) -> bool {
+    fn excludes(&self, _diagram: &Diagram, _position: &Position, _left: u8) -> bool
+        ensures { result ≡ false }
+    {
         false
     }
 }

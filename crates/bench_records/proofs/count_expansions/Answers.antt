@@ -3,27 +3,27 @@ use Rattle.std.proofs.KnownBytes.{Consumes-trans}
 use Rattle.std.proofs.lemmas.List.{flat_map_more}
 use Rattle.std.specs.Io.KnownBytes.{Consumes}
 use Rattle.pg_certificate.specs.declared.record.Record.{Record}
-use Rattle.pg_certificate.specs.Spelling.{spelling}
-use Rattle.bench_records.proofs.RunLemmas.{length-spellings, within_more, pulls_refused}
+use Rattle.pg_certificate.specs.Spelling.{spelling, longest_record}
+use Rattle.bench_records.proofs.RunLemmas.{one_longer, within_more, pulls_refused}
 use Rattle.bench_records.proofs.count_expansions.Goals as goal
 use Rattle.bench_records.proofs.count_expansions.Goals.{in-Expand, in_default}
 
 pub returns-in_err-next_record-clause-pulls : goal.returns-in_err-next_record-clause-pulls
 returns-in_err-next_record-clause-pulls g c =
     let w = c.loop-read.invariant.taken in
-    pulls_refused Record _ _ _ _ _ 5 _ c.in_err-next_record.field-0.0 c.from_residual.result c.from_residual.ensures.1 w.2
-    (omega (arith, w.1, length-spellings w.0, c.loop-read-test.true)) c.in_err-next_record.ensures.pulls
+    pulls_refused Record _ _ _ _ _ longest_record _ c.in_err-next_record.field-0.0 c.from_residual.result c.from_residual.ensures.1 w.2
+    (omega (arith, w.1, w.3, c.loop-read-test.true)) c.in_err-next_record.ensures.pulls
 
 pub returns-in_err-end-clause-pulls : goal.returns-in_err-end-clause-pulls
 returns-in_err-end-clause-pulls g c =
     let w = c.loop-read.invariant.taken in
     pulls_refused (Unit {0}) _ _ _ _ _ 0 _ c.in_err-end.field-0.0 c.from_residual-in_err-end.result c.from_residual-in_err-end.ensures.1 w.2
-    (omega (arith, w.1, length-spellings w.0, c.loop-read.auto.read-end)) c.in_err-end.ensures.pulls
+    (omega (arith, w.1, w.3, c.loop-read.auto.read-end)) c.in_err-end.ensures.pulls
 
 pub returns-clause-pulls : goal.returns-clause-pulls
 returns-clause-pulls g c =
     let w = c.loop-read.invariant.taken in
-    within_more _ _ _ _ 0 _ w.2 (omega (arith, w.1, length-spellings w.0, c.loop-read.auto.read-end)) c.in_ok-end.ensures.pulls
+    within_more _ _ _ _ 0 _ w.2 (omega (arith, w.1, w.3, c.loop-read.auto.read-end)) c.in_ok-end.ensures.pulls
 
 pub loop-read-preserved : goal.loop-read-preserved
 loop-read-preserved g c =
@@ -36,5 +36,5 @@ loop-read-preserved g c =
         | in_default v ↦ omega (arith, v.expansions-is, c.loop-read.invariant.counted)
       ];
       runs = c.in_ok-next_record.ensures.refuses.1;
-      taken = (w.0 ++ x ∷ [], omega (arith, w.1, length-append w.0 (x ∷ [])), subst (Consumes _ _) (flat_map_more spelling [] w.0 x) read);
+      taken = (w.0 ++ x ∷ [], omega (arith, w.1, length-append w.0 (x ∷ [])), subst (Consumes _ _) (flat_map_more spelling [] w.0 x) read, one_longer w.0 x c.loop-read.read w.3 (c.no_spelling_is_longer.ensures x c.in_ok-next_record.ensures.spelled.fits));
     }

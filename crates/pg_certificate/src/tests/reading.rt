@@ -138,7 +138,7 @@ fn other_bytes_are_unknown(rt: HostRuntime) {
 
 #[test]
 fn the_magic_is_tested_after_the_length(rt: HostRuntime) {
-    for (at, byte) in [(0, 0x58), (1, 0x58), (2, 0x58), (3, 0x32), (3, 0x33)] {
+    for (at, byte) in [(0, 0x58), (1, 0x58), (2, 0x58), (3, 0x30), (3, 0x33)] {
         let mut bytes = ARRAY_HEADER;
         bytes[at] = byte;
         let mut reader = RecordReader::new();

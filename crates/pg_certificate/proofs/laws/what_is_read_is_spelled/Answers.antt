@@ -1,5 +1,5 @@
-use Rattle.pg_certificate.proofs.RecordLaws.{record_takes}
+use Rattle.pg_certificate.proofs.RecordLaws.{records_taken}
 use Rattle.pg_certificate.proofs.laws.what_is_read_is_spelled.Goals as goal
 
 pub returns : goal.returns
-returns c = record_takes
+returns c = records_taken

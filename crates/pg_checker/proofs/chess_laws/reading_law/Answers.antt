@@ -10,10 +10,10 @@ pub returns-clause-spelled : goal.returns-clause-spelled
 returns-clause-spelled c = read_spelled
 
 pub returns-clause-truncated : goal.returns-clause-truncated
-returns-clause-truncated c = λ bytes fits. (read_short bytes fits, short_read bytes)
+returns-clause-truncated c = λ bytes fits. (read_short bytes fits, short_read bytes fits)
 
 pub returns-clause-unknown : goal.returns-clause-unknown
-returns-clause-unknown c = λ b rest. (read_unknown b rest, unknown_read b rest)
+returns-clause-unknown c = λ bytes x fits. (read_unknown bytes x fits, unknown_read bytes x fits)
 
 pub returns-clause-refusals : goal.returns-clause-refusals
 returns-clause-refusals c = read_err

@@ -1,4 +1,4 @@
-use Rattle.std.proofs.Common.{reverse, ◌∙◌}
+use Rattle.std.proofs.Common.{reverse, refl, ◌∙◌}
 use Rattle.pg_checker.specs.Cuts.{cuts_by}
 use Rattle.pg_checker.specs.Machine.{path}
 use Rattle.pg_checker.proofs.Leaves.{leaf_off, leaf_shorter, leaf_listed, leaf_unlisted}
@@ -14,4 +14,4 @@ pub returns-then-contains : goal.returns-then-contains
 returns-then-contains g c = leaf_listed c.args.question.now.diagram.now c.args.question.now.plies c.args.question.now.games.now (cuts_by (λ b. (goal.Bound-dyn g (b.vtable, b.value)).code_of b.value) (λ b. (goal.Bound-dyn g (b.vtable, b.value)).excluded b.value) c.args.question.now.diagram.now c.args.question.now.bounds.now) c.args.tree (path (reverse c.args.frames.now)) c.args.position.now c.as_slice.result.now c.matches.result c.contains.result (c.as_slice.ensures.value ∙ c.game_along-game.ensures) c.matches.ensures c.if-not-matches.false c.if-tree-question.false c.contains.ensures c.if-contains.true
 
 pub returns-else-contains : goal.returns-else-contains
-returns-else-contains g c = leaf_unlisted c.args.question.now.diagram.now c.args.question.now.plies c.args.question.now.games.now (cuts_by (λ b. (goal.Bound-dyn g (b.vtable, b.value)).code_of b.value) (λ b. (goal.Bound-dyn g (b.vtable, b.value)).excluded b.value) c.args.question.now.diagram.now c.args.question.now.bounds.now) c.args.tree (path (reverse c.args.frames.now)) c.args.position.now c.as_slice.result.now c.game_along-game.result.items c.matches.result c.contains.result (c.as_slice.ensures.value ∙ c.game_along-game.ensures) c.game_along-game.ensures c.matches.ensures c.if-not-matches.false c.if-tree-question.false c.contains.ensures c.if-contains.false
+returns-else-contains g c = leaf_unlisted c.args.question.now.diagram.now c.args.question.now.plies c.args.question.now.games.now (cuts_by (λ b. (goal.Bound-dyn g (b.vtable, b.value)).code_of b.value) (λ b. (goal.Bound-dyn g (b.vtable, b.value)).excluded b.value) c.args.question.now.diagram.now c.args.question.now.bounds.now) c.args.tree (path (reverse c.args.frames.now)) c.args.position.now c.as_slice.result.now (path (reverse c.args.frames.now)) c.matches.result c.contains.result (c.as_slice.ensures.value ∙ c.game_along-game.ensures) refl c.matches.ensures c.if-not-matches.false c.if-tree-question.false c.contains.ensures c.if-contains.false

@@ -15,5 +15,5 @@ loop-m-preserved c = record {
   list = rw c.in_ok-push.ensures.items (list_next c.args.position.now (place_of c.loop-m.from c.loop-m.to c.loop-m.rank) c.index-from.result c.index-to.result c.rank_of-rank.result c.loop-m.moves.items c.in-Some.m c.loop-m.invariant.list c.in-Some.ensures c.index-from.ensures.value c.index-to.ensures.value c.rank_of-rank.ensures.value);
 }
 
-pub returns : goal.returns
-returns c = list_end c.args.position.now (place_of c.loop-m.from c.loop-m.to c.loop-m.rank) c.loop-m.moves.items c.loop-m.invariant.list (omega arith) c.in_default.ensures
+pub returns-clause-ok : goal.returns-clause-ok
+returns-clause-ok c = list_end c.args.position.now (place_of c.loop-m.from c.loop-m.to c.loop-m.rank) c.loop-m.moves.items c.loop-m.invariant.list (omega arith) c.in_default.ensures

@@ -4,13 +4,14 @@ use Rattle.pg_moves.proofs.LeafLemmas.{walk_start, walk_step, walk_far, walk_end
 use Rattle.pg_moves.proofs.leaves.walked.Goals as goal
 
 pub loop-m-init : goal.loop-m-init
-loop-m-init c = record { target = omega arith; place = omega arith; bound = omega arith; walked = walk_start c.args.position.now (place_of c.args.from 0 0) }
+loop-m-init c = record { target = omega arith; place = omega arith; bound = omega arith; covers = c.targets-set.ensures; walked = walk_start c.args.position.now (place_of c.args.from 0 0) }
 
 pub loop-m-preserved : goal.loop-m-preserved
 loop-m-preserved c = record {
   target = omega arith;
   place = omega arith;
   bound = omega (arith, walk_far c.args.position.now c.args.from c.loop-m.to c.loop-m.rank c.in-Some.m c.in-Some.ensures);
+  covers = c.loop-m.invariant.covers;
   walked = walk_step c.args.position.now c.args.from c.loop-m.to c.loop-m.rank c.loop-m.total c.in-Some.m c.index-to.result c.rank_of-rank.result c.loop-m.invariant.walked c.in-Some.ensures c.index-to.ensures.value c.rank_of-rank.ensures.value;
 }
 

@@ -1,0 +1,41 @@
+#!/usr/bin/env bash
+# What the program's work costs in instructions, as valgrind counts them: the same for the same program and input, whatever
+# else the machine is doing. The first rows are whole runs, start of the program included; the others are what one more
+# record costs the checker, from two runs of bench_checker.
+set -eu
+top=$(cd "$(dirname "$(readlink -f "$0")")/.." && pwd)
+work=$(mktemp -d)
+trap 'rm -rf "$work"' EXIT
+
+instructions() {
+  valgrind --tool=callgrind --callgrind-out-file=/dev/null "$@" 2>&1 >/dev/null | awk '/Collected/ { print $4 }'
+}
+
+run() {
+  local label=$1
+  shift
+  instructions "$@" | awk -v label="$label" '{ printf "%-60s %8.1f M\n", label, $1 / 1e6 }'
+}
+
+bench="$top/crates/bench_checker/out/bench_checker"
+(cd "$top/crates/bench_checker" && rt run >/dev/null 2>&1)
+record() {
+  local few many records
+  few=$(instructions "$bench" "$2" 1)
+  many=$(instructions "$bench" "$2" 3)
+  records=$(("$("$bench" "$2" 3)" - "$("$bench" "$2" 1)"))
+  echo "$few $many $records" | awk -v label="$1" '{ printf "%-60s %8.0f\n", label, ($2 - $1) / $3 }'
+}
+
+"$top/pg" --help >/dev/null # builds the program where that is due
+pg="$top/crates/pg_cli/out/pg_cli"
+schweig=r1bqkbnr/ppp2ppp/3p4/8/8/8/PPPPPPPP/R1BQKBNR
+array='rnbqkbnr/pppppppp/8/8/8/8/PPPPPPPP/RNBQKBNR w KQkq - 0 1'
+many='r3k2r/p1ppqpb1/bn2pnp1/3PN3/1p2P3/2N2Q1p/PPPBBPPP/R3K2R w KQkq - 0 1'
+run 'check of examples/schweig' "$pg" check "$schweig" 4.0 "$top/examples/schweig/certificate.pgc" "$top/examples/schweig/games"
+run 'search of the same, its check included' "$pg" search "$schweig" 4.0 "$work/schweig.pgc"
+run 'count of the array, 4 plies' "$pg" count "$array" 4
+run "count of ${many%% *}, 3 plies" "$pg" count "$many" 3
+record 'a record 01 on a diagram of 64 men, 2.0' full
+record 'a record 01 of the queen recaptures' expansions
+record 'the dearest node with one ply left: 218 moves, 4 squares off' near

@@ -1,0 +1,6 @@
+use Rattle.std.proofs.Common.{◌≡◌, ◌*◌, ◌≤◌, take}
+use Rattle.std.specs.Prelude.{sum}
+use Rattle.pg_captures.proofs.prices.price_sum.Given as goal
+
+abbrev pub invariant-loop-i : goal.invariant-loop-i
+invariant-loop-i l = record { is : l.sum ≡ sum (take l.i l.prices); few : l.sum ≤ 255 * l.i }

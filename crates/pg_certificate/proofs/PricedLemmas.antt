@@ -1,0 +1,54 @@
+-- Reading price lists from a source that tells its bytes.
+use Rattle.std.proofs.Common.{◌≡◌, ℕ, zero, suc, ◌+◌, ◌*◌, ◌<◌, ◌≤◌, ◌^◌, inl, inr, List, [], ◌∷◌, ◌++◌, length, get_or, Some, None, refl, sym, subst, ap, ◌∙◌, arith}
+use Rattle.std.specs.Prelude.{Option, IfSome, slice_index}
+use Rattle.std.proofs.KnownBytes.{Consumes-trans}
+use Rattle.std.proofs.lemmas.Bool.{cases_lt}
+use Rattle.std.specs.Io.KnownBytes.{Consumes}
+use Rattle.pg_captures.specs.PriceLists.{PriceList}
+use Rattle.pg_certificate.specs.declared.outline.Outline.{Outline}
+use Rattle.pg_certificate.specs.Spelling.{AreBytes, spelling}
+use Rattle.pg_certificate.specs.Outlines.{IsOutline, outline_spelling, AreListsOf, lists_spelling}
+use Rattle.pg_certificate.specs.Reading.{exactly, lists_of, lists_at}
+use Rattle.pg_certificate.specs.Reader.{Leaves}
+use Rattle.pg_certificate.proofs.ListTexts.{many_lists, are_lists, spelled_lists}
+use Rattle.pg_certificate.proofs.RecordLaws.{few_bytes, lists_are, priced_of, priced_spelling}
+
+-- how many bytes the lists have
+abbrev pub all_bytes : Outline → ℕ
+all_bytes o = o.ways * (o.sources + o.targets)
+
+pub few : (o : Outline) → IsOutline o → all_bytes o ≤ 3 * (64 + 64)
+few o is = few_bytes o.ways o.sources o.targets is.few is.sources is.targets
+
+pub lists_given : (before after : Option (List ℕ)) (o : Outline) (n : ℕ) (out : List ℕ) (ls : List PriceList) → n ≡ all_bytes o → ls ≡ lists_of o.ways o.sources o.targets out → Leaves (exactly n) before after out → Leaves (lists_at o) before after ls
+lists_given None after o n out ls len e h = tt
+lists_given (Some bytes) None o n out ls len e h = absurd h
+lists_given (Some bytes) (Some rest) o n out ls len e h = let h2 : Leaves (exactly (all_bytes o)) (Some bytes) (Some rest) out = subst (λ (k : ℕ). Leaves (exactly k) (Some bytes) (Some rest) out) len h in rw (h2, e) refl
+
+pub lists_text : (before after : Option (List ℕ)) (o : Outline) (out : List ℕ) (ls : List PriceList) → length out ≡ all_bytes o → ls ≡ lists_of o.ways o.sources o.targets out → Consumes before after out → Consumes before after (lists_spelling ls)
+lists_text before after o out ls len e h = subst (Consumes before after) (sym (ap lists_spelling e ∙ spelled_lists o.ways o.sources o.targets out len)) h
+
+past : (out : List ℕ) (i : ℕ) → length out ≤ i → get_or out i 0 < 256
+past [] i p = omega arith
+past (x ∷ out) zero p = absurd (omega arith)
+past (x ∷ out) (suc i) p = past out i (omega arith)
+
+all_fit : (out : List ℕ) → ((k : ℕ) → k < length out → slice_index out k < 2 ^ 8) → AreBytes out
+all_fit out h = λ i. elim (cases_lt i (length out)) [
+  | inl p ↦ h i p
+  | inr p ↦ past out i p
+]
+
+pub lists_fit : (o : Outline) (out : List ℕ) (ls : List PriceList) → length out ≡ all_bytes o → ls ≡ lists_of o.ways o.sources o.targets out → ((k : ℕ) → k < length out → slice_index out k < 2 ^ 8) → AreListsOf o ls
+lists_fit o out ls len e h =
+    subst (λ (x : List PriceList). AreListsOf o x) (sym e) (record { ways = many_lists o.ways o.sources o.targets out; lists = are_lists o.ways o.sources o.targets out len (all_fit out h) })
+
+pub fewer_pulled : (before left : Option (List ℕ)) (n m : ℕ) → n ≤ m → IfSome before (λ bytes. IfSome left (λ rest. length bytes ≤ length rest + (4096 + n))) → IfSome before (λ bytes. IfSome left (λ rest. length bytes ≤ length rest + (4096 + m)))
+fewer_pulled None left n m p h = tt
+fewer_pulled (Some bytes) None n m p h = tt
+fewer_pulled (Some bytes) (Some rest) n m p h = omega (arith, p, h)
+
+pub priced_text : (before mid after : Option (List ℕ)) (o : Outline) (ls : List PriceList) → IsOutline o → AreListsOf o ls → Consumes before mid (outline_spelling o) → Consumes mid after (lists_spelling ls) → (l : List ℕ) × (spelling (priced_of o ls) ≡ 6 ∷ l) × Consumes before after l
+priced_text before mid after o ls is are p q =
+    let fit = lists_are o ls is are in
+    (outline_spelling o ++ lists_spelling ls, priced_spelling o ls fit.1 fit.2 fit.3, Consumes-trans before mid after (outline_spelling o) (lists_spelling ls) p q)

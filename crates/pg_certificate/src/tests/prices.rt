@@ -1,0 +1,223 @@
+use super::*;
+use pg_board::Color;
+use pg_travel::Prices;
+use pg_trial::{Endless, FailsAt, OneByte};
+use std::io::{ErrorKind, Read};
+use std::process::Abort;
+
+/// White's prices by travel from a1, e1, h1 to e1, a2, a3.
+const TRAVEL_BYTES: [u8; 12] = [6, 4, 0, 1, 3, 3, 1, 0, 0, 0, 2, 2];
+
+/// White's prices by pawn files from a2 to h2 to a2, b2, c2, d2, f2, g2, h2, d3.
+const PAWN_BYTES: [u8; 22] = [
+    6, 3, 0, 1, 8, 8, 0, 0, 0, 1, 0, 0, 0, 0, 0, 0, 0, 1, 0, 0, 0, 1,
+];
+
+/// Black's prices in three ways, for two sources and one target.
+const WAYS_BYTES: [u8; 15] = [6, 4, 1, 3, 2, 1, 1, 2, 3, 4, 5, 6, 7, 8, 255];
+
+/// The header of the array in a version.
+fn header_of(version: u8) -> [u8; 37] {
+    let mut bytes = ARRAY_HEADER;
+    bytes[3] = version;
+    bytes
+}
+
+/// One list of White's.
+fn of_white(rt: &impl Abort, code: u8, u: &[u8], v: &[u8]) -> Record {
+    Record::Priced {
+        code,
+        color: Color::White,
+        prices: Prices::new(u, v).expect(rt, "few enough"),
+    }
+}
+
+/// The three ways of Black.
+fn three_ways(rt: &impl Abort) -> Record {
+    let mut prices = Prices::new(&[1, 2], &[3]).expect(rt, "few enough");
+    assert!(rt; prices.add(&[4, 5], &[6]) && prices.add(&[7, 8], &[255]));
+    Record::Priced {
+        code: 4,
+        color: Color::Black,
+        prices,
+    }
+}
+
+/// The first record after a header of this version, through readers of many bytes and of one.
+fn first_record(rt: &impl Abort, version: u8, record: &[u8]) -> Result<Record, ReadFault> {
+    let header = header_of(version);
+    let mut source = FromRead::new(header.as_slice().chain(record));
+    let mut reader = RecordReader::new();
+    assert!(rt; reader.header(&mut source).is_ok());
+    let many = reader.next_record(&mut source);
+    let mut source = FromRead::new(OneByte::new(header.as_slice().chain(record)));
+    let mut reader = RecordReader::new();
+    assert!(rt; reader.header(&mut source).is_ok());
+    assert_eq!(rt; reader.next_record(&mut source), many);
+    if many.is_err() {
+        assert_eq!(rt; reader.next_record(&mut source), Err(ReadFault::Failed));
+        assert_eq!(rt; reader.end(&mut source), Err(ReadFault::Failed));
+    }
+    many
+}
+
+#[test]
+fn priced_records_are_read(rt: HostRuntime) {
+    let travel = of_white(&rt, 4, &[1, 0, 0], &[0, 2, 2]);
+    let pawns = of_white(&rt, 3, &[0, 0, 0, 1, 0, 0, 0, 0], &[0, 0, 0, 1, 0, 0, 0, 1]);
+    assert_eq!(rt; first_record(&rt, b'2', &TRAVEL_BYTES), Ok(travel));
+    assert_eq!(rt; first_record(&rt, b'2', &PAWN_BYTES), Ok(pawns));
+    assert_eq!(rt; first_record(&rt, b'2', &WAYS_BYTES), Ok(three_ways(&rt)));
+    assert_eq!(rt;
+        first_record(&rt, b'2', &[1, 6]),
+        Ok(Record::Expand { named: false })
+    );
+}
+
+#[test]
+fn lists_may_have_no_number(rt: HostRuntime) {
+    let none = of_white(&rt, 9, &[], &[]);
+    assert_eq!(rt; first_record(&rt, b'2', &[6, 9, 0, 1, 0, 0]), Ok(none));
+    assert_eq!(rt;
+        first_record(&rt, b'2', &[6, 9, 0, 1, 0]),
+        Err(ReadFault::Truncated)
+    );
+    let targets = of_white(&rt, 0, &[], &[7]);
+    assert_eq!(rt;
+        first_record(&rt, b'2', &[6, 0, 0, 1, 0, 1, 7]),
+        Ok(targets)
+    );
+}
+
+#[test]
+fn version_one_has_no_prices(rt: HostRuntime) {
+    let unknown = Err(ReadFault::UnknownRecord(6));
+    assert_eq!(rt; first_record(&rt, b'1', &TRAVEL_BYTES), unknown);
+    assert_eq!(rt; first_record(&rt, b'1', &[6]), unknown);
+    let mut reader = RecordReader::new();
+    let read = reader.next_record(&mut FromRead::new(PAWN_BYTES.as_slice()));
+    assert_eq!(rt; read, unknown);
+}
+
+#[test]
+fn bytes_out_of_range_are_unknown(rt: HostRuntime) {
+    for (at, byte) in [(2, 2), (2, 255), (3, 0), (3, 4), (4, 65), (4, 255), (5, 65)] {
+        let mut bytes = TRAVEL_BYTES;
+        bytes[at] = byte;
+        let unknown = Err(ReadFault::UnknownRecord(byte));
+        assert_eq!(rt; first_record(&rt, b'2', &bytes), unknown, "at {at}");
+        assert_eq!(rt;
+            first_record(&rt, b'2', &bytes[..at + 1]),
+            unknown,
+            "at {at}"
+        );
+    }
+    let mut bytes = TRAVEL_BYTES;
+    bytes[1] = 200;
+    let other = of_white(&rt, 200, &[1, 0, 0], &[0, 2, 2]);
+    assert_eq!(rt; first_record(&rt, b'2', &bytes), Ok(other));
+}
+
+#[test]
+fn the_widest_record_is_read(rt: HostRuntime) -> Result<(), Fail> {
+    let mut bytes = vec![in rt.alloc(); 1u8; 390]?;
+    for (at, byte) in [(0, 6), (1, 4), (2, 0), (3, 3), (4, 64), (5, 64)] {
+        bytes[at] = byte;
+    }
+    let ones = [1; 64];
+    let mut prices = Prices::new(&ones, &ones).expect(&rt, "few enough");
+    assert!(rt; prices.add(&ones, &ones) && prices.add(&ones, &ones));
+    let widest = Record::Priced {
+        code: 4,
+        color: Color::White,
+        prices,
+    };
+    assert_eq!(rt; first_record(&rt, b'2', bytes.as_slice()), Ok(widest));
+    let short = first_record(&rt, b'2', &bytes.as_slice()[..389]);
+    assert_eq!(rt; short, Err(ReadFault::Truncated));
+    Ok(())
+}
+
+#[test]
+fn a_record_may_be_cut_anywhere(rt: HostRuntime) {
+    for length in 0..22 {
+        let cut = first_record(&rt, b'2', &PAWN_BYTES[..length]);
+        assert_eq!(rt; cut, Err(ReadFault::Truncated), "at {length}");
+    }
+}
+
+#[test]
+fn a_read_may_fail_in_any_record(rt: HostRuntime) {
+    for at in 37..59 {
+        let bytes = header_of(b'2');
+        let pieces = OneByte::new(bytes.as_slice().chain(PAWN_BYTES.as_slice()));
+        let mut source = FromRead::new(FailsAt::new(pieces, at, ErrorKind::Other));
+        let mut reader = RecordReader::new();
+        assert!(rt; reader.header(&mut source).is_ok());
+        assert_eq!(rt;
+            reader.next_record(&mut source),
+            Err(ReadFault::Read),
+            "at {at}"
+        );
+        assert_eq!(rt; reader.next_record(&mut source), Err(ReadFault::Failed));
+    }
+}
+
+#[test]
+fn endless_prices_are_read_on(rt: HostRuntime) {
+    let bytes = header_of(b'2');
+    let mut source = FromRead::new(bytes.as_slice().chain(Endless::new(6)));
+    let mut reader = RecordReader::new();
+    assert!(rt; reader.header(&mut source).is_ok());
+    let read = reader.next_record(&mut source);
+    assert_eq!(rt; read, Err(ReadFault::UnknownRecord(6)));
+}
+
+/// Writes the records once each after a header of version 2.
+fn writes_them(rt: &impl Abort, records: &[Record], sink: &mut impl Sink) {
+    let mut diagram = [0; 32];
+    diagram.copy_from_slice(&ARRAY_HEADER[5..]);
+    let header = Header {
+        version: 2,
+        plies: 0,
+        diagram,
+    };
+    let mut writer = RecordWriter::new();
+    assert_eq!(rt; writer.header(&header, sink), Ok(()));
+    for record in records {
+        assert_eq!(rt; writer.put_record(record, sink), Ok(()));
+    }
+    assert_eq!(rt; writer.finish(sink), Ok(()));
+}
+
+#[test]
+fn priced_records_are_written(rt: HostRuntime) -> Result<(), Fail> {
+    let records = [
+        of_white(&rt, 4, &[1, 0, 0], &[0, 2, 2]),
+        Record::Cut(4),
+        of_white(&rt, 3, &[0, 0, 0, 1, 0, 0, 0, 0], &[0, 0, 0, 1, 0, 0, 0, 1]),
+        three_ways(&rt),
+        of_white(&rt, 9, &[], &[]),
+    ];
+    let mut wanted = Vec::new(rt.alloc());
+    wanted.extend_from_slice(&header_of(b'2'))?;
+    wanted.extend_from_slice(&TRAVEL_BYTES)?;
+    wanted.extend_from_slice(&[2, 4])?;
+    wanted.extend_from_slice(&PAWN_BYTES)?;
+    wanted.extend_from_slice(&WAYS_BYTES)?;
+    wanted.extend_from_slice(&[6, 9, 0, 1, 0, 0])?;
+    let mut sink = ToWrite::new(Vec::new(rt.alloc()));
+    writes_them(&rt, &records, &mut sink);
+    assert_eq!(rt; sink.into_inner().as_slice(), wanted.as_slice());
+    let mut sink = ToWrite::new(OneByte::new(Vec::new(rt.alloc())));
+    writes_them(&rt, &records, &mut sink);
+    let bytes = sink.into_inner().into_inner();
+    let mut source = FromRead::new(bytes.as_slice());
+    let mut reader = RecordReader::new();
+    assert!(rt; reader.header(&mut source).is_ok_and(|h| h.version == 2));
+    for record in records {
+        assert_eq!(rt; reader.next_record(&mut source), Ok(record));
+    }
+    assert_eq!(rt; reader.end(&mut source), Ok(()));
+    Ok(())
+}

@@ -1,0 +1,136 @@
+-- Passing over moves that do not lead to the diagram leaves what the walk answers. Leads to the contracts of `pass_over` and `run`.
+use Rattle.std.proofs.Common.{◌≡◌, ◌≢◌, ℕ, zero, suc, ◌+◌, ◌<◌, ◌≤◌, Bool, true, false, ◌||◌, List, [], ◌∷◌, ◌++◌, length, reverse, Option, Some, Result, IsTrue, ◌↔◌, refl, sym, ◌∙◌, ap, subst, arith, append_assoc}
+use Rattle.std.specs.List.{Contains}
+use Rattle.std.proofs.lemmas.List.{length-append}
+use Rattle.std.proofs.lemmas.List.Elements.{Contains-append_left, Contains-append_cases}
+use Rattle.std.proofs.Common.{inl, inr}
+use Rattle.pg_board.specs.Bits.{has}
+use Rattle.pg_board.specs.Placement.{Placement}
+use Rattle.pg_position.specs.declared.state.State.{State}
+use Rattle.pg_position.specs.declared.moves.Move.{Move}
+use Rattle.pg_position.specs.Position.{IsPosition}
+use Rattle.pg_position.specs.Step.{Legal}
+use Rattle.pg_position.proofs.FutureLemmas.{one_result}
+use Rattle.pg_moves.specs.Left.{MovesLeft}
+use Rattle.pg_moves.specs.Moves.{IsNext, IsLast}
+use Rattle.pg_moves.proofs.SortLemmas.{Contains-none, Contains-cons}
+use Rattle.pg_checker.specs.Tree as tree
+use Rattle.pg_checker.specs.Walk as walk
+use Rattle.pg_checker.specs.Walk.{visit, each, ◌>>=◌}
+use Rattle.pg_checker.specs.Frames.{resume, effort, Stacked}
+use Rattle.pg_checker.specs.Chess.{Cuts, chess}
+use Rattle.pg_checker.specs.Left.{left_after}
+use Rattle.pg_checker.specs.Machine.{path, frame_of, frames_of, count_named, state_at, work_at}
+use Rattle.pg_checker.specs.Passing.{LeadsElsewhere, AllElsewhere, PassesOver}
+use Rattle.pg_checker.specs.declared.machine.Frame.{Frame}
+use Rattle.pg_checker.specs.declared.machine.Machine.{Machine}
+use Rattle.pg_checker.proofs.Goings.{goes_as}
+use Rattle.pg_checker.proofs.Left.{left_are, left_next, left_last}
+use Rattle.pg_checker.proofs.Running.{Runs, finishes, dry_front, goal_off, frames_popped, kept_popped}
+use Rattle.pg_checker.proofs.FrameViews.{frames_more, count_more}
+
+-- ---- one move
+pub outside : (b : Bool) (n i s : ℕ) → b ≡ has n i → i ≡ s → b ≡ false → has n s ≡ false
+outside b n i s is at out = ap (λ (v : ℕ). has n v) (sym at) ∙ sym is ∙ out
+
+-- a legal move leads to one position, whose placement was compared
+pub played_elsewhere : (d : Placement) (p : State) (m : Move) (r q : State) (b : Bool) → IsPosition p → Legal p m r → Legal p m q → IsTrue b ↔ (r.board ≡ d) → b ≡ false → q.board ≢ d
+played_elsewhere d p m r q b valid first second same off e =
+    let is : b ≡ true = same.1 (ap (λ (v : State). v.board) (one_result p m r q valid first second) ∙ e) in
+    let both : true ≡ false = sym is ∙ off in cc
+
+-- ---- the loop over the moves
+pub passes_none : (d : Placement) (moves : MovesLeft) → PassesOver d moves moves
+passes_none d moves = record { position = refl; passed = []; left = refl; elsewhere = λ m c. absurd (Contains-none m c) }
+
+-- one move more is passed over
+pub passes_more : (d : Placement) (old now new : MovesLeft) (m : Move) → PassesOver d old now → IsNext now.position now.last m → new ≡ record now { last = Some m } → LeadsElsewhere d old.position m → PassesOver d old new
+passes_more d old now new m over next is off = record {
+  position = ap (λ (v : MovesLeft). v.position) is ∙ over.position;
+  passed = over.passed ++ (m ∷ []);
+  left = over.left ∙ ap (λ (v : List Move). over.passed ++ v) (left_next old.position now.last m (subst (λ (p : State). IsNext p now.last m) over.position next)) ∙ sym (append_assoc over.passed (m ∷ []) (left_after old.position (Some m))) ∙ ap (λ (v : MovesLeft). (over.passed ++ (m ∷ [])) ++ left_after old.position v.last) (sym is);
+  elsewhere = λ n c. elim (Contains-append_cases over.passed (m ∷ []) n c) [
+    | inl a ↦ over.elsewhere n a
+    | inr b ↦ elim (Contains-cons m n [] b) [
+      | inl e ↦ subst (λ (x : Move). LeadsElsewhere d old.position x) e off
+      | inr e ↦ absurd (Contains-none n e)
+    ]
+  ];
+}
+
+-- fewer are left then
+pub fewer_left : (now new : MovesLeft) (m : Move) → IsNext now.position now.last m → new ≡ record now { last = Some m } → length (left_after new.position new.last) < length (left_after now.position now.last)
+fewer_left now new m next is =
+    let a : length (left_after now.position now.last) ≡ suc (length (left_after now.position (Some m))) = ap length (left_next now.position now.last m next) in
+    let b : length (left_after new.position new.last) ≡ length (left_after now.position (Some m)) = ap (λ (v : MovesLeft). length (left_after v.position v.last)) is in
+    omega (arith, a, b)
+
+-- after the last one none is left
+pub none_elsewhere : (d : Placement) (moves : MovesLeft) → IsLast moves.position moves.last → AllElsewhere d moves
+none_elsewhere d moves end m c = absurd (Contains-none m (subst (λ (v : List Move). Contains v m) (left_last moves.position moves.last end) c))
+
+-- where no legal move leads to the diagram, none that is left does
+pub far_elsewhere : (d : Placement) (moves : MovesLeft) → ((m : Move) (q : State) → Legal moves.position m q → q.board ≢ d) → AllElsewhere d moves
+far_elsewhere d moves far m c q legal = far m q legal
+
+-- ---- the frame on top
+-- the machine with this frame on top of those of another
+abbrev pub topped : Machine → Machine → Frame → Machine
+topped now mid top = record now { frames = record { items = mid.frames.items ++ (top ∷ []) } }
+
+same_frame : (top new : Frame) → new ≡ record top { moves = new.moves } → new.moves ≡ top.moves → new ≡ top
+same_frame top new is e = is ∙ ap (λ (v : MovesLeft). record top { moves = v }) e
+
+module _ (d : Placement) (l : ℕ) (games : List (List Move)) (cut : Cuts) (n : ℕ) where
+  -- leaves that are not on the diagram say nothing
+  passed_off : (p : State) (ms passed : List Move) (last : Option Move) → IsPosition p → left_after p last ≡ passed ++ ms → ((m : Move) → Contains passed m → LeadsElsewhere d p m) → (m : Move) → Contains passed m → (chess d l games cut).is_goal ((chess d l games cut).play p m) ≡ false
+  passed_off p ms passed last valid is off m c =
+      goal_off d l games cut n p m valid (left_are p last m (subst (λ (v : List Move). Contains v m) (sym is) (Contains-append_left passed ms m c))).0 (off m c)
+
+  leaves_over : (now mid : Machine) (top new : Frame) → now.frames.items ≡ mid.frames.items ++ (top ∷ []) → top.plies ≡ 0 → IsPosition top.moves.position → new ≡ record top { moves = new.moves } → PassesOver d top.moves new.moves → (rest : List ℕ) (room : ℕ)
+      → finishes d l games cut n now rest room ≡ finishes d l games cut n (topped now mid new) rest room
+  leaves_over now mid top new items last valid is over rest room =
+      ap (λ v. resume (chess d l games cut) n v (now.found, state_at now rest room)) (frames_popped now.frames.items mid.frames.items top items)
+      ∙ ap (λ (k : ℕ). goes_up k (left_after top.moves.position top.moves.last)) last
+      ∙ ap (λ (v : List Move). goes_up 0 v) over.left
+      ∙ ap (λ (x : Result (Bool × walk.State State) (tree.Fault Move)). x >>= up) (dry_front d l games cut n top.moves.position (path (reverse mid.frames.items)) over.passed (left_after top.moves.position new.moves.last) (top.found || now.found) (state_at now rest room) (passed_off top.moves.position (left_after top.moves.position new.moves.last) over.passed top.moves.last valid over.left over.elsewhere))
+      ∙ ap (λ (k : ℕ). goes_up k (left_after top.moves.position new.moves.last)) (sym last)
+      ∙ ap (λ (f : Frame). resume (chess d l games cut) n (frame_of f (reverse mid.frames.items) ∷ frames_of (reverse mid.frames.items)) (now.found, state_at now rest room)) (sym (is ∙ ap (λ (p : State). record top { moves = record { position = p; last = new.moves.last } }) over.position))
+      ∙ ap (λ v. resume (chess d l games cut) n v (now.found, state_at now rest room)) (sym (frames_popped (mid.frames.items ++ (new ∷ [])) mid.frames.items new refl))
+    where
+      up : Bool × walk.State State → Result (Bool × walk.State State) (tree.Fault Move)
+      up all = walk.close (chess d l games cut) top.named (suc top.plies) top.moves.position all >>= resume (chess d l games cut) n (frames_of (reverse mid.frames.items))
+
+      goes_up : ℕ → List Move → Result (Bool × walk.State State) (tree.Fault Move)
+      goes_up k ms = each (chess d l games cut) (visit (chess d l games cut) n k) (path (reverse mid.frames.items)) top.moves.position ms (top.found || now.found) (state_at now rest room) >>= up
+
+  over_same : (now mid : Machine) (top new : Frame) (k : ℕ) → top.plies ≡ k → now.frames.items ≡ mid.frames.items ++ (top ∷ []) → (k ≡ 0 → IsPosition top.moves.position) → new ≡ record top { moves = new.moves } → PassesOver d top.moves new.moves → (0 < top.plies → new.moves ≡ top.moves) → (rest : List ℕ) (room : ℕ)
+      → finishes d l games cut n now rest room ≡ finishes d l games cut n (topped now mid new) rest room
+  over_same now mid top new zero plies items valid is over same rest room = leaves_over now mid top new items plies (valid refl) is over rest room
+  over_same now mid top new (suc k) plies items valid is over same rest room =
+      ap (λ (v : List Frame). finishes d l games cut n (record now { frames = record { items = v } }) rest room) (items ∙ ap (λ (f : Frame). mid.frames.items ++ (f ∷ [])) (sym (same_frame top new is (same (omega (arith, plies))))))
+
+  pub frame_plies : (top new : Frame) → new ≡ record top { moves = new.moves } → new.plies ≡ top.plies
+  frame_plies top new is = ap (λ (f : Frame). f.plies) is
+
+  -- what holds at each turn holds past such moves
+  pub runs_over : {before here : Option (List ℕ)} (old now mid : Machine) (top new : Frame) → Runs d l games cut n before here old now → now.frames.items ≡ mid.frames.items ++ (top ∷ []) → (top.plies ≡ 0 → IsPosition top.moves.position) → new ≡ record top { moves = new.moves } → PassesOver d top.moves new.moves → (0 < top.plies → new.moves ≡ top.moves)
+      → Runs d l games cut n before here old (topped now mid new)
+  runs_over {before} {here} old now mid top new run items valid is over same = record {
+    stacked = subst (λ v. Stacked n v) (sym (frames_more mid.frames.items new)) (let s : Stacked n (frame_of top (reverse mid.frames.items) ∷ frames_of (reverse mid.frames.items)) = subst (λ v. Stacked n v) (frames_popped now.frames.items mid.frames.items top items) run.stacked in (ap (λ (k : ℕ). k + suc (length (frames_of (reverse mid.frames.items)))) (frame_plies top new is) ∙ s.0, s.1));
+    kept = kept_popped now.table.kept now.frames.items mid.frames.items top items run.kept ∙ ap (λ (f : Frame). tree.one_if f.named + count_named (reverse mid.frames.items)) (sym is) ∙ sym (count_more mid.frames.items new);
+    runs = run.runs;
+    held = run.held;
+    few = run.few;
+    goes = goes_as before here old.room now.room (finishes d l games cut n old) (finishes d l games cut n now) (finishes d l games cut n old) (finishes d l games cut n (topped now mid new)) (λ rest x. refl) (over_same now mid top new top.plies refl items valid is over same) run.goes;
+  }
+
+  -- and there is no more to do
+  pub over_less : (now mid : Machine) (top new : Frame) → now.frames.items ≡ mid.frames.items ++ (top ∷ []) → new ≡ record top { moves = new.moves } → PassesOver d top.moves new.moves
+      → effort (chess d l games cut) 28672 (work_at (chess d l games cut) (topped now mid new) [] 0) ≤ effort (chess d l games cut) 28672 (work_at (chess d l games cut) now [] 0)
+  over_less now mid top new items is over =
+      let shorter : length (left_after top.moves.position top.moves.last) ≡ length over.passed + length (left_after top.moves.position new.moves.last) = ap length over.left ∙ length-append over.passed (left_after top.moves.position new.moves.last) in
+      let as_left : length (left_after new.moves.position new.moves.last) ≡ length (left_after top.moves.position new.moves.last) = ap (λ (p : State). length (left_after p new.moves.last)) over.position in
+      subst (λ v. effort (chess d l games cut) 28672 (record { frames = v; found = now.found; state = state_at now [] 0 }) ≤ effort (chess d l games cut) 28672 (work_at (chess d l games cut) now [] 0)) (sym (frames_more mid.frames.items new))
+      (subst (λ v. effort (chess d l games cut) 28672 (record { frames = frame_of new (reverse mid.frames.items) ∷ frames_of (reverse mid.frames.items); found = now.found; state = state_at now [] 0 }) ≤ effort (chess d l games cut) 28672 (record { frames = v; found = now.found; state = state_at now [] 0 })) (sym (frames_popped now.frames.items mid.frames.items top items))
+      (omega (arith, shorter, as_left)))

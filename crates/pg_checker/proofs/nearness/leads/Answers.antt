@@ -1,0 +1,9 @@
+use Rattle.pg_checker.proofs.Differing.{from_elsewhere}
+use Rattle.pg_checker.proofs.Passing.{outside, played_elsewhere}
+use Rattle.pg_checker.proofs.nearness.leads.Goals as goal
+
+pub returns-then-not-contains : goal.returns-then-not-contains
+returns-then-not-contains c = λ e q legal. from_elsewhere c.args.position.now c.args.diagram.now c.args.squares c.requires.squares c.requires.position c.args.m.now (outside c.contains.result c.args.squares c.index.result c.args.m.now.from c.contains.ensures c.index.ensures.value c.if-not-contains.true) q legal
+
+pub returns : goal.returns
+returns c = λ off q legal. played_elsewhere c.args.diagram.now c.args.position.now c.args.m.now c.after.result q c.matches.result c.requires.position c.after.ensures.legal legal c.matches.ensures off

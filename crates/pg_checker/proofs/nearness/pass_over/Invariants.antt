@@ -1,0 +1,11 @@
+-- What was passed over leads elsewhere, and fewer moves are left at each turn.
+use Rattle.std.proofs.Common.{length}
+use Rattle.pg_checker.specs.Left.{left_after}
+use Rattle.pg_checker.specs.Passing.{PassesOver}
+use Rattle.pg_checker.proofs.nearness.pass_over.Given as goal
+
+abbrev pub invariant-loop-m : goal.invariant-loop-m
+invariant-loop-m l = PassesOver l.diagram l.initial.moves l.moves
+
+abbrev pub decreases-loop-m : goal.decreases-loop-m
+decreases-loop-m l = length (left_after l.moves.position l.moves.last)

@@ -1,0 +1,206 @@
+-- Castling by its own test: a castling that the rules allow leaves the king unattacked.
+use Rattle.std.proofs.Common.{◌≡◌, ◌≢◌, ◌↔◌, ℕ, ◌<◌, ◌⊎◌, inl, inr, IsTrue, Some, None, Bool, true, false, refl, sym, ap, subst, ◌∙◌, arith}
+use Rattle.std.proofs.lemmas.Bool.Decides.{eqb_tells}
+use Rattle.pg_board.specs.declared.man.Color.{Color}
+use Rattle.pg_board.specs.declared.man.Color.TheVariants.{White, Black}
+use Rattle.pg_board.specs.declared.man.Kind.{Kind}
+use Rattle.pg_board.specs.declared.man.Kind.TheVariants.{Pawn, Rook, King}
+use Rattle.pg_board.specs.declared.man.Man.{Man}
+use Rattle.pg_board.specs.Squares.{file, rank}
+use Rattle.pg_board.specs.Men.{man, other}
+use Rattle.pg_board.specs.Placement.{Placement, get, without, get-write_same, get-write_other}
+use Rattle.pg_position.specs.declared.rights.Wing.{Wing}
+use Rattle.pg_position.specs.declared.rights.Wing.TheVariants.{KingSide, QueenSide}
+use Rattle.pg_position.specs.declared.state.State.{State}
+use Rattle.pg_position.specs.declared.moves.Move.{Move}
+use Rattle.pg_position.specs.declared.moves.Way.{Way}
+use Rattle.pg_position.specs.declared.moves.Way.TheVariants.{Plain, Capture, DoubleAdvance, EnPassant, Promotion, Castling}
+use Rattle.pg_position.specs.Geometry.{IsBetween}
+use Rattle.pg_position.specs.Attack.{IsClear, Reaches, AttacksFrom, Attacks}
+use Rattle.pg_position.specs.Position.{Stands, HasOneKing, IsOnlyKing, InCheck, IsPosition, RightsClause, IsHome, king_home, rook_home}
+use Rattle.pg_position.specs.Step.{Goes, IsWay, IsCastling, IsOnBoard, relocated, after, Step, king_crossed, king_target}
+use Rattle.pg_position.proofs.StepLemmas.{same_kind, not_other}
+use Rattle.pg_moves.specs.Moves.{IsLegal}
+use Rattle.pg_moves.proofs.LeafLemmas.{one_king}
+use Rattle.pg_moves.proofs.KingLemmas.{not_end}
+use Rattle.pg_moves.proofs.SearchLemmas.{promotes}
+
+-- ---- the four squares: of the king and of the rook, before and after
+record AreFour (e h f g : ℕ) : Type 0 where
+  on : (e < 64) × (h < 64) × (f < 64) × (g < 64)
+  home : (e ≢ h) × (e ≢ f) × (e ≢ g)
+  rest : (h ≢ f) × (h ≢ g) × (f ≢ g)
+
+squares : (c : Color) (w : Wing) → AreFour (king_home c) (rook_home c w) (king_crossed c w) (king_target c w)
+squares White KingSide = record { on = (omega arith, omega arith, omega arith, omega arith); home = (λ z. omega arith, λ z. omega arith, λ z. omega arith); rest = (λ z. omega arith, λ z. omega arith, λ z. omega arith) }
+squares White QueenSide = record { on = (omega arith, omega arith, omega arith, omega arith); home = (λ z. omega arith, λ z. omega arith, λ z. omega arith); rest = (λ z. omega arith, λ z. omega arith, λ z. omega arith) }
+squares Black KingSide = record { on = (omega arith, omega arith, omega arith, omega arith); home = (λ z. omega arith, λ z. omega arith, λ z. omega arith); rest = (λ z. omega arith, λ z. omega arith, λ z. omega arith) }
+squares Black QueenSide = record { on = (omega arith, omega arith, omega arith, omega arith); home = (λ z. omega arith, λ z. omega arith, λ z. omega arith); rest = (λ z. omega arith, λ z. omega arith, λ z. omega arith) }
+
+-- a square of one rank with two others that share no file
+on_rank : (x i k r : ℕ) → i ≢ k → (file x ≡ i) ⊎ (rank x ≡ r) → (file x ≡ k) ⊎ (rank x ≡ r) → rank x ≡ r
+on_rank x i k r ne (inr a) h = a
+on_rank x i k r ne (inl a) (inr b) = b
+on_rank x i k r ne (inl a) (inl b) = absurd (ne (sym a ∙ b))
+
+-- what comes to the king's new square over his old one comes over the rook's new one
+over_home : (c : Color) (w : Wing) (x : ℕ) → x < 64 → IsBetween x (king_home c) (king_target c w) → IsBetween x (king_crossed c w) (king_target c w)
+unfolding IsBetween
+over_home White KingSide x low (a, b, u, v, inl (l, m, n)) = let z : rank x ≡ 1 = on_rank x 5 7 1 (λ y. omega arith) l n in (λ y. omega arith, λ y. omega arith, omega arith, omega arith, inl (inr z, inr refl, inr z))
+over_home White KingSide x low (a, b, u, v, inr (l, m)) = absurd (omega arith)
+over_home White QueenSide x low (a, b, u, v, inl (l, m, n)) = let z : rank x ≡ 1 = on_rank x 5 3 1 (λ y. omega arith) l n in (λ y. omega arith, λ y. omega arith, omega arith, omega arith, inl (inr z, inr refl, inr z))
+over_home White QueenSide x low (a, b, u, v, inr (l, m)) = absurd (omega arith)
+over_home Black KingSide x low (a, b, u, v, inl (l, m, n)) = let z : rank x ≡ 8 = on_rank x 5 7 8 (λ y. omega arith) l n in (λ y. omega arith, λ y. omega arith, omega arith, omega arith, inl (inr z, inr refl, inr z))
+over_home Black KingSide x low (a, b, u, v, inr (l, m)) = absurd (omega arith)
+over_home Black QueenSide x low (a, b, u, v, inl (l, m, n)) = let z : rank x ≡ 8 = on_rank x 5 3 8 (λ y. omega arith) l n in (λ y. omega arith, λ y. omega arith, omega arith, omega arith, inl (inr z, inr refl, inr z))
+over_home Black QueenSide x low (a, b, u, v, inr (l, m)) = absurd (omega arith)
+
+-- nothing comes there over the rook's old square
+over_rook : (c : Color) (w : Wing) (x : ℕ) → x < 64 → IsBetween x (rook_home c w) (king_target c w) → ⊥
+unfolding IsBetween
+over_rook White KingSide x low (a, b, u, v, inl (l, m, n)) = let z : rank x ≡ 1 = on_rank x 8 7 1 (λ y. omega arith) l n in omega arith
+over_rook White KingSide x low (a, b, u, v, inr (l, m)) = omega arith
+over_rook White QueenSide x low (a, b, u, v, inl (l, m, n)) = let z : rank x ≡ 1 = on_rank x 1 3 1 (λ y. omega arith) l n in omega arith
+over_rook White QueenSide x low (a, b, u, v, inr (l, m)) = omega arith
+over_rook Black KingSide x low (a, b, u, v, inl (l, m, n)) = let z : rank x ≡ 8 = on_rank x 8 7 8 (λ y. omega arith) l n in omega arith
+over_rook Black KingSide x low (a, b, u, v, inr (l, m)) = omega arith
+over_rook Black QueenSide x low (a, b, u, v, inl (l, m, n)) = let z : rank x ≡ 8 = on_rank x 1 3 8 (λ y. omega arith) l n in omega arith
+over_rook Black QueenSide x low (a, b, u, v, inr (l, m)) = omega arith
+
+-- ---- the board after castling
+none_some : {x : Man} → None ≡ Some x → ⊥
+none_some e = cc
+
+rook_no_king : Rook ≡ King → ⊥
+rook_no_king e = cc
+
+pub king_no_pawn : King ≡ Pawn → ⊥
+king_no_pawn e = cc
+
+data Place (t e h f g : ℕ) : Type 0 where
+  is_king : t ≡ e → Place t e h f g
+  is_rook : t ≡ h → Place t e h f g
+  is_crossed : t ≡ f → Place t e h f g
+  is_target : t ≡ g → Place t e h f g
+  is_other : t ≢ e → t ≢ h → t ≢ f → t ≢ g → Place t e h f g
+
+placed : (t e h f g : ℕ) → Place t e h f g
+placed t e h f g = elim (eqb_tells t e) [
+  | inl a ↦ is_king a.1
+  | inr a ↦ elim (eqb_tells t h) [
+    | inl b ↦ is_rook b.1
+    | inr b ↦ elim (eqb_tells t f) [
+      | inl c ↦ is_crossed c.1
+      | inr c ↦ elim (eqb_tells t g) [ inl d ↦ is_target d.1 | inr d ↦ is_other a.1 b.1 c.1 d.1 ]
+    ]
+  ]
+]
+
+module _ (b : Placement) (c : Color) (e h f g : ℕ) (four : AreFour e h f g) (king : Stands b c King e) (rook : Stands b c Rook h) where
+  first : Placement
+  first = relocated b e g
+
+  castled : Placement
+  castled = relocated first h f
+
+  untouched : (t : ℕ) → t ≢ e → t ≢ h → t ≢ f → t ≢ g → get castled t ≡ get b t
+  unfolding first castled
+  untouched t a k x y = get-write_other (without first h) f (get first h) t x ∙ get-write_other first h None t k ∙ get-write_other (without b e) g (get b e) t y ∙ get-write_other b e None t a
+
+  at_rook : get first h ≡ Some (man c Rook)
+  unfolding first
+  at_rook = get-write_other (without b e) g (get b e) h four.rest.1 ∙ get-write_other b e None h (λ z. four.home.0 (sym z)) ∙ rook
+
+  at_crossed : get castled f ≡ Some (man c Rook)
+  unfolding castled
+  at_crossed = get-write_same (without first h) f (get first h) four.on.2 ∙ at_rook
+
+  at_target : get castled g ≡ Some (man c King)
+  unfolding first castled
+  at_target = get-write_other (without first h) f (get first h) g (λ z. four.rest.2 (sym z)) ∙ get-write_other first h None g (λ z. four.rest.1 (sym z)) ∙ get-write_same (without b e) g (get b e) four.on.3 ∙ king
+
+  at_home : get castled e ≡ None
+  unfolding first castled
+  at_home = get-write_other (without first h) f (get first h) e four.home.1 ∙ get-write_other first h None e four.home.0 ∙ get-write_other (without b e) g (get b e) e four.home.2 ∙ get-write_same b e None four.on.0
+
+  at_corner : get castled h ≡ None
+  unfolding castled
+  at_corner = get-write_other (without first h) f (get first h) h four.rest.0 ∙ get-write_same first h None four.on.1
+
+  king_went : ((t : ℕ) → t < 64 → Stands b c King t → t ≡ e) → (t : ℕ) → t < 64 → Stands castled c King t → t ≡ g
+  king_went only t low here = elim (placed t e h f g) [
+    | is_king z ↦ absurd (none_some (sym at_home ∙ subst (λ (x : ℕ). Stands castled c King x) z here))
+    | is_rook z ↦ absurd (none_some (sym at_corner ∙ subst (λ (x : ℕ). Stands castled c King x) z here))
+    | is_crossed z ↦ absurd (rook_no_king (same_kind at_crossed (subst (λ (x : ℕ). Stands castled c King x) z here)))
+    | is_target z ↦ z
+    | is_other v x y z ↦ absurd (v (only t low (sym (untouched t v x y z) ∙ here)))
+  ]
+
+  foreign : (k : Kind) (m : Man) → Some (man c k) ≡ Some m → m.color ≡ other c → ⊥
+  foreign k m same color = not_other c ((let z : man c k ≡ m = cc in ap (λ (x : Man). x.color) z) ∙ color)
+
+  module _ (over : (x : ℕ) → x < 64 → IsBetween x e g → IsBetween x f g) (never : (x : ℕ) → x < 64 → IsBetween x h g → ⊥) where
+    was_clear : (x : ℕ) → x < 64 → IsClear castled x g → IsClear b x g
+    unfolding IsClear
+    was_clear x low clear t l bet = elim (placed t e h f g) [
+      | is_king z ↦ absurd (none_some (sym (clear f four.on.2 (over x low (subst (λ (y : ℕ). IsBetween x y g) z bet))) ∙ at_crossed))
+      | is_rook z ↦ absurd (never x low (subst (λ (y : ℕ). IsBetween x y g) z bet))
+      | is_crossed z ↦ absurd (none_some (sym (subst (λ (y : ℕ). get castled y ≡ None) z (clear t l bet)) ∙ at_crossed))
+      | is_target z ↦ absurd (not_end x t g bet z)
+      | is_other v u y z ↦ sym (untouched t v u y z) ∙ clear t l bet
+    ]
+
+    was_attacked : Attacks castled (other c) g → Attacks b (other c) g
+    unfolding Attacks AttacksFrom
+    was_attacked (x, low, (m, at, color, pattern, clear)) =
+        let before : get b x ≡ Some m = elim (placed x e h f g) [
+          | is_king z ↦ absurd (none_some (sym at_home ∙ subst (λ (y : ℕ). get castled y ≡ Some m) z at))
+          | is_rook z ↦ absurd (none_some (sym at_corner ∙ subst (λ (y : ℕ). get castled y ≡ Some m) z at))
+          | is_crossed z ↦ absurd (foreign Rook m (sym at_crossed ∙ subst (λ (y : ℕ). get castled y ≡ Some m) z at) color)
+          | is_target z ↦ absurd (foreign King m (sym at_target ∙ subst (λ (y : ℕ). get castled y ≡ Some m) z at) color)
+          | is_other v u y z ↦ sym (untouched x v u y z) ∙ at
+        ] in
+        (x, low, (m, before, color, pattern, was_clear x low clear))
+
+    stays_safe : ((t : ℕ) → t < 64 → Stands b c King t → t ≡ e) → ¬ Attacks b (other c) g → ¬ InCheck (relocated (relocated b e g) h f) c
+    unfolding InCheck first castled
+    stays_safe only safe (t, low, stands, attacked) =
+        safe (was_attacked (subst (λ (y : ℕ). Attacks castled (other c) y) (king_went only t low stands) attacked))
+
+-- ---- a king's move that is no step
+module _ (p : State) (m : Move) (pos : IsPosition p) (here : Stands p.board p.side King m.from) (on : IsOnBoard m) where
+  pub castle_legal : (w : Wing) → IsCastling p King m w → IsLegal p m
+  unfolding Step IsHome HasOneKing IsOnlyKing RightsClause
+  castle_legal w way =
+      let home : Stands p.board p.side King (king_home p.side) × Stands p.board p.side Rook (rook_home p.side w) = pos.homes p.side w way.right in
+      let one : HasOneKing p.board p.side = one_king p pos in
+      let only : (t : ℕ) → t < 64 → Stands p.board p.side King t → t ≡ king_home p.side = (λ t l s. one.1.2 t l s ∙ sym (one.1.2 (king_home p.side) (squares p.side w).on.0 home.0)) in
+      let safe : ¬ InCheck (relocated (relocated p.board (king_home p.side) (king_target p.side w)) (rook_home p.side w) (king_crossed p.side w)) p.side = stays_safe p.board p.side _ _ _ _ (squares p.side w) home.0 home.1 (over_home p.side w) (over_rook p.side w) only way.safe_target in
+      let there : ¬ InCheck (relocated (relocated p.board m.from m.to) (rook_home p.side w) (king_crossed p.side w)) p.side = subst (λ (r : ℕ). ¬ InCheck (relocated (relocated p.board r m.to) (rook_home p.side w) (king_crossed p.side w)) p.side) (sym way.home) (subst (λ (s : ℕ). ¬ InCheck (relocated (relocated p.board (king_home p.side) s) (rook_home p.side w) (king_crossed p.side w)) p.side) (sym way.target) safe) in
+      (after p m (Castling w), ((King, Castling w, on, here, way, refl), there))
+
+  legal_castle : ¬ Reaches p.board p.side King m.from m.to → m.promotion ≡ None → IsLegal p m → (w : Wing) × IsCastling p King m w
+  unfolding Step Goes
+  legal_castle far none (q, ((k, v, _, stands, way, e), _)) = go v (subst (λ (x : Kind). IsWay p x m v) (same_kind stands here) way)
+    where
+      go : (v : Way) → IsWay p King m v → (w : Wing) × IsCastling p King m w
+      go Plain h = absurd (far h.goes)
+      go Capture h = absurd (far h.reaches)
+      go DoubleAdvance h = absurd (king_no_pawn h.pawn)
+      go EnPassant h = absurd (king_no_pawn h.pawn)
+      go (Promotion x) h = absurd (king_no_pawn h.must.0)
+      go (Castling w) h = (w, h)
+
+pub castle_is : (p : State) (b : Placement) (c : Color) (m : Move) (u t : Bool) → b ≡ p.board → c ≡ p.side → IsPosition p → Stands p.board p.side King m.from → IsOnBoard m → (IsTrue t ↔ Reaches b c King m.from m.to) → t ≡ false → m.promotion ≡ None → (IsTrue u ↔ ((w : Wing) × IsCastling p King m w)) → IsTrue u ↔ IsLegal p m
+castle_is p b c m u t eb ec pos here on reaches off none h =
+    let far : ¬ Reaches p.board p.side King m.from m.to = (λ r. (
+    let there : Reaches b c King m.from m.to = subst (λ (x : Placement). Reaches x c King m.from m.to) (sym eb) (subst (λ (d : Color). Reaches p.board d King m.from m.to) (sym ec) r) in
+    let yes : t ≡ true = reaches.1 there in
+    cc)) in
+    (λ e. (let r : (w : Wing) × IsCastling p King m w = h.0 e in castle_legal p m pos here on r.0 r.1), λ l. h.1 (legal_castle p m pos here on far none l))
+
+pub king_unpromoted : (p : State) (m : Move) (x : Kind) → Stands p.board p.side King m.from → m.promotion ≡ Some x → IsTrue false ↔ IsLegal p m
+king_unpromoted p m x here some = (
+  λ e. absurd (let f : false ≡ true = e in cc),
+  λ l. absurd (elim (promotes p m l) [ inl e ↦ (let z : None ≡ Some x = sym e ∙ some in cc) | inr g ↦ king_no_pawn (same_kind here g.0) ]),
+)

@@ -1,0 +1,65 @@
+-- The legal moves past the last one.
+use Rattle.std.proofs.Common.{◌≡◌, ℕ, ◌+◌, ◌<◌, ◌≤◌, inl, inr, Option, Some, None, MatchOption, refl, sym, subst, arith}
+use Rattle.pg_board.specs.Bits.{has}
+use Rattle.pg_board.specs.Men.{is_of}
+use Rattle.pg_board.specs.Placement.{get}
+use Rattle.pg_position.specs.declared.state.State.{State}
+use Rattle.pg_position.specs.declared.moves.Move.{Move}
+use Rattle.pg_position.specs.SquareSets.{HasNoneFrom, IsFirstFrom}
+use Rattle.pg_moves.specs.Left.{MovesLeft, IsSource, IsFound}
+use Rattle.pg_moves.specs.Moves.{promotion_rank, IsNext, IsLast}
+use Rattle.pg_moves.specs.Places.{place, place_of, NoneFrom, IsFirstMove}
+use Rattle.pg_moves.specs.declared.left.Source.{Source}
+use Rattle.pg_moves.proofs.ListLemmas.{on_board}
+use Rattle.pg_moves.proofs.PlaceLemmas.{promotion_low}
+use Rattle.pg_moves.proofs.SearchLemmas.{own_found, own_next, own_end, next_found, next_none, none_then, none_yet, first_block}
+
+-- a move of a man's block is from there
+there : (r to n f t j : ℕ) → n ≤ 7 → t < 64 → j < 7 → place_of r to n ≤ place_of f t j → place_of f t j < place_of (r + 1) 0 0 → f ≡ r
+there r to n f t j a b c d e = omega arith
+
+pub found_there : (p : State) (r to n : ℕ) (m : Move) → n ≤ 7 → IsFirstMove p (place_of r to n) (place_of (r + 1) 0 0) m → m.from ≡ r
+found_there p r to n m few f = there r to n m.from m.to (promotion_rank m.promotion) few (on_board p m f.legal).1 (promotion_low m.promotion) f.from_low f.to_high
+
+pub source_there : (p : State) (r to n : ℕ) (m : Move) (s : Source) → n ≤ 7 → IsFirstMove p (place_of r to n) (place_of (r + 1) 0 0) m → IsSource p r s → IsSource p m.from s
+source_there p r to n m s few f h = subst (λ (x : ℕ). IsSource p x s) (sym (found_there p r to n m few f)) h
+
+-- ---- the men from a square on
+module _ (p : State) (set from : ℕ) (own : (q : ℕ) → q < 64 → has set q ≡ is_of p.side (get p.board q)) (at s : ℕ) (le : from ≤ at) (none : NoneFrom p (place_of from 0 0) (place_of at 0 0)) where
+  pub beyond_found : (m : Move) (source : Source) → IsFirstFrom set at s → IsFirstMove p (place_of s 0 0) (place_of (s + 1) 0 0) m → IsSource p s source → IsFound p (place_of from 0 0) m source
+  beyond_found m source first found is = record {
+    first = own_found p set from 0 0 own at s 0 0 m le none first (λ _. refl) (λ _. refl) (λ _. refl) (λ _. refl) (omega arith) (omega arith) found;
+    source = source_there p s 0 0 m source (omega arith) found is;
+  }
+
+  pub beyond_next : (k : ℕ) → IsFirstFrom set at s → NoneFrom p (place_of s 0 0) (place_of (s + 1) 0 0) → k ≡ s → NoneFrom p (place_of from 0 0) (place_of (k + 1) 0 0)
+  beyond_next k first rest e = own_next p set from 0 0 own at s 0 0 k le none first (λ _. refl) (λ _. refl) (λ _. refl) (λ _. refl) (omega arith) (omega arith) rest e
+
+pub beyond_end : (p : State) (set from at : ℕ) → ((q : ℕ) → q < 64 → has set q ≡ is_of p.side (get p.board q)) → at ≤ 64 → NoneFrom p (place_of from 0 0) (place_of at 0 0) → HasNoneFrom set at → NoneFrom p (place_of from 0 0) 28672
+beyond_end p set from at own le none rest = own_end p set from 0 0 own at le none rest
+
+-- ---- after a move
+module _ (p : State) (last : Move) (from : last.from < 64) (to : last.to < 64) (low next : ℕ) (at : low ≡ place last + 1) (beyond : next ≡ place_of (last.from + 1) 0 0) where
+  ends : promotion_rank last.promotion < 7
+  ends = promotion_low last.promotion
+
+  pub next_same : (m : Move) → IsFirstMove p low (place_of (last.from + 1) 0 0) m → IsNext p (Some last) m
+  next_same m f = next_found p (Some last) m (from, to) (first_block p (place last + 1) (place last + 1) low (place_of (last.from + 1) 0 0) 28672 m (none_yet p _ _ (omega arith)) f (omega arith) (inl (omega arith)) (omega arith))
+
+  pub next_other : (m : Move) → NoneFrom p low (place_of (last.from + 1) 0 0) → IsFirstMove p next 28672 m → IsNext p (Some last) m
+  next_other m none f = next_found p (Some last) m (from, to) (let b : promotion_rank last.promotion < 7 = ends in first_block p (place last + 1) next next 28672 28672 m (none_then p (place last + 1) (place last + 1) low next (none_yet p _ _ (omega arith)) (subst (λ n. NoneFrom p low n) (sym beyond) none) (omega arith)) f (omega arith) (inr refl) (omega arith))
+
+  pub next_over : NoneFrom p low (place_of (last.from + 1) 0 0) → NoneFrom p next 28672 → IsLast p (Some last)
+  next_over none rest = next_none p (Some last) (from, to) (none_then p (place last + 1) next next 28672 (none_then p (place last + 1) (place last + 1) low next (none_yet p _ _ (omega arith)) (subst (λ n. NoneFrom p low n) (sym beyond) none) (omega arith)) rest (omega arith))
+
+-- ---- the answer, by what is seen of the moves
+stepped_here : (p : State) (l last : Option Move) (r : Option (Move × MovesLeft)) → l ≡ last
+    → MatchOption r (IsLast p last) (λ x. IsNext p last x.0 × (x.1.position ≡ p) × (x.1.last ≡ Some x.0))
+    → MatchOption r (IsLast p l) (λ x. IsNext p l x.0 × (x.1 ≡ record { position = p; last = Some x.0 }))
+stepped_here p l last None e h = subst (λ (x : Option Move). IsLast p x) (sym e) h
+stepped_here p l last (Some x) e h = (subst (λ (y : Option Move). IsNext p y x.0) (sym e) h.0, λ i. record { position = h.1 i; last = h.2 i })
+
+pub stepped : (q : MovesLeft) (p : State) (l last : Option Move) (r : Option (Move × MovesLeft)) → record { position = p; last = l } ≡ q → l ≡ last
+    → MatchOption r (IsLast p last) (λ x. IsNext p last x.0 × (x.1.position ≡ p) × (x.1.last ≡ Some x.0))
+    → MatchOption r (IsLast q.position q.last) (λ x. IsNext q.position q.last x.0 × (x.1 ≡ record { position = q.position; last = Some x.0 }))
+stepped q p l last r is e h = subst (λ (v : MovesLeft). MatchOption r (IsLast v.position v.last) (λ x. IsNext v.position v.last x.0 × (x.1 ≡ record { position = v.position; last = Some x.0 }))) is (stepped_here p l last r e h)

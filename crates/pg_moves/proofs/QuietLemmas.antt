@@ -1,0 +1,322 @@
+-- Pawns that are counted all at once: which may be, and that the count is right.
+use Rattle.std.proofs.Common.{arith, ◌≡◌, ◌≢◌, ℕ, zero, suc, ◌+◌, ◌-◌, ◌^◌, ◌<◌, ◌≤◌, ◌⊎◌, inl, inr, Bool, true, false, ◌&&◌, ◌||◌, eqb, bit_and, count_ones, w64, Option, None, Some, refl, sym, ap, ap₂, ◌∙◌, subst}
+use Rattle.std.specs.Int.{bit_not}
+use Rattle.std.specs.Bool.{Decides}
+use Rattle.std.proofs.lemmas.Bool.Decides.{eqb_tells, Decides-at, Decides-or, Decides-and, Decides-eqb, Decides-like}
+use Rattle.pg_board.specs.declared.man.Color.{Color}
+use Rattle.pg_board.specs.declared.man.Color.TheVariants.{White, Black}
+use Rattle.pg_board.specs.declared.man.Kind.TheVariants.{Pawn}
+use Rattle.pg_board.specs.declared.man.Man.{Man}
+use Rattle.pg_board.specs.Squares.{file, rank}
+use Rattle.pg_board.specs.Men.{is_man, is_man_decides, is_of, man, other}
+use Rattle.pg_board.specs.Placement.{Placement, get}
+use Rattle.pg_board.specs.Bits.{has, bits_below, has-bits_below, bits_below-lt, ones-count}
+use Rattle.pg_board.specs.Tally.{one, total, count_below, total-none, total-more, count_below_same, total-zero, total_same, total_changed}
+use Rattle.pg_position.specs.declared.state.State.{State}
+use Rattle.pg_position.specs.Geometry.{IsForward, InPattern}
+use Rattle.pg_position.specs.Attack.{IsClear, Reaches}
+use Rattle.pg_position.specs.SquareSets.{IsSetOf, IsFirstFrom, HasNoneFrom}
+use Rattle.pg_position.specs.Position.{IsPosition, PawnsClause, Stands, IsVacant, ahead}
+use Rattle.pg_position.specs.Step.{IsEnemy, Goes, home_rank}
+use Rattle.pg_position.proofs.LineLemmas.{pawn_near}
+use Rattle.pg_position.proofs.ReachLemmas.{set_without}
+use Rattle.pg_moves.specs.Places.{place_of, NoneFrom, IsCountBelow, Adds}
+use Rattle.pg_moves.specs.Counts.{IsGameCount}
+use Rattle.pg_moves.specs.Targets.{IsOwn, Advances, Strides, Leaps, Passes, FreeOff}
+use Rattle.pg_moves.specs.declared.pawns.PawnWays.{PawnWays}
+use Rattle.pg_moves.specs.Pawns.{forward, IsInside, AreWays, IsQuiet, to_left, to_right, moves_from}
+use Rattle.pg_moves.proofs.ShiftLemmas.{itself, total_add}
+use Rattle.pg_moves.proofs.TargetLemmas.{set_none, own_set}
+use Rattle.pg_moves.proofs.SearchLemmas.{own_gap}
+use Rattle.pg_moves.proofs.LeafLemmas.{free_adds, count_skip, count_all, pawn_ordinary, free_there}
+
+-- ---- en passant, seen from the passed square
+turn : (c : Color) (r s : ℕ) → InPattern c Pawn r s → InPattern (other c) Pawn s r
+unfolding InPattern
+turn White r s (x, y) = (omega arith, omega arith)
+turn Black r s (x, y) = (omega arith, omega arith)
+
+pub passes_back : (p : State) (b : Placement) (c o : Color) (e set : ℕ) (r : Option ℕ) → c ≡ p.side → o ≡ other c → r ≡ Some e → r ≡ p.passed → IsSetOf set (Reaches b o Pawn e) → (q s : ℕ) → q < 64 → s < 64 → Passes p q s → has set q ≡ true
+unfolding Passes IsClear
+passes_back p b c o e set r ec eo some is sees q s l k h =
+    let same : s ≡ e = (let f : Some s ≡ Some e = sym h.0 ∙ sym is ∙ some in cc) in
+    let there : InPattern (other p.side) Pawn s q = turn p.side q s h.1 in
+    let way : InPattern o Pawn e q = subst (λ (d : Color). InPattern d Pawn e q) (sym (eo ∙ ap other ec)) (subst (λ (x : ℕ). InPattern (other p.side) Pawn x q) same there) in
+    (sees q l).1 (way, λ t _ bet. absurd (pawn_near o e t q way bet))
+
+pub none_passed : (p : State) (r : Option ℕ) → r ≡ None → r ≡ p.passed → (q s : ℕ) → q < 64 → s < 64 → Passes p q s → has 0 q ≡ true
+unfolding Passes
+none_passed p r none is q s _ _ h = absurd (let e : None ≡ Some s = sym none ∙ is ∙ h.0 in cc)
+
+-- ---- quiet pawns
+start : (c : Color) (q : ℕ) → q < 64 → rank q ≢ 1 → rank q ≢ 8 → rank q ≢ home_rank (other c) → IsInside c 16 q
+start White q l a b h = omega arith
+start Black q l a b h = omega arith
+
+seventh : (c : Color) (q : ℕ) → rank q ≢ home_rank (other c) → c ≡ White → rank q ≢ 7
+seventh White q h e = h
+seventh Black q h e = absurd (let f : Black ≡ White = e in cc)
+
+second : (c : Color) (q : ℕ) → rank q ≢ home_rank (other c) → c ≡ Black → rank q ≢ 2
+second White q h e = absurd (let f : White ≡ Black = e in cc)
+second Black q h e = h
+
+-- what is left of a set once another is taken out
+out_of : (a b q : ℕ) → b < 2 ^ 64 → q < 64 → has (bit_and a (bit_not w64 b)) q ≡ true → (has a q ≡ true) × (has b q ≡ false)
+out_of a b q fit l e =
+    let h = (set_without a b fit (itself a) (itself b) q l).0 e in
+    (h.0, elim (has b q) as (λ v. has b q ≡ v → has b q ≡ false) [ true ↦ λ t. absurd (h.1 t) | false ↦ λ t. t ] refl)
+
+pub quiet : (p : State) (b : Placement) (c o : Color) (pawn : Man) (pawns tried passing home : ℕ) → b ≡ p.board → c ≡ p.side → pawn ≡ man c Pawn → o ≡ other c
+    → IsPosition p → FreeOff p tried → tried < 2 ^ 64 → passing < 2 ^ 64 → home < 2 ^ 64
+    → ((q : ℕ) → q < 64 → has pawns q ≡ is_man pawn (get b q))
+    → ((q s : ℕ) → q < 64 → s < 64 → Passes p q s → has passing q ≡ true)
+    → IsSetOf home (λ q. rank q ≡ home_rank o)
+    → (q : ℕ) → q < 64 → has (bit_and (bit_and (bit_and pawns (bit_not w64 tried)) (bit_not w64 passing)) (bit_not w64 home)) q ≡ true → IsQuiet p q
+unfolding PawnsClause
+quiet p b c o pawn pawns tried passing home eb ec em eo pos free fit fits few are passed at q l e =
+    let far = out_of _ home q few l e in
+    let calm = out_of _ passing q fits l far.0 in
+    let off = out_of pawns tried q fit l calm.0 in
+    let there : get b q ≡ Some (man c Pawn) = (is_man_decides (man c Pawn) (get b q)).0 (ap (λ (x : Man). is_man x (get b q)) (sym em) ∙ sym (are q l) ∙ off.0) in
+    let here : Stands p.board p.side Pawn q = subst (λ (d : Placement). Stands d p.side Pawn q) eb (subst (λ (d : Color). Stands b d Pawn q) ec there) in
+    let not_home : rank q ≢ home_rank (other p.side) = (λ f. (
+    let up : rank q ≡ home_rank o = f ∙ ap home_rank (sym (eo ∙ ap other ec)) in
+    let yes : has home q ≡ true = (at q l).1 up in
+    let no : has home q ≡ false = far.1 in
+    cc)) in
+    let edge : (rank q ≢ 1) × (rank q ≢ 8) = pos.pawns q p.side l here in
+    let none : IsSetOf 0 (Passes p q) = set_none (λ s k h. (
+    let yes : has passing q ≡ true = passed q s l k h in
+    let no : has passing q ≡ false = calm.1 in
+    cc)) in
+    record {
+      stands = here;
+      free = free_there p Pawn q tried l here free off.1;
+      ordinary = pawn_ordinary p Pawn q 0 none refl (seventh p.side q not_home) (second p.side q not_home);
+      inside = start p.side q l edge.0 edge.1 not_home;
+    }
+
+-- ---- four squares at most
+pick : ℕ → Bool → ℕ → Bool
+pick t b s = eqb s t && b
+
+pick_is : (t : ℕ) (b : Bool) (s : ℕ) → Decides (pick t b s) ((s ≡ t) × (b ≡ true))
+unfolding pick
+pick_is t b s = Decides-and _ _ (Decides-eqb s t) (λ e. e, λ e. e)
+
+or_one : (a b : Bool) → (a ≡ true → b ≡ false) → one (a || b) ≡ one a + one b
+or_one true b h = let e : one b ≡ 0 = ap one (h refl) in omega arith
+or_one false b h = omega arith
+
+pick_else : (t u : ℕ) (a b : Bool) (s : ℕ) → t ≢ u → pick t a s ≡ true → pick u b s ≡ false
+pick_else t u a b s ne e = elim (pick u b s) as (λ v. pick u b s ≡ v → pick u b s ≡ false) [
+  | true ↦ λ f. absurd (ne (sym ((pick_is t a s).0 e).0 ∙ ((pick_is u b s).0 f).0))
+  | false ↦ λ f. f
+] refl
+
+or_false : (a b : Bool) → a ≡ false → b ≡ false → a || b ≡ false
+or_false a b e f = cc
+
+picked : (t : ℕ) (b : Bool) → t < 64 → count_below (pick t b) 64 ≡ one b
+unfolding pick
+picked t b l =
+    let h : ℕ → ℕ = λ q. one (pick t b q) in
+    let g : ℕ → ℕ = λ _. 0 in
+    let changed : total h 64 + 0 ≡ total g 64 + h t = total_changed g h 64 t l (λ q _ ne. ap one (off q ne)) in
+    let none : total g 64 ≡ 0 = total-zero g 64 (λ _ _. refl) in
+    let at : h t ≡ one b = ap (λ x. one (x && b)) ((Decides-eqb t t).1 refl) in
+    omega arith
+  where
+    off : (q : ℕ) → q ≢ t → pick t b q ≡ false
+    off q ne = elim (pick t b q) as (λ v. pick t b q ≡ v → pick t b q ≡ false) [ true ↦ λ e. absurd (ne ((pick_is t b q).0 e).0) | false ↦ λ e. e ] refl
+
+module _ (t u v w : ℕ) (a b c d : Bool) where
+  pub four : ℕ → Bool
+  four s = (pick t a s || pick u b s) || (pick v c s || pick w d s)
+
+  pub four_is : (s : ℕ) → Decides (four s) ((((s ≡ t) × (a ≡ true)) ⊎ ((s ≡ u) × (b ≡ true))) ⊎ (((s ≡ v) × (c ≡ true)) ⊎ ((s ≡ w) × (d ≡ true))))
+  unfolding four
+  four_is s = Decides-or _ _ (Decides-or _ _ (pick_is t a s) (pick_is u b s)) (Decides-or _ _ (pick_is v c s) (pick_is w d s))
+
+  pub four_counted : t < 64 → u < 64 → v < 64 → w < 64 → t ≢ u → t ≢ v → t ≢ w → u ≢ v → u ≢ w → v ≢ w → count_below four 64 ≡ (one a + one b) + (one c + one d)
+  unfolding four
+  four_counted lt lu lv lw tu tv tw uv uw vw =
+      let f : (s : ℕ) → one (four s) ≡ (one (pick t a s) + one (pick u b s)) + (one (pick v c s) + one (pick w d s)) = (λ s.
+      or_one (pick t a s || pick u b s) (pick v c s || pick w d s) (λ e. elim ((Decides-or _ _ (pick_is t a s) (pick_is u b s)).0 e) [
+        | inl g ↦ (let m : pick t a s ≡ true = (pick_is t a s).1 g in or_false _ _ (pick_else t v a c s tv m) (pick_else t w a d s tw m))
+        | inr g ↦ (let m : pick u b s ≡ true = (pick_is u b s).1 g in or_false _ _ (pick_else u v b c s uv m) (pick_else u w b d s uw m))
+      ])
+      ∙ ap₂ (λ (x y : ℕ). x + y) (or_one (pick t a s) (pick u b s) (pick_else t u a b s tu)) (or_one (pick v c s) (pick w d s) (pick_else v w c d s vw))) in
+      let same : count_below four 64 ≡ total (λ s. (one (pick t a s) + one (pick u b s)) + (one (pick v c s) + one (pick w d s))) 64 = total_same _ (λ s. one (four s)) 64 (λ s _. f s) in
+      same
+      ∙ sym (total_add (λ s. one (pick t a s) + one (pick u b s)) (λ s. one (pick v c s) + one (pick w d s)) 64)
+      ∙ ap₂ (λ (x y : ℕ). x + y) (sym (total_add (λ s. one (pick t a s)) (λ s. one (pick u b s)) 64)) (sym (total_add (λ s. one (pick v c s)) (λ s. one (pick w d s)) 64))
+      ∙ ap₂ (λ (x y : ℕ). x + y) (ap₂ (λ (x y : ℕ). x + y) (picked t a lt) (picked u b lu)) (ap₂ (λ (x y : ℕ). x + y) (picked v c lv) (picked w d lw))
+
+-- ---- where a pawn with two ranks in front goes
+one_ahead : (c : Color) (q : ℕ) → ahead c 1 q ≡ forward c 8 q
+one_ahead White q = refl
+one_ahead Black q = refl
+
+two_ahead : (c : Color) (q : ℕ) → ahead c 2 q ≡ forward c 16 q
+two_ahead White q = refl
+two_ahead Black q = refl
+
+in_front : (c : Color) (q s : ℕ) → s < 64 → (file q ≡ file s) × IsForward c 1 q s → s ≡ forward c 8 q
+in_front White q s l (f, r) = omega arith
+in_front Black q s l (f, r) = omega arith
+
+front_is : (c : Color) (q : ℕ) → q < 64 → IsInside c 16 q → (file q ≡ file (forward c 8 q)) × IsForward c 1 q (forward c 8 q)
+front_is White q l h = (omega arith, omega arith)
+front_is Black q l h = (omega arith, omega arith)
+
+beside : (c : Color) (q s : ℕ) → q < 64 → s < 64 → InPattern c Pawn q s → ((file q ≢ 1) × (s ≡ forward c (to_left c) q)) ⊎ ((file q ≢ 8) × (s ≡ forward c (to_right c) q))
+unfolding InPattern
+beside White q s k l (a, r) = elim (eqb_tells (s + 1) (q + 8)) [ inl e ↦ (let f : s + 1 ≡ q + 8 = e.1 in inl (omega arith, omega arith)) | inr e ↦ (let f : s + 1 ≢ q + 8 = e.1 in inr (omega arith, omega arith)) ]
+beside Black q s k l (a, r) = elim (eqb_tells (s + 9) q) [ inl e ↦ (let f : s + 9 ≡ q = e.1 in inl (omega arith, omega arith)) | inr e ↦ (let f : s + 9 ≢ q = e.1 in inr (omega arith, omega arith)) ]
+
+left_is : (c : Color) (q : ℕ) → q < 64 → IsInside c 16 q → file q ≢ 1 → InPattern c Pawn q (forward c (to_left c) q)
+unfolding InPattern
+left_is White q l h n = (omega arith, omega arith)
+left_is Black q l h n = (omega arith, omega arith)
+
+right_is : (c : Color) (q : ℕ) → q < 64 → IsInside c 16 q → file q ≢ 8 → InPattern c Pawn q (forward c (to_right c) q)
+unfolding InPattern
+right_is White q l h n = (omega arith, omega arith)
+right_is Black q l h n = (omega arith, omega arith)
+
+-- four squares of the board, no two of them the same
+record AreApart (t u v w : ℕ) : Type 0 where
+  on : (t < 64) × (u < 64) × (v < 64) × (w < 64)
+  first : (t ≢ u) × (t ≢ v) × (t ≢ w)
+  rest : (u ≢ v) × (u ≢ w) × (v ≢ w)
+
+apart : (c : Color) (q : ℕ) → q < 64 → IsInside c 16 q → AreApart (forward c 8 q) (forward c 16 q) (forward c (to_left c) q) (forward c (to_right c) q)
+apart White q l h = record { on = (omega arith, omega arith, omega arith, omega arith); first = (λ e. omega arith, λ e. omega arith, λ e. omega arith); rest = (λ e. omega arith, λ e. omega arith, λ e. omega arith) }
+apart Black q l h = record { on = (omega arith, omega arith, omega arith, omega arith); first = (λ e. omega arith, λ e. omega arith, λ e. omega arith); rest = (λ e. omega arith, λ e. omega arith, λ e. omega arith) }
+
+module _ (b : Placement) (c : Color) (pawns : ℕ) (w : PawnWays) (is : AreWays b c pawns w) (q : ℕ) (low : q < 64) (mine : has pawns q ≡ true) (inside : IsInside c 16 q) where
+  abbrev goal_of : ℕ → Type 0
+  goal_of s = (((s ≡ forward c 8 q) × (has w.once q ≡ true)) ⊎ ((s ≡ forward c 16 q) × (has w.twice q ≡ true))) ⊎ (((s ≡ forward c (to_left c) q) × (has w.left q ≡ true)) ⊎ ((s ≡ forward c (to_right c) q) × (has w.right q ≡ true)))
+
+  advance_forth : (s : ℕ) → s < 64 → Advances b c Pawn q s → goal_of s
+  unfolding Advances Strides Leaps Goes
+  advance_forth s l (inl (inl h)) = let at : s ≡ forward c 8 q = in_front c q s l h.1 in inl (inl (at, (is.once q low).1 (mine, subst (IsVacant b) at h.0)))
+  advance_forth s l (inl (inr h)) = elim (beside c q s low l h.1.0) [
+    | inl g ↦ inr (inl (g.1, (is.left q low).1 (mine, g.0, subst (IsEnemy b c) g.1 h.0)))
+    | inr g ↦ inr (inr (g.1, (is.right q low).1 (mine, g.0, subst (IsEnemy b c) g.1 h.0)))
+  ]
+  advance_forth s l (inr (_, h)) = let at : s ≡ forward c 16 q = h.1 ∙ two_ahead c q in inl (inr (at, (is.twice q low).1 (mine, subst (IsVacant b) (one_ahead c q) h.2, h.0, subst (IsVacant b) at h.3)))
+
+  captures : (s k : ℕ) → s ≡ forward c k q → InPattern c Pawn q (forward c k q) → IsEnemy b c (forward c k q) → Advances b c Pawn q s
+  unfolding Advances Strides IsClear
+  captures s k at way enemy = let there : InPattern c Pawn q s = subst (λ (x : ℕ). InPattern c Pawn q x) (sym at) way in inl (inr (subst (IsEnemy b c) (sym at) enemy, (there, λ t _ bet. absurd (pawn_near c q t s there bet))))
+
+  advance_back : (s : ℕ) → goal_of s → Advances b c Pawn q s
+  unfolding Advances Strides Leaps Goes
+  advance_back s (inl (inl (at, e))) = (
+      let h = (is.once q low).0 e in
+      inl (inl (subst (IsVacant b) (sym at) h.1, subst (λ (x : ℕ). (file q ≡ file x) × IsForward c 1 q x) (sym at) (front_is c q low inside))))
+  advance_back s (inl (inr (at, e))) = (
+      let h = (is.twice q low).0 e in
+      inr (refl, (h.2, at ∙ sym (two_ahead c q), subst (IsVacant b) (sym (one_ahead c q)) h.1, subst (IsVacant b) (sym at) h.3)))
+  advance_back s (inr (inl (at, e))) = let h = (is.left q low).0 e in captures s (to_left c) at (left_is c q low inside h.1) h.2
+  advance_back s (inr (inr (at, e))) = let h = (is.right q low).0 e in captures s (to_right c) at (right_is c q low inside h.1) h.2
+
+  abbrev goals_at : ℕ → Bool
+  goals_at = four (forward c 8 q) (forward c 16 q) (forward c (to_left c) q) (forward c (to_right c) q) (has w.once q) (has w.twice q) (has w.left q) (has w.right q)
+
+  goals_set : IsSetOf (bits_below goals_at 64) (Advances b c Pawn q)
+  goals_set s l = Decides-at _ _ (has-bits_below goals_at 64 s l) (Decides-like (goals_at s) (advance_back s) (advance_forth s l) (four_is _ _ _ _ _ _ _ _ s))
+
+  goals_counted : count_ones (bits_below goals_at 64) ≡ moves_from w q
+  unfolding moves_from
+  goals_counted =
+      let z : AreApart (forward c 8 q) (forward c 16 q) (forward c (to_left c) q) (forward c (to_right c) q) = apart c q low inside in
+      ones-count 64 (bits_below goals_at 64) (bits_below-lt goals_at 64)
+      ∙ count_below_same (has (bits_below goals_at 64)) goals_at 64 (λ s l. has-bits_below goals_at 64 s l)
+      ∙ four_counted _ _ _ _ (has w.once q) (has w.twice q) (has w.left q) (has w.right q) z.on.0 z.on.1 z.on.2 z.on.3 z.first.0 z.first.1 z.first.2 z.rest.0 z.rest.1 z.rest.2
+
+pub pawn_adds : (p : State) (b : Placement) (c : Color) (pawns : ℕ) (w : PawnWays) → b ≡ p.board → c ≡ p.side → AreWays b c pawns w → ((q : ℕ) → q < 64 → has pawns q ≡ true → IsQuiet p q) → (q : ℕ) → q < 64 → has pawns q ≡ true → Adds p (place_of q 0 0) (place_of (q + 1) 0 0) (moves_from w q)
+pawn_adds p b c pawns w eb ec is quiet q low mine =
+    let here : IsQuiet p q = quiet q low mine in
+    let ways : AreWays p.board p.side pawns w = subst (λ (x : Placement). AreWays x p.side pawns w) eb (subst (λ (d : Color). AreWays b d pawns w) ec is) in
+    subst (λ (n : ℕ). Adds p (place_of q 0 0) (place_of (q + 1) 0 0) n) (goals_counted p.board p.side pawns w ways q low mine here.inside)
+    (free_adds p Pawn q _ low here.stands here.free here.ordinary (goals_set p.board p.side pawns w ways q low mine here.inside) (bits_below-lt _ 64))
+
+false_of : (b : Bool) → ¬ (b ≡ true) → b ≡ false
+false_of true h = absurd (h refl)
+false_of false h = refl
+
+pub no_ways : (b : Placement) (c : Color) (pawns : ℕ) (w : PawnWays) → AreWays b c pawns w → (q : ℕ) → q < 64 → has pawns q ≡ false → moves_from w q ≡ 0
+unfolding moves_from
+no_ways b c pawns w is q l off =
+    let none : has pawns q ≡ true → ⊥ = (λ e. cc) in
+    let x : has w.once q ≡ false = false_of _ (λ e. none ((is.once q l).0 e).0) in
+    let y : has w.twice q ≡ false = false_of _ (λ e. none ((is.twice q l).0 e).0) in
+    let z : has w.left q ≡ false = false_of _ (λ e. none ((is.left q l).0 e).0) in
+    let v : has w.right q ≡ false = false_of _ (λ e. none ((is.right q l).0 e).0) in
+    omega (arith, ap one x, ap one y, ap one z, ap one v)
+
+-- ---- the loop over the other men
+module _ (p : State) (own pawns rest : ℕ) (w : PawnWays) (is_own : (q : ℕ) → q < 64 → has own q ≡ is_of p.side (get p.board q)) (fit : pawns < 2 ^ 64) (others : rest ≡ bit_and own (bit_not w64 pawns)) (adds : (q : ℕ) → q < 64 → has pawns q ≡ true → Adds p (place_of q 0 0) (place_of (q + 1) 0 0) (moves_from w q)) (off : (q : ℕ) → q < 64 → has pawns q ≡ false → moves_from w q ≡ 0) where
+  at_rest : (q : ℕ) → q < 64 → has rest q ≡ true → (has own q ≡ true) × (has pawns q ≡ false)
+  at_rest q l e = out_of own pawns q fit l (ap (λ x. has x q) (sym others) ∙ e)
+
+  not_own : (q : ℕ) → q < 64 → has rest q ≡ false → has pawns q ≡ false → has own q ≡ false
+  not_own q l e f = false_of _ (λ g. (
+      let on : has (bit_and own (bit_not w64 pawns)) q ≡ true = (set_without own pawns fit (itself own) (itself pawns) q l).1 (g, λ h. (let t : true ≡ false = sym h ∙ f in cc)) in
+      let yes : has rest q ≡ true = ap (λ x. has x q) others ∙ on in
+      cc))
+
+  -- the moves of the squares below at: n of men that are no such pawns
+  abbrev pub IsCounted : ℕ → ℕ → Type 0
+  IsCounted at n = IsCountBelow p (place_of at 0 0) (n + total (moves_from w) at)
+
+  pub counted_start : IsCountBelow p 0 0 → IsCounted 0 0
+  counted_start h = let same : 0 ≡ 0 + total (moves_from w) 0 = omega (arith, total-none (moves_from w)) in subst (λ (n : ℕ). IsCountBelow p 0 n) same h
+
+  pass_one : (q n : ℕ) → q < 64 → has rest q ≡ false → IsCounted q n → IsCounted (q + 1) n
+  unfolding Adds
+  pass_one q n l e count = elim (has pawns q) as (λ v. has pawns q ≡ v → IsCounted (q + 1) n) [
+    | true ↦ λ f. (
+        let same : n + total (moves_from w) q + moves_from w q ≡ n + total (moves_from w) (q + 1) = omega (arith, total-more (moves_from w) q) in
+        subst (λ (k : ℕ). IsCountBelow p (place_of (q + 1) 0 0) k) same (adds q l f (n + total (moves_from w) q) count))
+    | false ↦ λ f. (
+        let none : moves_from w q ≡ 0 = off q l f in
+        let same : n + total (moves_from w) q ≡ n + total (moves_from w) (q + 1) = omega (arith, total-more (moves_from w) q) in
+        let gap : NoneFrom p (place_of q 0 0) (place_of (q + 1) 0 0) = own_gap p own q (q + 1) is_own (omega arith) (omega arith) (λ s from to. (let at : q ≡ s = omega arith in subst (λ (x : ℕ). has own x ≡ false) at (not_own q l e f))) in
+        subst (λ (k : ℕ). IsCountBelow p (place_of (q + 1) 0 0) k) same (count_skip p (place_of q 0 0) (place_of (q + 1) 0 0) _ count (omega arith) gap))
+  ] refl
+
+  pass : (d at n : ℕ) → at + d ≤ 64 → ((q : ℕ) → at ≤ q → q < at + d → has rest q ≡ false) → IsCounted at n → IsCounted (at + d) n
+  pass zero at n le none count = let same : at ≡ at + 0 = omega arith in subst (λ (k : ℕ). IsCounted k n) same count
+  pass (suc d) at n le none count =
+      let before : IsCounted (at + d) n = pass d at n (omega arith) (λ q from to. none q from (omega arith)) count in
+      let same : at + d + 1 ≡ at + suc d = omega arith in
+      subst (λ (k : ℕ). IsCounted k n) same (pass_one (at + d) n (omega arith) (none (at + d) (omega arith) (omega arith)) before)
+
+  pub counted_step : (at s t n k : ℕ) → IsCounted at t → IsFirstFrom rest at s → Adds p (place_of s 0 0) (place_of (s + 1) 0 0) n → k ≡ s → IsCounted (k + 1) (t + n)
+  unfolding Adds
+  counted_step at s t n k count first more e =
+      let up : at ≤ s = first.reached in
+      let on : s < 64 = first.on_board in
+      let to : at + (s - at) ≡ s = omega arith in
+      let here : IsCounted s t = subst (λ (x : ℕ). IsCounted x t) to (pass (s - at) at t (omega arith) (λ q from below. first.before q from (omega arith)) count) in
+      let none : moves_from w s ≡ 0 = off s on (at_rest s on first.member).1 in
+      let same : t + total (moves_from w) s + n ≡ (t + n) + total (moves_from w) (s + 1) = omega (arith, total-more (moves_from w) s) in
+      let there : IsCounted (s + 1) (t + n) = subst (λ (x : ℕ). IsCountBelow p (place_of (s + 1) 0 0) x) same (more (t + total (moves_from w) s) here) in
+      let next : s + 1 ≡ k + 1 = omega arith in
+      subst (λ (x : ℕ). IsCounted x (t + n)) next there
+
+  pub counted_end : (at t m : ℕ) → IsPosition p → at ≤ 64 → IsCounted at t → HasNoneFrom rest at → m ≡ total (moves_from w) 64 → IsGameCount p 1 (t + m)
+  counted_end at t m pos le count none e =
+      let to : at + (64 - at) ≡ 64 = omega arith in
+      let all : IsCounted 64 t = subst (λ (x : ℕ). IsCounted x t) to (pass (64 - at) at t (omega arith) (λ q from below. none q from (omega arith)) count) in
+      let same : t + total (moves_from w) 64 ≡ t + m = omega arith in
+      let end : place_of 64 0 0 ≡ 28672 = omega arith in
+      count_all p (t + m) pos (subst (λ (x : ℕ). IsCountBelow p x (t + m)) end (subst (λ (x : ℕ). IsCountBelow p (place_of 64 0 0) x) same all))
+
+  pub rest_own : (at s : ℕ) → IsFirstFrom rest at s → IsOwn p.board p.side s
+  rest_own at s first = (own_set p.board own p.side is_own s first.on_board).0 (at_rest s first.on_board first.member).0

@@ -1,0 +1,149 @@
+-- Sets shifted along the board, and the squares that pawns go from.
+use Rattle.std.proofs.Common.{arith, ◌≡◌, ◌≢◌, ℕ, zero, suc, ◌+◌, ◌-◌, ◌*◌, ◌/◌, ◌%◌, ◌^◌, ◌<◌, ◌≤◌, Bool, true, false, not, cond, ◌&&◌, eqb, pow-suc, bit_and, count_ones, w64, None, Some, refl, sym, ap, ap₂, ◌∙◌, subst}
+use Rattle.std.specs.Int.{bit_at, bit_not}
+use Rattle.std.proofs.lemmas.Nat.{shr-shr}
+use Rattle.std.proofs.lemmas.Nat.Bits.{bit_at_cat_low, bit_at_cat_high, bit_at_not}
+use Rattle.std.proofs.lemmas.Bool.Decides.{Decides-at, Decides-not, Decides-eqb}
+use Rattle.pg_board.specs.declared.man.Color.{Color}
+use Rattle.pg_board.specs.declared.man.Color.TheVariants.{White, Black}
+use Rattle.pg_board.specs.Squares.{file, rank}
+use Rattle.pg_board.specs.Men.{is_held, is_of, other}
+use Rattle.pg_board.specs.Placement.{Placement, get}
+use Rattle.pg_board.specs.Bits.{has, has-and, bit_has, bits_below, has-bits_below, ones-count}
+use Rattle.pg_board.specs.Tally.{one, total, total-none, total-suc}
+use Rattle.pg_position.specs.SquareSets.{IsSetOf}
+use Rattle.pg_position.specs.Position.{IsVacant}
+use Rattle.pg_position.specs.Step.{IsEnemy, home_rank}
+use Rattle.pg_position.proofs.SetLemmas.{and_true}
+use Rattle.pg_position.proofs.ReachLemmas.{set_like}
+use Rattle.pg_moves.specs.declared.pawns.PawnWays.{PawnWays}
+use Rattle.pg_moves.specs.Pawns.{forward, IsInside, AreInside, moves_from}
+use Rattle.pg_moves.proofs.TargetLemmas.{set_and, enemy_set, held_set}
+
+-- ---- shifts
+pub has_down : (n k q : ℕ) → has (n / 2 ^ k) q ≡ has n (q + k)
+has_down n k q = let e : k + q ≡ q + k = omega arith in ap (λ x. eqb (x % 2) 1) (shr-shr n k q) ∙ ap (has n) e
+
+pub has_up : (n k q : ℕ) → k ≤ q → q < 64 → has (n * 2 ^ k % 2 ^ 64) q ≡ has n (q - k)
+has_up n k q from low =
+    let x : ℕ = n * 2 ^ k in
+    let split : x ≡ x / 2 ^ 64 * 2 ^ 64 + x % 2 ^ 64 = omega arith in
+    let whole : bit_at x q ≡ bit_at (x % 2 ^ 64) q = ap (λ y. bit_at y q) split ∙ bit_at_cat_low (x / 2 ^ 64) 64 (x % 2 ^ 64) q low in
+    let plain : x ≡ n * 2 ^ k + 0 = omega arith in
+    let moved : bit_at x q ≡ bit_at n (q - k) = ap (λ y. bit_at y q) plain ∙ bit_at_cat_high n k 0 q (power k) from in
+    ap (λ y. eqb y 1) (sym whole ∙ moved)
+  where
+    power : (j : ℕ) → 0 < 2 ^ j
+    power zero = omega arith
+    power (suc j) = omega (arith, power j, pow-suc 2 j)
+
+pub ahead_white : (c : Color) (set k : ℕ) → c ≡ White → (q : ℕ) → q < 64 → IsInside c k q → has (set / 2 ^ k) q ≡ has set (forward c k q)
+ahead_white c set k e q low inside = has_down set k q ∙ ap (λ (d : Color). has set (forward d k q)) (sym e)
+
+pub ahead_black : (c : Color) (set k : ℕ) → c ≡ Black → (q : ℕ) → q < 64 → IsInside c k q → has (set * 2 ^ k % 2 ^ 64) q ≡ has set (forward c k q)
+ahead_black c set k e q low inside = let from : k ≤ q = subst (λ (d : Color). IsInside d k q) e inside in has_up set k q from low ∙ ap (λ (d : Color). has set (forward d k q)) (sym e)
+
+pub nearer : (c : Color) (q k : ℕ) → k ≤ 16 → IsInside c 16 q → IsInside c k q
+nearer White q k le h = omega arith
+nearer Black q k le h = omega arith
+
+pub inside_low : (c : Color) (q k : ℕ) → q < 64 → IsInside c k q → forward c k q < 64
+inside_low White q k l h = h
+inside_low Black q k l h = omega arith
+
+-- ---- masks
+pub home_white : (c : Color) → c ≡ White → IsSetOf 65280 (λ q. rank q ≡ home_rank c)
+unfolding bits_below
+home_white c e = subst (λ (d : Color). IsSetOf 65280 (λ q. rank q ≡ home_rank d)) (sym e) (λ q l. Decides-at _ _ (has-bits_below (λ s. eqb (rank s) 2) 64 q l) (Decides-eqb (rank q) 2))
+
+pub home_black : (c : Color) → c ≡ Black → IsSetOf 71776119061217280 (λ q. rank q ≡ home_rank c)
+unfolding bits_below
+home_black c e = subst (λ (d : Color). IsSetOf 71776119061217280 (λ q. rank q ≡ home_rank d)) (sym e) (λ q l. Decides-at _ _ (has-bits_below (λ s. eqb (rank s) 7) 64 q l) (Decides-eqb (rank q) 7))
+
+pub off_left_file : IsSetOf 18374403900871474942 (λ q. file q ≢ 1)
+unfolding bits_below
+off_left_file q l = Decides-at _ _ (has-bits_below (λ s. not (eqb (file s) 1)) 64 q l) (Decides-not _ (Decides-eqb (file q) 1))
+
+pub off_right_file : IsSetOf 9187201950435737471 (λ q. file q ≢ 8)
+unfolding bits_below
+off_right_file q l = Decides-at _ _ (has-bits_below (λ s. not (eqb (file s) 8)) 64 q l) (Decides-not _ (Decides-eqb (file q) 8))
+
+-- ---- sets
+turned : (b : Bool) → eqb (1 - cond b 1 0) 1 ≡ not b
+turned true = refl
+turned false = refl
+
+has-out : (n q : ℕ) → n < 2 ^ 64 → q < 64 → has (bit_not w64 n) q ≡ not (has n q)
+has-out n q l k = ap (λ x. eqb x 1) (bit_at_not w64 n q l k ∙ ap (λ x. 1 - x) (bit_has n q)) ∙ turned (has n q)
+
+pub outside : {P : ℕ → Type 0} (n : ℕ) → n < 2 ^ 64 → IsSetOf n P → IsSetOf (bit_not w64 n) (λ q. ¬ P q)
+outside n l h q k = Decides-at _ _ (has-out n q l k) (Decides-not _ (h q k))
+
+none_held : (b : Placement) (q : ℕ) → ¬ (get b q ≢ None) → IsVacant b q
+none_held b q h = elim (get b q) as (λ o. get b q ≡ o → IsVacant b q) [
+  | None ↦ λ e. e
+  | Some m ↦ λ e. absurd (h (λ f. let g : None ≡ Some m = sym f ∙ e in cc))
+] refl
+
+pub vacant_set : (b : Placement) (n : ℕ) → n < 2 ^ 64 → ((q : ℕ) → q < 64 → has n q ≡ is_held (get b q)) → IsSetOf (bit_not w64 n) (IsVacant b)
+vacant_set b n l h = set_like _ (λ q _ f. none_held b q f) (λ q _ e n. n e) (outside n l (held_set b n h))
+
+pub itself : (n : ℕ) → IsSetOf n (λ q. has n q ≡ true)
+itself n q l = (λ e. e, λ e. e)
+
+-- the squares of a set that see a square of another so far ahead
+pub ahead_set : {P : ℕ → Type 0} (c : Color) (k pawns shifted set : ℕ) → k ≤ 16 → AreInside c pawns → ((q : ℕ) → q < 64 → IsInside c k q → has shifted q ≡ has set (forward c k q)) → IsSetOf set P → IsSetOf (bit_and pawns shifted) (λ q. (has pawns q ≡ true) × P (forward c k q))
+ahead_set c k pawns shifted set le inside seen is q l = (
+  λ e. (let (x, y) = and_true (has pawns q) (has shifted q) (sym (has-and pawns shifted q) ∙ e) in
+      let near : IsInside c k q = nearer c q k le (inside q l x) in
+      (x, (is (forward c k q) (inside_low c q k l near)).0 (sym (seen q l near) ∙ y))),
+  λ h. (let near : IsInside c k q = nearer c q k le (inside q l h.0) in
+      let y : has shifted q ≡ true = seen q l near ∙ (is (forward c k q) (inside_low c q k l near)).1 h.1 in
+      let x : has pawns q ≡ true = h.0 in
+      has-and pawns shifted q ∙ (let both : has pawns q && has shifted q ≡ true = cc in both)),
+)
+
+pub fewer_inside : (c : Color) (a b : ℕ) → AreInside c a → AreInside c (bit_and a b)
+fewer_inside c a b h q l e = h q l (and_true (has a q) (has b q) (sym (has-and a b q) ∙ e)).0
+
+-- ---- sums
+pub total_add : (f g : ℕ → ℕ) (n : ℕ) → total f n + total g n ≡ total (λ q. f q + g q) n
+total_add f g zero = omega (arith, total-none f, total-none g, total-none (λ q. f q + g q))
+total_add f g (suc n) = let h : total f n + total g n ≡ total (λ q. f q + g q) n = total_add f g n in omega (arith, total-suc f n, total-suc g n, total-suc (λ q. f q + g q) n)
+
+pub ways_counted : (w : PawnWays) → w.once < 2 ^ 64 → w.twice < 2 ^ 64 → w.left < 2 ^ 64 → w.right < 2 ^ 64 → (count_ones w.once + count_ones w.twice) + (count_ones w.left + count_ones w.right) ≡ total (moves_from w) 64
+unfolding moves_from
+ways_counted w a b c d =
+    let f : ℕ → ℕ = λ q. one (has w.once q) in
+    let g : ℕ → ℕ = λ q. one (has w.twice q) in
+    let h : ℕ → ℕ = λ q. one (has w.left q) in
+    let k : ℕ → ℕ = λ q. one (has w.right q) in
+    let steps : count_ones w.once + count_ones w.twice ≡ total (λ q. f q + g q) 64 = ap₂ (λ (x y : ℕ). x + y) (ones-count 64 w.once a) (ones-count 64 w.twice b) ∙ total_add f g 64 in
+    let captures : count_ones w.left + count_ones w.right ≡ total (λ q. h q + k q) 64 = ap₂ (λ (x y : ℕ). x + y) (ones-count 64 w.left c) (ones-count 64 w.right d) ∙ total_add h k 64 in
+    ap₂ (λ (x y : ℕ). x + y) steps captures ∙ total_add (λ q. f q + g q) (λ q. h q + k q) 64
+
+-- ---- the four ways
+pub home_and : (b : Placement) (c : Color) (once home shifted : ℕ) → IsSetOf home (λ q. rank q ≡ home_rank c) → IsSetOf (bit_and (bit_and once home) shifted) (λ q. (has (bit_and once home) q ≡ true) × IsVacant b (forward c 16 q)) → IsSetOf (bit_and (bit_and once home) shifted) (λ q. ((has once q ≡ true) × (rank q ≡ home_rank c)) × IsVacant b (forward c 16 q))
+home_and b c once home shifted at h = set_like _
+    (λ q l g. ((set_and once home (itself once) at q l).0 g.0, g.1))
+    (λ q l g. ((set_and once home (itself once) at q l).1 g.0, g.1))
+    h
+
+pub enemies_at : (b : Placement) (c d : Color) (n : ℕ) → d ≡ other c → ((q : ℕ) → q < 64 → has n q ≡ is_of d (get b q)) → IsSetOf n (IsEnemy b c)
+enemies_at b c d n e h = enemy_set b n c (λ q l. h q l ∙ ap (λ (x : Color). is_of x (get b q)) e)
+
+module _ (b : Placement) (c : Color) (pawns : ℕ) where
+  pub twice_set : (once twice : ℕ) → IsSetOf once (λ q. (has pawns q ≡ true) × IsVacant b (forward c 8 q)) → IsSetOf twice (λ q. ((has once q ≡ true) × (rank q ≡ home_rank c)) × IsVacant b (forward c 16 q)) → IsSetOf twice (λ q. (has pawns q ≡ true) × IsVacant b (forward c 8 q) × (rank q ≡ home_rank c) × IsVacant b (forward c 16 q))
+  twice_set once twice is h = set_like _
+      (λ q l g. (let o = (is q l).0 g.0.0 in (o.0, o.1, g.0.1, g.1)))
+      (λ q l g. (((is q l).1 (g.0, g.1), g.2), g.3))
+      h
+
+  pub side_set : (k j n m off : ℕ) → j ≡ k → IsSetOf off (λ q. file q ≢ m) → IsSetOf n (λ q. (has (bit_and pawns off) q ≡ true) × IsEnemy b c (forward c j q)) → IsSetOf n (λ q. (has pawns q ≡ true) × (file q ≢ m) × IsEnemy b c (forward c k q))
+  side_set k j n m off e out h = set_like _
+      (λ q l g. (let o = (set_and pawns off (itself pawns) out q l).0 g.0 in (o.0, o.1, subst (λ (i : ℕ). IsEnemy b c (forward c i q)) e g.1)))
+      (λ q l g. ((set_and pawns off (itself pawns) out q l).1 (g.0, g.1), subst (λ (i : ℕ). IsEnemy b c (forward c i q)) (sym e) g.2))
+      h
+
+  pub once_inside : (once : ℕ) → IsSetOf once (λ q. (has pawns q ≡ true) × IsVacant b (forward c 8 q)) → AreInside c pawns → AreInside c once
+  once_inside once is h q l e = h q l ((is q l).0 e).0

@@ -1,0 +1,139 @@
+-- The king's moves as a set.
+use Rattle.std.proofs.Common.{◌≡◌, ◌≢◌, ◌↔◌, ℕ, ◌+◌, ◌<◌, ◌≤◌, ◌^◌, inl, inr, IsTrue, Bool, not, true, false, None, bit_and, w64, count_ones, refl, sym, ap, subst, ◌∙◌, arith}
+use Rattle.std.specs.Int.{bit_not}
+use Rattle.std.proofs.lemmas.Bool.Decides.{eqb_tells, leb_tells}
+use Rattle.pg_board.specs.declared.man.Color.{Color}
+use Rattle.pg_board.specs.declared.man.Kind.{Kind}
+use Rattle.pg_board.specs.declared.man.Kind.TheVariants.{Pawn, King}
+use Rattle.pg_board.specs.Bits.{has}
+use Rattle.pg_board.specs.Men.{other}
+use Rattle.pg_board.specs.Placement.{Placement, without}
+use Rattle.pg_position.specs.declared.rights.Wing.{Wing}
+use Rattle.pg_position.specs.declared.state.State.{State}
+use Rattle.pg_position.specs.declared.moves.Move.{Move}
+use Rattle.pg_position.specs.declared.moves.Way.{Way}
+use Rattle.pg_position.specs.declared.moves.Way.TheVariants.{Plain, Capture, DoubleAdvance, EnPassant, Promotion, Castling}
+use Rattle.pg_position.specs.Attack.{Reaches, Attacks}
+use Rattle.pg_position.specs.SquareSets.{IsSetOf, IsFirstFrom, HasNoneFrom}
+use Rattle.pg_position.specs.Position.{Stands, IsPosition}
+use Rattle.pg_position.specs.Step.{Goes, IsWay, IsCastling, Step}
+use Rattle.pg_position.proofs.StepLemmas.{same_kind}
+use Rattle.pg_position.proofs.ReachLemmas.{set_without}
+use Rattle.pg_moves.specs.Moves.{promotion_rank, IsLegal}
+use Rattle.pg_moves.specs.Places.{place_of, Adds}
+use Rattle.pg_moves.specs.Targets.{plain_move, Strides, Advances, Covers}
+use Rattle.pg_moves.proofs.TargetLemmas.{not_own}
+use Rattle.pg_moves.proofs.SearchLemmas.{promotes}
+use Rattle.pg_moves.proofs.ListLemmas.{on_board}
+use Rattle.pg_moves.proofs.ShiftLemmas.{itself}
+use Rattle.pg_moves.proofs.KingLemmas.{safe_legal}
+use Rattle.pg_moves.proofs.CastleLemmas.{castle_legal, king_no_pawn}
+use Rattle.pg_moves.proofs.LeafLemmas.{exact_adds}
+
+-- ---- one square
+stride : (b : Placement) (c : Color) (r s : ℕ) → Advances b c King r s → Strides b c King r s
+unfolding Advances
+stride b c r s (inl h) = h
+stride b c r s (inr h) = absurd (king_no_pawn h.0)
+
+stride_reaches : (b : Placement) (c : Color) (r s : ℕ) → Strides b c King r s → Reaches b c King r s
+unfolding Strides Goes
+stride_reaches b c r s (inl h) = h.1
+stride_reaches b c r s (inr h) = h.1
+
+module _ (p : State) (r s steps : ℕ) (t : Bool) (pos : IsPosition p) (from : r < 64) (to : s < 64) (here : Stands p.board p.side King r) (is : IsSetOf steps (Advances p.board p.side King r)) (told : t ≡ has steps s) where
+  pub step_is : (b : Placement) (c o : Color) (u : Bool) → t ≡ true → b ≡ without p.board r → c ≡ p.side → o ≡ other c → IsTrue u ↔ Attacks b o s → IsTrue (not u) ↔ IsLegal p (plain_move r s)
+  step_is b c o u on eb ec eo h =
+      let there : Strides p.board p.side King r s = stride p.board p.side r s ((is s to).0 (sym told ∙ on)) in
+      safe_legal p r s pos from to here (stride_reaches p.board p.side r s there) (not_own p.board p.side King r s there) u
+      (subst (λ (x : Placement). IsTrue u ↔ Attacks x (other p.side) s) eb (subst (λ (x : Color). IsTrue u ↔ Attacks b x s) (eo ∙ ap other ec) h))
+
+  far_castles : ¬ Advances p.board p.side King r s → IsLegal p (plain_move r s) → (w : Wing) × IsCastling p King (plain_move r s) w
+  unfolding Step Advances Strides
+  far_castles far (q, ((k, v, _, stands, way, e), _)) = go v (subst (λ (x : Kind). IsWay p x (plain_move r s) v) (same_kind stands here) way)
+    where
+      go : (v : Way) → IsWay p King (plain_move r s) v → (w : Wing) × IsCastling p King (plain_move r s) w
+      go Plain h = absurd (far (inl (inl (h.vacant, h.goes))))
+      go Capture h = absurd (far (inl (inr (h.enemy, h.reaches))))
+      go DoubleAdvance h = absurd (king_no_pawn h.pawn)
+      go EnPassant h = absurd (king_no_pawn h.pawn)
+      go (Promotion x) h = absurd (king_no_pawn h.must.0)
+      go (Castling w) h = (w, h)
+
+  pub castle_step : (u : Bool) → t ≡ false → IsTrue u ↔ ((w : Wing) × IsCastling p King (plain_move r s) w) → IsTrue u ↔ IsLegal p (plain_move r s)
+  castle_step u off h =
+      let far : ¬ Advances p.board p.side King r s = (λ a. (let yes : has steps s ≡ true = (is s to).1 a in cc)) in
+      (λ e. (let x : (w : Wing) × IsCastling p King (plain_move r s) w = h.0 e in castle_legal p (plain_move r s) pos here (from, to) x.0 x.1), λ l. h.1 (far_castles far l))
+
+pub kept_all : (set s : ℕ) (keep : Bool) → keep ≡ true → (q : ℕ) → q < 64 → IsTrue (has set q) ↔ ((has set q ≡ true) × (q ≡ s → keep ≡ true))
+kept_all set s keep e q l = (λ h. (h, λ _. e), λ h. h.0)
+
+pub kept_rest : (set s n : ℕ) (keep : Bool) → n < 2 ^ 64 → IsSetOf n (λ q. q ≡ s) → keep ≡ false → (q : ℕ) → q < 64 → IsTrue (has (bit_and set (bit_not w64 n)) q) ↔ ((has set q ≡ true) × (q ≡ s → keep ≡ true))
+kept_rest set s n keep fit is e q l =
+    let out = set_without set n fit (itself set) is q l in
+    (λ h. (let g = out.0 h in (g.0, λ f. absurd (g.1 f))), λ h. out.1 (h.0, λ f. (let k : keep ≡ true = h.1 f in let z : true ≡ false = sym k ∙ e in cc)))
+
+-- ---- the loop over the squares
+-- what is kept of the set: of the squares below at those to which a move goes, and all others
+abbrev pub IsKept : State → ℕ → ℕ → ℕ → ℕ → Type 0
+IsKept p r set at kept = (q : ℕ) → q < 64 → IsTrue (has kept q) ↔ ((has set q ≡ true) × (q < at → IsLegal p (plain_move r q)))
+
+module _ (p : State) (r set : ℕ) where
+  pub kept_start : IsKept p r set 0 set
+  kept_start q l = (λ h. (h, λ low. absurd (omega arith)), λ h. h.0)
+
+  pub kept_step : (at s k kept next : ℕ) (keep : Bool) → IsKept p r set at kept → IsFirstFrom set at s → ((q : ℕ) → q < 64 → IsTrue (has next q) ↔ ((has kept q ≡ true) × (q ≡ s → keep ≡ true))) → IsTrue keep ↔ IsLegal p (plain_move r s) → k ≡ s → IsKept p r set (k + 1) next
+  kept_step at s k kept next keep was first is legal e q l = (
+    λ h. (let g = (is q l).0 h in
+        let o = (was q l).0 g.0 in (
+          o.0,
+          λ low. elim (eqb_tells q s) [
+            | inl w ↦ subst (λ (x : ℕ). IsLegal p (plain_move r x)) (sym w.1) (legal.0 (g.1 w.1))
+            | inr w ↦ elim (leb_tells at q) [
+              | inl v ↦ absurd (
+                  let ne : q ≢ s = w.1 in
+                  let off : has set q ≡ false = first.before q v.1 (omega arith) in
+                  let on : has set q ≡ true = o.0 in
+                  cc)
+              | inr v ↦ o.1 v.1
+            ]
+          ],
+        )),
+    λ h. (let up : at ≤ s = first.reached in
+        (is q l).1 ((was q l).1 (h.0, λ low. h.1 (omega arith)), λ f. legal.1 (subst (λ (x : ℕ). IsLegal p (plain_move r x)) f (h.1 (omega arith))))),
+  )
+
+  pub kept_end : (at kept : ℕ) → Covers p r set → IsKept p r set at kept → HasNoneFrom set at → IsSetOf kept (λ q. IsLegal p (plain_move r q))
+  unfolding Covers
+  kept_end at kept covers was none q l = (
+    λ h. (let o = (was q l).0 h in elim (leb_tells at q) [
+      | inl v ↦ absurd (
+          let off : has set q ≡ false = none q v.1 l in
+          let on : has set q ≡ true = o.0 in
+          cc)
+      | inr v ↦ o.1 v.1
+    ]),
+    λ legal. (was q l).1 (covers (plain_move r q) legal refl, λ _. legal),
+  )
+
+-- ---- how many
+pub king_adds : (p : State) (k : Kind) (r set : ℕ) → k ≡ King → Stands p.board p.side k r → IsSetOf set (λ q. IsLegal p (plain_move r q)) → set < 2 ^ 64 → Adds p (place_of r 0 0) (place_of (r + 1) 0 0) (count_ones set)
+king_adds p k r set king stands is fits = exact_adds p r set (λ s l e. (is s l).0 e) inside plain fits
+  where
+    here : Stands p.board p.side King r
+    here = subst (λ (x : Kind). Stands p.board p.side x r) king stands
+
+    unpromoted : (m : Move) → IsLegal p m → m.from ≡ r → m.promotion ≡ None
+    unpromoted m l f = elim (promotes p m l) [
+      | inl e ↦ e
+      | inr g ↦ absurd (king_no_pawn (same_kind here (subst (λ (x : ℕ). Stands p.board p.side Pawn x) f g.0)))
+    ]
+
+    inside : (m : Move) → IsLegal p m → m.from ≡ r → (m.to < 64) × (has set m.to ≡ true)
+    inside m l f =
+        let low : m.to < 64 = (on_board p m l).1 in
+        let same : m ≡ plain_move r m.to = (λ i. record { from = f i; to = m.to; promotion = unpromoted m l f i }) in
+        (low, (is m.to low).1 (subst (λ (x : Move). IsLegal p x) same l))
+
+    plain : (m : Move) → IsLegal p m → m.from ≡ r → promotion_rank m.promotion ≡ 0
+    plain m l f = ap promotion_rank (unpromoted m l f)

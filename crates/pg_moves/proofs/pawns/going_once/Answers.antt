@@ -1,0 +1,6 @@
+use Rattle.std.proofs.Common.{arith}
+use Rattle.pg_moves.proofs.ShiftLemmas.{ahead_set}
+use Rattle.pg_moves.proofs.pawns.going_once.Goals as goal
+
+pub returns : goal.returns
+returns c = ahead_set c.args.color 8 c.args.pawns c.seen_ahead.result c.empty_squares.result (omega arith) c.requires c.seen_ahead.ensures c.empty_squares.ensures

@@ -1,0 +1,8 @@
+use Rattle.pg_moves.proofs.ShiftLemmas.{home_white, home_black}
+use Rattle.pg_moves.proofs.pawns.home.Goals as goal
+
+pub returns-in-White : goal.returns-in-White
+returns-in-White c = home_white c.args.color c.in-White.is
+
+pub returns-in-Black : goal.returns-in-Black
+returns-in-Black c = home_black c.args.color c.in-Black.is

@@ -1,0 +1,5 @@
+use Rattle.pg_moves.proofs.ShiftLemmas.{off_left_file}
+use Rattle.pg_moves.proofs.pawns.off_left.Goals as goal
+
+pub returns : goal.returns
+returns c = off_left_file

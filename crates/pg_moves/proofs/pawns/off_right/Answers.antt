@@ -1,0 +1,5 @@
+use Rattle.pg_moves.proofs.ShiftLemmas.{off_right_file}
+use Rattle.pg_moves.proofs.pawns.off_right.Goals as goal
+
+pub returns : goal.returns
+returns c = off_right_file

@@ -1,0 +1,56 @@
+-- Pawns that are counted all at once, by sets of the squares that they go from.
+use Rattle.std.specs.Prelude.{◌≡◌, ◌≢◌, ℕ, ◌+◌, ◌-◌, ◌<◌, ◌≤◌, true}
+use Rattle.pg_board.specs.declared.man.Color.{Color}
+use Rattle.pg_board.specs.declared.man.Color.TheVariants.{White, Black}
+use Rattle.pg_board.specs.declared.man.Kind.TheVariants.{Pawn}
+use Rattle.pg_board.specs.Bits.{has}
+use Rattle.pg_board.specs.Placement.{Placement}
+use Rattle.pg_board.specs.Squares.{file, rank}
+use Rattle.pg_board.specs.Tally.{one}
+use Rattle.pg_position.specs.declared.state.State.{State}
+use Rattle.pg_position.specs.Position.{Stands, IsVacant}
+use Rattle.pg_position.specs.SquareSets.{IsSetOf}
+use Rattle.pg_position.specs.Step.{IsEnemy, home_rank}
+use Rattle.pg_moves.specs.Targets.{IsFree, IsOrdinary}
+use Rattle.pg_moves.specs.declared.pawns.PawnWays.{PawnWays}
+
+-- the square whose index is n more for White, and n less for Black: 8 for one rank forward
+abbrev pub forward : Color → ℕ → ℕ → ℕ
+forward White n q = q + n
+forward Black n q = q - n
+
+-- that square is on the board
+abbrev pub IsInside : Color → ℕ → ℕ → Type 0
+IsInside White n q = q + n < 64
+IsInside Black n q = n ≤ q
+
+-- how far a pawn's capture goes towards the a-file, and towards the h-file
+abbrev pub to_left : Color → ℕ
+to_left White = 7
+to_left Black = 9
+
+abbrev pub to_right : Color → ℕ
+to_right White = 9
+to_right Black = 7
+
+-- a pawn of the side to move that is free, neither promotes nor captures en passant, and has two ranks in front
+pub record IsQuiet (p : State) (q : ℕ) : Type 0 where
+  pub stands : Stands p.board p.side Pawn q
+  pub free : IsFree p Pawn q
+  pub ordinary : IsOrdinary p Pawn q
+  pub inside : IsInside p.side 16 q
+
+-- each square of the set has two ranks in front
+abbrev pub AreInside : Color → ℕ → Type 0
+AreInside c pawns = (q : ℕ) → q < 64 → has pawns q ≡ true → IsInside c 16 q
+
+-- from which squares of the set a pawn goes one square forward, goes two, captures towards the a-file, captures towards the h-file
+pub record AreWays (b : Placement) (c : Color) (pawns : ℕ) (w : PawnWays) : Type 0 where
+  pub once : IsSetOf w.once (λ q. (has pawns q ≡ true) × IsVacant b (forward c 8 q))
+  pub twice : IsSetOf w.twice (λ q. (has pawns q ≡ true) × IsVacant b (forward c 8 q) × (rank q ≡ home_rank c) × IsVacant b (forward c 16 q))
+  pub left : IsSetOf w.left (λ q. (has pawns q ≡ true) × (file q ≢ 1) × IsEnemy b c (forward c (to_left c) q))
+  pub right : IsSetOf w.right (λ q. (has pawns q ≡ true) × (file q ≢ 8) × IsEnemy b c (forward c (to_right c) q))
+
+-- how many of the moves go from q
+unfoldable pub moves_from : PawnWays → ℕ → ℕ
+moves_from w q = (one (has w.once q) + one (has w.twice q)) + (one (has w.left q) + one (has w.right q))

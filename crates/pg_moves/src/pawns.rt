@@ -1,0 +1,169 @@
+//! Pawns counted all at once: the sets of the squares from which they go, by sets shifted along the
+//! board.
+ghost use Rattle.std.specs.Prelude.{◌≡◌, ◌≢◌, ℕ, ◌<◌, ◌≤◌, IsFalse, true};
+ghost use Rattle.pg_board.specs.Bits.{has};
+ghost use Rattle.pg_board.specs.Squares.{file, rank};
+ghost use Rattle.pg_board.specs.Tally.{total};
+ghost use Rattle.pg_board.specs.declared.man.Kind.TheVariants.{Pawn};
+ghost use Rattle.pg_position.specs.Position.{IsVacant};
+ghost use Rattle.pg_position.specs.SquareSets.{IsSetOf};
+ghost use Rattle.pg_position.specs.Step.{IsEnemy, home_rank};
+ghost use Rattle.pg_moves.specs.Pawns.{forward, IsInside, AreInside, AreWays, IsQuiet, moves_from, to_left, to_right};
+ghost use Rattle.pg_moves.specs.Targets.{FreeOff, Passes};
+
+use pg_board::{Board, Color, Kind, Man};
+use pg_position::{Position, reach};
+
+/// The squares from which pawns go one square forward, go two, capture towards the a-file, and capture
+/// towards the h-file.
+#[derive(Clone, Copy)]
+pub(crate) struct PawnWays {
+    pub(crate) once: u64,
+    pub(crate) twice: u64,
+    pub(crate) left: u64,
+    pub(crate) right: u64,
+}
+
+// The squares from which so far forward lies a square of the set.
+fn seen_ahead(set: u64, color: Color, by: u8) -> u64
+    requires { by < 64 }
+    ensures { (q : ℕ) → q < 64 → IsInside color by q → has result q ≡ has set (forward color by q) }
+{
+    match color {
+        Color::White => set >> by,
+        Color::Black => set << by,
+    }
+}
+
+// The squares of the rank where the colour's pawns begin.
+fn home(color: Color) -> u64
+    ensures { IsSetOf result (λ q. rank q ≡ home_rank color) }
+{
+    match color {
+        Color::White => 0x0000_0000_0000_ff00,
+        Color::Black => 0x00ff_0000_0000_0000,
+    }
+}
+
+// The squares off the a-file.
+fn off_left() -> u64
+    ensures { IsSetOf result (λ q. file q ≢ 1) }
+{
+    0xfefe_fefe_fefe_fefe
+}
+
+// The squares off the h-file.
+fn off_right() -> u64
+    ensures { IsSetOf result (λ q. file q ≢ 8) }
+{
+    0x7f7f_7f7f_7f7f_7f7f
+}
+
+fn empty_squares(board: &Board) -> u64
+    ensures { IsSetOf result (IsVacant board.now) }
+{
+    !board.occupied()
+}
+
+// From where the pawns go one square forward.
+fn going_once(board: &Board, color: Color, pawns: u64) -> u64
+    requires { AreInside color pawns }
+    ensures { IsSetOf result (λ q. (has pawns q ≡ true) × IsVacant board.now (forward color 8 q)) }
+{
+    pawns & seen_ahead(empty_squares(board), color, 8)
+}
+
+// From where pawns that go one square forward may go two.
+fn going_twice(board: &Board, color: Color, once: u64) -> u64
+    requires { AreInside color once }
+    ensures { IsSetOf result (λ q. ((has once q ≡ true) × (rank q ≡ home_rank color)) × IsVacant board.now (forward color 16 q)) }
+{
+    (once & home(color)) & seen_ahead(empty_squares(board), color, 16)
+}
+
+// From where pawns of these squares capture a man that stands so far forward.
+fn capturing(board: &Board, color: Color, pawns: u64, by: u8) -> u64
+    requires inside { AreInside color pawns }
+    requires near { by ≤ 16 }
+    ensures { IsSetOf result (λ q. (has pawns q ≡ true) × IsEnemy board.now color (forward color by q)) }
+{
+    pawns & seen_ahead(board.squares_of_color(color.other()), color, by)
+}
+
+// How far a capture towards the a-file goes.
+fn to_left(color: Color) -> u8
+    ensures value { result ≡ to_left color }
+    ensures bound { result ≤ 16 }
+{
+    match color {
+        Color::White => 7,
+        Color::Black => 9,
+    }
+}
+
+// How far a capture towards the h-file goes.
+fn to_right(color: Color) -> u8
+    ensures value { result ≡ to_right color }
+    ensures bound { result ≤ 16 }
+{
+    match color {
+        Color::White => 9,
+        Color::Black => 7,
+    }
+}
+
+// The ways of the pawns on these squares.
+pub(crate) fn pawn_ways(board: &Board, color: Color, pawns: u64) -> PawnWays
+    requires { AreInside color pawns }
+    ensures { AreWays board.now color pawns result }
+{
+    let once = going_once(board, color, pawns);
+    PawnWays {
+        once,
+        twice: going_twice(board, color, once),
+        left: capturing(board, color, pawns & off_left(), to_left(color)),
+        right: capturing(board, color, pawns & off_right(), to_right(color)),
+    }
+}
+
+impl PawnWays {
+    // How many there are.
+    pub(crate) fn count(&self) -> u64
+        ensures count { result ≡ total (moves_from self.now) 64 }
+        ensures bound { result ≤ 256 }
+    {
+        let steps = self.once.count_ones() as u64 + self.twice.count_ones() as u64;
+        let captures = self.left.count_ones() as u64 + self.right.count_ones() as u64;
+        steps + captures
+    }
+}
+
+// The squares from which a pawn of the side to move captures en passant, each of them and maybe more.
+fn passers(position: &Position) -> u64
+    ensures { (q s : ℕ) → q < 64 → s < 64 → Passes position.now q s → has result q ≡ true }
+{
+    match position.passed() {
+        Some(square) => {
+            let pawn = Man {
+                color: position.side().other(),
+                kind: Kind::Pawn,
+            };
+            reach(&position.board(), pawn, square)
+        }
+        None => 0,
+    }
+}
+
+// Pawns of the side to move that need no trial, do not promote and do not capture en passant.
+pub(crate) fn quiet_pawns(position: &Position, board: &Board, tried: u64) -> u64
+    requires same { board.now ≡ position.now.board }
+    requires free { FreeOff position.now tried }
+    ensures { (q : ℕ) → q < 64 → has result q ≡ true → IsQuiet position.now q }
+{
+    let side = position.side();
+    let pawns = board.squares_of(Man {
+        color: side,
+        kind: Kind::Pawn,
+    });
+    ((pawns & !tried) & !passers(position)) & !home(side.other())
+}

@@ -1,0 +1,241 @@
+//! Least assignments of sources to targets, with prices: the Hungarian method.
+
+/// How many targets and how many sources there are at most.
+pub const MOST: usize = 16;
+
+/// Where a source or a target has no partner.
+const NONE: u8 = 255;
+
+/// The costs of a target, by sources.
+type Row = [u8; MOST];
+
+/// The costs, by targets and then by sources. A cost of at least a dummy's is as none.
+pub type Costs = [Row; MOST];
+
+/// The value of a least assignment, and prices of the sources and targets that show that none is less:
+/// a target's price less a source's is at most the cost of the pair, a target's price is at most the
+/// cost of a dummy, and all targets' prices less all sources' are the value.
+#[derive(Clone, Copy, Debug, PartialEq, Eq)]
+pub struct Assignment {
+    pub value: u16,
+    pub sources: [u8; MOST],
+    pub targets: [u8; MOST],
+}
+
+/// Some targets with their sources, each at the difference of their prices: `holder` of a source,
+/// `held` of a target. A target without a source that is settled has a dummy.
+#[derive(Clone, Copy)]
+struct Partners {
+    sources: [u8; MOST],
+    targets: [u8; MOST],
+    holder: [u8; MOST],
+    held: [u8; MOST],
+}
+
+/// A shortest way from an unsettled target to each source: its length, the target before the source,
+/// and 255 for those whose length is final.
+#[derive(Clone, Copy)]
+struct Ways {
+    length: [u8; MOST],
+    before: [u8; MOST],
+    closed: [u8; MOST],
+}
+
+/// The end of a shortest way: a source that no target holds, or a dummy (`NONE`), the target before it,
+/// and the length.
+#[derive(Clone, Copy)]
+struct End {
+    source: u8,
+    target: u8,
+    length: u8,
+}
+
+fn at(row: &Row, i: u8) -> u8 {
+    row[usize::from(i) % MOST]
+}
+
+fn put(row: &mut Row, i: u8, x: u8) {
+    row[usize::from(i) % MOST] = x;
+}
+
+/// The least cost in a row, a dummy's included.
+fn least(row: &Row, dummy: u8) -> u8 {
+    let mut least = dummy;
+    for i in 0..MOST {
+        least = least.min(row[i]);
+    }
+    least
+}
+
+/// The sources of a row with this cost, as bits.
+fn with_cost(row: &Row, cost: u8) -> u16 {
+    let mut set = 0u16;
+    for i in 0..MOST {
+        set |= u16::from(row[i] == cost) << i;
+    }
+    set
+}
+
+/// The ways that go on from a target, where they are shorter.
+fn go_on(ways: &mut Ways, row: &Row, prices: &Row, price: u8, target: u8, so_far: u8) {
+    for i in 0..MOST {
+        let length = so_far
+            .saturating_add(row[i])
+            .saturating_add(prices[i])
+            .saturating_sub(price);
+        let shorter = length < ways.length[i];
+        ways.length[i] = if shorter { length } else { ways.length[i] };
+        ways.before[i] = if shorter { target } else { ways.before[i] };
+    }
+}
+
+/// The open source with the shortest way, with its length in the higher bits.
+fn nearest(ways: &Ways) -> u16 {
+    let mut best = u16::MAX;
+    for i in 0..MOST {
+        let length = u16::from(ways.length[i] | ways.closed[i]);
+        best = best.min(length * 16 + i as u16);
+    }
+    best
+}
+
+/// Finds a shortest way from a target to a source that is not held or to a dummy.
+fn search(costs: &Costs, dummy: u8, partners: &Partners, start: u8, ways: &mut Ways) -> End {
+    let mut end = End {
+        source: NONE,
+        target: start,
+        length: NONE,
+    };
+    let mut target = start;
+    let mut so_far = 0u8;
+    for _ in 0..=MOST {
+        let price = at(&partners.targets, target);
+        let row = &costs[usize::from(target) % MOST];
+        go_on(ways, row, &partners.sources, price, target, so_far);
+        let to_dummy = so_far.saturating_add(dummy).saturating_sub(price);
+        if to_dummy < end.length {
+            end.target = target;
+            end.length = to_dummy;
+        }
+        let nearest = nearest(ways);
+        let source = (nearest % 16) as u8;
+        so_far = (nearest / 16 % 256) as u8;
+        if end.length <= so_far {
+            return end;
+        }
+        target = at(&partners.holder, source);
+        if target == NONE {
+            return End {
+                source,
+                target: at(&ways.before, source),
+                length: so_far,
+            };
+        }
+        put(&mut ways.closed, source, NONE);
+    }
+    end
+}
+
+/// Raises the prices along the ways that are shorter than the one that was found.
+fn raise(partners: &mut Partners, ways: &Ways, start: u8, length: u8) {
+    for i in 0..MOST {
+        if ways.closed[i] != 0 {
+            let more = length.saturating_sub(ways.length[i]);
+            partners.sources[i] = partners.sources[i].saturating_add(more);
+            let target = partners.holder[i];
+            let price = at(&partners.targets, target).saturating_add(more);
+            put(&mut partners.targets, target, price);
+        }
+    }
+    let price = at(&partners.targets, start).saturating_add(length);
+    put(&mut partners.targets, start, price);
+}
+
+/// Each target of the way takes the source behind it.
+fn shift(partners: &mut Partners, ways: &Ways, start: u8, end: End) {
+    let mut source = end.source;
+    let mut target = end.target;
+    for _ in 0..MOST {
+        let left = at(&partners.held, target);
+        put(&mut partners.held, target, source);
+        if source != NONE {
+            put(&mut partners.holder, source, target);
+        }
+        if target == start {
+            return;
+        }
+        source = left;
+        target = at(&ways.before, left);
+    }
+}
+
+/// Settles a target that has no source.
+fn settle(costs: &Costs, dummy: u8, partners: &mut Partners, start: u8) {
+    let mut ways = Ways {
+        length: [255; MOST],
+        before: [0; MOST],
+        closed: [0; MOST],
+    };
+    let end = search(costs, dummy, partners, start, &mut ways);
+    raise(partners, &ways, start, end.length);
+    shift(partners, &ways, start, end);
+}
+
+/// Prices each target by its least cost, and gives it a source of that cost that no target holds, or a
+/// dummy, if there is one. The targets that are left are answered, as bits.
+fn begin(costs: &Costs, targets: usize, dummy: u8, partners: &mut Partners) -> u16 {
+    let mut free = u16::MAX;
+    let mut left = 0u16;
+    for t in 0..MOST {
+        if t < targets {
+            let price = least(&costs[t], dummy);
+            partners.targets[t] = price;
+            let fitting = with_cost(&costs[t], price) & free;
+            if fitting != 0 {
+                let source = fitting.trailing_zeros() as u8;
+                free &= fitting.wrapping_sub(1) | !fitting;
+                partners.held[t] = source;
+                put(&mut partners.holder, source, t as u8);
+            } else if price < dummy {
+                left |= 1 << t;
+            }
+        }
+    }
+    left
+}
+
+fn sum(prices: &Row) -> u16 {
+    let mut sum = 0u16;
+    for i in 0..MOST {
+        sum = sum.saturating_add(u16::from(prices[i]));
+    }
+    sum
+}
+
+/// A least assignment of the first so many targets, at most 16: each gets a source of its own or a
+/// dummy of the stated cost, at most 85, and the value is the sum of the costs.
+///
+/// This is the Hungarian method by shortest augmenting paths, one search of Dijkstra's sort for each
+/// target that has no source of its least cost (J. Munkres, "Algorithms for the assignment and
+/// transportation problems", 1957; R. Jonker and A. Volgenant, "A shortest augmenting path algorithm
+/// for dense and sparse linear assignment problems", 1987). A dummy is never worth more than another
+/// one, so a way ends at the first dummy, and dummies have no price.
+pub fn assign(costs: &Costs, targets: usize, dummy: u8) -> Assignment {
+    let mut partners = Partners {
+        sources: [0; MOST],
+        targets: [0; MOST],
+        holder: [NONE; MOST],
+        held: [NONE; MOST],
+    };
+    let left = begin(costs, targets, dummy, &mut partners);
+    for t in 0..MOST {
+        if left >> t & 1 == 1 {
+            settle(costs, dummy, &mut partners, t as u8);
+        }
+    }
+    Assignment {
+        value: sum(&partners.targets).saturating_sub(sum(&partners.sources)),
+        sources: partners.sources,
+        targets: partners.targets,
+    }
+}

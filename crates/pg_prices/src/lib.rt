@@ -1,0 +1,28 @@
+//! What a search for certificates of version 2 reckons with: least assignments of men to the squares
+//! of a diagram with their prices, the distances that they are made of, and memories for them. Nothing
+//! that this crate answers is trusted.
+#![tactic(auto)]
+
+mod assignment;
+mod closed;
+mod keys;
+mod memory;
+mod needs;
+mod rows;
+
+pub use assignment::{Assignment, Costs, MOST, assign};
+pub use closed::Closed;
+pub use keys::{color_key, node_key};
+pub use memory::Memory;
+pub use needs::{
+    NEVER, Needs, PAWN_DUMMY, TRAVEL_DUMMY, UNKNOWN, first_needs, holds, is_short, need,
+    pawn_prices, travel_value,
+};
+pub use rows::{NO_WAY, Rows, Wing};
+
+#[cfg(test)]
+mod assignment_tests;
+#[cfg(test)]
+mod memory_tests;
+#[cfg(test)]
+mod rows_tests;

@@ -1,0 +1,265 @@
+//! The distances of the men of a colour to the squares of a diagram, by kind and square, and the
+//! matrices of costs of a board that are made of them.
+ghost use Rattle.std.specs.Prelude.{◌≤◌};
+
+use crate::assignment::{Costs, MOST};
+use pg_board::{Board, Color, Kind, Man, Square};
+use pg_fen::Diagram;
+use pg_travel::distance;
+use std::alloc::{AllocError, Global};
+
+/// The cost where there is no way.
+pub const NO_WAY: u8 = 200;
+
+/// How many rows there are: one for each kind and square.
+const ROWS: usize = 384;
+
+const KINDS: [Kind; 6] = [
+    Kind::Pawn,
+    Kind::Knight,
+    Kind::Bishop,
+    Kind::Rook,
+    Kind::Queen,
+    Kind::King,
+];
+
+/// A castling: towards the h-file or the a-file.
+#[derive(Clone, Copy, Debug, PartialEq, Eq)]
+pub enum Wing {
+    Short,
+    Long,
+}
+
+/// The men of one colour of a diagram, in the order of their squares, at most 16: the targets. For
+/// each kind and square of a man of the colour there is a row of its distances to the targets, and for
+/// each square of a pawn a row of how many files it has to change to each target that is a pawn.
+#[derive(Drop)]
+pub struct Rows {
+    color: Color,
+    targets: usize,
+    pawn_targets: usize,
+    travel: Vec<[u8; MOST]>,
+    pawns: Vec<[u8; MOST]>,
+}
+
+/// The targets of a colour: how many, and their squares and kinds.
+#[derive(Clone, Copy)]
+struct Targets {
+    count: usize,
+    squares: [u8; MOST],
+    kinds: [Kind; MOST],
+}
+
+/// The men of a diagram that a test on kinds lets through, from the first square on.
+fn targets_of(board: &Board, color: Color, only_pawns: bool) -> Targets {
+    let mut targets = Targets {
+        count: 0,
+        squares: [0; MOST],
+        kinds: [Kind::Pawn; MOST],
+    };
+    let mut count = 0usize;
+    for q in 0..64u8 {
+        if let Some(man) = board.get(Square::at(q)) {
+            let is_meant = man.color == color && (man.kind == Kind::Pawn || !only_pawns);
+            if is_meant && count < MOST {
+                targets.squares[count] = q;
+                targets.kinds[count] = man.kind;
+                count += 1;
+            }
+        }
+    }
+    targets.count = count;
+    targets
+}
+
+/// The distances of a man to the targets.
+fn travel_row(man: Man, from: Square, targets: &Targets) -> [u8; MOST] {
+    let mut row = [NO_WAY; MOST];
+    for t in 0..MOST {
+        if t < targets.count {
+            let to = Square::at(targets.squares[t] % 64);
+            if let Some(steps) = distance(man, from, targets.kinds[t], to) {
+                row[t] = steps;
+            }
+        }
+    }
+    row
+}
+
+/// How many files a pawn has to change to a square, or no way.
+fn pawn_cost(color: Color, from: u8, to: u8) -> u8 {
+    let (file, rank) = (from % 8, from / 8);
+    let (new_file, new_rank) = (to % 8, to / 8);
+    let files = if file < new_file {
+        new_file - file
+    } else {
+        file - new_file
+    };
+    let (behind, ahead) = match color {
+        Color::White => (rank, new_rank),
+        Color::Black => (new_rank, rank),
+    };
+    if ahead < behind || ahead - behind < files {
+        NO_WAY
+    } else {
+        files
+    }
+}
+
+/// How many files a pawn has to change to the targets, which are pawns.
+fn pawn_row(color: Color, from: u8, targets: &Targets) -> [u8; MOST] {
+    let mut row = [NO_WAY; MOST];
+    for t in 0..MOST {
+        if t < targets.count {
+            row[t] = pawn_cost(color, from, targets.squares[t]);
+        }
+    }
+    row
+}
+
+/// The place of the first row of a kind.
+fn first(kind: Kind) -> usize
+    ensures { result ≤ 320 }
+{
+    match kind {
+        Kind::Pawn => 0,
+        Kind::Knight => 64,
+        Kind::Bishop => 128,
+        Kind::Rook => 192,
+        Kind::Queen => 256,
+        Kind::King => 320,
+    }
+}
+
+/// The place of a row.
+fn place(kind: Kind, square: u8) -> usize {
+    first(kind) + usize::from(square)
+}
+
+/// The row at a place, or one without ways.
+fn row_at(rows: &Vec<[u8; MOST]>, place: usize) -> [u8; MOST] {
+    match rows.get(place) {
+        Some(row) => *row,
+        None => [NO_WAY; MOST],
+    }
+}
+
+/// Writes the costs of a source.
+fn put_source(costs: &mut Costs, source: usize, row: &[u8; MOST]) {
+    let source = source % MOST;
+    for t in 0..MOST {
+        costs[t][source] = row[t];
+    }
+}
+
+/// How many squares of a set are before this one.
+fn number_of(set: u64, square: u8) -> usize {
+    let before = (1u64 << (square % 64)).wrapping_sub(1);
+    (set & before).count_ones() as usize
+}
+
+/// Writes the costs of these men of a board, each as the source with its number among all.
+fn put_men(costs: &mut Costs, rows: &Vec<[u8; MOST]>, first: usize, men: u64, all: u64) {
+    let mut men = men;
+    for _ in 0..MOST {
+        if men == 0 {
+            return;
+        }
+        let square = (men.trailing_zeros() % 64) as u8;
+        men &= men.wrapping_sub(1);
+        let row = row_at(rows, first.saturating_add(usize::from(square)));
+        put_source(costs, number_of(all, square), &row);
+    }
+}
+
+/// The homes of king and rook, and the squares that they castle to.
+fn castled(color: Color, wing: Wing) -> ((u8, u8), (u8, u8)) {
+    match color {
+        Color::White => match wing {
+            Wing::Short => ((4, 6), (7, 5)),
+            Wing::Long => ((4, 2), (0, 3)),
+        },
+        Color::Black => match wing {
+            Wing::Short => ((60, 62), (63, 61)),
+            Wing::Long => ((60, 58), (56, 59)),
+        },
+    }
+}
+
+impl Rows {
+    /// The rows of a colour for a diagram.
+    pub fn new(alloc: Global, color: Color, diagram: &Diagram) -> Result<Rows, AllocError> {
+        let board = diagram.board();
+        let targets = targets_of(&board, color, false);
+        let pawn_targets = targets_of(&board, color, true);
+        let mut travel = Vec::with_capacity(alloc, ROWS)?;
+        for kind in KINDS {
+            for q in 0..64u8 {
+                travel.push(travel_row(Man { color, kind }, Square::at(q), &targets))?;
+            }
+        }
+        let mut pawns = Vec::with_capacity(alloc, 64)?;
+        for q in 0..64u8 {
+            pawns.push(pawn_row(color, q, &pawn_targets))?;
+        }
+        Ok(Rows {
+            color,
+            targets: targets.count,
+            pawn_targets: pawn_targets.count,
+            travel,
+            pawns,
+        })
+    }
+
+    /// The colour.
+    pub fn color(&self) -> Color {
+        self.color
+    }
+
+    /// How many targets there are.
+    pub fn targets(&self) -> usize {
+        self.targets
+    }
+
+    /// How many targets are pawns.
+    pub fn pawn_targets(&self) -> usize {
+        self.pawn_targets
+    }
+
+    /// The distances of the colour's men on a board, in the order of their squares, to the targets.
+    pub fn travel(&self, board: &Board) -> Costs {
+        let mut costs = [[NO_WAY; MOST]; MOST];
+        let all = board.squares_of_color(self.color);
+        for kind in KINDS {
+            let men = board.squares_of(Man {
+                color: self.color,
+                kind,
+            });
+            put_men(&mut costs, &self.travel, first(kind), men, all);
+        }
+        costs
+    }
+
+    /// Turns the distances of the colour's men on a board into those of the same men with the king and
+    /// a rook, which stand at home, counted on the squares that they castle to.
+    pub fn castle(&self, costs: &mut Costs, board: &Board, wing: Wing) {
+        let all = board.squares_of_color(self.color);
+        let ((king, king_to), (rook, rook_to)) = castled(self.color, wing);
+        let row = row_at(&self.travel, place(Kind::King, king_to));
+        put_source(costs, number_of(all, king), &row);
+        let row = row_at(&self.travel, place(Kind::Rook, rook_to));
+        put_source(costs, number_of(all, rook), &row);
+    }
+
+    /// How many files the colour's pawns on a board, in the order of their squares, have to change to
+    /// the targets that are pawns.
+    pub fn pawns(&self, board: &Board) -> Costs {
+        let mut costs = [[NO_WAY; MOST]; MOST];
+        let men = board.squares_of(Man {
+            color: self.color,
+            kind: Kind::Pawn,
+        });
+        put_men(&mut costs, &self.pawns, 0, men, men);
+        costs
+    }
+}

@@ -1,0 +1,101 @@
+use super::*;
+use pg_board::Color;
+use pg_captures::{Bound, Promotions};
+use pg_fen::Diagram;
+use pg_moves::legal_moves;
+use pg_pawns::shift_need;
+use pg_position::Position;
+use std::alloc::{AllocError, Global};
+
+/// A number that follows another one.
+fn next(state: u64) -> u64 {
+    let state = state ^ (state << 13);
+    let state = state ^ (state >> 7);
+    state ^ (state << 17)
+}
+
+/// The position after so many moves by chance, and the next state of the chance.
+fn wander(
+    alloc: Global,
+    position: &Position,
+    plies: u8,
+    state: u64,
+) -> Result<(Position, u64), AllocError> {
+    let mut position = *position;
+    let mut state = state;
+    for _ in 0..plies {
+        let moves = legal_moves(alloc, &position)?;
+        state = next(state);
+        let pick = if moves.is_empty() {
+            0
+        } else {
+            (state >> 20) % moves.len() as u64
+        };
+        if let Some(m) = moves.get(pick as usize) {
+            if let Ok(after) = position.play(*m) {
+                position = after;
+            }
+        }
+    }
+    Ok((position, state))
+}
+
+/// What the rows give of a position for a diagram is what the checked functions give.
+fn agrees(alloc: Global, diagram: &Diagram, position: &Position) -> Result<bool, AllocError> {
+    let mut short = false;
+    for color in [Color::White, Color::Black] {
+        let rows = Rows::new(alloc, color, diagram)?;
+        let mut needs = first_needs(&rows, diagram, position);
+        if needs.need == NEVER {
+            short = true;
+        }
+        let least = match pg_travel::need(color, diagram, position) {
+            Some(need) => need.min(250) as u8,
+            None => 200,
+        };
+        let need = need(&rows, position);
+        if need != least && (need < 200 || least < 200) {
+            return Ok(false);
+        }
+        needs.complete(&rows, position);
+        let shift = shift_need(color, diagram, position).min(250) as u8;
+        if needs.travel < need.min(65) || needs.pawns < shift.min(17) {
+            return Ok(false);
+        }
+        if needs.need != NEVER && (needs.need != need || needs.shift != shift) {
+            return Ok(false);
+        }
+    }
+    Ok(short == Promotions.excludes(diagram, position, 1))
+}
+
+/// Positions and diagrams along random games: as many plies between them as before them.
+#[test]
+fn needs_are_those_of_the_bounds(rt: HostRuntime) {
+    let mut state = 0x9e37_79b9_7f4a_7c15u64;
+    for round in 0..60u8 {
+        let plies = round % 30;
+        let answer = wander(rt.alloc(), &Position::array(), plies, state);
+        let (position, after) = answer.expect(&rt, "memory");
+        let answer = wander(rt.alloc(), &position, plies, after);
+        let (end, after) = answer.expect(&rt, "memory");
+        state = after;
+        let diagram = Diagram::of(&end);
+        let same = agrees(rt.alloc(), &diagram, &position).expect(&rt, "memory");
+        assert!(rt; same, "{round}");
+        let other = agrees(rt.alloc(), &Diagram::of(&position), &end).expect(&rt, "memory");
+        assert!(rt; other, "{round}");
+    }
+}
+
+/// After 1. e4 e5 2. Nf3: from the array White has two steps to make.
+#[test]
+fn a_board_is_priced(rt: HostRuntime) {
+    let text = "rnbqkbnr/pppp1ppp/8/4p3/4P3/5N2/PPPP1PPP/RNBQKB1R";
+    let diagram = Diagram::read(text).expect(&rt, text);
+    let rows = Rows::new(rt.alloc(), Color::White, &diagram).expect(&rt, "memory");
+    let array = Position::array();
+    assert_eq!(rt; (rows.targets(), rows.pawn_targets()), (16, 8));
+    assert_eq!(rt; (need(&rows, &array), travel_value(&rows, &array)), (2, 2));
+    assert_eq!(rt; pawn_prices(&rows, &array).value, 0);
+}

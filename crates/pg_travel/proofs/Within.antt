@@ -1,0 +1,248 @@
+-- Sums that stop at a limit. Leads to the contracts of `total_within`, `pays` and `excludes_for`.
+use Rattle.std.proofs.Common.{◌≡◌, ◌≢◌, ℕ, zero, suc, ◌+◌, ◌<◌, ◌≤◌, ◌⊎◌, ◌&&◌, ◌^◌, inl, inr, not, nat_eq, Bool, true, false, cond, Option, Some, None, bit_and, bit_or, count_ones, eqb, refl, sym, ap, subst, arith, ◌∙◌, w64, ◌-◌, IsTrue, ◌↔◌, leb}
+use Rattle.std.proofs.lemmas.Bool.Decides.{eqb_tells, leb_tells}
+use Rattle.std.proofs.lemmas.Bool.{ne_eqb}
+use Rattle.std.specs.Int.{bit_not}
+use Rattle.std.proofs.lemmas.Nat.Bits.{bit_at_not}
+use Rattle.pg_board.specs.declared.man.Color.{Color}
+use Rattle.pg_board.specs.declared.man.Color.TheVariants.{White, Black}
+use Rattle.pg_board.specs.declared.man.Kind.{Kind}
+use Rattle.pg_board.specs.declared.man.Man.{Man}
+use Rattle.pg_board.specs.Bits.{has, has-and, bit_has, or_out, ones-count}
+use Rattle.pg_board.specs.Men.{man, is_of, color_eq, color_decides}
+use Rattle.pg_board.specs.Placement.{Placement, get}
+use Rattle.pg_board.specs.Tally.{one, total-suc, count_below, count_below-le}
+use Rattle.pg_position.specs.declared.rights.Wing.{Wing}
+use Rattle.pg_position.specs.declared.rights.Wing.TheVariants.{KingSide, QueenSide}
+use Rattle.pg_position.specs.declared.state.State.{State}
+use Rattle.pg_position.specs.Position.{holds, king_home, rook_home}
+use Rattle.pg_position.specs.Step.{king_crossed, king_target}
+use Rattle.pg_captures.specs.Owed.{plies_left}
+use Rattle.pg_travel.specs.Origins.{charge, counted, sum_to}
+use Rattle.pg_travel.specs.Formulas.{distance_of}
+use Rattle.pg_travel.specs.Needs.{NeedIs, TravelTest}
+use Rattle.pg_travel.specs.NeedLemmas.{test_fails}
+use Rattle.pg_travel.specs.Costs.{reach_of, nearest, cost, SumIs, lesser}
+use Rattle.pg_travel.specs.Pawns.{some_by_steps}
+use Rattle.pg_travel.specs.Values.{sum_is_value, cost_home, cost_man, counted_low}
+use Rattle.pg_travel.specs.Decided.{sum_of}
+use Rattle.pg_travel.specs.Least.{need_is, test_none, test_some, held_by_value}
+use Rattle.pg_travel.specs.Within.{CostsOnly, CostsEach, SumWithin, IsAbove, PaysIs, CastledIs}
+use Rattle.pg_travel.proofs.Nearness.{least_above}
+use Rattle.pg_travel.proofs.Skips.{IsOwn, cost_off}
+
+-- ---- squares that differ
+-- the set of the squares that do not hold the same
+abbrev pub Differ : Placement → Placement → ℕ → Type 0
+Differ b d moved = (q : ℕ) → q < 64 → (has moved q ≡ false) ↔ (get b q ≡ get d q)
+
+and_true : (a b : Bool) → (a && b) ≡ true → (a ≡ true) × (b ≡ true)
+and_true true b h = (refl, h)
+and_true false b h = absurd (cc)
+
+and_false : (a b : Bool) → (a && b) ≡ false → (a ≡ false) ⊎ ((a ≡ true) × (b ≡ false))
+and_false true b h = inr (refl, h)
+and_false false b h = inl refl
+
+has-not : (n q : ℕ) → n < 2 ^ 64 → q < 64 → has (bit_not w64 n) q ≡ not (has n q)
+has-not n q l k = ap (λ x. eqb x 1) (bit_at_not w64 n q l k ∙ ap (λ x. 1 - x) (bit_has n q)) ∙ flipped (has n q)
+  where
+    flipped : (b : Bool) → eqb (1 - cond b 1 0) 1 ≡ not b
+    flipped true = refl
+    flipped false = refl
+
+color_same : (c : Color) → color_eq c c ≡ true
+color_same White = refl
+color_same Black = refl
+
+man_of : (c : Color) (o : Option Man) → is_of c o ≡ true → (k : Kind) × (o ≡ Some (man c k))
+man_of c None e = absurd (cc)
+man_of c (Some m) e = (m.kind, ap (λ (x : Color). Some (man x m.kind)) ((color_decides m.color c).0 e))
+
+-- ---- squares off the set cost nothing
+-- a man that stands where it is to stand, and counts there
+cost_same : (b d : Placement) (c : Color) (way : Option Wing) (own q : ℕ) → IsOwn d c own → q < 64 → has own q ≡ true → get b q ≡ get d q → counted c way q ≡ q → cost b d c way q ≡ 0
+cost_same b d c way own q is l on same at =
+    let m : (k : Kind) × (get d q ≡ Some (man c k)) = man_of c (get d q) (sym (is q l) ∙ on) in
+    sym (cost_home b d c way q (man c m.0) m.1 (same ∙ m.1) (color_same c) at)
+
+pub costs_free : (b d : Placement) (c : Color) (own moved : ℕ) → IsOwn d c own → Differ b d moved → CostsOnly b d c None (bit_and own moved)
+unfolding CostsOnly
+costs_free b d c own moved is differ q l h = elim (and_false (has own q) (has moved q) (sym (has-and own moved q) ∙ h)) [
+  | inl off ↦ cost_off b d c None own q is l off
+  | inr on ↦ cost_same b d c None own q is l on.0 ((differ q l).0 on.1) refl
+]
+
+-- a1, e1, h1, a8, e8 and h8
+abbrev homes : ℕ
+homes = 10448351135499550865
+
+away : (q k : ℕ) → has homes q ≡ false → has homes k ≡ true → nat_eq q k ≡ false
+away q k off on = ne_eqb q k (λ e. let same : has homes q ≡ has homes k = ap (has homes) e in cc)
+
+counted_away : (c : Color) (w : Wing) (q : ℕ) → has homes q ≡ false → counted c (Some w) q ≡ q
+counted_away c w q off = (λ i. cond (king i) (king_target c w) (cond (rook i) (king_crossed c w) q))
+  where
+    king_on : (c : Color) → has homes (king_home c) ≡ true
+    king_on White = refl
+    king_on Black = refl
+
+    rook_on : (c : Color) (w : Wing) → has homes (rook_home c w) ≡ true
+    rook_on White KingSide = refl
+    rook_on White QueenSide = refl
+    rook_on Black KingSide = refl
+    rook_on Black QueenSide = refl
+
+    king : nat_eq q (king_home c) ≡ false
+    king = away q (king_home c) off (king_on c)
+
+    rook : nat_eq q (rook_home c w) ≡ false
+    rook = away q (rook_home c w) off (rook_on c w)
+
+pub costs_castled : (b d : Placement) (c : Color) (w : Wing) (own moved : ℕ) → IsOwn d c own → Differ b d moved → CostsOnly b d c (Some w) (bit_and own (bit_or moved homes))
+unfolding CostsOnly
+costs_castled b d c w own moved is differ q l h = elim (and_false (has own q) (has (bit_or moved homes) q) (sym (has-and own (bit_or moved homes) q) ∙ h)) [
+  | inl off ↦ cost_off b d c (Some w) own q is l off
+  | inr on ↦ (
+      let both : (has moved q ≡ false) × (has homes q ≡ false) = (or_out moved homes q).0 on.1 in
+      cost_same b d c (Some w) own q is l on.0 ((differ q l).0 both.0) (counted_away c w q both.1))
+]
+
+-- ---- what is sure to cost something
+walk_home : (m : Man) (j : Kind) (r t : ℕ) → r < 64 → t < 64 → distance_of m.color j m.kind r t ≡ 0 → (m.kind ≡ j) × (r ≡ t)
+walk_home m j r t lr lt e = (some_by_steps m.color m.kind r j t 0 lr lt (sym e) (λ f. cc)).0
+
+-- a man that has to come to a square where no such man stands, and where castling brings none
+cost_moved : (b d : Placement) (c : Color) (way : Option Wing) (j : Kind) (t : ℕ) → t < 64 → get d t ≡ Some (man c j) → get b t ≢ get d t → ((o : ℕ) → counted c way o ≡ t → o ≡ t) → 1 ≤ cost b d c way t
+unfolding nearest
+cost_moved b d c way j t lt there other back =
+    let e : cost b d c way t ≡ nearest b c way j t = cost_man b d c way j t there in
+    let n : 1 ≤ nearest b c way j t = least_above (λ o. reach_of c way j t o (get b o)) 64 1 (omega arith) (λ o l. each o l (get b o) refl) in
+    omega (arith, e, n)
+  where
+    by_side : (o : ℕ) → o < 64 → (m : Man) → get b o ≡ Some m → (x : Bool) → color_eq c m.color ≡ x → 1 ≤ cond x (distance_of m.color j m.kind (counted c way o) t) 64
+    by_side o l m here false e = omega arith
+    by_side o l m here true e = elim (eqb_tells (distance_of m.color j m.kind (counted c way o) t) 0) [
+      | inr w ↦ (let ne : distance_of m.color j m.kind (counted c way o) t ≢ 0 = w.1 in omega arith)
+      | inl w ↦ absurd (
+          let home : (m.kind ≡ j) × (counted c way o ≡ t) = walk_home m j (counted c way o) t (counted_low c way o l) lt w.1 in
+          let at : o ≡ t = back o home.1 in
+          let same : c ≡ m.color = (color_decides c m.color).0 e in
+          other (ap (get b) (sym at) ∙ here ∙ ap (λ (x : Color). Some (man x m.kind)) (sym same) ∙ ap (λ (k : Kind). Some (man c k)) home.0 ∙ sym there))
+    ]
+
+    each : (o : ℕ) → o < 64 → (x : Option Man) → get b o ≡ x → 1 ≤ reach_of c way j t o x
+    each o l None here = omega arith
+    each o l (Some m) here = by_side o l m here (color_eq c m.color) refl
+
+cost_differs : (b d : Placement) (c : Color) (way : Option Wing) (own moved q : ℕ) → IsOwn d c own → Differ b d moved → q < 64 → has (bit_and own moved) q ≡ true → ((o : ℕ) → counted c way o ≡ q → o ≡ q) → 1 ≤ cost b d c way q
+cost_differs b d c way own moved q is differ l h back =
+    let both : (has own q ≡ true) × (has moved q ≡ true) = and_true (has own q) (has moved q) (sym (has-and own moved q) ∙ h) in
+    let m : (k : Kind) × (get d q ≡ Some (man c k)) = man_of c (get d q) (sym (is q l) ∙ both.0) in
+    cost_moved b d c way m.0 q l m.1 (λ same. absurd (let off : has moved q ≡ false = (differ q l).1 same in cc)) back
+
+pub sure_free : (b d : Placement) (c : Color) (own moved : ℕ) → IsOwn d c own → Differ b d moved → CostsEach b d c None (bit_and own moved)
+unfolding CostsEach
+sure_free b d c own moved is differ q l h = cost_differs b d c None own moved q is differ l h (λ o e. e)
+
+uncounted : (x y : Bool) (t u o q : ℕ) → q ≢ t → q ≢ u → cond x t (cond y u o) ≡ q → o ≡ q
+uncounted true y t u o q a b e = absurd (a (sym e))
+uncounted false true t u o q a b e = absurd (b (sym e))
+uncounted false false t u o q a b e = e
+
+pub sure_castled : (b d : Placement) (c : Color) (w : Wing) (own moved castled : ℕ) → castled < 2 ^ 64 → IsOwn d c own → Differ b d moved → ((q : ℕ) → has castled q ≡ false → (q ≢ king_target c w) × (q ≢ king_crossed c w)) → CostsEach b d c (Some w) (bit_and (bit_and own moved) (bit_not w64 castled))
+unfolding CostsEach
+sure_castled b d c w own moved castled fits is differ off q l h =
+    let both : (has (bit_and own moved) q ≡ true) × (has (bit_not w64 castled) q ≡ true) = and_true (has (bit_and own moved) q) (has (bit_not w64 castled) q) (sym (has-and (bit_and own moved) (bit_not w64 castled) q) ∙ h) in
+    let none : has castled q ≡ false = not_true (has castled q) (sym (has-not castled q fits l) ∙ both.1) in
+    cost_differs b d c (Some w) own moved q is differ l both.0 (λ o e. uncounted (nat_eq o (king_home c)) (nat_eq o (rook_home c w)) (king_target c w) (king_crossed c w) o q (off q none).0 (off q none).1 e)
+  where
+    not_true : (x : Bool) → not x ≡ true → x ≡ false
+    not_true true e = absurd (cc)
+    not_true false e = refl
+
+-- so many plies at least
+cost_counted : (f : ℕ → ℕ) (set n : ℕ) → (has set n ≡ true → 1 ≤ f n) → count_below (has set) n ≤ sum_to f n → (x : Bool) → has set n ≡ x → count_below (has set) (suc n) ≤ sum_to f n + f n
+cost_counted f set n each before true e = let more : count_below (has set) (suc n) ≡ count_below (has set) n + one (has set n) = total-suc (λ k. one (has set k)) n in let z : one (has set n) ≡ 1 = ap one e in let y : 1 ≤ f n = each e in omega arith
+cost_counted f set n each before false e = let more : count_below (has set) (suc n) ≡ count_below (has set) n + one (has set n) = total-suc (λ k. one (has set k)) n in let z : one (has set n) ≡ 0 = ap one e in omega arith
+
+counted_costs : (f : ℕ → ℕ) (set n : ℕ) → n ≤ 64 → ((q : ℕ) → q < 64 → has set q ≡ true → 1 ≤ f q) → count_below (has set) n ≤ sum_to f n
+unfolding sum_to
+counted_costs f set zero l each = omega (arith, count_below-le (has set) 0)
+counted_costs f set (suc n) l each = cost_counted f set n (each n (omega arith)) (counted_costs f set n (omega arith) each) (has set n) refl
+
+pub within_sure : (b d : Placement) (c : Color) (way : Option Wing) (limit set : ℕ) → set < 2 ^ 64 → CostsEach b d c way set → limit < charge way + count_ones set → (v : ℕ) → SumIs b d c way (Some v) → limit < v
+unfolding CostsEach
+within_sure b d c way limit set fits each over v s =
+    let n : count_ones set ≡ count_below (has set) 64 = ones-count 64 set fits in
+    let g : count_below (has set) 64 ≤ sum_to (cost b d c way) 64 = counted_costs (cost b d c way) set 64 (omega arith) each in
+    let e : v ≡ charge way + sum_to (cost b d c way) 64 = s.1 in
+    omega arith
+
+pub costs_off : (b d : Placement) (c : Color) (way : Option Wing) (set q : ℕ) → CostsOnly b d c way set → q < 64 → has set q ≡ false → cost b d c way q ≡ 0
+unfolding CostsOnly
+costs_off b d c way set q h l off = h q l off
+
+-- ---- sums
+pub sum_grows : (f : ℕ → ℕ) (a b : ℕ) → a ≤ b → sum_to f a ≤ sum_to f b
+unfolding sum_to
+sum_grows f a zero h = let e : a ≡ 0 = omega arith in let s : sum_to f a ≡ sum_to f 0 = ap (sum_to f) e in omega arith
+sum_grows f a (suc b) h = elim (eqb_tells a (suc b)) [
+  | inl w ↦ (let s : sum_to f a ≡ sum_to f (suc b) = ap (sum_to f) w.1 in omega arith)
+  | inr w ↦ (let ne : a ≢ suc b = w.1 in let s : sum_to f a ≤ sum_to f b = sum_grows f a b (omega arith) in omega arith)
+]
+
+-- where the first men cost more than the limit, all do
+pub within_over : (b d : Placement) (c : Color) (way : Option Wing) (limit n : ℕ) → n ≤ 64 → limit < charge way + sum_to (cost b d c way) n → (v : ℕ) → SumIs b d c way (Some v) → limit < v
+within_over b d c way limit n low more v s = let g : sum_to (cost b d c way) n ≤ sum_to (cost b d c way) 64 = sum_grows (cost b d c way) n 64 low in let e : v ≡ charge way + sum_to (cost b d c way) 64 = s.1 in omega arith
+
+-- the value, by the sum within the limit
+pub pays_not : (p : State) (d : Placement) (c : Color) (way : Option Wing) (limit : ℕ) (r : Option ℕ) → SumWithin p.board d c way limit r → ((v : ℕ) → r ≡ Some v → limit < v) → PaysIs p d c way limit false
+pays_not p d c way limit r h over = go (sum_of p.board d c way).0 (sum_of p.board d c way).1
+  where
+    above : (r : Option ℕ) (v : ℕ) → SumWithin p.board d c way limit r → ((w : ℕ) → r ≡ Some w → limit < w) → SumIs p.board d c way (Some v) → limit < v
+    above None v h over s = h v s
+    above (Some w) v h over s = (let a : w ≡ charge way + sum_to (cost p.board d c way) 64 = h.1 in let e : v ≡ charge way + sum_to (cost p.board d c way) 64 = s.1 in let l : limit < w = over w refl in omega arith)
+
+    go : (o : Option ℕ) → SumIs p.board d c way o → PaysIs p d c way limit false
+    go None s = (None, sum_is_value p d c way None s, tt)
+    go (Some v) s = (Some v, sum_is_value p d c way (Some v) s, above r v h over s)
+
+pub pays_at : (p : State) (d : Placement) (c : Color) (way : Option Wing) (limit v : ℕ) → SumIs p.board d c way (Some v) → v ≤ limit → PaysIs p d c way limit true
+pays_at p d c way limit v s l = (v, sum_is_value p d c way (Some v) s, l)
+
+pub pays_by : (p : State) (d : Placement) (c : Color) (way : Option Wing) (limit v : ℕ) → SumIs p.board d c way (Some v) → PaysIs p d c way limit (leb v limit)
+pays_by p d c way limit v s = elim (leb_tells v limit) [
+  | inl w ↦ subst (λ (b : Bool). PaysIs p d c way limit b) (sym w.0) (pays_at p d c way limit v s w.1)
+  | inr w ↦ subst (λ (b : Bool). PaysIs p d c way limit b) (sym w.0) (pays_not p d c way limit (Some v) s (λ x e. let same : v ≡ x = cc in let l : limit < v = w.1 in omega arith))
+]
+
+pub castled_by : (p : State) (d : Placement) (c : Color) (w : Wing) (limit : ℕ) (r : Bool) → holds p.rights c w ≡ true → PaysIs p d c (Some w) limit r → CastledIs p d c w limit r
+castled_by p d c w limit true e h = (h.0, e, h.1, h.2)
+castled_by p d c w limit false e h = (h.0, held_by_value p d c w h.0 e h.1, h.2)
+
+pub castled_none : (p : State) (d : Placement) (c : Color) (w : Wing) (limit : ℕ) → holds p.rights c w ≡ false → CastledIs p d c w limit false
+castled_none p d c w limit e = (None, (λ v held value. (let h : holds p.rights c w ≡ true = held in let both : true ≡ false = sym h ∙ e in cc)), tt)
+
+-- ---- the test
+lesser_above : (limit : ℕ) (a b : Option ℕ) → IsAbove limit a → IsAbove limit b → IsAbove limit (lesser a b)
+lesser_above limit None b f g = g
+lesser_above limit (Some x) None f g = f
+lesser_above limit (Some x) (Some y) f g = omega arith
+
+pub all_above : (p : State) (d : Placement) (c : Color) (k limit : ℕ) → limit ≡ plies_left p.side c k → PaysIs p d c None limit false → CastledIs p d c KingSide limit false → CastledIs p d c QueenSide limit false → TravelTest p d c k
+all_above p d c k limit e a s q = go (lesser a.0 (lesser s.0 q.0)) (need_is p d c a.0 s.0 q.0 a.1 s.1 q.1) (lesser_above limit a.0 (lesser s.0 q.0) a.2 (lesser_above limit s.0 q.0 s.2 q.2))
+  where
+    go : (o : Option ℕ) → NeedIs p d c o → IsAbove limit o → TravelTest p d c k
+    go None h above = test_none p d c k h
+    go (Some n) h above = (test_some p d c k n h).1 (let l : limit < n = above in omega (arith, e))
+
+pub free_paid : (p : State) (d : Placement) (c : Color) (k limit : ℕ) → limit ≡ plies_left p.side c k → PaysIs p d c None limit true → ¬ TravelTest p d c k
+free_paid p d c k limit e h = test_fails p d c k h.0 (None, tt, h.1) (subst (λ (n : ℕ). h.0 ≤ n) e h.2)
+
+pub castled_paid : (p : State) (d : Placement) (c : Color) (w : Wing) (k limit : ℕ) → limit ≡ plies_left p.side c k → CastledIs p d c w limit true → ¬ TravelTest p d c k
+castled_paid p d c w k limit e h = test_fails p d c k h.0 (Some w, h.1, h.2) (subst (λ (n : ℕ). h.0 ≤ n) e h.3)
+
+pub told : (p : State) (d : Placement) (c : Color) (k limit : ℕ) (long : Bool) → limit ≡ plies_left p.side c k → PaysIs p d c None limit false → CastledIs p d c KingSide limit false → CastledIs p d c QueenSide limit long → IsTrue (not long) ↔ TravelTest p d c k
+told p d c k limit true e a s q = ((λ t. cc), (λ t. absurd (castled_paid p d c QueenSide k limit e q t)))
+told p d c k limit false e a s q = ((λ t. all_above p d c k limit e a s q), (λ t. refl))

@@ -1,0 +1,161 @@
+//! The test of price lists.
+ghost use Rattle.std.specs.Prelude.{◌≡◌, ℕ, ◌+◌, ◌≤◌, ◌⊎◌, ◌↔◌, IsTrue, Some, None, length};
+ghost use Rattle.pg_position.specs.Game.{Barren};
+ghost use Rattle.pg_position.specs.declared.rights.Wing.TheVariants.{KingSide, QueenSide};
+ghost use Rattle.pg_captures.specs.PriceLists.{list_of};
+ghost use Rattle.pg_travel.specs.PriceRecords.{list_at};
+ghost use Rattle.pg_travel.specs.TravelPrices.{WayPricesExclude, TravelPricesExclude};
+ghost use Rattle.pg_travel.specs.Ways.{wing_of, way_of};
+
+use crate::castling::{Castling, charge, holds};
+use crate::prices::Prices;
+use crate::targets::all_fit;
+use pg_board::Color;
+use pg_captures::{all_men, plies_left, price_sum};
+use pg_fen::Diagram;
+use pg_position::Position;
+
+// Whether the list of a way excludes it.
+fn way_excludes(
+    diagram: &Diagram,
+    position: &Position,
+    left: u8,
+    color: Color,
+    way: Option<Castling>,
+    u: &[u8],
+    v: &[u8],
+) -> bool
+    ensures { IsTrue result ↔ WayPricesExclude diagram.now position.now left color (way_of way) (list_of u.now v.now) }
+{
+    let board = position.board();
+    let goal = diagram.board();
+    if u.len() != all_men(&board, color) as usize {
+        return false;
+    }
+    if v.len() != all_men(&goal, color) as usize {
+        return false;
+    }
+    let plies = u16::from(plies_left(position.side(), color, left));
+    if price_sum(v) + charge(way) <= plies + price_sum(u) {
+        return false;
+    }
+    all_fit(&board, &goal, color, way, u, v)
+}
+
+// The same for a list of the prices.
+fn list_excludes(
+    diagram: &Diagram,
+    position: &Position,
+    left: u8,
+    color: Color,
+    way: Option<Castling>,
+    prices: &Prices,
+    i: usize,
+) -> bool
+    ensures { IsTrue result ↔ WayPricesExclude diagram.now position.now left color (way_of way) (list_at prices.now i) }
+{
+    way_excludes(
+        diagram,
+        position,
+        left,
+        color,
+        way,
+        prices.u(i),
+        prices.v(i),
+    )
+}
+
+// Whether there is one list, and it excludes the way without castling.
+fn one_way(diagram: &Diagram, position: &Position, left: u8, color: Color, prices: &Prices) -> bool
+    ensures { IsTrue result ↔ ((length prices.now ≡ 1) × WayPricesExclude diagram.now position.now left color None (list_at prices.now 0)) }
+{
+    prices.ways() == 1 && list_excludes(diagram, position, left, color, None, prices, 0)
+}
+
+// Whether there are two lists, and they exclude the way without castling and that with it.
+fn two_ways(
+    diagram: &Diagram,
+    position: &Position,
+    left: u8,
+    color: Color,
+    wing: Castling,
+    prices: &Prices,
+) -> bool
+    ensures { IsTrue result ↔ ((length prices.now ≡ 2) × WayPricesExclude diagram.now position.now left color None (list_at prices.now 0) × WayPricesExclude diagram.now position.now left color (Some (wing_of wing)) (list_at prices.now 1)) }
+{
+    prices.ways() == 2
+        && list_excludes(diagram, position, left, color, None, prices, 0)
+        && list_excludes(diagram, position, left, color, Some(wing), prices, 1)
+}
+
+// Whether there are three lists, and they exclude the way without castling and both with it.
+fn three_ways(
+    diagram: &Diagram,
+    position: &Position,
+    left: u8,
+    color: Color,
+    prices: &Prices,
+) -> bool
+    ensures { IsTrue result ↔ ((length prices.now ≡ 3) × WayPricesExclude diagram.now position.now left color None (list_at prices.now 0) × WayPricesExclude diagram.now position.now left color (Some KingSide) (list_at prices.now 1) × WayPricesExclude diagram.now position.now left color (Some QueenSide) (list_at prices.now 2)) }
+{
+    prices.ways() == 3
+        && list_excludes(diagram, position, left, color, None, prices, 0)
+        && list_excludes(
+            diagram,
+            position,
+            left,
+            color,
+            Some(Castling::Short),
+            prices,
+            1,
+        )
+        && list_excludes(
+            diagram,
+            position,
+            left,
+            color,
+            Some(Castling::Long),
+            prices,
+            2,
+        )
+}
+
+fn excluded(diagram: &Diagram, position: &Position, left: u8, color: Color, prices: &Prices) -> bool
+    ensures { IsTrue result ↔ TravelPricesExclude diagram.now position.now left color prices.now }
+{
+    let rights = position.rights();
+    let short = holds(rights, color, Castling::Short);
+    let long = holds(rights, color, Castling::Long);
+    if short {
+        if long {
+            three_ways(diagram, position, left, color, prices)
+        } else {
+            two_ways(diagram, position, left, color, Castling::Short, prices)
+        }
+    } else if long {
+        two_ways(diagram, position, left, color, Castling::Long, prices)
+    } else {
+        one_way(diagram, position, left, color, prices)
+    }
+}
+
+/// Whether price lists exclude every game of `left` plies from the position to the diagram. There is
+/// one list for each way of the colour: no castling, castling king side, castling queen side, in this
+/// order, the castling ways where the right is held. A list has a number for each man of the colour in
+/// the position, its source, and for each in the diagram, its target, in order of their squares. In
+/// each way every target pays no more than any source that has a distance to it, and that distance;
+/// and what the targets pay less what the sources pay, plus 1 with castling, is above the colour's
+/// plies left. False for any other lists.
+pub fn prices_exclude(
+    diagram: &Diagram,
+    position: &Position,
+    left: u8,
+    color: Color,
+    prices: &Prices,
+) -> bool
+    ensures exact { IsTrue result ↔ TravelPricesExclude diagram.now position.now left color prices.now }
+    ensures barren { IsTrue result → Barren diagram.now position.now left }
+{
+    position.side();
+    excluded(diagram, position, left, color, prices)
+}
