@@ -1,7 +1,7 @@
 #!/usr/bin/env bash
 # What the program's work costs in instructions, as valgrind counts them: the same for the same program and input, whatever
 # else the machine is doing. The first rows are whole runs, start of the program included; the others are what one more
-# record costs the checker, from two runs of bench_checker.
+# record costs the checker, from two runs of bench_checker. Last come the counts beside a peer (counts.sh).
 set -eu
 top=$(cd "$(dirname "$(readlink -f "$0")")/.." && pwd)
 work=$(mktemp -d)
@@ -39,3 +39,6 @@ run "count of ${many%% *}, 3 plies" "$pg" count "$many" 3
 record 'a record 01 on a diagram of 64 men, 2.0' full
 record 'a record 01 of the queen recaptures' expansions
 record 'the dearest node with one ply left: 218 moves, 4 squares off' near
+
+echo
+"$top/bench/counts.sh"
