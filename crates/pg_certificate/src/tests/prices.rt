@@ -121,9 +121,12 @@ fn bytes_out_of_range_are_unknown(rt: HostRuntime) {
 #[test]
 fn the_widest_record_is_read(rt: HostRuntime) -> Result<(), Fail> {
     let mut bytes = vec![in rt.alloc(); 1u8; 390]?;
-    for (at, byte) in [(0, 6), (1, 4), (2, 0), (3, 3), (4, 64), (5, 64)] {
-        bytes[at] = byte;
-    }
+    bytes[0] = 6;
+    bytes[1] = 4;
+    bytes[2] = 0;
+    bytes[3] = 3;
+    bytes[4] = 64;
+    bytes[5] = 64;
     let ones = [1; 64];
     let mut prices = Prices::new(&ones, &ones).expect(&rt, "few enough");
     assert!(rt; prices.add(&ones, &ones) && prices.add(&ones, &ones));
