@@ -2,7 +2,7 @@
 //! `expansions` checks the queen recaptures by expansions alone, 9,766 records a round; `full` the
 //! same for a diagram with 64 men, which no game reaches; `near` asks of a position with 218 moves,
 //! four squares of which are not as the diagram has them, which of the moves lead to it: no node
-//! with one ply left costs more.
+//! with one ply left that was tried costs more.
 #![tactic(auto)]
 
 use pg_captures::Bound;
