@@ -10,7 +10,7 @@ use pg_board::Color;
 use pg_fen::Diagram;
 use pg_moves::legal_moves;
 use pg_position::Position;
-use pg_prices::{Costs, MOST, Rows, assign, first_needs};
+use pg_prices::{Costs, MOST, Rows, assign, first_needs, pawn_lists, travel_lists};
 use std::alloc::{AllocError, Global};
 use std::env;
 
@@ -88,13 +88,15 @@ fn sum_of(rows: &Rows, diagram: &Diagram, position: &Position, part: Part) -> u6
     if part == Part::Nothing {
         return 1;
     }
-    let mut needs = first_needs(rows, diagram, position);
-    if part == Part::All {
-        needs.complete(rows, position);
+    let first = u64::from(first_needs(rows, diagram, position).need);
+    if part != Part::All {
+        return first;
     }
-    u64::from(needs.need)
-        .saturating_add(u64::from(needs.travel))
-        .saturating_add(u64::from(needs.pawns))
+    let (travel, _) = travel_lists(rows, position);
+    let (pawns, _) = pawn_lists(rows, position);
+    first
+        .saturating_add(u64::from(travel))
+        .saturating_add(u64::from(pawns))
 }
 
 /// Games of 16 plies each.

@@ -1,17 +1,45 @@
 //! Measures the search: `bench_search DIAGRAM LENGTH NODES` searches and prints how many games were
-//! found, how many bytes the certificate has and how many nodes were visited. That is the same at
-//! each run; the time is taken from outside.
+//! found, how many bytes the certificate has and how many records of each sort; with `check` behind it
+//! the certificate is checked too. `bench_search table` does both for twelve problems. What is printed is
+//! the same at each run; the time is taken from outside.
 #![tactic(auto)]
 
+use pg_captures::{Bound, Captures, Promotions};
 use pg_certificate::{FromRead, Record, RecordReader, ToWrite};
+use pg_checker::check;
 use pg_fen::{Diagram, FenFault, Length, LengthFault};
+use pg_pawns::PawnFiles;
+use pg_san::Games;
 use pg_searcher::{SearchFault, search};
-use std::alloc::Global;
+use pg_travel::Travel;
+use std::alloc::{AllocError, Global};
 use std::env;
+
+/// Problems of four to twelve moves: diagram and length.
+const TABLE: [(&str, &str); 12] = [
+    ("r1bqkbnr/ppp2ppp/3p4/8/8/8/PPPPPPPP/R1BQKBNR", "4.0"),
+    ("rnbqkb1r/ppp2ppp/8/8/8/8/PPPPPPPP/RNBQKB1R", "4.0"),
+    ("rnQ1kbnr/pp1ppppp/8/2p5/2P5/2q5/PP1PPPPP/RNB1KBNR", "3.5"),
+    ("rnbqkbnr/p1pppppp/8/8/8/3QP3/PPP2PPP/RNB1K1NR", "3.5"),
+    ("rnb1kb1r/ppppqppp/8/8/8/5P2/PPPP1KPP/RNB2BNn", "5.0"),
+    ("r1bqnNnr/pppkpp1p/7R/3p4/8/8/PPPPPPP1/RNBQKBN1", "5.5"),
+    ("Rnb1kbnr/p1p1pppp/8/3p4/8/8/1PPPPP2/RNBQ1KNR", "5.5"),
+    ("1nbqkbnr/p1ppppp1/1N6/8/8/6n1/1PPPPP1P/RNBQKBN1", "6.0"),
+    ("rnbq1bnr/ppppp1p1/8/8/2k4p/2NPP3/PPP2PPP/RNBQ1RK1", "6.5"),
+    ("4kbnr/3pppp1/8/1bR4p/8/r7/P1PPPPPP/RNBQKBNR", "7.0"),
+    ("2bqr1k1/2pNppbp/1p5p/7n/1r1P4/8/P1P1PPPP/RNB1KBNR", "9.0"),
+    (
+        "4r1k1/2p1ppbp/1p5p/2N2b1n/2rP4/q3P3/P1P1BPPP/RNB1K1NR",
+        "12.0",
+    ),
+];
+
+/// How many nodes are visited at most for a problem of the table.
+const MOST: u64 = 100_000;
 
 #[derive(Debug, Drop, thiserror::Error)]
 enum Fault {
-    #[error("write a diagram, a length and a number of nodes")]
+    #[error("write table, or a diagram, a length, a number of nodes and perhaps check")]
     Usage,
     #[error("{0}")]
     Diagram(FenFault),
@@ -19,6 +47,8 @@ enum Fault {
     Length(LengthFault),
     #[error("{0}")]
     Search(SearchFault),
+    #[error("a certificate is refused")]
+    Refused,
 }
 
 /// How many records of each sort.
@@ -27,6 +57,8 @@ struct Count {
     nodes: u64,
     named: u64,
     references: u64,
+    cuts: u64,
+    priced: u64,
 }
 
 /// The records of a certificate.
@@ -37,6 +69,8 @@ fn count_records(bytes: &[u8]) -> Count {
         nodes: 0,
         named: 0,
         references: 0,
+        cuts: 0,
+        priced: 0,
     };
     let _ = reader.header(&mut source);
     for _ in 0..u64::MAX {
@@ -48,20 +82,32 @@ fn count_records(bytes: &[u8]) -> Count {
             Record::Expand { named } => {
                 count.named = count.named.saturating_add(u64::from(named));
             }
-            Record::Cut(_) => {}
+            Record::Cut(_) => count.cuts = count.cuts.saturating_add(1),
             Record::Ref(_) => count.references = count.references.saturating_add(1),
-            Record::Priced { .. } => {}
+            Record::Priced { .. } => count.priced = count.priced.saturating_add(1),
         }
     }
     count
 }
 
-fn run(
-    alloc: Global,
-    diagram: &str,
-    length: &str,
-    nodes: u64,
-) -> anyhow::Result<(usize, usize, Count)> {
+/// What a search found: the games and the certificate.
+#[derive(Drop)]
+struct Found {
+    games: Games,
+    bytes: Vec<u8>,
+}
+
+fn run(alloc: Global, diagram: &Diagram, length: Length, nodes: u64) -> anyhow::Result<Found> {
+    let mut sink = ToWrite::new(Vec::new(alloc));
+    let games = match search(alloc, diagram, length, nodes, &mut sink) {
+        Ok(games) => games,
+        Err(fault) => Err(Fault::Search(fault))?,
+    };
+    let bytes = sink.into_inner();
+    Ok(Found { games, bytes })
+}
+
+fn read(diagram: &str, length: &str) -> anyhow::Result<(Diagram, Length)> {
     let diagram = match Diagram::read(diagram) {
         Ok(diagram) => diagram,
         Err(fault) => Err(Fault::Diagram(fault))?,
@@ -70,29 +116,82 @@ fn run(
         Ok(length) => length,
         Err(fault) => Err(Fault::Length(fault))?,
     };
-    let mut sink = ToWrite::new(Vec::new(alloc));
-    let games = match search(alloc, &diagram, length, nodes, &mut sink) {
-        Ok(games) => games,
-        Err(fault) => Err(Fault::Search(fault))?,
-    };
-    let bytes = sink.into_inner();
-    Ok((games.len(), bytes.len(), count_records(bytes.as_slice())))
+    Ok((diagram, length))
+}
+
+/// Whether a check says yes.
+fn holds(
+    alloc: Global,
+    diagram: &Diagram,
+    length: Length,
+    found: &Found,
+    nodes: u64,
+) -> Result<bool, AllocError> {
+    let mut bounds: Vec<Box<dyn Bound>> = Vec::new(alloc);
+    bounds.push(Box::new(alloc, Captures)?)?;
+    bounds.push(Box::new(alloc, Promotions)?)?;
+    bounds.push(Box::new(alloc, PawnFiles)?)?;
+    bounds.push(Box::new(alloc, Travel)?)?;
+    let mut source = FromRead::new(found.bytes.as_slice());
+    let answer = check(
+        alloc,
+        diagram,
+        length,
+        &found.games,
+        bounds.as_slice(),
+        &mut source,
+        nodes,
+        4_194_304,
+    );
+    Ok(answer.is_ok())
+}
+
+fn print(rt: &HostRuntime, found: &Found) -> anyhow::Result<()> {
+    let count = count_records(found.bytes.as_slice());
+    println!(rt;
+        "games {} bytes {} nodes {} named {} references {} cuts {} priced {}",
+        found.games.len(),
+        found.bytes.len(),
+        count.nodes,
+        count.named,
+        count.references,
+        count.cuts,
+        count.priced
+    )?;
+    Ok(())
+}
+
+fn run_table(rt: &HostRuntime) -> anyhow::Result<()> {
+    for (diagram, length) in TABLE {
+        let (diagram, length) = read(diagram, length)?;
+        let found = run(rt.alloc(), &diagram, length, MOST)?;
+        if !holds(rt.alloc(), &diagram, length, &found, MOST)? {
+            return Err(Fault::Refused)?;
+        }
+        print(rt, &found)?;
+    }
+    Ok(())
 }
 
 fn main(rt: HostRuntime) -> anyhow::Result<()> {
     let words = env::args(&rt)?;
     let mut words = words.skip(1);
-    let (Some(diagram), Some(length), Some(nodes)) = (words.next(), words.next(), words.next())
-    else {
+    let Some(diagram) = words.next() else {
+        return Err(Fault::Usage)?;
+    };
+    if diagram.as_str() == "table" {
+        return run_table(&rt);
+    }
+    let (Some(length), Some(nodes)) = (words.next(), words.next()) else {
         return Err(Fault::Usage)?;
     };
     let Ok(nodes) = nodes.as_str().parse::<u64>() else {
         return Err(Fault::Usage)?;
     };
-    let (games, bytes, count) = run(rt.alloc(), diagram.as_str(), length.as_str(), nodes)?;
-    println!(rt;
-        "games {games} bytes {bytes} nodes {} named {} references {}",
-        count.nodes, count.named, count.references
-    )?;
-    Ok(())
+    let (diagram, length) = read(diagram.as_str(), length.as_str())?;
+    let found = run(rt.alloc(), &diagram, length, nodes)?;
+    if words.next().is_some() && !holds(rt.alloc(), &diagram, length, &found, nodes)? {
+        return Err(Fault::Refused)?;
+    }
+    print(&rt, &found)
 }

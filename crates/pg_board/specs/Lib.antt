@@ -4,3 +4,4 @@ pub mod Tally
 pub mod Placement
 pub mod Bits
 pub mod Sets
+pub mod Packed

@@ -1,7 +1,7 @@
 ghost use Rattle.std.specs.Prelude.{◌≡◌, ℕ, ◌<◌, ◌≢◌, ◌↔◌, IsTrue, MatchOption, Some, false};
 ghost use Rattle.std.specs.Cmp.{partial_equiv_from_equiv, decided};
 ghost use Rattle.pg_board.specs.Men.{king_of, is_man, is_of, is_held};
-ghost use Rattle.pg_board.specs.Placement.{placement_eq, placement_eq_decides, get, empty, put, without, count_of, IsFirst};
+ghost use Rattle.pg_board.specs.Placement.{placement_eq, placement_eq_decides, placement_of, get, empty, put, without, count_of, IsFirst};
 ghost use Rattle.pg_board.specs.Bits.{has};
 ghost use Rattle.pg_board.specs.Sets.{man_in, IsSound};
 
@@ -60,6 +60,14 @@ impl Board {
         ensures { (q : ℕ) → q < 64 → get result q ≡ man_in sets q }
     {
         Board { sets }
+    }
+
+    /// The eight sets.
+    pub fn sets(&self) -> &Sets
+        ensures sound { IsSound result.now }
+        ensures shown { placement_of (man_in result.now) ≡ self.now }
+    {
+        &self.sets
     }
 
     /// The man on a square; none where it is empty.

@@ -3,11 +3,13 @@
 
 mod board;
 mod man;
+mod packed;
 mod sets;
 mod square;
 
 pub use board::Board;
 pub use man::{Color, Kind, Man};
+pub use packed::PackedBoard;
 pub use sets::{Sets, contains};
 pub use square::Square;
 

@@ -8,6 +8,7 @@ pub mod PromotionsLaw
 pub mod Decided
 pub mod FreeSteps
 pub mod BoardLemmas
+pub mod Decisions
 pub mod MoveLemmas
 pub mod PriceLists
 pub mod Duality

@@ -7,6 +7,8 @@ use Rattle.pg_board.specs.declared.man.Color.TheVariants.{White, Black}
 use Rattle.pg_captures.specs.PriceLists.{PriceList}
 use Rattle.pg_travel.specs.PriceRecords.{sources, targets}
 use Rattle.pg_certificate.specs.declared.record.Header.{Header}
+use Rattle.pg_certificate.specs.declared.record.Plain.{Plain}
+use Rattle.pg_certificate.specs.declared.record.Plain.TheVariants as plain
 use Rattle.pg_certificate.specs.declared.record.Record.{Record}
 use Rattle.pg_certificate.specs.declared.record.Record.TheVariants.{Expand, Cut, Ref, Priced}
 
@@ -38,6 +40,12 @@ spelling (Expand named) = expand_byte named ∷ []
 spelling (Cut code) = 2 ∷ code ∷ []
 spelling (Ref number) = 3 ∷ to_be_bytes w32 number
 spelling (Priced code color prices) = 6 ∷ code ∷ color_byte color ∷ prices_spelling prices
+
+-- a record of version 1, among those of every version
+abbrev pub record_of : Plain → Record
+record_of (plain.Expand named) = Expand named
+record_of (plain.Cut code) = Cut code
+record_of (plain.Ref number) = Ref number
 
 -- no spelling is longer: six bytes, then at most three lists of 64 sources and 64 targets
 abbrev pub longest_record : ℕ

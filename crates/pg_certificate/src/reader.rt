@@ -2,7 +2,7 @@
 ghost use Rattle.std.specs.Prelude.{◌≡◌, ◌↔◌, ◌<◌, ◌≤◌, ◌^◌, ◌+◌, ◌*◌, ℕ, List, slice_index, [], ◌∷◌, length, true, false, IfOk, OnOk, OnErr, IsTrue};
 ghost use Rattle.std.specs.Io.KnownBytes.{Keeps, Consumes, IsAtEnd};
 ghost use Rattle.std.specs.Int.{w32, to_be_bytes};
-ghost use Rattle.pg_certificate.specs.Spelling.{spelling, header_spelling, longest_record, IsHeader, IsRecord, IsRecordOf};
+ghost use Rattle.pg_certificate.specs.Spelling.{record_of, spelling, header_spelling, longest_record, IsHeader, IsRecord, IsRecordOf};
 ghost use Rattle.pg_certificate.specs.Reading.{more_at, byte_at, byte_from, exactly, number_at, outline_at, lists_at, priced_at, header_at, record_at, end_at};
 ghost use Rattle.pg_certificate.specs.Outlines.{IsOutline, AreListsOf, outline_spelling, lists_spelling};
 ghost use Rattle.pg_certificate.specs.Reader.{to_come, Reads, ReadsAs, RefusesOnce, PullsAtMost};
@@ -10,7 +10,7 @@ ghost use Rattle.pg_certificate.specs.Reader.{to_come, Reads, ReadsAs, RefusesOn
 use crate::fault::ReadFault;
 use crate::magic::{HEADER_LENGTH, header_of};
 use crate::outline::{Outline, color_of, prices_of};
-use crate::record::{Header, Record};
+use crate::record::{Header, Plain, Record};
 use crate::source::{Refused, Source};
 use pg_travel::Prices;
 use std::marker::Model;
@@ -79,6 +79,7 @@ impl RecordReader {
             (header_spelling h)) }
         ensures spelled { IfOk result (λ h. IsHeader h) }
         ensures refuses { RefusesOnce self.old.failed self.new.failed (S.has_failed source.new) result }
+        ensures runs { OnOk result (S.has_failed source.old ≡ false → S.has_failed source.new ≡ false) }
         ensures pulls { PullsAtMost 37 (to_come self.old (S.left source.old)) (S.left source.new) result }
         ensures room { length self.new.held ≤ 4096 }
         ensures emptied { OnErr result (self.new.held ≡ []) }
@@ -105,6 +106,7 @@ impl RecordReader {
     /// Truncated where they end inside it or no byte is to come. UnknownRecord at the first byte
     /// that no record of the version can have at its place, as soon as it is read. Read where the
     /// source has failed. Failed after any refusal.
+    #[inline(always)]
     pub fn next_record<S: Source>(&mut self, source: &mut S) -> Result<Record, ReadFault>
         ensures bytes { Reads (record_at self.old.version)
             (to_come self.old (S.left source.old)) (to_come self.new (S.left source.new)) result }
@@ -113,6 +115,7 @@ impl RecordReader {
             (spelling x)) }
         ensures spelled { IfOk result (λ x. IsRecordOf self.old.version x) }
         ensures refuses { RefusesOnce self.old.failed self.new.failed (S.has_failed source.new) result }
+        ensures runs { OnOk result (S.has_failed source.old ≡ false → S.has_failed source.new ≡ false) }
         ensures pulls { PullsAtMost longest_record (to_come self.old (S.left source.old)) (S.left source.new) result }
         ensures room { length self.new.held ≤ 4096 }
         ensures emptied { OnErr result (self.new.held ≡ []) }
@@ -138,7 +141,48 @@ impl RecordReader {
         }
     }
 
-    /// Whether a byte is to come. It stays.
+    /// Reads the record at the front of the bytes to come by version 1, whatever the version of the
+    /// header was. Its answer is small, since no record of version 1 has prices.
+    ///
+    /// # Errors
+    /// Truncated where the bytes to come end inside the record or there are none. UnknownRecord at a
+    /// first byte that no record of version 1 has. Read where the source has failed. Failed after
+    /// any refusal.
+    #[inline(always)]
+    pub fn next_plain<S: Source>(&mut self, source: &mut S) -> Result<Plain, ReadFault>
+        ensures bytes { ReadsAs record_of (record_at 1)
+            (to_come self.old (S.left source.old)) (to_come self.new (S.left source.new)) result }
+        ensures found { IfOk result (λ x. Consumes
+            (to_come self.old (S.left source.old)) (to_come self.new (S.left source.new))
+            (spelling (record_of x))) }
+        ensures spelled { IfOk result (λ x. IsRecordOf 1 (record_of x)) }
+        ensures refuses { RefusesOnce self.old.failed self.new.failed (S.has_failed source.new) result }
+        ensures runs { OnOk result (S.has_failed source.old ≡ false → S.has_failed source.new ≡ false) }
+        ensures pulls { PullsAtMost 5 (to_come self.old (S.left source.old)) (S.left source.new) result }
+        ensures room { length self.new.held ≤ 4096 }
+        ensures emptied { OnErr result (self.new.held ≡ []) }
+        ensures version { self.new.version ≡ self.old.version }
+        ensures untouched { self.old.failed ≡ true → source.new ≡ source.old }
+    {
+        match self.byte(source)? {
+            1 => Ok(Plain::Expand { named: false }),
+            5 => Ok(Plain::Expand { named: true }),
+            2 => {
+                let code = self.byte(source)?;
+                Ok(Plain::Cut(code))
+            }
+            3 => {
+                let number = self.number(source)?;
+                Ok(Plain::Ref(number))
+            }
+            unknown => {
+                self.refuse();
+                Err(ReadFault::UnknownRecord(unknown))
+            }
+        }
+    }
+
+    /// Whether a byte is to come. It stays. After a no the source has not failed.
     ///
     /// Read where the source has failed. Failed after any refusal.
     pub fn more<S: Source>(&mut self, source: &mut S) -> Result<bool, ReadFault>
@@ -148,6 +192,8 @@ impl RecordReader {
             (to_come self.old (S.left source.old)) (to_come self.new (S.left source.new))) }
         ensures end { IfOk result (λ more. more ≡ false → IsAtEnd (to_come self.new (S.left source.new))) }
         ensures refuses { RefusesOnce self.old.failed self.new.failed (S.has_failed source.new) result }
+        ensures runs { OnOk result (S.has_failed source.old ≡ false → S.has_failed source.new ≡ false) }
+        ensures ended { IfOk result (λ more. more ≡ false → S.has_failed source.new ≡ false) }
         ensures pulls { PullsAtMost 0 (to_come self.old (S.left source.old)) (S.left source.new) result }
         ensures room { length self.new.held ≤ 4096 }
         ensures emptied { OnErr result (self.new.held ≡ []) }
@@ -160,7 +206,7 @@ impl RecordReader {
         self.fill(source)
     }
 
-    /// Answers where no byte is to come: the certificate ends.
+    /// Answers where no byte is to come: the certificate ends, and the source has not failed.
     ///
     /// Trailing where a byte is to come. Read where the source has failed. Failed after any
     /// refusal.
@@ -168,6 +214,7 @@ impl RecordReader {
         ensures bytes { ReadsAs (λ _. tt) end_at
             (to_come self.old (S.left source.old)) (to_come self.new (S.left source.new)) result }
         ensures refuses { RefusesOnce self.old.failed self.new.failed (S.has_failed source.new) result }
+        ensures runs { OnOk result (S.has_failed source.new ≡ false) }
         ensures pulls { PullsAtMost 0 (to_come self.old (S.left source.old)) (S.left source.new) result }
         ensures room { length self.new.held ≤ 4096 }
         ensures emptied { OnErr result (self.new.held ≡ []) }
@@ -214,6 +261,7 @@ impl RecordReader {
             (to_come self.old (S.left source.old)) (to_come self.new (S.left source.new))) }
         ensures end { IfOk result (λ more. more ≡ false → IsAtEnd (to_come self.new (S.left source.new))) }
         ensures refuses { RefusesOnce self.old.failed self.new.failed (S.has_failed source.new) result }
+        ensures runs { OnOk result (S.has_failed source.new ≡ false) }
         ensures pulls { PullsAtMost 0 (to_come self.old (S.left source.old)) (S.left source.new) result }
         ensures room { length self.new.held ≤ 4096 }
         ensures held { IfOk result (λ more. IsTrue more ↔ 0 < length self.new.held) }
@@ -245,6 +293,7 @@ impl RecordReader {
             (to_come self.old (S.left source.old)) (to_come self.new (S.left source.new))
             (b ∷ [])) }
         ensures refuses { RefusesOnce self.old.failed self.new.failed (S.has_failed source.new) result }
+        ensures runs { OnOk result (S.has_failed source.old ≡ false → S.has_failed source.new ≡ false) }
         ensures pulls { PullsAtMost 1 (to_come self.old (S.left source.old)) (S.left source.new) result }
         ensures room { length self.new.held ≤ 4096 }
         ensures emptied { OnErr result (self.new.held ≡ []) }
@@ -270,6 +319,7 @@ impl RecordReader {
             (to_come self.old (S.left source.old)) (to_come self.new (S.left source.new)) out.new) }
         ensures fits { OnOk result ((k : ℕ) → k < length out.new → slice_index out.new k < 2 ^ 8) }
         ensures refuses { RefusesOnce self.old.failed self.new.failed (S.has_failed source.new) result }
+        ensures runs { OnOk result (S.has_failed source.old ≡ false → S.has_failed source.new ≡ false) }
         ensures pulls { PullsAtMost (length out.old)
             (to_come self.old (S.left source.old)) (S.left source.new) result }
         ensures room { length self.new.held ≤ 4096 }
@@ -291,6 +341,7 @@ impl RecordReader {
             (to_come self.old (S.left source.old)) (to_come self.new (S.left source.new))
             (to_be_bytes w32 n)) }
         ensures refuses { RefusesOnce self.old.failed self.new.failed (S.has_failed source.new) result }
+        ensures runs { OnOk result (S.has_failed source.old ≡ false → S.has_failed source.new ≡ false) }
         ensures pulls { PullsAtMost 4 (to_come self.old (S.left source.old)) (S.left source.new) result }
         ensures room { length self.new.held ≤ 4096 }
         ensures emptied { OnErr result (self.new.held ≡ []) }
@@ -311,6 +362,7 @@ impl RecordReader {
             (b ∷ [])) }
         ensures within { IfOk result (λ b. (least ≤ b) × (b ≤ most)) }
         ensures refuses { RefusesOnce self.old.failed self.new.failed (S.has_failed source.new) result }
+        ensures runs { OnOk result (S.has_failed source.old ≡ false → S.has_failed source.new ≡ false) }
         ensures pulls { PullsAtMost 1 (to_come self.old (S.left source.old)) (S.left source.new) result }
         ensures room { length self.new.held ≤ 4096 }
         ensures emptied { OnErr result (self.new.held ≡ []) }
@@ -334,6 +386,7 @@ impl RecordReader {
             (outline_spelling o)) }
         ensures fits { IfOk result (λ o. IsOutline o) }
         ensures refuses { RefusesOnce self.old.failed self.new.failed (S.has_failed source.new) result }
+        ensures runs { OnOk result (S.has_failed source.old ≡ false → S.has_failed source.new ≡ false) }
         ensures pulls { PullsAtMost 5 (to_come self.old (S.left source.old)) (S.left source.new) result }
         ensures room { length self.new.held ≤ 4096 }
         ensures emptied { OnErr result (self.new.held ≡ []) }
@@ -364,6 +417,7 @@ impl RecordReader {
             (to_come self.old (S.left source.old)) (to_come self.new (S.left source.new)) out.new) }
         ensures fits { OnOk result ((k : ℕ) → k < length out.new → slice_index out.new k < 2 ^ 8) }
         ensures refuses { RefusesOnce self.old.failed self.new.failed (S.has_failed source.new) result }
+        ensures runs { OnOk result (S.has_failed source.old ≡ false → S.has_failed source.new ≡ false) }
         ensures pulls { PullsAtMost (length out.old)
             (to_come self.old (S.left source.old)) (S.left source.new) result }
         ensures room { length self.new.held ≤ 4096 }
@@ -395,6 +449,7 @@ impl RecordReader {
             (lists_spelling ls)) }
         ensures fits { IfOk result (λ ls. AreListsOf outline.now ls) }
         ensures refuses { RefusesOnce self.old.failed self.new.failed (S.has_failed source.new) result }
+        ensures runs { OnOk result (S.has_failed source.old ≡ false → S.has_failed source.new ≡ false) }
         ensures pulls { PullsAtMost (3 * (64 + 64)) (to_come self.old (S.left source.old)) (S.left source.new) result }
         ensures room { length self.new.held ≤ 4096 }
         ensures emptied { OnErr result (self.new.held ≡ []) }
@@ -406,6 +461,7 @@ impl RecordReader {
     }
 
     /// Reads a priced record after its first byte.
+    #[inline(never)]
     fn priced<S: Source>(&mut self, source: &mut S) -> Result<Record, ReadFault>
         requires { self.old.failed ≡ false }
         ensures bytes { Reads priced_at
@@ -414,6 +470,7 @@ impl RecordReader {
             (to_come self.old (S.left source.old)) (to_come self.new (S.left source.new)) l) }
         ensures fits { IfOk result (λ x. IsRecord x) }
         ensures refuses { RefusesOnce self.old.failed self.new.failed (S.has_failed source.new) result }
+        ensures runs { OnOk result (S.has_failed source.old ≡ false → S.has_failed source.new ≡ false) }
         ensures pulls { PullsAtMost (5 + 3 * (64 + 64)) (to_come self.old (S.left source.old)) (S.left source.new) result }
         ensures room { length self.new.held ≤ 4096 }
         ensures emptied { OnErr result (self.new.held ≡ []) }

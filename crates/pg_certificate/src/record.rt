@@ -28,6 +28,20 @@ pub enum Record {
     },
 }
 
+/// A record of version 1: one that has no prices.
+#[derive(Clone, Copy, Debug, PartialEq, Eq)]
+pub enum Plain {
+    /// The node's children follow, as after the `Expand` of [`Record`].
+    Expand {
+        /// Whether the node takes a number.
+        named: bool,
+    },
+    /// No game of the plies that are left ends on the diagram, by the bound with this code.
+    Cut(u8),
+    /// The node is like the closed named node with this number, counted from 0.
+    Ref(u32),
+}
+
 /// What a certificate is for: its first 37 bytes.
 #[derive(Clone, Copy, Debug, PartialEq, Eq)]
 pub struct Header {

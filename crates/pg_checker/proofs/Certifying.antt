@@ -1,5 +1,5 @@
 -- The header, the walk and the answer. Leads to the contracts of `read_header`, `walk` and `check`.
-use Rattle.std.proofs.Common.{inr, ◌≡◌, ◌≢◌, ℕ, suc, ◌-◌, Bool, true, false, List, [], ◌∷◌, ◌++◌, map, ◌*◌, Option, Some, None, IfSome, not, nat_eq, Result, Ok, Err, refl, sym, ◌∙◌, ap, subst}
+use Rattle.std.proofs.Common.{◌≡◌, ◌≢◌, ℕ, suc, ◌-◌, Bool, true, false, List, [], ◌∷◌, ◌++◌, map, ◌*◌, Option, Some, None, IfSome, not, nat_eq, Result, Ok, Err, refl, sym, ◌∙◌, ap, subst}
 use Rattle.std.specs.Cmp.Lexicographic.{pointwise}
 use Rattle.std.proofs.lemmas.Bool.Decides.{Decides-eqb}
 use Rattle.std.proofs.lemmas.Slice.Eq.{slice_eq-Decides}
@@ -29,7 +29,6 @@ use Rattle.pg_checker.specs.Halting.{Stop}
 use Rattle.pg_checker.specs.Halting as stop
 use Rattle.pg_checker.specs.declared.halt.Halt.{Halt}
 use Rattle.pg_checker.specs.declared.halt.Halt.TheVariants as halt
-use Rattle.pg_checker.specs.Check.{IsOtherFormat}
 use Rattle.pg_checker.specs.Checking.{WalkTakes}
 use Rattle.pg_checker.specs.Halting.{full}
 use Rattle.pg_checker.specs.Steps.{FailsRead, TakesFew}
@@ -50,14 +49,6 @@ other_length n (Some bytes) (Some rest) h read_ ne = (h, rest, read_, ne)
 
 pub header_length : (n : ℕ) (reader : ReaderState) (left after : Option (List ℕ)) (h : Header) → reader.held ≡ [] → Reads {A = Header} header_at (to_come reader left) after (Ok h) → h.plies ≢ n → IfSome left (λ bytes. (x : Header) × (rest : List ℕ) × (header_at bytes ≡ Ok (x, rest)) × (x.plies ≢ n))
 header_length n reader left after h e read_ ne = other_length n left after h (subst (λ (v : Option (List ℕ)). Reads {A = Header} header_at v after (Ok h)) (left_alone reader left e) read_) ne
-
-other_version : (known after : Option (List ℕ)) (h : Header) → Reads {A = Header} header_at known after (Ok h) → h.version ≢ 1 → IfSome known IsOtherFormat
-other_version None after h read_ ne = tt
-other_version (Some bytes) None h read_ ne = absurd read_
-other_version (Some bytes) (Some rest) h read_ ne = inr (h, rest, read_, ne)
-
-pub header_version : (reader : ReaderState) (left after : Option (List ℕ)) (h : Header) → reader.held ≡ [] → Reads {A = Header} header_at (to_come reader left) after (Ok h) → h.version ≢ 1 → IfSome left IsOtherFormat
-header_version reader left after h e read_ ne = other_version left after h (subst (λ (v : Option (List ℕ)). Reads {A = Header} header_at v after (Ok h)) (left_alone reader left e) read_) ne
 
 other_diagram : (d : Placement) (n : ℕ) (known after : Option (List ℕ)) (h : Header) → Reads {A = Header} header_at known after (Ok h) → h.plies ≡ n → h.diagram ≢ packed_of d → IfSome known (λ bytes. (x : Header) × (rest : List ℕ) × (header_at bytes ≡ Ok (x, rest)) × (x.plies ≡ n) × (x.diagram ≢ packed_of d))
 other_diagram d n None after h read_ e ne = tt

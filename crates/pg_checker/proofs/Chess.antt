@@ -1,6 +1,8 @@
 -- The walk over chess: its games are those of chess, and a yes proves the exact answer.
-use Rattle.std.proofs.Common.{None, Some, ◌≡◌, ℕ, zero, suc, ◌<◌, ◌≤◌, true, List, [], ◌∷◌, length, Ok, Err, refl, sym, ◌∙◌, ap, subst, inl, inr, ◌⊎◌, arith}
+use Rattle.std.proofs.Common.{◌≡◌, ◌≢◌, ℕ, zero, suc, ◌<◌, ◌≤◌, Bool, true, false, cond, eqb, List, [], ◌∷◌, length, Ok, Err, refl, sym, ◌∙◌, ap, subst, inl, inr, ◌⊎◌, arith}
 use Rattle.std.specs.List.{Contains}
+use Rattle.std.specs.Bool.{Decides}
+use Rattle.std.proofs.lemmas.Bool.Decides.{Decides-eqb, eqb_tells}
 use Rattle.pg_board.specs.Placement.{Placement, placement_eq_decides}
 use Rattle.pg_position.specs.declared.state.State.{State}
 use Rattle.pg_position.specs.declared.moves.Move.{Move}
@@ -8,7 +10,7 @@ use Rattle.pg_position.specs.Position.{IsPosition}
 use Rattle.pg_position.specs.Step.{Legal}
 use Rattle.pg_position.specs.Game.{IsGame, Barren}
 use Rattle.pg_position.specs.Array.{array_state}
-use Rattle.pg_position.specs.Equality.{state_eq_decides}
+use Rattle.pg_position.specs.Equality.{state_eq, state_eq_decides}
 use Rattle.pg_position.proofs.ArrayLemmas.{array_position}
 use Rattle.pg_position.specs.Future.{SameFuture}
 use Rattle.pg_position.proofs.FutureLemmas.{legal_position, future_sym, same_games, same_ends}
@@ -21,13 +23,24 @@ use Rattle.pg_checker.specs.Claims.{IsExact, IsRight, IsComplete, IsCertificate}
 use Rattle.pg_checker.specs.Whole.{answer, full_from}
 use Rattle.pg_checker.specs.Answer.{IsSolution, IsExactAnswer, AreSolutions}
 use Rattle.pg_checker.specs.Equality.{lists_decides}
-use Rattle.pg_checker.specs.Chess.{Cuts, IsSoundCut, IsChess, read, chess}
+use Rattle.pg_checker.specs.Futures.{future_eq, future_decides}
+use Rattle.pg_checker.specs.Chess.{Cuts, IsSoundCut, IsChess, read, stands_for, chess}
 use Rattle.pg_checker.proofs.Reading.{record_spelled, spelled_record, read_ok, read_spelled, read_few}
 use Rattle.pg_checker.proofs.Full.{full_accepted}
 use Rattle.pg_checker.proofs.Whole.{sound, full_certificate}
 
+not_equal : (a b : ℕ) → a ≢ b → eqb a b ≡ false
+not_equal a b ne = elim (eqb_tells a b) [ inl w ↦ absurd (ne w.1) | inr w ↦ w.0 ]
+
+-- in version 2 an entry stands for a position with the same future, else for an equal one
+stands_equal : (version : ℕ) → version ≢ 2 → (q p : State) → Decides (stands_for version q p) (q ≡ p)
+stands_equal version ne q p = subst (λ (b : Bool). Decides (cond b (future_eq q p) (state_eq q p)) (q ≡ p)) (sym (not_equal version 2 ne)) (state_eq_decides q p)
+
+pub stands_future : (version : ℕ) → version ≡ 2 → (q p : State) → Decides (stands_for version q p) (SameFuture q p)
+stands_future version is q p = subst (λ (b : Bool). Decides (cond b (future_eq q p) (state_eq q p)) (SameFuture q p)) (sym ((Decides-eqb version 2).1 is)) (future_decides q p)
+
 -- the rules are those of chess
-pub chess_is : (d : Placement) (n : ℕ) (games : List (List Move)) (cut : Cuts) → IsChess (chess d n games cut) d n games
+pub chess_is : (d : Placement) (n : ℕ) (games : List (List Move)) (cut : Cuts) → IsChess (chess d n games cut) cut.version d n games
 unfolding chess
 chess_is d n games cut = record {
   moves = moves_of_is;
@@ -35,18 +48,18 @@ chess_is d n games cut = record {
   goal = λ p. placement_eq_decides p.board d;
   plies = refl;
   listed = lists_decides games;
-  same = state_eq_decides;
-  unpriced = λ code color prices p k. refl;
+  equal = stands_equal cut.version;
+  future = stands_future cut.version;
   write = λ x. refl;
-  is_record = λ x. (spelled_record x, record_spelled x);
+  is_record = λ x. (spelled_record cut.version x, record_spelled cut.version x);
 }
 
 -- their reader takes a record exactly where its bytes stand
 pub chess_exact : (d : Placement) (n : ℕ) (games : List (List Move)) (cut : Cuts) → IsExact (chess d n games cut)
 unfolding chess
 chess_exact d n games cut = record {
-  read = read_ok;
-  write = λ x rest h. read_spelled x rest (spelled_record x h);
+  read = read_ok cut.version;
+  write = λ x rest h. read_spelled cut.version x rest (spelled_record cut.version x h);
   expanded = λ named. refl;
 }
 
@@ -54,7 +67,7 @@ chess_exact d n games cut = record {
 Ends : Placement → State → ℕ → List Move → Type 0
 Ends d p k ms = (length ms ≡ k) × ((q : State) × IsGame p ms q × (q.board ≡ d))
 
-module _ (r : Rules State Move) (d : Placement) (n : ℕ) (games : List (List Move)) (is : IsChess r d n games) where
+module _ (r : Rules State Move) (d : Placement) (n : ℕ) (games : List (List Move)) (version : ℕ) (is : IsChess r version d n games) where
   -- a move of the list is legal, and is played
   played : (p : State) (m : Move) → IsPosition p → Contains (r.moves p) m → Legal p m (r.play p m)
   played p m pos c =
@@ -95,14 +108,18 @@ module _ (r : Rules State Move) (d : Placement) (n : ℕ) (games : List (List Mo
       barren ms (game_in k q ms there (g.0, (other.0, other.1, ends ∙ g.1.2)))
 
   -- bounds and references hide no game from a position on
-  right : IsSoundCut d r.cut → IsRight r IsPosition
+  right : (cut : Cuts) → r.cut ≡ cut.bounds → r.priced ≡ cut.prices → IsSoundCut d cut → IsRight r IsPosition
   unfolding Barren Ends
-  right cuts = record {
+  right cut bounds prices cuts = record {
     next = met;
-    cut = λ code k p pos e ms h. let g = game_out k p ms pos h in cuts code k p pos e ms g.1.0 g.0 g.1.1 g.1.2;
-    priced = λ code color prices k p pos e. absurd (let both : None ≡ Some true = sym (is.unpriced code color prices p k) ∙ e in cc);
-    same = λ k q p there here e barren. subst (λ (x : State). tree.Barren r k x) ((is.same q p).0 e) barren;
+    cut = λ code k p pos e ms h. let g = game_out k p ms pos h in cuts.bounds code k p pos (ap (λ f. f code p k) (sym bounds) ∙ e) ms g.1.0 g.0 g.1.1 g.1.2;
+    priced = λ code color lists k p pos e ms h. let g = game_out k p ms pos h in cuts.prices code color lists k p pos (ap (λ f. f code color lists p k) (sym prices) ∙ e) ms g.1.0 g.0 g.1.1 g.1.2;
+    same = λ k q p there here e barren. stands k q p there here e barren (eqb_tells version 2);
   }
+    where
+      stands : (k : ℕ) (q p : State) → IsPosition q → IsPosition p → r.is_same q p ≡ true → tree.Barren r k q → ((eqb version 2 ≡ true) × (version ≡ 2)) ⊎ ((eqb version 2 ≡ false) × (version ≢ 2)) → tree.Barren r k p
+      stands k q p there here e barren (inl w) = same_barren k q p there here ((is.future w.1 q p).0 e) barren
+      stands k q p there here e barren (inr w) = subst (λ (x : State). tree.Barren r k x) ((is.equal w.1 q p).0 e) barren
 
   -- a complete list of solutions is the exact answer
   exact_answer : IsComplete r array_state → AreSolutions d n games → IsExactAnswer d n games
@@ -133,8 +150,8 @@ pub yes_is_exact : (d : Placement) (n : ℕ) (games : List (List Move)) (cut : C
 unfolding chess
 yes_is_exact d n games cut cuts a b bytes x h good =
     let r : Rules State Move = chess d n games cut in
-    let is : IsChess r d n games = chess_is d n games cut in
-    exact_answer r d n games is (sound r (chess_exact d n games cut) IsPosition (right r d n games is cuts) array_state array_position a b bytes x h) good
+    let is : IsChess r cut.version d n games = chess_is d n games cut in
+    exact_answer r d n games cut.version is (sound r (chess_exact d n games cut) IsPosition (right r d n games cut.version is cut refl refl cuts) array_state array_position a b bytes x h) good
 
 -- each exact answer has a certificate
 pub exact_has_certificate : (d : Placement) (n : ℕ) (games : List (List Move)) (cut : Cuts) → IsExactAnswer d n games
@@ -142,7 +159,7 @@ pub exact_has_certificate : (d : Placement) (n : ℕ) (games : List (List Move))
 unfolding chess
 exact_has_certificate d n games cut h =
     let r : Rules State Move = chess d n games cut in
-    full_certificate r array_state (complete_list r d n games (chess_is d n games cut) h)
+    full_certificate r array_state (complete_list r d n games cut.version (chess_is d n games cut) h)
 
 -- and its bytes are answered by a yes
 pub exact_is_accepted : (d : Placement) (n : ℕ) (games : List (List Move)) (cut : Cuts) → IsExactAnswer d n games
@@ -151,22 +168,26 @@ pub exact_is_accepted : (d : Placement) (n : ℕ) (games : List (List Move)) (cu
 unfolding chess
 exact_is_accepted d n games cut h a b few =
     let r : Rules State Move = chess d n games cut in
-    full_accepted r (chess_exact d n games cut) array_state (complete_list r d n games (chess_is d n games cut) h) a b few
+    full_accepted r (chess_exact d n games cut) array_state (complete_list r d n games cut.version (chess_is d n games cut) h) a b few
 
 -- no state has more moves than there are pairs of squares and promotions
 pub chess_few : (d : Placement) (n : ℕ) (games : List (List Move)) (cut : Cuts) (p : State) → length ((chess d n games cut).moves p) ≤ 28672
 unfolding chess
 chess_few d n games cut p = few_moves p
 
-pub chess_cut : (d : Placement) (n : ℕ) (games : List (List Move)) (cut : Cuts) → (chess d n games cut).cut ≡ cut
+pub chess_cut : (d : Placement) (n : ℕ) (games : List (List Move)) (cut : Cuts) → (chess d n games cut).cut ≡ cut.bounds
 unfolding chess
 chess_cut d n games cut = refl
 
-pub chess_read : (d : Placement) (n : ℕ) (games : List (List Move)) (cut : Cuts) → (chess d n games cut).read ≡ read
+pub chess_priced : (d : Placement) (n : ℕ) (games : List (List Move)) (cut : Cuts) → (chess d n games cut).priced ≡ cut.prices
+unfolding chess
+chess_priced d n games cut = refl
+
+pub chess_read : (d : Placement) (n : ℕ) (games : List (List Move)) (cut : Cuts) → (chess d n games cut).read ≡ read cut.version
 unfolding chess
 chess_read d n games cut = refl
 
 -- no refusal to read is one of too many names
 pub chess_plain : (d : Placement) (n : ℕ) (games : List (List Move)) (cut : Cuts) (bytes : List ℕ) → (chess d n games cut).read bytes ≡ Err TooManyNamed → ⊥
 unfolding chess
-chess_plain d n games cut bytes h = read_few bytes h
+chess_plain d n games cut bytes h = read_few cut.version bytes h

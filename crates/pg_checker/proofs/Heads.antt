@@ -9,9 +9,10 @@ use Rattle.pg_position.specs.declared.moves.Move.{Move}
 use Rattle.pg_certificate.specs.declared.fault.ReadFault.{ReadFault}
 use Rattle.pg_certificate.specs.declared.fault.ReadFault.TheVariants as reading
 use Rattle.pg_certificate.specs.declared.record.Record.{Record}
-use Rattle.pg_certificate.specs.Spelling.{spelling, IsRecordOf}
+use Rattle.pg_certificate.specs.declared.record.Plain.{Plain}
+use Rattle.pg_certificate.specs.Spelling.{record_of, spelling, IsRecordOf}
 use Rattle.pg_certificate.specs.Reading.{record_at}
-use Rattle.pg_certificate.specs.Reader.{Reads}
+use Rattle.pg_certificate.specs.Reader.{Reads, ReadsAs}
 use Rattle.pg_checker.specs.Tree as tree
 use Rattle.pg_checker.specs.Walk as walk
 use Rattle.pg_checker.specs.Walk.{judge, head, ◌>>=◌}
@@ -28,27 +29,36 @@ use Rattle.pg_checker.proofs.Reading.{read_spelled, read_err}
 use Rattle.pg_checker.proofs.Goings.{goes_on, goes_as, goes_reading, stops_on, stops_as, stops_with}
 
 -- a record is read
-pub next_ok : (before after : Option (List ℕ)) (x : Record) → IsRecordOf 1 x → Consumes before after (spelling x) → (room : ℕ) → Goes before after room room (λ bytes n. read bytes) (λ rest n. Ok (x, rest))
-next_ok before after x fits taken room = record { taken = spelling x; used = 0; consumes = taken; spends = omega arith; same = λ rest n. read_spelled x rest fits }
+pub next_ok : (version : ℕ) (before after : Option (List ℕ)) (x : Record) → IsRecordOf version x → Consumes before after (spelling x) → (room : ℕ) → Goes before after room room (λ bytes n. read version bytes) (λ rest n. Ok (x, rest))
+next_ok version before after x fits taken room = record { taken = spelling x; used = 0; consumes = taken; spends = omega arith; same = λ rest n. read_spelled version x rest fits }
 
 -- no record is read
-next_err : (before after : Option (List ℕ)) (e : ReadFault) → Reads {A = Record} (record_at 1) before after (Err e) → (room : ℕ) → Stops before room (λ bytes n. read bytes) (stop_of e)
+next_err : (version : ℕ) (before after : Option (List ℕ)) (e : ReadFault) → Reads {A = Record} (record_at version) before after (Err e) → (room : ℕ) → Stops before room (λ bytes n. read version bytes) (stop_of e)
 unfolding Stops
-next_err None after reading.Truncated h room = tt
-next_err None after reading.Magic h room = tt
-next_err None after reading.Trailing h room = tt
-next_err None after (reading.UnknownRecord b) h room = tt
-next_err None after reading.Read h room = tt
-next_err None after reading.Failed h room = tt
-next_err (Some bytes) after reading.Truncated h room = read_err bytes reading.Truncated h
-next_err (Some bytes) after reading.Magic h room = read_err bytes reading.Magic h
-next_err (Some bytes) after reading.Trailing h room = read_err bytes reading.Trailing h
-next_err (Some bytes) after (reading.UnknownRecord b) h room = read_err bytes (reading.UnknownRecord b) h
-next_err (Some bytes) after reading.Read h room = tt
-next_err (Some bytes) after reading.Failed h room = tt
+next_err version None after reading.Truncated h room = tt
+next_err version None after reading.Magic h room = tt
+next_err version None after reading.Trailing h room = tt
+next_err version None after (reading.UnknownRecord b) h room = tt
+next_err version None after reading.Read h room = tt
+next_err version None after reading.Failed h room = tt
+next_err version (Some bytes) after reading.Truncated h room = read_err version bytes reading.Truncated h
+next_err version (Some bytes) after reading.Magic h room = read_err version bytes reading.Magic h
+next_err version (Some bytes) after reading.Trailing h room = read_err version bytes reading.Trailing h
+next_err version (Some bytes) after (reading.UnknownRecord b) h room = read_err version bytes (reading.UnknownRecord b) h
+next_err version (Some bytes) after reading.Read h room = tt
+next_err version (Some bytes) after reading.Failed h room = tt
 
-pub next_unread : (before after : Option (List ℕ)) (e : ReadFault) (s : Stop) → s ≡ stop_of e → Reads {A = Record} (record_at 1) before after (Err e) → (room : ℕ) → Stops before room (λ bytes n. read bytes) s
-next_unread before after e s same h room = subst (Stops before room (λ bytes n. read bytes)) (sym same) (next_err before after e h room)
+pub next_unread : (version : ℕ) (before after : Option (List ℕ)) (e : ReadFault) (s : Stop) → s ≡ stop_of e → Reads {A = Record} (record_at version) before after (Err e) → (room : ℕ) → Stops before room (λ bytes n. read version bytes) s
+next_unread version before after e s same h room = subst (Stops before room (λ bytes n. read version bytes)) (sym same) (next_err version before after e h room)
+
+-- a refusal of a record of version 1 is one of a record
+pub as_record : (version : ℕ) (before after : Option (List ℕ)) (e : ReadFault) → ReadsAs {A = Plain} {B = Record} record_of (record_at version) before after (Err e) → Reads {A = Record} (record_at version) before after (Err e)
+as_record version before after reading.Truncated h = h
+as_record version before after reading.Magic h = h
+as_record version before after reading.Trailing h = h
+as_record version before after (reading.UnknownRecord b) h = h
+as_record version before after reading.Read h = tt
+as_record version before after reading.Failed h = tt
 
 module _ (d : Placement) (l : ℕ) (games : List (List Move)) (cut : Cuts) (k : ℕ) (p : State) where
   abbrev heads : Machine → Answer (walk.Shape × walk.State State)
@@ -58,11 +68,11 @@ module _ (d : Placement) (l : ℕ) (games : List (List Move)) (cut : Cuts) (k : 
   abbrev judged : Machine → ℕ → Record × List ℕ → Result (walk.Shape × walk.State State) (tree.Fault Move)
   judged m n got = judge (chess d l games cut) k p got.0 (state_at m got.1 n)
 
-  head_paid : (old mid : Machine) (left : ℕ) → old.records ≡ suc left → mid.records ≡ left → mid.table.entries ≡ old.table.entries → (bytes : List ℕ) (n : ℕ) → heads old bytes n ≡ (read bytes >>= judged mid n)
+  head_paid : (old mid : Machine) (left : ℕ) → old.records ≡ suc left → mid.records ≡ left → mid.table.entries ≡ old.table.entries → (bytes : List ℕ) (n : ℕ) → heads old bytes n ≡ (read cut.version bytes >>= judged mid n)
   unfolding chess
   head_paid old mid left paid kept entries bytes n =
       ap (λ (r : ℕ). head (chess d l games cut) k p (record (state_at old bytes n) { records = r })) paid
-      ∙ ap (λ (s : walk.State State). read bytes >>= (λ got. judge (chess d l games cut) k p got.0 (record s { rest = got.1; room = n }))) states
+      ∙ ap (λ (s : walk.State State). read cut.version bytes >>= (λ got. judge (chess d l games cut) k p got.0 (record s { rest = got.1; room = n }))) states
     where
       states : record { rest = bytes; entries = entries_of old; records = left; room = n } ≡ state_at mid bytes n
       states = λ i. record { rest = bytes; entries = map entry_of (sym entries i); records = sym kept i; room = n }
@@ -72,30 +82,30 @@ module _ (d : Placement) (l : ℕ) (games : List (List Move)) (cut : Cuts) (k : 
   head_budget None old e = tt
   head_budget (Some bytes) old e = ap (λ (r : ℕ). head (chess d l games cut) k p (record (state_at old bytes old.room) { records = r })) e
 
-  pub head_unread : (before : Option (List ℕ)) (old mid : Machine) (left : ℕ) (s : Stop) → old.records ≡ suc left → mid.records ≡ left → mid.table.entries ≡ old.table.entries → Stops before old.room (λ bytes n. read bytes) s → Stops before old.room (heads old) s
+  pub head_unread : (before : Option (List ℕ)) (old mid : Machine) (left : ℕ) (s : Stop) → old.records ≡ suc left → mid.records ≡ left → mid.table.entries ≡ old.table.entries → Stops before old.room (λ bytes n. read cut.version bytes) s → Stops before old.room (heads old) s
   head_unread before old mid left s paid kept entries h =
-      stops_as before old.room (λ bytes n. read bytes >>= judged mid n) (heads old) s (head_paid old mid left paid kept entries)
-      (stops_with before old.room (λ bytes n. read bytes) (judged mid) s h)
+      stops_as before old.room (λ bytes n. read cut.version bytes >>= judged mid n) (heads old) s (head_paid old mid left paid kept entries)
+      (stops_with before old.room (λ bytes n. read cut.version bytes) (judged mid) s h)
 
   pub head_judged : (before after : Option (List ℕ)) (old mid new : Machine) (left : ℕ) (x : Record) (res : Result Node Stop) → old.records ≡ suc left → mid.records ≡ left → mid.table.entries ≡ old.table.entries → mid.room ≡ old.room
-      → Goes before after old.room old.room (λ bytes n. read bytes) (λ rest n. Ok (x, rest)) → Judges mid new (judge (chess d l games cut) k p x) res
+      → Goes before after old.room old.room (λ bytes n. read cut.version bytes) (λ rest n. Ok (x, rest)) → Judges mid new (judge (chess d l games cut) k p x) res
       → Says before after old.room new.room (heads old) (λ node rest n. (shape_of node, state_at new rest n)) res
   head_judged before after old mid new left x (Ok node) paid kept entries room read_ judged_ =
-      goes_as before after old.room new.room (λ bytes n. read bytes >>= judged mid n) (λ rest n. Ok (shape_of node, state_at new rest n)) (heads old) (λ rest n. Ok (shape_of node, state_at new rest n)) (head_paid old mid left paid kept entries) (λ rest n. refl)
-      (goes_on before after after old.room old.room new.room (λ bytes n. read bytes >>= judged mid n) (λ rest n. judged mid n (x, rest)) (λ rest n. Ok (shape_of node, state_at new rest n))
-      (goes_reading before after old.room (λ bytes n. read bytes) (λ rest. (x, rest)) (judged mid) read_)
+      goes_as before after old.room new.room (λ bytes n. read cut.version bytes >>= judged mid n) (λ rest n. Ok (shape_of node, state_at new rest n)) (heads old) (λ rest n. Ok (shape_of node, state_at new rest n)) (head_paid old mid left paid kept entries) (λ rest n. refl)
+      (goes_on before after after old.room old.room new.room (λ bytes n. read cut.version bytes >>= judged mid n) (λ rest n. judged mid n (x, rest)) (λ rest n. Ok (shape_of node, state_at new rest n))
+      (goes_reading before after old.room (λ bytes n. read cut.version bytes) (λ rest. (x, rest)) (judged mid) read_)
       (subst (λ (m : ℕ). Goes after after m new.room (λ rest n. judged mid n (x, rest)) (λ rest n. Ok (shape_of node, state_at new rest n))) room (judged_ after)))
   head_judged before after old mid new left x (Err s) paid kept entries room read_ judged_ =
-      stops_as before old.room (λ bytes n. read bytes >>= judged mid n) (heads old) s (head_paid old mid left paid kept entries)
-      (stops_on before after old.room old.room (λ bytes n. read bytes >>= judged mid n) (λ rest n. judged mid n (x, rest)) s
-      (goes_reading before after old.room (λ bytes n. read bytes) (λ rest. (x, rest)) (judged mid) read_)
+      stops_as before old.room (λ bytes n. read cut.version bytes >>= judged mid n) (heads old) s (head_paid old mid left paid kept entries)
+      (stops_on before after old.room old.room (λ bytes n. read cut.version bytes >>= judged mid n) (λ rest n. judged mid n (x, rest)) s
+      (goes_reading before after old.room (λ bytes n. read cut.version bytes) (λ rest. (x, rest)) (judged mid) read_)
       (subst (λ (m : ℕ). Stops after m (λ rest n. judged mid n (x, rest)) s) room (judged_ after)))
 
 -- ---- how many bytes are taken
-pub few_record : (before after left : Option (List ℕ)) (x : Record) → IsRecordOf 1 x → Consumes before after (spelling x) → (most : ℕ) → TakesFew before after left (most + 1) most (Ok x)
-few_record None after left x fits taken most = tt
-few_record (Some bytes) None left x fits taken most = tt
-few_record (Some bytes) (Some rest) left x fits taken most =
+pub few_record : (version : ℕ) (before after left : Option (List ℕ)) (x : Record) → IsRecordOf version x → Consumes before after (spelling x) → (most : ℕ) → TakesFew before after left (most + 1) most (Ok x)
+few_record version None after left x fits taken most = tt
+few_record version (Some bytes) None left x fits taken most = tt
+few_record version (Some bytes) (Some rest) left x fits taken most =
     let short : length (spelling x) ≤ longest_record = none_longer x fits.fits in
     let long : length bytes ≡ length (spelling x) + length rest = ap length taken ∙ length-append (spelling x) rest in
     omega (arith, short, long)

@@ -45,21 +45,20 @@ kept_none (Ok node) k e = omega (arith, e)
 kept_none (Err h) k e = tt
 
 module _ (d : Placement) (l : ℕ) (games : List (List Move)) (cut : Cuts) (k : ℕ) (p : State) where
-  pub cut_judged : (m : Machine) (code : ℕ) (res : Result (Unit {0}) (tree.Fault Move)) (result : Result Node Stop) → result ≡ ended_of res → Ends res (cut_answer (cut code p k) code) → Judges m m (judge (chess d l games cut) k p (Cut code)) result
+  pub cut_judged : (m : Machine) (code : ℕ) (res : Result (Unit {0}) (tree.Fault Move)) (result : Result Node Stop) → result ≡ ended_of res → Ends res (cut_answer (cut.bounds code p k) code) → Judges m m (judge (chess d l games cut) k p (Cut code)) result
   unfolding chess
   cut_judged m code res result e h = said m (judge (chess d l games cut) k p (Cut code)) res result e (ends m (judge (chess d l games cut) k p (Cut code)) res (λ rest n. h (state_at m rest n)))
 
-  -- no record of version 1 has prices
-  pub priced_judged : (m : Machine) (code : ℕ) (color : Color) (prices : List PriceList) (result : Result Node Stop) → result ≡ Err (stop.Because (tree.UnknownBound code)) → Judges m m (judge (chess d l games cut) k p (Priced code color prices)) result
+  pub priced_judged : (m : Machine) (code : ℕ) (color : Color) (prices : List PriceList) (res : Result (Unit {0}) (tree.Fault Move)) (result : Result Node Stop) → result ≡ ended_of res → Ends res (cut_answer (cut.prices code color prices p k) code) → Judges m m (judge (chess d l games cut) k p (Priced code color prices)) result
   unfolding chess
-  priced_judged m code color prices result e = said m (judge (chess d l games cut) k p (Priced code color prices)) (Err (tree.UnknownBound code)) result e (ends m (judge (chess d l games cut) k p (Priced code color prices)) (Err (tree.UnknownBound code)) (λ rest n. refl))
+  priced_judged m code color prices res result e h = said m (judge (chess d l games cut) k p (Priced code color prices)) res result e (ends m (judge (chess d l games cut) k p (Priced code color prices)) res (λ rest n. h (state_at m rest n)))
 
-  refers : (o : Option (tree.Entry State)) (s : walk.State State) → ref_answer (chess d l games cut) o k p s ≡ refer_answer o k p s
+  refers : (o : Option (tree.Entry State)) (s : walk.State State) → ref_answer (chess d l games cut) o k p s ≡ refer_answer cut.version o k p s
   unfolding chess
   refers None s = refl
   refers (Some e) s = refl
 
-  pub ref_judged : (m : Machine) (number : ℕ) (res : Result (Unit {0}) (tree.Fault Move)) (result : Result Node Stop) → result ≡ ended_of res → Ends res (refer_answer (slice_get (map entry_of m.table.entries) number) k p) → Judges m m (judge (chess d l games cut) k p (Ref number)) result
+  pub ref_judged : (m : Machine) (number : ℕ) (res : Result (Unit {0}) (tree.Fault Move)) (result : Result Node Stop) → result ≡ ended_of res → Ends res (refer_answer cut.version (slice_get (map entry_of m.table.entries) number) k p) → Judges m m (judge (chess d l games cut) k p (Ref number)) result
   ref_judged m number res result e h =
       said m (judge (chess d l games cut) k p (Ref number)) res result e
       (ends m (judge (chess d l games cut) k p (Ref number)) res (λ rest n. subst (λ (v : Result (walk.Shape × walk.State State) (tree.Fault Move)). EndsAs res v (state_at m rest n)) (sym (refers (slice_get (map entry_of m.table.entries) number) (state_at m rest n))) (h (state_at m rest n))))

@@ -1,8 +1,9 @@
 -- Reading a record takes it exactly where its spelling stands.
-use Rattle.std.proofs.Common.{◌≡◌, ℕ, Bool, true, false, cond, ◌&&◌, List, ◌++◌, Result, Ok, Err, refl, ◌∙◌, ap, subst, arith, ltb-true}
+use Rattle.std.proofs.Common.{◌≡◌, ℕ, ◌^◌, eqb, ltb, Bool, true, false, cond, ◌&&◌, List, ◌++◌, Result, Ok, Err, refl, ◌∙◌, ap, subst, ltb-true}
 use Rattle.std.proofs.lemmas.Bool.{lt-ltb}
 use Rattle.std.specs.Str.{bytes_eq}
 use Rattle.std.proofs.lemmas.Slice.Eq.{bytes_eq-Decides}
+use Rattle.std.proofs.lemmas.Bool.Decides.{Decides-eqb}
 use Rattle.pg_position.specs.declared.moves.Move.{Move}
 use Rattle.pg_certificate.specs.declared.fault.ReadFault.{ReadFault}
 use Rattle.pg_certificate.specs.declared.fault.ReadFault.TheVariants.{Truncated, Magic, UnknownRecord, Read, Trailing, Failed}
@@ -13,24 +14,32 @@ use Rattle.pg_certificate.specs.Reading.{record_at}
 use Rattle.pg_certificate.proofs.RecordLaws.{records_again, records_taken}
 use Rattle.pg_checker.specs.Tree as tree
 use Rattle.pg_checker.specs.Tree.{Fault, TooManyNamed}
+use Rattle.pg_checker.specs.PriceBytes.{are_prices, are_prices_decides}
 use Rattle.pg_checker.specs.Chess.{fault_of, renamed, is_spelled, taken, read}
 use Rattle.pg_checker.proofs.Steps.{and_left, and_right}
 
-pub spelled_record : (x : Record) → is_spelled x ≡ true → IsRecordOf 1 x
-spelled_record (Expand named) h = record { known = tt; fits = tt }
-spelled_record (Cut code) h = record { known = tt; fits = ltb-true code _ h }
-spelled_record (Ref number) h = record { known = tt; fits = ltb-true number _ h }
-spelled_record (Priced code color prices) h = absurd (cc)
+pub spelled_record : (version : ℕ) (x : Record) → is_spelled version x ≡ true → IsRecordOf version x
+spelled_record version (Expand named) h = record { known = tt; fits = tt }
+spelled_record version (Cut code) h = record { known = tt; fits = ltb-true code _ h }
+spelled_record version (Ref number) h = record { known = tt; fits = ltb-true number _ h }
+spelled_record version (Priced code color prices) h =
+    let here : eqb version 2 ≡ true = and_left (eqb version 2) (ltb code (2 ^ 8) && are_prices prices) h in
+    let parts : (ltb code (2 ^ 8) && are_prices prices) ≡ true = and_right (eqb version 2) (ltb code (2 ^ 8) && are_prices prices) h in
+    record { known = (Decides-eqb version 2).0 here; fits = (ltb-true code _ (and_left (ltb code (2 ^ 8)) (are_prices prices) parts), (are_prices_decides prices).0 (and_right (ltb code (2 ^ 8)) (are_prices prices) parts)) }
 
-pub record_spelled : (x : Record) → IsRecordOf 1 x → is_spelled x ≡ true
-record_spelled (Expand named) h = refl
-record_spelled (Cut code) h = lt-ltb code _ h.fits
-record_spelled (Ref number) h = lt-ltb number _ h.fits
-record_spelled (Priced code color prices) h = absurd (let two : 1 ≡ 2 = h.known in omega arith)
+pub record_spelled : (version : ℕ) (x : Record) → IsRecordOf version x → is_spelled version x ≡ true
+record_spelled version (Expand named) h = refl
+record_spelled version (Cut code) h = lt-ltb code _ h.fits
+record_spelled version (Ref number) h = lt-ltb number _ h.fits
+record_spelled version (Priced code color prices) h =
+    let here : eqb version 2 ≡ true = (Decides-eqb version 2).1 h.known in
+    let byte : ltb code (2 ^ 8) ≡ true = lt-ltb code _ h.fits.0 in
+    let lists : are_prices prices ≡ true = (are_prices_decides prices).1 h.fits.1 in
+    ap (λ (b : Bool). b && (ltb code (2 ^ 8) && are_prices prices)) here ∙ (ap (λ (b : Bool). b && are_prices prices) byte ∙ lists)
 
 -- a record and the bytes after it are taken where the bytes are those
-taken_yes : (bytes : List ℕ) (got : Record × List ℕ) → is_spelled got.0 ≡ true → bytes ≡ spelling got.0 ++ got.1 → taken bytes (Ok got) ≡ Ok got
-taken_yes bytes got a b =
+taken_yes : (version : ℕ) (bytes : List ℕ) (got : Record × List ℕ) → is_spelled version got.0 ≡ true → bytes ≡ spelling got.0 ++ got.1 → taken version bytes (Ok got) ≡ Ok got
+taken_yes version bytes got a b =
     let same : bytes_eq bytes (spelling got.0 ++ got.1) ≡ true = (bytes_eq-Decides bytes (spelling got.0 ++ got.1)).1 b in
     rw (a, same) refl
 
@@ -38,13 +47,13 @@ taken_at : (b : Bool) (got x : Record × List ℕ) → cond {A = Result (Record 
 taken_at true got x e = (refl, cc)
 taken_at false got x e = absurd (cc)
 
-taken_ok : (bytes : List ℕ) (o : Result (Record × List ℕ) ReadFault) (x : Record × List ℕ) → taken bytes o ≡ Ok x → (bytes ≡ spelling x.0 ++ x.1) × (is_spelled x.0 ≡ true)
-taken_ok bytes (Err e) x h = absurd (cc)
-taken_ok bytes (Ok got) x h =
+taken_ok : (version : ℕ) (bytes : List ℕ) (o : Result (Record × List ℕ) ReadFault) (x : Record × List ℕ) → taken version bytes o ≡ Ok x → (bytes ≡ spelling x.0 ++ x.1) × (is_spelled version x.0 ≡ true)
+taken_ok version bytes (Err e) x h = absurd (cc)
+taken_ok version bytes (Ok got) x h =
     let same = bytes_eq bytes (spelling got.0 ++ got.1) in
-    let d = taken_at (is_spelled got.0 && same) got x h in
-    let whole : bytes ≡ spelling got.0 ++ got.1 = (bytes_eq-Decides bytes (spelling got.0 ++ got.1)).0 (and_right (is_spelled got.0) same d.0) in
-    subst (λ (v : Record × List ℕ). (bytes ≡ spelling v.0 ++ v.1) × (is_spelled v.0 ≡ true)) d.1 (whole, and_left (is_spelled got.0) same d.0)
+    let d = taken_at (is_spelled version got.0 && same) got x h in
+    let whole : bytes ≡ spelling got.0 ++ got.1 = (bytes_eq-Decides bytes (spelling got.0 ++ got.1)).0 (and_right (is_spelled version got.0) same d.0) in
+    subst (λ (v : Record × List ℕ). (bytes ≡ spelling v.0 ++ v.1) × (is_spelled version v.0 ≡ true)) d.1 (whole, and_left (is_spelled version got.0) same d.0)
 
 not_many : (e : ReadFault) → fault_of e ≡ TooManyNamed → ⊥
 not_many Truncated h = cc
@@ -54,42 +63,42 @@ not_many Read h = cc
 not_many Trailing h = cc
 not_many Failed h = cc
 
-taken_few : (bytes : List ℕ) (o : Result (Record × List ℕ) ReadFault) → taken bytes o ≡ Err TooManyNamed → ⊥
-taken_few bytes (Err e) h = not_many e (let d : fault_of e ≡ TooManyNamed = cc in d)
-taken_few bytes (Ok got) h = at (is_spelled got.0 && bytes_eq bytes (spelling got.0 ++ got.1)) h
+taken_few : (version : ℕ) (bytes : List ℕ) (o : Result (Record × List ℕ) ReadFault) → taken version bytes o ≡ Err TooManyNamed → ⊥
+taken_few version bytes (Err e) h = not_many e (let d : fault_of e ≡ TooManyNamed = cc in d)
+taken_few version bytes (Ok got) h = at (is_spelled version got.0 && bytes_eq bytes (spelling got.0 ++ got.1)) h
   where
     at : (b : Bool) → cond {A = Result (Record × List ℕ) (Fault Move)} b (Ok got) (Err tree.Truncated) ≡ Err TooManyNamed → ⊥
     at true e = cc
     at false e = cc
 
 -- what is read is spelled so
-pub read_ok : (bytes : List ℕ) (x : Record × List ℕ) → read bytes ≡ Ok x → (bytes ≡ spelling x.0 ++ x.1) × (is_spelled x.0 ≡ true)
+pub read_ok : (version : ℕ) (bytes : List ℕ) (x : Record × List ℕ) → read version bytes ≡ Ok x → (bytes ≡ spelling x.0 ++ x.1) × (is_spelled version x.0 ≡ true)
 unfolding read
-read_ok bytes x h = taken_ok bytes (record_at 1 bytes) x h
+read_ok version bytes x h = taken_ok version bytes (record_at version bytes) x h
 
 -- what is spelled is read
-pub read_spelled : (x : Record) (rest : List ℕ) → IsRecordOf 1 x → read (spelling x ++ rest) ≡ Ok (x, rest)
+pub read_spelled : (version : ℕ) (x : Record) (rest : List ℕ) → IsRecordOf version x → read version (spelling x ++ rest) ≡ Ok (x, rest)
 unfolding read
-read_spelled x rest h = ap (taken (spelling x ++ rest)) (records_again 1 x rest h) ∙ taken_yes (spelling x ++ rest) (x, rest) (record_spelled x h) refl
+read_spelled version x rest h = ap (taken version (spelling x ++ rest)) (records_again version x rest h) ∙ taken_yes version (spelling x ++ rest) (x, rest) (record_spelled version x h) refl
 
 -- a refusal to read stays one
-pub read_err : (bytes : List ℕ) (e : ReadFault) → record_at 1 bytes ≡ Err e → read bytes ≡ Err (fault_of e)
+pub read_err : (version : ℕ) (bytes : List ℕ) (e : ReadFault) → record_at version bytes ≡ Err e → read version bytes ≡ Err (fault_of e)
 unfolding read
-read_err bytes e h = ap (taken bytes) h
+read_err version bytes e h = ap (taken version bytes) h
 
 -- no refusal to read is one of too many names
-pub read_few : (bytes : List ℕ) → read bytes ≡ Err TooManyNamed → ⊥
+pub read_few : (version : ℕ) (bytes : List ℕ) → read version bytes ≡ Err TooManyNamed → ⊥
 unfolding read
-read_few bytes h = taken_few bytes (record_at 1 bytes) h
+read_few version bytes h = taken_few version bytes (record_at version bytes) h
 
 -- of bytes all is read as records are
-pub read_is : (bytes : List ℕ) → AreBytes bytes → read bytes ≡ renamed (record_at 1 bytes)
+pub read_is : (version : ℕ) (bytes : List ℕ) → AreBytes bytes → read version bytes ≡ renamed (record_at version bytes)
 unfolding read
-read_is bytes fits = at (record_at 1 bytes) refl
+read_is version bytes fits = at (record_at version bytes) refl
   where
-    at : (o : Result (Record × List ℕ) ReadFault) → record_at 1 bytes ≡ o → taken bytes o ≡ renamed o
+    at : (o : Result (Record × List ℕ) ReadFault) → record_at version bytes ≡ o → taken version bytes o ≡ renamed o
     at (Err e) h = refl
-    at (Ok got) h = let d = records_taken 1 bytes got.1 got.0 fits h in taken_yes bytes got (record_spelled got.0 d.0) d.1
+    at (Ok got) h = let d = records_taken version bytes got.1 got.0 fits h in taken_yes version bytes got (record_spelled version got.0 d.0) d.1
 
 -- no refusal to read is one of bytes behind the certificate
 no_rest : (e : ReadFault) → fault_of e ≡ tree.Trailing → ⊥
@@ -100,14 +109,14 @@ no_rest Read h = cc
 no_rest Trailing h = cc
 no_rest Failed h = cc
 
-taken_whole : (bytes : List ℕ) (o : Result (Record × List ℕ) ReadFault) → taken bytes o ≡ Err tree.Trailing → ⊥
-taken_whole bytes (Err e) h = no_rest e (let d : fault_of e ≡ tree.Trailing = cc in d)
-taken_whole bytes (Ok got) h = at (is_spelled got.0 && bytes_eq bytes (spelling got.0 ++ got.1)) h
+taken_whole : (version : ℕ) (bytes : List ℕ) (o : Result (Record × List ℕ) ReadFault) → taken version bytes o ≡ Err tree.Trailing → ⊥
+taken_whole version bytes (Err e) h = no_rest e (let d : fault_of e ≡ tree.Trailing = cc in d)
+taken_whole version bytes (Ok got) h = at (is_spelled version got.0 && bytes_eq bytes (spelling got.0 ++ got.1)) h
   where
     at : (b : Bool) → cond {A = Result (Record × List ℕ) (Fault Move)} b (Ok got) (Err tree.Truncated) ≡ Err tree.Trailing → ⊥
     at true e = cc
     at false e = cc
 
-pub read_no_trailing : (bytes : List ℕ) → read bytes ≡ Err tree.Trailing → ⊥
+pub read_no_trailing : (version : ℕ) (bytes : List ℕ) → read version bytes ≡ Err tree.Trailing → ⊥
 unfolding read
-read_no_trailing bytes h = taken_whole bytes (record_at 1 bytes) h
+read_no_trailing version bytes h = taken_whole version bytes (record_at version bytes) h

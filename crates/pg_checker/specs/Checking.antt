@@ -12,7 +12,7 @@ use Rattle.pg_certificate.specs.Reading.{header_at}
 use Rattle.pg_checker.specs.Tree as tree
 use Rattle.pg_checker.specs.Tree.{Rules}
 use Rattle.pg_checker.specs.Whole.{answer}
-use Rattle.pg_checker.specs.Check.{IsHeaded, IsOtherFormat}
+use Rattle.pg_checker.specs.Check.{IsHeaded}
 use Rattle.pg_checker.specs.Steps.{Stops}
 use Rattle.pg_checker.specs.declared.certify.Proved.{Proved}
 use Rattle.pg_checker.specs.declared.fault.Fault.{Fault}
@@ -20,17 +20,17 @@ use Rattle.pg_checker.specs.declared.fault.Fault.TheVariants as fault
 use Rattle.pg_checker.specs.Halting.{Stop}
 use Rattle.pg_checker.specs.Halting as stop
 
--- the header for d and n was taken from the front of the known bytes
-abbrev pub Headed : Placement → ℕ → Option (List ℕ) → Option (List ℕ) → Type 0
-Headed d n None after = Unit {0}
-Headed d n (Some bytes) None = ⊥
-Headed d n (Some bytes) (Some rest) = IsHeaded d n bytes rest
+-- the header of a version, for d and n, was taken from the front of the known bytes
+abbrev pub Headed : Placement → ℕ → Option (List ℕ) → Option (List ℕ) → ℕ → Type 0
+Headed d n None after version = Unit {0}
+Headed d n (Some bytes) None version = ⊥
+Headed d n (Some bytes) (Some rest) version = IsHeaded version d n bytes rest
 
 -- why the header is refused
 abbrev pub HeaderFails : Placement → ℕ → Option (List ℕ) → Bool → Fault → Type 0
 HeaderFails d n known failed fault.Read = failed ≡ true
 HeaderFails d n known failed fault.Truncated = IfSome known (λ bytes. length bytes < 37)
-HeaderFails d n known failed fault.Magic = IfSome known IsOtherFormat
+HeaderFails d n known failed fault.Magic = IfSome known (λ bytes. header_at bytes ≡ Err reading.Magic)
 HeaderFails d n known failed fault.OtherLength = IfSome known (λ bytes. (h : Header) × (rest : List ℕ) × (header_at bytes ≡ Ok (h, rest)) × (h.plies ≢ n))
 HeaderFails d n known failed fault.OtherDiagram = IfSome known (λ bytes. (h : Header) × (rest : List ℕ) × (header_at bytes ≡ Ok (h, rest)) × (h.plies ≡ n) × (h.diagram ≢ packed_of d))
 HeaderFails d n known failed e = ⊥
@@ -72,8 +72,8 @@ header_fault reading.Trailing = fault.Truncated
 header_fault (reading.UnknownRecord b) = fault.Truncated
 
 -- the header takes 37 of the known bytes, or one buffer more is not left
-abbrev pub HeaderTakes : Option (List ℕ) → Option (List ℕ) → Option (List ℕ) → Result (Unit {0}) Fault → Type 0
-HeaderTakes before after left (Ok u) = IfSome before (λ bytes. IfSome after (λ rest. length bytes ≤ length rest + 37))
+abbrev pub HeaderTakes : Option (List ℕ) → Option (List ℕ) → Option (List ℕ) → Result ℕ Fault → Type 0
+HeaderTakes before after left (Ok version) = IfSome before (λ bytes. IfSome after (λ rest. length bytes ≤ length rest + 37))
 HeaderTakes before after left (Err fault.Read) = Unit {0}
 HeaderTakes before after left (Err e) = IfSome before (λ bytes. IfSome left (λ rest. length bytes ≤ length rest + (4096 + 37)))
 

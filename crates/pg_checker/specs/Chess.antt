@@ -1,5 +1,5 @@
 -- Chess as the rules that the walk goes by.
-use Rattle.std.specs.Prelude.{◌≡◌, ◌↔◌, ℕ, ◌^◌, Option, Some, None, Bool, true, false, ◌&&◌, List, ◌++◌, Result, Ok, Err, nat_lt, if◌then◌else◌}
+use Rattle.std.specs.Prelude.{◌≡◌, ◌≢◌, ◌↔◌, ℕ, ◌^◌, Option, Some, Bool, true, ◌&&◌, ◌==◌, List, ◌++◌, Result, Ok, Err, nat_lt, if◌then◌else◌}
 use Rattle.std.specs.List.{Contains}
 use Rattle.std.specs.Str.{bytes_eq}
 use Rattle.pg_board.specs.declared.man.Color.{Color}
@@ -10,6 +10,7 @@ use Rattle.pg_position.specs.Position.{IsPosition}
 use Rattle.pg_position.specs.Step.{Legal}
 use Rattle.pg_position.specs.Game.{Barren}
 use Rattle.pg_position.specs.Equality.{state_eq}
+use Rattle.pg_position.specs.Future.{SameFuture}
 use Rattle.pg_moves.specs.Moves.{IsMoveList}
 use Rattle.pg_moves.proofs.ListLemmas.{moves_of}
 use Rattle.pg_moves.proofs.PlayLemmas.{play_of}
@@ -22,28 +23,35 @@ use Rattle.pg_certificate.specs.Reading.{record_at}
 use Rattle.pg_checker.specs.Tree.{Rules, Fault, Truncated, UnknownRecord}
 use Rattle.pg_captures.specs.PriceLists.{PriceList}
 use Rattle.pg_checker.specs.Equality.{lists}
+use Rattle.pg_checker.specs.Futures.{future_eq}
+use Rattle.pg_checker.specs.PriceBytes.{are_prices}
 
 -- ---- what is asked of rules that are chess
--- whether the bound of a code excludes at a state with so many plies left; None: no bound has the code
-abbrev pub Cuts : Type 0
-Cuts = ℕ → State → ℕ → Option Bool
+-- what cuts nodes in a certificate of a version
+pub record Cuts : Type 0 where
+  pub version : ℕ
+  -- whether the bound of a code excludes at a state with so many plies left; None: no bound has the code
+  pub bounds : ℕ → State → ℕ → Option Bool
+  -- whether prices of a code and a colour exclude there; None: no prices have the code
+  pub prices : ℕ → Color → List PriceList → State → ℕ → Option Bool
 
--- a bound that excludes at a position hides no game that ends on the diagram d
-abbrev pub IsSoundCut : Placement → Cuts → Type 0
-IsSoundCut d cut = (code k : ℕ) (p : State) → IsPosition p → cut code p k ≡ Some true → Barren d p k
+-- what excludes at a position, a bound or prices, hides no game that ends on the diagram d
+pub record IsSoundCut (d : Placement) (cut : Cuts) : Type 0 where
+  pub bounds : (code k : ℕ) (p : State) → IsPosition p → cut.bounds code p k ≡ Some true → Barren d p k
+  pub prices : (code : ℕ) (color : Color) (prices : List PriceList) (k : ℕ) (p : State) → IsPosition p → cut.prices code color prices p k ≡ Some true → Barren d p k
 
--- the rules are those of chess, with the diagram d, n plies, and these games
-pub record IsChess (r : Rules State Move) (d : Placement) (n : ℕ) (games : List (List Move)) : Type 0 where
+-- the rules are those of chess, with the diagram d, n plies, and these games, and the records are those of this version
+pub record IsChess (r : Rules State Move) (version : ℕ) (d : Placement) (n : ℕ) (games : List (List Move)) : Type 0 where
   pub moves : (p : State) → IsMoveList p (r.moves p)
   pub play : (p : State) (m : Move) (q : State) → IsPosition p → Legal p m q → r.play p m ≡ q
   pub goal : (p : State) → (r.is_goal p ≡ true) ↔ (p.board ≡ d)
   pub plies : r.plies ≡ n
   pub listed : (g : List Move) → (r.is_listed g ≡ true) ↔ Contains games g
-  pub same : (q p : State) → (r.is_same q p ≡ true) ↔ (q ≡ p)
-  -- version 1 has no prices
-  pub unpriced : (code : ℕ) (color : Color) (prices : List PriceList) (p : State) (k : ℕ) → r.priced code color prices p k ≡ None
+  -- in version 2 an entry stands for each position with the same future, else for an equal one
+  pub equal : version ≢ 2 → (q p : State) → (r.is_same q p ≡ true) ↔ (q ≡ p)
+  pub future : version ≡ 2 → (q p : State) → (r.is_same q p ≡ true) ↔ SameFuture q p
   pub write : (x : Record) → r.write x ≡ spelling x
-  pub is_record : (x : Record) → (r.is_record x ≡ true) ↔ IsRecordOf 1 x
+  pub is_record : (x : Record) → (r.is_record x ≡ true) ↔ IsRecordOf version x
 
 -- ---- reading
 -- a refusal to read a record, by its name here; there is no other than these two
@@ -56,23 +64,28 @@ abbrev pub renamed : Result (Record × List ℕ) ReadFault → Result (Record ×
 renamed (Ok got) = Ok got
 renamed (Err e) = Err (fault_of e)
 
--- whether the record is one of version 1
-abbrev pub is_spelled : Record → Bool
-is_spelled (Expand named) = true
-is_spelled (Cut code) = nat_lt code (2 ^ 8)
-is_spelled (Ref number) = nat_lt number (2 ^ 32)
-is_spelled (Priced code color prices) = false
+-- whether the record is one of this version
+abbrev pub is_spelled : ℕ → Record → Bool
+is_spelled version (Expand named) = true
+is_spelled version (Cut code) = nat_lt code (2 ^ 8)
+is_spelled version (Ref number) = nat_lt number (2 ^ 32)
+is_spelled version (Priced code color prices) = (version == 2) && (nat_lt code (2 ^ 8) && are_prices prices)
 
 -- what was read is taken where its spelling stands there: always, where the numbers are bytes
-abbrev pub taken : List ℕ → Result (Record × List ℕ) ReadFault → Result (Record × List ℕ) (Fault Move)
-taken bytes (Err e) = Err (fault_of e)
-taken bytes (Ok got) = if is_spelled got.0 && bytes_eq bytes (spelling got.0 ++ got.1) then Ok got else Err Truncated
+abbrev pub taken : ℕ → List ℕ → Result (Record × List ℕ) ReadFault → Result (Record × List ℕ) (Fault Move)
+taken version bytes (Err e) = Err (fault_of e)
+taken version bytes (Ok got) = if is_spelled version got.0 && bytes_eq bytes (spelling got.0 ++ got.1) then Ok got else Err Truncated
 
-unfoldable pub read : List ℕ → Result (Record × List ℕ) (Fault Move)
-read bytes = taken bytes (record_at 1 bytes)
+-- the record of this version at the front of bytes
+unfoldable pub read : ℕ → List ℕ → Result (Record × List ℕ) (Fault Move)
+read version bytes = taken version bytes (record_at version bytes)
 
 -- ---- the rules
--- chess, with the diagram d, n plies, the listed games and the bounds handed in; the records are those of version 1, so none has prices
+-- whether an entry of the first position may stand for the second: in version 2 where they have the same future, else where they are equal
+abbrev pub stands_for : ℕ → State → State → Bool
+stands_for version q p = if version == 2 then future_eq q p else state_eq q p
+
+-- chess, with the diagram d, n plies, the listed games, and the cuts and records of a version
 unfoldable pub chess : Placement → ℕ → List (List Move) → Cuts → Rules State Move
 chess d n games cut = record {
   moves = moves_of;
@@ -80,10 +93,10 @@ chess d n games cut = record {
   is_goal = λ p. placement_eq p.board d;
   plies = n;
   is_listed = λ g. lists games g;
-  is_same = λ q p. state_eq q p;
-  cut = cut;
-  priced = λ code color prices p k. None;
+  is_same = stands_for cut.version;
+  cut = cut.bounds;
+  priced = cut.prices;
   write = spelling;
-  is_record = is_spelled;
-  read = read;
+  is_record = is_spelled cut.version;
+  read = read cut.version;
 }

@@ -1,17 +1,42 @@
--- Cuts by a list of bounds, and the rules that a check goes by.
-use Rattle.std.specs.Prelude.{ℕ, Bool, List}
+-- Cuts by a list of bounds and by prices, and the rules that a check goes by.
+use Rattle.std.specs.Prelude.{ℕ, Bool, false, ◌==◌, List, [], ◌∷◌, Option, Some, None, if◌then◌else◌}
 use Rattle.std.specs.Option.{option_map}
+use Rattle.pg_board.specs.declared.man.Color.{Color}
 use Rattle.pg_board.specs.Placement.{Placement}
 use Rattle.pg_position.specs.declared.state.State.{State}
 use Rattle.pg_position.specs.declared.moves.Move.{Move}
 use Rattle.pg_captures.specs.Lists.{first_of}
+use Rattle.pg_captures.specs.PriceLists.{PriceList}
+use Rattle.pg_pawns.specs.PricesDecided.{pawn_prices_test}
+use Rattle.pg_travel.specs.PricesDecided.{travel_prices_test}
 use Rattle.pg_checker.specs.Tree.{Rules}
 use Rattle.pg_checker.specs.Chess.{Cuts, chess}
 
--- whether the first bound of a code excludes, for the diagram d; None: no bound has the code
-abbrev pub cuts_by : {B : Type 0} → (B → ℕ) → (B → Placement → State → ℕ → Bool) → Placement → List B → Cuts
-cuts_by code_of excluded d bounds = λ code p k. option_map (λ b. excluded b d p k) (first_of code_of code bounds)
+-- pawn files have one price list
+abbrev pub files_by : Placement → State → Color → List PriceList → Bool
+files_by d p color (l ∷ []) = pawn_prices_test d p color l
+files_by d p color _ = false
+
+-- whether prices exclude, for the diagram d: code 3 is that of pawn files, 4 that of travel; None: no prices have the code
+abbrev pub prices_by : Placement → ℕ → Color → List PriceList → State → ℕ → Option Bool
+prices_by d code color prices p k =
+    if code == 3 then Some (files_by d p color prices) else
+    if code == 4 then Some (travel_prices_test d p k color prices) else
+    None
+
+-- in a certificate of this version, for the diagram d: the first bound of a code excludes, or prices do
+abbrev pub cuts_by : {B : Type 0} → (B → ℕ) → (B → Placement → State → ℕ → Bool) → ℕ → Placement → List B → Cuts
+cuts_by code_of excluded version d bounds = record {
+  version = version;
+  bounds = λ code p k. option_map (λ b. excluded b d p k) (first_of code_of code bounds);
+  prices = prices_by d;
+}
+
+-- the stated number of plies, and what a certificate of each version goes by
+pub record CheckRules : Type 0 where
+  pub plies : ℕ
+  pub of : (version : ℕ) → Rules State Move
 
 -- chess with the diagram d, n plies, these games and these bounds
-abbrev pub rules_by : {B : Type 0} → (B → ℕ) → (B → Placement → State → ℕ → Bool) → Placement → ℕ → List (List Move) → List B → Rules State Move
-rules_by code_of excluded d n games bounds = chess d n games (cuts_by code_of excluded d bounds)
+abbrev pub rules_by : {B : Type 0} → (B → ℕ) → (B → Placement → State → ℕ → Bool) → Placement → ℕ → List (List Move) → List B → CheckRules
+rules_by code_of excluded d n games bounds = record { plies = n; of = λ version. chess d n games (cuts_by code_of excluded version d bounds) }

@@ -2,13 +2,13 @@
 use Rattle.std.specs.Prelude.{◌≡◌, ℕ, Bool, List, Option, Some, None, ◌&&◌, nat_eq, Result, Ok, Err}
 use Rattle.pg_position.specs.declared.state.State.{State}
 use Rattle.pg_position.specs.declared.moves.Move.{Move}
-use Rattle.pg_position.specs.Equality.{state_eq}
 use Rattle.pg_certificate.specs.declared.fault.ReadFault.{ReadFault}
 use Rattle.pg_certificate.specs.declared.fault.ReadFault.TheVariants as reading
 use Rattle.pg_checker.specs.Tree as tree
 use Rattle.pg_checker.specs.Walk as walk
 use Rattle.pg_checker.specs.Machine.{state_at, shape_of}
 use Rattle.pg_checker.specs.Steps.{Says}
+use Rattle.pg_checker.specs.Chess.{stands_for}
 use Rattle.pg_checker.specs.declared.machine.Machine.{Machine}
 use Rattle.pg_checker.specs.declared.machine.Node.{Node}
 use Rattle.pg_checker.specs.declared.machine.Node.TheVariants as node
@@ -41,10 +41,10 @@ abbrev pub ended_of : Result (Unit {0}) (tree.Fault Move) → Result Node Stop
 ended_of (Ok u) = Ok node.Done
 ended_of (Err c) = Err (stop.Because c)
 
--- what a reference to an entry says, where equal positions are the same
-abbrev pub refer_answer : Option (tree.Entry State) → ℕ → State → Judgement
-refer_answer None k p s = Err tree.RefUnknown
-refer_answer (Some e) k p s = walk.differs_or (state_eq e.position p && nat_eq e.plies k) e.fertile s
+-- what a reference to an entry says, in a certificate of this version
+abbrev pub refer_answer : ℕ → Option (tree.Entry State) → ℕ → State → Judgement
+refer_answer version None k p s = Err tree.RefUnknown
+refer_answer version (Some e) k p s = walk.differs_or (stands_for version e.position p && nat_eq e.plies k) e.fertile s
 
 -- the code judged as the walk judges, whatever bytes are to come
 abbrev pub Judges : Machine → Machine → Judgement → Result Node Stop → Type 0

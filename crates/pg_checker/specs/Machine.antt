@@ -1,5 +1,5 @@
 -- What the values of the machine stand for: the frames of the walk, its entries and its state.
-use Rattle.std.specs.Prelude.{◌≡◌, ℕ, ◌+◌, ◌≤◌, Bool, true, false, List, [], ◌∷◌, ◌++◌, length, map, reverse, Option, Some, None}
+use Rattle.std.specs.Prelude.{◌≡◌, ℕ, ◌+◌, Bool, true, false, List, [], ◌∷◌, ◌++◌, map, reverse, Option, Some, None}
 use Rattle.pg_position.specs.declared.state.State.{State}
 use Rattle.pg_position.specs.declared.moves.Move.{Move}
 use Rattle.pg_certificate.specs.Reader.{ReaderState}
@@ -66,12 +66,6 @@ opened node.Done = 0
 opened (node.Opened is_named) = one_if is_named
 
 -- ---- the reader
--- it has not refused, and reads records of version 1
-abbrev pub IsReading : ReaderState → Type 0
-IsReading reader = (reader.failed ≡ false) × (reader.version ≡ 1)
-
--- ---- what holds between the calls: no read has failed, and a place is kept for each named node that is open
-pub record IsReady (m : Machine) (pending : ℕ) : Type 0 where
-  pub runs : IsReading m.reader
-  pub held : length m.reader.held ≤ 4096
-  pub kept : m.table.kept ≡ pending + count_named (reverse m.frames.items)
+-- it has not refused, and reads records of this version
+abbrev pub IsReading : ℕ → ReaderState → Type 0
+IsReading version reader = (reader.failed ≡ false) × (reader.version ≡ version)

@@ -1,5 +1,5 @@
 //! The check of a certificate.
-ghost use Rattle.std.specs.Prelude.{◌≡◌, ◌+◌, ◌*◌, ◌≤◌, false, [], reverse, OnOk, IfErr};
+ghost use Rattle.std.specs.Prelude.{◌≡◌, ◌+◌, ◌*◌, ◌≤◌, false, [], reverse, OnOk, IfOk, IfErr};
 ghost use Rattle.std.specs.Prelude.{length as length_of};
 ghost use Rattle.std.specs.Io.KnownBytes.{IsAtEnd};
 ghost use Rattle.pg_certificate.specs.Reader.{to_come};
@@ -47,19 +47,20 @@ fn header_fault(fault: ReadFault) -> Fault
     }
 }
 
-// The header, which must be that of the question.
+// The header, which must be for the diagram and so many plies; its version.
 fn read_header<S: Source>(
-    question: &Question,
+    diagram: &Diagram,
+    plies: u8,
     reader: &mut RecordReader,
     source: &mut S,
-) -> Result<(), Fault>
+) -> Result<u8, Fault>
     requires held { reader.old.held ≡ [] }
-    requires runs { IsReading reader.old }
-    ensures ok { OnOk result (Headed question.now.diagram.now question.now.plies
-        (S.left source.old) (to_come reader.new (S.left source.new))) }
-    ensures runs { OnOk result (IsReading reader.new) }
+    requires runs { reader.old.failed ≡ false }
+    ensures ok { IfOk result (λ version. Headed diagram.now plies
+        (S.left source.old) (to_come reader.new (S.left source.new)) version) }
+    ensures runs { IfOk result (λ version. IsReading version reader.new) }
     ensures held { length_of reader.new.held ≤ 4096 }
-    ensures err { IfErr result (λ e. HeaderFails question.now.diagram.now question.now.plies
+    ensures err { IfErr result (λ e. HeaderFails diagram.now plies
         (S.left source.old) (S.has_failed source.new) e) }
     ensures pulls { HeaderTakes (S.left source.old) (to_come reader.new (S.left source.new)) (S.left source.new) result }
 {
@@ -67,14 +68,12 @@ fn read_header<S: Source>(
         Ok(header) => header,
         Err(fault) => return Err(header_fault(fault)),
     };
-    if header.version != 1 {
-        Err(Fault::Magic)
-    } else if header.plies != question.plies {
+    if header.plies != plies {
         Err(Fault::OtherLength)
-    } else if header.diagram != question.diagram.packed() {
+    } else if header.diagram != diagram.packed() {
         Err(Fault::OtherDiagram)
     } else {
-        Ok(())
+        Ok(header.version)
     }
 }
 
@@ -85,13 +84,14 @@ fn walk<S: Source>(
     source: &mut S,
 ) -> Result<Proved, Halt>
     requires limit { question.now.plies ≤ 128 }
-    requires runs { IsReading machine.old.reader }
+    requires runs { IsReading question.now.version machine.old.reader }
     requires held { length_of machine.old.reader.held ≤ 4096 }
     requires entries { machine.old.table.entries ≡ [] }
     requires kept { machine.old.table.kept ≡ 0 }
     requires closed { machine.old.frames.items ≡ [] }
-    ensures says { Answers (rules_by (λ b. code_of b) (λ b. excluded b) question.now.diagram.now question.now.plies question.now.games.now question.now.bounds.now) (to_come machine.old.reader (S.left source.old)) machine.old.records machine.old.room (stops (path (reverse machine.new.frames.items)) result) }
+    ensures says { Answers ((rules_by (λ b. code_of b) (λ b. excluded b) question.now.diagram.now question.now.plies question.now.games.now question.now.bounds.now).of question.now.version) (to_come machine.old.reader (S.left source.old)) machine.old.records machine.old.room (stops (path (reverse machine.new.frames.items)) result) }
     ensures end { OnOk result (IsAtEnd (S.left source.new)) }
+    ensures runs { OnOk result (S.has_failed source.new ≡ false) }
     ensures fails { FailsRead (S.has_failed source.new) (stops [] result) }
     ensures pulls { WalkTakes (longest_record * machine.old.records) (to_come machine.old.reader (S.left source.old)) (S.left source.new) (stops [] result) }
 {
@@ -116,7 +116,9 @@ fn walk<S: Source>(
 /// the initial array whose last placement is the diagram, each once and nothing else, and no legal
 /// game of fewer plies ends on that diagram.
 ///
-/// A cut is tested with the first bound in the list that has its code. A named node takes its room
+/// The certificate is of version 1 or 2. A cut is tested with the first bound in the list that has its
+/// code. In version 2 a cut by prices of code 3 or 4 is tested by `pg_pawns::prices_exclude` or
+/// `pg_travel::prices_exclude`, whatever the list holds. A named node takes its room
 /// from `alloc` as its record is read; nothing else takes memory. At most
 /// `37 + 390 * max_records + 4,096` bytes are taken from a source that has not failed. A refusal
 /// changes no argument but the source.
@@ -143,17 +145,13 @@ pub fn check<R: Source>(
     ensures refused { Refuses (rules_by (λ b. code_of b) (λ b. excluded b) diagram.now length games.now bounds.now) diagram.now games.now max_records max_named (R.left source.old) (R.has_failed source.new) result }
     ensures pulls { Takes (37 + 390 * max_records + 4096) (R.left source.old) (R.left source.new) result }
     ensures end { OnOk result (IsAtEnd (R.left source.new)) }
+    ensures runs { OnOk result (R.has_failed source.new ≡ false) }
 {
     match check_listed(diagram, length, games) {
         Ok(()) => {}
         Err(fault) => return Err(Fault::Listed(fault)),
     }
-    let question = Question {
-        diagram,
-        plies: length.plies(),
-        games,
-        bounds,
-    };
+    let plies = length.plies();
     let mut machine = Machine {
         reader: RecordReader::new(),
         table: Table::new(alloc),
@@ -162,10 +160,17 @@ pub fn check<R: Source>(
         frames: ArrayVec::new(),
         found: false,
     };
-    match read_header(&question, &mut machine.reader, source) {
-        Ok(()) => {}
+    let version = match read_header(diagram, plies, &mut machine.reader, source) {
+        Ok(version) => version,
         Err(fault) => return Err(fault),
-    }
+    };
+    let question = Question {
+        diagram,
+        plies,
+        version,
+        games,
+        bounds,
+    };
     match walk(&question, &mut machine, source) {
         Ok(proved) => Ok(proved),
         Err(halt) => Err(fault_of(halt, machine.frames.as_slice())),

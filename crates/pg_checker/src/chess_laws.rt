@@ -18,24 +18,25 @@ ghost use Rattle.pg_checker.specs.Left.{left_after};
 ghost use Rattle.pg_checker.specs.Tree.{Rules, Trees, Fault, Truncated, UnknownRecord, Trailing, TooManyNamed, spelling_all, records_all};
 ghost use Rattle.pg_checker.specs.Whole.{IsAtNamed, full_from, answer, IsAccepted, IsStopped, HasMore};
 
-/// The rules by which the walk goes are those of chess, with the bounds handed in and the records of
-/// certificates, and no state has more than 28,672 moves.
+/// The rules by which the walk goes are those of chess, with the cuts handed in and the records of
+/// certificates of their version, and no state has more than 28,672 moves.
 pub fn chess_law()
-    ensures rules { (d : Placement) (n : ℕ) (games : List (List Move)) (cut : Cuts) → IsChess (chess d n games cut) d n games }
-    ensures cuts { (d : Placement) (n : ℕ) (games : List (List Move)) (cut : Cuts) → (chess d n games cut).cut ≡ cut }
-    ensures reads { (d : Placement) (n : ℕ) (games : List (List Move)) (cut : Cuts) → (chess d n games cut).read ≡ read }
+    ensures rules { (d : Placement) (n : ℕ) (games : List (List Move)) (cut : Cuts) → IsChess (chess d n games cut) cut.version d n games }
+    ensures cuts { (d : Placement) (n : ℕ) (games : List (List Move)) (cut : Cuts) → (chess d n games cut).cut ≡ cut.bounds }
+    ensures prices { (d : Placement) (n : ℕ) (games : List (List Move)) (cut : Cuts) → (chess d n games cut).priced ≡ cut.prices }
+    ensures reads { (d : Placement) (n : ℕ) (games : List (List Move)) (cut : Cuts) → (chess d n games cut).read ≡ read cut.version }
     ensures records { (d : Placement) (n : ℕ) (games : List (List Move)) (cut : Cuts) → IsExact (chess d n games cut) }
     ensures few { (d : Placement) (n : ℕ) (games : List (List Move)) (cut : Cuts) (p : State) → length ((chess d n games cut).moves p) ≤ 28672 }
 {}
 
-/// The walk reads records as those of version 1 are read from bytes: Truncated stands where the bytes
+/// The walk reads records as those of its version are read from bytes: Truncated stands where the bytes
 /// are less than a whole record, and UnknownRecord at the first that no record can have at its place.
 pub fn reading_law()
-    ensures bytes { (bytes : List ℕ) → AreBytes bytes → read bytes ≡ renamed (record_at 1 bytes) }
-    ensures spelled { (x : Record) (rest : List ℕ) → IsRecordOf 1 x → read (spelling x ++ rest) ≡ Ok (x, rest) }
-    ensures truncated { (bytes : List ℕ) → AreBytes bytes → read bytes ≡ Err Truncated ↔ IsCutShort 1 bytes }
-    ensures unknown { (bytes : List ℕ) (x : ℕ) → AreBytes bytes → read bytes ≡ Err (UnknownRecord x) ↔ IsUnknownAt 1 bytes x }
-    ensures refusals { (bytes : List ℕ) (e : ReadFault) → record_at 1 bytes ≡ Err e → read bytes ≡ Err (fault_of e) }
+    ensures bytes { (version : ℕ) (bytes : List ℕ) → AreBytes bytes → read version bytes ≡ renamed (record_at version bytes) }
+    ensures spelled { (version : ℕ) (x : Record) (rest : List ℕ) → IsRecordOf version x → read version (spelling x ++ rest) ≡ Ok (x, rest) }
+    ensures truncated { (version : ℕ) (bytes : List ℕ) → AreBytes bytes → read version bytes ≡ Err Truncated ↔ IsCutShort version bytes }
+    ensures unknown { (version : ℕ) (bytes : List ℕ) (x : ℕ) → AreBytes bytes → read version bytes ≡ Err (UnknownRecord x) ↔ IsUnknownAt version bytes x }
+    ensures refusals { (version : ℕ) (bytes : List ℕ) (e : ReadFault) → record_at version bytes ≡ Err e → read version bytes ≡ Err (fault_of e) }
 {}
 
 /// Of the moves that the rules have for a position the next legal one comes first, and what is left

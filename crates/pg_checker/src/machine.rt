@@ -11,11 +11,12 @@ use pg_moves::LegalMoves;
 use pg_position::{Move, Position};
 use pg_san::Games;
 
-/// What is asked of a certificate.
+/// What is asked of a certificate, and its version, which its header told.
 #[derive(Drop)]
 pub(crate) struct Question<'a> {
     pub(crate) diagram: &'a Diagram,
     pub(crate) plies: u8,
+    pub(crate) version: u8,
     pub(crate) games: &'a Games,
     pub(crate) bounds: &'a [Box<dyn Bound>],
 }

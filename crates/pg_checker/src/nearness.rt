@@ -74,11 +74,11 @@ pub fn pass_over(diagram: &Diagram, moves: &mut LegalMoves) -> bool
         return false;
     }
     let squares = differing(diagram, &position);
-    while let Some((m, later)) = moves.step() {
-        if leads(diagram, squares, &position, &m) {
+    while let Some(ahead) = moves.ahead() {
+        if leads(diagram, squares, &position, &ahead.m) {
             return true;
         }
-        *moves = later;
+        moves.pass(&ahead);
     }
     false
 }

@@ -1,9 +1,11 @@
 //! The record of a node: read, and judged at the node's position.
 ghost use Rattle.std.specs.Prelude.{◌≡◌, ◌+◌, ◌<◌, ◌≤◌, ◌⊎◌, ℕ, Bool, List, [], false, length, slice_get, map, OnOk, IfOk, IfErr};
-ghost use Rattle.pg_checker.specs.Chess.{read};
+ghost use Rattle.pg_checker.specs.Chess.{read, stands_for};
 ghost use Rattle.pg_certificate.specs.Reader.{to_come};
+ghost use Rattle.pg_certificate.specs.Spelling.{record_of};
 ghost use Rattle.pg_certificate.specs.declared.record.Record.TheVariants.{Expand, Cut, Ref};
-ghost use Rattle.pg_checker.specs.Cuts.{rules_by, cuts_by};
+ghost use Rattle.pg_checker.specs.Cuts.{rules_by, cuts_by, files_by, prices_by};
+ghost use Rattle.pg_travel.specs.PricesDecided.{travel_prices_test};
 ghost use Rattle.pg_position.specs.declared.moves.Move.{Move};
 ghost use Rattle.pg_checker.specs.Halting.{full, faults, stops};
 ghost use Rattle.pg_checker.specs.Judging.{Ends, Judges, ended_of, refer_answer, stop_of};
@@ -14,9 +16,12 @@ ghost use Rattle.pg_checker.specs.Walk.{judge as judge_of, head as head_of, cut_
 use crate::halt::{Halt, Reason};
 use crate::machine::{Machine, Node, Question};
 use crate::table::Table;
+use pg_board::Color;
 use pg_captures::first_excludes;
-use pg_certificate::{ReadFault, Record, RecordReader, Source};
+use pg_certificate::{Plain, ReadFault, Record, RecordReader, Source};
+use pg_fen::Diagram;
 use pg_position::Position;
+use pg_travel::Prices;
 
 /// A refusal to read a record, as a halt. No record is refused as Magic or Trailing.
 pub(crate) fn halt_of(fault: ReadFault) -> Halt
@@ -48,9 +53,8 @@ fn take_place(table: &mut Table, position: &Position, room: u32) -> Result<u32, 
 }
 
 // A cut, by the first bound of its code.
-
 fn cut(question: &Question, position: &Position, left: u8, code: u8) -> Result<(), Reason>
-    ensures { (game : List Move) → Ends (faults game result) (cut_answer (cuts_by (λ b. code_of b) (λ b. excluded b) question.now.diagram.now question.now.bounds.now code position.now left) code) }
+    ensures { (game : List Move) → Ends (faults game result) (cut_answer ((cuts_by (λ b. code_of b) (λ b. excluded b) question.now.version question.now.diagram.now question.now.bounds.now).bounds code position.now left) code) }
 {
     match first_excludes(question.bounds, code, question.diagram, position, left) {
         None => Err(Reason::UnknownBound(code)),
@@ -59,14 +63,81 @@ fn cut(question: &Question, position: &Position, left: u8, code: u8) -> Result<(
     }
 }
 
-// A reference to an entry of the table.
-fn refer(table: &Table, position: &Position, left: u8, number: u32) -> Result<(), Reason>
-    ensures { (game : List Move) → Ends (faults game result) (refer_answer (slice_get (map entry_of table.now.entries) number) left position.now) }
+// Whether the price list of pawn files excludes: there is one.
+fn files_exclude(diagram: &Diagram, position: &Position, color: Color, prices: &Prices) -> bool
+    ensures { result ≡ files_by diagram.now position.now color prices.now }
+{
+    if prices.ways() == 1 {
+        pg_pawns::prices_exclude(diagram, position, color, prices.u(0), prices.v(0))
+    } else {
+        false
+    }
+}
+
+// Whether price lists of travel exclude: there is one for each way.
+fn travel_excludes(
+    diagram: &Diagram,
+    position: &Position,
+    left: u8,
+    color: Color,
+    prices: &Prices,
+) -> bool
+    ensures { result ≡ travel_prices_test diagram.now position.now left color prices.now }
+{
+    pg_travel::prices_exclude(diagram, position, left, color, prices)
+}
+
+// A cut by prices: code 3 is that of pawn files, 4 that of travel.
+#[inline(never)]
+fn priced(
+    diagram: &Diagram,
+    position: &Position,
+    left: u8,
+    code: u8,
+    color: Color,
+    prices: &Prices,
+) -> Result<(), Reason>
+    ensures { (game : List Move) → Ends (faults game result) (cut_answer (prices_by diagram.now code color prices.now position.now left) code) }
+{
+    let excluded = match code {
+        3 => files_exclude(diagram, position, color, prices),
+        4 => travel_excludes(diagram, position, left, color, prices),
+        _ => return Err(Reason::UnknownBound(code)),
+    };
+    if excluded {
+        Ok(())
+    } else {
+        Err(Reason::CutFails(code))
+    }
+}
+
+// Whether an entry of one position may stand for another: in version 2 where they have the same
+// future, else where they are equal.
+fn stands_for(version: u8, entry: &Position, position: &Position) -> bool
+    ensures { result ≡ stands_for version entry.now position.now }
+{
+    if version == 2 {
+        entry.same_future(position)
+    } else {
+        *entry == *position
+    }
+}
+
+// A reference to an entry of the table, in a certificate of a version.
+fn refer(
+    version: u8,
+    table: &Table,
+    position: &Position,
+    left: u8,
+    number: u32,
+) -> Result<(), Reason>
+    ensures { (game : List Move) → Ends (faults game result) (refer_answer version (slice_get (map entry_of table.now.entries) number) left position.now) }
 {
     let Some(entry) = table.get(number) else {
         return Err(Reason::RefUnknown);
     };
-    if entry.position != *position || entry.plies != left {
+    let there = entry.position.position();
+    if !stands_for(version, &there, position) || entry.plies != left {
         Err(Reason::RefDiffers)
     } else if entry.fertile {
         Err(Reason::RefFertile)
@@ -86,8 +157,42 @@ fn ended(answer: Result<(), Reason>) -> Result<Node, Halt>
     }
 }
 
-// A record, judged at a node with so many plies left: what stands below the node, or why the record
-// is refused there.
+// A record of version 1, judged at a node with so many plies left: what stands below the node, or why
+// the record is refused there.
+#[inline(always)]
+fn judge_plain(
+    question: &Question,
+    machine: &mut Machine,
+    position: &Position,
+    left: u8,
+    plain: Plain,
+) -> Result<Node, Halt>
+    ensures says { (game : List Move) → Judges machine.old machine.new (judge_of ((rules_by (λ b. code_of b) (λ b. excluded b) question.now.diagram.now question.now.plies question.now.games.now question.now.bounds.now).of question.now.version) left position.now (record_of plain)) (stops game result) }
+    ensures kept { IfOk result (λ node. machine.new.table.kept ≡ machine.old.table.kept + opened node) }
+    ensures fails { (failed : Bool) → FailsRead failed (stops [] result) }
+    ensures reader { machine.new.reader ≡ machine.old.reader }
+    ensures frames { machine.new.frames ≡ machine.old.frames }
+    ensures records { machine.new.records ≡ machine.old.records }
+{
+    match plain {
+        Plain::Expand { named: false } => Ok(Node::Opened(false)),
+        Plain::Expand { named: true } => {
+            match take_place(&mut machine.table, position, machine.room) {
+                Ok(room) => machine.room = room,
+                Err(halt) => return Err(halt),
+            }
+            Ok(Node::Opened(true))
+        }
+        Plain::Cut(code) => ended(cut(question, position, left, code)),
+        Plain::Ref(number) => {
+            let answer = refer(question.version, &machine.table, position, left, number);
+            ended(answer)
+        }
+    }
+}
+
+// A record, judged in the same way.
+#[inline(always)]
 fn judge(
     question: &Question,
     machine: &mut Machine,
@@ -95,7 +200,7 @@ fn judge(
     left: u8,
     record: Record,
 ) -> Result<Node, Halt>
-    ensures says { (game : List Move) → Judges machine.old machine.new (judge_of (rules_by (λ b. code_of b) (λ b. excluded b) question.now.diagram.now question.now.plies question.now.games.now question.now.bounds.now) left position.now «record») (stops game result) }
+    ensures says { (game : List Move) → Judges machine.old machine.new (judge_of ((rules_by (λ b. code_of b) (λ b. excluded b) question.now.diagram.now question.now.plies question.now.games.now question.now.bounds.now).of question.now.version) left position.now «record») (stops game result) }
     ensures kept { IfOk result (λ node. machine.new.table.kept ≡ machine.old.table.kept + opened node) }
     ensures fails { (failed : Bool) → FailsRead failed (stops [] result) }
     ensures reader { machine.new.reader ≡ machine.old.reader }
@@ -103,27 +208,50 @@ fn judge(
     ensures records { machine.new.records ≡ machine.old.records }
 {
     match record {
-        Record::Expand { named: false } => Ok(Node::Opened(false)),
-        Record::Expand { named: true } => {
-            match take_place(&mut machine.table, position, machine.room) {
-                Ok(room) => machine.room = room,
-                Err(halt) => return Err(halt),
-            }
-            Ok(Node::Opened(true))
+        Record::Expand { named } => {
+            judge_plain(question, machine, position, left, Plain::Expand { named })
         }
-        Record::Cut(code) => ended(cut(question, position, left, code)),
-        Record::Ref(number) => ended(refer(&machine.table, position, left, number)),
-        Record::Priced { code, .. } => Err(Halt::Because(Reason::UnknownBound(code))),
+        Record::Cut(code) => judge_plain(question, machine, position, left, Plain::Cut(code)),
+        Record::Ref(number) => judge_plain(question, machine, position, left, Plain::Ref(number)),
+        Record::Priced {
+            code,
+            color,
+            prices,
+        } => {
+            let answer = priced(question.diagram, position, left, code, color, &prices);
+            ended(answer)
+        }
+    }
+}
+
+// The record of version 1 at the front of the bytes to come.
+#[inline(always)]
+fn next_plain<S: Source>(reader: &mut RecordReader, source: &mut S) -> Result<Plain, Halt>
+    requires runs { reader.old.failed ≡ false }
+    ensures says { (game : List Move) (room : ℕ) → Says
+        (to_come reader.old (S.left source.old)) (to_come reader.new (S.left source.new)) room room
+        (λ bytes _. read 1 bytes) (λ x rest _. (record_of x, rest)) (stops game result) }
+    ensures runs { OnOk result (IsReading reader.old.version reader.new) }
+    ensures held { length reader.new.held ≤ 4096 }
+    ensures fails { FailsRead (S.has_failed source.new) (stops [] result) }
+    ensures few { (most : ℕ) → TakesFew
+        (to_come reader.old (S.left source.old)) (to_come reader.new (S.left source.new)) (S.left source.new)
+        (most + 1) most (stops [] result) }
+{
+    match reader.next_plain(source) {
+        Ok(plain) => Ok(plain),
+        Err(fault) => Err(halt_of(fault)),
     }
 }
 
 // The record at the front of the bytes to come.
+#[inline(always)]
 fn next<S: Source>(reader: &mut RecordReader, source: &mut S) -> Result<Record, Halt>
-    requires runs { IsReading reader.old }
+    requires runs { reader.old.failed ≡ false }
     ensures says { (game : List Move) (room : ℕ) → Says
         (to_come reader.old (S.left source.old)) (to_come reader.new (S.left source.new)) room room
-        (λ bytes _. read bytes) (λ x rest _. (x, rest)) (stops game result) }
-    ensures runs { OnOk result (IsReading reader.new) }
+        (λ bytes _. read reader.old.version bytes) (λ x rest _. (x, rest)) (stops game result) }
+    ensures runs { OnOk result (IsReading reader.old.version reader.new) }
     ensures held { length reader.new.held ≤ 4096 }
     ensures fails { FailsRead (S.has_failed source.new) (stops [] result) }
     ensures few { (most : ℕ) → TakesFew
@@ -136,24 +264,62 @@ fn next<S: Source>(reader: &mut RecordReader, source: &mut S) -> Result<Record, 
     }
 }
 
-/// The record of a node with so many plies left.
-pub(crate) fn head<S: Source>(
+// The record of a node with so many plies left, in a certificate of version 1.
+#[inline(always)]
+fn plain_head<S: Source>(
     question: &Question,
     machine: &mut Machine,
     source: &mut S,
     position: &Position,
     left: u8,
 ) -> Result<Node, Halt>
-    requires runs { IsReading machine.old.reader }
+    requires version { question.now.version ≡ 1 }
+    requires runs { IsReading question.now.version machine.old.reader }
     requires held { length machine.old.reader.held ≤ 4096 }
     ensures says { (game : List Move) → Says
         (to_come machine.old.reader (S.left source.old)) (to_come machine.new.reader (S.left source.new))
         machine.old.room machine.new.room
-        (λ bytes n. head_of (rules_by (λ b. code_of b) (λ b. excluded b) question.now.diagram.now question.now.plies question.now.games.now question.now.bounds.now) left position.now (state_at machine.old bytes n))
+        (λ bytes n. head_of ((rules_by (λ b. code_of b) (λ b. excluded b) question.now.diagram.now question.now.plies question.now.games.now question.now.bounds.now).of question.now.version) left position.now (state_at machine.old bytes n))
         (λ node rest n. (shape_of node, state_at machine.new rest n)) (stops game result) }
     ensures kept { IfOk result (λ node. machine.new.table.kept ≡ machine.old.table.kept + opened node) }
     ensures frames { machine.new.frames ≡ machine.old.frames }
-    ensures runs { OnOk result (IsReading machine.new.reader) }
+    ensures runs { OnOk result (IsReading question.now.version machine.new.reader) }
+    ensures held { length machine.new.reader.held ≤ 4096 }
+    ensures fails { FailsRead (S.has_failed source.new) (stops [] result) }
+    ensures few { TakesFew
+        (to_come machine.old.reader (S.left source.old)) (to_come machine.new.reader (S.left source.new))
+        (S.left source.new) machine.old.records machine.new.records (stops [] result) }
+{
+    if machine.records == 0 {
+        return Err(Halt::Because(Reason::Budget));
+    }
+    machine.records -= 1;
+    match next_plain(&mut machine.reader, source) {
+        Ok(plain) => judge_plain(question, machine, position, left, plain),
+        Err(halt) => Err(halt),
+    }
+}
+
+// The record of a node with so many plies left, in a certificate of any version. A record with prices
+// has some 400 bytes, which are cleared and copied for each, so version 1 has a way of its own.
+#[inline(never)]
+fn any_head<S: Source>(
+    question: &Question,
+    machine: &mut Machine,
+    source: &mut S,
+    position: &Position,
+    left: u8,
+) -> Result<Node, Halt>
+    requires runs { IsReading question.now.version machine.old.reader }
+    requires held { length machine.old.reader.held ≤ 4096 }
+    ensures says { (game : List Move) → Says
+        (to_come machine.old.reader (S.left source.old)) (to_come machine.new.reader (S.left source.new))
+        machine.old.room machine.new.room
+        (λ bytes n. head_of ((rules_by (λ b. code_of b) (λ b. excluded b) question.now.diagram.now question.now.plies question.now.games.now question.now.bounds.now).of question.now.version) left position.now (state_at machine.old bytes n))
+        (λ node rest n. (shape_of node, state_at machine.new rest n)) (stops game result) }
+    ensures kept { IfOk result (λ node. machine.new.table.kept ≡ machine.old.table.kept + opened node) }
+    ensures frames { machine.new.frames ≡ machine.old.frames }
+    ensures runs { OnOk result (IsReading question.now.version machine.new.reader) }
     ensures held { length machine.new.reader.held ≤ 4096 }
     ensures fails { FailsRead (S.has_failed source.new) (stops [] result) }
     ensures few { TakesFew
@@ -167,5 +333,37 @@ pub(crate) fn head<S: Source>(
     match next(&mut machine.reader, source) {
         Ok(record) => judge(question, machine, position, left, record),
         Err(halt) => Err(halt),
+    }
+}
+
+/// The record of a node with so many plies left.
+#[inline(always)]
+pub(crate) fn head<S: Source>(
+    question: &Question,
+    machine: &mut Machine,
+    source: &mut S,
+    position: &Position,
+    left: u8,
+) -> Result<Node, Halt>
+    requires runs { IsReading question.now.version machine.old.reader }
+    requires held { length machine.old.reader.held ≤ 4096 }
+    ensures says { (game : List Move) → Says
+        (to_come machine.old.reader (S.left source.old)) (to_come machine.new.reader (S.left source.new))
+        machine.old.room machine.new.room
+        (λ bytes n. head_of ((rules_by (λ b. code_of b) (λ b. excluded b) question.now.diagram.now question.now.plies question.now.games.now question.now.bounds.now).of question.now.version) left position.now (state_at machine.old bytes n))
+        (λ node rest n. (shape_of node, state_at machine.new rest n)) (stops game result) }
+    ensures kept { IfOk result (λ node. machine.new.table.kept ≡ machine.old.table.kept + opened node) }
+    ensures frames { machine.new.frames ≡ machine.old.frames }
+    ensures runs { OnOk result (IsReading question.now.version machine.new.reader) }
+    ensures held { length machine.new.reader.held ≤ 4096 }
+    ensures fails { FailsRead (S.has_failed source.new) (stops [] result) }
+    ensures few { TakesFew
+        (to_come machine.old.reader (S.left source.old)) (to_come machine.new.reader (S.left source.new))
+        (S.left source.new) machine.old.records machine.new.records (stops [] result) }
+{
+    if question.version == 1 {
+        plain_head(question, machine, source, position, left)
+    } else {
+        any_head(question, machine, source, position, left)
     }
 }

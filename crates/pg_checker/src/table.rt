@@ -1,15 +1,15 @@
 //! The table of named nodes.
-ghost use Rattle.std.specs.Prelude.{◌≡◌, ◌+◌, ◌-◌, ◌<◌, [], ◌∷◌, ◌++◌, slice_get, OnOk, OnErr};
+ghost use Rattle.std.specs.Prelude.{◌≡◌, ◌+◌, ◌-◌, ◌<◌, [], ◌∷◌, ◌++◌, Some, None, MatchOption, slice_get, OnOk, OnErr};
 
-use pg_position::Position;
+use pg_position::{PackedPosition, Position};
 use std::alloc::{AllocError, Global};
 use std::marker::Model;
 
 /// A named node that has closed: its position, its plies left, and whether a game below it ends on
 /// the diagram.
-#[derive(Clone, Copy)]
+#[derive(Drop)]
 pub(crate) struct Entry {
-    pub(crate) position: Position,
+    pub(crate) position: PackedPosition,
     pub(crate) plies: u8,
     pub(crate) fertile: bool,
 }
@@ -57,7 +57,7 @@ impl Table {
         ensures err { OnErr result (self.new ≡ self.old) }
     {
         self.places.push(Entry {
-            position: *position,
+            position: position.packed(),
             plies: 0,
             fertile: true,
         })?;
@@ -75,12 +75,12 @@ impl Table {
     }
 
     /// The entry with a number; none where no closed node has it.
-    pub(crate) fn get(&self, number: u32) -> Option<Entry>
-        ensures { result ≡ slice_get self.now.entries number }
+    pub(crate) fn get(&self, number: u32) -> Option<&Entry>
+        ensures { MatchOption result (slice_get self.now.entries number ≡ None) (λ e. slice_get self.now.entries number ≡ Some e.now) }
     {
         let number = number as usize;
         if number < self.closed {
-            Some(self.places[number])
+            Some(&self.places[number])
         } else {
             None
         }

@@ -2,6 +2,7 @@ mod bounds;
 mod examples;
 mod faults;
 mod references;
+mod version2;
 
 use super::*;
 use pg_captures::{Bound, Captures, Promotions};

@@ -34,7 +34,7 @@ fn leaf(
     position: &Position,
 ) -> Result<bool, Reason>
     requires { length frames.now ≤ 128 }
-    ensures { LeafSays (faults (path (reverse frames.now)) result) (leaf_of (rules_by (λ b. code_of b) (λ b. excluded b) question.now.diagram.now question.now.plies question.now.games.now question.now.bounds.now) tree (path (reverse frames.now)) position.now) }
+    ensures { LeafSays (faults (path (reverse frames.now)) result) (leaf_of ((rules_by (λ b. code_of b) (λ b. excluded b) question.now.diagram.now question.now.plies question.now.games.now question.now.bounds.now).of question.now.version) tree (path (reverse frames.now)) position.now) }
 {
     if !question.diagram.matches(position) {
         return Ok(false);
@@ -62,15 +62,15 @@ fn enter<S: Source>(
     requires depth { left + length machine.old.frames.items ≡ tree }
     requires limit { tree ≤ 128 }
     requires kept { machine.old.table.kept ≡ count_named (reverse machine.old.frames.items) }
-    requires runs { IsReading machine.old.reader }
+    requires runs { IsReading question.now.version machine.old.reader }
     requires held { length machine.old.reader.held ≤ 4096 }
     ensures says { Says
         (to_come machine.old.reader (S.left source.old)) (to_come machine.new.reader (S.left source.new))
         machine.old.room machine.new.room
-        (λ bytes n. enter_of (rules_by (λ b. code_of b) (λ b. excluded b) question.now.diagram.now question.now.plies question.now.games.now question.now.bounds.now) tree left (path (reverse machine.old.frames.items)) position.now (frames_of (reverse machine.old.frames.items)) (state_at machine.old bytes n))
-        (λ _ rest n. work_at (rules_by (λ b. code_of b) (λ b. excluded b) question.now.diagram.now question.now.plies question.now.games.now question.now.bounds.now) machine.new rest n) (stops (path (reverse machine.new.frames.items)) result) }
+        (λ bytes n. enter_of ((rules_by (λ b. code_of b) (λ b. excluded b) question.now.diagram.now question.now.plies question.now.games.now question.now.bounds.now).of question.now.version) tree left (path (reverse machine.old.frames.items)) position.now (frames_of (reverse machine.old.frames.items)) (state_at machine.old bytes n))
+        (λ _ rest n. work_at ((rules_by (λ b. code_of b) (λ b. excluded b) question.now.diagram.now question.now.plies question.now.games.now question.now.bounds.now).of question.now.version) machine.new rest n) (stops (path (reverse machine.new.frames.items)) result) }
     ensures kept { OnOk result (machine.new.table.kept ≡ count_named (reverse machine.new.frames.items)) }
-    ensures runs { OnOk result (IsReading machine.new.reader) }
+    ensures runs { OnOk result (IsReading question.now.version machine.new.reader) }
     ensures held { length machine.new.reader.held ≤ 4096 }
     ensures fails { FailsRead (S.has_failed source.new) (stops [] result) }
     ensures few { TakesFew
@@ -120,7 +120,7 @@ fn close(position: &Position, plies: u8, named: bool, found: bool, machine: &mut
     machine.found = found;
     if named {
         machine.table.close(Entry {
-            position: *position,
+            position: position.packed(),
             plies: plies + 1,
             fertile: found,
         });
@@ -138,15 +138,15 @@ fn turn<S: Source>(
     requires depth { top.plies + suc (length machine.old.frames.items) ≡ tree }
     requires limit { tree ≤ 128 }
     requires kept { machine.old.table.kept ≡ one_if top.named + count_named (reverse machine.old.frames.items) }
-    requires runs { IsReading machine.old.reader }
+    requires runs { IsReading question.now.version machine.old.reader }
     requires held { length machine.old.reader.held ≤ 4096 }
     ensures says { Says
         (to_come machine.old.reader (S.left source.old)) (to_come machine.new.reader (S.left source.new))
         machine.old.room machine.new.room
-        (λ bytes n. turn_of (rules_by (λ b. code_of b) (λ b. excluded b) question.now.diagram.now question.now.plies question.now.games.now question.now.bounds.now) tree (frame_of top (reverse machine.old.frames.items)) (frames_of (reverse machine.old.frames.items)) machine.old.found (state_at machine.old bytes n))
-        (λ _ rest n. work_at (rules_by (λ b. code_of b) (λ b. excluded b) question.now.diagram.now question.now.plies question.now.games.now question.now.bounds.now) machine.new rest n) (stops (path (reverse machine.new.frames.items)) result) }
+        (λ bytes n. turn_of ((rules_by (λ b. code_of b) (λ b. excluded b) question.now.diagram.now question.now.plies question.now.games.now question.now.bounds.now).of question.now.version) tree (frame_of top (reverse machine.old.frames.items)) (frames_of (reverse machine.old.frames.items)) machine.old.found (state_at machine.old bytes n))
+        (λ _ rest n. work_at ((rules_by (λ b. code_of b) (λ b. excluded b) question.now.diagram.now question.now.plies question.now.games.now question.now.bounds.now).of question.now.version) machine.new rest n) (stops (path (reverse machine.new.frames.items)) result) }
     ensures kept { OnOk result (machine.new.table.kept ≡ count_named (reverse machine.new.frames.items)) }
-    ensures runs { OnOk result (IsReading machine.new.reader) }
+    ensures runs { OnOk result (IsReading question.now.version machine.new.reader) }
     ensures held { length machine.new.reader.held ≤ 4096 }
     ensures fails { FailsRead (S.has_failed source.new) (stops [] result) }
     ensures few { TakesFew
@@ -211,16 +211,16 @@ fn run<S: Source>(
     requires stacked { Stacked tree (frames_of (reverse machine.old.frames.items)) }
     requires limit { tree ≤ 128 }
     requires kept { machine.old.table.kept ≡ count_named (reverse machine.old.frames.items) }
-    requires runs { IsReading machine.old.reader }
+    requires runs { IsReading question.now.version machine.old.reader }
     requires held { length machine.old.reader.held ≤ 4096 }
     ensures says { Says
         (to_come machine.old.reader (S.left source.old)) (to_come machine.new.reader (S.left source.new))
         machine.old.room machine.new.room
-        (λ bytes n. finish (rules_by (λ b. code_of b) (λ b. excluded b) question.now.diagram.now question.now.plies question.now.games.now question.now.bounds.now) tree (work_at (rules_by (λ b. code_of b) (λ b. excluded b) question.now.diagram.now question.now.plies question.now.games.now question.now.bounds.now) machine.old bytes n))
+        (λ bytes n. finish ((rules_by (λ b. code_of b) (λ b. excluded b) question.now.diagram.now question.now.plies question.now.games.now question.now.bounds.now).of question.now.version) tree (work_at ((rules_by (λ b. code_of b) (λ b. excluded b) question.now.diagram.now question.now.plies question.now.games.now question.now.bounds.now).of question.now.version) machine.old bytes n))
         (λ _ rest n. (machine.new.found, state_at machine.new rest n)) (stops (path (reverse machine.new.frames.items)) result) }
     ensures closed { OnOk result (machine.new.frames.items ≡ []) }
     ensures kept { OnOk result (machine.new.table.kept ≡ 0) }
-    ensures runs { OnOk result (IsReading machine.new.reader) }
+    ensures runs { OnOk result (IsReading question.now.version machine.new.reader) }
     ensures held { length machine.new.reader.held ≤ 4096 }
     ensures fails { FailsRead (S.has_failed source.new) (stops [] result) }
     ensures few { TakesFew
@@ -253,16 +253,16 @@ fn tree_of<S: Source>(
     requires limit { tree ≤ 128 }
     requires closed { machine.old.frames.items ≡ [] }
     requires kept { machine.old.table.kept ≡ 0 }
-    requires runs { IsReading machine.old.reader }
+    requires runs { IsReading question.now.version machine.old.reader }
     requires held { length machine.old.reader.held ≤ 4096 }
     ensures says { Says
         (to_come machine.old.reader (S.left source.old)) (to_come machine.new.reader (S.left source.new))
         machine.old.room machine.new.room
-        (λ bytes n. visit (rules_by (λ b. code_of b) (λ b. excluded b) question.now.diagram.now question.now.plies question.now.games.now question.now.bounds.now) tree tree [] array_state (state_at machine.old bytes n))
+        (λ bytes n. visit ((rules_by (λ b. code_of b) (λ b. excluded b) question.now.diagram.now question.now.plies question.now.games.now question.now.bounds.now).of question.now.version) tree tree [] array_state (state_at machine.old bytes n))
         (λ _ rest n. (machine.new.found, state_at machine.new rest n)) (stops (path (reverse machine.new.frames.items)) result) }
     ensures closed { OnOk result (machine.new.frames.items ≡ []) }
     ensures kept { OnOk result (machine.new.table.kept ≡ 0) }
-    ensures runs { OnOk result (IsReading machine.new.reader) }
+    ensures runs { OnOk result (IsReading question.now.version machine.new.reader) }
     ensures held { length machine.new.reader.held ≤ 4096 }
     ensures fails { FailsRead (S.has_failed source.new) (stops [] result) }
     ensures few { TakesFew
@@ -284,14 +284,14 @@ pub(crate) fn all_trees<S: Source>(
     requires limit { question.now.plies ≤ 128 }
     requires closed { machine.old.frames.items ≡ [] }
     requires kept { machine.old.table.kept ≡ 0 }
-    requires runs { IsReading machine.old.reader }
+    requires runs { IsReading question.now.version machine.old.reader }
     requires held { length machine.old.reader.held ≤ 4096 }
     ensures says { Says
         (to_come machine.old.reader (S.left source.old)) (to_come machine.new.reader (S.left source.new))
         machine.old.room machine.new.room
-        (λ bytes n. run_of (rules_by (λ b. code_of b) (λ b. excluded b) question.now.diagram.now question.now.plies question.now.games.now question.now.bounds.now) (suc question.now.plies) 0 array_state (state_at machine.old bytes n))
+        (λ bytes n. run_of ((rules_by (λ b. code_of b) (λ b. excluded b) question.now.diagram.now question.now.plies question.now.games.now question.now.bounds.now).of question.now.version) (suc question.now.plies) 0 array_state (state_at machine.old bytes n))
         (λ _ rest n. state_at machine.new rest n) (stops (path (reverse machine.new.frames.items)) result) }
-    ensures runs { OnOk result (IsReading machine.new.reader) }
+    ensures runs { OnOk result (IsReading question.now.version machine.new.reader) }
     ensures held { length machine.new.reader.held ≤ 4096 }
     ensures fails { FailsRead (S.has_failed source.new) (stops [] result) }
     ensures few { TakesFew

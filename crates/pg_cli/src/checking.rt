@@ -1,10 +1,21 @@
 //! `pg check`: a certificate is checked for a diagram, a length and a list of games.
 
+ghost use Rattle.std.specs.Prelude.{◌≡◌, IfOk, IfErr, MatchResult};
+ghost use Rattle.pg_report.specs.Statuses.{verdict_status};
+ghost use Rattle.pg_report.specs.declared.fault.RunFault.TheVariants.{Write};
+ghost use Rattle.pg_cli.specs.Answers.{AreAnswered};
+
+use crate::gathered::Gathered;
 use crate::input::list;
+use crate::names::FileName;
 use crate::progress::{Watch, Watched};
 use crate::refusals::Refusal;
+use crate::screen::Screen;
+use crate::writing::lead_to_one;
 use clap::ArgMatches;
-use pg_report::{Bound, FromRead, ToWrite, run_check, verdict_status};
+use pg_report::{
+    Bound, FromRead, Problem, Refused, RunFault, Sink, ToWrite, Verdict, run_check, verdict_status,
+};
 use std::fs::File;
 use std::io::{Read, Write};
 use std::rt::Runtime;
@@ -24,7 +35,32 @@ pub(crate) struct Asked<'a> {
     pub(crate) games: &'a [u8],
 }
 
-/// Checks the certificate that a reader gives, and writes the report; the status of its verdict.
+/// The status after a check, once its report is wholly written.
+///
+/// # Errors
+/// `Check` with the fault of the check, or with `Write` where the rest of the report is refused.
+pub(crate) fn finished<'a, W: Sink + Drop>(
+    answer: Result<Verdict, RunFault>,
+    out: Gathered<W>,
+) -> Result<u8, Refusal<'a>>
+    ensures ok { IfOk result (λ status. MatchResult answer (λ v. status ≡ verdict_status v) (λ _. ⊥)) }
+    ensures err { IfErr result (λ refusal. MatchResult answer (λ _. refusal ≡ Refusal.Check Write) (λ fault. refusal ≡ Refusal.Check fault)) }
+{
+    match answer {
+        Ok(verdict) => match out.finish() {
+            Ok(_) => Ok(verdict_status(verdict)),
+            Err(Refused) => Err(Refusal::Check(RunFault::Write)),
+        },
+        Err(fault) => Err(Refusal::Check(fault)),
+    }
+}
+
+/// Checks the certificate that a reader gives, and writes the report; the status of its verdict. A status
+/// means that the texts spell a diagram, a length and a list, that the list is the exact answer, and 0 that
+/// it has just one game.
+///
+/// # Errors
+/// `NotUtf8` where the list is not UTF-8, else `Check` with the fault of the check.
 pub(crate) fn check_from<'a, R: Runtime + AllocGlobal, C: Read + Drop, W: Write + Drop>(
     rt: &R,
     asked: &Asked<'_>,
@@ -33,15 +69,17 @@ pub(crate) fn check_from<'a, R: Runtime + AllocGlobal, C: Read + Drop, W: Write 
     out: W,
     records: u64,
     screen: bool,
-) -> Result<u8, Refusal<'a>> {
+) -> Result<u8, Refusal<'a>>
+    ensures headline { IfOk result (λ status. AreAnswered asked.now.diagram.now asked.now.length.now asked.now.games.now status) }
+{
     let Ok(games) = str::from_utf8(asked.games) else {
         return Err(Refusal::NotUtf8);
     };
     let mut source = Watched::new(
         FromRead::new(certificate),
-        Watch::new(rt, "records", screen),
+        Watch::new(rt, "records", records, screen),
     );
-    let mut out = ToWrite::new(out);
+    let mut out = Gathered::new(ToWrite::new(out));
     let answer = run_check(
         rt.alloc(),
         asked.diagram,
@@ -54,10 +92,35 @@ pub(crate) fn check_from<'a, R: Runtime + AllocGlobal, C: Read + Drop, W: Write 
         NAMED,
     );
     source.end();
-    match answer {
-        Ok(verdict) => Ok(verdict_status(verdict)),
-        Err(fault) => Err(Refusal::Check(fault)),
+    finished(answer, out)
+}
+
+// The list of games, from a file that is not the certificate's, or else from standard input. Where
+// somebody is to type it, a bad diagram or length is told before.
+fn games_of<'a, R: Runtime + AllocGlobal>(
+    rt: &R,
+    words: &ArgMatches<'a>,
+    screen: Screen,
+) -> Result<Vec<u8>, Refusal<'a>> {
+    let certificate = words.get_str("CERT").unwrap_or("");
+    let path = words.get_str("GAMES");
+    match path {
+        Some(path) if lead_to_one(rt, certificate, path) => {
+            return Err(Refusal::Open(FileName(certificate)));
+        }
+        None if screen.input => {
+            let diagram = words.get_str("DIAGRAM").unwrap_or("");
+            let length = words.get_str("LENGTH").unwrap_or("");
+            if let Err(fault) = Problem::read(diagram, length) {
+                return Err(Refusal::Check(fault));
+            }
+            let _ = eprintln!(rt;
+                "pg: type the games, one a line; end with Ctrl-D on a line of its own"
+            );
+        }
+        _ => {}
     }
+    list(rt, path)
 }
 
 /// `pg check`: the certificate of a file is checked, and the report stands on standard output.
@@ -65,13 +128,13 @@ pub(crate) fn check<'a, R: Runtime + AllocGlobal>(
     rt: &R,
     words: &ArgMatches<'a>,
     bounds: &[Box<dyn Bound>],
-    screen: bool,
+    screen: Screen,
 ) -> Result<u8, Refusal<'a>> {
     let path = words.get_str("CERT").unwrap_or("");
     let Ok(certificate) = File::open(rt, path) else {
-        return Err(Refusal::Open(path));
+        return Err(Refusal::Open(FileName(path)));
     };
-    let games = match list(rt, words.get_str("GAMES")) {
+    let games = match games_of(rt, words, screen) {
         Ok(games) => games,
         Err(refusal) => return Err(refusal),
     };
@@ -82,5 +145,5 @@ pub(crate) fn check<'a, R: Runtime + AllocGlobal>(
     };
     let records = words.get_one::<u64>("records").unwrap_or(RECORDS);
     let out = io::writer(rt);
-    check_from(rt, &asked, bounds, certificate, out, records, screen)
+    check_from(rt, &asked, bounds, certificate, out, records, screen.errors)
 }

@@ -1,10 +1,11 @@
 //! Lists of games, read whole.
 
+use crate::names::FileName;
 use crate::refusals::Refusal;
 use std::alloc::Global;
 use std::fs::File;
-use std::io::Read;
-use std::rt::Runtime;
+use std::io::{Input, Read};
+use std::rt::Files;
 
 /// The longest list that is read: 16,777,216 bytes.
 pub(crate) const MOST_BYTES: usize = 16_777_216;
@@ -41,14 +42,14 @@ pub(crate) fn read_all<'a, R: Read>(alloc: Global, reader: &mut R) -> Result<Vec
 }
 
 /// The bytes of a list of games, from a file or else from standard input.
-pub(crate) fn list<'a, R: Runtime + AllocGlobal>(
+pub(crate) fn list<'a, R: Files + Input + AllocGlobal>(
     rt: &R,
     path: Option<&'a str>,
 ) -> Result<Vec<u8>, Refusal<'a>> {
     match path {
         Some(path) => match File::open(rt, path) {
             Ok(mut file) => read_all(rt.alloc(), &mut file),
-            Err(_) => Err(Refusal::Open(path)),
+            Err(_) => Err(Refusal::Open(FileName(path))),
         },
         None => read_all(rt.alloc(), &mut rt.reader()),
     }

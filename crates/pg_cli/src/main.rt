@@ -1,19 +1,28 @@
 //! The program `pg`, the checker of shortest proof games: `pg moves FEN`, `pg count FEN PLIES`,
-//! `pg check DIAGRAM LENGTH CERT [GAMES] [--records N]` and `pg search DIAGRAM LENGTH CERT [--nodes N]`.
+//! `pg check DIAGRAM LENGTH CERT [GAMES] [--records N]`, `pg search DIAGRAM LENGTH CERT [--nodes N]` and
+//! `pg upgrade OLD NEW [--records N]`.
 #![tactic(auto)]
 
 mod checking;
 mod commands;
+mod gathered;
 mod input;
+mod names;
 mod positions;
 mod progress;
 mod refusals;
+mod screen;
 mod searching;
+mod upgrading;
+mod writing;
 
 use crate::commands::pg;
 use crate::refusals::{BAD_INPUT, DONE, Refusal, refuse};
+use crate::screen::Screen;
 use clap::ArgMatches;
+use clap::error::ErrorKind;
 use pg_report::{Bound, Captures, PawnFiles, Promotions, Travel};
+use std::fs::File;
 use std::io::IsTerminal;
 use std::process::ExitCode;
 use std::rt::Runtime;
@@ -21,7 +30,7 @@ use std::{env, io};
 
 // Does what the words of a command say, with the four bounds in the order of their codes, and gives
 // the status.
-fn run<R: Runtime + AllocGlobal>(rt: &R, words: &ArgMatches<'_>, screen: bool) -> io::Result<u8> {
+fn run<R: Runtime + AllocGlobal>(rt: &R, words: &ArgMatches<'_>, screen: Screen) -> io::Result<u8> {
     let mut bounds: Vec<Box<dyn Bound>> = Vec::new(rt.alloc());
     bounds.push(Box::new(rt.alloc(), Captures)?)?;
     bounds.push(Box::new(rt.alloc(), Promotions)?)?;
@@ -31,7 +40,8 @@ fn run<R: Runtime + AllocGlobal>(rt: &R, words: &ArgMatches<'_>, screen: bool) -
         Some(("moves", inner)) => positions::moves(rt, inner),
         Some(("count", inner)) => positions::count(rt, inner),
         Some(("check", inner)) => checking::check(rt, inner, bounds.as_slice(), screen),
-        Some(("search", inner)) => searching::search(rt, inner, bounds.as_slice(), screen),
+        Some(("search", inner)) => searching::search(rt, inner, bounds.as_slice(), screen.errors),
+        Some(("upgrade", inner)) => upgrading::upgrade(rt, inner, screen.errors),
         _ => Ok(BAD_INPUT),
     };
     match answer {
@@ -40,8 +50,20 @@ fn run<R: Runtime + AllocGlobal>(rt: &R, words: &ArgMatches<'_>, screen: bool) -
     }
 }
 
+// Says why the words are no command, or the help that they ask for, and gives the status.
+fn explain<R: Runtime + AllocGlobal>(rt: &R, error: &clap::Error) -> u8 {
+    if error.kind() == ErrorKind::OutOfMemory {
+        return refuse(rt, &Refusal::Memory);
+    }
+    match (error.print(rt), error.use_stderr()) {
+        (_, true) => BAD_INPUT,
+        (Ok(()), false) => DONE,
+        (Err(_), false) => refuse(rt, &Refusal::Write),
+    }
+}
+
 // Reads the words as commands, and gives the status.
-fn obey<R: Runtime + AllocGlobal>(rt: &R, words: &[String], screen: bool) -> u8 {
+fn obey<R: Runtime + AllocGlobal>(rt: &R, words: &[String], screen: Screen) -> u8 {
     let Ok(command) = pg(rt.alloc()) else {
         return refuse(rt, &Refusal::Memory);
     };
@@ -50,31 +72,44 @@ fn obey<R: Runtime + AllocGlobal>(rt: &R, words: &[String], screen: bool) -> u8 
             Ok(status) => status,
             Err(_) => refuse(rt, &Refusal::Memory),
         },
-        Err(error) => {
-            let _ = error.print(rt);
-            if error.use_stderr() { BAD_INPUT } else { DONE }
-        }
+        Err(error) => explain(rt, &error),
     }
 }
 
 // The words of the command line.
-fn all_words<R: Runtime + AllocGlobal>(rt: &R) -> io::Result<Vec<String>> {
+fn all_words<R: Runtime + AllocGlobal>(rt: &R) -> Result<Vec<String>, Refusal<'static>> {
+    let given = match env::args(rt) {
+        Ok(given) => given,
+        Err(fault) if fault.kind() == io::ErrorKind::InvalidData => return Err(Refusal::Words),
+        Err(_) => return Err(Refusal::Memory),
+    };
     let mut words = Vec::new(rt.alloc());
-    for word in env::args(rt)? {
-        words.push(word)?;
+    for word in given {
+        if words.push(word).is_err() {
+            return Err(Refusal::Memory);
+        }
     }
     Ok(words)
 }
 
-fn program<R: Runtime + AllocGlobal>(rt: &R, screen: bool) -> u8 {
+// Where a standard stream is closed, the next file that is opened takes its number, and would be read
+// or written in its place. So folders are opened first, which are neither, and kept to the end.
+fn program<R: Runtime + AllocGlobal>(rt: &R, screen: Screen) -> u8 {
+    let _input = File::open(rt, "/");
+    let _output = File::open(rt, "/");
+    let _errors = File::open(rt, "/");
     match all_words(rt) {
         Ok(words) => obey(rt, words.as_slice(), screen),
-        Err(_) => refuse(rt, &Refusal::Memory),
+        Err(refusal) => refuse(rt, &refusal),
     }
 }
 
 fn main(rt: HostRuntime) -> ExitCode {
-    ExitCode::from(program(&rt, rt.stderr().is_terminal()))
+    let screen = Screen {
+        input: rt.stdin().is_terminal(),
+        errors: rt.stderr().is_terminal(),
+    };
+    ExitCode::from(program(&rt, screen))
 }
 
 #[cfg(test)]

@@ -1,8 +1,9 @@
 //! The commands on one position: its legal moves, and the number of games from it.
 
+use crate::gathered::Gathered;
 use crate::refusals::{DONE, Refusal};
 use clap::ArgMatches;
-use pg_report::{ToWrite, run_count, run_moves};
+use pg_report::{CountRunFault, MovesFault, Refused, ToWrite, run_count, run_moves};
 use std::io;
 use std::rt::Runtime;
 
@@ -12,9 +13,12 @@ pub(crate) fn moves<'a, R: Runtime + AllocGlobal>(
     words: &ArgMatches<'a>,
 ) -> Result<u8, Refusal<'a>> {
     let fen = words.get_str("FEN").unwrap_or("");
-    let mut out = ToWrite::new(io::writer(rt));
+    let mut out = Gathered::new(ToWrite::new(io::writer(rt)));
     match run_moves(rt.alloc(), fen, &mut out) {
-        Ok(()) => Ok(DONE),
+        Ok(()) => match out.finish() {
+            Ok(_) => Ok(DONE),
+            Err(Refused) => Err(Refusal::Moves(MovesFault::Write)),
+        },
         Err(fault) => Err(Refusal::Moves(fault)),
     }
 }
@@ -26,9 +30,12 @@ pub(crate) fn count<'a, R: Runtime + AllocGlobal>(
 ) -> Result<u8, Refusal<'a>> {
     let fen = words.get_str("FEN").unwrap_or("");
     let plies = words.get_one::<u8>("PLIES").unwrap_or(u8::MAX);
-    let mut out = ToWrite::new(io::writer(rt));
+    let mut out = Gathered::new(ToWrite::new(io::writer(rt)));
     match run_count(rt.alloc(), fen, plies, &mut out) {
-        Ok(()) => Ok(DONE),
+        Ok(()) => match out.finish() {
+            Ok(_) => Ok(DONE),
+            Err(Refused) => Err(Refusal::Count(CountRunFault::Write)),
+        },
         Err(fault) => Err(Refusal::Count(fault)),
     }
 }

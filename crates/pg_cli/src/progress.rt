@@ -1,7 +1,9 @@
 //! How far a long check or search is: a line on the terminal, rewritten about twice a second.
-ghost use Rattle.std.specs.Prelude.{◌≡◌};
+ghost use Rattle.std.specs.Prelude.{◌≡◌, ◌≤◌};
 
+use arrayvec::ArrayString;
 use pg_report::{Refused, Sink, Source};
+use std::fmt::Write;
 use std::io::Eprint;
 use std::time::{Clock, Instant};
 
@@ -11,14 +13,25 @@ const FIRST: u128 = 1000;
 /// So many milliseconds stand between two lines.
 const BETWEEN: u128 = 500;
 
+/// A line has so many characters, one fewer than the narrowest terminal that it is for.
+const WIDTH: usize = 19;
+
 /// The bytes of a header, which are no record.
-const HEADER: u8 = 37;
+const HEADER: u32 = 37;
+
+/// The bytes of a record of prices that stand before its lists, the first one not counted.
+const PRICES_HEAD: u8 = 5;
 
 /// How many records of a certificate have passed by.
 #[derive(Clone, Copy)]
 pub(crate) struct RecordCount {
     /// So many bytes more belong to the header or to the record that began last.
-    rest: u8,
+    rest: u32,
+    /// So many bytes more stand before the lists of a record of prices.
+    head: u8,
+    /// How many lists that record has, as far as it is read, and how many sources each has.
+    lists: u8,
+    sources: u8,
     pub(crate) records: u64,
 }
 
@@ -26,22 +39,45 @@ impl RecordCount {
     pub(crate) fn new() -> RecordCount {
         RecordCount {
             rest: HEADER,
+            head: 0,
+            lists: 0,
+            sources: 0,
             records: 0,
         }
     }
 
+    // A byte of a record of prices that stands before its lists: code, colour, and the numbers of
+    // lists, sources and targets.
+    fn pass_head(&mut self, byte: u8) {
+        match self.head {
+            3 => self.lists = byte,
+            2 => self.sources = byte,
+            1 => {
+                let each = u32::from(self.sources).saturating_add(u32::from(byte));
+                self.rest = u32::from(self.lists).saturating_mul(each);
+            }
+            _ => {}
+        }
+        self.head = self.head.saturating_sub(1);
+    }
+
     // Counts a byte more.
     fn pass_byte(&mut self, byte: u8) {
+        if self.head > 0 {
+            self.pass_head(byte);
+            return;
+        }
         if self.rest > 0 {
             self.rest -= 1;
             return;
         }
         self.records = self.records.saturating_add(1);
-        self.rest = match byte {
-            2 => 1,
-            3 => 4,
-            _ => 0,
-        };
+        match byte {
+            2 => self.rest = 1,
+            3 => self.rest = 4,
+            6 => self.head = PRICES_HEAD,
+            _ => {}
+        }
     }
 
     /// Counts the records that begin in the next bytes of the certificate.
@@ -52,12 +88,49 @@ impl RecordCount {
     }
 }
 
+/// How many hundredths of the limit a count is, 100 at most.
+fn share(count: u64, limit: u64) -> u64
+    ensures { result ≤ 100 }
+{
+    if count >= limit {
+        return 100;
+    }
+    let hundredths = u128::from(count) * 100 / u128::from(limit);
+    hundredths.min(100) as u64
+}
+
+/// A number in thousands, millions and so on, so that it is below 100,000, and the letter that says in
+/// which; what is left over is dropped.
+fn scaled(number: u64) -> (u64, &'static str)
+    ensures { result.0 ≤ 99999 }
+{
+    match number {
+        0..=99_999 => (number, ""),
+        0..=99_999_999 => (number / 1_000, "k"),
+        0..=99_999_999_999 => (number / 1_000_000, "M"),
+        0..=99_999_999_999_999 => (number / 1_000_000_000, "G"),
+        0..=99_999_999_999_999_999 => (number / 1_000_000_000_000, "T"),
+        _ => (number / 1_000_000_000_000_000, "P"),
+    }
+}
+
+/// The line that says how far a run is: so many records of at most `limit`.
+pub(crate) fn line_of(count: u64, name: &str, limit: u64) -> ArrayString<WIDTH> {
+    let mut line = ArrayString::new();
+    let (number, unit) = scaled(count);
+    let share = share(count, limit);
+    let _ = write!(line, "{number}{unit} {name} {share}%");
+    line
+}
+
 /// Shows how many records have passed by.
 #[derive(Drop)]
 pub(crate) struct Watch<'a, R> {
     rt: &'a R,
     /// What a record is called.
     name: &'static str,
+    /// So many there may be at most.
+    limit: u64,
     count: RecordCount,
     /// None where nothing is to be shown.
     began: Option<Instant>,
@@ -67,11 +140,12 @@ pub(crate) struct Watch<'a, R> {
 }
 
 impl<'a, R: Clock + Eprint> Watch<'a, R> {
-    /// A watch that shows something where there is a screen.
-    pub(crate) fn new(rt: &'a R, name: &'static str, screen: bool) -> Watch<'a, R> {
+    /// A watch that shows something where there is a screen, of at most so many records.
+    pub(crate) fn new(rt: &'a R, name: &'static str, limit: u64, screen: bool) -> Watch<'a, R> {
         Watch {
             rt,
             name,
+            limit,
             count: RecordCount::new(),
             began: if screen { Instant::now(rt).ok() } else { None },
             due: FIRST,
@@ -86,7 +160,8 @@ impl<'a, R: Clock + Eprint> Watch<'a, R> {
         };
         let passed = passed.as_millis();
         if passed >= self.due {
-            let _ = eprint!(self.rt; "\r{} {}", self.count.records, self.name);
+            let line = line_of(self.count.records, self.name, self.limit);
+            let _ = eprint!(self.rt; "\r{:<19}", line.as_str());
             self.due = passed.saturating_add(BETWEEN);
             self.shown = true;
         }
@@ -103,7 +178,7 @@ impl<'a, R: Clock + Eprint> Watch<'a, R> {
     // Takes the line away. Nothing is shown from then on.
     fn end(&mut self) {
         if self.shown {
-            let _ = eprint!(self.rt; "\r                                        \r");
+            let _ = eprint!(self.rt; "\r{:<19}\r", "");
         }
         self.shown = false;
         self.began = None;

@@ -1,12 +1,14 @@
 //! Why a command ends without its answer, what the program says then, and its status.
-ghost use Rattle.std.specs.Prelude.{◌≡◌};
+ghost use Rattle.std.specs.Prelude.{◌≡◌, false, true};
 ghost use Rattle.pg_cli.specs.Refusals.{refusal_status};
 
+use crate::gathered::Gathered;
+use crate::names::FileName;
 use pg_report::{
-    CountRunFault, Fault, MovesFault, RunFault, SearchFault, ToWrite, count_status, moves_status,
-    search_status, status, write_movetext,
+    CountRunFault, Fault, MovesFault, Refused, RunFault, SearchFault, Sink, UpgradeFault,
+    count_status, moves_status, search_status, status, upgrade_status, write_movetext,
 };
-use std::alloc::{AllocError, Global};
+use std::fmt::Write;
 use std::io::Eprint;
 use std::str;
 use thiserror::Error;
@@ -24,15 +26,22 @@ const FILES: u8 = 4;
 /// Why a command ends without its answer.
 #[derive(Debug, PartialEq, Eq, Drop, Error)]
 pub(crate) enum Refusal<'a> {
-    /// A file cannot be opened or created. It has this name, as given.
+    /// A word of the command line is not UTF-8.
+    #[error("a word of the command line is not UTF-8")]
+    Words,
+    /// A file cannot be opened, created or put in its place, or must not be written. It has this name, as
+    /// given.
     #[error("cannot open {0}")]
-    Open(&'a str),
+    Open(FileName<'a>),
     /// The list of games is not UTF-8.
     #[error("games are not UTF-8")]
     NotUtf8,
     /// The list of games is longer than 16,777,216 bytes, or a read of it has failed.
     #[error("read fault")]
     Read,
+    /// A file is not wholly written, or the help is not.
+    #[error("write fault")]
+    Write,
     /// A growth was refused.
     #[error("out of memory")]
     Memory,
@@ -45,6 +54,9 @@ pub(crate) enum Refusal<'a> {
     /// The search has no certificate.
     #[error("{0}")]
     Search(SearchFault),
+    /// The certificate is not copied.
+    #[error("{0}")]
+    Upgrade(UpgradeFault),
     /// The check has no report.
     #[error("{0}")]
     Check(RunFault),
@@ -52,38 +64,88 @@ pub(crate) enum Refusal<'a> {
 
 impl Refusal<'_> {
     /// The status of the program then: 1 where a list or a certificate is refused or a search gave up,
-    /// 2 for bad texts, 3 for want of memory, 4 for a file that is not opened, created, read or written.
+    /// 2 for bad words and texts, 3 for want of memory, 4 for a file that is not opened, created, read or written.
     pub(crate) fn status(&self) -> u8
         ensures { result ≡ refusal_status self.now }
     {
         match self {
-            Refusal::Open(_) | Refusal::Read => FILES,
-            Refusal::NotUtf8 => BAD_INPUT,
+            Refusal::Open(_) | Refusal::Read | Refusal::Write => FILES,
+            Refusal::Words | Refusal::NotUtf8 => BAD_INPUT,
             Refusal::Memory => MEMORY,
             Refusal::Moves(fault) => moves_status(fault),
             Refusal::Count(fault) => count_status(fault),
             Refusal::Search(fault) => search_status(fault),
+            Refusal::Upgrade(fault) => upgrade_status(fault),
             Refusal::Check(fault) => status(fault),
         }
     }
 }
 
-/// What is said; with a game that is not listed, its movetext.
-pub(crate) fn text_of(alloc: Global, refusal: &Refusal<'_>) -> Result<String, AllocError> {
-    let mut out = ToWrite::new(Vec::new(alloc));
-    if let Refusal::Check(RunFault::Check(Fault::Unlisted(game))) = refusal {
-        let _ = write_movetext(game.as_slice(), &mut out);
+/// Writes what is said; with a game that is not listed, its movetext.
+///
+/// # Errors
+/// `Refused` where the sink refuses it.
+pub(crate) fn say<W: Sink>(refusal: &Refusal<'_>, out: &mut Gathered<W>) -> Result<(), Refused> {
+    if write!(out, "{refusal}").is_err() {
+        return Err(Refused);
     }
-    let bytes = out.into_inner();
-    let movetext = str::from_utf8(bytes.as_slice()).unwrap_or("");
-    format!(in alloc; "{refusal}{movetext}")
+    let Refusal::Check(RunFault::Check(Fault::Unlisted(game))) = refusal else {
+        return Ok(());
+    };
+    match write_movetext(game.as_slice(), out) {
+        Ok(()) => Ok(()),
+        Err(_) => Err(Refused),
+    }
+}
+
+/// Standard error as a sink of texts.
+#[derive(Drop)]
+struct Errors<'a, R> {
+    rt: &'a R,
+    failed: bool,
+}
+
+impl<R: Eprint> Sink for Errors<'_, R> {
+    ghost use Rattle.std.specs.Prelude.{None};
+
+    ghost held = { λ s. None };
+
+    ghost has_failed = { λ s. s.failed };
+
+    fn push(&mut self, bytes: &[u8]) -> Result<(), Refused> {
+        if self.failed {
+            return Err(Refused);
+        }
+        match str::from_utf8(bytes) {
+            Ok(text) if eprint!(self.rt; "{text}").is_ok() => Ok(()),
+            _ => {
+                self.failed = true;
+                Err(Refused)
+            }
+        }
+    }
+
+    fn failed(&self) -> bool {
+        self.failed
+    }
+}
+
+// Says on standard error why there is no answer. It takes no memory.
+fn print_refusal<R: Eprint>(rt: &R, refusal: &Refusal<'_>) -> Result<(), Refused> {
+    let mut out = Gathered::new(Errors { rt, failed: false });
+    out.push(b"pg: ")?;
+    say(refusal, &mut out)?;
+    out.push(b"\n")?;
+    match out.finish() {
+        Ok(_) => Ok(()),
+        Err(Refused) => Err(Refused),
+    }
 }
 
 /// Says on standard error why there is no answer, and gives the status.
-pub(crate) fn refuse<R: Eprint + AllocGlobal>(rt: &R, refusal: &Refusal<'_>) -> u8 {
-    let _ = match text_of(rt.alloc(), refusal) {
-        Ok(text) => eprintln!(rt; "pg: {text}"),
-        Err(_) => eprintln!(rt; "pg: {refusal}"),
-    };
+pub(crate) fn refuse<R: Eprint>(rt: &R, refusal: &Refusal<'_>) -> u8
+    ensures { result ≡ refusal_status refusal.now }
+{
+    let _ = print_refusal(rt, refusal);
     refusal.status()
 }

@@ -1,15 +1,18 @@
 //! `pg search`: a certificate is searched for and written, and then checked.
 
-use crate::checking::{NAMED, RECORDS};
+ghost use Rattle.std.specs.Prelude.{◌≤◌, List, IfOk};
+ghost use Rattle.pg_position.specs.declared.moves.Move.{Move};
+ghost use Rattle.pg_cli.specs.Answers.{IsAnswered};
+
+use crate::checking::{NAMED, RECORDS, finished};
+use crate::gathered::Gathered;
 use crate::progress::{Watch, Watched};
 use crate::refusals::Refusal;
+use crate::writing::begin;
 use clap::ArgMatches;
-use pg_report::{
-    Bound, FromRead, Games, Problem, ToWrite, run_listed, search as search_for, verdict_status,
-};
-use std::fs::File;
+use pg_report::{Bound, FromRead, Games, Problem, ToWrite, run_listed, search as search_for};
 use std::io;
-use std::io::{Read, Write};
+use std::io::{Read, Seek, SeekFrom, Write};
 use std::rt::Runtime;
 
 /// So many nodes are visited at most, where the words do not say it.
@@ -23,7 +26,10 @@ pub(crate) fn search_to<'a, R: Runtime + AllocGlobal, W: Write + Drop>(
     nodes: u64,
     screen: bool,
 ) -> Result<Games, Refusal<'a>> {
-    let mut sink = Watched::new(ToWrite::new(certificate), Watch::new(rt, "nodes", screen));
+    let mut sink = Watched::new(
+        ToWrite::new(certificate),
+        Watch::new(rt, "nodes", nodes, screen),
+    );
     let found = search_for(
         rt.alloc(),
         &problem.diagram,
@@ -38,8 +44,20 @@ pub(crate) fn search_to<'a, R: Runtime + AllocGlobal, W: Write + Drop>(
     }
 }
 
+/// So many records the check of a certificate takes at most, where the search visited so many nodes at
+/// most: no fewer than it wrote, which is at most one for each node.
+fn records_for(nodes: u64) -> u64
+    ensures usual { 100000000 ≤ result }
+    ensures all { nodes ≤ result }
+{
+    nodes.max(RECORDS)
+}
+
 /// Checks the certificate that a reader gives with the games that were found, and writes the report;
-/// the status of its verdict.
+/// the status of its verdict. A status means that these games are the exact answer, and 0 that it is one.
+///
+/// # Errors
+/// `Check` with the fault of the check.
 pub(crate) fn check_found<'a, R: Runtime + AllocGlobal, C: Read + Drop, W: Write + Drop>(
     rt: &R,
     problem: &Problem,
@@ -47,13 +65,16 @@ pub(crate) fn check_found<'a, R: Runtime + AllocGlobal, C: Read + Drop, W: Write
     bounds: &[Box<dyn Bound>],
     certificate: C,
     out: W,
+    records: u64,
     screen: bool,
-) -> Result<u8, Refusal<'a>> {
+) -> Result<u8, Refusal<'a>>
+    ensures headline { IfOk result (λ status. IsAnswered problem.now.diagram problem.now.length games.now status) }
+{
     let mut source = Watched::new(
         FromRead::new(certificate),
-        Watch::new(rt, "records", screen),
+        Watch::new(rt, "records", records, screen),
     );
-    let mut out = ToWrite::new(out);
+    let mut out = Gathered::new(ToWrite::new(out));
     let answer = run_listed(
         rt.alloc(),
         &problem.diagram,
@@ -62,18 +83,40 @@ pub(crate) fn check_found<'a, R: Runtime + AllocGlobal, C: Read + Drop, W: Write
         bounds,
         &mut source,
         &mut out,
-        RECORDS,
+        records,
         NAMED,
     );
     source.end();
-    match answer {
-        Ok(verdict) => Ok(verdict_status(verdict)),
-        Err(fault) => Err(Refusal::Check(fault)),
-    }
+    finished(answer, out)
 }
 
-/// `pg search`: the certificate is written to a file and checked from it, and the report stands on
-/// standard output.
+/// Searches, writes the certificate to a new file, reads it again from there and checks it, and writes
+/// the report; the status of its verdict.
+pub(crate) fn search_in<'a, R, F, W>(
+    rt: &R,
+    problem: &Problem,
+    bounds: &[Box<dyn Bound>],
+    file: &mut F,
+    out: W,
+    nodes: u64,
+    screen: bool,
+) -> Result<u8, Refusal<'a>>
+where
+    R: Runtime + AllocGlobal,
+    F: Read + Write + Seek,
+    W: Write + Drop,
+    ensures headline { IfOk result (λ status. (games : List (List Move)) × IsAnswered problem.now.diagram problem.now.length games status) }
+{
+    let games = search_to(rt, problem, &mut *file, nodes, screen)?;
+    if file.seek(SeekFrom::Start(0)).is_err() {
+        return Err(Refusal::Read);
+    }
+    let records = records_for(nodes);
+    check_found(rt, problem, &games, bounds, file, out, records, screen)
+}
+
+/// `pg search`: the certificate is written beside its place, checked from there and put in its place
+/// once the report stands on standard output. Else it is taken away, and what stood there is as it was.
 pub(crate) fn search<'a, R: Runtime + AllocGlobal>(
     rt: &R,
     words: &ArgMatches<'a>,
@@ -87,13 +130,17 @@ pub(crate) fn search<'a, R: Runtime + AllocGlobal>(
         Ok(problem) => problem,
         Err(fault) => return Err(Refusal::Check(fault)),
     };
-    let Ok(file) = File::create(rt, path) else {
-        return Err(Refusal::Open(path));
-    };
     let nodes = words.get_one::<u64>("nodes").unwrap_or(NODES);
-    let games = search_to(rt, &problem, file, nodes, screen)?;
-    let Ok(file) = File::open(rt, path) else {
-        return Err(Refusal::Open(path));
-    };
-    check_found(rt, &problem, &games, bounds, file, io::writer(rt), screen)
+    let mut draft = begin(rt, path)?;
+    let out = io::writer(rt);
+    match search_in(rt, &problem, bounds, &mut draft.file, out, nodes, screen) {
+        Ok(status) => {
+            draft.put(rt)?;
+            Ok(status)
+        }
+        Err(refusal) => {
+            draft.discard(rt);
+            Err(refusal)
+        }
+    }
 }

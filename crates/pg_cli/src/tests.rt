@@ -1,12 +1,17 @@
 mod checks;
+mod drafts;
+mod gathering;
+mod hostile;
 mod inputs;
 mod lines;
 mod searches;
+mod upgrades;
 mod words;
 
 use super::*;
-use crate::refusals::text_of;
-use pg_report::Diagram;
+use crate::gathered::Gathered;
+use crate::refusals::say;
+use pg_report::{Diagram, ToWrite};
 use std::alloc::{AllocError, Global};
 use std::process::Abort;
 use std::test::Fail;
@@ -46,6 +51,32 @@ fn repeated(alloc: Global, byte: u8, times: usize) -> Result<Vec<u8>, AllocError
     Ok(bytes)
 }
 
+/// What is said of a refusal.
+fn text_of<R: Abort + AllocGlobal>(rt: &R, refusal: &Refusal<'_>) -> Result<String, Fail> {
+    let mut out = Gathered::new(ToWrite::new(Vec::new(rt.alloc())));
+    assert_eq!(rt; say(refusal, &mut out), Ok(()));
+    let Ok(sink) = out.finish() else {
+        panic!(rt; "a text");
+    };
+    Ok(String::from_utf8(sink.into_inner())?)
+}
+
+/// No stream is a terminal.
+const NOWHERE: Screen = Screen {
+    input: false,
+    errors: false,
+};
+
+/// The status of the program where it is called with these words.
+fn status_of<R: Runtime + AllocGlobal>(rt: &R, words: &[&str]) -> Result<u8, AllocError> {
+    let mut line = Vec::new(rt.alloc());
+    line.push(String::from_str(rt.alloc(), "pg")?)?;
+    for word in words {
+        line.push(String::from_str(rt.alloc(), word)?)?;
+    }
+    Ok(obey(rt, line.as_slice(), NOWHERE))
+}
+
 /// The status of an answer, and what is said where there is none.
 fn check_said<R: Abort + AllocGlobal>(
     rt: &R,
@@ -59,7 +90,7 @@ fn check_said<R: Abort + AllocGlobal>(
             assert_eq!(rt; wanted, "");
         }
         Err(refusal) => {
-            assert_eq!(rt; text_of(rt.alloc(), &refusal)?.as_str(), wanted);
+            assert_eq!(rt; text_of(rt, &refusal)?.as_str(), wanted);
             assert_eq!(rt; refusal.status(), code, "{wanted}");
         }
     }

@@ -6,7 +6,8 @@ use Rattle.pg_board.specs.Placement.{get}
 use Rattle.pg_position.specs.declared.state.State.{State}
 use Rattle.pg_position.specs.declared.moves.Move.{Move}
 use Rattle.pg_position.specs.SquareSets.{HasNoneFrom, IsFirstFrom}
-use Rattle.pg_moves.specs.Left.{MovesLeft, IsSource, IsFound}
+use Rattle.pg_moves.specs.Left.{MovesLeft, IsSource, IsFound, IsAhead}
+use Rattle.pg_moves.specs.declared.left.Ahead.{Ahead}
 use Rattle.pg_moves.specs.Moves.{promotion_rank, IsNext, IsLast}
 use Rattle.pg_moves.specs.Places.{place, place_of, NoneFrom, IsFirstMove}
 use Rattle.pg_moves.specs.declared.left.Source.{Source}
@@ -53,13 +54,11 @@ module _ (p : State) (last : Move) (from : last.from < 64) (to : last.to < 64) (
   next_over none rest = next_none p (Some last) (from, to) (none_then p (place last + 1) next next 28672 (none_then p (place last + 1) (place last + 1) low next (none_yet p _ _ (omega arith)) (subst (λ n. NoneFrom p low n) (sym beyond) none) (omega arith)) rest (omega arith))
 
 -- ---- the answer, by what is seen of the moves
-stepped_here : (p : State) (l last : Option Move) (r : Option (Move × MovesLeft)) → l ≡ last
-    → MatchOption r (IsLast p last) (λ x. IsNext p last x.0 × (x.1.position ≡ p) × (x.1.last ≡ Some x.0))
-    → MatchOption r (IsLast p l) (λ x. IsNext p l x.0 × (x.1 ≡ record { position = p; last = Some x.0 }))
-stepped_here p l last None e h = subst (λ (x : Option Move). IsLast p x) (sym e) h
-stepped_here p l last (Some x) e h = (subst (λ (y : Option Move). IsNext p y x.0) (sym e) h.0, λ i. record { position = h.1 i; last = h.2 i })
+ahead_here : (p : State) (l last : Option Move) (r : Option Ahead) → l ≡ last
+    → MatchOption r (IsLast p last) (λ a. IsNext p last a.m × IsAhead p a) → MatchOption r (IsLast p l) (λ a. IsNext p l a.m × IsAhead p a)
+ahead_here p l last r e h = subst (λ (x : Option Move). MatchOption r (IsLast p x) (λ a. IsNext p x a.m × IsAhead p a)) (sym e) h
 
-pub stepped : (q : MovesLeft) (p : State) (l last : Option Move) (r : Option (Move × MovesLeft)) → record { position = p; last = l } ≡ q → l ≡ last
-    → MatchOption r (IsLast p last) (λ x. IsNext p last x.0 × (x.1.position ≡ p) × (x.1.last ≡ Some x.0))
-    → MatchOption r (IsLast q.position q.last) (λ x. IsNext q.position q.last x.0 × (x.1 ≡ record { position = q.position; last = Some x.0 }))
-stepped q p l last r is e h = subst (λ (v : MovesLeft). MatchOption r (IsLast v.position v.last) (λ x. IsNext v.position v.last x.0 × (x.1 ≡ record { position = v.position; last = Some x.0 }))) is (stepped_here p l last r e h)
+pub ahead_of : (q : MovesLeft) (p : State) (l last : Option Move) (r : Option Ahead) → record { position = p; last = l } ≡ q → l ≡ last
+    → MatchOption r (IsLast p last) (λ a. IsNext p last a.m × IsAhead p a)
+    → MatchOption r (IsLast q.position q.last) (λ a. IsNext q.position q.last a.m × IsAhead q.position a)
+ahead_of q p l last r is e h = subst (λ (v : MovesLeft). MatchOption r (IsLast v.position v.last) (λ a. IsNext v.position v.last a.m × IsAhead v.position a)) is (ahead_here p l last r e h)

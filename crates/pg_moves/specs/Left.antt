@@ -9,6 +9,7 @@ use Rattle.pg_position.specs.SquareSets.{IsSetOf}
 use Rattle.pg_position.specs.Position.{Stands}
 use Rattle.pg_moves.specs.Places.{IsFirstMove}
 use Rattle.pg_moves.specs.Targets.{Advances, Covers, FreeOff, IsFree, IsOrdinary}
+use Rattle.pg_moves.specs.declared.left.Ahead.{Ahead}
 use Rattle.pg_moves.specs.declared.left.Source.{Source}
 
 -- a position, and the move that was handed out last
@@ -32,3 +33,7 @@ pub record IsFound (p : State) (low : ℕ) (m : Move) (s : Source) : Type 0 wher
 unfoldable pub IsReady : State → Option Move → ℕ → Source → Type 0
 IsReady p None tried s = Unit {0}
 IsReady p (Some m) tried s = FreeOff p tried × IsSource p m.from s
+
+-- what was found for a move ahead holds past it
+unfoldable pub IsAhead : State → Ahead → Type 0
+IsAhead p a = FreeOff p a.tried × IsSource p a.m.from a.source

@@ -1,7 +1,7 @@
 //! The legal moves of a position, one after the other.
 ghost use Rattle.std.specs.Prelude.{◌≡◌, ◌<◌, ◌≤◌, ◌+◌, None, Some, MatchOption, IfSome, IfNone};
 ghost use Rattle.pg_position.specs.Position.{Stands};
-ghost use Rattle.pg_moves.specs.Left.{IsSource, IsFound};
+ghost use Rattle.pg_moves.specs.Left.{IsAhead, IsSource, IsFound};
 ghost use Rattle.pg_moves.specs.Moves.{IsNext, IsLast};
 ghost use Rattle.pg_moves.specs.Places.{place_of, NoneFrom, IsFirstMove, IsNextWithin};
 ghost use Rattle.pg_moves.specs.Targets.{IsOwn, FreeOff};
@@ -20,6 +20,14 @@ pub(crate) struct Source {
     pub(crate) kind: Kind,
     pub(crate) set: u64,
     pub(crate) free: bool,
+}
+
+/// The next legal move of a position, with what was found for it.
+#[derive(Clone, Copy)]
+pub struct Ahead {
+    pub m: Move,
+    tried: u64,
+    source: Source,
 }
 
 /// The legal moves of a position past the last one that was handed out. What was found for that one
@@ -154,67 +162,57 @@ impl LegalMoves {
         self.last
     }
 
-    // The moves past one of a man.
-    #[tactic(auto, unfolding(crate::specs::Left::IsReady))]
-    fn past(position: &Position, tried: u64, m: &Move, source: Source) -> LegalMoves
-        requires free { FreeOff position.now tried }
-        requires source { IsSource position.now m.now.from source }
-        ensures position { result.position ≡ position.now }
-        ensures last { result.last ≡ Some m.now }
-    {
-        LegalMoves {
-            position: *position,
-            last: Some(*m),
-            tried,
-            source,
-        }
-    }
-
     // The first legal move.
-    fn first(position: &Position) -> Option<(Move, LegalMoves)>
-        ensures { MatchOption result (IsLast position.now None) (λ r. IsNext position.now None r.0 × (r.1.position ≡ position.now) × (r.1.last ≡ Some r.0)) }
+    fn first(position: &Position) -> Option<Ahead>
+        ensures { MatchOption result (IsLast position.now None) (λ a. IsNext position.now None a.m × IsAhead position.now a) }
     {
         let tried = tried(position);
         match first_beyond(position, tried, 0) {
-            Some((m, source)) => Some((m, LegalMoves::past(position, tried, &m, source))),
+            Some((m, source)) => Some(Ahead { m, tried, source }),
             None => None,
         }
     }
 
     // The legal move after the last one.
-    fn following(
-        position: &Position,
-        tried: u64,
-        source: Source,
-        last: &Move,
-    ) -> Option<(Move, LegalMoves)>
+    fn following(position: &Position, tried: u64, source: Source, last: &Move) -> Option<Ahead>
         requires free { FreeOff position.now tried }
         requires source { IsSource position.now last.now.from source }
-        ensures { MatchOption result (IsLast position.now (Some last.now)) (λ r. IsNext position.now (Some last.now) r.0 × (r.1.position ≡ position.now) × (r.1.last ≡ Some r.0)) }
+        ensures { MatchOption result (IsLast position.now (Some last.now)) (λ a. IsNext position.now (Some last.now) a.m × IsAhead position.now a) }
     {
         let from = last.from.index();
         let to = last.to.index();
         let rank = rank_of(last.promotion) + 1;
         match first_of_source(position, last.from, &source, to, rank) {
-            Some(m) => Some((m, LegalMoves::past(position, tried, &m, source))),
+            Some(m) => Some(Ahead { m, tried, source }),
             None => match first_beyond(position, tried, from + 1) {
-                Some((m, source)) => Some((m, LegalMoves::past(position, tried, &m, source))),
+                Some((m, source)) => Some(Ahead { m, tried, source }),
                 None => None,
             },
         }
     }
 
-    /// The next legal move, and those past it.
+    /// The next legal move. It stays the next one.
     #[tactic(auto, unfolding(crate::specs::Left::IsReady))]
-    pub fn step(&self) -> Option<(Move, LegalMoves)>
+    pub fn ahead(&self) -> Option<Ahead>
         ensures { MatchOption result
             (IsLast self.now.position self.now.last)
-            (λ r. IsNext self.now.position self.now.last r.0 × (r.1 ≡ record self.now { last = Some r.0 })) }
+            (λ a. IsNext self.now.position self.now.last a.m × IsAhead self.now.position a) }
     {
         match self.last {
             None => LegalMoves::first(&self.position),
             Some(last) => LegalMoves::following(&self.position, self.tried, self.source, &last),
         }
+    }
+
+    /// Hands out a move that was found ahead.
+    #[tactic(auto, unfolding(crate::specs::Left::IsReady, crate::specs::Left::IsAhead))]
+    pub fn pass(&mut self, ahead: &Ahead)
+        requires { IsAhead self.old.position ahead.now }
+        ensures { self.new ≡ record self.old { last = Some ahead.now.m } }
+    {
+        self.last = Some(ahead.m);
+        self.tried = ahead.tried;
+        self.source = ahead.source;
     }
 
     /// The next legal move.
@@ -225,10 +223,10 @@ impl LegalMoves {
         ensures some { IfSome result (λ m. self.new ≡ record self.old { last = Some m }) }
         ensures none { IfNone result (self.new ≡ self.old) }
     {
-        match self.step() {
-            Some((m, moves)) => {
-                *self = moves;
-                Some(m)
+        match self.ahead() {
+            Some(ahead) => {
+                self.pass(&ahead);
+                Some(ahead.m)
             }
             None => None,
         }

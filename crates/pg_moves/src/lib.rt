@@ -18,7 +18,7 @@ pub use counting::count;
 pub use fault::CountFault;
 pub use generate::{legal_moves, next_legal};
 pub use laws::{moves_and_play_are_functions, next_in_list, one_game_count, one_move_list};
-pub use left::LegalMoves;
+pub use left::{Ahead, LegalMoves};
 
 #[cfg(test)]
 mod tests;

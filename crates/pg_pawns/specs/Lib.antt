@@ -4,3 +4,4 @@ pub mod Decided
 pub mod PawnPrices
 pub mod PawnPricesLaw
 pub mod PriceTests
+pub mod PricesDecided

@@ -108,6 +108,14 @@ impl Position {
         }
     }
 
+    /// The position of a state that meets the five clauses.
+    pub(crate) fn of_state(state: State) -> Position
+        requires { IsPosition state }
+        ensures { result ≡ state }
+    {
+        Position { state }
+    }
+
     /// The board.
     pub fn board(&self) -> Board
         ensures value { result ≡ self.now.board }

@@ -4,29 +4,81 @@
 use crate::needs::holds;
 use crate::rows::Wing;
 use pg_board::{Board, Color, Kind, Man, Square};
-use pg_position::Rights;
+use pg_position::{Position, Rights};
 
-fn mixed(sum: u64, part: u64) -> u64 {
-    (sum ^ part)
-        .wrapping_mul(0x9e37_79b9_7f4a_7c15)
-        .rotate_left(29)
+/// The squares of the a-file and of the h-file.
+const A_FILE: u64 = 0x0101_0101_0101_0101;
+
+const H_FILE: u64 = 0x8080_8080_8080_8080;
+
+/// Spreads a number over 64 bits (the finalizer of the generator SplitMix64).
+fn spread(number: u64) -> u64 {
+    let sum = number.wrapping_mul(0x9e37_79b9_7f4a_7c15);
+    let sum = (sum ^ (sum >> 30)).wrapping_mul(0xbf58_476d_1ce4_e5b9);
+    let sum = (sum ^ (sum >> 27)).wrapping_mul(0x94d0_49bb_1331_11eb);
+    sum ^ (sum >> 31)
 }
 
-/// Never 0, which stands for no key.
-fn settled(sum: u64) -> u64 {
-    let sum = (sum ^ (sum >> 32)).wrapping_mul(0xd6e8_feb8_6659_fd93);
-    (sum ^ (sum >> 29)).max(1)
+fn color_number(color: Color) -> u64 {
+    match color {
+        Color::White => 1,
+        Color::Black => 2,
+    }
 }
 
-/// The key of the men and the rights of a colour.
-pub fn color_key(board: &Board, rights: Rights, color: Color) -> u64 {
-    let start = match color {
-        Color::White => 0x1319_8a2e_0370_7344,
-        Color::Black => 0xa409_3822_299f_31d0,
+fn kind_number(kind: Kind) -> u64 {
+    match kind {
+        Kind::Pawn => 1,
+        Kind::Knight => 2,
+        Kind::Bishop => 3,
+        Kind::Rook => 4,
+        Kind::Queen => 5,
+        Kind::King => 6,
+    }
+}
+
+/// The key of a man on a square, by the square's index.
+pub fn man_key(man: Man, square: u8) -> u64 {
+    spread(u64::from(square) | kind_number(man.kind) << 6 | color_number(man.color) << 9)
+}
+
+/// The key of a right to castle, where it is held.
+pub fn right_key(color: Color, wing: Wing) -> u64 {
+    let wing = match wing {
+        Wing::Short => 1,
+        Wing::Long => 2,
     };
-    let short = u64::from(holds(rights, color, Wing::Short));
-    let long = u64::from(holds(rights, color, Wing::Long));
-    let mut sum = mixed(start, short | (long << 1));
+    spread(wing << 12 | color_number(color) << 9)
+}
+
+/// The keys of the men on a set of squares, put together.
+fn men_key(man: Man, set: u64) -> u64 {
+    let mut set = set;
+    let mut sum = 0u64;
+    for _ in 0..64u8 {
+        if set == 0 {
+            return sum;
+        }
+        sum ^= man_key(man, (set.trailing_zeros() % 64) as u8);
+        set &= set.wrapping_sub(1);
+    }
+    sum
+}
+
+/// The key of the men and the rights of a colour: the keys of them all by exclusive or, so that a move
+/// changes it by the keys of what it changes.
+pub fn color_key(board: &Board, rights: Rights, color: Color) -> u64 {
+    let mut sum = spread(color_number(color));
+    for wing in [Wing::Short, Wing::Long] {
+        if holds(rights, color, wing) {
+            sum ^= right_key(color, wing);
+        }
+    }
+    sum ^ pieces_key(board, color)
+}
+
+fn pieces_key(board: &Board, color: Color) -> u64 {
+    let mut sum = 0u64;
     for kind in [
         Kind::Pawn,
         Kind::Knight,
@@ -35,22 +87,51 @@ pub fn color_key(board: &Board, rights: Rights, color: Color) -> u64 {
         Kind::Queen,
         Kind::King,
     ] {
-        sum = mixed(sum, board.squares_of(Man { color, kind }));
+        let man = Man { color, kind };
+        sum ^= men_key(man, board.squares_of(man));
     }
-    settled(sum)
+    sum
+}
+
+/// The key of a colour's pawns.
+pub fn pawn_key(board: &Board, color: Color) -> u64 {
+    let man = Man {
+        color,
+        kind: Kind::Pawn,
+    };
+    spread(board.squares_of(man) ^ color_number(color))
+}
+
+/// The squares from which a colour's pawn attacks one of a set.
+fn pawns_before(set: u64, color: Color) -> u64 {
+    match color {
+        Color::White => (set & !A_FILE) >> 9 | (set & !H_FILE) >> 7,
+        Color::Black => (set & !A_FILE) << 7 | (set & !H_FILE) << 9,
+    }
+}
+
+/// The passed square where a pawn of the side to move attacks it, as a set; otherwise no square.
+pub fn effective_passed(position: &Position) -> u64 {
+    let Some(square) = position.passed() else {
+        return 0;
+    };
+    let color = position.side();
+    let set = 1u64 << (square.index() % 64);
+    let man = Man {
+        color,
+        kind: Kind::Pawn,
+    };
+    if position.board().squares_of(man) & pawns_before(set, color) == 0 {
+        0
+    } else {
+        set
+    }
 }
 
 /// The key of a node: of both colours' men and rights by their keys, the side to move, the passed
-/// square where it matters, and the plies left.
-pub fn node_key(white: u64, black: u64, side: Color, passed: Option<Square>, plies: u8) -> u64 {
-    let side = match side {
-        Color::White => 0,
-        Color::Black => 1,
-    };
-    let passed = match passed {
-        Some(square) => u64::from(square.index()) << 1,
-        None => 256,
-    };
-    let state = side | passed | (u64::from(plies) << 16);
-    settled(mixed(mixed(white, black.rotate_left(32)), state))
+/// square where it matters, as a set, and the plies left. Never 0.
+pub fn node_key(white: u64, black: u64, side: Color, passed: u64, plies: u8) -> u64 {
+    let state = color_number(side) << 8 | u64::from(plies);
+    let sum = spread(white ^ black.rotate_left(32)) ^ spread(state) ^ spread(passed);
+    sum.max(1)
 }

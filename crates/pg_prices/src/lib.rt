@@ -6,17 +6,19 @@
 mod assignment;
 mod closed;
 mod keys;
+mod lists;
 mod memory;
 mod needs;
 mod rows;
 
 pub use assignment::{Assignment, Costs, MOST, assign};
 pub use closed::Closed;
-pub use keys::{color_key, node_key};
+pub use keys::{color_key, effective_passed, man_key, node_key, pawn_key, right_key};
+pub use lists::{Lists, prices_of};
 pub use memory::Memory;
 pub use needs::{
     NEVER, Needs, PAWN_DUMMY, TRAVEL_DUMMY, UNKNOWN, first_needs, holds, is_short, need,
-    pawn_prices, travel_value,
+    pawn_lists, travel_lists,
 };
 pub use rows::{NO_WAY, Rows, Wing};
 

@@ -25,13 +25,15 @@ const FREE: Slot = Slot {
 };
 
 /// The needs by key of men and rights, in open addressing: the slots are a power of two, at most half
-/// of them are taken, and a key stands behind its place with no free slot between. Above a number of
-/// entries all are forgotten.
+/// of them are taken, and a key stands behind its place with no free slot between. Beside them stand
+/// the bytes of price lists; `lists` of the needs is the place behind the first of their bytes, or 0.
+/// Above a number of entries all are forgotten.
 #[derive(Drop)]
 pub struct Memory {
     slots: Vec<Slot>,
     used: usize,
     most: usize,
+    lists: Vec<u8>,
 }
 
 /// The slot of a key, or a free one to put it.
@@ -76,6 +78,7 @@ impl Memory {
             slots: Vec::new(alloc),
             used: 0,
             most,
+            lists: Vec::new(alloc),
         }
     }
 
@@ -119,13 +122,49 @@ impl Memory {
         Ok(())
     }
 
+    /// The bytes of the price lists that were kept with these needs, and of others behind them. None
+    /// where none were kept.
+    pub fn lists(&self, needs: &Needs) -> Option<&[u8]> {
+        if needs.lists == 0 {
+            return None;
+        }
+        self.lists.get(needs.lists as usize - 1..)
+    }
+
+    /// Remembers needs under a key, which is not 0, with the bytes of their price lists. All is forgotten
+    /// first where there are 32 bytes of lists for each entry that there may be.
+    pub fn keep(&mut self, key: u64, needs: Needs, lists: &[u8]) -> Result<(), AllocError> {
+        if self.lists.len() / 32 >= self.most {
+            self.forget();
+        }
+        let mut needs = needs;
+        needs.lists = 0;
+        match self.set(key, needs) {
+            Ok(()) => {}
+            Err(fault) => return Err(fault),
+        }
+        let place = self.lists.len().min(u32::MAX as usize - 1);
+        match self.lists.extend_from_slice(lists) {
+            Ok(()) => {}
+            Err(fault) => return Err(fault),
+        }
+        needs.lists = place as u32 + 1;
+        self.set(key, needs)
+    }
+
+    /// Forgets all.
+    fn forget(&mut self) {
+        for slot in self.slots.iter_mut() {
+            *slot = FREE;
+        }
+        self.used = 0;
+        self.lists.clear();
+    }
+
     /// Doubles the slots, or forgets all where there are as many entries as there may be.
     fn make_room(&mut self) -> Result<(), AllocError> {
         if self.used >= self.most {
-            for slot in self.slots.iter_mut() {
-                *slot = FREE;
-            }
-            self.used = 0;
+            self.forget();
             return Ok(());
         }
         let count = self.slots.len().saturating_mul(2).max(FIRST);

@@ -1,6 +1,8 @@
 use super::*;
 use pg_board::Color;
+use pg_fen::read_position;
 use pg_position::Position;
+use std::process::Abort;
 
 /// The key with this number: all differ, and none is 0.
 fn key(number: u32) -> u64 {
@@ -72,10 +74,98 @@ fn keys_differ(rt: HostRuntime) {
     fewer.white_queen = false;
     assert!(rt; white != black && color_key(&board, fewer, Color::White) != white);
     assert_eq!(rt; color_key(&board, fewer, Color::Black), black);
-    let node = node_key(white, black, Color::White, None, 3);
-    assert!(rt; node != node_key(black, white, Color::White, None, 3));
-    assert!(rt; node != node_key(white, black, Color::Black, None, 3));
-    assert!(rt; node != node_key(white, black, Color::White, None, 4));
-    let passed = pg_board::Square::from_index(40);
-    assert!(rt; node != node_key(white, black, Color::White, passed, 3));
+    let node = node_key(white, black, Color::White, 0, 3);
+    assert!(rt; node != node_key(black, white, Color::White, 0, 3));
+    assert!(rt; node != node_key(white, black, Color::Black, 0, 3));
+    assert!(rt; node != node_key(white, black, Color::White, 0, 4));
+    assert!(rt; node != node_key(white, black, Color::White, 1 << 40, 3));
+}
+
+/// A position read from a text.
+fn position(rt: &impl Abort, text: &str) -> Position {
+    read_position(text).expect(rt, text).position
+}
+
+/// Positions after an advance of two squares or none, and the passed square that counts, as a set.
+const PASSED: [(&str, u64); 9] = [
+    (
+        "rnbqkbnr/ppppp1pp/8/5pP1/8/8/PPPPPP1P/RNBQKBNR w KQkq f6 0 3",
+        1 << 45,
+    ),
+    (
+        "rnbqkbnr/ppppp1pp/8/4Pp2/8/8/PPPP1PPP/RNBQKBNR w KQkq f6 0 3",
+        1 << 45,
+    ),
+    (
+        "rnbqkbnr/ppppp1pp/8/5p2/8/6P1/PPPPPP1P/RNBQKBNR w KQkq f6 0 3",
+        0,
+    ),
+    (
+        "rnbqkbnr/1ppppppp/8/p6P/8/8/PPPPPPP1/RNBQKBNR w KQkq a6 0 3",
+        0,
+    ),
+    (
+        "rnbqkbnr/ppppppp1/8/P6p/8/8/1PPPPPPP/RNBQKBNR w KQkq h6 0 3",
+        0,
+    ),
+    (
+        "rnbqkbnr/p1pppppp/8/8/Pp6/8/1PPPPPPP/RNBQKBNR b KQkq a3 0 3",
+        1 << 16,
+    ),
+    (
+        "rnbqkbnr/pppppp1p/8/8/6pP/8/PPPPPPP1/RNBQKBNR b KQkq h3 0 3",
+        1 << 23,
+    ),
+    (
+        "rnbqkbnr/1ppppppp/8/8/p6P/8/PPPPPPP1/RNBQKBNR b KQkq h3 0 3",
+        0,
+    ),
+    (
+        "rnbqkbnr/pppppppp/8/8/8/8/PPPPPPPP/RNBQKBNR w KQkq - 0 1",
+        0,
+    ),
+];
+
+/// A passed square counts where a pawn of the side to move attacks it, be it at the edge of the board.
+#[test]
+fn passed_squares_that_count(rt: HostRuntime) {
+    for (text, wanted) in PASSED {
+        let position = position(&rt, text);
+        assert_eq!(rt; effective_passed(&position), wanted, "{text}");
+    }
+}
+
+/// Lists stay with the needs that they were kept with, until all are forgotten.
+#[test]
+fn lists_are_kept(rt: HostRuntime) {
+    let mut memory = Memory::new(rt.alloc(), 2000);
+    memory.set(key(0), needs(0)).expect(&rt, "memory");
+    assert!(rt; memory.lists(&needs(0)).is_none());
+    for number in 1..100u8 {
+        let bytes = [1, number, 7];
+        let key = key(u32::from(number));
+        memory.keep(key, needs(0), &bytes).expect(&rt, "memory");
+    }
+    for number in 1..100u8 {
+        let known = memory.get(key(u32::from(number))).expect(&rt, "kept");
+        let lists = memory.lists(&known).expect(&rt, "lists");
+        assert!(rt; lists.starts_with(&[1, number, 7]));
+    }
+}
+
+/// With room for 100 entries all are forgotten at the first list behind 3,200 bytes.
+#[test]
+fn a_memory_full_of_lists_forgets_all(rt: HostRuntime) {
+    let mut memory = Memory::new(rt.alloc(), 100);
+    let bytes = [7; 99];
+    for number in 0..33u32 {
+        memory
+            .keep(key(number), needs(0), &bytes)
+            .expect(&rt, "memory");
+    }
+    assert_eq!(rt; memory.len(), 33);
+    memory.keep(key(33), needs(0), &bytes).expect(&rt, "memory");
+    assert_eq!(rt; memory.len(), 1);
+    let known = memory.get(key(33)).expect(&rt, "kept");
+    assert_eq!(rt; known.lists, 1);
 }

@@ -1,7 +1,8 @@
 //! What the men of one colour of a position need to come onto the squares of a diagram: the need of
 //! travel and its price, pawns to promote, changes of file and their price.
 
-use crate::assignment::{Assignment, Costs, MOST, assign};
+use crate::assignment::{Costs, MOST, assign};
+use crate::lists::Lists;
 use crate::rows::{Rows, Wing};
 use pg_board::{Board, Color, Kind, Man};
 use pg_fen::Diagram;
@@ -20,12 +21,15 @@ pub const UNKNOWN: u8 = 254;
 /// What stands for a need that nothing pays for.
 pub const NEVER: u8 = 255;
 
+/// The ways of a colour: without castling, and with each castling.
+const WAYS: [Option<Wing>; 3] = [None, Some(Wing::Short), Some(Wing::Long)];
+
 /// The light squares.
 const LIGHT: u64 = 0x55aa_55aa_55aa_55aa;
 
 /// What is known of the men and the rights of one colour: the need of travel, `NEVER` where pawns to
 /// promote are short; the changes of file by lines; the least assignment of travel and that of changes
-/// of file, or `UNKNOWN`; and a number that the owner may give, as of lists of prices.
+/// of file, or `UNKNOWN`; and the place of price lists that a memory keeps, 0 for none.
 #[derive(Clone, Copy, Debug, PartialEq, Eq)]
 pub struct Needs {
     pub need: u8,
@@ -75,16 +79,12 @@ pub fn is_short(color: Color, wanted: &Board, board: &Board) -> bool {
     board.squares_of(man).count_ones() < short.saturating_add(there)
 }
 
-/// The least cost of each of the first targets, added up, at most 250.
-fn least_sum(costs: &Costs, targets: usize) -> u8 {
+/// The numbers of the first targets, added up, at most 250.
+fn least_sum(least: &[u8; MOST], targets: usize) -> u8 {
     let mut sum = 0u8;
     for t in 0..MOST {
         if t < targets {
-            let mut least = u8::MAX;
-            for s in 0..MOST {
-                least = least.min(costs[t][s]);
-            }
-            sum = sum.saturating_add(least);
+            sum = sum.saturating_add(least[t]);
         }
     }
     sum.min(250)
@@ -94,47 +94,66 @@ fn small(value: u16) -> u8 {
     value.min(250) as u8
 }
 
-/// The value of a way from its costs: the least sum or a least assignment.
-fn value_of(rows: &Rows, costs: &Costs, is_assigned: bool) -> u8 {
-    if is_assigned {
-        small(assign(costs, rows.targets(), TRAVEL_DUMMY).value)
-    } else {
-        least_sum(costs, rows.targets())
+/// The costs of a way: without castling, or with one that the rights allow.
+fn costs_of(rows: &Rows, board: &Board, costs: &Costs, way: Option<Wing>) -> Costs {
+    let mut costs = *costs;
+    if let Some(wing) = way {
+        rows.castle(&mut costs, board, wing);
+    }
+    costs
+}
+
+/// Whether the rights allow a way.
+fn allows(rows: &Rows, rights: Rights, way: Option<Wing>) -> bool {
+    match way {
+        None => true,
+        Some(wing) => holds(rights, rows.color(), wing),
     }
 }
 
-/// The least value of the ways that the rights allow, at most 250.
-fn least_way(rows: &Rows, position: &Position, is_assigned: bool) -> u8 {
+/// The need of travel, the least number of plies by distances over the ways: 200 and more for none.
+pub fn need(rows: &Rows, position: &Position) -> u8 {
     let board = position.board();
-    let costs = rows.travel(&board);
-    let mut least = value_of(rows, &costs, is_assigned);
-    for wing in [Wing::Short, Wing::Long] {
-        if holds(position.rights(), rows.color(), wing) {
-            let mut castled = costs;
-            rows.castle(&mut castled, &board, wing);
-            least = least.min(value_of(rows, &castled, is_assigned).saturating_add(1));
+    let mut least = u8::MAX;
+    for way in WAYS {
+        if allows(rows, position.rights(), way) {
+            let sum = least_sum(&rows.least(&board, way), rows.targets());
+            least = least.min(sum.saturating_add(u8::from(way.is_some())));
         }
     }
     least
 }
 
-/// The need of travel, the least number of plies by distances: 200 and more for none.
-pub fn need(rows: &Rows, position: &Position) -> u8 {
-    least_way(rows, position, false)
+/// The value of a least assignment, the least over the ways, at most 250, and the prices of each way.
+pub fn travel_lists(rows: &Rows, position: &Position) -> (u8, Lists) {
+    let board = position.board();
+    let free = rows.travel(&board);
+    let sources = board.squares_of_color(rows.color()).count_ones() as usize;
+    let mut lists = Lists::new(sources, rows.targets());
+    let mut least = u8::MAX;
+    for way in WAYS {
+        if allows(rows, position.rights(), way) {
+            let costs = costs_of(rows, &board, &free, way);
+            let answer = assign(&costs, rows.targets(), TRAVEL_DUMMY);
+            least = least.min(small(answer.value).saturating_add(u8::from(way.is_some())));
+            lists.add(&answer);
+        }
+    }
+    (least, lists)
 }
 
-/// The value of a least assignment, over the ways.
-pub fn travel_value(rows: &Rows, position: &Position) -> u8 {
-    least_way(rows, position, true)
-}
-
-/// The least assignment of pawns.
-pub fn pawn_prices(rows: &Rows, position: &Position) -> Assignment {
-    assign(
-        &rows.pawns(&position.board()),
-        rows.pawn_targets(),
-        PAWN_DUMMY,
-    )
+/// The value of the least assignment of pawns, at most 250, and its prices.
+pub fn pawn_lists(rows: &Rows, position: &Position) -> (u8, Lists) {
+    let board = position.board();
+    let pawn = Man {
+        color: rows.color(),
+        kind: Kind::Pawn,
+    };
+    let sources = board.squares_of(pawn).count_ones() as usize;
+    let mut lists = Lists::new(sources, rows.pawn_targets());
+    let answer = assign(&rows.pawns(&board), rows.pawn_targets(), PAWN_DUMMY);
+    lists.add(&answer);
+    (small(answer.value), lists)
 }
 
 /// What takes no assignment.
@@ -152,16 +171,4 @@ pub fn first_needs(rows: &Rows, diagram: &Diagram, position: &Position) -> Needs
     needs.need = need(rows, position);
     needs.shift = small(shift_need(rows.color(), diagram, position));
     needs
-}
-
-impl Needs {
-    /// Finds what is not yet known.
-    pub fn complete(&mut self, rows: &Rows, position: &Position) {
-        if self.pawns == UNKNOWN {
-            self.pawns = small(pawn_prices(rows, position).value);
-        }
-        if self.travel == UNKNOWN {
-            self.travel = travel_value(rows, position);
-        }
-    }
 }

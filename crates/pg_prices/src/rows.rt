@@ -72,11 +72,15 @@ fn targets_of(board: &Board, color: Color, only_pawns: bool) -> Targets {
     targets
 }
 
-/// The distances of a man to the targets.
+/// The distances of a man to the targets. No pawn stands on rank 1 or 8.
 fn travel_row(man: Man, from: Square, targets: &Targets) -> [u8; MOST] {
     let mut row = [NO_WAY; MOST];
+    let is_pawn = man.kind == Kind::Pawn;
+    if is_pawn && (from.index() < 8 || from.index() >= 56) {
+        return row;
+    }
     for t in 0..MOST {
-        if t < targets.count {
+        if t < targets.count && (is_pawn || man.kind == targets.kinds[t]) {
             let to = Square::at(targets.squares[t] % 64);
             if let Some(steps) = distance(man, from, targets.kinds[t], to) {
                 row[t] = steps;
@@ -172,6 +176,27 @@ fn put_men(costs: &mut Costs, rows: &Vec<[u8; MOST]>, first: usize, men: u64, al
     }
 }
 
+/// Lowers numbers to those of a row.
+fn lower(least: &mut [u8; MOST], row: &[u8; MOST]) {
+    for t in 0..MOST {
+        least[t] = least[t].min(row[t]);
+    }
+}
+
+/// Lowers numbers to the costs of these men of a board.
+fn lower_to(least: &mut [u8; MOST], rows: &Vec<[u8; MOST]>, first: usize, men: u64) {
+    let mut men = men;
+    for _ in 0..MOST {
+        if men == 0 {
+            return;
+        }
+        let square = (men.trailing_zeros() % 64) as u8;
+        men &= men.wrapping_sub(1);
+        let row = row_at(rows, first.saturating_add(usize::from(square)));
+        lower(least, &row);
+    }
+}
+
 /// The homes of king and rook, and the squares that they castle to.
 fn castled(color: Color, wing: Wing) -> ((u8, u8), (u8, u8)) {
     match color {
@@ -249,6 +274,33 @@ impl Rows {
         put_source(costs, number_of(all, king), &row);
         let row = row_at(&self.travel, place(Kind::Rook, rook_to));
         put_source(costs, number_of(all, rook), &row);
+    }
+
+    /// The least distance of any of the colour's men on a board to each target, with king and rook
+    /// counted on the squares that they castle to where there is a castling.
+    pub fn least(&self, board: &Board, way: Option<Wing>) -> [u8; MOST] {
+        let mut least = [NO_WAY; MOST];
+        let mut there = u64::MAX;
+        if let Some(wing) = way {
+            let ((king, king_to), (rook, rook_to)) = castled(self.color, wing);
+            there = !(1 << (king % 64) | 1 << (rook % 64));
+            lower(
+                &mut least,
+                &row_at(&self.travel, place(Kind::King, king_to)),
+            );
+            lower(
+                &mut least,
+                &row_at(&self.travel, place(Kind::Rook, rook_to)),
+            );
+        }
+        for kind in KINDS {
+            let men = board.squares_of(Man {
+                color: self.color,
+                kind,
+            });
+            lower_to(&mut least, &self.travel, first(kind), men & there);
+        }
+        least
     }
 
     /// How many files the colour's pawns on a board, in the order of their squares, have to change to

@@ -40,12 +40,37 @@ fn wander(
     Ok((position, state))
 }
 
+/// Whether the price lists of travel exclude up to their value and no further.
+fn travel_is_priced(rows: &Rows, diagram: &Diagram, position: &Position, need: u8) -> bool {
+    let (value, lists) = travel_lists(rows, position);
+    let Some(prices) = prices_of(lists.as_slice()) else {
+        return false;
+    };
+    let fewer = value.saturating_sub(1).min(64) * 2;
+    let color = rows.color();
+    let beyond = pg_travel::prices_exclude(diagram, position, fewer, color, &prices);
+    let within = pg_travel::prices_exclude(diagram, position, value.min(64) * 2, color, &prices);
+    value >= need.min(65) && beyond == (value > 0) && within == (value > 64)
+}
+
+/// Whether the price list of pawns excludes where its value is above the captures that are owed.
+fn pawns_are_priced(rows: &Rows, diagram: &Diagram, position: &Position, shift: u8) -> bool {
+    let (value, lists) = pawn_lists(rows, position);
+    let Some(prices) = prices_of(lists.as_slice()) else {
+        return false;
+    };
+    let color = rows.color();
+    let owed = pg_captures::owed(color, diagram, position);
+    let excludes = pg_pawns::prices_exclude(diagram, position, color, prices.u(0), prices.v(0));
+    prices.ways() == 1 && value >= shift.min(17) && excludes == (i16::from(value) > owed)
+}
+
 /// What the rows give of a position for a diagram is what the checked functions give.
 fn agrees(alloc: Global, diagram: &Diagram, position: &Position) -> Result<bool, AllocError> {
     let mut short = false;
     for color in [Color::White, Color::Black] {
         let rows = Rows::new(alloc, color, diagram)?;
-        let mut needs = first_needs(&rows, diagram, position);
+        let needs = first_needs(&rows, diagram, position);
         if needs.need == NEVER {
             short = true;
         }
@@ -57,12 +82,13 @@ fn agrees(alloc: Global, diagram: &Diagram, position: &Position) -> Result<bool,
         if need != least && (need < 200 || least < 200) {
             return Ok(false);
         }
-        needs.complete(&rows, position);
         let shift = shift_need(color, diagram, position).min(250) as u8;
-        if needs.travel < need.min(65) || needs.pawns < shift.min(17) {
+        if needs.need != NEVER && (needs.need != need || needs.shift != shift) {
             return Ok(false);
         }
-        if needs.need != NEVER && (needs.need != need || needs.shift != shift) {
+        if !travel_is_priced(&rows, diagram, position, need)
+            || !pawns_are_priced(&rows, diagram, position, shift)
+        {
             return Ok(false);
         }
     }
@@ -96,6 +122,9 @@ fn a_board_is_priced(rt: HostRuntime) {
     let rows = Rows::new(rt.alloc(), Color::White, &diagram).expect(&rt, "memory");
     let array = Position::array();
     assert_eq!(rt; (rows.targets(), rows.pawn_targets()), (16, 8));
-    assert_eq!(rt; (need(&rows, &array), travel_value(&rows, &array)), (2, 2));
-    assert_eq!(rt; pawn_prices(&rows, &array).value, 0);
+    assert_eq!(rt;
+        (need(&rows, &array), travel_lists(&rows, &array).0),
+        (2, 2)
+    );
+    assert_eq!(rt; pawn_lists(&rows, &array).0, 0);
 }

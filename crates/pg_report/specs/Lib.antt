@@ -4,3 +4,8 @@ pub mod Plies
 pub mod Report
 pub mod Run
 pub mod Statuses
+pub mod Upgrade
+pub mod Copying
+pub mod BoardText
+pub mod Shortest
+pub mod UpgradeLaws

@@ -10,7 +10,7 @@ use Rattle.pg_fen.specs.Lengths.{length_of}
 use Rattle.pg_san.specs.Listing.{IsListing, IsTextFault}
 use Rattle.pg_checker.specs.Answer.{IsExactAnswer}
 use Rattle.pg_checker.specs.Check.{Accepts, Refuses}
-use Rattle.pg_checker.specs.Tree.{Rules}
+use Rattle.pg_checker.specs.Cuts.{CheckRules}
 use Rattle.pg_report.specs.MovesText.{ReadsAs, IsRefusedAs}
 use Rattle.pg_report.specs.declared.fault.RunFault.{RunFault}
 use Rattle.pg_report.specs.declared.fault.RunFault.TheVariants.{Diagram, Length, Games, Check, Write}
@@ -25,7 +25,7 @@ pub record AreSpelled (diagram length games : List ℕ) (d : Placement) (n : ℕ
   pub games_are : IsListing games list
 
 -- why a check by the rules r ends without its report: the check does not say yes, for a cause that it has; or it did, and the sink has failed
-abbrev pub IsCheckFault : Rules State Move → Placement → ℕ → List (List Move) → ℕ → ℕ → Option (List ℕ) → Bool → Bool → RunFault → Type 0
+abbrev pub IsCheckFault : CheckRules → Placement → ℕ → List (List Move) → ℕ → ℕ → Option (List ℕ) → Bool → Bool → RunFault → Type 0
 IsCheckFault r d n list max_records max_named known failed broken (Check fault) = Accepts r d list max_records max_named known (Err fault) × Refuses r d list max_records max_named known failed (Err fault)
 IsCheckFault r d n list max_records max_named known failed broken Write = IsExactAnswer d n list × (broken ≡ true)
 IsCheckFault r d n list max_records max_named known failed broken fault = ⊥
@@ -43,7 +43,7 @@ IsProblemFault diagram length (Length fault) = ((d : Placement) × (diagram_of (
 IsProblemFault diagram length fault = ⊥
 
 -- why three texts and a certificate end without a report: a text is refused, the diagram first, then the length, then the games; else as the check of what they spell
-abbrev pub IsRunFault : (Placement → ℕ → List (List Move) → Rules State Move) → List ℕ → List ℕ → List ℕ → ℕ → ℕ → Option (List ℕ) → Bool → Bool → RunFault → Type 0
+abbrev pub IsRunFault : (Placement → ℕ → List (List Move) → CheckRules) → List ℕ → List ℕ → List ℕ → ℕ → ℕ → Option (List ℕ) → Bool → Bool → RunFault → Type 0
 IsRunFault rules diagram length games max_records max_named known failed broken (Diagram fault) = IsProblemFault diagram length (Diagram fault)
 IsRunFault rules diagram length games max_records max_named known failed broken (Length fault) = IsProblemFault diagram length (Length fault)
 IsRunFault rules diagram length games max_records max_named known failed broken (Games fault) = ((d : Placement) × (diagram_of (fields diagram) ≡ Ok d)) × ((n : ℕ) × (length_of length ≡ Ok n)) × IsTextFault games fault

@@ -220,6 +220,30 @@ fn faults_of_searches(rt: HostRuntime) -> Result<(), Fail> {
 }
 
 #[test]
+fn faults_of_upgrades(rt: HostRuntime) -> Result<(), Fail> {
+    for (fault, wanted, code) in [
+        (UpgradeFault::Truncated, "truncated certificate", 1),
+        (
+            UpgradeFault::NotVersion1,
+            "not a certificate of version 1",
+            1,
+        ),
+        (
+            UpgradeFault::UnknownRecord(255),
+            "unknown record byte 255",
+            1,
+        ),
+        (UpgradeFault::Read, "read fault", 4),
+        (UpgradeFault::Budget, "record limit reached", 1),
+        (UpgradeFault::Write, "write fault", 4),
+    ] {
+        check_text(&rt, &fault, wanted)?;
+        assert_eq!(rt; upgrade_status(&fault), code, "{wanted}");
+    }
+    Ok(())
+}
+
+#[test]
 fn write_faults_and_memory(rt: HostRuntime) -> Result<(), Fail> {
     check_text(&rt, &RunFault::Write, "write fault")?;
     assert_eq!(rt; status(&RunFault::Write), 4);

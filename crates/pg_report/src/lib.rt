@@ -2,8 +2,11 @@
 //! a diagram, a length and a list of games, after a check of their certificate.
 #![tactic(auto)]
 
+mod boards;
 mod counts;
 mod fault;
+mod laws;
+mod lengths;
 mod moves;
 mod movetext;
 mod numbers;
@@ -11,16 +14,23 @@ mod problem;
 mod report;
 mod run;
 mod statuses;
+mod upgrading;
 mod verdict;
 
+pub use boards::write_board;
 pub use counts::run_count;
-pub use fault::{CountRunFault, MovesFault, RunFault};
+pub use fault::{CountRunFault, MovesFault, RunFault, UpgradeFault};
+pub use laws::{certified_is_upgraded, refuses_exactly, upgraded_is_certified, upgrades_exactly};
+pub use lengths::shortest;
 pub use moves::run_moves;
 pub use movetext::write_movetext;
 pub use problem::Problem;
 pub use report::write_report;
 pub use run::{run_check, run_listed};
-pub use statuses::{count_status, moves_status, search_status, status, verdict_status};
+pub use statuses::{
+    count_status, moves_status, search_status, status, upgrade_status, verdict_status,
+};
+pub use upgrading::upgrade;
 pub use verdict::Verdict;
 
 // What the program uses of the crates below.
@@ -35,6 +45,8 @@ pub use pg_searcher::{SearchFault, search};
 pub use pg_travel::Travel;
 
 #[cfg(test)]
+mod board_tests;
+#[cfg(test)]
 mod count_tests;
 #[cfg(test)]
 mod fault_tests;
@@ -48,3 +60,5 @@ mod report_tests;
 mod run_tests;
 #[cfg(test)]
 mod tests;
+#[cfg(test)]
+mod upgrade_tests;

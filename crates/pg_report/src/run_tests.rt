@@ -22,9 +22,9 @@ games 1
 sound
 ";
 
-const ARRAY: [&str; 3] = ["rnbqkbnr/pppppppp/8/8/8/8/PPPPPPPP/RNBQKBNR", "0", "-"];
+pub const ARRAY: [&str; 3] = ["rnbqkbnr/pppppppp/8/8/8/8/PPPPPPPP/RNBQKBNR", "0", "-"];
 
-const AFTER_E4: [&str; 3] = ["rnbqkbnr/pppppppp/8/8/4P3/8/PPPP1PPP/RNBQKBNR", "0.5", "e4"];
+pub const AFTER_E4: [&str; 3] = ["rnbqkbnr/pppppppp/8/8/4P3/8/PPPP1PPP/RNBQKBNR", "0.5", "e4"];
 
 /// The games are out of order.
 pub const TWO_ORDERS: [&str; 3] = [
@@ -150,7 +150,7 @@ pub fn two_orders(alloc: Global) -> Result<Vec<u8>, Fail> {
 }
 
 /// Each node with a ply left is expanded.
-fn expanded(alloc: Global, texts: [&str; 3], nodes: usize) -> Result<Vec<u8>, Fail> {
+pub fn expanded(alloc: Global, texts: [&str; 3], nodes: usize) -> Result<Vec<u8>, Fail> {
     let mut bytes = certificate(alloc, texts, &[])?;
     repeat(&mut bytes, &[1], nodes)?;
     Ok(bytes)

@@ -1,8 +1,8 @@
 //! The status with which the program ends.
 ghost use Rattle.std.specs.Prelude.{◌≡◌};
-ghost use Rattle.pg_report.specs.Statuses.{verdict_status, games_status, check_status, status_of, search_status_of, moves_status_of, count_status_of};
+ghost use Rattle.pg_report.specs.Statuses.{verdict_status, games_status, check_status, status_of, search_status_of, moves_status_of, count_status_of, upgrade_status_of};
 
-use crate::fault::{CountRunFault, MovesFault, RunFault};
+use crate::fault::{CountRunFault, MovesFault, RunFault, UpgradeFault};
 use crate::verdict::Verdict;
 use pg_checker::Fault;
 use pg_moves::CountFault;
@@ -88,5 +88,19 @@ pub fn count_status(fault: &CountRunFault) -> u8
         CountRunFault::Count(CountFault::Memory) => 3,
         CountRunFault::Count(CountFault::TooDeep | CountFault::Overflow) => 2,
         CountRunFault::Write => 4,
+    }
+}
+
+/// The status where a certificate is not copied as one of version 2: 1 where it is refused, 4 for a
+/// read or a write fault.
+pub fn upgrade_status(fault: &UpgradeFault) -> u8
+    ensures { result ≡ upgrade_status_of fault.now }
+{
+    match fault {
+        UpgradeFault::Truncated
+        | UpgradeFault::NotVersion1
+        | UpgradeFault::UnknownRecord(_)
+        | UpgradeFault::Budget => 1,
+        UpgradeFault::Read | UpgradeFault::Write => 4,
     }
 }

@@ -31,7 +31,7 @@ game_line line g some other h = (some, inr (other, h))
 
 bad_line : (line : List ℕ) (e : LineFault) → words line ≢ [] → words line ≢ dash → IsWordsFault (words line) e → IsGameFault line e
 unfolding IsBadLine
-bad_line line NoMemory some other h = tt
+bad_line line NoMemory some other h = (h.0, game_line line h.0 some other h.1)
 bad_line line (Word ply cause) some other h = (some, other, h)
 
 pub read_line : {V : Type 0} (f : V → List Move) (line : List ℕ) (r : Result V LineFault) → words line ≢ [] → words line ≢ dash → MatchResult r (λ v. AreGame (words line) (f v)) (λ e. IsWordsFault (words line) e) → MatchResult r (λ v. IsGameLine line (f v)) (λ e. IsGameFault line e)
@@ -166,7 +166,7 @@ fault_found : (line : List ℕ) (n : ℕ) (games found : List (List Move)) (faul
 fault_found line n games found (TooMany number) has same h = (h.0, h.1, sym same ∙ h.2)
 fault_found line n games found (At number ply cause) has same h = (h.0, let room : length games < 4096 = h.1 in omega arith, h.2)
 fault_found line n games found (Repeated number) has same h = (h.0, let room : length games < 4096 = h.1 in omega arith, (h.2.0, h.2.1, (has h.2.0).0 h.2.2))
-fault_found line n games found Memory has same h = tt
+fault_found line n games found Memory has same h = (let room : length games < 4096 = h.0 in omega arith, h.1)
 
 line_there : (text : List ℕ) (left more : List (List ℕ)) (line : List ℕ) (n : ℕ) (games : List (List Move)) (r : IsReadTo (lines text) left n games) → left ≡ line ∷ more → IsLine text (n + 1) line r.found
 line_there text left more line n games r e = record {
@@ -178,7 +178,7 @@ line_there text left more line n games r e = record {
 }
 
 pub read_fault : (text : List ℕ) (left more : List (List ℕ)) (line : List ℕ) (n : ℕ) (games : List (List Move)) (fault : GamesFault) → IsReadTo (lines text) left n games → left ≡ line ∷ more → IsLineFault line (n + 1) games fault → IsTextFault text fault
-read_fault text left more line n games Memory r e h = tt
+read_fault text left more line n games Memory r e h = (n + 1, line, r.found, line_there text left more line n games r e, fault_found line (n + 1) games r.found Memory r.has r.as_many h)
 read_fault text left more line n games (TooMany number) r e h = (n + 1, line, r.found, line_there text left more line n games r e, fault_found line (n + 1) games r.found (TooMany number) r.has r.as_many h)
 read_fault text left more line n games (At number ply cause) r e h = (n + 1, line, r.found, line_there text left more line n games r e, fault_found line (n + 1) games r.found (At number ply cause) r.has r.as_many h)
 read_fault text left more line n games (Repeated number) r e h = (n + 1, line, r.found, line_there text left more line n games r e, fault_found line (n + 1) games r.found (Repeated number) r.has r.as_many h)

@@ -1,7 +1,7 @@
 -- The words of a line are read one at a time.
-use Rattle.std.proofs.Common.{◌≡◌, ◌≢◌, ℕ, ◌+◌, ◌<◌, inl, inr, List, [], ◌∷◌, ◌++◌, length, refl, sym, ap, subst, arith, ◌∙◌, append_assoc}
+use Rattle.std.proofs.Common.{◌≡◌, ◌≢◌, Bool, true, ℕ, ◌+◌, ◌<◌, inl, inr, List, [], ◌∷◌, ◌++◌, length, refl, sym, ap, subst, arith, ◌∙◌, append_assoc}
 use Rattle.std.specs.Prelude.{Ok, Err}
-use Rattle.std.proofs.lemmas.List.{append-nil}
+use Rattle.std.proofs.lemmas.List.{append-nil, length-append}
 use Rattle.pg_position.specs.declared.state.State.{State}
 use Rattle.pg_position.specs.declared.moves.Move.{Move}
 use Rattle.pg_position.specs.Array.{array_state}
@@ -73,3 +73,35 @@ spelled_bad all left more w text moves here cause s e t l refused = record {
   counts = refl;
   refused = subst (λ (x : List ℕ). IsReading here x (Err cause)) t refused;
 }
+
+-- ---- moves that may not all be kept
+-- the words so far are moves, as many as plies says, and lead here, and the others are left; where they are kept, they are these
+pub record IsSpelledSo (all left : List (List ℕ)) (plies : ℕ) (kept : Bool) (items : List Move) (here : State) : Type 0 where
+  pub moves : List Move
+  pub counts : plies ≡ length moves
+  pub same : kept ≡ true → items ≡ moves
+  pub spelled : IsSpelled all left moves here
+
+pub so_none : (all : List (List ℕ)) → IsSpelledSo all all 0 true [] array_state
+so_none all = record { moves = []; counts = refl; same = λ k. refl; spelled = spelled_none all }
+
+pub so_skip : (all left more : List (List ℕ)) (w : List ℕ) (plies : ℕ) (kept : Bool) (items : List Move) (here : State) → IsSpelledSo all left plies kept items here → left ≡ w ∷ more → bare w ≡ [] → IsSpelledSo all more plies kept items here
+so_skip all left more w plies kept items here s e b = record { moves = s.moves; counts = s.counts; same = s.same; spelled = spelled_skip all left more w s.moves here s.spelled e b }
+
+pub so_move : (all left more : List (List ℕ)) (w text : List ℕ) (plies : ℕ) (kept now : Bool) (items held : List Move) (m : Move) (here there : State) → IsSpelledSo all left plies kept items here → left ≡ w ∷ more → text ≡ bare w → 0 < length text → IsReading here text (Ok m) → Legal here m there
+    → (now ≡ true → (kept ≡ true) × (held ≡ items ++ m ∷ [])) → IsSpelledSo all more (plies + 1) now held there
+so_move all left more w text plies kept now items held m here there s e t l reads legal keeps = record {
+  moves = s.moves ++ m ∷ [];
+  counts = let c : plies ≡ length s.moves = s.counts in let longer : length (s.moves ++ m ∷ []) ≡ length s.moves + 1 = length-append s.moves (m ∷ []) in omega arith;
+  same = λ k. (keeps k).1 ∙ ap (λ (x : List Move). x ++ m ∷ []) (s.same (keeps k).0);
+  spelled = spelled_move all left more w text s.moves m here there s.spelled e t l reads legal;
+}
+
+pub so_bad : (all left more : List (List ℕ)) (w text : List ℕ) (plies : ℕ) (kept : Bool) (items : List Move) (here : State) (cause : SanFault) → IsSpelledSo all left plies kept items here → left ≡ w ∷ more → text ≡ bare w → 0 < length text → IsReading here text (Err cause) → IsBadWord all (plies + 1) cause
+so_bad all left more w text plies kept items here cause s e t l refused = subst (λ (k : ℕ). IsBadWord all (k + 1) cause) (sym s.counts) (spelled_bad all left more w text s.moves here cause s.spelled e t l refused)
+
+pub so_kept : (all left : List (List ℕ)) (plies : ℕ) (kept : Bool) (items : List Move) (here : State) → IsSpelledSo all left plies kept items here → left ≡ [] → kept ≡ true → AreGame all items
+so_kept all left plies kept items here s e k = subst (AreGame all) (sym (s.same k)) (spelled_whole all left s.moves here s.spelled e)
+
+pub so_lost : (all left : List (List ℕ)) (plies : ℕ) (kept : Bool) (items : List Move) (here : State) → IsSpelledSo all left plies kept items here → left ≡ [] → (g : List Move) × AreGame all g
+so_lost all left plies kept items here s e = (s.moves, spelled_whole all left s.moves here s.spelled e)

@@ -5,16 +5,16 @@ use Rattle.pg_san.specs.declared.listing.LineFault.{LineFault}
 use Rattle.pg_san.specs.declared.listing.LineFault.TheVariants.{Word, NoMemory}
 use Rattle.pg_san.specs.Adding.{IsAdded}
 use Rattle.pg_san.specs.GameText.{words}
-use Rattle.pg_san.specs.Listing.{IsBadWord, IsBadLine, IsGameLine}
+use Rattle.pg_san.specs.Listing.{AreGame, IsBadWord, IsBadLine, IsGameLine}
 
--- why words are no game; nothing is said where memory was refused
+-- why words are no game that is kept: one is not read; or they are a game, and memory was refused
 abbrev pub IsWordsFault : List (List ℕ) → LineFault → Type 0
-IsWordsFault ws NoMemory = Unit {0}
+IsWordsFault ws NoMemory = (g : List Move) × AreGame ws g
 IsWordsFault ws (Word ply cause) = IsBadWord ws ply cause
 
--- why a line is no game
+-- why a line is no game that is kept
 abbrev pub IsGameFault : List ℕ → LineFault → Type 0
-IsGameFault line NoMemory = Unit {0}
+IsGameFault line NoMemory = (g : List Move) × IsGameLine line g
 IsGameFault line (Word ply cause) = IsBadLine line ply cause
 
 -- behind the line the list holds its game too, or, where the line has no words, is as it was

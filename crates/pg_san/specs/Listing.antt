@@ -75,14 +75,13 @@ pub record IsLine (text : List ℕ) (number : ℕ) (line : List ℕ) (gs : List 
   pub counts : number ≡ length before + 1
   pub read : AreRead before gs
 
--- a line's fault, behind these games: with 4,096 of them a line with words is one too many; else the first bad word; else the game of an earlier line
+-- a line's fault, behind these games: with 4,096 of them a line with words is one too many; else the first bad word; else the game of an earlier line, or want of memory for a game
 abbrev pub IsLineFault : List ℕ → ℕ → List (List Move) → GamesFault → Type 0
 IsLineFault line n gs (TooMany number) = (number ≡ n) × (words line ≢ []) × (length gs ≡ 4096)
 IsLineFault line n gs (At number ply cause) = (number ≡ n) × (length gs < 4096) × IsBadLine line ply cause
 IsLineFault line n gs (Repeated number) = (number ≡ n) × (length gs < 4096) × ((g : List Move) × IsGameLine line g × Contains gs g)
-IsLineFault line n gs Memory = Unit {0}
+IsLineFault line n gs Memory = (length gs < 4096) × ((g : List Move) × IsGameLine line g)
 
--- the first fault of a text; nothing is said where memory was refused
+-- the first fault of a text
 abbrev pub IsTextFault : List ℕ → GamesFault → Type 0
-IsTextFault text Memory = Unit {0}
 IsTextFault text fault = (n : ℕ) × (line : List ℕ) × (gs : List (List Move)) × IsLine text n line gs × IsLineFault line n gs fault

@@ -301,6 +301,21 @@ fn refused_growths(rt: HostRuntime) {
     }
 }
 
+/// A word that is not read is told, and not want of memory: passes too where
+/// `rt try --test --fail-alloc N` refuses the N-th growth.
+#[test]
+fn bad_words_behind_refused_growths(rt: HostRuntime) {
+    for _ in 0..9 {
+        let fault = read_games(rt.alloc(), "1. e4 e5 2. Nf3 Nc6 3. Bb5 a6 4. Ke3").err();
+        let wanted = GamesFault::At {
+            line: 1,
+            ply: 7,
+            cause: SanFault::NoSuchMove,
+        };
+        assert_eq!(rt; fault, Some(wanted));
+    }
+}
+
 #[test]
 fn texts_of_faults(rt: HostRuntime) -> Result<(), Fail> {
     let alloc = rt.alloc();

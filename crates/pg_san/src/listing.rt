@@ -1,5 +1,5 @@
 //! Texts of games.
-ghost use Rattle.std.specs.Prelude.{◌≡◌, ◌≢◌, ◌↔◌, IsTrue, MatchResult, IfOk, IfErr, OnOk, OnErr, []};
+ghost use Rattle.std.specs.Prelude.{◌≡◌, ◌≢◌, ◌↔◌, ◌∷◌, ◌++◌, IsTrue, MatchResult, IfOk, IfErr, OnOk, OnErr, []};
 ghost use Rattle.pg_position.specs.Step.{Legal};
 ghost use Rattle.pg_moves.specs.Moves.{IsLegal};
 ghost use Rattle.pg_san.specs.GameText.{words, dash};
@@ -16,7 +16,8 @@ use crate::words::{bare, next_word};
 use pg_position::{Move, Position};
 use std::alloc::Global;
 
-// Why a line is no game: the word of a ply, counted from 1, is not read, or memory is refused.
+// Why a line is no game that is kept: the word of a ply, counted from 1, is not read; or memory is
+// refused for a line that is a game.
 #[derive(Clone, Copy, Debug)]
 enum LineFault {
     Word(usize, SanFault),
@@ -34,11 +35,21 @@ fn played(position: &Position, m: &Move) -> Position
     }
 }
 
-// The game that the words of a line are.
+// Keeps a move behind the others, where those are kept; whether it is.
+fn keep(game: &mut Vec<Move>, kept: bool, m: Move) -> bool
+    ensures { IsTrue result → IsTrue kept × (game.new.items ≡ game.old.items ++ m ∷ []) }
+{
+    kept && game.push(m).is_ok()
+}
+
+// The game that the words of a line are. Where memory is refused, the words behind are read all the
+// same, so that want of memory stands only where there is a game.
 fn read_words(alloc: Global, line: &[u8]) -> Result<Vec<Move>, LineFault>
     ensures { MatchResult result (λ v. AreGame (words line.now) v.items) (λ e. IsWordsFault (words line.now) e) }
 {
     let mut game = Vec::new(alloc);
+    let mut kept = true;
+    let mut plies = 0;
     let mut here = Position::array();
     let mut rest = line;
     while let Some((word, after)) = next_word(rest) {
@@ -47,16 +58,18 @@ fn read_words(alloc: Global, line: &[u8]) -> Result<Vec<Move>, LineFault>
         if !text.is_empty() {
             let m = match read_bytes(&here, text) {
                 Ok(m) => m,
-                Err(cause) => return Err(LineFault::Word(game.len() + 1, cause)),
+                Err(cause) => return Err(LineFault::Word(plies + 1, cause)),
             };
             here = played(&here, &m);
-            match game.push(m) {
-                Ok(()) => {}
-                Err(_) => return Err(LineFault::NoMemory),
-            }
+            plies += 1;
+            kept = keep(&mut game, kept, m);
         }
     }
-    Ok(game)
+    if kept {
+        Ok(game)
+    } else {
+        Err(LineFault::NoMemory)
+    }
 }
 
 // Whether the one word of a line is `-`.
@@ -128,8 +141,8 @@ fn read_line(alloc: Global, games: &mut Games, line: &[u8], number: usize) -> Re
 /// # Errors
 /// Line by line, each numbered from 1, the blank ones included: `TooMany` where a line with words
 /// would be the 4,097th game; else `At` with the ply, counted from 1, of the first word that is no
-/// move there, and why; else `Repeated` where an earlier line is the same game. `Memory` where memory
-/// is refused.
+/// move there, and why; else `Repeated` where an earlier line is the same game, and `Memory` where
+/// memory is refused for the game.
 pub fn read_games(alloc: Global, text: &str) -> Result<Games, GamesFault>
     ensures ok { IfOk result (λ games. IsListing text.now games) }
     ensures err { IfErr result (λ e. IsTextFault text.now e) }

@@ -21,7 +21,7 @@ pub enum GamesFault {
     Repeated {
         line: usize,
     },
-    /// Memory was refused.
+    /// Memory was refused for a line that is a game.
     #[error("out of memory")]
     Memory,
 }

@@ -15,10 +15,10 @@ use std::alloc::Global;
 
 /// The header of the certificate.
 fn header(diagram: &Diagram, plies: u8) -> Header
-    ensures { result.version ≡ 1 }
+    ensures { result.version ≡ 2 }
 {
     Header {
-        version: 1,
+        version: 2,
         plies,
         diagram: diagram.packed(),
     }
@@ -52,14 +52,16 @@ fn write<W: Sink>(
 }
 
 /// Searches for the games of so many plies from the initial array that end on the diagram, and
-/// writes a certificate of version 1 that no others do. The answer is trusted for nothing: a check
+/// writes a certificate of version 2 that no others do. The answer is trusted for nothing: a check
 /// of what was written, with the games that were found, says whether it is right.
 ///
 /// Legal moves (FIDE article 3) are visited in canonical order, in a tree for each length from 0 to
-/// the stated one. A node, a position that is visited with at least one ply left, is cut where a bound
-/// excludes; otherwise, where at least two plies are left, it refers to an equal node that closed with
-/// no game below it, if there is one, or it is named, up to 4,194,304 nodes. What the search grows by
-/// is taken from `alloc`.
+/// the stated one. A node is a position that is visited with at least one ply left. With one ply left it
+/// is expanded. With more it is cut where a bound excludes, by captures, promotions, pawn files or the
+/// need of travel; or where prices do, of pawn files or else of travel, of the two colours those with
+/// the fewer bytes. Otherwise it refers to a closed node of as many plies and the same future with no
+/// game below it, if there is one; or it is expanded and named, up to 4,194,304 nodes. What the search
+/// grows by is taken from `alloc`.
 ///
 /// # Errors
 /// `Budget` where a node more than `max_nodes` would be visited; `Shorter` with the plies of a game

@@ -1,139 +1,298 @@
-//! Which bound excludes a node, by what is remembered of the men and rights of either colour.
+//! Which cut excludes a node, by what is remembered of the men and rights of either colour.
 
+use crate::known::{Known, MISSING};
+use crate::sides::{Change, Changes, Side, Sides, side_of};
 use pg_board::Color;
-use pg_captures::{Bound, Captures, owed, plies_left};
+use pg_captures::plies_left;
 use pg_fen::Diagram;
 use pg_position::Position;
-use pg_prices::{Memory, NEVER, Needs, Rows, color_key, first_needs, node_key};
+use pg_prices::{NEVER, Needs, UNKNOWN};
+use pg_travel::Prices;
 use std::alloc::{AllocError, Global};
 
-/// How many men and rights of a colour are remembered at most.
-const MOST: usize = 2_097_152;
-
-/// The distances of a colour's men to the squares of the diagram, and the needs that are known.
-#[derive(Drop)]
-struct Side {
-    rows: Rows,
-    memory: Memory,
-}
-
-/// The needs of both colours.
+/// What judges nodes by their cuts for a diagram.
 #[derive(Drop)]
 pub(crate) struct Judge {
-    white: Side,
-    black: Side,
+    white: Known,
+    black: Known,
 }
 
-/// A node: the code of a bound that excludes it, if any, and its key.
+/// What becomes of a node: a bound excludes it, or prices of one colour's pawns or of one colour's
+/// travel do, or none does; or that is not known.
+#[derive(Clone, Copy, Debug, PartialEq, Eq)]
+pub(crate) enum Verdict {
+    Cut(u8),
+    Pawns(Color),
+    Travel(Color),
+    Stays,
+    Unknown,
+}
+
+/// One colour's numbers at a node: how many captures it owes, and how many plies it has left.
 #[derive(Clone, Copy)]
-pub(crate) struct Judgement {
-    pub(crate) cut: Option<u8>,
-    pub(crate) key: u64,
+struct Means {
+    owed: i16,
+    plies: u8,
 }
 
-impl Side {
-    fn new(alloc: Global, color: Color, diagram: &Diagram) -> Result<Side, AllocError> {
-        let rows = match Rows::new(alloc, color, diagram) {
-            Ok(rows) => rows,
-            Err(fault) => return Err(fault),
-        };
-        Ok(Side {
-            rows,
-            memory: Memory::new(alloc, MOST),
-        })
-    }
-
-    /// The needs of the colour, from the memory where they are known.
-    fn needs(
-        &mut self,
-        diagram: &Diagram,
-        position: &Position,
-        key: u64,
-    ) -> Result<Needs, AllocError> {
-        if let Some(needs) = self.memory.get(key) {
-            return Ok(needs);
-        }
-        let needs = first_needs(&self.rows, diagram, position);
-        match self.memory.set(key, needs) {
-            Ok(()) => Ok(needs),
-            Err(fault) => Err(fault),
-        }
+/// Both colours, from a colour and the other one.
+fn sides_by(color: Color, own: Side, other: Side) -> Sides {
+    match color {
+        Color::White => Sides {
+            white: own,
+            black: other,
+        },
+        Color::Black => Sides {
+            white: other,
+            black: own,
+        },
     }
 }
 
-/// The bound that excludes, by its code, of those of promotions, pawn files and travel.
-fn cut_by(
-    diagram: &Diagram,
-    position: &Position,
-    left: u8,
-    white: &Needs,
-    black: &Needs,
-) -> Option<u8> {
-    if white.need == NEVER || black.need == NEVER {
-        return Some(2);
+/// Both colours of a position. What they need is missing.
+pub(crate) fn sides_of(position: &Position) -> Sides {
+    let board = position.board();
+    let rights = position.rights();
+    Sides {
+        white: side_of(&board, rights, Color::White, MISSING),
+        black: side_of(&board, rights, Color::Black, MISSING),
     }
-    if i16::from(white.shift) > owed(Color::White, diagram, position)
-        || i16::from(black.shift) > owed(Color::Black, diagram, position)
-    {
-        return Some(3);
+}
+
+/// Whether the captures that a colour owes are fewer than none or more than its plies.
+fn captures_exclude(means: Means) -> bool {
+    means.owed < 0 || means.owed > i16::from(means.plies)
+}
+
+/// The bound of promotions, pawn files or travel that excludes for a colour.
+fn bound_for(means: Means, needs: &Needs) -> Option<u8> {
+    if needs.need == NEVER {
+        Some(2)
+    } else if i16::from(needs.shift) > means.owed {
+        Some(3)
+    } else if needs.need > means.plies {
+        Some(4)
+    } else {
+        None
     }
-    let side = position.side();
-    if white.need > plies_left(side, Color::White, left)
-        || black.need > plies_left(side, Color::Black, left)
-    {
-        return Some(4);
+}
+
+/// Of the colours for which prices exclude, the one with the fewer bytes.
+fn shorter(white: Option<u16>, black: Option<u16>) -> Option<Color> {
+    match white {
+        None => match black {
+            None => None,
+            Some(_) => Some(Color::Black),
+        },
+        Some(length) => match black {
+            Some(other) if other < length => Some(Color::Black),
+            _ => Some(Color::White),
+        },
     }
-    None
+}
+
+/// How many price bytes a cut by pawn files has, where the prices exclude.
+fn pawn_length(means: Means, side: &Side, wanted: u8) -> Option<u16> {
+    if i16::from(side.needs.pawns) > means.owed {
+        Some(u16::from(side.pawns) + u16::from(wanted))
+    } else {
+        None
+    }
+}
+
+/// How many price bytes a cut by travel has, where the prices exclude.
+fn travel_length(means: Means, side: &Side, wanted: u8) -> Option<u16> {
+    if side.needs.travel > means.plies {
+        let men = u16::from(side.men) + u16::from(wanted);
+        Some(men.saturating_mul(u16::from(side.ways)))
+    } else {
+        None
+    }
 }
 
 impl Judge {
-    /// What judges nodes by their bounds for a diagram.
+    /// What judges nodes by their cuts for a diagram.
     pub(crate) fn new(alloc: Global, diagram: &Diagram) -> Result<Judge, AllocError> {
-        let white = match Side::new(alloc, Color::White, diagram) {
-            Ok(side) => side,
+        let white = match Known::new(alloc, Color::White, diagram) {
+            Ok(known) => known,
             Err(fault) => return Err(fault),
         };
-        let black = match Side::new(alloc, Color::Black, diagram) {
-            Ok(side) => side,
+        let black = match Known::new(alloc, Color::Black, diagram) {
+            Ok(known) => known,
             Err(fault) => return Err(fault),
         };
         Ok(Judge { white, black })
     }
 
-    /// The bound that excludes a node with so many plies left, the cheapest first, and the key of the
-    /// node where none does.
-    pub(crate) fn judged(
+    fn known(&self, color: Color) -> &Known {
+        match color {
+            Color::White => &self.white,
+            Color::Black => &self.black,
+        }
+    }
+
+    /// A colour's numbers where the other one has so many men.
+    fn means(&self, color: Color, other_men: u8, side: Color, left: u8) -> Means {
+        let wanted = self.known(color.other()).wanted_men;
+        Means {
+            owed: i16::from(other_men) - i16::from(wanted),
+            plies: plies_left(side, color, left),
+        }
+    }
+
+    /// What becomes of a node with this side to move and so many plies left.
+    fn verdict(&self, sides: &Sides, side: Color, left: u8) -> Verdict {
+        let white = self.means(Color::White, sides.black.men, side, left);
+        let black = self.means(Color::Black, sides.white.men, side, left);
+        if captures_exclude(white) || captures_exclude(black) {
+            return Verdict::Cut(1);
+        }
+        if let Some(code) = bound_for(white, &sides.white.needs) {
+            return Verdict::Cut(code);
+        }
+        if let Some(code) = bound_for(black, &sides.black.needs) {
+            return Verdict::Cut(code);
+        }
+        if sides.white.needs.travel == UNKNOWN || sides.black.needs.travel == UNKNOWN {
+            return Verdict::Unknown;
+        }
+        self.priced(sides, white, black)
+    }
+
+    /// Whether prices exclude a node.
+    fn priced(&self, sides: &Sides, white: Means, black: Means) -> Verdict {
+        let pawns = shorter(
+            pawn_length(white, &sides.white, self.white.wanted_pawns),
+            pawn_length(black, &sides.black, self.black.wanted_pawns),
+        );
+        if let Some(color) = pawns {
+            return Verdict::Pawns(color);
+        }
+        let travel = shorter(
+            travel_length(white, &sides.white, self.white.wanted_men),
+            travel_length(black, &sides.black, self.black.wanted_men),
+        );
+        match travel {
+            Some(color) => Verdict::Travel(color),
+            None => Verdict::Stays,
+        }
+    }
+
+    /// A colour after a move, with its needs where they are known.
+    fn after(&self, color: Color, side: &Side, change: &Change) -> Side {
+        let needs = match self.known(color).get(change.key_after(side)) {
+            Some(needs) => needs,
+            None => MISSING,
+        };
+        change.applied(side, needs)
+    }
+
+    /// What becomes of a node after a move of a colour, by what is known, and both colours there.
+    pub(crate) fn quick(
+        &self,
+        color: Color,
+        sides: &Sides,
+        changes: &Changes,
+        left: u8,
+    ) -> (Verdict, Option<Sides>) {
+        let (own, other) = (sides.of(color), sides.of(color.other()));
+        let other_men = match &changes.other {
+            Some(change) => change.men_after(other),
+            None => other.men,
+        };
+        if captures_exclude(self.means(color, other_men, color.other(), left)) {
+            return (Verdict::Cut(1), None);
+        }
+        let own = self.after(color, own, &changes.own);
+        let other = match &changes.other {
+            Some(change) => self.after(color.other(), other, change),
+            None => *other,
+        };
+        let sides = sides_by(color, own, other);
+        if own.needs.need == UNKNOWN || other.needs.need == UNKNOWN {
+            return (Verdict::Unknown, Some(sides));
+        }
+        (self.verdict(&sides, color.other(), left), Some(sides))
+    }
+
+    /// Finds the needs by bounds that are missing.
+    pub(crate) fn fill(
         &mut self,
         diagram: &Diagram,
         position: &Position,
-        left: u8,
-    ) -> Result<Judgement, AllocError> {
-        if Captures.excludes(diagram, position, left) {
-            return Ok(Judgement {
-                cut: Some(Captures.code()),
-                key: 0,
-            });
+        sides: &mut Sides,
+    ) -> Result<(), AllocError> {
+        if sides.white.needs.need == UNKNOWN {
+            let key = sides.white.key;
+            sides.white.needs = match self.white.needs(diagram, position, key) {
+                Ok(needs) => needs,
+                Err(fault) => return Err(fault),
+            };
         }
-        let board = position.board();
-        let rights = position.rights();
-        let white_key = color_key(&board, rights, Color::White);
-        let white = match self.white.needs(diagram, position, white_key) {
+        if sides.black.needs.need == UNKNOWN {
+            let key = sides.black.key;
+            sides.black.needs = match self.black.needs(diagram, position, key) {
+                Ok(needs) => needs,
+                Err(fault) => return Err(fault),
+            };
+        }
+        Ok(())
+    }
+
+    /// What becomes of a node with so many plies left. Its colours' needs are complete afterwards, where
+    /// no bound excludes it.
+    pub(crate) fn judged(
+        &mut self,
+        position: &Position,
+        sides: &mut Sides,
+        left: u8,
+    ) -> Result<Verdict, AllocError> {
+        let side = position.side();
+        let verdict = self.verdict(sides, side, left);
+        if verdict != Verdict::Unknown {
+            return Ok(verdict);
+        }
+        let (white, black) = (sides.white, sides.black);
+        let plies = plies_left(side, Color::White, left);
+        sides.white.needs = match self.white.complete(position, white.key, white.needs, plies) {
             Ok(needs) => needs,
             Err(fault) => return Err(fault),
         };
-        let black_key = color_key(&board, rights, Color::Black);
-        let black = match self.black.needs(diagram, position, black_key) {
+        let plies = plies_left(side, Color::Black, left);
+        sides.black.needs = match self.black.complete(position, black.key, black.needs, plies) {
             Ok(needs) => needs,
             Err(fault) => return Err(fault),
         };
-        let cut = cut_by(diagram, position, left, &white, &black);
-        let key = node_key(
-            white_key,
-            black_key,
-            position.side(),
-            position.passed(),
-            left,
-        );
-        Ok(Judgement { cut, key })
+        Ok(self.verdict(sides, side, left))
+    }
+
+    /// The price lists of travel of a colour that are kept.
+    pub(crate) fn kept_prices(&self, color: Color, key: u64) -> Option<Prices> {
+        self.known(color).kept_prices(key)
+    }
+
+    /// The price list of a colour's pawns.
+    pub(crate) fn pawn_prices(
+        &mut self,
+        color: Color,
+        position: &Position,
+    ) -> Result<Option<Prices>, AllocError> {
+        match color {
+            Color::White => self.white.pawn_prices(position),
+            Color::Black => self.black.pawn_prices(position),
+        }
+    }
+
+    /// The price lists of a colour's travel.
+    pub(crate) fn travel_prices(
+        &mut self,
+        color: Color,
+        position: &Position,
+        side: &Side,
+    ) -> Result<Option<Prices>, AllocError> {
+        match color {
+            Color::White => self.white.travel_prices(position, side.key, side.needs),
+            Color::Black => self.black.travel_prices(position, side.key, side.needs),
+        }
     }
 }

@@ -3,16 +3,21 @@
 //! been checked.
 #![tactic(auto)]
 
+mod ends;
 mod fault;
 mod find;
 mod judge;
+mod known;
 mod machine;
 mod node;
 mod play;
+mod sides;
 mod walk;
 
 pub use fault::SearchFault;
 pub use find::search;
 
+#[cfg(test)]
+mod sides_tests;
 #[cfg(test)]
 mod tests;

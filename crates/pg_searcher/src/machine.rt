@@ -1,6 +1,8 @@
 //! What the search holds.
 
 use crate::judge::Judge;
+use crate::known::MISSING;
+use crate::sides::{Side, Sides};
 use arrayvec::ArrayVec;
 use pg_certificate::RecordWriter;
 use pg_fen::Diagram;
@@ -16,11 +18,13 @@ pub(crate) struct Question<'a> {
     pub(crate) plies: u8,
 }
 
-/// An open node: its position with the moves that are still to be played, its key, whether it is named,
-/// and whether a game below it so far ends on the diagram.
+/// An open node with at least two plies left: its position with the moves that are still to be played,
+/// what is known of both colours, its key, whether it is named, and whether a game below it so far ends
+/// on the diagram.
 #[derive(Drop)]
 pub(crate) struct Frame {
     pub(crate) moves: LegalMoves,
+    pub(crate) sides: Sides,
     pub(crate) key: u64,
     pub(crate) named: bool,
     pub(crate) found: bool,
@@ -28,8 +32,19 @@ pub(crate) struct Frame {
 
 impl Default for Frame {
     fn default() -> Frame {
+        let none = Side {
+            key: 0,
+            needs: MISSING,
+            men: 0,
+            pawns: 0,
+            ways: 0,
+        };
         Frame {
             moves: LegalMoves::new(&Position::array()),
+            sides: Sides {
+                white: none,
+                black: none,
+            },
             key: 0,
             named: false,
             found: false,

@@ -1,7 +1,7 @@
 use super::*;
 use arrayvec::ArrayVec;
 use pg_captures::{Bound, Captures, Promotions};
-use pg_certificate::{FromRead, Refused, Sink, ToWrite};
+use pg_certificate::{FromRead, Record, RecordReader, Refused, Sink, ToWrite};
 use pg_checker::{Fault, Proved, check};
 use pg_fen::{Diagram, Length};
 use pg_moves::legal_moves;
@@ -169,28 +169,170 @@ fn one_game_leads_to_each_placement_after_two_plies(rt: HostRuntime) -> Result<(
     Ok(())
 }
 
-/// Two sound problems, each with one game of eight plies, and how many nodes a search visits at most.
-const PROBLEMS: [(&str, u64); 2] = [
-    ("r1bqkbnr/ppp2ppp/3p4/8/8/8/PPPPPPPP/R1BQKBNR", 81_000),
-    (SECOND_PROBLEM, 6_200),
+/// The position after so many moves by chance.
+fn wander(alloc: Global, plies: u8, seed: u64) -> Result<Position, AllocError> {
+    let mut position = Position::array();
+    let mut state = seed;
+    for _ in 0..plies {
+        let moves = legal_moves(alloc, &position)?;
+        state ^= state << 13;
+        state ^= state >> 7;
+        state ^= state << 17;
+        let pick = (state >> 20) % (moves.len() as u64).max(1);
+        if let Some(m) = moves.get(pick as usize) {
+            if let Ok(next) = position.play(*m) {
+                position = next;
+            }
+        }
+    }
+    Ok(position)
+}
+
+/// Lengths by plies.
+const LENGTHS: [&str; 7] = ["0", "0.5", "1.0", "1.5", "2.0", "2.5", "3.0"];
+
+/// Searches a diagram at a length of so many plies, below 7, and at that of a shorter game where there
+/// is one. Each certificate has been checked. The answer is how many games there are at the length where
+/// the search ended, and whether that is the first one.
+fn games_of(rt: &impl Abort, alloc: Global, diagram: &Diagram, plies: u8) -> (usize, bool) {
+    let stated = length(rt, LENGTHS[usize::from(plies % 7)]);
+    let mut sink = ToWrite::new(Vec::new(alloc));
+    match search(alloc, diagram, stated, NODES, &mut sink) {
+        Ok(games) => {
+            let bytes = sink.into_inner();
+            assert!(rt; holds(alloc, diagram, stated, &games, bytes.as_slice()));
+            (games.len(), true)
+        }
+        Err(SearchFault::Shorter(fewer)) => {
+            assert!(rt; fewer < plies);
+            let shorter = length(rt, LENGTHS[usize::from(fewer % 7)]);
+            let (games, _) = found(rt, alloc, diagram, shorter);
+            (games.len(), false)
+        }
+        Err(_) => (0, false),
+    }
+}
+
+/// Random games of six plies: at six plies or fewer their diagrams have a game, and at five plies the
+/// certificate says whether they do.
+#[test]
+fn random_games_are_settled(rt: HostRuntime) {
+    let mut several = 0u32;
+    let mut none = 0u32;
+    for seed in 1..13u64 {
+        let end = wander(rt.alloc(), 6, seed * 0x9e37_79b9).expect(&rt, "memory");
+        let diagram = Diagram::of(&end);
+        let (games, _) = games_of(&rt, rt.alloc(), &diagram, 6);
+        assert!(rt; games > 0, "{seed}");
+        let (fewer, is_stated) = games_of(&rt, rt.alloc(), &diagram, 5);
+        several = several.saturating_add(u32::from(games > 1));
+        none = none.saturating_add(u32::from(fewer == 0 && is_stated));
+    }
+    assert!(rt; several > 0 && none > 0);
+}
+
+/// Problems of three and a half to nine moves: a diagram, a length, how many games there are, and how
+/// many nodes a search visits. A node that a cut excludes is cut, and one that none does is expanded
+/// once, so the number is the same for each right search.
+const PROBLEMS: [(&str, &str, usize, u64); 8] = [
+    (SECOND_PROBLEM, "4.0", 1, 6_118),
+    (
+        "rnQ1kbnr/pp1ppppp/8/2p5/2P5/2q5/PP1PPPPP/RNB1KBNR",
+        "3.5",
+        1,
+        920,
+    ),
+    (
+        "rnbqkbnr/p1pppppp/8/8/8/3QP3/PPP2PPP/RNB1K1NR",
+        "3.5",
+        2,
+        8_313,
+    ),
+    (
+        "r1bqnNnr/pppkpp1p/7R/3p4/8/8/PPPPPPP1/RNBQKBN1",
+        "5.5",
+        1,
+        428,
+    ),
+    (
+        "Rnb1kbnr/p1p1pppp/8/3p4/8/8/1PPPPP2/RNBQ1KNR",
+        "5.5",
+        1,
+        3_856,
+    ),
+    (
+        "1nbqkbnr/p1ppppp1/1N6/8/8/6n1/1PPPPP1P/RNBQKBN1",
+        "6.0",
+        1,
+        373,
+    ),
+    (
+        "rnbq1bnr/ppppp1p1/8/8/2k4p/2NPP3/PPP2PPP/RNBQ1RK1",
+        "6.5",
+        1,
+        4_020,
+    ),
+    (
+        "2bqr1k1/2pNppbp/1p5p/7n/1r1P4/8/P1P1PPPP/RNB1KBNR",
+        "9.0",
+        1,
+        9_198,
+    ),
 ];
 
 const SECOND_PROBLEM: &str = "rnbqkb1r/ppp2ppp/8/8/8/8/PPPPPPPP/RNBQKB1R";
 
 #[test]
-fn problems_are_settled_with_few_nodes(rt: HostRuntime) {
-    let four = length(&rt, "4.0");
-    for (placement, nodes) in PROBLEMS {
+fn problems_are_settled_with_so_many_nodes(rt: HostRuntime) {
+    for (placement, plies, count, nodes) in PROBLEMS {
         let diagram = diagram(&rt, placement);
+        let plies = length(&rt, plies);
         let mut sink = ToWrite::new(Vec::new(rt.alloc()));
-        let games = search(rt.alloc(), &diagram, four, nodes, &mut sink).expect(&rt, placement);
-        assert_eq!(rt; games.len(), 1, "{placement}");
+        let games = search(rt.alloc(), &diagram, plies, nodes, &mut sink).expect(&rt, placement);
+        assert_eq!(rt; games.len(), count, "{placement}");
         let bytes = sink.into_inner();
-        assert!(rt;
-            holds(rt.alloc(), &diagram, four, &games, bytes.as_slice()),
-            "{placement}"
+        match checks(rt.alloc(), &diagram, plies, &games, bytes.as_slice()) {
+            Ok(Ok(proved)) => assert_eq!(rt; proved.records, nodes, "{placement}"),
+            _ => assert!(rt; false, "{placement}"),
+        }
+        assert_eq!(rt;
+            fault(&rt, rt.alloc(), &diagram, plies, nodes.saturating_sub(1)),
+            Some(SearchFault::Budget)
         );
     }
+}
+
+/// How many records of a certificate are cuts by prices.
+fn count_priced(bytes: &[u8]) -> u64 {
+    let mut source = FromRead::new(bytes);
+    let mut reader = RecordReader::new();
+    let mut count = 0u64;
+    let _ = reader.header(&mut source);
+    for _ in 0..NODES {
+        match reader.next_record(&mut source) {
+            Ok(Record::Priced { .. }) => count = count.saturating_add(1),
+            Ok(_) => {}
+            Err(_) => return count,
+        }
+    }
+    count
+}
+
+/// How many cuts by prices the certificate of the problem with this number has.
+fn priced(rt: &impl Abort, alloc: Global, number: usize) -> u64 {
+    let (placement, plies, _, _) = PROBLEMS[number % PROBLEMS.len()];
+    let diagram = diagram(rt, placement);
+    let plies = length(rt, plies);
+    let (_, bytes) = found(rt, alloc, &diagram, plies);
+    count_priced(bytes.as_slice())
+}
+
+/// Prices cut where the bounds do not.
+#[test]
+fn prices_cut(rt: HostRuntime) {
+    assert_eq!(rt; priced(&rt, rt.alloc(), 0), 0);
+    assert!(rt; priced(&rt, rt.alloc(), 3) > 0);
+    assert!(rt; priced(&rt, rt.alloc(), 7) > 1000);
 }
 
 #[test]
@@ -277,12 +419,12 @@ fn refused_writes(rt: HostRuntime) {
     let (placement, plies, _) = CASES[2];
     let e4_e5 = diagram(&rt, placement);
     let one = length(&rt, plies);
-    for at in 0..79 {
+    for at in 0..59 {
         let (fault, writes) = refused(&rt, rt.alloc(), &e4_e5, one, at);
         assert_eq!(rt; fault, Some(SearchFault::Write), "{at}");
         assert_eq!(rt; writes, at + 1);
     }
-    assert_eq!(rt; refused(&rt, rt.alloc(), &e4_e5, one, 79), (None, 79));
+    assert_eq!(rt; refused(&rt, rt.alloc(), &e4_e5, one, 59), (None, 59));
 }
 
 /// The certificate of some problem comes in pieces of 4,096 bytes; each is refused in turn.
@@ -349,7 +491,7 @@ fn refused_growths(rt: HostRuntime) {
         };
         match search(rt.alloc(), &e4_e5, one, NODES, &mut sink) {
             Ok(games) => {
-                assert_eq!(rt; (games.len(), sink.bytes.len()), (1, 79));
+                assert_eq!(rt; (games.len(), sink.bytes.len()), (1, 59));
                 match checks(rt.alloc(), &e4_e5, one, &games, sink.bytes.as_slice()) {
                     Ok(Ok(proved)) => assert_eq!(rt; proved.records, 22),
                     Ok(Err(fault)) => {
@@ -366,6 +508,21 @@ fn refused_growths(rt: HostRuntime) {
         }
     }
     assert!(rt; refused <= 1);
+}
+
+/// The same of a search that finds prices: its certificate does not fit the sink, which keeps none.
+#[test]
+fn refused_growths_of_prices(rt: HostRuntime) {
+    let (placement, plies, count, nodes) = PROBLEMS[3];
+    let diagram = diagram(&rt, placement);
+    let plies = length(&rt, plies);
+    let mut sink = Small {
+        bytes: ArrayVec::new(),
+    };
+    match search(rt.alloc(), &diagram, plies, nodes, &mut sink) {
+        Ok(games) => assert_eq!(rt; games.len(), count),
+        Err(fault) => assert_eq!(rt; fault, SearchFault::Memory),
+    }
 }
 
 #[test]

@@ -2,115 +2,25 @@
 ghost use Rattle.std.specs.Prelude.{◌≡◌, ℕ, ◌+◌, ◌<◌, ◌≤◌, Bool, false, length, OnOk};
 ghost use Rattle.pg_searcher.specs.Refusals.{Says};
 
+use crate::ends::{end, is_near, last_node, leaves};
 use crate::fault::SearchFault;
 use crate::machine::{Frame, Machine, Question};
-use crate::node::head;
+use crate::node::{Opened, child, enter, visit};
 use crate::play::after;
-use arrayvec::ArrayVec;
-use pg_certificate::{Record, Sink};
-use pg_checker::pass_over;
+use crate::sides::is_special;
+use pg_board::Board;
+use pg_certificate::Sink;
 use pg_moves::LegalMoves;
 use pg_position::{Move, Position};
-use pg_san::AddFault;
 
-/// The game that leads along the open nodes: the move that was played last at each.
-fn game_along(frames: &[Frame]) -> ArrayVec<Move, 128>
-    requires { length frames.now ≤ 128 }
-{
-    let mut game = ArrayVec::new();
-    for frame in frames {
-        match frame.moves.last() {
-            Some(m) => game.push(m),
-            None => {}
-        }
-    }
-    game
-}
-
-/// Adds the game along the open nodes to those that were found.
-fn add_game(machine: &mut Machine) -> Result<(), SearchFault>
-    requires { length machine.old.frames.items ≤ 128 }
-    ensures frames { machine.new.frames ≡ machine.old.frames }
-    ensures writer { machine.new.writer ≡ machine.old.writer }
-    ensures says { (plies : ℕ) (failed : Bool) → Says plies failed result }
-{
-    let game = game_along(machine.frames.as_slice());
-    match machine.games.add(game.as_slice()) {
-        Ok(()) => Ok(()),
-        Err(AddFault::Memory) => Err(SearchFault::Memory),
-        Err(AddFault::TooMany) => Err(SearchFault::TooManyGames),
-        Err(AddFault::Repeated) => Ok(()),
-        Err(AddFault::IllegalMove(_)) => Ok(()),
-    }
-}
-
-/// A node with no ply left, in the tree of a length. Where its placement is the diagram, the length
-/// must be the stated one, and the game is added.
-fn leaf(
-    question: &Question,
-    tree: u8,
-    machine: &mut Machine,
-    position: &Position,
-) -> Result<(), SearchFault>
-    requires { length machine.old.frames.items ≤ 128 }
-    ensures frames { machine.new.frames ≡ machine.old.frames }
-    ensures writer { machine.new.writer ≡ machine.old.writer }
-    ensures says { (failed : Bool) → Says question.now.plies failed result }
-{
-    machine.found = question.diagram.matches(position);
-    if !machine.found {
-        Ok(())
-    } else if tree < question.plies {
-        Err(SearchFault::Shorter(tree))
-    } else {
-        add_game(machine)
-    }
-}
-
-/// Opens a node.
-fn open(machine: &mut Machine, position: &Position, key: u64, named: bool)
-    requires { length machine.old.frames.items < 128 }
-    ensures frames { length machine.new.frames.items ≡ length machine.old.frames.items + 1 }
-    ensures writer { machine.new.writer ≡ machine.old.writer }
-{
-    machine.named = machine.named.saturating_add(u32::from(named));
-    machine.frames.push(Frame {
-        moves: LegalMoves::new(position),
-        key,
-        named,
+/// The frame of a node that opens.
+fn frame_of(opened: &Opened) -> Frame {
+    Frame {
+        moves: LegalMoves::new(&opened.position),
+        sides: opened.sides,
+        key: opened.key,
+        named: opened.named,
         found: false,
-    });
-}
-
-/// A node is entered: it ends at once, or it is open from now on.
-fn enter<W: Sink>(
-    question: &Question,
-    tree: u8,
-    position: &Position,
-    machine: &mut Machine,
-    sink: &mut W,
-) -> Result<(), SearchFault>
-    requires limit { tree ≤ 128 }
-    requires depth { length machine.old.frames.items ≤ tree }
-    requires runs { machine.old.writer.failed ≡ false }
-    ensures depth { OnOk result (length machine.new.frames.items ≤ tree) }
-    ensures runs { OnOk result (machine.new.writer.failed ≡ false) }
-    ensures says { Says question.now.plies (W.has_failed sink.new) result }
-{
-    let left = tree - machine.frames.len() as u8;
-    if left == 0 {
-        return leaf(question, tree, machine, position);
-    }
-    machine.found = false;
-    match head(question, machine, sink, position, left) {
-        Ok((Record::Expand { named }, key)) => {
-            open(machine, position, key, named);
-            Ok(())
-        }
-        Ok((Record::Cut(_), _)) => Ok(()),
-        Ok((Record::Ref(_), _)) => Ok(()),
-        Ok((Record::Priced { .. }, _)) => Ok(()),
-        Err(fault) => Err(fault),
     }
 }
 
@@ -121,13 +31,14 @@ fn close(top: &Frame, machine: &mut Machine) -> Result<(), SearchFault>
     ensures writer { machine.new.writer ≡ machine.old.writer }
     ensures says { (plies : ℕ) (failed : Bool) → Says plies failed result }
 {
-    machine.found = top.found;
+    let found = top.found || machine.found;
+    machine.found = found;
     if !top.named {
         return Ok(());
     }
     let number = machine.closed;
     machine.closed = machine.closed.saturating_add(1);
-    if top.found {
+    if found {
         return Ok(());
     }
     match machine.closed_nodes.insert(top.key, number) {
@@ -136,8 +47,137 @@ fn close(top: &Frame, machine: &mut Machine) -> Result<(), SearchFault>
     }
 }
 
-/// One turn: the next move of the topmost node is played, or the node closes. Leaves that are not on
-/// the diagram are passed over.
+/// Whether a move may lead to a position one move away from a board, from which the position differs on
+/// these squares.
+fn may_be_near(goal: &Board, position: &Position, squares: u64, m: &Move) -> bool {
+    let board = position.board();
+    let Some(man) = board.get(m.from) else {
+        return false;
+    };
+    if is_special(man, board.get(m.to), m) {
+        return true;
+    }
+    let from = 1u64 << (m.from.index() % 64);
+    let to = 1u64 << (m.to.index() % 64);
+    let left = if goal.get(m.from).is_some() { from } else { 0 };
+    let reached = if goal.get(m.to) == Some(man) { 0 } else { to };
+    is_near(squares & !from & !to | left | reached)
+}
+
+/// The moves of a node with two plies left are played, and the node closes.
+fn near<W: Sink>(
+    question: &Question,
+    tree: u8,
+    top: Frame,
+    machine: &mut Machine,
+    sink: &mut W,
+) -> Result<(), SearchFault>
+    requires runs { machine.old.writer.failed ≡ false }
+    ensures frames { OnOk result (machine.new.frames ≡ machine.old.frames) }
+    ensures runs { OnOk result (machine.new.writer.failed ≡ false) }
+    ensures says { Says question.now.plies (W.has_failed sink.new) result }
+{
+    let mut top = top;
+    let position = top.moves.position();
+    let goal = question.diagram.board();
+    let squares = position.board().differing(&goal);
+    for _ in 0..u16::MAX {
+        let Some(m) = top.moves.next() else {
+            return close(&top, machine);
+        };
+        match last_node(machine, sink) {
+            Ok(()) => {}
+            Err(fault) => return Err(fault),
+        }
+        if may_be_near(&goal, &position, squares, &m) {
+            let next = after(&position, &m);
+            match leaves(question, tree, machine, &Some(m), &next) {
+                Ok(()) => {}
+                Err(fault) => return Err(fault),
+            }
+        }
+    }
+    Err(SearchFault::Budget)
+}
+
+/// The moves of a node are played up to the first that leads to a node that opens; with no such move
+/// the node closes.
+fn far<W: Sink>(
+    question: &Question,
+    left: u8,
+    top: Frame,
+    machine: &mut Machine,
+    sink: &mut W,
+) -> Result<(), SearchFault>
+    requires room { length machine.old.frames.items + 2 ≤ 128 }
+    requires runs { machine.old.writer.failed ≡ false }
+    ensures depth { OnOk result (length machine.new.frames.items ≤ length machine.old.frames.items + 2) }
+    ensures runs { OnOk result (machine.new.writer.failed ≡ false) }
+    ensures says { Says question.now.plies (W.has_failed sink.new) result }
+{
+    let mut top = top;
+    let position = top.moves.position();
+    top.found = top.found || machine.found;
+    machine.found = false;
+    for _ in 0..u16::MAX {
+        let Some(m) = top.moves.next() else {
+            return close(&top, machine);
+        };
+        match child(question, machine, sink, &position, &m, &top.sides, left) {
+            Ok(None) => {}
+            Ok(Some(opened)) => {
+                machine.frames.push(top);
+                machine.frames.push(frame_of(&opened));
+                return Ok(());
+            }
+            Err(fault) => return Err(fault),
+        }
+    }
+    Err(SearchFault::Budget)
+}
+
+/// The tree of one length is entered.
+fn enter_root<W: Sink>(
+    question: &Question,
+    tree: u8,
+    machine: &mut Machine,
+    sink: &mut W,
+) -> Result<(), SearchFault>
+    requires runs { machine.old.writer.failed ≡ false }
+    ensures depth { OnOk result (length machine.new.frames.items ≤ tree) }
+    ensures runs { OnOk result (machine.new.writer.failed ≡ false) }
+    ensures says { Says question.now.plies (W.has_failed sink.new) result }
+{
+    machine.frames.clear();
+    machine.found = false;
+    let array = Position::array();
+    if tree == 0 {
+        return if question.diagram.matches(&array) {
+            end(question, tree, machine, &None, &None)
+        } else {
+            Ok(())
+        };
+    }
+    if tree == 1 {
+        return match last_node(machine, sink) {
+            Ok(()) => leaves(question, tree, machine, &None, &array),
+            Err(fault) => Err(fault),
+        };
+    }
+    if !visit(machine) {
+        return Err(SearchFault::Budget);
+    }
+    match enter(question, machine, sink, &array, None, tree) {
+        Ok(None) => Ok(()),
+        Ok(Some(opened)) => {
+            machine.frames.push(frame_of(&opened));
+            Ok(())
+        }
+        Err(fault) => Err(fault),
+    }
+}
+
+/// One turn: moves of the topmost node are played.
 fn turn<W: Sink>(
     question: &Question,
     tree: u8,
@@ -152,19 +192,12 @@ fn turn<W: Sink>(
     ensures runs { OnOk result (machine.new.writer.failed ≡ false) }
     ensures says { Says question.now.plies (W.has_failed sink.new) result }
 {
-    let mut top = top;
-    top.found = top.found || machine.found;
-    let left = tree - machine.frames.len() as u8;
-    if left == 1 && !pass_over(question.diagram, &mut top.moves) {
-        return close(&top, machine);
+    let left = tree - machine.frames.len() as u8 - 1;
+    if left < 2 {
+        near(question, tree, top, machine, sink)
+    } else {
+        far(question, left, top, machine, sink)
     }
-    let position = top.moves.position();
-    let Some(m) = top.moves.next() else {
-        return close(&top, machine);
-    };
-    let next = after(&position, &m);
-    machine.frames.push(top);
-    enter(question, tree, &next, machine, sink)
 }
 
 /// The tree of one length.
@@ -179,8 +212,7 @@ fn tree_of<W: Sink>(
     ensures runs { OnOk result (machine.new.writer.failed ≡ false) }
     ensures says { Says question.now.plies (W.has_failed sink.new) result }
 {
-    machine.frames.clear();
-    match enter(question, tree, &Position::array(), machine, sink) {
+    match enter_root(question, tree, machine, sink) {
         Ok(()) => {}
         Err(fault) => return Err(fault),
     }

@@ -22,7 +22,7 @@ use Rattle.pg_captures.specs.PlaceLemmas.{marks_men, place_within, price_at, see
 use Rattle.pg_captures.specs.PriceLists.{PriceList, place, price, IsPriced, IsFor}
 use Rattle.pg_travel.specs.Walks.{IsDistance}
 use Rattle.pg_travel.specs.Origins.{charge, counted}
-use Rattle.pg_travel.specs.Decisions.{dec_kind}
+use Rattle.pg_captures.specs.Decisions.{dec_kind}
 use Rattle.pg_travel.specs.Formulas.{distance_of, is_promoted, soonest, least_steps}
 use Rattle.pg_travel.specs.Pawns.{none_by_steps, some_by_steps, by_other}
 use Rattle.pg_travel.specs.PriceRecords.{list_at}

@@ -1,5 +1,5 @@
 -- Sums that stop at a limit. Leads to the contracts of `total_within`, `pays` and `excludes_for`.
-use Rattle.std.proofs.Common.{◌≡◌, ◌≢◌, ℕ, zero, suc, ◌+◌, ◌<◌, ◌≤◌, ◌⊎◌, ◌&&◌, ◌^◌, inl, inr, not, nat_eq, Bool, true, false, cond, Option, Some, None, bit_and, bit_or, count_ones, eqb, refl, sym, ap, subst, arith, ◌∙◌, w64, ◌-◌, IsTrue, ◌↔◌, leb}
+use Rattle.std.proofs.Common.{◌≡◌, ◌≢◌, ℕ, zero, suc, ◌+◌, ◌*◌, ◌<◌, ◌≤◌, ◌⊎◌, ◌&&◌, ◌^◌, inl, inr, not, nat_eq, Bool, true, false, cond, Option, Some, None, bit_and, bit_or, count_ones, eqb, refl, sym, ap, subst, arith, ◌∙◌, w64, ◌-◌, IsTrue, ◌↔◌, leb}
 use Rattle.std.proofs.lemmas.Bool.Decides.{eqb_tells, leb_tells}
 use Rattle.std.proofs.lemmas.Bool.{ne_eqb}
 use Rattle.std.specs.Int.{bit_not}
@@ -246,3 +246,30 @@ castled_paid p d c w k limit e h = test_fails p d c k h.0 (Some w, h.1, h.2) (su
 pub told : (p : State) (d : Placement) (c : Color) (k limit : ℕ) (long : Bool) → limit ≡ plies_left p.side c k → PaysIs p d c None limit false → CastledIs p d c KingSide limit false → CastledIs p d c QueenSide limit long → IsTrue (not long) ↔ TravelTest p d c k
 told p d c k limit true e a s q = ((λ t. cc), (λ t. absurd (castled_paid p d c QueenSide k limit e q t)))
 told p d c k limit false e a s q = ((λ t. all_above p d c k limit e a s q), (λ t. refl))
+
+-- ---- no sum is above the most that all men can cost
+sum_few : (f : ℕ → ℕ) (n : ℕ) → ((t : ℕ) → t < n → f t < 64) → sum_to f n ≤ 63 * n
+unfolding sum_to
+sum_few f zero h = omega arith
+sum_few f (suc n) h =
+    let low : sum_to f n ≤ 63 * n = sum_few f n (λ t l. h t (omega arith)) in
+    let here : f n < 64 = h n (omega arith) in
+    omega arith
+
+charge_low : (way : Option Wing) → charge way ≤ 1
+charge_low None = omega arith
+charge_low (Some w) = omega arith
+
+-- so where no sum is within the most, there is none
+pub all_within : (b d : Placement) (c : Color) (way : Option Wing) (limit : ℕ) (o : Option ℕ) → limit ≡ 4033 → SumWithin b d c way limit o → SumIs b d c way o
+all_within b d c way limit (Some v) e h = h
+all_within b d c way limit None e h = go (sum_of b d c way).0 (sum_of b d c way).1
+  where
+    go : (o : Option ℕ) → SumIs b d c way o → SumIs b d c way None
+    go None s = s
+    go (Some v) s =
+        absurd (let above : limit < v = h v s in
+        let low : sum_to (cost b d c way) 64 ≤ 63 * 64 = sum_few (cost b d c way) 64 s.0 in
+        let few : charge way ≤ 1 = charge_low way in
+        let is : v ≡ charge way + sum_to (cost b d c way) 64 = s.1 in
+        omega arith)

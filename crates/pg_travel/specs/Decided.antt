@@ -14,7 +14,7 @@ use Rattle.pg_travel.specs.Origins.{charge, sum_to}
 use Rattle.pg_travel.specs.Needs.{NeedIs, TravelTest, TravelHolds}
 use Rattle.pg_travel.specs.Formulas.{least_of}
 use Rattle.pg_travel.specs.Costs.{reach_of, nearest, cost_of, cost, ValueIs, SumIs, HeldIs, lesser}
-use Rattle.pg_travel.specs.Decisions.{dec_below, dec_equal, dec_along}
+use Rattle.pg_captures.specs.Decisions.{dec_below, dec_equal, dec_along}
 use Rattle.pg_travel.specs.Values.{sum_is_value}
 use Rattle.pg_travel.specs.Least.{need_is, test_none, test_some, held_by_value}
 

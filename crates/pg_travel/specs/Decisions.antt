@@ -14,74 +14,7 @@ use Rattle.pg_position.specs.Position.{Stands}
 use Rattle.pg_position.specs.Step.{home_rank, last_rank}
 use Rattle.pg_captures.specs.FreeSteps.{StepsTo, Becomes, FreeStep}
 use Rattle.pg_travel.specs.Walks.{Walk, IsLeast}
-use Rattle.pg_captures.specs.BoardLemmas.{none_some}
-
-pub dec_and : {A B : Type 0} → Dec A → Dec B → Dec (A × B)
-dec_and (yes a) (yes b) = yes (a, b)
-dec_and (no f) b = no (λ h. f h.0)
-dec_and (yes a) (no f) = no (λ h. f h.1)
-
-pub dec_or : {A B : Type 0} → Dec A → Dec B → Dec (A ⊎ B)
-dec_or (yes a) b = yes (inl a)
-dec_or (no f) (yes b) = yes (inr b)
-dec_or (no f) (no g) = no (λ h. elim h [ inl a ↦ f a | inr b ↦ g b ])
-
-pub dec_not : {A : Type 0} → Dec A → Dec (¬ A)
-dec_not (yes a) = no (λ f. f a)
-dec_not (no f) = yes f
-
-pub dec_along : {A B : Type 0} → (A → B) → (B → A) → Dec A → Dec B
-dec_along f g (yes a) = yes (f a)
-dec_along f g (no h) = no (λ b. h (g b))
-
-pub dec_equal : (a b : ℕ) → Dec (a ≡ b)
-dec_equal a b = elim (eqb_tells a b) [ inl w ↦ yes w.1 | inr w ↦ no w.1 ]
-
-pub dec_at_most : (a b : ℕ) → Dec (a ≤ b)
-dec_at_most a b = elim (leb_tells a b) [ inl w ↦ yes w.1 | inr w ↦ no (λ h. omega arith) ]
-
--- below a bound
-pub dec_below : (P : ℕ → Type 0) → ((n : ℕ) → Dec (P n)) → (b : ℕ) → Dec ((n : ℕ) × (n < b) × P n)
-dec_below P dec zero = no (λ h. absurd (let low : h.0 < 0 = h.1 in omega arith))
-dec_below P dec (suc b) = join (dec_below P dec b) (dec b)
-  where
-    join : Dec ((n : ℕ) × (n < b) × P n) → Dec (P b) → Dec ((n : ℕ) × (n < suc b) × P n)
-    join (yes h) here = yes (h.0, (let low : h.0 < b = h.1 in omega arith), h.2)
-    join (no f) (yes h) = yes (b, omega arith, h)
-    join (no f) (no g) = no (λ h. elim (eqb_tells h.0 b) [ inl w ↦ g (subst P w.1 h.2) | inr w ↦ f (h.0, (let low : h.0 < suc b = h.1 in let ne : h.0 ≢ b = w.1 in omega arith), h.2) ])
-
-pub dec_kinds : (P : Kind → Type 0) → ((k : Kind) → Dec (P k)) → Dec ((k : Kind) × P k)
-dec_kinds P dec = dec_along out back (dec_or (dec Pawn) (dec_or (dec Knight) (dec_or (dec Bishop) (dec_or (dec Rook) (dec_or (dec Queen) (dec King))))))
-  where
-    out : P Pawn ⊎ (P Knight ⊎ (P Bishop ⊎ (P Rook ⊎ (P Queen ⊎ P King)))) → (k : Kind) × P k
-    out (inl h) = (Pawn, h)
-    out (inr (inl h)) = (Knight, h)
-    out (inr (inr (inl h))) = (Bishop, h)
-    out (inr (inr (inr (inl h)))) = (Rook, h)
-    out (inr (inr (inr (inr (inl h))))) = (Queen, h)
-    out (inr (inr (inr (inr (inr h))))) = (King, h)
-
-    back : ((k : Kind) × P k) → P Pawn ⊎ (P Knight ⊎ (P Bishop ⊎ (P Rook ⊎ (P Queen ⊎ P King))))
-    back (Pawn, h) = inl h
-    back (Knight, h) = inr (inl h)
-    back (Bishop, h) = inr (inr (inl h))
-    back (Rook, h) = inr (inr (inr (inl h)))
-    back (Queen, h) = inr (inr (inr (inr (inl h))))
-    back (King, h) = inr (inr (inr (inr (inr h))))
-
-pub dec_kind : (k j : Kind) → Dec (k ≡ j)
-dec_kind Pawn Pawn = yes refl
-dec_kind Knight Knight = yes refl
-dec_kind Bishop Bishop = yes refl
-dec_kind Rook Rook = yes refl
-dec_kind Queen Queen = yes refl
-dec_kind King King = yes refl
-dec_kind k j = no (λ e. cc)
-
-dec_color : (c d : Color) → Dec (c ≡ d)
-dec_color White White = yes refl
-dec_color Black Black = yes refl
-dec_color c d = no (λ e. cc)
+use Rattle.pg_captures.specs.Decisions.{dec_and, dec_or, dec_not, dec_along, dec_equal, dec_at_most, dec_below, dec_kinds, dec_kind}
 
 dec_forward : (c : Color) (n r s : ℕ) → Dec (IsForward c n r s)
 dec_forward White n r s = dec_equal (rank s) (rank r + n)
@@ -129,21 +62,6 @@ dec_walk c k r (suc n) j s =
     dec_along (λ h. (h.0, h.1.0, h.1.2.0, h.1.2.1)) (λ h. (h.0, (h.1, h.2.1, (h.2, h.3))))
     (dec_kinds (λ i. (t : ℕ) × (t < 64) × (FreeStep c k r i t × Walk c i t n j s))
     (λ i. dec_below (λ t. FreeStep c k r i t × Walk c i t n j s) (λ t. dec_and (dec_free c k r i t) (dec_walk c i t n j s)) 64))
-
-pub dec_stands : (b : Placement) (c : Color) (k : Kind) (t : ℕ) → Dec (Stands b c k t)
-dec_stands b c k t = go (get b t)
-  where
-    go : (o : Option Man) → Dec (o ≡ Some (man c k))
-    go None = no none_some
-    go (Some m) = dec_along (λ h. ap (λ (x : Color). Some (man x m.kind)) h.0 ∙ ap (λ (x : Kind). Some (man c x)) h.1) (λ e. (ap color_of e, ap kind_of e)) (dec_and (dec_color m.color c) (dec_kind m.kind k))
-      where
-        color_of : Option Man → Color
-        color_of None = White
-        color_of (Some x) = x.color
-
-        kind_of : Option Man → Kind
-        kind_of None = Pawn
-        kind_of (Some x) = x.kind
 
 -- the least number below a bound, or none
 search_below : (P : ℕ → Type 0) → ((n : ℕ) → Dec (P n)) → (b : ℕ) → ((m : ℕ) × (m < b) × IsLeast P m) ⊎ ((m : ℕ) → m < b → ¬ P m)

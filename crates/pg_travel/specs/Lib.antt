@@ -23,3 +23,4 @@ pub mod TravelPricesLaw
 pub mod PriceRecords
 pub mod Rows
 pub mod PriceTests
+pub mod PricesDecided

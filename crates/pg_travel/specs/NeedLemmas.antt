@@ -14,7 +14,8 @@ use Rattle.pg_travel.specs.Needs.{HasValue, TakesDistances, DistancesLaw, Comes,
 use Rattle.pg_captures.specs.BoardLemmas.{same_kind}
 use Rattle.pg_travel.specs.SumLemmas.{sum_below}
 use Rattle.pg_travel.specs.OriginsLemmas.{origins_of_game}
-use Rattle.pg_travel.specs.Decisions.{dec_and, dec_along, dec_below, dec_kinds, dec_at_most, dec_walk, dec_stands, least}
+use Rattle.pg_captures.specs.Decisions.{dec_and, dec_along, dec_below, dec_kinds, dec_at_most, dec_stands}
+use Rattle.pg_travel.specs.Decisions.{dec_walk, least}
 
 -- a man of c stands on t
 abbrev HasMan : Placement → Color → ℕ → Type 0

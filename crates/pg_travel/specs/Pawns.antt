@@ -11,7 +11,7 @@ use Rattle.pg_position.specs.Step.{last_rank}
 use Rattle.pg_captures.specs.FreeSteps.{StepsTo, Becomes, FreeStep}
 use Rattle.pg_travel.specs.Walks.{Walk, DistanceIs}
 use Rattle.pg_travel.specs.Formulas.{files, king, rook, bishop, queen, knight, piece, pawn, pawn_to, from_pawn, least_of, code, distance_of, DistanceLaw}
-use Rattle.pg_travel.specs.Decisions.{dec_kind}
+use Rattle.pg_captures.specs.Decisions.{dec_kind}
 use Rattle.pg_travel.specs.PairTests.{Fits, fits}
 use Rattle.pg_travel.specs.Pieces.{answer_none, answer_some, goes_to, piece_step, piece_free, piece_fits}
 use Rattle.pg_travel.specs.PawnTables.{at_end, pawn_goes, pawn_left, piece_left, white_pawn_fits, white_knight_fits, white_bishop_fits, white_rook_fits, white_queen_fits, black_pawn_fits, black_knight_fits, black_bishop_fits, black_rook_fits, black_queen_fits}

@@ -109,22 +109,14 @@ fn cost(board: &Board, goal: &Board, color: Color, way: Option<Castling>, t: Squ
     }
 }
 
+// No way costs more: its charge is 1 at most, and a man on each square 63 at most.
+const MOST: u16 = 1 + 64 * 63;
+
 // The charge of a way and what all men of the diagram cost; none where one has no man to come.
 fn total(board: &Board, goal: &Board, color: Color, way: Option<Castling>) -> Option<u16>
     ensures { SumIs board.now goal.now color (way_of way) result }
 {
-    let own = goal.squares_of_color(color);
-    let mut total = charge(way);
-    let mut from = 0u8;
-    while let Some(t) = first_from(own, from) {
-        let n = cost(board, goal, color, way, t);
-        if n == 64 {
-            return None;
-        }
-        total += u16::from(n);
-        from = t.index() + 1;
-    }
-    Some(total)
+    total_within(board, goal, color, way, MOST)
 }
 
 // The charge of a way and what all men of the diagram cost; none where that is above the limit, or

@@ -25,11 +25,17 @@ fn one_ply(rt: HostRuntime) -> Result<(), std::test::Fail> {
 /// expansion and six cuts: 79 bytes.
 pub fn open_game<R: AllocGlobal>(rt: &R, asked: &Problem) -> Result<Vec<u8>, AllocError> {
     let mut bytes = headed(rt, asked)?;
-    bytes.extend_from_slice(&[2, 4, 1])?;
-    repeat(&mut bytes, &[2, 4], 13)?;
-    bytes.push(1)?;
-    repeat(&mut bytes, &[2, 4], 6)?;
+    bytes.extend_from_slice(&[2, 4])?;
+    one_game(&mut bytes)?;
     Ok(bytes)
+}
+
+/// The tree of the one game of two plies.
+pub fn one_game<A: Allocator>(bytes: &mut Vec<u8, A>) -> Result<(), AllocError> {
+    bytes.push(1)?;
+    repeat(bytes, &[2, 4], 13)?;
+    bytes.push(1)?;
+    repeat(bytes, &[2, 4], 6)
 }
 
 #[test]

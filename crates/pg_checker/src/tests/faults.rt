@@ -99,14 +99,16 @@ fn each_change_of_a_byte(rt: HostRuntime) -> Result<(), std::test::Fail> {
             bytes[i] = kept ^ change;
             let said = checked(&rt, &asked, &mut FromRead::new(bytes.as_slice()), MANY, 9)?;
             if said.is_ok() {
-                assert!(rt; said == yes(22, 1));
-                assert!(rt; (i == 39 || i == 66) && bytes[i] == 5);
+                let named = (i == 39 || i == 66) && bytes[i] == 5;
+                let later = i == 3 && bytes[i] == b'2';
+                assert!(rt; named || later);
+                assert!(rt; said == yes(22, u32::from(named)));
                 accepted = accepted.saturating_add(1);
             }
         }
         bytes[i] = kept;
     }
-    assert_eq!(rt; accepted, 2);
+    assert_eq!(rt; accepted, 3);
     Ok(())
 }
 

@@ -5,7 +5,7 @@ use pg_san::GamesFault;
 
 /// The pawn on d3 in five plies: a named node in the tree of length 1, three cuts, and the knight
 /// shuffle down to a position with these bytes.
-fn shuffle<R: AllocGlobal>(
+pub fn shuffle<R: AllocGlobal>(
     rt: &R,
     asked: &Problem,
     first: u8,
@@ -30,7 +30,7 @@ fn shuffle<R: AllocGlobal>(
 }
 
 /// Four cuts and a reference to number 0.
-const TO_THE_ARRAY: [u8; 13] = [2, 3, 2, 3, 2, 3, 2, 3, 3, 0, 0, 0, 0];
+pub const TO_THE_ARRAY: [u8; 13] = [2, 3, 2, 3, 2, 3, 2, 3, 3, 0, 0, 0, 0];
 
 #[test]
 fn the_knight_shuffle(rt: HostRuntime) -> Result<(), std::test::Fail> {
@@ -222,14 +222,14 @@ fn mark<R: AllocGlobal>(
     Ok(())
 }
 
-/// The answer to trees of all lengths up to the stated one, where in the last the node after one
+/// The certificate of trees of all lengths up to the stated one, where in the last the node after one
 /// game is named and that after another refers to it.
-fn marked<R: Abort + AllocGlobal>(
+pub fn marked_bytes<R: Abort + AllocGlobal>(
     rt: &R,
     asked: &Problem,
     named: &str,
     refers: &str,
-) -> Result<Result<Proved, Fault>, AllocError> {
+) -> Result<Vec<u8>, AllocError> {
     let named = ask(rt, PAWN_ON_D3, "0", named);
     let refers = ask(rt, PAWN_ON_D3, "0", refers);
     let (Some(named), Some(refers)) = (named.games.game(0), refers.games.game(0)) else {
@@ -248,6 +248,17 @@ fn marked<R: Abort + AllocGlobal>(
     mark(
         rt, &mut bytes, asked, named, refers, &mut game, &array, plies,
     )?;
+    Ok(bytes)
+}
+
+/// The answer to it.
+fn marked<R: Abort + AllocGlobal>(
+    rt: &R,
+    asked: &Problem,
+    named: &str,
+    refers: &str,
+) -> Result<Result<Proved, Fault>, AllocError> {
+    let bytes = marked_bytes(rt, asked, named, refers)?;
     answer(rt, asked, &bytes, MANY, 9)
 }
 

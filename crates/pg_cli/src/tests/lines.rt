@@ -1,5 +1,5 @@
 use super::*;
-use crate::progress::{RecordCount, Watch, Watched};
+use crate::progress::{RecordCount, Watch, Watched, line_of};
 use pg_report::{FromRead, Source};
 use std::cell::Cell;
 use std::fmt::Display;
@@ -43,7 +43,7 @@ fn prints<R: Abort + AllocGlobal>(rt: &R, times: &[u64], screen: bool) -> Result
     let bytes = repeated(rt.alloc(), 1, times.len())?;
     let mut source = Watched::new(
         FromRead::new(bytes.as_slice()),
-        Watch::new(&desk, "records", screen),
+        Watch::new(&desk, "records", 100, screen),
     );
     let mut buffer = [0u8; 1];
     for time in times {
@@ -84,4 +84,44 @@ fn records_that_pass_by(rt: HostRuntime) -> Result<(), Fail> {
         assert_eq!(rt; count.records, 6);
     }
     Ok(())
+}
+
+/// A record of prices is one, however many lists it has and however long they are.
+#[test]
+fn records_of_prices_that_pass_by(rt: HostRuntime) -> Result<(), Fail> {
+    for (head, lists, wanted) in [
+        ([6, 4, 0, 2, 1, 2], 6, 4),
+        ([6, 3, 1, 1, 0, 3], 3, 4),
+        ([6, 3, 1, 1, 0, 0], 0, 4),
+        ([6, 4, 0, 3, 64, 64], 384, 4),
+    ] {
+        let mut bytes = certificate(&rt, ARRAY, 4, &[1])?;
+        bytes.extend_from_slice(&head)?;
+        let rest = repeated(rt.alloc(), 6, lists)?;
+        bytes.extend_from_slice(rest.as_slice())?;
+        bytes.extend_from_slice(&[2, 6, 1])?;
+        let mut count = RecordCount::new();
+        count.pass(bytes.as_slice());
+        assert_eq!(rt; count.records, wanted);
+    }
+    Ok(())
+}
+
+/// What is shown is never wider than nineteen columns.
+#[test]
+fn lines_that_fit(rt: HostRuntime) {
+    for (count, name, limit, wanted) in [
+        (0, "nodes", 0, "0 nodes 100%"),
+        (0, "nodes", 1, "0 nodes 0%"),
+        (99_999, "records", 100_000, "99999 records 99%"),
+        (100_000, "records", 100_000, "100k records 100%"),
+        (12_345_678, "records", 100_000_000, "12345k records 12%"),
+        (99_999_999, "records", 99_999_999, "99999k records 100%"),
+        (100_000_000, "nodes", 1_000_000_000, "100M nodes 10%"),
+        (u64::MAX, "records", u64::MAX, "18446P records 100%"),
+    ] {
+        let line = line_of(count, name, limit);
+        assert_eq!(rt; line.as_str(), wanted);
+        assert!(rt; line.as_str().len() <= 19, "{wanted}");
+    }
 }

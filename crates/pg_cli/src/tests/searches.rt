@@ -17,11 +17,11 @@ fn searches(rt: HostRuntime) -> Result<(), Fail> {
     };
     let mut out = Vec::new(rt.alloc());
     let empty = b"".as_slice();
-    let refused = check_found(&rt, &problem, &games, none, empty, &mut out, false);
+    let refused = check_found(&rt, &problem, &games, none, empty, &mut out, 1, false);
     check_said(&rt, refused, "truncated certificate", 1)?;
     assert!(rt; out.is_empty());
     let whole = bytes.as_slice();
-    let done = check_found(&rt, &problem, &games, none, whole, &mut out, false);
+    let done = check_found(&rt, &problem, &games, none, whole, &mut out, 1, false);
     check_said(&rt, done, "", 0)?;
     assert_eq!(rt;
         str::from_utf8(out.as_slice())?,

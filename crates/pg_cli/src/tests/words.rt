@@ -1,15 +1,5 @@
 use super::*;
 
-/// The status of the program where it is called with these words.
-fn status_of<R: Runtime + AllocGlobal>(rt: &R, words: &[&str]) -> Result<u8, AllocError> {
-    let mut line = Vec::new(rt.alloc());
-    line.push(String::from_str(rt.alloc(), "pg")?)?;
-    for word in words {
-        line.push(String::from_str(rt.alloc(), word)?)?;
-    }
-    Ok(obey(rt, line.as_slice(), false))
-}
-
 #[test]
 fn words_that_are_refused(rt: HostRuntime) -> Result<(), Fail> {
     for words in [
@@ -61,10 +51,13 @@ fn files_that_cannot_be_opened(rt: HostRuntime) -> Result<(), Fail> {
         &["check", "8/8", "64.5", "no/such/file"],
         &["search", ARRAY, "0", "no/such/file", "--nodes=0"],
         &["search", ARRAY, "0", "/dev/full"],
+        &["search", ARRAY, "0", "/dev/null"],
+        &["search", ARRAY, "0", "/"],
+        &["search", ARRAY, "0", ""],
+        &["search", ARRAY, "0", "no-such-folder/"],
     ] {
         assert_eq!(rt; status_of(&rt, words)?, 4, "{words:?}");
     }
-    assert_eq!(rt; status_of(&rt, &["search", ARRAY, "0", "/dev/null"])?, 1);
     assert_eq!(rt; status_of(&rt, &["--help"])?, 0);
     assert_eq!(rt; status_of(&rt, &["check", "--help"])?, 0);
     assert_eq!(rt; status_of(&rt, &["--version"])?, 0);

@@ -1,5 +1,5 @@
 -- The lemmas of Chess.
-use Rattle.pg_checker.proofs.Chess.{chess_is, chess_cut, chess_read, chess_exact, chess_few}
+use Rattle.pg_checker.proofs.Chess.{chess_is, chess_cut, chess_priced, chess_read, chess_exact, chess_few}
 use Rattle.pg_checker.proofs.chess_laws.chess_law.Goals as goal
 
 pub returns-clause-rules : goal.returns-clause-rules
@@ -7,6 +7,9 @@ returns-clause-rules c = chess_is
 
 pub returns-clause-cuts : goal.returns-clause-cuts
 returns-clause-cuts c = chess_cut
+
+pub returns-clause-prices : goal.returns-clause-prices
+returns-clause-prices c = chess_priced
 
 pub returns-clause-reads : goal.returns-clause-reads
 returns-clause-reads c = chess_read

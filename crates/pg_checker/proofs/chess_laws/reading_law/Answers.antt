@@ -10,10 +10,10 @@ pub returns-clause-spelled : goal.returns-clause-spelled
 returns-clause-spelled c = read_spelled
 
 pub returns-clause-truncated : goal.returns-clause-truncated
-returns-clause-truncated c = λ bytes fits. (read_short bytes fits, short_read bytes fits)
+returns-clause-truncated c = λ version bytes fits. (read_short version bytes fits, short_read version bytes fits)
 
 pub returns-clause-unknown : goal.returns-clause-unknown
-returns-clause-unknown c = λ bytes x fits. (read_unknown bytes x fits, unknown_read bytes x fits)
+returns-clause-unknown c = λ version bytes x fits. (read_unknown version bytes x fits, unknown_read version bytes x fits)
 
 pub returns-clause-refusals : goal.returns-clause-refusals
 returns-clause-refusals c = read_err

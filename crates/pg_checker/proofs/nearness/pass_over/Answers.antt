@@ -5,23 +5,23 @@ use Rattle.pg_checker.specs.Passing.{LeadsElsewhere}
 use Rattle.pg_checker.proofs.Passing.{passes_none, passes_more, fewer_left, none_elsewhere}
 use Rattle.pg_checker.proofs.nearness.pass_over.Goals as goal
 
-pub loop-m-init : goal.loop-m-init
-loop-m-init c = passes_none c.args.diagram.now c.args.moves.now
+pub loop-ahead-init : goal.loop-ahead-init
+loop-ahead-init c = passes_none c.args.diagram.now c.args.moves.now
 
 pub leads-requires-clause-legal : goal.leads-requires-clause-legal
-leads-requires-clause-legal c = subst (λ (p : State). IsLegal p c.in-Some.m) (c.loop-m.invariant.position ∙ sym c.position-position.ensures) c.in-Some.ensures.0.legal
+leads-requires-clause-legal c = subst (λ (p : State). IsLegal p c.in-Some.ahead.m) (c.loop-ahead.invariant.position ∙ sym c.position-position.ensures) c.in-Some.ensures.0.legal
 
 pub returns-then-leads-clause-passed : goal.returns-then-leads-clause-passed
-returns-then-leads-clause-passed c = c.loop-m.invariant
+returns-then-leads-clause-passed c = c.loop-ahead.invariant
 
-pub loop-m-smaller : goal.loop-m-smaller
-loop-m-smaller c = fewer_left c.loop-m.moves c.in-Some.later c.in-Some.m c.in-Some.ensures.0 c.in-Some.ensures.1
+pub loop-ahead-smaller : goal.loop-ahead-smaller
+loop-ahead-smaller c = fewer_left c.loop-ahead.moves c.pass.new.self c.in-Some.ahead.m c.in-Some.ensures.0 c.pass.ensures
 
-pub loop-m-preserved : goal.loop-m-preserved
-loop-m-preserved c = passes_more c.args.diagram.now c.args.moves.now c.loop-m.moves c.in-Some.later c.in-Some.m c.loop-m.invariant c.in-Some.ensures.0 c.in-Some.ensures.1 (subst (λ (p : State). LeadsElsewhere c.args.diagram.now p c.in-Some.m) c.position-position.ensures (c.leads.ensures c.if-leads.false))
+pub loop-ahead-preserved : goal.loop-ahead-preserved
+loop-ahead-preserved c = passes_more c.args.diagram.now c.args.moves.now c.loop-ahead.moves c.pass.new.self c.in-Some.ahead.m c.loop-ahead.invariant c.in-Some.ensures.0 c.pass.ensures (subst (λ (p : State). LeadsElsewhere c.args.diagram.now p c.in-Some.ahead.m) c.position-position.ensures (c.leads.ensures c.if-leads.false))
 
 pub returns-clause-passed : goal.returns-clause-passed
-returns-clause-passed c = c.loop-m.invariant
+returns-clause-passed c = c.loop-ahead.invariant
 
 pub returns-clause-none : goal.returns-clause-none
-returns-clause-none c = λ e. none_elsewhere c.args.diagram.now c.loop-m.moves c.in_default.ensures
+returns-clause-none c = λ e. none_elsewhere c.args.diagram.now c.loop-ahead.moves c.in_default.ensures

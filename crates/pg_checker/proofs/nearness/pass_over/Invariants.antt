@@ -4,8 +4,8 @@ use Rattle.pg_checker.specs.Left.{left_after}
 use Rattle.pg_checker.specs.Passing.{PassesOver}
 use Rattle.pg_checker.proofs.nearness.pass_over.Given as goal
 
-abbrev pub invariant-loop-m : goal.invariant-loop-m
-invariant-loop-m l = PassesOver l.diagram l.initial.moves l.moves
+abbrev pub invariant-loop-ahead : goal.invariant-loop-ahead
+invariant-loop-ahead l = PassesOver l.diagram l.initial.moves l.moves
 
-abbrev pub decreases-loop-m : goal.decreases-loop-m
-decreases-loop-m l = length (left_after l.moves.position l.moves.last)
+abbrev pub decreases-loop-ahead : goal.decreases-loop-ahead
+decreases-loop-ahead l = length (left_after l.moves.position l.moves.last)

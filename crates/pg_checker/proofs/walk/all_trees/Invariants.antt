@@ -7,7 +7,7 @@ use Rattle.pg_checker.proofs.Planting.{Trees}
 use Rattle.pg_checker.proofs.walk.all_trees.Given as goal
 
 abbrev pub invariant-trees : goal.invariant-trees
-invariant-trees g l = Trees l.question.diagram.now l.question.plies l.question.games.now (cuts_by (λ b. (goal.Bound-dyn g (b.vtable, b.value)).code_of b.value) (λ b. (goal.Bound-dyn g (b.vtable, b.value)).excluded b.value) l.question.diagram.now l.question.bounds.now) array_state (to_come l.initial.machine.reader (g.S.Source.left l.initial.source)) (to_come l.machine.reader (g.S.Source.left l.source)) l.tree l.initial.machine l.machine
+invariant-trees g l = Trees l.question.diagram.now l.question.plies l.question.games.now (cuts_by (λ b. (goal.Bound-dyn g (b.vtable, b.value)).code_of b.value) (λ b. (goal.Bound-dyn g (b.vtable, b.value)).excluded b.value) l.question.version l.question.diagram.now l.question.bounds.now) array_state (to_come l.initial.machine.reader (g.S.Source.left l.initial.source)) (to_come l.machine.reader (g.S.Source.left l.source)) l.tree l.initial.machine l.machine
 
 abbrev pub decreases-trees : goal.decreases-trees
 decreases-trees g l = l.question.plies - l.tree

@@ -2,28 +2,39 @@ use Rattle.std.proofs.Common.{◌≡◌, ◌<◌, [], length, sym, ◌∙◌, ar
 use Rattle.std.proofs.lemmas.Bool.Decides.{nat_tests}
 use Rattle.std.proofs.lemmas.List.{nil_from_length}
 use Rattle.pg_san.specs.GameText.{words, bare}
-use Rattle.pg_san.proofs.WordReadingLemmas.{spelled_none, spelled_whole, spelled_skip, spelled_move, spelled_bad}
+use Rattle.pg_san.proofs.WordReadingLemmas.{so_none, so_skip, so_move, so_bad, so_kept, so_lost}
 use Rattle.pg_san.proofs.listing.read_words.Goals as goal
 
 pub loop-word-init : goal.loop-word-init
-loop-word-init c = rw (c.new-game.ensures.items, c.array-here.ensures) (spelled_none (words c.args.line.now))
+loop-word-init c = record {
+  few = omega arith;
+  spelled = rw (c.new-game.ensures.items, c.array-here.ensures) (so_none (words c.args.line.now));
+}
 
-pub returns : goal.returns
-returns c = spelled_whole (words c.args.line.now) (words c.loop-word.rest.now) c.loop-word.game.items c.loop-word.here c.loop-word.invariant c.in_default.ensures
+pub returns-in-Err : goal.returns-in-Err
+returns-in-Err c =
+    let l : 0 < length c.bare-text.result.now = grind (arith, nat_tests) in
+    so_bad (words c.args.line.now) (words c.loop-word.rest.now) (words c.in-Some.after.now) c.in-Some.word.now c.bare-text.result.now c.loop-word.plies c.loop-word.kept c.loop-word.game.items c.loop-word.here c.in-Err.cause c.loop-word.invariant.spelled c.in-Some.ensures.0 c.bare-text.ensures l c.in-Err.ensures
+
+pub loop-word-preserved-then-not-is_empty : goal.loop-word-preserved-then-not-is_empty
+loop-word-preserved-then-not-is_empty c =
+    let l : 0 < length c.bare-text.result.now = grind (arith, nat_tests) in
+    record {
+      few = omega (arith, c.loop-word.invariant.few, c.in-Some.ensures.1);
+      spelled = so_move (words c.args.line.now) (words c.loop-word.rest.now) (words c.in-Some.after.now) c.in-Some.word.now c.bare-text.result.now c.loop-word.plies c.loop-word.kept c.keep-kept.result c.loop-word.game.items c.keep-kept.new.game.items c.in-Ok.m c.loop-word.here c.played-here.result c.loop-word.invariant.spelled c.in-Some.ensures.0 c.bare-text.ensures l c.in-Ok.ensures c.played-here.ensures c.keep-kept.ensures;
+    }
 
 pub loop-word-preserved : goal.loop-word-preserved
 loop-word-preserved c =
     let l : length c.bare-text.result.now ≡ 0 = grind (arith, nat_tests) in
     let nil : bare c.in-Some.word.now ≡ [] = sym c.bare-text.ensures ∙ nil_from_length c.bare-text.result.now l in
-    spelled_skip (words c.args.line.now) (words c.loop-word.rest.now) (words c.in-Some.after.now) c.in-Some.word.now c.loop-word.game.items c.loop-word.here c.loop-word.invariant c.in-Some.ensures.0 nil
+    record {
+      few = omega (arith, c.loop-word.invariant.few, c.in-Some.ensures.1);
+      spelled = so_skip (words c.args.line.now) (words c.loop-word.rest.now) (words c.in-Some.after.now) c.in-Some.word.now c.loop-word.plies c.loop-word.kept c.loop-word.game.items c.loop-word.here c.loop-word.invariant.spelled c.in-Some.ensures.0 nil;
+    }
 
-pub returns-in-Err : goal.returns-in-Err
-returns-in-Err c =
-    let l : 0 < length c.bare-text.result.now = grind (arith, nat_tests) in
-    let n : c.len.result ≡ length c.loop-word.game.items = omega arith in
-    rw n (spelled_bad (words c.args.line.now) (words c.loop-word.rest.now) (words c.in-Some.after.now) c.in-Some.word.now c.bare-text.result.now c.loop-word.game.items c.loop-word.here c.in-Err.cause c.loop-word.invariant c.in-Some.ensures.0 c.bare-text.ensures l c.in-Err.ensures)
+pub returns-then-kept : goal.returns-then-kept
+returns-then-kept c = so_kept (words c.args.line.now) (words c.loop-word.rest.now) c.loop-word.plies c.loop-word.kept c.loop-word.game.items c.loop-word.here c.loop-word.invariant.spelled c.in_default.ensures c.if-kept.true
 
-pub loop-word-preserved-in-Ok-push : goal.loop-word-preserved-in-Ok-push
-loop-word-preserved-in-Ok-push c =
-    let l : 0 < length c.bare-text.result.now = grind (arith, nat_tests) in
-    rw c.in-Ok-push.ensures.items (spelled_move (words c.args.line.now) (words c.loop-word.rest.now) (words c.in-Some.after.now) c.in-Some.word.now c.bare-text.result.now c.loop-word.game.items c.in-Ok.m c.loop-word.here c.played-here.result c.loop-word.invariant c.in-Some.ensures.0 c.bare-text.ensures l c.in-Ok.ensures c.played-here.ensures)
+pub returns-else-kept : goal.returns-else-kept
+returns-else-kept c = so_lost (words c.args.line.now) (words c.loop-word.rest.now) c.loop-word.plies c.loop-word.kept c.loop-word.game.items c.loop-word.here c.loop-word.invariant.spelled c.in_default.ensures

@@ -1,10 +1,13 @@
-use Rattle.std.proofs.Common.{length}
+use Rattle.std.proofs.Common.{◌≤◌, ◌+◌, length}
 use Rattle.pg_san.specs.GameText.{words}
-use Rattle.pg_san.proofs.WordReadingLemmas.{IsSpelled}
+use Rattle.pg_san.proofs.WordReadingLemmas.{IsSpelledSo}
 use Rattle.pg_san.proofs.listing.read_words.Given as goal
 
 abbrev pub invariant-loop-word : goal.invariant-loop-word
-invariant-loop-word l = IsSpelled (words l.fn.line) (words l.rest) l.game.items l.here
+invariant-loop-word l = record {
+  few : l.plies + length l.rest ≤ length l.fn.line;
+  spelled : IsSpelledSo (words l.fn.line) (words l.rest) l.plies l.kept l.game.items l.here;
+}
 
 abbrev pub decreases-loop-word : goal.decreases-loop-word
 decreases-loop-word l = length l.rest

@@ -13,5 +13,6 @@ invariant-loop-i g l = record {
   pulled : 0 < l.i → IfSome (to_come l.fn.self (g.S.Source.left l.fn.source)) (λ bytes. IfSome (g.S.Source.left l.source) (λ rest. length bytes ≤ length rest + (4096 + l.i)));
   room : 0 < l.i → length l.self.held ≤ 4096;
   version : l.self.version ≡ l.fn.self.version;
+  source_runs : g.S.Source.has_failed l.fn.source ≡ false → g.S.Source.has_failed l.source ≡ false;
   untouched : l.fn.self.failed ≡ true → l.source ≡ l.fn.source;
 }

@@ -1,0 +1,11 @@
+-- The same man stands on each square.
+use Rattle.std.proofs.Common.{◌≡◌, ℕ, sym, ◌∙◌, ap}
+use Rattle.pg_board.specs.declared.sets.Sets.{Sets}
+use Rattle.pg_board.specs.Placement.{placement_of, get-placement_of, same_placement}
+use Rattle.pg_board.specs.Sets.{man_in}
+use Rattle.pg_board.proofs.packed.PackedBoard.board.Goals as goal
+
+pub returns : goal.returns
+returns c =
+    same_placement c.of_sets.result (placement_of (man_in c.unpacked.result)) (λ q low. c.of_sets.ensures q low ∙ sym (get-placement_of (man_in c.unpacked.result) q low))
+    ∙ ap (λ (s : Sets). placement_of (man_in s)) c.unpacked.ensures ∙ c.self.view_is

@@ -1,0 +1,5 @@
+use Rattle.pg_travel.specs.PricesDecided.{travel_prices_test_is}
+use Rattle.pg_checker.proofs.node.travel_excludes.Goals as goal
+
+pub returns : goal.returns
+returns c = travel_prices_test_is c.args.diagram.now c.args.position.now c.args.left c.args.color c.args.prices.now c.prices_exclude.result c.prices_exclude.ensures.exact

@@ -1,0 +1,17 @@
+-- What the status of a check or a search says, where it comes with a report.
+use Rattle.std.specs.Prelude.{◌≡◌, ℕ, List}
+use Rattle.pg_board.specs.Placement.{Placement}
+use Rattle.pg_position.specs.declared.moves.Move.{Move}
+use Rattle.pg_checker.specs.Answer.{IsExactAnswer}
+use Rattle.pg_report.specs.Report.{IsVerdict}
+use Rattle.pg_report.specs.Run.{AreSpelled}
+use Rattle.pg_report.specs.Statuses.{verdict_status}
+use Rattle.pg_report.specs.declared.verdict.Verdict.{Verdict}
+
+-- the list is the exact answer to the diagram and the length, and the status is that of its verdict: 0 where it has one game, else 1
+abbrev pub IsAnswered : Placement → ℕ → List (List Move) → ℕ → Type 0
+IsAnswered d n list status = IsExactAnswer d n list × ((v : Verdict) × IsVerdict list v × (status ≡ verdict_status v))
+
+-- the three texts spell a diagram, a length and a list, and the list is the exact answer, with this status
+abbrev pub AreAnswered : List ℕ → List ℕ → List ℕ → ℕ → Type 0
+AreAnswered diagram length games status = (d : Placement) × (n : ℕ) × (list : List (List Move)) × AreSpelled diagram length games d n list × IsAnswered d n list status

@@ -1,0 +1,102 @@
+//! A sink that gathers bytes before it hands them on.
+ghost use Rattle.std.specs.Prelude.{◌≡◌, [], true, false, IfOk, OnOk, OnErr};
+ghost use Rattle.std.specs.Io.KnownBytes.{Keeps, append_known};
+
+use arrayvec::ArrayVec;
+use pg_report::{Refused, Sink};
+use std::fmt;
+
+/// So many bytes are held at most.
+const ROOM: usize = 4096;
+
+/// Hands the bytes that it takes on to a sink, up to 4,096 of small pieces at a time, so that a text of
+/// many short pieces costs few writes. What it counts as held is what that sink holds and then the
+/// bytes that it has not handed on. `finish` hands on the last.
+#[derive(Drop)]
+pub(crate) struct Gathered<W> {
+    inner: W,
+    bytes: ArrayVec<u8, ROOM>,
+}
+
+impl<W: Sink> Gathered<W> {
+    /// Over a sink, with nothing gathered.
+    pub(crate) fn new(inner: W) -> Gathered<W>
+        ensures held { Keeps (W.held inner) (⟦<Gathered<W> as Sink>⟧.held result) }
+        ensures runs { ⟦<Gathered<W> as Sink>⟧.has_failed result ≡ W.has_failed inner }
+    {
+        Gathered {
+            inner,
+            bytes: ArrayVec::new(),
+        }
+    }
+
+    // Hands on what is gathered.
+    fn hand_on(&mut self) -> Result<(), Refused>
+        ensures bytes { OnOk result (Keeps (append_known (W.held self.old.inner) self.old.bytes.items) (W.held self.new.inner)) }
+        ensures empty { OnOk result (self.new.bytes.items ≡ []) }
+        ensures runs { OnOk result ((W.has_failed self.old.inner ≡ false) × (W.has_failed self.new.inner ≡ false)) }
+        ensures fault { OnErr result (W.has_failed self.new.inner ≡ true) }
+    {
+        match self.inner.push(self.bytes.as_slice()) {
+            Ok(()) => {
+                self.bytes.clear();
+                Ok(())
+            }
+            Err(Refused) => Err(Refused),
+        }
+    }
+
+    /// Hands on the last bytes; the sink then holds all that was pushed.
+    ///
+    /// # Errors
+    /// `Refused` where the sink refuses them.
+    pub(crate) fn finish(self) -> Result<W, Refused>
+    where
+        W: Drop,
+        ensures held { IfOk result (λ w. Keeps (⟦<Gathered<W> as Sink>⟧.held self) (W.held w)) }
+        ensures runs { IfOk result (λ w. W.has_failed w ≡ false) }
+    {
+        let mut last = self;
+        match last.hand_on() {
+            Ok(()) => {
+                let Gathered { inner, bytes: _ } = last;
+                Ok(inner)
+            }
+            Err(Refused) => Err(Refused),
+        }
+    }
+}
+
+impl<W: Sink> Sink for Gathered<W> {
+    ghost held = { λ s. append_known (W.held s.inner) s.bytes.items };
+
+    ghost has_failed = { λ s. W.has_failed s.inner };
+
+    fn push(&mut self, bytes: &[u8]) -> Result<(), Refused> {
+        if self.inner.failed() {
+            return Err(Refused);
+        }
+        match self.bytes.try_extend_from_slice(bytes) {
+            Ok(()) => return Ok(()),
+            Err(_) => {}
+        }
+        self.hand_on()?;
+        match self.bytes.try_extend_from_slice(bytes) {
+            Ok(()) => Ok(()),
+            Err(_) => self.inner.push(bytes),
+        }
+    }
+
+    fn failed(&self) -> bool {
+        self.inner.failed()
+    }
+}
+
+impl<W: Sink> fmt::Write for Gathered<W> {
+    fn write_str(&mut self, text: &str) -> fmt::Result {
+        match self.push(text.as_bytes()) {
+            Ok(()) => Ok(()),
+            Err(Refused) => Err(fmt::Error),
+        }
+    }
+}

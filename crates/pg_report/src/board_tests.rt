@@ -1,0 +1,149 @@
+use super::*;
+use crate::run_tests::{ARRAY, E4_E5, FOOLS_MATE};
+use pg_moves::legal_moves;
+use pg_position::Position;
+use pg_trial::{FailsAt, Never};
+use std::alloc::{AllocError, Global};
+use std::io::ErrorKind;
+use std::process::Abort;
+use std::str;
+use std::test::Fail;
+
+const SCHWEIG: &str = "r1bqkbnr/ppp2ppp/3p4/8/8/8/PPPPPPPP/R1BQKBNR";
+
+/// How many writes a board takes: for each rank its digit, eight squares and the end of the line; and
+/// the letters of the files.
+const WRITES: u64 = 8 * 10 + 1;
+
+/// What is written for a diagram.
+fn check_board<R: Abort + AllocGlobal>(rt: &R, diagram: &str, wanted: &str) -> Result<(), Fail> {
+    let mut out = ToWrite::new(Vec::new(rt.alloc()));
+    write_board(&Diagram::read(diagram)?, &mut out)?;
+    assert_eq!(rt;
+        str::from_utf8(out.into_inner().as_slice())?,
+        wanted,
+        "{diagram}"
+    );
+    Ok(())
+}
+
+#[test]
+fn boards(rt: HostRuntime) -> Result<(), Fail> {
+    check_board(
+        &rt,
+        SCHWEIG,
+        "8 r . b q k b n r
+7 p p p . . p p p
+6 . . . p . . . .
+5 . . . . . . . .
+4 . . . . . . . .
+3 . . . . . . . .
+2 P P P P P P P P
+1 R . B Q K B N R
+  a b c d e f g h
+",
+    )?;
+    let [fools_mate, _, _] = FOOLS_MATE;
+    check_board(
+        &rt,
+        fools_mate,
+        "8 r n b . k b n r
+7 p p p p . p p p
+6 . . . . . . . .
+5 . . . . p . . .
+4 . . . . . . P q
+3 . . . . . P . .
+2 P P P P P . . P
+1 R N B Q K B N R
+  a b c d e f g h
+",
+    )?;
+    check_board(
+        &rt,
+        "4k3/8/8/8/8/8/8/K7",
+        "8 . . . . k . . .
+7 . . . . . . . .
+6 . . . . . . . .
+5 . . . . . . . .
+4 . . . . . . . .
+3 . . . . . . . .
+2 . . . . . . . .
+1 K . . . . . . .
+  a b c d e f g h
+",
+    )
+}
+
+/// Each write fails in turn, and is not tried again.
+#[test]
+fn writes_of_a_board_that_fail(rt: HostRuntime) -> Result<(), Fail> {
+    let diagram = Diagram::read(SCHWEIG)?;
+    for at in 0..=WRITES {
+        let mut out = ToWrite::new(FailsAt::new(Vec::new(rt.alloc()), at, ErrorKind::Other));
+        let answer = write_board(&diagram, &mut out);
+        if at == WRITES {
+            assert_eq!(rt; answer, Ok(()));
+            assert_eq!(rt; out.into_inner().calls(), WRITES);
+        } else {
+            assert_eq!(rt; answer, Err(WriteFault::Write));
+            assert_eq!(rt; out.into_inner().calls(), at + 1);
+        }
+    }
+    Ok(())
+}
+
+/// The least number of plies that no bound of the program excludes.
+fn least(alloc: Global, diagram: &Diagram) -> Result<Option<u8>, AllocError> {
+    let mut bounds: Vec<Box<dyn Bound>> = Vec::new(alloc);
+    bounds.push(Box::new(alloc, Captures)?)?;
+    bounds.push(Box::new(alloc, Promotions)?)?;
+    bounds.push(Box::new(alloc, PawnFiles)?)?;
+    bounds.push(Box::new(alloc, Travel)?)?;
+    Ok(shortest(diagram, &bounds).map(|length| length.plies()))
+}
+
+/// The array, one move of each side, and two diagrams that no game reaches: a second bishop on light
+/// squares beside eight pawns, and two pawns on a file with nothing captured.
+#[test]
+fn least_lengths(rt: HostRuntime) -> Result<(), Fail> {
+    let [array, _, _] = ARRAY;
+    let [open, _, _] = E4_E5;
+    for (diagram, plies) in [
+        (array, Some(0)),
+        (open, Some(2)),
+        ("rnbqkbnr/pppppppp/8/8/8/3B4/PPPPPPPP/RN1QKBNR", None),
+        ("rnbqkbnr/pppppppp/8/8/8/3P4/PPPP1PPP/RNBQKBNR", None),
+    ] {
+        let found = least(rt.alloc(), &Diagram::read(diagram)?)?;
+        assert!(rt; found == plies, "{diagram}");
+    }
+    Ok(())
+}
+
+/// After one move of each side there is no shorter game, and each bound lets the game pass.
+#[test]
+fn least_lengths_after_two_plies(rt: HostRuntime) -> Result<(), Fail> {
+    let array = Position::array();
+    for first in &legal_moves(rt.alloc(), &array)? {
+        let after_first = array.play(*first)?;
+        let found = least(rt.alloc(), &Diagram::of(&after_first))?;
+        assert_eq!(rt; found, Some(1));
+        for second in &legal_moves(rt.alloc(), &after_first)? {
+            let after_second = after_first.play(*second)?;
+            let found = least(rt.alloc(), &Diagram::of(&after_second))?;
+            assert_eq!(rt; found, Some(2));
+        }
+    }
+    Ok(())
+}
+
+/// Where no bound is asked, or none excludes, no length is.
+#[test]
+fn no_bound_excludes(rt: HostRuntime) -> Result<(), Fail> {
+    let diagram = Diagram::read(SCHWEIG)?;
+    let mut bounds: Vec<Box<dyn Bound>> = Vec::new(rt.alloc());
+    assert_eq!(rt; shortest(&diagram, &bounds), Length::from_plies(0));
+    bounds.push(Box::new(rt.alloc(), Never::new(9))?)?;
+    assert_eq!(rt; shortest(&diagram, &bounds), Length::from_plies(0));
+    Ok(())
+}

@@ -1,0 +1,185 @@
+//! The ends of games: the leaves that are on the diagram.
+ghost use Rattle.std.specs.Prelude.{◌≡◌, ℕ, Bool, false, OnOk};
+ghost use Rattle.pg_searcher.specs.Refusals.{Says};
+
+use crate::fault::SearchFault;
+use crate::machine::{Frame, Machine, Question};
+use crate::node::{put, visit};
+use arrayvec::ArrayVec;
+use pg_board::{Board, Kind, Man, Square};
+use pg_certificate::{Record, Sink};
+use pg_fen::Diagram;
+use pg_position::{Move, Position};
+use pg_san::AddFault;
+
+fn put_move(game: &mut ArrayVec<Move, 128>, m: &Option<Move>) {
+    if let Some(m) = m {
+        match game.try_push(*m) {
+            Ok(()) => {}
+            Err(_) => {}
+        }
+    }
+}
+
+/// The game that leads along the open nodes, by the move that was played last at each, and then by
+/// these moves.
+fn game_along(frames: &[Frame], before: &Option<Move>, last: &Option<Move>) -> ArrayVec<Move, 128> {
+    let mut game = ArrayVec::new();
+    for frame in frames {
+        put_move(&mut game, &frame.moves.last());
+    }
+    put_move(&mut game, before);
+    put_move(&mut game, last);
+    game
+}
+
+/// A game of a tree's length ends on the diagram. The length must be the stated one, and the game is
+/// added.
+pub(crate) fn end(
+    question: &Question,
+    tree: u8,
+    machine: &mut Machine,
+    before: &Option<Move>,
+    last: &Option<Move>,
+) -> Result<(), SearchFault>
+    ensures frames { machine.new.frames ≡ machine.old.frames }
+    ensures writer { machine.new.writer ≡ machine.old.writer }
+    ensures says { (failed : Bool) → Says question.now.plies failed result }
+{
+    machine.found = true;
+    if tree < question.plies {
+        return Err(SearchFault::Shorter(tree));
+    }
+    let game = game_along(machine.frames.as_slice(), before, last);
+    match machine.games.add(game.as_slice()) {
+        Ok(()) => Ok(()),
+        Err(AddFault::Memory) => Err(SearchFault::Memory),
+        Err(AddFault::TooMany) => Err(SearchFault::TooManyGames),
+        Err(AddFault::Repeated) => Ok(()),
+        Err(AddFault::IllegalMove(_)) => Ok(()),
+    }
+}
+
+/// What a pawn becomes that goes to a square of a board, if it is the last of its file: what stands
+/// there.
+fn promotion(position: &Position, goal: &Board, from: Square, to: Square) -> Option<Kind> {
+    let pawn = Man {
+        color: position.side(),
+        kind: Kind::Pawn,
+    };
+    let is_last = to.index() < 8 || to.index() >= 56;
+    if !is_last || position.board().get(from) != Some(pawn) {
+        return None;
+    }
+    match goal.get(to) {
+        Some(man) => Some(man.kind),
+        None => None,
+    }
+}
+
+/// The games that a man's moves from a square to one of a set end.
+fn leaves_from(
+    question: &Question,
+    tree: u8,
+    machine: &mut Machine,
+    before: &Option<Move>,
+    position: &Position,
+    from: Square,
+    targets: u64,
+) -> Result<(), SearchFault>
+    ensures frames { machine.new.frames ≡ machine.old.frames }
+    ensures writer { machine.new.writer ≡ machine.old.writer }
+    ensures says { (failed : Bool) → Says question.now.plies failed result }
+{
+    let goal = question.diagram.board();
+    let mut targets = targets;
+    for _ in 0..64u8 {
+        if targets == 0 {
+            return Ok(());
+        }
+        let to = first_of(targets);
+        targets &= targets.wrapping_sub(1);
+        let promotion = promotion(position, &goal, from, to);
+        let m = Move {
+            from,
+            to,
+            promotion,
+        };
+        if leads(question.diagram, position, &m) {
+            match end(question, tree, machine, before, &Some(m)) {
+                Ok(()) => {}
+                Err(fault) => return Err(fault),
+            }
+        }
+    }
+    Ok(())
+}
+
+/// The first square of a set that is not empty.
+fn first_of(set: u64) -> Square {
+    Square::at((set.trailing_zeros() % 64) as u8)
+}
+
+/// Whether a move is legal and leads to the diagram.
+fn leads(diagram: &Diagram, position: &Position, m: &Move) -> bool {
+    match position.play(*m) {
+        Ok(next) => diagram.matches(&next),
+        Err(_) => false,
+    }
+}
+
+/// Whether a move may change all squares of a set and no others: those that it leaves and reaches, in a
+/// capture en passant a third one, in castling four.
+pub(crate) fn is_near(squares: u64) -> bool {
+    let count = squares.count_ones();
+    2 <= count && count <= 4
+}
+
+/// The leaves on the diagram below a node with one ply left, to which this move led. A move to the
+/// diagram leaves a square that differs, and goes to one where the diagram has a man of its colour.
+pub(crate) fn leaves(
+    question: &Question,
+    tree: u8,
+    machine: &mut Machine,
+    before: &Option<Move>,
+    position: &Position,
+) -> Result<(), SearchFault>
+    ensures frames { machine.new.frames ≡ machine.old.frames }
+    ensures writer { machine.new.writer ≡ machine.old.writer }
+    ensures says { (failed : Bool) → Says question.now.plies failed result }
+{
+    let goal = question.diagram.board();
+    let board = position.board();
+    let squares = board.differing(&goal);
+    if !is_near(squares) {
+        return Ok(());
+    }
+    let targets = squares & goal.squares_of_color(position.side());
+    let mut sources = squares & board.squares_of_color(position.side());
+    for _ in 0..64u8 {
+        if sources == 0 {
+            return Ok(());
+        }
+        let from = first_of(sources);
+        sources &= sources.wrapping_sub(1);
+        match leaves_from(question, tree, machine, before, position, from, targets) {
+            Ok(()) => {}
+            Err(fault) => return Err(fault),
+        }
+    }
+    Ok(())
+}
+
+/// Visits a node with one ply left and writes its record.
+pub(crate) fn last_node<W: Sink>(machine: &mut Machine, sink: &mut W) -> Result<(), SearchFault>
+    requires runs { machine.old.writer.failed ≡ false }
+    ensures frames { machine.new.frames ≡ machine.old.frames }
+    ensures runs { OnOk result (machine.new.writer.failed ≡ false) }
+    ensures says { (plies : ℕ) → Says plies (W.has_failed sink.new) result }
+{
+    if visit(machine) {
+        put(machine, &Record::Expand { named: false }, sink)
+    } else {
+        Err(SearchFault::Budget)
+    }
+}

@@ -1,0 +1,173 @@
+//! What is known of either colour at a node, and how a move changes it.
+
+use pg_board::{Board, Color, Kind, Man, Square};
+use pg_position::{Move, Position, Rights};
+use pg_prices::{Needs, Wing, color_key, holds, man_key, right_key};
+
+/// The home squares of kings and rooks.
+const HOMES: u64 = 0x9100_0000_0000_0091;
+
+/// One colour at a node: the key of its men and rights, what they need, and how many men, pawns and ways
+/// to castle or not it has.
+#[derive(Clone, Copy)]
+pub(crate) struct Side {
+    pub(crate) key: u64,
+    pub(crate) needs: Needs,
+    pub(crate) men: u8,
+    pub(crate) pawns: u8,
+    pub(crate) ways: u8,
+}
+
+/// Both colours at a node.
+#[derive(Clone, Copy)]
+pub(crate) struct Sides {
+    pub(crate) white: Side,
+    pub(crate) black: Side,
+}
+
+impl Sides {
+    /// What is known of a colour.
+    pub(crate) fn of(&self, color: Color) -> &Side {
+        match color {
+            Color::White => &self.white,
+            Color::Black => &self.black,
+        }
+    }
+}
+
+/// A colour's key and numbers, before its needs are known.
+pub(crate) fn side_of(board: &Board, rights: Rights, color: Color, needs: Needs) -> Side {
+    let pawn = Man {
+        color,
+        kind: Kind::Pawn,
+    };
+    let short = u8::from(holds(rights, color, Wing::Short));
+    let long = u8::from(holds(rights, color, Wing::Long));
+    Side {
+        key: color_key(board, rights, color),
+        needs,
+        men: board.squares_of_color(color).count_ones() as u8,
+        pawns: board.squares_of(pawn).count_ones() as u8,
+        ways: 1 + short + long,
+    }
+}
+
+/// What a move changes of one colour: its key, by exclusive or, and how many men, pawns and ways are
+/// gone.
+#[derive(Clone, Copy)]
+pub(crate) struct Change {
+    key: u64,
+    men: u8,
+    pawns: u8,
+    ways: u8,
+}
+
+/// What a move changes of its own colour and of the other one.
+#[derive(Clone, Copy)]
+pub(crate) struct Changes {
+    pub(crate) own: Change,
+    pub(crate) other: Option<Change>,
+}
+
+impl Change {
+    /// The colour after the move, with its needs.
+    pub(crate) fn applied(&self, side: &Side, needs: Needs) -> Side {
+        Side {
+            key: self.key_after(side),
+            needs,
+            men: self.men_after(side),
+            pawns: side.pawns.saturating_sub(self.pawns),
+            ways: side.ways.saturating_sub(self.ways),
+        }
+    }
+
+    /// The colour's key after the move.
+    pub(crate) fn key_after(&self, side: &Side) -> u64 {
+        side.key ^ self.key
+    }
+
+    /// How many men it has after the move.
+    pub(crate) fn men_after(&self, side: &Side) -> u8 {
+        side.men.saturating_sub(self.men)
+    }
+}
+
+/// The home squares of a colour's king and rook.
+fn homes(color: Color, wing: Wing) -> u64 {
+    let rank_1 = match wing {
+        Wing::Short => 0x90,
+        Wing::Long => 0x11,
+    };
+    match color {
+        Color::White => rank_1,
+        Color::Black => rank_1 << 56,
+    }
+}
+
+/// The rights of a colour that are lost where squares are left or reached: their keys, and how many.
+fn lost(rights: Rights, color: Color, squares: u64) -> (u64, u8) {
+    let mut key = 0u64;
+    let mut count = 0u8;
+    if squares & HOMES == 0 {
+        return (0, 0);
+    }
+    for wing in [Wing::Short, Wing::Long] {
+        if holds(rights, color, wing) && squares & homes(color, wing) != 0 {
+            key ^= right_key(color, wing);
+            count = count.saturating_add(1);
+        }
+    }
+    (key, count)
+}
+
+/// What a move changes of a man's colour, which moves or is taken.
+fn change_of(rights: Rights, man: Man, key: u64, squares: u64, taken: bool) -> Change {
+    let (lost_key, ways) = lost(rights, man.color, squares);
+    Change {
+        key: key ^ lost_key,
+        men: u8::from(taken),
+        pawns: u8::from(taken && man.kind == Kind::Pawn),
+        ways,
+    }
+}
+
+fn files_apart(a: Square, b: Square) -> u8 {
+    let (a, b) = (a.index() % 8, b.index() % 8);
+    if a < b { b - a } else { a - b }
+}
+
+/// Whether a move changes more than the squares that it leaves and reaches, or the man that moves:
+/// castling, a capture en passant, a promotion.
+pub(crate) fn is_special(man: Man, taken: Option<Man>, m: &Move) -> bool {
+    match man.kind {
+        Kind::King => files_apart(m.from, m.to) == 2,
+        Kind::Pawn => {
+            m.promotion.is_some() || (taken.is_none() && files_apart(m.from, m.to) == 1)
+        }
+        _ => false,
+    }
+}
+
+/// What a legal move changes; none where it is castling, a capture en passant or a promotion.
+pub(crate) fn changes_of(position: &Position, m: &Move) -> Option<Changes> {
+    let board = position.board();
+    let Some(man) = board.get(m.from) else {
+        return None;
+    };
+    let taken = board.get(m.to);
+    if is_special(man, taken, m) {
+        return None;
+    }
+    let (from, to) = (m.from.index() % 64, m.to.index() % 64);
+    let squares = 1u64 << from | 1u64 << to;
+    let rights = position.rights();
+    let key = man_key(man, from) ^ man_key(man, to);
+    let other = match taken {
+        Some(other) => Some(change_of(rights, other, man_key(other, to), squares, true)),
+        None => None,
+    };
+    Some(Changes {
+        own: change_of(rights, man, key, squares, false),
+        other,
+    })
+}
