@@ -58,8 +58,8 @@ fn turned(alloc: Global, dice: &mut Dice, game: &[Move]) -> Result<Vec<Move>, Al
     Ok(moves)
 }
 
-/// A list with a game left out, or with one added: of another list, cut short, with two plies in each
-/// other's place, or crossed with another game. A game that is not legal is not added.
+/// A list with a game left out or all, or with one added: of another list, cut short, with two plies in
+/// each other's place, or crossed with another game. A game that is not legal is not added.
 pub fn changed(
     alloc: Global,
     dice: &mut Dice,
@@ -67,23 +67,24 @@ pub fn changed(
     other: &Case,
 ) -> Result<Games, AllocError> {
     let index = dice.below(case.games.len());
-    let all = without(alloc, &case.games, usize::MAX);
     let foreign = other.games.game(dice.below(other.games.len()));
     let (Some(own), Some(foreign)) = (case.games.game(index), foreign) else {
-        return Ok(all);
+        return Ok(Games::new(alloc));
     };
-    let added = match dice.below(5) {
-        0 => return Ok(without(alloc, &case.games, index)),
-        1 => Vec::from_slice(alloc, foreign)?,
-        2 => crossed(alloc, own, &[], dice.below(own.len()))?,
-        3 => turned(alloc, dice, own)?,
+    let added = match dice.below(9) {
+        0..=2 => return Ok(without(alloc, &case.games, index)),
+        3 | 4 => return Ok(Games::new(alloc)),
+        5 => Vec::from_slice(alloc, foreign)?,
+        6 => crossed(alloc, own, &[], dice.below(own.len()))?,
+        7 => turned(alloc, dice, own)?,
         _ => crossed(alloc, own, foreign, dice.below(own.len()))?,
     };
-    let mut games = if dice.below(2) == 0 {
-        all
+    let left_out = if dice.below(2) == 0 {
+        index
     } else {
-        without(alloc, &case.games, index)
+        usize::MAX
     };
+    let mut games = without(alloc, &case.games, left_out);
     let _ = games.add(added.as_slice());
     Ok(games)
 }

@@ -1,12 +1,13 @@
 //! Tries the checker with certificates, lists and limits that were made wrong by a fixed rule.
 //! `trial_by_mutation NAME MUTANTS ..` reads the cases of these names, whose certificates must be
 //! accepted, and makes so many mutants of each: bytes changed, put in or taken out, records left out,
-//! put in twice, swapped, taken from another case or made references, certificates spliced, nodes named
-//! or not, games left out or added, another length, lower limits. Each check must return. A yes must
-//! come with the list that is known to be exact alone, and within the limits; a game that is told must
-//! be one that is missing. One byte a call must give the same answer, and where a read fails, that
-//! answer or `Read`. Prints how often each answer came, the same at each run; the answers where a read
-//! fails are counted apart. Anything else ends with a line on standard error and status 1.
+//! put in twice, swapped, taken from another case or made references or cuts, certificates spliced, all
+//! that is left cut, nodes named or not, games left out or added, another length, lower limits. Each
+//! check must return. A yes must come with the list that is known to be exact alone, and within the
+//! limits; a game that is told must be one that is missing. One byte a call must give the same answer,
+//! and where a read fails, that answer or `Read`. Prints how often each answer came, the same at each
+//! run; the answers where a read fails are counted apart. Anything else ends with a line on standard
+//! error and status 1.
 #![tactic(auto)]
 
 mod case;
@@ -19,7 +20,7 @@ mod verdict;
 
 use crate::case::{Case, read_case};
 use crate::dice::Dice;
-use crate::mutant::{AMPLE_NAMED, AMPLE_RECORDS, Mutant, make_mutant};
+use crate::mutant::{Mutant, make_mutant};
 use crate::refusal::Refusal;
 use crate::tally::Tally;
 use crate::verdict::{answer_at_once, answer_failing, is_same_by_bytes, judge};
@@ -46,13 +47,7 @@ struct Tallies {
 
 /// Whether a case's own certificate is accepted.
 fn is_accepted(alloc: Global, case: &Case, bounds: &[Box<dyn Bound>]) -> Result<bool, AllocError> {
-    let own = Mutant {
-        length: case.length,
-        games: None,
-        bytes: Vec::from_slice(alloc, case.bytes.as_slice())?,
-        most_records: AMPLE_RECORDS,
-        most_named: AMPLE_NAMED,
-    };
+    let own = Mutant::of(case, Vec::from_slice(alloc, case.bytes.as_slice())?);
     Ok(answer_at_once(alloc, case, &own, bounds).is_ok())
 }
 

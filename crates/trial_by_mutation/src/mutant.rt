@@ -18,10 +18,23 @@ pub struct Mutant {
 }
 
 /// Above what any certificate needs here.
-pub const AMPLE_RECORDS: u64 = 1_000_000;
+const AMPLE_RECORDS: u64 = 1_000_000;
 
 /// Above what any certificate names here.
-pub const AMPLE_NAMED: u32 = 100_000;
+const AMPLE_NAMED: u32 = 100_000;
+
+impl Mutant {
+    /// The case's own question and list, with these bytes and ample limits.
+    pub fn of(case: &Case, bytes: Vec<u8>) -> Mutant {
+        Mutant {
+            length: case.length,
+            games: None,
+            bytes,
+            most_records: AMPLE_RECORDS,
+            most_named: AMPLE_NAMED,
+        }
+    }
+}
 
 /// These pieces, one behind the other.
 fn joined(alloc: Global, pieces: &[&[u8]]) -> Result<Vec<u8>, AllocError> {
@@ -108,8 +121,9 @@ fn swapped(alloc: Global, case: &Case, i: usize, j: usize) -> Result<Vec<u8>, Al
     )
 }
 
-/// A reference in the place of a record, one that expands its node where such a one is soon drawn.
-fn referring(alloc: Global, dice: &mut Dice, case: &Case) -> Result<Vec<u8>, AllocError> {
+/// A reference or a cut in the place of a record, one that expands its node where such a one is soon
+/// drawn.
+fn ended_early(alloc: Global, dice: &mut Dice, case: &Case) -> Result<Vec<u8>, AllocError> {
     let bytes = case.bytes.as_slice();
     let mut i = dice.below(case.records());
     for _ in 0..64u8 {
@@ -120,8 +134,27 @@ fn referring(alloc: Global, dice: &mut Dice, case: &Case) -> Result<Vec<u8>, All
     }
     let front = part(bytes, 0, case.start(i));
     let back = part(bytes, case.start(i.saturating_add(1)), bytes.len());
-    let number = u8::try_from(dice.below(20)).unwrap_or(0);
-    joined(alloc, &[front, &[3, 0, 0, 0, number], back])
+    if dice.below(2) == 0 {
+        joined(alloc, &[front, &[2, dice.byte()], back])
+    } else {
+        let number = u8::try_from(dice.below(20)).unwrap_or(0);
+        joined(alloc, &[front, &[3, 0, 0, 0, number], back])
+    }
+}
+
+/// The header, half of the times some records behind it, and cuts in the place of all the others.
+fn cut_off(alloc: Global, dice: &mut Dice, case: &Case) -> Result<Vec<u8>, AllocError> {
+    let i = if dice.below(2) == 0 {
+        0
+    } else {
+        dice.below(case.records())
+    };
+    let mut bytes = joined(alloc, &[part(case.bytes.as_slice(), 0, case.start(i))])?;
+    let code = dice.byte();
+    for _ in 0..dice.below(14) {
+        bytes.extend_from_slice(&[2, code])?;
+    }
+    Ok(bytes)
 }
 
 /// The certificate with one byte for another: that of a record which names its node for that of one
@@ -157,39 +190,35 @@ fn at_length(alloc: Global, dice: &mut Dice, mutant: &mut Mutant) {
     }
 }
 
-/// A mutant of the case: its bytes, records, names, list, limits or length changed, and sometimes a
-/// byte more. What it takes from another certificate or list is the other case's.
+/// A mutant of the case: its bytes, records or names, its length or limits changed, one time in three
+/// its list too, and one time in six a byte more. What it takes from another certificate or list is the
+/// other case's.
 pub fn make_mutant(
     alloc: Global,
     dice: &mut Dice,
     case: &Case,
     other: &Case,
 ) -> Result<Mutant, AllocError> {
-    let mut mutant = Mutant {
-        length: case.length,
-        games: None,
-        bytes: Vec::new(alloc),
-        most_records: AMPLE_RECORDS,
-        most_named: AMPLE_NAMED,
-    };
     let kind = dice.below(18);
-    mutant.bytes = match kind {
-        0..=5 => by_bytes(alloc, dice, case.bytes.as_slice())?,
-        6..=10 => by_records(alloc, dice, case, other)?,
-        11 => renamed(alloc, dice, case)?,
-        16 | 17 => referring(alloc, dice, case)?,
+    let bytes = match kind {
+        0..=4 => by_bytes(alloc, dice, case.bytes.as_slice())?,
+        5..=9 => by_records(alloc, dice, case, other)?,
+        10 => renamed(alloc, dice, case)?,
+        11 | 12 => ended_early(alloc, dice, case)?,
+        13 | 14 => cut_off(alloc, dice, case)?,
         _ => joined(alloc, &[case.bytes.as_slice()])?,
     };
-    match kind {
-        12 | 13 => mutant.games = Some(lists::changed(alloc, dice, case, other)?),
-        14 => at_length(alloc, dice, &mut mutant),
-        15 => {
-            mutant.most_records = u64::try_from(dice.below(case.records())).unwrap_or(0);
-            mutant.most_named = u32::try_from(dice.below(8)).unwrap_or(0);
-        }
-        _ => {}
+    let mut mutant = Mutant::of(case, bytes);
+    if dice.below(3) == 0 {
+        mutant.games = Some(lists::changed(alloc, dice, case, other)?);
     }
-    if dice.below(4) == 0 {
+    if kind == 15 {
+        at_length(alloc, dice, &mut mutant);
+    } else if kind == 16 {
+        mutant.most_records = u64::try_from(dice.below(case.records())).unwrap_or(0);
+        mutant.most_named = u32::try_from(dice.below(8)).unwrap_or(0);
+    }
+    if dice.below(6) == 0 {
         mutant.bytes = by_bytes(alloc, dice, mutant.bytes.as_slice())?;
     }
     Ok(mutant)

@@ -1,5 +1,5 @@
 use super::*;
-use crate::{CountFault, count};
+use crate::{CountFault, count, legal_moves};
 use std::alloc::{AllocError, Global};
 
 fn check(rt: &impl Abort, alloc: Global, position: &Position, expected: &[u64]) {
@@ -143,4 +143,38 @@ fn promotions(rt: HostRuntime) {
         let start = position(&rt, placement, side, castling, "-");
         check(&rt, rt.alloc(), &start, &expected);
     }
+}
+
+/// How many of two calls, one for the legal moves of the array and one for its games of 3 plies, are
+/// refused memory; a call that is not answers rightly.
+fn refusals(rt: &impl Abort, alloc: Global) -> u8 {
+    let array = Position::array();
+    let mut refused = 0u8;
+    match legal_moves(alloc, &array) {
+        Ok(moves) => {
+            assert_eq!(rt; moves.len(), 20);
+            assert_eq!(rt; moves.as_slice().first(), Some(&move_of(rt, "b1a3")));
+            assert_eq!(rt; moves.as_slice().last(), Some(&move_of(rt, "h2h4")));
+        }
+        Err(AllocError) => refused = refused.saturating_add(1),
+    }
+    match count(alloc, &array, 3) {
+        Ok(games) => assert_eq!(rt; games, 8902),
+        Err(fault) => {
+            assert_eq!(rt; fault, CountFault::Memory);
+            refused = refused.saturating_add(1);
+        }
+    }
+    refused
+}
+
+/// Passes too where `rt try --test --fail-alloc N` refuses the N-th growth: then one call of all
+/// answers that memory was refused, and the others answer as ever.
+#[test]
+fn refused_growths_of_moves_and_counts(rt: HostRuntime) {
+    let mut refused = 0u8;
+    for _ in 0..3u8 {
+        refused = refused.saturating_add(refusals(&rt, rt.alloc()));
+    }
+    assert!(rt; refused <= 1);
 }
