@@ -2,7 +2,7 @@
 # Runs each command that README.md, docs/GUIDE.md and the helps of the program show, and compares what it prints, on both
 # streams, with what the page shows after it; a command with nothing after it is to end with status 0. All is done in a
 # scratch folder that has what the top has, so no file is left. Each line of a help is to fit 80 columns. Commands of the
-# tool `rt` are passed over. Quiet where all is as shown; else prints each difference and ends with status 1.
+# tool `rt`, and the gate itself, are passed over. Code that docs/ARCHITECTURE.md shows is to stand in the file that it names. Quiet where all is as shown; else prints each difference and ends with status 1.
 set -u
 top=$(cd "$(dirname "$(readlink -f "$0")")/.." && pwd)
 work=$(mktemp -d) || exit 1
@@ -79,6 +79,19 @@ run_help() {
   [ -s "$work/got" ] || fail "pg $1 --help: the example prints nothing"
 }
 
+# Whether each piece of code that the page $1 shows after a line with its file's name stands in that file.
+compare_excerpts() {
+  local file count=0
+  while read -r file; do
+    count=$((count + 1))
+    awk -v line="\`$file\`:" '$0 == line { on = 1; next } /^```/ && on { if (block) exit; block = 1; next } block' "$top/$1" >"$work/excerpt"
+    [ -s "$work/excerpt" ] || fail "$1: no code after the name of $file"
+    [[ $(<"$top/$file") == *"$(<"$work/excerpt")"* ]] || fail "$1: $file has other code" "$work/excerpt"
+  done < <(sed -n 's/^`\(crates\/[a-z_/.]*\)`:$/\1/p' "$top/$1")
+  [ "$count" -ge "$2" ] || fail "$1: only $count pieces of code are found"
+}
+
+compare_excerpts docs/ARCHITECTURE.md 2
 run_page README.md 3
 run_page docs/GUIDE.md 3
 run_help ''

@@ -30,10 +30,13 @@ record() {
 "$top/pg" --help >/dev/null # builds the program where that is due
 pg="$top/crates/pg_cli/out/pg_cli"
 schweig=r1bqkbnr/ppp2ppp/3p4/8/8/8/PPPPPPPP/R1BQKBNR
+twelve=4r1k1/2p1ppbp/1p5p/2N2b1n/2rP4/q3P3/P1P1BPPP/RNB1K1NR
 array='rnbqkbnr/pppppppp/8/8/8/8/PPPPPPPP/RNBQKBNR w KQkq - 0 1'
 many='r3k2r/p1ppqpb1/bn2pnp1/3PN3/1p2P3/2N2Q1p/PPPBBPPP/R3K2R w KQkq - 0 1'
 run 'check of examples/schweig' "$pg" check "$schweig" 4.0 "$top/examples/schweig/certificate.pgc" "$top/examples/schweig/games"
 run 'search of the same, its check included' "$pg" search "$schweig" 4.0 "$work/schweig.pgc"
+run 'check of what that wrote, version 2' "$pg" check "$schweig" 4.0 "$work/schweig.pgc" "$top/examples/schweig/games"
+run 'check of examples/twelve-moves, version 2' "$pg" check "$twelve" 12.0 "$top/examples/twelve-moves/certificate.pgc" "$top/examples/twelve-moves/games"
 run 'count of the array, 4 plies' "$pg" count "$array" 4
 run "count of ${many%% *}, 3 plies" "$pg" count "$many" 3
 record 'a record 01 on a diagram of 64 men, 2.0' full

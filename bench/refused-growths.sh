@@ -76,6 +76,8 @@ echo UEdDMQAkUzZCEREREQAAAAAAAAAAAAAAAAAAAACZmZmZrNu+yg== | base64 -d >"$work/fi
 refuse 20 --help
 refuse 20 --version
 told=1 refuse 20 no-command
+refuse 40 show "$open"
+refuse 40 show 'no diagram'
 refuse 40 moves '8/2p5/3p4/KP5r/1R3p1k/8/4P1P1/8 w - - 0 1'
 refuse 40 moves 'no position'
 refuse 40 count "$array w KQkq - 0 1" 4
@@ -83,6 +85,8 @@ refuse 40 check "$open" 1.0 good.pgc games
 refuse 40 check "$open" 1.0 good.pgc empty
 refuse 40 search "$open" 1.0 good.pgc
 refuse 40 search "$open" 1.0 new.pgc --nodes 3
+refuse 40 why "$open" 1.0 good.pgc '1. e4 e5'
+refuse 40 why "$open" 1.0 good.pgc 'd4'
 refuse 40 upgrade old.pgc new.pgc
 refuse 40 upgrade old.pgc old.pgc
 
@@ -107,7 +111,7 @@ refuse_tests() {
   done
   [ -n "$found" ] || { : >"$work/err"; say 0 "$1" "no test of refused growths"; }
 }
-for crate in pg_moves pg_san pg_checker pg_searcher pg_report; do
+for crate in pg_moves pg_san pg_checker pg_searcher pg_report pg_guide; do
   refuse_tests "$crate"
 done
 exit "$wrong"

@@ -8,7 +8,8 @@ ghost use Rattle.pg_certificate.specs.declared.record.Record.{Record};
 ghost use Rattle.pg_certificate.specs.Spelling.{spelling, longest_record};
 ghost use Rattle.pg_certificate.specs.Reader.{PullsAtMost};
 
-use pg_certificate::{FromRead, ReadFault, RecordReader, Source, no_spelling_is_longer};
+use pg_certificate::{Bare, FromRead, ReadFault, RecordReader, Source, no_spelling_is_longer};
+use pg_travel::Prices;
 use std::{env, io};
 
 /// Reads this many records and then the end, and answers how many were expansions.
@@ -21,9 +22,10 @@ fn count_expansions<S: Source>(source: &mut S, count: u64) -> Result<u64, ReadFa
     // What this law says of a record's bytes is what the bound on all of them rests on.
     no_spelling_is_longer();
     let mut reader = RecordReader::new();
+    let mut prices = Prices::new(&[], &[]).unwrap();
     let mut expansions = 0;
     for read in 0..count {
-        if let pg_certificate::Record::Expand { named: _ } = reader.next_record(source)? {
+        if let Bare::Expand { named: _ } = reader.next_bare(&mut prices, source)? {
             expansions += 1;
         }
     }

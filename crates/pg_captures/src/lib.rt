@@ -16,7 +16,7 @@ pub use captures::{Captures, owed, plies_left, victims_of};
 pub use classes::Class;
 pub use counts::{all_men, pawns};
 pub use prices::price_sum;
-pub use promotions::Promotions;
+pub use promotions::{Promotions, shortage};
 
 #[cfg(test)]
 mod tests;

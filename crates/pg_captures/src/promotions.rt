@@ -17,9 +17,10 @@ fn missing(wanted: &Board, board: &Board, color: Color, class: Class) -> u8
     class_men(wanted, color, class).saturating_sub(class_men(board, color, class))
 }
 
-// How many men of all classes the board has too few.
+/// How many men that are no pawns the colour has too few on a board to come to the wanted one, 0 to 320:
+/// queens, rooks, knights, bishops on light squares and bishops on dark squares, each for itself.
 #[tactic(auto, unfolding(crate::specs::Owed::shortage))]
-fn shortage(wanted: &Board, board: &Board, color: Color) -> u16
+pub fn shortage(wanted: &Board, board: &Board, color: Color) -> u16
     ensures value { result ≡ shortage wanted.now board.now color }
     ensures few { result ≤ 320 }
 {

@@ -7,8 +7,8 @@ use Rattle.pg_board.specs.declared.man.Color.TheVariants.{White, Black}
 use Rattle.pg_captures.specs.PriceLists.{PriceList}
 use Rattle.pg_travel.specs.PriceRecords.{sources, targets}
 use Rattle.pg_certificate.specs.declared.record.Header.{Header}
-use Rattle.pg_certificate.specs.declared.record.Plain.{Plain}
-use Rattle.pg_certificate.specs.declared.record.Plain.TheVariants as plain
+use Rattle.pg_certificate.specs.declared.record.Bare.{Bare}
+use Rattle.pg_certificate.specs.declared.record.Bare.TheVariants as bare
 use Rattle.pg_certificate.specs.declared.record.Record.{Record}
 use Rattle.pg_certificate.specs.declared.record.Record.TheVariants.{Expand, Cut, Ref, Priced}
 
@@ -41,11 +41,19 @@ spelling (Cut code) = 2 ∷ code ∷ []
 spelling (Ref number) = 3 ∷ to_be_bytes w32 number
 spelling (Priced code color prices) = 6 ∷ code ∷ color_byte color ∷ prices_spelling prices
 
--- a record of version 1, among those of every version
-abbrev pub record_of : Plain → Record
-record_of (plain.Expand named) = Expand named
-record_of (plain.Cut code) = Cut code
-record_of (plain.Ref number) = Ref number
+-- a record with these price lists, where it has any
+abbrev pub record_of : List PriceList → Bare → Record
+record_of prices (bare.Expand named) = Expand named
+record_of prices (bare.Cut code) = Cut code
+record_of prices (bare.Ref number) = Ref number
+record_of prices (bare.Priced code color) = Priced code color prices
+
+-- price lists kept elsewhere stay as they are, but where the record has some of its own
+abbrev pub PricesStay : Bare → List PriceList → List PriceList → Type 0
+PricesStay (bare.Expand named) old new = new ≡ old
+PricesStay (bare.Cut code) old new = new ≡ old
+PricesStay (bare.Ref number) old new = new ≡ old
+PricesStay (bare.Priced code color) old new = Unit {0}
 
 -- no spelling is longer: six bytes, then at most three lists of 64 sources and 64 targets
 abbrev pub longest_record : ℕ

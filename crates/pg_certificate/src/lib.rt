@@ -21,7 +21,7 @@ pub use laws::{
     unknown_where_none_goes_on, what_is_read_is_a_header, what_is_read_is_spelled,
 };
 pub use reader::RecordReader;
-pub use record::{Header, Plain, Record};
+pub use record::{Bare, Header, Record};
 pub use source::{Refused, Sink, Source};
 pub use to_write::ToWrite;
 pub use writer::RecordWriter;

@@ -1,8 +1,8 @@
 //! The header and the records of a certificate, read from a source.
-ghost use Rattle.std.specs.Prelude.{◌≡◌, ◌↔◌, ◌<◌, ◌≤◌, ◌^◌, ◌+◌, ◌*◌, ℕ, List, slice_index, [], ◌∷◌, length, true, false, IfOk, OnOk, OnErr, IsTrue};
+ghost use Rattle.std.specs.Prelude.{◌≡◌, ◌↔◌, ◌<◌, ◌≤◌, ◌^◌, ◌+◌, ◌*◌, ℕ, List, slice_index, [], ◌∷◌, ◌++◌, length, true, false, IfOk, OnOk, OnErr, IsTrue};
 ghost use Rattle.std.specs.Io.KnownBytes.{Keeps, Consumes, IsAtEnd};
 ghost use Rattle.std.specs.Int.{w32, to_be_bytes};
-ghost use Rattle.pg_certificate.specs.Spelling.{record_of, spelling, header_spelling, longest_record, IsHeader, IsRecord, IsRecordOf};
+ghost use Rattle.pg_certificate.specs.Spelling.{record_of, spelling, header_spelling, longest_record, IsHeader, IsRecord, IsRecordOf, PricesStay};
 ghost use Rattle.pg_certificate.specs.Reading.{more_at, byte_at, byte_from, exactly, number_at, outline_at, lists_at, priced_at, header_at, record_at, end_at};
 ghost use Rattle.pg_certificate.specs.Outlines.{IsOutline, AreListsOf, outline_spelling, lists_spelling};
 ghost use Rattle.pg_certificate.specs.Reader.{to_come, Reads, ReadsAs, RefusesOnce, PullsAtMost};
@@ -10,7 +10,7 @@ ghost use Rattle.pg_certificate.specs.Reader.{to_come, Reads, ReadsAs, RefusesOn
 use crate::fault::ReadFault;
 use crate::magic::{HEADER_LENGTH, header_of};
 use crate::outline::{Outline, color_of, prices_of};
-use crate::record::{Header, Plain, Record};
+use crate::record::{Bare, Header, Record};
 use crate::source::{Refused, Source};
 use pg_travel::Prices;
 use std::marker::Model;
@@ -103,10 +103,10 @@ impl RecordReader {
     /// Reads the record at the front of the bytes to come, by the version of the header that was
     /// read.
     ///
+    /// # Errors
     /// Truncated where they end inside it or no byte is to come. UnknownRecord at the first byte
     /// that no record of the version can have at its place, as soon as it is read. Read where the
     /// source has failed. Failed after any refusal.
-    #[inline(always)]
     pub fn next_record<S: Source>(&mut self, source: &mut S) -> Result<Record, ReadFault>
         ensures bytes { Reads (record_at self.old.version)
             (to_come self.old (S.left source.old)) (to_come self.new (S.left source.new)) result }
@@ -122,59 +122,59 @@ impl RecordReader {
         ensures version { self.new.version ≡ self.old.version }
         ensures untouched { self.old.failed ≡ true → source.new ≡ source.old }
     {
-        match self.byte(source)? {
-            1 => Ok(Record::Expand { named: false }),
-            5 => Ok(Record::Expand { named: true }),
-            2 => {
-                let code = self.byte(source)?;
-                Ok(Record::Cut(code))
-            }
-            3 => {
-                let number = self.number(source)?;
-                Ok(Record::Ref(number))
-            }
-            6 if self.version == 2 => self.priced(source),
-            byte => {
-                self.refuse();
-                Err(ReadFault::UnknownRecord(byte))
-            }
+        let mut prices = Prices::new(&[], &[]).unwrap();
+        match self.next_bare(&mut prices, source)? {
+            Bare::Expand { named } => Ok(Record::Expand { named }),
+            Bare::Cut(code) => Ok(Record::Cut(code)),
+            Bare::Ref(number) => Ok(Record::Ref(number)),
+            Bare::Priced { code, color } => Ok(Record::Priced {
+                code,
+                color,
+                prices,
+            }),
         }
     }
 
-    /// Reads the record at the front of the bytes to come by version 1, whatever the version of the
-    /// header was. Its answer is small, since no record of version 1 has prices.
+    /// Reads the record at the front of the bytes to come as `next_record` does. What it is comes as
+    /// a small answer, and the price lists, where it has any, come into `prices`; a record without
+    /// them and a refusal leave `prices` as it was.
     ///
     /// # Errors
-    /// Truncated where the bytes to come end inside the record or there are none. UnknownRecord at a
-    /// first byte that no record of version 1 has. Read where the source has failed. Failed after
-    /// any refusal.
+    /// Those of `next_record`, where it has them.
     #[inline(always)]
-    pub fn next_plain<S: Source>(&mut self, source: &mut S) -> Result<Plain, ReadFault>
-        ensures bytes { ReadsAs record_of (record_at 1)
+    pub fn next_bare<S: Source>(
+        &mut self,
+        prices: &mut Prices,
+        source: &mut S,
+    ) -> Result<Bare, ReadFault>
+        ensures bytes { ReadsAs (record_of prices.new) (record_at self.old.version)
             (to_come self.old (S.left source.old)) (to_come self.new (S.left source.new)) result }
         ensures found { IfOk result (λ x. Consumes
             (to_come self.old (S.left source.old)) (to_come self.new (S.left source.new))
-            (spelling (record_of x))) }
-        ensures spelled { IfOk result (λ x. IsRecordOf 1 (record_of x)) }
+            (spelling (record_of prices.new x))) }
+        ensures spelled { IfOk result (λ x. IsRecordOf self.old.version (record_of prices.new x)) }
+        ensures stay { IfOk result (λ x. PricesStay x prices.old prices.new) }
+        ensures refused { OnErr result (prices.new ≡ prices.old) }
         ensures refuses { RefusesOnce self.old.failed self.new.failed (S.has_failed source.new) result }
         ensures runs { OnOk result (S.has_failed source.old ≡ false → S.has_failed source.new ≡ false) }
-        ensures pulls { PullsAtMost 5 (to_come self.old (S.left source.old)) (S.left source.new) result }
+        ensures pulls { PullsAtMost longest_record (to_come self.old (S.left source.old)) (S.left source.new) result }
         ensures room { length self.new.held ≤ 4096 }
         ensures emptied { OnErr result (self.new.held ≡ []) }
         ensures version { self.new.version ≡ self.old.version }
         ensures untouched { self.old.failed ≡ true → source.new ≡ source.old }
     {
         match self.byte(source)? {
-            1 => Ok(Plain::Expand { named: false }),
-            5 => Ok(Plain::Expand { named: true }),
+            1 => Ok(Bare::Expand { named: false }),
+            5 => Ok(Bare::Expand { named: true }),
             2 => {
                 let code = self.byte(source)?;
-                Ok(Plain::Cut(code))
+                Ok(Bare::Cut(code))
             }
             3 => {
                 let number = self.number(source)?;
-                Ok(Plain::Ref(number))
+                Ok(Bare::Ref(number))
             }
+            6 if self.version == 2 => self.priced(prices, source),
             unknown => {
                 self.refuse();
                 Err(ReadFault::UnknownRecord(unknown))
@@ -252,6 +252,22 @@ impl RecordReader {
         byte
     }
 
+    /// Takes as many bytes as `out` has, which are all held.
+    fn take(&mut self, out: &mut [u8])
+        requires some { 0 < length out.old }
+        requires held { length out.old ≤ length self.old.held }
+        ensures held { self.old.held ≡ out.new ++ self.new.held }
+        ensures fits { (k : ℕ) → k < length out.new → slice_index out.new k < 2 ^ 8 }
+        ensures failed { self.new.failed ≡ self.old.failed }
+        ensures runs { self.old.failed ≡ false }
+        ensures room { length self.new.held ≤ 4096 }
+        ensures version { self.new.version ≡ self.old.version }
+    {
+        let end = self.start + out.len();
+        out.copy_from_slice(&self.buffer[self.start..end]);
+        self.start = end;
+    }
+
     /// Pulls once, where nothing is held, and answers whether a byte came.
     fn fill<S: Source>(&mut self, source: &mut S) -> Result<bool, ReadFault>
         requires { self.old.held ≡ [] }
@@ -327,6 +343,10 @@ impl RecordReader {
         ensures version { self.new.version ≡ self.old.version }
         ensures untouched { self.old.failed ≡ true → source.new ≡ source.old }
     {
+        if out.len() <= self.end - self.start {
+            self.take(out);
+            return Ok(());
+        }
         for i in 0..out.len() {
             out[i] = self.byte(source)?;
         }
@@ -460,15 +480,17 @@ impl RecordReader {
         Ok(prices_of(bytes, outline))
     }
 
-    /// Reads a priced record after its first byte.
+    /// Reads a priced record after its first byte, its lists into `prices`.
     #[inline(never)]
-    fn priced<S: Source>(&mut self, source: &mut S) -> Result<Record, ReadFault>
+    fn priced<S: Source>(&mut self, prices: &mut Prices, source: &mut S) -> Result<Bare, ReadFault>
         requires { self.old.failed ≡ false }
-        ensures bytes { Reads priced_at
+        ensures bytes { ReadsAs (record_of prices.new) priced_at
             (to_come self.old (S.left source.old)) (to_come self.new (S.left source.new)) result }
-        ensures text { IfOk result (λ x. (l : List ℕ) × (spelling x ≡ 6 ∷ l) × Consumes
+        ensures text { IfOk result (λ x. (l : List ℕ) × (spelling (record_of prices.new x) ≡ 6 ∷ l) × Consumes
             (to_come self.old (S.left source.old)) (to_come self.new (S.left source.new)) l) }
-        ensures fits { IfOk result (λ x. IsRecord x) }
+        ensures fits { IfOk result (λ x. IsRecord (record_of prices.new x)) }
+        ensures stay { IfOk result (λ x. PricesStay x prices.old prices.new) }
+        ensures refused { OnErr result (prices.new ≡ prices.old) }
         ensures refuses { RefusesOnce self.old.failed self.new.failed (S.has_failed source.new) result }
         ensures runs { OnOk result (S.has_failed source.old ≡ false → S.has_failed source.new ≡ false) }
         ensures pulls { PullsAtMost (5 + 3 * (64 + 64)) (to_come self.old (S.left source.old)) (S.left source.new) result }
@@ -480,11 +502,10 @@ impl RecordReader {
         let outline = self.outline(source)?;
         let mut room = [0; LONGEST_LISTS];
         let bytes = &mut room[..outline.ways * (outline.sources + outline.targets)];
-        let prices = self.lists(&outline, bytes, source)?;
-        Ok(Record::Priced {
+        *prices = self.lists(&outline, bytes, source)?;
+        Ok(Bare::Priced {
             code: outline.code,
             color: outline.color,
-            prices,
         })
     }
 }

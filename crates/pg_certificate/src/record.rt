@@ -28,9 +28,9 @@ pub enum Record {
     },
 }
 
-/// A record of version 1: one that has no prices.
+/// A record apart from its price lists: a few bytes, where a [`Record`] has some 400.
 #[derive(Clone, Copy, Debug, PartialEq, Eq)]
-pub enum Plain {
+pub enum Bare {
     /// The node's children follow, as after the `Expand` of [`Record`].
     Expand {
         /// Whether the node takes a number.
@@ -40,6 +40,13 @@ pub enum Plain {
     Cut(u8),
     /// The node is like the closed named node with this number, counted from 0.
     Ref(u32),
+    /// No game of the plies that are left ends on the diagram, by price lists that stand elsewhere.
+    Priced {
+        /// Which bound the prices belong to.
+        code: u8,
+        /// Whose men they are for.
+        color: Color,
+    },
 }
 
 /// What a certificate is for: its first 37 bytes.

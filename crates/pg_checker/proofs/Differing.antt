@@ -1,5 +1,5 @@
 -- A legal move changes two squares at least and four at most. Leads to the contract of `may_reach`.
-use Rattle.std.proofs.Common.{◌≡◌, ◌≢◌, ℕ, ◌+◌, ◌<◌, ◌≤◌, ◌⊎◌, inl, inr, true, false, Some, None, refl, sym, ◌∙◌, ap, subst, arith, ltb, ltb-true, ltb-false}
+use Rattle.std.proofs.Common.{◌≡◌, ◌≢◌, ℕ, ◌+◌, ◌<◌, ◌≤◌, ◌⊎◌, inl, inr, Bool, true, false, Some, None, refl, sym, ◌∙◌, ap, subst, arith, ltb, ltb-true, ltb-false}
 use Rattle.std.proofs.lemmas.Bool.Decides.{eqb_tells}
 use Rattle.pg_board.specs.declared.man.Color.{Color}
 use Rattle.pg_board.specs.declared.man.Kind.{Kind}
@@ -18,6 +18,7 @@ use Rattle.pg_position.specs.SquareSets.{HasNoneFrom, IsFirstFrom}
 use Rattle.pg_position.proofs.StepLemmas.{not_other}
 use Rattle.pg_position.proofs.ValidLemmas.{castle_squares, CastleSquares, castle_vacant}
 use Rattle.pg_checker.specs.Differing.{Differ}
+use Rattle.pg_checker.specs.Passing.{LeadsTo}
 use Rattle.pg_captures.specs.BoardLemmas.{written, unwritten, man_elsewhere, same_side}
 
 -- ---- four squares at most
@@ -207,3 +208,24 @@ module _ (p : State) (d : Placement) (n : ℕ) (set : Differ p.board d n) where
       each s (inr (inr (inl h))) = in_set s c h fc.on_board fc.member
       each s (inr (inr (inr (inl h)))) = in_set s e h fe.on_board fe.member
       each s (inr (inr (inr (inr h)))) = in_set s f h ff.on_board ff.member
+
+-- both squares of a move that leads to the diagram are in the set
+pub record Changed (n : ℕ) (m : Move) : Type 0 where
+  pub from_low : m.from < 64
+  pub to_low : m.to < 64
+  pub from_in : has n m.from ≡ true
+  pub to_in : has n m.to ≡ true
+
+in_it : (b : Bool) → (b ≡ false → ⊥) → b ≡ true
+in_it true h = refl
+in_it false h = absurd (h refl)
+
+pub both_in : (p : State) (d : Placement) (n : ℕ) → Differ p.board d n → IsPosition p → (m : Move) → LeadsTo d p m → Changed n m
+both_in p d n set valid m (q, legal, same) =
+    let c : Changes p q m = changes p q m valid legal in
+    record {
+      from_low = c.from_low;
+      to_low = c.to_low;
+      from_in = in_it (has n m.from) (out p d n set q m.from c.from_low c.from_changes same);
+      to_in = in_it (has n m.to) (out p d n set q m.to c.to_low c.to_changes same);
+    }

@@ -4,12 +4,13 @@ use Rattle.std.proofs.lemmas.List.{length-append}
 use Rattle.std.specs.Io.KnownBytes.{Consumes, prepend_known}
 use Rattle.pg_certificate.specs.Spelling.{longest_record}
 use Rattle.pg_board.specs.Placement.{Placement}
+use Rattle.pg_captures.specs.PriceLists.{PriceList}
 use Rattle.pg_position.specs.declared.state.State.{State}
 use Rattle.pg_position.specs.declared.moves.Move.{Move}
 use Rattle.pg_certificate.specs.declared.fault.ReadFault.{ReadFault}
 use Rattle.pg_certificate.specs.declared.fault.ReadFault.TheVariants as reading
 use Rattle.pg_certificate.specs.declared.record.Record.{Record}
-use Rattle.pg_certificate.specs.declared.record.Plain.{Plain}
+use Rattle.pg_certificate.specs.declared.record.Bare.{Bare}
 use Rattle.pg_certificate.specs.Spelling.{record_of, spelling, IsRecordOf}
 use Rattle.pg_certificate.specs.Reading.{record_at}
 use Rattle.pg_certificate.specs.Reader.{Reads, ReadsAs}
@@ -51,14 +52,14 @@ next_err version (Some bytes) after reading.Failed h room = tt
 pub next_unread : (version : ℕ) (before after : Option (List ℕ)) (e : ReadFault) (s : Stop) → s ≡ stop_of e → Reads {A = Record} (record_at version) before after (Err e) → (room : ℕ) → Stops before room (λ bytes n. read version bytes) s
 next_unread version before after e s same h room = subst (Stops before room (λ bytes n. read version bytes)) (sym same) (next_err version before after e h room)
 
--- a refusal of a record of version 1 is one of a record
-pub as_record : (version : ℕ) (before after : Option (List ℕ)) (e : ReadFault) → ReadsAs {A = Plain} {B = Record} record_of (record_at version) before after (Err e) → Reads {A = Record} (record_at version) before after (Err e)
-as_record version before after reading.Truncated h = h
-as_record version before after reading.Magic h = h
-as_record version before after reading.Trailing h = h
-as_record version before after (reading.UnknownRecord b) h = h
-as_record version before after reading.Read h = tt
-as_record version before after reading.Failed h = tt
+-- a refusal of a record is one whatever prices stand apart
+pub as_record : (version : ℕ) (prices : List PriceList) (before after : Option (List ℕ)) (e : ReadFault) → ReadsAs {A = Bare} {B = Record} (record_of prices) (record_at version) before after (Err e) → Reads {A = Record} (record_at version) before after (Err e)
+as_record version prices before after reading.Truncated h = h
+as_record version prices before after reading.Magic h = h
+as_record version prices before after reading.Trailing h = h
+as_record version prices before after (reading.UnknownRecord b) h = h
+as_record version prices before after reading.Read h = tt
+as_record version prices before after reading.Failed h = tt
 
 module _ (d : Placement) (l : ℕ) (games : List (List Move)) (cut : Cuts) (k : ℕ) (p : State) where
   abbrev heads : Machine → Answer (walk.Shape × walk.State State)

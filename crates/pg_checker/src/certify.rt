@@ -24,6 +24,7 @@ use pg_captures::Bound;
 use pg_certificate::{ReadFault, RecordReader, Source};
 use pg_fen::{Diagram, Length};
 use pg_san::Games;
+use pg_travel::Prices;
 use std::alloc::Global;
 
 /// What proved the answer: how many records the certificate has, and how many named nodes.
@@ -154,6 +155,7 @@ pub fn check<R: Source>(
     let plies = length.plies();
     let mut machine = Machine {
         reader: RecordReader::new(),
+        prices: Prices::new(&[], &[]).unwrap(),
         table: Table::new(alloc),
         records: max_records,
         room: max_named,

@@ -10,6 +10,7 @@ use pg_fen::Diagram;
 use pg_moves::LegalMoves;
 use pg_position::{Move, Position};
 use pg_san::Games;
+use pg_travel::Prices;
 
 /// What is asked of a certificate, and its version, which its header told.
 #[derive(Drop)]
@@ -49,12 +50,13 @@ pub(crate) enum Node {
     Opened(bool),
 }
 
-/// The record reader, the table of named nodes, the open nodes, and how many records and named nodes
+/// The record reader, the price lists that it read last, the table of named nodes, the open nodes, and how many records and named nodes
 /// may still come. A named node takes its place in the table as its record is read. `found` says
 /// whether the subtree that ended last is fertile.
 #[derive(Drop)]
 pub(crate) struct Machine {
     pub(crate) reader: RecordReader,
+    pub(crate) prices: Prices,
     pub(crate) table: Table,
     pub(crate) records: u64,
     pub(crate) room: u32,

@@ -1,15 +1,15 @@
 //! Whether a diagram may be one move away.
-ghost use Rattle.std.specs.Prelude.{◌≡◌, ◌≢◌, false};
+ghost use Rattle.std.specs.Prelude.{◌≡◌, ◌≢◌, ◌↔◌, IsTrue, true, false};
 ghost use Rattle.pg_moves.specs.Moves.{IsLegal};
 ghost use Rattle.pg_position.specs.declared.state.State.{State};
 ghost use Rattle.pg_position.specs.declared.moves.Move.{Move};
 ghost use Rattle.pg_position.specs.Position.{IsPosition};
 ghost use Rattle.pg_position.specs.Step.{Legal};
 ghost use Rattle.pg_checker.specs.Differing.{Differ};
-ghost use Rattle.pg_checker.specs.Passing.{AllElsewhere, LeadsElsewhere, PassesOver};
+ghost use Rattle.pg_checker.specs.Passing.{AllElsewhere, LeadsElsewhere, LeadsTo, NextLeads, PassesOver};
 
 use crate::play::after;
-use pg_board::contains;
+use pg_board::{Square, contains};
 use pg_fen::Diagram;
 use pg_moves::LegalMoves;
 use pg_position::{Move, Position, first_from};
@@ -48,13 +48,83 @@ pub fn may_reach(diagram: &Diagram, position: &Position) -> bool
     }
 }
 
+// Whether the move is legal and leads to the diagram.
+fn plays_to(diagram: &Diagram, position: &Position, m: &Move) -> bool
+    ensures { IsTrue result ↔ LeadsTo diagram.now position.now m.now }
+{
+    match position.play(*m) {
+        Ok(next) => diagram.matches(&next),
+        Err(_) => false,
+    }
+}
+
+// Whether a move from one square to another leads to the diagram. Where it promotes, what it becomes
+// stands there on the diagram.
+fn leads_between(diagram: &Diagram, position: &Position, from: Square, to: Square) -> bool
+    ensures { IsTrue result ↔ ((m : Move) × (m.from ≡ from) × (m.to ≡ to) × LeadsTo diagram.now position.now m) }
+{
+    let plain = Move {
+        from,
+        to,
+        promotion: None,
+    };
+    if plays_to(diagram, position, &plain) {
+        return true;
+    }
+    match diagram.board().get(to) {
+        Some(man) => plays_to(
+            diagram,
+            position,
+            &Move {
+                from,
+                to,
+                promotion: Some(man.kind),
+            },
+        ),
+        None => false,
+    }
+}
+
+// Whether a move from a square leads to the diagram: it goes to one of the squares that differ.
+fn leads_from(diagram: &Diagram, squares: u64, position: &Position, from: Square) -> bool
+    requires squares { Differ position.now.board diagram.now squares }
+    ensures { IsTrue result ↔ ((m : Move) × (m.from ≡ from) × LeadsTo diagram.now position.now m) }
+{
+    position.side();
+    let mut at = 0;
+    while let Some(to) = first_from(squares, at) {
+        if leads_between(diagram, position, from, to) {
+            return true;
+        }
+        at = to.index() + 1;
+    }
+    false
+}
+
+// Whether a legal move leads to the diagram: it leaves one of the squares that differ.
+fn has_leading(diagram: &Diagram, squares: u64, position: &Position) -> bool
+    requires squares { Differ position.now.board diagram.now squares }
+    ensures { IsTrue result ↔ ((m : Move) × LeadsTo diagram.now position.now m) }
+{
+    let own = squares & position.board().squares_of_color(position.side());
+    let mut at = 0;
+    while let Some(from) = first_from(own, at) {
+        if leads_from(diagram, squares, position, from) {
+            return true;
+        }
+        at = from.index() + 1;
+    }
+    false
+}
+
 // Whether a legal move leads to the diagram. It is played only where it leaves one of the squares
 // that differ.
 fn leads(diagram: &Diagram, squares: u64, position: &Position, m: &Move) -> bool
     requires squares { Differ position.now.board diagram.now squares }
     requires legal { IsLegal position.now m.now }
     requires position { IsPosition position.now }
-    ensures { result ≡ false → LeadsElsewhere diagram.now position.now m.now }
+    ensures away { result ≡ false → LeadsElsewhere diagram.now position.now m.now }
+    ensures there { result ≡ true → LeadsTo diagram.now position.now m.now }
 {
     if !contains(squares, m.from.index()) {
         return false;
@@ -67,6 +137,7 @@ fn leads(diagram: &Diagram, squares: u64, position: &Position, m: &Move) -> bool
 pub fn pass_over(diagram: &Diagram, moves: &mut LegalMoves) -> bool
     ensures passed { PassesOver diagram.now moves.old moves.new }
     ensures none { result ≡ false → AllElsewhere diagram.now moves.new }
+    ensures some { result ≡ true → NextLeads diagram.now moves.new }
     ensures position { IsPosition moves.old.position }
 {
     let position = moves.position();
@@ -74,6 +145,9 @@ pub fn pass_over(diagram: &Diagram, moves: &mut LegalMoves) -> bool
         return false;
     }
     let squares = differing(diagram, &position);
+    if !has_leading(diagram, squares, &position) {
+        return false;
+    }
     while let Some(ahead) = moves.ahead() {
         if leads(diagram, squares, &position, &ahead.m) {
             return true;

@@ -3,7 +3,6 @@ ghost use Rattle.std.specs.Prelude.{◌≡◌, ◌+◌, ◌<◌, ◌≤◌, ◌�
 ghost use Rattle.pg_checker.specs.Chess.{read, stands_for};
 ghost use Rattle.pg_certificate.specs.Reader.{to_come};
 ghost use Rattle.pg_certificate.specs.Spelling.{record_of};
-ghost use Rattle.pg_certificate.specs.declared.record.Record.TheVariants.{Expand, Cut, Ref};
 ghost use Rattle.pg_checker.specs.Cuts.{rules_by, cuts_by, files_by, prices_by};
 ghost use Rattle.pg_travel.specs.PricesDecided.{travel_prices_test};
 ghost use Rattle.pg_position.specs.declared.moves.Move.{Move};
@@ -18,7 +17,7 @@ use crate::machine::{Machine, Node, Question};
 use crate::table::Table;
 use pg_board::Color;
 use pg_captures::first_excludes;
-use pg_certificate::{Plain, ReadFault, Record, RecordReader, Source};
+use pg_certificate::{Bare, ReadFault, RecordReader, Source};
 use pg_fen::Diagram;
 use pg_position::Position;
 use pg_travel::Prices;
@@ -157,80 +156,56 @@ fn ended(answer: Result<(), Reason>) -> Result<Node, Halt>
     }
 }
 
-// A record of version 1, judged at a node with so many plies left: what stands below the node, or why
-// the record is refused there.
-#[inline(always)]
-fn judge_plain(
-    question: &Question,
-    machine: &mut Machine,
-    position: &Position,
-    left: u8,
-    plain: Plain,
-) -> Result<Node, Halt>
-    ensures says { (game : List Move) → Judges machine.old machine.new (judge_of ((rules_by (λ b. code_of b) (λ b. excluded b) question.now.diagram.now question.now.plies question.now.games.now question.now.bounds.now).of question.now.version) left position.now (record_of plain)) (stops game result) }
-    ensures kept { IfOk result (λ node. machine.new.table.kept ≡ machine.old.table.kept + opened node) }
-    ensures fails { (failed : Bool) → FailsRead failed (stops [] result) }
-    ensures reader { machine.new.reader ≡ machine.old.reader }
-    ensures frames { machine.new.frames ≡ machine.old.frames }
-    ensures records { machine.new.records ≡ machine.old.records }
-{
-    match plain {
-        Plain::Expand { named: false } => Ok(Node::Opened(false)),
-        Plain::Expand { named: true } => {
-            match take_place(&mut machine.table, position, machine.room) {
-                Ok(room) => machine.room = room,
-                Err(halt) => return Err(halt),
-            }
-            Ok(Node::Opened(true))
-        }
-        Plain::Cut(code) => ended(cut(question, position, left, code)),
-        Plain::Ref(number) => {
-            let answer = refer(question.version, &machine.table, position, left, number);
-            ended(answer)
-        }
-    }
-}
-
-// A record, judged in the same way.
+// A record, whose price lists the machine has, judged at a node with so many plies left: what stands
+// below the node, or why the record is refused there.
 #[inline(always)]
 fn judge(
     question: &Question,
     machine: &mut Machine,
     position: &Position,
     left: u8,
-    record: Record,
+    bare: Bare,
 ) -> Result<Node, Halt>
-    ensures says { (game : List Move) → Judges machine.old machine.new (judge_of ((rules_by (λ b. code_of b) (λ b. excluded b) question.now.diagram.now question.now.plies question.now.games.now question.now.bounds.now).of question.now.version) left position.now «record») (stops game result) }
+    ensures says { (game : List Move) → Judges machine.old machine.new (judge_of ((rules_by (λ b. code_of b) (λ b. excluded b) question.now.diagram.now question.now.plies question.now.games.now question.now.bounds.now).of question.now.version) left position.now (record_of machine.old.prices bare)) (stops game result) }
     ensures kept { IfOk result (λ node. machine.new.table.kept ≡ machine.old.table.kept + opened node) }
     ensures fails { (failed : Bool) → FailsRead failed (stops [] result) }
     ensures reader { machine.new.reader ≡ machine.old.reader }
     ensures frames { machine.new.frames ≡ machine.old.frames }
     ensures records { machine.new.records ≡ machine.old.records }
 {
-    match record {
-        Record::Expand { named } => {
-            judge_plain(question, machine, position, left, Plain::Expand { named })
+    match bare {
+        Bare::Expand { named: false } => Ok(Node::Opened(false)),
+        Bare::Expand { named: true } => {
+            match take_place(&mut machine.table, position, machine.room) {
+                Ok(room) => machine.room = room,
+                Err(halt) => return Err(halt),
+            }
+            Ok(Node::Opened(true))
         }
-        Record::Cut(code) => judge_plain(question, machine, position, left, Plain::Cut(code)),
-        Record::Ref(number) => judge_plain(question, machine, position, left, Plain::Ref(number)),
-        Record::Priced {
-            code,
-            color,
-            prices,
-        } => {
-            let answer = priced(question.diagram, position, left, code, color, &prices);
+        Bare::Cut(code) => ended(cut(question, position, left, code)),
+        Bare::Ref(number) => {
+            let answer = refer(question.version, &machine.table, position, left, number);
+            ended(answer)
+        }
+        Bare::Priced { code, color } => {
+            let prices = &machine.prices;
+            let answer = priced(question.diagram, position, left, code, color, prices);
             ended(answer)
         }
     }
 }
 
-// The record of version 1 at the front of the bytes to come.
+// The record at the front of the bytes to come, its price lists into `prices`.
 #[inline(always)]
-fn next_plain<S: Source>(reader: &mut RecordReader, source: &mut S) -> Result<Plain, Halt>
+fn next<S: Source>(
+    reader: &mut RecordReader,
+    prices: &mut Prices,
+    source: &mut S,
+) -> Result<Bare, Halt>
     requires runs { reader.old.failed ≡ false }
     ensures says { (game : List Move) (room : ℕ) → Says
         (to_come reader.old (S.left source.old)) (to_come reader.new (S.left source.new)) room room
-        (λ bytes _. read 1 bytes) (λ x rest _. (record_of x, rest)) (stops game result) }
+        (λ bytes _. read reader.old.version bytes) (λ x rest _. (record_of prices.new x, rest)) (stops game result) }
     ensures runs { OnOk result (IsReading reader.old.version reader.new) }
     ensures held { length reader.new.held ≤ 4096 }
     ensures fails { FailsRead (S.has_failed source.new) (stops [] result) }
@@ -238,101 +213,9 @@ fn next_plain<S: Source>(reader: &mut RecordReader, source: &mut S) -> Result<Pl
         (to_come reader.old (S.left source.old)) (to_come reader.new (S.left source.new)) (S.left source.new)
         (most + 1) most (stops [] result) }
 {
-    match reader.next_plain(source) {
-        Ok(plain) => Ok(plain),
+    match reader.next_bare(prices, source) {
+        Ok(bare) => Ok(bare),
         Err(fault) => Err(halt_of(fault)),
-    }
-}
-
-// The record at the front of the bytes to come.
-#[inline(always)]
-fn next<S: Source>(reader: &mut RecordReader, source: &mut S) -> Result<Record, Halt>
-    requires runs { reader.old.failed ≡ false }
-    ensures says { (game : List Move) (room : ℕ) → Says
-        (to_come reader.old (S.left source.old)) (to_come reader.new (S.left source.new)) room room
-        (λ bytes _. read reader.old.version bytes) (λ x rest _. (x, rest)) (stops game result) }
-    ensures runs { OnOk result (IsReading reader.old.version reader.new) }
-    ensures held { length reader.new.held ≤ 4096 }
-    ensures fails { FailsRead (S.has_failed source.new) (stops [] result) }
-    ensures few { (most : ℕ) → TakesFew
-        (to_come reader.old (S.left source.old)) (to_come reader.new (S.left source.new)) (S.left source.new)
-        (most + 1) most (stops [] result) }
-{
-    match reader.next_record(source) {
-        Ok(record) => Ok(record),
-        Err(fault) => Err(halt_of(fault)),
-    }
-}
-
-// The record of a node with so many plies left, in a certificate of version 1.
-#[inline(always)]
-fn plain_head<S: Source>(
-    question: &Question,
-    machine: &mut Machine,
-    source: &mut S,
-    position: &Position,
-    left: u8,
-) -> Result<Node, Halt>
-    requires version { question.now.version ≡ 1 }
-    requires runs { IsReading question.now.version machine.old.reader }
-    requires held { length machine.old.reader.held ≤ 4096 }
-    ensures says { (game : List Move) → Says
-        (to_come machine.old.reader (S.left source.old)) (to_come machine.new.reader (S.left source.new))
-        machine.old.room machine.new.room
-        (λ bytes n. head_of ((rules_by (λ b. code_of b) (λ b. excluded b) question.now.diagram.now question.now.plies question.now.games.now question.now.bounds.now).of question.now.version) left position.now (state_at machine.old bytes n))
-        (λ node rest n. (shape_of node, state_at machine.new rest n)) (stops game result) }
-    ensures kept { IfOk result (λ node. machine.new.table.kept ≡ machine.old.table.kept + opened node) }
-    ensures frames { machine.new.frames ≡ machine.old.frames }
-    ensures runs { OnOk result (IsReading question.now.version machine.new.reader) }
-    ensures held { length machine.new.reader.held ≤ 4096 }
-    ensures fails { FailsRead (S.has_failed source.new) (stops [] result) }
-    ensures few { TakesFew
-        (to_come machine.old.reader (S.left source.old)) (to_come machine.new.reader (S.left source.new))
-        (S.left source.new) machine.old.records machine.new.records (stops [] result) }
-{
-    if machine.records == 0 {
-        return Err(Halt::Because(Reason::Budget));
-    }
-    machine.records -= 1;
-    match next_plain(&mut machine.reader, source) {
-        Ok(plain) => judge_plain(question, machine, position, left, plain),
-        Err(halt) => Err(halt),
-    }
-}
-
-// The record of a node with so many plies left, in a certificate of any version. A record with prices
-// has some 400 bytes, which are cleared and copied for each, so version 1 has a way of its own.
-#[inline(never)]
-fn any_head<S: Source>(
-    question: &Question,
-    machine: &mut Machine,
-    source: &mut S,
-    position: &Position,
-    left: u8,
-) -> Result<Node, Halt>
-    requires runs { IsReading question.now.version machine.old.reader }
-    requires held { length machine.old.reader.held ≤ 4096 }
-    ensures says { (game : List Move) → Says
-        (to_come machine.old.reader (S.left source.old)) (to_come machine.new.reader (S.left source.new))
-        machine.old.room machine.new.room
-        (λ bytes n. head_of ((rules_by (λ b. code_of b) (λ b. excluded b) question.now.diagram.now question.now.plies question.now.games.now question.now.bounds.now).of question.now.version) left position.now (state_at machine.old bytes n))
-        (λ node rest n. (shape_of node, state_at machine.new rest n)) (stops game result) }
-    ensures kept { IfOk result (λ node. machine.new.table.kept ≡ machine.old.table.kept + opened node) }
-    ensures frames { machine.new.frames ≡ machine.old.frames }
-    ensures runs { OnOk result (IsReading question.now.version machine.new.reader) }
-    ensures held { length machine.new.reader.held ≤ 4096 }
-    ensures fails { FailsRead (S.has_failed source.new) (stops [] result) }
-    ensures few { TakesFew
-        (to_come machine.old.reader (S.left source.old)) (to_come machine.new.reader (S.left source.new))
-        (S.left source.new) machine.old.records machine.new.records (stops [] result) }
-{
-    if machine.records == 0 {
-        return Err(Halt::Because(Reason::Budget));
-    }
-    machine.records -= 1;
-    match next(&mut machine.reader, source) {
-        Ok(record) => judge(question, machine, position, left, record),
-        Err(halt) => Err(halt),
     }
 }
 
@@ -361,9 +244,12 @@ pub(crate) fn head<S: Source>(
         (to_come machine.old.reader (S.left source.old)) (to_come machine.new.reader (S.left source.new))
         (S.left source.new) machine.old.records machine.new.records (stops [] result) }
 {
-    if question.version == 1 {
-        plain_head(question, machine, source, position, left)
-    } else {
-        any_head(question, machine, source, position, left)
+    if machine.records == 0 {
+        return Err(Halt::Because(Reason::Budget));
+    }
+    machine.records -= 1;
+    match next(&mut machine.reader, &mut machine.prices, source) {
+        Ok(bare) => judge(question, machine, position, left, bare),
+        Err(halt) => Err(halt),
     }
 }

@@ -1,6 +1,6 @@
 -- From the answer of a run to the status that the program gives.
 use Rattle.std.proofs.Common.{◌≡◌, ℕ, List, subst}
-use Rattle.std.specs.Prelude.{Result, Ok, Err, IfOk, MatchResult}
+use Rattle.std.specs.Prelude.{Result, Ok, Err, IfOk, OnOk, MatchResult}
 use Rattle.pg_board.specs.Placement.{Placement}
 use Rattle.pg_position.specs.declared.moves.Move.{Move}
 use Rattle.pg_checker.specs.Answer.{IsExactAnswer}
@@ -33,3 +33,8 @@ games_answered d n list (Ok v) (Ok s) h i k = (h, (v, i, k))
 games_answered d n list (Ok v) (Err r) h i k = tt
 games_answered d n list (Err f) (Ok s) h i k = absurd k
 games_answered d n list (Err f) (Err r) h i k = tt
+
+-- what holds is said of an answer too
+pub said_of : {A E : Type 0} (result : Result A E) (P : Type 0) → P → OnOk result P
+said_of (Ok a) P h = h
+said_of (Err e) P h = tt

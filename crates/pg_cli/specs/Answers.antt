@@ -1,7 +1,10 @@
 -- What the status of a check or a search says, where it comes with a report.
-use Rattle.std.specs.Prelude.{◌≡◌, ℕ, List}
+use Rattle.std.specs.Prelude.{◌≡◌, ℕ, List, Ok}
 use Rattle.pg_board.specs.Placement.{Placement}
 use Rattle.pg_position.specs.declared.moves.Move.{Move}
+use Rattle.pg_fen.specs.Fields.{fields}
+use Rattle.pg_fen.specs.DiagramText.{diagram_of}
+use Rattle.pg_fen.specs.Lengths.{length_of}
 use Rattle.pg_checker.specs.Answer.{IsExactAnswer}
 use Rattle.pg_report.specs.Report.{IsVerdict}
 use Rattle.pg_report.specs.Run.{AreSpelled}
@@ -15,3 +18,7 @@ IsAnswered d n list status = IsExactAnswer d n list × ((v : Verdict) × IsVerdi
 -- the three texts spell a diagram, a length and a list, and the list is the exact answer, with this status
 abbrev pub AreAnswered : List ℕ → List ℕ → List ℕ → ℕ → Type 0
 AreAnswered diagram length games status = (d : Placement) × (n : ℕ) × (list : List (List Move)) × AreSpelled diagram length games d n list × IsAnswered d n list status
+
+-- the two texts spell a diagram and a length, and some list is the exact answer to them
+abbrev pub IsRight : List ℕ → List ℕ → Type 0
+IsRight diagram length = (d : Placement) × (n : ℕ) × (list : List (List Move)) × (diagram_of (fields diagram) ≡ Ok d) × (length_of length ≡ Ok n) × IsExactAnswer d n list

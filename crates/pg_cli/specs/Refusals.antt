@@ -1,17 +1,19 @@
 -- The status with which the program ends where a command has no answer.
 use Rattle.std.specs.Prelude.{ℕ}
-use Rattle.pg_report.specs.Statuses.{status_of, search_status_of, moves_status_of, count_status_of, upgrade_status_of}
+use Rattle.pg_report.specs.Statuses.{status_of, search_status_of, show_status_of, moves_status_of, count_status_of, upgrade_status_of}
 use Rattle.pg_cli.specs.declared.refusals.Refusal.{Refusal}
-use Rattle.pg_cli.specs.declared.refusals.Refusal.TheVariants.{Words, Open, NotUtf8, Read, Write, Memory, Moves, Count, Search, Upgrade, Check}
+use Rattle.pg_cli.specs.declared.refusals.Refusal.TheVariants.{Words, Open, Line, NotUtf8, Read, Write, Memory, Show, Moves, Count, Search, Upgrade, Check}
 
 -- 1 where a list or a certificate is refused or a search gave up, 2 for bad words and texts, 3 for want of memory, 4 for a file
 abbrev pub refusal_status : Refusal → ℕ
 refusal_status Words = 2
 refusal_status (Open name) = 4
+refusal_status Line = 2
 refusal_status NotUtf8 = 2
 refusal_status Read = 4
 refusal_status Write = 4
 refusal_status Memory = 3
+refusal_status (Show fault) = show_status_of fault
 refusal_status (Moves fault) = moves_status_of fault
 refusal_status (Count fault) = count_status_of fault
 refusal_status (Search fault) = search_status_of fault

@@ -75,10 +75,7 @@ pub(crate) fn check_from<'a, R: Runtime + AllocGlobal, C: Read + Drop, W: Write 
     let Ok(games) = str::from_utf8(asked.games) else {
         return Err(Refusal::NotUtf8);
     };
-    let mut source = Watched::new(
-        FromRead::new(certificate),
-        Watch::new(rt, "records", records, screen),
-    );
+    let mut source = Watched::new(FromRead::new(certificate), Watch::new(rt, records, screen));
     let mut out = Gathered::new(ToWrite::new(out));
     let answer = run_check(
         rt.alloc(),

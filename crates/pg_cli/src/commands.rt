@@ -16,6 +16,14 @@ Statuses: 0 sound, or a command done; 1 cooked, no game, a list or certificate
 refused, or a search that gave up; 2 bad words or texts; 3 out of memory; 4 a
 file that cannot be opened, created, read or written.";
 
+const SHOW_EXAMPLE: &str =
+    "Below the board stand, for each side, its men, how many it captured, and how
+many moves of its own it needs at least, by distances; and a length that no game
+which ends on the diagram can be below.
+
+Example:
+  pg show r1bqkbnr/ppp2ppp/3p4/8/8/8/PPPPPPPP/R1BQKBNR";
+
 const MOVES_EXAMPLE: &str = "Example:
   pg moves 'rnbqkbnr/pppppppp/8/8/8/8/PPPPPPPP/RNBQKBNR w KQkq - 0 1'";
 
@@ -38,6 +46,14 @@ said yes. CERT is written, or replaced, only then.
 Example:
   pg search rnbqkbnr/pppp1ppp/8/4p3/4P3/8/PPPP1PPP/RNBQKBNR 1.0 e4e5.pgc";
 
+const WHY_EXAMPLE: &str =
+    "One line for each ply says what the certificate has there, up to where it ends
+the line. The last line says whether the certificate is right.
+
+Example, with a certificate that a search writes first:
+  pg search rnbqkbnr/pppp1ppp/8/4p3/4P3/8/PPPP1PPP/RNBQKBNR 1.0 e4e5.pgc
+  pg why rnbqkbnr/pppp1ppp/8/4p3/4P3/8/PPPP1PPP/RNBQKBNR 1.0 e4e5.pgc '1. e4'";
+
 const UPGRADE_EXAMPLE: &str =
     "The copy says what the old one says. It is put in its place when it is whole.
 
@@ -53,10 +69,12 @@ pub(crate) fn pg<'a>(alloc: Global) -> Result<Command<'a>, AllocError> {
         .after_help(EXAMPLE)
         .subcommand_required(true)
         .arg_required_else_help(true)
+        .subcommand(show(alloc)?)?
         .subcommand(moves(alloc)?)?
         .subcommand(count(alloc)?)?
         .subcommand(check(alloc)?)?
         .subcommand(search(alloc)?)?
+        .subcommand(why(alloc)?)?
         .subcommand(upgrade(alloc)?)
 }
 
@@ -96,6 +114,13 @@ fn records<'a>(alloc: Global) -> Arg<'a> {
         .default_value("100000000")
         .value_parser(ValueParser::unsigned(1, u64::MAX))
         .help("Refuses a certificate of more records")
+}
+
+fn show<'a>(alloc: Global) -> Result<Command<'a>, AllocError> {
+    Command::new(alloc, "show")
+        .about("Prints the board of a diagram, and what is known of it at once")
+        .after_help(SHOW_EXAMPLE)
+        .arg(diagram(alloc))
 }
 
 fn moves<'a>(alloc: Global) -> Result<Command<'a>, AllocError> {
@@ -147,6 +172,21 @@ fn search<'a>(alloc: Global) -> Result<Command<'a>, AllocError> {
                 .value_parser(ValueParser::unsigned(0, u64::MAX))
                 .help("Gives up where more nodes would be visited"),
         )
+}
+
+fn why<'a>(alloc: Global) -> Result<Command<'a>, AllocError> {
+    Command::new(alloc, "why")
+        .about("Explains a line of moves by a certificate")
+        .after_help(WHY_EXAMPLE)
+        .arg(diagram(alloc))?
+        .arg(length(alloc))?
+        .arg(wanted(alloc, "CERT", "The certificate, as `pg search` writes it"))?
+        .arg(wanted(
+            alloc,
+            "MOVES",
+            "The moves of a game from the array, as one word; - for none",
+        ))?
+        .arg(records(alloc))
 }
 
 fn upgrade<'a>(alloc: Global) -> Result<Command<'a>, AllocError> {

@@ -1,16 +1,19 @@
-//! The program `pg`, the checker of shortest proof games: `pg moves FEN`, `pg count FEN PLIES`,
-//! `pg check DIAGRAM LENGTH CERT [GAMES] [--records N]`, `pg search DIAGRAM LENGTH CERT [--nodes N]` and
-//! `pg upgrade OLD NEW [--records N]`.
+//! The program `pg`, the checker of shortest proof games: `pg show DIAGRAM`, `pg moves FEN`, `pg count FEN PLIES`,
+//! `pg check DIAGRAM LENGTH CERT [GAMES] [--records N]`, `pg search DIAGRAM LENGTH CERT [--nodes N]`,
+//! `pg why DIAGRAM LENGTH CERT MOVES [--records N]` and `pg upgrade OLD NEW [--records N]`.
 #![tactic(auto)]
 
 mod checking;
 mod commands;
 mod gathered;
+mod guiding;
 mod input;
+mod line;
 mod names;
 mod positions;
 mod progress;
 mod refusals;
+mod runs;
 mod screen;
 mod searching;
 mod upgrading;
@@ -37,10 +40,12 @@ fn run<R: Runtime + AllocGlobal>(rt: &R, words: &ArgMatches<'_>, screen: Screen)
     bounds.push(Box::new(rt.alloc(), PawnFiles)?)?;
     bounds.push(Box::new(rt.alloc(), Travel)?)?;
     let answer = match words.subcommand() {
+        Some(("show", inner)) => positions::show(rt, inner, bounds.as_slice()),
         Some(("moves", inner)) => positions::moves(rt, inner),
-        Some(("count", inner)) => positions::count(rt, inner),
+        Some(("count", inner)) => positions::count(rt, inner, screen.errors),
         Some(("check", inner)) => checking::check(rt, inner, bounds.as_slice(), screen),
         Some(("search", inner)) => searching::search(rt, inner, bounds.as_slice(), screen.errors),
+        Some(("why", inner)) => guiding::why(rt, inner, bounds.as_slice(), screen.errors),
         Some(("upgrade", inner)) => upgrading::upgrade(rt, inner, screen.errors),
         _ => Ok(BAD_INPUT),
     };

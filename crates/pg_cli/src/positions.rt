@@ -1,9 +1,12 @@
-//! The commands on one position: its legal moves, and the number of games from it.
+//! The commands on one position: its legal moves, the number of games from it, and a diagram shown.
 
 use crate::gathered::Gathered;
 use crate::refusals::{DONE, Refusal};
+use crate::runs::CountLine;
 use clap::ArgMatches;
-use pg_report::{CountRunFault, MovesFault, Refused, ToWrite, run_count, run_moves};
+use pg_report::{
+    Bound, CountRunFault, MovesFault, Refused, ShowFault, ToWrite, run_count, run_moves, run_show,
+};
 use std::io;
 use std::rt::Runtime;
 
@@ -27,15 +30,36 @@ pub(crate) fn moves<'a, R: Runtime + AllocGlobal>(
 pub(crate) fn count<'a, R: Runtime + AllocGlobal>(
     rt: &R,
     words: &ArgMatches<'a>,
+    screen: bool,
 ) -> Result<u8, Refusal<'a>> {
     let fen = words.get_str("FEN").unwrap_or("");
     let plies = words.get_one::<u8>("PLIES").unwrap_or(u8::MAX);
     let mut out = Gathered::new(ToWrite::new(io::writer(rt)));
-    match run_count(rt.alloc(), fen, plies, &mut out) {
+    let mut line = CountLine::new(rt, screen);
+    let answer = run_count(rt.alloc(), fen, plies, &mut out, &mut line);
+    line.end();
+    match answer {
         Ok(()) => match out.finish() {
             Ok(_) => Ok(DONE),
             Err(Refused) => Err(Refusal::Count(CountRunFault::Write)),
         },
         Err(fault) => Err(Refusal::Count(fault)),
+    }
+}
+
+/// `pg show DIAGRAM`: the board and what is known at once, on standard output.
+pub(crate) fn show<'a, R: Runtime + AllocGlobal>(
+    rt: &R,
+    words: &ArgMatches<'a>,
+    bounds: &[Box<dyn Bound>],
+) -> Result<u8, Refusal<'a>> {
+    let diagram = words.get_str("DIAGRAM").unwrap_or("");
+    let mut out = Gathered::new(ToWrite::new(io::writer(rt)));
+    match run_show(rt.alloc(), diagram, bounds, &mut out) {
+        Ok(()) => match out.finish() {
+            Ok(_) => Ok(DONE),
+            Err(Refused) => Err(Refusal::Show(ShowFault::Write)),
+        },
+        Err(fault) => Err(Refusal::Show(fault)),
     }
 }

@@ -1,20 +1,12 @@
-//! How far a long check or search is: a line on the terminal, rewritten about twice a second.
+//! How many records of a certificate have passed by, on the terminal.
 ghost use Rattle.std.specs.Prelude.{◌≡◌, ◌≤◌};
 
+use crate::line::{Line, WIDTH};
 use arrayvec::ArrayString;
-use pg_report::{Refused, Sink, Source};
+use pg_report::{Refused, Source};
 use std::fmt::Write;
 use std::io::Eprint;
-use std::time::{Clock, Instant};
-
-/// Before so many milliseconds nothing is shown.
-const FIRST: u128 = 1000;
-
-/// So many milliseconds stand between two lines.
-const BETWEEN: u128 = 500;
-
-/// A line has so many characters, one fewer than the narrowest terminal that it is for.
-const WIDTH: usize = 19;
+use std::time::Clock;
 
 /// The bytes of a header, which are no record.
 const HEADER: u32 = 37;
@@ -89,7 +81,7 @@ impl RecordCount {
 }
 
 /// How many hundredths of the limit a count is, 100 at most.
-fn share(count: u64, limit: u64) -> u64
+pub(crate) fn share(count: u64, limit: u64) -> u64
     ensures { result ≤ 100 }
 {
     if count >= limit {
@@ -101,7 +93,7 @@ fn share(count: u64, limit: u64) -> u64
 
 /// A number in thousands, millions and so on, so that it is below 100,000, and the letter that says in
 /// which; what is left over is dropped.
-fn scaled(number: u64) -> (u64, &'static str)
+pub(crate) fn scaled(number: u64) -> (u64, &'static str)
     ensures { result.0 ≤ 99999 }
 {
     match number {
@@ -114,78 +106,53 @@ fn scaled(number: u64) -> (u64, &'static str)
     }
 }
 
-/// The line that says how far a run is: so many records of at most `limit`.
-pub(crate) fn line_of(count: u64, name: &str, limit: u64) -> ArrayString<WIDTH> {
+/// The line of a check: how many records, and how many hundredths of the limit those are.
+pub(crate) fn line_of(count: u64, limit: u64) -> ArrayString<WIDTH> {
     let mut line = ArrayString::new();
     let (number, unit) = scaled(count);
     let share = share(count, limit);
-    let _ = write!(line, "{number}{unit} {name} {share}%");
+    let _ = write!(line, "{number}{unit} records {share}%");
     line
 }
 
 /// Shows how many records have passed by.
 #[derive(Drop)]
 pub(crate) struct Watch<'a, R> {
-    rt: &'a R,
-    /// What a record is called.
-    name: &'static str,
+    line: Line<'a, R>,
     /// So many there may be at most.
     limit: u64,
     count: RecordCount,
-    /// None where nothing is to be shown.
-    began: Option<Instant>,
-    /// The next line is due after so many milliseconds.
-    due: u128,
-    shown: bool,
 }
 
 impl<'a, R: Clock + Eprint> Watch<'a, R> {
     /// A watch that shows something where there is a screen, of at most so many records.
-    pub(crate) fn new(rt: &'a R, name: &'static str, limit: u64, screen: bool) -> Watch<'a, R> {
+    pub(crate) fn new(rt: &'a R, limit: u64, screen: bool) -> Watch<'a, R> {
         Watch {
-            rt,
-            name,
+            line: Line::new(rt, screen),
             limit,
             count: RecordCount::new(),
-            began: if screen { Instant::now(rt).ok() } else { None },
-            due: FIRST,
-            shown: false,
-        }
-    }
-
-    // Writes the line where it is due.
-    fn show(&mut self, began: Instant) {
-        let Ok(passed) = began.elapsed(self.rt) else {
-            return;
-        };
-        let passed = passed.as_millis();
-        if passed >= self.due {
-            let line = line_of(self.count.records, self.name, self.limit);
-            let _ = eprint!(self.rt; "\r{:<19}", line.as_str());
-            self.due = passed.saturating_add(BETWEEN);
-            self.shown = true;
         }
     }
 
     // Bytes of the certificate pass by.
     fn pass(&mut self, bytes: &[u8]) {
-        if let Some(began) = self.began {
-            self.count.pass(bytes);
-            self.show(began);
+        if !self.line.is_on() {
+            return;
+        }
+        self.count.pass(bytes);
+        if self.line.is_due() {
+            self.line
+                .show(line_of(self.count.records, self.limit).as_str());
         }
     }
 
     // Takes the line away. Nothing is shown from then on.
     fn end(&mut self) {
-        if self.shown {
-            let _ = eprint!(self.rt; "\r{:<19}\r", "");
-        }
-        self.shown = false;
-        self.began = None;
+        self.line.end();
     }
 }
 
-/// A source or a sink whose bytes are watched.
+/// A source whose bytes are watched.
 pub(crate) struct Watched<'a, T, R> {
     inner: T,
     watch: Watch<'a, R>,
@@ -220,29 +187,6 @@ impl<T: Source, R: Clock + Eprint> Source for Watched<'_, T, R> {
                     self.watch.pass(&buffer[..count]);
                 }
                 Ok(count)
-            }
-            Err(Refused) => {
-                self.watch.end();
-                Err(Refused)
-            }
-        }
-    }
-
-    fn failed(&self) -> bool {
-        self.inner.failed()
-    }
-}
-
-impl<T: Sink, R: Clock + Eprint> Sink for Watched<'_, T, R> {
-    ghost held = { λ s. T.held s.inner };
-
-    ghost has_failed = { λ s. T.has_failed s.inner };
-
-    fn push(&mut self, bytes: &[u8]) -> Result<(), Refused> {
-        match self.inner.push(bytes) {
-            Ok(()) => {
-                self.watch.pass(bytes);
-                Ok(())
             }
             Err(Refused) => {
                 self.watch.end();

@@ -5,8 +5,9 @@ ghost use Rattle.pg_cli.specs.Refusals.{refusal_status};
 use crate::gathered::Gathered;
 use crate::names::FileName;
 use pg_report::{
-    CountRunFault, Fault, MovesFault, Refused, RunFault, SearchFault, Sink, UpgradeFault,
-    count_status, moves_status, search_status, status, upgrade_status, write_movetext,
+    CountRunFault, Fault, MovesFault, Refused, RunFault, SearchFault, ShowFault, Sink,
+    UpgradeFault, count_status, moves_status, search_status, show_status, status, upgrade_status,
+    write_movetext,
 };
 use std::fmt::Write;
 use std::io::Eprint;
@@ -33,6 +34,9 @@ pub(crate) enum Refusal<'a> {
     /// given.
     #[error("cannot open {0}")]
     Open(FileName<'a>),
+    /// The moves that are asked for are not one game.
+    #[error("not one line of moves")]
+    Line,
     /// The list of games is not UTF-8.
     #[error("games are not UTF-8")]
     NotUtf8,
@@ -45,6 +49,9 @@ pub(crate) enum Refusal<'a> {
     /// A growth was refused.
     #[error("out of memory")]
     Memory,
+    /// A diagram is not shown.
+    #[error("{0}")]
+    Show(ShowFault),
     /// The moves of a position are not written.
     #[error("{0}")]
     Moves(MovesFault),
@@ -70,8 +77,9 @@ impl Refusal<'_> {
     {
         match self {
             Refusal::Open(_) | Refusal::Read | Refusal::Write => FILES,
-            Refusal::Words | Refusal::NotUtf8 => BAD_INPUT,
+            Refusal::Words | Refusal::Line | Refusal::NotUtf8 => BAD_INPUT,
             Refusal::Memory => MEMORY,
+            Refusal::Show(fault) => show_status(fault),
             Refusal::Moves(fault) => moves_status(fault),
             Refusal::Count(fault) => count_status(fault),
             Refusal::Search(fault) => search_status(fault),

@@ -8,6 +8,7 @@ use crate::checking::{NAMED, RECORDS, finished};
 use crate::gathered::Gathered;
 use crate::progress::{Watch, Watched};
 use crate::refusals::Refusal;
+use crate::runs::SearchLine;
 use crate::writing::begin;
 use clap::ArgMatches;
 use pg_report::{Bound, FromRead, Games, Problem, ToWrite, run_listed, search as search_for};
@@ -26,18 +27,17 @@ pub(crate) fn search_to<'a, R: Runtime + AllocGlobal, W: Write + Drop>(
     nodes: u64,
     screen: bool,
 ) -> Result<Games, Refusal<'a>> {
-    let mut sink = Watched::new(
-        ToWrite::new(certificate),
-        Watch::new(rt, "nodes", nodes, screen),
-    );
+    let mut sink = ToWrite::new(certificate);
+    let mut line = SearchLine::new(rt, nodes, screen);
     let found = search_for(
         rt.alloc(),
         &problem.diagram,
         problem.length,
         nodes,
         &mut sink,
+        &mut line,
     );
-    sink.end();
+    line.end();
     match found {
         Ok(games) => Ok(games),
         Err(fault) => Err(Refusal::Search(fault)),
@@ -70,10 +70,7 @@ pub(crate) fn check_found<'a, R: Runtime + AllocGlobal, C: Read + Drop, W: Write
 ) -> Result<u8, Refusal<'a>>
     ensures headline { IfOk result (λ status. IsAnswered problem.now.diagram problem.now.length games.now status) }
 {
-    let mut source = Watched::new(
-        FromRead::new(certificate),
-        Watch::new(rt, "records", records, screen),
-    );
+    let mut source = Watched::new(FromRead::new(certificate), Watch::new(rt, records, screen));
     let mut out = Gathered::new(ToWrite::new(out));
     let answer = run_listed(
         rt.alloc(),

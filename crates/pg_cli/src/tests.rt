@@ -1,5 +1,6 @@
 mod checks;
 mod drafts;
+mod explanations;
 mod gathering;
 mod hostile;
 mod inputs;

@@ -35,10 +35,7 @@ where
     O: Write + Drop,
     ensures few { IfOk result (λ n. n ≤ records) }
 {
-    let mut source = Watched::new(
-        FromRead::new(old),
-        Watch::new(rt, "records", records, screen),
-    );
+    let mut source = Watched::new(FromRead::new(old), Watch::new(rt, records, screen));
     let mut sink = ToWrite::new(new);
     let answer = upgrade_from(&mut source, &mut sink, records);
     source.end();

@@ -1,5 +1,5 @@
 -- Castling by its own test: a castling that the rules allow leaves the king unattacked.
-use Rattle.std.proofs.Common.{◌≡◌, ◌≢◌, ◌↔◌, ℕ, ◌<◌, ◌⊎◌, inl, inr, IsTrue, Some, None, Bool, true, false, refl, sym, ap, subst, ◌∙◌, arith}
+use Rattle.std.proofs.Common.{◌≡◌, ◌≢◌, ℕ, ◌<◌, ◌⊎◌, inl, inr, Some, None, refl, sym, ap, subst, ◌∙◌, arith}
 use Rattle.std.proofs.lemmas.Bool.Decides.{eqb_tells}
 use Rattle.pg_board.specs.declared.man.Color.{Color}
 use Rattle.pg_board.specs.declared.man.Color.TheVariants.{White, Black}
@@ -13,17 +13,15 @@ use Rattle.pg_position.specs.declared.rights.Wing.{Wing}
 use Rattle.pg_position.specs.declared.rights.Wing.TheVariants.{KingSide, QueenSide}
 use Rattle.pg_position.specs.declared.state.State.{State}
 use Rattle.pg_position.specs.declared.moves.Move.{Move}
-use Rattle.pg_position.specs.declared.moves.Way.{Way}
-use Rattle.pg_position.specs.declared.moves.Way.TheVariants.{Plain, Capture, DoubleAdvance, EnPassant, Promotion, Castling}
+use Rattle.pg_position.specs.declared.moves.Way.TheVariants.{Castling}
 use Rattle.pg_position.specs.Geometry.{IsBetween}
-use Rattle.pg_position.specs.Attack.{IsClear, Reaches, AttacksFrom, Attacks}
+use Rattle.pg_position.specs.Attack.{IsClear, AttacksFrom, Attacks}
 use Rattle.pg_position.specs.Position.{Stands, HasOneKing, IsOnlyKing, InCheck, IsPosition, RightsClause, IsHome, king_home, rook_home}
-use Rattle.pg_position.specs.Step.{Goes, IsWay, IsCastling, IsOnBoard, relocated, after, Step, king_crossed, king_target}
+use Rattle.pg_position.specs.Step.{IsCastling, IsOnBoard, relocated, after, Step, king_crossed, king_target}
 use Rattle.pg_position.proofs.StepLemmas.{same_kind, not_other}
 use Rattle.pg_moves.specs.Moves.{IsLegal}
 use Rattle.pg_moves.proofs.LeafLemmas.{one_king}
 use Rattle.pg_moves.proofs.KingLemmas.{not_end}
-use Rattle.pg_moves.proofs.SearchLemmas.{promotes}
 
 -- ---- the four squares: of the king and of the rook, before and after
 record AreFour (e h f g : ℕ) : Type 0 where
@@ -178,29 +176,3 @@ module _ (p : State) (m : Move) (pos : IsPosition p) (here : Stands p.board p.si
       let safe : ¬ InCheck (relocated (relocated p.board (king_home p.side) (king_target p.side w)) (rook_home p.side w) (king_crossed p.side w)) p.side = stays_safe p.board p.side _ _ _ _ (squares p.side w) home.0 home.1 (over_home p.side w) (over_rook p.side w) only way.safe_target in
       let there : ¬ InCheck (relocated (relocated p.board m.from m.to) (rook_home p.side w) (king_crossed p.side w)) p.side = subst (λ (r : ℕ). ¬ InCheck (relocated (relocated p.board r m.to) (rook_home p.side w) (king_crossed p.side w)) p.side) (sym way.home) (subst (λ (s : ℕ). ¬ InCheck (relocated (relocated p.board (king_home p.side) s) (rook_home p.side w) (king_crossed p.side w)) p.side) (sym way.target) safe) in
       (after p m (Castling w), ((King, Castling w, on, here, way, refl), there))
-
-  legal_castle : ¬ Reaches p.board p.side King m.from m.to → m.promotion ≡ None → IsLegal p m → (w : Wing) × IsCastling p King m w
-  unfolding Step Goes
-  legal_castle far none (q, ((k, v, _, stands, way, e), _)) = go v (subst (λ (x : Kind). IsWay p x m v) (same_kind stands here) way)
-    where
-      go : (v : Way) → IsWay p King m v → (w : Wing) × IsCastling p King m w
-      go Plain h = absurd (far h.goes)
-      go Capture h = absurd (far h.reaches)
-      go DoubleAdvance h = absurd (king_no_pawn h.pawn)
-      go EnPassant h = absurd (king_no_pawn h.pawn)
-      go (Promotion x) h = absurd (king_no_pawn h.must.0)
-      go (Castling w) h = (w, h)
-
-pub castle_is : (p : State) (b : Placement) (c : Color) (m : Move) (u t : Bool) → b ≡ p.board → c ≡ p.side → IsPosition p → Stands p.board p.side King m.from → IsOnBoard m → (IsTrue t ↔ Reaches b c King m.from m.to) → t ≡ false → m.promotion ≡ None → (IsTrue u ↔ ((w : Wing) × IsCastling p King m w)) → IsTrue u ↔ IsLegal p m
-castle_is p b c m u t eb ec pos here on reaches off none h =
-    let far : ¬ Reaches p.board p.side King m.from m.to = (λ r. (
-    let there : Reaches b c King m.from m.to = subst (λ (x : Placement). Reaches x c King m.from m.to) (sym eb) (subst (λ (d : Color). Reaches p.board d King m.from m.to) (sym ec) r) in
-    let yes : t ≡ true = reaches.1 there in
-    cc)) in
-    (λ e. (let r : (w : Wing) × IsCastling p King m w = h.0 e in castle_legal p m pos here on r.0 r.1), λ l. h.1 (legal_castle p m pos here on far none l))
-
-pub king_unpromoted : (p : State) (m : Move) (x : Kind) → Stands p.board p.side King m.from → m.promotion ≡ Some x → IsTrue false ↔ IsLegal p m
-king_unpromoted p m x here some = (
-  λ e. absurd (let f : false ≡ true = e in cc),
-  λ l. absurd (elim (promotes p m l) [ inl e ↦ (let z : None ≡ Some x = sym e ∙ some in cc) | inr g ↦ king_no_pawn (same_kind here g.0) ]),
-)

@@ -7,11 +7,9 @@ use Rattle.pg_board.specs.declared.man.Kind.{Kind}
 use Rattle.pg_board.specs.declared.man.Kind.TheVariants.{Pawn, Knight, Bishop, Rook, Queen, King}
 use Rattle.pg_board.specs.declared.man.Man.{Man}
 use Rattle.pg_board.specs.Squares.{file}
-use Rattle.pg_board.specs.Men.{man, other, is_of, color_decides}
-use Rattle.pg_board.specs.Bits.{has}
+use Rattle.pg_board.specs.Men.{man, other}
 use Rattle.pg_board.specs.Placement.{Placement, get, without, get-write_same, get-write_other}
 use Rattle.pg_position.specs.declared.state.State.{State}
-use Rattle.pg_position.specs.declared.moves.Move.{Move}
 use Rattle.pg_position.specs.declared.moves.Way.{Way}
 use Rattle.pg_position.specs.declared.moves.Way.TheVariants.{Plain, Capture, DoubleAdvance, EnPassant, Promotion, Castling}
 use Rattle.pg_position.specs.Geometry.{apart, IsBetween, InPattern}
@@ -107,38 +105,6 @@ module _ (p : State) (r s : ℕ) (pos : IsPosition p) (from : r < 64) (to : s < 
       let board : q.board ≡ relocated p.board r s = ap (λ (v : State). v.board) is ∙ h.1 in
       (h.0, λ a. safe (subst (λ (b : Placement). InCheck b p.side) (sym board) (s, to, arrived, same_attack (without p.board r) (relocated p.board r s) (other p.side) s (λ t ne. sym (gone t ne)) a)))
 
-  pub own_illegal : IsOwn p.board p.side s → IsTrue false ↔ IsLegal p (plain_move r s)
-  own_illegal o = (λ t. (let x : IsTrue false = t in absurd (cc)), λ l. absurd ((legal_step l).0 o))
-
   pub safe_legal : ¬ IsOwn p.board p.side s → (u : Bool) → IsTrue u ↔ Attacks (without p.board r) (other p.side) s → IsTrue (not u) ↔ IsLegal p (plain_move r s)
   safe_legal off true h = (λ t. (let x : IsTrue false = t in absurd (cc)), λ l. absurd ((legal_step l).1 (h.0 refl)))
   safe_legal off false h = (λ t. step_legal off (λ a. let x : IsTrue false = h.1 a in cc), λ l. refl)
-
--- the set of the mover's men
-own_man : (c : Color) (o : Option Man) → is_of c o ≡ true → (k : Kind) × (o ≡ Some (man c k))
-own_man c None e = absurd (cc)
-own_man c (Some m) e = (m.kind, let is : m.color ≡ c = (color_decides m.color c).0 e in ap (λ (d : Color). Some (record { color = d; kind = m.kind })) is)
-
-man_own : (c : Color) (k : Kind) → is_of c (Some (man c k)) ≡ true
-man_own White k = refl
-man_own Black k = refl
-
-module _ (p : State) (b : Placement) (c : Color) (n s i : ℕ) (t : Bool) (eb : b ≡ p.board) (ec : c ≡ p.side) (own : (q : ℕ) → q < 64 → has n q ≡ is_of c (get b q)) (low : s < 64) (ei : i ≡ s) (is : t ≡ has n i) where
-  told : t ≡ is_of p.side (get p.board s)
-  told = is ∙ ap (has n) ei ∙ own s low ∙ ap (λ (d : Color). is_of d (get b s)) ec ∙ ap (λ (d : Placement). is_of p.side (get d s)) eb
-
-  pub is_own : t ≡ true → IsOwn p.board p.side s
-  unfolding IsOwn
-  is_own e = own_man p.side (get p.board s) (sym told ∙ e)
-
-  pub not_own : t ≡ false → ¬ IsOwn p.board p.side s
-  unfolding IsOwn
-  not_own e o = let yes : t ≡ true = told ∙ ap (is_of p.side) o.1 ∙ man_own p.side o.0 in cc
-
-pub lifted_at : (b d : Placement) (c f : Color) (r s : ℕ) (u : Bool) → b ≡ d → c ≡ f → (x : Color) → x ≡ other c → IsTrue u ↔ Attacks (without b r) x s → IsTrue u ↔ Attacks (without d r) (other f) s
-lifted_at b d c f r s u eb ec x ex h =
-    subst (λ (y : Placement). IsTrue u ↔ Attacks (without y r) (other f) s) eb (subst (λ (y : Color). IsTrue u ↔ Attacks (without b r) y s) (ex ∙ ap other ec) h)
-
--- the move with no promotion
-pub unpromoted : (p : State) (m : Move) (u : Bool) → m.promotion ≡ None → IsTrue u ↔ IsLegal p (plain_move m.from m.to) → IsTrue u ↔ IsLegal p m
-unpromoted p m u e h = subst (λ (o : Option Kind). IsTrue u ↔ IsLegal p (record { from = m.from; to = m.to; promotion = o })) (sym e) h

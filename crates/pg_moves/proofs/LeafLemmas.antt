@@ -1,5 +1,5 @@
 -- How many legal moves there are, square by square.
-use Rattle.std.proofs.Common.{◌≡◌, ◌≢◌, ℕ, zero, suc, ◌+◌, ◌-◌, ◌*◌, ◌^◌, ◌<◌, ◌≤◌, ◌⊎◌, inl, inr, Bool, true, false, eqb, List, [], ◌∷◌, ◌++◌, length, length-append, count_ones, bit_or, refl, sym, ap, subst, arith, ◌∙◌}
+use Rattle.std.proofs.Common.{◌≡◌, ◌≢◌, ℕ, zero, suc, ◌+◌, ◌-◌, ◌*◌, ◌^◌, ◌<◌, ◌≤◌, ◌⊎◌, inl, inr, Bool, true, false, None, eqb, List, [], ◌∷◌, ◌++◌, length, length-append, count_ones, bit_or, refl, sym, ap, subst, arith, ◌∙◌}
 use Rattle.std.specs.List.{sum_by}
 use Rattle.std.proofs.lemmas.Bool.{eqb-false}
 use Rattle.std.proofs.lemmas.Bool.Decides.{eqb_tells, leb_tells}
@@ -25,6 +25,7 @@ use Rattle.pg_position.proofs.StepLemmas.{same_kind, not_other}
 use Rattle.pg_position.proofs.ReachLemmas.{set_or}
 use Rattle.pg_moves.specs.Moves.{promotion_rank, IsLegal}
 use Rattle.pg_moves.specs.Places.{place, place_of, NoneFrom, IsFirstMove, IsCountBelow, Adds}
+use Rattle.pg_moves.specs.Sources.{IsExact}
 use Rattle.pg_moves.specs.Targets.{plain_move, Strides, Leaps, Advances, Passes, IsFree, FreeOff, IsOrdinary}
 use Rattle.pg_moves.specs.Counts.{IsGameCount}
 use Rattle.pg_moves.proofs.PlaceLemmas.{promotion_low}
@@ -61,7 +62,19 @@ count_all p n pos (ms, list, e) =
     subst (λ (k : ℕ). IsGameCount p 1 k) same (number_is 1 p pos)
 
 -- ---- a man whose legal moves go to the squares of a set, without promotion
-module _ (p : State) (r set : ℕ) (goes : (s : ℕ) → s < 64 → has set s ≡ true → IsLegal p (plain_move r s)) (inside : (m : Move) → IsLegal p m → m.from ≡ r → (m.to < 64) × (has set m.to ≡ true)) (plain : (m : Move) → IsLegal p m → m.from ≡ r → promotion_rank m.promotion ≡ 0) where
+module _ (p : State) (r set : ℕ) (is : IsExact p r set) where
+  goes : (s : ℕ) → s < 64 → has set s ≡ true → IsLegal p (plain_move r s)
+  unfolding IsExact
+  goes s low e = (is (plain_move r s) refl).1 (refl, low, e)
+
+  inside : (m : Move) → IsLegal p m → m.from ≡ r → (m.to < 64) × (has set m.to ≡ true)
+  unfolding IsExact
+  inside m l f = let h : (m.promotion ≡ None) × (m.to < 64) × (has set m.to ≡ true) = (is m f).0 l in (h.1, h.2)
+
+  plain : (m : Move) → IsLegal p m → m.from ≡ r → promotion_rank m.promotion ≡ 0
+  unfolding IsExact
+  plain m l f = ap promotion_rank ((is m f).0 l).0
+
   -- no move to the square s, from promotion n on
   exact_none : (s n : ℕ) → s < 64 → n ≤ 7 → (has set s ≡ false) ⊎ (n ≢ 0) → NoneFrom p (place_of r s n) (place_of r s 7)
   exact_none s n on few why = none_ranks p r s n 7 on (omega arith) (λ m l f t a b. elim why [
@@ -110,14 +123,14 @@ module _ (p : State) (k : Kind) (r set : ℕ) (low : r < 64) (here : Stands p.bo
     elim g.1 [
       | inl a ↦ a
       | inr (inl a) ↦ absurd ((plain m.to g.0).1 a.0 a.1)
-      | inr (inr a) ↦ absurd (free.0 a.0)
+      | inr (inr a) ↦ absurd (free.0 a)
     ],
   )
 
-  unpromoted : (m : Move) → IsLegal p m → m.from ≡ r → promotion_rank m.promotion ≡ 0
+  unpromoted : (m : Move) → IsLegal p m → m.from ≡ r → m.promotion ≡ None
   unfolding IsOrdinary
   unpromoted m l f = elim (promotes p m l) [
-    | inl e ↦ ap promotion_rank e
+    | inl e ↦ e
     | inr g ↦ absurd (
         let a : (m.to < 64) × Advances p.board p.side k r m.to = free_forth m l f in
         let there : Stands p.board p.side Pawn r = subst (λ (x : ℕ). Stands p.board p.side Pawn x) f g.0 in
@@ -128,8 +141,15 @@ module _ (p : State) (k : Kind) (r set : ℕ) (low : r < 64) (here : Stands p.bo
   unfolding IsFree IsOrdinary
   free_legal s on h = let a : Advances p.board p.side k r s = (is s on).0 h in free.1 s on a ((plain s on).0 a)
 
+  pub free_exact : IsExact p r set
+  unfolding IsExact
+  free_exact m f = (
+    λ l. (let g : (m.to < 64) × Advances p.board p.side k r m.to = free_forth m l f in (unpromoted m l f, g.0, (is m.to g.0).1 g.1)),
+    λ (e, on, h). subst (λ (x : Move). IsLegal p x) (sym (λ i. record { from = f i; to = m.to; promotion = e i })) (free_legal m.to on h),
+  )
+
   pub free_adds : set < 2 ^ 64 → Adds p (place_of r 0 0) (place_of (r + 1) 0 0) (count_ones set)
-  free_adds = exact_adds p r set free_legal (λ m l f. let g : (m.to < 64) × Advances p.board p.side k r m.to = free_forth m l f in (g.0, (is m.to g.0).1 g.1)) unpromoted
+  free_adds = exact_adds p r set free_exact
 
 -- ---- which men are free and ordinary
 pub free_none_off : (p : State) (n : ℕ) → n ≡ 2 ^ 64 - 1 → FreeOff p n
@@ -230,8 +250,8 @@ walk_end p r to n t far few adds none c count = count_skip p (place_of r to n) (
 pub advances_at : (p : State) (k : Kind) (r set : ℕ) (b : Placement) (c : Color) → b ≡ p.board → c ≡ p.side → IsSetOf set (Advances b c k r) → IsSetOf set (Advances p.board p.side k r)
 advances_at p k r set b c eb ec is = subst (λ (d : Placement). IsSetOf set (Advances d p.side k r)) eb (subst (λ (d : Color). IsSetOf set (Advances b d k r)) ec is)
 
-pub free_count : (p : State) (k : Kind) (r set : ℕ) (b : Placement) (c : Color) → b ≡ p.board → c ≡ p.side → r < 64 → Stands p.board p.side k r → IsFree p k r → IsOrdinary p k r → IsSetOf set (Advances b c k r) → set < 2 ^ 64 → Adds p (place_of r 0 0) (place_of (r + 1) 0 0) (count_ones set)
-free_count p k r set b c eb ec low here free plain is fits = free_adds p k r set low here free plain (advances_at p k r set b c eb ec is) fits
+pub exact_free : (p : State) (k : Kind) (r set : ℕ) (b : Placement) (c : Color) → b ≡ p.board → c ≡ p.side → r < 64 → Stands p.board p.side k r → IsFree p k r → IsOrdinary p k r → IsSetOf set (Advances b c k r) → IsExact p r set
+exact_free p k r set b c eb ec low here free plain is = free_exact p k r set low here free plain (advances_at p k r set b c eb ec is)
 
 -- a rank that a test has ruled out, for the colour at hand
 pub rank_ruled_out : (c d : Color) (r n k : ℕ) → n ≡ rank r → eqb n k ≡ false → c ≡ d → rank r ≢ k
@@ -240,32 +260,31 @@ rank_ruled_out c d r n k e off same f = eqb-false n k off (e ∙ f)
 pub other_color : {A : Type 0} (c d : Color) → d ≡ c → d ≡ other c → A
 other_color c d e f = absurd (not_other c (sym e ∙ f))
 
--- ---- the next move of a free man
+-- ---- the next move of such a man
 from_there : (r to n f t j : ℕ) → n ≤ 7 → t < 64 → j < 7 → place_of r to n ≤ place_of f t j → place_of f t j < place_of (r + 1) 0 0 → f ≡ r
 from_there r to n f t j a b c d e = omega arith
 
-module _ (p : State) (k : Kind) (r set : ℕ) (low : r < 64) (here : Stands p.board p.side k r) (free : IsFree p k r) (plain : IsOrdinary p k r) (is : IsSetOf set (Advances p.board p.side k r)) (to n at : ℕ) (few : n ≤ 7) (same : n ≡ 0 → at ≡ to) (later : n ≢ 0 → at ≡ to + 1) where
+module _ (p : State) (r set : ℕ) (is : IsExact p r set) (to n at : ℕ) (few : n ≤ 7) (same : n ≡ 0 → at ≡ to) (later : n ≢ 0 → at ≡ to + 1) where
   -- a legal move from this place on goes to a square of the set from `at` on
-  free_past : (m : Move) → IsLegal p m → place_of r to n ≤ place m → place m < place_of (r + 1) 0 0 → (m.from ≡ r) × (promotion_rank m.promotion ≡ 0) × (at ≤ m.to) × (m.to < 64) × (has set m.to ≡ true)
-  free_past m l above below =
+  exact_past : (m : Move) → IsLegal p m → place_of r to n ≤ place m → place m < place_of (r + 1) 0 0 → (m.from ≡ r) × (promotion_rank m.promotion ≡ 0) × (at ≤ m.to) × (m.to < 64) × (has set m.to ≡ true)
+  exact_past m l above below =
       let on : IsOnBoard m = on_board p m l in
       let far : m.to < 64 = on.1 in
       let small : promotion_rank m.promotion < 7 = promotion_low m.promotion in
       let from : m.from ≡ r = from_there r to n m.from m.to (promotion_rank m.promotion) few far small above below in
-      let none : promotion_rank m.promotion ≡ 0 = unpromoted p k r set low here free plain is m l from in
-      let g : (m.to < 64) × Advances p.board p.side k r m.to = free_forth p k r set low here free plain is m l from in
+      let none : promotion_rank m.promotion ≡ 0 = plain p r set is m l from in
       let reached : at ≤ m.to = elim (eqb_tells n 0) [
         | inl w ↦ (let e : at ≡ to = same w.1 in let z : n ≡ 0 = w.1 in omega arith)
         | inr w ↦ (let e : at ≡ to + 1 = later w.1 in let z : n ≢ 0 = w.1 in omega arith)
       ] in
-      (from, none, reached, far, (is m.to far).1 g.1)
+      (from, none, reached, far, (inside p r set is m l from).1)
 
-  pub free_found : (s : ℕ) → IsFirstFrom set at s → IsFirstMove p (place_of r to n) (place_of (r + 1) 0 0) (plain_move r s)
-  free_found s first =
+  pub exact_found : (s : ℕ) → IsFirstFrom set at s → IsFirstMove p (place_of r to n) (place_of (r + 1) 0 0) (plain_move r s)
+  exact_found s first =
       let on : s < 64 = first.on_board in
       let up : at ≤ s = first.reached in
       record {
-        legal = free_legal p k r set low here free plain is s on first.member;
+        legal = goes p r set is s on first.member;
         from_low = elim (eqb_tells n 0) [
           | inl w ↦ (let e : at ≡ to = same w.1 in let z : n ≡ 0 = w.1 in omega arith)
           | inr w ↦ (let e : at ≡ to + 1 = later w.1 in omega arith)
@@ -275,7 +294,7 @@ module _ (p : State) (k : Kind) (r set : ℕ) (low : r < 64) (here : Stands p.bo
           | inl w ↦ w.1
           | inr w ↦ absurd (
               let near : place m < place_of r s 0 = w.1 in
-              let h : (m.from ≡ r) × (promotion_rank m.promotion ≡ 0) × (at ≤ m.to) × (m.to < 64) × (has set m.to ≡ true) = free_past m l above (omega arith) in
+              let h : (m.from ≡ r) × (promotion_rank m.promotion ≡ 0) × (at ≤ m.to) × (m.to < 64) × (has set m.to ≡ true) = exact_past m l above (omega arith) in
               let from : m.from ≡ r = h.0 in
               let none : promotion_rank m.promotion ≡ 0 = h.1 in
               let off : has set m.to ≡ false = first.before m.to h.2 (omega arith) in
@@ -284,11 +303,11 @@ module _ (p : State) (k : Kind) (r set : ℕ) (low : r < 64) (here : Stands p.bo
         ];
       }
 
-  pub free_last : HasNoneFrom set at → NoneFrom p (place_of r to n) (place_of (r + 1) 0 0)
-  free_last none m l above = elim (leb_tells (place_of (r + 1) 0 0) (place m)) [
+  pub exact_last : HasNoneFrom set at → NoneFrom p (place_of r to n) (place_of (r + 1) 0 0)
+  exact_last none m l above = elim (leb_tells (place_of (r + 1) 0 0) (place m)) [
     | inl w ↦ w.1
     | inr w ↦ absurd (
-        let h : (m.from ≡ r) × (promotion_rank m.promotion ≡ 0) × (at ≤ m.to) × (m.to < 64) × (has set m.to ≡ true) = free_past m l above w.1 in
+        let h : (m.from ≡ r) × (promotion_rank m.promotion ≡ 0) × (at ≤ m.to) × (m.to < 64) × (has set m.to ≡ true) = exact_past m l above w.1 in
         let off : has set m.to ≡ false = none m.to h.2 h.3 in
         let is_there : has set m.to ≡ true = h.4 in
         cc)

@@ -1,16 +1,17 @@
 -- The legal moves past the last one.
-use Rattle.std.proofs.Common.{◌≡◌, ℕ, ◌+◌, ◌<◌, ◌≤◌, inl, inr, Option, Some, None, MatchOption, refl, sym, subst, arith}
+use Rattle.std.proofs.Common.{◌≡◌, ℕ, ◌+◌, ◌<◌, ◌≤◌, inl, inr, Option, Some, MatchOption, refl, sym, subst, arith}
 use Rattle.pg_board.specs.Bits.{has}
 use Rattle.pg_board.specs.Men.{is_of}
 use Rattle.pg_board.specs.Placement.{get}
 use Rattle.pg_position.specs.declared.state.State.{State}
 use Rattle.pg_position.specs.declared.moves.Move.{Move}
 use Rattle.pg_position.specs.SquareSets.{HasNoneFrom, IsFirstFrom}
-use Rattle.pg_moves.specs.Left.{MovesLeft, IsSource, IsFound, IsAhead}
+use Rattle.pg_moves.specs.Left.{MovesLeft, IsFound, IsAhead}
+use Rattle.pg_moves.specs.Sources.{IsSource}
 use Rattle.pg_moves.specs.declared.left.Ahead.{Ahead}
 use Rattle.pg_moves.specs.Moves.{promotion_rank, IsNext, IsLast}
 use Rattle.pg_moves.specs.Places.{place, place_of, NoneFrom, IsFirstMove}
-use Rattle.pg_moves.specs.declared.left.Source.{Source}
+use Rattle.pg_moves.specs.declared.sources.Source.{Source}
 use Rattle.pg_moves.proofs.ListLemmas.{on_board}
 use Rattle.pg_moves.proofs.PlaceLemmas.{promotion_low}
 use Rattle.pg_moves.proofs.SearchLemmas.{own_found, own_next, own_end, next_found, next_none, none_then, none_yet, first_block}

@@ -1,5 +1,6 @@
 -- The list of the legal moves: there is one, and no other.
-use Rattle.std.proofs.Common.{◌≡◌, ◌≢◌, ℕ, zero, suc, ◌+◌, ◌<◌, ◌≤◌, ◌⊎◌, inl, inr, Bool, true, false, cond, List, [], ◌∷◌, ◌++◌, length, length-append, refl, sym, ap, subst, arith, ◌∙◌}
+use Rattle.std.specs.Result.{IfErr}
+use Rattle.std.proofs.Common.{Result, Ok, Err, ◌≡◌, ◌≢◌, ℕ, zero, suc, ◌+◌, ◌<◌, ◌≤◌, ◌⊎◌, inl, inr, Bool, true, false, cond, List, [], ◌∷◌, ◌++◌, length, length-append, refl, sym, ap, subst, arith, ◌∙◌}
 use Rattle.std.specs.List.{Contains, filter}
 use Rattle.std.proofs.lemmas.List.Kept.{IsStrictlySortedBy-filter}
 use Rattle.std.proofs.lemmas.List.Elements.{Contains-push, Contains-push_cases, Contains-append_left}
@@ -7,8 +8,8 @@ use Rattle.std.proofs.lemmas.Bool.Decides.{eqb_tells, leb_tells}
 use Rattle.pg_position.specs.declared.state.State.{State}
 use Rattle.pg_position.specs.declared.moves.Move.{Move}
 use Rattle.pg_position.specs.Step.{IsOnBoard, Step}
-use Rattle.pg_moves.specs.Moves.{promotion_rank, move_cmp, IsLegal, IsMoveList}
-use Rattle.pg_moves.specs.Places.{place, place_of, NoneFrom, IsFirstMove, IsListBelow}
+use Rattle.pg_moves.specs.Moves.{move_cmp, IsLegal, IsMoveList}
+use Rattle.pg_moves.specs.Places.{place, NoneFrom, IsFirstMove, IsListBelow}
 use Rattle.pg_moves.proofs.SortLemmas.{Contains-head, Contains-later, Contains-cons, Contains-none, sorted_push, sorted_none, sorted_same}
 use Rattle.pg_moves.proofs.PlaceLemmas.{move_cmp_total, place_less, same_place, place_low, moves_below, all_moves, all_ascend, all_have}
 use Rattle.pg_moves.proofs.DecisionLemmas.{dec_legal}
@@ -109,12 +110,13 @@ pub list_whole : (p : State) (ms : List Move) → IsListBelow p 28672 ms → IsM
 list_whole p ms h = record { ascends = h.ascends; has = λ m. (λ c. (h.are m c).0, λ l. h.has m l (place_low m (on_board p m l))) }
 
 -- the next legal move is put at the end
-pub list_next : (p : State) (low f t n : ℕ) (ms : List Move) (m : Move) → IsListBelow p low ms → IsFirstMove p low 28672 m → f ≡ m.from → t ≡ m.to → n ≡ promotion_rank m.promotion → IsListBelow p (place_of f t (n + 1)) (ms ++ m ∷ [])
-list_next p low f t n ms m h first a b c =
-    let up : low ≤ place m = first.from_low in
-    let here : IsListBelow p (place m) ms = list_skip p low (place m) ms h up first.first in
-    let same : place m + 1 ≡ place_of f t (n + 1) = omega arith in
-    subst (λ k. IsListBelow p k (ms ++ m ∷ [])) same (list_push p (place m) ms m here first.legal refl)
+pub list_more : (p : State) (low : ℕ) (ms : List Move) (m : Move) → IsListBelow p low ms → IsFirstMove p low 28672 m → IsListBelow p (place m + 1) (ms ++ m ∷ [])
+list_more p low ms m h first = list_push p (place m) ms m (list_skip p low (place m) ms h first.from_low first.first) first.legal refl
+
+-- a refusal is not told apart from another
+pub if_err : {A E P : Type 0} (r : Result A E) → P → IfErr r (λ _. P)
+if_err (Ok v) h = tt
+if_err (Err e) h = h
 
 -- where no legal move is left the list is whole
 pub list_end : (p : State) (low : ℕ) (ms : List Move) → IsListBelow p low ms → low ≤ 28672 → NoneFrom p low 28672 → IsMoveList p ms

@@ -26,7 +26,8 @@ use Rattle.pg_moves.specs.Targets.{IsOwn, Advances, Strides, Leaps, Passes, Free
 use Rattle.pg_moves.specs.declared.pawns.PawnWays.{PawnWays}
 use Rattle.pg_moves.specs.Pawns.{forward, IsInside, AreWays, IsQuiet, to_left, to_right, moves_from}
 use Rattle.pg_moves.proofs.ShiftLemmas.{itself, total_add}
-use Rattle.pg_moves.proofs.TargetLemmas.{set_none, own_set}
+use Rattle.pg_moves.proofs.TargetLemmas.{own_set}
+use Rattle.pg_position.proofs.SetLemmas.{set_none}
 use Rattle.pg_moves.proofs.SearchLemmas.{own_gap}
 use Rattle.pg_moves.proofs.LeafLemmas.{free_adds, count_skip, count_all, pawn_ordinary, free_there}
 

@@ -94,6 +94,24 @@ next_found p after m good f = record {
 pub next_none : (p : State) (after : Option Move) → IsGood after → NoneFrom p (start_after after) 28672 → IsLast p after
 next_none p after good none m l h = let far : 28672 ≤ place m = none m l (past_start p after m good l h) in let low : place m < 28672 = place_low m (on_board p m l) in omega arith
 
+pub start_low : (after : Option Move) → IsGood after → start_after after ≤ 28672
+start_low None good = omega arith
+start_low (Some a) good = let low : place a < 28672 = place_low a good in omega arith
+
+pub found_next : (p : State) (after : Option Move) (m : Move) → IsGood after → IsNext p after m → IsFirstMove p (start_after after) 28672 m
+found_next p after m good n = record {
+  legal = n.legal;
+  from_low = past_start p after m good n.legal n.past;
+  to_high = place_low m (on_board p m n.legal);
+  first = λ x l h. elim (n.first x l (start_past p after x good l h)) [
+    | inl e ↦ (let same : place m ≡ place x = ap place e in omega arith)
+    | inr b ↦ (let less : place m < place x = less_place m x (on_board p m n.legal) (on_board p x l) b in omega arith)
+  ];
+}
+
+pub none_next : (p : State) (after : Option Move) → IsGood after → IsLast p after → NoneFrom p (start_after after) 28672
+none_next p after good last m l h = absurd (last m l (start_past p after m good l h))
+
 none_one : (p : State) (n : ℕ) (m : Move) → (IsLegal p m → ⊥) → m.to < 64 → place m ≡ n → NoneFrom p n (n + 1)
 none_one p n m illegal s e = none_more p n n m (λ x l h. h) illegal s e
 

@@ -1,13 +1,13 @@
 -- The king's moves as a set.
-use Rattle.std.proofs.Common.{◌≡◌, ◌≢◌, ◌↔◌, ℕ, ◌+◌, ◌<◌, ◌≤◌, ◌^◌, inl, inr, IsTrue, Bool, not, true, false, None, bit_and, w64, count_ones, refl, sym, ap, subst, ◌∙◌, arith}
+use Rattle.std.proofs.Common.{◌≡◌, ◌≢◌, ◌↔◌, ℕ, ◌+◌, ◌<◌, ◌≤◌, ◌⊎◌, ◌^◌, inl, inr, IsTrue, Bool, not, true, false, None, bit_and, bit_or, w64, refl, sym, ap, subst, ◌∙◌, arith}
 use Rattle.std.specs.Int.{bit_not}
 use Rattle.std.proofs.lemmas.Bool.Decides.{eqb_tells, leb_tells}
 use Rattle.pg_board.specs.declared.man.Color.{Color}
 use Rattle.pg_board.specs.declared.man.Kind.{Kind}
-use Rattle.pg_board.specs.declared.man.Kind.TheVariants.{Pawn, King}
-use Rattle.pg_board.specs.Bits.{has}
-use Rattle.pg_board.specs.Men.{other}
-use Rattle.pg_board.specs.Placement.{Placement, without}
+use Rattle.pg_board.specs.declared.man.Kind.TheVariants.{Pawn, Rook, King}
+use Rattle.pg_board.specs.Bits.{has, has-none}
+use Rattle.pg_board.specs.Men.{man, other}
+use Rattle.pg_board.specs.Placement.{Placement, get_on, without}
 use Rattle.pg_position.specs.declared.rights.Wing.{Wing}
 use Rattle.pg_position.specs.declared.state.State.{State}
 use Rattle.pg_position.specs.declared.moves.Move.{Move}
@@ -15,20 +15,21 @@ use Rattle.pg_position.specs.declared.moves.Way.{Way}
 use Rattle.pg_position.specs.declared.moves.Way.TheVariants.{Plain, Capture, DoubleAdvance, EnPassant, Promotion, Castling}
 use Rattle.pg_position.specs.Attack.{Reaches, Attacks}
 use Rattle.pg_position.specs.SquareSets.{IsSetOf, IsFirstFrom, HasNoneFrom}
-use Rattle.pg_position.specs.Position.{Stands, IsPosition}
+use Rattle.pg_position.specs.Position.{Stands, IsPosition, IsHome, HasOneKing, IsOnlyKing, RightsClause, king_home, rook_home}
 use Rattle.pg_position.specs.Step.{Goes, IsWay, IsCastling, Step}
 use Rattle.pg_position.proofs.StepLemmas.{same_kind}
-use Rattle.pg_position.proofs.ReachLemmas.{set_without}
-use Rattle.pg_moves.specs.Moves.{promotion_rank, IsLegal}
-use Rattle.pg_moves.specs.Places.{place_of, Adds}
-use Rattle.pg_moves.specs.Targets.{plain_move, Strides, Advances, Covers}
+use Rattle.pg_position.proofs.ReachLemmas.{set_or, set_without}
+use Rattle.pg_position.proofs.SetLemmas.{set_none}
+use Rattle.pg_moves.specs.Moves.{IsLegal}
+use Rattle.pg_moves.specs.Sources.{IsExact}
+use Rattle.pg_moves.specs.Targets.{plain_move, Strides, Advances}
 use Rattle.pg_moves.proofs.TargetLemmas.{not_own}
 use Rattle.pg_moves.proofs.SearchLemmas.{promotes}
 use Rattle.pg_moves.proofs.ListLemmas.{on_board}
 use Rattle.pg_moves.proofs.ShiftLemmas.{itself}
 use Rattle.pg_moves.proofs.KingLemmas.{safe_legal}
 use Rattle.pg_moves.proofs.CastleLemmas.{castle_legal, king_no_pawn}
-use Rattle.pg_moves.proofs.LeafLemmas.{exact_adds}
+use Rattle.pg_moves.proofs.LeafLemmas.{one_king}
 
 -- ---- one square
 stride : (b : Placement) (c : Color) (r s : ℕ) → Advances b c King r s → Strides b c King r s
@@ -41,10 +42,10 @@ unfolding Strides Goes
 stride_reaches b c r s (inl h) = h.1
 stride_reaches b c r s (inr h) = h.1
 
-module _ (p : State) (r s steps : ℕ) (t : Bool) (pos : IsPosition p) (from : r < 64) (to : s < 64) (here : Stands p.board p.side King r) (is : IsSetOf steps (Advances p.board p.side King r)) (told : t ≡ has steps s) where
-  pub step_is : (b : Placement) (c o : Color) (u : Bool) → t ≡ true → b ≡ without p.board r → c ≡ p.side → o ≡ other c → IsTrue u ↔ Attacks b o s → IsTrue (not u) ↔ IsLegal p (plain_move r s)
+module _ (p : State) (r s steps : ℕ) (pos : IsPosition p) (from : r < 64) (to : s < 64) (here : Stands p.board p.side King r) (is : IsSetOf steps (Advances p.board p.side King r)) where
+  pub step_is : (b : Placement) (c o : Color) (u : Bool) → has steps s ≡ true → b ≡ without p.board r → c ≡ p.side → o ≡ other c → IsTrue u ↔ Attacks b o s → IsTrue (not u) ↔ IsLegal p (plain_move r s)
   step_is b c o u on eb ec eo h =
-      let there : Strides p.board p.side King r s = stride p.board p.side r s ((is s to).0 (sym told ∙ on)) in
+      let there : Strides p.board p.side King r s = stride p.board p.side r s ((is s to).0 on) in
       safe_legal p r s pos from to here (stride_reaches p.board p.side r s there) (not_own p.board p.side King r s there) u
       (subst (λ (x : Placement). IsTrue u ↔ Attacks x (other p.side) s) eb (subst (λ (x : Color). IsTrue u ↔ Attacks b x s) (eo ∙ ap other ec) h))
 
@@ -60,10 +61,21 @@ module _ (p : State) (r s steps : ℕ) (t : Bool) (pos : IsPosition p) (from : r
       go (Promotion x) h = absurd (king_no_pawn h.must.0)
       go (Castling w) h = (w, h)
 
-  pub castle_step : (u : Bool) → t ≡ false → IsTrue u ↔ ((w : Wing) × IsCastling p King (plain_move r s) w) → IsTrue u ↔ IsLegal p (plain_move r s)
-  castle_step u off h =
-      let far : ¬ Advances p.board p.side King r s = (λ a. (let yes : has steps s ≡ true = (is s to).1 a in cc)) in
-      (λ e. (let x : (w : Wing) × IsCastling p King (plain_move r s) w = h.0 e in castle_legal p (plain_move r s) pos here (from, to) x.0 x.1), λ l. h.1 (far_castles far l))
+  -- the king that castles stands at home
+  at_home : (w : Wing) → IsCastling p King (plain_move (king_home p.side) s) w → r ≡ king_home p.side
+  unfolding IsHome HasOneKing IsOnlyKing RightsClause
+  at_home w way =
+      let home : Stands p.board p.side King (king_home p.side) × Stands p.board p.side Rook (rook_home p.side w) = pos.homes p.side w way.right in
+      let one : HasOneKing p.board p.side = one_king p pos in
+      one.1.2 r from here ∙ sym (one.1.2 (king_home p.side) (get_on p.board (king_home p.side) (man p.side King) home.0) home.0)
+
+  pub castle_step : (w : Wing) → IsCastling p King (plain_move (king_home p.side) s) w → IsLegal p (plain_move r s)
+  castle_step w way = castle_legal p (plain_move r s) pos here (from, to) w (subst (λ (x : ℕ). IsCastling p King (plain_move x s) w) (sym (at_home w way)) way)
+
+  pub step_castles : has steps s ≡ false → IsLegal p (plain_move r s) → (w : Wing) × IsCastling p King (plain_move (king_home p.side) s) w
+  step_castles off l =
+      let found : (w : Wing) × IsCastling p King (plain_move r s) w = far_castles (λ a. (let yes : has steps s ≡ true = (is s to).1 a in cc)) l in
+      (found.0, subst (λ (x : ℕ). IsCastling p King (plain_move x s) found.0) found.1.home found.1)
 
 pub kept_all : (set s : ℕ) (keep : Bool) → keep ≡ true → (q : ℕ) → q < 64 → IsTrue (has set q) ↔ ((has set q ≡ true) × (q ≡ s → keep ≡ true))
 kept_all set s keep e q l = (λ h. (h, λ _. e), λ h. h.0)
@@ -103,37 +115,53 @@ module _ (p : State) (r set : ℕ) where
         (is q l).1 ((was q l).1 (h.0, λ low. h.1 (omega arith)), λ f. legal.1 (subst (λ (x : ℕ). IsLegal p (plain_move r x)) f (h.1 (omega arith))))),
   )
 
-  pub kept_end : (at kept : ℕ) → Covers p r set → IsKept p r set at kept → HasNoneFrom set at → IsSetOf kept (λ q. IsLegal p (plain_move r q))
-  unfolding Covers
-  kept_end at kept covers was none q l = (
-    λ h. (let o = (was q l).0 h in elim (leb_tells at q) [
-      | inl v ↦ absurd (
-          let off : has set q ≡ false = none q v.1 l in
-          let on : has set q ≡ true = o.0 in
-          cc)
-      | inr v ↦ o.1 v.1
-    ]),
-    λ legal. (was q l).1 (covers (plain_move r q) legal refl, λ _. legal),
+  pub kept_end : (at kept : ℕ) → IsKept p r set at kept → HasNoneFrom set at → IsSetOf kept (λ q. (has set q ≡ true) × IsLegal p (plain_move r q))
+  kept_end at kept was none q l = (
+    λ h. (let o = (was q l).0 h in (
+      o.0,
+      elim (leb_tells at q) [
+        | inl v ↦ absurd (
+            let off : has set q ≡ false = none q v.1 l in
+            let on : has set q ≡ true = o.0 in
+            cc)
+        | inr v ↦ o.1 v.1
+      ],
+    )),
+    λ h. (was q l).1 (h.0, λ _. h.1),
   )
 
--- ---- how many
-pub king_adds : (p : State) (k : Kind) (r set : ℕ) → k ≡ King → Stands p.board p.side k r → IsSetOf set (λ q. IsLegal p (plain_move r q)) → set < 2 ^ 64 → Adds p (place_of r 0 0) (place_of (r + 1) 0 0) (count_ones set)
-king_adds p k r set king stands is fits = exact_adds p r set (λ s l e. (is s l).0 e) inside plain fits
-  where
-    here : Stands p.board p.side King r
-    here = subst (λ (x : Kind). Stands p.board p.side x r) king stands
+-- of no square none is kept
+pub kept_none : (P : ℕ → Type 0) (set : ℕ) → set ≡ 0 → IsSetOf 0 (λ q. (has set q ≡ true) × P q)
+kept_none P set e = set_none (λ q l h. (
+    let off : has set q ≡ false = ap (λ n. has n q) e ∙ has-none q in
+    let on : has set q ≡ true = h.0 in
+    cc))
 
-    unpromoted : (m : Move) → IsLegal p m → m.from ≡ r → m.promotion ≡ None
-    unpromoted m l f = elim (promotes p m l) [
+-- ---- all his moves
+pub king_exact : (p : State) (r steps kept castled : ℕ) → IsPosition p → r < 64 → Stands p.board p.side King r → IsSetOf steps (Advances p.board p.side King r)
+    → IsSetOf kept (λ q. (has steps q ≡ true) × IsLegal p (plain_move r q)) → IsSetOf castled (λ q. (w : Wing) × IsCastling p King (plain_move (king_home p.side) q) w) → IsExact p r (bit_or kept castled)
+unfolding IsExact
+king_exact p r steps kept castled pos from here is keeps castles m f = (
+  λ l. (let low : m.to < 64 = (on_board p m l).1 in
+      let there : IsLegal p (plain_move r m.to) = subst (λ (x : Move). IsLegal p x) (λ i. record { from = f i; to = m.to; promotion = unpromoted l i }) l in (
+        unpromoted l,
+        low,
+        (all m.to low).1 (elim (has steps m.to) as (λ v. has steps m.to ≡ v → ((has steps m.to ≡ true) × IsLegal p (plain_move r m.to)) ⊎ ((w : Wing) × IsCastling p King (plain_move (king_home p.side) m.to) w)) [
+          | true ↦ λ e. inl (e, there)
+          | false ↦ λ e. inr (step_castles p r m.to steps pos from low here is e there)
+        ] refl),
+      )),
+  λ (e, low, h). subst (λ (x : Move). IsLegal p x) (sym (λ i. record { from = f i; to = m.to; promotion = e i })) (elim ((all m.to low).0 h) [
+    | inl g ↦ g.1
+    | inr g ↦ castle_step p r m.to steps pos from low here is g.0 g.1
+  ]),
+)
+  where
+    all : IsSetOf (bit_or kept castled) (λ q. ((has steps q ≡ true) × IsLegal p (plain_move r q)) ⊎ ((w : Wing) × IsCastling p King (plain_move (king_home p.side) q) w))
+    all = set_or kept castled keeps castles
+
+    unpromoted : IsLegal p m → m.promotion ≡ None
+    unpromoted l = elim (promotes p m l) [
       | inl e ↦ e
       | inr g ↦ absurd (king_no_pawn (same_kind here (subst (λ (x : ℕ). Stands p.board p.side Pawn x) f g.0)))
     ]
-
-    inside : (m : Move) → IsLegal p m → m.from ≡ r → (m.to < 64) × (has set m.to ≡ true)
-    inside m l f =
-        let low : m.to < 64 = (on_board p m l).1 in
-        let same : m ≡ plain_move r m.to = (λ i. record { from = f i; to = m.to; promotion = unpromoted m l f i }) in
-        (low, (is m.to low).1 (subst (λ (x : Move). IsLegal p x) same l))
-
-    plain : (m : Move) → IsLegal p m → m.from ≡ r → promotion_rank m.promotion ≡ 0
-    plain m l f = ap promotion_rank (unpromoted m l f)

@@ -1,8 +1,8 @@
 -- The sets of squares to which men may go.
-use Rattle.std.proofs.Common.{arith, ◌≡◌, ◌≢◌, ℕ, ◌*◌, ◌%◌, ◌^◌, ◌<◌, ◌⊎◌, inl, inr, ◌↔◌, Bool, true, false, cond, ◌||◌, eqb, bit_and, bit_or, w64, Option, Some, None, refl, sym, ap, ◌∙◌, subst}
+use Rattle.std.proofs.Common.{◌≡◌, ◌≢◌, ℕ, ◌^◌, ◌<◌, ◌⊎◌, inl, inr, ◌↔◌, bit_and, bit_or, w64, Option, Some, None, refl, sym, ap, ◌∙◌, subst}
 use Rattle.std.specs.Int.{bit_not}
 use Rattle.std.specs.Bool.{Decides}
-use Rattle.std.proofs.lemmas.Bool.Decides.{Decides-like, Decides-and, Decides-eqb, Decides-at}
+use Rattle.std.proofs.lemmas.Bool.Decides.{Decides-like, Decides-and, Decides-at}
 use Rattle.pg_board.specs.declared.man.Color.{Color}
 use Rattle.pg_board.specs.declared.man.Color.TheVariants.{White, Black}
 use Rattle.pg_board.specs.declared.man.Kind.{Kind}
@@ -11,41 +11,26 @@ use Rattle.pg_board.specs.declared.man.Man.{Man}
 use Rattle.pg_board.specs.Squares.{file, rank}
 use Rattle.pg_board.specs.Men.{man, other, color_eq, color_decides, is_of, is_held}
 use Rattle.pg_board.specs.Placement.{Placement, get}
-use Rattle.pg_board.specs.Bits.{has, has-and, has-or, has-none, has-set}
-use Rattle.pg_position.specs.declared.rights.Wing.{Wing}
-use Rattle.pg_position.specs.declared.rights.Wing.TheVariants.{KingSide, QueenSide}
-use Rattle.pg_position.specs.declared.rights.Rights.{Rights}
+use Rattle.pg_board.specs.Bits.{has, has-and}
 use Rattle.pg_position.specs.declared.state.State.{State}
 use Rattle.pg_position.specs.declared.moves.Move.{Move}
 use Rattle.pg_position.specs.declared.moves.Way.{Way}
 use Rattle.pg_position.specs.declared.moves.Way.TheVariants.{Plain, Capture, DoubleAdvance, EnPassant, Promotion, Castling}
-use Rattle.pg_position.specs.Geometry.{IsForward, InPattern, IsBetween}
+use Rattle.pg_position.specs.Geometry.{IsForward, InPattern}
 use Rattle.pg_position.specs.Attack.{IsClear, Reaches}
 use Rattle.pg_position.specs.SquareSets.{IsSetOf}
-use Rattle.pg_position.specs.Position.{Stands, IsVacant, king_home, rook_home, ahead}
-use Rattle.pg_position.specs.Step.{IsEnemy, Goes, IsWay, Step, home_rank, king_target}
+use Rattle.pg_position.specs.Position.{Stands, IsVacant, ahead}
+use Rattle.pg_position.specs.Step.{IsEnemy, Goes, IsWay, Step, home_rank}
 use Rattle.pg_position.proofs.StepLemmas.{same_kind, same_side, not_other}
 use Rattle.pg_position.proofs.LineLemmas.{pawn_near}
 use Rattle.pg_position.proofs.ReachLemmas.{set_like, set_or, set_without}
+use Rattle.pg_position.proofs.SetLemmas.{set_none}
 use Rattle.pg_moves.specs.Moves.{IsLegal}
-use Rattle.pg_moves.specs.Targets.{IsOwn, Strides, Leaps, Advances, Passes, Castles, Covers}
+use Rattle.pg_moves.specs.Targets.{IsOwn, Strides, Leaps, Advances, Passes, Covers}
 
 -- ---- sets
 pub set_and : {P Q : ℕ → Type 0} (a b : ℕ) → IsSetOf a P → IsSetOf b Q → IsSetOf (bit_and a b) (λ q. P q × Q q)
 set_and a b f g q l = Decides-at _ _ (has-and a b q) (Decides-and _ _ (f q l) (g q l))
-
-pub set_none : {P : ℕ → Type 0} → ((q : ℕ) → q < 64 → ¬ P q) → IsSetOf 0 P
-set_none h q l = (λ t. absurd (let e : has 0 q ≡ true = t in let f : has 0 q ≡ false = has-none q in let g : true ≡ false = sym e ∙ f in cc), λ x. absurd (h q l x))
-
-pub set_one : (k : ℕ) → k < 64 → IsSetOf (1 * 2 ^ k % 2 ^ 64) (λ q. q ≡ k)
-set_one k l q low =
-    let x : ℕ = 1 * 2 ^ k % 2 ^ 64 in
-    let whole : has (bit_or 0 x) q ≡ has x q = has-or 0 x q ∙ ap (λ t. t || has x q) (has-none q) in
-    Decides-at _ _ (sym whole ∙ has-set 0 k q l ∙ only (eqb q k) q) (Decides-eqb q k)
-  where
-    only : (t : Bool) (q : ℕ) → cond t true (has 0 q) ≡ t
-    only true q = refl
-    only false q = has-none q
 
 -- ---- what stands on a square
 of_decides : (c : Color) (o : Option Man) → Decides (is_of c o) ((k : Kind) × (o ≡ Some (man c k)))
@@ -159,50 +144,18 @@ pub pass_none : (p : State) (r : ℕ) → p.passed ≡ None → IsSetOf 0 (Passe
 unfolding Passes
 pass_none p r e = set_none (λ q _ t. let a : p.passed ≡ Some q = t.0 in cc)
 
-pub castle_white : (r : Rights) (c : Color) (x y : ℕ) → c ≡ White → IsSetOf x (λ q. (r.white_king ≡ true) × (q ≡ 6)) → IsSetOf y (λ q. (r.white_queen ≡ true) × (q ≡ 2)) → IsSetOf (bit_or x y) (Castles r c)
-unfolding Castles
-castle_white r c x y e g h = rw e (set_like _ forth back (set_or x y g h))
-  where
-    forth : (q : ℕ) → q < 64 → ((r.white_king ≡ true) × (q ≡ 6)) ⊎ ((r.white_queen ≡ true) × (q ≡ 2)) → Castles r White q
-    forth q _ (inl t) = (KingSide, t.0, t.1)
-    forth q _ (inr t) = (QueenSide, t.0, t.1)
-
-    back : (q : ℕ) → q < 64 → Castles r White q → ((r.white_king ≡ true) × (q ≡ 6)) ⊎ ((r.white_queen ≡ true) × (q ≡ 2))
-    back q _ (KingSide, a, b) = inl (a, b)
-    back q _ (QueenSide, a, b) = inr (a, b)
-
-pub castle_black : (r : Rights) (c : Color) (x y : ℕ) → c ≡ Black → IsSetOf x (λ q. (r.black_king ≡ true) × (q ≡ 62)) → IsSetOf y (λ q. (r.black_queen ≡ true) × (q ≡ 58)) → IsSetOf (bit_or x y) (Castles r c)
-unfolding Castles
-castle_black r c x y e g h = rw e (set_like _ forth back (set_or x y g h))
-  where
-    forth : (q : ℕ) → q < 64 → ((r.black_king ≡ true) × (q ≡ 62)) ⊎ ((r.black_queen ≡ true) × (q ≡ 58)) → Castles r Black q
-    forth q _ (inl t) = (KingSide, t.0, t.1)
-    forth q _ (inr t) = (QueenSide, t.0, t.1)
-
-    back : (q : ℕ) → q < 64 → Castles r Black q → ((r.black_king ≡ true) × (q ≡ 62)) ⊎ ((r.black_queen ≡ true) × (q ≡ 58))
-    back q _ (KingSide, a, b) = inl (a, b)
-    back q _ (QueenSide, a, b) = inr (a, b)
-
--- the castling king comes to an empty square
-castle_vacant : (b : Placement) (c : Color) (w : Wing) → IsClear b (king_home c) (rook_home c w) → IsVacant b (king_target c w)
-unfolding IsClear IsBetween
-castle_vacant b White KingSide clear = clear 6 (omega arith) (λ e. omega arith, λ e. omega arith, refl, refl, inl (inr refl, inr refl, inr refl))
-castle_vacant b White QueenSide clear = clear 2 (omega arith) (λ e. omega arith, λ e. omega arith, refl, refl, inl (inr refl, inr refl, inr refl))
-castle_vacant b Black KingSide clear = clear 62 (omega arith) (λ e. omega arith, λ e. omega arith, refl, refl, inl (inr refl, inr refl, inr refl))
-castle_vacant b Black QueenSide clear = clear 58 (omega arith) (λ e. omega arith, λ e. omega arith, refl, refl, inl (inr refl, inr refl, inr refl))
-
--- ---- each legal move is an advance, or en passant, or castling
+-- ---- each legal move is an advance, or en passant, or a king's
 unfoldable pub Goals : State → Kind → ℕ → ℕ → Type 0
-Goals p k r s = Advances p.board p.side k r s ⊎ (((k ≡ Pawn) × Passes p r s) ⊎ ((k ≡ King) × Castles p.rights p.side s × IsVacant p.board s))
+Goals p k r s = Advances p.board p.side k r s ⊎ (((k ≡ Pawn) × Passes p r s) ⊎ (k ≡ King))
 
 goals : (p : State) (k : Kind) (m : Move) (w : Way) → IsWay p k m w → Goals p k m.from m.to
-unfolding Goals Advances Strides Leaps Passes Castles
+unfolding Goals Advances Strides Leaps Passes
 goals p k m Plain h = inl (inl (inl (h.vacant, h.goes)))
 goals p k m Capture h = inl (inl (inr (h.enemy, h.reaches)))
 goals p k m DoubleAdvance h = inl (inr (h.pawn, (h.home, h.two, h.crossed, h.vacant)))
 goals p k m EnPassant h = inr (inl (h.pawn, (h.passed, h.reaches)))
 goals p k m (Promotion x) h = inl (inl h.moves)
-goals p k m (Castling w) h = inr (inr (h.king, (w, h.right, h.target), subst (λ (x : ℕ). IsVacant p.board x) (sym h.target) (castle_vacant p.board p.side w h.clear)))
+goals p k m (Castling w) h = inr (inr h.king)
 
 module _ (p : State) (k : Kind) (r : ℕ) (here : Stands p.board p.side k r) (b : Placement) (c : Color) (eb : b ≡ p.board) (ec : c ≡ p.side) where
   at_state : (x : ℕ) → IsSetOf x (Advances b c k r) → IsSetOf x (Advances p.board p.side k r)
@@ -218,18 +171,9 @@ module _ (p : State) (k : Kind) (r : ℕ) (here : Stands p.board p.side k r) (b 
   pub covers_pawn : (x y : ℕ) → k ≡ Pawn → IsSetOf x (Advances b c k r) → IsSetOf y (Passes p r) → Covers p r (bit_or x y)
   unfolding Covers Goals
   covers_pawn x y e a z m l f = let g : (m.to < 64) × Goals p k r m.to = legal_goals m l f in
-      (set_or x y (at_state x a) z m.to g.0).1 (elim g.1 [ inl t ↦ inl t | inr (inl t) ↦ inr t.1 | inr (inr t) ↦ absurd (let o : k ≡ King = t.0 in cc) ])
-
-  pub covers_king : (x y held : ℕ) → k ≡ King → held < 2 ^ 64 → IsSetOf x (Advances b c k r) → IsSetOf y (Castles p.rights c) → ((q : ℕ) → q < 64 → has held q ≡ is_held (get b q)) → Covers p r (bit_or x (bit_and y (bit_not w64 held)))
-  unfolding Covers Goals
-  covers_king x y held e fits a z h m l f =
-      let g : (m.to < 64) × Goals p k r m.to = legal_goals m l f in
-      let castles : IsSetOf y (Castles p.rights p.side) = subst (λ (d : Color). IsSetOf y (Castles p.rights d)) ec z in
-      let empty : IsVacant p.board m.to → ¬ (get b m.to ≢ None) = (λ v n. n (subst (λ (d : Placement). IsVacant d m.to) (sym eb) v)) in
-      (set_or x (bit_and y (bit_not w64 held)) (at_state x a) (set_without y held fits castles (held_set b held h)) m.to g.0).1
-      (elim g.1 [ inl t ↦ inl t | inr (inl t) ↦ absurd (let o : k ≡ Pawn = t.0 in cc) | inr (inr t) ↦ inr (t.1, empty t.2) ])
+      (set_or x y (at_state x a) z m.to g.0).1 (elim g.1 [ inl t ↦ inl t | inr (inl t) ↦ inr t.1 | inr (inr t) ↦ absurd (let o : k ≡ King = t in cc) ])
 
   pub covers_piece : (x : ℕ) → k ≢ Pawn → k ≢ King → IsSetOf x (Advances b c k r) → Covers p r x
   unfolding Covers Goals
   covers_piece x n o a m l f = let g : (m.to < 64) × Goals p k r m.to = legal_goals m l f in
-      (at_state x a m.to g.0).1 (elim g.1 [ inl t ↦ t | inr (inl t) ↦ absurd (n t.0) | inr (inr t) ↦ absurd (o t.0) ])
+      (at_state x a m.to g.0).1 (elim g.1 [ inl t ↦ t | inr (inl t) ↦ absurd (n t.0) | inr (inr t) ↦ absurd (o t) ])

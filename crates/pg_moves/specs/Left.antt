@@ -1,16 +1,15 @@
 -- The legal moves that are left of a position, and what is known of the man that moved last.
-use Rattle.std.specs.Prelude.{◌≡◌, ℕ, true, false, Option, Some, None, refl}
+use Rattle.std.specs.Prelude.{ℕ, Option, Some, None, refl}
 use Rattle.std.specs.Coded.{Coded, code_by, coded×, coded_option}
 use Rattle.pg_position.specs.declared.state.State.{State}
 use Rattle.pg_position.specs.declared.moves.Move.{Move}
 use Rattle.pg_position.specs.contracts.state.State.{the_row as state_row}
 use Rattle.pg_position.specs.contracts.moves.Move.{the_row as move_row}
-use Rattle.pg_position.specs.SquareSets.{IsSetOf}
-use Rattle.pg_position.specs.Position.{Stands}
 use Rattle.pg_moves.specs.Places.{IsFirstMove}
-use Rattle.pg_moves.specs.Targets.{Advances, Covers, FreeOff, IsFree, IsOrdinary}
+use Rattle.pg_moves.specs.Sources.{IsSource}
+use Rattle.pg_moves.specs.Targets.{FreeOff}
 use Rattle.pg_moves.specs.declared.left.Ahead.{Ahead}
-use Rattle.pg_moves.specs.declared.left.Source.{Source}
+use Rattle.pg_moves.specs.declared.sources.Source.{Source}
 
 -- a position, and the move that was handed out last
 pub record MovesLeft : Type 0 where
@@ -19,10 +18,6 @@ pub record MovesLeft : Type 0 where
 
 abbrev pub moves_left_code : Coded MovesLeft
 moves_left_code = code_by (State × Option Move) (coded× state_row.coded (coded_option move_row.coded)) (λ a. (a.position, a.last)) (λ q. record { position = q.0; last = q.1 }) (λ _. refl)
-
--- a man of the side to move on r: the set has where it goes, all of it legal where it is free, else each legal target and maybe more
-unfoldable pub IsSource : State → ℕ → Source → Type 0
-IsSource p r s = Stands p.board p.side s.kind r × (s.free ≡ true → IsFree p s.kind r × IsOrdinary p s.kind r × IsSetOf s.set (Advances p.board p.side s.kind r)) × (s.free ≡ false → Covers p r s.set)
 
 -- the first legal move from a place on, and its man
 pub record IsFound (p : State) (low : ℕ) (m : Move) (s : Source) : Type 0 where

@@ -8,14 +8,12 @@ use Rattle.pg_board.specs.Men.{is_of}
 use Rattle.pg_board.specs.Squares.{rank}
 use Rattle.pg_board.specs.Bits.{has}
 use Rattle.pg_board.specs.Placement.{Placement}
-use Rattle.pg_position.specs.declared.rights.Wing.{Wing}
-use Rattle.pg_position.specs.declared.rights.Rights.{Rights}
 use Rattle.pg_position.specs.declared.state.State.{State}
 use Rattle.pg_position.specs.declared.moves.Move.{Move}
 use Rattle.pg_position.specs.Geometry.{InPattern}
 use Rattle.pg_position.specs.Attack.{Reaches}
-use Rattle.pg_position.specs.Position.{Stands, IsVacant, holds, ahead}
-use Rattle.pg_position.specs.Step.{IsEnemy, Goes, MustPromote, home_rank, king_target}
+use Rattle.pg_position.specs.Position.{Stands, IsVacant, ahead}
+use Rattle.pg_position.specs.Step.{IsEnemy, Goes, MustPromote, home_rank}
 use Rattle.pg_moves.specs.Moves.{IsLegal}
 
 -- a man of the colour stands there
@@ -37,10 +35,6 @@ Advances b c k r s = Strides b c k r s ⊎ ((k ≡ Pawn) × Leaps b c r s)
 -- a pawn on r captures en passant on s
 unfoldable pub Passes : State → ℕ → ℕ → Type 0
 Passes p r s = (p.passed ≡ Some s) × InPattern p.side Pawn r s
-
--- a right is held whose king castles to s
-unfoldable pub Castles : Rights → Color → ℕ → Type 0
-Castles rights c s = (w : Wing) × (holds rights c w ≡ true) × (s ≡ king_target c w)
 
 -- the set has each square to which a legal move goes from r
 unfoldable pub Covers : State → ℕ → ℕ → Type 0

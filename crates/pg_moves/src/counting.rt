@@ -6,6 +6,7 @@ ghost use Rattle.pg_moves.specs.Counts.{IsGameCount, IsFault};
 use crate::fault::CountFault;
 use crate::generate::legal_moves;
 use crate::leaves::count_moves;
+use crate::progress::{Progress, Unwatched};
 use pg_position::{Move, Position};
 use std::alloc::{AllocError, Global};
 
@@ -27,8 +28,20 @@ fn played(position: &Position, m: &Move) -> Position
     position.after(m)
 }
 
+// Tells of the games below a move, where they take a while to count.
+fn tell<P: Progress>(plies: u8, games: u64, watch: &mut P) {
+    if plies > 3 {
+        watch.counted(games);
+    }
+}
+
 // The games of so many plies, 8 at most.
-fn count_from(alloc: Global, position: &Position, plies: u8) -> Result<u64, CountFault>
+fn count_from<P: Progress>(
+    alloc: Global,
+    position: &Position,
+    plies: u8,
+    watch: &mut P,
+) -> Result<u64, CountFault>
     requires { plies ≤ 8 }
     ensures { MatchResult result
         (λ n. IsGameCount position.now plies n)
@@ -45,9 +58,12 @@ fn count_from(alloc: Global, position: &Position, plies: u8) -> Result<u64, Coun
     let mut total = 0u64;
     for m in &moves {
         let next = played(position, m);
-        match count_from(alloc, &next, plies - 1) {
+        match count_from(alloc, &next, plies - 1, watch) {
             Ok(games) => match total.checked_add(games) {
-                Some(sum) => total = sum,
+                Some(sum) => {
+                    tell(plies, games, watch);
+                    total = sum;
+                }
                 None => return Err(CountFault::Overflow),
             },
             Err(fault) => return Err(fault),
@@ -67,8 +83,26 @@ pub fn count(alloc: Global, position: &Position, plies: u8) -> Result<u64, Count
     ensures err { IfErr result (λ e. IsFault position.now plies e) }
     ensures deep { IsErrOf result CountFault.TooDeep ↔ (8 < plies) }
 {
+    count_watched(alloc, position, plies, &mut Unwatched)
+}
+
+/// As `count`, and tells `watch` of the games below each node with three plies left or more, as they
+/// are counted.
+///
+/// # Errors
+/// As for `count`.
+pub fn count_watched<P: Progress>(
+    alloc: Global,
+    position: &Position,
+    plies: u8,
+    watch: &mut P,
+) -> Result<u64, CountFault>
+    ensures ok { IfOk result (λ n. IsGameCount position.now plies n) }
+    ensures err { IfErr result (λ e. IsFault position.now plies e) }
+    ensures deep { IsErrOf result CountFault.TooDeep ↔ (8 < plies) }
+{
     if plies > 8 {
         return Err(CountFault::TooDeep);
     }
-    count_from(alloc, position, plies)
+    count_from(alloc, position, plies, watch)
 }

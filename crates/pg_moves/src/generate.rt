@@ -2,6 +2,7 @@ ghost use Rattle.std.specs.Prelude.{◌≡◌, MatchOption, IfOk, IfErr};
 ghost use Rattle.pg_moves.specs.Moves.{IsLegal, IsMoveList, IsNext, IsLast};
 ghost use Rattle.pg_position.specs.declared.moves.Move.{Move};
 
+use crate::left::LegalMoves;
 use crate::places::rank_of;
 use crate::search::first_move;
 use crate::trials::tried;
@@ -36,15 +37,9 @@ pub fn legal_moves(alloc: Global, position: &Position) -> Result<Vec<Move>, Allo
     ensures ok { IfOk result (λ v. IsMoveList position.now v.items) }
     ensures err { IfErr result (λ _. (m : Move) × IsLegal position.now m) }
 {
-    let tried = tried(position);
     let mut moves = Vec::new(alloc);
-    let mut from = 0;
-    let mut to = 0;
-    let mut rank = 0;
-    while let Some(m) = first_move(position, tried, from, to, rank) {
-        from = m.from.index();
-        to = m.to.index();
-        rank = rank_of(m.promotion) + 1;
+    let mut left = LegalMoves::new(position);
+    while let Some(m) = left.next() {
         moves.push(m)?;
     }
     Ok(moves)

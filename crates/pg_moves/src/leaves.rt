@@ -2,25 +2,24 @@
 ghost use Rattle.std.specs.Prelude.{◌≡◌, ◌≢◌, ℕ, ◌+◌, ◌*◌, ◌<◌, ◌≤◌, IsFalse, Some};
 ghost use Rattle.pg_position.specs.Position.{Stands};
 ghost use Rattle.pg_moves.specs.Places.{place_of, Adds};
-ghost use Rattle.pg_moves.specs.Targets.{IsOwn, FreeOff};
+ghost use Rattle.pg_moves.specs.Targets.{IsOwn, Covers, FreeOff};
 ghost use Rattle.pg_moves.specs.Counts.{IsGameCount};
 
-use crate::kings::king_targets;
 use crate::pawns::{pawn_ways, quiet_pawns};
 use crate::places::rank_of;
 use crate::search::first_of_man;
-use crate::targets::{advances, targets};
-use crate::trials::{must_try, tried};
+use crate::sources::source_at;
+use crate::trials::tried;
 use pg_board::{Board, Kind, Square};
 use pg_position::{Position, first_from};
 
-// How many legal moves the man on a square has, each tried.
-fn walked(position: &Position, kind: Kind, from: Square) -> u64
-    requires { Stands position.now.board position.now.side kind from }
+// How many legal moves the man on a square has, which go to squares of the set, each tried.
+fn walked(position: &Position, kind: Kind, from: Square, set: u64) -> u64
+    requires stands { Stands position.now.board position.now.side kind from }
+    requires covers { Covers position.now from set }
     ensures count { Adds position.now (place_of from 0 0) (place_of (from + 1) 0 0) result }
     ensures bound { result ≤ 448 }
 {
-    let set = targets(position, kind, from);
     let mut total = 0;
     let mut to = 0;
     let mut rank = 0;
@@ -32,29 +31,8 @@ fn walked(position: &Position, kind: Kind, from: Square) -> u64
     total
 }
 
-// How many legal moves the man on a square has.
-fn count_of_man(position: &Position, board: &Board, tried: u64, kind: Kind, from: Square) -> u64
-    requires same { board.now ≡ position.now.board }
-    requires free { FreeOff position.now tried }
-    requires stands { Stands position.now.board position.now.side kind from }
-    ensures count { Adds position.now (place_of from 0 0) (place_of (from + 1) 0 0) result }
-    ensures bound { result ≤ 448 }
-{
-    from.index();
-    match kind {
-        Kind::King => king_targets(position, from).count_ones() as u64,
-        _ => {
-            if must_try(position, tried, kind, from) {
-                walked(position, kind, from)
-            } else {
-                advances(board, position.side(), kind, from).count_ones() as u64
-            }
-        }
-    }
-}
-
 // How many legal moves the man of the side to move on a square has.
-#[tactic(auto, using(crate::proofs::SearchLemmas::stands_own))]
+#[tactic(auto, unfolding(crate::specs::Sources::IsSource))]
 fn count_of_square(position: &Position, board: &Board, tried: u64, from: Square) -> u64
     requires same { board.now ≡ position.now.board }
     requires free { FreeOff position.now tried }
@@ -62,9 +40,11 @@ fn count_of_square(position: &Position, board: &Board, tried: u64, from: Square)
     ensures count { Adds position.now (place_of from 0 0) (place_of (from + 1) 0 0) result }
     ensures bound { result ≤ 448 }
 {
-    match board.get(from) {
-        Some(man) => count_of_man(position, board, tried, man.kind, from),
-        None => 0,
+    let source = source_at(position, board, tried, from);
+    if source.exact {
+        source.set.count_ones() as u64
+    } else {
+        walked(position, source.kind, from, source.set)
     }
 }
 

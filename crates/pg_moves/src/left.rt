@@ -1,26 +1,17 @@
 //! The legal moves of a position, one after the other.
 ghost use Rattle.std.specs.Prelude.{◌≡◌, ◌<◌, ◌≤◌, ◌+◌, None, Some, MatchOption, IfSome, IfNone};
-ghost use Rattle.pg_position.specs.Position.{Stands};
-ghost use Rattle.pg_moves.specs.Left.{IsAhead, IsSource, IsFound};
+ghost use Rattle.pg_moves.specs.Left.{IsAhead, IsFound};
+ghost use Rattle.pg_moves.specs.Sources.{IsSource};
 ghost use Rattle.pg_moves.specs.Moves.{IsNext, IsLast};
 ghost use Rattle.pg_moves.specs.Places.{place_of, NoneFrom, IsFirstMove, IsNextWithin};
-ghost use Rattle.pg_moves.specs.Targets.{IsOwn, FreeOff};
+ghost use Rattle.pg_moves.specs.Targets.{FreeOff};
 
 use crate::places::rank_of;
-use crate::search::{first_of_free, first_of_man};
-use crate::targets::{advances, targets};
-use crate::trials::{must_try, tried};
-use pg_board::{Kind, Square};
+use crate::sources::{Source, first_of_source, source_at};
+use crate::trials::tried;
+use pg_board::Kind;
 use pg_position::{Move, Position, first_from};
 use std::marker::Model;
-
-/// A man of the side to move: its kind, where it may go, and whether it is free to go there.
-#[derive(Clone, Copy)]
-pub(crate) struct Source {
-    pub(crate) kind: Kind,
-    pub(crate) set: u64,
-    pub(crate) free: bool,
-}
 
 /// The next legal move of a position, with what was found for it.
 #[derive(Clone, Copy)]
@@ -52,63 +43,6 @@ impl Model for LegalMoves {
     ghost invariant = { λ a. IsReady a.position a.last a.tried a.source };
 }
 
-// The man of the kind on a square.
-#[tactic(auto, unfolding(crate::specs::Left::IsSource))]
-fn source_of(position: &Position, tried: u64, kind: Kind, from: Square) -> Source
-    requires free { FreeOff position.now tried }
-    requires stands { Stands position.now.board position.now.side kind from }
-    ensures { IsSource position.now from result }
-{
-    from.index();
-    if must_try(position, tried, kind, from) {
-        Source {
-            kind,
-            set: targets(position, kind, from),
-            free: false,
-        }
-    } else {
-        Source {
-            kind,
-            set: advances(&position.board(), position.side(), kind, from),
-            free: true,
-        }
-    }
-}
-
-// The man of the side to move on a square.
-#[tactic(auto, using(crate::proofs::SearchLemmas::stands_own))]
-fn source_at(position: &Position, tried: u64, from: Square) -> Source
-    requires free { FreeOff position.now tried }
-    requires own { IsOwn position.now.board position.now.side from }
-    ensures { IsSource position.now from result }
-{
-    match position.board().get(from) {
-        Some(man) => source_of(position, tried, man.kind, from),
-        None => unreachable!(),
-    }
-}
-
-// The first legal move of a man, from this target and promotion on.
-#[tactic(auto, unfolding(crate::specs::Left::IsSource))]
-fn first_of_source(
-    position: &Position,
-    from: Square,
-    source: &Source,
-    to: u8,
-    rank: u8,
-) -> Option<Move>
-    requires source { IsSource position.now from source.now }
-    requires target { to < 64 }
-    requires place { rank ≤ 7 }
-    ensures { IsNextWithin position.now (place_of from to rank) (place_of (from + 1) 0 0) result }
-{
-    if source.free {
-        first_of_free(position, source.kind, from, source.set, to, rank)
-    } else {
-        first_of_man(position, source.kind, from, source.set, to, rank)
-    }
-}
-
 // The first legal move of the men from a square on, and its man.
 fn first_beyond(position: &Position, tried: u64, from: u8) -> Option<(Move, Source)>
     requires free { FreeOff position.now tried }
@@ -117,10 +51,11 @@ fn first_beyond(position: &Position, tried: u64, from: u8) -> Option<(Move, Sour
         (NoneFrom position.now (place_of from 0 0) 28672)
         (λ r. IsFound position.now (place_of from 0 0) r.0 r.1) }
 {
-    let own = position.board().squares_of_color(position.side());
+    let board = position.board();
+    let own = board.squares_of_color(position.side());
     let mut at = from;
     while let Some(square) = first_from(own, at) {
-        let source = source_at(position, tried, square);
+        let source = source_at(position, &board, tried, square);
         if let Some(m) = first_of_source(position, square, &source, 0, 0) {
             return Some((m, source));
         }
@@ -143,7 +78,7 @@ impl LegalMoves {
             source: Source {
                 kind: Kind::Pawn,
                 set: 0,
-                free: false,
+                exact: false,
             },
         }
     }
@@ -174,16 +109,20 @@ impl LegalMoves {
     }
 
     // The legal move after the last one.
-    fn following(position: &Position, tried: u64, source: Source, last: &Move) -> Option<Ahead>
+    fn following(position: &Position, tried: u64, source: &Source, last: &Move) -> Option<Ahead>
         requires free { FreeOff position.now tried }
-        requires source { IsSource position.now last.now.from source }
+        requires source { IsSource position.now last.now.from source.now }
         ensures { MatchOption result (IsLast position.now (Some last.now)) (λ a. IsNext position.now (Some last.now) a.m × IsAhead position.now a) }
     {
         let from = last.from.index();
         let to = last.to.index();
         let rank = rank_of(last.promotion) + 1;
-        match first_of_source(position, last.from, &source, to, rank) {
-            Some(m) => Some(Ahead { m, tried, source }),
+        match first_of_source(position, last.from, source, to, rank) {
+            Some(m) => Some(Ahead {
+                m,
+                tried,
+                source: *source,
+            }),
             None => match first_beyond(position, tried, from + 1) {
                 Some((m, source)) => Some(Ahead { m, tried, source }),
                 None => None,
@@ -200,7 +139,7 @@ impl LegalMoves {
     {
         match self.last {
             None => LegalMoves::first(&self.position),
-            Some(last) => LegalMoves::following(&self.position, self.tried, self.source, &last),
+            Some(last) => LegalMoves::following(&self.position, self.tried, &self.source, &last),
         }
     }
 

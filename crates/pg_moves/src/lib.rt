@@ -10,15 +10,18 @@ mod leaves;
 mod left;
 mod pawns;
 mod places;
+mod progress;
 mod search;
+mod sources;
 mod targets;
 mod trials;
 
-pub use counting::count;
+pub use counting::{count, count_watched};
 pub use fault::CountFault;
 pub use generate::{legal_moves, next_legal};
 pub use laws::{moves_and_play_are_functions, next_in_list, one_game_count, one_move_list};
 pub use left::{Ahead, LegalMoves};
+pub use progress::{Progress, Unwatched};
 
 #[cfg(test)]
 mod tests;

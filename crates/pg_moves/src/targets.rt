@@ -5,10 +5,10 @@ ghost use Rattle.pg_position.specs.Geometry.{IsForward};
 ghost use Rattle.pg_position.specs.SquareSets.{IsSetOf};
 ghost use Rattle.pg_position.specs.Position.{Stands, IsVacant, ahead};
 ghost use Rattle.pg_position.specs.Step.{home_rank};
-ghost use Rattle.pg_moves.specs.Targets.{IsOwn, Strides, Leaps, Advances, Castles, Passes, Covers};
+ghost use Rattle.pg_moves.specs.Targets.{IsOwn, Strides, Leaps, Advances, Passes, Covers};
 
 use pg_board::{Board, Color, Kind, Man, Square};
-use pg_position::{Position, Rights, reach};
+use pg_position::{Position, reach};
 
 // The set of one square.
 pub(crate) fn single(square: Square) -> u64
@@ -108,6 +108,7 @@ fn leaps(board: &Board, color: Color, from: Square) -> u64
 }
 
 // Where a man goes or captures, en passant and castling apart.
+#[inline(always)]
 pub(crate) fn advances(board: &Board, color: Color, kind: Kind, from: Square) -> u64
     ensures { IsSetOf result (Advances board.now color kind from) }
 {
@@ -133,42 +134,16 @@ pub(crate) fn passes(position: &Position, from: Square) -> u64
     }
 }
 
-// The set of a king's target, if the right to go there is held.
-fn target_if(right: bool, square: Square) -> u64
-    ensures { IsSetOf result (λ q. (right ≡ true) × (q ≡ square)) }
-{
-    if right { single(square) } else { 0 }
-}
-
-// Where a right lets the king castle to.
-fn castles(rights: &Rights, color: Color) -> u64
-    ensures { IsSetOf result (Castles rights.now color) }
-{
-    match color {
-        Color::White => {
-            target_if(rights.white_king, Square::at(6))
-                | target_if(rights.white_queen, Square::at(2))
-        }
-        Color::Black => {
-            target_if(rights.black_king, Square::at(62))
-                | target_if(rights.black_queen, Square::at(58))
-        }
-    }
-}
-
-// Each square to which a legal move of the man may go, and maybe more.
+// Each square to which a legal move of the man, no king, may go, and maybe more.
 pub(crate) fn targets(position: &Position, kind: Kind, from: Square) -> u64
-    requires { Stands position.now.board position.now.side kind from }
+    requires stands { Stands position.now.board position.now.side kind from }
+    requires king { kind ≢ Kind.King }
     ensures { Covers position.now from result }
 {
     let board = position.board();
     let side = position.side();
     match kind {
         Kind::Pawn => advances(&board, side, kind, from) | passes(position, from),
-        Kind::King => {
-            let castled = castles(&position.rights(), side) & !board.occupied();
-            advances(&board, side, kind, from) | castled
-        }
         _ => advances(&board, side, kind, from),
     }
 }

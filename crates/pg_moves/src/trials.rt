@@ -103,6 +103,7 @@ pub(crate) fn tried(position: &Position) -> u64
 }
 
 // Whether the man is a pawn that may promote or capture en passant.
+#[inline(always)]
 fn is_special(position: &Position, kind: Kind, from: Square) -> bool
     ensures { IsFalse result → IsOrdinary position.now kind from }
 {
@@ -148,6 +149,7 @@ pub(crate) fn attacked_without(board: &Board, from: Square, square: Square, by: 
 
 // Whether the moves of the man are to be tried: it may leave its king attacked, promote or capture en
 // passant.
+#[inline(always)]
 pub(crate) fn must_try(position: &Position, tried: u64, kind: Kind, from: Square) -> bool
     requires free { FreeOff position.now tried }
     requires stands { Stands position.now.board position.now.side kind from }

@@ -1,12 +1,12 @@
 -- Sets of squares: when two meet, and their members from an index on. Leads to the contracts of `meets` and `first_from`.
-use Rattle.std.proofs.Common.{◌≡◌, ◌≢◌, ℕ, ◌-◌, ◌*◌, ◌%◌, ◌^◌, ◌<◌, ◌≤◌, Bool, true, false, eqb, refl, sym, ap, ◌∙◌, subst, arith, bit_and, w64, not, ltb, ltb-true, ltb-false, lt_of_le_of_lt, ◌&&◌}
+use Rattle.std.proofs.Common.{bit_or, cond, ◌||◌, ◌≡◌, ◌≢◌, ℕ, ◌-◌, ◌*◌, ◌%◌, ◌^◌, ◌<◌, ◌≤◌, Bool, true, false, eqb, refl, sym, ap, ◌∙◌, subst, arith, bit_and, w64, not, ltb, ltb-true, ltb-false, lt_of_le_of_lt, ◌&&◌}
 use Rattle.std.proofs.lemmas.Nat.{and_le_l}
 use Rattle.std.proofs.lemmas.Nat.Bits.{ones_shl, bit_at_mask_inside, bit_at_mask_below}
-use Rattle.std.proofs.lemmas.Bool.Decides.{Decides-eqb}
+use Rattle.std.proofs.lemmas.Bool.Decides.{Decides-eqb, Decides-at}
 use Rattle.std.specs.Bool.{Decides}
 use Rattle.std.specs.Int.{trailing_zeros}
-use Rattle.pg_board.specs.Bits.{has, has-first, has-none, has-and}
-use Rattle.pg_position.specs.SquareSets.{HasNoneFrom, IsFirstFrom}
+use Rattle.pg_board.specs.Bits.{has, has-first, has-none, has-and, has-or, has-set}
+use Rattle.pg_position.specs.SquareSets.{IsSetOf, HasNoneFrom, IsFirstFrom}
 
 pub and_true : (x y : Bool) → x && y ≡ true → (x ≡ true) × (y ≡ true)
 and_true true true e = (refl, refl)
@@ -88,3 +88,17 @@ place_first n f x l fits some e =
       member = sym (above_same n f l x le low) ∙ here;
       before = λ q u k. sym (above_same n f l q u (omega arith)) ∙ t.2 q (subst (λ (y : ℕ). q < y) e k);
     }
+
+-- ---- no square, and one
+pub set_none : {P : ℕ → Type 0} → ((q : ℕ) → q < 64 → ¬ P q) → IsSetOf 0 P
+set_none h q l = (λ t. absurd (let e : has 0 q ≡ true = t in let f : has 0 q ≡ false = has-none q in let g : true ≡ false = sym e ∙ f in cc), λ x. absurd (h q l x))
+
+pub set_one : (k : ℕ) → k < 64 → IsSetOf (1 * 2 ^ k % 2 ^ 64) (λ q. q ≡ k)
+set_one k l q low =
+    let x : ℕ = 1 * 2 ^ k % 2 ^ 64 in
+    let whole : has (bit_or 0 x) q ≡ has x q = has-or 0 x q ∙ ap (λ t. t || has x q) (has-none q) in
+    Decides-at _ _ (sym whole ∙ has-set 0 k q l ∙ only (eqb q k) q) (Decides-eqb q k)
+  where
+    only : (t : Bool) (q : ℕ) → cond t true (has 0 q) ≡ t
+    only true q = refl
+    only false q = has-none q

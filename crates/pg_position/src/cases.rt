@@ -7,10 +7,10 @@ ghost use Rattle.pg_position.specs.Position.{IsVacant};
 
 use crate::attack::{attacked, man};
 use crate::boards::{goes, is_enemy, is_vacant, must_promote};
-use crate::homes::{king_crossed, king_home, king_target, rook_home};
+use crate::homes::{king_home, king_target};
 use crate::masks::pawn_mask;
 use crate::moves::{Move, Way};
-use crate::reaching::{is_clear, reaches};
+use crate::reaching::reaches;
 use crate::rights::Wing;
 use crate::state::State;
 use pg_board::{Color, Kind, Square, contains};
@@ -85,25 +85,9 @@ pub(crate) fn is_castling(state: &State, kind: Kind, m: &Move, wing: Wing) -> bo
         && kind == Kind::King
         && m.from == home
         && m.to == target
-        && state.rights.holds(state.side, wing)
-        && is_clear(&state.board, home, rook_home(state.side, wing))
+        && state.is_castling_open(wing)
         && !attacked(&state.board, home, state.side.other())
-        && !attacked(
-            &state.board,
-            king_crossed(state.side, wing),
-            state.side.other(),
-        )
-        && !attacked(&state.board, target, state.side.other())
-}
-
-impl State {
-    // Whether the move is a castling of the king.
-    pub(crate) fn castles(&self, m: &Move) -> bool
-        ensures { IsTrue result ↔ ((w : Wing) × IsCastling self.now Kind.King m.now w) }
-    {
-        is_castling(self, Kind::King, m, Wing::KingSide)
-            || is_castling(self, Kind::King, m, Wing::QueenSide)
-    }
+        && state.is_castling_safe(wing)
 }
 
 // The case that a move without promotion is, if it is one.

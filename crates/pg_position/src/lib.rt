@@ -5,6 +5,7 @@ mod array;
 mod attack;
 mod boards;
 mod cases;
+mod castling;
 mod clauses;
 mod direction;
 mod equality;

@@ -1,8 +1,9 @@
-ghost use Rattle.std.specs.Prelude.{◌≡◌, ℕ, ◌↔◌, IsTrue, MatchResult, IfOk, IfErr};
+ghost use Rattle.std.specs.Prelude.{◌≡◌, ℕ, ◌<◌, ◌↔◌, IsTrue, None, MatchResult, IfOk, IfErr};
 ghost use Rattle.std.specs.Cmp.{partial_equiv_from_equiv, decided};
 ghost use Rattle.pg_position.specs.Attack.{Attacks};
 ghost use Rattle.pg_position.specs.Array.{array_state};
-ghost use Rattle.pg_position.specs.Position.{parts, InCheck, IsPosition, IsFirstBroken};
+ghost use Rattle.pg_position.specs.Position.{parts, InCheck, IsPosition, IsFirstBroken, king_home};
+ghost use Rattle.pg_position.specs.SquareSets.{IsSetOf};
 ghost use Rattle.pg_position.specs.Step.{Legal, IsCause, IsCastling};
 ghost use Rattle.pg_board.specs.declared.man.Kind.TheVariants.{King};
 ghost use Rattle.pg_position.specs.declared.rights.Wing.{Wing};
@@ -188,13 +189,13 @@ impl Position {
         }
     }
 
-    /// Whether the move is a castling that the rules allow: its right is held, no man stands between king
-    /// and rook, and the king's square, the one that he crosses and the one that he comes to are not
+    /// The squares to which the king castles, as a set of bits: the right is held, no man stands between
+    /// king and rook, and the king's square, the one that he crosses and the one that he comes to are not
     /// attacked (FIDE article 3.8.2).
-    pub fn castles(&self, m: &Move) -> bool
-        ensures { IsTrue result ↔ ((w : Wing) × IsCastling self.now King m.now w) }
+    pub fn castling_targets(&self) -> u64
+        ensures { IsSetOf result (λ q. (w : Wing) × IsCastling self.now King (record { from = king_home self.now.side; to = q; promotion = None }) w) }
     {
-        self.state.castles(m)
+        self.state.castling_targets()
     }
 
     /// Whether two positions have the same games: equal boards, sides and rights, and equal passed

@@ -7,6 +7,7 @@ use crate::boards::relocate;
 use crate::homes::{king_crossed, king_home, rook_home};
 use crate::moves::{Move, Way};
 use crate::rights::{Rights, Wing};
+use crate::square_sets::{meets, single};
 use crate::state::State;
 use pg_board::{Board, Color, Kind, Man, Square};
 
@@ -26,10 +27,14 @@ impl Rights {
             && !(m.touches(king_home(color)) || m.touches(rook_home(color, wing)))
     }
 
-    // The rights that a move leaves.
+    // The rights that a move leaves: all, where it touches no home of a king or a rook.
     fn after(&self, m: &Move) -> Rights
         ensures { result ≡ rights_after self.now m.now }
     {
+        let touched = single(m.from) | single(m.to);
+        if !meets(touched, 0x9100_0000_0000_0091) {
+            return *self;
+        }
         Rights {
             white_king: self.keeps(m, Color::White, Wing::KingSide),
             white_queen: self.keeps(m, Color::White, Wing::QueenSide),
@@ -94,6 +99,7 @@ impl State {
     }
 
     // The state that the move leaves.
+    #[inline(always)]
     pub(crate) fn after(&self, kind: Kind, m: &Move, way: Way) -> State
         requires position { IsPosition self.now }
         requires way { IsWay self.now kind m.now way }

@@ -13,3 +13,4 @@ pub mod UpgradedFits
 pub mod Nodes
 pub mod Refusable
 pub mod RefusedUpgrades
+pub mod ShowLemmas

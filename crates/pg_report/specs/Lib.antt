@@ -9,3 +9,4 @@ pub mod Copying
 pub mod BoardText
 pub mod Shortest
 pub mod UpgradeLaws
+pub mod Showing

@@ -14,6 +14,8 @@ use Rattle.pg_report.specs.declared.fault.CountRunFault.{CountRunFault}
 use Rattle.pg_report.specs.declared.fault.CountRunFault.TheVariants as numbering
 use Rattle.pg_report.specs.declared.fault.RunFault.{RunFault}
 use Rattle.pg_report.specs.declared.fault.RunFault.TheVariants as running
+use Rattle.pg_report.specs.declared.fault.ShowFault.{ShowFault}
+use Rattle.pg_report.specs.declared.fault.ShowFault.TheVariants as showing
 use Rattle.pg_report.specs.declared.fault.UpgradeFault.{UpgradeFault}
 use Rattle.pg_report.specs.declared.fault.UpgradeFault.TheVariants as upgrading
 use Rattle.pg_report.specs.declared.verdict.Verdict.{Verdict}
@@ -61,6 +63,11 @@ abbrev pub count_status_of : CountRunFault → ℕ
 count_status_of (numbering.Position fault) = 2
 count_status_of (numbering.Count fault) = number_status fault
 count_status_of numbering.Write = 4
+
+abbrev pub show_status_of : ShowFault → ℕ
+show_status_of (showing.Diagram fault) = 2
+show_status_of showing.Memory = 3
+show_status_of showing.Write = 4
 
 abbrev pub upgrade_status_of : UpgradeFault → ℕ
 upgrade_status_of upgrading.Read = 4

@@ -99,7 +99,7 @@ fn least(alloc: Global, diagram: &Diagram) -> Result<Option<u8>, AllocError> {
     bounds.push(Box::new(alloc, Promotions)?)?;
     bounds.push(Box::new(alloc, PawnFiles)?)?;
     bounds.push(Box::new(alloc, Travel)?)?;
-    Ok(shortest(diagram, &bounds).map(|length| length.plies()))
+    Ok(shortest(alloc, diagram, &bounds)?.map(|length| length.plies()))
 }
 
 /// The array, one move of each side, and two diagrams that no game reaches: a second bishop on light
@@ -137,13 +137,38 @@ fn least_lengths_after_two_plies(rt: HostRuntime) -> Result<(), Fail> {
     Ok(())
 }
 
-/// Where no bound is asked, or none excludes, no length is.
+/// Prices alone, and with the four bounds: they say more where several men would come from one square, as
+/// the nearest man of each, and less where captures are owed. Each diagram has a game, of so many plies.
+#[test]
+fn least_lengths_by_prices(rt: HostRuntime) -> Result<(), Fail> {
+    for (diagram, alone, all, plies) in [
+        (SCHWEIG, 2, 3, 8),
+        ("rnbqkb1r/ppp2ppp/8/8/8/8/PPPPPPPP/RNBQKB1R", 0, 5, 8),
+        ("r1bqnNnr/pppkpp1p/7R/3p4/8/8/PPPPPPP1/RNBQKBN1", 11, 11, 11),
+        (
+            "1nbqkbnr/p1ppppp1/1N6/8/8/6n1/1PPPPP1P/RNBQKBN1",
+            12,
+            12,
+            12,
+        ),
+    ] {
+        let diagram = Diagram::read(diagram)?;
+        let none: Vec<Box<dyn Bound>> = Vec::new(rt.alloc());
+        let found = shortest(rt.alloc(), &diagram, &none)?;
+        assert_eq!(rt; found, Length::from_plies(alone));
+        assert_eq!(rt; least(rt.alloc(), &diagram)?, Some(all));
+        assert!(rt; all <= plies);
+    }
+    Ok(())
+}
+
+/// A bound that excludes nothing changes nothing.
 #[test]
 fn no_bound_excludes(rt: HostRuntime) -> Result<(), Fail> {
     let diagram = Diagram::read(SCHWEIG)?;
     let mut bounds: Vec<Box<dyn Bound>> = Vec::new(rt.alloc());
-    assert_eq!(rt; shortest(&diagram, &bounds), Length::from_plies(0));
+    let alone = shortest(rt.alloc(), &diagram, &bounds)?;
     bounds.push(Box::new(rt.alloc(), Never::new(9))?)?;
-    assert_eq!(rt; shortest(&diagram, &bounds), Length::from_plies(0));
+    assert_eq!(rt; shortest(rt.alloc(), &diagram, &bounds)?, alone);
     Ok(())
 }

@@ -75,7 +75,7 @@ fn write_ranks<W: Sink>(board: &Board, out: &mut W) -> Result<(), Refused>
 }
 
 // Appends the board.
-fn append_board<W: Sink>(board: &Board, out: &mut W) -> Result<(), Refused>
+pub(crate) fn append_board<W: Sink>(board: &Board, out: &mut W) -> Result<(), Refused>
     ensures text { OnOk result (Appends (W.held out.old) (W.held out.new) (board_text board.now)) }
     ensures runs { OnOk result ((W.has_failed out.old ≡ false) × (W.has_failed out.new ≡ false)) }
     ensures fault { OnErr result (W.has_failed out.new ≡ true) }

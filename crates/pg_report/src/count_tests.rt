@@ -28,7 +28,7 @@ fn counts(rt: HostRuntime) -> Result<(), Fail> {
         (FOOLS_MATE, 3, "0\n"),
     ] {
         let mut out = ToWrite::new(Vec::new(rt.alloc()));
-        run_count(rt.alloc(), fen, plies, &mut out)?;
+        run_count(rt.alloc(), fen, plies, &mut out, &mut Unwatched)?;
         let bytes = out.into_inner();
         assert_eq!(rt; str::from_utf8(bytes.as_slice())?, wanted, "{fen}");
     }
@@ -51,7 +51,7 @@ fn counts_that_are_refused(rt: HostRuntime) -> Result<(), Fail> {
     ] {
         let writer = FailsAt::new(Vec::new(rt.alloc()), MANY, ErrorKind::Other);
         let mut out = ToWrite::new(writer);
-        match run_count(rt.alloc(), fen, plies, &mut out) {
+        match run_count(rt.alloc(), fen, plies, &mut out, &mut Unwatched) {
             Ok(()) => assert!(rt; false, "{fen}"),
             Err(fault) => assert_eq!(rt; format!(in rt.alloc(); "{fault}")?.as_str(), wanted),
         }
@@ -67,7 +67,7 @@ fn writes_of_a_count_that_fail(rt: HostRuntime) {
         let writer = FailsAt::new(Vec::new(rt.alloc()), at, ErrorKind::Interrupted);
         let mut out = ToWrite::new(writer);
         assert_eq!(rt;
-            run_count(rt.alloc(), ENDGAME, 3, &mut out),
+            run_count(rt.alloc(), ENDGAME, 3, &mut out, &mut Unwatched),
             Err(CountRunFault::Write)
         );
         let writer = out.into_inner();

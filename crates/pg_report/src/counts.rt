@@ -11,7 +11,7 @@ use crate::fault::CountRunFault;
 use crate::moves::game_of;
 use crate::numbers::digits;
 use pg_certificate::{Refused, Sink};
-use pg_moves::count;
+use pg_moves::{Progress, count_watched};
 use std::alloc::Global;
 
 // Appends a number and a line feed.
@@ -26,18 +26,19 @@ fn write_number<W: Sink>(n: u64, out: &mut W) -> Result<(), Refused>
 
 /// Writes the number of games of so many plies, 0 to 8, from the position that a text of six fields
 /// spells, and a line feed. What the count needs is taken from `alloc`, and nothing is written before
-/// the number stands.
+/// the number stands. `watch` is told of games as they are counted.
 ///
 /// # Errors
 /// `Position` where the text is refused as a position, with that refusal; `Count` where the games are
 /// not counted: `TooDeep` above 8 plies, `Overflow` where the number does not fit in 64 bits, `Memory`
 /// where a growth was refused; `Write` where the sink has failed. With the first two the sink is as it
 /// was.
-pub fn run_count<W: Sink>(
+pub fn run_count<W: Sink, P: Progress>(
     alloc: Global,
     fen: &str,
     plies: u8,
     out: &mut W,
+    watch: &mut P,
 ) -> Result<(), CountRunFault>
     ensures ok { OnOk result ((p : State) × ReadsAs fen.now p × (plies ≤ 8) × ((n : ℕ) × IsGameCount p plies n × Appends (W.held out.old) (W.held out.new) (decimal n ++ 10 ∷ []))) }
     ensures err { IfErr result (λ e. IsCountRunFault fen.now plies (W.has_failed out.new) e) }
@@ -48,7 +49,7 @@ pub fn run_count<W: Sink>(
         Ok(game) => game,
         Err(fault) => return Err(CountRunFault::Position(fault)),
     };
-    let n = match count(alloc, &game.position, plies) {
+    let n = match count_watched(alloc, &game.position, plies, watch) {
         Ok(n) => n,
         Err(fault) => return Err(CountRunFault::Count(fault)),
     };

@@ -34,6 +34,20 @@ pub enum CountRunFault {
     Write,
 }
 
+/// Why a diagram is not shown.
+#[derive(Debug, Clone, Copy, PartialEq, Eq, Error)]
+pub enum ShowFault {
+    /// The text is refused as a diagram.
+    #[error("{0}")]
+    Diagram(FenFault),
+    /// A growth was refused.
+    #[error("out of memory")]
+    Memory,
+    /// The sink has failed. How many bytes went out is not known.
+    #[error("write fault")]
+    Write,
+}
+
 /// Why a check ends without its report, the first of these that holds.
 #[derive(Debug, PartialEq, Eq, Drop, Error)]
 pub enum RunFault {

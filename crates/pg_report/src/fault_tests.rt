@@ -117,6 +117,9 @@ fn faults_of_diagrams_and_positions(rt: HostRuntime) -> Result<(), Fail> {
         let moves = MovesFault::Position(cause);
         check_text(&rt, &moves, wanted)?;
         assert_eq!(rt; moves_status(&moves), 2, "{wanted}");
+        let shown = ShowFault::Diagram(cause);
+        check_text(&rt, &shown, wanted)?;
+        assert_eq!(rt; show_status(&shown), 2, "{wanted}");
         let count = CountRunFault::Position(cause);
         check_text(&rt, &count, wanted)?;
         assert_eq!(rt; count_status(&count), 2, "{wanted}");
@@ -251,6 +254,10 @@ fn write_faults_and_memory(rt: HostRuntime) -> Result<(), Fail> {
     assert_eq!(rt; moves_status(&MovesFault::Write), 4);
     check_text(&rt, &MovesFault::Memory, "out of memory")?;
     assert_eq!(rt; moves_status(&MovesFault::Memory), 3);
+    check_text(&rt, &ShowFault::Write, "write fault")?;
+    assert_eq!(rt; show_status(&ShowFault::Write), 4);
+    check_text(&rt, &ShowFault::Memory, "out of memory")?;
+    assert_eq!(rt; show_status(&ShowFault::Memory), 3);
     check_text(&rt, &CountRunFault::Write, "write fault")?;
     assert_eq!(rt; count_status(&CountRunFault::Write), 4);
     Ok(())

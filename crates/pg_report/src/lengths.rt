@@ -1,15 +1,73 @@
-//! The least length that no bound excludes.
-ghost use Rattle.std.specs.Prelude.{◌≡◌, ◌<◌, ◌≤◌, ℕ, List, IsTrue, IfSome, IfNone, MatchOption, true};
+//! The least length that neither a bound nor prices exclude.
+ghost use Rattle.std.specs.Prelude.{◌≡◌, IsTrue, IfOk, false};
 ghost use Rattle.std.specs.List.{list_any};
 ghost use Rattle.pg_position.specs.Array.{array_state};
 ghost use Rattle.pg_position.specs.Game.{Barren};
-ghost use Rattle.pg_position.specs.declared.moves.Move.{Move};
-ghost use Rattle.pg_checker.specs.Answer.{IsSolution};
-ghost use Rattle.pg_report.specs.Shortest.{IsFirstOpen};
+ghost use Rattle.pg_report.specs.Shortest.{ArePriced, IsExcluded, IsLeast, NoneBelow};
 
+use pg_board::Color;
 use pg_captures::Bound;
 use pg_fen::{Diagram, Length};
 use pg_position::Position;
+use pg_prices::{Lists, Rows, pawn_lists, prices_of, travel_lists};
+use std::alloc::{AllocError, Global};
+
+// Prices of a colour at the initial array, of its travel and of its pawns. They are trusted for nothing.
+#[derive(Clone, Copy)]
+struct Offers {
+    color: Color,
+    travel: Lists,
+    pawns: Lists,
+}
+
+// The prices that least assignments give.
+fn offers_of(alloc: Global, color: Color, diagram: &Diagram) -> Result<Offers, AllocError> {
+    let rows = Rows::new(alloc, color, diagram)?;
+    let array = Position::array();
+    let (_, travel) = travel_lists(&rows, &array);
+    let (_, pawns) = pawn_lists(&rows, &array);
+    Ok(Offers {
+        color,
+        travel,
+        pawns,
+    })
+}
+
+// Whether prices of a colour's travel exclude the games of so many plies.
+fn travel_excludes(diagram: &Diagram, plies: u8, color: Color, lists: &Lists) -> bool
+    ensures priced { IsTrue result → ArePriced diagram.now plies }
+    ensures barren { IsTrue result → Barren diagram.now array_state plies }
+{
+    match prices_of(lists.as_slice()) {
+        None => false,
+        Some(prices) => {
+            pg_travel::prices_exclude(diagram, &Position::array(), plies, color, &prices)
+        }
+    }
+}
+
+// Whether prices of a colour's pawns exclude the games of so many plies, as they do of any number.
+fn pawns_exclude(diagram: &Diagram, plies: u8, color: Color, lists: &Lists) -> bool
+    ensures priced { IsTrue result → ArePriced diagram.now plies }
+    ensures barren { IsTrue result → Barren diagram.now array_state plies }
+{
+    match prices_of(lists.as_slice()) {
+        None => false,
+        Some(prices) => {
+            let (u, v) = (prices.u(0), prices.v(0));
+            pg_pawns::prices_exclude(diagram, &Position::array(), color, u, v)
+        }
+    }
+}
+
+// Whether prices of a colour exclude the games of so many plies.
+fn offers_exclude(diagram: &Diagram, plies: u8, offers: &Offers) -> bool
+    ensures priced { IsTrue result → ArePriced diagram.now plies }
+    ensures barren { IsTrue result → Barren diagram.now array_state plies }
+{
+    travel_excludes(diagram, plies, offers.color, &offers.travel)
+        || pawns_exclude(diagram, plies, offers.color, &offers.pawns)
+}
 
 fn excludes_box(bound: &Box<dyn Bound>, diagram: &Diagram, position: &Position, left: u8) -> bool
     ensures { result ≡ excluded bound.now diagram.now position.now left }
@@ -40,19 +98,58 @@ fn any_excludes(bounds: &[Box<dyn Bound>], diagram: &Diagram, plies: u8) -> bool
     false
 }
 
-/// The least number of plies such that no bound of the list excludes the games of so many plies from
-/// the initial array to the diagram; none where all lengths up to 128 plies are excluded. So no game
-/// of fewer plies ends on the diagram, whatever bounds the list holds. Takes no memory.
-pub fn shortest(diagram: &Diagram, bounds: &[Box<dyn Bound>]) -> Option<Length>
-    ensures none_shorter { IfSome result (λ n. (m : ℕ) (ms : List Move) → m < n → ¬ IsSolution diagram.now m ms) }
-    ensures none { IfNone result ((m : ℕ) (ms : List Move) → m ≤ 128 → ¬ IsSolution diagram.now m ms) }
-    ensures least { IfSome result (IsFirstOpen (λ m. list_any (λ b. excluded b diagram.now array_state m) bounds.now)) }
-    ensures all { IfNone result ((m : ℕ) → m ≤ 128 → list_any (λ b. excluded b diagram.now array_state m) bounds.now ≡ true) }
+// Whether a bound excludes the games of so many plies, or prices do.
+fn is_excluded(
+    bounds: &[Box<dyn Bound>],
+    diagram: &Diagram,
+    plies: u8,
+    white: &Offers,
+    black: &Offers,
+) -> bool
+    ensures yes { IsTrue result → IsExcluded (λ m. list_any (λ b. excluded b diagram.now array_state m) bounds.now) diagram.now plies }
+    ensures no { result ≡ false → list_any (λ b. excluded b diagram.now array_state plies) bounds.now ≡ false }
+    ensures barren { IsTrue result → Barren diagram.now array_state plies }
+{
+    any_excludes(bounds, diagram, plies)
+        || offers_exclude(diagram, plies, white)
+        || offers_exclude(diagram, plies, black)
+}
+
+// The least number of plies that is not excluded.
+fn first_open(
+    bounds: &[Box<dyn Bound>],
+    diagram: &Diagram,
+    white: &Offers,
+    black: &Offers,
+) -> Option<Length>
+    ensures headline { NoneBelow diagram.now result }
+    ensures least { IsLeast (λ m. list_any (λ b. excluded b diagram.now array_state m) bounds.now) diagram.now result }
 {
     for plies in 0..129u8 {
-        if !any_excludes(bounds, diagram, plies) {
+        if !is_excluded(bounds, diagram, plies, white, black) {
             return Length::from_plies(plies);
         }
     }
     None
+}
+
+/// The least number of plies such that neither a bound of the list nor prices exclude the games of so
+/// many plies from the initial array to the diagram; none where all lengths up to 128 plies are
+/// excluded. So no game of fewer plies ends on the diagram, whatever bounds the list holds. The prices
+/// are those of least assignments, of either colour's travel and pawns, each tested as a certificate's
+/// are. What finds them takes memory from `alloc`.
+///
+/// # Errors
+/// `AllocError` where a growth was refused.
+pub fn shortest(
+    alloc: Global,
+    diagram: &Diagram,
+    bounds: &[Box<dyn Bound>],
+) -> Result<Option<Length>, AllocError>
+    ensures headline { IfOk result (NoneBelow diagram.now) }
+    ensures least { IfOk result (IsLeast (λ m. list_any (λ b. excluded b diagram.now array_state m) bounds.now) diagram.now) }
+{
+    let white = offers_of(alloc, Color::White, diagram)?;
+    let black = offers_of(alloc, Color::Black, diagram)?;
+    Ok(first_open(bounds, diagram, &white, &black))
 }

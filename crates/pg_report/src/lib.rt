@@ -13,13 +13,14 @@ mod numbers;
 mod problem;
 mod report;
 mod run;
+mod showing;
 mod statuses;
 mod upgrading;
 mod verdict;
 
 pub use boards::write_board;
 pub use counts::run_count;
-pub use fault::{CountRunFault, MovesFault, RunFault, UpgradeFault};
+pub use fault::{CountRunFault, MovesFault, RunFault, ShowFault, UpgradeFault};
 pub use laws::{certified_is_upgraded, refuses_exactly, upgraded_is_certified, upgrades_exactly};
 pub use lengths::shortest;
 pub use moves::run_moves;
@@ -27,8 +28,9 @@ pub use movetext::write_movetext;
 pub use problem::Problem;
 pub use report::write_report;
 pub use run::{run_check, run_listed};
+pub use showing::run_show;
 pub use statuses::{
-    count_status, moves_status, search_status, status, upgrade_status, verdict_status,
+    count_status, moves_status, search_status, show_status, status, upgrade_status, verdict_status,
 };
 pub use upgrading::upgrade;
 pub use verdict::Verdict;
@@ -38,10 +40,10 @@ pub use pg_captures::{Bound, Captures, Promotions};
 pub use pg_certificate::{FromRead, Refused, Sink, Source, ToWrite, WriteFault};
 pub use pg_checker::{Fault, check};
 pub use pg_fen::{Diagram, FenFault, Length, LengthFault};
-pub use pg_moves::CountFault;
+pub use pg_moves::{CountFault, Progress, Unwatched};
 pub use pg_pawns::PawnFiles;
 pub use pg_san::{Games, GamesFault};
-pub use pg_searcher::{SearchFault, search};
+pub use pg_searcher::{Progress as SearchProgress, SearchFault, search};
 pub use pg_travel::Travel;
 
 #[cfg(test)]
@@ -58,6 +60,8 @@ mod refusal_tests;
 mod report_tests;
 #[cfg(test)]
 mod run_tests;
+#[cfg(test)]
+mod show_tests;
 #[cfg(test)]
 mod tests;
 #[cfg(test)]

@@ -77,7 +77,7 @@ const ENDGAME: &str = "8/2p5/3p4/KP5r/1R3p1k/8/4P1P1/8 w - - 0 1";
 fn refused_growths_of_a_count(rt: HostRuntime) {
     for _ in 0..9u8 {
         let mut out = Counted { bytes: 0 };
-        match run_count(rt.alloc(), ENDGAME, 3, &mut out) {
+        match run_count(rt.alloc(), ENDGAME, 3, &mut out, &mut Unwatched) {
             Ok(()) => assert_eq!(rt; out.bytes, 5),
             Err(fault) => {
                 assert_eq!(rt; fault, CountRunFault::Count(CountFault::Memory));
@@ -96,6 +96,22 @@ fn refused_growths_of_moves(rt: HostRuntime) {
             Ok(()) => assert_eq!(rt; out.bytes, 55),
             Err(fault) => {
                 assert_eq!(rt; fault, MovesFault::Memory);
+                assert_eq!(rt; out.bytes, 0);
+            }
+        }
+    }
+}
+
+/// Passes too where `rt try --test --fail-alloc N` refuses the N-th growth.
+#[test]
+fn refused_growths_of_a_diagram(rt: HostRuntime) {
+    let [diagram, _, _] = E4_E5;
+    for _ in 0..9u8 {
+        let mut out = Counted { bytes: 0 };
+        match run_show(rt.alloc(), diagram, &[], &mut out) {
+            Ok(()) => assert_eq!(rt; out.bytes, 266),
+            Err(fault) => {
+                assert_eq!(rt; fault, ShowFault::Memory);
                 assert_eq!(rt; out.bytes, 0);
             }
         }

@@ -244,6 +244,7 @@ fn four_games_by_en_passant(rt: HostRuntime) -> Result<(), Fail> {
         Length::read(length)?,
         MANY,
         &mut sink,
+        &mut Unwatched,
     )?;
     assert_eq!(rt; games.len(), 4);
     let bytes = sink.into_inner();

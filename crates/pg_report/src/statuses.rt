@@ -1,8 +1,8 @@
 //! The status with which the program ends.
 ghost use Rattle.std.specs.Prelude.{◌≡◌};
-ghost use Rattle.pg_report.specs.Statuses.{verdict_status, games_status, check_status, status_of, search_status_of, moves_status_of, count_status_of, upgrade_status_of};
+ghost use Rattle.pg_report.specs.Statuses.{verdict_status, games_status, check_status, status_of, search_status_of, moves_status_of, count_status_of, show_status_of, upgrade_status_of};
 
-use crate::fault::{CountRunFault, MovesFault, RunFault, UpgradeFault};
+use crate::fault::{CountRunFault, MovesFault, RunFault, ShowFault, UpgradeFault};
 use crate::verdict::Verdict;
 use pg_checker::Fault;
 use pg_moves::CountFault;
@@ -88,6 +88,18 @@ pub fn count_status(fault: &CountRunFault) -> u8
         CountRunFault::Count(CountFault::Memory) => 3,
         CountRunFault::Count(CountFault::TooDeep | CountFault::Overflow) => 2,
         CountRunFault::Write => 4,
+    }
+}
+
+/// The status where a diagram is not shown: 2 for a bad diagram, 3 for want of memory, 4 for a write
+/// fault.
+pub fn show_status(fault: &ShowFault) -> u8
+    ensures { result ≡ show_status_of fault.now }
+{
+    match fault {
+        ShowFault::Diagram(_) => 2,
+        ShowFault::Memory => 3,
+        ShowFault::Write => 4,
     }
 }
 

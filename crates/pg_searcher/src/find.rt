@@ -5,6 +5,7 @@ ghost use Rattle.pg_searcher.specs.Refusals.{Says};
 use crate::fault::SearchFault;
 use crate::judge::Judge;
 use crate::machine::{Machine, Question};
+use crate::progress::Progress;
 use crate::walk::all_trees;
 use arrayvec::ArrayVec;
 use pg_certificate::{Header, RecordWriter, Sink};
@@ -25,10 +26,11 @@ fn header(diagram: &Diagram, plies: u8) -> Header
 }
 
 /// The header, the trees and the end.
-fn write<W: Sink>(
+fn write<W: Sink, P: Progress>(
     question: &Question,
     machine: &mut Machine,
     sink: &mut W,
+    watch: &mut P,
 ) -> Result<(), SearchFault>
     requires limit { question.now.plies ≤ 128 }
     requires runs { machine.old.writer.failed ≡ false }
@@ -41,7 +43,7 @@ fn write<W: Sink>(
         Ok(()) => {}
         Err(_) => return Err(SearchFault::Write),
     }
-    match all_trees(question, machine, sink) {
+    match all_trees(question, machine, sink, watch) {
         Ok(()) => {}
         Err(fault) => return Err(fault),
     }
@@ -61,19 +63,20 @@ fn write<W: Sink>(
 /// need of travel; or where prices do, of pawn files or else of travel, of the two colours those with
 /// the fewer bytes. Otherwise it refers to a closed node of as many plies and the same future with no
 /// game below it, if there is one; or it is expanded and named, up to 4,194,304 nodes. What the search
-/// grows by is taken from `alloc`.
+/// grows by is taken from `alloc`. `watch` is told how far it is.
 ///
 /// # Errors
 /// `Budget` where a node more than `max_nodes` would be visited; `Shorter` with the plies of a game
 /// that is shorter than stated and ends on the diagram; `TooManyGames` at the 4,097th game; `Write`
 /// where the sink has failed; `Memory` where memory is refused. After any of them what was written is
 /// to be thrown away.
-pub fn search<W: Sink>(
+pub fn search<W: Sink, P: Progress>(
     alloc: Global,
     diagram: &Diagram,
     length: Length,
     max_nodes: u64,
     sink: &mut W,
+    watch: &mut P,
 ) -> Result<Games, SearchFault>
     ensures { Says length (W.has_failed sink.new) result }
 {
@@ -96,7 +99,7 @@ pub fn search<W: Sink>(
         closed: 0,
         found: false,
     };
-    match write(&question, &mut machine, sink) {
+    match write(&question, &mut machine, sink, watch) {
         Ok(()) => {}
         Err(fault) => return Err(fault),
     }

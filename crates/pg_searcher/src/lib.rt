@@ -11,11 +11,13 @@ mod known;
 mod machine;
 mod node;
 mod play;
+mod progress;
 mod sides;
 mod walk;
 
 pub use fault::SearchFault;
 pub use find::search;
+pub use progress::Progress;
 
 #[cfg(test)]
 mod sides_tests;

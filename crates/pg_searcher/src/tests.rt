@@ -4,7 +4,7 @@ use pg_captures::{Bound, Captures, Promotions};
 use pg_certificate::{FromRead, Record, RecordReader, Refused, Sink, ToWrite};
 use pg_checker::{Fault, Proved, check};
 use pg_fen::{Diagram, Length};
-use pg_moves::legal_moves;
+use pg_moves::{Unwatched, legal_moves};
 use pg_pawns::PawnFiles;
 use pg_position::Position;
 use pg_san::{Games, read_games};
@@ -108,7 +108,9 @@ fn holds(alloc: Global, diagram: &Diagram, length: Length, games: &Games, bytes:
 /// The certificate and the games of a search; the certificate has been checked.
 fn found(rt: &impl Abort, alloc: Global, diagram: &Diagram, length: Length) -> (Games, Vec<u8>) {
     let mut sink = ToWrite::new(Vec::new(alloc));
-    let games = search(alloc, diagram, length, NODES, &mut sink).expect(rt, "found");
+    let games = search(alloc, diagram, length, NODES, &mut sink, &mut Unwatched).expect(
+        rt, "found",
+    );
     let bytes = sink.into_inner();
     assert!(rt; holds(alloc, diagram, length, &games, bytes.as_slice()));
     (games, bytes)
@@ -123,7 +125,7 @@ fn fault(
     nodes: u64,
 ) -> Option<SearchFault> {
     let mut sink = ToWrite::new(Vec::new(alloc));
-    match search(alloc, diagram, length, nodes, &mut sink) {
+    match search(alloc, diagram, length, nodes, &mut sink, &mut Unwatched) {
         Ok(games) => {
             let bytes = sink.into_inner();
             assert!(rt; holds(alloc, diagram, length, &games, bytes.as_slice()));
@@ -197,7 +199,7 @@ const LENGTHS: [&str; 7] = ["0", "0.5", "1.0", "1.5", "2.0", "2.5", "3.0"];
 fn games_of(rt: &impl Abort, alloc: Global, diagram: &Diagram, plies: u8) -> (usize, bool) {
     let stated = length(rt, LENGTHS[usize::from(plies % 7)]);
     let mut sink = ToWrite::new(Vec::new(alloc));
-    match search(alloc, diagram, stated, NODES, &mut sink) {
+    match search(alloc, diagram, stated, NODES, &mut sink, &mut Unwatched) {
         Ok(games) => {
             let bytes = sink.into_inner();
             assert!(rt; holds(alloc, diagram, stated, &games, bytes.as_slice()));
@@ -288,7 +290,15 @@ fn problems_are_settled_with_so_many_nodes(rt: HostRuntime) {
         let diagram = diagram(&rt, placement);
         let plies = length(&rt, plies);
         let mut sink = ToWrite::new(Vec::new(rt.alloc()));
-        let games = search(rt.alloc(), &diagram, plies, nodes, &mut sink).expect(&rt, placement);
+        let games = search(
+            rt.alloc(),
+            &diagram,
+            plies,
+            nodes,
+            &mut sink,
+            &mut Unwatched,
+        )
+        .expect(&rt, placement);
         assert_eq!(rt; games.len(), count, "{placement}");
         let bytes = sink.into_inner();
         match checks(rt.alloc(), &diagram, plies, &games, bytes.as_slice()) {
@@ -384,7 +394,9 @@ fn pieces_of_one_byte(rt: HostRuntime) {
     let diagram = diagram(&rt, SECOND_PROBLEM);
     let (_, bytes) = found(&rt, rt.alloc(), &diagram, four);
     let mut sink = ToWrite::new(OneByte::new(Vec::new(rt.alloc())));
-    let games = search(rt.alloc(), &diagram, four, NODES, &mut sink).expect(&rt, "found");
+    let games = search(rt.alloc(), &diagram, four, NODES, &mut sink, &mut Unwatched).expect(
+        &rt, "found",
+    );
     assert_eq!(rt; games.len(), 1);
     assert_eq!(rt; sink.into_inner().into_inner().as_slice(), bytes.as_slice());
 }
@@ -400,7 +412,7 @@ fn refused(
 ) -> (Option<SearchFault>, u64) {
     let pieces = FailsAt::new(OneByte::new(Vec::new(alloc)), at, ErrorKind::Other);
     let mut sink = ToWrite::new(pieces);
-    let answer = search(alloc, diagram, length, NODES, &mut sink);
+    let answer = search(alloc, diagram, length, NODES, &mut sink, &mut Unwatched);
     let pieces = sink.into_inner();
     let writes = pieces.calls();
     match answer {
@@ -435,7 +447,7 @@ fn refused_pieces(rt: HostRuntime) {
     for at in 0..4 {
         let pieces = FailsAt::new(Vec::new(rt.alloc()), at, ErrorKind::Other);
         let mut sink = ToWrite::new(pieces);
-        let answer = search(rt.alloc(), &diagram, four, NODES, &mut sink);
+        let answer = search(rt.alloc(), &diagram, four, NODES, &mut sink, &mut Unwatched);
         let pieces = sink.into_inner();
         let writes = pieces.calls();
         match answer {
@@ -489,7 +501,7 @@ fn refused_growths(rt: HostRuntime) {
         let mut sink = Small {
             bytes: ArrayVec::new(),
         };
-        match search(rt.alloc(), &e4_e5, one, NODES, &mut sink) {
+        match search(rt.alloc(), &e4_e5, one, NODES, &mut sink, &mut Unwatched) {
             Ok(games) => {
                 assert_eq!(rt; (games.len(), sink.bytes.len()), (1, 59));
                 match checks(rt.alloc(), &e4_e5, one, &games, sink.bytes.as_slice()) {
@@ -519,7 +531,14 @@ fn refused_growths_of_prices(rt: HostRuntime) {
     let mut sink = Small {
         bytes: ArrayVec::new(),
     };
-    match search(rt.alloc(), &diagram, plies, nodes, &mut sink) {
+    match search(
+        rt.alloc(),
+        &diagram,
+        plies,
+        nodes,
+        &mut sink,
+        &mut Unwatched,
+    ) {
         Ok(games) => assert_eq!(rt; games.len(), count),
         Err(fault) => assert_eq!(rt; fault, SearchFault::Memory),
     }
@@ -541,4 +560,47 @@ fn faults_have_their_texts(rt: HostRuntime) -> Result<(), Fail> {
         assert_eq!(rt; format!(in rt.alloc(); "{fault}")?.as_str(), text);
     }
     Ok(())
+}
+
+/// What is told of a search: the last tree, and whether the trees came in order and the nodes that are
+/// left became no more.
+#[derive(Drop)]
+struct Told {
+    tree: u8,
+    left: u64,
+    in_order: bool,
+    times: u32,
+}
+
+impl Progress for Told {
+    fn reached(&mut self, plies: u8, left: u64) {
+        self.in_order = self.in_order && self.tree <= plies && left <= self.left;
+        self.tree = plies;
+        self.left = left;
+        self.times = self.times.saturating_add(1);
+    }
+}
+
+/// The watch is told of the longest tree last, and of all nodes.
+#[test]
+fn a_search_is_watched(rt: HostRuntime) {
+    let (placement, text, count, nodes) = PROBLEMS[3];
+    let diagram = diagram(&rt, placement);
+    let length = length(&rt, text);
+    let mut sink = ToWrite::new(Vec::new(rt.alloc()));
+    let mut told = Told {
+        tree: 0,
+        left: nodes,
+        in_order: true,
+        times: 0,
+    };
+    let games = search(rt.alloc(), &diagram, length, nodes, &mut sink, &mut told).expect(
+        &rt, placement,
+    );
+    assert_eq!(rt; games.len(), count);
+    assert_eq!(rt;
+        (told.tree, told.left, told.in_order),
+        (length.plies(), 0, true)
+    );
+    assert!(rt; told.times > 1);
 }

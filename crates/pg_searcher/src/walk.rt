@@ -7,6 +7,7 @@ use crate::fault::SearchFault;
 use crate::machine::{Frame, Machine, Question};
 use crate::node::{Opened, child, enter, visit};
 use crate::play::after;
+use crate::progress::Progress;
 use crate::sides::is_special;
 use pg_board::Board;
 use pg_certificate::Sink;
@@ -201,11 +202,12 @@ fn turn<W: Sink>(
 }
 
 /// The tree of one length.
-fn tree_of<W: Sink>(
+fn tree_of<W: Sink, P: Progress>(
     question: &Question,
     tree: u8,
     machine: &mut Machine,
     sink: &mut W,
+    watch: &mut P,
 ) -> Result<(), SearchFault>
     requires limit { tree ≤ 128 }
     requires runs { machine.old.writer.failed ≡ false }
@@ -221,7 +223,7 @@ fn tree_of<W: Sink>(
             return Ok(());
         };
         match turn(question, tree, top, machine, sink) {
-            Ok(()) => {}
+            Ok(()) => watch.reached(tree, machine.nodes),
             Err(fault) => return Err(fault),
         }
     }
@@ -229,10 +231,11 @@ fn tree_of<W: Sink>(
 }
 
 /// The trees of all lengths from 0 to the stated one.
-pub(crate) fn all_trees<W: Sink>(
+pub(crate) fn all_trees<W: Sink, P: Progress>(
     question: &Question,
     machine: &mut Machine,
     sink: &mut W,
+    watch: &mut P,
 ) -> Result<(), SearchFault>
     requires limit { question.now.plies ≤ 128 }
     requires runs { machine.old.writer.failed ≡ false }
@@ -240,7 +243,7 @@ pub(crate) fn all_trees<W: Sink>(
     ensures says { Says question.now.plies (W.has_failed sink.new) result }
 {
     for tree in 0..=question.plies {
-        match tree_of(question, tree, machine, sink) {
+        match tree_of(question, tree, machine, sink, watch) {
             Ok(()) => {}
             Err(fault) => return Err(fault),
         }

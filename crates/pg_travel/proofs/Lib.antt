@@ -1,6 +1,7 @@
 pub mod Skips
 pub mod Nearness
 pub mod PawnRows
+pub mod PromotedRows
 pub mod Within
 pub mod RowLemmas
 pub mod PriceLemmas

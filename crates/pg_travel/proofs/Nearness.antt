@@ -1,5 +1,5 @@
 -- The nearest man that comes to be of a kind is of that kind, or a pawn; and how soon a pawn can be one.
-use Rattle.std.proofs.Common.{◌≡◌, ◌≢◌, ℕ, zero, suc, ◌+◌, ◌<◌, ◌≤◌, ◌⊎◌, inl, inr, Option, Some, None, cond, min, Bool, true, false, refl, sym, ap, subst, arith, ◌∙◌}
+use Rattle.std.proofs.Common.{◌≡◌, ◌≢◌, eqb, ℕ, zero, suc, ◌+◌, ◌<◌, ◌≤◌, ◌⊎◌, inl, inr, Option, Some, None, cond, min, Bool, true, false, refl, sym, ap, subst, arith, ◌∙◌}
 use Rattle.std.proofs.lemmas.Bool.Decides.{eqb_tells, nat_tests}
 use Rattle.pg_board.specs.declared.man.Color.{Color}
 use Rattle.pg_board.specs.declared.man.Color.TheVariants.{White, Black}
@@ -15,7 +15,7 @@ use Rattle.pg_position.specs.SquareSets.{IsFirstFrom}
 use Rattle.pg_travel.specs.Origins.{counted}
 use Rattle.pg_travel.specs.Formulas.{rank_for, pawn_steps, last_at, least_of, pawn_to, soonest, knight, bishop, rook, queen, distance_of, is_promoted, least_steps}
 use Rattle.pg_travel.specs.Costs.{reach_of, reach_from, BeyondFar, nearest, nearest_man}
-use Rattle.pg_travel.specs.Pawns.{by_other, least_of_more, least_of_none}
+use Rattle.pg_travel.specs.Pawns.{by_other, some_by_steps, least_of_more, least_of_none}
 use Rattle.pg_travel.proofs.Skips.{least_le, least_skip}
 
 -- two least numbers make one
@@ -126,18 +126,31 @@ pawn_to_above to c r s = elim (eqb_tells (rank_for c r) 8) [
     above : soonest c r ≤ least_of (λ f. pawn_steps c r (last_at c f) + to (last_at c f) s) 8
     above = least_above (λ f. pawn_steps c r (last_at c f) + to (last_at c f) s) 8 (soonest c r) (soonest_low c r) (λ q low. omega (arith, steps_above c r (last_at c q) (last_rank_is c q low)))
 
-pub no_sooner : (c : Color) (j k : Kind) (r s : ℕ) → least_steps c j k r ≤ distance_of c j k r s
-no_sooner c Knight Pawn r s = pawn_to_above knight c r s
-no_sooner c Bishop Pawn r s = pawn_to_above bishop c r s
-no_sooner c Rook Pawn r s = pawn_to_above rook c r s
-no_sooner c Queen Pawn r s = pawn_to_above queen c r s
-no_sooner c Pawn Pawn r s = omega arith
-no_sooner c King Pawn r s = omega arith
-no_sooner c j Knight r s = omega arith
-no_sooner c j Bishop r s = omega arith
-no_sooner c j Rook r s = omega arith
-no_sooner c j Queen r s = omega arith
-no_sooner c j King r s = omega arith
+-- a man that stands elsewhere takes a step
+moved : (c : Color) (j k : Kind) (r s : ℕ) → r < 64 → s < 64 → r ≢ s → 1 ≤ distance_of c j k r s
+moved c j k r s lr ls away = elim (eqb_tells (distance_of c j k r s) 0) [
+  | inl z ↦ absurd (away (some_by_steps c k r j s 0 lr ls (sym z.1) (λ f. cc)).0.1)
+  | inr z ↦ (let ne : distance_of c j k r s ≢ 0 = z.1 in omega arith)
+]
+
+one_apart : (c : Color) (j k : Kind) (r s : ℕ) → r < 64 → s < 64 → cond (eqb r s) 0 1 ≤ distance_of c j k r s
+one_apart c j k r s lr ls = elim (eqb_tells r s) [
+  | inl w ↦ (let e : cond {A = ℕ} (eqb r s) 0 1 ≡ 0 = ap (λ (x : Bool). cond {A = ℕ} x 0 1) w.0 in omega arith)
+  | inr w ↦ (let e : cond {A = ℕ} (eqb r s) 0 1 ≡ 1 = ap (λ (x : Bool). cond {A = ℕ} x 0 1) w.0 in let some : 1 ≤ distance_of c j k r s = moved c j k r s lr ls w.1 in omega arith)
+]
+
+pub no_sooner : (c : Color) (j k : Kind) (r s : ℕ) → r < 64 → s < 64 → least_steps c j k r s ≤ distance_of c j k r s
+no_sooner c Knight Pawn r s lr ls = pawn_to_above knight c r s
+no_sooner c Bishop Pawn r s lr ls = pawn_to_above bishop c r s
+no_sooner c Rook Pawn r s lr ls = pawn_to_above rook c r s
+no_sooner c Queen Pawn r s lr ls = pawn_to_above queen c r s
+no_sooner c Pawn Pawn r s lr ls = one_apart c Pawn Pawn r s lr ls
+no_sooner c King Pawn r s lr ls = one_apart c King Pawn r s lr ls
+no_sooner c j Knight r s lr ls = one_apart c j Knight r s lr ls
+no_sooner c j Bishop r s lr ls = one_apart c j Bishop r s lr ls
+no_sooner c j Rook r s lr ls = one_apart c j Rook r s lr ls
+no_sooner c j Queen r s lr ls = one_apart c j Queen r s lr ls
+no_sooner c j King r s lr ls = one_apart c j King r s lr ls
 
 -- squares without the man leave the least as it is
 pub least_reached_from : (b : Placement) (m : Man) (way : Option Wing) (j : Kind) (t own low high : ℕ) → ((q : ℕ) → q < 64 → has own q ≡ is_man m (get b q)) → low ≤ high → high ≤ 64 → ((q : ℕ) → low ≤ q → q < high → has own q ≡ false) → least_of (λ o. reach_from m way j t o (get b o)) high ≡ least_of (λ o. reach_from m way j t o (get b o)) low
@@ -194,9 +207,12 @@ either_least best d true l m = l
 either_least best d false l m = m
 
 pub pawn_soonest : (c : Color) (j : Kind) (r t : ℕ) → is_promoted j ≡ true → soonest c r ≤ distance_of c j Pawn r t
-pawn_soonest c j r t e =
-    let s : least_steps c j Pawn r ≡ soonest c r = ap (λ (x : Bool). cond x (soonest c r) 0) e in
-    omega (arith, s, no_sooner c j Pawn r t)
+pawn_soonest c Knight r t e = pawn_to_above knight c r t
+pawn_soonest c Bishop r t e = pawn_to_above bishop c r t
+pawn_soonest c Rook r t e = pawn_to_above rook c r t
+pawn_soonest c Queen r t e = pawn_to_above queen c r t
+pawn_soonest c Pawn r t e = absurd cc
+pawn_soonest c King r t e = absurd cc
 
 -- pawns outside of the band are no nearer than that
 pub pawns_beyond : (b : Placement) (c : Color) (way : Option Wing) (j : Kind) (m : Man) (t best first past : ℕ) → m ≡ man c Pawn → first ≤ 64 → best ≤ 64 → is_promoted j ≡ true → ((q : ℕ) → q < 64 → (q < first) ⊎ (past ≤ q) → best ≤ soonest c q) → BeyondFar b m way j t best first past

@@ -1,5 +1,5 @@
 -- The tests of price lists, from a pair of men to all lists. Leads to the contract of `prices_exclude`.
-use Rattle.std.proofs.Common.{◌≡◌, ◌≢◌, ◌↔◌, ℕ, ◌+◌, ◌-◌, cond, ◌<◌, ◌≤◌, ◌⊎◌, inl, inr, Bool, true, false, IsTrue, Option, Some, None, List, [], ◌∷◌, length, get_or, set, refl, sym, ap, subst, arith, ◌∙◌}
+use Rattle.std.proofs.Common.{eqb, ◌≡◌, ◌≢◌, ◌↔◌, ℕ, ◌+◌, ◌-◌, cond, ◌<◌, ◌≤◌, ◌⊎◌, inl, inr, Bool, true, false, IsTrue, Option, Some, None, List, [], ◌∷◌, length, get_or, set, refl, sym, ap, subst, arith, ◌∙◌}
 use Rattle.std.specs.Prelude.{sum}
 use Rattle.std.specs.List.{AllZip}
 use Rattle.std.proofs.lemmas.Bool.Decides.{eqb_tells, leb_tells}
@@ -35,13 +35,6 @@ use Rattle.pg_travel.specs.TravelPrices.{ways_of, TravelPricesFit, WayPricesExcl
 yes_pair : (m : Man) (r u : ℕ) (j : Kind) (t v : ℕ) → PairFits m r u j t v → IsTrue true ↔ PairFits m r u j t v
 yes_pair m r u j t v h = ((λ y. h), (λ y. refl))
 
-low_fits : (m : Man) (r u : ℕ) (j : Kind) (t v : ℕ) → v ≤ u → PairFits m r u j t v
-unfolding PairFits
-low_fits m r u j t v l n dist = omega arith
-
-pub pair_low : (m : Man) (r u : ℕ) (j : Kind) (t v : ℕ) → v ≤ u → IsTrue true ↔ PairFits m r u j t v
-pair_low m r u j t v l = yes_pair m r u j t v (low_fits m r u j t v l)
-
 pub pair_at : (m : Man) (r u : ℕ) (j : Kind) (t v steps : ℕ) (b : Bool) → r < 64 → t < 64 → steps ≡ distance_of m.color j m.kind r t → IsTrue b ↔ ((steps ≡ 64) ⊎ (v ≤ u + steps)) → IsTrue b ↔ PairFits m r u j t v
 unfolding PairFits
 pair_at m r u j t v steps b lr lt is tells = ((λ y. forth (tells.0 y)), (λ y. tells.1 (back y)))
@@ -67,7 +60,7 @@ unfolding PairFits
 none_fits m r u j t v lr lt e n dist = absurd (none_by_steps m.color m.kind r j t 64 lr lt (sym e) refl n dist.0)
 
 -- a target that pays no more than the steps that the man needs at least
-far_fits : (m : Man) (r u : ℕ) (j : Kind) (t v : ℕ) → r < 64 → t < 64 → v ≤ u + least_steps m.color j m.kind r → PairFits m r u j t v
+far_fits : (m : Man) (r u : ℕ) (j : Kind) (t v : ℕ) → r < 64 → t < 64 → v ≤ u + least_steps m.color j m.kind r t → PairFits m r u j t v
 unfolding PairFits
 far_fits m r u j t v lr lt far n dist =
     let steps : ℕ = distance_of m.color j m.kind r t in
@@ -76,8 +69,15 @@ far_fits m r u j t v lr lt far n dist =
       | inr z ↦
           (let d : IsDistance m.color m.kind r j t (distance_of m.color j m.kind r t) = some_by_steps m.color m.kind r j t (distance_of m.color j m.kind r t) lr lt refl z.1 in
           let le : distance_of m.color j m.kind r t ≤ n = d.1 n dist.0 in
-          omega (arith, far, le, no_sooner m.color j m.kind r t))
+          omega (arith, far, le, no_sooner m.color j m.kind r t lr lt))
     ]
+
+low_fits : (m : Man) (r u : ℕ) (j : Kind) (t v : ℕ) → v ≤ u → PairFits m r u j t v
+unfolding PairFits
+low_fits m r u j t v l n dist = omega arith
+
+pub pair_low : (m : Man) (r u : ℕ) (j : Kind) (t v : ℕ) → r < 64 → t < 64 → v ≤ u + least_steps m.color j m.kind r t → IsTrue true ↔ PairFits m r u j t v
+pair_low m r u j t v lr lt far = yes_pair m r u j t v (far_fits m r u j t v lr lt far)
 
 -- the same pair under other names
 pub pair_moved : (m : Man) (j : Kind) (t v r s u w : ℕ) → r ≡ s → u ≡ w → PairFits m r u j t v → PairFits m s w j t v
@@ -164,7 +164,7 @@ pawns_far b c way ys j m t v least first past is low lt promoted cheap outside =
     subst (λ (x : Man). (first ≤ 64) × ((s : ℕ) → s < 64 → (s < first) ⊎ (past ≤ s) → get b s ≡ Some x → PairFits x (counted x.color way s) (get_or ys s 0) j t v)) (sym is) (
       low,
       λ s ls out there. far_fits (man c Pawn) (counted c way s) (get_or ys s 0) j t v (counted_low c way s ls) lt
-          (let e : least_steps c j Pawn (counted c way s) ≡ soonest c (counted c way s) = ap (λ (x : Bool). cond x (soonest c (counted c way s)) 0) promoted in
+          (let e : least_steps c j Pawn (counted c way s) t ≡ soonest c (counted c way s) = ap (λ (x : Bool). cond x (soonest c (counted c way s)) (cond (eqb (counted c way s) t) 0 1)) promoted in
           let m : least ≤ get_or ys s 0 = cheap Pawn s ls there in
           omega (arith, e, m, outside s ls out, soonest_counted c way s)),
     )

@@ -192,9 +192,58 @@ sum_grows f a (suc b) h = elim (eqb_tells a (suc b)) [
   | inr w ↦ (let ne : a ≢ suc b = w.1 in let s : sum_to f a ≤ sum_to f b = sum_grows f a b (omega arith) in omega arith)
 ]
 
--- where the first men cost more than the limit, all do
-pub within_over : (b d : Placement) (c : Color) (way : Option Wing) (limit n : ℕ) → n ≤ 64 → limit < charge way + sum_to (cost b d c way) n → (v : ℕ) → SumIs b d c way (Some v) → limit < v
-within_over b d c way limit n low more v s = let g : sum_to (cost b d c way) n ≤ sum_to (cost b d c way) 64 = sum_grows (cost b d c way) n 64 low in let e : v ≡ charge way + sum_to (cost b d c way) 64 = s.1 in omega arith
+-- ---- a sum that begins with what is sure
+count_skip : (set a b : ℕ) → a ≤ b → ((q : ℕ) → a ≤ q → q < b → has set q ≡ false) → count_below (has set) b ≡ count_below (has set) a
+count_skip set a zero h none = let e : 0 ≡ a = omega arith in ap (count_below (has set)) e
+count_skip set a (suc b) h none = elim (eqb_tells (suc b) a) [
+  | inl w ↦ ap (count_below (has set)) w.1
+  | inr w ↦
+      (let ne : suc b ≢ a = w.1 in
+      let l : a ≤ b = omega arith in
+      let more : count_below (has set) (suc b) ≡ count_below (has set) b + one (has set b) = total-suc (λ k. one (has set k)) b in
+      let z : one (has set b) ≡ 0 = ap one (none b l (omega arith)) in
+      let s : count_below (has set) b ≡ count_below (has set) a = count_skip set a b l (λ q x y. none q x (omega arith)) in
+      omega arith)
+]
+
+pub costs_sure : (b d : Placement) (c : Color) (way : Option Wing) (set q : ℕ) → CostsEach b d c way set → q < 64 → has set q ≡ true → 1 ≤ cost b d c way q
+unfolding CostsEach
+costs_sure b d c way set q h l on = h q l on
+
+-- where no man costs anything, none is sure to
+pub sure_off : (b d : Placement) (c : Color) (way : Option Wing) (set sure low high : ℕ) → CostsOnly b d c way set → CostsEach b d c way sure → low ≤ high → high ≤ 64 → ((q : ℕ) → low ≤ q → q < high → has set q ≡ false) → count_below (has sure) high ≡ count_below (has sure) low
+unfolding CostsOnly CostsEach
+sure_off b d c way set sure low high only each up most off = count_skip sure low high up (λ q x y. none q (omega arith) (off q x y) (has sure q) refl)
+  where
+    none : (q : ℕ) → q < 64 → has set q ≡ false → (s : Bool) → has sure q ≡ s → has sure q ≡ false
+    none q l f false e = e
+    none q l f true e = absurd (let a : 1 ≤ cost b d c way q = each q l e in let z : cost b d c way q ≡ 0 = only q l f in omega arith)
+
+counts_between : (f : ℕ → ℕ) (set a z : ℕ) → a ≤ z → z ≤ 64 → ((q : ℕ) → q < 64 → has set q ≡ true → 1 ≤ f q) → count_below (has set) z + sum_to f a ≤ sum_to f z + count_below (has set) a
+unfolding sum_to
+counts_between f set a zero up most each = let e : a ≡ 0 = omega arith in let s : sum_to f a ≡ sum_to f 0 = ap (sum_to f) e in let n : count_below (has set) a ≡ count_below (has set) 0 = ap (count_below (has set)) e in omega arith
+counts_between f set a (suc z) up most each = elim (eqb_tells a (suc z)) [
+  | inl w ↦ (let s : sum_to f a ≡ sum_to f (suc z) = ap (sum_to f) w.1 in let n : count_below (has set) a ≡ count_below (has set) (suc z) = ap (count_below (has set)) w.1 in omega arith)
+  | inr w ↦
+      (let ne : a ≢ suc z = w.1 in
+      let before : count_below (has set) z + sum_to f a ≤ sum_to f z + count_below (has set) a = counts_between f set a z (omega arith) (omega arith) each in
+      let more : count_below (has set) (suc z) ≡ count_below (has set) z + one (has set z) = total-suc (λ k. one (has set k)) z in
+      let here : one (has set z) ≤ f z = least (has set z) (each z (omega arith)) in
+      omega arith)
+]
+  where
+    least : {n : ℕ} (s : Bool) → (s ≡ true → 1 ≤ n) → one s ≤ n
+    least true h = h refl
+    least false h = omega arith
+
+-- where the first men cost more than the limit with what the others are sure to, all do
+pub within_over : (b d : Placement) (c : Color) (way : Option Wing) (limit sure total n : ℕ) → sure < 2 ^ 64 → CostsEach b d c way sure → n ≤ 64 → total + count_below (has sure) n ≡ charge way + sum_to (cost b d c way) n + count_ones sure → limit < total → (v : ℕ) → SumIs b d c way (Some v) → limit < v
+unfolding CostsEach
+within_over b d c way limit sure total n fits each low is more v s =
+    let all : count_ones sure ≡ count_below (has sure) 64 = ones-count 64 sure fits in
+    let g : count_below (has sure) 64 + sum_to (cost b d c way) n ≤ sum_to (cost b d c way) 64 + count_below (has sure) n = counts_between (cost b d c way) sure n 64 low (omega arith) each in
+    let e : v ≡ charge way + sum_to (cost b d c way) 64 = s.1 in
+    omega arith
 
 -- the value, by the sum within the limit
 pub pays_not : (p : State) (d : Placement) (c : Color) (way : Option Wing) (limit : ℕ) (r : Option ℕ) → SumWithin p.board d c way limit r → ((v : ℕ) → r ≡ Some v → limit < v) → PaysIs p d c way limit false

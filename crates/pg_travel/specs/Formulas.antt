@@ -112,9 +112,9 @@ is_promoted Rook = true
 is_promoted Queen = true
 is_promoted King = false
 
--- the steps that kind k on r needs at least to be of kind j on any square: a pawn's to the last rank where j is promoted to
-abbrev pub least_steps : Color → Kind → Kind → ℕ → ℕ
-least_steps c j k r = cond (eqb (code k) 0 && is_promoted j) (soonest c r) 0
+-- the steps that kind k on r needs at least to be of kind j on s: a pawn's to the last rank where j is promoted to, else one where r is not s
+abbrev pub least_steps : Color → Kind → Kind → ℕ → ℕ → ℕ
+least_steps c j k r s = cond (eqb (code k) 0 && is_promoted j) (soonest c r) (cond (eqb r s) 0 1)
 
 -- from kind k on r to kind j on s
 abbrev pub distance_of : Color → Kind → Kind → ℕ → ℕ → ℕ

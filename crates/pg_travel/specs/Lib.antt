@@ -2,6 +2,7 @@ pub mod Walks
 pub mod Origins
 pub mod Needs
 pub mod Formulas
+pub mod Promoted
 pub mod Costs
 pub mod SumLemmas
 pub mod Decisions

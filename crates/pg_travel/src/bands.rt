@@ -23,7 +23,11 @@ pub(crate) fn promoting(color: Color, steps: u8) -> Band
     ensures first { result.first ≤ 64 }
     ensures outside { (q : ℕ) → q < 64 → (q < result.first) ⊎ (result.past ≤ q) → steps ≤ soonest color q }
 {
-    let ranks = 7 - steps.min(7);
+    let ranks = if steps <= 5 {
+        8 - steps
+    } else {
+        7 - steps.min(7)
+    };
     match color {
         Color::White => Band {
             first: 8 * ranks,

@@ -2,9 +2,11 @@
 ghost use Rattle.std.specs.Prelude.{◌≡◌, ◌≢◌, ℕ, ◌+◌, ◌-◌, ◌*◌, ◌/◌, ◌%◌, ◌<◌, ◌≤◌, ◌&&◌, ◌||◌, cond, eqb, min, max, IsTrue};
 ghost use Rattle.pg_position.specs.Geometry.{apart};
 ghost use Rattle.pg_travel.specs.Walks.{DistanceIs};
-ghost use Rattle.pg_travel.specs.Formulas.{files, ranks, king, rook, bishop, queen, knight, is_corner, long_way, knight_by, piece, rank_for, mirrored, pawn_steps, pawn, last_at, least_of, pawn_to, soonest, is_promoted, least_steps, from_pawn, distance_of};
+ghost use Rattle.pg_travel.specs.Formulas.{files, ranks, king, rook, bishop, queen, knight, is_corner, long_way, knight_by, piece, rank_for, mirrored, pawn, soonest, is_promoted, least_steps, from_pawn, distance_of};
+ghost use Rattle.pg_travel.specs.Promoted.{told, ArePromoted};
 
 use crate::pawn_table::WHITE_PAWN;
+use crate::promotion_table::WHITE_PROMOTED;
 use pg_board::{Color, Kind, Man, Square};
 
 fn apart_by(a: u8, b: u8) -> u8
@@ -156,25 +158,6 @@ fn rank_for(color: Color, s: Square) -> u8
     }
 }
 
-#[tactic(auto, unfolding(crate::specs::Formulas::pawn_steps))]
-fn pawn_steps(color: Color, from: Square, to: Square) -> u8
-    ensures value { result ≡ pawn_steps color from to }
-    ensures low { result ≤ 64 }
-{
-    let files = files(from, to);
-    let start = rank_for(color, from);
-    let end = rank_for(color, to);
-    if start + files <= end {
-        if start <= 2 && 4 <= end && start + files + 2 <= end {
-            end - start - 1
-        } else {
-            end - start
-        }
-    } else {
-        64
-    }
-}
-
 // The index of the square as the other colour sees it: the ranks turned round.
 fn mirrored(index: u8) -> u8
     requires { index < 64 }
@@ -196,38 +179,25 @@ fn pawn(color: Color, from: Square, to: Square) -> u8
     }
 }
 
-fn last_at(color: Color, file: u8) -> Square
-    requires { file < 8 }
-    ensures { result ≡ last_at color file }
+// The distances of a pawn to the men that it can become, as digits to the base 16.
+fn promoted(color: Color, from: Square, to: Square) -> u16
+    ensures { ArePromoted color from to result }
 {
+    let start = from.index();
+    let end = to.index();
     match color {
-        Color::White => Square::at(56 + file),
-        Color::Black => Square::at(file),
+        Color::White => WHITE_PROMOTED[start as usize][end as usize],
+        Color::Black => WHITE_PROMOTED[mirrored(start) as usize][mirrored(end) as usize],
     }
 }
 
-fn by_promotion(kind: Kind, color: Color, from: Square, to: Square) -> u8
-    ensures value { result ≡ least_of (λ f. pawn_steps color from (last_at color f) + piece kind (last_at color f) to) 8 }
+// The distance that a digit tells.
+fn told(digit: u16) -> u8
+    requires { digit < 16 }
+    ensures value { result ≡ told digit }
     ensures low { result ≤ 64 }
 {
-    let mut best = 64u8;
-    for file in 0..8u8 {
-        let last = last_at(color, file);
-        best = best.min(pawn_steps(color, from, last) + steps(kind, last, to));
-    }
-    best
-}
-
-#[tactic(auto, unfolding(crate::specs::Formulas::pawn_to))]
-fn pawn_to(kind: Kind, color: Color, from: Square, to: Square) -> u8
-    ensures value { result ≡ pawn_to (λ r s. piece kind r s) color from to }
-    ensures low { result ≤ 64 }
-{
-    if rank_for(color, from) == 8 {
-        64
-    } else {
-        by_promotion(kind, color, from, to)
-    }
+    if digit == 15 { 64 } else { digit as u8 }
 }
 
 fn from_pawn(kind: Kind, color: Color, from: Square, to: Square) -> u8
@@ -236,10 +206,10 @@ fn from_pawn(kind: Kind, color: Color, from: Square, to: Square) -> u8
 {
     match kind {
         Kind::Pawn => pawn(color, from, to),
-        Kind::Knight => pawn_to(Kind::Knight, color, from, to),
-        Kind::Bishop => pawn_to(Kind::Bishop, color, from, to),
-        Kind::Rook => pawn_to(Kind::Rook, color, from, to),
-        Kind::Queen => pawn_to(Kind::Queen, color, from, to),
+        Kind::Knight => told(promoted(color, from, to) % 16),
+        Kind::Bishop => told(promoted(color, from, to) / 16 % 16),
+        Kind::Rook => told(promoted(color, from, to) / 256 % 16),
+        Kind::Queen => told(promoted(color, from, to) / 4096 % 16),
         Kind::King => 64,
     }
 }
@@ -295,15 +265,17 @@ pub(crate) fn is_promoted(kind: Kind) -> bool
     }
 }
 
-// Steps that a man needs at least to be of the kind on any square: those of a pawn to its last rank,
-// where it has to become of the kind.
-fn least_steps(man: Man, from: Square, kind: Kind) -> u8
-    ensures { result ≡ least_steps man.color kind man.kind from }
+// Steps that a man needs at least to be of the kind on a square: those of a pawn to its last rank where
+// it has to become of the kind, and else one, if it does not stand there.
+pub(crate) fn least_steps(man: Man, from: Square, kind: Kind, to: Square) -> u8
+    ensures { result ≡ least_steps man.color kind man.kind from to }
 {
     if code(man.kind) == 0 && is_promoted(kind) {
         soonest(man.color, from)
-    } else {
+    } else if from.index() == to.index() {
         0
+    } else {
+        1
     }
 }
 
@@ -311,7 +283,9 @@ fn least_steps(man: Man, from: Square, kind: Kind) -> u8
 pub(crate) fn closer(man: Man, from: Square, kind: Kind, to: Square, best: u8) -> u8
     ensures { result ≡ min best (distance_of man.color kind man.kind from to) }
 {
-    if best <= least_steps(man, from, kind) {
+    from.index();
+    to.index();
+    if best <= least_steps(man, from, kind, to) {
         best
     } else {
         best.min(all_steps(man, from, kind, to))

@@ -11,6 +11,7 @@ mod needs;
 mod pawn_table;
 mod price_cuts;
 mod prices;
+mod promotion_table;
 mod targets;
 mod travel;
 

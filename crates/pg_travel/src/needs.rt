@@ -1,6 +1,8 @@
 //! The value of a way, the need of a colour and the test of the bound.
-ghost use Rattle.std.specs.Prelude.{◌≡◌, ℕ, ◌+◌, ◌*◌, ◌<◌, ◌≤◌, ◌↔◌, ◌/◌, ◌%◌, min, IsTrue, Some, None};
+ghost use Rattle.std.specs.Prelude.{◌≡◌, ℕ, ◌+◌, ◌*◌, ◌<◌, ◌≤◌, ◌↔◌, ◌/◌, ◌%◌, min, IsTrue, true, Some, None};
+ghost use Rattle.pg_board.specs.Bits.{has};
 ghost use Rattle.pg_board.specs.Placement.{get};
+ghost use Rattle.pg_board.specs.Tally.{one};
 ghost use Rattle.pg_board.specs.Men.{color_eq, man};
 ghost use Rattle.pg_captures.specs.Owed.{plies_left};
 ghost use Rattle.pg_travel.specs.Ways.{wing_of, way_of};
@@ -14,7 +16,7 @@ use crate::bands::{Band, promoting, whole_board};
 use crate::castling::{Castling, charge, counted, holds};
 use crate::distances::{closer, is_promoted};
 use crate::misplaced::{sure_to_cost, to_come};
-use pg_board::{Board, Color, Kind, Man, Square};
+use pg_board::{Board, Color, Kind, Man, Square, contains};
 use pg_captures::plies_left;
 use pg_fen::Diagram;
 use pg_position::{Position, first_from};
@@ -109,6 +111,14 @@ fn cost(board: &Board, goal: &Board, color: Color, way: Option<Castling>, t: Squ
     }
 }
 
+// What a man costs besides the one ply that each on these squares is sure to cost.
+fn beyond_sure(sure: u64, t: Square, n: u8) -> u8
+    requires { has sure t ≡ true → 1 ≤ n }
+    ensures { result + one (has sure t) ≡ n }
+{
+    if contains(sure, t.index()) { n - 1 } else { n }
+}
+
 // No way costs more: its charge is 1 at most, and a man on each square 63 at most.
 const MOST: u16 = 1 + 64 * 63;
 
@@ -120,7 +130,8 @@ fn total(board: &Board, goal: &Board, color: Color, way: Option<Castling>) -> Op
 }
 
 // The charge of a way and what all men of the diagram cost; none where that is above the limit, or
-// where one has no man to come.
+// where one has no man to come. Each man that is sure to cost a ply is counted with one from the
+// start, so that the sum is soon above a low limit.
 fn total_within(
     board: &Board,
     goal: &Board,
@@ -130,19 +141,19 @@ fn total_within(
 ) -> Option<u16>
     ensures { SumWithin board.now goal.now color (way_of way) limit result }
 {
-    let sure = sure_to_cost(board, goal, color, way).count_ones() as u8;
-    if charge(way) + u16::from(sure) > limit {
+    let sure = sure_to_cost(board, goal, color, way);
+    let mut total = charge(way) + u16::from(sure.count_ones() as u8);
+    if total > limit {
         return None;
     }
     let squares = to_come(board, goal, color, way);
-    let mut total = charge(way);
     let mut from = 0u8;
     while let Some(t) = first_from(squares, from) {
         let n = cost(board, goal, color, way, t);
         if n == 64 {
             return None;
         }
-        total += u16::from(n);
+        total += u16::from(beyond_sure(sure, t, n));
         if total > limit {
             return None;
         }

@@ -10,7 +10,7 @@ ghost use Rattle.pg_travel.specs.Ways.{way_of};
 
 use crate::bands::{Band, promoting, whole_board};
 use crate::castling::{Castling, counted};
-use crate::distances::{all_steps, is_promoted};
+use crate::distances::{all_steps, is_promoted, least_steps};
 use crate::needs::{man, same_side};
 use pg_board::{Board, Color, Kind, Man, Square};
 use pg_position::first_from;
@@ -26,11 +26,11 @@ fn pays_at_most(v: u8, u: u8, steps: u8) -> bool
 fn pair_fits(man: Man, origin: Square, u: u8, kind: Kind, t: Square, v: u8) -> bool
     ensures { IsTrue result ↔ PairFits man origin u kind t v }
 {
-    if v <= u {
+    origin.index();
+    t.index();
+    if v.saturating_sub(u) <= least_steps(man, origin, kind, t) {
         true
     } else {
-        origin.index();
-        t.index();
         pays_at_most(v, u, all_steps(man, origin, kind, t))
     }
 }

@@ -74,6 +74,48 @@ fn priced_records_are_read(rt: HostRuntime) {
     );
 }
 
+/// The first record after a header of version 2, apart from its prices, and those.
+fn first_bare(rt: &impl Abort, record: &[u8]) -> (Result<Bare, ReadFault>, Prices) {
+    let header = header_of(b'2');
+    let mut source = FromRead::new(header.as_slice().chain(record));
+    let mut reader = RecordReader::new();
+    assert!(rt; reader.header(&mut source).is_ok());
+    let mut prices = Prices::new(&[7], &[8, 9]).expect(rt, "few enough");
+    let read = reader.next_bare(&mut prices, &mut source);
+    (read, prices)
+}
+
+#[test]
+fn prices_come_apart(rt: HostRuntime) {
+    let (read, prices) = first_bare(&rt, &TRAVEL_BYTES);
+    assert_eq!(rt;
+        read,
+        Ok(Bare::Priced {
+            code: 4,
+            color: Color::White
+        })
+    );
+    assert_eq!(rt; prices.u(0), [1u8, 0, 0].as_slice());
+    assert_eq!(rt; prices.v(0), [0u8, 2, 2].as_slice());
+    let (read, prices) = first_bare(&rt, &WAYS_BYTES);
+    assert_eq!(rt;
+        read,
+        Ok(Bare::Priced {
+            code: 4,
+            color: Color::Black
+        })
+    );
+    assert_eq!(rt; prices.v(2), [255u8].as_slice());
+    for (record, fault) in [
+        (&TRAVEL_BYTES[..11], ReadFault::Truncated),
+        (&TRAVEL_BYTES[1..], ReadFault::UnknownRecord(4)),
+    ] {
+        let (read, prices) = first_bare(&rt, record);
+        assert_eq!(rt; read, Err(fault));
+        assert_eq!(rt; prices.v(0), [8u8, 9].as_slice());
+    }
+}
+
 #[test]
 fn lists_may_have_no_number(rt: HostRuntime) {
     let none = of_white(&rt, 9, &[], &[]);

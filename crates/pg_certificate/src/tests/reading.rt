@@ -1,4 +1,5 @@
 use super::*;
+use pg_travel::Prices;
 use pg_trial::{Endless, FailsAt, OneByte};
 use std::alloc::{AllocError, Allocator};
 use std::io::{ErrorKind, Read};
@@ -121,33 +122,37 @@ fn each_record_is_read(rt: HostRuntime) {
 }
 
 #[test]
-fn each_plain_record_is_read(rt: HostRuntime) {
+fn each_bare_record_is_read(rt: HostRuntime) {
     let mut source = FromRead::new(RECORD_BYTES.as_slice());
     let mut reader = RecordReader::new();
-    for plain in [
-        Plain::Expand { named: false },
-        Plain::Expand { named: true },
-        Plain::Cut(4),
-        Plain::Ref(66_051),
+    let before = Prices::new(&[7], &[8]).expect(&rt, "few enough");
+    let mut prices = before;
+    for bare in [
+        Bare::Expand { named: false },
+        Bare::Expand { named: true },
+        Bare::Cut(4),
+        Bare::Ref(66_051),
     ] {
-        assert_eq!(rt; reader.next_plain(&mut source), Ok(plain));
+        assert_eq!(rt; reader.next_bare(&mut prices, &mut source), Ok(bare));
     }
     assert_eq!(rt; reader.end(&mut source), Ok(()));
     for byte in [0, 4, 6, 255u8] {
         let bytes = [byte, 4, 0, 1, 1, 1, 2, 3];
         let mut source = FromRead::new(bytes.as_slice());
         let mut reader = RecordReader::new();
-        let read = reader.next_plain(&mut source);
+        let read = reader.next_bare(&mut prices, &mut source);
         assert_eq!(rt; read, Err(ReadFault::UnknownRecord(byte)));
-        assert_eq!(rt; reader.next_plain(&mut source), Err(ReadFault::Failed));
+        let read = reader.next_bare(&mut prices, &mut source);
+        assert_eq!(rt; read, Err(ReadFault::Failed));
         stays_failed(&rt, &mut source, &mut reader);
     }
     for bytes in [[2u8, 2], [3, 3]] {
         let mut source = FromRead::new(&bytes[1..]);
         let mut reader = RecordReader::new();
-        let read = reader.next_plain(&mut source);
+        let read = reader.next_bare(&mut prices, &mut source);
         assert_eq!(rt; read, Err(ReadFault::Truncated));
     }
+    assert_eq!(rt; prices, before);
 }
 
 #[test]

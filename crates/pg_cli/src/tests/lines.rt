@@ -1,6 +1,7 @@
 use super::*;
 use crate::progress::{RecordCount, Watch, Watched, line_of};
-use pg_report::{FromRead, Source};
+use crate::runs::{CountLine, SearchLine, count_line, search_line};
+use pg_report::{FromRead, Progress, SearchProgress, Source};
 use std::cell::Cell;
 use std::fmt::Display;
 use std::io::Eprint;
@@ -43,7 +44,7 @@ fn prints<R: Abort + AllocGlobal>(rt: &R, times: &[u64], screen: bool) -> Result
     let bytes = repeated(rt.alloc(), 1, times.len())?;
     let mut source = Watched::new(
         FromRead::new(bytes.as_slice()),
-        Watch::new(&desk, "records", 100, screen),
+        Watch::new(&desk, 100, screen),
     );
     let mut buffer = [0u8; 1];
     for time in times {
@@ -110,18 +111,79 @@ fn records_of_prices_that_pass_by(rt: HostRuntime) -> Result<(), Fail> {
 /// What is shown is never wider than nineteen columns.
 #[test]
 fn lines_that_fit(rt: HostRuntime) {
-    for (count, name, limit, wanted) in [
-        (0, "nodes", 0, "0 nodes 100%"),
-        (0, "nodes", 1, "0 nodes 0%"),
-        (99_999, "records", 100_000, "99999 records 99%"),
-        (100_000, "records", 100_000, "100k records 100%"),
-        (12_345_678, "records", 100_000_000, "12345k records 12%"),
-        (99_999_999, "records", 99_999_999, "99999k records 100%"),
-        (100_000_000, "nodes", 1_000_000_000, "100M nodes 10%"),
-        (u64::MAX, "records", u64::MAX, "18446P records 100%"),
+    for (count, limit, wanted) in [
+        (0, 0, "0 records 100%"),
+        (0, 1, "0 records 0%"),
+        (99_999, 100_000, "99999 records 99%"),
+        (100_000, 100_000, "100k records 100%"),
+        (12_345_678, 100_000_000, "12345k records 12%"),
+        (99_999_999, 99_999_999, "99999k records 100%"),
+        (100_000_000, 1_000_000_000, "100M records 10%"),
+        (u64::MAX, u64::MAX, "18446P records 100%"),
     ] {
-        let line = line_of(count, name, limit);
+        let line = line_of(count, limit);
         assert_eq!(rt; line.as_str(), wanted);
         assert!(rt; line.as_str().len() <= 19, "{wanted}");
+    }
+}
+
+#[test]
+fn lines_of_counts_and_searches(rt: HostRuntime) {
+    for (games, wanted) in [
+        (0, "0 games"),
+        (84_998_978_956, "84998M games"),
+        (u64::MAX, "18446P games"),
+    ] {
+        assert_eq!(rt; count_line(games).as_str(), wanted);
+    }
+    for (plies, nodes, limit, wanted) in [
+        (0, 0, 1_000_000, "0.0 0 0%"),
+        (11, 428, 1_000_000, "5.5 428 0%"),
+        (24, 32_105_000, 80_000_000, "12.0 32105k 40%"),
+        (128, 99_999_999, 99_999_999, "64.0 99999k 100%"),
+    ] {
+        assert_eq!(rt; search_line(plies, nodes, limit).as_str(), wanted);
+    }
+}
+
+/// A desk at this time.
+fn desk_at(millis: u64) -> Desk {
+    Desk {
+        millis: Cell::new(millis),
+        prints: Cell::new(0),
+    }
+}
+
+/// After a second the line of a count is shown, and taken away once; without a screen nothing is.
+#[test]
+fn counts_that_are_shown(rt: HostRuntime) {
+    for (screen, wanted) in [(true, (1, 2)), (false, (0, 0))] {
+        let desk = desk_at(7);
+        let mut line = CountLine::new(&desk, screen);
+        line.counted(20);
+        desk.millis.set(1007);
+        line.counted(400);
+        let shown = desk.prints.get();
+        line.end();
+        line.end();
+        assert_eq!(rt; (shown, desk.prints.get()), wanted);
+    }
+}
+
+/// The clock is asked once in 1,024 turns.
+#[test]
+fn searches_that_are_shown(rt: HostRuntime) {
+    for (screen, wanted) in [(true, (0, 1, 2)), (false, (0, 0, 0))] {
+        let desk = desk_at(7);
+        let mut line = SearchLine::new(&desk, 5000, screen);
+        desk.millis.set(1007);
+        for left in 0..1023u64 {
+            line.reached(8, left);
+        }
+        let before = desk.prints.get();
+        line.reached(8, 1);
+        let shown = desk.prints.get();
+        line.end();
+        assert_eq!(rt; (before, shown, desk.prints.get()), wanted);
     }
 }

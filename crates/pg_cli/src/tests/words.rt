@@ -30,6 +30,7 @@ fn words_that_are_refused(rt: HostRuntime) -> Result<(), Fail> {
         ],
         &["search", "8/8", "0", "no/such/file"],
         &["search", ARRAY, "64.5", "no/such/file"],
+        &["why", ARRAY, "0", "no/such/file"],
     ] {
         assert_eq!(rt; status_of(&rt, words)?, 2, "{words:?}");
     }
@@ -49,6 +50,7 @@ fn files_that_cannot_be_opened(rt: HostRuntime) -> Result<(), Fail> {
         ]
         .as_slice(),
         &["check", "8/8", "64.5", "no/such/file"],
+        &["why", "8/8", "64.5", "no/such/file", "-"],
         &["search", ARRAY, "0", "no/such/file", "--nodes=0"],
         &["search", ARRAY, "0", "/dev/full"],
         &["search", ARRAY, "0", "/dev/null"],
@@ -60,6 +62,7 @@ fn files_that_cannot_be_opened(rt: HostRuntime) -> Result<(), Fail> {
     }
     assert_eq!(rt; status_of(&rt, &["--help"])?, 0);
     assert_eq!(rt; status_of(&rt, &["check", "--help"])?, 0);
+    assert_eq!(rt; status_of(&rt, &["why", "--help"])?, 0);
     assert_eq!(rt; status_of(&rt, &["--version"])?, 0);
     Ok(())
 }

@@ -1,14 +1,14 @@
-use Rattle.std.proofs.Common.{◌<◌, ◌≤◌, ◌-◌}
-use Rattle.pg_moves.specs.Places.{place_of, IsListBelow}
+use Rattle.std.proofs.Common.{◌≡◌, ◌-◌}
+use Rattle.pg_moves.specs.Places.{start_after, IsListBelow}
+use Rattle.pg_moves.proofs.SearchLemmas.{IsGood}
 use Rattle.pg_moves.proofs.generate.legal_moves.Given as goal
 
 abbrev pub invariant-loop-m : goal.invariant-loop-m
 invariant-loop-m l = record {
-  source : l.from < 64;
-  target : l.to < 64;
-  place : l.rank ≤ 7;
-  list : IsListBelow l.position (place_of l.from l.to l.rank) l.moves.items;
+  position : l.left.position ≡ l.position;
+  good : IsGood l.left.last;
+  list : IsListBelow l.position (start_after l.left.last) l.moves.items;
 }
 
 abbrev pub decreases-loop-m : goal.decreases-loop-m
-decreases-loop-m l = 28672 - place_of l.from l.to l.rank
+decreases-loop-m l = 28672 - start_after l.left.last

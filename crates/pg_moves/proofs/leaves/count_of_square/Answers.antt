@@ -1,6 +1,8 @@
-use Rattle.std.proofs.Common.{sym, ◌∙◌}
-use Rattle.pg_moves.proofs.SearchLemmas.{own_some}
+use Rattle.std.proofs.Common.{arith}
+use Rattle.pg_moves.specs.Sources.{IsSource}
+use Rattle.pg_moves.proofs.LeafLemmas.{exact_adds}
 use Rattle.pg_moves.proofs.leaves.count_of_square.Goals as goal
 
-pub returns-in-None-clause-count : goal.returns-in-None-clause-count
-returns-in-None-clause-count c = absurd (own_some c.args.position.now.board c.args.position.now.side c.args.from c.requires.own (rw c.requires.same at (sym c.get.ensures ∙ c.in-None.is)))
+pub returns-then-source-clause-count : goal.returns-then-source-clause-count
+unfolding IsSource
+returns-then-source-clause-count c = exact_adds c.args.position.now c.args.from c.source_at-source.result.set (c.source_at-source.ensures.1 c.if-source.true) (omega arith)

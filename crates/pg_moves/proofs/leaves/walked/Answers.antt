@@ -4,7 +4,7 @@ use Rattle.pg_moves.proofs.LeafLemmas.{walk_start, walk_step, walk_far, walk_end
 use Rattle.pg_moves.proofs.leaves.walked.Goals as goal
 
 pub loop-m-init : goal.loop-m-init
-loop-m-init c = record { target = omega arith; place = omega arith; bound = omega arith; covers = c.targets-set.ensures; walked = walk_start c.args.position.now (place_of c.args.from 0 0) }
+loop-m-init c = record { target = omega arith; place = omega arith; bound = omega arith; covers = c.requires.covers; walked = walk_start c.args.position.now (place_of c.args.from 0 0) }
 
 pub loop-m-preserved : goal.loop-m-preserved
 loop-m-preserved c = record {

@@ -1,4 +1,4 @@
-use Rattle.pg_moves.proofs.TargetLemmas.{set_one}
+use Rattle.pg_position.proofs.SetLemmas.{set_one}
 use Rattle.pg_moves.proofs.targets.single.Goals as goal
 
 pub returns : goal.returns

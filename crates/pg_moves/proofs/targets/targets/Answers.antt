@@ -1,12 +1,8 @@
-use Rattle.std.proofs.Common.{arith}
-use Rattle.pg_moves.proofs.TargetLemmas.{covers_pawn, covers_king, covers_piece}
+use Rattle.pg_moves.proofs.TargetLemmas.{covers_pawn, covers_piece}
 use Rattle.pg_moves.proofs.targets.targets.Goals as goal
 
 pub returns-in-Pawn : goal.returns-in-Pawn
-returns-in-Pawn c = covers_pawn c.args.position.now c.args.kind c.args.from c.requires c.board-board.result c.side-side.result c.board-board.ensures.value c.side-side.ensures.value c.advances.result c.passes.result c.in-Pawn.is c.advances.ensures c.passes.ensures
-
-pub returns-in-King : goal.returns-in-King
-returns-in-King c = covers_king c.args.position.now c.args.kind c.args.from c.requires c.board-board.result c.side-side.result c.board-board.ensures.value c.side-side.ensures.value c.advances-in-King.result c.castles.result c.occupied.result c.in-King.is (omega arith) c.advances-in-King.ensures (rw c.rights.ensures at c.castles.ensures) c.occupied.ensures
+returns-in-Pawn c = covers_pawn c.args.position.now c.args.kind c.args.from c.requires.stands c.board-board.result c.side-side.result c.board-board.ensures.value c.side-side.ensures.value c.advances.result c.passes.result c.in-Pawn.is c.advances.ensures c.passes.ensures
 
 pub returns-in_default : goal.returns-in_default
-returns-in_default c = covers_piece c.args.position.now c.args.kind c.args.from c.requires c.board-board.result c.side-side.result c.board-board.ensures.value c.side-side.ensures.value c.advances-in_default.result c.in_default.not-Pawn c.in_default.not-King c.advances-in_default.ensures
+returns-in_default c = covers_piece c.args.position.now c.args.kind c.args.from c.requires.stands c.board-board.result c.side-side.result c.board-board.ensures.value c.side-side.ensures.value c.advances-in_default.result c.in_default.not-Pawn c.requires.king c.advances-in_default.ensures

@@ -6,7 +6,7 @@ use Rattle.pg_moves.proofs.left.LegalMoves.following.Goals as goal
 
 pub returns-in-Some : goal.returns-in-Some
 unfolding IsAhead
-returns-in-Some c = (next_same c.args.position.now c.args.last.now c.index-from.ensures.bound c.index-to.ensures.bound (place_of c.args.last.now.from c.index-to.result (c.rank_of-rank.result + 1)) (place_of (c.args.last.now.from + 1) 0 0) (omega arith) (omega arith) c.in-Some.m c.in-Some.ensures, (c.requires.free, source_there c.args.position.now c.args.last.now.from c.index-to.result (c.rank_of-rank.result + 1) c.in-Some.m c.args.source (omega arith) c.in-Some.ensures c.requires.source))
+returns-in-Some c = (next_same c.args.position.now c.args.last.now c.index-from.ensures.bound c.index-to.ensures.bound (place_of c.args.last.now.from c.index-to.result (c.rank_of-rank.result + 1)) (place_of (c.args.last.now.from + 1) 0 0) (omega arith) (omega arith) c.in-Some.m c.in-Some.ensures, (c.requires.free, source_there c.args.position.now c.args.last.now.from c.index-to.result (c.rank_of-rank.result + 1) c.in-Some.m c.args.source.now (omega arith) c.in-Some.ensures c.requires.source))
 
 pub returns-in-Some-first_beyond : goal.returns-in-Some-first_beyond
 unfolding IsAhead

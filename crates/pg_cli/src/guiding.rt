@@ -1,0 +1,115 @@
+//! `pg why`: a certificate explains a line of moves.
+ghost use Rattle.std.specs.Prelude.{OnOk};
+ghost use Rattle.pg_cli.specs.Answers.{IsRight};
+
+use crate::checking::{NAMED, RECORDS};
+use crate::gathered::Gathered;
+use crate::names::FileName;
+use crate::progress::{Watch, Watched};
+use crate::refusals::{DONE, Refusal};
+use clap::ArgMatches;
+use pg_guide::{Asked, WhyFault, why as explain};
+use pg_report::{Bound, FromRead, Refused, RunFault, Sink, ToWrite};
+use std::fs::File;
+use std::io;
+use std::io::{Read, Write};
+use std::rt::Runtime;
+
+// Why a line is not explained, as a refusal.
+fn refusal_of<'a>(fault: WhyFault) -> Refusal<'a> {
+    match fault {
+        WhyFault::Moves => Refusal::Line,
+        WhyFault::Run(fault) => Refusal::Check(fault),
+    }
+}
+
+// The status once the explanation is wholly written.
+fn done<'a, W: Sink + Drop>(out: Gathered<W>) -> Result<u8, Refusal<'a>> {
+    match out.finish() {
+        Ok(_) => Ok(DONE),
+        Err(Refused) => Err(Refusal::Check(RunFault::Write)),
+    }
+}
+
+/// Explains a line by the certificate that each of three readers gives, and writes what it says. A status
+/// means that a list of games is the exact answer to the diagram and the length: the check of the
+/// certificate has said yes.
+///
+/// # Errors
+/// `Line` where the moves are not one game, else `Check` with the fault of the texts, of the certificate or of
+/// the writer.
+pub(crate) fn why_from<'a, R: Runtime + AllocGlobal, C: Read + Drop, W: Write + Drop>(
+    rt: &R,
+    asked: &Asked<'_>,
+    bounds: &[Box<dyn Bound>],
+    certificates: (C, C, C),
+    out: W,
+    records: u64,
+    screen: bool,
+) -> Result<u8, Refusal<'a>>
+    ensures right { OnOk result (IsRight asked.now.diagram.now asked.now.length.now) }
+{
+    let (walked, checked, cited) = certificates;
+    let mut walked = watched(rt, walked, records, screen);
+    let mut checked = watched(rt, checked, records, screen);
+    let mut cited = watched(rt, cited, records, false);
+    let mut out = Gathered::new(ToWrite::new(out));
+    let answer = explain(
+        rt.alloc(),
+        asked,
+        bounds,
+        &mut walked,
+        &mut checked,
+        &mut cited,
+        &mut out,
+        records,
+        NAMED,
+    );
+    walked.end();
+    checked.end();
+    cited.end();
+    match answer {
+        Ok(()) => done(out),
+        Err(fault) => {
+            let _ = out.finish();
+            Err(refusal_of(fault))
+        }
+    }
+}
+
+// A certificate whose records are counted.
+fn watched<'a, R: Runtime, C: Read + Drop>(
+    rt: &'a R,
+    certificate: C,
+    records: u64,
+    screen: bool,
+) -> Watched<'a, FromRead<C>, R> {
+    Watched::new(FromRead::new(certificate), Watch::new(rt, records, screen))
+}
+
+// A file of this name.
+fn open<'a, R: Runtime + AllocGlobal>(rt: &R, path: &'a str) -> Result<R::File, Refusal<'a>> {
+    match File::open(rt, path) {
+        Ok(file) => Ok(file),
+        Err(_) => Err(Refusal::Open(FileName(path))),
+    }
+}
+
+/// `pg why`: the certificate of a file explains a line on standard output.
+pub(crate) fn why<'a, R: Runtime + AllocGlobal>(
+    rt: &R,
+    words: &ArgMatches<'a>,
+    bounds: &[Box<dyn Bound>],
+    screen: bool,
+) -> Result<u8, Refusal<'a>> {
+    let path = words.get_str("CERT").unwrap_or("");
+    let certificates = (open(rt, path)?, open(rt, path)?, open(rt, path)?);
+    let asked = Asked {
+        diagram: words.get_str("DIAGRAM").unwrap_or(""),
+        length: words.get_str("LENGTH").unwrap_or(""),
+        moves: words.get_str("MOVES").unwrap_or(""),
+    };
+    let records = words.get_one::<u64>("records").unwrap_or(RECORDS);
+    let out = io::writer(rt);
+    why_from(rt, &asked, bounds, certificates, out, records, screen)
+}

@@ -1,0 +1,101 @@
+//! How far a long count or search is, on the terminal.
+
+use crate::line::{Line, WIDTH};
+use crate::progress::{scaled, share};
+use arrayvec::ArrayString;
+use pg_report::{Length, Progress, SearchProgress};
+use std::fmt::Write;
+use std::io::Eprint;
+use std::time::Clock;
+
+/// The clock is asked once in so many turns of a search.
+const TURNS: u32 = 1024;
+
+/// Shows how many games are counted.
+#[derive(Drop)]
+pub(crate) struct CountLine<'a, R> {
+    line: Line<'a, R>,
+    games: u64,
+}
+
+impl<'a, R: Clock + Eprint> CountLine<'a, R> {
+    /// With no game counted; shown where there is a screen.
+    pub(crate) fn new(rt: &'a R, screen: bool) -> CountLine<'a, R> {
+        CountLine {
+            line: Line::new(rt, screen),
+            games: 0,
+        }
+    }
+
+    /// Takes the line away.
+    pub(crate) fn end(&mut self) {
+        self.line.end();
+    }
+}
+
+/// The line of a count.
+pub(crate) fn count_line(games: u64) -> ArrayString<WIDTH> {
+    let mut line = ArrayString::new();
+    let (number, unit) = scaled(games);
+    let _ = write!(line, "{number}{unit} games");
+    line
+}
+
+impl<R: Clock + Eprint> Progress for CountLine<'_, R> {
+    fn counted(&mut self, games: u64) {
+        self.games = self.games.saturating_add(games);
+        if self.line.is_due() {
+            self.line.show(count_line(self.games).as_str());
+        }
+    }
+}
+
+/// Shows how many nodes a search has visited, how many of its limit those are, and the length of the
+/// tree at work.
+#[derive(Drop)]
+pub(crate) struct SearchLine<'a, R> {
+    line: Line<'a, R>,
+    limit: u64,
+    turns: u32,
+}
+
+impl<'a, R: Clock + Eprint> SearchLine<'a, R> {
+    /// Of a search of so many nodes at most; shown where there is a screen.
+    pub(crate) fn new(rt: &'a R, limit: u64, screen: bool) -> SearchLine<'a, R> {
+        SearchLine {
+            line: Line::new(rt, screen),
+            limit,
+            turns: 0,
+        }
+    }
+
+    /// Takes the line away.
+    pub(crate) fn end(&mut self) {
+        self.line.end();
+    }
+}
+
+/// The line of a search: the length of the tree, the nodes, and their share of the limit.
+pub(crate) fn search_line(plies: u8, nodes: u64, limit: u64) -> ArrayString<WIDTH> {
+    let mut line = ArrayString::new();
+    if let Some(length) = Length::from_plies(plies) {
+        let (number, unit) = scaled(nodes);
+        let share = share(nodes, limit);
+        let _ = write!(line, "{} {number}{unit} {share}%", length.write().as_str());
+    }
+    line
+}
+
+impl<R: Clock + Eprint> SearchProgress for SearchLine<'_, R> {
+    fn reached(&mut self, plies: u8, left: u64) {
+        if !self.line.is_on() {
+            return;
+        }
+        self.turns = self.turns.wrapping_add(1);
+        if self.turns % TURNS == 0 && self.line.is_due() {
+            let nodes = self.limit.saturating_sub(left);
+            self.line
+                .show(search_line(plies, nodes, self.limit).as_str());
+        }
+    }
+}

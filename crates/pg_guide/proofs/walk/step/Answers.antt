@@ -1,0 +1,4 @@
+use Rattle.pg_guide.proofs.walk.step.Goals as goal
+
+pub after-next_position-requires : goal.after-next_position-requires
+after-next_position-requires g c = rw c.position-position.ensures c.in-Some.ensures.answer.legal

@@ -1,0 +1,229 @@
+//! A line of moves is explained by a certificate.
+ghost use Rattle.std.specs.Prelude.{◌≡◌, ◌⊎◌, ℕ, List, true, false, length, IfOk, IfErr, OnOk};
+ghost use Rattle.pg_checker.specs.Cuts.{rules_by};
+ghost use Rattle.pg_guide.specs.Why.{IsLineFault, IsProved, IsWhyFault};
+
+use crate::fault::WhyFault;
+use crate::machine::{Cited, Ending, Machine, Question, Stop};
+use crate::walk::walk;
+use crate::writing::{put_found, put_verdict};
+use pg_captures::Bound;
+use pg_certificate::{Record, Sink, Source};
+use pg_checker::{Fault, check};
+use pg_position::Move;
+use pg_report::{Problem, RunFault};
+use pg_san::{Games, read_games};
+use std::alloc::Global;
+
+/// What is asked: the texts of a diagram, of a length in moves, and of the moves of one game from the
+/// initial array, in any spelling that a list of games reads; `-` for none.
+#[derive(Clone, Copy)]
+pub struct Asked<'a> {
+    pub diagram: &'a str,
+    pub length: &'a str,
+    pub moves: &'a str,
+}
+
+/// What the walks found: along the line, of the node that it refers to, and whether the whole certificate
+/// was walked over.
+#[derive(Drop)]
+struct Findings {
+    machine: Machine,
+    cited: Option<Cited>,
+    is_whole: bool,
+}
+
+// The game that a text is, as the one game of a list.
+fn line_of(alloc: Global, text: &str) -> Result<Games, WhyFault>
+    ensures listing { IfOk result (λ games. length games ≡ 1) }
+    ensures err { IfErr result (λ e. IsLineFault text.now e) }
+{
+    match read_games(alloc, text) {
+        Ok(games) => {
+            if games.len() == 1 {
+                Ok(games)
+            } else {
+                Err(WhyFault::Moves)
+            }
+        }
+        Err(fault) => Err(WhyFault::Run(RunFault::Games(fault))),
+    }
+}
+
+// The node that a line's reference names, found by a second walk; none where the line does not end at one.
+fn cited_by<R: Source>(
+    alloc: Global,
+    question: &Question,
+    machine: &Machine,
+    source: &mut R,
+    records: u64,
+) -> Result<Option<Cited>, Stop> {
+    let Some(Ending::Said(Record::Ref(number))) = &machine.ending else {
+        return Ok(None);
+    };
+    let question = Question {
+        diagram: question.diagram,
+        plies: question.plies,
+        line: &[],
+        wanted: Some(*number),
+    };
+    match walk(alloc, &question, source, records) {
+        (_, Err(Stop::Refused)) => Ok(None),
+        (_, Err(stop)) => Err(stop),
+        (machine, Ok(())) => {
+            let Machine { cited, .. } = machine;
+            Ok(cited)
+        }
+    }
+}
+
+// What is found along the line by the walks; what stops them, unless it is the certificate.
+fn found<R: Source>(
+    alloc: Global,
+    question: &Question,
+    walked: &mut R,
+    cited: &mut R,
+    records: u64,
+) -> Result<Findings, Stop> {
+    let (machine, answer) = walk(alloc, question, walked, records);
+    match answer {
+        Ok(()) => {}
+        Err(Stop::Refused) => {
+            return Ok(Findings {
+                machine,
+                cited: None,
+                is_whole: false,
+            });
+        }
+        Err(stop) => return Err(stop),
+    }
+    match cited_by(alloc, question, &machine, cited, records) {
+        Ok(cited) => Ok(Findings {
+            machine,
+            cited,
+            is_whole: true,
+        }),
+        Err(stop) => Err(stop),
+    }
+}
+
+// Why a walk that stops is a fault of the check.
+fn fault_of(stop: Stop) -> WhyFault
+    ensures { (result ≡ WhyFault.Run (RunFault.Check Fault.Memory)) ⊎ (result ≡ WhyFault.Run (RunFault.Check Fault.Read)) }
+{
+    match stop {
+        Stop::Memory => WhyFault::Run(RunFault::Check(Fault::Memory)),
+        Stop::Read | Stop::Refused => WhyFault::Run(RunFault::Check(Fault::Read)),
+    }
+}
+
+// Writes what was found, and then the verdict of the check.
+fn tell<W: Sink>(
+    question: &Question,
+    found: &Findings,
+    fault: Option<&Fault>,
+    out: &mut W,
+) -> Result<(), WhyFault>
+    ensures runs { OnOk result (W.has_failed out.new ≡ false) }
+    ensures err { IfErr result (λ e. (e ≡ WhyFault.Run RunFault.Write) × (W.has_failed out.new ≡ true)) }
+{
+    if found.is_whole {
+        match put_found(question, &found.machine, &found.cited, out) {
+            Ok(()) => {}
+            Err(_) => return Err(WhyFault::Run(RunFault::Write)),
+        }
+    }
+    match put_verdict(fault, out) {
+        Ok(()) => Ok(()),
+        Err(_) => Err(WhyFault::Run(RunFault::Write)),
+    }
+}
+
+// Whether the check was stopped by the machine that it runs on, and not by the certificate.
+fn is_interrupted(fault: &Fault) -> bool {
+    matches!(fault, Fault::Memory | Fault::Read)
+}
+
+// The check does not say yes: what was found is written all the same, unless the check was stopped.
+fn refuse<W: Sink>(question: &Question, found: &Findings, fault: Fault, out: &mut W) -> WhyFault
+    ensures { ((result ≡ WhyFault.Run RunFault.Write) × (W.has_failed out.new ≡ true)) ⊎ (result ≡ WhyFault.Run (RunFault.Check fault)) }
+{
+    if !is_interrupted(&fault) {
+        match tell(question, found, Some(&fault), out) {
+            Ok(()) => {}
+            Err(fault) => return fault,
+        }
+    }
+    WhyFault::Run(RunFault::Check(fault))
+}
+
+/// Explains what a certificate says along a line of moves, and writes that: a line for each ply to where
+/// the line or the proof ends, and last `the certificate is right`, or why it is not. docs/FORMATS.md has
+/// the lines; nothing is proved of those before the last. Ok means that the check said yes.
+///
+/// The certificate is read up to three times, each time from its start: by `walked` for what stands along
+/// the line, and for the games of the stated length that end on the diagram; by `checked` for the check, as
+/// `check` does with these games; and by `cited`, where the line ends at a reference, up to the node that it
+/// names. Each reading takes `max_records` records at most, and the check `max_named` named nodes. The games and
+/// the named nodes are taken from `alloc`; nothing else takes memory.
+///
+/// # Errors
+/// In this order: `Run` with `Diagram` and `Length` where that text is refused, and with `Games` where the
+/// moves are, as a list of games; `Moves` where they are not one game; `Run` with `Check` where a reading
+/// fails or memory is refused, and where the check does not say yes; `Run` with `Write` where the sink has
+/// failed. With a fault of the certificate what stands along the line is written all the same, if the whole
+/// certificate could be walked over, and the fault as the last line; with the others nothing is, but for what
+/// went out before `Write`.
+pub fn why<R: Source, W: Sink>(
+    alloc: Global,
+    asked: &Asked<'_>,
+    bounds: &[Box<dyn Bound>],
+    walked: &mut R,
+    checked: &mut R,
+    cited: &mut R,
+    out: &mut W,
+    max_records: u64,
+    max_named: u32,
+) -> Result<(), WhyFault>
+    ensures right { OnOk result (IsProved (λ d n list. rules_by (λ b. code_of b) (λ b. excluded b) d n list bounds.now) asked.now.diagram.now asked.now.length.now max_records max_named (R.left checked.old)) }
+    ensures runs { OnOk result (W.has_failed out.new ≡ false) }
+    ensures err { IfErr result (λ e. IsWhyFault (λ d n list. rules_by (λ b. code_of b) (λ b. excluded b) d n list bounds.now) asked.now.diagram.now asked.now.length.now asked.now.moves.now max_records max_named (R.left checked.old) (R.has_failed checked.new) (W.has_failed out.new) e) }
+{
+    let problem = match Problem::read(asked.diagram, asked.length) {
+        Ok(problem) => problem,
+        Err(fault) => return Err(WhyFault::Run(fault)),
+    };
+    let games = match line_of(alloc, asked.moves) {
+        Ok(games) => games,
+        Err(fault) => return Err(fault),
+    };
+    let Some(line) = games.game(0) else {
+        unreachable!()
+    };
+    let question = Question {
+        diagram: &problem.diagram,
+        plies: problem.length.plies(),
+        line,
+        wanted: None,
+    };
+    let found = match found(alloc, &question, walked, cited, max_records) {
+        Ok(found) => found,
+        Err(stop) => return Err(fault_of(stop)),
+    };
+    match check(
+        alloc,
+        &problem.diagram,
+        problem.length,
+        &found.machine.games,
+        bounds,
+        checked,
+        max_records,
+        max_named,
+    ) {
+        Ok(_) => match tell(&question, &found, None, out) {
+            Ok(()) => Ok(()),
+            Err(fault) => Err(fault),
+        },
+        Err(fault) => Err(refuse(&question, &found, fault, out)),
+    }
+}

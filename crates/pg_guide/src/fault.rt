@@ -1,0 +1,16 @@
+//! Why a line is not explained.
+
+use pg_report::RunFault;
+use thiserror::Error;
+
+/// Why a line of moves is not explained by a certificate that is right.
+#[derive(Debug, PartialEq, Eq, Drop, Error)]
+pub enum WhyFault {
+    /// The text of the moves is not one game: it has no line with words, or more than one.
+    #[error("not one line of moves")]
+    Moves,
+    /// As for a check: a text is refused, where the moves stand for the list of games, or the certificate
+    /// is, or the sink has failed.
+    #[error("{0}")]
+    Run(RunFault),
+}

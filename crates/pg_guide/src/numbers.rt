@@ -1,0 +1,114 @@
+//! How many moves a colour has left, and what a cut by captures, promotions or pawn files says.
+
+use crate::names::{Phrase, color_name, many};
+use crate::sentences::Sentence;
+use pg_board::Color;
+use pg_captures::{owed, pawns, plies_left, shortage};
+use pg_fen::Diagram;
+use pg_pawns::shift_need;
+use pg_position::Position;
+use std::fmt::Write;
+
+/// A place in a proof: the diagram to come to, the position, and the plies left.
+#[derive(Drop)]
+pub(crate) struct Place<'a> {
+    pub(crate) diagram: &'a Diagram,
+    pub(crate) position: &'a Position,
+    pub(crate) left: u8,
+}
+
+/// The colour's plies among those that are left.
+pub(crate) fn own_plies(place: &Place, color: Color) -> u8 {
+    plies_left(place.position.side(), color, place.left)
+}
+
+// That a colour has captured more men than the diagram lacks.
+fn too_many(color: Color, owed: i16) -> Sentence {
+    let mut text = Sentence::new();
+    let color = color_name(color);
+    let men = many(u64::from(owed.unsigned_abs()), "man", "men");
+    let men = men.as_str();
+    let _ = write!(text, "{color} has captured {men} too many");
+    text
+}
+
+/// Why captures exclude a colour: it owes fewer than none, or more than it has moves left; none where
+/// they do not.
+pub(crate) fn captures_of(place: &Place, color: Color) -> Option<Sentence> {
+    let owed = owed(color, place.diagram, place.position);
+    let own = own_plies(place, color);
+    if owed < 0 {
+        return Some(too_many(color, owed));
+    }
+    if owed <= i16::from(own) {
+        return None;
+    }
+    let mut text = Sentence::new();
+    let color = color_name(color);
+    let men = many(u64::from(owed.unsigned_abs()), "man", "men");
+    let moves = many(u64::from(own), "move", "moves");
+    let (men, moves) = (men.as_str(), moves.as_str());
+    let _ = write!(text, "{color} must capture {men} and has {moves} left");
+    Some(text)
+}
+
+/// Why promotions exclude a colour: pawns are short for the pieces that it lacks and the pawns of the
+/// diagram; none where they do not.
+pub(crate) fn promotions_of(place: &Place, color: Color) -> Option<Sentence> {
+    let wanted = place.diagram.board();
+    let board = place.position.board();
+    let pieces = shortage(&wanted, &board, color);
+    let needed = pieces.saturating_add(u16::from(pawns(&wanted, color)));
+    let here = u16::from(pawns(&board, color));
+    if needed <= here {
+        return None;
+    }
+    let mut text = Sentence::new();
+    let color = color_name(color);
+    let needs = many(u64::from(needed), "pawn", "pawns");
+    let promoted = if pieces > 0 {
+        let mut words = Phrase::new();
+        let _ = write!(words, ", {pieces} of them to promote,");
+        words
+    } else {
+        Phrase::new()
+    };
+    let short = needed.saturating_sub(here);
+    let (needs, promoted) = (needs.as_str(), promoted.as_str());
+    let _ = write!(
+        text,
+        "{color} needs {needs}{promoted} and has {here}: {short} short"
+    );
+    Some(text)
+}
+
+/// Why changes of file exclude a colour, so many as its pawns need: it owes fewer captures; none where
+/// they do not.
+pub(crate) fn files_by(place: &Place, color: Color, shift: u16) -> Option<Sentence> {
+    let owed = owed(color, place.diagram, place.position);
+    if owed < 0 {
+        return Some(too_many(color, owed));
+    }
+    if shift <= owed.unsigned_abs() {
+        return None;
+    }
+    let mut text = Sentence::new();
+    let color = color_name(color);
+    let times = many(u64::from(shift), "time", "times");
+    let men = many(u64::from(owed.unsigned_abs()), "man", "men");
+    let (times, men) = (times.as_str(), men.as_str());
+    let _ = write!(
+        text,
+        "{color}'s pawns must change file {times}, and {color} has {men} to capture"
+    );
+    Some(text)
+}
+
+/// The same with the changes of file that the lines between files show.
+pub(crate) fn files_of(place: &Place, color: Color) -> Option<Sentence> {
+    files_by(
+        place,
+        color,
+        shift_need(color, place.diagram, place.position),
+    )
+}

@@ -1,0 +1,73 @@
+//! What is said of a node that ends.
+
+use crate::machine::Ending;
+use crate::numbers::{Place, captures_of, files_of, promotions_of};
+use crate::prices::prices_of;
+use crate::travel::travel_of;
+use arrayvec::ArrayString;
+use pg_board::Color;
+use pg_certificate::Record;
+use std::fmt::Write;
+
+/// What is said of a node. What would be longer is cut off.
+pub(crate) type Sentence = ArrayString<320>;
+
+// Why the bound with this code excludes a colour; none where it does not, or is not known.
+fn reason_of(place: &Place, code: u8, color: Color) -> Option<Sentence> {
+    match code {
+        1 => captures_of(place, color),
+        2 => promotions_of(place, color),
+        3 => files_of(place, color),
+        4 => travel_of(place, color),
+        _ => None,
+    }
+}
+
+// The same for either colour, White first.
+fn reason(place: &Place, code: u8) -> Option<Sentence> {
+    match reason_of(place, code, Color::White) {
+        Some(text) => Some(text),
+        None => reason_of(place, code, Color::Black),
+    }
+}
+
+// What is said of a cut, with why it excludes.
+fn excluded(code: u8, reason: Option<Sentence>) -> Sentence {
+    let mut text = Sentence::new();
+    let _ = match reason {
+        Some(reason) => {
+            let reason = reason.as_str();
+            write!(text, "excluded: {reason}")
+        }
+        None => write!(text, "cut by bound {code}, which is not seen to exclude"),
+    };
+    text
+}
+
+// What is said of a record; a reference is told elsewhere, where its node is known.
+fn recorded(place: &Place, record: &Record) -> Sentence {
+    match record {
+        Record::Cut(code) => excluded(*code, reason(place, *code)),
+        Record::Priced {
+            code,
+            color,
+            prices,
+        } => excluded(*code, prices_of(place, *code, *color, prices)),
+        Record::Ref(_) | Record::Expand { .. } => said("a reference to no closed node"),
+    }
+}
+
+fn said(words: &str) -> Sentence {
+    let mut text = Sentence::new();
+    let _ = write!(text, "{words}");
+    text
+}
+
+/// What is said of a node that ends.
+pub(crate) fn ended(place: &Place, ending: &Ending) -> Sentence {
+    match ending {
+        Ending::Leaf(true) => said("a solution"),
+        Ending::Leaf(false) => said("does not end on the diagram"),
+        Ending::Said(record) => recorded(place, record),
+    }
+}

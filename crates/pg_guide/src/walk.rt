@@ -1,0 +1,298 @@
+//! The walk over the trees of a certificate, with a stack of open nodes.
+
+ghost use Rattle.std.specs.Prelude.{◌≡◌, IfSome};
+ghost use Rattle.pg_moves.specs.Moves.{IsLegal};
+
+use crate::machine::{Cited, Ending, Frame, Machine, Question, Stop, Tally, game_along};
+use crate::play::after;
+use arrayvec::ArrayVec;
+use pg_certificate::{ReadFault, Record, RecordReader, Source};
+use pg_checker::pass_over;
+use pg_fen::Diagram;
+use pg_moves::LegalMoves;
+use pg_position::{Move, Position};
+use pg_san::{AddFault, Games};
+use std::alloc::Global;
+
+// Why the walk stops where a header or a record is not read.
+fn stop_of(fault: ReadFault) -> Stop {
+    match fault {
+        ReadFault::Read => Stop::Read,
+        _ => Stop::Refused,
+    }
+}
+
+// The next record.
+fn next<S: Source>(machine: &mut Machine, source: &mut S) -> Result<Record, Stop> {
+    if machine.records == 0 {
+        return Err(Stop::Refused);
+    }
+    machine.records -= 1;
+    match machine.reader.next_record(source) {
+        Ok(record) => Ok(record),
+        Err(fault) => Err(stop_of(fault)),
+    }
+}
+
+// Whether the line goes on from a node, which it comes to after so many moves, by this move.
+fn goes_on(question: &Question, on_line: bool, depth: usize, m: &Move) -> bool {
+    on_line && question.line.get(depth) == Some(m)
+}
+
+// A node with so many plies left opens, if its record says so; else it may end the line.
+fn enter(
+    machine: &mut Machine,
+    position: &Position,
+    left: u8,
+    record: &Record,
+    on_line: bool,
+) -> Result<(), Stop> {
+    let Record::Expand { named } = record else {
+        if on_line {
+            machine.ending = Some(Ending::Said(*record));
+        }
+        return Ok(());
+    };
+    let frame = Frame {
+        moves: LegalMoves::new(position),
+        left: left.saturating_sub(1),
+        named: *named,
+        on_line,
+        tally: Tally::default(),
+    };
+    match machine.frames.try_push(frame) {
+        Ok(()) => Ok(()),
+        Err(_) => Err(Stop::Refused),
+    }
+}
+
+// A game of the tree's length ends on the diagram. The list takes it where that is the stated length.
+fn end(question: &Question, machine: &mut Machine, game: &[Move]) -> Result<(), Stop> {
+    if machine.tree != question.plies || question.wanted.is_some() {
+        return Ok(());
+    }
+    match machine.games.add(game) {
+        Err(AddFault::Memory) => Err(Stop::Memory),
+        _ => Ok(()),
+    }
+}
+
+// A node closes: a named one takes its number, and one on the line is kept.
+fn close(question: &Question, machine: &mut Machine, top: &Frame) {
+    machine.below = top.tally.games;
+    if top.on_line {
+        let _ = machine.tallies.try_push(top.tally);
+    }
+    if !top.named {
+        return;
+    }
+    if question.wanted == Some(machine.closed) {
+        machine.cited = Some(Cited {
+            line: game_along(machine.frames.as_slice()),
+            left: top.left.saturating_add(1),
+            games: top.tally.games,
+        });
+    }
+    machine.closed = machine.closed.saturating_add(1);
+}
+
+// A move of the topmost node, on the line or not, leads to a leaf, which is on the diagram or not.
+fn leaf(
+    question: &Question,
+    machine: &mut Machine,
+    on_line: bool,
+    m: &Move,
+    hit: bool,
+) -> Result<(), Stop> {
+    if goes_on(question, on_line, machine.frames.len(), m) {
+        machine.ending = Some(Ending::Leaf(hit));
+    }
+    if !hit {
+        return Ok(());
+    }
+    let mut game = game_along(machine.frames.as_slice());
+    let _ = game.try_push(*m);
+    end(question, machine, game.as_slice())
+}
+
+// Passes over the moves that do not lead to the diagram, but not on the line; whether none is left then.
+fn is_over(diagram: &Diagram, on_line: bool, moves: &mut LegalMoves) -> bool
+    ensures { moves.new.position ≡ moves.old.position }
+{
+    !on_line && !pass_over(diagram, moves)
+}
+
+// The next legal move.
+fn following(moves: &mut LegalMoves) -> Option<Move>
+    ensures position { moves.new.position ≡ moves.old.position }
+    ensures legal { IfSome result (λ m. IsLegal moves.old.position m) }
+{
+    match moves.next() {
+        Some(m) => Some(m),
+        None => None,
+    }
+}
+
+// The moves of a node with one ply left are played, and it closes.
+fn leaves(question: &Question, machine: &mut Machine, top: Frame) -> Result<(), Stop> {
+    let mut top = top;
+    let position = top.moves.position();
+    for _ in 0..u16::MAX {
+        if is_over(question.diagram, top.on_line, &mut top.moves) {
+            break;
+        }
+        let Some(m) = following(&mut top.moves) else {
+            break;
+        };
+        let hit = question.diagram.matches(&after(&position, &m));
+        top.tally.count_leaf(hit);
+        match leaf(question, machine, top.on_line, &m, hit) {
+            Ok(()) => {}
+            Err(stop) => return Err(stop),
+        }
+    }
+    close(question, machine, &top);
+    Ok(())
+}
+
+// The next move of a node with more plies left is played, or the node closes.
+fn step<S: Source>(
+    question: &Question,
+    machine: &mut Machine,
+    source: &mut S,
+    top: Frame,
+) -> Result<(), Stop> {
+    let mut top = top;
+    top.tally.games = top.tally.games.saturating_add(machine.below);
+    machine.below = 0;
+    let position = top.moves.position();
+    let Some(m) = top.moves.next() else {
+        close(question, machine, &top);
+        return Ok(());
+    };
+    let next_position = after(&position, &m);
+    let on_line = goes_on(question, top.on_line, machine.frames.len(), &m);
+    let left = top.left;
+    let record = match next(machine, source) {
+        Ok(record) => record,
+        Err(stop) => return Err(stop),
+    };
+    top.tally.count(&record);
+    match machine.frames.try_push(top) {
+        Ok(()) => enter(machine, &next_position, left, &record, on_line),
+        Err(_) => Err(Stop::Refused),
+    }
+}
+
+// The root of the tree without a ply.
+fn bare_root(question: &Question, machine: &mut Machine) -> Result<(), Stop> {
+    let hit = question.diagram.matches(&Position::array());
+    if question.plies == 0 {
+        machine.ending = Some(Ending::Leaf(hit));
+    }
+    if hit {
+        end(question, machine, &[])
+    } else {
+        Ok(())
+    }
+}
+
+// The root of a tree.
+fn root<S: Source>(question: &Question, machine: &mut Machine, source: &mut S) -> Result<(), Stop> {
+    let tree = machine.tree;
+    if tree == 0 {
+        return bare_root(question, machine);
+    }
+    let on_line = tree == question.plies && question.wanted.is_none();
+    match next(machine, source) {
+        Ok(record) => enter(machine, &Position::array(), tree, &record, on_line),
+        Err(stop) => Err(stop),
+    }
+}
+
+// One tree. A second walk ends at the node that is wanted.
+fn tree_of<S: Source>(
+    question: &Question,
+    machine: &mut Machine,
+    source: &mut S,
+) -> Result<(), Stop> {
+    match root(question, machine, source) {
+        Ok(()) => {}
+        Err(stop) => return Err(stop),
+    }
+    for _ in 0..u64::MAX {
+        if machine.cited.is_some() {
+            return Ok(());
+        }
+        let Some(top) = machine.frames.pop() else {
+            return Ok(());
+        };
+        let answer = if top.left == 0 {
+            leaves(question, machine, top)
+        } else {
+            step(question, machine, source, top)
+        };
+        match answer {
+            Ok(()) => {}
+            Err(stop) => return Err(stop),
+        }
+    }
+    Err(Stop::Refused)
+}
+
+// The header, which must be for the diagram and the length, the trees of all lengths, and the end. A
+// second walk is over at the node that is wanted.
+fn all_trees<S: Source>(
+    question: &Question,
+    machine: &mut Machine,
+    source: &mut S,
+) -> Result<(), Stop> {
+    match machine.reader.header(source) {
+        Ok(header) => {
+            if header.plies != question.plies || header.diagram != question.diagram.packed() {
+                return Err(Stop::Refused);
+            }
+        }
+        Err(fault) => return Err(stop_of(fault)),
+    }
+    for tree in 0..=question.plies {
+        machine.tree = tree;
+        machine.below = 0;
+        match tree_of(question, machine, source) {
+            Ok(()) => {}
+            Err(stop) => return Err(stop),
+        }
+        if machine.cited.is_some() {
+            return Ok(());
+        }
+    }
+    match machine.reader.more(source) {
+        Ok(false) => Ok(()),
+        Ok(true) => Err(Stop::Refused),
+        Err(fault) => Err(stop_of(fault)),
+    }
+}
+
+/// Walks over a certificate of at most so many records; what was found, and how the walk ended. What is
+/// found before the walk stops is kept. The list of games is taken from `alloc`, nothing else takes memory.
+pub(crate) fn walk<S: Source>(
+    alloc: Global,
+    question: &Question,
+    source: &mut S,
+    records: u64,
+) -> (Machine, Result<(), Stop>) {
+    let mut machine = Machine {
+        reader: RecordReader::new(),
+        records,
+        tree: 0,
+        games: Games::new(alloc),
+        frames: ArrayVec::new(),
+        closed: 0,
+        below: 0,
+        tallies: ArrayVec::new(),
+        ending: None,
+        cited: None,
+    };
+    let answer = all_trees(question, &mut machine, source);
+    (machine, answer)
+}

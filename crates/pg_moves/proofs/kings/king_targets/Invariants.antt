@@ -1,9 +1,0 @@
-use Rattle.std.proofs.Common.{◌≤◌, ◌-◌}
-use Rattle.pg_moves.proofs.StepsLemmas.{IsKept}
-use Rattle.pg_moves.proofs.kings.king_targets.Given as goal
-
-abbrev pub invariant-loop-square : goal.invariant-loop-square
-invariant-loop-square l = record { within : l.at ≤ 64; kept : IsKept l.position l.from l.set l.at l.kept }
-
-abbrev pub decreases-loop-square : goal.decreases-loop-square
-decreases-loop-square l = 64 - l.at

@@ -1,0 +1,24 @@
+use Rattle.std.proofs.Common.{◌≤◌, ◌∙◌, ap, arith}
+use Rattle.pg_board.specs.Placement.{Placement, without}
+use Rattle.pg_moves.proofs.StepsLemmas.{step_is, kept_start, kept_step, kept_end, kept_none}
+use Rattle.pg_moves.proofs.kings.safe_steps.Goals as goal
+
+pub returns-then-steps-eq0 : goal.returns-then-steps-eq0
+returns-then-steps-eq0 c = kept_none _ c.args.steps c.if-steps-eq0.true
+
+pub loop-square-init : goal.loop-square-init
+loop-square-init c = record { within = omega arith; kept = kept_start c.args.position.now c.args.from c.args.steps }
+
+pub loop-square-preserved : goal.loop-square-preserved
+loop-square-preserved c =
+    let up : c.loop-square.at ≤ c.in-Some.square = c.in-Some.ensures.reached in
+    record {
+      within = omega arith;
+      kept = kept_step c.args.position.now c.args.from c.args.steps c.loop-square.at c.in-Some.square c.index-at.result c.loop-square.kept c.kept_if-kept.result _ c.loop-square.invariant.kept c.in-Some.ensures c.kept_if-kept.ensures
+          (step_is c.args.position.now c.args.from c.in-Some.square c.args.steps c.side.ensures.position c.index.ensures.bound c.in-Some.ensures.on_board c.requires.stands c.requires.steps
+          c.take.new.self c.side.result c.other-by.result c.attacked-unsafe_there.result c.in-Some.ensures.member (c.take.ensures.rest ∙ ap (λ (b : Placement). without b c.args.from) c.board-lifted.ensures.value) c.side.ensures.value c.other-by.ensures c.attacked-unsafe_there.ensures)
+          c.index-at.ensures.value;
+    }
+
+pub returns : goal.returns
+returns c = kept_end c.args.position.now c.args.from c.args.steps c.loop-square.at c.loop-square.kept c.loop-square.invariant.kept c.in_default.ensures

@@ -1,0 +1,90 @@
+//! The men of the side to move, and where each goes.
+ghost use Rattle.std.specs.Prelude.{◌≡◌, ◌<◌, ◌≤◌, ◌+◌};
+ghost use Rattle.pg_position.specs.Position.{Stands};
+ghost use Rattle.pg_moves.specs.Places.{place_of, IsNextWithin};
+ghost use Rattle.pg_moves.specs.Sources.{IsSource};
+ghost use Rattle.pg_moves.specs.Targets.{IsOwn, FreeOff};
+
+use crate::kings::king_targets;
+use crate::search::{first_of_exact, first_of_man};
+use crate::targets::{advances, targets};
+use crate::trials::must_try;
+use pg_board::{Board, Kind, Square};
+use pg_position::{Move, Position};
+
+/// A man of the side to move: where it may go, its kind, and whether it goes to just those squares, with
+/// no promotion.
+#[derive(Clone, Copy)]
+pub(crate) struct Source {
+    pub(crate) set: u64,
+    pub(crate) kind: Kind,
+    pub(crate) exact: bool,
+}
+
+// The man of the kind on a square.
+#[inline(always)]
+#[tactic(auto, unfolding(crate::specs::Sources::IsSource))]
+fn source_of(position: &Position, board: &Board, tried: u64, kind: Kind, from: Square) -> Source
+    requires same { board.now ≡ position.now.board }
+    requires free { FreeOff position.now tried }
+    requires stands { Stands position.now.board position.now.side kind from }
+    ensures { IsSource position.now from result }
+{
+    from.index();
+    if kind == Kind::King {
+        Source {
+            kind,
+            set: king_targets(position, board, from),
+            exact: true,
+        }
+    } else if must_try(position, tried, kind, from) {
+        Source {
+            kind,
+            set: targets(position, kind, from),
+            exact: false,
+        }
+    } else {
+        Source {
+            kind,
+            set: advances(board, position.side(), kind, from),
+            exact: true,
+        }
+    }
+}
+
+// The man of the side to move on a square.
+#[inline(always)]
+#[tactic(auto, using(crate::proofs::SearchLemmas::stands_own))]
+pub(crate) fn source_at(position: &Position, board: &Board, tried: u64, from: Square) -> Source
+    requires same { board.now ≡ position.now.board }
+    requires free { FreeOff position.now tried }
+    requires own { IsOwn position.now.board position.now.side from }
+    ensures { IsSource position.now from result }
+{
+    match board.get(from) {
+        Some(man) => source_of(position, board, tried, man.kind, from),
+        None => unreachable!(),
+    }
+}
+
+// The first legal move of a man, from this target and promotion on.
+#[inline(always)]
+#[tactic(auto, unfolding(crate::specs::Sources::IsSource))]
+pub(crate) fn first_of_source(
+    position: &Position,
+    from: Square,
+    source: &Source,
+    to: u8,
+    rank: u8,
+) -> Option<Move>
+    requires source { IsSource position.now from source.now }
+    requires target { to < 64 }
+    requires place { rank ≤ 7 }
+    ensures { IsNextWithin position.now (place_of from to rank) (place_of (from + 1) 0 0) result }
+{
+    if source.exact {
+        first_of_exact(position, from, source.set, to, rank)
+    } else {
+        first_of_man(position, source.kind, from, source.set, to, rank)
+    }
+}

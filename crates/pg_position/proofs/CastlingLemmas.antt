@@ -1,0 +1,160 @@
+-- The squares between king and rook, and those to which the king castles. Leads to the contracts of `path` and `castling_targets`.
+use Rattle.std.proofs.Common.{Some, ◌+◌, ◌≡◌, ◌≢◌, ◌↔◌, ℕ, ◌<◌, ◌⊎◌, inl, inr, IsTrue, Bool, true, false, not, ◌&&◌, ◌||◌, nat_eq, ltb, None, refl, sym, ap, subst, ◌∙◌, arith, bit_or}
+use Rattle.std.proofs.lemmas.Bool.{ne_eqb}
+use Rattle.std.proofs.lemmas.Bool.Decides.{Decides-ltb, Decides-and, Decides-at, Decides-like}
+use Rattle.pg_board.specs.declared.man.Color.{Color}
+use Rattle.pg_board.specs.declared.man.Color.TheVariants.{White, Black}
+use Rattle.pg_board.specs.declared.man.Kind.TheVariants.{King}
+use Rattle.pg_board.specs.Bits.{has, bits_below, has-bits_below}
+use Rattle.pg_board.specs.Men.{other, is_held}
+use Rattle.pg_board.specs.Placement.{Placement, get}
+use Rattle.pg_board.specs.Squares.{file, rank}
+use Rattle.pg_position.specs.declared.rights.Rights.{Rights}
+use Rattle.pg_position.specs.declared.rights.Wing.{Wing}
+use Rattle.pg_position.specs.declared.rights.Wing.TheVariants.{KingSide, QueenSide}
+use Rattle.pg_position.specs.declared.state.State.{State}
+use Rattle.pg_position.specs.declared.moves.Move.{Move}
+use Rattle.pg_position.specs.Attack.{IsClear, Attacks}
+use Rattle.pg_position.specs.Geometry.{IsBetween}
+use Rattle.pg_position.specs.Position.{holds, king_home, rook_home}
+use Rattle.pg_position.specs.SquareSets.{IsSetOf}
+use Rattle.pg_position.specs.Step.{IsCastling, king_crossed, king_target, touches, rights_after}
+use Rattle.pg_position.proofs.AttackLemmas.{not_held}
+use Rattle.pg_position.proofs.ReachLemmas.{set_or, set_like}
+
+-- ---- the squares between
+on_rank : (x i k r : ℕ) → i ≢ k → (file x ≡ i) ⊎ (rank x ≡ r) → (file x ≡ k) ⊎ (rank x ≡ r) → rank x ≡ r
+on_rank x i k r ne (inr a) h = a
+on_rank x i k r ne (inl a) (inr b) = b
+on_rank x i k r ne (inl a) (inl b) = absurd (ne (sym a ∙ b))
+
+turned : (x i r : ℕ) → (i ≡ file x) ⊎ (r ≡ rank x) → (file x ≡ i) ⊎ (rank x ≡ r)
+turned x i r (inl e) = inl (sym e)
+turned x i r (inr e) = inr (sym e)
+
+-- the least and the greatest of them
+unfoldable least : Color → Wing → ℕ
+least White KingSide = 5
+least White QueenSide = 1
+least Black KingSide = 61
+least Black QueenSide = 57
+
+unfoldable beyond : Color → Wing → ℕ
+beyond White KingSide = 7
+beyond White QueenSide = 4
+beyond Black KingSide = 63
+beyond Black QueenSide = 60
+
+inside : (c : Color) (w : Wing) (q : ℕ) → (least c w < q + 1) × (q < beyond c w) → IsBetween (king_home c) q (rook_home c w)
+unfolding IsBetween least beyond
+inside White KingSide q (a, b) = let z : rank q ≡ 1 = omega arith in (λ y. omega arith, λ y. omega arith, omega arith, omega arith, inl (inr (sym z), inr z, inr refl))
+inside White QueenSide q (a, b) = let z : rank q ≡ 1 = omega arith in (λ y. omega arith, λ y. omega arith, omega arith, omega arith, inl (inr (sym z), inr z, inr refl))
+inside Black KingSide q (a, b) = let z : rank q ≡ 8 = omega arith in (λ y. omega arith, λ y. omega arith, omega arith, omega arith, inl (inr (sym z), inr z, inr refl))
+inside Black QueenSide q (a, b) = let z : rank q ≡ 8 = omega arith in (λ y. omega arith, λ y. omega arith, omega arith, omega arith, inl (inr (sym z), inr z, inr refl))
+
+outside : (c : Color) (w : Wing) (q : ℕ) → q < 64 → IsBetween (king_home c) q (rook_home c w) → (least c w < q + 1) × (q < beyond c w)
+unfolding IsBetween least beyond
+outside White KingSide q low (a, b, u, v, inl (l, m, n)) = let z : rank q ≡ 1 = on_rank q 5 8 1 (λ y. omega arith) (turned q 5 1 l) m in (omega arith, omega arith)
+outside White KingSide q low (a, b, u, v, inr (l, m)) = absurd (omega arith)
+outside White QueenSide q low (a, b, u, v, inl (l, m, n)) = let z : rank q ≡ 1 = on_rank q 5 1 1 (λ y. omega arith) (turned q 5 1 l) m in (omega arith, omega arith)
+outside White QueenSide q low (a, b, u, v, inr (l, m)) = absurd (omega arith)
+outside Black KingSide q low (a, b, u, v, inl (l, m, n)) = let z : rank q ≡ 8 = on_rank q 5 8 8 (λ y. omega arith) (turned q 5 8 l) m in (omega arith, omega arith)
+outside Black KingSide q low (a, b, u, v, inr (l, m)) = absurd (omega arith)
+outside Black QueenSide q low (a, b, u, v, inl (l, m, n)) = let z : rank q ≡ 8 = on_rank q 5 1 8 (λ y. omega arith) (turned q 5 8 l) m in (omega arith, omega arith)
+outside Black QueenSide q low (a, b, u, v, inr (l, m)) = absurd (omega arith)
+
+unfoldable path_test : Color → Wing → ℕ → Bool
+path_test c w q = ltb (least c w) (q + 1) && ltb q (beyond c w)
+
+unfoldable pub path_set : Color → Wing → ℕ
+path_set White KingSide = 96
+path_set White QueenSide = 14
+path_set Black KingSide = 6917529027641081856
+path_set Black QueenSide = 1008806316530991104
+
+path_bits : (c : Color) (w : Wing) → path_set c w ≡ bits_below (path_test c w) 64
+unfolding path_set path_test bits_below least beyond
+path_bits White KingSide = refl
+path_bits White QueenSide = refl
+path_bits Black KingSide = refl
+path_bits Black QueenSide = refl
+
+path_at : (c : Color) (w : Wing) → IsSetOf (path_set c w) (λ q. IsBetween (king_home c) q (rook_home c w))
+unfolding path_test
+path_at c w q low = Decides-at _ _ (ap (λ n. has n q) (path_bits c w) ∙ has-bits_below (path_test c w) 64 q low)
+    (Decides-like (path_test c w q) (inside c w q) (outside c w q low) (Decides-and _ _ (Decides-ltb (least c w) (q + 1)) (Decides-ltb q (beyond c w))))
+
+pub path_is : (c d : Color) (w v : Wing) (n : ℕ) → c ≡ d → w ≡ v → n ≡ path_set d v → IsSetOf n (λ q. IsBetween (king_home c) q (rook_home c w))
+path_is c d w v n ec ew e = subst (λ (x : ℕ). IsSetOf x (λ q. IsBetween (king_home c) q (rook_home c w))) (ap₃ ∙ sym e) (path_at c w)
+  where
+    ap₃ : path_set c w ≡ path_set d v
+    ap₃ = (λ i. path_set (ec i) (ew i))
+
+-- a set that meets no man's square
+pub clear_is : (b : Placement) (r s n held : ℕ) (t : Bool) → IsSetOf n (λ q. IsBetween r q s) → ((q : ℕ) → q < 64 → has held q ≡ is_held (get b q)) → (IsTrue t ↔ ((q : ℕ) × (q < 64) × (has n q ≡ true) × (has held q ≡ true))) → IsTrue (not t) ↔ IsClear b r s
+unfolding IsClear
+clear_is b r s n held true is holds meets = (
+  λ e. absurd (let f : IsTrue false = e in cc),
+  λ clear. (let m : (q : ℕ) × (q < 64) × (has n q ≡ true) × (has held q ≡ true) = meets.0 refl in
+      let there : is_held (get b m.0) ≡ true = sym (holds m.0 m.1) ∙ m.3 in
+      absurd (not_held (get b m.0) there (clear m.0 m.1 ((is m.0 m.1).0 m.2)))),
+)
+clear_is b r s n held false is holds meets = (
+  λ _ q low between. (elim (get b q) as (λ o. (get b q ≡ o) → o ≡ None) [
+    | None ↦ λ _. refl
+    | Some m ↦ λ e. absurd (let held_there : has held q ≡ true = holds q low ∙ ap is_held e in let f : IsTrue false = meets.1 (q, low, (is q low).1 between, held_there) in cc)
+  ] refl),
+  λ _. refl,
+)
+
+-- ---- where the king goes
+abbrev pub castling_to : State → ℕ → Move
+castling_to p q = record { from = king_home p.side; to = q; promotion = None }
+
+abbrev pub IsOpen : State → Wing → Type 0
+IsOpen p w = (holds p.rights p.side w ≡ true) × IsClear p.board (king_home p.side) (rook_home p.side w)
+
+abbrev pub IsSafeTo : State → Bool → Wing → ℕ → Type 0
+IsSafeTo p way w q = (q ≡ king_target p.side w) × (way ≡ true) × (¬ Attacks p.board (other p.side) (king_crossed p.side w)) × (¬ Attacks p.board (other p.side) (king_target p.side w))
+
+module _ (p : State) (short long : Bool) (ks : IsTrue short ↔ IsOpen p KingSide) (ql : IsTrue long ↔ IsOpen p QueenSide) where
+  pub castle_set : (a b : ℕ) → ¬ Attacks p.board (other p.side) (king_home p.side) → IsSetOf a (IsSafeTo p short KingSide) → IsSetOf b (IsSafeTo p long QueenSide) → IsSetOf (bit_or a b) (λ q. (w : Wing) × IsCastling p King (castling_to p q) w)
+  castle_set a b home f g = set_like (bit_or a b) forth back (set_or a b f g)
+    where
+      forth : (q : ℕ) → q < 64 → IsSafeTo p short KingSide q ⊎ IsSafeTo p long QueenSide q → (w : Wing) × IsCastling p King (castling_to p q) w
+      forth q low (inl (e, s, x, y)) = (KingSide, record { unpromoted = refl; king = refl; home = refl; target = e; right = (ks.0 s).0; clear = (ks.0 s).1; safe_home = home; safe_crossed = x; safe_target = y })
+      forth q low (inr (e, s, x, y)) = (QueenSide, record { unpromoted = refl; king = refl; home = refl; target = e; right = (ql.0 s).0; clear = (ql.0 s).1; safe_home = home; safe_crossed = x; safe_target = y })
+
+      back : (q : ℕ) → q < 64 → (w : Wing) × IsCastling p King (castling_to p q) w → IsSafeTo p short KingSide q ⊎ IsSafeTo p long QueenSide q
+      back q low (KingSide, h) = inl (h.target, ks.1 (h.right, h.clear), h.safe_crossed, h.safe_target)
+      back q low (QueenSide, h) = inr (h.target, ql.1 (h.right, h.clear), h.safe_crossed, h.safe_target)
+
+pub target_set : (p : State) (way : Bool) (w : Wing) (safe : Bool) (i n : ℕ) → way ≡ true → safe ≡ true → i ≡ king_target p.side w → IsTrue safe ↔ ((¬ Attacks p.board (other p.side) (king_crossed p.side w)) × (¬ Attacks p.board (other p.side) (king_target p.side w))) → IsSetOf n (λ q. q ≡ i) → IsSetOf n (IsSafeTo p way w)
+target_set p way w safe i n on calm e h one = set_like n (λ q l at. (at ∙ e, on, (h.0 calm).0, (h.0 calm).1)) (λ q l at. at.0 ∙ sym e) one
+
+-- ---- the rights that a move leaves
+-- a square of the mask is no square of a move that does not meet it
+untouched : (n homes s : ℕ) (m : Move) → IsSetOf n (λ q. (q ≡ m.from) ⊎ (q ≡ m.to)) → ¬ ((q : ℕ) × (q < 64) × (has n q ≡ true) × (has homes q ≡ true)) → s < 64 → has homes s ≡ true → touches m s ≡ false
+untouched n homes s m is apart low home =
+    let from : m.from ≢ s = (λ e. apart (s, low, (is s low).1 (inl (sym e)), home)) in
+    let to : m.to ≢ s = (λ e. apart (s, low, (is s low).1 (inr (sym e)), home)) in
+    neither (nat_eq m.from s) (nat_eq m.to s) (ne_eqb m.from s from) (ne_eqb m.to s to)
+  where
+    neither : (a b : Bool) → a ≡ false → b ≡ false → a || b ≡ false
+    neither a b e f = cc
+
+kept : (h a b : Bool) → a ≡ false → b ≡ false → h ≡ (h && not (a || b))
+kept true a b e f = cc
+kept false a b e f = refl
+
+pub rights_kept : (r : Rights) (m : Move) (n a b : ℕ) (t : Bool) → n ≡ bit_or a b → IsSetOf a (λ q. q ≡ m.from) → IsSetOf b (λ q. q ≡ m.to) → (IsTrue t ↔ ((q : ℕ) × (q < 64) × (has n q ≡ true) × (has 10448351135499550865 q ≡ true))) → t ≡ false → r ≡ rights_after r m
+rights_kept r m n a b t e f g h off i =
+    record {
+      white_king = kept r.white_king _ _ (home 4 (omega arith) refl) (home 7 (omega arith) refl) i;
+      white_queen = kept r.white_queen _ _ (home 4 (omega arith) refl) (home 0 (omega arith) refl) i;
+      black_king = kept r.black_king _ _ (home 60 (omega arith) refl) (home 63 (omega arith) refl) i;
+      black_queen = kept r.black_queen _ _ (home 60 (omega arith) refl) (home 56 (omega arith) refl) i;
+    }
+  where
+    home : (s : ℕ) → s < 64 → has 10448351135499550865 s ≡ true → touches m s ≡ false
+    home s low there = untouched n 10448351135499550865 s m (subst (λ (x : ℕ). IsSetOf x (λ q. (q ≡ m.from) ⊎ (q ≡ m.to))) (sym e) (set_or a b f g)) (λ met. (let on : t ≡ true = h.1 met in cc)) low there

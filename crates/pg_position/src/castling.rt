@@ -1,0 +1,83 @@
+//! Castling: the squares to which the king goes by it.
+ghost use Rattle.std.specs.Prelude.{◌≡◌, ◌<◌, ℕ, ◌↔◌, IsTrue, None, true};
+ghost use Rattle.pg_board.specs.Men.{other};
+ghost use Rattle.pg_position.specs.Attack.{Attacks, IsClear};
+ghost use Rattle.pg_position.specs.Geometry.{IsBetween};
+ghost use Rattle.pg_position.specs.Position.{holds, king_home, rook_home};
+ghost use Rattle.pg_position.specs.SquareSets.{IsSetOf};
+ghost use Rattle.pg_position.specs.Step.{IsCastling, king_crossed, king_target};
+ghost use Rattle.pg_position.specs.declared.rights.Wing.{Wing};
+
+use crate::attack::attacked;
+use crate::homes::{king_crossed, king_home, king_target};
+use crate::rights::Wing;
+use crate::square_sets::{meets, single};
+use crate::state::State;
+use pg_board::{Board, Color, Kind};
+
+// The squares between the king's home and the rook's.
+fn path(color: Color, wing: Wing) -> u64
+    ensures { IsSetOf result (λ t. IsBetween (king_home color) t (rook_home color wing)) }
+{
+    match color {
+        Color::White => match wing {
+            Wing::KingSide => 0x60,
+            Wing::QueenSide => 0x0e,
+        },
+        Color::Black => match wing {
+            Wing::KingSide => 0x6000_0000_0000_0000,
+            Wing::QueenSide => 0x0e00_0000_0000_0000,
+        },
+    }
+}
+
+// Whether no man stands between the king's home and the rook's.
+fn is_path_clear(board: &Board, color: Color, wing: Wing) -> bool
+    ensures { IsTrue result ↔ IsClear board.now (king_home color) (rook_home color wing) }
+{
+    !meets(path(color, wing), board.occupied())
+}
+
+impl State {
+    // Whether the right is held, and no man stands in the way.
+    pub(crate) fn is_castling_open(&self, wing: Wing) -> bool
+        ensures { IsTrue result ↔ ((holds self.now.rights self.now.side wing ≡ true) × IsClear self.now.board (king_home self.now.side) (rook_home self.now.side wing)) }
+    {
+        self.rights.holds(self.side, wing) && is_path_clear(&self.board, self.side, wing)
+    }
+
+    // Whether neither the square that the king crosses nor the one that he comes to is attacked.
+    pub(crate) fn is_castling_safe(&self, wing: Wing) -> bool
+        ensures { IsTrue result ↔ ((¬ Attacks self.now.board (other self.now.side) (king_crossed self.now.side wing)) × (¬ Attacks self.now.board (other self.now.side) (king_target self.now.side wing))) }
+    {
+        let by = self.side.other();
+        !attacked(&self.board, king_crossed(self.side, wing), by)
+            && !attacked(&self.board, king_target(self.side, wing), by)
+    }
+
+    // Where the king goes towards a wing whose way is open, as a set.
+    fn target_if_safe(&self, way: bool, wing: Wing) -> u64
+        ensures { IsSetOf result (λ q. (q ≡ king_target self.now.side wing) × (way ≡ true) × (¬ Attacks self.now.board (other self.now.side) (king_crossed self.now.side wing)) × (¬ Attacks self.now.board (other self.now.side) (king_target self.now.side wing))) }
+    {
+        if way && self.is_castling_safe(wing) {
+            single(king_target(self.side, wing))
+        } else {
+            0
+        }
+    }
+
+    // The squares to which the king castles.
+    pub(crate) fn castling_targets(&self) -> u64
+        ensures { IsSetOf result (λ q. (w : Wing) × IsCastling self.now Kind.King (record { from = king_home self.now.side; to = q; promotion = None }) w) }
+    {
+        let short = self.is_castling_open(Wing::KingSide);
+        let long = self.is_castling_open(Wing::QueenSide);
+        if !short && !long {
+            return 0;
+        }
+        if attacked(&self.board, king_home(self.side), self.side.other()) {
+            return 0;
+        }
+        self.target_if_safe(short, Wing::KingSide) | self.target_if_safe(long, Wing::QueenSide)
+    }
+}
