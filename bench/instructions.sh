@@ -40,6 +40,7 @@ run 'check of examples/twelve-moves, version 2' "$pg" check "$twelve" 12.0 "$top
 run 'count of the array, 4 plies' "$pg" count "$array" 4
 run "count of ${many%% *}, 3 plies" "$pg" count "$many" 3
 record 'a record 01 on a diagram of 64 men, 2.0' full
+record 'a record of the same, with references' references
 record 'a record 01 of the queen recaptures' expansions
 record 'the dearest node with one ply left: 218 moves, 4 squares off' near
 

@@ -1,9 +1,12 @@
 //! What records cost the checker: `bench_checker CASE ROUNDS` prints how many were judged.
 //! `expansions` checks the queen recaptures by expansions alone, 9,766 records a round; `full` the
-//! same for a diagram with 64 men, which no game reaches; `near` asks of a position with 218 moves,
+//! same for a diagram with 64 men, which no game reaches; `references` the same with a reference
+//! wherever a position comes again after three plies; `near` asks of a position with 218 moves,
 //! four squares of which are not as the diagram has them, which of the moves lead to it: no node
 //! with one ply left that was tried costs more.
 #![tactic(auto)]
+
+mod transposed;
 
 use pg_captures::Bound;
 use pg_certificate::FromRead;
@@ -14,9 +17,12 @@ use pg_san::{Games, read_games};
 use std::alloc::{AllocError, Global};
 use std::env;
 
+/// A diagram of 64 men.
+const FULL: &str = "nnnnknnn/pppppppp/rrrrrrrr/bbbbbbbb/BBBBBBBB/RRRRRRRR/PPPPPPPP/NNNNKNNN";
+
 #[derive(Debug, Drop, thiserror::Error)]
 enum Refusal {
-    #[error("write expansions, full or near, and a number of rounds")]
+    #[error("write expansions, full, references or near, and a number of rounds")]
     Usage,
     #[error("a text is not read")]
     Text,
@@ -44,31 +50,51 @@ fn certificate(alloc: Global, diagram: &Diagram, length: Length) -> Result<Vec<u
     Ok(bytes)
 }
 
-/// Checks all games of 2.0, so many times.
-fn expansions(alloc: Global, placement: &str, list: &str, rounds: u32) -> anyhow::Result<u64> {
-    let diagram = diagram(placement)?;
-    let length = Length::read("2.0").map_err(|_| Refusal::Text)?;
+/// Checks all games of 2.0 by a certificate, so many times.
+fn checked(
+    alloc: Global,
+    diagram: &Diagram,
+    length: Length,
+    list: &str,
+    bytes: &[u8],
+    rounds: u32,
+) -> anyhow::Result<u64> {
     let games = games(alloc, list)?;
     let bounds: Vec<Box<dyn Bound>> = Vec::new(alloc);
-    let bytes = certificate(alloc, &diagram, length)?;
     let mut records = 0u64;
     for _ in 0..rounds {
-        let mut source = FromRead::new(bytes.as_slice());
+        let mut source = FromRead::new(bytes);
         match check(
             alloc,
-            &diagram,
+            diagram,
             length,
             &games,
             &bounds,
             &mut source,
             1_000_000,
-            0,
+            1_000_000,
         ) {
             Ok(proved) => records = records.saturating_add(proved.records),
             Err(fault) => Err(Refusal::Check(fault))?,
         }
     }
     Ok(records)
+}
+
+/// Checks all games of 2.0 by expansions, so many times.
+fn expansions(alloc: Global, placement: &str, list: &str, rounds: u32) -> anyhow::Result<u64> {
+    let diagram = diagram(placement)?;
+    let length = Length::read("2.0").map_err(|_| Refusal::Text)?;
+    let bytes = certificate(alloc, &diagram, length)?;
+    checked(alloc, &diagram, length, list, bytes.as_slice(), rounds)
+}
+
+/// Checks all games of 2.0 to the diagram of 64 men by expansions and references, so many times.
+fn references(alloc: Global, rounds: u32) -> anyhow::Result<u64> {
+    let diagram = diagram(FULL)?;
+    let length = Length::read("2.0").map_err(|_| Refusal::Text)?;
+    let bytes = transposed::certificate(alloc, &diagram, length)?;
+    checked(alloc, &diagram, length, "", bytes.as_slice(), rounds)
 }
 
 /// Asks a thousand times a round for the moves that lead to the diagram.
@@ -97,12 +123,8 @@ fn run(alloc: Global, case: &str, rounds: u32) -> anyhow::Result<u64> {
             "1. e4 d5 2. exd5 Qxd5",
             rounds,
         ),
-        "full" => expansions(
-            alloc,
-            "nnnnknnn/pppppppp/rrrrrrrr/bbbbbbbb/BBBBBBBB/RRRRRRRR/PPPPPPPP/NNNNKNNN",
-            "",
-            rounds,
-        ),
+        "full" => expansions(alloc, FULL, "", rounds),
+        "references" => references(alloc, rounds),
         "near" => Ok(near(rounds)?),
         _ => Err(Refusal::Usage)?,
     }

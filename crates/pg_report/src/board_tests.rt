@@ -137,6 +137,49 @@ fn least_lengths_after_two_plies(rt: HostRuntime) -> Result<(), Fail> {
     Ok(())
 }
 
+/// The placements after two plies.
+fn after_two_plies(alloc: Global) -> Result<Vec<[u8; 32]>, Fail> {
+    let mut found = Vec::new(alloc);
+    for first in &legal_moves(alloc, &Position::array())? {
+        let after_first = Position::array().play(*first)?;
+        for second in &legal_moves(alloc, &after_first)? {
+            let after_second = after_first.play(*second)?;
+            found.push(Diagram::of(&after_second).packed())?;
+        }
+    }
+    Ok(found)
+}
+
+/// After three plies the shortest game has three, or two where one move of White's does what his two did. The
+/// least length is never above that, and is just that for most.
+#[test]
+fn least_lengths_after_three_plies(rt: HostRuntime) -> Result<(), Fail> {
+    let earlier = after_two_plies(rt.alloc())?;
+    let mut games = 0u32;
+    let mut exact = 0u32;
+    for first in &legal_moves(rt.alloc(), &Position::array())? {
+        let after_first = Position::array().play(*first)?;
+        for second in &legal_moves(rt.alloc(), &after_first)? {
+            let after_second = after_first.play(*second)?;
+            for third in &legal_moves(rt.alloc(), &after_second)? {
+                let diagram = Diagram::of(&after_second.play(*third)?);
+                let is_earlier = earlier.as_slice().contains(&diagram.packed());
+                let plies = if is_earlier { 2 } else { 3 };
+                let Some(found) = least(rt.alloc(), &diagram)? else {
+                    return Err(Fail::new("no length"));
+                };
+                assert!(rt; found <= plies);
+                games = games.saturating_add(1);
+                if found == plies {
+                    exact = exact.saturating_add(1);
+                }
+            }
+        }
+    }
+    assert_eq!(rt; (games, exact), (8902, 8822));
+    Ok(())
+}
+
 /// Prices alone, and with the four bounds: they say more where several men would come from one square, as
 /// the nearest man of each, and less where captures are owed. Each diagram has a game, of so many plies.
 #[test]
