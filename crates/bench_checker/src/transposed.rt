@@ -50,7 +50,11 @@ fn put_tree(alloc: Global, bytes: &mut Vec<u8>) -> anyhow::Result<()> {
 
 /// A certificate of 2.0 by expansions, and by references wherever a position comes again after three
 /// plies.
-pub fn certificate(alloc: Global, diagram: &Diagram, length: Length) -> anyhow::Result<Vec<u8>> {
+pub(crate) fn certificate(
+    alloc: Global,
+    diagram: &Diagram,
+    length: Length,
+) -> anyhow::Result<Vec<u8>> {
     let mut bytes = Vec::new(alloc);
     bytes.extend_from_slice(b"PGC1")?;
     bytes.push(length.plies())?;
