@@ -5,7 +5,7 @@ use pg_fen::{Diagram, Length};
 use pg_moves::legal_moves;
 use pg_pawns::PawnFiles;
 use pg_position::{Move, Position};
-use pg_report::search;
+use pg_report::{Unwatched, search};
 use pg_travel::Travel;
 use std::alloc::{AllocError, Global};
 use std::fmt::Write;
@@ -356,6 +356,7 @@ fn references_in_both_versions(rt: HostRuntime) -> Result<(), Fail> {
         Length::read(length)?,
         MANY,
         &mut sink,
+        &mut Unwatched,
     )?;
     assert_eq!(&rt; games.len(), 0);
     let mut bytes = sink.into_inner();
