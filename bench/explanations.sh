@@ -1,7 +1,8 @@
 #!/usr/bin/env bash
 # What `pg why` says of the certificates of examples/: a line of each kind, as it is written here; of each certificate, that it is
-# right; and of each of version 1, upgraded, the same. Quiet where all is so; else prints each difference, and ends with
-# status 1. PG may name the program.
+# right; and in the other version, where it may stand in that, the same. Then of copies with a few bytes changed, in both versions where both may have
+# such a record: what it says of the record that is wrong, and last the fault. Quiet where all is so; else prints each
+# difference, and ends with status 1. PG may name the program.
 set -u
 top=$(cd "$(dirname "$(readlink -f "$0")")/.." && pwd)
 work=$(mktemp -d) || exit 1
@@ -21,6 +22,18 @@ explain() {
   wrong=1
 }
 
+# Makes of the certificate $1 one of the other version; fails where there is none: it has prices, or references that version 1 refuses.
+other_version() {
+  case $(head -c 4 "$1") in
+    PGC1) "$pg" upgrade "$1" "$work/other.pgc" >/dev/null ;;
+    PGC2)
+      { printf PGC1; tail -c +5 "$1"; } >"$work/other.pgc"
+      mapfile -t lines <"$(dirname "$1")/problem"
+      "$pg" why "${lines[0]}" "${lines[1]}" "$work/other.pgc" - >/dev/null 2>&1
+      ;;
+  esac
+}
+
 while IFS='|' read -r name moves wanted; do
   certificate=$top/examples/$name/certificate.pgc
   explain "$name" "$moves" "$certificate"
@@ -28,9 +41,9 @@ while IFS='|' read -r name moves wanted; do
     printf '%s, %s:\n    wanted: %s\n    said:   %s\n' "$name" "$moves" "$wanted" "$(tail -n 2 "$work/said" | head -n 1)" >&2
     wrong=1
   }
-  [ "$(head -c 4 "$certificate")" = PGC1 ] || continue
   cp "$work/said" "$work/first"
-  "$pg" upgrade "$certificate" "$work/second.pgc" >/dev/null && explain "$name" "$moves" "$work/second.pgc"
+  other_version "$certificate" || continue
+  explain "$name" "$moves" "$work/other.pgc"
   diff "$work/first" "$work/said" >&2 || wrong=1
 done <<'END'
 schweig|-|at the start: 4 of 20 moves lead on; cut 16 by travel; 1 game below
@@ -41,6 +54,10 @@ castling|e4 g6 Ba6 Nxa6 Nf3 Nb8 O-O|after 1. e4 g6 2. Ba6 Nxa6 3. Nf3 Nb8 4. O-O
 castling|e4 g6 Ba6 Nxa6 Nf3 Nb8 a3|after 1. e4 g6 2. Ba6 Nxa6 3. Nf3 Nb8 4. a3: does not end on the diagram
 castling|e4 g6 Ba6 Nxa6 Nf3 Nb8|after 1. e4 g6 2. Ba6 Nxa6 3. Nf3 Nb8: 1 of 26 moves ends on the diagram
 three-captures|Nf3 e5 a3|after 1. Nf3 e5 2. a3: excluded: white must capture 3 men and has 2 moves left
+rooks-gone|a4 h5 a5 h4 a6 h3 axb7 hxg2 bxc8=Q|after 1. a4 h5 2. a5 h4 3. a6 h3 4. axb7 hxg2 5. bxc8=Q: excluded: white needs 7 pawns, 1 of them to promote, and has 6: 1 short
+queens-abroad|c4 c5 Qa4 Qa5 Qxd7+|after 1. c4 c5 2. Qa4 Qa5 3. Qxd7+: excluded: black needs 8 pawns and has 7: 1 short
+castling-long|d3 c6 Bf4 Qa5+ Nd2 Qxa2|after 1. d3 c6 2. Bf4 Qa5+ 3. Nd2 Qxa2: excluded: white needs 8 pawns and has 7: 1 short
+knight-in-the-corner|e4 Nf6 f3 Nxe4 fxe4|after 1. e4 Nf6 2. f3 Nxe4 3. fxe4: excluded: white's pawns must change file 1 time, and white has no man to capture
 roessler|h4 d5 h5 Nd7 h6 Nxh6|after 1. h4 d5 2. h5 Nd7 3. h6 Nxh6: excluded: black has captured 1 man too many
 four-games|e4 a5|after 1. e4 a5: excluded: black's pawns must change file 17 times, and black has no man to capture (prices: the pawn on a6 needs 17, the pawn on b7 needs 16, less 16)
 en-passant|e3|after 1. e3: excluded: white needs 5 moves and has 4 (travel)
@@ -48,10 +65,64 @@ castling-long|Nf3|after 1. Nf3: excluded: white needs 5 moves and has 4 (travel,
 promotion|d3|after 1. d3: excluded: white needs 5 moves and has 4 (prices: the queen on g8 needs 5, the queen on d1 needs 3, less 3)
 king-abroad|e3 h5 d3|after 1. e3 h5 2. d3: as after 1. d3 h5 2. e3, below which no game ends on the diagram
 king-abroad|e3 h5 d3 a6|after 1. e3 h5 2. d3: as after 1. d3 h5 2. e3, below which no game ends on the diagram; the line goes on
+schweig|Na3 Na6 Nb1 Nb8|after 1. Na3 Na6 2. Nb1 Nb8: as at the start, below which no game ends on the diagram
+after-the-mate|f3 e6 g4 Qh4|after 1. f3 e6 2. g4 Qh4#: no move is legal
+after-the-mate|f3 e6 g4|after 1. f3 e6 2. g4: 30 of 30 moves lead on; no game below
 array|-|at the start: a solution
 fools-mate|f3 e5 g4|after 1. f3 e5 2. g4: 1 of 30 moves ends on the diagram
 seven-moves|-|at the start: 2 of 20 moves lead on; cut 18 by travel; 1 game below
 queen-and-bishop|-|at the start: 8 of 20 moves lead on; cut 12 by travel; 2 games below
+END
+
+# Explains the moves $2 by the certificate in $work of the example $1, which is to say $3 of them and then be refused by the fault $4.
+refuse() {
+  local lines
+  mapfile -t lines <"$top/examples/$1/problem"
+  "$pg" why "${lines[0]}" "${lines[1]}" "$work/changed.pgc" "$2" >"$work/said" 2>/dev/null
+  [ $? = 1 ] && [ "$(tail -n 2 "$work/said")" = "$3"$'\n'"$4" ] && return
+  printf '%s, %s:\n    wanted: %s; %s\n' "$1" "$2" "$3" "$4" >&2
+  sed 's/^/    /' "$work/said" >&2
+  wrong=1
+}
+
+# Bytes in hexadecimal, of which 24x0204 are 24 times 0204.
+spelled() {
+  local part n
+  for part in ${1//,/ }; do
+    for ((n = 0; n < $([[ $part == *x* ]] && echo "${part%x*}" || echo 1); n++)); do printf %s "${part#*x}"; done
+  done
+}
+
+# Copies the certificate of the example $1 with each change OFFSET:OLD=NEW of $2, the last one first: the bytes NEW stand in the place of OLD.
+change() {
+  local change offset old new
+  cp "$top/examples/$1/certificate.pgc" "$work/changed.pgc"
+  for change in $2; do
+    offset=${change%%:*} old=${change#*:} new=$(spelled "${change#*=}")
+    old=${old%%=*}
+    [ "$(tail -c +$((offset + 1)) "$work/changed.pgc" | head -c $((${#old} / 2)) | od -An -v -tx1 | tr -d ' \n')" = "$old" ] || {
+      echo "$1: at $offset does not stand $old" >&2
+      wrong=1
+    }
+    head -c "$offset" "$work/changed.pgc" >"$work/next.pgc"
+    printf "$(sed 's/../\\x&/g' <<<"$new")" >>"$work/next.pgc"
+    tail -c +$((offset + ${#old} / 2 + 1)) "$work/changed.pgc" >>"$work/next.pgc"
+    mv "$work/next.pgc" "$work/changed.pgc"
+  done
+}
+
+while IFS='|' read -r name changes moves wanted fault; do
+  change "$name" "$changes"
+  refuse "$name" "$moves" "$wanted" "$fault"
+done <<'END'
+after-the-mate|46:04=01|Na3|after 1. Na3: cut by bound 1, which is not seen to exclude|cut 1 does not exclude
+after-the-mate|46:04=01 3:32=31|Na3|after 1. Na3: cut by bound 1, which is not seen to exclude|cut 1 does not exclude
+after-the-mate|239:00=63|f3 e6 a3|after 1. f3 e6 2. a3: a reference to no closed node|reference to no closed node
+after-the-mate|239:00=63 3:32=31|f3 e6 a3|after 1. f3 e6 2. a3: a reference to no closed node|reference to no closed node
+after-the-mate|239:00=01|f3 e6 a3|after 1. f3 e6 2. a3: as after 1. a3 e6 2. g4, which is another position, below which no game ends on the diagram|reference to another position
+after-the-mate|239:00=01 3:32=31|f3 e6 a3|after 1. f3 e6 2. a3: as after 1. a3 e6 2. g4, which is another position, below which no game ends on the diagram|reference to another position
+four-games|358:01=0300000000 159:01=05|e4 d6 e5 a6|after 1. e4 d6 2. e5 a6: as after 1. e4 a6 2. e5 d6, below which a game ends on the diagram|reference to a node with a game
+four-games|358:01=0300000000 159:01=05 72:060301010807001000000000000011100000000000=01,29x0204,01,20x0204 3:32=31|e4 d6 e5 a6|after 1. e4 d6 2. e5 a6: as after 1. e4 a6 2. e5 d6, below which a game ends on the diagram|reference to a node with a game
 END
 
 for problem in "$top"/examples/*/problem; do

@@ -17,7 +17,7 @@ use pg_san::{Games, read_games};
 use std::alloc::{AllocError, Global};
 use std::env;
 
-/// A diagram of 64 men.
+// A diagram of 64 men.
 const FULL: &str = "nnnnknnn/pppppppp/rrrrrrrr/bbbbbbbb/BBBBBBBB/RRRRRRRR/PPPPPPPP/NNNNKNNN";
 
 #[derive(Debug, Drop, thiserror::Error)]
@@ -38,7 +38,7 @@ fn games(alloc: Global, text: &str) -> Result<Games, Refusal> {
     read_games(alloc, text).map_err(|_| Refusal::Text)
 }
 
-/// The header, and an expansion for each node with a ply left.
+// The header, and an expansion for each node with a ply left.
 fn certificate(alloc: Global, diagram: &Diagram, length: Length) -> Result<Vec<u8>, AllocError> {
     let mut bytes = Vec::new(alloc);
     bytes.extend_from_slice(b"PGC1")?;
@@ -50,7 +50,7 @@ fn certificate(alloc: Global, diagram: &Diagram, length: Length) -> Result<Vec<u
     Ok(bytes)
 }
 
-/// Checks all games of 2.0 by a certificate, so many times.
+// Checks all games of 2.0 by a certificate, so many times.
 fn checked(
     alloc: Global,
     diagram: &Diagram,
@@ -81,7 +81,7 @@ fn checked(
     Ok(records)
 }
 
-/// Checks all games of 2.0 by expansions, so many times.
+// Checks all games of 2.0 by expansions, so many times.
 fn expansions(alloc: Global, placement: &str, list: &str, rounds: u32) -> anyhow::Result<u64> {
     let diagram = diagram(placement)?;
     let length = Length::read("2.0").map_err(|_| Refusal::Text)?;
@@ -89,7 +89,7 @@ fn expansions(alloc: Global, placement: &str, list: &str, rounds: u32) -> anyhow
     checked(alloc, &diagram, length, list, bytes.as_slice(), rounds)
 }
 
-/// Checks all games of 2.0 to the diagram of 64 men by expansions and references, so many times.
+// Checks all games of 2.0 to the diagram of 64 men by expansions and references, so many times.
 fn references(alloc: Global, rounds: u32) -> anyhow::Result<u64> {
     let diagram = diagram(FULL)?;
     let length = Length::read("2.0").map_err(|_| Refusal::Text)?;
@@ -97,7 +97,7 @@ fn references(alloc: Global, rounds: u32) -> anyhow::Result<u64> {
     checked(alloc, &diagram, length, "", bytes.as_slice(), rounds)
 }
 
-/// Asks a thousand times a round for the moves that lead to the diagram.
+// Asks a thousand times a round for the moves that lead to the diagram.
 fn near(rounds: u32) -> Result<u64, Refusal> {
     let game = read_position("R6R/3Q4/1Q4Q1/4Q3/2Q4Q/Q4Q2/pp1Q4/kBNN1KB1 w - - 0 1").map_err(
         |_| Refusal::Text,

@@ -5,7 +5,7 @@ use pg_moves::legal_moves;
 use pg_position::Position;
 use std::alloc::Global;
 
-/// The record of a node after three plies: named where the position is new, else a reference.
+// The record of a node after three plies: named where the position is new, else a reference.
 fn put_node(
     bytes: &mut Vec<u8>,
     met: &mut Vec<Position>,
@@ -29,7 +29,7 @@ fn put_node(
     Ok(())
 }
 
-/// The records of the tree of four plies.
+// The records of the tree of four plies.
 fn put_tree(alloc: Global, bytes: &mut Vec<u8>) -> anyhow::Result<()> {
     let array = Position::array();
     let mut met = Vec::new(alloc);
@@ -48,8 +48,8 @@ fn put_tree(alloc: Global, bytes: &mut Vec<u8>) -> anyhow::Result<()> {
     Ok(())
 }
 
-/// A certificate of 2.0 by expansions, and by references wherever a position comes again after three
-/// plies.
+// A certificate of 2.0 by expansions, and by references wherever a position comes again after three
+// plies.
 pub(crate) fn certificate(
     alloc: Global,
     diagram: &Diagram,

@@ -26,7 +26,7 @@ fn next(state: u64) -> u64 {
     state ^ (state << 17)
 }
 
-/// Fills the costs: 2 of 5 are none, the others 0 to 5, and most men stand where one is to stand.
+// Fills the costs: 2 of 5 are none, the others 0 to 5, and most men stand where one is to stand.
 fn fill(costs: &mut Costs, state: u64) -> u64 {
     let mut state = state;
     for t in 0..MOST {
@@ -60,7 +60,7 @@ fn rounds(count: u64, is_assigned: bool) -> u64 {
     sum
 }
 
-/// The position after a random move.
+// The position after a random move.
 fn moved(alloc: Global, position: &Position, state: u64) -> Result<Position, AllocError> {
     let moves = legal_moves(alloc, position)?;
     if moves.is_empty() {
@@ -76,7 +76,7 @@ fn moved(alloc: Global, position: &Position, state: u64) -> Result<Position, All
     }
 }
 
-/// How much of the needs is found.
+// How much of the needs is found.
 #[derive(Clone, Copy, PartialEq, Eq)]
 enum Part {
     Nothing,
@@ -99,7 +99,7 @@ fn sum_of(rows: &Rows, diagram: &Diagram, position: &Position, part: Part) -> u6
         .saturating_add(u64::from(pawns))
 }
 
-/// Games of 16 plies each.
+// Games of 16 plies each.
 fn positions(alloc: Global, count: u64, part: Part) -> Result<u64, AllocError> {
     let mut state = 0x9e37_79b9_7f4a_7c15;
     let mut goal = Position::array();

@@ -12,7 +12,7 @@ use pg_certificate::{Bare, FromRead, ReadFault, RecordReader, Source, no_spellin
 use pg_travel::Prices;
 use std::{env, io};
 
-/// Reads this many records and then the end, and answers how many were expansions.
+// Reads this many records and then the end, and answers how many were expansions.
 fn count_expansions<S: Source>(source: &mut S, count: u64) -> Result<u64, ReadFault>
     ensures spelled { OnOk result (IfSome (S.left source.old) (λ bytes. (records : List Record)
         × (length records ≡ count) × (bytes ≡ flat_map spelling records))) }

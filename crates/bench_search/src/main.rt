@@ -16,7 +16,7 @@ use pg_travel::Travel;
 use std::alloc::{AllocError, Global};
 use std::env;
 
-/// Problems of four to twelve moves: diagram and length.
+// Problems of four to twelve moves: diagram and length.
 const TABLE: [(&str, &str); 12] = [
     ("r1bqkbnr/ppp2ppp/3p4/8/8/8/PPPPPPPP/R1BQKBNR", "4.0"),
     ("rnbqkb1r/ppp2ppp/8/8/8/8/PPPPPPPP/RNBQKB1R", "4.0"),
@@ -35,7 +35,7 @@ const TABLE: [(&str, &str); 12] = [
     ),
 ];
 
-/// How many nodes are visited at most for a problem of the table.
+// How many nodes are visited at most for a problem of the table.
 const MOST: u64 = 100_000;
 
 #[derive(Debug, Drop, thiserror::Error)]
@@ -52,7 +52,7 @@ enum Fault {
     Refused,
 }
 
-/// How many records of each sort.
+// How many records of each sort.
 #[derive(Debug, Clone, Copy, Drop)]
 struct Count {
     nodes: u64,
@@ -62,7 +62,7 @@ struct Count {
     priced: u64,
 }
 
-/// The records of a certificate.
+// The records of a certificate.
 fn count_records(bytes: &[u8]) -> Count {
     let mut source = FromRead::new(bytes);
     let mut reader = RecordReader::new();
@@ -91,7 +91,7 @@ fn count_records(bytes: &[u8]) -> Count {
     count
 }
 
-/// What a search found: the games and the certificate.
+// What a search found: the games and the certificate.
 #[derive(Drop)]
 struct Found {
     games: Games,
@@ -120,7 +120,7 @@ fn read(diagram: &str, length: &str) -> anyhow::Result<(Diagram, Length)> {
     Ok((diagram, length))
 }
 
-/// Whether a check says yes.
+// Whether a check says yes.
 fn holds(
     alloc: Global,
     diagram: &Diagram,

@@ -20,7 +20,7 @@ enum Fault {
     Case(FenFault),
 }
 
-/// What one call is given.
+// What one call is given.
 #[derive(Drop)]
 struct Case {
     diagram: Diagram,
@@ -28,16 +28,16 @@ struct Case {
     left: u8,
 }
 
-/// After 2.5 moves: a white pawn captures on d6, and may do so en passant.
+// After 2.5 moves: a white pawn captures on d6, and may do so en passant.
 const PAWN: &str = "rnbqkbnr/1pp1pppp/p2P4/8/8/8/PPPP1PPP/RNBQKBNR";
 
-/// After two moves: the black queen has recaptured on d5.
+// After two moves: the black queen has recaptured on d5.
 const QUEEN: &str = "rnb1kbnr/ppp1pppp/8/3q4/8/8/PPPP1PPP/RNBQKBNR";
 
 const ARRAY: &str = "rnbqkbnr/pppppppp/8/8/8/8/PPPPPPPP/RNBQKBNR w KQkq - 0 1";
 
-/// A diagram, a position and the plies left. The last of each diagram is from a game that lost a
-/// ply on its way, so it excludes; the others are from games that arrive.
+// A diagram, a position and the plies left. The last of each diagram is from a game that lost a
+// ply on its way, so it excludes; the others are from games that arrive.
 const CASES: [(&str, &str, u8); 8] = [
     (PAWN, ARRAY, 5),
     (
@@ -81,7 +81,7 @@ fn case_of(diagram: &str, position: &str, left: u8) -> Result<Case, FenFault> {
     })
 }
 
-/// The cases, each read once.
+// The cases, each read once.
 fn read_cases(alloc: Global) -> anyhow::Result<Vec<Case>> {
     let mut cases = Vec::new(alloc);
     for (diagram, position, left) in CASES {
@@ -93,7 +93,7 @@ fn read_cases(alloc: Global) -> anyhow::Result<Vec<Case>> {
     Ok(cases)
 }
 
-/// How many of the cases exclude.
+// How many of the cases exclude.
 fn count_excluded(cases: &[Case]) -> u64 {
     let mut count = 0u64;
     for case in cases {
@@ -104,25 +104,25 @@ fn count_excluded(cases: &[Case]) -> u64 {
     count
 }
 
-/// The array without rights, and with White's; White has castled, with 5 men on other squares.
+// The array without rights, and with White's; White has castled, with 5 men on other squares.
 const AT_HOME: &str = "rnbqkbnr/pppppppp/8/8/8/8/PPPPPPPP/RNBQKBNR w - - 0 1";
 
 const WITH_RIGHTS: &str = "rnbqkbnr/pppppppp/8/8/8/8/PPPPPPPP/RNBQKBNR w KQ - 0 1";
 
 const CASTLED: &str = "rnbqkbnr/pppppppp/8/8/2B1P3/5N2/PPPP1PPP/RNBQ1RK1";
 
-/// The least distances of White's men on a1 to d1, f1, g1, a2 to d2, f2 to h2, f3, c4 and e4, with no
-/// castling, after castling king side, and queen side.
+// The least distances of White's men on a1 to d1, f1, g1, a2 to d2, f2 to h2, f3, c4 and e4, with no
+// castling, after castling king side, and queen side.
 const FREE: [u8; 16] = [0, 0, 0, 0, 1, 2, 0, 0, 0, 0, 0, 0, 0, 1, 1, 1];
 
 const SHORT: [u8; 16] = [0, 0, 0, 0, 0, 0, 0, 0, 0, 0, 0, 0, 0, 1, 1, 1];
 
 const LONG: [u8; 16] = [1, 0, 0, 0, 1, 4, 0, 0, 0, 0, 0, 0, 0, 1, 1, 1];
 
-/// As `FREE`, and one more on every man.
+// As `FREE`, and one more on every man.
 const RAISED: [u8; 16] = [1, 1, 1, 1, 2, 3, 1, 1, 1, 1, 1, 1, 1, 2, 2, 2];
 
-/// What one call of a test of prices is given.
+// What one call of a test of prices is given.
 #[derive(Drop)]
 struct Priced {
     diagram: Diagram,
@@ -157,7 +157,7 @@ fn priced_case(position: &str, left: u8, prices: Prices) -> anyhow::Result<Price
     }
 }
 
-/// One way, one way where every target pays something, three ways, and a list that does not fit.
+// One way, one way where every target pays something, three ways, and a list that does not fit.
 fn priced_cases(alloc: Global) -> anyhow::Result<Vec<Priced>> {
     let mut three = list(&[0; 16], &FREE)?;
     three.add(&[0; 16], &SHORT);
@@ -170,7 +170,7 @@ fn priced_cases(alloc: Global) -> anyhow::Result<Vec<Priced>> {
     Ok(cases)
 }
 
-/// How many of the travel prices exclude.
+// How many of the travel prices exclude.
 fn count_priced(cases: &[Priced]) -> u64 {
     let mut count = 0u64;
     for case in cases {
@@ -187,10 +187,10 @@ fn count_priced(cases: &[Priced]) -> u64 {
     count
 }
 
-/// A white pawn that came to d3 from the e-file.
+// A white pawn that came to d3 from the e-file.
 const SHIFTED: &str = "rnbqkbnr/pppppppp/8/8/8/3P4/PPPP1PPP/RNBQKBNR";
 
-/// Prices of White's pawns: that list, one more on every pawn, one that does not fit, and all equal.
+// Prices of White's pawns: that list, one more on every pawn, one that does not fit, and all equal.
 const PAWN_LISTS: [([u8; 8], [u8; 8]); 4] = [
     ([0, 0, 0, 1, 0, 0, 0, 0], [0, 0, 0, 1, 0, 0, 0, 1]),
     ([1, 1, 1, 2, 1, 1, 1, 1], [1, 1, 1, 2, 1, 1, 1, 2]),
@@ -198,7 +198,7 @@ const PAWN_LISTS: [([u8; 8], [u8; 8]); 4] = [
     ([255; 8], [255; 8]),
 ];
 
-/// How many of the pawn prices exclude.
+// How many of the pawn prices exclude.
 fn count_pawns(diagram: &Diagram, position: &Position) -> u64 {
     let mut count = 0u64;
     for (u, v) in PAWN_LISTS {
@@ -209,7 +209,7 @@ fn count_pawns(diagram: &Diagram, position: &Position) -> u64 {
     count
 }
 
-/// The count of all rounds.
+// The count of all rounds.
 fn run(alloc: Global, rounds: u64) -> anyhow::Result<u64> {
     let cases = read_cases(alloc)?;
     let mut count = 0u64;
@@ -219,7 +219,7 @@ fn run(alloc: Global, rounds: u64) -> anyhow::Result<u64> {
     Ok(count)
 }
 
-/// The same of travel prices.
+// The same of travel prices.
 fn run_prices(alloc: Global, rounds: u64) -> anyhow::Result<u64> {
     let cases = priced_cases(alloc)?;
     let mut count = 0u64;
@@ -229,7 +229,7 @@ fn run_prices(alloc: Global, rounds: u64) -> anyhow::Result<u64> {
     Ok(count)
 }
 
-/// The same of pawn prices.
+// The same of pawn prices.
 fn run_pawns(rounds: u64) -> anyhow::Result<u64> {
     let mut count = 0u64;
     match case_of(SHIFTED, ARRAY, 4) {

@@ -3,5 +3,5 @@ pub mod Men
 pub mod Tally
 pub mod Placement
 pub mod Bits
-pub mod Sets
-pub mod Packed
+pub mod lemmas
+pub mod numbers

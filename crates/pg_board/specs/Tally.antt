@@ -90,3 +90,14 @@ count_below-le p (suc n) = omega (arith, count_below-le p n, one-le (p n))
 
 pub count_below_same : (p q : ℕ → Bool) (n : ℕ) → ((k : ℕ) → k < n → p k ≡ q k) → count_below p n ≡ count_below q n
 count_below_same p q n h = total_same (λ k. one (q k)) (λ k. one (p k)) n (λ k l. ap one (h k l))
+
+-- what holds of 0 to 6 holds of each number below seven
+pub below_seven : (P : ℕ → Type 0) → P 0 × P 1 × P 2 × P 3 × P 4 × P 5 × P 6 → (n : ℕ) → n < 7 → P n
+below_seven P h zero l = h.0
+below_seven P h (suc zero) l = h.1
+below_seven P h (suc (suc zero)) l = h.2
+below_seven P h (suc (suc (suc zero))) l = h.3
+below_seven P h (suc (suc (suc (suc zero)))) l = h.4
+below_seven P h (suc (suc (suc (suc (suc zero))))) l = h.5
+below_seven P h (suc (suc (suc (suc (suc (suc zero)))))) l = h.6
+below_seven P h (suc (suc (suc (suc (suc (suc (suc n))))))) l = absurd (omega arith)

@@ -3,7 +3,7 @@ ghost use Rattle.std.specs.Cmp.{partial_equiv_from_equiv, decided};
 ghost use Rattle.pg_board.specs.Men.{king_of, is_man, is_of, is_held};
 ghost use Rattle.pg_board.specs.Placement.{placement_eq, placement_eq_decides, placement_of, get, empty, put, without, count_of, IsFirst};
 ghost use Rattle.pg_board.specs.Bits.{has};
-ghost use Rattle.pg_board.specs.Sets.{man_in, IsSound};
+ghost use Rattle.pg_board.specs.numbers.Sets.{man_in, IsSound};
 
 use crate::man::{Color, Kind, Man};
 use crate::sets::{Sets, color_set, differing, man_at, man_set, replaced, same_sets};
@@ -19,7 +19,7 @@ pub struct Board {
 
 impl Model for Board {
     ghost use Rattle.pg_board.specs.Placement.{Placement, placement_code, placement_of};
-    ghost use Rattle.pg_board.specs.Sets.{man_in, IsSound, sets_of, sets_of-placement_of};
+    ghost use Rattle.pg_board.specs.numbers.Sets.{man_in, IsSound, sets_of, sets_of-placement_of};
 
     ghost Value = { Placement };
 

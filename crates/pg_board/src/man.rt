@@ -1,5 +1,5 @@
-ghost use Rattle.std.specs.Prelude.{◌≡◌};
-ghost use Rattle.pg_board.specs.Men.{other};
+ghost use Rattle.std.specs.Prelude.{◌≡◌, ◌<◌};
+ghost use Rattle.pg_board.specs.Men.{number_of_kind, other};
 
 /// The two sides (FIDE article 1.1).
 #[derive(Clone, Copy, Debug, PartialEq, Eq, PartialOrd, Ord, Hash)]
@@ -29,6 +29,23 @@ pub enum Kind {
     Rook,
     Queen,
     King,
+}
+
+impl Kind {
+    /// The kind's place in that order, 0 for a pawn to 5 for a king.
+    pub fn number(self) -> u8
+        ensures value { result ≡ number_of_kind self }
+        ensures bound { result < 6 }
+    {
+        match self {
+            Kind::Pawn => 0,
+            Kind::Knight => 1,
+            Kind::Bishop => 2,
+            Kind::Rook => 3,
+            Kind::Queen => 4,
+            Kind::King => 5,
+        }
+    }
 }
 
 /// A man of the board: a pawn or a piece of one colour (FIDE article 2.2).

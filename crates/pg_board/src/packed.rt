@@ -1,7 +1,7 @@
 //! Boards in 32 bytes.
 ghost use Rattle.std.specs.Prelude.{◌≡◌};
-ghost use Rattle.pg_board.specs.Packed.{quarters_of, unpacked};
-ghost use Rattle.pg_board.specs.Sets.{IsSound};
+ghost use Rattle.pg_board.specs.numbers.Packed.{quarters_of, unpacked};
+ghost use Rattle.pg_board.specs.numbers.Sets.{IsSound};
 
 use crate::board::Board;
 use crate::sets::Sets;
@@ -56,8 +56,8 @@ pub struct PackedBoard {
 
 impl Model for PackedBoard {
     ghost use Rattle.pg_board.specs.Placement.{Placement, placement_code, placement_of};
-    ghost use Rattle.pg_board.specs.Packed.{unpacked};
-    ghost use Rattle.pg_board.specs.Sets.{man_in, IsSound};
+    ghost use Rattle.pg_board.specs.numbers.Packed.{unpacked};
+    ghost use Rattle.pg_board.specs.numbers.Sets.{man_in, IsSound};
 
     ghost Value = { Placement };
 

@@ -2,7 +2,7 @@
 ghost use Rattle.std.specs.Prelude.{◌≡◌, ℕ, ◌+◌, ◌<◌, ◌^◌, ◌↔◌, cond, IsTrue, bit_and, eqb};
 ghost use Rattle.pg_board.specs.Men.{is_kind, is_of};
 ghost use Rattle.pg_board.specs.Bits.{has};
-ghost use Rattle.pg_board.specs.Sets.{kind_in, man_in, set_of, set_of_kind, set_of_color, unlike, Replaces, AreWords};
+ghost use Rattle.pg_board.specs.numbers.Sets.{kind_in, man_in, set_of, set_of_kind, set_of_color, unlike, Replaces, AreWords};
 
 use crate::man::{Color, Kind, Man};
 
@@ -19,7 +19,7 @@ pub struct Sets {
     pub black: u64,
 }
 
-// Whether a set has a square.
+/// Whether a set has a square.
 pub fn contains(set: u64, i: u8) -> bool
     requires { i < 64 }
     ensures { result ≡ has set i }
@@ -27,7 +27,7 @@ pub fn contains(set: u64, i: u8) -> bool
     (set >> i) & 1 == 1
 }
 
-// The set with the square, or without it.
+/// The set with the square, or without it.
 pub fn adjusted(set: u64, i: u8, on: bool) -> u64
     requires { i < 64 }
     ensures bits { (q : ℕ) → q < 64 → has result q ≡ cond (eqb q i) on (has set q) }
@@ -74,7 +74,7 @@ fn kind_at(sets: &Sets, i: u8) -> Kind
     }
 }
 
-// The man on a square.
+/// The man on a square.
 pub fn man_at(sets: &Sets, i: u8) -> Option<Man>
     requires { i < 64 }
     ensures { result ≡ man_in sets.now i }
@@ -94,7 +94,7 @@ pub fn man_at(sets: &Sets, i: u8) -> Option<Man>
     }
 }
 
-// The sets after the square got this man, or none.
+/// The sets after the square got this man, or none.
 pub fn replaced(sets: &Sets, i: u8, man: Option<Man>) -> Sets
     requires { i < 64 }
     ensures square { Replaces sets.now i man result }
@@ -134,7 +134,7 @@ pub fn color_set(sets: &Sets, color: Color) -> u64
     }
 }
 
-// The squares with this man.
+/// The squares with this man.
 pub fn man_set(sets: &Sets, man: Man) -> u64
     ensures { result ≡ set_of sets.now man }
 {
@@ -147,8 +147,8 @@ pub fn same_sets(a: &Sets, b: &Sets) -> bool
     *a == *b
 }
 
-// The squares that are in a set of the one and not of the other. Kings need no look: a man of no
-// other kind is a king.
+/// The squares that are in a set of the one and not of the other. Kings need no look: a man of no
+/// other kind is a king.
 pub fn differing(a: &Sets, b: &Sets) -> u64
     ensures { result ≡ unlike a.now b.now }
 {

@@ -15,7 +15,7 @@ const KINDS: [Kind; 6] = [
     Kind::King,
 ];
 
-/// The plain board of 64 cells: the program that `Board` is compared with.
+// The plain board of 64 cells: the program that `Board` is compared with.
 #[derive(Drop)]
 struct Cells {
     cells: [Option<Man>; 64],
@@ -40,7 +40,7 @@ impl Cells {
     }
 }
 
-/// That each call that reads answers alike for the board and for the cells.
+// That each call that reads answers alike for the board and for the cells.
 fn compare(rt: &impl Abort, board: &Board, cells: &Cells) {
     for i in 0..64u8 {
         let man = cells.cells[i as usize];
@@ -71,7 +71,7 @@ fn compare_man(rt: &impl Abort, board: &Board, cells: &Cells, man: Man) {
     }
 }
 
-/// Puts the man on the square, and takes away what stands some squares on.
+// Puts the man on the square, and takes away what stands some squares on.
 fn change(rt: &impl Abort, board: &mut Board, cells: &mut Cells, square: Square, man: Man) {
     board.put(square, man);
     cells.cells[square.index() as usize] = Some(man);

@@ -11,12 +11,9 @@ use Rattle.pg_board.specs.Bits.{has, has-and, ones-count, bits_below, has-bits_b
 use Rattle.pg_board.specs.Placement.{Placement, get, tally, tally_below, count_of}
 use Rattle.pg_captures.specs.declared.classes.Class.{Class}
 use Rattle.pg_captures.specs.declared.classes.Class.TheVariants.{Queens, Rooks, Knights, LightBishops, DarkBishops}
-use Rattle.pg_captures.specs.Counting.{of_color, men, any_man, is_pawn, any_pawn, in_class}
+use Rattle.pg_captures.specs.Counting.{of_color, men, any_man, any_pawn, in_class}
+use Rattle.pg_captures.specs.lemmas.PlaceLemmas.{passes_like, and-true, pawn_like}
 use Rattle.pg_captures.specs.declared.counts.TheConstants.{LIGHT_SQUARES, DARK_SQUARES}
-
-passes_like : (f g : Man → Bool) → ((m : Man) → f m ≡ g m) → (o : Option Man) → passes f o ≡ passes g o
-passes_like f g h None = refl
-passes_like f g h (Some m) = h m
 
 -- two tests that agree count alike
 pub tally_like : (f g : ℕ → Man → Bool) (b : Placement) → ((s : ℕ) (m : Man) → f s m ≡ g s m) → tally f b ≡ tally g b
@@ -28,22 +25,9 @@ pub tally_set : (f : ℕ → Man → Bool) (b : Placement) (set : ℕ) → set <
 unfolding tally tally_below
 tally_set f b set fits h = ones-count 64 set fits ∙ count_below_same (has set) (λ q. passes (f q) (get b q)) 64 h
 
-and_true : (x : Bool) → (x && true) ≡ x
-and_true true = refl
-and_true false = refl
-
 -- the men of a colour
 pub all_men_set : (b : Placement) (c : Color) (set : ℕ) → set < 2 ^ 64 → ((q : ℕ) → q < 64 → has set q ≡ is_of c (get b q)) → count_ones set ≡ men c any_man b
-all_men_set b c set fits h = tally_set (of_color c any_man) b set fits (λ q l. h q l ∙ passes_like (λ x. color_eq x.color c) (of_color c any_man q) (λ m. sym (and_true (color_eq m.color c))) (get b q))
-
-pub pawn_like : (k : Kind) → kind_eq k Pawn ≡ is_pawn k
-unfolding is_pawn
-pawn_like Pawn = refl
-pawn_like Knight = refl
-pawn_like Bishop = refl
-pawn_like Rook = refl
-pawn_like Queen = refl
-pawn_like King = refl
+all_men_set b c set fits h = tally_set (of_color c any_man) b set fits (λ q l. h q l ∙ passes_like (λ x. color_eq x.color c) (of_color c any_man q) (λ m. sym (and-true (color_eq m.color c))) (get b q))
 
 pub pawns_counted : (b : Placement) (c : Color) → count_of b (man c Pawn) ≡ men c any_pawn b
 pawns_counted b c = tally_like (λ _ x. man_eq x (man c Pawn)) (of_color c any_pawn) b (λ s m. ap (λ x. color_eq m.color c && x) (pawn_like m.kind))

@@ -1,16 +1,7 @@
 pub mod Lists
 pub mod Counting
 pub mod Owed
-pub mod StepCounts
-pub mod Potential
-pub mod CapturesLaw
-pub mod PromotionsLaw
 pub mod Decided
 pub mod FreeSteps
-pub mod BoardLemmas
-pub mod Decisions
-pub mod MoveLemmas
 pub mod PriceLists
-pub mod Duality
-pub mod PriceSums
-pub mod PlaceLemmas
+pub mod lemmas

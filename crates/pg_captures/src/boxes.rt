@@ -19,6 +19,7 @@ fn ask(bound: &Box<dyn Bound>, diagram: &Diagram, position: &Position, left: u8)
     ensures value { result ≡ excluded bound.now diagram.now position.now left }
     ensures barren { IsTrue result → Barren diagram.now position.now left }
 {
+    // A fact for the proof: what is handed in is a position.
     position.side();
     excludes_box(bound, diagram, position, left)
 }

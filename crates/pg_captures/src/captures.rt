@@ -58,14 +58,15 @@ fn captures_hold(diagram: &Diagram, position: &Position, left: u8) -> bool
 pub struct Captures;
 
 impl Bound for Captures {
-    ghost use Rattle.pg_captures.specs.CapturesLaw.{captures_barren};
-    ghost use Rattle.pg_captures.specs.Decided.{captures_test, captures_test_tells};
+    ghost use Rattle.pg_captures.specs.lemmas.CapturesLaw.{captures_barren};
+    ghost use Rattle.pg_board.specs.lemmas.Decisions.{answer_tells};
+    ghost use Rattle.pg_captures.specs.Decided.{dec_captures, captures_test};
 
     ghost code_of = { λ b. 1 };
 
     ghost excluded = { λ b d p k. captures_test d p k };
 
-    ghost sound = { λ b d p k valid h. captures_barren d p k valid ((captures_test_tells d p k).0 h) };
+    ghost sound = { λ b d p k valid h. captures_barren d p k valid ((answer_tells (dec_captures d p k)).0 h) };
 
     fn code(&self) -> u8
         ensures { result ≡ 1 }

@@ -8,7 +8,7 @@ ghost use Rattle.pg_captures.specs.Counting.{of_color, men, any_man, any_pawn, i
 use crate::classes::Class;
 use pg_board::{Board, Color, Kind, Man};
 
-// The light squares, b1 among them: bit q for the square q. And the dark ones, a1 among them.
+/// The light squares, b1 among them: bit q for the square q. And the dark ones, a1 among them.
 pub const LIGHT_SQUARES: u64 = 0x55aa_55aa_55aa_55aa;
 
 pub const DARK_SQUARES: u64 = 0xaa55_aa55_aa55_aa55;
@@ -48,7 +48,7 @@ fn class_set(board: &Board, color: Color, class: Class) -> u64
     }
 }
 
-// How many men of a class the colour has.
+/// How many men of a class the colour has.
 pub fn class_men(board: &Board, color: Color, class: Class) -> u8
     ensures value { result ≡ men color (in_class class) board.now }
     ensures few { result ≤ 64 }

@@ -57,14 +57,15 @@ fn promotions_hold(diagram: &Diagram, position: &Position) -> bool
 pub struct Promotions;
 
 impl Bound for Promotions {
-    ghost use Rattle.pg_captures.specs.PromotionsLaw.{promotions_barren};
-    ghost use Rattle.pg_captures.specs.Decided.{promotions_test, promotions_test_tells};
+    ghost use Rattle.pg_captures.specs.lemmas.PromotionsLaw.{promotions_barren};
+    ghost use Rattle.pg_board.specs.lemmas.Decisions.{answer_tells};
+    ghost use Rattle.pg_captures.specs.Decided.{dec_promotions, promotions_test};
 
     ghost code_of = { λ b. 2 };
 
     ghost excluded = { λ b d p k. promotions_test d p };
 
-    ghost sound = { λ b d p k valid h. promotions_barren d p k valid ((promotions_test_tells d p).0 h) };
+    ghost sound = { λ b d p k valid h. promotions_barren d p k valid ((answer_tells (dec_promotions d p)).0 h) };
 
     fn code(&self) -> u8
         ensures { result ≡ 2 }

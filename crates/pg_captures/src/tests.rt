@@ -8,7 +8,7 @@ fn diagram(rt: &impl Abort, text: &str) -> Diagram {
     Diagram::read(text).expect(rt, text)
 }
 
-/// The position after 1. d3, 1. e4 d5 2. exd5 and so on: moves by square indexes, all legal.
+// The position after 1. d3, 1. e4 d5 2. exd5 and so on: moves by square indexes, all legal.
 fn after(rt: &impl Abort, moves: &[(u8, u8)]) -> Position {
     let mut position = Position::array();
     for (from, to) in moves {
@@ -63,7 +63,7 @@ fn plain_cases(rt: HostRuntime) {
     assert_eq!(rt; plies_left(Color::Black, Color::White, 4), 2);
 }
 
-/// A bound of the test's own, which never excludes.
+// A bound of the test's own, which never excludes.
 #[derive(Drop)]
 struct Never {
     code: u8,

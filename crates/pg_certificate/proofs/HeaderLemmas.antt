@@ -1,15 +1,12 @@
 -- The 37 bytes of a header, and reading one from a source that tells its bytes.
-use Rattle.std.proofs.Common.{◌≡◌, ℕ, ◌+◌, ◌-◌, ◌⊎◌, inl, inr, Bool, true, false, cond, eqb, ◌&&◌, List, [], ◌∷◌, length, get_or, take, drop, Some, None, Err, refl, sym, ap, subst, ◌∙◌, arith}
+use Rattle.std.proofs.Common.{◌≡◌, ℕ, ◌+◌, ◌-◌, ◌⊎◌, inl, inr, Bool, true, false, cond, eqb, ◌&&◌, List, [], ◌∷◌, length, get_or, take, drop, Some, None, refl, sym, ap, subst, ◌∙◌, arith}
 use Rattle.std.proofs.lemmas.Bool.{eqb-true}
 use Rattle.std.proofs.lemmas.List.{take_rest}
-use Rattle.std.specs.Prelude.{Option, IfSome}
+use Rattle.std.specs.Prelude.{Option}
 use Rattle.std.specs.Option.{option_map}
-use Rattle.std.specs.Io.KnownBytes.{Consumes}
-use Rattle.pg_certificate.specs.declared.fault.ReadFault.TheVariants.{Magic}
 use Rattle.pg_certificate.specs.declared.record.Header.{Header}
 use Rattle.pg_certificate.specs.Spelling.{header_spelling, IsHeader, IsVersion}
-use Rattle.pg_certificate.specs.Reading.{exactly, version_named, version_of, header_of, header_at}
-use Rattle.pg_certificate.specs.Reader.{Leaves}
+use Rattle.pg_certificate.specs.Reading.{version_named, version_of, header_of}
 
 -- which side a choice took
 pub chosen : {A : Type 0} (b : Bool) (x y z : A) → cond b x y ≡ z → ((b ≡ true) × (x ≡ z)) ⊎ ((b ≡ false) × (y ≡ z))
@@ -91,19 +88,3 @@ header_with text diagram version is e = rw (is, e) refl
 -- the header that the code makes of 37 bytes
 pub header_made : (text diagram : List ℕ) (version : ℕ) → length text ≡ 37 → Some version ≡ version_of text → diagram ≡ take 32 (drop 5 text) → Some (record { version = version; plies = get_or text 4 0; diagram = diagram }) ≡ header_of text
 header_made text diagram version len is e = header_with text diagram version (sym is) (rest_is text diagram len e)
-
--- 37 bytes were read, and they are a header
-pub header_given : (before after : Option (List ℕ)) (text : List ℕ) (h : Header) → Leaves (exactly 37) before after text → header_of text ≡ Some h → Leaves header_at before after h
-header_given None after text h taken is = tt
-header_given (Some bytes) None text h taken is = absurd taken
-header_given (Some bytes) (Some rest) text h taken is = rw (taken, is) refl
-
--- 37 bytes were read, and they are no header
-pub header_refused : (before after : Option (List ℕ)) (text : List ℕ) → Leaves (exactly 37) before after text → header_of text ≡ None → IfSome before (λ bytes. header_at bytes ≡ Err Magic)
-header_refused None after text taken none = tt
-header_refused (Some bytes) None text taken none = absurd taken
-header_refused (Some bytes) (Some rest) text taken none = rw (taken, none) refl
-
--- the 37 bytes that were read are the header's spelling
-pub header_found : (before after : Option (List ℕ)) (text : List ℕ) (h : Header) → Consumes before after text → length text ≡ 37 → header_of text ≡ Some h → Consumes before after (header_spelling h)
-header_found before after text h taken len is = subst (Consumes before after) (header_is text h len is).1 taken

@@ -1,13 +1,13 @@
 -- Reading price lists from a source that tells its bytes.
 use Rattle.std.proofs.Common.{◌≡◌, ℕ, zero, suc, ◌+◌, ◌*◌, ◌<◌, ◌≤◌, ◌^◌, inl, inr, List, [], ◌∷◌, ◌++◌, length, get_or, Some, None, refl, sym, subst, ap, ◌∙◌, arith}
-use Rattle.std.specs.Prelude.{Option, IfSome, slice_index}
+use Rattle.std.specs.Prelude.{Option, slice_index}
 use Rattle.std.proofs.KnownBytes.{Consumes-trans}
 use Rattle.std.proofs.lemmas.Bool.{cases_lt}
 use Rattle.std.specs.Io.KnownBytes.{Consumes}
 use Rattle.pg_captures.specs.PriceLists.{PriceList}
 use Rattle.pg_certificate.specs.declared.outline.Outline.{Outline}
 use Rattle.pg_certificate.specs.Spelling.{AreBytes, spelling}
-use Rattle.pg_certificate.specs.Outlines.{IsOutline, outline_spelling, AreListsOf, lists_spelling}
+use Rattle.pg_certificate.specs.numbers.Outlines.{IsOutline, outline_spelling, AreListsOf, lists_spelling}
 use Rattle.pg_certificate.specs.Reading.{exactly, lists_of, lists_at}
 use Rattle.pg_certificate.specs.Reader.{Leaves}
 use Rattle.pg_certificate.proofs.ListTexts.{many_lists, are_lists, spelled_lists}
@@ -42,11 +42,6 @@ all_fit out h = λ i. elim (cases_lt i (length out)) [
 pub lists_fit : (o : Outline) (out : List ℕ) (ls : List PriceList) → length out ≡ all_bytes o → ls ≡ lists_of o.ways o.sources o.targets out → ((k : ℕ) → k < length out → slice_index out k < 2 ^ 8) → AreListsOf o ls
 lists_fit o out ls len e h =
     subst (λ (x : List PriceList). AreListsOf o x) (sym e) (record { ways = many_lists o.ways o.sources o.targets out; lists = are_lists o.ways o.sources o.targets out len (all_fit out h) })
-
-pub fewer_pulled : (before left : Option (List ℕ)) (n m : ℕ) → n ≤ m → IfSome before (λ bytes. IfSome left (λ rest. length bytes ≤ length rest + (4096 + n))) → IfSome before (λ bytes. IfSome left (λ rest. length bytes ≤ length rest + (4096 + m)))
-fewer_pulled None left n m p h = tt
-fewer_pulled (Some bytes) None n m p h = tt
-fewer_pulled (Some bytes) (Some rest) n m p h = omega (arith, p, h)
 
 pub priced_text : (before mid after : Option (List ℕ)) (o : Outline) (ls : List PriceList) → IsOutline o → AreListsOf o ls → Consumes before mid (outline_spelling o) → Consumes mid after (lists_spelling ls) → (l : List ℕ) × (spelling (priced_of o ls) ≡ 6 ∷ l) × Consumes before after l
 priced_text before mid after o ls is are p q =

@@ -1,14 +1,13 @@
 -- Price lists written one after the other.
 use Rattle.std.proofs.Common.{◌≡◌, ℕ, zero, suc, ◌+◌, ◌<◌, List, [], ◌∷◌, ◌++◌, length, take, sym, ap, subst, ◌∙◌, arith}
 use Rattle.std.proofs.lemmas.List.{append-nil, append_assoc}
-use Rattle.std.proofs.Math.Seq.{take-length}
 use Rattle.std.proofs.KnownBytes.{Appends-trans}
 use Rattle.std.specs.Prelude.{Option}
 use Rattle.std.specs.List.{flat_map}
 use Rattle.std.specs.Io.KnownBytes.{Appends}
 use Rattle.pg_captures.specs.PriceLists.{PriceList}
 use Rattle.pg_travel.specs.PriceRecords.{sources, targets, u_at, v_at}
-use Rattle.pg_certificate.specs.Spelling.{list_spelling, prices_spelling}
+use Rattle.pg_certificate.specs.Spelling.{list_spelling}
 
 -- the numbers before the lists, and the first of the lists
 abbrev pub begun : List PriceList → ℕ → List ℕ
@@ -28,6 +27,3 @@ put_next a b c d ls i us vs p e f h u v =
     let same : us ++ vs ≡ u_at ls i ++ v_at ls i = ap (λ (m : List ℕ). m ++ vs) e ∙ ap (λ (m : List ℕ). u_at ls i ++ m) f in
     subst (Appends a d) (ap (λ (m : List ℕ). begun ls i ++ m) same ∙ ap (λ (m : List ℕ). length ls ∷ sources ls ∷ targets ls ∷ m) (sym (one_more ls i p)))
     (Appends-trans a b d (begun ls i) (us ++ vs) h (Appends-trans b c d us vs u v))
-
-pub put_all : (a d : Option (List ℕ)) (ls : List PriceList) (i : ℕ) → i ≡ length ls → Appends a d (begun ls i) → Appends a d (prices_spelling ls)
-put_all a d ls i e h = subst (Appends a d) (ap (λ (m : List PriceList). length ls ∷ sources ls ∷ targets ls ∷ flat_map list_spelling m) (ap (λ (k : ℕ). take k ls) e ∙ take-length ls)) h

@@ -1,7 +1,9 @@
 //! What reading and spelling have to do with one another. Each law is a function that does nothing:
 //! its contract is the law.
 ghost use Rattle.std.specs.Prelude.{List, ℕ};
-ghost use Rattle.pg_certificate.specs.Laws.{RecordsAreReadAgain, WhatIsReadIsSpelled, NoSpellingBeginsAnother, NoSpellingIsLonger, TruncatedWhereCutShort, UnknownWhereNoneGoesOn, HeadersAreReadAgain, WhatIsReadIsAHeader, RefusesWhatIsNoHeader};
+ghost use Rattle.pg_certificate.specs.Laws.{RecordsAreReadAgain, WhatIsReadIsSpelled, NoSpellingBeginsAnother, NoSpellingIsLonger};
+ghost use Rattle.pg_certificate.specs.Laws.{TruncatedWhereCutShort, UnknownWhereNoneGoesOn};
+ghost use Rattle.pg_certificate.specs.Laws.{HeadersAreReadAgain, WhatIsReadIsAHeader, RefusesWhatIsNoHeader};
 
 /// Bytes that begin with the spelling of a record of a version are read as that record by that
 /// version, and what follows is left.

@@ -7,7 +7,7 @@ use crate::record::Header;
 /// The length of a header, in bytes.
 pub const HEADER_LENGTH: usize = 37;
 
-/// The version that a digit stands for; none where there is no such version.
+// The version that a digit stands for; none where there is no such version.
 fn version_named(digit: u8) -> Option<u8>
     ensures { result ≡ version_named digit }
 {
@@ -18,7 +18,7 @@ fn version_named(digit: u8) -> Option<u8>
     }
 }
 
-/// The version whose magic is the first four bytes: PGC and its digit.
+// The version whose magic is the first four bytes: PGC and its digit.
 fn version_of(text: &[u8; HEADER_LENGTH]) -> Option<u8>
     ensures { result ≡ version_of text.now }
 {

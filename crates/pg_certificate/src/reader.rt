@@ -1,10 +1,11 @@
 //! The header and the records of a certificate, read from a source.
-ghost use Rattle.std.specs.Prelude.{◌≡◌, ◌↔◌, ◌<◌, ◌≤◌, ◌^◌, ◌+◌, ◌*◌, ℕ, List, slice_index, [], ◌∷◌, ◌++◌, length, true, false, IfOk, OnOk, OnErr, IsTrue};
+ghost use Rattle.std.specs.Prelude.{◌≡◌, ◌↔◌, ◌<◌, ◌≤◌, ◌^◌, ◌+◌, ◌*◌, ℕ, List, [], ◌∷◌, ◌++◌, slice_index, length};
+ghost use Rattle.std.specs.Prelude.{true, false, IfOk, OnOk, OnErr, IsTrue};
 ghost use Rattle.std.specs.Io.KnownBytes.{Keeps, Consumes, IsAtEnd};
 ghost use Rattle.std.specs.Int.{w32, to_be_bytes};
 ghost use Rattle.pg_certificate.specs.Spelling.{record_of, spelling, header_spelling, longest_record, IsHeader, IsRecord, IsRecordOf, PricesStay};
 ghost use Rattle.pg_certificate.specs.Reading.{more_at, byte_at, byte_from, exactly, number_at, outline_at, lists_at, priced_at, header_at, record_at, end_at};
-ghost use Rattle.pg_certificate.specs.Outlines.{IsOutline, AreListsOf, outline_spelling, lists_spelling};
+ghost use Rattle.pg_certificate.specs.numbers.Outlines.{IsOutline, AreListsOf, outline_spelling, lists_spelling};
 ghost use Rattle.pg_certificate.specs.Reader.{to_come, Reads, ReadsAs, RefusesOnce, PullsAtMost};
 
 use crate::fault::ReadFault;
@@ -15,10 +16,10 @@ use crate::source::{Refused, Source};
 use pg_travel::Prices;
 use std::marker::Model;
 
-/// The room of the buffer, in bytes.
+// The room of the buffer, in bytes.
 const CAPACITY: usize = 4096;
 
-/// The most bytes that the price lists of a record have: three lists of 64 sources and 64 targets.
+// The most bytes that the price lists of a record have: three lists of 64 sources and 64 targets.
 const LONGEST_LISTS: usize = 3 * (64 + 64);
 
 /// Reads a certificate: its header first, then its records. The reader holds up to 4,096 bytes that
@@ -69,6 +70,7 @@ impl RecordReader {
     /// Reads the header, the first 37 bytes. It is called first, and once: from then on records are
     /// read by its version.
     ///
+    /// # Errors
     /// Truncated where fewer than 37 bytes are to come, and otherwise Magic where they begin with
     /// the magic of no version. Read where the source has failed. Failed after any refusal.
     pub fn header<S: Source>(&mut self, source: &mut S) -> Result<Header, ReadFault>
@@ -184,6 +186,7 @@ impl RecordReader {
 
     /// Whether a byte is to come. It stays. After a no the source has not failed.
     ///
+    /// # Errors
     /// Read where the source has failed. Failed after any refusal.
     pub fn more<S: Source>(&mut self, source: &mut S) -> Result<bool, ReadFault>
         ensures bytes { Reads more_at
@@ -208,6 +211,7 @@ impl RecordReader {
 
     /// Answers where no byte is to come: the certificate ends, and the source has not failed.
     ///
+    /// # Errors
     /// Trailing where a byte is to come. Read where the source has failed. Failed after any
     /// refusal.
     pub fn end<S: Source>(&mut self, source: &mut S) -> Result<(), ReadFault>
@@ -228,7 +232,7 @@ impl RecordReader {
         Ok(())
     }
 
-    /// Drops what is held, and fails from now on.
+    // Drops what is held, and fails from now on.
     fn refuse(&mut self)
         ensures held { self.new.held ≡ [] }
         ensures failed { self.new.failed ≡ true }
@@ -238,7 +242,7 @@ impl RecordReader {
         self.failed = true;
     }
 
-    /// Takes the first byte that is held.
+    // Takes the first byte that is held.
     fn pop(&mut self) -> u8
         requires { 0 < length self.old.held }
         ensures held { self.old.held ≡ result ∷ self.new.held }
@@ -252,7 +256,7 @@ impl RecordReader {
         byte
     }
 
-    /// Takes as many bytes as `out` has, which are all held.
+    // Takes as many bytes as `out` has, which are all held.
     fn take(&mut self, out: &mut [u8])
         requires some { 0 < length out.old }
         requires held { length out.old ≤ length self.old.held }
@@ -268,7 +272,7 @@ impl RecordReader {
         self.start = end;
     }
 
-    /// Pulls once, where nothing is held, and answers whether a byte came.
+    // Pulls once, where nothing is held, and answers whether a byte came.
     fn fill<S: Source>(&mut self, source: &mut S) -> Result<bool, ReadFault>
         requires { self.old.held ≡ [] }
         ensures bytes { Reads more_at
@@ -301,7 +305,7 @@ impl RecordReader {
         }
     }
 
-    /// Reads one byte.
+    // Reads one byte.
     fn byte<S: Source>(&mut self, source: &mut S) -> Result<u8, ReadFault>
         ensures bytes { Reads byte_at
             (to_come self.old (S.left source.old)) (to_come self.new (S.left source.new)) result }
@@ -326,7 +330,7 @@ impl RecordReader {
         Ok(self.pop())
     }
 
-    /// Reads so many bytes.
+    // Reads so many bytes.
     fn exact<S: Source>(&mut self, out: &mut [u8], source: &mut S) -> Result<(), ReadFault>
         requires { 0 < length out.old }
         ensures bytes { ReadsAs (λ _. out.new) (exactly (length out.old))
@@ -353,7 +357,7 @@ impl RecordReader {
         Ok(())
     }
 
-    /// Reads a number of four bytes, most significant byte first.
+    // Reads a number of four bytes, most significant byte first.
     fn number<S: Source>(&mut self, source: &mut S) -> Result<u32, ReadFault>
         ensures bytes { Reads number_at
             (to_come self.old (S.left source.old)) (to_come self.new (S.left source.new)) result }
@@ -373,7 +377,7 @@ impl RecordReader {
         Ok(u32::from_be_bytes([bytes[0], bytes[1], bytes[2], bytes[3]]))
     }
 
-    /// Reads one byte, from the least to the most that may stand there. UnknownRecord at any other.
+    // Reads one byte, from the least to the most that may stand there. UnknownRecord at any other.
     fn byte_from<S: Source>(&mut self, least: u8, most: u8, source: &mut S) -> Result<u8, ReadFault>
         ensures bytes { Reads (byte_from least most)
             (to_come self.old (S.left source.old)) (to_come self.new (S.left source.new)) result }
@@ -397,7 +401,7 @@ impl RecordReader {
         Ok(byte)
     }
 
-    /// Reads what stands before the price lists of a record.
+    // Reads what stands before the price lists of a record.
     fn outline<S: Source>(&mut self, source: &mut S) -> Result<Outline, ReadFault>
         ensures bytes { Reads outline_at
             (to_come self.old (S.left source.old)) (to_come self.new (S.left source.new)) result }
@@ -427,7 +431,7 @@ impl RecordReader {
         })
     }
 
-    /// Reads so many bytes, of which there may be none.
+    // Reads so many bytes, of which there may be none.
     fn numbers<S: Source>(&mut self, out: &mut [u8], source: &mut S) -> Result<(), ReadFault>
         requires runs { self.old.failed ≡ false }
         requires room { length self.old.held ≤ 4096 }
@@ -451,7 +455,7 @@ impl RecordReader {
         self.exact(out, source)
     }
 
-    /// Reads the price lists of a record, whose bytes come into `bytes`.
+    // Reads the price lists of a record, whose bytes come into `bytes`.
     fn lists<S: Source>(
         &mut self,
         outline: &Outline,
@@ -480,7 +484,7 @@ impl RecordReader {
         Ok(prices_of(bytes, outline))
     }
 
-    /// Reads a priced record after its first byte, its lists into `prices`.
+    // Reads a priced record after its first byte, its lists into `prices`.
     #[inline(never)]
     fn priced<S: Source>(&mut self, prices: &mut Prices, source: &mut S) -> Result<Bare, ReadFault>
         requires { self.old.failed ≡ false }

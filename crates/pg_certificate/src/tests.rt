@@ -5,14 +5,14 @@ mod writing;
 use super::*;
 use std::test::*;
 
-/// The array, in 0 plies.
+// The array, in 0 plies.
 const ARRAY_HEADER: [u8; 37] = [
     0x50, 0x47, 0x43, 0x31, 0x00, 0x24, 0x53, 0x36, 0x42, 0x11, 0x11, 0x11, 0x11, 0x00, 0x00, 0x00,
     0x00, 0x00, 0x00, 0x00, 0x00, 0x00, 0x00, 0x00, 0x00, 0x00, 0x00, 0x00, 0x00, 0x99, 0x99, 0x99,
     0x99, 0xac, 0xdb, 0xbe, 0xca,
 ];
 
-/// Each record of version 1 once.
+// Each record of version 1 once.
 const RECORDS: [Record; 4] = [
     Record::Expand { named: false },
     Record::Expand { named: true },
@@ -20,7 +20,7 @@ const RECORDS: [Record; 4] = [
     Record::Ref(66_051),
 ];
 
-/// Their bytes.
+// Their bytes.
 const RECORD_BYTES: [u8; 9] = [1, 5, 2, 4, 3, 0, 1, 2, 3];
 
 #[test]

@@ -11,7 +11,7 @@ use crate::source::{Refused, Sink};
 use pg_travel::Prices;
 use std::marker::Model;
 
-/// The room of the buffer, in bytes.
+// The room of the buffer, in bytes.
 const CAPACITY: usize = 4096;
 
 /// Writes a certificate: its header first, then its records, and `finish` last. The writer holds up
@@ -55,6 +55,7 @@ impl RecordWriter {
 
     /// Writes the header, 37 bytes. It is called first, and once.
     ///
+    /// # Errors
     /// Write where the sink has failed. Failed after any refusal.
     pub fn header<W: Sink>(&mut self, header: &Header, sink: &mut W) -> Result<(), WriteFault>
         requires { IsVersion header.now.version }
@@ -72,6 +73,7 @@ impl RecordWriter {
 
     /// Writes a record. It is to be one of the header's version.
     ///
+    /// # Errors
     /// Write where the sink has failed. Failed after any refusal.
     pub fn put_record<W: Sink>(&mut self, node: &Record, sink: &mut W) -> Result<(), WriteFault>
         ensures bytes { OnOk result (Appends
@@ -106,6 +108,7 @@ impl RecordWriter {
 
     /// Pushes all that is held, so that the sink has the whole certificate.
     ///
+    /// # Errors
     /// Write where the sink has failed. Failed after any refusal.
     pub fn finish<W: Sink>(&mut self, sink: &mut W) -> Result<(), WriteFault>
         ensures bytes { OnOk result (Keeps (written (W.held sink.old) self.old) (W.held sink.new)) }
@@ -129,7 +132,7 @@ impl RecordWriter {
         }
     }
 
-    /// Holds one byte more.
+    // Holds one byte more.
     fn keep(&mut self, byte: u8)
         requires { length self.old.held < 4096 }
         ensures held { self.new.held ≡ self.old.held ++ byte ∷ [] }
@@ -140,7 +143,7 @@ impl RecordWriter {
         self.end += 1;
     }
 
-    /// Writes one byte.
+    // Writes one byte.
     fn byte<W: Sink>(&mut self, byte: u8, sink: &mut W) -> Result<(), WriteFault>
         ensures bytes { OnOk result (Appends
             (written (W.held sink.old) self.old) (written (W.held sink.new) self.new)
@@ -155,7 +158,7 @@ impl RecordWriter {
         Ok(())
     }
 
-    /// Writes bytes one after the other.
+    // Writes bytes one after the other.
     fn bytes<W: Sink>(&mut self, bytes: &[u8], sink: &mut W) -> Result<(), WriteFault>
         requires { 0 < length bytes.now }
         ensures bytes { OnOk result (Appends
@@ -170,7 +173,7 @@ impl RecordWriter {
         Ok(())
     }
 
-    /// Writes numbers, of which there may be none.
+    // Writes numbers, of which there may be none.
     fn numbers<W: Sink>(&mut self, numbers: &[u8], sink: &mut W) -> Result<(), WriteFault>
         requires { self.old.failed ≡ false }
         ensures bytes { OnOk result (Appends
@@ -184,7 +187,7 @@ impl RecordWriter {
         self.bytes(numbers, sink)
     }
 
-    /// Writes how many price lists there are, how many sources and targets each has, and the lists.
+    // Writes how many price lists there are, how many sources and targets each has, and the lists.
     fn prices<W: Sink>(&mut self, prices: &Prices, sink: &mut W) -> Result<(), WriteFault>
         requires { self.old.failed ≡ false }
         ensures bytes { OnOk result (Appends

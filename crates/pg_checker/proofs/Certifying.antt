@@ -21,20 +21,20 @@ use Rattle.pg_checker.specs.Walk as walk
 use Rattle.pg_checker.specs.Walk.{◌>>=◌}
 use Rattle.pg_checker.specs.Whole.{run, answer, ended}
 use Rattle.pg_checker.specs.Chess.{Cuts, chess}
-use Rattle.pg_checker.specs.Judging.{stop_of}
-use Rattle.pg_checker.specs.Machine.{entry_of, state_at}
-use Rattle.pg_checker.specs.Steps.{Answer, Goes, Stops}
+use Rattle.pg_checker.specs.numbers.Judging.{stop_of}
+use Rattle.pg_checker.specs.numbers.Machine.{entry_of, state_at}
+use Rattle.pg_checker.specs.numbers.Steps.{Answer, Goes, Stops}
 use Rattle.pg_checker.specs.declared.machine.Machine.{Machine}
-use Rattle.pg_checker.specs.Halting.{Stop}
-use Rattle.pg_checker.specs.Halting as stop
+use Rattle.pg_checker.specs.numbers.Halting.{Stop}
+use Rattle.pg_checker.specs.numbers.Halting as stop
 use Rattle.pg_checker.specs.declared.halt.Halt.{Halt}
 use Rattle.pg_checker.specs.declared.halt.Halt.TheVariants as halt
-use Rattle.pg_checker.specs.Checking.{WalkTakes}
-use Rattle.pg_checker.specs.Halting.{full}
-use Rattle.pg_checker.specs.Steps.{FailsRead, TakesFew}
+use Rattle.pg_checker.specs.numbers.Checking.{WalkTakes}
+use Rattle.pg_checker.specs.numbers.Halting.{full}
+use Rattle.pg_checker.specs.numbers.Steps.{FailsRead, TakesFew}
 use Rattle.pg_checker.proofs.Goings.{stops_as, stops_with}
 use Rattle.pg_checker.proofs.Planting.{runs_all}
-use Rattle.pg_checker.specs.Checking.{AreKnown}
+use Rattle.pg_checker.specs.numbers.Checking.{AreKnown}
 
 -- ---- the header
 -- with nothing held, what is to come is what is left
@@ -114,7 +114,7 @@ module _ (d : Placement) (l : ℕ) (games : List (List Move)) (cut : Cuts) where
       → (rest : List ℕ) → answers records (goes.taken ++ rest) m.room ≡ ended (chess d l games cut) records m.room rest (state_at new rest new.room)
   comes_to known after m new records none same goes rest =
       fresh m records none same (goes.taken ++ rest) m.room
-      ∙ ap (λ (x : Result (walk.State State) (tree.Fault Move)). x >>= (λ s. ended (chess d l games cut) records m.room s.rest s))
+      ∙ ap (λ (x : Result (walk.WalkState State) (tree.Cause Move)). x >>= (λ s. ended (chess d l games cut) records m.room s.rest s))
       (ap (λ (room : ℕ). runs_all d l games cut array_state m (goes.taken ++ rest) room) goes.spends ∙ goes.same rest new.room)
 
   -- the bytes end there

@@ -17,6 +17,7 @@ use Rattle.pg_position.proofs.FutureLemmas.{legal_position, future_sym, same_gam
 use Rattle.pg_moves.specs.Moves.{IsLegal}
 use Rattle.pg_moves.proofs.ListLemmas.{moves_of_is, few_moves}
 use Rattle.pg_moves.proofs.PlayLemmas.{play_of_is}
+use Rattle.pg_moves.specs.numbers.Places.{most_moves}
 use Rattle.pg_checker.specs.Tree.{Rules, Trees, Reaches, TooManyNamed, spelling_all, records_all}
 use Rattle.pg_checker.specs.Tree as tree
 use Rattle.pg_checker.specs.Claims.{IsExact, IsRight, IsComplete, IsCertificate}
@@ -171,7 +172,7 @@ exact_is_accepted d n games cut h a b few =
     full_accepted r (chess_exact d n games cut) array_state (complete_list r d n games cut.version (chess_is d n games cut) h) a b few
 
 -- no state has more moves than there are pairs of squares and promotions
-pub chess_few : (d : Placement) (n : ℕ) (games : List (List Move)) (cut : Cuts) (p : State) → length ((chess d n games cut).moves p) ≤ 28672
+pub chess_few : (d : Placement) (n : ℕ) (games : List (List Move)) (cut : Cuts) (p : State) → length ((chess d n games cut).moves p) ≤ most_moves
 unfolding chess
 chess_few d n games cut p = few_moves p
 

@@ -1,4 +1,4 @@
--- A legal move changes two squares at least and four at most. Leads to the contract of `may_reach`.
+-- A legal move changes two squares at least and four at most, and which answer `may_reach` gives by the first squares that differ.
 use Rattle.std.proofs.Common.{◌≡◌, ◌≢◌, ℕ, ◌+◌, ◌<◌, ◌≤◌, ◌⊎◌, inl, inr, Bool, true, false, Some, None, refl, sym, ◌∙◌, ap, subst, arith, ltb, ltb-true, ltb-false}
 use Rattle.std.proofs.lemmas.Bool.Decides.{eqb_tells}
 use Rattle.pg_board.specs.declared.man.Color.{Color}
@@ -17,9 +17,9 @@ use Rattle.pg_board.specs.Bits.{has}
 use Rattle.pg_position.specs.SquareSets.{HasNoneFrom, IsFirstFrom}
 use Rattle.pg_position.proofs.StepLemmas.{not_other}
 use Rattle.pg_position.proofs.ValidLemmas.{castle_squares, CastleSquares, castle_vacant}
-use Rattle.pg_checker.specs.Differing.{Differ}
+use Rattle.pg_checker.specs.Differing.{Differ, TwoToFour}
 use Rattle.pg_checker.specs.Passing.{LeadsTo}
-use Rattle.pg_captures.specs.BoardLemmas.{written, unwritten, man_elsewhere, same_side}
+use Rattle.pg_captures.specs.lemmas.BoardLemmas.{written, unwritten, man_elsewhere, same_side}
 
 -- ---- four squares at most
 -- the squares that the move may change: where it leaves, where it goes, and two more
@@ -40,31 +40,6 @@ legal_spares p q m legal =
     let s : Step p m q = legal.0 in
     let sp : (x : ℕ) × (y : ℕ) × Spares p m (board_after p m s.1) x y = spares p m s.1 in
     (sp.0, sp.1, subst (λ (v : State). Spares p m v.board sp.0 sp.1) (sym s.5) sp.2)
-
--- five squares that are not as they are to be are too many for one move
-too_many : (p q : State) (d : Placement) (m : Move) (a b c e f : ℕ) → a < b → b < c → c < e → e < f
-    → ((s : ℕ) → (s ≡ a) ⊎ ((s ≡ b) ⊎ ((s ≡ c) ⊎ ((s ≡ e) ⊎ (s ≡ f)))) → get p.board s ≢ get d s) → Legal p m q → q.board ≢ d
-too_many p q d m a b c e f ab bc ce ef differ legal same =
-    let sp : (x : ℕ) × (y : ℕ) × Spares p m q.board x y = legal_spares p q m legal in
-    pigeon m.from m.to sp.0 sp.1 (one a (inl refl) sp) (one b (inr (inl refl)) sp) (one c (inr (inr (inl refl))) sp) (one e (inr (inr (inr (inl refl)))) sp) (one f (inr (inr (inr (inr refl)))) sp)
-  where
-    one : (s : ℕ) → (s ≡ a) ⊎ ((s ≡ b) ⊎ ((s ≡ c) ⊎ ((s ≡ e) ⊎ (s ≡ f)))) → (sp : (x : ℕ) × (y : ℕ) × Spares p m q.board x y) → (s ≡ m.from) ⊎ ((s ≡ m.to) ⊎ ((s ≡ sp.0) ⊎ (s ≡ sp.1)))
-    one s is sp = elim (eqb_tells s m.from) [
-      | inl w ↦ inl w.1
-      | inr w ↦ elim (eqb_tells s m.to) [
-        | inl v ↦ inr (inl v.1)
-        | inr v ↦ elim (eqb_tells s sp.0) [
-          | inl u ↦ inr (inr (inl u.1))
-          | inr u ↦ elim (eqb_tells s sp.1) [
-            | inl t ↦ inr (inr (inr t.1))
-            | inr t ↦ absurd (differ s is (sym (sp.2 s w.1 v.1 u.1 t.1) ∙ ap (λ (z : Placement). get z s) same))
-          ]
-        ]
-      ]
-    ]
-
-    pigeon : (r t x y : ℕ) → (a ≡ r) ⊎ ((a ≡ t) ⊎ ((a ≡ x) ⊎ (a ≡ y))) → (b ≡ r) ⊎ ((b ≡ t) ⊎ ((b ≡ x) ⊎ (b ≡ y))) → (c ≡ r) ⊎ ((c ≡ t) ⊎ ((c ≡ x) ⊎ (c ≡ y))) → (e ≡ r) ⊎ ((e ≡ t) ⊎ ((e ≡ x) ⊎ (e ≡ y))) → (f ≡ r) ⊎ ((f ≡ t) ⊎ ((f ≡ x) ⊎ (f ≡ y))) → ⊥
-    pigeon r t x y ha hb hc he hf = omega (arith, ab, bc, ce, ef, ha, hb, hc, he, hf)
 
 -- ---- two squares at least
 none_some : {x : Man} → None ≡ Some x → ⊥
@@ -164,50 +139,127 @@ module _ (p : State) (d : Placement) (n : ℕ) (set : Differ p.board d n) where
       let c : Changes p q m = changes p q m valid legal in
       out q m.from c.from_low c.from_changes same off
 
-  pub none_differs : IsPosition p → HasNoneFrom n 0 → (m : Move) (q : State) → Legal p m q → q.board ≢ d
-  none_differs valid none m q legal same =
-      let c : Changes p q m = changes p q m valid legal in
-      out q m.from c.from_low c.from_changes same (none m.from (omega arith) c.from_low)
+-- a legal move that leads to d changes two squares at least and four at most
+leads_near : (p q : State) (d : Placement) (m : Move) → IsPosition p → Legal p m q → q.board ≡ d → TwoToFour p.board d
+leads_near p q d m valid legal same =
+    let c : Changes p q m = changes p q m valid legal in
+    let sp : (x : ℕ) × (y : ℕ) × Spares p m q.board x y = legal_spares p q m legal in
+    record {
+      first = m.from;
+      second = m.to;
+      third = sp.0;
+      fourth = sp.1;
+      first_on_board = c.from_low;
+      second_on_board = c.to_low;
+      apart = c.apart;
+      first_differs = λ e. c.from_changes (e ∙ ap (λ (z : Placement). get z m.from) (sym same));
+      second_differs = λ e. c.to_changes (e ∙ ap (λ (z : Placement). get z m.to) (sym same));
+      others = λ s low a b x y. sym (sp.2 s a b x y) ∙ ap (λ (z : Placement). get z s) same;
+    }
 
-  pub one_differs : (a k : ℕ) → IsPosition p → IsFirstFrom n 0 a → k ≡ a → HasNoneFrom n (k + 1) → (m : Move) (q : State) → Legal p m q → q.board ≢ d
-  one_differs a k valid first is none m q legal same =
-      let c : Changes p q m = changes p q m valid legal in
-      c.apart (at m.from c.from_low (out q m.from c.from_low c.from_changes same) ∙ sym (at m.to c.to_low (out q m.to c.to_low c.to_changes same)))
+-- where the test says no, each legal move leads elsewhere
+pub far_elsewhere : (p r : State) (d : Placement) (b : Bool) → r ≡ p → IsPosition r → (TwoToFour r.board d → b ≡ true) → b ≡ false → (m : Move) (q : State) → Legal p m q → q.board ≢ d
+far_elsewhere p r d b same valid near off m q legal there =
+    let t : b ≡ true = near (subst (λ (v : State). TwoToFour v.board d) (sym same) (leads_near p q d m (subst (λ (v : State). IsPosition v) same valid) legal there)) in
+    cc
+
+-- ---- how many squares are in the set, by its first ones
+module _ (b d : Placement) (n : ℕ) (set : Differ b d n) where
+  unlike : (s : ℕ) → s < 64 → has n s ≡ true → get b s ≢ get d s
+  unlike s low member same =
+      let o : has n s ≡ false = (set s low).1 same in
+      cc
+
+  like : (s : ℕ) → s < 64 → has n s ≡ false → get b s ≡ get d s
+  like s low off = (set s low).0 off
+
+  -- a square after the first of the set, from k on, that is not this first one
+  past : (k a s : ℕ) → IsFirstFrom n k a → k ≤ s → s < 64 → s ≢ a → (a + 1 ≤ s → has n s ≡ false) → has n s ≡ false
+  past k a s first from low ne rest = elim (ltb s a) as (λ v. ltb s a ≡ v → has n s ≡ false) [
+    | true ↦ λ t. first.before s from (ltb-true s a t)
+    | false ↦ λ t. let r : a ≤ s = ltb-false s a t in rest (omega arith)
+  ] refl
+
+  pub none_is_few : HasNoneFrom n 0 → TwoToFour b d → ⊥
+  none_is_few none w = w.first_differs (like w.first w.first_on_board (none w.first (omega arith) w.first_on_board))
+
+  pub one_is_few : (a i : ℕ) → IsFirstFrom n 0 a → i ≡ a → HasNoneFrom n (i + 1) → TwoToFour b d → ⊥
+  one_is_few a i first is none w = w.apart (at w.first w.first_on_board w.first_differs ∙ sym (at w.second w.second_on_board w.second_differs))
     where
-      split : (s : ℕ) → s < 64 → (has n s ≡ false → ⊥) → s ≢ a → ⊥
-      split s low inside ne = elim (ltb s a) as (λ v. ltb s a ≡ v → ⊥) [
-        | true ↦ λ t. inside (first.before s (omega arith) (ltb-true s a t))
-        | false ↦ λ t. let r : a ≤ s = ltb-false s a t in inside (none s (omega arith) low)
-      ] refl
-
-      at : (s : ℕ) → s < 64 → (has n s ≡ false → ⊥) → s ≡ a
-      at s low inside = elim (eqb_tells s a) [
+      at : (s : ℕ) → s < 64 → get b s ≢ get d s → s ≡ a
+      at s low differs = elim (eqb_tells s a) [
         | inl w ↦ w.1
-        | inr w ↦ absurd (split s low inside w.1)
+        | inr w ↦ absurd (differs (like s low (past 0 a s first (omega arith) low w.1 (λ r. none s (omega arith) low))))
       ]
 
-  pub five_differ : (a b c e f k1 k2 k3 k4 : ℕ) → IsFirstFrom n 0 a → k1 ≡ a → IsFirstFrom n (k1 + 1) b → k2 ≡ b → IsFirstFrom n (k2 + 1) c → k3 ≡ c → IsFirstFrom n (k3 + 1) e → k4 ≡ e → IsFirstFrom n (k4 + 1) f → (m : Move) (q : State) → Legal p m q → q.board ≢ d
-  five_differ a b c e f k1 k2 k3 k4 fa ea fb eb fc ec fe ee ff m q legal =
-      too_many p q d m a b c e f
-      (let r : k1 + 1 ≤ b = fb.reached in omega arith)
-      (let r : k2 + 1 ≤ c = fc.reached in omega arith)
-      (let r : k3 + 1 ≤ e = fe.reached in omega arith)
-      (let r : k4 + 1 ≤ f = ff.reached in omega arith)
-      each legal
-    where
-      in_set : (s t : ℕ) → s ≡ t → t < 64 → has n t ≡ true → get p.board s ≢ get d s
-      in_set s t is low member same =
-          let l : s < 64 = subst (λ (v : ℕ). v < 64) (sym is) low in
-          let o : has n s ≡ false = (set s l).1 same in
-          let i : has n s ≡ true = ap (λ v. has n v) is ∙ member in
-          cc
+  pub two_are_right : (a c i j : ℕ) → IsFirstFrom n 0 a → i ≡ a → IsFirstFrom n (i + 1) c → j ≡ c → HasNoneFrom n (j + 1) → TwoToFour b d
+  two_are_right a c i j fa ia fc jc none = record {
+    first = a;
+    second = c;
+    third = a;
+    fourth = a;
+    first_on_board = fa.on_board;
+    second_on_board = fc.on_board;
+    apart = λ e. let r : i + 1 ≤ c = fc.reached in omega arith;
+    first_differs = unlike a fa.on_board fa.member;
+    second_differs = unlike c fc.on_board fc.member;
+    others = λ s low ne nf _ _. like s low (past 0 a s fa (omega arith) low ne (λ r. past (i + 1) c s fc (omega arith) low nf (λ r2. none s (omega arith) low)));
+  }
 
-      each : (s : ℕ) → (s ≡ a) ⊎ ((s ≡ b) ⊎ ((s ≡ c) ⊎ ((s ≡ e) ⊎ (s ≡ f)))) → get p.board s ≢ get d s
-      each s (inl h) = in_set s a h fa.on_board fa.member
-      each s (inr (inl h)) = in_set s b h fb.on_board fb.member
-      each s (inr (inr (inl h))) = in_set s c h fc.on_board fc.member
-      each s (inr (inr (inr (inl h)))) = in_set s e h fe.on_board fe.member
-      each s (inr (inr (inr (inr h)))) = in_set s f h ff.on_board ff.member
+  pub three_are_right : (a c e i j k : ℕ) → IsFirstFrom n 0 a → i ≡ a → IsFirstFrom n (i + 1) c → j ≡ c → IsFirstFrom n (j + 1) e → k ≡ e → HasNoneFrom n (k + 1) → TwoToFour b d
+  three_are_right a c e i j k fa ia fc jc fe ke none = record {
+    first = a;
+    second = c;
+    third = e;
+    fourth = e;
+    first_on_board = fa.on_board;
+    second_on_board = fc.on_board;
+    apart = λ x. let r : i + 1 ≤ c = fc.reached in omega arith;
+    first_differs = unlike a fa.on_board fa.member;
+    second_differs = unlike c fc.on_board fc.member;
+    others = λ s low ne nf ng _. like s low (past 0 a s fa (omega arith) low ne (λ r. past (i + 1) c s fc (omega arith) low nf (λ r2. past (j + 1) e s fe (omega arith) low ng (λ r3. none s (omega arith) low))));
+  }
+
+  pub four_are_right : (a c e f i j k l : ℕ) → IsFirstFrom n 0 a → i ≡ a → IsFirstFrom n (i + 1) c → j ≡ c → IsFirstFrom n (j + 1) e → k ≡ e → IsFirstFrom n (k + 1) f → l ≡ f → HasNoneFrom n (l + 1) → TwoToFour b d
+  four_are_right a c e f i j k l fa ia fc jc fe ke ff lf none = record {
+    first = a;
+    second = c;
+    third = e;
+    fourth = f;
+    first_on_board = fa.on_board;
+    second_on_board = fc.on_board;
+    apart = λ x. let r : i + 1 ≤ c = fc.reached in omega arith;
+    first_differs = unlike a fa.on_board fa.member;
+    second_differs = unlike c fc.on_board fc.member;
+    others = λ s low ne nf ng nh. like s low (past 0 a s fa (omega arith) low ne (λ r. past (i + 1) c s fc (omega arith) low nf (λ r2. past (j + 1) e s fe (omega arith) low ng (λ r3. past (k + 1) f s ff (omega arith) low nh (λ r4. none s (omega arith) low)))));
+  }
+
+  pub five_are_many : (a c e f g i j k l : ℕ) → IsFirstFrom n 0 a → i ≡ a → IsFirstFrom n (i + 1) c → j ≡ c → IsFirstFrom n (j + 1) e → k ≡ e → IsFirstFrom n (k + 1) f → l ≡ f → IsFirstFrom n (l + 1) g → TwoToFour b d → ⊥
+  five_are_many a c e f g i j k l fa ia fc jc fe ke ff lf fg w =
+      let rc : i + 1 ≤ c = fc.reached in
+      let re : j + 1 ≤ e = fe.reached in
+      let rf : k + 1 ≤ f = ff.reached in
+      let rg : l + 1 ≤ g = fg.reached in
+      pigeon w.first w.second w.third w.fourth (omega arith) (omega arith) (omega arith) (omega arith)
+      (one a fa.on_board fa.member) (one c fc.on_board fc.member) (one e fe.on_board fe.member) (one f ff.on_board ff.member) (one g fg.on_board fg.member)
+    where
+      one : (s : ℕ) → s < 64 → has n s ≡ true → (s ≡ w.first) ⊎ ((s ≡ w.second) ⊎ ((s ≡ w.third) ⊎ (s ≡ w.fourth)))
+      one s low member = elim (eqb_tells s w.first) [
+        | inl x ↦ inl x.1
+        | inr x ↦ elim (eqb_tells s w.second) [
+          | inl y ↦ inr (inl y.1)
+          | inr y ↦ elim (eqb_tells s w.third) [
+            | inl z ↦ inr (inr (inl z.1))
+            | inr z ↦ elim (eqb_tells s w.fourth) [
+              | inl v ↦ inr (inr (inr v.1))
+              | inr v ↦ absurd (unlike s low member (w.others s low x.1 y.1 z.1 v.1))
+            ]
+          ]
+        ]
+      ]
+
+      pigeon : (r t x y : ℕ) → a < c → c < e → e < f → f < g → (a ≡ r) ⊎ ((a ≡ t) ⊎ ((a ≡ x) ⊎ (a ≡ y))) → (c ≡ r) ⊎ ((c ≡ t) ⊎ ((c ≡ x) ⊎ (c ≡ y))) → (e ≡ r) ⊎ ((e ≡ t) ⊎ ((e ≡ x) ⊎ (e ≡ y))) → (f ≡ r) ⊎ ((f ≡ t) ⊎ ((f ≡ x) ⊎ (f ≡ y))) → (g ≡ r) ⊎ ((g ≡ t) ⊎ ((g ≡ x) ⊎ (g ≡ y))) → ⊥
+      pigeon r t x y ac ce ef fg ha hc he hf hg = omega (arith, ac, ce, ef, fg, ha, hc, he, hf, hg)
 
 -- both squares of a move that leads to the diagram are in the set
 pub record Changed (n : ℕ) (m : Move) : Type 0 where

@@ -7,21 +7,21 @@ use Rattle.pg_checker.specs.Tree as tree
 use Rattle.pg_checker.specs.Tree.{one_if}
 use Rattle.pg_checker.specs.Walk as walk
 use Rattle.pg_checker.specs.Walk.{leaf, head, ◌>>=◌}
-use Rattle.pg_checker.specs.Frames as frames
-use Rattle.pg_checker.specs.Frames.{enter, opens, Work}
+use Rattle.pg_checker.specs.numbers.Frames as frames
+use Rattle.pg_checker.specs.numbers.Frames.{enter, opens, Work}
 use Rattle.pg_checker.specs.Chess.{Cuts, chess}
 use Rattle.pg_checker.specs.Left.{left_after}
-use Rattle.pg_checker.specs.Machine.{path, entry_of, frame_of, frames_of, count_named, opened as opened_by, shape_of, state_at, work_at}
-use Rattle.pg_checker.specs.Steps.{Answer, Goes, Stops}
+use Rattle.pg_checker.specs.numbers.Machine.{path, entry_of, frame_of, frames_of, count_named, opened as opened_by, shape_of, state_at, work_at}
+use Rattle.pg_checker.specs.numbers.Steps.{Answer, Goes, Stops}
 use Rattle.pg_checker.specs.declared.machine.Frame.{Frame}
 use Rattle.pg_checker.specs.declared.machine.Machine.{Machine}
 use Rattle.pg_checker.specs.declared.machine.Node.{Node}
 use Rattle.pg_checker.specs.declared.machine.Node.TheVariants as node
-use Rattle.pg_checker.specs.Halting.{Stop}
-use Rattle.pg_checker.specs.Halting as stop
+use Rattle.pg_checker.specs.numbers.Halting.{Stop}
+use Rattle.pg_checker.specs.numbers.Halting as stop
 use Rattle.pg_checker.specs.declared.halt.Halt.TheVariants as halt
 use Rattle.pg_checker.specs.declared.halt.Reason.{Reason}
-use Rattle.pg_checker.specs.Halting.{full, fault_with}
+use Rattle.pg_checker.specs.numbers.Halting.{full, cause_with}
 use Rattle.pg_checker.proofs.Goings.{stays, goes_as, goes_then, stops_then, stops_as}
 use Rattle.pg_checker.proofs.FrameViews.{frames_more, count_more}
 use Rattle.pg_checker.proofs.Left.{rules_start}
@@ -34,19 +34,19 @@ module _ (d : Placement) (l : ℕ) (games : List (List Move)) (cut : Cuts) (n k 
   enter_at : (m : Machine) (rest : List ℕ) (room : ℕ) → k ≡ 0 → enters m rest room ≡ (leaf (chess d l games cut) n (path (reverse m.frames.items)) p (state_at m rest room) >>= (λ got. Ok (record { frames = frames_of (reverse m.frames.items); found = got.0; state = got.1 })))
   enter_at m rest room e = ap (λ (j : ℕ). enter (chess d l games cut) n j (path (reverse m.frames.items)) p (frames_of (reverse m.frames.items)) (state_at m rest room)) e
 
-  pub enter_leaf : (known : Option (List ℕ)) (m : Machine) (fs : List Frame) (found : Bool) → k ≡ 0 → fs ≡ m.frames.items → ((s : walk.State State) → leaf (chess d l games cut) n (path (reverse fs)) p s ≡ Ok (found, s))
+  pub enter_leaf : (known : Option (List ℕ)) (m : Machine) (fs : List Frame) (found : Bool) → k ≡ 0 → fs ≡ m.frames.items → ((s : walk.WalkState State) → leaf (chess d l games cut) n (path (reverse fs)) p s ≡ Ok (found, s))
       → Goes known known m.room m.room (enters m) (λ rest room. Ok (work_at (chess d l games cut) (record m { found = found }) rest room))
-  enter_leaf known m fs found e is h = stays known m.room (enters m) _ (λ rest room. enter_at m rest room e ∙ ap (λ (x : Result (Bool × walk.State State) (tree.Fault Move)). x >>= (λ got. Ok (record { frames = frames_of (reverse m.frames.items); found = got.0; state = got.1 }))) (ap (λ (v : List Frame). leaf (chess d l games cut) n (path (reverse v)) p (state_at m rest room)) (sym is) ∙ h (state_at m rest room)))
+  enter_leaf known m fs found e is h = stays known m.room (enters m) _ (λ rest room. enter_at m rest room e ∙ ap (λ (x : Result (Bool × walk.WalkState State) (tree.Cause Move)). x >>= (λ got. Ok (record { frames = frames_of (reverse m.frames.items); found = got.0; state = got.1 }))) (ap (λ (v : List Frame). leaf (chess d l games cut) n (path (reverse v)) p (state_at m rest room)) (sym is) ∙ h (state_at m rest room)))
 
-  enter_stop : (known : Option (List ℕ)) (m : Machine) (fs : List Frame) (c : (tree.Fault Move)) → k ≡ 0 → fs ≡ m.frames.items → ((s : walk.State State) → leaf (chess d l games cut) n (path (reverse fs)) p s ≡ Err c)
+  enter_stop : (known : Option (List ℕ)) (m : Machine) (fs : List Frame) (c : (tree.Cause Move)) → k ≡ 0 → fs ≡ m.frames.items → ((s : walk.WalkState State) → leaf (chess d l games cut) n (path (reverse fs)) p s ≡ Err c)
       → Stops known m.room (enters m) (stop.Because c)
   unfolding Stops
   enter_stop None m fs c e is h = tt
-  enter_stop (Some bytes) m fs c e is h = enter_at m bytes m.room e ∙ ap (λ (x : Result (Bool × walk.State State) (tree.Fault Move)). x >>= (λ got. Ok (record { frames = frames_of (reverse m.frames.items); found = got.0; state = got.1 }))) (ap (λ (v : List Frame). leaf (chess d l games cut) n (path (reverse v)) p (state_at m bytes m.room)) (sym is) ∙ h (state_at m bytes m.room))
+  enter_stop (Some bytes) m fs c e is h = enter_at m bytes m.room e ∙ ap (λ (x : Result (Bool × walk.WalkState State) (tree.Cause Move)). x >>= (λ got. Ok (record { frames = frames_of (reverse m.frames.items); found = got.0; state = got.1 }))) (ap (λ (v : List Frame). leaf (chess d l games cut) n (path (reverse v)) p (state_at m bytes m.room)) (sym is) ∙ h (state_at m bytes m.room))
 
-  pub enter_halt : (known : Option (List ℕ)) (m : Machine) (fs : List Frame) (r : Reason) → k ≡ 0 → fs ≡ m.frames.items → ((s : walk.State State) → leaf (chess d l games cut) n (path (reverse fs)) p s ≡ Err (fault_with (path (reverse fs)) r))
+  pub enter_halt : (known : Option (List ℕ)) (m : Machine) (fs : List Frame) (r : Reason) → k ≡ 0 → fs ≡ m.frames.items → ((s : walk.WalkState State) → leaf (chess d l games cut) n (path (reverse fs)) p s ≡ Err (cause_with (path (reverse fs)) r))
       → Stops known m.room (enters m) (full (path (reverse m.frames.items)) (halt.Because r))
-  enter_halt known m fs r e is h = subst (λ (v : List Frame). Stops known m.room (enters m) (stop.Because (fault_with (path (reverse v)) r))) is (enter_stop known m fs (fault_with (path (reverse fs)) r) e is h)
+  enter_halt known m fs r e is h = subst (λ (v : List Frame). Stops known m.room (enters m) (stop.Because (cause_with (path (reverse v)) r))) is (enter_stop known m fs (cause_with (path (reverse fs)) r) e is h)
 
   -- a node with plies left
   enter_below : (m : Machine) (rest : List ℕ) (room : ℕ) → 0 < k → enters m rest room ≡ (head (chess d l games cut) k p (state_at m rest room) >>= (λ got. opens (chess d l games cut) (k - 1) (path (reverse m.frames.items)) p (frames_of (reverse m.frames.items)) got.0 got.1))

@@ -1,29 +1,29 @@
 -- The walk fails exactly where it comes to a front with a cause.
 use Rattle.std.proofs.Common.{◌≡◌, ℕ, zero, suc, ◌+◌, Bool, true, false, ◌||◌, List, [], ◌∷◌, ◌++◌, Ok, Err, nat_eq, refl, sym, ◌∙◌, ap, subst, ⊎_elim, arith, append_assoc}
 use Rattle.pg_certificate.specs.declared.record.Record.TheVariants.{Expand as Expanded}
-use Rattle.pg_checker.specs.Tree.{Trees, Empty, First, Fault, Entry, Rules, fertile, closed, spelling, spelling_all, records, records_all, named_all}
-use Rattle.pg_checker.specs.Walk.{State, Shape, Done, Opened, take_room, head, each, below, visit, Took}
+use Rattle.pg_checker.specs.Tree.{Trees, Empty, First, Cause, Entry, Rules, fertile, closed, spelling, spelling_all, records, records_all, named_all}
+use Rattle.pg_checker.specs.Walk.{WalkState, Shape, Done, Opened, take_room, head, each, below, visit, Took}
 use Rattle.pg_checker.specs.Claims.{IsExact}
 use Rattle.pg_checker.specs.Front.{Front, Here, Below, front_records, front_named, front_spelling, Place, After, FitFront, CauseAt, TookFront, Halts}
 use Rattle.pg_checker.proofs.Steps.{Paid, head_ok}
-use Rattle.pg_checker.proofs.Exact.{visit_ok, Says, judged}
+use Rattle.pg_checker.proofs.Exact.{visit_ok, HeadSays, judged}
 use Rattle.pg_checker.proofs.Back.{same_state, fits_visit, head_pays}
 use Rattle.pg_checker.proofs.Faults.{bind_err, head_err, cause_head, leaf_err, cause_leaf, bind_is}
 
 module _ {P M : Type 0} (r : Rules P M) where
   -- a front among the children that are left
-  record HaltsAmong (n k : ℕ) (g : List M) (p : P) (ms : List M) (s : State P) (f : Fault M) : Type 0 where
+  record HaltsAmong (n k : ℕ) (g : List M) (p : P) (ms : List M) (s : WalkState P) (f : Cause M) : Type 0 where
     before : Trees
     front : Front
     place : Place P M
-    state : State P
+    state : WalkState P
     fits : After r (λ h q ds. FitFront r n k h q ds front place state.entries) n k g p ms s.entries before
     rest : s.rest ≡ (spelling_all r before ++ front_spelling r front) ++ state.rest
     records : s.records ≡ (records_all before + front_records front) + state.records
     room : s.room ≡ (named_all before + front_named front) + state.room
     cause : CauseAt r n place.plies place.game place.position state f
 
-  at_once : (n k : ℕ) (g : List M) (p : P) (s : State P) (f : Fault M) → CauseAt r n k g p s f → Halts r n k g p s f
+  at_once : (n k : ℕ) (g : List M) (p : P) (s : WalkState P) (f : Cause M) → CauseAt r n k g p s f → Halts r n k g p s f
   at_once n k g p s f c = record {
     front = Here;
     place = record { plies = k; game = g; position = p };
@@ -34,8 +34,8 @@ module _ {P M : Type 0} (r : Rules P M) where
   }
 
   module _ (exact : IsExact r) where
-    each_err : (n k : ℕ) → ((g : List M) (p : P) (s : State P) (f : Fault M) → visit r n k g p s ≡ Err f → Halts r n k g p s f)
-        → (g : List M) (p : P) (ms : List M) (found : Bool) (s : State P) (f : Fault M) → each r (visit r n k) g p ms found s ≡ Err f → HaltsAmong n k g p ms s f
+    each_err : (n k : ℕ) → ((g : List M) (p : P) (s : WalkState P) (f : Cause M) → visit r n k g p s ≡ Err f → Halts r n k g p s f)
+        → (g : List M) (p : P) (ms : List M) (found : Bool) (s : WalkState P) (f : Cause M) → each r (visit r n k) g p ms found s ≡ Err f → HaltsAmong n k g p ms s f
     each_err n k ih g p [] found s f h = absurd (cc)
     each_err n k ih g p (m ∷ ms) found s f h =
         ⊎_elim (λ a. let d = ih (g ++ (m ∷ [])) (r.play p m) s f a in
@@ -67,8 +67,8 @@ module _ {P M : Type 0} (r : Rules P M) where
         (bind_err (visit r n k (g ++ (m ∷ [])) (r.play p m) s) _ f h)
 
     -- below a record that was read
-    below_err : (n k : ℕ) → ((g : List M) (p : P) (s : State P) (f : Fault M) → visit r n k g p s ≡ Err f → Halts r n k g p s f)
-        → (g : List M) (p : P) (s : State P) (shape : Shape) (u : State P) (f : Fault M) → Says r n k g p s shape u → below r (visit r n k) (suc k) g p shape u ≡ Err f → Halts r n (suc k) g p s f
+    below_err : (n k : ℕ) → ((g : List M) (p : P) (s : WalkState P) (f : Cause M) → visit r n k g p s ≡ Err f → Halts r n k g p s f)
+        → (g : List M) (p : P) (s : WalkState P) (shape : Shape) (u : WalkState P) (f : Cause M) → HeadSays r n k g p s shape u → below r (visit r n k) (suc k) g p shape u ≡ Err f → Halts r n (suc k) g p s f
     below_err n k ih g p s Done u f says h = absurd (cc)
     below_err n k ih g p s (Opened is_named) u f says h =
         ⊎_elim (λ a. let d = each_err n k ih g p (r.moves p) false u f a in
@@ -87,7 +87,7 @@ module _ {P M : Type 0} (r : Rules P M) where
         (λ b. absurd (let e = b.2 in cc))
         (bind_err (each r (visit r n k) g p (r.moves p) false u) _ f h)
 
-    pub visit_err : (n k : ℕ) (g : List M) (p : P) (s : State P) (f : Fault M) → visit r n k g p s ≡ Err f → Halts r n k g p s f
+    pub visit_err : (n k : ℕ) (g : List M) (p : P) (s : WalkState P) (f : Cause M) → visit r n k g p s ≡ Err f → Halts r n k g p s f
     visit_err n zero g p s f h = at_once n zero g p s f (leaf_err r n g p s f (r.is_goal p) (nat_eq n r.plies) (r.is_listed g) refl refl refl h)
     visit_err n (suc k) g p s f h =
         ⊎_elim (λ a. at_once n (suc k) g p s f (head_err r (suc k) p s f a))
@@ -96,9 +96,9 @@ module _ {P M : Type 0} (r : Rules P M) where
         (bind_err (head r (suc k) p s) _ f h)
 
     -- a record that opens a node is read
-    pub says_head : (n k : ℕ) (g : List M) (p : P) (s u : State P) (is_named : Bool) → Says r n k g p s (Opened is_named) u → head r (suc k) p s ≡ Ok (Opened is_named, u)
+    pub says_head : (n k : ℕ) (g : List M) (p : P) (s u : WalkState P) (is_named : Bool) → HeadSays r n k g p s (Opened is_named) u → head r (suc k) p s ≡ Ok (Opened is_named, u)
     says_head n k g p s u true says =
-        let mid : State P = record u { room = s.room } in
+        let mid : WalkState P = record u { room = s.room } in
         let paid : Paid r s (Expanded true) mid = record { rest = says.rest; entries = says.entries; records = says.records; room = refl; is_record = exact.expanded true } in
         let room : s.room ≡ suc u.room = omega (arith, says.room) in
         head_pays r exact (suc k) p s mid (Expanded true) paid ∙ ap (λ (v : ℕ). take_room {M = M} v mid) room
@@ -106,8 +106,8 @@ module _ {P M : Type 0} (r : Rules P M) where
         let paid : Paid r s (Expanded false) u = record { rest = says.rest; entries = says.entries; records = says.records; room = omega (arith, says.room); is_record = exact.expanded false } in
         head_pays r exact (suc k) p s u (Expanded false) paid
 
-    each_halts : (n k : ℕ) → ((g : List M) (p : P) (s t : State P) (front : Front) (place : Place P M) (f : Fault M) → FitFront r n k g p s.entries front place t.entries → TookFront r s front t → CauseAt r n place.plies place.game place.position t f → visit r n k g p s ≡ Err f)
-        → (g : List M) (p : P) (ms : List M) (found : Bool) (s t : State P) (before : Trees) (front : Front) (place : Place P M) (f : Fault M)
+    each_halts : (n k : ℕ) → ((g : List M) (p : P) (s t : WalkState P) (front : Front) (place : Place P M) (f : Cause M) → FitFront r n k g p s.entries front place t.entries → TookFront r s front t → CauseAt r n place.plies place.game place.position t f → visit r n k g p s ≡ Err f)
+        → (g : List M) (p : P) (ms : List M) (found : Bool) (s t : WalkState P) (before : Trees) (front : Front) (place : Place P M) (f : Cause M)
         → After r (λ h q ds. FitFront r n k h q ds front place t.entries) n k g p ms s.entries before
         → s.rest ≡ (spelling_all r before ++ front_spelling r front) ++ t.rest
         → s.records ≡ (records_all before + front_records front) + t.records
@@ -119,26 +119,26 @@ module _ {P M : Type 0} (r : Rules P M) where
         (ih (g ++ (m ∷ [])) (r.play p m) s t front place f fits (record { rest = rest; records = omega arith; room = omega arith }) cause)
     each_halts n k ih g p (m ∷ ms) found s t (First tree ts) front place f fits rest records room cause =
         let fert = fertile r (r.play p m) tree in
-        let u : State P = record { rest = (spelling_all r ts ++ front_spelling r front) ++ t.rest; entries = s.entries ++ closed r k (r.play p m) tree; records = (records_all ts + front_records front) + t.records; room = (named_all ts + front_named front) + t.room } in
+        let u : WalkState P = record { rest = (spelling_all r ts ++ front_spelling r front) ++ t.rest; entries = s.entries ++ closed r k (r.play p m) tree; records = (records_all ts + front_records front) + t.records; room = (named_all ts + front_named front) + t.room } in
         let one : Took r k (r.play p m) s tree u = record { rest = rest ∙ simp append_assoc; entries = refl; records = omega arith; room = omega arith } in
         bind_is r (visit r n k (g ++ (m ∷ [])) (r.play p m) s) _ (Ok (fert, u)) (fits_visit r exact n k (g ++ (m ∷ [])) (r.play p m) s u tree fits.0 one)
         ∙ each_halts n k ih g p ms (found || fert) u t ts front place f fits.1 refl refl refl cause
 
-    at_here : (n k : ℕ) (g : List M) (p : P) (s : State P) (f : Fault M) → CauseAt r n k g p s f → visit r n k g p s ≡ Err f
+    at_here : (n k : ℕ) (g : List M) (p : P) (s : WalkState P) (f : Cause M) → CauseAt r n k g p s f → visit r n k g p s ≡ Err f
     at_here n zero g p s f c = cause_leaf r n g p s f c
     at_here n (suc k) g p s f c = bind_is r (head r (suc k) p s) _ (Err f) (cause_head r (suc k) p s f c)
 
-    pub halts_visit : (n k : ℕ) (g : List M) (p : P) (s t : State P) (front : Front) (place : Place P M) (f : Fault M) → FitFront r n k g p s.entries front place t.entries → TookFront r s front t → CauseAt r n place.plies place.game place.position t f → visit r n k g p s ≡ Err f
+    pub halts_visit : (n k : ℕ) (g : List M) (p : P) (s t : WalkState P) (front : Front) (place : Place P M) (f : Cause M) → FitFront r n k g p s.entries front place t.entries → TookFront r s front t → CauseAt r n place.plies place.game place.position t f → visit r n k g p s ≡ Err f
     halts_visit n k g p s t Here place f fits took cause = here_halts n k g p s t place f fits.0 fits.1 took cause
       where
-        here_halts : (n k : ℕ) (g : List M) (p : P) (s t : State P) (place : Place P M) (f : Fault M) → record { plies = k; game = g; position = p } ≡ place → t.entries ≡ s.entries → TookFront r s Here t → CauseAt r n place.plies place.game place.position t f → visit r n k g p s ≡ Err f
+        here_halts : (n k : ℕ) (g : List M) (p : P) (s t : WalkState P) (place : Place P M) (f : Cause M) → record { plies = k; game = g; position = p } ≡ place → t.entries ≡ s.entries → TookFront r s Here t → CauseAt r n place.plies place.game place.position t f → visit r n k g p s ≡ Err f
         here_halts n k g p s t place f e d took cause =
             let here : CauseAt r n k g p t f = subst (λ (v : Place P M). CauseAt r n v.plies v.game v.position t f) (sym e) cause in
             let same : t ≡ s = same_state t s (sym took.rest) d (omega (arith, took.records)) (omega (arith, took.room)) in
-            at_here n k g p s f (subst (λ (v : State P). CauseAt r n k g p v f) same here)
+            at_here n k g p s f (subst (λ (v : WalkState P). CauseAt r n k g p v f) same here)
     halts_visit n zero g p s t (Below is_named before next) place f fits took cause = absurd fits
     halts_visit n (suc k) g p s t (Below is_named before next) place f fits took cause =
-        let u : State P = record { rest = (spelling_all r before ++ front_spelling r next) ++ t.rest; entries = s.entries; records = (records_all before + front_records next) + t.records; room = (named_all before + front_named next) + t.room } in
-        let says : Says r n k g p s (Opened is_named) u = record { rest = took.rest ∙ simp append_assoc; entries = refl; records = omega (arith, took.records); room = omega (arith, took.room) } in
+        let u : WalkState P = record { rest = (spelling_all r before ++ front_spelling r next) ++ t.rest; entries = s.entries; records = (records_all before + front_records next) + t.records; room = (named_all before + front_named next) + t.room } in
+        let says : HeadSays r n k g p s (Opened is_named) u = record { rest = took.rest ∙ simp append_assoc; entries = refl; records = omega (arith, took.records); room = omega (arith, took.room) } in
         bind_is r (head r (suc k) p s) _ (Ok (Opened is_named, u)) (says_head n k g p s u is_named says)
         ∙ bind_is r (each r (visit r n k) g p (r.moves p) false u) _ (Err f) (each_halts n k (halts_visit n k) g p (r.moves p) false u t before next place f fits refl refl refl cause)

@@ -5,9 +5,9 @@ use Rattle.std.specs.Io.KnownBytes.{Consumes}
 use Rattle.pg_position.specs.declared.moves.Move.{Move}
 use Rattle.pg_checker.specs.Tree as tree
 use Rattle.pg_checker.specs.Walk.{◌>>=◌}
-use Rattle.pg_checker.specs.Steps.{Answer, Goes, Stops}
-use Rattle.pg_checker.specs.Halting.{Stop}
-use Rattle.pg_checker.specs.Halting as stop
+use Rattle.pg_checker.specs.numbers.Steps.{Answer, Goes, Stops}
+use Rattle.pg_checker.specs.numbers.Halting.{Stop}
+use Rattle.pg_checker.specs.numbers.Halting as stop
 
 pub consumes_none : (known : Option (List ℕ)) → Consumes known known []
 consumes_none None = tt
@@ -74,28 +74,28 @@ module _ {A : Type 0} where
 
 module _ {A B : Type 0} where
   -- with what follows
-  pub goes_then : (a b : Option (List ℕ)) (room left : ℕ) (first second : Answer A) (f : A → Result B (tree.Fault Move)) → Goes a b room left first second → Goes a b room left (λ rest n. first rest n >>= f) (λ rest n. second rest n >>= f)
+  pub goes_then : (a b : Option (List ℕ)) (room left : ℕ) (first second : Answer A) (f : A → Result B (tree.Cause Move)) → Goes a b room left first second → Goes a b room left (λ rest n. first rest n >>= f) (λ rest n. second rest n >>= f)
   goes_then a b room left first second f g = record {
     taken = g.taken;
     used = g.used;
     consumes = g.consumes;
     spends = g.spends;
-    same = λ rest n. ap (λ (v : Result A (tree.Fault Move)). v >>= f) (g.same rest n);
+    same = λ rest n. ap (λ (v : Result A (tree.Cause Move)). v >>= f) (g.same rest n);
   }
 
   -- a stop of the first piece
-  pub stops_then : (a : Option (List ℕ)) (room : ℕ) (first : Answer A) (f : A → Result B (tree.Fault Move)) (s : Stop) → Stops a room first s → Stops a room (λ rest n. first rest n >>= f) s
+  pub stops_then : (a : Option (List ℕ)) (room : ℕ) (first : Answer A) (f : A → Result B (tree.Cause Move)) (s : Stop) → Stops a room first s → Stops a room (λ rest n. first rest n >>= f) s
   unfolding Stops
   stops_then None room first f stop.Memory h = tt
   stops_then None room first f stop.Read h = tt
   stops_then None room first f (stop.Because c) h = tt
   stops_then (Some xs0) room first f stop.Read h = tt
-  stops_then (Some xs0) room first f stop.Memory h = (h.0, h.1, ap (λ (v : Result A (tree.Fault Move)). v >>= f) h.2)
-  stops_then (Some xs0) room first f (stop.Because c) h = ap (λ (v : Result A (tree.Fault Move)). v >>= f) h
+  stops_then (Some xs0) room first f stop.Memory h = (h.0, h.1, ap (λ (v : Result A (tree.Cause Move)). v >>= f) h.2)
+  stops_then (Some xs0) room first f (stop.Because c) h = ap (λ (v : Result A (tree.Cause Move)). v >>= f) h
 
 module _ {A B : Type 0} where
   -- a piece that takes no room, with what follows
-  pub goes_reading : (a b : Option (List ℕ)) (room : ℕ) (first : Answer A) (got : List ℕ → A) (f : ℕ → A → Result B (tree.Fault Move)) → Goes a b room room first (λ rest n. Ok (got rest)) → Goes a b room room (λ rest n. first rest n >>= f n) (λ rest n. f n (got rest))
+  pub goes_reading : (a b : Option (List ℕ)) (room : ℕ) (first : Answer A) (got : List ℕ → A) (f : ℕ → A → Result B (tree.Cause Move)) → Goes a b room room first (λ rest n. Ok (got rest)) → Goes a b room room (λ rest n. first rest n >>= f n) (λ rest n. f n (got rest))
   goes_reading a b room first got f g =
       let none : g.used ≡ 0 = (let e : room ≡ g.used + room = g.spends in omega arith) in
       record {
@@ -106,14 +106,14 @@ module _ {A B : Type 0} where
         same = λ rest n.
             (let e : g.used + n ≡ n = omega arith in
             ap (λ (m : ℕ). first (g.taken ++ rest) (g.used + n) >>= f m) e
-            ∙ ap (λ (v : Result A (tree.Fault Move)). v >>= f n) (g.same rest n));
+            ∙ ap (λ (v : Result A (tree.Cause Move)). v >>= f n) (g.same rest n));
       }
 
-  pub stops_with : (a : Option (List ℕ)) (room : ℕ) (first : Answer A) (f : ℕ → A → Result B (tree.Fault Move)) (s : Stop) → Stops a room first s → Stops a room (λ rest n. first rest n >>= f n) s
+  pub stops_with : (a : Option (List ℕ)) (room : ℕ) (first : Answer A) (f : ℕ → A → Result B (tree.Cause Move)) (s : Stop) → Stops a room first s → Stops a room (λ rest n. first rest n >>= f n) s
   unfolding Stops
   stops_with None room first f stop.Memory h = tt
   stops_with None room first f stop.Read h = tt
   stops_with None room first f (stop.Because c) h = tt
   stops_with (Some xs0) room first f stop.Read h = tt
-  stops_with (Some xs0) room first f stop.Memory h = (h.0, h.1, ap (λ (v : Result A (tree.Fault Move)). v >>= f h.0) h.2)
-  stops_with (Some xs0) room first f (stop.Because c) h = ap (λ (v : Result A (tree.Fault Move)). v >>= f room) h
+  stops_with (Some xs0) room first f stop.Memory h = (h.0, h.1, ap (λ (v : Result A (tree.Cause Move)). v >>= f h.0) h.2)
+  stops_with (Some xs0) room first f (stop.Because c) h = ap (λ (v : Result A (tree.Cause Move)). v >>= f room) h

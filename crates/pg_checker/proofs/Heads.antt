@@ -18,13 +18,13 @@ use Rattle.pg_checker.specs.Tree as tree
 use Rattle.pg_checker.specs.Walk as walk
 use Rattle.pg_checker.specs.Walk.{judge, head, ◌>>=◌}
 use Rattle.pg_checker.specs.Chess.{Cuts, chess, read}
-use Rattle.pg_checker.specs.Judging.{Judges, stop_of}
-use Rattle.pg_checker.specs.Machine.{entry_of, entries_of, state_at, shape_of}
-use Rattle.pg_checker.specs.Steps.{Answer, Goes, Stops, Says, TakesFew}
+use Rattle.pg_checker.specs.numbers.Judging.{Judges, stop_of}
+use Rattle.pg_checker.specs.numbers.Machine.{entry_of, entries_of, state_at, shape_of}
+use Rattle.pg_checker.specs.numbers.Steps.{Answer, Goes, Stops, Says, TakesFew}
 use Rattle.pg_checker.specs.declared.machine.Machine.{Machine}
 use Rattle.pg_checker.specs.declared.machine.Node.{Node}
-use Rattle.pg_checker.specs.Halting.{Stop}
-use Rattle.pg_checker.specs.Halting as stop
+use Rattle.pg_checker.specs.numbers.Halting.{Stop}
+use Rattle.pg_checker.specs.numbers.Halting as stop
 use Rattle.pg_certificate.proofs.RecordLaws.{none_longer}
 use Rattle.pg_checker.proofs.Reading.{read_spelled, read_err}
 use Rattle.pg_checker.proofs.Goings.{goes_on, goes_as, goes_reading, stops_on, stops_as, stops_with}
@@ -62,18 +62,18 @@ as_record version prices before after reading.Read h = tt
 as_record version prices before after reading.Failed h = tt
 
 module _ (d : Placement) (l : ℕ) (games : List (List Move)) (cut : Cuts) (k : ℕ) (p : State) where
-  abbrev heads : Machine → Answer (walk.Shape × walk.State State)
+  abbrev heads : Machine → Answer (walk.Shape × walk.WalkState State)
   heads m bytes n = head (chess d l games cut) k p (state_at m bytes n)
 
   -- a record less, and then the record that is read is judged
-  abbrev judged : Machine → ℕ → Record × List ℕ → Result (walk.Shape × walk.State State) (tree.Fault Move)
+  abbrev judged : Machine → ℕ → Record × List ℕ → Result (walk.Shape × walk.WalkState State) (tree.Cause Move)
   judged m n got = judge (chess d l games cut) k p got.0 (state_at m got.1 n)
 
   head_paid : (old mid : Machine) (left : ℕ) → old.records ≡ suc left → mid.records ≡ left → mid.table.entries ≡ old.table.entries → (bytes : List ℕ) (n : ℕ) → heads old bytes n ≡ (read cut.version bytes >>= judged mid n)
   unfolding chess
   head_paid old mid left paid kept entries bytes n =
       ap (λ (r : ℕ). head (chess d l games cut) k p (record (state_at old bytes n) { records = r })) paid
-      ∙ ap (λ (s : walk.State State). read cut.version bytes >>= (λ got. judge (chess d l games cut) k p got.0 (record s { rest = got.1; room = n }))) states
+      ∙ ap (λ (s : walk.WalkState State). read cut.version bytes >>= (λ got. judge (chess d l games cut) k p got.0 (record s { rest = got.1; room = n }))) states
     where
       states : record { rest = bytes; entries = entries_of old; records = left; room = n } ≡ state_at mid bytes n
       states = λ i. record { rest = bytes; entries = map entry_of (sym entries i); records = sym kept i; room = n }

@@ -11,28 +11,28 @@ use Rattle.pg_checker.specs.Tree as tree
 use Rattle.pg_checker.specs.Walk as walk
 use Rattle.pg_checker.specs.Walk.{judge, cut_answer, ref_answer, take_room}
 use Rattle.pg_checker.specs.Chess.{Cuts, chess}
-use Rattle.pg_checker.specs.Judging.{Judgement, Ends, EndsAs, Judges, ended_of, refer_answer}
-use Rattle.pg_checker.specs.Machine.{entry_of, opened, state_at}
-use Rattle.pg_checker.specs.Steps.{Stops}
+use Rattle.pg_checker.specs.numbers.Judging.{Judgement, Ends, EndsAs, Judges, ended_of, refer_answer}
+use Rattle.pg_checker.specs.numbers.Machine.{entry_of, opened, state_at}
+use Rattle.pg_checker.specs.numbers.Steps.{Stops}
 use Rattle.pg_checker.specs.declared.machine.Machine.{Machine}
 use Rattle.pg_checker.specs.declared.machine.Node.{Node}
 use Rattle.pg_checker.specs.declared.machine.Node.TheVariants as node
-use Rattle.pg_checker.specs.Halting.{Stop}
-use Rattle.pg_checker.specs.Halting as stop
+use Rattle.pg_checker.specs.numbers.Halting.{Stop}
+use Rattle.pg_checker.specs.numbers.Halting as stop
 use Rattle.pg_checker.specs.declared.halt.Halt.{Halt}
 use Rattle.pg_checker.specs.declared.halt.Halt.TheVariants as halt
 use Rattle.pg_checker.specs.declared.halt.Reason.TheVariants as reason
-use Rattle.pg_checker.specs.Halting.{full}
+use Rattle.pg_checker.specs.numbers.Halting.{full}
 use Rattle.pg_checker.proofs.Goings.{stays, consumes_none}
 
 -- a node that ends at once, where the walk says so of each state with the machine's entries
-ends : (m : Machine) (judged : Judgement) (res : Result (Unit {0}) (tree.Fault Move)) → ((rest : List ℕ) (n : ℕ) → EndsAs res (judged (state_at m rest n)) (state_at m rest n)) → Judges m m judged (ended_of res)
+ends : (m : Machine) (judged : Judgement) (res : Result (Unit {0}) (tree.Cause Move)) → ((rest : List ℕ) (n : ℕ) → EndsAs res (judged (state_at m rest n)) (state_at m rest n)) → Judges m m judged (ended_of res)
 unfolding Stops
 ends m judged (Ok u) h known = stays known m.room _ _ h
 ends m judged (Err c) h None = tt
 ends m judged (Err c) h (Some bytes) = h bytes m.room
 
-said : (m : Machine) (judged : Judgement) (res : Result (Unit {0}) (tree.Fault Move)) (result : Result Node Stop) → result ≡ ended_of res → Judges m m judged (ended_of res) → Judges m m judged result
+said : (m : Machine) (judged : Judgement) (res : Result (Unit {0}) (tree.Cause Move)) (result : Result Node Stop) → result ≡ ended_of res → Judges m m judged (ended_of res) → Judges m m judged result
 said m judged res result e h = subst (λ (v : Result Node Stop). Judges m m judged v) (sym e) h
 
 -- a halt for want of room or memory says so as a stop
@@ -45,23 +45,23 @@ kept_none (Ok node) k e = omega (arith, e)
 kept_none (Err h) k e = tt
 
 module _ (d : Placement) (l : ℕ) (games : List (List Move)) (cut : Cuts) (k : ℕ) (p : State) where
-  pub cut_judged : (m : Machine) (code : ℕ) (res : Result (Unit {0}) (tree.Fault Move)) (result : Result Node Stop) → result ≡ ended_of res → Ends res (cut_answer (cut.bounds code p k) code) → Judges m m (judge (chess d l games cut) k p (Cut code)) result
+  pub cut_judged : (m : Machine) (code : ℕ) (res : Result (Unit {0}) (tree.Cause Move)) (result : Result Node Stop) → result ≡ ended_of res → Ends res (cut_answer (cut.bounds code p k) code) → Judges m m (judge (chess d l games cut) k p (Cut code)) result
   unfolding chess
   cut_judged m code res result e h = said m (judge (chess d l games cut) k p (Cut code)) res result e (ends m (judge (chess d l games cut) k p (Cut code)) res (λ rest n. h (state_at m rest n)))
 
-  pub priced_judged : (m : Machine) (code : ℕ) (color : Color) (prices : List PriceList) (res : Result (Unit {0}) (tree.Fault Move)) (result : Result Node Stop) → result ≡ ended_of res → Ends res (cut_answer (cut.prices code color prices p k) code) → Judges m m (judge (chess d l games cut) k p (Priced code color prices)) result
+  pub priced_judged : (m : Machine) (code : ℕ) (color : Color) (prices : List PriceList) (res : Result (Unit {0}) (tree.Cause Move)) (result : Result Node Stop) → result ≡ ended_of res → Ends res (cut_answer (cut.prices code color prices p k) code) → Judges m m (judge (chess d l games cut) k p (Priced code color prices)) result
   unfolding chess
   priced_judged m code color prices res result e h = said m (judge (chess d l games cut) k p (Priced code color prices)) res result e (ends m (judge (chess d l games cut) k p (Priced code color prices)) res (λ rest n. h (state_at m rest n)))
 
-  refers : (o : Option (tree.Entry State)) (s : walk.State State) → ref_answer (chess d l games cut) o k p s ≡ refer_answer cut.version o k p s
+  refers : (o : Option (tree.Entry State)) (s : walk.WalkState State) → ref_answer (chess d l games cut) o k p s ≡ refer_answer cut.version o k p s
   unfolding chess
   refers None s = refl
   refers (Some e) s = refl
 
-  pub ref_judged : (m : Machine) (number : ℕ) (res : Result (Unit {0}) (tree.Fault Move)) (result : Result Node Stop) → result ≡ ended_of res → Ends res (refer_answer cut.version (slice_get (map entry_of m.table.entries) number) k p) → Judges m m (judge (chess d l games cut) k p (Ref number)) result
+  pub ref_judged : (m : Machine) (number : ℕ) (res : Result (Unit {0}) (tree.Cause Move)) (result : Result Node Stop) → result ≡ ended_of res → Ends res (refer_answer cut.version (slice_get (map entry_of m.table.entries) number) k p) → Judges m m (judge (chess d l games cut) k p (Ref number)) result
   ref_judged m number res result e h =
       said m (judge (chess d l games cut) k p (Ref number)) res result e
-      (ends m (judge (chess d l games cut) k p (Ref number)) res (λ rest n. subst (λ (v : Result (walk.Shape × walk.State State) (tree.Fault Move)). EndsAs res v (state_at m rest n)) (sym (refers (slice_get (map entry_of m.table.entries) number) (state_at m rest n))) (h (state_at m rest n))))
+      (ends m (judge (chess d l games cut) k p (Ref number)) res (λ rest n. subst (λ (v : Result (walk.Shape × walk.WalkState State) (tree.Cause Move)). EndsAs res v (state_at m rest n)) (sym (refers (slice_get (map entry_of m.table.entries) number) (state_at m rest n))) (h (state_at m rest n))))
 
   -- an expanded node
   pub opened_judged : (m : Machine) → Judges m m (judge (chess d l games cut) k p (Expand false)) (Ok (node.Opened false))
@@ -77,7 +77,7 @@ module _ (d : Placement) (l : ℕ) (games : List (List Move)) (cut : Cuts) (k : 
     same = λ rest n.
         (let e : 1 + n ≡ suc n = omega arith in
         ap (λ (m : ℕ). judge (chess d l games cut) k p (Expand true) (state_at old rest m)) e
-        ∙ ap (λ (s : walk.State State). Ok (walk.Opened true, s)) (states rest n));
+        ∙ ap (λ (s : walk.WalkState State). Ok (walk.Opened true, s)) (states rest n));
   }
     where
       states : (rest : List ℕ) (n : ℕ) → record (state_at old rest (suc n)) { room = n } ≡ state_at new rest n
@@ -87,7 +87,7 @@ module _ (d : Placement) (l : ℕ) (games : List (List Move)) (cut : Cuts) (k : 
   unfolding Stops
   full_judged old s h new known = elim h [ inl w ↦ subst (Stops known old.room walks) (sym w.0) (full known w.1) | inr w ↦ subst (Stops known old.room walks) (sym w.0) (refused known w.1) ]
     where
-      walks : List ℕ → ℕ → Result (walk.Shape × walk.State State) (tree.Fault Move)
+      walks : List ℕ → ℕ → Result (walk.Shape × walk.WalkState State) (tree.Cause Move)
       walks bytes n = judge (chess d l games cut) k p (Expand true) (state_at old bytes n)
 
       full : (known : Option (List ℕ)) → old.room ≡ 0 → Stops known old.room walks (stop.Because tree.TooManyNamed)

@@ -14,7 +14,7 @@ use Rattle.pg_position.specs.declared.moves.Way.TheVariants.{Plain, Capture, Dou
 use Rattle.pg_position.specs.Position.{IsPosition}
 use Rattle.pg_position.specs.SquareSets.{HasNoneFrom, IsFirstFrom}
 use Rattle.pg_position.specs.Step.{Step, Legal, IsWay, after}
-use Rattle.pg_captures.specs.BoardLemmas.{written}
+use Rattle.pg_captures.specs.lemmas.BoardLemmas.{written}
 use Rattle.pg_checker.specs.Differing.{Differ}
 use Rattle.pg_checker.specs.Passing.{LeadsTo, AllElsewhere}
 use Rattle.pg_moves.specs.Left.{MovesLeft}

@@ -14,13 +14,14 @@ use Rattle.pg_position.proofs.FutureLemmas.{one_result}
 use Rattle.pg_moves.specs.Left.{MovesLeft}
 use Rattle.pg_moves.specs.Moves.{IsNext, IsLast}
 use Rattle.pg_moves.proofs.SortLemmas.{Contains-none, Contains-cons}
+use Rattle.pg_moves.specs.numbers.Places.{most_moves}
 use Rattle.pg_checker.specs.Tree as tree
 use Rattle.pg_checker.specs.Walk as walk
 use Rattle.pg_checker.specs.Walk.{visit, each, ◌>>=◌}
-use Rattle.pg_checker.specs.Frames.{resume, effort, Stacked}
+use Rattle.pg_checker.specs.numbers.Frames.{resume, effort, Stacked}
 use Rattle.pg_checker.specs.Chess.{Cuts, chess}
 use Rattle.pg_checker.specs.Left.{left_after}
-use Rattle.pg_checker.specs.Machine.{path, frame_of, frames_of, count_named, state_at, work_at}
+use Rattle.pg_checker.specs.numbers.Machine.{path, frame_of, frames_of, count_named, state_at, work_at}
 use Rattle.pg_checker.specs.Passing.{LeadsElsewhere, AllElsewhere, PassesOver}
 use Rattle.pg_checker.specs.declared.machine.Frame.{Frame}
 use Rattle.pg_checker.specs.declared.machine.Machine.{Machine}
@@ -93,15 +94,15 @@ module _ (d : Placement) (l : ℕ) (games : List (List Move)) (cut : Cuts) (n : 
       ap (λ v. resume (chess d l games cut) n v (now.found, state_at now rest room)) (frames_popped now.frames.items mid.frames.items top items)
       ∙ ap (λ (k : ℕ). goes_up k (left_after top.moves.position top.moves.last)) last
       ∙ ap (λ (v : List Move). goes_up 0 v) over.left
-      ∙ ap (λ (x : Result (Bool × walk.State State) (tree.Fault Move)). x >>= up) (dry_front d l games cut n top.moves.position (path (reverse mid.frames.items)) over.passed (left_after top.moves.position new.moves.last) (top.found || now.found) (state_at now rest room) (passed_off top.moves.position (left_after top.moves.position new.moves.last) over.passed top.moves.last valid over.left over.elsewhere))
+      ∙ ap (λ (x : Result (Bool × walk.WalkState State) (tree.Cause Move)). x >>= up) (dry_front d l games cut n top.moves.position (path (reverse mid.frames.items)) over.passed (left_after top.moves.position new.moves.last) (top.found || now.found) (state_at now rest room) (passed_off top.moves.position (left_after top.moves.position new.moves.last) over.passed top.moves.last valid over.left over.elsewhere))
       ∙ ap (λ (k : ℕ). goes_up k (left_after top.moves.position new.moves.last)) (sym last)
       ∙ ap (λ (f : Frame). resume (chess d l games cut) n (frame_of f (reverse mid.frames.items) ∷ frames_of (reverse mid.frames.items)) (now.found, state_at now rest room)) (sym (is ∙ ap (λ (p : State). record top { moves = record { position = p; last = new.moves.last } }) over.position))
       ∙ ap (λ v. resume (chess d l games cut) n v (now.found, state_at now rest room)) (sym (frames_popped (mid.frames.items ++ (new ∷ [])) mid.frames.items new refl))
     where
-      up : Bool × walk.State State → Result (Bool × walk.State State) (tree.Fault Move)
+      up : Bool × walk.WalkState State → Result (Bool × walk.WalkState State) (tree.Cause Move)
       up all = walk.close (chess d l games cut) top.named (suc top.plies) top.moves.position all >>= resume (chess d l games cut) n (frames_of (reverse mid.frames.items))
 
-      goes_up : ℕ → List Move → Result (Bool × walk.State State) (tree.Fault Move)
+      goes_up : ℕ → List Move → Result (Bool × walk.WalkState State) (tree.Cause Move)
       goes_up k ms = each (chess d l games cut) (visit (chess d l games cut) n k) (path (reverse mid.frames.items)) top.moves.position ms (top.found || now.found) (state_at now rest room) >>= up
 
   over_same : (now mid : Machine) (top new : Frame) (k : ℕ) → top.plies ≡ k → now.frames.items ≡ mid.frames.items ++ (top ∷ []) → (k ≡ 0 → IsPosition top.moves.position) → new ≡ record top { moves = new.moves } → PassesOver d top.moves new.moves → (0 < top.plies → new.moves ≡ top.moves) → (rest : List ℕ) (room : ℕ)
@@ -127,10 +128,10 @@ module _ (d : Placement) (l : ℕ) (games : List (List Move)) (cut : Cuts) (n : 
 
   -- and there is no more to do
   pub over_less : (now mid : Machine) (top new : Frame) → now.frames.items ≡ mid.frames.items ++ (top ∷ []) → new ≡ record top { moves = new.moves } → PassesOver d top.moves new.moves
-      → effort (chess d l games cut) 28672 (work_at (chess d l games cut) (topped now mid new) [] 0) ≤ effort (chess d l games cut) 28672 (work_at (chess d l games cut) now [] 0)
+      → effort (chess d l games cut) most_moves (work_at (chess d l games cut) (topped now mid new) [] 0) ≤ effort (chess d l games cut) most_moves (work_at (chess d l games cut) now [] 0)
   over_less now mid top new items is over =
       let shorter : length (left_after top.moves.position top.moves.last) ≡ length over.passed + length (left_after top.moves.position new.moves.last) = ap length over.left ∙ length-append over.passed (left_after top.moves.position new.moves.last) in
       let as_left : length (left_after new.moves.position new.moves.last) ≡ length (left_after top.moves.position new.moves.last) = ap (λ (p : State). length (left_after p new.moves.last)) over.position in
-      subst (λ v. effort (chess d l games cut) 28672 (record { frames = v; found = now.found; state = state_at now [] 0 }) ≤ effort (chess d l games cut) 28672 (work_at (chess d l games cut) now [] 0)) (sym (frames_more mid.frames.items new))
-      (subst (λ v. effort (chess d l games cut) 28672 (record { frames = frame_of new (reverse mid.frames.items) ∷ frames_of (reverse mid.frames.items); found = now.found; state = state_at now [] 0 }) ≤ effort (chess d l games cut) 28672 (record { frames = v; found = now.found; state = state_at now [] 0 })) (sym (frames_popped now.frames.items mid.frames.items top items))
+      subst (λ v. effort (chess d l games cut) most_moves (record { frames = v; found = now.found; state = state_at now [] 0 }) ≤ effort (chess d l games cut) most_moves (work_at (chess d l games cut) now [] 0)) (sym (frames_more mid.frames.items new))
+      (subst (λ v. effort (chess d l games cut) most_moves (record { frames = frame_of new (reverse mid.frames.items) ∷ frames_of (reverse mid.frames.items); found = now.found; state = state_at now [] 0 }) ≤ effort (chess d l games cut) most_moves (record { frames = v; found = now.found; state = state_at now [] 0 })) (sym (frames_popped now.frames.items mid.frames.items top items))
       (omega (arith, shorter, as_left)))

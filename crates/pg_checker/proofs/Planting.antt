@@ -7,13 +7,13 @@ use Rattle.pg_checker.specs.Tree as tree
 use Rattle.pg_checker.specs.Walk as walk
 use Rattle.pg_checker.specs.Walk.{visit, ◌>>=◌}
 use Rattle.pg_checker.specs.Whole.{run}
-use Rattle.pg_checker.specs.Frames.{finish, enter, Stacked}
+use Rattle.pg_checker.specs.numbers.Frames.{finish, enter, Stacked}
 use Rattle.pg_checker.specs.Chess.{Cuts, chess}
-use Rattle.pg_checker.specs.Machine.{IsReading, path, frames_of, count_named, state_at, work_at}
-use Rattle.pg_checker.specs.Steps.{Answer, Goes, Stops, Says}
+use Rattle.pg_checker.specs.numbers.Machine.{IsReading, path, frames_of, count_named, state_at, work_at}
+use Rattle.pg_checker.specs.numbers.Steps.{Answer, Goes, Stops, Says}
 use Rattle.pg_checker.specs.declared.machine.Frame.{Frame}
 use Rattle.pg_checker.specs.declared.machine.Machine.{Machine}
-use Rattle.pg_checker.specs.Halting.{Stop}
+use Rattle.pg_checker.specs.numbers.Halting.{Stop}
 use Rattle.pg_checker.proofs.Frames.{start_is, enter_stacked}
 use Rattle.pg_checker.proofs.FrameViews.{path_none}
 use Rattle.pg_checker.proofs.Goings.{stays, goes_on, goes_as, goes_then, stops_on, stops_then, stops_as}
@@ -24,7 +24,7 @@ pub kept_none : (m : Machine) → m.frames.items ≡ [] → m.table.kept ≡ 0 �
 kept_none m none kept = kept ∙ sym (ap (λ (v : List Frame). count_named (reverse v)) none ∙ count_none)
 
 module _ (d : Placement) (l : ℕ) (games : List (List Move)) (cut : Cuts) (p : State) where
-  abbrev pub visits : ℕ → Machine → Answer (Bool × walk.State State)
+  abbrev pub visits : ℕ → Machine → Answer (Bool × walk.WalkState State)
   visits n m rest room = visit (chess d l games cut) n n [] p (state_at m rest room)
 
   -- the root is entered, and then the rest
@@ -64,10 +64,10 @@ module _ (d : Placement) (l : ℕ) (games : List (List Move)) (cut : Cuts) (p : 
   stops_at n a m s q is h = subst (λ (v : State). Stops a m.room (enters d l games cut n n v m) s) is h
 
   -- ---- all trees
-  abbrev pub runs_from : ℕ → Machine → Answer (walk.State State)
+  abbrev pub runs_from : ℕ → Machine → Answer (walk.WalkState State)
   runs_from n m rest room = run (chess d l games cut) (suc l - n) n p (state_at m rest room)
 
-  abbrev pub runs_all : Machine → Answer (walk.State State)
+  abbrev pub runs_all : Machine → Answer (walk.WalkState State)
   runs_all m rest room = run (chess d l games cut) (suc l) 0 p (state_at m rest room)
 
   -- what holds before the tree of length n
@@ -83,14 +83,14 @@ module _ (d : Placement) (l : ℕ) (games : List (List Move)) (cut : Cuts) (p : 
   pub trees_start : (known : Option (List ℕ)) (m : Machine) → m.frames.items ≡ [] → m.table.kept ≡ 0 → IsReading cut.version m.reader → length m.reader.held ≤ 4096 → Trees known known 0 m m
   trees_start known m closed kept runs held = record { closed = closed; kept = kept; runs = runs; held = held; within = omega arith; few = few_none known m.records; goes = stays known m.room (runs_all m) (runs_from 0 m) (λ rest room. (let e : suc l - 0 ≡ suc l = omega arith in ap (λ (c : ℕ). run (chess d l games cut) c 0 p (state_at m rest room)) (sym e))) }
 
-  next_tree : (n : ℕ) (s : walk.State State) → n ≤ l → run (chess d l games cut) (suc l - n) n p s ≡ (visit (chess d l games cut) n n [] p s >>= (λ got. run (chess d l games cut) (suc l - (n + 1)) (n + 1) p got.1))
+  next_tree : (n : ℕ) (s : walk.WalkState State) → n ≤ l → run (chess d l games cut) (suc l - n) n p s ≡ (visit (chess d l games cut) n n [] p s >>= (λ got. run (chess d l games cut) (suc l - (n + 1)) (n + 1) p got.1))
   unfolding run
   next_tree n s low =
       let e : suc l - n ≡ suc (suc l - (n + 1)) = omega arith in
       let f : suc n ≡ n + 1 = omega arith in
       ap (λ (c : ℕ). run (chess d l games cut) c n p s) e ∙ ap (λ (m : ℕ). visit (chess d l games cut) n n [] p s >>= (λ got. run (chess d l games cut) (suc l - (n + 1)) m p got.1)) f
 
-  abbrev then_trees : ℕ → Bool × walk.State State → Result (walk.State State) (tree.Fault Move)
+  abbrev then_trees : ℕ → Bool × walk.WalkState State → Result (walk.WalkState State) (tree.Cause Move)
   then_trees n got = run (chess d l games cut) (suc l - (n + 1)) (n + 1) p got.1
 
   one_tree : (here after : Option (List ℕ)) (n : ℕ) (now new : Machine) → n ≤ l → Goes here after now.room new.room (visits n now) (λ rest room. Ok (new.found, state_at new rest room)) → Goes here after now.room new.room (runs_from n now) (runs_from (n + 1) new)

@@ -13,9 +13,9 @@ use Rattle.pg_certificate.specs.Spelling.{spelling, AreBytes, IsRecordOf}
 use Rattle.pg_certificate.specs.Reading.{record_at}
 use Rattle.pg_certificate.proofs.RecordLaws.{records_again, records_taken}
 use Rattle.pg_checker.specs.Tree as tree
-use Rattle.pg_checker.specs.Tree.{Fault, TooManyNamed}
+use Rattle.pg_checker.specs.Tree.{Cause, TooManyNamed}
 use Rattle.pg_checker.specs.PriceBytes.{are_prices, are_prices_decides}
-use Rattle.pg_checker.specs.Chess.{fault_of, renamed, is_spelled, taken, read}
+use Rattle.pg_checker.specs.Chess.{cause_of, renamed, is_spelled, taken, read}
 use Rattle.pg_checker.proofs.Steps.{and_left, and_right}
 
 pub spelled_record : (version : ℕ) (x : Record) → is_spelled version x ≡ true → IsRecordOf version x
@@ -43,7 +43,7 @@ taken_yes version bytes got a b =
     let same : bytes_eq bytes (spelling got.0 ++ got.1) ≡ true = (bytes_eq-Decides bytes (spelling got.0 ++ got.1)).1 b in
     rw (a, same) refl
 
-taken_at : (b : Bool) (got x : Record × List ℕ) → cond {A = Result (Record × List ℕ) (Fault Move)} b (Ok got) (Err tree.Truncated) ≡ Ok x → (b ≡ true) × (got ≡ x)
+taken_at : (b : Bool) (got x : Record × List ℕ) → cond {A = Result (Record × List ℕ) (Cause Move)} b (Ok got) (Err tree.Truncated) ≡ Ok x → (b ≡ true) × (got ≡ x)
 taken_at true got x e = (refl, cc)
 taken_at false got x e = absurd (cc)
 
@@ -55,7 +55,7 @@ taken_ok version bytes (Ok got) x h =
     let whole : bytes ≡ spelling got.0 ++ got.1 = (bytes_eq-Decides bytes (spelling got.0 ++ got.1)).0 (and_right (is_spelled version got.0) same d.0) in
     subst (λ (v : Record × List ℕ). (bytes ≡ spelling v.0 ++ v.1) × (is_spelled version v.0 ≡ true)) d.1 (whole, and_left (is_spelled version got.0) same d.0)
 
-not_many : (e : ReadFault) → fault_of e ≡ TooManyNamed → ⊥
+not_many : (e : ReadFault) → cause_of e ≡ TooManyNamed → ⊥
 not_many Truncated h = cc
 not_many Magic h = cc
 not_many (UnknownRecord b) h = cc
@@ -64,10 +64,10 @@ not_many Trailing h = cc
 not_many Failed h = cc
 
 taken_few : (version : ℕ) (bytes : List ℕ) (o : Result (Record × List ℕ) ReadFault) → taken version bytes o ≡ Err TooManyNamed → ⊥
-taken_few version bytes (Err e) h = not_many e (let d : fault_of e ≡ TooManyNamed = cc in d)
+taken_few version bytes (Err e) h = not_many e (let d : cause_of e ≡ TooManyNamed = cc in d)
 taken_few version bytes (Ok got) h = at (is_spelled version got.0 && bytes_eq bytes (spelling got.0 ++ got.1)) h
   where
-    at : (b : Bool) → cond {A = Result (Record × List ℕ) (Fault Move)} b (Ok got) (Err tree.Truncated) ≡ Err TooManyNamed → ⊥
+    at : (b : Bool) → cond {A = Result (Record × List ℕ) (Cause Move)} b (Ok got) (Err tree.Truncated) ≡ Err TooManyNamed → ⊥
     at true e = cc
     at false e = cc
 
@@ -82,7 +82,7 @@ unfolding read
 read_spelled version x rest h = ap (taken version (spelling x ++ rest)) (records_again version x rest h) ∙ taken_yes version (spelling x ++ rest) (x, rest) (record_spelled version x h) refl
 
 -- a refusal to read stays one
-pub read_err : (version : ℕ) (bytes : List ℕ) (e : ReadFault) → record_at version bytes ≡ Err e → read version bytes ≡ Err (fault_of e)
+pub read_err : (version : ℕ) (bytes : List ℕ) (e : ReadFault) → record_at version bytes ≡ Err e → read version bytes ≡ Err (cause_of e)
 unfolding read
 read_err version bytes e h = ap (taken version bytes) h
 
@@ -101,7 +101,7 @@ read_is version bytes fits = at (record_at version bytes) refl
     at (Ok got) h = let d = records_taken version bytes got.1 got.0 fits h in taken_yes version bytes got (record_spelled version got.0 d.0) d.1
 
 -- no refusal to read is one of bytes behind the certificate
-no_rest : (e : ReadFault) → fault_of e ≡ tree.Trailing → ⊥
+no_rest : (e : ReadFault) → cause_of e ≡ tree.Trailing → ⊥
 no_rest Truncated h = cc
 no_rest Magic h = cc
 no_rest (UnknownRecord b) h = cc
@@ -110,10 +110,10 @@ no_rest Trailing h = cc
 no_rest Failed h = cc
 
 taken_whole : (version : ℕ) (bytes : List ℕ) (o : Result (Record × List ℕ) ReadFault) → taken version bytes o ≡ Err tree.Trailing → ⊥
-taken_whole version bytes (Err e) h = no_rest e (let d : fault_of e ≡ tree.Trailing = cc in d)
+taken_whole version bytes (Err e) h = no_rest e (let d : cause_of e ≡ tree.Trailing = cc in d)
 taken_whole version bytes (Ok got) h = at (is_spelled version got.0 && bytes_eq bytes (spelling got.0 ++ got.1)) h
   where
-    at : (b : Bool) → cond {A = Result (Record × List ℕ) (Fault Move)} b (Ok got) (Err tree.Truncated) ≡ Err tree.Trailing → ⊥
+    at : (b : Bool) → cond {A = Result (Record × List ℕ) (Cause Move)} b (Ok got) (Err tree.Truncated) ≡ Err tree.Trailing → ⊥
     at true e = cc
     at false e = cc
 

@@ -12,8 +12,8 @@ use Rattle.pg_certificate.specs.Spelling.{AreBytes}
 use Rattle.pg_certificate.specs.Laws.{IsCutShort, IsUnknownAt}
 use Rattle.pg_certificate.proofs.RecordLaws.{truncated_is_short, short_is_truncated, unknown_at, at_unknown}
 use Rattle.pg_checker.specs.Tree as tree
-use Rattle.pg_checker.specs.Tree.{Fault}
-use Rattle.pg_checker.specs.Chess.{fault_of, renamed, is_spelled, taken, read}
+use Rattle.pg_checker.specs.Tree.{Cause}
+use Rattle.pg_checker.specs.Chess.{cause_of, renamed, is_spelled, taken, read}
 use Rattle.pg_checker.proofs.Reading.{read_is, read_err}
 
 -- reading a record refuses for one of two reasons
@@ -74,7 +74,7 @@ reason version [] = tt
 reason version (b ∷ rest) = one_of (eqb b 1) _ _ tt (one_of (eqb b 5) _ _ tt (one_of (eqb b 2) _ _ (then_one (byte_at rest) _ (byte_reason rest) (λ y. tt)) (one_of (eqb b 3) _ _ (then_one (number_at rest) _ (number_reason rest) (λ y. tt)) (one_of (eqb version 2 && eqb b 6) _ _ (priced_reason rest) tt))))
 
 -- the bytes are less than a whole record
-truncated_of : (e : ReadFault) → IsReason e → fault_of e ≡ tree.Truncated → e ≡ Truncated
+truncated_of : (e : ReadFault) → IsReason e → cause_of e ≡ tree.Truncated → e ≡ Truncated
 unfolding IsReason
 truncated_of Truncated r h = refl
 truncated_of (UnknownRecord b) r h = absurd (cc)
@@ -86,7 +86,7 @@ truncated_of Failed r h = absurd r
 renamed_truncated : (o : Result (Record × List ℕ) ReadFault) → HasReason o → renamed o ≡ Err tree.Truncated → o ≡ Err Truncated
 unfolding HasReason
 renamed_truncated (Ok got) r h = absurd (cc)
-renamed_truncated (Err e) r h = ap Err (truncated_of e r (let d : fault_of e ≡ tree.Truncated = cc in d))
+renamed_truncated (Err e) r h = ap Err (truncated_of e r (let d : cause_of e ≡ tree.Truncated = cc in d))
 
 pub read_short : (version : ℕ) (bytes : List ℕ) → AreBytes bytes → read version bytes ≡ Err tree.Truncated → IsCutShort version bytes
 read_short version bytes fits h = truncated_is_short version bytes fits (renamed_truncated (record_at version bytes) (reason version bytes) (sym (read_is version bytes fits) ∙ h))
@@ -95,7 +95,7 @@ pub short_read : (version : ℕ) (bytes : List ℕ) → AreBytes bytes → IsCut
 short_read version bytes fits h = read_err version bytes Truncated (short_is_truncated version bytes fits h)
 
 -- no record goes on so
-unknown_of : (e : ReadFault) (b : ℕ) → fault_of e ≡ tree.UnknownRecord b → e ≡ UnknownRecord b
+unknown_of : (e : ReadFault) (b : ℕ) → cause_of e ≡ tree.UnknownRecord b → e ≡ UnknownRecord b
 unknown_of (UnknownRecord c) b h = let d : c ≡ b = cc in ap UnknownRecord d
 unknown_of Truncated b h = absurd (cc)
 unknown_of Magic b h = absurd (cc)
@@ -104,10 +104,10 @@ unknown_of Trailing b h = absurd (cc)
 unknown_of Failed b h = absurd (cc)
 
 taken_unknown : (version : ℕ) (bytes : List ℕ) (o : Result (Record × List ℕ) ReadFault) (b : ℕ) → taken version bytes o ≡ Err (tree.UnknownRecord b) → o ≡ Err (UnknownRecord b)
-taken_unknown version bytes (Err e) b h = ap Err (unknown_of e b (let d : fault_of e ≡ tree.UnknownRecord b = cc in d))
+taken_unknown version bytes (Err e) b h = ap Err (unknown_of e b (let d : cause_of e ≡ tree.UnknownRecord b = cc in d))
 taken_unknown version bytes (Ok got) b h = absurd (at (is_spelled version got.0 && bytes_eq bytes (spelling got.0 ++ got.1)) h)
   where
-    at : (c : Bool) → cond {A = Result (Record × List ℕ) (Fault Move)} c (Ok got) (Err tree.Truncated) ≡ Err (tree.UnknownRecord b) → ⊥
+    at : (c : Bool) → cond {A = Result (Record × List ℕ) (Cause Move)} c (Ok got) (Err tree.Truncated) ≡ Err (tree.UnknownRecord b) → ⊥
     at true e = cc
     at false e = cc
 

@@ -1,23 +1,24 @@
 -- The loop over the open nodes. Leads to the contract of `run`.
 use Rattle.std.proofs.Common.{append-nil, ◌≡◌, ℕ, suc, ◌+◌, ◌*◌, ◌<◌, ◌≤◌, Bool, true, false, List, [], ◌∷◌, ◌++◌, length, reverse, map, ◌||◌, ◌≢◌, nat_eq, Option, Some, None, IfSome, Result, Ok, Err, refl, sym, ◌∙◌, ap, subst, arith}
-use Rattle.std.proofs.lemmas.List.{reverse-append, length-reverse}
+use Rattle.std.proofs.lemmas.List.{length-reverse}
 use Rattle.std.specs.Io.KnownBytes.{Consumes}
 use Rattle.pg_certificate.specs.Spelling.{longest_record}
 use Rattle.pg_board.specs.Placement.{Placement}
 use Rattle.pg_position.specs.declared.state.State.{State}
 use Rattle.pg_position.specs.declared.moves.Move.{Move}
+use Rattle.pg_moves.specs.numbers.Places.{most_moves}
 use Rattle.pg_checker.specs.Tree as tree
 use Rattle.pg_checker.specs.Tree.{one_if, entry}
 use Rattle.pg_checker.specs.Walk as walk
 use Rattle.pg_checker.specs.Walk.{visit, each, leaf_answer, ◌>>=◌}
-use Rattle.pg_checker.specs.Frames.{resume, turn, finish, effort, Stacked}
+use Rattle.pg_checker.specs.numbers.Frames.{resume, turn, finish, effort, Stacked}
 use Rattle.pg_checker.specs.Chess.{Cuts, chess}
-use Rattle.pg_checker.specs.Machine.{IsReading, entered, entry_of, entries_of, path, frame_of, frames_of, count_named, state_at, work_at}
-use Rattle.pg_checker.specs.Steps.{Answer, Goes, Stops, TakesFew}
+use Rattle.pg_checker.specs.numbers.Machine.{IsReading, entered, entry_of, entries_of, path, frame_of, frames_of, count_named, state_at, work_at}
+use Rattle.pg_checker.specs.numbers.Steps.{Answer, Goes, Stops, TakesFew}
 use Rattle.pg_checker.specs.declared.machine.Frame.{Frame}
 use Rattle.pg_checker.specs.declared.machine.Machine.{Machine}
-use Rattle.pg_checker.specs.Halting.{Stop}
-use Rattle.pg_checker.specs.Halting as stop
+use Rattle.pg_checker.specs.numbers.Halting.{Stop}
+use Rattle.pg_checker.specs.numbers.Halting as stop
 use Rattle.pg_checker.proofs.Chess.{chess_exact, chess_few, chess_is}
 use Rattle.pg_checker.proofs.Left.{left_are}
 use Rattle.pg_moves.proofs.SortLemmas.{Contains-head, Contains-later}
@@ -59,19 +60,10 @@ few_then a b c left xs most mid now (Err stop.Read) h f k = tt
 few_then a b c left xs most mid now (Err stop.Memory) h f k = few_end a b left xs most mid h f k
 few_then a b c left xs most mid now (Err (stop.Because q)) h f k = few_end a b left xs most mid h f k
 
--- a stop says the same of an answer of another type
-pub few_stop : (X Y : Type 0) (a b c left : Option (List ℕ)) (most now other : ℕ) (s : Stop) → TakesFew {X = X} a b left most now (Err s) → TakesFew {X = Y} a c left most other (Err s)
-few_stop X Y a b c left most now other stop.Read h = tt
-few_stop X Y a b c left most now other stop.Memory h = h
-few_stop X Y a b c left most now other (stop.Because q) h = h
-
 -- ---- the stack
 pub no_frames : (items : List Frame) → (0 < length items → false ≡ true) → items ≡ []
 no_frames [] h = refl
 no_frames (f ∷ fs) h = absurd (let e : false ≡ true = h (omega arith) in cc)
-
-popped : (items rest : List Frame) (top : Frame) → items ≡ rest ++ (top ∷ []) → reverse items ≡ top ∷ reverse rest
-popped items rest top e = ap reverse e ∙ reverse-append rest (top ∷ [])
 
 frames_length : (fs : List Frame) → length (frames_of fs) ≡ length fs
 unfolding frames_of
@@ -116,7 +108,7 @@ left_legal : (p : State) (last : Option Move) (m : Move) → Contains (left_afte
 left_legal p last m c = (left_are p last m c).0
 
 module _ (d : Placement) (l : ℕ) (games : List (List Move)) (cut : Cuts) (n : ℕ) where
-  abbrev pub finishes : Machine → Answer (Bool × walk.State State)
+  abbrev pub finishes : Machine → Answer (Bool × walk.WalkState State)
   finishes m rest room = finish (chess d l games cut) n (work_at (chess d l games cut) m rest room)
 
   -- ---- what holds at each turn, from the first machine to this one
@@ -156,20 +148,20 @@ module _ (d : Placement) (l : ℕ) (games : List (List Move)) (cut : Cuts) (n : 
   -- there is less to do
   pub runs_less : (here after : Option (List ℕ)) (now mid new : Machine) (top : Frame) → now.frames.items ≡ mid.frames.items ++ (top ∷ []) → mid.records ≡ now.records
       → Goes here after mid.room new.room (turns d l games cut n top mid) (λ rest room. Ok (work_at (chess d l games cut) new rest room))
-      → effort (chess d l games cut) 28672 (work_at (chess d l games cut) new [] 0) < effort (chess d l games cut) 28672 (work_at (chess d l games cut) now [] 0)
+      → effort (chess d l games cut) most_moves (work_at (chess d l games cut) new [] 0) < effort (chess d l games cut) most_moves (work_at (chess d l games cut) now [] 0)
   runs_less here after now mid new top items records turning =
-      let less = turn_less (chess d l games cut) (chess_exact d l games cut) 28672 (chess_few d l games cut) n (frame_of top (reverse mid.frames.items)) (frames_of (reverse mid.frames.items)) mid.found (state_at mid (turning.taken ++ []) (turning.used + 0)) (work_at (chess d l games cut) new [] 0) (turning.same [] 0) in
-      subst (λ (m : ℕ). effort (chess d l games cut) 28672 (work_at (chess d l games cut) new [] 0) < effort (chess d l games cut) 28672 (record { frames = frames_of (reverse now.frames.items); found = now.found; state = record (state_at now [] 0) { records = m } })) records
-      (subst (λ v. effort (chess d l games cut) 28672 (work_at (chess d l games cut) new [] 0) < effort (chess d l games cut) 28672 (record { frames = v; found = now.found; state = record (state_at now [] 0) { records = mid.records } })) (sym (frames_popped now.frames.items mid.frames.items top items)) less)
+      let less = turn_less (chess d l games cut) (chess_exact d l games cut) most_moves (chess_few d l games cut) n (frame_of top (reverse mid.frames.items)) (frames_of (reverse mid.frames.items)) mid.found (state_at mid (turning.taken ++ []) (turning.used + 0)) (work_at (chess d l games cut) new [] 0) (turning.same [] 0) in
+      subst (λ (m : ℕ). effort (chess d l games cut) most_moves (work_at (chess d l games cut) new [] 0) < effort (chess d l games cut) most_moves (record { frames = frames_of (reverse now.frames.items); found = now.found; state = record (state_at now [] 0) { records = m } })) records
+      (subst (λ v. effort (chess d l games cut) most_moves (work_at (chess d l games cut) new [] 0) < effort (chess d l games cut) most_moves (record { frames = v; found = now.found; state = record (state_at now [] 0) { records = mid.records } })) (sym (frames_popped now.frames.items mid.frames.items top items)) less)
 
   -- ---- leaves of which none is on the diagram
-  pub dry_front : (p : State) (g : List Move) (passed ms : List Move) (found : Bool) (s : walk.State State) → ((m : Move) → Contains passed m → (chess d l games cut).is_goal ((chess d l games cut).play p m) ≡ false) → each (chess d l games cut) (visit (chess d l games cut) n 0) g p (passed ++ ms) found s ≡ each (chess d l games cut) (visit (chess d l games cut) n 0) g p ms found s
+  pub dry_front : (p : State) (g : List Move) (passed ms : List Move) (found : Bool) (s : walk.WalkState State) → ((m : Move) → Contains passed m → (chess d l games cut).is_goal ((chess d l games cut).play p m) ≡ false) → each (chess d l games cut) (visit (chess d l games cut) n 0) g p (passed ++ ms) found s ≡ each (chess d l games cut) (visit (chess d l games cut) n 0) g p ms found s
   dry_front p g [] ms found s off = refl
   dry_front p g (m ∷ passed) ms found s off =
       ap (λ (x : Bool). leaf_answer (chess d l games cut) n (g ++ (m ∷ [])) ((chess d l games cut).play p m) s x (nat_eq n (chess d l games cut).plies) ((chess d l games cut).is_listed (g ++ (m ∷ []))) >>= (λ child. each (chess d l games cut) (visit (chess d l games cut) n 0) g p (passed ++ ms) (found || child.0) child.1)) (off m (Contains-head m passed))
       ∙ (ap (λ (f : Bool). each (chess d l games cut) (visit (chess d l games cut) n 0) g p (passed ++ ms) f s) (or_false found) ∙ dry_front p g passed ms found s (λ x c. off x (Contains-later m x passed c)))
 
-  dry : (p : State) (g : List Move) (ms : List Move) (found : Bool) (s : walk.State State) → ((m : Move) → Contains ms m → (chess d l games cut).is_goal ((chess d l games cut).play p m) ≡ false) → each (chess d l games cut) (visit (chess d l games cut) n 0) g p ms found s ≡ Ok (found, s)
+  dry : (p : State) (g : List Move) (ms : List Move) (found : Bool) (s : walk.WalkState State) → ((m : Move) → Contains ms m → (chess d l games cut).is_goal ((chess d l games cut).play p m) ≡ false) → each (chess d l games cut) (visit (chess d l games cut) n 0) g p ms found s ≡ Ok (found, s)
   dry p g ms found s off = ap (λ (v : List Move). each (chess d l games cut) (visit (chess d l games cut) n 0) g p v found s) (sym (append-nil ms)) ∙ dry_front p g ms [] found s off
 
   -- the node closes at once
@@ -179,7 +171,7 @@ module _ (d : Placement) (l : ℕ) (games : List (List Move)) (cut : Cuts) (n : 
   skipped now mid new top found items last off is same records found_is entries rest room =
       ap (λ v. resume (chess d l games cut) n v (now.found, state_at now rest room)) (frames_popped now.frames.items mid.frames.items top items)
       ∙ (ap (λ (k : ℕ). each (chess d l games cut) (visit (chess d l games cut) n k) (path (reverse mid.frames.items)) top.moves.position (left_after top.moves.position top.moves.last) (top.found || now.found) (state_at now rest room) >>= (λ all. walk.close (chess d l games cut) top.named (suc top.plies) top.moves.position all >>= resume (chess d l games cut) n (frames_of (reverse mid.frames.items)))) last
-      ∙ (ap (λ (x : Result (Bool × walk.State State) (tree.Fault Move)). x >>= (λ all. walk.close (chess d l games cut) top.named (suc top.plies) top.moves.position all >>= resume (chess d l games cut) n (frames_of (reverse mid.frames.items)))) (dry top.moves.position (path (reverse mid.frames.items)) (left_after top.moves.position top.moves.last) (top.found || now.found) (state_at now rest room) off)
+      ∙ (ap (λ (x : Result (Bool × walk.WalkState State) (tree.Cause Move)). x >>= (λ all. walk.close (chess d l games cut) top.named (suc top.plies) top.moves.position all >>= resume (chess d l games cut) n (frames_of (reverse mid.frames.items)))) (dry top.moves.position (path (reverse mid.frames.items)) (left_after top.moves.position top.moves.last) (top.found || now.found) (state_at now rest room) off)
       ∙ (λ i. resume (chess d l games cut) n (stack i) (fertile i, record { rest = rest; entries = all i; records = sym records i; room = room }))))
     where
       stack : frames_of (reverse mid.frames.items) ≡ frames_of (reverse new.frames.items)
@@ -215,9 +207,9 @@ module _ (d : Placement) (l : ℕ) (games : List (List Move)) (cut : Cuts) (n : 
 
   -- there is less to do
   pub skip_less : (now mid new : Machine) (top : Frame) → now.frames.items ≡ mid.frames.items ++ (top ∷ []) → new.frames ≡ mid.frames → new.records ≡ now.records
-      → effort (chess d l games cut) 28672 (work_at (chess d l games cut) new [] 0) < effort (chess d l games cut) 28672 (work_at (chess d l games cut) now [] 0)
+      → effort (chess d l games cut) most_moves (work_at (chess d l games cut) new [] 0) < effort (chess d l games cut) most_moves (work_at (chess d l games cut) now [] 0)
   skip_less now mid new top items same records =
-      subst (λ v. effort (chess d l games cut) 28672 (work_at (chess d l games cut) new [] 0) < effort (chess d l games cut) 28672 (record { frames = v; found = now.found; state = state_at now [] 0 })) (sym (frames_popped now.frames.items mid.frames.items top items))
+      subst (λ v. effort (chess d l games cut) most_moves (work_at (chess d l games cut) new [] 0) < effort (chess d l games cut) most_moves (record { frames = v; found = now.found; state = state_at now [] 0 })) (sym (frames_popped now.frames.items mid.frames.items top items))
       (rw (same, records) (omega arith))
 
   -- a turn stops

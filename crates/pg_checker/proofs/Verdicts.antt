@@ -12,9 +12,9 @@ use Rattle.pg_position.specs.Game.{Barren}
 use Rattle.pg_board.specs.declared.man.Color.{Color}
 use Rattle.pg_captures.specs.Lists.{first_of}
 use Rattle.pg_captures.specs.PriceLists.{PriceList}
-use Rattle.pg_pawns.specs.PawnPricesLaw.{pawn_prices_barren}
+use Rattle.pg_pawns.specs.lemmas.PawnPricesLaw.{pawn_prices_barren}
 use Rattle.pg_pawns.specs.PricesDecided.{pawn_prices_test_tells}
-use Rattle.pg_travel.specs.TravelPricesLaw.{travel_prices_barren}
+use Rattle.pg_travel.specs.lemmas.TravelPricesLaw.{travel_prices_barren}
 use Rattle.pg_travel.specs.PricesDecided.{travel_prices_test, travel_prices_test_tells}
 use Rattle.std.proofs.lemmas.List.FromFn.{length-map-range_with_len}
 use Rattle.pg_fen.specs.Packing.{packed_of, packed_byte}
@@ -34,17 +34,17 @@ use Rattle.pg_checker.specs.Listed.{IsListFault}
 use Rattle.pg_checker.specs.Chess.{Cuts, IsSoundCut, chess}
 use Rattle.pg_checker.specs.Cuts.{CheckRules, cuts_by, files_by, prices_by}
 use Rattle.pg_checker.specs.Check.{header_for, IsHeaded, IsCertified, Accepts, IsRefused, Refuses, StopsAt}
-use Rattle.pg_checker.specs.Checking.{Headed, HeaderFails, AreKnown, Answers, fault_of}
+use Rattle.pg_checker.specs.numbers.Checking.{Headed, HeaderFails, AreKnown, Answers, fault_of}
 use Rattle.pg_checker.specs.Front.{CauseAt, RecordCause, no_budget, no_record, refused}
-use Rattle.pg_checker.specs.Steps.{Stops, FailsRead}
+use Rattle.pg_checker.specs.numbers.Steps.{Stops, FailsRead}
 use Rattle.pg_checker.specs.Whole.{answer, IsStopped, HasMore}
 use Rattle.pg_checker.specs.declared.certify.Proved.{Proved}
 use Rattle.pg_checker.specs.declared.fault.Fault.{Fault}
 use Rattle.pg_checker.specs.declared.fault.Fault.TheVariants as fault
 use Rattle.pg_checker.specs.declared.fault.ListFault.{ListFault}
 use Rattle.pg_checker.specs.declared.fault.ListFault.TheVariants.{WrongLength, NotReaching}
-use Rattle.pg_checker.specs.Halting.{Stop}
-use Rattle.pg_checker.specs.Halting as stop
+use Rattle.pg_checker.specs.numbers.Halting.{Stop}
+use Rattle.pg_checker.specs.numbers.Halting as stop
 use Rattle.pg_checker.proofs.Chess.{chess_exact, chess_plain, chess_read, yes_is_exact}
 use Rattle.pg_checker.proofs.Reading.{read_no_trailing}
 use Rattle.pg_checker.proofs.Whole.{accepted, accepts, stopped, at_named}
@@ -236,30 +236,30 @@ module _ (d : Placement) (l : ℕ) (games : List (List Move)) (cuts : ℕ → Cu
 
   -- ---- the walk stops
   -- no front is stopped by bytes behind the certificate
-  never_trailing : (v : ℕ) (k : ℕ) (p : State) (s : walk.State State) → RecordCause (chess d l games (cuts v)) k p s tree.Trailing → ⊥
+  never_trailing : (v : ℕ) (k : ℕ) (p : State) (s : walk.WalkState State) → RecordCause (chess d l games (cuts v)) k p s tree.Trailing → ⊥
   never_trailing v k p s (no_budget e f) = cc
-  never_trailing v k p s (no_record e f) = read_no_trailing (cuts v).version s.rest (sym (ap (λ (read_ : List ℕ → Result (Record × List ℕ) (tree.Fault Move)). read_ s.rest) (chess_read d l games (cuts v))) ∙ f)
+  never_trailing v k p s (no_record e f) = read_no_trailing (cuts v).version s.rest (sym (ap (λ (read_ : List ℕ → Result (Record × List ℕ) (tree.Cause Move)). read_ s.rest) (chess_read d l games (cuts v))) ∙ f)
   never_trailing v k p s (refused e (Expand false) rest f g) = g
   never_trailing v k p s (refused e (Expand true) rest f g) = g
   never_trailing v k p s (refused e (Cut code) rest f g) = g
   never_trailing v k p s (refused e (Ref number) rest f g) = g
   never_trailing v k p s (refused e (Priced code color prices) rest f g) = g
 
-  no_trailing : (v : ℕ) (n k : ℕ) (g : List Move) (p : State) (s : walk.State State) → CauseAt (chess d l games (cuts v)) n k g p s tree.Trailing → ⊥
+  no_trailing : (v : ℕ) (n k : ℕ) (g : List Move) (p : State) (s : walk.WalkState State) → CauseAt (chess d l games (cuts v)) n k g p s tree.Trailing → ⊥
   no_trailing v n zero g p s c = c
   no_trailing v n (suc k) g p s c = never_trailing v (suc k) p s c
 
-  stopped_for : (v : ℕ) (a b : ℕ) (rest : List ℕ) (f : tree.Fault Move) → f ≢ tree.Trailing → answer (chess d l games (cuts v)) array_state a b rest ≡ Err f → IsStopped (chess d l games (cuts v)) array_state a b rest f
+  stopped_for : (v : ℕ) (a b : ℕ) (rest : List ℕ) (f : tree.Cause Move) → f ≢ tree.Trailing → answer (chess d l games (cuts v)) array_state a b rest ≡ Err f → IsStopped (chess d l games (cuts v)) array_state a b rest f
   stopped_for v a b rest f ne h = elim (stopped (chess d l games (cuts v)) (chess_exact d l games (cuts v)) array_state a b rest f h) [ inl s ↦ s | inr t ↦ absurd (ne t.0) ]
 
   trailing_for : (v : ℕ) (a b : ℕ) (rest : List ℕ) → answer (chess d l games (cuts v)) array_state a b rest ≡ Err tree.Trailing → HasMore (chess d l games (cuts v)) array_state a b rest
   trailing_for v a b rest h = elim (stopped (chess d l games (cuts v)) (chess_exact d l games (cuts v)) array_state a b rest tree.Trailing h) [ inl s ↦ absurd (no_trailing v _ s.place.plies s.place.game s.place.position s.state s.cause) | inr t ↦ t.1 ]
 
   -- what is refused is not certified
-  not_both : (v : ℕ) (a b : ℕ) (bytes rest : List ℕ) (f : tree.Fault Move) → IsHeaded v d l bytes rest → answer (chess d l games (cuts v)) array_state a b rest ≡ Err f → (proved : Proved) → ¬ IsCertified rules d a b bytes proved
+  not_both : (v : ℕ) (a b : ℕ) (bytes rest : List ℕ) (f : tree.Cause Move) → IsHeaded v d l bytes rest → answer (chess d l games (cuts v)) array_state a b rest ≡ Err f → (proved : Proved) → ¬ IsCertified rules d a b bytes proved
   not_both v a b bytes rest f at h proved k = one_answer (answer (chess d l games (cuts v)) array_state a b rest) f (proved.records, proved.named) h (certified_answer v a b bytes rest proved at k)
 
-  because : (v : ℕ) (a b : ℕ) (known left : Option (List ℕ)) (c : (tree.Fault Move)) {Q : List ℕ → Type 0} → Headed d l known left v → Stops left b (λ bytes room. answer (chess d l games (cuts v)) array_state a room bytes) (stop.Because c)
+  because : (v : ℕ) (a b : ℕ) (known left : Option (List ℕ)) (c : (tree.Cause Move)) {Q : List ℕ → Type 0} → Headed d l known left v → Stops left b (λ bytes room. answer (chess d l games (cuts v)) array_state a room bytes) (stop.Because c)
       → ((bytes rest : List ℕ) → IsHeaded v d l bytes rest → answer (chess d l games (cuts v)) array_state a b rest ≡ Err c → Q bytes) → IfSome known Q
   unfolding Stops
   because v a b None left c at h f = tt
@@ -282,7 +282,7 @@ module _ (d : Placement) (l : ℕ) (games : List (List Move)) (cuts : ℕ → Cu
   stop_accepts v a b known left (stop.Because (tree.Unlisted x)) at h = λ all. because v a b known left (tree.Unlisted x) at h (λ bytes rest. not_both v a b bytes rest (tree.Unlisted x))
   stop_accepts v a b known left (stop.Because tree.Trailing) at h = λ all. because v a b known left tree.Trailing at h (λ bytes rest. not_both v a b bytes rest tree.Trailing)
 
-  stops_at : (v : ℕ) (a b : ℕ) (f : tree.Fault Move) → f ≢ tree.Trailing → (bytes rest : List ℕ) → IsHeaded v d l bytes rest → answer (chess d l games (cuts v)) array_state a b rest ≡ Err f → StopsAt rules d a b bytes f
+  stops_at : (v : ℕ) (a b : ℕ) (f : tree.Cause Move) → f ≢ tree.Trailing → (bytes rest : List ℕ) → IsHeaded v d l bytes rest → answer (chess d l games (cuts v)) array_state a b rest ≡ Err f → StopsAt rules d a b bytes f
   stops_at v a b f ne bytes rest at h = (v, rest, at, stopped_for v a b rest f ne h)
 
   memory_at : (v : ℕ) (a b : ℕ) (known left : Option (List ℕ)) → Headed d l known left v → Stops left b (λ bytes room. answer (chess d l games (cuts v)) array_state a room bytes) stop.Memory → IfSome known (λ bytes. IsRefused rules d a b bytes fault.Memory)

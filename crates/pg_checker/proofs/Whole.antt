@@ -2,11 +2,11 @@
 use Rattle.std.proofs.Common.{◌≡◌, ◌≢◌, ℕ, zero, suc, ◌+◌, ◌-◌, ◌<◌, ◌⊎◌, true, false, List, [], ◌∷◌, ◌++◌, Ok, Err, Contains, refl, sym, ◌∙◌, ap, ap₂, subst, inl, inr, ⊎_elim, arith, append_assoc, append-nil}
 use Rattle.pg_certificate.specs.declared.record.Record.{Record}
 use Rattle.pg_certificate.specs.declared.record.Record.TheVariants.{Expand as Expanded, Cut as CutBy, Ref as RefTo, Priced as PricedBy}
-use Rattle.pg_checker.specs.Tree.{Trees, Empty, First, Fault, Trailing, Entry, Rules, Reaches, Fits, FitAll, fertile, closed, spelling, spelling_all, records_all, named_all}
-use Rattle.pg_checker.specs.Walk.{State, visit, Took}
+use Rattle.pg_checker.specs.Tree.{Trees, Empty, First, Cause, Trailing, Entry, Rules, Reaches, Fits, FitAll, fertile, closed, spelling, spelling_all, records_all, named_all}
+use Rattle.pg_checker.specs.Walk.{WalkState, visit, Took}
 use Rattle.pg_checker.specs.Claims.{FitFrom, count, IsCertificate, IsComplete, IsRight, IsExact}
 use Rattle.pg_checker.specs.Tree.{TooManyNamed}
-use Rattle.pg_checker.specs.Front.{Refuses, no_budget, no_record, refused}
+use Rattle.pg_checker.specs.Front.{RefusesRecord, no_budget, no_record, refused}
 use Rattle.pg_checker.specs.Front.{Front, front_records, front_named, front_spelling, Place, FitFront, CauseAt}
 use Rattle.pg_checker.specs.Whole.{IsAtNamed, run, ended, answer, closed_from, IsAccepted, IsStopped, HasMore, full, full_all, full_from}
 use Rattle.pg_checker.proofs.Steps.{bind_ok}
@@ -17,7 +17,7 @@ use Rattle.pg_checker.proofs.Fronts.{visit_err}
 use Rattle.pg_checker.proofs.Sound.{complete, contains_first, contains_next}
 
 module _ {P M : Type 0} (r : Rules P M) where
-  record RunsTo (c n : ℕ) (p : P) (s t : State P) : Type 0 where
+  record RunsTo (c n : ℕ) (p : P) (s t : WalkState P) : Type 0 where
     trees : Trees
     many : count r trees ≡ c
     fits : FitFrom r n p s.entries trees
@@ -26,28 +26,28 @@ module _ {P M : Type 0} (r : Rules P M) where
     records_are : s.records ≡ records_all trees + t.records
     room : s.room ≡ named_all trees + t.room
 
-  record StopsIn (c n : ℕ) (p : P) (s : State P) (f : Fault M) : Type 0 where
+  record StopsIn (c n : ℕ) (p : P) (s : WalkState P) (f : Cause M) : Type 0 where
     before : Trees
     fits : FitFrom r n p s.entries before
     few : count r before < c
     front : Front
     place : Place P M
-    state : State P
+    state : WalkState P
     front_fits : FitFront r (n + count r before) (n + count r before) [] p (s.entries ++ closed_from r n p before) front place state.entries
     rest : s.rest ≡ (spelling_all r before ++ front_spelling r front) ++ state.rest
     records_are : s.records ≡ (records_all before + front_records front) + state.records
     room : s.room ≡ (named_all before + front_named front) + state.room
     cause : CauseAt r (n + count r before) place.plies place.game place.position state f
 
-  abbrev pub start : ℕ → ℕ → List ℕ → State P
+  abbrev pub start : ℕ → ℕ → List ℕ → WalkState P
   start max_records max_named bytes = record { rest = bytes; entries = []; records = max_records; room = max_named }
 
   module _ (exact : IsExact r) where
-    run_ok : (c n : ℕ) (p : P) (s t : State P) → run r c n p s ≡ Ok t → RunsTo c n p s t
+    run_ok : (c n : ℕ) (p : P) (s t : WalkState P) → run r c n p s ≡ Ok t → RunsTo c n p s t
     unfolding run
     run_ok zero n p s t h =
         let e : s ≡ t = cc in
-        subst (λ (v : State P). RunsTo zero n p s v) e (record { trees = Empty; many = refl; fits = tt; rest = refl; entries = sym (append-nil s.entries); records_are = omega arith; room = omega arith })
+        subst (λ (v : WalkState P). RunsTo zero n p s v) e (record { trees = Empty; many = refl; fits = tt; rest = refl; entries = sym (append-nil s.entries); records_are = omega arith; room = omega arith })
     run_ok (suc c) n p s t h =
         let d = bind_ok (visit r n n [] p s) _ t h in
         let got = d.0 in
@@ -63,19 +63,19 @@ module _ {P M : Type 0} (r : Rules P M) where
           room = omega (arith, one.took.room, more.room);
         }
 
-    pub fits_run : (c n : ℕ) (p : P) (s t : State P) (trees : Trees) → count r trees ≡ c → FitFrom r n p s.entries trees
+    pub fits_run : (c n : ℕ) (p : P) (s t : WalkState P) (trees : Trees) → count r trees ≡ c → FitFrom r n p s.entries trees
         → s.rest ≡ spelling_all r trees ++ t.rest → t.entries ≡ s.entries ++ closed_from r n p trees → s.records ≡ records_all trees + t.records → s.room ≡ named_all trees + t.room → run r c n p s ≡ Ok t
     unfolding run
     fits_run zero n p s t Empty many fits a b x y = ap Ok (same_state s t a (sym (b ∙ append-nil s.entries)) (omega arith) (omega arith))
     fits_run (suc c) n p s t Empty many fits a b x y = absurd (omega arith)
     fits_run zero n p s t (First tree ts) many fits a b x y = absurd (omega arith)
     fits_run (suc c) n p s t (First tree ts) many fits a b x y =
-        let u : State P = record { rest = spelling_all r ts ++ t.rest; entries = s.entries ++ closed r n p tree; records = records_all ts + t.records; room = named_all ts + t.room } in
+        let u : WalkState P = record { rest = spelling_all r ts ++ t.rest; entries = s.entries ++ closed r n p tree; records = records_all ts + t.records; room = named_all ts + t.room } in
         let one : Took r n p s tree u = record { rest = a ∙ append_assoc (spelling r tree) (spelling_all r ts) t.rest; entries = refl; records = omega arith; room = omega arith } in
         bind_is r (visit r n n [] p s) _ (Ok (fertile r p tree, u)) (fits_visit r exact n n [] p s u tree fits.0 one)
         ∙ fits_run c (suc n) p u t ts (omega arith) fits.1 refl (b ∙ sym (append_assoc s.entries (closed r n p tree) (closed_from r (suc n) p ts))) refl refl
 
-    run_err : (c n : ℕ) (p : P) (s : State P) (f : Fault M) → run r c n p s ≡ Err f → StopsIn c n p s f
+    run_err : (c n : ℕ) (p : P) (s : WalkState P) (f : Cause M) → run r c n p s ≡ Err f → StopsIn c n p s f
     unfolding run
     run_err zero n p s f h = absurd (cc)
     run_err (suc c) n p s f h =
@@ -115,11 +115,11 @@ module _ {P M : Type 0} (r : Rules P M) where
         })
         (bind_err (visit r n n [] p s) _ f h)
 
-    ended_ok : (a b : ℕ) (bs : List ℕ) (s : State P) (x : ℕ × ℕ) → ended r a b bs s ≡ Ok x → (bs ≡ []) × ((a - s.records, b - s.room) ≡ x)
+    ended_ok : (a b : ℕ) (bs : List ℕ) (s : WalkState P) (x : ℕ × ℕ) → ended r a b bs s ≡ Ok x → (bs ≡ []) × ((a - s.records, b - s.room) ≡ x)
     ended_ok a b [] s x h = (refl, cc)
     ended_ok a b (c ∷ bs) s x h = absurd (cc)
 
-    ended_err : (a b : ℕ) (bs : List ℕ) (s : State P) (f : Fault M) → ended r a b bs s ≡ Err f → (bs ≢ []) × (f ≡ Trailing)
+    ended_err : (a b : ℕ) (bs : List ℕ) (s : WalkState P) (f : Cause M) → ended r a b bs s ≡ Err f → (bs ≢ []) × (f ≡ Trailing)
     ended_err a b [] s f h = absurd (cc)
     ended_err a b (c ∷ bs) s f h = (λ e. cc, cc)
 
@@ -145,29 +145,31 @@ module _ {P M : Type 0} (r : Rules P M) where
     pub accepts : (p : P) (a b : ℕ) (bytes : List ℕ) (x : ℕ × ℕ) → IsAccepted r p a b bytes x → answer r p a b bytes ≡ Ok x
     unfolding answer
     accepts p a b bytes x acc =
-        let t : State P = record { rest = []; entries = closed_from r 0 p acc.trees; records = a - records_all acc.trees; room = b - named_all acc.trees } in
+        let t : WalkState P = record { rest = []; entries = closed_from r 0 p acc.trees; records = a - records_all acc.trees; room = b - named_all acc.trees } in
         let x0 : a - (a - records_all acc.trees) ≡ x.0 = omega (arith, acc.records_are, acc.records_fit) in
         let x1 : b - (b - named_all acc.trees) ≡ x.1 = omega (arith, acc.named_are, acc.named_fit) in
         bind_is r (run r (suc r.plies) 0 p (start a b bytes)) _ (Ok t)
         (fits_run (suc r.plies) 0 p (start a b bytes) t acc.trees acc.fits.0 acc.fits.1 (acc.bytes_are ∙ sym (append-nil (spelling_all r acc.trees))) refl (omega (arith, acc.records_fit)) (omega (arith, acc.named_fit)))
         ∙ ap₂ (λ (u v : ℕ). Ok (u, v)) x0 x1
 
-    pub stopped : (p : P) (a b : ℕ) (bytes : List ℕ) (f : Fault M) → answer r p a b bytes ≡ Err f → IsStopped r p a b bytes f ⊎ ((f ≡ Trailing) × HasMore r p a b bytes)
+    pub stopped : (p : P) (a b : ℕ) (bytes : List ℕ) (f : Cause M) → answer r p a b bytes ≡ Err f → IsStopped r p a b bytes f ⊎ ((f ≡ Trailing) × HasMore r p a b bytes)
     unfolding answer
     stopped p a b bytes f h =
         ⊎_elim (λ c. let d = run_err (suc r.plies) 0 p (start a b bytes) f c in
         let z : 0 + count r d.before ≡ count r d.before = omega arith in
         inl (record {
           before = d.before;
-          fits = d.fits;
-          few = d.few;
-          front = d.front;
           place = d.place;
           state = d.state;
-          front_fits = subst (λ (m : ℕ). FitFront r m m [] p (closed_from r 0 p d.before) d.front d.place d.state.entries) z d.front_fits;
-          bytes_are = d.rest;
-          records_are = d.records_are;
-          named_are = d.room;
+          reached = record {
+            fits = d.fits;
+            few = d.few;
+            front = d.front;
+            front_fits = subst (λ (m : ℕ). FitFront r m m [] p (closed_from r 0 p d.before) d.front d.place d.state.entries) z d.front_fits;
+            bytes_are = d.rest;
+            records_are = d.records_are;
+            named_are = d.room;
+          };
           cause = subst (λ (m : ℕ). CauseAt r m d.place.plies d.place.game d.place.position d.state f) z d.cause;
         }))
         (λ c. let t = c.0 in
@@ -203,20 +205,20 @@ module _ {P M : Type 0} (r : Rules P M) where
   full_certificate p h = full_from_fits (suc r.plies) 0 p [] h (omega arith)
 
   -- a record is refused for too many names only where it is a named node and no room is left
-  record NoRoom (k : ℕ) (s : State P) : Type 0 where
+  record NoRoom (k : ℕ) (s : WalkState P) : Type 0 where
     inner : 0 < k
     budget : 0 < s.records
     next : (rest : List ℕ) × (r.read s.rest ≡ Ok (Expanded true, rest))
     full : s.room ≡ 0
 
-  refused_room : (k : ℕ) (p : P) (es : List (Entry P)) (room : ℕ) (got : Record) → Refuses r k p es room got TooManyNamed → (got ≡ Expanded true) × (room ≡ 0)
+  refused_room : (k : ℕ) (p : P) (es : List (Entry P)) (room : ℕ) (got : Record) → RefusesRecord r k p es room got TooManyNamed → (got ≡ Expanded true) × (room ≡ 0)
   refused_room k p es room (Expanded true) h = (refl, h)
   refused_room k p es room (Expanded false) h = absurd h
   refused_room k p es room (CutBy code) h = absurd h
   refused_room k p es room (PricedBy code color prices) h = absurd h
   refused_room k p es room (RefTo number) h = absurd h
 
-  no_room : ((bytes : List ℕ) → r.read bytes ≡ Err TooManyNamed → ⊥) → (n k : ℕ) (g : List M) (p : P) (s : State P) → CauseAt r n k g p s TooManyNamed → NoRoom k s
+  no_room : ((bytes : List ℕ) → r.read bytes ≡ Err TooManyNamed → ⊥) → (n k : ℕ) (g : List M) (p : P) (s : WalkState P) → CauseAt r n k g p s TooManyNamed → NoRoom k s
   no_room plain n zero g p s h = absurd h
   no_room plain n (suc k) g p s (no_budget a b) = absurd (cc)
   no_room plain n (suc k) g p s (no_record a b) = absurd (plain s.rest b)
@@ -231,15 +233,17 @@ module _ {P M : Type 0} (r : Rules P M) where
       let c = no_room plain (count r d.before) d.place.plies d.place.game d.place.position d.state d.cause in
       record {
         before = d.before;
-        fits = d.fits;
-        few = d.few;
-        front = d.front;
         place = d.place;
         state = record d.state { room = b - b' };
-        front_fits = d.front_fits;
-        bytes_are = d.bytes_are;
-        records_are = d.records_are;
-        named_are = omega (arith, d.named_are, c.full, less);
+        reached = record {
+          fits = d.reached.fits;
+          few = d.reached.few;
+          front = d.reached.front;
+          front_fits = d.reached.front_fits;
+          bytes_are = d.reached.bytes_are;
+          records_are = d.reached.records_are;
+          named_are = omega (arith, d.reached.named_are, c.full, less);
+        };
         inner = c.inner;
         budget = c.budget;
         named_next = c.next;

@@ -47,7 +47,7 @@ abbrev pub IsHeaded : ℕ → Placement → ℕ → List ℕ → List ℕ → Ty
 IsHeaded version d n bytes rest = IsVersion version × (bytes ≡ header_spelling (header_for version d n) ++ rest)
 
 -- behind the header of some version, the cause is the first one at a front
-abbrev pub StopsAt : CheckRules → Placement → ℕ → ℕ → List ℕ → tree.Fault Move → Type 0
+abbrev pub StopsAt : CheckRules → Placement → ℕ → ℕ → List ℕ → tree.Cause Move → Type 0
 StopsAt r d max_records max_named bytes cause = (version : ℕ) × (rest : List ℕ) × IsHeaded version d r.plies bytes rest × IsStopped (r.of version) array_state max_records max_named rest cause
 
 -- why the bytes are refused

@@ -20,7 +20,7 @@ use Rattle.pg_certificate.specs.declared.record.Record.{Record}
 use Rattle.pg_certificate.specs.declared.record.Record.TheVariants.{Expand, Cut, Ref, Priced}
 use Rattle.pg_certificate.specs.Spelling.{spelling, IsRecordOf}
 use Rattle.pg_certificate.specs.Reading.{record_at}
-use Rattle.pg_checker.specs.Tree.{Rules, Fault, Truncated, UnknownRecord}
+use Rattle.pg_checker.specs.Tree.{Rules, Cause, Truncated, UnknownRecord}
 use Rattle.pg_captures.specs.PriceLists.{PriceList}
 use Rattle.pg_checker.specs.Equality.{lists}
 use Rattle.pg_checker.specs.Futures.{future_eq}
@@ -55,14 +55,14 @@ pub record IsChess (r : Rules State Move) (version : ℕ) (d : Placement) (n : �
 
 -- ---- reading
 -- a refusal to read a record, by its name here; there is no other than these two
-abbrev pub fault_of : ReadFault → Fault Move
-fault_of (reading.UnknownRecord b) = UnknownRecord b
-fault_of _ = Truncated
+abbrev pub cause_of : ReadFault → Cause Move
+cause_of (reading.UnknownRecord b) = UnknownRecord b
+cause_of _ = Truncated
 
 -- what was read, with the refusal by its name here
-abbrev pub renamed : Result (Record × List ℕ) ReadFault → Result (Record × List ℕ) (Fault Move)
+abbrev pub renamed : Result (Record × List ℕ) ReadFault → Result (Record × List ℕ) (Cause Move)
 renamed (Ok got) = Ok got
-renamed (Err e) = Err (fault_of e)
+renamed (Err e) = Err (cause_of e)
 
 -- whether the record is one of this version
 abbrev pub is_spelled : ℕ → Record → Bool
@@ -72,12 +72,12 @@ is_spelled version (Ref number) = nat_lt number (2 ^ 32)
 is_spelled version (Priced code color prices) = (version == 2) && (nat_lt code (2 ^ 8) && are_prices prices)
 
 -- what was read is taken where its spelling stands there: always, where the numbers are bytes
-abbrev pub taken : ℕ → List ℕ → Result (Record × List ℕ) ReadFault → Result (Record × List ℕ) (Fault Move)
-taken version bytes (Err e) = Err (fault_of e)
+abbrev pub taken : ℕ → List ℕ → Result (Record × List ℕ) ReadFault → Result (Record × List ℕ) (Cause Move)
+taken version bytes (Err e) = Err (cause_of e)
 taken version bytes (Ok got) = if is_spelled version got.0 && bytes_eq bytes (spelling got.0 ++ got.1) then Ok got else Err Truncated
 
 -- the record of this version at the front of bytes
-unfoldable pub read : ℕ → List ℕ → Result (Record × List ℕ) (Fault Move)
+unfoldable pub read : ℕ → List ℕ → Result (Record × List ℕ) (Cause Move)
 read version bytes = taken version bytes (record_at version bytes)
 
 -- ---- the rules

@@ -5,7 +5,7 @@ use Rattle.pg_board.specs.declared.man.Color.{Color}
 use Rattle.pg_captures.specs.PriceLists.{PriceList}
 use Rattle.pg_certificate.specs.declared.record.Record.TheVariants.{Expand as Expanded}
 use Rattle.pg_checker.specs.Tree.{Tree, Trees, Empty, First, Entry, Rules, Reaches, Barren, Fits, fertile, closed}
-use Rattle.pg_checker.specs.Walk.{State, Took}
+use Rattle.pg_checker.specs.Walk.{WalkState, Took}
 
 module _ {P M : Type 0} (r : Rules P M) where
   -- what is assumed of bounds and of references, at the positions that are met: neither hides a game
@@ -39,7 +39,7 @@ module _ {P M : Type 0} (r : Rules P M) where
   IsCertificate p ts = (count ts ≡ suc r.plies) × FitFrom 0 p [] ts
 
   -- the walk read a tree that fits, and nothing else
-  pub record Reads (n k : ℕ) (g : List M) (p : P) (s : State P) (found : Bool) (t : State P) : Type 0 where
+  pub record Reads (n k : ℕ) (g : List M) (p : P) (s : WalkState P) (found : Bool) (t : WalkState P) : Type 0 where
     pub tree : Tree
     pub fits : Fits r n k g p s.entries tree
     pub took : Took r k p s tree t

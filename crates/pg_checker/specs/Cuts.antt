@@ -9,6 +9,9 @@ use Rattle.pg_captures.specs.Lists.{first_of}
 use Rattle.pg_captures.specs.PriceLists.{PriceList}
 use Rattle.pg_pawns.specs.PricesDecided.{pawn_prices_test}
 use Rattle.pg_travel.specs.PricesDecided.{travel_prices_test}
+use Rattle.std.specs.declared.alloc.Global.{Global}
+use Rattle.std.specs.declared.dyn_box.DynBox.{DynBox}
+use Rattle.pg_checker.specs.declared.machine.Question.{Question}
 use Rattle.pg_checker.specs.Tree.{Rules}
 use Rattle.pg_checker.specs.Chess.{Cuts, chess}
 
@@ -37,6 +40,16 @@ pub record CheckRules : Type 0 where
   pub plies : ℕ
   pub of : (version : ℕ) → Rules State Move
 
--- chess with the diagram d, n plies, these games and these bounds
-abbrev pub rules_by : {B : Type 0} → (B → ℕ) → (B → Placement → State → ℕ → Bool) → Placement → ℕ → List (List Move) → List B → CheckRules
-rules_by code_of excluded d n games bounds = record { plies = n; of = λ version. chess d n games (cuts_by code_of excluded version d bounds) }
+-- chess with the diagram d, n plies and the games, cut by prices and by a list of bounds in boxes: each bound is seen by its code and by what it excludes
+abbrev pub rules_by : {B : Type 0} → (B → ℕ) → (B → Placement → State → ℕ → Bool) → List B → Placement → ℕ → List (List Move) → CheckRules
+rules_by code_of excluded bounds d n games = record { plies = n; of = λ version. chess d n games (cuts_by code_of excluded version d bounds) }
+
+-- ---- what is asked of a certificate, and its version
+module _ {X : Type 0} {F : X → Type 0} (code_of : DynBox X Global F → ℕ) (excluded : DynBox X Global F → Placement → State → ℕ → Bool) where
+  -- what cuts nodes
+  abbrev pub cuts_for : Question X F → Cuts
+  cuts_for question = cuts_by code_of excluded question.version question.diagram.now question.bounds.now
+
+  -- the rules that its trees must fit
+  abbrev pub rules_for : Question X F → Rules State Move
+  rules_for question = chess question.diagram.now question.plies question.games.now (cuts_for question)

@@ -2,19 +2,20 @@
 use Rattle.std.proofs.Common.{◌≡◌, ℕ, Bool, true, Option, Some, None, refl, sym, ap, subst, ◌∙◌}
 use Rattle.std.specs.Bool.{Decides}
 use Rattle.pg_board.specs.declared.man.Kind.TheVariants.{Pawn}
+use Rattle.pg_board.specs.Men.{man}
+use Rattle.pg_board.specs.lemmas.Decisions.{dec_and, dec_along, dec_some_below, dec_get}
 use Rattle.pg_position.specs.declared.state.State.{State}
 use Rattle.pg_position.specs.Attack.{Reaches}
 use Rattle.pg_position.specs.Position.{Stands}
 use Rattle.pg_position.specs.Equality.{state_eq, state_eq_decides}
 use Rattle.pg_position.specs.Future.{IsPawnAttacked, IsEffective, SameFuture}
-use Rattle.pg_captures.specs.Decisions.{dec_and, dec_along, dec_below, dec_stands}
 use Rattle.pg_moves.proofs.DecisionLemmas.{dec_pattern, dec_clear}
 
 pub dec_attacked : (p : State) (e : ℕ) → Dec (IsPawnAttacked p e)
 unfolding IsPawnAttacked
 dec_attacked p e =
     dec_along (λ h. (h.0, h.1, h.2.0, h.2.1)) (λ h. (h.0, h.1, (h.2, h.3)))
-    (dec_below (λ r. Stands p.board p.side Pawn r × Reaches p.board p.side Pawn r e) (λ r. dec_and (dec_stands p.board p.side Pawn r) (dec_and (dec_pattern p.side Pawn r e) (dec_clear p.board r e))) 64)
+    (dec_some_below (λ r. Stands p.board p.side Pawn r × Reaches p.board p.side Pawn r e) (λ r. dec_and (dec_get p.board r (Some (man p.side Pawn))) (dec_and (dec_pattern p.side Pawn r e) (dec_clear p.board r e))) 64)
 
 -- a square, where a pawn attacks it
 abbrev kept_if : {A : Type 0} → Dec A → ℕ → Option ℕ

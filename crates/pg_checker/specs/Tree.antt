@@ -19,19 +19,19 @@ mutual
     First : (first : Tree) (others : Trees) → Trees
 
 -- Why a certificate is refused.
-pub data Fault (M : Type 0) : Type 0 where
-  Budget : Fault M
-  Truncated : Fault M
-  UnknownRecord : (byte : ℕ) → Fault M
-  UnknownBound : (code : ℕ) → Fault M
-  CutFails : (code : ℕ) → Fault M
-  RefUnknown : Fault M
-  RefDiffers : Fault M
-  RefFertile : Fault M
-  TooManyNamed : Fault M
-  Shorter : (plies : ℕ) → Fault M
-  Unlisted : (game : List M) → Fault M
-  Trailing : Fault M
+pub data Cause (M : Type 0) : Type 0 where
+  Budget : Cause M
+  Truncated : Cause M
+  UnknownRecord : (byte : ℕ) → Cause M
+  UnknownBound : (code : ℕ) → Cause M
+  CutFails : (code : ℕ) → Cause M
+  RefUnknown : Cause M
+  RefDiffers : Cause M
+  RefFertile : Cause M
+  TooManyNamed : Cause M
+  Shorter : (plies : ℕ) → Cause M
+  Unlisted : (game : List M) → Cause M
+  Trailing : Cause M
 
 -- What a named node leaves when it closes.
 pub record Entry (P : Type 0) : Type 0 where
@@ -58,7 +58,7 @@ pub record Rules (P M : Type 0) : Type 0 where
   -- the bytes of a record, the records that have bytes, and a record at the front of bytes
   pub write : Record → List ℕ
   pub is_record : Record → Bool
-  pub read : List ℕ → Result (Record × List ℕ) (Fault M)
+  pub read : List ℕ → Result (Record × List ℕ) (Cause M)
 
 module _ {P M : Type 0} (r : Rules P M) where
   -- a game of k plies from p that ends on the diagram

@@ -1,16 +1,16 @@
 //! The check of a certificate.
-ghost use Rattle.std.specs.Prelude.{◌≡◌, ◌+◌, ◌*◌, ◌≤◌, false, [], reverse, OnOk, IfOk, IfErr};
+ghost use Rattle.std.specs.Prelude.{◌≡◌, ◌+◌, ◌*◌, ◌≤◌, false, [], OnOk, IfOk, IfErr};
 ghost use Rattle.std.specs.Prelude.{length as length_of};
 ghost use Rattle.std.specs.Io.KnownBytes.{IsAtEnd};
 ghost use Rattle.pg_certificate.specs.Reader.{to_come};
 ghost use Rattle.pg_certificate.specs.Spelling.{longest_record};
 ghost use Rattle.pg_checker.specs.Answer.{IsExactAnswer};
 ghost use Rattle.pg_checker.specs.Check.{Accepts, Refuses, Takes};
-ghost use Rattle.pg_checker.specs.Checking.{Answers, Headed, HeaderFails, HeaderTakes, WalkTakes, header_fault};
-ghost use Rattle.pg_checker.specs.Cuts.{rules_by};
-ghost use Rattle.pg_checker.specs.Halting.{stops};
-ghost use Rattle.pg_checker.specs.Machine.{IsReading, path};
-ghost use Rattle.pg_checker.specs.Steps.{FailsRead};
+ghost use Rattle.pg_checker.specs.numbers.Checking.{Answers, Headed, HeaderFails, HeaderTakes, WalkTakes, header_fault};
+ghost use Rattle.pg_checker.specs.Cuts.{rules_by, rules_for};
+ghost use Rattle.pg_checker.specs.numbers.Halting.{stops};
+ghost use Rattle.pg_checker.specs.numbers.Machine.{IsReading, game_at};
+ghost use Rattle.pg_checker.specs.numbers.Steps.{FailsRead};
 
 use crate::fault::Fault;
 use crate::halt::{Halt, Reason, fault_of};
@@ -90,7 +90,9 @@ fn walk<S: Source>(
     requires entries { machine.old.table.entries ≡ [] }
     requires kept { machine.old.table.kept ≡ 0 }
     requires closed { machine.old.frames.items ≡ [] }
-    ensures says { Answers ((rules_by (λ b. code_of b) (λ b. excluded b) question.now.diagram.now question.now.plies question.now.games.now question.now.bounds.now).of question.now.version) (to_come machine.old.reader (S.left source.old)) machine.old.records machine.old.room (stops (path (reverse machine.new.frames.items)) result) }
+    ensures says { Answers
+        (rules_for code_of excluded question.now) (to_come machine.old.reader (S.left source.old))
+        machine.old.records machine.old.room (stops (game_at machine.new) result) }
     ensures end { OnOk result (IsAtEnd (S.left source.new)) }
     ensures runs { OnOk result (S.has_failed source.new ≡ false) }
     ensures fails { FailsRead (S.has_failed source.new) (stops [] result) }
@@ -142,9 +144,10 @@ pub fn check<R: Source>(
     max_named: u32,
 ) -> Result<Proved, Fault>
     ensures headline { OnOk result (IsExactAnswer diagram.now length games.now) }
-    ensures accepted { Accepts (rules_by (λ b. code_of b) (λ b. excluded b) diagram.now length games.now bounds.now) diagram.now games.now max_records max_named (R.left source.old) result }
-    ensures refused { Refuses (rules_by (λ b. code_of b) (λ b. excluded b) diagram.now length games.now bounds.now) diagram.now games.now max_records max_named (R.left source.old) (R.has_failed source.new) result }
-    ensures pulls { Takes (37 + 390 * max_records + 4096) (R.left source.old) (R.left source.new) result }
+    ensures accepted { Accepts (rules_by code_of excluded bounds.now diagram.now length games.now) diagram.now games.now max_records max_named (R.left source.old) result }
+    ensures refused { Refuses (rules_by code_of excluded bounds.now diagram.now length games.now) diagram.now games.now max_records max_named
+        (R.left source.old) (R.has_failed source.new) result }
+    ensures pulls { Takes (37 + longest_record * max_records + 4096) (R.left source.old) (R.left source.new) result }
     ensures end { OnOk result (IsAtEnd (R.left source.new)) }
     ensures runs { OnOk result (R.has_failed source.new ≡ false) }
 {

@@ -6,49 +6,50 @@ ghost use Rattle.pg_position.specs.declared.state.State.{State};
 ghost use Rattle.pg_position.specs.declared.moves.Move.{Move};
 ghost use Rattle.pg_position.specs.Array.{array_state};
 ghost use Rattle.pg_moves.specs.Moves.{IsNext, IsLast};
+ghost use Rattle.pg_moves.specs.numbers.Places.{most_moves};
 ghost use Rattle.pg_certificate.specs.declared.fault.ReadFault.{ReadFault};
 ghost use Rattle.pg_certificate.specs.declared.record.Record.{Record};
 ghost use Rattle.pg_certificate.specs.Laws.{IsCutShort, IsUnknownAt};
 ghost use Rattle.pg_certificate.specs.Reading.{record_at};
 ghost use Rattle.pg_certificate.specs.Spelling.{spelling, AreBytes, IsRecordOf};
 ghost use Rattle.pg_checker.specs.Answer.{IsExactAnswer, AreSolutions};
-ghost use Rattle.pg_checker.specs.Chess.{Cuts, IsSoundCut, IsChess, chess, fault_of, renamed, read};
+ghost use Rattle.pg_checker.specs.Chess.{Cuts, IsSoundCut, IsChess, chess, cause_of, renamed, read};
 ghost use Rattle.pg_checker.specs.Claims.{IsExact, IsCertificate};
 ghost use Rattle.pg_checker.specs.Left.{left_after};
-ghost use Rattle.pg_checker.specs.Tree.{Rules, Trees, Fault, Truncated, UnknownRecord, Trailing, TooManyNamed, spelling_all, records_all};
+ghost use Rattle.pg_checker.specs.Tree.{Rules, Trees, Cause, Truncated, UnknownRecord, Trailing, TooManyNamed, spelling_all, records_all};
 ghost use Rattle.pg_checker.specs.Whole.{IsAtNamed, full_from, answer, IsAccepted, IsStopped, HasMore};
 
 /// The rules by which the walk goes are those of chess, with the cuts handed in and the records of
 /// certificates of their version, and no state has more than 28,672 moves.
-pub fn chess_law()
+pub fn rules_are_those_of_chess()
     ensures rules { (d : Placement) (n : ℕ) (games : List (List Move)) (cut : Cuts) → IsChess (chess d n games cut) cut.version d n games }
     ensures cuts { (d : Placement) (n : ℕ) (games : List (List Move)) (cut : Cuts) → (chess d n games cut).cut ≡ cut.bounds }
     ensures prices { (d : Placement) (n : ℕ) (games : List (List Move)) (cut : Cuts) → (chess d n games cut).priced ≡ cut.prices }
     ensures reads { (d : Placement) (n : ℕ) (games : List (List Move)) (cut : Cuts) → (chess d n games cut).read ≡ read cut.version }
     ensures records { (d : Placement) (n : ℕ) (games : List (List Move)) (cut : Cuts) → IsExact (chess d n games cut) }
-    ensures few { (d : Placement) (n : ℕ) (games : List (List Move)) (cut : Cuts) (p : State) → length ((chess d n games cut).moves p) ≤ 28672 }
+    ensures few { (d : Placement) (n : ℕ) (games : List (List Move)) (cut : Cuts) (p : State) → length ((chess d n games cut).moves p) ≤ most_moves }
 {}
 
 /// The walk reads records as those of its version are read from bytes: Truncated stands where the bytes
 /// are less than a whole record, and UnknownRecord at the first that no record can have at its place.
-pub fn reading_law()
+pub fn records_are_read_as_spelled()
     ensures bytes { (version : ℕ) (bytes : List ℕ) → AreBytes bytes → read version bytes ≡ renamed (record_at version bytes) }
     ensures spelled { (version : ℕ) (x : Record) (rest : List ℕ) → IsRecordOf version x → read version (spelling x ++ rest) ≡ Ok (x, rest) }
     ensures truncated { (version : ℕ) (bytes : List ℕ) → AreBytes bytes → read version bytes ≡ Err Truncated ↔ IsCutShort version bytes }
     ensures unknown { (version : ℕ) (bytes : List ℕ) (x : ℕ) → AreBytes bytes → read version bytes ≡ Err (UnknownRecord x) ↔ IsUnknownAt version bytes x }
-    ensures refusals { (version : ℕ) (bytes : List ℕ) (e : ReadFault) → record_at version bytes ≡ Err e → read version bytes ≡ Err (fault_of e) }
+    ensures refusals { (version : ℕ) (bytes : List ℕ) (e : ReadFault) → record_at version bytes ≡ Err e → read version bytes ≡ Err (cause_of e) }
 {}
 
 /// Of the moves that the rules have for a position the next legal one comes first, and what is left
 /// after it is what is left of them.
-pub fn left_law()
+pub fn moves_come_in_order()
     ensures start { (d : Placement) (n : ℕ) (games : List (List Move)) (cut : Cuts) (p : State) → (chess d n games cut).moves p ≡ left_after p None }
     ensures next { (p : State) (last : Option Move) (m : Move) → IsNext p last m → left_after p last ≡ m ∷ left_after p (Some m) }
     ensures end { (p : State) (last : Option Move) → IsLast p last → left_after p last ≡ [] }
 {}
 
 /// A yes to a list of solutions proves the exact answer.
-pub fn headline_law()
+pub fn accepted_is_exact()
     ensures { (d : Placement) (n : ℕ) (games : List (List Move)) (cut : Cuts) → IsSoundCut d cut
         → (a b : ℕ) (bytes : List ℕ) (x : ℕ × ℕ) → answer (chess d n games cut) array_state a b bytes ≡ Ok x
         → AreSolutions d n games → IsExactAnswer d n games }
@@ -56,7 +57,7 @@ pub fn headline_law()
 
 /// No exact answer is without a certificate: that which expands every node with a ply left fits, and
 /// its bytes are answered by a yes, whatever the limit of named nodes.
-pub fn always_law()
+pub fn exact_has_a_certificate()
     ensures fits { (d : Placement) (n : ℕ) (games : List (List Move)) (cut : Cuts) → IsExactAnswer d n games
         → IsCertificate (chess d n games cut) array_state (full_from (chess d n games cut) (suc n) 0 array_state) }
     ensures accepted { (d : Placement) (n : ℕ) (games : List (List Move)) (cut : Cuts) → IsExactAnswer d n games
@@ -65,22 +66,19 @@ pub fn always_law()
 {}
 
 /// A yes is given exactly to the whole spelling of a certificate that fits, within the limits.
-pub fn acceptance_law()
+pub fn accepted_where_it_fits()
     ensures { (d : Placement) (n : ℕ) (games : List (List Move)) (cut : Cuts) (a b : ℕ) (bytes : List ℕ) (x : ℕ × ℕ)
         → answer (chess d n games cut) array_state a b bytes ≡ Ok x ↔ IsAccepted (chess d n games cut) array_state a b bytes x }
 {}
 
 /// A fault is answered exactly where it is the first cause at a front, or, for Trailing, where bytes
-/// stand behind a certificate that fits.
-pub fn faults_law()
-    ensures { (d : Placement) (n : ℕ) (games : List (List Move)) (cut : Cuts) (a b : ℕ) (bytes : List ℕ) (f : Fault Move)
+/// stand behind a certificate that fits. Where a walk that may keep fewer named nodes than are allowed
+/// answers TooManyNamed, the walk that may keep all comes to that place without a cause to stop, and a
+/// named node is next.
+pub fn refused_at_the_first_cause()
+    ensures cause { (d : Placement) (n : ℕ) (games : List (List Move)) (cut : Cuts) (a b : ℕ) (bytes : List ℕ) (f : Cause Move)
         → answer (chess d n games cut) array_state a b bytes ≡ Err f
         ↔ (IsStopped (chess d n games cut) array_state a b bytes f ⊎ ((f ≡ Trailing) × HasMore (chess d n games cut) array_state a b bytes)) }
-{}
-
-/// Where a walk that may keep fewer named nodes than are allowed answers TooManyNamed, the walk that
-/// may keep all comes to that place without a cause to stop, and a named node is next.
-pub fn memory_law()
-    ensures { (d : Placement) (n : ℕ) (games : List (List Move)) (cut : Cuts) (a b fewer : ℕ) (bytes : List ℕ) → fewer < b
+    ensures memory { (d : Placement) (n : ℕ) (games : List (List Move)) (cut : Cuts) (a b fewer : ℕ) (bytes : List ℕ) → fewer < b
         → answer (chess d n games cut) array_state a fewer bytes ≡ Err TooManyNamed → IsAtNamed (chess d n games cut) array_state a b bytes }
 {}

@@ -1,13 +1,13 @@
 //! Why the walk stops.
 ghost use Rattle.std.specs.Prelude.{◌≡◌, ◌≤◌, length, reverse};
-ghost use Rattle.pg_checker.specs.Machine.{path};
-ghost use Rattle.pg_checker.specs.Checking.{fault_of};
-ghost use Rattle.pg_checker.specs.Halting.{full};
+ghost use Rattle.pg_checker.specs.numbers.Machine.{path};
+ghost use Rattle.pg_checker.specs.numbers.Checking.{fault_of};
+ghost use Rattle.pg_checker.specs.numbers.Halting.{full};
 
 use crate::fault::Fault;
 use crate::machine::{Frame, game_along};
 
-/// A cause in the certificate, where the game that is not listed is left out.
+// A cause in the certificate, where the game that is not listed is left out.
 #[derive(Clone, Copy)]
 pub(crate) enum Reason {
     Budget,
@@ -24,8 +24,8 @@ pub(crate) enum Reason {
     Trailing,
 }
 
-/// Why the walk halts: for want of memory, for a source that fails, or for a cause in the
-/// certificate. The game that is not listed is the one along the open nodes.
+// Why the walk halts: for want of memory, for a source that fails, or for a cause in the
+// certificate. The game that is not listed is the one along the open nodes.
 #[derive(Clone, Copy)]
 pub(crate) enum Halt {
     Memory,
@@ -33,7 +33,7 @@ pub(crate) enum Halt {
     Because(Reason),
 }
 
-/// The fault that a halt with these nodes open is.
+// The fault that a halt with these nodes open is.
 pub(crate) fn fault_of(halt: Halt, frames: &[Frame]) -> Fault
     requires { length frames.now ≤ 128 }
     ensures { result ≡ fault_of (full (path (reverse frames.now)) halt) }

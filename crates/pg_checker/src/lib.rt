@@ -16,14 +16,10 @@ mod walk;
 
 pub use certify::{Proved, check};
 pub use chess_laws::{
-    acceptance_law, always_law, chess_law, faults_law, headline_law, left_law, memory_law,
-    reading_law,
+    accepted_is_exact, accepted_where_it_fits, exact_has_a_certificate, moves_come_in_order,
+    records_are_read_as_spelled, refused_at_the_first_cause, rules_are_those_of_chess,
 };
 pub use fault::{Fault, ListFault};
-pub use laws::{
-    always_a_certificate, each_fault, exact_acceptance, fronts_fail, headline, memory,
-    only_what_is_taken, turns,
-};
 pub use listed::check_listed;
 pub use nearness::{may_reach, pass_over};
 

@@ -1,6 +1,6 @@
 //! What the walk holds.
 ghost use Rattle.std.specs.Prelude.{◌≡◌, ◌≤◌, length, reverse};
-ghost use Rattle.pg_checker.specs.Machine.{path};
+ghost use Rattle.pg_checker.specs.numbers.Machine.{path};
 
 use crate::table::Table;
 use arrayvec::ArrayVec;
@@ -12,7 +12,7 @@ use pg_position::{Move, Position};
 use pg_san::Games;
 use pg_travel::Prices;
 
-/// What is asked of a certificate, and its version, which its header told.
+// What is asked of a certificate, and its version, which its header told.
 #[derive(Drop)]
 pub(crate) struct Question<'a> {
     pub(crate) diagram: &'a Diagram,
@@ -22,8 +22,8 @@ pub(crate) struct Question<'a> {
     pub(crate) bounds: &'a [Box<dyn Bound>],
 }
 
-/// An open node: its position with the moves that are still to be played, the plies left below it,
-/// whether it is named, and whether a child so far is fertile.
+// An open node: its position with the moves that are still to be played, the plies left below it,
+// whether it is named, and whether a child so far is fertile.
 #[derive(Drop)]
 pub(crate) struct Frame {
     pub(crate) moves: LegalMoves,
@@ -43,16 +43,16 @@ impl Default for Frame {
     }
 }
 
-/// What a good record says: nothing stands below the node, or its children do.
+// What a good record says: nothing stands below the node, or its children do.
 #[derive(Clone, Copy)]
 pub(crate) enum Node {
     Done,
     Opened(bool),
 }
 
-/// The record reader, the price lists that it read last, the table of named nodes, the open nodes, and how many records and named nodes
-/// may still come. A named node takes its place in the table as its record is read. `found` says
-/// whether the subtree that ended last is fertile.
+// The record reader, the price lists that it read last, the table of named nodes, the open nodes, and how many records and named nodes
+// may still come. A named node takes its place in the table as its record is read. `found` says
+// whether the subtree that ended last is fertile.
 #[derive(Drop)]
 pub(crate) struct Machine {
     pub(crate) reader: RecordReader,
@@ -64,7 +64,7 @@ pub(crate) struct Machine {
     pub(crate) found: bool,
 }
 
-/// The game that leads along the open nodes: the move that was played last at each.
+// The game that leads along the open nodes: the move that was played last at each.
 pub(crate) fn game_along(frames: &[Frame]) -> ArrayVec<Move, 128>
     requires { length frames.now ≤ 128 }
     ensures { result.items ≡ path (reverse frames.now) }

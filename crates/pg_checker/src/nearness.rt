@@ -1,11 +1,9 @@
 //! Whether a diagram may be one move away.
-ghost use Rattle.std.specs.Prelude.{◌≡◌, ◌≢◌, ◌↔◌, IsTrue, true, false};
+ghost use Rattle.std.specs.Prelude.{◌≡◌, ◌↔◌, IsTrue, true, false};
 ghost use Rattle.pg_moves.specs.Moves.{IsLegal};
-ghost use Rattle.pg_position.specs.declared.state.State.{State};
 ghost use Rattle.pg_position.specs.declared.moves.Move.{Move};
 ghost use Rattle.pg_position.specs.Position.{IsPosition};
-ghost use Rattle.pg_position.specs.Step.{Legal};
-ghost use Rattle.pg_checker.specs.Differing.{Differ};
+ghost use Rattle.pg_checker.specs.Differing.{Differ, TwoToFour};
 ghost use Rattle.pg_checker.specs.Passing.{AllElsewhere, LeadsElsewhere, LeadsTo, NextLeads, PassesOver};
 
 use crate::play::after;
@@ -22,11 +20,11 @@ fn differing(diagram: &Diagram, position: &Position) -> u64
     position.board().differing(&diagram.board())
 }
 
-/// Whether a legal move may lead to the diagram's placement. A move changes two squares at least,
-/// that which it leaves and that to which it goes, and four at most, as castling does: where fewer
-/// squares differ or more, the answer is no.
+/// Whether the position differs from the diagram's placement on two squares at least and on four at
+/// most. A legal move changes that many: the square which it leaves and that to which it goes, and
+/// with castling those of the rook too. So no legal move leads to the diagram where the answer is no.
 pub fn may_reach(diagram: &Diagram, position: &Position) -> bool
-    ensures far { result ≡ false → (m : Move) (q : State) → Legal position.now m q → q.board ≢ diagram.now }
+    ensures near { IsTrue result ↔ TwoToFour position.now.board diagram.now }
     ensures position { IsPosition position.now }
 {
     let squares = differing(diagram, position);
@@ -90,6 +88,7 @@ fn leads_from(diagram: &Diagram, squares: u64, position: &Position, from: Square
     requires squares { Differ position.now.board diagram.now squares }
     ensures { IsTrue result ↔ ((m : Move) × (m.from ≡ from) × LeadsTo diagram.now position.now m) }
 {
+    // A fact for the proof: what is handed in is a position.
     position.side();
     let mut at = 0;
     while let Some(to) = first_from(squares, at) {

@@ -3,13 +3,13 @@ ghost use Rattle.std.specs.Prelude.{◌≡◌, ◌+◌, ◌<◌, ◌≤◌, ◌�
 ghost use Rattle.pg_checker.specs.Chess.{read, stands_for};
 ghost use Rattle.pg_certificate.specs.Reader.{to_come};
 ghost use Rattle.pg_certificate.specs.Spelling.{record_of};
-ghost use Rattle.pg_checker.specs.Cuts.{rules_by, cuts_by, files_by, prices_by};
+ghost use Rattle.pg_checker.specs.Cuts.{rules_for, cuts_for, files_by, prices_by};
 ghost use Rattle.pg_travel.specs.PricesDecided.{travel_prices_test};
 ghost use Rattle.pg_position.specs.declared.moves.Move.{Move};
-ghost use Rattle.pg_checker.specs.Halting.{full, faults, stops};
-ghost use Rattle.pg_checker.specs.Judging.{Ends, Judges, ended_of, refer_answer, stop_of};
-ghost use Rattle.pg_checker.specs.Machine.{IsReading, entry_of, opened, shape_of, state_at};
-ghost use Rattle.pg_checker.specs.Steps.{Says, FailsRead, TakesFew};
+ghost use Rattle.pg_checker.specs.numbers.Halting.{full, causes, stops};
+ghost use Rattle.pg_checker.specs.numbers.Judging.{Ends, Judges, ended_of, refer_answer, stop_of};
+ghost use Rattle.pg_checker.specs.numbers.Machine.{IsReading, Walks, WalksOn, entry_of, opened, shape_of, state_at};
+ghost use Rattle.pg_checker.specs.numbers.Steps.{Says, FailsRead, TakesFew};
 ghost use Rattle.pg_checker.specs.Walk.{judge as judge_of, head as head_of, cut_answer};
 
 use crate::halt::{Halt, Reason};
@@ -22,7 +22,7 @@ use pg_fen::Diagram;
 use pg_position::Position;
 use pg_travel::Prices;
 
-/// A refusal to read a record, as a halt. No record is refused as Magic or Trailing.
+// A refusal to read a record, as a halt. No record is refused as Magic or Trailing.
 pub(crate) fn halt_of(fault: ReadFault) -> Halt
     ensures { (game : List Move) → full game result ≡ stop_of fault }
 {
@@ -53,7 +53,7 @@ fn take_place(table: &mut Table, position: &Position, room: u32) -> Result<u32, 
 
 // A cut, by the first bound of its code.
 fn cut(question: &Question, position: &Position, left: u8, code: u8) -> Result<(), Reason>
-    ensures { (game : List Move) → Ends (faults game result) (cut_answer ((cuts_by (λ b. code_of b) (λ b. excluded b) question.now.version question.now.diagram.now question.now.bounds.now).bounds code position.now left) code) }
+    ensures { (game : List Move) → Ends (causes game result) (cut_answer ((cuts_for code_of excluded question.now).bounds code position.now left) code) }
 {
     match first_excludes(question.bounds, code, question.diagram, position, left) {
         None => Err(Reason::UnknownBound(code)),
@@ -96,7 +96,7 @@ fn priced(
     color: Color,
     prices: &Prices,
 ) -> Result<(), Reason>
-    ensures { (game : List Move) → Ends (faults game result) (cut_answer (prices_by diagram.now code color prices.now position.now left) code) }
+    ensures { (game : List Move) → Ends (causes game result) (cut_answer (prices_by diagram.now code color prices.now position.now left) code) }
 {
     let excluded = match code {
         3 => files_exclude(diagram, position, color, prices),
@@ -130,7 +130,7 @@ fn refer(
     left: u8,
     number: u32,
 ) -> Result<(), Reason>
-    ensures { (game : List Move) → Ends (faults game result) (refer_answer version (slice_get (map entry_of table.now.entries) number) left position.now) }
+    ensures { (game : List Move) → Ends (causes game result) (refer_answer version (slice_get (map entry_of table.now.entries) number) left position.now) }
 {
     let Some(entry) = table.get(number) else {
         return Err(Reason::RefUnknown);
@@ -147,7 +147,7 @@ fn refer(
 
 // What a node that ends at once, or a cause, says of the node.
 fn ended(answer: Result<(), Reason>) -> Result<Node, Halt>
-    ensures says { (game : List Move) → stops game result ≡ ended_of (faults game answer) }
+    ensures says { (game : List Move) → stops game result ≡ ended_of (causes game answer) }
     ensures none { IfOk result (λ node. opened node ≡ 0) }
 {
     match answer {
@@ -166,7 +166,9 @@ fn judge(
     left: u8,
     bare: Bare,
 ) -> Result<Node, Halt>
-    ensures says { (game : List Move) → Judges machine.old machine.new (judge_of ((rules_by (λ b. code_of b) (λ b. excluded b) question.now.diagram.now question.now.plies question.now.games.now question.now.bounds.now).of question.now.version) left position.now (record_of machine.old.prices bare)) (stops game result) }
+    ensures says { (game : List Move) → Judges machine.old machine.new
+        (judge_of (rules_for code_of excluded question.now) left position.now (record_of machine.old.prices bare))
+        (stops game result) }
     ensures kept { IfOk result (λ node. machine.new.table.kept ≡ machine.old.table.kept + opened node) }
     ensures fails { (failed : Bool) → FailsRead failed (stops [] result) }
     ensures reader { machine.new.reader ≡ machine.old.reader }
@@ -219,7 +221,7 @@ fn next<S: Source>(
     }
 }
 
-/// The record of a node with so many plies left.
+// The record of a node with so many plies left.
 #[inline(always)]
 pub(crate) fn head<S: Source>(
     question: &Question,
@@ -230,19 +232,15 @@ pub(crate) fn head<S: Source>(
 ) -> Result<Node, Halt>
     requires runs { IsReading question.now.version machine.old.reader }
     requires held { length machine.old.reader.held ≤ 4096 }
-    ensures says { (game : List Move) → Says
-        (to_come machine.old.reader (S.left source.old)) (to_come machine.new.reader (S.left source.new))
-        machine.old.room machine.new.room
-        (λ bytes n. head_of ((rules_by (λ b. code_of b) (λ b. excluded b) question.now.diagram.now question.now.plies question.now.games.now question.now.bounds.now).of question.now.version) left position.now (state_at machine.old bytes n))
+    ensures says { (game : List Move) → Walks machine.old machine.new (S.left source.old) (S.left source.new)
+        (head_of (rules_for code_of excluded question.now) left position.now)
         (λ node rest n. (shape_of node, state_at machine.new rest n)) (stops game result) }
     ensures kept { IfOk result (λ node. machine.new.table.kept ≡ machine.old.table.kept + opened node) }
     ensures frames { machine.new.frames ≡ machine.old.frames }
     ensures runs { OnOk result (IsReading question.now.version machine.new.reader) }
     ensures held { length machine.new.reader.held ≤ 4096 }
     ensures fails { FailsRead (S.has_failed source.new) (stops [] result) }
-    ensures few { TakesFew
-        (to_come machine.old.reader (S.left source.old)) (to_come machine.new.reader (S.left source.new))
-        (S.left source.new) machine.old.records machine.new.records (stops [] result) }
+    ensures few { WalksOn machine.old machine.new (S.left source.old) (S.left source.new) (stops [] result) }
 {
     if machine.records == 0 {
         return Err(Halt::Because(Reason::Budget));

@@ -5,7 +5,7 @@ ghost use Rattle.pg_moves.specs.Moves.{IsLegal};
 
 use pg_position::{Move, Position};
 
-/// The position after a legal move.
+// The position after a legal move.
 #[inline(always)]
 pub(crate) fn after(position: &Position, m: &Move) -> Position
     requires { IsLegal position.now m.now }

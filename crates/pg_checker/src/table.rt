@@ -5,8 +5,8 @@ use pg_position::{PackedPosition, Position};
 use std::alloc::{AllocError, Global};
 use std::marker::Model;
 
-/// A named node that has closed: its position, its plies left, and whether a game below it ends on
-/// the diagram.
+// A named node that has closed: its position, its plies left, and whether a game below it ends on
+// the diagram.
 #[derive(Drop)]
 pub(crate) struct Entry {
     pub(crate) position: PackedPosition,
@@ -14,8 +14,8 @@ pub(crate) struct Entry {
     pub(crate) fertile: bool,
 }
 
-/// The entries of named nodes, numbered from 0 as they close. A node takes its place before it
-/// closes, so closing takes no memory.
+// The entries of named nodes, numbered from 0 as they close. A node takes its place before it
+// closes, so closing takes no memory.
 #[derive(Drop)]
 pub(crate) struct Table {
     places: Vec<Entry>,
@@ -27,7 +27,7 @@ impl Model for Table {
     ghost use Rattle.std.specs.Prelude.{◌-◌, ◌≤◌, length, take};
     ghost use Rattle.std.specs.Coded.{codes};
     ghost use Rattle.pg_checker.specs.contracts.table.Entry as entry;
-    ghost use Rattle.pg_checker.specs.Table.{TableState};
+    ghost use Rattle.pg_checker.specs.numbers.Table.{TableState};
 
     ghost Value = { TableState };
 
@@ -39,7 +39,7 @@ impl Model for Table {
 }
 
 impl Table {
-    /// A table without entries. Its places are taken from `alloc`.
+    // A table without entries. Its places are taken from `alloc`.
     pub(crate) fn new(alloc: Global) -> Table
         ensures entries { result.entries ≡ [] }
         ensures kept { result.kept ≡ 0 }
@@ -50,7 +50,7 @@ impl Table {
         }
     }
 
-    /// Keeps a place for one more node. The position only fills it.
+    // Keeps a place for one more node. The position only fills it.
     pub(crate) fn keep(&mut self, position: &Position) -> Result<(), AllocError>
         ensures entries { self.new.entries ≡ self.old.entries }
         ensures ok { OnOk result (self.new.kept ≡ self.old.kept + 1) }
@@ -64,7 +64,7 @@ impl Table {
         Ok(())
     }
 
-    /// Enters a node that closes, in the next place that is kept.
+    // Enters a node that closes, in the next place that is kept.
     pub(crate) fn close(&mut self, entry: Entry)
         requires { 0 < self.old.kept }
         ensures entries { self.new.entries ≡ self.old.entries ++ entry ∷ [] }
@@ -74,7 +74,7 @@ impl Table {
         self.closed += 1;
     }
 
-    /// The entry with a number; none where no closed node has it.
+    // The entry with a number; none where no closed node has it.
     pub(crate) fn get(&self, number: u32) -> Option<&Entry>
         ensures { MatchOption result (slice_get self.now.entries number ≡ None) (λ e. slice_get self.now.entries number ≡ Some e.now) }
     {

@@ -11,7 +11,7 @@ use pg_fen::{Diagram, Length};
 use pg_pawns::PawnFiles;
 use pg_san::{Games, read_games};
 use pg_travel::Travel;
-use pg_trial::OneByte;
+use pg_trial::{OPEN_GAME, OneByte, certificate};
 use std::alloc::{AllocError, Allocator};
 use std::process::Abort;
 use std::test::*;
@@ -26,10 +26,10 @@ const PAWN_ON_D3: &str = "rnbqkbnr/pppppppp/8/8/8/3P4/PPPP1PPP/RNBQKBNR";
 
 const RECAPTURED: &str = "rnb1kbnr/ppp1pppp/8/3q4/8/8/PPPP1PPP/RNBQKBNR";
 
-/// More than any certificate here needs.
+// More than any certificate here needs.
 const MANY: u64 = 1_000_000;
 
-/// A diagram, a length and a list of games.
+// A diagram, a length and a list of games.
 #[derive(Drop)]
 struct Problem {
     diagram: Diagram,
@@ -54,7 +54,7 @@ fn ask<R: Abort + AllocGlobal>(rt: &R, diagram: &str, length: &str, games: &str)
     }
 }
 
-/// What is answered with the four bounds, in the order of their codes.
+// What is answered with the four bounds, in the order of their codes.
 fn checked<R: AllocGlobal, S: Source>(
     rt: &R,
     problem: &Problem,
@@ -79,16 +79,21 @@ fn checked<R: AllocGlobal, S: Source>(
     ))
 }
 
-/// The header of a certificate for the problem.
-fn headed<R: AllocGlobal>(rt: &R, problem: &Problem) -> Result<Vec<u8>, AllocError> {
-    let mut bytes = Vec::new(rt.alloc());
-    bytes.extend_from_slice(b"PGC1")?;
-    bytes.push(problem.length.plies())?;
-    bytes.extend_from_slice(&problem.diagram.packed())?;
-    Ok(bytes)
+// A certificate for the problem with these records.
+fn certified<R: AllocGlobal>(
+    rt: &R,
+    problem: &Problem,
+    records: &[u8],
+) -> Result<Vec<u8>, AllocError> {
+    certificate(rt.alloc(), b'1', &problem.diagram, problem.length, records)
 }
 
-/// The same bytes so many times.
+// The header of a certificate for the problem.
+fn headed<R: AllocGlobal>(rt: &R, problem: &Problem) -> Result<Vec<u8>, AllocError> {
+    certified(rt, problem, &[])
+}
+
+// The same bytes so many times.
 fn repeat<A: Allocator>(
     bytes: &mut Vec<u8, A>,
     piece: &[u8],
@@ -100,8 +105,8 @@ fn repeat<A: Allocator>(
     Ok(())
 }
 
-/// What is answered with the four bounds to the bytes, through a reader of one byte a call and
-/// one of many.
+// What is answered with the four bounds to the bytes, through a reader of one byte a call and
+// one of many.
 fn answer<R: Abort + AllocGlobal>(
     rt: &R,
     problem: &Problem,
@@ -117,7 +122,7 @@ fn answer<R: Abort + AllocGlobal>(
     Ok(said)
 }
 
-/// Yes, with so many records and named nodes.
+// Yes, with so many records and named nodes.
 fn yes(records: u64, named: u32) -> Result<Proved, Fault> {
     Ok(Proved { records, named })
 }

@@ -1,16 +1,15 @@
 //! The walk over the trees of a certificate, with a stack of open nodes.
 ghost use Rattle.std.specs.Prelude.{◌≡◌, ◌||◌, ◌+◌, ◌<◌, ◌≤◌, ◌++◌, suc, true, false, [], length, map, reverse, OnOk};
-ghost use Rattle.pg_certificate.specs.Reader.{to_come};
-ghost use Rattle.pg_checker.specs.Cuts.{rules_by};
-ghost use Rattle.pg_checker.specs.Frames.{enter as enter_of, finish, turn as turn_of, Stacked};
+ghost use Rattle.pg_checker.specs.Cuts.{rules_for};
+ghost use Rattle.pg_checker.specs.numbers.Frames.{enter as enter_of, finish, turn as turn_of, Stacked};
 ghost use Rattle.pg_checker.specs.Whole.{run as run_of};
 ghost use Rattle.pg_position.specs.Array.{array_state};
 ghost use Rattle.pg_position.specs.Position.{IsPosition};
-ghost use Rattle.pg_checker.specs.Halting.{faults, stops};
-ghost use Rattle.pg_checker.specs.Judging.{LeafSays};
-ghost use Rattle.pg_checker.specs.Machine.{IsReading, count_named, entered, entry_of, frame_of, frames_of, path, state_at, work_at};
+ghost use Rattle.pg_checker.specs.numbers.Halting.{causes, stops};
+ghost use Rattle.pg_checker.specs.numbers.Judging.{LeafSays};
+ghost use Rattle.pg_checker.specs.numbers.Machine.{IsReading, Walks, WalksOn, entered, entries_of, frame_of, game_at, named_at, path, stack_at, state_at, work_at};
 ghost use Rattle.pg_checker.specs.Passing.{AllElsewhere, PassesOver};
-ghost use Rattle.pg_checker.specs.Steps.{Says, FailsRead, TakesFew};
+ghost use Rattle.pg_checker.specs.numbers.Steps.{FailsRead};
 ghost use Rattle.pg_checker.specs.Tree.{one_if};
 ghost use Rattle.pg_checker.specs.Walk.{leaf as leaf_of, visit};
 
@@ -34,7 +33,9 @@ fn leaf(
     position: &Position,
 ) -> Result<bool, Reason>
     requires { length frames.now ≤ 128 }
-    ensures { LeafSays (faults (path (reverse frames.now)) result) (leaf_of ((rules_by (λ b. code_of b) (λ b. excluded b) question.now.diagram.now question.now.plies question.now.games.now question.now.bounds.now).of question.now.version) tree (path (reverse frames.now)) position.now) }
+    ensures { LeafSays
+        (causes (path (reverse frames.now)) result)
+        (leaf_of (rules_for code_of excluded question.now) tree (path (reverse frames.now)) position.now) }
 {
     if !question.diagram.matches(position) {
         return Ok(false);
@@ -61,21 +62,17 @@ fn enter<S: Source>(
 ) -> Result<(), Halt>
     requires depth { left + length machine.old.frames.items ≡ tree }
     requires limit { tree ≤ 128 }
-    requires kept { machine.old.table.kept ≡ count_named (reverse machine.old.frames.items) }
+    requires kept { machine.old.table.kept ≡ named_at machine.old }
     requires runs { IsReading question.now.version machine.old.reader }
     requires held { length machine.old.reader.held ≤ 4096 }
-    ensures says { Says
-        (to_come machine.old.reader (S.left source.old)) (to_come machine.new.reader (S.left source.new))
-        machine.old.room machine.new.room
-        (λ bytes n. enter_of ((rules_by (λ b. code_of b) (λ b. excluded b) question.now.diagram.now question.now.plies question.now.games.now question.now.bounds.now).of question.now.version) tree left (path (reverse machine.old.frames.items)) position.now (frames_of (reverse machine.old.frames.items)) (state_at machine.old bytes n))
-        (λ _ rest n. work_at ((rules_by (λ b. code_of b) (λ b. excluded b) question.now.diagram.now question.now.plies question.now.games.now question.now.bounds.now).of question.now.version) machine.new rest n) (stops (path (reverse machine.new.frames.items)) result) }
-    ensures kept { OnOk result (machine.new.table.kept ≡ count_named (reverse machine.new.frames.items)) }
+    ensures says { Walks machine.old machine.new (S.left source.old) (S.left source.new)
+        (enter_of (rules_for code_of excluded question.now) tree left (game_at machine.old) position.now (stack_at machine.old))
+        (λ _. work_at (rules_for code_of excluded question.now) machine.new) (stops (game_at machine.new) result) }
+    ensures kept { OnOk result (machine.new.table.kept ≡ named_at machine.new) }
     ensures runs { OnOk result (IsReading question.now.version machine.new.reader) }
     ensures held { length machine.new.reader.held ≤ 4096 }
     ensures fails { FailsRead (S.has_failed source.new) (stops [] result) }
-    ensures few { TakesFew
-        (to_come machine.old.reader (S.left source.old)) (to_come machine.new.reader (S.left source.new))
-        (S.left source.new) machine.old.records machine.new.records (stops [] result) }
+    ensures few { WalksOn machine.old machine.new (S.left source.old) (S.left source.new) (stops [] result) }
 {
     if left == 0 {
         return match leaf(question, tree, machine.frames.as_slice(), position) {
@@ -109,7 +106,8 @@ fn enter<S: Source>(
 fn close(position: &Position, plies: u8, named: bool, found: bool, machine: &mut Machine)
     requires few { plies < 128 }
     requires kept { one_if named ≤ machine.old.table.kept }
-    ensures entries { map entry_of machine.new.table.entries ≡ map entry_of machine.old.table.entries ++ entered named (record { position = position.now; plies = suc plies; fertile = found }) }
+    ensures entries { entries_of machine.new
+        ≡ entries_of machine.old ++ entered named (record { position = position.now; plies = suc plies; fertile = found }) }
     ensures kept { machine.new.table.kept + one_if named ≡ machine.old.table.kept }
     ensures found { machine.new.found ≡ found }
     ensures reader { machine.new.reader ≡ machine.old.reader }
@@ -137,21 +135,17 @@ fn turn<S: Source>(
 ) -> Result<(), Halt>
     requires depth { top.plies + suc (length machine.old.frames.items) ≡ tree }
     requires limit { tree ≤ 128 }
-    requires kept { machine.old.table.kept ≡ one_if top.named + count_named (reverse machine.old.frames.items) }
+    requires kept { machine.old.table.kept ≡ one_if top.named + named_at machine.old }
     requires runs { IsReading question.now.version machine.old.reader }
     requires held { length machine.old.reader.held ≤ 4096 }
-    ensures says { Says
-        (to_come machine.old.reader (S.left source.old)) (to_come machine.new.reader (S.left source.new))
-        machine.old.room machine.new.room
-        (λ bytes n. turn_of ((rules_by (λ b. code_of b) (λ b. excluded b) question.now.diagram.now question.now.plies question.now.games.now question.now.bounds.now).of question.now.version) tree (frame_of top (reverse machine.old.frames.items)) (frames_of (reverse machine.old.frames.items)) machine.old.found (state_at machine.old bytes n))
-        (λ _ rest n. work_at ((rules_by (λ b. code_of b) (λ b. excluded b) question.now.diagram.now question.now.plies question.now.games.now question.now.bounds.now).of question.now.version) machine.new rest n) (stops (path (reverse machine.new.frames.items)) result) }
-    ensures kept { OnOk result (machine.new.table.kept ≡ count_named (reverse machine.new.frames.items)) }
+    ensures says { Walks machine.old machine.new (S.left source.old) (S.left source.new)
+        (turn_of (rules_for code_of excluded question.now) tree (frame_of top (reverse machine.old.frames.items)) (stack_at machine.old) machine.old.found)
+        (λ _. work_at (rules_for code_of excluded question.now) machine.new) (stops (game_at machine.new) result) }
+    ensures kept { OnOk result (machine.new.table.kept ≡ named_at machine.new) }
     ensures runs { OnOk result (IsReading question.now.version machine.new.reader) }
     ensures held { length machine.new.reader.held ≤ 4096 }
     ensures fails { FailsRead (S.has_failed source.new) (stops [] result) }
-    ensures few { TakesFew
-        (to_come machine.old.reader (S.left source.old)) (to_come machine.new.reader (S.left source.new))
-        (S.left source.new) machine.old.records machine.new.records (stops [] result) }
+    ensures few { WalksOn machine.old machine.new (S.left source.old) (S.left source.new) (stops [] result) }
 {
     let found = top.found || machine.found;
     let position = top.moves.position();
@@ -208,24 +202,20 @@ fn run<S: Source>(
     machine: &mut Machine,
     source: &mut S,
 ) -> Result<(), Halt>
-    requires stacked { Stacked tree (frames_of (reverse machine.old.frames.items)) }
+    requires stacked { Stacked tree (stack_at machine.old) }
     requires limit { tree ≤ 128 }
-    requires kept { machine.old.table.kept ≡ count_named (reverse machine.old.frames.items) }
+    requires kept { machine.old.table.kept ≡ named_at machine.old }
     requires runs { IsReading question.now.version machine.old.reader }
     requires held { length machine.old.reader.held ≤ 4096 }
-    ensures says { Says
-        (to_come machine.old.reader (S.left source.old)) (to_come machine.new.reader (S.left source.new))
-        machine.old.room machine.new.room
-        (λ bytes n. finish ((rules_by (λ b. code_of b) (λ b. excluded b) question.now.diagram.now question.now.plies question.now.games.now question.now.bounds.now).of question.now.version) tree (work_at ((rules_by (λ b. code_of b) (λ b. excluded b) question.now.diagram.now question.now.plies question.now.games.now question.now.bounds.now).of question.now.version) machine.old bytes n))
-        (λ _ rest n. (machine.new.found, state_at machine.new rest n)) (stops (path (reverse machine.new.frames.items)) result) }
+    ensures says { Walks machine.old machine.new (S.left source.old) (S.left source.new)
+        (λ s. finish (rules_for code_of excluded question.now) tree (record { frames = stack_at machine.old; found = machine.old.found; state = s }))
+        (λ _ rest n. (machine.new.found, state_at machine.new rest n)) (stops (game_at machine.new) result) }
     ensures closed { OnOk result (machine.new.frames.items ≡ []) }
     ensures kept { OnOk result (machine.new.table.kept ≡ 0) }
     ensures runs { OnOk result (IsReading question.now.version machine.new.reader) }
     ensures held { length machine.new.reader.held ≤ 4096 }
     ensures fails { FailsRead (S.has_failed source.new) (stops [] result) }
-    ensures few { TakesFew
-        (to_come machine.old.reader (S.left source.old)) (to_come machine.new.reader (S.left source.new))
-        (S.left source.new) machine.old.records machine.new.records (stops [] result) }
+    ensures few { WalksOn machine.old machine.new (S.left source.old) (S.left source.new) (stops [] result) }
 {
     while let Some(top) = machine.frames.pop() {
         let mut top = top;
@@ -255,19 +245,15 @@ fn tree_of<S: Source>(
     requires kept { machine.old.table.kept ≡ 0 }
     requires runs { IsReading question.now.version machine.old.reader }
     requires held { length machine.old.reader.held ≤ 4096 }
-    ensures says { Says
-        (to_come machine.old.reader (S.left source.old)) (to_come machine.new.reader (S.left source.new))
-        machine.old.room machine.new.room
-        (λ bytes n. visit ((rules_by (λ b. code_of b) (λ b. excluded b) question.now.diagram.now question.now.plies question.now.games.now question.now.bounds.now).of question.now.version) tree tree [] array_state (state_at machine.old bytes n))
-        (λ _ rest n. (machine.new.found, state_at machine.new rest n)) (stops (path (reverse machine.new.frames.items)) result) }
+    ensures says { Walks machine.old machine.new (S.left source.old) (S.left source.new)
+        (visit (rules_for code_of excluded question.now) tree tree [] array_state)
+        (λ _ rest n. (machine.new.found, state_at machine.new rest n)) (stops (game_at machine.new) result) }
     ensures closed { OnOk result (machine.new.frames.items ≡ []) }
     ensures kept { OnOk result (machine.new.table.kept ≡ 0) }
     ensures runs { OnOk result (IsReading question.now.version machine.new.reader) }
     ensures held { length machine.new.reader.held ≤ 4096 }
     ensures fails { FailsRead (S.has_failed source.new) (stops [] result) }
-    ensures few { TakesFew
-        (to_come machine.old.reader (S.left source.old)) (to_come machine.new.reader (S.left source.new))
-        (S.left source.new) machine.old.records machine.new.records (stops [] result) }
+    ensures few { WalksOn machine.old machine.new (S.left source.old) (S.left source.new) (stops [] result) }
 {
     match enter(question, tree, tree, &Position::array(), machine, source) {
         Ok(()) => run(question, tree, machine, source),
@@ -275,7 +261,7 @@ fn tree_of<S: Source>(
     }
 }
 
-/// The trees of all lengths from 0 to the stated one.
+// The trees of all lengths from 0 to the stated one.
 pub(crate) fn all_trees<S: Source>(
     question: &Question,
     machine: &mut Machine,
@@ -286,20 +272,16 @@ pub(crate) fn all_trees<S: Source>(
     requires kept { machine.old.table.kept ≡ 0 }
     requires runs { IsReading question.now.version machine.old.reader }
     requires held { length machine.old.reader.held ≤ 4096 }
-    ensures says { Says
-        (to_come machine.old.reader (S.left source.old)) (to_come machine.new.reader (S.left source.new))
-        machine.old.room machine.new.room
-        (λ bytes n. run_of ((rules_by (λ b. code_of b) (λ b. excluded b) question.now.diagram.now question.now.plies question.now.games.now question.now.bounds.now).of question.now.version) (suc question.now.plies) 0 array_state (state_at machine.old bytes n))
-        (λ _ rest n. state_at machine.new rest n) (stops (path (reverse machine.new.frames.items)) result) }
+    ensures says { Walks machine.old machine.new (S.left source.old) (S.left source.new)
+        (run_of (rules_for code_of excluded question.now) (suc question.now.plies) 0 array_state)
+        (λ _. state_at machine.new) (stops (game_at machine.new) result) }
     ensures runs { OnOk result (IsReading question.now.version machine.new.reader) }
     ensures held { length machine.new.reader.held ≤ 4096 }
     ensures fails { FailsRead (S.has_failed source.new) (stops [] result) }
-    ensures few { TakesFew
-        (to_come machine.old.reader (S.left source.old)) (to_come machine.new.reader (S.left source.new))
-        (S.left source.new) machine.old.records machine.new.records (stops [] result) }
+    ensures few { WalksOn machine.old machine.new (S.left source.old) (S.left source.new) (stops [] result) }
 {
     let mut tree: u8 = 0;
-    'trees: loop {
+    loop {
         match tree_of(question, tree, machine, source) {
             Ok(()) => {}
             Err(halt) => return Err(halt),

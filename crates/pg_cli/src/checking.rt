@@ -21,13 +21,13 @@ use std::io::{Read, Write};
 use std::rt::Runtime;
 use std::{io, str};
 
-/// So many records are read at most, where the words do not say it.
+// So many records are read at most, where the words do not say it.
 pub(crate) const RECORDS: u64 = 100_000_000;
 
-/// So many nodes of a certificate may be named.
+// So many nodes of a certificate may be named.
 pub(crate) const NAMED: u32 = 4_194_304;
 
-/// What is asked: the texts of a diagram and of a length, and the bytes of a list of games.
+// What is asked: the texts of a diagram and of a length, and the bytes of a list of games.
 #[derive(Clone, Copy)]
 pub(crate) struct Asked<'a> {
     pub(crate) diagram: &'a str,
@@ -35,10 +35,10 @@ pub(crate) struct Asked<'a> {
     pub(crate) games: &'a [u8],
 }
 
-/// The status after a check, once its report is wholly written.
-///
-/// # Errors
-/// `Check` with the fault of the check, or with `Write` where the rest of the report is refused.
+// The status after a check, once its report is wholly written.
+//
+// # Errors
+// `Check` with the fault of the check, or with `Write` where the rest of the report is refused.
 pub(crate) fn finished<'a, W: Sink + Drop>(
     answer: Result<Verdict, RunFault>,
     out: Gathered<W>,
@@ -55,12 +55,12 @@ pub(crate) fn finished<'a, W: Sink + Drop>(
     }
 }
 
-/// Checks the certificate that a reader gives, and writes the report; the status of its verdict. A status
-/// means that the texts spell a diagram, a length and a list, that the list is the exact answer, and 0 that
-/// it has just one game.
-///
-/// # Errors
-/// `NotUtf8` where the list is not UTF-8, else `Check` with the fault of the check.
+// Checks the certificate that a reader gives, and writes the report; the status of its verdict. A status
+// means that the texts spell a diagram, a length and a list, that the list is the exact answer, and 0 that
+// it has just one game.
+//
+// # Errors
+// `NotUtf8` where the list is not UTF-8, else `Check` with the fault of the check.
 pub(crate) fn check_from<'a, R: Runtime + AllocGlobal, C: Read + Drop, W: Write + Drop>(
     rt: &R,
     asked: &Asked<'_>,
@@ -120,7 +120,7 @@ fn games_of<'a, R: Runtime + AllocGlobal>(
     list(rt, path)
 }
 
-/// `pg check`: the certificate of a file is checked, and the report stands on standard output.
+// `pg check`: the certificate of a file is checked, and the report stands on standard output.
 pub(crate) fn check<'a, R: Runtime + AllocGlobal>(
     rt: &R,
     words: &ArgMatches<'a>,

@@ -61,7 +61,7 @@ Example, with the certificate that the initial array is reached in no move:
   echo UEdDMQAkUzZCEREREQAAAAAAAAAAAAAAAAAAAACZmZmZrNu+yg== | base64 -d >v1.pgc
   pg upgrade v1.pgc v2.pgc";
 
-/// `pg` with its commands.
+// `pg` with its commands.
 pub(crate) fn pg<'a>(alloc: Global) -> Result<Command<'a>, AllocError> {
     Command::new(alloc, "pg")
         .version("1.0.0")

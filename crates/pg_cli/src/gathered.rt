@@ -6,12 +6,12 @@ use arrayvec::ArrayVec;
 use pg_report::{Refused, Sink};
 use std::fmt;
 
-/// So many bytes are held at most.
+// So many bytes are held at most.
 const ROOM: usize = 4096;
 
-/// Hands the bytes that it takes on to a sink, up to 4,096 of small pieces at a time, so that a text of
-/// many short pieces costs few writes. What it counts as held is what that sink holds and then the
-/// bytes that it has not handed on. `finish` hands on the last.
+// Hands the bytes that it takes on to a sink, up to 4,096 of small pieces at a time, so that a text of
+// many short pieces costs few writes. What it counts as held is what that sink holds and then the
+// bytes that it has not handed on. `finish` hands on the last.
 #[derive(Drop)]
 pub(crate) struct Gathered<W> {
     inner: W,
@@ -19,7 +19,7 @@ pub(crate) struct Gathered<W> {
 }
 
 impl<W: Sink> Gathered<W> {
-    /// Over a sink, with nothing gathered.
+    // Over a sink, with nothing gathered.
     pub(crate) fn new(inner: W) -> Gathered<W>
         ensures held { Keeps (W.held inner) (⟦<Gathered<W> as Sink>⟧.held result) }
         ensures runs { ⟦<Gathered<W> as Sink>⟧.has_failed result ≡ W.has_failed inner }
@@ -46,10 +46,10 @@ impl<W: Sink> Gathered<W> {
         }
     }
 
-    /// Hands on the last bytes; the sink then holds all that was pushed.
-    ///
-    /// # Errors
-    /// `Refused` where the sink refuses them.
+    // Hands on the last bytes; the sink then holds all that was pushed.
+    //
+    // # Errors
+    // `Refused` where the sink refuses them.
     pub(crate) fn finish(self) -> Result<W, Refused>
     where
         W: Drop,

@@ -31,13 +31,13 @@ fn done<'a, W: Sink + Drop>(out: Gathered<W>) -> Result<u8, Refusal<'a>> {
     }
 }
 
-/// Explains a line by the certificate that each of three readers gives, and writes what it says. A status
-/// means that a list of games is the exact answer to the diagram and the length: the check of the
-/// certificate has said yes.
-///
-/// # Errors
-/// `Line` where the moves are not one game, else `Check` with the fault of the texts, of the certificate or of
-/// the writer.
+// Explains a line by the certificate that each of three readers gives, and writes what it says. A status
+// means that a list of games is the exact answer to the diagram and the length: the check of the
+// certificate has said yes.
+//
+// # Errors
+// `Line` where the moves are not one game, else `Check` with the fault of the texts, of the certificate or of
+// the writer.
 pub(crate) fn why_from<'a, R: Runtime + AllocGlobal, C: Read + Drop, W: Write + Drop>(
     rt: &R,
     asked: &Asked<'_>,
@@ -95,7 +95,7 @@ fn open<'a, R: Runtime + AllocGlobal>(rt: &R, path: &'a str) -> Result<R::File, 
     }
 }
 
-/// `pg why`: the certificate of a file explains a line on standard output.
+// `pg why`: the certificate of a file explains a line on standard output.
 pub(crate) fn why<'a, R: Runtime + AllocGlobal>(
     rt: &R,
     words: &ArgMatches<'a>,

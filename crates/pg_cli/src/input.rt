@@ -7,7 +7,7 @@ use std::fs::File;
 use std::io::{Input, Read};
 use std::rt::Files;
 
-/// The longest list that is read: 16,777,216 bytes.
+// The longest list that is read: 16,777,216 bytes.
 pub(crate) const MOST_BYTES: usize = 16_777_216;
 
 // Reads once, and appends what came; how much that was.
@@ -28,8 +28,8 @@ fn read_more<'a, R: Read>(
     }
 }
 
-/// All the bytes of a reader, 16,777,216 at most. A longer reader, and one that fails, is `Read`; a
-/// fault is not tried again. `Memory` where a growth is refused.
+// All the bytes of a reader, 16,777,216 at most. A longer reader, and one that fails, is `Read`; a
+// fault is not tried again. `Memory` where a growth is refused.
 pub(crate) fn read_all<'a, R: Read>(alloc: Global, reader: &mut R) -> Result<Vec<u8>, Refusal<'a>> {
     let mut bytes = Vec::new(alloc);
     let mut buffer = [0u8; 4096];
@@ -41,7 +41,7 @@ pub(crate) fn read_all<'a, R: Read>(alloc: Global, reader: &mut R) -> Result<Vec
     Err(Refusal::Read)
 }
 
-/// The bytes of a list of games, from a file or else from standard input.
+// The bytes of a list of games, from a file or else from standard input.
 pub(crate) fn list<'a, R: Files + Input + AllocGlobal>(
     rt: &R,
     path: Option<&'a str>,

@@ -3,16 +3,16 @@
 use std::io::Eprint;
 use std::time::{Clock, Instant};
 
-/// Before so many milliseconds nothing is shown.
+// Before so many milliseconds nothing is shown.
 const FIRST: u128 = 1000;
 
-/// So many milliseconds stand between two lines.
+// So many milliseconds stand between two lines.
 const BETWEEN: u128 = 500;
 
-/// A line has so many characters at most, one fewer than the narrowest terminal that it is for.
+// A line has so many characters at most, one fewer than the narrowest terminal that it is for.
 pub(crate) const WIDTH: usize = 19;
 
-/// A line on the terminal that says how far a run is.
+// A line on the terminal that says how far a run is.
 #[derive(Drop)]
 pub(crate) struct Line<'a, R> {
     rt: &'a R,
@@ -24,7 +24,7 @@ pub(crate) struct Line<'a, R> {
 }
 
 impl<'a, R: Clock + Eprint> Line<'a, R> {
-    /// A line that is shown where there is a screen. The run begins now.
+    // A line that is shown where there is a screen. The run begins now.
     pub(crate) fn new(rt: &'a R, screen: bool) -> Line<'a, R> {
         Line {
             rt,
@@ -34,12 +34,12 @@ impl<'a, R: Clock + Eprint> Line<'a, R> {
         }
     }
 
-    /// Whether a line may ever be due.
+    // Whether a line may ever be due.
     pub(crate) fn is_on(&self) -> bool {
         self.began.is_some()
     }
 
-    /// Whether the next line is due. The one after it is due half a second later.
+    // Whether the next line is due. The one after it is due half a second later.
     pub(crate) fn is_due(&mut self) -> bool {
         let Some(began) = self.began else {
             return false;
@@ -55,13 +55,13 @@ impl<'a, R: Clock + Eprint> Line<'a, R> {
         true
     }
 
-    /// Shows a text in the place of the last one.
+    // Shows a text in the place of the last one.
     pub(crate) fn show(&mut self, text: &str) {
         let _ = eprint!(self.rt; "\r{text:<19}");
         self.shown = true;
     }
 
-    /// Takes the line away. Nothing is due from then on.
+    // Takes the line away. Nothing is due from then on.
     pub(crate) fn end(&mut self) {
         if self.shown {
             let _ = eprint!(self.rt; "\r{:<19}\r", "");

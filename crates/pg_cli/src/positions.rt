@@ -10,7 +10,7 @@ use pg_report::{
 use std::io;
 use std::rt::Runtime;
 
-/// `pg moves FEN`: the legal moves, on standard output.
+// `pg moves FEN`: the legal moves, on standard output.
 pub(crate) fn moves<'a, R: Runtime + AllocGlobal>(
     rt: &R,
     words: &ArgMatches<'a>,
@@ -26,7 +26,7 @@ pub(crate) fn moves<'a, R: Runtime + AllocGlobal>(
     }
 }
 
-/// `pg count FEN PLIES`: the number of games, on standard output.
+// `pg count FEN PLIES`: the number of games, on standard output.
 pub(crate) fn count<'a, R: Runtime + AllocGlobal>(
     rt: &R,
     words: &ArgMatches<'a>,
@@ -47,7 +47,7 @@ pub(crate) fn count<'a, R: Runtime + AllocGlobal>(
     }
 }
 
-/// `pg show DIAGRAM`: the board and what is known at once, on standard output.
+// `pg show DIAGRAM`: the board and what is known at once, on standard output.
 pub(crate) fn show<'a, R: Runtime + AllocGlobal>(
     rt: &R,
     words: &ArgMatches<'a>,

@@ -8,13 +8,13 @@ use std::fmt::Write;
 use std::io::Eprint;
 use std::time::Clock;
 
-/// The bytes of a header, which are no record.
+// The bytes of a header, which are no record.
 const HEADER: u32 = 37;
 
-/// The bytes of a record of prices that stand before its lists, the first one not counted.
+// The bytes of a record of prices that stand before its lists, the first one not counted.
 const PRICES_HEAD: u8 = 5;
 
-/// How many records of a certificate have passed by.
+// How many records of a certificate have passed by.
 #[derive(Clone, Copy)]
 pub(crate) struct RecordCount {
     /// So many bytes more belong to the header or to the record that began last.
@@ -72,7 +72,7 @@ impl RecordCount {
         }
     }
 
-    /// Counts the records that begin in the next bytes of the certificate.
+    // Counts the records that begin in the next bytes of the certificate.
     pub(crate) fn pass(&mut self, bytes: &[u8]) {
         for byte in bytes {
             self.pass_byte(*byte);
@@ -80,7 +80,7 @@ impl RecordCount {
     }
 }
 
-/// How many hundredths of the limit a count is, 100 at most.
+// How many hundredths of the limit a count is, 100 at most.
 pub(crate) fn share(count: u64, limit: u64) -> u64
     ensures { result ≤ 100 }
 {
@@ -91,8 +91,8 @@ pub(crate) fn share(count: u64, limit: u64) -> u64
     hundredths.min(100) as u64
 }
 
-/// A number in thousands, millions and so on, so that it is below 100,000, and the letter that says in
-/// which; what is left over is dropped.
+// A number in thousands, millions and so on, so that it is below 100,000, and the letter that says in
+// which; what is left over is dropped.
 pub(crate) fn scaled(number: u64) -> (u64, &'static str)
     ensures { result.0 ≤ 99999 }
 {
@@ -106,7 +106,7 @@ pub(crate) fn scaled(number: u64) -> (u64, &'static str)
     }
 }
 
-/// The line of a check: how many records, and how many hundredths of the limit those are.
+// The line of a check: how many records, and how many hundredths of the limit those are.
 pub(crate) fn line_of(count: u64, limit: u64) -> ArrayString<WIDTH> {
     let mut line = ArrayString::new();
     let (number, unit) = scaled(count);
@@ -115,7 +115,7 @@ pub(crate) fn line_of(count: u64, limit: u64) -> ArrayString<WIDTH> {
     line
 }
 
-/// Shows how many records have passed by.
+// Shows how many records have passed by.
 #[derive(Drop)]
 pub(crate) struct Watch<'a, R> {
     line: Line<'a, R>,
@@ -125,7 +125,7 @@ pub(crate) struct Watch<'a, R> {
 }
 
 impl<'a, R: Clock + Eprint> Watch<'a, R> {
-    /// A watch that shows something where there is a screen, of at most so many records.
+    // A watch that shows something where there is a screen, of at most so many records.
     pub(crate) fn new(rt: &'a R, limit: u64, screen: bool) -> Watch<'a, R> {
         Watch {
             line: Line::new(rt, screen),
@@ -152,7 +152,7 @@ impl<'a, R: Clock + Eprint> Watch<'a, R> {
     }
 }
 
-/// A source whose bytes are watched.
+// A source whose bytes are watched.
 pub(crate) struct Watched<'a, T, R> {
     inner: T,
     watch: Watch<'a, R>,
@@ -163,7 +163,7 @@ impl<'a, T: Drop, R: Clock + Eprint> Watched<'a, T, R> {
         Watched { inner, watch }
     }
 
-    /// Takes the line away, and drops what was watched.
+    // Takes the line away, and drops what was watched.
     pub(crate) fn end(self) {
         let Watched {
             inner: _,

@@ -14,17 +14,17 @@ use std::io::Eprint;
 use std::str;
 use thiserror::Error;
 
-/// A command is done, or its words ask for help.
+// A command is done, or its words ask for help.
 pub(crate) const DONE: u8 = 0;
 
-/// Words or texts are refused.
+// Words or texts are refused.
 pub(crate) const BAD_INPUT: u8 = 2;
 
 const MEMORY: u8 = 3;
 
 const FILES: u8 = 4;
 
-/// Why a command ends without its answer.
+// Why a command ends without its answer.
 #[derive(Debug, PartialEq, Eq, Drop, Error)]
 pub(crate) enum Refusal<'a> {
     /// A word of the command line is not UTF-8.
@@ -70,8 +70,8 @@ pub(crate) enum Refusal<'a> {
 }
 
 impl Refusal<'_> {
-    /// The status of the program then: 1 where a list or a certificate is refused or a search gave up,
-    /// 2 for bad words and texts, 3 for want of memory, 4 for a file that is not opened, created, read or written.
+    // The status of the program then: 1 where a list or a certificate is refused or a search gave up,
+    // 2 for bad words and texts, 3 for want of memory, 4 for a file that is not opened, created, read or written.
     pub(crate) fn status(&self) -> u8
         ensures { result ≡ refusal_status self.now }
     {
@@ -89,10 +89,10 @@ impl Refusal<'_> {
     }
 }
 
-/// Writes what is said; with a game that is not listed, its movetext.
-///
-/// # Errors
-/// `Refused` where the sink refuses it.
+// Writes what is said; with a game that is not listed, its movetext.
+//
+// # Errors
+// `Refused` where the sink refuses it.
 pub(crate) fn say<W: Sink>(refusal: &Refusal<'_>, out: &mut Gathered<W>) -> Result<(), Refused> {
     if write!(out, "{refusal}").is_err() {
         return Err(Refused);
@@ -106,7 +106,7 @@ pub(crate) fn say<W: Sink>(refusal: &Refusal<'_>, out: &mut Gathered<W>) -> Resu
     }
 }
 
-/// Standard error as a sink of texts.
+// Standard error as a sink of texts.
 #[derive(Drop)]
 struct Errors<'a, R> {
     rt: &'a R,
@@ -150,7 +150,7 @@ fn print_refusal<R: Eprint>(rt: &R, refusal: &Refusal<'_>) -> Result<(), Refused
     }
 }
 
-/// Says on standard error why there is no answer, and gives the status.
+// Says on standard error why there is no answer, and gives the status.
 pub(crate) fn refuse<R: Eprint>(rt: &R, refusal: &Refusal<'_>) -> u8
     ensures { result ≡ refusal_status refusal.now }
 {

@@ -8,10 +8,10 @@ use std::fmt::Write;
 use std::io::Eprint;
 use std::time::Clock;
 
-/// The clock is asked once in so many turns of a search.
+// The clock is asked once in so many turns of a search.
 const TURNS: u32 = 1024;
 
-/// Shows how many games are counted.
+// Shows how many games are counted.
 #[derive(Drop)]
 pub(crate) struct CountLine<'a, R> {
     line: Line<'a, R>,
@@ -19,7 +19,7 @@ pub(crate) struct CountLine<'a, R> {
 }
 
 impl<'a, R: Clock + Eprint> CountLine<'a, R> {
-    /// With no game counted; shown where there is a screen.
+    // With no game counted; shown where there is a screen.
     pub(crate) fn new(rt: &'a R, screen: bool) -> CountLine<'a, R> {
         CountLine {
             line: Line::new(rt, screen),
@@ -27,13 +27,13 @@ impl<'a, R: Clock + Eprint> CountLine<'a, R> {
         }
     }
 
-    /// Takes the line away.
+    // Takes the line away.
     pub(crate) fn end(&mut self) {
         self.line.end();
     }
 }
 
-/// The line of a count.
+// The line of a count.
 pub(crate) fn count_line(games: u64) -> ArrayString<WIDTH> {
     let mut line = ArrayString::new();
     let (number, unit) = scaled(games);
@@ -50,8 +50,8 @@ impl<R: Clock + Eprint> Progress for CountLine<'_, R> {
     }
 }
 
-/// Shows how many nodes a search has visited, how many of its limit those are, and the length of the
-/// tree at work.
+// Shows how many nodes a search has visited, how many of its limit those are, and the length of the
+// tree at work.
 #[derive(Drop)]
 pub(crate) struct SearchLine<'a, R> {
     line: Line<'a, R>,
@@ -60,7 +60,7 @@ pub(crate) struct SearchLine<'a, R> {
 }
 
 impl<'a, R: Clock + Eprint> SearchLine<'a, R> {
-    /// Of a search of so many nodes at most; shown where there is a screen.
+    // Of a search of so many nodes at most; shown where there is a screen.
     pub(crate) fn new(rt: &'a R, limit: u64, screen: bool) -> SearchLine<'a, R> {
         SearchLine {
             line: Line::new(rt, screen),
@@ -69,13 +69,13 @@ impl<'a, R: Clock + Eprint> SearchLine<'a, R> {
         }
     }
 
-    /// Takes the line away.
+    // Takes the line away.
     pub(crate) fn end(&mut self) {
         self.line.end();
     }
 }
 
-/// The line of a search: the length of the tree, the nodes, and their share of the limit.
+// The line of a search: the length of the tree, the nodes, and their share of the limit.
 pub(crate) fn search_line(plies: u8, nodes: u64, limit: u64) -> ArrayString<WIDTH> {
     let mut line = ArrayString::new();
     if let Some(length) = Length::from_plies(plies) {

@@ -16,10 +16,10 @@ use std::io;
 use std::io::{Read, Seek, SeekFrom, Write};
 use std::rt::Runtime;
 
-/// So many nodes are visited at most, where the words do not say it.
+// So many nodes are visited at most, where the words do not say it.
 const NODES: u64 = 1_000_000;
 
-/// Searches, and writes the certificate to a writer; the games that were found.
+// Searches, and writes the certificate to a writer; the games that were found.
 pub(crate) fn search_to<'a, R: Runtime + AllocGlobal, W: Write + Drop>(
     rt: &R,
     problem: &Problem,
@@ -44,8 +44,8 @@ pub(crate) fn search_to<'a, R: Runtime + AllocGlobal, W: Write + Drop>(
     }
 }
 
-/// So many records the check of a certificate takes at most, where the search visited so many nodes at
-/// most: no fewer than it wrote, which is at most one for each node.
+// So many records the check of a certificate takes at most, where the search visited so many nodes at
+// most: no fewer than it wrote, which is at most one for each node.
 fn records_for(nodes: u64) -> u64
     ensures usual { 100000000 ≤ result }
     ensures all { nodes ≤ result }
@@ -53,11 +53,11 @@ fn records_for(nodes: u64) -> u64
     nodes.max(RECORDS)
 }
 
-/// Checks the certificate that a reader gives with the games that were found, and writes the report;
-/// the status of its verdict. A status means that these games are the exact answer, and 0 that it is one.
-///
-/// # Errors
-/// `Check` with the fault of the check.
+// Checks the certificate that a reader gives with the games that were found, and writes the report;
+// the status of its verdict. A status means that these games are the exact answer, and 0 that it is one.
+//
+// # Errors
+// `Check` with the fault of the check.
 pub(crate) fn check_found<'a, R: Runtime + AllocGlobal, C: Read + Drop, W: Write + Drop>(
     rt: &R,
     problem: &Problem,
@@ -87,8 +87,8 @@ pub(crate) fn check_found<'a, R: Runtime + AllocGlobal, C: Read + Drop, W: Write
     finished(answer, out)
 }
 
-/// Searches, writes the certificate to a new file, reads it again from there and checks it, and writes
-/// the report; the status of its verdict.
+// Searches, writes the certificate to a new file, reads it again from there and checks it, and writes
+// the report; the status of its verdict.
 pub(crate) fn search_in<'a, R, F, W>(
     rt: &R,
     problem: &Problem,
@@ -112,8 +112,8 @@ where
     check_found(rt, problem, &games, bounds, file, out, records, screen)
 }
 
-/// `pg search`: the certificate is written beside its place, checked from there and put in its place
-/// once the report stands on standard output. Else it is taken away, and what stood there is as it was.
+// `pg search`: the certificate is written beside its place, checked from there and put in its place
+// once the report stands on standard output. Else it is taken away, and what stood there is as it was.
 pub(crate) fn search<'a, R: Runtime + AllocGlobal>(
     rt: &R,
     words: &ArgMatches<'a>,

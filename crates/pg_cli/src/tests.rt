@@ -25,7 +25,7 @@ const AFTER_E4_E5: &str = "rnbqkbnr/pppp1ppp/8/4p3/4P3/8/PPPP1PPP/RNBQKBNR";
 
 const TWO_ORDERS: &str = "rnbqkbnr/pppp1ppp/4p3/8/8/3PP3/PPP2PPP/RNBQKBNR";
 
-/// The header for a diagram and so many plies, and then these records.
+// The header for a diagram and so many plies, and then these records.
 fn certificate<R: Abort + AllocGlobal>(
     rt: &R,
     diagram: &str,
@@ -43,7 +43,7 @@ fn certificate<R: Abort + AllocGlobal>(
     Ok(bytes)
 }
 
-/// So many times a byte.
+// So many times a byte.
 fn repeated(alloc: Global, byte: u8, times: usize) -> Result<Vec<u8>, AllocError> {
     let mut bytes = Vec::new(alloc);
     for _ in 0..times {
@@ -52,7 +52,7 @@ fn repeated(alloc: Global, byte: u8, times: usize) -> Result<Vec<u8>, AllocError
     Ok(bytes)
 }
 
-/// What is said of a refusal.
+// What is said of a refusal.
 fn text_of<R: Abort + AllocGlobal>(rt: &R, refusal: &Refusal<'_>) -> Result<String, Fail> {
     let mut out = Gathered::new(ToWrite::new(Vec::new(rt.alloc())));
     assert_eq!(rt; say(refusal, &mut out), Ok(()));
@@ -62,13 +62,13 @@ fn text_of<R: Abort + AllocGlobal>(rt: &R, refusal: &Refusal<'_>) -> Result<Stri
     Ok(String::from_utf8(sink.into_inner())?)
 }
 
-/// No stream is a terminal.
+// No stream is a terminal.
 const NOWHERE: Screen = Screen {
     input: false,
     errors: false,
 };
 
-/// The status of the program where it is called with these words.
+// The status of the program where it is called with these words.
 fn status_of<R: Runtime + AllocGlobal>(rt: &R, words: &[&str]) -> Result<u8, AllocError> {
     let mut line = Vec::new(rt.alloc());
     line.push(String::from_str(rt.alloc(), "pg")?)?;
@@ -78,7 +78,7 @@ fn status_of<R: Runtime + AllocGlobal>(rt: &R, words: &[&str]) -> Result<u8, All
     Ok(obey(rt, line.as_slice(), NOWHERE))
 }
 
-/// The status of an answer, and what is said where there is none.
+// The status of an answer, and what is said where there is none.
 fn check_said<R: Abort + AllocGlobal>(
     rt: &R,
     answer: Result<u8, Refusal<'_>>,

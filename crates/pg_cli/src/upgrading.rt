@@ -15,11 +15,11 @@ use std::io;
 use std::io::{Read, Write};
 use std::rt::Runtime;
 
-/// Copies the certificate that a reader gives to a writer, and prints how many records it has: no more
-/// than `records`, which is the answer. The writer has the whole copy then.
-///
-/// # Errors
-/// `Upgrade` with the fault of the copying, or with `Write` where the number is not printed.
+// Copies the certificate that a reader gives to a writer, and prints how many records it has: no more
+// than `records`, which is the answer. The writer has the whole copy then.
+//
+// # Errors
+// `Upgrade` with the fault of the copying, or with `Write` where the number is not printed.
 pub(crate) fn upgrade_to<'a, R, C, W, O>(
     rt: &R,
     old: C,
@@ -53,8 +53,8 @@ where
     }
 }
 
-/// `pg upgrade`: the copy is written beside its place, and put there once the number of its records
-/// stands on standard output. Else it is taken away, and what stood there is as it was.
+// `pg upgrade`: the copy is written beside its place, and put there once the number of its records
+// stands on standard output. Else it is taken away, and what stood there is as it was.
 pub(crate) fn upgrade<'a, R: Runtime + AllocGlobal>(
     rt: &R,
     words: &ArgMatches<'a>,

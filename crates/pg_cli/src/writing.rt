@@ -10,7 +10,7 @@ use std::io::ErrorKind;
 use std::os::unix::fs::MetadataExt;
 use std::rt::Files;
 
-/// So many names are tried for a file beside its place.
+// So many names are tried for a file beside its place.
 const NAMES: u32 = 1000;
 
 // Whether two files are one.
@@ -18,7 +18,7 @@ fn is_same(one: &Metadata, other: &Metadata) -> bool {
     one.dev() == other.dev() && one.ino() == other.ino()
 }
 
-/// Whether two names lead to one plain file.
+// Whether two names lead to one plain file.
 pub(crate) fn lead_to_one<R: Files>(rt: &R, one: &str, other: &str) -> bool {
     match (fs::metadata(rt, one), fs::metadata(rt, other)) {
         (Ok(one), Ok(other)) => one.is_file() && is_same(&one, &other),
@@ -38,7 +38,7 @@ fn is_printed_to<R: Files>(rt: &R, file: &Metadata) -> bool {
     false
 }
 
-/// Where a file is to stand.
+// Where a file is to stand.
 #[derive(Drop)]
 struct Place {
     path: String,
@@ -106,7 +106,7 @@ fn folder_of(path: &str) -> &str
     }
 }
 
-/// A file that is written beside its place, in the same folder. It is to be put there or dropped.
+// A file that is written beside its place, in the same folder. It is to be put there or dropped.
 #[derive(Drop)]
 pub(crate) struct Draft<'a, F> {
     pub(crate) file: F,
@@ -143,12 +143,12 @@ fn make_beside<'a, R: Files + AllocGlobal>(
     Err(Refusal::Open(name))
 }
 
-/// Begins a file of this name, beside the place where it is to stand. Nothing that is there is touched.
-///
-/// # Errors
-/// `Open` where the name leads to a folder, a pipe, a device or to nothing, where the program prints to
-/// that file, where it must not be written, or where its folder takes no file; `Memory` where a growth
-/// is refused.
+// Begins a file of this name, beside the place where it is to stand. Nothing that is there is touched.
+//
+// # Errors
+// `Open` where the name leads to a folder, a pipe, a device or to nothing, where the program prints to
+// that file, where it must not be written, or where its folder takes no file; `Memory` where a growth
+// is refused.
 pub(crate) fn begin<'a, R: Files + AllocGlobal>(
     rt: &R,
     name: &'a str,
@@ -159,11 +159,11 @@ pub(crate) fn begin<'a, R: Files + AllocGlobal>(
 }
 
 impl<'a, F: OpenFile + Drop> Draft<'a, F> {
-    /// Puts the file in its place, with the permissions of the one that stood there.
-    ///
-    /// # Errors
-    /// `Write` where the system does not have the whole file, `Open` where it cannot be put there. The
-    /// file is gone then, and its place is as it was.
+    // Puts the file in its place, with the permissions of the one that stood there.
+    //
+    // # Errors
+    // `Write` where the system does not have the whole file, `Open` where it cannot be put there. The
+    // file is gone then, and its place is as it was.
     pub(crate) fn put<R: Files>(self, rt: &R) -> Result<(), Refusal<'a>> {
         let Draft {
             file,
@@ -185,7 +185,7 @@ impl<'a, F: OpenFile + Drop> Draft<'a, F> {
         Ok(())
     }
 
-    /// Takes the file away. Its place is as it was.
+    // Takes the file away. Its place is as it was.
     pub(crate) fn discard<R: Files>(self, rt: &R) {
         let _ = fs::remove_file(rt, self.path.as_str());
     }

@@ -1,5 +1,5 @@
 -- Digits, and numbers that are cut off at a bound.
-use Rattle.std.proofs.Common.{◌≡◌, ℕ, suc, ◌+◌, ◌-◌, ◌*◌, ◌/◌, ◌%◌, inl, inr, ◌≤◌, ◌<◌, Bool, true, false, cond, List, [], ◌∷◌, ◌++◌, length, take, drop, get_or, refl, sym, ap, ◌∙◌, arith, length-append}
+use Rattle.std.proofs.Common.{◌≡◌, ℕ, suc, ◌+◌, ◌-◌, ◌*◌, ◌/◌, ◌%◌, ◌^◌, inl, inr, ◌≤◌, ◌<◌, Bool, true, false, cond, List, [], ◌∷◌, ◌++◌, length, take, drop, get_or, refl, sym, ap, ◌∙◌, arith}
 use Rattle.std.specs.Prelude.{min}
 use Rattle.std.specs.List.{prefix_len}
 use Rattle.std.specs.Char.{is_ascii_digit, digit_value}
@@ -58,11 +58,11 @@ decimal_of_two m front lt two one =
 pub decimal_one : (n : ℕ) → n < 10 → decimal n ≡ (48 + n) ∷ []
 decimal_one n lt = decimal_digit n lt
 
-pub decimal_more : (n : ℕ) → 10 ≤ n → n < 65536 → decimal n ≡ decimal (n / 10) ++ (48 + n % 10) ∷ []
-decimal_more n le lt = decimal_step n le (omega arith)
+pub decimal_more : (n : ℕ) → 10 ≤ n → n < 2 ^ 64 → decimal n ≡ decimal (n / 10) ++ (48 + n % 10) ∷ []
+decimal_more n le lt = decimal_step n le lt
 
-pub decimal_longer : (n : ℕ) → 10 ≤ n → n < 65536 → length (decimal n) ≡ length (decimal (n / 10)) + 1
-decimal_longer n le lt = rw (decimal_more n le lt) (omega (arith, length-append (decimal (n / 10)) ((48 + n % 10) ∷ [])))
+pub decimal_room : (n : ℕ) → n < 2 ^ 64 → length (decimal (n / 10)) < 20
+decimal_room n lt = let l : length (decimal (n / 10)) ≤ 19 = length-decimal-le 19 (n / 10) (omega arith) (omega arith) (omega arith) in omega arith
 
 pub decimal_short : (n : ℕ) → n < 65536 → length (decimal n) ≤ 5
 decimal_short n lt = length-decimal-le 5 n (omega arith) (omega arith) (omega arith)

@@ -135,7 +135,7 @@ fn number_of(text: &[u8]) -> Option<u16>
     }
 }
 
-// What the five fields say, or the fault of the first that is not well formed.
+/// What the five fields say, or the fault of the first that is not well formed.
 #[tactic(auto, unfolding(crate::specs::DetailText::details_of))]
 pub fn details_of(texts: &DetailFields<'_>) -> Result<Details, FenFault>
     ensures { result

@@ -4,7 +4,7 @@ ghost use Rattle.std.specs.Fmt.{decimal};
 ghost use Rattle.pg_fen.specs.PositionWriting.{side_text, right_text, rights_text, passed_text, spaced, details_text};
 
 use crate::details::Details;
-use crate::text::put;
+use crate::text::{digits, put};
 use arrayvec::ArrayString;
 use pg_board::{Color, Square};
 use pg_position::Rights;
@@ -74,23 +74,15 @@ fn put_passed<const CAP: usize>(text: &mut ArrayString<CAP>, passed: Option<Squa
     }
 }
 
-// The digits of a number.
-#[tactic(auto, using(crate::proofs::Decimals::decimal_more, crate::proofs::Decimals::decimal_one, crate::proofs::Decimals::decimal_longer, crate::proofs::Decimals::decimal_short))]
-fn number_text(n: u16) -> ArrayString<5>
-    ensures { result.bytes ≡ decimal n }
+// The digits of a number, of which there are at most five.
+#[tactic(auto, using(crate::proofs::Decimals::decimal_short))]
+fn number_text(n: u16) -> ArrayString<20>
+    ensures text { result.bytes ≡ decimal n }
+    ensures short { length result.bytes ≤ 5 }
 {
-    if n < 10 {
-        let mut text = ArrayString::new();
-        put(&mut text, b'0' + n as u8);
-        text
-    } else {
-        let mut text = number_text(n / 10);
-        put(&mut text, b'0' + (n % 10) as u8);
-        text
-    }
+    digits(n as usize)
 }
 
-#[tactic(auto, using(crate::proofs::Decimals::decimal_short))]
 fn put_count<const CAP: usize>(text: &mut ArrayString<CAP>, n: u16)
     requires room { length text.old.bytes + 6 ≤ CAP }
     ensures text { text.new.bytes ≡ text.old.bytes ++ spaced (decimal n) }

@@ -65,8 +65,10 @@ impl Diagram {
     /// The diagram that a text spells in Forsyth-Edwards notation (the PGN standard, section 16.1).
     /// The text has one field, the placement, or the six fields of a position; fields are separated
     /// by runs of spaces, tabs, carriage returns and line feeds. Of six fields the last five must be
-    /// well formed, and are not used. The first fault of the whole text is answered, in the order of
-    /// `FenFault`, which says when each comes.
+    /// well formed, and are not used.
+    ///
+    /// # Errors
+    /// The first fault of the whole text, in the order of `FenFault`, which says when each comes.
     pub fn read(text: &str) -> Result<Diagram, FenFault>
         ensures value { result ≡ diagram_of (fields text.now) }
         ensures diagram { IfOk result IsDiagram }

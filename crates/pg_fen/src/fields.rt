@@ -4,14 +4,14 @@ ghost use Rattle.std.specs.Prelude.{◌≡◌, ◌<◌, ◌≤◌, [], ◌∷◌
 ghost use Rattle.std.specs.List.{prefix_len};
 ghost use Rattle.pg_fen.specs.Fields.{is_gap, is_word_byte, fields, AreFields};
 
-// The one field or the six fields of a text.
+/// The one field or the six fields of a text.
 #[derive(Debug, Clone, Copy)]
 pub struct Fields<'a> {
     pub placement: &'a [u8],
     pub details: Option<DetailFields<'a>>,
 }
 
-// The five fields behind the placement.
+/// The five fields behind the placement.
 #[derive(Debug, Clone, Copy)]
 pub struct DetailFields<'a> {
     pub side: &'a [u8],
@@ -52,7 +52,7 @@ fn next_field(text: &[u8]) -> Option<(&[u8], &[u8])>
     Some(text.split_at(word_len(text)))
 }
 
-// The fields of a text that has one or six.
+/// The fields of a text that has one or six.
 pub fn fields_of(text: &[u8]) -> Option<Fields<'_>>
     ensures { AreFields result (fields text.now) }
 {

@@ -70,9 +70,11 @@ fn game_of(parts: &GameParts) -> Result<FenGame, FenFault>
     }
 }
 
-/// The position that a text of six fields spells, with its two move numbers. The first fault of the
-/// whole text is answered, in the order of `FenFault`; `Invalid` comes last, with the first clause
-/// of a position that the well-formed text breaks.
+/// The position that a text of six fields spells, with its two move numbers.
+///
+/// # Errors
+/// The first fault of the whole text, in the order of `FenFault`; `Invalid` comes last, with the first
+/// clause of a position that the well-formed text breaks.
 pub fn read_position(text: &str) -> Result<FenGame, FenFault>
     ensures { IsGameRead (game_parts (fields text.now)) result }
 {

@@ -58,8 +58,10 @@ fn read_plies(bytes: &[u8]) -> Result<u8, LengthFault>
 
 impl Length {
     /// The length that a text spells: one or more decimal digits for the moves, then nothing, `.0`
-    /// or `.5`. `n` and `n.0` are 2 * n plies, `n.5` is one ply more. Any other text is `Shape`; a
-    /// length above 128 plies is `TooLong`, however many digits it has.
+    /// or `.5`. `n` and `n.0` are 2 * n plies, `n.5` is one ply more.
+    ///
+    /// # Errors
+    /// Any other text is `Shape`; a length above 128 plies is `TooLong`, however many digits it has.
     pub fn read(text: &str) -> Result<Length, LengthFault>
         ensures { result ≡ length_of text.now }
     {

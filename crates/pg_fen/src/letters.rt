@@ -18,7 +18,7 @@ fn kind_of(letter: u8) -> Option<Kind>
     }
 }
 
-// The man that a letter stands for.
+/// The man that a letter stands for: a white man where it is in upper case.
 pub fn man_of(letter: u8) -> Option<Man>
     ensures { result ≡ man_of letter }
 {
@@ -45,7 +45,7 @@ fn letter_of_kind(kind: Kind) -> u8
     }
 }
 
-// The letter of a man.
+/// The letter of a man: upper case for White, lower case for Black.
 pub fn letter_of(man: Man) -> u8
     ensures value { result ≡ letter_of man }
     ensures ascii { result < 128 }

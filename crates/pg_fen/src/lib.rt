@@ -14,13 +14,14 @@ mod letters;
 mod numbers;
 mod packing;
 mod placement;
-mod text;
+pub mod text;
 mod writing;
 
 pub use diagram::Diagram;
 pub use fault::{FenFault, LengthFault};
 pub use games::{FenGame, read_position, write_position};
 pub use length::Length;
+pub use letters::{letter_of, man_of};
 
 #[cfg(test)]
 mod tests;

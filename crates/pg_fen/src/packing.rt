@@ -1,23 +1,8 @@
 //! Boards as 32 bytes.
 ghost use Rattle.std.specs.Prelude.{◌≡◌, ◌<◌};
-ghost use Rattle.pg_board.specs.Men.{number_of_kind};
 ghost use Rattle.pg_fen.specs.Packing.{cell_code, packed_of};
 
-use pg_board::{Board, Color, Kind, Man, Square};
-
-fn number_of_kind(kind: Kind) -> u8
-    ensures value { result ≡ number_of_kind kind }
-    ensures bound { result < 6 }
-{
-    match kind {
-        Kind::Pawn => 0,
-        Kind::Knight => 1,
-        Kind::Bishop => 2,
-        Kind::Rook => 3,
-        Kind::Queen => 4,
-        Kind::King => 5,
-    }
-}
+use pg_board::{Board, Color, Man, Square};
 
 // The number of what stands on a square, 0 to 14.
 fn cell_code(cell: Option<Man>) -> u8
@@ -27,13 +12,13 @@ fn cell_code(cell: Option<Man>) -> u8
     match cell {
         None => 0,
         Some(man) => match man.color {
-            Color::White => 1 + number_of_kind(man.kind),
-            Color::Black => 9 + number_of_kind(man.kind),
+            Color::White => 1 + man.kind.number(),
+            Color::Black => 9 + man.kind.number(),
         },
     }
 }
 
-// The 32 bytes of a board.
+/// The 32 bytes of a board.
 pub fn packed_of(board: &Board) -> [u8; 32]
     ensures { result ≡ packed_of board.now }
 {

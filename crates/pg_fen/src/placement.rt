@@ -142,7 +142,7 @@ fn edge_pawns(board: &Board) -> u8
     n
 }
 
-// The board that a placement spells, or the first fault that it has.
+/// The board that a placement spells, or the first fault that it has.
 #[tactic(auto, unfolding(crate::specs::PlacementText::read_placement))]
 pub fn read_placement(text: &[u8]) -> Result<Board, FenFault>
     ensures { result ≡ read_placement text.now }

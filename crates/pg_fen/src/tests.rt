@@ -2,12 +2,13 @@ mod callers;
 mod positions;
 
 use super::*;
+use pg_position::BadPosition;
 use std::process::Abort;
 use std::test::Fail;
 
 const ARRAY: &str = "rnbqkbnr/pppppppp/8/8/8/8/PPPPPPPP/RNBQKBNR";
 
-/// A text that is read as a length of so many plies, and what that length is written as.
+// A text that is read as a length of so many plies, and what that length is written as.
 fn check_length(rt: &impl Abort, text: &str, plies: u8, written: &str) {
     match Length::read(text) {
         Ok(length) => {
@@ -135,8 +136,8 @@ fn more_refusals(rt: HostRuntime) {
     check_fault(&rt, "4k3/8/8/8/8/8/8/4K3 w - - 0 65536", FenFault::Number);
 }
 
-/// Every character of a rank counts one, however many bytes it has; only spaces, tabs and ends of
-/// lines separate fields.
+// Every character of a rank counts one, however many bytes it has; only spaces, tabs and ends of
+// lines separate fields.
 #[test]
 fn odd_characters(rt: HostRuntime) {
     check_fault(&rt, "4k3/8/8/8/7é/8/8/4K3", FenFault::Letter);
@@ -174,6 +175,26 @@ fn fault_texts(rt: HostRuntime) -> Result<(), Fail> {
         (FenFault::Rights, "bad castling rights"),
         (FenFault::EnPassant, "bad en passant square"),
         (FenFault::Number, "bad move number"),
+        (
+            FenFault::Invalid(BadPosition::Kings),
+            "impossible position: each side must have one king",
+        ),
+        (
+            FenFault::Invalid(BadPosition::PawnRank),
+            "impossible position: a pawn stands on rank 1 or 8",
+        ),
+        (
+            FenFault::Invalid(BadPosition::Rights),
+            "impossible position: a castling right without its king and rook at home",
+        ),
+        (
+            FenFault::Invalid(BadPosition::EnPassant),
+            "impossible position: an en passant square that fits no two-square advance",
+        ),
+        (
+            FenFault::Invalid(BadPosition::Check),
+            "impossible position: the side that is not to move is in check",
+        ),
     ];
     for (fault, text) in texts {
         let shown = format!(in rt.alloc(); "{fault}")?;

@@ -51,7 +51,7 @@ fn put_rank<const CAP: usize>(text: &mut ArrayString<CAP>, rank: &[Option<Man>])
     put_run(text, empty);
 }
 
-// Appends the text of a board.
+/// Appends the text of a board.
 pub fn put_placement<const CAP: usize>(text: &mut ArrayString<CAP>, board: &Board)
     requires room { length text.old.bytes + 71 ≤ CAP }
     ensures text { text.new.bytes ≡ text.old.bytes ++ placement_text board.now }

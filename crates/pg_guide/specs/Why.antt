@@ -26,6 +26,10 @@ IsProved rules diagram length max_records max_named known = (d : Placement) × (
 abbrev pub IsProblem : List ℕ → List ℕ → Type 0
 IsProblem diagram length = ((d : Placement) × (diagram_of (fields diagram) ≡ Ok d)) × ((n : ℕ) × (length_of length ≡ Ok n))
 
+-- a text is the moves of one game
+abbrev pub IsOneLine : List ℕ → Type 0
+IsOneLine text = (list : List (List Move)) × IsListing text list × (length_of_list list ≡ 1)
+
 -- why a text is not the moves of one game: it is refused as a list of games, or it has none or more than one
 abbrev pub IsLineFault : List ℕ → WhyFault → Type 0
 IsLineFault text Moves = (list : List (List Move)) × IsListing text list × (length_of_list list ≢ 1)
@@ -36,11 +40,11 @@ IsLineFault text (Run fault) = ⊥
 abbrev pub IsRefused : (Placement → ℕ → List (List Move) → CheckRules) → List ℕ → List ℕ → ℕ → ℕ → Option (List ℕ) → Bool → Fault → Type 0
 IsRefused rules diagram length max_records max_named known failed fault = (fault ≡ Memory) ⊎ ((fault ≡ Read) ⊎ ((d : Placement) × (n : ℕ) × (list : List (List Move)) × (diagram_of (fields diagram) ≡ Ok d) × (length_of length ≡ Ok n) × Accepts (rules d n list) d list max_records max_named known (Err fault) × Refuses (rules d n list) d list max_records max_named known failed (Err fault)))
 
--- why a line is not explained by a certificate that is right: a text is refused, the diagram first, then the length, then the moves; else the certificate is; or the sink has failed
+-- why a line is not explained by a certificate that is right: a text is refused, the diagram first, then the length, then the moves; or none of them is, and the certificate is refused, or the sink has failed
 abbrev pub IsWhyFault : (Placement → ℕ → List (List Move) → CheckRules) → List ℕ → List ℕ → List ℕ → ℕ → ℕ → Option (List ℕ) → Bool → Bool → WhyFault → Type 0
 IsWhyFault rules diagram length moves max_records max_named known failed broken Moves = IsProblem diagram length × IsLineFault moves Moves
 IsWhyFault rules diagram length moves max_records max_named known failed broken (Run (Diagram fault)) = IsProblemFault diagram length (Diagram fault)
 IsWhyFault rules diagram length moves max_records max_named known failed broken (Run (Length fault)) = IsProblemFault diagram length (Length fault)
 IsWhyFault rules diagram length moves max_records max_named known failed broken (Run (Games fault)) = IsProblem diagram length × IsTextFault moves fault
-IsWhyFault rules diagram length moves max_records max_named known failed broken (Run (Check fault)) = IsRefused rules diagram length max_records max_named known failed fault
-IsWhyFault rules diagram length moves max_records max_named known failed broken (Run Write) = broken ≡ true
+IsWhyFault rules diagram length moves max_records max_named known failed broken (Run (Check fault)) = IsProblem diagram length × IsOneLine moves × IsRefused rules diagram length max_records max_named known failed fault
+IsWhyFault rules diagram length moves max_records max_named known failed broken (Run Write) = IsProblem diagram length × IsOneLine moves × (broken ≡ true)

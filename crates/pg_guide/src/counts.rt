@@ -41,7 +41,7 @@ fn write_cuts(tally: &Tally, text: &mut Sentence) {
     }
 }
 
-/// What is said of an expanded node with so many plies left: of its moves, and of the games below.
+// What is said of an expanded node with so many plies left: of its moves, and of the games below.
 pub(crate) fn expanded(tally: &Tally, left: u8) -> Sentence {
     let mut text = Sentence::new();
     if tally.moves == 0 {

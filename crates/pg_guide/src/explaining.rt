@@ -1,7 +1,8 @@
 //! A line of moves is explained by a certificate.
 ghost use Rattle.std.specs.Prelude.{◌≡◌, ◌⊎◌, ℕ, List, true, false, length, IfOk, IfErr, OnOk};
 ghost use Rattle.pg_checker.specs.Cuts.{rules_by};
-ghost use Rattle.pg_guide.specs.Why.{IsLineFault, IsProved, IsWhyFault};
+ghost use Rattle.pg_san.specs.Listing.{IsListing};
+ghost use Rattle.pg_guide.specs.Why.{IsLineFault, IsOneLine, IsProved, IsWhyFault};
 
 use crate::fault::WhyFault;
 use crate::machine::{Cited, Ending, Machine, Question, Stop};
@@ -24,8 +25,8 @@ pub struct Asked<'a> {
     pub moves: &'a str,
 }
 
-/// What the walks found: along the line, of the node that it refers to, and whether the whole certificate
-/// was walked over.
+// What the walks found: along the line, of the node that it refers to, and whether the whole certificate
+// was walked over.
 #[derive(Drop)]
 struct Findings {
     machine: Machine,
@@ -35,7 +36,7 @@ struct Findings {
 
 // The game that a text is, as the one game of a list.
 fn line_of(alloc: Global, text: &str) -> Result<Games, WhyFault>
-    ensures listing { IfOk result (λ games. length games ≡ 1) }
+    ensures listing { IfOk result (λ games. IsListing text.now games × (length games ≡ 1)) }
     ensures err { IfErr result (λ e. IsLineFault text.now e) }
 {
     match read_games(alloc, text) {
@@ -185,9 +186,13 @@ pub fn why<R: Source, W: Sink>(
     max_records: u64,
     max_named: u32,
 ) -> Result<(), WhyFault>
-    ensures right { OnOk result (IsProved (λ d n list. rules_by (λ b. code_of b) (λ b. excluded b) d n list bounds.now) asked.now.diagram.now asked.now.length.now max_records max_named (R.left checked.old)) }
+    ensures right { OnOk result (IsProved
+        (rules_by code_of excluded bounds.now) asked.now.diagram.now asked.now.length.now max_records max_named (R.left checked.old)) }
+    ensures line { OnOk result (IsOneLine asked.now.moves.now) }
     ensures runs { OnOk result (W.has_failed out.new ≡ false) }
-    ensures err { IfErr result (λ e. IsWhyFault (λ d n list. rules_by (λ b. code_of b) (λ b. excluded b) d n list bounds.now) asked.now.diagram.now asked.now.length.now asked.now.moves.now max_records max_named (R.left checked.old) (R.has_failed checked.new) (W.has_failed out.new) e) }
+    ensures err { IfErr result (λ e. IsWhyFault
+        (rules_by code_of excluded bounds.now) asked.now.diagram.now asked.now.length.now asked.now.moves.now max_records max_named
+        (R.left checked.old) (R.has_failed checked.new) (W.has_failed out.new) e) }
 {
     let problem = match Problem::read(asked.diagram, asked.length) {
         Ok(problem) => problem,

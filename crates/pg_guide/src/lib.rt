@@ -19,8 +19,4 @@ pub use explaining::{Asked, why};
 pub use fault::WhyFault;
 
 #[cfg(test)]
-mod fault_tests;
-#[cfg(test)]
-mod memory_tests;
-#[cfg(test)]
 mod tests;

@@ -7,8 +7,8 @@ use pg_moves::LegalMoves;
 use pg_position::{Move, Position};
 use pg_san::Games;
 
-/// What is looked for: what the tree of the stated length says along a line of moves, or, on a second walk,
-/// the node with this number.
+// What is looked for: what the tree of the stated length says along a line of moves, or, on a second walk,
+// the node with this number.
 #[derive(Drop)]
 pub(crate) struct Question<'a> {
     pub(crate) diagram: &'a Diagram,
@@ -17,9 +17,9 @@ pub(crate) struct Question<'a> {
     pub(crate) wanted: Option<u32>,
 }
 
-/// What an expanded node's children are: how many moves there are, how many of them lead to expanded nodes,
-/// or with one ply left to the diagram, and how many to nodes that are cut in each way or refer. And how
-/// many games below end on the diagram.
+// What an expanded node's children are: how many moves there are, how many of them lead to expanded nodes,
+// or with one ply left to the diagram, and how many to nodes that are cut in each way or refer. And how
+// many games below end on the diagram.
 #[derive(Clone, Copy, Default)]
 pub(crate) struct Tally {
     pub(crate) moves: u16,
@@ -33,15 +33,15 @@ pub(crate) struct Tally {
     pub(crate) games: u64,
 }
 
-/// What ends a line: a leaf, which is on the diagram or not, or a record that has nothing below it.
+// What ends a line: a leaf, which is on the diagram or not, or a record that has nothing below it.
 #[derive(Clone, Copy)]
 pub(crate) enum Ending {
     Leaf(bool),
     Said(Record),
 }
 
-/// An open node: its position with the moves that are still to be played, the plies left below it,
-/// whether it is named, whether the line leads through it, and its children so far.
+// An open node: its position with the moves that are still to be played, the plies left below it,
+// whether it is named, whether the line leads through it, and its children so far.
 #[derive(Drop)]
 pub(crate) struct Frame {
     pub(crate) moves: LegalMoves,
@@ -63,8 +63,8 @@ impl Default for Frame {
     }
 }
 
-/// The node that was wanted: the line that leads there, the plies left there, and how many games below it
-/// end on the diagram.
+// The node that was wanted: the line that leads there, the plies left there, and how many games below it
+// end on the diagram.
 #[derive(Drop)]
 pub(crate) struct Cited {
     pub(crate) line: ArrayVec<Move, 128>,
@@ -72,10 +72,10 @@ pub(crate) struct Cited {
     pub(crate) games: u64,
 }
 
-/// The record reader, how many records may still come, the plies of the tree that is walked, the games of
-/// the stated length that end on the diagram, the open nodes, how many named nodes have closed, and how many
-/// games the subtree that ended last has. What is found: the expanded nodes on the line, the last one
-/// first, what ends them, and the node that was wanted.
+// The record reader, how many records may still come, the plies of the tree that is walked, the games of
+// the stated length that end on the diagram, the open nodes, how many named nodes have closed, and how many
+// games the subtree that ended last has. What is found: the expanded nodes on the line, the last one
+// first, what ends them, and the node that was wanted.
 #[derive(Drop)]
 pub(crate) struct Machine {
     pub(crate) reader: RecordReader,
@@ -90,8 +90,8 @@ pub(crate) struct Machine {
     pub(crate) cited: Option<Cited>,
 }
 
-/// Why a walk stops: for want of memory, for a source that fails, or at bytes that are no certificate of
-/// what is asked, within the limit of records.
+// Why a walk stops: for want of memory, for a source that fails, or at bytes that are no certificate of
+// what is asked, within the limit of records.
 #[derive(Clone, Copy, Debug, PartialEq, Eq)]
 pub(crate) enum Stop {
     Memory,
@@ -100,7 +100,7 @@ pub(crate) enum Stop {
 }
 
 impl Tally {
-    /// Counts a move to a node with this record.
+    // Counts a move to a node with this record.
     pub(crate) fn count(&mut self, record: &Record) {
         self.moves = self.moves.saturating_add(1);
         let kind = match record {
@@ -117,7 +117,7 @@ impl Tally {
         *kind = kind.saturating_add(1);
     }
 
-    /// Counts a move to a leaf, which is on the diagram or not.
+    // Counts a move to a leaf, which is on the diagram or not.
     pub(crate) fn count_leaf(&mut self, hit: bool) {
         self.moves = self.moves.saturating_add(1);
         if hit {
@@ -127,7 +127,7 @@ impl Tally {
     }
 }
 
-/// The game that leads along open nodes, by the move that was played last at each.
+// The game that leads along open nodes, by the move that was played last at each.
 pub(crate) fn game_along(frames: &[Frame]) -> ArrayVec<Move, 128> {
     let mut game = ArrayVec::new();
     for frame in frames {

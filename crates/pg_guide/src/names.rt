@@ -4,7 +4,7 @@ use arrayvec::ArrayString;
 use pg_board::{Color, Kind, Square};
 use std::fmt::Write;
 
-/// A part of a sentence.
+// A part of a sentence.
 pub(crate) type Phrase = ArrayString<64>;
 
 pub(crate) fn color_name(color: Color) -> &'static str {
@@ -25,7 +25,7 @@ fn kind_name(kind: Kind) -> &'static str {
     }
 }
 
-/// A man by its kind and square, as in `the knight on g8`.
+// A man by its kind and square, as in `the knight on g8`.
 pub(crate) fn man_name(kind: Kind, square: Square) -> Phrase {
     let mut name = Phrase::new();
     let file = char::from(b'a' + (square.file().saturating_sub(1) % 8));
@@ -35,7 +35,7 @@ pub(crate) fn man_name(kind: Kind, square: Square) -> Phrase {
     name
 }
 
-/// So many things, as in `no move`, `1 move` and `2 moves`.
+// So many things, as in `no move`, `1 move` and `2 moves`.
 pub(crate) fn many(count: u64, one: &str, more: &str) -> Phrase {
     let mut text = Phrase::new();
     let _ = match count {

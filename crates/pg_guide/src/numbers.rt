@@ -9,7 +9,7 @@ use pg_pawns::shift_need;
 use pg_position::Position;
 use std::fmt::Write;
 
-/// A place in a proof: the diagram to come to, the position, and the plies left.
+// A place in a proof: the diagram to come to, the position, and the plies left.
 #[derive(Drop)]
 pub(crate) struct Place<'a> {
     pub(crate) diagram: &'a Diagram,
@@ -17,7 +17,7 @@ pub(crate) struct Place<'a> {
     pub(crate) left: u8,
 }
 
-/// The colour's plies among those that are left.
+// The colour's plies among those that are left.
 pub(crate) fn own_plies(place: &Place, color: Color) -> u8 {
     plies_left(place.position.side(), color, place.left)
 }
@@ -32,8 +32,8 @@ fn too_many(color: Color, owed: i16) -> Sentence {
     text
 }
 
-/// Why captures exclude a colour: it owes fewer than none, or more than it has moves left; none where
-/// they do not.
+// Why captures exclude a colour: it owes fewer than none, or more than it has moves left; none where
+// they do not.
 pub(crate) fn captures_of(place: &Place, color: Color) -> Option<Sentence> {
     let owed = owed(color, place.diagram, place.position);
     let own = own_plies(place, color);
@@ -52,8 +52,8 @@ pub(crate) fn captures_of(place: &Place, color: Color) -> Option<Sentence> {
     Some(text)
 }
 
-/// Why promotions exclude a colour: pawns are short for the pieces that it lacks and the pawns of the
-/// diagram; none where they do not.
+// Why promotions exclude a colour: pawns are short for the pieces that it lacks and the pawns of the
+// diagram; none where they do not.
 pub(crate) fn promotions_of(place: &Place, color: Color) -> Option<Sentence> {
     let wanted = place.diagram.board();
     let board = place.position.board();
@@ -82,8 +82,8 @@ pub(crate) fn promotions_of(place: &Place, color: Color) -> Option<Sentence> {
     Some(text)
 }
 
-/// Why changes of file exclude a colour, so many as its pawns need: it owes fewer captures; none where
-/// they do not.
+// Why changes of file exclude a colour, so many as its pawns need: it owes fewer captures; none where
+// they do not.
 pub(crate) fn files_by(place: &Place, color: Color, shift: u16) -> Option<Sentence> {
     let owed = owed(color, place.diagram, place.position);
     if owed < 0 {
@@ -104,7 +104,7 @@ pub(crate) fn files_by(place: &Place, color: Color, shift: u16) -> Option<Senten
     Some(text)
 }
 
-/// The same with the changes of file that the lines between files show.
+// The same with the changes of file that the lines between files show.
 pub(crate) fn files_of(place: &Place, color: Color) -> Option<Sentence> {
     files_by(
         place,

@@ -9,7 +9,7 @@ use pg_position::first_from;
 use pg_travel::Prices;
 use std::fmt::Write;
 
-/// How many of the dearest men are named.
+// How many of the dearest men are named.
 const NAMED: usize = 3;
 
 // The sum of a list of prices, of which there are 64 at most.
@@ -52,7 +52,7 @@ fn is_later(price: u8, square: Square, last: &Option<(u8, Square)>) -> bool {
     }
 }
 
-/// The men of the diagram that a price list is for, in the order of their squares.
+// The men of the diagram that a price list is for, in the order of their squares.
 #[derive(Clone, Copy)]
 struct Targets {
     goal: Board,
@@ -161,7 +161,7 @@ fn travel_prices_of(place: &Place, color: Color, prices: &Prices) -> Option<Sent
     Some(text)
 }
 
-/// Why prices of this code exclude; none where they do not.
+// Why prices of this code exclude; none where they do not.
 pub(crate) fn prices_of(
     place: &Place,
     code: u8,

@@ -9,7 +9,7 @@ use pg_board::Color;
 use pg_certificate::Record;
 use std::fmt::Write;
 
-/// What is said of a node. What would be longer is cut off.
+// What is said of a node. What would be longer is cut off.
 pub(crate) type Sentence = ArrayString<320>;
 
 // Why the bound with this code excludes a colour; none where it does not, or is not known.
@@ -63,7 +63,7 @@ fn said(words: &str) -> Sentence {
     text
 }
 
-/// What is said of a node that ends.
+// What is said of a node that ends.
 pub(crate) fn ended(place: &Place, ending: &Ending) -> Sentence {
     match ending {
         Ending::Leaf(true) => said("a solution"),

@@ -107,8 +107,8 @@ fn from_nowhere(place: &Place, color: Color) -> Sentence {
     text
 }
 
-/// Why travel excludes a colour: it needs more moves than it has, or no number of moves is enough; none
-/// where it does not.
+// Why travel excludes a colour: it needs more moves than it has, or no number of moves is enough; none
+// where it does not.
 pub(crate) fn travel_of(place: &Place, color: Color) -> Option<Sentence> {
     let own = own_plies(place, color);
     let Some(need) = need(color, place.diagram, place.position) else {

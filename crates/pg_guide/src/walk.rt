@@ -273,8 +273,8 @@ fn all_trees<S: Source>(
     }
 }
 
-/// Walks over a certificate of at most so many records; what was found, and how the walk ended. What is
-/// found before the walk stops is kept. The list of games is taken from `alloc`, nothing else takes memory.
+// Walks over a certificate of at most so many records; what was found, and how the walk ended. What is
+// found before the walk stops is kept. The list of games is taken from `alloc`, nothing else takes memory.
 pub(crate) fn walk<S: Source>(
     alloc: Global,
     question: &Question,

@@ -150,7 +150,7 @@ fn put_expanded<W: Sink>(question: &Question, machine: &Machine, out: &mut W) ->
     Ok(())
 }
 
-/// Appends what was found along the line: a line for each node to where the proof ends it.
+// Appends what was found along the line: a line for each node to where the proof ends it.
 pub(crate) fn put_found<W: Sink>(
     question: &Question,
     machine: &Machine,
@@ -167,7 +167,7 @@ pub(crate) fn put_found<W: Sink>(
     }
 }
 
-/// Appends the last line: that the certificate is right, or why it is refused.
+// Appends the last line: that the certificate is right, or why it is refused.
 pub(crate) fn put_verdict<W: Sink>(fault: Option<&Fault>, out: &mut W) -> Result<(), Refused>
     ensures runs { OnOk result ((W.has_failed out.old ≡ false) × (W.has_failed out.new ≡ false)) }
     ensures fault { OnErr result (W.has_failed out.new ≡ true) }

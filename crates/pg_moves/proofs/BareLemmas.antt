@@ -11,7 +11,7 @@ use Rattle.pg_board.specs.Men.{man, other, color_eq, color_decides, kind_eq, is_
 use Rattle.pg_board.specs.Bits.{has}
 use Rattle.pg_board.specs.Placement.{Placement, get, get_on, without, IsFirst, get-write_same, get-write_other}
 use Rattle.pg_board.specs.Men.{king_of}
-use Rattle.pg_board.specs.Sets.{Shows, AreWords, IsSound, man_in, shown, shows_itself}
+use Rattle.pg_board.specs.numbers.Sets.{Shows, AreWords, IsSound, man_in, shown, shows_itself}
 use Rattle.pg_position.specs.declared.state.State.{State}
 use Rattle.pg_position.specs.Geometry.{IsBetween}
 use Rattle.pg_position.specs.SquareSets.{IsSetOf}

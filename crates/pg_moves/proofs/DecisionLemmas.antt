@@ -1,12 +1,10 @@
 -- What the rules of chess say can be decided: antt has no excluded middle.
-use Rattle.std.proofs.Common.{◌≡◌, ◌≢◌, ℕ, zero, suc, ◌+◌, ◌<◌, ◌≤◌, ◌⊎◌, inl, inr, Option, Some, None, Bool, true, false, refl, ap, subst, arith}
-use Rattle.std.proofs.lemmas.Bool.Decides.{eqb_tells, leb_tells}
+use Rattle.std.proofs.Common.{◌≡◌, ℕ, suc, ◌+◌, ◌⊎◌, inl, inr, Option, Some, None, refl, subst}
 use Rattle.pg_board.specs.declared.man.Color.{Color}
 use Rattle.pg_board.specs.declared.man.Color.TheVariants.{White, Black}
 use Rattle.pg_board.specs.declared.man.Kind.{Kind}
 use Rattle.pg_board.specs.declared.man.Kind.TheVariants.{Pawn, Knight, Bishop, Rook, Queen, King}
 use Rattle.pg_position.specs.declared.rights.Wing.TheVariants.{KingSide, QueenSide}
-use Rattle.pg_board.specs.declared.man.Man.{Man}
 use Rattle.pg_position.specs.declared.state.State.{State}
 use Rattle.pg_position.specs.declared.moves.Move.{Move}
 use Rattle.pg_position.specs.declared.moves.Way.{Way}
@@ -14,120 +12,13 @@ use Rattle.pg_position.specs.declared.moves.Way.TheVariants.{Plain, Capture, Dou
 use Rattle.pg_board.specs.Placement.{Placement as Board, get}
 use Rattle.pg_board.specs.Squares.{file, rank}
 use Rattle.pg_board.specs.Men.{other, man}
+use Rattle.pg_board.specs.lemmas.Decisions.{dec_along, dec_and, dec_and3, dec_and4, dec_and5, dec_or, dec_not, dec_implies, dec_equal, dec_at_most, dec_some_below, dec_all_below, dec_true, dec_option, dec_kind, dec_color, dec_kinds, dec_get}
 use Rattle.pg_position.specs.Geometry.{apart, IsForward, OnOneLine, OnOneDiagonal, InPattern, IsWithin, IsBetween}
 use Rattle.pg_position.specs.Attack.{IsClear, Reaches, AttacksFrom, Attacks}
 use Rattle.pg_position.specs.Position.{Stands, InCheck, king_home, rook_home, holds, ahead}
 use Rattle.pg_position.specs.Step.{home_rank, last_rank, king_crossed, king_target, IsEnemy, Goes, MustPromote, IsWay, after, IsOnBoard, Step, Legal}
 
--- 1 combinators
-
-pub dec_along : {A B : Type 0} → (A → B) → (B → A) → Dec A → Dec B
-dec_along f g (yes a) = yes (f a)
-dec_along f g (no h) = no (λ b. h (g b))
-
-pub dec_and : {A B : Type 0} → Dec A → Dec B → Dec (A × B)
-dec_and (yes a) (yes b) = yes (a, b)
-dec_and (no f) b = no (λ h. f h.0)
-dec_and (yes a) (no f) = no (λ h. f h.1)
-
-pub dec_and3 : {A B C : Type 0} → Dec A → Dec B → Dec C → Dec (A × B × C)
-dec_and3 a b c = dec_along (λ h. (h.0, h.1.0, h.1.1)) (λ h. (h.0, (h.1, h.2))) (dec_and a (dec_and b c))
-
-pub dec_and4 : {A B C D : Type 0} → Dec A → Dec B → Dec C → Dec D → Dec (A × B × C × D)
-dec_and4 a b c d = dec_along (λ h. (h.0, h.1.0, h.1.1, h.1.2)) (λ h. (h.0, (h.1, h.2, h.3))) (dec_and a (dec_and3 b c d))
-
-pub dec_and5 : {A B C D E : Type 0} → Dec A → Dec B → Dec C → Dec D → Dec E → Dec (A × B × C × D × E)
-dec_and5 a b c d e = dec_along (λ h. (h.0, h.1.0, h.1.1, h.1.2, h.1.3)) (λ h. (h.0, (h.1, h.2, h.3, h.4))) (dec_and a (dec_and4 b c d e))
-
-pub dec_or : {A B : Type 0} → Dec A → Dec B → Dec (A ⊎ B)
-dec_or (yes a) b = yes (inl a)
-dec_or (no f) (yes b) = yes (inr b)
-dec_or (no f) (no g) = no (λ h. elim h [ inl a ↦ f a | inr b ↦ g b ])
-
-pub dec_not : {A : Type 0} → Dec A → Dec (¬ A)
-dec_not (yes a) = no (λ f. f a)
-dec_not (no f) = yes f
-
-pub dec_implies : {A B : Type 0} → Dec A → Dec B → Dec (A → B)
-dec_implies (no f) b = yes (λ a. absurd (f a))
-dec_implies (yes a) (yes b) = yes (λ x. b)
-dec_implies (yes a) (no g) = no (λ f. g (f a))
-
--- some number below a bound
-pub dec_some_below : (P : ℕ → Type 0) → ((n : ℕ) → Dec (P n)) → (b : ℕ) → Dec ((n : ℕ) × (n < b) × P n)
-dec_some_below P dec zero = no (λ h. absurd (let low : h.0 < 0 = h.1 in omega arith))
-dec_some_below P dec (suc b) = join (dec_some_below P dec b) (dec b)
-  where
-    join : Dec ((n : ℕ) × (n < b) × P n) → Dec (P b) → Dec ((n : ℕ) × (n < suc b) × P n)
-    join (yes h) here = yes (h.0, (let low : h.0 < b = h.1 in omega arith), h.2)
-    join (no f) (yes h) = yes (b, omega arith, h)
-    join (no f) (no g) = no (λ h. elim (eqb_tells h.0 b) [ inl w ↦ g (subst P w.1 h.2) | inr w ↦ f (h.0, (let low : h.0 < suc b = h.1 in let ne : h.0 ≢ b = w.1 in omega arith), h.2) ])
-
--- each number below a bound
-pub dec_all_below : (P : ℕ → Type 0) → ((n : ℕ) → Dec (P n)) → (b : ℕ) → Dec ((n : ℕ) → n < b → P n)
-dec_all_below P dec b = go (dec_some_below (λ n. ¬ P n) (λ n. dec_not (dec n)) b)
-  where
-    settle : {A : Type 0} → Dec A → (¬ A → ⊥) → A
-    settle (yes a) h = a
-    settle (no f) h = absurd (h f)
-
-    go : Dec ((n : ℕ) × (n < b) × ¬ P n) → Dec ((n : ℕ) → n < b → P n)
-    go (yes h) = no (λ all. h.2 (all h.0 h.1))
-    go (no f) = yes (λ n low. settle (dec n) (λ g. f (n, low, g)))
-
-pub dec_equal : (a b : ℕ) → Dec (a ≡ b)
-dec_equal a b = elim (eqb_tells a b) [ inl w ↦ yes w.1 | inr w ↦ no w.1 ]
-
-pub dec_at_most : (a b : ℕ) → Dec (a ≤ b)
-dec_at_most a b = elim (leb_tells a b) [ inl w ↦ yes w.1 | inr w ↦ no (λ h. omega arith) ]
-
-pub dec_true : (b : Bool) → Dec (b ≡ true)
-dec_true true = yes refl
-dec_true false = no (λ e. cc)
-
-pub dec_option : {A : Type 0} → ((x y : A) → Dec (x ≡ y)) → (o p : Option A) → Dec (o ≡ p)
-dec_option d None None = yes refl
-dec_option d None (Some y) = no (λ e. cc)
-dec_option d (Some x) None = no (λ e. cc)
-dec_option d (Some x) (Some y) = dec_along (λ e. ap Some e) (λ e. cc) (d x y)
-
--- 2 kinds, colours, men, ways
-
-pub dec_kind : (k j : Kind) → Dec (k ≡ j)
-dec_kind Pawn Pawn = yes refl
-dec_kind Knight Knight = yes refl
-dec_kind Bishop Bishop = yes refl
-dec_kind Rook Rook = yes refl
-dec_kind Queen Queen = yes refl
-dec_kind King King = yes refl
-dec_kind k j = no (λ e. cc)
-
-pub dec_color : (c d : Color) → Dec (c ≡ d)
-dec_color White White = yes refl
-dec_color Black Black = yes refl
-dec_color c d = no (λ e. cc)
-
-pub dec_man : (m n : Man) → Dec (m ≡ n)
-dec_man m n = dec_along (λ h i. record { color = h.0 i; kind = h.1 i }) (λ e. (ap (λ (x : Man). x.color) e, ap (λ (x : Man). x.kind) e)) (dec_and (dec_color m.color n.color) (dec_kind m.kind n.kind))
-
-pub dec_kinds : (P : Kind → Type 0) → ((k : Kind) → Dec (P k)) → Dec ((k : Kind) × P k)
-dec_kinds P dec = dec_along out back (dec_or (dec Pawn) (dec_or (dec Knight) (dec_or (dec Bishop) (dec_or (dec Rook) (dec_or (dec Queen) (dec King))))))
-  where
-    out : P Pawn ⊎ (P Knight ⊎ (P Bishop ⊎ (P Rook ⊎ (P Queen ⊎ P King)))) → (k : Kind) × P k
-    out (inl h) = (Pawn, h)
-    out (inr (inl h)) = (Knight, h)
-    out (inr (inr (inl h))) = (Bishop, h)
-    out (inr (inr (inr (inl h)))) = (Rook, h)
-    out (inr (inr (inr (inr (inl h))))) = (Queen, h)
-    out (inr (inr (inr (inr (inr h))))) = (King, h)
-
-    back : ((k : Kind) × P k) → P Pawn ⊎ (P Knight ⊎ (P Bishop ⊎ (P Rook ⊎ (P Queen ⊎ P King))))
-    back (Pawn, h) = inl h
-    back (Knight, h) = inr (inl h)
-    back (Bishop, h) = inr (inr (inl h))
-    back (Rook, h) = inr (inr (inr (inl h)))
-    back (Queen, h) = inr (inr (inr (inr (inl h))))
-    back (King, h) = inr (inr (inr (inr (inr h))))
+-- 1 ways
 
 pub dec_ways : (P : Way → Type 0) → ((w : Way) → Dec (P w)) → Dec ((w : Way) × P w)
 dec_ways P dec = dec_along out back (dec_or (dec Plain) (dec_or (dec Capture) (dec_or (dec DoubleAdvance) (dec_or (dec EnPassant) (dec_or (dec (Castling KingSide)) (dec_or (dec (Castling QueenSide)) (dec_kinds (λ x. P (Promotion x)) (λ x. dec (Promotion x)))))))))
@@ -150,7 +41,7 @@ dec_ways P dec = dec_along out back (dec_or (dec Plain) (dec_or (dec Capture) (d
     back (Castling QueenSide, h) = inr (inr (inr (inr (inr (inl h)))))
     back (Promotion x, h) = inr (inr (inr (inr (inr (inr (x, h))))))
 
--- 3 squares and patterns
+-- 2 squares and patterns
 
 dec_forward : (c : Color) (n r s : ℕ) → Dec (IsForward c n r s)
 dec_forward White n r s = dec_equal (rank s) (rank r + n)
@@ -178,14 +69,11 @@ pub dec_between : (r t s : ℕ) → Dec (IsBetween r t s)
 unfolding IsBetween
 dec_between r t s = dec_and5 (dec_not (dec_equal t r)) (dec_not (dec_equal t s)) (dec_within (file r) (file t) (file s)) (dec_within (rank r) (rank t) (rank s)) (dec_or (dec_and3 (dec_line r t) (dec_line t s) (dec_line r s)) (dec_and (dec_diagonal r t) (dec_diagonal r s)))
 
--- 4 boards
-
-pub dec_holds : (b : Board) (s : ℕ) (o : Option Man) → Dec (get b s ≡ o)
-dec_holds b s o = dec_option dec_man (get b s) o
+-- 3 boards
 
 pub dec_clear : (b : Board) (r s : ℕ) → Dec (IsClear b r s)
 unfolding IsClear
-dec_clear b r s = dec_all_below (λ t. IsBetween r t s → get b t ≡ None) (λ t. dec_implies (dec_between r t s) (dec_holds b t None)) 64
+dec_clear b r s = dec_all_below (λ t. IsBetween r t s → get b t ≡ None) (λ t. dec_implies (dec_between r t s) (dec_get b t None)) 64
 
 -- some man of an option
 dec_some : {A : Type 0} (P : A → Type 0) → ((x : A) → Dec (P x)) → (o : Option A) → Dec ((x : A) × (o ≡ Some x) × P x)
@@ -207,13 +95,13 @@ dec_attacks b c s = dec_some_below (λ r. AttacksFrom b c r s) (λ r. dec_attack
 pub dec_check : (b : Board) (c : Color) → Dec (InCheck b c)
 unfolding InCheck
 dec_check b c = dec_along (λ h. (h.0, h.1, h.2.0, h.2.1)) (λ h. (h.0, h.1, (h.2, h.3)))
-    (dec_some_below (λ k. Stands b c King k × Attacks b (other c) k) (λ k. dec_and (dec_holds b k (Some (man c King))) (dec_attacks b (other c) k)) 64)
+    (dec_some_below (λ k. Stands b c King k × Attacks b (other c) k) (λ k. dec_and (dec_get b k (Some (man c King))) (dec_attacks b (other c) k)) 64)
 
--- 5 steps
+-- 4 steps
 
 dec_enemy : (b : Board) (c : Color) (s : ℕ) → Dec (IsEnemy b c s)
 unfolding IsEnemy
-dec_enemy b c s = dec_kinds (λ k. Stands b (other c) k s) (λ k. dec_holds b s (Some (man (other c) k)))
+dec_enemy b c s = dec_kinds (λ k. Stands b (other c) k s) (λ k. dec_get b s (Some (man (other c) k)))
 
 dec_reaches : (b : Board) (c : Color) (k : Kind) (r s : ℕ) → Dec (Reaches b c k r s)
 dec_reaches b c k r s = dec_and (dec_pattern c k r s) (dec_clear b r s)
@@ -232,15 +120,15 @@ dec_must k c s = dec_and (dec_kind k Pawn) (dec_equal (rank s) (last_rank c))
 
 pub dec_way : (p : State) (k : Kind) (m : Move) (w : Way) → Dec (IsWay p k m w)
 dec_way p k m Plain = dec_along (λ h. record { unpromoted = h.0; stays = h.1; vacant = h.2; goes = h.3 }) (λ h. (h.unpromoted, h.stays, h.vacant, h.goes))
-    (dec_and4 (dec_option dec_kind m.promotion None) (dec_not (dec_must k p.side m.to)) (dec_holds p.board m.to None) (dec_goes p.board p.side k m.from m.to))
+    (dec_and4 (dec_option dec_kind m.promotion None) (dec_not (dec_must k p.side m.to)) (dec_get p.board m.to None) (dec_goes p.board p.side k m.from m.to))
 dec_way p k m Capture = dec_along (λ h. record { unpromoted = h.0; stays = h.1; enemy = h.2; reaches = h.3 }) (λ h. (h.unpromoted, h.stays, h.enemy, h.reaches))
     (dec_and4 (dec_option dec_kind m.promotion None) (dec_not (dec_must k p.side m.to)) (dec_enemy p.board p.side m.to) (dec_reaches p.board p.side k m.from m.to))
 dec_way p k m DoubleAdvance = dec_along (λ h. record { unpromoted = h.0; pawn = h.1.0; home = h.1.1; two = h.1.2; crossed = h.1.3; vacant = h.1.4 }) (λ h. (h.unpromoted, (h.pawn, h.home, h.two, h.crossed, h.vacant)))
-    (dec_and (dec_option dec_kind m.promotion None) (dec_and5 (dec_kind k Pawn) (dec_equal (rank m.from) (home_rank p.side)) (dec_equal m.to (ahead p.side 2 m.from)) (dec_holds p.board (ahead p.side 1 m.from) None) (dec_holds p.board m.to None)))
+    (dec_and (dec_option dec_kind m.promotion None) (dec_and5 (dec_kind k Pawn) (dec_equal (rank m.from) (home_rank p.side)) (dec_equal m.to (ahead p.side 2 m.from)) (dec_get p.board (ahead p.side 1 m.from) None) (dec_get p.board m.to None)))
 dec_way p k m EnPassant = dec_along (λ h. record { unpromoted = h.0; pawn = h.1; passed = h.2; reaches = h.3 }) (λ h. (h.unpromoted, h.pawn, h.passed, h.reaches))
     (dec_and4 (dec_option dec_kind m.promotion None) (dec_kind k Pawn) (dec_option dec_equal p.passed (Some m.to)) (dec_pattern p.side Pawn m.from m.to))
 dec_way p k m (Promotion x) = dec_along (λ h. record { promoted = h.0; piece = h.1; must = h.2; moves = h.3 }) (λ h. (h.promoted, h.piece, h.must, h.moves))
-    (dec_and4 (dec_option dec_kind m.promotion (Some x)) (dec_and (dec_not (dec_kind x Pawn)) (dec_not (dec_kind x King))) (dec_must k p.side m.to) (dec_or (dec_and (dec_holds p.board m.to None) (dec_goes p.board p.side k m.from m.to)) (dec_and (dec_enemy p.board p.side m.to) (dec_reaches p.board p.side k m.from m.to))))
+    (dec_and4 (dec_option dec_kind m.promotion (Some x)) (dec_and (dec_not (dec_kind x Pawn)) (dec_not (dec_kind x King))) (dec_must k p.side m.to) (dec_or (dec_and (dec_get p.board m.to None) (dec_goes p.board p.side k m.from m.to)) (dec_and (dec_enemy p.board p.side m.to) (dec_reaches p.board p.side k m.from m.to))))
 dec_way p k m (Castling w) = dec_along (λ h. record { unpromoted = h.0.0; king = h.0.1; home = h.0.2; target = h.0.3; right = h.1.0; clear = h.1.1; safe_home = h.1.2; safe_crossed = h.1.3; safe_target = h.1.4 }) (λ h. ((h.unpromoted, h.king, h.home, h.target), (h.right, h.clear, h.safe_home, h.safe_crossed, h.safe_target)))
     (dec_and (dec_and4 (dec_option dec_kind m.promotion None) (dec_kind k King) (dec_equal m.from (king_home p.side)) (dec_equal m.to (king_target p.side w))) (dec_and5 (dec_true (holds p.rights p.side w)) (dec_clear p.board (king_home p.side) (rook_home p.side w)) (dec_not (dec_attacks p.board (other p.side) (king_home p.side))) (dec_not (dec_attacks p.board (other p.side) (king_crossed p.side w))) (dec_not (dec_attacks p.board (other p.side) (king_target p.side w)))))
 
@@ -258,7 +146,7 @@ legal_back p m (q, ((k, w, on, stands, way, e), safe)) = (k, w, ((on, stands), (
 
 dec_legal_by : (p : State) (m : Move) (k : Kind) (w : Way) → Dec (LegalBy p m k w)
 unfolding LegalBy
-dec_legal_by p m k w = dec_and (dec_and (dec_and (dec_at_most (suc m.from) 64) (dec_at_most (suc m.to) 64)) (dec_holds p.board m.from (Some (man p.side k)))) (dec_and (dec_way p k m w) (dec_not (dec_check (after p m w).board p.side)))
+dec_legal_by p m k w = dec_and (dec_and (dec_and (dec_at_most (suc m.from) 64) (dec_at_most (suc m.to) 64)) (dec_get p.board m.from (Some (man p.side k)))) (dec_and (dec_way p k m w) (dec_not (dec_check (after p m w).board p.side)))
 
 -- for every state, position or not
 pub dec_legal : (p : State) (m : Move) → Dec ((q : State) × Legal p m q)

@@ -20,18 +20,18 @@ use Rattle.pg_position.specs.Geometry.{IsForward, InPattern}
 use Rattle.pg_position.specs.Attack.{Reaches, Attacks}
 use Rattle.pg_position.specs.SquareSets.{IsSetOf, HasNoneFrom, IsFirstFrom}
 use Rattle.pg_position.specs.Position.{Stands, IsOnlyKing, HasOneKing, InCheck, IsPosition}
-use Rattle.pg_position.specs.Step.{Goes, IsOnBoard, last_rank}
-use Rattle.pg_position.proofs.StepLemmas.{same_kind, not_other}
+use Rattle.pg_position.specs.Step.{Goes, IsOnBoard, home_rank, last_rank}
+use Rattle.pg_position.proofs.StepLemmas.{same_kind}
 use Rattle.pg_position.proofs.ReachLemmas.{set_or}
-use Rattle.pg_moves.specs.Moves.{promotion_rank, IsLegal}
-use Rattle.pg_moves.specs.Places.{place, place_of, NoneFrom, IsFirstMove, IsCountBelow, Adds}
-use Rattle.pg_moves.specs.Sources.{IsExact}
-use Rattle.pg_moves.specs.Targets.{plain_move, Strides, Leaps, Advances, Passes, IsFree, FreeOff, IsOrdinary}
+use Rattle.pg_moves.specs.Moves.{promotion_number, IsLegal}
+use Rattle.pg_moves.specs.numbers.Places.{place, place_of, NoneFrom, IsFirstMove, IsCountBelow, Adds}
+use Rattle.pg_moves.specs.numbers.Sources.{IsExact}
+use Rattle.pg_moves.specs.Targets.{plain_move, Strides, Leaps, Advances, CapturesEnPassant, IsFree, FreeOff, IsOrdinary}
 use Rattle.pg_moves.specs.Counts.{IsGameCount}
 use Rattle.pg_moves.proofs.PlaceLemmas.{promotion_low}
 use Rattle.pg_moves.proofs.ListLemmas.{on_board, list_start, list_skip, list_push, list_whole, moves_of, move_list_is}
 use Rattle.pg_moves.proofs.TargetLemmas.{Goals, legal_goals}
-use Rattle.pg_moves.proofs.SearchLemmas.{leap_last, none_ranks, promotes}
+use Rattle.pg_moves.proofs.SearchLemmas.{leap_last, none_numbers, promotes}
 use Rattle.pg_moves.proofs.ShelterLemmas.{sure_legal, unseen_lifted}
 use Rattle.pg_moves.proofs.PlayLemmas.{play_of}
 use Rattle.pg_moves.proofs.CountLemmas.{games_of, number_of, number_more, number_is}
@@ -71,18 +71,18 @@ module _ (p : State) (r set : ℕ) (is : IsExact p r set) where
   unfolding IsExact
   inside m l f = let h : (m.promotion ≡ None) × (m.to < 64) × (has set m.to ≡ true) = (is m f).0 l in (h.1, h.2)
 
-  plain : (m : Move) → IsLegal p m → m.from ≡ r → promotion_rank m.promotion ≡ 0
+  plain : (m : Move) → IsLegal p m → m.from ≡ r → promotion_number m.promotion ≡ 0
   unfolding IsExact
-  plain m l f = ap promotion_rank ((is m f).0 l).0
+  plain m l f = ap promotion_number ((is m f).0 l).0
 
   -- no move to the square s, from promotion n on
   exact_none : (s n : ℕ) → s < 64 → n ≤ 7 → (has set s ≡ false) ⊎ (n ≢ 0) → NoneFrom p (place_of r s n) (place_of r s 7)
-  exact_none s n on few why = none_ranks p r s n 7 on (omega arith) (λ m l f t a b. elim why [
+  exact_none s n on few why = none_numbers p r s n 7 on (omega arith) (λ m l f t a b. elim why [
     | inl e ↦ (
         let yes_there : has set m.to ≡ true = (inside m l f).1 in
         let moved : has set m.to ≡ has set s = ap (has set) t in
         cc)
-    | inr e ↦ (let none : promotion_rank m.promotion ≡ 0 = plain m l f in omega arith)
+    | inr e ↦ (let none : promotion_number m.promotion ≡ 0 = plain m l f in omega arith)
   ])
 
   exact_step : (t n : ℕ) (b : Bool) → t < 64 → has set t ≡ b → IsCountBelow p (place_of r t 0) n → IsCountBelow p (place_of r (suc t) 0) (n + one b)
@@ -197,17 +197,17 @@ pub piece_ordinary : (p : State) (k : Kind) (r : ℕ) → k ≢ Pawn → IsOrdin
 unfolding IsOrdinary
 piece_ordinary p k r ne s on = (λ a must. ne must.0, λ e. absurd (ne e))
 
-early : (c : Color) (r s : ℕ) → IsForward c 1 r s → (c ≡ White → rank r ≢ 7) → (c ≡ Black → rank r ≢ 2) → rank s ≢ last_rank c
-early White r s f a b e = let n : rank r ≢ 7 = a refl in omega arith
-early Black r s f a b e = let n : rank r ≢ 2 = b refl in omega arith
+early : (c : Color) (r s : ℕ) → IsForward c 1 r s → rank r ≢ home_rank (other c) → rank s ≢ last_rank c
+early White r s f far e = omega arith
+early Black r s f far e = omega arith
 
-pub pawn_ordinary : (p : State) (k : Kind) (r set : ℕ) → IsSetOf set (Passes p r) → set ≡ 0 → (p.side ≡ White → rank r ≢ 7) → (p.side ≡ Black → rank r ≢ 2) → IsOrdinary p k r
+pub pawn_ordinary : (p : State) (k : Kind) (r set : ℕ) → IsSetOf set (CapturesEnPassant p r) → set ≡ 0 → rank r ≢ home_rank (other p.side) → IsOrdinary p k r
 unfolding IsOrdinary Advances Strides Leaps Goes InPattern
-pawn_ordinary p k r set is none white black s on = (
+pawn_ordinary p k r set is none far s on = (
   λ a must. (let pawn : Advances p.board p.side Pawn r s = subst (λ (j : Kind). Advances p.board p.side j r s) must.0 a in
       elim pawn [
-        | inl (inl h) ↦ early p.side r s h.1.1 white black must.1
-        | inl (inr h) ↦ early p.side r s h.1.0.1 white black must.1
+        | inl (inl h) ↦ early p.side r s h.1.1 far must.1
+        | inl (inr h) ↦ early p.side r s h.1.0.1 far must.1
         | inr h ↦ leap_last p.side r s h.1.1 h.1.0 must.1
       ]),
   λ e h. (let is_there : has set s ≡ true = (is s on).1 h in let off : has set s ≡ false = ap (λ x. has x s) none ∙ has-none s in cc),
@@ -219,12 +219,12 @@ unfolding Adds
 walk_start p low c count = let same : c ≡ c + 0 = omega arith in subst (λ x. IsCountBelow p low x) same count
 
 -- a step of the walk over the moves of the man on r
-pub walk_step : (p : State) (r to n t : ℕ) (m : Move) (f g : ℕ) → Adds p (place_of r 0 0) (place_of r to n) t → IsFirstMove p (place_of r to n) (place_of (r + 1) 0 0) m → f ≡ m.to → g ≡ promotion_rank m.promotion → Adds p (place_of r 0 0) (place_of r f (g + 1)) (t + 1)
+pub walk_step : (p : State) (r to n t : ℕ) (m : Move) (f g : ℕ) → Adds p (place_of r 0 0) (place_of r to n) t → IsFirstMove p (place_of r to n) (place_of (r + 1) 0 0) m → f ≡ m.to → g ≡ promotion_number m.promotion → Adds p (place_of r 0 0) (place_of r f (g + 1)) (t + 1)
 unfolding Adds
 walk_step p r to n t m f g adds first a b c count =
     let on : IsOnBoard m = on_board p m first.legal in
     let far : m.to < 64 = on.1 in
-    let few : promotion_rank m.promotion < 7 = promotion_low m.promotion in
+    let few : promotion_number m.promotion < 7 = promotion_low m.promotion in
     let above : place_of r to n ≤ place m = first.from_low in
     let below : place m < place_of (r + 1) 0 0 = first.to_high in
     let from : m.from ≡ r = omega arith in
@@ -234,11 +234,11 @@ walk_step p r to n t m f g adds first a b c count =
     let same : c + t + 1 ≡ c + (t + 1) = omega arith in
     subst (λ x. IsCountBelow p x (c + (t + 1))) at (subst (λ x. IsCountBelow p (place m + 1) x) same pushed)
 
-pub walk_far : (p : State) (r to n : ℕ) (m : Move) → IsFirstMove p (place_of r to n) (place_of (r + 1) 0 0) m → (to * 7 + n ≤ m.to * 7 + promotion_rank m.promotion)
+pub walk_far : (p : State) (r to n : ℕ) (m : Move) → IsFirstMove p (place_of r to n) (place_of (r + 1) 0 0) m → (to * 7 + n ≤ m.to * 7 + promotion_number m.promotion)
 walk_far p r to n m first =
     let on : IsOnBoard m = on_board p m first.legal in
     let far : m.to < 64 = on.1 in
-    let few : promotion_rank m.promotion < 7 = promotion_low m.promotion in
+    let few : promotion_number m.promotion < 7 = promotion_low m.promotion in
     let above : place_of r to n ≤ place m = first.from_low in
     let below : place m < place_of (r + 1) 0 0 = first.to_high in
     omega arith
@@ -253,12 +253,9 @@ advances_at p k r set b c eb ec is = subst (λ (d : Placement). IsSetOf set (Adv
 pub exact_free : (p : State) (k : Kind) (r set : ℕ) (b : Placement) (c : Color) → b ≡ p.board → c ≡ p.side → r < 64 → Stands p.board p.side k r → IsFree p k r → IsOrdinary p k r → IsSetOf set (Advances b c k r) → IsExact p r set
 exact_free p k r set b c eb ec low here free plain is = free_exact p k r set low here free plain (advances_at p k r set b c eb ec is)
 
--- a rank that a test has ruled out, for the colour at hand
-pub rank_ruled_out : (c d : Color) (r n k : ℕ) → n ≡ rank r → eqb n k ≡ false → c ≡ d → rank r ≢ k
-rank_ruled_out c d r n k e off same f = eqb-false n k off (e ∙ f)
-
-pub other_color : {A : Type 0} (c d : Color) → d ≡ c → d ≡ other c → A
-other_color c d e f = absurd (not_other c (sym e ∙ f))
+-- a home rank of the other side that a test has ruled out
+pub rank_ruled_out : (c d : Color) (r n k : ℕ) → n ≡ rank r → k ≡ home_rank d → d ≡ other c → eqb n k ≡ false → rank r ≢ home_rank (other c)
+rank_ruled_out c d r n k e h same off f = eqb-false n k off (e ∙ f ∙ sym (h ∙ ap home_rank same))
 
 -- ---- the next move of such a man
 from_there : (r to n f t j : ℕ) → n ≤ 7 → t < 64 → j < 7 → place_of r to n ≤ place_of f t j → place_of f t j < place_of (r + 1) 0 0 → f ≡ r
@@ -266,13 +263,13 @@ from_there r to n f t j a b c d e = omega arith
 
 module _ (p : State) (r set : ℕ) (is : IsExact p r set) (to n at : ℕ) (few : n ≤ 7) (same : n ≡ 0 → at ≡ to) (later : n ≢ 0 → at ≡ to + 1) where
   -- a legal move from this place on goes to a square of the set from `at` on
-  exact_past : (m : Move) → IsLegal p m → place_of r to n ≤ place m → place m < place_of (r + 1) 0 0 → (m.from ≡ r) × (promotion_rank m.promotion ≡ 0) × (at ≤ m.to) × (m.to < 64) × (has set m.to ≡ true)
+  exact_past : (m : Move) → IsLegal p m → place_of r to n ≤ place m → place m < place_of (r + 1) 0 0 → (m.from ≡ r) × (promotion_number m.promotion ≡ 0) × (at ≤ m.to) × (m.to < 64) × (has set m.to ≡ true)
   exact_past m l above below =
       let on : IsOnBoard m = on_board p m l in
       let far : m.to < 64 = on.1 in
-      let small : promotion_rank m.promotion < 7 = promotion_low m.promotion in
-      let from : m.from ≡ r = from_there r to n m.from m.to (promotion_rank m.promotion) few far small above below in
-      let none : promotion_rank m.promotion ≡ 0 = plain p r set is m l from in
+      let small : promotion_number m.promotion < 7 = promotion_low m.promotion in
+      let from : m.from ≡ r = from_there r to n m.from m.to (promotion_number m.promotion) few far small above below in
+      let none : promotion_number m.promotion ≡ 0 = plain p r set is m l from in
       let reached : at ≤ m.to = elim (eqb_tells n 0) [
         | inl w ↦ (let e : at ≡ to = same w.1 in let z : n ≡ 0 = w.1 in omega arith)
         | inr w ↦ (let e : at ≡ to + 1 = later w.1 in let z : n ≢ 0 = w.1 in omega arith)
@@ -294,9 +291,9 @@ module _ (p : State) (r set : ℕ) (is : IsExact p r set) (to n at : ℕ) (few :
           | inl w ↦ w.1
           | inr w ↦ absurd (
               let near : place m < place_of r s 0 = w.1 in
-              let h : (m.from ≡ r) × (promotion_rank m.promotion ≡ 0) × (at ≤ m.to) × (m.to < 64) × (has set m.to ≡ true) = exact_past m l above (omega arith) in
+              let h : (m.from ≡ r) × (promotion_number m.promotion ≡ 0) × (at ≤ m.to) × (m.to < 64) × (has set m.to ≡ true) = exact_past m l above (omega arith) in
               let from : m.from ≡ r = h.0 in
-              let none : promotion_rank m.promotion ≡ 0 = h.1 in
+              let none : promotion_number m.promotion ≡ 0 = h.1 in
               let off : has set m.to ≡ false = first.before m.to h.2 (omega arith) in
               let is_there : has set m.to ≡ true = h.4 in
               cc)
@@ -307,12 +304,12 @@ module _ (p : State) (r set : ℕ) (is : IsExact p r set) (to n at : ℕ) (few :
   exact_last none m l above = elim (leb_tells (place_of (r + 1) 0 0) (place m)) [
     | inl w ↦ w.1
     | inr w ↦ absurd (
-        let h : (m.from ≡ r) × (promotion_rank m.promotion ≡ 0) × (at ≤ m.to) × (m.to < 64) × (has set m.to ≡ true) = exact_past m l above w.1 in
+        let h : (m.from ≡ r) × (promotion_number m.promotion ≡ 0) × (at ≤ m.to) × (m.to < 64) × (has set m.to ≡ true) = exact_past m l above w.1 in
         let off : has set m.to ≡ false = none m.to h.2 h.3 in
         let is_there : has set m.to ≡ true = h.4 in
         cc)
   ]
 
-pub free_there : (p : State) (k : Kind) (r tried : ℕ) → r < 64 → Stands p.board p.side k r → FreeOff p tried → has tried r ≡ false → IsFree p k r
+pub free_there : (p : State) (k : Kind) (r maybe_pinned : ℕ) → r < 64 → Stands p.board p.side k r → FreeOff p maybe_pinned → has maybe_pinned r ≡ false → IsFree p k r
 unfolding FreeOff
-free_there p k r tried low here free off = free k r low here off
+free_there p k r maybe_pinned low here free off = free k r low here off

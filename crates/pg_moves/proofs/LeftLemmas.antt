@@ -7,10 +7,10 @@ use Rattle.pg_position.specs.declared.state.State.{State}
 use Rattle.pg_position.specs.declared.moves.Move.{Move}
 use Rattle.pg_position.specs.SquareSets.{HasNoneFrom, IsFirstFrom}
 use Rattle.pg_moves.specs.Left.{MovesLeft, IsFound, IsAhead}
-use Rattle.pg_moves.specs.Sources.{IsSource}
+use Rattle.pg_moves.specs.numbers.Sources.{IsSource}
 use Rattle.pg_moves.specs.declared.left.Ahead.{Ahead}
-use Rattle.pg_moves.specs.Moves.{promotion_rank, IsNext, IsLast}
-use Rattle.pg_moves.specs.Places.{place, place_of, NoneFrom, IsFirstMove}
+use Rattle.pg_moves.specs.Moves.{promotion_number, IsNext, IsLast}
+use Rattle.pg_moves.specs.numbers.Places.{place, place_of, NoneFrom, IsFirstMove}
 use Rattle.pg_moves.specs.declared.sources.Source.{Source}
 use Rattle.pg_moves.proofs.ListLemmas.{on_board}
 use Rattle.pg_moves.proofs.PlaceLemmas.{promotion_low}
@@ -21,7 +21,7 @@ there : (r to n f t j : ℕ) → n ≤ 7 → t < 64 → j < 7 → place_of r to 
 there r to n f t j a b c d e = omega arith
 
 pub found_there : (p : State) (r to n : ℕ) (m : Move) → n ≤ 7 → IsFirstMove p (place_of r to n) (place_of (r + 1) 0 0) m → m.from ≡ r
-found_there p r to n m few f = there r to n m.from m.to (promotion_rank m.promotion) few (on_board p m f.legal).1 (promotion_low m.promotion) f.from_low f.to_high
+found_there p r to n m few f = there r to n m.from m.to (promotion_number m.promotion) few (on_board p m f.legal).1 (promotion_low m.promotion) f.from_low f.to_high
 
 pub source_there : (p : State) (r to n : ℕ) (m : Move) (s : Source) → n ≤ 7 → IsFirstMove p (place_of r to n) (place_of (r + 1) 0 0) m → IsSource p r s → IsSource p m.from s
 source_there p r to n m s few f h = subst (λ (x : ℕ). IsSource p x s) (sym (found_there p r to n m few f)) h
@@ -42,14 +42,14 @@ beyond_end p set from at own le none rest = own_end p set from 0 0 own at le non
 
 -- ---- after a move
 module _ (p : State) (last : Move) (from : last.from < 64) (to : last.to < 64) (low next : ℕ) (at : low ≡ place last + 1) (beyond : next ≡ place_of (last.from + 1) 0 0) where
-  ends : promotion_rank last.promotion < 7
+  ends : promotion_number last.promotion < 7
   ends = promotion_low last.promotion
 
   pub next_same : (m : Move) → IsFirstMove p low (place_of (last.from + 1) 0 0) m → IsNext p (Some last) m
   next_same m f = next_found p (Some last) m (from, to) (first_block p (place last + 1) (place last + 1) low (place_of (last.from + 1) 0 0) 28672 m (none_yet p _ _ (omega arith)) f (omega arith) (inl (omega arith)) (omega arith))
 
   pub next_other : (m : Move) → NoneFrom p low (place_of (last.from + 1) 0 0) → IsFirstMove p next 28672 m → IsNext p (Some last) m
-  next_other m none f = next_found p (Some last) m (from, to) (let b : promotion_rank last.promotion < 7 = ends in first_block p (place last + 1) next next 28672 28672 m (none_then p (place last + 1) (place last + 1) low next (none_yet p _ _ (omega arith)) (subst (λ n. NoneFrom p low n) (sym beyond) none) (omega arith)) f (omega arith) (inr refl) (omega arith))
+  next_other m none f = next_found p (Some last) m (from, to) (let b : promotion_number last.promotion < 7 = ends in first_block p (place last + 1) next next 28672 28672 m (none_then p (place last + 1) (place last + 1) low next (none_yet p _ _ (omega arith)) (subst (λ n. NoneFrom p low n) (sym beyond) none) (omega arith)) f (omega arith) (inr refl) (omega arith))
 
   pub next_over : NoneFrom p low (place_of (last.from + 1) 0 0) → NoneFrom p next 28672 → IsLast p (Some last)
   next_over none rest = next_none p (Some last) (from, to) (none_then p (place last + 1) next next 28672 (none_then p (place last + 1) (place last + 1) low next (none_yet p _ _ (omega arith)) (subst (λ n. NoneFrom p low n) (sym beyond) none) (omega arith)) rest (omega arith))

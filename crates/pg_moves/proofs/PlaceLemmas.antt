@@ -9,17 +9,18 @@ use Rattle.std.proofs.lemmas.Cmp.{nat_cmp_total, on_total, then_total}
 use Rattle.std.proofs.lemmas.Bool.Decides.{eqb_tells}
 use Rattle.std.proofs.lemmas.List.Elements.{Contains-append_left, Contains-push, Contains-push_cases}
 use Rattle.pg_board.specs.declared.man.Kind.{Kind}
+use Rattle.pg_board.specs.Tally.{below_seven}
 use Rattle.pg_board.specs.declared.man.Kind.TheVariants.{Pawn, Knight, Bishop, Rook, Queen, King}
 use Rattle.pg_position.specs.declared.moves.Move.{Move}
 use Rattle.pg_position.specs.Step.{IsOnBoard}
-use Rattle.pg_moves.specs.Moves.{promotion_rank, move_cmp}
-use Rattle.pg_moves.specs.Places.{place}
+use Rattle.pg_moves.specs.Moves.{promotion_number, move_cmp}
+use Rattle.pg_moves.specs.numbers.Places.{place}
 use Rattle.pg_moves.proofs.SortLemmas.{sorted_push, sorted_none, Contains-none}
 
 pub move_cmp_total : IsTotalOrder move_cmp
-move_cmp_total = then_total (on_total (λ (m : Move). m.from) nat_cmp_total) (then_total (on_total (λ (m : Move). m.to) nat_cmp_total) (on_total (λ (m : Move). promotion_rank m.promotion) nat_cmp_total))
+move_cmp_total = then_total (on_total (λ (m : Move). m.from) nat_cmp_total) (then_total (on_total (λ (m : Move). m.to) nat_cmp_total) (on_total (λ (m : Move). promotion_number m.promotion) nat_cmp_total))
 
--- promotions by their rank
+-- promotions by their number
 pub promotion_of : ℕ → Option Kind
 promotion_of zero = None
 promotion_of (suc zero) = Some Pawn
@@ -29,7 +30,7 @@ promotion_of (suc (suc (suc (suc zero)))) = Some Rook
 promotion_of (suc (suc (suc (suc (suc zero))))) = Some Queen
 promotion_of _ = Some King
 
-pub promotion_back : (o : Option Kind) → promotion_of (promotion_rank o) ≡ o
+pub promotion_back : (o : Option Kind) → promotion_of (promotion_number o) ≡ o
 unfolding promotion_of
 promotion_back None = refl
 promotion_back (Some Pawn) = refl
@@ -39,7 +40,7 @@ promotion_back (Some Rook) = refl
 promotion_back (Some Queen) = refl
 promotion_back (Some King) = refl
 
-pub promotion_low : (o : Option Kind) → promotion_rank o < 7
+pub promotion_low : (o : Option Kind) → promotion_number o < 7
 promotion_low None = omega arith
 promotion_low (Some Pawn) = omega arith
 promotion_low (Some Knight) = omega arith
@@ -48,19 +49,12 @@ promotion_low (Some Rook) = omega arith
 promotion_low (Some Queen) = omega arith
 promotion_low (Some King) = omega arith
 
-pub rank_back : (n : ℕ) → n < 7 → promotion_rank (promotion_of n) ≡ n
+pub number_back : (n : ℕ) → n < 7 → promotion_number (promotion_of n) ≡ n
 unfolding promotion_of
-rank_back zero h = refl
-rank_back (suc zero) h = refl
-rank_back (suc (suc zero)) h = refl
-rank_back (suc (suc (suc zero))) h = refl
-rank_back (suc (suc (suc (suc zero)))) h = refl
-rank_back (suc (suc (suc (suc (suc zero))))) h = refl
-rank_back (suc (suc (suc (suc (suc (suc zero)))))) h = refl
-rank_back (suc (suc (suc (suc (suc (suc (suc n))))))) h = absurd (omega arith)
+number_back = below_seven (λ n. promotion_number (promotion_of n) ≡ n) (refl, refl, refl, refl, refl, refl, refl)
 
 -- moves that tie are one
-pub same_parts : (a b : Move) → a.from ≡ b.from → a.to ≡ b.to → promotion_rank a.promotion ≡ promotion_rank b.promotion → a ≡ b
+pub same_parts : (a b : Move) → a.from ≡ b.from → a.to ≡ b.to → promotion_number a.promotion ≡ promotion_number b.promotion → a ≡ b
 same_parts a b e f g i = record { from = e i; to = f i; promotion = (sym (promotion_back a.promotion) ∙ ap promotion_of g ∙ promotion_back b.promotion) i }
 
 less_is : (x y : ℕ) → x < y → nat_cmp x y ≡ Less
@@ -72,24 +66,24 @@ equal_is x y h = sym (nat_cmp_is x y Equal h)
 -- on the board the order is that of the places
 pub place_less : (a b : Move) → a.to < 64 → b.to < 64 → place a < place b → move_cmp a b ≡ Less
 place_less a b s t h =
-    let ra : promotion_rank a.promotion < 7 = promotion_low a.promotion in
-    let rb : promotion_rank b.promotion < 7 = promotion_low b.promotion in
+    let ra : promotion_number a.promotion < 7 = promotion_low a.promotion in
+    let rb : promotion_number b.promotion < 7 = promotion_low b.promotion in
     elim (eqb_tells a.from b.from) [
       | inl v ↦ elim (eqb_tells a.to b.to) [
-        | inl w ↦ (let low : promotion_rank a.promotion < promotion_rank b.promotion = (let e : a.from ≡ b.from = v.1 in let f : a.to ≡ b.to = w.1 in omega arith) in
-            ap (λ o. ordering_then o (ordering_then (nat_cmp a.to b.to) (nat_cmp (promotion_rank a.promotion) (promotion_rank b.promotion)))) (equal_is a.from b.from v.1) ∙ ap (λ o. ordering_then o (nat_cmp (promotion_rank a.promotion) (promotion_rank b.promotion))) (equal_is a.to b.to w.1) ∙ less_is (promotion_rank a.promotion) (promotion_rank b.promotion) low)
+        | inl w ↦ (let low : promotion_number a.promotion < promotion_number b.promotion = (let e : a.from ≡ b.from = v.1 in let f : a.to ≡ b.to = w.1 in omega arith) in
+            ap (λ o. ordering_then o (ordering_then (nat_cmp a.to b.to) (nat_cmp (promotion_number a.promotion) (promotion_number b.promotion)))) (equal_is a.from b.from v.1) ∙ ap (λ o. ordering_then o (nat_cmp (promotion_number a.promotion) (promotion_number b.promotion))) (equal_is a.to b.to w.1) ∙ less_is (promotion_number a.promotion) (promotion_number b.promotion) low)
         | inr w ↦ (let low : a.to < b.to = (let e : a.from ≡ b.from = v.1 in let f : a.to ≢ b.to = w.1 in omega arith) in
-            ap (λ o. ordering_then o (ordering_then (nat_cmp a.to b.to) (nat_cmp (promotion_rank a.promotion) (promotion_rank b.promotion)))) (equal_is a.from b.from v.1) ∙ ap (λ o. ordering_then o (nat_cmp (promotion_rank a.promotion) (promotion_rank b.promotion))) (less_is a.to b.to low))
+            ap (λ o. ordering_then o (ordering_then (nat_cmp a.to b.to) (nat_cmp (promotion_number a.promotion) (promotion_number b.promotion)))) (equal_is a.from b.from v.1) ∙ ap (λ o. ordering_then o (nat_cmp (promotion_number a.promotion) (promotion_number b.promotion))) (less_is a.to b.to low))
       ]
       | inr v ↦ (let low : a.from < b.from = (let e : a.from ≢ b.from = v.1 in omega arith) in
-          ap (λ o. ordering_then o (ordering_then (nat_cmp a.to b.to) (nat_cmp (promotion_rank a.promotion) (promotion_rank b.promotion)))) (less_is a.from b.from low))
+          ap (λ o. ordering_then o (ordering_then (nat_cmp a.to b.to) (nat_cmp (promotion_number a.promotion) (promotion_number b.promotion)))) (less_is a.from b.from low))
     ]
 
 -- on the board the place tells the move
 pub same_place : (a b : Move) → a.to < 64 → b.to < 64 → place a ≡ place b → a ≡ b
 same_place a b s t h =
-    let ra : promotion_rank a.promotion < 7 = promotion_low a.promotion in
-    let rb : promotion_rank b.promotion < 7 = promotion_low b.promotion in
+    let ra : promotion_number a.promotion < 7 = promotion_low a.promotion in
+    let rb : promotion_number b.promotion < 7 = promotion_low b.promotion in
     same_parts a b (omega arith) (omega arith) (omega arith)
 
 -- the move at a place
@@ -98,14 +92,14 @@ move_at n = record { from = n / 7 / 64; to = n / 7 % 64; promotion = promotion_o
 
 pub place_at : (n : ℕ) → place (move_at n) ≡ n
 unfolding move_at
-place_at n = let r : promotion_rank (promotion_of (n % 7)) ≡ n % 7 = rank_back (n % 7) (omega arith) in omega arith
+place_at n = let r : promotion_number (promotion_of (n % 7)) ≡ n % 7 = number_back (n % 7) (omega arith) in omega arith
 
 pub at_on_board : (n : ℕ) → n < 28672 → IsOnBoard (move_at n)
 unfolding move_at
 at_on_board n h = (omega arith, omega arith)
 
 pub place_low : (m : Move) → IsOnBoard m → place m < 28672
-place_low m h = let r : promotion_rank m.promotion < 7 = promotion_low m.promotion in let a : m.from < 64 = h.0 in let b : m.to < 64 = h.1 in omega arith
+place_low m h = let r : promotion_number m.promotion < 7 = promotion_low m.promotion in let a : m.from < 64 = h.0 in let b : m.to < 64 = h.1 in omega arith
 
 -- the first n of all moves, in order
 unfoldable pub moves_below : ℕ → List Move

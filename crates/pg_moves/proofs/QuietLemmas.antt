@@ -20,11 +20,11 @@ use Rattle.pg_position.specs.Position.{IsPosition, PawnsClause, Stands, IsVacant
 use Rattle.pg_position.specs.Step.{IsEnemy, Goes, home_rank}
 use Rattle.pg_position.proofs.LineLemmas.{pawn_near}
 use Rattle.pg_position.proofs.ReachLemmas.{set_without}
-use Rattle.pg_moves.specs.Places.{place_of, NoneFrom, IsCountBelow, Adds}
+use Rattle.pg_moves.specs.numbers.Places.{place_of, NoneFrom, IsCountBelow, Adds}
 use Rattle.pg_moves.specs.Counts.{IsGameCount}
-use Rattle.pg_moves.specs.Targets.{IsOwn, Advances, Strides, Leaps, Passes, FreeOff}
+use Rattle.pg_moves.specs.Targets.{IsOwn, Advances, Strides, Leaps, CapturesEnPassant, FreeOff}
 use Rattle.pg_moves.specs.declared.pawns.PawnWays.{PawnWays}
-use Rattle.pg_moves.specs.Pawns.{forward, IsInside, AreWays, IsQuiet, to_left, to_right, moves_from}
+use Rattle.pg_moves.specs.numbers.Pawns.{forward, IsInside, AreWays, IsQuiet, to_left, to_right, moves_from}
 use Rattle.pg_moves.proofs.ShiftLemmas.{itself, total_add}
 use Rattle.pg_moves.proofs.TargetLemmas.{own_set}
 use Rattle.pg_position.proofs.SetLemmas.{set_none}
@@ -37,16 +37,16 @@ unfolding InPattern
 turn White r s (x, y) = (omega arith, omega arith)
 turn Black r s (x, y) = (omega arith, omega arith)
 
-pub passes_back : (p : State) (b : Placement) (c o : Color) (e set : ℕ) (r : Option ℕ) → c ≡ p.side → o ≡ other c → r ≡ Some e → r ≡ p.passed → IsSetOf set (Reaches b o Pawn e) → (q s : ℕ) → q < 64 → s < 64 → Passes p q s → has set q ≡ true
-unfolding Passes IsClear
-passes_back p b c o e set r ec eo some is sees q s l k h =
+pub en_passant_back : (p : State) (b : Placement) (c o : Color) (e set : ℕ) (r : Option ℕ) → c ≡ p.side → o ≡ other c → r ≡ Some e → r ≡ p.passed → IsSetOf set (Reaches b o Pawn e) → (q s : ℕ) → q < 64 → s < 64 → CapturesEnPassant p q s → has set q ≡ true
+unfolding CapturesEnPassant IsClear
+en_passant_back p b c o e set r ec eo some is sees q s l k h =
     let same : s ≡ e = (let f : Some s ≡ Some e = sym h.0 ∙ sym is ∙ some in cc) in
     let there : InPattern (other p.side) Pawn s q = turn p.side q s h.1 in
     let way : InPattern o Pawn e q = subst (λ (d : Color). InPattern d Pawn e q) (sym (eo ∙ ap other ec)) (subst (λ (x : ℕ). InPattern (other p.side) Pawn x q) same there) in
     (sees q l).1 (way, λ t _ bet. absurd (pawn_near o e t q way bet))
 
-pub none_passed : (p : State) (r : Option ℕ) → r ≡ None → r ≡ p.passed → (q s : ℕ) → q < 64 → s < 64 → Passes p q s → has 0 q ≡ true
-unfolding Passes
+pub none_passed : (p : State) (r : Option ℕ) → r ≡ None → r ≡ p.passed → (q s : ℕ) → q < 64 → s < 64 → CapturesEnPassant p q s → has 0 q ≡ true
+unfolding CapturesEnPassant
 none_passed p r none is q s _ _ h = absurd (let e : None ≡ Some s = sym none ∙ is ∙ h.0 in cc)
 
 -- ---- quiet pawns
@@ -54,31 +54,23 @@ start : (c : Color) (q : ℕ) → q < 64 → rank q ≢ 1 → rank q ≢ 8 → r
 start White q l a b h = omega arith
 start Black q l a b h = omega arith
 
-seventh : (c : Color) (q : ℕ) → rank q ≢ home_rank (other c) → c ≡ White → rank q ≢ 7
-seventh White q h e = h
-seventh Black q h e = absurd (let f : Black ≡ White = e in cc)
-
-second : (c : Color) (q : ℕ) → rank q ≢ home_rank (other c) → c ≡ Black → rank q ≢ 2
-second White q h e = absurd (let f : White ≡ Black = e in cc)
-second Black q h e = h
-
 -- what is left of a set once another is taken out
 out_of : (a b q : ℕ) → b < 2 ^ 64 → q < 64 → has (bit_and a (bit_not w64 b)) q ≡ true → (has a q ≡ true) × (has b q ≡ false)
 out_of a b q fit l e =
     let h = (set_without a b fit (itself a) (itself b) q l).0 e in
     (h.0, elim (has b q) as (λ v. has b q ≡ v → has b q ≡ false) [ true ↦ λ t. absurd (h.1 t) | false ↦ λ t. t ] refl)
 
-pub quiet : (p : State) (b : Placement) (c o : Color) (pawn : Man) (pawns tried passing home : ℕ) → b ≡ p.board → c ≡ p.side → pawn ≡ man c Pawn → o ≡ other c
-    → IsPosition p → FreeOff p tried → tried < 2 ^ 64 → passing < 2 ^ 64 → home < 2 ^ 64
+pub quiet : (p : State) (b : Placement) (c o : Color) (pawn : Man) (pawns maybe_pinned passing home : ℕ) → b ≡ p.board → c ≡ p.side → pawn ≡ man c Pawn → o ≡ other c
+    → IsPosition p → FreeOff p maybe_pinned → maybe_pinned < 2 ^ 64 → passing < 2 ^ 64 → home < 2 ^ 64
     → ((q : ℕ) → q < 64 → has pawns q ≡ is_man pawn (get b q))
-    → ((q s : ℕ) → q < 64 → s < 64 → Passes p q s → has passing q ≡ true)
+    → ((q s : ℕ) → q < 64 → s < 64 → CapturesEnPassant p q s → has passing q ≡ true)
     → IsSetOf home (λ q. rank q ≡ home_rank o)
-    → (q : ℕ) → q < 64 → has (bit_and (bit_and (bit_and pawns (bit_not w64 tried)) (bit_not w64 passing)) (bit_not w64 home)) q ≡ true → IsQuiet p q
+    → (q : ℕ) → q < 64 → has (bit_and (bit_and (bit_and pawns (bit_not w64 maybe_pinned)) (bit_not w64 passing)) (bit_not w64 home)) q ≡ true → IsQuiet p q
 unfolding PawnsClause
-quiet p b c o pawn pawns tried passing home eb ec em eo pos free fit fits few are passed at q l e =
+quiet p b c o pawn pawns maybe_pinned passing home eb ec em eo pos free fit fits few are passed at q l e =
     let far = out_of _ home q few l e in
     let calm = out_of _ passing q fits l far.0 in
-    let off = out_of pawns tried q fit l calm.0 in
+    let off = out_of pawns maybe_pinned q fit l calm.0 in
     let there : get b q ≡ Some (man c Pawn) = (is_man_decides (man c Pawn) (get b q)).0 (ap (λ (x : Man). is_man x (get b q)) (sym em) ∙ sym (are q l) ∙ off.0) in
     let here : Stands p.board p.side Pawn q = subst (λ (d : Placement). Stands d p.side Pawn q) eb (subst (λ (d : Color). Stands b d Pawn q) ec there) in
     let not_home : rank q ≢ home_rank (other p.side) = (λ f. (
@@ -87,14 +79,14 @@ quiet p b c o pawn pawns tried passing home eb ec em eo pos free fit fits few ar
     let no : has home q ≡ false = far.1 in
     cc)) in
     let edge : (rank q ≢ 1) × (rank q ≢ 8) = pos.pawns q p.side l here in
-    let none : IsSetOf 0 (Passes p q) = set_none (λ s k h. (
+    let none : IsSetOf 0 (CapturesEnPassant p q) = set_none (λ s k h. (
     let yes : has passing q ≡ true = passed q s l k h in
     let no : has passing q ≡ false = calm.1 in
     cc)) in
     record {
       stands = here;
-      free = free_there p Pawn q tried l here free off.1;
-      ordinary = pawn_ordinary p Pawn q 0 none refl (seventh p.side q not_home) (second p.side q not_home);
+      free = free_there p Pawn q maybe_pinned l here free off.1;
+      ordinary = pawn_ordinary p Pawn q 0 none refl not_home;
       inside = start p.side q l edge.0 edge.1 not_home;
     }
 

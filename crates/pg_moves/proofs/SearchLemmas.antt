@@ -21,8 +21,8 @@ use Rattle.pg_position.specs.Step.{IsOnBoard, IsWay, IsPiece, MustPromote, home_
 use Rattle.pg_position.proofs.StepLemmas.{same_kind}
 use Rattle.pg_position.specs.SquareSets.{HasNoneFrom, IsFirstFrom}
 use Rattle.pg_moves.proofs.TargetLemmas.{own_set}
-use Rattle.pg_moves.specs.Moves.{promotion_rank, move_cmp, IsLegal, IsPast, IsNext, IsLast}
-use Rattle.pg_moves.specs.Places.{place_of, start_after, place, NoneFrom, IsFirstMove, IsListBelow}
+use Rattle.pg_moves.specs.Moves.{promotion_number, move_cmp, IsLegal, IsPast, IsNext, IsLast}
+use Rattle.pg_moves.specs.numbers.Places.{place_of, start_after, place, NoneFrom, IsFirstMove, IsListBelow}
 use Rattle.pg_moves.specs.Targets.{IsOwn, Covers}
 use Rattle.pg_moves.proofs.PlaceLemmas.{move_cmp_total, promotion_low, place_less, same_place, place_low}
 use Rattle.pg_moves.proofs.ListLemmas.{on_board}
@@ -151,37 +151,37 @@ passed_last : (c : Color) (s : ℕ) → rank s ≡ passed_rank c → rank s ≡ 
 passed_last White s h l = omega arith
 passed_last Black s h l = omega arith
 
-piece_rank : (x : Kind) → IsPiece x → (2 ≤ promotion_rank (Some x)) × (promotion_rank (Some x) < 6)
-piece_rank Pawn h = absurd (h.0 refl)
-piece_rank Knight h = (omega arith, omega arith)
-piece_rank Bishop h = (omega arith, omega arith)
-piece_rank Rook h = (omega arith, omega arith)
-piece_rank Queen h = (omega arith, omega arith)
-piece_rank King h = absurd (h.1 refl)
+piece_number : (x : Kind) → IsPiece x → (2 ≤ promotion_number (Some x)) × (promotion_number (Some x) < 6)
+piece_number Pawn h = absurd (h.0 refl)
+piece_number Knight h = (omega arith, omega arith)
+piece_number Bishop h = (omega arith, omega arith)
+piece_number Rook h = (omega arith, omega arith)
+piece_number Queen h = (omega arith, omega arith)
+piece_number King h = absurd (h.1 refl)
 
 -- a pawn that comes to its last rank becomes a piece
-promoted : (p : State) (k : Kind) (m : Move) (w : Way) → IsPosition p → IsWay p k m w → MustPromote k p.side m.to → (2 ≤ promotion_rank m.promotion) × (promotion_rank m.promotion < 6)
+promoted : (p : State) (k : Kind) (m : Move) (w : Way) → IsPosition p → IsWay p k m w → MustPromote k p.side m.to → (2 ≤ promotion_number m.promotion) × (promotion_number m.promotion < 6)
 unfolding IsPassed
 promoted p k m Plain pos h must = absurd (h.stays must)
 promoted p k m Capture pos h must = absurd (h.stays must)
 promoted p k m DoubleAdvance pos h must = absurd (leap_last p.side m.from m.to h.two h.home must.1)
 promoted p k m EnPassant pos h must = absurd (passed_last p.side m.to (pos.passing m.to h.passed).0 must.1)
-promoted p k m (Promotion x) pos h must = subst (λ (o : Option Kind). (2 ≤ promotion_rank o) × (promotion_rank o < 6)) (sym h.promoted) (piece_rank x h.piece)
+promoted p k m (Promotion x) pos h must = subst (λ (o : Option Kind). (2 ≤ promotion_number o) × (promotion_number o < 6)) (sym h.promoted) (piece_number x h.piece)
 promoted p k m (Castling w) pos h must = absurd (let a : k ≡ King = h.king in let b : k ≡ Pawn = must.0 in cc)
 
 -- the promotions of the moves from r to s, from low up to high
-pub none_ranks : (p : State) (r s low high : ℕ) → s < 64 → high ≤ 7 → ((m : Move) → IsLegal p m → m.from ≡ r → m.to ≡ s → low ≤ promotion_rank m.promotion → promotion_rank m.promotion < high → ⊥) → NoneFrom p (place_of r s low) (place_of r s high)
-none_ranks p r s low high on up none x l h = elim (leb_tells (place_of r s high) (place x)) [
+pub none_numbers : (p : State) (r s low high : ℕ) → s < 64 → high ≤ 7 → ((m : Move) → IsLegal p m → m.from ≡ r → m.to ≡ s → low ≤ promotion_number m.promotion → promotion_number m.promotion < high → ⊥) → NoneFrom p (place_of r s low) (place_of r s high)
+none_numbers p r s low high on up none x l h = elim (leb_tells (place_of r s high) (place x)) [
   | inl w ↦ w.1
   | inr w ↦ absurd (
       let to : x.to < 64 = (on_board p x l).1 in
-      let some : promotion_rank x.promotion < 7 = promotion_low x.promotion in
+      let some : promotion_number x.promotion < 7 = promotion_low x.promotion in
       let near : place x < place_of r s high = w.1 in
       none x l (omega arith) (omega arith) (omega arith) (omega arith))
 ]
 
 module _ (p : State) (k : Kind) (r s : ℕ) (pos : IsPosition p) (here : Stands p.board p.side k r) (low : s < 64) where
-  ranks_must : (m : Move) → MustPromote k p.side s → IsLegal p m → m.from ≡ r → m.to ≡ s → (2 ≤ promotion_rank m.promotion) × (promotion_rank m.promotion < 6)
+  ranks_must : (m : Move) → MustPromote k p.side s → IsLegal p m → m.from ≡ r → m.to ≡ s → (2 ≤ promotion_number m.promotion) × (promotion_number m.promotion < 6)
   unfolding Step
   ranks_must m must (q, ((j, w, on, stands, way, e), safe)) f t =
       let there : Stands p.board p.side j r = subst (λ (x : ℕ). Stands p.board p.side j x) f stands in
@@ -189,14 +189,14 @@ module _ (p : State) (k : Kind) (r s : ℕ) (pos : IsPosition p) (here : Stands 
       promoted p j m w pos way (subst (λ (x : ℕ). MustPromote j p.side x) (sym t) (subst (λ (x : Kind). MustPromote x p.side s) same must))
 
   pub before_must : MustPromote k p.side s → NoneFrom p (place_of r s 0) (place_of r s 2)
-  before_must must = none_ranks p r s 0 2 low (omega arith) (λ m l f t a b. let h : (2 ≤ promotion_rank m.promotion) × (promotion_rank m.promotion < 6) = ranks_must m must l f t in omega arith)
+  before_must must = none_numbers p r s 0 2 low (omega arith) (λ m l f t a b. let h : (2 ≤ promotion_number m.promotion) × (promotion_number m.promotion < 6) = ranks_must m must l f t in omega arith)
 
   pub rest_must : MustPromote k p.side s → NoneFrom p (place_of r s 6) (place_of r s 7)
-  rest_must must = none_ranks p r s 6 7 low (omega arith) (λ m l f t a b. let h : (2 ≤ promotion_rank m.promotion) × (promotion_rank m.promotion < 6) = ranks_must m must l f t in omega arith)
+  rest_must must = none_numbers p r s 6 7 low (omega arith) (λ m l f t a b. let h : (2 ≤ promotion_number m.promotion) × (promotion_number m.promotion < 6) = ranks_must m must l f t in omega arith)
 
   pub rest_else : ¬ MustPromote k p.side s → NoneFrom p (place_of r s 1) (place_of r s 7)
-  rest_else no_pawn = none_ranks p r s 1 7 low (omega arith) (λ m l f t a b. elim (promotes p m l) [
-    | inl e ↦ (let none : promotion_rank m.promotion ≡ 0 = ap promotion_rank e in omega arith)
+  rest_else no_pawn = none_numbers p r s 1 7 low (omega arith) (λ m l f t a b. elim (promotes p m l) [
+    | inl e ↦ (let none : promotion_number m.promotion ≡ 0 = ap promotion_number e in omega arith)
     | inr g ↦ no_pawn (let there : Stands p.board p.side Pawn r = subst (λ (x : ℕ). Stands p.board p.side Pawn x) f g.0 in same_kind here there, ap rank (sym t) ∙ g.1)
   ])
 
@@ -222,7 +222,7 @@ target_gap p r set a b covers le up none x l h = elim (leb_tells (place_of r b 0
   | inl w ↦ w.1
   | inr w ↦ absurd (
       let to : x.to < 64 = (on_board p x l).1 in
-      let some : promotion_rank x.promotion < 7 = promotion_low x.promotion in
+      let some : promotion_number x.promotion < 7 = promotion_low x.promotion in
       let near : place x < place_of r b 0 = w.1 in
       let f : x.from ≡ r = omega arith in
       let is : has set x.to ≡ true = covers x l f in
@@ -236,7 +236,7 @@ own_gap p set a b own le up none x l h = elim (leb_tells (place_of b 0 0) (place
   | inl w ↦ w.1
   | inr w ↦ absurd (
       let on : IsOnBoard x = on_board p x l in
-      let some : promotion_rank x.promotion < 7 = promotion_low x.promotion in
+      let some : promotion_number x.promotion < 7 = promotion_low x.promotion in
       let near : place x < place_of b 0 0 = w.1 in
       let is : has set x.from ≡ true = (own_set p.board set p.side own x.from on.0).1 (mover_is p x l) in
       let off : has set x.from ≡ false = none x.from (omega arith) (omega arith) in

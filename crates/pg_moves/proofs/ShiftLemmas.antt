@@ -17,7 +17,7 @@ use Rattle.pg_position.specs.Step.{IsEnemy, home_rank}
 use Rattle.pg_position.proofs.SetLemmas.{and_true}
 use Rattle.pg_position.proofs.ReachLemmas.{set_like}
 use Rattle.pg_moves.specs.declared.pawns.PawnWays.{PawnWays}
-use Rattle.pg_moves.specs.Pawns.{forward, IsInside, AreInside, moves_from}
+use Rattle.pg_moves.specs.numbers.Pawns.{forward, IsInside, AreInside, moves_from}
 use Rattle.pg_moves.proofs.TargetLemmas.{set_and, enemy_set, held_set}
 
 -- ---- shifts

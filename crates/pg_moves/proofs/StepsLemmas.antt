@@ -21,7 +21,7 @@ use Rattle.pg_position.proofs.StepLemmas.{same_kind}
 use Rattle.pg_position.proofs.ReachLemmas.{set_or, set_without}
 use Rattle.pg_position.proofs.SetLemmas.{set_none}
 use Rattle.pg_moves.specs.Moves.{IsLegal}
-use Rattle.pg_moves.specs.Sources.{IsExact}
+use Rattle.pg_moves.specs.numbers.Sources.{IsExact}
 use Rattle.pg_moves.specs.Targets.{plain_move, Strides, Advances}
 use Rattle.pg_moves.proofs.TargetLemmas.{not_own}
 use Rattle.pg_moves.proofs.SearchLemmas.{promotes}

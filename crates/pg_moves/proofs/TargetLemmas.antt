@@ -1,5 +1,5 @@
 -- The sets of squares to which men may go.
-use Rattle.std.proofs.Common.{◌≡◌, ◌≢◌, ℕ, ◌^◌, ◌<◌, ◌⊎◌, inl, inr, ◌↔◌, bit_and, bit_or, w64, Option, Some, None, refl, sym, ap, ◌∙◌, subst}
+use Rattle.std.proofs.Common.{◌≡◌, ◌≢◌, ℕ, ◌^◌, ◌<◌, ◌⊎◌, inl, inr, ◌↔◌, bit_and, bit_or, w64, Option, Some, None, refl, sym, ap, ◌∙◌, subst, arith}
 use Rattle.std.specs.Int.{bit_not}
 use Rattle.std.specs.Bool.{Decides}
 use Rattle.std.proofs.lemmas.Bool.Decides.{Decides-like, Decides-and, Decides-at}
@@ -19,14 +19,14 @@ use Rattle.pg_position.specs.declared.moves.Way.TheVariants.{Plain, Capture, Dou
 use Rattle.pg_position.specs.Geometry.{IsForward, InPattern}
 use Rattle.pg_position.specs.Attack.{IsClear, Reaches}
 use Rattle.pg_position.specs.SquareSets.{IsSetOf}
-use Rattle.pg_position.specs.Position.{Stands, IsVacant, ahead}
+use Rattle.pg_position.specs.Position.{Stands, IsVacant, ahead, HasAhead}
 use Rattle.pg_position.specs.Step.{IsEnemy, Goes, IsWay, Step, home_rank}
 use Rattle.pg_position.proofs.StepLemmas.{same_kind, same_side, not_other}
 use Rattle.pg_position.proofs.LineLemmas.{pawn_near}
 use Rattle.pg_position.proofs.ReachLemmas.{set_like, set_or, set_without}
 use Rattle.pg_position.proofs.SetLemmas.{set_none}
 use Rattle.pg_moves.specs.Moves.{IsLegal}
-use Rattle.pg_moves.specs.Targets.{IsOwn, Strides, Leaps, Advances, Passes, Covers}
+use Rattle.pg_moves.specs.Targets.{IsOwn, Strides, Leaps, Advances, CapturesEnPassant, Covers}
 
 -- ---- sets
 pub set_and : {P Q : ℕ → Type 0} (a b : ℕ) → IsSetOf a P → IsSetOf b Q → IsSetOf (bit_and a b) (λ q. P q × Q q)
@@ -113,6 +113,15 @@ piece_set b c k r reached own n l x h = set_like _ forth back (set_without reach
     back : (q : ℕ) → q < 64 → Strides b c k r q → Reaches b c k r q × ¬ IsOwn b c q
     back q _ s = (elim s [ inl t ↦ (goes_piece b c k r q n).0 t.1 | inr t ↦ t.1 ], not_own b c k r q s)
 
+-- the square in front of a man that has one, and of a man that has none
+pub front_set : (c : Color) (r s n : ℕ) → r < 64 → HasAhead c 1 r → s ≡ ahead c 1 r → IsSetOf n (λ q. q ≡ s) → IsSetOf n (λ q. (file r ≡ file q) × IsForward c 1 r q)
+front_set White r s n low h e set = set_like n (λ q l f. (omega arith, omega arith)) (λ q l (f, g). omega arith) set
+front_set Black r s n low h e set = set_like n (λ q l f. (omega arith, omega arith)) (λ q l (f, g). omega arith) set
+
+pub front_none : (c : Color) (r : ℕ) → ¬ HasAhead c 1 r → IsSetOf 0 (λ q. (file r ≡ file q) × IsForward c 1 r q)
+front_none White r h = set_none (λ q l (f, g). h (omega arith))
+front_none Black r h = set_none (λ q l (f, g). h (omega arith))
+
 pub leap_set : (b : Placement) (c : Color) (r s n : ℕ) → (rank r ≡ home_rank c) × IsVacant b (ahead c 1 r) × IsVacant b (ahead c 2 r) → s ≡ ahead c 2 r → IsSetOf n (λ q. q ≡ s) → IsSetOf n (Leaps b c r)
 unfolding Leaps
 leap_set b c r s n h e set = set_like n (λ q _ f. (h.0, f ∙ e, h.1, rw (f ∙ e) h.2)) (λ q _ l. l.1 ∙ sym e) set
@@ -133,23 +142,23 @@ unfolding Advances
 advance_piece b c k r x n s = set_like x (λ q _ h. inl h) (λ q _ h. elim h [ inl t ↦ t | inr t ↦ absurd (n t.0) ]) s
 
 -- ---- en passant and castling
-pub pass_set : (p : State) (b : Placement) (c : Color) (r s x y : ℕ) → p.side ≡ c → p.passed ≡ Some s → IsSetOf x (Reaches b c Pawn r) → IsSetOf y (λ q. q ≡ s) → IsSetOf (bit_and x y) (Passes p r)
-unfolding Passes IsClear
-pass_set p b c r s x y e f g h = set_like _
+pub en_passant_set : (p : State) (b : Placement) (c : Color) (r s x y : ℕ) → p.side ≡ c → p.passed ≡ Some s → IsSetOf x (Reaches b c Pawn r) → IsSetOf y (λ q. q ≡ s) → IsSetOf (bit_and x y) (CapturesEnPassant p r)
+unfolding CapturesEnPassant IsClear
+en_passant_set p b c r s x y e f g h = set_like _
     (λ q _ t. (f ∙ ap Some (sym t.1), rw e t.0.0))
     (λ q _ t. let way : InPattern c Pawn r q = rw e at t.1 in let same : q ≡ s = (let a : p.passed ≡ Some q = t.0 in cc) in ((way, λ u l bet. absurd (pawn_near c r u q way bet)), same))
     (set_and x y g h)
 
-pub pass_none : (p : State) (r : ℕ) → p.passed ≡ None → IsSetOf 0 (Passes p r)
-unfolding Passes
-pass_none p r e = set_none (λ q _ t. let a : p.passed ≡ Some q = t.0 in cc)
+pub en_passant_none : (p : State) (r : ℕ) → p.passed ≡ None → IsSetOf 0 (CapturesEnPassant p r)
+unfolding CapturesEnPassant
+en_passant_none p r e = set_none (λ q _ t. let a : p.passed ≡ Some q = t.0 in cc)
 
 -- ---- each legal move is an advance, or en passant, or a king's
 unfoldable pub Goals : State → Kind → ℕ → ℕ → Type 0
-Goals p k r s = Advances p.board p.side k r s ⊎ (((k ≡ Pawn) × Passes p r s) ⊎ (k ≡ King))
+Goals p k r s = Advances p.board p.side k r s ⊎ (((k ≡ Pawn) × CapturesEnPassant p r s) ⊎ (k ≡ King))
 
 goals : (p : State) (k : Kind) (m : Move) (w : Way) → IsWay p k m w → Goals p k m.from m.to
-unfolding Goals Advances Strides Leaps Passes
+unfolding Goals Advances Strides Leaps CapturesEnPassant
 goals p k m Plain h = inl (inl (inl (h.vacant, h.goes)))
 goals p k m Capture h = inl (inl (inr (h.enemy, h.reaches)))
 goals p k m DoubleAdvance h = inl (inr (h.pawn, (h.home, h.two, h.crossed, h.vacant)))
@@ -168,7 +177,7 @@ module _ (p : State) (k : Kind) (r : ℕ) (here : Stands p.board p.side k r) (b 
       let same : j ≡ k = same_kind there here in
       (on.1, subst (λ (s : ℕ). Goals p k s m.to) f (subst (λ (x : Kind). Goals p x m.from m.to) same (goals p j m w way)))
 
-  pub covers_pawn : (x y : ℕ) → k ≡ Pawn → IsSetOf x (Advances b c k r) → IsSetOf y (Passes p r) → Covers p r (bit_or x y)
+  pub covers_pawn : (x y : ℕ) → k ≡ Pawn → IsSetOf x (Advances b c k r) → IsSetOf y (CapturesEnPassant p r) → Covers p r (bit_or x y)
   unfolding Covers Goals
   covers_pawn x y e a z m l f = let g : (m.to < 64) × Goals p k r m.to = legal_goals m l f in
       (set_or x y (at_state x a) z m.to g.0).1 (elim g.1 [ inl t ↦ inl t | inr (inl t) ↦ inr t.1 | inr (inr t) ↦ absurd (let o : k ≡ King = t in cc) ])

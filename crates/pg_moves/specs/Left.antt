@@ -5,8 +5,8 @@ use Rattle.pg_position.specs.declared.state.State.{State}
 use Rattle.pg_position.specs.declared.moves.Move.{Move}
 use Rattle.pg_position.specs.contracts.state.State.{the_row as state_row}
 use Rattle.pg_position.specs.contracts.moves.Move.{the_row as move_row}
-use Rattle.pg_moves.specs.Places.{IsFirstMove}
-use Rattle.pg_moves.specs.Sources.{IsSource}
+use Rattle.pg_moves.specs.numbers.Places.{most_moves, IsFirstMove}
+use Rattle.pg_moves.specs.numbers.Sources.{IsSource}
 use Rattle.pg_moves.specs.Targets.{FreeOff}
 use Rattle.pg_moves.specs.declared.left.Ahead.{Ahead}
 use Rattle.pg_moves.specs.declared.sources.Source.{Source}
@@ -21,14 +21,14 @@ moves_left_code = code_by (State × Option Move) (coded× state_row.coded (coded
 
 -- the first legal move from a place on, and its man
 pub record IsFound (p : State) (low : ℕ) (m : Move) (s : Source) : Type 0 where
-  pub first : IsFirstMove p low 28672 m
+  pub first : IsFirstMove p low most_moves m
   pub source : IsSource p m.from s
 
 -- past a move what was found holds
 unfoldable pub IsReady : State → Option Move → ℕ → Source → Type 0
-IsReady p None tried s = Unit {0}
-IsReady p (Some m) tried s = FreeOff p tried × IsSource p m.from s
+IsReady p None maybe_pinned s = Unit {0}
+IsReady p (Some m) maybe_pinned s = FreeOff p maybe_pinned × IsSource p m.from s
 
 -- what was found for a move ahead holds past it
 unfoldable pub IsAhead : State → Ahead → Type 0
-IsAhead p a = FreeOff p a.tried × IsSource p a.m.from a.source
+IsAhead p a = FreeOff p a.maybe_pinned × IsSource p a.m.from a.source

@@ -6,7 +6,7 @@ use Rattle.std.specs.List.Sorted.{IsStrictlySortedBy}
 use Rattle.pg_position.specs.declared.state.State.{State}
 use Rattle.pg_position.specs.declared.moves.Move.{Move}
 use Rattle.pg_position.specs.Step.{Legal}
-pub use Rattle.pg_position.specs.Order.{promotion_rank, move_cmp}
+pub use Rattle.pg_position.specs.Order.{promotion_number, move_cmp}
 
 -- the move a comes before the move b
 abbrev pub IsBefore : Move → Move → Type 0

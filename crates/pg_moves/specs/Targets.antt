@@ -33,8 +33,8 @@ unfoldable pub Advances : Placement → Color → Kind → ℕ → ℕ → Type 
 Advances b c k r s = Strides b c k r s ⊎ ((k ≡ Pawn) × Leaps b c r s)
 
 -- a pawn on r captures en passant on s
-unfoldable pub Passes : State → ℕ → ℕ → Type 0
-Passes p r s = (p.passed ≡ Some s) × InPattern p.side Pawn r s
+unfoldable pub CapturesEnPassant : State → ℕ → ℕ → Type 0
+CapturesEnPassant p r s = (p.passed ≡ Some s) × InPattern p.side Pawn r s
 
 -- the set has each square to which a legal move goes from r
 unfoldable pub Covers : State → ℕ → ℕ → Type 0
@@ -59,4 +59,4 @@ FreeOff p set = (k : Kind) (r : ℕ) → r < 64 → Stands p.board p.side k r �
 
 -- the man on r has neither a promotion nor a capture en passant
 unfoldable pub IsOrdinary : State → Kind → ℕ → Type 0
-IsOrdinary p k r = (s : ℕ) → s < 64 → (Advances p.board p.side k r s → ¬ MustPromote k p.side s) × (k ≡ Pawn → ¬ Passes p r s)
+IsOrdinary p k r = (s : ℕ) → s < 64 → (Advances p.board p.side k r s → ¬ MustPromote k p.side s) × (k ≡ Pawn → ¬ CapturesEnPassant p r s)

@@ -53,6 +53,7 @@ fn count_from<P: Progress>(
     if plies == 1 {
         return Ok(count_moves(position));
     }
+    // A fact for the proof: what is handed in is a position.
     position.side();
     let moves = listed(alloc, position)?;
     let mut total = 0u64;

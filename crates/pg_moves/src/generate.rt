@@ -3,9 +3,9 @@ ghost use Rattle.pg_moves.specs.Moves.{IsLegal, IsMoveList, IsNext, IsLast};
 ghost use Rattle.pg_position.specs.declared.moves.Move.{Move};
 
 use crate::left::LegalMoves;
-use crate::places::rank_of;
+use crate::places::promotion_number;
 use crate::search::first_move;
-use crate::trials::tried;
+use crate::trials::maybe_pinned;
 use pg_position::{Move, Position};
 use std::alloc::{AllocError, Global};
 
@@ -15,15 +15,15 @@ use std::alloc::{AllocError, Global};
 pub fn next_legal(position: &Position, after: Option<Move>) -> Option<Move>
     ensures { MatchOption result (IsLast position.now after) (λ m. IsNext position.now after m) }
 {
-    let tried = tried(position);
+    let maybe_pinned = maybe_pinned(position);
     match after {
-        None => first_move(position, tried, 0, 0, 0),
+        None => first_move(position, maybe_pinned, 0, 0, 0),
         Some(m) => first_move(
             position,
-            tried,
+            maybe_pinned,
             m.from.index(),
             m.to.index(),
-            rank_of(m.promotion) + 1,
+            promotion_number(m.promotion) + 1,
         ),
     }
 }

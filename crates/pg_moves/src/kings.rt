@@ -4,7 +4,7 @@ ghost use Rattle.pg_board.specs.Bits.{has};
 ghost use Rattle.pg_position.specs.Position.{Stands};
 ghost use Rattle.pg_position.specs.SquareSets.{IsSetOf};
 ghost use Rattle.pg_moves.specs.Moves.{IsLegal};
-ghost use Rattle.pg_moves.specs.Sources.{IsExact};
+ghost use Rattle.pg_moves.specs.numbers.Sources.{IsExact};
 ghost use Rattle.pg_moves.specs.Targets.{Advances, plain_move};
 
 use crate::targets::{advances, single};
@@ -27,6 +27,7 @@ fn safe_steps(position: &Position, from: Square, steps: u64) -> u64
     if steps == 0 {
         return 0;
     }
+    // A fact for the proof: the square is on the board.
     from.index();
     let by = position.side().other();
     let mut lifted = position.board();
@@ -47,6 +48,7 @@ pub(crate) fn king_targets(position: &Position, board: &Board, from: Square) -> 
     requires stands { Stands position.now.board position.now.side Kind.King from }
     ensures { IsExact position.now from result }
 {
+    // A fact for the proof: the square is on the board.
     from.index();
     let steps = advances(board, position.side(), Kind::King, from);
     safe_steps(position, from, steps) | position.castling_targets()

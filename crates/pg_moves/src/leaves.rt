@@ -1,15 +1,15 @@
 //! How many legal moves a position has, without a trial of those that cannot leave the king attacked.
 ghost use Rattle.std.specs.Prelude.{◌≡◌, ◌≢◌, ℕ, ◌+◌, ◌*◌, ◌<◌, ◌≤◌, IsFalse, Some};
 ghost use Rattle.pg_position.specs.Position.{Stands};
-ghost use Rattle.pg_moves.specs.Places.{place_of, Adds};
+ghost use Rattle.pg_moves.specs.numbers.Places.{most_of_a_man, place_of, Adds};
 ghost use Rattle.pg_moves.specs.Targets.{IsOwn, Covers, FreeOff};
 ghost use Rattle.pg_moves.specs.Counts.{IsGameCount};
 
 use crate::pawns::{pawn_ways, quiet_pawns};
-use crate::places::rank_of;
+use crate::places::promotion_number;
 use crate::search::first_of_man;
 use crate::sources::source_at;
-use crate::trials::tried;
+use crate::trials::maybe_pinned;
 use pg_board::{Board, Kind, Square};
 use pg_position::{Position, first_from};
 
@@ -18,29 +18,29 @@ fn walked(position: &Position, kind: Kind, from: Square, set: u64) -> u64
     requires stands { Stands position.now.board position.now.side kind from }
     requires covers { Covers position.now from set }
     ensures count { Adds position.now (place_of from 0 0) (place_of (from + 1) 0 0) result }
-    ensures bound { result ≤ 448 }
+    ensures bound { result ≤ most_of_a_man }
 {
     let mut total = 0;
     let mut to = 0;
-    let mut rank = 0;
-    while let Some(m) = first_of_man(position, kind, from, set, to, rank) {
+    let mut number = 0;
+    while let Some(m) = first_of_man(position, kind, from, set, to, number) {
         to = m.to.index();
-        rank = rank_of(m.promotion) + 1;
+        number = promotion_number(m.promotion) + 1;
         total += 1;
     }
     total
 }
 
 // How many legal moves the man of the side to move on a square has.
-#[tactic(auto, unfolding(crate::specs::Sources::IsSource))]
-fn count_of_square(position: &Position, board: &Board, tried: u64, from: Square) -> u64
+#[tactic(auto, unfolding(crate::specs::numbers::Sources::IsSource))]
+fn count_of_square(position: &Position, board: &Board, maybe_pinned: u64, from: Square) -> u64
     requires same { board.now ≡ position.now.board }
-    requires free { FreeOff position.now tried }
+    requires free { FreeOff position.now maybe_pinned }
     requires own { IsOwn position.now.board position.now.side from }
     ensures count { Adds position.now (place_of from 0 0) (place_of (from + 1) 0 0) result }
-    ensures bound { result ≤ 448 }
+    ensures bound { result ≤ most_of_a_man }
 {
-    let source = source_at(position, board, tried, from);
+    let source = source_at(position, board, maybe_pinned, from);
     if source.exact {
         source.set.count_ones() as u64
     } else {
@@ -54,15 +54,15 @@ pub(crate) fn count_moves(position: &Position) -> u64
 {
     let board = position.board();
     let side = position.side();
-    let tried = tried(position);
+    let maybe_pinned = maybe_pinned(position);
     let own = board.squares_of_color(side);
-    let pawns = quiet_pawns(position, &board, tried);
+    let pawns = quiet_pawns(position, &board, maybe_pinned);
     let ways = pawn_ways(&board, side, pawns);
     let rest = own & !pawns;
     let mut total = 0;
     let mut at = 0;
     while let Some(square) = first_from(rest, at) {
-        total += count_of_square(position, &board, tried, square);
+        total += count_of_square(position, &board, maybe_pinned, square);
         at = square.index() + 1;
     }
     total + ways.count()

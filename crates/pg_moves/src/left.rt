@@ -1,14 +1,14 @@
 //! The legal moves of a position, one after the other.
 ghost use Rattle.std.specs.Prelude.{◌≡◌, ◌<◌, ◌≤◌, ◌+◌, None, Some, MatchOption, IfSome, IfNone};
 ghost use Rattle.pg_moves.specs.Left.{IsAhead, IsFound};
-ghost use Rattle.pg_moves.specs.Sources.{IsSource};
+ghost use Rattle.pg_moves.specs.numbers.Sources.{IsSource};
 ghost use Rattle.pg_moves.specs.Moves.{IsNext, IsLast};
-ghost use Rattle.pg_moves.specs.Places.{place_of, NoneFrom, IsFirstMove, IsNextWithin};
+ghost use Rattle.pg_moves.specs.numbers.Places.{most_moves, place_of, NoneFrom, IsFirstMove, IsNextWithin};
 ghost use Rattle.pg_moves.specs.Targets.{FreeOff};
 
-use crate::places::rank_of;
+use crate::places::promotion_number;
 use crate::sources::{Source, first_of_source, source_at};
-use crate::trials::tried;
+use crate::trials::maybe_pinned;
 use pg_board::Kind;
 use pg_position::{Move, Position, first_from};
 use std::marker::Model;
@@ -17,7 +17,7 @@ use std::marker::Model;
 #[derive(Clone, Copy)]
 pub struct Ahead {
     pub m: Move,
-    tried: u64,
+    maybe_pinned: u64,
     source: Source,
 }
 
@@ -27,7 +27,7 @@ pub struct Ahead {
 pub struct LegalMoves {
     position: Position,
     last: Option<Move>,
-    tried: u64,
+    maybe_pinned: u64,
     source: Source,
 }
 
@@ -40,22 +40,22 @@ impl Model for LegalMoves {
 
     ghost view = { λ a. record { position = a.position; last = a.last } };
 
-    ghost invariant = { λ a. IsReady a.position a.last a.tried a.source };
+    ghost invariant = { λ a. IsReady a.position a.last a.maybe_pinned a.source };
 }
 
 // The first legal move of the men from a square on, and its man.
-fn first_beyond(position: &Position, tried: u64, from: u8) -> Option<(Move, Source)>
-    requires free { FreeOff position.now tried }
+fn first_beyond(position: &Position, maybe_pinned: u64, from: u8) -> Option<(Move, Source)>
+    requires free { FreeOff position.now maybe_pinned }
     requires source { from ≤ 64 }
     ensures { MatchOption result
-        (NoneFrom position.now (place_of from 0 0) 28672)
+        (NoneFrom position.now (place_of from 0 0) most_moves)
         (λ r. IsFound position.now (place_of from 0 0) r.0 r.1) }
 {
     let board = position.board();
     let own = board.squares_of_color(position.side());
     let mut at = from;
     while let Some(square) = first_from(own, at) {
-        let source = source_at(position, &board, tried, square);
+        let source = source_at(position, &board, maybe_pinned, square);
         if let Some(m) = first_of_source(position, square, &source, 0, 0) {
             return Some((m, source));
         }
@@ -74,7 +74,7 @@ impl LegalMoves {
         LegalMoves {
             position: *position,
             last: None,
-            tried: 0,
+            maybe_pinned: 0,
             source: Source {
                 kind: Kind::Pawn,
                 set: 0,
@@ -101,30 +101,43 @@ impl LegalMoves {
     fn first(position: &Position) -> Option<Ahead>
         ensures { MatchOption result (IsLast position.now None) (λ a. IsNext position.now None a.m × IsAhead position.now a) }
     {
-        let tried = tried(position);
-        match first_beyond(position, tried, 0) {
-            Some((m, source)) => Some(Ahead { m, tried, source }),
+        let maybe_pinned = maybe_pinned(position);
+        match first_beyond(position, maybe_pinned, 0) {
+            Some((m, source)) => Some(Ahead {
+                m,
+                maybe_pinned,
+                source,
+            }),
             None => None,
         }
     }
 
     // The legal move after the last one.
-    fn following(position: &Position, tried: u64, source: &Source, last: &Move) -> Option<Ahead>
-        requires free { FreeOff position.now tried }
+    fn following(
+        position: &Position,
+        maybe_pinned: u64,
+        source: &Source,
+        last: &Move,
+    ) -> Option<Ahead>
+        requires free { FreeOff position.now maybe_pinned }
         requires source { IsSource position.now last.now.from source.now }
         ensures { MatchOption result (IsLast position.now (Some last.now)) (λ a. IsNext position.now (Some last.now) a.m × IsAhead position.now a) }
     {
         let from = last.from.index();
         let to = last.to.index();
-        let rank = rank_of(last.promotion) + 1;
-        match first_of_source(position, last.from, source, to, rank) {
+        let number = promotion_number(last.promotion) + 1;
+        match first_of_source(position, last.from, source, to, number) {
             Some(m) => Some(Ahead {
                 m,
-                tried,
+                maybe_pinned,
                 source: *source,
             }),
-            None => match first_beyond(position, tried, from + 1) {
-                Some((m, source)) => Some(Ahead { m, tried, source }),
+            None => match first_beyond(position, maybe_pinned, from + 1) {
+                Some((m, source)) => Some(Ahead {
+                    m,
+                    maybe_pinned,
+                    source,
+                }),
                 None => None,
             },
         }
@@ -139,7 +152,12 @@ impl LegalMoves {
     {
         match self.last {
             None => LegalMoves::first(&self.position),
-            Some(last) => LegalMoves::following(&self.position, self.tried, &self.source, &last),
+            Some(last) => LegalMoves::following(
+                &self.position,
+                self.maybe_pinned,
+                &self.source,
+                &last,
+            ),
         }
     }
 
@@ -150,7 +168,7 @@ impl LegalMoves {
         ensures { self.new ≡ record self.old { last = Some ahead.now.m } }
     {
         self.last = Some(ahead.m);
-        self.tried = ahead.tried;
+        self.maybe_pinned = ahead.maybe_pinned;
         self.source = ahead.source;
     }
 

@@ -8,14 +8,14 @@ ghost use Rattle.pg_board.specs.declared.man.Kind.TheVariants.{Pawn};
 ghost use Rattle.pg_position.specs.Position.{IsVacant};
 ghost use Rattle.pg_position.specs.SquareSets.{IsSetOf};
 ghost use Rattle.pg_position.specs.Step.{IsEnemy, home_rank};
-ghost use Rattle.pg_moves.specs.Pawns.{forward, IsInside, AreInside, AreWays, IsQuiet, moves_from, to_left, to_right};
-ghost use Rattle.pg_moves.specs.Targets.{FreeOff, Passes};
+ghost use Rattle.pg_moves.specs.numbers.Pawns.{forward, IsInside, AreInside, AreWays, IsQuiet, moves_from, to_left, to_right};
+ghost use Rattle.pg_moves.specs.Targets.{FreeOff, CapturesEnPassant};
 
 use pg_board::{Board, Color, Kind, Man};
-use pg_position::{Position, reach};
+use pg_position::{Position, attacks_from};
 
-/// The squares from which pawns go one square forward, go two, capture towards the a-file, and capture
-/// towards the h-file.
+// The squares from which pawns go one square forward, go two, capture towards the a-file, and capture
+// towards the h-file.
 #[derive(Clone, Copy)]
 pub(crate) struct PawnWays {
     pub(crate) once: u64,
@@ -23,6 +23,9 @@ pub(crate) struct PawnWays {
     pub(crate) left: u64,
     pub(crate) right: u64,
 }
+
+// How far the index of a square grows from one rank to the next.
+const RANK: u8 = 8;
 
 // The squares from which so far forward lies a square of the set.
 fn seen_ahead(set: u64, color: Color, by: u8) -> u64
@@ -70,7 +73,7 @@ fn going_once(board: &Board, color: Color, pawns: u64) -> u64
     requires { AreInside color pawns }
     ensures { IsSetOf result (λ q. (has pawns q ≡ true) × IsVacant board.now (forward color 8 q)) }
 {
-    pawns & seen_ahead(empty_squares(board), color, 8)
+    pawns & seen_ahead(empty_squares(board), color, RANK)
 }
 
 // From where pawns that go one square forward may go two.
@@ -78,7 +81,7 @@ fn going_twice(board: &Board, color: Color, once: u64) -> u64
     requires { AreInside color once }
     ensures { IsSetOf result (λ q. ((has once q ≡ true) × (rank q ≡ home_rank color)) × IsVacant board.now (forward color 16 q)) }
 {
-    (once & home(color)) & seen_ahead(empty_squares(board), color, 16)
+    (once & home(color)) & seen_ahead(empty_squares(board), color, 2 * RANK)
 }
 
 // From where pawns of these squares capture a man that stands so far forward.
@@ -96,8 +99,8 @@ fn to_left(color: Color) -> u8
     ensures bound { result ≤ 16 }
 {
     match color {
-        Color::White => 7,
-        Color::Black => 9,
+        Color::White => RANK - 1,
+        Color::Black => RANK + 1,
     }
 }
 
@@ -107,8 +110,8 @@ fn to_right(color: Color) -> u8
     ensures bound { result ≤ 16 }
 {
     match color {
-        Color::White => 9,
-        Color::Black => 7,
+        Color::White => RANK + 1,
+        Color::Black => RANK - 1,
     }
 }
 
@@ -139,8 +142,8 @@ impl PawnWays {
 }
 
 // The squares from which a pawn of the side to move captures en passant, each of them and maybe more.
-fn passers(position: &Position) -> u64
-    ensures { (q s : ℕ) → q < 64 → s < 64 → Passes position.now q s → has result q ≡ true }
+fn en_passant_sources(position: &Position) -> u64
+    ensures { (q s : ℕ) → q < 64 → s < 64 → CapturesEnPassant position.now q s → has result q ≡ true }
 {
     match position.passed() {
         Some(square) => {
@@ -148,16 +151,16 @@ fn passers(position: &Position) -> u64
                 color: position.side().other(),
                 kind: Kind::Pawn,
             };
-            reach(&position.board(), pawn, square)
+            attacks_from(&position.board(), pawn, square)
         }
         None => 0,
     }
 }
 
 // Pawns of the side to move that need no trial, do not promote and do not capture en passant.
-pub(crate) fn quiet_pawns(position: &Position, board: &Board, tried: u64) -> u64
+pub(crate) fn quiet_pawns(position: &Position, board: &Board, maybe_pinned: u64) -> u64
     requires same { board.now ≡ position.now.board }
-    requires free { FreeOff position.now tried }
+    requires free { FreeOff position.now maybe_pinned }
     ensures { (q : ℕ) → q < 64 → has result q ≡ true → IsQuiet position.now q }
 {
     let side = position.side();
@@ -165,5 +168,5 @@ pub(crate) fn quiet_pawns(position: &Position, board: &Board, tried: u64) -> u64
         color: side,
         kind: Kind::Pawn,
     });
-    ((pawns & !tried) & !passers(position)) & !home(side.other())
+    ((pawns & !maybe_pinned) & !en_passant_sources(position)) & !home(side.other())
 }

@@ -1,15 +1,15 @@
 //! The place of a move among all 64 * 64 * 7: by its squares and its promotion.
 ghost use Rattle.std.specs.Prelude.{◌≡◌, ◌≢◌, ◌+◌, ◌<◌};
-ghost use Rattle.pg_moves.specs.Moves.{promotion_rank};
+ghost use Rattle.pg_moves.specs.Moves.{promotion_number};
 
 use pg_board::Kind;
 
-// The promotion at a place in the order none, pawn, knight, bishop, rook, queen, king.
-pub(crate) fn promotion_at(rank: u8) -> Option<Kind>
-    requires { rank < 7 }
-    ensures { promotion_rank result ≡ rank }
+// The promotion of a number, in the order none, pawn, knight, bishop, rook, queen, king.
+pub(crate) fn promotion_at(number: u8) -> Option<Kind>
+    requires { number < 7 }
+    ensures { promotion_number result ≡ number }
 {
-    match rank {
+    match number {
         0 => None,
         1 => Some(Kind::Pawn),
         2 => Some(Kind::Knight),
@@ -20,9 +20,9 @@ pub(crate) fn promotion_at(rank: u8) -> Option<Kind>
     }
 }
 
-// The place of a promotion in that order.
-pub(crate) fn rank_of(promotion: Option<Kind>) -> u8
-    ensures value { result ≡ promotion_rank promotion }
+// The number of a promotion in that order.
+pub(crate) fn promotion_number(promotion: Option<Kind>) -> u8
+    ensures value { result ≡ promotion_number promotion }
     ensures bound { result < 7 }
 {
     match promotion {
@@ -46,10 +46,10 @@ pub(crate) fn resume_at(i: u8, start: u8, value: u8) -> u8
 
 // The square from which a search goes on where each square has one move: the square itself before its
 // move, the next after it.
-pub(crate) fn next_square(to: u8, rank: u8) -> u8
+pub(crate) fn next_square(to: u8, number: u8) -> u8
     requires { to < 64 }
-    ensures before { rank ≡ 0 → result ≡ to }
-    ensures after { rank ≢ 0 → result ≡ to + 1 }
+    ensures before { number ≡ 0 → result ≡ to }
+    ensures after { number ≢ 0 → result ≡ to + 1 }
 {
-    if rank == 0 { to } else { to + 1 }
+    if number == 0 { to } else { to + 1 }
 }

@@ -1,16 +1,15 @@
 //! The search for the first legal move from a place on.
 ghost use Rattle.std.specs.Prelude.{◌≡◌, ◌≢◌, ℕ, ◌+◌, ◌*◌, ◌<◌, ◌≤◌, ◌↔◌, IsTrue, MatchOption};
 ghost use Rattle.pg_position.specs.Position.{Stands};
-ghost use Rattle.pg_position.specs.Step.{MustPromote};
 ghost use Rattle.pg_moves.specs.Moves.{IsLegal};
-ghost use Rattle.pg_moves.specs.Places.{place, place_of, NoneFrom, IsNextWithin};
-ghost use Rattle.pg_moves.specs.Sources.{IsExact};
+ghost use Rattle.pg_moves.specs.numbers.Places.{most_moves, place, place_of, NoneFrom, IsNextWithin};
+ghost use Rattle.pg_moves.specs.numbers.Sources.{IsExact};
 ghost use Rattle.pg_moves.specs.Targets.{IsOwn, Covers, FreeOff};
 
 use crate::places::{next_square, promotion_at, resume_at};
 use crate::sources::{first_of_source, source_at};
-use pg_board::{Color, Kind, Square};
-use pg_position::{Move, Position, first_from};
+use pg_board::{Kind, Square};
+use pg_position::{Move, Position, first_from, must_promote};
 
 // Whether the move is played.
 fn plays(position: &Position, m: &Move) -> bool
@@ -23,30 +22,20 @@ fn plays(position: &Position, m: &Move) -> bool
 }
 
 // The move, if it is legal.
-fn legal_at(position: &Position, from: Square, to: Square, rank: u8) -> Option<Move>
-    requires place { rank < 7 }
+fn legal_at(position: &Position, from: Square, to: Square, number: u8) -> Option<Move>
+    requires place { number < 7 }
     ensures { MatchOption result
-        (NoneFrom position.now (place_of from to rank) (place_of from to (rank + 1)))
-        (λ m. IsLegal position.now m × (place m ≡ place_of from to rank)) }
+        (NoneFrom position.now (place_of from to number) (place_of from to (number + 1)))
+        (λ m. IsLegal position.now m × (place m ≡ place_of from to number)) }
 {
     let m = Move {
         from,
         to,
-        promotion: promotion_at(rank),
+        promotion: promotion_at(number),
     };
+    // A fact for the proof: the square is on the board.
     to.index();
     if plays(position, &m) { Some(m) } else { None }
-}
-
-// Whether a pawn comes to the last rank there, so that it promotes.
-fn must_promote(side: Color, kind: Kind, to: Square) -> bool
-    ensures { IsTrue result ↔ MustPromote kind side to }
-{
-    kind == Kind::Pawn
-        && match side {
-            Color::White => to.rank() == 8,
-            Color::Black => to.rank() == 1,
-        }
 }
 
 // The promotions that are to be tried, as two places: none alone, or knight to queen.
@@ -56,8 +45,9 @@ fn promotions(position: &Position, kind: Kind, from: Square, to: Square) -> (u8,
     ensures before { NoneFrom position.now (place_of from to 0) (place_of from to result.0) }
     ensures rest { NoneFrom position.now (place_of from to result.1) (place_of from to 7) }
 {
+    // A fact for the proof: the square is on the board.
     to.index();
-    if must_promote(position.side(), kind, to) {
+    if must_promote(kind, position.side(), to) {
         (2, 6)
     } else {
         (0, 1)
@@ -65,13 +55,13 @@ fn promotions(position: &Position, kind: Kind, from: Square, to: Square) -> (u8,
 }
 
 // The first legal move from one square to another, from this promotion on.
-fn first_to(position: &Position, kind: Kind, from: Square, to: Square, rank: u8) -> Option<Move>
+fn first_to(position: &Position, kind: Kind, from: Square, to: Square, number: u8) -> Option<Move>
     requires stands { Stands position.now.board position.now.side kind from }
-    requires place { rank ≤ 7 }
-    ensures { IsNextWithin position.now (place_of from to rank) (place_of from to 7) result }
+    requires place { number ≤ 7 }
+    ensures { IsNextWithin position.now (place_of from to number) (place_of from to 7) result }
 {
     let (start, end) = promotions(position, kind, from, to);
-    let start = start.max(rank);
+    let start = start.max(number);
     for k in start..end {
         if let Some(m) = legal_at(position, from, to, k) {
             return Some(m);
@@ -88,17 +78,17 @@ pub(crate) fn first_of_man(
     from: Square,
     set: u64,
     to: u8,
-    rank: u8,
+    number: u8,
 ) -> Option<Move>
     requires stands { Stands position.now.board position.now.side kind from }
     requires covers { Covers position.now from set }
     requires target { to < 64 }
-    requires place { rank ≤ 7 }
-    ensures { IsNextWithin position.now (place_of from to rank) (place_of (from + 1) 0 0) result }
+    requires place { number ≤ 7 }
+    ensures { IsNextWithin position.now (place_of from to number) (place_of (from + 1) 0 0) result }
 {
     let mut at = to;
     while let Some(square) = first_from(set, at) {
-        let start = resume_at(square.index(), to, rank);
+        let start = resume_at(square.index(), to, number);
         if let Some(m) = first_to(position, kind, from, square, start) {
             return Some(m);
         }
@@ -114,15 +104,16 @@ pub(crate) fn first_of_exact(
     from: Square,
     set: u64,
     to: u8,
-    rank: u8,
+    number: u8,
 ) -> Option<Move>
     requires exact { IsExact position.now from set }
     requires target { to < 64 }
-    requires place { rank ≤ 7 }
-    ensures { IsNextWithin position.now (place_of from to rank) (place_of (from + 1) 0 0) result }
+    requires place { number ≤ 7 }
+    ensures { IsNextWithin position.now (place_of from to number) (place_of (from + 1) 0 0) result }
 {
+    // A fact for the proof: the square is on the board.
     from.index();
-    match first_from(set, next_square(to, rank)) {
+    match first_from(set, next_square(to, number)) {
         Some(square) => Some(Move {
             from,
             to: square,
@@ -133,37 +124,43 @@ pub(crate) fn first_of_exact(
 }
 
 // The first legal move from a square, from this target and promotion on.
-fn first_of_square(position: &Position, tried: u64, from: Square, to: u8, rank: u8) -> Option<Move>
-    requires free { FreeOff position.now tried }
+fn first_of_square(
+    position: &Position,
+    maybe_pinned: u64,
+    from: Square,
+    to: u8,
+    number: u8,
+) -> Option<Move>
+    requires free { FreeOff position.now maybe_pinned }
     requires own { IsOwn position.now.board position.now.side from }
     requires target { to < 64 }
-    requires place { rank ≤ 7 }
-    ensures { IsNextWithin position.now (place_of from to rank) (place_of (from + 1) 0 0) result }
+    requires place { number ≤ 7 }
+    ensures { IsNextWithin position.now (place_of from to number) (place_of (from + 1) 0 0) result }
 {
-    let source = source_at(position, &position.board(), tried, from);
-    first_of_source(position, from, &source, to, rank)
+    let source = source_at(position, &position.board(), maybe_pinned, from);
+    first_of_source(position, from, &source, to, number)
 }
 
 // The first legal move from these squares and this promotion on.
 pub(crate) fn first_move(
     position: &Position,
-    tried: u64,
+    maybe_pinned: u64,
     from: u8,
     to: u8,
-    rank: u8,
+    number: u8,
 ) -> Option<Move>
-    requires free { FreeOff position.now tried }
+    requires free { FreeOff position.now maybe_pinned }
     requires source { from < 64 }
     requires target { to < 64 }
-    requires place { rank ≤ 7 }
-    ensures { IsNextWithin position.now (place_of from to rank) 28672 result }
+    requires place { number ≤ 7 }
+    ensures { IsNextWithin position.now (place_of from to number) most_moves result }
 {
     let own = position.board().squares_of_color(position.side());
     let mut at = from;
     while let Some(square) = first_from(own, at) {
         let start = resume_at(square.index(), from, to);
-        let place = resume_at(square.index(), from, rank);
-        if let Some(m) = first_of_square(position, tried, square, start, place) {
+        let place = resume_at(square.index(), from, number);
+        if let Some(m) = first_of_square(position, maybe_pinned, square, start, place) {
             return Some(m);
         }
         at = square.index() + 1;

@@ -1,8 +1,8 @@
 //! The men of the side to move, and where each goes.
 ghost use Rattle.std.specs.Prelude.{◌≡◌, ◌<◌, ◌≤◌, ◌+◌};
 ghost use Rattle.pg_position.specs.Position.{Stands};
-ghost use Rattle.pg_moves.specs.Places.{place_of, IsNextWithin};
-ghost use Rattle.pg_moves.specs.Sources.{IsSource};
+ghost use Rattle.pg_moves.specs.numbers.Places.{place_of, IsNextWithin};
+ghost use Rattle.pg_moves.specs.numbers.Sources.{IsSource};
 ghost use Rattle.pg_moves.specs.Targets.{IsOwn, FreeOff};
 
 use crate::kings::king_targets;
@@ -12,8 +12,8 @@ use crate::trials::must_try;
 use pg_board::{Board, Kind, Square};
 use pg_position::{Move, Position};
 
-/// A man of the side to move: where it may go, its kind, and whether it goes to just those squares, with
-/// no promotion.
+// A man of the side to move: where it may go, its kind, and whether it goes to just those squares, with
+// no promotion.
 #[derive(Clone, Copy)]
 pub(crate) struct Source {
     pub(crate) set: u64,
@@ -23,13 +23,20 @@ pub(crate) struct Source {
 
 // The man of the kind on a square.
 #[inline(always)]
-#[tactic(auto, unfolding(crate::specs::Sources::IsSource))]
-fn source_of(position: &Position, board: &Board, tried: u64, kind: Kind, from: Square) -> Source
+#[tactic(auto, unfolding(crate::specs::numbers::Sources::IsSource))]
+fn source_of(
+    position: &Position,
+    board: &Board,
+    maybe_pinned: u64,
+    kind: Kind,
+    from: Square,
+) -> Source
     requires same { board.now ≡ position.now.board }
-    requires free { FreeOff position.now tried }
+    requires free { FreeOff position.now maybe_pinned }
     requires stands { Stands position.now.board position.now.side kind from }
     ensures { IsSource position.now from result }
 {
+    // A fact for the proof: the square is on the board.
     from.index();
     if kind == Kind::King {
         Source {
@@ -37,7 +44,7 @@ fn source_of(position: &Position, board: &Board, tried: u64, kind: Kind, from: S
             set: king_targets(position, board, from),
             exact: true,
         }
-    } else if must_try(position, tried, kind, from) {
+    } else if must_try(position, maybe_pinned, kind, from) {
         Source {
             kind,
             set: targets(position, kind, from),
@@ -55,36 +62,41 @@ fn source_of(position: &Position, board: &Board, tried: u64, kind: Kind, from: S
 // The man of the side to move on a square.
 #[inline(always)]
 #[tactic(auto, using(crate::proofs::SearchLemmas::stands_own))]
-pub(crate) fn source_at(position: &Position, board: &Board, tried: u64, from: Square) -> Source
+pub(crate) fn source_at(
+    position: &Position,
+    board: &Board,
+    maybe_pinned: u64,
+    from: Square,
+) -> Source
     requires same { board.now ≡ position.now.board }
-    requires free { FreeOff position.now tried }
+    requires free { FreeOff position.now maybe_pinned }
     requires own { IsOwn position.now.board position.now.side from }
     ensures { IsSource position.now from result }
 {
     match board.get(from) {
-        Some(man) => source_of(position, board, tried, man.kind, from),
+        Some(man) => source_of(position, board, maybe_pinned, man.kind, from),
         None => unreachable!(),
     }
 }
 
 // The first legal move of a man, from this target and promotion on.
 #[inline(always)]
-#[tactic(auto, unfolding(crate::specs::Sources::IsSource))]
+#[tactic(auto, unfolding(crate::specs::numbers::Sources::IsSource))]
 pub(crate) fn first_of_source(
     position: &Position,
     from: Square,
     source: &Source,
     to: u8,
-    rank: u8,
+    number: u8,
 ) -> Option<Move>
     requires source { IsSource position.now from source.now }
     requires target { to < 64 }
-    requires place { rank ≤ 7 }
-    ensures { IsNextWithin position.now (place_of from to rank) (place_of (from + 1) 0 0) result }
+    requires place { number ≤ 7 }
+    ensures { IsNextWithin position.now (place_of from to number) (place_of (from + 1) 0 0) result }
 {
     if source.exact {
-        first_of_exact(position, from, source.set, to, rank)
+        first_of_exact(position, from, source.set, to, number)
     } else {
-        first_of_man(position, source.kind, from, source.set, to, rank)
+        first_of_man(position, source.kind, from, source.set, to, number)
     }
 }

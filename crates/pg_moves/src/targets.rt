@@ -5,10 +5,10 @@ ghost use Rattle.pg_position.specs.Geometry.{IsForward};
 ghost use Rattle.pg_position.specs.SquareSets.{IsSetOf};
 ghost use Rattle.pg_position.specs.Position.{Stands, IsVacant, ahead};
 ghost use Rattle.pg_position.specs.Step.{home_rank};
-ghost use Rattle.pg_moves.specs.Targets.{IsOwn, Strides, Leaps, Advances, Passes, Covers};
+ghost use Rattle.pg_moves.specs.Targets.{IsOwn, Strides, Leaps, Advances, CapturesEnPassant, Covers};
 
 use pg_board::{Board, Color, Kind, Man, Square};
-use pg_position::{Position, reach};
+use pg_position::{Position, ahead, attacks_from, has_ahead, home_rank, is_vacant};
 
 // The set of one square.
 pub(crate) fn single(square: Square) -> u64
@@ -21,21 +21,12 @@ pub(crate) fn single(square: Square) -> u64
 fn in_front(color: Color, from: Square) -> u64
     ensures { IsSetOf result (λ q. (file from ≡ file q) × IsForward color 1 from q) }
 {
-    match color {
-        Color::White => {
-            if from.index() < 56 {
-                single(Square::at(from.index() + 8))
-            } else {
-                0
-            }
-        }
-        Color::Black => {
-            if from.index() >= 8 {
-                single(Square::at(from.index() - 8))
-            } else {
-                0
-            }
-        }
+    // A fact for the proof: the square is on the board.
+    from.index();
+    if has_ahead(color, 1, from) {
+        single(ahead(color, 1, from))
+    } else {
+        0
     }
 }
 
@@ -47,7 +38,7 @@ fn pawn_strides(board: &Board, color: Color, from: Square) -> u64
         color,
         kind: Kind::Pawn,
     };
-    let taken = reach(board, pawn, from) & board.squares_of_color(color.other());
+    let taken = attacks_from(board, pawn, from) & board.squares_of_color(color.other());
     taken | (in_front(color, from) & !board.occupied())
 }
 
@@ -56,13 +47,7 @@ fn piece_strides(board: &Board, color: Color, kind: Kind, from: Square) -> u64
     requires { kind ≢ Kind.Pawn }
     ensures { IsSetOf result (Strides board.now color kind from) }
 {
-    reach(board, Man { color, kind }, from) & !board.squares_of_color(color)
-}
-
-fn is_vacant(board: &Board, square: Square) -> bool
-    ensures { IsTrue result ↔ IsVacant board.now square }
-{
-    board.get(square).is_none()
+    attacks_from(board, Man { color, kind }, from) & !board.squares_of_color(color)
 }
 
 // Whether a pawn stands at home with two empty squares in front of it.
@@ -70,30 +55,9 @@ fn can_leap(board: &Board, color: Color, from: Square) -> bool
     ensures { IsTrue result ↔
         ((rank from ≡ home_rank color) × IsVacant board.now (ahead color 1 from) × IsVacant board.now (ahead color 2 from)) }
 {
-    match color {
-        Color::White => {
-            from.rank() == 2
-                && is_vacant(board, Square::at(from.index() + 8))
-                && is_vacant(board, Square::at(from.index() + 16))
-        }
-        Color::Black => {
-            from.rank() == 7
-                && is_vacant(board, Square::at(from.index() - 8))
-                && is_vacant(board, Square::at(from.index() - 16))
-        }
-    }
-}
-
-// The square two ranks forward of a pawn's home.
-fn two_ahead(color: Color, from: Square) -> Square
-    requires { rank from ≡ home_rank color }
-    ensures { result ≡ ahead color 2 from }
-{
-    from.index();
-    match color {
-        Color::White => Square::at(from.index() + 16),
-        Color::Black => Square::at(from.index() - 16),
-    }
+    from.rank() == home_rank(color)
+        && is_vacant(board, ahead(color, 1, from))
+        && is_vacant(board, ahead(color, 2, from))
 }
 
 // Where a pawn at home goes two squares forward.
@@ -101,7 +65,7 @@ fn leaps(board: &Board, color: Color, from: Square) -> u64
     ensures { IsSetOf result (Leaps board.now color from) }
 {
     if can_leap(board, color, from) {
-        single(two_ahead(color, from))
+        single(ahead(color, 2, from))
     } else {
         0
     }
@@ -119,8 +83,8 @@ pub(crate) fn advances(board: &Board, color: Color, kind: Kind, from: Square) ->
 }
 
 // Where a pawn captures en passant.
-pub(crate) fn passes(position: &Position, from: Square) -> u64
-    ensures { IsSetOf result (Passes position.now from) }
+pub(crate) fn en_passant_targets(position: &Position, from: Square) -> u64
+    ensures { IsSetOf result (CapturesEnPassant position.now from) }
 {
     match position.passed() {
         Some(square) => {
@@ -128,7 +92,7 @@ pub(crate) fn passes(position: &Position, from: Square) -> u64
                 color: position.side(),
                 kind: Kind::Pawn,
             };
-            reach(&position.board(), pawn, from) & single(square)
+            attacks_from(&position.board(), pawn, from) & single(square)
         }
         None => 0,
     }
@@ -143,7 +107,7 @@ pub(crate) fn targets(position: &Position, kind: Kind, from: Square) -> u64
     let board = position.board();
     let side = position.side();
     match kind {
-        Kind::Pawn => advances(&board, side, kind, from) | passes(position, from),
+        Kind::Pawn => advances(&board, side, kind, from) | en_passant_targets(position, from),
         _ => advances(&board, side, kind, from),
     }
 }

@@ -7,9 +7,9 @@ ghost use Rattle.pg_position.specs.Attack.{Attacks};
 ghost use Rattle.pg_position.specs.Position.{Stands};
 ghost use Rattle.pg_moves.specs.Targets.{FreeOff, IsFree, IsOrdinary, IsOwn, only};
 
-use crate::targets::{passes, single};
+use crate::targets::{en_passant_targets, single};
 use pg_board::{Board, Color, Kind, Man, Sets, Square, contains};
-use pg_position::{Position, attacked, reach};
+use pg_position::{Position, attacked, attacks_from, home_rank};
 
 // The squares of a colour where only the men of one colour are left.
 fn left_of(board: &Board, color: Color, side: Color) -> u64
@@ -76,10 +76,10 @@ fn attacked_bare(board: &Board, square: Square, color: Color) -> bool
     attacked(&men_of(board, color.other()), square, color.other())
 }
 
-// The squares of the men whose moves are to be tried: the king's alone where he would not be attacked
-// with none of his men on the board. Else all in check, and else the king's and those that a queen
-// would see from there.
-pub(crate) fn tried(position: &Position) -> u64
+// The squares of the men that may be pinned, so that their moves are to be tried: the king's alone
+// where he would not be attacked with none of his men on the board. Else all in check, and else the
+// king's and those that a queen would see from there.
+pub(crate) fn maybe_pinned(position: &Position) -> u64
     ensures { FreeOff position.now result }
 {
     let side = position.side();
@@ -95,7 +95,7 @@ pub(crate) fn tried(position: &Position) -> u64
             } else if position.in_check() {
                 u64::MAX
             } else {
-                reach(&board, queen, king) | single(king)
+                attacks_from(&board, queen, king) | single(king)
             }
         }
         None => u64::MAX,
@@ -109,23 +109,21 @@ fn is_special(position: &Position, kind: Kind, from: Square) -> bool
 {
     match kind {
         Kind::Pawn => {
-            if passes(position, from) != 0 {
+            if en_passant_targets(position, from) != 0 {
                 return true;
             }
-            match position.side() {
-                Color::White => from.rank() == 7,
-                Color::Black => from.rank() == 2,
-            }
+            from.rank() == home_rank(position.side().other())
         }
         _ => false,
     }
 }
 
 // Whether the king would be attacked with the man taken off the board.
-fn shields(position: &Position, kind: Kind, from: Square) -> bool
+fn is_pinned(position: &Position, kind: Kind, from: Square) -> bool
     requires { Stands position.now.board position.now.side kind from }
     ensures { IsFalse result → IsFree position.now kind from }
 {
+    // A fact for the proof: the square is on the board.
     from.index();
     let side = position.side();
     let board = position.board();
@@ -150,15 +148,15 @@ pub(crate) fn attacked_without(board: &Board, from: Square, square: Square, by: 
 // Whether the moves of the man are to be tried: it may leave its king attacked, promote or capture en
 // passant.
 #[inline(always)]
-pub(crate) fn must_try(position: &Position, tried: u64, kind: Kind, from: Square) -> bool
-    requires free { FreeOff position.now tried }
+pub(crate) fn must_try(position: &Position, maybe_pinned: u64, kind: Kind, from: Square) -> bool
+    requires free { FreeOff position.now maybe_pinned }
     requires stands { Stands position.now.board position.now.side kind from }
     ensures { IsFalse result → (IsFree position.now kind from × IsOrdinary position.now kind from) }
 {
     if is_special(position, kind, from) {
         true
-    } else if contains(tried, from.index()) {
-        shields(position, kind, from)
+    } else if contains(maybe_pinned, from.index()) {
+        is_pinned(position, kind, from)
     } else {
         false
     }

@@ -1,40 +1,27 @@
 -- The tables of files, and the pawns on one side of a line. Leads to the counts of pawns.
-use Rattle.std.proofs.Common.{◌≡◌, ℕ, zero, suc, ◌+◌, ◌<◌, ◌^◌, ◌&&◌, not, get_or, refl, ap, ◌∙◌, arith, count_ones, bit_and, nat_le, lt_of_le_of_lt}
+use Rattle.std.proofs.Common.{◌≡◌, ℕ, ◌+◌, ◌<◌, ◌^◌, ◌&&◌, not, get_or, refl, ap, ◌∙◌, count_ones, bit_and, nat_le, lt_of_le_of_lt}
 use Rattle.std.proofs.lemmas.Nat.{and_le_l}
 use Rattle.pg_board.specs.declared.man.Color.{Color}
 use Rattle.pg_board.specs.declared.man.Kind.TheVariants.{Pawn}
 use Rattle.pg_board.specs.declared.man.Man.{Man}
 use Rattle.pg_board.specs.Squares.{file}
 use Rattle.pg_board.specs.Men.{man, is_man}
-use Rattle.pg_board.specs.Tally.{total, total-none, total-more}
+use Rattle.pg_board.specs.Tally.{below_seven, total, total-none, total-more}
 use Rattle.pg_board.specs.Bits.{has, bits_below, has-bits_below}
 use Rattle.pg_board.specs.Placement.{Placement, get}
 use Rattle.pg_captures.specs.Counting.{of_color, men}
-use Rattle.pg_captures.proofs.TallyLemmas.{tally_set, masked_set, pawn_like}
+use Rattle.pg_captures.specs.lemmas.PlaceLemmas.{pawn_like}
+use Rattle.pg_captures.proofs.TallyLemmas.{tally_set, masked_set}
 use Rattle.pg_pawns.specs.PawnFiles.{pawn_left, pawn_right}
 use Rattle.pg_pawns.specs.declared.files.TheConstants.{LEFT_FILES, RIGHT_FILES}
 
 left_is : (n : ℕ) → n < 7 → get_or LEFT_FILES n 0 ≡ bits_below (λ q. nat_le (file q) (n + 1)) 64
 unfolding bits_below
-left_is zero l = refl
-left_is (suc zero) l = refl
-left_is (suc (suc zero)) l = refl
-left_is (suc (suc (suc zero))) l = refl
-left_is (suc (suc (suc (suc zero)))) l = refl
-left_is (suc (suc (suc (suc (suc zero))))) l = refl
-left_is (suc (suc (suc (suc (suc (suc zero)))))) l = refl
-left_is (suc (suc (suc (suc (suc (suc (suc n))))))) l = absurd (omega arith)
+left_is = below_seven (λ n. get_or LEFT_FILES n 0 ≡ bits_below (λ q. nat_le (file q) (n + 1)) 64) (refl, refl, refl, refl, refl, refl, refl)
 
 right_is : (n : ℕ) → n < 7 → get_or RIGHT_FILES n 0 ≡ bits_below (λ q. not (nat_le (file q) (n + 1))) 64
 unfolding bits_below
-right_is zero l = refl
-right_is (suc zero) l = refl
-right_is (suc (suc zero)) l = refl
-right_is (suc (suc (suc zero))) l = refl
-right_is (suc (suc (suc (suc zero)))) l = refl
-right_is (suc (suc (suc (suc (suc zero))))) l = refl
-right_is (suc (suc (suc (suc (suc (suc zero)))))) l = refl
-right_is (suc (suc (suc (suc (suc (suc (suc n))))))) l = absurd (omega arith)
+right_is = below_seven (λ n. get_or RIGHT_FILES n 0 ≡ bits_below (λ q. not (nat_le (file q) (n + 1))) 64) (refl, refl, refl, refl, refl, refl, refl)
 
 module _ (b : Placement) (c : Color) (n : ℕ) (low : n < 7) (m : Man) (all : ℕ) (e : m ≡ man c Pawn) (h : (q : ℕ) → q < 64 → has all q ≡ is_man m (get b q)) (fits : all < 2 ^ 64) where
   pub left_counted : count_ones (bit_and all (get_or LEFT_FILES n 0)) ≡ men c (pawn_left (n + 1)) b

@@ -1,17 +1,16 @@
 -- The test of a price list of pawn files as a yes or a no.
-use Rattle.std.proofs.Common.{◌≡◌, ◌↔◌, ℕ, ◌+◌, ◌-◌, ◌<◌, ◌≤◌, Bool, true, IsTrue, refl, sym, subst, arith}
+use Rattle.std.proofs.Common.{◌≡◌, ◌↔◌, ℕ, ◌+◌, ◌-◌, ◌≤◌, Bool, true, IsTrue, refl, sym, subst, arith, Some}
 use Rattle.pg_board.specs.declared.man.Color.{Color}
 use Rattle.pg_board.specs.declared.man.Color.TheVariants.{White, Black}
 use Rattle.pg_board.specs.declared.man.Kind.TheVariants.{Pawn}
 use Rattle.pg_board.specs.Squares.{file, rank}
 use Rattle.pg_board.specs.Placement.{Placement}
+use Rattle.pg_board.specs.Men.{man}
+use Rattle.pg_board.specs.lemmas.Decisions.{dec_and, dec_along, dec_equal, dec_at_most, dec_implies, dec_all_below, dec_get, answer, answer_tells, answer_is, dec_less}
 use Rattle.pg_position.specs.declared.state.State.{State}
 use Rattle.pg_position.specs.Geometry.{apart, IsForward}
-use Rattle.pg_position.specs.Position.{Stands}
 use Rattle.pg_captures.specs.Counting.{any_pawn}
 use Rattle.pg_captures.specs.PriceLists.{PriceList, price}
-use Rattle.pg_captures.specs.Decided.{answer, answer_tells, answer_is, dec_less}
-use Rattle.pg_captures.specs.Decisions.{dec_and, dec_along, dec_equal, dec_at_most, dec_implies, dec_all_below, dec_stands}
 use Rattle.pg_pawns.specs.PawnPrices.{IsShift, PawnPricesFit, PawnPricesExclude}
 
 -- the square t is at least so many ranks ahead of s
@@ -29,7 +28,7 @@ dec_fit : (d b : Placement) (c : Color) (l : PriceList) → Dec (PawnPricesFit d
 unfolding PawnPricesFit
 dec_fit d b c l =
     dec_along (λ f s t n low lowt here there shift. f s low t lowt here there n shift) (λ f s low t lowt here there n shift. f s t n low lowt here there shift)
-    (dec_all_below _ (λ s. dec_all_below _ (λ t. dec_implies (dec_stands b c Pawn s) (dec_implies (dec_stands d c Pawn t) (dec_pair c s t (price l.u c any_pawn b s) (price l.v c any_pawn d t)))) 64) 64)
+    (dec_all_below _ (λ s. dec_all_below _ (λ t. dec_implies (dec_get b s (Some (man c Pawn))) (dec_implies (dec_get d t (Some (man c Pawn))) (dec_pair c s t (price l.u c any_pawn b s) (price l.v c any_pawn d t)))) 64) 64)
 
 pub dec_pawn_prices : (d : Placement) (p : State) (c : Color) (l : PriceList) → Dec (PawnPricesExclude d p c l)
 unfolding PawnPricesExclude

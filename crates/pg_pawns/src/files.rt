@@ -6,7 +6,7 @@ ghost use Rattle.pg_pawns.specs.PawnFiles.{pawn_left, pawn_right};
 
 use pg_board::{Board, Color, Kind, Man};
 
-// The squares of the files up to the first, the second and so on: bit q for the square q.
+/// The squares of the files up to the first, the second and so on: bit q for the square q.
 pub static LEFT_FILES: [u64; 7] = [
     0x0101_0101_0101_0101,
     0x0303_0303_0303_0303,
@@ -17,7 +17,7 @@ pub static LEFT_FILES: [u64; 7] = [
     0x7f7f_7f7f_7f7f_7f7f,
 ];
 
-// The squares of the files beyond the first, the second and so on.
+/// The squares of the files beyond the first, the second and so on.
 pub static RIGHT_FILES: [u64; 7] = [
     0xfefe_fefe_fefe_fefe,
     0xfcfc_fcfc_fcfc_fcfc,
@@ -28,7 +28,7 @@ pub static RIGHT_FILES: [u64; 7] = [
     0x8080_8080_8080_8080,
 ];
 
-// How many pawns of the colour stand left of the line after the file `n + 1`.
+/// How many pawns of the colour stand left of the line after the file `n + 1`.
 pub fn left_pawns(board: &Board, color: Color, n: u8) -> u8
     requires { n < 7 }
     ensures value { result ≡ men color (pawn_left (n + 1)) board.now }
@@ -37,7 +37,7 @@ pub fn left_pawns(board: &Board, color: Color, n: u8) -> u8
     (board.squares_of(pawn(color)) & LEFT_FILES[n as usize]).count_ones() as u8
 }
 
-// How many pawns of the colour stand right of the line after the file `n + 1`.
+/// How many pawns of the colour stand right of the line after the file `n + 1`.
 pub fn right_pawns(board: &Board, color: Color, n: u8) -> u8
     requires { n < 7 }
     ensures value { result ≡ men color (pawn_right (n + 1)) board.now }

@@ -5,7 +5,7 @@ ghost use Rattle.pg_position.specs.Geometry.{apart};
 ghost use Rattle.pg_captures.specs.Counting.{any_pawn};
 ghost use Rattle.pg_captures.specs.PriceLists.{IsPriced, list_of};
 ghost use Rattle.pg_pawns.specs.PawnPrices.{PawnPricesExclude};
-ghost use Rattle.pg_pawns.specs.PriceTests.{IsAhead, PairFits, SourceFits, AllFit};
+ghost use Rattle.pg_pawns.specs.numbers.PriceTests.{IsAhead, PairFits, SourceFits, AllFit};
 
 use crate::files::pawn;
 use pg_board::{Board, Color, Square};
@@ -46,6 +46,7 @@ fn pair_fits(color: Color, s: Square, u: u8, t: Square, v: u8) -> bool
     if v <= u {
         return true;
     }
+    // Facts for the proof: both squares are on the board.
     s.index();
     t.index();
     let shift = files_apart(s.file(), t.file());
@@ -127,6 +128,7 @@ pub fn prices_exclude(
     ensures exact { IsTrue result ↔ PawnPricesExclude diagram.now position.now color (list_of u.now v.now) }
     ensures barren { IsTrue result → (k : ℕ) → Barren diagram.now position.now k }
 {
+    // A fact for the proof: what is handed in is a position.
     position.side();
     excluded(diagram, position, color, u, v)
 }

@@ -66,14 +66,15 @@ fn pawn_files_hold(diagram: &Diagram, position: &Position) -> bool
 pub struct PawnFiles;
 
 impl Bound for PawnFiles {
-    ghost use Rattle.pg_pawns.specs.Decided.{pawn_files_test, pawn_files_test_tells};
-    ghost use Rattle.pg_pawns.specs.PawnFilesLaw.{files_barren};
+    ghost use Rattle.pg_board.specs.lemmas.Decisions.{answer_tells};
+    ghost use Rattle.pg_pawns.specs.Decided.{dec_pawn_files, pawn_files_test};
+    ghost use Rattle.pg_pawns.specs.lemmas.PawnFilesLaw.{files_barren};
 
     ghost code_of = { λ b. 3 };
 
     ghost excluded = { λ b d p k. pawn_files_test d p };
 
-    ghost sound = { λ b d p k valid h. files_barren d p k valid ((pawn_files_test_tells d p).0 h) };
+    ghost sound = { λ b d p k valid h. files_barren d p k valid ((answer_tells (dec_pawn_files d p)).0 h) };
 
     fn code(&self) -> u8
         ensures { result ≡ 3 }

@@ -45,44 +45,51 @@ fn two_files_of_one_pawn(rt: HostRuntime) {
     assert!(rt; PawnFiles.excludes(&diagram, &array, 40));
 }
 
-/// The array against a pawn that came from the e-file to d3: one capture, and White owes none.
+// Prices of the pawns of the array: that of d2 pays one.
+const U: [u8; 8] = [0, 0, 0, 1, 0, 0, 0, 0];
+
+// Prices of their targets: d2 and d3 get one each.
+const V: [u8; 8] = [0, 0, 0, 1, 0, 0, 0, 1];
+
+// Whether prices of a colour cut the array against a pawn that came from the e-file to d3: one capture,
+// and White owes none.
+fn is_cut(rt: &impl Abort, color: Color, u: &[u8], v: &[u8]) -> bool {
+    let text = "rnbqkbnr/pppppppp/8/8/8/3P4/PPPP1PPP/RNBQKBNR";
+    let d3 = Diagram::read(text).expect(rt, text);
+    prices_exclude(&d3, &Position::array(), color, u, v)
+}
+
 #[test]
 fn prices_of_the_e_pawn(rt: HostRuntime) {
-    let text = "rnbqkbnr/pppppppp/8/8/8/3P4/PPPP1PPP/RNBQKBNR";
-    let d3 = Diagram::read(text).expect(&rt, text);
-    let array = Position::array();
     let white = Color::White;
-    let u = [0, 0, 0, 1, 0, 0, 0, 0];
-    let v = [0, 0, 0, 1, 0, 0, 0, 1];
-    assert!(rt; prices_exclude(&d3, &array, white, &u, &v));
-    assert!(rt; !prices_exclude(&d3, &array, Color::Black, &u, &v));
-    assert!(rt; !prices_exclude(&d3, &array, white, &v, &u));
-    assert!(rt; !prices_exclude(&d3, &array, white, &[0; 8], &v));
-    assert!(rt; !prices_exclude(&d3, &array, white, &v, &v));
-    assert!(rt; !prices_exclude(&d3, &array, white, &u, &[0, 0, 0, 1, 0, 0, 0, 2]));
-    assert!(rt; !prices_exclude(&d3, &array, white, &[0; 8], &[0; 8]));
-    assert!(rt; !prices_exclude(&d3, &array, white, &[0; 8], &[255; 8]));
-    assert!(rt; !prices_exclude(&d3, &array, white, &[255; 8], &[255; 8]));
+    assert!(rt; is_cut(&rt, white, &U, &V));
+    assert!(rt; !is_cut(&rt, Color::Black, &U, &V));
+    for (u, v) in [
+        (V, U),
+        ([0; 8], V),
+        (V, V),
+        (U, [0, 0, 0, 1, 0, 0, 0, 2]),
+        ([0; 8], [0; 8]),
+        ([0; 8], [255; 8]),
+        ([255; 8], [255; 8]),
+    ] {
+        assert!(rt; !is_cut(&rt, white, &u, &v));
+    }
 }
 
 #[test]
 fn prices_for_other_pawns(rt: HostRuntime) {
-    let text = "rnbqkbnr/pppppppp/8/8/8/3P4/PPPP1PPP/RNBQKBNR";
-    let d3 = Diagram::read(text).expect(&rt, text);
-    let array = Position::array();
     let white = Color::White;
-    let u = [0, 0, 0, 1, 0, 0, 0, 0];
-    let v = [0, 0, 0, 1, 0, 0, 0, 1];
     for n in [0, 7, 9, 63, 64, 65] {
         let few = &[0; 65][..n];
         let full = &[255; 65][..n];
-        assert!(rt; !prices_exclude(&d3, &array, white, &u, full), "{n}");
-        assert!(rt; !prices_exclude(&d3, &array, white, few, &v), "{n}");
-        assert!(rt; !prices_exclude(&d3, &array, white, few, full), "{n}");
+        assert!(rt; !is_cut(&rt, white, &U, full), "{n}");
+        assert!(rt; !is_cut(&rt, white, few, &V), "{n}");
+        assert!(rt; !is_cut(&rt, white, few, full), "{n}");
     }
 }
 
-/// A pawn that would have to go back has no cost, so its target may pay anything.
+// A pawn that would have to go back has no cost, so its target may pay anything.
 #[test]
 fn prices_of_a_pawn_that_goes_back(rt: HostRuntime) {
     for (placed, wanted, color) in [
@@ -124,7 +131,7 @@ fn prices_of_a_pawn_that_goes_back(rt: HostRuntime) {
     }
 }
 
-/// Two files in one rank are no way of a pawn: they have no cost.
+// Two files in one rank are no way of a pawn: they have no cost.
 #[test]
 fn prices_of_a_pawn_too_near(rt: HostRuntime) {
     let here = position(&rt, "4k3/8/8/8/8/8/4P3/4K3 w - - 0 1");

@@ -8,7 +8,7 @@ use Rattle.pg_board.specs.Squares.{file, rank}
 use Rattle.pg_position.specs.declared.direction.Direction.{Direction}
 use Rattle.pg_position.specs.declared.direction.Direction.TheVariants.{North, NorthEast, East, SouthEast, South, SouthWest, West, NorthWest}
 use Rattle.pg_position.specs.Geometry.{OnOneLine, OnOneDiagonal, InPattern, IsBetween}
-use Rattle.pg_position.specs.Rays.{OnRay, Before, is_straight, slides}
+use Rattle.pg_position.specs.numbers.Rays.{OnRay, Before, is_straight, slides}
 
 -- the squares between a square of a ray and its start are those of the ray before it
 diagonal_NorthEast : (s r t : ℕ) → OnRay NorthEast s r → IsBetween r t s → OnOneDiagonal r t

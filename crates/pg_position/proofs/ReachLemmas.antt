@@ -1,4 +1,4 @@
--- Where a man may capture, by sets of squares. Leads to the contracts of `reach` and `is_clear`.
+-- Where a man may capture, by sets of squares. Leads to the contracts of `attacks_from` and `is_clear`.
 use Rattle.std.proofs.Common.{◌≡◌, ℕ, ◌-◌, ◌^◌, ◌<◌, ◌⊎◌, ◌↔◌, IsTrue, inl, inr, Bool, true, false, not, cond, ◌&&◌, None, eqb, refl, sym, ap, ◌∙◌, subst, arith, bit_and, bit_or, w64}
 use Rattle.std.specs.Int.{bit_not}
 use Rattle.std.proofs.lemmas.Nat.Bits.{bit_at_not}
@@ -11,10 +11,10 @@ use Rattle.pg_board.specs.Placement.{Placement, get, empty, get-empty}
 use Rattle.pg_position.specs.declared.direction.Direction.{Direction}
 use Rattle.pg_position.specs.declared.direction.Direction.TheVariants.{North, NorthEast, East, SouthEast, South, SouthWest, West, NorthWest}
 use Rattle.pg_position.specs.Geometry.{OnOneLine, InPattern, IsBetween}
-use Rattle.pg_position.specs.Rays.{OnRay, Before, IsIn, ascends, slides, is_straight}
+use Rattle.pg_position.specs.numbers.Rays.{OnRay, Before, IsIn, ascends, slides, is_straight}
 use Rattle.pg_position.specs.SquareSets.{IsSetOf}
 use Rattle.pg_position.specs.Attack.{IsClear, Reaches}
-use Rattle.pg_position.specs.Lines.{IsBlocked, IsFree, ReachesAlong, ReachesStraight, ReachesDiagonal}
+use Rattle.pg_position.specs.numbers.Lines.{IsBlocked, IsFree, ReachesAlong, ReachesStraight, ReachesDiagonal}
 use Rattle.pg_position.proofs.LineLemmas.{between_forth, between_back, slide_pattern, bishop_ray, rook_ray, queen_ray, pawn_near, knight_near, king_near}
 use Rattle.pg_position.proofs.AttackLemmas.{not_held, held_on}
 

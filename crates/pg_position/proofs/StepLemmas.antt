@@ -1,5 +1,5 @@
 -- Facts on steps: a passed square's rank, one case for each move.
-use Rattle.std.proofs.Common.{◌≡◌, ◌≢◌, ℕ, ◌+◌, ◌<◌, ◌≤◌, Option, Some, None, refl, sym, ap, arith, ◌∙◌}
+use Rattle.std.proofs.Common.{◌≡◌, ◌≢◌, ℕ, ◌≤◌, Option, Some, None, refl, sym, ap, arith, ◌∙◌}
 use Rattle.pg_board.specs.declared.man.Color.{Color}
 use Rattle.pg_board.specs.declared.man.Color.TheVariants.{White, Black}
 use Rattle.pg_board.specs.declared.man.Kind.{Kind}
@@ -17,27 +17,22 @@ use Rattle.pg_position.specs.Geometry.{apart, IsForward, InPattern}
 use Rattle.pg_board.specs.Squares.{file, rank}
 use Rattle.pg_board.specs.Men.{other, man}
 use Rattle.pg_board.specs.Placement.{get}
-use Rattle.pg_position.specs.Position.{Stands, IsVacant, king_home, ahead, passed_rank, IsPassed, PassedClause, IsPosition}
+use Rattle.pg_position.specs.Position.{Stands, IsVacant, king_home, ahead, HasAhead, passed_rank, IsPassed, PassedClause, IsPosition}
 use Rattle.pg_position.specs.Step.{home_rank, king_target, IsEnemy, Goes, IsPlain, IsCapture, IsDoubleAdvance, IsEnPassant, IsCastling, IsWay, after, Step, Legal, IsCause}
 
 -- a pawn taken in passing is on the board
-pub passed_white : (p : State) (k : Kind) (m : Move) (w : Way) → IsPosition p → IsWay p k m w → w ≡ EnPassant → p.side ≡ White → 8 ≤ m.to
-unfolding IsPassed
-passed_white p k m EnPassant pos h e side = let r : rank m.to ≡ passed_rank p.side = (pos.passing m.to h.passed).0 in omega (arith, rw side at r)
-passed_white p k m Plain pos h e side = cc
-passed_white p k m Capture pos h e side = cc
-passed_white p k m DoubleAdvance pos h e side = cc
-passed_white p k m (Promotion x) pos h e side = cc
-passed_white p k m (Castling x) pos h e side = cc
+passed_behind : (c : Color) (e : ℕ) → rank e ≡ passed_rank c → HasAhead (other c) 1 e
+passed_behind White e h = omega arith
+passed_behind Black e h = omega arith
 
-pub passed_black : (p : State) (k : Kind) (m : Move) (w : Way) → IsPosition p → IsWay p k m w → w ≡ EnPassant → p.side ≡ Black → m.to + 8 < 64
+pub taken_on_board : (p : State) (k : Kind) (m : Move) (w : Way) → IsPosition p → IsWay p k m w → w ≡ EnPassant → HasAhead (other p.side) 1 m.to
 unfolding IsPassed
-passed_black p k m EnPassant pos h e side = let r : rank m.to ≡ passed_rank p.side = (pos.passing m.to h.passed).0 in omega (arith, rw side at r)
-passed_black p k m Plain pos h e side = cc
-passed_black p k m Capture pos h e side = cc
-passed_black p k m DoubleAdvance pos h e side = cc
-passed_black p k m (Promotion x) pos h e side = cc
-passed_black p k m (Castling x) pos h e side = cc
+taken_on_board p k m EnPassant valid way e = passed_behind p.side m.to (valid.passing m.to way.passed).0
+taken_on_board p k m Plain valid way e = cc
+taken_on_board p k m Capture valid way e = cc
+taken_on_board p k m DoubleAdvance valid way e = cc
+taken_on_board p k m (Promotion x) valid way e = cc
+taken_on_board p k m (Castling x) valid way e = cc
 
 -- a colour is one or the other
 pub same_color_else : (c d : Color) → c ≢ other d → c ≡ d

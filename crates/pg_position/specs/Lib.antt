@@ -7,6 +7,5 @@ pub mod Game
 pub mod Future
 pub mod Equality
 pub mod SquareSets
-pub mod Rays
-pub mod Lines
 pub mod Order
+pub mod numbers

@@ -1,5 +1,5 @@
 -- What makes a state a position: a placement, a side to move, castling rights and a passed square that meet five clauses.
-use Rattle.std.specs.Prelude.{◌≡◌, ◌≢◌, ℕ, ◌+◌, ◌-◌, ◌*◌, ◌<◌, Option, Some, None, Bool, true}
+use Rattle.std.specs.Prelude.{◌≡◌, ◌≢◌, ℕ, ◌+◌, ◌-◌, ◌*◌, ◌<◌, ◌≤◌, Option, Some, None, Bool, true}
 use Rattle.pg_board.specs.declared.man.Color.{Color}
 use Rattle.pg_board.specs.declared.man.Color.TheVariants.{White, Black}
 use Rattle.pg_board.specs.declared.man.Kind.{Kind}
@@ -57,6 +57,11 @@ holds r Black QueenSide = r.black_queen
 abbrev pub ahead : Color → ℕ → ℕ → ℕ
 ahead White n s = s + 8 * n
 ahead Black n s = s - 8 * n
+
+-- the square n ranks forward is on the board
+abbrev pub HasAhead : Color → ℕ → ℕ → Type 0
+HasAhead White n s = s + 8 * n < 64
+HasAhead Black n s = 8 * n ≤ s
 
 -- the rank of a passed square, with this colour to move
 abbrev pub passed_rank : Color → ℕ

@@ -2,10 +2,10 @@
 ghost use Rattle.std.specs.Prelude.{◌≡◌, ℕ, ◌<◌, ◌↔◌, IsTrue, ◌⊎◌, MatchOption, Some, None};
 ghost use Rattle.pg_board.specs.Men.{man};
 ghost use Rattle.pg_board.specs.Placement.{get};
-ghost use Rattle.pg_position.specs.Rays.{OnRay};
+ghost use Rattle.pg_position.specs.numbers.Rays.{OnRay};
 ghost use Rattle.pg_position.specs.Attack.{Attacks};
 ghost use Rattle.pg_position.specs.SquareSets.{IsSetOf};
-ghost use Rattle.pg_position.specs.Lines.{AttackedBy, AttackedAlong, IsBlocked, ByStep, Straight, Diagonal};
+ghost use Rattle.pg_position.specs.numbers.Lines.{AttackedBy, AttackedAlong, IsBlocked, ByStep, Straight, Diagonal};
 
 use crate::direction::Direction;
 use crate::masks::{king_mask, knight_mask, pawn_mask, ray};
@@ -19,7 +19,7 @@ pub(crate) fn man(color: Color, kind: Kind) -> Man
     Man { color, kind }
 }
 
-/// The first square in a direction with a man; none where the ray is empty up to the edge.
+// The first square in a direction with a man; none where the ray is empty up to the edge.
 pub(crate) fn blocker(board: &Board, direction: Direction, square: Square) -> Option<Square>
     ensures { MatchOption result ((t : ℕ) → t < 64 → OnRay direction square t → get board.now t ≡ None) (λ x. IsBlocked board.now direction square x) }
 {

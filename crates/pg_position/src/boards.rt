@@ -4,7 +4,7 @@ ghost use Rattle.pg_board.specs.Squares.{file};
 ghost use Rattle.pg_position.specs.Geometry.{IsForward};
 ghost use Rattle.pg_position.specs.Attack.{Reaches, Attacks};
 ghost use Rattle.pg_position.specs.Position.{Stands, IsVacant, InCheck};
-ghost use Rattle.pg_position.specs.Step.{IsEnemy, Goes, MustPromote, relocated};
+ghost use Rattle.pg_position.specs.Step.{IsEnemy, Goes, relocated};
 
 use crate::attack::{attacked, man};
 use crate::reaching::reaches;
@@ -21,7 +21,8 @@ pub(crate) fn stands(board: &Board, color: Color, kind: Kind, square: Square) ->
     }
 }
 
-pub(crate) fn is_vacant(board: &Board, square: Square) -> bool
+/// Whether no man stands on the square.
+pub fn is_vacant(board: &Board, square: Square) -> bool
     ensures { IsTrue result ↔ IsVacant board.now square }
 {
     board.get(square).is_none()
@@ -57,16 +58,6 @@ pub(crate) fn goes(board: &Board, man: &Man, from: Square, to: Square) -> bool
         Kind::Pawn => from.file() == to.file() && is_forward(man.color, 1, from, to),
         _ => reaches(board, *man, from, to),
     }
-}
-
-pub(crate) fn must_promote(kind: Kind, color: Color, square: Square) -> bool
-    ensures { IsTrue result ↔ MustPromote kind color square }
-{
-    kind == Kind::Pawn
-        && match color {
-            Color::White => square.rank() == 8,
-            Color::Black => square.rank() == 1,
-        }
 }
 
 // Takes what stands on `from` to `to`.

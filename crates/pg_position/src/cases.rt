@@ -6,12 +6,12 @@ ghost use Rattle.pg_position.specs.Step.{IsPlain, IsCapture, IsDoubleAdvance, Is
 ghost use Rattle.pg_position.specs.Position.{IsVacant};
 
 use crate::attack::{attacked, man};
-use crate::boards::{goes, is_enemy, is_vacant, must_promote};
-use crate::homes::{king_home, king_target};
+use crate::boards::{goes, is_enemy, is_vacant};
 use crate::masks::pawn_mask;
 use crate::moves::{Move, Way};
 use crate::reaching::reaches;
 use crate::rights::Wing;
+use crate::squares::{ahead, home_rank, king_home, king_target, must_promote};
 use crate::state::State;
 use pg_board::{Color, Kind, Square, contains};
 
@@ -39,18 +39,9 @@ pub(crate) fn is_double_advance(state: &State, kind: Kind, m: &Move) -> bool
 {
     m.promotion.is_none()
         && kind == Kind::Pawn
-        && match state.side {
-            Color::White => {
-                m.from.rank() == 2
-                    && m.to.index() == m.from.index() + 16
-                    && is_vacant(&state.board, Square::at(m.from.index() + 8))
-            }
-            Color::Black => {
-                m.from.rank() == 7
-                    && m.to.index() == m.from.index() - 16
-                    && is_vacant(&state.board, Square::at(m.from.index() - 8))
-            }
-        }
+        && m.from.rank() == home_rank(state.side)
+        && m.to == ahead(state.side, 2, m.from)
+        && is_vacant(&state.board, ahead(state.side, 1, m.from))
         && is_vacant(&state.board, m.to)
 }
 

@@ -9,9 +9,9 @@ ghost use Rattle.pg_position.specs.Step.{IsCastling, king_crossed, king_target};
 ghost use Rattle.pg_position.specs.declared.rights.Wing.{Wing};
 
 use crate::attack::attacked;
-use crate::homes::{king_crossed, king_home, king_target};
 use crate::rights::Wing;
 use crate::square_sets::{meets, single};
+use crate::squares::{king_crossed, king_home, king_target};
 use crate::state::State;
 use pg_board::{Board, Color, Kind};
 

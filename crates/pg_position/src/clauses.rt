@@ -4,8 +4,8 @@ ghost use Rattle.pg_board.specs.Squares.{rank};
 ghost use Rattle.pg_position.specs.Position.{Stands, HasOneKing, holds, KingsClause, PawnsClause, IsHome, RightsClause, IsPassed, PassedClause};
 
 use crate::boards::{is_vacant, stands};
-use crate::homes::{king_home, rook_home};
 use crate::rights::{Rights, Wing};
+use crate::squares::{ahead, king_home, passed_rank, rook_home};
 use crate::state::State;
 use pg_board::{Board, Color, Kind, Man, Square};
 
@@ -95,30 +95,15 @@ pub(crate) fn has_good_rights(board: &Board, rights: &Rights) -> bool
 pub(crate) fn is_passed(board: &Board, side: Color, square: Square) -> bool
     ensures { IsTrue result ↔ IsPassed board.now side square }
 {
-    match side {
-        Color::White => {
-            square.rank() == 6
-                && is_vacant(board, square)
-                && stands(
-                    board,
-                    Color::Black,
-                    Kind::Pawn,
-                    Square::at(square.index() - 8),
-                )
-                && is_vacant(board, Square::at(square.index() + 8))
-        }
-        Color::Black => {
-            square.rank() == 3
-                && is_vacant(board, square)
-                && stands(
-                    board,
-                    Color::White,
-                    Kind::Pawn,
-                    Square::at(square.index() + 8),
-                )
-                && is_vacant(board, Square::at(square.index() - 8))
-        }
-    }
+    square.rank() == passed_rank(side)
+        && is_vacant(board, square)
+        && stands(
+            board,
+            side.other(),
+            Kind::Pawn,
+            ahead(side.other(), 1, square),
+        )
+        && is_vacant(board, ahead(side, 1, square))
 }
 
 pub(crate) fn has_good_passed(state: &State) -> bool

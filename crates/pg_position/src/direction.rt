@@ -1,6 +1,6 @@
 //! The eight directions in which men move along lines.
 ghost use Rattle.std.specs.Prelude.{◌≡◌, ◌↔◌, ◌⊎◌, true, false};
-ghost use Rattle.pg_position.specs.Rays.{place, is_straight, ascends, slides};
+ghost use Rattle.pg_position.specs.numbers.Rays.{place, is_straight, ascends, slides};
 
 use pg_board::Kind;
 
@@ -19,14 +19,14 @@ pub enum Direction {
 }
 
 impl Direction {
-    /// The place in the table of rays, 0 to 7.
+    // The place in the table of rays, 0 to 7.
     pub(crate) fn place(self) -> usize
         ensures { result ≡ place self }
     {
         self as usize
     }
 
-    /// Whether it goes along a file or a rank, and not along a diagonal.
+    // Whether it goes along a file or a rank, and not along a diagonal.
     pub(crate) fn is_straight(self) -> bool
         ensures { result ≡ is_straight self }
     {
@@ -36,7 +36,7 @@ impl Direction {
         }
     }
 
-    /// Whether the indices of its squares grow.
+    // Whether the indices of its squares grow.
     pub(crate) fn ascends(self) -> bool
         ensures { result ≡ ascends self }
     {
@@ -47,7 +47,7 @@ impl Direction {
         }
     }
 
-    /// The kind of man that moves this way, beside the queen.
+    // The kind of man that moves this way, beside the queen.
     pub(crate) fn slider(self) -> Kind
         ensures { (k : Kind) → (slides self k ≡ true) ↔ ((k ≡ result) ⊎ (k ≡ Kind.Queen)) }
     {

@@ -5,9 +5,9 @@ ghost use Rattle.pg_position.specs.Position.{IsPosition, king_home};
 ghost use Rattle.pg_position.specs.Step.{IsWay, king_target};
 
 use crate::boards::is_vacant;
-use crate::homes::{king_home, king_target};
 use crate::moves::{Move, Way};
 use crate::rights::Wing;
+use crate::squares::{king_home, king_target};
 use crate::state::State;
 use pg_board::Kind;
 

@@ -10,7 +10,6 @@ mod clauses;
 mod direction;
 mod equality;
 mod futures;
-mod homes;
 mod laws;
 mod legal_ways;
 mod masks;
@@ -23,19 +22,25 @@ mod reaching;
 mod refusals;
 mod rights;
 mod square_sets;
+mod squares;
 mod state;
 mod steps;
 mod tables;
 
 pub use attack::attacked;
+pub use boards::is_vacant;
 pub use laws::{legal_leads_to_a_position, legal_leads_to_one_position, same_future_same_games};
 pub use moves::{Move, move_order};
 pub use packed::PackedPosition;
 pub use position::Position;
-pub use reaching::{is_clear, reach, reaches};
+pub use reaching::{attacks_from, is_clear, reaches};
 pub use refusals::{BadPosition, Illegal};
-pub use rights::Rights;
+pub use rights::{Rights, Wing};
 pub use square_sets::first_from;
+pub use squares::{
+    ahead, has_ahead, home_rank, king_crossed, king_home, king_target, last_rank, must_promote,
+    passed_rank, rook_home,
+};
 
 #[cfg(test)]
 mod tests;

@@ -1,7 +1,7 @@
 //! The tables by their meaning: sets of squares, where bit q is the square q.
 ghost use Rattle.std.specs.Prelude.{◌≡◌, ℕ, ◌<◌};
 ghost use Rattle.pg_position.specs.Geometry.{InPattern};
-ghost use Rattle.pg_position.specs.Rays.{OnRay};
+ghost use Rattle.pg_position.specs.numbers.Rays.{OnRay};
 ghost use Rattle.pg_position.specs.SquareSets.{IsSetOf};
 
 use crate::direction::Direction;
@@ -9,7 +9,7 @@ use crate::ray_tables::RAYS;
 use crate::tables::{KING, KNIGHT, PAWN};
 use pg_board::{Color, Kind, Square};
 
-/// The squares that a knight attacks (FIDE article 3.6).
+// The squares that a knight attacks (FIDE article 3.6).
 #[tactic(auto, using(crate::proofs::TableLemmas::knights_at))]
 pub(crate) fn knight_mask(square: Square) -> u64
     ensures { (c : Color) → IsSetOf result (InPattern c Kind.Knight square) }
@@ -17,7 +17,7 @@ pub(crate) fn knight_mask(square: Square) -> u64
     KNIGHT[square.index() as usize]
 }
 
-/// The squares that a king attacks (FIDE article 3.8).
+// The squares that a king attacks (FIDE article 3.8).
 #[tactic(auto, using(crate::proofs::TableLemmas::kings_at))]
 pub(crate) fn king_mask(square: Square) -> u64
     ensures { (c : Color) → IsSetOf result (InPattern c Kind.King square) }
@@ -25,7 +25,7 @@ pub(crate) fn king_mask(square: Square) -> u64
     KING[square.index() as usize]
 }
 
-/// The squares that a pawn of the colour attacks (FIDE article 3.7).
+// The squares that a pawn of the colour attacks (FIDE article 3.7).
 pub(crate) fn pawn_mask(color: Color, square: Square) -> u64
     ensures { IsSetOf result (InPattern color Kind.Pawn square) }
 {
@@ -35,7 +35,7 @@ pub(crate) fn pawn_mask(color: Color, square: Square) -> u64
     }
 }
 
-/// The squares in a direction, up to the edge of the board.
+// The squares in a direction, up to the edge of the board.
 pub(crate) fn ray(direction: Direction, square: Square) -> u64
     ensures { IsSetOf result (OnRay direction square) }
 {

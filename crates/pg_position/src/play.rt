@@ -36,6 +36,7 @@ impl State {
         ensures ok { IfOk result (λ q. Step self.now m.now q) }
         ensures err { IfErr result (λ e. IsCause self.now m.now e) }
     {
+        // Facts for the proof: both squares are on the board.
         m.from.index();
         m.to.index();
         let kind = self.mover(m)?;
@@ -51,6 +52,7 @@ impl State {
         ensures ok { IfOk result (λ q. IsPosition q × ((r : State) → (q ≡ r) ↔ Legal self.now m.now r)) }
         ensures err { IfErr result (λ e. IsCause self.now m.now e × ((r : State) → ¬ Legal self.now m.now r)) }
     {
+        // Facts for the proof: both squares are on the board.
         m.from.index();
         m.to.index();
         match self.step(m) {

@@ -78,8 +78,10 @@ impl Position {
         }
     }
 
-    /// The position of these parts. Refused, with the first clause that they break, as `Kings`,
-    /// `PawnRank`, `Rights`, `EnPassant` or `Check`.
+    /// The position of these parts.
+    ///
+    /// # Errors
+    /// The first clause that they break: `Kings`, `PawnRank`, `Rights`, `EnPassant` or `Check`.
     pub fn from_parts(
         board: Board,
         side: Color,
@@ -109,7 +111,7 @@ impl Position {
         }
     }
 
-    /// The position of a state that meets the five clauses.
+    // The position of a state that meets the five clauses.
     pub(crate) fn of_state(state: State) -> Position
         requires { IsPosition state }
         ensures { result ≡ state }
@@ -163,10 +165,12 @@ impl Position {
         self.state.is_in_check()
     }
 
-    /// The position that a legal move leads to. Any other move is refused, with the first of these
-    /// that holds: `EmptyFrom`, no man stands on the square that it leaves; `OtherSide`, that man is
-    /// not of the side to move; `NotAMove`, it does not move so, a wrong promotion and forbidden
-    /// castling included; `LeavesCheck`, its king would be attacked (FIDE articles 3.1 to 3.9).
+    /// The position that a legal move leads to (FIDE articles 3.1 to 3.9).
+    ///
+    /// # Errors
+    /// Of any other move the first of these that holds: `EmptyFrom`, no man stands on the square that
+    /// it leaves; `OtherSide`, that man is not of the side to move; `NotAMove`, it does not move so, a
+    /// wrong promotion and forbidden castling included; `LeavesCheck`, its king would be attacked.
     pub fn play(&self, m: Move) -> Result<Position, Illegal>
         ensures ok { IfOk result (λ q. (r : State) → (q ≡ r) ↔ Legal self.now m r) }
         ensures err { IfErr result (λ e. IsCause self.now m e × ((r : State) → ¬ Legal self.now m r)) }

@@ -2,7 +2,7 @@
 ghost use Rattle.std.specs.Prelude.{◌≡◌, ℕ, ◌<◌, ◌⊎◌, ◌↔◌, IsTrue};
 ghost use Rattle.pg_position.specs.SquareSets.{IsSetOf};
 ghost use Rattle.pg_position.specs.Attack.{IsClear, Reaches};
-ghost use Rattle.pg_position.specs.Lines.{ReachesAlong, ReachesStraight, ReachesDiagonal};
+ghost use Rattle.pg_position.specs.numbers.Lines.{ReachesAlong, ReachesStraight, ReachesDiagonal};
 
 use crate::attack::blocker;
 use crate::direction::Direction;
@@ -41,7 +41,7 @@ fn reach_diagonal(board: &Board, from: Square) -> u64
 /// The squares that the man attacks from `from` with nothing in between, as a set of bits, also
 /// those with a man of its own colour (FIDE articles 3.2 to 3.8). What stands on `from` does not
 /// matter.
-pub fn reach(board: &Board, man: Man, from: Square) -> u64
+pub fn attacks_from(board: &Board, man: Man, from: Square) -> u64
     ensures { IsSetOf result (Reaches board.now man.color man.kind from) }
 {
     match man.kind {
@@ -58,7 +58,7 @@ pub fn reach(board: &Board, man: Man, from: Square) -> u64
 pub fn reaches(board: &Board, man: Man, from: Square, to: Square) -> bool
     ensures { IsTrue result ↔ Reaches board.now man.color man.kind from to }
 {
-    contains(reach(board, man, from), to.index())
+    contains(attacks_from(board, man, from), to.index())
 }
 
 /// Whether each square strictly between the two is empty. Squares that share no file, rank or

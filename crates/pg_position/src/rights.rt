@@ -3,10 +3,12 @@ ghost use Rattle.pg_position.specs.Position.{holds};
 
 use pg_board::Color;
 
-/// The two sides of the board to which a king castles: towards the h-file and towards the a-file.
+/// The two sides of the board to which a king castles (FIDE article 3.8).
 #[derive(Clone, Copy, Debug, PartialEq, Eq)]
 pub enum Wing {
+    /// Towards the h-file.
     KingSide,
+    /// Towards the a-file.
     QueenSide,
 }
 
@@ -25,8 +27,9 @@ pub struct Rights {
 }
 
 impl Rights {
-    // Whether the colour may still castle towards the wing.
-    pub(crate) fn holds(&self, color: Color, wing: Wing) -> bool
+    /// Whether the colour may still castle towards the wing: neither its king nor that rook has moved
+    /// (FIDE article 3.8.2.1).
+    pub fn holds(&self, color: Color, wing: Wing) -> bool
         ensures { result ≡ holds self.now color wing }
     {
         match color {

@@ -5,14 +5,14 @@ ghost use Rattle.pg_position.specs.SquareSets.{IsSetOf, HasNoneFrom, IsFirstFrom
 
 use pg_board::Square;
 
-/// Whether two sets share a square.
+// Whether two sets share a square.
 pub(crate) fn meets(a: u64, b: u64) -> bool
     ensures { IsTrue result ↔ ((q : ℕ) × (q < 64) × (has a q ≡ true) × (has b q ≡ true)) }
 {
     a & b != 0
 }
 
-/// The set of one square.
+// The set of one square.
 pub(crate) fn single(square: Square) -> u64
     ensures { IsSetOf result (λ q. q ≡ square) }
 {

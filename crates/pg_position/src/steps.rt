@@ -4,10 +4,10 @@ ghost use Rattle.pg_position.specs.Position.{IsPosition};
 ghost use Rattle.pg_position.specs.Step.{IsWay, relocated, board_after, passed_after, touches, keeps, rights_after, after};
 
 use crate::boards::relocate;
-use crate::homes::{king_crossed, king_home, rook_home};
 use crate::moves::{Move, Way};
 use crate::rights::{Rights, Wing};
 use crate::square_sets::{meets, single};
+use crate::squares::{ahead, king_crossed, king_home, rook_home};
 use crate::state::State;
 use pg_board::{Board, Color, Kind, Man, Square};
 
@@ -51,10 +51,7 @@ impl State {
         ensures { result ≡ passed_after self.now m.now way }
     {
         match way {
-            Way::DoubleAdvance => match self.side {
-                Color::White => Some(Square::at(m.from.index() + 8)),
-                Color::Black => Some(Square::at(m.from.index() - 8)),
-            },
+            Way::DoubleAdvance => Some(ahead(self.side, 1, m.from)),
             _ => None,
         }
     }
@@ -70,11 +67,7 @@ impl State {
             Way::Plain | Way::Capture | Way::DoubleAdvance => relocate(&mut board, m.from, m.to),
             Way::EnPassant => {
                 relocate(&mut board, m.from, m.to);
-                let taken = match self.side {
-                    Color::White => Square::at(m.to.index() - 8),
-                    Color::Black => Square::at(m.to.index() + 8),
-                };
-                board.take(taken);
+                board.take(ahead(self.side.other(), 1, m.to));
             }
             Way::Promotion(piece) => {
                 board.take(m.from);

@@ -27,7 +27,7 @@ fn man_of(letter: u8) -> Option<Man> {
     Some(Man { color, kind })
 }
 
-/// The board of a placement as a FEN writes it, from a8 to h1.
+// The board of a placement as a FEN writes it, from a8 to h1.
 fn board(text: &str) -> Board {
     let mut board = Board::empty();
     let mut seen = 0u8;
@@ -54,7 +54,7 @@ fn rights(text: &str) -> Rights {
     }
 }
 
-/// The square of a name such as `e4`.
+// The square of a name such as `e4`.
 fn square(rt: &impl Abort, name: &str) -> Square {
     let bytes = name.as_bytes();
     assert!(rt; bytes.len() >= 2, "{name}");
@@ -62,7 +62,7 @@ fn square(rt: &impl Abort, name: &str) -> Square {
     Square::new(bytes[0] - b'a' + 1, bytes[1] - b'0').expect(rt, name)
 }
 
-/// The move of a text such as `e2e4` or `e7e8q`.
+// The move of a text such as `e2e4` or `e7e8q`.
 fn move_of(rt: &impl Abort, text: &str) -> Move {
     let bytes = text.as_bytes();
     assert!(rt; bytes.len() >= 4, "{text}");
@@ -94,17 +94,17 @@ fn parts(
     Position::from_parts(board(placement), side, rights(castling), passed)
 }
 
-/// The position with White to move and no passed square.
+// The position with White to move and no passed square.
 fn white(rt: &impl Abort, placement: &str, castling: &str) -> Position {
     parts(rt, placement, Color::White, castling, "-").expect(rt, placement)
 }
 
-/// The position with Black to move and no rights.
+// The position with Black to move and no rights.
 fn black(rt: &impl Abort, placement: &str, passed: &str) -> Position {
     parts(rt, placement, Color::Black, "-", passed).expect(rt, placement)
 }
 
-/// The position after moves that must all be legal.
+// The position after moves that must all be legal.
 fn after(rt: &impl Abort, start: &Position, moves: &[&str]) -> Position {
     let mut position = *start;
     for text in moves {

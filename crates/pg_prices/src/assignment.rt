@@ -3,10 +3,10 @@
 /// How many targets and how many sources there are at most.
 pub const MOST: usize = 16;
 
-/// Where a source or a target has no partner.
+// Where a source or a target has no partner.
 const NONE: u8 = 255;
 
-/// The costs of a target, by sources.
+// The costs of a target, by sources.
 type Row = [u8; MOST];
 
 /// The costs, by targets and then by sources. A cost of at least a dummy's is as none.
@@ -22,8 +22,8 @@ pub struct Assignment {
     pub targets: [u8; MOST],
 }
 
-/// Some targets with their sources, each at the difference of their prices: `holder` of a source,
-/// `held` of a target. A target without a source that is settled has a dummy.
+// Some targets with their sources, each at the difference of their prices: `holder` of a source,
+// `held` of a target. A target without a source that is settled has a dummy.
 #[derive(Clone, Copy)]
 struct Partners {
     sources: [u8; MOST],
@@ -32,8 +32,8 @@ struct Partners {
     held: [u8; MOST],
 }
 
-/// A shortest way from an unsettled target to each source: its length, the target before the source,
-/// and 255 for those whose length is final.
+// A shortest way from an unsettled target to each source: its length, the target before the source,
+// and 255 for those whose length is final.
 #[derive(Clone, Copy)]
 struct Ways {
     length: [u8; MOST],
@@ -41,8 +41,8 @@ struct Ways {
     closed: [u8; MOST],
 }
 
-/// The end of a shortest way: a source that no target holds, or a dummy (`NONE`), the target before it,
-/// and the length.
+// The end of a shortest way: a source that no target holds, or a dummy (`NONE`), the target before it,
+// and the length.
 #[derive(Clone, Copy)]
 struct End {
     source: u8,
@@ -58,7 +58,7 @@ fn put(row: &mut Row, i: u8, x: u8) {
     row[usize::from(i) % MOST] = x;
 }
 
-/// The least cost in a row, a dummy's included.
+// The least cost in a row, a dummy's included.
 fn least(row: &Row, dummy: u8) -> u8 {
     let mut least = dummy;
     for i in 0..MOST {
@@ -67,7 +67,7 @@ fn least(row: &Row, dummy: u8) -> u8 {
     least
 }
 
-/// The sources of a row with this cost, as bits.
+// The sources of a row with this cost, as bits.
 fn with_cost(row: &Row, cost: u8) -> u16 {
     let mut set = 0u16;
     for i in 0..MOST {
@@ -76,7 +76,7 @@ fn with_cost(row: &Row, cost: u8) -> u16 {
     set
 }
 
-/// The ways that go on from a target, where they are shorter.
+// The ways that go on from a target, where they are shorter.
 fn go_on(ways: &mut Ways, row: &Row, prices: &Row, price: u8, target: u8, so_far: u8) {
     for i in 0..MOST {
         let length = so_far
@@ -89,7 +89,7 @@ fn go_on(ways: &mut Ways, row: &Row, prices: &Row, price: u8, target: u8, so_far
     }
 }
 
-/// The open source with the shortest way, with its length in the higher bits.
+// The open source with the shortest way, with its length in the higher bits.
 fn nearest(ways: &Ways) -> u16 {
     let mut best = u16::MAX;
     for i in 0..MOST {
@@ -99,7 +99,7 @@ fn nearest(ways: &Ways) -> u16 {
     best
 }
 
-/// Finds a shortest way from a target to a source that is not held or to a dummy.
+// Finds a shortest way from a target to a source that is not held or to a dummy.
 fn search(costs: &Costs, dummy: u8, partners: &Partners, start: u8, ways: &mut Ways) -> End {
     let mut end = End {
         source: NONE,
@@ -136,7 +136,7 @@ fn search(costs: &Costs, dummy: u8, partners: &Partners, start: u8, ways: &mut W
     end
 }
 
-/// Raises the prices along the ways that are shorter than the one that was found.
+// Raises the prices along the ways that are shorter than the one that was found.
 fn raise(partners: &mut Partners, ways: &Ways, start: u8, length: u8) {
     for i in 0..MOST {
         if ways.closed[i] != 0 {
@@ -151,7 +151,7 @@ fn raise(partners: &mut Partners, ways: &Ways, start: u8, length: u8) {
     put(&mut partners.targets, start, price);
 }
 
-/// Each target of the way takes the source behind it.
+// Each target of the way takes the source behind it.
 fn shift(partners: &mut Partners, ways: &Ways, start: u8, end: End) {
     let mut source = end.source;
     let mut target = end.target;
@@ -169,7 +169,7 @@ fn shift(partners: &mut Partners, ways: &Ways, start: u8, end: End) {
     }
 }
 
-/// Settles a target that has no source.
+// Settles a target that has no source.
 fn settle(costs: &Costs, dummy: u8, partners: &mut Partners, start: u8) {
     let mut ways = Ways {
         length: [255; MOST],
@@ -181,8 +181,8 @@ fn settle(costs: &Costs, dummy: u8, partners: &mut Partners, start: u8) {
     shift(partners, &ways, start, end);
 }
 
-/// Prices each target by its least cost, and gives it a source of that cost that no target holds, or a
-/// dummy, if there is one. The targets that are left are answered, as bits.
+// Prices each target by its least cost, and gives it a source of that cost that no target holds, or a
+// dummy, if there is one. The targets that are left are answered, as bits.
 fn begin(costs: &Costs, targets: usize, dummy: u8, partners: &mut Partners) -> u16 {
     let mut free = u16::MAX;
     let mut left = 0u16;

@@ -2,10 +2,10 @@
 
 use std::alloc::{AllocError, Global};
 
-/// How many slots the first entry makes.
+// How many slots the first entry makes.
 const FIRST: usize = 16384;
 
-/// A slot: the halves of a key, both 0 for none, and the number: 12 bytes.
+// A slot: the halves of a key, both 0 for none, and the number: 12 bytes.
 #[derive(Clone, Copy)]
 struct Slot {
     high: u32,
@@ -43,14 +43,14 @@ fn is_same(a: &Slot, b: &Slot) -> bool {
     a.high == b.high && a.low == b.low
 }
 
-/// Where a key's search begins: by other bits than those that tell colours' memories apart.
+// Where a key's search begins: by other bits than those that tell colours' memories apart.
 fn begin_of(slot: &Slot) -> usize {
     let mixed = u64::from(slot.high ^ slot.low.rotate_left(13));
     (mixed.wrapping_mul(0x9e37_79b9_7f4a_7c15) >> 24) as usize
 }
 
-/// The slot that has this key, or the first free one behind its place; the slots' number where there
-/// is none.
+// The slot that has this key, or the first free one behind its place; the slots' number where there
+// is none.
 fn place_of(slots: &Vec<Slot>, wanted: &Slot) -> usize {
     let mask = slots.len().saturating_sub(1);
     let mut at = begin_of(wanted) & mask;
@@ -68,7 +68,7 @@ fn place_of(slots: &Vec<Slot>, wanted: &Slot) -> usize {
     slots.len()
 }
 
-/// Writes a slot.
+// Writes a slot.
 fn write(slots: &mut Vec<Slot>, at: usize, slot: Slot) {
     if let Some(old) = slots.get_mut(at) {
         *old = slot;
@@ -110,6 +110,9 @@ impl Closed {
     }
 
     /// Enters a node by its key, which is not 0 and not entered.
+    ///
+    /// # Errors
+    /// Where memory is refused.
     pub fn insert(&mut self, key: u64, number: u32) -> Result<(), AllocError> {
         if self.used >= self.slots.len() / 4 * 3 {
             match self.grow() {
@@ -124,7 +127,7 @@ impl Closed {
         Ok(())
     }
 
-    /// Doubles the slots.
+    // Doubles the slots.
     fn grow(&mut self) -> Result<(), AllocError> {
         let count = self.slots.len().saturating_mul(2).max(FIRST);
         let mut slots = vec![in *self.slots.allocator(); FREE; count]?;

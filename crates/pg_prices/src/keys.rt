@@ -1,17 +1,11 @@
 //! Keys of 64 bits. Two things with one key are taken for the same: a searcher that is misled by that
 //! writes a certificate that is refused, and nothing worse.
 
-use crate::needs::holds;
-use crate::rows::Wing;
+use crate::rows::KINDS;
 use pg_board::{Board, Color, Kind, Man, Square};
-use pg_position::{Position, Rights};
+use pg_position::{Position, Rights, Wing, attacks_from};
 
-/// The squares of the a-file and of the h-file.
-const A_FILE: u64 = 0x0101_0101_0101_0101;
-
-const H_FILE: u64 = 0x8080_8080_8080_8080;
-
-/// Spreads a number over 64 bits (the finalizer of the generator SplitMix64).
+// Spreads a number over 64 bits (the finalizer of the generator SplitMix64).
 fn spread(number: u64) -> u64 {
     let sum = number.wrapping_mul(0x9e37_79b9_7f4a_7c15);
     let sum = (sum ^ (sum >> 30)).wrapping_mul(0xbf58_476d_1ce4_e5b9);
@@ -27,14 +21,7 @@ fn color_number(color: Color) -> u64 {
 }
 
 fn kind_number(kind: Kind) -> u64 {
-    match kind {
-        Kind::Pawn => 1,
-        Kind::Knight => 2,
-        Kind::Bishop => 3,
-        Kind::Rook => 4,
-        Kind::Queen => 5,
-        Kind::King => 6,
-    }
+    1 + u64::from(kind.number())
 }
 
 /// The key of a man on a square, by the square's index.
@@ -45,13 +32,13 @@ pub fn man_key(man: Man, square: u8) -> u64 {
 /// The key of a right to castle, where it is held.
 pub fn right_key(color: Color, wing: Wing) -> u64 {
     let wing = match wing {
-        Wing::Short => 1,
-        Wing::Long => 2,
+        Wing::KingSide => 1,
+        Wing::QueenSide => 2,
     };
     spread(wing << 12 | color_number(color) << 9)
 }
 
-/// The keys of the men on a set of squares, put together.
+// The keys of the men on a set of squares, put together.
 fn men_key(man: Man, set: u64) -> u64 {
     let mut set = set;
     let mut sum = 0u64;
@@ -69,8 +56,8 @@ fn men_key(man: Man, set: u64) -> u64 {
 /// changes it by the keys of what it changes.
 pub fn color_key(board: &Board, rights: Rights, color: Color) -> u64 {
     let mut sum = spread(color_number(color));
-    for wing in [Wing::Short, Wing::Long] {
-        if holds(rights, color, wing) {
+    for wing in [Wing::KingSide, Wing::QueenSide] {
+        if rights.holds(color, wing) {
             sum ^= right_key(color, wing);
         }
     }
@@ -79,14 +66,7 @@ pub fn color_key(board: &Board, rights: Rights, color: Color) -> u64 {
 
 fn pieces_key(board: &Board, color: Color) -> u64 {
     let mut sum = 0u64;
-    for kind in [
-        Kind::Pawn,
-        Kind::Knight,
-        Kind::Bishop,
-        Kind::Rook,
-        Kind::Queen,
-        Kind::King,
-    ] {
+    for kind in KINDS {
         let man = Man { color, kind };
         sum ^= men_key(man, board.squares_of(man));
     }
@@ -102,12 +82,14 @@ pub fn pawn_key(board: &Board, color: Color) -> u64 {
     spread(board.squares_of(man) ^ color_number(color))
 }
 
-/// The squares from which a colour's pawn attacks one of a set.
-fn pawns_before(set: u64, color: Color) -> u64 {
-    match color {
-        Color::White => (set & !A_FILE) >> 9 | (set & !H_FILE) >> 7,
-        Color::Black => (set & !A_FILE) << 7 | (set & !H_FILE) << 9,
-    }
+// The squares from which a colour's pawn attacks the square: those that the other colour's pawn attacks
+// from there.
+fn pawns_before(board: &Board, square: Square, color: Color) -> u64 {
+    let pawn = Man {
+        color: color.other(),
+        kind: Kind::Pawn,
+    };
+    attacks_from(board, pawn, square)
 }
 
 /// The passed square where a pawn of the side to move attacks it, as a set; otherwise no square.
@@ -116,15 +98,15 @@ pub fn effective_passed(position: &Position) -> u64 {
         return 0;
     };
     let color = position.side();
-    let set = 1u64 << (square.index() % 64);
+    let board = position.board();
     let man = Man {
         color,
         kind: Kind::Pawn,
     };
-    if position.board().squares_of(man) & pawns_before(set, color) == 0 {
+    if board.squares_of(man) & pawns_before(&board, square, color) == 0 {
         0
     } else {
-        set
+        1u64 << square.index()
     }
 }
 

@@ -17,14 +17,10 @@ pub use keys::{color_key, effective_passed, man_key, node_key, pawn_key, right_k
 pub use lists::{Lists, prices_of};
 pub use memory::Memory;
 pub use needs::{
-    NEVER, Needs, PAWN_DUMMY, TRAVEL_DUMMY, UNKNOWN, first_needs, holds, is_short, need,
-    pawn_lists, travel_lists,
+    NEVER, Needs, PAWN_DUMMY, TRAVEL_DUMMY, UNKNOWN, first_needs, is_short, need, pawn_lists,
+    travel_lists,
 };
-pub use rows::{NO_WAY, Rows, Wing};
+pub use rows::{NO_WAY, Rows};
 
 #[cfg(test)]
-mod assignment_tests;
-#[cfg(test)]
-mod memory_tests;
-#[cfg(test)]
-mod rows_tests;
+mod tests;

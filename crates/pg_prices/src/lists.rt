@@ -63,7 +63,7 @@ fn number_at(bytes: &[u8], at: usize) -> usize {
     }
 }
 
-/// So many bytes from a place on, none where there are fewer.
+// So many bytes from a place on, none where there are fewer.
 fn part(bytes: &[u8], at: usize, count: usize) -> &[u8] {
     match bytes.get(at..at.saturating_add(count)) {
         Some(part) => part,

@@ -3,10 +3,10 @@
 use crate::needs::Needs;
 use std::alloc::{AllocError, Global};
 
-/// How many slots the first entry makes.
+// How many slots the first entry makes.
 const FIRST: usize = 4096;
 
-/// A slot: a key, 0 for none, and what is remembered: 16 bytes.
+// A slot: a key, 0 for none, and what is remembered: 16 bytes.
 #[derive(Clone, Copy)]
 struct Slot {
     key: u64,
@@ -36,14 +36,14 @@ pub struct Memory {
     lists: Vec<u8>,
 }
 
-/// The slot of a key, or a free one to put it.
+// The slot of a key, or a free one to put it.
 #[derive(Clone, Copy)]
 enum Place {
     At(usize),
     Free(usize),
 }
 
-/// The slot of a key, or the first free one behind its place.
+// The slot of a key, or the first free one behind its place.
 fn place_of(slots: &Vec<Slot>, key: u64) -> Place {
     let mask = slots.len().saturating_sub(1);
     let mut at = key as usize & mask;
@@ -64,7 +64,7 @@ fn place_of(slots: &Vec<Slot>, key: u64) -> Place {
     Place::Free(at)
 }
 
-/// Writes a slot.
+// Writes a slot.
 fn write(slots: &mut Vec<Slot>, at: usize, slot: Slot) {
     if let Some(old) = slots.get_mut(at) {
         *old = slot;
@@ -104,6 +104,9 @@ impl Memory {
     }
 
     /// Remembers needs under a key, which is not 0, in the place of what was remembered under it.
+    ///
+    /// # Errors
+    /// Where memory is refused.
     pub fn set(&mut self, key: u64, needs: Needs) -> Result<(), AllocError> {
         if let Place::At(at) = place_of(&self.slots, key) {
             write(&mut self.slots, at, Slot { key, needs });
@@ -133,6 +136,9 @@ impl Memory {
 
     /// Remembers needs under a key, which is not 0, with the bytes of their price lists. All is forgotten
     /// first where there are 32 bytes of lists for each entry that there may be.
+    ///
+    /// # Errors
+    /// Where memory is refused.
     pub fn keep(&mut self, key: u64, needs: Needs, lists: &[u8]) -> Result<(), AllocError> {
         if self.lists.len() / 32 >= self.most {
             self.forget();
@@ -152,7 +158,7 @@ impl Memory {
         self.set(key, needs)
     }
 
-    /// Forgets all.
+    // Forgets all.
     fn forget(&mut self) {
         for slot in self.slots.iter_mut() {
             *slot = FREE;
@@ -161,7 +167,7 @@ impl Memory {
         self.lists.clear();
     }
 
-    /// Doubles the slots, or forgets all where there are as many entries as there may be.
+    // Doubles the slots, or forgets all where there are as many entries as there may be.
     fn make_room(&mut self) -> Result<(), AllocError> {
         if self.used >= self.most {
             self.forget();

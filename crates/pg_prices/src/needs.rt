@@ -3,11 +3,11 @@
 
 use crate::assignment::{Costs, MOST, assign};
 use crate::lists::Lists;
-use crate::rows::{Rows, Wing};
+use crate::rows::Rows;
 use pg_board::{Board, Color, Kind, Man};
 use pg_fen::Diagram;
 use pg_pawns::shift_need;
-use pg_position::{Position, Rights};
+use pg_position::{Position, Rights, Wing};
 
 /// The cost of a dummy for travel: above any number of plies left.
 pub const TRAVEL_DUMMY: u8 = 65;
@@ -21,10 +21,10 @@ pub const UNKNOWN: u8 = 254;
 /// What stands for a need that nothing pays for.
 pub const NEVER: u8 = 255;
 
-/// The ways of a colour: without castling, and with each castling.
-const WAYS: [Option<Wing>; 3] = [None, Some(Wing::Short), Some(Wing::Long)];
+// The ways of a colour: without castling, and with each castling.
+const WAYS: [Option<Wing>; 3] = [None, Some(Wing::KingSide), Some(Wing::QueenSide)];
 
-/// The light squares.
+// The light squares.
 const LIGHT: u64 = 0x55aa_55aa_55aa_55aa;
 
 /// What is known of the men and the rights of one colour: the need of travel, `NEVER` where pawns to
@@ -37,20 +37,6 @@ pub struct Needs {
     pub travel: u8,
     pub pawns: u8,
     pub lists: u32,
-}
-
-/// The right of a colour to castle so.
-pub fn holds(rights: Rights, color: Color, wing: Wing) -> bool {
-    match color {
-        Color::White => match wing {
-            Wing::Short => rights.white_king,
-            Wing::Long => rights.white_queen,
-        },
-        Color::Black => match wing {
-            Wing::Short => rights.black_king,
-            Wing::Long => rights.black_queen,
-        },
-    }
 }
 
 fn lacking(wanted: u64, here: u64) -> u32 {
@@ -79,7 +65,7 @@ pub fn is_short(color: Color, wanted: &Board, board: &Board) -> bool {
     board.squares_of(man).count_ones() < short.saturating_add(there)
 }
 
-/// The numbers of the first targets, added up, at most 250.
+// The numbers of the first targets, added up, at most 250.
 fn least_sum(least: &[u8; MOST], targets: usize) -> u8 {
     let mut sum = 0u8;
     for t in 0..MOST {
@@ -94,7 +80,7 @@ fn small(value: u16) -> u8 {
     value.min(250) as u8
 }
 
-/// The costs of a way: without castling, or with one that the rights allow.
+// The costs of a way: without castling, or with one that the rights allow.
 fn costs_of(rows: &Rows, board: &Board, costs: &Costs, way: Option<Wing>) -> Costs {
     let mut costs = *costs;
     if let Some(wing) = way {
@@ -103,11 +89,11 @@ fn costs_of(rows: &Rows, board: &Board, costs: &Costs, way: Option<Wing>) -> Cos
     costs
 }
 
-/// Whether the rights allow a way.
+// Whether the rights allow a way.
 fn allows(rows: &Rows, rights: Rights, way: Option<Wing>) -> bool {
     match way {
         None => true,
-        Some(wing) => holds(rights, rows.color(), wing),
+        Some(wing) => rights.holds(rows.color(), wing),
     }
 }
 

@@ -5,16 +5,17 @@ ghost use Rattle.std.specs.Prelude.{◌≤◌};
 use crate::assignment::{Costs, MOST};
 use pg_board::{Board, Color, Kind, Man, Square};
 use pg_fen::Diagram;
+use pg_position::{Wing, king_crossed, king_home, king_target, last_rank, rook_home};
 use pg_travel::distance;
 use std::alloc::{AllocError, Global};
 
 /// The cost where there is no way.
 pub const NO_WAY: u8 = 200;
 
-/// How many rows there are: one for each kind and square.
+// How many rows there are: one for each kind and square.
 const ROWS: usize = 384;
 
-const KINDS: [Kind; 6] = [
+pub(crate) const KINDS: [Kind; 6] = [
     Kind::Pawn,
     Kind::Knight,
     Kind::Bishop,
@@ -22,13 +23,6 @@ const KINDS: [Kind; 6] = [
     Kind::Queen,
     Kind::King,
 ];
-
-/// A castling: towards the h-file or the a-file.
-#[derive(Clone, Copy, Debug, PartialEq, Eq)]
-pub enum Wing {
-    Short,
-    Long,
-}
 
 /// The men of one colour of a diagram, in the order of their squares, at most 16: the targets. For
 /// each kind and square of a man of the colour there is a row of its distances to the targets, and for
@@ -42,7 +36,7 @@ pub struct Rows {
     pawns: Vec<[u8; MOST]>,
 }
 
-/// The targets of a colour: how many, and their squares and kinds.
+// The targets of a colour: how many, and their squares and kinds.
 #[derive(Clone, Copy)]
 struct Targets {
     count: usize,
@@ -50,7 +44,7 @@ struct Targets {
     kinds: [Kind; MOST],
 }
 
-/// The men of a diagram that a test on kinds lets through, from the first square on.
+// The men of a diagram that a test on kinds lets through, from the first square on.
 fn targets_of(board: &Board, color: Color, only_pawns: bool) -> Targets {
     let mut targets = Targets {
         count: 0,
@@ -72,11 +66,17 @@ fn targets_of(board: &Board, color: Color, only_pawns: bool) -> Targets {
     targets
 }
 
-/// The distances of a man to the targets. No pawn stands on rank 1 or 8.
+// Whether the square is on the last rank of either colour.
+fn is_last_rank(square: Square) -> bool {
+    let rank = square.rank();
+    rank == last_rank(Color::White) || rank == last_rank(Color::Black)
+}
+
+// The distances of a man to the targets. No pawn stands on a last rank.
 fn travel_row(man: Man, from: Square, targets: &Targets) -> [u8; MOST] {
     let mut row = [NO_WAY; MOST];
     let is_pawn = man.kind == Kind::Pawn;
-    if is_pawn && (from.index() < 8 || from.index() >= 56) {
+    if is_pawn && is_last_rank(from) {
         return row;
     }
     for t in 0..MOST {
@@ -90,7 +90,7 @@ fn travel_row(man: Man, from: Square, targets: &Targets) -> [u8; MOST] {
     row
 }
 
-/// How many files a pawn has to change to a square, or no way.
+// How many files a pawn has to change to a square, or no way.
 fn pawn_cost(color: Color, from: u8, to: u8) -> u8 {
     let (file, rank) = (from % 8, from / 8);
     let (new_file, new_rank) = (to % 8, to / 8);
@@ -110,7 +110,7 @@ fn pawn_cost(color: Color, from: u8, to: u8) -> u8 {
     }
 }
 
-/// How many files a pawn has to change to the targets, which are pawns.
+// How many files a pawn has to change to the targets, which are pawns.
 fn pawn_row(color: Color, from: u8, targets: &Targets) -> [u8; MOST] {
     let mut row = [NO_WAY; MOST];
     for t in 0..MOST {
@@ -121,26 +121,19 @@ fn pawn_row(color: Color, from: u8, targets: &Targets) -> [u8; MOST] {
     row
 }
 
-/// The place of the first row of a kind.
+// The place of the first row of a kind.
 fn first(kind: Kind) -> usize
     ensures { result ≤ 320 }
 {
-    match kind {
-        Kind::Pawn => 0,
-        Kind::Knight => 64,
-        Kind::Bishop => 128,
-        Kind::Rook => 192,
-        Kind::Queen => 256,
-        Kind::King => 320,
-    }
+    64 * usize::from(kind.number())
 }
 
-/// The place of a row.
+// The place of a row.
 fn place(kind: Kind, square: u8) -> usize {
     first(kind) + usize::from(square)
 }
 
-/// The row at a place, or one without ways.
+// The row at a place, or one without ways.
 fn row_at(rows: &Vec<[u8; MOST]>, place: usize) -> [u8; MOST] {
     match rows.get(place) {
         Some(row) => *row,
@@ -148,7 +141,7 @@ fn row_at(rows: &Vec<[u8; MOST]>, place: usize) -> [u8; MOST] {
     }
 }
 
-/// Writes the costs of a source.
+// Writes the costs of a source.
 fn put_source(costs: &mut Costs, source: usize, row: &[u8; MOST]) {
     let source = source % MOST;
     for t in 0..MOST {
@@ -156,13 +149,13 @@ fn put_source(costs: &mut Costs, source: usize, row: &[u8; MOST]) {
     }
 }
 
-/// How many squares of a set are before this one.
+// How many squares of a set are before this one.
 fn number_of(set: u64, square: u8) -> usize {
     let before = (1u64 << (square % 64)).wrapping_sub(1);
     (set & before).count_ones() as usize
 }
 
-/// Writes the costs of these men of a board, each as the source with its number among all.
+// Writes the costs of these men of a board, each as the source with its number among all.
 fn put_men(costs: &mut Costs, rows: &Vec<[u8; MOST]>, first: usize, men: u64, all: u64) {
     let mut men = men;
     for _ in 0..MOST {
@@ -176,14 +169,14 @@ fn put_men(costs: &mut Costs, rows: &Vec<[u8; MOST]>, first: usize, men: u64, al
     }
 }
 
-/// Lowers numbers to those of a row.
+// Lowers numbers to those of a row.
 fn lower(least: &mut [u8; MOST], row: &[u8; MOST]) {
     for t in 0..MOST {
         least[t] = least[t].min(row[t]);
     }
 }
 
-/// Lowers numbers to the costs of these men of a board.
+// Lowers numbers to the costs of these men of a board.
 fn lower_to(least: &mut [u8; MOST], rows: &Vec<[u8; MOST]>, first: usize, men: u64) {
     let mut men = men;
     for _ in 0..MOST {
@@ -197,22 +190,21 @@ fn lower_to(least: &mut [u8; MOST], rows: &Vec<[u8; MOST]>, first: usize, men: u
     }
 }
 
-/// The homes of king and rook, and the squares that they castle to.
+// The king's home and where it castles to, and the rook's, by their indexes.
 fn castled(color: Color, wing: Wing) -> ((u8, u8), (u8, u8)) {
-    match color {
-        Color::White => match wing {
-            Wing::Short => ((4, 6), (7, 5)),
-            Wing::Long => ((4, 2), (0, 3)),
-        },
-        Color::Black => match wing {
-            Wing::Short => ((60, 62), (63, 61)),
-            Wing::Long => ((60, 58), (56, 59)),
-        },
-    }
+    let king = (king_home(color).index(), king_target(color, wing).index());
+    let rook = (
+        rook_home(color, wing).index(),
+        king_crossed(color, wing).index(),
+    );
+    (king, rook)
 }
 
 impl Rows {
     /// The rows of a colour for a diagram.
+    ///
+    /// # Errors
+    /// Where memory is refused.
     pub fn new(alloc: Global, color: Color, diagram: &Diagram) -> Result<Rows, AllocError> {
         let board = diagram.board();
         let targets = targets_of(&board, color, false);

@@ -1,5 +1,4 @@
 pub mod MoveLineLemmas
-pub mod Decimals
 pub mod OutcomeLemmas
 pub mod PlyLemmas
 pub mod ReportLemmas

@@ -16,12 +16,9 @@ use Rattle.pg_position.proofs.FutureLemmas.{one_result, legal_position}
 use Rattle.pg_san.specs.Games.{IsFromArray}
 use Rattle.pg_san.specs.Writing.{IsSan}
 use Rattle.pg_report.specs.Movetext.{space_text, number_text, ArePlies, IsMovetext, IsLongestGame}
-use Rattle.pg_report.specs.Plies.{PlyGrows, PliesGrow, Stops, IsPlayedOut}
+use Rattle.pg_report.specs.numbers.Plies.{PlyGrows, PliesGrow, Stops, IsPlayedOut}
 
 -- ---- one ply
-pub ply_grows : (ply : ℕ) (p : State) (m : Move) (a b c d : Option (List ℕ)) (san : List ℕ) → IsSan p m san → Appends a b (space_text ply) → Appends b c (number_text ply) → Appends c d san → PlyGrows ply p m a d
-ply_grows ply p m a b c d san is x y z = (san, is, Appends-trans a b d (space_text ply) (number_text ply ++ san) x (Appends-trans b c d (number_text ply) san y z))
-
 around : (front number san rest more : List ℕ) → (front ++ (number ++ (san ++ rest))) ++ more ≡ front ++ (number ++ (san ++ (rest ++ more)))
 around front number san rest more =
     append_assoc front (number ++ (san ++ rest)) more

@@ -1,6 +1,6 @@
 -- Records copied one after the other, and what reading the bytes says of them. Leads to the contract of `upgrade`.
 use Rattle.std.proofs.Common.{◌≡◌, ℕ, zero, suc, ◌+◌, ◌*◌, ◌-◌, ◌<◌, ◌≤◌, Bool, true, false, List, [], ◌∷◌, ◌++◌, length, Option, Some, None, IfSome, Result, Ok, Err, refl, sym, ap, subst, ◌∙◌, append_assoc, append-nil, arith, All}
-use Rattle.std.proofs.KnownBytes.{Appends-nil, Appends-trans, Consumes-nil, Consumes-trans, Consumes-kept}
+use Rattle.std.proofs.KnownBytes.{Appends-trans, Consumes-trans, Consumes-kept}
 use Rattle.std.proofs.lemmas.Grind.{flat_map-append}
 use Rattle.std.proofs.lemmas.List.{length-append}
 use Rattle.std.proofs.lemmas.List.Elements.{All-nil, All-cons, All-head, All-tail, All-append}
@@ -17,7 +17,7 @@ use Rattle.pg_certificate.specs.Spelling.{spelling, header_spelling, longest_rec
 use Rattle.pg_certificate.proofs.RecordLaws.{records_again, none_longer}
 use Rattle.pg_report.specs.declared.fault.UpgradeFault.{UpgradeFault}
 use Rattle.pg_report.specs.declared.fault.UpgradeFault.TheVariants.{Truncated, NotVersion1, UnknownRecord, Read, Budget, Write}
-use Rattle.pg_report.specs.Copying.{CopiesOne, Copies, one_in}
+use Rattle.pg_report.specs.numbers.Copying.{CopiesOne, Copies, one_in}
 use Rattle.pg_report.specs.Upgrade.{◌>>=◌, Certificate1, bytes_of, with_digit_2, IsUpgraded, one_more, records_in, IsUpgradeFault, Takes}
 
 abbrev pub Counted : Type 0
@@ -78,9 +78,6 @@ front_read (x ∷ xs) k most rest are e =
     ∙ ap one_more (front_read xs k (length xs + k) rest (All-tail (λ x. IsRecordOf 1 x) x xs are) refl)
 
 -- ---- records copied
-pub none_copied : (a c : Known) → Copies 0 a a c c
-none_copied a c = record { nodes = []; fit = All-nil (λ x. IsRecordOf 1 x); many = refl; taken = Consumes-nil a; written = Appends-nil c }
-
 -- one record more was copied, after a look whether a byte is to come
 pub one_copied : (n : ℕ) (a b c d : Known) (old mid new : Known) → Copies n a b old mid → Keeps b c → CopiesOne c d mid new → Copies (n + 1) a d old new
 one_copied n a b c d old mid new many same one =

@@ -2,10 +2,10 @@
 use Rattle.std.proofs.Common.{◌≡◌, ℕ, zero, suc, Bool, true, false, ◌||◌, List, [], ◌∷◌, ◌++◌, Result, refl, sym, ap, subst, ◌∙◌}
 use Rattle.pg_certificate.specs.declared.record.Record.{Record}
 use Rattle.pg_certificate.specs.declared.record.Record.TheVariants.{Expand as Expanded, Cut as CutBy, Ref as RefTo, Priced as PricedBy}
-use Rattle.pg_checker.specs.Tree.{Tree, Trees, Leaf, Expand, Cut, Ref, Priced, Empty, First, Fault, Entry, Rules, fertile, any_fertile, entry, closed, closed_all, Fits, FitAll, spelling, spelling_all}
+use Rattle.pg_checker.specs.Tree.{Tree, Trees, Leaf, Expand, Cut, Ref, Priced, Empty, First, Cause, Entry, Rules, fertile, any_fertile, entry, closed, closed_all, Fits, FitAll, spelling, spelling_all}
 use Rattle.pg_checker.specs.Claims.{FitFrom, count, IsCertificate}
 
-module _ {P M : Type 0} (r : Rules P M) (same : P → P → Bool) (recorded : Record → Bool) (reading : List ℕ → Result (Record × List ℕ) (Fault M)) where
+module _ {P M : Type 0} (r : Rules P M) (same : P → P → Bool) (recorded : Record → Bool) (reading : List ℕ → Result (Record × List ℕ) (Cause M)) where
   abbrev pub wider : Rules P M
   wider = record { moves = r.moves; play = r.play; is_goal = r.is_goal; plies = r.plies; is_listed = r.is_listed; is_same = same; cut = r.cut; priced = r.priced; write = r.write; is_record = recorded; read = reading }
 

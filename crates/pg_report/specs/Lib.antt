@@ -1,12 +1,11 @@
 pub mod MovesText
 pub mod Movetext
-pub mod Plies
 pub mod Report
 pub mod Run
 pub mod Statuses
 pub mod Upgrade
-pub mod Copying
 pub mod BoardText
 pub mod Shortest
 pub mod UpgradeLaws
 pub mod Showing
+pub mod numbers

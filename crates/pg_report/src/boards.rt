@@ -1,30 +1,11 @@
 //! A diagram for the eye.
 ghost use Rattle.std.specs.Prelude.{◌≡◌, ◌<◌, false, true, OnOk, OnErr, IfErr};
 ghost use Rattle.std.specs.Io.KnownBytes.{Appends};
-ghost use Rattle.pg_fen.specs.Letters.{letter_of};
 ghost use Rattle.pg_report.specs.BoardText.{cell_of, cells_text, rank_line, upper_lines, board_text};
 
-use pg_board::{Board, Color, Kind, Man, Square};
+use pg_board::{Board, Man, Square};
 use pg_certificate::{Refused, Sink, WriteFault};
-use pg_fen::Diagram;
-
-// The letter of a man, as in FEN.
-fn letter_of(man: Man) -> u8
-    ensures { result ≡ letter_of man }
-{
-    let letter = match man.kind {
-        Kind::Pawn => b'P',
-        Kind::Knight => b'N',
-        Kind::Bishop => b'B',
-        Kind::Rook => b'R',
-        Kind::Queen => b'Q',
-        Kind::King => b'K',
-    };
-    match man.color {
-        Color::White => letter,
-        Color::Black => letter.to_ascii_lowercase(),
-    }
-}
+use pg_fen::{Diagram, letter_of};
 
 // What shows a square: the letter of its man, a dot where there is none.
 fn cell_of(man: Option<Man>) -> u8

@@ -9,8 +9,8 @@ ghost use Rattle.pg_report.specs.Run.{IsCountRunFault};
 
 use crate::fault::CountRunFault;
 use crate::moves::game_of;
-use crate::numbers::digits;
 use pg_certificate::{Refused, Sink};
+use pg_fen::text::digits;
 use pg_moves::{Progress, count_watched};
 use std::alloc::Global;
 
@@ -40,7 +40,8 @@ pub fn run_count<W: Sink, P: Progress>(
     out: &mut W,
     watch: &mut P,
 ) -> Result<(), CountRunFault>
-    ensures ok { OnOk result ((p : State) × ReadsAs fen.now p × (plies ≤ 8) × ((n : ℕ) × IsGameCount p plies n × Appends (W.held out.old) (W.held out.new) (decimal n ++ 10 ∷ []))) }
+    ensures ok { OnOk result ((p : State) × ReadsAs fen.now p × (plies ≤ 8)
+        × ((n : ℕ) × IsGameCount p plies n × Appends (W.held out.old) (W.held out.new) (decimal n ++ 10 ∷ []))) }
     ensures err { IfErr result (λ e. IsCountRunFault fen.now plies (W.has_failed out.new) e) }
     ensures unwritten { IfErr result (λ e. e ≢ CountRunFault.Write → out.new ≡ out.old) }
     ensures runs { OnOk result ((W.has_failed out.old ≡ false) × (W.has_failed out.new ≡ false)) }

@@ -9,7 +9,6 @@ mod laws;
 mod lengths;
 mod moves;
 mod movetext;
-mod numbers;
 mod problem;
 mod report;
 mod run;
@@ -47,22 +46,4 @@ pub use pg_searcher::{Progress as SearchProgress, SearchFault, search};
 pub use pg_travel::Travel;
 
 #[cfg(test)]
-mod board_tests;
-#[cfg(test)]
-mod count_tests;
-#[cfg(test)]
-mod fault_tests;
-#[cfg(test)]
-mod memory_tests;
-#[cfg(test)]
-mod refusal_tests;
-#[cfg(test)]
-mod report_tests;
-#[cfg(test)]
-mod run_tests;
-#[cfg(test)]
-mod show_tests;
-#[cfg(test)]
 mod tests;
-#[cfg(test)]
-mod upgrade_tests;

@@ -5,10 +5,10 @@ ghost use Rattle.pg_position.specs.declared.moves.Move.{Move};
 ghost use Rattle.pg_moves.specs.Moves.{IsLegal};
 ghost use Rattle.pg_san.specs.Writing.{IsSan};
 ghost use Rattle.pg_report.specs.Movetext.{space_text, number_text, IsMovetext, IsLongestGame};
-ghost use Rattle.pg_report.specs.Plies.{PlyGrows, IsPlayedOut};
+ghost use Rattle.pg_report.specs.numbers.Plies.{PlyGrows, IsPlayedOut};
 
-use crate::numbers::digits;
 use pg_certificate::{Refused, Sink, WriteFault};
+use pg_fen::text::digits;
 use pg_position::{Move, Position};
 use pg_san::write;
 
@@ -70,7 +70,8 @@ fn write_plies<W: Sink>(moves: &[Move], out: &mut W) -> Result<usize, Refused>
 
 // Appends the movetext of the longest front of the moves that is a game from the initial array.
 pub(crate) fn append_movetext<W: Sink>(moves: &[Move], out: &mut W) -> Result<(), Refused>
-    ensures text { OnOk result ((game : List Move) × IsLongestGame moves.now game × ((text : List ℕ) × IsMovetext game text × Appends (W.held out.old) (W.held out.new) text)) }
+    ensures text { OnOk result ((game : List Move) × IsLongestGame moves.now game
+        × ((text : List ℕ) × IsMovetext game text × Appends (W.held out.old) (W.held out.new) text)) }
     ensures runs { OnOk result ((W.has_failed out.old ≡ false) × (W.has_failed out.new ≡ false)) }
     ensures fault { OnErr result (W.has_failed out.new ≡ true) }
 {
@@ -87,7 +88,8 @@ pub(crate) fn append_movetext<W: Sink>(moves: &[Move], out: &mut W) -> Result<()
 /// # Errors
 /// `Write` where the sink has failed.
 pub fn write_movetext<W: Sink>(moves: &[Move], out: &mut W) -> Result<(), WriteFault>
-    ensures text { OnOk result ((game : List Move) × IsLongestGame moves.now game × ((text : List ℕ) × IsMovetext game text × Appends (W.held out.old) (W.held out.new) text)) }
+    ensures text { OnOk result ((game : List Move) × IsLongestGame moves.now game
+        × ((text : List ℕ) × IsMovetext game text × Appends (W.held out.old) (W.held out.new) text)) }
     ensures runs { OnOk result ((W.has_failed out.old ≡ false) × (W.has_failed out.new ≡ false)) }
     ensures fault { IfErr result (λ e. (e ≡ WriteFault.Write) × (W.has_failed out.new ≡ true)) }
 {

@@ -6,9 +6,9 @@ ghost use Rattle.pg_report.specs.Movetext.{IsMovetext};
 ghost use Rattle.pg_report.specs.Report.{IsVerdict, IsReport, AreGameLines, line_text, labelled_text, head_text};
 
 use crate::movetext::append_movetext;
-use crate::numbers::digits;
 use crate::verdict::{Verdict, verdict_on, words};
 use pg_certificate::{Refused, Sink, WriteFault};
+use pg_fen::text::digits;
 use pg_fen::{Diagram, Length};
 use pg_position::Move;
 use pg_san::Games;

@@ -40,12 +40,17 @@ pub fn run_listed<R: Source, W: Sink>(
 ) -> Result<Verdict, RunFault>
     ensures headline { OnOk result (IsExactAnswer diagram.now length games.now) }
     ensures verdict { IfOk result (λ v. IsVerdict games.now v) }
-    ensures text { OnOk result ((text : List ℕ) × IsReport diagram.now length games.now text × Appends (W.held out.old) (W.held out.new) text) }
-    ensures accepted { OnOk result ((proved : Proved) × Accepts (rules_by (λ b. code_of b) (λ b. excluded b) diagram.now length games.now bounds.now) diagram.now games.now max_records max_named (R.left source.old) (Ok proved)) }
+    ensures text { OnOk result ((text : List ℕ)
+        × IsReport diagram.now length games.now text × Appends (W.held out.old) (W.held out.new) text) }
+    ensures accepted { OnOk result ((proved : Proved)
+        × Accepts (rules_by code_of excluded bounds.now diagram.now length games.now) diagram.now games.now max_records max_named
+        (R.left source.old) (Ok proved)) }
     ensures end { OnOk result (IsAtEnd (R.left source.new)) }
     ensures runs { OnOk result (R.has_failed source.new ≡ false) }
     ensures written { OnOk result (W.has_failed out.new ≡ false) }
-    ensures err { IfErr result (λ e. IsCheckFault (rules_by (λ b. code_of b) (λ b. excluded b) diagram.now length games.now bounds.now) diagram.now length games.now max_records max_named (R.left source.old) (R.has_failed source.new) (W.has_failed out.new) e) }
+    ensures err { IfErr result (λ e. IsCheckFault
+        (rules_by code_of excluded bounds.now diagram.now length games.now) diagram.now length games.now max_records max_named
+        (R.left source.old) (R.has_failed source.new) (W.has_failed out.new) e) }
     ensures unwritten { IfErr result (λ e. e ≢ RunFault.Write → out.new ≡ out.old) }
 {
     match check(
@@ -89,11 +94,17 @@ pub fn run_check<R: Source, W: Sink>(
     max_records: u64,
     max_named: u32,
 ) -> Result<Verdict, RunFault>
-    ensures ok { IfOk result (λ v. (d : Placement) × (n : ℕ) × (list : List (List Move)) × AreSpelled diagram.now length.now games.now d n list × IsExactAnswer d n list × IsVerdict list v × ((text : List ℕ) × IsReport d n list text × Appends (W.held out.old) (W.held out.new) text) × ((proved : Proved) × Accepts (rules_by (λ b. code_of b) (λ b. excluded b) d n list bounds.now) d list max_records max_named (R.left source.old) (Ok proved))) }
+    ensures ok { IfOk result (λ v. (d : Placement) × (n : ℕ) × (list : List (List Move))
+        × AreSpelled diagram.now length.now games.now d n list × IsExactAnswer d n list × IsVerdict list v
+        × ((text : List ℕ) × IsReport d n list text × Appends (W.held out.old) (W.held out.new) text)
+        × ((proved : Proved) × Accepts (rules_by code_of excluded bounds.now d n list) d list max_records max_named
+        (R.left source.old) (Ok proved))) }
     ensures end { OnOk result (IsAtEnd (R.left source.new)) }
     ensures runs { OnOk result (R.has_failed source.new ≡ false) }
     ensures written { OnOk result (W.has_failed out.new ≡ false) }
-    ensures err { IfErr result (λ e. IsRunFault (λ d n list. rules_by (λ b. code_of b) (λ b. excluded b) d n list bounds.now) diagram.now length.now games.now max_records max_named (R.left source.old) (R.has_failed source.new) (W.has_failed out.new) e) }
+    ensures err { IfErr result (λ e. IsRunFault
+        (rules_by code_of excluded bounds.now) diagram.now length.now games.now max_records max_named
+        (R.left source.old) (R.has_failed source.new) (W.has_failed out.new) e) }
     ensures unwritten { IfErr result (λ e. e ≢ RunFault.Write → out.new ≡ out.old) }
     ensures unread { IfErr result (λ e. IsOfTexts e → source.new ≡ source.old) }
 {

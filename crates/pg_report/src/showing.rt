@@ -13,10 +13,10 @@ ghost use Rattle.pg_report.specs.Showing.{counted_text, name_of, men_text, captu
 use crate::boards::append_board;
 use crate::fault::ShowFault;
 use crate::lengths::shortest;
-use crate::numbers::digits;
 use pg_board::Color;
 use pg_captures::{Bound, all_men, victims_of};
 use pg_certificate::{Refused, Sink};
+use pg_fen::text::digits;
 use pg_fen::{Diagram, Length};
 use pg_position::Position;
 use pg_travel::need;
@@ -140,7 +140,9 @@ pub fn run_show<W: Sink>(
     bounds: &[Box<dyn Bound>],
     out: &mut W,
 ) -> Result<(), ShowFault>
-    ensures ok { OnOk result ((d : Placement) × (diagram_of (fields diagram.now) ≡ Ok d) × ((least : Option ℕ) × NoneBelow d least × IsLeast (λ m. list_any (λ b. excluded b d array_state m) bounds.now) d least × ((text : List ℕ) × IsShown d least text × Appends (W.held out.old) (W.held out.new) text))) }
+    ensures ok { OnOk result ((d : Placement) × (diagram_of (fields diagram.now) ≡ Ok d)
+        × ((least : Option ℕ) × NoneBelow d least × IsLeast (λ m. list_any (λ b. excluded b d array_state m) bounds.now) d least
+        × ((text : List ℕ) × IsShown d least text × Appends (W.held out.old) (W.held out.new) text))) }
     ensures err { IfErr result (λ e. IsShowFault diagram.now (W.has_failed out.new) e) }
     ensures unwritten { IfErr result (λ e. e ≢ ShowFault.Write → out.new ≡ out.old) }
     ensures runs { OnOk result ((W.has_failed out.old ≡ false) × (W.has_failed out.new ≡ false)) }

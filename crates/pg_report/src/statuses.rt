@@ -1,6 +1,7 @@
 //! The status with which the program ends.
 ghost use Rattle.std.specs.Prelude.{◌≡◌};
-ghost use Rattle.pg_report.specs.Statuses.{verdict_status, games_status, check_status, status_of, search_status_of, moves_status_of, count_status_of, show_status_of, upgrade_status_of};
+ghost use Rattle.pg_report.specs.Statuses.{verdict_status, games_status, check_status, status_of, search_status_of};
+ghost use Rattle.pg_report.specs.Statuses.{moves_status_of, count_status_of, show_status_of, upgrade_status_of};
 
 use crate::fault::{CountRunFault, MovesFault, RunFault, ShowFault, UpgradeFault};
 use crate::verdict::Verdict;

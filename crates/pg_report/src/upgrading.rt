@@ -5,7 +5,7 @@ ghost use Rattle.pg_certificate.specs.Reader.{to_come};
 ghost use Rattle.pg_certificate.specs.Reading.{more_at};
 ghost use Rattle.pg_certificate.specs.Spelling.{longest_record};
 ghost use Rattle.pg_certificate.specs.Writer.{written};
-ghost use Rattle.pg_report.specs.Copying.{Copies, CopiesOne, one_in};
+ghost use Rattle.pg_report.specs.numbers.Copying.{Copies, CopiesOne, one_in};
 ghost use Rattle.pg_report.specs.Upgrade.{IsUpgraded, IsUpgradeFault, Takes, fault_of, records_in, upgrade_of};
 
 use crate::fault::UpgradeFault;

@@ -6,7 +6,7 @@ use Rattle.std.proofs.lemmas.Bool.Decides.{nat_tests, eqb_tells}
 use Rattle.std.proofs.lemmas.List.{reverse-reverse, reverse-append, append_assoc}
 use Rattle.pg_board.specs.declared.man.Kind.{Kind}
 use Rattle.pg_board.specs.Squares.{file, rank}
-use Rattle.pg_san.specs.declared.castling.Castling.TheVariants.{Short, Long}
+use Rattle.pg_position.specs.declared.rights.Wing.TheVariants.{KingSide, QueenSide}
 use Rattle.pg_san.specs.declared.cores.Core.{Core}
 use Rattle.pg_san.specs.declared.cores.Sep.{Sep}
 use Rattle.pg_san.specs.declared.said.Form.{Form}
@@ -136,10 +136,10 @@ piece_form text core h =
     rw (n, piece_again text core h) refl
 
 pub front_form : (front : List ℕ) (form : Form) → IsFormText front form → form_of front ≡ Some form
-front_form front (Castles Short) (inl e) = rw e refl
-front_form front (Castles Short) (inr e) = rw e refl
-front_form front (Castles Long) (inl e) = rw e refl
-front_form front (Castles Long) (inr e) = rw e refl
+front_form front (Castles KingSide) (inl e) = rw e refl
+front_form front (Castles KingSide) (inr e) = rw e refl
+front_form front (Castles QueenSide) (inl e) = rw e refl
+front_form front (Castles QueenSide) (inr e) = rw e refl
 front_form front (Moves core) (inl h) = piece_form front core h
 front_form front (Moves core) (inr h) = core_form front core (subst First (sym h.spelled) (parts_first h.parts.file h.parts.rank h.parts.sep h.parts.target h.end h.small.file_small h.small.rank_small)) (plain_again front core h)
 
@@ -164,10 +164,10 @@ promotion_begin end (Some k) text (letter, l, inl e) h = rw e (record { byte = l
 promotion_begin end (Some k) text (letter, l, inr e) h = rw e (record { byte = letter; more = 61 ∷ text; is = refl; holds = promoted_quiet letter k l })
 
 pub front_quiet : (front : List ℕ) (form : Form) → IsFormText front form → Begins IsQuiet (reverse front)
-front_quiet front (Castles Short) (inl e) = rw e (record { byte = 79; more = 45 ∷ 79 ∷ []; is = refl; holds = record { bang = refl; query = refl; hash = refl; plus = refl; letter = refl; dot = refl } })
-front_quiet front (Castles Short) (inr e) = rw e (record { byte = 48; more = 45 ∷ 48 ∷ []; is = refl; holds = record { bang = refl; query = refl; hash = refl; plus = refl; letter = refl; dot = refl } })
-front_quiet front (Castles Long) (inl e) = rw e (record { byte = 79; more = 45 ∷ 79 ∷ 45 ∷ 79 ∷ []; is = refl; holds = record { bang = refl; query = refl; hash = refl; plus = refl; letter = refl; dot = refl } })
-front_quiet front (Castles Long) (inr e) = rw e (record { byte = 48; more = 45 ∷ 48 ∷ 45 ∷ 48 ∷ []; is = refl; holds = record { bang = refl; query = refl; hash = refl; plus = refl; letter = refl; dot = refl } })
+front_quiet front (Castles KingSide) (inl e) = rw e (record { byte = 79; more = 45 ∷ 79 ∷ []; is = refl; holds = record { bang = refl; query = refl; hash = refl; plus = refl; letter = refl; dot = refl } })
+front_quiet front (Castles KingSide) (inr e) = rw e (record { byte = 48; more = 45 ∷ 48 ∷ []; is = refl; holds = record { bang = refl; query = refl; hash = refl; plus = refl; letter = refl; dot = refl } })
+front_quiet front (Castles QueenSide) (inl e) = rw e (record { byte = 79; more = 45 ∷ 79 ∷ 45 ∷ 79 ∷ []; is = refl; holds = record { bang = refl; query = refl; hash = refl; plus = refl; letter = refl; dot = refl } })
+front_quiet front (Castles QueenSide) (inr e) = rw e (record { byte = 48; more = 45 ∷ 48 ∷ 45 ∷ 48 ∷ []; is = refl; holds = record { bang = refl; query = refl; hash = refl; plus = refl; letter = refl; dot = refl } })
 front_quiet front (Moves core) (inl h) =
     let b = parts_begin h.parts.file h.parts.rank h.parts.sep h.parts.target h.small.target_small in
     let e : reverse front ≡ reverse (parts_text h.parts.file h.parts.rank h.parts.sep h.parts.target) ++ h.letter ∷ [] = ap reverse h.spelled ∙ reverse-append (h.letter ∷ []) (parts_text h.parts.file h.parts.rank h.parts.sep h.parts.target) in

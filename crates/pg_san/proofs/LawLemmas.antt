@@ -15,7 +15,7 @@ use Rattle.pg_san.specs.declared.fault.SanFault.TheVariants.{Shape, NoSuchMove, 
 use Rattle.pg_san.specs.declared.said.Form.{Form}
 use Rattle.pg_san.specs.declared.said.Form.TheVariants.{Castles, Moves}
 use Rattle.pg_san.specs.declared.said.Said.{Said}
-use Rattle.pg_san.specs.Matching.{wing_of, FitsCore, FitsForm, FitsAs, Fits, Matches, IsReading}
+use Rattle.pg_san.specs.Matching.{FitsCore, FitsForm, FitsAs, Fits, Matches, IsReading}
 use Rattle.pg_san.specs.Writing.{HasRival, IsHint, IsPawnHint, IsCore, IsForm, IsSan}
 use Rattle.pg_san.proofs.MoveLemmas.{same_move, one_pawn, pace_of, Goer, goer, same_castling}
 use Rattle.pg_san.proofs.SpellLemmas.{source_of, plainly, written_says}
@@ -84,7 +84,7 @@ core_alone p k j m n c h g lm ln am an =
     same_move n m (source_alone p k m n c h g' lm ln am an' to) (sym to) (g.promotion_fits ∙ h.promotion_is)
 
 form_alone : (p : State) (k j : Kind) (m n : Move) (form : Form) → IsForm p k m form → FitsForm p form j n → IsLegal p m → IsLegal p n → Stands p.board p.side k m.from → Stands p.board p.side j n.from → n ≡ m
-form_alone p k j m n (Castles w) h g lm ln am an = same_castling p k j m n (wing_of w) h g
+form_alone p k j m n (Castles w) h g lm ln am an = same_castling p k j m n w h g
 form_alone p k j m n (Moves c) h g lm ln am an = core_alone p k j m n c h.1 g lm ln am an
 
 pub no_other : (p : State) (m n : Move) (text : List ℕ) → IsSan p m text → IsLegal p n → Matches p text n → n ≡ m

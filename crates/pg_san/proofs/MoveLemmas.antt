@@ -20,10 +20,8 @@ use Rattle.pg_position.specs.Position.{Stands, IsVacant, ahead, king_home, passe
 use Rattle.pg_position.specs.Step.{home_rank, last_rank, king_target, IsEnemy, Goes, IsPiece, IsWay, IsEnPassant, IsCastling, Step}
 use Rattle.pg_position.proofs.StepLemmas.{same_kind, some_none}
 use Rattle.pg_moves.specs.Moves.{IsLegal}
-use Rattle.pg_san.specs.declared.castling.Castling.{Castling}
-use Rattle.pg_san.specs.declared.castling.Castling.TheVariants.{Short, Long}
 use Rattle.pg_san.specs.declared.said.Said.{Said}
-use Rattle.pg_san.specs.Matching.{wing_of, GoesTwo, Takes, FitsAs}
+use Rattle.pg_san.specs.Matching.{GoesTwo, Takes, FitsAs}
 
 pub same_move : (m n : Move) → m.from ≡ n.from → m.to ≡ n.to → m.promotion ≡ n.promotion → m ≡ n
 same_move m n e g h = λ i. record { from = e i; to = g i; promotion = h i }
@@ -83,45 +81,45 @@ unfolding InPattern
 passing_aside p k m h = λ e. (let a : apart (file m.from) (file m.to) ≡ 1 = h.reaches.0 in omega arith)
 
 -- ---- castling: a king that goes two files
-home_two : (c : Color) (castling : Castling) (r s : ℕ) → r ≡ king_home c → s ≡ king_target c (wing_of castling) → GoesTwo castling r s
-home_two White Short r s a b = omega arith
-home_two White Long r s a b = omega arith
-home_two Black Short r s a b = omega arith
-home_two Black Long r s a b = omega arith
+home_two : (c : Color) (wing : Wing) (r s : ℕ) → r ≡ king_home c → s ≡ king_target c wing → GoesTwo wing r s
+home_two White KingSide r s a b = omega arith
+home_two White QueenSide r s a b = omega arith
+home_two Black KingSide r s a b = omega arith
+home_two Black QueenSide r s a b = omega arith
 
-pub castling_two : (p : State) (k : Kind) (m : Move) (castling : Castling) → IsCastling p k m (wing_of castling) → GoesTwo castling m.from m.to
-castling_two p k m castling h = home_two p.side castling m.from m.to h.home h.target
+pub castling_two : (p : State) (k : Kind) (m : Move) (wing : Wing) → IsCastling p k m wing → GoesTwo wing m.from m.to
+castling_two p k m wing h = home_two p.side wing m.from m.to h.home h.target
 
-king_near : (castling : Castling) (c : Color) (r s : ℕ) → InPattern c King r s → GoesTwo castling r s → ⊥
+king_near : (wing : Wing) (c : Color) (r s : ℕ) → InPattern c King r s → GoesTwo wing r s → ⊥
 unfolding InPattern
-king_near Short c r s h g = let a : apart (file r) (file s) ≤ 1 = h.1 in omega arith
-king_near Long c r s h g = let a : apart (file r) (file s) ≤ 1 = h.1 in omega arith
+king_near KingSide c r s h g = let a : apart (file r) (file s) ≤ 1 = h.1 in omega arith
+king_near QueenSide c r s h g = let a : apart (file r) (file s) ≤ 1 = h.1 in omega arith
 
-other_wing : (c : Color) (w : Wing) (castling : Castling) (r s : ℕ) → r ≡ king_home c → s ≡ king_target c w → GoesTwo castling r s → w ≡ wing_of castling
-other_wing c KingSide Short r s a b g = refl
-other_wing c QueenSide Long r s a b g = refl
-other_wing White QueenSide Short r s a b g = absurd (omega arith)
-other_wing White KingSide Long r s a b g = absurd (omega arith)
-other_wing Black QueenSide Short r s a b g = absurd (omega arith)
-other_wing Black KingSide Long r s a b g = absurd (omega arith)
+other_wing : (c : Color) (w : Wing) (wing : Wing) (r s : ℕ) → r ≡ king_home c → s ≡ king_target c w → GoesTwo wing r s → w ≡ wing
+other_wing c KingSide KingSide r s a b g = refl
+other_wing c QueenSide QueenSide r s a b g = refl
+other_wing White QueenSide KingSide r s a b g = absurd (omega arith)
+other_wing White KingSide QueenSide r s a b g = absurd (omega arith)
+other_wing Black QueenSide KingSide r s a b g = absurd (omega arith)
+other_wing Black KingSide QueenSide r s a b g = absurd (omega arith)
 
-two_castles : (p : State) (m : Move) (w : Way) (castling : Castling) → IsWay p King m w → GoesTwo castling m.from m.to → IsCastling p King m (wing_of castling)
+two_castles : (p : State) (m : Move) (w : Way) (wing : Wing) → IsWay p King m w → GoesTwo wing m.from m.to → IsCastling p King m wing
 unfolding Goes
-two_castles p m Plain castling h g = absurd (king_near castling p.side m.from m.to h.goes.0 g)
-two_castles p m Capture castling h g = absurd (king_near castling p.side m.from m.to h.reaches.0 g)
-two_castles p m DoubleAdvance castling h g = absurd (let z : King ≡ Pawn = h.pawn in cc)
-two_castles p m EnPassant castling h g = absurd (let z : King ≡ Pawn = h.pawn in cc)
-two_castles p m (Promotion x) castling h g = absurd (let z : King ≡ Pawn = h.must.0 in cc)
-two_castles p m (CastlingWay w) castling h g = subst (IsCastling p King m) (other_wing p.side w castling m.from m.to h.home h.target g) h
+two_castles p m Plain wing h g = absurd (king_near wing p.side m.from m.to h.goes.0 g)
+two_castles p m Capture wing h g = absurd (king_near wing p.side m.from m.to h.reaches.0 g)
+two_castles p m DoubleAdvance wing h g = absurd (let z : King ≡ Pawn = h.pawn in cc)
+two_castles p m EnPassant wing h g = absurd (let z : King ≡ Pawn = h.pawn in cc)
+two_castles p m (Promotion x) wing h g = absurd (let z : King ≡ Pawn = h.must.0 in cc)
+two_castles p m (CastlingWay w) wing h g = subst (IsCastling p King m) (other_wing p.side w wing m.from m.to h.home h.target g) h
 
-castling_is : (p : State) (k : Kind) (m : Move) (castling : Castling) → IsLegal p m → Stands p.board p.side k m.from → k ≡ King → GoesTwo castling m.from m.to → IsCastling p k m (wing_of castling)
-castling_is p k m castling l stands king two =
+castling_is : (p : State) (k : Kind) (m : Move) (wing : Wing) → IsLegal p m → Stands p.board p.side k m.from → k ≡ King → GoesTwo wing m.from m.to → IsCastling p k m wing
+castling_is p k m wing l stands king two =
     let at_from : Stands p.board p.side King m.from = subst (λ (j : Kind). Stands p.board p.side j m.from) king stands in
     let g = goer p King m at_from l in
-    subst (λ (j : Kind). IsCastling p j m (wing_of castling)) (sym king) (two_castles p m g.way castling g.is_way two)
+    subst (λ (j : Kind). IsCastling p j m wing) (sym king) (two_castles p m g.way wing g.is_way two)
 
-pub castles_there : (p : State) (k : Kind) (m : Move) (castling : Castling) → IsLegal p m → Stands p.board p.side k m.from → ((k ≡ King) × GoesTwo castling m.from m.to) ↔ IsCastling p k m (wing_of castling)
-castles_there p k m castling l stands = (λ h. castling_is p k m castling l stands h.0 h.1, λ h. (h.king, castling_two p k m castling h))
+pub castles_there : (p : State) (k : Kind) (m : Move) (wing : Wing) → IsLegal p m → Stands p.board p.side k m.from → ((k ≡ King) × GoesTwo wing m.from m.to) ↔ IsCastling p k m wing
+castles_there p k m wing l stands = (λ h. castling_is p k m wing l stands h.0 h.1, λ h. (h.king, castling_two p k m wing h))
 
 -- ---- promotion: only a pawn promotes, and to a piece
 pub unpromoted : (p : State) (k : Kind) (m : Move) (w : Way) → IsWay p k m w → k ≢ Pawn → m.promotion ≡ None

@@ -8,12 +8,12 @@ use Rattle.pg_position.specs.declared.moves.Move.{Move}
 use Rattle.pg_position.specs.Position.{IsPosition}
 use Rattle.pg_position.proofs.FutureLemmas.{one_result}
 use Rattle.pg_position.proofs.StepLemmas.{same_kind}
-use Rattle.pg_san.specs.declared.castling.Castling.TheVariants.{Short, Long}
+use Rattle.pg_position.specs.declared.rights.Wing.TheVariants.{KingSide, QueenSide}
 use Rattle.pg_san.specs.declared.cores.Core.{Core}
-use Rattle.pg_san.specs.declared.rivals.Line.TheVariants.{Anywhere, SameFile}
+use Rattle.pg_san.specs.declared.rivals.Among.TheVariants.{Anywhere, SameFile}
 use Rattle.pg_san.specs.declared.said.Form.{Form}
 use Rattle.pg_san.specs.declared.said.Form.TheVariants.{Castles, Moves}
-use Rattle.pg_san.specs.Matching.{wing_of, GoesTwo}
+use Rattle.pg_san.specs.Matching.{GoesTwo}
 use Rattle.pg_san.specs.Spelling.{form_text}
 use Rattle.pg_san.specs.Writing.{HasRival, IsHint, IsCore, IsForm, IsSignOf, IsSan}
 use Rattle.pg_san.proofs.MoveLemmas.{castling_two}
@@ -67,16 +67,16 @@ one_core p k m c d h g =
     let s = core_hint p k m c d h g in
     same_core c d (h.kind_is ∙ sym g.kind_is) s.file_is s.rank_is (h.target_is ∙ sym g.target_is) (same_test c.takes d.takes (λ e. g.takes_is.1 (h.takes_is.0 e)) (λ e. h.takes_is.1 (g.takes_is.0 e))) (h.promotion_is ∙ sym g.promotion_is)
 
-not_both_ways : (r s : ℕ) → GoesTwo Short r s → GoesTwo Long r s → ⊥
+not_both_ways : (r s : ℕ) → GoesTwo KingSide r s → GoesTwo QueenSide r s → ⊥
 not_both_ways r s a b = let e : file s ≡ file r + 2 = a in let f : file r ≡ file s + 2 = b in omega arith
 
 one_form : (p : State) (k : Kind) (m : Move) (a b : Form) → IsForm p k m a → IsForm p k m b → a ≡ b
-one_form p k m (Castles Short) (Castles Short) h g = refl
-one_form p k m (Castles Long) (Castles Long) h g = refl
-one_form p k m (Castles Short) (Castles Long) h g = absurd (not_both_ways m.from m.to (castling_two p k m Short h) (castling_two p k m Long g))
-one_form p k m (Castles Long) (Castles Short) h g = absurd (not_both_ways m.from m.to (castling_two p k m Short g) (castling_two p k m Long h))
-one_form p k m (Castles c) (Moves core) h g = absurd (g.0 (wing_of c) h)
-one_form p k m (Moves core) (Castles c) h g = absurd (h.0 (wing_of c) g)
+one_form p k m (Castles KingSide) (Castles KingSide) h g = refl
+one_form p k m (Castles QueenSide) (Castles QueenSide) h g = refl
+one_form p k m (Castles KingSide) (Castles QueenSide) h g = absurd (not_both_ways m.from m.to (castling_two p k m KingSide h) (castling_two p k m QueenSide g))
+one_form p k m (Castles QueenSide) (Castles KingSide) h g = absurd (not_both_ways m.from m.to (castling_two p k m KingSide g) (castling_two p k m QueenSide h))
+one_form p k m (Castles c) (Moves core) h g = absurd (g.0 c h)
+one_form p k m (Moves core) (Castles c) h g = absurd (h.0 c g)
 one_form p k m (Moves c) (Moves d) h g = ap Moves (one_core p k m c d h.1 g.1)
 
 one_sign : (q : State) (s t : List ℕ) → IsSignOf q s → IsSignOf q t → s ≡ t

@@ -13,7 +13,7 @@ use Rattle.pg_position.specs.declared.moves.Move.{Move}
 use Rattle.pg_position.specs.contracts.moves.MoveOrd.TheImpl.{cmp-value}
 use Rattle.pg_board.specs.declared.man.Kind.{Kind}
 use Rattle.pg_board.specs.declared.man.Kind.TheVariants.{Pawn, Knight, Bishop, Rook, Queen, King}
-use Rattle.pg_moves.specs.Moves.{move_cmp, promotion_rank}
+use Rattle.pg_moves.specs.Moves.{move_cmp, promotion_number}
 use Rattle.pg_moves.proofs.PlaceLemmas.{move_cmp_total, same_parts}
 use Rattle.pg_moves.proofs.SortLemmas.{sorted_none, sorted_below, sorted_rest, sorted_same, Contains-none}
 use Rattle.pg_moves.specs.Counts.{IsOnce}
@@ -58,9 +58,9 @@ then_equal Greater b h = absurd (cc)
 
 same_move : (a b : Move) → move_cmp a b ≡ Equal → a ≡ b
 same_move a b h =
-    let p = then_equal (nat_cmp a.from b.from) (ordering_then (nat_cmp a.to b.to) (nat_cmp (promotion_rank a.promotion) (promotion_rank b.promotion))) h in
-    let q = then_equal (nat_cmp a.to b.to) (nat_cmp (promotion_rank a.promotion) (promotion_rank b.promotion)) p.1 in
-    same_parts a b (ranked a.from b.from Equal (sym p.0)) (ranked a.to b.to Equal (sym q.0)) (ranked (promotion_rank a.promotion) (promotion_rank b.promotion) Equal (sym q.1))
+    let p = then_equal (nat_cmp a.from b.from) (ordering_then (nat_cmp a.to b.to) (nat_cmp (promotion_number a.promotion) (promotion_number b.promotion))) h in
+    let q = then_equal (nat_cmp a.to b.to) (nat_cmp (promotion_number a.promotion) (promotion_number b.promotion)) p.1 in
+    same_parts a b (ranked a.from b.from Equal (sym p.0)) (ranked a.to b.to Equal (sym q.0)) (ranked (promotion_number a.promotion) (promotion_number b.promotion) Equal (sym q.1))
 
 pub same_game : (a b : List Move) → game_cmp a b ≡ Equal → a ≡ b
 same_game [] [] h = refl

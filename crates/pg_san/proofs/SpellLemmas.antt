@@ -10,7 +10,7 @@ use Rattle.pg_position.specs.Position.{Stands}
 use Rattle.pg_position.specs.Step.{IsPiece}
 use Rattle.pg_moves.specs.Moves.{IsLegal}
 use Rattle.pg_moves.proofs.ListLemmas.{on_board}
-use Rattle.pg_san.specs.declared.castling.Castling.TheVariants.{Short, Long}
+use Rattle.pg_position.specs.declared.rights.Wing.TheVariants.{KingSide, QueenSide}
 use Rattle.pg_san.specs.declared.cores.Core.{Core}
 use Rattle.pg_san.specs.declared.cores.Sep.{Sep}
 use Rattle.pg_san.specs.declared.cores.Sep.TheVariants.{Nothing, Cross}
@@ -165,8 +165,8 @@ core_spelled Queen c h = inl (piece_spelled Queen 81 c h (λ e. cc) refl (λ fil
 core_spelled King c h = inl (piece_spelled King 75 c h (λ e. cc) refl (λ file t. refl) refl)
 
 form_spelled : (p : State) (k : Kind) (m : Move) (form : Form) → Stands p.board p.side k m.from → IsLegal p m → IsForm p k m form → IsFormText (form_text k form) form
-form_spelled p k m (Castles Short) at_from l h = inl refl
-form_spelled p k m (Castles Long) at_from l h = inl refl
+form_spelled p k m (Castles KingSide) at_from l h = inl refl
+form_spelled p k m (Castles QueenSide) at_from l h = inl refl
 form_spelled p k m (Moves c) at_from l h = core_spelled k c (is_canonical p k m c at_from l h.1)
 
 sign_text : (q : State) (sign : List ℕ) → IsSignOf q sign → IsCheckText sign

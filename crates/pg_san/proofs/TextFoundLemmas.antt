@@ -6,8 +6,8 @@ use Rattle.std.specs.Str.{bytes_eq}
 use Rattle.std.proofs.lemmas.Bool.Decides.{nat_tests}
 use Rattle.std.proofs.lemmas.Slice.Eq.{bytes_eq-Decides}
 use Rattle.std.proofs.lemmas.List.{reverse-reverse}
-use Rattle.pg_san.specs.declared.castling.Castling.{Castling}
-use Rattle.pg_san.specs.declared.castling.Castling.TheVariants.{Short, Long}
+use Rattle.pg_position.specs.declared.rights.Wing.{Wing}
+use Rattle.pg_position.specs.declared.rights.Wing.TheVariants.{KingSide, QueenSide}
 use Rattle.pg_san.specs.declared.cores.Core.{Core}
 use Rattle.pg_san.specs.declared.said.Form.{Form}
 use Rattle.pg_san.specs.declared.said.Form.TheVariants.{Castles, Moves}
@@ -19,26 +19,26 @@ use Rattle.pg_san.proofs.EndLemmas.{reversed_whole, said_again}
 use Rattle.pg_san.proofs.FoundLemmas.{core_found}
 
 -- ---- castling or a core
-castling_found_by : (s t u v : Bool) (text : List ℕ) (c : Castling) → bytes_eq text (codes "O-O") ≡ s → bytes_eq text (codes "0-0") ≡ t → bytes_eq text (codes "O-O-O") ≡ u → bytes_eq text (codes "0-0-0") ≡ v
-    → cond s (Some Short) (cond t (Some Short) (cond u (Some Long) (cond v (Some Long) None))) ≡ Some c → IsFormText text (Castles c)
-castling_found_by true t u v text Short a b d e h = inl ((bytes_eq-Decides text (codes "O-O")).0 a)
-castling_found_by true t u v text Long a b d e h = absurd cc
-castling_found_by false true u v text Short a b d e h = inr ((bytes_eq-Decides text (codes "0-0")).0 b)
-castling_found_by false true u v text Long a b d e h = absurd cc
-castling_found_by false false true v text Long a b d e h = inl ((bytes_eq-Decides text (codes "O-O-O")).0 d)
-castling_found_by false false true v text Short a b d e h = absurd cc
-castling_found_by false false false true text Long a b d e h = inr ((bytes_eq-Decides text (codes "0-0-0")).0 e)
-castling_found_by false false false true text Short a b d e h = absurd cc
+castling_found_by : (s t u v : Bool) (text : List ℕ) (c : Wing) → bytes_eq text (codes "O-O") ≡ s → bytes_eq text (codes "0-0") ≡ t → bytes_eq text (codes "O-O-O") ≡ u → bytes_eq text (codes "0-0-0") ≡ v
+    → cond s (Some KingSide) (cond t (Some KingSide) (cond u (Some QueenSide) (cond v (Some QueenSide) None))) ≡ Some c → IsFormText text (Castles c)
+castling_found_by true t u v text KingSide a b d e h = inl ((bytes_eq-Decides text (codes "O-O")).0 a)
+castling_found_by true t u v text QueenSide a b d e h = absurd cc
+castling_found_by false true u v text KingSide a b d e h = inr ((bytes_eq-Decides text (codes "0-0")).0 b)
+castling_found_by false true u v text QueenSide a b d e h = absurd cc
+castling_found_by false false true v text QueenSide a b d e h = inl ((bytes_eq-Decides text (codes "O-O-O")).0 d)
+castling_found_by false false true v text KingSide a b d e h = absurd cc
+castling_found_by false false false true text QueenSide a b d e h = inr ((bytes_eq-Decides text (codes "0-0-0")).0 e)
+castling_found_by false false false true text KingSide a b d e h = absurd cc
 castling_found_by false false false false text c a b d e h = absurd cc
 
-castling_found : (text : List ℕ) (c : Castling) → castling_of text ≡ Some c → IsFormText text (Castles c)
+castling_found : (text : List ℕ) (c : Wing) → castling_of text ≡ Some c → IsFormText text (Castles c)
 castling_found text c h = castling_found_by (bytes_eq text (codes "O-O")) (bytes_eq text (codes "0-0")) (bytes_eq text (codes "O-O-O")) (bytes_eq text (codes "0-0-0")) text c refl refl refl refl h
 
 core_form_found : (o : Option Core) (text : List ℕ) (form : Form) → core_of text ≡ o → option_map Moves o ≡ Some form → IsFormText text form
 core_form_found None text form e h = absurd cc
 core_form_found (Some core) text form e h = let s : Some (Moves core) ≡ Some form = h in let t : Moves core ≡ form = cc in subst (IsFormText text) t (core_found text core e)
 
-form_found_by : (o : Option Castling) (text : List ℕ) (form : Form) → castling_of text ≡ o → form_by o text ≡ Some form → IsFormText text form
+form_found_by : (o : Option Wing) (text : List ℕ) (form : Form) → castling_of text ≡ o → form_by o text ≡ Some form → IsFormText text form
 form_found_by (Some c) text form e h = let s : Some (Castles c) ≡ Some form = h in let t : Castles c ≡ form = cc in subst (IsFormText text) t (castling_found text c e)
 form_found_by None text form e h = core_form_found (core_of text) text form refl h
 

@@ -6,14 +6,14 @@ use Rattle.std.proofs.lemmas.Cmp.{tied_itself}
 use Rattle.pg_position.specs.declared.state.State.{State}
 use Rattle.pg_position.specs.declared.moves.Move.{Move}
 use Rattle.pg_moves.specs.Moves.{move_cmp, IsLegal, IsBefore, IsPast, IsNext, IsLast}
-use Rattle.pg_moves.specs.Places.{place, start_after}
+use Rattle.pg_moves.specs.numbers.Places.{place, start_after}
 use Rattle.pg_moves.proofs.ListLemmas.{on_board}
 use Rattle.pg_moves.proofs.PlaceLemmas.{move_cmp_total, place_low}
 use Rattle.pg_moves.proofs.SearchLemmas.{less_place}
 use Rattle.pg_san.specs.declared.said.Said.{Said}
 use Rattle.pg_san.specs.Said.{said_of}
 use Rattle.pg_san.specs.Matching.{Fits, Matches}
-use Rattle.pg_san.specs.Walk.{NoneFits, IsFirstFit, WalkedTo}
+use Rattle.pg_san.specs.numbers.Walk.{NoneFits, IsFirstFit, WalkedTo}
 
 -- ---- a step of the walk
 past_later : (last : Option Move) (m n : Move) → IsPast last m → IsBefore m n → IsPast last n

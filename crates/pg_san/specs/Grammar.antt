@@ -2,7 +2,7 @@
 -- a text is read so exactly where it is spelled so.
 use Rattle.std.specs.Prelude.{◌≡◌, ℕ, ◌<◌, ◌⊎◌, Bool, true, false, List, [], ◌∷◌, ◌++◌, Option, Some, None, codes}
 use Rattle.pg_board.specs.declared.man.Kind.{Kind}
-use Rattle.pg_san.specs.declared.castling.Castling.TheVariants.{Short, Long}
+use Rattle.pg_position.specs.declared.rights.Wing.TheVariants.{KingSide, QueenSide}
 use Rattle.pg_san.specs.declared.cores.Core.{Core}
 use Rattle.pg_san.specs.declared.cores.Parts.{Parts}
 use Rattle.pg_san.specs.declared.cores.Sep.{Sep}
@@ -54,8 +54,8 @@ pub record IsPlainText (text : List ℕ) (core : Core) : Type 0 where
   pub says : plain_core promotion parts ≡ Some core
 
 abbrev pub IsFormText : List ℕ → Form → Type 0
-IsFormText text (Castles Short) = (text ≡ codes "O-O") ⊎ (text ≡ codes "0-0")
-IsFormText text (Castles Long) = (text ≡ codes "O-O-O") ⊎ (text ≡ codes "0-0-0")
+IsFormText text (Castles KingSide) = (text ≡ codes "O-O") ⊎ (text ≡ codes "0-0")
+IsFormText text (Castles QueenSide) = (text ≡ codes "O-O-O") ⊎ (text ≡ codes "0-0-0")
 IsFormText text (Moves core) = IsPieceText text core ⊎ IsPlainText text core
 
 -- ---- the ends

@@ -1,13 +1,11 @@
 pub mod CoreText
 pub mod Said
 pub mod Matching
-pub mod Walk
 pub mod Spelling
 pub mod Writing
 pub mod Grammar
 pub mod Games
 pub mod Adding
 pub mod GameText
-pub mod TextLeft
 pub mod Listing
-pub mod LineReading
+pub mod numbers

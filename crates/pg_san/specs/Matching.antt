@@ -9,8 +9,6 @@ use Rattle.pg_position.specs.declared.moves.Move.{Move}
 use Rattle.pg_position.specs.Position.{Stands}
 use Rattle.pg_position.specs.Step.{IsEnemy, IsEnPassant, IsCastling}
 use Rattle.pg_moves.specs.Moves.{IsLegal}
-use Rattle.pg_san.specs.declared.castling.Castling.{Castling}
-use Rattle.pg_san.specs.declared.castling.Castling.TheVariants.{Short, Long}
 use Rattle.pg_san.specs.declared.cores.Core.{Core}
 use Rattle.pg_san.specs.declared.said.Form.{Form}
 use Rattle.pg_san.specs.declared.said.Form.TheVariants.{Castles, Moves}
@@ -19,15 +17,10 @@ use Rattle.pg_san.specs.declared.fault.SanFault.{SanFault}
 use Rattle.pg_san.specs.declared.fault.SanFault.TheVariants.{Shape, NoSuchMove, Ambiguous}
 use Rattle.pg_san.specs.Said.{said_of}
 
--- short castling is towards the h-file, the king's side; long castling is towards the a-file
-abbrev pub wing_of : Castling → Wing
-wing_of Short = KingSide
-wing_of Long = QueenSide
-
 -- the way of a king that castles: two files towards the h-file, or towards the a-file
-abbrev pub GoesTwo : Castling → ℕ → ℕ → Type 0
-GoesTwo Short r s = file s ≡ file r + 2
-GoesTwo Long r s = file r ≡ file s + 2
+abbrev pub GoesTwo : Wing → ℕ → ℕ → Type 0
+GoesTwo KingSide r s = file s ≡ file r + 2
+GoesTwo QueenSide r s = file r ≡ file s + 2
 
 -- the move of a man of kind k captures, en passant included
 abbrev pub Takes : State → Kind → Move → Type 0
@@ -43,7 +36,7 @@ pub record FitsCore (p : State) (c : Core) (k : Kind) (m : Move) : Type 0 where
   pub promotion_fits : m.promotion ≡ c.promotion
 
 abbrev pub FitsForm : State → Form → Kind → Move → Type 0
-FitsForm p (Castles castling) k m = IsCastling p k m (wing_of castling)
+FitsForm p (Castles wing) k m = IsCastling p k m wing
 FitsForm p (Moves core) k m = FitsCore p core k m
 
 -- a man of kind k of the side to move makes the move, and it is as the text says

@@ -3,24 +3,24 @@
 use Rattle.std.specs.Prelude.{ℕ, Bool, true, false, ◌||◌, ◌==◌, List, [], ◌∷◌, reverse, Option, Some, None, if◌then◌else◌, codes}
 use Rattle.std.specs.Option.{option_map, option_and_then}
 use Rattle.std.specs.Str.{bytes_eq}
-use Rattle.pg_san.specs.declared.castling.Castling.{Castling}
-use Rattle.pg_san.specs.declared.castling.Castling.TheVariants.{Short, Long}
+use Rattle.pg_position.specs.declared.rights.Wing.{Wing}
+use Rattle.pg_position.specs.declared.rights.Wing.TheVariants.{KingSide, QueenSide}
 use Rattle.pg_san.specs.declared.said.Form.{Form}
 use Rattle.pg_san.specs.declared.said.Form.TheVariants.{Castles, Moves}
 use Rattle.pg_san.specs.declared.said.Said.{Said}
 use Rattle.pg_san.specs.CoreText.{core_of}
 
 -- castling, with letters or with digits
-abbrev pub castling_of : List ℕ → Option Castling
+abbrev pub castling_of : List ℕ → Option Wing
 castling_of text =
-    if bytes_eq text (codes "O-O") then Some Short
-    else (if bytes_eq text (codes "0-0") then Some Short
-    else (if bytes_eq text (codes "O-O-O") then Some Long
-    else (if bytes_eq text (codes "0-0-0") then Some Long
+    if bytes_eq text (codes "O-O") then Some KingSide
+    else (if bytes_eq text (codes "0-0") then Some KingSide
+    else (if bytes_eq text (codes "O-O-O") then Some QueenSide
+    else (if bytes_eq text (codes "0-0-0") then Some QueenSide
     else None)))
 
-abbrev pub form_by : Option Castling → List ℕ → Option Form
-form_by (Some castling) text = Some (Castles castling)
+abbrev pub form_by : Option Wing → List ℕ → Option Form
+form_by (Some wing) text = Some (Castles wing)
 form_by None text = option_map Moves (core_of text)
 
 -- what a text says without its ends

@@ -3,8 +3,8 @@ use Rattle.std.specs.Prelude.{ℕ, ◌+◌, ◌≤◌, Bool, true, false, List, 
 use Rattle.pg_board.specs.declared.man.Kind.{Kind}
 use Rattle.pg_board.specs.declared.man.Kind.TheVariants.{Pawn, Knight, Bishop, Rook, Queen, King}
 use Rattle.pg_board.specs.Squares.{file, rank}
-use Rattle.pg_san.specs.declared.castling.Castling.{Castling}
-use Rattle.pg_san.specs.declared.castling.Castling.TheVariants.{Short, Long}
+use Rattle.pg_position.specs.declared.rights.Wing.{Wing}
+use Rattle.pg_position.specs.declared.rights.Wing.TheVariants.{KingSide, QueenSide}
 use Rattle.pg_san.specs.declared.cores.Core.{Core}
 use Rattle.pg_san.specs.declared.said.Form.{Form}
 use Rattle.pg_san.specs.declared.said.Form.TheVariants.{Castles, Moves}
@@ -51,9 +51,9 @@ abbrev pub promotion_text : Option Kind → List ℕ
 promotion_text None = []
 promotion_text (Some k) = codes "=" ++ letter_text k
 
-abbrev pub castling_text : Castling → List ℕ
-castling_text Short = codes "O-O"
-castling_text Long = codes "O-O-O"
+abbrev pub castling_text : Wing → List ℕ
+castling_text KingSide = codes "O-O"
+castling_text QueenSide = codes "O-O-O"
 
 -- the source file that is written: a pawn's only where it captures
 abbrev pub written_file : Kind → Bool → Option ℕ → Option ℕ
@@ -65,7 +65,7 @@ abbrev pub core_text : Kind → Core → List ℕ
 core_text k core = letter_text k ++ file_text (written_file k core.takes core.file) ++ rank_text core.rank ++ cross_text core.takes ++ square_text core.target ++ promotion_text core.promotion
 
 abbrev pub form_text : Kind → Form → List ℕ
-form_text k (Castles castling) = castling_text castling
+form_text k (Castles wing) = castling_text wing
 form_text k (Moves core) = core_text k core
 
 -- ---- what can be written: files and ranks of the board, in eight bytes with the sign
@@ -75,5 +75,5 @@ pub record IsWritable (k : Kind) (core : Core) (sign : List ℕ) : Type 0 where
   pub room : length (core_text k core ++ sign) ≤ 8
 
 abbrev pub IsFormWritable : Kind → Form → List ℕ → Type 0
-IsFormWritable k (Castles castling) sign = length sign ≤ 1
+IsFormWritable k (Castles wing) sign = length sign ≤ 1
 IsFormWritable k (Moves core) sign = IsWritable k core sign

@@ -11,11 +11,11 @@ use Rattle.pg_position.specs.Step.{IsCastling, Legal}
 use Rattle.pg_moves.specs.Moves.{IsLegal}
 use Rattle.pg_moves.specs.Targets.{plain_move}
 use Rattle.pg_san.specs.declared.cores.Core.{Core}
-use Rattle.pg_san.specs.declared.rivals.Line.{Line}
-use Rattle.pg_san.specs.declared.rivals.Line.TheVariants.{Anywhere, SameFile, SameRank}
+use Rattle.pg_san.specs.declared.rivals.Among.{Among}
+use Rattle.pg_san.specs.declared.rivals.Among.TheVariants.{Anywhere, SameFile, SameRank}
 use Rattle.pg_san.specs.declared.said.Form.{Form}
 use Rattle.pg_san.specs.declared.said.Form.TheVariants.{Castles, Moves}
-use Rattle.pg_san.specs.Matching.{wing_of, Takes}
+use Rattle.pg_san.specs.Matching.{Takes}
 use Rattle.pg_san.specs.Spelling.{form_text}
 
 -- another man of the mover's kind and colour has the legal move n to the same target
@@ -26,18 +26,18 @@ pub record IsRival (p : State) (k : Kind) (m n : Move) : Type 0 where
   pub other : n.from ≢ m.from
 
 -- the squares that count: all, those of one file with s, or those of one rank with it
-abbrev pub IsOn : Line → ℕ → ℕ → Type 0
-IsOn Anywhere r s = Unit {0}
-IsOn SameFile r s = file r ≡ file s
-IsOn SameRank r s = rank r ≡ rank s
+abbrev pub Counts : Among → ℕ → ℕ → Type 0
+Counts Anywhere r s = Unit {0}
+Counts SameFile r s = file r ≡ file s
+Counts SameRank r s = rank r ≡ rank s
 
 -- such a man stands on a square that counts
-unfoldable pub HasRival : State → Kind → Move → Line → Type 0
-HasRival p k m line = (n : Move) × IsOn line n.from m.from × IsRival p k m n
+unfoldable pub HasRival : State → Kind → Move → Among → Type 0
+HasRival p k m among = (n : Move) × Counts among n.from m.from × IsRival p k m n
 
 -- a man of kind k on s, no pawn and not the mover, may go to the same target, and its square counts
-pub record IsRivalOn (p : State) (k : Kind) (m : Move) (line : Line) (s : ℕ) : Type 0 where
-  pub on : IsOn line s m.from
+pub record IsRivalOn (p : State) (k : Kind) (m : Move) (among : Among) (s : ℕ) : Type 0 where
+  pub on : Counts among s m.from
   pub other : s ≢ m.from
   pub stands : Stands p.board p.side k s
   pub legal : IsLegal p (plain_move s m.to)
@@ -64,7 +64,7 @@ pub record IsCore (p : State) (k : Kind) (m : Move) (c : Core) : Type 0 where
   pub other_is : k ≢ Pawn → IsHint p k m c.file c.rank
 
 abbrev pub IsForm : State → Kind → Move → Form → Type 0
-IsForm p k m (Castles castling) = IsCastling p k m (wing_of castling)
+IsForm p k m (Castles wing) = IsCastling p k m wing
 IsForm p k m (Moves core) = ((wing : Wing) → ¬ IsCastling p k m wing) × IsCore p k m core
 
 -- a legal move can be made

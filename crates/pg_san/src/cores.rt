@@ -39,7 +39,7 @@ pub struct Parts {
     pub target: Square,
 }
 
-// The last byte of a text, and what stands before it.
+/// The last byte of a text, and what stands before it.
 pub fn last_off(text: &[u8]) -> Option<(&[u8], u8)>
     ensures { MatchOption result (reverse text.now ≡ []) (λ p. reverse text.now ≡ p.1 ∷ reverse p.0.now) }
 {

@@ -17,7 +17,6 @@ mod reading;
 mod rivals;
 mod said;
 mod spelling;
-mod text;
 mod words;
 mod writing;
 
@@ -33,7 +32,5 @@ pub use listing_fault::GamesFault;
 pub use reading::read;
 pub use writing::{San, write};
 
-#[cfg(test)]
-mod list_tests;
 #[cfg(test)]
 mod tests;

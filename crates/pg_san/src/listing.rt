@@ -4,7 +4,7 @@ ghost use Rattle.pg_position.specs.Step.{Legal};
 ghost use Rattle.pg_moves.specs.Moves.{IsLegal};
 ghost use Rattle.pg_san.specs.GameText.{words, dash};
 ghost use Rattle.pg_san.specs.Listing.{AreGame, IsGameLine, IsLineFault, IsListing, IsTextFault};
-ghost use Rattle.pg_san.specs.LineReading.{IsWordsFault, IsGameFault, IsLineRead};
+ghost use Rattle.pg_san.specs.numbers.LineReading.{IsWordsFault, IsGameFault, IsLineRead};
 
 use crate::adding::AddFault;
 use crate::fault::SanFault;

@@ -31,22 +31,23 @@ fn is_aside(position: &Position, kind: Kind, m: &Move) -> bool
 
 // Whether a legal move of a man of this kind captures en passant. No pawn goes straight to the passed
 // square: the other side's pawn stands in front of it.
-fn passes(position: &Position, kind: Kind, m: &Move) -> bool
+fn is_en_passant(position: &Position, kind: Kind, m: &Move) -> bool
     requires legal { IsLegal position.now m.now }
     requires stands { Stands position.now.board position.now.side kind m.now.from }
     ensures { IsTrue result ↔ IsEnPassant position.now kind m.now }
 {
+    // A fact for the proof: what is handed in is a position.
     position.side();
     is_aside(position, kind, m)
 }
 
-// Whether a legal move of a man of this kind captures.
+/// Whether a legal move of a man of this kind captures.
 pub fn takes(position: &Position, kind: Kind, m: &Move) -> bool
     requires legal { IsLegal position.now m.now }
     requires stands { Stands position.now.board position.now.side kind m.now.from }
     ensures { IsTrue result ↔ Takes position.now kind m.now }
 {
-    is_enemy(position, m.to) || passes(position, kind, m)
+    is_enemy(position, m.to) || is_en_passant(position, kind, m)
 }
 
 fn fits_kind(said: Option<Kind>, kind: Kind) -> bool
@@ -95,7 +96,7 @@ fn fits_form(position: &Position, form: &Form, kind: Kind, m: &Move) -> bool
     ensures { IsTrue result ↔ FitsForm position.now form.now kind m.now }
 {
     match form {
-        Form::Castles(castling) => castles(kind, m, *castling),
+        Form::Castles(wing) => castles(kind, m, *wing),
         Form::Moves(core) => fits_core(position, core, kind, m),
     }
 }
@@ -105,10 +106,10 @@ fn fits_as(position: &Position, said: &Said, kind: Kind, m: &Move) -> bool
     requires stands { Stands position.now.board position.now.side kind m.now.from }
     ensures { IsTrue result ↔ FitsAs position.now said.now kind m.now }
 {
-    fits_form(position, &said.form, kind, m) && (!said.passing || passes(position, kind, m))
+    fits_form(position, &said.form, kind, m) && (!said.passing || is_en_passant(position, kind, m))
 }
 
-// The kind of the man that makes a legal move.
+/// The kind of the man that makes a legal move.
 #[tactic(auto, using(crate::proofs::MoveLemmas::mover_stands, crate::proofs::MoveLemmas::some_mover))]
 pub fn mover(position: &Position, m: &Move) -> Kind
     requires { IsLegal position.now m.now }

@@ -5,7 +5,7 @@ ghost use Rattle.std.specs.Option.{ForSome};
 ghost use Rattle.pg_position.specs.declared.moves.Move.{Move};
 ghost use Rattle.pg_san.specs.Matching.{IsReading};
 ghost use Rattle.pg_moves.specs.Moves.{IsLegal};
-ghost use Rattle.pg_san.specs.Walk.{NoneFits, IsFirstFit};
+ghost use Rattle.pg_san.specs.numbers.Walk.{NoneFits, IsFirstFit};
 
 use crate::fault::SanFault;
 use crate::matching::fits;
@@ -37,7 +37,7 @@ fn fits_later(position: &Position, said: &Said, first: &Move) -> bool
     next_fit(position, said, Some(*first)).is_some()
 }
 
-// The one legal move that the bytes of a text name, as `read` has it.
+/// The one legal move that the bytes of a text name, as `read` has it.
 pub fn read_bytes(position: &Position, text: &[u8]) -> Result<Move, SanFault>
     ensures { IsReading position.now text.now result }
 {
@@ -69,9 +69,11 @@ pub fn read_bytes(position: &Position, text: &[u8]) -> Result<Move, SanFault>
 /// the text says where its man, source, target and promotion are those given, castling being the
 /// king's move of two squares; with `x` it captures, with `ep` or `e.p.` en passant. Nothing is made
 /// of check signs and marks.
+/// Takes no memory.
 ///
-/// Refused as `Shape` where the text is spelled otherwise, as `NoSuchMove` where no legal move is as
-/// it says, and as `Ambiguous` where more than one is. Takes no memory.
+/// # Errors
+/// `Shape` where the text is spelled otherwise, `NoSuchMove` where no legal move is as it says, and
+/// `Ambiguous` where more than one is.
 pub fn read(position: &Position, text: &str) -> Result<Move, SanFault>
     ensures { IsReading position.now text.now result }
 {

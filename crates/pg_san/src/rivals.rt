@@ -3,28 +3,28 @@ ghost use Rattle.std.specs.Prelude.{◌≡◌, ◌≢◌, ◌↔◌, IsTrue};
 ghost use Rattle.pg_position.specs.Position.{Stands};
 ghost use Rattle.pg_moves.specs.Moves.{IsLegal};
 ghost use Rattle.pg_moves.specs.Targets.{plain_move};
-ghost use Rattle.pg_san.specs.Writing.{HasRival, IsHint, IsOn, IsRivalOn};
+ghost use Rattle.pg_san.specs.Writing.{HasRival, IsHint, Counts, IsRivalOn};
 
 use pg_board::{Kind, Square};
 use pg_position::{Move, Position};
 
 /// Which squares count.
 #[derive(Clone, Copy, Debug, PartialEq, Eq)]
-pub enum Line {
+pub enum Among {
     Anywhere,
     SameFile,
     SameRank,
 }
 
-impl Line {
+impl Among {
     // Whether the square `other` counts, beside `square`.
-    fn is_on(self, other: Square, square: Square) -> bool
-        ensures { IsTrue result ↔ IsOn self other square }
+    fn counts(self, other: Square, square: Square) -> bool
+        ensures { IsTrue result ↔ Counts self other square }
     {
         match self {
-            Line::Anywhere => true,
-            Line::SameFile => other.file() == square.file(),
-            Line::SameRank => other.rank() == square.rank(),
+            Among::Anywhere => true,
+            Among::SameFile => other.file() == square.file(),
+            Among::SameRank => other.rank() == square.rank(),
         }
     }
 }
@@ -60,49 +60,49 @@ fn may_go(position: &Position, from: Square, to: Square) -> bool
 }
 
 // Whether another man of this kind stands on the square, and the square counts.
-fn is_other(position: &Position, kind: Kind, m: &Move, line: Line, square: Square) -> bool
-    ensures { IsTrue result ↔ (IsOn line square m.now.from × (square ≢ m.now.from) × Stands position.now.board position.now.side kind square) }
+fn is_other(position: &Position, kind: Kind, m: &Move, among: Among, square: Square) -> bool
+    ensures { IsTrue result ↔ (Counts among square m.now.from × (square ≢ m.now.from) × Stands position.now.board position.now.side kind square) }
 {
-    line.is_on(square, m.from) && square != m.from && stands(position, kind, square)
+    among.counts(square, m.from) && square != m.from && stands(position, kind, square)
 }
 
-fn is_rival(position: &Position, kind: Kind, m: &Move, line: Line, square: Square) -> bool
-    ensures { IsTrue result ↔ IsRivalOn position.now kind m.now line square }
+fn is_rival(position: &Position, kind: Kind, m: &Move, among: Among, square: Square) -> bool
+    ensures { IsTrue result ↔ IsRivalOn position.now kind m.now among square }
 {
-    is_other(position, kind, m, line, square) && may_go(position, square, m.to)
+    is_other(position, kind, m, among, square) && may_go(position, square, m.to)
 }
 
 // Whether another man of this kind, on a square that counts, has a legal move to the same target.
-fn has_rival(position: &Position, kind: Kind, m: &Move, line: Line) -> bool
+fn has_rival(position: &Position, kind: Kind, m: &Move, among: Among) -> bool
     requires { kind ≢ Kind.Pawn }
-    ensures { IsTrue result ↔ HasRival position.now kind m.now line }
+    ensures { IsTrue result ↔ HasRival position.now kind m.now among }
 {
     for i in 0..64u8 {
-        if is_rival(position, kind, m, line, Square::at(i)) {
+        if is_rival(position, kind, m, among, Square::at(i)) {
             return true;
         }
     }
     false
 }
 
-// What tells a man other than a pawn apart.
+/// What tells a man other than a pawn apart.
 pub fn hint_of(position: &Position, kind: Kind, m: &Move) -> Hint
     requires { kind ≢ Kind.Pawn }
     ensures { IsHint position.now kind m.now result.file result.rank }
 {
     let file = m.from.file();
     let rank = m.from.rank();
-    if !has_rival(position, kind, m, Line::Anywhere) {
+    if !has_rival(position, kind, m, Among::Anywhere) {
         Hint {
             file: None,
             rank: None,
         }
-    } else if !has_rival(position, kind, m, Line::SameFile) {
+    } else if !has_rival(position, kind, m, Among::SameFile) {
         Hint {
             file: Some(file),
             rank: None,
         }
-    } else if !has_rival(position, kind, m, Line::SameRank) {
+    } else if !has_rival(position, kind, m, Among::SameRank) {
         Hint {
             file: None,
             rank: Some(rank),

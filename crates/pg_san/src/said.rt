@@ -2,13 +2,13 @@
 ghost use Rattle.std.specs.Prelude.{◌≡◌, reverse, MatchOption, Some, None};
 ghost use Rattle.pg_san.specs.Said.{castling_of, form_of, is_mark, without_mark, without_plus, without_check, byte_in, ep_in, dots_in, passing_in, said_of};
 
-use crate::castling::Castling;
 use crate::cores::{Core, core_of, last_off};
+use pg_position::Wing;
 
 /// What a text says without its ends.
 #[derive(Clone, Copy, Debug, PartialEq, Eq)]
 pub enum Form {
-    Castles(Castling),
+    Castles(Wing),
     Moves(Core),
 }
 
@@ -20,12 +20,12 @@ pub struct Said {
     pub passing: bool,
 }
 
-fn castling_of(text: &[u8]) -> Option<Castling>
+fn castling_of(text: &[u8]) -> Option<Wing>
     ensures { result ≡ castling_of text.now }
 {
     match text {
-        b"O-O" | b"0-0" => Some(Castling::Short),
-        b"O-O-O" | b"0-0-0" => Some(Castling::Long),
+        b"O-O" | b"0-0" => Some(Wing::KingSide),
+        b"O-O-O" | b"0-0-0" => Some(Wing::QueenSide),
         _ => None,
     }
 }
@@ -34,7 +34,7 @@ fn form_of(text: &[u8]) -> Option<Form>
     ensures { result ≡ form_of text.now }
 {
     match castling_of(text) {
-        Some(castling) => Some(Form::Castles(castling)),
+        Some(wing) => Some(Form::Castles(wing)),
         None => match core_of(text) {
             Some(core) => Some(Form::Moves(core)),
             None => None,

@@ -2,12 +2,12 @@
 ghost use Rattle.std.specs.Prelude.{◌≡◌, ◌++◌, ◌+◌, ◌≤◌, length};
 ghost use Rattle.pg_san.specs.Spelling.{IsOfBoard, file_text, rank_text, square_text, letter_text, cross_text, promotion_text, castling_text, written_file, core_text, form_text, IsWritable, IsFormWritable};
 
-use crate::castling::Castling;
 use crate::cores::Core;
 use crate::said::Form;
-use crate::text::put;
 use arrayvec::ArrayString;
 use pg_board::{Kind, Square};
+use pg_fen::text::put;
+use pg_position::Wing;
 
 fn put_letter(text: &mut ArrayString<8>, kind: Kind)
     requires room { length text.old.bytes + length (letter_text kind) ≤ 8 }
@@ -94,26 +94,26 @@ fn write_core(kind: Kind, core: &Core, sign: &str) -> ArrayString<8>
     text
 }
 
-fn write_castling(castling: Castling, sign: &str) -> ArrayString<8>
+fn write_castling(wing: Wing, sign: &str) -> ArrayString<8>
     requires { length sign.now ≤ 1 }
-    ensures { result.bytes ≡ castling_text castling ++ sign.now }
+    ensures { result.bytes ≡ castling_text wing ++ sign.now }
 {
     let mut text = ArrayString::new();
-    match castling {
-        Castling::Short => text.push_str("O-O"),
-        Castling::Long => text.push_str("O-O-O"),
+    match wing {
+        Wing::KingSide => text.push_str("O-O"),
+        Wing::QueenSide => text.push_str("O-O-O"),
     }
     text.push_str(sign);
     text
 }
 
-// The text of what is said of a move of a man of this kind, and the sign behind it.
+/// The text of what is said of a move of a man of this kind, and the sign behind it.
 pub fn write_form(kind: Kind, form: &Form, sign: &str) -> ArrayString<8>
     requires { IsFormWritable kind form.now sign.now }
     ensures { result.bytes ≡ form_text kind form.now ++ sign.now }
 {
     match form {
-        Form::Castles(castling) => write_castling(*castling, sign),
+        Form::Castles(wing) => write_castling(*wing, sign),
         Form::Moves(core) => write_core(kind, core, sign),
     }
 }

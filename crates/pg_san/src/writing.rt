@@ -4,7 +4,7 @@ ghost use Rattle.pg_position.specs.Position.{Stands};
 ghost use Rattle.pg_moves.specs.Moves.{IsLegal};
 ghost use Rattle.pg_san.specs.Writing.{IsCore, IsForm, IsHint, IsPawnHint, IsSignOf, IsSan};
 
-use crate::castling::{Castling, castles};
+use crate::castling::castles;
 use crate::cores::Core;
 use crate::matching::{mover, takes};
 use crate::rivals::{Hint, hint_of};
@@ -13,7 +13,7 @@ use crate::spelling::write_form;
 use arrayvec::ArrayString;
 use pg_board::Kind;
 use pg_moves::next_legal;
-use pg_position::{Move, Position};
+use pg_position::{Move, Position, Wing};
 
 /// The text of a move, as `Qa1xc3+` or `exd8=Q#`.
 pub type San = ArrayString<8>;
@@ -52,11 +52,11 @@ fn form_for(position: &Position, kind: Kind, m: &Move) -> Form
     requires stands { Stands position.now.board position.now.side kind m.now.from }
     ensures { IsForm position.now kind m.now result }
 {
-    if castles(kind, m, Castling::Short) {
-        return Form::Castles(Castling::Short);
+    if castles(kind, m, Wing::KingSide) {
+        return Form::Castles(Wing::KingSide);
     }
-    if castles(kind, m, Castling::Long) {
-        return Form::Castles(Castling::Long);
+    if castles(kind, m, Wing::QueenSide) {
+        return Form::Castles(Wing::QueenSide);
     }
     Form::Moves(core_for(position, kind, m))
 }

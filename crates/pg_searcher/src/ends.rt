@@ -21,8 +21,8 @@ fn put_move(game: &mut ArrayVec<Move, 128>, m: &Option<Move>) {
     }
 }
 
-/// The game that leads along the open nodes, by the move that was played last at each, and then by
-/// these moves.
+// The game that leads along the open nodes, by the move that was played last at each, and then by
+// these moves.
 fn game_along(frames: &[Frame], before: &Option<Move>, last: &Option<Move>) -> ArrayVec<Move, 128> {
     let mut game = ArrayVec::new();
     for frame in frames {
@@ -33,8 +33,8 @@ fn game_along(frames: &[Frame], before: &Option<Move>, last: &Option<Move>) -> A
     game
 }
 
-/// A game of a tree's length ends on the diagram. The length must be the stated one, and the game is
-/// added.
+// A game of a tree's length ends on the diagram. The length must be the stated one, and the game is
+// added.
 pub(crate) fn end(
     question: &Question,
     tree: u8,
@@ -60,8 +60,8 @@ pub(crate) fn end(
     }
 }
 
-/// What a pawn becomes that goes to a square of a board, if it is the last of its file: what stands
-/// there.
+// What a pawn becomes that goes to a square of a board, if it is the last of its file: what stands
+// there.
 fn promotion(position: &Position, goal: &Board, from: Square, to: Square) -> Option<Kind> {
     let pawn = Man {
         color: position.side(),
@@ -77,7 +77,7 @@ fn promotion(position: &Position, goal: &Board, from: Square, to: Square) -> Opt
     }
 }
 
-/// The games that a man's moves from a square to one of a set end.
+// The games that a man's moves from a square to one of a set end.
 fn leaves_from(
     question: &Question,
     tree: u8,
@@ -115,12 +115,12 @@ fn leaves_from(
     Ok(())
 }
 
-/// The first square of a set that is not empty.
+// The first square of a set that is not empty.
 fn first_of(set: u64) -> Square {
     Square::at((set.trailing_zeros() % 64) as u8)
 }
 
-/// Whether a move is legal and leads to the diagram.
+// Whether a move is legal and leads to the diagram.
 fn leads(diagram: &Diagram, position: &Position, m: &Move) -> bool {
     match position.play(*m) {
         Ok(next) => diagram.matches(&next),
@@ -128,15 +128,15 @@ fn leads(diagram: &Diagram, position: &Position, m: &Move) -> bool {
     }
 }
 
-/// Whether a move may change all squares of a set and no others: those that it leaves and reaches, in a
-/// capture en passant a third one, in castling four.
+// Whether a move may change all squares of a set and no others: those that it leaves and reaches, in a
+// capture en passant a third one, in castling four.
 pub(crate) fn is_near(squares: u64) -> bool {
     let count = squares.count_ones();
     2 <= count && count <= 4
 }
 
-/// The leaves on the diagram below a node with one ply left, to which this move led. A move to the
-/// diagram leaves a square that differs, and goes to one where the diagram has a man of its colour.
+// The leaves on the diagram below a node with one ply left, to which this move led. A move to the
+// diagram leaves a square that differs, and goes to one where the diagram has a man of its colour.
 pub(crate) fn leaves(
     question: &Question,
     tree: u8,
@@ -170,7 +170,7 @@ pub(crate) fn leaves(
     Ok(())
 }
 
-/// Visits a node with one ply left and writes its record.
+// Visits a node with one ply left and writes its record.
 pub(crate) fn last_node<W: Sink>(machine: &mut Machine, sink: &mut W) -> Result<(), SearchFault>
     requires runs { machine.old.writer.failed ≡ false }
     ensures frames { machine.new.frames ≡ machine.old.frames }

@@ -14,7 +14,7 @@ use pg_prices::Closed;
 use pg_san::Games;
 use std::alloc::Global;
 
-/// The header of the certificate.
+// The header of the certificate.
 fn header(diagram: &Diagram, plies: u8) -> Header
     ensures { result.version ≡ 2 }
 {
@@ -25,7 +25,7 @@ fn header(diagram: &Diagram, plies: u8) -> Header
     }
 }
 
-/// The header, the trees and the end.
+// The header, the trees and the end.
 fn write<W: Sink, P: Progress>(
     question: &Question,
     machine: &mut Machine,

@@ -10,15 +10,15 @@ use pg_prices::{NEVER, Needs, UNKNOWN};
 use pg_travel::Prices;
 use std::alloc::{AllocError, Global};
 
-/// What judges nodes by their cuts for a diagram.
+// What judges nodes by their cuts for a diagram.
 #[derive(Drop)]
 pub(crate) struct Judge {
     white: Known,
     black: Known,
 }
 
-/// What becomes of a node: a bound excludes it, or prices of one colour's pawns or of one colour's
-/// travel do, or none does; or that is not known.
+// What becomes of a node: a bound excludes it, or prices of one colour's pawns or of one colour's
+// travel do, or none does; or that is not known.
 #[derive(Clone, Copy, Debug, PartialEq, Eq)]
 pub(crate) enum Verdict {
     Cut(u8),
@@ -28,14 +28,14 @@ pub(crate) enum Verdict {
     Unknown,
 }
 
-/// One colour's numbers at a node: how many captures it owes, and how many plies it has left.
+// One colour's numbers at a node: how many captures it owes, and how many plies it has left.
 #[derive(Clone, Copy)]
 struct Means {
     owed: i16,
     plies: u8,
 }
 
-/// Both colours, from a colour and the other one.
+// Both colours, from a colour and the other one.
 fn sides_by(color: Color, own: Side, other: Side) -> Sides {
     match color {
         Color::White => Sides {
@@ -49,7 +49,7 @@ fn sides_by(color: Color, own: Side, other: Side) -> Sides {
     }
 }
 
-/// Both colours of a position. What they need is missing.
+// Both colours of a position. What they need is missing.
 pub(crate) fn sides_of(position: &Position) -> Sides {
     let board = position.board();
     let rights = position.rights();
@@ -59,12 +59,12 @@ pub(crate) fn sides_of(position: &Position) -> Sides {
     }
 }
 
-/// Whether the captures that a colour owes are fewer than none or more than its plies.
+// Whether the captures that a colour owes are fewer than none or more than its plies.
 fn captures_exclude(means: Means) -> bool {
     means.owed < 0 || means.owed > i16::from(means.plies)
 }
 
-/// The bound of promotions, pawn files or travel that excludes for a colour.
+// The bound of promotions, pawn files or travel that excludes for a colour.
 fn bound_for(means: Means, needs: &Needs) -> Option<u8> {
     if needs.need == NEVER {
         Some(2)
@@ -77,7 +77,7 @@ fn bound_for(means: Means, needs: &Needs) -> Option<u8> {
     }
 }
 
-/// Of the colours for which prices exclude, the one with the fewer bytes.
+// Of the colours for which prices exclude, the one with the fewer bytes.
 fn shorter(white: Option<u16>, black: Option<u16>) -> Option<Color> {
     match white {
         None => match black {
@@ -91,7 +91,7 @@ fn shorter(white: Option<u16>, black: Option<u16>) -> Option<Color> {
     }
 }
 
-/// How many price bytes a cut by pawn files has, where the prices exclude.
+// How many price bytes a cut by pawn files has, where the prices exclude.
 fn pawn_length(means: Means, side: &Side, wanted: u8) -> Option<u16> {
     if i16::from(side.needs.pawns) > means.owed {
         Some(u16::from(side.pawns) + u16::from(wanted))
@@ -100,7 +100,7 @@ fn pawn_length(means: Means, side: &Side, wanted: u8) -> Option<u16> {
     }
 }
 
-/// How many price bytes a cut by travel has, where the prices exclude.
+// How many price bytes a cut by travel has, where the prices exclude.
 fn travel_length(means: Means, side: &Side, wanted: u8) -> Option<u16> {
     if side.needs.travel > means.plies {
         let men = u16::from(side.men) + u16::from(wanted);
@@ -111,7 +111,7 @@ fn travel_length(means: Means, side: &Side, wanted: u8) -> Option<u16> {
 }
 
 impl Judge {
-    /// What judges nodes by their cuts for a diagram.
+    // What judges nodes by their cuts for a diagram.
     pub(crate) fn new(alloc: Global, diagram: &Diagram) -> Result<Judge, AllocError> {
         let white = match Known::new(alloc, Color::White, diagram) {
             Ok(known) => known,
@@ -131,7 +131,7 @@ impl Judge {
         }
     }
 
-    /// A colour's numbers where the other one has so many men.
+    // A colour's numbers where the other one has so many men.
     fn means(&self, color: Color, other_men: u8, side: Color, left: u8) -> Means {
         let wanted = self.known(color.other()).wanted_men;
         Means {
@@ -140,7 +140,7 @@ impl Judge {
         }
     }
 
-    /// What becomes of a node with this side to move and so many plies left.
+    // What becomes of a node with this side to move and so many plies left.
     fn verdict(&self, sides: &Sides, side: Color, left: u8) -> Verdict {
         let white = self.means(Color::White, sides.black.men, side, left);
         let black = self.means(Color::Black, sides.white.men, side, left);
@@ -159,7 +159,7 @@ impl Judge {
         self.priced(sides, white, black)
     }
 
-    /// Whether prices exclude a node.
+    // Whether prices exclude a node.
     fn priced(&self, sides: &Sides, white: Means, black: Means) -> Verdict {
         let pawns = shorter(
             pawn_length(white, &sides.white, self.white.wanted_pawns),
@@ -178,7 +178,7 @@ impl Judge {
         }
     }
 
-    /// A colour after a move, with its needs where they are known.
+    // A colour after a move, with its needs where they are known.
     fn after(&self, color: Color, side: &Side, change: &Change) -> Side {
         let needs = match self.known(color).get(change.key_after(side)) {
             Some(needs) => needs,
@@ -187,7 +187,7 @@ impl Judge {
         change.applied(side, needs)
     }
 
-    /// What becomes of a node after a move of a colour, by what is known, and both colours there.
+    // What becomes of a node after a move of a colour, by what is known, and both colours there.
     pub(crate) fn quick(
         &self,
         color: Color,
@@ -215,7 +215,7 @@ impl Judge {
         (self.verdict(&sides, color.other(), left), Some(sides))
     }
 
-    /// Finds the needs by bounds that are missing.
+    // Finds the needs by bounds that are missing.
     pub(crate) fn fill(
         &mut self,
         diagram: &Diagram,
@@ -239,8 +239,8 @@ impl Judge {
         Ok(())
     }
 
-    /// What becomes of a node with so many plies left. Its colours' needs are complete afterwards, where
-    /// no bound excludes it.
+    // What becomes of a node with so many plies left. Its colours' needs are complete afterwards, where
+    // no bound excludes it.
     pub(crate) fn judged(
         &mut self,
         position: &Position,
@@ -266,12 +266,12 @@ impl Judge {
         Ok(self.verdict(sides, side, left))
     }
 
-    /// The price lists of travel of a colour that are kept.
+    // The price lists of travel of a colour that are kept.
     pub(crate) fn kept_prices(&self, color: Color, key: u64) -> Option<Prices> {
         self.known(color).kept_prices(key)
     }
 
-    /// The price list of a colour's pawns.
+    // The price list of a colour's pawns.
     pub(crate) fn pawn_prices(
         &mut self,
         color: Color,
@@ -283,7 +283,7 @@ impl Judge {
         }
     }
 
-    /// The price lists of a colour's travel.
+    // The price lists of a colour's travel.
     pub(crate) fn travel_prices(
         &mut self,
         color: Color,

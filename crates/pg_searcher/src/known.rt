@@ -9,10 +9,10 @@ use pg_prices::{
 use pg_travel::Prices;
 use std::alloc::{AllocError, Global};
 
-/// How many groups of men and rights of a colour are remembered at most.
+// How many groups of men and rights of a colour are remembered at most.
 const MOST: usize = 2_097_152;
 
-/// What stands for needs that are not known.
+// What stands for needs that are not known.
 pub(crate) const MISSING: Needs = Needs {
     need: UNKNOWN,
     shift: 0,
@@ -21,8 +21,8 @@ pub(crate) const MISSING: Needs = Needs {
     lists: 0,
 };
 
-/// The distances of a colour's men to the squares of the diagram, the needs that are known by men and
-/// rights and by pawns, and how many men and pawns the colour has in the diagram.
+// The distances of a colour's men to the squares of the diagram, the needs that are known by men and
+// rights and by pawns, and how many men and pawns the colour has in the diagram.
 #[derive(Drop)]
 pub(crate) struct Known {
     rows: Rows,
@@ -41,7 +41,7 @@ fn count_pawns(board: &Board, color: Color) -> u8 {
 }
 
 impl Known {
-    /// Nothing but the diagram is known.
+    // Nothing but the diagram is known.
     pub(crate) fn new(alloc: Global, color: Color, diagram: &Diagram) -> Result<Known, AllocError> {
         let rows = match Rows::new(alloc, color, diagram) {
             Ok(rows) => rows,
@@ -57,12 +57,12 @@ impl Known {
         })
     }
 
-    /// What is known under a key of men and rights.
+    // What is known under a key of men and rights.
     pub(crate) fn get(&self, key: u64) -> Option<Needs> {
         self.memory.get(key.max(1))
     }
 
-    /// The needs of a position by bounds, from the memory where they are known.
+    // The needs of a position by bounds, from the memory where they are known.
     pub(crate) fn needs(
         &mut self,
         diagram: &Diagram,
@@ -79,8 +79,8 @@ impl Known {
         }
     }
 
-    /// The needs with both least assignments. The prices of travel are kept where they exclude so many
-    /// plies.
+    // The needs with both least assignments. The prices of travel are kept where they exclude so many
+    // plies.
     pub(crate) fn complete(
         &mut self,
         position: &Position,
@@ -109,7 +109,7 @@ impl Known {
         }
     }
 
-    /// What is known of the colour's pawns: their least assignment, with its price list.
+    // What is known of the colour's pawns: their least assignment, with its price list.
     fn pawn_needs(&mut self, position: &Position) -> Result<Needs, AllocError> {
         let key = pawn_key(&position.board(), self.rows.color());
         if let Some(needs) = self.pawns.get(key.max(1)) {
@@ -128,7 +128,7 @@ impl Known {
         }
     }
 
-    /// The price list of the colour's pawns.
+    // The price list of the colour's pawns.
     pub(crate) fn pawn_prices(
         &mut self,
         position: &Position,
@@ -143,7 +143,7 @@ impl Known {
         }
     }
 
-    /// The price lists of travel that are kept under a key.
+    // The price lists of travel that are kept under a key.
     pub(crate) fn kept_prices(&self, key: u64) -> Option<Prices> {
         let Some(needs) = self.get(key) else {
             return None;
@@ -154,7 +154,7 @@ impl Known {
         }
     }
 
-    /// The price lists of travel, which are kept from now on.
+    // The price lists of travel, which are kept from now on.
     pub(crate) fn travel_prices(
         &mut self,
         position: &Position,

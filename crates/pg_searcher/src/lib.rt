@@ -20,6 +20,4 @@ pub use find::search;
 pub use progress::Progress;
 
 #[cfg(test)]
-mod sides_tests;
-#[cfg(test)]
 mod tests;

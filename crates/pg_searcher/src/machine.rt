@@ -11,16 +11,16 @@ use pg_position::Position;
 use pg_prices::Closed;
 use pg_san::Games;
 
-/// What is searched for.
+// What is searched for.
 #[derive(Drop)]
 pub(crate) struct Question<'a> {
     pub(crate) diagram: &'a Diagram,
     pub(crate) plies: u8,
 }
 
-/// An open node with at least two plies left: its position with the moves that are still to be played,
-/// what is known of both colours, its key, whether it is named, and whether a game below it so far ends
-/// on the diagram.
+// An open node with at least two plies left: its position with the moves that are still to be played,
+// what is known of both colours, its key, whether it is named, and whether a game below it so far ends
+// on the diagram.
 #[derive(Drop)]
 pub(crate) struct Frame {
     pub(crate) moves: LegalMoves,
@@ -52,9 +52,9 @@ impl Default for Frame {
     }
 }
 
-/// The record writer, the games that were found, what judges nodes, the closed nodes, the open nodes,
-/// how many nodes may still be visited, how many are named and how many of those have closed. `found` says
-/// whether a game of the subtree that ended last ends on the diagram.
+// The record writer, the games that were found, what judges nodes, the closed nodes, the open nodes,
+// how many nodes may still be visited, how many are named and how many of those have closed. `found` says
+// whether a game of the subtree that ended last ends on the diagram.
 #[derive(Drop)]
 pub(crate) struct Machine {
     pub(crate) writer: RecordWriter,

@@ -15,10 +15,10 @@ use pg_prices::{effective_passed, node_key};
 use pg_travel::Prices;
 use std::alloc::AllocError;
 
-/// How many nodes are named at most.
+// How many nodes are named at most.
 const MOST_NAMED: u32 = 4_194_304;
 
-/// A node that is open from now on.
+// A node that is open from now on.
 #[derive(Clone, Copy)]
 pub(crate) struct Opened {
     pub(crate) position: Position,
@@ -27,7 +27,7 @@ pub(crate) struct Opened {
     pub(crate) named: bool,
 }
 
-/// Counts a node, and answers whether it may be visited.
+// Counts a node, and answers whether it may be visited.
 pub(crate) fn visit(machine: &mut Machine) -> bool
     ensures frames { machine.new.frames ≡ machine.old.frames }
     ensures writer { machine.new.writer ≡ machine.old.writer }
@@ -39,7 +39,7 @@ pub(crate) fn visit(machine: &mut Machine) -> bool
     true
 }
 
-/// Writes a record.
+// Writes a record.
 pub(crate) fn put<W: Sink>(
     machine: &mut Machine,
     node: &Record,
@@ -56,7 +56,7 @@ pub(crate) fn put<W: Sink>(
     }
 }
 
-/// Writes a cut by prices.
+// Writes a cut by prices.
 fn put_prices<W: Sink>(
     machine: &mut Machine,
     code: u8,
@@ -77,7 +77,7 @@ fn put_prices<W: Sink>(
     put(machine, &node, sink)
 }
 
-/// The prices of a verdict.
+// The prices of a verdict.
 fn prices_of(
     machine: &mut Machine,
     position: &Position,
@@ -102,8 +102,8 @@ fn prices_of(
     }
 }
 
-/// A node that no cut excludes, with so many plies left, at least two: a reference where one of the same
-/// future has closed barren; otherwise it is open from now on, with a name where there are names.
+// A node that no cut excludes, with so many plies left, at least two: a reference where one of the same
+// future has closed barren; otherwise it is open from now on, with a name where there are names.
 fn stay<W: Sink>(
     machine: &mut Machine,
     sink: &mut W,
@@ -143,7 +143,7 @@ fn stay<W: Sink>(
     }
 }
 
-/// Writes the record of a node with so many plies left, at least two, of which so much is known.
+// Writes the record of a node with so many plies left, at least two, of which so much is known.
 #[inline(never)]
 pub(crate) fn enter<W: Sink>(
     question: &Question,
@@ -186,7 +186,7 @@ pub(crate) fn enter<W: Sink>(
     }
 }
 
-/// Writes a cut by a colour's travel, where its price lists are kept, and answers whether they are.
+// Writes a cut by a colour's travel, where its price lists are kept, and answers whether they are.
 #[inline(never)]
 fn put_kept<W: Sink>(
     machine: &mut Machine,
@@ -211,7 +211,7 @@ fn put_kept<W: Sink>(
     }
 }
 
-/// Writes a cut by a bound.
+// Writes a cut by a bound.
 #[inline(never)]
 fn put_cut<W: Sink>(machine: &mut Machine, code: u8, sink: &mut W) -> Result<bool, SearchFault>
     requires runs { machine.old.writer.failed ≡ false }
@@ -225,8 +225,8 @@ fn put_cut<W: Sink>(machine: &mut Machine, code: u8, sink: &mut W) -> Result<boo
     }
 }
 
-/// Writes the record of a node after a legal move by what is known, where it is a cut, and answers
-/// whether it did. What is known of both colours there is left in `known`.
+// Writes the record of a node after a legal move by what is known, where it is a cut, and answers
+// whether it did. What is known of both colours there is left in `known`.
 fn cut<W: Sink>(
     machine: &mut Machine,
     sink: &mut W,
@@ -253,7 +253,7 @@ fn cut<W: Sink>(
     }
 }
 
-/// Visits the node after a legal move, with so many plies left, at least two, and writes its record.
+// Visits the node after a legal move, with so many plies left, at least two, and writes its record.
 pub(crate) fn child<W: Sink>(
     question: &Question,
     machine: &mut Machine,

@@ -1,14 +1,14 @@
 //! What is known of either colour at a node, and how a move changes it.
 
 use pg_board::{Board, Color, Kind, Man, Square};
-use pg_position::{Move, Position, Rights};
-use pg_prices::{Needs, Wing, color_key, holds, man_key, right_key};
+use pg_position::{Move, Position, Rights, Wing, king_home, rook_home};
+use pg_prices::{Needs, color_key, man_key, right_key};
 
-/// The home squares of kings and rooks.
+// The home squares of kings and rooks.
 const HOMES: u64 = 0x9100_0000_0000_0091;
 
-/// One colour at a node: the key of its men and rights, what they need, and how many men, pawns and ways
-/// to castle or not it has.
+// One colour at a node: the key of its men and rights, what they need, and how many men, pawns and ways
+// to castle or not it has.
 #[derive(Clone, Copy)]
 pub(crate) struct Side {
     pub(crate) key: u64,
@@ -18,7 +18,7 @@ pub(crate) struct Side {
     pub(crate) ways: u8,
 }
 
-/// Both colours at a node.
+// Both colours at a node.
 #[derive(Clone, Copy)]
 pub(crate) struct Sides {
     pub(crate) white: Side,
@@ -26,7 +26,7 @@ pub(crate) struct Sides {
 }
 
 impl Sides {
-    /// What is known of a colour.
+    // What is known of a colour.
     pub(crate) fn of(&self, color: Color) -> &Side {
         match color {
             Color::White => &self.white,
@@ -35,14 +35,14 @@ impl Sides {
     }
 }
 
-/// A colour's key and numbers, before its needs are known.
+// A colour's key and numbers, before its needs are known.
 pub(crate) fn side_of(board: &Board, rights: Rights, color: Color, needs: Needs) -> Side {
     let pawn = Man {
         color,
         kind: Kind::Pawn,
     };
-    let short = u8::from(holds(rights, color, Wing::Short));
-    let long = u8::from(holds(rights, color, Wing::Long));
+    let short = u8::from(rights.holds(color, Wing::KingSide));
+    let long = u8::from(rights.holds(color, Wing::QueenSide));
     Side {
         key: color_key(board, rights, color),
         needs,
@@ -52,8 +52,8 @@ pub(crate) fn side_of(board: &Board, rights: Rights, color: Color, needs: Needs)
     }
 }
 
-/// What a move changes of one colour: its key, by exclusive or, and how many men, pawns and ways are
-/// gone.
+// What a move changes of one colour: its key, by exclusive or, and how many men, pawns and ways are
+// gone.
 #[derive(Clone, Copy)]
 pub(crate) struct Change {
     key: u64,
@@ -62,7 +62,7 @@ pub(crate) struct Change {
     ways: u8,
 }
 
-/// What a move changes of its own colour and of the other one.
+// What a move changes of its own colour and of the other one.
 #[derive(Clone, Copy)]
 pub(crate) struct Changes {
     pub(crate) own: Change,
@@ -70,7 +70,7 @@ pub(crate) struct Changes {
 }
 
 impl Change {
-    /// The colour after the move, with its needs.
+    // The colour after the move, with its needs.
     pub(crate) fn applied(&self, side: &Side, needs: Needs) -> Side {
         Side {
             key: self.key_after(side),
@@ -81,38 +81,31 @@ impl Change {
         }
     }
 
-    /// The colour's key after the move.
+    // The colour's key after the move.
     pub(crate) fn key_after(&self, side: &Side) -> u64 {
         side.key ^ self.key
     }
 
-    /// How many men it has after the move.
+    // How many men it has after the move.
     pub(crate) fn men_after(&self, side: &Side) -> u8 {
         side.men.saturating_sub(self.men)
     }
 }
 
-/// The home squares of a colour's king and rook.
+// The home squares of a colour's king and rook.
 fn homes(color: Color, wing: Wing) -> u64 {
-    let rank_1 = match wing {
-        Wing::Short => 0x90,
-        Wing::Long => 0x11,
-    };
-    match color {
-        Color::White => rank_1,
-        Color::Black => rank_1 << 56,
-    }
+    1 << king_home(color).index() | 1 << rook_home(color, wing).index()
 }
 
-/// The rights of a colour that are lost where squares are left or reached: their keys, and how many.
+// The rights of a colour that are lost where squares are left or reached: their keys, and how many.
 fn lost(rights: Rights, color: Color, squares: u64) -> (u64, u8) {
     let mut key = 0u64;
     let mut count = 0u8;
     if squares & HOMES == 0 {
         return (0, 0);
     }
-    for wing in [Wing::Short, Wing::Long] {
-        if holds(rights, color, wing) && squares & homes(color, wing) != 0 {
+    for wing in [Wing::KingSide, Wing::QueenSide] {
+        if rights.holds(color, wing) && squares & homes(color, wing) != 0 {
             key ^= right_key(color, wing);
             count = count.saturating_add(1);
         }
@@ -120,7 +113,7 @@ fn lost(rights: Rights, color: Color, squares: u64) -> (u64, u8) {
     (key, count)
 }
 
-/// What a move changes of a man's colour, which moves or is taken.
+// What a move changes of a man's colour, which moves or is taken.
 fn change_of(rights: Rights, man: Man, key: u64, squares: u64, taken: bool) -> Change {
     let (lost_key, ways) = lost(rights, man.color, squares);
     Change {
@@ -136,8 +129,8 @@ fn files_apart(a: Square, b: Square) -> u8 {
     if a < b { b - a } else { a - b }
 }
 
-/// Whether a move changes more than the squares that it leaves and reaches, or the man that moves:
-/// castling, a capture en passant, a promotion.
+// Whether a move changes more than the squares that it leaves and reaches, or the man that moves:
+// castling, a capture en passant, a promotion.
 pub(crate) fn is_special(man: Man, taken: Option<Man>, m: &Move) -> bool {
     match man.kind {
         Kind::King => files_apart(m.from, m.to) == 2,
@@ -148,7 +141,7 @@ pub(crate) fn is_special(man: Man, taken: Option<Man>, m: &Move) -> bool {
     }
 }
 
-/// What a legal move changes; none where it is castling, a capture en passant or a promotion.
+// What a legal move changes; none where it is castling, a capture en passant or a promotion.
 pub(crate) fn changes_of(position: &Position, m: &Move) -> Option<Changes> {
     let board = position.board();
     let Some(man) = board.get(m.from) else {

@@ -14,7 +14,7 @@ use pg_certificate::Sink;
 use pg_moves::LegalMoves;
 use pg_position::{Move, Position};
 
-/// The frame of a node that opens.
+// The frame of a node that opens.
 fn frame_of(opened: &Opened) -> Frame {
     Frame {
         moves: LegalMoves::new(&opened.position),
@@ -25,8 +25,8 @@ fn frame_of(opened: &Opened) -> Frame {
     }
 }
 
-/// A node closes: a named one takes its number, and one below which no game ends on the diagram is
-/// entered among the closed ones.
+// A node closes: a named one takes its number, and one below which no game ends on the diagram is
+// entered among the closed ones.
 fn close(top: &Frame, machine: &mut Machine) -> Result<(), SearchFault>
     ensures frames { machine.new.frames ≡ machine.old.frames }
     ensures writer { machine.new.writer ≡ machine.old.writer }
@@ -48,8 +48,8 @@ fn close(top: &Frame, machine: &mut Machine) -> Result<(), SearchFault>
     }
 }
 
-/// Whether a move may lead to a position one move away from a board, from which the position differs on
-/// these squares.
+// Whether a move may lead to a position one move away from a board, from which the position differs on
+// these squares.
 fn may_be_near(goal: &Board, position: &Position, squares: u64, m: &Move) -> bool {
     let board = position.board();
     let Some(man) = board.get(m.from) else {
@@ -65,7 +65,7 @@ fn may_be_near(goal: &Board, position: &Position, squares: u64, m: &Move) -> boo
     is_near(squares & !from & !to | left | reached)
 }
 
-/// The moves of a node with two plies left are played, and the node closes.
+// The moves of a node with two plies left are played, and the node closes.
 fn near<W: Sink>(
     question: &Question,
     tree: u8,
@@ -101,8 +101,8 @@ fn near<W: Sink>(
     Err(SearchFault::Budget)
 }
 
-/// The moves of a node are played up to the first that leads to a node that opens; with no such move
-/// the node closes.
+// The moves of a node are played up to the first that leads to a node that opens; with no such move
+// the node closes.
 fn far<W: Sink>(
     question: &Question,
     left: u8,
@@ -137,7 +137,7 @@ fn far<W: Sink>(
     Err(SearchFault::Budget)
 }
 
-/// The tree of one length is entered.
+// The tree of one length is entered.
 fn enter_root<W: Sink>(
     question: &Question,
     tree: u8,
@@ -178,7 +178,7 @@ fn enter_root<W: Sink>(
     }
 }
 
-/// One turn: moves of the topmost node are played.
+// One turn: moves of the topmost node are played.
 fn turn<W: Sink>(
     question: &Question,
     tree: u8,
@@ -201,7 +201,7 @@ fn turn<W: Sink>(
     }
 }
 
-/// The tree of one length.
+// The tree of one length.
 fn tree_of<W: Sink, P: Progress>(
     question: &Question,
     tree: u8,
@@ -230,7 +230,7 @@ fn tree_of<W: Sink, P: Progress>(
     Err(SearchFault::Budget)
 }
 
-/// The trees of all lengths from 0 to the stated one.
+// The trees of all lengths from 0 to the stated one.
 pub(crate) fn all_trees<W: Sink, P: Progress>(
     question: &Question,
     machine: &mut Machine,

@@ -3,8 +3,8 @@ use Rattle.std.proofs.Common.{◌≡◌, ℕ, ◌<◌, ◌≤◌, Bool, true, Li
 use Rattle.pg_board.specs.declared.man.Color.{Color}
 use Rattle.pg_board.specs.declared.man.Color.TheVariants.{White, Black}
 use Rattle.pg_travel.specs.declared.pawn_table.TheConstants.{WHITE_PAWN}
-use Rattle.pg_travel.specs.Formulas.{mirrored, pawn_steps, pawn}
-use Rattle.pg_travel.specs.PairTests.{all_below, below_at}
+use Rattle.pg_travel.specs.numbers.Formulas.{mirrored, pawn_steps, pawn}
+use Rattle.pg_travel.specs.lemmas.PairTests.{all_below, below_at}
 
 abbrev at : List (List ℕ) → ℕ → ℕ → ℕ
 at t i k = get_or (get_or t i []) k 0

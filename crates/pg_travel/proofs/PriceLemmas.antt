@@ -12,23 +12,23 @@ use Rattle.pg_board.specs.declared.man.Man.{Man}
 use Rattle.pg_board.specs.Bits.{has}
 use Rattle.pg_board.specs.Men.{man, color_eq, is_man, is_of, color_decides, is_man_decides}
 use Rattle.pg_board.specs.Placement.{Placement, get}
+use Rattle.pg_board.specs.lemmas.Decisions.{dec_kind}
 use Rattle.pg_position.specs.declared.rights.Wing.{Wing}
 use Rattle.pg_position.specs.declared.rights.Wing.TheVariants.{KingSide, QueenSide}
 use Rattle.pg_position.specs.declared.state.State.{State}
 use Rattle.pg_position.specs.Position.{holds, Stands}
 use Rattle.pg_captures.specs.Counting.{men, any_man}
 use Rattle.pg_captures.specs.Owed.{plies_left}
-use Rattle.pg_captures.specs.PlaceLemmas.{marks_men, place_within, price_at, seen_next, all_last}
+use Rattle.pg_captures.specs.lemmas.PlaceLemmas.{marks_men, place_within, price_at, seen_next, all_last}
 use Rattle.pg_captures.specs.PriceLists.{PriceList, place, price, IsPriced, IsFor}
 use Rattle.pg_travel.specs.Walks.{IsDistance}
 use Rattle.pg_travel.specs.Origins.{charge, counted}
-use Rattle.pg_captures.specs.Decisions.{dec_kind}
-use Rattle.pg_travel.specs.Formulas.{distance_of, is_promoted, soonest, least_steps}
-use Rattle.pg_travel.specs.Pawns.{none_by_steps, some_by_steps, by_other}
+use Rattle.pg_travel.specs.numbers.Formulas.{distance_of, is_promoted, soonest, least_steps}
+use Rattle.pg_travel.specs.lemmas.Pawns.{none_by_steps, some_by_steps, by_other}
 use Rattle.pg_travel.specs.PriceRecords.{list_at}
-use Rattle.pg_travel.specs.Values.{counted_low}
+use Rattle.pg_travel.specs.lemmas.Values.{counted_low}
 use Rattle.pg_travel.proofs.Nearness.{no_sooner, soonest_counted}
-use Rattle.pg_travel.specs.PriceTests.{PairFits, IsBySquare, IsLeastPrice, IsLow, BeyondFits, ManFits, KindFits, StoodFits, TargetFits, AllFit}
+use Rattle.pg_travel.specs.numbers.PriceTests.{PairFits, IsBySquare, IsLeastPrice, IsLow, BeyondFits, ManFits, KindFits, StoodFits, TargetFits, AllFit}
 use Rattle.pg_travel.specs.TravelPrices.{ways_of, TravelPricesFit, WayPricesExclude, TravelPricesExclude}
 
 -- ---- a pair

@@ -3,9 +3,9 @@ use Rattle.std.proofs.Common.{◌≡◌, ℕ, ◌<◌, ◌/◌, ◌%◌, Bool, t
 use Rattle.pg_board.specs.declared.man.Color.{Color}
 use Rattle.pg_board.specs.declared.man.Color.TheVariants.{White, Black}
 use Rattle.pg_travel.specs.declared.promotion_table.TheConstants.{WHITE_PROMOTED}
-use Rattle.pg_travel.specs.Formulas.{mirrored, knight, bishop, rook, queen, pawn_steps, least_of, pawn_to}
-use Rattle.pg_travel.specs.Promoted.{told, ArePromoted}
-use Rattle.pg_travel.specs.PairTests.{all_below, below_at}
+use Rattle.pg_travel.specs.numbers.Formulas.{mirrored, knight, bishop, rook, queen, pawn_steps, least_of, pawn_to}
+use Rattle.pg_travel.specs.numbers.Promoted.{told, ArePromoted}
+use Rattle.pg_travel.specs.lemmas.PairTests.{all_below, below_at}
 
 abbrev at : List (List ℕ) → ℕ → ℕ → ℕ
 at t i k = get_or (get_or t i []) k 0

@@ -2,7 +2,7 @@
 use Rattle.std.proofs.Common.{◌≡◌, ℕ, zero, suc, ◌<◌, ◌≤◌, [], take, refl, arith}
 use Rattle.pg_travel.specs.declared.prices.Row.{Row}
 use Rattle.pg_travel.specs.PriceRecords.{u_at, v_at}
-use Rattle.pg_travel.specs.Rows.{rows}
+use Rattle.pg_travel.specs.numbers.Rows.{rows}
 
 pub past_u : (n a b i : ℕ) (x y z : Row) → n ≤ 3 → n ≤ i → u_at (rows n a b x y z) i ≡ []
 past_u zero a b i x y z l h = refl

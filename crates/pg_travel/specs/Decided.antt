@@ -1,22 +1,21 @@
 -- The travel test as a yes or a no.
-use Rattle.std.proofs.Common.{◌≡◌, ◌≢◌, ◌↔◌, ℕ, zero, suc, ◌+◌, ◌<◌, ◌≤◌, Bool, true, false, Option, Some, None, IsTrue, cond, refl, arith}
+use Rattle.std.proofs.Common.{◌≡◌, ◌≢◌, ℕ, zero, suc, ◌+◌, ◌<◌, ◌≤◌, Bool, true, false, Option, Some, None, cond, refl, arith}
 use Rattle.pg_board.specs.declared.man.Color.{Color}
 use Rattle.pg_board.specs.declared.man.Man.{Man}
 use Rattle.pg_board.specs.Men.{color_eq}
 use Rattle.pg_board.specs.Placement.{Placement, get}
+use Rattle.pg_board.specs.lemmas.Decisions.{dec_some_below, dec_equal, dec_along, answer, dec_less, dec_colors}
 use Rattle.pg_position.specs.declared.rights.Wing.{Wing}
 use Rattle.pg_position.specs.declared.rights.Wing.TheVariants.{KingSide, QueenSide}
 use Rattle.pg_position.specs.declared.state.State.{State}
 use Rattle.pg_position.specs.Position.{holds}
 use Rattle.pg_captures.specs.Owed.{plies_left}
-use Rattle.pg_captures.specs.Decided.{answer, answer_tells, answer_is, dec_less, dec_either}
 use Rattle.pg_travel.specs.Origins.{charge, sum_to}
 use Rattle.pg_travel.specs.Needs.{NeedIs, TravelTest, TravelHolds}
-use Rattle.pg_travel.specs.Formulas.{least_of}
-use Rattle.pg_travel.specs.Costs.{reach_of, nearest, cost_of, cost, ValueIs, SumIs, HeldIs, lesser}
-use Rattle.pg_captures.specs.Decisions.{dec_below, dec_equal, dec_along}
-use Rattle.pg_travel.specs.Values.{sum_is_value}
-use Rattle.pg_travel.specs.Least.{need_is, test_none, test_some, held_by_value}
+use Rattle.pg_travel.specs.numbers.Formulas.{least_of}
+use Rattle.pg_travel.specs.numbers.Costs.{reach_of, nearest, cost_of, cost, ValueIs, SumIs, HeldIs, lesser}
+use Rattle.pg_travel.specs.lemmas.Values.{sum_is_value}
+use Rattle.pg_travel.specs.lemmas.Least.{need_is, test_none, test_some, held_by_value}
 
 least_low : (f : ℕ → ℕ) (n : ℕ) → least_of f n ≤ 64
 unfolding least_of
@@ -37,7 +36,7 @@ cost_low b d c way t = go (get d t)
 
 -- the charge of a way and what all men of d cost, where each has a man to come
 pub sum_of : (b d : Placement) (c : Color) (way : Option Wing) → (o : Option ℕ) × SumIs b d c way o
-sum_of b d c way = go (dec_below (λ t. cost b d c way t ≡ 64) (λ t. dec_equal (cost b d c way t) 64) 64)
+sum_of b d c way = go (dec_some_below (λ t. cost b d c way t ≡ 64) (λ t. dec_equal (cost b d c way t) 64) 64)
   where
     go : Dec ((t : ℕ) × (t < 64) × (cost b d c way t ≡ 64)) → (o : Option ℕ) × SumIs b d c way o
     go (yes h) = (None, h)
@@ -69,16 +68,8 @@ dec_travel_for p d c k = go (need_of p d c).0 (need_of p d c).1
 
 pub dec_travel : (d : Placement) (p : State) (k : ℕ) → Dec (TravelHolds d p k)
 unfolding TravelHolds
-dec_travel d p k = dec_either (λ c. TravelTest p d c k) (λ c. dec_travel_for p d c k)
+dec_travel d p k = dec_colors (λ c. TravelTest p d c k) (λ c. dec_travel_for p d c k)
 
 -- whether the travel test holds
-unfoldable pub travel_test : Placement → State → ℕ → Bool
+abbrev pub travel_test : Placement → State → ℕ → Bool
 travel_test d p k = answer (dec_travel d p k)
-
-pub travel_test_tells : (d : Placement) (p : State) (k : ℕ) → travel_test d p k ≡ true ↔ TravelHolds d p k
-unfolding travel_test
-travel_test_tells d p k = answer_tells (dec_travel d p k)
-
-pub travel_test_is : (d : Placement) (p : State) (k : ℕ) (b : Bool) → IsTrue b ↔ TravelHolds d p k → b ≡ travel_test d p k
-unfolding travel_test
-travel_test_is d p k b h = answer_is b h (dec_travel d p k)

@@ -1,10 +1,10 @@
 //! The ranks from which a pawn soon becomes another man.
 ghost use Rattle.std.specs.Prelude.{◌≡◌, ℕ, ◌-◌, ◌<◌, ◌≤◌, ◌⊎◌};
-ghost use Rattle.pg_travel.specs.Formulas.{soonest};
+ghost use Rattle.pg_travel.specs.numbers.Formulas.{soonest};
 
 use pg_board::Color;
 
-// Squares by their indexes: from the first on, and below `past`.
+/// Squares by their indexes: from the first on, and below `past`.
 #[derive(Clone, Copy, Debug)]
 pub struct Band {
     pub first: u8,

@@ -2,8 +2,8 @@
 ghost use Rattle.std.specs.Prelude.{◌≡◌, ◌≢◌, ℕ, ◌+◌, ◌-◌, ◌*◌, ◌/◌, ◌%◌, ◌<◌, ◌≤◌, ◌&&◌, ◌||◌, cond, eqb, min, max, IsTrue};
 ghost use Rattle.pg_position.specs.Geometry.{apart};
 ghost use Rattle.pg_travel.specs.Walks.{DistanceIs};
-ghost use Rattle.pg_travel.specs.Formulas.{files, ranks, king, rook, bishop, queen, knight, is_corner, long_way, knight_by, piece, rank_for, mirrored, pawn, soonest, is_promoted, least_steps, from_pawn, distance_of};
-ghost use Rattle.pg_travel.specs.Promoted.{told, ArePromoted};
+ghost use Rattle.pg_travel.specs.numbers.Formulas.{files, ranks, king, rook, bishop, queen, knight, is_corner, long_way, knight_by, piece, rank_for, mirrored, pawn, soonest, is_promoted, least_steps, from_pawn, distance_of};
+ghost use Rattle.pg_travel.specs.numbers.Promoted.{told, ArePromoted};
 
 use crate::pawn_table::WHITE_PAWN;
 use crate::promotion_table::WHITE_PROMOTED;
@@ -26,12 +26,13 @@ fn ranks(from: Square, to: Square) -> u8
     ensures value { result ≡ ranks from to }
     ensures low { result < 8 }
 {
+    // Facts for the proof: both squares are on the board.
     from.index();
     to.index();
     apart_by(from.rank(), to.rank())
 }
 
-#[tactic(auto, unfolding(crate::specs::Formulas::king))]
+#[tactic(auto, unfolding(crate::specs::numbers::Formulas::king))]
 fn king_steps(from: Square, to: Square) -> u8
     ensures value { result ≡ king from to }
     ensures low { result ≤ 64 }
@@ -39,7 +40,7 @@ fn king_steps(from: Square, to: Square) -> u8
     files(from, to).max(ranks(from, to))
 }
 
-#[tactic(auto, unfolding(crate::specs::Formulas::rook))]
+#[tactic(auto, unfolding(crate::specs::numbers::Formulas::rook))]
 fn rook_steps(from: Square, to: Square) -> u8
     ensures value { result ≡ rook from to }
     ensures low { result ≤ 64 }
@@ -53,7 +54,7 @@ fn rook_steps(from: Square, to: Square) -> u8
     }
 }
 
-#[tactic(auto, unfolding(crate::specs::Formulas::bishop))]
+#[tactic(auto, unfolding(crate::specs::numbers::Formulas::bishop))]
 fn bishop_steps(from: Square, to: Square) -> u8
     ensures value { result ≡ bishop from to }
     ensures low { result ≤ 64 }
@@ -71,7 +72,7 @@ fn bishop_steps(from: Square, to: Square) -> u8
     }
 }
 
-#[tactic(auto, unfolding(crate::specs::Formulas::queen))]
+#[tactic(auto, unfolding(crate::specs::numbers::Formulas::queen))]
 fn queen_steps(from: Square, to: Square) -> u8
     ensures value { result ≡ queen from to }
     ensures low { result ≤ 64 }
@@ -119,7 +120,7 @@ fn knight_by(x: u8, y: u8, corner: bool) -> u8
     }
 }
 
-#[tactic(auto, unfolding(crate::specs::Formulas::knight))]
+#[tactic(auto, unfolding(crate::specs::numbers::Formulas::knight))]
 fn knight_steps(from: Square, to: Square) -> u8
     ensures value { result ≡ knight from to }
     ensures low { result ≤ 64 }
@@ -151,6 +152,7 @@ fn rank_for(color: Color, s: Square) -> u8
     ensures value { result ≡ rank_for color s }
     ensures low { result < 9 }
 {
+    // A fact for the proof: the square is on the board.
     s.index();
     match color {
         Color::White => s.rank(),
@@ -214,19 +216,6 @@ fn from_pawn(kind: Kind, color: Color, from: Square, to: Square) -> u8
     }
 }
 
-fn code(kind: Kind) -> u8
-    ensures { result ≡ Rattle.pg_travel.specs.Formulas.code kind }
-{
-    match kind {
-        Kind::Pawn => 0,
-        Kind::Knight => 1,
-        Kind::Bishop => 2,
-        Kind::Rook => 3,
-        Kind::Queen => 4,
-        Kind::King => 5,
-    }
-}
-
 pub(crate) fn all_steps(man: Man, from: Square, kind: Kind, to: Square) -> u8
     ensures value { result ≡ distance_of man.color kind man.kind from to }
     ensures low { result ≤ 64 }
@@ -234,7 +223,7 @@ pub(crate) fn all_steps(man: Man, from: Square, kind: Kind, to: Square) -> u8
     match man.kind {
         Kind::Pawn => from_pawn(kind, man.color, from, to),
         _ => {
-            if code(man.kind) == code(kind) {
+            if man.kind.number() == kind.number() {
                 steps(man.kind, from, to)
             } else {
                 64
@@ -270,7 +259,7 @@ pub(crate) fn is_promoted(kind: Kind) -> bool
 pub(crate) fn least_steps(man: Man, from: Square, kind: Kind, to: Square) -> u8
     ensures { result ≡ least_steps man.color kind man.kind from to }
 {
-    if code(man.kind) == 0 && is_promoted(kind) {
+    if man.kind == Kind::Pawn && is_promoted(kind) {
         soonest(man.color, from)
     } else if from.index() == to.index() {
         0
@@ -283,6 +272,7 @@ pub(crate) fn least_steps(man: Man, from: Square, kind: Kind, to: Square) -> u8
 pub(crate) fn closer(man: Man, from: Square, kind: Kind, to: Square, best: u8) -> u8
     ensures { result ≡ min best (distance_of man.color kind man.kind from to) }
 {
+    // Facts for the proof: both squares are on the board.
     from.index();
     to.index();
     if best <= least_steps(man, from, kind, to) {
@@ -300,6 +290,7 @@ pub(crate) fn closer(man: Man, from: Square, kind: Kind, to: Square, best: u8) -
 pub fn distance(man: Man, from: Square, kind: Kind, to: Square) -> Option<u8>
     ensures { DistanceIs man.color man.kind from kind to result }
 {
+    // Facts for the proof: both squares are on the board.
     from.index();
     to.index();
     let n = all_steps(man, from, kind, to);

@@ -5,21 +5,20 @@ ghost use Rattle.pg_board.specs.Placement.{get};
 ghost use Rattle.pg_board.specs.Tally.{one};
 ghost use Rattle.pg_board.specs.Men.{color_eq, man};
 ghost use Rattle.pg_captures.specs.Owed.{plies_left};
-ghost use Rattle.pg_travel.specs.Ways.{wing_of, way_of};
 ghost use Rattle.pg_travel.specs.Origins.{counted, charge, sum_to};
-ghost use Rattle.pg_travel.specs.Formulas.{least_of};
-ghost use Rattle.pg_travel.specs.Costs.{BeyondFar, nearest_man, nearest, cost_of, cost, ValueIs, SumIs, HeldIs, lesser};
+ghost use Rattle.pg_travel.specs.numbers.Formulas.{least_of};
+ghost use Rattle.pg_travel.specs.numbers.Costs.{BeyondFar, nearest_man, nearest, cost_of, cost, ValueIs, SumIs, HeldIs, lesser};
 ghost use Rattle.pg_travel.specs.Needs.{NeedIs, TravelTest};
-ghost use Rattle.pg_travel.specs.Within.{SumWithin, PaysIs, CastledIs};
+ghost use Rattle.pg_travel.specs.numbers.Within.{SumWithin, PaysIs, CastledIs};
 
 use crate::bands::{Band, promoting, whole_board};
-use crate::castling::{Castling, charge, counted, holds};
+use crate::castling::{charge, counted};
 use crate::distances::{closer, is_promoted};
 use crate::misplaced::{sure_to_cost, to_come};
 use pg_board::{Board, Color, Kind, Man, Square, contains};
 use pg_captures::plies_left;
 use pg_fen::Diagram;
-use pg_position::{Position, first_from};
+use pg_position::{Position, Wing, first_from};
 
 pub(crate) fn same_side(a: Color, b: Color) -> bool
     ensures { result ≡ color_eq a b }
@@ -35,19 +34,19 @@ pub(crate) fn man(color: Color, kind: Kind) -> Man
 
 // From the nearest square with this man to a kind on a target, where that is less than `best`. Those
 // outside of a band are no nearer than that.
-#[tactic(auto, unfolding(crate::specs::Costs::nearest_man))]
+#[tactic(auto, unfolding(crate::specs::numbers::Costs::nearest_man))]
 fn nearer(
     board: &Board,
     man: Man,
-    way: Option<Castling>,
+    way: Option<Wing>,
     kind: Kind,
     t: Square,
     best: u8,
     band: Band,
 ) -> u8
     requires low { best ≤ 64 }
-    requires beyond { BeyondFar board.now man (way_of way) kind t best band.first band.past }
-    ensures { result ≡ min best (nearest_man board.now man (way_of way) kind t) }
+    requires beyond { BeyondFar board.now man way kind t best band.first band.past }
+    ensures { result ≡ min best (nearest_man board.now man way kind t) }
 {
     let own = board.squares_of(man);
     let mut least = best;
@@ -66,8 +65,8 @@ fn nearer(
 
 // From the nearest man of the colour to a kind on a target, 64 for none: from one of the kind, or
 // from a pawn that becomes of it.
-fn nearest(board: &Board, color: Color, way: Option<Castling>, kind: Kind, t: Square) -> u8
-    ensures value { result ≡ nearest board.now color (way_of way) kind t }
+fn nearest(board: &Board, color: Color, way: Option<Wing>, kind: Kind, t: Square) -> u8
+    ensures value { result ≡ nearest board.now color way kind t }
     ensures low { result ≤ 64 }
 {
     let own = nearer(board, man(color, kind), way, kind, t, 64, whole_board());
@@ -80,8 +79,8 @@ fn nearest(board: &Board, color: Color, way: Option<Castling>, kind: Kind, t: Sq
 }
 
 // Whether the man on a square is the one that is to stand there, and counts as standing there.
-fn is_home(color: Color, way: Option<Castling>, t: Square, here: Option<Man>, man: Man) -> bool
-    ensures { IsTrue result ↔ ((here ≡ Some man) × (counted color (way_of way) t ≡ t)) }
+fn is_home(color: Color, way: Option<Wing>, t: Square, here: Option<Man>, man: Man) -> bool
+    ensures { IsTrue result ↔ ((here ≡ Some man) × (counted color way t ≡ t)) }
 {
     match here {
         None => false,
@@ -90,9 +89,9 @@ fn is_home(color: Color, way: Option<Castling>, t: Square, here: Option<Man>, ma
 }
 
 // What the man of the diagram on a square costs: nothing where it is not of the colour.
-#[tactic(auto, unfolding(crate::specs::Costs::cost))]
-fn cost(board: &Board, goal: &Board, color: Color, way: Option<Castling>, t: Square) -> u8
-    ensures value { result ≡ cost board.now goal.now color (way_of way) t }
+#[tactic(auto, unfolding(crate::specs::numbers::Costs::cost))]
+fn cost(board: &Board, goal: &Board, color: Color, way: Option<Wing>, t: Square) -> u8
+    ensures value { result ≡ cost board.now goal.now color way t }
     ensures low { result ≤ 64 }
 {
     match goal.get(t) {
@@ -123,8 +122,8 @@ fn beyond_sure(sure: u64, t: Square, n: u8) -> u8
 const MOST: u16 = 1 + 64 * 63;
 
 // The charge of a way and what all men of the diagram cost; none where one has no man to come.
-fn total(board: &Board, goal: &Board, color: Color, way: Option<Castling>) -> Option<u16>
-    ensures { SumIs board.now goal.now color (way_of way) result }
+fn total(board: &Board, goal: &Board, color: Color, way: Option<Wing>) -> Option<u16>
+    ensures { SumIs board.now goal.now color way result }
 {
     total_within(board, goal, color, way, MOST)
 }
@@ -136,10 +135,10 @@ fn total_within(
     board: &Board,
     goal: &Board,
     color: Color,
-    way: Option<Castling>,
+    way: Option<Wing>,
     limit: u16,
 ) -> Option<u16>
-    ensures { SumWithin board.now goal.now color (way_of way) limit result }
+    ensures { SumWithin board.now goal.now color way limit result }
 {
     let sure = sure_to_cost(board, goal, color, way);
     let mut total = charge(way) + u16::from(sure.count_ones() as u8);
@@ -163,23 +162,18 @@ fn total_within(
 }
 
 // The value of a way; none where some man of the diagram has no man that can come to it.
-#[tactic(auto, using(crate::specs::Values::sum_is_value))]
-fn value(position: &Position, diagram: &Diagram, color: Color, way: Option<Castling>) -> Option<u16>
-    ensures { ValueIs position.now diagram.now color (way_of way) result }
+#[tactic(auto, using(crate::specs::lemmas::Values::sum_is_value))]
+fn value(position: &Position, diagram: &Diagram, color: Color, way: Option<Wing>) -> Option<u16>
+    ensures { ValueIs position.now diagram.now color way result }
 {
     total(&position.board(), &diagram.board(), color, way)
 }
 
 // The value of a castling way, none where the right is not held too.
-fn castled_value(
-    position: &Position,
-    diagram: &Diagram,
-    color: Color,
-    wing: Castling,
-) -> Option<u16>
-    ensures { HeldIs position.now diagram.now color (Some (wing_of wing)) result }
+fn castled_value(position: &Position, diagram: &Diagram, color: Color, wing: Wing) -> Option<u16>
+    ensures { HeldIs position.now diagram.now color (Some wing) result }
 {
-    if holds(position.rights(), color, wing) {
+    if position.rights().holds(color, wing) {
         value(position, diagram, color, Some(wing))
     } else {
         None
@@ -203,8 +197,8 @@ fn need_by(color: Color, diagram: &Diagram, position: &Position, free: Option<u1
     requires { ValueIs position.now diagram.now color None free }
     ensures { NeedIs position.now diagram.now color result }
 {
-    let short = castled_value(position, diagram, color, Castling::Short);
-    let long = castled_value(position, diagram, color, Castling::Long);
+    let short = castled_value(position, diagram, color, Wing::KingSide);
+    let long = castled_value(position, diagram, color, Wing::QueenSide);
     let castled = lesser(short, long);
     lesser(free, castled)
 }
@@ -222,14 +216,8 @@ pub fn need(color: Color, diagram: &Diagram, position: &Position) -> Option<u16>
 }
 
 // Whether so many plies pay for a way.
-fn pays(
-    position: &Position,
-    diagram: &Diagram,
-    color: Color,
-    way: Option<Castling>,
-    plies: u16,
-) -> bool
-    ensures { PaysIs position.now diagram.now color (way_of way) plies result }
+fn pays(position: &Position, diagram: &Diagram, color: Color, way: Option<Wing>, plies: u16) -> bool
+    ensures { PaysIs position.now diagram.now color way plies result }
 {
     match total_within(&position.board(), &diagram.board(), color, way, plies) {
         None => false,
@@ -242,12 +230,12 @@ fn pays_castled(
     position: &Position,
     diagram: &Diagram,
     color: Color,
-    right: Castling,
+    right: Wing,
     plies: u16,
 ) -> bool
-    ensures { CastledIs position.now diagram.now color (wing_of right) plies result }
+    ensures { CastledIs position.now diagram.now color right plies result }
 {
-    if holds(position.rights(), color, right) {
+    if position.rights().holds(color, right) {
         pays(position, diagram, color, Some(right), plies)
     } else {
         false
@@ -263,10 +251,10 @@ pub(crate) fn excludes_for(color: Color, diagram: &Diagram, position: &Position,
     if free {
         return false;
     }
-    let short = pays_castled(position, diagram, color, Castling::Short, plies);
+    let short = pays_castled(position, diagram, color, Wing::KingSide, plies);
     if short {
         return false;
     }
-    let long = pays_castled(position, diagram, color, Castling::Long, plies);
+    let long = pays_castled(position, diagram, color, Wing::QueenSide, plies);
     !long
 }

@@ -1,5 +1,5 @@
-// The distance of a white pawn from one square to another, 64 for none: a row for each square where
-// it stands, and in it a number for each where it is to stand, a1, b1 .. h8.
+/// The distance of a white pawn from one square to another, 64 for none: a row for each square where
+/// it stands, and in it a number for each where it is to stand, a1, b1 .. h8.
 pub static WHITE_PAWN: [[u8; 64]; 64] = [
     [
         0, 64, 64, 64, 64, 64, 64, 64, 1, 1, 64, 64, 64, 64, 64, 64, 2, 2, 2, 64, 64, 64, 64, 64,

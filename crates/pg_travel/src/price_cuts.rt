@@ -5,15 +5,14 @@ ghost use Rattle.pg_position.specs.declared.rights.Wing.TheVariants.{KingSide, Q
 ghost use Rattle.pg_captures.specs.PriceLists.{list_of};
 ghost use Rattle.pg_travel.specs.PriceRecords.{list_at};
 ghost use Rattle.pg_travel.specs.TravelPrices.{WayPricesExclude, TravelPricesExclude};
-ghost use Rattle.pg_travel.specs.Ways.{wing_of, way_of};
 
-use crate::castling::{Castling, charge, holds};
+use crate::castling::charge;
 use crate::prices::Prices;
 use crate::targets::all_fit;
 use pg_board::Color;
 use pg_captures::{all_men, plies_left, price_sum};
 use pg_fen::Diagram;
-use pg_position::Position;
+use pg_position::{Position, Wing};
 
 // Whether the list of a way excludes it.
 fn way_excludes(
@@ -21,11 +20,11 @@ fn way_excludes(
     position: &Position,
     left: u8,
     color: Color,
-    way: Option<Castling>,
+    way: Option<Wing>,
     u: &[u8],
     v: &[u8],
 ) -> bool
-    ensures { IsTrue result ↔ WayPricesExclude diagram.now position.now left color (way_of way) (list_of u.now v.now) }
+    ensures { IsTrue result ↔ WayPricesExclude diagram.now position.now left color way (list_of u.now v.now) }
 {
     let board = position.board();
     let goal = diagram.board();
@@ -48,11 +47,11 @@ fn list_excludes(
     position: &Position,
     left: u8,
     color: Color,
-    way: Option<Castling>,
+    way: Option<Wing>,
     prices: &Prices,
     i: usize,
 ) -> bool
-    ensures { IsTrue result ↔ WayPricesExclude diagram.now position.now left color (way_of way) (list_at prices.now i) }
+    ensures { IsTrue result ↔ WayPricesExclude diagram.now position.now left color way (list_at prices.now i) }
 {
     way_excludes(
         diagram,
@@ -78,10 +77,10 @@ fn two_ways(
     position: &Position,
     left: u8,
     color: Color,
-    wing: Castling,
+    wing: Wing,
     prices: &Prices,
 ) -> bool
-    ensures { IsTrue result ↔ ((length prices.now ≡ 2) × WayPricesExclude diagram.now position.now left color None (list_at prices.now 0) × WayPricesExclude diagram.now position.now left color (Some (wing_of wing)) (list_at prices.now 1)) }
+    ensures { IsTrue result ↔ ((length prices.now ≡ 2) × WayPricesExclude diagram.now position.now left color None (list_at prices.now 0) × WayPricesExclude diagram.now position.now left color (Some wing) (list_at prices.now 1)) }
 {
     prices.ways() == 2
         && list_excludes(diagram, position, left, color, None, prices, 0)
@@ -105,7 +104,7 @@ fn three_ways(
             position,
             left,
             color,
-            Some(Castling::Short),
+            Some(Wing::KingSide),
             prices,
             1,
         )
@@ -114,7 +113,7 @@ fn three_ways(
             position,
             left,
             color,
-            Some(Castling::Long),
+            Some(Wing::QueenSide),
             prices,
             2,
         )
@@ -124,16 +123,16 @@ fn excluded(diagram: &Diagram, position: &Position, left: u8, color: Color, pric
     ensures { IsTrue result ↔ TravelPricesExclude diagram.now position.now left color prices.now }
 {
     let rights = position.rights();
-    let short = holds(rights, color, Castling::Short);
-    let long = holds(rights, color, Castling::Long);
+    let short = rights.holds(color, Wing::KingSide);
+    let long = rights.holds(color, Wing::QueenSide);
     if short {
         if long {
             three_ways(diagram, position, left, color, prices)
         } else {
-            two_ways(diagram, position, left, color, Castling::Short, prices)
+            two_ways(diagram, position, left, color, Wing::KingSide, prices)
         }
     } else if long {
-        two_ways(diagram, position, left, color, Castling::Long, prices)
+        two_ways(diagram, position, left, color, Wing::QueenSide, prices)
     } else {
         one_way(diagram, position, left, color, prices)
     }
@@ -156,6 +155,7 @@ pub fn prices_exclude(
     ensures exact { IsTrue result ↔ TravelPricesExclude diagram.now position.now left color prices.now }
     ensures barren { IsTrue result → Barren diagram.now position.now left }
 {
+    // A fact for the proof: what is handed in is a position.
     position.side();
     excluded(diagram, position, left, color, prices)
 }

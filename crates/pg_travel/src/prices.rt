@@ -3,7 +3,7 @@ ghost use Rattle.std.proofs.Common.{sym};
 ghost use Rattle.std.specs.Prelude.{◌≡◌, ℕ, ◌↔◌, ◌<◌, ◌≤◌, IsTrue, cond, List, [], ◌∷◌, ◌++◌, length, take};
 ghost use Rattle.pg_captures.specs.PriceLists.{PriceList, list_of};
 ghost use Rattle.pg_travel.specs.PriceRecords.{list_at, sources, targets, u_at, v_at, NewIs, CanAdd};
-ghost use Rattle.pg_travel.specs.Rows.{row_list, rows, padded, row_of, sources_of, targets_of, ways_of, source_number, target_number};
+ghost use Rattle.pg_travel.specs.numbers.Rows.{row_list, rows, padded, row_of, sources_of, targets_of, ways_of, source_number, target_number};
 
 use std::marker::Model;
 
@@ -38,7 +38,7 @@ impl Model for Prices {
 }
 
 // These bytes, and zeros after them.
-#[tactic(auto, unfolding(crate::specs::Rows::padded))]
+#[tactic(auto, unfolding(crate::specs::numbers::Rows::padded))]
 fn padded(xs: &[u8]) -> [u8; 64]
     requires { length xs.now ≤ 64 }
     ensures list { take (length xs.now) result ≡ xs.now }

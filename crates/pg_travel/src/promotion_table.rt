@@ -1,6 +1,6 @@
-// What a white pawn needs from one square to be another man on another: a row for each square where it
-// stands, and in it a number for each where it is to stand, a1, b1 .. h8. Its digits to the base 16 are the
-// distances as a queen, a rook, a bishop and a knight, f for none.
+/// What a white pawn needs from one square to be another man on another: a row for each square where it
+/// stands, and in it a number for each where it is to stand, a1, b1 .. h8. Its digits to the base 16 are the
+/// distances as a queen, a rook, a bishop and a knight, f for none.
 pub static WHITE_PROMOTED: [[u16; 64]; 64] = [
     [
         0x778a, 0x778a, 0x778a, 0x778a, 0x778a, 0x778a, 0x888a, 0x787a, 0x7789, 0x7789, 0x7789,

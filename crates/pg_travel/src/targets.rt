@@ -5,15 +5,14 @@ ghost use Rattle.std.specs.Prelude.{◌≡◌, ℕ, ◌+◌, ◌<◌, ◌≤◌,
 ghost use Rattle.pg_board.specs.Placement.{get};
 ghost use Rattle.pg_captures.specs.Counting.{any_man};
 ghost use Rattle.pg_captures.specs.PriceLists.{IsPriced};
-ghost use Rattle.pg_travel.specs.PriceTests.{PairFits, IsBySquare, IsLeastPrice, IsLow, BeyondFits, ManFits, KindFits, StoodFits, TargetFits, AllFit};
-ghost use Rattle.pg_travel.specs.Ways.{way_of};
+ghost use Rattle.pg_travel.specs.numbers.PriceTests.{PairFits, IsBySquare, IsLeastPrice, IsLow, BeyondFits, ManFits, KindFits, StoodFits, TargetFits, AllFit};
 
 use crate::bands::{Band, promoting, whole_board};
-use crate::castling::{Castling, counted};
+use crate::castling::counted;
 use crate::distances::{all_steps, is_promoted, least_steps};
 use crate::needs::{man, same_side};
 use pg_board::{Board, Color, Kind, Man, Square};
-use pg_position::first_from;
+use pg_position::{Wing, first_from};
 
 // Whether a target pays at most what a source does and so many steps, 64 for none.
 fn pays_at_most(v: u8, u: u8, steps: u8) -> bool
@@ -26,6 +25,7 @@ fn pays_at_most(v: u8, u: u8, steps: u8) -> bool
 fn pair_fits(man: Man, origin: Square, u: u8, kind: Kind, t: Square, v: u8) -> bool
     ensures { IsTrue result ↔ PairFits man origin u kind t v }
 {
+    // Facts for the proof: both squares are on the board.
     origin.index();
     t.index();
     if v.saturating_sub(u) <= least_steps(man, origin, kind, t) {
@@ -67,15 +67,15 @@ fn least_price(prices: &[u8]) -> u8
 fn man_fits(
     board: &Board,
     man: Man,
-    way: Option<Castling>,
+    way: Option<Wing>,
     prices: &[u8; 64],
     kind: Kind,
     t: Square,
     v: u8,
     band: Band,
 ) -> bool
-    requires { BeyondFits board.now man (way_of way) prices.now kind t v band.first band.past }
-    ensures { IsTrue result ↔ ManFits board.now man (way_of way) prices.now kind t v }
+    requires { BeyondFits board.now man way prices.now kind t v band.first band.past }
+    ensures { IsTrue result ↔ ManFits board.now man way prices.now kind t v }
 {
     let own = board.squares_of(man);
     let mut from = band.first;
@@ -98,7 +98,7 @@ fn man_fits(
 fn kind_fits(
     board: &Board,
     color: Color,
-    way: Option<Castling>,
+    way: Option<Wing>,
     prices: &[u8; 64],
     least: u8,
     kind: Kind,
@@ -106,8 +106,9 @@ fn kind_fits(
     v: u8,
 ) -> bool
     requires { IsLow board.now color prices.now least }
-    ensures { IsTrue result ↔ KindFits board.now color (way_of way) prices.now kind t v }
+    ensures { IsTrue result ↔ KindFits board.now color way prices.now kind t v }
 {
+    // A fact for the proof: the square is on the board.
     t.index();
     let own = man(color, kind);
     if !man_fits(board, own, way, prices, kind, t, v, whole_board()) {
@@ -126,7 +127,7 @@ fn kind_fits(
 fn stood_fits(
     board: &Board,
     color: Color,
-    way: Option<Castling>,
+    way: Option<Wing>,
     prices: &[u8; 64],
     least: u8,
     here: Option<Man>,
@@ -134,7 +135,7 @@ fn stood_fits(
     v: u8,
 ) -> bool
     requires { IsLow board.now color prices.now least }
-    ensures { IsTrue result ↔ StoodFits board.now color (way_of way) prices.now here t v }
+    ensures { IsTrue result ↔ StoodFits board.now color way prices.now here t v }
 {
     match here {
         None => true,
@@ -153,14 +154,14 @@ fn target_fits(
     board: &Board,
     goal: &Board,
     color: Color,
-    way: Option<Castling>,
+    way: Option<Wing>,
     prices: &[u8; 64],
     least: u8,
     t: Square,
     v: u8,
 ) -> bool
     requires { IsLow board.now color prices.now least }
-    ensures { IsTrue result ↔ StoodFits board.now color (way_of way) prices.now (get goal.now t) t v }
+    ensures { IsTrue result ↔ StoodFits board.now color way prices.now (get goal.now t) t v }
 {
     if v <= least {
         true
@@ -174,14 +175,14 @@ fn targets_fit(
     board: &Board,
     goal: &Board,
     color: Color,
-    way: Option<Castling>,
+    way: Option<Wing>,
     prices: &[u8; 64],
     least: u8,
     v: &[u8],
 ) -> bool
     requires low { IsLow board.now color prices.now least }
     requires priced { IsPriced v.now color any_man goal.now }
-    ensures { IsTrue result ↔ TargetFits board.now goal.now color (way_of way) prices.now v.now }
+    ensures { IsTrue result ↔ TargetFits board.now goal.now color way prices.now v.now }
 {
     let own = goal.squares_of_color(color);
     let mut place = 0usize;
@@ -201,12 +202,12 @@ pub(crate) fn all_fit(
     board: &Board,
     goal: &Board,
     color: Color,
-    way: Option<Castling>,
+    way: Option<Wing>,
     u: &[u8],
     v: &[u8],
 ) -> bool
     requires { IsPriced u.now color any_man board.now × IsPriced v.now color any_man goal.now }
-    ensures { IsTrue result ↔ AllFit board.now goal.now color (way_of way) u.now v.now }
+    ensures { IsTrue result ↔ AllFit board.now goal.now color way u.now v.now }
 {
     let prices = by_square(board, color, u);
     let least = least_price(u);

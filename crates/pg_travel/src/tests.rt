@@ -13,7 +13,7 @@ fn position(rt: &impl Abort, text: &str) -> Position {
     read_position(text).expect(rt, text).position
 }
 
-/// The square of a name, as `e4`.
+// The square of a name, as `e4`.
 fn square(rt: &impl Abort, name: &str) -> Square {
     let bytes = name.as_bytes();
     assert_eq!(rt; bytes.len(), 2, "{name}");
@@ -55,7 +55,7 @@ fn the_castled_rook(rt: HostRuntime) {
     assert_eq!(rt; need(Color::White, &castled, &long_right), Some(3));
 }
 
-/// Each rook can go to either of two squares, and each has to move once: two plies of White's.
+// Each rook can go to either of two squares, and each has to move once: two plies of White's.
 #[test]
 fn both_rooks_move(rt: HostRuntime) {
     let rooks = diagram(&rt, "4k3/8/8/8/8/R7/R7/4K3");
@@ -103,7 +103,7 @@ fn promotions_of_both_colors(rt: HostRuntime) {
     assert_eq!(rt; steps(&rt, white(Kind::Pawn), "e7", Kind::King, "e8"), None);
 }
 
-/// The least knight moves from a1, rank 1 first.
+// The least knight moves from a1, rank 1 first.
 const FROM_CORNER: [u8; 64] = [
     0, 3, 2, 3, 2, 3, 4, 5, 3, 4, 1, 2, 3, 4, 3, 4, 2, 1, 4, 3, 2, 3, 4, 5, 3, 2, 3, 2, 3, 4, 3, 4,
     2, 3, 2, 3, 4, 3, 4, 5, 3, 4, 3, 4, 3, 4, 5, 4, 4, 3, 4, 3, 4, 5, 4, 5, 5, 4, 5, 4, 5, 4, 5, 6,
@@ -132,7 +132,7 @@ fn one_list(rt: &impl Abort, u: &[u8], v: &[u8]) -> Prices {
     Prices::new(u, v).expect(rt, "at most 64 of each")
 }
 
-/// A rook of a1 or h1 on a2, the other on a3: three plies together, where each target alone is near.
+// A rook of a1 or h1 on a2, the other on a3: three plies together, where each target alone is near.
 #[test]
 fn prices_of_two_rooks(rt: HostRuntime) {
     let white = Color::White;
@@ -151,7 +151,7 @@ fn prices_of_two_rooks(rt: HostRuntime) {
     assert!(rt; prices_exclude(&wanted, &rooks, 4, white, &prices) && copied.ways() == 1);
 }
 
-/// A price too high, and pairs violated that no best assignment uses: from a1 to a2 and to a3.
+// A price too high, and pairs violated that no best assignment uses: from a1 to a2 and to a3.
 #[test]
 fn prices_that_do_not_fit(rt: HostRuntime) {
     let white = Color::White;
@@ -176,7 +176,7 @@ fn prices_that_do_not_fit(rt: HostRuntime) {
     }
 }
 
-/// Another number of entries than of men, or of lists than of ways.
+// Another number of entries than of men, or of lists than of ways.
 #[test]
 fn prices_for_other_men(rt: HostRuntime) {
     let white = Color::White;
@@ -197,7 +197,7 @@ fn prices_for_other_men(rt: HostRuntime) {
     assert!(rt; !prices_exclude(&wanted, &rooks, 0, white, &lists));
 }
 
-/// 63 white men, and no queen becomes the knight of b8.
+// 63 white men, and no queen becomes the knight of b8.
 #[test]
 fn prices_of_a_full_board(rt: HostRuntime) {
     let white = Color::White;
@@ -217,7 +217,7 @@ fn prices_of_a_full_board(rt: HostRuntime) {
     assert!(rt; !prices_exclude(&wanted, &queens, 255, white, &high));
 }
 
-/// With the right to castle there are two ways, and the castling way costs one ply alone.
+// With the right to castle there are two ways, and the castling way costs one ply alone.
 #[test]
 fn prices_of_a_castling_way(rt: HostRuntime) {
     let white = Color::White;
@@ -242,7 +242,7 @@ fn prices_of_a_castling_way(rt: HostRuntime) {
     assert!(rt; !prices_exclude(&castled, &no_right, 5, white, &free));
 }
 
-/// The ways in their order: none, king side, queen side.
+// The ways in their order: none, king side, queen side.
 #[test]
 fn prices_of_three_ways(rt: HostRuntime) {
     let white = Color::White;
@@ -261,7 +261,7 @@ fn prices_of_three_ways(rt: HostRuntime) {
     assert!(rt; !prices_exclude(&castled, &king_side, 0, white, &prices));
 }
 
-/// Queen side, and the other colour.
+// Queen side, and the other colour.
 #[test]
 fn prices_of_other_castlings(rt: HostRuntime) {
     let long = diagram(&rt, "4k3/8/8/8/8/8/8/2KR3R");

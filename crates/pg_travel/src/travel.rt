@@ -22,14 +22,15 @@ fn travel_holds(diagram: &Diagram, position: &Position, left: u8) -> bool
 pub struct Travel;
 
 impl Bound for Travel {
-    ghost use Rattle.pg_travel.specs.Decided.{travel_test, travel_test_tells};
-    ghost use Rattle.pg_travel.specs.NeedLemmas.{travel_barren};
+    ghost use Rattle.pg_board.specs.lemmas.Decisions.{answer_tells};
+    ghost use Rattle.pg_travel.specs.Decided.{dec_travel, travel_test};
+    ghost use Rattle.pg_travel.specs.lemmas.NeedLemmas.{travel_barren};
 
     ghost code_of = { λ b. 4 };
 
     ghost excluded = { λ b d p k. travel_test d p k };
 
-    ghost sound = { λ b d p k valid h. travel_barren d p k valid ((travel_test_tells d p k).0 h) };
+    ghost sound = { λ b d p k valid h. travel_barren d p k valid ((answer_tells (dec_travel d p k)).0 h) };
 
     fn code(&self) -> u8
         ensures { result ≡ 4 }

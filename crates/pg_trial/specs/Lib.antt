@@ -1,3 +1,4 @@
 pub mod Readers
 pub mod MenTest
 pub mod Codes
+pub mod Certificates

@@ -1,10 +1,11 @@
 -- The test by men: no move adds a man, so no game leads to a diagram that has more men of a colour.
-use Rattle.std.proofs.Common.{◌≡◌, ◌↔◌, ℕ, ◌<◌, ◌≤◌, Bool, true, IsTrue, ap, subst, sym, arith}
+use Rattle.std.proofs.Common.{◌≡◌, ℕ, ◌<◌, ◌≤◌, Bool, ap, subst, sym, arith}
 use Rattle.pg_board.specs.declared.man.Color.{Color}
 use Rattle.pg_board.specs.declared.man.Color.TheVariants.{White, Black}
 use Rattle.pg_board.specs.declared.man.Kind.{Kind}
 use Rattle.pg_board.specs.Men.{other}
 use Rattle.pg_board.specs.Placement.{Placement, tally}
+use Rattle.pg_board.specs.lemmas.Decisions.{answer, dec_less, dec_colors}
 use Rattle.pg_position.specs.declared.state.State.{State}
 use Rattle.pg_position.specs.declared.moves.Move.{Move}
 use Rattle.pg_position.specs.declared.moves.Way.{Way}
@@ -12,9 +13,8 @@ use Rattle.pg_position.specs.Position.{IsPosition, Stands}
 use Rattle.pg_position.specs.Step.{IsWay, Step, after, board_after}
 use Rattle.pg_position.specs.Game.{Barren}
 use Rattle.pg_captures.specs.Counting.{men, any_man, of_color}
-use Rattle.pg_captures.specs.StepCounts.{own_men, their_fall}
-use Rattle.pg_captures.specs.Potential.{Lasts, FailsAt, barren_from}
-use Rattle.pg_captures.specs.Decided.{answer, answer_tells, answer_is, dec_less, dec_either}
+use Rattle.pg_captures.specs.lemmas.StepCounts.{own_men, their_fall}
+use Rattle.pg_captures.specs.lemmas.Potential.{Lasts, FailsAt, barren_from}
 
 -- the diagram has more men of the colour than the placement
 unfoldable pub HasMore : Placement → Placement → Color → Type 0
@@ -26,19 +26,11 @@ MenHolds d p = (c : Color) × HasMore d p.board c
 
 pub dec_men : (d : Placement) (p : State) → Dec (MenHolds d p)
 unfolding MenHolds HasMore
-dec_men d p = dec_either (HasMore d p.board) (λ c. dec_less (men c any_man p.board) (men c any_man d))
+dec_men d p = dec_colors (HasMore d p.board) (λ c. dec_less (men c any_man p.board) (men c any_man d))
 
 -- whether the test by men holds
-unfoldable pub men_test : Placement → State → Bool
+abbrev pub men_test : Placement → State → Bool
 men_test d p = answer (dec_men d p)
-
-pub men_test_tells : (d : Placement) (p : State) → men_test d p ≡ true ↔ MenHolds d p
-unfolding men_test
-men_test_tells d p = answer_tells (dec_men d p)
-
-pub men_test_is : (d : Placement) (p : State) (b : Bool) → IsTrue b ↔ MenHolds d p → b ≡ men_test d p
-unfolding men_test
-men_test_is d p b h = answer_is b h (dec_men d p)
 
 -- a move leaves its own men and takes one of the others at most
 more_after : (d b a : Placement) (side c : Color) → men side any_man a ≡ men side any_man b → men (other side) any_man a ≤ men (other side) any_man b → HasMore d b c → HasMore d a c

@@ -4,6 +4,7 @@ use Rattle.std.specs.Result.{IsErrAnd}
 use Rattle.std.specs.IoError.{error_kind}
 use Rattle.std.specs.declared.io.Error.{Error}
 use Rattle.std.specs.declared.io.ErrorKind.{ErrorKind}
+use Rattle.pg_trial.specs.declared.counted.Counted.{Counted}
 use Rattle.pg_trial.specs.declared.endless.Endless.{Endless}
 use Rattle.pg_trial.specs.declared.fails_at.FailsAt.{FailsAt}
 use Rattle.pg_trial.specs.declared.one_byte.OneByte.{OneByte}
@@ -35,3 +36,7 @@ within failing = failing.inner
 -- the reader or the writer of which one byte a call is handed on
 abbrev pub whole : {T : Type 0} → OneByte T → T
 whole piecewise = piecewise.inner
+
+-- the bytes that a counting writer has counted
+abbrev pub bytes_of : Counted → ℕ
+bytes_of counted = counted.bytes

@@ -57,7 +57,7 @@ impl<T> FailsAt<T> {
         inner
     }
 
-    /// Counts a call, and answers whether it is the one that fails.
+    // Counts a call, and answers whether it is the one that fails.
     fn fails(&mut self) -> bool
         ensures fails { IsTrue result ↔ (calls_of self.old ≡ at_of self.old) }
         ensures counted { calls_of self.new ≡ min (calls_of self.old + 1) (2 ^ 64 - 1) }

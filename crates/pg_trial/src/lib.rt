@@ -1,9 +1,11 @@
 //! What other crates are tried with, for tests alone. Readers and writers of std: of one byte a
-//! call, failing at a call, endless, taking nothing; their contracts say which bytes they give and
-//! take and which call fails, and not that a call which is passed on succeeds. And two bounds: by the
-//! numbers of men, and one that never excludes.
+//! call, failing at a call, endless, taking nothing, counting; their contracts say which bytes they give and
+//! take and which call fails, and not that a call which is passed on succeeds. Two bounds: by the
+//! numbers of men, and one that never excludes. And certificates, byte by byte.
 #![tactic(auto)]
 
+mod certificates;
+mod counted;
 mod endless;
 mod fails_at;
 mod men;
@@ -11,6 +13,8 @@ mod never;
 mod one_byte;
 mod takes_nothing;
 
+pub use certificates::{OPEN_GAME, TWO_ORDERS, certificate, named_expansions};
+pub use counted::Counted;
 pub use endless::Endless;
 pub use fails_at::FailsAt;
 pub use men::Men;

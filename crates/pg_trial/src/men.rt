@@ -38,13 +38,14 @@ fn men_hold(diagram: &Diagram, position: &Position) -> bool
 pub struct Men;
 
 impl Bound for Men {
-    ghost use Rattle.pg_trial.specs.MenTest.{men_test_tells, men_barren};
+    ghost use Rattle.pg_board.specs.lemmas.Decisions.{answer_tells};
+    ghost use Rattle.pg_trial.specs.MenTest.{dec_men, men_barren};
 
     ghost code_of = { λ b. 9 };
 
     ghost excluded = { λ b d p k. men_test d p };
 
-    ghost sound = { λ b d p k valid h. men_barren d p k valid ((men_test_tells d p).0 h) };
+    ghost sound = { λ b d p k valid h. men_barren d p k valid ((answer_tells (dec_men d p)).0 h) };
 
     fn code(&self) -> u8
         ensures { result ≡ 9 }

@@ -1,14 +1,14 @@
 use super::*;
 use pg_captures::Bound;
-use pg_fen::{Diagram, read_position};
+use pg_fen::{Diagram, Length, read_position};
 use pg_position::Position;
 use std::io::{ErrorKind, Read, Write};
 use std::process::Abort;
 
-/// After 1. e4 d5 2. exd5: Black has lost a pawn.
+// After 1. e4 d5 2. exd5: Black has lost a pawn.
 const CAPTURED: &str = "rnbqkbnr/ppp1pppp/8/3P4/8/8/PPPP1PPP/RNBQKBNR b KQkq - 0 2";
 
-/// One ply on, the queen has recaptured.
+// One ply on, the queen has recaptured.
 const RECAPTURED: &str = "rnb1kbnr/ppp1pppp/8/3q4/8/8/PPPP1PPP/RNBQKBNR w KQkq - 0 3";
 
 fn diagram(rt: &impl Abort, text: &str) -> Diagram {
@@ -42,7 +42,7 @@ fn one_that_never_excludes(rt: HostRuntime) {
     assert!(rt; !never.excludes(&array_diagram, &captured, 0));
 }
 
-/// 300 bytes, the same ones each time.
+// 300 bytes, the same ones each time.
 fn some_bytes() -> [u8; 300] {
     let mut bytes = [0; 300];
     let mut next = 7u8;
@@ -86,7 +86,7 @@ fn a_fault_out_of_reach_writes_everything(rt: HostRuntime) {
     assert_eq!(rt; writer.into_inner().into_inner().as_slice(), &bytes[..]);
 }
 
-/// One byte a call on the way to what is behind, and each flush is handed on.
+// One byte a call on the way to what is behind, and each flush is handed on.
 #[test]
 fn one_byte_hands_on_each_call(rt: HostRuntime) {
     let bytes = some_bytes();
@@ -106,4 +106,30 @@ fn one_byte_hands_on_each_call(rt: HostRuntime) {
     assert_eq!(rt; pieces.read(&mut room[2..]).ok(), Some(1));
     assert_eq!(rt; room[..3], bytes[..3]);
     assert_eq!(rt; pieces.read(&mut []).ok(), Some(0));
+}
+
+#[test]
+fn counts_and_keeps_none(rt: HostRuntime) {
+    let mut writer = Counted::new();
+    assert_eq!(rt; writer.bytes(), 0);
+    writer.write_all(&some_bytes()).expect(&rt, "counts");
+    writer.write_all(&[7]).expect(&rt, "counts");
+    writer.flush().expect(&rt, "flushes");
+    assert_eq!(rt; writer.bytes(), 301);
+}
+
+// The header of the array has the packed bytes that the format gives.
+#[test]
+fn certificates_begin_with_their_header(rt: HostRuntime) {
+    let array = diagram(&rt, "rnbqkbnr/pppppppp/8/8/8/8/PPPPPPPP/RNBQKBNR");
+    let one = Length::read("1.0").expect(&rt, "a length");
+    let bytes = certificate(rt.alloc(), b'1', &array, one, &[5; 22]).expect(&rt, "memory");
+    assert_eq!(rt; bytes.as_slice(), named_expansions(&array).as_slice());
+    assert!(rt; bytes.starts_with(b"PGC1\x02\x24\x53\x36\x42\x11\x11\x11\x11\0"));
+    assert!(rt;
+        bytes.ends_with(&[
+            0x99, 0xac, 0xdb, 0xbe, 0xca, 5, 5, 5, 5, 5, 5, 5, 5, 5, 5, 5, 5, 5, 5, 5, 5, 5, 5, 5,
+            5, 5, 5
+        ])
+    );
 }

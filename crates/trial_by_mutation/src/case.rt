@@ -49,7 +49,7 @@ pub fn part(bytes: &[u8], from: usize, to: usize) -> &[u8] {
     }
 }
 
-/// How many bytes a record takes.
+// How many bytes a record takes.
 fn spelled(alloc: Global, record: &Record) -> usize {
     let mut sink = ToWrite::new(Vec::new(alloc));
     let mut writer = RecordWriter::new();
@@ -58,7 +58,7 @@ fn spelled(alloc: Global, record: &Record) -> usize {
     sink.into_inner().len()
 }
 
-/// Where each record begins behind the header, and the end.
+// Where each record begins behind the header, and the end.
 fn starts_of(alloc: Global, bytes: &[u8]) -> Result<Vec<usize>, AllocError> {
     let mut starts = Vec::new(alloc);
     let mut source = FromRead::new(bytes);

@@ -15,7 +15,7 @@ pub fn are_same(one: &Games, other: &Games) -> bool {
     one.len() == other.len()
 }
 
-/// The games of a list but for the one with this index.
+// The games of a list but for the one with this index.
 fn without(alloc: Global, games: &Games, index: usize) -> Games {
     let mut rest = Games::new(alloc);
     for i in 0..games.len() {
@@ -28,7 +28,7 @@ fn without(alloc: Global, games: &Games, index: usize) -> Games {
     rest
 }
 
-/// The front of a game, and behind it the moves of another from there on.
+// The front of a game, and behind it the moves of another from there on.
 fn crossed(
     alloc: Global,
     one: &[Move],
@@ -43,7 +43,7 @@ fn crossed(
     Ok(moves)
 }
 
-/// A game with two of its plies in each other's place.
+// A game with two of its plies in each other's place.
 fn turned(alloc: Global, dice: &mut Dice, game: &[Move]) -> Result<Vec<Move>, AllocError> {
     let mut moves = Vec::from_slice(alloc, game)?;
     let (i, j) = (dice.below(game.len()), dice.below(game.len()));

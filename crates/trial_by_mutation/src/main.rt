@@ -31,27 +31,27 @@ use pg_travel::Travel;
 use std::alloc::{AllocError, Global};
 use std::env;
 
-/// A case and how many mutants are made of it.
+// A case and how many mutants are made of it.
 #[derive(Drop)]
 struct Task {
     case: Case,
     rounds: usize,
 }
 
-/// How often each answer came, with all bytes to be had and where a read fails.
+// How often each answer came, with all bytes to be had and where a read fails.
 #[derive(Clone, Copy, Debug)]
 struct Tallies {
     whole: Tally,
     failing: Tally,
 }
 
-/// Whether a case's own certificate is accepted.
+// Whether a case's own certificate is accepted.
 fn is_accepted(alloc: Global, case: &Case, bounds: &[Box<dyn Bound>]) -> Result<bool, AllocError> {
     let own = Mutant::of(case, Vec::from_slice(alloc, case.bytes.as_slice())?);
     Ok(answer_at_once(alloc, case, &own, bounds).is_ok())
 }
 
-/// Tries one mutant: at once, by one byte a call, and one time in four with a read that fails.
+// Tries one mutant: at once, by one byte a call, and one time in four with a read that fails.
 fn try_mutant(
     alloc: Global,
     dice: &mut Dice,
@@ -78,7 +78,7 @@ fn try_mutant(
     Ok(())
 }
 
-/// Tries the mutants of one case.
+// Tries the mutants of one case.
 fn try_case(
     alloc: Global,
     dice: &mut Dice,
@@ -110,7 +110,7 @@ fn try_case(
     Ok(())
 }
 
-/// The cases that the words name.
+// The cases that the words name.
 fn read_tasks(rt: &HostRuntime) -> anyhow::Result<Vec<Task>> {
     let mut tasks = Vec::new(rt.alloc());
     let mut words = env::args(rt)?.skip(1);
@@ -127,7 +127,7 @@ fn read_tasks(rt: &HostRuntime) -> anyhow::Result<Vec<Task>> {
     Ok(tasks)
 }
 
-/// Tries the mutants of all cases, with the bounds that the checker has.
+// Tries the mutants of all cases, with the bounds that the checker has.
 fn try_all(alloc: Global, tasks: &[Task], tallies: &mut Tallies) -> anyhow::Result<()> {
     let mut bounds: Vec<Box<dyn Bound>> = Vec::new(alloc);
     bounds.push(Box::new(alloc, Captures)?)?;

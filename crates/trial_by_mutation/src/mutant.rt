@@ -17,10 +17,10 @@ pub struct Mutant {
     pub most_named: u32,
 }
 
-/// Above what any certificate needs here.
+// Above what any certificate needs here.
 const AMPLE_RECORDS: u64 = 1_000_000;
 
-/// Above what any certificate names here.
+// Above what any certificate names here.
 const AMPLE_NAMED: u32 = 100_000;
 
 impl Mutant {
@@ -36,7 +36,7 @@ impl Mutant {
     }
 }
 
-/// These pieces, one behind the other.
+// These pieces, one behind the other.
 fn joined(alloc: Global, pieces: &[&[u8]]) -> Result<Vec<u8>, AllocError> {
     let mut bytes = Vec::new(alloc);
     for piece in pieces {
@@ -45,8 +45,8 @@ fn joined(alloc: Global, pieces: &[&[u8]]) -> Result<Vec<u8>, AllocError> {
     Ok(bytes)
 }
 
-/// A byte changed, put in or taken out, a few bytes taken out, or the end cut off or made longer;
-/// seldom in the header.
+// A byte changed, put in or taken out, a few bytes taken out, or the end cut off or made longer;
+// seldom in the header.
 fn by_bytes(alloc: Global, dice: &mut Dice, bytes: &[u8]) -> Result<Vec<u8>, AllocError> {
     let end = bytes.len();
     let at = if dice.below(8) == 0 {
@@ -71,8 +71,8 @@ fn by_bytes(alloc: Global, dice: &mut Dice, bytes: &[u8]) -> Result<Vec<u8>, All
     }
 }
 
-/// A record left out, put in twice, or in its place one of another certificate or of this one; two
-/// swapped; or the front of this certificate and the back of another, cut between records.
+// A record left out, put in twice, or in its place one of another certificate or of this one; two
+// swapped; or the front of this certificate and the back of another, cut between records.
 fn by_records(
     alloc: Global,
     dice: &mut Dice,
@@ -105,7 +105,7 @@ fn by_records(
     }
 }
 
-/// Two records in each other's place.
+// Two records in each other's place.
 fn swapped(alloc: Global, case: &Case, i: usize, j: usize) -> Result<Vec<u8>, AllocError> {
     let bytes = case.bytes.as_slice();
     let (i, j) = (i.min(j), i.max(j));
@@ -121,8 +121,8 @@ fn swapped(alloc: Global, case: &Case, i: usize, j: usize) -> Result<Vec<u8>, Al
     )
 }
 
-/// A reference or a cut in the place of a record, one that expands its node where such a one is soon
-/// drawn.
+// A reference or a cut in the place of a record, one that expands its node where such a one is soon
+// drawn.
 fn ended_early(alloc: Global, dice: &mut Dice, case: &Case) -> Result<Vec<u8>, AllocError> {
     let bytes = case.bytes.as_slice();
     let mut i = dice.below(case.records());
@@ -142,7 +142,7 @@ fn ended_early(alloc: Global, dice: &mut Dice, case: &Case) -> Result<Vec<u8>, A
     }
 }
 
-/// The header, half of the times some records behind it, and cuts in the place of all the others.
+// The header, half of the times some records behind it, and cuts in the place of all the others.
 fn cut_off(alloc: Global, dice: &mut Dice, case: &Case) -> Result<Vec<u8>, AllocError> {
     let i = if dice.below(2) == 0 {
         0
@@ -157,8 +157,8 @@ fn cut_off(alloc: Global, dice: &mut Dice, case: &Case) -> Result<Vec<u8>, Alloc
     Ok(bytes)
 }
 
-/// The certificate with one byte for another: that of a record which names its node for that of one
-/// which does not, or the other way round; or the number of the other version.
+// The certificate with one byte for another: that of a record which names its node for that of one
+// which does not, or the other way round; or the number of the other version.
 fn renamed(alloc: Global, dice: &mut Dice, case: &Case) -> Result<Vec<u8>, AllocError> {
     let bytes = case.bytes.as_slice();
     let at = if dice.below(4) == 0 {
@@ -177,8 +177,8 @@ fn renamed(alloc: Global, dice: &mut Dice, case: &Case) -> Result<Vec<u8>, Alloc
     }
 }
 
-/// The certificate for another length, in its header and in the question alike, mostly with no game
-/// in the list.
+// The certificate for another length, in its header and in the question alike, mostly with no game
+// in the list.
 fn at_length(alloc: Global, dice: &mut Dice, mutant: &mut Mutant) {
     let plies = u8::try_from(dice.below(14)).unwrap_or(0);
     if let (Some(length), Some(place)) = (Length::from_plies(plies), mutant.bytes.get_mut(4)) {

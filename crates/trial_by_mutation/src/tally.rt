@@ -1,7 +1,7 @@
 //! How often each answer came.
 use pg_checker::{Fault, ListFault, Proved};
 
-/// The name of each answer, in the order of the tally.
+// The name of each answer, in the order of the tally.
 const NAMES: [&str; 20] = [
     "yes",
     "Listed(WrongLength)",
@@ -31,7 +31,7 @@ pub struct Tally {
     counts: [u64; 20],
 }
 
-/// The answer's place in the tally.
+// The answer's place in the tally.
 fn place(answer: &Result<Proved, Fault>) -> usize {
     match answer {
         Ok(_) => 0,

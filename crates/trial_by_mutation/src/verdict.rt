@@ -11,7 +11,7 @@ use pg_trial::{FailsAt, OneByte};
 use std::alloc::Global;
 use std::io::ErrorKind;
 
-/// The list that a mutant asks about.
+// The list that a mutant asks about.
 fn games_of<'a>(case: &'a Case, mutant: &'a Mutant) -> &'a Games {
     match &mutant.games {
         Some(games) => games,
@@ -19,7 +19,7 @@ fn games_of<'a>(case: &'a Case, mutant: &'a Mutant) -> &'a Games {
     }
 }
 
-/// The answer to a mutant whose bytes come from this source.
+// The answer to a mutant whose bytes come from this source.
 fn answer<S: Source>(
     alloc: Global,
     case: &Case,
@@ -75,9 +75,9 @@ pub fn answer_failing(
     answer(alloc, case, mutant, bounds, &mut source)
 }
 
-/// Whether the list is the one that is known to be exact. Where the case's own list has a game, that is
-/// this list at the case's length, the empty one at fewer plies, as no game of fewer plies reaches its
-/// diagram, and none at more. Where it has none, no game of any length reaches the diagram.
+// Whether the list is the one that is known to be exact. Where the case's own list has a game, that is
+// this list at the case's length, the empty one at fewer plies, as no game of fewer plies reaches its
+// diagram, and none at more. Where it has none, no game of any length reaches the diagram.
 fn is_exact(case: &Case, mutant: &Mutant) -> bool {
     let (asked, known) = (mutant.length.plies(), case.length.plies());
     let games = games_of(case, mutant);

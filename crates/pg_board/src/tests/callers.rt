@@ -6,7 +6,7 @@ ghost use Rattle.pg_board.specs.Placement.{get, tally};
 use crate::{Board, Color, Man, Square};
 use std::test::Fail;
 
-/// The board after the man on `from` goes to `to`.
+// The board after the man on `from` goes to `to`.
 #[tactic(auto, using(crate::specs::Placement::gets))]
 fn shift(board: &Board, from: Square, to: Square) -> Board
     requires moved { IsSome (get board.now from) }
@@ -23,7 +23,7 @@ fn shift(board: &Board, from: Square, to: Square) -> Board
     next
 }
 
-/// How many men of a colour stand on the board.
+// How many men of a colour stand on the board.
 #[tactic(auto, using(crate::specs::Placement::tallies))]
 fn men_of(board: &Board, color: Color) -> u8
     ensures { result ≡ tally (λ _ m. color_eq m.color color) board.now }

@@ -5,25 +5,25 @@ use pg_trial::{Endless, FailsAt, OneByte};
 use std::io::{ErrorKind, Read};
 use std::process::Abort;
 
-/// White's prices by travel from a1, e1, h1 to e1, a2, a3.
+// White's prices by travel from a1, e1, h1 to e1, a2, a3.
 const TRAVEL_BYTES: [u8; 12] = [6, 4, 0, 1, 3, 3, 1, 0, 0, 0, 2, 2];
 
-/// White's prices by pawn files from a2 to h2 to a2, b2, c2, d2, f2, g2, h2, d3.
+// White's prices by pawn files from a2 to h2 to a2, b2, c2, d2, f2, g2, h2, d3.
 const PAWN_BYTES: [u8; 22] = [
     6, 3, 0, 1, 8, 8, 0, 0, 0, 1, 0, 0, 0, 0, 0, 0, 0, 1, 0, 0, 0, 1,
 ];
 
-/// Black's prices in three ways, for two sources and one target.
+// Black's prices in three ways, for two sources and one target.
 const WAYS_BYTES: [u8; 15] = [6, 4, 1, 3, 2, 1, 1, 2, 3, 4, 5, 6, 7, 8, 255];
 
-/// The header of the array in a version.
+// The header of the array in a version.
 fn header_of(version: u8) -> [u8; 37] {
     let mut bytes = ARRAY_HEADER;
     bytes[3] = version;
     bytes
 }
 
-/// One list of White's.
+// One list of White's.
 fn of_white(rt: &impl Abort, code: u8, u: &[u8], v: &[u8]) -> Record {
     Record::Priced {
         code,
@@ -32,7 +32,7 @@ fn of_white(rt: &impl Abort, code: u8, u: &[u8], v: &[u8]) -> Record {
     }
 }
 
-/// The three ways of Black.
+// The three ways of Black.
 fn three_ways(rt: &impl Abort) -> Record {
     let mut prices = Prices::new(&[1, 2], &[3]).expect(rt, "few enough");
     assert!(rt; prices.add(&[4, 5], &[6]) && prices.add(&[7, 8], &[255]));
@@ -43,7 +43,7 @@ fn three_ways(rt: &impl Abort) -> Record {
     }
 }
 
-/// The first record after a header of this version, through readers of many bytes and of one.
+// The first record after a header of this version, through readers of many bytes and of one.
 fn first_record(rt: &impl Abort, version: u8, record: &[u8]) -> Result<Record, ReadFault> {
     let header = header_of(version);
     let mut source = FromRead::new(header.as_slice().chain(record));
@@ -74,7 +74,7 @@ fn priced_records_are_read(rt: HostRuntime) {
     );
 }
 
-/// The first record after a header of version 2, apart from its prices, and those.
+// The first record after a header of version 2, apart from its prices, and those.
 fn first_bare(rt: &impl Abort, record: &[u8]) -> (Result<Bare, ReadFault>, Prices) {
     let header = header_of(b'2');
     let mut source = FromRead::new(header.as_slice().chain(record));
@@ -218,7 +218,7 @@ fn endless_prices_are_read_on(rt: HostRuntime) {
     assert_eq!(rt; read, Err(ReadFault::UnknownRecord(6)));
 }
 
-/// Writes the records once each after a header of version 2.
+// Writes the records once each after a header of version 2.
 fn writes_them(rt: &impl Abort, records: &[Record], sink: &mut impl Sink) {
     let mut diagram = [0; 32];
     diagram.copy_from_slice(&ARRAY_HEADER[5..]);

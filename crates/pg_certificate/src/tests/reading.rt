@@ -5,14 +5,14 @@ use std::alloc::{AllocError, Allocator};
 use std::io::{ErrorKind, Read};
 use std::process::Abort;
 
-/// The header of a certificate for `1. e4 e5`, in 2 plies.
+// The header of a certificate for `1. e4 e5`, in 2 plies.
 const OPEN_GAME_HEADER: [u8; 37] = [
     0x50, 0x47, 0x43, 0x31, 0x02, 0x24, 0x53, 0x36, 0x42, 0x11, 0x11, 0x10, 0x11, 0x00, 0x00, 0x00,
     0x00, 0x00, 0x00, 0x01, 0x00, 0x00, 0x00, 0x09, 0x00, 0x00, 0x00, 0x00, 0x00, 0x99, 0x99, 0x90,
     0x99, 0xac, 0xdb, 0xbe, 0xca,
 ];
 
-/// Reads the array's header, 4,057 expansions, a reference that the buffer cuts, and the end.
+// Reads the array's header, 4,057 expansions, a reference that the buffer cuts, and the end.
 fn reads_a_cut_number(rt: &impl Abort, source: &mut impl Source) {
     let mut reader = RecordReader::new();
     let header = reader.header(source);
@@ -38,7 +38,7 @@ fn a_number_may_be_cut_by_the_buffer(rt: HostRuntime) -> Result<(), Fail> {
     Ok(())
 }
 
-/// Reads a header and so many records, then the end, and answers the first refusal.
+// Reads a header and so many records, then the end, and answers the first refusal.
 fn read_all(
     source: &mut impl Source,
     reader: &mut RecordReader,
@@ -51,7 +51,7 @@ fn read_all(
     reader.end(source)
 }
 
-/// Every call answers Failed.
+// Every call answers Failed.
 fn stays_failed(rt: &impl Abort, source: &mut impl Source, reader: &mut RecordReader) {
     for _ in 0..2 {
         assert_eq!(rt; reader.header(source), Err(ReadFault::Failed));
@@ -61,8 +61,8 @@ fn stays_failed(rt: &impl Abort, source: &mut impl Source, reader: &mut RecordRe
     }
 }
 
-/// 22 records: `02 04` for the games of one ply; then `01`, thirteen times `02 04`, `01` and six
-/// times `02 04`.
+// 22 records: `02 04` for the games of one ply; then `01`, thirteen times `02 04`, `01` and six
+// times `02 04`.
 fn open_game<A: Allocator>(bytes: &mut Vec<u8, A>) -> Result<(), AllocError> {
     bytes.extend_from_slice(&OPEN_GAME_HEADER)?;
     bytes.extend_from_slice(&[2, 4, 1])?;

@@ -7,7 +7,7 @@ use std::fs::File;
 use std::io::ErrorKind;
 use std::process::Abort;
 
-/// The header of the array.
+// The header of the array.
 fn array_header() -> Header
     ensures { result.version ≡ 1 }
 {
@@ -20,7 +20,7 @@ fn array_header() -> Header
     }
 }
 
-/// Writes a header, each record so many times, and the end, and answers the first refusal.
+// Writes a header, each record so many times, and the end, and answers the first refusal.
 fn write_all(
     sink: &mut impl Sink,
     writer: &mut RecordWriter,
@@ -35,7 +35,7 @@ fn write_all(
     writer.finish(sink)
 }
 
-/// Reads a header, each record so many times, and the end.
+// Reads a header, each record so many times, and the end.
 fn reads_them_again(rt: &impl Abort, source: &mut impl Source, times: u64) {
     let mut reader = RecordReader::new();
     assert_eq!(rt; reader.header(source), Ok(array_header()));
@@ -47,7 +47,7 @@ fn reads_them_again(rt: &impl Abort, source: &mut impl Source, times: u64) {
     assert_eq!(rt; reader.end(source), Ok(()));
 }
 
-/// Every call answers Failed.
+// Every call answers Failed.
 fn stays_failed(rt: &impl Abort, sink: &mut impl Sink, writer: &mut RecordWriter) {
     for _ in 0..2 {
         assert_eq!(rt;

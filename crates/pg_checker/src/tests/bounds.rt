@@ -1,7 +1,7 @@
 use super::*;
 use pg_trial::{Men, Never};
 
-/// The answer with the four bounds to a certificate of these bytes behind the header.
+// The answer with the four bounds to a certificate of these bytes behind the header.
 fn says<R: Abort + AllocGlobal>(
     rt: &R,
     asked: &Problem,
@@ -12,7 +12,7 @@ fn says<R: Abort + AllocGlobal>(
     answer(rt, asked, &bytes, MANY, 0)
 }
 
-/// What is answered with bounds of the test's own to the bytes of a source.
+// What is answered with bounds of the test's own to the bytes of a source.
 fn judged_from<R: AllocGlobal, S: Source>(
     rt: &R,
     asked: &Problem,

@@ -1,6 +1,7 @@
 use super::*;
 use pg_moves::legal_moves;
 use pg_position::Position;
+use pg_trial::TWO_ORDERS;
 
 #[test]
 fn the_empty_game(rt: HostRuntime) -> Result<(), std::test::Fail> {
@@ -21,27 +22,10 @@ fn one_ply(rt: HostRuntime) -> Result<(), std::test::Fail> {
     Ok(())
 }
 
-/// A cut by travel in the tree of length 1; in that of length 2 an expansion, thirteen cuts, an
-/// expansion and six cuts: 79 bytes.
-pub fn open_game<R: AllocGlobal>(rt: &R, asked: &Problem) -> Result<Vec<u8>, AllocError> {
-    let mut bytes = headed(rt, asked)?;
-    bytes.extend_from_slice(&[2, 4])?;
-    one_game(&mut bytes)?;
-    Ok(bytes)
-}
-
-/// The tree of the one game of two plies.
-pub fn one_game<A: Allocator>(bytes: &mut Vec<u8, A>) -> Result<(), AllocError> {
-    bytes.push(1)?;
-    repeat(bytes, &[2, 4], 13)?;
-    bytes.push(1)?;
-    repeat(bytes, &[2, 4], 6)
-}
-
 #[test]
 fn e4_e5(rt: HostRuntime) -> Result<(), std::test::Fail> {
     let asked = ask(&rt, AFTER_E4_E5, "1.0", "1. e4 e5");
-    let bytes = open_game(&rt, &asked)?;
+    let bytes = certified(&rt, &asked, &OPEN_GAME)?;
     assert_eq!(rt; bytes.len(), 79);
     assert!(rt; answer(&rt, &asked, &bytes, 22, 0)? == yes(22, 0));
     assert!(rt; answer(&rt, &asked, &bytes, 21, 0)? == Err(Fault::Budget));
@@ -63,33 +47,14 @@ fn e4_e5_by_expansions(rt: HostRuntime) -> Result<(), std::test::Fail> {
     Ok(())
 }
 
-const TWO_ORDERS: &str = "rnbqkbnr/pppp1ppp/4p3/8/8/3PP3/PPP2PPP/RNBQKBNR";
-
-/// The node after the first of two moves: nine cuts, an expansion, ten cuts below it.
-fn branch<A: Allocator>(bytes: &mut Vec<u8, A>) -> Result<(), AllocError> {
-    bytes.push(1)?;
-    repeat(bytes, &[2, 4], 9)?;
-    bytes.push(1)?;
-    repeat(bytes, &[2, 4], 10)
-}
-
-fn two_orders<R: AllocGlobal>(rt: &R, asked: &Problem) -> Result<Vec<u8>, AllocError> {
-    let mut bytes = headed(rt, asked)?;
-    bytes.extend_from_slice(&[2, 4, 2, 4, 1])?;
-    repeat(&mut bytes, &[2, 4], 10)?;
-    branch(&mut bytes)?;
-    bytes.extend_from_slice(&[2, 4])?;
-    branch(&mut bytes)?;
-    repeat(&mut bytes, &[2, 4], 7)?;
-    Ok(bytes)
-}
+const TWO_PAWNS: &str = "rnbqkbnr/pppp1ppp/4p3/8/8/3PP3/PPP2PPP/RNBQKBNR";
 
 #[test]
 fn two_move_orders(rt: HostRuntime) -> Result<(), std::test::Fail> {
-    let both = ask(&rt, TWO_ORDERS, "1.5", "1. d3 e6 2. e3\n1. e3 e6 2. d3");
-    let first = ask(&rt, TWO_ORDERS, "1.5", "1. d3 e6 2. e3");
-    let second = ask(&rt, TWO_ORDERS, "1.5", "1. e3 e6 2. d3");
-    let bytes = two_orders(&rt, &both)?;
+    let both = ask(&rt, TWO_PAWNS, "1.5", "1. d3 e6 2. e3\n1. e3 e6 2. d3");
+    let first = ask(&rt, TWO_PAWNS, "1.5", "1. d3 e6 2. e3");
+    let second = ask(&rt, TWO_PAWNS, "1.5", "1. e3 e6 2. d3");
+    let bytes = certified(&rt, &both, &TWO_ORDERS)?;
     assert_eq!(rt; bytes.len(), 158);
     assert!(rt; answer(&rt, &both, &bytes, 63, 0)? == yes(63, 0));
     assert!(rt; answer(&rt, &both, &bytes, 62, 0)? == Err(Fault::Budget));
@@ -130,7 +95,7 @@ fn a_shorter_game(rt: HostRuntime) -> Result<(), std::test::Fail> {
     Ok(())
 }
 
-/// Writes the tree below a position: cut by travel where it excludes, else expanded.
+// Writes the tree below a position: cut by travel where it excludes, else expanded.
 fn grow<R: AllocGlobal>(
     rt: &R,
     bytes: &mut Vec<u8>,

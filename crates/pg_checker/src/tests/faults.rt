@@ -1,4 +1,3 @@
-use super::examples::open_game;
 use super::*;
 use arrayvec::ArrayVec;
 use pg_trial::{Endless, FailsAt};
@@ -71,7 +70,7 @@ fn each_fault_of_a_record(rt: HostRuntime) -> Result<(), std::test::Fail> {
     longer.extend_from_slice(&[1, 1])?;
     assert!(rt; answer(&rt, &asked, &longer, MANY, 0)? == Err(Fault::Trailing));
     let open = ask(&rt, AFTER_E4_E5, "1.0", "1. e4 e5");
-    let mut bytes = open_game(&rt, &open)?;
+    let mut bytes = certified(&rt, &open, &OPEN_GAME)?;
     bytes.push(0)?;
     assert!(rt; answer(&rt, &open, &bytes, MANY, 0)? == Err(Fault::Trailing));
     Ok(())
@@ -80,7 +79,7 @@ fn each_fault_of_a_record(rt: HostRuntime) -> Result<(), std::test::Fail> {
 #[test]
 fn each_proper_prefix(rt: HostRuntime) -> Result<(), std::test::Fail> {
     let asked = ask(&rt, AFTER_E4_E5, "1.0", "1. e4 e5");
-    let bytes = open_game(&rt, &asked)?;
+    let bytes = certified(&rt, &asked, &OPEN_GAME)?;
     for n in 0..bytes.len() {
         let said = answer(&rt, &asked, &bytes[..n], MANY, 9)?;
         assert!(rt; said == Err(Fault::Truncated));
@@ -91,7 +90,7 @@ fn each_proper_prefix(rt: HostRuntime) -> Result<(), std::test::Fail> {
 #[test]
 fn each_change_of_a_byte(rt: HostRuntime) -> Result<(), std::test::Fail> {
     let asked = ask(&rt, AFTER_E4_E5, "1.0", "1. e4 e5");
-    let mut bytes = open_game(&rt, &asked)?;
+    let mut bytes = certified(&rt, &asked, &OPEN_GAME)?;
     let mut accepted = 0u32;
     for i in 0..bytes.len() {
         let kept = bytes[i];
@@ -128,7 +127,7 @@ fn endless_certificates(rt: HostRuntime) -> Result<(), std::test::Fail> {
 #[test]
 fn each_read_failing_in_turn(rt: HostRuntime) -> Result<(), std::test::Fail> {
     let asked = ask(&rt, AFTER_E4_E5, "1.0", "1. e4 e5");
-    let bytes = open_game(&rt, &asked)?;
+    let bytes = certified(&rt, &asked, &OPEN_GAME)?;
     for call in 0..80u64 {
         let reader = FailsAt::new(OneByte::new(bytes.as_slice()), call, ErrorKind::Interrupted);
         let said = checked(&rt, &asked, &mut FromRead::new(reader), MANY, 9)?;

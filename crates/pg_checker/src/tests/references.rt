@@ -2,6 +2,7 @@ use super::*;
 use pg_moves::legal_moves;
 use pg_position::{Move, Position};
 use pg_san::GamesFault;
+use pg_trial::named_expansions;
 
 /// The pawn on d3 in five plies: a named node in the tree of length 1, three cuts, and the knight
 /// shuffle down to a position with these bytes.
@@ -70,8 +71,8 @@ fn an_open_node_has_no_number(rt: HostRuntime) -> Result<(), std::test::Fail> {
     Ok(())
 }
 
-/// The answer to a certificate for the pawn on d3: these bytes, and then a tree that leads along a
-/// game, cut beside it, to a node with bytes of its own.
+// The answer to a certificate for the pawn on d3: these bytes, and then a tree that leads along a
+// game, cut beside it, to a node with bytes of its own.
 fn led<R: Abort + AllocGlobal>(
     rt: &R,
     length: &str,
@@ -101,7 +102,7 @@ fn led<R: Abort + AllocGlobal>(
     answer(rt, &asked, &bytes, MANY, 9)
 }
 
-/// The rooks that went out and back have lost a right each, so the array does not come back.
+// The rooks that went out and back have lost a right each, so the array does not come back.
 #[test]
 fn rights_tell_positions_apart(rt: HostRuntime) -> Result<(), std::test::Fail> {
     let mut first = Vec::new(rt.alloc());
@@ -135,7 +136,7 @@ fn rights_tell_positions_apart(rt: HostRuntime) -> Result<(), std::test::Fail> {
     Ok(())
 }
 
-/// The array is named in the trees of lengths 1 and 2, and comes back with two plies left.
+// The array is named in the trees of lengths 1 and 2, and comes back with two plies left.
 #[test]
 fn numbers_go_on_from_tree_to_tree(rt: HostRuntime) -> Result<(), std::test::Fail> {
     let mut first = Vec::new(rt.alloc());
@@ -159,8 +160,8 @@ fn numbers_go_on_from_tree_to_tree(rt: HostRuntime) -> Result<(), std::test::Fai
     Ok(())
 }
 
-/// All nodes are expanded but for 122 cuts in the tree of length 3, which bring the reference after
-/// 1. c3 a5 2. Na3, to the node after 1. Na3 a5 2. c3, to the last two bytes of the buffer.
+// All nodes are expanded but for 122 cuts in the tree of length 3, which bring the reference after
+// 1. c3 a5 2. Na3, to the node after 1. Na3 a5 2. c3, to the last two bytes of the buffer.
 #[test]
 fn a_reference_across_the_end_of_the_buffer(rt: HostRuntime) -> Result<(), std::test::Fail> {
     let asked = ask(&rt, RECAPTURED, "2.0", "1. e4 d5 2. exd5 Qxd5");
@@ -186,8 +187,8 @@ fn a_reference_across_the_end_of_the_buffer(rt: HostRuntime) -> Result<(), std::
     Ok(())
 }
 
-/// Writes the tree below a position that a game leads to: named at one game, a reference to number 0
-/// at another, else cut by travel where it excludes beside the two, else expanded.
+// Writes the tree below a position that a game leads to: named at one game, a reference to number 0
+// at another, else cut by travel where it excludes beside the two, else expanded.
 fn mark<R: AllocGlobal>(
     rt: &R,
     bytes: &mut Vec<u8>,
@@ -251,7 +252,7 @@ pub fn marked_bytes<R: Abort + AllocGlobal>(
     Ok(bytes)
 }
 
-/// The answer to it.
+// The answer to it.
 fn marked<R: Abort + AllocGlobal>(
     rt: &R,
     asked: &Problem,
@@ -301,7 +302,7 @@ fn passed_squares_tell_positions_apart(rt: HostRuntime) -> Result<(), std::test:
     Ok(())
 }
 
-/// How many of three checks of a certificate that names each of its 22 nodes are refused memory.
+// How many of three checks of a certificate that names each of its 22 nodes are refused memory.
 fn refusals<R: Abort + AllocGlobal>(rt: &R, asked: &Problem, bytes: &[u8]) -> u8 {
     let none: Vec<Box<dyn Bound>> = Vec::new(rt.alloc());
     let mut refused = 0u8;
@@ -325,15 +326,12 @@ fn refusals<R: Abort + AllocGlobal>(rt: &R, asked: &Problem, bytes: &[u8]) -> u8
     refused
 }
 
-/// Passes too where `rt try --test --fail-alloc N` refuses the N-th growth: then one check of all
-/// answers that memory was refused, and the next ones say yes.
+// Passes too where `rt try --test --fail-alloc N` refuses the N-th growth: then one check of all
+// answers that memory was refused, and the next ones say yes.
 #[test]
 fn refused_growths(rt: HostRuntime) {
     let diagram = Diagram::read(AFTER_E4_E5).expect(&rt, "a diagram");
-    let mut bytes = [5u8; 59];
-    bytes[..4].copy_from_slice(b"PGC1");
-    bytes[4] = 2;
-    bytes[5..37].copy_from_slice(&diagram.packed());
+    let bytes = named_expansions(&diagram);
     let mut refused = 0u8;
     for _ in 0..3u8 {
         match read_games(rt.alloc(), "1. e4 e5") {

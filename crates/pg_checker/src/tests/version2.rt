@@ -1,29 +1,28 @@
 use super::bounds::judged;
-use super::examples::{one_game, open_game};
 use super::references::{TO_THE_ARRAY, marked_bytes, shuffle};
 use super::*;
 use pg_trial::{Endless, FailsAt};
 use std::io::{ErrorKind, Read};
 
-/// Writes a byte over another.
+// Writes a byte over another.
 fn put(bytes: &mut [u8], place: usize, byte: u8) {
     if let Some(kept) = bytes.get_mut(place) {
         *kept = byte;
     }
 }
 
-/// The same certificate as one of version 2.
+// The same certificate as one of version 2.
 fn second(bytes: &mut [u8]) {
     put(bytes, 3, b'2');
 }
 
-/// Prices of White's pawns, from the array to the diagram with the pawn on d3: the sources a2 to h2, of
-/// which d2 pays one, and the targets a2, b2, c2, d2, f2, g2, h2 and d3, of which d2 and d3 get one.
+// Prices of White's pawns, from the array to the diagram with the pawn on d3: the sources a2 to h2, of
+// which d2 pays one, and the targets a2, b2, c2, d2, f2, g2, h2 and d3, of which d2 and d3 get one.
 const PAWNS: [u8; 22] = [
     6, 3, 0, 1, 8, 8, 0, 0, 0, 1, 0, 0, 0, 0, 0, 0, 0, 1, 0, 0, 0, 1,
 ];
 
-/// Four cuts by prices of pawn files, one for each length below 2.0.
+// Four cuts by prices of pawn files, one for each length below 2.0.
 fn four_priced<R: AllocGlobal>(rt: &R, asked: &Problem) -> Result<Vec<u8>, AllocError> {
     let mut bytes = headed(rt, asked)?;
     second(&mut bytes);
@@ -55,8 +54,8 @@ fn prices_of_pawn_files(rt: HostRuntime) -> Result<(), std::test::Fail> {
     Ok(())
 }
 
-/// The certificate of the open game, where the first cut is by so many price lists: Black owes the move
-/// of a pawn to e5, and has no ply.
+// The certificate of the open game, where the first cut is by so many price lists: Black owes the move
+// of a pawn to e5, and has no ply.
 fn priced_game<R: AllocGlobal>(rt: &R, asked: &Problem, ways: u8) -> Result<Vec<u8>, AllocError> {
     let mut bytes = headed(rt, asked)?;
     second(&mut bytes);
@@ -66,7 +65,7 @@ fn priced_game<R: AllocGlobal>(rt: &R, asked: &Problem, ways: u8) -> Result<Vec<
         bytes.push(1)?;
         repeat(&mut bytes, &[0], 15)?;
     }
-    one_game(&mut bytes)?;
+    bytes.extend_from_slice(&OPEN_GAME[2..])?;
     Ok(bytes)
 }
 
@@ -120,7 +119,7 @@ fn numbers_of_prices_out_of_range(rt: HostRuntime) -> Result<(), std::test::Fail
 fn each_proper_prefix_with_prices(rt: HostRuntime) -> Result<(), std::test::Fail> {
     let asked = ask(&rt, AFTER_E4_E5, "1.0", "1. e4 e5");
     let bytes = priced_game(&rt, &asked, 3)?;
-    let mut plain = open_game(&rt, &asked)?;
+    let mut plain = certified(&rt, &asked, &OPEN_GAME)?;
     second(&mut plain);
     for n in 0..bytes.len() {
         let said = answer(&rt, &asked, &bytes[..n], MANY, 9)?;
@@ -145,7 +144,7 @@ fn each_read_of_prices_failing_in_turn(rt: HostRuntime) -> Result<(), std::test:
     Ok(())
 }
 
-/// A cut by prices for each length from 0.5 to 63.5, and what comes then.
+// A cut by prices for each length from 0.5 to 63.5, and what comes then.
 #[test]
 fn endless_prices(rt: HostRuntime) -> Result<(), std::test::Fail> {
     let pawn = ask(&rt, PAWN_ON_D3, "64.0", "");
@@ -180,8 +179,8 @@ fn the_knight_shuffle_again(rt: HostRuntime) -> Result<(), std::test::Fail> {
     Ok(())
 }
 
-/// The answer to a certificate of a version, by its digit, where the node after one game is named and
-/// that after another refers to it.
+// The answer to a certificate of a version, by its digit, where the node after one game is named and
+// that after another refers to it.
 fn referred<R: Abort + AllocGlobal>(
     rt: &R,
     asked: &Problem,
@@ -194,7 +193,7 @@ fn referred<R: Abort + AllocGlobal>(
     answer(rt, asked, &bytes, MANY, 9)
 }
 
-/// Yes, with one named node.
+// Yes, with one named node.
 fn is_yes(said: Result<Proved, Fault>) -> bool {
     matches!(
         said,
@@ -205,7 +204,7 @@ fn is_yes(said: Result<Proved, Fault>) -> bool {
     )
 }
 
-/// All pawns of White have gone two squares: travel cuts at once what no game is led along.
+// All pawns of White have gone two squares: travel cuts at once what no game is led along.
 const FAR: &str = "rnbqkbnr/pppppppp/8/8/PPPPPPPP/8/8/RNBQKBNR";
 
 #[test]
@@ -222,7 +221,7 @@ fn passed_squares_that_no_pawn_attacks(rt: HostRuntime) -> Result<(), std::test:
     Ok(())
 }
 
-/// The pawn on d4 attacks the square that was passed.
+// The pawn on d4 attacks the square that was passed.
 #[test]
 fn passed_squares_that_a_pawn_attacks(rt: HostRuntime) -> Result<(), std::test::Fail> {
     let far = ask(&rt, FAR, "3.0", "");
@@ -236,8 +235,8 @@ fn passed_squares_that_a_pawn_attacks(rt: HostRuntime) -> Result<(), std::test::
     Ok(())
 }
 
-/// The pawn on d4 may not capture, since the rook on h4 would then attack the king on a4; it attacks e3
-/// nevertheless.
+// The pawn on d4 may not capture, since the rook on h4 would then attack the king on a4; it attacks e3
+// nevertheless.
 #[test]
 fn a_capture_that_would_expose_the_king(rt: HostRuntime) -> Result<(), std::test::Fail> {
     let far = ask(&rt, FAR, "7.0", "");

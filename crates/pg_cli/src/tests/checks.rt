@@ -3,7 +3,7 @@ use crate::checking::{Asked, check_from};
 use pg_trial::{FailsAt, TakesNothing};
 use std::{io, str};
 
-/// What is asked, and the limit, with a certificate of expansions for the diagram and so many plies.
+// What is asked, and the limit, with a certificate of expansions for the diagram and so many plies.
 #[derive(Clone, Copy)]
 struct Case<'a> {
     asked: Asked<'a>,
@@ -12,7 +12,7 @@ struct Case<'a> {
     limit: u64,
 }
 
-/// The status of a check with no bound, and what is written, or else what is said.
+// The status of a check with no bound, and what is written, or else what is said.
 fn check_case<R: Runtime + Abort + AllocGlobal>(
     rt: &R,
     case: &Case<'_>,
@@ -167,7 +167,7 @@ fn refusals(rt: HostRuntime) -> Result<(), Fail> {
     Ok(())
 }
 
-/// Reads that fail, and writes: 4 either way.
+// Reads that fail, and writes: 4 either way.
 #[test]
 fn files_that_fail(rt: HostRuntime) -> Result<(), Fail> {
     let none: Vec<Box<dyn Bound>> = Vec::new(rt.alloc());

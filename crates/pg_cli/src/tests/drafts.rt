@@ -4,7 +4,7 @@ use std::io::Write;
 use std::os::unix::fs::{PermissionsExt, symlink};
 use std::{env, fs, process};
 
-/// A new folder for the files of one test.
+// A new folder for the files of one test.
 fn folder(rt: &HostRuntime, name: &str) -> Result<String, Fail> {
     let temporary = env::temp_dir(rt)?;
     let id = process::id(rt.process());
@@ -13,7 +13,7 @@ fn folder(rt: &HostRuntime, name: &str) -> Result<String, Fail> {
     Ok(path)
 }
 
-/// How many files a folder has.
+// How many files a folder has.
 fn count_files(rt: &HostRuntime, folder: &str) -> Result<usize, Fail> {
     let mut count = 0usize;
     for entry in fs::read_dir(rt, folder)? {
@@ -51,7 +51,7 @@ fn a_draft_is_put_in_its_place_or_dropped(rt: HostRuntime) -> Result<(), Fail> {
     Ok(())
 }
 
-/// Names that lead to no plain file that may be written: none of them is touched.
+// Names that lead to no plain file that may be written: none of them is touched.
 #[test]
 fn files_that_are_not_written(rt: HostRuntime) -> Result<(), Fail> {
     let folder = folder(&rt, "unwritten")?;
@@ -82,7 +82,7 @@ fn files_that_are_not_written(rt: HostRuntime) -> Result<(), Fail> {
     Ok(())
 }
 
-/// A link is written through: what it leads to is replaced, and the link stays.
+// A link is written through: what it leads to is replaced, and the link stays.
 #[test]
 fn links_stay(rt: HostRuntime) -> Result<(), Fail> {
     let folder = folder(&rt, "links")?;
@@ -104,7 +104,7 @@ fn links_stay(rt: HostRuntime) -> Result<(), Fail> {
     Ok(())
 }
 
-/// A search that gives up leaves an old certificate as it was, and one that is done replaces it.
+// A search that gives up leaves an old certificate as it was, and one that is done replaces it.
 #[test]
 fn searches_leave_no_rubbish(rt: HostRuntime) -> Result<(), Fail> {
     let folder = folder(&rt, "search")?;
@@ -130,7 +130,7 @@ fn searches_leave_no_rubbish(rt: HostRuntime) -> Result<(), Fail> {
     Ok(())
 }
 
-/// A copy is put in its place when it is whole; no old file is harmed, least of all the one that is copied.
+// A copy is put in its place when it is whole; no old file is harmed, least of all the one that is copied.
 #[test]
 fn copies_leave_no_rubbish(rt: HostRuntime) -> Result<(), Fail> {
     let folder = folder(&rt, "upgrade")?;

@@ -4,7 +4,7 @@ use pg_guide::Asked;
 use pg_trial::{FailsAt, TakesNothing};
 use std::{io, str};
 
-/// What is written of a line by a certificate for e4 e5 with these records, and the status or what is said.
+// What is written of a line by a certificate for e4 e5 with these records, and the status or what is said.
 fn check_why<R: Runtime + Abort + AllocGlobal>(
     rt: &R,
     moves: &str,
@@ -65,7 +65,7 @@ fn lines_of_moves(rt: HostRuntime) -> Result<(), Fail> {
     )
 }
 
-/// A read that fails, and a write: 4 either way.
+// A read that fails, and a write: 4 either way.
 #[test]
 fn files_that_fail(rt: HostRuntime) -> Result<(), Fail> {
     let none: Vec<Box<dyn Bound>> = Vec::new(rt.alloc());

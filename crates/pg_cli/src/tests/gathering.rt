@@ -4,7 +4,7 @@ use pg_report::{Refused, Sink, ToWrite};
 use pg_trial::FailsAt;
 use std::io;
 
-/// Ten thousand bytes in pieces of seven.
+// Ten thousand bytes in pieces of seven.
 fn push_pieces<W: Sink>(out: &mut Gathered<W>) -> Result<(), Refused> {
     for _ in 0..1428u16 {
         out.push(b"1. e4 e")?;
@@ -12,7 +12,7 @@ fn push_pieces<W: Sink>(out: &mut Gathered<W>) -> Result<(), Refused> {
     out.push(b"5..\n")
 }
 
-/// Many short pieces are three writes of up to 4,096 bytes, and any of them may fail.
+// Many short pieces are three writes of up to 4,096 bytes, and any of them may fail.
 #[test]
 fn short_pieces_are_few_writes(rt: HostRuntime) -> Result<(), Fail> {
     for at in 0..4u64 {
@@ -37,7 +37,7 @@ fn short_pieces_are_few_writes(rt: HostRuntime) -> Result<(), Fail> {
     Ok(())
 }
 
-/// A piece that is longer than the room goes through whole, behind what stands before it.
+// A piece that is longer than the room goes through whole, behind what stands before it.
 #[test]
 fn a_long_piece(rt: HostRuntime) -> Result<(), Fail> {
     let long = repeated(rt.alloc(), b'x', 5000)?;

@@ -6,7 +6,7 @@ use std::io::{Read, Write};
 
 const OUT_OF_REACH: &str = "rnbqkbnr/pppppppp/8/8/8/3P4/PPPP1PPP/RNBQKBNR";
 
-/// What a check of the array in no ply says of these games.
+// What a check of the array in no ply says of these games.
 fn check_listed<R: Runtime + Abort + AllocGlobal>(
     rt: &R,
     games: &[u8],
@@ -72,7 +72,7 @@ fn lists_of_great_length(rt: HostRuntime) -> Result<(), Fail> {
     check_listed(&rt, number.as_slice(), said, 1)
 }
 
-/// What a check says of a header and these records, and then one byte for ever.
+// What a check says of a header and these records, and then one byte for ever.
 fn check_endless<R: Runtime + Abort + AllocGlobal>(
     rt: &R,
     asked: &Asked<'_>,
@@ -115,7 +115,7 @@ fn certificates_without_an_end(rt: HostRuntime) -> Result<(), Fail> {
     check_endless(&rt, &short, 1, &[1], 1, "bytes after the certificate")
 }
 
-/// What a check of the game e4 writes to a writer.
+// What a check of the game e4 writes to a writer.
 fn check_to<'a, R: Runtime + AllocGlobal, W: Write + Drop>(
     rt: &R,
     bytes: &[u8],
@@ -130,7 +130,7 @@ fn check_to<'a, R: Runtime + AllocGlobal, W: Write + Drop>(
     check_from(rt, &asked, none.as_slice(), bytes, out, 9, false)
 }
 
-/// The report is one write; each write that fails is a write fault, and one byte a call gives the same.
+// The report is one write; each write that fails is a write fault, and one byte a call gives the same.
 #[test]
 fn reports_that_are_not_written(rt: HostRuntime) -> Result<(), Fail> {
     let bytes = certificate(&rt, AFTER_E4, 1, &[1])?;

@@ -7,7 +7,7 @@ use std::fmt::Display;
 use std::io::Eprint;
 use std::time::{Clock, Duration};
 
-/// A clock that is set by hand, and a screen that counts what is printed on it.
+// A clock that is set by hand, and a screen that counts what is printed on it.
 #[derive(Drop)]
 struct Desk {
     millis: Cell<u64>,
@@ -35,7 +35,7 @@ impl Eprint for Desk {
     }
 }
 
-/// How often something was printed when a source was pulled at each of these times, and at its end.
+// How often something was printed when a source was pulled at each of these times, and at its end.
 fn prints<R: Abort + AllocGlobal>(rt: &R, times: &[u64], screen: bool) -> Result<(u32, u32), Fail> {
     let desk = Desk {
         millis: Cell::new(5000),
@@ -58,7 +58,7 @@ fn prints<R: Abort + AllocGlobal>(rt: &R, times: &[u64], screen: bool) -> Result
     Ok((shown, all))
 }
 
-/// A line after one second, then each half second, and it is taken away once.
+// A line after one second, then each half second, and it is taken away once.
 #[test]
 fn lines_that_are_shown(rt: HostRuntime) -> Result<(), Fail> {
     for (times, wanted) in [
@@ -73,7 +73,7 @@ fn lines_that_are_shown(rt: HostRuntime) -> Result<(), Fail> {
     Ok(())
 }
 
-/// A cut has two bytes and a reference five; the header is no record, wherever the bytes are parted.
+// A cut has two bytes and a reference five; the header is no record, wherever the bytes are parted.
 #[test]
 fn records_that_pass_by(rt: HostRuntime) -> Result<(), Fail> {
     let bytes = certificate(&rt, ARRAY, 4, &[1, 5, 2, 1, 3, 1, 1, 1, 1, 2, 4, 1])?;
@@ -87,7 +87,7 @@ fn records_that_pass_by(rt: HostRuntime) -> Result<(), Fail> {
     Ok(())
 }
 
-/// A record of prices is one, however many lists it has and however long they are.
+// A record of prices is one, however many lists it has and however long they are.
 #[test]
 fn records_of_prices_that_pass_by(rt: HostRuntime) -> Result<(), Fail> {
     for (head, lists, wanted) in [
@@ -108,7 +108,7 @@ fn records_of_prices_that_pass_by(rt: HostRuntime) -> Result<(), Fail> {
     Ok(())
 }
 
-/// What is shown is never wider than nineteen columns.
+// What is shown is never wider than nineteen columns.
 #[test]
 fn lines_that_fit(rt: HostRuntime) {
     for (count, limit, wanted) in [
@@ -146,7 +146,7 @@ fn lines_of_counts_and_searches(rt: HostRuntime) {
     }
 }
 
-/// A desk at this time.
+// A desk at this time.
 fn desk_at(millis: u64) -> Desk {
     Desk {
         millis: Cell::new(millis),
@@ -154,7 +154,7 @@ fn desk_at(millis: u64) -> Desk {
     }
 }
 
-/// After a second the line of a count is shown, and taken away once; without a screen nothing is.
+// After a second the line of a count is shown, and taken away once; without a screen nothing is.
 #[test]
 fn counts_that_are_shown(rt: HostRuntime) {
     for (screen, wanted) in [(true, (1, 2)), (false, (0, 0))] {
@@ -170,7 +170,7 @@ fn counts_that_are_shown(rt: HostRuntime) {
     }
 }
 
-/// The clock is asked once in 1,024 turns.
+// The clock is asked once in 1,024 turns.
 #[test]
 fn searches_that_are_shown(rt: HostRuntime) {
     for (screen, wanted) in [(true, (0, 1, 2)), (false, (0, 0, 0))] {

@@ -3,7 +3,7 @@ use crate::searching::{check_found, search_to};
 use pg_report::{Problem, SearchFault};
 use std::str;
 
-/// A search for the array in no ply, its certificate, and the check of it and of none.
+// A search for the array in no ply, its certificate, and the check of it and of none.
 #[test]
 fn searches(rt: HostRuntime) -> Result<(), Fail> {
     let none: Vec<Box<dyn Bound>> = Vec::new(rt.alloc());

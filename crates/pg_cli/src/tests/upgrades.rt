@@ -3,8 +3,8 @@ use crate::upgrading::upgrade_to;
 use pg_trial::{FailsAt, OneByte, TakesNothing};
 use std::io;
 
-/// The bytes of version 1 become those of version 2, and their number is printed; the writers may take
-/// one byte a call.
+// The bytes of version 1 become those of version 2, and their number is printed; the writers may take
+// one byte a call.
 #[test]
 fn copies(rt: HostRuntime) -> Result<(), Fail> {
     let old = certificate(&rt, ARRAY, 4, &[1, 5, 2, 1, 3, 1, 1, 1, 1, 2, 4, 1])?;
@@ -42,7 +42,7 @@ fn copies_that_are_refused(rt: HostRuntime) -> Result<(), Fail> {
     check_said(&rt, refused.map(|_| 0), "not a certificate of version 1", 1)
 }
 
-/// Reads that fail, and writes of the copy and of the number: 4 each.
+// Reads that fail, and writes of the copy and of the number: 4 each.
 #[test]
 fn copies_of_files_that_fail(rt: HostRuntime) -> Result<(), Fail> {
     let old = certificate(&rt, ARRAY, 4, &[1, 1])?;

@@ -7,28 +7,28 @@ ghost use Rattle.pg_fen.specs.PlacementText.{placement_text};
 use crate::{Diagram, FenFault, Length, LengthFault};
 use std::test::Fail;
 
-/// The length that is written and read again.
+// The length that is written and read again.
 fn read_back(length: Length) -> Result<Length, LengthFault>
     ensures { result ≡ Ok length }
 {
     Length::read(length.write().as_str())
 }
 
-/// One ply more, where that is a length.
+// One ply more, where that is a length.
 fn longer(length: Length) -> Option<Length>
     ensures { IsSome result ↔ (length ≤ 127) }
 {
     Length::from_plies(length.plies() + 1)
 }
 
-/// The diagram that is written and read again.
+// The diagram that is written and read again.
 fn read_diagram_back(diagram: &Diagram) -> Result<Diagram, FenFault>
     ensures { result ≡ Ok diagram.now }
 {
     Diagram::read(diagram.write().as_str())
 }
 
-/// Whether two diagrams are one, by their bytes.
+// Whether two diagrams are one, by their bytes.
 fn same_bytes(a: &Diagram, b: &Diagram) -> bool
     ensures { IsTrue result ↔ (a.now ≡ b.now) }
 {

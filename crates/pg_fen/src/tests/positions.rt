@@ -2,7 +2,7 @@ use super::*;
 use pg_board::{Color, Square};
 use pg_position::{BadPosition, Move, Position};
 
-/// A text of six fields that reads as a position and is written again as it stands.
+// A text of six fields that reads as a position and is written again as it stands.
 fn check_position(rt: &impl Abort, text: &str) {
     match read_position(text) {
         Ok(game) => assert_eq!(rt; write_position(&game).as_str(), text),
@@ -96,13 +96,4 @@ fn after_e4(rt: HostRuntime) {
     assert!(rt; Diagram::of(&position) == diagram);
     assert!(rt; !diagram.matches(&Position::array()));
     assert_eq!(rt; position.side(), Color::Black);
-}
-
-#[test]
-fn text_of_an_impossible_position(rt: HostRuntime) -> Result<(), Fail> {
-    let fault = FenFault::Invalid(BadPosition::Check);
-    let text = format!(in rt.alloc(); "{fault}")?;
-    let wanted = "impossible position: the side that is not to move is in check";
-    assert_eq!(rt; text.as_str(), wanted);
-    Ok(())
 }

@@ -3,7 +3,7 @@ use crate::{legal_moves, next_legal};
 use std::alloc::Global;
 use std::test::Fail;
 
-/// Walks all legal moves by the next one, and compares them with the list.
+// Walks all legal moves by the next one, and compares them with the list.
 fn walk(rt: &impl Abort, alloc: Global, position: &Position, expected: usize) -> Result<(), Fail> {
     let moves = legal_moves(alloc, position)?;
     assert_eq!(rt; moves.len(), expected);
@@ -19,27 +19,12 @@ fn walk(rt: &impl Abort, alloc: Global, position: &Position, expected: usize) ->
 #[test]
 fn walks(rt: HostRuntime) -> Result<(), Fail> {
     walk(&rt, rt.alloc(), &Position::array(), 20)?;
-    walk(
-        &rt,
-        rt.alloc(),
-        &position(&rt, MANY, Color::White, "KQkq", "-"),
-        48,
-    )?;
-    walk(
-        &rt,
-        rt.alloc(),
-        &position(&rt, FEW, Color::White, "-", "-"),
-        14,
-    )?;
-    walk(
-        &rt,
-        rt.alloc(),
-        &position(&rt, MATED, Color::White, "KQkq", "-"),
-        0,
-    )
+    walk(&rt, rt.alloc(), &position(&rt, MANY), 48)?;
+    walk(&rt, rt.alloc(), &position(&rt, FEW), 14)?;
+    walk(&rt, rt.alloc(), &position(&rt, MATED), 0)
 }
 
-/// The next move after one that need not be legal.
+// The next move after one that need not be legal.
 fn next(rt: &impl Abort, position: &Position, text: &str) -> Option<Move> {
     next_legal(position, Some(move_of(rt, text)))
 }
@@ -69,7 +54,7 @@ fn after_illegal_moves(rt: HostRuntime) {
 
 #[test]
 fn promotions_in_order(rt: HostRuntime) -> Result<(), Fail> {
-    let start = position(&rt, "3r3k/4P3/8/8/8/8/8/K7", Color::White, "-", "-");
+    let start = position(&rt, "3r3k/4P3/8/8/8/8/8/K7 w - - 0 1");
     let expected = [
         "a1b1", "a1a2", "a1b2", "e7d8n", "e7d8b", "e7d8r", "e7d8q", "e7e8n", "e7e8b", "e7e8r",
         "e7e8q",
@@ -96,7 +81,7 @@ fn promotions_in_order(rt: HostRuntime) -> Result<(), Fail> {
 
 #[test]
 fn castling_and_en_passant(rt: HostRuntime) -> Result<(), Fail> {
-    let start = position(&rt, "4k3/8/8/3pP3/8/8/8/R3K2R", Color::White, "KQ", "d6");
+    let start = position(&rt, "4k3/8/8/3pP3/8/8/8/R3K2R w KQ d6 0 1");
     assert_eq!(rt; next(&rt, &start, "e1d1"), Some(move_of(&rt, "e1f1")));
     assert_eq!(rt; next(&rt, &start, "e1a1"), Some(move_of(&rt, "e1c1")));
     assert_eq!(rt; next(&rt, &start, "e1f1"), Some(move_of(&rt, "e1g1")));

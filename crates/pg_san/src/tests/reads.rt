@@ -3,7 +3,7 @@ use crate::{SanFault, read};
 use pg_position::Illegal;
 use std::test::Fail;
 
-/// Texts that are read as one move, such as `e2e4`.
+// Texts that are read as one move, such as `e2e4`.
 fn check(rt: &impl Abort, position: &Position, texts: &[&str], wanted: &str) {
     for text in texts {
         assert_eq!(rt; read(position, *text), Ok(move_of(rt, wanted)), "{text}");
@@ -14,10 +14,6 @@ fn check_fault(rt: &impl Abort, position: &Position, texts: &[&str], wanted: San
     for text in texts {
         assert_eq!(rt; read(position, *text), Err(wanted), "{text}");
     }
-}
-
-fn white(rt: &impl Abort, placement: &str, castling: &str) -> Position {
-    position(rt, placement, Color::White, castling, "-")
 }
 
 #[test]
@@ -41,7 +37,7 @@ fn reads_pawns(rt: HostRuntime) {
         &["e4", "ee4", "e2e4", "e2-e4", "e4!?"],
         "e2e4",
     );
-    let promotes = white(&rt, "8/4P3/8/8/8/8/k7/4K3", "");
+    let promotes = position(&rt, "8/4P3/8/8/8/8/k7/4K3 w - - 0 1");
     check(
         &rt,
         &promotes,
@@ -61,7 +57,7 @@ fn reads_pawns(rt: HostRuntime) {
 
 #[test]
 fn reads_captures(rt: HostRuntime) {
-    let passing = position(&rt, "4k3/8/8/3pP3/8/8/8/4K3", Color::White, "", "d6");
+    let passing = position(&rt, "4k3/8/8/3pP3/8/8/8/4K3 w - d6 0 1");
     check(
         &rt,
         &passing,
@@ -82,7 +78,7 @@ fn reads_captures(rt: HostRuntime) {
         &["d6", "e6ep", "exd6=Q", "exd5"],
         SanFault::NoSuchMove,
     );
-    let taking = white(&rt, "4k3/8/8/3p4/4P3/8/8/4K3", "");
+    let taking = position(&rt, "4k3/8/8/3p4/4P3/8/8/4K3 w - - 0 1");
     check(&rt, &taking, &["exd5", "ed5", "e4xd5", "e4-d5"], "e4d5");
     check_fault(
         &rt,
@@ -94,7 +90,7 @@ fn reads_captures(rt: HostRuntime) {
 
 #[test]
 fn reads_castling(rt: HostRuntime) {
-    let both = white(&rt, "4k3/8/8/8/8/8/8/R3K2R", "KQ");
+    let both = position(&rt, "4k3/8/8/8/8/8/8/R3K2R w KQ - 0 1");
     check(
         &rt,
         &both,
@@ -103,7 +99,7 @@ fn reads_castling(rt: HostRuntime) {
     );
     check(&rt, &both, &["0-0-0", "O-O-O", "Kc1", "e1c1"], "e1c1");
     check_fault(&rt, &both, &["Kxg1", "O-Oep"], SanFault::NoSuchMove);
-    let none = white(&rt, "4k3/8/8/8/8/8/8/R3K2R", "");
+    let none = position(&rt, "4k3/8/8/8/8/8/8/R3K2R w - - 0 1");
     check_fault(&rt, &none, &["O-O", "0-0-0", "Kg1"], SanFault::NoSuchMove);
 }
 
@@ -127,12 +123,12 @@ fn refuses(rt: HostRuntime) {
         ],
         SanFault::NoSuchMove,
     );
-    let pinned = white(&rt, "4k3/8/8/8/1b6/2N5/8/4K1N1", "");
+    let pinned = position(&rt, "4k3/8/8/8/1b6/2N5/8/4K1N1 w - - 0 1");
     check(&rt, &pinned, &["Ne2", "Nge2"], "g1e2");
     check_fault(&rt, &pinned, &["Nce2"], SanFault::NoSuchMove);
     let refused = pinned.play(move_of(&rt, "c3e2"));
     assert!(rt; matches!(refused, Err(Illegal::LeavesCheck)));
-    let free = white(&rt, "4k3/8/8/8/8/2N5/8/4K1N1", "");
+    let free = position(&rt, "4k3/8/8/8/8/2N5/8/4K1N1 w - - 0 1");
     check_fault(&rt, &free, &["Ne2", "Se2+"], SanFault::Ambiguous);
 }
 

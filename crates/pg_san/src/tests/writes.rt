@@ -4,7 +4,7 @@ use super::*;
 use crate::{San, read, write};
 use pg_moves::next_legal;
 
-/// Writes a legal move, and reads its text again.
+// Writes a legal move, and reads its text again.
 fn check_both(rt: &impl Abort, position: &Position, m: &Move, wanted: &str)
     requires { IsLegal position.now m.now }
 {
@@ -12,7 +12,7 @@ fn check_both(rt: &impl Abort, position: &Position, m: &Move, wanted: &str)
     assert_eq!(rt; read(position, wanted), Ok(*m), "{wanted}");
 }
 
-/// Writes each legal move in canonical order, and reads each text again.
+// Writes each legal move in canonical order, and reads each text again.
 fn check_all(rt: &impl Abort, position: &Position, expected: &[&str]) {
     let mut last = None;
     for wanted in expected {
@@ -25,7 +25,7 @@ fn check_all(rt: &impl Abort, position: &Position, expected: &[&str]) {
     assert_eq!(rt; next_legal(position, last), None);
 }
 
-/// The text of a move such as `e2e4`, which is to be legal.
+// The text of a move such as `e2e4`, which is to be legal.
 fn text_of(rt: &impl Abort, position: &Position, text: &str) -> San {
     let wanted = move_of(rt, text);
     let mut last = None;
@@ -43,13 +43,9 @@ fn text_of(rt: &impl Abort, position: &Position, text: &str) -> San {
     panic!(rt; "{text} is not legal")
 }
 
-/// A text that is written for a move such as `e2e4`.
+// A text that is written for a move such as `e2e4`.
 fn check(rt: &impl Abort, position: &Position, text: &str, wanted: &str) {
     assert_eq!(rt; text_of(rt, position, text).as_str(), wanted, "{text}");
-}
-
-fn white(rt: &impl Abort, placement: &str) -> Position {
-    position(rt, placement, Color::White, "", "-")
 }
 
 #[test]
@@ -68,7 +64,7 @@ fn writes_each_move_of_the_array(rt: HostRuntime) {
 fn writes_fourteen_moves(rt: HostRuntime) {
     check_all(
         &rt,
-        &white(&rt, "8/2p5/3p4/KP5r/1R3p1k/8/4P1P1/8"),
+        &position(&rt, "8/2p5/3p4/KP5r/1R3p1k/8/4P1P1/8 w - - 0 1"),
         &[
             "e3", "e4", "g3+", "g4", "Rb1", "Rb2", "Rb3", "Ra4", "Rc4", "Rd4", "Re4", "Rxf4+",
             "Ka4", "Ka6",
@@ -80,17 +76,17 @@ fn writes_fourteen_moves(rt: HostRuntime) {
 fn writes_promotions(rt: HostRuntime) {
     check_all(
         &rt,
-        &white(&rt, "3r2k1/4P3/8/8/8/8/8/4K3"),
+        &position(&rt, "3r2k1/4P3/8/8/8/8/8/4K3 w - - 0 1"),
         &[
             "Kf1", "Ke2", "Kf2", "exd8=N", "exd8=B", "exd8=R+", "exd8=Q+", "e8=N", "e8=B", "e8=R+",
             "e8=Q+",
         ],
     );
-    let mates = white(&rt, "6k1/4Pppp/8/8/8/8/8/4K3");
+    let mates = position(&rt, "6k1/4Pppp/8/8/8/8/8/4K3 w - - 0 1");
     check(&rt, &mates, "e7e8q", "e8=Q#");
     check(&rt, &mates, "e7e8r", "e8=R#");
     check(&rt, &mates, "e7e8b", "e8=B");
-    let promotes = white(&rt, "8/4P3/8/8/8/8/k7/4K3");
+    let promotes = position(&rt, "8/4P3/8/8/8/8/k7/4K3 w - - 0 1");
     check(&rt, &promotes, "e7e8q", "e8=Q");
     check(&rt, &promotes, "e7e8n", "e8=N");
 }
@@ -99,10 +95,7 @@ fn writes_promotions(rt: HostRuntime) {
 fn writes_mate(rt: HostRuntime) {
     let fools = position(
         &rt,
-        "rnbqkbnr/pppp1ppp/8/4p3/6P1/5P2/PPPPP2P/RNBQKBNR",
-        Color::Black,
-        "KQkq",
-        "g3",
+        "rnbqkbnr/pppp1ppp/8/4p3/6P1/5P2/PPPPP2P/RNBQKBNR b KQkq g3 0 2",
     );
     check(&rt, &fools, "d8h4", "Qh4#");
     check(&rt, &fools, "d8g5", "Qg5");
@@ -112,45 +105,45 @@ fn writes_mate(rt: HostRuntime) {
 #[test]
 fn tells_men_apart(rt: HostRuntime) {
     check(&rt, &Position::array(), "g1f3", "Nf3");
-    let pinned = white(&rt, "4k3/8/8/8/1b6/2N5/8/4K1N1");
+    let pinned = position(&rt, "4k3/8/8/8/1b6/2N5/8/4K1N1 w - - 0 1");
     check(&rt, &pinned, "g1e2", "Ne2");
-    let free = white(&rt, "4k3/8/8/8/8/2N5/8/4K1N1");
+    let free = position(&rt, "4k3/8/8/8/8/2N5/8/4K1N1 w - - 0 1");
     check(&rt, &free, "g1e2", "Nge2");
     check(&rt, &free, "c3e2", "Nce2");
     check(&rt, &free, "g1f3", "Nf3");
-    let rooks = white(&rt, "4k3/8/8/R7/8/8/8/R3K3");
+    let rooks = position(&rt, "4k3/8/8/R7/8/8/8/R3K3 w - - 0 1");
     check(&rt, &rooks, "a1a3", "R1a3");
     check(&rt, &rooks, "a5a3", "R5a3");
     check(&rt, &rooks, "a1b1", "Rb1");
-    let queens = white(&rt, "8/7k/8/8/8/Q7/8/Q1Q4K");
+    let queens = position(&rt, "8/7k/8/8/8/Q7/8/Q1Q4K w - - 0 1");
     check(&rt, &queens, "a1c3", "Qa1c3");
     check(&rt, &queens, "a3c3", "Q3c3");
     check(&rt, &queens, "c1c3", "Qcc3");
-    let taken = white(&rt, "8/1k6/8/8/8/Q1r5/8/Q1Q4K");
+    let taken = position(&rt, "8/1k6/8/8/8/Q1r5/8/Q1Q4K w - - 0 1");
     check(&rt, &taken, "a1c3", "Qa1xc3");
 }
 
 #[test]
 fn writes_castling(rt: HostRuntime) {
-    let both = position(&rt, "4k3/8/8/8/8/8/8/R3K2R", Color::White, "KQ", "-");
+    let both = position(&rt, "4k3/8/8/8/8/8/8/R3K2R w KQ - 0 1");
     check(&rt, &both, "e1g1", "O-O");
     check(&rt, &both, "e1c1", "O-O-O");
     check(&rt, &both, "e1f1", "Kf1");
-    let short = position(&rt, "5k2/8/8/8/8/8/8/4K2R", Color::White, "K", "-");
+    let short = position(&rt, "5k2/8/8/8/8/8/8/4K2R w K - 0 1");
     check(&rt, &short, "e1g1", "O-O+");
-    let long = position(&rt, "3k4/8/8/8/8/8/8/R3K3", Color::White, "Q", "-");
+    let long = position(&rt, "3k4/8/8/8/8/8/8/R3K3 w Q - 0 1");
     check(&rt, &long, "e1c1", "O-O-O+");
-    let black = position(&rt, "r3k2r/8/8/8/8/8/8/4K3", Color::Black, "kq", "-");
+    let black = position(&rt, "r3k2r/8/8/8/8/8/8/4K3 b kq - 0 1");
     check(&rt, &black, "e8g8", "O-O");
     check(&rt, &black, "e8c8", "O-O-O");
 }
 
 #[test]
 fn writes_captures(rt: HostRuntime) {
-    let passing = position(&rt, "4k3/8/8/3pP3/8/8/8/4K3", Color::White, "", "d6");
+    let passing = position(&rt, "4k3/8/8/3pP3/8/8/8/4K3 w - d6 0 1");
     check(&rt, &passing, "e5d6", "exd6");
     check(&rt, &passing, "e5e6", "e6");
-    let taking = white(&rt, "4k3/8/8/3p4/2P1P3/8/8/4K3");
+    let taking = position(&rt, "4k3/8/8/3p4/2P1P3/8/8/4K3 w - - 0 1");
     check(&rt, &taking, "e4d5", "exd5");
     check(&rt, &taking, "c4d5", "cxd5");
 }

@@ -1,5 +1,5 @@
 use Rattle.std.proofs.Common.{arith}
-use Rattle.pg_moves.specs.Sources.{IsSource}
+use Rattle.pg_moves.specs.numbers.Sources.{IsSource}
 use Rattle.pg_moves.proofs.LeafLemmas.{exact_adds}
 use Rattle.pg_moves.proofs.leaves.count_of_square.Goals as goal
 

@@ -1,5 +1,5 @@
 use Rattle.std.proofs.Common.{arith}
-use Rattle.pg_moves.specs.Places.{place_of}
+use Rattle.pg_moves.specs.numbers.Places.{place_of}
 use Rattle.pg_moves.proofs.LeafLemmas.{walk_start, walk_step, walk_far, walk_end}
 use Rattle.pg_moves.proofs.leaves.walked.Goals as goal
 
@@ -10,10 +10,10 @@ pub loop-m-preserved : goal.loop-m-preserved
 loop-m-preserved c = record {
   target = omega arith;
   place = omega arith;
-  bound = omega (arith, walk_far c.args.position.now c.args.from c.loop-m.to c.loop-m.rank c.in-Some.m c.in-Some.ensures);
+  bound = omega (arith, walk_far c.args.position.now c.args.from c.loop-m.to c.loop-m.number c.in-Some.m c.in-Some.ensures);
   covers = c.loop-m.invariant.covers;
-  walked = walk_step c.args.position.now c.args.from c.loop-m.to c.loop-m.rank c.loop-m.total c.in-Some.m c.index-to.result c.rank_of-rank.result c.loop-m.invariant.walked c.in-Some.ensures c.index-to.ensures.value c.rank_of-rank.ensures.value;
+  walked = walk_step c.args.position.now c.args.from c.loop-m.to c.loop-m.number c.loop-m.total c.in-Some.m c.index-to.result c.promotion_number-number.result c.loop-m.invariant.walked c.in-Some.ensures c.index-to.ensures.value c.promotion_number-number.ensures.value;
 }
 
 pub returns-clause-count : goal.returns-clause-count
-returns-clause-count c = walk_end c.args.position.now c.args.from c.loop-m.to c.loop-m.rank c.loop-m.total c.loop-m.invariant.target c.loop-m.invariant.place c.loop-m.invariant.walked c.in_default.ensures
+returns-clause-count c = walk_end c.args.position.now c.args.from c.loop-m.to c.loop-m.number c.loop-m.total c.loop-m.invariant.target c.loop-m.invariant.place c.loop-m.invariant.walked c.in_default.ensures

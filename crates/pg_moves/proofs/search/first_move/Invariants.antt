@@ -1,12 +1,12 @@
 use Rattle.std.proofs.Common.{◌≤◌, ◌-◌}
-use Rattle.pg_moves.specs.Places.{place_of, NoneFrom}
+use Rattle.pg_moves.specs.numbers.Places.{place_of, NoneFrom}
 use Rattle.pg_moves.proofs.search.first_move.Given as goal
 
 abbrev pub invariant-loop-square : goal.invariant-loop-square
 invariant-loop-square l = record {
   reached : l.from ≤ l.at;
   within : l.at ≤ 64;
-  none : NoneFrom l.position (place_of l.from l.to l.rank) (place_of l.at 0 0);
+  none : NoneFrom l.position (place_of l.from l.to l.number) (place_of l.at 0 0);
 }
 
 abbrev pub decreases-loop-square : goal.decreases-loop-square

@@ -1,5 +1,5 @@
 use Rattle.std.proofs.Common.{◌≤◌, ◌-◌}
-use Rattle.pg_moves.specs.Places.{place_of, NoneFrom}
+use Rattle.pg_moves.specs.numbers.Places.{place_of, NoneFrom}
 use Rattle.pg_moves.specs.Targets.{Covers}
 use Rattle.pg_moves.proofs.search.first_of_man.Given as goal
 
@@ -8,7 +8,7 @@ invariant-loop-square l = record {
   reached : l.to ≤ l.at;
   within : l.at ≤ 64;
   covers : Covers l.position l.from l.set;
-  none : NoneFrom l.position (place_of l.from l.to l.rank) (place_of l.from l.at 0);
+  none : NoneFrom l.position (place_of l.from l.to l.number) (place_of l.from l.at 0);
 }
 
 abbrev pub decreases-loop-square : goal.decreases-loop-square

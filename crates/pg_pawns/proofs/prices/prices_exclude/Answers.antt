@@ -1,5 +1,5 @@
 use Rattle.pg_captures.specs.PriceLists.{list_of}
-use Rattle.pg_pawns.specs.PawnPricesLaw.{pawn_prices_barren}
+use Rattle.pg_pawns.specs.lemmas.PawnPricesLaw.{pawn_prices_barren}
 use Rattle.pg_pawns.proofs.prices.prices_exclude.Goals as goal
 
 pub returns-clause-barren : goal.returns-clause-barren

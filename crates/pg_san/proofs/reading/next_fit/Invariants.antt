@@ -1,8 +1,8 @@
 use Rattle.std.proofs.Common.{◌-◌}
 use Rattle.std.specs.Option.{ForSome}
 use Rattle.pg_moves.specs.Moves.{IsLegal}
-use Rattle.pg_moves.specs.Places.{start_after}
-use Rattle.pg_san.specs.Walk.{WalkedTo}
+use Rattle.pg_moves.specs.numbers.Places.{start_after}
+use Rattle.pg_san.specs.numbers.Walk.{WalkedTo}
 use Rattle.pg_san.proofs.reading.next_fit.Given as goal
 
 abbrev pub invariant-loop-m : goal.invariant-loop-m

@@ -1,12 +1,11 @@
 use Rattle.std.proofs.Common.{Option, bit_and, bit_or, sym, subst}
-use Rattle.pg_travel.specs.Ways.{wing_of, way_of}
-use Rattle.pg_travel.specs.Within.{CostsOnly}
-use Rattle.pg_travel.specs.declared.castling.Castling.{Castling}
+use Rattle.pg_travel.specs.numbers.Within.{CostsOnly}
+use Rattle.pg_position.specs.declared.rights.Wing.{Wing}
 use Rattle.pg_travel.proofs.Within.{costs_free, costs_castled}
 use Rattle.pg_travel.proofs.misplaced.to_come.Goals as goal
 
 pub returns-in-None : goal.returns-in-None
-returns-in-None c = subst (λ (x : Option Castling). CostsOnly c.args.board.now c.args.goal.now c.args.color (way_of x) (bit_and c.squares_of_color-own.result c.differing-moved.result)) (sym c.in-None.is) (costs_free c.args.board.now c.args.goal.now c.args.color c.squares_of_color-own.result c.differing-moved.result c.squares_of_color-own.ensures c.differing-moved.ensures)
+returns-in-None c = subst (λ (x : Option Wing). CostsOnly c.args.board.now c.args.goal.now c.args.color x (bit_and c.squares_of_color-own.result c.differing-moved.result)) (sym c.in-None.is) (costs_free c.args.board.now c.args.goal.now c.args.color c.squares_of_color-own.result c.differing-moved.result c.squares_of_color-own.ensures c.differing-moved.ensures)
 
 pub returns-in-Some : goal.returns-in-Some
-returns-in-Some c = subst (λ (x : Option Castling). CostsOnly c.args.board.now c.args.goal.now c.args.color (way_of x) (bit_and c.squares_of_color-own.result (bit_or c.differing-moved.result 10448351135499550865))) (sym c.in-Some.is) (costs_castled c.args.board.now c.args.goal.now c.args.color (wing_of c.in-Some.field-0) c.squares_of_color-own.result c.differing-moved.result c.squares_of_color-own.ensures c.differing-moved.ensures)
+returns-in-Some c = subst (λ (x : Option Wing). CostsOnly c.args.board.now c.args.goal.now c.args.color x (bit_and c.squares_of_color-own.result (bit_or c.differing-moved.result 10448351135499550865))) (sym c.in-Some.is) (costs_castled c.args.board.now c.args.goal.now c.args.color c.in-Some.field-0 c.squares_of_color-own.result c.differing-moved.result c.squares_of_color-own.ensures c.differing-moved.ensures)

@@ -1,12 +1,11 @@
 use Rattle.std.proofs.Common.{◌≡◌, ◌-◌, ◌≤◌, min}
-use Rattle.pg_travel.specs.Ways.{way_of}
 use Rattle.pg_board.specs.Placement.{get}
-use Rattle.pg_travel.specs.Formulas.{least_of}
-use Rattle.pg_travel.specs.Costs.{reach_from}
+use Rattle.pg_travel.specs.numbers.Formulas.{least_of}
+use Rattle.pg_travel.specs.numbers.Costs.{reach_from}
 use Rattle.pg_travel.proofs.needs.nearer.Given as goal
 
 abbrev pub invariant-loop-o : goal.invariant-loop-o
-invariant-loop-o l = record { is : l.least ≡ min l.best (least_of (λ o. reach_from l.man (way_of l.way) l.kind l.t o (get l.board o)) l.from); within : l.from ≤ 64 }
+invariant-loop-o l = record { is : l.least ≡ min l.best (least_of (λ o. reach_from l.man l.way l.kind l.t o (get l.board o)) l.from); within : l.from ≤ 64 }
 
 abbrev pub decreases-loop-o : goal.decreases-loop-o
 decreases-loop-o l = 64 - l.from

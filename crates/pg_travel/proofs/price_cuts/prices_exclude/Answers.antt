@@ -1,4 +1,4 @@
-use Rattle.pg_travel.specs.TravelPricesLaw.{travel_prices_barren}
+use Rattle.pg_travel.specs.lemmas.TravelPricesLaw.{travel_prices_barren}
 use Rattle.pg_travel.proofs.price_cuts.prices_exclude.Goals as goal
 
 pub returns-clause-barren : goal.returns-clause-barren

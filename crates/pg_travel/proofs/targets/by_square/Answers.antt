@@ -1,7 +1,7 @@
 use Rattle.std.proofs.Common.{arith, get_or, refl, ◌∙◌}
 use Rattle.std.proofs.Math.ListN.{length-set}
 use Rattle.pg_captures.specs.Counting.{any_man}
-use Rattle.pg_captures.specs.PlaceLemmas.{marks_men, place_first, index_low, index_within, index_next}
+use Rattle.pg_captures.specs.lemmas.PlaceLemmas.{marks_men, place_first, index_low, index_within, index_next}
 use Rattle.pg_travel.proofs.PriceLemmas.{written_next, written_all}
 use Rattle.pg_travel.proofs.targets.by_square.Goals as goal
 

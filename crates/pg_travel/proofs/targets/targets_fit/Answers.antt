@@ -2,9 +2,8 @@ use Rattle.std.proofs.Common.{sym, arith, ◌∙◌}
 use Rattle.pg_board.specs.Placement.{get}
 use Rattle.pg_captures.specs.Counting.{any_man}
 use Rattle.pg_captures.specs.PriceLists.{price}
-use Rattle.pg_captures.specs.PlaceLemmas.{marks_men, place_first, index_low, index_within, price_at, index_next, seen_next, all_last}
-use Rattle.pg_travel.specs.PriceTests.{StoodFits}
-use Rattle.pg_travel.specs.Ways.{way_of}
+use Rattle.pg_captures.specs.lemmas.PlaceLemmas.{marks_men, place_first, index_low, index_within, price_at, index_next, seen_next, all_last}
+use Rattle.pg_travel.specs.numbers.PriceTests.{StoodFits}
 use Rattle.pg_travel.proofs.PriceLemmas.{stood_free, stood_paid, targets_all, targets_not}
 use Rattle.pg_travel.proofs.targets.targets_fit.Goals as goal
 
@@ -20,12 +19,12 @@ overflow_add-place c = omega (arith, index_low c.args.color any_man c.args.goal.
 pub loop-t-preserved : goal.loop-t-preserved
 loop-t-preserved c = record {
   is = index_next c.args.color any_man c.args.goal.now c.squares_of_color-own.result c.loop-t.place c.loop-t.from c.in-Some.t c.index-from.result (marks_men c.args.goal.now c.args.color c.squares_of_color-own.result c.squares_of_color-own.ensures) c.loop-t.invariant.is c.in-Some.ensures c.index-from.ensures.value;
-  seen = seen_next (λ x. StoodFits c.args.board.now c.args.color (way_of c.args.way) c.args.prices.now (get c.args.goal.now x) x (price c.args.v.now c.args.color any_man c.args.goal.now x)) c.squares_of_color-own.result c.loop-t.from c.in-Some.t c.index-from.result (λ x l e. stood_free c.args.board.now c.args.color (way_of c.args.way) c.args.prices.now (get c.args.goal.now x) x (price c.args.v.now c.args.color any_man c.args.goal.now x) (sym (c.squares_of_color-own.ensures x l) ∙ e)) c.loop-t.invariant.seen c.in-Some.ensures c.index-from.ensures.value (stood_paid c.args.board.now c.args.color (way_of c.args.way) c.args.prices.now c.in-Some.t (get c.args.goal.now c.in-Some.t) _ _ (price_at c.args.v.now c.args.color any_man c.args.goal.now c.squares_of_color-own.result c.loop-t.place c.loop-t.from c.in-Some.t (marks_men c.args.goal.now c.args.color c.squares_of_color-own.result c.squares_of_color-own.ensures) c.loop-t.invariant.is c.in-Some.ensures) (c.target_fits.ensures.0 c.if-not-target_fits.false));
+  seen = seen_next (λ x. StoodFits c.args.board.now c.args.color c.args.way c.args.prices.now (get c.args.goal.now x) x (price c.args.v.now c.args.color any_man c.args.goal.now x)) c.squares_of_color-own.result c.loop-t.from c.in-Some.t c.index-from.result (λ x l e. stood_free c.args.board.now c.args.color c.args.way c.args.prices.now (get c.args.goal.now x) x (price c.args.v.now c.args.color any_man c.args.goal.now x) (sym (c.squares_of_color-own.ensures x l) ∙ e)) c.loop-t.invariant.seen c.in-Some.ensures c.index-from.ensures.value (stood_paid c.args.board.now c.args.color c.args.way c.args.prices.now c.in-Some.t (get c.args.goal.now c.in-Some.t) _ _ (price_at c.args.v.now c.args.color any_man c.args.goal.now c.squares_of_color-own.result c.loop-t.place c.loop-t.from c.in-Some.t (marks_men c.args.goal.now c.args.color c.squares_of_color-own.result c.squares_of_color-own.ensures) c.loop-t.invariant.is c.in-Some.ensures) (c.target_fits.ensures.0 c.if-not-target_fits.false));
   within = omega (arith, c.index-from.ensures.value, c.index-from.ensures.bound);
 }
 
 pub returns-then-not-target_fits : goal.returns-then-not-target_fits
-returns-then-not-target_fits c = targets_not c.args.board.now c.args.goal.now c.args.color (way_of c.args.way) c.args.prices.now c.args.v.now c.in-Some.t c.in-Some.ensures.on_board (λ h. absurd (let e = c.target_fits.ensures.1 (stood_paid c.args.board.now c.args.color (way_of c.args.way) c.args.prices.now c.in-Some.t (get c.args.goal.now c.in-Some.t) _ _ (sym (price_at c.args.v.now c.args.color any_man c.args.goal.now c.squares_of_color-own.result c.loop-t.place c.loop-t.from c.in-Some.t (marks_men c.args.goal.now c.args.color c.squares_of_color-own.result c.squares_of_color-own.ensures) c.loop-t.invariant.is c.in-Some.ensures)) h) in let f = c.if-not-target_fits.true in cc))
+returns-then-not-target_fits c = targets_not c.args.board.now c.args.goal.now c.args.color c.args.way c.args.prices.now c.args.v.now c.in-Some.t c.in-Some.ensures.on_board (λ h. absurd (let e = c.target_fits.ensures.1 (stood_paid c.args.board.now c.args.color c.args.way c.args.prices.now c.in-Some.t (get c.args.goal.now c.in-Some.t) _ _ (sym (price_at c.args.v.now c.args.color any_man c.args.goal.now c.squares_of_color-own.result c.loop-t.place c.loop-t.from c.in-Some.t (marks_men c.args.goal.now c.args.color c.squares_of_color-own.result c.squares_of_color-own.ensures) c.loop-t.invariant.is c.in-Some.ensures)) h) in let f = c.if-not-target_fits.true in cc))
 
 pub returns : goal.returns
-returns c = targets_all c.args.board.now c.args.goal.now c.args.color (way_of c.args.way) c.args.prices.now c.args.v.now (all_last (λ x. StoodFits c.args.board.now c.args.color (way_of c.args.way) c.args.prices.now (get c.args.goal.now x) x (price c.args.v.now c.args.color any_man c.args.goal.now x)) c.squares_of_color-own.result c.loop-t.from (λ x l e. stood_free c.args.board.now c.args.color (way_of c.args.way) c.args.prices.now (get c.args.goal.now x) x (price c.args.v.now c.args.color any_man c.args.goal.now x) (sym (c.squares_of_color-own.ensures x l) ∙ e)) c.loop-t.invariant.seen c.in_default.ensures)
+returns c = targets_all c.args.board.now c.args.goal.now c.args.color c.args.way c.args.prices.now c.args.v.now (all_last (λ x. StoodFits c.args.board.now c.args.color c.args.way c.args.prices.now (get c.args.goal.now x) x (price c.args.v.now c.args.color any_man c.args.goal.now x)) c.squares_of_color-own.result c.loop-t.from (λ x l e. stood_free c.args.board.now c.args.color c.args.way c.args.prices.now (get c.args.goal.now x) x (price c.args.v.now c.args.color any_man c.args.goal.now x) (sym (c.squares_of_color-own.ensures x l) ∙ e)) c.loop-t.invariant.seen c.in_default.ensures)

@@ -1,8 +1,9 @@
-use Rattle.pg_captures.specs.Decided.{promotions_test_is}
+use Rattle.pg_board.specs.lemmas.Decisions.{answer_is}
+use Rattle.pg_captures.specs.Decided.{dec_promotions}
 use Rattle.pg_captures.proofs.promotions.PromotionsBound.excludes.Goals as goal
 
 pub returns : goal.returns
 returns c = record {
-  fixed = promotions_test_is c.args.diagram.now c.args.position.now c.promotions_hold.result c.promotions_hold.ensures;
+  fixed = answer_is c.promotions_hold.result c.promotions_hold.ensures (dec_promotions c.args.diagram.now c.args.position.now);
   exact = c.promotions_hold.ensures;
 }

@@ -5,7 +5,7 @@ use Rattle.pg_moves.proofs.left.LegalMoves.first.Goals as goal
 
 pub returns-in-Some : goal.returns-in-Some
 unfolding IsAhead
-returns-in-Some c = (next_found c.args.position.now None c.in-Some.m tt c.in-Some.ensures.first, (c.tried-tried.ensures, c.in-Some.ensures.source))
+returns-in-Some c = (next_found c.args.position.now None c.in-Some.m tt c.in-Some.ensures.first, (c.maybe_pinned-maybe_pinned.ensures, c.in-Some.ensures.source))
 
 pub returns-in-None : goal.returns-in-None
 returns-in-None c = next_none c.args.position.now None tt c.in-None.ensures

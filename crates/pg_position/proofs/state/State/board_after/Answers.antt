@@ -1,9 +1,8 @@
-use Rattle.std.proofs.Common.{arith}
-use Rattle.pg_position.proofs.StepLemmas.{passed_white, passed_black}
+use Rattle.std.proofs.Common.{subst, sym}
+use Rattle.pg_board.specs.declared.man.Color.{Color}
+use Rattle.pg_position.specs.Position.{HasAhead}
+use Rattle.pg_position.proofs.StepLemmas.{taken_on_board}
 use Rattle.pg_position.proofs.state.State.board_after.Goals as goal
 
-pub overflow_sub-index : goal.overflow_sub-index
-overflow_sub-index c = omega (arith, passed_white _ _ _ _ c.requires.position c.requires.way c.in-EnPassant.is c.in-White.is)
-
-pub at-taken-requires-in-Black : goal.at-taken-requires-in-Black
-at-taken-requires-in-Black c = omega (arith, passed_black _ _ _ _ c.requires.position c.requires.way c.in-EnPassant.is c.in-Black.is)
+pub ahead-requires : goal.ahead-requires
+ahead-requires c = subst (λ (x : Color). HasAhead x 1 c.args.m.now.to) (sym c.other.ensures) (taken_on_board _ _ _ _ c.requires.position c.requires.way c.in-EnPassant.is)

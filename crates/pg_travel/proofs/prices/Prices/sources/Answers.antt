@@ -1,6 +1,6 @@
 use Rattle.std.proofs.Common.{sym, ap, ◌∙◌}
 use Rattle.pg_travel.specs.PriceRecords.{sources}
-use Rattle.pg_travel.specs.Rows.{sources_of}
+use Rattle.pg_travel.specs.numbers.Rows.{sources_of}
 use Rattle.pg_travel.proofs.prices.Prices.sources.Goals as goal
 
 pub returns-clause-number : goal.returns-clause-number

@@ -1,6 +1,6 @@
 use Rattle.std.proofs.Common.{sym, ap, ◌∙◌}
 use Rattle.pg_travel.specs.PriceRecords.{targets}
-use Rattle.pg_travel.specs.Rows.{targets_of}
+use Rattle.pg_travel.specs.numbers.Rows.{targets_of}
 use Rattle.pg_travel.proofs.prices.Prices.targets.Goals as goal
 
 pub returns-clause-number : goal.returns-clause-number

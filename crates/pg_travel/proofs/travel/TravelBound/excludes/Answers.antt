@@ -1,8 +1,9 @@
-use Rattle.pg_travel.specs.Decided.{travel_test_is}
+use Rattle.pg_board.specs.lemmas.Decisions.{answer_is}
+use Rattle.pg_travel.specs.Decided.{dec_travel}
 use Rattle.pg_travel.proofs.travel.TravelBound.excludes.Goals as goal
 
 pub returns : goal.returns
 returns c = record {
-  fixed = travel_test_is c.args.diagram.now c.args.position.now c.args.left c.travel_holds.result c.travel_holds.ensures;
+  fixed = answer_is c.travel_holds.result c.travel_holds.ensures (dec_travel c.args.diagram.now c.args.position.now c.args.left);
   exact = c.travel_holds.ensures;
 }

@@ -1,0 +1,9 @@
+pub mod StepCounts
+pub mod Potential
+pub mod CapturesLaw
+pub mod PromotionsLaw
+pub mod BoardLemmas
+pub mod MoveLemmas
+pub mod Duality
+pub mod PriceSums
+pub mod PlaceLemmas

@@ -1,6 +1,0 @@
--- The lemma of Chess.
-use Rattle.pg_checker.proofs.Chess.{yes_is_exact}
-use Rattle.pg_checker.proofs.chess_laws.headline_law.Goals as goal
-
-pub returns : goal.returns
-returns c = yes_is_exact

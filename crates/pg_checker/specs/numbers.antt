@@ -1,0 +1,7 @@
+pub mod Frames
+pub mod Table
+pub mod Machine
+pub mod Halting
+pub mod Steps
+pub mod Judging
+pub mod Checking

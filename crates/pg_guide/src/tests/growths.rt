@@ -1,0 +1,50 @@
+use super::*;
+use pg_checker::Fault;
+use pg_report::RunFault;
+use pg_san::GamesFault;
+use pg_trial::{Counted, named_expansions};
+
+// The answer to e4 e5 by a certificate of 22 named expansions, and how many bytes were written.
+fn named_run(rt: &impl Abort, alloc: Global) -> (Result<(), WhyFault>, usize) {
+    let bytes = named_expansions(&Diagram::read(AFTER_E4_E5).expect(rt, AFTER_E4_E5));
+    let asked = Asked {
+        diagram: AFTER_E4_E5,
+        length: "1.0",
+        moves: "e4",
+    };
+    let bounds: Vec<Box<dyn Bound>> = Vec::new(alloc);
+    let mut out = ToWrite::new(Counted::new());
+    let answer = why(
+        alloc,
+        &asked,
+        &bounds,
+        &mut FromRead::new(bytes.as_slice()),
+        &mut FromRead::new(bytes.as_slice()),
+        &mut FromRead::new(bytes.as_slice()),
+        &mut out,
+        MANY,
+        22,
+    );
+    (answer, out.into_inner().bytes())
+}
+
+// How many bytes three lines have: of the start, of the node after e4, and the verdict.
+const BYTES: usize = 51 + 47 + 25;
+
+// Passes too where `rt try --test --fail-alloc N` refuses the N-th growth: want of memory is told,
+// with nothing written.
+#[test]
+fn refused_growths(rt: HostRuntime) {
+    for _ in 0..9u8 {
+        let (answer, bytes) = named_run(&rt, rt.alloc());
+        match answer {
+            Ok(()) => assert_eq!(rt; bytes, BYTES),
+            Err(WhyFault::Moves) => assert!(rt; false),
+            Err(WhyFault::Run(fault)) => {
+                let games = fault == RunFault::Games(GamesFault::Memory);
+                assert!(rt; games || fault == RunFault::Check(Fault::Memory));
+                assert_eq!(rt; bytes, 0);
+            }
+        }
+    }
+}

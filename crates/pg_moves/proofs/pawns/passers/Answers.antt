@@ -1,8 +1,0 @@
-use Rattle.pg_moves.proofs.QuietLemmas.{passes_back, none_passed}
-use Rattle.pg_moves.proofs.pawns.passers.Goals as goal
-
-pub returns-in-Some : goal.returns-in-Some
-returns-in-Some c = passes_back c.args.position.now c.board.result c.side.result c.other.result c.in-Some.square c.reach.result c.passed.result c.side.ensures.value c.other.ensures c.in-Some.is c.passed.ensures c.reach.ensures
-
-pub returns-in-None : goal.returns-in-None
-returns-in-None c = none_passed c.args.position.now c.passed.result c.in-None.is c.passed.ensures

@@ -1,0 +1,2 @@
+pub mod PawnFilesLaw
+pub mod PawnPricesLaw

@@ -1,0 +1,16 @@
+mod assignments;
+mod distances;
+mod memories;
+
+use super::*;
+use pg_board::Color;
+use pg_fen::{Diagram, read_position};
+use pg_position::Position;
+use std::process::Abort;
+
+// A number that follows another one, the same at each run.
+fn next(state: u64) -> u64 {
+    let state = state ^ (state << 13);
+    let state = state ^ (state >> 7);
+    state ^ (state << 17)
+}

@@ -1,0 +1,2 @@
+pub mod Plies
+pub mod Copying

@@ -1,0 +1,13 @@
+pub mod SumLemmas
+pub mod Decisions
+pub mod OriginsLemmas
+pub mod NeedLemmas
+pub mod PairTests
+pub mod Tables
+pub mod WalkLemmas
+pub mod Pieces
+pub mod PawnTables
+pub mod Pawns
+pub mod Values
+pub mod Least
+pub mod TravelPricesLaw

@@ -1,0 +1,114 @@
+-- The distances of men other than pawns.
+use Rattle.std.proofs.Common.{◌≡◌, ◌≢◌, ℕ, ◌<◌, ◌≤◌, ◌⊎◌, inl, inr, Option, Some, None, Bool, true, false, ◌&&◌, ◌||◌, not, eqb, leb, refl, sym, ap, subst, arith, ◌∙◌}
+use Rattle.std.proofs.lemmas.Bool.Decides.{eqb_tells, nat_tests}
+use Rattle.pg_board.specs.declared.man.Color.{Color}
+use Rattle.pg_board.specs.declared.man.Kind.{Kind}
+use Rattle.pg_board.specs.declared.man.Kind.TheVariants.{Pawn, Knight, Bishop, Rook, Queen, King}
+use Rattle.pg_board.specs.Squares.{file, rank}
+use Rattle.pg_position.specs.Geometry.{InPattern}
+use Rattle.pg_captures.specs.FreeSteps.{StepsTo, Becomes, FreeStep}
+use Rattle.pg_travel.specs.Walks.{DistanceIs}
+use Rattle.pg_travel.specs.numbers.Formulas.{files, ranks, king, rook, bishop, queen, knight, piece, answer, PieceLaw}
+use Rattle.pg_travel.specs.lemmas.PairTests.{Fits, fits}
+use Rattle.pg_travel.specs.lemmas.Tables.{knight_to, bishop_to, rook_to, queen_to, king_to, knight_fits, bishop_fits, rook_fits, queen_fits, king_fits}
+use Rattle.pg_travel.specs.lemmas.WalkLemmas.{Local, distance}
+
+abbrev pub goes_to : Kind → ℕ → ℕ → Bool
+goes_to Pawn r s = false
+goes_to Knight r s = knight_to r s
+goes_to Bishop r s = bishop_to r s
+goes_to Rook r s = rook_to r s
+goes_to Queen r s = queen_to r s
+goes_to King r s = king_to r s
+
+knight_tests : (a b : ℕ) → (((eqb a 1 && eqb b 2) || (eqb a 2 && eqb b 1)) ≡ true → ((a ≡ 1) × (b ≡ 2)) ⊎ ((a ≡ 2) × (b ≡ 1))) × (((a ≡ 1) × (b ≡ 2)) ⊎ ((a ≡ 2) × (b ≡ 1)) → ((eqb a 1 && eqb b 2) || (eqb a 2 && eqb b 1)) ≡ true)
+knight_tests a b = (λ h. grind (arith, nat_tests), λ h. grind (arith, nat_tests))
+
+bishop_tests : (r s a b : ℕ) → ((not (eqb r s) && eqb a b) ≡ true → (r ≢ s) × (a ≡ b)) × ((r ≢ s) × (a ≡ b) → (not (eqb r s) && eqb a b) ≡ true)
+bishop_tests r s a b = (λ h. grind (arith, nat_tests), λ h. grind (arith, nat_tests))
+
+rook_tests : (r s a b c d : ℕ) → ((not (eqb r s) && (eqb a b || eqb c d)) ≡ true → (r ≢ s) × ((a ≡ b) ⊎ (c ≡ d))) × ((r ≢ s) × ((a ≡ b) ⊎ (c ≡ d)) → (not (eqb r s) && (eqb a b || eqb c d)) ≡ true)
+rook_tests r s a b c d = (λ h. grind (arith, nat_tests), λ h. grind (arith, nat_tests))
+
+queen_tests : (r s a b c d e f : ℕ) → ((not (eqb r s) && ((eqb a b || eqb c d) || eqb e f)) ≡ true → (r ≢ s) × (((a ≡ b) ⊎ (c ≡ d)) ⊎ (e ≡ f))) × ((r ≢ s) × (((a ≡ b) ⊎ (c ≡ d)) ⊎ (e ≡ f)) → (not (eqb r s) && ((eqb a b || eqb c d) || eqb e f)) ≡ true)
+queen_tests r s a b c d e f = (λ h. grind (arith, nat_tests), λ h. grind (arith, nat_tests))
+
+king_tests : (r s a b : ℕ) → ((not (eqb r s) && (leb a 1 && leb b 1)) ≡ true → (r ≢ s) × (a ≤ 1) × (b ≤ 1)) × ((r ≢ s) × (a ≤ 1) × (b ≤ 1) → (not (eqb r s) && (leb a 1 && leb b 1)) ≡ true)
+king_tests r s a b = (λ h. grind (arith, nat_tests), λ h. grind (arith, nat_tests))
+
+pattern_of : (c : Color) (k : Kind) (r s : ℕ) → k ≢ Pawn → goes_to k r s ≡ true → InPattern c k r s
+unfolding InPattern knight_to bishop_to rook_to queen_to king_to
+pattern_of c Pawn r s ne h = absurd (ne refl)
+pattern_of c Knight r s ne h = (knight_tests (files r s) (ranks r s)).0 h
+pattern_of c Bishop r s ne h = (bishop_tests r s (files r s) (ranks r s)).0 h
+pattern_of c Rook r s ne h = (rook_tests r s (file r) (file s) (rank r) (rank s)).0 h
+pattern_of c Queen r s ne h = (queen_tests r s (file r) (file s) (rank r) (rank s) (files r s) (ranks r s)).0 h
+pattern_of c King r s ne h = (king_tests r s (files r s) (ranks r s)).0 h
+
+test_of : (c : Color) (k : Kind) (r s : ℕ) → k ≢ Pawn → InPattern c k r s → goes_to k r s ≡ true
+unfolding InPattern knight_to bishop_to rook_to queen_to king_to
+test_of c Pawn r s ne h = absurd (ne refl)
+test_of c Knight r s ne h = (knight_tests (files r s) (ranks r s)).1 h
+test_of c Bishop r s ne h = (bishop_tests r s (files r s) (ranks r s)).1 h
+test_of c Rook r s ne h = (rook_tests r s (file r) (file s) (rank r) (rank s)).1 h
+test_of c Queen r s ne h = (queen_tests r s (file r) (file s) (rank r) (rank s) (files r s) (ranks r s)).1 h
+test_of c King r s ne h = (king_tests r s (files r s) (ranks r s)).1 h
+
+pub piece_step : (c : Color) (k : Kind) (r : ℕ) (i : Kind) (t : ℕ) → k ≢ Pawn → FreeStep c k r i t → (i ≡ k) × (goes_to k r t ≡ true)
+unfolding StepsTo Becomes
+piece_step c Pawn r i t ne f = absurd (ne refl)
+piece_step c Knight r i t ne f = (f.3, test_of c Knight r t ne f.2)
+piece_step c Bishop r i t ne f = (f.3, test_of c Bishop r t ne f.2)
+piece_step c Rook r i t ne f = (f.3, test_of c Rook r t ne f.2)
+piece_step c Queen r i t ne f = (f.3, test_of c Queen r t ne f.2)
+piece_step c King r i t ne f = (f.3, test_of c King r t ne f.2)
+
+pub piece_free : (c : Color) (k : Kind) (r t : ℕ) → k ≢ Pawn → r < 64 → t < 64 → goes_to k r t ≡ true → FreeStep c k r k t
+unfolding StepsTo Becomes
+piece_free c Pawn r t ne lr lt h = absurd (ne refl)
+piece_free c Knight r t ne lr lt h = (lr, lt, pattern_of c Knight r t ne h, refl)
+piece_free c Bishop r t ne lr lt h = (lr, lt, pattern_of c Bishop r t ne h, refl)
+piece_free c Rook r t ne lr lt h = (lr, lt, pattern_of c Rook r t ne h, refl)
+piece_free c Queen r t ne lr lt h = (lr, lt, pattern_of c Queen r t ne h, refl)
+piece_free c King r t ne lr lt h = (lr, lt, pattern_of c King r t ne h, refl)
+
+pub piece_fits : (k : Kind) → k ≢ Pawn → Fits true (goes_to k) (piece k) (piece k)
+piece_fits Pawn ne = absurd (ne refl)
+piece_fits Knight ne = fits true knight_to knight knight knight_fits
+piece_fits Bishop ne = fits true bishop_to bishop bishop bishop_fits
+piece_fits Rook ne = fits true rook_to rook rook rook_fits
+piece_fits Queen ne = fits true queen_to queen queen queen_fits
+piece_fits King ne = fits true king_to king king king_fits
+
+piece_local : (c : Color) (k : Kind) → k ≢ Pawn → Local c k (λ i. i ≡ k) (λ i. piece k)
+piece_local c k ne =
+    record {
+      closed = λ i i' r t e f. (piece_step c i r i' t (λ h. ne (sym e ∙ h)) f).0 ∙ e;
+      home = λ r low. (piece_fits k ne).at_home r low refl;
+      falls = λ i r s e lr ls.
+          elim ((piece_fits k ne).falls r s lr ls) [
+            | inl h ↦ inl (e, h.1)
+            | inr h ↦ inr (elim h [
+              | inl g ↦ inl g
+              | inr g ↦ inr (k, g.0, subst (λ (x : Kind). FreeStep c x r k g.0) (sym e) (piece_free c k r g.0 ne lr g.1 g.2), g.3, g.4)
+            ])
+          ];
+      steady = λ i i' r t s e ls f.
+          (let f' : FreeStep c k r i' t = subst (λ (x : Kind). FreeStep c x r i' t) e f in
+          (piece_fits k ne).steady r t s f.0 f.1 ls (piece_step c k r i' t ne f').1);
+    }
+
+pub piece_distance : PieceLaw
+piece_distance c k r s ne lr ls = distance c k (λ i. i ≡ k) (λ i. piece k) (piece_local c k ne) k r s refl lr ls
+
+pub answer_none : (n : ℕ) → n ≡ 64 → answer n ≡ None
+answer_none n e = elim (eqb_tells n 64) [ inl w ↦ rw w.0 refl | inr w ↦ absurd (w.1 e) ]
+
+pub answer_some : (n : ℕ) → n ≢ 64 → answer n ≡ Some n
+answer_some n ne = elim (eqb_tells n 64) [ inl w ↦ absurd (ne w.1) | inr w ↦ rw w.0 refl ]
+
+pub none_by_steps : (c : Color) (k : Kind) (r s n : ℕ) → k ≢ Pawn → r < 64 → s < 64 → n ≡ piece k r s → n ≡ 64 → DistanceIs c k r k s None
+none_by_steps c k r s n ne lr ls e f = subst (λ (o : Option ℕ). DistanceIs c k r k s o) (answer_none (piece k r s) (sym e ∙ f)) (piece_distance c k r s ne lr ls)
+
+pub some_by_steps : (c : Color) (k : Kind) (r s n : ℕ) → k ≢ Pawn → r < 64 → s < 64 → n ≡ piece k r s → n ≢ 64 → DistanceIs c k r k s (Some n)
+some_by_steps c k r s n ne lr ls e f = subst (λ (o : Option ℕ). DistanceIs c k r k s o) (answer_some (piece k r s) (λ g. f (e ∙ g)) ∙ ap (λ (x : ℕ). Some x) (sym e)) (piece_distance c k r s ne lr ls)
