@@ -8,7 +8,8 @@ use Rattle.std.proofs.lemmas.Nat.{ones_le_self, leading_top}
 use Rattle.std.specs.Int.Count.{ones_step}
 use Rattle.std.proofs.lemmas.Nat.Bits.{bit_at_lowest, bit_at-suc, bit_at-zero, bit_at_and, bit_at_or, bit_at-lt, same_from_bits_below, bit_at_cat_low, bit_at_cat_high, bit_at_set_same, bit_at_set_other, bit_at_clear_same, bit_at_clear_other, bit_at-trailing_zeros, bit_at_above, bit_at_xor}
 use Rattle.std.specs.Int.Bits.{bit_xor}
-use Rattle.pg_board.specs.Tally.{one, count_below, total-none, total-first, count_below_same}
+use Rattle.pg_board.specs.Tally.{one, count_below}
+use Rattle.pg_board.specs.lemmas.Sums.{total-none, total-first, count_below_same}
 
 -- that the square q is in the set n
 abbrev pub has : ℕ → ℕ → Bool

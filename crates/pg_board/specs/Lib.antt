@@ -1,7 +1,9 @@
 pub mod Squares
 pub mod Men
-pub mod Tally
 pub mod Placement
+pub mod Tally
+pub mod Equality
 pub mod Bits
+pub mod SquareSets
 pub mod lemmas
 pub mod numbers

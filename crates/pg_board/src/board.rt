@@ -1,13 +1,16 @@
 ghost use Rattle.std.specs.Prelude.{◌≡◌, ℕ, ◌<◌, ◌≢◌, ◌↔◌, IsTrue, MatchOption, Some, false};
 ghost use Rattle.std.specs.Cmp.{partial_equiv_from_equiv, decided};
 ghost use Rattle.pg_board.specs.Men.{king_of, is_man, is_of, is_held};
-ghost use Rattle.pg_board.specs.Placement.{placement_eq, placement_eq_decides, placement_of, get, empty, put, without, count_of, IsFirst};
+ghost use Rattle.pg_board.specs.Placement.{placement_of, get, empty, put, without, IsFirst};
+ghost use Rattle.pg_board.specs.Equality.{placement_eq, placement_eq_decides};
+ghost use Rattle.pg_board.specs.Tally.{count_of};
 ghost use Rattle.pg_board.specs.Bits.{has};
 ghost use Rattle.pg_board.specs.numbers.Sets.{man_in, IsSound};
 
 use crate::man::{Color, Kind, Man};
 use crate::sets::{Sets, color_set, differing, man_at, man_set, replaced, same_sets};
 use crate::square::Square;
+use crate::square_set::SquareSet;
 use std::marker::Model;
 
 /// Which man stands on each of the 64 squares. Contracts see it as a placement, a finite map from
@@ -18,7 +21,8 @@ pub struct Board {
 }
 
 impl Model for Board {
-    ghost use Rattle.pg_board.specs.Placement.{Placement, placement_code, placement_of};
+    ghost use Rattle.pg_board.specs.Placement.{Placement, placement_of};
+    ghost use Rattle.pg_board.specs.lemmas.Codes.{placement_code};
     ghost use Rattle.pg_board.specs.numbers.Sets.{man_in, IsSound, sets_of, sets_of-placement_of};
 
     ghost Value = { Placement };
@@ -121,32 +125,32 @@ impl Board {
         }
     }
 
-    /// The squares with this man, as a set: bit q is 1 where it stands on the square with index q.
-    pub fn squares_of(&self, man: Man) -> u64
+    /// The squares with this man.
+    pub fn squares_of(&self, man: Man) -> SquareSet
         ensures { (q : ℕ) → q < 64 → has result q ≡ is_man man (get self.now q) }
     {
-        man_set(&self.sets, man)
+        SquareSet::of_bits(man_set(&self.sets, man))
     }
 
-    /// The squares with a man of this colour, as a set of bits.
-    pub fn squares_of_color(&self, color: Color) -> u64
+    /// The squares with a man of this colour.
+    pub fn squares_of_color(&self, color: Color) -> SquareSet
         ensures { (q : ℕ) → q < 64 → has result q ≡ is_of color (get self.now q) }
     {
-        color_set(&self.sets, color)
+        SquareSet::of_bits(color_set(&self.sets, color))
     }
 
-    /// The squares with a man, as a set of bits.
-    pub fn occupied(&self) -> u64
+    /// The squares with a man.
+    pub fn occupied(&self) -> SquareSet
         ensures { (q : ℕ) → q < 64 → has result q ≡ is_held (get self.now q) }
     {
-        self.sets.white | self.sets.black
+        SquareSet::of_bits(self.sets.white | self.sets.black)
     }
 
-    /// The squares that do not hold the same on both boards, as a set of bits.
-    pub fn differing(&self, other: &Board) -> u64
+    /// The squares that do not hold the same on both boards.
+    pub fn differing(&self, other: &Board) -> SquareSet
         ensures { (q : ℕ) → q < 64 → (has result q ≡ false) ↔ (get self.now q ≡ get other.now q) }
     {
-        differing(&self.sets, &other.sets)
+        SquareSet::of_bits(differing(&self.sets, &other.sets))
     }
 }
 

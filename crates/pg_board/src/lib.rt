@@ -6,12 +6,14 @@ mod man;
 mod packed;
 mod sets;
 mod square;
+mod square_set;
 
 pub use board::Board;
 pub use man::{Color, Kind, Man};
 pub use packed::PackedBoard;
-pub use sets::{Sets, contains};
+pub use sets::Sets;
 pub use square::Square;
+pub use square_set::{SquareSet, Squares};
 
 #[cfg(test)]
 mod tests;

@@ -55,7 +55,8 @@ pub struct PackedBoard {
 }
 
 impl Model for PackedBoard {
-    ghost use Rattle.pg_board.specs.Placement.{Placement, placement_code, placement_of};
+    ghost use Rattle.pg_board.specs.Placement.{Placement, placement_of};
+    ghost use Rattle.pg_board.specs.lemmas.Codes.{placement_code};
     ghost use Rattle.pg_board.specs.numbers.Packed.{unpacked};
     ghost use Rattle.pg_board.specs.numbers.Sets.{man_in, IsSound};
 

@@ -19,8 +19,8 @@ pub struct Sets {
     pub black: u64,
 }
 
-/// Whether a set has a square.
-pub fn contains(set: u64, i: u8) -> bool
+// Whether a set has a square.
+fn contains(set: u64, i: u8) -> bool
     requires { i < 64 }
     ensures { result ≡ has set i }
 {

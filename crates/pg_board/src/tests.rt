@@ -45,11 +45,15 @@ fn compare(rt: &impl Abort, board: &Board, cells: &Cells) {
     for i in 0..64u8 {
         let man = cells.cells[i as usize];
         assert_eq!(rt; board.get(Square::at(i)), man, "square {i}");
-        assert_eq!(rt; contains(board.occupied(), i), man.is_some(), "square {i}");
+        assert_eq!(rt;
+            board.occupied().contains(Square::at(i)),
+            man.is_some(),
+            "square {i}"
+        );
         for color in COLORS {
             let own = man.is_some_and(|man| man.color == color);
             assert_eq!(rt;
-                contains(board.squares_of_color(color), i),
+                board.squares_of_color(color).contains(Square::at(i)),
                 own,
                 "square {i}"
             );
@@ -67,7 +71,11 @@ fn compare_man(rt: &impl Abort, board: &Board, cells: &Cells, man: Man) {
     assert_eq!(rt; board.count(man) as usize, cells.count(man), "{man:?}");
     for i in 0..64u8 {
         let here = cells.cells[i as usize] == Some(man);
-        assert_eq!(rt; contains(board.squares_of(man), i), here, "{man:?} on {i}");
+        assert_eq!(rt;
+            board.squares_of(man).contains(Square::at(i)),
+            here,
+            "{man:?} on {i}"
+        );
     }
 }
 
@@ -139,6 +147,29 @@ fn squares(rt: HostRuntime) -> Result<(), Fail> {
     }
     assert_eq!(rt; Square::from_index(64), None);
     Ok(())
+}
+
+#[test]
+fn sets_of_squares(rt: HostRuntime) {
+    let (a1, e4, h8) = (Square::at(0), Square::at(28), Square::at(63));
+    let ends = SquareSet::single(h8) | SquareSet::single(a1);
+    let three = ends | SquareSet::single(e4);
+    assert_eq!(rt; three.len(), 3);
+    assert_eq!(rt; (three.first(), three.last()), (Some(a1), Some(h8)));
+    assert_eq!(rt; three.first_from(29), Some(h8));
+    assert_eq!(rt; ends.first_from(64), None);
+    assert_eq!(rt; three - ends, SquareSet::single(e4));
+    assert_eq!(rt; SquareSet::full() & ends, ends);
+    assert!(rt; three.meets(ends) && !ends.contains(e4));
+    assert!(rt; (ends - three).is_empty());
+    assert_eq!(rt; SquareSet::of_bits(ends.bits()), ends);
+    let mut left = three;
+    let mut squares = three.squares();
+    for square in [Some(a1), Some(e4), Some(h8), None] {
+        assert_eq!(rt; squares.next(), square);
+        assert_eq!(rt; left.pop_first(), square);
+    }
+    assert_eq!(rt; left, SquareSet::empty());
 }
 
 #[test]

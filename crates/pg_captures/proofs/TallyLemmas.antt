@@ -1,14 +1,15 @@
 -- Counts by sets of squares. Leads to the contracts of the counting functions.
-use Rattle.std.proofs.Common.{◌≡◌, ℕ, ◌<◌, ◌^◌, Bool, true, false, ◌&&◌, Option, Some, None, refl, sym, ap, ap₂, ◌∙◌, count_ones, bit_and}
+use Rattle.std.proofs.Common.{◌≡◌, ℕ, ◌<◌, Bool, true, false, ◌&&◌, Option, Some, None, refl, sym, ap, ap₂, ◌∙◌}
 use Rattle.pg_board.specs.declared.man.Color.{Color}
 use Rattle.pg_board.specs.declared.man.Kind.{Kind}
 use Rattle.pg_board.specs.declared.man.Kind.TheVariants.{Pawn, Knight, Bishop, Rook, Queen, King}
 use Rattle.pg_board.specs.declared.man.Man.{Man}
 use Rattle.pg_board.specs.Squares.{is_light, is_dark}
 use Rattle.pg_board.specs.Men.{man, passes, color_eq, kind_eq, man_eq, is_man, is_of}
-use Rattle.pg_board.specs.Tally.{one, total_same, count_below_same}
+use Rattle.pg_board.specs.Tally.{one, tally, tally_below, count_of, count_below}
+use Rattle.pg_board.specs.lemmas.Sums.{total_same, count_below_same}
 use Rattle.pg_board.specs.Bits.{has, has-and, ones-count, bits_below, has-bits_below}
-use Rattle.pg_board.specs.Placement.{Placement, get, tally, tally_below, count_of}
+use Rattle.pg_board.specs.Placement.{Placement, get}
 use Rattle.pg_captures.specs.declared.classes.Class.{Class}
 use Rattle.pg_captures.specs.declared.classes.Class.TheVariants.{Queens, Rooks, Knights, LightBishops, DarkBishops}
 use Rattle.pg_captures.specs.Counting.{of_color, men, any_man, any_pawn, in_class}
@@ -21,25 +22,31 @@ unfolding tally tally_below
 tally_like f g b h = total_same (λ s. one (passes (g s) (get b s))) (λ s. one (passes (f s) (get b s))) 64 (λ s l. ap one (passes_like (f s) (g s) (h s) (get b s)))
 
 -- the size of the set of the men that pass a test
-pub tally_set : (f : ℕ → Man → Bool) (b : Placement) (set : ℕ) → set < 2 ^ 64 → ((q : ℕ) → q < 64 → has set q ≡ passes (f q) (get b q)) → count_ones set ≡ tally f b
+pub tally_set : (f : ℕ → Man → Bool) (b : Placement) (set n : ℕ) → n ≡ count_below (has set) 64 → ((q : ℕ) → q < 64 → has set q ≡ passes (f q) (get b q)) → n ≡ tally f b
 unfolding tally tally_below
-tally_set f b set fits h = ones-count 64 set fits ∙ count_below_same (has set) (λ q. passes (f q) (get b q)) 64 h
+tally_set f b set n is h = is ∙ count_below_same (has set) (λ q. passes (f q) (get b q)) 64 h
 
 -- the men of a colour
-pub all_men_set : (b : Placement) (c : Color) (set : ℕ) → set < 2 ^ 64 → ((q : ℕ) → q < 64 → has set q ≡ is_of c (get b q)) → count_ones set ≡ men c any_man b
-all_men_set b c set fits h = tally_set (of_color c any_man) b set fits (λ q l. h q l ∙ passes_like (λ x. color_eq x.color c) (of_color c any_man q) (λ m. sym (and-true (color_eq m.color c))) (get b q))
+pub all_men_set : (b : Placement) (c : Color) (set n : ℕ) → n ≡ count_below (has set) 64 → ((q : ℕ) → q < 64 → has set q ≡ is_of c (get b q)) → n ≡ men c any_man b
+all_men_set b c set n is h = tally_set (of_color c any_man) b set n is (λ q l. h q l ∙ passes_like (λ x. color_eq x.color c) (of_color c any_man q) (λ m. sym (and-true (color_eq m.color c))) (get b q))
 
 pub pawns_counted : (b : Placement) (c : Color) → count_of b (man c Pawn) ≡ men c any_pawn b
 pawns_counted b c = tally_like (λ _ x. man_eq x (man c Pawn)) (of_color c any_pawn) b (λ s m. ap (λ x. color_eq m.color c && x) (pawn_like m.kind))
 
 -- ---- the five classes as sets
-pub light_at : (q : ℕ) → q < 64 → has LIGHT_SQUARES q ≡ is_light q
+light_bits : (q : ℕ) → q < 64 → has LIGHT_SQUARES q ≡ is_light q
 unfolding bits_below
-light_at q l = has-bits_below is_light 64 q l
+light_bits q l = has-bits_below is_light 64 q l
 
-pub dark_at : (q : ℕ) → q < 64 → has DARK_SQUARES q ≡ is_dark q
+dark_bits : (q : ℕ) → q < 64 → has DARK_SQUARES q ≡ is_dark q
 unfolding bits_below
-dark_at q l = has-bits_below is_dark 64 q l
+dark_bits q l = has-bits_below is_dark 64 q l
+
+pub light_at : (n : ℕ) → n ≡ LIGHT_SQUARES → (q : ℕ) → q < 64 → has n q ≡ is_light q
+light_at n e q l = ap (λ x. has x q) e ∙ light_bits q l
+
+pub dark_at : (n : ℕ) → n ≡ DARK_SQUARES → (q : ℕ) → q < 64 → has n q ≡ is_dark q
+dark_at n e q l = ap (λ x. has x q) e ∙ dark_bits q l
 
 class_like : (l : Class) (k : Kind) (q : ℕ) → Bool
 class_like Queens k q = kind_eq k Queen
@@ -107,10 +114,10 @@ passes_and f x None = refl
 passes_and f x (Some m) = refl
 
 -- the men of one kind on the squares of a mask
-pub masked_set : (b : Placement) (c : Color) (f : ℕ → Kind → Bool) (k : Kind) (m : Man) (all mask : ℕ) (on : ℕ → Bool) → m ≡ man c k → ((j : Kind) (q : ℕ) → (kind_eq j k && on q) ≡ f q j) →
-    ((q : ℕ) → q < 64 → has all q ≡ is_man m (get b q)) → ((q : ℕ) → q < 64 → has mask q ≡ on q) → (q : ℕ) → q < 64 → has (bit_and all mask) q ≡ passes (of_color c f q) (get b q)
-masked_set b c f k m all mask on e like h on_mask q low =
-    has-and all mask q ∙ ap₂ (λ x y. x && y) (h q low ∙ ap (λ x. is_man x (get b q)) e) (on_mask q low)
+pub masked_set : (b : Placement) (c : Color) (f : ℕ → Kind → Bool) (k : Kind) (m : Man) (all mask kept : ℕ) (on : ℕ → Bool) → m ≡ man c k → ((j : Kind) (q : ℕ) → (kind_eq j k && on q) ≡ f q j) →
+    ((q : ℕ) → q < 64 → has all q ≡ is_man m (get b q)) → ((q : ℕ) → q < 64 → has mask q ≡ on q) → ((q : ℕ) → has kept q ≡ has all q && has mask q) → (q : ℕ) → q < 64 → has kept q ≡ passes (of_color c f q) (get b q)
+masked_set b c f k m all mask kept on e like h on_mask both q low =
+    both q ∙ ap₂ (λ x y. x && y) (h q low ∙ ap (λ x. is_man x (get b q)) e) (on_mask q low)
     ∙ passes_and (λ x. man_eq x (man c k)) (on q) (get b q)
     ∙ passes_like (λ x. man_eq x (man c k) && on q) (of_color c f q) (λ x. assoc (color_eq x.color c) (kind_eq x.kind k) (on q) ∙ ap (λ y. color_eq x.color c && y) (like x.kind q)) (get b q)
 

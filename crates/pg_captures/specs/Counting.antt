@@ -1,12 +1,13 @@
 -- Counting the men of a colour that pass a test of their square and their kind.
-use Rattle.std.specs.Prelude.{ℕ, Bool, true, false, ◌&&◌}
+use Rattle.std.specs.Prelude.{ℕ, Bool, true, false, cond, ◌&&◌}
 use Rattle.pg_board.specs.declared.man.Color.{Color}
 use Rattle.pg_board.specs.declared.man.Kind.{Kind}
 use Rattle.pg_board.specs.declared.man.Kind.TheVariants.{Pawn, Knight, Bishop, Rook, Queen, King}
 use Rattle.pg_board.specs.declared.man.Man.{Man}
 use Rattle.pg_board.specs.Squares.{is_light, is_dark}
-use Rattle.pg_board.specs.Men.{color_eq}
-use Rattle.pg_board.specs.Placement.{Placement, tally}
+use Rattle.pg_board.specs.Men.{color_eq, passes}
+use Rattle.pg_board.specs.Placement.{Placement, get}
+use Rattle.pg_board.specs.Tally.{total, tally}
 use Rattle.pg_captures.specs.declared.classes.Class.{Class}
 use Rattle.pg_captures.specs.declared.classes.Class.TheVariants.{Queens, Rooks, Knights, LightBishops, DarkBishops}
 
@@ -17,6 +18,18 @@ of_color c f s m = color_eq m.color c && f s m.kind
 -- the number of the colour's men that pass a test of their square and kind
 abbrev pub men : Color → (ℕ → Kind → Bool) → Placement → ℕ
 men c f b = tally (of_color c f) b
+
+-- that such a man stands on the square
+abbrev pub is_there : Color → (ℕ → Kind → Bool) → Placement → ℕ → Bool
+is_there c f b s = passes (of_color c f s) (get b s)
+
+-- a number where a test passes, and 0 elsewhere
+abbrev pub on : (ℕ → Bool) → (ℕ → ℕ) → ℕ → ℕ
+on p g s = cond (p s) (g s) 0
+
+-- the sum of a number over the squares of these men
+abbrev pub sum_over : Color → (ℕ → Kind → Bool) → Placement → (ℕ → ℕ) → ℕ
+sum_over c f b g = total (on (is_there c f b) g) 64
 
 abbrev pub any_man : ℕ → Kind → Bool
 any_man s k = true

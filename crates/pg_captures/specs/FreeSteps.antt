@@ -5,7 +5,8 @@ use Rattle.pg_board.specs.declared.man.Kind.{Kind}
 use Rattle.pg_board.specs.declared.man.Kind.TheVariants.{Pawn}
 use Rattle.pg_board.specs.Squares.{file, rank}
 use Rattle.pg_position.specs.Geometry.{IsForward, InPattern}
-use Rattle.pg_position.specs.Step.{home_rank, last_rank, IsPiece}
+use Rattle.pg_position.specs.Step.{IsPiece}
+use Rattle.pg_position.specs.Squares.{home_rank, last_rank}
 
 -- where a man alone on the board may step: a pawn one forward, two from its home rank, or one diagonally forward; any other by its pattern
 unfoldable pub StepsTo : Color → Kind → ℕ → ℕ → Type 0

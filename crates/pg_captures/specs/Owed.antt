@@ -1,5 +1,5 @@
 -- What is left to each side, and the tests of the two bounds. d is the diagram's placement, b a position's.
-use Rattle.std.specs.Prelude.{ℕ, ◌+◌, ◌-◌, ◌/◌, ◌<◌, ◌⊎◌, cond}
+use Rattle.std.specs.Prelude.{ℕ, ◌+◌, ◌-◌, ◌/◌, ◌<◌, ◌⊎◌, cond, ℤ, pos, ◌-ℤ◌, ◌<ℤ◌}
 use Rattle.pg_board.specs.declared.man.Color.{Color}
 use Rattle.pg_board.specs.Men.{color_eq, other}
 use Rattle.pg_board.specs.Placement.{Placement}
@@ -16,10 +16,13 @@ plies_left side c k = cond (color_eq side c) ((k + 1) / 2) (k / 2)
 abbrev pub victims : Color → Placement → ℕ
 victims c b = men (other c) any_man b
 
--- The captures test of a colour: the men of the other colour on b less those on d, the captures that it owes, are
--- fewer than none or more than its plies left.
+-- the captures that the colour owes: the men of the other colour on b less those on d
+abbrev pub owed : Placement → Placement → Color → ℤ
+owed d b c = pos (victims c b) -ℤ pos (victims c d)
+
+-- the captures test of a colour: it owes fewer captures than none, or more than it has plies left
 abbrev pub CapturesFor : Placement → Placement → Color → ℕ → Color → Type 0
-CapturesFor d b side k c = (victims c b < victims c d) ⊎ (plies_left side c k + victims c d < victims c b)
+CapturesFor d b side k c = (owed d b c <ℤ pos 0) ⊎ (pos (plies_left side c k) <ℤ owed d b c)
 
 -- the captures test: that of either colour
 unfoldable pub CapturesHolds : Placement → State → ℕ → Type 0

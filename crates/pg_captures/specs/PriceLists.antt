@@ -3,7 +3,8 @@
 use Rattle.std.specs.Prelude.{◌≡◌, ℕ, Bool, List, length, get_or}
 use Rattle.pg_board.specs.declared.man.Color.{Color}
 use Rattle.pg_board.specs.declared.man.Kind.{Kind}
-use Rattle.pg_board.specs.Placement.{Placement, tally_below}
+use Rattle.pg_board.specs.Placement.{Placement}
+use Rattle.pg_board.specs.Tally.{tally_below}
 use Rattle.pg_captures.specs.Counting.{of_color, men}
 
 -- a price list: u has a number for each source, v one for each target
@@ -15,12 +16,12 @@ abbrev pub list_of : List ℕ → List ℕ → PriceList
 list_of u v = record { u = u; v = v }
 
 -- which of these men the one on a square is, from 0: so many of them stand on the squares before
-abbrev pub place : Color → (ℕ → Kind → Bool) → Placement → ℕ → ℕ
-place c f b s = tally_below (of_color c f) b s
+abbrev pub number_among : Color → (ℕ → Kind → Bool) → Placement → ℕ → ℕ
+number_among c f b s = tally_below (of_color c f) b s
 
 -- the number of the man on a square
 abbrev pub price : List ℕ → Color → (ℕ → Kind → Bool) → Placement → ℕ → ℕ
-price xs c f b s = get_or xs (place c f b s) 0
+price xs c f b s = get_or xs (number_among c f b s) 0
 
 -- there is one number for each of these men
 abbrev pub IsPriced : List ℕ → Color → (ℕ → Kind → Bool) → Placement → Type 0

@@ -1,6 +1,8 @@
+pub mod OwedLemmas
 pub mod StepCounts
 pub mod Potential
 pub mod CapturesLaw
+pub mod EitherColor
 pub mod PromotionsLaw
 pub mod BoardLemmas
 pub mod MoveLemmas

@@ -14,8 +14,9 @@ fn excludes_box(bound: &Box<dyn Bound>, diagram: &Diagram, position: &Position, 
     bound.excludes(diagram, position, left)
 }
 
-// Whether one bound excludes; what it says is so for a bound that was never seen.
-fn ask(bound: &Box<dyn Bound>, diagram: &Diagram, position: &Position, left: u8) -> bool
+/// Whether a bound of any type excludes every game of `left` plies from the position to the diagram. A
+/// yes means that there is no such game, also where the bound was never seen.
+pub fn ask(bound: &Box<dyn Bound>, diagram: &Diagram, position: &Position, left: u8) -> bool
     ensures value { result ≡ excluded bound.now diagram.now position.now left }
     ensures barren { IsTrue result → Barren diagram.now position.now left }
 {

@@ -1,5 +1,5 @@
-ghost use Rattle.std.specs.Prelude.{◌≡◌, ℕ, ◌↔◌, ◌≤◌, IsTrue, pos, ◌-ℤ◌};
-ghost use Rattle.pg_captures.specs.Owed.{plies_left, victims, CapturesFor, CapturesHolds};
+ghost use Rattle.std.specs.Prelude.{◌≡◌, ◌↔◌, ◌≤◌, IsTrue};
+ghost use Rattle.pg_captures.specs.Owed.{plies_left, victims, owed, CapturesFor, CapturesHolds};
 
 use crate::bound::Bound;
 use crate::counts::all_men;
@@ -29,13 +29,14 @@ pub fn victims_of(board: &Board, color: Color) -> u8
 /// How many men of the other colour the colour has to capture on the way to the diagram: those of
 /// the position less those of the diagram, -64 to 64. Where it is negative no game leads there.
 pub fn owed(color: Color, diagram: &Diagram, position: &Position) -> i16
-    ensures { result ≡ (pos (victims color position.now.board) -ℤ pos (victims color diagram.now)) }
+    ensures { result ≡ owed diagram.now position.now.board color }
 {
     let here = i16::from(victims_of(&position.board(), color));
     let there = i16::from(victims_of(&diagram.board(), color));
     here - there
 }
 
+#[tactic(auto, using(crate::specs::lemmas::OwedLemmas::captures_told))]
 fn captures_hold_for(diagram: &Diagram, position: &Position, left: u8, color: Color) -> bool
     ensures { IsTrue result ↔ CapturesFor diagram.now position.now.board position.now.side left color }
 {

@@ -6,7 +6,7 @@ ghost use Rattle.pg_board.specs.Placement.{get};
 ghost use Rattle.pg_captures.specs.Counting.{of_color, men, any_man, any_pawn, in_class};
 
 use crate::classes::Class;
-use pg_board::{Board, Color, Kind, Man};
+use pg_board::{Board, Color, Kind, Man, SquareSet};
 
 /// The light squares, b1 among them: bit q for the square q. And the dark ones, a1 among them.
 pub const LIGHT_SQUARES: u64 = 0x55aa_55aa_55aa_55aa;
@@ -24,7 +24,7 @@ pub fn all_men(board: &Board, color: Color) -> u8
     ensures value { result ≡ men color any_man board.now }
     ensures few { result ≤ 64 }
 {
-    board.squares_of_color(color).count_ones() as u8
+    board.squares_of_color(color).len()
 }
 
 /// How many pawns the colour has.
@@ -36,15 +36,19 @@ pub fn pawns(board: &Board, color: Color) -> u8
 }
 
 // The squares of the colour's men of a class.
-fn class_set(board: &Board, color: Color, class: Class) -> u64
+fn class_set(board: &Board, color: Color, class: Class) -> SquareSet
     ensures { (q : ℕ) → q < 64 → has result q ≡ passes (of_color color (in_class class) q) (get board.now q) }
 {
     match class {
         Class::Queens => board.squares_of(man(color, Kind::Queen)),
         Class::Rooks => board.squares_of(man(color, Kind::Rook)),
         Class::Knights => board.squares_of(man(color, Kind::Knight)),
-        Class::LightBishops => board.squares_of(man(color, Kind::Bishop)) & LIGHT_SQUARES,
-        Class::DarkBishops => board.squares_of(man(color, Kind::Bishop)) & DARK_SQUARES,
+        Class::LightBishops => {
+            board.squares_of(man(color, Kind::Bishop)) & SquareSet::of_bits(LIGHT_SQUARES)
+        }
+        Class::DarkBishops => {
+            board.squares_of(man(color, Kind::Bishop)) & SquareSet::of_bits(DARK_SQUARES)
+        }
     }
 }
 
@@ -53,5 +57,5 @@ pub fn class_men(board: &Board, color: Color, class: Class) -> u8
     ensures value { result ≡ men color (in_class class) board.now }
     ensures few { result ≤ 64 }
 {
-    class_set(board, color, class).count_ones() as u8
+    class_set(board, color, class).len()
 }

@@ -11,7 +11,7 @@ mod prices;
 mod promotions;
 
 pub use bound::Bound;
-pub use boxes::first_excludes;
+pub use boxes::{ask, first_excludes};
 pub use captures::{Captures, owed, plies_left, victims_of};
 pub use classes::Class;
 pub use counts::{all_men, pawns};

@@ -12,7 +12,9 @@ RecordsAreReadAgain = (version : ℕ) (x : Record) (rest : List ℕ) → IsRecor
 
 -- the bytes of a record that is read begin with its spelling, and it is one of the version
 abbrev pub WhatIsReadIsSpelled : Type 0
-WhatIsReadIsSpelled = (version : ℕ) (bytes rest : List ℕ) (x : Record) → AreBytes bytes → record_at version bytes ≡ Ok (x, rest) → IsRecordOf version x × (bytes ≡ spelling x ++ rest)
+WhatIsReadIsSpelled =
+    (version : ℕ) (bytes rest : List ℕ) (x : Record) → AreBytes bytes → record_at version bytes ≡ Ok (x, rest) → IsRecordOf version x
+    × (bytes ≡ spelling x ++ rest)
 
 -- bytes that begin with the spellings of two records are those of one
 abbrev pub NoSpellingBeginsAnother : Type 0

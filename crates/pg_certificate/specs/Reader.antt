@@ -20,7 +20,8 @@ Leaves reading None after a = Unit {0}
 Leaves reading (Some bytes) None a = ⊥
 Leaves reading (Some bytes) (Some rest) a = reading bytes ≡ Ok (a, rest)
 
--- what a call answered, seen by view, is what reading the known bytes to come gives, and what that leaves is to come next; where the source failed, or the reader had refused, nothing is said of the bytes
+-- what a call answered, seen by view, is what reading the known bytes to come gives, and what that leaves is to come next;
+-- where the source failed, or the reader had refused, nothing is said of the bytes
 abbrev pub ReadsAs : {A B : Type 0} → (A → B) → (List ℕ → Result (B × List ℕ) ReadFault) → Option (List ℕ) → Option (List ℕ) → Result A ReadFault → Type 0
 ReadsAs view reading before after (Ok a) = Leaves reading before after (view a)
 ReadsAs view reading before after (Err Read) = Unit {0}
@@ -31,7 +32,8 @@ ReadsAs view reading before after (Err e) = IfSome before (λ bytes. reading byt
 abbrev pub Reads : {A : Type 0} → (List ℕ → Result (A × List ℕ) ReadFault) → Option (List ℕ) → Option (List ℕ) → Result A ReadFault → Type 0
 Reads reading before after result = ReadsAs (λ x. x) reading before after result
 
--- whether the reader had refused before a call and has after it, and whether the source has failed by then: the first refusal has its own name, Read only for a source that failed, and from then on the answer is Failed
+-- whether the reader had refused before a call and has after it, and whether the source has failed by then: the first
+-- refusal has its own name, Read only for a source that failed, and from then on the answer is Failed
 abbrev pub RefusesOnce : {A : Type 0} → Bool → Bool → Bool → Result A ReadFault → Type 0
 RefusesOnce before after source (Ok a) = (before ≡ false) × (after ≡ false)
 RefusesOnce before after source (Err Failed) = (before ≡ true) × (after ≡ true)

@@ -2,6 +2,7 @@
 use Rattle.std.specs.Prelude.{ℕ, zero, suc, ◌+◌, ◌*◌, Bool, true, false, List, [], ◌∷◌, length, take, drop, Option, Some, None, Result, Ok, Err, nat_lt, ◌==◌, ◌&&◌, ◌||◌, slice_index, if◌then◌else◌}
 use Rattle.std.specs.Int.{w32, from_be_bytes}
 use Rattle.std.specs.Option.{option_map}
+use Prim.Native.Char.{code}
 use Rattle.pg_board.specs.declared.man.Color.{Color}
 use Rattle.pg_board.specs.declared.man.Color.TheVariants.{White, Black}
 use Rattle.pg_captures.specs.PriceLists.{PriceList, list_of}
@@ -88,12 +89,12 @@ record_at version bytes = byte_at bytes >>= record_after version
 
 -- the version that a digit stands for, where there is such a version
 abbrev pub version_named : ℕ → Option ℕ
-version_named digit = if digit == 49 then Some 1 else if digit == 50 then Some 2 else None
+version_named digit = if digit == code "1" then Some 1 else if digit == code "2" then Some 2 else None
 
 -- the version whose magic is the first four bytes: PGC and its digit
 abbrev pub version_of : List ℕ → Option ℕ
 version_of text =
-    if (slice_index text 0 == 80) && (slice_index text 1 == 71) && (slice_index text 2 == 67)
+    if (slice_index text 0 == code "P") && (slice_index text 1 == code "G") && (slice_index text 2 == code "C")
     then version_named (slice_index text 3)
     else None
 

@@ -2,6 +2,7 @@
 use Rattle.std.specs.Prelude.{◌≡◌, ℕ, ◌+◌, ◌*◌, ◌<◌, ◌≤◌, ◌^◌, ◌⊎◌, Bool, true, false, List, [], ◌∷◌, ◌++◌, length, get_or, All}
 use Rattle.std.specs.List.{flat_map}
 use Rattle.std.specs.Int.{w32, to_be_bytes}
+use Prim.Native.Char.{code}
 use Rattle.pg_board.specs.declared.man.Color.{Color}
 use Rattle.pg_board.specs.declared.man.Color.TheVariants.{White, Black}
 use Rattle.pg_captures.specs.PriceLists.{PriceList}
@@ -95,7 +96,7 @@ pub record IsRecordOf (version : ℕ) (x : Record) : Type 0 where
 
 -- the letters PGC and the digit of the version
 abbrev pub magic : ℕ → List ℕ
-magic version = 80 ∷ 71 ∷ 67 ∷ (48 + version) ∷ []
+magic version = code "P" ∷ code "G" ∷ code "C" ∷ (code "0" + version) ∷ []
 
 -- the magic, the plies, the diagram
 abbrev pub header_spelling : Header → List ℕ

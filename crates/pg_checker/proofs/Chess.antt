@@ -3,14 +3,16 @@ use Rattle.std.proofs.Common.{◌≡◌, ◌≢◌, ℕ, zero, suc, ◌<◌, ◌
 use Rattle.std.specs.List.{Contains}
 use Rattle.std.specs.Bool.{Decides}
 use Rattle.std.proofs.lemmas.Bool.Decides.{Decides-eqb, eqb_tells}
-use Rattle.pg_board.specs.Placement.{Placement, placement_eq_decides}
+use Rattle.pg_board.specs.Placement.{Placement}
+use Rattle.pg_board.specs.Equality.{placement_eq_decides}
 use Rattle.pg_position.specs.declared.state.State.{State}
 use Rattle.pg_position.specs.declared.moves.Move.{Move}
 use Rattle.pg_position.specs.Position.{IsPosition}
 use Rattle.pg_position.specs.Step.{Legal}
 use Rattle.pg_position.specs.Game.{IsGame, Barren}
 use Rattle.pg_position.specs.Array.{array_state}
-use Rattle.pg_position.specs.Equality.{state_eq, state_eq_decides}
+use Rattle.pg_position.specs.Equality.{state_eq}
+use Rattle.pg_position.specs.lemmas.Equalities.{state_eq_decides}
 use Rattle.pg_position.proofs.ArrayLemmas.{array_position}
 use Rattle.pg_position.specs.Future.{SameFuture}
 use Rattle.pg_position.proofs.FutureLemmas.{legal_position, future_sym, same_games, same_ends}
@@ -18,13 +20,14 @@ use Rattle.pg_moves.specs.Moves.{IsLegal}
 use Rattle.pg_moves.proofs.ListLemmas.{moves_of_is, few_moves}
 use Rattle.pg_moves.proofs.PlayLemmas.{play_of_is}
 use Rattle.pg_moves.specs.numbers.Places.{most_moves}
-use Rattle.pg_checker.specs.Tree.{Rules, Trees, Reaches, TooManyNamed, spelling_all, records_all}
+use Rattle.pg_checker.specs.Tree.{Rules, Trees, EndsOnGoal, TooManyNamed, spelling_all, records_all}
 use Rattle.pg_checker.specs.Tree as tree
 use Rattle.pg_checker.specs.Claims.{IsExact, IsRight, IsComplete, IsCertificate}
 use Rattle.pg_checker.specs.Whole.{answer, full_from}
 use Rattle.pg_checker.specs.Answer.{IsSolution, IsExactAnswer, AreSolutions}
-use Rattle.pg_checker.specs.Equality.{lists_decides}
-use Rattle.pg_checker.specs.Futures.{future_eq, future_decides}
+use Rattle.pg_checker.specs.lemmas.Equalities.{lists_decides}
+use Rattle.pg_checker.specs.Futures.{future_eq}
+use Rattle.pg_checker.specs.lemmas.Futures.{future_decides}
 use Rattle.pg_checker.specs.Chess.{Cuts, IsSoundCut, IsChess, read, stands_for, chess}
 use Rattle.pg_checker.proofs.Reading.{record_spelled, spelled_record, read_ok, read_spelled, read_few}
 use Rattle.pg_checker.proofs.Full.{full_accepted}
@@ -79,7 +82,7 @@ module _ (r : Rules State Move) (d : Placement) (n : ℕ) (games : List (List Mo
   met p m pos c = legal_position p m (r.play p m) pos (played p m pos c)
 
   -- the walk's games are the games of chess
-  game_out : (k : ℕ) (p : State) (ms : List Move) → IsPosition p → Reaches r k p ms → Ends d p k ms
+  game_out : (k : ℕ) (p : State) (ms : List Move) → IsPosition p → EndsOnGoal r k p ms → Ends d p k ms
   unfolding Ends
   game_out zero p [] pos h = (refl, (p, refl, (is.goal p).0 h))
   game_out zero p (m ∷ ms) pos h = absurd h
@@ -89,15 +92,15 @@ module _ (r : Rules State Move) (d : Placement) (n : ℕ) (games : List (List Mo
       let rest = game_out k (r.play p m) ms (met p m pos h.0) h.1 in
       (ap suc rest.0, (rest.1.0, (r.play p m, legal, rest.1.1), rest.1.2))
 
-  game_in : (k : ℕ) (p : State) (ms : List Move) → IsPosition p → Ends d p k ms → Reaches r k p ms
+  game_in : (k : ℕ) (p : State) (ms : List Move) → IsPosition p → Ends d p k ms → EndsOnGoal r k p ms
   unfolding Ends
   game_in zero p [] pos (len, (q, g, e)) = (is.goal p).1 (ap (λ (x : State). x.board) g ∙ e)
   game_in zero p (m ∷ ms) pos (len, (q, g, e)) = absurd (omega arith)
   game_in (suc k) p [] pos (len, (q, g, e)) = absurd (omega arith)
   game_in (suc k) p (m ∷ ms) pos (len, (q, (s, legal, g), e)) =
       let same : r.play p m ≡ s = is.play p m s pos legal in
-      let rest : Reaches r k s ms = game_in k s ms (legal_position p m s pos legal) (omega arith, (q, g, e)) in
-      (((is.moves p).has m).1 (s, legal), subst (λ (x : State). Reaches r k x ms) (sym same) rest)
+      let rest : EndsOnGoal r k s ms = game_in k s ms (legal_position p m s pos legal) (omega arith, (q, g, e)) in
+      (((is.moves p).has m).1 (s, legal), subst (λ (x : State). EndsOnGoal r k x ms) (sym same) rest)
 
   -- what is barren from one position is barren from one with the same future
   pub same_barren : (k : ℕ) (q p : State) → IsPosition q → IsPosition p → SameFuture q p → tree.Barren r k q → tree.Barren r k p
@@ -192,3 +195,5 @@ chess_read d n games cut = refl
 pub chess_plain : (d : Placement) (n : ℕ) (games : List (List Move)) (cut : Cuts) (bytes : List ℕ) → (chess d n games cut).read bytes ≡ Err TooManyNamed → ⊥
 unfolding chess
 chess_plain d n games cut bytes h = read_few cut.version bytes h
+
+pub ruleset of_chess = (chess_is, chess_cut, chess_priced, chess_read, chess_exact, chess_few)

@@ -11,10 +11,11 @@ use Rattle.pg_position.specs.declared.state.State.{State}
 use Rattle.pg_position.specs.declared.moves.Move.{Move}
 use Rattle.pg_position.specs.declared.moves.Way.{Way}
 use Rattle.pg_position.specs.declared.moves.Way.TheVariants.{Plain, Capture, DoubleAdvance, EnPassant, Promotion, Castling}
-use Rattle.pg_position.specs.Position.{Stands, IsVacant, IsPassed, IsPosition, rook_home, ahead}
-use Rattle.pg_position.specs.Step.{Step, Legal, IsEnemy, IsWay, relocated, board_after, king_crossed}
+use Rattle.pg_position.specs.Position.{Stands, IsVacant, IsPassed, IsPosition}
+use Rattle.pg_position.specs.Step.{Step, Legal, IsEnemy, IsWay, relocated, board_after}
+use Rattle.pg_position.specs.Squares.{rook_home, ahead, king_crossed}
 use Rattle.pg_board.specs.Bits.{has}
-use Rattle.pg_position.specs.SquareSets.{HasNoneFrom, IsFirstFrom}
+use Rattle.pg_board.specs.SquareSets.{HasNoneFrom, IsFirstFrom}
 use Rattle.pg_position.proofs.StepLemmas.{not_other}
 use Rattle.pg_position.proofs.ValidLemmas.{castle_squares, CastleSquares, castle_vacant}
 use Rattle.pg_checker.specs.Differing.{Differ, TwoToFour}
@@ -192,36 +193,9 @@ module _ (b d : Placement) (n : ℕ) (set : Differ b d n) where
         | inr w ↦ absurd (differs (like s low (past 0 a s first (omega arith) low w.1 (λ r. none s (omega arith) low))))
       ]
 
-  pub two_are_right : (a c i j : ℕ) → IsFirstFrom n 0 a → i ≡ a → IsFirstFrom n (i + 1) c → j ≡ c → HasNoneFrom n (j + 1) → TwoToFour b d
-  two_are_right a c i j fa ia fc jc none = record {
-    first = a;
-    second = c;
-    third = a;
-    fourth = a;
-    first_on_board = fa.on_board;
-    second_on_board = fc.on_board;
-    apart = λ e. let r : i + 1 ≤ c = fc.reached in omega arith;
-    first_differs = unlike a fa.on_board fa.member;
-    second_differs = unlike c fc.on_board fc.member;
-    others = λ s low ne nf _ _. like s low (past 0 a s fa (omega arith) low ne (λ r. past (i + 1) c s fc (omega arith) low nf (λ r2. none s (omega arith) low)));
-  }
-
-  pub three_are_right : (a c e i j k : ℕ) → IsFirstFrom n 0 a → i ≡ a → IsFirstFrom n (i + 1) c → j ≡ c → IsFirstFrom n (j + 1) e → k ≡ e → HasNoneFrom n (k + 1) → TwoToFour b d
-  three_are_right a c e i j k fa ia fc jc fe ke none = record {
-    first = a;
-    second = c;
-    third = e;
-    fourth = e;
-    first_on_board = fa.on_board;
-    second_on_board = fc.on_board;
-    apart = λ x. let r : i + 1 ≤ c = fc.reached in omega arith;
-    first_differs = unlike a fa.on_board fa.member;
-    second_differs = unlike c fc.on_board fc.member;
-    others = λ s low ne nf ng _. like s low (past 0 a s fa (omega arith) low ne (λ r. past (i + 1) c s fc (omega arith) low nf (λ r2. past (j + 1) e s fe (omega arith) low ng (λ r3. none s (omega arith) low))));
-  }
-
-  pub four_are_right : (a c e f i j k l : ℕ) → IsFirstFrom n 0 a → i ≡ a → IsFirstFrom n (i + 1) c → j ≡ c → IsFirstFrom n (j + 1) e → k ≡ e → IsFirstFrom n (k + 1) f → l ≡ f → HasNoneFrom n (l + 1) → TwoToFour b d
-  four_are_right a c e f i j k l fa ia fc jc fe ke ff lf none = record {
+  -- the first two of the set, and at most two more
+  right : (a c e f i : ℕ) → IsFirstFrom n 0 a → i ≡ a → IsFirstFrom n (i + 1) c → ((s : ℕ) → s < 64 → c + 1 ≤ s → s ≢ e → s ≢ f → has n s ≡ false) → TwoToFour b d
+  right a c e f i fa ia fc rest = record {
     first = a;
     second = c;
     third = e;
@@ -231,8 +205,18 @@ module _ (b d : Placement) (n : ℕ) (set : Differ b d n) where
     apart = λ x. let r : i + 1 ≤ c = fc.reached in omega arith;
     first_differs = unlike a fa.on_board fa.member;
     second_differs = unlike c fc.on_board fc.member;
-    others = λ s low ne nf ng nh. like s low (past 0 a s fa (omega arith) low ne (λ r. past (i + 1) c s fc (omega arith) low nf (λ r2. past (j + 1) e s fe (omega arith) low ng (λ r3. past (k + 1) f s ff (omega arith) low nh (λ r4. none s (omega arith) low)))));
+    others = λ s low na nc ne nf. like s low (past 0 a s fa (omega arith) low na (λ r. past (i + 1) c s fc (omega arith) low nc (λ r2. rest s low r2 ne nf)));
   }
+
+  pub two_are_right : (a c i j : ℕ) → IsFirstFrom n 0 a → i ≡ a → IsFirstFrom n (i + 1) c → j ≡ c → HasNoneFrom n (j + 1) → TwoToFour b d
+  two_are_right a c i j fa ia fc jc none = right a c a a i fa ia fc (λ s low r _ _. none s (omega arith) low)
+
+  pub three_are_right : (a c e i j k : ℕ) → IsFirstFrom n 0 a → i ≡ a → IsFirstFrom n (i + 1) c → j ≡ c → IsFirstFrom n (j + 1) e → k ≡ e → HasNoneFrom n (k + 1) → TwoToFour b d
+  three_are_right a c e i j k fa ia fc jc fe ke none = right a c e e i fa ia fc (λ s low r ne _. past (j + 1) e s fe (omega arith) low ne (λ r2. none s (omega arith) low))
+
+  pub four_are_right : (a c e f i j k l : ℕ) → IsFirstFrom n 0 a → i ≡ a → IsFirstFrom n (i + 1) c → j ≡ c → IsFirstFrom n (j + 1) e → k ≡ e → IsFirstFrom n (k + 1) f → l ≡ f → HasNoneFrom n (l + 1) → TwoToFour b d
+  four_are_right a c e f i j k l fa ia fc jc fe ke ff lf none =
+      right a c e f i fa ia fc (λ s low r ne nf. past (j + 1) e s fe (omega arith) low ne (λ r2. past (k + 1) f s ff (omega arith) low nf (λ r3. none s (omega arith) low)))
 
   pub five_are_many : (a c e f g i j k l : ℕ) → IsFirstFrom n 0 a → i ≡ a → IsFirstFrom n (i + 1) c → j ≡ c → IsFirstFrom n (j + 1) e → k ≡ e → IsFirstFrom n (k + 1) f → l ≡ f → IsFirstFrom n (l + 1) g → TwoToFour b d → ⊥
   five_are_many a c e f g i j k l fa ia fc jc fe ke ff lf fg w =

@@ -4,7 +4,7 @@ use Rattle.pg_certificate.specs.declared.record.Record.{Record}
 use Rattle.pg_certificate.specs.declared.record.Record.TheVariants.{Expand as Expanded, Cut as CutBy, Ref as RefTo, Priced as PricedBy}
 use Rattle.pg_checker.specs.Tree.{Tree, Trees, Leaf, Expand, Cut, Ref, Priced, Empty, First, Entry, Rules, FitAll, fertile, any_fertile, closed, closed_all, entry, spelling, spelling_all, records, named, one_if}
 use Rattle.pg_checker.specs.Walk.{WalkState, Shape, Done, Opened, judge, head, each, close, below, visit, Took, TookAll}
-use Rattle.pg_checker.specs.Claims.{IsExact, Reads}
+use Rattle.pg_checker.specs.Claims.{IsExact, ReadsTree}
 use Rattle.pg_checker.proofs.Steps.{bind_ok, room_ok, cut_ok, ref_ok, leaf_ok, Paid, head_ok}
 
 or_assoc : (a b c : Bool) → (a || (b || c)) ≡ ((a || b) || c)
@@ -12,7 +12,7 @@ or_assoc true b c = refl
 or_assoc false b c = refl
 
 module _ {P M : Type 0} (r : Rules P M) where
-  -- the children that were read, as Reads for one tree
+  -- the children that were read, as ReadsTree for one tree
   pub record ReadsAll (n k : ℕ) (g : List M) (p : P) (ms : List M) (found : Bool) (s : WalkState P) (x : Bool × WalkState P) : Type 0 where
     pub trees : Trees
     pub fits : FitAll r n k g p ms s.entries trees
@@ -21,7 +21,7 @@ module _ {P M : Type 0} (r : Rules P M) where
 
   -- what a good record says, at its shape
   abbrev pub HeadSays : ℕ → ℕ → List M → P → WalkState P → Shape → WalkState P → Type 0
-  HeadSays n k g p s Done t = Reads r n (suc k) g p s false t
+  HeadSays n k g p s Done t = ReadsTree r n (suc k) g p s false t
   HeadSays n k g p s (Opened is_named) t = record { rest : s.rest ≡ r.write (Expanded is_named) ++ t.rest; entries : t.entries ≡ s.entries; records : s.records ≡ suc t.records; room : s.room ≡ one_if is_named + t.room }
 
   one_record : (s u : WalkState P) (got : Record) (k : ℕ) (p : P) (tree : Tree) → Paid r s got u → spelling r tree ≡ r.write got → closed r k p tree ≡ [] → records tree ≡ 1 → named tree ≡ 0 → Took r k p s tree u
@@ -64,7 +64,7 @@ module _ {P M : Type 0} (r : Rules P M) where
     room = omega (arith, a.room, b.room);
   }
 
-  pub each_ok : (n k : ℕ) → ((g : List M) (p : P) (s : WalkState P) (x : Bool × WalkState P) → visit r n k g p s ≡ Ok x → Reads r n k g p s x.0 x.1)
+  pub each_ok : (n k : ℕ) → ((g : List M) (p : P) (s : WalkState P) (x : Bool × WalkState P) → visit r n k g p s ≡ Ok x → ReadsTree r n k g p s x.0 x.1)
       → (g : List M) (p : P) (ms : List M) (found : Bool) (s : WalkState P) (x : Bool × WalkState P) → each r (visit r n k) g p ms found s ≡ Ok x → ReadsAll n k g p ms found s x
   each_ok n k ih g p [] found s x h =
       let e : (found, s) ≡ x = cc in
@@ -93,12 +93,12 @@ module _ {P M : Type 0} (r : Rules P M) where
       }
 
   closes : (n k : ℕ) (g : List M) (p : P) (s u : WalkState P) (is_named : Bool) (got x : Bool × WalkState P)
-      → HeadSays n k g p s (Opened is_named) u → ReadsAll n k g p (r.moves p) false u got → close r is_named (suc k) p got ≡ Ok x → Reads r n (suc k) g p s x.0 x.1
+      → HeadSays n k g p s (Opened is_named) u → ReadsAll n k g p (r.moves p) false u got → close r is_named (suc k) p got ≡ Ok x → ReadsTree r n (suc k) g p s x.0 x.1
   closes n k g p s u is_named got x says all h =
       let f = any_fertile r p (r.moves p) all.trees in
       let end : WalkState P = record got.1 { entries = got.1.entries ++ entry r is_named (suc k) p got.0 } in
       let e : (got.0, end) ≡ x = cc in
-      let here : Reads r n (suc k) g p s got.0 end = record {
+      let here : ReadsTree r n (suc k) g p s got.0 end = record {
         tree = Expand is_named all.trees;
         fits = subst (λ (v : List (Entry P)). FitAll r n k g p (r.moves p) v all.trees) says.entries all.fits;
         took = record {
@@ -110,28 +110,28 @@ module _ {P M : Type 0} (r : Rules P M) where
         };
         found_is = all.found_is;
       } in
-      subst (λ (v : Bool × WalkState P). Reads r n (suc k) g p s v.0 v.1) e here
+      subst (λ (v : Bool × WalkState P). ReadsTree r n (suc k) g p s v.0 v.1) e here
 
-  below_ok : (n k : ℕ) → ((g : List M) (p : P) (s : WalkState P) (x : Bool × WalkState P) → visit r n k g p s ≡ Ok x → Reads r n k g p s x.0 x.1)
-      → (g : List M) (p : P) (s : WalkState P) (shape : Shape) (u : WalkState P) (x : Bool × WalkState P) → HeadSays n k g p s shape u → below r (visit r n k) (suc k) g p shape u ≡ Ok x → Reads r n (suc k) g p s x.0 x.1
+  below_ok : (n k : ℕ) → ((g : List M) (p : P) (s : WalkState P) (x : Bool × WalkState P) → visit r n k g p s ≡ Ok x → ReadsTree r n k g p s x.0 x.1)
+      → (g : List M) (p : P) (s : WalkState P) (shape : Shape) (u : WalkState P) (x : Bool × WalkState P) → HeadSays n k g p s shape u → below r (visit r n k) (suc k) g p shape u ≡ Ok x → ReadsTree r n (suc k) g p s x.0 x.1
   below_ok n k ih g p s Done u x says h =
       let e : (false, u) ≡ x = cc in
-      subst (λ (v : Bool × WalkState P). Reads r n (suc k) g p s v.0 v.1) e says
+      subst (λ (v : Bool × WalkState P). ReadsTree r n (suc k) g p s v.0 v.1) e says
   below_ok n k ih g p s (Opened is_named) u x says h =
       let d = bind_ok (each r (visit r n k) g p (r.moves p) false u) _ x h in
       closes n k g p s u is_named d.0 x says (each_ok n k ih g p (r.moves p) false u d.0 d.1) d.2
 
   module _ (exact : IsExact r) where
-    pub visit_ok : (n k : ℕ) (g : List M) (p : P) (s : WalkState P) (x : Bool × WalkState P) → visit r n k g p s ≡ Ok x → Reads r n k g p s x.0 x.1
+    pub visit_ok : (n k : ℕ) (g : List M) (p : P) (s : WalkState P) (x : Bool × WalkState P) → visit r n k g p s ≡ Ok x → ReadsTree r n k g p s x.0 x.1
     visit_ok n zero g p s x h =
         let d = leaf_ok r n g p s (r.is_goal p) (nat_eq n r.plies) (r.is_listed g) x h in
-        let here : Reads r n zero g p s (r.is_goal p) s = record {
+        let here : ReadsTree r n zero g p s (r.is_goal p) s = record {
           tree = Leaf;
           fits = λ e. (eqb-true n r.plies (d.0 e).0, (d.0 e).1);
           took = record { rest = refl; entries = sym (append-nil s.entries); records = omega arith; room = omega arith };
           found_is = refl;
         } in
-        subst (λ (v : Bool × WalkState P). Reads r n zero g p s v.0 v.1) d.1 here
+        subst (λ (v : Bool × WalkState P). ReadsTree r n zero g p s v.0 v.1) d.1 here
     visit_ok n (suc k) g p s x h =
         let d = bind_ok (head r (suc k) p s) _ x h in
         let headed = head_ok r exact (suc k) p s d.0 d.1 in

@@ -1,10 +1,10 @@
 -- Moves that lead to the diagram: the squares that they leave and go to, and what they become. Leads to the contract of `has_leading`.
-use Rattle.std.proofs.Common.{◌≡◌, ◌≢◌, ◌↔◌, ℕ, ◌+◌, ◌<◌, ◌≤◌, ◌&&◌, ◌⊎◌, inl, inr, Bool, true, false, IsTrue, Option, Some, None, bit_and, refl, sym, ap, subst, ◌∙◌, arith, ltb, ltb-true, ltb-false}
+use Rattle.std.proofs.Common.{◌≡◌, ◌≢◌, ◌↔◌, ℕ, ◌+◌, ◌<◌, ◌≤◌, ◌&&◌, ◌⊎◌, inl, inr, Bool, true, false, IsTrue, Option, Some, None, refl, sym, ap, subst, ◌∙◌, arith, ltb, ltb-true, ltb-false}
 use Rattle.pg_board.specs.declared.man.Color.{Color}
 use Rattle.pg_board.specs.declared.man.Color.TheVariants.{White, Black}
 use Rattle.pg_board.specs.declared.man.Kind.{Kind}
 use Rattle.pg_board.specs.declared.man.Man.{Man}
-use Rattle.pg_board.specs.Bits.{has, has-and}
+use Rattle.pg_board.specs.Bits.{has}
 use Rattle.pg_board.specs.Men.{man, is_of}
 use Rattle.pg_board.specs.Placement.{Placement, get, without}
 use Rattle.pg_position.specs.declared.state.State.{State}
@@ -12,7 +12,7 @@ use Rattle.pg_position.specs.declared.moves.Move.{Move}
 use Rattle.pg_position.specs.declared.moves.Way.{Way}
 use Rattle.pg_position.specs.declared.moves.Way.TheVariants.{Plain, Capture, DoubleAdvance, EnPassant, Promotion, Castling}
 use Rattle.pg_position.specs.Position.{IsPosition}
-use Rattle.pg_position.specs.SquareSets.{HasNoneFrom, IsFirstFrom}
+use Rattle.pg_board.specs.SquareSets.{HasNoneFrom, IsFirstFrom}
 use Rattle.pg_position.specs.Step.{Step, Legal, IsWay, after}
 use Rattle.pg_captures.specs.lemmas.BoardLemmas.{written}
 use Rattle.pg_checker.specs.Differing.{Differ}
@@ -102,29 +102,29 @@ module _ (p : State) (d : Placement) (n : ℕ) (set : Differ p.board d n) (valid
   )
 
   -- the squares of the mover's men among them
-  mover : (b : Placement) (c : Color) (own : ℕ) → b ≡ p.board → c ≡ p.side → ((q : ℕ) → q < 64 → has own q ≡ is_of c (get b q)) → (m : Move) → LeadsTo d p m → has (bit_and n own) m.from ≡ true
+  mover : (b : Placement) (c : Color) (own : ℕ) → b ≡ p.board → c ≡ p.side → ((q : ℕ) → q < 64 → has own q ≡ is_of c (get b q)) → (both : ℕ) → ((q : ℕ) → has both q ≡ has n q && has own q) → (m : Move) → LeadsTo d p m → has both m.from ≡ true
   unfolding Step
-  mover b c own eb ec is m (q, legal, same) =
+  mover b c own eb ec is both each m (q, legal, same) =
       let ch : Changed n m = both_in p d n set valid m (q, legal, same) in
       let s : Step p m q = legal.0 in
       let mine : is_of p.side (get p.board m.from) ≡ true = ap (is_of p.side) s.3 ∙ own_color p.side s.0 in
       let there : has own m.from ≡ true = is m.from ch.from_low ∙ ap (λ (x : Color). is_of x (get b m.from)) ec ∙ ap (λ (x : Placement). is_of p.side (get x m.from)) eb ∙ mine in
-      has-and n own m.from ∙ ap (λ v. v && has own m.from) ch.from_in ∙ there
+      each m.from ∙ ap (λ v. v && has own m.from) ch.from_in ∙ there
     where
       own_color : (x : Color) (k : Kind) → is_of x (Some (man x k)) ≡ true
       own_color White k = refl
       own_color Black k = refl
 
-  pub none_below_more : (b : Placement) (c : Color) (own at r k : ℕ) (t : Bool) → b ≡ p.board → c ≡ p.side → ((q : ℕ) → q < 64 → has own q ≡ is_of c (get b q)) → NoneBelow d p at → IsFirstFrom (bit_and n own) at r → (IsTrue t ↔ ((m : Move) × (m.from ≡ r) × LeadsTo d p m)) → t ≡ false → k ≡ r → NoneBelow d p (k + 1)
-  none_below_more b c own at r k t eb ec mine none first leads off is m l =
-      past (bit_and n own) at r k m.from first is (none m l) (mover b c own eb ec mine m l) (λ e. let on : t ≡ true = leads.1 (m, e, l) in cc)
+  pub none_below_more : (b : Placement) (c : Color) (own both at r k : ℕ) (t : Bool) → b ≡ p.board → c ≡ p.side → ((q : ℕ) → q < 64 → has own q ≡ is_of c (get b q)) → ((q : ℕ) → has both q ≡ has n q && has own q) → NoneBelow d p at → IsFirstFrom both at r → (IsTrue t ↔ ((m : Move) × (m.from ≡ r) × LeadsTo d p m)) → t ≡ false → k ≡ r → NoneBelow d p (k + 1)
+  none_below_more b c own both at r k t eb ec mine each none first leads off is m l =
+      past both at r k m.from first is (none m l) (mover b c own eb ec mine both each m l) (λ e. let on : t ≡ true = leads.1 (m, e, l) in cc)
 
-  pub none_below_end : (b : Placement) (c : Color) (own at : ℕ) → b ≡ p.board → c ≡ p.side → ((q : ℕ) → q < 64 → has own q ≡ is_of c (get b q)) → NoneBelow d p at → HasNoneFrom (bit_and n own) at → IsTrue false ↔ ((m : Move) × LeadsTo d p m)
-  none_below_end b c own at eb ec mine none rest = (
+  pub none_below_end : (b : Placement) (c : Color) (own both at : ℕ) → b ≡ p.board → c ≡ p.side → ((q : ℕ) → q < 64 → has own q ≡ is_of c (get b q)) → ((q : ℕ) → has both q ≡ has n q && has own q) → NoneBelow d p at → HasNoneFrom both at → IsTrue false ↔ ((m : Move) × LeadsTo d p m)
+  none_below_end b c own both at eb ec mine each none rest = (
     λ z. absurd (let f : false ≡ true = z in cc),
     λ (m, l). (let ch : Changed n m = both_in p d n set valid m l in
-        let off : has (bit_and n own) m.from ≡ false = rest m.from (none m l) ch.from_low in
-        let on : has (bit_and n own) m.from ≡ true = mover b c own eb ec mine m l in
+        let off : has both m.from ≡ false = rest m.from (none m l) ch.from_low in
+        let on : has both m.from ≡ true = mover b c own eb ec mine both each m l in
         absurd (cc)),
   )
 

@@ -1,10 +1,10 @@
 -- What is left of the legal moves begins with the next one.
-use Rattle.std.proofs.Common.{◌≡◌, ℕ, ◌⊎◌, inl, inr, Bool, true, false, cond, Option, Some, None, List, [], ◌∷◌, refl, sym, ap, subst, ◌∙◌}
+use Rattle.std.proofs.Common.{◌≡◌, ℕ, inl, inr, Option, Some, None, List, [], ◌∷◌, refl, sym, subst}
 use Rattle.std.specs.declared.cmp.Ordering.{Ordering}
 use Rattle.std.specs.declared.cmp.Ordering.TheVariants.{Less, Equal, Greater}
 use Rattle.std.specs.Bool.{Decides}
 use Rattle.std.specs.Ordering.{is_lt}
-use Rattle.std.specs.List.{Contains, AllByRecursion, filter}
+use Rattle.std.specs.List.{Contains, AllByRecursion}
 use Rattle.std.specs.List.Sorted.{IsStrictlySortedBy}
 use Rattle.std.proofs.lemmas.List.Kept.{IsStrictlySortedBy-filter}
 use Rattle.pg_board.specs.Placement.{Placement}
@@ -12,8 +12,8 @@ use Rattle.pg_position.specs.declared.state.State.{State}
 use Rattle.pg_position.specs.declared.moves.Move.{Move}
 use Rattle.pg_moves.specs.Moves.{move_cmp, IsLegal, IsPast, IsNext, IsLast}
 use Rattle.pg_moves.proofs.PlaceLemmas.{move_cmp_total}
-use Rattle.pg_moves.proofs.SortLemmas.{Contains-head, Contains-later, Contains-cons, Contains-none, sorted_same}
-use Rattle.pg_moves.proofs.ListLemmas.{moves_of, moves_of_is}
+use Rattle.pg_moves.proofs.SortLemmas.{Contains-head, Contains-later, Contains-cons, sorted_same}
+use Rattle.pg_moves.proofs.ListLemmas.{kept_are, kept_has, moves_of, moves_of_is}
 use Rattle.pg_checker.specs.Chess.{Cuts, chess}
 use Rattle.pg_checker.specs.Left.{comes_after, left_after}
 
@@ -26,36 +26,13 @@ after_decides : (last : Option Move) (m : Move) → Decides (comes_after last m)
 after_decides None m = (λ _. tt, λ _. refl)
 after_decides (Some a) m = less_decides (move_cmp a m)
 
--- what a filter keeps
-module _ {X : Type 0} (test : X → Bool) where
-  kept_at : (b : Bool) (y x : X) (xs : List X) → test y ≡ b → (Contains (filter test xs) x → (test x ≡ true) × Contains xs x) → Contains (cond b (y ∷ filter test xs) (filter test xs)) x → (test x ≡ true) × Contains (y ∷ xs) x
-  kept_at true y x xs is rest g = elim (Contains-cons y x (filter test xs) g) [
-    | inl f ↦ (ap test (sym f) ∙ is, subst (λ z. Contains (y ∷ xs) z) f (Contains-head y xs))
-    | inr k ↦ (let r : (test x ≡ true) × Contains xs x = rest k in (r.0, Contains-later y x xs r.1))
-  ]
-  kept_at false y x xs is rest g = let r : (test x ≡ true) × Contains xs x = rest g in (r.0, Contains-later y x xs r.1)
-
-  kept : (xs : List X) (x : X) → Contains (filter test xs) x → (test x ≡ true) × Contains xs x
-  kept [] x h = absurd (Contains-none x h)
-  kept (y ∷ xs) x h = kept_at (test y) y x xs refl (kept xs x) h
-
-  keeps_at : (b : Bool) (y x : X) (xs : List X) → test y ≡ b → test x ≡ true → (y ≡ x) ⊎ Contains (filter test xs) x → Contains (cond b (y ∷ filter test xs) (filter test xs)) x
-  keeps_at true y x xs is e (inl f) = subst (λ z. Contains (y ∷ filter test xs) z) f (Contains-head y (filter test xs))
-  keeps_at true y x xs is e (inr g) = Contains-later y x (filter test xs) g
-  keeps_at false y x xs is e (inl f) = absurd (let t : test y ≡ true = ap test f ∙ e in let u : true ≡ false = sym t ∙ is in cc)
-  keeps_at false y x xs is e (inr g) = g
-
-  keeps : (xs : List X) (x : X) → test x ≡ true → Contains xs x → Contains (filter test xs) x
-  keeps [] x e h = absurd (Contains-none x h)
-  keeps (y ∷ xs) x e h = keeps_at (test y) y x xs refl e (elim (Contains-cons y x xs h) [ inl f ↦ inl f | inr g ↦ inr (keeps xs x e g) ])
-
 pub left_are : (p : State) (last : Option Move) (m : Move) → Contains (left_after p last) m → IsLegal p m × IsPast last m
 unfolding left_after
-left_are p last m h = let k = kept (comes_after last) (moves_of p) m h in (((moves_of_is p).has m).0 k.1, (after_decides last m).0 k.0)
+left_are p last m h = let k = kept_are (comes_after last) (moves_of p) m h in (((moves_of_is p).has m).0 k.1, (after_decides last m).0 k.0)
 
 left_has : (p : State) (last : Option Move) (m : Move) → IsLegal p m → IsPast last m → Contains (left_after p last) m
 unfolding left_after
-left_has p last m l past = keeps (comes_after last) (moves_of p) m ((after_decides last m).1 past) (((moves_of_is p).has m).1 l)
+left_has p last m l past = kept_has (comes_after last) (moves_of p) m ((after_decides last m).1 past) (((moves_of_is p).has m).1 l)
 
 left_ascends : (p : State) (last : Option Move) → IsStrictlySortedBy move_cmp (left_after p last)
 unfolding left_after
@@ -106,3 +83,5 @@ left_last p last end = none (left_after p last) (λ n h. let k = left_are p last
 pub rules_start : (d : Placement) (n : ℕ) (games : List (List Move)) (cut : Cuts) (p : State) → (chess d n games cut).moves p ≡ left_after p None
 unfolding chess
 rules_start d n games cut p = sym (left_start p)
+
+pub ruleset in_order = (rules_start, left_next, left_last)

@@ -31,9 +31,6 @@ use Rattle.pg_checker.proofs.Running.{Runs, finishes, dry_front, goal_off, frame
 use Rattle.pg_checker.proofs.FrameViews.{frames_more, count_more}
 
 -- ---- one move
-pub outside : (b : Bool) (n i s : ℕ) → b ≡ has n i → i ≡ s → b ≡ false → has n s ≡ false
-outside b n i s is at out = ap (λ (v : ℕ). has n v) (sym at) ∙ sym is ∙ out
-
 -- a legal move leads to one position, whose placement was compared
 pub played_elsewhere : (d : Placement) (p : State) (m : Move) (r q : State) (b : Bool) → IsPosition p → Legal p m r → Legal p m q → IsTrue b ↔ (r.board ≡ d) → b ≡ false → q.board ≢ d
 played_elsewhere d p m r q b valid first second same off e =

@@ -55,21 +55,22 @@ taken_ok version bytes (Ok got) x h =
     let whole : bytes ≡ spelling got.0 ++ got.1 = (bytes_eq-Decides bytes (spelling got.0 ++ got.1)).0 (and_right (is_spelled version got.0) same d.0) in
     subst (λ (v : Record × List ℕ). (bytes ≡ spelling v.0 ++ v.1) × (is_spelled version v.0 ≡ true)) d.1 (whole, and_left (is_spelled version got.0) same d.0)
 
-not_many : (e : ReadFault) → cause_of e ≡ TooManyNamed → ⊥
-not_many Truncated h = cc
-not_many Magic h = cc
-not_many (UnknownRecord b) h = cc
-not_many Read h = cc
-not_many Trailing h = cc
-not_many Failed h = cc
+-- no refusal to read is one of too many names, nor of bytes behind the certificate
+causes_apart : (e : ReadFault) → (cause_of e ≡ TooManyNamed → ⊥) × (cause_of e ≡ tree.Trailing → ⊥)
+causes_apart Truncated = (λ h. cc, λ h. cc)
+causes_apart Magic = (λ h. cc, λ h. cc)
+causes_apart (UnknownRecord b) = (λ h. cc, λ h. cc)
+causes_apart Read = (λ h. cc, λ h. cc)
+causes_apart Trailing = (λ h. cc, λ h. cc)
+causes_apart Failed = (λ h. cc, λ h. cc)
 
-taken_few : (version : ℕ) (bytes : List ℕ) (o : Result (Record × List ℕ) ReadFault) → taken version bytes o ≡ Err TooManyNamed → ⊥
-taken_few version bytes (Err e) h = not_many e (let d : cause_of e ≡ TooManyNamed = cc in d)
-taken_few version bytes (Ok got) h = at (is_spelled version got.0 && bytes_eq bytes (spelling got.0 ++ got.1)) h
+taken_apart : (c : Cause Move) → ((e : ReadFault) → cause_of e ≡ c → ⊥) → (version : ℕ) (bytes : List ℕ) (o : Result (Record × List ℕ) ReadFault) → taken version bytes o ≡ Err c → ⊥
+taken_apart c apart version bytes (Err e) h = apart e (let d : cause_of e ≡ c = cc in d)
+taken_apart c apart version bytes (Ok got) h = at (is_spelled version got.0 && bytes_eq bytes (spelling got.0 ++ got.1)) h
   where
-    at : (b : Bool) → cond {A = Result (Record × List ℕ) (Cause Move)} b (Ok got) (Err tree.Truncated) ≡ Err TooManyNamed → ⊥
+    at : (b : Bool) → cond {A = Result (Record × List ℕ) (Cause Move)} b (Ok got) (Err tree.Truncated) ≡ Err c → ⊥
     at true e = cc
-    at false e = cc
+    at false e = apart Truncated (let d : tree.Truncated ≡ c = cc in d)
 
 -- what is read is spelled so
 pub read_ok : (version : ℕ) (bytes : List ℕ) (x : Record × List ℕ) → read version bytes ≡ Ok x → (bytes ≡ spelling x.0 ++ x.1) × (is_spelled version x.0 ≡ true)
@@ -86,10 +87,9 @@ pub read_err : (version : ℕ) (bytes : List ℕ) (e : ReadFault) → record_at 
 unfolding read
 read_err version bytes e h = ap (taken version bytes) h
 
--- no refusal to read is one of too many names
 pub read_few : (version : ℕ) (bytes : List ℕ) → read version bytes ≡ Err TooManyNamed → ⊥
 unfolding read
-read_few version bytes h = taken_few version bytes (record_at version bytes) h
+read_few version bytes h = taken_apart TooManyNamed (λ e. (causes_apart e).0) version bytes (record_at version bytes) h
 
 -- of bytes all is read as records are
 pub read_is : (version : ℕ) (bytes : List ℕ) → AreBytes bytes → read version bytes ≡ renamed (record_at version bytes)
@@ -100,23 +100,6 @@ read_is version bytes fits = at (record_at version bytes) refl
     at (Err e) h = refl
     at (Ok got) h = let d = records_taken version bytes got.1 got.0 fits h in taken_yes version bytes got (record_spelled version got.0 d.0) d.1
 
--- no refusal to read is one of bytes behind the certificate
-no_rest : (e : ReadFault) → cause_of e ≡ tree.Trailing → ⊥
-no_rest Truncated h = cc
-no_rest Magic h = cc
-no_rest (UnknownRecord b) h = cc
-no_rest Read h = cc
-no_rest Trailing h = cc
-no_rest Failed h = cc
-
-taken_whole : (version : ℕ) (bytes : List ℕ) (o : Result (Record × List ℕ) ReadFault) → taken version bytes o ≡ Err tree.Trailing → ⊥
-taken_whole version bytes (Err e) h = no_rest e (let d : cause_of e ≡ tree.Trailing = cc in d)
-taken_whole version bytes (Ok got) h = at (is_spelled version got.0 && bytes_eq bytes (spelling got.0 ++ got.1)) h
-  where
-    at : (b : Bool) → cond {A = Result (Record × List ℕ) (Cause Move)} b (Ok got) (Err tree.Truncated) ≡ Err tree.Trailing → ⊥
-    at true e = cc
-    at false e = cc
-
 pub read_no_trailing : (version : ℕ) (bytes : List ℕ) → read version bytes ≡ Err tree.Trailing → ⊥
 unfolding read
-read_no_trailing version bytes h = taken_whole version bytes (record_at version bytes) h
+read_no_trailing version bytes h = taken_apart tree.Trailing (λ e. (causes_apart e).1) version bytes (record_at version bytes) h

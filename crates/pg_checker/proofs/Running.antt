@@ -8,12 +8,12 @@ use Rattle.pg_position.specs.declared.state.State.{State}
 use Rattle.pg_position.specs.declared.moves.Move.{Move}
 use Rattle.pg_moves.specs.numbers.Places.{most_moves}
 use Rattle.pg_checker.specs.Tree as tree
-use Rattle.pg_checker.specs.Tree.{one_if, entry}
+use Rattle.pg_checker.specs.Tree.{one_if}
 use Rattle.pg_checker.specs.Walk as walk
 use Rattle.pg_checker.specs.Walk.{visit, each, leaf_answer, ◌>>=◌}
 use Rattle.pg_checker.specs.numbers.Frames.{resume, turn, finish, effort, Stacked}
 use Rattle.pg_checker.specs.Chess.{Cuts, chess}
-use Rattle.pg_checker.specs.numbers.Machine.{IsReading, entered, entry_of, entries_of, path, frame_of, frames_of, count_named, state_at, work_at}
+use Rattle.pg_checker.specs.numbers.Machine.{IsReading, entered, entry_of, path, frame_of, frames_of, count_named, state_at, work_at}
 use Rattle.pg_checker.specs.numbers.Steps.{Answer, Goes, Stops, TakesFew}
 use Rattle.pg_checker.specs.declared.machine.Frame.{Frame}
 use Rattle.pg_checker.specs.declared.machine.Machine.{Machine}
@@ -27,7 +27,7 @@ use Rattle.pg_position.specs.Position.{IsPosition}
 use Rattle.pg_position.specs.Step.{Legal}
 use Rattle.pg_checker.specs.Left.{left_after}
 use Rattle.pg_checker.specs.Passing.{LeadsElsewhere, AllElsewhere}
-use Rattle.pg_checker.proofs.Turning.{entry_is}
+use Rattle.pg_checker.proofs.Turning.{entries_closed}
 use Rattle.pg_checker.proofs.Frames.{turn_is, turn_less, turn_stacked}
 use Rattle.pg_checker.proofs.FrameViews.{frames_more, count_more}
 use Rattle.pg_checker.proofs.Goings.{stays, goes_on, goes_as, goes_then, stops_on, stops_then, stops_as}
@@ -172,16 +172,13 @@ module _ (d : Placement) (l : ℕ) (games : List (List Move)) (cut : Cuts) (n : 
       ap (λ v. resume (chess d l games cut) n v (now.found, state_at now rest room)) (frames_popped now.frames.items mid.frames.items top items)
       ∙ (ap (λ (k : ℕ). each (chess d l games cut) (visit (chess d l games cut) n k) (path (reverse mid.frames.items)) top.moves.position (left_after top.moves.position top.moves.last) (top.found || now.found) (state_at now rest room) >>= (λ all. walk.close (chess d l games cut) top.named (suc top.plies) top.moves.position all >>= resume (chess d l games cut) n (frames_of (reverse mid.frames.items)))) last
       ∙ (ap (λ (x : Result (Bool × walk.WalkState State) (tree.Cause Move)). x >>= (λ all. walk.close (chess d l games cut) top.named (suc top.plies) top.moves.position all >>= resume (chess d l games cut) n (frames_of (reverse mid.frames.items)))) (dry top.moves.position (path (reverse mid.frames.items)) (left_after top.moves.position top.moves.last) (top.found || now.found) (state_at now rest room) off)
-      ∙ (λ i. resume (chess d l games cut) n (stack i) (fertile i, record { rest = rest; entries = all i; records = sym records i; room = room }))))
+      ∙ (λ i. resume (chess d l games cut) n (stack i) (fertile i, record { rest = rest; entries = entries_closed d l games cut n now new top found is entries i; records = sym records i; room = room }))))
     where
       stack : frames_of (reverse mid.frames.items) ≡ frames_of (reverse new.frames.items)
       stack = rw same refl
 
       fertile : (top.found || now.found) ≡ new.found
       fertile = sym (found_is ∙ is)
-
-      all : entries_of now ++ entry (chess d l games cut) top.named (suc top.plies) top.moves.position (top.found || now.found) ≡ entries_of new
-      all = ap (λ (f : Bool). entries_of now ++ entry (chess d l games cut) top.named (suc top.plies) top.moves.position f) (sym is) ∙ ap (λ (v : List (tree.Entry State)). entries_of now ++ v) (entry_is d l games cut n top.named (suc top.plies) top.moves.position found) ∙ sym entries
 
   -- a legal move that leads elsewhere does not lead to the diagram
   pub goal_off : (p : State) (m : Move) → IsPosition p → (q : State) × Legal p m q → LeadsElsewhere d p m → (chess d l games cut).is_goal ((chess d l games cut).play p m) ≡ false

@@ -1,6 +1,6 @@
 -- A certificate that fits proves that the list is complete.
 use Rattle.std.proofs.Common.{◌≡◌, ℕ, zero, suc, ◌+◌, ◌<◌, ◌⊎◌, Bool, true, false, ◌||◌, List, [], ◌∷◌, ◌++◌, length, Some, slice_get, slice_index_or, Contains, refl, sym, ◌∙◌, subst, inl, inr, ⊎_elim, arith, append_assoc, append-nil}
-use Rattle.pg_checker.specs.Tree.{Tree, Trees, Leaf, Expand, Cut, Ref, Priced, Empty, First, Entry, Rules, Reaches, Barren, Fits, FitAll, fertile, any_fertile, closed, closed_all, entry}
+use Rattle.pg_checker.specs.Tree.{Tree, Trees, Leaf, Expand, Cut, Ref, Priced, Empty, First, Entry, Rules, EndsOnGoal, Barren, Fits, FitAll, fertile, any_fertile, closed, closed_all, entry}
 use Rattle.pg_checker.specs.Claims.{IsRight, FitFrom, count, IsComplete, IsCertificate}
 
 contains_at : {X : Type 0} (x y : X) (xs : List X) (i : ℕ) → i < length (x ∷ xs) → slice_index_or (x ∷ xs) i y ≡ y → (x ≡ y) ⊎ Contains xs y
@@ -51,19 +51,19 @@ module _ {P M : Type 0} (r : Rules P M) (Met : P → Type 0) where
 
   -- what a tree that fits proves at its place
   record Good (n k : ℕ) (g : List M) (p : P) (t : Tree) : Type 0 where
-    games : (ms : List M) → Reaches r k p ms → (n ≡ r.plies) × (r.is_listed (g ++ ms) ≡ true)
+    games : (ms : List M) → EndsOnGoal r k p ms → (n ≡ r.plies) × (r.is_listed (g ++ ms) ≡ true)
     barren : fertile r p t ≡ false → Barren r k p
     told : AllTold (closed r k p t)
 
   record GoodAll (n k : ℕ) (g : List M) (p : P) (next : List M) (ts : Trees) : Type 0 where
-    games : (m : M) (ms : List M) → Contains next m → Reaches r k (r.play p m) ms → (n ≡ r.plies) × (r.is_listed (g ++ (m ∷ ms)) ≡ true)
+    games : (m : M) (ms : List M) → Contains next m → EndsOnGoal r k (r.play p m) ms → (n ≡ r.plies) × (r.is_listed (g ++ (m ∷ ms)) ≡ true)
     barren : any_fertile r p next ts ≡ false → (m : M) → Contains next m → Barren r k (r.play p m)
     told : AllTold (closed_all r k p next ts)
 
-  from_barren : (n k : ℕ) (g : List M) (p : P) → Barren r k p → (ms : List M) → Reaches r k p ms → (n ≡ r.plies) × (r.is_listed (g ++ ms) ≡ true)
+  from_barren : (n k : ℕ) (g : List M) (p : P) → Barren r k p → (ms : List M) → EndsOnGoal r k p ms → (n ≡ r.plies) × (r.is_listed (g ++ ms) ≡ true)
   from_barren n k g p b ms h = absurd (b ms h)
 
-  leaf_games : (n : ℕ) (g : List M) (p : P) (es : List (Entry P)) → Fits r n zero g p es Leaf → (ms : List M) → Reaches r zero p ms → (n ≡ r.plies) × (r.is_listed (g ++ ms) ≡ true)
+  leaf_games : (n : ℕ) (g : List M) (p : P) (es : List (Entry P)) → Fits r n zero g p es Leaf → (ms : List M) → EndsOnGoal r zero p ms → (n ≡ r.plies) × (r.is_listed (g ++ ms) ≡ true)
   leaf_games n g p es fit [] h = ((fit h).0, rw append-nil (fit h).1)
   leaf_games n g p es fit (m ∷ ms) h = absurd h
 
@@ -71,7 +71,7 @@ module _ {P M : Type 0} (r : Rules P M) (Met : P → Type 0) where
   leaf_barren p f [] h = absurd (cc)
   leaf_barren p f (m ∷ ms) h = h
 
-  step_games : (n k : ℕ) (g : List M) (p : P) (ts : Trees) → GoodAll n k g p (r.moves p) ts → (ms : List M) → Reaches r (suc k) p ms → (n ≡ r.plies) × (r.is_listed (g ++ ms) ≡ true)
+  step_games : (n k : ℕ) (g : List M) (p : P) (ts : Trees) → GoodAll n k g p (r.moves p) ts → (ms : List M) → EndsOnGoal r (suc k) p ms → (n ≡ r.plies) × (r.is_listed (g ++ ms) ≡ true)
   step_games n k g p ts good [] h = absurd h
   step_games n k g p ts good (m ∷ ms) h = good.games m ms h.0 h.1
 
@@ -90,7 +90,7 @@ module _ {P M : Type 0} (r : Rules P M) (Met : P → Type 0) where
         let one = ih (g ++ (m ∷ [])) (r.play p m) es t (met m (contains_first m next)) a fit.0 in
         let others = good_all n k ih g p next (es ++ closed r k (r.play p m) t) ts (λ l c. met l (contains_next m l next c)) (told_append es (closed r k (r.play p m) t) a one.told) fit.1 in
         record {
-          games = λ l ms c h. ⊎_elim (λ e. let here : Reaches r k (r.play p m) ms = subst (λ (x : M). Reaches r k (r.play p x) ms) (sym e) h in
+          games = λ l ms c h. ⊎_elim (λ e. let here : EndsOnGoal r k (r.play p m) ms = subst (λ (x : M). EndsOnGoal r k (r.play p x) ms) (sym e) h in
               let got = one.games ms here in
               (got.0, subst (λ (x : M). r.is_listed (g ++ (x ∷ ms)) ≡ true) e (rw append_assoc at got.1)))
               (λ d. others.games l ms d h) (contains_cases m l next c);
@@ -128,11 +128,11 @@ module _ {P M : Type 0} (r : Rules P M) (Met : P → Type 0) where
         }
 
     -- from length n on, with the trees that are left
-    from : (n : ℕ) (p : P) (es : List (Entry P)) (ts : Trees) → Met p → AllTold es → FitFrom r n p es ts → (m : ℕ) (ms : List M) → n < suc m → m < n + count r ts → Reaches r m p ms → (m ≡ r.plies) × (r.is_listed ms ≡ true)
+    from : (n : ℕ) (p : P) (es : List (Entry P)) (ts : Trees) → Met p → AllTold es → FitFrom r n p es ts → (m : ℕ) (ms : List M) → n < suc m → m < n + count r ts → EndsOnGoal r m p ms → (m ≡ r.plies) × (r.is_listed ms ≡ true)
     from n p es Empty met a fit m ms low high h = absurd (omega arith)
     from n p es (First t ts) met a fit m ms low high h =
         let one = good n n [] p es t met a fit.0 in
-        ⊎_elim (λ (e : n ≡ m). let here : Reaches r n p ms = subst (λ (x : ℕ). Reaches r x p ms) (sym e) h in
+        ⊎_elim (λ (e : n ≡ m). let here : EndsOnGoal r n p ms = subst (λ (x : ℕ). EndsOnGoal r x p ms) (sym e) h in
         let got = one.games ms here in (sym e ∙ got.0, got.1))
         (λ (l : suc n < suc m). from (suc n) p (es ++ closed r n p t) ts met (told_append es (closed r n p t) a one.told) fit.1 m ms l (omega arith) h)
         (let split : (n ≡ m) ⊎ (suc n < suc m) = grind arith in split)

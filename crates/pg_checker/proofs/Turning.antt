@@ -8,7 +8,7 @@ use Rattle.pg_position.specs.Step.{Legal}
 use Rattle.pg_moves.specs.Moves.{IsNext, IsLast}
 use Rattle.pg_moves.proofs.PlayLemmas.{play_of_is}
 use Rattle.pg_checker.specs.Tree as tree
-use Rattle.pg_checker.specs.Tree.{one_if, entry, Rules}
+use Rattle.pg_checker.specs.Tree.{one_if, entry}
 use Rattle.pg_checker.specs.numbers.Frames.{enter, turn, turn_at, Work}
 use Rattle.pg_checker.specs.Chess.{Cuts, chess}
 use Rattle.pg_checker.specs.Left.{left_after}
@@ -47,6 +47,14 @@ module _ (d : Placement) (l : ℕ) (games : List (List Move)) (cut : Cuts) (n : 
   entry_is true k p f = refl
   entry_is false k p f = refl
 
+  -- the entries when a node has closed
+  pub entries_closed : (m new : Machine) (top : Frame) (found : Bool) → found ≡ (top.found || m.found)
+      → map entry_of new.table.entries ≡ map entry_of m.table.entries ++ entered top.named (record { position = top.moves.position; plies = suc top.plies; fertile = found })
+      → entries_of m ++ entry (chess d l games cut) top.named (suc top.plies) top.moves.position (top.found || m.found) ≡ entries_of new
+  entries_closed m new top found is entries =
+      ap (λ (f : Bool). entries_of m ++ entry (chess d l games cut) top.named (suc top.plies) top.moves.position f) (sym is)
+      ∙ ap (λ (v : List (tree.Entry State)). entries_of m ++ v) (entry_is top.named (suc top.plies) top.moves.position found) ∙ sym entries
+
   -- the node closes
   pub turn_closes : (known after : Option (List ℕ)) (top : Frame) (m new : Machine) (found : Bool) → after ≡ known → found ≡ (top.found || m.found) → IsLast top.moves.position top.moves.last
       → new.frames ≡ m.frames → new.room ≡ m.room → new.records ≡ m.records → new.found ≡ found → map entry_of new.table.entries ≡ map entry_of m.table.entries ++ entered top.named (record { position = top.moves.position; plies = suc top.plies; fertile = found })
@@ -61,11 +69,8 @@ module _ (d : Placement) (l : ℕ) (games : List (List Move)) (cut : Cuts) (n : 
       fertile : (top.found || m.found) ≡ new.found
       fertile = sym (found_is ∙ is)
 
-      all : entries_of m ++ entry (chess d l games cut) top.named (suc top.plies) top.moves.position (top.found || m.found) ≡ entries_of new
-      all = ap (λ (f : Bool). entries_of m ++ entry (chess d l games cut) top.named (suc top.plies) top.moves.position f) (sym is) ∙ ap (λ (v : List (tree.Entry State)). entries_of m ++ v) (entry_is top.named (suc top.plies) top.moves.position found) ∙ sym entries
-
       closed : (rest : List ℕ) (x : ℕ) → turn_at (chess d l games cut) n (frame_of top (reverse m.frames.items)) (frames_of (reverse m.frames.items)) m.found (state_at m rest x) [] ≡ Ok (work_at (chess d l games cut) new rest x)
-      closed rest x = λ i. Ok (record { frames = stack i; found = fertile i; state = record { rest = rest; entries = all i; records = sym records i; room = x } })
+      closed rest x = λ i. Ok (record { frames = stack i; found = fertile i; state = record { rest = rest; entries = entries_closed m new top found is entries i; records = sym records i; room = x } })
 
   -- its next move is played
   plays : (top advanced : Frame) (m mid : Machine) (next : State) (move : Move) → advanced ≡ record top { moves = record { position = top.moves.position; last = Some move }; found = top.found || m.found } → IsNext top.moves.position top.moves.last move → IsPosition top.moves.position → Legal top.moves.position move next

@@ -2,12 +2,10 @@
 use Rattle.std.proofs.Common.{◌≡◌, ◌≢◌, ℕ, zero, suc, ◌+◌, ◌-◌, ◌<◌, ◌⊎◌, true, false, List, [], ◌∷◌, ◌++◌, Ok, Err, Contains, refl, sym, ◌∙◌, ap, ap₂, subst, inl, inr, ⊎_elim, arith, append_assoc, append-nil}
 use Rattle.pg_certificate.specs.declared.record.Record.{Record}
 use Rattle.pg_certificate.specs.declared.record.Record.TheVariants.{Expand as Expanded, Cut as CutBy, Ref as RefTo, Priced as PricedBy}
-use Rattle.pg_checker.specs.Tree.{Trees, Empty, First, Cause, Trailing, Entry, Rules, Reaches, Fits, FitAll, fertile, closed, spelling, spelling_all, records_all, named_all}
+use Rattle.pg_checker.specs.Tree.{Trees, Empty, First, Cause, Trailing, Entry, Rules, EndsOnGoal, Fits, FitAll, fertile, closed, spelling, spelling_all, records_all, named_all, TooManyNamed}
 use Rattle.pg_checker.specs.Walk.{WalkState, visit, Took}
 use Rattle.pg_checker.specs.Claims.{FitFrom, count, IsCertificate, IsComplete, IsRight, IsExact}
-use Rattle.pg_checker.specs.Tree.{TooManyNamed}
-use Rattle.pg_checker.specs.Front.{RefusesRecord, no_budget, no_record, refused}
-use Rattle.pg_checker.specs.Front.{Front, front_records, front_named, front_spelling, Place, FitFront, CauseAt}
+use Rattle.pg_checker.specs.Front.{RefusesRecord, no_budget, no_record, refused, Front, front_records, front_named, front_spelling, Place, FitFront, CauseAt}
 use Rattle.pg_checker.specs.Whole.{IsAtNamed, run, ended, answer, closed_from, IsAccepted, IsStopped, HasMore, full, full_all, full_from}
 use Rattle.pg_checker.proofs.Steps.{bind_ok}
 use Rattle.pg_checker.proofs.Exact.{visit_ok}
@@ -182,15 +180,15 @@ module _ {P M : Type 0} (r : Rules P M) where
     pub sound : (Met : P → Type 0) → IsRight r Met → (p : P) → Met p → (a b : ℕ) (bytes : List ℕ) (x : ℕ × ℕ) → answer r p a b bytes ≡ Ok x → IsComplete r p
     sound Met right p met a b bytes x h = let yes = accepted p a b bytes x h in complete r Met right p yes.trees met yes.fits
 
-  full_all_fits : (n k : ℕ) → ((g : List M) (p : P) (es : List (Entry P)) → ((ms : List M) → Reaches r k p ms → (n ≡ r.plies) × (r.is_listed (g ++ ms) ≡ true)) → Fits r n k g p es (full r k p))
-      → (g : List M) (p : P) (ms : List M) (es : List (Entry P)) → ((m : M) (ls : List M) → Contains ms m → Reaches r k (r.play p m) ls → (n ≡ r.plies) × (r.is_listed (g ++ (m ∷ ls)) ≡ true)) → FitAll r n k g p ms es (full_all r (full r k) p ms)
+  full_all_fits : (n k : ℕ) → ((g : List M) (p : P) (es : List (Entry P)) → ((ms : List M) → EndsOnGoal r k p ms → (n ≡ r.plies) × (r.is_listed (g ++ ms) ≡ true)) → Fits r n k g p es (full r k p))
+      → (g : List M) (p : P) (ms : List M) (es : List (Entry P)) → ((m : M) (ls : List M) → Contains ms m → EndsOnGoal r k (r.play p m) ls → (n ≡ r.plies) × (r.is_listed (g ++ (m ∷ ls)) ≡ true)) → FitAll r n k g p ms es (full_all r (full r k) p ms)
   full_all_fits n k ih g p [] es h = tt
   full_all_fits n k ih g p (m ∷ ms) es h = (
     ih (g ++ (m ∷ [])) (r.play p m) es (λ ls w. let d = h m ls (contains_first m ms) w in (d.0, rw append_assoc d.1)),
     full_all_fits n k ih g p ms (es ++ closed r k (r.play p m) (full r k (r.play p m))) (λ l ls c w. h l ls (contains_next m l ms c) w),
   )
 
-  full_fits : (n k : ℕ) (g : List M) (p : P) (es : List (Entry P)) → ((ms : List M) → Reaches r k p ms → (n ≡ r.plies) × (r.is_listed (g ++ ms) ≡ true)) → Fits r n k g p es (full r k p)
+  full_fits : (n k : ℕ) (g : List M) (p : P) (es : List (Entry P)) → ((ms : List M) → EndsOnGoal r k p ms → (n ≡ r.plies) × (r.is_listed (g ++ ms) ≡ true)) → Fits r n k g p es (full r k p)
   full_fits n zero g p es h = λ e. let d = h [] e in (d.0, rw append-nil at d.1)
   full_fits n (suc k) g p es h = full_all_fits n k (full_fits n k) g p (r.moves p) es (λ m ls c w. h (m ∷ ls) (c, w))
 

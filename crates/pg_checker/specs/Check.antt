@@ -40,7 +40,8 @@ abbrev pub Accepts : CheckRules → Placement → List (List Move) → ℕ → �
 Accepts r d games max_records max_named known (Ok proved) = AreSolutions d r.plies games × IfSome known (λ bytes. IsCertified r d max_records max_named bytes proved)
 Accepts r d games max_records max_named known (Err fault.Read) = Unit {0}
 Accepts r d games max_records max_named known (Err fault.Memory) = Unit {0}
-Accepts r d games max_records max_named known (Err e) = AreSolutions d r.plies games → IfSome known (λ bytes. (proved : Proved) → ¬ IsCertified r d max_records max_named bytes proved)
+Accepts r d games max_records max_named known (Err e) =
+    AreSolutions d r.plies games → IfSome known (λ bytes. (proved : Proved) → ¬ IsCertified r d max_records max_named bytes proved)
 
 -- the bytes begin with the header of a version, for d and n, and the others come after it
 abbrev pub IsHeaded : ℕ → Placement → ℕ → List ℕ → List ℕ → Type 0
@@ -48,7 +49,8 @@ IsHeaded version d n bytes rest = IsVersion version × (bytes ≡ header_spellin
 
 -- behind the header of some version, the cause is the first one at a front
 abbrev pub StopsAt : CheckRules → Placement → ℕ → ℕ → List ℕ → tree.Cause Move → Type 0
-StopsAt r d max_records max_named bytes cause = (version : ℕ) × (rest : List ℕ) × IsHeaded version d r.plies bytes rest × IsStopped (r.of version) array_state max_records max_named rest cause
+StopsAt r d max_records max_named bytes cause =
+    (version : ℕ) × (rest : List ℕ) × IsHeaded version d r.plies bytes rest × IsStopped (r.of version) array_state max_records max_named rest cause
 
 -- why the bytes are refused
 abbrev pub IsRefused : CheckRules → Placement → ℕ → ℕ → List ℕ → Fault → Type 0
@@ -68,8 +70,10 @@ IsRefused r d max_records max_named bytes fault.RefFertile = StopsAt r d max_rec
 IsRefused r d max_records max_named bytes fault.TooManyNamed = StopsAt r d max_records max_named bytes tree.TooManyNamed
 IsRefused r d max_records max_named bytes (fault.Shorter m) = StopsAt r d max_records max_named bytes (tree.Shorter m)
 IsRefused r d max_records max_named bytes (fault.Unlisted game) = StopsAt r d max_records max_named bytes (tree.Unlisted game.items)
-IsRefused r d max_records max_named bytes fault.Trailing = (version : ℕ) × (rest : List ℕ) × IsHeaded version d r.plies bytes rest × HasMore (r.of version) array_state max_records max_named rest
-IsRefused r d max_records max_named bytes fault.Memory = (version : ℕ) × (rest : List ℕ) × IsHeaded version d r.plies bytes rest × IsAtNamed (r.of version) array_state max_records max_named rest
+IsRefused r d max_records max_named bytes fault.Trailing =
+    (version : ℕ) × (rest : List ℕ) × IsHeaded version d r.plies bytes rest × HasMore (r.of version) array_state max_records max_named rest
+IsRefused r d max_records max_named bytes fault.Memory =
+    (version : ℕ) × (rest : List ℕ) × IsHeaded version d r.plies bytes rest × IsAtNamed (r.of version) array_state max_records max_named rest
 
 -- Each fault stands where it belongs: Listed where a listed game is no solution, and for the first such game; any other only where all are; Read only where the source has failed.
 abbrev pub Refuses : CheckRules → Placement → List (List Move) → ℕ → ℕ → Option (List ℕ) → Bool → Result Proved Fault → Type 0

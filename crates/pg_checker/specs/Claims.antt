@@ -4,7 +4,7 @@ use Rattle.pg_certificate.specs.declared.record.Record.{Record}
 use Rattle.pg_board.specs.declared.man.Color.{Color}
 use Rattle.pg_captures.specs.PriceLists.{PriceList}
 use Rattle.pg_certificate.specs.declared.record.Record.TheVariants.{Expand as Expanded}
-use Rattle.pg_checker.specs.Tree.{Tree, Trees, Empty, First, Entry, Rules, Reaches, Barren, Fits, fertile, closed}
+use Rattle.pg_checker.specs.Tree.{Tree, Trees, Empty, First, Entry, Rules, EndsOnGoal, Barren, Fits, fertile, closed}
 use Rattle.pg_checker.specs.Walk.{WalkState, Took}
 
 module _ {P M : Type 0} (r : Rules P M) where
@@ -32,14 +32,14 @@ module _ {P M : Type 0} (r : Rules P M) where
 
   -- every game of the stated length is listed, and no shorter one is there
   abbrev pub IsComplete : P → Type 0
-  IsComplete p = (n : ℕ) (ms : List M) → n < suc r.plies → Reaches r n p ms → (n ≡ r.plies) × (r.is_listed ms ≡ true)
+  IsComplete p = (n : ℕ) (ms : List M) → n < suc r.plies → EndsOnGoal r n p ms → (n ≡ r.plies) × (r.is_listed ms ≡ true)
 
   -- the trees of the lengths 0 to the stated one fit
   abbrev pub IsCertificate : P → Trees → Type 0
   IsCertificate p ts = (count ts ≡ suc r.plies) × FitFrom 0 p [] ts
 
   -- the walk read a tree that fits, and nothing else
-  pub record Reads (n k : ℕ) (g : List M) (p : P) (s : WalkState P) (found : Bool) (t : WalkState P) : Type 0 where
+  pub record ReadsTree (n k : ℕ) (g : List M) (p : P) (s : WalkState P) (found : Bool) (t : WalkState P) : Type 0 where
     pub tree : Tree
     pub fits : Fits r n k g p s.entries tree
     pub took : Took r k p s tree t

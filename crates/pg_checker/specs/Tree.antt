@@ -62,14 +62,14 @@ pub record Rules (P M : Type 0) : Type 0 where
 
 module _ {P M : Type 0} (r : Rules P M) where
   -- a game of k plies from p that ends on the diagram
-  abbrev pub Reaches : ℕ → P → List M → Type 0
-  Reaches zero p [] = r.is_goal p ≡ true
-  Reaches (suc k) p (m ∷ ms) = Contains (r.moves p) m × Reaches k (r.play p m) ms
-  Reaches zero p (m ∷ ms) = ⊥
-  Reaches (suc k) p [] = ⊥
+  abbrev pub EndsOnGoal : ℕ → P → List M → Type 0
+  EndsOnGoal zero p [] = r.is_goal p ≡ true
+  EndsOnGoal (suc k) p (m ∷ ms) = Contains (r.moves p) m × EndsOnGoal k (r.play p m) ms
+  EndsOnGoal zero p (m ∷ ms) = ⊥
+  EndsOnGoal (suc k) p [] = ⊥
 
   abbrev pub Barren : ℕ → P → Type 0
-  Barren k p = (ms : List M) → Reaches k p ms → ⊥
+  Barren k p = (ms : List M) → EndsOnGoal k p ms → ⊥
 
   -- a Leaf stands where the placement is the diagram
   abbrev mutual

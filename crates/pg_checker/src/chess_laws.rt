@@ -21,6 +21,7 @@ ghost use Rattle.pg_checker.specs.Whole.{IsAtNamed, full_from, answer, IsAccepte
 
 /// The rules by which the walk goes are those of chess, with the cuts handed in and the records of
 /// certificates of their version, and no state has more than 28,672 moves.
+#[tactic(auto, using(crate::proofs::Chess::of_chess))]
 pub fn rules_are_those_of_chess()
     ensures rules { (d : Placement) (n : ℕ) (games : List (List Move)) (cut : Cuts) → IsChess (chess d n games cut) cut.version d n games }
     ensures cuts { (d : Placement) (n : ℕ) (games : List (List Move)) (cut : Cuts) → (chess d n games cut).cut ≡ cut.bounds }
@@ -42,6 +43,7 @@ pub fn records_are_read_as_spelled()
 
 /// Of the moves that the rules have for a position the next legal one comes first, and what is left
 /// after it is what is left of them.
+#[tactic(auto, using(crate::proofs::Left::in_order))]
 pub fn moves_come_in_order()
     ensures start { (d : Placement) (n : ℕ) (games : List (List Move)) (cut : Cuts) (p : State) → (chess d n games cut).moves p ≡ left_after p None }
     ensures next { (p : State) (last : Option Move) (m : Move) → IsNext p last m → left_after p last ≡ m ∷ left_after p (Some m) }

@@ -7,13 +7,13 @@ ghost use Rattle.pg_checker.specs.Differing.{Differ, TwoToFour};
 ghost use Rattle.pg_checker.specs.Passing.{AllElsewhere, LeadsElsewhere, LeadsTo, NextLeads, PassesOver};
 
 use crate::play::after;
-use pg_board::{Square, contains};
+use pg_board::{Square, SquareSet};
 use pg_fen::Diagram;
 use pg_moves::LegalMoves;
-use pg_position::{Move, Position, first_from};
+use pg_position::{Move, Position};
 
-// The squares on which the position is not as the diagram: bit q for the square q.
-fn differing(diagram: &Diagram, position: &Position) -> u64
+// The squares on which the position is not as the diagram.
+fn differing(diagram: &Diagram, position: &Position) -> SquareSet
     ensures differ { Differ position.now.board diagram.now result }
     ensures position { IsPosition position.now }
 {
@@ -28,19 +28,19 @@ pub fn may_reach(diagram: &Diagram, position: &Position) -> bool
     ensures position { IsPosition position.now }
 {
     let squares = differing(diagram, position);
-    let Some(first) = first_from(squares, 0) else {
+    let Some(first) = squares.first_from(0) else {
         return false;
     };
-    let Some(second) = first_from(squares, first.index() + 1) else {
+    let Some(second) = squares.first_from(first.index() + 1) else {
         return false;
     };
-    let Some(third) = first_from(squares, second.index() + 1) else {
+    let Some(third) = squares.first_from(second.index() + 1) else {
         return true;
     };
-    let Some(fourth) = first_from(squares, third.index() + 1) else {
+    let Some(fourth) = squares.first_from(third.index() + 1) else {
         return true;
     };
-    match first_from(squares, fourth.index() + 1) {
+    match squares.first_from(fourth.index() + 1) {
         Some(_fifth) => false,
         None => true,
     }
@@ -84,14 +84,14 @@ fn leads_between(diagram: &Diagram, position: &Position, from: Square, to: Squar
 }
 
 // Whether a move from a square leads to the diagram: it goes to one of the squares that differ.
-fn leads_from(diagram: &Diagram, squares: u64, position: &Position, from: Square) -> bool
+fn leads_from(diagram: &Diagram, squares: SquareSet, position: &Position, from: Square) -> bool
     requires squares { Differ position.now.board diagram.now squares }
     ensures { IsTrue result ↔ ((m : Move) × (m.from ≡ from) × LeadsTo diagram.now position.now m) }
 {
     // A fact for the proof: what is handed in is a position.
     position.side();
     let mut at = 0;
-    while let Some(to) = first_from(squares, at) {
+    while let Some(to) = squares.first_from(at) {
         if leads_between(diagram, position, from, to) {
             return true;
         }
@@ -101,13 +101,13 @@ fn leads_from(diagram: &Diagram, squares: u64, position: &Position, from: Square
 }
 
 // Whether a legal move leads to the diagram: it leaves one of the squares that differ.
-fn has_leading(diagram: &Diagram, squares: u64, position: &Position) -> bool
+fn has_leading(diagram: &Diagram, squares: SquareSet, position: &Position) -> bool
     requires squares { Differ position.now.board diagram.now squares }
     ensures { IsTrue result ↔ ((m : Move) × LeadsTo diagram.now position.now m) }
 {
     let own = squares & position.board().squares_of_color(position.side());
     let mut at = 0;
-    while let Some(from) = first_from(own, at) {
+    while let Some(from) = own.first_from(at) {
         if leads_from(diagram, squares, position, from) {
             return true;
         }
@@ -118,14 +118,14 @@ fn has_leading(diagram: &Diagram, squares: u64, position: &Position) -> bool
 
 // Whether a legal move leads to the diagram. It is played only where it leaves one of the squares
 // that differ.
-fn leads(diagram: &Diagram, squares: u64, position: &Position, m: &Move) -> bool
+fn leads(diagram: &Diagram, squares: SquareSet, position: &Position, m: &Move) -> bool
     requires squares { Differ position.now.board diagram.now squares }
     requires legal { IsLegal position.now m.now }
     requires position { IsPosition position.now }
     ensures away { result ≡ false → LeadsElsewhere diagram.now position.now m.now }
     ensures there { result ≡ true → LeadsTo diagram.now position.now m.now }
 {
-    if !contains(squares, m.from.index()) {
+    if !squares.contains(m.from) {
         return false;
     }
     diagram.matches(&after(position, m))

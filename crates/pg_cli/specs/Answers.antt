@@ -20,5 +20,5 @@ abbrev pub AreAnswered : List ℕ → List ℕ → List ℕ → ℕ → Type 0
 AreAnswered diagram length games status = (d : Placement) × (n : ℕ) × (list : List (List Move)) × AreSpelled diagram length games d n list × IsAnswered d n list status
 
 -- the two texts spell a diagram and a length, and some list is the exact answer to them
-abbrev pub IsRight : List ℕ → List ℕ → Type 0
-IsRight diagram length = (d : Placement) × (n : ℕ) × (list : List (List Move)) × (diagram_of (fields diagram) ≡ Ok d) × (length_of length ≡ Ok n) × IsExactAnswer d n list
+abbrev pub HasExactAnswer : List ℕ → List ℕ → Type 0
+HasExactAnswer diagram length = (d : Placement) × (n : ℕ) × (list : List (List Move)) × (diagram_of (fields diagram) ≡ Ok d) × (length_of length ≡ Ok n) × IsExactAnswer d n list

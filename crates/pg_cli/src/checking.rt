@@ -7,6 +7,7 @@ ghost use Rattle.pg_cli.specs.Answers.{AreAnswered};
 
 use crate::gathered::Gathered;
 use crate::input::list;
+use crate::line::{Cleared, Terminal};
 use crate::names::FileName;
 use crate::progress::{Watch, Watched};
 use crate::refusals::Refusal;
@@ -75,8 +76,12 @@ pub(crate) fn check_from<'a, R: Runtime + AllocGlobal, C: Read + Drop, W: Write 
     let Ok(games) = str::from_utf8(asked.games) else {
         return Err(Refusal::NotUtf8);
     };
-    let mut source = Watched::new(FromRead::new(certificate), Watch::new(rt, records, screen));
-    let mut out = Gathered::new(ToWrite::new(out));
+    let terminal = Terminal::new(screen);
+    let mut source = Watched::new(
+        FromRead::new(certificate),
+        Watch::new(rt, &terminal, records),
+    );
+    let mut out = Gathered::new(Cleared::new(ToWrite::new(out), rt, &terminal));
     let answer = run_check(
         rt.alloc(),
         asked.diagram,

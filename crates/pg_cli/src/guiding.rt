@@ -1,9 +1,10 @@
 //! `pg why`: a certificate explains a line of moves.
 ghost use Rattle.std.specs.Prelude.{OnOk};
-ghost use Rattle.pg_cli.specs.Answers.{IsRight};
+ghost use Rattle.pg_cli.specs.Answers.{HasExactAnswer};
 
 use crate::checking::{NAMED, RECORDS};
 use crate::gathered::Gathered;
+use crate::line::{Cleared, Terminal};
 use crate::names::FileName;
 use crate::progress::{Watch, Watched};
 use crate::refusals::{DONE, Refusal};
@@ -47,13 +48,14 @@ pub(crate) fn why_from<'a, R: Runtime + AllocGlobal, C: Read + Drop, W: Write + 
     records: u64,
     screen: bool,
 ) -> Result<u8, Refusal<'a>>
-    ensures right { OnOk result (IsRight asked.now.diagram.now asked.now.length.now) }
+    ensures right { OnOk result (HasExactAnswer asked.now.diagram.now asked.now.length.now) }
 {
     let (walked, checked, cited) = certificates;
-    let mut walked = watched(rt, walked, records, screen);
-    let mut checked = watched(rt, checked, records, screen);
-    let mut cited = watched(rt, cited, records, false);
-    let mut out = Gathered::new(ToWrite::new(out));
+    let terminal = Terminal::new(screen);
+    let mut walked = watched(rt, &terminal, walked, records);
+    let mut checked = watched(rt, &terminal, checked, records);
+    let mut cited = watched(rt, &terminal, cited, records);
+    let mut out = Gathered::new(Cleared::new(ToWrite::new(out), rt, &terminal));
     let answer = explain(
         rt.alloc(),
         asked,
@@ -80,11 +82,14 @@ pub(crate) fn why_from<'a, R: Runtime + AllocGlobal, C: Read + Drop, W: Write + 
 // A certificate whose records are counted.
 fn watched<'a, R: Runtime, C: Read + Drop>(
     rt: &'a R,
+    terminal: &'a Terminal,
     certificate: C,
     records: u64,
-    screen: bool,
 ) -> Watched<'a, FromRead<C>, R> {
-    Watched::new(FromRead::new(certificate), Watch::new(rt, records, screen))
+    Watched::new(
+        FromRead::new(certificate),
+        Watch::new(rt, terminal, records),
+    )
 }
 
 // A file of this name.

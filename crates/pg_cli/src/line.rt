@@ -1,5 +1,8 @@
 //! A line on the terminal, rewritten about twice a second.
+ghost use Rattle.std.specs.Prelude.{◌≡◌};
 
+use pg_report::{Refused, Sink};
+use std::cell::Cell;
 use std::io::Eprint;
 use std::time::{Clock, Instant};
 
@@ -12,34 +15,70 @@ const BETWEEN: u128 = 500;
 // A line has so many characters at most, one fewer than the narrowest terminal that it is for.
 pub(crate) const WIDTH: usize = 19;
 
-// A line on the terminal that says how far a run is.
+// The line of a terminal on which runs say how far they are, as all see it that write there.
 #[derive(Drop)]
-pub(crate) struct Line<'a, R> {
-    rt: &'a R,
-    /// None where nothing is to be shown.
-    began: Option<Instant>,
-    /// The next line is due after so many milliseconds.
-    due: u128,
-    shown: bool,
+pub(crate) struct Terminal {
+    /// Whether somebody looks at it.
+    screen: bool,
+    /// Whether a text stands on the line.
+    shown: Cell<bool>,
 }
 
-impl<'a, R: Clock + Eprint> Line<'a, R> {
-    // A line that is shown where there is a screen. The run begins now.
-    pub(crate) fn new(rt: &'a R, screen: bool) -> Line<'a, R> {
-        Line {
-            rt,
-            began: if screen { Instant::now(rt).ok() } else { None },
-            due: FIRST,
-            shown: false,
+impl Terminal {
+    // A line with no text, on a screen or on none.
+    pub(crate) fn new(screen: bool) -> Terminal {
+        Terminal {
+            screen,
+            shown: Cell::new(false),
         }
     }
 
-    // Whether a line may ever be due.
+    // Shows a text in the place of the last one.
+    fn show<R: Eprint>(&self, rt: &R, text: &str) {
+        let _ = eprint!(rt; "\r{text:<19}");
+        self.shown.set(true);
+    }
+
+    // Takes the text away, where one is shown.
+    fn clear<R: Eprint>(&self, rt: &R) {
+        if self.shown.replace(false) {
+            let _ = eprint!(rt; "\r{:<19}\r", "");
+        }
+    }
+}
+
+// A run that says on the terminal how far it is.
+#[derive(Drop)]
+pub(crate) struct Line<'a, R> {
+    rt: &'a R,
+    terminal: &'a Terminal,
+    /// None where nothing is to be shown.
+    began: Option<Instant>,
+    /// The next text is due after so many milliseconds.
+    due: u128,
+}
+
+impl<'a, R: Clock + Eprint> Line<'a, R> {
+    // On a terminal. The run begins now.
+    pub(crate) fn new(rt: &'a R, terminal: &'a Terminal) -> Line<'a, R> {
+        Line {
+            rt,
+            terminal,
+            began: if terminal.screen {
+                Instant::now(rt).ok()
+            } else {
+                None
+            },
+            due: FIRST,
+        }
+    }
+
+    // Whether a text may ever be due.
     pub(crate) fn is_on(&self) -> bool {
         self.began.is_some()
     }
 
-    // Whether the next line is due. The one after it is due half a second later.
+    // Whether the next text is due. The one after it is due half a second later.
     pub(crate) fn is_due(&mut self) -> bool {
         let Some(began) = self.began else {
             return false;
@@ -57,16 +96,49 @@ impl<'a, R: Clock + Eprint> Line<'a, R> {
 
     // Shows a text in the place of the last one.
     pub(crate) fn show(&mut self, text: &str) {
-        let _ = eprint!(self.rt; "\r{text:<19}");
-        self.shown = true;
+        self.terminal.show(self.rt, text);
     }
 
-    // Takes the line away. Nothing is due from then on.
+    // Takes the text away. Nothing is due from then on.
     pub(crate) fn end(&mut self) {
-        if self.shown {
-            let _ = eprint!(self.rt; "\r{:<19}\r", "");
-        }
-        self.shown = false;
+        self.terminal.clear(self.rt);
         self.began = None;
+    }
+}
+
+// A sink that takes the text on the terminal away before it hands bytes on, which may stand there too.
+#[derive(Drop)]
+pub(crate) struct Cleared<'a, W, R> {
+    inner: W,
+    rt: &'a R,
+    terminal: &'a Terminal,
+}
+
+impl<'a, W: Sink, R: Eprint> Cleared<'a, W, R> {
+    // Over a sink.
+    pub(crate) fn new(inner: W, rt: &'a R, terminal: &'a Terminal) -> Cleared<'a, W, R>
+        ensures held { ⟦<Cleared<'a, W, R> as Sink>⟧.held result ≡ W.held inner }
+        ensures runs { ⟦<Cleared<'a, W, R> as Sink>⟧.has_failed result ≡ W.has_failed inner }
+    {
+        Cleared {
+            inner,
+            rt,
+            terminal,
+        }
+    }
+}
+
+impl<W: Sink, R: Eprint> Sink for Cleared<'_, W, R> {
+    ghost held = { λ s. W.held s.inner };
+
+    ghost has_failed = { λ s. W.has_failed s.inner };
+
+    fn push(&mut self, bytes: &[u8]) -> Result<(), Refused> {
+        self.terminal.clear(self.rt);
+        self.inner.push(bytes)
+    }
+
+    fn failed(&self) -> bool {
+        self.inner.failed()
     }
 }

@@ -1,6 +1,7 @@
 //! The commands on one position: its legal moves, the number of games from it, and a diagram shown.
 
 use crate::gathered::Gathered;
+use crate::line::Terminal;
 use crate::refusals::{DONE, Refusal};
 use crate::runs::CountLine;
 use clap::ArgMatches;
@@ -35,7 +36,8 @@ pub(crate) fn count<'a, R: Runtime + AllocGlobal>(
     let fen = words.get_str("FEN").unwrap_or("");
     let plies = words.get_one::<u8>("PLIES").unwrap_or(u8::MAX);
     let mut out = Gathered::new(ToWrite::new(io::writer(rt)));
-    let mut line = CountLine::new(rt, screen);
+    let terminal = Terminal::new(screen);
+    let mut line = CountLine::new(rt, &terminal);
     let answer = run_count(rt.alloc(), fen, plies, &mut out, &mut line);
     line.end();
     match answer {

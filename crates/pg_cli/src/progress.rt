@@ -1,7 +1,7 @@
 //! How many records of a certificate have passed by, on the terminal.
 ghost use Rattle.std.specs.Prelude.{◌≡◌, ◌≤◌};
 
-use crate::line::{Line, WIDTH};
+use crate::line::{Line, Terminal, WIDTH};
 use arrayvec::ArrayString;
 use pg_report::{Refused, Source};
 use std::fmt::Write;
@@ -125,10 +125,10 @@ pub(crate) struct Watch<'a, R> {
 }
 
 impl<'a, R: Clock + Eprint> Watch<'a, R> {
-    // A watch that shows something where there is a screen, of at most so many records.
-    pub(crate) fn new(rt: &'a R, limit: u64, screen: bool) -> Watch<'a, R> {
+    // A watch over at most so many records, which says on a terminal how many passed by.
+    pub(crate) fn new(rt: &'a R, terminal: &'a Terminal, limit: u64) -> Watch<'a, R> {
         Watch {
-            line: Line::new(rt, screen),
+            line: Line::new(rt, terminal),
             limit,
             count: RecordCount::new(),
         }

@@ -1,6 +1,6 @@
 //! How far a long count or search is, on the terminal.
 
-use crate::line::{Line, WIDTH};
+use crate::line::{Line, Terminal, WIDTH};
 use crate::progress::{scaled, share};
 use arrayvec::ArrayString;
 use pg_report::{Length, Progress, SearchProgress};
@@ -19,10 +19,10 @@ pub(crate) struct CountLine<'a, R> {
 }
 
 impl<'a, R: Clock + Eprint> CountLine<'a, R> {
-    // With no game counted; shown where there is a screen.
-    pub(crate) fn new(rt: &'a R, screen: bool) -> CountLine<'a, R> {
+    // With no game counted.
+    pub(crate) fn new(rt: &'a R, terminal: &'a Terminal) -> CountLine<'a, R> {
         CountLine {
-            line: Line::new(rt, screen),
+            line: Line::new(rt, terminal),
             games: 0,
         }
     }
@@ -60,10 +60,10 @@ pub(crate) struct SearchLine<'a, R> {
 }
 
 impl<'a, R: Clock + Eprint> SearchLine<'a, R> {
-    // Of a search of so many nodes at most; shown where there is a screen.
-    pub(crate) fn new(rt: &'a R, limit: u64, screen: bool) -> SearchLine<'a, R> {
+    // Of a search of so many nodes at most.
+    pub(crate) fn new(rt: &'a R, terminal: &'a Terminal, limit: u64) -> SearchLine<'a, R> {
         SearchLine {
-            line: Line::new(rt, screen),
+            line: Line::new(rt, terminal),
             limit,
             turns: 0,
         }

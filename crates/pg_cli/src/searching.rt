@@ -6,6 +6,7 @@ ghost use Rattle.pg_cli.specs.Answers.{IsAnswered};
 
 use crate::checking::{NAMED, RECORDS, finished};
 use crate::gathered::Gathered;
+use crate::line::{Cleared, Terminal};
 use crate::progress::{Watch, Watched};
 use crate::refusals::Refusal;
 use crate::runs::SearchLine;
@@ -28,7 +29,8 @@ pub(crate) fn search_to<'a, R: Runtime + AllocGlobal, W: Write + Drop>(
     screen: bool,
 ) -> Result<Games, Refusal<'a>> {
     let mut sink = ToWrite::new(certificate);
-    let mut line = SearchLine::new(rt, nodes, screen);
+    let terminal = Terminal::new(screen);
+    let mut line = SearchLine::new(rt, &terminal, nodes);
     let found = search_for(
         rt.alloc(),
         &problem.diagram,
@@ -70,8 +72,12 @@ pub(crate) fn check_found<'a, R: Runtime + AllocGlobal, C: Read + Drop, W: Write
 ) -> Result<u8, Refusal<'a>>
     ensures headline { IfOk result (λ status. IsAnswered problem.now.diagram problem.now.length games.now status) }
 {
-    let mut source = Watched::new(FromRead::new(certificate), Watch::new(rt, records, screen));
-    let mut out = Gathered::new(ToWrite::new(out));
+    let terminal = Terminal::new(screen);
+    let mut source = Watched::new(
+        FromRead::new(certificate),
+        Watch::new(rt, &terminal, records),
+    );
+    let mut out = Gathered::new(Cleared::new(ToWrite::new(out), rt, &terminal));
     let answer = run_listed(
         rt.alloc(),
         &problem.diagram,

@@ -3,6 +3,7 @@ ghost use Rattle.std.specs.Prelude.{◌≡◌, ◌≤◌, IfOk};
 
 use crate::checking::RECORDS;
 use crate::gathered::Gathered;
+use crate::line::Terminal;
 use crate::names::FileName;
 use crate::progress::{Watch, Watched};
 use crate::refusals::{DONE, Refusal};
@@ -35,7 +36,8 @@ where
     O: Write + Drop,
     ensures few { IfOk result (λ n. n ≤ records) }
 {
-    let mut source = Watched::new(FromRead::new(old), Watch::new(rt, records, screen));
+    let terminal = Terminal::new(screen);
+    let mut source = Watched::new(FromRead::new(old), Watch::new(rt, &terminal, records));
     let mut sink = ToWrite::new(new);
     let answer = upgrade_from(&mut source, &mut sink, records);
     source.end();

@@ -12,7 +12,7 @@ use Rattle.std.proofs.lemmas.List.Elements.{All-cons, All-nil, All-head, All-tai
 use Rattle.std.proofs.lemmas.List.Splits.{slice_split-cons_no, slice_split-cons_yes, length-slice_split}
 use Rattle.std.proofs.lemmas.Str.{encodes-chars}
 use lib.Utf8.{encode}
-use Rattle.pg_fen.specs.Fields.{is_gap, fields}
+use Rattle.pg_fen.specs.Fields.{is_field_gap, fields}
 use Rattle.pg_fen.specs.PlacementText.{is_run, is_slash, width_of, width_of_char, is_eight_wide, chars_are_eight_wide, ranks_fit, ranks_fit_by_chars}
 
 -- ---- the bytes of one character
@@ -148,7 +148,7 @@ pub split_by_chars : (p : ℕ → Bool) → IsAsciiTest p → (cs : List ℕ) �
 split_by_chars p ascii [] = refl
 split_by_chars p ascii (c ∷ cs) = split_step p ascii c cs (p c) refl (slice_split p cs) refl (split_by_chars p ascii cs)
 
-gap_is_ascii : IsAsciiTest is_gap
+gap_is_ascii : IsAsciiTest is_field_gap
 gap_is_ascii b le = grind (arith, nat_tests)
 
 slash_is_ascii : IsAsciiTest is_slash
@@ -177,7 +177,7 @@ filter_encoded (part ∷ parts) = ap (λ (t : Bool). cond t (encodes part ∷ fi
     go false h = h
 
 fields_encoded : (cs : List ℕ) → fields (encodes cs) ≡ map encodes (fields cs)
-fields_encoded cs = ap (filter has_some) (split_by_chars is_gap gap_is_ascii cs) ∙ filter_encoded (slice_split is_gap cs)
+fields_encoded cs = ap (filter has_some) (split_by_chars is_field_gap gap_is_ascii cs) ∙ filter_encoded (slice_split is_field_gap cs)
 
 -- the fields of the bytes are those of the characters
 pub fields_by_chars : (bs : List ℕ) → IsUtf8 bs → fields bs ≡ map encodes (fields (chars bs))

@@ -7,10 +7,12 @@ use Rattle.pg_board.specs.declared.man.Color.{Color}
 use Rattle.pg_board.specs.declared.man.Color.TheVariants.{White, Black}
 use Rattle.pg_board.specs.declared.man.Man.{Man}
 use Rattle.pg_board.specs.declared.man.Kind.TheVariants.{Pawn}
-use Rattle.pg_board.specs.Tally.{one, count_below, total-none, total-suc}
-use Rattle.pg_board.specs.Men.{man, king_of, passes, is_man, is_man_decides, kind_eq, kind_decides}
+use Rattle.pg_board.specs.Tally.{one, count_below, tally, tally_below, count_of}
+use Rattle.pg_board.specs.lemmas.Sums.{total-none, total-suc}
+use Rattle.pg_board.specs.Men.{man, king_of, passes, is_man, kind_eq}
+use Rattle.pg_board.specs.lemmas.Equalities.{is_man_decides, kind_decides}
 use Rattle.pg_board.specs.Squares.{rank}
-use Rattle.pg_board.specs.Placement.{Placement, get, tally, tally_below, count_of}
+use Rattle.pg_board.specs.Placement.{Placement, get}
 use Rattle.pg_position.specs.Position.{IsOnlyKing, HasOneKing, PawnsClause}
 use Rattle.pg_fen.specs.PlacementText.{has_kings, is_edge, is_edge_pawn, has_no_edge_pawn}
 

@@ -17,20 +17,21 @@ use Rattle.pg_position.specs.declared.rights.Rights.{Rights}
 use Rattle.pg_position.specs.declared.state.State.{State}
 use Rattle.pg_position.specs.declared.refusals.BadPosition.{BadPosition}
 use Rattle.pg_position.specs.declared.refusals.BadPosition.TheVariants.{Kings, PawnRank, Rights as BadRights, EnPassant, Check}
-use Rattle.pg_position.specs.Position.{passed_rank, IsPassed, IsPosition, IsFirstBroken}
+use Rattle.pg_position.specs.Position.{IsPassed, IsPosition, IsFirstBroken}
+use Rattle.pg_position.specs.Squares.{passed_rank}
 use Rattle.pg_fen.specs.declared.fault.FenFault.{FenFault}
 use Rattle.pg_fen.specs.declared.details.Details.{Details}
 use Rattle.pg_fen.specs.declared.games.FenGame.{FenGame}
 use Rattle.pg_fen.specs.declared.games.GameParts.{GameParts}
-use Rattle.pg_fen.specs.Fields.{is_word_byte, fields}
-use Rattle.pg_fen.specs.Grammar.{IsSideText, AreRightsText, IsPassedText, IsNumberText, AreDetailTexts, IsGameText}
+use Rattle.pg_fen.specs.Fields.{is_field_byte, fields}
+use Rattle.pg_fen.specs.Grammar.{IsSideText, AreRightsText, IsPassedText, IsNumberText, AreDetailTexts, IsSixFieldText, IsPositionText}
 use Rattle.pg_fen.specs.PlacementText.{placement_text, read_placement}
 use Rattle.pg_fen.specs.DetailText.{details_of}
-use Rattle.pg_fen.specs.PositionText.{both_read, game_parts, game_of, IsGameOf}
-use Rattle.pg_fen.specs.PositionWriting.{side_text, rights_text, passed_text, parts_in, position_text}
+use Rattle.pg_fen.specs.PositionText.{both_read, game_parts, game_of, IsGameOrBroken}
+use Rattle.pg_fen.specs.PositionWriting.{side_text, rights_text, passed_text, parts_of_game, position_text}
 use Rattle.pg_fen.proofs.DetailLemmas.{details_read, details_spelled}
 use Rattle.pg_fen.proofs.DiagramLemmas.{diagram_of_state}
-use Rattle.pg_fen.proofs.GrammarLemmas.{placement_grammar, placement_word, placement_again}
+use Rattle.pg_fen.proofs.GrammarLemmas.{six_text, placement_grammar, placement_word, placement_again}
 use Rattle.pg_fen.proofs.WordLemmas.{IsWord, word_then, word_last}
 
 -- ---- the fields are spelled
@@ -118,22 +119,22 @@ rights_word true true false true = record { some = omega arith; clear = refl }
 rights_word true true true false = record { some = omega arith; clear = refl }
 rights_word true true true true = record { some = omega arith; clear = refl }
 
-high_byte : (b : ℕ) → 33 ≤ b → is_word_byte b ≡ true
+high_byte : (b : ℕ) → 33 ≤ b → is_field_byte b ≡ true
 high_byte b h = grind (arith, nat_tests)
 
 passed_word : (o : Option ℕ) → IsWord (passed_text o)
 passed_word None = record { some = omega arith; clear = refl }
-passed_word (Some s) = record { some = omega arith; clear = and_from (is_word_byte (97 + s % 8)) (is_word_byte (49 + s / 8) && true) (high_byte (97 + s % 8) (omega arith)) (and_from (is_word_byte (49 + s / 8)) true (high_byte (49 + s / 8) (omega arith)) refl) }
+passed_word (Some s) = record { some = omega arith; clear = and_from (is_field_byte (97 + s % 8)) (is_field_byte (49 + s / 8) && true) (high_byte (97 + s % 8) (omega arith)) (and_from (is_field_byte (49 + s / 8)) true (high_byte (49 + s / 8) (omega arith)) refl) }
 
-digit_byte : (b : ℕ) (t : Bool) → is_ascii_digit b ≡ true → is_word_byte b ≡ t → t ≡ true
+digit_byte : (b : ℕ) (t : Bool) → is_ascii_digit b ≡ true → is_field_byte b ≡ t → t ≡ true
 digit_byte b true d e = refl
-digit_byte b false d e = absurd (let low : 33 ≤ b = grind (arith, nat_tests) in let high : is_word_byte b ≡ true = high_byte b low in let no : false ≡ true = sym e ∙ high in cc)
+digit_byte b false d e = absurd (let low : 33 ≤ b = grind (arith, nat_tests) in let high : is_field_byte b ≡ true = high_byte b low in let no : false ≡ true = sym e ∙ high in cc)
 
-digits_clear : (ds : List ℕ) → all_ascii_digits ds ≡ true → list_all is_word_byte ds ≡ true
+digits_clear : (ds : List ℕ) → all_ascii_digits ds ≡ true → list_all is_field_byte ds ≡ true
 digits_clear [] h = refl
 digits_clear (d ∷ ds) h =
     let p = and_parts (is_ascii_digit d) (all_ascii_digits ds) h in
-    and_from (is_word_byte d) (list_all is_word_byte ds) (digit_byte d (is_word_byte d) p.0 refl) (digits_clear ds p.1)
+    and_from (is_field_byte d) (list_all is_field_byte ds) (digit_byte d (is_field_byte d) p.0 refl) (digits_clear ds p.1)
 
 number_word : (n : ℕ) → n < 65536 → IsWord (decimal n)
 number_word n low =
@@ -143,7 +144,7 @@ number_word n low =
 
 -- ---- the whole text
 module _ (g : FenGame) (pos : IsPosition g.position) (half : g.half < 65536) (full : g.full < 65536) where
-  details_are : AreDetailTexts (side_text g.position.side) (rights_text g.position.rights) (passed_text g.position.passed) (decimal g.half) (decimal g.full) (parts_in g).details
+  details_are : AreDetailTexts (side_text g.position.side) (rights_text g.position.rights) (passed_text g.position.passed) (decimal g.half) (decimal g.full) (parts_of_game g).details
   details_are = record {
     side_is = side_is g.position.side;
     rights_are = rights_by g.position.rights.white_king g.position.rights.white_queen g.position.rights.black_king g.position.rights.black_queen;
@@ -162,14 +163,14 @@ module _ (g : FenGame) (pos : IsPosition g.position) (half : g.half < 65536) (fu
       ∙ ap (λ x. passed_text g.position.passed ∷ x) (word_then (decimal g.half) _ (number_word g.half half)
       ∙ ap (λ x. decimal g.half ∷ x) (word_last (decimal g.full) (number_word g.full full))))))
 
-  pub game_again : game_parts (fields (position_text g)) ≡ Ok (parts_in g)
+  pub game_again : game_parts (fields (position_text g)) ≡ Ok (parts_of_game g)
   unfolding game_parts
-  game_again = rw (fields_are, placement_again g.position.board (diagram_of_state g.position pos), details_spelled _ _ _ _ _ (parts_in g).details details_are) refl
+  game_again = rw (fields_are, placement_again g.position.board (diagram_of_state g.position pos), details_spelled _ _ _ _ _ (parts_of_game g).details details_are) refl
 
 pub game_alone : (g h : FenGame) → IsPosition g.position → g.half < 65536 → g.full < 65536 → IsPosition h.position → h.half < 65536 → h.full < 65536 → position_text g ≡ position_text h → g ≡ h
 game_alone g h pos a b also c d e =
-    let same : ◌≡◌ {A = Result GameParts FenFault} (Ok (parts_in g)) (Ok (parts_in h)) = sym (game_again g pos a b) ∙ ap (λ x. game_parts (fields x)) e ∙ game_again h also c d in
-    let inner : parts_in g ≡ parts_in h = cc in
+    let same : ◌≡◌ {A = Result GameParts FenFault} (Ok (parts_of_game g)) (Ok (parts_of_game h)) = sym (game_again g pos a b) ∙ ap (λ x. game_parts (fields x)) e ∙ game_again h also c d in
+    let inner : parts_of_game g ≡ parts_of_game h = cc in
     ap game_of inner
 
 -- ---- the grammar of a position's text
@@ -186,24 +187,16 @@ both_by (Ok b) (Ok d) g e =
     record { board = ap (λ (x : GameParts). Ok x.board) same; details = ap (λ (x : GameParts). Ok x.details) same }
 
 module _ (text : List ℕ) (g : GameParts) where
-  six_read : (p s r q h f : List ℕ) → fields text ≡ p ∷ s ∷ r ∷ q ∷ h ∷ f ∷ [] → both_read (read_placement p) (details_of s r q h f) ≡ Ok g → IsGameText text g
+  six_read : (p s r q h f : List ℕ) → fields text ≡ p ∷ s ∷ r ∷ q ∷ h ∷ f ∷ [] → both_read (read_placement p) (details_of s r q h f) ≡ Ok g → IsPositionText text g
   six_read p s r q h f is e =
       let both = both_by (read_placement p) (details_of s r q h f) g e in
       let whole = (placement_grammar p g.board).0 both.board in
       record {
-        placement = p;
-        side = s;
-        rights = r;
-        passed = q;
-        half = h;
-        full = f;
-        are_fields = is;
-        spelled = whole.0;
         diagram = whole.1;
-        details_are = details_read s r q h f g.details both.details;
+        spelled = six_text text p s r q h f g is whole.0 (details_read s r q h f g.details both.details);
       }
 
-  game_by : (fs : List (List ℕ)) → fields text ≡ fs → game_parts fs ≡ Ok g → IsGameText text g
+  game_by : (fs : List (List ℕ)) → fields text ≡ fs → game_parts fs ≡ Ok g → IsPositionText text g
   unfolding game_parts
   game_by [] is e = absurd cc
   game_by (p ∷ []) is e = absurd cc
@@ -214,11 +207,13 @@ module _ (text : List ℕ) (g : GameParts) where
   game_by (p ∷ s ∷ r ∷ q ∷ h ∷ f ∷ []) is e = six_read p s r q h f is e
   game_by (p ∷ s ∷ r ∷ q ∷ h ∷ f ∷ x ∷ fs) is e = absurd cc
 
-  game_spelled : IsGameText text g → game_parts (fields text) ≡ Ok g
+  game_spelled : IsPositionText text g → game_parts (fields text) ≡ Ok g
   unfolding game_parts
-  game_spelled h = rw (h.are_fields, (placement_grammar h.placement g.board).1 (h.spelled, h.diagram), details_spelled h.side h.rights h.passed h.half h.full g.details h.details_are) refl
+  game_spelled h =
+      let six : IsSixFieldText text g = h.spelled in
+      rw (six.are_fields, (placement_grammar six.placement g.board).1 (six.spelled, h.diagram), details_spelled six.side six.rights six.passed six.half six.full g.details six.details_are) refl
 
-  pub game_grammar : (game_parts (fields text) ≡ Ok g) ↔ IsGameText text g
+  pub game_grammar : (game_parts (fields text) ≡ Ok g) ↔ IsPositionText text g
   game_grammar = (λ e. game_by (fields text) refl e, game_spelled)
 
 -- ---- what is written is read as this game and not otherwise
@@ -229,6 +224,6 @@ not_broken p pos BadRights b = b.2 pos.homes
 not_broken p pos EnPassant b = b.3 pos.passing
 not_broken p pos Check b = pos.safe b.4
 
-pub game_back : (g : FenGame) → IsPosition g.position → (answer : Result FenGame FenFault) → IsGameOf (parts_in g) answer → answer ≡ Ok g
+pub game_back : (g : FenGame) → IsPosition g.position → (answer : Result FenGame FenFault) → IsGameOrBroken (parts_of_game g) answer → answer ≡ Ok g
 game_back g pos (Ok h) (e, _) = ap Ok e
 game_back g pos (Err e) (bad, _, broken) = absurd (not_broken g.position pos bad broken)

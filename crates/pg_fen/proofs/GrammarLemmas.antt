@@ -10,12 +10,14 @@ use Rattle.std.proofs.lemmas.List.Splits.{slice_split_none}
 use Rattle.pg_board.specs.Placement.{Placement}
 use Rattle.pg_fen.specs.declared.fault.FenFault.{FenFault}
 use Rattle.pg_fen.proofs.WordLemmas.{IsWord}
-use Rattle.pg_fen.specs.Letters.{man_of, kind_of}
-use Rattle.pg_fen.specs.Fields.{is_gap, is_word_byte, fields}
+use Rattle.pg_fen.specs.Letters.{man_of, kind_of_letter}
+use Rattle.pg_fen.specs.Fields.{is_field_gap, is_field_byte, fields}
 use Rattle.pg_fen.specs.PlacementText.{is_run, is_slash, is_letter, letters_fit, ranks_fit, placed, has_kings, has_no_edge_pawn, read_placement, placement_text}
 use Rattle.pg_fen.specs.DetailText.{details_of}
 use Rattle.pg_fen.specs.DiagramText.{IsDiagram, if_read, diagram_of}
-use Rattle.pg_fen.specs.Grammar.{IsPlacementText, IsOneFieldText, IsSixFieldText, IsDiagramText}
+use Rattle.pg_fen.specs.declared.details.Details.{Details}
+use Rattle.pg_fen.specs.declared.games.GameParts.{GameParts}
+use Rattle.pg_fen.specs.Grammar.{IsPlacementText, AreDetailTexts, IsOneFieldText, IsSixFieldText, IsDiagramText}
 use Rattle.pg_fen.proofs.CountLemmas.{has_kings_is, has_no_edge_pawn_is}
 use Rattle.pg_fen.proofs.DiagramLemmas.{placed_from_read, read_from_placed, diagram_from_read, diagram_of_is}
 use Rattle.pg_fen.proofs.RankLemmas.{spelled_ranks, spelled_letters, spelled_board, placement_spelled, written_is_spelled}
@@ -54,27 +56,34 @@ if_both (Err fault) d b e = absurd cc
 if_both (Ok x) (Err fault) b e = absurd cc
 if_both (Ok x) (Ok y) b e = record { value = y; board = e; details = refl }
 
+-- six fields spell what the placement and the details say
+pub six_text : (text p s r q h f : List ℕ) (g : GameParts) → fields text ≡ p ∷ s ∷ r ∷ q ∷ h ∷ f ∷ [] → IsPlacementText p g.board → AreDetailTexts s r q h f g.details → IsSixFieldText text g
+six_text text p s r q h f g is spelled are = record {
+  placement = p;
+  side = s;
+  rights = r;
+  passed = q;
+  half = h;
+  full = f;
+  are_fields = is;
+  spelled = spelled;
+  details_are = are;
+}
+
 module _ (text : List ℕ) (b : Placement) where
+  -- six fields spell the placement, and some details
+  abbrev InSixFields : Type 0
+  InSixFields = (d : Details) × IsSixFieldText text (record { board = b; details = d })
+
   one_field : (p : List ℕ) → fields text ≡ p ∷ [] → read_placement p ≡ Ok b → IsOneFieldText text b
   one_field p f e = record { placement = p; is_field = f; spelled = read_spelled p b e }
 
-  six_fields : (p s r q h f : List ℕ) → fields text ≡ p ∷ s ∷ r ∷ q ∷ h ∷ f ∷ [] → if_read (read_placement p) (details_of s r q h f) ≡ Ok b → IsSixFieldText text b
+  six_fields : (p s r q h f : List ℕ) → fields text ≡ p ∷ s ∷ r ∷ q ∷ h ∷ f ∷ [] → if_read (read_placement p) (details_of s r q h f) ≡ Ok b → InSixFields
   six_fields p s r q h f is e =
       let both = if_both (read_placement p) (details_of s r q h f) b e in
-      record {
-        placement = p;
-        side = s;
-        rights = r;
-        passed = q;
-        half = h;
-        full = f;
-        are_fields = is;
-        spelled = read_spelled p b both.board;
-        details = both.value;
-        details_are = details_read s r q h f both.value both.details;
-      }
+      (both.value, six_text text p s r q h f (record { board = b; details = both.value }) is (read_spelled p b both.board) (details_read s r q h f both.value both.details))
 
-  spelled_by : (fs : List (List ℕ)) → fields text ≡ fs → diagram_of fs ≡ Ok b → IsOneFieldText text b ⊎ IsSixFieldText text b
+  spelled_by : (fs : List (List ℕ)) → fields text ≡ fs → diagram_of fs ≡ Ok b → IsOneFieldText text b ⊎ InSixFields
   unfolding diagram_of
   spelled_by [] is e = absurd cc
   spelled_by (p ∷ []) is e = inl (one_field p is e)
@@ -89,11 +98,11 @@ module _ (text : List ℕ) (b : Placement) where
   unfolding diagram_of
   read_one h d = rw h.is_field (spelled_read h.placement b h.spelled d)
 
-  read_six : IsSixFieldText text b → IsDiagram b → diagram_of (fields text) ≡ Ok b
+  read_six : InSixFields → IsDiagram b → diagram_of (fields text) ≡ Ok b
   unfolding diagram_of
-  read_six h d = rw (h.are_fields, spelled_read h.placement b h.spelled d, details_spelled h.side h.rights h.passed h.half h.full h.details h.details_are) refl
+  read_six (details, h) d = rw (h.are_fields, spelled_read h.placement b h.spelled d, details_spelled h.side h.rights h.passed h.half h.full details h.details_are) refl
 
-  read_either : IsOneFieldText text b ⊎ IsSixFieldText text b → IsDiagram b → diagram_of (fields text) ≡ Ok b
+  read_either : IsOneFieldText text b ⊎ InSixFields → IsDiagram b → diagram_of (fields text) ≡ Ok b
   read_either (inl h) d = read_one h d
   read_either (inr h) d = read_six h d
 
@@ -101,7 +110,7 @@ module _ (text : List ℕ) (b : Placement) where
   diagram_grammar = (λ e. record { diagram = diagram_of_is (fields text) b e; spelled = spelled_by (fields text) refl e }, λ h. read_either h.spelled h.diagram)
 
 -- ---- what is written
-low_kind : (b : ℕ) → b < 66 → kind_of b ≡ None
+low_kind : (b : ℕ) → b < 66 → kind_of_letter b ≡ None
 low_kind b lt = grind (arith, nat_tests)
 
 low_stays : (b : ℕ) → b < 66 → to_ascii_uppercase b ≡ b
@@ -109,10 +118,10 @@ low_stays b lt = grind (arith, nat_tests)
 
 low_man : (b : ℕ) → b < 66 → is_some (man_of b) ≡ false
 low_man b lt =
-    let k : kind_of (to_ascii_uppercase b) ≡ None = rw (low_stays b lt) (low_kind b lt) in
+    let k : kind_of_letter (to_ascii_uppercase b) ≡ None = rw (low_stays b lt) (low_kind b lt) in
     rw k refl
 
-no_gap_by : (b : ℕ) (t : Bool) → is_gap b ≡ t → is_letter b ≡ true → t ≡ false
+no_gap_by : (b : ℕ) (t : Bool) → is_field_gap b ≡ t → is_letter b ≡ true → t ≡ false
 no_gap_by b false g l = refl
 no_gap_by b true g l =
     let lt : b < 33 = grind (arith, nat_tests) in
@@ -121,8 +130,8 @@ no_gap_by b true g l =
     let f : false ≡ true = rw (r, s, low_man b (omega arith)) at l in
     absurd cc
 
-no_gaps : (text : List ℕ) → letters_fit text ≡ true → All (λ b. is_gap b ≡ false) text
-no_gaps text h = λ k d lt. no_gap_by (get_or text k d) (is_gap (get_or text k d)) refl (AllPass-from_list_all is_letter text h k d lt)
+no_gaps : (text : List ℕ) → letters_fit text ≡ true → All (λ b. is_field_gap b ≡ false) text
+no_gaps text h = λ k d lt. no_gap_by (get_or text k d) (is_field_gap (get_or text k d)) refl (AllPass-from_list_all is_letter text h k d lt)
 
 -- a placement's text is one field
 text_is_some : (text : List ℕ) → ranks_fit text ≡ true → 0 < length text
@@ -133,7 +142,7 @@ one_field_of : (text : List ℕ) → ranks_fit text ≡ true → letters_fit tex
 one_field_of text r l =
     let some : 0 < length text = text_is_some text r in
     let t : nat_lt 0 (length text) ≡ true = grind (arith, nat_tests) in
-    rw (slice_split_none is_gap text (no_gaps text l), t) refl
+    rw (slice_split_none is_field_gap text (no_gaps text l), t) refl
 
 pub written_again : (b : Placement) → IsDiagram b → diagram_of (fields (placement_text b)) ≡ Ok b
 written_again b d =
@@ -147,7 +156,7 @@ placement_word b =
     let w = written_is_spelled b in
     record {
       some = text_is_some (placement_text b) (spelled_ranks (placement_text b) b w);
-      clear = list_all-from_AllPass is_word_byte (placement_text b) (λ k d lt. ap not (no_gaps (placement_text b) (spelled_letters (placement_text b) b w) k d lt));
+      clear = list_all-from_AllPass is_field_byte (placement_text b) (λ k d lt. ap not (no_gaps (placement_text b) (spelled_letters (placement_text b) b w) k d lt));
     }
 
 pub placement_again : (b : Placement) → IsDiagram b → read_placement (placement_text b) ≡ Ok b

@@ -3,7 +3,7 @@ pub mod CountLemmas
 pub mod Decimals
 pub mod DetailLemmas
 pub mod DiagramLemmas
-pub mod FieldLemmas
+pub mod Cutting
 pub mod GrammarLemmas
 pub mod LengthLemmas
 pub mod PackingLemmas

@@ -6,9 +6,10 @@ use Rattle.std.proofs.lemmas.List.FromFn.{get_or-map-range_with_len, fill_by_all
 use Rattle.pg_board.specs.declared.man.Color.{Color}
 use Rattle.pg_board.specs.declared.man.Color.TheVariants.{White, Black}
 use Rattle.pg_board.specs.declared.man.Kind.{Kind}
-use Rattle.pg_board.specs.declared.man.Kind.TheVariants.{Pawn, Knight, Bishop, Rook, Queen, King}
 use Rattle.pg_board.specs.declared.man.Man.{Man}
-use Rattle.pg_board.specs.Men.{man, kind_of_number}
+use Rattle.pg_board.specs.Men.{man}
+use Rattle.pg_board.specs.lemmas.Codes.{kind_of_number}
+use Rattle.pg_board.specs.lemmas.Kinds.{each_man}
 use Rattle.pg_board.specs.Placement.{Placement, get, same_placement}
 use Rattle.pg_fen.specs.Packing.{cell_code, packed_byte, packed_of}
 
@@ -18,18 +19,7 @@ cell_from n = cond (eqb n 0) None (cond (ltb n 9) (Some (man White (kind_of_numb
 
 man_back : (c : Color) (k : Kind) → cell_from (cell_code (Some (man c k))) ≡ Some (man c k)
 unfolding cell_from
-man_back White Pawn = refl
-man_back White Knight = refl
-man_back White Bishop = refl
-man_back White Rook = refl
-man_back White Queen = refl
-man_back White King = refl
-man_back Black Pawn = refl
-man_back Black Knight = refl
-man_back Black Bishop = refl
-man_back Black Rook = refl
-man_back Black Queen = refl
-man_back Black King = refl
+man_back = each_man (λ c k. cell_from (cell_code (Some (man c k))) ≡ Some (man c k)) (refl, refl, refl, refl, refl, refl) (refl, refl, refl, refl, refl, refl)
 
 cell_back : (o : Option Man) → cell_from (cell_code o) ≡ o
 unfolding cell_from
@@ -40,18 +30,7 @@ same_cell : (a b : Option Man) → cell_code a ≡ cell_code b → a ≡ b
 same_cell a b e = sym (cell_back a) ∙ ap cell_from e ∙ cell_back b
 
 man_low : (c : Color) (k : Kind) → cell_code (Some (man c k)) < 16
-man_low White Pawn = omega arith
-man_low White Knight = omega arith
-man_low White Bishop = omega arith
-man_low White Rook = omega arith
-man_low White Queen = omega arith
-man_low White King = omega arith
-man_low Black Pawn = omega arith
-man_low Black Knight = omega arith
-man_low Black Bishop = omega arith
-man_low Black Rook = omega arith
-man_low Black Queen = omega arith
-man_low Black King = omega arith
+man_low = each_man (λ c k. cell_code (Some (man c k)) < 16) (omega arith, omega arith, omega arith, omega arith, omega arith, omega arith) (omega arith, omega arith, omega arith, omega arith, omega arith, omega arith)
 
 pub cell_low : (o : Option Man) → cell_code o < 16
 cell_low None = omega arith

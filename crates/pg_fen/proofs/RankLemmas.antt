@@ -14,7 +14,7 @@ use Rattle.std.proofs.lemmas.List.FromFn.{get_or-map-range_with_len, length-map-
 use Rattle.pg_board.specs.declared.man.Man.{Man}
 use Rattle.pg_board.specs.Placement.{Placement, get, same_placement}
 use Rattle.pg_fen.specs.Letters.{letter_of}
-use Rattle.pg_fen.specs.PlacementText.{slash, is_slash, width_of, is_eight_wide, ranks_fit, is_letter, letters_fit, squares_of, squares, seen_at, placed, run_text, cells_text, row, rank_text, placement_text}
+use Rattle.pg_fen.specs.PlacementText.{slash, is_slash, width_of, is_eight_wide, ranks_fit, is_letter, letters_fit, squares_of, squares, seen_at, placed, run_text, cells_text, row, row_text, placement_text}
 use Rattle.pg_fen.specs.Grammar.{IsRankText, IsPlacementText}
 use Rattle.pg_fen.proofs.SquareLemmas.{get-placed}
 use Rattle.pg_fen.proofs.SymbolLemmas.{symbol_read, read_symbol}
@@ -249,14 +249,14 @@ cells_spelled empty (Some m ∷ cells) le =
     spelled_append (run_text empty) (letter_of m ∷ cells_text 0 cells) (replicate empty None) (Some m ∷ cells) (run_spelled empty (omega arith))
     (spelled_append (letter_of m ∷ []) (cells_text 0 cells) (Some m ∷ []) cells (man_spelled m) (cells_spelled 0 cells (omega arith)))
 
-rank_written : (b : Placement) (n : ℕ) → IsRankText (rank_text b n) (row b n)
+rank_written : (b : Placement) (n : ℕ) → IsRankText (row_text b n) (row b n)
 rank_written b n = cells_spelled 0 (row b n) (omega (arith, length_row b n))
 
 pub written_is_spelled : (b : Placement) → IsPlacementText (placement_text b) b
 unfolding placement_text
 written_is_spelled b = record {
-  ranks = map (λ i. rank_text b (7 - i)) (range_with_len 0 8);
+  ranks = map (λ i. row_text b (7 - i)) (range_with_len 0 8);
   whole = refl;
-  eight = length-map-range_with_len (λ i. rank_text b (7 - i)) 0 8;
-  each = λ i lt. subst (λ (t : List ℕ). IsRankText t (row b (7 - i))) (sym (get_or-map-range_with_len (λ k. rank_text b (7 - k)) 0 8 i i [] lt (omega arith))) (rank_written b (7 - i));
+  eight = length-map-range_with_len (λ i. row_text b (7 - i)) 0 8;
+  each = λ i lt. subst (λ (t : List ℕ). IsRankText t (row b (7 - i))) (sym (get_or-map-range_with_len (λ k. row_text b (7 - k)) 0 8 i i [] lt (omega arith))) (rank_written b (7 - i));
 }

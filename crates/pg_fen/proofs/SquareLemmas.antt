@@ -11,8 +11,9 @@ use Rattle.std.proofs.lemmas.List.Concat.{flat_map-append, flat_map-cons}
 use Rattle.std.proofs.lemmas.List.Folds.{length-flat_map-take}
 use Rattle.pg_board.specs.declared.man.Man.{Man}
 use Rattle.std.specs.Char.{to_ascii_uppercase}
-use Rattle.pg_board.specs.Placement.{Placement, get, empty, put, same_placement, get-placement_of, get-empty, get-put_same, get-put_other}
-use Rattle.pg_fen.specs.Letters.{man_of, kind_of}
+use Rattle.pg_board.specs.Placement.{Placement, get, empty, put, same_placement, get-placement_of}
+use Rattle.pg_board.specs.lemmas.Placements.{get-empty, get-put_same, get-put_other}
+use Rattle.pg_fen.specs.Letters.{man_of, kind_of_letter}
 use Rattle.pg_fen.specs.PlacementText.{is_run, is_slash, width_of, is_eight_wide, ranks_fit, is_letter, letters_fit, square_with, squares_of, squares, seen_at, placed}
 
 width : List ℕ → ℕ
@@ -25,7 +26,7 @@ width_onto_first b (part ∷ parts) =
     rw (sum_by-cons (sum_by width_of) (b ∷ part) parts, sum_by-cons (sum_by width_of) part parts, sum_by-cons width_of b part) (omega arith)
 
 -- letters are ASCII
-no_kind : (b : ℕ) → 91 ≤ b → kind_of b ≡ None
+no_kind : (b : ℕ) → 91 ≤ b → kind_of_letter b ≡ None
 no_kind b le = grind (arith, nat_tests)
 
 high_stays : (b : ℕ) → 128 ≤ b → to_ascii_uppercase b ≡ b
@@ -36,7 +37,7 @@ man_is_ascii b e =
     elim (cases_lt b 128) [
       | inl lt ↦ lt
       | inr le ↦
-          let k : kind_of (to_ascii_uppercase b) ≡ None = rw (high_stays b le) (no_kind b (omega arith)) in
+          let k : kind_of_letter (to_ascii_uppercase b) ≡ None = rw (high_stays b le) (no_kind b (omega arith)) in
           let n : false ≡ true = rw k at e in
           absurd cc
     ]

@@ -11,7 +11,8 @@ use Rattle.pg_board.specs.declared.man.Kind.TheVariants.{Pawn, Knight, Bishop, R
 use Rattle.pg_board.specs.declared.man.Color.{Color}
 use Rattle.pg_board.specs.declared.man.Color.TheVariants.{White, Black}
 use Rattle.pg_board.specs.Men.{man}
-use Rattle.pg_fen.specs.Letters.{letter_of, letter_of_kind, in_case, kind_of, man_of}
+use Rattle.pg_board.specs.lemmas.Kinds.{each_kind, each_man}
+use Rattle.pg_fen.specs.Letters.{letter_of, letter_of_kind, in_case, kind_of_letter, man_of}
 use Rattle.pg_fen.specs.PlacementText.{is_run, is_slash, width_of, is_letter, square_with, squares_of}
 use Rattle.pg_fen.specs.Grammar.{IsSymbol}
 
@@ -23,18 +24,12 @@ pub record IsRead (b : ℕ) (cells : List (Option Man)) : Type 0 where
   pub board : squares_of b ≡ cells
 
 letter_read : (c : Color) (k : Kind) → IsRead (letter_of (man c k)) (Some (man c k) ∷ [])
-letter_read White Pawn = record { slash = refl; letter = refl; width = refl; board = refl }
-letter_read White Knight = record { slash = refl; letter = refl; width = refl; board = refl }
-letter_read White Bishop = record { slash = refl; letter = refl; width = refl; board = refl }
-letter_read White Rook = record { slash = refl; letter = refl; width = refl; board = refl }
-letter_read White Queen = record { slash = refl; letter = refl; width = refl; board = refl }
-letter_read White King = record { slash = refl; letter = refl; width = refl; board = refl }
-letter_read Black Pawn = record { slash = refl; letter = refl; width = refl; board = refl }
-letter_read Black Knight = record { slash = refl; letter = refl; width = refl; board = refl }
-letter_read Black Bishop = record { slash = refl; letter = refl; width = refl; board = refl }
-letter_read Black Rook = record { slash = refl; letter = refl; width = refl; board = refl }
-letter_read Black Queen = record { slash = refl; letter = refl; width = refl; board = refl }
-letter_read Black King = record { slash = refl; letter = refl; width = refl; board = refl }
+letter_read c k = record {
+  slash = each_man (λ c k. is_slash (letter_of (man c k)) ≡ false) (refl, refl, refl, refl, refl, refl) (refl, refl, refl, refl, refl, refl) c k;
+  letter = each_man (λ c k. is_letter (letter_of (man c k)) ≡ true) (refl, refl, refl, refl, refl, refl) (refl, refl, refl, refl, refl, refl) c k;
+  width = each_man (λ c k. width_of (letter_of (man c k)) ≡ 1) (refl, refl, refl, refl, refl, refl) (refl, refl, refl, refl, refl, refl) c k;
+  board = each_man (λ c k. squares_of (letter_of (man c k)) ≡ Some (man c k) ∷ []) (refl, refl, refl, refl, refl, refl) (refl, refl, refl, refl, refl, refl) c k;
+}
 
 pub man_read : (m : Man) → IsRead (letter_of m) (Some m ∷ [])
 man_read m = letter_read m.color m.kind
@@ -63,7 +58,7 @@ is_letter_at b n k j l t e =
     same ∙ sym l ∙ ap letter_of_kind e
 
 -- a kind is read of its letter alone
-kind_back : (b : ℕ) (j : Kind) → kind_of b ≡ Some j → b ≡ letter_of_kind j
+kind_back : (b : ℕ) (j : Kind) → kind_of_letter b ≡ Some j → b ≡ letter_of_kind j
 kind_back b j e = pawn (kind_step (b == 80) Pawn j _ e)
   where
     none : None ≡ Some j → b ≡ letter_of_kind j
@@ -94,20 +89,10 @@ kind_back b j e = pawn (kind_step (b == 80) Pawn j _ e)
     pawn (inr e) = knight (kind_step (b == 78) Knight j _ e)
 
 is_capital : (k : Kind) → (66 ≤ letter_of_kind k) × (letter_of_kind k < 91)
-is_capital Pawn = (omega arith, omega arith)
-is_capital Knight = (omega arith, omega arith)
-is_capital Bishop = (omega arith, omega arith)
-is_capital Rook = (omega arith, omega arith)
-is_capital Queen = (omega arith, omega arith)
-is_capital King = (omega arith, omega arith)
+is_capital = each_kind (λ k. (66 ≤ letter_of_kind k) × (letter_of_kind k < 91)) ((omega arith, omega arith), (omega arith, omega arith), (omega arith, omega arith), (omega arith, omega arith), (omega arith, omega arith), (omega arith, omega arith))
 
 small_of : (k : Kind) → in_case Black (letter_of_kind k) ≡ letter_of_kind k + 32
-small_of Pawn = refl
-small_of Knight = refl
-small_of Bishop = refl
-small_of Rook = refl
-small_of Queen = refl
-small_of King = refl
+small_of = each_kind (λ k. in_case Black (letter_of_kind k) ≡ letter_of_kind k + 32) (refl, refl, refl, refl, refl, refl)
 
 capital_at : (b n : ℕ) → to_ascii_uppercase b ≡ n → b < 97 → b ≡ n
 capital_at b n e lt = grind (arith, nat_tests)
@@ -121,7 +106,7 @@ man_by b false k t e =
     let ge : 97 ≤ b = grind (arith, nat_tests) in
     small_at b (letter_of_kind k) e (is_capital k).0 (is_capital k).1 ge ∙ sym (small_of k)
 
-man_from : (b : ℕ) (o : Option Kind) (m : Man) → kind_of (to_ascii_uppercase b) ≡ o → option_map (λ k. man (cond (nat_lt b 97) White Black) k) o ≡ Some m → b ≡ letter_of m
+man_from : (b : ℕ) (o : Option Kind) (m : Man) → kind_of_letter (to_ascii_uppercase b) ≡ o → option_map (λ k. man (cond (nat_lt b 97) White Black) k) o ≡ Some m → b ≡ letter_of m
 man_from b None m e h = absurd cc
 man_from b (Some k) m e h =
     let is : ◌≡◌ {A = Man} (man (cond (nat_lt b 97) White Black) k) m = cc in
@@ -129,7 +114,7 @@ man_from b (Some k) m e h =
 
 -- a man is read of its letter alone
 pub man_back : (b : ℕ) (m : Man) → man_of b ≡ Some m → b ≡ letter_of m
-man_back b m e = man_from b (kind_of (to_ascii_uppercase b)) m refl e
+man_back b m e = man_from b (kind_of_letter (to_ascii_uppercase b)) m refl e
 
 man_symbol : (b : ℕ) (o : Option Man) → man_of b ≡ o → is_some o ≡ true → IsSymbol b (square_with o)
 man_symbol b None e h = absurd cc

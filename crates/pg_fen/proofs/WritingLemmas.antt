@@ -7,7 +7,7 @@ use Rattle.std.proofs.lemmas.List.{append-nil, length-append}
 use Rattle.std.proofs.lemmas.List.FromFn.{map-range_with_len_more, length-map-range_with_len, fill_by_all}
 use Rattle.pg_board.specs.declared.man.Man.{Man}
 use Rattle.pg_board.specs.Placement.{Placement, get}
-use Rattle.pg_fen.specs.PlacementText.{slash, row, rank_text, placement_text}
+use Rattle.pg_fen.specs.PlacementText.{slash, row, row_text, placement_text}
 
 pub row_all : (b : Placement) (n : ℕ) (cells : List (Option Man)) → length cells ≡ 8 → ((k : ℕ) → k < 8 → get_or cells k None ≡ get b (8 * n + k)) → cells ≡ row b n
 unfolding row
@@ -23,7 +23,7 @@ join_more c (x ∷ y ∷ parts) part some =
 
 -- the texts of the first i ranks, the highest first
 abbrev ranks_written : Placement → ℕ → List (List ℕ)
-ranks_written b i = map (λ k. rank_text b (7 - k)) (range_with_len 0 i)
+ranks_written b i = map (λ k. row_text b (7 - k)) (range_with_len 0 i)
 
 -- i ranks are written behind the old text
 pub record Written (b : Placement) (old : List ℕ) (i : ℕ) (text : List ℕ) : Type 0 where
@@ -34,19 +34,19 @@ pub Written-none : (b : Placement) (old : List ℕ) → Written b old 0 old
 Written-none b old = record { short = omega arith; same = sym (append-nil old) }
 
 rank_more : (b : Placement) (i : ℕ) (slashes : List ℕ) → (0 < i → slashes ≡ slash ∷ []) → (i ≡ 0 → slashes ≡ [])
-    → join_with_byte slash (ranks_written b (i + 1)) ≡ (join_with_byte slash (ranks_written b i) ++ slashes) ++ rank_text b (7 - i)
+    → join_with_byte slash (ranks_written b (i + 1)) ≡ (join_with_byte slash (ranks_written b i) ++ slashes) ++ row_text b (7 - i)
 rank_more b zero slashes some none =
     let e : slashes ≡ [] = none refl in
     rw e refl
 rank_more b (suc i) slashes some none =
     let e : slashes ≡ slash ∷ [] = some (omega arith) in
-    let len : length (ranks_written b (suc i)) ≡ suc i = length-map-range_with_len (λ k. rank_text b (7 - k)) 0 (suc i) in
-    let more : ranks_written b (suc i + 1) ≡ ranks_written b (suc i) ++ rank_text b (7 - suc i) ∷ [] = map-range_with_len_more (λ k. rank_text b (7 - k)) 0 (suc i) (suc i) (omega arith) in
-    rw e (ap (join_with_byte slash) more ∙ join_more slash (ranks_written b (suc i)) (rank_text b (7 - suc i)) (omega arith)
-    ∙ sym (append_assoc (join_with_byte slash (ranks_written b (suc i))) (slash ∷ []) (rank_text b (7 - suc i))))
+    let len : length (ranks_written b (suc i)) ≡ suc i = length-map-range_with_len (λ k. row_text b (7 - k)) 0 (suc i) in
+    let more : ranks_written b (suc i + 1) ≡ ranks_written b (suc i) ++ row_text b (7 - suc i) ∷ [] = map-range_with_len_more (λ k. row_text b (7 - k)) 0 (suc i) (suc i) (omega arith) in
+    rw e (ap (join_with_byte slash) more ∙ join_more slash (ranks_written b (suc i)) (row_text b (7 - suc i)) (omega arith)
+    ∙ sym (append_assoc (join_with_byte slash (ranks_written b (suc i))) (slash ∷ []) (row_text b (7 - suc i))))
 
 pub Written-more : (b : Placement) (old : List ℕ) (i : ℕ) (text slashes next : List ℕ) → i < 8 → (0 < i → slashes ≡ slash ∷ []) → (i ≡ 0 → slashes ≡ []) → length next ≤ length (text ++ slashes) + 8
-    → next ≡ (text ++ slashes) ++ rank_text b (7 - i) → Written b old i text → Written b old (i + 1) next
+    → next ≡ (text ++ slashes) ++ row_text b (7 - i) → Written b old i text → Written b old (i + 1) next
 Written-more b old i text slashes next lt some none short e h =
     let j : List ℕ = join_with_byte slash (ranks_written b i) in
     record {
@@ -55,9 +55,9 @@ Written-more b old i text slashes next lt some none short e h =
         | inr low ↦ omega (arith, length-append text slashes, ap length (none (omega arith)), h.short)
       ];
       same =
-          e ∙ ap (λ (t : List ℕ). (t ++ slashes) ++ rank_text b (7 - i)) h.same
-          ∙ ap (λ (t : List ℕ). t ++ rank_text b (7 - i)) (append_assoc old (join_with_byte slash (ranks_written b i)) slashes)
-          ∙ append_assoc old (join_with_byte slash (ranks_written b i) ++ slashes) (rank_text b (7 - i))
+          e ∙ ap (λ (t : List ℕ). (t ++ slashes) ++ row_text b (7 - i)) h.same
+          ∙ ap (λ (t : List ℕ). t ++ row_text b (7 - i)) (append_assoc old (join_with_byte slash (ranks_written b i)) slashes)
+          ∙ append_assoc old (join_with_byte slash (ranks_written b i) ++ slashes) (row_text b (7 - i))
           ∙ ap (λ (t : List ℕ). old ++ t) (sym (rank_more b i slashes some none));
     }
 

@@ -4,6 +4,7 @@ use Rattle.std.specs.Prelude.{ℕ, ◌+◌, ◌-◌, ◌*◌, Bool, ◌&&◌, �
 use Rattle.std.specs.Str.{bytes_eq, all_ascii_digits}
 use Rattle.std.specs.Str.Parse.{digits_value}
 use Rattle.std.specs.List.{list_all, count_by}
+use Prim.Native.Char.{code}
 use Rattle.pg_board.specs.declared.man.Color.{Color}
 use Rattle.pg_board.specs.declared.man.Color.TheVariants.{White, Black}
 use Rattle.pg_fen.specs.declared.fault.FenFault.{FenFault}
@@ -17,14 +18,16 @@ abbrev pub side_of : List ℕ → Option Color
 side_of text = if bytes_eq text (codes "w") then Some White else (if bytes_eq text (codes "b") then Some Black else None)
 
 abbrev pub is_right : ℕ → Bool
-is_right b = (b == 75) || (b == 81) || (b == 107) || (b == 113)
+is_right b = (b == code "K") || (b == code "Q") || (b == code "k") || (b == code "q")
 
 -- how often a letter stands in a text
 abbrev pub count_letter : ℕ → List ℕ → ℕ
 count_letter letter text = count_by (λ b. b == letter) text
 
 abbrev pub no_letter_twice : List ℕ → Bool
-no_letter_twice text = nat_le (count_letter 75 text) 1 && (nat_le (count_letter 81 text) 1 && (nat_le (count_letter 107 text) 1 && nat_le (count_letter 113 text) 1))
+no_letter_twice text =
+    nat_le (count_letter (code "K") text) 1 && (nat_le (count_letter (code "Q") text) 1
+    && (nat_le (count_letter (code "k") text) 1 && nat_le (count_letter (code "q") text) 1))
 
 -- one to four different letters of `KQkq`
 abbrev pub are_rights : List ℕ → Bool
@@ -33,10 +36,10 @@ are_rights text = nat_lt 0 (length text) && (list_all is_right text && no_letter
 -- the rights whose letters stand in a text
 abbrev pub rights_in : List ℕ → Rights
 rights_in text = record {
-  white_king = count_letter 75 text == 1;
-  white_queen = count_letter 81 text == 1;
-  black_king = count_letter 107 text == 1;
-  black_queen = count_letter 113 text == 1;
+  white_king = count_letter (code "K") text == 1;
+  white_queen = count_letter (code "Q") text == 1;
+  black_king = count_letter (code "k") text == 1;
+  black_queen = count_letter (code "q") text == 1;
 }
 
 -- `-` for no right, or one to four different letters of `KQkq` in any order
@@ -45,8 +48,10 @@ rights_of text = if bytes_eq text (codes "-") then Some (rights_in []) else (if 
 
 -- `-` for none, or a file a to h with rank 3 or 6
 abbrev pub passed_of : List ℕ → Option (Option ℕ)
-passed_of (dash ∷ []) = if dash == 45 then Some None else None
-passed_of (file ∷ rank ∷ []) = if nat_le 97 file && nat_le file 104 && ((rank == 51) || (rank == 54)) then Some (Some (8 * (rank - 49) + (file - 97))) else None
+passed_of (dash ∷ []) = if dash == code "-" then Some None else None
+passed_of (file ∷ rank ∷ []) =
+    if nat_le (code "a") file && nat_le file (code "h") && ((rank == code "3") || (rank == code "6"))
+    then Some (Some (8 * (rank - code "1") + (file - code "a"))) else None
 passed_of _ = None
 
 -- decimal digits that spell at most 65,535

@@ -4,6 +4,7 @@ use Rattle.std.specs.Prelude.{◌≡◌, ◌≢◌, ℕ, ◌+◌, ◌-◌, ◌*�
 use Rattle.std.specs.Str.{all_ascii_digits}
 use Rattle.std.specs.Str.Parse.{digits_value}
 use Rattle.std.specs.List.{list_all, join_with_byte}
+use Prim.Native.Char.{code}
 use Rattle.pg_board.specs.declared.man.Man.{Man}
 use Rattle.pg_board.specs.declared.man.Color.{Color}
 use Rattle.pg_board.specs.declared.man.Color.TheVariants.{White, Black}
@@ -49,10 +50,10 @@ Tells letter text held = count_letter letter text ≡ (if held then 1 else 0)
 pub record AreRightLetters (text : List ℕ) (r : Rights) : Type 0 where
   pub some : text ≢ []
   pub letters : IsTrue (list_all is_right text)
-  pub white_king : Tells 75 text r.white_king
-  pub white_queen : Tells 81 text r.white_queen
-  pub black_king : Tells 107 text r.black_king
-  pub black_queen : Tells 113 text r.black_queen
+  pub white_king : Tells (code "K") text r.white_king
+  pub white_queen : Tells (code "Q") text r.white_queen
+  pub black_king : Tells (code "k") text r.black_king
+  pub black_queen : Tells (code "q") text r.black_queen
 
 -- `-` for no right
 abbrev pub no_rights : Rights
@@ -64,7 +65,9 @@ AreRightsText text r = ((text ≡ codes "-") × (r ≡ no_rights)) ⊎ AreRightL
 -- `-` for none, or the letter of a file 1 to 8 and the digit of rank 3 or 6
 abbrev pub IsPassedText : List ℕ → Option ℕ → Type 0
 IsPassedText text None = text ≡ codes "-"
-IsPassedText text (Some s) = (file : ℕ) × (rank : ℕ) × (1 ≤ file) × (file ≤ 8) × ((rank ≡ 3) ⊎ (rank ≡ 6)) × (text ≡ (96 + file) ∷ (48 + rank) ∷ []) × (s ≡ 8 * (rank - 1) + (file - 1))
+IsPassedText text (Some s) =
+    (file : ℕ) × (rank : ℕ) × (1 ≤ file) × (file ≤ 8) × ((rank ≡ 3) ⊎ (rank ≡ 6)) × (text ≡ (96 + file) ∷ (48 + rank) ∷ [])
+    × (s ≡ 8 * (rank - 1) + (file - 1))
 
 -- one or more decimal digits, whose number is at most 65,535
 pub record IsNumberText (text : List ℕ) (n : ℕ) : Type 0 where
@@ -81,8 +84,8 @@ pub record AreDetailTexts (side rights passed half full : List ℕ) (d : Details
   pub full_is : IsNumberText full d.full
 
 -- ---- the whole text
--- six fields, of which the first is the placement
-pub record IsSixFieldText (text : List ℕ) (b : Placement) : Type 0 where
+-- six fields: a placement, and the five others
+pub record IsSixFieldText (text : List ℕ) (g : GameParts) : Type 0 where
   pub placement : List ℕ
   pub side : List ℕ
   pub rights : List ℕ
@@ -90,9 +93,8 @@ pub record IsSixFieldText (text : List ℕ) (b : Placement) : Type 0 where
   pub half : List ℕ
   pub full : List ℕ
   pub are_fields : fields text ≡ placement ∷ side ∷ rights ∷ passed ∷ half ∷ full ∷ []
-  pub spelled : IsPlacementText placement b
-  pub details : Details
-  pub details_are : AreDetailTexts side rights passed half full details
+  pub spelled : IsPlacementText placement g.board
+  pub details_are : AreDetailTexts side rights passed half full g.details
 
 -- one field, the placement
 pub record IsOneFieldText (text : List ℕ) (b : Placement) : Type 0 where
@@ -103,18 +105,9 @@ pub record IsOneFieldText (text : List ℕ) (b : Placement) : Type 0 where
 -- A text spells a diagram: its placement, alone or before the five other fields of a position, is that of a diagram.
 pub record IsDiagramText (text : List ℕ) (b : Placement) : Type 0 where
   pub diagram : IsDiagram b
-  pub spelled : IsOneFieldText text b ⊎ IsSixFieldText text b
+  pub spelled : IsOneFieldText text b ⊎ ((d : Details) × IsSixFieldText text (record { board = b; details = d }))
 
--- ---- a position
--- A text spells a game: six fields, a placement that is a diagram's and five more.
-pub record IsGameText (text : List ℕ) (g : GameParts) : Type 0 where
-  pub placement : List ℕ
-  pub side : List ℕ
-  pub rights : List ℕ
-  pub passed : List ℕ
-  pub half : List ℕ
-  pub full : List ℕ
-  pub are_fields : fields text ≡ placement ∷ side ∷ rights ∷ passed ∷ half ∷ full ∷ []
-  pub spelled : IsPlacementText placement g.board
+-- A text spells what the six fields of a position say: the placement is that of a diagram.
+pub record IsPositionText (text : List ℕ) (g : GameParts) : Type 0 where
   pub diagram : IsDiagram g.board
-  pub details_are : AreDetailTexts side rights passed half full g.details
+  pub spelled : IsSixFieldText text g

@@ -3,6 +3,7 @@
 use Rattle.std.specs.Prelude.{ℕ, ◌==◌, Option, Some, None, if◌then◌else◌, nat_lt}
 use Rattle.std.specs.Option.{option_map}
 use Rattle.std.specs.Char.{to_ascii_uppercase, to_ascii_lowercase}
+use Prim.Native.Char.{code}
 use Rattle.pg_board.specs.declared.man.Man.{Man}
 use Rattle.pg_board.specs.declared.man.Kind.{Kind}
 use Rattle.pg_board.specs.declared.man.Kind.TheVariants.{Pawn, Knight, Bishop, Rook, Queen, King}
@@ -12,12 +13,12 @@ use Rattle.pg_board.specs.Men.{man}
 
 -- the capital letter of a kind
 abbrev pub letter_of_kind : Kind → ℕ
-letter_of_kind Pawn = 80
-letter_of_kind Knight = 78
-letter_of_kind Bishop = 66
-letter_of_kind Rook = 82
-letter_of_kind Queen = 81
-letter_of_kind King = 75
+letter_of_kind Pawn = code "P"
+letter_of_kind Knight = code "N"
+letter_of_kind Bishop = code "B"
+letter_of_kind Rook = code "R"
+letter_of_kind Queen = code "Q"
+letter_of_kind King = code "K"
 
 -- White's letters are capitals, Black's are small
 abbrev pub in_case : Color → ℕ → ℕ
@@ -28,9 +29,16 @@ abbrev pub letter_of : Man → ℕ
 letter_of m = in_case m.color (letter_of_kind m.kind)
 
 -- the kind that a capital letter stands for
-abbrev pub kind_of : ℕ → Option Kind
-kind_of b = if b == 80 then Some Pawn else (if b == 78 then Some Knight else (if b == 66 then Some Bishop else (if b == 82 then Some Rook else (if b == 81 then Some Queen else (if b == 75 then Some King else None)))))
+abbrev pub kind_of_letter : ℕ → Option Kind
+kind_of_letter b =
+    if b == code "P" then Some Pawn
+    else (if b == code "N" then Some Knight
+    else (if b == code "B" then Some Bishop
+    else (if b == code "R" then Some Rook
+    else (if b == code "Q" then Some Queen
+    else (if b == code "K" then Some King
+    else None)))))
 
 -- the man that a letter stands for
 abbrev pub man_of : ℕ → Option Man
-man_of b = option_map (λ kind. man (if nat_lt b 97 then White else Black) kind) (kind_of (to_ascii_uppercase b))
+man_of b = option_map (λ kind. man (if nat_lt b (code "a") then White else Black) kind) (kind_of_letter (to_ascii_uppercase b))

@@ -5,12 +5,14 @@
 use Rattle.std.specs.Prelude.{ℕ, zero, suc, ◌+◌, ◌-◌, ◌*◌, ◌/◌, ◌%◌, Bool, ◌&&◌, ◌||◌, not, ◌==◌, List, [], ◌∷◌, ◌++◌, length, map, replicate, slice_index_or, Option, Some, None, Result, Ok, Err, if◌then◌else◌, nat_lt, nat_le}
 use Rattle.std.specs.Option.{is_some}
 use Rattle.std.specs.List.{slice_split, sum_by, list_all, flat_map, range_with_len, join_with_byte}
+use Prim.Native.Char.{code}
 use Rattle.pg_board.specs.declared.man.Man.{Man}
 use Rattle.pg_board.specs.declared.man.Kind.TheVariants.{Pawn}
 use Rattle.pg_board.specs.declared.man.Color.TheVariants.{White, Black}
 use Rattle.pg_board.specs.Men.{king_of, kind_eq}
 use Rattle.pg_board.specs.Squares.{rank}
-use Rattle.pg_board.specs.Placement.{Placement, get, placement_of, count_of, tally}
+use Rattle.pg_board.specs.Placement.{Placement, get, placement_of}
+use Rattle.pg_board.specs.Tally.{count_of, tally}
 use Rattle.pg_fen.specs.declared.fault.FenFault.{FenFault}
 use Rattle.pg_fen.specs.declared.fault.FenFault.TheVariants.{Rank, Letter, Kings, PawnRank}
 use Rattle.pg_fen.specs.Letters.{man_of, letter_of}
@@ -18,10 +20,10 @@ use Rattle.pg_fen.specs.Letters.{man_of, letter_of}
 -- ---- ranks and their widths
 -- a digit 1 to 8, which stands for so many empty squares
 abbrev pub is_run : ℕ → Bool
-is_run b = nat_le 49 b && nat_le b 56
+is_run b = nat_le (code "1") b && nat_le b (code "8")
 
 abbrev pub slash : ℕ
-slash = 47
+slash = code "/"
 
 abbrev pub is_slash : ℕ → Bool
 is_slash b = b == slash
@@ -29,11 +31,11 @@ is_slash b = b == slash
 -- How many squares a byte takes. A byte from 128 to 191 goes on with a character that began before it and takes none, so
 -- that a character takes one square, and a digit 1 to 8 as many as it says.
 abbrev pub width_of : ℕ → ℕ
-width_of b = if is_run b then b - 48 else (if nat_le 128 b && nat_lt b 192 then 0 else 1)
+width_of b = if is_run b then b - code "0" else (if nat_le 128 b && nat_lt b 192 then 0 else 1)
 
 -- how many squares a character takes
 abbrev pub width_of_char : ℕ → ℕ
-width_of_char c = if is_run c then c - 48 else 1
+width_of_char c = if is_run c then c - code "0" else 1
 
 abbrev pub is_eight_wide : List ℕ → Bool
 is_eight_wide text = sum_by width_of text == 8
@@ -106,7 +108,7 @@ read_placement text =
 -- the digit for so many empty squares, and nothing for none
 abbrev pub run_text : ℕ → List ℕ
 run_text zero = []
-run_text (suc n) = (49 + n) ∷ []
+run_text (suc n) = (code "1" + n) ∷ []
 
 -- the text of some squares of a rank that stand behind so many empty ones
 abbrev pub cells_text : ℕ → List (Option Man) → List ℕ
@@ -118,9 +120,9 @@ cells_text empty (Some m ∷ cells) = run_text empty ++ letter_of m ∷ cells_te
 unfoldable pub row : Placement → ℕ → List (Option Man)
 row b n = map (λ f. get b (8 * n + f)) (range_with_len 0 8)
 
-abbrev pub rank_text : Placement → ℕ → List ℕ
-rank_text b n = cells_text 0 (row b n)
+abbrev pub row_text : Placement → ℕ → List ℕ
+row_text b n = cells_text 0 (row b n)
 
 -- the texts of ranks 8 to 1, joined by slashes
 unfoldable pub placement_text : Placement → List ℕ
-placement_text b = join_with_byte slash (map (λ i. rank_text b (7 - i)) (range_with_len 0 8))
+placement_text b = join_with_byte slash (map (λ i. row_text b (7 - i)) (range_with_len 0 8))

@@ -33,10 +33,10 @@ abbrev pub game_of : GameParts → FenGame
 game_of g = record { position = state_of g; half = g.details.half; full = g.details.full }
 
 -- the game where its state is a position, else the first clause that it breaks
-abbrev pub IsGameOf : GameParts → Result FenGame FenFault → Type 0
-IsGameOf g result = MatchResult result (λ game. (game ≡ game_of g) × IsPosition (state_of g)) (λ e. (bad : BadPosition) × (e ≡ Invalid bad) × IsFirstBroken (state_of g) bad)
+abbrev pub IsGameOrBroken : GameParts → Result FenGame FenFault → Type 0
+IsGameOrBroken g result = MatchResult result (λ game. (game ≡ game_of g) × IsPosition (state_of g)) (λ e. (bad : BadPosition) × (e ≡ Invalid bad) × IsFirstBroken (state_of g) bad)
 
 -- what reading answers: the first fault of the text, else as above
 abbrev pub IsGameRead : Result GameParts FenFault → Result FenGame FenFault → Type 0
 IsGameRead (Err fault) result = result ≡ Err fault
-IsGameRead (Ok g) result = IsGameOf g result
+IsGameRead (Ok g) result = IsGameOrBroken g result

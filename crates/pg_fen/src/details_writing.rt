@@ -1,7 +1,7 @@
 //! Writing the five fields behind the placement, each after a space.
 ghost use Rattle.std.specs.Prelude.{◌≡◌, ◌+◌, ◌++◌, ◌<◌, ◌≤◌, ◌^◌, length};
 ghost use Rattle.std.specs.Fmt.{decimal};
-ghost use Rattle.pg_fen.specs.PositionWriting.{side_text, right_text, rights_text, passed_text, spaced, details_text};
+ghost use Rattle.pg_fen.specs.PositionWriting.{side_text, right_text, right_letters, rights_text, passed_text, spaced, details_text};
 
 use crate::details::Details;
 use crate::text::{digits, put};
@@ -35,7 +35,7 @@ fn put_right<const CAP: usize>(text: &mut ArrayString<CAP>, held: bool, letter: 
 // The letters of the rights, in their order.
 fn put_letters<const CAP: usize>(text: &mut ArrayString<CAP>, rights: &Rights)
     requires room { length text.old.bytes + 4 ≤ CAP }
-    ensures text { text.new.bytes ≡ text.old.bytes ++ (right_text rights.now.white_king 75 ++ (right_text rights.now.white_queen 81 ++ (right_text rights.now.black_king 107 ++ right_text rights.now.black_queen 113))) }
+    ensures text { text.new.bytes ≡ text.old.bytes ++ right_letters rights.now }
     ensures short { length text.new.bytes ≤ length text.old.bytes + 4 }
 {
     put_right(text, rights.white_king, b'K');

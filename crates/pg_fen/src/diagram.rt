@@ -1,7 +1,8 @@
 //! Diagrams.
 ghost use Rattle.std.specs.Prelude.{◌≡◌, ◌↔◌, IsTrue, IfOk, Ok};
 ghost use Rattle.std.specs.Cmp.{partial_equiv_from_equiv, decided};
-ghost use Rattle.pg_board.specs.Placement.{Placement, placement_eq, placement_eq_decides};
+ghost use Rattle.pg_board.specs.Placement.{Placement};
+ghost use Rattle.pg_board.specs.Equality.{placement_eq, placement_eq_decides};
 ghost use Rattle.pg_fen.specs.Fields.{fields};
 ghost use Rattle.pg_fen.specs.PlacementText.{placement_text};
 ghost use Rattle.pg_fen.specs.Packing.{packed_of};
@@ -27,7 +28,8 @@ pub struct Diagram {
 }
 
 impl Model for Diagram {
-    ghost use Rattle.pg_board.specs.Placement.{Placement, placement_code};
+    ghost use Rattle.pg_board.specs.Placement.{Placement};
+    ghost use Rattle.pg_board.specs.lemmas.Codes.{placement_code};
     ghost use Rattle.pg_fen.specs.DiagramText.{IsDiagram};
 
     ghost Value = { Placement };

@@ -2,7 +2,7 @@
 
 ghost use Rattle.std.specs.Prelude.{◌≡◌, ◌<◌, ◌≤◌, [], ◌∷◌, length, MatchOption};
 ghost use Rattle.std.specs.List.{prefix_len};
-ghost use Rattle.pg_fen.specs.Fields.{is_gap, is_word_byte, fields, AreFields};
+ghost use Rattle.pg_fen.specs.Fields.{is_field_gap, is_field_byte, fields, AreFields};
 
 /// The one field or the six fields of a text.
 #[derive(Debug, Clone, Copy)]
@@ -22,20 +22,20 @@ pub struct DetailFields<'a> {
 }
 
 fn is_gap(byte: u8) -> bool
-    ensures { result ≡ is_gap byte }
+    ensures { result ≡ is_field_gap byte }
 {
     matches!(byte, b' ' | b'\t' | b'\n' | b'\r')
 }
 
 fn gap_len(text: &[u8]) -> usize
-    ensures value { result ≡ prefix_len is_gap text.now }
+    ensures value { result ≡ prefix_len is_field_gap text.now }
     ensures fits { result ≤ length text.now }
 {
     text.iter().take_while(|b| is_gap(**b)).count()
 }
 
 fn word_len(text: &[u8]) -> usize
-    ensures value { result ≡ prefix_len is_word_byte text.now }
+    ensures value { result ≡ prefix_len is_field_byte text.now }
     ensures fits { result ≤ length text.now }
 {
     text.iter().take_while(|b| !is_gap(**b)).count()

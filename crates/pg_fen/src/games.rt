@@ -3,9 +3,9 @@ ghost use Rattle.std.specs.Prelude.{◌≡◌, ◌<◌, Result, Ok};
 ghost use Rattle.pg_position.specs.Position.{IsPosition};
 ghost use Rattle.pg_fen.specs.declared.fault.FenFault.{FenFault};
 ghost use Rattle.pg_fen.specs.declared.games.FenGame.{FenGame};
-ghost use Rattle.pg_fen.specs.PositionWriting.{parts_in, position_text};
+ghost use Rattle.pg_fen.specs.PositionWriting.{parts_of_game, position_text};
 ghost use Rattle.pg_fen.specs.Fields.{fields};
-ghost use Rattle.pg_fen.specs.PositionText.{game_parts, IsGameOf, IsGameRead};
+ghost use Rattle.pg_fen.specs.PositionText.{game_parts, IsGameOrBroken, IsGameRead};
 
 use crate::details::{Details, details_of};
 use crate::details_writing::put_details;
@@ -57,7 +57,7 @@ fn parts_of(text: &[u8]) -> Result<GameParts, FenFault>
 }
 
 fn game_of(parts: &GameParts) -> Result<FenGame, FenFault>
-    ensures { IsGameOf parts.now result }
+    ensures { IsGameOrBroken parts.now result }
 {
     let details = parts.details;
     match Position::from_parts(parts.board, details.side, details.rights, details.passed) {
@@ -86,7 +86,7 @@ pub fn read_position(text: &str) -> Result<FenGame, FenFault>
 
 // The five fields that a text of the game has behind the placement.
 fn details_in(position: &Position, half: u16, full: u16) -> Details
-    ensures value { result ≡ (parts_in (record { position = position.now; half = half; full = full })).details }
+    ensures value { result ≡ (parts_of_game (record { position = position.now; half = half; full = full })).details }
     ensures half { half < 65536 }
     ensures full { full < 65536 }
 {
@@ -104,7 +104,7 @@ fn details_in(position: &Position, half: u16, full: u16) -> Details
 /// position has one. `read_position` answers this game of the text, and no other game is written so.
 pub fn write_position(game: &FenGame) -> ArrayString<93>
     ensures text { result.bytes ≡ position_text game.now }
-    ensures read_again { game_parts (fields result.bytes) ≡ Ok (parts_in game.now) }
+    ensures read_again { game_parts (fields result.bytes) ≡ Ok (parts_of_game game.now) }
     ensures read_back { (answer : Result FenGame FenFault) → IsGameRead (game_parts (fields result.bytes)) answer → answer ≡ Ok game.now }
     ensures alone { (other : FenGame) → IsPosition other.position → other.half < 65536 → other.full < 65536 → position_text other ≡ result.bytes → other ≡ game.now }
 {

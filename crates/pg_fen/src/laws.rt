@@ -4,7 +4,8 @@ ghost use Rattle.std.specs.Prelude.{◌≡◌, ℕ, ◌<◌, ◌≤◌, ◌↔�
 ghost use Rattle.std.specs.Str.{chars};
 ghost use Rattle.std.proofs.Math.Utf8.{encodes};
 ghost use Rattle.pg_board.specs.declared.man.Color.{Color};
-ghost use Rattle.pg_board.specs.Placement.{Placement, count_of};
+ghost use Rattle.pg_board.specs.Placement.{Placement};
+ghost use Rattle.pg_board.specs.Tally.{count_of};
 ghost use Rattle.pg_board.specs.Men.{king_of};
 ghost use Rattle.pg_fen.specs.Lengths.{length_of, IsLength};
 ghost use Rattle.pg_fen.specs.Fields.{fields};
@@ -12,7 +13,7 @@ ghost use Rattle.pg_fen.specs.PlacementText.{ranks_fit, ranks_fit_by_chars, read
 ghost use Rattle.pg_fen.specs.DetailText.{details_of};
 ghost use Rattle.pg_position.specs.Position.{HasOneKing};
 ghost use Rattle.pg_fen.specs.DiagramText.{IsDiagram, diagram_of};
-ghost use Rattle.pg_fen.specs.Grammar.{IsPlacementText, AreDetailTexts, IsDiagramText, IsGameText};
+ghost use Rattle.pg_fen.specs.Grammar.{IsPlacementText, AreDetailTexts, IsDiagramText, IsPositionText};
 ghost use Rattle.pg_fen.specs.PositionText.{game_parts};
 ghost use Rattle.pg_fen.specs.declared.games.GameParts.{GameParts};
 ghost use Rattle.pg_fen.specs.Packing.{packed_of};
@@ -37,7 +38,7 @@ pub fn diagram_grammar(text: &str)
 
 /// A text says what a position's six fields say exactly where the grammar of positions spells it so.
 pub fn position_grammar(text: &str)
-    ensures { (g : GameParts) → (game_parts (fields text.now) ≡ Ok g) ↔ IsGameText text.now g }
+    ensures { (g : GameParts) → (game_parts (fields text.now) ≡ Ok g) ↔ IsPositionText text.now g }
 {
     let _ = text;
 }

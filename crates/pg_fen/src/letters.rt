@@ -1,11 +1,11 @@
 //! The letters of men.
 ghost use Rattle.std.specs.Prelude.{◌≡◌, ◌<◌};
-ghost use Rattle.pg_fen.specs.Letters.{kind_of, man_of, letter_of, letter_of_kind};
+ghost use Rattle.pg_fen.specs.Letters.{kind_of_letter, man_of, letter_of, letter_of_kind};
 
 use pg_board::{Color, Kind, Man};
 
 fn kind_of(letter: u8) -> Option<Kind>
-    ensures { result ≡ kind_of letter }
+    ensures { result ≡ kind_of_letter letter }
 {
     match letter {
         b'P' => Some(Kind::Pawn),

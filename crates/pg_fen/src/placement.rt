@@ -2,8 +2,9 @@
 ghost use Rattle.std.specs.Prelude.{◌≡◌, ◌+◌, ◌++◌, ◌<◌, ◌≤◌, ◌==◌, IsTrue, length};
 ghost use Rattle.std.specs.List.{slice_split, list_all, count_by};
 ghost use Rattle.pg_board.specs.Men.{king_of};
-ghost use Rattle.pg_board.specs.Placement.{count_of, tally};
-ghost use Rattle.pg_fen.specs.PlacementText.{is_run, width_of, is_eight_wide, ranks_fit, is_slash, is_letter, letters_fit, seen_at, placed, has_kings, is_edge, is_edge_pawn, has_no_edge_pawn, read_placement};
+ghost use Rattle.pg_board.specs.Tally.{count_of, tally};
+ghost use Rattle.pg_fen.specs.PlacementText.{is_run, width_of, is_eight_wide, ranks_fit, is_slash, is_letter, letters_fit, seen_at};
+ghost use Rattle.pg_fen.specs.PlacementText.{placed, has_kings, is_edge, is_edge_pawn, has_no_edge_pawn, read_placement};
 
 use crate::fault::FenFault;
 use crate::letters::man_of;
@@ -126,7 +127,7 @@ fn is_edge_pawn(square: Square, man: Man) -> bool
 }
 
 // How many pawns stand on ranks 1 and 8.
-#[tactic(auto, using(pg_board::specs::Placement::tallies))]
+#[tactic(auto, using(pg_board::specs::lemmas::Tallies::tallies))]
 fn edge_pawns(board: &Board) -> u8
     ensures { result ≡ tally is_edge_pawn board.now }
 {

@@ -8,11 +8,11 @@ use Rattle.pg_checker.specs.declared.fault.Fault.TheVariants.{Memory, Read}
 use Rattle.pg_report.specs.declared.fault.RunFault.TheVariants.{Diagram, Length, Games, Check, Write}
 use Rattle.pg_guide.specs.declared.fault.WhyFault.{WhyFault}
 use Rattle.pg_guide.specs.declared.fault.WhyFault.TheVariants.{Moves, Run}
-use Rattle.pg_guide.specs.Why.{IsProblem, IsOneLine, IsLineFault, IsRefused, IsWhyFault}
+use Rattle.pg_guide.specs.Why.{IsProblem, IsOneLine, IsOneLineFault, IsCertificateFault, IsWhyFault}
 
 -- the moves are refused
 pub bad_line : (rules : Placement → ℕ → List (List Move) → CheckRules) (diagram length moves : List ℕ) (max_records max_named : ℕ) (known : Option (List ℕ)) (failed broken : Bool) (e : WhyFault)
-    → IsProblem diagram length → IsLineFault moves e → IsWhyFault rules diagram length moves max_records max_named known failed broken e
+    → IsProblem diagram length → IsOneLineFault moves e → IsWhyFault rules diagram length moves max_records max_named known failed broken e
 bad_line rules diagram length moves max_records max_named known failed broken Moves p h = (p, h)
 bad_line rules diagram length moves max_records max_named known failed broken (Run (Diagram f)) p h = absurd h
 bad_line rules diagram length moves max_records max_named known failed broken (Run (Length f)) p h = absurd h
@@ -22,7 +22,7 @@ bad_line rules diagram length moves max_records max_named known failed broken (R
 
 -- the certificate is refused, and so may be the sink that is to be told
 pub bad_certificate : (rules : Placement → ℕ → List (List Move) → CheckRules) (diagram length moves : List ℕ) (max_records max_named : ℕ) (known : Option (List ℕ)) (failed broken : Bool) (f : Fault) (e : WhyFault)
-    → IsProblem diagram length → IsOneLine moves → ((e ≡ Run Write) × (broken ≡ true)) ⊎ (e ≡ Run (Check f)) → IsRefused rules diagram length max_records max_named known failed f
+    → IsProblem diagram length → IsOneLine moves → ((e ≡ Run Write) × (broken ≡ true)) ⊎ (e ≡ Run (Check f)) → IsCertificateFault rules diagram length max_records max_named known failed f
     → IsWhyFault rules diagram length moves max_records max_named known failed broken e
 bad_certificate rules diagram length moves max_records max_named known failed broken f e p l (inl w) r = subst (λ (x : WhyFault). IsWhyFault rules diagram length moves max_records max_named known failed broken x) (sym w.0) (p, l, w.1)
 bad_certificate rules diagram length moves max_records max_named known failed broken f e p l (inr w) r = subst (λ (x : WhyFault). IsWhyFault rules diagram length moves max_records max_named known failed broken x) (sym w) (p, l, r)

@@ -1,6 +1,5 @@
 -- What an explanation says of the certificate, and what its refusals say.
-use Rattle.std.specs.Prelude.{◌≡◌, ◌≢◌, ◌⊎◌, ℕ, Bool, true, List, Option, Ok, Err}
-use Rattle.std.specs.Prelude.{length as length_of_list}
+use Rattle.std.specs.Prelude.{◌≡◌, ◌≢◌, ◌⊎◌, ℕ, Bool, true, List, Option, Ok, Err, length as length_of_list}
 use Rattle.pg_board.specs.Placement.{Placement}
 use Rattle.pg_position.specs.declared.moves.Move.{Move}
 use Rattle.pg_fen.specs.Fields.{fields}
@@ -20,7 +19,9 @@ use Rattle.pg_guide.specs.declared.fault.WhyFault.TheVariants.{Moves, Run}
 
 -- the texts spell a diagram d and a length of n plies, a list of games is the exact answer to them, and by the rules the known bytes are a certificate of that within the limits
 abbrev pub IsProved : (Placement → ℕ → List (List Move) → CheckRules) → List ℕ → List ℕ → ℕ → ℕ → Option (List ℕ) → Type 0
-IsProved rules diagram length max_records max_named known = (d : Placement) × (n : ℕ) × (list : List (List Move)) × (diagram_of (fields diagram) ≡ Ok d) × (length_of length ≡ Ok n) × IsExactAnswer d n list × ((proved : Proved) × Accepts (rules d n list) d list max_records max_named known (Ok proved))
+IsProved rules diagram length max_records max_named known =
+    (d : Placement) × (n : ℕ) × (list : List (List Move)) × (diagram_of (fields diagram) ≡ Ok d) × (length_of length ≡ Ok n) × IsExactAnswer d n list
+    × ((proved : Proved) × Accepts (rules d n list) d list max_records max_named known (Ok proved))
 
 -- two texts spell a diagram and a length
 abbrev pub IsProblem : List ℕ → List ℕ → Type 0
@@ -31,20 +32,27 @@ abbrev pub IsOneLine : List ℕ → Type 0
 IsOneLine text = (list : List (List Move)) × IsListing text list × (length_of_list list ≡ 1)
 
 -- why a text is not the moves of one game: it is refused as a list of games, or it has none or more than one
-abbrev pub IsLineFault : List ℕ → WhyFault → Type 0
-IsLineFault text Moves = (list : List (List Move)) × IsListing text list × (length_of_list list ≢ 1)
-IsLineFault text (Run (Games fault)) = IsTextFault text fault
-IsLineFault text (Run fault) = ⊥
+abbrev pub IsOneLineFault : List ℕ → WhyFault → Type 0
+IsOneLineFault text Moves = (list : List (List Move)) × IsListing text list × (length_of_list list ≢ 1)
+IsOneLineFault text (Run (Games fault)) = IsTextFault text fault
+IsOneLineFault text (Run fault) = ⊥
 
--- the certificate is refused: memory, or reading it; or, by the rules, a list of games is not the exact answer to what the texts spell, or the known bytes are no certificate of that within the limits
-abbrev pub IsRefused : (Placement → ℕ → List (List Move) → CheckRules) → List ℕ → List ℕ → ℕ → ℕ → Option (List ℕ) → Bool → Fault → Type 0
-IsRefused rules diagram length max_records max_named known failed fault = (fault ≡ Memory) ⊎ ((fault ≡ Read) ⊎ ((d : Placement) × (n : ℕ) × (list : List (List Move)) × (diagram_of (fields diagram) ≡ Ok d) × (length_of length ≡ Ok n) × Accepts (rules d n list) d list max_records max_named known (Err fault) × Refuses (rules d n list) d list max_records max_named known failed (Err fault)))
+-- the certificate is refused: memory, or reading it; or, by the rules, a list of games is not the exact answer to what the
+-- texts spell, or the known bytes are no certificate of that within the limits
+abbrev pub IsCertificateFault : (Placement → ℕ → List (List Move) → CheckRules) → List ℕ → List ℕ → ℕ → ℕ → Option (List ℕ) → Bool → Fault → Type 0
+IsCertificateFault rules diagram length max_records max_named known failed fault =
+    (fault ≡ Memory) ⊎ ((fault ≡ Read)
+    ⊎ ((d : Placement) × (n : ℕ) × (list : List (List Move)) × (diagram_of (fields diagram) ≡ Ok d) × (length_of length ≡ Ok n)
+    × Accepts (rules d n list) d list max_records max_named known (Err fault)
+    × Refuses (rules d n list) d list max_records max_named known failed (Err fault)))
 
--- why a line is not explained by a certificate that is right: a text is refused, the diagram first, then the length, then the moves; or none of them is, and the certificate is refused, or the sink has failed
+-- why a line is not explained by a certificate that is right: a text is refused, the diagram first, then the length, then
+-- the moves; or none of them is, and the certificate is refused, or the sink has failed
 abbrev pub IsWhyFault : (Placement → ℕ → List (List Move) → CheckRules) → List ℕ → List ℕ → List ℕ → ℕ → ℕ → Option (List ℕ) → Bool → Bool → WhyFault → Type 0
-IsWhyFault rules diagram length moves max_records max_named known failed broken Moves = IsProblem diagram length × IsLineFault moves Moves
+IsWhyFault rules diagram length moves max_records max_named known failed broken Moves = IsProblem diagram length × IsOneLineFault moves Moves
 IsWhyFault rules diagram length moves max_records max_named known failed broken (Run (Diagram fault)) = IsProblemFault diagram length (Diagram fault)
 IsWhyFault rules diagram length moves max_records max_named known failed broken (Run (Length fault)) = IsProblemFault diagram length (Length fault)
 IsWhyFault rules diagram length moves max_records max_named known failed broken (Run (Games fault)) = IsProblem diagram length × IsTextFault moves fault
-IsWhyFault rules diagram length moves max_records max_named known failed broken (Run (Check fault)) = IsProblem diagram length × IsOneLine moves × IsRefused rules diagram length max_records max_named known failed fault
+IsWhyFault rules diagram length moves max_records max_named known failed broken (Run (Check fault)) =
+    IsProblem diagram length × IsOneLine moves × IsCertificateFault rules diagram length max_records max_named known failed fault
 IsWhyFault rules diagram length moves max_records max_named known failed broken (Run Write) = IsProblem diagram length × IsOneLine moves × (broken ≡ true)

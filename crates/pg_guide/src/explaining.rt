@@ -2,7 +2,7 @@
 ghost use Rattle.std.specs.Prelude.{◌≡◌, ◌⊎◌, ℕ, List, true, false, length, IfOk, IfErr, OnOk};
 ghost use Rattle.pg_checker.specs.Cuts.{rules_by};
 ghost use Rattle.pg_san.specs.Listing.{IsListing};
-ghost use Rattle.pg_guide.specs.Why.{IsLineFault, IsOneLine, IsProved, IsWhyFault};
+ghost use Rattle.pg_guide.specs.Why.{IsOneLineFault, IsOneLine, IsProved, IsWhyFault};
 
 use crate::fault::WhyFault;
 use crate::machine::{Cited, Ending, Machine, Question, Stop};
@@ -37,7 +37,7 @@ struct Findings {
 // The game that a text is, as the one game of a list.
 fn line_of(alloc: Global, text: &str) -> Result<Games, WhyFault>
     ensures listing { IfOk result (λ games. IsListing text.now games × (length games ≡ 1)) }
-    ensures err { IfErr result (λ e. IsLineFault text.now e) }
+    ensures err { IfErr result (λ e. IsOneLineFault text.now e) }
 {
     match read_games(alloc, text) {
         Ok(games) => {

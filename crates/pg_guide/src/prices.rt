@@ -3,9 +3,8 @@
 use crate::names::{color_name, man_name, many};
 use crate::numbers::{Place, files_by, own_plies};
 use crate::sentences::Sentence;
-use pg_board::{Board, Color, Kind, Man, Square};
+use pg_board::{Board, Color, Kind, Man, Square, SquareSet};
 use pg_captures::price_sum;
-use pg_position::first_from;
 use pg_travel::Prices;
 use std::fmt::Write;
 
@@ -56,23 +55,22 @@ fn is_later(price: u8, square: Square, last: &Option<(u8, Square)>) -> bool {
 #[derive(Clone, Copy)]
 struct Targets {
     goal: Board,
-    squares: u64,
+    squares: SquareSet,
 }
 
 // The dearest man after another one, and its price, above 0.
 fn dearest(targets: &Targets, v: &[u8], last: &Option<(u8, Square)>) -> Option<(u8, Square)> {
     let mut best = None;
     let mut price = 0u8;
-    let mut from = 0u8;
+    let mut squares = targets.squares.squares();
     for v in v {
-        let Some(square) = first_from(targets.squares, from) else {
+        let Some(square) = squares.next() else {
             return best;
         };
         if *v > price && is_later(*v, square, last) {
             price = *v;
             best = Some((price, square));
         }
-        from = square.index().saturating_add(1);
     }
     best
 }

@@ -4,7 +4,7 @@ use crate::names::{color_name, man_name, many};
 use crate::numbers::{Place, own_plies};
 use crate::sentences::Sentence;
 use pg_board::{Board, Color, Man, Square};
-use pg_position::{Position, Rights, first_from};
+use pg_position::{Position, Rights};
 use pg_travel::{distance, need};
 use std::fmt::Write;
 
@@ -56,10 +56,9 @@ fn castling(place: &Place, color: Color, need: u16) -> &'static str {
 
 // Whether a man of the colour can come to be one of the diagram, alone on the board.
 fn comes(board: &Board, man: Man, to: Square) -> bool {
-    let own = board.squares_of_color(man.color);
-    let mut from = 0u8;
+    let mut own = board.squares_of_color(man.color).squares();
     for _ in 0..64u8 {
-        let Some(square) = first_from(own, from) else {
+        let Some(square) = own.next() else {
             return false;
         };
         if let Some(source) = board.get(square) {
@@ -67,7 +66,6 @@ fn comes(board: &Board, man: Man, to: Square) -> bool {
                 return true;
             }
         }
-        from = square.index().saturating_add(1);
     }
     false
 }
@@ -76,10 +74,9 @@ fn comes(board: &Board, man: Man, to: Square) -> bool {
 fn unreached(place: &Place, color: Color) -> Option<(Man, Square)> {
     let board = place.position.board();
     let goal = place.diagram.board();
-    let own = goal.squares_of_color(color);
-    let mut from = 0u8;
+    let mut own = goal.squares_of_color(color).squares();
     for _ in 0..64u8 {
-        let Some(square) = first_from(own, from) else {
+        let Some(square) = own.next() else {
             return None;
         };
         if let Some(man) = goal.get(square) {
@@ -87,7 +84,6 @@ fn unreached(place: &Place, color: Color) -> Option<(Man, Square)> {
                 return Some((man, square));
             }
         }
-        from = square.index().saturating_add(1);
     }
     None
 }

@@ -7,14 +7,15 @@ use Rattle.pg_board.specs.declared.man.Kind.{Kind}
 use Rattle.pg_board.specs.declared.man.Kind.TheVariants.{Pawn, Knight, Bishop, Rook, Queen, King}
 use Rattle.pg_board.specs.declared.man.Man.{Man}
 use Rattle.pg_board.specs.declared.sets.Sets.{Sets}
-use Rattle.pg_board.specs.Men.{man, other, color_eq, color_decides, kind_eq, is_of, is_man, is_kind}
+use Rattle.pg_board.specs.Men.{man, other, color_eq, kind_eq, is_of, is_man, is_kind, king_of}
+use Rattle.pg_board.specs.lemmas.Equalities.{color_decides}
 use Rattle.pg_board.specs.Bits.{has}
-use Rattle.pg_board.specs.Placement.{Placement, get, get_on, without, IsFirst, get-write_same, get-write_other}
-use Rattle.pg_board.specs.Men.{king_of}
+use Rattle.pg_board.specs.Placement.{Placement, get, without, IsFirst}
+use Rattle.pg_board.specs.lemmas.Placements.{get_on, get-write_same, get-write_other}
 use Rattle.pg_board.specs.numbers.Sets.{Shows, AreWords, IsSound, man_in, shown, shows_itself}
 use Rattle.pg_position.specs.declared.state.State.{State}
 use Rattle.pg_position.specs.Geometry.{IsBetween}
-use Rattle.pg_position.specs.SquareSets.{IsSetOf}
+use Rattle.pg_board.specs.SquareSets.{IsSetOf}
 use Rattle.pg_position.specs.Attack.{IsClear, AttacksFrom, Attacks}
 use Rattle.pg_position.specs.Position.{Stands, IsPosition, IsOnlyKing}
 use Rattle.pg_moves.specs.Targets.{IsOwn, FreeOff, only}
@@ -66,16 +67,17 @@ only_other Black k = refl
 -- men of its own only shelter the square
 pub bare_lifted : (b e : Placement) (c : Color) (h : ℕ) → ((q : ℕ) → q < 64 → get e q ≡ only (other c) (get b q)) → ¬ Attacks e (other c) h → (r : ℕ) → IsOwn b c r → ¬ Attacks (without b r) (other c) h
 unfolding Attacks AttacksFrom IsClear IsOwn
-bare_lifted b e c h bare safe r (k, here) (x, low, (m, at, color, pattern, clear)) =
+bare_lifted b e c h bare safe r (k, here) (x, low, (j, at, (pattern, clear))) =
+    let m : Man = man (other c) j in
     let on : r < 64 = get_on b r (man c k) here in
     let not_r : x ≢ r = (λ f. let there : get (without b r) r ≡ Some m = subst (λ y. get (without b r) y ≡ Some m) f at in let none : get (without b r) r ≡ None = get-write_same b r None on in cc) in
     let before : get b x ≡ Some m = sym (get-write_other b r None x not_r) ∙ at in
-    let there : get e x ≡ Some m = bare x low ∙ ap (only (other c)) before ∙ only_kept (other c) m color in
+    let there : get e x ≡ Some m = bare x low ∙ ap (only (other c)) before ∙ only_kept (other c) m refl in
     let open_line : (t : ℕ) → t < 64 → IsBetween x t h → get e t ≡ None = (λ t l bet. elim (eqb_tells t r) [
       | inl w ↦ bare t l ∙ ap (only (other c)) (ap (get b) w.1 ∙ here) ∙ only_other c k
       | inr w ↦ bare t l ∙ ap (only (other c)) (sym (get-write_other b r None t w.1) ∙ clear t l bet)
     ]) in
-    safe (x, low, (m, there, color, pattern, open_line))
+    safe (x, low, (j, there, (pattern, open_line)))
 
 -- then the king alone is to be tried
 pub free_bare : (p : State) (b : Placement) (c : Color) (h : ℕ) → IsPosition p → b ≡ p.board → c ≡ p.side → IsFirst b (king_of c) h → (n : ℕ) → IsSetOf n (λ q. q ≡ h) → ((r : ℕ) → IsOwn b c r → ¬ Attacks (without b r) (other c) h) → FreeOff p n

@@ -8,7 +8,8 @@ use Rattle.pg_board.specs.declared.man.Kind.TheVariants.{Pawn, Rook, King}
 use Rattle.pg_board.specs.declared.man.Man.{Man}
 use Rattle.pg_board.specs.Squares.{file, rank}
 use Rattle.pg_board.specs.Men.{man, other}
-use Rattle.pg_board.specs.Placement.{Placement, get, without, get-write_same, get-write_other}
+use Rattle.pg_board.specs.Placement.{Placement, get, without}
+use Rattle.pg_board.specs.lemmas.Placements.{get-write_same, get-write_other}
 use Rattle.pg_position.specs.declared.rights.Wing.{Wing}
 use Rattle.pg_position.specs.declared.rights.Wing.TheVariants.{KingSide, QueenSide}
 use Rattle.pg_position.specs.declared.state.State.{State}
@@ -16,8 +17,9 @@ use Rattle.pg_position.specs.declared.moves.Move.{Move}
 use Rattle.pg_position.specs.declared.moves.Way.TheVariants.{Castling}
 use Rattle.pg_position.specs.Geometry.{IsBetween}
 use Rattle.pg_position.specs.Attack.{IsClear, AttacksFrom, Attacks}
-use Rattle.pg_position.specs.Position.{Stands, HasOneKing, IsOnlyKing, InCheck, IsPosition, RightsClause, IsHome, king_home, rook_home}
-use Rattle.pg_position.specs.Step.{IsCastling, IsOnBoard, relocated, after, Step, king_crossed, king_target}
+use Rattle.pg_position.specs.Position.{Stands, HasOneKing, IsOnlyKing, InCheck, IsPosition, RightsClause, IsHome}
+use Rattle.pg_position.specs.Step.{IsCastling, IsOnBoard, relocated, after, Step}
+use Rattle.pg_position.specs.Squares.{king_home, rook_home, king_crossed, king_target}
 use Rattle.pg_position.proofs.StepLemmas.{same_kind, not_other}
 use Rattle.pg_moves.specs.Moves.{IsLegal}
 use Rattle.pg_moves.proofs.LeafLemmas.{one_king}
@@ -35,34 +37,33 @@ squares White QueenSide = record { on = (omega arith, omega arith, omega arith, 
 squares Black KingSide = record { on = (omega arith, omega arith, omega arith, omega arith); home = (λ z. omega arith, λ z. omega arith, λ z. omega arith); rest = (λ z. omega arith, λ z. omega arith, λ z. omega arith) }
 squares Black QueenSide = record { on = (omega arith, omega arith, omega arith, omega arith); home = (λ z. omega arith, λ z. omega arith, λ z. omega arith); rest = (λ z. omega arith, λ z. omega arith, λ z. omega arith) }
 
--- a square of one rank with two others that share no file
-on_rank : (x i k r : ℕ) → i ≢ k → (file x ≡ i) ⊎ (rank x ≡ r) → (file x ≡ k) ⊎ (rank x ≡ r) → rank x ≡ r
-on_rank x i k r ne (inr a) h = a
-on_rank x i k r ne (inl a) (inr b) = b
-on_rank x i k r ne (inl a) (inl b) = absurd (ne (sym a ∙ b))
+-- a square on a line with another, of another file, is of its rank
+level : (x k r : ℕ) → file x ≢ k → (file x ≡ k) ⊎ (rank x ≡ r) → rank x ≡ r
+level x k r ne (inr a) = a
+level x k r ne (inl a) = absurd (ne a)
 
 -- what comes to the king's new square over his old one comes over the rook's new one
 over_home : (c : Color) (w : Wing) (x : ℕ) → x < 64 → IsBetween x (king_home c) (king_target c w) → IsBetween x (king_crossed c w) (king_target c w)
 unfolding IsBetween
-over_home White KingSide x low (a, b, u, v, inl (l, m, n)) = let z : rank x ≡ 1 = on_rank x 5 7 1 (λ y. omega arith) l n in (λ y. omega arith, λ y. omega arith, omega arith, omega arith, inl (inr z, inr refl, inr z))
+over_home White KingSide x low (a, b, u, v, inl n) = let z : rank x ≡ 1 = level x 7 1 (λ y. omega arith) n in (λ y. omega arith, λ y. omega arith, omega arith, omega arith, inl (inr z))
 over_home White KingSide x low (a, b, u, v, inr (l, m)) = absurd (omega arith)
-over_home White QueenSide x low (a, b, u, v, inl (l, m, n)) = let z : rank x ≡ 1 = on_rank x 5 3 1 (λ y. omega arith) l n in (λ y. omega arith, λ y. omega arith, omega arith, omega arith, inl (inr z, inr refl, inr z))
+over_home White QueenSide x low (a, b, u, v, inl n) = let z : rank x ≡ 1 = level x 3 1 (λ y. omega arith) n in (λ y. omega arith, λ y. omega arith, omega arith, omega arith, inl (inr z))
 over_home White QueenSide x low (a, b, u, v, inr (l, m)) = absurd (omega arith)
-over_home Black KingSide x low (a, b, u, v, inl (l, m, n)) = let z : rank x ≡ 8 = on_rank x 5 7 8 (λ y. omega arith) l n in (λ y. omega arith, λ y. omega arith, omega arith, omega arith, inl (inr z, inr refl, inr z))
+over_home Black KingSide x low (a, b, u, v, inl n) = let z : rank x ≡ 8 = level x 7 8 (λ y. omega arith) n in (λ y. omega arith, λ y. omega arith, omega arith, omega arith, inl (inr z))
 over_home Black KingSide x low (a, b, u, v, inr (l, m)) = absurd (omega arith)
-over_home Black QueenSide x low (a, b, u, v, inl (l, m, n)) = let z : rank x ≡ 8 = on_rank x 5 3 8 (λ y. omega arith) l n in (λ y. omega arith, λ y. omega arith, omega arith, omega arith, inl (inr z, inr refl, inr z))
+over_home Black QueenSide x low (a, b, u, v, inl n) = let z : rank x ≡ 8 = level x 3 8 (λ y. omega arith) n in (λ y. omega arith, λ y. omega arith, omega arith, omega arith, inl (inr z))
 over_home Black QueenSide x low (a, b, u, v, inr (l, m)) = absurd (omega arith)
 
 -- nothing comes there over the rook's old square
 over_rook : (c : Color) (w : Wing) (x : ℕ) → x < 64 → IsBetween x (rook_home c w) (king_target c w) → ⊥
 unfolding IsBetween
-over_rook White KingSide x low (a, b, u, v, inl (l, m, n)) = let z : rank x ≡ 1 = on_rank x 8 7 1 (λ y. omega arith) l n in omega arith
+over_rook White KingSide x low (a, b, u, v, inl n) = let z : rank x ≡ 1 = level x 7 1 (λ y. omega arith) n in omega arith
 over_rook White KingSide x low (a, b, u, v, inr (l, m)) = omega arith
-over_rook White QueenSide x low (a, b, u, v, inl (l, m, n)) = let z : rank x ≡ 1 = on_rank x 1 3 1 (λ y. omega arith) l n in omega arith
+over_rook White QueenSide x low (a, b, u, v, inl n) = let z : rank x ≡ 1 = level x 3 1 (λ y. omega arith) n in omega arith
 over_rook White QueenSide x low (a, b, u, v, inr (l, m)) = omega arith
-over_rook Black KingSide x low (a, b, u, v, inl (l, m, n)) = let z : rank x ≡ 8 = on_rank x 8 7 8 (λ y. omega arith) l n in omega arith
+over_rook Black KingSide x low (a, b, u, v, inl n) = let z : rank x ≡ 8 = level x 7 8 (λ y. omega arith) n in omega arith
 over_rook Black KingSide x low (a, b, u, v, inr (l, m)) = omega arith
-over_rook Black QueenSide x low (a, b, u, v, inl (l, m, n)) = let z : rank x ≡ 8 = on_rank x 1 3 8 (λ y. omega arith) l n in omega arith
+over_rook Black QueenSide x low (a, b, u, v, inl n) = let z : rank x ≡ 8 = level x 3 8 (λ y. omega arith) n in omega arith
 over_rook Black QueenSide x low (a, b, u, v, inr (l, m)) = omega arith
 
 -- ---- the board after castling
@@ -150,15 +151,15 @@ module _ (b : Placement) (c : Color) (e h f g : ℕ) (four : AreFour e h f g) (k
 
     was_attacked : Attacks castled (other c) g → Attacks b (other c) g
     unfolding Attacks AttacksFrom
-    was_attacked (x, low, (m, at, color, pattern, clear)) =
-        let before : get b x ≡ Some m = elim (placed x e h f g) [
-          | is_king z ↦ absurd (none_some (sym at_home ∙ subst (λ (y : ℕ). get castled y ≡ Some m) z at))
-          | is_rook z ↦ absurd (none_some (sym at_corner ∙ subst (λ (y : ℕ). get castled y ≡ Some m) z at))
-          | is_crossed z ↦ absurd (foreign Rook m (sym at_crossed ∙ subst (λ (y : ℕ). get castled y ≡ Some m) z at) color)
-          | is_target z ↦ absurd (foreign King m (sym at_target ∙ subst (λ (y : ℕ). get castled y ≡ Some m) z at) color)
+    was_attacked (x, low, (k, at, (pattern, clear))) =
+        let before : get b x ≡ Some (man (other c) k) = elim (placed x e h f g) [
+          | is_king z ↦ absurd (none_some (sym at_home ∙ subst (λ (y : ℕ). get castled y ≡ Some (man (other c) k)) z at))
+          | is_rook z ↦ absurd (none_some (sym at_corner ∙ subst (λ (y : ℕ). get castled y ≡ Some (man (other c) k)) z at))
+          | is_crossed z ↦ absurd (foreign Rook (man (other c) k) (sym at_crossed ∙ subst (λ (y : ℕ). get castled y ≡ Some (man (other c) k)) z at) refl)
+          | is_target z ↦ absurd (foreign King (man (other c) k) (sym at_target ∙ subst (λ (y : ℕ). get castled y ≡ Some (man (other c) k)) z at) refl)
           | is_other v u y z ↦ sym (untouched x v u y z) ∙ at
         ] in
-        (x, low, (m, before, color, pattern, was_clear x low clear))
+        (x, low, (k, before, (pattern, was_clear x low clear)))
 
     stays_safe : ((t : ℕ) → t < 64 → Stands b c King t → t ≡ e) → ¬ Attacks b (other c) g → ¬ InCheck (relocated (relocated b e g) h f) c
     unfolding InCheck first castled

@@ -16,7 +16,7 @@ use Rattle.pg_position.proofs.FutureLemmas.{legal_position}
 use Rattle.pg_moves.specs.declared.fault.CountFault.{CountFault}
 use Rattle.pg_moves.specs.declared.fault.CountFault.TheVariants.{TooDeep, Overflow, Memory}
 use Rattle.pg_moves.specs.Moves.{move_cmp, IsLegal, IsMoveList}
-use Rattle.pg_moves.specs.Counts.{IsFollowed, IsOnce, IsGameOf, IsGameList, IsGameCount, IsFault}
+use Rattle.pg_moves.specs.Counts.{IsFollowed, IsOnce, IsGameOf, IsGameList, IsGameCount, IsCountFault}
 use Rattle.pg_moves.proofs.SortLemmas.{Contains-head, Contains-later, Contains-cons, Contains-none, sorted_below, sorted_rest}
 use Rattle.pg_moves.proofs.PlaceLemmas.{move_cmp_total}
 use Rattle.pg_moves.proofs.ListLemmas.{moves_of, moves_of_is, move_list_is}
@@ -240,7 +240,7 @@ module _ (p : State) (k j : ℕ) (ms : List Move) (pos : IsPosition p) (list : I
       subst (λ (n : ℕ). IsGameCount p k n) is (number_is k p pos)
 
   -- too many games after a part of the moves
-  pub over : (i : ℕ) (m : Move) (total n : ℕ) → i < length ms → get_or ms i m ≡ m → total ≡ sum_by (follow p j) (take i ms) → n ≡ follow p j m → 2 ^ 64 ≤ total + n → k ≤ 8 → IsFault p k Overflow
+  pub over : (i : ℕ) (m : Move) (total n : ℕ) → i < length ms → get_or ms i m ≡ m → total ≡ sum_by (follow p j) (take i ms) → n ≡ follow p j m → 2 ^ 64 ≤ total + n → k ≤ 8 → IsCountFault p k Overflow
   over i m total n low at e f big few =
       let up : sum_by (follow p j) (take i ms) + follow p j (get_or ms i m) ≤ sum_by (follow p j) ms = sum_by_more_le (follow p j) ms i m low in
       let same : follow p j (get_or ms i m) ≡ follow p j m = ap (follow p j) at in
@@ -248,7 +248,7 @@ module _ (p : State) (k j : ℕ) (ms : List Move) (pos : IsPosition p) (list : I
       (few, (number_of k p, number_is k p pos, omega arith))
 
   -- a fault after one of the moves is one of the whole
-  pub fault_up : (e : CountFault) (i : ℕ) (m : Move) (q : State) → i < length ms → get_or ms i m ≡ m → Legal p m q → IsFault q j e → k ≤ 8 → IsFault p k e
+  pub fault_up : (e : CountFault) (i : ℕ) (m : Move) (q : State) → i < length ms → get_or ms i m ≡ m → Legal p m q → IsCountFault q j e → k ≤ 8 → IsCountFault p k e
   fault_up TooDeep i m q low at legal h few = absurd (let deep : 8 < j = h in omega arith)
   fault_up Overflow i m q low at legal h few =
       let n : ℕ = h.1.0 in

@@ -12,11 +12,12 @@ use Rattle.pg_position.specs.declared.moves.Way.TheVariants.{Plain, Capture, Dou
 use Rattle.pg_board.specs.Placement.{Placement as Board, get}
 use Rattle.pg_board.specs.Squares.{file, rank}
 use Rattle.pg_board.specs.Men.{other, man}
-use Rattle.pg_board.specs.lemmas.Decisions.{dec_along, dec_and, dec_and3, dec_and4, dec_and5, dec_or, dec_not, dec_implies, dec_equal, dec_at_most, dec_some_below, dec_all_below, dec_true, dec_option, dec_kind, dec_color, dec_kinds, dec_get}
+use Rattle.pg_board.specs.lemmas.Decisions.{dec_along, dec_and, dec_and3, dec_and4, dec_and5, dec_or, dec_not, dec_implies, dec_equal, dec_at_most, dec_some_below, dec_all_below, dec_true, dec_option, dec_kind, dec_kinds, dec_get}
 use Rattle.pg_position.specs.Geometry.{apart, IsForward, OnOneLine, OnOneDiagonal, InPattern, IsWithin, IsBetween}
 use Rattle.pg_position.specs.Attack.{IsClear, Reaches, AttacksFrom, Attacks}
-use Rattle.pg_position.specs.Position.{Stands, InCheck, king_home, rook_home, holds, ahead}
-use Rattle.pg_position.specs.Step.{home_rank, last_rank, king_crossed, king_target, IsEnemy, Goes, MustPromote, IsWay, after, IsOnBoard, Step, Legal}
+use Rattle.pg_position.specs.Position.{Stands, InCheck, holds}
+use Rattle.pg_position.specs.Step.{IsEnemy, Goes, MustPromote, IsWay, after, IsOnBoard, Step, Legal}
+use Rattle.pg_position.specs.Squares.{king_home, rook_home, ahead, home_rank, last_rank, king_crossed, king_target}
 
 -- 1 ways
 
@@ -67,7 +68,7 @@ dec_within a b c = dec_equal (apart a b + apart b c) (apart a c)
 
 pub dec_between : (r t s : ℕ) → Dec (IsBetween r t s)
 unfolding IsBetween
-dec_between r t s = dec_and5 (dec_not (dec_equal t r)) (dec_not (dec_equal t s)) (dec_within (file r) (file t) (file s)) (dec_within (rank r) (rank t) (rank s)) (dec_or (dec_and3 (dec_line r t) (dec_line t s) (dec_line r s)) (dec_and (dec_diagonal r t) (dec_diagonal r s)))
+dec_between r t s = dec_and5 (dec_not (dec_equal t r)) (dec_not (dec_equal t s)) (dec_within (file r) (file t) (file s)) (dec_within (rank r) (rank t) (rank s)) (dec_or (dec_line r s) (dec_and (dec_diagonal r t) (dec_diagonal r s)))
 
 -- 3 boards
 
@@ -75,18 +76,13 @@ pub dec_clear : (b : Board) (r s : ℕ) → Dec (IsClear b r s)
 unfolding IsClear
 dec_clear b r s = dec_all_below (λ t. IsBetween r t s → get b t ≡ None) (λ t. dec_implies (dec_between r t s) (dec_get b t None)) 64
 
--- some man of an option
-dec_some : {A : Type 0} (P : A → Type 0) → ((x : A) → Dec (P x)) → (o : Option A) → Dec ((x : A) × (o ≡ Some x) × P x)
-dec_some P dec None = no (λ h. let e : None ≡ Some h.0 = h.1 in cc)
-dec_some {A} P dec (Some a) = dec_along (λ h. (a, refl, h)) back (dec a)
-  where
-    back : ((x : A) × (Some a ≡ Some x) × P x) → P a
-    back h = let e : h.0 ≡ a = (let f : Some a ≡ Some h.0 = h.1 in cc) in subst P e h.2
+dec_reaches : (b : Board) (c : Color) (k : Kind) (r s : ℕ) → Dec (Reaches b c k r s)
+dec_reaches b c k r s = dec_and (dec_pattern c k r s) (dec_clear b r s)
 
 dec_attacks_from : (b : Board) (c : Color) (r s : ℕ) → Dec (AttacksFrom b c r s)
 unfolding AttacksFrom
-dec_attacks_from b c r s = dec_along (λ h. (h.0, h.1, h.2.0, h.2.1, h.2.2)) (λ h. (h.0, h.1, (h.2, h.3, h.4)))
-    (dec_some (λ m. (m.color ≡ c) × InPattern m.color m.kind r s × IsClear b r s) (λ m. dec_and3 (dec_color m.color c) (dec_pattern m.color m.kind r s) (dec_clear b r s)) (get b r))
+dec_attacks_from b c r s = dec_along (λ h. (h.0, h.1.0, h.1.1)) (λ h. (h.0, (h.1, h.2)))
+    (dec_kinds (λ k. (get b r ≡ Some (man c k)) × Reaches b c k r s) (λ k. dec_and (dec_get b r (Some (man c k))) (dec_reaches b c k r s)))
 
 pub dec_attacks : (b : Board) (c : Color) (s : ℕ) → Dec (Attacks b c s)
 unfolding Attacks
@@ -102,9 +98,6 @@ dec_check b c = dec_along (λ h. (h.0, h.1, h.2.0, h.2.1)) (λ h. (h.0, h.1, (h.
 dec_enemy : (b : Board) (c : Color) (s : ℕ) → Dec (IsEnemy b c s)
 unfolding IsEnemy
 dec_enemy b c s = dec_kinds (λ k. Stands b (other c) k s) (λ k. dec_get b s (Some (man (other c) k)))
-
-dec_reaches : (b : Board) (c : Color) (k : Kind) (r s : ℕ) → Dec (Reaches b c k r s)
-dec_reaches b c k r s = dec_and (dec_pattern c k r s) (dec_clear b r s)
 
 dec_goes : (b : Board) (c : Color) (k : Kind) (r s : ℕ) → Dec (Goes b c k r s)
 unfolding Goes

@@ -8,7 +8,8 @@ use Rattle.pg_board.specs.declared.man.Kind.TheVariants.{Pawn, Knight, Bishop, R
 use Rattle.pg_board.specs.declared.man.Man.{Man}
 use Rattle.pg_board.specs.Squares.{file}
 use Rattle.pg_board.specs.Men.{man, other}
-use Rattle.pg_board.specs.Placement.{Placement, get, without, get-write_same, get-write_other}
+use Rattle.pg_board.specs.Placement.{Placement, get, without}
+use Rattle.pg_board.specs.lemmas.Placements.{get-write_same, get-write_other}
 use Rattle.pg_position.specs.declared.state.State.{State}
 use Rattle.pg_position.specs.declared.moves.Way.{Way}
 use Rattle.pg_position.specs.declared.moves.Way.TheVariants.{Plain, Capture, DoubleAdvance, EnPassant, Promotion, Castling}
@@ -38,9 +39,9 @@ not_end h u r bet = bet.1
 -- what stands on a square does not bear on an attack on it
 same_attack : (a b : Placement) (c : Color) (s : ℕ) → ((t : ℕ) → t ≢ s → get a t ≡ get b t) → Attacks a c s → Attacks b c s
 unfolding Attacks AttacksFrom IsClear
-same_attack a b c s off (x, low, (m, at, color, pattern, clear)) =
-    let ne : x ≢ s = pattern_apart m.color m.kind x s pattern in
-    (x, low, (m, sym (off x ne) ∙ at, color, pattern, λ t l bet. sym (off t (not_end x t s bet)) ∙ clear t l bet))
+same_attack a b c s off (x, low, (k, at, (pattern, clear))) =
+    let ne : x ≢ s = pattern_apart c k x s pattern in
+    (x, low, (k, sym (off x ne) ∙ at, (pattern, λ t l bet. sym (off t (not_end x t s bet)) ∙ clear t l bet)))
 
 -- a square without a man of the colour is empty or the other's
 foe_man : (c v : Color) (j : Kind) → ((k : Kind) → Some (man v j) ≢ Some (man c k)) → (Some (man v j) ≡ None) ⊎ ((k : Kind) × (Some (man v j) ≡ Some (man (other c) k)))

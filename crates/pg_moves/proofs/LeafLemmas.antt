@@ -1,28 +1,30 @@
 -- How many legal moves there are, square by square.
-use Rattle.std.proofs.Common.{◌≡◌, ◌≢◌, ℕ, zero, suc, ◌+◌, ◌-◌, ◌*◌, ◌^◌, ◌<◌, ◌≤◌, ◌⊎◌, inl, inr, Bool, true, false, None, eqb, List, [], ◌∷◌, ◌++◌, length, length-append, count_ones, bit_or, refl, sym, ap, subst, arith, ◌∙◌}
+use Rattle.std.proofs.Common.{◌≡◌, ◌≢◌, ℕ, zero, suc, ◌+◌, ◌*◌, ◌<◌, ◌≤◌, ◌⊎◌, inl, inr, Bool, true, false, None, eqb, List, [], ◌∷◌, ◌++◌, length, length-append, ◌||◌, refl, sym, ap, subst, arith, ◌∙◌}
 use Rattle.std.specs.List.{sum_by}
 use Rattle.std.proofs.lemmas.Bool.{eqb-false}
 use Rattle.std.proofs.lemmas.Bool.Decides.{eqb_tells, leb_tells}
-use Rattle.std.proofs.lemmas.Nat.Bits.{bit_at_ones}
 use Rattle.std.proofs.lemmas.List.Sums.{sum_by-cons}
 use Rattle.pg_board.specs.declared.man.Color.{Color}
 use Rattle.pg_board.specs.declared.man.Color.TheVariants.{White, Black}
 use Rattle.pg_board.specs.declared.man.Kind.{Kind}
 use Rattle.pg_board.specs.declared.man.Kind.TheVariants.{Pawn, Queen, King}
 use Rattle.pg_board.specs.Squares.{rank}
-use Rattle.pg_board.specs.Tally.{one, count_below, total-none, total-suc}
+use Rattle.pg_board.specs.Tally.{one, count_below}
+use Rattle.pg_board.specs.lemmas.Sums.{total-none, total-suc}
 use Rattle.pg_board.specs.Bits.{has, has-none, ones-count}
 use Rattle.pg_board.specs.Men.{king_of, other}
-use Rattle.pg_board.specs.Placement.{Placement, get_on, without, IsFirst}
+use Rattle.pg_board.specs.Placement.{Placement, without, IsFirst}
+use Rattle.pg_board.specs.lemmas.Placements.{get_on}
 use Rattle.pg_position.specs.declared.state.State.{State}
 use Rattle.pg_position.specs.declared.moves.Move.{Move}
 use Rattle.pg_position.specs.Geometry.{IsForward, InPattern}
 use Rattle.pg_position.specs.Attack.{Reaches, Attacks}
-use Rattle.pg_position.specs.SquareSets.{IsSetOf, HasNoneFrom, IsFirstFrom}
+use Rattle.pg_board.specs.SquareSets.{IsSetOf, HasNoneFrom, IsFirstFrom}
 use Rattle.pg_position.specs.Position.{Stands, IsOnlyKing, HasOneKing, InCheck, IsPosition}
-use Rattle.pg_position.specs.Step.{Goes, IsOnBoard, home_rank, last_rank}
+use Rattle.pg_position.specs.Step.{Goes, IsOnBoard}
+use Rattle.pg_position.specs.Squares.{home_rank, last_rank}
 use Rattle.pg_position.proofs.StepLemmas.{same_kind}
-use Rattle.pg_position.proofs.ReachLemmas.{set_or}
+use Rattle.pg_board.proofs.SetLemmas.{set_of_union}
 use Rattle.pg_moves.specs.Moves.{promotion_number, IsLegal}
 use Rattle.pg_moves.specs.numbers.Places.{place, place_of, NoneFrom, IsFirstMove, IsCountBelow, Adds}
 use Rattle.pg_moves.specs.numbers.Sources.{IsExact}
@@ -105,13 +107,12 @@ module _ (p : State) (r set : ℕ) (is : IsExact p r set) where
       let same : n + count_below (has set) t + one (has set t) ≡ n + count_below (has set) (suc t) = omega (arith, total-suc (λ q. one (has set q)) t) in
       subst (λ x. IsCountBelow p (place_of r (suc t) 0) x) same (exact_step t (n + count_below (has set) t) (has set t) (omega arith) refl before)
 
-  pub exact_adds : set < 2 ^ 64 → Adds p (place_of r 0 0) (place_of (r + 1) 0 0) (count_ones set)
+  pub exact_adds : (k : ℕ) → k ≡ count_below (has set) 64 → Adds p (place_of r 0 0) (place_of (r + 1) 0 0) k
   unfolding Adds
-  exact_adds fits n count =
+  exact_adds k is n count =
       let all : IsCountBelow p (place_of r 64 0) (n + count_below (has set) 64) = exact_to 64 n (omega arith) count in
       let at : place_of r 64 0 ≡ place_of (r + 1) 0 0 = omega arith in
-      let size : count_below (has set) 64 ≡ count_ones set = sym (ones-count 64 set fits) in
-      subst (λ x. IsCountBelow p x (n + count_ones set)) at (subst (λ x. IsCountBelow p (place_of r 64 0) (n + x)) size all)
+      subst (λ x. IsCountBelow p x (n + k)) at (subst (λ x. IsCountBelow p (place_of r 64 0) (n + x)) (sym is) all)
 
 -- ---- a man that is free and ordinary
 module _ (p : State) (k : Kind) (r set : ℕ) (low : r < 64) (here : Stands p.board p.side k r) (free : IsFree p k r) (plain : IsOrdinary p k r) (is : IsSetOf set (Advances p.board p.side k r)) where
@@ -148,16 +149,13 @@ module _ (p : State) (k : Kind) (r set : ℕ) (low : r < 64) (here : Stands p.bo
     λ (e, on, h). subst (λ (x : Move). IsLegal p x) (sym (λ i. record { from = f i; to = m.to; promotion = e i })) (free_legal m.to on h),
   )
 
-  pub free_adds : set < 2 ^ 64 → Adds p (place_of r 0 0) (place_of (r + 1) 0 0) (count_ones set)
+  pub free_adds : (n : ℕ) → n ≡ count_below (has set) 64 → Adds p (place_of r 0 0) (place_of (r + 1) 0 0) n
   free_adds = exact_adds p r set free_exact
 
 -- ---- which men are free and ordinary
-pub free_none_off : (p : State) (n : ℕ) → n ≡ 2 ^ 64 - 1 → FreeOff p n
+pub free_none_off : (p : State) (n : ℕ) → ((q : ℕ) → q < 64 → has n q ≡ true) → FreeOff p n
 unfolding FreeOff
-free_none_off p n e k r low here off =
-    let full : has (2 ^ 64 - 1) r ≡ true = ap (λ b. eqb b 1) (bit_at_ones 64 r low) in
-    let full_there : has n r ≡ true = ap (λ x. has x r) e ∙ full in
-    absurd (cc)
+free_none_off p n full k r low here off = let there : has n r ≡ true = full r low in absurd (cc)
 
 only_king : (b : Placement) (c : Color) (h : ℕ) → HasOneKing b c → IsFirst b (king_of c) h → IsOnlyKing b c h
 unfolding HasOneKing IsOnlyKing
@@ -183,11 +181,11 @@ module _ (p : State) (b : Placement) (c : Color) (h : ℕ) (pos : IsPosition p) 
       let there : ¬ Attacks (without p.board r) (other p.side) h = (λ a. lifted (subst (λ (d : Placement). Attacks (without d r) (other c) h) (sym eb) (subst (λ (d : Color). Attacks (without p.board r) (other d) h) (sym ec) a))) in
       (no_king, λ s on a stays. sure_legal p k r h low here the_king no_king there s on a stays)
 
-  pub free_seen : (x y : ℕ) → IsSetOf x (Reaches b c Queen h) → IsSetOf y (λ q. q ≡ h) → ¬ InCheck p.board p.side → FreeOff p (bit_or x y)
+  pub free_seen : (x y n : ℕ) → IsSetOf x (Reaches b c Queen h) → IsSetOf y (λ q. q ≡ h) → ((q : ℕ) → has n q ≡ has x q || has y q) → ¬ InCheck p.board p.side → FreeOff p n
   unfolding FreeOff IsOnlyKing InCheck
-  free_seen x y sees at safe k r low here off =
+  free_seen x y n sees at either safe k r low here off =
       let king : IsOnlyKing p.board p.side h = the_king in
-      let none : Reaches b c Queen h r ⊎ (r ≡ h) → ⊥ = (λ z. let is : has (bit_or x y) r ≡ true = (set_or x y sees at r low).1 z in cc) in
+      let none : Reaches b c Queen h r ⊎ (r ≡ h) → ⊥ = (λ z. let is : has n r ≡ true = (set_of_union n x y either sees at r low).1 z in cc) in
       let no_king : k ≢ King = (λ e. none (inr (king.2 r low (subst (λ (j : Kind). Stands p.board p.side j r) e here)))) in
       let unseen : ¬ Reaches b c Queen h r = (λ z. none (inl z)) in
       let calm : ¬ Attacks b (other c) h = (λ a. safe (h, king.0, king.1, subst (λ (d : Placement). Attacks d (other p.side) h) eb (subst (λ (d : Color). Attacks b (other d) h) ec a))) in
@@ -201,7 +199,7 @@ early : (c : Color) (r s : ℕ) → IsForward c 1 r s → rank r ≢ home_rank (
 early White r s f far e = omega arith
 early Black r s f far e = omega arith
 
-pub pawn_ordinary : (p : State) (k : Kind) (r set : ℕ) → IsSetOf set (CapturesEnPassant p r) → set ≡ 0 → rank r ≢ home_rank (other p.side) → IsOrdinary p k r
+pub pawn_ordinary : (p : State) (k : Kind) (r set : ℕ) → IsSetOf set (CapturesEnPassant p r) → HasNoneFrom set 0 → rank r ≢ home_rank (other p.side) → IsOrdinary p k r
 unfolding IsOrdinary Advances Strides Leaps Goes InPattern
 pawn_ordinary p k r set is none far s on = (
   λ a must. (let pawn : Advances p.board p.side Pawn r s = subst (λ (j : Kind). Advances p.board p.side j r s) must.0 a in
@@ -210,7 +208,7 @@ pawn_ordinary p k r set is none far s on = (
         | inl (inr h) ↦ early p.side r s h.1.0.1 far must.1
         | inr h ↦ leap_last p.side r s h.1.1 h.1.0 must.1
       ]),
-  λ e h. (let is_there : has set s ≡ true = (is s on).1 h in let off : has set s ≡ false = ap (λ x. has x s) none ∙ has-none s in cc),
+  λ e h. (let is_there : has set s ≡ true = (is s on).1 h in let off : has set s ≡ false = none s (omega arith) on in cc),
 )
 
 -- ---- the loops

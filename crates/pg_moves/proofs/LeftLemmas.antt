@@ -5,7 +5,7 @@ use Rattle.pg_board.specs.Men.{is_of}
 use Rattle.pg_board.specs.Placement.{get}
 use Rattle.pg_position.specs.declared.state.State.{State}
 use Rattle.pg_position.specs.declared.moves.Move.{Move}
-use Rattle.pg_position.specs.SquareSets.{HasNoneFrom, IsFirstFrom}
+use Rattle.pg_board.specs.SquareSets.{HasNoneFrom, IsFirstFrom}
 use Rattle.pg_moves.specs.Left.{MovesLeft, IsFound, IsAhead}
 use Rattle.pg_moves.specs.numbers.Sources.{IsSource}
 use Rattle.pg_moves.specs.declared.left.Ahead.{Ahead}

@@ -23,13 +23,19 @@ near_end x r h a b = omega arith
 less : (x r h : ℕ) → IsWithin x r h → apart r h ≡ apart x h - apart x r
 less x r h a = omega arith
 
+line_same : (x t h : ℕ) → IsWithin x t h → x ≡ h → (x ≡ t) × (t ≡ h)
+line_same x t h w e = let s : t ≡ x = within_same x t h w e in (sym s, s ∙ e)
+
 -- the end of a line sees each square within it along a queen's line
 pub seen_back : (c : Color) (x r h : ℕ) → IsBetween x r h → InPattern c Queen h r
 unfolding IsBetween InPattern
 seen_back c x r h (n, m, wf, wr, z) = (
   λ e. m (sym e),
   elim z [
-    | inl (a, b, d) ↦ elim b [ inl e ↦ inl (inl (sym e)) | inr e ↦ inl (inr (sym e)) ]
+    | inl d ↦ elim d [
+      | inl e ↦ inl (inl (sym (line_same (file x) (file r) (file h) wf e).1))
+      | inr e ↦ inl (inr (sym (line_same (rank x) (rank r) (rank h) wr e).1))
+    ]
     | inr (a, b) ↦ inr (
         let f : apart (file r) (file h) ≡ apart (file x) (file h) - apart (file x) (file r) = less (file x) (file r) (file h) wf in
         let g : apart (rank r) (rank h) ≡ apart (rank x) (rank h) - apart (rank x) (rank r) = less (rank x) (rank r) (rank h) wr in
@@ -59,9 +65,6 @@ diagonal_more a b c d e f g h p q r s u v =
     sums : (a b c d e f : ℕ) → a + b ≡ c → d + e ≡ f → c ≡ f → b ≡ e → a ≡ d
     sums a b c d e f p q r s = omega arith
 
-line_same : (x t h : ℕ) → IsWithin x t h → x ≡ h → (x ≡ t) × (t ≡ h)
-line_same x t h w e = let s : t ≡ x = within_same x t h w e in (sym s, s ∙ e)
-
 -- what is between the end and a square within a line is between the line's ends
 pub between_more : (x r h t : ℕ) → IsBetween x r h → IsBetween h t r → IsBetween x t h
 unfolding IsBetween
@@ -73,12 +76,9 @@ between_more x r h t (n, m, wf, wr, z) (o, q, vf, vr, y) =
       uf,
       ur,
       elim z [
-        | inl (a, b, d) ↦ elim d [
-          | inl e ↦ (let s : (file x ≡ file t) × (file t ≡ file h) = line_same (file x) (file t) (file h) uf e in inl (inl s.0, inl s.1, inl e))
-          | inr e ↦ (let s : (rank x ≡ rank t) × (rank t ≡ rank h) = line_same (rank x) (rank t) (rank h) ur e in inl (inr s.0, inr s.1, inr e))
-        ]
+        | inl d ↦ inl d
         | inr (a, b) ↦ elim y [
-          | inl (d, e, f) ↦ absurd (elim f [
+          | inl f ↦ absurd (elim f [
             | inl g ↦ m (same_square r h (sym g) (level_else (file x) (file r) (file h) (rank x) (rank r) (rank h) wr a b (sym g)))
             | inr g ↦ m (same_square r h (level_else (rank x) (rank r) (rank h) (file x) (file r) (file h) wf (sym a) (sym b) (sym g)) (sym g))
           ])

@@ -41,7 +41,7 @@ module _ {X : Type 0} (test : X → Bool) where
   kept_has_at false y x xs is e (inl f) = absurd (let t : test y ≡ true = ap test f ∙ e in let u : true ≡ false = sym t ∙ is in cc)
   kept_has_at false y x xs is e (inr g) = g
 
-  kept_has : (xs : List X) (x : X) → test x ≡ true → Contains xs x → Contains (filter test xs) x
+  pub kept_has : (xs : List X) (x : X) → test x ≡ true → Contains xs x → Contains (filter test xs) x
   kept_has [] x e h = absurd (Contains-none x h)
   kept_has (y ∷ xs) x e h = kept_has_at (test y) y x xs refl e (elim (Contains-cons y x xs h) [ inl f ↦ inl f | inr g ↦ inr (kept_has xs x e g) ])
 
@@ -52,7 +52,7 @@ module _ {X : Type 0} (test : X → Bool) where
   ]
   kept_are_at false y x xs is rest g = let r : (test x ≡ true) × Contains xs x = rest g in (r.0, Contains-later y x xs r.1)
 
-  kept_are : (xs : List X) (x : X) → Contains (filter test xs) x → (test x ≡ true) × Contains xs x
+  pub kept_are : (xs : List X) (x : X) → Contains (filter test xs) x → (test x ≡ true) × Contains xs x
   kept_are [] x h = absurd (Contains-none x h)
   kept_are (y ∷ xs) x h = kept_are_at (test y) y x xs refl (kept_are xs x) h
 

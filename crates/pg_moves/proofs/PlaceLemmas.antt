@@ -9,7 +9,8 @@ use Rattle.std.proofs.lemmas.Cmp.{nat_cmp_total, on_total, then_total}
 use Rattle.std.proofs.lemmas.Bool.Decides.{eqb_tells}
 use Rattle.std.proofs.lemmas.List.Elements.{Contains-append_left, Contains-push, Contains-push_cases}
 use Rattle.pg_board.specs.declared.man.Kind.{Kind}
-use Rattle.pg_board.specs.Tally.{below_seven}
+use Rattle.pg_board.specs.lemmas.Sums.{below_seven}
+use Rattle.pg_board.specs.lemmas.Kinds.{each_kind}
 use Rattle.pg_board.specs.declared.man.Kind.TheVariants.{Pawn, Knight, Bishop, Rook, Queen, King}
 use Rattle.pg_position.specs.declared.moves.Move.{Move}
 use Rattle.pg_position.specs.Step.{IsOnBoard}
@@ -33,21 +34,11 @@ promotion_of _ = Some King
 pub promotion_back : (o : Option Kind) → promotion_of (promotion_number o) ≡ o
 unfolding promotion_of
 promotion_back None = refl
-promotion_back (Some Pawn) = refl
-promotion_back (Some Knight) = refl
-promotion_back (Some Bishop) = refl
-promotion_back (Some Rook) = refl
-promotion_back (Some Queen) = refl
-promotion_back (Some King) = refl
+promotion_back (Some k) = each_kind (λ j. promotion_of (promotion_number (Some j)) ≡ Some j) (refl, refl, refl, refl, refl, refl) k
 
 pub promotion_low : (o : Option Kind) → promotion_number o < 7
 promotion_low None = omega arith
-promotion_low (Some Pawn) = omega arith
-promotion_low (Some Knight) = omega arith
-promotion_low (Some Bishop) = omega arith
-promotion_low (Some Rook) = omega arith
-promotion_low (Some Queen) = omega arith
-promotion_low (Some King) = omega arith
+promotion_low (Some k) = each_kind (λ j. promotion_number (Some j) < 7) (omega arith, omega arith, omega arith, omega arith, omega arith, omega arith) k
 
 pub number_back : (n : ℕ) → n < 7 → promotion_number (promotion_of n) ≡ n
 unfolding promotion_of

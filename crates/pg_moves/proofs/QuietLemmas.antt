@@ -1,6 +1,5 @@
 -- Pawns that are counted all at once: which may be, and that the count is right.
-use Rattle.std.proofs.Common.{arith, ◌≡◌, ◌≢◌, ℕ, zero, suc, ◌+◌, ◌-◌, ◌^◌, ◌<◌, ◌≤◌, ◌⊎◌, inl, inr, Bool, true, false, ◌&&◌, ◌||◌, eqb, bit_and, count_ones, w64, Option, None, Some, refl, sym, ap, ap₂, ◌∙◌, subst}
-use Rattle.std.specs.Int.{bit_not}
+use Rattle.std.proofs.Common.{arith, ◌≡◌, ◌≢◌, ℕ, zero, suc, ◌+◌, ◌-◌, ◌<◌, ◌≤◌, ◌⊎◌, inl, inr, Bool, true, false, ◌&&◌, ◌||◌, eqb, not, Option, None, Some, refl, sym, ap, ap₂, ◌∙◌, subst}
 use Rattle.std.specs.Bool.{Decides}
 use Rattle.std.proofs.lemmas.Bool.Decides.{eqb_tells, Decides-at, Decides-or, Decides-and, Decides-eqb, Decides-like}
 use Rattle.pg_board.specs.declared.man.Color.{Color}
@@ -8,18 +7,21 @@ use Rattle.pg_board.specs.declared.man.Color.TheVariants.{White, Black}
 use Rattle.pg_board.specs.declared.man.Kind.TheVariants.{Pawn}
 use Rattle.pg_board.specs.declared.man.Man.{Man}
 use Rattle.pg_board.specs.Squares.{file, rank}
-use Rattle.pg_board.specs.Men.{is_man, is_man_decides, is_of, man, other}
+use Rattle.pg_board.specs.Men.{is_man, is_of, man, other}
+use Rattle.pg_board.specs.lemmas.Equalities.{is_man_decides}
 use Rattle.pg_board.specs.Placement.{Placement, get}
-use Rattle.pg_board.specs.Bits.{has, bits_below, has-bits_below, bits_below-lt, ones-count}
-use Rattle.pg_board.specs.Tally.{one, total, count_below, total-none, total-more, count_below_same, total-zero, total_same, total_changed}
+use Rattle.pg_board.specs.Bits.{has, bits_below, has-bits_below, bits_below-lt, ones-count, has-none}
+use Rattle.pg_board.specs.Tally.{one, total, count_below}
+use Rattle.pg_board.specs.lemmas.Sums.{total-none, total-more, count_below_same, total-zero, total_same, total_changed}
 use Rattle.pg_position.specs.declared.state.State.{State}
 use Rattle.pg_position.specs.Geometry.{IsForward, InPattern}
 use Rattle.pg_position.specs.Attack.{IsClear, Reaches}
-use Rattle.pg_position.specs.SquareSets.{IsSetOf, IsFirstFrom, HasNoneFrom}
-use Rattle.pg_position.specs.Position.{IsPosition, PawnsClause, Stands, IsVacant, ahead}
-use Rattle.pg_position.specs.Step.{IsEnemy, Goes, home_rank}
+use Rattle.pg_board.specs.SquareSets.{IsSetOf, IsFirstFrom, HasNoneFrom}
+use Rattle.pg_position.specs.Position.{IsPosition, PawnsClause, Stands, IsVacant}
+use Rattle.pg_position.specs.Step.{IsEnemy, Goes}
+use Rattle.pg_position.specs.Squares.{ahead, home_rank}
 use Rattle.pg_position.proofs.LineLemmas.{pawn_near}
-use Rattle.pg_position.proofs.ReachLemmas.{set_without}
+use Rattle.pg_board.proofs.SetLemmas.{set_of_rest, set_none}
 use Rattle.pg_moves.specs.numbers.Places.{place_of, NoneFrom, IsCountBelow, Adds}
 use Rattle.pg_moves.specs.Counts.{IsGameCount}
 use Rattle.pg_moves.specs.Targets.{IsOwn, Advances, Strides, Leaps, CapturesEnPassant, FreeOff}
@@ -27,7 +29,6 @@ use Rattle.pg_moves.specs.declared.pawns.PawnWays.{PawnWays}
 use Rattle.pg_moves.specs.numbers.Pawns.{forward, IsInside, AreWays, IsQuiet, to_left, to_right, moves_from}
 use Rattle.pg_moves.proofs.ShiftLemmas.{itself, total_add}
 use Rattle.pg_moves.proofs.TargetLemmas.{own_set}
-use Rattle.pg_position.proofs.SetLemmas.{set_none}
 use Rattle.pg_moves.proofs.SearchLemmas.{own_gap}
 use Rattle.pg_moves.proofs.LeafLemmas.{free_adds, count_skip, count_all, pawn_ordinary, free_there}
 
@@ -55,22 +56,25 @@ start White q l a b h = omega arith
 start Black q l a b h = omega arith
 
 -- what is left of a set once another is taken out
-out_of : (a b q : ℕ) → b < 2 ^ 64 → q < 64 → has (bit_and a (bit_not w64 b)) q ≡ true → (has a q ≡ true) × (has b q ≡ false)
-out_of a b q fit l e =
-    let h = (set_without a b fit (itself a) (itself b) q l).0 e in
+out_of : (n a b q : ℕ) → ((q : ℕ) → q < 64 → has n q ≡ has a q && not (has b q)) → q < 64 → has n q ≡ true → (has a q ≡ true) × (has b q ≡ false)
+out_of n a b q rest l e =
+    let h = (set_of_rest n a b rest (itself a) (itself b) q l).0 e in
     (h.0, elim (has b q) as (λ v. has b q ≡ v → has b q ≡ false) [ true ↦ λ t. absurd (h.1 t) | false ↦ λ t. t ] refl)
 
-pub quiet : (p : State) (b : Placement) (c o : Color) (pawn : Man) (pawns maybe_pinned passing home : ℕ) → b ≡ p.board → c ≡ p.side → pawn ≡ man c Pawn → o ≡ other c
-    → IsPosition p → FreeOff p maybe_pinned → maybe_pinned < 2 ^ 64 → passing < 2 ^ 64 → home < 2 ^ 64
+pub quiet : (p : State) (b : Placement) (c o : Color) (pawn : Man) (pawns maybe_pinned passing home sure plain quiet_ones : ℕ) → b ≡ p.board → c ≡ p.side → pawn ≡ man c Pawn → o ≡ other c
+    → IsPosition p → FreeOff p maybe_pinned
+    → ((q : ℕ) → q < 64 → has sure q ≡ has pawns q && not (has maybe_pinned q))
+    → ((q : ℕ) → q < 64 → has plain q ≡ has sure q && not (has passing q))
+    → ((q : ℕ) → q < 64 → has quiet_ones q ≡ has plain q && not (has home q))
     → ((q : ℕ) → q < 64 → has pawns q ≡ is_man pawn (get b q))
     → ((q s : ℕ) → q < 64 → s < 64 → CapturesEnPassant p q s → has passing q ≡ true)
     → IsSetOf home (λ q. rank q ≡ home_rank o)
-    → (q : ℕ) → q < 64 → has (bit_and (bit_and (bit_and pawns (bit_not w64 maybe_pinned)) (bit_not w64 passing)) (bit_not w64 home)) q ≡ true → IsQuiet p q
+    → (q : ℕ) → q < 64 → has quiet_ones q ≡ true → IsQuiet p q
 unfolding PawnsClause
-quiet p b c o pawn pawns maybe_pinned passing home eb ec em eo pos free fit fits few are passed at q l e =
-    let far = out_of _ home q few l e in
-    let calm = out_of _ passing q fits l far.0 in
-    let off = out_of pawns maybe_pinned q fit l calm.0 in
+quiet p b c o pawn pawns maybe_pinned passing home sure plain quiet_ones eb ec em eo pos free fit fits few are passed at q l e =
+    let far = out_of quiet_ones plain home q few l e in
+    let calm = out_of plain sure passing q fits l far.0 in
+    let off = out_of sure pawns maybe_pinned q fit l calm.0 in
     let there : get b q ≡ Some (man c Pawn) = (is_man_decides (man c Pawn) (get b q)).0 (ap (λ (x : Man). is_man x (get b q)) (sym em) ∙ sym (are q l) ∙ off.0) in
     let here : Stands p.board p.side Pawn q = subst (λ (d : Placement). Stands d p.side Pawn q) eb (subst (λ (d : Color). Stands b d Pawn q) ec there) in
     let not_home : rank q ≢ home_rank (other p.side) = (λ f. (
@@ -86,7 +90,7 @@ quiet p b c o pawn pawns maybe_pinned passing home eb ec em eo pos free fit fits
     record {
       stands = here;
       free = free_there p Pawn q maybe_pinned l here free off.1;
-      ordinary = pawn_ordinary p Pawn q 0 none refl not_home;
+      ordinary = pawn_ordinary p Pawn q 0 none (λ s _ _. has-none s) not_home;
       inside = start p.side q l edge.0 edge.1 not_home;
     }
 
@@ -223,20 +227,20 @@ module _ (b : Placement) (c : Color) (pawns : ℕ) (w : PawnWays) (is : AreWays 
   goals_set : IsSetOf (bits_below goals_at 64) (Advances b c Pawn q)
   goals_set s l = Decides-at _ _ (has-bits_below goals_at 64 s l) (Decides-like (goals_at s) (advance_back s) (advance_forth s l) (four_is _ _ _ _ _ _ _ _ s))
 
-  goals_counted : count_ones (bits_below goals_at 64) ≡ moves_from w q
+  goals_counted : moves_from w q ≡ count_below (has (bits_below goals_at 64)) 64
   unfolding moves_from
   goals_counted =
       let z : AreApart (forward c 8 q) (forward c 16 q) (forward c (to_left c) q) (forward c (to_right c) q) = apart c q low inside in
-      ones-count 64 (bits_below goals_at 64) (bits_below-lt goals_at 64)
-      ∙ count_below_same (has (bits_below goals_at 64)) goals_at 64 (λ s l. has-bits_below goals_at 64 s l)
+      sym (
+      count_below_same (has (bits_below goals_at 64)) goals_at 64 (λ s l. has-bits_below goals_at 64 s l)
       ∙ four_counted _ _ _ _ (has w.once q) (has w.twice q) (has w.left q) (has w.right q) z.on.0 z.on.1 z.on.2 z.on.3 z.first.0 z.first.1 z.first.2 z.rest.0 z.rest.1 z.rest.2
+      )
 
 pub pawn_adds : (p : State) (b : Placement) (c : Color) (pawns : ℕ) (w : PawnWays) → b ≡ p.board → c ≡ p.side → AreWays b c pawns w → ((q : ℕ) → q < 64 → has pawns q ≡ true → IsQuiet p q) → (q : ℕ) → q < 64 → has pawns q ≡ true → Adds p (place_of q 0 0) (place_of (q + 1) 0 0) (moves_from w q)
 pawn_adds p b c pawns w eb ec is quiet q low mine =
     let here : IsQuiet p q = quiet q low mine in
     let ways : AreWays p.board p.side pawns w = subst (λ (x : Placement). AreWays x p.side pawns w) eb (subst (λ (d : Color). AreWays b d pawns w) ec is) in
-    subst (λ (n : ℕ). Adds p (place_of q 0 0) (place_of (q + 1) 0 0) n) (goals_counted p.board p.side pawns w ways q low mine here.inside)
-    (free_adds p Pawn q _ low here.stands here.free here.ordinary (goals_set p.board p.side pawns w ways q low mine here.inside) (bits_below-lt _ 64))
+    free_adds p Pawn q _ low here.stands here.free here.ordinary (goals_set p.board p.side pawns w ways q low mine here.inside) (moves_from w q) (goals_counted p.board p.side pawns w ways q low mine here.inside)
 
 false_of : (b : Bool) → ¬ (b ≡ true) → b ≡ false
 false_of true h = absurd (h refl)
@@ -253,14 +257,13 @@ no_ways b c pawns w is q l off =
     omega (arith, ap one x, ap one y, ap one z, ap one v)
 
 -- ---- the loop over the other men
-module _ (p : State) (own pawns rest : ℕ) (w : PawnWays) (is_own : (q : ℕ) → q < 64 → has own q ≡ is_of p.side (get p.board q)) (fit : pawns < 2 ^ 64) (others : rest ≡ bit_and own (bit_not w64 pawns)) (adds : (q : ℕ) → q < 64 → has pawns q ≡ true → Adds p (place_of q 0 0) (place_of (q + 1) 0 0) (moves_from w q)) (off : (q : ℕ) → q < 64 → has pawns q ≡ false → moves_from w q ≡ 0) where
+module _ (p : State) (own pawns rest : ℕ) (w : PawnWays) (is_own : (q : ℕ) → q < 64 → has own q ≡ is_of p.side (get p.board q)) (others : (q : ℕ) → q < 64 → has rest q ≡ has own q && not (has pawns q)) (adds : (q : ℕ) → q < 64 → has pawns q ≡ true → Adds p (place_of q 0 0) (place_of (q + 1) 0 0) (moves_from w q)) (off : (q : ℕ) → q < 64 → has pawns q ≡ false → moves_from w q ≡ 0) where
   at_rest : (q : ℕ) → q < 64 → has rest q ≡ true → (has own q ≡ true) × (has pawns q ≡ false)
-  at_rest q l e = out_of own pawns q fit l (ap (λ x. has x q) (sym others) ∙ e)
+  at_rest q l e = out_of rest own pawns q others l e
 
   not_own : (q : ℕ) → q < 64 → has rest q ≡ false → has pawns q ≡ false → has own q ≡ false
   not_own q l e f = false_of _ (λ g. (
-      let on : has (bit_and own (bit_not w64 pawns)) q ≡ true = (set_without own pawns fit (itself own) (itself pawns) q l).1 (g, λ h. (let t : true ≡ false = sym h ∙ f in cc)) in
-      let yes : has rest q ≡ true = ap (λ x. has x q) others ∙ on in
+      let yes : has rest q ≡ true = (set_of_rest rest own pawns others (itself own) (itself pawns) q l).1 (g, λ h. (let t : true ≡ false = sym h ∙ f in cc)) in
       cc))
 
   -- the moves of the squares below at: n of men that are no such pawns

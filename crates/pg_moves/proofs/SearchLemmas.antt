@@ -5,7 +5,7 @@ use Rattle.std.proofs.lemmas.Cmp.{tied_itself}
 use Rattle.std.proofs.lemmas.Bool.Decides.{eqb_tells, leb_tells}
 use Rattle.pg_position.specs.declared.state.State.{State}
 use Rattle.pg_position.specs.declared.moves.Move.{Move}
-use Rattle.pg_position.specs.Position.{Stands, ahead, passed_rank, IsPassed, IsPosition}
+use Rattle.pg_position.specs.Position.{Stands, IsPassed, IsPosition}
 use Rattle.pg_board.specs.declared.man.Color.{Color}
 use Rattle.pg_board.specs.declared.man.Color.TheVariants.{White, Black}
 use Rattle.pg_board.specs.declared.man.Kind.{Kind}
@@ -17,9 +17,10 @@ use Rattle.pg_board.specs.declared.man.Man.{Man}
 use Rattle.pg_board.specs.Bits.{has}
 use Rattle.pg_board.specs.Men.{man, is_of}
 use Rattle.pg_board.specs.Placement.{Placement, get}
-use Rattle.pg_position.specs.Step.{IsOnBoard, IsWay, IsPiece, MustPromote, home_rank, last_rank, Step}
+use Rattle.pg_position.specs.Step.{IsOnBoard, IsWay, IsPiece, MustPromote, Step}
+use Rattle.pg_position.specs.Squares.{ahead, passed_rank, home_rank, last_rank}
 use Rattle.pg_position.proofs.StepLemmas.{same_kind}
-use Rattle.pg_position.specs.SquareSets.{HasNoneFrom, IsFirstFrom}
+use Rattle.pg_board.specs.SquareSets.{HasNoneFrom, IsFirstFrom}
 use Rattle.pg_moves.proofs.TargetLemmas.{own_set}
 use Rattle.pg_moves.specs.Moves.{promotion_number, move_cmp, IsLegal, IsPast, IsNext, IsLast}
 use Rattle.pg_moves.specs.numbers.Places.{place_of, start_after, place, NoneFrom, IsFirstMove, IsListBelow}

@@ -6,7 +6,8 @@ use Rattle.pg_board.specs.declared.man.Kind.{Kind}
 use Rattle.pg_board.specs.declared.man.Kind.TheVariants.{Queen, King}
 use Rattle.pg_board.specs.declared.man.Man.{Man}
 use Rattle.pg_board.specs.Men.{man, other}
-use Rattle.pg_board.specs.Placement.{Placement, get, without, get-write_same, get-write_other}
+use Rattle.pg_board.specs.Placement.{Placement, get, without}
+use Rattle.pg_board.specs.lemmas.Placements.{get-write_same, get-write_other}
 use Rattle.pg_position.specs.declared.state.State.{State}
 use Rattle.pg_position.specs.declared.moves.Way.{Way}
 use Rattle.pg_position.specs.declared.moves.Way.TheVariants.{Plain, Capture, DoubleAdvance}
@@ -43,20 +44,18 @@ module _ (b e : Placement) (c : Color) (k : Kind) (r s h : ℕ) (on : r < 64) (g
     -- an attack on the king would be there with the man taken off the board
     no_attack : ¬ Attacks e (other c) h
     unfolding Attacks AttacksFrom IsClear
-    no_attack (x, low, (m, at, color, pattern, clear)) =
-        let not_s : x ≢ s = (λ f. let there : get e s ≡ Some m = subst (λ y. get e y ≡ Some m) f at in
-        let own : get e s ≡ Some (man c k) = gone.arrived in
-        let same : m ≡ man c k = cc in
-        not_other c (sym (ap (λ (y : Man). y.color) same) ∙ color)) in
-        let not_r : x ≢ r = (λ f. let there : get e r ≡ Some m = subst (λ y. get e y ≡ Some m) f at in let none : get e r ≡ None = gone.left in cc) in
-        let before : get (without b r) x ≡ Some m = get-write_other b r None x not_r ∙ sym (gone.rest x not_r not_s) ∙ at in
+    no_attack (x, low, (j, at, (pattern, clear))) =
+        let their : Man = man (other c) j in
+        let not_s : x ≢ s = (λ f. let there : get e s ≡ Some their = subst (λ y. get e y ≡ Some their) f at in not_other c (same_side gone.arrived there)) in
+        let not_r : x ≢ r = (λ f. let there : get e r ≡ Some their = subst (λ y. get e y ≡ Some their) f at in let none : get e r ≡ None = gone.left in cc) in
+        let before : get (without b r) x ≡ Some their = get-write_other b r None x not_r ∙ sym (gone.rest x not_r not_s) ∙ at in
         let taken : (t : ℕ) → t < 64 → IsBetween x t h → t ≢ s = (λ t l bet f. let none : get e t ≡ None = clear t l bet in
         let own : get e t ≡ Some (man c k) = subst (λ y. get e y ≡ Some (man c k)) (sym f) gone.arrived in cc) in
         let open_line : (t : ℕ) → t < 64 → IsBetween x t h → get (without b r) t ≡ None = (λ t l bet. elim (eqb_tells t r) [
           | inl w ↦ subst (λ y. get (without b r) y ≡ None) (sym w.1) (get-write_same b r None on)
           | inr w ↦ get-write_other b r None t w.1 ∙ sym (gone.rest t w.1 (taken t l bet)) ∙ clear t l bet
         ]) in
-        lifted (x, low, (m, before, color, pattern, open_line))
+        lifted (x, low, (j, before, (pattern, open_line)))
 
     no_check : ¬ InCheck e c
     unfolding InCheck
@@ -65,7 +64,8 @@ module _ (b e : Placement) (c : Color) (k : Kind) (r s h : ℕ) (on : r < 64) (g
 -- a man that the king does not see, as a queen sees, covers him from no attack
 pub unseen_lifted : (b : Placement) (c : Color) (r h : ℕ) → r < 64 → ¬ Reaches b c Queen h r → ¬ Attacks b (other c) h → ¬ Attacks (without b r) (other c) h
 unfolding Attacks AttacksFrom IsClear
-unseen_lifted b c r h on unseen safe (x, low, (m, at, color, pattern, clear)) =
+unseen_lifted b c r h on unseen safe (x, low, (j, at, (pattern, clear))) =
+    let m : Man = man (other c) j in
     let not_r : x ≢ r = (λ f. let there : get (without b r) r ≡ Some m = subst (λ y. get (without b r) y ≡ Some m) f at in let none : get (without b r) r ≡ None = get-write_same b r None on in cc) in
     let before : get b x ≡ Some m = sym (get-write_other b r None x not_r) ∙ at in
     let still : (t : ℕ) → t < 64 → IsBetween x t h → t ≢ r → get b t ≡ None = (λ t l bet ne. sym (get-write_other b r None t ne) ∙ clear t l bet) in
@@ -75,7 +75,7 @@ unseen_lifted b c r h on unseen safe (x, low, (m, at, color, pattern, clear)) =
           (seen_back c x r h mid, λ u v near. still u v (between_more x r h u mid near) (let apart_r : u ≢ r = not_end h u r near in apart_r))))
       | inr w ↦ still t l bet w.1
     ]) in
-    safe (x, low, (m, before, color, pattern, open_line))
+    safe (x, low, (j, before, (pattern, open_line)))
 
 -- ---- the moves of a man that shelters nothing
 gone_plain : (b : Placement) (c : Color) (k : Kind) (r s : ℕ) → r < 64 → s < 64 → r ≢ s → Stands b c k r → HasGone b (relocated b r s) c k r s

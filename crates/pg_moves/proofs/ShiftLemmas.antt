@@ -1,24 +1,25 @@
 -- Sets shifted along the board, and the squares that pawns go from.
-use Rattle.std.proofs.Common.{arith, ◌≡◌, ◌≢◌, ℕ, zero, suc, ◌+◌, ◌-◌, ◌*◌, ◌/◌, ◌%◌, ◌^◌, ◌<◌, ◌≤◌, Bool, true, false, not, cond, ◌&&◌, eqb, pow-suc, bit_and, count_ones, w64, None, Some, refl, sym, ap, ap₂, ◌∙◌, subst}
+use Rattle.std.proofs.Common.{arith, ◌≡◌, ◌≢◌, ℕ, zero, suc, ◌+◌, ◌-◌, ◌*◌, ◌/◌, ◌%◌, ◌^◌, ◌<◌, ◌≤◌, true, not, ◌&&◌, eqb, pow-suc, bit_and, count_ones, w64, None, Some, refl, sym, ap, ap₂, ◌∙◌, subst}
 use Rattle.std.specs.Int.{bit_at, bit_not}
 use Rattle.std.proofs.lemmas.Nat.{shr-shr}
-use Rattle.std.proofs.lemmas.Nat.Bits.{bit_at_cat_low, bit_at_cat_high, bit_at_not}
+use Rattle.std.proofs.lemmas.Nat.Bits.{bit_at_cat_low, bit_at_cat_high}
 use Rattle.std.proofs.lemmas.Bool.Decides.{Decides-at, Decides-not, Decides-eqb}
 use Rattle.pg_board.specs.declared.man.Color.{Color}
 use Rattle.pg_board.specs.declared.man.Color.TheVariants.{White, Black}
 use Rattle.pg_board.specs.Squares.{file, rank}
 use Rattle.pg_board.specs.Men.{is_held, is_of, other}
 use Rattle.pg_board.specs.Placement.{Placement, get}
-use Rattle.pg_board.specs.Bits.{has, has-and, bit_has, bits_below, has-bits_below, ones-count}
-use Rattle.pg_board.specs.Tally.{one, total, total-none, total-suc}
-use Rattle.pg_position.specs.SquareSets.{IsSetOf}
+use Rattle.pg_board.specs.Bits.{has, has-and, bits_below, has-bits_below, ones-count}
+use Rattle.pg_board.specs.Tally.{one, total, count_below}
+use Rattle.pg_board.specs.lemmas.Sums.{total-none, total-suc}
+use Rattle.pg_board.specs.SquareSets.{IsSetOf}
 use Rattle.pg_position.specs.Position.{IsVacant}
-use Rattle.pg_position.specs.Step.{IsEnemy, home_rank}
-use Rattle.pg_position.proofs.SetLemmas.{and_true}
-use Rattle.pg_position.proofs.ReachLemmas.{set_like}
+use Rattle.pg_position.specs.Step.{IsEnemy}
+use Rattle.pg_position.specs.Squares.{home_rank}
+use Rattle.pg_board.proofs.SetLemmas.{and_true, set_like, set_of_both, set_of_rest, has-not}
 use Rattle.pg_moves.specs.declared.pawns.PawnWays.{PawnWays}
 use Rattle.pg_moves.specs.numbers.Pawns.{forward, IsInside, AreInside, moves_from}
-use Rattle.pg_moves.proofs.TargetLemmas.{set_and, enemy_set, held_set}
+use Rattle.pg_moves.proofs.TargetLemmas.{enemy_set, held_set}
 
 -- ---- shifts
 pub has_down : (n k q : ℕ) → has (n / 2 ^ k) q ≡ has n (q + k)
@@ -69,64 +70,57 @@ unfolding bits_below
 off_right_file q l = Decides-at _ _ (has-bits_below (λ s. not (eqb (file s) 8)) 64 q l) (Decides-not _ (Decides-eqb (file q) 8))
 
 -- ---- sets
-turned : (b : Bool) → eqb (1 - cond b 1 0) 1 ≡ not b
-turned true = refl
-turned false = refl
-
-has-out : (n q : ℕ) → n < 2 ^ 64 → q < 64 → has (bit_not w64 n) q ≡ not (has n q)
-has-out n q l k = ap (λ x. eqb x 1) (bit_at_not w64 n q l k ∙ ap (λ x. 1 - x) (bit_has n q)) ∙ turned (has n q)
-
-pub outside : {P : ℕ → Type 0} (n : ℕ) → n < 2 ^ 64 → IsSetOf n P → IsSetOf (bit_not w64 n) (λ q. ¬ P q)
-outside n l h q k = Decides-at _ _ (has-out n q l k) (Decides-not _ (h q k))
-
 none_held : (b : Placement) (q : ℕ) → ¬ (get b q ≢ None) → IsVacant b q
 none_held b q h = elim (get b q) as (λ o. get b q ≡ o → IsVacant b q) [
   | None ↦ λ e. e
   | Some m ↦ λ e. absurd (h (λ f. let g : None ≡ Some m = sym f ∙ e in cc))
 ] refl
 
-pub vacant_set : (b : Placement) (n : ℕ) → n < 2 ^ 64 → ((q : ℕ) → q < 64 → has n q ≡ is_held (get b q)) → IsSetOf (bit_not w64 n) (IsVacant b)
-vacant_set b n l h = set_like _ (λ q _ f. none_held b q f) (λ q _ e n. n e) (outside n l (held_set b n h))
-
 pub itself : (n : ℕ) → IsSetOf n (λ q. has n q ≡ true)
 itself n q l = (λ e. e, λ e. e)
 
+pub vacant_set : (b : Placement) (full held n : ℕ) → ((q : ℕ) → q < 64 → has full q ≡ true) → ((q : ℕ) → q < 64 → has held q ≡ is_held (get b q)) → ((q : ℕ) → q < 64 → has n q ≡ has full q && not (has held q)) → IsSetOf n (IsVacant b)
+vacant_set b full held n all h rest = set_like n
+    (λ q _ f. none_held b q f.1)
+    (λ q l e. (all q l, λ o. o e))
+    (set_of_rest n full held rest (itself full) (held_set b held h))
+
 -- the squares of a set that see a square of another so far ahead
-pub ahead_set : {P : ℕ → Type 0} (c : Color) (k pawns shifted set : ℕ) → k ≤ 16 → AreInside c pawns → ((q : ℕ) → q < 64 → IsInside c k q → has shifted q ≡ has set (forward c k q)) → IsSetOf set P → IsSetOf (bit_and pawns shifted) (λ q. (has pawns q ≡ true) × P (forward c k q))
-ahead_set c k pawns shifted set le inside seen is q l = (
-  λ e. (let (x, y) = and_true (has pawns q) (has shifted q) (sym (has-and pawns shifted q) ∙ e) in
+pub ahead_set : {P : ℕ → Type 0} (c : Color) (k pawns shifted set n : ℕ) → k ≤ 16 → AreInside c pawns → ((q : ℕ) → q < 64 → IsInside c k q → has shifted q ≡ has set (forward c k q)) → IsSetOf set P → ((q : ℕ) → has n q ≡ has pawns q && has shifted q) → IsSetOf n (λ q. (has pawns q ≡ true) × P (forward c k q))
+ahead_set c k pawns shifted set n le inside seen is both q l = (
+  λ e. (let (x, y) = and_true (has pawns q) (has shifted q) (sym (both q) ∙ e) in
       let near : IsInside c k q = nearer c q k le (inside q l x) in
       (x, (is (forward c k q) (inside_low c q k l near)).0 (sym (seen q l near) ∙ y))),
   λ h. (let near : IsInside c k q = nearer c q k le (inside q l h.0) in
       let y : has shifted q ≡ true = seen q l near ∙ (is (forward c k q) (inside_low c q k l near)).1 h.1 in
       let x : has pawns q ≡ true = h.0 in
-      has-and pawns shifted q ∙ (let both : has pawns q && has shifted q ≡ true = cc in both)),
+      both q ∙ (let yes : has pawns q && has shifted q ≡ true = cc in yes)),
 )
 
-pub fewer_inside : (c : Color) (a b : ℕ) → AreInside c a → AreInside c (bit_and a b)
-fewer_inside c a b h q l e = h q l (and_true (has a q) (has b q) (sym (has-and a b q) ∙ e)).0
+pub fewer_inside : (c : Color) (a b n : ℕ) → AreInside c a → ((q : ℕ) → has n q ≡ has a q && has b q) → AreInside c n
+fewer_inside c a b n h both q l e = h q l (and_true (has a q) (has b q) (sym (both q) ∙ e)).0
 
 -- ---- sums
 pub total_add : (f g : ℕ → ℕ) (n : ℕ) → total f n + total g n ≡ total (λ q. f q + g q) n
 total_add f g zero = omega (arith, total-none f, total-none g, total-none (λ q. f q + g q))
 total_add f g (suc n) = let h : total f n + total g n ≡ total (λ q. f q + g q) n = total_add f g n in omega (arith, total-suc f n, total-suc g n, total-suc (λ q. f q + g q) n)
 
-pub ways_counted : (w : PawnWays) → w.once < 2 ^ 64 → w.twice < 2 ^ 64 → w.left < 2 ^ 64 → w.right < 2 ^ 64 → (count_ones w.once + count_ones w.twice) + (count_ones w.left + count_ones w.right) ≡ total (moves_from w) 64
+pub ways_counted : (w : PawnWays) (i j m n : ℕ) → i ≡ count_below (has w.once) 64 → j ≡ count_below (has w.twice) 64 → m ≡ count_below (has w.left) 64 → n ≡ count_below (has w.right) 64 → (i + j) + (m + n) ≡ total (moves_from w) 64
 unfolding moves_from
-ways_counted w a b c d =
+ways_counted w i j m n a b c d =
     let f : ℕ → ℕ = λ q. one (has w.once q) in
     let g : ℕ → ℕ = λ q. one (has w.twice q) in
     let h : ℕ → ℕ = λ q. one (has w.left q) in
     let k : ℕ → ℕ = λ q. one (has w.right q) in
-    let steps : count_ones w.once + count_ones w.twice ≡ total (λ q. f q + g q) 64 = ap₂ (λ (x y : ℕ). x + y) (ones-count 64 w.once a) (ones-count 64 w.twice b) ∙ total_add f g 64 in
-    let captures : count_ones w.left + count_ones w.right ≡ total (λ q. h q + k q) 64 = ap₂ (λ (x y : ℕ). x + y) (ones-count 64 w.left c) (ones-count 64 w.right d) ∙ total_add h k 64 in
+    let steps : i + j ≡ total (λ q. f q + g q) 64 = ap₂ (λ (x y : ℕ). x + y) a b ∙ total_add f g 64 in
+    let captures : m + n ≡ total (λ q. h q + k q) 64 = ap₂ (λ (x y : ℕ). x + y) c d ∙ total_add h k 64 in
     ap₂ (λ (x y : ℕ). x + y) steps captures ∙ total_add (λ q. f q + g q) (λ q. h q + k q) 64
 
 -- ---- the four ways
-pub home_and : (b : Placement) (c : Color) (once home shifted : ℕ) → IsSetOf home (λ q. rank q ≡ home_rank c) → IsSetOf (bit_and (bit_and once home) shifted) (λ q. (has (bit_and once home) q ≡ true) × IsVacant b (forward c 16 q)) → IsSetOf (bit_and (bit_and once home) shifted) (λ q. ((has once q ≡ true) × (rank q ≡ home_rank c)) × IsVacant b (forward c 16 q))
-home_and b c once home shifted at h = set_like _
-    (λ q l g. ((set_and once home (itself once) at q l).0 g.0, g.1))
-    (λ q l g. ((set_and once home (itself once) at q l).1 g.0, g.1))
+pub home_and : (b : Placement) (c : Color) (once home both n : ℕ) → IsSetOf home (λ q. rank q ≡ home_rank c) → ((q : ℕ) → has both q ≡ has once q && has home q) → IsSetOf n (λ q. (has both q ≡ true) × IsVacant b (forward c 16 q)) → IsSetOf n (λ q. ((has once q ≡ true) × (rank q ≡ home_rank c)) × IsVacant b (forward c 16 q))
+home_and b c once home both n at is h = set_like n
+    (λ q l g. ((set_of_both both once home is (itself once) at q l).0 g.0, g.1))
+    (λ q l g. ((set_of_both both once home is (itself once) at q l).1 g.0, g.1))
     h
 
 pub enemies_at : (b : Placement) (c d : Color) (n : ℕ) → d ≡ other c → ((q : ℕ) → q < 64 → has n q ≡ is_of d (get b q)) → IsSetOf n (IsEnemy b c)
@@ -139,10 +133,10 @@ module _ (b : Placement) (c : Color) (pawns : ℕ) where
       (λ q l g. (((is q l).1 (g.0, g.1), g.2), g.3))
       h
 
-  pub side_set : (k j n m off : ℕ) → j ≡ k → IsSetOf off (λ q. file q ≢ m) → IsSetOf n (λ q. (has (bit_and pawns off) q ≡ true) × IsEnemy b c (forward c j q)) → IsSetOf n (λ q. (has pawns q ≡ true) × (file q ≢ m) × IsEnemy b c (forward c k q))
-  side_set k j n m off e out h = set_like _
-      (λ q l g. (let o = (set_and pawns off (itself pawns) out q l).0 g.0 in (o.0, o.1, subst (λ (i : ℕ). IsEnemy b c (forward c i q)) e g.1)))
-      (λ q l g. ((set_and pawns off (itself pawns) out q l).1 (g.0, g.1), subst (λ (i : ℕ). IsEnemy b c (forward c i q)) (sym e) g.2))
+  pub side_set : (k j n m off left : ℕ) → j ≡ k → IsSetOf off (λ q. file q ≢ m) → ((q : ℕ) → has left q ≡ has pawns q && has off q) → IsSetOf n (λ q. (has left q ≡ true) × IsEnemy b c (forward c j q)) → IsSetOf n (λ q. (has pawns q ≡ true) × (file q ≢ m) × IsEnemy b c (forward c k q))
+  side_set k j n m off left e out both h = set_like n
+      (λ q l g. (let o = (set_of_both left pawns off both (itself pawns) out q l).0 g.0 in (o.0, o.1, subst (λ (i : ℕ). IsEnemy b c (forward c i q)) e g.1)))
+      (λ q l g. ((set_of_both left pawns off both (itself pawns) out q l).1 (g.0, g.1), subst (λ (i : ℕ). IsEnemy b c (forward c i q)) (sym e) g.2))
       h
 
   pub once_inside : (once : ℕ) → IsSetOf once (λ q. (has pawns q ≡ true) × IsVacant b (forward c 8 q)) → AreInside c pawns → AreInside c once

@@ -1,25 +1,25 @@
 -- The king's moves as a set.
-use Rattle.std.proofs.Common.{◌≡◌, ◌≢◌, ◌↔◌, ℕ, ◌+◌, ◌<◌, ◌≤◌, ◌⊎◌, ◌^◌, inl, inr, IsTrue, Bool, not, true, false, None, bit_and, bit_or, w64, refl, sym, ap, subst, ◌∙◌, arith}
-use Rattle.std.specs.Int.{bit_not}
+use Rattle.std.proofs.Common.{◌≡◌, ◌≢◌, ◌↔◌, ℕ, ◌+◌, ◌<◌, ◌≤◌, ◌⊎◌, inl, inr, IsTrue, Bool, not, ◌&&◌, ◌||◌, true, false, None, refl, sym, ap, subst, ◌∙◌, arith}
 use Rattle.std.proofs.lemmas.Bool.Decides.{eqb_tells, leb_tells}
 use Rattle.pg_board.specs.declared.man.Color.{Color}
 use Rattle.pg_board.specs.declared.man.Kind.{Kind}
 use Rattle.pg_board.specs.declared.man.Kind.TheVariants.{Pawn, Rook, King}
-use Rattle.pg_board.specs.Bits.{has, has-none}
+use Rattle.pg_board.specs.Bits.{has}
 use Rattle.pg_board.specs.Men.{man, other}
-use Rattle.pg_board.specs.Placement.{Placement, get_on, without}
+use Rattle.pg_board.specs.Placement.{Placement, without}
+use Rattle.pg_board.specs.lemmas.Placements.{get_on}
 use Rattle.pg_position.specs.declared.rights.Wing.{Wing}
 use Rattle.pg_position.specs.declared.state.State.{State}
 use Rattle.pg_position.specs.declared.moves.Move.{Move}
 use Rattle.pg_position.specs.declared.moves.Way.{Way}
 use Rattle.pg_position.specs.declared.moves.Way.TheVariants.{Plain, Capture, DoubleAdvance, EnPassant, Promotion, Castling}
 use Rattle.pg_position.specs.Attack.{Reaches, Attacks}
-use Rattle.pg_position.specs.SquareSets.{IsSetOf, IsFirstFrom, HasNoneFrom}
-use Rattle.pg_position.specs.Position.{Stands, IsPosition, IsHome, HasOneKing, IsOnlyKing, RightsClause, king_home, rook_home}
+use Rattle.pg_board.specs.SquareSets.{IsSetOf, IsFirstFrom, HasNoneFrom}
+use Rattle.pg_position.specs.Position.{Stands, IsPosition, IsHome, HasOneKing, IsOnlyKing, RightsClause}
+use Rattle.pg_position.specs.Squares.{king_home, rook_home}
 use Rattle.pg_position.specs.Step.{Goes, IsWay, IsCastling, Step}
 use Rattle.pg_position.proofs.StepLemmas.{same_kind}
-use Rattle.pg_position.proofs.ReachLemmas.{set_or, set_without}
-use Rattle.pg_position.proofs.SetLemmas.{set_none}
+use Rattle.pg_board.proofs.SetLemmas.{set_of_union, set_of_rest}
 use Rattle.pg_moves.specs.Moves.{IsLegal}
 use Rattle.pg_moves.specs.numbers.Sources.{IsExact}
 use Rattle.pg_moves.specs.Targets.{plain_move, Strides, Advances}
@@ -80,9 +80,9 @@ module _ (p : State) (r s steps : ℕ) (pos : IsPosition p) (from : r < 64) (to 
 pub kept_all : (set s : ℕ) (keep : Bool) → keep ≡ true → (q : ℕ) → q < 64 → IsTrue (has set q) ↔ ((has set q ≡ true) × (q ≡ s → keep ≡ true))
 kept_all set s keep e q l = (λ h. (h, λ _. e), λ h. h.0)
 
-pub kept_rest : (set s n : ℕ) (keep : Bool) → n < 2 ^ 64 → IsSetOf n (λ q. q ≡ s) → keep ≡ false → (q : ℕ) → q < 64 → IsTrue (has (bit_and set (bit_not w64 n)) q) ↔ ((has set q ≡ true) × (q ≡ s → keep ≡ true))
-kept_rest set s n keep fit is e q l =
-    let out = set_without set n fit (itself set) is q l in
+pub kept_rest : (set s n left : ℕ) (keep : Bool) → IsSetOf n (λ q. q ≡ s) → ((q : ℕ) → q < 64 → has left q ≡ has set q && not (has n q)) → keep ≡ false → (q : ℕ) → q < 64 → IsTrue (has left q) ↔ ((has set q ≡ true) × (q ≡ s → keep ≡ true))
+kept_rest set s n left keep is rest e q l =
+    let out = set_of_rest left set n rest (itself set) is q l in
     (λ h. (let g = out.0 h in (g.0, λ f. absurd (g.1 f))), λ h. out.1 (h.0, λ f. (let k : keep ≡ true = h.1 f in let z : true ≡ false = sym k ∙ e in cc)))
 
 -- ---- the loop over the squares
@@ -131,17 +131,23 @@ module _ (p : State) (r set : ℕ) where
   )
 
 -- of no square none is kept
-pub kept_none : (P : ℕ → Type 0) (set : ℕ) → set ≡ 0 → IsSetOf 0 (λ q. (has set q ≡ true) × P q)
-kept_none P set e = set_none (λ q l h. (
-    let off : has set q ≡ false = ap (λ n. has n q) e ∙ has-none q in
-    let on : has set q ≡ true = h.0 in
-    cc))
+pub kept_none : (P : ℕ → Type 0) (set n : ℕ) → HasNoneFrom set 0 → HasNoneFrom n 0 → IsSetOf n (λ q. (has set q ≡ true) × P q)
+kept_none P set n none empty q l = (
+  λ e. absurd (
+      let off : has n q ≡ false = empty q (omega arith) l in
+      let on : has n q ≡ true = e in
+      cc),
+  λ h. absurd (
+      let off : has set q ≡ false = none q (omega arith) l in
+      let on : has set q ≡ true = h.0 in
+      cc),
+)
 
 -- ---- all his moves
-pub king_exact : (p : State) (r steps kept castled : ℕ) → IsPosition p → r < 64 → Stands p.board p.side King r → IsSetOf steps (Advances p.board p.side King r)
-    → IsSetOf kept (λ q. (has steps q ≡ true) × IsLegal p (plain_move r q)) → IsSetOf castled (λ q. (w : Wing) × IsCastling p King (plain_move (king_home p.side) q) w) → IsExact p r (bit_or kept castled)
+pub king_exact : (p : State) (r steps kept castled whole : ℕ) → IsPosition p → r < 64 → Stands p.board p.side King r → IsSetOf steps (Advances p.board p.side King r)
+    → IsSetOf kept (λ q. (has steps q ≡ true) × IsLegal p (plain_move r q)) → IsSetOf castled (λ q. (w : Wing) × IsCastling p King (plain_move (king_home p.side) q) w) → ((q : ℕ) → has whole q ≡ has kept q || has castled q) → IsExact p r whole
 unfolding IsExact
-king_exact p r steps kept castled pos from here is keeps castles m f = (
+king_exact p r steps kept castled whole pos from here is keeps castles either m f = (
   λ l. (let low : m.to < 64 = (on_board p m l).1 in
       let there : IsLegal p (plain_move r m.to) = subst (λ (x : Move). IsLegal p x) (λ i. record { from = f i; to = m.to; promotion = unpromoted l i }) l in (
         unpromoted l,
@@ -157,8 +163,8 @@ king_exact p r steps kept castled pos from here is keeps castles m f = (
   ]),
 )
   where
-    all : IsSetOf (bit_or kept castled) (λ q. ((has steps q ≡ true) × IsLegal p (plain_move r q)) ⊎ ((w : Wing) × IsCastling p King (plain_move (king_home p.side) q) w))
-    all = set_or kept castled keeps castles
+    all : IsSetOf whole (λ q. ((has steps q ≡ true) × IsLegal p (plain_move r q)) ⊎ ((w : Wing) × IsCastling p King (plain_move (king_home p.side) q) w))
+    all = set_of_union whole kept castled either keeps castles
 
     unpromoted : IsLegal p m → m.promotion ≡ None
     unpromoted l = elim (promotes p m l) [

@@ -1,36 +1,32 @@
 -- The sets of squares to which men may go.
-use Rattle.std.proofs.Common.{◌≡◌, ◌≢◌, ℕ, ◌^◌, ◌<◌, ◌⊎◌, inl, inr, ◌↔◌, bit_and, bit_or, w64, Option, Some, None, refl, sym, ap, ◌∙◌, subst, arith}
-use Rattle.std.specs.Int.{bit_not}
+use Rattle.std.proofs.Common.{◌≡◌, ◌≢◌, ℕ, ◌<◌, ◌⊎◌, inl, inr, ◌↔◌, ◌&&◌, ◌||◌, not, Option, Some, None, refl, sym, ap, ◌∙◌, subst, arith}
 use Rattle.std.specs.Bool.{Decides}
-use Rattle.std.proofs.lemmas.Bool.Decides.{Decides-like, Decides-and, Decides-at}
+use Rattle.std.proofs.lemmas.Bool.Decides.{Decides-like, Decides-at}
 use Rattle.pg_board.specs.declared.man.Color.{Color}
 use Rattle.pg_board.specs.declared.man.Color.TheVariants.{White, Black}
 use Rattle.pg_board.specs.declared.man.Kind.{Kind}
 use Rattle.pg_board.specs.declared.man.Kind.TheVariants.{Pawn, Knight, Bishop, Rook, Queen, King}
 use Rattle.pg_board.specs.declared.man.Man.{Man}
 use Rattle.pg_board.specs.Squares.{file, rank}
-use Rattle.pg_board.specs.Men.{man, other, color_eq, color_decides, is_of, is_held}
+use Rattle.pg_board.specs.Men.{man, other, color_eq, is_of, is_held}
+use Rattle.pg_board.specs.lemmas.Equalities.{color_decides}
 use Rattle.pg_board.specs.Placement.{Placement, get}
-use Rattle.pg_board.specs.Bits.{has, has-and}
+use Rattle.pg_board.specs.Bits.{has}
 use Rattle.pg_position.specs.declared.state.State.{State}
 use Rattle.pg_position.specs.declared.moves.Move.{Move}
 use Rattle.pg_position.specs.declared.moves.Way.{Way}
 use Rattle.pg_position.specs.declared.moves.Way.TheVariants.{Plain, Capture, DoubleAdvance, EnPassant, Promotion, Castling}
 use Rattle.pg_position.specs.Geometry.{IsForward, InPattern}
 use Rattle.pg_position.specs.Attack.{IsClear, Reaches}
-use Rattle.pg_position.specs.SquareSets.{IsSetOf}
-use Rattle.pg_position.specs.Position.{Stands, IsVacant, ahead, HasAhead}
-use Rattle.pg_position.specs.Step.{IsEnemy, Goes, IsWay, Step, home_rank}
+use Rattle.pg_board.specs.SquareSets.{IsSetOf}
+use Rattle.pg_position.specs.Position.{Stands, IsVacant}
+use Rattle.pg_position.specs.Step.{IsEnemy, Goes, IsWay, Step}
+use Rattle.pg_position.specs.Squares.{ahead, HasAhead, home_rank}
 use Rattle.pg_position.proofs.StepLemmas.{same_kind, same_side, not_other}
 use Rattle.pg_position.proofs.LineLemmas.{pawn_near}
-use Rattle.pg_position.proofs.ReachLemmas.{set_like, set_or, set_without}
-use Rattle.pg_position.proofs.SetLemmas.{set_none}
+use Rattle.pg_board.proofs.SetLemmas.{set_like, set_of_union, set_of_both, set_of_rest, set_none}
 use Rattle.pg_moves.specs.Moves.{IsLegal}
 use Rattle.pg_moves.specs.Targets.{IsOwn, Strides, Leaps, Advances, CapturesEnPassant, Covers}
-
--- ---- sets
-pub set_and : {P Q : ℕ → Type 0} (a b : ℕ) → IsSetOf a P → IsSetOf b Q → IsSetOf (bit_and a b) (λ q. P q × Q q)
-set_and a b f g q l = Decides-at _ _ (has-and a b q) (Decides-and _ _ (f q l) (g q l))
 
 -- ---- what stands on a square
 of_decides : (c : Color) (o : Option Man) → Decides (is_of c o) ((k : Kind) × (o ≡ Some (man c k)))
@@ -73,15 +69,16 @@ who Black (Some m) = elim m.color as (λ x. m.color ≡ x → (Some m ≡ None) 
 ] refl
 
 -- ---- strides
-pub pawn_set : (b : Placement) (c : Color) (r reached enemies front held : ℕ) → held < 2 ^ 64
+pub pawn_set : (b : Placement) (c : Color) (r reached enemies front held taken forth all : ℕ)
     → IsSetOf reached (Reaches b c Pawn r) → ((q : ℕ) → q < 64 → has enemies q ≡ is_of (other c) (get b q))
     → IsSetOf front (λ q. (file r ≡ file q) × IsForward c 1 r q) → ((q : ℕ) → q < 64 → has held q ≡ is_held (get b q))
-    → IsSetOf (bit_or (bit_and reached enemies) (bit_and front (bit_not w64 held))) (Strides b c Pawn r)
+    → ((q : ℕ) → has taken q ≡ has reached q && has enemies q) → ((q : ℕ) → q < 64 → has forth q ≡ has front q && not (has held q)) → ((q : ℕ) → has all q ≡ has taken q || has forth q)
+    → IsSetOf all (Strides b c Pawn r)
 unfolding Strides Goes
-pawn_set b c r reached enemies front held l x e f h = set_like _
+pawn_set b c r reached enemies front held taken forth all x e f h both rest either = set_like all
     (λ q _ s. elim s [ inl t ↦ inr (t.1, t.0) | inr t ↦ inl (vacant_else (get b q) t.1, t.0) ])
     (λ q _ s. elim s [ inl t ↦ inr (t.1, λ n. n t.0) | inr t ↦ inl (t.1, t.0) ])
-    (set_or _ _ (set_and reached enemies x (enemy_set b enemies c e)) (set_without front held l f (held_set b held h)))
+    (set_of_union all taken forth either (set_of_both taken reached enemies both x (enemy_set b enemies c e)) (set_of_rest forth front held rest f (held_set b held h)))
 
 goes_piece : (b : Placement) (c : Color) (k : Kind) (r s : ℕ) → k ≢ Pawn → Goes b c k r s ↔ Reaches b c k r s
 unfolding Goes
@@ -97,11 +94,11 @@ unfolding Strides IsOwn IsEnemy
 not_own b c k r s (inl h) (j, own) = let e : get b s ≡ None = h.0 in let f : get b s ≡ Some (man c j) = own in absurd (cc)
 not_own b c k r s (inr h) (j, own) = not_other c (same_side own h.0.1)
 
-pub piece_set : (b : Placement) (c : Color) (k : Kind) (r reached own : ℕ) → k ≢ Pawn → own < 2 ^ 64
+pub piece_set : (b : Placement) (c : Color) (k : Kind) (r reached own all : ℕ) → k ≢ Pawn
     → IsSetOf reached (Reaches b c k r) → ((q : ℕ) → q < 64 → has own q ≡ is_of c (get b q))
-    → IsSetOf (bit_and reached (bit_not w64 own)) (Strides b c k r)
+    → ((q : ℕ) → q < 64 → has all q ≡ has reached q && not (has own q)) → IsSetOf all (Strides b c k r)
 unfolding Strides IsOwn IsEnemy
-piece_set b c k r reached own n l x h = set_like _ forth back (set_without reached own l x (own_set b own c h))
+piece_set b c k r reached own all n x h rest = set_like all forth back (set_of_rest all reached own rest x (own_set b own c h))
   where
     forth : (q : ℕ) → q < 64 → Reaches b c k r q × ¬ IsOwn b c q → Strides b c k r q
     forth q _ s = elim (who c (get b q)) [
@@ -130,24 +127,24 @@ pub leap_none : (b : Placement) (c : Color) (r : ℕ) → ¬ ((rank r ≡ home_r
 unfolding Leaps
 leap_none b c r h = set_none (λ q _ l. h (l.0, l.2, rw (← l.1) l.3))
 
-pub advance_pawn : (b : Placement) (c : Color) (k : Kind) (r x y : ℕ) → k ≡ Pawn → IsSetOf x (Strides b c Pawn r) → IsSetOf y (Leaps b c r) → IsSetOf (bit_or x y) (Advances b c k r)
+pub advance_pawn : (b : Placement) (c : Color) (k : Kind) (r x y n : ℕ) → k ≡ Pawn → IsSetOf x (Strides b c Pawn r) → IsSetOf y (Leaps b c r) → ((q : ℕ) → has n q ≡ has x q || has y q) → IsSetOf n (Advances b c k r)
 unfolding Advances
-advance_pawn b c k r x y e s l = set_like _
+advance_pawn b c k r x y n e s l either = set_like n
     (λ q _ h. elim h [ inl t ↦ inl (rw e t) | inr t ↦ inr (e, t) ])
     (λ q _ h. elim h [ inl t ↦ inl (rw e at t) | inr t ↦ inr t.1 ])
-    (set_or x y s l)
+    (set_of_union n x y either s l)
 
 pub advance_piece : (b : Placement) (c : Color) (k : Kind) (r x : ℕ) → k ≢ Pawn → IsSetOf x (Strides b c k r) → IsSetOf x (Advances b c k r)
 unfolding Advances
 advance_piece b c k r x n s = set_like x (λ q _ h. inl h) (λ q _ h. elim h [ inl t ↦ t | inr t ↦ absurd (n t.0) ]) s
 
 -- ---- en passant and castling
-pub en_passant_set : (p : State) (b : Placement) (c : Color) (r s x y : ℕ) → p.side ≡ c → p.passed ≡ Some s → IsSetOf x (Reaches b c Pawn r) → IsSetOf y (λ q. q ≡ s) → IsSetOf (bit_and x y) (CapturesEnPassant p r)
+pub en_passant_set : (p : State) (b : Placement) (c : Color) (r s x y n : ℕ) → p.side ≡ c → p.passed ≡ Some s → IsSetOf x (Reaches b c Pawn r) → IsSetOf y (λ q. q ≡ s) → ((q : ℕ) → has n q ≡ has x q && has y q) → IsSetOf n (CapturesEnPassant p r)
 unfolding CapturesEnPassant IsClear
-en_passant_set p b c r s x y e f g h = set_like _
+en_passant_set p b c r s x y n e f g h both = set_like n
     (λ q _ t. (f ∙ ap Some (sym t.1), rw e t.0.0))
     (λ q _ t. let way : InPattern c Pawn r q = rw e at t.1 in let same : q ≡ s = (let a : p.passed ≡ Some q = t.0 in cc) in ((way, λ u l bet. absurd (pawn_near c r u q way bet)), same))
-    (set_and x y g h)
+    (set_of_both n x y both g h)
 
 pub en_passant_none : (p : State) (r : ℕ) → p.passed ≡ None → IsSetOf 0 (CapturesEnPassant p r)
 unfolding CapturesEnPassant
@@ -177,10 +174,10 @@ module _ (p : State) (k : Kind) (r : ℕ) (here : Stands p.board p.side k r) (b 
       let same : j ≡ k = same_kind there here in
       (on.1, subst (λ (s : ℕ). Goals p k s m.to) f (subst (λ (x : Kind). Goals p x m.from m.to) same (goals p j m w way)))
 
-  pub covers_pawn : (x y : ℕ) → k ≡ Pawn → IsSetOf x (Advances b c k r) → IsSetOf y (CapturesEnPassant p r) → Covers p r (bit_or x y)
+  pub covers_pawn : (x y n : ℕ) → k ≡ Pawn → IsSetOf x (Advances b c k r) → IsSetOf y (CapturesEnPassant p r) → ((q : ℕ) → has n q ≡ has x q || has y q) → Covers p r n
   unfolding Covers Goals
-  covers_pawn x y e a z m l f = let g : (m.to < 64) × Goals p k r m.to = legal_goals m l f in
-      (set_or x y (at_state x a) z m.to g.0).1 (elim g.1 [ inl t ↦ inl t | inr (inl t) ↦ inr t.1 | inr (inr t) ↦ absurd (let o : k ≡ King = t in cc) ])
+  covers_pawn x y n e a z either m l f = let g : (m.to < 64) × Goals p k r m.to = legal_goals m l f in
+      (set_of_union n x y either (at_state x a) z m.to g.0).1 (elim g.1 [ inl t ↦ inl t | inr (inl t) ↦ inr t.1 | inr (inr t) ↦ absurd (let o : k ≡ King = t in cc) ])
 
   pub covers_piece : (x : ℕ) → k ≢ Pawn → k ≢ King → IsSetOf x (Advances b c k r) → Covers p r x
   unfolding Covers Goals

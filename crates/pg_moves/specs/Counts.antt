@@ -32,7 +32,7 @@ pub record IsFollowed (p : State) (k : ℕ) (m : Move) (after : State) (n : ℕ)
   pub games : IsGameCount after k n
 
 -- why games are not counted: more than 8 plies, more games than 64 bits hold, or, where two plies or more are asked for, no memory
-abbrev pub IsFault : State → ℕ → CountFault → Type 0
-IsFault p k TooDeep = 8 < k
-IsFault p k Overflow = (k ≤ 8) × ((n : ℕ) × IsGameCount p k n × (2 ^ 64 ≤ n))
-IsFault p k Memory = (2 ≤ k) × (k ≤ 8)
+abbrev pub IsCountFault : State → ℕ → CountFault → Type 0
+IsCountFault p k TooDeep = 8 < k
+IsCountFault p k Overflow = (k ≤ 8) × ((n : ℕ) × IsGameCount p k n × (2 ^ 64 ≤ n))
+IsCountFault p k Memory = (2 ≤ k) × (k ≤ 8)

@@ -1,7 +1,7 @@
 ghost use Rattle.std.specs.Prelude.{◌≡◌, ◌<◌, ◌≤◌, ◌↔◌, IfOk, IfErr, IsErrOf, MatchResult};
 ghost use Rattle.pg_position.specs.Step.{Legal};
 ghost use Rattle.pg_moves.specs.Moves.{IsLegal, IsMoveList};
-ghost use Rattle.pg_moves.specs.Counts.{IsGameCount, IsFault};
+ghost use Rattle.pg_moves.specs.Counts.{IsGameCount, IsCountFault};
 
 use crate::fault::CountFault;
 use crate::generate::legal_moves;
@@ -45,7 +45,7 @@ fn count_from<P: Progress>(
     requires { plies ≤ 8 }
     ensures { MatchResult result
         (λ n. IsGameCount position.now plies n)
-        (λ e. IsFault position.now plies e) }
+        (λ e. IsCountFault position.now plies e) }
 {
     if plies == 0 {
         return Ok(1);
@@ -81,7 +81,7 @@ fn count_from<P: Progress>(
 /// `u64`; `Memory` where memory is refused.
 pub fn count(alloc: Global, position: &Position, plies: u8) -> Result<u64, CountFault>
     ensures ok { IfOk result (λ n. IsGameCount position.now plies n) }
-    ensures err { IfErr result (λ e. IsFault position.now plies e) }
+    ensures err { IfErr result (λ e. IsCountFault position.now plies e) }
     ensures deep { IsErrOf result CountFault.TooDeep ↔ (8 < plies) }
 {
     count_watched(alloc, position, plies, &mut Unwatched)
@@ -99,7 +99,7 @@ pub fn count_watched<P: Progress>(
     watch: &mut P,
 ) -> Result<u64, CountFault>
     ensures ok { IfOk result (λ n. IsGameCount position.now plies n) }
-    ensures err { IfErr result (λ e. IsFault position.now plies e) }
+    ensures err { IfErr result (λ e. IsCountFault position.now plies e) }
     ensures deep { IsErrOf result CountFault.TooDeep ↔ (8 < plies) }
 {
     if plies > 8 {

@@ -2,30 +2,34 @@
 ghost use Rattle.std.specs.Prelude.{◌≡◌, ℕ, ◌<◌, ◌↔◌, IsTrue, true};
 ghost use Rattle.pg_board.specs.Bits.{has};
 ghost use Rattle.pg_position.specs.Position.{Stands};
-ghost use Rattle.pg_position.specs.SquareSets.{IsSetOf};
+ghost use Rattle.pg_board.specs.SquareSets.{IsSetOf};
 ghost use Rattle.pg_moves.specs.Moves.{IsLegal};
 ghost use Rattle.pg_moves.specs.numbers.Sources.{IsExact};
 ghost use Rattle.pg_moves.specs.Targets.{Advances, plain_move};
 
-use crate::targets::{advances, single};
-use pg_board::{Board, Kind, Square};
-use pg_position::{Position, attacked, first_from};
+use crate::targets::advances;
+use pg_board::{Board, Kind, Square, SquareSet};
+use pg_position::{Position, attacked};
 
 // The set, without the square unless that is kept.
-fn kept_if(set: u64, square: Square, keep: bool) -> u64
+fn kept_if(set: SquareSet, square: Square, keep: bool) -> SquareSet
     ensures { (q : ℕ) → q < 64 → IsTrue (has result q) ↔ ((has set q ≡ true) × (q ≡ square → keep ≡ true)) }
 {
-    if keep { set } else { set & !single(square) }
+    if keep {
+        set
+    } else {
+        set - SquareSet::single(square)
+    }
 }
 
 // Of the squares to which the king may step by his pattern those on which he would not be attacked.
-fn safe_steps(position: &Position, from: Square, steps: u64) -> u64
+fn safe_steps(position: &Position, from: Square, steps: SquareSet) -> SquareSet
     requires stands { Stands position.now.board position.now.side Kind.King from }
     requires steps { IsSetOf steps (Advances position.now.board position.now.side Kind.King from) }
     ensures { IsSetOf result (λ q. (has steps q ≡ true) × IsLegal position.now (plain_move from q)) }
 {
-    if steps == 0 {
-        return 0;
+    if steps.is_empty() {
+        return SquareSet::empty();
     }
     // A fact for the proof: the square is on the board.
     from.index();
@@ -34,7 +38,7 @@ fn safe_steps(position: &Position, from: Square, steps: u64) -> u64
     lifted.take(from);
     let mut kept = steps;
     let mut at = 0;
-    while let Some(square) = first_from(steps, at) {
+    while let Some(square) = steps.first_from(at) {
         let unsafe_there = attacked(&lifted, square, by);
         kept = kept_if(kept, square, !unsafe_there);
         at = square.index() + 1;
@@ -43,7 +47,7 @@ fn safe_steps(position: &Position, from: Square, steps: u64) -> u64
 }
 
 // The squares to which the king's legal moves go: by a step, and by castling.
-pub(crate) fn king_targets(position: &Position, board: &Board, from: Square) -> u64
+pub(crate) fn king_targets(position: &Position, board: &Board, from: Square) -> SquareSet
     requires same { board.now ≡ position.now.board }
     requires stands { Stands position.now.board position.now.side Kind.King from }
     ensures { IsExact position.now from result }

@@ -10,11 +10,11 @@ use crate::places::promotion_number;
 use crate::search::first_of_man;
 use crate::sources::source_at;
 use crate::trials::maybe_pinned;
-use pg_board::{Board, Kind, Square};
-use pg_position::{Position, first_from};
+use pg_board::{Board, Kind, Square, SquareSet};
+use pg_position::Position;
 
 // How many legal moves the man on a square has, which go to squares of the set, each tried.
-fn walked(position: &Position, kind: Kind, from: Square, set: u64) -> u64
+fn walked(position: &Position, kind: Kind, from: Square, set: SquareSet) -> u64
     requires stands { Stands position.now.board position.now.side kind from }
     requires covers { Covers position.now from set }
     ensures count { Adds position.now (place_of from 0 0) (place_of (from + 1) 0 0) result }
@@ -33,7 +33,7 @@ fn walked(position: &Position, kind: Kind, from: Square, set: u64) -> u64
 
 // How many legal moves the man of the side to move on a square has.
 #[tactic(auto, unfolding(crate::specs::numbers::Sources::IsSource))]
-fn count_of_square(position: &Position, board: &Board, maybe_pinned: u64, from: Square) -> u64
+fn count_of_square(position: &Position, board: &Board, maybe_pinned: SquareSet, from: Square) -> u64
     requires same { board.now ≡ position.now.board }
     requires free { FreeOff position.now maybe_pinned }
     requires own { IsOwn position.now.board position.now.side from }
@@ -42,7 +42,7 @@ fn count_of_square(position: &Position, board: &Board, maybe_pinned: u64, from: 
 {
     let source = source_at(position, board, maybe_pinned, from);
     if source.exact {
-        source.set.count_ones() as u64
+        source.set.len() as u64
     } else {
         walked(position, source.kind, from, source.set)
     }
@@ -58,10 +58,10 @@ pub(crate) fn count_moves(position: &Position) -> u64
     let own = board.squares_of_color(side);
     let pawns = quiet_pawns(position, &board, maybe_pinned);
     let ways = pawn_ways(&board, side, pawns);
-    let rest = own & !pawns;
+    let rest = own - pawns;
     let mut total = 0;
     let mut at = 0;
-    while let Some(square) = first_from(rest, at) {
+    while let Some(square) = rest.first_from(at) {
         total += count_of_square(position, &board, maybe_pinned, square);
         at = square.index() + 1;
     }

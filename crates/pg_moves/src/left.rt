@@ -9,15 +9,15 @@ ghost use Rattle.pg_moves.specs.Targets.{FreeOff};
 use crate::places::promotion_number;
 use crate::sources::{Source, first_of_source, source_at};
 use crate::trials::maybe_pinned;
-use pg_board::Kind;
-use pg_position::{Move, Position, first_from};
+use pg_board::{Kind, SquareSet};
+use pg_position::{Move, Position};
 use std::marker::Model;
 
 /// The next legal move of a position, with what was found for it.
 #[derive(Clone, Copy)]
 pub struct Ahead {
     pub m: Move,
-    maybe_pinned: u64,
+    maybe_pinned: SquareSet,
     source: Source,
 }
 
@@ -27,7 +27,7 @@ pub struct Ahead {
 pub struct LegalMoves {
     position: Position,
     last: Option<Move>,
-    maybe_pinned: u64,
+    maybe_pinned: SquareSet,
     source: Source,
 }
 
@@ -44,7 +44,7 @@ impl Model for LegalMoves {
 }
 
 // The first legal move of the men from a square on, and its man.
-fn first_beyond(position: &Position, maybe_pinned: u64, from: u8) -> Option<(Move, Source)>
+fn first_beyond(position: &Position, maybe_pinned: SquareSet, from: u8) -> Option<(Move, Source)>
     requires free { FreeOff position.now maybe_pinned }
     requires source { from ≤ 64 }
     ensures { MatchOption result
@@ -54,7 +54,7 @@ fn first_beyond(position: &Position, maybe_pinned: u64, from: u8) -> Option<(Mov
     let board = position.board();
     let own = board.squares_of_color(position.side());
     let mut at = from;
-    while let Some(square) = first_from(own, at) {
+    while let Some(square) = own.first_from(at) {
         let source = source_at(position, &board, maybe_pinned, square);
         if let Some(m) = first_of_source(position, square, &source, 0, 0) {
             return Some((m, source));
@@ -74,10 +74,10 @@ impl LegalMoves {
         LegalMoves {
             position: *position,
             last: None,
-            maybe_pinned: 0,
+            maybe_pinned: SquareSet::empty(),
             source: Source {
                 kind: Kind::Pawn,
-                set: 0,
+                set: SquareSet::empty(),
                 exact: false,
             },
         }
@@ -115,7 +115,7 @@ impl LegalMoves {
     // The legal move after the last one.
     fn following(
         position: &Position,
-        maybe_pinned: u64,
+        maybe_pinned: SquareSet,
         source: &Source,
         last: &Move,
     ) -> Option<Ahead>

@@ -6,70 +6,71 @@ ghost use Rattle.pg_board.specs.Squares.{file, rank};
 ghost use Rattle.pg_board.specs.Tally.{total};
 ghost use Rattle.pg_board.specs.declared.man.Kind.TheVariants.{Pawn};
 ghost use Rattle.pg_position.specs.Position.{IsVacant};
-ghost use Rattle.pg_position.specs.SquareSets.{IsSetOf};
-ghost use Rattle.pg_position.specs.Step.{IsEnemy, home_rank};
+ghost use Rattle.pg_board.specs.SquareSets.{IsSetOf};
+ghost use Rattle.pg_position.specs.Step.{IsEnemy};
+ghost use Rattle.pg_position.specs.Squares.{home_rank};
 ghost use Rattle.pg_moves.specs.numbers.Pawns.{forward, IsInside, AreInside, AreWays, IsQuiet, moves_from, to_left, to_right};
 ghost use Rattle.pg_moves.specs.Targets.{FreeOff, CapturesEnPassant};
 
-use pg_board::{Board, Color, Kind, Man};
+use pg_board::{Board, Color, Kind, Man, SquareSet};
 use pg_position::{Position, attacks_from};
 
 // The squares from which pawns go one square forward, go two, capture towards the a-file, and capture
 // towards the h-file.
 #[derive(Clone, Copy)]
 pub(crate) struct PawnWays {
-    pub(crate) once: u64,
-    pub(crate) twice: u64,
-    pub(crate) left: u64,
-    pub(crate) right: u64,
+    pub(crate) once: SquareSet,
+    pub(crate) twice: SquareSet,
+    pub(crate) left: SquareSet,
+    pub(crate) right: SquareSet,
 }
 
 // How far the index of a square grows from one rank to the next.
 const RANK: u8 = 8;
 
 // The squares from which so far forward lies a square of the set.
-fn seen_ahead(set: u64, color: Color, by: u8) -> u64
+fn seen_ahead(set: SquareSet, color: Color, by: u8) -> SquareSet
     requires { by < 64 }
     ensures { (q : ℕ) → q < 64 → IsInside color by q → has result q ≡ has set (forward color by q) }
 {
     match color {
-        Color::White => set >> by,
-        Color::Black => set << by,
+        Color::White => SquareSet::of_bits(set.bits() >> by),
+        Color::Black => SquareSet::of_bits(set.bits() << by),
     }
 }
 
 // The squares of the rank where the colour's pawns begin.
-fn home(color: Color) -> u64
+fn home(color: Color) -> SquareSet
     ensures { IsSetOf result (λ q. rank q ≡ home_rank color) }
 {
     match color {
-        Color::White => 0x0000_0000_0000_ff00,
-        Color::Black => 0x00ff_0000_0000_0000,
+        Color::White => SquareSet::of_bits(0x0000_0000_0000_ff00),
+        Color::Black => SquareSet::of_bits(0x00ff_0000_0000_0000),
     }
 }
 
 // The squares off the a-file.
-fn off_left() -> u64
+fn off_left() -> SquareSet
     ensures { IsSetOf result (λ q. file q ≢ 1) }
 {
-    0xfefe_fefe_fefe_fefe
+    SquareSet::of_bits(0xfefe_fefe_fefe_fefe)
 }
 
 // The squares off the h-file.
-fn off_right() -> u64
+fn off_right() -> SquareSet
     ensures { IsSetOf result (λ q. file q ≢ 8) }
 {
-    0x7f7f_7f7f_7f7f_7f7f
+    SquareSet::of_bits(0x7f7f_7f7f_7f7f_7f7f)
 }
 
-fn empty_squares(board: &Board) -> u64
+fn empty_squares(board: &Board) -> SquareSet
     ensures { IsSetOf result (IsVacant board.now) }
 {
-    !board.occupied()
+    SquareSet::full() - board.occupied()
 }
 
 // From where the pawns go one square forward.
-fn going_once(board: &Board, color: Color, pawns: u64) -> u64
+fn going_once(board: &Board, color: Color, pawns: SquareSet) -> SquareSet
     requires { AreInside color pawns }
     ensures { IsSetOf result (λ q. (has pawns q ≡ true) × IsVacant board.now (forward color 8 q)) }
 {
@@ -77,7 +78,7 @@ fn going_once(board: &Board, color: Color, pawns: u64) -> u64
 }
 
 // From where pawns that go one square forward may go two.
-fn going_twice(board: &Board, color: Color, once: u64) -> u64
+fn going_twice(board: &Board, color: Color, once: SquareSet) -> SquareSet
     requires { AreInside color once }
     ensures { IsSetOf result (λ q. ((has once q ≡ true) × (rank q ≡ home_rank color)) × IsVacant board.now (forward color 16 q)) }
 {
@@ -85,7 +86,7 @@ fn going_twice(board: &Board, color: Color, once: u64) -> u64
 }
 
 // From where pawns of these squares capture a man that stands so far forward.
-fn capturing(board: &Board, color: Color, pawns: u64, by: u8) -> u64
+fn capturing(board: &Board, color: Color, pawns: SquareSet, by: u8) -> SquareSet
     requires inside { AreInside color pawns }
     requires near { by ≤ 16 }
     ensures { IsSetOf result (λ q. (has pawns q ≡ true) × IsEnemy board.now color (forward color by q)) }
@@ -116,7 +117,7 @@ fn to_right(color: Color) -> u8
 }
 
 // The ways of the pawns on these squares.
-pub(crate) fn pawn_ways(board: &Board, color: Color, pawns: u64) -> PawnWays
+pub(crate) fn pawn_ways(board: &Board, color: Color, pawns: SquareSet) -> PawnWays
     requires { AreInside color pawns }
     ensures { AreWays board.now color pawns result }
 {
@@ -135,14 +136,14 @@ impl PawnWays {
         ensures count { result ≡ total (moves_from self.now) 64 }
         ensures bound { result ≤ 256 }
     {
-        let steps = self.once.count_ones() as u64 + self.twice.count_ones() as u64;
-        let captures = self.left.count_ones() as u64 + self.right.count_ones() as u64;
+        let steps = self.once.len() as u64 + self.twice.len() as u64;
+        let captures = self.left.len() as u64 + self.right.len() as u64;
         steps + captures
     }
 }
 
 // The squares from which a pawn of the side to move captures en passant, each of them and maybe more.
-fn en_passant_sources(position: &Position) -> u64
+fn en_passant_sources(position: &Position) -> SquareSet
     ensures { (q s : ℕ) → q < 64 → s < 64 → CapturesEnPassant position.now q s → has result q ≡ true }
 {
     match position.passed() {
@@ -153,12 +154,12 @@ fn en_passant_sources(position: &Position) -> u64
             };
             attacks_from(&position.board(), pawn, square)
         }
-        None => 0,
+        None => SquareSet::empty(),
     }
 }
 
 // Pawns of the side to move that need no trial, do not promote and do not capture en passant.
-pub(crate) fn quiet_pawns(position: &Position, board: &Board, maybe_pinned: u64) -> u64
+pub(crate) fn quiet_pawns(position: &Position, board: &Board, maybe_pinned: SquareSet) -> SquareSet
     requires same { board.now ≡ position.now.board }
     requires free { FreeOff position.now maybe_pinned }
     ensures { (q : ℕ) → q < 64 → has result q ≡ true → IsQuiet position.now q }
@@ -168,5 +169,5 @@ pub(crate) fn quiet_pawns(position: &Position, board: &Board, maybe_pinned: u64)
         color: side,
         kind: Kind::Pawn,
     });
-    ((pawns & !maybe_pinned) & !en_passant_sources(position)) & !home(side.other())
+    pawns - maybe_pinned - en_passant_sources(position) - home(side.other())
 }

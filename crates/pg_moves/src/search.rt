@@ -8,8 +8,8 @@ ghost use Rattle.pg_moves.specs.Targets.{IsOwn, Covers, FreeOff};
 
 use crate::places::{next_square, promotion_at, resume_at};
 use crate::sources::{first_of_source, source_at};
-use pg_board::{Kind, Square};
-use pg_position::{Move, Position, first_from, must_promote};
+use pg_board::{Kind, Square, SquareSet};
+use pg_position::{Move, Position, must_promote};
 
 // Whether the move is played.
 fn plays(position: &Position, m: &Move) -> bool
@@ -76,7 +76,7 @@ pub(crate) fn first_of_man(
     position: &Position,
     kind: Kind,
     from: Square,
-    set: u64,
+    set: SquareSet,
     to: u8,
     number: u8,
 ) -> Option<Move>
@@ -87,7 +87,7 @@ pub(crate) fn first_of_man(
     ensures { IsNextWithin position.now (place_of from to number) (place_of (from + 1) 0 0) result }
 {
     let mut at = to;
-    while let Some(square) = first_from(set, at) {
+    while let Some(square) = set.first_from(at) {
         let start = resume_at(square.index(), to, number);
         if let Some(m) = first_to(position, kind, from, square, start) {
             return Some(m);
@@ -102,7 +102,7 @@ pub(crate) fn first_of_man(
 pub(crate) fn first_of_exact(
     position: &Position,
     from: Square,
-    set: u64,
+    set: SquareSet,
     to: u8,
     number: u8,
 ) -> Option<Move>
@@ -113,7 +113,7 @@ pub(crate) fn first_of_exact(
 {
     // A fact for the proof: the square is on the board.
     from.index();
-    match first_from(set, next_square(to, number)) {
+    match set.first_from(next_square(to, number)) {
         Some(square) => Some(Move {
             from,
             to: square,
@@ -126,7 +126,7 @@ pub(crate) fn first_of_exact(
 // The first legal move from a square, from this target and promotion on.
 fn first_of_square(
     position: &Position,
-    maybe_pinned: u64,
+    maybe_pinned: SquareSet,
     from: Square,
     to: u8,
     number: u8,
@@ -144,7 +144,7 @@ fn first_of_square(
 // The first legal move from these squares and this promotion on.
 pub(crate) fn first_move(
     position: &Position,
-    maybe_pinned: u64,
+    maybe_pinned: SquareSet,
     from: u8,
     to: u8,
     number: u8,
@@ -157,7 +157,7 @@ pub(crate) fn first_move(
 {
     let own = position.board().squares_of_color(position.side());
     let mut at = from;
-    while let Some(square) = first_from(own, at) {
+    while let Some(square) = own.first_from(at) {
         let start = resume_at(square.index(), from, to);
         let place = resume_at(square.index(), from, number);
         if let Some(m) = first_of_square(position, maybe_pinned, square, start, place) {

@@ -9,14 +9,14 @@ use crate::kings::king_targets;
 use crate::search::{first_of_exact, first_of_man};
 use crate::targets::{advances, targets};
 use crate::trials::must_try;
-use pg_board::{Board, Kind, Square};
+use pg_board::{Board, Kind, Square, SquareSet};
 use pg_position::{Move, Position};
 
 // A man of the side to move: where it may go, its kind, and whether it goes to just those squares, with
 // no promotion.
 #[derive(Clone, Copy)]
 pub(crate) struct Source {
-    pub(crate) set: u64,
+    pub(crate) set: SquareSet,
     pub(crate) kind: Kind,
     pub(crate) exact: bool,
 }
@@ -27,7 +27,7 @@ pub(crate) struct Source {
 fn source_of(
     position: &Position,
     board: &Board,
-    maybe_pinned: u64,
+    maybe_pinned: SquareSet,
     kind: Kind,
     from: Square,
 ) -> Source
@@ -65,7 +65,7 @@ fn source_of(
 pub(crate) fn source_at(
     position: &Position,
     board: &Board,
-    maybe_pinned: u64,
+    maybe_pinned: SquareSet,
     from: Square,
 ) -> Source
     requires same { board.now ≡ position.now.board }

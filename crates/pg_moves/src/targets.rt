@@ -2,36 +2,29 @@
 ghost use Rattle.std.specs.Prelude.{◌≡◌, ◌≢◌, ℕ, ◌+◌, ◌-◌, ◌*◌, ◌<◌, ◌↔◌, IsTrue, true, Some};
 ghost use Rattle.pg_board.specs.Squares.{file, rank};
 ghost use Rattle.pg_position.specs.Geometry.{IsForward};
-ghost use Rattle.pg_position.specs.SquareSets.{IsSetOf};
-ghost use Rattle.pg_position.specs.Position.{Stands, IsVacant, ahead};
-ghost use Rattle.pg_position.specs.Step.{home_rank};
+ghost use Rattle.pg_board.specs.SquareSets.{IsSetOf};
+ghost use Rattle.pg_position.specs.Position.{Stands, IsVacant};
+ghost use Rattle.pg_position.specs.Squares.{ahead, home_rank};
 ghost use Rattle.pg_moves.specs.Targets.{IsOwn, Strides, Leaps, Advances, CapturesEnPassant, Covers};
 
-use pg_board::{Board, Color, Kind, Man, Square};
+use pg_board::{Board, Color, Kind, Man, Square, SquareSet};
 use pg_position::{Position, ahead, attacks_from, has_ahead, home_rank, is_vacant};
 
-// The set of one square.
-pub(crate) fn single(square: Square) -> u64
-    ensures { IsSetOf result (λ q. q ≡ square) }
-{
-    1u64 << square.index()
-}
-
-// The square in front, as a set: none at the edge.
-fn in_front(color: Color, from: Square) -> u64
+// The square in front: none at the edge.
+fn in_front(color: Color, from: Square) -> SquareSet
     ensures { IsSetOf result (λ q. (file from ≡ file q) × IsForward color 1 from q) }
 {
     // A fact for the proof: the square is on the board.
     from.index();
     if has_ahead(color, 1, from) {
-        single(ahead(color, 1, from))
+        SquareSet::single(ahead(color, 1, from))
     } else {
-        0
+        SquareSet::empty()
     }
 }
 
 // Where a pawn goes one square forward or captures.
-fn pawn_strides(board: &Board, color: Color, from: Square) -> u64
+fn pawn_strides(board: &Board, color: Color, from: Square) -> SquareSet
     ensures { IsSetOf result (Strides board.now color Kind.Pawn from) }
 {
     let pawn = Man {
@@ -39,15 +32,15 @@ fn pawn_strides(board: &Board, color: Color, from: Square) -> u64
         kind: Kind::Pawn,
     };
     let taken = attacks_from(board, pawn, from) & board.squares_of_color(color.other());
-    taken | (in_front(color, from) & !board.occupied())
+    taken | (in_front(color, from) - board.occupied())
 }
 
 // Where a piece goes or captures.
-fn piece_strides(board: &Board, color: Color, kind: Kind, from: Square) -> u64
+fn piece_strides(board: &Board, color: Color, kind: Kind, from: Square) -> SquareSet
     requires { kind ≢ Kind.Pawn }
     ensures { IsSetOf result (Strides board.now color kind from) }
 {
-    attacks_from(board, Man { color, kind }, from) & !board.squares_of_color(color)
+    attacks_from(board, Man { color, kind }, from) - board.squares_of_color(color)
 }
 
 // Whether a pawn stands at home with two empty squares in front of it.
@@ -61,19 +54,19 @@ fn can_leap(board: &Board, color: Color, from: Square) -> bool
 }
 
 // Where a pawn at home goes two squares forward.
-fn leaps(board: &Board, color: Color, from: Square) -> u64
+fn leaps(board: &Board, color: Color, from: Square) -> SquareSet
     ensures { IsSetOf result (Leaps board.now color from) }
 {
     if can_leap(board, color, from) {
-        single(ahead(color, 2, from))
+        SquareSet::single(ahead(color, 2, from))
     } else {
-        0
+        SquareSet::empty()
     }
 }
 
 // Where a man goes or captures, en passant and castling apart.
 #[inline(always)]
-pub(crate) fn advances(board: &Board, color: Color, kind: Kind, from: Square) -> u64
+pub(crate) fn advances(board: &Board, color: Color, kind: Kind, from: Square) -> SquareSet
     ensures { IsSetOf result (Advances board.now color kind from) }
 {
     match kind {
@@ -83,7 +76,7 @@ pub(crate) fn advances(board: &Board, color: Color, kind: Kind, from: Square) ->
 }
 
 // Where a pawn captures en passant.
-pub(crate) fn en_passant_targets(position: &Position, from: Square) -> u64
+pub(crate) fn en_passant_targets(position: &Position, from: Square) -> SquareSet
     ensures { IsSetOf result (CapturesEnPassant position.now from) }
 {
     match position.passed() {
@@ -92,14 +85,14 @@ pub(crate) fn en_passant_targets(position: &Position, from: Square) -> u64
                 color: position.side(),
                 kind: Kind::Pawn,
             };
-            attacks_from(&position.board(), pawn, from) & single(square)
+            attacks_from(&position.board(), pawn, from) & SquareSet::single(square)
         }
-        None => 0,
+        None => SquareSet::empty(),
     }
 }
 
 // Each square to which a legal move of the man, no king, may go, and maybe more.
-pub(crate) fn targets(position: &Position, kind: Kind, from: Square) -> u64
+pub(crate) fn targets(position: &Position, kind: Kind, from: Square) -> SquareSet
     requires stands { Stands position.now.board position.now.side kind from }
     requires king { kind ≢ Kind.King }
     ensures { Covers position.now from result }

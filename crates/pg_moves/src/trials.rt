@@ -1,28 +1,35 @@
 //! Which men's moves are to be tried, since they may leave their king attacked.
 ghost use Rattle.std.specs.Prelude.{◌≡◌, ◌↔◌, ℕ, ◌<◌, IsTrue, IsFalse};
 ghost use Rattle.pg_board.specs.Bits.{has};
-ghost use Rattle.pg_board.specs.Men.{is_of, other};
+ghost use Rattle.pg_board.specs.Men.{is_man, is_of, man, other};
 ghost use Rattle.pg_board.specs.Placement.{get, without};
 ghost use Rattle.pg_position.specs.Attack.{Attacks};
 ghost use Rattle.pg_position.specs.Position.{Stands};
 ghost use Rattle.pg_moves.specs.Targets.{FreeOff, IsFree, IsOrdinary, IsOwn, only};
 
-use crate::targets::{en_passant_targets, single};
-use pg_board::{Board, Color, Kind, Man, Sets, Square, contains};
+use crate::targets::en_passant_targets;
+use pg_board::{Board, Color, Kind, Man, Sets, Square, SquareSet};
 use pg_position::{Position, attacked, attacks_from, home_rank};
 
-// The squares of a colour where only the men of one colour are left.
+// The squares with this man, as the bits of a number.
+fn bits_of(board: &Board, color: Color, kind: Kind) -> u64
+    ensures { (q : ℕ) → q < 64 → has result q ≡ is_man (man color kind) (get board.now q) }
+{
+    board.squares_of(Man { color, kind }).bits()
+}
+
+// The squares of a colour where only the men of one colour are left, as the bits of a number.
 fn left_of(board: &Board, color: Color, side: Color) -> u64
     ensures { (q : ℕ) → q < 64 → has result q ≡ is_of side (only color (get board.now q)) }
 {
     match color {
         Color::White => match side {
-            Color::White => board.squares_of_color(Color::White),
+            Color::White => board.squares_of_color(Color::White).bits(),
             Color::Black => 0,
         },
         Color::Black => match side {
             Color::White => 0,
-            Color::Black => board.squares_of_color(Color::Black),
+            Color::Black => board.squares_of_color(Color::Black).bits(),
         },
     }
 }
@@ -33,30 +40,12 @@ fn men_of(board: &Board, color: Color) -> Board
 {
     let white = left_of(board, color, Color::White);
     let black = left_of(board, color, Color::Black);
-    let pawns = board.squares_of(Man {
-        color,
-        kind: Kind::Pawn,
-    });
-    let knights = board.squares_of(Man {
-        color,
-        kind: Kind::Knight,
-    });
-    let bishops = board.squares_of(Man {
-        color,
-        kind: Kind::Bishop,
-    });
-    let rooks = board.squares_of(Man {
-        color,
-        kind: Kind::Rook,
-    });
-    let queens = board.squares_of(Man {
-        color,
-        kind: Kind::Queen,
-    });
-    let kings = board.squares_of(Man {
-        color,
-        kind: Kind::King,
-    });
+    let pawns = bits_of(board, color, Kind::Pawn);
+    let knights = bits_of(board, color, Kind::Knight);
+    let bishops = bits_of(board, color, Kind::Bishop);
+    let rooks = bits_of(board, color, Kind::Rook);
+    let queens = bits_of(board, color, Kind::Queen);
+    let kings = bits_of(board, color, Kind::King);
     Board::of_sets(Sets {
         pawns,
         knights,
@@ -79,7 +68,7 @@ fn attacked_bare(board: &Board, square: Square, color: Color) -> bool
 // The squares of the men that may be pinned, so that their moves are to be tried: the king's alone
 // where he would not be attacked with none of his men on the board. Else all in check, and else the
 // king's and those that a queen would see from there.
-pub(crate) fn maybe_pinned(position: &Position) -> u64
+pub(crate) fn maybe_pinned(position: &Position) -> SquareSet
     ensures { FreeOff position.now result }
 {
     let side = position.side();
@@ -91,14 +80,14 @@ pub(crate) fn maybe_pinned(position: &Position) -> u64
     match board.king(side) {
         Some(king) => {
             if !attacked_bare(&board, king, side) {
-                single(king)
+                SquareSet::single(king)
             } else if position.in_check() {
-                u64::MAX
+                SquareSet::full()
             } else {
-                attacks_from(&board, queen, king) | single(king)
+                attacks_from(&board, queen, king) | SquareSet::single(king)
             }
         }
-        None => u64::MAX,
+        None => SquareSet::full(),
     }
 }
 
@@ -109,10 +98,11 @@ fn is_special(position: &Position, kind: Kind, from: Square) -> bool
 {
     match kind {
         Kind::Pawn => {
-            if en_passant_targets(position, from) != 0 {
-                return true;
+            if en_passant_targets(position, from).is_empty() {
+                from.rank() == home_rank(position.side().other())
+            } else {
+                true
             }
-            from.rank() == home_rank(position.side().other())
         }
         _ => false,
     }
@@ -148,14 +138,19 @@ pub(crate) fn attacked_without(board: &Board, from: Square, square: Square, by: 
 // Whether the moves of the man are to be tried: it may leave its king attacked, promote or capture en
 // passant.
 #[inline(always)]
-pub(crate) fn must_try(position: &Position, maybe_pinned: u64, kind: Kind, from: Square) -> bool
+pub(crate) fn must_try(
+    position: &Position,
+    maybe_pinned: SquareSet,
+    kind: Kind,
+    from: Square,
+) -> bool
     requires free { FreeOff position.now maybe_pinned }
     requires stands { Stands position.now.board position.now.side kind from }
     ensures { IsFalse result → (IsFree position.now kind from × IsOrdinary position.now kind from) }
 {
     if is_special(position, kind, from) {
         true
-    } else if contains(maybe_pinned, from.index()) {
+    } else if maybe_pinned.contains(from) {
         is_pinned(position, kind, from)
     } else {
         false

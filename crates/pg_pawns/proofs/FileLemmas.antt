@@ -1,12 +1,12 @@
 -- The tables of files, and the pawns on one side of a line. Leads to the counts of pawns.
-use Rattle.std.proofs.Common.{◌≡◌, ℕ, ◌+◌, ◌<◌, ◌^◌, ◌&&◌, not, get_or, refl, ap, ◌∙◌, count_ones, bit_and, nat_le, lt_of_le_of_lt}
-use Rattle.std.proofs.lemmas.Nat.{and_le_l}
+use Rattle.std.proofs.Common.{◌≡◌, ℕ, ◌+◌, ◌<◌, ◌&&◌, not, get_or, refl, ap, ◌∙◌, nat_le}
 use Rattle.pg_board.specs.declared.man.Color.{Color}
 use Rattle.pg_board.specs.declared.man.Kind.TheVariants.{Pawn}
 use Rattle.pg_board.specs.declared.man.Man.{Man}
 use Rattle.pg_board.specs.Squares.{file}
 use Rattle.pg_board.specs.Men.{man, is_man}
-use Rattle.pg_board.specs.Tally.{below_seven, total, total-none, total-more}
+use Rattle.pg_board.specs.Tally.{total, count_below}
+use Rattle.pg_board.specs.lemmas.Sums.{below_seven, total-none, total-more}
 use Rattle.pg_board.specs.Bits.{has, bits_below, has-bits_below}
 use Rattle.pg_board.specs.Placement.{Placement, get}
 use Rattle.pg_captures.specs.Counting.{of_color, men}
@@ -23,16 +23,16 @@ right_is : (n : ℕ) → n < 7 → get_or RIGHT_FILES n 0 ≡ bits_below (λ q. 
 unfolding bits_below
 right_is = below_seven (λ n. get_or RIGHT_FILES n 0 ≡ bits_below (λ q. not (nat_le (file q) (n + 1))) 64) (refl, refl, refl, refl, refl, refl, refl)
 
-module _ (b : Placement) (c : Color) (n : ℕ) (low : n < 7) (m : Man) (all : ℕ) (e : m ≡ man c Pawn) (h : (q : ℕ) → q < 64 → has all q ≡ is_man m (get b q)) (fits : all < 2 ^ 64) where
-  pub left_counted : count_ones (bit_and all (get_or LEFT_FILES n 0)) ≡ men c (pawn_left (n + 1)) b
-  left_counted = tally_set (of_color c (pawn_left (n + 1))) b (bit_and all (get_or LEFT_FILES n 0)) (lt_of_le_of_lt (and_le_l all (get_or LEFT_FILES n 0)) fits)
-      (λ q l. masked_set b c (pawn_left (n + 1)) Pawn m all (get_or LEFT_FILES n 0) (λ s. nat_le (file s) (n + 1)) e
-      (λ j s. ap (λ x. x && nat_le (file s) (n + 1)) (pawn_like j)) h (λ s k. ap (λ x. has x s) (left_is n low) ∙ has-bits_below (λ t. nat_le (file t) (n + 1)) 64 s k) q l)
+module _ (b : Placement) (c : Color) (n : ℕ) (low : n < 7) (m : Man) (all mask kept k : ℕ) (e : m ≡ man c Pawn) (h : (q : ℕ) → q < 64 → has all q ≡ is_man m (get b q)) (both : (q : ℕ) → has kept q ≡ has all q && has mask q) (counted : k ≡ count_below (has kept) 64) where
+  pub left_counted : mask ≡ get_or LEFT_FILES n 0 → k ≡ men c (pawn_left (n + 1)) b
+  left_counted is = tally_set (of_color c (pawn_left (n + 1))) b kept k counted
+      (λ q l. masked_set b c (pawn_left (n + 1)) Pawn m all mask kept (λ s. nat_le (file s) (n + 1)) e
+      (λ j s. ap (λ x. x && nat_le (file s) (n + 1)) (pawn_like j)) h (λ s k. ap (λ x. has x s) (is ∙ left_is n low) ∙ has-bits_below (λ t. nat_le (file t) (n + 1)) 64 s k) both q l)
 
-  pub right_counted : count_ones (bit_and all (get_or RIGHT_FILES n 0)) ≡ men c (pawn_right (n + 1)) b
-  right_counted = tally_set (of_color c (pawn_right (n + 1))) b (bit_and all (get_or RIGHT_FILES n 0)) (lt_of_le_of_lt (and_le_l all (get_or RIGHT_FILES n 0)) fits)
-      (λ q l. masked_set b c (pawn_right (n + 1)) Pawn m all (get_or RIGHT_FILES n 0) (λ s. not (nat_le (file s) (n + 1))) e
-      (λ j s. ap (λ x. x && not (nat_le (file s) (n + 1))) (pawn_like j)) h (λ s k. ap (λ x. has x s) (right_is n low) ∙ has-bits_below (λ t. not (nat_le (file t) (n + 1))) 64 s k) q l)
+  pub right_counted : mask ≡ get_or RIGHT_FILES n 0 → k ≡ men c (pawn_right (n + 1)) b
+  right_counted is = tally_set (of_color c (pawn_right (n + 1))) b kept k counted
+      (λ q l. masked_set b c (pawn_right (n + 1)) Pawn m all mask kept (λ s. not (nat_le (file s) (n + 1))) e
+      (λ j s. ap (λ x. x && not (nat_le (file s) (n + 1))) (pawn_like j)) h (λ s k. ap (λ x. has x s) (is ∙ right_is n low) ∙ has-bits_below (λ t. not (nat_le (file t) (n + 1))) 64 s k) both q l)
 
 -- the steps of a loop that adds, for `grind`
 pub ruleset totals = (total-none, total-more)

@@ -1,2 +1,3 @@
+pub mod OwedLemmas
 pub mod FileLemmas
 pub mod PriceLemmas

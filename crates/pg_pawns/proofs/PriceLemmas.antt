@@ -6,7 +6,8 @@ use Rattle.pg_board.specs.declared.man.Color.TheVariants.{White, Black}
 use Rattle.pg_board.specs.declared.man.Kind.TheVariants.{Pawn}
 use Rattle.pg_board.specs.declared.man.Man.{Man}
 use Rattle.pg_board.specs.Bits.{has}
-use Rattle.pg_board.specs.Men.{man, is_man, is_man_decides}
+use Rattle.pg_board.specs.Men.{man, is_man}
+use Rattle.pg_board.specs.lemmas.Equalities.{is_man_decides}
 use Rattle.pg_board.specs.Squares.{file, rank}
 use Rattle.pg_board.specs.Placement.{Placement, get}
 use Rattle.pg_position.specs.declared.state.State.{State}
@@ -14,6 +15,7 @@ use Rattle.pg_position.specs.Geometry.{apart}
 use Rattle.pg_position.specs.Position.{Stands}
 use Rattle.pg_captures.specs.Counting.{any_pawn}
 use Rattle.pg_captures.specs.Owed.{victims}
+use Rattle.pg_captures.specs.lemmas.OwedLemmas.{owed_below_less}
 use Rattle.pg_captures.specs.PriceLists.{PriceList, price, IsFor}
 use Rattle.pg_pawns.specs.PawnPrices.{IsShift, PawnPricesFit, PawnPricesExclude}
 use Rattle.pg_pawns.specs.numbers.PriceTests.{IsAhead, PairFits, SourceFits, AllFit}
@@ -81,10 +83,10 @@ all_not b d c u v s low there wrong = ((λ y. cc), (λ y. absurd (wrong (y s low
 -- ---- the list
 pub list_wrong : (d : Placement) (p : State) (c : Color) (l : PriceList) → (IsFor l c any_pawn p.board d → victims c p.board + sum l.u < sum l.v + victims c d → ⊥) → IsTrue false ↔ PawnPricesExclude d p c l
 unfolding PawnPricesExclude
-list_wrong d p c l wrong = ((λ y. cc), (λ y. absurd (wrong y.0 y.2)))
+list_wrong d p c l wrong = ((λ y. cc), (λ y. absurd (wrong y.0 ((owed_below_less d p.board c (sum l.v) (sum l.u)).0 y.2))))
 
 pub list_at : (d : Placement) (p : State) (c : Color) (l : PriceList) (b : Placement) (f : Placement) (r : Bool) → IsFor l c any_pawn p.board d → victims c p.board + sum l.u < sum l.v + victims c d → b ≡ p.board → f ≡ d → IsTrue r ↔ AllFit b f c l.u l.v → IsTrue r ↔ PawnPricesExclude d p c l
 unfolding PawnPricesExclude PawnPricesFit AllFit SourceFits PairFits
 list_at d p c l b f r for above e g tells =
     let moved : IsTrue r ↔ AllFit p.board d c l.u l.v = subst (λ (y : Placement). IsTrue r ↔ AllFit y d c l.u l.v) e (subst (λ (y : Placement). IsTrue r ↔ AllFit b y c l.u l.v) g tells) in
-    ((λ y. (for, (λ s t n ls lt hs ht cost. moved.0 y s ls hs t lt ht n cost), above)), (λ y. moved.1 (λ s ls hs t lt ht n cost. y.1 s t n ls lt hs ht cost)))
+    ((λ y. (for, (λ s t n ls lt hs ht cost. moved.0 y s ls hs t lt ht n cost), (owed_below_less d p.board c (sum l.v) (sum l.u)).1 above)), (λ y. moved.1 (λ s ls hs t lt ht n cost. y.1 s t n ls lt hs ht cost)))

@@ -1,6 +1,6 @@
 -- The pawn-files test. A pawn changes its file by a capture alone, one file at a time. d is the diagram's placement, b a
 -- position's.
-use Rattle.std.specs.Prelude.{ℕ, ◌+◌, ◌-◌, ◌<◌, Bool, ◌&&◌, not, nat_le}
+use Rattle.std.specs.Prelude.{ℕ, ◌+◌, ◌-◌, Bool, ◌&&◌, not, nat_le, pos, ◌<ℤ◌}
 use Rattle.pg_board.specs.declared.man.Color.{Color}
 use Rattle.pg_board.specs.declared.man.Kind.{Kind}
 use Rattle.pg_board.specs.Squares.{file}
@@ -8,7 +8,7 @@ use Rattle.pg_board.specs.Tally.{total}
 use Rattle.pg_board.specs.Placement.{Placement}
 use Rattle.pg_position.specs.declared.state.State.{State}
 use Rattle.pg_captures.specs.Counting.{men, is_pawn}
-use Rattle.pg_captures.specs.Owed.{victims}
+use Rattle.pg_captures.specs.Owed.{owed}
 
 -- the pawns left of the line after the file n, and right of it
 abbrev pub pawn_left : ℕ → ℕ → Kind → Bool
@@ -27,7 +27,7 @@ shift d b c = total (line_need d b c) 7
 
 -- The pawn-files test of a colour: its pawns need more file changes than it owes captures.
 abbrev pub PawnFilesFor : Placement → Placement → Color → Type 0
-PawnFilesFor d b c = victims c b < shift d b c + victims c d
+PawnFilesFor d b c = owed d b c <ℤ pos (shift d b c)
 
 -- the pawn-files test: that of either colour
 unfoldable pub PawnFilesHolds : Placement → State → Type 0

@@ -1,5 +1,5 @@
 -- Prices of pawn files. No pawn pays more than the files that it changes, and each change of file is a capture.
-use Rattle.std.specs.Prelude.{◌≡◌, ℕ, ◌+◌, ◌<◌, ◌≤◌, sum}
+use Rattle.std.specs.Prelude.{◌≡◌, ℕ, ◌+◌, ◌<◌, ◌≤◌, sum, pos, ◌-ℤ◌, ◌<ℤ◌}
 use Rattle.pg_board.specs.declared.man.Color.{Color}
 use Rattle.pg_board.specs.declared.man.Kind.TheVariants.{Pawn}
 use Rattle.pg_board.specs.Squares.{file}
@@ -8,7 +8,7 @@ use Rattle.pg_position.specs.declared.state.State.{State}
 use Rattle.pg_position.specs.Geometry.{apart, IsForward}
 use Rattle.pg_position.specs.Position.{Stands}
 use Rattle.pg_captures.specs.Counting.{any_pawn}
-use Rattle.pg_captures.specs.Owed.{victims}
+use Rattle.pg_captures.specs.Owed.{owed}
 use Rattle.pg_captures.specs.PriceLists.{PriceList, price, IsFor}
 
 -- n is the cost from a pawn on s to a pawn on t: so many files apart they are, and t is at least as many ranks forward.
@@ -21,6 +21,6 @@ unfoldable pub PawnPricesFit : Placement → Placement → Color → PriceList �
 PawnPricesFit d b c l = (s t n : ℕ) → s < 64 → t < 64 → Stands b c Pawn s → Stands d c Pawn t → IsShift c s t n → price l.v c any_pawn d t ≤ price l.u c any_pawn b s + n
 
 -- The list excludes: it has a number for each pawn, it fits, and its value, the sum of v less the sum of u, is above the
--- captures that the colour owes, the men of the other colour on b less those on d.
+-- captures that the colour owes.
 unfoldable pub PawnPricesExclude : Placement → State → Color → PriceList → Type 0
-PawnPricesExclude d p c l = IsFor l c any_pawn p.board d × PawnPricesFit d p.board c l × (victims c p.board + sum l.u < sum l.v + victims c d)
+PawnPricesExclude d p c l = IsFor l c any_pawn p.board d × PawnPricesFit d p.board c l × (owed d p.board c <ℤ (pos (sum l.v) -ℤ pos (sum l.u)))

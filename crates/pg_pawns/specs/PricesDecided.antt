@@ -1,5 +1,6 @@
 -- The test of a price list of pawn files as a yes or a no.
 use Rattle.std.proofs.Common.{◌≡◌, ◌↔◌, ℕ, ◌+◌, ◌-◌, ◌≤◌, Bool, true, IsTrue, refl, sym, subst, arith, Some}
+use Rattle.std.specs.Prelude.{sum, pos, ◌-ℤ◌, ◌<ℤ◌}
 use Rattle.pg_board.specs.declared.man.Color.{Color}
 use Rattle.pg_board.specs.declared.man.Color.TheVariants.{White, Black}
 use Rattle.pg_board.specs.declared.man.Kind.TheVariants.{Pawn}
@@ -10,6 +11,8 @@ use Rattle.pg_board.specs.lemmas.Decisions.{dec_and, dec_along, dec_equal, dec_a
 use Rattle.pg_position.specs.declared.state.State.{State}
 use Rattle.pg_position.specs.Geometry.{apart, IsForward}
 use Rattle.pg_captures.specs.Counting.{any_pawn}
+use Rattle.pg_captures.specs.Owed.{owed}
+use Rattle.pg_captures.specs.lemmas.OwedLemmas.{owed_below_less}
 use Rattle.pg_captures.specs.PriceLists.{PriceList, price}
 use Rattle.pg_pawns.specs.PawnPrices.{IsShift, PawnPricesFit, PawnPricesExclude}
 
@@ -30,9 +33,12 @@ dec_fit d b c l =
     dec_along (λ f s t n low lowt here there shift. f s low t lowt here there n shift) (λ f s low t lowt here there n shift. f s t n low lowt here there shift)
     (dec_all_below _ (λ s. dec_all_below _ (λ t. dec_implies (dec_get b s (Some (man c Pawn))) (dec_implies (dec_get d t (Some (man c Pawn))) (dec_pair c s t (price l.u c any_pawn b s) (price l.v c any_pawn d t)))) 64) 64)
 
+dec_owed : (d b : Placement) (c : Color) (l : PriceList) → Dec (owed d b c <ℤ (pos (sum l.v) -ℤ pos (sum l.u)))
+dec_owed d b c l = dec_along (owed_below_less d b c (sum l.v) (sum l.u)).1 (owed_below_less d b c (sum l.v) (sum l.u)).0 (dec_less _ _)
+
 pub dec_pawn_prices : (d : Placement) (p : State) (c : Color) (l : PriceList) → Dec (PawnPricesExclude d p c l)
 unfolding PawnPricesExclude
-dec_pawn_prices d p c l = dec_along (λ h. ((h.0, h.1.0), h.1.1.0, h.1.1.1)) (λ h. (h.0.0, (h.0.1, (h.1, h.2)))) (dec_and (dec_equal _ _) (dec_and (dec_equal _ _) (dec_and (dec_fit d p.board c l) (dec_less _ _))))
+dec_pawn_prices d p c l = dec_along (λ h. ((h.0, h.1.0), h.1.1.0, h.1.1.1)) (λ h. (h.0.0, (h.0.1, (h.1, h.2)))) (dec_and (dec_equal _ _) (dec_and (dec_equal _ _) (dec_and (dec_fit d p.board c l) (dec_owed d p.board c l))))
 
 -- whether a price list of pawn files excludes
 unfoldable pub pawn_prices_test : Placement → State → Color → PriceList → Bool

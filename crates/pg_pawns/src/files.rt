@@ -4,7 +4,7 @@ ghost use Rattle.pg_board.specs.Men.{man};
 ghost use Rattle.pg_captures.specs.Counting.{men};
 ghost use Rattle.pg_pawns.specs.PawnFiles.{pawn_left, pawn_right};
 
-use pg_board::{Board, Color, Kind, Man};
+use pg_board::{Board, Color, Kind, Man, SquareSet};
 
 /// The squares of the files up to the first, the second and so on: bit q for the square q.
 pub static LEFT_FILES: [u64; 7] = [
@@ -34,7 +34,7 @@ pub fn left_pawns(board: &Board, color: Color, n: u8) -> u8
     ensures value { result ≡ men color (pawn_left (n + 1)) board.now }
     ensures few { result ≤ 64 }
 {
-    (board.squares_of(pawn(color)) & LEFT_FILES[n as usize]).count_ones() as u8
+    (board.squares_of(pawn(color)) & SquareSet::of_bits(LEFT_FILES[n as usize])).len()
 }
 
 /// How many pawns of the colour stand right of the line after the file `n + 1`.
@@ -43,7 +43,7 @@ pub fn right_pawns(board: &Board, color: Color, n: u8) -> u8
     ensures value { result ≡ men color (pawn_right (n + 1)) board.now }
     ensures few { result ≤ 64 }
 {
-    (board.squares_of(pawn(color)) & RIGHT_FILES[n as usize]).count_ones() as u8
+    (board.squares_of(pawn(color)) & SquareSet::of_bits(RIGHT_FILES[n as usize])).len()
 }
 
 pub fn pawn(color: Color) -> Man

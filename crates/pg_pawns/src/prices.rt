@@ -11,7 +11,7 @@ use crate::files::pawn;
 use pg_board::{Board, Color, Square};
 use pg_captures::{pawns, price_sum, victims_of};
 use pg_fen::Diagram;
-use pg_position::{Position, first_from};
+use pg_position::Position;
 
 fn files_apart(a: u8, b: u8) -> u8
     requires { (a < 9) × (b < 9) }
@@ -65,7 +65,7 @@ fn source_fits(goal: &Board, color: Color, s: Square, u: u8, v: &[u8]) -> bool
     let own = goal.squares_of(pawn(color));
     let mut place = 0usize;
     let mut from = 0u8;
-    while let Some(t) = first_from(own, from) {
+    while let Some(t) = own.first_from(from) {
         if !pair_fits(color, s, u, t, v[place]) {
             return false;
         }
@@ -83,7 +83,7 @@ fn all_fit(board: &Board, goal: &Board, color: Color, u: &[u8], v: &[u8]) -> boo
     let own = board.squares_of(pawn(color));
     let mut place = 0usize;
     let mut from = 0u8;
-    while let Some(s) = first_from(own, from) {
+    while let Some(s) = own.first_from(from) {
         if !source_fits(goal, color, s, u[place], v) {
             return false;
         }

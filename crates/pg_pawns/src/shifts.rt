@@ -42,6 +42,7 @@ pub fn shift_need(color: Color, diagram: &Diagram, position: &Position) -> u16
     shift(&diagram.board(), &position.board(), color)
 }
 
+#[tactic(auto, using(crate::proofs::OwedLemmas::files_told))]
 fn pawn_files_hold_for(wanted: &Board, board: &Board, color: Color) -> bool
     ensures { IsTrue result ↔ PawnFilesFor wanted.now board.now color }
 {

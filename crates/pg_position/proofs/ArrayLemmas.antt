@@ -13,7 +13,8 @@ use Rattle.pg_board.specs.Men.{man}
 use Rattle.pg_board.specs.Placement.{Placement, get, get-placement_of, same_placement}
 use Rattle.pg_position.specs.Geometry.{InPattern}
 use Rattle.pg_position.specs.Attack.{Attacks, AttacksFrom}
-use Rattle.pg_position.specs.Position.{Stands, IsOnlyKing, HasOneKing, InCheck, king_home, rook_home, PawnsClause, IsHome, RightsClause, IsPosition}
+use Rattle.pg_position.specs.Position.{Stands, IsOnlyKing, HasOneKing, InCheck, PawnsClause, IsHome, RightsClause, IsPosition}
+use Rattle.pg_position.specs.Squares.{king_home, rook_home}
 use Rattle.pg_position.specs.Array.{first_man, array_board, array_state}
 use Rattle.pg_position.proofs.StepLemmas.{some_none}
 
@@ -180,11 +181,10 @@ out_of_reach s King l f h = let low : rank s < 3 = f.low in omega (arith, h.2)
 
 array_safe : InCheck array_board Black → ⊥
 unfolding InCheck Attacks AttacksFrom
-array_safe (k, lk, king, (r, lr, (m, there, color, pattern, clear))) =
+array_safe (k, lk, king, (r, lr, (j, there, (pattern, clear)))) =
     let at_home : k ≡ 60 = king_alone Black k lk king in
-    let white : InPattern White m.kind r k = rw color at pattern in
-    let home : InPattern White m.kind r 60 = rw at_home at white in
-    out_of_reach r m.kind lr (far r m lr there color) home
+    let home : InPattern White j r 60 = rw at_home at pattern in
+    out_of_reach r j lr (far r (man White j) lr there refl) home
 
 pub array_position : IsPosition array_state
 unfolding array_state RightsClause IsHome

@@ -1,8 +1,6 @@
 -- Attack by sets of squares, man by man and ray by ray. Leads to the contract of `attacked`.
-use Rattle.std.proofs.Common.{◌≡◌, ◌≢◌, ℕ, ◌-◌, ◌^◌, ◌<◌, ◌⊎◌, ◌↔◌, inl, inr, IsTrue, Bool, true, false, ◌&&◌, Option, Some, None, refl, sym, ap, ◌∙◌, subst, arith, bit_and, bit_or, w64, not, lt_of_le_of_lt}
-use Rattle.std.specs.Int.{trailing_zeros, leading_zeros}
+use Rattle.std.proofs.Common.{◌≡◌, ◌≢◌, ℕ, ◌<◌, ◌⊎◌, ◌↔◌, inl, inr, IsTrue, MatchOption, ◌||◌, Bool, true, false, ◌&&◌, Option, Some, None, refl, sym, ap, ◌∙◌, subst, arith, not}
 use Rattle.std.specs.Bool.{Decides}
-use Rattle.std.proofs.lemmas.Nat.{and_le_l}
 use Rattle.std.proofs.lemmas.Bool.Decides.{Decides-at, Decides-or}
 use Rattle.pg_board.specs.declared.man.Color.{Color}
 use Rattle.pg_board.specs.declared.man.Color.TheVariants.{White, Black}
@@ -10,16 +8,18 @@ use Rattle.pg_board.specs.declared.man.Kind.{Kind}
 use Rattle.pg_board.specs.declared.man.Kind.TheVariants.{Pawn, Knight, Bishop, Rook, Queen, King}
 use Rattle.pg_board.specs.declared.man.Man.{Man}
 use Rattle.pg_board.specs.Bits.{has, has-and, has-or, has-none, has-first, has-last}
-use Rattle.pg_board.specs.Men.{man, other, is_man, is_man_decides, is_held}
-use Rattle.pg_board.specs.Placement.{Placement, get, get_on}
+use Rattle.pg_board.specs.Men.{man, other, is_man, is_held}
+use Rattle.pg_board.specs.lemmas.Equalities.{is_man_decides}
+use Rattle.pg_board.specs.Placement.{Placement, get}
+use Rattle.pg_board.specs.lemmas.Placements.{get_on}
 use Rattle.pg_position.specs.declared.direction.Direction.{Direction}
 use Rattle.pg_position.specs.declared.direction.Direction.TheVariants.{North, NorthEast, East, SouthEast, South, SouthWest, West, NorthWest}
 use Rattle.pg_position.specs.Geometry.{InPattern, IsBetween}
 use Rattle.pg_position.specs.numbers.Rays.{OnRay, IsIn, ascends, is_straight, slides}
-use Rattle.pg_position.specs.SquareSets.{IsSetOf}
+use Rattle.pg_board.specs.SquareSets.{IsSetOf, Meet, HasNoneFrom, IsFirstFrom, IsLastIn}
 use Rattle.pg_position.specs.Attack.{IsClear, Attacks, AttacksFrom}
 use Rattle.pg_position.specs.numbers.Lines.{AttackedBy, AttackedAlong, IsBlocked, IsFree, ByStep, Straight, Diagonal}
-use Rattle.pg_position.proofs.SetLemmas.{and_true, second}
+use Rattle.pg_board.proofs.SetLemmas.{and_true, second}
 use Rattle.pg_position.proofs.LineLemmas.{between_forth, between_back, slide_pattern, bishop_ray, rook_ray, queen_ray, pawn_near, knight_near, king_near}
 
 -- a man that attacks by one step, by the set of the squares that it attacks from
@@ -29,7 +29,7 @@ leap : (b : Placement) (m : Man) (s mask men : ℕ) (r : Bool) (P : ℕ → Type
     → ((q : ℕ) → P q → InPattern m.color m.kind q s)
     → ((q : ℕ) → InPattern m.color m.kind q s → P q)
     → ((q t : ℕ) → InPattern m.color m.kind q s → ¬ IsBetween q t s)
-    → Decides r ((q : ℕ) × (q < 64) × (has mask q ≡ true) × (has men q ≡ true))
+    → Decides r (Meet mask men)
     → IsTrue r ↔ AttackedBy b m s
 unfolding AttackedBy IsClear
 leap b m s mask men r P masks mens to from near d = (
@@ -58,13 +58,13 @@ pawn_back White r s (x, y) = (omega arith, omega arith)
 pawn_back Black r s (x, y) = (omega arith, omega arith)
 
 module _ (b : Placement) (c : Color) (s mask men : ℕ) (r : Bool) where
-  pub knight_attacked : (m : Man) → m ≡ man c Knight → ((d : Color) → IsSetOf mask (InPattern d Knight s)) → ((q : ℕ) → q < 64 → has men q ≡ is_man m (get b q)) → Decides r ((q : ℕ) × (q < 64) × (has mask q ≡ true) × (has men q ≡ true)) → IsTrue r ↔ AttackedBy b (man c Knight) s
+  pub knight_attacked : (m : Man) → m ≡ man c Knight → ((d : Color) → IsSetOf mask (InPattern d Knight s)) → ((q : ℕ) → q < 64 → has men q ≡ is_man m (get b q)) → Decides r (Meet mask men) → IsTrue r ↔ AttackedBy b (man c Knight) s
   knight_attacked m e masks mens d = leap b (man c Knight) s mask men r (InPattern c Knight s) (masks c) (λ q l. mens q l ∙ ap (λ x. is_man x (get b q)) e) (λ q p. knight_turn c c s q p) (λ q p. knight_turn c c q s p) (λ q t p. knight_near c q t s p) d
 
-  pub king_attacked : (m : Man) → m ≡ man c King → ((d : Color) → IsSetOf mask (InPattern d King s)) → ((q : ℕ) → q < 64 → has men q ≡ is_man m (get b q)) → Decides r ((q : ℕ) × (q < 64) × (has mask q ≡ true) × (has men q ≡ true)) → IsTrue r ↔ AttackedBy b (man c King) s
+  pub king_attacked : (m : Man) → m ≡ man c King → ((d : Color) → IsSetOf mask (InPattern d King s)) → ((q : ℕ) → q < 64 → has men q ≡ is_man m (get b q)) → Decides r (Meet mask men) → IsTrue r ↔ AttackedBy b (man c King) s
   king_attacked m e masks mens d = leap b (man c King) s mask men r (InPattern c King s) (masks c) (λ q l. mens q l ∙ ap (λ x. is_man x (get b q)) e) (λ q p. king_turn c c s q p) (λ q p. king_turn c c q s p) (λ q t p. king_near c q t s p) d
 
-  pub pawn_attacked : (m : Man) (o : Color) → m ≡ man c Pawn → o ≡ other c → IsSetOf mask (InPattern o Pawn s) → ((q : ℕ) → q < 64 → has men q ≡ is_man m (get b q)) → Decides r ((q : ℕ) × (q < 64) × (has mask q ≡ true) × (has men q ≡ true)) → IsTrue r ↔ AttackedBy b (man c Pawn) s
+  pub pawn_attacked : (m : Man) (o : Color) → m ≡ man c Pawn → o ≡ other c → IsSetOf mask (InPattern o Pawn s) → ((q : ℕ) → q < 64 → has men q ≡ is_man m (get b q)) → Decides r (Meet mask men) → IsTrue r ↔ AttackedBy b (man c Pawn) s
   pawn_attacked m o e f masks mens d = leap b (man c Pawn) s mask men r (InPattern (other c) Pawn s) (subst (λ (x : Color). IsSetOf mask (InPattern x Pawn s)) f masks) (λ q l. mens q l ∙ ap (λ x. is_man x (get b q)) e) (λ q p. pawn_back c q s p) (λ q p. pawn_turn c q s p) (λ q t p. pawn_near c q t s p) d
 
 -- ---- the first man on a ray
@@ -82,53 +82,51 @@ held_on b x e = elim (get b x) as (λ o. get b x ≡ o → is_held o ≡ true �
   | Some m ↦ λ g _. get_on b x m g
 ] refl e
 
-module _ (b : Placement) (d : Direction) (s line occ : ℕ) (rays : IsSetOf line (OnRay d s)) (held : (q : ℕ) → q < 64 → has occ q ≡ is_held (get b q)) where
-  off_ray : (t : ℕ) → t < 64 → OnRay d s t → has (bit_and line occ) t ≡ false → get b t ≡ None
+-- n has the squares of the line with a man
+module _ (b : Placement) (d : Direction) (s line occ n : ℕ) (rays : IsSetOf line (OnRay d s)) (held : (q : ℕ) → q < 64 → has occ q ≡ is_held (get b q)) (both : (q : ℕ) → has n q ≡ has line q && has occ q) where
+  off_ray : (t : ℕ) → t < 64 → OnRay d s t → has n t ≡ false → get b t ≡ None
   off_ray t l o e =
       let on : has line t ≡ true = (rays t l).1 o in
-      let both : has (bit_and line occ) t ≡ has line t && has occ t = has-and line occ t in
       let h : has occ t ≡ is_held (get b t) = held t l in
-      held_none (get b t) (sym h ∙ second (has line t) (has occ t) on (sym both ∙ e))
+      held_none (get b t) (sym h ∙ second (has line t) (has occ t) on (sym (both t) ∙ e))
 
-  pub ray_none : bit_and line occ ≡ 0 → (t : ℕ) → t < 64 → OnRay d s t → get b t ≡ None
-  ray_none z t l o = off_ray t l o (ap (λ n. has n t) z ∙ has-none t)
+  ray_none : HasNoneFrom n 0 → (t : ℕ) → t < 64 → OnRay d s t → get b t ≡ None
+  ray_none none t l o = off_ray t l o (none t (omega arith) l)
 
-  module _ (fits : line < 2 ^ 64) (some : bit_and line occ ≢ 0) where
-    positive : 0 < bit_and line occ
-    positive = omega arith
+  at_bit : (x : ℕ) → x < 64 → has n x ≡ true → OnRay d s x × (is_held (get b x) ≡ true)
+  at_bit x l e = let (p, q) = and_true (has line x) (has occ x) (sym (both x) ∙ e) in ((rays x l).0 p, sym (held x l) ∙ q)
 
-    small : bit_and line occ < 2 ^ 64
-    small = lt_of_le_of_lt (and_le_l line occ) fits
+  ray_first : (x : ℕ) → ascends d ≡ true → IsFirstFrom n 0 x → IsBlocked b d s x
+  unfolding IsFree
+  ray_first x up f =
+      let h = at_bit x f.on_board f.member in
+      record {
+        on = h.0;
+        held = h.1;
+        free = λ t k o bef.
+            let lt : t < x = subst (λ (v : Bool). IsIn v t x) up bef in
+            off_ray t k o (f.before t (omega arith) lt);
+      }
 
-    at_bit : (x : ℕ) → x < 64 → has (bit_and line occ) x ≡ true → OnRay d s x × (is_held (get b x) ≡ true)
-    at_bit x l e = let (p, q) = and_true (has line x) (has occ x) (sym (has-and line occ x) ∙ e) in ((rays x l).0 p, sym (held x l) ∙ q)
+  ray_last : (x : ℕ) → ascends d ≡ false → IsLastIn n x → IsBlocked b d s x
+  unfolding IsFree
+  ray_last x up f =
+      let h = at_bit x f.on_board f.member in
+      record {
+        on = h.0;
+        held = h.1;
+        free = λ t k o bef.
+            let lt : x < t = subst (λ (v : Bool). IsIn v t x) up bef in
+            off_ray t k o (f.after t lt);
+      }
 
-    pub ray_first : (x : ℕ) → ascends d ≡ true → x ≡ trailing_zeros w64 (bit_and line occ) → IsBlocked b d s x
-    unfolding IsFree
-    ray_first x up e =
-        let f = has-first (bit_and line occ) positive small in
-        let l : x < 64 = subst (λ (y : ℕ). y < 64) (sym e) f.0 in
-        let h = at_bit x l (ap (has (bit_and line occ)) e ∙ f.1) in
-        record {
-          on = h.0;
-          held = h.1;
-          free = λ t k o bef.
-              let lt : t < x = subst (λ (v : Bool). IsIn v t x) up bef in
-              off_ray t k o (f.2 t (subst (λ (y : ℕ). t < y) e lt));
-        }
+  pub blocked_up : ascends d ≡ true → (o : Option ℕ) → MatchOption o (HasNoneFrom n 0) (λ x. IsFirstFrom n 0 x) → MatchOption o ((t : ℕ) → t < 64 → OnRay d s t → get b t ≡ None) (λ x. IsBlocked b d s x)
+  blocked_up up None h = ray_none h
+  blocked_up up (Some x) h = ray_first x up h
 
-    pub ray_last : (x : ℕ) → ascends d ≡ false → x ≡ 63 - leading_zeros w64 (bit_and line occ) → IsBlocked b d s x
-    unfolding IsFree
-    ray_last x up e =
-        let f = has-last (bit_and line occ) x positive small e in
-        let h = at_bit x f.0 f.1 in
-        record {
-          on = h.0;
-          held = h.1;
-          free = λ t k o bef.
-              let lt : x < t = subst (λ (v : Bool). IsIn v t x) up bef in
-              off_ray t k o (f.2 t lt);
-        }
+  pub blocked_down : ascends d ≡ false → (o : Option ℕ) → MatchOption o (HasNoneFrom n 0) (λ x. IsLastIn n x) → MatchOption o ((t : ℕ) → t < 64 → OnRay d s t → get b t ≡ None) (λ x. IsBlocked b d s x)
+  blocked_down up None h = ray_none h
+  blocked_down up (Some x) h = ray_last x up h
 
 -- of two squares, one comes first
 order : (u : Bool) (r x : ℕ) → ¬ IsIn u r x → ¬ IsIn u x r → r ≡ x
@@ -186,8 +184,8 @@ module _ (b : Placement) (c : Color) (d : Direction) (s : ℕ) where
         ]
 
 -- ---- lines without a slider
-pub kind_or_queen : (b : Placement) (c : Color) (k : Kind) (m n : Man) (x y : ℕ) → m ≡ man c k → n ≡ man c Queen → ((q : ℕ) → q < 64 → has x q ≡ is_man m (get b q)) → ((q : ℕ) → q < 64 → has y q ≡ is_man n (get b q)) → IsSetOf (bit_or x y) (λ q. (get b q ≡ Some (man c k)) ⊎ (get b q ≡ Some (man c Queen)))
-kind_or_queen b c k m n x y e f h g q l = Decides-at _ _ (has-or x y q) (Decides-or _ _ (Decides-at _ _ (h q l ∙ ap (λ z. is_man z (get b q)) e) (is_man_decides (man c k) (get b q))) (Decides-at _ _ (g q l ∙ ap (λ z. is_man z (get b q)) f) (is_man_decides (man c Queen) (get b q))))
+pub kind_or_queen : (b : Placement) (c : Color) (k : Kind) (m n : Man) (x y z : ℕ) → m ≡ man c k → n ≡ man c Queen → ((q : ℕ) → q < 64 → has x q ≡ is_man m (get b q)) → ((q : ℕ) → q < 64 → has y q ≡ is_man n (get b q)) → ((q : ℕ) → has z q ≡ has x q || has y q) → IsSetOf z (λ q. (get b q ≡ Some (man c k)) ⊎ (get b q ≡ Some (man c Queen)))
+kind_or_queen b c k m n x y z e f h g either q l = Decides-at _ _ (either q) (Decides-or _ _ (Decides-at _ _ (h q l ∙ ap (λ z. is_man z (get b q)) e) (is_man_decides (man c k) (get b q))) (Decides-at _ _ (g q l ∙ ap (λ z. is_man z (get b q)) f) (is_man_decides (man c Queen) (get b q))))
 
 straight_kind : (d : Direction) (j : Kind) → is_straight d ≡ true → slides d j ≡ true → (j ≡ Rook) ⊎ (j ≡ Queen)
 straight_kind d Pawn e s = absurd (cc)
@@ -205,7 +203,7 @@ diagonal_kind d Rook e s = absurd (cc)
 diagonal_kind d Queen e s = inr refl
 diagonal_kind d King e s = absurd (cc)
 
-module _ (b : Placement) (c : Color) (s men lines : ℕ) (u : Bool) (met : Decides u ((q : ℕ) × (q < 64) × (has lines q ≡ true) × (has men q ≡ true))) (off : u ≡ false) where
+module _ (b : Placement) (c : Color) (s men lines : ℕ) (u : Bool) (met : Decides u (Meet lines men)) (off : u ≡ false) where
   none_along : (k : Kind) (d : Direction) → IsSetOf men (λ q. (get b q ≡ Some (man c k)) ⊎ (get b q ≡ Some (man c Queen))) → ((j : Kind) → slides d j ≡ true → (j ≡ k) ⊎ (j ≡ Queen)) → ((q : ℕ) → q < 64 → OnRay d s q → has lines q ≡ true) → ¬ AttackedAlong b c d s
   unfolding AttackedAlong
   none_along k d are kinds on (r, m, l, g, e, t, o, cl) =
@@ -214,44 +212,41 @@ module _ (b : Placement) (c : Color) (s men lines : ℕ) (u : Bool) (met : Decid
       let yes : u ≡ true = met.1 (r, l, on r l o, (are r l).1 there) in
       absurd (cc)
 
-  pub none_straight : IsSetOf men (λ q. (get b q ≡ Some (man c Rook)) ⊎ (get b q ≡ Some (man c Queen))) → IsSetOf lines (λ q. ((OnRay North s q ⊎ OnRay East s q) ⊎ OnRay South s q) ⊎ OnRay West s q) → IsTrue false ↔ Straight b c s
-  none_straight are on = (
-    λ e. absurd (let f : false ≡ true = e in cc),
+  -- nor along any of four rays that one kind of man moves along
+  none_of_four : (v : Bool) (k : Kind) → ((d : Direction) (j : Kind) → is_straight d ≡ v → slides d j ≡ true → (j ≡ k) ⊎ (j ≡ Queen)) → (d e f g : Direction)
+      → is_straight d ≡ v → is_straight e ≡ v → is_straight f ≡ v → is_straight g ≡ v
+      → IsSetOf men (λ q. (get b q ≡ Some (man c k)) ⊎ (get b q ≡ Some (man c Queen))) → IsSetOf lines (λ q. ((OnRay d s q ⊎ OnRay e s q) ⊎ OnRay f s q) ⊎ OnRay g s q)
+      → IsTrue false ↔ (AttackedAlong b c d s ⊎ AttackedAlong b c e s ⊎ AttackedAlong b c f s ⊎ AttackedAlong b c g s)
+  none_of_four v k kinds d e f g sd se sf sg are on = (
+    λ h. absurd (let z : false ≡ true = h in cc),
     λ h. absurd (elim h [
-      | inl x ↦ none_along Rook North are (λ j. straight_kind North j refl) (λ q l o. (on q l).1 (inl (inl (inl o)))) x
+      | inl x ↦ none_along k d are (λ j. kinds d j sd) (λ q l o. (on q l).1 (inl (inl (inl o)))) x
       | inr y ↦ elim y [
-        | inl x ↦ none_along Rook East are (λ j. straight_kind East j refl) (λ q l o. (on q l).1 (inl (inl (inr o)))) x
+        | inl x ↦ none_along k e are (λ j. kinds e j se) (λ q l o. (on q l).1 (inl (inl (inr o)))) x
         | inr z ↦ elim z [
-          | inl x ↦ none_along Rook South are (λ j. straight_kind South j refl) (λ q l o. (on q l).1 (inl (inr o))) x
-          | inr x ↦ none_along Rook West are (λ j. straight_kind West j refl) (λ q l o. (on q l).1 (inr o)) x
+          | inl x ↦ none_along k f are (λ j. kinds f j sf) (λ q l o. (on q l).1 (inl (inr o))) x
+          | inr x ↦ none_along k g are (λ j. kinds g j sg) (λ q l o. (on q l).1 (inr o)) x
         ]
       ]
     ]),
   )
 
+  pub none_straight : IsSetOf men (λ q. (get b q ≡ Some (man c Rook)) ⊎ (get b q ≡ Some (man c Queen))) → IsSetOf lines (λ q. ((OnRay North s q ⊎ OnRay East s q) ⊎ OnRay South s q) ⊎ OnRay West s q) → IsTrue false ↔ Straight b c s
+  none_straight are on = none_of_four true Rook straight_kind North East South West refl refl refl refl are on
+
   pub none_diagonal : IsSetOf men (λ q. (get b q ≡ Some (man c Bishop)) ⊎ (get b q ≡ Some (man c Queen))) → IsSetOf lines (λ q. ((OnRay NorthEast s q ⊎ OnRay SouthEast s q) ⊎ OnRay SouthWest s q) ⊎ OnRay NorthWest s q) → IsTrue false ↔ Diagonal b c s
-  none_diagonal are on = (
-    λ e. absurd (let f : false ≡ true = e in cc),
-    λ h. absurd (elim h [
-      | inl x ↦ none_along Bishop NorthEast are (λ j. diagonal_kind NorthEast j refl) (λ q l o. (on q l).1 (inl (inl (inl o)))) x
-      | inr y ↦ elim y [
-        | inl x ↦ none_along Bishop SouthEast are (λ j. diagonal_kind SouthEast j refl) (λ q l o. (on q l).1 (inl (inl (inr o)))) x
-        | inr z ↦ elim z [
-          | inl x ↦ none_along Bishop SouthWest are (λ j. diagonal_kind SouthWest j refl) (λ q l o. (on q l).1 (inl (inr o))) x
-          | inr x ↦ none_along Bishop NorthWest are (λ j. diagonal_kind NorthWest j refl) (λ q l o. (on q l).1 (inr o)) x
-        ]
-      ]
-    ]),
-  )
+  none_diagonal are on = none_of_four false Bishop diagonal_kind NorthEast SouthEast SouthWest NorthWest refl refl refl refl are on
 
 -- ---- every attack
 pub by_man : (b : Placement) (c : Color) (k : Kind) (s : ℕ) → AttackedBy b (man c k) s → Attacks b c s
 unfolding AttackedBy Attacks AttacksFrom
-by_man b c k s (r, l, g, p, cl) = (r, l, (man c k, g, refl, p, cl))
+by_man b c k s (r, l, g, p, cl) = (r, l, (k, g, (p, cl)))
 
 pub by_along : (b : Placement) (c : Color) (d : Direction) (s : ℕ) → AttackedAlong b c d s → Attacks b c s
 unfolding AttackedAlong Attacks AttacksFrom
-by_along b c d s (r, m, l, g, e, t, o, cl) = (r, l, (m, g, e, slide_pattern d m.color m.kind s r t o, cl))
+by_along b c d s (r, m, l, g, e, t, o, cl) =
+    let there : get b r ≡ Some (man c m.kind) = g ∙ ap (λ (x : Color). Some (man x m.kind)) e in
+    (r, l, (m.kind, there, (slide_pattern d c m.kind s r t o, cl)))
 
 -- an attack is by a man of one step or along a ray
 abbrev pub Split : Placement → Color → ℕ → Type 0
@@ -259,18 +254,17 @@ Split b c s = (AttackedBy b (man c Pawn) s ⊎ AttackedBy b (man c Knight) s ⊎
 
 pub split : (b : Placement) (c : Color) (s : ℕ) → Attacks b c s → Split b c s
 unfolding AttackedAlong AttackedBy Attacks AttacksFrom
-split b c s (r, l, (m, g, e, p, cl)) =
-    let whole : (k : Kind) → m.kind ≡ k → m ≡ man c k = λ k f i. record { color = e i; kind = f i } in
-    let step : (k : Kind) → m.kind ≡ k → AttackedBy b (man c k) s = λ k f.
-    (r, l, g ∙ ap Some (whole k f), subst (λ (x : Man). InPattern x.color x.kind r s) (whole k f) p, cl) in
-    let pattern : (k : Kind) → m.kind ≡ k → InPattern m.color k r s = λ k f. subst (λ (x : Kind). InPattern m.color x r s) f p in
-    elim m.kind as (λ k. m.kind ≡ k → Split b c s) [
+split b c s (r, l, (j, g, (p, cl))) =
+    let step : (k : Kind) → j ≡ k → AttackedBy b (man c k) s = λ k f.
+    (r, l, g ∙ ap (λ (x : Kind). Some (man c x)) f, subst (λ (x : Kind). InPattern c x r s) f p, cl) in
+    let pattern : (k : Kind) → j ≡ k → InPattern c k r s = λ k f. subst (λ (x : Kind). InPattern c x r s) f p in
+    elim j as (λ k. j ≡ k → Split b c s) [
       | Pawn ↦ λ f. inl (inl (step Pawn f))
       | Knight ↦ λ f. inl (inr (inl (step Knight f)))
       | King ↦ λ f. inl (inr (inr (step King f)))
-      | Bishop ↦ λ f. let (d, t, o) = bishop_ray m.color s r (pattern Bishop f) in inr (d, (r, m, l, g, e, ap (slides d) f ∙ t, o, cl))
-      | Rook ↦ λ f. let (d, t, o) = rook_ray m.color s r (pattern Rook f) in inr (d, (r, m, l, g, e, ap (slides d) f ∙ t, o, cl))
-      | Queen ↦ λ f. let (d, t, o) = queen_ray m.color s r (pattern Queen f) in inr (d, (r, m, l, g, e, ap (slides d) f ∙ t, o, cl))
+      | Bishop ↦ λ f. let (d, t, o) = bishop_ray c s r (pattern Bishop f) in inr (d, (r, man c j, l, g, refl, ap (slides d) f ∙ t, o, cl))
+      | Rook ↦ λ f. let (d, t, o) = rook_ray c s r (pattern Rook f) in inr (d, (r, man c j, l, g, refl, ap (slides d) f ∙ t, o, cl))
+      | Queen ↦ λ f. let (d, t, o) = queen_ray c s r (pattern Queen f) in inr (d, (r, man c j, l, g, refl, ap (slides d) f ∙ t, o, cl))
     ] refl
 
 by_direction : (b : Placement) (c : Color) (d : Direction) (s : ℕ) → AttackedAlong b c d s → Straight b c s ⊎ Diagonal b c s

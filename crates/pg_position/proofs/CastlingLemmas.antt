@@ -1,5 +1,5 @@
 -- The squares between king and rook, and those to which the king castles. Leads to the contracts of `path` and `castling_targets`.
-use Rattle.std.proofs.Common.{Some, ◌+◌, ◌≡◌, ◌≢◌, ◌↔◌, ℕ, ◌<◌, ◌⊎◌, inl, inr, IsTrue, Bool, true, false, not, ◌&&◌, ◌||◌, nat_eq, ltb, None, refl, sym, ap, subst, ◌∙◌, arith, bit_or}
+use Rattle.std.proofs.Common.{Some, ◌+◌, ◌≡◌, ◌≢◌, ◌↔◌, ℕ, ◌<◌, ◌⊎◌, inl, inr, IsTrue, Bool, true, false, not, ◌&&◌, ◌||◌, nat_eq, ltb, None, refl, sym, ap, subst, ◌∙◌, arith}
 use Rattle.std.proofs.lemmas.Bool.{ne_eqb}
 use Rattle.std.proofs.lemmas.Bool.Decides.{Decides-ltb, Decides-and, Decides-at, Decides-like}
 use Rattle.pg_board.specs.declared.man.Color.{Color}
@@ -16,22 +16,14 @@ use Rattle.pg_position.specs.declared.state.State.{State}
 use Rattle.pg_position.specs.declared.moves.Move.{Move}
 use Rattle.pg_position.specs.Attack.{IsClear, Attacks}
 use Rattle.pg_position.specs.Geometry.{IsBetween}
-use Rattle.pg_position.specs.Position.{holds, king_home, rook_home}
-use Rattle.pg_position.specs.SquareSets.{IsSetOf}
-use Rattle.pg_position.specs.Step.{IsCastling, king_crossed, king_target, touches, rights_after}
+use Rattle.pg_position.specs.Position.{holds}
+use Rattle.pg_board.specs.SquareSets.{IsSetOf, Meet}
+use Rattle.pg_position.specs.Step.{IsCastling, touches, rights_after}
+use Rattle.pg_position.specs.Squares.{king_home, rook_home, king_crossed, king_target}
 use Rattle.pg_position.proofs.AttackLemmas.{not_held}
-use Rattle.pg_position.proofs.ReachLemmas.{set_or, set_like}
+use Rattle.pg_board.proofs.SetLemmas.{set_of_union, set_like}
 
 -- ---- the squares between
-on_rank : (x i k r : ℕ) → i ≢ k → (file x ≡ i) ⊎ (rank x ≡ r) → (file x ≡ k) ⊎ (rank x ≡ r) → rank x ≡ r
-on_rank x i k r ne (inr a) h = a
-on_rank x i k r ne (inl a) (inr b) = b
-on_rank x i k r ne (inl a) (inl b) = absurd (ne (sym a ∙ b))
-
-turned : (x i r : ℕ) → (i ≡ file x) ⊎ (r ≡ rank x) → (file x ≡ i) ⊎ (rank x ≡ r)
-turned x i r (inl e) = inl (sym e)
-turned x i r (inr e) = inr (sym e)
-
 -- the least and the greatest of them
 unfoldable least : Color → Wing → ℕ
 least White KingSide = 5
@@ -47,21 +39,17 @@ beyond Black QueenSide = 60
 
 inside : (c : Color) (w : Wing) (q : ℕ) → (least c w < q + 1) × (q < beyond c w) → IsBetween (king_home c) q (rook_home c w)
 unfolding IsBetween least beyond
-inside White KingSide q (a, b) = let z : rank q ≡ 1 = omega arith in (λ y. omega arith, λ y. omega arith, omega arith, omega arith, inl (inr (sym z), inr z, inr refl))
-inside White QueenSide q (a, b) = let z : rank q ≡ 1 = omega arith in (λ y. omega arith, λ y. omega arith, omega arith, omega arith, inl (inr (sym z), inr z, inr refl))
-inside Black KingSide q (a, b) = let z : rank q ≡ 8 = omega arith in (λ y. omega arith, λ y. omega arith, omega arith, omega arith, inl (inr (sym z), inr z, inr refl))
-inside Black QueenSide q (a, b) = let z : rank q ≡ 8 = omega arith in (λ y. omega arith, λ y. omega arith, omega arith, omega arith, inl (inr (sym z), inr z, inr refl))
+inside White KingSide q (a, b) = let z : rank q ≡ 1 = omega arith in (λ y. omega arith, λ y. omega arith, omega arith, omega arith, inl (inr refl))
+inside White QueenSide q (a, b) = let z : rank q ≡ 1 = omega arith in (λ y. omega arith, λ y. omega arith, omega arith, omega arith, inl (inr refl))
+inside Black KingSide q (a, b) = let z : rank q ≡ 8 = omega arith in (λ y. omega arith, λ y. omega arith, omega arith, omega arith, inl (inr refl))
+inside Black QueenSide q (a, b) = let z : rank q ≡ 8 = omega arith in (λ y. omega arith, λ y. omega arith, omega arith, omega arith, inl (inr refl))
 
 outside : (c : Color) (w : Wing) (q : ℕ) → q < 64 → IsBetween (king_home c) q (rook_home c w) → (least c w < q + 1) × (q < beyond c w)
 unfolding IsBetween least beyond
-outside White KingSide q low (a, b, u, v, inl (l, m, n)) = let z : rank q ≡ 1 = on_rank q 5 8 1 (λ y. omega arith) (turned q 5 1 l) m in (omega arith, omega arith)
-outside White KingSide q low (a, b, u, v, inr (l, m)) = absurd (omega arith)
-outside White QueenSide q low (a, b, u, v, inl (l, m, n)) = let z : rank q ≡ 1 = on_rank q 5 1 1 (λ y. omega arith) (turned q 5 1 l) m in (omega arith, omega arith)
-outside White QueenSide q low (a, b, u, v, inr (l, m)) = absurd (omega arith)
-outside Black KingSide q low (a, b, u, v, inl (l, m, n)) = let z : rank q ≡ 8 = on_rank q 5 8 8 (λ y. omega arith) (turned q 5 8 l) m in (omega arith, omega arith)
-outside Black KingSide q low (a, b, u, v, inr (l, m)) = absurd (omega arith)
-outside Black QueenSide q low (a, b, u, v, inl (l, m, n)) = let z : rank q ≡ 8 = on_rank q 5 1 8 (λ y. omega arith) (turned q 5 8 l) m in (omega arith, omega arith)
-outside Black QueenSide q low (a, b, u, v, inr (l, m)) = absurd (omega arith)
+outside White KingSide q low (a, b, u, v, _) = let z : rank q ≡ 1 = omega arith in (omega arith, omega arith)
+outside White QueenSide q low (a, b, u, v, _) = let z : rank q ≡ 1 = omega arith in (omega arith, omega arith)
+outside Black KingSide q low (a, b, u, v, _) = let z : rank q ≡ 8 = omega arith in (omega arith, omega arith)
+outside Black QueenSide q low (a, b, u, v, _) = let z : rank q ≡ 8 = omega arith in (omega arith, omega arith)
 
 unfoldable path_test : Color → Wing → ℕ → Bool
 path_test c w q = ltb (least c w) (q + 1) && ltb q (beyond c w)
@@ -91,7 +79,7 @@ path_is c d w v n ec ew e = subst (λ (x : ℕ). IsSetOf x (λ q. IsBetween (kin
     ap₃ = (λ i. path_set (ec i) (ew i))
 
 -- a set that meets no man's square
-pub clear_is : (b : Placement) (r s n held : ℕ) (t : Bool) → IsSetOf n (λ q. IsBetween r q s) → ((q : ℕ) → q < 64 → has held q ≡ is_held (get b q)) → (IsTrue t ↔ ((q : ℕ) × (q < 64) × (has n q ≡ true) × (has held q ≡ true))) → IsTrue (not t) ↔ IsClear b r s
+pub clear_is : (b : Placement) (r s n held : ℕ) (t : Bool) → IsSetOf n (λ q. IsBetween r q s) → ((q : ℕ) → q < 64 → has held q ≡ is_held (get b q)) → (IsTrue t ↔ Meet n held) → IsTrue (not t) ↔ IsClear b r s
 unfolding IsClear
 clear_is b r s n held true is holds meets = (
   λ e. absurd (let f : IsTrue false = e in cc),
@@ -118,8 +106,8 @@ abbrev pub IsSafeTo : State → Bool → Wing → ℕ → Type 0
 IsSafeTo p way w q = (q ≡ king_target p.side w) × (way ≡ true) × (¬ Attacks p.board (other p.side) (king_crossed p.side w)) × (¬ Attacks p.board (other p.side) (king_target p.side w))
 
 module _ (p : State) (short long : Bool) (ks : IsTrue short ↔ IsOpen p KingSide) (ql : IsTrue long ↔ IsOpen p QueenSide) where
-  pub castle_set : (a b : ℕ) → ¬ Attacks p.board (other p.side) (king_home p.side) → IsSetOf a (IsSafeTo p short KingSide) → IsSetOf b (IsSafeTo p long QueenSide) → IsSetOf (bit_or a b) (λ q. (w : Wing) × IsCastling p King (castling_to p q) w)
-  castle_set a b home f g = set_like (bit_or a b) forth back (set_or a b f g)
+  pub castle_set : (a b n : ℕ) → ¬ Attacks p.board (other p.side) (king_home p.side) → IsSetOf a (IsSafeTo p short KingSide) → IsSetOf b (IsSafeTo p long QueenSide) → ((q : ℕ) → has n q ≡ has a q || has b q) → IsSetOf n (λ q. (w : Wing) × IsCastling p King (castling_to p q) w)
+  castle_set a b n home f g either = set_like n forth back (set_of_union n a b either f g)
     where
       forth : (q : ℕ) → q < 64 → IsSafeTo p short KingSide q ⊎ IsSafeTo p long QueenSide q → (w : Wing) × IsCastling p King (castling_to p q) w
       forth q low (inl (e, s, x, y)) = (KingSide, record { unpromoted = refl; king = refl; home = refl; target = e; right = (ks.0 s).0; clear = (ks.0 s).1; safe_home = home; safe_crossed = x; safe_target = y })
@@ -134,7 +122,7 @@ target_set p way w safe i n on calm e h one = set_like n (λ q l at. (at ∙ e, 
 
 -- ---- the rights that a move leaves
 -- a square of the mask is no square of a move that does not meet it
-untouched : (n homes s : ℕ) (m : Move) → IsSetOf n (λ q. (q ≡ m.from) ⊎ (q ≡ m.to)) → ¬ ((q : ℕ) × (q < 64) × (has n q ≡ true) × (has homes q ≡ true)) → s < 64 → has homes s ≡ true → touches m s ≡ false
+untouched : (n homes s : ℕ) (m : Move) → IsSetOf n (λ q. (q ≡ m.from) ⊎ (q ≡ m.to)) → ¬ Meet n homes → s < 64 → has homes s ≡ true → touches m s ≡ false
 untouched n homes s m is apart low home =
     let from : m.from ≢ s = (λ e. apart (s, low, (is s low).1 (inl (sym e)), home)) in
     let to : m.to ≢ s = (λ e. apart (s, low, (is s low).1 (inr (sym e)), home)) in
@@ -147,8 +135,8 @@ kept : (h a b : Bool) → a ≡ false → b ≡ false → h ≡ (h && not (a || 
 kept true a b e f = cc
 kept false a b e f = refl
 
-pub rights_kept : (r : Rights) (m : Move) (n a b : ℕ) (t : Bool) → n ≡ bit_or a b → IsSetOf a (λ q. q ≡ m.from) → IsSetOf b (λ q. q ≡ m.to) → (IsTrue t ↔ ((q : ℕ) × (q < 64) × (has n q ≡ true) × (has 10448351135499550865 q ≡ true))) → t ≡ false → r ≡ rights_after r m
-rights_kept r m n a b t e f g h off i =
+pub rights_kept : (r : Rights) (m : Move) (n a b homes : ℕ) (t : Bool) → ((q : ℕ) → has n q ≡ has a q || has b q) → homes ≡ 10448351135499550865 → IsSetOf a (λ q. q ≡ m.from) → IsSetOf b (λ q. q ≡ m.to) → (IsTrue t ↔ Meet n homes) → t ≡ false → r ≡ rights_after r m
+rights_kept r m n a b homes t e z f g h off i =
     record {
       white_king = kept r.white_king _ _ (home 4 (omega arith) refl) (home 7 (omega arith) refl) i;
       white_queen = kept r.white_queen _ _ (home 4 (omega arith) refl) (home 0 (omega arith) refl) i;
@@ -157,4 +145,4 @@ rights_kept r m n a b t e f g h off i =
     }
   where
     home : (s : ℕ) → s < 64 → has 10448351135499550865 s ≡ true → touches m s ≡ false
-    home s low there = untouched n 10448351135499550865 s m (subst (λ (x : ℕ). IsSetOf x (λ q. (q ≡ m.from) ⊎ (q ≡ m.to))) (sym e) (set_or a b f g)) (λ met. (let on : t ≡ true = h.1 met in cc)) low there
+    home s low there = untouched n homes s m (set_of_union n a b e f g) (λ met. (let on : t ≡ true = h.1 met in cc)) low (ap (λ x. has x s) z ∙ there)

@@ -15,8 +15,9 @@ use Rattle.pg_position.specs.declared.moves.Move.{Move}
 use Rattle.pg_position.specs.declared.moves.Way.{Way}
 use Rattle.pg_position.specs.declared.moves.Way.TheVariants.{Plain, Capture, DoubleAdvance, EnPassant, Promotion, Castling}
 use Rattle.pg_position.specs.Geometry.{apart, IsForward, InPattern}
-use Rattle.pg_position.specs.Position.{IsVacant, king_home, ahead, IsPassed, IsPosition}
-use Rattle.pg_position.specs.Step.{home_rank, king_target, Goes, IsPromotion, IsCastling, IsWay, after, Step, Legal}
+use Rattle.pg_position.specs.Position.{IsVacant, IsPassed, IsPosition}
+use Rattle.pg_position.specs.Step.{Goes, IsPromotion, IsCastling, IsWay, after, Step, Legal}
+use Rattle.pg_position.specs.Squares.{king_home, ahead, home_rank, king_target}
 use Rattle.pg_position.proofs.StepLemmas.{not_both, one_way, one_target, promoted_not, two_files}
 use Rattle.pg_position.proofs.ValidLemmas.{step_valid}
 

@@ -3,7 +3,6 @@ pub mod TableLemmas
 pub mod LineLemmas
 pub mod AttackLemmas
 pub mod ReachLemmas
-pub mod SetLemmas
 pub mod StepLemmas
 pub mod ValidLemmas
 pub mod ArrayLemmas

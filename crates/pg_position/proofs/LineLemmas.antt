@@ -7,59 +7,8 @@ use Rattle.pg_board.specs.declared.man.Kind.TheVariants.{Pawn, Knight, Bishop, R
 use Rattle.pg_board.specs.Squares.{file, rank}
 use Rattle.pg_position.specs.declared.direction.Direction.{Direction}
 use Rattle.pg_position.specs.declared.direction.Direction.TheVariants.{North, NorthEast, East, SouthEast, South, SouthWest, West, NorthWest}
-use Rattle.pg_position.specs.Geometry.{OnOneLine, OnOneDiagonal, InPattern, IsBetween}
+use Rattle.pg_position.specs.Geometry.{OnOneLine, OnOneDiagonal, InPattern, IsWithin, IsBetween}
 use Rattle.pg_position.specs.numbers.Rays.{OnRay, Before, is_straight, slides}
-
--- the squares between a square of a ray and its start are those of the ray before it
-diagonal_NorthEast : (s r t : ℕ) → OnRay NorthEast s r → IsBetween r t s → OnOneDiagonal r t
-unfolding OnRay IsBetween
-diagonal_NorthEast s r t (f, g) (n, m, wf, wr, z) = elim z [
-  | inl (a, b, c) ↦ absurd (elim c [ inl e ↦ omega arith | inr e ↦ omega arith ])
-  | inr (x, y) ↦ x
-]
-
-diagonal_SouthEast : (s r t : ℕ) → OnRay SouthEast s r → IsBetween r t s → OnOneDiagonal r t
-unfolding OnRay IsBetween
-diagonal_SouthEast s r t (f, g) (n, m, wf, wr, z) = elim z [
-  | inl (a, b, c) ↦ absurd (elim c [ inl e ↦ omega arith | inr e ↦ omega arith ])
-  | inr (x, y) ↦ x
-]
-
-diagonal_SouthWest : (s r t : ℕ) → OnRay SouthWest s r → IsBetween r t s → OnOneDiagonal r t
-unfolding OnRay IsBetween
-diagonal_SouthWest s r t (f, g) (n, m, wf, wr, z) = elim z [
-  | inl (a, b, c) ↦ absurd (elim c [ inl e ↦ omega arith | inr e ↦ omega arith ])
-  | inr (x, y) ↦ x
-]
-
-diagonal_NorthWest : (s r t : ℕ) → OnRay NorthWest s r → IsBetween r t s → OnOneDiagonal r t
-unfolding OnRay IsBetween
-diagonal_NorthWest s r t (f, g) (n, m, wf, wr, z) = elim z [
-  | inl (a, b, c) ↦ absurd (elim c [ inl e ↦ omega arith | inr e ↦ omega arith ])
-  | inr (x, y) ↦ x
-]
-
-pub between_forth : (d : Direction) (s r t : ℕ) → OnRay d s r → IsBetween r t s → OnRay d s t × Before d t r
-unfolding OnRay IsBetween
-between_forth North s r t (f, g) (n, m, wf, wr, _) = ((omega arith, omega arith), omega arith)
-between_forth NorthEast s r t (f, g) (n, m, wf, wr, z) = let x = diagonal_NorthEast s r t (f, g) (n, m, wf, wr, z) in ((omega arith, omega arith), omega arith)
-between_forth East s r t (f, g) (n, m, wf, wr, _) = ((omega arith, omega arith), omega arith)
-between_forth SouthEast s r t (f, g) (n, m, wf, wr, z) = let x = diagonal_SouthEast s r t (f, g) (n, m, wf, wr, z) in ((omega arith, omega arith), omega arith)
-between_forth South s r t (f, g) (n, m, wf, wr, _) = ((omega arith, omega arith), omega arith)
-between_forth SouthWest s r t (f, g) (n, m, wf, wr, z) = let x = diagonal_SouthWest s r t (f, g) (n, m, wf, wr, z) in ((omega arith, omega arith), omega arith)
-between_forth West s r t (f, g) (n, m, wf, wr, _) = ((omega arith, omega arith), omega arith)
-between_forth NorthWest s r t (f, g) (n, m, wf, wr, z) = let x = diagonal_NorthWest s r t (f, g) (n, m, wf, wr, z) in ((omega arith, omega arith), omega arith)
-
-pub between_back : (d : Direction) (s r t : ℕ) → OnRay d s r → OnRay d s t → Before d t r → IsBetween r t s
-unfolding OnRay IsBetween
-between_back North s r t (f, g) (h, k) l = (omega arith, omega arith, omega arith, omega arith, inl (inl (omega arith), inl (omega arith), inl (omega arith)))
-between_back NorthEast s r t (f, g) (h, k) l = (omega arith, omega arith, omega arith, omega arith, inr (omega arith, omega arith))
-between_back East s r t (f, g) (h, k) l = (omega arith, omega arith, omega arith, omega arith, inl (inr (omega arith), inr (omega arith), inr (omega arith)))
-between_back SouthEast s r t (f, g) (h, k) l = (omega arith, omega arith, omega arith, omega arith, inr (omega arith, omega arith))
-between_back South s r t (f, g) (h, k) l = (omega arith, omega arith, omega arith, omega arith, inl (inl (omega arith), inl (omega arith), inl (omega arith)))
-between_back SouthWest s r t (f, g) (h, k) l = (omega arith, omega arith, omega arith, omega arith, inr (omega arith, omega arith))
-between_back West s r t (f, g) (h, k) l = (omega arith, omega arith, omega arith, omega arith, inl (inr (omega arith), inr (omega arith), inr (omega arith)))
-between_back NorthWest s r t (f, g) (h, k) l = (omega arith, omega arith, omega arith, omega arith, inr (omega arith, omega arith))
 
 -- lines and diagonals are rays
 pub straight_pattern : (d : Direction) (s r : ℕ) → is_straight d ≡ true → OnRay d s r → (r ≢ s) × OnOneLine r s
@@ -83,6 +32,40 @@ diagonal_pattern South s r e _ = absurd (cc)
 diagonal_pattern SouthWest s r _ (f, g) = (omega arith, omega arith)
 diagonal_pattern West s r e _ = absurd (cc)
 diagonal_pattern NorthWest s r _ (f, g) = (omega arith, omega arith)
+
+-- the squares between two of a diagonal are on it
+diagonal_between : (d : Direction) (s r t : ℕ) → is_straight d ≡ false → OnRay d s r → IsBetween r t s → OnOneDiagonal r t
+unfolding IsBetween
+diagonal_between d s r t e o (n, m, wf, wr, z) =
+    let ne : r ≢ s = (diagonal_pattern d s r e o).0 in
+    let on : OnOneDiagonal r s = (diagonal_pattern d s r e o).1 in
+    elim z [
+      | inl c ↦ absurd (elim c [ inl f ↦ omega arith | inr f ↦ omega arith ])
+      | inr (x, y) ↦ x
+    ]
+
+-- the squares between a square of a ray and its start are those of the ray before it
+pub between_forth : (d : Direction) (s r t : ℕ) → OnRay d s r → IsBetween r t s → OnRay d s t × Before d t r
+unfolding OnRay IsBetween
+between_forth North s r t (f, g) (n, m, wf, wr, _) = ((omega arith, omega arith), omega arith)
+between_forth NorthEast s r t (f, g) (n, m, wf, wr, z) = let x = diagonal_between NorthEast s r t refl (f, g) (n, m, wf, wr, z) in ((omega arith, omega arith), omega arith)
+between_forth East s r t (f, g) (n, m, wf, wr, _) = ((omega arith, omega arith), omega arith)
+between_forth SouthEast s r t (f, g) (n, m, wf, wr, z) = let x = diagonal_between SouthEast s r t refl (f, g) (n, m, wf, wr, z) in ((omega arith, omega arith), omega arith)
+between_forth South s r t (f, g) (n, m, wf, wr, _) = ((omega arith, omega arith), omega arith)
+between_forth SouthWest s r t (f, g) (n, m, wf, wr, z) = let x = diagonal_between SouthWest s r t refl (f, g) (n, m, wf, wr, z) in ((omega arith, omega arith), omega arith)
+between_forth West s r t (f, g) (n, m, wf, wr, _) = ((omega arith, omega arith), omega arith)
+between_forth NorthWest s r t (f, g) (n, m, wf, wr, z) = let x = diagonal_between NorthWest s r t refl (f, g) (n, m, wf, wr, z) in ((omega arith, omega arith), omega arith)
+
+pub between_back : (d : Direction) (s r t : ℕ) → OnRay d s r → OnRay d s t → Before d t r → IsBetween r t s
+unfolding OnRay IsBetween
+between_back North s r t (f, g) (h, k) l = (omega arith, omega arith, omega arith, omega arith, inl (inl (omega arith)))
+between_back NorthEast s r t (f, g) (h, k) l = (omega arith, omega arith, omega arith, omega arith, inr (omega arith, omega arith))
+between_back East s r t (f, g) (h, k) l = (omega arith, omega arith, omega arith, omega arith, inl (inr (omega arith)))
+between_back SouthEast s r t (f, g) (h, k) l = (omega arith, omega arith, omega arith, omega arith, inr (omega arith, omega arith))
+between_back South s r t (f, g) (h, k) l = (omega arith, omega arith, omega arith, omega arith, inl (inl (omega arith)))
+between_back SouthWest s r t (f, g) (h, k) l = (omega arith, omega arith, omega arith, omega arith, inr (omega arith, omega arith))
+between_back West s r t (f, g) (h, k) l = (omega arith, omega arith, omega arith, omega arith, inl (inr (omega arith)))
+between_back NorthWest s r t (f, g) (h, k) l = (omega arith, omega arith, omega arith, omega arith, inr (omega arith, omega arith))
 
 pub straight_ray : (s r : ℕ) → r ≢ s → OnOneLine r s → (d : Direction) × (is_straight d ≡ true) × OnRay d s r
 unfolding OnRay
@@ -142,11 +125,11 @@ queen_ray c s r (n, inr e) = let (d, t, o) = diagonal_ray s r n e in (d, refl, o
 pub pawn_near : (c : Color) (r t s : ℕ) → InPattern c Pawn r s → ¬ IsBetween r t s
 unfolding InPattern IsBetween
 pawn_near White r t s (a, b) (n, m, wf, wr, z) = elim z [
-  | inl (x, y, w) ↦ elim w [ inl e ↦ omega arith | inr e ↦ omega arith ]
+  | inl w ↦ elim w [ inl e ↦ omega arith | inr e ↦ omega arith ]
   | inr (x, y) ↦ omega arith
 ]
 pawn_near Black r t s (a, b) (n, m, wf, wr, z) = elim z [
-  | inl (x, y, w) ↦ elim w [ inl e ↦ omega arith | inr e ↦ omega arith ]
+  | inl w ↦ elim w [ inl e ↦ omega arith | inr e ↦ omega arith ]
   | inr (x, y) ↦ omega arith
 ]
 
@@ -154,21 +137,24 @@ pub knight_near : (c : Color) (r t s : ℕ) → InPattern c Knight r s → ¬ Is
 unfolding InPattern IsBetween
 knight_near c r t s p (n, m, wf, wr, z) = elim p [
   | inl (a, b) ↦ elim z [
-    | inl (x, y, w) ↦ elim w [ inl e ↦ omega arith | inr e ↦ omega arith ]
+    | inl w ↦ elim w [ inl e ↦ omega arith | inr e ↦ omega arith ]
     | inr (x, y) ↦ omega arith
   ]
   | inr (a, b) ↦ elim z [
-    | inl (x, y, w) ↦ elim w [ inl e ↦ omega arith | inr e ↦ omega arith ]
+    | inl w ↦ elim w [ inl e ↦ omega arith | inr e ↦ omega arith ]
     | inr (x, y) ↦ omega arith
   ]
 ]
 
+level : (a b c : ℕ) → IsWithin a b c → a ≡ c → a ≡ b
+level a b c w e = omega arith
+
 pub king_near : (c : Color) (r t s : ℕ) → InPattern c King r s → ¬ IsBetween r t s
 unfolding InPattern IsBetween
 king_near c r t s (d, a, b) (n, m, wf, wr, z) = elim z [
-  | inl (x, y, w) ↦ elim w [
-    | inl e ↦ elim x [ inl f ↦ elim y [ inl g ↦ omega arith | inr g ↦ omega arith ] | inr f ↦ omega arith ]
-    | inr e ↦ omega arith
+  | inl w ↦ elim w [
+    | inl e ↦ (let f : file r ≡ file t = level (file r) (file t) (file s) wf e in omega arith)
+    | inr e ↦ (let f : rank r ≡ rank t = level (rank r) (rank t) (rank s) wr e in omega arith)
   ]
   | inr (x, y) ↦ omega arith
 ]

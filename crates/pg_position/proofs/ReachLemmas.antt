@@ -1,39 +1,21 @@
 -- Where a man may capture, by sets of squares. Leads to the contracts of `attacks_from` and `is_clear`.
-use Rattle.std.proofs.Common.{◌≡◌, ℕ, ◌-◌, ◌^◌, ◌<◌, ◌⊎◌, ◌↔◌, IsTrue, inl, inr, Bool, true, false, not, cond, ◌&&◌, None, eqb, refl, sym, ap, ◌∙◌, subst, arith, bit_and, bit_or, w64}
-use Rattle.std.specs.Int.{bit_not}
-use Rattle.std.proofs.lemmas.Nat.Bits.{bit_at_not}
-use Rattle.std.proofs.lemmas.Bool.Decides.{Decides-or, Decides-and, Decides-not, Decides-at, Decides-like}
+use Rattle.std.proofs.Common.{◌≡◌, ℕ, ◌<◌, ◌⊎◌, ◌↔◌, IsTrue, inl, inr, Bool, true, false, not, ◌&&◌, None, refl, sym, ap, ◌∙◌, subst, arith}
 use Rattle.pg_board.specs.declared.man.Color.{Color}
 use Rattle.pg_board.specs.declared.man.Kind.{Kind}
 use Rattle.pg_board.specs.declared.man.Kind.TheVariants.{Pawn, Knight, Bishop, Rook, Queen, King}
 use Rattle.pg_board.specs.Bits.{has, has-and, has-or, bit_has}
-use Rattle.pg_board.specs.Placement.{Placement, get, empty, get-empty}
+use Rattle.pg_board.specs.Placement.{Placement, get, empty}
+use Rattle.pg_board.specs.lemmas.Placements.{get-empty}
 use Rattle.pg_position.specs.declared.direction.Direction.{Direction}
 use Rattle.pg_position.specs.declared.direction.Direction.TheVariants.{North, NorthEast, East, SouthEast, South, SouthWest, West, NorthWest}
 use Rattle.pg_position.specs.Geometry.{OnOneLine, InPattern, IsBetween}
 use Rattle.pg_position.specs.numbers.Rays.{OnRay, Before, IsIn, ascends, slides, is_straight}
-use Rattle.pg_position.specs.SquareSets.{IsSetOf}
+use Rattle.pg_board.specs.SquareSets.{IsSetOf}
+use Rattle.pg_board.proofs.SetLemmas.{set_like, set_of_rest}
 use Rattle.pg_position.specs.Attack.{IsClear, Reaches}
 use Rattle.pg_position.specs.numbers.Lines.{IsBlocked, IsFree, ReachesAlong, ReachesStraight, ReachesDiagonal}
 use Rattle.pg_position.proofs.LineLemmas.{between_forth, between_back, slide_pattern, bishop_ray, rook_ray, queen_ray, pawn_near, knight_near, king_near}
 use Rattle.pg_position.proofs.AttackLemmas.{not_held, held_on}
-
--- ---- sets
-flipped : (b : Bool) → eqb (1 - cond b 1 0) 1 ≡ not b
-flipped true = refl
-flipped false = refl
-
-has-not : (n q : ℕ) → n < 2 ^ 64 → q < 64 → has (bit_not w64 n) q ≡ not (has n q)
-has-not n q l k = ap (λ x. eqb x 1) (bit_at_not w64 n q l k ∙ ap (λ x. 1 - x) (bit_has n q)) ∙ flipped (has n q)
-
-pub set_like : {P Q : ℕ → Type 0} (n : ℕ) → ((q : ℕ) → q < 64 → P q → Q q) → ((q : ℕ) → q < 64 → Q q → P q) → IsSetOf n P → IsSetOf n Q
-set_like n f g h q l = Decides-like (has n q) (f q l) (g q l) (h q l)
-
-pub set_or : {P Q : ℕ → Type 0} (a b : ℕ) → IsSetOf a P → IsSetOf b Q → IsSetOf (bit_or a b) (λ q. P q ⊎ Q q)
-set_or a b f g q l = Decides-at _ _ (has-or a b q) (Decides-or _ _ (f q l) (g q l))
-
-pub set_without : {P Q : ℕ → Type 0} (a b : ℕ) → b < 2 ^ 64 → IsSetOf a P → IsSetOf b Q → IsSetOf (bit_and a (bit_not w64 b)) (λ q. P q × ¬ Q q)
-set_without a b s f g q l = Decides-at _ _ (has-and a (bit_not w64 b) q ∙ ap (λ y. has a q && y) (has-not b q s l)) (Decides-and _ _ (f q l) (Decides-not _ (g q l)))
 
 -- ---- turned round
 unnot : (b : Bool) → not b ≡ true → b ≡ false
@@ -51,7 +33,7 @@ between_turn r t s (n, m, wf, wr, z) = (
   omega arith,
   omega arith,
   elim z [
-    | inl (x, y, w) ↦ inl (line_turn t s y, line_turn r t x, line_turn r s w)
+    | inl w ↦ inl (line_turn r s w)
     | inr (x, y) ↦ inr (omega arith, omega arith)
   ],
 )
@@ -101,12 +83,12 @@ module _ (b : Placement) (d : Direction) (s line : ℕ) (rays : IsSetOf line (On
   unfolding IsFree
   reach_open h = set_like line (λ q l o. (o, λ t k p _. h t k p)) (λ q l r. r.0) rays
 
-  pub reach_blocked : (x past : ℕ) → past < 2 ^ 64 → IsBlocked b d s x → IsSetOf past (OnRay d x) → IsSetOf (bit_and line (bit_not w64 past)) (ReachesAlong b d s)
+  pub reach_blocked : (x past n : ℕ) → IsBlocked b d s x → IsSetOf past (OnRay d x) → ((q : ℕ) → q < 64 → has n q ≡ has line q && not (has past q)) → IsSetOf n (ReachesAlong b d s)
   unfolding IsFree
-  reach_blocked x past fits h beyond = let l : x < 64 = held_on b x h.held in set_like (bit_and line (bit_not w64 past))
+  reach_blocked x past n h beyond rest = let l : x < 64 = held_on b x h.held in set_like n
       (λ q k (o, far). (o, λ t j p bef. h.free t j p (after (ascends d) t q x bef (λ lt. far (beyond_back d s x q h.on o lt)))))
       (λ q k (o, free). (o, λ p. not_held (get b x) h.held (free x l h.on (beyond_forth d s x q h.on p).1)))
-      (set_without line past fits rays beyond)
+      (set_of_rest n line past rest rays beyond)
 
 -- ---- all rays of a man
 along_pattern : (b : Placement) (c : Color) (k : Kind) (d : Direction) (s t : ℕ) → (InPattern c k t s → InPattern c k s t) → slides d k ≡ true → ReachesAlong b d s t → Reaches b c k s t
@@ -117,43 +99,39 @@ along_free : (b : Placement) (d : Direction) (s t : ℕ) → OnRay d s t → IsC
 unfolding IsFree IsClear
 along_free b d s t o cl = (o, λ u l p bef. cl u l (between_turn t u s (between_back d s t u o p bef)))
 
+-- along a ray it is reached straight or diagonally, as the ray goes
+abbrev ReachesAs : Bool → Placement → ℕ → ℕ → Type 0
+ReachesAs true b s t = ReachesStraight b s t
+ReachesAs false b s t = ReachesDiagonal b s t
+
+reaches_as : (b : Placement) (d : Direction) (s t : ℕ) → ReachesAlong b d s t → ReachesAs (is_straight d) b s t
+reaches_as b North s t h = inl (inl (inl h))
+reaches_as b East s t h = inl (inl (inr h))
+reaches_as b South s t h = inl (inr h)
+reaches_as b West s t h = inr h
+reaches_as b NorthEast s t h = inl (inl (inl h))
+reaches_as b SouthEast s t h = inl (inl (inr h))
+reaches_as b SouthWest s t h = inl (inr h)
+reaches_as b NorthWest s t h = inr h
+
 straight_of : (b : Placement) (d : Direction) (s t : ℕ) → is_straight d ≡ true → ReachesAlong b d s t → ReachesStraight b s t
-straight_of b North s t e h = inl (inl (inl h))
-straight_of b East s t e h = inl (inl (inr h))
-straight_of b South s t e h = inl (inr h)
-straight_of b West s t e h = inr h
-straight_of b NorthEast s t e h = absurd (cc)
-straight_of b SouthEast s t e h = absurd (cc)
-straight_of b SouthWest s t e h = absurd (cc)
-straight_of b NorthWest s t e h = absurd (cc)
+straight_of b d s t e h = subst (λ (v : Bool). ReachesAs v b s t) e (reaches_as b d s t h)
 
 diagonal_of : (b : Placement) (d : Direction) (s t : ℕ) → is_straight d ≡ false → ReachesAlong b d s t → ReachesDiagonal b s t
-diagonal_of b NorthEast s t e h = inl (inl (inl h))
-diagonal_of b SouthEast s t e h = inl (inl (inr h))
-diagonal_of b SouthWest s t e h = inl (inr h)
-diagonal_of b NorthWest s t e h = inr h
-diagonal_of b North s t e h = absurd (cc)
-diagonal_of b East s t e h = absurd (cc)
-diagonal_of b South s t e h = absurd (cc)
-diagonal_of b West s t e h = absurd (cc)
+diagonal_of b d s t e h = subst (λ (v : Bool). ReachesAs v b s t) e (reaches_as b d s t h)
+
+along_one : (b : Placement) (s t : ℕ) (v : Bool) (d e f g : Direction) → is_straight d ≡ v → is_straight e ≡ v → is_straight f ≡ v → is_straight g ≡ v
+    → ((ReachesAlong b d s t ⊎ ReachesAlong b e s t) ⊎ ReachesAlong b f s t) ⊎ ReachesAlong b g s t → (x : Direction) × (is_straight x ≡ v) × ReachesAlong b x s t
+along_one b s t v d e f g sd se sf sg (inl (inl (inl h))) = (d, sd, h)
+along_one b s t v d e f g sd se sf sg (inl (inl (inr h))) = (e, se, h)
+along_one b s t v d e f g sd se sf sg (inl (inr h)) = (f, sf, h)
+along_one b s t v d e f g sd se sf sg (inr h) = (g, sg, h)
 
 straight_dir : (b : Placement) (s t : ℕ) → ReachesStraight b s t → (d : Direction) × (is_straight d ≡ true) × ReachesAlong b d s t
-straight_dir b s t h = elim h [
-  | inl x ↦ elim x [
-    | inl y ↦ elim y [ inl z ↦ (North, refl, z) | inr z ↦ (East, refl, z) ]
-    | inr z ↦ (South, refl, z)
-  ]
-  | inr z ↦ (West, refl, z)
-]
+straight_dir b s t h = along_one b s t true North East South West refl refl refl refl h
 
 diagonal_dir : (b : Placement) (s t : ℕ) → ReachesDiagonal b s t → (d : Direction) × (is_straight d ≡ false) × ReachesAlong b d s t
-diagonal_dir b s t h = elim h [
-  | inl x ↦ elim x [
-    | inl y ↦ elim y [ inl z ↦ (NorthEast, refl, z) | inr z ↦ (SouthEast, refl, z) ]
-    | inr z ↦ (SouthWest, refl, z)
-  ]
-  | inr z ↦ (NorthWest, refl, z)
-]
+diagonal_dir b s t h = along_one b s t false NorthEast SouthEast SouthWest NorthWest refl refl refl refl h
 
 module _ (b : Placement) (c : Color) (s n : ℕ) where
   pub reach_rook : IsSetOf n (ReachesStraight b s) → IsSetOf n (Reaches b c Rook s)
@@ -203,7 +181,7 @@ queen_between : (c : Color) (r t s : ℕ) → IsBetween r t s → InPattern c Qu
 unfolding InPattern IsBetween
 queen_between c r t s (n, m, wf, wr, z) = (
   omega arith,
-  elim z [ inl (x, y, w) ↦ inl w | inr (x, y) ↦ inr y ],
+  elim z [ inl w ↦ inl w | inr (x, y) ↦ inr y ],
 )
 
 -- where a queen does not get there, the line is clear only if she would not on the empty board e

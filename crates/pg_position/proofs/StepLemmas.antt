@@ -17,8 +17,9 @@ use Rattle.pg_position.specs.Geometry.{apart, IsForward, InPattern}
 use Rattle.pg_board.specs.Squares.{file, rank}
 use Rattle.pg_board.specs.Men.{other, man}
 use Rattle.pg_board.specs.Placement.{get}
-use Rattle.pg_position.specs.Position.{Stands, IsVacant, king_home, ahead, HasAhead, passed_rank, IsPassed, PassedClause, IsPosition}
-use Rattle.pg_position.specs.Step.{home_rank, king_target, IsEnemy, Goes, IsPlain, IsCapture, IsDoubleAdvance, IsEnPassant, IsCastling, IsWay, after, Step, Legal, IsCause}
+use Rattle.pg_position.specs.Position.{Stands, IsVacant, IsPassed, PassedClause, IsPosition}
+use Rattle.pg_position.specs.Step.{IsEnemy, Goes, IsPlain, IsCapture, IsDoubleAdvance, IsEnPassant, IsCastling, IsWay, after, Step, Legal, IsCause}
+use Rattle.pg_position.specs.Squares.{king_home, ahead, HasAhead, passed_rank, home_rank, king_target}
 
 -- a pawn taken in passing is on the board
 passed_behind : (c : Color) (e : ℕ) → rank e ≡ passed_rank c → HasAhead (other c) 1 e

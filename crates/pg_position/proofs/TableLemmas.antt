@@ -11,8 +11,8 @@ use Rattle.pg_position.specs.declared.ray_tables.TheConstants.{RAYS}
 use Rattle.pg_position.specs.declared.direction.Direction.{Direction}
 use Rattle.pg_position.specs.declared.direction.Direction.TheVariants.{North, NorthEast, East, SouthEast, South, SouthWest, West, NorthWest}
 use Rattle.pg_position.specs.Geometry.{InPattern}
-use Rattle.pg_position.specs.numbers.Rays.{OnRay, place}
-use Rattle.pg_position.specs.SquareSets.{IsSetOf}
+use Rattle.pg_position.specs.numbers.Rays.{OnRay, direction_number}
+use Rattle.pg_board.specs.SquareSets.{IsSetOf}
 use Rattle.pg_position.proofs.PatternTests.{knight_test, king_test, pawn_test, ray_test, knight_decides, king_decides, pawn_decides, ray_decides}
 
 unfoldable all_below : (ℕ → Bool) → ℕ → Bool
@@ -45,7 +45,7 @@ black_pawn_is : is_table (get_or PAWN 1 []) (pawn_test Black) ≡ true
 unfolding is_table all_below bits_below pawn_test
 black_pawn_is = refl
 
-rays_are : (d : Direction) → is_table (get_or RAYS (place d) []) (ray_test d) ≡ true
+rays_are : (d : Direction) → is_table (get_or RAYS (direction_number d) []) (ray_test d) ≡ true
 unfolding is_table all_below bits_below ray_test
 rays_are North = refl
 rays_are NorthEast = refl
@@ -59,27 +59,33 @@ rays_are NorthWest = refl
 decided : {P : ℕ → Type 0} (t : List ℕ) (f : ℕ → ℕ → Bool) → is_table t f ≡ true → (s : ℕ) → s < 64 → ((q : ℕ) → Decides (f s q) (P q)) → IsSetOf (get_or t s 0) P
 decided t f h s l d q k = Decides-at _ _ (entry t f h s q l k) (d q)
 
-pub knights_at : (c : Color) (s : ℕ) → s < 64 → IsSetOf (get_or KNIGHT s 0) (InPattern c Knight s)
+knights_at : (c : Color) (s : ℕ) → s < 64 → IsSetOf (get_or KNIGHT s 0) (InPattern c Knight s)
 knights_at c s l = decided KNIGHT knight_test knight_is s l (knight_decides c s)
 
-pub kings_at : (c : Color) (s : ℕ) → s < 64 → IsSetOf (get_or KING s 0) (InPattern c King s)
+kings_at : (c : Color) (s : ℕ) → s < 64 → IsSetOf (get_or KING s 0) (InPattern c King s)
 kings_at c s l = decided KING king_test king_is s l (king_decides c s)
 
-pub white_pawns_at : (s : ℕ) → s < 64 → IsSetOf (get_or (get_or PAWN 0 []) s 0) (InPattern White Pawn s)
+white_pawns_at : (s : ℕ) → s < 64 → IsSetOf (get_or (get_or PAWN 0 []) s 0) (InPattern White Pawn s)
 white_pawns_at s l = decided (get_or PAWN 0 []) (pawn_test White) white_pawn_is s l (pawn_decides White s)
 
-pub black_pawns_at : (s : ℕ) → s < 64 → IsSetOf (get_or (get_or PAWN 1 []) s 0) (InPattern Black Pawn s)
+black_pawns_at : (s : ℕ) → s < 64 → IsSetOf (get_or (get_or PAWN 1 []) s 0) (InPattern Black Pawn s)
 black_pawns_at s l = decided (get_or PAWN 1 []) (pawn_test Black) black_pawn_is s l (pawn_decides Black s)
 
-pub rays_at : (d : Direction) (s : ℕ) → s < 64 → IsSetOf (get_or (get_or RAYS (place d) []) s 0) (OnRay d s)
-rays_at d s l = decided (get_or RAYS (place d) []) (ray_test d) (rays_are d) s l (ray_decides d s)
+rays_at : (d : Direction) (s : ℕ) → s < 64 → IsSetOf (get_or (get_or RAYS (direction_number d) []) s 0) (OnRay d s)
+rays_at d s l = decided (get_or RAYS (direction_number d) []) (ray_test d) (rays_are d) s l (ray_decides d s)
 
--- for the two tables of tables, with equations
+-- ---- the same with equations
+pub knights_from : (c : Color) (s i : ℕ) → i ≡ s → s < 64 → IsSetOf (get_or KNIGHT i 0) (InPattern c Knight s)
+knights_from c s i f l = subst (λ (x : ℕ). IsSetOf (get_or KNIGHT x 0) (InPattern c Knight s)) (sym f) (knights_at c s l)
+
+pub kings_from : (c : Color) (s i : ℕ) → i ≡ s → s < 64 → IsSetOf (get_or KING i 0) (InPattern c King s)
+kings_from c s i f l = subst (λ (x : ℕ). IsSetOf (get_or KING x 0) (InPattern c King s)) (sym f) (kings_at c s l)
+
 pub white_pawns_from : (c : Color) (s i : ℕ) → c ≡ White → i ≡ s → s < 64 → IsSetOf (get_or (get_or PAWN 0 []) i 0) (InPattern c Pawn s)
 white_pawns_from c s i e f l = subst (λ (x : Color). IsSetOf (get_or (get_or PAWN 0 []) i 0) (InPattern x Pawn s)) (sym e) (subst (λ (x : ℕ). IsSetOf (get_or (get_or PAWN 0 []) x 0) (InPattern White Pawn s)) (sym f) (white_pawns_at s l))
 
 pub black_pawns_from : (c : Color) (s i : ℕ) → c ≡ Black → i ≡ s → s < 64 → IsSetOf (get_or (get_or PAWN 1 []) i 0) (InPattern c Pawn s)
 black_pawns_from c s i e f l = subst (λ (x : Color). IsSetOf (get_or (get_or PAWN 1 []) i 0) (InPattern x Pawn s)) (sym e) (subst (λ (x : ℕ). IsSetOf (get_or (get_or PAWN 1 []) x 0) (InPattern Black Pawn s)) (sym f) (black_pawns_at s l))
 
-pub rays_from : (d : Direction) (s i p : ℕ) → p ≡ place d → i ≡ s → s < 64 → IsSetOf (get_or (get_or RAYS p []) i 0) (OnRay d s)
-rays_from d s i p e f l = subst (λ (x : ℕ). IsSetOf (get_or (get_or RAYS x []) i 0) (OnRay d s)) (sym e) (subst (λ (x : ℕ). IsSetOf (get_or (get_or RAYS (place d) []) x 0) (OnRay d s)) (sym f) (rays_at d s l))
+pub rays_from : (d : Direction) (s i p : ℕ) → p ≡ direction_number d → i ≡ s → s < 64 → IsSetOf (get_or (get_or RAYS p []) i 0) (OnRay d s)
+rays_from d s i p e f l = subst (λ (x : ℕ). IsSetOf (get_or (get_or RAYS x []) i 0) (OnRay d s)) (sym e) (subst (λ (x : ℕ). IsSetOf (get_or (get_or RAYS (direction_number d) []) x 0) (OnRay d s)) (sym f) (rays_at d s l))

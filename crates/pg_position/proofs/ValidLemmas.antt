@@ -10,7 +10,8 @@ use Rattle.pg_position.specs.declared.rights.Wing.TheVariants.{KingSide, QueenSi
 use Rattle.pg_board.specs.declared.man.Man.{Man}
 use Rattle.pg_board.specs.Squares.{rank}
 use Rattle.pg_board.specs.Men.{other, man}
-use Rattle.pg_board.specs.Placement.{Placement as Board, get, write, get-write_same, get-write_other}
+use Rattle.pg_board.specs.Placement.{Placement as Board, get, write}
+use Rattle.pg_board.specs.lemmas.Placements.{get-write_same, get-write_other}
 use Rattle.pg_position.specs.declared.rights.Rights.{Rights}
 use Rattle.pg_position.specs.declared.state.State.{State}
 use Rattle.pg_position.specs.declared.moves.Move.{Move}
@@ -18,8 +19,9 @@ use Rattle.pg_position.specs.declared.moves.Way.{Way}
 use Rattle.pg_position.specs.declared.moves.Way.TheVariants.{Plain, Capture, DoubleAdvance, EnPassant, Promotion, Castling}
 use Rattle.pg_position.specs.Geometry.{IsForward, InPattern, IsBetween}
 use Rattle.pg_position.specs.Attack.{IsClear, Reaches, AttacksFrom, Attacks}
-use Rattle.pg_position.specs.Position.{Stands, IsVacant, IsOnlyKing, HasOneKing, InCheck, king_home, rook_home, holds, ahead, passed_rank, PawnsClause, IsHome, RightsClause, IsPassed, IsPosition}
-use Rattle.pg_position.specs.Step.{home_rank, last_rank, king_crossed, king_target, IsEnemy, Goes, IsPlain, IsCapture, IsDoubleAdvance, IsEnPassant, IsWay, relocated, board_after, passed_after, keeps, rights_after, after, Step}
+use Rattle.pg_position.specs.Position.{Stands, IsVacant, IsOnlyKing, HasOneKing, InCheck, holds, PawnsClause, IsHome, RightsClause, IsPassed, IsPosition}
+use Rattle.pg_position.specs.Step.{IsEnemy, Goes, IsPlain, IsCapture, IsDoubleAdvance, IsEnPassant, IsWay, relocated, board_after, passed_after, keeps, rights_after, after, Step}
+use Rattle.pg_position.specs.Squares.{king_home, rook_home, ahead, passed_rank, home_rank, last_rank, king_crossed, king_target}
 use Rattle.pg_position.proofs.StepLemmas.{same_kind, same_side, not_other, some_none}
 
 written : (b : Board) (s : ℕ) (o : Option Man) → s < 64 → get (write b s o) s ≡ o
@@ -114,10 +116,10 @@ passed_fine Black s h = (omega arith, omega arith)
 
 pub castle_between : (c : Color) (w : Wing) → IsBetween (king_home c) (king_crossed c w) (rook_home c w) × IsBetween (king_home c) (king_target c w) (rook_home c w)
 unfolding IsBetween
-castle_between White KingSide = ((omega arith, omega arith, refl, refl, inl (inr refl, inr refl, inr refl)), (omega arith, omega arith, refl, refl, inl (inr refl, inr refl, inr refl)))
-castle_between White QueenSide = ((omega arith, omega arith, refl, refl, inl (inr refl, inr refl, inr refl)), (omega arith, omega arith, refl, refl, inl (inr refl, inr refl, inr refl)))
-castle_between Black KingSide = ((omega arith, omega arith, refl, refl, inl (inr refl, inr refl, inr refl)), (omega arith, omega arith, refl, refl, inl (inr refl, inr refl, inr refl)))
-castle_between Black QueenSide = ((omega arith, omega arith, refl, refl, inl (inr refl, inr refl, inr refl)), (omega arith, omega arith, refl, refl, inl (inr refl, inr refl, inr refl)))
+castle_between White KingSide = ((omega arith, omega arith, refl, refl, inl (inr refl)), (omega arith, omega arith, refl, refl, inl (inr refl)))
+castle_between White QueenSide = ((omega arith, omega arith, refl, refl, inl (inr refl)), (omega arith, omega arith, refl, refl, inl (inr refl)))
+castle_between Black KingSide = ((omega arith, omega arith, refl, refl, inl (inr refl)), (omega arith, omega arith, refl, refl, inl (inr refl)))
+castle_between Black QueenSide = ((omega arith, omega arith, refl, refl, inl (inr refl)), (omega arith, omega arith, refl, refl, inl (inr refl)))
 
 pub record CastleSquares (c : Color) (w : Wing) : Type 0 where
   pub home_low : king_home c < 64
@@ -176,7 +178,7 @@ unfolding IsEnemy InCheck Attacks AttacksFrom
 no_king_hit p k m mv (j, there) hits c king =
     let is_king : j ≡ King = same_kind there king in
     let enemy_king : Stands p.board (other p.side) King m.to = rw is_king at there in
-    let hit : Attacks p.board p.side m.to = (m.from, mv.from_low, (man p.side k, mv.stands, refl, hits.0, hits.1)) in
+    let hit : Attacks p.board p.side m.to = (m.from, mv.from_low, (k, mv.stands, hits)) in
     let hit' : Attacks p.board (other (other p.side)) m.to = subst (λ (x : Color). Attacks p.board x m.to) (sym (other_other p.side)) hit in
     mv.pos.safe (m.to, mv.to_low, enemy_king, hit')
 

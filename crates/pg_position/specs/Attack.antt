@@ -2,7 +2,7 @@
 use Rattle.std.specs.Prelude.{◌≡◌, ℕ, ◌<◌, Some, None}
 use Rattle.pg_board.specs.declared.man.Color.{Color}
 use Rattle.pg_board.specs.declared.man.Kind.{Kind}
-use Rattle.pg_board.specs.declared.man.Man.{Man}
+use Rattle.pg_board.specs.Men.{man}
 use Rattle.pg_board.specs.Placement.{Placement, get}
 use Rattle.pg_position.specs.Geometry.{InPattern, IsBetween}
 
@@ -14,9 +14,9 @@ IsClear b r s = (t : ℕ) → t < 64 → IsBetween r t s → get b t ≡ None
 abbrev pub Reaches : Placement → Color → Kind → ℕ → ℕ → Type 0
 Reaches b c k r s = InPattern c k r s × IsClear b r s
 
--- the man on r attacks s: it is of this colour, has s in its pattern from r, and nothing stands between
+-- a man of this colour stands on r and may capture on s
 unfoldable pub AttacksFrom : Placement → Color → ℕ → ℕ → Type 0
-AttacksFrom b c r s = (m : Man) × (get b r ≡ Some m) × (m.color ≡ c) × InPattern m.color m.kind r s × IsClear b r s
+AttacksFrom b c r s = (k : Kind) × (get b r ≡ Some (man c k)) × Reaches b c k r s
 
 -- the colour attacks s: some man of it does
 unfoldable pub Attacks : Placement → Color → ℕ → Type 0

@@ -36,6 +36,8 @@ InPattern c King r s = (r ≢ s) × (apart (file r) (file s) ≤ 1) × (apart (r
 abbrev pub IsWithin : ℕ → ℕ → ℕ → Type 0
 IsWithin a b c = apart a b + apart b c ≡ apart a c
 
--- t is strictly between r and s: on one line or diagonal with both, and between them in file and in rank
+-- t is strictly between r and s, on their line or diagonal: between them in file and in rank, and on a diagonal on it too
 unfoldable pub IsBetween : ℕ → ℕ → ℕ → Type 0
-IsBetween r t s = (t ≢ r) × (t ≢ s) × IsWithin (file r) (file t) (file s) × IsWithin (rank r) (rank t) (rank s) × ((OnOneLine r t × OnOneLine t s × OnOneLine r s) ⊎ (OnOneDiagonal r t × OnOneDiagonal r s))
+IsBetween r t s =
+    (t ≢ r) × (t ≢ s) × IsWithin (file r) (file t) (file s) × IsWithin (rank r) (rank t) (rank s)
+    × (OnOneLine r s ⊎ (OnOneDiagonal r t × OnOneDiagonal r s))

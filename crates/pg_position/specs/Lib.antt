@@ -1,11 +1,12 @@
 pub mod Geometry
 pub mod Attack
+pub mod Squares
 pub mod Position
 pub mod Array
 pub mod Step
 pub mod Game
 pub mod Future
 pub mod Equality
-pub mod SquareSets
 pub mod Order
+pub mod lemmas
 pub mod numbers

@@ -1,5 +1,5 @@
 -- What makes a state a position: a placement, a side to move, castling rights and a passed square that meet five clauses.
-use Rattle.std.specs.Prelude.{◌≡◌, ◌≢◌, ℕ, ◌+◌, ◌-◌, ◌*◌, ◌<◌, ◌≤◌, Option, Some, None, Bool, true}
+use Rattle.std.specs.Prelude.{◌≡◌, ◌≢◌, ℕ, ◌<◌, Option, Some, None, Bool, true}
 use Rattle.pg_board.specs.declared.man.Color.{Color}
 use Rattle.pg_board.specs.declared.man.Color.TheVariants.{White, Black}
 use Rattle.pg_board.specs.declared.man.Kind.{Kind}
@@ -14,6 +14,7 @@ use Rattle.pg_position.specs.declared.state.State.{State}
 use Rattle.pg_position.specs.declared.refusals.BadPosition.{BadPosition}
 use Rattle.pg_position.specs.declared.refusals.BadPosition.TheVariants.{Kings, PawnRank, Rights as BadRights, EnPassant, Check}
 use Rattle.pg_position.specs.Attack.{Attacks}
+use Rattle.pg_position.specs.Squares.{king_home, rook_home, ahead, passed_rank}
 
 -- this man stands on the square
 abbrev pub Stands : Placement → Color → Kind → ℕ → Type 0
@@ -35,38 +36,12 @@ HasOneKing b c = (k : ℕ) × IsOnlyKing b c k
 unfoldable pub InCheck : Placement → Color → Type 0
 InCheck b c = (k : ℕ) × (k < 64) × Stands b c King k × Attacks b (other c) k
 
--- the squares where a game begins with the king, and with the rook of each wing (FIDE 2.3): e1, h1, a1, e8, h8, a8
-abbrev pub king_home : Color → ℕ
-king_home White = 4
-king_home Black = 60
-
-abbrev pub rook_home : Color → Wing → ℕ
-rook_home White KingSide = 7
-rook_home White QueenSide = 0
-rook_home Black KingSide = 63
-rook_home Black QueenSide = 56
-
 -- whether a right to castle is held
 abbrev pub holds : Rights → Color → Wing → Bool
 holds r White KingSide = r.white_king
 holds r White QueenSide = r.white_queen
 holds r Black KingSide = r.black_king
 holds r Black QueenSide = r.black_queen
-
--- the square n ranks forward
-abbrev pub ahead : Color → ℕ → ℕ → ℕ
-ahead White n s = s + 8 * n
-ahead Black n s = s - 8 * n
-
--- the square n ranks forward is on the board
-abbrev pub HasAhead : Color → ℕ → ℕ → Type 0
-HasAhead White n s = s + 8 * n < 64
-HasAhead Black n s = 8 * n ≤ s
-
--- the rank of a passed square, with this colour to move
-abbrev pub passed_rank : Color → ℕ
-passed_rank White = 6
-passed_rank Black = 3
 
 -- a state of these parts
 abbrev pub parts : Placement → Color → Rights → Option ℕ → State

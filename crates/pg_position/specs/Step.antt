@@ -18,29 +18,8 @@ use Rattle.pg_position.specs.declared.refusals.Illegal.{Illegal}
 use Rattle.pg_position.specs.declared.refusals.Illegal.TheVariants.{EmptyFrom, OtherSide, NotAMove, LeavesCheck}
 use Rattle.pg_position.specs.Geometry.{IsForward, InPattern}
 use Rattle.pg_position.specs.Attack.{IsClear, Reaches, Attacks}
-use Rattle.pg_position.specs.Position.{parts, Stands, IsVacant, InCheck, king_home, rook_home, holds, ahead}
-
--- where the colour's pawns begin, and where they promote
-abbrev pub home_rank : Color → ℕ
-home_rank White = 2
-home_rank Black = 7
-
-abbrev pub last_rank : Color → ℕ
-last_rank White = 8
-last_rank Black = 1
-
--- the square that the king crosses as it castles: f1, d1, f8, d8; and where it goes: g1, c1, g8, c8 (FIDE 3.8.2)
-abbrev pub king_crossed : Color → Wing → ℕ
-king_crossed White KingSide = 5
-king_crossed White QueenSide = 3
-king_crossed Black KingSide = 61
-king_crossed Black QueenSide = 59
-
-abbrev pub king_target : Color → Wing → ℕ
-king_target White KingSide = 6
-king_target White QueenSide = 2
-king_target Black KingSide = 62
-king_target Black QueenSide = 58
+use Rattle.pg_position.specs.Position.{parts, Stands, IsVacant, InCheck, holds}
+use Rattle.pg_position.specs.Squares.{king_home, rook_home, ahead, home_rank, last_rank, king_crossed, king_target}
 
 -- a man of the other colour stands there
 unfoldable pub IsEnemy : Placement → Color → ℕ → Type 0

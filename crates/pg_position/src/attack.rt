@@ -4,13 +4,12 @@ ghost use Rattle.pg_board.specs.Men.{man};
 ghost use Rattle.pg_board.specs.Placement.{get};
 ghost use Rattle.pg_position.specs.numbers.Rays.{OnRay};
 ghost use Rattle.pg_position.specs.Attack.{Attacks};
-ghost use Rattle.pg_position.specs.SquareSets.{IsSetOf};
+ghost use Rattle.pg_board.specs.SquareSets.{IsSetOf};
 ghost use Rattle.pg_position.specs.numbers.Lines.{AttackedBy, AttackedAlong, IsBlocked, ByStep, Straight, Diagonal};
 
 use crate::direction::Direction;
 use crate::masks::{king_mask, knight_mask, pawn_mask, ray};
-use crate::square_sets::meets;
-use pg_board::{Board, Color, Kind, Man, Square, contains};
+use pg_board::{Board, Color, Kind, Man, Square, SquareSet};
 
 // The man of a colour and a kind.
 pub(crate) fn man(color: Color, kind: Kind) -> Man
@@ -24,25 +23,23 @@ pub(crate) fn blocker(board: &Board, direction: Direction, square: Square) -> Op
     ensures { MatchOption result ((t : ℕ) → t < 64 → OnRay direction square t → get board.now t ≡ None) (λ x. IsBlocked board.now direction square x) }
 {
     let blockers = ray(direction, square) & board.occupied();
-    if blockers == 0 {
-        None
-    } else if direction.ascends() {
-        Some(Square::at(blockers.trailing_zeros() as u8))
+    if direction.ascends() {
+        blockers.first()
     } else {
-        Some(Square::at((63 - blockers.leading_zeros()) as u8))
+        blockers.last()
     }
 }
 
 fn knight_attacks(board: &Board, square: Square, by: Color) -> bool
     ensures { IsTrue result ↔ AttackedBy board.now (man by Kind.Knight) square }
 {
-    meets(knight_mask(square), board.squares_of(man(by, Kind::Knight)))
+    knight_mask(square).meets(board.squares_of(man(by, Kind::Knight)))
 }
 
 fn king_attacks(board: &Board, square: Square, by: Color) -> bool
     ensures { IsTrue result ↔ AttackedBy board.now (man by Kind.King) square }
 {
-    meets(king_mask(square), board.squares_of(man(by, Kind::King)))
+    king_mask(square).meets(board.squares_of(man(by, Kind::King)))
 }
 
 // Whether a pawn of the colour attacks the square: it does from where a pawn of the other colour on
@@ -50,10 +47,7 @@ fn king_attacks(board: &Board, square: Square, by: Color) -> bool
 pub(crate) fn pawn_attacks(board: &Board, square: Square, by: Color) -> bool
     ensures { IsTrue result ↔ AttackedBy board.now (man by Kind.Pawn) square }
 {
-    meets(
-        pawn_mask(by.other(), square),
-        board.squares_of(man(by, Kind::Pawn)),
-    )
+    pawn_mask(by.other(), square).meets(board.squares_of(man(by, Kind::Pawn)))
 }
 
 // Whether a man that stands in this direction attacks the square along it.
@@ -62,9 +56,10 @@ fn attacked_along(board: &Board, direction: Direction, square: Square, by: Color
 {
     match blocker(board, direction, square) {
         Some(first) => {
-            let i = first.index();
-            contains(board.squares_of(man(by, direction.slider())), i)
-                || contains(board.squares_of(man(by, Kind::Queen)), i)
+            board
+                .squares_of(man(by, direction.slider()))
+                .contains(first)
+                || board.squares_of(man(by, Kind::Queen)).contains(first)
         }
         None => false,
     }
@@ -80,14 +75,14 @@ fn attacked_by_step(board: &Board, square: Square, by: Color) -> bool
 }
 
 // The men of the colour that are of the kind or queens.
-fn sliders(board: &Board, by: Color, kind: Kind) -> u64
+fn sliders(board: &Board, by: Color, kind: Kind) -> SquareSet
     ensures { IsSetOf result (λ q. (get board.now q ≡ Some (man by kind)) ⊎ (get board.now q ≡ Some (man by Kind.Queen))) }
 {
     board.squares_of(man(by, kind)) | board.squares_of(man(by, Kind::Queen))
 }
 
 // The other squares of the file and the rank.
-fn straight_lines(square: Square) -> u64
+fn straight_lines(square: Square) -> SquareSet
     ensures { IsSetOf result (λ q. ((OnRay Direction.North square q ⊎ OnRay Direction.East square q) ⊎ OnRay Direction.South square q) ⊎ OnRay Direction.West square q) }
 {
     ray(Direction::North, square)
@@ -97,7 +92,7 @@ fn straight_lines(square: Square) -> u64
 }
 
 // The other squares of the two diagonals.
-fn diagonal_lines(square: Square) -> u64
+fn diagonal_lines(square: Square) -> SquareSet
     ensures { IsSetOf result (λ q. ((OnRay Direction.NorthEast square q ⊎ OnRay Direction.SouthEast square q) ⊎ OnRay Direction.SouthWest square q) ⊎ OnRay Direction.NorthWest square q) }
 {
     ray(Direction::NorthEast, square)
@@ -110,7 +105,7 @@ fn diagonal_lines(square: Square) -> u64
 fn attacked_straight(board: &Board, square: Square, by: Color) -> bool
     ensures { IsTrue result ↔ Straight board.now by square }
 {
-    if !meets(straight_lines(square), sliders(board, by, Kind::Rook)) {
+    if !straight_lines(square).meets(sliders(board, by, Kind::Rook)) {
         return false;
     }
     attacked_along(board, Direction::North, square, by)
@@ -123,7 +118,7 @@ fn attacked_straight(board: &Board, square: Square, by: Color) -> bool
 fn attacked_diagonal(board: &Board, square: Square, by: Color) -> bool
     ensures { IsTrue result ↔ Diagonal board.now by square }
 {
-    if !meets(diagonal_lines(square), sliders(board, by, Kind::Bishop)) {
+    if !diagonal_lines(square).meets(sliders(board, by, Kind::Bishop)) {
         return false;
     }
     attacked_along(board, Direction::NorthEast, square, by)

@@ -8,7 +8,6 @@ ghost use Rattle.pg_position.specs.Step.{IsEnemy, Goes, relocated};
 
 use crate::attack::{attacked, man};
 use crate::reaching::reaches;
-use crate::square_sets::first_from;
 use crate::state::State;
 use pg_board::{Board, Color, Kind, Man, Square};
 
@@ -78,7 +77,7 @@ pub(crate) fn in_check(board: &Board, color: Color) -> bool
 {
     let kings = board.squares_of(man(color, Kind::King));
     let mut from = 0;
-    while let Some(king) = first_from(kings, from) {
+    while let Some(king) = kings.first_from(from) {
         if attacked(board, king, color.other()) {
             return true;
         }

@@ -13,7 +13,7 @@ use crate::reaching::reaches;
 use crate::rights::Wing;
 use crate::squares::{ahead, home_rank, king_home, king_target, must_promote};
 use crate::state::State;
-use pg_board::{Color, Kind, Square, contains};
+use pg_board::{Color, Kind};
 
 pub(crate) fn is_plain(state: &State, kind: Kind, m: &Move) -> bool
     ensures { IsTrue result ↔ IsPlain state.now kind m.now }
@@ -51,7 +51,7 @@ pub(crate) fn is_en_passant(state: &State, kind: Kind, m: &Move) -> bool
     m.promotion.is_none()
         && kind == Kind::Pawn
         && state.passed == Some(m.to)
-        && contains(pawn_mask(state.side, m.from), m.to.index())
+        && pawn_mask(state.side, m.from).contains(m.to)
 }
 
 pub(crate) fn is_promotion(state: &State, kind: Kind, m: &Move, piece: Kind) -> bool

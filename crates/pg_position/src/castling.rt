@@ -3,30 +3,30 @@ ghost use Rattle.std.specs.Prelude.{◌≡◌, ◌<◌, ℕ, ◌↔◌, IsTrue, 
 ghost use Rattle.pg_board.specs.Men.{other};
 ghost use Rattle.pg_position.specs.Attack.{Attacks, IsClear};
 ghost use Rattle.pg_position.specs.Geometry.{IsBetween};
-ghost use Rattle.pg_position.specs.Position.{holds, king_home, rook_home};
-ghost use Rattle.pg_position.specs.SquareSets.{IsSetOf};
-ghost use Rattle.pg_position.specs.Step.{IsCastling, king_crossed, king_target};
+ghost use Rattle.pg_position.specs.Position.{holds};
+ghost use Rattle.pg_board.specs.SquareSets.{IsSetOf};
+ghost use Rattle.pg_position.specs.Step.{IsCastling};
+ghost use Rattle.pg_position.specs.Squares.{king_home, rook_home, king_crossed, king_target};
 ghost use Rattle.pg_position.specs.declared.rights.Wing.{Wing};
 
 use crate::attack::attacked;
 use crate::rights::Wing;
-use crate::square_sets::{meets, single};
 use crate::squares::{king_crossed, king_home, king_target};
 use crate::state::State;
-use pg_board::{Board, Color, Kind};
+use pg_board::{Board, Color, Kind, SquareSet};
 
 // The squares between the king's home and the rook's.
-fn path(color: Color, wing: Wing) -> u64
+fn path(color: Color, wing: Wing) -> SquareSet
     ensures { IsSetOf result (λ t. IsBetween (king_home color) t (rook_home color wing)) }
 {
     match color {
         Color::White => match wing {
-            Wing::KingSide => 0x60,
-            Wing::QueenSide => 0x0e,
+            Wing::KingSide => SquareSet::of_bits(0x60),
+            Wing::QueenSide => SquareSet::of_bits(0x0e),
         },
         Color::Black => match wing {
-            Wing::KingSide => 0x6000_0000_0000_0000,
-            Wing::QueenSide => 0x0e00_0000_0000_0000,
+            Wing::KingSide => SquareSet::of_bits(0x6000_0000_0000_0000),
+            Wing::QueenSide => SquareSet::of_bits(0x0e00_0000_0000_0000),
         },
     }
 }
@@ -35,7 +35,7 @@ fn path(color: Color, wing: Wing) -> u64
 fn is_path_clear(board: &Board, color: Color, wing: Wing) -> bool
     ensures { IsTrue result ↔ IsClear board.now (king_home color) (rook_home color wing) }
 {
-    !meets(path(color, wing), board.occupied())
+    !path(color, wing).meets(board.occupied())
 }
 
 impl State {
@@ -55,28 +55,28 @@ impl State {
             && !attacked(&self.board, king_target(self.side, wing), by)
     }
 
-    // Where the king goes towards a wing whose way is open, as a set.
-    fn target_if_safe(&self, way: bool, wing: Wing) -> u64
+    // Where the king goes towards a wing whose way is open.
+    fn target_if_safe(&self, way: bool, wing: Wing) -> SquareSet
         ensures { IsSetOf result (λ q. (q ≡ king_target self.now.side wing) × (way ≡ true) × (¬ Attacks self.now.board (other self.now.side) (king_crossed self.now.side wing)) × (¬ Attacks self.now.board (other self.now.side) (king_target self.now.side wing))) }
     {
         if way && self.is_castling_safe(wing) {
-            single(king_target(self.side, wing))
+            SquareSet::single(king_target(self.side, wing))
         } else {
-            0
+            SquareSet::empty()
         }
     }
 
     // The squares to which the king castles.
-    pub(crate) fn castling_targets(&self) -> u64
+    pub(crate) fn castling_targets(&self) -> SquareSet
         ensures { IsSetOf result (λ q. (w : Wing) × IsCastling self.now Kind.King (record { from = king_home self.now.side; to = q; promotion = None }) w) }
     {
         let short = self.is_castling_open(Wing::KingSide);
         let long = self.is_castling_open(Wing::QueenSide);
         if !short && !long {
-            return 0;
+            return SquareSet::empty();
         }
         if attacked(&self.board, king_home(self.side), self.side.other()) {
-            return 0;
+            return SquareSet::empty();
         }
         self.target_if_safe(short, Wing::KingSide) | self.target_if_safe(long, Wing::QueenSide)
     }

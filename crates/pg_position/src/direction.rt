@@ -1,6 +1,6 @@
 //! The eight directions in which men move along lines.
 ghost use Rattle.std.specs.Prelude.{◌≡◌, ◌↔◌, ◌⊎◌, true, false};
-ghost use Rattle.pg_position.specs.numbers.Rays.{place, is_straight, ascends, slides};
+ghost use Rattle.pg_position.specs.numbers.Rays.{direction_number, is_straight, ascends, slides};
 
 use pg_board::Kind;
 
@@ -21,7 +21,7 @@ pub enum Direction {
 impl Direction {
     // The place in the table of rays, 0 to 7.
     pub(crate) fn place(self) -> usize
-        ensures { result ≡ place self }
+        ensures { result ≡ direction_number self }
     {
         self as usize
     }

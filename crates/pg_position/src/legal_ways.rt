@@ -1,8 +1,9 @@
 //! The case of a move that is known to be legal, with no more tests than tell the cases apart.
 ghost use Rattle.std.specs.Prelude.{◌≡◌, ◌≢◌, ◌+◌, ◌⊎◌, ◌↔◌, IsTrue, None};
 ghost use Rattle.pg_board.specs.Squares.{file, rank};
-ghost use Rattle.pg_position.specs.Position.{IsPosition, king_home};
-ghost use Rattle.pg_position.specs.Step.{IsWay, king_target};
+ghost use Rattle.pg_position.specs.Position.{IsPosition};
+ghost use Rattle.pg_position.specs.Step.{IsWay};
+ghost use Rattle.pg_position.specs.Squares.{king_home, king_target};
 
 use crate::boards::is_vacant;
 use crate::moves::{Move, Way};

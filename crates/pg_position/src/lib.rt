@@ -21,7 +21,6 @@ mod ray_tables;
 mod reaching;
 mod refusals;
 mod rights;
-mod square_sets;
 mod squares;
 mod state;
 mod steps;
@@ -36,7 +35,6 @@ pub use position::Position;
 pub use reaching::{attacks_from, is_clear, reaches};
 pub use refusals::{BadPosition, Illegal};
 pub use rights::{Rights, Wing};
-pub use square_sets::first_from;
 pub use squares::{
     ahead, has_ahead, home_rank, king_crossed, king_home, king_target, last_rank, must_promote,
     passed_rank, rook_home,

@@ -2,13 +2,15 @@ ghost use Rattle.std.specs.Prelude.{◌≡◌, ℕ, ◌<◌, ◌↔◌, IsTrue, 
 ghost use Rattle.std.specs.Cmp.{partial_equiv_from_equiv, decided};
 ghost use Rattle.pg_position.specs.Attack.{Attacks};
 ghost use Rattle.pg_position.specs.Array.{array_state};
-ghost use Rattle.pg_position.specs.Position.{parts, InCheck, IsPosition, IsFirstBroken, king_home};
-ghost use Rattle.pg_position.specs.SquareSets.{IsSetOf};
+ghost use Rattle.pg_position.specs.Position.{parts, InCheck, IsPosition, IsFirstBroken};
+ghost use Rattle.pg_position.specs.Squares.{king_home};
+ghost use Rattle.pg_board.specs.SquareSets.{IsSetOf};
 ghost use Rattle.pg_position.specs.Step.{Legal, IsCause, IsCastling};
 ghost use Rattle.pg_board.specs.declared.man.Kind.TheVariants.{King};
 ghost use Rattle.pg_position.specs.declared.rights.Wing.{Wing};
 ghost use Rattle.pg_position.specs.Future.{SameFuture};
-ghost use Rattle.pg_position.specs.Equality.{state_eq, state_eq_decides};
+ghost use Rattle.pg_position.specs.Equality.{state_eq};
+ghost use Rattle.pg_position.specs.lemmas.Equalities.{state_eq_decides};
 ghost use Rattle.pg_position.specs.declared.state.State.{State};
 
 use crate::array::array_board;
@@ -20,7 +22,7 @@ use crate::moves::Move;
 use crate::refusals::{BadPosition, Illegal};
 use crate::rights::Rights;
 use crate::state::State;
-use pg_board::{Board, Color, Square};
+use pg_board::{Board, Color, Square, SquareSet};
 use std::marker::Model;
 
 /// A chess position: a board, the side to move, the rights to castle and the passed square, a
@@ -193,10 +195,10 @@ impl Position {
         }
     }
 
-    /// The squares to which the king castles, as a set of bits: the right is held, no man stands between
-    /// king and rook, and the king's square, the one that he crosses and the one that he comes to are not
-    /// attacked (FIDE article 3.8.2).
-    pub fn castling_targets(&self) -> u64
+    /// The squares to which the king castles: the right is held, no man stands between king and rook, and
+    /// the king's square, the one that he crosses and the one that he comes to are not attacked (FIDE
+    /// article 3.8.2).
+    pub fn castling_targets(&self) -> SquareSet
         ensures { IsSetOf result (λ q. (w : Wing) × IsCastling self.now King (record { from = king_home self.now.side; to = q; promotion = None }) w) }
     {
         self.state.castling_targets()

@@ -1,26 +1,26 @@
-//! Where a man may capture, and whether a line is clear. Sets of squares have bit q for the square q.
+//! Where a man may capture, and whether a line is clear.
 ghost use Rattle.std.specs.Prelude.{◌≡◌, ℕ, ◌<◌, ◌⊎◌, ◌↔◌, IsTrue};
-ghost use Rattle.pg_position.specs.SquareSets.{IsSetOf};
+ghost use Rattle.pg_board.specs.SquareSets.{IsSetOf};
 ghost use Rattle.pg_position.specs.Attack.{IsClear, Reaches};
 ghost use Rattle.pg_position.specs.numbers.Lines.{ReachesAlong, ReachesStraight, ReachesDiagonal};
 
 use crate::attack::blocker;
 use crate::direction::Direction;
 use crate::masks::{king_mask, knight_mask, pawn_mask, ray};
-use pg_board::{Board, Color, Kind, Man, Square, contains};
+use pg_board::{Board, Color, Kind, Man, Square, SquareSet};
 
 // The squares of a ray up to its first man, and that man's.
-fn reach_along(board: &Board, direction: Direction, from: Square) -> u64
+fn reach_along(board: &Board, direction: Direction, from: Square) -> SquareSet
     ensures { IsSetOf result (ReachesAlong board.now direction from) }
 {
     let line = ray(direction, from);
     match blocker(board, direction, from) {
-        Some(first) => line & !ray(direction, first),
+        Some(first) => line - ray(direction, first),
         None => line,
     }
 }
 
-fn reach_straight(board: &Board, from: Square) -> u64
+fn reach_straight(board: &Board, from: Square) -> SquareSet
     ensures { IsSetOf result (ReachesStraight board.now from) }
 {
     reach_along(board, Direction::North, from)
@@ -29,7 +29,7 @@ fn reach_straight(board: &Board, from: Square) -> u64
         | reach_along(board, Direction::West, from)
 }
 
-fn reach_diagonal(board: &Board, from: Square) -> u64
+fn reach_diagonal(board: &Board, from: Square) -> SquareSet
     ensures { IsSetOf result (ReachesDiagonal board.now from) }
 {
     reach_along(board, Direction::NorthEast, from)
@@ -38,10 +38,9 @@ fn reach_diagonal(board: &Board, from: Square) -> u64
         | reach_along(board, Direction::NorthWest, from)
 }
 
-/// The squares that the man attacks from `from` with nothing in between, as a set of bits, also
-/// those with a man of its own colour (FIDE articles 3.2 to 3.8). What stands on `from` does not
-/// matter.
-pub fn attacks_from(board: &Board, man: Man, from: Square) -> u64
+/// The squares that the man attacks from `from` with nothing in between, also those with a man of
+/// its own colour (FIDE articles 3.2 to 3.8). What stands on `from` does not matter.
+pub fn attacks_from(board: &Board, man: Man, from: Square) -> SquareSet
     ensures { IsSetOf result (Reaches board.now man.color man.kind from) }
 {
     match man.kind {
@@ -58,7 +57,7 @@ pub fn attacks_from(board: &Board, man: Man, from: Square) -> u64
 pub fn reaches(board: &Board, man: Man, from: Square, to: Square) -> bool
     ensures { IsTrue result ↔ Reaches board.now man.color man.kind from to }
 {
-    contains(attacks_from(board, man, from), to.index())
+    attacks_from(board, man, from).contains(to)
 }
 
 /// Whether each square strictly between the two is empty. Squares that share no file, rank or

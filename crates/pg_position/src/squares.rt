@@ -1,7 +1,7 @@
 //! Squares and ranks as a colour sees them: forward, where its men begin, where its king castles.
 ghost use Rattle.std.specs.Prelude.{◌≡◌, ◌↔◌, ◌<◌, ◌≤◌, IsTrue};
-ghost use Rattle.pg_position.specs.Position.{ahead, HasAhead, king_home, rook_home, passed_rank};
-ghost use Rattle.pg_position.specs.Step.{home_rank, last_rank, king_crossed, king_target, MustPromote};
+ghost use Rattle.pg_position.specs.Step.{MustPromote};
+ghost use Rattle.pg_position.specs.Squares.{ahead, HasAhead, king_home, rook_home, passed_rank, home_rank, last_rank, king_crossed, king_target};
 
 use crate::rights::Wing;
 use pg_board::{Color, Kind, Square};

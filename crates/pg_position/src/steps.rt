@@ -6,10 +6,12 @@ ghost use Rattle.pg_position.specs.Step.{IsWay, relocated, board_after, passed_a
 use crate::boards::relocate;
 use crate::moves::{Move, Way};
 use crate::rights::{Rights, Wing};
-use crate::square_sets::{meets, single};
 use crate::squares::{ahead, king_crossed, king_home, rook_home};
 use crate::state::State;
-use pg_board::{Board, Color, Kind, Man, Square};
+use pg_board::{Board, Color, Kind, Man, Square, SquareSet};
+
+// The squares where a game begins with kings and rooks.
+const HOMES: u64 = 0x9100_0000_0000_0091;
 
 impl Move {
     fn touches(&self, square: Square) -> bool
@@ -31,8 +33,8 @@ impl Rights {
     fn after(&self, m: &Move) -> Rights
         ensures { result ≡ rights_after self.now m.now }
     {
-        let touched = single(m.from) | single(m.to);
-        if !meets(touched, 0x9100_0000_0000_0091) {
+        let touched = SquareSet::single(m.from) | SquareSet::single(m.to);
+        if !touched.meets(SquareSet::of_bits(HOMES)) {
             return *self;
         }
         Rights {

@@ -2,7 +2,7 @@
 //! writes a certificate that is refused, and nothing worse.
 
 use crate::rows::KINDS;
-use pg_board::{Board, Color, Kind, Man, Square};
+use pg_board::{Board, Color, Kind, Man, Square, SquareSet};
 use pg_position::{Position, Rights, Wing, attacks_from};
 
 // Spreads a number over 64 bits (the finalizer of the generator SplitMix64).
@@ -39,15 +39,14 @@ pub fn right_key(color: Color, wing: Wing) -> u64 {
 }
 
 // The keys of the men on a set of squares, put together.
-fn men_key(man: Man, set: u64) -> u64 {
+fn men_key(man: Man, set: SquareSet) -> u64 {
     let mut set = set;
     let mut sum = 0u64;
     for _ in 0..64u8 {
-        if set == 0 {
+        let Some(square) = set.pop_first() else {
             return sum;
-        }
-        sum ^= man_key(man, (set.trailing_zeros() % 64) as u8);
-        set &= set.wrapping_sub(1);
+        };
+        sum ^= man_key(man, square.index());
     }
     sum
 }
@@ -79,12 +78,12 @@ pub fn pawn_key(board: &Board, color: Color) -> u64 {
         color,
         kind: Kind::Pawn,
     };
-    spread(board.squares_of(man) ^ color_number(color))
+    spread(board.squares_of(man).bits() ^ color_number(color))
 }
 
 // The squares from which a colour's pawn attacks the square: those that the other colour's pawn attacks
 // from there.
-fn pawns_before(board: &Board, square: Square, color: Color) -> u64 {
+fn pawns_before(board: &Board, square: Square, color: Color) -> SquareSet {
     let pawn = Man {
         color: color.other(),
         kind: Kind::Pawn,
@@ -92,10 +91,10 @@ fn pawns_before(board: &Board, square: Square, color: Color) -> u64 {
     attacks_from(board, pawn, square)
 }
 
-/// The passed square where a pawn of the side to move attacks it, as a set; otherwise no square.
-pub fn effective_passed(position: &Position) -> u64 {
+/// The passed square where a pawn of the side to move attacks it; otherwise no square.
+pub fn effective_passed(position: &Position) -> SquareSet {
     let Some(square) = position.passed() else {
-        return 0;
+        return SquareSet::empty();
     };
     let color = position.side();
     let board = position.board();
@@ -103,17 +102,20 @@ pub fn effective_passed(position: &Position) -> u64 {
         color,
         kind: Kind::Pawn,
     };
-    if board.squares_of(man) & pawns_before(&board, square, color) == 0 {
-        0
+    if board
+        .squares_of(man)
+        .meets(pawns_before(&board, square, color))
+    {
+        SquareSet::single(square)
     } else {
-        1u64 << square.index()
+        SquareSet::empty()
     }
 }
 
 /// The key of a node: of both colours' men and rights by their keys, the side to move, the passed
-/// square where it matters, as a set, and the plies left. Never 0.
-pub fn node_key(white: u64, black: u64, side: Color, passed: u64, plies: u8) -> u64 {
+/// square where it matters and the plies left. Never 0.
+pub fn node_key(white: u64, black: u64, side: Color, passed: SquareSet, plies: u8) -> u64 {
     let state = color_number(side) << 8 | u64::from(plies);
-    let sum = spread(white ^ black.rotate_left(32)) ^ spread(state) ^ spread(passed);
+    let sum = spread(white ^ black.rotate_left(32)) ^ spread(state) ^ spread(passed.bits());
     sum.max(1)
 }

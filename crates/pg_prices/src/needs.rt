@@ -4,7 +4,7 @@
 use crate::assignment::{Costs, MOST, assign};
 use crate::lists::Lists;
 use crate::rows::Rows;
-use pg_board::{Board, Color, Kind, Man};
+use pg_board::{Board, Color, Kind, Man, SquareSet};
 use pg_fen::Diagram;
 use pg_pawns::shift_need;
 use pg_position::{Position, Rights, Wing};
@@ -39,8 +39,8 @@ pub struct Needs {
     pub lists: u32,
 }
 
-fn lacking(wanted: u64, here: u64) -> u32 {
-    wanted.count_ones().saturating_sub(here.count_ones())
+fn lacking(wanted: SquareSet, here: SquareSet) -> u32 {
+    u32::from(wanted.len().saturating_sub(here.len()))
 }
 
 /// Whether the colour lacks more pieces than it has pawns to promote.
@@ -55,14 +55,15 @@ pub fn is_short(color: Color, wanted: &Board, board: &Board) -> bool {
         kind: Kind::Bishop,
     };
     let (there, here) = (wanted.squares_of(man), board.squares_of(man));
-    short = short.saturating_add(lacking(there & LIGHT, here & LIGHT));
-    short = short.saturating_add(lacking(there & !LIGHT, here & !LIGHT));
+    let light = SquareSet::of_bits(LIGHT);
+    short = short.saturating_add(lacking(there & light, here & light));
+    short = short.saturating_add(lacking(there - light, here - light));
     let man = Man {
         color,
         kind: Kind::Pawn,
     };
-    let there = wanted.squares_of(man).count_ones();
-    board.squares_of(man).count_ones() < short.saturating_add(there)
+    let there = u32::from(wanted.squares_of(man).len());
+    u32::from(board.squares_of(man).len()) < short.saturating_add(there)
 }
 
 // The numbers of the first targets, added up, at most 250.
@@ -114,7 +115,7 @@ pub fn need(rows: &Rows, position: &Position) -> u8 {
 pub fn travel_lists(rows: &Rows, position: &Position) -> (u8, Lists) {
     let board = position.board();
     let free = rows.travel(&board);
-    let sources = board.squares_of_color(rows.color()).count_ones() as usize;
+    let sources = usize::from(board.squares_of_color(rows.color()).len());
     let mut lists = Lists::new(sources, rows.targets());
     let mut least = u8::MAX;
     for way in WAYS {
@@ -135,7 +136,7 @@ pub fn pawn_lists(rows: &Rows, position: &Position) -> (u8, Lists) {
         color: rows.color(),
         kind: Kind::Pawn,
     };
-    let sources = board.squares_of(pawn).count_ones() as usize;
+    let sources = usize::from(board.squares_of(pawn).len());
     let mut lists = Lists::new(sources, rows.pawn_targets());
     let answer = assign(&rows.pawns(&board), rows.pawn_targets(), PAWN_DUMMY);
     lists.add(&answer);

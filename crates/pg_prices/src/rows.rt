@@ -3,7 +3,7 @@
 ghost use Rattle.std.specs.Prelude.{◌≤◌};
 
 use crate::assignment::{Costs, MOST};
-use pg_board::{Board, Color, Kind, Man, Square};
+use pg_board::{Board, Color, Kind, Man, Square, SquareSet};
 use pg_fen::Diagram;
 use pg_position::{Wing, king_crossed, king_home, king_target, last_rank, rook_home};
 use pg_travel::distance;
@@ -150,20 +150,25 @@ fn put_source(costs: &mut Costs, source: usize, row: &[u8; MOST]) {
 }
 
 // How many squares of a set are before this one.
-fn number_of(set: u64, square: u8) -> usize {
+fn number_of(set: SquareSet, square: u8) -> usize {
     let before = (1u64 << (square % 64)).wrapping_sub(1);
-    (set & before).count_ones() as usize
+    usize::from((set & SquareSet::of_bits(before)).len())
 }
 
 // Writes the costs of these men of a board, each as the source with its number among all.
-fn put_men(costs: &mut Costs, rows: &Vec<[u8; MOST]>, first: usize, men: u64, all: u64) {
+fn put_men(
+    costs: &mut Costs,
+    rows: &Vec<[u8; MOST]>,
+    first: usize,
+    men: SquareSet,
+    all: SquareSet,
+) {
     let mut men = men;
     for _ in 0..MOST {
-        if men == 0 {
+        let Some(square) = men.pop_first() else {
             return;
-        }
-        let square = (men.trailing_zeros() % 64) as u8;
-        men &= men.wrapping_sub(1);
+        };
+        let square = square.index();
         let row = row_at(rows, first.saturating_add(usize::from(square)));
         put_source(costs, number_of(all, square), &row);
     }
@@ -177,14 +182,13 @@ fn lower(least: &mut [u8; MOST], row: &[u8; MOST]) {
 }
 
 // Lowers numbers to the costs of these men of a board.
-fn lower_to(least: &mut [u8; MOST], rows: &Vec<[u8; MOST]>, first: usize, men: u64) {
+fn lower_to(least: &mut [u8; MOST], rows: &Vec<[u8; MOST]>, first: usize, men: SquareSet) {
     let mut men = men;
     for _ in 0..MOST {
-        if men == 0 {
+        let Some(square) = men.pop_first() else {
             return;
-        }
-        let square = (men.trailing_zeros() % 64) as u8;
-        men &= men.wrapping_sub(1);
+        };
+        let square = square.index();
         let row = row_at(rows, first.saturating_add(usize::from(square)));
         lower(least, &row);
     }
@@ -272,10 +276,10 @@ impl Rows {
     /// counted on the squares that they castle to where there is a castling.
     pub fn least(&self, board: &Board, way: Option<Wing>) -> [u8; MOST] {
         let mut least = [NO_WAY; MOST];
-        let mut there = u64::MAX;
+        let mut there = SquareSet::full();
         if let Some(wing) = way {
             let ((king, king_to), (rook, rook_to)) = castled(self.color, wing);
-            there = !(1 << (king % 64) | 1 << (rook % 64));
+            there = there - SquareSet::of_bits(1 << (king % 64) | 1 << (rook % 64));
             lower(
                 &mut least,
                 &row_at(&self.travel, place(Kind::King, king_to)),

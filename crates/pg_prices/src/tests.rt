@@ -3,7 +3,7 @@ mod distances;
 mod memories;
 
 use super::*;
-use pg_board::Color;
+use pg_board::{Color, SquareSet};
 use pg_fen::{Diagram, read_position};
 use pg_position::Position;
 use std::process::Abort;

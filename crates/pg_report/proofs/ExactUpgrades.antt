@@ -11,7 +11,7 @@ use Rattle.pg_certificate.specs.Spelling.{AreBytes, spelling, header_spelling, I
 use Rattle.pg_certificate.proofs.HeaderLaws.{headers_again, headers_only}
 use Rattle.pg_certificate.proofs.RecordLaws.{records_taken}
 use Rattle.pg_report.specs.declared.fault.UpgradeFault.TheVariants.{NotVersion1}
-use Rattle.pg_report.specs.Upgrade.{◌>>=◌, Certificate1, bytes_of, with_digit_2, IsUpgraded, one_more, records_in, upgrade_of}
+use Rattle.pg_report.specs.Upgrade.{◌>>=◌, Certificate1, certificate_bytes, with_digit_2, IsUpgraded, one_more, records_in, upgrade_of}
 use Rattle.pg_report.proofs.UpgradeLemmas.{Counted, AreRecords, behind, front_read, none_in, after_more, more_none}
 
 -- ---- a certificate is upgraded
@@ -27,7 +27,7 @@ all_read xs most n are many few =
     ∙ more_none (length xs)
     ∙ ap (λ (k : ℕ). Ok k) many
 
-pub certificate_counted : (most n : ℕ) (c : Certificate1) → length c.records ≡ n → n ≤ most → upgrade_of most (bytes_of c) ≡ Ok n
+pub certificate_counted : (most n : ℕ) (c : Certificate1) → length c.records ≡ n → n ≤ most → upgrade_of most (certificate_bytes c) ≡ Ok n
 certificate_counted most n c many few =
     ap (λ (r : Result (Header × List ℕ) ReadFault). r >>= counted most) (headers_again c.header (flat_map spelling c.records) c.is_header)
     ∙ ap (λ (v : ℕ). cond (eqb v 1) (records_in most (flat_map spelling c.records)) (Err NotVersion1)) c.is_first

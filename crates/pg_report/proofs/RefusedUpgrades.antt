@@ -15,7 +15,7 @@ use Rattle.pg_certificate.proofs.HeaderLaws.{headers_again, headers_only, header
 use Rattle.pg_certificate.proofs.RecordLaws.{records_taken, truncated_is_short, short_is_truncated, unknown_at, at_unknown}
 use Rattle.pg_report.specs.declared.fault.UpgradeFault.{UpgradeFault}
 use Rattle.pg_report.specs.declared.fault.UpgradeFault.TheVariants.{Truncated, NotVersion1, UnknownRecord, Budget}
-use Rattle.pg_report.specs.Upgrade.{◌>>=◌, Certificate1, bytes_of, fault_of, one_more, records_in, upgrade_of}
+use Rattle.pg_report.specs.Upgrade.{◌>>=◌, Certificate1, certificate_bytes, upgrade_fault_of, one_more, records_in, upgrade_of}
 use Rattle.pg_report.specs.UpgradeLaws.{IsLeftBehind, RefusesUpgrade}
 use Rattle.pg_report.proofs.UpgradeLemmas.{Counted, AreRecords, behind, front_read, after_more, more_err}
 use Rattle.pg_report.proofs.ExactUpgrades.{counted, bytes_behind}
@@ -33,13 +33,13 @@ behind_counted most n k bytes rest at sum =
     ∙ front_read c.records k most rest c.are_records many
     ∙ ap (λ (m : ℕ). after_more m (records_in k rest)) at.many
 
-refused_in : (k : ℕ) (rest : List ℕ) (d : ReadFault) → rest ≢ [] → record_at 1 rest ≡ Err d → records_in (suc k) rest ≡ Err (fault_of d)
+refused_in : (k : ℕ) (rest : List ℕ) (d : ReadFault) → rest ≢ [] → record_at 1 rest ≡ Err d → records_in (suc k) rest ≡ Err (upgrade_fault_of d)
 refused_in k [] d some h = absurd (some refl)
 refused_in k (b ∷ rest) d some h = ap (λ (r : Result (Record × List ℕ) ReadFault). r >>= behind k) h
 
-refused_back : (most n : ℕ) (bytes rest : List ℕ) (d : ReadFault) → n < most → IsLeftBehind n bytes rest → record_at 1 rest ≡ Err d → upgrade_of most bytes ≡ Err (fault_of d)
+refused_back : (most n : ℕ) (bytes rest : List ℕ) (d : ReadFault) → n < most → IsLeftBehind n bytes rest → record_at 1 rest ≡ Err d → upgrade_of most bytes ≡ Err (upgrade_fault_of d)
 refused_back most n bytes rest d few at h =
-    behind_counted most n (suc (most - n - 1)) bytes rest at (omega (arith, few)) ∙ ap (after_more n) (refused_in (most - n - 1) rest d at.some h) ∙ more_err n (fault_of d)
+    behind_counted most n (suc (most - n - 1)) bytes rest at (omega (arith, few)) ∙ ap (after_more n) (refused_in (most - n - 1) rest d at.some h) ∙ more_err n (upgrade_fault_of d)
 
 budget_in : (rest : List ℕ) → rest ≢ [] → records_in 0 rest ≡ Err Budget
 budget_in [] some = absurd (some refl)
@@ -49,7 +49,7 @@ budget_back : (most : ℕ) (bytes rest : List ℕ) → IsLeftBehind most bytes r
 budget_back most bytes rest at = behind_counted most most 0 bytes rest at (omega arith) ∙ ap (after_more most) (budget_in rest at.some) ∙ more_err most Budget
 
 rest_bytes : (n : ℕ) (bytes rest : List ℕ) → AreBytes bytes → IsLeftBehind n bytes rest → AreBytes rest
-rest_bytes n bytes rest fits at = bytes_behind (bytes_of at.certificate) rest (subst AreBytes at.parts fits)
+rest_bytes n bytes rest fits at = bytes_behind (certificate_bytes at.certificate) rest (subst AreBytes at.parts fits)
 
 -- ---- what is refused stands there
 -- whole records, and then a byte too many, or what is no record
@@ -59,7 +59,7 @@ record Halt (most : ℕ) (bytes : List ℕ) (e : UpgradeFault) : Type 0 where
   are : AreRecords nodes
   parts : bytes ≡ flat_map spelling nodes ++ rest
   some : rest ≢ []
-  cause : ((length nodes ≡ most) × (e ≡ Budget)) ⊎ ((length nodes < most) × ((d : ReadFault) × (record_at 1 rest ≡ Err d) × (fault_of d ≡ e)))
+  cause : ((length nodes ≡ most) × (e ≡ Budget)) ⊎ ((length nodes < most) × ((d : ReadFault) × (record_at 1 rest ≡ Err d) × (upgrade_fault_of d ≡ e)))
 
 one_more_err : (answer : Counted) (e : UpgradeFault) → one_more answer ≡ Err e → answer ≡ Err e
 one_more_err (Ok n) e h = absurd cc
@@ -80,7 +80,7 @@ halt_more k bytes e others fits some (Ok x) at h =
     let taken = records_taken 1 bytes x.1 x.0 fits at in
     halt_with k bytes x.0 x.1 e taken.0 taken.1 (others x.1 (bytes_behind (spelling x.0) x.1 (subst AreBytes taken.1 fits)) (one_more_err (records_in k x.1) e h))
 halt_more k bytes e others fits some (Err d) at h =
-    let same : fault_of d ≡ e = cc in
+    let same : upgrade_fault_of d ≡ e = cc in
     record { nodes = []; rest = bytes; are = All-nil (λ y. IsRecordOf 1 y); parts = refl; some = some; cause = inr (omega arith, (d, at, same)) }
 
 not_nil : (b : ℕ) (rest : List ℕ) → b ∷ rest ≢ []
@@ -97,9 +97,9 @@ halts (suc k) (b ∷ rest) e fits h = halt_more k (b ∷ rest) e (λ l. halts k 
 -- no header, a header of another version, or what stands behind it
 abbrev Told : ℕ → List ℕ → UpgradeFault → Type 0
 Told most bytes e =
-    ((d : ReadFault) × (header_at bytes ≡ Err d) × (fault_of d ≡ e))
+    ((d : ReadFault) × (header_at bytes ≡ Err d) × (upgrade_fault_of d ≡ e))
     ⊎ (((h : Header) × (rest : List ℕ) × (header_at bytes ≡ Ok (h, rest)) × (h.version ≢ 1) × (e ≡ NotVersion1))
-    ⊎ ((n : ℕ) × (rest : List ℕ) × IsLeftBehind n bytes rest × (((n ≡ most) × (e ≡ Budget)) ⊎ ((n < most) × ((d : ReadFault) × (record_at 1 rest ≡ Err d) × (fault_of d ≡ e))))))
+    ⊎ ((n : ℕ) × (rest : List ℕ) × IsLeftBehind n bytes rest × (((n ≡ most) × (e ≡ Budget)) ⊎ ((n < most) × ((d : ReadFault) × (record_at 1 rest ≡ Err d) × (upgrade_fault_of d ≡ e))))))
 
 left_there : (most : ℕ) (bytes rest : List ℕ) (h : Header) (e : UpgradeFault) → IsHeader h → h.version ≡ 1 → bytes ≡ header_spelling h ++ rest → (at : Halt most rest e) → IsLeftBehind (length at.nodes) bytes at.rest
 left_there most bytes rest h e is first parts at = record {
@@ -113,7 +113,7 @@ told : (most : ℕ) (bytes : List ℕ) (e : UpgradeFault) → AreBytes bytes →
 told most bytes e fits said = go (header_at bytes) refl said
   where
     go : (r : Result (Header × List ℕ) ReadFault) → header_at bytes ≡ r → (r >>= counted most) ≡ Err e → Told most bytes e
-    go (Err d) at h = let same : fault_of d ≡ e = cc in inl (d, at, same)
+    go (Err d) at h = let same : upgrade_fault_of d ≡ e = cc in inl (d, at, same)
     go (Ok x) at h = elim (eqb_tells x.0.version 1) [
       | inl first ↦
           let head = headers_only bytes x.1 x.0 at in
@@ -133,7 +133,7 @@ header_fault bytes d at = subst (Only OfHeader) at (only_header bytes)
 record_fault : (bytes : List ℕ) (d : ReadFault) → record_at 1 bytes ≡ Err d → OfRecord d
 record_fault bytes d at = subst (Only OfRecord) at (only_record bytes)
 
-short_header : (d : ReadFault) → OfHeader d → fault_of d ≡ Truncated → d ≡ reading.Truncated
+short_header : (d : ReadFault) → OfHeader d → upgrade_fault_of d ≡ Truncated → d ≡ reading.Truncated
 short_header reading.Truncated is e = refl
 short_header reading.Magic is e = absurd cc
 short_header (reading.UnknownRecord b) is e = absurd is
@@ -141,7 +141,7 @@ short_header reading.Read is e = absurd is
 short_header reading.Trailing is e = absurd is
 short_header reading.Failed is e = absurd is
 
-other_header : (d : ReadFault) → OfHeader d → fault_of d ≡ NotVersion1 → d ≡ reading.Magic
+other_header : (d : ReadFault) → OfHeader d → upgrade_fault_of d ≡ NotVersion1 → d ≡ reading.Magic
 other_header reading.Truncated is e = absurd cc
 other_header reading.Magic is e = refl
 other_header (reading.UnknownRecord b) is e = absurd is
@@ -149,7 +149,7 @@ other_header reading.Read is e = absurd is
 other_header reading.Trailing is e = absurd is
 other_header reading.Failed is e = absurd is
 
-no_byte : (d : ReadFault) (b : ℕ) → OfHeader d → fault_of d ≢ UnknownRecord b
+no_byte : (d : ReadFault) (b : ℕ) → OfHeader d → upgrade_fault_of d ≢ UnknownRecord b
 no_byte reading.Truncated b is e = cc
 no_byte reading.Magic b is e = cc
 no_byte (reading.UnknownRecord x) b is e = is
@@ -157,7 +157,7 @@ no_byte reading.Read b is e = is
 no_byte reading.Trailing b is e = is
 no_byte reading.Failed b is e = is
 
-no_budget : (d : ReadFault) → fault_of d ≢ Budget
+no_budget : (d : ReadFault) → upgrade_fault_of d ≢ Budget
 no_budget reading.Truncated e = cc
 no_budget reading.Magic e = cc
 no_budget (reading.UnknownRecord b) e = cc
@@ -165,7 +165,7 @@ no_budget reading.Read e = cc
 no_budget reading.Trailing e = cc
 no_budget reading.Failed e = cc
 
-short_record : (d : ReadFault) → OfRecord d → fault_of d ≡ Truncated → d ≡ reading.Truncated
+short_record : (d : ReadFault) → OfRecord d → upgrade_fault_of d ≡ Truncated → d ≡ reading.Truncated
 short_record reading.Truncated is e = refl
 short_record (reading.UnknownRecord b) is e = absurd cc
 short_record reading.Magic is e = absurd is
@@ -173,7 +173,7 @@ short_record reading.Read is e = absurd is
 short_record reading.Trailing is e = absurd is
 short_record reading.Failed is e = absurd is
 
-unknown_record : (d : ReadFault) (b : ℕ) → OfRecord d → fault_of d ≡ UnknownRecord b → d ≡ reading.UnknownRecord b
+unknown_record : (d : ReadFault) (b : ℕ) → OfRecord d → upgrade_fault_of d ≡ UnknownRecord b → d ≡ reading.UnknownRecord b
 unknown_record reading.Truncated b is e = absurd cc
 unknown_record (reading.UnknownRecord x) b is e = let same : x ≡ b = cc in ap (λ (y : ℕ). reading.UnknownRecord y) same
 unknown_record reading.Magic b is e = absurd is
@@ -181,7 +181,7 @@ unknown_record reading.Read b is e = absurd is
 unknown_record reading.Trailing b is e = absurd is
 unknown_record reading.Failed b is e = absurd is
 
-no_version : (d : ReadFault) → OfRecord d → fault_of d ≢ NotVersion1
+no_version : (d : ReadFault) → OfRecord d → upgrade_fault_of d ≢ NotVersion1
 no_version reading.Truncated is e = cc
 no_version (reading.UnknownRecord b) is e = cc
 no_version reading.Magic is e = is
@@ -271,7 +271,7 @@ version_forth most bytes fits h = elim (told most bytes NotVersion1 fits h) [
 version_back : (most : ℕ) (bytes : List ℕ) → IsOther bytes → upgrade_of most bytes ≡ Err NotVersion1
 version_back most bytes other = go (header_at bytes) refl
   where
-    refused : (d : ReadFault) → header_at bytes ≡ Err d → OfHeader d → fault_of d ≡ NotVersion1
+    refused : (d : ReadFault) → header_at bytes ≡ Err d → OfHeader d → upgrade_fault_of d ≡ NotVersion1
     refused reading.Truncated at is = absurd (omega (arith, other.0, (headers_refused bytes).truncated.0 at))
     refused reading.Magic at is = refl
     refused (reading.UnknownRecord b) at is = absurd is

@@ -5,7 +5,7 @@ use Rattle.pg_position.specs.declared.moves.Move.{Move}
 use Rattle.pg_position.specs.Array.{array_state}
 use Rattle.pg_position.specs.Game.{Barren}
 use Rattle.pg_checker.specs.Answer.{IsSolution}
-use Rattle.pg_report.specs.Shortest.{IsExcluded, IsLeast, NoneBelow}
+use Rattle.pg_report.specs.Shortest.{IsExcluded, IsLeastLength, NoneBelow}
 
 no_solution : (d : Placement) (n : ℕ) (ms : List Move) → Barren d array_state n → ¬ IsSolution d n ms
 unfolding Barren
@@ -23,5 +23,5 @@ none_left d n barren m ms low = no_solution d m ms (barren m low)
 pub none_shorter : (d : Placement) (n : ℕ) (o : Option ℕ) → o ≡ Some n → ((m : ℕ) → m < n → Barren d array_state m) → NoneBelow d o
 none_shorter d n o is barren = subst (NoneBelow d) (sym is) (none_left d n barren)
 
-pub first_open : (by_bound : ℕ → Bool) (d : Placement) (n : ℕ) (o : Option ℕ) → o ≡ Some n → ((m : ℕ) → m < n → IsExcluded by_bound d m) → by_bound n ≡ false → IsLeast by_bound d o
-first_open by_bound d n o is below refused = subst (IsLeast by_bound d) (sym is) (record { open_here = refused; below = below })
+pub first_open : (by_bound : ℕ → Bool) (d : Placement) (n : ℕ) (o : Option ℕ) → o ≡ Some n → ((m : ℕ) → m < n → IsExcluded by_bound d m) → by_bound n ≡ false → IsLeastLength by_bound d o
+first_open by_bound d n o is below refused = subst (IsLeastLength by_bound d) (sym is) (record { open_here = refused; below = below })

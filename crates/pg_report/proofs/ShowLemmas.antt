@@ -20,10 +20,10 @@ men_grow d c n name x y z named counted first second = Appends-trans x y z (name
 pub open_grows : (least : Option ℕ) (n : ℕ) (text : List ℕ) (w x y z : Option (List ℕ)) → least ≡ Some n → text ≡ length_text n → Appends w x (codes "no game is shorter than ") → Appends x y text → Appends y z (codes "\n") → Appends w z (open_line least)
 open_grows least n text w x y z is said first second third = subst (λ o. Appends w z (open_line o)) (sym is) (Appends-trans w x z (codes "no game is shorter than ") _ first (Appends-trans x y z (length_text n) (codes "\n") (subst (Appends x y) said second) third))
 
-pub side_grows : (d : Placement) (c : Color) (p : State) (need : Option ℕ) (w x y z : Option (List ℕ)) → p ≡ array_state → NeedIs p d c need → Appends w x (men_text d c) → Appends x y (captured_text d c) → Appends y z (need_text need) → (text : List ℕ) × IsSideLine d c text × Appends w z text
+pub side_grows : (d : Placement) (c : Color) (p : State) (need : Option ℕ) (w x y z : Option (List ℕ)) → p ≡ array_state → NeedIs d p c need → Appends w x (men_text d c) → Appends x y (captured_text d c) → Appends y z (need_text need) → (text : List ℕ) × IsSideLine d c text × Appends w z text
 side_grows d c p need w x y z at is first second third = (
   men_text d c ++ (captured_text d c ++ need_text need),
-  (need, subst (λ s. NeedIs s d c need) at is, refl),
+  (need, subst (λ s. NeedIs d s c need) at is, refl),
   Appends-trans w x z (men_text d c) _ first (Appends-trans x y z (captured_text d c) (need_text need) second third),
 )
 

@@ -18,7 +18,7 @@ use Rattle.pg_certificate.proofs.RecordLaws.{records_again, none_longer}
 use Rattle.pg_report.specs.declared.fault.UpgradeFault.{UpgradeFault}
 use Rattle.pg_report.specs.declared.fault.UpgradeFault.TheVariants.{Truncated, NotVersion1, UnknownRecord, Read, Budget, Write}
 use Rattle.pg_report.specs.numbers.Copying.{CopiesOne, Copies, one_in}
-use Rattle.pg_report.specs.Upgrade.{◌>>=◌, Certificate1, bytes_of, with_digit_2, IsUpgraded, one_more, records_in, IsUpgradeFault, Takes}
+use Rattle.pg_report.specs.Upgrade.{◌>>=◌, Certificate1, certificate_bytes, with_digit_2, IsUpgraded, one_more, records_in, IsUpgradeFault, Takes}
 
 abbrev pub Counted : Type 0
 Counted = Result ℕ UpgradeFault
@@ -200,6 +200,11 @@ few_spelled (x ∷ xs) are =
 pub few_copied : (n : ℕ) (a b old new : Known) → (copied : Copies n a b old new) → length (flat_map spelling copied.nodes) ≤ longest_record * n
 few_copied n a b old new copied = let few : length (flat_map spelling copied.nodes) ≤ longest_record * length copied.nodes = few_spelled copied.nodes copied.fit in omega (arith, few, copied.many)
 
+-- a call after so many copied records takes few bytes in all
+pub gone_copied : (n limit : ℕ) (a b left old new : Known) → Copies n a b old new → n ≤ limit → Gone 4096 b left → Gone (longest_record * limit + 4096) a left
+gone_copied n limit a b left old new copied few gone =
+    gone_more a b left (flat_map spelling copied.nodes) (longest_record * n) 4096 (longest_record * limit + 4096) copied.taken (few_copied n a b old new copied) (omega (arith, few)) gone
+
 -- ---- the whole certificate
 -- a reader or a writer that holds nothing yet
 pub nothing_before : (held : List ℕ) (left : Known) → held ≡ [] → prepend_known held left ≡ left
@@ -243,8 +248,8 @@ pub upgraded : (n : ℕ) (h : Header) (before first left start one two done : Kn
 upgraded n h before first left start one two done held is is_first taken grown copied ends same =
     let certificate : Certificate1 = record { header = h; records = copied.nodes; is_header = is; is_first = is_first; are_records = copied.fit } in
     let text : List ℕ = flat_map spelling copied.nodes in (
-      bytes_of certificate,
-      with_digit_2 (bytes_of certificate),
+      certificate_bytes certificate,
+      with_digit_2 (certificate_bytes certificate),
       record { certificate = certificate; many = copied.many; old_is = refl; new_is = refl },
       all_consumed before held left (header_spelling h ++ text) (Consumes-trans before first (prepend_known held left) (header_spelling h) text taken copied.taken) ends,
       appends_kept start two done (header_spelling (second h) ++ text) (Appends-trans start one two (header_spelling (second h)) text grown copied.written) same,

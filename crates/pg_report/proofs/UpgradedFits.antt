@@ -6,7 +6,7 @@ use Rattle.pg_board.specs.Placement.{Placement}
 use Rattle.pg_position.specs.declared.state.State.{State}
 use Rattle.pg_position.specs.declared.moves.Move.{Move}
 use Rattle.pg_position.specs.Array.{array_state}
-use Rattle.pg_position.specs.Equality.{state_eq_decides}
+use Rattle.pg_position.specs.lemmas.Equalities.{state_eq_decides}
 use Rattle.pg_fen.specs.Packing.{packed_byte, packed_of}
 use Rattle.pg_certificate.specs.declared.record.Record.{Record}
 use Rattle.pg_certificate.specs.declared.record.Record.TheVariants.{Expand, Cut, Ref, Priced}
@@ -17,7 +17,7 @@ use Rattle.pg_checker.specs.Claims.{IsCertificate}
 use Rattle.pg_checker.specs.Futures.{effective, future_eq}
 use Rattle.pg_checker.specs.Tree.{Rules, spelling_all}
 use Rattle.pg_checker.proofs.Reading.{spelled_record}
-use Rattle.pg_report.specs.Upgrade.{Certificate1, bytes_of, with_digit_2, upgrade_of}
+use Rattle.pg_report.specs.Upgrade.{Certificate1, certificate_bytes, with_digit_2, upgrade_of}
 use Rattle.pg_report.specs.UpgradeLaws.{UpgradedIsCertified, CertifiedIsUpgraded}
 use Rattle.pg_report.proofs.Wider.{all_spelled_same, certificate_wider}
 use Rattle.pg_report.proofs.Nodes.{all_nodes, many_all_nodes, all_nodes_spelled, certificate_nodes}
@@ -72,5 +72,5 @@ certified_upgraded d n games bounds prices max_records max_named bytes proved is
     let text : bytes ≡ header_spelling (header_for 1 d n) ++ spelling_all r is.trees = subst (λ (v : ℕ). bytes ≡ header_spelling (header_for v d n) ++ spelling_all (chess d n games (record { version = v; bounds = bounds; prices = prices })) is.trees) first is.spelled in
     let are : All (λ x. IsRecordOf 1 x) (all_nodes is.trees) = All-weaker (λ x. is_spelled 1 x ≡ true) (λ x. IsRecordOf 1 x) (spelled_record 1) (all_nodes is.trees) (certificate_nodes r plain_spelled array_state is.trees fits) in
     let certificate : Certificate1 = record { header = header_for 1 d n; records = all_nodes is.trees; is_header = record { known = inl refl; whole = packed_long d }; is_first = refl; are_records = are } in
-    let same : bytes ≡ bytes_of certificate = text ∙ ap (λ (l : List ℕ). header_spelling (header_for 1 d n) ++ l) (sym (all_nodes_spelled r is.trees)) in
+    let same : bytes ≡ certificate_bytes certificate = text ∙ ap (λ (l : List ℕ). header_spelling (header_for 1 d n) ++ l) (sym (all_nodes_spelled r is.trees)) in
     ap (upgrade_of max_records) same ∙ certificate_counted max_records proved.records certificate (many_all_nodes is.trees ∙ sym is.records_are) (omega (arith, is.records_are, is.records_fit))

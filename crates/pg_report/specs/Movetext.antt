@@ -20,7 +20,9 @@ number_text ply = if ply % 2 == 0 then decimal (ply / 2 + 1) ++ codes ". " else 
 -- the moves are legal, one after another, from p on, and lead to q; and this is their text, where the first of them is this ply
 unfoldable pub ArePlies : ℕ → State → List Move → State → List ℕ → Type 0
 ArePlies ply p [] q text = (p ≡ q) × (text ≡ [])
-ArePlies ply p (m ∷ ms) q text = (r : State) × (san : List ℕ) × (rest : List ℕ) × Legal p m r × IsSan p m san × ArePlies (ply + 1) r ms q rest × (text ≡ space_text ply ++ (number_text ply ++ (san ++ rest)))
+ArePlies ply p (m ∷ ms) q text =
+    (r : State) × (san : List ℕ) × (rest : List ℕ) × Legal p m r × IsSan p m san × ArePlies (ply + 1) r ms q rest
+    × (text ≡ space_text ply ++ (number_text ply ++ (san ++ rest)))
 
 -- the movetext of a game from the initial array
 unfoldable pub IsMovetext : List Move → List ℕ → Type 0

@@ -3,7 +3,7 @@ use Rattle.std.specs.Prelude.{◌≡◌, ℕ, ◌≤◌, Bool, true, List, Optio
 use Rattle.pg_board.specs.Placement.{Placement}
 use Rattle.pg_position.specs.declared.state.State.{State}
 use Rattle.pg_position.specs.declared.moves.Move.{Move}
-use Rattle.pg_moves.specs.Counts.{IsFault}
+use Rattle.pg_moves.specs.Counts.{IsCountFault}
 use Rattle.pg_fen.specs.Fields.{fields}
 use Rattle.pg_fen.specs.DiagramText.{diagram_of}
 use Rattle.pg_fen.specs.Lengths.{length_of}
@@ -11,7 +11,7 @@ use Rattle.pg_san.specs.Listing.{IsListing, IsTextFault}
 use Rattle.pg_checker.specs.Answer.{IsExactAnswer}
 use Rattle.pg_checker.specs.Check.{Accepts, Refuses}
 use Rattle.pg_checker.specs.Cuts.{CheckRules}
-use Rattle.pg_report.specs.MovesText.{ReadsAs, IsRefusedAs}
+use Rattle.pg_report.specs.MovesText.{SpellsPosition, IsRefusedAs}
 use Rattle.pg_report.specs.declared.fault.RunFault.{RunFault}
 use Rattle.pg_report.specs.declared.fault.RunFault.TheVariants.{Diagram, Length, Games, Check, Write}
 use Rattle.pg_report.specs.declared.fault.CountRunFault.{CountRunFault}
@@ -26,7 +26,8 @@ pub record AreSpelled (diagram length games : List ℕ) (d : Placement) (n : ℕ
 
 -- why a check by the rules r ends without its report: the check does not say yes, for a cause that it has; or it did, and the sink has failed
 abbrev pub IsCheckFault : CheckRules → Placement → ℕ → List (List Move) → ℕ → ℕ → Option (List ℕ) → Bool → Bool → RunFault → Type 0
-IsCheckFault r d n list max_records max_named known failed broken (Check fault) = Accepts r d list max_records max_named known (Err fault) × Refuses r d list max_records max_named known failed (Err fault)
+IsCheckFault r d n list max_records max_named known failed broken (Check fault) =
+    Accepts r d list max_records max_named known (Err fault) × Refuses r d list max_records max_named known failed (Err fault)
 IsCheckFault r d n list max_records max_named known failed broken Write = IsExactAnswer d n list × (broken ≡ true)
 IsCheckFault r d n list max_records max_named known failed broken fault = ⊥
 
@@ -46,12 +47,15 @@ IsProblemFault diagram length fault = ⊥
 abbrev pub IsRunFault : (Placement → ℕ → List (List Move) → CheckRules) → List ℕ → List ℕ → List ℕ → ℕ → ℕ → Option (List ℕ) → Bool → Bool → RunFault → Type 0
 IsRunFault rules diagram length games max_records max_named known failed broken (Diagram fault) = IsProblemFault diagram length (Diagram fault)
 IsRunFault rules diagram length games max_records max_named known failed broken (Length fault) = IsProblemFault diagram length (Length fault)
-IsRunFault rules diagram length games max_records max_named known failed broken (Games fault) = ((d : Placement) × (diagram_of (fields diagram) ≡ Ok d)) × ((n : ℕ) × (length_of length ≡ Ok n)) × IsTextFault games fault
-IsRunFault rules diagram length games max_records max_named known failed broken fault = (d : Placement) × (n : ℕ) × (list : List (List Move)) × AreSpelled diagram length games d n list × IsCheckFault (rules d n list) d n list max_records max_named known failed broken fault
+IsRunFault rules diagram length games max_records max_named known failed broken (Games fault) =
+    ((d : Placement) × (diagram_of (fields diagram) ≡ Ok d)) × ((n : ℕ) × (length_of length ≡ Ok n)) × IsTextFault games fault
+IsRunFault rules diagram length games max_records max_named known failed broken fault =
+    (d : Placement) × (n : ℕ) × (list : List (List Move)) × AreSpelled diagram length games d n list
+    × IsCheckFault (rules d n list) d n list max_records max_named known failed broken fault
 
 -- ---- counts
 -- why the number of games of so many plies is not written: the text is refused; else they are not counted; else the sink has failed
 abbrev pub IsCountRunFault : List ℕ → ℕ → Bool → CountRunFault → Type 0
 IsCountRunFault text plies failed (Position fault) = IsRefusedAs text fault
-IsCountRunFault text plies failed (Count fault) = (p : State) × ReadsAs text p × IsFault p plies fault
-IsCountRunFault text plies failed NoNumber = ((p : State) × ReadsAs text p) × (plies ≤ 8) × (failed ≡ true)
+IsCountRunFault text plies failed (Count fault) = (p : State) × SpellsPosition text p × IsCountFault p plies fault
+IsCountRunFault text plies failed NoNumber = ((p : State) × SpellsPosition text p) × (plies ≤ 8) × (failed ≡ true)

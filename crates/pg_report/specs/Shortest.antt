@@ -23,9 +23,9 @@ pub record IsFirstOpen (by_bound : ℕ → Bool) (d : Placement) (n : ℕ) : Typ
   pub below : (m : ℕ) → m < n → IsExcluded by_bound d m
 
 -- the first number of plies that is not excluded; none where all up to 128 are
-abbrev pub IsLeast : (ℕ → Bool) → Placement → Option ℕ → Type 0
-IsLeast by_bound d None = (m : ℕ) → m ≤ 128 → IsExcluded by_bound d m
-IsLeast by_bound d (Some n) = IsFirstOpen by_bound d n
+abbrev pub IsLeastLength : (ℕ → Bool) → Placement → Option ℕ → Type 0
+IsLeastLength by_bound d None = (m : ℕ) → m ≤ 128 → IsExcluded by_bound d m
+IsLeastLength by_bound d (Some n) = IsFirstOpen by_bound d n
 
 -- no game of fewer plies ends on d, or none of 128 plies or fewer
 abbrev pub NoneBelow : Placement → Option ℕ → Type 0

@@ -38,7 +38,7 @@ need_text (Some n) = codes "needs " ++ counted_text n (codes " ply\n") (codes " 
 
 -- the line of a colour, by its need from the initial array
 abbrev pub IsSideLine : Placement → Color → List ℕ → Type 0
-IsSideLine d c text = (need : Option ℕ) × NeedIs array_state d c need × (text ≡ men_text d c ++ (captured_text d c ++ need_text need))
+IsSideLine d c text = (need : Option ℕ) × NeedIs d array_state c need × (text ≡ men_text d c ++ (captured_text d c ++ need_text need))
 
 -- the least length, none where no length up to 128 plies is open
 abbrev pub open_line : Option ℕ → List ℕ

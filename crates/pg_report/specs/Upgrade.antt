@@ -20,8 +20,8 @@ pub record Certificate1 : Type 0 where
   pub are_records : All (λ x. IsRecordOf 1 x) records
 
 -- the bytes of the header, and then those of each record
-abbrev pub bytes_of : Certificate1 → List ℕ
-bytes_of c = header_spelling c.header ++ flat_map spelling c.records
+abbrev pub certificate_bytes : Certificate1 → List ℕ
+certificate_bytes c = header_spelling c.header ++ flat_map spelling c.records
 
 -- the same bytes with the digit 2 (50) as the fourth
 abbrev pub with_digit_2 : List ℕ → List ℕ
@@ -31,24 +31,24 @@ with_digit_2 bytes = slice_set bytes 3 50
 pub record IsUpgraded (old new : List ℕ) (n : ℕ) : Type 0 where
   pub certificate : Certificate1
   pub many : length certificate.records ≡ n
-  pub old_is : old ≡ bytes_of certificate
+  pub old_is : old ≡ certificate_bytes certificate
   pub new_is : new ≡ with_digit_2 old
 
 -- ---- how they are read
 -- a refusal to read a header or a record, by its name here; the last two are never given there
-abbrev pub fault_of : ReadFault → UpgradeFault
-fault_of reading.Truncated = Truncated
-fault_of reading.Magic = NotVersion1
-fault_of (reading.UnknownRecord byte) = UnknownRecord byte
-fault_of reading.Read = Read
-fault_of reading.Trailing = Truncated
-fault_of reading.Failed = Read
+abbrev pub upgrade_fault_of : ReadFault → UpgradeFault
+upgrade_fault_of reading.Truncated = Truncated
+upgrade_fault_of reading.Magic = NotVersion1
+upgrade_fault_of (reading.UnknownRecord byte) = UnknownRecord byte
+upgrade_fault_of reading.Read = Read
+upgrade_fault_of reading.Trailing = Truncated
+upgrade_fault_of reading.Failed = Read
 
 -- reading on from what was read
 infixl 10 ◌>>=◌
 abbrev pub ◌>>=◌ : {A B : Type 0} → Result A ReadFault → (A → Result B UpgradeFault) → Result B UpgradeFault
 (Ok x) >>= f = f x
-(Err e) >>= f = Err (fault_of e)
+(Err e) >>= f = Err (upgrade_fault_of e)
 
 -- one record more
 abbrev pub one_more : Result ℕ UpgradeFault → Result ℕ UpgradeFault

@@ -1,7 +1,7 @@
 //! A diagram for the eye.
 ghost use Rattle.std.specs.Prelude.{◌≡◌, ◌<◌, false, true, OnOk, OnErr, IfErr};
 ghost use Rattle.std.specs.Io.KnownBytes.{Appends};
-ghost use Rattle.pg_report.specs.BoardText.{cell_of, cells_text, rank_line, upper_lines, board_text};
+ghost use Rattle.pg_report.specs.BoardText.{cell_of, squares_text, rank_line, upper_lines, board_text};
 
 use pg_board::{Board, Man, Square};
 use pg_certificate::{Refused, Sink, WriteFault};
@@ -20,7 +20,7 @@ fn cell_of(man: Option<Man>) -> u8
 // Appends the squares of a rank, counted from 0, with a space before each.
 fn write_cells<W: Sink>(board: &Board, rank: u8, out: &mut W) -> Result<(), Refused>
     requires { rank < 8 }
-    ensures text { OnOk result (Appends (W.held out.old) (W.held out.new) (cells_text board.now rank 8)) }
+    ensures text { OnOk result (Appends (W.held out.old) (W.held out.new) (squares_text board.now rank 8)) }
     ensures runs { OnOk result (W.has_failed out.new ≡ W.has_failed out.old) }
     ensures fault { OnErr result (W.has_failed out.new ≡ true) }
 {

@@ -4,7 +4,7 @@ ghost use Rattle.std.specs.Fmt.{decimal};
 ghost use Rattle.std.specs.Io.KnownBytes.{Appends};
 ghost use Rattle.pg_position.specs.declared.state.State.{State};
 ghost use Rattle.pg_moves.specs.Counts.{IsGameCount};
-ghost use Rattle.pg_report.specs.MovesText.{ReadsAs};
+ghost use Rattle.pg_report.specs.MovesText.{SpellsPosition};
 ghost use Rattle.pg_report.specs.Run.{IsCountRunFault};
 
 use crate::fault::CountRunFault;
@@ -40,7 +40,7 @@ pub fn run_count<W: Sink, P: Progress>(
     out: &mut W,
     watch: &mut P,
 ) -> Result<(), CountRunFault>
-    ensures ok { OnOk result ((p : State) × ReadsAs fen.now p × (plies ≤ 8)
+    ensures ok { OnOk result ((p : State) × SpellsPosition fen.now p × (plies ≤ 8)
         × ((n : ℕ) × IsGameCount p plies n × Appends (W.held out.old) (W.held out.new) (decimal n ++ 10 ∷ []))) }
     ensures err { IfErr result (λ e. IsCountRunFault fen.now plies (W.has_failed out.new) e) }
     ensures unwritten { IfErr result (λ e. e ≢ CountRunFault.Write → out.new ≡ out.old) }

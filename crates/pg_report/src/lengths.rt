@@ -3,10 +3,10 @@ ghost use Rattle.std.specs.Prelude.{◌≡◌, IsTrue, IfOk, false};
 ghost use Rattle.std.specs.List.{list_any};
 ghost use Rattle.pg_position.specs.Array.{array_state};
 ghost use Rattle.pg_position.specs.Game.{Barren};
-ghost use Rattle.pg_report.specs.Shortest.{ArePriced, IsExcluded, IsLeast, NoneBelow};
+ghost use Rattle.pg_report.specs.Shortest.{ArePriced, IsExcluded, IsLeastLength, NoneBelow};
 
 use pg_board::Color;
-use pg_captures::Bound;
+use pg_captures::{Bound, ask};
 use pg_fen::{Diagram, Length};
 use pg_position::Position;
 use pg_prices::{Lists, Rows, pawn_lists, prices_of, travel_lists};
@@ -69,22 +69,6 @@ fn offers_exclude(diagram: &Diagram, plies: u8, offers: &Offers) -> bool
         || pawns_exclude(diagram, plies, offers.color, &offers.pawns)
 }
 
-fn excludes_box(bound: &Box<dyn Bound>, diagram: &Diagram, position: &Position, left: u8) -> bool
-    ensures { result ≡ excluded bound.now diagram.now position.now left }
-{
-    bound.excludes(diagram, position, left)
-}
-
-// Whether one bound excludes; what it says is so for a bound that was never seen.
-fn ask(bound: &Box<dyn Bound>, diagram: &Diagram, position: &Position, left: u8) -> bool
-    ensures value { result ≡ excluded bound.now diagram.now position.now left }
-    ensures barren { IsTrue result → Barren diagram.now position.now left }
-{
-    // A fact for the proof: what is handed in is a position.
-    position.side();
-    excludes_box(bound, diagram, position, left)
-}
-
 // Whether some bound of the list excludes every game of so many plies to the diagram.
 fn any_excludes(bounds: &[Box<dyn Bound>], diagram: &Diagram, plies: u8) -> bool
     ensures value { result ≡ list_any (λ b. excluded b diagram.now array_state plies) bounds.now }
@@ -124,7 +108,7 @@ fn first_open(
     black: &Offers,
 ) -> Option<Length>
     ensures headline { NoneBelow diagram.now result }
-    ensures least { IsLeast (λ m. list_any (λ b. excluded b diagram.now array_state m) bounds.now) diagram.now result }
+    ensures least { IsLeastLength (λ m. list_any (λ b. excluded b diagram.now array_state m) bounds.now) diagram.now result }
 {
     for plies in 0..129u8 {
         if !is_excluded(bounds, diagram, plies, white, black) {
@@ -148,7 +132,7 @@ pub fn shortest(
     bounds: &[Box<dyn Bound>],
 ) -> Result<Option<Length>, AllocError>
     ensures headline { IfOk result (NoneBelow diagram.now) }
-    ensures least { IfOk result (IsLeast (λ m. list_any (λ b. excluded b diagram.now array_state m) bounds.now) diagram.now) }
+    ensures least { IfOk result (IsLeastLength (λ m. list_any (λ b. excluded b diagram.now array_state m) bounds.now) diagram.now) }
 {
     let white = offers_of(alloc, Color::White, diagram)?;
     let black = offers_of(alloc, Color::Black, diagram)?;

@@ -4,7 +4,7 @@ ghost use Rattle.std.specs.Io.KnownBytes.{Appends};
 ghost use Rattle.pg_position.specs.declared.state.State.{State};
 ghost use Rattle.pg_moves.specs.Moves.{IsLegal, IsMoveList};
 ghost use Rattle.pg_san.specs.Writing.{IsSan};
-ghost use Rattle.pg_report.specs.MovesText.{AreMoveLines, IsMovesText, ReadsAs, IsRefusedAs, IsMovesFault};
+ghost use Rattle.pg_report.specs.MovesText.{AreMoveLines, IsMovesText, SpellsPosition, IsRefusedAs, IsMovesFault};
 
 use crate::fault::MovesFault;
 use pg_certificate::{Refused, Sink};
@@ -16,7 +16,7 @@ use std::alloc::{AllocError, Global};
 
 // The position of a text.
 pub(crate) fn game_of(text: &str) -> Result<FenGame, FenFault>
-    ensures ok { IfOk result (λ game. ReadsAs text.now game.position) }
+    ensures ok { IfOk result (λ game. SpellsPosition text.now game.position) }
     ensures err { IfErr result (λ e. IsRefusedAs text.now e) }
 {
     read_position(text)
@@ -56,7 +56,7 @@ fn write_lines<W: Sink>(position: &Position, moves: &[Move], out: &mut W) -> Res
 /// `Position` where the text is refused as a position, with that refusal; `Memory` where a growth
 /// was refused; `Write` where the sink has failed. With the first two the sink is as it was.
 pub fn run_moves<W: Sink>(alloc: Global, fen: &str, out: &mut W) -> Result<(), MovesFault>
-    ensures ok { OnOk result ((p : State) × ReadsAs fen.now p × ((text : List ℕ) × IsMovesText p text × Appends (W.held out.old) (W.held out.new) text)) }
+    ensures ok { OnOk result ((p : State) × SpellsPosition fen.now p × ((text : List ℕ) × IsMovesText p text × Appends (W.held out.old) (W.held out.new) text)) }
     ensures err { IfErr result (λ e. IsMovesFault fen.now (W.has_failed out.new) e) }
     ensures unwritten { IfErr result (λ e. e ≢ MovesFault.Write → out.new ≡ out.old) }
     ensures runs { OnOk result (W.has_failed out.new ≡ W.has_failed out.old) }

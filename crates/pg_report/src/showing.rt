@@ -7,7 +7,7 @@ ghost use Rattle.pg_position.specs.Array.{array_state};
 ghost use Rattle.pg_travel.specs.Needs.{NeedIs};
 ghost use Rattle.pg_fen.specs.Fields.{fields};
 ghost use Rattle.pg_fen.specs.DiagramText.{diagram_of};
-ghost use Rattle.pg_report.specs.Shortest.{IsLeast, NoneBelow};
+ghost use Rattle.pg_report.specs.Shortest.{IsLeastLength, NoneBelow};
 ghost use Rattle.pg_report.specs.Showing.{counted_text, name_of, men_text, captured_text, need_text, open_line, IsSideLine, IsShown, IsShowFault};
 
 use crate::boards::append_board;
@@ -141,7 +141,7 @@ pub fn run_show<W: Sink>(
     out: &mut W,
 ) -> Result<(), ShowFault>
     ensures ok { OnOk result ((d : Placement) × (diagram_of (fields diagram.now) ≡ Ok d)
-        × ((least : Option ℕ) × NoneBelow d least × IsLeast (λ m. list_any (λ b. excluded b d array_state m) bounds.now) d least
+        × ((least : Option ℕ) × NoneBelow d least × IsLeastLength (λ m. list_any (λ b. excluded b d array_state m) bounds.now) d least
         × ((text : List ℕ) × IsShown d least text × Appends (W.held out.old) (W.held out.new) text))) }
     ensures err { IfErr result (λ e. IsShowFault diagram.now (W.has_failed out.new) e) }
     ensures unwritten { IfErr result (λ e. e ≢ ShowFault.Write → out.new ≡ out.old) }

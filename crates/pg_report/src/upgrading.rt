@@ -6,14 +6,14 @@ ghost use Rattle.pg_certificate.specs.Reading.{more_at};
 ghost use Rattle.pg_certificate.specs.Spelling.{longest_record};
 ghost use Rattle.pg_certificate.specs.Writer.{written};
 ghost use Rattle.pg_report.specs.numbers.Copying.{Copies, CopiesOne, one_in};
-ghost use Rattle.pg_report.specs.Upgrade.{IsUpgraded, IsUpgradeFault, Takes, fault_of, records_in, upgrade_of};
+ghost use Rattle.pg_report.specs.Upgrade.{IsUpgraded, IsUpgradeFault, Takes, upgrade_fault_of, records_in, upgrade_of};
 
 use crate::fault::UpgradeFault;
 use pg_certificate::{Header, ReadFault, RecordReader, RecordWriter, Sink, Source};
 
 // A refusal to read, as one to upgrade.
 fn fault_of(fault: ReadFault) -> UpgradeFault
-    ensures { result ≡ fault_of fault }
+    ensures { result ≡ upgrade_fault_of fault }
 {
     match fault {
         ReadFault::Truncated | ReadFault::Trailing => UpgradeFault::Truncated,

@@ -11,42 +11,27 @@ use Rattle.pg_san.specs.declared.cores.Core.{Core}
 use Rattle.pg_san.specs.declared.cores.Parts.{Parts}
 use Rattle.pg_san.specs.declared.cores.Sep.{Sep}
 use Rattle.pg_san.specs.declared.cores.Sep.TheVariants.{Nothing, Cross, Hyphen}
-use Rattle.pg_san.specs.CoreText.{piece_of, promoted_of, is_file, is_rank, parts_in, promotion_in, plain_core, core_of}
-use Rattle.pg_san.specs.Spelling.{IsOfBoard, file_byte, rank_byte, file_text, rank_text}
-use Rattle.pg_san.specs.Grammar.{sep_text, parts_text, IsPieceText, IsPromotionText, IsPlainText}
+use Rattle.pg_san.specs.CoreText.{is_file, is_rank, parts_in, promotion_in, plain_core, core_of}
+use Rattle.pg_san.specs.Spelling.{piece_of, promoted_of, IsOfBoard, file_byte, rank_byte, file_text, rank_text}
+use Rattle.pg_san.specs.Grammar.{sep_text, parts_text, IsPieceText, IsPromotionText}
+use Rattle.pg_san.proofs.PlainTexts.{IsPlainText}
 
 -- ---- the tests of the bytes that spell a file, a rank and a square
-pub record RankByte (r : ℕ) : Type 0 where
-  pub digit : is_rank (48 + r) ≡ true
-  pub file : is_file (48 + r) ≡ false
-  pub cross : nat_eq (48 + r) 120 ≡ false
-  pub hyphen : nat_eq (48 + r) 45 ≡ false
-  pub back : 48 + r - 48 ≡ r
+pub record NumberByte (first n : ℕ) (of_rank of_file : Bool) : Type 0 where
+  pub digit : is_rank (first + n) ≡ of_rank
+  pub file : is_file (first + n) ≡ of_file
+  pub cross : nat_eq (first + n) 120 ≡ false
+  pub hyphen : nat_eq (first + n) 45 ≡ false
+  pub back : first + n - first ≡ n
 
-pub rank_byte_is : (r : ℕ) → 1 ≤ r → r ≤ 8 → RankByte r
-rank_byte_is r low high = record {
-  digit = grind (arith, nat_tests);
-  file = grind (arith, nat_tests);
-  cross = grind (arith, nat_tests);
-  hyphen = grind (arith, nat_tests);
-  back = omega arith;
-}
+number_byte : (first n : ℕ) (of_rank of_file : Bool) → is_rank (first + n) ≡ of_rank → is_file (first + n) ≡ of_file → nat_eq (first + n) 120 ≡ false → nat_eq (first + n) 45 ≡ false → NumberByte first n of_rank of_file
+number_byte first n of_rank of_file digit file cross hyphen = record { digit = digit; file = file; cross = cross; hyphen = hyphen; back = omega arith }
 
-pub record FileByte (f : ℕ) : Type 0 where
-  pub digit : is_rank (96 + f) ≡ false
-  pub file : is_file (96 + f) ≡ true
-  pub cross : nat_eq (96 + f) 120 ≡ false
-  pub hyphen : nat_eq (96 + f) 45 ≡ false
-  pub back : 96 + f - 96 ≡ f
+pub rank_byte_is : (r : ℕ) → 1 ≤ r → r ≤ 8 → NumberByte 48 r true false
+rank_byte_is r low high = number_byte 48 r true false (grind (arith, nat_tests)) (grind (arith, nat_tests)) (grind (arith, nat_tests)) (grind (arith, nat_tests))
 
-pub file_byte_is : (f : ℕ) → 1 ≤ f → f ≤ 8 → FileByte f
-file_byte_is f low high = record {
-  digit = grind (arith, nat_tests);
-  file = grind (arith, nat_tests);
-  cross = grind (arith, nat_tests);
-  hyphen = grind (arith, nat_tests);
-  back = omega arith;
-}
+pub file_byte_is : (f : ℕ) → 1 ≤ f → f ≤ 8 → NumberByte 96 f false true
+file_byte_is f low high = number_byte 96 f false true (grind (arith, nat_tests)) (grind (arith, nat_tests)) (grind (arith, nat_tests)) (grind (arith, nat_tests))
 
 record SquareBytes (t : ℕ) : Type 0 where
   digit : is_rank (48 + rank t) ≡ true

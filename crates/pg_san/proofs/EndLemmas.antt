@@ -12,10 +12,11 @@ use Rattle.pg_san.specs.declared.cores.Sep.{Sep}
 use Rattle.pg_san.specs.declared.said.Form.{Form}
 use Rattle.pg_san.specs.declared.said.Form.TheVariants.{Castles, Moves}
 use Rattle.pg_san.specs.declared.said.Said.{Said}
-use Rattle.pg_san.specs.CoreText.{piece_of, promoted_of, core_of}
+use Rattle.pg_san.specs.CoreText.{core_of}
+use Rattle.pg_san.specs.Spelling.{piece_of, promoted_of, file_byte, rank_byte, file_text, rank_text}
 use Rattle.pg_san.specs.Said.{castling_of, form_of, said_by, said_of, passing_in, without_mark, without_check, without_marks}
-use Rattle.pg_san.specs.Spelling.{file_byte, rank_byte, file_text, rank_text}
 use Rattle.pg_san.specs.Grammar.{sep_text, parts_text, IsPieceText, IsPromotionText, IsFormText, IsPassingText, IsCheckText, IsMark, IsMarksText, IsSaidText}
+use Rattle.pg_san.proofs.PlainTexts.{IsPlainText, plain_text}
 use Rattle.pg_san.proofs.CoreLemmas.{First, parts_first, reversed_parts, piece_again, plain_again}
 
 -- ---- bytes that begin no end of a reversed text
@@ -141,7 +142,9 @@ front_form front (Castles KingSide) (inr e) = rw e refl
 front_form front (Castles QueenSide) (inl e) = rw e refl
 front_form front (Castles QueenSide) (inr e) = rw e refl
 front_form front (Moves core) (inl h) = piece_form front core h
-front_form front (Moves core) (inr h) = core_form front core (subst First (sym h.spelled) (parts_first h.parts.file h.parts.rank h.parts.sep h.parts.target h.end h.small.file_small h.small.rank_small)) (plain_again front core h)
+front_form front (Moves core) (inr g) =
+    let h : IsPlainText front core = plain_text front core g in
+    core_form front core (subst First (sym h.spelled) (parts_first h.parts.file h.parts.rank h.parts.sep h.parts.target h.end h.small.file_small h.small.rank_small)) (plain_again front core h)
 
 rank_quiet : (t : ℕ) → t < 64 → IsQuiet (rank_byte (rank t))
 rank_quiet t lt = digit_quiet (48 + rank t) (omega arith) (omega arith)
@@ -172,7 +175,8 @@ front_quiet front (Moves core) (inl h) =
     let b = parts_begin h.parts.file h.parts.rank h.parts.sep h.parts.target h.small.target_small in
     let e : reverse front ≡ reverse (parts_text h.parts.file h.parts.rank h.parts.sep h.parts.target) ++ h.letter ∷ [] = ap reverse h.spelled ∙ reverse-append (h.letter ∷ []) (parts_text h.parts.file h.parts.rank h.parts.sep h.parts.target) in
     subst (Begins IsQuiet) (sym e) (begins_more (h.letter ∷ []) (reverse (parts_text h.parts.file h.parts.rank h.parts.sep h.parts.target)) b)
-front_quiet front (Moves core) (inr h) =
+front_quiet front (Moves core) (inr g) =
+    let h : IsPlainText front core = plain_text front core g in
     let b = parts_begin h.parts.file h.parts.rank h.parts.sep h.parts.target h.small.target_small in
     let e : reverse front ≡ reverse h.end ++ reverse (parts_text h.parts.file h.parts.rank h.parts.sep h.parts.target) = ap reverse h.spelled ∙ reverse-append (parts_text h.parts.file h.parts.rank h.parts.sep h.parts.target) h.end in
     subst (Begins IsQuiet) (sym e) (promotion_begin h.end h.promotion (reverse (parts_text h.parts.file h.parts.rank h.parts.sep h.parts.target)) h.end_is b)

@@ -10,9 +10,10 @@ use Rattle.pg_san.specs.declared.cores.Core.{Core}
 use Rattle.pg_san.specs.declared.cores.Parts.{Parts}
 use Rattle.pg_san.specs.declared.cores.Sep.{Sep}
 use Rattle.pg_san.specs.declared.cores.Sep.TheVariants.{Nothing, Cross, Hyphen}
-use Rattle.pg_san.specs.CoreText.{piece_of, promoted_of, is_file, is_rank, file_in, rank_in, square_in, sep_in, without_equals, promotion_by, promotion_in, source_in, parts_by, parts_in, piece_core, plain_core, core_by, core_of}
-use Rattle.pg_san.specs.Spelling.{IsOfBoard, file_byte, rank_byte, file_text, rank_text}
-use Rattle.pg_san.specs.Grammar.{sep_text, parts_text, AreOfBoard, IsPieceText, IsPromotionText, IsPlainText}
+use Rattle.pg_san.specs.CoreText.{is_file, is_rank, file_in, rank_in, square_in, sep_in, without_equals, promotion_by, promotion_in, source_in, parts_by, parts_in, plain_core, core_by, core_of}
+use Rattle.pg_san.specs.Spelling.{piece_of, promoted_of, IsOfBoard, file_byte, rank_byte, file_text, rank_text}
+use Rattle.pg_san.specs.Grammar.{piece_core, sep_text, parts_text, AreOfBoard, IsPieceText, IsPawnText, IsSquaresText, IsPromotionText}
+use Rattle.pg_san.proofs.PlainTexts.{IsPlainText, of_plain_text}
 use Rattle.pg_san.proofs.CoreLemmas.{reversed_parts}
 
 -- ---- a file, a rank, `x` or `-`, and a square
@@ -20,25 +21,18 @@ record ComesOff (spell : Option ℕ → List ℕ) (text : List ℕ) (off : Optio
   parts : text ≡ spell off.0 ++ off.1
   small : IsOfBoard off.0
 
-rank_by : (t : Bool) (b : ℕ) (more : List ℕ) → is_rank b ≡ t → ComesOff rank_text (b ∷ more) (cond t (Some (b - 48), more) (None, b ∷ more))
-rank_by true b more e =
-    let k : 48 + (b - 48) ≡ b = grind (arith, nat_tests) in
-    record { parts = rw k refl; small = (grind (arith, nat_tests), grind (arith, nat_tests)) }
-rank_by false b more e = record { parts = refl; small = tt }
+-- a number comes off where the first byte spells it
+number_by : (spell : Option ℕ → List ℕ) (t : Bool) (n b : ℕ) (more : List ℕ) → spell None ≡ [] → (t ≡ true → (spell (Some n) ≡ b ∷ []) × (1 ≤ n) × (n ≤ 8)) → ComesOff spell (b ∷ more) (cond t (Some n, more) (None, b ∷ more))
+number_by spell true n b more none some = record { parts = rw (some refl).0 refl; small = ((some refl).1, (some refl).2) }
+number_by spell false n b more none some = record { parts = rw none refl; small = tt }
 
 rank_off : (text : List ℕ) → ComesOff rank_text text (rank_in text)
 rank_off [] = record { parts = refl; small = tt }
-rank_off (b ∷ more) = rank_by (is_rank b) b more refl
-
-file_by : (t : Bool) (b : ℕ) (more : List ℕ) → is_file b ≡ t → ComesOff file_text (b ∷ more) (cond t (Some (b - 96), more) (None, b ∷ more))
-file_by true b more e =
-    let k : 96 + (b - 96) ≡ b = grind (arith, nat_tests) in
-    record { parts = rw k refl; small = (grind (arith, nat_tests), grind (arith, nat_tests)) }
-file_by false b more e = record { parts = refl; small = tt }
+rank_off (b ∷ more) = number_by rank_text (is_rank b) (b - 48) b more refl (λ e. (let k : 48 + (b - 48) ≡ b = grind (arith, nat_tests) in ap (λ (x : ℕ). x ∷ []) k, grind (arith, nat_tests), grind (arith, nat_tests)))
 
 file_off : (text : List ℕ) → ComesOff file_text text (file_in text)
 file_off [] = record { parts = refl; small = tt }
-file_off (b ∷ more) = file_by (is_file b) b more refl
+file_off (b ∷ more) = number_by file_text (is_file b) (b - 96) b more refl (λ e. (let k : 96 + (b - 96) ≡ b = grind (arith, nat_tests) in ap (λ (x : ℕ). x ∷ []) k, grind (arith, nat_tests), grind (arith, nat_tests)))
 
 abbrev SepOff : List ℕ → Sep × List ℕ → Type 0
 SepOff text off = text ≡ sep_text off.0 ++ off.1
@@ -178,7 +172,7 @@ core_found_by : (o : Option Kind) (b : ℕ) (rest : List ℕ) (core : Core) → 
 core_found_by (Some k) b rest core l h = inl (piece_by (parts_in (reverse rest)) k b rest core l refl h)
 core_found_by None b rest core l h = inr (plain_by (b ∷ rest) (promotion_in (reverse (b ∷ rest))) (parts_in (promotion_in (reverse (b ∷ rest))).1) core (promotion_off (reverse (b ∷ rest))) refl h)
 
-pub core_found : (text : List ℕ) (core : Core) → core_of text ≡ Some core → IsPieceText text core ⊎ IsPlainText text core
+pub core_found : (text : List ℕ) (core : Core) → core_of text ≡ Some core → IsPieceText text core ⊎ (IsPawnText text core ⊎ IsSquaresText text core)
 unfolding core_of
 core_found [] core h = absurd cc
-core_found (b ∷ rest) core h = core_found_by (piece_of b) b rest core refl h
+core_found (b ∷ rest) core h = elim (core_found_by (piece_of b) b rest core refl h) [ inl piece ↦ inl piece | inr plain ↦ inr (of_plain_text (b ∷ rest) core plain) ]

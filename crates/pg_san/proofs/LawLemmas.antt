@@ -18,7 +18,8 @@ use Rattle.pg_san.specs.declared.said.Said.{Said}
 use Rattle.pg_san.specs.Matching.{FitsCore, FitsForm, FitsAs, Fits, Matches, IsReading}
 use Rattle.pg_san.specs.Writing.{HasRival, IsHint, IsPawnHint, IsCore, IsForm, IsSan}
 use Rattle.pg_san.proofs.MoveLemmas.{same_move, one_pawn, pace_of, Goer, goer, same_castling}
-use Rattle.pg_san.proofs.SpellLemmas.{source_of, plainly, written_says}
+use Rattle.pg_san.proofs.SpellLemmas.{source_of, plainly, written_spelled, written_says}
+use Rattle.pg_san.proofs.EndLemmas.{said_again}
 
 -- ---- it is matched by its move
 if_said : (o : Option ℕ) (x : ℕ) → (o ≡ None) ⊎ (o ≡ Some x) → IfSome o (λ n. x ≡ n)
@@ -43,7 +44,7 @@ form_fits p k m (Moves c) h = core_fits p k m c h.1
 
 pub itself : (p : State) (m : Move) (text : List ℕ) → IsSan p m text → Matches p text m
 unfolding Matches Fits
-itself p m text h = (plainly h.form, written_says p m text h, (h.kind, record { stands = h.stands; form_fits = form_fits p h.kind m h.form h.form_is; passing_fits = λ e. absurd (let z : false ≡ true = e in cc) }))
+itself p m text h = (plainly h.form, written_spelled p m text h, (h.kind, record { stands = h.stands; form_fits = form_fits p h.kind m h.form h.form_is; passing_fits = λ e. absurd (let z : false ≡ true = e in cc) }))
 
 -- ---- and by no other: what is said of a man leaves no rival
 same_square : (s t : ℕ) → file s ≡ file t → rank s ≡ rank t → s ≡ t
@@ -90,7 +91,7 @@ form_alone p k j m n (Moves c) h g lm ln am an = core_alone p k j m n c h.1 g lm
 pub no_other : (p : State) (m n : Move) (text : List ℕ) → IsSan p m text → IsLegal p n → Matches p text n → n ≡ m
 unfolding Matches Fits
 no_other p m n text h l (said, e, (j, fits)) =
-    let same : Some said ≡ Some (plainly h.form) = sym e ∙ written_says p m text h in
+    let same : Some said ≡ Some (plainly h.form) = sym (said_again text said e) ∙ written_says p m text h in
     let is : said ≡ plainly h.form = cc in
     let f : FitsAs p (plainly h.form) j n = subst (λ (s : Said). FitsAs p s j n) is fits in
     form_alone p h.kind j m n h.form h.form_is f.form_fits (h.after, h.legal) l h.stands f.stands
@@ -102,6 +103,6 @@ differ p m n text h g = no_other p n m text g (h.after, h.legal) (itself p m tex
 -- its text is read as the move
 pub read_again : (p : State) (m : Move) (text : List ℕ) (r : Result Move SanFault) → IsSan p m text → IsReading p text r → r ≡ Ok m
 read_again p m text (Ok n) h g = ap Ok (no_other p m n text h g.0 g.1)
-read_again p m text (Err Shape) h g = absurd (let z : Some (plainly h.form) ≡ None = sym (written_says p m text h) ∙ g in cc)
+read_again p m text (Err Shape) h g = absurd (g (plainly h.form) (written_spelled p m text h))
 read_again p m text (Err NoSuchMove) h g = absurd (g.1 m (h.after, h.legal) (itself p m text h))
 read_again p m text (Err Ambiguous) h (a, b, apart, one, two) = absurd (apart (no_other p m a text h one.0 one.1 ∙ sym (no_other p m b text h two.0 two.1)))

@@ -1,6 +1,7 @@
 pub mod MoveLemmas
 pub mod WalkLemmas
 pub mod RivalLemmas
+pub mod PlainTexts
 pub mod CoreLemmas
 pub mod EndLemmas
 pub mod SpellLemmas
@@ -11,7 +12,6 @@ pub mod OneTextLemmas
 pub mod GameLemmas
 pub mod OrderLemmas
 pub mod PlaceLemmas
-pub mod WordLemmas
 pub mod LineLemmas
 pub mod WordReadingLemmas
 pub mod ListingLemmas

@@ -16,12 +16,13 @@ use Rattle.pg_position.specs.declared.moves.Move.{Move}
 use Rattle.pg_position.specs.declared.moves.Way.{Way}
 use Rattle.pg_position.specs.declared.moves.Way.TheVariants.{Plain, Capture, DoubleAdvance, EnPassant, Promotion, Castling as CastlingWay}
 use Rattle.pg_position.specs.Geometry.{apart, IsForward, InPattern}
-use Rattle.pg_position.specs.Position.{Stands, IsVacant, ahead, king_home, passed_rank, IsPassed, IsPosition}
-use Rattle.pg_position.specs.Step.{home_rank, last_rank, king_target, IsEnemy, Goes, IsPiece, IsWay, IsEnPassant, IsCastling, Step}
+use Rattle.pg_position.specs.Position.{Stands, IsVacant, IsPassed, IsPosition}
+use Rattle.pg_position.specs.Step.{IsEnemy, Goes, IsPiece, IsWay, IsEnPassant, IsCastling, Step}
+use Rattle.pg_position.specs.Squares.{ahead, king_home, passed_rank, home_rank, last_rank, king_target}
 use Rattle.pg_position.proofs.StepLemmas.{same_kind, some_none}
 use Rattle.pg_moves.specs.Moves.{IsLegal}
 use Rattle.pg_san.specs.declared.said.Said.{Said}
-use Rattle.pg_san.specs.Matching.{GoesTwo, Takes, FitsAs}
+use Rattle.pg_san.specs.Matching.{GoesTwo, IsCapturing, FitsAs}
 
 pub same_move : (m n : Move) → m.from ≡ n.from → m.to ≡ n.to → m.promotion ≡ n.promotion → m ≡ n
 same_move m n e g h = λ i. record { from = e i; to = g i; promotion = h i }
@@ -205,7 +206,7 @@ one_pawn b c r t s x y f (side_pace g) (two_paces h) = sym (straight_not t r s (
 one_pawn b c r t s x y f (side_pace g) (side_pace h) = one_one c r t s f g.one h.one
 
 -- a pawn that takes nothing stays on its file
-pub stays_on_file : (p : State) (m : Move) (w : Way) → IsWay p Pawn m w → (Takes p Pawn m → ⊥) → file m.from ≡ file m.to
+pub stays_on_file : (p : State) (m : Move) (w : Way) → IsWay p Pawn m w → (IsCapturing p Pawn m → ⊥) → file m.from ≡ file m.to
 unfolding Goes
 stays_on_file p m Plain h none = h.goes.0
 stays_on_file p m Capture h none = absurd (none (inl h.enemy))

@@ -25,7 +25,7 @@ use Rattle.pg_san.proofs.OrderLemmas.{same_games}
 -- ---- a word
 said_something : (p : State) (text : List ℕ) (m : Move) → Matches p text m → IsReading p text (Err Shape) → ⊥
 unfolding Matches
-said_something p text m h g = let e = h.1 in cc
+said_something p text m h g = g h.0 h.1
 
 pub one_reading : (p : State) (text : List ℕ) (r s : Result Move SanFault) → IsReading p text r → IsReading p text s → r ≡ s
 one_reading p text (Ok m) (Ok n) h g = ap Ok (sym (h.2 n g.0 g.1))
@@ -36,9 +36,9 @@ one_reading p text (Err Shape) (Ok m) h g = absurd (said_something p text m g.1 
 one_reading p text (Err NoSuchMove) (Ok m) h g = absurd (h.1 m g.0 g.1)
 one_reading p text (Err Ambiguous) (Ok m) h g = absurd (h.2 (g.2 h.0 h.3.0 h.3.1 ∙ sym (g.2 h.1 h.4.0 h.4.1)))
 one_reading p text (Err Shape) (Err Shape) h g = refl
-one_reading p text (Err Shape) (Err NoSuchMove) h g = absurd (g.0 h)
+one_reading p text (Err Shape) (Err NoSuchMove) h g = absurd (h g.0.0 g.0.1)
 one_reading p text (Err Shape) (Err Ambiguous) h g = absurd (said_something p text g.0 g.3.1 h)
-one_reading p text (Err NoSuchMove) (Err Shape) h g = absurd (h.0 g)
+one_reading p text (Err NoSuchMove) (Err Shape) h g = absurd (g h.0.0 h.0.1)
 one_reading p text (Err NoSuchMove) (Err NoSuchMove) h g = refl
 one_reading p text (Err NoSuchMove) (Err Ambiguous) h g = absurd (h.1 g.0 g.3.0 g.3.1)
 one_reading p text (Err Ambiguous) (Err Shape) h g = absurd (said_something p text h.0 h.3.1 g)

@@ -4,6 +4,7 @@ use Rattle.std.proofs.lemmas.List.{append-nil}
 use Rattle.pg_board.specs.declared.man.Kind.{Kind}
 use Rattle.pg_board.specs.declared.man.Kind.TheVariants.{Pawn, Knight, Bishop, Rook, Queen, King}
 use Rattle.pg_board.specs.Squares.{file, rank}
+use Rattle.pg_board.specs.lemmas.Kinds.{each_kind}
 use Rattle.pg_position.specs.declared.state.State.{State}
 use Rattle.pg_position.specs.declared.moves.Move.{Move}
 use Rattle.pg_position.specs.Position.{Stands}
@@ -17,11 +18,10 @@ use Rattle.pg_san.specs.declared.cores.Sep.TheVariants.{Nothing, Cross}
 use Rattle.pg_san.specs.declared.said.Form.{Form}
 use Rattle.pg_san.specs.declared.said.Form.TheVariants.{Castles, Moves}
 use Rattle.pg_san.specs.declared.said.Said.{Said}
-use Rattle.pg_san.specs.CoreText.{piece_of, core_to, is_cross}
+use Rattle.pg_san.specs.Spelling.{piece_of, IsOfBoard, file_text, rank_text, square_text, letter_text, cross_text, promotion_text, written_file, core_text, form_text, IsFormWritable}
+use Rattle.pg_san.specs.Grammar.{core_to, is_cross, parts_text, IsPieceText, IsPawnText, IsPromotionText, IsFormText, IsCheckText, IsSaidText}
 use Rattle.pg_san.specs.Said.{said_of}
-use Rattle.pg_san.specs.Matching.{Takes}
-use Rattle.pg_san.specs.Spelling.{IsOfBoard, file_text, rank_text, square_text, letter_text, cross_text, promotion_text, written_file, core_text, form_text, IsFormWritable}
-use Rattle.pg_san.specs.Grammar.{parts_text, IsPieceText, IsPromotionText, IsPlainText, IsFormText, IsCheckText, IsSaidText}
+use Rattle.pg_san.specs.Matching.{IsCapturing}
 use Rattle.pg_san.specs.Writing.{IsHint, IsPawnHint, IsCore, IsForm, IsSignOf, IsSan}
 use Rattle.pg_san.proofs.MoveLemmas.{Goer, goer, unpromoted, promotes_to, stays_on_file}
 use Rattle.pg_san.proofs.EndLemmas.{said_again}
@@ -70,7 +70,7 @@ pub record IsCanonical (k : Kind) (c : Core) : Type 0 where
 
 pawn_stays : (p : State) (m : Move) (c : Core) → IsCore p Pawn m c → Goer p Pawn m → c.takes ≡ false → c.file ≡ Some (file c.target)
 pawn_stays p m c h g e =
-    let none : (Takes p Pawn m → ⊥) = λ t. (let y : c.takes ≡ true = h.takes_is.1 t in let z : true ≡ false = sym y ∙ e in cc) in
+    let none : (IsCapturing p Pawn m → ⊥) = λ t. (let y : c.takes ≡ true = h.takes_is.1 t in let z : true ≡ false = sym y ∙ e in cc) in
     (h.pawn_is refl).0 ∙ ap Some (stays_on_file p m g.way g.is_way none ∙ ap file (sym h.target_is))
 
 pub is_canonical : (p : State) (k : Kind) (m : Move) (c : Core) → Stands p.board p.side k m.from → IsLegal p m → IsCore p k m c → IsCanonical k c
@@ -134,30 +134,34 @@ promotion_spelled (Some Queen) h = (81, refl, inr refl)
 promotion_spelled (Some Pawn) h = absurd ((h Pawn refl).0 refl)
 promotion_spelled (Some King) h = absurd ((h King refl).1 refl)
 
-pawn_spelled : (t : Bool) (c : Core) → c.takes ≡ t → IsCanonical Pawn c → IsPlainText (core_text Pawn c) c
+pawn_spelled : (t : Bool) (c : Core) → c.takes ≡ t → IsCanonical Pawn c → IsPawnText (core_text Pawn c) c
 pawn_spelled true c e h =
     let f = h.source refl in
     record {
-      parts = record { file = Some f.0; rank = None; sep = Cross; target = c.target };
+      left = Some (f.0, true);
+      target = c.target;
       end = promotion_text c.promotion;
       promotion = c.promotion;
+      left_small = subst IsOfBoard f.1 h.file_small;
+      target_small = h.target_small;
       end_is = promotion_spelled c.promotion h.promoted;
-      small = record { file_small = subst IsOfBoard f.1 h.file_small; rank_small = tt; target_small = h.target_small };
       spelled = rw (e, f.1, h.rankless refl) refl;
-      says = ap Some (same_core (core_to (Some Pawn) (Some f.0) None c.target true c.promotion) c (sym h.kind_is) (sym f.1) (sym (h.rankless refl)) refl (sym e) refl);
+      says = sym (same_core (core_to (Some Pawn) (Some f.0) None c.target true c.promotion) c (sym h.kind_is) (sym f.1) (sym (h.rankless refl)) refl (sym e) refl);
     }
 pawn_spelled false c e h = record {
-  parts = record { file = None; rank = None; sep = Nothing; target = c.target };
+  left = None;
+  target = c.target;
   end = promotion_text c.promotion;
   promotion = c.promotion;
+  left_small = tt;
+  target_small = h.target_small;
   end_is = promotion_spelled c.promotion h.promoted;
-  small = record { file_small = tt; rank_small = tt; target_small = h.target_small };
   spelled = rw (e, h.rankless refl) refl;
-  says = ap Some (same_core (core_to (Some Pawn) (Some (file c.target)) None c.target false c.promotion) c (sym h.kind_is) (sym (h.stays refl e)) (sym (h.rankless refl)) refl (sym e) refl);
+  says = sym (same_core (core_to (Some Pawn) (Some (file c.target)) None c.target false c.promotion) c (sym h.kind_is) (sym (h.stays refl e)) (sym (h.rankless refl)) refl (sym e) refl);
 }
 
-core_spelled : (k : Kind) (c : Core) → IsCanonical k c → IsPieceText (core_text k c) c ⊎ IsPlainText (core_text k c) c
-core_spelled Pawn c h = inr (pawn_spelled c.takes c refl h)
+core_spelled : (k : Kind) (c : Core) → IsCanonical k c → IsFormText (core_text k c) (Moves c)
+core_spelled Pawn c h = inr (inl (pawn_spelled c.takes c refl h))
 core_spelled Knight c h = inl (piece_spelled Knight 78 c h (λ e. cc) refl (λ file t. refl) refl)
 core_spelled Bishop c h = inl (piece_spelled Bishop 66 c h (λ e. cc) refl (λ file t. refl) refl)
 core_spelled Rook c h = inl (piece_spelled Rook 82 c h (λ e. cc) refl (λ file t. refl) refl)
@@ -213,21 +217,11 @@ cross_short true = omega arith
 cross_short false = omega arith
 
 letter_short : (k : Kind) → length (letter_text k) ≤ 1
-letter_short Pawn = omega arith
-letter_short Knight = omega arith
-letter_short Bishop = omega arith
-letter_short Rook = omega arith
-letter_short Queen = omega arith
-letter_short King = omega arith
+letter_short = each_kind (λ k. length (letter_text k) ≤ 1) (omega arith, omega arith, omega arith, omega arith, omega arith, omega arith)
 
 promotion_short : (x : Option Kind) → length (promotion_text x) ≤ 2
 promotion_short None = omega arith
-promotion_short (Some Pawn) = omega arith
-promotion_short (Some Knight) = omega arith
-promotion_short (Some Bishop) = omega arith
-promotion_short (Some Rook) = omega arith
-promotion_short (Some Queen) = omega arith
-promotion_short (Some King) = omega arith
+promotion_short (Some k) = each_kind (λ j. length (promotion_text (Some j)) ≤ 2) (omega arith, omega arith, omega arith, omega arith, omega arith, omega arith) k
 
 -- a man that promotes is a pawn, of which neither letter nor rank is written
 record Lengths (k : Kind) (c : Core) : Type 0 where

@@ -12,8 +12,11 @@ use Rattle.pg_moves.proofs.PlaceLemmas.{move_cmp_total, place_low}
 use Rattle.pg_moves.proofs.SearchLemmas.{less_place}
 use Rattle.pg_san.specs.declared.said.Said.{Said}
 use Rattle.pg_san.specs.Said.{said_of}
+use Rattle.pg_san.specs.Grammar.{IsSaidText}
 use Rattle.pg_san.specs.Matching.{Fits, Matches}
 use Rattle.pg_san.specs.numbers.Walk.{NoneFits, IsFirstFit, WalkedTo}
+use Rattle.pg_san.proofs.EndLemmas.{said_again}
+use Rattle.pg_san.proofs.TextFoundLemmas.{said_found}
 
 -- ---- a step of the walk
 past_later : (last : Option Move) (m n : Move) → IsPast last m → IsBefore m n → IsPast last n
@@ -43,14 +46,14 @@ walk_less p (Some a) m h next =
 -- ---- what reading concludes
 pub fits_of : (p : State) (text : List ℕ) (said : Said) (n : Move) → said_of text ≡ Some said → Matches p text n → Fits p said n
 unfolding Matches
-fits_of p text said n e (other, f, h) = let same : Some other ≡ Some said = sym f ∙ e in let s : other ≡ said = cc in subst (λ (x : Said). Fits p x n) s h
+fits_of p text said n e (other, f, h) = let same : Some other ≡ Some said = sym (said_again text other f) ∙ e in let s : other ≡ said = cc in subst (λ (x : Said). Fits p x n) s h
 
 pub matches_of : (p : State) (text : List ℕ) (said : Said) (n : Move) → said_of text ≡ Some said → Fits p said n → Matches p text n
 unfolding Matches
-matches_of p text said n e h = (said, e, h)
+matches_of p text said n e h = (said, said_found text said e, h)
 
-pub some_said : (text : List ℕ) (said : Said) → said_of text ≡ Some said → said_of text ≢ None
-some_said text said e = λ f. (let z : Some said ≡ None = sym e ∙ f in cc)
+pub some_said : (text : List ℕ) (said : Said) → said_of text ≡ Some said → (s : Said) × IsSaidText text s
+some_said text said e = (said, said_found text said e)
 
 pub none_matches : (p : State) (text : List ℕ) (said : Said) → said_of text ≡ Some said → NoneFits p said None → (n : Move) → IsLegal p n → Matches p text n → ⊥
 unfolding NoneFits

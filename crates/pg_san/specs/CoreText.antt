@@ -3,29 +3,23 @@
 -- 1 for a to 8 for h, and a rank is a number 1 to 8.
 use Rattle.std.specs.Prelude.{ℕ, ◌+◌, ◌-◌, ◌*◌, Bool, true, false, ◌&&◌, ◌==◌, List, [], ◌∷◌, length, reverse, Option, Some, None, if◌then◌else◌, nat_le}
 use Rattle.std.specs.Option.{option_map, option_and_then}
-use Rattle.std.specs.Char.{to_ascii_uppercase}
+use Prim.Native.Char.{code}
 use Rattle.pg_board.specs.declared.man.Kind.{Kind}
-use Rattle.pg_board.specs.declared.man.Kind.TheVariants.{Pawn, Knight, Bishop, Rook, Queen, King}
+use Rattle.pg_board.specs.declared.man.Kind.TheVariants.{Pawn}
 use Rattle.pg_board.specs.Squares.{file}
 use Rattle.pg_san.specs.declared.cores.Core.{Core}
 use Rattle.pg_san.specs.declared.cores.Parts.{Parts}
 use Rattle.pg_san.specs.declared.cores.Sep.{Sep}
 use Rattle.pg_san.specs.declared.cores.Sep.TheVariants.{Nothing, Cross, Hyphen}
-
--- the kind that a capital names: K, Q, R, B, N, and S for a knight too
-abbrev pub piece_of : ℕ → Option Kind
-piece_of b = if b == 75 then Some King else (if b == 81 then Some Queen else (if b == 82 then Some Rook else (if b == 66 then Some Bishop else (if b == 78 then Some Knight else (if b == 83 then Some Knight else None)))))
-
--- the kind that a letter names behind a target: Q, R, B, N or S, in either case
-abbrev pub promoted_of : ℕ → Option Kind
-promoted_of b = if to_ascii_uppercase b == 75 then None else piece_of (to_ascii_uppercase b)
+use Rattle.pg_san.specs.Spelling.{piece_of, promoted_of}
+use Rattle.pg_san.specs.Grammar.{is_cross, core_to, piece_core}
 
 -- a letter a to h, and a digit 1 to 8
 abbrev pub is_file : ℕ → Bool
-is_file b = nat_le 97 b && nat_le b 104
+is_file b = nat_le (code "a") b && nat_le b (code "h")
 
 abbrev pub is_rank : ℕ → Bool
-is_rank b = nat_le 49 b && nat_le b 56
+is_rank b = nat_le (code "1") b && nat_le b (code "8")
 
 -- ---- what stands first in a reversed text, and what is left
 -- a file, if one stands there
@@ -40,7 +34,7 @@ rank_in (b ∷ more) = if is_rank b then (Some (b - 48), more) else (None, b ∷
 
 -- the square that a letter and a digit name
 abbrev pub square_named : ℕ → ℕ → ℕ
-square_named f r = (r - 49) * 8 + (f - 97)
+square_named f r = (r - code "1") * 8 + (f - code "a")
 
 -- a square
 abbrev pub square_in : List ℕ → Option (ℕ × List ℕ)
@@ -51,12 +45,12 @@ square_in (r ∷ f ∷ more) = if is_file f && is_rank r then Some (square_named
 -- `x` or `-`, if one stands there
 abbrev pub sep_in : List ℕ → Sep × List ℕ
 sep_in [] = (Nothing, [])
-sep_in (b ∷ more) = if b == 120 then (Cross, more) else (if b == 45 then (Hyphen, more) else (Nothing, b ∷ more))
+sep_in (b ∷ more) = if b == code "x" then (Cross, more) else (if b == code "-" then (Hyphen, more) else (Nothing, b ∷ more))
 
 -- without `=`, if one stands there
 abbrev pub without_equals : List ℕ → List ℕ
 without_equals [] = []
-without_equals (b ∷ more) = if b == 61 then more else b ∷ more
+without_equals (b ∷ more) = if b == code "=" then more else b ∷ more
 
 abbrev pub promotion_by : Option Kind → ℕ → List ℕ → Option Kind × List ℕ
 promotion_by None b more = (None, b ∷ more)
@@ -84,19 +78,6 @@ unfoldable pub parts_in : List ℕ → Option Parts
 parts_in text = parts_by (square_in text)
 
 -- ---- what a core says
--- with `x` the move captures; without, nothing is said of that
-abbrev pub is_cross : Sep → Bool
-is_cross Nothing = false
-is_cross Cross = true
-is_cross Hyphen = false
-
-abbrev pub core_to : Option Kind → Option ℕ → Option ℕ → ℕ → Bool → Option Kind → Core
-core_to kind f r target takes promotion = record { kind = kind; file = f; rank = r; target = target; takes = takes; promotion = promotion }
-
--- a letter's kind, and what is said of its source
-abbrev pub piece_core : Kind → Parts → Core
-piece_core kind p = core_to (Some kind) p.file p.rank p.target (is_cross p.sep) None
-
 -- with no letter: a target alone is that of a pawn that stays on its file; a file, or a file and `x`, is a pawn's; a source
 -- square is any man's
 abbrev pub plain_by : Option ℕ → Option ℕ → Sep → ℕ → Option Kind → Option Core

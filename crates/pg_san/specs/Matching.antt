@@ -15,7 +15,7 @@ use Rattle.pg_san.specs.declared.said.Form.TheVariants.{Castles, Moves}
 use Rattle.pg_san.specs.declared.said.Said.{Said}
 use Rattle.pg_san.specs.declared.fault.SanFault.{SanFault}
 use Rattle.pg_san.specs.declared.fault.SanFault.TheVariants.{Shape, NoSuchMove, Ambiguous}
-use Rattle.pg_san.specs.Said.{said_of}
+use Rattle.pg_san.specs.Grammar.{IsSaidText}
 
 -- the way of a king that castles: two files towards the h-file, or towards the a-file
 abbrev pub GoesTwo : Wing → ℕ → ℕ → Type 0
@@ -23,8 +23,8 @@ GoesTwo KingSide r s = file s ≡ file r + 2
 GoesTwo QueenSide r s = file r ≡ file s + 2
 
 -- the move of a man of kind k captures, en passant included
-abbrev pub Takes : State → Kind → Move → Type 0
-Takes p k m = IsEnemy p.board p.side m.to ⊎ IsEnPassant p k m
+abbrev pub IsCapturing : State → Kind → Move → Type 0
+IsCapturing p k m = IsEnemy p.board p.side m.to ⊎ IsEnPassant p k m
 
 -- the move of a man of kind k is as the core says: of what the core leaves open, anything fits
 pub record FitsCore (p : State) (c : Core) (k : Kind) (m : Move) : Type 0 where
@@ -32,7 +32,7 @@ pub record FitsCore (p : State) (c : Core) (k : Kind) (m : Move) : Type 0 where
   pub file_fits : IfSome c.file (λ f. file m.from ≡ f)
   pub rank_fits : IfSome c.rank (λ r. rank m.from ≡ r)
   pub target_fits : m.to ≡ c.target
-  pub takes_fits : c.takes ≡ true → Takes p k m
+  pub takes_fits : c.takes ≡ true → IsCapturing p k m
   pub promotion_fits : m.promotion ≡ c.promotion
 
 abbrev pub FitsForm : State → Form → Kind → Move → Type 0
@@ -51,12 +51,12 @@ Fits p said m = (k : Kind) × FitsAs p said k m
 
 -- the move matches the text
 unfoldable pub Matches : State → List ℕ → Move → Type 0
-Matches p text m = (said : Said) × (said_of text ≡ Some said) × Fits p said m
+Matches p text m = (said : Said) × IsSaidText text said × Fits p said m
 
 -- what reading a text gives: the one legal move that matches it; Shape, where the text says nothing of a move; NoSuchMove,
 -- where no legal move matches it; Ambiguous, where two do
 abbrev pub IsReading : State → List ℕ → Result Move SanFault → Type 0
 IsReading p text (Ok m) = IsLegal p m × Matches p text m × ((n : Move) → IsLegal p n → Matches p text n → n ≡ m)
-IsReading p text (Err Shape) = said_of text ≡ None
-IsReading p text (Err NoSuchMove) = (said_of text ≢ None) × ((n : Move) → IsLegal p n → ¬ Matches p text n)
+IsReading p text (Err Shape) = (said : Said) → ¬ IsSaidText text said
+IsReading p text (Err NoSuchMove) = ((said : Said) × IsSaidText text said) × ((n : Move) → IsLegal p n → ¬ Matches p text n)
 IsReading p text (Err Ambiguous) = (m : Move) × (n : Move) × (m ≢ n) × (IsLegal p m × Matches p text m) × (IsLegal p n × Matches p text n)

@@ -3,6 +3,7 @@
 use Rattle.std.specs.Prelude.{ℕ, Bool, true, false, ◌||◌, ◌==◌, List, [], ◌∷◌, reverse, Option, Some, None, if◌then◌else◌, codes}
 use Rattle.std.specs.Option.{option_map, option_and_then}
 use Rattle.std.specs.Str.{bytes_eq}
+use Prim.Native.Char.{code}
 use Rattle.pg_position.specs.declared.rights.Wing.{Wing}
 use Rattle.pg_position.specs.declared.rights.Wing.TheVariants.{KingSide, QueenSide}
 use Rattle.pg_san.specs.declared.said.Form.{Form}
@@ -29,7 +30,7 @@ form_of text = form_by (castling_of text) text
 
 -- ---- the ends, off a reversed text
 abbrev pub is_mark : ℕ → Bool
-is_mark b = (b == 33) || (b == 63)
+is_mark b = (b == code "!") || (b == code "?")
 
 abbrev pub without_mark : List ℕ → List ℕ
 without_mark [] = []
@@ -41,12 +42,12 @@ without_marks text = without_mark (without_mark text)
 
 abbrev pub without_plus : List ℕ → List ℕ
 without_plus [] = []
-without_plus (b ∷ more) = if b == 43 then more else b ∷ more
+without_plus (b ∷ more) = if b == code "+" then more else b ∷ more
 
 -- without `+`, `++` or `#`
 abbrev pub without_check : List ℕ → List ℕ
 without_check [] = []
-without_check (b ∷ more) = if b == 35 then more else (if b == 43 then without_plus more else b ∷ more)
+without_check (b ∷ more) = if b == code "#" then more else (if b == code "+" then without_plus more else b ∷ more)
 
 -- what is left behind this byte
 abbrev pub byte_in : ℕ → List ℕ → Option (List ℕ)
@@ -55,11 +56,11 @@ byte_in byte (b ∷ more) = if b == byte then Some more else None
 
 -- what is left behind `ep`, reversed
 abbrev pub ep_in : List ℕ → Option (List ℕ)
-ep_in text = option_and_then (byte_in 101) (byte_in 112 text)
+ep_in text = option_and_then (byte_in (code "e")) (byte_in (code "p") text)
 
 -- what is left behind `e.p.`, reversed
 abbrev pub dots_in : List ℕ → Option (List ℕ)
-dots_in text = option_and_then (byte_in 101) (option_and_then (byte_in 46) (option_and_then (byte_in 112) (byte_in 46 text)))
+dots_in text = option_and_then (byte_in (code "e")) (option_and_then (byte_in (code ".")) (option_and_then (byte_in (code "p")) (byte_in (code ".") text)))
 
 abbrev pub passing_by : Option (List ℕ) → Option (List ℕ) → List ℕ → Bool × List ℕ
 passing_by (Some front) dots text = (true, front)

@@ -1,5 +1,7 @@
 -- How the parts of a move's text are spelled: a file by its letter, a rank by its digit, a man by its letter.
-use Rattle.std.specs.Prelude.{ℕ, ◌+◌, ◌≤◌, Bool, true, false, List, [], ◌∷◌, ◌++◌, length, Option, Some, None, codes}
+use Rattle.std.specs.Prelude.{ℕ, ◌+◌, ◌≤◌, Bool, true, false, ◌==◌, if◌then◌else◌, List, [], ◌∷◌, ◌++◌, length, Option, Some, None, codes}
+use Rattle.std.specs.Char.{to_ascii_uppercase}
+use Prim.Native.Char.{code}
 use Rattle.pg_board.specs.declared.man.Kind.{Kind}
 use Rattle.pg_board.specs.declared.man.Kind.TheVariants.{Pawn, Knight, Bishop, Rook, Queen, King}
 use Rattle.pg_board.specs.Squares.{file, rank}
@@ -42,6 +44,21 @@ letter_text Rook = codes "R"
 letter_text Queen = codes "Q"
 letter_text King = codes "K"
 
+-- the kind that a capital names: K, Q, R, B, N, and S for a knight too
+abbrev pub piece_of : ℕ → Option Kind
+piece_of b =
+    if b == code "K" then Some King
+    else (if b == code "Q" then Some Queen
+    else (if b == code "R" then Some Rook
+    else (if b == code "B" then Some Bishop
+    else (if b == code "N" then Some Knight
+    else (if b == code "S" then Some Knight
+    else None)))))
+
+-- the kind that a letter names behind a target: Q, R, B, N or S, in either case
+abbrev pub promoted_of : ℕ → Option Kind
+promoted_of b = if to_ascii_uppercase b == code "K" then None else piece_of (to_ascii_uppercase b)
+
 abbrev pub cross_text : Bool → List ℕ
 cross_text true = codes "x"
 cross_text false = []
@@ -62,7 +79,9 @@ written_file k takes f = f
 
 -- what is written of a move of a man of kind k, the sign at the end apart
 abbrev pub core_text : Kind → Core → List ℕ
-core_text k core = letter_text k ++ file_text (written_file k core.takes core.file) ++ rank_text core.rank ++ cross_text core.takes ++ square_text core.target ++ promotion_text core.promotion
+core_text k core =
+    letter_text k ++ file_text (written_file k core.takes core.file) ++ rank_text core.rank ++ cross_text core.takes
+    ++ square_text core.target ++ promotion_text core.promotion
 
 abbrev pub form_text : Kind → Form → List ℕ
 form_text k (Castles wing) = castling_text wing

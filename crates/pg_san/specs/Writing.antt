@@ -15,7 +15,7 @@ use Rattle.pg_san.specs.declared.rivals.Among.{Among}
 use Rattle.pg_san.specs.declared.rivals.Among.TheVariants.{Anywhere, SameFile, SameRank}
 use Rattle.pg_san.specs.declared.said.Form.{Form}
 use Rattle.pg_san.specs.declared.said.Form.TheVariants.{Castles, Moves}
-use Rattle.pg_san.specs.Matching.{Takes}
+use Rattle.pg_san.specs.Matching.{IsCapturing}
 use Rattle.pg_san.specs.Spelling.{form_text}
 
 -- another man of the mover's kind and colour has the legal move n to the same target
@@ -58,7 +58,7 @@ IsPawnHint m f r = (f ≡ Some (file m.from)) × (r ≡ None)
 pub record IsCore (p : State) (k : Kind) (m : Move) (c : Core) : Type 0 where
   pub kind_is : c.kind ≡ Some k
   pub target_is : c.target ≡ m.to
-  pub takes_is : (c.takes ≡ true) ↔ Takes p k m
+  pub takes_is : (c.takes ≡ true) ↔ IsCapturing p k m
   pub promotion_is : c.promotion ≡ m.promotion
   pub pawn_is : k ≡ Pawn → IsPawnHint m c.file c.rank
   pub other_is : k ≢ Pawn → IsHint p k m c.file c.rank
@@ -73,7 +73,9 @@ HasLegal q = (n : Move) × IsLegal q n
 
 -- the sign at the end, by the position after the move: none where no king is attacked, `+` for check, `#` for checkmate
 abbrev pub IsSignOf : State → List ℕ → Type 0
-IsSignOf q sign = (¬ InCheck q.board q.side × (sign ≡ [])) ⊎ ((InCheck q.board q.side × HasLegal q × (sign ≡ codes "+")) ⊎ (InCheck q.board q.side × ¬ HasLegal q × (sign ≡ codes "#")))
+IsSignOf q sign =
+    (¬ InCheck q.board q.side × (sign ≡ []))
+    ⊎ ((InCheck q.board q.side × HasLegal q × (sign ≡ codes "+")) ⊎ (InCheck q.board q.side × ¬ HasLegal q × (sign ≡ codes "#")))
 
 -- the text that is written for the legal move m: what is said of it, and the sign
 pub record IsSan (p : State) (m : Move) (text : List ℕ) : Type 0 where

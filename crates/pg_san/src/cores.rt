@@ -1,6 +1,9 @@
 //! The core of a move's text: what it says of the move, castling apart.
 ghost use Rattle.std.specs.Prelude.{◌≡◌, ℕ, ◌<◌, Option, [], ◌∷◌, reverse, MatchOption, None, Some};
-ghost use Rattle.pg_san.specs.CoreText.{is_file, is_rank, file_in, rank_in, sep_in, square_in, piece_of, promoted_of, promotion_in, without_equals, parts_in, is_cross, piece_core, plain_core, core_of};
+ghost use Rattle.pg_san.specs.CoreText.{is_file, is_rank, file_in, rank_in, sep_in, square_in, promotion_in};
+ghost use Rattle.pg_san.specs.Spelling.{piece_of, promoted_of};
+ghost use Rattle.pg_san.specs.CoreText.{without_equals, parts_in, plain_core, core_of};
+ghost use Rattle.pg_san.specs.Grammar.{is_cross, piece_core};
 
 use pg_board::{Kind, Square};
 

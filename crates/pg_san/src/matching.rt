@@ -4,7 +4,7 @@ ghost use Rattle.pg_board.specs.Squares.{file, rank};
 ghost use Rattle.pg_position.specs.Position.{Stands, IsPosition};
 ghost use Rattle.pg_position.specs.Step.{IsEnemy, IsEnPassant};
 ghost use Rattle.pg_moves.specs.Moves.{IsLegal};
-ghost use Rattle.pg_san.specs.Matching.{Takes, FitsCore, FitsForm, FitsAs, Fits};
+ghost use Rattle.pg_san.specs.Matching.{IsCapturing, FitsCore, FitsForm, FitsAs, Fits};
 
 use crate::castling::castles;
 use crate::cores::Core;
@@ -45,7 +45,7 @@ fn is_en_passant(position: &Position, kind: Kind, m: &Move) -> bool
 pub fn takes(position: &Position, kind: Kind, m: &Move) -> bool
     requires legal { IsLegal position.now m.now }
     requires stands { Stands position.now.board position.now.side kind m.now.from }
-    ensures { IsTrue result ↔ Takes position.now kind m.now }
+    ensures { IsTrue result ↔ IsCapturing position.now kind m.now }
 {
     is_enemy(position, m.to) || is_en_passant(position, kind, m)
 }

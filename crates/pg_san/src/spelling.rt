@@ -1,6 +1,7 @@
 //! The text of what is said of a move.
 ghost use Rattle.std.specs.Prelude.{◌≡◌, ◌++◌, ◌+◌, ◌≤◌, length};
-ghost use Rattle.pg_san.specs.Spelling.{IsOfBoard, file_text, rank_text, square_text, letter_text, cross_text, promotion_text, castling_text, written_file, core_text, form_text, IsWritable, IsFormWritable};
+ghost use Rattle.pg_san.specs.Spelling.{IsOfBoard, file_text, rank_text, square_text, letter_text, cross_text};
+ghost use Rattle.pg_san.specs.Spelling.{promotion_text, castling_text, written_file, core_text, form_text, IsWritable, IsFormWritable};
 
 use crate::cores::Core;
 use crate::said::Form;

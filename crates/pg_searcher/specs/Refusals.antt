@@ -4,10 +4,10 @@ use Rattle.pg_searcher.specs.declared.fault.SearchFault.{SearchFault}
 use Rattle.pg_searcher.specs.declared.fault.SearchFault.TheVariants.{Budget, Shorter, TooManyGames, Write, Memory}
 
 -- what is said by an answer of a search for games of so many plies, where the sink has failed or not
-abbrev pub Says : {X : Type 0} → ℕ → Bool → Result X SearchFault → Type 0
-Says plies failed (Ok x) = Unit {0}
-Says plies failed (Err Budget) = Unit {0}
-Says plies failed (Err (Shorter fewer)) = fewer < plies
-Says plies failed (Err TooManyGames) = Unit {0}
-Says plies failed (Err Write) = failed ≡ true
-Says plies failed (Err Memory) = Unit {0}
+abbrev pub RefusesTruly : {X : Type 0} → ℕ → Bool → Result X SearchFault → Type 0
+RefusesTruly plies failed (Ok x) = Unit {0}
+RefusesTruly plies failed (Err Budget) = Unit {0}
+RefusesTruly plies failed (Err (Shorter fewer)) = fewer < plies
+RefusesTruly plies failed (Err TooManyGames) = Unit {0}
+RefusesTruly plies failed (Err Write) = failed ≡ true
+RefusesTruly plies failed (Err Memory) = Unit {0}

@@ -1,12 +1,12 @@
 //! The ends of games: the leaves that are on the diagram.
 ghost use Rattle.std.specs.Prelude.{◌≡◌, ℕ, Bool, false, OnOk};
-ghost use Rattle.pg_searcher.specs.Refusals.{Says};
+ghost use Rattle.pg_searcher.specs.Refusals.{RefusesTruly};
 
 use crate::fault::SearchFault;
 use crate::machine::{Frame, Machine, Question};
 use crate::node::{put, visit};
 use arrayvec::ArrayVec;
-use pg_board::{Board, Kind, Man, Square};
+use pg_board::{Board, Kind, Man, Square, SquareSet};
 use pg_certificate::{Record, Sink};
 use pg_fen::Diagram;
 use pg_position::{Move, Position};
@@ -44,7 +44,7 @@ pub(crate) fn end(
 ) -> Result<(), SearchFault>
     ensures frames { machine.new.frames ≡ machine.old.frames }
     ensures writer { machine.new.writer ≡ machine.old.writer }
-    ensures says { (failed : Bool) → Says question.now.plies failed result }
+    ensures says { (failed : Bool) → RefusesTruly question.now.plies failed result }
 {
     machine.found = true;
     if tree < question.plies {
@@ -85,20 +85,18 @@ fn leaves_from(
     before: &Option<Move>,
     position: &Position,
     from: Square,
-    targets: u64,
+    targets: SquareSet,
 ) -> Result<(), SearchFault>
     ensures frames { machine.new.frames ≡ machine.old.frames }
     ensures writer { machine.new.writer ≡ machine.old.writer }
-    ensures says { (failed : Bool) → Says question.now.plies failed result }
+    ensures says { (failed : Bool) → RefusesTruly question.now.plies failed result }
 {
     let goal = question.diagram.board();
     let mut targets = targets;
     for _ in 0..64u8 {
-        if targets == 0 {
+        let Some(to) = targets.pop_first() else {
             return Ok(());
-        }
-        let to = first_of(targets);
-        targets &= targets.wrapping_sub(1);
+        };
         let promotion = promotion(position, &goal, from, to);
         let m = Move {
             from,
@@ -115,11 +113,6 @@ fn leaves_from(
     Ok(())
 }
 
-// The first square of a set that is not empty.
-fn first_of(set: u64) -> Square {
-    Square::at((set.trailing_zeros() % 64) as u8)
-}
-
 // Whether a move is legal and leads to the diagram.
 fn leads(diagram: &Diagram, position: &Position, m: &Move) -> bool {
     match position.play(*m) {
@@ -130,8 +123,8 @@ fn leads(diagram: &Diagram, position: &Position, m: &Move) -> bool {
 
 // Whether a move may change all squares of a set and no others: those that it leaves and reaches, in a
 // capture en passant a third one, in castling four.
-pub(crate) fn is_near(squares: u64) -> bool {
-    let count = squares.count_ones();
+pub(crate) fn is_near(squares: SquareSet) -> bool {
+    let count = squares.len();
     2 <= count && count <= 4
 }
 
@@ -146,7 +139,7 @@ pub(crate) fn leaves(
 ) -> Result<(), SearchFault>
     ensures frames { machine.new.frames ≡ machine.old.frames }
     ensures writer { machine.new.writer ≡ machine.old.writer }
-    ensures says { (failed : Bool) → Says question.now.plies failed result }
+    ensures says { (failed : Bool) → RefusesTruly question.now.plies failed result }
 {
     let goal = question.diagram.board();
     let board = position.board();
@@ -157,11 +150,9 @@ pub(crate) fn leaves(
     let targets = squares & goal.squares_of_color(position.side());
     let mut sources = squares & board.squares_of_color(position.side());
     for _ in 0..64u8 {
-        if sources == 0 {
+        let Some(from) = sources.pop_first() else {
             return Ok(());
-        }
-        let from = first_of(sources);
-        sources &= sources.wrapping_sub(1);
+        };
         match leaves_from(question, tree, machine, before, position, from, targets) {
             Ok(()) => {}
             Err(fault) => return Err(fault),
@@ -175,7 +166,7 @@ pub(crate) fn last_node<W: Sink>(machine: &mut Machine, sink: &mut W) -> Result<
     requires runs { machine.old.writer.failed ≡ false }
     ensures frames { machine.new.frames ≡ machine.old.frames }
     ensures runs { OnOk result (machine.new.writer.failed ≡ false) }
-    ensures says { (plies : ℕ) → Says plies (W.has_failed sink.new) result }
+    ensures says { (plies : ℕ) → RefusesTruly plies (W.has_failed sink.new) result }
 {
     if visit(machine) {
         put(machine, &Record::Expand { named: false }, sink)

@@ -1,6 +1,6 @@
 //! The search for a certificate.
 ghost use Rattle.std.specs.Prelude.{◌≡◌, ◌≤◌, false};
-ghost use Rattle.pg_searcher.specs.Refusals.{Says};
+ghost use Rattle.pg_searcher.specs.Refusals.{RefusesTruly};
 
 use crate::fault::SearchFault;
 use crate::judge::Judge;
@@ -34,7 +34,7 @@ fn write<W: Sink, P: Progress>(
 ) -> Result<(), SearchFault>
     requires limit { question.now.plies ≤ 128 }
     requires runs { machine.old.writer.failed ≡ false }
-    ensures { Says question.now.plies (W.has_failed sink.new) result }
+    ensures { RefusesTruly question.now.plies (W.has_failed sink.new) result }
 {
     match machine
         .writer
@@ -78,7 +78,7 @@ pub fn search<W: Sink, P: Progress>(
     sink: &mut W,
     watch: &mut P,
 ) -> Result<Games, SearchFault>
-    ensures { Says length (W.has_failed sink.new) result }
+    ensures { RefusesTruly length (W.has_failed sink.new) result }
 {
     let question = Question {
         diagram,

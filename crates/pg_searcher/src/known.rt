@@ -37,7 +37,7 @@ fn count_pawns(board: &Board, color: Color) -> u8 {
         color,
         kind: Kind::Pawn,
     };
-    board.squares_of(pawn).count_ones() as u8
+    board.squares_of(pawn).len()
 }
 
 impl Known {
@@ -52,7 +52,7 @@ impl Known {
             rows,
             memory: Memory::new(alloc, MOST),
             pawns: Memory::new(alloc, MOST),
-            wanted_men: board.squares_of_color(color).count_ones() as u8,
+            wanted_men: board.squares_of_color(color).len(),
             wanted_pawns: count_pawns(&board, color),
         })
     }

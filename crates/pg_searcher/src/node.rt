@@ -1,7 +1,7 @@
 //! The record of a node: chosen, and written.
 ghost use Rattle.std.specs.Prelude.{◌≡◌, ℕ, false, OnOk};
 ghost use Rattle.pg_moves.specs.Moves.{IsLegal};
-ghost use Rattle.pg_searcher.specs.Refusals.{Says};
+ghost use Rattle.pg_searcher.specs.Refusals.{RefusesTruly};
 
 use crate::fault::SearchFault;
 use crate::judge::{Verdict, sides_of};
@@ -48,7 +48,7 @@ pub(crate) fn put<W: Sink>(
     requires runs { machine.old.writer.failed ≡ false }
     ensures frames { machine.new.frames ≡ machine.old.frames }
     ensures runs { OnOk result (machine.new.writer.failed ≡ false) }
-    ensures says { (plies : ℕ) → Says plies (W.has_failed sink.new) result }
+    ensures says { (plies : ℕ) → RefusesTruly plies (W.has_failed sink.new) result }
 {
     match machine.writer.put_record(node, sink) {
         Ok(()) => Ok(()),
@@ -67,7 +67,7 @@ fn put_prices<W: Sink>(
     requires runs { machine.old.writer.failed ≡ false }
     ensures frames { machine.new.frames ≡ machine.old.frames }
     ensures runs { OnOk result (machine.new.writer.failed ≡ false) }
-    ensures says { (plies : ℕ) → Says plies (W.has_failed sink.new) result }
+    ensures says { (plies : ℕ) → RefusesTruly plies (W.has_failed sink.new) result }
 {
     let node = Record::Priced {
         code,
@@ -114,7 +114,7 @@ fn stay<W: Sink>(
     requires runs { machine.old.writer.failed ≡ false }
     ensures frames { machine.new.frames ≡ machine.old.frames }
     ensures runs { OnOk result (machine.new.writer.failed ≡ false) }
-    ensures says { (plies : ℕ) → Says plies (W.has_failed sink.new) result }
+    ensures says { (plies : ℕ) → RefusesTruly plies (W.has_failed sink.new) result }
 {
     let passed = effective_passed(position);
     let key = node_key(
@@ -156,7 +156,7 @@ pub(crate) fn enter<W: Sink>(
     requires runs { machine.old.writer.failed ≡ false }
     ensures frames { machine.new.frames ≡ machine.old.frames }
     ensures runs { OnOk result (machine.new.writer.failed ≡ false) }
-    ensures says { (plies : ℕ) → Says plies (W.has_failed sink.new) result }
+    ensures says { (plies : ℕ) → RefusesTruly plies (W.has_failed sink.new) result }
 {
     let mut sides = match known {
         Some(sides) => sides,
@@ -197,7 +197,7 @@ fn put_kept<W: Sink>(
     requires runs { machine.old.writer.failed ≡ false }
     ensures frames { machine.new.frames ≡ machine.old.frames }
     ensures runs { OnOk result (machine.new.writer.failed ≡ false) }
-    ensures says { (plies : ℕ) → Says plies (W.has_failed sink.new) result }
+    ensures says { (plies : ℕ) → RefusesTruly plies (W.has_failed sink.new) result }
 {
     let Some(sides) = known else {
         return Ok(false);
@@ -217,7 +217,7 @@ fn put_cut<W: Sink>(machine: &mut Machine, code: u8, sink: &mut W) -> Result<boo
     requires runs { machine.old.writer.failed ≡ false }
     ensures frames { machine.new.frames ≡ machine.old.frames }
     ensures runs { OnOk result (machine.new.writer.failed ≡ false) }
-    ensures says { (plies : ℕ) → Says plies (W.has_failed sink.new) result }
+    ensures says { (plies : ℕ) → RefusesTruly plies (W.has_failed sink.new) result }
 {
     match put(machine, &Record::Cut(code), sink) {
         Ok(()) => Ok(true),
@@ -239,7 +239,7 @@ fn cut<W: Sink>(
     requires runs { machine.old.writer.failed ≡ false }
     ensures frames { machine.new.frames ≡ machine.old.frames }
     ensures runs { OnOk result (machine.new.writer.failed ≡ false) }
-    ensures says { (plies : ℕ) → Says plies (W.has_failed sink.new) result }
+    ensures says { (plies : ℕ) → RefusesTruly plies (W.has_failed sink.new) result }
 {
     let Some(changes) = changes_of(position, m) else {
         return Ok(false);
@@ -267,7 +267,7 @@ pub(crate) fn child<W: Sink>(
     requires runs { machine.old.writer.failed ≡ false }
     ensures frames { machine.new.frames ≡ machine.old.frames }
     ensures runs { OnOk result (machine.new.writer.failed ≡ false) }
-    ensures says { (plies : ℕ) → Says plies (W.has_failed sink.new) result }
+    ensures says { (plies : ℕ) → RefusesTruly plies (W.has_failed sink.new) result }
 {
     if !visit(machine) {
         return Err(SearchFault::Budget);

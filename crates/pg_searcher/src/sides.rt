@@ -1,6 +1,6 @@
 //! What is known of either colour at a node, and how a move changes it.
 
-use pg_board::{Board, Color, Kind, Man, Square};
+use pg_board::{Board, Color, Kind, Man, Square, SquareSet};
 use pg_position::{Move, Position, Rights, Wing, king_home, rook_home};
 use pg_prices::{Needs, color_key, man_key, right_key};
 
@@ -46,8 +46,8 @@ pub(crate) fn side_of(board: &Board, rights: Rights, color: Color, needs: Needs)
     Side {
         key: color_key(board, rights, color),
         needs,
-        men: board.squares_of_color(color).count_ones() as u8,
-        pawns: board.squares_of(pawn).count_ones() as u8,
+        men: board.squares_of_color(color).len(),
+        pawns: board.squares_of(pawn).len(),
         ways: 1 + short + long,
     }
 }
@@ -93,19 +93,19 @@ impl Change {
 }
 
 // The home squares of a colour's king and rook.
-fn homes(color: Color, wing: Wing) -> u64 {
-    1 << king_home(color).index() | 1 << rook_home(color, wing).index()
+fn homes(color: Color, wing: Wing) -> SquareSet {
+    SquareSet::single(king_home(color)) | SquareSet::single(rook_home(color, wing))
 }
 
 // The rights of a colour that are lost where squares are left or reached: their keys, and how many.
-fn lost(rights: Rights, color: Color, squares: u64) -> (u64, u8) {
+fn lost(rights: Rights, color: Color, squares: SquareSet) -> (u64, u8) {
     let mut key = 0u64;
     let mut count = 0u8;
-    if squares & HOMES == 0 {
+    if !squares.meets(SquareSet::of_bits(HOMES)) {
         return (0, 0);
     }
     for wing in [Wing::KingSide, Wing::QueenSide] {
-        if rights.holds(color, wing) && squares & homes(color, wing) != 0 {
+        if rights.holds(color, wing) && squares.meets(homes(color, wing)) {
             key ^= right_key(color, wing);
             count = count.saturating_add(1);
         }
@@ -114,7 +114,7 @@ fn lost(rights: Rights, color: Color, squares: u64) -> (u64, u8) {
 }
 
 // What a move changes of a man's colour, which moves or is taken.
-fn change_of(rights: Rights, man: Man, key: u64, squares: u64, taken: bool) -> Change {
+fn change_of(rights: Rights, man: Man, key: u64, squares: SquareSet, taken: bool) -> Change {
     let (lost_key, ways) = lost(rights, man.color, squares);
     Change {
         key: key ^ lost_key,
@@ -152,7 +152,7 @@ pub(crate) fn changes_of(position: &Position, m: &Move) -> Option<Changes> {
         return None;
     }
     let (from, to) = (m.from.index() % 64, m.to.index() % 64);
-    let squares = 1u64 << from | 1u64 << to;
+    let squares = SquareSet::single(m.from) | SquareSet::single(m.to);
     let rights = position.rights();
     let key = man_key(man, from) ^ man_key(man, to);
     let other = match taken {

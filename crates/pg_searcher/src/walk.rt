@@ -1,6 +1,6 @@
 //! The search through the trees of all lengths, with a stack of open nodes.
 ghost use Rattle.std.specs.Prelude.{◌≡◌, ℕ, ◌+◌, ◌<◌, ◌≤◌, Bool, false, length, OnOk};
-ghost use Rattle.pg_searcher.specs.Refusals.{Says};
+ghost use Rattle.pg_searcher.specs.Refusals.{RefusesTruly};
 
 use crate::ends::{end, is_near, last_node, leaves};
 use crate::fault::SearchFault;
@@ -9,7 +9,7 @@ use crate::node::{Opened, child, enter, visit};
 use crate::play::after;
 use crate::progress::Progress;
 use crate::sides::is_special;
-use pg_board::Board;
+use pg_board::{Board, SquareSet};
 use pg_certificate::Sink;
 use pg_moves::LegalMoves;
 use pg_position::{Move, Position};
@@ -30,7 +30,7 @@ fn frame_of(opened: &Opened) -> Frame {
 fn close(top: &Frame, machine: &mut Machine) -> Result<(), SearchFault>
     ensures frames { machine.new.frames ≡ machine.old.frames }
     ensures writer { machine.new.writer ≡ machine.old.writer }
-    ensures says { (plies : ℕ) (failed : Bool) → Says plies failed result }
+    ensures says { (plies : ℕ) (failed : Bool) → RefusesTruly plies failed result }
 {
     let found = top.found || machine.found;
     machine.found = found;
@@ -50,7 +50,7 @@ fn close(top: &Frame, machine: &mut Machine) -> Result<(), SearchFault>
 
 // Whether a move may lead to a position one move away from a board, from which the position differs on
 // these squares.
-fn may_be_near(goal: &Board, position: &Position, squares: u64, m: &Move) -> bool {
+fn may_be_near(goal: &Board, position: &Position, squares: SquareSet, m: &Move) -> bool {
     let board = position.board();
     let Some(man) = board.get(m.from) else {
         return false;
@@ -58,11 +58,20 @@ fn may_be_near(goal: &Board, position: &Position, squares: u64, m: &Move) -> boo
     if is_special(man, board.get(m.to), m) {
         return true;
     }
-    let from = 1u64 << (m.from.index() % 64);
-    let to = 1u64 << (m.to.index() % 64);
-    let left = if goal.get(m.from).is_some() { from } else { 0 };
-    let reached = if goal.get(m.to) == Some(man) { 0 } else { to };
-    is_near(squares & !from & !to | left | reached)
+    let from = SquareSet::single(m.from);
+    let to = SquareSet::single(m.to);
+    let none = SquareSet::empty();
+    let left = if goal.get(m.from).is_some() {
+        from
+    } else {
+        none
+    };
+    let reached = if goal.get(m.to) == Some(man) {
+        none
+    } else {
+        to
+    };
+    is_near(squares - from - to | left | reached)
 }
 
 // The moves of a node with two plies left are played, and the node closes.
@@ -76,7 +85,7 @@ fn near<W: Sink>(
     requires runs { machine.old.writer.failed ≡ false }
     ensures frames { OnOk result (machine.new.frames ≡ machine.old.frames) }
     ensures runs { OnOk result (machine.new.writer.failed ≡ false) }
-    ensures says { Says question.now.plies (W.has_failed sink.new) result }
+    ensures says { RefusesTruly question.now.plies (W.has_failed sink.new) result }
 {
     let mut top = top;
     let position = top.moves.position();
@@ -114,7 +123,7 @@ fn far<W: Sink>(
     requires runs { machine.old.writer.failed ≡ false }
     ensures depth { OnOk result (length machine.new.frames.items ≤ length machine.old.frames.items + 2) }
     ensures runs { OnOk result (machine.new.writer.failed ≡ false) }
-    ensures says { Says question.now.plies (W.has_failed sink.new) result }
+    ensures says { RefusesTruly question.now.plies (W.has_failed sink.new) result }
 {
     let mut top = top;
     let position = top.moves.position();
@@ -147,7 +156,7 @@ fn enter_root<W: Sink>(
     requires runs { machine.old.writer.failed ≡ false }
     ensures depth { OnOk result (length machine.new.frames.items ≤ tree) }
     ensures runs { OnOk result (machine.new.writer.failed ≡ false) }
-    ensures says { Says question.now.plies (W.has_failed sink.new) result }
+    ensures says { RefusesTruly question.now.plies (W.has_failed sink.new) result }
 {
     machine.frames.clear();
     machine.found = false;
@@ -191,7 +200,7 @@ fn turn<W: Sink>(
     requires runs { machine.old.writer.failed ≡ false }
     ensures depth { OnOk result (length machine.new.frames.items ≤ tree) }
     ensures runs { OnOk result (machine.new.writer.failed ≡ false) }
-    ensures says { Says question.now.plies (W.has_failed sink.new) result }
+    ensures says { RefusesTruly question.now.plies (W.has_failed sink.new) result }
 {
     let left = tree - machine.frames.len() as u8 - 1;
     if left < 2 {
@@ -212,7 +221,7 @@ fn tree_of<W: Sink, P: Progress>(
     requires limit { tree ≤ 128 }
     requires runs { machine.old.writer.failed ≡ false }
     ensures runs { OnOk result (machine.new.writer.failed ≡ false) }
-    ensures says { Says question.now.plies (W.has_failed sink.new) result }
+    ensures says { RefusesTruly question.now.plies (W.has_failed sink.new) result }
 {
     match enter_root(question, tree, machine, sink) {
         Ok(()) => {}
@@ -240,7 +249,7 @@ pub(crate) fn all_trees<W: Sink, P: Progress>(
     requires limit { question.now.plies ≤ 128 }
     requires runs { machine.old.writer.failed ≡ false }
     ensures runs { OnOk result (machine.new.writer.failed ≡ false) }
-    ensures says { Says question.now.plies (W.has_failed sink.new) result }
+    ensures says { RefusesTruly question.now.plies (W.has_failed sink.new) result }
 {
     for tree in 0..=question.plies {
         match tree_of(question, tree, machine, sink, watch) {

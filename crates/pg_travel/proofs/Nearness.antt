@@ -6,12 +6,13 @@ use Rattle.pg_board.specs.declared.man.Color.TheVariants.{White, Black}
 use Rattle.pg_board.specs.declared.man.Kind.{Kind}
 use Rattle.pg_board.specs.declared.man.Kind.TheVariants.{Pawn, Knight, Bishop, Rook, Queen, King}
 use Rattle.pg_board.specs.declared.man.Man.{Man}
-use Rattle.pg_board.specs.Men.{man, kind_eq, is_man, kind_decides}
+use Rattle.pg_board.specs.Men.{man, kind_eq, is_man}
+use Rattle.pg_board.specs.lemmas.Equalities.{kind_decides}
 use Rattle.pg_board.specs.Placement.{Placement, get}
 use Rattle.pg_board.specs.Bits.{has}
 use Rattle.pg_position.specs.declared.rights.Wing.{Wing}
 use Rattle.pg_position.specs.declared.rights.Wing.TheVariants.{KingSide, QueenSide}
-use Rattle.pg_position.specs.SquareSets.{IsFirstFrom}
+use Rattle.pg_board.specs.SquareSets.{IsFirstFrom}
 use Rattle.pg_travel.specs.Origins.{counted}
 use Rattle.pg_travel.specs.numbers.Formulas.{rank_for, pawn_steps, last_at, least_of, pawn_to, soonest, knight, bishop, rook, queen, distance_of, is_promoted, least_steps}
 use Rattle.pg_travel.specs.numbers.Costs.{reach_of, reach_from, BeyondFar, nearest, nearest_man}

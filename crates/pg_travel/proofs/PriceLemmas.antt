@@ -4,13 +4,14 @@ use Rattle.std.specs.Prelude.{sum}
 use Rattle.std.specs.List.{AllZip}
 use Rattle.std.proofs.lemmas.Bool.Decides.{eqb_tells, leb_tells}
 use Rattle.std.proofs.lemmas.List.{get_or-set_same, get_or-set_other}
-use Rattle.pg_position.specs.SquareSets.{IsFirstFrom, HasNoneFrom}
+use Rattle.pg_board.specs.SquareSets.{IsFirstFrom, HasNoneFrom}
 use Rattle.pg_board.specs.declared.man.Color.{Color}
 use Rattle.pg_board.specs.declared.man.Kind.{Kind}
 use Rattle.pg_board.specs.declared.man.Kind.TheVariants.{Pawn, Knight, Bishop, Rook, Queen, King}
 use Rattle.pg_board.specs.declared.man.Man.{Man}
 use Rattle.pg_board.specs.Bits.{has}
-use Rattle.pg_board.specs.Men.{man, color_eq, is_man, is_of, color_decides, is_man_decides}
+use Rattle.pg_board.specs.Men.{man, color_eq, is_man, is_of}
+use Rattle.pg_board.specs.lemmas.Equalities.{color_decides, is_man_decides}
 use Rattle.pg_board.specs.Placement.{Placement, get}
 use Rattle.pg_board.specs.lemmas.Decisions.{dec_kind}
 use Rattle.pg_position.specs.declared.rights.Wing.{Wing}
@@ -20,7 +21,7 @@ use Rattle.pg_position.specs.Position.{holds, Stands}
 use Rattle.pg_captures.specs.Counting.{men, any_man}
 use Rattle.pg_captures.specs.Owed.{plies_left}
 use Rattle.pg_captures.specs.lemmas.PlaceLemmas.{marks_men, place_within, price_at, seen_next, all_last}
-use Rattle.pg_captures.specs.PriceLists.{PriceList, place, price, IsPriced, IsFor}
+use Rattle.pg_captures.specs.PriceLists.{PriceList, number_among, price, IsPriced, IsFor}
 use Rattle.pg_travel.specs.Walks.{IsDistance}
 use Rattle.pg_travel.specs.Origins.{charge, counted}
 use Rattle.pg_travel.specs.numbers.Formulas.{distance_of, is_promoted, soonest, least_steps}
@@ -231,7 +232,7 @@ of_there : (b : Placement) (c : Color) (k : Kind) (s : ℕ) → Stands b c k s �
 of_there b c k s there = ap (is_of c) there ∙ (color_decides c c).1 refl
 
 -- writing the price of the next man on its square
-pub written_next : (xs ys : List ℕ) (c : Color) (b : Placement) (own i low s n z x : ℕ) → length ys ≡ 64 → ((q : ℕ) → q < 64 → has own q ≡ is_of c (get b q)) → i ≡ place c any_man b low → ((q : ℕ) → q < low → (k : Kind) → Stands b c k q → get_or ys q 0 ≡ price xs c any_man b q) → IsFirstFrom own low s → n ≡ s → z ≡ s → x ≡ get_or xs i 0 → (q : ℕ) → q < n + 1 → (k : Kind) → Stands b c k q → get_or (set ys z x) q 0 ≡ price xs c any_man b q
+pub written_next : (xs ys : List ℕ) (c : Color) (b : Placement) (own i low s n z x : ℕ) → length ys ≡ 64 → ((q : ℕ) → q < 64 → has own q ≡ is_of c (get b q)) → i ≡ number_among c any_man b low → ((q : ℕ) → q < low → (k : Kind) → Stands b c k q → get_or ys q 0 ≡ price xs c any_man b q) → IsFirstFrom own low s → n ≡ s → z ≡ s → x ≡ get_or xs i 0 → (q : ℕ) → q < n + 1 → (k : Kind) → Stands b c k q → get_or (set ys z x) q 0 ≡ price xs c any_man b q
 written_next xs ys c b own i low s n z x long is at seen first same written e =
     seen_next (λ q. (k : Kind) → Stands b c k q → get_or (set ys z x) q 0 ≡ price xs c any_man b q) own low s n
     (λ q l off k there. absurd (let y : has own q ≡ true = is q l ∙ of_there b c k q there in cc))
@@ -245,10 +246,10 @@ written_all xs ys c b own low is seen none k s l there = all_last (λ q. (k : Ki
 pub least_is_low : (u ys : List ℕ) (c : Color) (b : Placement) (set least : ℕ) → IsPriced u c any_man b → IsBySquare u c b ys → IsLeastPrice u least → ((q : ℕ) → q < 64 → has set q ≡ is_of c (get b q)) → IsLow b c ys least
 unfolding IsLow
 least_is_low u ys c b set least len by low marks k s ls there =
-    let w : place c any_man b s < men c any_man b = place_within c any_man b set s (marks_men b c set marks) ls (marks s ls ∙ of_there b c k s there) in
+    let w : number_among c any_man b s < men c any_man b = place_within c any_man b set s (marks_men b c set marks) ls (marks s ls ∙ of_there b c k s there) in
     let n : length u ≡ men c any_man b = len in
     let e : get_or ys s 0 ≡ price u c any_man b s = by k s ls there in
-    let m : least ≤ get_or u (place c any_man b s) 0 = low (place c any_man b s) (omega arith) in
+    let m : least ≤ get_or u (number_among c any_man b s) 0 = low (number_among c any_man b s) (omega arith) in
     omega arith
 
 pub all_by_square : (b d : Placement) (c : Color) (way : Option Wing) (u v ys : List ℕ) (r : Bool) → IsBySquare u c b ys → IsTrue r ↔ TargetFits b d c way ys v → IsTrue r ↔ AllFit b d c way u v

@@ -8,7 +8,7 @@ use Rattle.pg_board.specs.Men.{color_eq, is_of}
 use Rattle.pg_board.specs.Placement.{Placement, get}
 use Rattle.pg_board.specs.Bits.{has}
 use Rattle.pg_position.specs.declared.rights.Wing.{Wing}
-use Rattle.pg_travel.specs.Origins.{sum_to}
+use Rattle.pg_board.specs.Tally.{total}
 use Rattle.pg_travel.specs.numbers.Formulas.{least_of}
 use Rattle.pg_travel.specs.numbers.Costs.{nearest, cost_of, cost}
 
@@ -17,23 +17,23 @@ unfolding least_of
 least_le f zero = omega arith
 least_le f (suc n) = omega (arith, least_le f n)
 
+-- what no step from a to b changes is the same at both
+unchanged : (f : ℕ → ℕ) (a b : ℕ) → a ≤ b → ((q : ℕ) → a ≤ q → q < b → f (suc q) ≡ f q) → f b ≡ f a
+unchanged f a zero h same = let e : 0 ≡ a = omega arith in ap f e
+unchanged f a (suc b) h same = elim (eqb_tells (suc b) a) [
+  | inl w ↦ ap f w.1
+  | inr w ↦ (let ne : suc b ≢ a = w.1 in let l : a ≤ b = omega arith in same b l (omega arith) ∙ unchanged f a b l (λ q x y. same q x (omega arith)))
+]
+
 -- numbers of 64 leave the least as it is
 pub least_skip : (f : ℕ → ℕ) (a b : ℕ) → a ≤ b → ((q : ℕ) → a ≤ q → q < b → f q ≡ 64) → least_of f b ≡ least_of f a
 unfolding least_of
-least_skip f a zero h none = let e : 0 ≡ a = omega arith in ap (least_of f) e
-least_skip f a (suc b) h none = elim (eqb_tells (suc b) a) [
-  | inl w ↦ ap (least_of f) w.1
-  | inr w ↦ (let ne : suc b ≢ a = w.1 in let l : a ≤ b = omega arith in omega (arith, least_skip f a b l (λ q x y. none q x (omega arith)), none b l (omega arith), least_le f b))
-]
+least_skip f a b h none = unchanged (least_of f) a b h (λ q x y. omega (arith, none q x y, least_le f q))
 
 -- terms of 0 leave the sum as it is
-pub sum_skip : (f : ℕ → ℕ) (a b : ℕ) → a ≤ b → ((q : ℕ) → a ≤ q → q < b → f q ≡ 0) → sum_to f b ≡ sum_to f a
-unfolding sum_to
-sum_skip f a zero h none = let e : 0 ≡ a = omega arith in ap (sum_to f) e
-sum_skip f a (suc b) h none = elim (eqb_tells (suc b) a) [
-  | inl w ↦ ap (sum_to f) w.1
-  | inr w ↦ (let ne : suc b ≢ a = w.1 in let l : a ≤ b = omega arith in omega (arith, sum_skip f a b l (λ q x y. none q x (omega arith)), none b l (omega arith)))
-]
+pub sum_skip : (f : ℕ → ℕ) (a b : ℕ) → a ≤ b → ((q : ℕ) → a ≤ q → q < b → f q ≡ 0) → total f b ≡ total f a
+unfolding total
+sum_skip f a b h none = unchanged (total f) a b h (λ q x y. omega (arith, none q x y))
 
 color_sym : (c d : Color) → color_eq c d ≡ color_eq d c
 color_sym White White = refl

@@ -1,24 +1,27 @@
 -- Sums that stop at a limit. Leads to the contracts of `total_within`, `pays` and `excludes_for`.
-use Rattle.std.proofs.Common.{◌≡◌, ◌≢◌, ℕ, zero, suc, ◌+◌, ◌*◌, ◌<◌, ◌≤◌, ◌⊎◌, ◌&&◌, ◌^◌, inl, inr, not, nat_eq, Bool, true, false, cond, Option, Some, None, bit_and, bit_or, count_ones, eqb, refl, sym, ap, subst, arith, ◌∙◌, w64, ◌-◌, IsTrue, ◌↔◌, leb}
+use Rattle.std.proofs.Common.{◌≡◌, ◌≢◌, ℕ, zero, suc, ◌+◌, ◌*◌, ◌<◌, ◌≤◌, ◌⊎◌, ◌&&◌, ◌^◌, inl, inr, not, nat_eq, Bool, true, false, cond, Option, Some, None, bit_and, bit_or, count_ones, refl, sym, ap, subst, arith, ◌∙◌, w64, ◌-◌, IsTrue, ◌↔◌, leb, ◌||◌}
 use Rattle.std.proofs.lemmas.Bool.Decides.{eqb_tells, leb_tells}
 use Rattle.std.proofs.lemmas.Bool.{ne_eqb}
 use Rattle.std.specs.Int.{bit_not}
-use Rattle.std.proofs.lemmas.Nat.Bits.{bit_at_not}
 use Rattle.pg_board.specs.declared.man.Color.{Color}
 use Rattle.pg_board.specs.declared.man.Color.TheVariants.{White, Black}
 use Rattle.pg_board.specs.declared.man.Kind.{Kind}
 use Rattle.pg_board.specs.declared.man.Man.{Man}
-use Rattle.pg_board.specs.Bits.{has, has-and, bit_has, or_out, ones-count}
-use Rattle.pg_board.specs.Men.{man, is_of, color_eq, color_decides}
+use Rattle.pg_board.specs.Bits.{has, has-and, or_out, ones-count}
+use Rattle.pg_board.specs.Men.{man, is_of, color_eq}
+use Rattle.pg_board.specs.lemmas.Equalities.{color_decides}
+use Rattle.pg_board.specs.SquareSets.{IsSetOf}
 use Rattle.pg_board.specs.Placement.{Placement, get}
-use Rattle.pg_board.specs.Tally.{one, total-suc, count_below, count_below-le}
+use Rattle.pg_board.specs.Tally.{one, count_below, total}
+use Rattle.pg_board.specs.lemmas.Sums.{total-suc, total-more, count_below-le}
 use Rattle.pg_position.specs.declared.rights.Wing.{Wing}
 use Rattle.pg_position.specs.declared.rights.Wing.TheVariants.{KingSide, QueenSide}
 use Rattle.pg_position.specs.declared.state.State.{State}
-use Rattle.pg_position.specs.Position.{holds, king_home, rook_home}
-use Rattle.pg_position.specs.Step.{king_crossed, king_target}
+use Rattle.pg_position.specs.Position.{holds}
+use Rattle.pg_position.specs.Squares.{king_home, rook_home, king_crossed, king_target}
+use Rattle.pg_board.proofs.SetLemmas.{has-not}
 use Rattle.pg_captures.specs.Owed.{plies_left}
-use Rattle.pg_travel.specs.Origins.{charge, counted, sum_to}
+use Rattle.pg_travel.specs.Origins.{charge, counted}
 use Rattle.pg_travel.specs.numbers.Formulas.{distance_of}
 use Rattle.pg_travel.specs.Needs.{NeedIs, TravelTest}
 use Rattle.pg_travel.specs.lemmas.NeedLemmas.{test_fails}
@@ -29,7 +32,7 @@ use Rattle.pg_travel.specs.Decided.{sum_of}
 use Rattle.pg_travel.specs.lemmas.Least.{need_is, test_none, test_some, held_by_value}
 use Rattle.pg_travel.specs.numbers.Within.{CostsOnly, CostsEach, SumWithin, IsAbove, PaysIs, CastledIs}
 use Rattle.pg_travel.proofs.Nearness.{least_above}
-use Rattle.pg_travel.proofs.Skips.{IsOwn, cost_off}
+use Rattle.pg_travel.proofs.Skips.{IsOwn, cost_off, sum_skip}
 
 -- ---- squares that differ
 -- the set of the squares that do not hold the same
@@ -40,16 +43,13 @@ and_true : (a b : Bool) → (a && b) ≡ true → (a ≡ true) × (b ≡ true)
 and_true true b h = (refl, h)
 and_true false b h = absurd (cc)
 
+or_false : (a b : Bool) → (a || b) ≡ false → (a ≡ false) × (b ≡ false)
+or_false true b h = absurd (cc)
+or_false false b h = (refl, h)
+
 and_false : (a b : Bool) → (a && b) ≡ false → (a ≡ false) ⊎ ((a ≡ true) × (b ≡ false))
 and_false true b h = inr (refl, h)
 and_false false b h = inl refl
-
-has-not : (n q : ℕ) → n < 2 ^ 64 → q < 64 → has (bit_not w64 n) q ≡ not (has n q)
-has-not n q l k = ap (λ x. eqb x 1) (bit_at_not w64 n q l k ∙ ap (λ x. 1 - x) (bit_has n q)) ∙ flipped (has n q)
-  where
-    flipped : (b : Bool) → eqb (1 - cond b 1 0) 1 ≡ not b
-    flipped true = refl
-    flipped false = refl
 
 color_same : (c : Color) → color_eq c c ≡ true
 color_same White = refl
@@ -66,9 +66,9 @@ cost_same b d c way own q is l on same at =
     let m : (k : Kind) × (get d q ≡ Some (man c k)) = man_of c (get d q) (sym (is q l) ∙ on) in
     sym (cost_home b d c way q (man c m.0) m.1 (same ∙ m.1) (color_same c) at)
 
-pub costs_free : (b d : Placement) (c : Color) (own moved : ℕ) → IsOwn d c own → Differ b d moved → CostsOnly b d c None (bit_and own moved)
+pub costs_free : (b d : Placement) (c : Color) (own moved n : ℕ) → IsOwn d c own → Differ b d moved → ((q : ℕ) → has n q ≡ (has own q && has moved q)) → CostsOnly b d c None n
 unfolding CostsOnly
-costs_free b d c own moved is differ q l h = elim (and_false (has own q) (has moved q) (sym (has-and own moved q) ∙ h)) [
+costs_free b d c own moved n is differ both q l h = elim (and_false (has own q) (has moved q) (sym (both q) ∙ h)) [
   | inl off ↦ cost_off b d c None own q is l off
   | inr on ↦ cost_same b d c None own q is l on.0 ((differ q l).0 on.1) refl
 ]
@@ -99,13 +99,13 @@ counted_away c w q off = (λ i. cond (king i) (king_target c w) (cond (rook i) (
     rook : nat_eq q (rook_home c w) ≡ false
     rook = away q (rook_home c w) off (rook_on c w)
 
-pub costs_castled : (b d : Placement) (c : Color) (w : Wing) (own moved : ℕ) → IsOwn d c own → Differ b d moved → CostsOnly b d c (Some w) (bit_and own (bit_or moved homes))
+pub costs_castled : (b d : Placement) (c : Color) (w : Wing) (own moved home far n : ℕ) → IsOwn d c own → Differ b d moved → home ≡ homes → ((q : ℕ) → has far q ≡ (has moved q || has home q)) → ((q : ℕ) → has n q ≡ (has own q && has far q)) → CostsOnly b d c (Some w) n
 unfolding CostsOnly
-costs_castled b d c w own moved is differ q l h = elim (and_false (has own q) (has (bit_or moved homes) q) (sym (has-and own (bit_or moved homes) q) ∙ h)) [
+costs_castled b d c w own moved home far n is differ e either both q l h = elim (and_false (has own q) (has far q) (sym (both q) ∙ h)) [
   | inl off ↦ cost_off b d c (Some w) own q is l off
   | inr on ↦ (
-      let both : (has moved q ≡ false) × (has homes q ≡ false) = (or_out moved homes q).0 on.1 in
-      cost_same b d c (Some w) own q is l on.0 ((differ q l).0 both.0) (counted_away c w q both.1))
+      let off : (has moved q ≡ false) × (has home q ≡ false) = or_false (has moved q) (has home q) (sym (either q) ∙ on.1) in
+      cost_same b d c (Some w) own q is l on.0 ((differ q l).0 off.0) (counted_away c w q (ap (λ x. has x q) (sym e) ∙ off.1)))
 ]
 
 -- ---- what is sure to cost something
@@ -135,48 +135,44 @@ cost_moved b d c way j t lt there other back =
     each o l None here = omega arith
     each o l (Some m) here = by_side o l m here (color_eq c m.color) refl
 
-cost_differs : (b d : Placement) (c : Color) (way : Option Wing) (own moved q : ℕ) → IsOwn d c own → Differ b d moved → q < 64 → has (bit_and own moved) q ≡ true → ((o : ℕ) → counted c way o ≡ q → o ≡ q) → 1 ≤ cost b d c way q
+cost_differs : (b d : Placement) (c : Color) (way : Option Wing) (own moved q : ℕ) → IsOwn d c own → Differ b d moved → q < 64 → (has own q && has moved q) ≡ true → ((o : ℕ) → counted c way o ≡ q → o ≡ q) → 1 ≤ cost b d c way q
 cost_differs b d c way own moved q is differ l h back =
-    let both : (has own q ≡ true) × (has moved q ≡ true) = and_true (has own q) (has moved q) (sym (has-and own moved q) ∙ h) in
+    let both : (has own q ≡ true) × (has moved q ≡ true) = and_true (has own q) (has moved q) h in
     let m : (k : Kind) × (get d q ≡ Some (man c k)) = man_of c (get d q) (sym (is q l) ∙ both.0) in
     cost_moved b d c way m.0 q l m.1 (λ same. absurd (let off : has moved q ≡ false = (differ q l).1 same in cc)) back
 
-pub sure_free : (b d : Placement) (c : Color) (own moved : ℕ) → IsOwn d c own → Differ b d moved → CostsEach b d c None (bit_and own moved)
+pub sure_free : (b d : Placement) (c : Color) (own moved n : ℕ) → IsOwn d c own → Differ b d moved → ((q : ℕ) → has n q ≡ (has own q && has moved q)) → CostsEach b d c None n
 unfolding CostsEach
-sure_free b d c own moved is differ q l h = cost_differs b d c None own moved q is differ l h (λ o e. e)
+sure_free b d c own moved n is differ both q l h = cost_differs b d c None own moved q is differ l (sym (both q) ∙ h) (λ o e. e)
 
 uncounted : (x y : Bool) (t u o q : ℕ) → q ≢ t → q ≢ u → cond x t (cond y u o) ≡ q → o ≡ q
 uncounted true y t u o q a b e = absurd (a (sym e))
 uncounted false true t u o q a b e = absurd (b (sym e))
 uncounted false false t u o q a b e = e
 
-pub sure_castled : (b d : Placement) (c : Color) (w : Wing) (own moved castled : ℕ) → castled < 2 ^ 64 → IsOwn d c own → Differ b d moved → ((q : ℕ) → has castled q ≡ false → (q ≢ king_target c w) × (q ≢ king_crossed c w)) → CostsEach b d c (Some w) (bit_and (bit_and own moved) (bit_not w64 castled))
+pub sure_castled : (b d : Placement) (c : Color) (w : Wing) (own moved castled same n : ℕ) → IsOwn d c own → Differ b d moved → IsSetOf castled (λ q. (q ≡ king_target c w) ⊎ (q ≡ king_crossed c w))
+    → ((q : ℕ) → has same q ≡ (has own q && has moved q)) → ((q : ℕ) → q < 64 → has n q ≡ (has same q && not (has castled q))) → CostsEach b d c (Some w) n
 unfolding CostsEach
-sure_castled b d c w own moved castled fits is differ off q l h =
-    let both : (has (bit_and own moved) q ≡ true) × (has (bit_not w64 castled) q ≡ true) = and_true (has (bit_and own moved) q) (has (bit_not w64 castled) q) (sym (has-and (bit_and own moved) (bit_not w64 castled) q) ∙ h) in
-    let none : has castled q ≡ false = not_true (has castled q) (sym (has-not castled q fits l) ∙ both.1) in
-    cost_differs b d c (Some w) own moved q is differ l both.0 (λ o e. uncounted (nat_eq o (king_home c)) (nat_eq o (rook_home c w)) (king_target c w) (king_crossed c w) o q (off q none).0 (off q none).1 e)
-  where
-    not_true : (x : Bool) → not x ≡ true → x ≡ false
-    not_true true e = absurd (cc)
-    not_true false e = refl
+sure_castled b d c w own moved castled same n is differ on both rest q l h =
+    let left : (has same q ≡ true) × (not (has castled q) ≡ true) = and_true (has same q) (not (has castled q)) (sym (rest q l) ∙ h) in
+    let off : (q ≡ king_target c w) ⊎ (q ≡ king_crossed c w) → ⊥ = (λ e. let there : has castled q ≡ true = (on q l).1 e in let none : not (has castled q) ≡ true = left.1 in cc) in
+    cost_differs b d c (Some w) own moved q is differ l (sym (both q) ∙ left.0) (λ o e. uncounted (nat_eq o (king_home c)) (nat_eq o (rook_home c w)) (king_target c w) (king_crossed c w) o q (λ f. off (inl f)) (λ f. off (inr f)) e)
 
 -- so many plies at least
-cost_counted : (f : ℕ → ℕ) (set n : ℕ) → (has set n ≡ true → 1 ≤ f n) → count_below (has set) n ≤ sum_to f n → (x : Bool) → has set n ≡ x → count_below (has set) (suc n) ≤ sum_to f n + f n
+cost_counted : (f : ℕ → ℕ) (set n : ℕ) → (has set n ≡ true → 1 ≤ f n) → count_below (has set) n ≤ total f n → (x : Bool) → has set n ≡ x → count_below (has set) (suc n) ≤ total f n + f n
 cost_counted f set n each before true e = let more : count_below (has set) (suc n) ≡ count_below (has set) n + one (has set n) = total-suc (λ k. one (has set k)) n in let z : one (has set n) ≡ 1 = ap one e in let y : 1 ≤ f n = each e in omega arith
 cost_counted f set n each before false e = let more : count_below (has set) (suc n) ≡ count_below (has set) n + one (has set n) = total-suc (λ k. one (has set k)) n in let z : one (has set n) ≡ 0 = ap one e in omega arith
 
-counted_costs : (f : ℕ → ℕ) (set n : ℕ) → n ≤ 64 → ((q : ℕ) → q < 64 → has set q ≡ true → 1 ≤ f q) → count_below (has set) n ≤ sum_to f n
-unfolding sum_to
+counted_costs : (f : ℕ → ℕ) (set n : ℕ) → n ≤ 64 → ((q : ℕ) → q < 64 → has set q ≡ true → 1 ≤ f q) → count_below (has set) n ≤ total f n
+unfolding total
 counted_costs f set zero l each = omega (arith, count_below-le (has set) 0)
 counted_costs f set (suc n) l each = cost_counted f set n (each n (omega arith)) (counted_costs f set n (omega arith) each) (has set n) refl
 
-pub within_sure : (b d : Placement) (c : Color) (way : Option Wing) (limit set : ℕ) → set < 2 ^ 64 → CostsEach b d c way set → limit < charge way + count_ones set → (v : ℕ) → SumIs b d c way (Some v) → limit < v
+pub within_sure : (b d : Placement) (c : Color) (way : Option Wing) (limit set : ℕ) → count_ones set ≡ count_below (has set) 64 → CostsEach b d c way set → limit < charge way + count_ones set → (v : ℕ) → SumIs b d c way (Some v) → limit < v
 unfolding CostsEach
-within_sure b d c way limit set fits each over v s =
-    let n : count_ones set ≡ count_below (has set) 64 = ones-count 64 set fits in
-    let g : count_below (has set) 64 ≤ sum_to (cost b d c way) 64 = counted_costs (cost b d c way) set 64 (omega arith) each in
-    let e : v ≡ charge way + sum_to (cost b d c way) 64 = s.1 in
+within_sure b d c way limit set n each over v s =
+    let g : count_below (has set) 64 ≤ total (cost b d c way) 64 = counted_costs (cost b d c way) set 64 (omega arith) each in
+    let e : v ≡ charge way + total (cost b d c way) 64 = s.1 in
     omega arith
 
 pub costs_off : (b d : Placement) (c : Color) (way : Option Wing) (set q : ℕ) → CostsOnly b d c way set → q < 64 → has set q ≡ false → cost b d c way q ≡ 0
@@ -184,12 +180,12 @@ unfolding CostsOnly
 costs_off b d c way set q h l off = h q l off
 
 -- ---- sums
-pub sum_grows : (f : ℕ → ℕ) (a b : ℕ) → a ≤ b → sum_to f a ≤ sum_to f b
-unfolding sum_to
-sum_grows f a zero h = let e : a ≡ 0 = omega arith in let s : sum_to f a ≡ sum_to f 0 = ap (sum_to f) e in omega arith
+pub sum_grows : (f : ℕ → ℕ) (a b : ℕ) → a ≤ b → total f a ≤ total f b
+unfolding total
+sum_grows f a zero h = let e : a ≡ 0 = omega arith in let s : total f a ≡ total f 0 = ap (total f) e in omega arith
 sum_grows f a (suc b) h = elim (eqb_tells a (suc b)) [
-  | inl w ↦ (let s : sum_to f a ≡ sum_to f (suc b) = ap (sum_to f) w.1 in omega arith)
-  | inr w ↦ (let ne : a ≢ suc b = w.1 in let s : sum_to f a ≤ sum_to f b = sum_grows f a b (omega arith) in omega arith)
+  | inl w ↦ (let s : total f a ≡ total f (suc b) = ap (total f) w.1 in omega arith)
+  | inr w ↦ (let ne : a ≢ suc b = w.1 in let s : total f a ≤ total f b = sum_grows f a b (omega arith) in omega arith)
 ]
 
 -- ---- a sum that begins with what is sure
@@ -219,14 +215,25 @@ sure_off b d c way set sure low high only each up most off = count_skip sure low
     none q l f false e = e
     none q l f true e = absurd (let a : 1 ≤ cost b d c way q = each q l e in let z : cost b d c way q ≡ 0 = only q l f in omega arith)
 
-counts_between : (f : ℕ → ℕ) (set a z : ℕ) → a ≤ z → z ≤ 64 → ((q : ℕ) → q < 64 → has set q ≡ true → 1 ≤ f q) → count_below (has set) z + sum_to f a ≤ sum_to f z + count_below (has set) a
-unfolding sum_to
-counts_between f set a zero up most each = let e : a ≡ 0 = omega arith in let s : sum_to f a ≡ sum_to f 0 = ap (sum_to f) e in let n : count_below (has set) a ≡ count_below (has set) 0 = ap (count_below (has set)) e in omega arith
+-- a sum that goes on to t: what stands before t costs nothing, and t itself n, of which some is sure
+pub sum_goes_on : (b d : Placement) (c : Color) (way : Option Wing) (set sure low t so_far more n : ℕ) → CostsOnly b d c way set → CostsEach b d c way sure → low ≤ t → t < 64 → ((q : ℕ) → low ≤ q → q < t → has set q ≡ false)
+    → n ≡ cost b d c way t → more + one (has sure t) ≡ n → so_far + count_below (has sure) low ≡ charge way + total (cost b d c way) low + count_ones sure
+    → so_far + more + count_below (has sure) (t + 1) ≡ charge way + total (cost b d c way) (t + 1) + count_ones sure
+sum_goes_on b d c way set sure low t so_far more n only each up on off is some e =
+    let s : total (cost b d c way) t ≡ total (cost b d c way) low = sum_skip (cost b d c way) low t up (λ q x y. costs_off b d c way set q only (omega arith) (off q x y)) in
+    let m : total (cost b d c way) (t + 1) ≡ total (cost b d c way) t + cost b d c way t = total-more (cost b d c way) t in
+    let k : count_below (has sure) t ≡ count_below (has sure) low = sure_off b d c way set sure low t only each up (omega arith) off in
+    let l : count_below (has sure) (t + 1) ≡ count_below (has sure) t + one (has sure t) = total-more (λ k. one (has sure k)) t in
+    omega arith
+
+counts_between : (f : ℕ → ℕ) (set a z : ℕ) → a ≤ z → z ≤ 64 → ((q : ℕ) → q < 64 → has set q ≡ true → 1 ≤ f q) → count_below (has set) z + total f a ≤ total f z + count_below (has set) a
+unfolding total
+counts_between f set a zero up most each = let e : a ≡ 0 = omega arith in let s : total f a ≡ total f 0 = ap (total f) e in let n : count_below (has set) a ≡ count_below (has set) 0 = ap (count_below (has set)) e in omega arith
 counts_between f set a (suc z) up most each = elim (eqb_tells a (suc z)) [
-  | inl w ↦ (let s : sum_to f a ≡ sum_to f (suc z) = ap (sum_to f) w.1 in let n : count_below (has set) a ≡ count_below (has set) (suc z) = ap (count_below (has set)) w.1 in omega arith)
+  | inl w ↦ (let s : total f a ≡ total f (suc z) = ap (total f) w.1 in let n : count_below (has set) a ≡ count_below (has set) (suc z) = ap (count_below (has set)) w.1 in omega arith)
   | inr w ↦
       (let ne : a ≢ suc z = w.1 in
-      let before : count_below (has set) z + sum_to f a ≤ sum_to f z + count_below (has set) a = counts_between f set a z (omega arith) (omega arith) each in
+      let before : count_below (has set) z + total f a ≤ total f z + count_below (has set) a = counts_between f set a z (omega arith) (omega arith) each in
       let more : count_below (has set) (suc z) ≡ count_below (has set) z + one (has set z) = total-suc (λ k. one (has set k)) z in
       let here : one (has set z) ≤ f z = least (has set z) (each z (omega arith)) in
       omega arith)
@@ -237,12 +244,11 @@ counts_between f set a (suc z) up most each = elim (eqb_tells a (suc z)) [
     least false h = omega arith
 
 -- where the first men cost more than the limit with what the others are sure to, all do
-pub within_over : (b d : Placement) (c : Color) (way : Option Wing) (limit sure total n : ℕ) → sure < 2 ^ 64 → CostsEach b d c way sure → n ≤ 64 → total + count_below (has sure) n ≡ charge way + sum_to (cost b d c way) n + count_ones sure → limit < total → (v : ℕ) → SumIs b d c way (Some v) → limit < v
+pub within_over : (b d : Placement) (c : Color) (way : Option Wing) (limit sure reached n : ℕ) → count_ones sure ≡ count_below (has sure) 64 → CostsEach b d c way sure → n ≤ 64 → reached + count_below (has sure) n ≡ charge way + total (cost b d c way) n + count_ones sure → limit < reached → (v : ℕ) → SumIs b d c way (Some v) → limit < v
 unfolding CostsEach
-within_over b d c way limit sure total n fits each low is more v s =
-    let all : count_ones sure ≡ count_below (has sure) 64 = ones-count 64 sure fits in
-    let g : count_below (has sure) 64 + sum_to (cost b d c way) n ≤ sum_to (cost b d c way) 64 + count_below (has sure) n = counts_between (cost b d c way) sure n 64 low (omega arith) each in
-    let e : v ≡ charge way + sum_to (cost b d c way) 64 = s.1 in
+within_over b d c way limit sure reached n all each low is more v s =
+    let g : count_below (has sure) 64 + total (cost b d c way) n ≤ total (cost b d c way) 64 + count_below (has sure) n = counts_between (cost b d c way) sure n 64 low (omega arith) each in
+    let e : v ≡ charge way + total (cost b d c way) 64 = s.1 in
     omega arith
 
 -- the value, by the sum within the limit
@@ -251,7 +257,7 @@ pays_not p d c way limit r h over = go (sum_of p.board d c way).0 (sum_of p.boar
   where
     above : (r : Option ℕ) (v : ℕ) → SumWithin p.board d c way limit r → ((w : ℕ) → r ≡ Some w → limit < w) → SumIs p.board d c way (Some v) → limit < v
     above None v h over s = h v s
-    above (Some w) v h over s = (let a : w ≡ charge way + sum_to (cost p.board d c way) 64 = h.1 in let e : v ≡ charge way + sum_to (cost p.board d c way) 64 = s.1 in let l : limit < w = over w refl in omega arith)
+    above (Some w) v h over s = (let a : w ≡ charge way + total (cost p.board d c way) 64 = h.1 in let e : v ≡ charge way + total (cost p.board d c way) 64 = s.1 in let l : limit < w = over w refl in omega arith)
 
     go : (o : Option ℕ) → SumIs p.board d c way o → PaysIs p d c way limit false
     go None s = (None, sum_is_value p d c way None s, tt)
@@ -279,29 +285,29 @@ lesser_above limit None b f g = g
 lesser_above limit (Some x) None f g = f
 lesser_above limit (Some x) (Some y) f g = omega arith
 
-pub all_above : (p : State) (d : Placement) (c : Color) (k limit : ℕ) → limit ≡ plies_left p.side c k → PaysIs p d c None limit false → CastledIs p d c KingSide limit false → CastledIs p d c QueenSide limit false → TravelTest p d c k
+pub all_above : (p : State) (d : Placement) (c : Color) (k limit : ℕ) → limit ≡ plies_left p.side c k → PaysIs p d c None limit false → CastledIs p d c KingSide limit false → CastledIs p d c QueenSide limit false → TravelTest d p k c
 all_above p d c k limit e a s q = go (lesser a.0 (lesser s.0 q.0)) (need_is p d c a.0 s.0 q.0 a.1 s.1 q.1) (lesser_above limit a.0 (lesser s.0 q.0) a.2 (lesser_above limit s.0 q.0 s.2 q.2))
   where
-    go : (o : Option ℕ) → NeedIs p d c o → IsAbove limit o → TravelTest p d c k
+    go : (o : Option ℕ) → NeedIs d p c o → IsAbove limit o → TravelTest d p k c
     go None h above = test_none p d c k h
     go (Some n) h above = (test_some p d c k n h).1 (let l : limit < n = above in omega (arith, e))
 
-pub free_paid : (p : State) (d : Placement) (c : Color) (k limit : ℕ) → limit ≡ plies_left p.side c k → PaysIs p d c None limit true → ¬ TravelTest p d c k
+pub free_paid : (p : State) (d : Placement) (c : Color) (k limit : ℕ) → limit ≡ plies_left p.side c k → PaysIs p d c None limit true → ¬ TravelTest d p k c
 free_paid p d c k limit e h = test_fails p d c k h.0 (None, tt, h.1) (subst (λ (n : ℕ). h.0 ≤ n) e h.2)
 
-pub castled_paid : (p : State) (d : Placement) (c : Color) (w : Wing) (k limit : ℕ) → limit ≡ plies_left p.side c k → CastledIs p d c w limit true → ¬ TravelTest p d c k
+pub castled_paid : (p : State) (d : Placement) (c : Color) (w : Wing) (k limit : ℕ) → limit ≡ plies_left p.side c k → CastledIs p d c w limit true → ¬ TravelTest d p k c
 castled_paid p d c w k limit e h = test_fails p d c k h.0 (Some w, h.1, h.2) (subst (λ (n : ℕ). h.0 ≤ n) e h.3)
 
-pub told : (p : State) (d : Placement) (c : Color) (k limit : ℕ) (long : Bool) → limit ≡ plies_left p.side c k → PaysIs p d c None limit false → CastledIs p d c KingSide limit false → CastledIs p d c QueenSide limit long → IsTrue (not long) ↔ TravelTest p d c k
+pub told : (p : State) (d : Placement) (c : Color) (k limit : ℕ) (long : Bool) → limit ≡ plies_left p.side c k → PaysIs p d c None limit false → CastledIs p d c KingSide limit false → CastledIs p d c QueenSide limit long → IsTrue (not long) ↔ TravelTest d p k c
 told p d c k limit true e a s q = ((λ t. cc), (λ t. absurd (castled_paid p d c QueenSide k limit e q t)))
 told p d c k limit false e a s q = ((λ t. all_above p d c k limit e a s q), (λ t. refl))
 
 -- ---- no sum is above the most that all men can cost
-sum_few : (f : ℕ → ℕ) (n : ℕ) → ((t : ℕ) → t < n → f t < 64) → sum_to f n ≤ 63 * n
-unfolding sum_to
+sum_few : (f : ℕ → ℕ) (n : ℕ) → ((t : ℕ) → t < n → f t < 64) → total f n ≤ 63 * n
+unfolding total
 sum_few f zero h = omega arith
 sum_few f (suc n) h =
-    let low : sum_to f n ≤ 63 * n = sum_few f n (λ t l. h t (omega arith)) in
+    let low : total f n ≤ 63 * n = sum_few f n (λ t l. h t (omega arith)) in
     let here : f n < 64 = h n (omega arith) in
     omega arith
 
@@ -318,7 +324,7 @@ all_within b d c way limit None e h = go (sum_of b d c way).0 (sum_of b d c way)
     go None s = s
     go (Some v) s =
         absurd (let above : limit < v = h v s in
-        let low : sum_to (cost b d c way) 64 ≤ 63 * 64 = sum_few (cost b d c way) 64 s.0 in
+        let low : total (cost b d c way) 64 ≤ 63 * 64 = sum_few (cost b d c way) 64 s.0 in
         let few : charge way ≤ 1 = charge_low way in
-        let is : v ≡ charge way + sum_to (cost b d c way) 64 = s.1 in
+        let is : v ≡ charge way + total (cost b d c way) 64 = s.1 in
         omega arith)

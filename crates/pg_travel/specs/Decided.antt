@@ -10,7 +10,8 @@ use Rattle.pg_position.specs.declared.rights.Wing.TheVariants.{KingSide, QueenSi
 use Rattle.pg_position.specs.declared.state.State.{State}
 use Rattle.pg_position.specs.Position.{holds}
 use Rattle.pg_captures.specs.Owed.{plies_left}
-use Rattle.pg_travel.specs.Origins.{charge, sum_to}
+use Rattle.pg_travel.specs.Origins.{charge}
+use Rattle.pg_board.specs.Tally.{total}
 use Rattle.pg_travel.specs.Needs.{NeedIs, TravelTest, TravelHolds}
 use Rattle.pg_travel.specs.numbers.Formulas.{least_of}
 use Rattle.pg_travel.specs.numbers.Costs.{reach_of, nearest, cost_of, cost, ValueIs, SumIs, HeldIs, lesser}
@@ -40,35 +41,35 @@ sum_of b d c way = go (dec_some_below (λ t. cost b d c way t ≡ 64) (λ t. dec
   where
     go : Dec ((t : ℕ) × (t < 64) × (cost b d c way t ≡ 64)) → (o : Option ℕ) × SumIs b d c way o
     go (yes h) = (None, h)
-    go (no f) = (Some (charge way + sum_to (cost b d c way) 64), ((λ t low. (let most : cost b d c way t ≤ 64 = cost_low b d c way t in let ne : cost b d c way t ≢ 64 = λ e. f (t, low, e) in omega arith)), refl))
+    go (no f) = (Some (charge way + total (cost b d c way) 64), ((λ t low. (let most : cost b d c way t ≤ 64 = cost_low b d c way t in let ne : cost b d c way t ≢ 64 = λ e. f (t, low, e) in omega arith)), refl))
 
-value_of : (p : State) (d : Placement) (c : Color) (way : Option Wing) → (o : Option ℕ) × ValueIs p d c way o
+value_of : (p : State) (d : Placement) (c : Color) (way : Option Wing) → (o : Option ℕ) × ValueIs d p c way o
 value_of p d c way = let s : (o : Option ℕ) × SumIs p.board d c way o = sum_of p.board d c way in (s.0, sum_is_value p d c way s.0 s.1)
 
-held_of : (p : State) (d : Placement) (c : Color) (w : Wing) → (o : Option ℕ) × HeldIs p d c (Some w) o
+held_of : (p : State) (d : Placement) (c : Color) (w : Wing) → (o : Option ℕ) × HeldIs d p c (Some w) o
 held_of p d c w = go (holds p.rights c w) refl
   where
-    go : (held : Bool) → holds p.rights c w ≡ held → (o : Option ℕ) × HeldIs p d c (Some w) o
-    go true e = let v : (o : Option ℕ) × ValueIs p d c (Some w) o = value_of p d c (Some w) in (v.0, held_by_value p d c w v.0 e v.1)
+    go : (held : Bool) → holds p.rights c w ≡ held → (o : Option ℕ) × HeldIs d p c (Some w) o
+    go true e = let v : (o : Option ℕ) × ValueIs d p c (Some w) o = value_of p d c (Some w) in (v.0, held_by_value p d c w v.0 e v.1)
     go false e = (None, λ v held. absurd (let h : holds p.rights c w ≡ true = held in cc))
 
-need_of : (p : State) (d : Placement) (c : Color) → (o : Option ℕ) × NeedIs p d c o
+need_of : (p : State) (d : Placement) (c : Color) → (o : Option ℕ) × NeedIs d p c o
 need_of p d c =
-    let free : (o : Option ℕ) × ValueIs p d c None o = value_of p d c None in
-    let short : (o : Option ℕ) × HeldIs p d c (Some KingSide) o = held_of p d c KingSide in
-    let long : (o : Option ℕ) × HeldIs p d c (Some QueenSide) o = held_of p d c QueenSide in
+    let free : (o : Option ℕ) × ValueIs d p c None o = value_of p d c None in
+    let short : (o : Option ℕ) × HeldIs d p c (Some KingSide) o = held_of p d c KingSide in
+    let long : (o : Option ℕ) × HeldIs d p c (Some QueenSide) o = held_of p d c QueenSide in
     (lesser free.0 (lesser short.0 long.0), need_is p d c free.0 short.0 long.0 free.1 short.1 long.1)
 
-dec_travel_for : (p : State) (d : Placement) (c : Color) (k : ℕ) → Dec (TravelTest p d c k)
+dec_travel_for : (p : State) (d : Placement) (c : Color) (k : ℕ) → Dec (TravelTest d p k c)
 dec_travel_for p d c k = go (need_of p d c).0 (need_of p d c).1
   where
-    go : (o : Option ℕ) → NeedIs p d c o → Dec (TravelTest p d c k)
+    go : (o : Option ℕ) → NeedIs d p c o → Dec (TravelTest d p k c)
     go None h = yes (test_none p d c k h)
     go (Some n) h = dec_along (test_some p d c k n h).1 (test_some p d c k n h).0 (dec_less (plies_left p.side c k) n)
 
 pub dec_travel : (d : Placement) (p : State) (k : ℕ) → Dec (TravelHolds d p k)
 unfolding TravelHolds
-dec_travel d p k = dec_colors (λ c. TravelTest p d c k) (λ c. dec_travel_for p d c k)
+dec_travel d p k = dec_colors (λ c. TravelTest d p k c) (λ c. dec_travel_for p d c k)
 
 -- whether the travel test holds
 abbrev pub travel_test : Placement → State → ℕ → Bool

@@ -20,7 +20,9 @@ ways_of p c = None ∷ (cond (holds p.rights c KingSide) (Some KingSide ∷ []) 
 
 -- the list fits in a way: no target pays more than any source that has a distance to it, and that distance
 unfoldable pub TravelPricesFit : Placement → State → Color → Option Wing → PriceList → Type 0
-TravelPricesFit d p c way l = (k j : Kind) (s t n : ℕ) → s < 64 → t < 64 → Stands p.board c k s → Stands d c j t → IsDistance c k (counted c way s) j t n → price l.v c any_man d t ≤ price l.u c any_man p.board s + n
+TravelPricesFit d p c way l =
+    (k j : Kind) (s t n : ℕ) → s < 64 → t < 64 → Stands p.board c k s → Stands d c j t → IsDistance c k (counted c way s) j t n →
+    price l.v c any_man d t ≤ price l.u c any_man p.board s + n
 
 -- the list excludes a way: it has a number for each man, it fits, and its value, the sum of v less the sum of u, with the
 -- charge of the way is above the plies left

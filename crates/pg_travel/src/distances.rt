@@ -2,7 +2,8 @@
 ghost use Rattle.std.specs.Prelude.{◌≡◌, ◌≢◌, ℕ, ◌+◌, ◌-◌, ◌*◌, ◌/◌, ◌%◌, ◌<◌, ◌≤◌, ◌&&◌, ◌||◌, cond, eqb, min, max, IsTrue};
 ghost use Rattle.pg_position.specs.Geometry.{apart};
 ghost use Rattle.pg_travel.specs.Walks.{DistanceIs};
-ghost use Rattle.pg_travel.specs.numbers.Formulas.{files, ranks, king, rook, bishop, queen, knight, is_corner, long_way, knight_by, piece, rank_for, mirrored, pawn, soonest, is_promoted, least_steps, from_pawn, distance_of};
+ghost use Rattle.pg_travel.specs.numbers.Formulas.{files, ranks, king, rook, bishop, queen, knight, is_corner, long_way, knight_by, piece, rank_for};
+ghost use Rattle.pg_travel.specs.numbers.Formulas.{mirrored, pawn, soonest, is_promoted, least_steps, from_pawn, distance_of};
 ghost use Rattle.pg_travel.specs.numbers.Promoted.{told, ArePromoted};
 
 use crate::pawn_table::WHITE_PAWN;

@@ -5,7 +5,7 @@ ghost use Rattle.pg_board.specs.Placement.{get};
 ghost use Rattle.pg_board.specs.Tally.{one};
 ghost use Rattle.pg_board.specs.Men.{color_eq, man};
 ghost use Rattle.pg_captures.specs.Owed.{plies_left};
-ghost use Rattle.pg_travel.specs.Origins.{counted, charge, sum_to};
+ghost use Rattle.pg_travel.specs.Origins.{counted, charge};
 ghost use Rattle.pg_travel.specs.numbers.Formulas.{least_of};
 ghost use Rattle.pg_travel.specs.numbers.Costs.{BeyondFar, nearest_man, nearest, cost_of, cost, ValueIs, SumIs, HeldIs, lesser};
 ghost use Rattle.pg_travel.specs.Needs.{NeedIs, TravelTest};
@@ -15,10 +15,10 @@ use crate::bands::{Band, promoting, whole_board};
 use crate::castling::{charge, counted};
 use crate::distances::{closer, is_promoted};
 use crate::misplaced::{sure_to_cost, to_come};
-use pg_board::{Board, Color, Kind, Man, Square, contains};
+use pg_board::{Board, Color, Kind, Man, Square, SquareSet};
 use pg_captures::plies_left;
 use pg_fen::Diagram;
-use pg_position::{Position, Wing, first_from};
+use pg_position::{Position, Wing};
 
 pub(crate) fn same_side(a: Color, b: Color) -> bool
     ensures { result ≡ color_eq a b }
@@ -51,7 +51,7 @@ fn nearer(
     let own = board.squares_of(man);
     let mut least = best;
     let mut from = band.first;
-    while let Some(o) = first_from(own, from) {
+    while let Some(o) = own.first_from(from) {
         let at = o.index();
         if band.past <= at {
             return least;
@@ -111,11 +111,11 @@ fn cost(board: &Board, goal: &Board, color: Color, way: Option<Wing>, t: Square)
 }
 
 // What a man costs besides the one ply that each on these squares is sure to cost.
-fn beyond_sure(sure: u64, t: Square, n: u8) -> u8
+fn beyond_sure(sure: SquareSet, t: Square, n: u8) -> u8
     requires { has sure t ≡ true → 1 ≤ n }
     ensures { result + one (has sure t) ≡ n }
 {
-    if contains(sure, t.index()) { n - 1 } else { n }
+    if sure.contains(t) { n - 1 } else { n }
 }
 
 // No way costs more: its charge is 1 at most, and a man on each square 63 at most.
@@ -141,13 +141,13 @@ fn total_within(
     ensures { SumWithin board.now goal.now color way limit result }
 {
     let sure = sure_to_cost(board, goal, color, way);
-    let mut total = charge(way) + u16::from(sure.count_ones() as u8);
+    let mut total = charge(way) + u16::from(sure.len());
     if total > limit {
         return None;
     }
     let squares = to_come(board, goal, color, way);
     let mut from = 0u8;
-    while let Some(t) = first_from(squares, from) {
+    while let Some(t) = squares.first_from(from) {
         let n = cost(board, goal, color, way, t);
         if n == 64 {
             return None;
@@ -164,14 +164,14 @@ fn total_within(
 // The value of a way; none where some man of the diagram has no man that can come to it.
 #[tactic(auto, using(crate::specs::lemmas::Values::sum_is_value))]
 fn value(position: &Position, diagram: &Diagram, color: Color, way: Option<Wing>) -> Option<u16>
-    ensures { ValueIs position.now diagram.now color way result }
+    ensures { ValueIs diagram.now position.now color way result }
 {
     total(&position.board(), &diagram.board(), color, way)
 }
 
 // The value of a castling way, none where the right is not held too.
 fn castled_value(position: &Position, diagram: &Diagram, color: Color, wing: Wing) -> Option<u16>
-    ensures { HeldIs position.now diagram.now color (Some wing) result }
+    ensures { HeldIs diagram.now position.now color (Some wing) result }
 {
     if position.rights().holds(color, wing) {
         value(position, diagram, color, Some(wing))
@@ -194,8 +194,8 @@ fn lesser(a: Option<u16>, b: Option<u16>) -> Option<u16>
 
 // The need, where the value of the way without castling is known.
 fn need_by(color: Color, diagram: &Diagram, position: &Position, free: Option<u16>) -> Option<u16>
-    requires { ValueIs position.now diagram.now color None free }
-    ensures { NeedIs position.now diagram.now color result }
+    requires { ValueIs diagram.now position.now color None free }
+    ensures { NeedIs diagram.now position.now color result }
 {
     let short = castled_value(position, diagram, color, Wing::KingSide);
     let long = castled_value(position, diagram, color, Wing::QueenSide);
@@ -209,7 +209,7 @@ fn need_by(color: Color, diagram: &Diagram, position: &Position, free: Option<u1
 /// is 1 for castling, and for each of the colour's men of the diagram the distance of its nearest
 /// man, where a castling way counts the king and the rook on the squares that they castle to.
 pub fn need(color: Color, diagram: &Diagram, position: &Position) -> Option<u16>
-    ensures { NeedIs position.now diagram.now color result }
+    ensures { NeedIs diagram.now position.now color result }
 {
     let free = value(position, diagram, color, None);
     need_by(color, diagram, position, free)
@@ -244,7 +244,7 @@ fn pays_castled(
 
 // Whether the colour's need does not exist or is above its plies left: no way is paid for.
 pub(crate) fn excludes_for(color: Color, diagram: &Diagram, position: &Position, left: u8) -> bool
-    ensures { IsTrue result ↔ TravelTest position.now diagram.now color left }
+    ensures { IsTrue result ↔ TravelTest diagram.now position.now left color }
 {
     let plies = u16::from(plies_left(position.side(), color, left));
     let free = pays(position, diagram, color, None, plies);

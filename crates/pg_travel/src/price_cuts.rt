@@ -1,10 +1,10 @@
 //! The test of price lists.
-ghost use Rattle.std.specs.Prelude.{◌≡◌, ℕ, ◌+◌, ◌≤◌, ◌⊎◌, ◌↔◌, IsTrue, Some, None, length};
+ghost use Rattle.std.specs.Prelude.{◌↔◌, IsTrue};
 ghost use Rattle.pg_position.specs.Game.{Barren};
-ghost use Rattle.pg_position.specs.declared.rights.Wing.TheVariants.{KingSide, QueenSide};
 ghost use Rattle.pg_captures.specs.PriceLists.{list_of};
 ghost use Rattle.pg_travel.specs.PriceRecords.{list_at};
 ghost use Rattle.pg_travel.specs.TravelPrices.{WayPricesExclude, TravelPricesExclude};
+ghost use Rattle.pg_travel.specs.numbers.PriceTests.{OneExcludes, TwoExclude, ThreeExclude};
 
 use crate::castling::charge;
 use crate::prices::Prices;
@@ -66,7 +66,7 @@ fn list_excludes(
 
 // Whether there is one list, and it excludes the way without castling.
 fn one_way(diagram: &Diagram, position: &Position, left: u8, color: Color, prices: &Prices) -> bool
-    ensures { IsTrue result ↔ ((length prices.now ≡ 1) × WayPricesExclude diagram.now position.now left color None (list_at prices.now 0)) }
+    ensures { IsTrue result ↔ OneExcludes diagram.now position.now left color prices.now }
 {
     prices.ways() == 1 && list_excludes(diagram, position, left, color, None, prices, 0)
 }
@@ -80,7 +80,7 @@ fn two_ways(
     wing: Wing,
     prices: &Prices,
 ) -> bool
-    ensures { IsTrue result ↔ ((length prices.now ≡ 2) × WayPricesExclude diagram.now position.now left color None (list_at prices.now 0) × WayPricesExclude diagram.now position.now left color (Some wing) (list_at prices.now 1)) }
+    ensures { IsTrue result ↔ TwoExclude diagram.now position.now left color wing prices.now }
 {
     prices.ways() == 2
         && list_excludes(diagram, position, left, color, None, prices, 0)
@@ -95,7 +95,7 @@ fn three_ways(
     color: Color,
     prices: &Prices,
 ) -> bool
-    ensures { IsTrue result ↔ ((length prices.now ≡ 3) × WayPricesExclude diagram.now position.now left color None (list_at prices.now 0) × WayPricesExclude diagram.now position.now left color (Some KingSide) (list_at prices.now 1) × WayPricesExclude diagram.now position.now left color (Some QueenSide) (list_at prices.now 2)) }
+    ensures { IsTrue result ↔ ThreeExclude diagram.now position.now left color prices.now }
 {
     prices.ways() == 3
         && list_excludes(diagram, position, left, color, None, prices, 0)

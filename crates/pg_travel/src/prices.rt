@@ -3,7 +3,7 @@ ghost use Rattle.std.proofs.Common.{sym};
 ghost use Rattle.std.specs.Prelude.{◌≡◌, ℕ, ◌↔◌, ◌<◌, ◌≤◌, IsTrue, cond, List, [], ◌∷◌, ◌++◌, length, take};
 ghost use Rattle.pg_captures.specs.PriceLists.{PriceList, list_of};
 ghost use Rattle.pg_travel.specs.PriceRecords.{list_at, sources, targets, u_at, v_at, NewIs, CanAdd};
-ghost use Rattle.pg_travel.specs.numbers.Rows.{row_list, rows, padded, row_of, sources_of, targets_of, ways_of, source_number, target_number};
+ghost use Rattle.pg_travel.specs.numbers.Rows.{row_list, rows, AreRows, padded, row_of, sources_of, targets_of, ways_of, source_number, target_number};
 
 use std::marker::Model;
 
@@ -30,11 +30,25 @@ impl Model for Prices {
 
     ghost view = { λ s. rows s.ways s.sources s.targets s.first s.second s.third };
 
-    ghost invariant = { λ s. (0 < s.ways) × (s.ways ≤ 3) × (s.sources ≤ 64) × (s.targets ≤ 64) × (length s.first.u ≡ 64) × (length s.first.v ≡ 64) × (s.first ≡ row_of (list_at (rows s.ways s.sources s.targets s.first s.second s.third) 0)) × (s.second ≡ row_of (list_at (rows s.ways s.sources s.targets s.first s.second s.third) 1)) × (s.third ≡ row_of (list_at (rows s.ways s.sources s.targets s.first s.second s.third) 2)) };
+    ghost invariant = { λ s. AreRows s.ways s.sources s.targets s.first s.second s.third };
 
-    ghost inverse = { λ ls. record { first = row_of (list_at ls 0); second = row_of (list_at ls 1); third = row_of (list_at ls 2); ways = length ls; sources = source_number ls; targets = target_number ls } };
+    ghost inverse = { λ ls. record {
+      first = row_of (list_at ls 0);
+      second = row_of (list_at ls 1);
+      third = row_of (list_at ls 2);
+      ways = length ls;
+      sources = source_number ls;
+      targets = target_number ls;
+    } };
 
-    ghost inverse_ok = { λ s h i. record { first = sym h.6 i; second = sym h.7 i; third = sym h.8 i; ways = ways_of s.ways s.sources s.targets s.first s.second s.third h.1 i; sources = sources_of s.ways s.sources s.targets s.first s.second s.third h.0 h.2 h.4 i; targets = targets_of s.ways s.sources s.targets s.first s.second s.third h.0 h.3 h.5 i } };
+    ghost inverse_ok = { λ s h i. record {
+      first = sym h.6 i;
+      second = sym h.7 i;
+      third = sym h.8 i;
+      ways = ways_of s.ways s.sources s.targets s.first s.second s.third h.1 i;
+      sources = sources_of s.ways s.sources s.targets s.first s.second s.third h.0 h.2 h.4 i;
+      targets = targets_of s.ways s.sources s.targets s.first s.second s.third h.0 h.3 h.5 i;
+    } };
 }
 
 // These bytes, and zeros after them.

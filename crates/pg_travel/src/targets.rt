@@ -12,7 +12,7 @@ use crate::castling::counted;
 use crate::distances::{all_steps, is_promoted, least_steps};
 use crate::needs::{man, same_side};
 use pg_board::{Board, Color, Kind, Man, Square};
-use pg_position::{Wing, first_from};
+use pg_position::Wing;
 
 // Whether a target pays at most what a source does and so many steps, 64 for none.
 fn pays_at_most(v: u8, u: u8, steps: u8) -> bool
@@ -44,7 +44,7 @@ fn by_square(board: &Board, color: Color, prices: &[u8]) -> [u8; 64]
     let mut all = [0; 64];
     let mut place = 0usize;
     let mut from = 0u8;
-    while let Some(s) = first_from(own, from) {
+    while let Some(s) = own.first_from(from) {
         all[s.index() as usize] = prices[place];
         place += 1;
         from = s.index() + 1;
@@ -79,7 +79,7 @@ fn man_fits(
 {
     let own = board.squares_of(man);
     let mut from = band.first;
-    while let Some(s) = first_from(own, from) {
+    while let Some(s) = own.first_from(from) {
         let at = s.index();
         if band.past <= at {
             return true;
@@ -187,7 +187,7 @@ fn targets_fit(
     let own = goal.squares_of_color(color);
     let mut place = 0usize;
     let mut from = 0u8;
-    while let Some(t) = first_from(own, from) {
+    while let Some(t) = own.first_from(from) {
         if !target_fits(board, goal, color, way, prices, least, t, v[place]) {
             return false;
         }

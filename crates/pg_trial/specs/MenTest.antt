@@ -4,7 +4,8 @@ use Rattle.pg_board.specs.declared.man.Color.{Color}
 use Rattle.pg_board.specs.declared.man.Color.TheVariants.{White, Black}
 use Rattle.pg_board.specs.declared.man.Kind.{Kind}
 use Rattle.pg_board.specs.Men.{other}
-use Rattle.pg_board.specs.Placement.{Placement, tally}
+use Rattle.pg_board.specs.Placement.{Placement}
+use Rattle.pg_board.specs.Tally.{tally}
 use Rattle.pg_board.specs.lemmas.Decisions.{answer, dec_less, dec_colors}
 use Rattle.pg_position.specs.declared.state.State.{State}
 use Rattle.pg_position.specs.declared.moves.Move.{Move}
@@ -17,24 +18,24 @@ use Rattle.pg_captures.specs.lemmas.StepCounts.{own_men, their_fall}
 use Rattle.pg_captures.specs.lemmas.Potential.{Lasts, FailsAt, barren_from}
 
 -- the diagram has more men of the colour than the placement
-unfoldable pub HasMore : Placement → Placement → Color → Type 0
-HasMore d b c = men c any_man b < men c any_man d
+unfoldable pub HasMoreMen : Placement → Placement → Color → Type 0
+HasMoreMen d b c = men c any_man b < men c any_man d
 
 -- it has more of either colour
 unfoldable pub MenHolds : Placement → State → Type 0
-MenHolds d p = (c : Color) × HasMore d p.board c
+MenHolds d p = (c : Color) × HasMoreMen d p.board c
 
 pub dec_men : (d : Placement) (p : State) → Dec (MenHolds d p)
-unfolding MenHolds HasMore
-dec_men d p = dec_colors (HasMore d p.board) (λ c. dec_less (men c any_man p.board) (men c any_man d))
+unfolding MenHolds HasMoreMen
+dec_men d p = dec_colors (HasMoreMen d p.board) (λ c. dec_less (men c any_man p.board) (men c any_man d))
 
 -- whether the test by men holds
 abbrev pub men_test : Placement → State → Bool
 men_test d p = answer (dec_men d p)
 
 -- a move leaves its own men and takes one of the others at most
-more_after : (d b a : Placement) (side c : Color) → men side any_man a ≡ men side any_man b → men (other side) any_man a ≤ men (other side) any_man b → HasMore d b c → HasMore d a c
-unfolding HasMore
+more_after : (d b a : Placement) (side c : Color) → men side any_man a ≡ men side any_man b → men (other side) any_man a ≤ men (other side) any_man b → HasMoreMen d b c → HasMoreMen d a c
+unfolding HasMoreMen
 more_after d b a White White own theirs h = omega arith
 more_after d b a White Black own theirs h = omega arith
 more_after d b a Black White own theirs h = omega arith
@@ -52,7 +53,7 @@ men_last d p m q k valid turn holds =
     subst P (sym s.5) (men_after d p m s.1 s.0 valid s.2.1 s.3 s.4 holds)
 
 men_fail : (d : Placement) → FailsAt d (λ p k. MenHolds d p)
-unfolding MenHolds HasMore
+unfolding MenHolds HasMoreMen
 men_fail d p (c, h) same = (let e : men c any_man p.board ≡ men c any_man d = ap (tally (of_color c any_man)) same in omega arith)
 
 -- the law: where the test holds, no game of any length ends on the diagram

@@ -19,14 +19,14 @@ pub struct FailsAt<T> {
 }
 
 impl<T> FailsAt<T> {
-    ghost use Rattle.pg_trial.specs.Readers.{calls_of, within, at_of, kind_of};
+    ghost use Rattle.pg_trial.specs.Readers.{calls_of, within, at_of, error_of};
 
     /// One that no call has reached yet, and that answers the call with this number by an error of
     /// this kind.
     pub fn new(inner: T, at: u64, kind: ErrorKind) -> FailsAt<T>
         ensures inner { within result ≡ inner }
         ensures at { at_of result ≡ at }
-        ensures kind { kind_of result ≡ kind }
+        ensures kind { error_of result ≡ kind }
         ensures calls { calls_of result ≡ 0 }
     {
         FailsAt {
@@ -63,7 +63,7 @@ impl<T> FailsAt<T> {
         ensures counted { calls_of self.new ≡ min (calls_of self.old + 1) (2 ^ 64 - 1) }
         ensures inner { within self.new ≡ within self.old }
         ensures at { at_of self.new ≡ at_of self.old }
-        ensures kind { kind_of self.new ≡ kind_of self.old }
+        ensures kind { error_of self.new ≡ error_of self.old }
     {
         let fails = self.calls == self.at;
         self.calls = self.calls.saturating_add(1);
@@ -72,7 +72,7 @@ impl<T> FailsAt<T> {
 }
 
 impl<R: Read> Read for FailsAt<R> {
-    ghost use Rattle.pg_trial.specs.Readers.{calls_of, within, at_of, kind_of, FailsWhere};
+    ghost use Rattle.pg_trial.specs.Readers.{within, IsCall};
 
     ghost remaining = { λ s. R.remaining s.inner };
 
@@ -80,10 +80,7 @@ impl<R: Read> Read for FailsAt<R> {
         ensures bound { ReadsAtMost result buffer.new }
         ensures bytes { ReadConsumes (R.remaining (within self.old)) (R.remaining (within self.new))
             result buffer.new }
-        ensures fault { FailsWhere self.old result }
-        ensures counted { calls_of self.new ≡ min (calls_of self.old + 1) (2 ^ 64 - 1) }
-        ensures at { at_of self.new ≡ at_of self.old }
-        ensures kind { kind_of self.new ≡ kind_of self.old }
+        ensures call { IsCall self.old self.new result }
     {
         if self.fails() {
             return Err(self.kind.into());
@@ -93,7 +90,7 @@ impl<R: Read> Read for FailsAt<R> {
 }
 
 impl<W: Write> Write for FailsAt<W> {
-    ghost use Rattle.pg_trial.specs.Readers.{calls_of, within, at_of, kind_of, FailsWhere};
+    ghost use Rattle.pg_trial.specs.Readers.{within, IsCall};
 
     ghost contents = { λ s. W.contents s.inner };
 
@@ -101,10 +98,7 @@ impl<W: Write> Write for FailsAt<W> {
         ensures bound { WritesAtMost result bytes.now }
         ensures bytes { WriteAppends (W.contents (within self.old)) (W.contents (within self.new))
             result bytes.now }
-        ensures fault { FailsWhere self.old result }
-        ensures counted { calls_of self.new ≡ min (calls_of self.old + 1) (2 ^ 64 - 1) }
-        ensures at { at_of self.new ≡ at_of self.old }
-        ensures kind { kind_of self.new ≡ kind_of self.old }
+        ensures call { IsCall self.old self.new result }
     {
         if self.fails() {
             return Err(self.kind.into());
@@ -114,10 +108,7 @@ impl<W: Write> Write for FailsAt<W> {
 
     fn flush(&mut self) -> io::Result<()>
         ensures bytes { Keeps (W.contents (within self.old)) (W.contents (within self.new)) }
-        ensures fault { FailsWhere self.old result }
-        ensures counted { calls_of self.new ≡ min (calls_of self.old + 1) (2 ^ 64 - 1) }
-        ensures at { at_of self.new ≡ at_of self.old }
-        ensures kind { kind_of self.new ≡ kind_of self.old }
+        ensures call { IsCall self.old self.new result }
     {
         if self.fails() {
             return Err(self.kind.into());

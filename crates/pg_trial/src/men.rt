@@ -3,7 +3,7 @@ ghost use Rattle.std.specs.Prelude.{◌≡◌, ◌↔◌, ◌<◌, IsTrue, true}
 ghost use Rattle.pg_board.specs.Placement.{Placement};
 ghost use Rattle.pg_position.specs.declared.state.State.{State};
 ghost use Rattle.pg_captures.specs.Counting.{men, any_man};
-ghost use Rattle.pg_trial.specs.MenTest.{HasMore, MenHolds, men_test};
+ghost use Rattle.pg_trial.specs.MenTest.{HasMoreMen, MenHolds, men_test};
 
 use pg_board::{Board, Color};
 use pg_captures::{Bound, victims_of};
@@ -18,9 +18,9 @@ fn men_of(board: &Board, color: Color) -> u8
 }
 
 // Whether the diagram has more men of the colour than the position.
-#[tactic(auto, unfolding(crate::specs::MenTest::HasMore))]
+#[tactic(auto, unfolding(crate::specs::MenTest::HasMoreMen))]
 fn has_more(diagram: &Diagram, position: &Position, color: Color) -> bool
-    ensures { IsTrue result ↔ HasMore diagram.now position.now.board color }
+    ensures { IsTrue result ↔ HasMoreMen diagram.now position.now.board color }
 {
     men_of(&position.board(), color) < men_of(&diagram.board(), color)
 }

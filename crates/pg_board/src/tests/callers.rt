@@ -1,13 +1,14 @@
 //! What a caller of the board proves with no answer of its own.
 ghost use Rattle.std.specs.Prelude.{◌≡◌, ℕ, ◌≢◌, IsSome, Some, None};
 ghost use Rattle.pg_board.specs.Men.{color_eq};
-ghost use Rattle.pg_board.specs.Placement.{get, tally};
+ghost use Rattle.pg_board.specs.Placement.{get};
+ghost use Rattle.pg_board.specs.Tally.{tally};
 
 use crate::{Board, Color, Man, Square};
 use std::test::Fail;
 
 // The board after the man on `from` goes to `to`.
-#[tactic(auto, using(crate::specs::Placement::gets))]
+#[tactic(auto, using(crate::specs::lemmas::Placements::gets))]
 fn shift(board: &Board, from: Square, to: Square) -> Board
     requires moved { IsSome (get board.now from) }
     requires apart { from ≢ to }
@@ -24,7 +25,7 @@ fn shift(board: &Board, from: Square, to: Square) -> Board
 }
 
 // How many men of a colour stand on the board.
-#[tactic(auto, using(crate::specs::Placement::tallies))]
+#[tactic(auto, using(crate::specs::lemmas::Tallies::tallies))]
 fn men_of(board: &Board, color: Color) -> u8
     ensures { result ≡ tally (λ _ m. color_eq m.color color) board.now }
 {
@@ -40,7 +41,7 @@ fn men_of(board: &Board, color: Color) -> u8
 }
 
 #[test]
-#[tactic(auto, using(crate::specs::Placement::gets))]
+#[tactic(auto, using(crate::specs::lemmas::Placements::gets))]
 fn shifts_and_counts(rt: HostRuntime) -> Result<(), Fail> {
     let e2 = Square::at(12);
     let e4 = Square::at(28);

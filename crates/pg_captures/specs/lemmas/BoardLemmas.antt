@@ -4,7 +4,8 @@ use Rattle.std.proofs.lemmas.Bool.Decides.{eqb_tells}
 use Rattle.pg_board.specs.declared.man.Color.{Color}
 use Rattle.pg_board.specs.declared.man.Kind.{Kind}
 use Rattle.pg_board.specs.declared.man.Man.{Man}
-use Rattle.pg_board.specs.Placement.{Placement, get, write, get-write_same, get-write_other, get-without_same}
+use Rattle.pg_board.specs.Placement.{Placement, get, write}
+use Rattle.pg_board.specs.lemmas.Placements.{get-write_same, get-write_other, get-without_same}
 use Rattle.pg_board.specs.Men.{man}
 use Rattle.pg_position.specs.Position.{Stands}
 use Rattle.pg_position.specs.Step.{relocated}

@@ -2,11 +2,9 @@
 -- than its cost have a value that is at most the cost of any map from targets to different sources.
 use Rattle.std.proofs.Common.{◌≡◌, ◌≢◌, ℕ, zero, suc, ◌+◌, ◌<◌, ◌≤◌, inl, inr, Bool, true, false, cond, eqb, refl, sym, ap, arith, ◌∙◌}
 use Rattle.std.proofs.lemmas.Bool.Decides.{eqb_tells}
-use Rattle.pg_board.specs.Tally.{total, total_same, total_changed, total-le}
-
--- f s on the squares that pass a test, 0 elsewhere
-abbrev pub on : (ℕ → Bool) → (ℕ → ℕ) → ℕ → ℕ
-on p f s = cond (p s) (f s) 0
+use Rattle.pg_board.specs.Tally.{total}
+use Rattle.pg_board.specs.lemmas.Sums.{total_same, total_changed, total-le}
+use Rattle.pg_captures.specs.Counting.{on}
 
 -- from sends what is below n and passes p to different numbers below m
 pub record Sends (p : ℕ → Bool) (from : ℕ → ℕ) (n m : ℕ) : Type 0 where

@@ -16,8 +16,9 @@ use Rattle.pg_position.specs.declared.moves.Way.TheVariants.{Plain, Capture, Dou
 use Rattle.pg_board.specs.Squares.{file, rank}
 use Rattle.pg_position.specs.Geometry.{IsForward, InPattern}
 use Rattle.pg_board.specs.Men.{other, man}
-use Rattle.pg_position.specs.Position.{Stands, king_home, rook_home, holds, ahead, passed_rank, IsHome, RightsClause, IsPassed, IsPosition}
-use Rattle.pg_position.specs.Step.{home_rank, last_rank, king_crossed, king_target, Goes, MustPromote, IsPiece, IsEnPassant, IsPromotion, IsCastling, IsWay, relocated, keeps, rights_after, after, Step, IsOnBoard}
+use Rattle.pg_position.specs.Position.{Stands, holds, IsHome, RightsClause, IsPassed, IsPosition}
+use Rattle.pg_position.specs.Step.{Goes, MustPromote, IsPiece, IsEnPassant, IsPromotion, IsCastling, IsWay, relocated, keeps, rights_after, after, Step, IsOnBoard}
+use Rattle.pg_position.specs.Squares.{king_home, rook_home, ahead, passed_rank, home_rank, last_rank, king_crossed, king_target}
 use Rattle.pg_captures.specs.FreeSteps.{StepsTo, Becomes, FreeStep}
 use Rattle.pg_captures.specs.lemmas.BoardLemmas.{written, stood_emptied, stood_elsewhere, stood_before, arrived, man_elsewhere, same_kind, same_side}
 
@@ -88,6 +89,11 @@ by_going b c Bishop r s h = h.0
 by_going b c Rook r s h = h.0
 by_going b c Queen r s h = h.0
 by_going b c King r s h = h.0
+
+-- a double advance stays on its file
+pub ahead_file : (c : Color) (r s : ℕ) → s ≡ ahead c 2 r → rank r ≡ home_rank c → file r ≡ file s
+ahead_file White r s e h = omega arith
+ahead_file Black r s e h = omega arith
 
 stays_what_it_is : (c : Color) (k : Kind) (s : ℕ) → ¬ MustPromote k c s → Becomes c k s k
 unfolding Becomes

@@ -6,10 +6,10 @@ use Rattle.std.proofs.lemmas.List.Sums.{sum_by_more}
 use Rattle.pg_board.specs.declared.man.Color.{Color}
 use Rattle.pg_board.specs.declared.man.Kind.{Kind}
 use Rattle.pg_board.specs.Men.{passes}
-use Rattle.pg_board.specs.Tally.{total, one, count_below, total-suc}
-use Rattle.pg_board.specs.Placement.{Placement, get, tally, tally_below}
-use Rattle.pg_captures.specs.Counting.{of_color}
-use Rattle.pg_captures.specs.lemmas.Duality.{on}
+use Rattle.pg_board.specs.Tally.{total, one, count_below, tally, tally_below}
+use Rattle.pg_board.specs.lemmas.Sums.{total-suc}
+use Rattle.pg_board.specs.Placement.{Placement, get}
+use Rattle.pg_captures.specs.Counting.{on, is_there}
 use Rattle.pg_captures.specs.PriceLists.{price, IsPriced}
 
 -- the squares below n that pass a test take the first numbers of the list, one after another
@@ -39,10 +39,6 @@ taken : (xs : List ℕ) (q : ℕ → Bool) (n : ℕ) → count_below q n ≤ len
 unfolding total
 taken xs q zero room = refl
 taken xs q (suc n) room = taken_more xs q n room (taken xs q n (omega arith)) (q n) refl
-
--- that one of these men stands there
-abbrev pub is_there : Color → (ℕ → Kind → Bool) → Placement → ℕ → Bool
-is_there c f b s = passes (of_color c f s) (get b s)
 
 -- the prices of all these men are the whole list
 pub sum_of_prices : (xs : List ℕ) (c : Color) (f : ℕ → Kind → Bool) (b : Placement) → IsPriced xs c f b → total (on (is_there c f b) (price xs c f b)) 64 ≡ sum xs

@@ -1,12 +1,12 @@
 -- The promotions law.
-use Rattle.std.proofs.Common.{◌≡◌, ℕ, ◌+◌, ◌%◌, ◌<◌, ◌≤◌, ◌⊎◌, inl, inr, Bool, true, false, refl, sym, ap, subst, arith, not, nat_eq}
+use Rattle.std.proofs.Common.{◌≡◌, ℕ, ◌+◌, ◌%◌, ◌<◌, ◌≤◌, Bool, true, false, refl, ap, arith, not, nat_eq}
 use Rattle.pg_board.specs.declared.man.Color.{Color}
-use Rattle.pg_board.specs.declared.man.Color.TheVariants.{White, Black}
 use Rattle.pg_board.specs.declared.man.Kind.{Kind}
 use Rattle.pg_board.specs.declared.man.Kind.TheVariants.{Pawn, Knight, Bishop, Rook, Queen, King}
-use Rattle.pg_board.specs.Placement.{Placement as Board, tally}
+use Rattle.pg_board.specs.Placement.{Placement as Board}
+use Rattle.pg_board.specs.Tally.{tally, one}
 use Rattle.pg_board.specs.Men.{other}
-use Rattle.pg_board.specs.Tally.{one}
+use Rattle.pg_board.specs.lemmas.Kinds.{each_kind}
 use Rattle.pg_captures.specs.declared.classes.Class.{Class}
 use Rattle.pg_captures.specs.declared.classes.Class.TheVariants.{Queens, Rooks, Knights, LightBishops, DarkBishops}
 use Rattle.pg_position.specs.declared.state.State.{State}
@@ -14,14 +14,15 @@ use Rattle.pg_position.specs.declared.moves.Move.{Move}
 use Rattle.pg_position.specs.declared.moves.Way.{Way}
 use Rattle.pg_position.specs.declared.moves.Way.TheVariants.{Plain, Capture, DoubleAdvance, EnPassant, Promotion, Castling}
 use Rattle.pg_position.specs.Geometry.{apart, OnOneDiagonal, InPattern}
-use Rattle.pg_position.specs.Position.{Stands, rook_home}
-use Rattle.pg_position.specs.Step.{Goes, IsPiece, king_crossed, IsPlain, IsCapture, IsWay, board_after, after, Step}
+use Rattle.pg_position.specs.Position.{Stands, IsPosition}
+use Rattle.pg_position.specs.Squares.{rook_home, king_crossed}
+use Rattle.pg_position.specs.Step.{Goes, IsPiece, IsPlain, IsCapture, IsWay, board_after, after, Step}
 use Rattle.pg_board.specs.Squares.{file, rank, is_dark}
 use Rattle.pg_captures.specs.Counting.{of_color, men, is_pawn, any_pawn, in_class}
-use Rattle.pg_position.specs.Position.{IsPosition}
 use Rattle.pg_position.specs.Game.{Barren}
 use Rattle.pg_captures.specs.lemmas.StepCounts.{own_tally, their_fall}
 use Rattle.pg_captures.specs.lemmas.Potential.{Lasts, FailsAt, barren_from}
+use Rattle.pg_captures.specs.lemmas.EitherColor.{either_lasts}
 use Rattle.pg_captures.specs.Owed.{missing, shortage, PromotionsFor, PromotionsHolds}
 
 -- what one class lacks falls by no more than the class grows
@@ -153,12 +154,7 @@ class_grown l p k m (Castling v) valid low stands way =
 
 pub not_pawn : (x : Kind) → IsPiece x → is_pawn x ≡ false
 unfolding is_pawn
-not_pawn Pawn h = absurd (h.0 refl)
-not_pawn Knight h = refl
-not_pawn Bishop h = refl
-not_pawn Rook h = refl
-not_pawn Queen h = refl
-not_pawn King h = refl
+not_pawn = each_kind (λ k. IsPiece k → is_pawn k ≡ false) (λ h. absurd (h.0 refl), λ h. refl, λ h. refl, λ h. refl, λ h. refl, λ h. refl)
 
 pawns_fallen : (p : State) (k : Kind) (m : Move) (w : Way) → IsPosition p → m.to < 64 → Stands p.board p.side k m.from → IsWay p k m w →
     men p.side any_pawn (board_after p m w) + spent w ≤ men p.side any_pawn p.board
@@ -209,29 +205,9 @@ their_promotions d p k m w valid low stands way h =
     (let e : men (other p.side) any_pawn (board_after p m w) ≤ men (other p.side) any_pawn p.board = (their_fall any_pawn p k m w valid low stands way).0 in omega arith)
     (omega arith) h
 
--- a colour is the mover's or the other
-pub either : (c side : Color) → (c ≡ side) ⊎ (c ≡ other side)
-either White White = inl refl
-either White Black = inr refl
-either Black White = inr refl
-either Black Black = inl refl
-
-promotions_after : (d : Board) (p : State) (k : Kind) (m : Move) (w : Way) → IsPosition p → m.to < 64 → Stands p.board p.side k m.from → IsWay p k m w →
-    PromotionsHolds d p → PromotionsHolds d (after p m w)
-unfolding PromotionsHolds
-promotions_after d p k m w valid low stands way (c, h) =
-    let P : Color → Type 0 = λ x. PromotionsFor d p.board x in
-    elim (either c p.side) [
-      | inl e ↦ (p.side, own_promotions d p k m w valid low stands way (subst P e h))
-      | inr e ↦ (other p.side, their_promotions d p k m w valid low stands way (subst P e h))
-    ]
-
 pub promotions_last : (d : Board) → Lasts (λ p k. PromotionsHolds d p)
-unfolding Step
-promotions_last d p m q k valid turn holds =
-    let s : Step p m q = turn.0 in
-    let P : State → Type 0 = λ x. PromotionsHolds d x in
-    subst P (sym s.5) (promotions_after d p s.0 m s.1 valid s.2.1 s.3 s.4 holds)
+unfolding PromotionsHolds
+promotions_last d = either_lasts (λ b c. PromotionsFor d b c) (own_promotions d) (their_promotions d)
 
 missing_none : (d b : Board) (c : Color) (l : Class) → b ≡ d → missing d b c l ≡ 0
 unfolding missing

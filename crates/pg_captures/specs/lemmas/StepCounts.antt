@@ -6,14 +6,18 @@ use Rattle.pg_board.specs.declared.man.Kind.{Kind}
 use Rattle.pg_board.specs.declared.man.Kind.TheVariants.{Pawn, Rook}
 use Rattle.pg_position.specs.declared.rights.Wing.{Wing}
 use Rattle.pg_board.specs.declared.man.Man.{Man}
-use Rattle.pg_board.specs.Placement.{Placement as Board, get, write, tally, tally-write, get-write_other, get_on}
+use Rattle.pg_board.specs.Placement.{Placement as Board, get, write}
+use Rattle.pg_board.specs.Tally.{tally, one}
+use Rattle.pg_board.specs.lemmas.Tallies.{tally-write}
+use Rattle.pg_board.specs.lemmas.Placements.{get-write_other, get_on}
 use Rattle.pg_position.specs.declared.state.State.{State}
 use Rattle.pg_position.specs.declared.moves.Move.{Move}
 use Rattle.pg_position.specs.declared.moves.Way.{Way}
 use Rattle.pg_position.specs.declared.moves.Way.TheVariants.{Plain, Capture, DoubleAdvance, EnPassant, Promotion, Castling}
-use Rattle.pg_position.specs.Position.{Stands, IsVacant, king_home, rook_home, ahead, IsHome, RightsClause, IsPassed, IsPosition}
-use Rattle.pg_position.specs.Step.{king_crossed, king_target, IsEnemy, IsEnPassant, IsPromotion, IsCastling, IsWay, relocated, board_after}
-use Rattle.pg_board.specs.Tally.{one, one-le}
+use Rattle.pg_position.specs.Position.{Stands, IsVacant, IsHome, RightsClause, IsPassed, IsPosition}
+use Rattle.pg_position.specs.Squares.{king_home, rook_home, ahead, king_crossed, king_target}
+use Rattle.pg_position.specs.Step.{IsEnemy, IsEnPassant, IsPromotion, IsCastling, IsWay, relocated, board_after}
+use Rattle.pg_board.specs.lemmas.Sums.{one-le}
 use Rattle.pg_board.specs.Men.{man, other, passes, color_eq}
 use Rattle.pg_captures.specs.Counting.{of_color, men, any_man}
 use Rattle.pg_position.proofs.StepLemmas.{some_none, not_other}
@@ -55,22 +59,30 @@ placed k EnPassant = k
 placed k (Promotion x) = x
 placed k (Castling w) = k
 
+-- a number that a castling has by its wing, and any other way has not
+abbrev pub of_castling : (Wing → ℕ) → Way → ℕ
+of_castling n Plain = 0
+of_castling n Capture = 0
+of_castling n DoubleAdvance = 0
+of_castling n EnPassant = 0
+of_castling n (Promotion x) = 0
+of_castling n (Castling w) = n w
+
+-- what is so of 0 and 0, and of two such numbers at each castling, is so of them
+by_castling : (P : ℕ → ℕ → Type 0) (n k : Wing → ℕ) → P 0 0 → ((w : Wing) → P (n w) (k w)) → (w : Way) → P (of_castling n w) (of_castling k w)
+by_castling P n k none some Plain = none
+by_castling P n k none some Capture = none
+by_castling P n k none some DoubleAdvance = none
+by_castling P n k none some EnPassant = none
+by_castling P n k none some (Promotion x) = none
+by_castling P n k none some (Castling w) = some w
+
 -- what the castling rook counts for where it leaves and where it comes to
 abbrev pub rook_from : (ℕ → Man → Bool) → Color → Way → ℕ
-rook_from f c Plain = 0
-rook_from f c Capture = 0
-rook_from f c DoubleAdvance = 0
-rook_from f c EnPassant = 0
-rook_from f c (Promotion x) = 0
-rook_from f c (Castling w) = one (f (rook_home c w) (man c Rook))
+rook_from f c way = of_castling (λ w. one (f (rook_home c w) (man c Rook))) way
 
 abbrev pub rook_to : (ℕ → Man → Bool) → Color → Way → ℕ
-rook_to f c Plain = 0
-rook_to f c Capture = 0
-rook_to f c DoubleAdvance = 0
-rook_to f c EnPassant = 0
-rook_to f c (Promotion x) = 0
-rook_to f c (Castling w) = one (f (king_crossed c w) (man c Rook))
+rook_to f c way = of_castling (λ w. one (f (king_crossed c w) (man c Rook))) way
 
 -- a square empty or of the other colour is not the mover's
 pub vacant_apart : (b : Board) (r s : ℕ) (x : Man) → get b r ≡ Some x → get b s ≡ None → r ≢ s
@@ -193,52 +205,16 @@ other_one Black x = refl
 
 -- the castling rook, by a test of square and kind
 abbrev pub rook_leaves : (ℕ → Kind → Bool) → Color → Way → ℕ
-rook_leaves f c Plain = 0
-rook_leaves f c Capture = 0
-rook_leaves f c DoubleAdvance = 0
-rook_leaves f c EnPassant = 0
-rook_leaves f c (Promotion x) = 0
-rook_leaves f c (Castling w) = one (f (rook_home c w) Rook)
+rook_leaves f c way = of_castling (λ w. one (f (rook_home c w) Rook)) way
 
 abbrev pub rook_comes : (ℕ → Kind → Bool) → Color → Way → ℕ
-rook_comes f c Plain = 0
-rook_comes f c Capture = 0
-rook_comes f c DoubleAdvance = 0
-rook_comes f c EnPassant = 0
-rook_comes f c (Promotion x) = 0
-rook_comes f c (Castling w) = one (f (king_crossed c w) Rook)
+rook_comes f c way = of_castling (λ w. one (f (king_crossed c w) Rook)) way
 
-own_rook_from : (f : ℕ → Kind → Bool) (c : Color) (w : Way) → rook_from (of_color c f) c w ≡ rook_leaves f c w
-own_rook_from f c Plain = refl
-own_rook_from f c Capture = refl
-own_rook_from f c DoubleAdvance = refl
-own_rook_from f c EnPassant = refl
-own_rook_from f c (Promotion x) = refl
-own_rook_from f c (Castling w) = own_one c (f (rook_home c w) Rook)
+own_castling : (f : ℕ → Kind → Bool) (c : Color) (s : Wing → ℕ) (w : Way) → of_castling (λ v. one (of_color c f (s v) (man c Rook))) w ≡ of_castling (λ v. one (f (s v) Rook)) w
+own_castling f c s w = by_castling (λ x y. x ≡ y) (λ v. one (of_color c f (s v) (man c Rook))) (λ v. one (f (s v) Rook)) refl (λ v. own_one c (f (s v) Rook)) w
 
-own_rook_to : (f : ℕ → Kind → Bool) (c : Color) (w : Way) → rook_to (of_color c f) c w ≡ rook_comes f c w
-own_rook_to f c Plain = refl
-own_rook_to f c Capture = refl
-own_rook_to f c DoubleAdvance = refl
-own_rook_to f c EnPassant = refl
-own_rook_to f c (Promotion x) = refl
-own_rook_to f c (Castling w) = own_one c (f (king_crossed c w) Rook)
-
-their_rook_from : (f : ℕ → Kind → Bool) (c : Color) (w : Way) → rook_from (of_color (other c) f) c w ≡ 0
-their_rook_from f c Plain = refl
-their_rook_from f c Capture = refl
-their_rook_from f c DoubleAdvance = refl
-their_rook_from f c EnPassant = refl
-their_rook_from f c (Promotion x) = refl
-their_rook_from f c (Castling w) = their_one c (f (rook_home c w) Rook)
-
-their_rook_to : (f : ℕ → Kind → Bool) (c : Color) (w : Way) → rook_to (of_color (other c) f) c w ≡ 0
-their_rook_to f c Plain = refl
-their_rook_to f c Capture = refl
-their_rook_to f c DoubleAdvance = refl
-their_rook_to f c EnPassant = refl
-their_rook_to f c (Promotion x) = refl
-their_rook_to f c (Castling w) = their_one c (f (king_crossed c w) Rook)
+their_castling : (f : ℕ → Kind → Bool) (c : Color) (s : Wing → ℕ) (w : Way) → of_castling (λ v. one (of_color (other c) f (s v) (man c Rook))) w ≡ 0
+their_castling f c s w = by_castling (λ x y. x ≡ 0) (λ v. one (of_color (other c) f (s v) (man c Rook))) (λ v. 0) refl (λ v. their_one c (f (s v) Rook)) w
 
 -- the taken man is none of the mover's
 own_taken : (f : ℕ → Kind → Bool) (c : Color) (b : Board) (t : ℕ) → (get b t ≡ None) ⊎ ((j : Kind) × (get b t ≡ Some (man (other c) j))) → worth (of_color c f) t (get b t) ≡ 0
@@ -261,8 +237,8 @@ own_tally f p k m w valid low stands way =
     let a : one (of_color p.side f m.from (man p.side k)) ≡ one (f m.from k) = own_one p.side (f m.from k) in
     let b : one (of_color p.side f m.to (man p.side (placed k w))) ≡ one (f m.to (placed k w)) = own_one p.side (f m.to (placed k w)) in
     let z : worth (of_color p.side f) (taken_at p m w) (get p.board (taken_at p m w)) ≡ 0 = own_taken f p.side p.board (taken_at p m w) (taken p k m w valid way) in
-    let r1 : rook_from (of_color p.side f) p.side w ≡ rook_leaves f p.side w = own_rook_from f p.side w in
-    let r2 : rook_to (of_color p.side f) p.side w ≡ rook_comes f p.side w = own_rook_to f p.side w in
+    let r1 : rook_from (of_color p.side f) p.side w ≡ rook_leaves f p.side w = own_castling f p.side (rook_home p.side) w in
+    let r2 : rook_to (of_color p.side f) p.side w ≡ rook_comes f p.side w = own_castling f p.side (king_crossed p.side) w in
     omega arith
 
 -- any count of the other side's men
@@ -275,8 +251,8 @@ their_tally f p k m w valid low stands way =
     turn_tally (of_color (other p.side) f) p k m w valid low stands way in
     let a : one (of_color (other p.side) f m.from (man p.side k)) ≡ 0 = their_one p.side (f m.from k) in
     let b : one (of_color (other p.side) f m.to (man p.side (placed k w))) ≡ 0 = their_one p.side (f m.to (placed k w)) in
-    let r1 : rook_from (of_color (other p.side) f) p.side w ≡ 0 = their_rook_from f p.side w in
-    let r2 : rook_to (of_color (other p.side) f) p.side w ≡ 0 = their_rook_to f p.side w in
+    let r1 : rook_from (of_color (other p.side) f) p.side w ≡ 0 = their_castling f p.side (rook_home p.side) w in
+    let r2 : rook_to (of_color (other p.side) f) p.side w ≡ 0 = their_castling f p.side (king_crossed p.side) w in
     omega arith
 
 pub their_fall : (f : ℕ → Kind → Bool) (p : State) (k : Kind) (m : Move) (w : Way) → IsPosition p → m.to < 64 → Stands p.board p.side k m.from → IsWay p k m w →
@@ -286,13 +262,22 @@ their_fall f p k m w valid low stands way =
     let l : worth (of_color (other p.side) f) (taken_at p m w) (get p.board (taken_at p m w)) ≤ 1 = worth_le (of_color (other p.side) f) (taken_at p m w) (get p.board (taken_at p m w)) in
     (omega arith, omega arith)
 
+self_one : (c : Color) → one (color_eq (other c) (other c) && true) ≡ 1
+self_one White = refl
+self_one Black = refl
+
+-- where a man is taken, the other side has one man less
+pub took_one : (p : State) (k : Kind) (m : Move) (w : Way) → IsPosition p → m.to < 64 → Stands p.board p.side k m.from → IsWay p k m w → (j : Kind) → get p.board (taken_at p m w) ≡ Some (man (other p.side) j) →
+    men (other p.side) any_man (board_after p m w) + 1 ≡ men (other p.side) any_man p.board
+took_one p k m w valid low stands way j there =
+    let e : men (other p.side) any_man (board_after p m w) + worth (of_color (other p.side) any_man) (taken_at p m w) (get p.board (taken_at p m w)) ≡ men (other p.side) any_man p.board = their_tally any_man p k m w valid low stands way in
+    let z : worth (of_color (other p.side) any_man) (taken_at p m w) (get p.board (taken_at p m w)) ≡ 1 = ap (worth (of_color (other p.side) any_man) (taken_at p m w)) there ∙ self_one p.side in
+    omega arith
+
 rook_even : (f : ℕ → Kind → Bool) (c : Color) (w : Way) → ((s : ℕ) (j : Kind) → f s j ≡ true) → rook_leaves f c w ≡ rook_comes f c w
-rook_even f c Plain all = refl
-rook_even f c Capture all = refl
-rook_even f c DoubleAdvance all = refl
-rook_even f c EnPassant all = refl
-rook_even f c (Promotion x) all = refl
-rook_even f c (Castling w) all = ap one (all (rook_home c w) Rook ∙ sym (all (king_crossed c w) Rook))
+rook_even f c w all =
+    by_castling (λ x y. x ≡ y) (λ v. one (f (rook_home c v) Rook)) (λ v. one (f (king_crossed c v) Rook)) refl
+    (λ v. ap one (all (rook_home c v) Rook ∙ sym (all (king_crossed c v) Rook))) w
 
 own_men_by : (f : ℕ → Kind → Bool) (p : State) (k : Kind) (m : Move) (w : Way) → ((s : ℕ) (j : Kind) → f s j ≡ true) → IsPosition p → m.to < 64 → Stands p.board p.side k m.from → IsWay p k m w →
     men p.side f (board_after p m w) ≡ men p.side f p.board

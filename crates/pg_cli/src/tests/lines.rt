@@ -1,7 +1,8 @@
 use super::*;
+use crate::line::{Cleared, Terminal};
 use crate::progress::{RecordCount, Watch, Watched, line_of};
 use crate::runs::{CountLine, SearchLine, count_line, search_line};
-use pg_report::{FromRead, Progress, SearchProgress, Source};
+use pg_report::{FromRead, Progress, SearchProgress, Sink, Source, ToWrite};
 use std::cell::Cell;
 use std::fmt::Display;
 use std::io::Eprint;
@@ -42,9 +43,10 @@ fn prints<R: Abort + AllocGlobal>(rt: &R, times: &[u64], screen: bool) -> Result
         prints: Cell::new(0),
     };
     let bytes = repeated(rt.alloc(), 1, times.len())?;
+    let terminal = Terminal::new(screen);
     let mut source = Watched::new(
         FromRead::new(bytes.as_slice()),
-        Watch::new(&desk, 100, screen),
+        Watch::new(&desk, &terminal, 100),
     );
     let mut buffer = [0u8; 1];
     for time in times {
@@ -159,7 +161,8 @@ fn desk_at(millis: u64) -> Desk {
 fn counts_that_are_shown(rt: HostRuntime) {
     for (screen, wanted) in [(true, (1, 2)), (false, (0, 0))] {
         let desk = desk_at(7);
-        let mut line = CountLine::new(&desk, screen);
+        let terminal = Terminal::new(screen);
+        let mut line = CountLine::new(&desk, &terminal);
         line.counted(20);
         desk.millis.set(1007);
         line.counted(400);
@@ -175,7 +178,8 @@ fn counts_that_are_shown(rt: HostRuntime) {
 fn searches_that_are_shown(rt: HostRuntime) {
     for (screen, wanted) in [(true, (0, 1, 2)), (false, (0, 0, 0))] {
         let desk = desk_at(7);
-        let mut line = SearchLine::new(&desk, 5000, screen);
+        let terminal = Terminal::new(screen);
+        let mut line = SearchLine::new(&desk, &terminal, 5000);
         desk.millis.set(1007);
         for left in 0..1023u64 {
             line.reached(8, left);
@@ -186,4 +190,22 @@ fn searches_that_are_shown(rt: HostRuntime) {
         line.end();
         assert_eq!(rt; (before, shown, desk.prints.get()), wanted);
     }
+}
+
+// What is shown is taken away before a report begins, once, and by who writes it.
+#[test]
+fn lines_before_reports(rt: HostRuntime) {
+    let desk = desk_at(7);
+    let terminal = Terminal::new(true);
+    let mut line = CountLine::new(&desk, &terminal);
+    desk.millis.set(1007);
+    line.counted(20);
+    let mut out = Cleared::new(ToWrite::new(Vec::new(rt.alloc())), &desk, &terminal);
+    let shown = desk.prints.get();
+    let before = out.push(b"a");
+    let cleared = desk.prints.get();
+    let after = out.push(b"b");
+    line.end();
+    assert_eq!(rt; (shown, cleared, desk.prints.get()), (1, 2, 2));
+    assert_eq!(rt; (before, after), (Ok(()), Ok(())));
 }

@@ -94,15 +94,10 @@ after 1. e4: excluded: no man of white's can come to be the pawn on e2 (travel);
 #[test]
 fn references_in_both_versions(rt: HostRuntime) -> Result<(), Fail> {
     let (diagram, length) = (SHUT_IN, "2.5");
+    let goal = Diagram::read(diagram)?;
+    let plies = Length::read(length)?;
     let mut sink = ToWrite::new(Vec::new(rt.alloc()));
-    let games = search(
-        rt.alloc(),
-        &Diagram::read(diagram)?,
-        Length::read(length)?,
-        MANY,
-        &mut sink,
-        &mut Unwatched,
-    )?;
+    let games = search(rt.alloc(), &goal, plies, MANY, &mut sink, &mut Unwatched)?;
     assert_eq!(&rt; games.len(), 0);
     let mut bytes = sink.into_inner();
     for digit in [b'2', b'1'] {

@@ -9,8 +9,9 @@ use Rattle.pg_board.specs.Squares.{file, rank}
 use Rattle.pg_board.specs.Tally.{one}
 use Rattle.pg_position.specs.declared.state.State.{State}
 use Rattle.pg_position.specs.Position.{Stands, IsVacant}
-use Rattle.pg_position.specs.SquareSets.{IsSetOf}
-use Rattle.pg_position.specs.Step.{IsEnemy, home_rank}
+use Rattle.pg_board.specs.SquareSets.{IsSetOf}
+use Rattle.pg_position.specs.Step.{IsEnemy}
+use Rattle.pg_position.specs.Squares.{home_rank}
 use Rattle.pg_moves.specs.Targets.{IsFree, IsOrdinary}
 use Rattle.pg_moves.specs.declared.pawns.PawnWays.{PawnWays}
 

@@ -1,27 +1,33 @@
 -- The pawn-files law: no legal move turns the captures owed less the shifts needed from negative to not negative.
-use Rattle.std.proofs.Common.{◌≡◌, ◌≢◌, ℕ, ◌+◌, ◌%◌, ◌<◌, ◌≤◌, ◌⊎◌, inl, inr, Some, Bool, true, false, refl, sym, ap, subst, arith, ◌∙◌, not, ◌&&◌, leb}
+use Rattle.std.proofs.Common.{◌≡◌, ◌≢◌, ℕ, ◌+◌, ◌%◌, ◌<◌, ◌≤◌, ◌⊎◌, inl, inr, Bool, true, false, refl, sym, ap, arith, ◌∙◌, not, ◌&&◌, leb}
 use Rattle.pg_board.specs.declared.man.Color.{Color}
-use Rattle.pg_board.specs.declared.man.Color.TheVariants.{White, Black}
 use Rattle.pg_board.specs.declared.man.Kind.{Kind}
-use Rattle.pg_board.specs.declared.man.Kind.TheVariants.{Pawn, Knight, Bishop, Rook, Queen, King}
-use Rattle.pg_board.specs.Squares.{file, rank}
-use Rattle.pg_board.specs.Men.{man, other, color_eq}
-use Rattle.pg_board.specs.Tally.{one, total, total_same, total_changed, total-le, total-zero}
-use Rattle.pg_board.specs.Placement.{Placement as Board, get, tally}
+use Rattle.pg_board.specs.declared.man.Kind.TheVariants.{Pawn, Rook}
+use Rattle.pg_board.specs.Squares.{file}
+use Rattle.pg_board.specs.Men.{other}
+use Rattle.pg_board.specs.lemmas.Kinds.{each_kind}
+use Rattle.pg_board.specs.Tally.{one, total, tally}
+use Rattle.pg_board.specs.lemmas.Sums.{total_same, total_changed, total-le, total-zero}
+use Rattle.pg_board.specs.Placement.{Placement as Board}
 use Rattle.pg_position.specs.declared.state.State.{State}
 use Rattle.pg_position.specs.declared.moves.Move.{Move}
 use Rattle.pg_position.specs.declared.moves.Way.{Way}
 use Rattle.pg_position.specs.declared.moves.Way.TheVariants.{Plain, Capture, DoubleAdvance, EnPassant, Promotion, Castling}
 use Rattle.pg_position.specs.Geometry.{apart, InPattern}
-use Rattle.pg_position.specs.Position.{IsPosition, IsPassed, Stands, ahead}
-use Rattle.pg_position.specs.Step.{home_rank, IsEnemy, Goes, king_crossed, IsWay, board_after, after, Step}
+use Rattle.pg_position.specs.Position.{IsPosition, IsPassed, Stands}
+use Rattle.pg_position.specs.Step.{IsEnemy, Goes, IsWay, board_after, after, Step}
+use Rattle.pg_position.specs.Squares.{king_crossed, ahead, home_rank}
 use Rattle.pg_captures.specs.Counting.{of_color, men, any_man, is_pawn}
 use Rattle.pg_position.specs.Game.{Barren}
-use Rattle.pg_captures.specs.lemmas.StepCounts.{worth, placed, rook_leaves, rook_comes, own_tally, their_tally, their_fall, own_men, taken_at}
+use Rattle.pg_captures.specs.lemmas.StepCounts.{placed, rook_leaves, rook_comes, own_tally, their_fall, took_one, own_men}
+use Rattle.pg_captures.specs.Owed.{victims}
+use Rattle.pg_captures.specs.lemmas.OwedLemmas.{owed_below}
 use Rattle.pg_captures.specs.lemmas.Potential.{Lasts, FailsAt, barren_from}
 use Rattle.std.proofs.lemmas.Bool.Decides.{leb_tells}
 use Rattle.pg_pawns.specs.PawnFiles.{pawn_left, pawn_right, line_need, shift, PawnFilesFor, PawnFilesHolds}
-use Rattle.pg_captures.specs.lemmas.PromotionsLaw.{either, not_pawn}
+use Rattle.pg_captures.specs.lemmas.EitherColor.{other_other, either_lasts}
+use Rattle.pg_captures.specs.lemmas.MoveLemmas.{ahead_file}
+use Rattle.pg_captures.specs.lemmas.PromotionsLaw.{not_pawn}
 
 -- sums of which one term has fallen by at most one
 total_fallen : (g h : ℕ → ℕ) (n s : ℕ) → s < n → ((t : ℕ) → t < n → t ≢ s → h t ≡ g t) → g s ≤ h s + 1 → total g n ≤ total h n + 1
@@ -56,7 +62,9 @@ unfolding shift
 shift_grown d b a c h = total-le (line_need d b c) (line_need d a c) 7 (λ n l. line_grown d b a c n (h (pawn_left (n + 1)) (left_pawns (n + 1))) (h (pawn_right (n + 1)) (right_pawns (n + 1))))
 
 files_kept : (d b a : Board) (c : Color) (y : ℕ) → shift d b c ≤ shift d a c + y → men (other c) any_man a + y ≤ men (other c) any_man b → PawnFilesFor d b c → PawnFilesFor d a c
-files_kept d b a c y s o h = omega arith
+files_kept d b a c y s o h =
+    let more : victims c b < shift d b c + victims c d = (owed_below d b c (shift d b c)).0 h in
+    (owed_below d a c (shift d a c)).1 (omega arith)
 
 -- a man that is no pawn counts for nothing
 no_pawn : (f : ℕ → Kind → Bool) → OfPawns f → (s : ℕ) (k : Kind) → is_pawn k ≡ false → one (f s k) ≡ 0
@@ -81,12 +89,7 @@ pawns_no_more f of p k m w valid low stands way h =
 
 pawn_or : (k : Kind) → (k ≡ Pawn) ⊎ (is_pawn k ≡ false)
 unfolding is_pawn
-pawn_or Pawn = inl refl
-pawn_or Knight = inr refl
-pawn_or Bishop = inr refl
-pawn_or Rook = inr refl
-pawn_or Queen = inr refl
-pawn_or King = inr refl
+pawn_or = each_kind (λ k. (k ≡ Pawn) ⊎ (is_pawn k ≡ false)) (inl refl, inr refl, inr refl, inr refl, inr refl, inr refl)
 
 -- a pawn goes from r to s
 record Crosses (b a : Board) (c : Color) (r s : ℕ) : Type 0 where
@@ -174,21 +177,6 @@ crosses p k m w valid low stands way pawn kept leaves comes = record {
       omega arith;
 }
 
-self_one : (c : Color) → one (color_eq (other c) (other c) && true) ≡ 1
-self_one White = refl
-self_one Black = refl
-
-took_one : (p : State) (k : Kind) (m : Move) (w : Way) → IsPosition p → m.to < 64 → Stands p.board p.side k m.from → IsWay p k m w → (j : Kind) → get p.board (taken_at p m w) ≡ Some (man (other p.side) j) →
-    men (other p.side) any_man (board_after p m w) + 1 ≡ men (other p.side) any_man p.board
-took_one p k m w valid low stands way j there =
-    let e : men (other p.side) any_man (board_after p m w) + worth (of_color (other p.side) any_man) (taken_at p m w) (get p.board (taken_at p m w)) ≡ men (other p.side) any_man p.board = their_tally any_man p k m w valid low stands way in
-    let z : worth (of_color (other p.side) any_man) (taken_at p m w) (get p.board (taken_at p m w)) ≡ 1 = ap (worth (of_color (other p.side) any_man) (taken_at p m w)) there ∙ self_one p.side in
-    omega arith
-
-ahead_file : (c : Color) (r s : ℕ) → s ≡ ahead c 2 r → rank r ≡ home_rank c → file r ≡ file s
-ahead_file White r s e h = omega arith
-ahead_file Black r s e h = omega arith
-
 own_files : (d : Board) (p : State) (k : Kind) (m : Move) (w : Way) → IsPosition p → m.to < 64 → Stands p.board p.side k m.from → IsWay p k m w →
     PawnFilesFor d p.board p.side → PawnFilesFor d (board_after p m w) p.side
 unfolding Goes InPattern IsEnemy IsPassed is_pawn
@@ -205,10 +193,6 @@ own_files d p k m EnPassant valid low stands way h = files_by_capture d p k m En
 own_files d p k m (Promotion x) valid low stands way h = files_by_piece d p k m (Promotion x) valid low stands way (not_pawn x way.piece) h
 own_files d p k m (Castling v) valid low stands way h = files_by_piece d p k m (Castling v) valid low stands way (ap is_pawn way.king) h
 
-other_other : (c : Color) → other (other c) ≡ c
-other_other White = refl
-other_other Black = refl
-
 their_files : (d : Board) (p : State) (k : Kind) (m : Move) (w : Way) → IsPosition p → m.to < 64 → Stands p.board p.side k m.from → IsWay p k m w →
     PawnFilesFor d p.board (other p.side) → PawnFilesFor d (board_after p m w) (other p.side)
 their_files d p k m w valid low stands way h =
@@ -216,21 +200,9 @@ their_files d p k m w valid low stands way h =
     let o : men (other (other p.side)) any_man (board_after p m w) ≡ men (other (other p.side)) any_man p.board = rw other_other (own_men p k m w valid low stands way) in
     files_kept d p.board (board_after p m w) (other p.side) 0 (omega arith) (omega arith) h
 
-files_after : (d : Board) (p : State) (k : Kind) (m : Move) (w : Way) → IsPosition p → m.to < 64 → Stands p.board p.side k m.from → IsWay p k m w → PawnFilesHolds d p → PawnFilesHolds d (after p m w)
-unfolding PawnFilesHolds
-files_after d p k m w valid low stands way (c, h) =
-    let P : Color → Type 0 = λ x. PawnFilesFor d p.board x in
-    elim (either c p.side) [
-      | inl e ↦ (p.side, own_files d p k m w valid low stands way (subst P e h))
-      | inr e ↦ (other p.side, their_files d p k m w valid low stands way (subst P e h))
-    ]
-
 pub files_last : (d : Board) → Lasts (λ p k. PawnFilesHolds d p)
-unfolding Step
-files_last d p m q k valid turn holds =
-    let s : Step p m q = turn.0 in
-    let P : State → Type 0 = λ x. PawnFilesHolds d x in
-    subst P (sym s.5) (files_after d p s.0 m s.1 valid s.2.1 s.3 s.4 holds)
+unfolding PawnFilesHolds
+files_last d = either_lasts (λ b c. PawnFilesFor d b c) (own_files d) (their_files d)
 
 line_none : (d b : Board) (c : Color) (n : ℕ) → b ≡ d → line_need d b c n ≡ 0
 unfolding line_need
@@ -244,6 +216,7 @@ unfolding PawnFilesHolds shift
 files_fail d p (c, h) same =
     let z : total (line_need d p.board c) 7 ≡ 0 = total-zero (line_need d p.board c) 7 (λ n l. line_none d p.board c n same) in
     let e : men (other c) any_man p.board ≡ men (other c) any_man d = ap (tally (of_color (other c) any_man)) same in
+    let more : victims c p.board < total (line_need d p.board c) 7 + victims c d = (owed_below d p.board c (total (line_need d p.board c) 7)).0 h in
     omega arith
 
 pub files_barren : (d : Board) (p : State) (k : ℕ) → IsPosition p → PawnFilesHolds d p → Barren d p k

@@ -8,29 +8,33 @@ use Rattle.pg_board.specs.declared.man.Color.TheVariants.{White, Black}
 use Rattle.pg_board.specs.declared.man.Kind.{Kind}
 use Rattle.pg_board.specs.declared.man.Kind.TheVariants.{Pawn, Knight, Bishop, Rook, Queen, King}
 use Rattle.pg_board.specs.declared.man.Man.{Man}
-use Rattle.pg_board.specs.Men.{man, other, color_eq, passes, color_decides}
+use Rattle.pg_board.specs.Men.{man, other, color_eq, passes}
+use Rattle.pg_board.specs.lemmas.Equalities.{color_decides}
 use Rattle.pg_board.specs.Squares.{file, rank}
-use Rattle.pg_board.specs.Tally.{total, total_changed, total-le, one}
+use Rattle.pg_board.specs.lemmas.Kinds.{each_kind}
+use Rattle.pg_board.specs.Tally.{total}
+use Rattle.pg_board.specs.lemmas.Sums.{total_changed, total-le}
 use Rattle.pg_board.specs.Placement.{Placement, get}
 use Rattle.pg_position.specs.declared.state.State.{State}
 use Rattle.pg_position.specs.declared.moves.Move.{Move}
 use Rattle.pg_position.specs.declared.moves.Way.{Way}
 use Rattle.pg_position.specs.declared.moves.Way.TheVariants.{Plain, Capture, DoubleAdvance, EnPassant, Promotion, Castling}
 use Rattle.pg_position.specs.Geometry.{apart, InPattern}
-use Rattle.pg_position.specs.Position.{Stands, IsPosition, IsPassed, ahead}
-use Rattle.pg_position.specs.Step.{home_rank, last_rank, king_target, king_crossed, IsEnemy, Goes, IsWay, Step, board_after, after}
+use Rattle.pg_position.specs.Position.{Stands, IsPosition, IsPassed}
+use Rattle.pg_position.specs.Squares.{last_rank, king_target, king_crossed, ahead, home_rank}
+use Rattle.pg_position.specs.Step.{IsEnemy, Goes, IsWay, Step, board_after, after}
 use Rattle.pg_position.specs.Game.{Barren}
-use Rattle.pg_captures.specs.Counting.{of_color, men, any_man, any_pawn, is_pawn}
+use Rattle.pg_captures.specs.Counting.{of_color, men, any_man, any_pawn, is_pawn, on, is_there}
 use Rattle.pg_captures.specs.Owed.{victims}
-use Rattle.pg_captures.specs.lemmas.StepCounts.{worth, their_tally, their_fall, own_men, taken_at}
-use Rattle.pg_captures.specs.lemmas.PromotionsLaw.{either}
+use Rattle.pg_captures.specs.lemmas.StepCounts.{their_fall, took_one, own_men}
+use Rattle.pg_captures.specs.lemmas.EitherColor.{either, other_other}
+use Rattle.pg_captures.specs.lemmas.OwedLemmas.{owed_below_less}
 use Rattle.pg_captures.specs.lemmas.Potential.{Lasts, FailsAt, barren_from}
 use Rattle.pg_captures.specs.FreeSteps.{StepsTo, Becomes, FreeStep}
 use Rattle.pg_captures.specs.lemmas.BoardLemmas.{same_kind}
-use Rattle.pg_captures.specs.lemmas.MoveLemmas.{Spared, OwnMove, own_step, spared_step}
-use Rattle.pg_captures.specs.lemmas.Duality.{on}
+use Rattle.pg_captures.specs.lemmas.MoveLemmas.{Spared, OwnMove, ahead_file, own_step, spared_step}
 use Rattle.pg_captures.specs.PriceLists.{PriceList, price}
-use Rattle.pg_captures.specs.lemmas.PriceSums.{is_there, sum_of_prices}
+use Rattle.pg_captures.specs.lemmas.PriceSums.{sum_of_prices}
 use Rattle.pg_pawns.specs.PawnPrices.{IsShift, PawnPricesFit, PawnPricesExclude}
 
 -- numbers u on the pawns of b, and v on those of d, that fit
@@ -55,12 +59,7 @@ right false b h = absurd (cc)
 
 pawn_kind : (k : Kind) → is_pawn k ≡ true → k ≡ Pawn
 unfolding is_pawn
-pawn_kind Pawn h = refl
-pawn_kind Knight h = cc
-pawn_kind Bishop h = cc
-pawn_kind Rook h = cc
-pawn_kind Queen h = cc
-pawn_kind King h = cc
+pawn_kind = each_kind (λ k. is_pawn k ≡ true → k ≡ Pawn) (λ h. refl, λ h. cc, λ h. cc, λ h. cc, λ h. cc, λ h. cc)
 
 there_pawn : (c : Color) (b : Placement) (s : ℕ) → is_there c any_pawn b s ≡ true → Stands b c Pawn s
 there_pawn c b s h = go (get b s) refl
@@ -214,21 +213,6 @@ came_pawn c Rook r s (lr, ls, step, e) = cc
 came_pawn c Queen r s (lr, ls, step, e) = cc
 came_pawn c King r s (lr, ls, step, e) = cc
 
-self_one : (c : Color) → one (color_eq (other c) (other c) && true) ≡ 1
-self_one White = refl
-self_one Black = refl
-
-took_one : (p : State) (k : Kind) (m : Move) (w : Way) → IsPosition p → m.to < 64 → Stands p.board p.side k m.from → IsWay p k m w → (j : Kind) → get p.board (taken_at p m w) ≡ Some (man (other p.side) j) →
-    men (other p.side) any_man (board_after p m w) + 1 ≡ men (other p.side) any_man p.board
-took_one p k m w valid low stands way j there =
-    let e : men (other p.side) any_man (board_after p m w) + worth (of_color (other p.side) any_man) (taken_at p m w) (get p.board (taken_at p m w)) ≡ men (other p.side) any_man p.board = their_tally any_man p k m w valid low stands way in
-    let z : worth (of_color (other p.side) any_man) (taken_at p m w) (get p.board (taken_at p m w)) ≡ 1 = ap (worth (of_color (other p.side) any_man) (taken_at p m w)) there ∙ self_one p.side in
-    omega arith
-
-ahead_file : (c : Color) (r s : ℕ) → s ≡ ahead c 2 r → rank r ≡ home_rank c → file r ≡ file s
-ahead_file White r s e h = omega arith
-ahead_file Black r s e h = omega arith
-
 -- a pawn that changes its file takes a man
 shift_taken : (p : State) (k : Kind) (m : Move) (w : Way) → IsPosition p → m.to < 64 → Stands p.board p.side k m.from → IsWay p k m w → k ≡ Pawn → rank m.to ≢ last_rank p.side →
     victims p.side (board_after p m w) + apart (file m.from) (file m.to) ≤ victims p.side p.board
@@ -292,10 +276,6 @@ above_own d p v k m w valid lf low stands way j (inl st) h = go (is_there p.side
         } in
         above_went d p.board (board_after p m w) p.side v m.from m.to step.0 went h
 
-other_other : (c : Color) → other (other c) ≡ c
-other_other White = refl
-other_other Black = refl
-
 -- the other side's move
 above_other : (d : Placement) (p : State) (v : ℕ → ℕ) (k : Kind) (m : Move) (w : Way) → IsPosition p → m.to < 64 → Stands p.board p.side k m.from → IsWay p k m w → Spared p (after p m w) (other p.side) → Above d p.board (other p.side) v → Above d (board_after p m w) (other p.side) v
 above_other d p v k m w valid low stands way sp h =
@@ -355,6 +335,6 @@ unfolding PawnPricesExclude PawnPricesFit
 pawn_prices_barren d p c l valid excl k =
     let a : sum_on p.board c (price l.u c any_pawn p.board) ≡ sum l.u = sum_of_prices l.u c any_pawn p.board excl.0.0 in
     let b : sum_on d c (price l.v c any_pawn d) ≡ sum l.v = sum_of_prices l.v c any_pawn d excl.0.1 in
-    let above : victims c p.board + sum l.u < sum l.v + victims c d = excl.2 in
+    let above : victims c p.board + sum l.u < sum l.v + victims c d = (owed_below_less d p.board c (sum l.v) (sum l.u)).0 excl.2 in
     barren_from d (λ q n. Above d q.board c (price l.v c any_pawn d)) (above_last d c (price l.v c any_pawn d)) (above_fails d c (price l.v c any_pawn d)) p k valid
     (price l.u c any_pawn p.board, excl.1, omega arith)

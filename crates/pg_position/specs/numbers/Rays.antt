@@ -7,16 +7,16 @@ use Rattle.pg_board.specs.Squares.{file, rank}
 use Rattle.pg_position.specs.declared.direction.Direction.{Direction}
 use Rattle.pg_position.specs.declared.direction.Direction.TheVariants.{North, NorthEast, East, SouthEast, South, SouthWest, West, NorthWest}
 
--- the place of a direction in the table of rays
-abbrev pub place : Direction → ℕ
-place North = 0
-place NorthEast = 1
-place East = 2
-place SouthEast = 3
-place South = 4
-place SouthWest = 5
-place West = 6
-place NorthWest = 7
+-- the number of a direction in the table of rays
+abbrev pub direction_number : Direction → ℕ
+direction_number North = 0
+direction_number NorthEast = 1
+direction_number East = 2
+direction_number SouthEast = 3
+direction_number South = 4
+direction_number SouthWest = 5
+direction_number West = 6
+direction_number NorthWest = 7
 
 -- s lies in this direction from r
 unfoldable pub OnRay : Direction → ℕ → ℕ → Type 0

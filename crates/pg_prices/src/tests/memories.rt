@@ -70,11 +70,13 @@ fn keys_differ(rt: HostRuntime) {
     fewer.white_queen = false;
     assert!(rt; white != black && color_key(&board, fewer, Color::White) != white);
     assert_eq!(rt; color_key(&board, fewer, Color::Black), black);
-    let node = node_key(white, black, Color::White, 0, 3);
-    assert!(rt; node != node_key(black, white, Color::White, 0, 3));
-    assert!(rt; node != node_key(white, black, Color::Black, 0, 3));
-    assert!(rt; node != node_key(white, black, Color::White, 0, 4));
-    assert!(rt; node != node_key(white, black, Color::White, 1 << 40, 3));
+    let none = SquareSet::empty();
+    let a6 = SquareSet::of_bits(1 << 40);
+    let node = node_key(white, black, Color::White, none, 3);
+    assert!(rt; node != node_key(black, white, Color::White, none, 3));
+    assert!(rt; node != node_key(white, black, Color::Black, none, 3));
+    assert!(rt; node != node_key(white, black, Color::White, none, 4));
+    assert!(rt; node != node_key(white, black, Color::White, a6, 3));
 }
 
 // A position read from a text.
@@ -127,7 +129,7 @@ const PASSED: [(&str, u64); 9] = [
 fn passed_squares_that_count(rt: HostRuntime) {
     for (text, wanted) in PASSED {
         let position = position(&rt, text);
-        assert_eq!(rt; effective_passed(&position), wanted, "{text}");
+        assert_eq!(rt; effective_passed(&position).bits(), wanted, "{text}");
     }
 }
 

@@ -92,14 +92,9 @@ fn no_game(rt: HostRuntime) -> Result<(), Fail> {
 fn four_games_by_en_passant(rt: HostRuntime) -> Result<(), Fail> {
     let [diagram, length, _] = EN_PASSANT;
     let mut sink = ToWrite::new(Vec::new(rt.alloc()));
-    let games = search(
-        rt.alloc(),
-        &Diagram::read(diagram)?,
-        Length::read(length)?,
-        MANY,
-        &mut sink,
-        &mut Unwatched,
-    )?;
+    let goal = Diagram::read(diagram)?;
+    let plies = Length::read(length)?;
+    let games = search(rt.alloc(), &goal, plies, MANY, &mut sink, &mut Unwatched)?;
     assert_eq!(rt; games.len(), 4);
     let bytes = sink.into_inner();
     check_run(

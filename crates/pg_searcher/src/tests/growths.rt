@@ -64,19 +64,12 @@ fn refused_growths(rt: HostRuntime) {
 #[test]
 fn refused_growths_of_prices(rt: HostRuntime) {
     let (placement, plies, count, nodes) = PROBLEMS[3];
-    let diagram = diagram(&rt, placement);
+    let goal = diagram(&rt, placement);
     let plies = length(&rt, plies);
     let mut sink = Small {
         bytes: ArrayVec::new(),
     };
-    match search(
-        rt.alloc(),
-        &diagram,
-        plies,
-        nodes,
-        &mut sink,
-        &mut Unwatched,
-    ) {
+    match search(rt.alloc(), &goal, plies, nodes, &mut sink, &mut Unwatched) {
         Ok(games) => assert_eq!(rt; games.len(), count),
         Err(fault) => assert_eq!(rt; fault, SearchFault::Memory),
     }

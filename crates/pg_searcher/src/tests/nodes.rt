@@ -4,26 +4,19 @@ use pg_certificate::{Record, RecordReader};
 #[test]
 fn problems_are_settled_with_so_many_nodes(rt: HostRuntime) {
     for (placement, plies, count, nodes) in PROBLEMS {
-        let diagram = diagram(&rt, placement);
+        let goal = diagram(&rt, placement);
         let plies = length(&rt, plies);
         let mut sink = ToWrite::new(Vec::new(rt.alloc()));
-        let games = search(
-            rt.alloc(),
-            &diagram,
-            plies,
-            nodes,
-            &mut sink,
-            &mut Unwatched,
-        )
-        .expect(&rt, placement);
+        let found = search(rt.alloc(), &goal, plies, nodes, &mut sink, &mut Unwatched);
+        let games = found.expect(&rt, placement);
         assert_eq!(rt; games.len(), count, "{placement}");
         let bytes = sink.into_inner();
-        match checks(rt.alloc(), &diagram, plies, &games, bytes.as_slice()) {
+        match checks(rt.alloc(), &goal, plies, &games, bytes.as_slice()) {
             Ok(Ok(proved)) => assert_eq!(rt; proved.records, nodes, "{placement}"),
             _ => assert!(rt; false, "{placement}"),
         }
         assert_eq!(rt;
-            fault(&rt, rt.alloc(), &diagram, plies, nodes.saturating_sub(1)),
+            fault(&rt, rt.alloc(), &goal, plies, nodes.saturating_sub(1)),
             Some(SearchFault::Budget)
         );
     }

@@ -8,7 +8,7 @@ use Rattle.pg_board.specs.declared.man.Kind.TheVariants.{Pawn, Knight, Bishop, R
 use Rattle.pg_board.specs.Squares.{file, rank}
 use Rattle.pg_board.specs.lemmas.Decisions.{dec_and, dec_or, dec_not, dec_along, dec_equal, dec_at_most, dec_some_below, dec_kinds, dec_kind}
 use Rattle.pg_position.specs.Geometry.{apart, IsForward, OnOneLine, InPattern}
-use Rattle.pg_position.specs.Step.{home_rank, last_rank}
+use Rattle.pg_position.specs.Squares.{home_rank, last_rank}
 use Rattle.pg_captures.specs.FreeSteps.{StepsTo, Becomes, FreeStep}
 use Rattle.pg_travel.specs.Walks.{Walk, IsLeast}
 

@@ -35,45 +35,45 @@ best_along P Q None f g h = λ v q. h v (g v q)
 best_along P Q (Some v) f g h = (f v h.0, λ m q. h.1 m (g m q))
 
 abbrev Of : State → Placement → Color → Option Wing → ℕ → Type 0
-Of p d c way v = IsWayOf p c way × IsValue p d c way v
+Of p d c way v = IsWayOf p c way × IsValue d p c way v
 
-held_best : (p : State) (d : Placement) (c : Color) (way : Option Wing) (o : Option ℕ) → HeldIs p d c way o → Best (Of p d c way) o
+held_best : (p : State) (d : Placement) (c : Color) (way : Option Wing) (o : Option ℕ) → HeldIs d p c way o → Best (Of p d c way) o
 held_best p d c way None h = λ v q. h v q.0 q.1
 held_best p d c way (Some v) h = (h, λ m q. (let e : v ≡ m = one_value p d c way v m h.1 q.1 in omega arith))
 
-free_best : (p : State) (d : Placement) (c : Color) (o : Option ℕ) → ValueIs p d c None o → Best (Of p d c None) o
+free_best : (p : State) (d : Placement) (c : Color) (o : Option ℕ) → ValueIs d p c None o → Best (Of p d c None) o
 free_best p d c None h = λ v q. h v q.1
 free_best p d c (Some v) h = ((tt, h), λ m q. (let e : v ≡ m = one_value p d c None v m h q.1 in omega arith))
 
 abbrev Any3 : State → Placement → Color → ℕ → Type 0
 Any3 p d c v = Of p d c None v ⊎ (Of p d c (Some KingSide) v ⊎ Of p d c (Some QueenSide) v)
 
-out : (p : State) (d : Placement) (c : Color) (v : ℕ) → Any3 p d c v → HasValue p d c v
+out : (p : State) (d : Placement) (c : Color) (v : ℕ) → Any3 p d c v → HasValue d p c v
 out p d c v (inl h) = (None, h.0, h.1)
 out p d c v (inr (inl h)) = (Some KingSide, h.0, h.1)
 out p d c v (inr (inr h)) = (Some QueenSide, h.0, h.1)
 
-back : (p : State) (d : Placement) (c : Color) (v : ℕ) → HasValue p d c v → Any3 p d c v
+back : (p : State) (d : Placement) (c : Color) (v : ℕ) → HasValue d p c v → Any3 p d c v
 back p d c v (None, a, b) = inl (a, b)
 back p d c v (Some KingSide, a, b) = inr (inl (a, b))
 back p d c v (Some QueenSide, a, b) = inr (inr (a, b))
 
-best_need : (p : State) (d : Placement) (c : Color) (o : Option ℕ) → Best (HasValue p d c) o → NeedIs p d c o
+best_need : (p : State) (d : Placement) (c : Color) (o : Option ℕ) → Best (HasValue d p c) o → NeedIs d p c o
 best_need p d c None h = h
 best_need p d c (Some n) h = h
 
-pub need_is : (p : State) (d : Placement) (c : Color) (a k q : Option ℕ) → ValueIs p d c None a → HeldIs p d c (Some KingSide) k → HeldIs p d c (Some QueenSide) q → NeedIs p d c (lesser a (lesser k q))
+pub need_is : (p : State) (d : Placement) (c : Color) (a k q : Option ℕ) → ValueIs d p c None a → HeldIs d p c (Some KingSide) k → HeldIs d p c (Some QueenSide) q → NeedIs d p c (lesser a (lesser k q))
 need_is p d c a k q ha hk hq =
     best_need p d c (lesser a (lesser k q))
-    (best_along (Any3 p d c) (HasValue p d c) (lesser a (lesser k q)) (out p d c) (back p d c)
+    (best_along (Any3 p d c) (HasValue d p c) (lesser a (lesser k q)) (out p d c) (back p d c)
     (lesser_best (Of p d c None) (λ v. Of p d c (Some KingSide) v ⊎ Of p d c (Some QueenSide) v) a (lesser k q) (free_best p d c a ha)
     (lesser_best (Of p d c (Some KingSide)) (Of p d c (Some QueenSide)) k q (held_best p d c (Some KingSide) k hk) (held_best p d c (Some QueenSide) q hq))))
 
 -- the test, from the need
-pub test_none : (p : State) (d : Placement) (c : Color) (k : ℕ) → NeedIs p d c None → TravelTest p d c k
+pub test_none : (p : State) (d : Placement) (c : Color) (k : ℕ) → NeedIs d p c None → TravelTest d p k c
 test_none p d c k h = inl h
 
-pub test_some : (p : State) (d : Placement) (c : Color) (k n : ℕ) → NeedIs p d c (Some n) → (TravelTest p d c k → plies_left p.side c k < n) × (plies_left p.side c k < n → TravelTest p d c k)
+pub test_some : (p : State) (d : Placement) (c : Color) (k n : ℕ) → NeedIs d p c (Some n) → (TravelTest d p k c → plies_left p.side c k < n) × (plies_left p.side c k < n → TravelTest d p k c)
 test_some p d c k n h = (
   λ t. elim t [
     | inl none ↦ absurd (none n h.0)
@@ -82,10 +82,10 @@ test_some p d c k n h = (
   λ low. inr (n, h, low),
 )
 
-pub held_by_value : (p : State) (d : Placement) (c : Color) (w : Wing) (o : Option ℕ) → holds p.rights c w ≡ true → ValueIs p d c (Some w) o → HeldIs p d c (Some w) o
+pub held_by_value : (p : State) (d : Placement) (c : Color) (w : Wing) (o : Option ℕ) → holds p.rights c w ≡ true → ValueIs d p c (Some w) o → HeldIs d p c (Some w) o
 held_by_value p d c w None e h = λ v held value. h v value
 held_by_value p d c w (Some v) e h = (e, h)
 
 -- where the plies left pay for the way without castling, the test does not hold
-pub test_paid : (p : State) (d : Placement) (c : Color) (k : ℕ) (o : Option ℕ) (v : ℕ) → ValueIs p d c None o → o ≡ Some v → v ≤ plies_left p.side c k → ¬ TravelTest p d c k
-test_paid p d c k o v h e l = test_fails p d c k v (None, tt, subst (λ (x : Option ℕ). ValueIs p d c None x) e h) l
+pub test_paid : (p : State) (d : Placement) (c : Color) (k : ℕ) (o : Option ℕ) (v : ℕ) → ValueIs d p c None o → o ≡ Some v → v ≤ plies_left p.side c k → ¬ TravelTest d p k c
+test_paid p d c k o v h e l = test_fails p d c k v (None, tt, subst (λ (x : Option ℕ). ValueIs d p c None x) e h) l

@@ -12,37 +12,31 @@ use Rattle.pg_board.specs.Placement.{Placement, get}
 use Rattle.pg_position.specs.declared.state.State.{State}
 use Rattle.pg_position.specs.declared.moves.Move.{Move}
 use Rattle.pg_board.specs.Men.{other, man, color_eq}
-use Rattle.pg_position.specs.Position.{Stands, king_home, rook_home, IsPosition}
-use Rattle.pg_position.specs.Step.{king_crossed, king_target, Step}
+use Rattle.pg_board.specs.lemmas.Equalities.{color_decides}
+use Rattle.pg_position.specs.Position.{Stands, IsPosition}
+use Rattle.pg_position.specs.Squares.{king_home, rook_home, king_crossed, king_target}
+use Rattle.pg_position.specs.Step.{Step}
 use Rattle.pg_captures.specs.FreeSteps.{FreeStep}
 use Rattle.pg_travel.specs.Walks.{Walk}
 use Rattle.pg_captures.specs.Owed.{plies_left}
-use Rattle.pg_travel.specs.Origins.{IsWayOf, counted, sum_to, Origins, ReachedIn, OriginsLaw}
+use Rattle.pg_travel.specs.Origins.{IsWayOf, counted, Origins, ReachedIn, OriginsLaw}
+use Rattle.pg_board.specs.Tally.{total}
 use Rattle.pg_captures.specs.lemmas.MoveLemmas.{KeptRight, OneStep, Castled, Spared, OwnMove, own_step, spared_step, side_step}
 use Rattle.pg_position.proofs.FutureLemmas.{legal_position}
-use Rattle.pg_travel.specs.lemmas.SumLemmas.{sum_add, sum_zero, sum_one}
+use Rattle.pg_travel.specs.lemmas.SumLemmas.{sum_one, over_add, over_at_most}
+use Rattle.pg_board.specs.lemmas.Sums.{total-zero}
 
 -- whether a man of c stands there
 abbrev is_of : Color → Option Man → Bool
 is_of c None = false
 is_of c (Some m) = color_eq c m.color
 
-color_eq_is : (c d : Color) → color_eq c d ≡ true → c ≡ d
-color_eq_is White White h = refl
-color_eq_is Black Black h = refl
-color_eq_is White Black h = cc
-color_eq_is Black White h = cc
-
-color_eq_refl : (c : Color) → color_eq c c ≡ true
-color_eq_refl White = refl
-color_eq_refl Black = refl
-
 is_of_man : (c : Color) (o : Option Man) → is_of c o ≡ true → (j : Kind) × (o ≡ Some (man c j))
 is_of_man c None h = absurd (let e : false ≡ true = h in cc)
-is_of_man c (Some m) h = (m.kind, ap (λ (x : Color). Some (man x m.kind)) (sym (color_eq_is c m.color h)))
+is_of_man c (Some m) h = (m.kind, ap (λ (x : Color). Some (man x m.kind)) (sym ((color_decides c m.color).0 h)))
 
 man_is_of : (c : Color) (o : Option Man) (j : Kind) → o ≡ Some (man c j) → is_of c o ≡ true
-man_is_of c o j e = rw e (color_eq_refl c)
+man_is_of c o j e = rw e ((color_decides c c).1 refl)
 
 -- the man on s came from r
 unfoldable go_back : {A : Type 0} → ℕ → A → ℕ → A → A
@@ -114,12 +108,12 @@ kept_way p n c k r s (Some w) st held =
     not_counted c w x a b = elim (eqb_tells x (king_home c)) [ inl u ↦ absurd (a u.1) | inr u ↦ elim (eqb_tells x (rook_home c w)) [ inl z ↦ absurd (b z.1) | inr z ↦ rw (u.0, z.0) refl ] ]
 
 -- a man of d, with its origin after the step: it is the man that moved, or another
-record Traced (p n : State) (d : Placement) (c : Color) (k : Kind) (r s : ℕ) (v : Option Wing) (o : Origins n d c v) (j : Kind) (t : ℕ) : Type 0 where
+record Traced (p n : State) (d : Placement) (c : Color) (k : Kind) (r s : ℕ) (v : Option Wing) (o : Origins d n c v) (j : Kind) (t : ℕ) : Type 0 where
   from_low : go_back s r (o.from t) (o.from t) < 64
   from_stood : Stands p.board c (go_back s k (o.from t) (o.kind t)) (go_back s r (o.from t) (o.from t))
   walk : Walk c (go_back s k (o.from t) (o.kind t)) (counted c v (go_back s r (o.from t) (o.from t))) (o.plies t + one_more c (get d t) (o.from t) s) j t
 
-traced_moved : (p n : State) (d : Placement) (c : Color) (k : Kind) (r s : ℕ) (v : Option Wing) (o : Origins n d c v) (j : Kind) (t : ℕ) → OneStep p n c k r s → IsWayOf n c v → t < 64 → Stands d c j t → o.from t ≡ s → Traced p n d c k r s v o j t
+traced_moved : (p n : State) (d : Placement) (c : Color) (k : Kind) (r s : ℕ) (v : Option Wing) (o : Origins d n c v) (j : Kind) (t : ℕ) → OneStep p n c k r s → IsWayOf n c v → t < 64 → Stands d c j t → o.from t ≡ s → Traced p n d c k r s v o j t
 traced_moved p n d c k r s v o j t st held low stands e =
     let f1 : go_back s r (o.from t) (o.from t) ≡ r = back_at s r (o.from t) (o.from t) e in
     let f2 : go_back s k (o.from t) (o.kind t) ≡ k = back_at s k (o.from t) (o.kind t) e in
@@ -135,7 +129,7 @@ traced_moved p n d c k r s v o j t st held low stands e =
       walk = walk_along c k (go_back s k (o.from t) (o.kind t)) r (counted c v (go_back s r (o.from t) (o.from t))) (suc (o.plies t)) (o.plies t + one_more c (get d t) (o.from t) s) j t f2 (ap (counted c v) f1 ∙ way.1) f3 path;
     }
 
-traced_other : (p n : State) (d : Placement) (c : Color) (k : Kind) (r s : ℕ) (v : Option Wing) (o : Origins n d c v) (j : Kind) (t : ℕ) → OneStep p n c k r s → t < 64 → Stands d c j t → o.from t ≢ s → Traced p n d c k r s v o j t
+traced_other : (p n : State) (d : Placement) (c : Color) (k : Kind) (r s : ℕ) (v : Option Wing) (o : Origins d n c v) (j : Kind) (t : ℕ) → OneStep p n c k r s → t < 64 → Stands d c j t → o.from t ≢ s → Traced p n d c k r s v o j t
 traced_other p n d c k r s v o j t st low stands ne =
     let f1 : go_back s r (o.from t) (o.from t) ≡ o.from t = back_off s r (o.from t) (o.from t) ne in
     let f2 : go_back s k (o.from t) (o.kind t) ≡ o.kind t = back_off s k (o.from t) (o.kind t) ne in
@@ -147,12 +141,12 @@ traced_other p n d c k r s v o j t st low stands ne =
       walk = walk_along c (o.kind t) (go_back s k (o.from t) (o.kind t)) (counted c v (o.from t)) (counted c v (go_back s r (o.from t) (o.from t))) (o.plies t) (o.plies t + one_more c (get d t) (o.from t) s) j t f2 (ap (counted c v) f1) f3 (o.walks j t low stands);
     }
 
-traced : (p n : State) (d : Placement) (c : Color) (k : Kind) (r s : ℕ) (v : Option Wing) (o : Origins n d c v) (j : Kind) (t : ℕ) → OneStep p n c k r s → IsWayOf n c v → t < 64 → Stands d c j t → Traced p n d c k r s v o j t
+traced : (p n : State) (d : Placement) (c : Color) (k : Kind) (r s : ℕ) (v : Option Wing) (o : Origins d n c v) (j : Kind) (t : ℕ) → OneStep p n c k r s → IsWayOf n c v → t < 64 → Stands d c j t → Traced p n d c k r s v o j t
 traced p n d c k r s v o j t st held low stands =
     elim (eqb_tells (o.from t) s) [ inl w ↦ traced_moved p n d c k r s v o j t st held low stands w.1 | inr w ↦ traced_other p n d c k r s v o j t st low stands w.1 ]
 
 -- no other man of c left its square for r: the map stays one to one
-still_different : (p n : State) (d : Placement) (c : Color) (k : Kind) (r s : ℕ) (v : Option Wing) (o : Origins n d c v) (j i : Kind) (t u : ℕ) → OneStep p n c k r s → t < 64 → u < 64 → Stands d c j t → Stands d c i u → go_back s r (o.from t) (o.from t) ≡ go_back s r (o.from u) (o.from u) → o.from t ≡ o.from u
+still_different : (p n : State) (d : Placement) (c : Color) (k : Kind) (r s : ℕ) (v : Option Wing) (o : Origins d n c v) (j i : Kind) (t u : ℕ) → OneStep p n c k r s → t < 64 → u < 64 → Stands d c j t → Stands d c i u → go_back s r (o.from t) (o.from t) ≡ go_back s r (o.from u) (o.from u) → o.from t ≡ o.from u
 still_different p n d c k r s v o j i t u st lt lu ht hu e =
     elim (eqb_tells (o.from t) s) [
       | inl w ↦ elim (eqb_tells (o.from u) s) [
@@ -165,7 +159,7 @@ still_different p n d c k r s v o j i t u st lt lu ht hu e =
       ]
     ]
 
-stepped_back : (p n : State) (d : Placement) (c : Color) (k : Kind) (r s : ℕ) (v : Option Wing) → OneStep p n c k r s → IsWayOf n c v → Origins n d c v → Origins p d c v
+stepped_back : (p n : State) (d : Placement) (c : Color) (k : Kind) (r s : ℕ) (v : Option Wing) → OneStep p n c k r s → IsWayOf n c v → Origins d n c v → Origins d p c v
 stepped_back p n d c k r s v st held o =
     record {
       from = λ t. go_back s r (o.from t) (o.from t);
@@ -175,10 +169,9 @@ stepped_back p n d c k r s v st held o =
       stood = λ j t low h. (traced p n d c k r s v o j t st held low h).from_stood;
       walks = λ j t low h. (traced p n d c k r s v o j t st held low h).walk;
       different = λ j i t u lt lu ht hu e. o.different j i t u lt lu ht hu (still_different p n d c k r s v o j i t u st lt lu ht hu e);
-      idle = λ t low none. omega (arith, o.idle t low none, one_more_none c (get d t) (o.from t) s none);
     }
 
-one_more_sum : (n : State) (d : Placement) (c : Color) (s : ℕ) (v : Option Wing) (o : Origins n d c v) → sum_to (λ t. one_more c (get d t) (o.from t) s) 64 ≤ 1
+one_more_sum : (n : State) (d : Placement) (c : Color) (s : ℕ) (v : Option Wing) (o : Origins d n c v) → total (λ t. one_more c (get d t) (o.from t) s) 64 ≤ 1
 one_more_sum n d c s v o =
     sum_one (λ t. one_more c (get d t) (o.from t) s) 64
     (λ t u lt lu ht hu.
@@ -188,19 +181,19 @@ one_more_sum n d c s v o =
     (λ t. one_more_small c (get d t) (o.from t) s)
 
 -- c's own move that is not castling costs one ply
-back_by_step : (p n : State) (d : Placement) (c : Color) (k : Kind) (r s N : ℕ) → OneStep p n c k r s → ReachedIn n d c N → ReachedIn p d c (suc N)
+back_by_step : (p n : State) (d : Placement) (c : Color) (k : Kind) (r s N : ℕ) → OneStep p n c k r s → ReachedIn d n c N → ReachedIn d p c (suc N)
 unfolding stepped_back
 back_by_step p n d c k r s N st (v, held, (o, bound)) = (
   v,
   (kept_way p n c k r s v st held).0,
   (
     stepped_back p n d c k r s v st held o,
-    omega (arith, bound, sum_add o.plies (λ t. one_more c (get d t) (o.from t) s) 64, one_more_sum n d c s v o),
+    omega (arith, bound, over_add c d o.plies (λ t. one_more c (get d t) (o.from t) s), over_at_most c d (λ t. one_more c (get d t) (o.from t) s), one_more_sum n d c s v o),
   ),
 )
 
 -- the other side's move costs c nothing
-spared_origins : (p n : State) (d : Placement) (c : Color) (v : Option Wing) → Spared p n c → Origins n d c v → Origins p d c v
+spared_origins : (p n : State) (d : Placement) (c : Color) (v : Option Wing) → Spared p n c → Origins d n c v → Origins d p c v
 spared_origins p n d c v sp o =
     record {
       from = o.from;
@@ -210,14 +203,13 @@ spared_origins p n d c v sp o =
       stood = λ j t low h. sp.kept (o.kind t) (o.from t) (o.low j t low h) (o.stood j t low h);
       walks = o.walks;
       different = o.different;
-      idle = o.idle;
     }
 
 spared_held : (p n : State) (c : Color) (v : Option Wing) → Spared p n c → IsWayOf n c v → IsWayOf p c v
 spared_held p n c None sp held = tt
 spared_held p n c (Some w) sp held = sp.rights w held
 
-back_by_other : (p n : State) (d : Placement) (c : Color) (N : ℕ) → Spared p n c → ReachedIn n d c N → ReachedIn p d c N
+back_by_other : (p n : State) (d : Placement) (c : Color) (N : ℕ) → Spared p n c → ReachedIn d n c N → ReachedIn d p c N
 unfolding spared_origins
 back_by_other p n d c N sp (v, held, (o, bound)) = (v, spared_held p n c v sp held, (spared_origins p n d c v sp o, bound))
 
@@ -280,7 +272,7 @@ uncastled p n c v i x st low h =
       ]
     ]
 
-castled_back : (p n : State) (d : Placement) (c : Color) (v : Wing) → Castled p n c v → Origins n d c None → Origins p d c (Some v)
+castled_back : (p n : State) (d : Placement) (c : Color) (v : Wing) → Castled p n c v → Origins d n c None → Origins d p c (Some v)
 castled_back p n d c v st o =
     record {
       from = λ t. uncastle c v (o.from t);
@@ -293,17 +285,16 @@ castled_back p n d c v st o =
           (sym (uncastled p n c v (o.kind t) (o.from t) st (o.low j t lt ht) (o.stood j t lt ht)).2
           ∙ ap (counted c (Some v)) e
           ∙ (uncastled p n c v (o.kind u) (o.from u) st (o.low i u lu hu) (o.stood i u lu hu)).2);
-      idle = o.idle;
     }
 
-back_by_castling : (p n : State) (d : Placement) (c : Color) (v : Wing) (N : ℕ) → Castled p n c v → ReachedIn n d c N → ReachedIn p d c (suc N)
+back_by_castling : (p n : State) (d : Placement) (c : Color) (v : Wing) (N : ℕ) → Castled p n c v → ReachedIn d n c N → ReachedIn d p c (suc N)
 unfolding castled_back
 back_by_castling p n d c v N st (None, held, (o, bound)) = (Some v, st.right, (castled_back p n d c v st o, omega arith))
 back_by_castling p n d c v N st (Some w, held, (o, bound)) = absurd (st.lost w held)
 
 -- the induction
 
-reached_more : (p : State) (d : Placement) (c : Color) (a b : ℕ) → a ≤ b → ReachedIn p d c a → ReachedIn p d c b
+reached_more : (p : State) (d : Placement) (c : Color) (a b : ℕ) → a ≤ b → ReachedIn d p c a → ReachedIn d p c b
 reached_more p d c a b more (v, held, (o, bound)) = (v, held, (o, omega arith))
 
 side_cases : (c d : Color) → (c ≡ d) ⊎ (c ≡ other d)
@@ -312,12 +303,12 @@ side_cases Black Black = inl refl
 side_cases White Black = inr refl
 side_cases Black White = inr refl
 
-own_back : (p n : State) (m : Move) (d : Placement) (N : ℕ) → IsPosition p → Step p m n → ReachedIn n d p.side N → ReachedIn p d p.side (suc N)
+own_back : (p n : State) (m : Move) (d : Placement) (N : ℕ) → IsPosition p → Step p m n → ReachedIn d n p.side N → ReachedIn d p p.side (suc N)
 own_back p n m d N pos step h =
     let s : (k : Kind) × OwnMove p n m k = own_step p n m pos step in
     elim s.1 [ inl st ↦ back_by_step p n d p.side s.0 m.from m.to N st h | inr st ↦ back_by_castling p n d p.side st.0 N st.1 h ]
 
-other_back : (p n : State) (m : Move) (d : Placement) (N : ℕ) → IsPosition p → Step p m n → ReachedIn n d (other p.side) N → ReachedIn p d (other p.side) N
+other_back : (p n : State) (m : Move) (d : Placement) (N : ℕ) → IsPosition p → Step p m n → ReachedIn d n (other p.side) N → ReachedIn d p (other p.side) N
 other_back p n m d N pos step h = back_by_other p n d (other p.side) N (spared_step p n m pos step) h
 
 left_own : (c : Color) (k : ℕ) → suc (plies_left (other c) c k) ≤ plies_left c c (suc k)
@@ -340,7 +331,7 @@ stands_as : (b : Placement) (c : Color) (j : Kind) (t : ℕ) → Stands b c j t 
 stands_as b c j t h = subst (λ (x : Kind). Stands b c x t) (sym (kind_of_man (get b t) c j h)) h
 
 -- no move: each man is its own origin
-at_rest : (p : State) (c : Color) → Origins p p.board c None
+at_rest : (p : State) (c : Color) → Origins p.board p c None
 at_rest p c =
     record {
       from = λ t. t;
@@ -350,30 +341,29 @@ at_rest p c =
       stood = λ j t low h. stands_as p.board c j t h;
       walks = λ j t low h. (kind_of_man (get p.board t) c j h, refl);
       different = λ j i t u lt lu ht hu e. e;
-      idle = λ t low none. refl;
     }
 
-rest_reached : (p : State) (c : Color) (N : ℕ) → ReachedIn p p.board c N
+rest_reached : (p : State) (c : Color) (N : ℕ) → ReachedIn p.board p c N
 unfolding at_rest
-rest_reached p c N = (None, tt, (at_rest p c, omega (arith, sum_zero (λ t. 0) 64 (λ t low. refl))))
+rest_reached p c N = (None, tt, (at_rest p c, omega (arith, over_at_most c p.board (λ t. 0), total-zero (λ t. 0) 64 (λ t low. refl))))
 
 pub origins_of_game : OriginsLaw
-origins_of_game p [] q c pos e = subst (λ (x : State). ReachedIn p x.board c (plies_left p.side c 0)) e (rest_reached p c (plies_left p.side c 0))
+origins_of_game p [] q c pos e = subst (λ (x : State). ReachedIn x.board p c (plies_left p.side c 0)) e (rest_reached p c (plies_left p.side c 0))
 origins_of_game p (m ∷ ms) q c pos (n, legal, game) =
     let step : Step p m n = legal.0 in
     let turn : n.side ≡ other p.side = side_step p n m step in
-    let back : ReachedIn n q.board c (plies_left (other p.side) c (length ms)) = subst (λ (x : Color). ReachedIn n q.board c (plies_left x c (length ms))) turn (origins_of_game n ms q c (legal_position p m n pos legal) game) in
+    let back : ReachedIn q.board n c (plies_left (other p.side) c (length ms)) = subst (λ (x : Color). ReachedIn q.board n c (plies_left x c (length ms))) turn (origins_of_game n ms q c (legal_position p m n pos legal) game) in
     elim (side_cases c p.side) [
       | inl e ↦ own p n m q.board c (length ms) pos step e back
       | inr e ↦ opp p n m q.board c (length ms) pos step e back
     ]
   where
-    own : (p n : State) (m : Move) (d : Placement) (c : Color) (k : ℕ) → IsPosition p → Step p m n → c ≡ p.side → ReachedIn n d c (plies_left (other p.side) c k) → ReachedIn p d c (plies_left p.side c (suc k))
+    own : (p n : State) (m : Move) (d : Placement) (c : Color) (k : ℕ) → IsPosition p → Step p m n → c ≡ p.side → ReachedIn d n c (plies_left (other p.side) c k) → ReachedIn d p c (plies_left p.side c (suc k))
     own p n m d c k pos step e =
-        subst (λ (x : Color). ReachedIn n d x (plies_left (other p.side) x k) → ReachedIn p d x (plies_left p.side x (suc k))) (sym e)
+        subst (λ (x : Color). ReachedIn d n x (plies_left (other p.side) x k) → ReachedIn d p x (plies_left p.side x (suc k))) (sym e)
         (λ h. reached_more p d p.side (suc (plies_left (other p.side) p.side k)) (plies_left p.side p.side (suc k)) (left_own p.side k) (own_back p n m d (plies_left (other p.side) p.side k) pos step h))
 
-    opp : (p n : State) (m : Move) (d : Placement) (c : Color) (k : ℕ) → IsPosition p → Step p m n → c ≡ other p.side → ReachedIn n d c (plies_left (other p.side) c k) → ReachedIn p d c (plies_left p.side c (suc k))
+    opp : (p n : State) (m : Move) (d : Placement) (c : Color) (k : ℕ) → IsPosition p → Step p m n → c ≡ other p.side → ReachedIn d n c (plies_left (other p.side) c k) → ReachedIn d p c (plies_left p.side c (suc k))
     opp p n m d c k pos step e =
-        subst (λ (x : Color). ReachedIn n d x (plies_left (other p.side) x k) → ReachedIn p d x (plies_left p.side x (suc k))) (sym e)
+        subst (λ (x : Color). ReachedIn d n x (plies_left (other p.side) x k) → ReachedIn d p x (plies_left p.side x (suc k))) (sym e)
         (λ h. reached_more p d (other p.side) (plies_left (other p.side) (other p.side) k) (plies_left p.side (other p.side) (suc k)) (left_other p.side k) (other_back p n m d (plies_left (other p.side) (other p.side) k) pos step h))

@@ -6,16 +6,20 @@ use Rattle.pg_board.specs.declared.man.Color.TheVariants.{White, Black}
 use Rattle.pg_board.specs.declared.man.Kind.{Kind}
 use Rattle.pg_board.specs.declared.man.Kind.TheVariants.{Pawn, Knight, Bishop, Rook, Queen, King}
 use Rattle.pg_board.specs.Squares.{file, rank}
-use Rattle.pg_board.specs.Men.{number_of_kind, kind_of_number, kind_back, kind_eq}
+use Rattle.pg_board.specs.Men.{number_of_kind, kind_eq}
+use Rattle.pg_board.specs.lemmas.Codes.{kind_of_number, kind_back}
+use Rattle.pg_board.specs.lemmas.Equalities.{kind_decides}
+use Rattle.pg_board.specs.lemmas.Kinds.{each_kind}
 use Rattle.pg_board.specs.lemmas.Decisions.{dec_kind}
 use Rattle.pg_position.specs.Geometry.{InPattern}
-use Rattle.pg_position.specs.Step.{last_rank}
+use Rattle.pg_position.specs.Squares.{last_rank}
 use Rattle.pg_captures.specs.FreeSteps.{StepsTo, Becomes, FreeStep}
 use Rattle.pg_travel.specs.Walks.{Walk, DistanceIs}
-use Rattle.pg_travel.specs.numbers.Formulas.{files, king, rook, bishop, queen, knight, piece, pawn, pawn_to, from_pawn, least_of, distance_of, DistanceLaw}
+use Rattle.pg_travel.specs.numbers.Formulas.{files, king, rook, bishop, queen, knight, piece, from_pawn, least_of, distance_of, DistanceLaw}
 use Rattle.pg_travel.specs.lemmas.PairTests.{Fits, fits}
-use Rattle.pg_travel.specs.lemmas.Pieces.{answer_none, answer_some, goes_to, piece_step, piece_free, piece_fits}
-use Rattle.pg_travel.specs.lemmas.PawnTables.{at_end, pawn_goes, pawn_left, piece_left, white_pawn_fits, white_knight_fits, white_bishop_fits, white_rook_fits, white_queen_fits, black_pawn_fits, black_knight_fits, black_bishop_fits, black_rook_fits, black_queen_fits}
+use Rattle.pg_travel.specs.lemmas.Pieces.{answer_none, answer_some, piece_step, piece_free, piece_fits}
+use Rattle.pg_travel.specs.lemmas.Tables.{goes_to}
+use Rattle.pg_travel.specs.lemmas.PawnTables.{at_end, pawn_goes, left_of, kinds_fit}
 use Rattle.pg_travel.specs.lemmas.WalkLemmas.{Local, bounds, distance}
 
 -- kinds
@@ -24,12 +28,7 @@ kinds_differ : (k j : Kind) → k ≢ j → kind_eq k j ≡ false
 kinds_differ k j ne = elim (eqb_tells (number_of_kind k) (number_of_kind j)) [ inl w ↦ absurd (ne (sym (kind_back k) ∙ ap kind_of_number w.1 ∙ kind_back j)) | inr w ↦ w.0 ]
 
 by_piece : (c : Color) (k : Kind) (r s : ℕ) → k ≢ Pawn → distance_of c k k r s ≡ piece k r s
-by_piece c Pawn r s ne = absurd (ne refl)
-by_piece c Knight r s ne = refl
-by_piece c Bishop r s ne = refl
-by_piece c Rook r s ne = refl
-by_piece c Queen r s ne = refl
-by_piece c King r s ne = refl
+by_piece c k r s = each_kind (λ j. j ≢ Pawn → distance_of c j j r s ≡ piece j r s) (λ ne. absurd (ne refl), λ _. refl, λ _. refl, λ _. refl, λ _. refl, λ _. refl) k
 
 pub by_other : (c : Color) (j k : Kind) (r s : ℕ) → k ≢ Pawn → k ≢ j → distance_of c j k r s ≡ 64
 by_other c j Pawn r s ne other = absurd (ne refl)
@@ -60,58 +59,19 @@ end_tells Black t = eqb_tells (rank t) 1
 
 -- what the tables say
 
-abbrev left_of : Color → Kind → ℕ → ℕ → ℕ
-left_of c Pawn t s = pawn_left c t s
-left_of c Knight t s = piece_left knight c t s
-left_of c Bishop t s = piece_left bishop c t s
-left_of c Rook t s = piece_left rook c t s
-left_of c Queen t s = piece_left queen c t s
-left_of c King t s = 64
+pawn_is : (j : Kind) → kind_eq j Pawn ≡ true → Pawn ≡ j
+pawn_is j e = sym ((kind_decides j Pawn).0 e)
 
-abbrev is_pawn : Kind → Bool
-is_pawn Pawn = true
-is_pawn Knight = false
-is_pawn Bishop = false
-is_pawn Rook = false
-is_pawn Queen = false
-is_pawn King = false
+pawn_fits : (c : Color) (j : Kind) → j ≢ King → Fits (kind_eq j Pawn) (pawn_goes c) (from_pawn c j) (left_of c j)
+pawn_fits c j ne = fits (kind_eq j Pawn) (pawn_goes c) (from_pawn c j) (left_of c j) (kinds_fit c j ne)
 
-pawn_is : (j : Kind) → is_pawn j ≡ true → Pawn ≡ j
-pawn_is Pawn e = refl
-pawn_is Knight e = cc
-pawn_is Bishop e = cc
-pawn_is Rook e = cc
-pawn_is Queen e = cc
-pawn_is King e = cc
+left_end : (c : Color) (j : Kind) (t s : ℕ) → at_end c t ≡ true → left_of c j t s ≡ piece j t s
+unfolding left_of
+left_end c j t s e = ap (λ (b : Bool). cond b (piece j t s) (from_pawn c j t s)) e
 
-pawn_fits : (c : Color) (j : Kind) → j ≢ King → Fits (is_pawn j) (pawn_goes c) (from_pawn c j) (left_of c j)
-pawn_fits White Pawn ne = fits true (pawn_goes White) (pawn White) (pawn_left White) white_pawn_fits
-pawn_fits White Knight ne = fits false (pawn_goes White) (pawn_to knight White) (piece_left knight White) white_knight_fits
-pawn_fits White Bishop ne = fits false (pawn_goes White) (pawn_to bishop White) (piece_left bishop White) white_bishop_fits
-pawn_fits White Rook ne = fits false (pawn_goes White) (pawn_to rook White) (piece_left rook White) white_rook_fits
-pawn_fits White Queen ne = fits false (pawn_goes White) (pawn_to queen White) (piece_left queen White) white_queen_fits
-pawn_fits White King ne = absurd (ne refl)
-pawn_fits Black Pawn ne = fits true (pawn_goes Black) (pawn Black) (pawn_left Black) black_pawn_fits
-pawn_fits Black Knight ne = fits false (pawn_goes Black) (pawn_to knight Black) (piece_left knight Black) black_knight_fits
-pawn_fits Black Bishop ne = fits false (pawn_goes Black) (pawn_to bishop Black) (piece_left bishop Black) black_bishop_fits
-pawn_fits Black Rook ne = fits false (pawn_goes Black) (pawn_to rook Black) (piece_left rook Black) black_rook_fits
-pawn_fits Black Queen ne = fits false (pawn_goes Black) (pawn_to queen Black) (piece_left queen Black) black_queen_fits
-pawn_fits Black King ne = absurd (ne refl)
-
-left_by : (c : Color) (j : Kind) (t s : ℕ) → j ≢ King → left_of c j t s ≡ cond (at_end c t) (piece j t s) (from_pawn c j t s)
-unfolding pawn_left piece_left
-left_by c Pawn t s ne = refl
-left_by c Knight t s ne = refl
-left_by c Bishop t s ne = refl
-left_by c Rook t s ne = refl
-left_by c Queen t s ne = refl
-left_by c King t s ne = absurd (ne refl)
-
-left_end : (c : Color) (j : Kind) (t s : ℕ) → j ≢ King → at_end c t ≡ true → left_of c j t s ≡ piece j t s
-left_end c j t s ne e = left_by c j t s ne ∙ ap (λ (b : Bool). cond b (piece j t s) (from_pawn c j t s)) e
-
-left_on : (c : Color) (j : Kind) (t s : ℕ) → j ≢ King → at_end c t ≡ false → left_of c j t s ≡ from_pawn c j t s
-left_on c j t s ne e = left_by c j t s ne ∙ ap (λ (b : Bool). cond b (piece j t s) (from_pawn c j t s)) e
+left_on : (c : Color) (j : Kind) (t s : ℕ) → at_end c t ≡ false → left_of c j t s ≡ from_pawn c j t s
+unfolding left_of
+left_on c j t s e = ap (λ (b : Bool). cond b (piece j t s) (from_pawn c j t s)) e
 
 -- local laws
 
@@ -150,10 +110,10 @@ pawn_falls c j r s lr ls (no ne) p = elim ((pawn_fits c j ne).falls r s lr ls) [
   where
     onward : Dec (j ≡ Pawn) → ((t : ℕ) × (t < 64) × (pawn_goes c r t ≡ true) × (from_pawn c j r s ≡ suc (left_of c j t s)) × (from_pawn c j r s < 64)) → (i : Kind) × (t : ℕ) × FreeStep c Pawn r i t × (from_pawn c j r s ≡ suc (distance_of c j i t s)) × (from_pawn c j r s < 64)
     onward dec (t, lt, goes, e, low) = elim (end_tells c t) [
-      | inr w ↦ (Pawn, t, (lr, lt, pawn_steps_to c r t goes, inr (w.1, refl)), e ∙ ap (λ (n : ℕ). suc n) (left_on c j t s ne w.0), low)
+      | inr w ↦ (Pawn, t, (lr, lt, pawn_steps_to c r t goes, inr (w.1, refl)), e ∙ ap (λ (n : ℕ). suc n) (left_on c j t s w.0), low)
       | inl w ↦ elim dec [
-        | yes is ↦ absurd (let a : left_of c j t s ≡ 64 = left_end c j t s ne w.0 ∙ ap (λ (x : Kind). piece x t s) is in omega arith)
-        | no not_pawn ↦ (j, t, (lr, lt, pawn_steps_to c r t goes, inl (w.1, (not_pawn, ne))), e ∙ ap (λ (n : ℕ). suc n) (left_end c j t s ne w.0 ∙ sym (by_piece c j t s not_pawn)), low)
+        | yes is ↦ absurd (let a : left_of c j t s ≡ 64 = left_end c j t s w.0 ∙ ap (λ (x : Kind). piece x t s) is in omega arith)
+        | no not_pawn ↦ (j, t, (lr, lt, pawn_steps_to c r t goes, inl (w.1, (not_pawn, ne))), e ∙ ap (λ (n : ℕ). suc n) (left_end c j t s w.0 ∙ sym (by_piece c j t s not_pawn)), low)
       ]
     ]
 
@@ -168,12 +128,12 @@ pawn_steady c j i r t s ls free (no ne) d = elim (end_tells c t) [
     | inr h ↦ absurd (h.0 w.1)
     | inl h ↦ elim d [
       | no other ↦ inl (by_other c j i t s h.1.0 other)
-      | yes same ↦ at (subst (λ (x : Kind). distance_of c x i t s ≡ piece x t s) same (by_piece c i t s h.1.0) ∙ sym (left_end c j t s ne w.0))
+      | yes same ↦ at (subst (λ (x : Kind). distance_of c x i t s ≡ piece x t s) same (by_piece c i t s h.1.0) ∙ sym (left_end c j t s w.0))
     ]
   ]
   | inr w ↦ elim free.3 [
     | inl h ↦ absurd (w.1 h.0)
-    | inr h ↦ at (ap (λ (x : Kind). distance_of c j x t s) h.1 ∙ sym (left_on c j t s ne w.0))
+    | inr h ↦ at (ap (λ (x : Kind). distance_of c j x t s) h.1 ∙ sym (left_on c j t s w.0))
   ]
 ]
   where

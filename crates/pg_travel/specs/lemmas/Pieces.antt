@@ -1,5 +1,5 @@
 -- The distances of men other than pawns.
-use Rattle.std.proofs.Common.{◌≡◌, ◌≢◌, ℕ, ◌<◌, ◌≤◌, ◌⊎◌, inl, inr, Option, Some, None, Bool, true, false, ◌&&◌, ◌||◌, not, eqb, leb, refl, sym, ap, subst, arith, ◌∙◌}
+use Rattle.std.proofs.Common.{◌≡◌, ◌≢◌, ℕ, ◌<◌, ◌≤◌, ◌⊎◌, inl, inr, Option, Some, None, true, ◌&&◌, ◌||◌, not, eqb, leb, refl, sym, ap, subst, arith, ◌∙◌}
 use Rattle.std.proofs.lemmas.Bool.Decides.{eqb_tells, nat_tests}
 use Rattle.pg_board.specs.declared.man.Color.{Color}
 use Rattle.pg_board.specs.declared.man.Kind.{Kind}
@@ -8,18 +8,10 @@ use Rattle.pg_board.specs.Squares.{file, rank}
 use Rattle.pg_position.specs.Geometry.{InPattern}
 use Rattle.pg_captures.specs.FreeSteps.{StepsTo, Becomes, FreeStep}
 use Rattle.pg_travel.specs.Walks.{DistanceIs}
-use Rattle.pg_travel.specs.numbers.Formulas.{files, ranks, king, rook, bishop, queen, knight, piece, answer, PieceLaw}
+use Rattle.pg_travel.specs.numbers.Formulas.{files, ranks, piece, answer, PieceLaw}
 use Rattle.pg_travel.specs.lemmas.PairTests.{Fits, fits}
-use Rattle.pg_travel.specs.lemmas.Tables.{knight_to, bishop_to, rook_to, queen_to, king_to, knight_fits, bishop_fits, rook_fits, queen_fits, king_fits}
+use Rattle.pg_travel.specs.lemmas.Tables.{knight_to, bishop_to, rook_to, queen_to, king_to, goes_to, pieces_fit}
 use Rattle.pg_travel.specs.lemmas.WalkLemmas.{Local, distance}
-
-abbrev pub goes_to : Kind → ℕ → ℕ → Bool
-goes_to Pawn r s = false
-goes_to Knight r s = knight_to r s
-goes_to Bishop r s = bishop_to r s
-goes_to Rook r s = rook_to r s
-goes_to Queen r s = queen_to r s
-goes_to King r s = king_to r s
 
 knight_tests : (a b : ℕ) → (((eqb a 1 && eqb b 2) || (eqb a 2 && eqb b 1)) ≡ true → ((a ≡ 1) × (b ≡ 2)) ⊎ ((a ≡ 2) × (b ≡ 1))) × (((a ≡ 1) × (b ≡ 2)) ⊎ ((a ≡ 2) × (b ≡ 1)) → ((eqb a 1 && eqb b 2) || (eqb a 2 && eqb b 1)) ≡ true)
 knight_tests a b = (λ h. grind (arith, nat_tests), λ h. grind (arith, nat_tests))
@@ -36,49 +28,35 @@ queen_tests r s a b c d e f = (λ h. grind (arith, nat_tests), λ h. grind (arit
 king_tests : (r s a b : ℕ) → ((not (eqb r s) && (leb a 1 && leb b 1)) ≡ true → (r ≢ s) × (a ≤ 1) × (b ≤ 1)) × ((r ≢ s) × (a ≤ 1) × (b ≤ 1) → (not (eqb r s) && (leb a 1 && leb b 1)) ≡ true)
 king_tests r s a b = (λ h. grind (arith, nat_tests), λ h. grind (arith, nat_tests))
 
-pattern_of : (c : Color) (k : Kind) (r s : ℕ) → k ≢ Pawn → goes_to k r s ≡ true → InPattern c k r s
+pattern_tests : (c : Color) (k : Kind) (r s : ℕ) → k ≢ Pawn → (goes_to k r s ≡ true → InPattern c k r s) × (InPattern c k r s → goes_to k r s ≡ true)
 unfolding InPattern knight_to bishop_to rook_to queen_to king_to
-pattern_of c Pawn r s ne h = absurd (ne refl)
-pattern_of c Knight r s ne h = (knight_tests (files r s) (ranks r s)).0 h
-pattern_of c Bishop r s ne h = (bishop_tests r s (files r s) (ranks r s)).0 h
-pattern_of c Rook r s ne h = (rook_tests r s (file r) (file s) (rank r) (rank s)).0 h
-pattern_of c Queen r s ne h = (queen_tests r s (file r) (file s) (rank r) (rank s) (files r s) (ranks r s)).0 h
-pattern_of c King r s ne h = (king_tests r s (files r s) (ranks r s)).0 h
-
-test_of : (c : Color) (k : Kind) (r s : ℕ) → k ≢ Pawn → InPattern c k r s → goes_to k r s ≡ true
-unfolding InPattern knight_to bishop_to rook_to queen_to king_to
-test_of c Pawn r s ne h = absurd (ne refl)
-test_of c Knight r s ne h = (knight_tests (files r s) (ranks r s)).1 h
-test_of c Bishop r s ne h = (bishop_tests r s (files r s) (ranks r s)).1 h
-test_of c Rook r s ne h = (rook_tests r s (file r) (file s) (rank r) (rank s)).1 h
-test_of c Queen r s ne h = (queen_tests r s (file r) (file s) (rank r) (rank s) (files r s) (ranks r s)).1 h
-test_of c King r s ne h = (king_tests r s (files r s) (ranks r s)).1 h
+pattern_tests c Pawn r s ne = absurd (ne refl)
+pattern_tests c Knight r s ne = knight_tests (files r s) (ranks r s)
+pattern_tests c Bishop r s ne = bishop_tests r s (files r s) (ranks r s)
+pattern_tests c Rook r s ne = rook_tests r s (file r) (file s) (rank r) (rank s)
+pattern_tests c Queen r s ne = queen_tests r s (file r) (file s) (rank r) (rank s) (files r s) (ranks r s)
+pattern_tests c King r s ne = king_tests r s (files r s) (ranks r s)
 
 pub piece_step : (c : Color) (k : Kind) (r : ℕ) (i : Kind) (t : ℕ) → k ≢ Pawn → FreeStep c k r i t → (i ≡ k) × (goes_to k r t ≡ true)
 unfolding StepsTo Becomes
 piece_step c Pawn r i t ne f = absurd (ne refl)
-piece_step c Knight r i t ne f = (f.3, test_of c Knight r t ne f.2)
-piece_step c Bishop r i t ne f = (f.3, test_of c Bishop r t ne f.2)
-piece_step c Rook r i t ne f = (f.3, test_of c Rook r t ne f.2)
-piece_step c Queen r i t ne f = (f.3, test_of c Queen r t ne f.2)
-piece_step c King r i t ne f = (f.3, test_of c King r t ne f.2)
+piece_step c Knight r i t ne f = (f.3, (pattern_tests c Knight r t ne).1 f.2)
+piece_step c Bishop r i t ne f = (f.3, (pattern_tests c Bishop r t ne).1 f.2)
+piece_step c Rook r i t ne f = (f.3, (pattern_tests c Rook r t ne).1 f.2)
+piece_step c Queen r i t ne f = (f.3, (pattern_tests c Queen r t ne).1 f.2)
+piece_step c King r i t ne f = (f.3, (pattern_tests c King r t ne).1 f.2)
 
 pub piece_free : (c : Color) (k : Kind) (r t : ℕ) → k ≢ Pawn → r < 64 → t < 64 → goes_to k r t ≡ true → FreeStep c k r k t
 unfolding StepsTo Becomes
 piece_free c Pawn r t ne lr lt h = absurd (ne refl)
-piece_free c Knight r t ne lr lt h = (lr, lt, pattern_of c Knight r t ne h, refl)
-piece_free c Bishop r t ne lr lt h = (lr, lt, pattern_of c Bishop r t ne h, refl)
-piece_free c Rook r t ne lr lt h = (lr, lt, pattern_of c Rook r t ne h, refl)
-piece_free c Queen r t ne lr lt h = (lr, lt, pattern_of c Queen r t ne h, refl)
-piece_free c King r t ne lr lt h = (lr, lt, pattern_of c King r t ne h, refl)
+piece_free c Knight r t ne lr lt h = (lr, lt, (pattern_tests c Knight r t ne).0 h, refl)
+piece_free c Bishop r t ne lr lt h = (lr, lt, (pattern_tests c Bishop r t ne).0 h, refl)
+piece_free c Rook r t ne lr lt h = (lr, lt, (pattern_tests c Rook r t ne).0 h, refl)
+piece_free c Queen r t ne lr lt h = (lr, lt, (pattern_tests c Queen r t ne).0 h, refl)
+piece_free c King r t ne lr lt h = (lr, lt, (pattern_tests c King r t ne).0 h, refl)
 
 pub piece_fits : (k : Kind) → k ≢ Pawn → Fits true (goes_to k) (piece k) (piece k)
-piece_fits Pawn ne = absurd (ne refl)
-piece_fits Knight ne = fits true knight_to knight knight knight_fits
-piece_fits Bishop ne = fits true bishop_to bishop bishop bishop_fits
-piece_fits Rook ne = fits true rook_to rook rook rook_fits
-piece_fits Queen ne = fits true queen_to queen queen queen_fits
-piece_fits King ne = fits true king_to king king king_fits
+piece_fits k ne = fits true (goes_to k) (piece k) (piece k) (pieces_fit k ne)
 
 piece_local : (c : Color) (k : Kind) → k ≢ Pawn → Local c k (λ i. i ≡ k) (λ i. piece k)
 piece_local c k ne =

@@ -1,58 +1,29 @@
 -- The law of travel prices: where they exclude, no game of so many plies ends on the diagram.
-use Rattle.std.proofs.Common.{◌≡◌, ℕ, zero, suc, ◌+◌, ◌<◌, ◌≤◌, Bool, true, false, cond, Option, Some, None, refl, sym, ap, subst, arith, ◌∙◌, List, [], ◌∷◌, ◌++◌, ◌&&◌, length}
+use Rattle.std.proofs.Common.{◌≡◌, ℕ, ◌+◌, ◌<◌, ◌≤◌, Bool, true, false, cond, Option, Some, None, ap, subst, arith, ◌∙◌, List, [], ◌∷◌, ◌++◌, length}
 use Rattle.std.specs.Prelude.{sum}
 use Rattle.std.specs.List.{AllZip}
 use Rattle.pg_board.specs.declared.man.Color.{Color}
 use Rattle.pg_board.specs.declared.man.Kind.{Kind}
-use Rattle.pg_board.specs.declared.man.Man.{Man}
-use Rattle.pg_board.specs.Men.{man, color_eq, passes, color_decides}
-use Rattle.pg_board.specs.Tally.{total, total-le}
-use Rattle.pg_board.specs.Placement.{Placement, get}
+use Rattle.pg_board.specs.Tally.{total}
+use Rattle.pg_board.specs.Placement.{Placement}
 use Rattle.pg_position.specs.declared.rights.Wing.{Wing}
 use Rattle.pg_position.specs.declared.rights.Wing.TheVariants.{KingSide, QueenSide}
 use Rattle.pg_position.specs.declared.state.State.{State}
 use Rattle.pg_position.specs.Position.{Stands, holds, IsPosition}
 use Rattle.pg_position.specs.Game.{Barren}
-use Rattle.pg_captures.specs.Counting.{of_color, any_man}
+use Rattle.pg_captures.specs.Counting.{any_man, sum_over, on, is_there}
 use Rattle.pg_captures.specs.Owed.{plies_left}
-use Rattle.pg_travel.specs.Origins.{IsWayOf, charge, sum_to, Origins}
+use Rattle.pg_travel.specs.Origins.{IsWayOf, charge, Origins}
 use Rattle.pg_travel.specs.Needs.{TakesDistances}
+use Rattle.pg_travel.specs.lemmas.SumLemmas.{there_man, man_there}
 use Rattle.pg_travel.specs.lemmas.NeedLemmas.{distances_of_game}
-use Rattle.pg_captures.specs.lemmas.Duality.{on, Sends, weak_duality}
+use Rattle.pg_captures.specs.lemmas.Duality.{Sends, weak_duality}
 use Rattle.pg_captures.specs.PriceLists.{PriceList, price}
-use Rattle.pg_captures.specs.lemmas.PriceSums.{is_there, sum_of_prices}
+use Rattle.pg_captures.specs.lemmas.PriceSums.{sum_of_prices}
 use Rattle.pg_travel.specs.TravelPrices.{ways_of, TravelPricesFit, WayPricesExclude, TravelPricesExclude}
 
-left : (a b : Bool) → (a && b) ≡ true → a ≡ true
-left true b h = refl
-left false b h = h
-
--- a man of c stands where the test says so
-there_man : (c : Color) (b : Placement) (s : ℕ) → is_there c any_man b s ≡ true → (j : Kind) × Stands b c j s
-there_man c b s h = go (get b s) refl
-  where
-    go : (o : Option Man) → get b s ≡ o → (j : Kind) × Stands b c j s
-    go None e = absurd (let a : is_there c any_man b s ≡ false = ap (passes (of_color c any_man s)) e in cc)
-    go (Some m) e =
-        (let a : is_there c any_man b s ≡ (color_eq m.color c && true) = ap (passes (of_color c any_man s)) e in
-        let t : color_eq m.color c ≡ true = left (color_eq m.color c) true (sym a ∙ h) in
-        let d : m.color ≡ c = (color_decides m.color c).0 t in
-        (m.kind, e ∙ ap (λ (x : Color). Some (man x m.kind)) d))
-
-sum_to_total : (f : ℕ → ℕ) (n : ℕ) → sum_to f n ≡ total f n
-unfolding sum_to total
-sum_to_total f zero = refl
-sum_to_total f (suc n) = let e : sum_to f n ≡ total f n = sum_to_total f n in omega arith
-
-on_at_most : (p : ℕ → Bool) (f : ℕ → ℕ) (n : ℕ) → total (on p f) n ≤ total f n
-on_at_most p f n = total-le (on p f) f n (λ t l. go (p t) (f t))
-  where
-    go : (b : Bool) (x : ℕ) → cond b x 0 ≤ x
-    go true x = omega arith
-    go false x = omega arith
-
 -- an origin map whose walks are shortest pays at least the value of a list that fits
-paid : (p : State) (d : Placement) (c : Color) (way : Option Wing) (l : PriceList) (k : ℕ) (o : Origins p d c way) → TakesDistances p d c way o → WayPricesExclude d p k c way l → charge way + sum_to o.plies 64 ≤ plies_left p.side c k → ⊥
+paid : (p : State) (d : Placement) (c : Color) (way : Option Wing) (l : PriceList) (k : ℕ) (o : Origins d p c way) → TakesDistances d p c way o → WayPricesExclude d p k c way l → charge way + sum_over c any_man d o.plies ≤ plies_left p.side c k → ⊥
 unfolding WayPricesExclude TravelPricesFit
 paid p d c way l k o least excl bound =
     let us : ℕ → ℕ = price l.u c any_man p.board in
@@ -69,18 +40,13 @@ paid p d c way l k o least excl bound =
     weak_duality (on (is_there c any_man p.board) (price l.u c any_man p.board)) (price l.v c any_man d) o.plies (is_there c any_man d) o.from 64 64 sends fits in
     let a : total (on (is_there c any_man p.board) (price l.u c any_man p.board)) 64 ≡ sum l.u = sum_of_prices l.u c any_man p.board excl.0.0 in
     let b : total (on (is_there c any_man d) (price l.v c any_man d)) 64 ≡ sum l.v = sum_of_prices l.v c any_man d excl.0.1 in
-    let e : total (on (is_there c any_man d) o.plies) 64 ≤ total o.plies 64 = on_at_most (is_there c any_man d) o.plies 64 in
-    let f : sum_to o.plies 64 ≡ total o.plies 64 = sum_to_total o.plies 64 in
     let above : plies_left p.side c k + sum l.u < sum l.v + charge way = excl.2 in
     omega arith
   where
-    here : (c : Color) (b : Placement) (j : Kind) (s : ℕ) → Stands b c j s → is_there c any_man b s ≡ true
-    here c b j s h = ap (passes (of_color c any_man s)) h ∙ ap (λ (x : Bool). x && true) ((color_decides c c).1 refl)
-
     fit : (t : ℕ) → t < 64 → (j : Kind) × Stands d c j t → price l.v c any_man d t ≤ on (is_there c any_man p.board) (price l.u c any_man p.board) (o.from t) + o.plies t
     fit t low (j, h) =
         let a : price l.v c any_man d t ≤ price l.u c any_man p.board (o.from t) + o.plies t = excl.1 (o.kind t) j (o.from t) t (o.plies t) (o.low j t low h) low (o.stood j t low h) h (least j t low h) in
-        let e : on (is_there c any_man p.board) (price l.u c any_man p.board) (o.from t) ≡ price l.u c any_man p.board (o.from t) = ap (λ (x : Bool). cond x (price l.u c any_man p.board (o.from t)) 0) (here c p.board (o.kind t) (o.from t) (o.stood j t low h)) in
+        let e : on (is_there c any_man p.board) (price l.u c any_man p.board) (o.from t) ≡ price l.u c any_man p.board (o.from t) = ap (λ (x : Bool). cond x (price l.u c any_man p.board (o.from t)) 0) (man_there c p.board (o.kind t) (o.from t) (o.stood j t low h)) in
         omega arith
 
 -- each way has its list
@@ -116,9 +82,9 @@ TravelPricesLaw = (d : Placement) (p : State) (k : ℕ) (c : Color) (lists : Lis
 pub travel_prices_barren : TravelPricesLaw
 unfolding Barren TravelPricesExclude
 travel_prices_barren d p k c lists pos excl ms q len game same =
-    let found : (way : Option Wing) × IsWayOf p c way × ((o : Origins p d c way) × TakesDistances p d c way o × (charge way + sum_to o.plies 64 ≤ plies_left p.side c k)) =
-    subst (λ (n : ℕ). (way : Option Wing) × IsWayOf p c way × ((o : Origins p d c way) × TakesDistances p d c way o × (charge way + sum_to o.plies 64 ≤ plies_left p.side c n))) len
-    (subst (λ (x : Placement). (way : Option Wing) × IsWayOf p c way × ((o : Origins p x c way) × TakesDistances p x c way o × (charge way + sum_to o.plies 64 ≤ plies_left p.side c (length ms)))) same
+    let found : (way : Option Wing) × IsWayOf p c way × ((o : Origins d p c way) × TakesDistances d p c way o × (charge way + sum_over c any_man d o.plies ≤ plies_left p.side c k)) =
+    subst (λ (n : ℕ). (way : Option Wing) × IsWayOf p c way × ((o : Origins d p c way) × TakesDistances d p c way o × (charge way + sum_over c any_man d o.plies ≤ plies_left p.side c n))) len
+    (subst (λ (x : Placement). (way : Option Wing) × IsWayOf p c way × ((o : Origins x p c way) × TakesDistances x p c way o × (charge way + sum_over c any_man x o.plies ≤ plies_left p.side c (length ms)))) same
     (distances_of_game p ms q c pos game)) in
     let l : (l : PriceList) × WayPricesExclude d p k c found.0 l = list_of (λ way l. WayPricesExclude d p k c way l) p c lists excl found.0 found.1 in
     paid p d c found.0 l.0 k found.2.0 found.2.1 l.1 found.2.2

@@ -1,5 +1,5 @@
 -- The number is the value of the way.
-use Rattle.std.proofs.Common.{◌≡◌, ◌≢◌, ℕ, zero, suc, ◌<◌, ◌≤◌, ◌⊎◌, inl, inr, Option, Some, None, cond, Bool, true, false, refl, sym, ap, subst, arith, ◌∙◌}
+use Rattle.std.proofs.Common.{◌≡◌, ◌≢◌, ℕ, zero, suc, ◌+◌, ◌<◌, ◌≤◌, ◌⊎◌, inl, inr, Option, Some, None, cond, Bool, true, false, refl, sym, ap, subst, arith, ◌∙◌}
 use Rattle.std.proofs.lemmas.Bool.Decides.{eqb_tells, leb_tells}
 use Rattle.pg_board.specs.declared.man.Color.{Color}
 use Rattle.pg_board.specs.declared.man.Color.TheVariants.{White, Black}
@@ -7,13 +7,17 @@ use Rattle.pg_board.specs.declared.man.Kind.{Kind}
 use Rattle.pg_position.specs.declared.rights.Wing.{Wing}
 use Rattle.pg_position.specs.declared.rights.Wing.TheVariants.{KingSide, QueenSide}
 use Rattle.pg_board.specs.declared.man.Man.{Man}
-use Rattle.pg_board.specs.Placement.{Placement, get, get_on}
+use Rattle.pg_board.specs.Placement.{Placement, get}
+use Rattle.pg_board.specs.lemmas.Placements.{get_on}
 use Rattle.pg_position.specs.declared.state.State.{State}
 use Rattle.pg_board.specs.Men.{man, color_eq}
-use Rattle.pg_position.specs.Position.{Stands, king_home, rook_home}
-use Rattle.pg_position.specs.Step.{king_crossed, king_target}
+use Rattle.pg_board.specs.lemmas.Equalities.{color_decides}
+use Rattle.pg_position.specs.Position.{Stands}
+use Rattle.pg_position.specs.Squares.{king_home, rook_home, king_crossed, king_target}
 use Rattle.pg_travel.specs.Walks.{Walk, IsLeast}
-use Rattle.pg_travel.specs.Origins.{counted, HasNone}
+use Rattle.pg_travel.specs.Origins.{charge, counted}
+use Rattle.pg_captures.specs.Counting.{any_man, is_there}
+use Rattle.pg_travel.specs.lemmas.SumLemmas.{man_there, over_all}
 use Rattle.pg_travel.specs.Needs.{Comes, IsValue}
 use Rattle.pg_travel.specs.numbers.Formulas.{least_of, distance_of}
 use Rattle.pg_travel.specs.numbers.Costs.{reach_of, nearest, cost_of, cost, SumLaw}
@@ -34,16 +38,6 @@ least_reached f (suc n) = elim (leb_tells (least_of f n) (f n)) [
   | inl w ↦ elim (least_reached f n) [ inl e ↦ inl (let a : least_of f n ≤ f n = w.1 in omega arith) | inr g ↦ inr (g.0, (let low : g.0 < n = g.1 in omega arith), (let a : least_of f n ≤ f n = w.1 in let e : least_of f n ≡ f g.0 = g.2 in omega arith)) ]
   | inr w ↦ inr (n, omega arith, (let a : f n < least_of f n = w.1 in omega arith))
 ]
-
-color_eq_is : (c d : Color) → color_eq c d ≡ true → c ≡ d
-color_eq_is White White h = refl
-color_eq_is Black Black h = refl
-color_eq_is White Black h = cc
-color_eq_is Black White h = cc
-
-color_eq_refl : (c : Color) → color_eq c c ≡ true
-color_eq_refl White = refl
-color_eq_refl Black = refl
 
 pub counted_low : (c : Color) (way : Option Wing) (o : ℕ) → o < 64 → counted c way o < 64
 counted_low c None o low = low
@@ -68,7 +62,7 @@ counted_low c (Some w) o low = elim (eqb_tells o (king_home c)) [
 reach_bound : (b : Placement) (c : Color) (way : Option Wing) (j : Kind) (t o : ℕ) (k : Kind) (n : ℕ) → o < 64 → t < 64 → Stands b c k o → Walk c k (counted c way o) n j t → (reach_of c way j t o (get b o) ≤ n) × (reach_of c way j t o (get b o) < 64)
 reach_bound b c way j t o k n lo lt h w =
     let d : (distance_of c j k (counted c way o) t ≤ n) × (distance_of c j k (counted c way o) t < 64) = walk_bounds c k (counted c way o) j t n (counted_low c way o lo) lt w in
-    let e : reach_of c way j t o (get b o) ≡ distance_of c j k (counted c way o) t = ap (reach_of c way j t o) h ∙ ap (λ (x : Bool). cond x (distance_of c j k (counted c way o) t) 64) (color_eq_refl c) in
+    let e : reach_of c way j t o (get b o) ≡ distance_of c j k (counted c way o) t = ap (reach_of c way j t o) h ∙ ap (λ (x : Bool). cond x (distance_of c j k (counted c way o) t) 64) ((color_decides c c).1 refl) in
     (omega arith, omega arith)
 
 reach_walk : (c : Color) (way : Option Wing) (j : Kind) (t o : ℕ) (m : Option Man) → o < 64 → t < 64 → reach_of c way j t o m ≢ 64 → (k : Kind) × (m ≡ Some (man c k)) × Walk c k (counted c way o) (reach_of c way j t o m) j t
@@ -79,7 +73,7 @@ reach_walk c way j t o (Some m) lo lt ne = go (color_eq c m.color) refl
     go false e = absurd (ne (ap (λ (x : Bool). cond x (distance_of m.color j m.kind (counted c way o) t) 64) e))
     go true e =
         (let f : reach_of c way j t o (Some m) ≡ distance_of m.color j m.kind (counted c way o) t = ap (λ (x : Bool). cond x (distance_of m.color j m.kind (counted c way o) t) 64) e in
-        let g : c ≡ m.color = color_eq_is c m.color e in
+        let g : c ≡ m.color = (color_decides c m.color).0 e in
         let h : distance_of m.color j m.kind (counted c way o) t ≢ 64 = λ z. ne (f ∙ z) in
         let w : Walk m.color m.kind (counted c way o) (distance_of m.color j m.kind (counted c way o) t) j t = (some_by_steps m.color m.kind (counted c way o) j t (distance_of m.color j m.kind (counted c way o) t) (counted_low c way o lo) lt refl h).0 in
         let w' : Walk m.color m.kind (counted c way o) (reach_of c way j t o (Some m)) j t = subst (λ (n : ℕ). Walk m.color m.kind (counted c way o) n j t) (sym f) w in
@@ -107,7 +101,7 @@ nearest_comes p c way j t lt ne = elim (least_reached (λ x. reach_of c way j t 
 
 pub cost_man : (b d : Placement) (c : Color) (way : Option Wing) (j : Kind) (t : ℕ) → Stands d c j t → cost b d c way t ≡ nearest b c way j t
 unfolding cost
-cost_man b d c way j t h = ap (cost_of b c way t) h ∙ ap (λ (x : Bool). cond x (nearest b c way j t) 0) (color_eq_refl c)
+cost_man b d c way j t h = ap (cost_of b c way t) h ∙ ap (λ (x : Bool). cond x (nearest b c way j t) 0) ((color_decides c c).1 refl)
 
 cost_cases : (b : Placement) (c : Color) (way : Option Wing) (t : ℕ) (m : Option Man) → (cost_of b c way t m ≡ 0) ⊎ ((j : Kind) × (m ≡ Some (man c j)))
 cost_cases b c way t None = inl refl
@@ -115,13 +109,16 @@ cost_cases b c way t (Some m) = go (color_eq c m.color) refl
   where
     go : (x : Bool) → color_eq c m.color ≡ x → (cost_of b c way t (Some m) ≡ 0) ⊎ ((j : Kind) × (Some m ≡ Some (man c j)))
     go false e = inl (ap (λ (x : Bool). cond x (nearest b c way m.kind t) 0) e)
-    go true e = inr (m.kind, ap (λ (x : Color). Some (man x m.kind)) (sym (color_eq_is c m.color e)))
+    go true e = inr (m.kind, ap (λ (x : Color). Some (man x m.kind)) (sym ((color_decides c m.color).0 e)))
 
-cost_idle : (b d : Placement) (c : Color) (way : Option Wing) (t : ℕ) → HasNone d c t → cost b d c way t ≡ 0
+cost_idle : (b d : Placement) (c : Color) (way : Option Wing) (t : ℕ) → is_there c any_man d t ≡ false → cost b d c way t ≡ 0
 unfolding cost
-cost_idle b d c way t none = elim (cost_cases b c way t (get d t)) [ inl e ↦ e | inr h ↦ absurd (none h.0 h.1) ]
+cost_idle b d c way t none = elim (cost_cases b c way t (get d t)) [
+  | inl e ↦ e
+  | inr h ↦ (let there : is_there c any_man d t ≡ true = man_there c d h.0 t h.1 in cc)
+]
 
-cost_none : (p : State) (d : Placement) (c : Color) (way : Option Wing) (t v : ℕ) → t < 64 → cost p.board d c way t ≡ 64 → ¬ IsValue p d c way v
+cost_none : (p : State) (d : Placement) (c : Color) (way : Option Wing) (t v : ℕ) → t < 64 → cost p.board d c way t ≡ 64 → ¬ IsValue d p c way v
 unfolding cost
 cost_none p d c way t v lt e value = elim (cost_cases p.board c way t (get d t)) [
   | inl z ↦ omega arith
@@ -139,7 +136,7 @@ cost_least p d c way j t lt h low =
 
 pub sum_is_value : SumLaw
 sum_is_value p d c way None (t, lt, e) = λ v. cost_none p d c way t v lt e
-sum_is_value p d c way (Some v) (low, e) = (cost p.board d c way, (λ j t lt h. cost_least p d c way j t lt h (low t lt)), (λ t lt none. cost_idle p.board d c way t none), e)
+sum_is_value p d c way (Some v) (low, e) = (cost p.board d c way, (λ j t lt h. cost_least p d c way j t lt h (low t lt)), e ∙ ap (λ (n : ℕ). charge way + n) (sym (over_all c d (cost p.board d c way) (λ t lt none. cost_idle p.board d c way t none))))
 
 -- a man of the diagram that stands where it is to be costs nothing
 nearest_home : (b : Placement) (c : Color) (way : Option Wing) (k : Kind) (t : ℕ) → t < 64 → Stands b c k t → counted c way t ≡ t → nearest b c way k t ≡ 0
@@ -152,6 +149,6 @@ nearest_home b c way k t lt h e =
 pub cost_home : (b d : Placement) (c : Color) (way : Option Wing) (t : ℕ) (m : Man) → get d t ≡ Some m → get b t ≡ Some m → color_eq c m.color ≡ true → counted c way t ≡ t → 0 ≡ cost b d c way t
 cost_home b d c way t m e f g h =
     let lt : t < 64 = get_on d t m e in
-    let same : c ≡ m.color = color_eq_is c m.color g in
+    let same : c ≡ m.color = (color_decides c m.color).0 g in
     let own : Some m ≡ Some (man c m.kind) = ap (λ (x : Color). Some (man x m.kind)) (sym same) in
     sym (cost_man b d c way m.kind t (e ∙ own) ∙ nearest_home b c way m.kind t lt (f ∙ own) h)

@@ -7,7 +7,8 @@ use Rattle.pg_board.specs.declared.man.Man.{Man}
 use Rattle.pg_board.specs.Men.{color_eq, is_man}
 use Rattle.pg_board.specs.Placement.{Placement, get}
 use Rattle.pg_position.specs.declared.state.State.{State}
-use Rattle.pg_travel.specs.Origins.{IsWayOf, counted, charge, sum_to}
+use Rattle.pg_travel.specs.Origins.{IsWayOf, counted, charge}
+use Rattle.pg_board.specs.Tally.{total}
 use Rattle.pg_travel.specs.numbers.Formulas.{least_of, distance_of}
 use Rattle.pg_travel.specs.Needs.{IsValue}
 
@@ -40,21 +41,21 @@ cost_of b c way t (Some m) = cond (color_eq c m.color) (nearest b c way m.kind t
 unfoldable pub cost : Placement → Placement → Color → Option Wing → ℕ → ℕ
 cost b d c way t = cost_of b c way t (get d t)
 
-abbrev pub ValueIs : State → Placement → Color → Option Wing → Option ℕ → Type 0
-ValueIs p d c way None = (v : ℕ) → ¬ IsValue p d c way v
-ValueIs p d c way (Some v) = IsValue p d c way v
+abbrev pub ValueIs : Placement → State → Color → Option Wing → Option ℕ → Type 0
+ValueIs d p c way None = (v : ℕ) → ¬ IsValue d p c way v
+ValueIs d p c way (Some v) = IsValue d p c way v
 
 abbrev pub SumIs : Placement → Placement → Color → Option Wing → Option ℕ → Type 0
 SumIs b d c way None = (t : ℕ) × (t < 64) × (cost b d c way t ≡ 64)
-SumIs b d c way (Some v) = ((t : ℕ) → t < 64 → cost b d c way t < 64) × (v ≡ charge way + sum_to (cost b d c way) 64)
+SumIs b d c way (Some v) = ((t : ℕ) → t < 64 → cost b d c way t < 64) × (v ≡ charge way + total (cost b d c way) 64)
 
 abbrev pub SumLaw : Type 0
-SumLaw = (p : State) (d : Placement) (c : Color) (way : Option Wing) (o : Option ℕ) → SumIs p.board d c way o → ValueIs p d c way o
+SumLaw = (p : State) (d : Placement) (c : Color) (way : Option Wing) (o : Option ℕ) → SumIs p.board d c way o → ValueIs d p c way o
 
 -- the value of a way of c in p, if it is one
-abbrev pub HeldIs : State → Placement → Color → Option Wing → Option ℕ → Type 0
-HeldIs p d c way None = (v : ℕ) → IsWayOf p c way → ¬ IsValue p d c way v
-HeldIs p d c way (Some v) = IsWayOf p c way × IsValue p d c way v
+abbrev pub HeldIs : Placement → State → Color → Option Wing → Option ℕ → Type 0
+HeldIs d p c way None = (v : ℕ) → IsWayOf p c way → ¬ IsValue d p c way v
+HeldIs d p c way (Some v) = IsWayOf p c way × IsValue d p c way v
 
 abbrev pub lesser : Option ℕ → Option ℕ → Option ℕ
 lesser None b = b

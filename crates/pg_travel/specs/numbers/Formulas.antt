@@ -1,5 +1,5 @@
 -- Distances as formulas on numbers. 64 is none.
-use Rattle.std.specs.Prelude.{◌≢◌, ℕ, zero, suc, ◌+◌, ◌-◌, ◌*◌, ◌/◌, ◌%◌, ◌<◌, Bool, true, false, cond, ◌&&◌, ◌||◌, min, max, eqb, leb, Option, Some, None}
+use Rattle.std.specs.Prelude.{◌≢◌, ℕ, zero, suc, ◌+◌, ◌-◌, ◌*◌, ◌/◌, ◌%◌, ◌<◌, Bool, cond, ◌&&◌, ◌||◌, not, min, max, eqb, leb, Option, Some, None}
 use Rattle.pg_board.specs.declared.man.Color.{Color}
 use Rattle.pg_board.specs.declared.man.Color.TheVariants.{White, Black}
 use Rattle.pg_board.specs.declared.man.Kind.{Kind}
@@ -98,12 +98,7 @@ from_pawn c King r s = 64
 
 -- whether a pawn can become of the kind
 abbrev pub is_promoted : Kind → Bool
-is_promoted Pawn = false
-is_promoted Knight = true
-is_promoted Bishop = true
-is_promoted Rook = true
-is_promoted Queen = true
-is_promoted King = false
+is_promoted k = not (kind_eq k Pawn || kind_eq k King)
 
 -- the steps that kind k on r needs at least to be of kind j on s: a pawn's to the last rank where j is promoted to, else one where r is not s
 abbrev pub least_steps : Color → Kind → Kind → ℕ → ℕ → ℕ

@@ -1,16 +1,20 @@
 -- What the tests of price lists say, from a pair of men to all.
-use Rattle.std.specs.Prelude.{◌≡◌, ℕ, ◌+◌, ◌<◌, ◌≤◌, ◌⊎◌, Option, Some, List, length, get_or}
+use Rattle.std.specs.Prelude.{◌≡◌, ℕ, ◌+◌, ◌<◌, ◌≤◌, ◌⊎◌, Option, Some, None, List, length, get_or}
 use Rattle.pg_board.specs.declared.man.Color.{Color}
 use Rattle.pg_board.specs.declared.man.Kind.{Kind}
 use Rattle.pg_board.specs.declared.man.Man.{Man}
 use Rattle.pg_board.specs.Men.{man}
 use Rattle.pg_board.specs.Placement.{Placement, get}
 use Rattle.pg_position.specs.declared.rights.Wing.{Wing}
+use Rattle.pg_position.specs.declared.rights.Wing.TheVariants.{KingSide, QueenSide}
+use Rattle.pg_position.specs.declared.state.State.{State}
 use Rattle.pg_position.specs.Position.{Stands}
 use Rattle.pg_captures.specs.Counting.{any_man}
-use Rattle.pg_captures.specs.PriceLists.{price}
+use Rattle.pg_captures.specs.PriceLists.{PriceList, price}
 use Rattle.pg_travel.specs.Walks.{IsDistance}
 use Rattle.pg_travel.specs.Origins.{counted}
+use Rattle.pg_travel.specs.PriceRecords.{list_at}
+use Rattle.pg_travel.specs.TravelPrices.{WayPricesExclude}
 
 -- the kind j on t pays v: no more than u and the distance of m from r
 unfoldable pub PairFits : Man → ℕ → ℕ → Kind → ℕ → ℕ → Type 0
@@ -51,3 +55,19 @@ TargetFits b d c way ys v = (t : ℕ) → t < 64 → StoodFits b c way ys (get d
 -- every target fits every source
 unfoldable pub AllFit : Placement → Placement → Color → Option Wing → List ℕ → List ℕ → Type 0
 AllFit b d c way u v = (j k : Kind) (s t : ℕ) → s < 64 → t < 64 → Stands b c k s → Stands d c j t → PairFits (man c k) (counted c way s) (price u c any_man b s) j t (price v c any_man d t)
+
+-- ---- one list for each way
+-- there is one list, and it excludes the way without castling
+abbrev pub OneExcludes : Placement → State → ℕ → Color → List PriceList → Type 0
+OneExcludes d p k c lists = (length lists ≡ 1) × WayPricesExclude d p k c None (list_at lists 0)
+
+-- there are two lists, and they exclude the way without castling and that with it
+abbrev pub TwoExclude : Placement → State → ℕ → Color → Wing → List PriceList → Type 0
+TwoExclude d p k c wing lists =
+    (length lists ≡ 2) × WayPricesExclude d p k c None (list_at lists 0) × WayPricesExclude d p k c (Some wing) (list_at lists 1)
+
+-- there are three lists, and they exclude the way without castling and both with it
+abbrev pub ThreeExclude : Placement → State → ℕ → Color → List PriceList → Type 0
+ThreeExclude d p k c lists =
+    (length lists ≡ 3) × WayPricesExclude d p k c None (list_at lists 0)
+    × WayPricesExclude d p k c (Some KingSide) (list_at lists 1) × WayPricesExclude d p k c (Some QueenSide) (list_at lists 2)

@@ -3,7 +3,7 @@ use Rattle.std.proofs.Common.{◌≡◌, ℕ, zero, suc, ◌<◌, ◌≤◌, Lis
 use Rattle.std.proofs.lemmas.List.{length-take-le}
 use Rattle.pg_travel.specs.declared.prices.Row.{Row}
 use Rattle.pg_captures.specs.PriceLists.{PriceList, list_of}
-use Rattle.pg_travel.specs.PriceRecords.{sources, targets}
+use Rattle.pg_travel.specs.PriceRecords.{sources, targets, list_at}
 
 abbrev pub row_list : ℕ → ℕ → Row → PriceList
 row_list a b r = list_of (take a r.u) (take b r.v)
@@ -18,6 +18,12 @@ padded xs = xs ++ drop (length xs) (replicate 64 0)
 -- the row of a list
 abbrev pub row_of : PriceList → Row
 row_of l = record { u = padded l.u; v = padded l.v }
+
+-- one to three rows of 64 numbers, the lists of which have at most 64; behind a list, and where there is none, stand zeros
+abbrev pub AreRows : ℕ → ℕ → ℕ → Row → Row → Row → Type 0
+AreRows ways a b x y z =
+    (0 < ways) × (ways ≤ 3) × (a ≤ 64) × (b ≤ 64) × (length x.u ≡ 64) × (length x.v ≡ 64)
+    × (x ≡ row_of (list_at (rows ways a b x y z) 0)) × (y ≡ row_of (list_at (rows ways a b x y z) 1)) × (z ≡ row_of (list_at (rows ways a b x y z) 2))
 
 -- the lists that rows are
 pub sources_of : (n a b : ℕ) (x y z : Row) → 0 < n → a ≤ 64 → length x.u ≡ 64 → sources (rows n a b x y z) ≡ a

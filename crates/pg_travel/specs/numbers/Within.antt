@@ -29,10 +29,10 @@ IsAbove limit (Some v) = limit < v
 
 -- the way has a value that is paid for, or what value it has is above the limit
 abbrev pub PaysIs : State → Placement → Color → Option Wing → ℕ → Bool → Type 0
-PaysIs p d c way limit true = (v : ℕ) × IsValue p d c way v × (v ≤ limit)
-PaysIs p d c way limit false = (o : Option ℕ) × ValueIs p d c way o × IsAbove limit o
+PaysIs p d c way limit true = (v : ℕ) × IsValue d p c way v × (v ≤ limit)
+PaysIs p d c way limit false = (o : Option ℕ) × ValueIs d p c way o × IsAbove limit o
 
 -- the same of castling by a right
 abbrev pub CastledIs : State → Placement → Color → Wing → ℕ → Bool → Type 0
-CastledIs p d c w limit true = (v : ℕ) × IsWayOf p c (Some w) × IsValue p d c (Some w) v × (v ≤ limit)
-CastledIs p d c w limit false = (o : Option ℕ) × HeldIs p d c (Some w) o × IsAbove limit o
+CastledIs p d c w limit true = (v : ℕ) × IsWayOf p c (Some w) × IsValue d p c (Some w) v × (v ≤ limit)
+CastledIs p d c w limit false = (o : Option ℕ) × HeldIs d p c (Some w) o × IsAbove limit o

@@ -1,6 +1,5 @@
-use Rattle.std.proofs.Common.{arith}
 use Rattle.pg_captures.proofs.TallyLemmas.{all_men_set}
 use Rattle.pg_captures.proofs.counts.all_men.Goals as goal
 
 pub returns-clause-value : goal.returns-clause-value
-returns-clause-value c = all_men_set _ _ _ (omega arith) c.squares_of_color.ensures
+returns-clause-value c = all_men_set _ _ _ _ c.len.ensures.squares c.squares_of_color.ensures

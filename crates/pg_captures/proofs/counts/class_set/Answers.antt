@@ -19,10 +19,10 @@ returns-in-Knights c q l = kind_set _ _ _ _ Knights Knight c.man-in-Knights.ensu
 
 pub returns-in-LightBishops : goal.returns-in-LightBishops
 returns-in-LightBishops c q l =
-    masked_set _ _ (in_class LightBishops) Bishop _ _ _ is_light c.man-in-LightBishops.ensures light_like c.squares_of-in-LightBishops.ensures light_at q l
+    masked_set _ _ (in_class LightBishops) Bishop _ _ _ _ is_light c.man-in-LightBishops.ensures light_like c.squares_of-in-LightBishops.ensures (light_at _ c.of_bits.ensures) c.bitand.ensures.members q l
     ∙ ap (λ x. passes (of_color c.args.color (in_class x) q) (get c.args.board.now q)) (sym c.in-LightBishops.is)
 
 pub returns-in-DarkBishops : goal.returns-in-DarkBishops
 returns-in-DarkBishops c q l =
-    masked_set _ _ (in_class DarkBishops) Bishop _ _ _ is_dark c.man-in-DarkBishops.ensures dark_like c.squares_of-in-DarkBishops.ensures dark_at q l
+    masked_set _ _ (in_class DarkBishops) Bishop _ _ _ _ is_dark c.man-in-DarkBishops.ensures dark_like c.squares_of-in-DarkBishops.ensures (dark_at _ c.of_bits-in-DarkBishops.ensures) c.bitand-in-DarkBishops.ensures.members q l
     ∙ ap (λ x. passes (of_color c.args.color (in_class x) q) (get c.args.board.now q)) (sym c.in-DarkBishops.is)

@@ -1,5 +1,6 @@
 use Rattle.std.proofs.Common.{◌≤◌, ap, ◌∙◌, subst, sym, ℕ}
-use Rattle.pg_board.specs.Placement.{count_of, tally-le}
+use Rattle.pg_board.specs.Tally.{count_of}
+use Rattle.pg_board.specs.lemmas.Tallies.{tally-le}
 use Rattle.pg_captures.proofs.TallyLemmas.{pawns_counted}
 use Rattle.pg_captures.proofs.counts.pawns.Goals as goal
 

@@ -1,5 +1,5 @@
 use Rattle.std.proofs.Common.{◌≡◌}
-use Rattle.pg_board.specs.Placement.{tally_below}
+use Rattle.pg_board.specs.Tally.{tally_below}
 use Rattle.pg_fen.specs.PlacementText.{is_edge_pawn}
 use Rattle.pg_fen.proofs.placement.edge_pawns.Given as goal
 

@@ -1,6 +1,6 @@
 use Rattle.std.proofs.Common.{◌≡◌, ◌-◌, ◌++◌, ◌∷◌, [], List, Option, refl, arith, sym, ap, ◌∙◌}
 use Rattle.pg_board.specs.declared.man.Man.{Man}
-use Rattle.pg_fen.specs.PlacementText.{cells_text, rank_text}
+use Rattle.pg_fen.specs.PlacementText.{cells_text, row_text}
 use Rattle.std.proofs.lemmas.List.{append-nil}
 use Rattle.pg_fen.proofs.WritingLemmas.{Written-none, Written-more, Written-all}
 use Rattle.pg_fen.proofs.writing.put_placement.Goals as goal
@@ -11,7 +11,7 @@ loop-i-init g c = Written-none c.args.board.now c.args.text.now.bytes
 
 pub loop-i-preserved : goal.loop-i-preserved
 loop-i-preserved g c =
-    let t : c.put_rank.new.text.bytes ≡ c.if-i-gt0.text.bytes ++ rank_text c.args.board.now (7 - c.loop-i.i) = c.put_rank.ensures.text ∙ ap (λ (cells : List (Option Man)). c.if-i-gt0.text.bytes ++ cells_text 0 cells) c.row.ensures in
+    let t : c.put_rank.new.text.bytes ≡ c.if-i-gt0.text.bytes ++ row_text c.args.board.now (7 - c.loop-i.i) = c.put_rank.ensures.text ∙ ap (λ (cells : List (Option Man)). c.if-i-gt0.text.bytes ++ cells_text 0 cells) c.row.ensures in
     elim c.if-i-gt0.branch [
       | then-i-gt0 w ↦
           let e : c.if-i-gt0.text.bytes ≡ c.loop-i.text.bytes ++ 47 ∷ [] = rw (w.text-is, w.put.ensures) refl in

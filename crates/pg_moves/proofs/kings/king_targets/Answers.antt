@@ -7,6 +7,6 @@ pub safe_steps-requires-clause-steps : goal.safe_steps-requires-clause-steps
 safe_steps-requires-clause-steps c = advances_at c.args.position.now King c.args.from c.advances-steps.result c.args.board.now c.side.result c.requires.same c.side.ensures.value c.advances-steps.ensures
 
 pub returns : goal.returns
-returns c = king_exact c.args.position.now c.args.from c.advances-steps.result c.safe_steps.result c.castling_targets.result c.side.ensures.position c.index.ensures.bound c.requires.stands
+returns c = king_exact c.args.position.now c.args.from c.advances-steps.result c.safe_steps.result c.castling_targets.result c.bitor.result c.side.ensures.position c.index.ensures.bound c.requires.stands
     (advances_at c.args.position.now King c.args.from c.advances-steps.result c.args.board.now c.side.result c.requires.same c.side.ensures.value c.advances-steps.ensures)
-    c.safe_steps.ensures c.castling_targets.ensures
+    c.safe_steps.ensures c.castling_targets.ensures c.bitor.ensures.members

@@ -3,8 +3,8 @@ use Rattle.pg_board.specs.Placement.{Placement, without}
 use Rattle.pg_moves.proofs.StepsLemmas.{step_is, kept_start, kept_step, kept_end, kept_none}
 use Rattle.pg_moves.proofs.kings.safe_steps.Goals as goal
 
-pub returns-then-steps-eq0 : goal.returns-then-steps-eq0
-returns-then-steps-eq0 c = kept_none _ c.args.steps c.if-steps-eq0.true
+pub returns-then-is_empty : goal.returns-then-is_empty
+returns-then-is_empty c = kept_none _ c.args.steps c.empty.result (c.is_empty.ensures.none.0 c.if-is_empty.true) c.empty.ensures.none
 
 pub loop-square-init : goal.loop-square-init
 loop-square-init c = record { within = omega arith; kept = kept_start c.args.position.now c.args.from c.args.steps }

@@ -3,7 +3,8 @@ use Rattle.std.proofs.lemmas.Bool.{cases_lt}
 use Rattle.pg_board.specs.declared.man.Color.{Color}
 use Rattle.pg_board.specs.declared.man.Kind.TheVariants.{King}
 use Rattle.pg_board.specs.declared.man.Man.{Man}
-use Rattle.pg_board.specs.Men.{man, other, is_man, is_man_decides}
+use Rattle.pg_board.specs.Men.{man, other, is_man}
+use Rattle.pg_board.specs.lemmas.Equalities.{is_man_decides}
 use Rattle.pg_board.specs.Placement.{Placement, get}
 use Rattle.pg_board.specs.Bits.{has}
 use Rattle.pg_position.specs.Attack.{Attacks}

@@ -1,4 +1,5 @@
-use Rattle.pg_position.proofs.ReachLemmas.{set_or, reach_as, reach_pawn, reach_knight, reach_bishop, reach_rook, reach_queen, reach_king}
+use Rattle.pg_board.proofs.SetLemmas.{set_of_union}
+use Rattle.pg_position.proofs.ReachLemmas.{reach_as, reach_pawn, reach_knight, reach_bishop, reach_rook, reach_queen, reach_king}
 use Rattle.pg_position.proofs.reaching.attacks_from.Goals as goal
 
 pub returns-in-Pawn : goal.returns-in-Pawn
@@ -14,7 +15,7 @@ pub returns-in-Rook : goal.returns-in-Rook
 returns-in-Rook c = reach_as _ _ _ _ _ _ c.in-Rook.is (reach_rook _ _ _ _ c.reach_straight.ensures)
 
 pub returns-in-Queen : goal.returns-in-Queen
-returns-in-Queen c = reach_as _ _ _ _ _ _ c.in-Queen.is (reach_queen _ _ _ _ (set_or _ _ c.reach_straight-in-Queen.ensures c.reach_diagonal-in-Queen.ensures))
+returns-in-Queen c = reach_as _ _ _ _ _ _ c.in-Queen.is (reach_queen _ _ _ _ (set_of_union _ _ _ c.bitor.ensures.members c.reach_straight-in-Queen.ensures c.reach_diagonal-in-Queen.ensures))
 
 pub returns-in-King : goal.returns-in-King
 returns-in-King c = reach_as _ _ _ _ _ _ c.in-King.is (reach_king _ _ _ _ (c.king_mask.ensures _))

@@ -6,7 +6,7 @@ use Rattle.pg_fen.specs.declared.games.FenGame.{FenGame}
 use Rattle.pg_fen.specs.declared.games.GameParts.{GameParts}
 use Rattle.pg_fen.specs.Fields.{fields}
 use Rattle.pg_fen.specs.PositionText.{game_parts, state_of, IsGameRead}
-use Rattle.pg_report.specs.MovesText.{ReadsAs, IsRefusedAs}
+use Rattle.pg_report.specs.MovesText.{SpellsPosition, IsRefusedAs}
 use Rattle.pg_report.proofs.moves.game_of.Goals as goal
 
 -- a game that is read is what the text says, and a position
@@ -18,7 +18,7 @@ read_says (Ok g) (Ok game) h =
 read_says (Ok g) (Err e) h = tt
 
 pub returns-clause-ok : goal.returns-clause-ok
-unfolding ReadsAs
+unfolding SpellsPosition
 returns-clause-ok c = read_says (game_parts (fields c.args.text.now)) c.read_position.result c.read_position.ensures
 
 refused : (r : Result GameParts FenFault) (x : Result FenGame FenFault) → IsGameRead r x → IfErr x (λ e. IsGameRead r (Err e))

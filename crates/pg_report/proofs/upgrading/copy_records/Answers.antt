@@ -4,16 +4,14 @@ use Rattle.std.specs.List.{flat_map}
 use Rattle.pg_certificate.specs.Reader.{to_come, Leaves}
 use Rattle.pg_certificate.specs.Reading.{more_at}
 use Rattle.pg_certificate.specs.Spelling.{spelling, longest_record}
-use Rattle.pg_report.proofs.UpgradeLemmas.{ended, too_many, stopped, one_copied, gone_more, gone_with, few_copied}
+use Rattle.pg_report.proofs.UpgradeLemmas.{ended, too_many, stopped, one_copied, gone_with, gone_copied, few_copied}
 use Rattle.pg_report.proofs.upgrading.copy_records.Goals as goal
 
 pub returns-in-Ok-false-clause-answer : goal.returns-in-Ok-false-clause-answer
 returns-in-Ok-false-clause-answer g c = ended c.records.count c.args.max_records _ _ _ _ _ c.records.invariant.copied c.records.invariant.few c.in-Ok-false.ensures.kept (c.in-Ok-false.ensures.end c.in-Ok-false.field-0-test)
 
 pub returns-in-Ok-false-clause-takes : goal.returns-in-Ok-false-clause-takes
-returns-in-Ok-false-clause-takes g c =
-    let copied = c.records.invariant.copied in
-    gone_more _ _ _ (flat_map spelling copied.nodes) (longest_record * c.records.count) 4096 (longest_record * c.args.max_records + 4096) copied.taken (few_copied _ _ _ _ _ copied) (omega (arith, c.records.invariant.few)) c.in-Ok-false.ensures.pulls
+returns-in-Ok-false-clause-takes g c = gone_copied c.records.count c.args.max_records _ _ _ _ _ c.records.invariant.copied (omega (arith, c.records.invariant.few)) c.in-Ok-false.ensures.pulls
 
 pub returns-then-count-max_records-clause-err : goal.returns-then-count-max_records-clause-err
 returns-then-count-max_records-clause-err g c =
@@ -21,9 +19,7 @@ returns-then-count-max_records-clause-err g c =
     (subst (Leaves more_at (to_come c.records.reader (g.R.Source.left c.records.source)) (to_come c.more.new.self (g.R.Source.left c.more.new.source))) c.in-Ok-true.field-0-test c.in-Ok-true.ensures.bytes)
 
 pub returns-then-count-max_records-clause-takes : goal.returns-then-count-max_records-clause-takes
-returns-then-count-max_records-clause-takes g c =
-    let copied = c.records.invariant.copied in
-    gone_more _ _ _ (flat_map spelling copied.nodes) (longest_record * c.records.count) 4096 (longest_record * c.args.max_records + 4096) copied.taken (few_copied _ _ _ _ _ copied) (omega (arith, c.records.invariant.few)) c.in-Ok-true.ensures.pulls
+returns-then-count-max_records-clause-takes g c = gone_copied c.records.count c.args.max_records _ _ _ _ _ c.records.invariant.copied (omega (arith, c.records.invariant.few)) c.in-Ok-true.ensures.pulls
 
 pub returns-in-Err-copy_record-clause-err : goal.returns-in-Err-copy_record-clause-err
 returns-in-Err-copy_record-clause-err g c =

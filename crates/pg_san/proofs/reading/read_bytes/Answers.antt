@@ -1,7 +1,11 @@
 use Rattle.std.proofs.Common.{◌≡◌, sym, Some}
 use Rattle.pg_san.specs.Said.{said_of}
 use Rattle.pg_san.proofs.WalkLemmas.{some_said, none_matches, two_match, one_matches}
+use Rattle.pg_san.proofs.TextFoundLemmas.{nothing_said}
 use Rattle.pg_san.proofs.reading.read_bytes.Goals as goal
+
+pub returns-in_default : goal.returns-in_default
+returns-in_default c = (nothing_said c.args.text.now).0 (sym c.in_default.ensures)
 
 pub returns-in_default-next_fit : goal.returns-in_default-next_fit
 returns-in_default-next_fit c =

@@ -1,11 +1,14 @@
-use Rattle.std.proofs.Common.{Option, bit_and, bit_or, sym, subst}
+use Rattle.std.proofs.Common.{Option, sym, subst}
 use Rattle.pg_travel.specs.numbers.Within.{CostsOnly}
 use Rattle.pg_position.specs.declared.rights.Wing.{Wing}
 use Rattle.pg_travel.proofs.Within.{costs_free, costs_castled}
 use Rattle.pg_travel.proofs.misplaced.to_come.Goals as goal
 
 pub returns-in-None : goal.returns-in-None
-returns-in-None c = subst (λ (x : Option Wing). CostsOnly c.args.board.now c.args.goal.now c.args.color x (bit_and c.squares_of_color-own.result c.differing-moved.result)) (sym c.in-None.is) (costs_free c.args.board.now c.args.goal.now c.args.color c.squares_of_color-own.result c.differing-moved.result c.squares_of_color-own.ensures c.differing-moved.ensures)
+returns-in-None c = subst (λ (x : Option Wing). CostsOnly c.args.board.now c.args.goal.now c.args.color x c.bitand.result) (sym c.in-None.is)
+    (costs_free c.args.board.now c.args.goal.now c.args.color c.squares_of_color-own.result c.differing-moved.result c.bitand.result c.squares_of_color-own.ensures c.differing-moved.ensures c.bitand.ensures.members)
 
 pub returns-in-Some : goal.returns-in-Some
-returns-in-Some c = subst (λ (x : Option Wing). CostsOnly c.args.board.now c.args.goal.now c.args.color x (bit_and c.squares_of_color-own.result (bit_or c.differing-moved.result 10448351135499550865))) (sym c.in-Some.is) (costs_castled c.args.board.now c.args.goal.now c.args.color c.in-Some.field-0 c.squares_of_color-own.result c.differing-moved.result c.squares_of_color-own.ensures c.differing-moved.ensures)
+returns-in-Some c = subst (λ (x : Option Wing). CostsOnly c.args.board.now c.args.goal.now c.args.color x c.bitand-in-Some.result) (sym c.in-Some.is)
+    (costs_castled c.args.board.now c.args.goal.now c.args.color c.in-Some.field-0 c.squares_of_color-own.result c.differing-moved.result c.of_bits.result c.bitor.result c.bitand-in-Some.result
+    c.squares_of_color-own.ensures c.differing-moved.ensures c.of_bits.ensures c.bitor.ensures.members c.bitand-in-Some.ensures.members)

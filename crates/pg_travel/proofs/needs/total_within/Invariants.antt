@@ -1,13 +1,13 @@
 use Rattle.std.proofs.Common.{◌≡◌, ℕ, ◌+◌, ◌-◌, ◌*◌, ◌<◌, ◌≤◌, count_ones}
 use Rattle.pg_board.specs.Bits.{has}
-use Rattle.pg_board.specs.Tally.{count_below}
-use Rattle.pg_travel.specs.Origins.{charge, sum_to}
+use Rattle.pg_board.specs.Tally.{count_below, total}
+use Rattle.pg_travel.specs.Origins.{charge}
 use Rattle.pg_travel.specs.numbers.Costs.{cost}
 use Rattle.pg_travel.specs.numbers.Within.{CostsOnly, CostsEach}
 use Rattle.pg_travel.proofs.needs.total_within.Given as goal
 
 abbrev pub invariant-loop-t : goal.invariant-loop-t
-invariant-loop-t l = record { only : CostsOnly l.board l.goal l.color l.way l.squares; each : CostsEach l.board l.goal l.color l.way l.sure; is : l.total + count_below (has l.sure) l.from ≡ charge l.way + sum_to (cost l.board l.goal l.color l.way) l.from + count_ones l.sure; low : (t : ℕ) → t < l.from → cost l.board l.goal l.color l.way t < 64; small : l.total ≤ 65 + 63 * l.from; within : l.from ≤ 64 }
+invariant-loop-t l = record { only : CostsOnly l.board l.goal l.color l.way l.squares; each : CostsEach l.board l.goal l.color l.way l.sure; is : l.total + count_below (has l.sure) l.from ≡ charge l.way + total (cost l.board l.goal l.color l.way) l.from + count_ones l.sure; low : (t : ℕ) → t < l.from → cost l.board l.goal l.color l.way t < 64; small : l.total ≤ 65 + 63 * l.from; within : l.from ≤ 64 }
 
 abbrev pub decreases-loop-t : goal.decreases-loop-t
 decreases-loop-t l = 64 - l.from

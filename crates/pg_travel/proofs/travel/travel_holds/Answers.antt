@@ -18,4 +18,4 @@ returns-then-excludes_for c = (λ t. (White, c.excludes_for.ensures.0 t), λ h. 
 
 pub returns-else-excludes_for : goal.returns-else-excludes_for
 unfolding TravelHolds
-returns-else-excludes_for c = (λ t. (Black, c.excludes_for-else-excludes_for.ensures.0 t), λ h. c.excludes_for-else-excludes_for.ensures.1 (of_black (λ (x : Color). TravelTest c.args.position.now c.args.diagram.now x c.args.left) c.excludes_for.result c.excludes_for.ensures.1 c.if-excludes_for.false h))
+returns-else-excludes_for c = (λ t. (Black, c.excludes_for-else-excludes_for.ensures.0 t), λ h. c.excludes_for-else-excludes_for.ensures.1 (of_black (λ (x : Color). TravelTest c.args.diagram.now c.args.position.now c.args.left x) c.excludes_for.result c.excludes_for.ensures.1 c.if-excludes_for.false h))

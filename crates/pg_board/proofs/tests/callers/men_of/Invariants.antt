@@ -1,6 +1,6 @@
 use Rattle.std.proofs.Common.{◌≡◌}
 use Rattle.pg_board.specs.Men.{color_eq}
-use Rattle.pg_board.specs.Placement.{tally_below}
+use Rattle.pg_board.specs.Tally.{tally_below}
 use Rattle.pg_board.proofs.tests.callers.men_of.Given as goal
 
 abbrev pub invariant-loop-i : goal.invariant-loop-i

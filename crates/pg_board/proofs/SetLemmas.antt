@@ -1,0 +1,161 @@
+-- Sets of squares: when two meet, their first and last members, their unions and differences. Leads to the contracts of a `SquareSet`.
+use Rattle.std.proofs.Common.{◌⊎◌, bit_or, cond, ◌||◌, ◌≡◌, ◌≢◌, ℕ, ◌-◌, ◌*◌, ◌%◌, ◌^◌, ◌<◌, ◌≤◌, Bool, true, false, eqb, refl, sym, ap, ◌∙◌, subst, arith, bit_and, w64, not, ltb, ltb-true, ltb-false, lt_of_le_of_lt, ◌&&◌}
+use Rattle.std.proofs.lemmas.Nat.{and_le_l}
+use Rattle.std.proofs.lemmas.Nat.Bits.{ones_shl, bit_at_mask_inside, bit_at_mask_below, bit_at_not, bit_at_ones}
+use Rattle.std.proofs.lemmas.Bool.Decides.{Decides-eqb, Decides-at, Decides-or, Decides-and, Decides-not, Decides-like}
+use Rattle.std.specs.Bool.{Decides}
+use Rattle.std.specs.Int.{trailing_zeros, leading_zeros, bit_not}
+use Rattle.pg_board.specs.Bits.{has, bit_has, has-first, has-last, has-none, has-and, has-or, has-set, same_sets}
+use Rattle.pg_board.specs.SquareSets.{IsSetOf, Meet, HasNoneFrom, IsFirstFrom, IsLastIn}
+
+pub and_true : (x y : Bool) → x && y ≡ true → (x ≡ true) × (y ≡ true)
+and_true true true e = (refl, refl)
+and_true true false e = absurd (cc)
+and_true false y e = absurd (cc)
+
+pub second : (x y : Bool) → x ≡ true → x && y ≡ false → y ≡ false
+second true y e f = f
+second false y e f = absurd (cc)
+
+both_true : (x y : Bool) → x ≡ true → y ≡ true → x && y ≡ true
+both_true x y e f = cc
+
+not_nought : (n : ℕ) → not (eqb n 0) ≡ true → 0 < n
+not_nought n e = elim (eqb n 0) as (λ v. eqb n 0 ≡ v → not v ≡ true → 0 < n) [
+  | true ↦ λ _ f. absurd (cc)
+  | false ↦ λ t f. grind (arith, Decides-eqb)
+] refl e
+
+-- the numbers that share a bit
+pub meets_decides : (a b : ℕ) → a < 2 ^ 64 → Decides (not (eqb (bit_and a b) 0)) (Meet a b)
+meets_decides a b l = (
+  λ e.
+      let n : ℕ = bit_and a b in
+      let first = has-first n (not_nought n e) (lt_of_le_of_lt (and_le_l a b) l) in
+      let parts = and_true (has a (trailing_zeros w64 n)) (has b (trailing_zeros w64 n)) (sym (has-and a b (trailing_zeros w64 n)) ∙ first.1) in
+      (trailing_zeros w64 n, first.0, parts.0, parts.1),
+  λ (q, k, x, y).
+      let on : has (bit_and a b) q ≡ true = has-and a b q ∙ both_true _ _ x y in
+      elim (eqb (bit_and a b) 0) as (λ v. eqb (bit_and a b) 0 ≡ v → not v ≡ true) [
+        | true ↦ λ t. let z : bit_and a b ≡ 0 = (Decides-eqb (bit_and a b) 0).0 t in
+            let off : has (bit_and a b) q ≡ false = ap (λ n. has n q) z ∙ has-none q in absurd (cc)
+        | false ↦ λ t. refl
+      ] refl,
+)
+
+-- the squares of the set n from f on
+abbrev pub kept_from : ℕ → ℕ → ℕ
+kept_from n f = bit_and n ((2 ^ 64 - 1) * 2 ^ f % 2 ^ 64)
+
+and_yes : (b : Bool) → b && true ≡ b
+and_yes true = refl
+and_yes false = refl
+
+and_no : (b : Bool) → b && false ≡ false
+and_no true = refl
+and_no false = refl
+
+above_same : (n f : ℕ) → f < 64 → (q : ℕ) → f ≤ q → q < 64 → has (kept_from n f) q ≡ has n q
+above_same n f l q u k =
+    has-and n ((2 ^ 64 - 1) * 2 ^ f % 2 ^ 64) q
+    ∙ ap (λ v. has n q && v) (ap (λ x. has x q) (ones_shl 64 f (omega arith)) ∙ ap (λ b. eqb b 1) (bit_at_mask_inside f 64 q u k))
+    ∙ and_yes (has n q)
+
+below_none : (n f : ℕ) → f < 64 → (q : ℕ) → q < f → has (kept_from n f) q ≡ false
+below_none n f l q u =
+    has-and n ((2 ^ 64 - 1) * 2 ^ f % 2 ^ 64) q
+    ∙ ap (λ v. has n q && v) (ap (λ x. has x q) (ones_shl 64 f (omega arith)) ∙ ap (λ b. eqb b 1) (bit_at_mask_below f 64 q u))
+    ∙ and_no (has n q)
+
+pub place_none : (n f : ℕ) → f < 64 → bit_and n ((2 ^ 64 - 1) * 2 ^ f % 2 ^ 64) ≡ 0 → HasNoneFrom n f
+place_none n f l z q u k =
+    let zero_there : has (bit_and n ((2 ^ 64 - 1) * 2 ^ f % 2 ^ 64)) q ≡ false = ap (λ x. has x q) z ∙ has-none q in
+    sym (above_same n f l q u k) ∙ zero_there
+
+pub place_first : (n f x : ℕ) → f < 64 → n < 2 ^ 64 → kept_from n f ≢ 0 → x ≡ trailing_zeros w64 (kept_from n f) → IsFirstFrom n f x
+place_first n f x l fits some e =
+    let pos : 0 < kept_from n f = omega arith in
+    let t = has-first (kept_from n f) pos (lt_of_le_of_lt (and_le_l n _) fits) in
+    let low : x < 64 = subst (λ (y : ℕ). y < 64) (sym e) t.0 in
+    let here : has (kept_from n f) x ≡ true = ap (has (kept_from n f)) e ∙ t.1 in
+    let le : f ≤ x = elim (ltb x f) as (λ v. ltb x f ≡ v → f ≤ x) [
+      | true ↦ λ w. let off : has (kept_from n f) x ≡ false = below_none n f l x (ltb-true x f w) in absurd (cc)
+      | false ↦ λ w. ltb-false x f w
+    ] refl in
+    record {
+      on_board = low;
+      reached = le;
+      member = sym (above_same n f l x le low) ∙ here;
+      before = λ q u k. sym (above_same n f l q u (omega arith)) ∙ t.2 q (subst (λ (y : ℕ). q < y) e k);
+    }
+
+-- ---- no square, and one
+pub set_none : {P : ℕ → Type 0} → ((q : ℕ) → q < 64 → ¬ P q) → IsSetOf 0 P
+set_none h q l = (λ t. absurd (let e : has 0 q ≡ true = t in let f : has 0 q ≡ false = has-none q in let g : true ≡ false = sym e ∙ f in cc), λ x. absurd (h q l x))
+
+pub set_one : (k : ℕ) → k < 64 → IsSetOf (1 * 2 ^ k % 2 ^ 64) (λ q. q ≡ k)
+set_one k l q low =
+    let x : ℕ = 1 * 2 ^ k % 2 ^ 64 in
+    let whole : has (bit_or 0 x) q ≡ has x q = has-or 0 x q ∙ ap (λ t. t || has x q) (has-none q) in
+    Decides-at _ _ (sym whole ∙ has-set 0 k q l ∙ only (eqb q k) q) (Decides-eqb q k)
+  where
+    only : (t : Bool) (q : ℕ) → cond t true (has 0 q) ≡ t
+    only true q = refl
+    only false q = has-none q
+
+-- ---- no square at all
+pub none_is_nought : (n : ℕ) → n < 2 ^ 64 → Decides (eqb n 0) (HasNoneFrom n 0)
+none_is_nought n fits = (
+  λ e q _ _. ap (λ x. has x q) ((Decides-eqb n 0).0 e) ∙ has-none q,
+  λ h. (Decides-eqb n 0).1 (same_sets n 0 fits (omega arith) (λ q l. h q (omega arith) l ∙ sym (has-none q))),
+)
+
+pub first_in : (n x : ℕ) → n < 2 ^ 64 → n ≢ 0 → x ≡ trailing_zeros w64 n → IsFirstFrom n 0 x
+first_in n x fits some e =
+    let pos : 0 < n = omega arith in
+    let t = has-first n pos fits in
+    record {
+      on_board = subst (λ (y : ℕ). y < 64) (sym e) t.0;
+      reached = omega arith;
+      member = ap (has n) e ∙ t.1;
+      before = λ q _ k. t.2 q (subst (λ (y : ℕ). q < y) e k);
+    }
+
+pub last_in : (n x : ℕ) → n < 2 ^ 64 → n ≢ 0 → x ≡ 63 - leading_zeros w64 n → IsLastIn n x
+last_in n x fits some e =
+    let pos : 0 < n = omega arith in
+    let t = has-last n x pos fits e in
+    record { on_board = t.0; member = t.1; after = t.2 }
+
+pub has-all : (q : ℕ) → q < 64 → has (2 ^ 64 - 1) q ≡ true
+has-all q l = ap (λ b. eqb b 1) (bit_at_ones 64 q l)
+
+-- ---- unions and differences
+flipped : (b : Bool) → eqb (1 - cond b 1 0) 1 ≡ not b
+flipped true = refl
+flipped false = refl
+
+pub has-not : (n q : ℕ) → n < 2 ^ 64 → q < 64 → has (bit_not w64 n) q ≡ not (has n q)
+has-not n q l k = ap (λ x. eqb x 1) (bit_at_not w64 n q l k ∙ ap (λ x. 1 - x) (bit_has n q)) ∙ flipped (has n q)
+
+pub has-without : (a b q : ℕ) → b < 2 ^ 64 → q < 64 → has (bit_and a (bit_not w64 b)) q ≡ has a q && not (has b q)
+has-without a b q l k = has-and a (bit_not w64 b) q ∙ ap (λ y. has a q && y) (has-not b q l k)
+
+pub set_like : {P Q : ℕ → Type 0} (n : ℕ) → ((q : ℕ) → q < 64 → P q → Q q) → ((q : ℕ) → q < 64 → Q q → P q) → IsSetOf n P → IsSetOf n Q
+set_like n f g h q l = Decides-like (has n q) (f q l) (g q l) (h q l)
+
+pub set_or : {P Q : ℕ → Type 0} (a b : ℕ) → IsSetOf a P → IsSetOf b Q → IsSetOf (bit_or a b) (λ q. P q ⊎ Q q)
+set_or a b f g q l = Decides-at _ _ (has-or a b q) (Decides-or _ _ (f q l) (g q l))
+
+pub set_without : {P Q : ℕ → Type 0} (a b : ℕ) → b < 2 ^ 64 → IsSetOf a P → IsSetOf b Q → IsSetOf (bit_and a (bit_not w64 b)) (λ q. P q × ¬ Q q)
+set_without a b s f g q l = Decides-at _ _ (has-without a b q s l) (Decides-and _ _ (f q l) (Decides-not _ (g q l)))
+
+-- ---- the same of a set that is said by its members
+pub set_of_union : {P Q : ℕ → Type 0} (n a b : ℕ) → ((q : ℕ) → has n q ≡ has a q || has b q) → IsSetOf a P → IsSetOf b Q → IsSetOf n (λ q. P q ⊎ Q q)
+set_of_union n a b e f g q l = Decides-at _ _ (e q) (Decides-or _ _ (f q l) (g q l))
+
+pub set_of_both : {P Q : ℕ → Type 0} (n a b : ℕ) → ((q : ℕ) → has n q ≡ has a q && has b q) → IsSetOf a P → IsSetOf b Q → IsSetOf n (λ q. P q × Q q)
+set_of_both n a b e f g q l = Decides-at _ _ (e q) (Decides-and _ _ (f q l) (g q l))
+
+pub set_of_rest : {P Q : ℕ → Type 0} (n a b : ℕ) → ((q : ℕ) → q < 64 → has n q ≡ has a q && not (has b q)) → IsSetOf a P → IsSetOf b Q → IsSetOf n (λ q. P q × ¬ Q q)
+set_of_rest n a b e f g q l = Decides-at _ _ (e q l) (Decides-and _ _ (f q l) (Decides-not _ (g q l)))

@@ -1,0 +1,2 @@
+pub mod Equalities
+pub mod Futures

@@ -1,9 +1,0 @@
-use Rattle.std.proofs.Common.{arith}
-use Rattle.pg_position.proofs.SetLemmas.{place_none, place_first}
-use Rattle.pg_position.proofs.square_sets.first_from.Goals as goal
-
-pub returns-then-rest-eq0 : goal.returns-then-rest-eq0
-returns-then-rest-eq0 c = place_none _ _ (omega arith) c.if-rest-eq0.true
-
-pub returns-else-rest-eq0 : goal.returns-else-rest-eq0
-returns-else-rest-eq0 c = place_first _ _ _ (omega arith) c.ranges.set.fits c.if-rest-eq0.false c.at.ensures

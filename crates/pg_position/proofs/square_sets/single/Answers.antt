@@ -1,5 +1,0 @@
-use Rattle.pg_position.proofs.SetLemmas.{set_one}
-use Rattle.pg_position.proofs.square_sets.single.Goals as goal
-
-pub returns : goal.returns
-returns c = rw c.index.ensures.value (set_one c.args.square c.index.ensures.bound)
