@@ -4,7 +4,7 @@ use Rattle.pg_certificate.specs.declared.record.Record.TheVariants.{Expand as Ex
 use Rattle.pg_checker.specs.Tree.{Trees, Empty, First, Cause, Entry, Rules, fertile, closed, spelling, spelling_all, records, records_all, named_all}
 use Rattle.pg_checker.specs.Walk.{WalkState, Shape, Done, Opened, take_room, head, each, below, visit, Took}
 use Rattle.pg_checker.specs.Claims.{IsExact}
-use Rattle.pg_checker.specs.Front.{Front, Here, Below, front_records, front_named, front_spelling, Place, After, FitFront, CauseAt, TookFront, Halts}
+use Rattle.pg_checker.specs.Front.{Front, Here, Below, front_records, front_named, front_spelling, NextNode, After, FitFront, CauseAt, TookFront, Halts}
 use Rattle.pg_checker.proofs.Steps.{Paid, head_ok}
 use Rattle.pg_checker.proofs.Exact.{visit_ok, HeadSays, judged}
 use Rattle.pg_checker.proofs.Back.{same_state, fits_visit, head_pays}
@@ -15,7 +15,7 @@ module _ {P M : Type 0} (r : Rules P M) where
   record HaltsAmong (n k : ℕ) (g : List M) (p : P) (ms : List M) (s : WalkState P) (f : Cause M) : Type 0 where
     before : Trees
     front : Front
-    place : Place P M
+    place : NextNode P M
     state : WalkState P
     fits : After r (λ h q ds. FitFront r n k h q ds front place state.entries) n k g p ms s.entries before
     rest : s.rest ≡ (spelling_all r before ++ front_spelling r front) ++ state.rest
@@ -106,8 +106,8 @@ module _ {P M : Type 0} (r : Rules P M) where
         let paid : Paid r s (Expanded false) u = record { rest = says.rest; entries = says.entries; records = says.records; room = omega (arith, says.room); is_record = exact.expanded false } in
         head_pays r exact (suc k) p s u (Expanded false) paid
 
-    each_halts : (n k : ℕ) → ((g : List M) (p : P) (s t : WalkState P) (front : Front) (place : Place P M) (f : Cause M) → FitFront r n k g p s.entries front place t.entries → TookFront r s front t → CauseAt r n place.plies place.game place.position t f → visit r n k g p s ≡ Err f)
-        → (g : List M) (p : P) (ms : List M) (found : Bool) (s t : WalkState P) (before : Trees) (front : Front) (place : Place P M) (f : Cause M)
+    each_halts : (n k : ℕ) → ((g : List M) (p : P) (s t : WalkState P) (front : Front) (place : NextNode P M) (f : Cause M) → FitFront r n k g p s.entries front place t.entries → TookFront r s front t → CauseAt r n place.plies place.game place.position t f → visit r n k g p s ≡ Err f)
+        → (g : List M) (p : P) (ms : List M) (found : Bool) (s t : WalkState P) (before : Trees) (front : Front) (place : NextNode P M) (f : Cause M)
         → After r (λ h q ds. FitFront r n k h q ds front place t.entries) n k g p ms s.entries before
         → s.rest ≡ (spelling_all r before ++ front_spelling r front) ++ t.rest
         → s.records ≡ (records_all before + front_records front) + t.records
@@ -128,12 +128,12 @@ module _ {P M : Type 0} (r : Rules P M) where
     at_here n zero g p s f c = cause_leaf r n g p s f c
     at_here n (suc k) g p s f c = bind_is r (head r (suc k) p s) _ (Err f) (cause_head r (suc k) p s f c)
 
-    pub halts_visit : (n k : ℕ) (g : List M) (p : P) (s t : WalkState P) (front : Front) (place : Place P M) (f : Cause M) → FitFront r n k g p s.entries front place t.entries → TookFront r s front t → CauseAt r n place.plies place.game place.position t f → visit r n k g p s ≡ Err f
+    pub halts_visit : (n k : ℕ) (g : List M) (p : P) (s t : WalkState P) (front : Front) (place : NextNode P M) (f : Cause M) → FitFront r n k g p s.entries front place t.entries → TookFront r s front t → CauseAt r n place.plies place.game place.position t f → visit r n k g p s ≡ Err f
     halts_visit n k g p s t Here place f fits took cause = here_halts n k g p s t place f fits.0 fits.1 took cause
       where
-        here_halts : (n k : ℕ) (g : List M) (p : P) (s t : WalkState P) (place : Place P M) (f : Cause M) → record { plies = k; game = g; position = p } ≡ place → t.entries ≡ s.entries → TookFront r s Here t → CauseAt r n place.plies place.game place.position t f → visit r n k g p s ≡ Err f
+        here_halts : (n k : ℕ) (g : List M) (p : P) (s t : WalkState P) (place : NextNode P M) (f : Cause M) → record { plies = k; game = g; position = p } ≡ place → t.entries ≡ s.entries → TookFront r s Here t → CauseAt r n place.plies place.game place.position t f → visit r n k g p s ≡ Err f
         here_halts n k g p s t place f e d took cause =
-            let here : CauseAt r n k g p t f = subst (λ (v : Place P M). CauseAt r n v.plies v.game v.position t f) (sym e) cause in
+            let here : CauseAt r n k g p t f = subst (λ (v : NextNode P M). CauseAt r n v.plies v.game v.position t f) (sym e) cause in
             let same : t ≡ s = same_state t s (sym took.rest) d (omega (arith, took.records)) (omega (arith, took.room)) in
             at_here n k g p s f (subst (λ (v : WalkState P). CauseAt r n k g p v f) same here)
     halts_visit n zero g p s t (Below is_named before next) place f fits took cause = absurd fits

@@ -9,7 +9,7 @@ use Rattle.pg_checker.specs.Walk.{visit, ◌>>=◌}
 use Rattle.pg_checker.specs.Whole.{run}
 use Rattle.pg_checker.specs.numbers.Frames.{finish, enter, Stacked}
 use Rattle.pg_checker.specs.Chess.{Cuts, chess}
-use Rattle.pg_checker.specs.numbers.Machine.{IsReading, path, frames_of, count_named, state_at, work_at}
+use Rattle.pg_checker.specs.numbers.Machine.{ReadsVersion, path, frames_of, count_named, state_at, work_at}
 use Rattle.pg_checker.specs.numbers.Steps.{Answer, Goes, Stops, Says}
 use Rattle.pg_checker.specs.declared.machine.Frame.{Frame}
 use Rattle.pg_checker.specs.declared.machine.Machine.{Machine}
@@ -74,13 +74,13 @@ module _ (d : Placement) (l : ℕ) (games : List (List Move)) (cut : Cuts) (p : 
   pub record Trees (before after : Option (List ℕ)) (n : ℕ) (old now : Machine) : Type 0 where
     pub closed : now.frames.items ≡ []
     pub kept : now.table.kept ≡ 0
-    pub runs : IsReading cut.version now.reader
+    pub runs : ReadsVersion cut.version now.reader
     pub held : length now.reader.held ≤ 4096
     pub within : n ≤ l
     pub few : Few before after old.records now.records
     pub goes : Goes before after old.room now.room (runs_all old) (runs_from n now)
 
-  pub trees_start : (known : Option (List ℕ)) (m : Machine) → m.frames.items ≡ [] → m.table.kept ≡ 0 → IsReading cut.version m.reader → length m.reader.held ≤ 4096 → Trees known known 0 m m
+  pub trees_start : (known : Option (List ℕ)) (m : Machine) → m.frames.items ≡ [] → m.table.kept ≡ 0 → ReadsVersion cut.version m.reader → length m.reader.held ≤ 4096 → Trees known known 0 m m
   trees_start known m closed kept runs held = record { closed = closed; kept = kept; runs = runs; held = held; within = omega arith; few = few_none known m.records; goes = stays known m.room (runs_all m) (runs_from 0 m) (λ rest room. (let e : suc l - 0 ≡ suc l = omega arith in ap (λ (c : ℕ). run (chess d l games cut) c 0 p (state_at m rest room)) (sym e))) }
 
   next_tree : (n : ℕ) (s : walk.WalkState State) → n ≤ l → run (chess d l games cut) (suc l - n) n p s ≡ (visit (chess d l games cut) n n [] p s >>= (λ got. run (chess d l games cut) (suc l - (n + 1)) (n + 1) p got.1))
@@ -99,7 +99,7 @@ module _ (d : Placement) (l : ℕ) (games : List (List Move)) (cut : Cuts) (p : 
       (goes_then here after now.room new.room (visits n now) (λ rest x. Ok (new.found, state_at new rest x)) (then_trees n) visiting)
 
   pub trees_on : (before here after : Option (List ℕ)) (n : ℕ) (old now new : Machine) → Trees before here n old now → n < l
-      → Goes here after now.room new.room (visits n now) (λ rest room. Ok (new.found, state_at new rest room)) → new.frames.items ≡ [] → new.table.kept ≡ 0 → IsReading cut.version new.reader → length new.reader.held ≤ 4096 → Few here after now.records new.records
+      → Goes here after now.room new.room (visits n now) (λ rest room. Ok (new.found, state_at new rest room)) → new.frames.items ≡ [] → new.table.kept ≡ 0 → ReadsVersion cut.version new.reader → length new.reader.held ≤ 4096 → Few here after now.records new.records
       → Trees before after (n + 1) old new
   trees_on before here after n old now new trees low visiting closed kept runs held few = record {
     closed = closed;

@@ -13,7 +13,7 @@ use Rattle.pg_checker.specs.Walk as walk
 use Rattle.pg_checker.specs.Walk.{visit, each, leaf_answer, ◌>>=◌}
 use Rattle.pg_checker.specs.numbers.Frames.{resume, turn, finish, effort, Stacked}
 use Rattle.pg_checker.specs.Chess.{Cuts, chess}
-use Rattle.pg_checker.specs.numbers.Machine.{IsReading, entered, entry_of, path, frame_of, frames_of, count_named, state_at, work_at}
+use Rattle.pg_checker.specs.numbers.Machine.{ReadsVersion, entered, entry_of, path, frame_of, frames_of, count_named, state_at, work_at}
 use Rattle.pg_checker.specs.numbers.Steps.{Answer, Goes, Stops, TakesFew}
 use Rattle.pg_checker.specs.declared.machine.Frame.{Frame}
 use Rattle.pg_checker.specs.declared.machine.Machine.{Machine}
@@ -115,12 +115,12 @@ module _ (d : Placement) (l : ℕ) (games : List (List Move)) (cut : Cuts) (n : 
   pub record Runs (before after : Option (List ℕ)) (old now : Machine) : Type 0 where
     pub stacked : Stacked n (frames_of (reverse now.frames.items))
     pub kept : now.table.kept ≡ count_named (reverse now.frames.items)
-    pub runs : IsReading cut.version now.reader
+    pub runs : ReadsVersion cut.version now.reader
     pub held : length now.reader.held ≤ 4096
     pub few : Few before after old.records now.records
     pub goes : Goes before after old.room now.room (finishes old) (finishes now)
 
-  pub runs_start : (known : Option (List ℕ)) (m : Machine) → Stacked n (frames_of (reverse m.frames.items)) → m.table.kept ≡ count_named (reverse m.frames.items) → IsReading cut.version m.reader → length m.reader.held ≤ 4096 → Runs known known m m
+  pub runs_start : (known : Option (List ℕ)) (m : Machine) → Stacked n (frames_of (reverse m.frames.items)) → m.table.kept ≡ count_named (reverse m.frames.items) → ReadsVersion cut.version m.reader → length m.reader.held ≤ 4096 → Runs known known m m
   runs_start known m stacked kept runs held = record { stacked = stacked; kept = kept; runs = runs; held = held; few = few_none known m.records; goes = stays known m.room (finishes m) (finishes m) (λ rest room. refl) }
 
   -- the next turn, and then the rest
@@ -131,7 +131,7 @@ module _ (d : Placement) (l : ℕ) (games : List (List Move)) (cut : Cuts) (n : 
       ∙ (λ i. turn (chess d l games cut) n (frame_of top (reverse mid.frames.items)) (frames_of (reverse mid.frames.items)) (sym found i) (record { rest = rest; entries = map entry_of (sym table i).entries; records = sym records i; room = room }) >>= finish (chess d l games cut) n)
 
   pub runs_on : (before here after : Option (List ℕ)) (old now mid new : Machine) (top : Frame) → Runs before here old now → now.frames.items ≡ mid.frames.items ++ (top ∷ []) → mid.found ≡ now.found → mid.table ≡ now.table → mid.records ≡ now.records → mid.room ≡ now.room
-      → Goes here after mid.room new.room (turns d l games cut n top mid) (λ rest room. Ok (work_at (chess d l games cut) new rest room)) → new.table.kept ≡ count_named (reverse new.frames.items) → IsReading cut.version new.reader → length new.reader.held ≤ 4096 → Few here after mid.records new.records
+      → Goes here after mid.room new.room (turns d l games cut n top mid) (λ rest room. Ok (work_at (chess d l games cut) new rest room)) → new.table.kept ≡ count_named (reverse new.frames.items) → ReadsVersion cut.version new.reader → length new.reader.held ≤ 4096 → Few here after mid.records new.records
       → Runs before after old new
   runs_on before here after old now mid new top run items found table records room turning kept runs held few = record {
     stacked = turn_stacked (chess d l games cut) n n (frame_of top (reverse mid.frames.items)) (frames_of (reverse mid.frames.items)) mid.found (state_at mid (turning.taken ++ []) (turning.used + 0)) (work_at (chess d l games cut) new [] 0) (subst (λ v. Stacked n v) (frames_popped now.frames.items mid.frames.items top items) run.stacked) (turning.same [] 0);

@@ -3,7 +3,7 @@ use Rattle.std.proofs.Common.{◌≡◌, ◌≢◌, ℕ, zero, suc, ◌+◌, ◌
 use Rattle.pg_checker.specs.Tree.{Trees, Empty, First, Cause, Trailing, Entry, Rules, fertile, closed, spelling_all, records_all, named_all}
 use Rattle.pg_checker.specs.Walk.{WalkState, visit, Took}
 use Rattle.pg_checker.specs.Claims.{FitFrom, count, IsExact}
-use Rattle.pg_checker.specs.Front.{Front, front_records, front_named, front_spelling, Place, FitFront, CauseAt}
+use Rattle.pg_checker.specs.Front.{Front, front_records, front_named, front_spelling, NextNode, FitFront, CauseAt}
 use Rattle.pg_checker.specs.Whole.{run, ended, answer, closed_from, IsStopped, HasMore}
 use Rattle.pg_checker.proofs.Back.{fits_visit}
 use Rattle.pg_checker.proofs.Faults.{bind_is}
@@ -16,7 +16,7 @@ module _ {P M : Type 0} (r : Rules P M) where
   more_end a b (c ∷ bs) s h = refl
 
   module _ (exact : IsExact r) where
-    stops_run : (c n : ℕ) (p : P) (s t : WalkState P) (f : Cause M) (before : Trees) (front : Front) (place : Place P M) → count r before < c → FitFrom r n p s.entries before
+    stops_run : (c n : ℕ) (p : P) (s t : WalkState P) (f : Cause M) (before : Trees) (front : Front) (place : NextNode P M) → count r before < c → FitFrom r n p s.entries before
         → FitFront r (n + count r before) (n + count r before) [] p (s.entries ++ closed_from r n p before) front place t.entries
         → s.rest ≡ (spelling_all r before ++ front_spelling r front) ++ t.rest
         → s.records ≡ (records_all before + front_records front) + t.records

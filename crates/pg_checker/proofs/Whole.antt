@@ -5,7 +5,7 @@ use Rattle.pg_certificate.specs.declared.record.Record.TheVariants.{Expand as Ex
 use Rattle.pg_checker.specs.Tree.{Trees, Empty, First, Cause, Trailing, Entry, Rules, EndsOnGoal, Fits, FitAll, fertile, closed, spelling, spelling_all, records_all, named_all, TooManyNamed}
 use Rattle.pg_checker.specs.Walk.{WalkState, visit, Took}
 use Rattle.pg_checker.specs.Claims.{FitFrom, count, IsCertificate, IsComplete, IsRight, IsExact}
-use Rattle.pg_checker.specs.Front.{RefusesRecord, no_budget, no_record, refused, Front, front_records, front_named, front_spelling, Place, FitFront, CauseAt}
+use Rattle.pg_checker.specs.Front.{RefusesRecord, no_budget, no_record, refused, Front, front_records, front_named, front_spelling, NextNode, FitFront, CauseAt}
 use Rattle.pg_checker.specs.Whole.{IsAtNamed, run, ended, answer, closed_from, IsAccepted, IsStopped, HasMore, full, full_all, full_from}
 use Rattle.pg_checker.proofs.Steps.{bind_ok}
 use Rattle.pg_checker.proofs.Exact.{visit_ok}
@@ -29,7 +29,7 @@ module _ {P M : Type 0} (r : Rules P M) where
     fits : FitFrom r n p s.entries before
     few : count r before < c
     front : Front
-    place : Place P M
+    place : NextNode P M
     state : WalkState P
     front_fits : FitFront r (n + count r before) (n + count r before) [] p (s.entries ++ closed_from r n p before) front place state.entries
     rest : s.rest ≡ (spelling_all r before ++ front_spelling r front) ++ state.rest

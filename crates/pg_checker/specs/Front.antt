@@ -19,7 +19,7 @@ front_named Here = 0
 front_named (Below is_named before next) = one_if is_named + (named_all before + front_named next)
 
 -- The node that comes next.
-pub record Place (P M : Type 0) : Type 0 where
+pub record NextNode (P M : Type 0) : Type 0 where
   pub plies : ℕ
   pub game : List M
   pub position : P
@@ -36,7 +36,7 @@ module _ {P M : Type 0} (r : Rules P M) where
   After At n k g p (m ∷ ms) es (First t ts) = Fits r n k (g ++ (m ∷ [])) (r.play p m) es t × After At n k g p ms (es ++ closed r k (r.play p m) t) ts
 
   -- the front fits, and its next node is at the place, after the entries fs
-  abbrev pub FitFront : ℕ → ℕ → List M → P → List (Entry P) → Front → Place P M → List (Entry P) → Type 0
+  abbrev pub FitFront : ℕ → ℕ → List M → P → List (Entry P) → Front → NextNode P M → List (Entry P) → Type 0
   FitFront n k g p es Here place fs = (record { plies = k; game = g; position = p } ≡ place) × (fs ≡ es)
   FitFront n zero g p es (Below is_named before next) place fs = ⊥
   FitFront n (suc k) g p es (Below is_named before next) place fs =
@@ -79,7 +79,7 @@ module _ {P M : Type 0} (r : Rules P M) where
   -- the walk comes to a front that fits, and f is the first cause there
   pub record Halts (n k : ℕ) (g : List M) (p : P) (s : WalkState P) (f : Cause M) : Type 0 where
     pub front : Front
-    pub place : Place P M
+    pub place : NextNode P M
     pub state : WalkState P
     pub fits : FitFront n k g p s.entries front place state.entries
     pub took : TookFront s front state

@@ -4,7 +4,7 @@ use Rattle.pg_certificate.specs.declared.record.Record.TheVariants.{Expand as Ex
 use Rattle.pg_checker.specs.Tree.{Tree, Trees, Leaf, Expand, Empty, First, Cause, Trailing, Entry, Rules, closed, spelling_all, records_all, named_all}
 use Rattle.pg_checker.specs.Walk.{◌>>=◌, WalkState, visit}
 use Rattle.pg_checker.specs.Claims.{FitFrom, count, IsCertificate}
-use Rattle.pg_checker.specs.Front.{Front, front_records, front_named, front_spelling, Place, FitFront, CauseAt}
+use Rattle.pg_checker.specs.Front.{Front, front_records, front_named, front_spelling, NextNode, FitFront, CauseAt}
 
 module _ {P M : Type 0} (r : Rules P M) where
   -- trees of the lengths n, n + 1, .., as many as said
@@ -39,7 +39,7 @@ module _ {P M : Type 0} (r : Rules P M) where
     pub named_fit : named_all trees ≤ max_named
 
   -- from the front of the bytes, within the limits: trees that fit, then a front of the next tree, whose next node is at the place
-  pub record HasFront (p : P) (max_records max_named : ℕ) (bytes : List ℕ) (before : Trees) (place : Place P M) (state : WalkState P) : Type 0 where
+  pub record HasFront (p : P) (max_records max_named : ℕ) (bytes : List ℕ) (before : Trees) (place : NextNode P M) (state : WalkState P) : Type 0 where
     pub fits : FitFrom r 0 p [] before
     pub few : count r before < suc r.plies
     pub front : Front
@@ -51,7 +51,7 @@ module _ {P M : Type 0} (r : Rules P M) where
   -- trees that fit, then a front of the next tree with a first cause
   pub record IsStopped (p : P) (max_records max_named : ℕ) (bytes : List ℕ) (f : Cause M) : Type 0 where
     pub before : Trees
-    pub place : Place P M
+    pub place : NextNode P M
     pub state : WalkState P
     pub reached : HasFront p max_records max_named bytes before place state
     pub cause : CauseAt r (count r before) place.plies place.game place.position state f
@@ -82,7 +82,7 @@ module _ {P M : Type 0} (r : Rules P M) where
   -- trees that fit, then a front without a cause, whose next record is a named node for which there is room
   pub record IsAtNamed (p : P) (max_records max_named : ℕ) (bytes : List ℕ) : Type 0 where
     pub before : Trees
-    pub place : Place P M
+    pub place : NextNode P M
     pub state : WalkState P
     pub reached : HasFront p max_records max_named bytes before place state
     pub inner : 0 < place.plies

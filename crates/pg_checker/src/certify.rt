@@ -9,7 +9,7 @@ ghost use Rattle.pg_checker.specs.Check.{Accepts, Refuses, Takes};
 ghost use Rattle.pg_checker.specs.numbers.Checking.{Answers, Headed, HeaderFails, HeaderTakes, WalkTakes, header_fault};
 ghost use Rattle.pg_checker.specs.Cuts.{rules_by, rules_for};
 ghost use Rattle.pg_checker.specs.numbers.Halting.{stops};
-ghost use Rattle.pg_checker.specs.numbers.Machine.{IsReading, game_at};
+ghost use Rattle.pg_checker.specs.numbers.Machine.{ReadsVersion, game_at};
 ghost use Rattle.pg_checker.specs.numbers.Steps.{FailsRead};
 
 use crate::fault::Fault;
@@ -59,7 +59,7 @@ fn read_header<S: Source>(
     requires runs { reader.old.failed ≡ false }
     ensures ok { IfOk result (λ version. Headed diagram.now plies
         (S.left source.old) (to_come reader.new (S.left source.new)) version) }
-    ensures runs { IfOk result (λ version. IsReading version reader.new) }
+    ensures runs { IfOk result (λ version. ReadsVersion version reader.new) }
     ensures held { length_of reader.new.held ≤ 4096 }
     ensures err { IfErr result (λ e. HeaderFails diagram.now plies
         (S.left source.old) (S.has_failed source.new) e) }
@@ -85,7 +85,7 @@ fn walk<S: Source>(
     source: &mut S,
 ) -> Result<Proved, Halt>
     requires limit { question.now.plies ≤ 128 }
-    requires runs { IsReading question.now.version machine.old.reader }
+    requires runs { ReadsVersion question.now.version machine.old.reader }
     requires held { length_of machine.old.reader.held ≤ 4096 }
     requires entries { machine.old.table.entries ≡ [] }
     requires kept { machine.old.table.kept ≡ 0 }

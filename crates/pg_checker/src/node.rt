@@ -8,7 +8,7 @@ ghost use Rattle.pg_travel.specs.PricesDecided.{travel_prices_test};
 ghost use Rattle.pg_position.specs.declared.moves.Move.{Move};
 ghost use Rattle.pg_checker.specs.numbers.Halting.{full, causes, stops};
 ghost use Rattle.pg_checker.specs.numbers.Judging.{Ends, Judges, ended_of, refer_answer, stop_of};
-ghost use Rattle.pg_checker.specs.numbers.Machine.{IsReading, Walks, WalksOn, entry_of, opened, shape_of, state_at};
+ghost use Rattle.pg_checker.specs.numbers.Machine.{ReadsVersion, Walks, WalksOn, entry_of, opened, shape_of, state_at};
 ghost use Rattle.pg_checker.specs.numbers.Steps.{Says, FailsRead, TakesFew};
 ghost use Rattle.pg_checker.specs.Walk.{judge as judge_of, head as head_of, cut_answer};
 
@@ -208,7 +208,7 @@ fn next<S: Source>(
     ensures says { (game : List Move) (room : ℕ) → Says
         (to_come reader.old (S.left source.old)) (to_come reader.new (S.left source.new)) room room
         (λ bytes _. read reader.old.version bytes) (λ x rest _. (record_of prices.new x, rest)) (stops game result) }
-    ensures runs { OnOk result (IsReading reader.old.version reader.new) }
+    ensures runs { OnOk result (ReadsVersion reader.old.version reader.new) }
     ensures held { length reader.new.held ≤ 4096 }
     ensures fails { FailsRead (S.has_failed source.new) (stops [] result) }
     ensures few { (most : ℕ) → TakesFew
@@ -230,14 +230,14 @@ pub(crate) fn head<S: Source>(
     position: &Position,
     left: u8,
 ) -> Result<Node, Halt>
-    requires runs { IsReading question.now.version machine.old.reader }
+    requires runs { ReadsVersion question.now.version machine.old.reader }
     requires held { length machine.old.reader.held ≤ 4096 }
     ensures says { (game : List Move) → Walks machine.old machine.new (S.left source.old) (S.left source.new)
         (head_of (rules_for code_of excluded question.now) left position.now)
         (λ node rest n. (shape_of node, state_at machine.new rest n)) (stops game result) }
     ensures kept { IfOk result (λ node. machine.new.table.kept ≡ machine.old.table.kept + opened node) }
     ensures frames { machine.new.frames ≡ machine.old.frames }
-    ensures runs { OnOk result (IsReading question.now.version machine.new.reader) }
+    ensures runs { OnOk result (ReadsVersion question.now.version machine.new.reader) }
     ensures held { length machine.new.reader.held ≤ 4096 }
     ensures fails { FailsRead (S.has_failed source.new) (stops [] result) }
     ensures few { WalksOn machine.old machine.new (S.left source.old) (S.left source.new) (stops [] result) }

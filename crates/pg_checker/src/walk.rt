@@ -7,7 +7,7 @@ ghost use Rattle.pg_position.specs.Array.{array_state};
 ghost use Rattle.pg_position.specs.Position.{IsPosition};
 ghost use Rattle.pg_checker.specs.numbers.Halting.{causes, stops};
 ghost use Rattle.pg_checker.specs.numbers.Judging.{LeafSays};
-ghost use Rattle.pg_checker.specs.numbers.Machine.{IsReading, Walks, WalksOn, entered, entries_of, frame_of, game_at, named_at, path, stack_at, state_at, work_at};
+ghost use Rattle.pg_checker.specs.numbers.Machine.{ReadsVersion, Walks, WalksOn, entered, entries_of, frame_of, game_at, named_at, path, stack_at, state_at, work_at};
 ghost use Rattle.pg_checker.specs.Passing.{AllElsewhere, PassesOver};
 ghost use Rattle.pg_checker.specs.numbers.Steps.{FailsRead};
 ghost use Rattle.pg_checker.specs.Tree.{one_if};
@@ -63,13 +63,13 @@ fn enter<S: Source>(
     requires depth { left + length machine.old.frames.items ≡ tree }
     requires limit { tree ≤ 128 }
     requires kept { machine.old.table.kept ≡ named_at machine.old }
-    requires runs { IsReading question.now.version machine.old.reader }
+    requires runs { ReadsVersion question.now.version machine.old.reader }
     requires held { length machine.old.reader.held ≤ 4096 }
     ensures says { Walks machine.old machine.new (S.left source.old) (S.left source.new)
         (enter_of (rules_for code_of excluded question.now) tree left (game_at machine.old) position.now (stack_at machine.old))
         (λ _. work_at (rules_for code_of excluded question.now) machine.new) (stops (game_at machine.new) result) }
     ensures kept { OnOk result (machine.new.table.kept ≡ named_at machine.new) }
-    ensures runs { OnOk result (IsReading question.now.version machine.new.reader) }
+    ensures runs { OnOk result (ReadsVersion question.now.version machine.new.reader) }
     ensures held { length machine.new.reader.held ≤ 4096 }
     ensures fails { FailsRead (S.has_failed source.new) (stops [] result) }
     ensures few { WalksOn machine.old machine.new (S.left source.old) (S.left source.new) (stops [] result) }
@@ -136,13 +136,13 @@ fn turn<S: Source>(
     requires depth { top.plies + suc (length machine.old.frames.items) ≡ tree }
     requires limit { tree ≤ 128 }
     requires kept { machine.old.table.kept ≡ one_if top.named + named_at machine.old }
-    requires runs { IsReading question.now.version machine.old.reader }
+    requires runs { ReadsVersion question.now.version machine.old.reader }
     requires held { length machine.old.reader.held ≤ 4096 }
     ensures says { Walks machine.old machine.new (S.left source.old) (S.left source.new)
         (turn_of (rules_for code_of excluded question.now) tree (frame_of top (reverse machine.old.frames.items)) (stack_at machine.old) machine.old.found)
         (λ _. work_at (rules_for code_of excluded question.now) machine.new) (stops (game_at machine.new) result) }
     ensures kept { OnOk result (machine.new.table.kept ≡ named_at machine.new) }
-    ensures runs { OnOk result (IsReading question.now.version machine.new.reader) }
+    ensures runs { OnOk result (ReadsVersion question.now.version machine.new.reader) }
     ensures held { length machine.new.reader.held ≤ 4096 }
     ensures fails { FailsRead (S.has_failed source.new) (stops [] result) }
     ensures few { WalksOn machine.old machine.new (S.left source.old) (S.left source.new) (stops [] result) }
@@ -205,14 +205,14 @@ fn run<S: Source>(
     requires stacked { Stacked tree (stack_at machine.old) }
     requires limit { tree ≤ 128 }
     requires kept { machine.old.table.kept ≡ named_at machine.old }
-    requires runs { IsReading question.now.version machine.old.reader }
+    requires runs { ReadsVersion question.now.version machine.old.reader }
     requires held { length machine.old.reader.held ≤ 4096 }
     ensures says { Walks machine.old machine.new (S.left source.old) (S.left source.new)
         (λ s. finish (rules_for code_of excluded question.now) tree (record { frames = stack_at machine.old; found = machine.old.found; state = s }))
         (λ _ rest n. (machine.new.found, state_at machine.new rest n)) (stops (game_at machine.new) result) }
     ensures closed { OnOk result (machine.new.frames.items ≡ []) }
     ensures kept { OnOk result (machine.new.table.kept ≡ 0) }
-    ensures runs { OnOk result (IsReading question.now.version machine.new.reader) }
+    ensures runs { OnOk result (ReadsVersion question.now.version machine.new.reader) }
     ensures held { length machine.new.reader.held ≤ 4096 }
     ensures fails { FailsRead (S.has_failed source.new) (stops [] result) }
     ensures few { WalksOn machine.old machine.new (S.left source.old) (S.left source.new) (stops [] result) }
@@ -243,14 +243,14 @@ fn tree_of<S: Source>(
     requires limit { tree ≤ 128 }
     requires closed { machine.old.frames.items ≡ [] }
     requires kept { machine.old.table.kept ≡ 0 }
-    requires runs { IsReading question.now.version machine.old.reader }
+    requires runs { ReadsVersion question.now.version machine.old.reader }
     requires held { length machine.old.reader.held ≤ 4096 }
     ensures says { Walks machine.old machine.new (S.left source.old) (S.left source.new)
         (visit (rules_for code_of excluded question.now) tree tree [] array_state)
         (λ _ rest n. (machine.new.found, state_at machine.new rest n)) (stops (game_at machine.new) result) }
     ensures closed { OnOk result (machine.new.frames.items ≡ []) }
     ensures kept { OnOk result (machine.new.table.kept ≡ 0) }
-    ensures runs { OnOk result (IsReading question.now.version machine.new.reader) }
+    ensures runs { OnOk result (ReadsVersion question.now.version machine.new.reader) }
     ensures held { length machine.new.reader.held ≤ 4096 }
     ensures fails { FailsRead (S.has_failed source.new) (stops [] result) }
     ensures few { WalksOn machine.old machine.new (S.left source.old) (S.left source.new) (stops [] result) }
@@ -270,12 +270,12 @@ pub(crate) fn all_trees<S: Source>(
     requires limit { question.now.plies ≤ 128 }
     requires closed { machine.old.frames.items ≡ [] }
     requires kept { machine.old.table.kept ≡ 0 }
-    requires runs { IsReading question.now.version machine.old.reader }
+    requires runs { ReadsVersion question.now.version machine.old.reader }
     requires held { length machine.old.reader.held ≤ 4096 }
     ensures says { Walks machine.old machine.new (S.left source.old) (S.left source.new)
         (run_of (rules_for code_of excluded question.now) (suc question.now.plies) 0 array_state)
         (λ _. state_at machine.new) (stops (game_at machine.new) result) }
-    ensures runs { OnOk result (IsReading question.now.version machine.new.reader) }
+    ensures runs { OnOk result (ReadsVersion question.now.version machine.new.reader) }
     ensures held { length machine.new.reader.held ≤ 4096 }
     ensures fails { FailsRead (S.has_failed source.new) (stops [] result) }
     ensures few { WalksOn machine.old machine.new (S.left source.old) (S.left source.new) (stops [] result) }

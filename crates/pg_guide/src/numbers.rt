@@ -9,17 +9,17 @@ use pg_pawns::shift_need;
 use pg_position::Position;
 use std::fmt::Write;
 
-// A place in a proof: the diagram to come to, the position, and the plies left.
+// A node of a certificate: the diagram to come to, its position, and the plies left.
 #[derive(Drop)]
-pub(crate) struct Place<'a> {
+pub(crate) struct Node<'a> {
     pub(crate) diagram: &'a Diagram,
     pub(crate) position: &'a Position,
     pub(crate) left: u8,
 }
 
 // The colour's plies among those that are left.
-pub(crate) fn own_plies(place: &Place, color: Color) -> u8 {
-    plies_left(place.position.side(), color, place.left)
+pub(crate) fn own_plies(node: &Node, color: Color) -> u8 {
+    plies_left(node.position.side(), color, node.left)
 }
 
 // That a colour has captured more men than the diagram lacks.
@@ -34,9 +34,9 @@ fn too_many(color: Color, owed: i16) -> Sentence {
 
 // Why captures exclude a colour: it owes fewer than none, or more than it has moves left; none where
 // they do not.
-pub(crate) fn captures_of(place: &Place, color: Color) -> Option<Sentence> {
-    let owed = owed(color, place.diagram, place.position);
-    let own = own_plies(place, color);
+pub(crate) fn captures_of(node: &Node, color: Color) -> Option<Sentence> {
+    let owed = owed(color, node.diagram, node.position);
+    let own = own_plies(node, color);
     if owed < 0 {
         return Some(too_many(color, owed));
     }
@@ -54,9 +54,9 @@ pub(crate) fn captures_of(place: &Place, color: Color) -> Option<Sentence> {
 
 // Why promotions exclude a colour: pawns are short for the pieces that it lacks and the pawns of the
 // diagram; none where they do not.
-pub(crate) fn promotions_of(place: &Place, color: Color) -> Option<Sentence> {
-    let wanted = place.diagram.board();
-    let board = place.position.board();
+pub(crate) fn promotions_of(node: &Node, color: Color) -> Option<Sentence> {
+    let wanted = node.diagram.board();
+    let board = node.position.board();
     let pieces = shortage(&wanted, &board, color);
     let needed = pieces.saturating_add(u16::from(pawns(&wanted, color)));
     let here = u16::from(pawns(&board, color));
@@ -84,8 +84,8 @@ pub(crate) fn promotions_of(place: &Place, color: Color) -> Option<Sentence> {
 
 // Why changes of file exclude a colour, so many as its pawns need: it owes fewer captures; none where
 // they do not.
-pub(crate) fn files_by(place: &Place, color: Color, shift: u16) -> Option<Sentence> {
-    let owed = owed(color, place.diagram, place.position);
+pub(crate) fn files_by(node: &Node, color: Color, shift: u16) -> Option<Sentence> {
+    let owed = owed(color, node.diagram, node.position);
     if owed < 0 {
         return Some(too_many(color, owed));
     }
@@ -105,10 +105,6 @@ pub(crate) fn files_by(place: &Place, color: Color, shift: u16) -> Option<Senten
 }
 
 // The same with the changes of file that the lines between files show.
-pub(crate) fn files_of(place: &Place, color: Color) -> Option<Sentence> {
-    files_by(
-        place,
-        color,
-        shift_need(color, place.diagram, place.position),
-    )
+pub(crate) fn files_of(node: &Node, color: Color) -> Option<Sentence> {
+    files_by(node, color, shift_need(color, node.diagram, node.position))
 }

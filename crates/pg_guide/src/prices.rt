@@ -1,7 +1,7 @@
 //! What a cut by prices says.
 
 use crate::names::{color_name, man_name, many};
-use crate::numbers::{Place, files_by, own_plies};
+use crate::numbers::{Node, files_by, own_plies};
 use crate::sentences::Sentence;
 use pg_board::{Board, Color, Kind, Man, Square, SquareSet};
 use pg_captures::price_sum;
@@ -116,12 +116,12 @@ fn write_list(targets: &Targets, prices: &Prices, way: usize, text: &mut Sentenc
 }
 
 // Why the prices of pawns exclude; none where they do not.
-fn pawn_prices_of(place: &Place, color: Color, prices: &Prices) -> Option<Sentence> {
+fn pawn_prices_of(node: &Node, color: Color, prices: &Prices) -> Option<Sentence> {
     let (u, v) = (prices.u(0), prices.v(0));
-    if prices.ways() != 1 || !pg_pawns::prices_exclude(place.diagram, place.position, color, u, v) {
+    if prices.ways() != 1 || !pg_pawns::prices_exclude(node.diagram, node.position, color, u, v) {
         return None;
     }
-    let goal = place.diagram.board();
+    let goal = node.diagram.board();
     let pawn = Man {
         color,
         kind: Kind::Pawn,
@@ -130,7 +130,7 @@ fn pawn_prices_of(place: &Place, color: Color, prices: &Prices) -> Option<Senten
         goal,
         squares: goal.squares_of(pawn),
     };
-    let mut text = match files_by(place, color, value(prices, 0)) {
+    let mut text = match files_by(node, color, value(prices, 0)) {
         Some(text) => text,
         None => return None,
     };
@@ -139,17 +139,17 @@ fn pawn_prices_of(place: &Place, color: Color, prices: &Prices) -> Option<Senten
 }
 
 // Why the prices of travel exclude; none where they do not.
-fn travel_prices_of(place: &Place, color: Color, prices: &Prices) -> Option<Sentence> {
-    if !pg_travel::prices_exclude(place.diagram, place.position, place.left, color, prices) {
+fn travel_prices_of(node: &Node, color: Color, prices: &Prices) -> Option<Sentence> {
+    if !pg_travel::prices_exclude(node.diagram, node.position, node.left, color, prices) {
         return None;
     }
-    let goal = place.diagram.board();
+    let goal = node.diagram.board();
     let targets = Targets {
         goal,
         squares: goal.squares_of_color(color),
     };
     let (way, needs) = least_way(prices);
-    let own = own_plies(place, color);
+    let own = own_plies(node, color);
     let mut text = Sentence::new();
     let name = color_name(color);
     let moves = many(u64::from(needs), "move", "moves");
@@ -160,15 +160,10 @@ fn travel_prices_of(place: &Place, color: Color, prices: &Prices) -> Option<Sent
 }
 
 // Why prices of this code exclude; none where they do not.
-pub(crate) fn prices_of(
-    place: &Place,
-    code: u8,
-    color: Color,
-    prices: &Prices,
-) -> Option<Sentence> {
+pub(crate) fn prices_of(node: &Node, code: u8, color: Color, prices: &Prices) -> Option<Sentence> {
     match code {
-        3 => pawn_prices_of(place, color, prices),
-        4 => travel_prices_of(place, color, prices),
+        3 => pawn_prices_of(node, color, prices),
+        4 => travel_prices_of(node, color, prices),
         _ => None,
     }
 }

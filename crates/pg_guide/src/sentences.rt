@@ -1,7 +1,7 @@
 //! What is said of a node that ends.
 
 use crate::machine::Ending;
-use crate::numbers::{Place, captures_of, files_of, promotions_of};
+use crate::numbers::{Node, captures_of, files_of, promotions_of};
 use crate::prices::prices_of;
 use crate::travel::travel_of;
 use arrayvec::ArrayString;
@@ -13,21 +13,21 @@ use std::fmt::Write;
 pub(crate) type Sentence = ArrayString<320>;
 
 // Why the bound with this code excludes a colour; none where it does not, or is not known.
-fn reason_of(place: &Place, code: u8, color: Color) -> Option<Sentence> {
+fn reason_of(node: &Node, code: u8, color: Color) -> Option<Sentence> {
     match code {
-        1 => captures_of(place, color),
-        2 => promotions_of(place, color),
-        3 => files_of(place, color),
-        4 => travel_of(place, color),
+        1 => captures_of(node, color),
+        2 => promotions_of(node, color),
+        3 => files_of(node, color),
+        4 => travel_of(node, color),
         _ => None,
     }
 }
 
 // The same for either colour, White first.
-fn reason(place: &Place, code: u8) -> Option<Sentence> {
-    match reason_of(place, code, Color::White) {
+fn reason(node: &Node, code: u8) -> Option<Sentence> {
+    match reason_of(node, code, Color::White) {
         Some(text) => Some(text),
-        None => reason_of(place, code, Color::Black),
+        None => reason_of(node, code, Color::Black),
     }
 }
 
@@ -45,14 +45,14 @@ fn excluded(code: u8, reason: Option<Sentence>) -> Sentence {
 }
 
 // What is said of a record; a reference is told elsewhere, where its node is known.
-fn recorded(place: &Place, record: &Record) -> Sentence {
+fn recorded(node: &Node, record: &Record) -> Sentence {
     match record {
-        Record::Cut(code) => excluded(*code, reason(place, *code)),
+        Record::Cut(code) => excluded(*code, reason(node, *code)),
         Record::Priced {
             code,
             color,
             prices,
-        } => excluded(*code, prices_of(place, *code, *color, prices)),
+        } => excluded(*code, prices_of(node, *code, *color, prices)),
         Record::Ref(_) | Record::Expand { .. } => said("a reference to no closed node"),
     }
 }
@@ -64,10 +64,10 @@ fn said(words: &str) -> Sentence {
 }
 
 // What is said of a node that ends.
-pub(crate) fn ended(place: &Place, ending: &Ending) -> Sentence {
+pub(crate) fn ended(node: &Node, ending: &Ending) -> Sentence {
     match ending {
         Ending::Leaf(true) => said("a solution"),
         Ending::Leaf(false) => said("does not end on the diagram"),
-        Ending::Said(record) => recorded(place, record),
+        Ending::Said(record) => recorded(node, record),
     }
 }

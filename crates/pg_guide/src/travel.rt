@@ -1,7 +1,7 @@
 //! What a cut by travel says.
 
 use crate::names::{color_name, man_name, many};
-use crate::numbers::{Place, own_plies};
+use crate::numbers::{Node, own_plies};
 use crate::sentences::Sentence;
 use pg_board::{Board, Color, Man, Square};
 use pg_position::{Position, Rights};
@@ -23,8 +23,8 @@ const KING_SIDE: Rights = Rights {
 };
 
 // The colour's need where no other rights to castle are held.
-fn need_with(place: &Place, color: Color, kept: Rights) -> Option<u16> {
-    let held = place.position.rights();
+fn need_with(node: &Node, color: Color, kept: Rights) -> Option<u16> {
+    let held = node.position.rights();
     let rights = Rights {
         white_king: held.white_king && kept.white_king,
         white_queen: held.white_queen && kept.white_queen,
@@ -32,22 +32,22 @@ fn need_with(place: &Place, color: Color, kept: Rights) -> Option<u16> {
         black_queen: held.black_queen && kept.black_queen,
     };
     let position = Position::from_parts(
-        place.position.board(),
-        place.position.side(),
+        node.position.board(),
+        node.position.side(),
         rights,
-        place.position.passed(),
+        node.position.passed(),
     );
     match position {
-        Ok(position) => need(color, place.diagram, &position),
+        Ok(position) => need(color, node.diagram, &position),
         Err(_) => None,
     }
 }
 
 // How castling helps to a need, if it does.
-fn castling(place: &Place, color: Color, need: u16) -> &'static str {
-    if need_with(place, color, NO_RIGHTS) == Some(need) {
+fn castling(node: &Node, color: Color, need: u16) -> &'static str {
+    if need_with(node, color, NO_RIGHTS) == Some(need) {
         ""
-    } else if need_with(place, color, KING_SIDE) == Some(need) {
+    } else if need_with(node, color, KING_SIDE) == Some(need) {
         ", castling king side"
     } else {
         ", castling queen side"
@@ -71,9 +71,9 @@ fn comes(board: &Board, man: Man, to: Square) -> bool {
 }
 
 // The first man of the colour in the diagram that no man of the position can come to be.
-fn unreached(place: &Place, color: Color) -> Option<(Man, Square)> {
-    let board = place.position.board();
-    let goal = place.diagram.board();
+fn unreached(node: &Node, color: Color) -> Option<(Man, Square)> {
+    let board = node.position.board();
+    let goal = node.diagram.board();
     let mut own = goal.squares_of_color(color).squares();
     for _ in 0..64u8 {
         let Some(square) = own.next() else {
@@ -89,10 +89,10 @@ fn unreached(place: &Place, color: Color) -> Option<(Man, Square)> {
 }
 
 // That a man of the diagram comes from nowhere.
-fn from_nowhere(place: &Place, color: Color) -> Sentence {
+fn from_nowhere(node: &Node, color: Color) -> Sentence {
     let mut text = Sentence::new();
     let name = color_name(color);
-    let _ = match unreached(place, color) {
+    let _ = match unreached(node, color) {
         Some((man, square)) => {
             let man = man_name(man.kind, square);
             let man = man.as_str();
@@ -105,17 +105,17 @@ fn from_nowhere(place: &Place, color: Color) -> Sentence {
 
 // Why travel excludes a colour: it needs more moves than it has, or no number of moves is enough; none
 // where it does not.
-pub(crate) fn travel_of(place: &Place, color: Color) -> Option<Sentence> {
-    let own = own_plies(place, color);
-    let Some(need) = need(color, place.diagram, place.position) else {
-        return Some(from_nowhere(place, color));
+pub(crate) fn travel_of(node: &Node, color: Color) -> Option<Sentence> {
+    let own = own_plies(node, color);
+    let Some(need) = need(color, node.diagram, node.position) else {
+        return Some(from_nowhere(node, color));
     };
     if need <= u16::from(own) {
         return None;
     }
     let mut text = Sentence::new();
     let name = color_name(color);
-    let castling = castling(place, color, need);
+    let castling = castling(node, color, need);
     let moves = many(u64::from(need), "move", "moves");
     let moves = moves.as_str();
     let _ = write!(

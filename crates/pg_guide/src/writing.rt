@@ -4,7 +4,7 @@ ghost use Rattle.std.specs.Prelude.{◌≡◌, true, false, OnOk, OnErr};
 use crate::counts::expanded;
 use crate::machine::{Cited, Ending, Machine, Question};
 use crate::names::many;
-use crate::numbers::Place;
+use crate::numbers::Node;
 use crate::play::position_after;
 use crate::sentences::{Sentence, ended};
 use arrayvec::ArrayString;
@@ -126,12 +126,12 @@ fn put_ending<W: Sink>(
         return put_reference(moves, left, cited, more, out);
     }
     let position = position_after(moves);
-    let place = Place {
+    let node = Node {
         diagram: question.diagram,
         position: &position,
         left,
     };
-    let mut said = ended(&place, ending);
+    let mut said = ended(&node, ending);
     let _ = write!(said, "{more}");
     put_line(moves, &said, out)
 }

@@ -7,7 +7,7 @@ use Rattle.pg_board.specs.declared.man.Color.TheVariants.{White, Black}
 use Rattle.pg_board.specs.declared.man.Kind.{Kind}
 use Rattle.pg_board.specs.declared.man.Kind.TheVariants.{Pawn, Knight, Bishop, Rook, Queen, King}
 use Rattle.pg_board.specs.declared.man.Man.{Man}
-use Rattle.pg_board.specs.Bits.{has, has-and, has-or, has-none, has-first, has-last}
+use Rattle.pg_board.specs.Bits.{has}
 use Rattle.pg_board.specs.Men.{man, other, is_man, is_held}
 use Rattle.pg_board.specs.lemmas.Equalities.{is_man_decides}
 use Rattle.pg_board.specs.Placement.{Placement, get}
@@ -15,7 +15,7 @@ use Rattle.pg_board.specs.lemmas.Placements.{get_on}
 use Rattle.pg_position.specs.declared.direction.Direction.{Direction}
 use Rattle.pg_position.specs.declared.direction.Direction.TheVariants.{North, NorthEast, East, SouthEast, South, SouthWest, West, NorthWest}
 use Rattle.pg_position.specs.Geometry.{InPattern, IsBetween}
-use Rattle.pg_position.specs.numbers.Rays.{OnRay, IsIn, ascends, is_straight, slides}
+use Rattle.pg_position.specs.numbers.Rays.{OnRay, OnFileOrRank, OnDiagonal, IsIn, ascends, is_straight, slides}
 use Rattle.pg_board.specs.SquareSets.{IsSetOf, Meet, HasNoneFrom, IsFirstFrom, IsLastIn}
 use Rattle.pg_position.specs.Attack.{IsClear, Attacks, AttacksFrom}
 use Rattle.pg_position.specs.numbers.Lines.{AttackedBy, AttackedAlong, IsBlocked, IsFree, ByStep, Straight, Diagonal}
@@ -231,10 +231,10 @@ module _ (b : Placement) (c : Color) (s men lines : ℕ) (u : Bool) (met : Decid
     ]),
   )
 
-  pub none_straight : IsSetOf men (λ q. (get b q ≡ Some (man c Rook)) ⊎ (get b q ≡ Some (man c Queen))) → IsSetOf lines (λ q. ((OnRay North s q ⊎ OnRay East s q) ⊎ OnRay South s q) ⊎ OnRay West s q) → IsTrue false ↔ Straight b c s
+  pub none_straight : IsSetOf men (λ q. (get b q ≡ Some (man c Rook)) ⊎ (get b q ≡ Some (man c Queen))) → IsSetOf lines (OnFileOrRank s) → IsTrue false ↔ Straight b c s
   none_straight are on = none_of_four true Rook straight_kind North East South West refl refl refl refl are on
 
-  pub none_diagonal : IsSetOf men (λ q. (get b q ≡ Some (man c Bishop)) ⊎ (get b q ≡ Some (man c Queen))) → IsSetOf lines (λ q. ((OnRay NorthEast s q ⊎ OnRay SouthEast s q) ⊎ OnRay SouthWest s q) ⊎ OnRay NorthWest s q) → IsTrue false ↔ Diagonal b c s
+  pub none_diagonal : IsSetOf men (λ q. (get b q ≡ Some (man c Bishop)) ⊎ (get b q ≡ Some (man c Queen))) → IsSetOf lines (OnDiagonal s) → IsTrue false ↔ Diagonal b c s
   none_diagonal are on = none_of_four false Bishop diagonal_kind NorthEast SouthEast SouthWest NorthWest refl refl refl refl are on
 
 -- ---- every attack

@@ -1,14 +1,16 @@
--- The squares between king and rook, and those to which the king castles. Leads to the contracts of `path` and `castling_targets`.
+-- The squares between king and rook, and those to which the king castles. Leads to the contracts of `path`, `castling_targets`,
+-- `castling_homes` and `Rights::after`.
 use Rattle.std.proofs.Common.{Some, ◌+◌, ◌≡◌, ◌≢◌, ◌↔◌, ℕ, ◌<◌, ◌⊎◌, inl, inr, IsTrue, Bool, true, false, not, ◌&&◌, ◌||◌, nat_eq, ltb, None, refl, sym, ap, subst, ◌∙◌, arith}
 use Rattle.std.proofs.lemmas.Bool.{ne_eqb}
-use Rattle.std.proofs.lemmas.Bool.Decides.{Decides-ltb, Decides-and, Decides-at, Decides-like}
+use Rattle.std.specs.Bool.{Decides}
+use Rattle.std.proofs.lemmas.Bool.Decides.{Decides-ltb, Decides-eqb, Decides-and, Decides-or, Decides-at, Decides-like}
 use Rattle.pg_board.specs.declared.man.Color.{Color}
 use Rattle.pg_board.specs.declared.man.Color.TheVariants.{White, Black}
 use Rattle.pg_board.specs.declared.man.Kind.TheVariants.{King}
 use Rattle.pg_board.specs.Bits.{has, bits_below, has-bits_below}
 use Rattle.pg_board.specs.Men.{other, is_held}
 use Rattle.pg_board.specs.Placement.{Placement, get}
-use Rattle.pg_board.specs.Squares.{file, rank}
+use Rattle.pg_board.specs.Squares.{rank}
 use Rattle.pg_position.specs.declared.rights.Rights.{Rights}
 use Rattle.pg_position.specs.declared.rights.Wing.{Wing}
 use Rattle.pg_position.specs.declared.rights.Wing.TheVariants.{KingSide, QueenSide}
@@ -19,7 +21,8 @@ use Rattle.pg_position.specs.Geometry.{IsBetween}
 use Rattle.pg_position.specs.Position.{holds}
 use Rattle.pg_board.specs.SquareSets.{IsSetOf, Meet}
 use Rattle.pg_position.specs.Step.{IsCastling, touches, rights_after}
-use Rattle.pg_position.specs.Squares.{king_home, rook_home, king_crossed, king_target}
+use Rattle.pg_position.specs.Squares.{king_home, rook_home, king_target, IsCastlingHome}
+use Rattle.pg_position.specs.numbers.Castling.{IsOpen, IsSafe, IsSafeTo}
 use Rattle.pg_position.proofs.AttackLemmas.{not_held}
 use Rattle.pg_board.proofs.SetLemmas.{set_of_union, set_like}
 
@@ -99,26 +102,20 @@ clear_is b r s n held false is holds meets = (
 abbrev pub castling_to : State → ℕ → Move
 castling_to p q = record { from = king_home p.side; to = q; promotion = None }
 
-abbrev pub IsOpen : State → Wing → Type 0
-IsOpen p w = (holds p.rights p.side w ≡ true) × IsClear p.board (king_home p.side) (rook_home p.side w)
-
-abbrev pub IsSafeTo : State → Bool → Wing → ℕ → Type 0
-IsSafeTo p way w q = (q ≡ king_target p.side w) × (way ≡ true) × (¬ Attacks p.board (other p.side) (king_crossed p.side w)) × (¬ Attacks p.board (other p.side) (king_target p.side w))
-
 module _ (p : State) (short long : Bool) (ks : IsTrue short ↔ IsOpen p KingSide) (ql : IsTrue long ↔ IsOpen p QueenSide) where
   pub castle_set : (a b n : ℕ) → ¬ Attacks p.board (other p.side) (king_home p.side) → IsSetOf a (IsSafeTo p short KingSide) → IsSetOf b (IsSafeTo p long QueenSide) → ((q : ℕ) → has n q ≡ has a q || has b q) → IsSetOf n (λ q. (w : Wing) × IsCastling p King (castling_to p q) w)
   castle_set a b n home f g either = set_like n forth back (set_of_union n a b either f g)
     where
       forth : (q : ℕ) → q < 64 → IsSafeTo p short KingSide q ⊎ IsSafeTo p long QueenSide q → (w : Wing) × IsCastling p King (castling_to p q) w
-      forth q low (inl (e, s, x, y)) = (KingSide, record { unpromoted = refl; king = refl; home = refl; target = e; right = (ks.0 s).0; clear = (ks.0 s).1; safe_home = home; safe_crossed = x; safe_target = y })
-      forth q low (inr (e, s, x, y)) = (QueenSide, record { unpromoted = refl; king = refl; home = refl; target = e; right = (ql.0 s).0; clear = (ql.0 s).1; safe_home = home; safe_crossed = x; safe_target = y })
+      forth q low (inl (e, s, (x, y))) = (KingSide, record { unpromoted = refl; king = refl; home = refl; target = e; right = (ks.0 s).0; clear = (ks.0 s).1; safe_home = home; safe_crossed = x; safe_target = y })
+      forth q low (inr (e, s, (x, y))) = (QueenSide, record { unpromoted = refl; king = refl; home = refl; target = e; right = (ql.0 s).0; clear = (ql.0 s).1; safe_home = home; safe_crossed = x; safe_target = y })
 
       back : (q : ℕ) → q < 64 → (w : Wing) × IsCastling p King (castling_to p q) w → IsSafeTo p short KingSide q ⊎ IsSafeTo p long QueenSide q
-      back q low (KingSide, h) = inl (h.target, ks.1 (h.right, h.clear), h.safe_crossed, h.safe_target)
-      back q low (QueenSide, h) = inr (h.target, ql.1 (h.right, h.clear), h.safe_crossed, h.safe_target)
+      back q low (KingSide, h) = inl (h.target, ks.1 (h.right, h.clear), (h.safe_crossed, h.safe_target))
+      back q low (QueenSide, h) = inr (h.target, ql.1 (h.right, h.clear), (h.safe_crossed, h.safe_target))
 
-pub target_set : (p : State) (way : Bool) (w : Wing) (safe : Bool) (i n : ℕ) → way ≡ true → safe ≡ true → i ≡ king_target p.side w → IsTrue safe ↔ ((¬ Attacks p.board (other p.side) (king_crossed p.side w)) × (¬ Attacks p.board (other p.side) (king_target p.side w))) → IsSetOf n (λ q. q ≡ i) → IsSetOf n (IsSafeTo p way w)
-target_set p way w safe i n on calm e h one = set_like n (λ q l at. (at ∙ e, on, (h.0 calm).0, (h.0 calm).1)) (λ q l at. at.0 ∙ sym e) one
+pub target_set : (p : State) (way : Bool) (w : Wing) (safe : Bool) (i n : ℕ) → way ≡ true → safe ≡ true → i ≡ king_target p.side w → IsTrue safe ↔ IsSafe p w → IsSetOf n (λ q. q ≡ i) → IsSetOf n (IsSafeTo p way w)
+target_set p way w safe i n on calm e h one = set_like n (λ q l at. (at ∙ e, on, h.0 calm)) (λ q l at. at.0 ∙ sym e) one
 
 -- ---- the rights that a move leaves
 -- a square of the mask is no square of a move that does not meet it
@@ -135,14 +132,54 @@ kept : (h a b : Bool) → a ≡ false → b ≡ false → h ≡ (h && not (a || 
 kept true a b e f = cc
 kept false a b e f = refl
 
-pub rights_kept : (r : Rights) (m : Move) (n a b homes : ℕ) (t : Bool) → ((q : ℕ) → has n q ≡ has a q || has b q) → homes ≡ 10448351135499550865 → IsSetOf a (λ q. q ≡ m.from) → IsSetOf b (λ q. q ≡ m.to) → (IsTrue t ↔ Meet n homes) → t ≡ false → r ≡ rights_after r m
-rights_kept r m n a b homes t e z f g h off i =
+pub rights_kept : (r : Rights) (m : Move) (n a b homes : ℕ) (t : Bool) → ((q : ℕ) → has n q ≡ has a q || has b q) → IsSetOf homes IsCastlingHome → IsSetOf a (λ q. q ≡ m.from) → IsSetOf b (λ q. q ≡ m.to) → (IsTrue t ↔ Meet n homes) → t ≡ false → r ≡ rights_after r m
+rights_kept r m n a b homes t e is f g h off i =
     record {
-      white_king = kept r.white_king _ _ (home 4 (omega arith) refl) (home 7 (omega arith) refl) i;
-      white_queen = kept r.white_queen _ _ (home 4 (omega arith) refl) (home 0 (omega arith) refl) i;
-      black_king = kept r.black_king _ _ (home 60 (omega arith) refl) (home 63 (omega arith) refl) i;
-      black_queen = kept r.black_queen _ _ (home 60 (omega arith) refl) (home 56 (omega arith) refl) i;
+      white_king = kept r.white_king _ _ (king White) (rook White KingSide) i;
+      white_queen = kept r.white_queen _ _ (king White) (rook White QueenSide) i;
+      black_king = kept r.black_king _ _ (king Black) (rook Black KingSide) i;
+      black_queen = kept r.black_queen _ _ (king Black) (rook Black QueenSide) i;
     }
   where
-    home : (s : ℕ) → s < 64 → has 10448351135499550865 s ≡ true → touches m s ≡ false
-    home s low there = untouched n homes s m (set_of_union n a b e f g) (λ met. (let on : t ≡ true = h.1 met in cc)) low (ap (λ x. has x s) z ∙ there)
+    home : (s : ℕ) → s < 64 → IsCastlingHome s → touches m s ≡ false
+    home s low at = untouched n homes s m (set_of_union n a b e f g) (λ met. (let on : t ≡ true = h.1 met in cc)) low ((is s low).1 at)
+
+    king : (c : Color) → touches m (king_home c) ≡ false
+    king White = home 4 (omega arith) (White, inl refl)
+    king Black = home 60 (omega arith) (Black, inl refl)
+
+    rook : (c : Color) (w : Wing) → touches m (rook_home c w) ≡ false
+    rook White KingSide = home 7 (omega arith) (White, inr (KingSide, refl))
+    rook White QueenSide = home 0 (omega arith) (White, inr (QueenSide, refl))
+    rook Black KingSide = home 63 (omega arith) (Black, inr (KingSide, refl))
+    rook Black QueenSide = home 56 (omega arith) (Black, inr (QueenSide, refl))
+
+-- ---- where kings and rooks begin
+abbrev home_test : ℕ → Bool
+home_test q = (nat_eq q 4 || (nat_eq q 7 || nat_eq q 0)) || (nat_eq q 60 || (nat_eq q 63 || nat_eq q 56))
+
+homes_bits : 10448351135499550865 ≡ bits_below home_test 64
+unfolding bits_below
+homes_bits = refl
+
+home_forth : (q : ℕ) → ((q ≡ 4) ⊎ ((q ≡ 7) ⊎ (q ≡ 0))) ⊎ ((q ≡ 60) ⊎ ((q ≡ 63) ⊎ (q ≡ 56))) → IsCastlingHome q
+home_forth q (inl (inl e)) = (White, inl e)
+home_forth q (inl (inr (inl e))) = (White, inr (KingSide, e))
+home_forth q (inl (inr (inr e))) = (White, inr (QueenSide, e))
+home_forth q (inr (inl e)) = (Black, inl e)
+home_forth q (inr (inr (inl e))) = (Black, inr (KingSide, e))
+home_forth q (inr (inr (inr e))) = (Black, inr (QueenSide, e))
+
+home_back : (q : ℕ) → IsCastlingHome q → ((q ≡ 4) ⊎ ((q ≡ 7) ⊎ (q ≡ 0))) ⊎ ((q ≡ 60) ⊎ ((q ≡ 63) ⊎ (q ≡ 56)))
+home_back q (White, inl e) = inl (inl e)
+home_back q (White, inr (KingSide, e)) = inl (inr (inl e))
+home_back q (White, inr (QueenSide, e)) = inl (inr (inr e))
+home_back q (Black, inl e) = inr (inl e)
+home_back q (Black, inr (KingSide, e)) = inr (inr (inl e))
+home_back q (Black, inr (QueenSide, e)) = inr (inr (inr e))
+
+pub homes_at : IsSetOf 10448351135499550865 IsCastlingHome
+homes_at q low = Decides-at _ _ (ap (λ n. has n q) homes_bits ∙ has-bits_below home_test 64 q low) (Decides-like (home_test q) (home_forth q) (home_back q) (Decides-or _ _ (three 4 7 0) (three 60 63 56)))
+  where
+    three : (a b c : ℕ) → Decides (nat_eq q a || (nat_eq q b || nat_eq q c)) ((q ≡ a) ⊎ ((q ≡ b) ⊎ (q ≡ c)))
+    three a b c = Decides-or _ _ (Decides-eqb q a) (Decides-or _ _ (Decides-eqb q b) (Decides-eqb q c))

@@ -10,6 +10,10 @@ abbrev pub IsGame : State → List Move → State → Type 0
 IsGame p [] r = p ≡ r
 IsGame p (m ∷ ms) r = (q : State) × Legal p m q × IsGame q ms r
 
+-- the same moves, played from both, end on the same placement
+abbrev pub EndAlike : State → State → Type 0
+EndAlike p q = (ms : List Move) (r s : State) → IsGame p ms r → IsGame q ms s → r.board ≡ s.board
+
 -- no game of k plies from p ends on the placement d
 unfoldable pub Barren : Placement → State → ℕ → Type 0
 Barren d p k = (ms : List Move) (r : State) → length ms ≡ k → IsGame p ms r → r.board ≢ d

@@ -1,5 +1,5 @@
 -- Squares and ranks as a colour sees them: forward, where its men begin, where it castles (FIDE 2.3, 3.7, 3.8).
-use Rattle.std.specs.Prelude.{ℕ, ◌+◌, ◌-◌, ◌*◌, ◌<◌, ◌≤◌}
+use Rattle.std.specs.Prelude.{◌≡◌, ℕ, ◌+◌, ◌-◌, ◌*◌, ◌<◌, ◌≤◌, ◌⊎◌}
 use Rattle.pg_board.specs.declared.man.Color.{Color}
 use Rattle.pg_board.specs.declared.man.Color.TheVariants.{White, Black}
 use Rattle.pg_position.specs.declared.rights.Wing.{Wing}
@@ -39,6 +39,9 @@ rook_home White KingSide = 7
 rook_home White QueenSide = 0
 rook_home Black KingSide = 63
 rook_home Black QueenSide = 56
+
+abbrev pub IsCastlingHome : ℕ → Type 0
+IsCastlingHome q = (c : Color) × ((q ≡ king_home c) ⊎ ((w : Wing) × (q ≡ rook_home c w)))
 
 -- the square that the king crosses as it castles: f1, d1, f8, d8; and where it goes: g1, c1, g8, c8
 abbrev pub king_crossed : Color → Wing → ℕ

@@ -1,2 +1,3 @@
+pub mod Castling
 pub mod Rays
 pub mod Lines

@@ -2,7 +2,7 @@
 ghost use Rattle.std.specs.Prelude.{◌≡◌, ℕ, ◌<◌, ◌↔◌, IsTrue, ◌⊎◌, MatchOption, Some, None};
 ghost use Rattle.pg_board.specs.Men.{man};
 ghost use Rattle.pg_board.specs.Placement.{get};
-ghost use Rattle.pg_position.specs.numbers.Rays.{OnRay};
+ghost use Rattle.pg_position.specs.numbers.Rays.{OnRay, OnFileOrRank, OnDiagonal};
 ghost use Rattle.pg_position.specs.Attack.{Attacks};
 ghost use Rattle.pg_board.specs.SquareSets.{IsSetOf};
 ghost use Rattle.pg_position.specs.numbers.Lines.{AttackedBy, AttackedAlong, IsBlocked, ByStep, Straight, Diagonal};
@@ -83,7 +83,7 @@ fn sliders(board: &Board, by: Color, kind: Kind) -> SquareSet
 
 // The other squares of the file and the rank.
 fn straight_lines(square: Square) -> SquareSet
-    ensures { IsSetOf result (λ q. ((OnRay Direction.North square q ⊎ OnRay Direction.East square q) ⊎ OnRay Direction.South square q) ⊎ OnRay Direction.West square q) }
+    ensures { IsSetOf result (OnFileOrRank square) }
 {
     ray(Direction::North, square)
         | ray(Direction::East, square)
@@ -93,7 +93,7 @@ fn straight_lines(square: Square) -> SquareSet
 
 // The other squares of the two diagonals.
 fn diagonal_lines(square: Square) -> SquareSet
-    ensures { IsSetOf result (λ q. ((OnRay Direction.NorthEast square q ⊎ OnRay Direction.SouthEast square q) ⊎ OnRay Direction.SouthWest square q) ⊎ OnRay Direction.NorthWest square q) }
+    ensures { IsSetOf result (OnDiagonal square) }
 {
     ray(Direction::NorthEast, square)
         | ray(Direction::SouthEast, square)

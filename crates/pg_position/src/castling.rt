@@ -1,12 +1,11 @@
 //! Castling: the squares to which the king goes by it.
 ghost use Rattle.std.specs.Prelude.{◌≡◌, ◌<◌, ℕ, ◌↔◌, IsTrue, None, true};
-ghost use Rattle.pg_board.specs.Men.{other};
-ghost use Rattle.pg_position.specs.Attack.{Attacks, IsClear};
+ghost use Rattle.pg_position.specs.Attack.{IsClear};
 ghost use Rattle.pg_position.specs.Geometry.{IsBetween};
-ghost use Rattle.pg_position.specs.Position.{holds};
 ghost use Rattle.pg_board.specs.SquareSets.{IsSetOf};
 ghost use Rattle.pg_position.specs.Step.{IsCastling};
-ghost use Rattle.pg_position.specs.Squares.{king_home, rook_home, king_crossed, king_target};
+ghost use Rattle.pg_position.specs.Squares.{king_home, rook_home};
+ghost use Rattle.pg_position.specs.numbers.Castling.{IsOpen, IsSafe, IsSafeTo};
 ghost use Rattle.pg_position.specs.declared.rights.Wing.{Wing};
 
 use crate::attack::attacked;
@@ -41,14 +40,14 @@ fn is_path_clear(board: &Board, color: Color, wing: Wing) -> bool
 impl State {
     // Whether the right is held, and no man stands in the way.
     pub(crate) fn is_castling_open(&self, wing: Wing) -> bool
-        ensures { IsTrue result ↔ ((holds self.now.rights self.now.side wing ≡ true) × IsClear self.now.board (king_home self.now.side) (rook_home self.now.side wing)) }
+        ensures { IsTrue result ↔ IsOpen self.now wing }
     {
         self.rights.holds(self.side, wing) && is_path_clear(&self.board, self.side, wing)
     }
 
     // Whether neither the square that the king crosses nor the one that he comes to is attacked.
     pub(crate) fn is_castling_safe(&self, wing: Wing) -> bool
-        ensures { IsTrue result ↔ ((¬ Attacks self.now.board (other self.now.side) (king_crossed self.now.side wing)) × (¬ Attacks self.now.board (other self.now.side) (king_target self.now.side wing))) }
+        ensures { IsTrue result ↔ IsSafe self.now wing }
     {
         let by = self.side.other();
         !attacked(&self.board, king_crossed(self.side, wing), by)
@@ -57,7 +56,7 @@ impl State {
 
     // Where the king goes towards a wing whose way is open.
     fn target_if_safe(&self, way: bool, wing: Wing) -> SquareSet
-        ensures { IsSetOf result (λ q. (q ≡ king_target self.now.side wing) × (way ≡ true) × (¬ Attacks self.now.board (other self.now.side) (king_crossed self.now.side wing)) × (¬ Attacks self.now.board (other self.now.side) (king_target self.now.side wing))) }
+        ensures { IsSetOf result (IsSafeTo self.now way wing) }
     {
         if way && self.is_castling_safe(wing) {
             SquareSet::single(king_target(self.side, wing))

@@ -4,7 +4,7 @@ ghost use Rattle.pg_position.specs.declared.state.State.{State};
 ghost use Rattle.pg_position.specs.declared.moves.Move.{Move};
 ghost use Rattle.pg_position.specs.Position.{IsPosition};
 ghost use Rattle.pg_position.specs.Step.{Legal};
-ghost use Rattle.pg_position.specs.Game.{IsGame};
+ghost use Rattle.pg_position.specs.Game.{IsGame, EndAlike};
 ghost use Rattle.pg_position.specs.Future.{SameFuture};
 
 /// A legal move leads from a position to a position.
@@ -21,5 +21,5 @@ pub fn legal_leads_to_one_position()
 /// from both.
 pub fn same_future_same_games()
     ensures games { (p : State) (q : State) (ms : List Move) → SameFuture p q → ((r : State) × IsGame p ms r) ↔ ((s : State) × IsGame q ms s) }
-    ensures ends { (p : State) (q : State) (ms : List Move) (r : State) (s : State) → IsPosition p → IsPosition q → SameFuture p q → IsGame p ms r → IsGame q ms s → r.board ≡ s.board }
+    ensures ends { (p : State) (q : State) → IsPosition p → IsPosition q → SameFuture p q → EndAlike p q }
 {}

@@ -36,8 +36,8 @@ pub use reaching::{attacks_from, is_clear, reaches};
 pub use refusals::{BadPosition, Illegal};
 pub use rights::{Rights, Wing};
 pub use squares::{
-    ahead, has_ahead, home_rank, king_crossed, king_home, king_target, last_rank, must_promote,
-    passed_rank, rook_home,
+    ahead, castling_homes, has_ahead, home_rank, king_crossed, king_home, king_target, last_rank,
+    must_promote, passed_rank, rook_home,
 };
 
 #[cfg(test)]

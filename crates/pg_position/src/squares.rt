@@ -1,10 +1,11 @@
 //! Squares and ranks as a colour sees them: forward, where its men begin, where its king castles.
 ghost use Rattle.std.specs.Prelude.{◌≡◌, ◌↔◌, ◌<◌, ◌≤◌, IsTrue};
 ghost use Rattle.pg_position.specs.Step.{MustPromote};
-ghost use Rattle.pg_position.specs.Squares.{ahead, HasAhead, king_home, rook_home, passed_rank, home_rank, last_rank, king_crossed, king_target};
+ghost use Rattle.pg_board.specs.SquareSets.{IsSetOf};
+ghost use Rattle.pg_position.specs.Squares.{ahead, HasAhead, king_home, rook_home, IsCastlingHome, passed_rank, home_rank, last_rank, king_crossed, king_target};
 
 use crate::rights::Wing;
-use pg_board::{Color, Kind, Square};
+use pg_board::{Color, Kind, Square, SquareSet};
 
 /// The square so many ranks forward, which is on the board: towards rank 8 for White, towards rank 1
 /// for Black (FIDE article 3.7.1).
@@ -102,6 +103,15 @@ pub fn rook_home(color: Color, wing: Wing) -> Square
             Wing::QueenSide => Square::at(56),
         },
     }
+}
+
+/// The squares where a game begins with kings and rooks: a1, e1, h1, a8, e8 and h8 (FIDE article 2.3).
+/// A move that touches none of them leaves each right to castle as it was.
+#[inline(always)]
+pub fn castling_homes() -> SquareSet
+    ensures { IsSetOf result IsCastlingHome }
+{
+    SquareSet::of_bits(0x9100_0000_0000_0091)
 }
 
 /// What the castling king crosses, and where the rook comes to stand: f1, d1, f8, d8 (FIDE

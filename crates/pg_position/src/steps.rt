@@ -6,12 +6,9 @@ ghost use Rattle.pg_position.specs.Step.{IsWay, relocated, board_after, passed_a
 use crate::boards::relocate;
 use crate::moves::{Move, Way};
 use crate::rights::{Rights, Wing};
-use crate::squares::{ahead, king_crossed, king_home, rook_home};
+use crate::squares::{ahead, castling_homes, king_crossed, king_home, rook_home};
 use crate::state::State;
 use pg_board::{Board, Color, Kind, Man, Square, SquareSet};
-
-// The squares where a game begins with kings and rooks.
-const HOMES: u64 = 0x9100_0000_0000_0091;
 
 impl Move {
     fn touches(&self, square: Square) -> bool
@@ -34,7 +31,7 @@ impl Rights {
         ensures { result ≡ rights_after self.now m.now }
     {
         let touched = SquareSet::single(m.from) | SquareSet::single(m.to);
-        if !touched.meets(SquareSet::of_bits(HOMES)) {
+        if !touched.meets(castling_homes()) {
             return *self;
         }
         Rights {

@@ -1,11 +1,8 @@
 //! What is known of either colour at a node, and how a move changes it.
 
 use pg_board::{Board, Color, Kind, Man, Square, SquareSet};
-use pg_position::{Move, Position, Rights, Wing, king_home, rook_home};
+use pg_position::{Move, Position, Rights, Wing, castling_homes, king_home, rook_home};
 use pg_prices::{Needs, color_key, man_key, right_key};
-
-// The home squares of kings and rooks.
-const HOMES: u64 = 0x9100_0000_0000_0091;
 
 // One colour at a node: the key of its men and rights, what they need, and how many men, pawns and ways
 // to castle or not it has.
@@ -101,7 +98,7 @@ fn homes(color: Color, wing: Wing) -> SquareSet {
 fn lost(rights: Rights, color: Color, squares: SquareSet) -> (u64, u8) {
     let mut key = 0u64;
     let mut count = 0u8;
-    if !squares.meets(SquareSet::of_bits(HOMES)) {
+    if !squares.meets(castling_homes()) {
         return (0, 0);
     }
     for wing in [Wing::KingSide, Wing::QueenSide] {

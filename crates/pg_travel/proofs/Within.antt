@@ -18,7 +18,7 @@ use Rattle.pg_position.specs.declared.rights.Wing.{Wing}
 use Rattle.pg_position.specs.declared.rights.Wing.TheVariants.{KingSide, QueenSide}
 use Rattle.pg_position.specs.declared.state.State.{State}
 use Rattle.pg_position.specs.Position.{holds}
-use Rattle.pg_position.specs.Squares.{king_home, rook_home, king_crossed, king_target}
+use Rattle.pg_position.specs.Squares.{king_home, rook_home, king_crossed, king_target, IsCastlingHome}
 use Rattle.pg_board.proofs.SetLemmas.{has-not}
 use Rattle.pg_captures.specs.Owed.{plies_left}
 use Rattle.pg_travel.specs.Origins.{charge, counted}
@@ -73,39 +73,25 @@ costs_free b d c own moved n is differ both q l h = elim (and_false (has own q) 
   | inr on ↦ cost_same b d c None own q is l on.0 ((differ q l).0 on.1) refl
 ]
 
--- a1, e1, h1, a8, e8 and h8
-abbrev homes : ℕ
-homes = 10448351135499550865
+away : (q k : ℕ) → (q ≡ k → IsCastlingHome q) → ¬ IsCastlingHome q → nat_eq q k ≡ false
+away q k on off = ne_eqb q k (λ e. off (on e))
 
-away : (q k : ℕ) → has homes q ≡ false → has homes k ≡ true → nat_eq q k ≡ false
-away q k off on = ne_eqb q k (λ e. let same : has homes q ≡ has homes k = ap (has homes) e in cc)
-
-counted_away : (c : Color) (w : Wing) (q : ℕ) → has homes q ≡ false → counted c (Some w) q ≡ q
+counted_away : (c : Color) (w : Wing) (q : ℕ) → ¬ IsCastlingHome q → counted c (Some w) q ≡ q
 counted_away c w q off = (λ i. cond (king i) (king_target c w) (cond (rook i) (king_crossed c w) q))
   where
-    king_on : (c : Color) → has homes (king_home c) ≡ true
-    king_on White = refl
-    king_on Black = refl
-
-    rook_on : (c : Color) (w : Wing) → has homes (rook_home c w) ≡ true
-    rook_on White KingSide = refl
-    rook_on White QueenSide = refl
-    rook_on Black KingSide = refl
-    rook_on Black QueenSide = refl
-
     king : nat_eq q (king_home c) ≡ false
-    king = away q (king_home c) off (king_on c)
+    king = away q (king_home c) (λ e. (c, inl e)) off
 
     rook : nat_eq q (rook_home c w) ≡ false
-    rook = away q (rook_home c w) off (rook_on c w)
+    rook = away q (rook_home c w) (λ e. (c, inr (w, e))) off
 
-pub costs_castled : (b d : Placement) (c : Color) (w : Wing) (own moved home far n : ℕ) → IsOwn d c own → Differ b d moved → home ≡ homes → ((q : ℕ) → has far q ≡ (has moved q || has home q)) → ((q : ℕ) → has n q ≡ (has own q && has far q)) → CostsOnly b d c (Some w) n
+pub costs_castled : (b d : Placement) (c : Color) (w : Wing) (own moved home far n : ℕ) → IsOwn d c own → Differ b d moved → IsSetOf home IsCastlingHome → ((q : ℕ) → has far q ≡ (has moved q || has home q)) → ((q : ℕ) → has n q ≡ (has own q && has far q)) → CostsOnly b d c (Some w) n
 unfolding CostsOnly
 costs_castled b d c w own moved home far n is differ e either both q l h = elim (and_false (has own q) (has far q) (sym (both q) ∙ h)) [
   | inl off ↦ cost_off b d c (Some w) own q is l off
   | inr on ↦ (
       let off : (has moved q ≡ false) × (has home q ≡ false) = or_false (has moved q) (has home q) (sym (either q) ∙ on.1) in
-      cost_same b d c (Some w) own q is l on.0 ((differ q l).0 off.0) (counted_away c w q (ap (λ x. has x q) (sym e) ∙ off.1)))
+      cost_same b d c (Some w) own q is l on.0 ((differ q l).0 off.0) (counted_away c w q (λ at. let on : has home q ≡ true = (e q l).1 at in cc)))
 ]
 
 -- ---- what is sure to cost something

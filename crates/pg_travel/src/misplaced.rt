@@ -5,10 +5,7 @@ ghost use Rattle.pg_position.specs.Squares.{king_crossed, king_target};
 ghost use Rattle.pg_travel.specs.numbers.Within.{CostsOnly, CostsEach};
 
 use pg_board::{Board, Color, SquareSet};
-use pg_position::{Wing, king_crossed, king_target};
-
-// The squares where kings and rooks begin: a1, e1, h1, a8, e8 and h8.
-const HOMES: u64 = 0x9100_0000_0000_0091;
+use pg_position::{Wing, castling_homes, king_crossed, king_target};
 
 // The squares whose men may cost something.
 pub(crate) fn to_come(board: &Board, goal: &Board, color: Color, way: Option<Wing>) -> SquareSet
@@ -18,7 +15,7 @@ pub(crate) fn to_come(board: &Board, goal: &Board, color: Color, way: Option<Win
     let moved = board.differing(goal);
     match way {
         None => own & moved,
-        Some(_) => own & (moved | SquareSet::of_bits(HOMES)),
+        Some(_) => own & (moved | castling_homes()),
     }
 }
 

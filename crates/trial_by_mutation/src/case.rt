@@ -6,20 +6,20 @@ use pg_san::{Games, read_games};
 use std::alloc::{AllocError, Global};
 use std::fs;
 
-/// A problem, all its solutions, and a certificate.
+// A problem, all its solutions, and a certificate.
 #[derive(Drop)]
-pub struct Case {
-    pub diagram: Diagram,
-    pub length: Length,
-    pub games: Games,
-    pub bytes: Vec<u8>,
-    /// Where each record begins, and at last where the certificate ends.
-    pub starts: Vec<usize>,
+pub(crate) struct Case {
+    pub(crate) diagram: Diagram,
+    pub(crate) length: Length,
+    pub(crate) games: Games,
+    pub(crate) bytes: Vec<u8>,
+    // Where each record begins, and at last where the certificate ends.
+    pub(crate) starts: Vec<usize>,
 }
 
 impl Case {
-    /// The bytes of the record with this index; none where there is no such record.
-    pub fn record(&self, index: usize) -> &[u8] {
+    // The bytes of the record with this index; none where there is no such record.
+    pub(crate) fn record(&self, index: usize) -> &[u8] {
         part(
             self.bytes.as_slice(),
             self.start(index),
@@ -27,22 +27,22 @@ impl Case {
         )
     }
 
-    /// Where the record with this index begins, and the end of the certificate where there is none.
-    pub fn start(&self, index: usize) -> usize {
+    // Where the record with this index begins, and the end of the certificate where there is none.
+    pub(crate) fn start(&self, index: usize) -> usize {
         match self.starts.get(index) {
             Some(start) => *start,
             None => self.bytes.len(),
         }
     }
 
-    /// How many records it has.
-    pub fn records(&self) -> usize {
+    // How many records it has.
+    pub(crate) fn records(&self) -> usize {
         self.starts.len().saturating_sub(1)
     }
 }
 
-/// The bytes from one place up to another; none where they do not stand so.
-pub fn part(bytes: &[u8], from: usize, to: usize) -> &[u8] {
+// The bytes from one place up to another; none where they do not stand so.
+pub(crate) fn part(bytes: &[u8], from: usize, to: usize) -> &[u8] {
     match bytes.get(from..to) {
         Some(part) => part,
         None => &[],
@@ -76,9 +76,9 @@ fn starts_of(alloc: Global, bytes: &[u8]) -> Result<Vec<usize>, AllocError> {
     Ok(starts)
 }
 
-/// Reads a case from its three files: `NAME.problem` has the diagram and the length, each on a line,
-/// `NAME.games` the list and `NAME.pgc` the certificate.
-pub fn read_case(rt: &HostRuntime, name: &str) -> anyhow::Result<Case> {
+// Reads a case from its three files: `NAME.problem` has the diagram and the length, each on a line,
+// `NAME.games` the list and `NAME.pgc` the certificate.
+pub(crate) fn read_case(rt: &HostRuntime, name: &str) -> anyhow::Result<Case> {
     let problem = fs::read_to_string(rt, format!(in rt.alloc(); "{name}.problem")?)?;
     let list = fs::read_to_string(rt, format!(in rt.alloc(); "{name}.games")?)?;
     let bytes = fs::read(rt, format!(in rt.alloc(); "{name}.pgc")?)?;

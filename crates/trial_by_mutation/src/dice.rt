@@ -1,19 +1,19 @@
 //! Numbers drawn by a fixed rule, the same at each run.
 
-/// Draws numbers by a linear congruence of 64 bits.
+// Draws numbers by a linear congruence of 64 bits.
 #[derive(Clone, Copy, Debug)]
-pub struct Dice {
+pub(crate) struct Dice {
     state: u64,
 }
 
 impl Dice {
-    /// The draws that begin with this number.
-    pub fn new(seed: u64) -> Dice {
+    // The draws that begin with this number.
+    pub(crate) fn new(seed: u64) -> Dice {
         Dice { state: seed }
     }
 
-    /// A number below `bound`, and 0 where `bound` is 0.
-    pub fn below(&mut self, bound: usize) -> usize {
+    // A number below `bound`, and 0 where `bound` is 0.
+    pub(crate) fn below(&mut self, bound: usize) -> usize {
         self.state = self
             .state
             .wrapping_mul(6_364_136_223_846_793_005)
@@ -24,8 +24,8 @@ impl Dice {
         }
     }
 
-    /// A byte: one that records begin with or that a bound has for its code, or else any.
-    pub fn byte(&mut self) -> u8 {
+    // A byte: one that records begin with or that a bound has for its code, or else any.
+    pub(crate) fn byte(&mut self) -> u8 {
         let bound = if self.below(4) == 0 { 256 } else { 8 };
         match u8::try_from(self.below(bound)) {
             Ok(byte) => byte,

@@ -5,8 +5,8 @@ use pg_position::Move;
 use pg_san::Games;
 use std::alloc::{AllocError, Global};
 
-/// Whether two lists hold the same games.
-pub fn are_same(one: &Games, other: &Games) -> bool {
+// Whether two lists hold the same games.
+pub(crate) fn are_same(one: &Games, other: &Games) -> bool {
     for i in 0..one.len() {
         if one.game(i) != other.game(i) {
             return false;
@@ -58,9 +58,9 @@ fn turned(alloc: Global, dice: &mut Dice, game: &[Move]) -> Result<Vec<Move>, Al
     Ok(moves)
 }
 
-/// A list with a game left out or all, or with one added: of another list, cut short, with two plies in
-/// each other's place, or crossed with another game. A game that is not legal is not added.
-pub fn changed(
+// A list with a game left out or all, or with one added: of another list, cut short, with two plies in
+// each other's place, or crossed with another game. A game that is not legal is not added.
+pub(crate) fn changed(
     alloc: Global,
     dice: &mut Dice,
     case: &Case,

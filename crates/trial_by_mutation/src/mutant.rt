@@ -6,15 +6,15 @@ use pg_fen::Length;
 use pg_san::Games;
 use std::alloc::{AllocError, Global};
 
-/// What a check is asked in place of a case's own question.
+// What a check is asked in place of a case's own question.
 #[derive(Drop)]
-pub struct Mutant {
-    pub length: Length,
-    /// The list, where it is not the case's own.
-    pub games: Option<Games>,
-    pub bytes: Vec<u8>,
-    pub most_records: u64,
-    pub most_named: u32,
+pub(crate) struct Mutant {
+    pub(crate) length: Length,
+    // The list, where it is not the case's own.
+    pub(crate) games: Option<Games>,
+    pub(crate) bytes: Vec<u8>,
+    pub(crate) most_records: u64,
+    pub(crate) most_named: u32,
 }
 
 // Above what any certificate needs here.
@@ -24,8 +24,8 @@ const AMPLE_RECORDS: u64 = 1_000_000;
 const AMPLE_NAMED: u32 = 100_000;
 
 impl Mutant {
-    /// The case's own question and list, with these bytes and ample limits.
-    pub fn of(case: &Case, bytes: Vec<u8>) -> Mutant {
+    // The case's own question and list, with these bytes and ample limits.
+    pub(crate) fn of(case: &Case, bytes: Vec<u8>) -> Mutant {
         Mutant {
             length: case.length,
             games: None,
@@ -190,10 +190,10 @@ fn at_length(alloc: Global, dice: &mut Dice, mutant: &mut Mutant) {
     }
 }
 
-/// A mutant of the case: its bytes, records or names, its length or limits changed, one time in three
-/// its list too, and one time in six a byte more. What it takes from another certificate or list is the
-/// other case's.
-pub fn make_mutant(
+// A mutant of the case: its bytes, records or names, its length or limits changed, one time in three
+// its list too, and one time in six a byte more. What it takes from another certificate or list is the
+// other case's.
+pub(crate) fn make_mutant(
     alloc: Global,
     dice: &mut Dice,
     case: &Case,

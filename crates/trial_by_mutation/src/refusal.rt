@@ -1,9 +1,9 @@
 //! Why the trial ends with another status.
 use thiserror::Error;
 
-/// What was wrong with the words and files, or with an answer.
+// What was wrong with the words and files, or with an answer.
 #[derive(Debug, Drop, Error)]
-pub enum Refusal {
+pub(crate) enum Refusal {
     #[error("write names of cases, each with a number of mutants behind it")]
     Usage,
     #[error("a problem or a list is not read")]

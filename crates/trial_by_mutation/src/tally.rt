@@ -25,9 +25,9 @@ const NAMES: [&str; 20] = [
     "Trailing",
 ];
 
-/// A number for each answer.
+// A number for each answer.
 #[derive(Clone, Copy, Debug)]
-pub struct Tally {
+pub(crate) struct Tally {
     counts: [u64; 20],
 }
 
@@ -58,20 +58,20 @@ fn place(answer: &Result<Proved, Fault>) -> usize {
 }
 
 impl Tally {
-    /// A tally of no answer.
-    pub fn new() -> Tally {
+    // A tally of no answer.
+    pub(crate) fn new() -> Tally {
         Tally { counts: [0; 20] }
     }
 
-    /// Counts an answer.
-    pub fn add(&mut self, answer: &Result<Proved, Fault>) {
+    // Counts an answer.
+    pub(crate) fn add(&mut self, answer: &Result<Proved, Fault>) {
         if let Some(count) = self.counts.get_mut(place(answer)) {
             *count = count.saturating_add(1);
         }
     }
 
-    /// Each answer's name and number, a line each.
-    pub fn print(&self, rt: &HostRuntime) -> anyhow::Result<()> {
+    // Each answer's name and number, a line each.
+    pub(crate) fn print(&self, rt: &HostRuntime) -> anyhow::Result<()> {
         for (name, count) in NAMES.iter().zip(self.counts.iter()) {
             println!(rt; "{name} {count}")?;
         }

@@ -39,8 +39,8 @@ fn answer<S: Source>(
     )
 }
 
-/// The answer to a mutant, all its bytes in a call.
-pub fn answer_at_once(
+// The answer to a mutant, all its bytes in a call.
+pub(crate) fn answer_at_once(
     alloc: Global,
     case: &Case,
     mutant: &Mutant,
@@ -50,8 +50,8 @@ pub fn answer_at_once(
     answer(alloc, case, mutant, bounds, &mut source)
 }
 
-/// Whether one byte a call gives the same answer.
-pub fn is_same_by_bytes(
+// Whether one byte a call gives the same answer.
+pub(crate) fn is_same_by_bytes(
     alloc: Global,
     case: &Case,
     mutant: &Mutant,
@@ -62,8 +62,8 @@ pub fn is_same_by_bytes(
     answer(alloc, case, mutant, bounds, &mut source) == *told
 }
 
-/// The answer where one byte a call comes and the call with this number fails.
-pub fn answer_failing(
+// The answer where one byte a call comes and the call with this number fails.
+pub(crate) fn answer_failing(
     alloc: Global,
     case: &Case,
     mutant: &Mutant,
@@ -88,10 +88,10 @@ fn is_exact(case: &Case, mutant: &Mutant) -> bool {
     }
 }
 
-/// Sees that an answer is true, of what is known of the case: a yes comes to the exact list alone and
-/// within the limits, a game of fewer plies is told only at more plies than the case has, with its
-/// number, and a game that is not listed is one of the case's own.
-pub fn judge(
+// Sees that an answer is true, of what is known of the case: a yes comes to the exact list alone and
+// within the limits, a game of fewer plies is told only at more plies than the case has, with its
+// number, and a game that is not listed is one of the case's own.
+pub(crate) fn judge(
     case: &Case,
     mutant: &Mutant,
     told: &Result<Proved, Fault>,

@@ -81,8 +81,8 @@ opened (node.Opened is_named) = one_if is_named
 
 -- ---- the reader
 -- it has not refused, and reads records of this version
-abbrev pub IsReading : ℕ → ReaderState → Type 0
-IsReading version reader = (reader.failed ≡ false) × (reader.version ≡ version)
+abbrev pub ReadsVersion : ℕ → ReaderState → Type 0
+ReadsVersion version reader = (reader.failed ≡ false) × (reader.version ≡ version)
 
 -- ---- a piece of the walk done by code, from one machine to another, with what the source tells before and after
 -- the code answered what the walk answers from the state of the first machine: a value, seen by got, or a stop

@@ -15,7 +15,14 @@ use Rattle.pg_position.specs.Squares.{home_rank}
 use Rattle.pg_moves.specs.Targets.{IsFree, IsOrdinary}
 use Rattle.pg_moves.specs.declared.pawns.PawnWays.{PawnWays}
 
--- the square whose index is n more for White, and n less for Black: 8 for one rank forward
+-- how far the index of a square grows from one rank to the next, and over two
+abbrev pub one_rank : ℕ
+one_rank = 8
+
+abbrev pub two_ranks : ℕ
+two_ranks = 16
+
+-- the square whose index is n more for White, and n less for Black
 abbrev pub forward : Color → ℕ → ℕ → ℕ
 forward White n q = q + n
 forward Black n q = q - n
@@ -39,16 +46,16 @@ pub record IsQuiet (p : State) (q : ℕ) : Type 0 where
   pub stands : Stands p.board p.side Pawn q
   pub free : IsFree p Pawn q
   pub ordinary : IsOrdinary p Pawn q
-  pub inside : IsInside p.side 16 q
+  pub inside : IsInside p.side two_ranks q
 
 -- each square of the set has two ranks in front
 abbrev pub AreInside : Color → ℕ → Type 0
-AreInside c pawns = (q : ℕ) → q < 64 → has pawns q ≡ true → IsInside c 16 q
+AreInside c pawns = (q : ℕ) → q < 64 → has pawns q ≡ true → IsInside c two_ranks q
 
 -- from which squares of the set a pawn goes one square forward, goes two, captures towards the a-file, captures towards the h-file
 pub record AreWays (b : Placement) (c : Color) (pawns : ℕ) (w : PawnWays) : Type 0 where
-  pub once : IsSetOf w.once (λ q. (has pawns q ≡ true) × IsVacant b (forward c 8 q))
-  pub twice : IsSetOf w.twice (λ q. (has pawns q ≡ true) × IsVacant b (forward c 8 q) × (rank q ≡ home_rank c) × IsVacant b (forward c 16 q))
+  pub once : IsSetOf w.once (λ q. (has pawns q ≡ true) × IsVacant b (forward c one_rank q))
+  pub twice : IsSetOf w.twice (λ q. (has pawns q ≡ true) × IsVacant b (forward c one_rank q) × (rank q ≡ home_rank c) × IsVacant b (forward c two_ranks q))
   pub left : IsSetOf w.left (λ q. (has pawns q ≡ true) × (file q ≢ 1) × IsEnemy b c (forward c (to_left c) q))
   pub right : IsSetOf w.right (λ q. (has pawns q ≡ true) × (file q ≢ 8) × IsEnemy b c (forward c (to_right c) q))
 

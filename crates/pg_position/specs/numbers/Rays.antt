@@ -1,6 +1,6 @@
 -- The eight rays that go out from a square, and which men move along them (FIDE 3.2 to 3.4).
 -- Helper notions of this crate's attack functions: no contract of a caller outside needs them.
-use Rattle.std.specs.Prelude.{◌≡◌, ℕ, ◌+◌, ◌<◌, Bool, true, false, not}
+use Rattle.std.specs.Prelude.{◌≡◌, ℕ, ◌+◌, ◌<◌, ◌⊎◌, Bool, true, false, not}
 use Rattle.pg_board.specs.declared.man.Kind.{Kind}
 use Rattle.pg_board.specs.declared.man.Kind.TheVariants.{Pawn, Knight, Bishop, Rook, Queen, King}
 use Rattle.pg_board.specs.Squares.{file, rank}
@@ -28,6 +28,14 @@ OnRay South r s = (file s ≡ file r) × (rank s < rank r)
 OnRay SouthWest r s = (file s + rank r ≡ file r + rank s) × (rank s < rank r)
 OnRay West r s = (rank s ≡ rank r) × (file s < file r)
 OnRay NorthWest r s = (file s + rank s ≡ file r + rank r) × (rank r < rank s)
+
+-- s is another square of the file or the rank of r
+abbrev pub OnFileOrRank : ℕ → ℕ → Type 0
+OnFileOrRank r s = ((OnRay North r s ⊎ OnRay East r s) ⊎ OnRay South r s) ⊎ OnRay West r s
+
+-- s is another square of a diagonal of r
+abbrev pub OnDiagonal : ℕ → ℕ → Type 0
+OnDiagonal r s = ((OnRay NorthEast r s ⊎ OnRay SouthEast r s) ⊎ OnRay SouthWest r s) ⊎ OnRay NorthWest r s
 
 -- along files and ranks, not along diagonals
 abbrev pub is_straight : Direction → Bool

@@ -5,4 +5,4 @@ pub returns-clause-games : goal.returns-clause-games
 returns-clause-games c = λ p q ms h. (same_games p q ms h, same_games q p ms (future_sym p q h))
 
 pub returns-clause-ends : goal.returns-clause-ends
-returns-clause-ends c = λ p q ms r s pos also h g k. same_ends p q ms r s pos h g k
+returns-clause-ends c = λ p q pos also h ms r s g k. same_ends p q ms r s pos h g k

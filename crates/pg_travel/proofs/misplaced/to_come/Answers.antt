@@ -10,5 +10,5 @@ returns-in-None c = subst (λ (x : Option Wing). CostsOnly c.args.board.now c.ar
 
 pub returns-in-Some : goal.returns-in-Some
 returns-in-Some c = subst (λ (x : Option Wing). CostsOnly c.args.board.now c.args.goal.now c.args.color x c.bitand-in-Some.result) (sym c.in-Some.is)
-    (costs_castled c.args.board.now c.args.goal.now c.args.color c.in-Some.field-0 c.squares_of_color-own.result c.differing-moved.result c.of_bits.result c.bitor.result c.bitand-in-Some.result
-    c.squares_of_color-own.ensures c.differing-moved.ensures c.of_bits.ensures c.bitor.ensures.members c.bitand-in-Some.ensures.members)
+    (costs_castled c.args.board.now c.args.goal.now c.args.color c.in-Some.field-0 c.squares_of_color-own.result c.differing-moved.result c.castling_homes.result c.bitor.result c.bitand-in-Some.result
+    c.squares_of_color-own.ensures c.differing-moved.ensures c.castling_homes.ensures c.bitor.ensures.members c.bitand-in-Some.ensures.members)
