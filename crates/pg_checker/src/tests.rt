@@ -11,8 +11,8 @@ use pg_fen::{Diagram, Length};
 use pg_pawns::PawnFiles;
 use pg_san::{Games, read_games};
 use pg_travel::Travel;
-use pg_trial::{OPEN_GAME, OneByte, certificate};
-use std::alloc::{AllocError, Allocator};
+use pg_trial::{FailsAt, OPEN_GAME, OneByte, certificate};
+use std::io::ErrorKind;
 use std::process::Abort;
 use std::test::*;
 
@@ -54,20 +54,34 @@ fn ask<R: Abort + AllocGlobal>(rt: &R, diagram: &str, length: &str, games: &str)
     }
 }
 
-// What is answered with the four bounds, in the order of their codes.
-fn checked<R: AllocGlobal, S: Source>(
+fn boxed<R: Abort + AllocGlobal, B>(rt: &R, bound: B) -> Box<B> {
+    Box::new(rt.alloc(), bound).expect(rt, "memory")
+}
+
+fn add<R: Abort>(rt: &R, bounds: &mut Vec<Box<dyn Bound>>, bound: Box<dyn Bound>) {
+    bounds.push(bound).expect(rt, "memory");
+}
+
+// The four bounds, in the order of their codes.
+fn four_bounds<R: Abort + AllocGlobal>(rt: &R) -> Vec<Box<dyn Bound>> {
+    let mut bounds: Vec<Box<dyn Bound>> = Vec::new(rt.alloc());
+    add(rt, &mut bounds, boxed(rt, Captures));
+    add(rt, &mut bounds, boxed(rt, Promotions));
+    add(rt, &mut bounds, boxed(rt, PawnFiles));
+    add(rt, &mut bounds, boxed(rt, Travel));
+    bounds
+}
+
+// What is answered with the four bounds.
+fn checked<R: Abort + AllocGlobal, S: Source>(
     rt: &R,
     problem: &Problem,
     source: &mut S,
     max_records: u64,
     max_named: u32,
-) -> Result<Result<Proved, Fault>, AllocError> {
-    let mut bounds: Vec<Box<dyn Bound>> = Vec::new(rt.alloc());
-    bounds.push(Box::new(rt.alloc(), Captures)?)?;
-    bounds.push(Box::new(rt.alloc(), Promotions)?)?;
-    bounds.push(Box::new(rt.alloc(), PawnFiles)?)?;
-    bounds.push(Box::new(rt.alloc(), Travel)?)?;
-    Ok(check(
+) -> Result<Proved, Fault> {
+    let bounds = four_bounds(rt);
+    check(
         rt.alloc(),
         &problem.diagram,
         problem.length,
@@ -76,33 +90,36 @@ fn checked<R: AllocGlobal, S: Source>(
         source,
         max_records,
         max_named,
-    ))
+    )
 }
 
 // A certificate for the problem with these records.
-fn certified<R: AllocGlobal>(
-    rt: &R,
-    problem: &Problem,
-    records: &[u8],
-) -> Result<Vec<u8>, AllocError> {
-    certificate(rt.alloc(), b'1', &problem.diagram, problem.length, records)
-}
-
-// The header of a certificate for the problem.
-fn headed<R: AllocGlobal>(rt: &R, problem: &Problem) -> Result<Vec<u8>, AllocError> {
-    certified(rt, problem, &[])
+fn certified<R: Abort + AllocGlobal>(rt: &R, problem: &Problem, records: &[u8]) -> Vec<u8> {
+    let made = certificate(rt.alloc(), b'1', &problem.diagram, problem.length, records);
+    made.expect(rt, "memory")
 }
 
 // The same bytes so many times.
-fn repeat<A: Allocator>(
-    bytes: &mut Vec<u8, A>,
-    piece: &[u8],
-    times: usize,
-) -> Result<(), AllocError> {
+fn repeat<R: Abort>(rt: &R, bytes: &mut Vec<u8>, piece: &[u8], times: usize) {
     for _ in 0..times {
-        bytes.extend_from_slice(piece)?;
+        bytes.extend_from_slice(piece).expect(rt, "memory");
     }
-    Ok(())
+}
+
+// A certificate for the problem, with each piece so many times.
+fn pieced<R: Abort + AllocGlobal>(rt: &R, problem: &Problem, pieces: &[(&[u8], usize)]) -> Vec<u8> {
+    let mut bytes = certified(rt, problem, &[]);
+    for (piece, times) in pieces {
+        repeat(rt, &mut bytes, piece, *times);
+    }
+    bytes
+}
+
+// Writes a byte over another.
+fn put(bytes: &mut [u8], place: usize, byte: u8) {
+    if let Some(kept) = bytes.get_mut(place) {
+        *kept = byte;
+    }
 }
 
 // What is answered with the four bounds to the bytes, through a reader of one byte a call and
@@ -113,13 +130,41 @@ fn answer<R: Abort + AllocGlobal>(
     bytes: &[u8],
     max_records: u64,
     max_named: u32,
-) -> Result<Result<Proved, Fault>, AllocError> {
+) -> Result<Proved, Fault> {
     let mut one = FromRead::new(OneByte::new(bytes));
-    let slowly = checked(rt, problem, &mut one, max_records, max_named)?;
+    let slowly = checked(rt, problem, &mut one, max_records, max_named);
     let mut many = FromRead::new(bytes);
-    let said = checked(rt, problem, &mut many, max_records, max_named)?;
+    let said = checked(rt, problem, &mut many, max_records, max_named);
     assert!(rt; said == slowly);
-    Ok(said)
+    said
+}
+
+// The answer to the bytes is this one.
+fn answers<R: Abort + AllocGlobal>(
+    rt: &R,
+    problem: &Problem,
+    bytes: &[u8],
+    max_records: u64,
+    max_named: u32,
+    wanted: Result<Proved, Fault>,
+) {
+    assert!(rt; answer(rt, problem, bytes, max_records, max_named) == wanted);
+}
+
+// Every proper prefix of the bytes is truncated.
+fn each_prefix_is_truncated<R: Abort + AllocGlobal>(rt: &R, problem: &Problem, bytes: &[u8]) {
+    for n in 0..bytes.len() {
+        answers(rt, problem, &bytes[..n], MANY, 9, Err(Fault::Truncated));
+    }
+}
+
+// Each of so many reads of a byte refuses in turn.
+fn each_read_fails<R: Abort + AllocGlobal>(rt: &R, problem: &Problem, bytes: &[u8], reads: u64) {
+    for call in 0..reads {
+        let reader = FailsAt::new(OneByte::new(bytes), call, ErrorKind::Interrupted);
+        let said = checked(rt, problem, &mut FromRead::new(reader), MANY, 9);
+        assert!(rt; said == Err(Fault::Read));
+    }
 }
 
 // Yes, with so many records and named nodes.

@@ -12,11 +12,11 @@ mod upgrades;
 
 use super::*;
 use pg_trial::{FailsAt, OneByte};
-use std::alloc::{AllocError, Global};
+use std::alloc::Global;
+use std::fmt::Display;
 use std::io::ErrorKind;
 use std::process::Abort;
 use std::str;
-use std::test::Fail;
 
 // More than any certificate here needs.
 const MANY: u64 = 1_000_000;
@@ -97,28 +97,48 @@ const FOOLS_MATE: [&str; 3] = [
     "1. f3 e5 2. g4 Qh4#\n1. g4 e5 2. f3 Qh4#",
 ];
 
+// The diagram that a text gives.
+fn diagram_of(rt: &impl Abort, text: &str) -> Diagram {
+    Diagram::read(text).expect(rt, "a diagram")
+}
+
+// The length that a text gives.
+fn length_of(rt: &impl Abort, text: &str) -> Length {
+    Length::read(text).expect(rt, "a length")
+}
+
+// A bound in a box.
+fn boxed<R: Abort + AllocGlobal, B: Bound>(rt: &R, bound: B) -> Box<B> {
+    Box::new(rt.alloc(), bound).expect(rt, "memory")
+}
+
+// Puts a bound behind the others.
+fn add(rt: &impl Abort, bounds: &mut Vec<Box<dyn Bound>>, bound: Box<dyn Bound>) {
+    bounds.push(bound).expect(rt, "memory");
+}
+
 // The four bounds of the program.
-fn bounds(alloc: Global) -> Result<Vec<Box<dyn Bound>>, AllocError> {
-    let mut bounds: Vec<Box<dyn Bound>> = Vec::new(alloc);
-    bounds.push(Box::new(alloc, Captures)?)?;
-    bounds.push(Box::new(alloc, Promotions)?)?;
-    bounds.push(Box::new(alloc, PawnFiles)?)?;
-    bounds.push(Box::new(alloc, Travel)?)?;
-    Ok(bounds)
+fn bounds<R: Abort + AllocGlobal>(rt: &R) -> Vec<Box<dyn Bound>> {
+    let mut bounds: Vec<Box<dyn Bound>> = Vec::new(rt.alloc());
+    add(rt, &mut bounds, boxed(rt, Captures));
+    add(rt, &mut bounds, boxed(rt, Promotions));
+    add(rt, &mut bounds, boxed(rt, PawnFiles));
+    add(rt, &mut bounds, boxed(rt, Travel));
+    bounds
 }
 
 // What is answered with the four bounds.
-fn answered<R: Source, W: Sink>(
-    alloc: Global,
+fn answered<R: Abort + AllocGlobal, S: Source, W: Sink>(
+    rt: &R,
     texts: [&str; 3],
-    source: &mut R,
+    source: &mut S,
     out: &mut W,
     max_records: u64,
-) -> Result<Result<Verdict, RunFault>, AllocError> {
-    let bounds = bounds(alloc)?;
+) -> Result<Verdict, RunFault> {
+    let bounds = bounds(rt);
     let [diagram, length, games] = texts;
-    Ok(run_check(
-        alloc,
+    run_check(
+        rt.alloc(),
         diagram,
         length,
         games,
@@ -127,34 +147,59 @@ fn answered<R: Source, W: Sink>(
         out,
         max_records,
         4_194_304,
-    ))
+    )
+}
+
+// This is answered with the four bounds.
+fn check_answer<R: Abort + AllocGlobal, S: Source, W: Sink>(
+    rt: &R,
+    texts: [&str; 3],
+    source: &mut S,
+    out: &mut W,
+    wanted: &Result<Verdict, RunFault>,
+) {
+    let answer = answered(rt, texts, source, out, MANY);
+    assert!(rt; answer == *wanted);
+}
+
+// With these bytes the verdict is this one; what is written.
+fn reported<R: Abort + AllocGlobal>(
+    rt: &R,
+    texts: [&str; 3],
+    bytes: &[u8],
+    verdict: Verdict,
+) -> Vec<u8> {
+    let mut source = FromRead::new(bytes);
+    let mut out = ToWrite::new(Vec::new(rt.alloc()));
+    check_answer(rt, texts, &mut source, &mut out, &Ok(verdict));
+    out.into_inner()
 }
 
 // A certificate of version 1 for the first two texts, with these records.
-fn certificate(alloc: Global, texts: [&str; 3], records: &[u8]) -> Result<Vec<u8>, Fail> {
+fn certificate<R: Abort + AllocGlobal>(rt: &R, texts: [&str; 3], records: &[u8]) -> Vec<u8> {
     let [diagram, length, _] = texts;
-    let diagram = Diagram::read(diagram)?;
-    let length = Length::read(length)?;
-    Ok(pg_trial::certificate(alloc, b'1', &diagram, length, records)?)
+    let diagram = diagram_of(rt, diagram);
+    let length = length_of(rt, length);
+    pg_trial::certificate(rt.alloc(), b'1', &diagram, length, records).expect(rt, "memory")
 }
 
 // The certificate of e4 e5: 79 bytes.
-fn open_game(alloc: Global) -> Result<Vec<u8>, Fail> {
-    certificate(alloc, E4_E5, &pg_trial::OPEN_GAME)
+fn open_game<R: Abort + AllocGlobal>(rt: &R) -> Vec<u8> {
+    certificate(rt, E4_E5, &pg_trial::OPEN_GAME)
 }
 
 // The certificate of the two orders: 158 bytes.
-fn two_orders(alloc: Global) -> Result<Vec<u8>, Fail> {
-    certificate(alloc, TWO_ORDERS, &pg_trial::TWO_ORDERS)
+fn two_orders<R: Abort + AllocGlobal>(rt: &R) -> Vec<u8> {
+    certificate(rt, TWO_ORDERS, &pg_trial::TWO_ORDERS)
 }
 
 // Each node with a ply left is expanded.
-fn expanded(alloc: Global, texts: [&str; 3], nodes: usize) -> Result<Vec<u8>, Fail> {
-    let mut bytes = certificate(alloc, texts, &[])?;
+fn expanded<R: Abort + AllocGlobal>(rt: &R, texts: [&str; 3], nodes: usize) -> Vec<u8> {
+    let mut bytes = certificate(rt, texts, &[]);
     for _ in 0..nodes {
-        bytes.push(1)?;
+        bytes.push(1).expect(rt, "memory");
     }
-    Ok(bytes)
+    bytes
 }
 
 // The bytes, one a call, where the read with this number fails.
@@ -167,32 +212,43 @@ fn failing_sink(alloc: Global, at: u64) -> ToWrite<FailsAt<Vec<u8>>> {
     ToWrite::new(FailsAt::new(Vec::new(alloc), at, ErrorKind::Interrupted))
 }
 
-// The write with this number was the last one, and what was written before it begins the text.
-fn check_failed<R: Abort>(
-    rt: &R,
-    out: ToWrite<FailsAt<Vec<u8>>>,
-    at: u64,
-    text: &str,
-) -> Result<(), Fail> {
+// The bytes as a text.
+fn text_of<'a>(rt: &impl Abort, bytes: &'a [u8]) -> &'a str {
+    str::from_utf8(bytes).expect(rt, "a text")
+}
+
+// What was written.
+fn check_output(rt: &impl Abort, out: ToWrite<Vec<u8>>, wanted: &str) {
+    assert_eq!(rt; text_of(rt, out.into_inner().as_slice()), wanted);
+}
+
+// The text of a fault.
+fn check_text<R: Abort + AllocGlobal, E: Display>(rt: &R, fault: &E, wanted: &str) {
+    let text = format!(in rt.alloc(); "{fault}").expect(rt, "memory");
+    assert_eq!(rt; text.as_str(), wanted);
+}
+
+// The write with this number was the last one; what was written before it.
+fn written_before(rt: &impl Abort, out: ToWrite<FailsAt<Vec<u8>>>, at: u64) -> Vec<u8> {
     let writer = out.into_inner();
     assert_eq!(rt; writer.calls(), at.saturating_add(1));
-    let written = writer.into_inner();
-    assert!(rt;
-        text.starts_with(str::from_utf8(written.as_slice())?),
-        "{at}"
-    );
-    Ok(())
+    writer.into_inner()
+}
+
+// What was written before that one begins the text.
+fn check_failed(rt: &impl Abort, out: ToWrite<FailsAt<Vec<u8>>>, at: u64, text: &str) {
+    let written = written_before(rt, out, at);
+    assert!(rt; text.as_bytes().starts_with(written.as_slice()), "{at}");
 }
 
 // The whole text was written, by so many writes.
-fn check_written<R: Abort>(
-    rt: &R,
-    out: ToWrite<FailsAt<Vec<u8>>>,
-    writes: u64,
-    text: &str,
-) -> Result<(), Fail> {
+fn check_written(rt: &impl Abort, out: ToWrite<FailsAt<Vec<u8>>>, writes: u64, text: &str) {
     let writer = out.into_inner();
     assert_eq!(rt; writer.calls(), writes);
-    assert_eq!(rt; str::from_utf8(writer.into_inner().as_slice())?, text);
-    Ok(())
+    assert_eq!(rt; text_of(rt, writer.into_inner().as_slice()), text);
+}
+
+// Not one write was made.
+fn check_unwritten(rt: &impl Abort, out: ToWrite<FailsAt<Vec<u8>>>) {
+    assert_eq!(rt; out.into_inner().calls(), 0);
 }

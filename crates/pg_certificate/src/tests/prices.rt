@@ -3,7 +3,6 @@ use pg_board::Color;
 use pg_travel::Prices;
 use pg_trial::{Endless, FailsAt, OneByte};
 use std::io::{ErrorKind, Read};
-use std::process::Abort;
 
 // White's prices by travel from a1, e1, h1 to e1, a2, a3.
 const TRAVEL_BYTES: [u8; 12] = [6, 4, 0, 1, 3, 3, 1, 0, 0, 0, 2, 2];
@@ -32,6 +31,11 @@ fn of_white(rt: &impl Abort, code: u8, u: &[u8], v: &[u8]) -> Record {
     }
 }
 
+// The prices by pawn files.
+fn pawns(rt: &impl Abort) -> Record {
+    of_white(rt, 3, &[0, 0, 0, 1, 0, 0, 0, 0], &[0, 0, 0, 1, 0, 0, 0, 1])
+}
+
 // The three ways of Black.
 fn three_ways(rt: &impl Abort) -> Record {
     let mut prices = Prices::new(&[1, 2], &[3]).expect(rt, "few enough");
@@ -43,35 +47,44 @@ fn three_ways(rt: &impl Abort) -> Record {
     }
 }
 
+// The first record after a header; once one is refused, nothing more is read.
+fn first_from(rt: &impl Abort, source: &mut impl Source) -> Result<Record, ReadFault> {
+    let mut reader = RecordReader::new();
+    assert!(rt; reader.header(source).is_ok());
+    let read = reader.next_record(source);
+    if read.is_err() {
+        refused(rt, reader.next_record(source), ReadFault::Failed);
+        refused(rt, reader.end(source), ReadFault::Failed);
+    }
+    read
+}
+
 // The first record after a header of this version, through readers of many bytes and of one.
 fn first_record(rt: &impl Abort, version: u8, record: &[u8]) -> Result<Record, ReadFault> {
     let header = header_of(version);
     let mut source = FromRead::new(header.as_slice().chain(record));
-    let mut reader = RecordReader::new();
-    assert!(rt; reader.header(&mut source).is_ok());
-    let many = reader.next_record(&mut source);
+    let many = first_from(rt, &mut source);
     let mut source = FromRead::new(OneByte::new(header.as_slice().chain(record)));
-    let mut reader = RecordReader::new();
-    assert!(rt; reader.header(&mut source).is_ok());
-    assert_eq!(rt; reader.next_record(&mut source), many);
-    if many.is_err() {
-        assert_eq!(rt; reader.next_record(&mut source), Err(ReadFault::Failed));
-        assert_eq!(rt; reader.end(&mut source), Err(ReadFault::Failed));
-    }
+    assert_eq!(rt; first_from(rt, &mut source), many);
     many
+}
+
+// The first record of version 2 is this one.
+fn reads(rt: &impl Abort, bytes: &[u8], record: Record) {
+    assert_eq!(rt; first_record(rt, b'2', bytes), Ok(record));
+}
+
+// The first record of version 2 is refused so.
+fn refuses(rt: &impl Abort, bytes: &[u8], fault: ReadFault) {
+    refused(rt, first_record(rt, b'2', bytes), fault);
 }
 
 #[test]
 fn priced_records_are_read(rt: HostRuntime) {
-    let travel = of_white(&rt, 4, &[1, 0, 0], &[0, 2, 2]);
-    let pawns = of_white(&rt, 3, &[0, 0, 0, 1, 0, 0, 0, 0], &[0, 0, 0, 1, 0, 0, 0, 1]);
-    assert_eq!(rt; first_record(&rt, b'2', &TRAVEL_BYTES), Ok(travel));
-    assert_eq!(rt; first_record(&rt, b'2', &PAWN_BYTES), Ok(pawns));
-    assert_eq!(rt; first_record(&rt, b'2', &WAYS_BYTES), Ok(three_ways(&rt)));
-    assert_eq!(rt;
-        first_record(&rt, b'2', &[1, 6]),
-        Ok(Record::Expand { named: false })
-    );
+    reads(&rt, &TRAVEL_BYTES, of_white(&rt, 4, &[1, 0, 0], &[0, 2, 2]));
+    reads(&rt, &PAWN_BYTES, pawns(&rt));
+    reads(&rt, &WAYS_BYTES, three_ways(&rt));
+    reads(&rt, &[1, 6], Record::Expand { named: false });
 }
 
 // The first record after a header of version 2, apart from its prices, and those.
@@ -85,50 +98,36 @@ fn first_bare(rt: &impl Abort, record: &[u8]) -> (Result<Bare, ReadFault>, Price
     (read, prices)
 }
 
+// It is a record of prices by travel, of this color; the prices.
+fn comes_apart(rt: &impl Abort, record: &[u8], color: Color) -> Prices {
+    let (read, prices) = first_bare(rt, record);
+    assert_eq!(rt; read, Ok(Bare::Priced { code: 4, color }));
+    prices
+}
+
+// It is refused so, and the prices stay as they were.
+fn stays(rt: &impl Abort, record: &[u8], fault: ReadFault) {
+    let (read, prices) = first_bare(rt, record);
+    refused(rt, read, fault);
+    assert_eq!(rt; prices.v(0), [8u8, 9].as_slice());
+}
+
 #[test]
 fn prices_come_apart(rt: HostRuntime) {
-    let (read, prices) = first_bare(&rt, &TRAVEL_BYTES);
-    assert_eq!(rt;
-        read,
-        Ok(Bare::Priced {
-            code: 4,
-            color: Color::White
-        })
-    );
+    let prices = comes_apart(&rt, &TRAVEL_BYTES, Color::White);
     assert_eq!(rt; prices.u(0), [1u8, 0, 0].as_slice());
     assert_eq!(rt; prices.v(0), [0u8, 2, 2].as_slice());
-    let (read, prices) = first_bare(&rt, &WAYS_BYTES);
-    assert_eq!(rt;
-        read,
-        Ok(Bare::Priced {
-            code: 4,
-            color: Color::Black
-        })
-    );
+    let prices = comes_apart(&rt, &WAYS_BYTES, Color::Black);
     assert_eq!(rt; prices.v(2), [255u8].as_slice());
-    for (record, fault) in [
-        (&TRAVEL_BYTES[..11], ReadFault::Truncated),
-        (&TRAVEL_BYTES[1..], ReadFault::UnknownRecord(4)),
-    ] {
-        let (read, prices) = first_bare(&rt, record);
-        assert_eq!(rt; read, Err(fault));
-        assert_eq!(rt; prices.v(0), [8u8, 9].as_slice());
-    }
+    stays(&rt, &TRAVEL_BYTES[..11], ReadFault::Truncated);
+    stays(&rt, &TRAVEL_BYTES[1..], ReadFault::UnknownRecord(4));
 }
 
 #[test]
 fn lists_may_have_no_number(rt: HostRuntime) {
-    let none = of_white(&rt, 9, &[], &[]);
-    assert_eq!(rt; first_record(&rt, b'2', &[6, 9, 0, 1, 0, 0]), Ok(none));
-    assert_eq!(rt;
-        first_record(&rt, b'2', &[6, 9, 0, 1, 0]),
-        Err(ReadFault::Truncated)
-    );
-    let targets = of_white(&rt, 0, &[], &[7]);
-    assert_eq!(rt;
-        first_record(&rt, b'2', &[6, 0, 0, 1, 0, 1, 7]),
-        Ok(targets)
-    );
+    reads(&rt, &[6, 9, 0, 1, 0, 0], of_white(&rt, 9, &[], &[]));
+    refuses(&rt, &[6, 9, 0, 1, 0], ReadFault::Truncated);
+    reads(&rt, &[6, 0, 0, 1, 0, 1, 7], of_white(&rt, 0, &[], &[7]));
 }
 
 #[test]
@@ -146,65 +145,56 @@ fn bytes_out_of_range_are_unknown(rt: HostRuntime) {
     for (at, byte) in [(2, 2), (2, 255), (3, 0), (3, 4), (4, 65), (4, 255), (5, 65)] {
         let mut bytes = TRAVEL_BYTES;
         bytes[at] = byte;
-        let unknown = Err(ReadFault::UnknownRecord(byte));
-        assert_eq!(rt; first_record(&rt, b'2', &bytes), unknown, "at {at}");
-        assert_eq!(rt;
-            first_record(&rt, b'2', &bytes[..at + 1]),
-            unknown,
-            "at {at}"
-        );
+        refuses(&rt, &bytes, ReadFault::UnknownRecord(byte));
+        refuses(&rt, &bytes[..at + 1], ReadFault::UnknownRecord(byte));
     }
     let mut bytes = TRAVEL_BYTES;
     bytes[1] = 200;
-    let other = of_white(&rt, 200, &[1, 0, 0], &[0, 2, 2]);
-    assert_eq!(rt; first_record(&rt, b'2', &bytes), Ok(other));
+    reads(&rt, &bytes, of_white(&rt, 200, &[1, 0, 0], &[0, 2, 2]));
 }
 
-#[test]
-fn the_widest_record_is_read(rt: HostRuntime) -> Result<(), Fail> {
-    let mut bytes = vec![in rt.alloc(); 1u8; 390]?;
-    bytes[0] = 6;
-    bytes[1] = 4;
-    bytes[2] = 0;
-    bytes[3] = 3;
-    bytes[4] = 64;
-    bytes[5] = 64;
+// Three lists of White's, of as many numbers as may be.
+fn widest(rt: &impl Abort) -> Record {
     let ones = [1; 64];
-    let mut prices = Prices::new(&ones, &ones).expect(&rt, "few enough");
+    let mut prices = Prices::new(&ones, &ones).expect(rt, "few enough");
     assert!(rt; prices.add(&ones, &ones) && prices.add(&ones, &ones));
-    let widest = Record::Priced {
+    Record::Priced {
         code: 4,
         color: Color::White,
         prices,
-    };
-    assert_eq!(rt; first_record(&rt, b'2', bytes.as_slice()), Ok(widest));
-    let short = first_record(&rt, b'2', &bytes.as_slice()[..389]);
-    assert_eq!(rt; short, Err(ReadFault::Truncated));
-    Ok(())
+    }
+}
+
+#[test]
+fn the_widest_record_is_read(rt: HostRuntime) {
+    let mut bytes = [1u8; 390];
+    bytes[..6].copy_from_slice(&[6, 4, 0, 3, 64, 64]);
+    reads(&rt, &bytes, widest(&rt));
+    refuses(&rt, &bytes[..389], ReadFault::Truncated);
 }
 
 #[test]
 fn a_record_may_be_cut_anywhere(rt: HostRuntime) {
     for length in 0..22 {
-        let cut = first_record(&rt, b'2', &PAWN_BYTES[..length]);
-        assert_eq!(rt; cut, Err(ReadFault::Truncated), "at {length}");
+        refuses(&rt, &PAWN_BYTES[..length], ReadFault::Truncated);
     }
+}
+
+// The read of a byte with this number, behind the header, fails.
+fn fails_once(rt: &impl Abort, at: u64) {
+    let bytes = header_of(b'2');
+    let pieces = OneByte::new(bytes.as_slice().chain(PAWN_BYTES.as_slice()));
+    let mut source = FromRead::new(FailsAt::new(pieces, at, ErrorKind::Other));
+    let mut reader = RecordReader::new();
+    assert!(rt; reader.header(&mut source).is_ok());
+    refused(rt, reader.next_record(&mut source), ReadFault::Read);
+    refused(rt, reader.next_record(&mut source), ReadFault::Failed);
 }
 
 #[test]
 fn a_read_may_fail_in_any_record(rt: HostRuntime) {
     for at in 37..59 {
-        let bytes = header_of(b'2');
-        let pieces = OneByte::new(bytes.as_slice().chain(PAWN_BYTES.as_slice()));
-        let mut source = FromRead::new(FailsAt::new(pieces, at, ErrorKind::Other));
-        let mut reader = RecordReader::new();
-        assert!(rt; reader.header(&mut source).is_ok());
-        assert_eq!(rt;
-            reader.next_record(&mut source),
-            Err(ReadFault::Read),
-            "at {at}"
-        );
-        assert_eq!(rt; reader.next_record(&mut source), Err(ReadFault::Failed));
+        fails_once(&rt, at);
     }
 }
 
@@ -235,34 +225,49 @@ fn writes_them(rt: &impl Abort, records: &[Record], sink: &mut impl Sink) {
     assert_eq!(rt; writer.finish(sink), Ok(()));
 }
 
-#[test]
-fn priced_records_are_written(rt: HostRuntime) -> Result<(), Fail> {
-    let records = [
-        of_white(&rt, 4, &[1, 0, 0], &[0, 2, 2]),
+// The records that are written.
+fn some_records(rt: &impl Abort) -> [Record; 5] {
+    [
+        of_white(rt, 4, &[1, 0, 0], &[0, 2, 2]),
         Record::Cut(4),
-        of_white(&rt, 3, &[0, 0, 0, 1, 0, 0, 0, 0], &[0, 0, 0, 1, 0, 0, 0, 1]),
-        three_ways(&rt),
-        of_white(&rt, 9, &[], &[]),
-    ];
-    let mut wanted = Vec::new(rt.alloc());
-    wanted.extend_from_slice(&header_of(b'2'))?;
-    wanted.extend_from_slice(&TRAVEL_BYTES)?;
-    wanted.extend_from_slice(&[2, 4])?;
-    wanted.extend_from_slice(&PAWN_BYTES)?;
-    wanted.extend_from_slice(&WAYS_BYTES)?;
-    wanted.extend_from_slice(&[6, 9, 0, 1, 0, 0])?;
+        pawns(rt),
+        three_ways(rt),
+        of_white(rt, 9, &[], &[]),
+    ]
+}
+
+// Their bytes, behind the header.
+fn some_bytes<R: Abort + AllocGlobal>(rt: &R) -> Vec<u8> {
+    let mut bytes = Vec::new(rt.alloc());
+    append(rt, &mut bytes, &header_of(b'2'));
+    append(rt, &mut bytes, &TRAVEL_BYTES);
+    append(rt, &mut bytes, &[2, 4]);
+    append(rt, &mut bytes, &PAWN_BYTES);
+    append(rt, &mut bytes, &WAYS_BYTES);
+    append(rt, &mut bytes, &[6, 9, 0, 1, 0, 0]);
+    bytes
+}
+
+// Reads a header of version 2, the records and the end.
+fn reads_them(rt: &impl Abort, records: &[Record], bytes: &[u8]) {
+    let mut source = FromRead::new(bytes);
+    let mut reader = RecordReader::new();
+    assert!(rt; reader.header(&mut source).is_ok_and(|h| h.version == 2));
+    for record in records {
+        assert_eq!(rt; reader.next_record(&mut source), Ok(*record));
+    }
+    assert_eq!(rt; reader.end(&mut source), Ok(()));
+}
+
+#[test]
+fn priced_records_are_written(rt: HostRuntime) {
+    let records = some_records(&rt);
+    let wanted = some_bytes(&rt);
     let mut sink = ToWrite::new(Vec::new(rt.alloc()));
     writes_them(&rt, &records, &mut sink);
     assert_eq!(rt; sink.into_inner().as_slice(), wanted.as_slice());
     let mut sink = ToWrite::new(OneByte::new(Vec::new(rt.alloc())));
     writes_them(&rt, &records, &mut sink);
     let bytes = sink.into_inner().into_inner();
-    let mut source = FromRead::new(bytes.as_slice());
-    let mut reader = RecordReader::new();
-    assert!(rt; reader.header(&mut source).is_ok_and(|h| h.version == 2));
-    for record in records {
-        assert_eq!(rt; reader.next_record(&mut source), Ok(record));
-    }
-    assert_eq!(rt; reader.end(&mut source), Ok(()));
-    Ok(())
+    reads_them(&rt, &records, &bytes);
 }

@@ -1,9 +1,7 @@
 use super::*;
 use pg_travel::Prices;
 use pg_trial::{Endless, FailsAt, OneByte};
-use std::alloc::{AllocError, Allocator};
 use std::io::{ErrorKind, Read};
-use std::process::Abort;
 
 // The header of a certificate for `1. e4 e5`, in 2 plies.
 const OPEN_GAME_HEADER: [u8; 37] = [
@@ -28,14 +26,13 @@ fn reads_a_cut_number(rt: &impl Abort, source: &mut impl Source) {
 }
 
 #[test]
-fn a_number_may_be_cut_by_the_buffer(rt: HostRuntime) -> Result<(), Fail> {
+fn a_number_may_be_cut_by_the_buffer(rt: HostRuntime) {
     let mut bytes = Vec::new(rt.alloc());
-    bytes.extend_from_slice(&ARRAY_HEADER)?;
-    bytes.resize(4_094, 1)?;
-    bytes.extend_from_slice(&[3, 0, 1, 2, 3])?;
+    append(&rt, &mut bytes, &ARRAY_HEADER);
+    append(&rt, &mut bytes, &[1; 4_057]);
+    append(&rt, &mut bytes, &[3, 0, 1, 2, 3]);
     reads_a_cut_number(&rt, &mut FromRead::new(bytes.as_slice()));
     reads_a_cut_number(&rt, &mut FromRead::new(OneByte::new(bytes.as_slice())));
-    Ok(())
 }
 
 // Reads a header and so many records, then the end, and answers the first refusal.
@@ -54,50 +51,59 @@ fn read_all(
 // Every call answers Failed.
 fn stays_failed(rt: &impl Abort, source: &mut impl Source, reader: &mut RecordReader) {
     for _ in 0..2 {
-        assert_eq!(rt; reader.header(source), Err(ReadFault::Failed));
-        assert_eq!(rt; reader.next_record(source), Err(ReadFault::Failed));
-        assert_eq!(rt; reader.more(source), Err(ReadFault::Failed));
-        assert_eq!(rt; reader.end(source), Err(ReadFault::Failed));
+        refused(rt, reader.header(source), ReadFault::Failed);
+        refused(rt, reader.next_record(source), ReadFault::Failed);
+        refused(rt, reader.more(source), ReadFault::Failed);
+        refused(rt, reader.end(source), ReadFault::Failed);
     }
 }
 
 // 22 records: `02 04` for the games of one ply; then `01`, thirteen times `02 04`, `01` and six
 // times `02 04`.
-fn open_game<A: Allocator>(bytes: &mut Vec<u8, A>) -> Result<(), AllocError> {
-    bytes.extend_from_slice(&OPEN_GAME_HEADER)?;
-    bytes.extend_from_slice(&[2, 4, 1])?;
+fn open_game<R: Abort + AllocGlobal>(rt: &R) -> Vec<u8> {
+    let mut bytes = Vec::new(rt.alloc());
+    append(rt, &mut bytes, &OPEN_GAME_HEADER);
+    append(rt, &mut bytes, &[2, 4, 1]);
     for _ in 0..13 {
-        bytes.extend_from_slice(&[2, 4])?;
+        append(rt, &mut bytes, &[2, 4]);
     }
-    bytes.push(1)?;
+    append(rt, &mut bytes, &[1]);
     for _ in 0..6 {
-        bytes.extend_from_slice(&[2, 4])?;
+        append(rt, &mut bytes, &[2, 4]);
     }
-    Ok(())
+    bytes
+}
+
+// Reading 22 records refuses so, though the source has not failed, and so does each call after.
+fn is_refused(rt: &impl Abort, bytes: &[u8], fault: ReadFault) {
+    let mut source = FromRead::new(bytes);
+    let mut reader = RecordReader::new();
+    refused(rt, read_all(&mut source, &mut reader, 22), fault);
+    assert!(rt; !source.failed());
+    stays_failed(rt, &mut source, &mut reader);
 }
 
 #[test]
-fn every_proper_prefix_is_truncated(rt: HostRuntime) -> Result<(), Fail> {
-    let mut bytes = Vec::new(rt.alloc());
-    open_game(&mut bytes)?;
+fn every_proper_prefix_is_truncated(rt: HostRuntime) {
+    let mut bytes = open_game(&rt);
     assert_eq!(rt; bytes.len(), 79);
     for length in 0..79 {
-        let mut source = FromRead::new(&bytes.as_slice()[..length]);
-        let mut reader = RecordReader::new();
-        let read = read_all(&mut source, &mut reader, 22);
-        assert_eq!(rt; read, Err(ReadFault::Truncated), "at {length}");
-        assert!(rt; !source.failed());
-        stays_failed(&rt, &mut source, &mut reader);
+        is_refused(&rt, &bytes[..length], ReadFault::Truncated);
     }
     let mut source = FromRead::new(bytes.as_slice());
     assert_eq!(rt; read_all(&mut source, &mut RecordReader::new(), 22), Ok(()));
-    bytes.push(1)?;
-    let mut source = FromRead::new(bytes.as_slice());
+    append(&rt, &mut bytes, &[1]);
+    is_refused(&rt, &bytes, ReadFault::Trailing);
+}
+
+// The first refusal of four records, if one is refused.
+fn read_four(bytes: &[u8]) -> Result<Record, ReadFault> {
+    let mut source = FromRead::new(bytes);
     let mut reader = RecordReader::new();
-    let read = read_all(&mut source, &mut reader, 22);
-    assert_eq!(rt; read, Err(ReadFault::Trailing));
-    stays_failed(&rt, &mut source, &mut reader);
-    Ok(())
+    for _ in 0..3u8 {
+        reader.next_record(&mut source)?;
+    }
+    reader.next_record(&mut source)
 }
 
 #[test]
@@ -109,49 +115,48 @@ fn each_record_is_read(rt: HostRuntime) {
     }
     assert_eq!(rt; reader.end(&mut source), Ok(()));
     for length in [0, 3, 5, 6, 7, 8] {
-        let mut source = FromRead::new(&RECORD_BYTES[..length]);
-        let mut reader = RecordReader::new();
-        let mut last = Ok(Record::Cut(0));
-        for _ in 0..4 {
-            if last.is_ok() {
-                last = reader.next_record(&mut source);
-            }
-        }
-        assert_eq!(rt; last, Err(ReadFault::Truncated), "at {length}");
+        assert_eq!(rt;
+            read_four(&RECORD_BYTES[..length]),
+            Err(ReadFault::Truncated)
+        );
     }
 }
 
-#[test]
-fn each_bare_record_is_read(rt: HostRuntime) {
+// Reads the four records apart from their prices, and the end.
+fn reads_bare(rt: &impl Abort, prices: &mut Prices) {
     let mut source = FromRead::new(RECORD_BYTES.as_slice());
     let mut reader = RecordReader::new();
-    let before = Prices::new(&[7], &[8]).expect(&rt, "few enough");
-    let mut prices = before;
     for bare in [
         Bare::Expand { named: false },
         Bare::Expand { named: true },
         Bare::Cut(4),
         Bare::Ref(66_051),
     ] {
-        assert_eq!(rt; reader.next_bare(&mut prices, &mut source), Ok(bare));
+        assert_eq!(rt; reader.next_bare(prices, &mut source), Ok(bare));
     }
     assert_eq!(rt; reader.end(&mut source), Ok(()));
+}
+
+// A record of these bytes is refused so, and each call after it is.
+fn refuses_bare(rt: &impl Abort, prices: &mut Prices, bytes: &[u8], fault: ReadFault) {
+    let mut source = FromRead::new(bytes);
+    let mut reader = RecordReader::new();
+    refused(rt, reader.next_bare(prices, &mut source), fault);
+    refused(rt, reader.next_bare(prices, &mut source), ReadFault::Failed);
+    stays_failed(rt, &mut source, &mut reader);
+}
+
+#[test]
+fn each_bare_record_is_read(rt: HostRuntime) {
+    let before = Prices::new(&[7], &[8]).expect(&rt, "few enough");
+    let mut prices = before;
+    reads_bare(&rt, &mut prices);
     for byte in [0, 4, 6, 255u8] {
         let bytes = [byte, 4, 0, 1, 1, 1, 2, 3];
-        let mut source = FromRead::new(bytes.as_slice());
-        let mut reader = RecordReader::new();
-        let read = reader.next_bare(&mut prices, &mut source);
-        assert_eq!(rt; read, Err(ReadFault::UnknownRecord(byte)));
-        let read = reader.next_bare(&mut prices, &mut source);
-        assert_eq!(rt; read, Err(ReadFault::Failed));
-        stays_failed(&rt, &mut source, &mut reader);
+        refuses_bare(&rt, &mut prices, &bytes, ReadFault::UnknownRecord(byte));
     }
-    for bytes in [[2u8, 2], [3, 3]] {
-        let mut source = FromRead::new(&bytes[1..]);
-        let mut reader = RecordReader::new();
-        let read = reader.next_bare(&mut prices, &mut source);
-        assert_eq!(rt; read, Err(ReadFault::Truncated));
-    }
+    refuses_bare(&rt, &mut prices, &[2], ReadFault::Truncated);
+    refuses_bare(&rt, &mut prices, &[3], ReadFault::Truncated);
     assert_eq!(rt; prices, before);
 }
 
@@ -171,39 +176,45 @@ fn other_bytes_are_unknown(rt: HostRuntime) {
     }
 }
 
+// A header of these bytes is none, which is not told before all of them are there.
+fn is_no_header(rt: &impl Abort, bytes: &[u8; 37]) {
+    let mut reader = RecordReader::new();
+    let read = reader.header(&mut FromRead::new(&bytes[..36]));
+    refused(rt, read, ReadFault::Truncated);
+    let mut source = FromRead::new(bytes.as_slice());
+    let mut reader = RecordReader::new();
+    refused(rt, reader.header(&mut source), ReadFault::Magic);
+    stays_failed(rt, &mut source, &mut reader);
+}
+
 #[test]
 fn the_magic_is_tested_after_the_length(rt: HostRuntime) {
     for (at, byte) in [(0, 0x58), (1, 0x58), (2, 0x58), (3, 0x30), (3, 0x33)] {
         let mut bytes = ARRAY_HEADER;
         bytes[at] = byte;
-        let mut reader = RecordReader::new();
-        let read = reader.header(&mut FromRead::new(&bytes[..36]));
-        assert_eq!(rt; read, Err(ReadFault::Truncated));
-        let mut source = FromRead::new(bytes.as_slice());
-        let mut reader = RecordReader::new();
-        assert_eq!(rt; reader.header(&mut source), Err(ReadFault::Magic));
-        stays_failed(&rt, &mut source, &mut reader);
+        is_no_header(&rt, &bytes);
     }
 }
 
+// The read with this number fails, and no read comes after it.
+fn fails_once(rt: &impl Abort, bytes: &[u8], at: u64, kind: ErrorKind) {
+    let mut source = FromRead::new(FailsAt::new(OneByte::new(bytes), at, kind));
+    let mut reader = RecordReader::new();
+    let read = read_all(&mut source, &mut reader, 22);
+    refused(rt, read, ReadFault::Read);
+    assert!(rt; source.failed());
+    stays_failed(rt, &mut source, &mut reader);
+    assert_eq!(rt; source.pull(&mut [0; 9]), Err(Refused));
+    assert_eq!(rt; source.into_inner().calls().checked_sub(1), Some(at));
+}
+
 #[test]
-fn a_failed_read_is_not_tried_again(rt: HostRuntime) -> Result<(), Fail> {
-    let mut bytes = Vec::new(rt.alloc());
-    open_game(&mut bytes)?;
+fn a_failed_read_is_not_tried_again(rt: HostRuntime) {
+    let bytes = open_game(&rt);
     for at in 0..80 {
-        for kind in [ErrorKind::Interrupted, ErrorKind::Other] {
-            let pieces = OneByte::new(bytes.as_slice());
-            let mut source = FromRead::new(FailsAt::new(pieces, at, kind));
-            let mut reader = RecordReader::new();
-            let read = read_all(&mut source, &mut reader, 22);
-            assert_eq!(rt; read, Err(ReadFault::Read), "at {at}");
-            assert!(rt; source.failed());
-            stays_failed(&rt, &mut source, &mut reader);
-            assert_eq!(rt; source.pull(&mut [0; 9]), Err(Refused));
-            assert_eq!(rt; source.into_inner().calls(), at + 1);
-        }
+        fails_once(&rt, &bytes, at, ErrorKind::Interrupted);
+        fails_once(&rt, &bytes, at, ErrorKind::Other);
     }
-    Ok(())
 }
 
 #[test]

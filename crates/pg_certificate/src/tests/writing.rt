@@ -5,7 +5,6 @@ use pg_trial::{FailsAt, OneByte, TakesNothing};
 use std::fs;
 use std::fs::File;
 use std::io::ErrorKind;
-use std::process::Abort;
 
 // The header of the array.
 fn array_header() -> Header
@@ -62,38 +61,36 @@ fn stays_failed(rt: &impl Abort, sink: &mut impl Sink, writer: &mut RecordWriter
     }
 }
 
-#[test]
-fn each_record_is_written(rt: HostRuntime) -> Result<(), Fail> {
-    let mut sink = ToWrite::new(Vec::new(rt.alloc()));
-    assert_eq!(rt; write_all(&mut sink, &mut RecordWriter::new(), 1), Ok(()));
-    let bytes = sink.into_inner();
-    let mut wanted = Vec::new(rt.alloc());
-    wanted.extend_from_slice(&ARRAY_HEADER)?;
-    wanted.extend_from_slice(&RECORD_BYTES)?;
-    assert_eq!(rt; bytes.as_slice(), wanted.as_slice());
-    Ok(())
+// Writes each record so many times, with no refusal.
+fn writes_all(rt: &impl Abort, sink: &mut impl Sink, times: u64) {
+    let written = write_all(sink, &mut RecordWriter::new(), times);
+    assert_eq!(rt; written, Ok(()));
 }
 
 #[test]
-fn what_was_written_is_read(rt: HostRuntime) -> Result<(), Fail> {
+fn each_record_is_written(rt: HostRuntime) {
+    let mut sink = ToWrite::new(Vec::new(rt.alloc()));
+    writes_all(&rt, &mut sink, 1);
+    let bytes = sink.into_inner();
+    let mut wanted = Vec::new(rt.alloc());
+    append(&rt, &mut wanted, &ARRAY_HEADER);
+    append(&rt, &mut wanted, &RECORD_BYTES);
+    assert_eq!(rt; bytes.as_slice(), wanted.as_slice());
+}
+
+#[test]
+fn what_was_written_is_read(rt: HostRuntime) {
     let mut sink = ToWrite::new(OneByte::new(Vec::new(rt.alloc())));
-    assert_eq!(rt;
-        write_all(&mut sink, &mut RecordWriter::new(), 2_000),
-        Ok(())
-    );
+    writes_all(&rt, &mut sink, 2_000);
     let bytes = sink.into_inner().into_inner();
     assert_eq!(rt; bytes.len(), 37 + 9 * 2_000);
     reads_them_again(&rt, &mut FromRead::new(bytes.as_slice()), 2_000);
-    Ok(())
 }
 
 #[test]
 fn a_file_is_written_and_read(rt: HostRuntime) -> Result<(), Fail> {
     let mut sink = ToWrite::new(File::create(&rt, "records.pgc")?);
-    assert_eq!(rt;
-        write_all(&mut sink, &mut RecordWriter::new(), 1_000),
-        Ok(())
-    );
+    writes_all(&rt, &mut sink, 1_000);
     let _ = sink.into_inner();
     let mut source = FromRead::new(File::open(&rt, "records.pgc")?);
     reads_them_again(&rt, &mut source, 1_000);
@@ -101,30 +98,39 @@ fn a_file_is_written_and_read(rt: HostRuntime) -> Result<(), Fail> {
     Ok(())
 }
 
+// The write of a byte with this number fails, and no write comes after it.
+fn fails_once<R: Abort + AllocGlobal>(rt: &R, at: u64, kind: ErrorKind) {
+    let pieces = OneByte::new(Vec::new(rt.alloc()));
+    let mut sink = ToWrite::new(FailsAt::new(pieces, at, kind));
+    let mut writer = RecordWriter::new();
+    let written = write_all(&mut sink, &mut writer, 1);
+    assert_eq!(rt; written, Err(WriteFault::Write));
+    assert!(rt; sink.failed());
+    stays_failed(rt, &mut sink, &mut writer);
+    assert_eq!(rt; sink.push(&[1]), Err(Refused));
+    assert_eq!(rt; sink.into_inner().calls().checked_sub(1), Some(at));
+}
+
+// The write of a full buffer with this number fails.
+fn fails_full<R: Abort + AllocGlobal>(rt: &R, at: u64, kind: ErrorKind) {
+    let inner = Vec::new(rt.alloc());
+    let mut sink = ToWrite::new(FailsAt::new(inner, at, kind));
+    let mut writer = RecordWriter::new();
+    let written = write_all(&mut sink, &mut writer, 1_000);
+    assert_eq!(rt; written, Err(WriteFault::Write));
+    stays_failed(rt, &mut sink, &mut writer);
+}
+
 #[test]
-fn a_failed_write_is_not_tried_again(rt: HostRuntime) -> Result<(), Fail> {
+fn a_failed_write_is_not_tried_again(rt: HostRuntime) {
     for kind in [ErrorKind::Interrupted, ErrorKind::Other] {
         for at in 0..46 {
-            let pieces = OneByte::new(Vec::new(rt.alloc()));
-            let mut sink = ToWrite::new(FailsAt::new(pieces, at, kind));
-            let mut writer = RecordWriter::new();
-            let written = write_all(&mut sink, &mut writer, 1);
-            assert_eq!(rt; written, Err(WriteFault::Write), "at {at}");
-            assert!(rt; sink.failed());
-            stays_failed(&rt, &mut sink, &mut writer);
-            assert_eq!(rt; sink.push(&[1]), Err(Refused));
-            assert_eq!(rt; sink.into_inner().calls(), at + 1);
+            fails_once(&rt, at, kind);
         }
         for at in 0..3 {
-            let inner = Vec::new(rt.alloc());
-            let mut sink = ToWrite::new(FailsAt::new(inner, at, kind));
-            let mut writer = RecordWriter::new();
-            let written = write_all(&mut sink, &mut writer, 1_000);
-            assert_eq!(rt; written, Err(WriteFault::Write), "at {at}");
-            stays_failed(&rt, &mut sink, &mut writer);
+            fails_full(&rt, at, kind);
         }
     }
-    Ok(())
 }
 
 #[test]

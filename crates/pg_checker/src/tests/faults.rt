@@ -1,172 +1,201 @@
 use super::*;
 use arrayvec::ArrayVec;
-use pg_trial::{Endless, FailsAt};
-use std::io::{ErrorKind, Read};
+use pg_trial::Endless;
+use std::io::Read;
+
+// What the check of the listed games alone answers.
+fn lists<R: Abort>(rt: &R, asked: &Problem, wanted: Result<(), ListFault>) {
+    assert_eq!(rt;
+        check_listed(&asked.diagram, asked.length, &asked.games),
+        wanted
+    );
+}
+
+// What both the check of the listed games and that of a certificate answer.
+fn is_listed_wrongly<R: Abort + AllocGlobal>(
+    rt: &R,
+    asked: &Problem,
+    bytes: &[u8],
+    fault: ListFault,
+) {
+    lists(rt, asked, Err(fault));
+    answers(rt, asked, bytes, MANY, 0, Err(Fault::Listed(fault)));
+}
 
 #[test]
-fn listed_games(rt: HostRuntime) -> Result<(), std::test::Fail> {
+fn listed_games(rt: HostRuntime) {
     let long = ask(&rt, AFTER_E4_E5, "0.5", "1. e4 e5");
-    assert_eq!(rt;
-        check_listed(&long.diagram, long.length, &long.games),
-        Err(ListFault::WrongLength(0))
-    );
+    is_listed_wrongly(&rt, &long, &[], ListFault::WrongLength(0));
     let other = ask(&rt, AFTER_E4, "0.5", "d4\ne4");
-    assert_eq!(rt;
-        check_listed(&other.diagram, other.length, &other.games),
-        Err(ListFault::NotReaching(0))
-    );
+    let header = certified(&rt, &other, &[]);
+    is_listed_wrongly(&rt, &other, &header, ListFault::NotReaching(0));
     let second = ask(&rt, AFTER_E4, "0.5", "e4\ng4");
-    assert_eq!(rt;
-        check_listed(&second.diagram, second.length, &second.games),
-        Err(ListFault::NotReaching(1))
-    );
-    let good = ask(&rt, AFTER_E4, "0.5", "e4");
-    assert_eq!(rt;
-        check_listed(&good.diagram, good.length, &good.games),
-        Ok(())
-    );
-    let bytes = headed(&rt, &other)?;
-    let said = answer(&rt, &other, &bytes, MANY, 0)?;
-    assert!(rt; said == Err(Fault::Listed(ListFault::NotReaching(0))));
-    let before_the_header = answer(&rt, &long, &[], MANY, 0)?;
-    assert!(rt; before_the_header == Err(Fault::Listed(ListFault::WrongLength(0))));
-    Ok(())
+    lists(&rt, &second, Err(ListFault::NotReaching(1)));
+    lists(&rt, &ask(&rt, AFTER_E4, "0.5", "e4"), Ok(()));
+}
+
+// The certificate of one ply to other problems, the first fault of each.
+fn answers_others<R: Abort + AllocGlobal>(rt: &R, bytes: &[u8]) {
+    let longer = ask(rt, AFTER_E4, "1.0", "");
+    answers(rt, &longer, bytes, MANY, 0, Err(Fault::OtherLength));
+    let all_differs = ask(rt, AFTER_E4_E5, "1.0", "");
+    answers(rt, &all_differs, bytes, MANY, 0, Err(Fault::OtherLength));
+    let elsewhere = ask(rt, AFTER_E4_E5, "0.5", "");
+    answers(rt, &elsewhere, bytes, 0, 0, Err(Fault::OtherDiagram));
 }
 
 #[test]
-fn each_fault_of_the_header(rt: HostRuntime) -> Result<(), std::test::Fail> {
+fn each_fault_of_the_header(rt: HostRuntime) {
     let asked = ask(&rt, AFTER_E4, "0.5", "e4");
-    let mut bytes = headed(&rt, &asked)?;
-    bytes.push(1)?;
-    let mut short = headed(&rt, &asked)?;
-    short.truncate(36);
-    assert!(rt; answer(&rt, &asked, &short, MANY, 0)? == Err(Fault::Truncated));
-    let mut other = headed(&rt, &asked)?;
-    if let Some(first) = other.first_mut() {
-        *first = 0x58;
-    }
-    assert!(rt; answer(&rt, &asked, &other, MANY, 0)? == Err(Fault::Magic));
+    let mut bytes = certified(&rt, &asked, &[1]);
+    answers_others(&rt, &bytes);
+    bytes.truncate(36);
+    answers(&rt, &asked, &bytes, MANY, 0, Err(Fault::Truncated));
+    let mut other = certified(&rt, &asked, &[]);
+    put(&mut other, 0, 0x58);
+    answers(&rt, &asked, &other, MANY, 0, Err(Fault::Magic));
     let all_differs = ask(&rt, AFTER_E4_E5, "1.0", "");
-    assert!(rt; answer(&rt, &all_differs, &other, MANY, 0)? == Err(Fault::Magic));
+    answers(&rt, &all_differs, &other, MANY, 0, Err(Fault::Magic));
     other.truncate(36);
-    assert!(rt; answer(&rt, &asked, &other, MANY, 0)? == Err(Fault::Truncated));
-    let longer = ask(&rt, AFTER_E4, "1.0", "");
-    assert!(rt; answer(&rt, &longer, &bytes, MANY, 0)? == Err(Fault::OtherLength));
-    assert!(rt; answer(&rt, &all_differs, &bytes, MANY, 0)? == Err(Fault::OtherLength));
-    let elsewhere = ask(&rt, AFTER_E4_E5, "0.5", "");
-    assert!(rt; answer(&rt, &elsewhere, &bytes, 0, 0)? == Err(Fault::OtherDiagram));
-    Ok(())
+    answers(&rt, &asked, &other, MANY, 0, Err(Fault::Truncated));
 }
 
 #[test]
-fn each_fault_of_a_record(rt: HostRuntime) -> Result<(), std::test::Fail> {
+fn each_fault_of_a_record(rt: HostRuntime) {
     let asked = ask(&rt, AFTER_E4, "0.5", "e4");
-    let mut unknown = headed(&rt, &asked)?;
-    unknown.push(7)?;
-    let said = answer(&rt, &asked, &unknown, MANY, 0)?;
-    assert!(rt; said == Err(Fault::UnknownRecord(7)));
-    assert!(rt; answer(&rt, &asked, &unknown, 0, 0)? == Err(Fault::Budget));
-    let mut longer = headed(&rt, &asked)?;
-    longer.extend_from_slice(&[1, 1])?;
-    assert!(rt; answer(&rt, &asked, &longer, MANY, 0)? == Err(Fault::Trailing));
+    let unknown = certified(&rt, &asked, &[7]);
+    answers(&rt, &asked, &unknown, MANY, 0, Err(Fault::UnknownRecord(7)));
+    answers(&rt, &asked, &unknown, 0, 0, Err(Fault::Budget));
+    let longer = certified(&rt, &asked, &[1, 1]);
+    answers(&rt, &asked, &longer, MANY, 0, Err(Fault::Trailing));
     let open = ask(&rt, AFTER_E4_E5, "1.0", "1. e4 e5");
-    let mut bytes = certified(&rt, &open, &OPEN_GAME)?;
-    bytes.push(0)?;
-    assert!(rt; answer(&rt, &open, &bytes, MANY, 0)? == Err(Fault::Trailing));
-    Ok(())
+    let bytes = pieced(&rt, &open, &[(&OPEN_GAME, 1), (&[0], 1)]);
+    answers(&rt, &open, &bytes, MANY, 0, Err(Fault::Trailing));
 }
 
 #[test]
-fn each_proper_prefix(rt: HostRuntime) -> Result<(), std::test::Fail> {
+fn each_proper_prefix(rt: HostRuntime) {
     let asked = ask(&rt, AFTER_E4_E5, "1.0", "1. e4 e5");
-    let bytes = certified(&rt, &asked, &OPEN_GAME)?;
-    for n in 0..bytes.len() {
-        let said = answer(&rt, &asked, &bytes[..n], MANY, 9)?;
-        assert!(rt; said == Err(Fault::Truncated));
+    let bytes = certified(&rt, &asked, &OPEN_GAME);
+    each_prefix_is_truncated(&rt, &asked, &bytes);
+}
+
+// Whether a certificate with another byte at this place is accepted.
+fn is_accepted<R: Abort + AllocGlobal>(
+    rt: &R,
+    asked: &Problem,
+    bytes: &[u8],
+    place: usize,
+    byte: u8,
+) -> bool {
+    let said = checked(rt, asked, &mut FromRead::new(bytes), MANY, 9);
+    if said.is_err() {
+        return false;
     }
-    Ok(())
+    let named = (place == 39 || place == 66) && byte == 5;
+    let later = place == 3 && byte == b'2';
+    assert!(rt; named || later);
+    assert!(rt; said == yes(22, u32::from(named)));
+    true
+}
+
+// How many of the other bytes at this place are accepted.
+fn accepted_at<R: Abort + AllocGlobal>(
+    rt: &R,
+    asked: &Problem,
+    bytes: &mut [u8],
+    place: usize,
+    kept: u8,
+) -> u32 {
+    let mut accepted = 0u32;
+    for change in 1..=255u8 {
+        put(bytes, place, kept ^ change);
+        if is_accepted(rt, asked, bytes, place, kept ^ change) {
+            accepted = accepted.saturating_add(1);
+        }
+    }
+    put(bytes, place, kept);
+    accepted
 }
 
 #[test]
-fn each_change_of_a_byte(rt: HostRuntime) -> Result<(), std::test::Fail> {
+fn each_change_of_a_byte(rt: HostRuntime) {
     let asked = ask(&rt, AFTER_E4_E5, "1.0", "1. e4 e5");
-    let mut bytes = certified(&rt, &asked, &OPEN_GAME)?;
+    let bytes = certified(&rt, &asked, &OPEN_GAME);
+    let mut changed = certified(&rt, &asked, &OPEN_GAME);
     let mut accepted = 0u32;
-    for i in 0..bytes.len() {
-        let kept = bytes[i];
-        for change in 1..=255u8 {
-            bytes[i] = kept ^ change;
-            let said = checked(&rt, &asked, &mut FromRead::new(bytes.as_slice()), MANY, 9)?;
-            if said.is_ok() {
-                let named = (i == 39 || i == 66) && bytes[i] == 5;
-                let later = i == 3 && bytes[i] == b'2';
-                assert!(rt; named || later);
-                assert!(rt; said == yes(22, u32::from(named)));
-                accepted = accepted.saturating_add(1);
-            }
-        }
-        bytes[i] = kept;
+    for (place, kept) in bytes.iter().enumerate() {
+        let more = accepted_at(&rt, &asked, &mut changed, place, *kept);
+        accepted = accepted.saturating_add(more);
     }
     assert_eq!(rt; accepted, 3);
-    Ok(())
+}
+
+// The answer to a header, and then one byte for ever.
+fn answers_for_ever<R: Abort + AllocGlobal>(
+    rt: &R,
+    byte: u8,
+    max_records: u64,
+    max_named: u32,
+    fault: Fault,
+) {
+    let pawn = ask(rt, PAWN_ON_D3, "64.0", "");
+    let header = certified(rt, &pawn, &[]);
+    let endless = header.as_slice().chain(Endless::new(byte));
+    let said = checked(
+        rt,
+        &pawn,
+        &mut FromRead::new(endless),
+        max_records,
+        max_named,
+    );
+    assert!(rt; said == Err(fault));
 }
 
 #[test]
-fn endless_certificates(rt: HostRuntime) -> Result<(), std::test::Fail> {
-    let pawn = ask(&rt, PAWN_ON_D3, "64.0", "");
-    let header = headed(&rt, &pawn)?;
-    let expansions = header.as_slice().chain(Endless::new(1));
-    let budget = checked(&rt, &pawn, &mut FromRead::new(expansions), 1_000, 0)?;
-    assert!(rt; budget == Err(Fault::Budget));
-    let named = header.as_slice().chain(Endless::new(5));
-    let too_many = checked(&rt, &pawn, &mut FromRead::new(named), MANY, 10)?;
-    assert!(rt; too_many == Err(Fault::TooManyNamed));
-    Ok(())
+fn endless_certificates(rt: HostRuntime) {
+    answers_for_ever(&rt, 1, 1_000, 0, Fault::Budget);
+    answers_for_ever(&rt, 5, MANY, 10, Fault::TooManyNamed);
 }
 
 #[test]
-fn each_read_failing_in_turn(rt: HostRuntime) -> Result<(), std::test::Fail> {
+fn each_read_failing_in_turn(rt: HostRuntime) {
     let asked = ask(&rt, AFTER_E4_E5, "1.0", "1. e4 e5");
-    let bytes = certified(&rt, &asked, &OPEN_GAME)?;
-    for call in 0..80u64 {
-        let reader = FailsAt::new(OneByte::new(bytes.as_slice()), call, ErrorKind::Interrupted);
-        let said = checked(&rt, &asked, &mut FromRead::new(reader), MANY, 9)?;
-        assert!(rt; said == Err(Fault::Read));
-    }
-    Ok(())
+    let bytes = certified(&rt, &asked, &OPEN_GAME);
+    each_read_fails(&rt, &asked, &bytes, 80);
+}
+
+// A fault has this text.
+fn tells<R: Abort + AllocGlobal>(rt: &R, fault: Fault, text: &str) {
+    let told = format!(in rt.alloc(); "{fault}").expect(rt, "memory");
+    assert!(rt; told.as_str() == text);
 }
 
 #[test]
-fn faults_have_their_texts(rt: HostRuntime) -> Result<(), std::test::Fail> {
-    let faults = [
-        (
-            Fault::Listed(ListFault::WrongLength(0)),
-            "game 1 does not have the stated length",
-        ),
-        (
-            Fault::Listed(ListFault::NotReaching(11)),
-            "game 12 does not end on the diagram",
-        ),
-        (Fault::Magic, "not a certificate"),
-        (Fault::OtherLength, "certificate for another length"),
-        (Fault::OtherDiagram, "certificate for another diagram"),
-        (Fault::Budget, "record limit reached"),
-        (Fault::Truncated, "truncated certificate"),
-        (Fault::Read, "read fault"),
-        (Fault::UnknownRecord(7), "unknown record byte 7"),
-        (Fault::UnknownBound(9), "unknown bound 9"),
-        (Fault::CutFails(3), "cut 3 does not exclude"),
-        (Fault::RefUnknown, "reference to no closed node"),
-        (Fault::RefDiffers, "reference to another position"),
-        (Fault::RefFertile, "reference to a node with a game"),
-        (Fault::TooManyNamed, "too many named nodes"),
-        (Fault::Memory, "out of memory"),
-        (Fault::Shorter(3), "a game of 3 plies reaches the diagram"),
-        (Fault::Unlisted(ArrayVec::new()), "unlisted game: "),
-        (Fault::Trailing, "bytes after the certificate"),
-    ];
-    for (fault, text) in faults {
-        assert_eq!(rt; format!(in rt.alloc(); "{fault}")?.as_str(), text);
-    }
-    Ok(())
+fn faults_have_their_texts(rt: HostRuntime) {
+    let wrong_length = Fault::Listed(ListFault::WrongLength(0));
+    tells(&rt, wrong_length, "game 1 does not have the stated length");
+    let not_reaching = Fault::Listed(ListFault::NotReaching(11));
+    tells(&rt, not_reaching, "game 12 does not end on the diagram");
+    tells(&rt, Fault::Magic, "not a certificate");
+    tells(&rt, Fault::OtherLength, "certificate for another length");
+    tells(&rt, Fault::OtherDiagram, "certificate for another diagram");
+    tells(&rt, Fault::Budget, "record limit reached");
+    tells(&rt, Fault::Truncated, "truncated certificate");
+    tells(&rt, Fault::Read, "read fault");
+    tells(&rt, Fault::UnknownRecord(7), "unknown record byte 7");
+    tells(&rt, Fault::UnknownBound(9), "unknown bound 9");
+    tells(&rt, Fault::CutFails(3), "cut 3 does not exclude");
+    tells(&rt, Fault::RefUnknown, "reference to no closed node");
+    tells(&rt, Fault::RefDiffers, "reference to another position");
+    tells(&rt, Fault::RefFertile, "reference to a node with a game");
+    tells(&rt, Fault::TooManyNamed, "too many named nodes");
+    tells(&rt, Fault::Memory, "out of memory");
+    tells(
+        &rt,
+        Fault::Shorter(3),
+        "a game of 3 plies reaches the diagram",
+    );
+    tells(&rt, Fault::Unlisted(ArrayVec::new()), "unlisted game: ");
+    tells(&rt, Fault::Trailing, "bytes after the certificate");
 }

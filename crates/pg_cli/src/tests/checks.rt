@@ -1,7 +1,6 @@
 use super::*;
-use crate::checking::{Asked, check_from};
 use pg_trial::{FailsAt, TakesNothing};
-use std::{io, str};
+use std::io;
 
 // What is asked, and the limit, with a certificate of expansions for the diagram and so many plies.
 #[derive(Clone, Copy)]
@@ -13,35 +12,29 @@ struct Case<'a> {
 }
 
 // The status of a check with no bound, and what is written, or else what is said.
-fn check_case<R: Runtime + Abort + AllocGlobal>(
+fn check_answer<R: Runtime + Abort + AllocGlobal>(
     rt: &R,
     case: &Case<'_>,
+    bytes: &[u8],
     wanted: &str,
     code: u8,
-) -> Result<(), Fail> {
-    let none: Vec<Box<dyn Bound>> = Vec::new(rt.alloc());
-    let records = repeated(rt.alloc(), 1, case.records)?;
-    let bytes = certificate(rt, case.asked.diagram, case.plies, records.as_slice())?;
+) {
     let mut out = Vec::new(rt.alloc());
-    let answer = check_from(
-        rt,
-        &case.asked,
-        none.as_slice(),
-        bytes.as_slice(),
-        &mut out,
-        case.limit,
-        false,
-    );
-    if answer.is_err() {
-        assert!(rt; out.is_empty());
-        return check_said(rt, answer, wanted, code);
-    }
-    assert_eq!(rt; str::from_utf8(out.as_slice())?, wanted);
-    check_said(rt, answer, "", code)
+    let answer = answer_of(rt, &case.asked, bytes, &mut out, case.limit);
+    let is_done = answer.is_ok();
+    check_text(rt, out.as_slice(), if is_done { wanted } else { "" });
+    check_said(rt, answer, if is_done { "" } else { wanted }, code);
+}
+
+// The same, of a case.
+fn check_case<R: Runtime + Abort + AllocGlobal>(rt: &R, case: &Case<'_>, wanted: &str, code: u8) {
+    let records = repeated(rt, 1, case.records);
+    let bytes = certificate(rt, case.asked.diagram, case.plies, records.as_slice());
+    check_answer(rt, case, bytes.as_slice(), wanted, code);
 }
 
 #[test]
-fn answers(rt: HostRuntime) -> Result<(), Fail> {
+fn answers(rt: HostRuntime) {
     let report =
         "diagram rnbqkbnr/pppp1ppp/8/4p3/4P3/8/PPPP1PPP/RNBQKBNR\nlength 1.0\ngames 1\n1. e4 e5\nsound\n";
     for (games, length, limit, wanted, code) in [
@@ -76,13 +69,12 @@ fn answers(rt: HostRuntime) -> Result<(), Fail> {
             records: 22,
             limit,
         };
-        check_case(&rt, &case, wanted, code)?;
+        check_case(&rt, &case, wanted, code);
     }
-    Ok(())
 }
 
 #[test]
-fn verdicts(rt: HostRuntime) -> Result<(), Fail> {
+fn verdicts(rt: HostRuntime) {
     let orders =
         "diagram rnbqkbnr/pppp1ppp/4p3/8/8/3PP3/PPP2PPP/RNBQKBNR\nlength 1.5\ngames 2\n1. d3 e6 2. e3\n1. e3 e6 2. d3\ncooked\n";
     let none =
@@ -112,13 +104,12 @@ fn verdicts(rt: HostRuntime) -> Result<(), Fail> {
             records,
             limit: 1000,
         };
-        check_case(&rt, &case, wanted, code)?;
+        check_case(&rt, &case, wanted, code);
     }
-    Ok(())
 }
 
 #[test]
-fn refusals(rt: HostRuntime) -> Result<(), Fail> {
+fn refusals(rt: HostRuntime) {
     for (games, records, wanted, code) in [
         (
             b"1. d3 e6 2. e3".as_slice(),
@@ -162,17 +153,14 @@ fn refusals(rt: HostRuntime) -> Result<(), Fail> {
             records,
             limit: 1000,
         };
-        check_case(&rt, &case, wanted, code)?;
+        check_case(&rt, &case, wanted, code);
     }
-    Ok(())
 }
 
 // Reads that fail, and writes: 4 either way.
 #[test]
-fn files_that_fail(rt: HostRuntime) -> Result<(), Fail> {
-    let none: Vec<Box<dyn Bound>> = Vec::new(rt.alloc());
-    let none = none.as_slice();
-    let bytes = certificate(&rt, AFTER_E4, 1, &[1])?;
+fn files_that_fail(rt: HostRuntime) {
+    let bytes = certificate(&rt, AFTER_E4, 1, &[1]);
     let whole = bytes.as_slice();
     let asked = Asked {
         diagram: AFTER_E4,
@@ -180,12 +168,10 @@ fn files_that_fail(rt: HostRuntime) -> Result<(), Fail> {
         games: b"e4",
     };
     let failing = FailsAt::new(whole, 1, io::ErrorKind::Interrupted);
+    check_refused(&rt, &asked, failing, 9, "read fault", 4);
+    let unwritten = answer_of(&rt, &asked, whole, TakesNothing, 9);
+    check_said(&rt, unwritten, "write fault", 4);
     let mut out = Vec::new(rt.alloc());
-    let unread = check_from(&rt, &asked, none, failing, &mut out, 9, false);
-    check_said(&rt, unread, "read fault", 4)?;
-    assert!(rt; out.is_empty());
-    let unwritten = check_from(&rt, &asked, none, whole, TakesNothing, 9, false);
-    check_said(&rt, unwritten, "write fault", 4)?;
-    let done = check_from(&rt, &asked, none, whole, &mut out, 9, false);
-    check_said(&rt, done, "", 0)
+    let done = answer_of(&rt, &asked, whole, &mut out, 9);
+    check_said(&rt, done, "", 0);
 }

@@ -1,154 +1,231 @@
 use super::*;
 use crate::writing::{begin, lead_to_one};
-use std::io::Write;
 use std::os::unix::fs::{PermissionsExt, symlink};
 use std::{env, fs, process};
 
-// A new folder for the files of one test.
-fn folder(rt: &HostRuntime, name: &str) -> Result<String, Fail> {
-    let temporary = env::temp_dir(rt)?;
-    let id = process::id(rt.process());
-    let path = format!(in rt.alloc(); "{}/pg-{name}-{id}", temporary.as_str())?;
-    fs::create_dir(rt, path.as_str())?;
-    Ok(path)
+// The path of a file in a folder.
+fn path_in<R: Runtime + Abort + AllocGlobal>(rt: &R, folder: &str, name: &str) -> String {
+    let Ok(path) = format!(in rt.alloc(); "{folder}/{name}") else {
+        panic!(rt; "memory");
+    };
+    path
+}
+
+// A new folder for the files of one test, whose process has this number.
+fn folder<R: Runtime + Abort + AllocGlobal>(rt: &R, id: u32, name: &str) -> String {
+    let Ok(temporary) = env::temp_dir(rt) else {
+        panic!(rt; "a temporary folder");
+    };
+    let Ok(path) = format!(in rt.alloc(); "{}/pg-{name}-{id}", temporary.as_str()) else {
+        panic!(rt; "memory");
+    };
+    assert!(rt; fs::create_dir(rt, path.as_str()).is_ok());
+    path
+}
+
+fn remove<R: Runtime + Abort + AllocGlobal>(rt: &R, folder: &str) {
+    assert!(rt; fs::remove_dir_all(rt, folder).is_ok());
 }
 
 // How many files a folder has.
-fn count_files(rt: &HostRuntime, folder: &str) -> Result<usize, Fail> {
+fn count_files<R: Runtime + Abort + AllocGlobal>(rt: &R, folder: &str) -> usize {
+    let Ok(entries) = fs::read_dir(rt, folder) else {
+        panic!(rt; "{folder}");
+    };
     let mut count = 0usize;
-    for entry in fs::read_dir(rt, folder)? {
-        entry?;
+    for entry in entries {
+        assert!(rt; entry.is_ok());
         count = count.saturating_add(1);
     }
-    Ok(count)
+    count
+}
+
+fn check_count<R: Runtime + Abort + AllocGlobal>(rt: &R, folder: &str, wanted: usize) {
+    assert_eq!(rt; count_files(rt, folder), wanted);
+}
+
+fn write<R: Runtime + Abort + AllocGlobal>(rt: &R, path: &str, bytes: &[u8]) {
+    assert!(rt; fs::write(rt, path, bytes).is_ok());
+}
+
+fn read<R: Runtime + Abort + AllocGlobal>(rt: &R, path: &str) -> Vec<u8> {
+    let Ok(bytes) = fs::read(rt, path) else {
+        panic!(rt; "{path}");
+    };
+    bytes
+}
+
+// That a file has these bytes.
+fn check_file<R: Runtime + Abort + AllocGlobal>(rt: &R, path: &str, wanted: &[u8]) {
+    assert_eq!(rt; read(rt, path).as_slice(), wanted);
+}
+
+fn link<R: Runtime + Abort + AllocGlobal>(rt: &R, target: &str, path: &str) {
+    assert!(rt; symlink(rt, target, path).is_ok());
+}
+
+fn set_mode<R: Runtime + Abort + AllocGlobal>(rt: &R, path: &str, mode: u32) {
+    assert!(rt; fs::set_permissions(rt, path, fs::Permissions::from_mode(mode)).is_ok());
+}
+
+fn check_mode<R: Runtime + Abort + AllocGlobal>(rt: &R, path: &str, wanted: u32) {
+    let Ok(data) = fs::metadata(rt, path) else {
+        panic!(rt; "{path}");
+    };
+    assert_eq!(rt; data.permissions().mode() % 512, wanted);
+}
+
+// A new draft is put in its place or dropped; before that an old file stands beside it in the folder.
+fn check_draft<R: Runtime + Abort + AllocGlobal>(rt: &R, folder: &str, path: &str, put: bool) {
+    let Ok(mut draft) = begin(rt, path) else {
+        panic!(rt; "a draft");
+    };
+    assert!(rt; draft.file.write_all(b"new").is_ok());
+    check_file(rt, path, b"old");
+    check_count(rt, folder, 2);
+    if put {
+        assert!(rt; draft.put(rt).is_ok());
+    } else {
+        draft.discard(rt);
+    }
+    check_file(rt, path, if put { b"new" } else { b"old" });
+    check_count(rt, folder, 1);
 }
 
 #[test]
-fn a_draft_is_put_in_its_place_or_dropped(rt: HostRuntime) -> Result<(), Fail> {
-    let folder = folder(&rt, "draft")?;
-    let path = format!(in rt.alloc(); "{folder}/certificate")?;
-    fs::write(&rt, path.as_str(), "old")?;
-    fs::set_permissions(&rt, path.as_str(), fs::Permissions::from_mode(0o640))?;
-    for put in [false, true] {
-        let Ok(mut draft) = begin(&rt, path.as_str()) else {
-            panic!(&rt; "a draft");
-        };
-        draft.file.write_all(b"new")?;
-        assert_eq!(rt; fs::read_to_string(&rt, path.as_str())?.as_str(), "old");
-        assert_eq!(rt; count_files(&rt, folder.as_str())?, 2);
-        if put {
-            assert!(rt; draft.put(&rt).is_ok());
-        } else {
-            draft.discard(&rt);
-        }
-        let wanted = if put { "new" } else { "old" };
-        assert_eq!(rt; fs::read_to_string(&rt, path.as_str())?.as_str(), wanted);
-        assert_eq!(rt; count_files(&rt, folder.as_str())?, 1);
-    }
-    let mode = fs::metadata(&rt, path.as_str())?.permissions().mode();
-    assert_eq!(rt; mode % 512, 0o640);
-    fs::remove_dir_all(&rt, folder.as_str())?;
-    Ok(())
+fn a_draft_is_put_in_its_place_or_dropped(rt: HostRuntime) {
+    let folder = folder(&rt, process::id(rt.process()), "draft");
+    let path = path_in(&rt, folder.as_str(), "certificate");
+    write(&rt, path.as_str(), b"old");
+    set_mode(&rt, path.as_str(), 0o640);
+    check_draft(&rt, folder.as_str(), path.as_str(), false);
+    check_draft(&rt, folder.as_str(), path.as_str(), true);
+    check_mode(&rt, path.as_str(), 0o640);
+    remove(&rt, folder.as_str());
+}
+
+// That no draft is begun under a name.
+fn check_not_opened<R: Runtime + Abort + AllocGlobal>(rt: &R, name: &str) {
+    let Err(refusal) = begin(rt, name) else {
+        panic!(rt; "{name}");
+    };
+    let Ok(wanted) = format!(in rt.alloc(); "cannot open {name}") else {
+        panic!(rt; "memory");
+    };
+    check_said(rt, Err(refusal), wanted.as_str(), 4);
 }
 
 // Names that lead to no plain file that may be written: none of them is touched.
 #[test]
-fn files_that_are_not_written(rt: HostRuntime) -> Result<(), Fail> {
-    let folder = folder(&rt, "unwritten")?;
-    let link = format!(in rt.alloc(); "{folder}/link")?;
-    symlink(&rt, "nothing", link.as_str())?;
-    let below = format!(in rt.alloc(); "{folder}/none/certificate")?;
-    let inner = format!(in rt.alloc(); "{folder}/none/")?;
-    let before = count_files(&rt, folder.as_str())?;
+fn files_that_are_not_written(rt: HostRuntime) {
+    let folder = folder(&rt, process::id(rt.process()), "unwritten");
+    let dead = path_in(&rt, folder.as_str(), "link");
+    link(&rt, "nothing", dead.as_str());
+    let below = path_in(&rt, folder.as_str(), "none/certificate");
+    let inner = path_in(&rt, folder.as_str(), "none/");
+    let before = count_files(&rt, folder.as_str());
     for name in [
         folder.as_str(),
-        link.as_str(),
+        dead.as_str(),
         below.as_str(),
         inner.as_str(),
         "/dev/null",
         "/dev/full",
         "",
     ] {
-        match begin(&rt, name) {
-            Ok(_) => panic!(&rt; "{name}"),
-            Err(refusal) => {
-                let wanted = format!(in rt.alloc(); "cannot open {name}")?;
-                check_said(&rt, Err(refusal), wanted.as_str(), 4)?;
-            }
-        }
-        assert_eq!(rt; count_files(&rt, folder.as_str())?, before);
+        check_not_opened(&rt, name);
+        check_count(&rt, folder.as_str(), before);
     }
-    fs::remove_dir_all(&rt, folder.as_str())?;
-    Ok(())
+    remove(&rt, folder.as_str());
+}
+
+// That a draft under the name of a link is put where the link leads, and the link stays.
+fn check_link<R: Runtime + Abort + AllocGlobal>(rt: &R, file: &str, link: &str) {
+    let Ok(mut draft) = begin(rt, link) else {
+        panic!(rt; "a draft");
+    };
+    assert!(rt; draft.file.write_all(b"new").is_ok());
+    assert!(rt; draft.put(rt).is_ok());
+    let Ok(data) = fs::symlink_metadata(rt, link) else {
+        panic!(rt; "{link}");
+    };
+    assert!(rt; data.is_symlink());
+    check_file(rt, file, b"new");
 }
 
 // A link is written through: what it leads to is replaced, and the link stays.
 #[test]
-fn links_stay(rt: HostRuntime) -> Result<(), Fail> {
-    let folder = folder(&rt, "links")?;
-    let file = format!(in rt.alloc(); "{folder}/file")?;
-    let link = format!(in rt.alloc(); "{folder}/link")?;
-    fs::write(&rt, file.as_str(), "old")?;
-    symlink(&rt, "file", link.as_str())?;
-    assert!(rt; lead_to_one(&rt, file.as_str(), link.as_str()));
+fn links_stay(rt: HostRuntime) {
+    let folder = folder(&rt, process::id(rt.process()), "links");
+    let file = path_in(&rt, folder.as_str(), "file");
+    let name = path_in(&rt, folder.as_str(), "link");
+    write(&rt, file.as_str(), b"old");
+    link(&rt, "file", name.as_str());
+    assert!(rt; lead_to_one(&rt, file.as_str(), name.as_str()));
     assert!(rt; !lead_to_one(&rt, file.as_str(), "/dev/null"));
     assert!(rt; !lead_to_one(&rt, "/dev/null", "/dev/null"));
-    let Ok(mut draft) = begin(&rt, link.as_str()) else {
-        panic!(&rt; "a draft");
-    };
-    draft.file.write_all(b"new")?;
-    assert!(rt; draft.put(&rt).is_ok());
-    assert!(rt; fs::symlink_metadata(&rt, link.as_str())?.is_symlink());
-    assert_eq!(rt; fs::read_to_string(&rt, file.as_str())?.as_str(), "new");
-    fs::remove_dir_all(&rt, folder.as_str())?;
-    Ok(())
+    check_link(&rt, file.as_str(), name.as_str());
+    remove(&rt, folder.as_str());
 }
 
 // A search that gives up leaves an old certificate as it was, and one that is done replaces it.
-#[test]
-fn searches_leave_no_rubbish(rt: HostRuntime) -> Result<(), Fail> {
-    let folder = folder(&rt, "search")?;
-    let path = format!(in rt.alloc(); "{folder}/certificate")?;
-    let path = path.as_str();
+fn check_searches<R: Runtime + Abort + AllocGlobal>(rt: &R, folder: &str, path: &str) {
     let refused = ["search", AFTER_E4_E5, "1.0", path, "--nodes=0"];
-    assert_eq!(rt; status_of(&rt, &refused)?, 1);
-    assert_eq!(rt; count_files(&rt, folder.as_str())?, 0);
-    fs::write(&rt, path, "old")?;
-    assert_eq!(rt; status_of(&rt, &refused)?, 1);
-    assert_eq!(rt; status_of(&rt, &["search", ARRAY, "1.0", path])?, 1);
-    assert_eq!(rt; fs::read_to_string(&rt, path)?.as_str(), "old");
-    assert_eq!(rt; count_files(&rt, folder.as_str())?, 1);
-    assert_eq!(rt; status_of(&rt, &["search", ARRAY, "0.0", path])?, 0);
-    assert_eq!(rt; fs::metadata(&rt, path)?.len(), 37);
-    assert_eq!(rt; count_files(&rt, folder.as_str())?, 1);
-    assert_eq!(rt; status_of(&rt, &["check", ARRAY, "0.0", path, path])?, 4);
-    assert_eq!(rt;
-        status_of(&rt, &["check", ARRAY, "0.0", path, "/dev/null"])?,
-        1
-    );
-    fs::remove_dir_all(&rt, folder.as_str())?;
-    Ok(())
+    check_status(rt, &refused, 1);
+    check_count(rt, folder, 0);
+    write(rt, path, b"old");
+    check_status(rt, &refused, 1);
+    check_status(rt, &["search", ARRAY, "1.0", path], 1);
+    check_file(rt, path, b"old");
+    check_count(rt, folder, 1);
+    check_status(rt, &["search", ARRAY, "0.0", path], 0);
+    assert_eq!(rt; read(rt, path).len(), 37);
+    check_count(rt, folder, 1);
+    check_status(rt, &["check", ARRAY, "0.0", path, path], 4);
+    check_status(rt, &["check", ARRAY, "0.0", path, "/dev/null"], 1);
+}
+
+#[test]
+fn searches_leave_no_rubbish(rt: HostRuntime) {
+    let folder = folder(&rt, process::id(rt.process()), "search");
+    let path = path_in(&rt, folder.as_str(), "certificate");
+    check_searches(&rt, folder.as_str(), path.as_str());
+    remove(&rt, folder.as_str());
 }
 
 // A copy is put in its place when it is whole; no old file is harmed, least of all the one that is copied.
+fn check_copies<R: Runtime + Abort + AllocGlobal>(
+    rt: &R,
+    folder: &str,
+    old: &str,
+    new: &str,
+    bytes: &[u8],
+) {
+    write(rt, old, bytes);
+    check_status(rt, &["upgrade", old, old], 4);
+    check_status(rt, &["upgrade", new, old], 4);
+    check_status(rt, &["upgrade", old, folder], 4);
+    check_file(rt, old, bytes);
+    check_count(rt, folder, 1);
+    check_status(rt, &["upgrade", old, new], 0);
+    check_status(rt, &["upgrade", new, old], 1);
+    check_file(rt, old, bytes);
+    assert!(rt; read(rt, new).as_slice().starts_with(b"PGC2"));
+    check_count(rt, folder, 2);
+}
+
 #[test]
-fn copies_leave_no_rubbish(rt: HostRuntime) -> Result<(), Fail> {
-    let folder = folder(&rt, "upgrade")?;
-    let old = format!(in rt.alloc(); "{folder}/old")?;
-    let new = format!(in rt.alloc(); "{folder}/new")?;
-    let (old, new) = (old.as_str(), new.as_str());
-    let bytes = certificate(&rt, ARRAY, 0, &[])?;
-    fs::write(&rt, old, bytes.as_slice())?;
-    assert_eq!(rt; status_of(&rt, &["upgrade", old, old])?, 4);
-    assert_eq!(rt; status_of(&rt, &["upgrade", new, old])?, 4);
-    assert_eq!(rt; status_of(&rt, &["upgrade", old, folder.as_str()])?, 4);
-    assert_eq!(rt; fs::read(&rt, old)?.as_slice(), bytes.as_slice());
-    assert_eq!(rt; count_files(&rt, folder.as_str())?, 1);
-    assert_eq!(rt; status_of(&rt, &["upgrade", old, new])?, 0);
-    assert_eq!(rt; status_of(&rt, &["upgrade", new, old])?, 1);
-    assert_eq!(rt; fs::read(&rt, old)?.as_slice(), bytes.as_slice());
-    assert!(rt; fs::read(&rt, new)?.as_slice().starts_with(b"PGC2"));
-    assert_eq!(rt; count_files(&rt, folder.as_str())?, 2);
-    fs::remove_dir_all(&rt, folder.as_str())?;
-    Ok(())
+fn copies_leave_no_rubbish(rt: HostRuntime) {
+    let folder = folder(&rt, process::id(rt.process()), "upgrade");
+    let old = path_in(&rt, folder.as_str(), "old");
+    let new = path_in(&rt, folder.as_str(), "new");
+    let bytes = certificate(&rt, ARRAY, 0, &[]);
+    check_copies(
+        &rt,
+        folder.as_str(),
+        old.as_str(),
+        new.as_str(),
+        bytes.as_slice(),
+    );
+    remove(&rt, folder.as_str());
 }

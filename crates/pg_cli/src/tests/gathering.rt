@@ -1,6 +1,5 @@
 use super::*;
-use crate::gathered::Gathered;
-use pg_report::{Refused, Sink, ToWrite};
+use pg_report::{Refused, Sink};
 use pg_trial::FailsAt;
 use std::io;
 
@@ -12,45 +11,53 @@ fn push_pieces<W: Sink>(out: &mut Gathered<W>) -> Result<(), Refused> {
     out.push(b"5..\n")
 }
 
+// What is written in one piece and another, to a writer that fails at one write, or at none.
+fn check_pieces<R: Abort + AllocGlobal>(rt: &R, at: u64, bytes: &mut Vec<u8>) {
+    let mut writer = FailsAt::new(bytes, at, io::ErrorKind::Interrupted);
+    let mut out = Gathered::new(ToWrite::new(&mut writer));
+    let pushed = push_pieces(&mut out);
+    if pushed.is_err() {
+        assert_eq!(rt; out.push(b""), Err(Refused));
+        assert_eq!(rt; out.push(b"more"), Err(Refused));
+    }
+    let finished = out.finish().is_ok();
+    assert_eq!(rt; finished, at == 3);
+    assert_eq!(rt; pushed.is_ok(), at >= 2);
+    assert_eq!(rt; writer.calls(), at.saturating_add(1).min(3));
+}
+
 // Many short pieces are three writes of up to 4,096 bytes, and any of them may fail.
 #[test]
-fn short_pieces_are_few_writes(rt: HostRuntime) -> Result<(), Fail> {
+fn short_pieces_are_few_writes(rt: HostRuntime) {
     for at in 0..4u64 {
         let mut bytes = Vec::new(rt.alloc());
-        let mut writer = FailsAt::new(&mut bytes, at, io::ErrorKind::Interrupted);
-        let mut out = Gathered::new(ToWrite::new(&mut writer));
-        let pushed = push_pieces(&mut out);
-        if pushed.is_err() {
-            assert_eq!(rt; out.push(b""), Err(Refused));
-            assert_eq!(rt; out.push(b"more"), Err(Refused));
-        }
-        let finished = out.finish().is_ok();
-        assert_eq!(rt; finished, at == 3);
-        assert_eq!(rt; pushed.is_ok(), at >= 2);
-        assert_eq!(rt; writer.calls(), (at + 1).min(3));
+        check_pieces(&rt, at, &mut bytes);
         if at == 3 {
             assert_eq!(rt; bytes.len(), 10_000);
             assert!(rt; bytes.as_slice().starts_with(b"1. e4 e1. e4 e"));
             assert!(rt; bytes.as_slice().ends_with(b"1. e4 e5..\n"));
         }
     }
-    Ok(())
+}
+
+// Three pieces, gathered.
+fn gathered<R: Abort + AllocGlobal>(rt: &R, pieces: [&[u8]; 3]) -> Vec<u8> {
+    let mut out = Gathered::new(ToWrite::new(Vec::new(rt.alloc())));
+    for piece in pieces {
+        assert_eq!(rt; out.push(piece), Ok(()));
+    }
+    let Ok(sink) = out.finish() else {
+        panic!(rt; "a sink");
+    };
+    sink.into_inner()
 }
 
 // A piece that is longer than the room goes through whole, behind what stands before it.
 #[test]
-fn a_long_piece(rt: HostRuntime) -> Result<(), Fail> {
-    let long = repeated(rt.alloc(), b'x', 5000)?;
-    let mut out = Gathered::new(ToWrite::new(Vec::new(rt.alloc())));
-    assert_eq!(rt; out.push(b"before"), Ok(()));
-    assert_eq!(rt; out.push(long.as_slice()), Ok(()));
-    assert_eq!(rt; out.push(b"after"), Ok(()));
-    let Ok(sink) = out.finish() else {
-        panic!(&rt; "a sink");
-    };
-    let bytes = sink.into_inner();
+fn a_long_piece(rt: HostRuntime) {
+    let long = repeated(&rt, b'x', 5000);
+    let bytes = gathered(&rt, [b"before", long.as_slice(), b"after"]);
     assert_eq!(rt; bytes.len(), 5011);
     assert!(rt; bytes.as_slice().starts_with(b"beforex"));
     assert!(rt; bytes.as_slice().ends_with(b"xafter"));
-    Ok(())
 }

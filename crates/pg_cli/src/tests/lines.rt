@@ -36,116 +36,121 @@ impl Eprint for Desk {
     }
 }
 
+// One read of a source for a byte, which gives so many.
+fn check_pull<S: Source>(rt: &impl Abort, source: &mut S, wanted: usize) {
+    let mut buffer = [0u8; 1];
+    assert_eq!(rt; source.pull(&mut buffer), Ok(wanted));
+}
+
 // How often something was printed when a source was pulled at each of these times, and at its end.
-fn prints<R: Abort + AllocGlobal>(rt: &R, times: &[u64], screen: bool) -> Result<(u32, u32), Fail> {
+fn prints<R: Abort + AllocGlobal>(rt: &R, times: &[u64], screen: bool) -> (u32, u32) {
     let desk = Desk {
         millis: Cell::new(5000),
         prints: Cell::new(0),
     };
-    let bytes = repeated(rt.alloc(), 1, times.len())?;
+    let bytes = repeated(rt, 1, times.len());
     let terminal = Terminal::new(screen);
     let mut source = Watched::new(
         FromRead::new(bytes.as_slice()),
         Watch::new(&desk, &terminal, 100),
     );
-    let mut buffer = [0u8; 1];
     for time in times {
         desk.millis.set(time.saturating_add(5000));
-        assert_eq!(rt; source.pull(&mut buffer), Ok(1));
+        check_pull(rt, &mut source, 1);
     }
     let shown = desk.prints.get();
-    assert_eq!(rt; source.pull(&mut buffer), Ok(0));
+    check_pull(rt, &mut source, 0);
     source.end();
     let all = desk.prints.get();
-    Ok((shown, all))
+    (shown, all)
+}
+
+// So often with a screen, and never without one.
+fn check_prints<R: Abort + AllocGlobal>(rt: &R, times: [u64; 3], wanted: (u32, u32)) {
+    assert_eq!(rt; prints(rt, &times, true), wanted);
+    assert_eq!(rt; prints(rt, &times, false), (0, 0));
 }
 
 // A line after one second, then each half second, and it is taken away once.
 #[test]
-fn lines_that_are_shown(rt: HostRuntime) -> Result<(), Fail> {
-    for (times, wanted) in [
-        ([0, 1, 999], (0, 0)),
-        ([0, 1000, 1001], (1, 2)),
-        ([1000, 1499, 1500], (2, 3)),
-        ([1000, 1500, 2000], (3, 4)),
-    ] {
-        assert_eq!(rt; prints(&rt, &times, true)?, wanted);
-        assert_eq!(rt; prints(&rt, &times, false)?, (0, 0));
-    }
-    Ok(())
+fn lines_that_are_shown(rt: HostRuntime) {
+    check_prints(&rt, [0, 1, 999], (0, 0));
+    check_prints(&rt, [0, 1000, 1001], (1, 2));
+    check_prints(&rt, [1000, 1499, 1500], (2, 3));
+    check_prints(&rt, [1000, 1500, 2000], (3, 4));
+}
+
+// How many records a certificate has that passes by in two parts.
+fn records_in(front: &[u8], back: &[u8]) -> u64 {
+    let mut count = RecordCount::new();
+    count.pass(front);
+    count.pass(back);
+    count.records
 }
 
 // A cut has two bytes and a reference five; the header is no record, wherever the bytes are parted.
 #[test]
-fn records_that_pass_by(rt: HostRuntime) -> Result<(), Fail> {
-    let bytes = certificate(&rt, ARRAY, 4, &[1, 5, 2, 1, 3, 1, 1, 1, 1, 2, 4, 1])?;
+fn records_that_pass_by(rt: HostRuntime) {
+    let bytes = certificate(&rt, ARRAY, 4, &[1, 5, 2, 1, 3, 1, 1, 1, 1, 2, 4, 1]);
     for at in 0..=bytes.len() {
         let (front, back) = bytes.as_slice().split_at(at);
-        let mut count = RecordCount::new();
-        count.pass(front);
-        count.pass(back);
-        assert_eq!(rt; count.records, 6);
+        assert_eq!(rt; records_in(front, back), 6);
     }
-    Ok(())
+}
+
+// Four records, of which the second is one of prices, with so many lists behind its head.
+fn check_prices<R: Abort + AllocGlobal>(rt: &R, head: &[u8], lists: usize) {
+    let rest = repeated(rt, 6, lists);
+    let records = joined(rt, &[&[1], head, rest.as_slice(), &[2, 6, 1]]);
+    let bytes = certificate(rt, ARRAY, 4, records.as_slice());
+    assert_eq!(rt; records_in(bytes.as_slice(), b""), 4);
 }
 
 // A record of prices is one, however many lists it has and however long they are.
 #[test]
-fn records_of_prices_that_pass_by(rt: HostRuntime) -> Result<(), Fail> {
-    for (head, lists, wanted) in [
-        ([6, 4, 0, 2, 1, 2], 6, 4),
-        ([6, 3, 1, 1, 0, 3], 3, 4),
-        ([6, 3, 1, 1, 0, 0], 0, 4),
-        ([6, 4, 0, 3, 64, 64], 384, 4),
-    ] {
-        let mut bytes = certificate(&rt, ARRAY, 4, &[1])?;
-        bytes.extend_from_slice(&head)?;
-        let rest = repeated(rt.alloc(), 6, lists)?;
-        bytes.extend_from_slice(rest.as_slice())?;
-        bytes.extend_from_slice(&[2, 6, 1])?;
-        let mut count = RecordCount::new();
-        count.pass(bytes.as_slice());
-        assert_eq!(rt; count.records, wanted);
-    }
-    Ok(())
+fn records_of_prices_that_pass_by(rt: HostRuntime) {
+    check_prices(&rt, &[6, 4, 0, 2, 1, 2], 6);
+    check_prices(&rt, &[6, 3, 1, 1, 0, 3], 3);
+    check_prices(&rt, &[6, 3, 1, 1, 0, 0], 0);
+    check_prices(&rt, &[6, 4, 0, 3, 64, 64], 384);
 }
 
 // What is shown is never wider than nineteen columns.
+fn check_line(rt: &impl Abort, count: u64, limit: u64, wanted: &str) {
+    let line = line_of(count, limit);
+    assert_eq!(rt; line.as_str(), wanted);
+    assert!(rt; line.as_str().len() <= 19, "{wanted}");
+}
+
 #[test]
 fn lines_that_fit(rt: HostRuntime) {
-    for (count, limit, wanted) in [
-        (0, 0, "0 records 100%"),
-        (0, 1, "0 records 0%"),
-        (99_999, 100_000, "99999 records 99%"),
-        (100_000, 100_000, "100k records 100%"),
-        (12_345_678, 100_000_000, "12345k records 12%"),
-        (99_999_999, 99_999_999, "99999k records 100%"),
-        (100_000_000, 1_000_000_000, "100M records 10%"),
-        (u64::MAX, u64::MAX, "18446P records 100%"),
-    ] {
-        let line = line_of(count, limit);
-        assert_eq!(rt; line.as_str(), wanted);
-        assert!(rt; line.as_str().len() <= 19, "{wanted}");
-    }
+    check_line(&rt, 0, 0, "0 records 100%");
+    check_line(&rt, 0, 1, "0 records 0%");
+    check_line(&rt, 99_999, 100_000, "99999 records 99%");
+    check_line(&rt, 100_000, 100_000, "100k records 100%");
+    check_line(&rt, 12_345_678, 100_000_000, "12345k records 12%");
+    check_line(&rt, 99_999_999, 99_999_999, "99999k records 100%");
+    check_line(&rt, 100_000_000, 1_000_000_000, "100M records 10%");
+    check_line(&rt, u64::MAX, u64::MAX, "18446P records 100%");
+}
+
+fn check_count(rt: &impl Abort, games: u64, wanted: &str) {
+    assert_eq!(rt; count_line(games).as_str(), wanted);
+}
+
+fn check_search(rt: &impl Abort, plies: u8, nodes: u64, limit: u64, wanted: &str) {
+    assert_eq!(rt; search_line(plies, nodes, limit).as_str(), wanted);
 }
 
 #[test]
 fn lines_of_counts_and_searches(rt: HostRuntime) {
-    for (games, wanted) in [
-        (0, "0 games"),
-        (84_998_978_956, "84998M games"),
-        (u64::MAX, "18446P games"),
-    ] {
-        assert_eq!(rt; count_line(games).as_str(), wanted);
-    }
-    for (plies, nodes, limit, wanted) in [
-        (0, 0, 1_000_000, "0.0 0 0%"),
-        (11, 428, 1_000_000, "5.5 428 0%"),
-        (24, 32_105_000, 80_000_000, "12.0 32105k 40%"),
-        (128, 99_999_999, 99_999_999, "64.0 99999k 100%"),
-    ] {
-        assert_eq!(rt; search_line(plies, nodes, limit).as_str(), wanted);
-    }
+    check_count(&rt, 0, "0 games");
+    check_count(&rt, 84_998_978_956, "84998M games");
+    check_count(&rt, u64::MAX, "18446P games");
+    check_search(&rt, 0, 0, 1_000_000, "0.0 0 0%");
+    check_search(&rt, 11, 428, 1_000_000, "5.5 428 0%");
+    check_search(&rt, 24, 32_105_000, 80_000_000, "12.0 32105k 40%");
+    check_search(&rt, 128, 99_999_999, 99_999_999, "64.0 99999k 100%");
 }
 
 // A desk at this time.

@@ -60,104 +60,113 @@ const CUTS: [(&str, u8, &str); 11] = [
 ];
 
 // The text of a line at the start.
-fn at_start(alloc: Global, said: &str, more: &str) -> Result<String, Fail> {
-    let mut text = String::new(alloc);
-    write!(text, "at the start: excluded: {said}{more}\n")?;
-    Ok(text)
+fn at_start<R: Abort + AllocGlobal>(rt: &R, said: &str, more: &str) -> String {
+    format!(in rt.alloc(); "at the start: excluded: {said}{more}\n").expect(rt, "memory")
+}
+
+// What the certificate says at the start of these moves.
+fn check_start<R: Abort + AllocGlobal>(
+    rt: &R,
+    bytes: &[u8],
+    diagram: &str,
+    moves: &str,
+    line: &str,
+) {
+    let length = "0.5";
+    let asked = Asked {
+        diagram,
+        length,
+        moves,
+    };
+    check_lines(rt, bytes, &asked, line);
+}
+
+// What the one cut says, whether or not the line goes on.
+fn check_cut<R: Abort + AllocGlobal>(rt: &R, version: u8, diagram: &str, code: u8, said: &str) {
+    let bytes = certificate(rt, version, diagram, "0.5", &[2, code]);
+    let line = at_start(rt, said, "");
+    check_start(rt, bytes.as_slice(), diagram, "-", line.as_str());
+    let line = at_start(rt, said, "; the line goes on");
+    check_start(rt, bytes.as_slice(), diagram, "1. Nf3", line.as_str());
 }
 
 #[test]
-fn cuts_in_both_versions(rt: HostRuntime) -> Result<(), Fail> {
+fn cuts_in_both_versions(rt: HostRuntime) {
     for (diagram, code, said) in CUTS {
-        for version in 1..3u8 {
-            let bytes = certificate(rt.alloc(), version, diagram, "0.5", &[2, code])?;
-            for (moves, more) in [("-", ""), ("1. Nf3", "; the line goes on")] {
-                let length = "0.5";
-                let asked = Asked {
-                    diagram,
-                    length,
-                    moves,
-                };
-                let line = at_start(rt.alloc(), said, more)?;
-                check_lines(&rt, bytes.as_slice(), &asked, line.as_str())?;
-            }
-        }
+        check_cut(&rt, 1, diagram, code, said);
+        check_cut(&rt, 2, diagram, code, said);
     }
-    Ok(())
+}
+
+// Puts bytes behind a record.
+fn append<R: Abort>(rt: &R, record: &mut Vec<u8>, bytes: &[u8]) {
+    record.extend_from_slice(bytes).expect(rt, "memory");
 }
 
 // A record of prices for White's men that stand in the array: sources that pay these numbers, and for
 // each way what the targets do.
-fn priced(alloc: Global, code: u8, sources: &[u8], ways: &[&[u8]]) -> Result<Vec<u8>, Fail> {
-    let mut record = Vec::new(alloc);
-    record.extend_from_slice(&[6, code, 0])?;
-    record.push(ways.len().min(3) as u8)?;
-    record.push(sources.len().min(64) as u8)?;
+fn priced<R: Abort + AllocGlobal>(rt: &R, code: u8, sources: &[u8], ways: &[&[u8]]) -> Vec<u8> {
+    let mut record = Vec::new(rt.alloc());
+    append(rt, &mut record, &[6, code, 0]);
+    append(rt, &mut record, &[ways.len().min(3) as u8]);
+    append(rt, &mut record, &[sources.len().min(64) as u8]);
     for (i, targets) in ways.iter().enumerate() {
         if i == 0 {
-            record.push(targets.len().min(64) as u8)?;
+            append(rt, &mut record, &[targets.len().min(64) as u8]);
         }
-        record.extend_from_slice(sources)?;
-        record.extend_from_slice(targets)?;
+        append(rt, &mut record, sources);
+        append(rt, &mut record, targets);
     }
-    Ok(record)
+    record
 }
 
 // The cut of a record of prices says this.
-fn check_prices<R: Abort + AllocGlobal>(
-    rt: &R,
-    diagram: &str,
-    record: &[u8],
-    said: &str,
-) -> Result<(), Fail> {
-    let bytes = certificate(rt.alloc(), 2, diagram, "0.5", record)?;
-    let asked = Asked {
-        diagram,
-        length: "0.5",
-        moves: "-",
-    };
-    let line = at_start(rt.alloc(), said, "")?;
-    check_lines(rt, bytes.as_slice(), &asked, line.as_str())
+fn check_prices<R: Abort + AllocGlobal>(rt: &R, diagram: &str, record: &[u8], said: &str) {
+    let bytes = certificate(rt, 2, diagram, "0.5", record);
+    let line = at_start(rt, said, "");
+    check_start(rt, bytes.as_slice(), diagram, "-", line.as_str());
+}
+
+// The same, by travel: the sixteen men pay nothing, and the targets are paid so, each way.
+fn check_travel<R: Abort + AllocGlobal>(rt: &R, diagram: &str, ways: &[&[u8]], said: &str) {
+    check_prices(rt, diagram, priced(rt, 4, &[0; 16], ways).as_slice(), said);
 }
 
 #[test]
-fn prices(rt: HostRuntime) -> Result<(), Fail> {
+fn prices(rt: HostRuntime) {
     let targets = [0, 0, 0, 1, 0, 0, 0, 1];
-    let record = priced(rt.alloc(), 3, &[0, 0, 0, 1, 0, 0, 0, 0], &[&targets])?;
+    let record = priced(&rt, 3, &[0, 0, 0, 1, 0, 0, 0, 0], &[&targets]);
     check_prices(
         &rt,
         "rnbqkbnr/pppppppp/8/8/8/3P4/PPPP1PPP/RNBQKBNR",
         record.as_slice(),
         "white's pawns must change file 1 time, and white has no man to capture (prices: the pawn on d2 needs 1, the pawn on d3 needs 1, less 1)",
-    )?;
+    );
     let knights = [0, 0, 0, 0, 0, 0, 0, 0, 0, 0, 0, 0, 0, 0, 1, 1];
-    let record = priced(rt.alloc(), 4, &[0; 16], &[&knights, &knights, &knights])?;
-    check_prices(
+    check_travel(
         &rt,
         "rnbqkbnr/pppppppp/8/8/8/2N2N2/PPPPPPPP/R1BQKB1R",
-        record.as_slice(),
+        &[&knights, &knights, &knights],
         "white needs 2 moves and has 1 (prices: the knight on c3 needs 1, the knight on f3 needs 1)",
-    )?;
+    );
     let free = [0, 0, 0, 0, 1, 2, 0, 0, 0, 0, 0, 0, 0, 1];
     let short = [0, 0, 0, 0, 0, 0, 0, 0, 0, 0, 0, 0, 0, 1];
-    let record = priced(rt.alloc(), 4, &[0; 16], &[&free, &short, &free])?;
-    check_prices(
+    check_travel(
         &rt,
         "rnbqkbnr/pppppppp/8/8/8/4P3/PPPP1PPP/RNBQ1RK1",
-        record.as_slice(),
+        &[&free, &short, &free],
         "white needs 2 moves and has 1 (prices: the pawn on e3 needs 1, castling 1)",
-    )
+    );
 }
 
 // Four men are dear; the first three of them are named.
 #[test]
-fn other_prices(rt: HostRuntime) -> Result<(), Fail> {
+fn other_prices(rt: HostRuntime) {
     let men = [0, 0, 0, 0, 0, 0, 0, 0, 0, 0, 0, 0, 1, 1, 1, 3];
-    let record = priced(rt.alloc(), 4, &[0; 16], &[&men, &men, &men])?;
-    check_prices(
+    check_travel(
         &rt,
         "rnbqkbnr/pppppppp/4N3/8/8/2N2P1P/PPPPP1P1/R1BQKB1R",
-        record.as_slice(),
+        &[&men, &men, &men],
         "white needs 6 moves and has 1 (prices: the knight on e6 needs 3, the knight on c3 needs 1, the pawn on f3 needs 1, others 1)",
-    )
+    );
 }

@@ -6,7 +6,7 @@ use pg_trial::{Counted, named_expansions};
 
 // The answer to e4 e5 by a certificate of 22 named expansions, and how many bytes were written.
 fn named_run(rt: &impl Abort, alloc: Global) -> (Result<(), WhyFault>, usize) {
-    let bytes = named_expansions(&Diagram::read(AFTER_E4_E5).expect(rt, AFTER_E4_E5));
+    let bytes = named_expansions(&diagram_of(rt, AFTER_E4_E5));
     let asked = Asked {
         diagram: AFTER_E4_E5,
         length: "1.0",

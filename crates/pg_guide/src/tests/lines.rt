@@ -27,32 +27,38 @@ const EXPANDED: [(&str, &str); 6] = [
     ),
 ];
 
-#[test]
-fn expanded_nodes_and_leaves(rt: HostRuntime) -> Result<(), Fail> {
-    for version in 1..3u8 {
-        let bytes = certificate(rt.alloc(), version, AFTER_E4_E5, "1.0", &[1; 22])?;
-        for (moves, lines) in EXPANDED {
-            let asked = Asked {
-                diagram: AFTER_E4_E5,
-                length: "1",
-                moves,
-            };
-            check_lines(&rt, bytes.as_slice(), &asked, lines)?;
-        }
-        let bytes = certificate(rt.alloc(), version, ARRAY, "0", &[])?;
-        for (moves, lines) in [
-            ("-", "at the start: a solution\n"),
-            ("e4", "at the start: a solution; the line goes on\n"),
-        ] {
-            let asked = Asked {
-                diagram: ARRAY,
-                length: "0",
-                moves,
-            };
-            check_lines(&rt, bytes.as_slice(), &asked, lines)?;
-        }
+// The leaf of no ply.
+const LEAF: [(&str, &str); 2] = [
+    ("-", "at the start: a solution\n"),
+    ("e4", "at the start: a solution; the line goes on\n"),
+];
+
+// What the certificate says of each line of moves.
+fn check_each<R: Abort + AllocGlobal>(
+    rt: &R,
+    bytes: &[u8],
+    diagram: &str,
+    length: &str,
+    wanted: &[(&str, &str)],
+) {
+    for (moves, lines) in wanted {
+        let asked = Asked {
+            diagram,
+            length,
+            moves,
+        };
+        check_lines(rt, bytes, &asked, lines);
     }
-    Ok(())
+}
+
+#[test]
+fn expanded_nodes_and_leaves(rt: HostRuntime) {
+    for version in 1..3u8 {
+        let bytes = certificate(&rt, version, AFTER_E4_E5, "1.0", &[1; 22]);
+        check_each(&rt, bytes.as_slice(), AFTER_E4_E5, "1", &EXPANDED);
+        let bytes = certificate(&rt, version, ARRAY, "0", &[]);
+        check_each(&rt, bytes.as_slice(), ARRAY, "0", &LEAF);
+    }
 }
 
 const REFERENCES: [(&str, &str); 4] = [
@@ -90,30 +96,26 @@ after 1. e4: excluded: no man of white's can come to be the pawn on e2 (travel);
     ),
 ];
 
+// The certificate that a search writes, which finds no game.
+fn searched<R: Abort + AllocGlobal>(rt: &R, diagram: &str, length: &str) -> Vec<u8> {
+    let goal = diagram_of(rt, diagram);
+    let plies = length_of(rt, length);
+    let mut sink = ToWrite::new(Vec::new(rt.alloc()));
+    let answer = search(rt.alloc(), &goal, plies, MANY, &mut sink, &mut Unwatched);
+    assert_eq!(rt; answer.expect(rt, "games").len(), 0);
+    sink.into_inner()
+}
+
 // A search writes version 2; its bounds and references hold in version 1 too.
 #[test]
-fn references_in_both_versions(rt: HostRuntime) -> Result<(), Fail> {
-    let (diagram, length) = (SHUT_IN, "2.5");
-    let goal = Diagram::read(diagram)?;
-    let plies = Length::read(length)?;
-    let mut sink = ToWrite::new(Vec::new(rt.alloc()));
-    let games = search(rt.alloc(), &goal, plies, MANY, &mut sink, &mut Unwatched)?;
-    assert_eq!(&rt; games.len(), 0);
-    let mut bytes = sink.into_inner();
+fn references_in_both_versions(rt: HostRuntime) {
+    let mut bytes = searched(&rt, SHUT_IN, "2.5");
     for digit in [b'2', b'1'] {
         if let Some(version) = bytes.get_mut(3) {
             *version = digit;
         }
-        for (moves, lines) in REFERENCES {
-            let asked = Asked {
-                diagram,
-                length,
-                moves,
-            };
-            check_lines(&rt, bytes.as_slice(), &asked, lines)?;
-        }
+        check_each(&rt, bytes.as_slice(), SHUT_IN, "2.5", &REFERENCES);
     }
-    Ok(())
 }
 
 // How many line feeds a text has.
@@ -122,60 +124,51 @@ fn lines_of(text: &[u8]) -> usize {
 }
 
 // Appends a move by its two squares, as in `e2e4`.
-fn push_squares(text: &mut String, m: &Move) -> Result<(), Fail> {
+fn push_squares(rt: &impl Abort, text: &mut String, m: &Move) {
     for square in [m.from, m.to] {
         let file = char::from(b'`'.saturating_add(square.file()));
         let rank = square.rank();
-        write!(text, "{file}{rank}")?;
+        write!(text, "{file}{rank}").expect(rt, "memory");
     }
-    text.push(' ')?;
-    Ok(())
+    text.push(' ').expect(rt, "memory");
 }
 
 // The line of two plies is explained.
-fn check_line<R: Abort + AllocGlobal>(
-    rt: &R,
-    bytes: &[u8],
-    first: &Move,
-    reply: &Move,
-) -> Result<(), Fail> {
+fn check_line<R: Abort + AllocGlobal>(rt: &R, bytes: &[u8], first: &Move, reply: &Move) {
     let mut moves = String::new(rt.alloc());
-    push_squares(&mut moves, first)?;
-    push_squares(&mut moves, reply)?;
+    push_squares(rt, &mut moves, first);
+    push_squares(rt, &mut moves, reply);
     let asked = Asked {
         diagram: AFTER_E4_E5,
         length: "1.0",
         moves: moves.as_str(),
     };
-    let (answer, text) = told(rt.alloc(), &asked, bytes)?;
-    assert_eq!(rt; answer, Ok(()));
+    let text = told(rt, &asked, bytes, &Ok(()));
     assert_eq!(rt; lines_of(text.as_slice()), 4);
-    Ok(())
+}
+
+// The legal moves of a position.
+fn moves_of<R: Abort + AllocGlobal>(rt: &R, position: &Position) -> Vec<Move> {
+    legal_moves(rt.alloc(), position).expect(rt, "memory")
 }
 
 // The lines of two plies that begin with a move are explained; how many they are.
-fn check_replies<R: Abort + AllocGlobal>(
-    rt: &R,
-    bytes: &[u8],
-    first: &Move,
-) -> Result<usize, Fail> {
-    let next = Position::array().play(*first)?;
-    let replies = legal_moves(rt.alloc(), &next)?;
-    for reply in replies.as_slice() {
-        check_line(rt, bytes, first, reply)?;
+fn check_replies<R: Abort + AllocGlobal>(rt: &R, bytes: &[u8], first: &Move) -> usize {
+    let next = Position::array().play(*first).expect(rt, "a legal move");
+    let replies = moves_of(rt, &next);
+    for reply in &replies {
+        check_line(rt, bytes, first, reply);
     }
-    Ok(replies.len())
+    replies.len()
 }
 
 // Each line of a small certificate is explained without a fault.
 #[test]
-fn each_line_of_a_certificate(rt: HostRuntime) -> Result<(), Fail> {
-    let bytes = certificate(rt.alloc(), 1, AFTER_E4_E5, "1.0", &[1; 22])?;
+fn each_line_of_a_certificate(rt: HostRuntime) {
+    let bytes = expanded(&rt);
     let mut count = 0usize;
-    let firsts = legal_moves(rt.alloc(), &Position::array())?;
-    for first in firsts.as_slice() {
-        count = count.saturating_add(check_replies(&rt, bytes.as_slice(), first)?);
+    for first in &moves_of(&rt, &Position::array()) {
+        count = count.saturating_add(check_replies(&rt, bytes.as_slice(), first));
     }
-    assert_eq!(&rt; count, 400);
-    Ok(())
+    assert_eq!(rt; count, 400);
 }

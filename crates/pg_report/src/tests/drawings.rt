@@ -26,37 +26,43 @@ const KINGS_DRAWN: &str = "8 . . . . k . . .
   a b c d e f g h
 ";
 
+// The board of Schweig's game.
 fn schweig_drawn(rt: &impl Abort) -> &'static str {
     SCHWEIG_SHOWN.get(..BOARD).expect(rt, "a board")
 }
 
+// The board of a diagram.
+fn check_board<R: Abort + AllocGlobal>(rt: &R, diagram: &str, wanted: &str) {
+    let mut out = ToWrite::new(Vec::new(rt.alloc()));
+    let answer = write_board(&diagram_of(rt, diagram), &mut out);
+    answer.expect(rt, "written");
+    check_output(rt, out, wanted);
+}
+
 #[test]
-fn drawn_boards(rt: HostRuntime) -> Result<(), Fail> {
+fn drawn_boards(rt: HostRuntime) {
     let [fools_mate, _, _] = FOOLS_MATE;
-    for (diagram, wanted) in [
-        (SCHWEIG, schweig_drawn(&rt)),
-        (fools_mate, MATE_DRAWN),
-        ("4k3/8/8/8/8/8/8/K7", KINGS_DRAWN),
-    ] {
-        let mut out = ToWrite::new(Vec::new(rt.alloc()));
-        write_board(&Diagram::read(diagram)?, &mut out)?;
-        let written = out.into_inner();
-        assert_eq!(rt; str::from_utf8(written.as_slice())?, wanted, "{diagram}");
-    }
-    Ok(())
+    check_board(&rt, SCHWEIG, schweig_drawn(&rt));
+    check_board(&rt, fools_mate, MATE_DRAWN);
+    check_board(&rt, "4k3/8/8/8/8/8/8/K7", KINGS_DRAWN);
+}
+
+// The write with this number fails, and is not tried again.
+fn check_write<R: Abort + AllocGlobal>(rt: &R, at: u64) {
+    let mut out = failing_sink(rt.alloc(), at);
+    let answer = write_board(&diagram_of(rt, SCHWEIG), &mut out);
+    assert!(rt; answer == Err(WriteFault::Write), "{at}");
+    check_failed(rt, out, at, schweig_drawn(rt));
 }
 
 // Each write fails in turn, and is not tried again.
 #[test]
-fn writes_of_a_board_that_fail(rt: HostRuntime) -> Result<(), Fail> {
-    let diagram = Diagram::read(SCHWEIG)?;
+fn writes_of_a_board_that_fail(rt: HostRuntime) {
     for at in 0..WRITES {
-        let mut out = failing_sink(rt.alloc(), at);
-        let answer = write_board(&diagram, &mut out);
-        assert_eq!(rt; answer, Err(WriteFault::Write));
-        check_failed(&rt, out, at, schweig_drawn(&rt))?;
+        check_write(&rt, at);
     }
     let mut out = failing_sink(rt.alloc(), WRITES);
-    write_board(&diagram, &mut out)?;
-    check_written(&rt, out, WRITES, schweig_drawn(&rt))
+    let answer = write_board(&diagram_of(&rt, SCHWEIG), &mut out);
+    answer.expect(&rt, "written");
+    check_written(&rt, out, WRITES, schweig_drawn(&rt));
 }

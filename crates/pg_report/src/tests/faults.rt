@@ -3,7 +3,6 @@ use arrayvec::ArrayVec;
 use pg_checker::ListFault;
 use pg_position::BadPosition;
 use pg_san::SanFault;
-use std::fmt::Display;
 
 // Why a text is no diagram or no position.
 const FEN_FAULTS: [FenFault; 14] = [
@@ -81,172 +80,175 @@ const SEARCH_TEXTS: [(SearchFault, &str, u8); 5] = [
     (SearchFault::Memory, "out of memory", 3),
 ];
 
-// The text of a fault.
-fn check_text<R: Abort + AllocGlobal, E: Display>(
+// The text and the status of a fault: what the status is, and what it should be.
+fn check_told<R: Abort + AllocGlobal, E: Display>(
     rt: &R,
     fault: &E,
+    found: u8,
     wanted: &str,
-) -> Result<(), Fail> {
-    assert_eq!(rt; format!(in rt.alloc(); "{fault}")?.as_str(), wanted);
-    Ok(())
+    code: u8,
+) {
+    check_text(rt, fault, wanted);
+    assert_eq!(rt; found, code, "{wanted}");
+}
+
+// The same of a run ..
+fn check_fault<R: Abort + AllocGlobal>(rt: &R, fault: &RunFault, wanted: &str, code: u8) {
+    check_told(rt, fault, status(fault), wanted, code);
+}
+
+// .. of the legal moves ..
+fn check_moves<R: Abort + AllocGlobal>(rt: &R, fault: &MovesFault, wanted: &str, code: u8) {
+    check_told(rt, fault, moves_status(fault), wanted, code);
+}
+
+// .. of what is shown ..
+fn check_shown<R: Abort + AllocGlobal>(rt: &R, fault: &ShowFault, wanted: &str, code: u8) {
+    check_told(rt, fault, show_status(fault), wanted, code);
+}
+
+// .. and of a count.
+fn check_count<R: Abort + AllocGlobal>(rt: &R, fault: &CountRunFault, wanted: &str, code: u8) {
+    check_told(rt, fault, count_status(fault), wanted, code);
+}
+
+// The four commands tell of a text that is no diagram or no position alike.
+fn check_cause<R: Abort + AllocGlobal>(rt: &R, cause: FenFault) {
+    let text = format!(in rt.alloc(); "{cause}").expect(rt, "memory");
+    let wanted = text.as_str();
+    check_fault(rt, &RunFault::Diagram(cause), wanted, 2);
+    check_moves(rt, &MovesFault::Position(cause), wanted, 2);
+    check_shown(rt, &ShowFault::Diagram(cause), wanted, 2);
+    check_count(rt, &CountRunFault::Position(cause), wanted, 2);
 }
 
 // They are told by the texts that `pg_fen` gives them.
 #[test]
-fn faults_of_diagrams_and_positions(rt: HostRuntime) -> Result<(), Fail> {
+fn faults_of_diagrams_and_positions(rt: HostRuntime) {
     for cause in FEN_FAULTS {
-        let text = format!(in rt.alloc(); "{cause}")?;
-        let wanted = text.as_str();
-        let diagram = RunFault::Diagram(cause);
-        check_text(&rt, &diagram, wanted)?;
-        assert_eq!(rt; status(&diagram), 2, "{wanted}");
-        let moves = MovesFault::Position(cause);
-        check_text(&rt, &moves, wanted)?;
-        assert_eq!(rt; moves_status(&moves), 2, "{wanted}");
-        let shown = ShowFault::Diagram(cause);
-        check_text(&rt, &shown, wanted)?;
-        assert_eq!(rt; show_status(&shown), 2, "{wanted}");
-        let count = CountRunFault::Position(cause);
-        check_text(&rt, &count, wanted)?;
-        assert_eq!(rt; count_status(&count), 2, "{wanted}");
+        check_cause(&rt, cause);
     }
-    Ok(())
 }
 
 #[test]
-fn faults_of_lengths(rt: HostRuntime) -> Result<(), Fail> {
-    for (cause, wanted) in [
-        (LengthFault::Shape, "bad length"),
-        (LengthFault::TooLong, "length above 64.0"),
-    ] {
-        let fault = RunFault::Length(cause);
-        check_text(&rt, &fault, wanted)?;
-        assert_eq!(rt; status(&fault), 2, "{wanted}");
-    }
-    Ok(())
+fn faults_of_lengths(rt: HostRuntime) {
+    let shape = RunFault::Length(LengthFault::Shape);
+    check_fault(&rt, &shape, "bad length", 2);
+    let too_long = RunFault::Length(LengthFault::TooLong);
+    check_fault(&rt, &too_long, "length above 64.0", 2);
 }
 
 #[test]
-fn faults_of_lists(rt: HostRuntime) -> Result<(), Fail> {
+fn faults_of_lists(rt: HostRuntime) {
     for (cause, wanted, code) in GAMES_TEXTS {
-        let fault = RunFault::Games(cause);
-        check_text(&rt, &fault, wanted)?;
-        assert_eq!(rt; status(&fault), code, "{wanted}");
+        check_fault(&rt, &RunFault::Games(cause), wanted, code);
     }
-    Ok(())
+}
+
+// A check refuses so.
+fn check_refusal<R: Abort + AllocGlobal>(rt: &R, cause: Fault, wanted: &str, code: u8) {
+    check_fault(rt, &RunFault::Check(cause), wanted, code);
 }
 
 #[test]
-fn faults_of_checks(rt: HostRuntime) -> Result<(), Fail> {
-    for (cause, wanted, code) in [
-        (Fault::Magic, "not a certificate", 1),
-        (Fault::OtherLength, "certificate for another length", 1),
-        (Fault::OtherDiagram, "certificate for another diagram", 1),
-        (Fault::Budget, "record limit reached", 1),
-        (Fault::Truncated, "truncated certificate", 1),
-        (Fault::Read, "read fault", 4),
-        (Fault::UnknownRecord(255), "unknown record byte 255", 1),
-        (Fault::UnknownBound(9), "unknown bound 9", 1),
-        (Fault::CutFails(3), "cut 3 does not exclude", 1),
-        (Fault::RefUnknown, "reference to no closed node", 1),
-        (Fault::RefDiffers, "reference to another position", 1),
-        (Fault::RefFertile, "reference to a node with a game", 1),
-        (Fault::TooManyNamed, "too many named nodes", 1),
-        (Fault::Memory, "out of memory", 3),
-        (
-            Fault::Shorter(0),
-            "a game of 0 plies reaches the diagram",
-            1,
-        ),
-        (Fault::Trailing, "bytes after the certificate", 1),
-    ] {
-        let fault = RunFault::Check(cause);
-        check_text(&rt, &fault, wanted)?;
-        assert_eq!(rt; status(&fault), code, "{wanted}");
-    }
-    Ok(())
+fn faults_of_checks(rt: HostRuntime) {
+    check_refusal(&rt, Fault::Magic, "not a certificate", 1);
+    check_refusal(&rt, Fault::OtherLength, "certificate for another length", 1);
+    check_refusal(
+        &rt,
+        Fault::OtherDiagram,
+        "certificate for another diagram",
+        1,
+    );
+    check_refusal(&rt, Fault::Budget, "record limit reached", 1);
+    check_refusal(&rt, Fault::Truncated, "truncated certificate", 1);
+    check_refusal(&rt, Fault::Read, "read fault", 4);
+    check_refusal(&rt, Fault::UnknownRecord(255), "unknown record byte 255", 1);
+    check_refusal(&rt, Fault::UnknownBound(9), "unknown bound 9", 1);
+    check_refusal(&rt, Fault::CutFails(3), "cut 3 does not exclude", 1);
+    check_refusal(&rt, Fault::RefUnknown, "reference to no closed node", 1);
+    check_refusal(&rt, Fault::RefDiffers, "reference to another position", 1);
+    check_refusal(&rt, Fault::RefFertile, "reference to a node with a game", 1);
+    check_refusal(&rt, Fault::TooManyNamed, "too many named nodes", 1);
+    check_refusal(&rt, Fault::Memory, "out of memory", 3);
+    check_refusal(
+        &rt,
+        Fault::Shorter(0),
+        "a game of 0 plies reaches the diagram",
+        1,
+    );
+    check_refusal(&rt, Fault::Trailing, "bytes after the certificate", 1);
+}
+
+// A check refuses a list so.
+fn check_listed<R: Abort + AllocGlobal>(rt: &R, fault: ListFault, wanted: &str) {
+    check_refusal(rt, Fault::Listed(fault), wanted, 1);
 }
 
 // The games are numbered from 1. Of a game that is not listed the text ends before its movetext,
 // which `write_movetext` gives.
 #[test]
-fn faults_of_listed_games(rt: HostRuntime) -> Result<(), Fail> {
-    for (cause, wanted) in [
-        (
-            Fault::Listed(ListFault::WrongLength(0)),
-            "game 1 does not have the stated length",
-        ),
-        (
-            Fault::Listed(ListFault::NotReaching(4095)),
-            "game 4096 does not end on the diagram",
-        ),
-        (Fault::Unlisted(ArrayVec::new()), "unlisted game: "),
-    ] {
-        let fault = RunFault::Check(cause);
-        check_text(&rt, &fault, wanted)?;
-        assert_eq!(rt; status(&fault), 1, "{wanted}");
-    }
-    Ok(())
+fn faults_of_listed_games(rt: HostRuntime) {
+    check_listed(
+        &rt,
+        ListFault::WrongLength(0),
+        "game 1 does not have the stated length",
+    );
+    check_listed(
+        &rt,
+        ListFault::NotReaching(4095),
+        "game 4096 does not end on the diagram",
+    );
+    check_refusal(&rt, Fault::Unlisted(ArrayVec::new()), "unlisted game: ", 1);
 }
 
 #[test]
-fn faults_of_counts(rt: HostRuntime) -> Result<(), Fail> {
+fn faults_of_counts(rt: HostRuntime) {
     for (cause, wanted, code) in COUNT_TEXTS {
-        let fault = CountRunFault::Count(cause);
-        check_text(&rt, &fault, wanted)?;
-        assert_eq!(rt; count_status(&fault), code, "{wanted}");
+        check_count(&rt, &CountRunFault::Count(cause), wanted, code);
     }
-    Ok(())
 }
 
 #[test]
-fn faults_of_searches(rt: HostRuntime) -> Result<(), Fail> {
+fn faults_of_searches(rt: HostRuntime) {
     for (fault, wanted, code) in SEARCH_TEXTS {
-        check_text(&rt, &fault, wanted)?;
-        assert_eq!(rt; search_status(&fault), code, "{wanted}");
+        check_told(&rt, &fault, search_status(&fault), wanted, code);
     }
-    Ok(())
+}
+
+// An upgrade is refused so.
+fn check_upgrade<R: Abort + AllocGlobal>(rt: &R, fault: UpgradeFault, wanted: &str, code: u8) {
+    check_told(rt, &fault, upgrade_status(&fault), wanted, code);
 }
 
 #[test]
-fn faults_of_upgrades(rt: HostRuntime) -> Result<(), Fail> {
-    for (fault, wanted, code) in [
-        (UpgradeFault::Truncated, "truncated certificate", 1),
-        (
-            UpgradeFault::NotVersion1,
-            "not a certificate of version 1",
-            1,
-        ),
-        (
-            UpgradeFault::UnknownRecord(255),
-            "unknown record byte 255",
-            1,
-        ),
-        (UpgradeFault::Read, "read fault", 4),
-        (UpgradeFault::Budget, "record limit reached", 1),
-        (UpgradeFault::Write, "write fault", 4),
-    ] {
-        check_text(&rt, &fault, wanted)?;
-        assert_eq!(rt; upgrade_status(&fault), code, "{wanted}");
-    }
-    Ok(())
+fn faults_of_upgrades(rt: HostRuntime) {
+    check_upgrade(&rt, UpgradeFault::Truncated, "truncated certificate", 1);
+    check_upgrade(
+        &rt,
+        UpgradeFault::NotVersion1,
+        "not a certificate of version 1",
+        1,
+    );
+    check_upgrade(
+        &rt,
+        UpgradeFault::UnknownRecord(255),
+        "unknown record byte 255",
+        1,
+    );
+    check_upgrade(&rt, UpgradeFault::Read, "read fault", 4);
+    check_upgrade(&rt, UpgradeFault::Budget, "record limit reached", 1);
+    check_upgrade(&rt, UpgradeFault::Write, "write fault", 4);
 }
 
 #[test]
-fn write_faults_and_memory(rt: HostRuntime) -> Result<(), Fail> {
-    check_text(&rt, &RunFault::Write, "write fault")?;
-    assert_eq!(rt; status(&RunFault::Write), 4);
-    check_text(&rt, &MovesFault::Write, "write fault")?;
-    assert_eq!(rt; moves_status(&MovesFault::Write), 4);
-    check_text(&rt, &MovesFault::Memory, "out of memory")?;
-    assert_eq!(rt; moves_status(&MovesFault::Memory), 3);
-    check_text(&rt, &ShowFault::Write, "write fault")?;
-    assert_eq!(rt; show_status(&ShowFault::Write), 4);
-    check_text(&rt, &ShowFault::Memory, "out of memory")?;
-    assert_eq!(rt; show_status(&ShowFault::Memory), 3);
-    check_text(&rt, &CountRunFault::Write, "write fault")?;
-    assert_eq!(rt; count_status(&CountRunFault::Write), 4);
-    Ok(())
+fn write_faults_and_memory(rt: HostRuntime) {
+    check_fault(&rt, &RunFault::Write, "write fault", 4);
+    check_moves(&rt, &MovesFault::Write, "write fault", 4);
+    check_moves(&rt, &MovesFault::Memory, "out of memory", 3);
+    check_shown(&rt, &ShowFault::Write, "write fault", 4);
+    check_shown(&rt, &ShowFault::Memory, "out of memory", 3);
+    check_count(&rt, &CountRunFault::Write, "write fault", 4);
 }
 
 #[test]

@@ -1,10 +1,11 @@
 use super::*;
 use pg_trial::{Counted, named_expansions};
+use std::fmt::Debug;
 
 // The answer to e4 e5 and a certificate of 22 named expansions, and how many bytes were written.
 fn named_run(rt: &impl Abort, alloc: Global) -> (Result<Verdict, RunFault>, usize) {
     let [text, length, games] = E4_E5;
-    let bytes = named_expansions(&Diagram::read(text).expect(rt, text));
+    let bytes = named_expansions(&diagram_of(rt, text));
     let bounds: Vec<Box<dyn Bound>> = Vec::new(alloc);
     let mut source = FromRead::new(bytes.as_slice());
     let mut out = ToWrite::new(Counted::new());
@@ -20,6 +21,24 @@ fn named_run(rt: &impl Abort, alloc: Global) -> (Result<Verdict, RunFault>, usiz
         22,
     );
     (answer, out.into_inner().bytes())
+}
+
+// All was written, or nothing, and want of memory is told.
+fn check_told<E: PartialEq + Debug + Drop>(
+    rt: &impl Abort,
+    answer: Result<(), E>,
+    out: ToWrite<Counted>,
+    whole: usize,
+    memory: E,
+) {
+    let bytes = out.into_inner().bytes();
+    match answer {
+        Ok(()) => assert_eq!(rt; bytes, whole),
+        Err(fault) => {
+            assert!(rt; fault == memory, "{fault:?}");
+            assert_eq!(rt; bytes, 0);
+        }
+    }
 }
 
 // Passes too where `rt try --test --fail-alloc N` refuses the N-th growth: want of memory is told,
@@ -46,13 +65,9 @@ fn refused_growths_of_a_check(rt: HostRuntime) {
 fn refused_growths_of_a_count(rt: HostRuntime) {
     for _ in 0..9u8 {
         let mut out = ToWrite::new(Counted::new());
-        match run_count(rt.alloc(), ENDGAME, 3, &mut out, &mut Unwatched) {
-            Ok(()) => assert_eq!(rt; out.into_inner().bytes(), 5),
-            Err(fault) => {
-                assert_eq!(rt; fault, CountRunFault::Count(CountFault::Memory));
-                assert_eq!(rt; out.into_inner().bytes(), 0);
-            }
-        }
+        let answer = run_count(rt.alloc(), ENDGAME, 3, &mut out, &mut Unwatched);
+        let memory = CountRunFault::Count(CountFault::Memory);
+        check_told(&rt, answer, out, 5, memory);
     }
 }
 
@@ -61,13 +76,8 @@ fn refused_growths_of_a_count(rt: HostRuntime) {
 fn refused_growths_of_moves(rt: HostRuntime) {
     for _ in 0..9u8 {
         let mut out = ToWrite::new(Counted::new());
-        match run_moves(rt.alloc(), ENDGAME, &mut out) {
-            Ok(()) => assert_eq!(rt; out.into_inner().bytes(), 55),
-            Err(fault) => {
-                assert_eq!(rt; fault, MovesFault::Memory);
-                assert_eq!(rt; out.into_inner().bytes(), 0);
-            }
-        }
+        let answer = run_moves(rt.alloc(), ENDGAME, &mut out);
+        check_told(&rt, answer, out, 55, MovesFault::Memory);
     }
 }
 
@@ -76,12 +86,7 @@ fn refused_growths_of_moves(rt: HostRuntime) {
 fn refused_growths_of_a_diagram(rt: HostRuntime) {
     for _ in 0..9u8 {
         let mut out = ToWrite::new(Counted::new());
-        match run_show(rt.alloc(), AFTER_E4_E5, &[], &mut out) {
-            Ok(()) => assert_eq!(rt; out.into_inner().bytes(), 266),
-            Err(fault) => {
-                assert_eq!(rt; fault, ShowFault::Memory);
-                assert_eq!(rt; out.into_inner().bytes(), 0);
-            }
-        }
+        let answer = run_show(rt.alloc(), AFTER_E4_E5, &[], &mut out);
+        check_told(&rt, answer, out, 266, ShowFault::Memory);
     }
 }

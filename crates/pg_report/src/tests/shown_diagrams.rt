@@ -4,15 +4,22 @@ use super::*;
 // its captures and three of its need; and the last line.
 const WRITES: u64 = 8 * 10 + 1 + 2 * 8 + 3;
 
+// What is answered for a diagram with the bounds of the program.
+fn shown<R: Abort + AllocGlobal, W: Sink>(
+    rt: &R,
+    diagram: &str,
+    out: &mut W,
+) -> Result<(), ShowFault> {
+    run_show(rt.alloc(), diagram, &bounds(rt), out)
+}
+
 // The lines below the board.
-fn check_lines<R: Abort + AllocGlobal>(rt: &R, diagram: &str, wanted: &str) -> Result<(), Fail> {
+fn check_lines<R: Abort + AllocGlobal>(rt: &R, diagram: &str, wanted: &str) {
     let mut out = ToWrite::new(Vec::new(rt.alloc()));
-    let bounds = bounds(rt.alloc())?;
-    run_show(rt.alloc(), diagram, &bounds, &mut out)?;
+    shown(rt, diagram, &mut out).expect(rt, diagram);
     let bytes = out.into_inner();
-    let text = str::from_utf8(bytes.as_slice())?;
+    let text = text_of(rt, bytes.as_slice());
     assert_eq!(rt; text.get(BOARD..), Some(wanted), "{diagram}");
-    Ok(())
 }
 
 // The array; one move of each side; a bishop too many; a lone king against a king; and more men than a
@@ -56,43 +63,45 @@ no game of 64.0 moves or less
 ];
 
 #[test]
-fn lines_below_the_board(rt: HostRuntime) -> Result<(), Fail> {
+fn lines_below_the_board(rt: HostRuntime) {
     for (diagram, wanted) in LINES {
-        check_lines(&rt, diagram, wanted)?;
+        check_lines(&rt, diagram, wanted);
     }
-    Ok(())
+}
+
+// The text is no diagram, and nothing is written.
+fn check_refused<R: Abort + AllocGlobal>(rt: &R, text: &str) {
+    let fault = Diagram::read(text).expect_err(rt, "no diagram");
+    let mut out = ToWrite::new(Vec::new(rt.alloc()));
+    assert!(rt; shown(rt, text, &mut out) == Err(ShowFault::Diagram(fault)));
+    assert!(rt; out.into_inner().is_empty());
 }
 
 #[test]
-fn texts_that_are_no_diagram(rt: HostRuntime) -> Result<(), Fail> {
-    let mut out = ToWrite::new(Vec::new(rt.alloc()));
-    let bounds = bounds(rt.alloc())?;
-    for text in [
-        "",
-        "8/8/8/8/8/8/8/8",
-        "rnbqkbnr/pppppppp/8/8/8/8/PPPPPPPP/RNBQKBN",
-    ] {
-        let Err(fault) = Diagram::read(text) else {
-            return Err(Fail::new("a diagram"));
-        };
-        let answer = run_show(rt.alloc(), text, &bounds, &mut out);
-        assert_eq!(rt; answer, Err(ShowFault::Diagram(fault)));
-    }
-    assert!(rt; out.into_inner().is_empty());
-    Ok(())
+fn texts_that_are_no_diagram(rt: HostRuntime) {
+    check_refused(&rt, "");
+    check_refused(&rt, "8/8/8/8/8/8/8/8");
+    check_refused(&rt, "rnbqkbnr/pppppppp/8/8/8/8/PPPPPPPP/RNBQKBN");
+}
+
+// What is written where the write with this number fails.
+fn write_until<R: Abort + AllocGlobal>(
+    rt: &R,
+    at: u64,
+    wanted: Result<(), ShowFault>,
+) -> ToWrite<FailsAt<Vec<u8>>> {
+    let mut out = failing_sink(rt.alloc(), at);
+    assert!(rt; shown(rt, SCHWEIG, &mut out) == wanted, "{at}");
+    out
 }
 
 // Each write fails in turn, and is not tried again.
 #[test]
-fn writes_that_fail(rt: HostRuntime) -> Result<(), Fail> {
-    let bounds = bounds(rt.alloc())?;
+fn writes_that_fail(rt: HostRuntime) {
     for at in 0..WRITES {
-        let mut out = failing_sink(rt.alloc(), at);
-        let answer = run_show(rt.alloc(), SCHWEIG, &bounds, &mut out);
-        assert_eq!(rt; answer, Err(ShowFault::Write));
-        check_failed(&rt, out, at, SCHWEIG_SHOWN)?;
+        let out = write_until(&rt, at, Err(ShowFault::Write));
+        check_failed(&rt, out, at, SCHWEIG_SHOWN);
     }
-    let mut out = failing_sink(rt.alloc(), WRITES);
-    run_show(rt.alloc(), SCHWEIG, &bounds, &mut out)?;
-    check_written(&rt, out, WRITES, SCHWEIG_SHOWN)
+    let out = write_until(&rt, WRITES, Ok(()));
+    check_written(&rt, out, WRITES, SCHWEIG_SHOWN);
 }
