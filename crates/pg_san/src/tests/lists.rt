@@ -1,7 +1,7 @@
 use super::*;
 use crate::{AddFault, Games, GamesFault, SanFault, read_games};
-use std::alloc::{AllocError, Global};
-use std::test::Fail;
+use std::alloc::Global;
+use std::fmt::Display;
 
 // The games of three plies to one placement, one by en passant, in canonical order.
 const FOUR: [&str; 4] = [
@@ -40,17 +40,31 @@ fn line(i: usize) -> [&'static str; 3] {
     [WHITE[first], BLACK[i / 14 % 20], WHITE[second]]
 }
 
+// A text and then another.
+fn push(rt: &impl Abort, text: &mut String, more: &str) {
+    assert!(rt; text.push_str(more).is_ok());
+}
+
+// A text so many times.
+fn repeated<R: Abort + AllocGlobal>(rt: &R, part: &str, times: usize) -> String {
+    let mut text = String::new(rt.alloc());
+    for _ in 0..times {
+        push(rt, &mut text, part);
+    }
+    text
+}
+
 // So many different games, a line each.
-fn many_lines(alloc: Global, count: usize) -> Result<String, AllocError> {
-    let mut text = String::new(alloc);
+fn many_lines<R: Abort + AllocGlobal>(rt: &R, count: usize) -> String {
+    let mut text = String::new(rt.alloc());
     for i in 0..count {
         for word in line(i) {
-            text.push_str(word)?;
-            text.push(' ')?;
+            push(rt, &mut text, word);
+            push(rt, &mut text, " ");
         }
-        text.push('\n')?;
+        push(rt, &mut text, "\n");
     }
-    Ok(text)
+    text
 }
 
 fn fault_of(alloc: Global, text: &str) -> Option<GamesFault> {
@@ -64,87 +78,95 @@ fn bad(line: usize, ply: usize, cause: SanFault) -> Option<GamesFault> {
     Some(GamesFault::At { line, ply, cause })
 }
 
-fn push_square(text: &mut String, square: Square) -> Result<(), AllocError> {
-    text.push(char::from(square.file() + 96))?;
-    text.push(char::from(square.rank() + 48))
+fn push_square(rt: &impl Abort, text: &mut String, square: Square) {
+    assert!(rt; text.push(char::from(square.file() + 96)).is_ok());
+    assert!(rt; text.push(char::from(square.rank() + 48)).is_ok());
 }
 
 // A game by the squares that its men leave and come to.
-fn by_squares(alloc: Global, game: &[Move]) -> Result<String, AllocError> {
-    let mut text = String::new(alloc);
+fn by_squares<R: Abort + AllocGlobal>(rt: &R, game: &[Move]) -> String {
+    let mut text = String::new(rt.alloc());
     for m in game {
         if !text.is_empty() {
-            text.push(' ')?;
+            push(rt, &mut text, " ");
         }
-        push_square(&mut text, m.from)?;
-        push_square(&mut text, m.to)?;
+        push_square(rt, &mut text, m.from);
+        push_square(rt, &mut text, m.to);
     }
-    Ok(text)
+    text
 }
 
 // That the list holds these games in this order, and no more.
-fn check_games<R: Abort + AllocGlobal>(rt: &R, games: &Games, wanted: &[&str]) -> Result<(), Fail> {
+fn check_games<R: Abort + AllocGlobal>(rt: &R, games: &Games, wanted: &[&str]) {
     assert_eq!(rt; games.len(), wanted.len());
     for (i, squares) in wanted.iter().enumerate() {
         let game = games.game(i).expect(rt, squares);
-        assert_eq!(rt; by_squares(rt.alloc(), game)?.as_str(), *squares);
+        assert_eq!(rt; by_squares(rt, game).as_str(), *squares);
         assert!(rt; games.contains(game), "{squares}");
     }
     assert!(rt; games.game(wanted.len()).is_none());
-    Ok(())
+}
+
+// The games of a text.
+fn list<R: Abort + AllocGlobal>(rt: &R, text: &str) -> Games {
+    let Ok(games) = read_games(rt.alloc(), text) else {
+        panic!(rt; "a list of games");
+    };
+    games
+}
+
+// That a text is a list of these games.
+fn check_list<R: Abort + AllocGlobal>(rt: &R, text: &str, wanted: &[&str]) {
+    check_games(rt, &list(rt, text), wanted);
+}
+
+// That a text is no list.
+fn check_fault<R: Abort + AllocGlobal>(rt: &R, text: &str, wanted: Option<GamesFault>) {
+    assert_eq!(rt; fault_of(rt.alloc(), text), wanted);
 }
 
 #[test]
-fn four_games(rt: HostRuntime) -> Result<(), Fail> {
+fn four_games(rt: HostRuntime) {
     let text = "\n1. e4 d6 2. e5 a6 3. exd6\r\n \t\n1. e4 a6 2. e5 d6 3. exd6\n\
         1.e4 d5\t2.exd5 a6 3.d6\n\r\n1. e4 a6 2. e5 d5 3. exd6e.p.\r";
-    let games = read_games(rt.alloc(), text)?;
-    check_games(&rt, &games, &FOUR_BY_SQUARES)?;
+    check_list(&rt, text, &FOUR_BY_SQUARES);
     let lapsed = "1. e4 d5 2. e5 a6 3. exd6";
-    assert_eq!(rt;
-        fault_of(rt.alloc(), lapsed),
-        bad(1, 5, SanFault::NoSuchMove)
-    );
-    Ok(())
+    check_fault(&rt, lapsed, bad(1, 5, SanFault::NoSuchMove));
 }
 
 #[test]
-fn empty_lists(rt: HostRuntime) -> Result<(), Fail> {
+fn empty_lists(rt: HostRuntime) {
     for text in ["", "\n", "\r\n \t\r\n\n", "\r"] {
-        check_games(&rt, &read_games(rt.alloc(), text)?, &[])?;
+        check_list(&rt, text, &[]);
     }
-    check_games(&rt, &Games::new(rt.alloc()), &[])
+    check_games(&rt, &Games::new(rt.alloc()), &[]);
 }
 
 #[test]
-fn games_of_no_move(rt: HostRuntime) -> Result<(), Fail> {
+fn games_of_no_move(rt: HostRuntime) {
     for text in ["-", "\t- \r\n", "1.", "\n1... 27.\n"] {
-        check_games(&rt, &read_games(rt.alloc(), text)?, &[""])?;
+        check_list(&rt, text, &[""]);
     }
-    let repeated = Some(GamesFault::Repeated { line: 3 });
-    assert_eq!(rt; fault_of(rt.alloc(), "-\n\n1."), repeated);
-    check_games(
-        &rt,
-        &read_games(rt.alloc(), "e4 e5\n-\ne4")?,
-        &["", "e2e4", "e2e4 e7e5"],
-    )
+    check_fault(&rt, "-\n\n1.", Some(GamesFault::Repeated { line: 3 }));
+    check_list(&rt, "e4 e5\n-\ne4", &["", "e2e4", "e2e4 e7e5"]);
+}
+
+// That two spellings are one game.
+fn check_spellings<R: Abort + AllocGlobal>(rt: &R, first: &str, second: &str) {
+    let mut text = repeated(rt, first, 1);
+    push(rt, &mut text, "\n");
+    push(rt, &mut text, second);
+    check_fault(rt, text.as_str(), Some(GamesFault::Repeated { line: 2 }));
 }
 
 #[test]
-fn one_game_in_three_spellings(rt: HostRuntime) -> Result<(), Fail> {
+fn one_game_in_three_spellings(rt: HostRuntime) {
     let spellings = ["1.e4 e5", "1. e4 e5", "e2-e4 e7-e5"];
     for first in spellings {
         for second in spellings {
-            let text = format!(in rt.alloc(); "{first}\n{second}")?;
-            let fault = fault_of(rt.alloc(), text.as_str());
-            assert_eq!(rt;
-                fault,
-                Some(GamesFault::Repeated { line: 2 }),
-                "{first}, {second}"
-            );
+            check_spellings(&rt, first, second);
         }
     }
-    Ok(())
 }
 
 #[test]
@@ -165,105 +187,97 @@ fn bad_words(rt: HostRuntime) {
         ("e4 é5", 1, 2),
         ("e4\u{a0}e5", 1, 1),
     ] {
-        assert_eq!(rt;
-            fault_of(rt.alloc(), text),
-            bad(line, ply, SanFault::Shape),
-            "{text}"
-        );
+        check_fault(&rt, text, bad(line, ply, SanFault::Shape));
     }
     let ambiguous = "1. Nf3 a6 2. d4 a5 3. Nd2";
-    assert_eq!(rt;
-        fault_of(rt.alloc(), ambiguous),
-        bad(1, 5, SanFault::Ambiguous)
-    );
+    check_fault(&rt, ambiguous, bad(1, 5, SanFault::Ambiguous));
 }
 
 #[test]
-fn a_word_of_two_million_characters(rt: HostRuntime) -> Result<(), Fail> {
-    let mut word = String::new(rt.alloc());
-    for _ in 0..1_000_000 {
-        word.push('1')?;
-    }
-    assert_eq!(rt;
-        fault_of(rt.alloc(), word.as_str()),
-        bad(1, 1, SanFault::Shape)
-    );
-    for _ in 0..1_000_000 {
-        word.push('.')?;
-    }
-    check_games(&rt, &read_games(rt.alloc(), word.as_str())?, &[""])?;
-    word.push('x')?;
-    assert_eq!(rt;
-        fault_of(rt.alloc(), word.as_str()),
-        bad(1, 1, SanFault::Shape)
-    );
-    Ok(())
+fn a_word_of_two_million_characters(rt: HostRuntime) {
+    let mut word = repeated(&rt, "1", 1_000_000);
+    check_fault(&rt, word.as_str(), bad(1, 1, SanFault::Shape));
+    let dots = repeated(&rt, ".", 1_000_000);
+    push(&rt, &mut word, dots.as_str());
+    check_list(&rt, word.as_str(), &[""]);
+    push(&rt, &mut word, "x");
+    check_fault(&rt, word.as_str(), bad(1, 1, SanFault::Shape));
 }
 
 #[test]
-fn too_many(rt: HostRuntime) -> Result<(), Fail> {
-    let mut same = String::new(rt.alloc());
-    for _ in 0..4097 {
-        same.push_str("e4\n")?;
-    }
-    let repeated = Some(GamesFault::Repeated { line: 2 });
-    assert_eq!(rt; fault_of(rt.alloc(), same.as_str()), repeated);
-    let more = many_lines(rt.alloc(), 4097)?;
-    let too_many = Some(GamesFault::TooMany { line: 4097 });
-    assert_eq!(rt; fault_of(rt.alloc(), more.as_str()), too_many);
-    let mut most = many_lines(rt.alloc(), 4096)?;
-    most.push_str(" \n\n")?;
-    assert_eq!(rt; read_games(rt.alloc(), most.as_str())?.len(), 4096);
-    most.push_str("?")?;
-    let behind = Some(GamesFault::TooMany { line: 4099 });
-    assert_eq!(rt; fault_of(rt.alloc(), most.as_str()), behind);
-    Ok(())
+fn too_many(rt: HostRuntime) {
+    let same = repeated(&rt, "e4\n", 4097);
+    check_fault(&rt, same.as_str(), Some(GamesFault::Repeated { line: 2 }));
+    let more = many_lines(&rt, 4097);
+    check_fault(&rt, more.as_str(), Some(GamesFault::TooMany { line: 4097 }));
+    let mut most = many_lines(&rt, 4096);
+    push(&rt, &mut most, " \n\n");
+    assert_eq!(rt; list(&rt, most.as_str()).len(), 4096);
+    push(&rt, &mut most, "?");
+    check_fault(&rt, most.as_str(), Some(GamesFault::TooMany { line: 4099 }));
 }
 
-// The one game of a text.
-fn game<R: Abort + AllocGlobal>(rt: &R, text: &str) -> Result<Vec<Move>, Fail> {
-    let games = read_games(rt.alloc(), text)?;
-    assert_eq!(rt; games.len(), 1, "{text}");
-    Ok(Vec::from_slice(rt.alloc(), games.game(0).expect(rt, text))?)
+// That a game is added, or why it is not.
+fn check_add(rt: &impl Abort, games: &mut Games, game: &[Move], wanted: Result<(), AddFault>) {
+    assert_eq!(rt; games.add(game), wanted);
+}
+
+// The same, of the one game of a text.
+fn check_add_text<R: Abort + AllocGlobal>(
+    rt: &R,
+    games: &mut Games,
+    text: &str,
+    wanted: Result<(), AddFault>,
+) {
+    let list = list(rt, text);
+    assert_eq!(rt; list.len(), 1, "{text}");
+    check_add(rt, games, list.game(0).expect(rt, text), wanted);
+}
+
+// That a game is refused with its last move once more behind it.
+fn check_late<R: Abort + AllocGlobal>(rt: &R, games: &mut Games, text: &str, ply: usize) {
+    let list = list(rt, text);
+    let game = list.game(0).expect(rt, text);
+    let Ok(mut late) = Vec::from_slice(rt.alloc(), game) else {
+        panic!(rt; "memory");
+    };
+    let last = *late.last().expect(rt, text);
+    assert!(rt; late.push(last).is_ok());
+    check_add(rt, games, late.as_slice(), Err(AddFault::IllegalMove(ply)));
 }
 
 #[test]
-fn adds_in_any_order(rt: HostRuntime) -> Result<(), Fail> {
+fn adds_in_any_order(rt: HostRuntime) {
     let mut games = Games::new(rt.alloc());
     for text in FOUR.iter().rev() {
-        let game = game(&rt, text)?;
-        assert_eq!(rt; games.add(&game), Ok(()), "{text}");
-        assert_eq!(rt; games.add(&game), Err(AddFault::Repeated), "{text}");
+        check_add_text(&rt, &mut games, text, Ok(()));
+        check_add_text(&rt, &mut games, text, Err(AddFault::Repeated));
     }
-    check_games(&rt, &games, &FOUR_BY_SQUARES)?;
+    check_games(&rt, &games, &FOUR_BY_SQUARES);
     let illegal = [Move {
         from: Square::at(12),
         to: Square::at(36),
         promotion: None,
     }];
-    assert_eq!(rt; games.add(&illegal), Err(AddFault::IllegalMove(1)));
-    let mut late = game(&rt, FOUR[0])?;
-    let last = *late.last().expect(&rt, "a game");
-    late.push(last)?;
-    assert_eq!(rt; games.add(&late), Err(AddFault::IllegalMove(6)));
-    check_games(&rt, &games, &FOUR_BY_SQUARES)
+    check_add(&rt, &mut games, &illegal, Err(AddFault::IllegalMove(1)));
+    check_late(&rt, &mut games, FOUR[0], 6);
+    check_games(&rt, &games, &FOUR_BY_SQUARES);
 }
 
 #[test]
-fn adds_up_to_4096(rt: HostRuntime) -> Result<(), Fail> {
+fn adds_up_to_4096(rt: HostRuntime) {
     let mut games = Games::new(rt.alloc());
-    let text = many_lines(rt.alloc(), 4097)?;
+    let text = many_lines(&rt, 4097);
     for (i, words) in text.as_str().lines().enumerate() {
         let full = if i < 4096 {
             Ok(())
         } else {
             Err(AddFault::TooMany)
         };
-        assert_eq!(rt; games.add(&game(&rt, words)?), full, "{i}");
+        check_add_text(&rt, &mut games, words, full);
     }
-    assert_eq!(rt; games.add(&game(&rt, "a3 Na6 b3")?), Err(AddFault::TooMany));
+    check_add_text(&rt, &mut games, "a3 Na6 b3", Err(AddFault::TooMany));
     assert_eq!(rt; games.len(), 4096);
-    Ok(())
 }
 
 // Where a growth is refused the list stays as it was, and the next try adds the game.
@@ -314,30 +328,30 @@ fn bad_words_behind_refused_growths(rt: HostRuntime) {
     }
 }
 
+// That a fault is shown by a text.
+fn check_shown<R: Abort + AllocGlobal, T: Display>(rt: &R, fault: &T, wanted: &str) {
+    let Ok(text) = format!(in rt.alloc(); "{fault}") else {
+        panic!(rt; "memory");
+    };
+    assert_eq!(rt; text.as_str(), wanted);
+}
+
+// That the fault of a text is shown so.
+fn check_read<R: Abort + AllocGlobal>(rt: &R, text: &str, wanted: &str) {
+    let fault = fault_of(rt.alloc(), text).expect(rt, text);
+    check_shown(rt, &fault, wanted);
+}
+
 #[test]
-fn texts_of_faults(rt: HostRuntime) -> Result<(), Fail> {
-    let alloc = rt.alloc();
-    for (text, wanted) in [
-        ("e4\n1. e4 e5 *", "line 2, ply 3: not a move"),
-        ("e5", "line 1, ply 1: no such legal move"),
-        ("Nf3 a6 d4 a5 Nd2", "line 1, ply 5: ambiguous move"),
-        ("e4\n\ne4", "line 3: repeated game"),
-    ] {
-        let fault = fault_of(alloc, text).expect(&rt, text);
-        assert_eq!(rt; format!(in alloc; "{fault}")?.as_str(), wanted);
-    }
+fn texts_of_faults(rt: HostRuntime) {
+    check_read(&rt, "e4\n1. e4 e5 *", "line 2, ply 3: not a move");
+    check_read(&rt, "e5", "line 1, ply 1: no such legal move");
+    check_read(&rt, "Nf3 a6 d4 a5 Nd2", "line 1, ply 5: ambiguous move");
+    check_read(&rt, "e4\n\ne4", "line 3: repeated game");
     let full = GamesFault::TooMany { line: 4097 };
-    assert_eq!(rt;
-        format!(in alloc; "{full}")?.as_str(),
-        "line 4097: more than 4096 games"
-    );
-    for (fault, wanted) in [
-        (AddFault::IllegalMove(3), "illegal move at ply 3"),
-        (AddFault::TooMany, "more than 4096 games"),
-        (AddFault::Repeated, "repeated game"),
-        (AddFault::Memory, "out of memory"),
-    ] {
-        assert_eq!(rt; format!(in alloc; "{fault}")?.as_str(), wanted);
-    }
-    Ok(())
+    check_shown(&rt, &full, "line 4097: more than 4096 games");
+    check_shown(&rt, &AddFault::IllegalMove(3), "illegal move at ply 3");
+    check_shown(&rt, &AddFault::TooMany, "more than 4096 games");
+    check_shown(&rt, &AddFault::Repeated, "repeated game");
+    check_shown(&rt, &AddFault::Memory, "out of memory");
 }
