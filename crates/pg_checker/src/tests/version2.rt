@@ -92,10 +92,10 @@ fn is_unknown<R: Abort + AllocGlobal>(
 ) {
     let fault = Fault::UnknownRecord(byte);
     answers_to(rt, asked, bytes, place, byte, fault);
-    if place < bytes.len() {
-        let begun = &mut bytes[..place + 1];
-        answers_to(rt, asked, begun, place, byte, Fault::UnknownRecord(byte));
-    }
+    let Some(begun) = bytes.get_mut(..=place) else {
+        panic!(rt; "a byte");
+    };
+    answers_to(rt, asked, begun, place, byte, Fault::UnknownRecord(byte));
 }
 
 #[test]
