@@ -6,18 +6,17 @@ ghost use Rattle.pg_report.specs.declared.fault.RunFault.TheVariants.{Write};
 ghost use Rattle.pg_cli.specs.Answers.{AreAnswered};
 
 use crate::gathered::Gathered;
-use crate::input::list;
+use crate::input::{list, open};
 use crate::line::{Cleared, Terminal};
 use crate::names::FileName;
-use crate::progress::{Watch, Watched};
+use crate::progress::watch_records;
 use crate::refusals::Refusal;
 use crate::screen::Screen;
 use crate::writing::lead_to_one;
 use clap::ArgMatches;
 use pg_report::{
-    Bound, FromRead, Problem, Refused, RunFault, Sink, ToWrite, Verdict, run_check, verdict_status,
+    Bound, Problem, Refused, RunFault, Sink, ToWrite, Verdict, run_check, verdict_status,
 };
-use std::fs::File;
 use std::io::{Read, Write};
 use std::rt::Runtime;
 use std::{io, str};
@@ -77,10 +76,7 @@ pub(crate) fn check_from<'a, R: Runtime + AllocGlobal, C: Read + Drop, W: Write 
         return Err(Refusal::NotUtf8);
     };
     let terminal = Terminal::new(screen);
-    let mut source = Watched::new(
-        FromRead::new(certificate),
-        Watch::new(rt, &terminal, records),
-    );
+    let mut source = watch_records(rt, &terminal, certificate, records);
     let mut out = Gathered::new(Cleared::new(ToWrite::new(out), rt, &terminal));
     let answer = run_check(
         rt.alloc(),
@@ -133,9 +129,7 @@ pub(crate) fn check<'a, R: Runtime + AllocGlobal>(
     screen: Screen,
 ) -> Result<u8, Refusal<'a>> {
     let path = words.get_str("CERT").unwrap_or("");
-    let Ok(certificate) = File::open(rt, path) else {
-        return Err(Refusal::Open(FileName(path)));
-    };
+    let certificate = open(rt, path)?;
     let games = match games_of(rt, words, screen) {
         Ok(games) => games,
         Err(refusal) => return Err(refusal),

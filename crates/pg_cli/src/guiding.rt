@@ -4,14 +4,13 @@ ghost use Rattle.pg_cli.specs.Answers.{HasExactAnswer};
 
 use crate::checking::{NAMED, RECORDS};
 use crate::gathered::Gathered;
+use crate::input::open;
 use crate::line::{Cleared, Terminal};
-use crate::names::FileName;
-use crate::progress::{Watch, Watched};
+use crate::progress::watch_records;
 use crate::refusals::{DONE, Refusal};
 use clap::ArgMatches;
 use pg_guide::{Asked, WhyFault, why as explain};
-use pg_report::{Bound, FromRead, Refused, RunFault, Sink, ToWrite};
-use std::fs::File;
+use pg_report::{Bound, Refused, RunFault, Sink, ToWrite};
 use std::io;
 use std::io::{Read, Write};
 use std::rt::Runtime;
@@ -52,9 +51,9 @@ pub(crate) fn why_from<'a, R: Runtime + AllocGlobal, C: Read + Drop, W: Write + 
 {
     let (walked, checked, cited) = certificates;
     let terminal = Terminal::new(screen);
-    let mut walked = watched(rt, &terminal, walked, records);
-    let mut checked = watched(rt, &terminal, checked, records);
-    let mut cited = watched(rt, &terminal, cited, records);
+    let mut walked = watch_records(rt, &terminal, walked, records);
+    let mut checked = watch_records(rt, &terminal, checked, records);
+    let mut cited = watch_records(rt, &terminal, cited, records);
     let mut out = Gathered::new(Cleared::new(ToWrite::new(out), rt, &terminal));
     let answer = explain(
         rt.alloc(),
@@ -76,27 +75,6 @@ pub(crate) fn why_from<'a, R: Runtime + AllocGlobal, C: Read + Drop, W: Write + 
             let _ = out.finish();
             Err(refusal_of(fault))
         }
-    }
-}
-
-// A certificate whose records are counted.
-fn watched<'a, R: Runtime, C: Read + Drop>(
-    rt: &'a R,
-    terminal: &'a Terminal,
-    certificate: C,
-    records: u64,
-) -> Watched<'a, FromRead<C>, R> {
-    Watched::new(
-        FromRead::new(certificate),
-        Watch::new(rt, terminal, records),
-    )
-}
-
-// A file of this name.
-fn open<'a, R: Runtime + AllocGlobal>(rt: &R, path: &'a str) -> Result<R::File, Refusal<'a>> {
-    match File::open(rt, path) {
-        Ok(file) => Ok(file),
-        Err(_) => Err(Refusal::Open(FileName(path))),
     }
 }
 

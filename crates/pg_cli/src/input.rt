@@ -1,4 +1,4 @@
-//! Lists of games, read whole.
+//! Files that are read, and lists of games, read whole.
 
 use crate::names::FileName;
 use crate::refusals::Refusal;
@@ -9,6 +9,20 @@ use std::rt::Files;
 
 // The longest list that is read: 16,777,216 bytes.
 pub(crate) const MOST_BYTES: usize = 16_777_216;
+
+// The file of this name, to be read.
+//
+// # Errors
+// `Open` with the name, where it cannot be opened.
+pub(crate) fn open<'a, R: Files + AllocGlobal>(
+    rt: &R,
+    path: &'a str,
+) -> Result<R::File, Refusal<'a>> {
+    match File::open(rt, path) {
+        Ok(file) => Ok(file),
+        Err(_) => Err(Refusal::Open(FileName(path))),
+    }
+}
 
 // Reads once, and appends what came; how much that was.
 fn read_more<'a, R: Read>(
@@ -47,10 +61,7 @@ pub(crate) fn list<'a, R: Files + Input + AllocGlobal>(
     path: Option<&'a str>,
 ) -> Result<Vec<u8>, Refusal<'a>> {
     match path {
-        Some(path) => match File::open(rt, path) {
-            Ok(mut file) => read_all(rt.alloc(), &mut file),
-            Err(_) => Err(Refusal::Open(FileName(path))),
-        },
+        Some(path) => read_all(rt.alloc(), &mut open(rt, path)?),
         None => read_all(rt.alloc(), &mut rt.reader()),
     }
 }

@@ -3,9 +3,9 @@ ghost use Rattle.std.specs.Prelude.{◌≡◌, ◌≤◌};
 
 use crate::line::{Line, Terminal, WIDTH};
 use arrayvec::ArrayString;
-use pg_report::{Refused, Source};
+use pg_report::{FromRead, Refused, Source};
 use std::fmt::Write;
-use std::io::Eprint;
+use std::io::{Eprint, Read};
 use std::time::Clock;
 
 // The bytes of a header, which are no record.
@@ -171,6 +171,17 @@ impl<'a, T: Drop, R: Clock + Eprint> Watched<'a, T, R> {
         } = self;
         watch.end();
     }
+}
+
+// A certificate that a reader gives, at most so many of its records counted on a terminal.
+pub(crate) fn watch_records<'a, R: Clock + Eprint, C: Read + Drop>(
+    rt: &'a R,
+    terminal: &'a Terminal,
+    certificate: C,
+    records: u64,
+) -> Watched<'a, FromRead<C>, R> {
+    let watch = Watch::new(rt, terminal, records);
+    Watched::new(FromRead::new(certificate), watch)
 }
 
 impl<T: Source, R: Clock + Eprint> Source for Watched<'_, T, R> {

@@ -7,12 +7,12 @@ ghost use Rattle.pg_cli.specs.Answers.{IsAnswered};
 use crate::checking::{NAMED, RECORDS, finished};
 use crate::gathered::Gathered;
 use crate::line::{Cleared, Terminal};
-use crate::progress::{Watch, Watched};
+use crate::progress::watch_records;
 use crate::refusals::Refusal;
 use crate::runs::SearchLine;
 use crate::writing::begin;
 use clap::ArgMatches;
-use pg_report::{Bound, FromRead, Games, Problem, ToWrite, run_listed, search as search_for};
+use pg_report::{Bound, Games, Problem, ToWrite, run_listed, search as search_for};
 use std::io;
 use std::io::{Read, Seek, SeekFrom, Write};
 use std::rt::Runtime;
@@ -73,10 +73,7 @@ pub(crate) fn check_found<'a, R: Runtime + AllocGlobal, C: Read + Drop, W: Write
     ensures headline { IfOk result (λ status. IsAnswered problem.now.diagram problem.now.length games.now status) }
 {
     let terminal = Terminal::new(screen);
-    let mut source = Watched::new(
-        FromRead::new(certificate),
-        Watch::new(rt, &terminal, records),
-    );
+    let mut source = watch_records(rt, &terminal, certificate, records);
     let mut out = Gathered::new(Cleared::new(ToWrite::new(out), rt, &terminal));
     let answer = run_listed(
         rt.alloc(),

@@ -3,15 +3,15 @@ ghost use Rattle.std.specs.Prelude.{◌≡◌, ◌≤◌, IfOk};
 
 use crate::checking::RECORDS;
 use crate::gathered::Gathered;
+use crate::input::open;
 use crate::line::Terminal;
 use crate::names::FileName;
-use crate::progress::{Watch, Watched};
+use crate::progress::watch_records;
 use crate::refusals::{DONE, Refusal};
 use crate::writing::{begin, lead_to_one};
 use clap::ArgMatches;
-use pg_report::{FromRead, Refused, ToWrite, UpgradeFault, upgrade as upgrade_from};
+use pg_report::{Refused, ToWrite, UpgradeFault, upgrade as upgrade_from};
 use std::fmt::Write as WriteText;
-use std::fs::File;
 use std::io;
 use std::io::{Read, Write};
 use std::rt::Runtime;
@@ -37,7 +37,7 @@ where
     ensures few { IfOk result (λ n. n ≤ records) }
 {
     let terminal = Terminal::new(screen);
-    let mut source = Watched::new(FromRead::new(old), Watch::new(rt, &terminal, records));
+    let mut source = watch_records(rt, &terminal, old, records);
     let mut sink = ToWrite::new(new);
     let answer = upgrade_from(&mut source, &mut sink, records);
     source.end();
@@ -64,9 +64,7 @@ pub(crate) fn upgrade<'a, R: Runtime + AllocGlobal>(
 ) -> Result<u8, Refusal<'a>> {
     let old = words.get_str("OLD").unwrap_or("");
     let new = words.get_str("NEW").unwrap_or("");
-    let Ok(source) = File::open(rt, old) else {
-        return Err(Refusal::Open(FileName(old)));
-    };
+    let source = open(rt, old)?;
     if lead_to_one(rt, old, new) {
         return Err(Refusal::Open(FileName(new)));
     }

@@ -15,7 +15,7 @@ impl State {
     }
 
     // The passed square where a pawn of the side to move attacks it, else none.
-    fn effective_passed(&self) -> Option<Square>
+    pub(crate) fn effective_passed(&self) -> Option<Square>
         ensures { IsEffective self.now result }
     {
         match self.passed {

@@ -8,7 +8,7 @@ ghost use Rattle.pg_board.specs.SquareSets.{IsSetOf};
 ghost use Rattle.pg_position.specs.Step.{Legal, IsCause, IsCastling};
 ghost use Rattle.pg_board.specs.declared.man.Kind.TheVariants.{King};
 ghost use Rattle.pg_position.specs.declared.rights.Wing.{Wing};
-ghost use Rattle.pg_position.specs.Future.{SameFuture};
+ghost use Rattle.pg_position.specs.Future.{IsEffective, SameFuture};
 ghost use Rattle.pg_position.specs.Equality.{state_eq};
 ghost use Rattle.pg_position.specs.lemmas.Equalities.{state_eq_decides};
 ghost use Rattle.pg_position.specs.declared.state.State.{State};
@@ -202,6 +202,14 @@ impl Position {
         ensures { IsSetOf result (λ q. (w : Wing) × IsCastling self.now King (record { from = king_home self.now.side; to = q; promotion = None }) w) }
     {
         self.state.castling_targets()
+    }
+
+    /// The passed square where a pawn of the side to move attacks it, whether or not it may capture there
+    /// without leaving its king in check (FIDE articles 3.7.3.1 and 3.9.2); otherwise none.
+    pub fn effective_passed(&self) -> Option<Square>
+        ensures { IsEffective self.now result }
+    {
+        self.state.effective_passed()
     }
 
     /// Whether two positions have the same games: equal boards, sides and rights, and equal passed

@@ -3,7 +3,7 @@
 
 use crate::rows::KINDS;
 use pg_board::{Board, Color, Kind, Man, Square, SquareSet};
-use pg_position::{Position, Rights, Wing, attacks_from};
+use pg_position::{Rights, Wing};
 
 // Spreads a number over 64 bits (the finalizer of the generator SplitMix64).
 fn spread(number: u64) -> u64 {
@@ -81,41 +81,14 @@ pub fn pawn_key(board: &Board, color: Color) -> u64 {
     spread(board.squares_of(man).bits() ^ color_number(color))
 }
 
-// The squares from which a colour's pawn attacks the square: those that the other colour's pawn attacks
-// from there.
-fn pawns_before(board: &Board, square: Square, color: Color) -> SquareSet {
-    let pawn = Man {
-        color: color.other(),
-        kind: Kind::Pawn,
-    };
-    attacks_from(board, pawn, square)
-}
-
-/// The passed square where a pawn of the side to move attacks it; otherwise no square.
-pub fn effective_passed(position: &Position) -> SquareSet {
-    let Some(square) = position.passed() else {
-        return SquareSet::empty();
-    };
-    let color = position.side();
-    let board = position.board();
-    let man = Man {
-        color,
-        kind: Kind::Pawn,
-    };
-    if board
-        .squares_of(man)
-        .meets(pawns_before(&board, square, color))
-    {
-        SquareSet::single(square)
-    } else {
-        SquareSet::empty()
-    }
-}
-
-/// The key of a node: of both colours' men and rights by their keys, the side to move, the passed
-/// square where it matters and the plies left. Never 0.
-pub fn node_key(white: u64, black: u64, side: Color, passed: SquareSet, plies: u8) -> u64 {
+/// The key of a node: of both colours' men and rights by their keys, the side to move, the effective
+/// passed square and the plies left. Never 0.
+pub fn node_key(white: u64, black: u64, side: Color, passed: Option<Square>, plies: u8) -> u64 {
     let state = color_number(side) << 8 | u64::from(plies);
-    let sum = spread(white ^ black.rotate_left(32)) ^ spread(state) ^ spread(passed.bits());
+    let passed = match passed {
+        Some(square) => SquareSet::single(square).bits(),
+        None => 0,
+    };
+    let sum = spread(white ^ black.rotate_left(32)) ^ spread(state) ^ spread(passed);
     sum.max(1)
 }

@@ -13,7 +13,7 @@ mod rows;
 
 pub use assignment::{Assignment, Costs, MOST, assign};
 pub use closed::Closed;
-pub use keys::{color_key, effective_passed, man_key, node_key, pawn_key, right_key};
+pub use keys::{color_key, man_key, node_key, pawn_key, right_key};
 pub use lists::{Lists, prices_of};
 pub use memory::Memory;
 pub use needs::{

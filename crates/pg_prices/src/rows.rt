@@ -141,6 +141,11 @@ fn row_at(rows: &Vec<[u8; MOST]>, place: usize) -> [u8; MOST] {
     }
 }
 
+// The row of a square, behind the first of its kind.
+fn row_of(rows: &Vec<[u8; MOST]>, first: usize, square: Square) -> [u8; MOST] {
+    row_at(rows, first.saturating_add(usize::from(square.index())))
+}
+
 // Writes the costs of a source.
 fn put_source(costs: &mut Costs, source: usize, row: &[u8; MOST]) {
     let source = source % MOST;
@@ -168,9 +173,8 @@ fn put_men(
         let Some(square) = men.pop_first() else {
             return;
         };
-        let square = square.index();
-        let row = row_at(rows, first.saturating_add(usize::from(square)));
-        put_source(costs, number_of(all, square), &row);
+        let row = row_of(rows, first, square);
+        put_source(costs, number_of(all, square.index()), &row);
     }
 }
 
@@ -188,9 +192,7 @@ fn lower_to(least: &mut [u8; MOST], rows: &Vec<[u8; MOST]>, first: usize, men: S
         let Some(square) = men.pop_first() else {
             return;
         };
-        let square = square.index();
-        let row = row_at(rows, first.saturating_add(usize::from(square)));
-        lower(least, &row);
+        lower(least, &row_of(rows, first, square));
     }
 }
 

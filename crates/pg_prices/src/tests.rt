@@ -3,8 +3,8 @@ mod distances;
 mod memories;
 
 use super::*;
-use pg_board::{Color, SquareSet};
-use pg_fen::{Diagram, read_position};
+use pg_board::{Color, Square};
+use pg_fen::Diagram;
 use pg_position::Position;
 use std::process::Abort;
 

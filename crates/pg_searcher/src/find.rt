@@ -6,7 +6,7 @@ use crate::fault::SearchFault;
 use crate::judge::Judge;
 use crate::machine::{Machine, Question};
 use crate::progress::Progress;
-use crate::walk::all_trees;
+use crate::walk::tree_of;
 use arrayvec::ArrayVec;
 use pg_certificate::{Header, RecordWriter, Sink};
 use pg_fen::{Diagram, Length};
@@ -25,7 +25,7 @@ fn header(diagram: &Diagram, plies: u8) -> Header
     }
 }
 
-// The header, the trees and the end.
+// The header, the trees of all lengths from 0 to the stated one, and the end.
 fn write<W: Sink, P: Progress>(
     question: &Question,
     machine: &mut Machine,
@@ -43,9 +43,11 @@ fn write<W: Sink, P: Progress>(
         Ok(()) => {}
         Err(_) => return Err(SearchFault::Write),
     }
-    match all_trees(question, machine, sink, watch) {
-        Ok(()) => {}
-        Err(fault) => return Err(fault),
+    for tree in 0..=question.plies {
+        match tree_of(question, tree, machine, sink, watch) {
+            Ok(()) => {}
+            Err(fault) => return Err(fault),
+        }
     }
     match machine.writer.finish(sink) {
         Ok(()) => Ok(()),

@@ -11,7 +11,7 @@ use crate::sides::{Sides, changes_of};
 use pg_board::Color;
 use pg_certificate::{Record, Sink};
 use pg_position::{Move, Position};
-use pg_prices::{effective_passed, node_key};
+use pg_prices::node_key;
 use pg_travel::Prices;
 use std::alloc::AllocError;
 
@@ -56,25 +56,13 @@ pub(crate) fn put<W: Sink>(
     }
 }
 
-// Writes a cut by prices.
-fn put_prices<W: Sink>(
-    machine: &mut Machine,
-    code: u8,
-    color: Color,
-    prices: &Prices,
-    sink: &mut W,
-) -> Result<(), SearchFault>
-    requires runs { machine.old.writer.failed ≡ false }
-    ensures frames { machine.new.frames ≡ machine.old.frames }
-    ensures runs { OnOk result (machine.new.writer.failed ≡ false) }
-    ensures says { (plies : ℕ) → RefusesTruly plies (W.has_failed sink.new) result }
-{
-    let node = Record::Priced {
+// A cut by prices.
+fn priced(code: u8, color: Color, prices: &Prices) -> Record {
+    Record::Priced {
         code,
         color,
         prices: *prices,
-    };
-    put(machine, &node, sink)
+    }
 }
 
 // The prices of a verdict.
@@ -116,12 +104,11 @@ fn stay<W: Sink>(
     ensures runs { OnOk result (machine.new.writer.failed ≡ false) }
     ensures says { (plies : ℕ) → RefusesTruly plies (W.has_failed sink.new) result }
 {
-    let passed = effective_passed(position);
     let key = node_key(
         sides.white.key,
         sides.black.key,
         position.side(),
-        passed,
+        position.effective_passed(),
         left,
     );
     if let Some(number) = machine.closed_nodes.find(key) {
@@ -178,10 +165,12 @@ pub(crate) fn enter<W: Sink>(
     }
     match prices_of(machine, position, &sides, verdict) {
         Ok(None) => stay(machine, sink, position, &sides, left),
-        Ok(Some((code, color, prices))) => match put_prices(machine, code, color, &prices, sink) {
-            Ok(()) => Ok(None),
-            Err(fault) => Err(fault),
-        },
+        Ok(Some((code, color, prices))) => {
+            match put(machine, &priced(code, color, &prices), sink) {
+                Ok(()) => Ok(None),
+                Err(fault) => Err(fault),
+            }
+        }
         Err(_) => Err(SearchFault::Memory),
     }
 }
@@ -205,7 +194,7 @@ fn put_kept<W: Sink>(
     let Some(prices) = machine.judge.kept_prices(color, sides.of(color).key) else {
         return Ok(false);
     };
-    match put_prices(machine, 4, color, &prices, sink) {
+    match put(machine, &priced(4, color, &prices), sink) {
         Ok(()) => Ok(true),
         Err(fault) => Err(fault),
     }

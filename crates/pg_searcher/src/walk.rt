@@ -211,7 +211,7 @@ fn turn<W: Sink>(
 }
 
 // The tree of one length.
-fn tree_of<W: Sink, P: Progress>(
+pub(crate) fn tree_of<W: Sink, P: Progress>(
     question: &Question,
     tree: u8,
     machine: &mut Machine,
@@ -237,25 +237,4 @@ fn tree_of<W: Sink, P: Progress>(
         }
     }
     Err(SearchFault::Budget)
-}
-
-// The trees of all lengths from 0 to the stated one.
-pub(crate) fn all_trees<W: Sink, P: Progress>(
-    question: &Question,
-    machine: &mut Machine,
-    sink: &mut W,
-    watch: &mut P,
-) -> Result<(), SearchFault>
-    requires limit { question.now.plies ≤ 128 }
-    requires runs { machine.old.writer.failed ≡ false }
-    ensures runs { OnOk result (machine.new.writer.failed ≡ false) }
-    ensures says { RefusesTruly question.now.plies (W.has_failed sink.new) result }
-{
-    for tree in 0..=question.plies {
-        match tree_of(question, tree, machine, sink, watch) {
-            Ok(()) => {}
-            Err(fault) => return Err(fault),
-        }
-    }
-    Ok(())
 }

@@ -1,8 +1,8 @@
 use super::*;
 use crate::line::{Cleared, Terminal};
-use crate::progress::{RecordCount, Watch, Watched, line_of};
+use crate::progress::{RecordCount, line_of, watch_records};
 use crate::runs::{CountLine, SearchLine, count_line, search_line};
-use pg_report::{FromRead, Progress, SearchProgress, Sink, Source, ToWrite};
+use pg_report::{Progress, SearchProgress, Sink, Source, ToWrite};
 use std::cell::Cell;
 use std::fmt::Display;
 use std::io::Eprint;
@@ -50,10 +50,7 @@ fn prints<R: Abort + AllocGlobal>(rt: &R, times: &[u64], screen: bool) -> (u32, 
     };
     let bytes = repeated(rt, 1, times.len());
     let terminal = Terminal::new(screen);
-    let mut source = Watched::new(
-        FromRead::new(bytes.as_slice()),
-        Watch::new(&desk, &terminal, 100),
-    );
+    let mut source = watch_records(&desk, &terminal, bytes.as_slice(), 100);
     for time in times {
         desk.millis.set(time.saturating_add(5000));
         check_pull(rt, &mut source, 1);

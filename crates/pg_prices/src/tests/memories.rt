@@ -70,67 +70,13 @@ fn keys_differ(rt: HostRuntime) {
     fewer.white_queen = false;
     assert!(rt; white != black && color_key(&board, fewer, Color::White) != white);
     assert_eq!(rt; color_key(&board, fewer, Color::Black), black);
-    let none = SquareSet::empty();
-    let a6 = SquareSet::of_bits(1 << 40);
-    let node = node_key(white, black, Color::White, none, 3);
-    assert!(rt; node != node_key(black, white, Color::White, none, 3));
-    assert!(rt; node != node_key(white, black, Color::Black, none, 3));
-    assert!(rt; node != node_key(white, black, Color::White, none, 4));
+    let a6 = Square::from_index(40);
+    assert!(rt; a6.is_some());
+    let node = node_key(white, black, Color::White, None, 3);
+    assert!(rt; node != node_key(black, white, Color::White, None, 3));
+    assert!(rt; node != node_key(white, black, Color::Black, None, 3));
+    assert!(rt; node != node_key(white, black, Color::White, None, 4));
     assert!(rt; node != node_key(white, black, Color::White, a6, 3));
-}
-
-// A position read from a text.
-fn position(rt: &impl Abort, text: &str) -> Position {
-    read_position(text).expect(rt, text).position
-}
-
-// Positions after an advance of two squares or none, and the passed square that counts, as a set.
-const PASSED: [(&str, u64); 9] = [
-    (
-        "rnbqkbnr/ppppp1pp/8/5pP1/8/8/PPPPPP1P/RNBQKBNR w KQkq f6 0 3",
-        1 << 45,
-    ),
-    (
-        "rnbqkbnr/ppppp1pp/8/4Pp2/8/8/PPPP1PPP/RNBQKBNR w KQkq f6 0 3",
-        1 << 45,
-    ),
-    (
-        "rnbqkbnr/ppppp1pp/8/5p2/8/6P1/PPPPPP1P/RNBQKBNR w KQkq f6 0 3",
-        0,
-    ),
-    (
-        "rnbqkbnr/1ppppppp/8/p6P/8/8/PPPPPPP1/RNBQKBNR w KQkq a6 0 3",
-        0,
-    ),
-    (
-        "rnbqkbnr/ppppppp1/8/P6p/8/8/1PPPPPPP/RNBQKBNR w KQkq h6 0 3",
-        0,
-    ),
-    (
-        "rnbqkbnr/p1pppppp/8/8/Pp6/8/1PPPPPPP/RNBQKBNR b KQkq a3 0 3",
-        1 << 16,
-    ),
-    (
-        "rnbqkbnr/pppppp1p/8/8/6pP/8/PPPPPPP1/RNBQKBNR b KQkq h3 0 3",
-        1 << 23,
-    ),
-    (
-        "rnbqkbnr/1ppppppp/8/8/p6P/8/PPPPPPP1/RNBQKBNR b KQkq h3 0 3",
-        0,
-    ),
-    (
-        "rnbqkbnr/pppppppp/8/8/8/8/PPPPPPPP/RNBQKBNR w KQkq - 0 1",
-        0,
-    ),
-];
-
-// A passed square counts where a pawn of the side to move attacks it, be it at the edge of the board.
-#[test]
-fn passed_squares_that_count(rt: HostRuntime) {
-    for (text, wanted) in PASSED {
-        let position = position(&rt, text);
-        assert_eq!(rt; effective_passed(&position).bits(), wanted, "{text}");
-    }
 }
 
 // Lists stay with the needs that they were kept with, until all are forgotten.

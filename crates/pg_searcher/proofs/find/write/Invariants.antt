@@ -1,5 +1,5 @@
 use Rattle.std.proofs.Common.{◌≡◌, false}
-use Rattle.pg_searcher.proofs.walk.all_trees.Given as goal
+use Rattle.pg_searcher.proofs.find.write.Given as goal
 
 -- between two trees the writer has not refused
 abbrev pub invariant-loop-tree : goal.invariant-loop-tree
