@@ -1,5 +1,5 @@
 -- The games of so many plies, as a list, and their number.
-use Rattle.std.proofs.Common.{◌≡◌, ◌≢◌, ℕ, zero, suc, ◌+◌, ◌-◌, ◌<◌, ◌≤◌, ◌^◌, inl, inr, List, [], ◌∷◌, ◌++◌, length, length-append, map, take, get_or, refl, sym, ap, ap₂, subst, arith, ◌∙◌}
+use Rattle.std.proofs.Common.{◌≡◌, ℕ, zero, suc, ◌+◌, ◌-◌, ◌<◌, ◌≤◌, ◌^◌, inl, inr, List, [], ◌∷◌, ◌++◌, length, length-append, map, take, get_or, refl, sym, ap, ap₂, subst, arith, ◌∙◌}
 use Rattle.std.specs.List.{Contains, sum_by}
 use Rattle.std.specs.declared.cmp.Ordering.TheVariants.{Less, Equal}
 use Rattle.std.specs.List.Sorted.{IsStrictlySortedBy}
@@ -221,7 +221,7 @@ count_more p k ms after games pos list each =
 unfoldable pub follow : State → ℕ → Move → ℕ
 follow p j m = number_of j (play_of p m)
 
-pub one_less : (k : ℕ) → k ≢ 0 → suc (k - 1) ≡ k
+pub one_less : (k : ℕ) → 2 ≤ k → suc (k - 1) ≡ k
 one_less k some = omega arith
 
 module _ (p : State) (k j : ℕ) (ms : List Move) (pos : IsPosition p) (list : IsMoveList p ms) (less : suc j ≡ k) where

@@ -11,7 +11,7 @@ use Rattle.pg_board.specs.declared.man.Kind.TheVariants.{Pawn, Queen, King}
 use Rattle.pg_board.specs.Squares.{rank}
 use Rattle.pg_board.specs.Tally.{one, count_below}
 use Rattle.pg_board.specs.lemmas.Sums.{total-none, total-suc}
-use Rattle.pg_board.specs.Bits.{has, has-none, ones-count}
+use Rattle.pg_board.specs.Bits.{has}
 use Rattle.pg_board.specs.Men.{king_of, other}
 use Rattle.pg_board.specs.Placement.{Placement, without, IsFirst}
 use Rattle.pg_board.specs.lemmas.Placements.{get_on}

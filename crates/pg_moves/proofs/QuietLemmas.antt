@@ -10,7 +10,7 @@ use Rattle.pg_board.specs.Squares.{file, rank}
 use Rattle.pg_board.specs.Men.{is_man, is_of, man, other}
 use Rattle.pg_board.specs.lemmas.Equalities.{is_man_decides}
 use Rattle.pg_board.specs.Placement.{Placement, get}
-use Rattle.pg_board.specs.Bits.{has, bits_below, has-bits_below, bits_below-lt, ones-count, has-none}
+use Rattle.pg_board.specs.Bits.{has, bits_below, has-bits_below, has-none}
 use Rattle.pg_board.specs.Tally.{one, total, count_below}
 use Rattle.pg_board.specs.lemmas.Sums.{total-none, total-more, count_below_same, total-zero, total_same, total_changed}
 use Rattle.pg_position.specs.declared.state.State.{State}

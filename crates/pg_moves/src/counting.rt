@@ -36,6 +36,8 @@ fn tell<P: Progress>(plies: u8, games: u64, watch: &mut P) {
 }
 
 // The games of so many plies, 8 at most.
+#[cycle(count)]
+#[inline(always)]
 fn count_from<P: Progress>(
     alloc: Global,
     position: &Position,
@@ -47,12 +49,27 @@ fn count_from<P: Progress>(
         (λ n. IsGameCount position.now plies n)
         (λ e. IsCountFault position.now plies e) }
 {
-    if plies == 0 {
-        return Ok(1);
+    match plies {
+        0 => Ok(1),
+        1 => Ok(count_moves(position)),
+        _ => count_listed(alloc, position, plies, watch),
     }
-    if plies == 1 {
-        return Ok(count_moves(position));
-    }
+}
+
+// The games of so many plies, 2 to 8, summed over a list of the moves.
+#[cycle(count)]
+fn count_listed<P: Progress>(
+    alloc: Global,
+    position: &Position,
+    plies: u8,
+    watch: &mut P,
+) -> Result<u64, CountFault>
+    requires some { 2 ≤ plies }
+    requires few { plies ≤ 8 }
+    ensures { MatchResult result
+        (λ n. IsGameCount position.now plies n)
+        (λ e. IsCountFault position.now plies e) }
+{
     // A fact for the proof: what is handed in is a position.
     position.side();
     let moves = listed(alloc, position)?;

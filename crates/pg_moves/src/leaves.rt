@@ -8,7 +8,7 @@ ghost use Rattle.pg_moves.specs.Counts.{IsGameCount};
 use crate::pawns::{pawn_ways, quiet_pawns};
 use crate::places::promotion_number;
 use crate::search::first_of_man;
-use crate::sources::source_at;
+use crate::sources::source_to_count;
 use crate::trials::maybe_pinned;
 use pg_board::{Board, Kind, Square, SquareSet};
 use pg_position::Position;
@@ -40,7 +40,7 @@ fn count_of_square(position: &Position, board: &Board, maybe_pinned: SquareSet, 
     ensures count { Adds position.now (place_of from 0 0) (place_of (from + 1) 0 0) result }
     ensures bound { result ≤ most_of_a_man }
 {
-    let source = source_at(position, board, maybe_pinned, from);
+    let source = source_to_count(position, board, maybe_pinned, from);
     if source.exact {
         source.set.len() as u64
     } else {

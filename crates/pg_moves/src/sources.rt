@@ -9,7 +9,7 @@ use crate::kings::king_targets;
 use crate::search::{first_of_exact, first_of_man};
 use crate::targets::{advances, targets};
 use crate::trials::must_try;
-use pg_board::{Board, Kind, Square, SquareSet};
+use pg_board::{Board, Color, Kind, Square, SquareSet};
 use pg_position::{Move, Position};
 
 // A man of the side to move: where it may go, its kind, and whether it goes to just those squares, with
@@ -21,18 +21,22 @@ pub(crate) struct Source {
     pub(crate) exact: bool,
 }
 
-// The man of the kind on a square.
+// The man of the side to move, of its colour and this kind, on a square. A caller's loop over men hands
+// on the colour that it read there: of the position's side, LLVM works out ahead of the loop what only
+// a pawn needs.
 #[inline(always)]
 #[tactic(auto, unfolding(crate::specs::numbers::Sources::IsSource))]
 fn source_of(
     position: &Position,
     board: &Board,
     maybe_pinned: SquareSet,
+    color: Color,
     kind: Kind,
     from: Square,
 ) -> Source
     requires same { board.now ≡ position.now.board }
     requires free { FreeOff position.now maybe_pinned }
+    requires color { color ≡ position.now.side }
     requires stands { Stands position.now.board position.now.side kind from }
     ensures { IsSource position.now from result }
 {
@@ -44,7 +48,7 @@ fn source_of(
             set: king_targets(position, board, from),
             exact: true,
         }
-    } else if must_try(position, maybe_pinned, kind, from) {
+    } else if must_try(position, maybe_pinned, color, kind, from) {
         Source {
             kind,
             set: targets(position, kind, from),
@@ -53,7 +57,7 @@ fn source_of(
     } else {
         Source {
             kind,
-            set: advances(board, position.side(), kind, from),
+            set: advances(board, color, kind, from),
             exact: true,
         }
     }
@@ -61,7 +65,7 @@ fn source_of(
 
 // The man of the side to move on a square.
 #[inline(always)]
-#[tactic(auto, using(crate::proofs::SearchLemmas::stands_own))]
+#[tactic(auto, using(crate::proofs::SearchLemmas::stands_own, crate::proofs::SearchLemmas::color_own))]
 pub(crate) fn source_at(
     position: &Position,
     board: &Board,
@@ -74,7 +78,62 @@ pub(crate) fn source_at(
     ensures { IsSource position.now from result }
 {
     match board.get(from) {
-        Some(man) => source_of(position, board, maybe_pinned, man.kind, from),
+        Some(man) => source_of(position, board, maybe_pinned, man.color, man.kind, from),
+        None => unreachable!(),
+    }
+}
+
+// The pawn of the side to move on a square. A function of its own for the counts, which meet few pawns
+// one by one: in their loop, what only a pawn needs of the colour would be worked out ahead for each
+// position.
+#[inline(never)]
+fn source_of_pawn(
+    position: &Position,
+    board: &Board,
+    maybe_pinned: SquareSet,
+    from: Square,
+) -> Source
+    requires same { board.now ≡ position.now.board }
+    requires free { FreeOff position.now maybe_pinned }
+    requires stands { Stands position.now.board position.now.side Kind.Pawn from }
+    ensures { IsSource position.now from result }
+{
+    source_of(
+        position,
+        board,
+        maybe_pinned,
+        position.side(),
+        Kind::Pawn,
+        from,
+    )
+}
+
+// The man of the side to move on a square, for the counts: seldom a pawn.
+#[inline(always)]
+#[tactic(auto, using(crate::proofs::SearchLemmas::stands_own))]
+pub(crate) fn source_to_count(
+    position: &Position,
+    board: &Board,
+    maybe_pinned: SquareSet,
+    from: Square,
+) -> Source
+    requires same { board.now ≡ position.now.board }
+    requires free { FreeOff position.now maybe_pinned }
+    requires own { IsOwn position.now.board position.now.side from }
+    ensures { IsSource position.now from result }
+{
+    match board.get(from) {
+        Some(man) => match man.kind {
+            Kind::Pawn => source_of_pawn(position, board, maybe_pinned, from),
+            _ => source_of(
+                position,
+                board,
+                maybe_pinned,
+                position.side(),
+                man.kind,
+                from,
+            ),
+        },
         None => unreachable!(),
     }
 }

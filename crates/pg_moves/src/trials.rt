@@ -93,13 +93,14 @@ pub(crate) fn maybe_pinned(position: &Position) -> SquareSet
 
 // Whether the man is a pawn that may promote or capture en passant.
 #[inline(always)]
-fn is_special(position: &Position, kind: Kind, from: Square) -> bool
+fn is_special(position: &Position, color: Color, kind: Kind, from: Square) -> bool
+    requires { color ≡ position.now.side }
     ensures { IsFalse result → IsOrdinary position.now kind from }
 {
     match kind {
         Kind::Pawn => {
             if en_passant_targets(position, from).is_empty() {
-                from.rank() == home_rank(position.side().other())
+                from.rank() == home_rank(color.other())
             } else {
                 true
             }
@@ -141,14 +142,16 @@ pub(crate) fn attacked_without(board: &Board, from: Square, square: Square, by: 
 pub(crate) fn must_try(
     position: &Position,
     maybe_pinned: SquareSet,
+    color: Color,
     kind: Kind,
     from: Square,
 ) -> bool
+    requires color { color ≡ position.now.side }
     requires free { FreeOff position.now maybe_pinned }
     requires stands { Stands position.now.board position.now.side kind from }
     ensures { IsFalse result → (IsFree position.now kind from × IsOrdinary position.now kind from) }
 {
-    if is_special(position, kind, from) {
+    if is_special(position, color, kind, from) {
         true
     } else if maybe_pinned.contains(from) {
         is_pinned(position, kind, from)

@@ -4,4 +4,4 @@ use Rattle.pg_moves.proofs.leaves.count_of_square.Goals as goal
 
 pub returns-then-source-clause-count : goal.returns-then-source-clause-count
 unfolding IsSource
-returns-then-source-clause-count c = exact_adds c.args.position.now c.args.from c.source_at-source.result.set (c.source_at-source.ensures.1 c.if-source.true) _ c.len.ensures.squares
+returns-then-source-clause-count c = exact_adds c.args.position.now c.args.from c.source_to_count-source.result.set (c.source_to_count-source.ensures.1 c.if-source.true) _ c.len.ensures.squares

@@ -6,6 +6,6 @@ pub returns-else-must_try : goal.returns-else-must_try
 unfolding IsSource
 returns-else-must_try c = (
   c.requires.stands,
-  λ _. (let h = c.must_try.ensures c.if-must_try.false in exact_free c.args.position.now c.args.kind c.args.from c.advances.result c.args.board.now c.side.result c.requires.same c.side.ensures.value c.index.ensures.bound c.requires.stands h.0 h.1 c.advances.ensures),
+  λ _. (let h = c.must_try.ensures c.if-must_try.false in exact_free c.args.position.now c.args.kind c.args.from c.advances.result c.args.board.now c.args.color c.requires.same c.requires.color c.index.ensures.bound c.requires.stands h.0 h.1 c.advances.ensures),
   λ e. absurd (cc),
 )

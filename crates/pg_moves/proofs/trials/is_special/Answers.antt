@@ -8,4 +8,4 @@ returns-in_default c = λ _. piece_ordinary c.args.position.now c.args.kind c.ar
 
 pub returns-then-is_empty : goal.returns-then-is_empty
 returns-then-is_empty c = λ off. pawn_ordinary c.args.position.now c.args.kind c.args.from c.en_passant_targets.result c.en_passant_targets.ensures (c.is_empty.ensures.none.0 c.if-is_empty.true)
-    (rank_ruled_out c.args.position.now.side c.other.result c.args.from c.rank.result c.home_rank.result c.rank.ensures.value c.home_rank.ensures.value (c.other.ensures ∙ ap other c.side.ensures.value) off)
+    (rank_ruled_out c.args.position.now.side c.other.result c.args.from c.rank.result c.home_rank.result c.rank.ensures.value c.home_rank.ensures.value (c.other.ensures ∙ ap other c.requires) off)
