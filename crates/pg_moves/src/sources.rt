@@ -21,9 +21,8 @@ pub(crate) struct Source {
     pub(crate) exact: bool,
 }
 
-// The man of the side to move, of its colour and this kind, on a square. A caller's loop over men hands
-// on the colour that it read there: of the position's side, LLVM works out ahead of the loop what only
-// a pawn needs.
+// The man of the side to move, of this colour and kind, on a square. Where a caller's loop reads the
+// colour off each man, LLVM cannot work out ahead of the loop what only a pawn needs of it.
 #[inline(always)]
 #[tactic(auto, unfolding(crate::specs::numbers::Sources::IsSource))]
 fn source_of(
