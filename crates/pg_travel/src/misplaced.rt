@@ -19,11 +19,29 @@ pub(crate) fn to_come(board: &Board, goal: &Board, color: Color, way: Option<Win
     }
 }
 
-// The squares that castling brings king and rook to.
-fn castled_squares(color: Color, wing: Wing) -> SquareSet
+// Where the castling king goes, and what it crosses.
+#[inline(always)]
+fn target_and_crossed(color: Color, wing: Wing) -> SquareSet
     ensures { IsSetOf result (λ q. (q ≡ king_target color wing) ⊎ (q ≡ king_crossed color wing)) }
 {
     SquareSet::single(king_target(color, wing)) | SquareSet::single(king_crossed(color, wing))
+}
+
+// The squares that castling brings king and rook to. Each case stands apart, so that the sets are
+// four constants to choose from.
+fn castled_squares(color: Color, wing: Wing) -> SquareSet
+    ensures { IsSetOf result (λ q. (q ≡ king_target color wing) ⊎ (q ≡ king_crossed color wing)) }
+{
+    match color {
+        Color::White => match wing {
+            Wing::KingSide => target_and_crossed(Color::White, Wing::KingSide),
+            Wing::QueenSide => target_and_crossed(Color::White, Wing::QueenSide),
+        },
+        Color::Black => match wing {
+            Wing::KingSide => target_and_crossed(Color::Black, Wing::KingSide),
+            Wing::QueenSide => target_and_crossed(Color::Black, Wing::QueenSide),
+        },
+    }
 }
 
 // Squares each of whose men costs something.

@@ -1,5 +1,5 @@
 use Rattle.pg_board.proofs.SetLemmas.{set_of_union}
-use Rattle.pg_travel.proofs.misplaced.castled_squares.Goals as goal
+use Rattle.pg_travel.proofs.misplaced.target_and_crossed.Goals as goal
 
 pub returns : goal.returns
 returns c = set_of_union c.bitor.result c.single.result c.single-2.result c.bitor.ensures.members
