@@ -14,6 +14,3 @@ pub use packed::PackedBoard;
 pub use sets::Sets;
 pub use square::Square;
 pub use square_set::{SquareSet, Squares};
-
-#[cfg(test)]
-mod tests;

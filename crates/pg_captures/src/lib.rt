@@ -17,6 +17,3 @@ pub use classes::Class;
 pub use counts::{all_men, pawns};
 pub use prices::price_sum;
 pub use promotions::{Promotions, shortage};
-
-#[cfg(test)]
-mod tests;

@@ -25,6 +25,3 @@ pub use record::{Bare, Header, Record};
 pub use source::{Refused, Sink, Source};
 pub use to_write::ToWrite;
 pub use writer::RecordWriter;
-
-#[cfg(test)]
-mod tests;

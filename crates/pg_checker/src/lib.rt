@@ -22,6 +22,3 @@ pub use chess_laws::{
 pub use fault::{Fault, ListFault};
 pub use listed::check_listed;
 pub use nearness::{may_reach, pass_over};
-
-#[cfg(test)]
-mod tests;

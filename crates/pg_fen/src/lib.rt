@@ -22,6 +22,3 @@ pub use fault::{FenFault, LengthFault};
 pub use games::{FenGame, read_position, write_position};
 pub use length::Length;
 pub use letters::{letter_of, man_of};
-
-#[cfg(test)]
-mod tests;

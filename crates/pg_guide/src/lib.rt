@@ -17,6 +17,3 @@ mod writing;
 
 pub use explaining::{Asked, why};
 pub use fault::WhyFault;
-
-#[cfg(test)]
-mod tests;

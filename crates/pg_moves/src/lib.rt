@@ -22,6 +22,3 @@ pub use generate::{legal_moves, next_legal};
 pub use laws::{moves_and_play_are_functions, next_in_list, one_game_count, one_move_list};
 pub use left::{Ahead, LegalMoves};
 pub use progress::{Progress, Unwatched};
-
-#[cfg(test)]
-mod tests;

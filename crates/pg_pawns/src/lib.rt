@@ -7,6 +7,3 @@ mod shifts;
 
 pub use prices::prices_exclude;
 pub use shifts::{PawnFiles, shift_need};
-
-#[cfg(test)]
-mod tests;

@@ -39,6 +39,3 @@ pub use squares::{
     ahead, castling_homes, has_ahead, home_rank, king_crossed, king_home, king_target, last_rank,
     must_promote, passed_rank, rook_home,
 };
-
-#[cfg(test)]
-mod tests;

@@ -21,6 +21,3 @@ pub use needs::{
     travel_lists,
 };
 pub use rows::{NO_WAY, Rows};
-
-#[cfg(test)]
-mod tests;

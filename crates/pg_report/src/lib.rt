@@ -44,6 +44,3 @@ pub use pg_pawns::PawnFiles;
 pub use pg_san::{Games, GamesFault};
 pub use pg_searcher::{Progress as SearchProgress, SearchFault, search};
 pub use pg_travel::Travel;
-
-#[cfg(test)]
-mod tests;

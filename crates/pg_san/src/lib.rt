@@ -31,6 +31,3 @@ pub use listing::read_games;
 pub use listing_fault::GamesFault;
 pub use reading::read;
 pub use writing::{San, write};
-
-#[cfg(test)]
-mod tests;

@@ -1,181 +1,102 @@
-mod changes;
-mod found_games;
-mod growths;
-mod nodes;
-mod refused_writes;
-
-use super::*;
-use pg_captures::{Bound, Captures, Promotions};
-use pg_certificate::{FromRead, Sink, ToWrite};
-use pg_checker::{Fault, Proved, check};
-use pg_fen::{Diagram, Length};
-use pg_moves::{Unwatched, legal_moves};
-use pg_pawns::PawnFiles;
-use pg_position::Position;
-use pg_san::Games;
-use pg_travel::Travel;
+use crate::judge::sides_of;
+use crate::sides::{Side, Sides, changes_of};
+use pg_board::Color;
+use pg_fen::read_position;
+use pg_moves::legal_moves;
+use pg_position::{Move, Position};
 use std::alloc::{AllocError, Global};
 use std::process::Abort;
-use std::test::Fail;
 
-// How many nodes are visited at most where a test does not say otherwise.
-const NODES: u64 = 1_000_000;
-
-const ARRAY: &str = "rnbqkbnr/pppppppp/8/8/8/8/PPPPPPPP/RNBQKBNR";
-
-// A diagram, a length, and all games, one a line.
-const CASES: [(&str, &str, &str); 8] = [
-    (ARRAY, "0", "-"),
-    (
-        "rnbqkbnr/pppppppp/8/8/4P3/8/PPPP1PPP/RNBQKBNR",
-        "0.5",
-        "1. e4",
-    ),
-    (
-        "rnbqkbnr/pppp1ppp/8/4p3/4P3/8/PPPP1PPP/RNBQKBNR",
-        "1.0",
-        "1. e4 e5",
-    ),
-    (
-        "rnbqkbnr/pppp1ppp/4p3/8/8/3PP3/PPP2PPP/RNBQKBNR",
-        "1.5",
-        "1. d3 e6 2. e3\n1. e3 e6 2. d3",
-    ),
-    ("rnbqkbnr/pppp1ppp/8/4p3/4P3/8/PPPP1PPP/RNBQKBNR", "0.5", ""),
-    (
-        "rnbqkbnr/1pp1pppp/p2P4/8/8/8/PPPP1PPP/RNBQKBNR",
-        "2.5",
-        "1. e4 a6 2. e5 d5 3. exd6\n1. e4 a6 2. e5 d6 3. exd6\n1. e4 d5 2. exd5 a6 3. d6\n1. e4 d6 2. e5 a6 3. exd6",
-    ),
-    (
-        "rnb1kbnr/ppp1pppp/8/3q4/8/8/PPPP1PPP/RNBQKBNR",
-        "2.0",
-        "1. e4 d5 2. exd5 Qxd5",
-    ),
-    (
-        "rnb1kbnr/pppp1ppp/8/4p3/6Pq/5P2/PPPPP2P/RNBQKBNR",
-        "2.0",
-        "1. f3 e5 2. g4 Qh4#\n1. g4 e5 2. f3 Qh4#",
-    ),
-];
-
-// Problems of three and a half to nine moves: a diagram, a length, how many games there are, and how
-// many nodes a search visits. A node that a cut excludes is cut, and one that none does is expanded
-// once, so the number is the same for each right search.
-const PROBLEMS: [(&str, &str, usize, u64); 8] = [
-    (SECOND_PROBLEM, "4.0", 1, 6_118),
-    (
-        "rnQ1kbnr/pp1ppppp/8/2p5/2P5/2q5/PP1PPPPP/RNB1KBNR",
-        "3.5",
-        1,
-        920,
-    ),
-    (
-        "rnbqkbnr/p1pppppp/8/8/8/3QP3/PPP2PPP/RNB1K1NR",
-        "3.5",
-        2,
-        8_313,
-    ),
-    (
-        "r1bqnNnr/pppkpp1p/7R/3p4/8/8/PPPPPPP1/RNBQKBN1",
-        "5.5",
-        1,
-        428,
-    ),
-    (
-        "Rnb1kbnr/p1p1pppp/8/3p4/8/8/1PPPPP2/RNBQ1KNR",
-        "5.5",
-        1,
-        3_856,
-    ),
-    (
-        "1nbqkbnr/p1ppppp1/1N6/8/8/6n1/1PPPPP1P/RNBQKBN1",
-        "6.0",
-        1,
-        373,
-    ),
-    (
-        "rnbq1bnr/ppppp1p1/8/8/2k4p/2NPP3/PPP2PPP/RNBQ1RK1",
-        "6.5",
-        1,
-        4_020,
-    ),
-    (
-        "2bqr1k1/2pNppbp/1p5p/7n/1r1P4/8/P1P1PPPP/RNB1KBNR",
-        "9.0",
-        1,
-        9_198,
-    ),
-];
-
-const SECOND_PROBLEM: &str = "rnbqkb1r/ppp2ppp/8/8/8/8/PPPPPPPP/RNBQKB1R";
-
-fn diagram(rt: &impl Abort, text: &str) -> Diagram {
-    Diagram::read(text).expect(rt, text)
+fn are_same(a: &Side, b: &Side) -> bool {
+    a.key == b.key && a.men == b.men && a.pawns == b.pawns && a.ways == b.ways
 }
 
-fn length(rt: &impl Abort, text: &str) -> Length {
-    Length::read(text).expect(rt, text)
+// Whether what a move changes leads to what the next position has; true where it is not told.
+fn agrees(position: &Position, sides: &Sides, m: &Move, next: &Position) -> bool {
+    let Some(changes) = changes_of(position, m) else {
+        return true;
+    };
+    let color = position.side();
+    let wanted = sides_of(next);
+    let own = sides.of(color);
+    let own = changes.own.applied(own, own.needs);
+    let other = sides.of(color.other());
+    let other = match &changes.other {
+        Some(change) => change.applied(other, other.needs),
+        None => *other,
+    };
+    are_same(&own, wanted.of(color)) && are_same(&other, wanted.of(color.other()))
 }
 
-// What a check of the certificate answers, with the games that were found and the bounds by
-// captures, promotions, pawn files and travel.
-fn checks(
-    alloc: Global,
-    diagram: &Diagram,
-    length: Length,
-    games: &Games,
-    bytes: &[u8],
-) -> Result<Result<Proved, Fault>, AllocError> {
-    let mut bounds: Vec<Box<dyn Bound>> = Vec::new(alloc);
-    bounds.push(Box::new(alloc, Captures)?)?;
-    bounds.push(Box::new(alloc, Promotions)?)?;
-    bounds.push(Box::new(alloc, PawnFiles)?)?;
-    bounds.push(Box::new(alloc, Travel)?)?;
-    let mut source = FromRead::new(bytes);
-    Ok(check(
-        alloc,
-        diagram,
-        length,
-        games,
-        bounds.as_slice(),
-        &mut source,
-        NODES,
-        4_194_304,
-    ))
-}
-
-// Whether a check of the certificate says yes to the games that were found.
-fn holds(alloc: Global, diagram: &Diagram, length: Length, games: &Games, bytes: &[u8]) -> bool {
-    matches!(checks(alloc, diagram, length, games, bytes), Ok(Ok(_)))
-}
-
-// The certificate and the games of a search; the certificate has been checked.
-fn found(rt: &impl Abort, alloc: Global, diagram: &Diagram, length: Length) -> (Games, Vec<u8>) {
-    let mut sink = ToWrite::new(Vec::new(alloc));
-    let games = search(alloc, diagram, length, NODES, &mut sink, &mut Unwatched).expect(
-        rt, "found",
-    );
-    let bytes = sink.into_inner();
-    assert!(rt; holds(alloc, diagram, length, &games, bytes.as_slice()));
-    (games, bytes)
-}
-
-// The fault of a search of so many nodes. Where there is none the certificate has been checked.
-fn fault(
-    rt: &impl Abort,
-    alloc: Global,
-    diagram: &Diagram,
-    length: Length,
-    nodes: u64,
-) -> Option<SearchFault> {
-    let mut sink = ToWrite::new(Vec::new(alloc));
-    match search(alloc, diagram, length, nodes, &mut sink, &mut Unwatched) {
-        Ok(games) => {
-            let bytes = sink.into_inner();
-            assert!(rt; holds(alloc, diagram, length, &games, bytes.as_slice()));
-            None
+// Whether that holds of each legal move, and how many moves are not told.
+fn all_agree(alloc: Global, position: &Position) -> Result<(bool, usize), AllocError> {
+    let sides = sides_of(position);
+    let mut agree = true;
+    let mut special = 0usize;
+    for m in legal_moves(alloc, position)?.as_slice() {
+        if let Ok(next) = position.play(*m) {
+            agree = agree && agrees(position, &sides, m, &next);
         }
-        Err(fault) => Some(fault),
+        special = special.saturating_add(usize::from(changes_of(position, m).is_none()));
+    }
+    Ok((agree, special))
+}
+
+fn position(rt: &impl Abort, text: &str) -> Position {
+    read_position(text).expect(rt, text).position
+}
+
+// Positions with each kind of move, and how many of their moves are castling, captures en passant and
+// promotions, which are judged from the next position.
+#[test]
+fn moves_change_what_they_say(rt: HostRuntime) {
+    let positions = [
+        (
+            "rnbqkbnr/pppppppp/8/8/8/8/PPPPPPPP/RNBQKBNR w KQkq - 0 1",
+            0,
+        ),
+        (
+            "r3k2r/p1ppqpb1/bn2pnp1/3PN3/1p2P3/2N2Q1p/PPPBBPPP/R3K2R w KQkq - 0 1",
+            2,
+        ),
+        (
+            "r3k2r/p1ppqpb1/bn2pnp1/3PN3/1p2P3/2N2Q1p/PPPBBPPP/R3K2R b KQkq - 0 1",
+            2,
+        ),
+        ("r3k2r/8/8/8/8/8/6N1/R3K2R w KQkq - 0 1", 2),
+        ("r3k2r/8/8/8/8/8/8/R3K2R b Kq - 0 1", 1),
+        (
+            "rnbqkbnr/ppppp1pp/8/5pP1/8/8/PPPPPP1P/RNBQKBNR w KQkq f6 0 3",
+            1,
+        ),
+        ("4k2r/6P1/8/8/8/8/8/4K3 w k - 0 1", 8),
+    ];
+    for (text, wanted) in positions {
+        let position = position(&rt, text);
+        let (agree, special) = all_agree(rt.alloc(), &position).expect(&rt, "memory");
+        assert!(rt; agree, "{text}");
+        assert_eq!(rt; special, wanted, "{text}");
+    }
+}
+
+// A rook that is taken at home takes a right with it.
+#[test]
+fn a_lost_rook_is_a_lost_way(rt: HostRuntime) {
+    let position = position(&rt, "r3k2r/8/8/8/8/8/8/R3K2R w KQkq - 0 1");
+    let sides = sides_of(&position);
+    assert_eq!(rt; (sides.white.ways, sides.black.ways), (3, 3));
+    for m in legal_moves(rt.alloc(), &position)
+        .expect(&rt, "memory")
+        .as_slice()
+    {
+        if m.from.index() == 0 && m.to.index() == 56 {
+            let changes = changes_of(&position, m).expect(&rt, "told");
+            let black = changes.other.expect(&rt, "taken");
+            let black = black.applied(sides.of(Color::Black), sides.black.needs);
+            let white = changes
+                .own
+                .applied(sides.of(Color::White), sides.white.needs);
+            assert_eq!(rt; (white.ways, black.ways, black.men), (2, 2, 2));
+        }
     }
 }

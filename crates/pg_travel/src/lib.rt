@@ -21,6 +21,3 @@ pub use needs::need;
 pub use price_cuts::prices_exclude;
 pub use prices::Prices;
 pub use travel::Travel;
-
-#[cfg(test)]
-mod tests;

@@ -21,6 +21,3 @@ pub use men::Men;
 pub use never::Never;
 pub use one_byte::OneByte;
 pub use takes_nothing::TakesNothing;
-
-#[cfg(test)]
-mod tests;

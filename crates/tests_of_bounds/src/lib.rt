@@ -1,0 +1,14 @@
+//! Tests of what no contract of `pg_captures`, `pg_pawns`, `pg_travel` and `pg_prices` says. They stand apart, since a crate
+//! that has tests is proved twice, without them and with them.
+#![tactic(auto)]
+
+#[cfg(test)]
+mod captures;
+#[cfg(test)]
+mod pawns;
+#[cfg(test)]
+mod prices;
+#[cfg(test)]
+mod texts;
+#[cfg(test)]
+mod travel;

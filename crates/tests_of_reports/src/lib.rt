@@ -1,0 +1,6 @@
+//! Tests of what no contract of `pg_report` says. They stand apart, since a crate
+//! that has tests is proved twice, without them and with them.
+#![tactic(auto)]
+
+#[cfg(test)]
+mod report;

@@ -1,0 +1,48 @@
+//! What a caller proves with no answer of its own.
+ghost use Rattle.std.specs.Prelude.{◌≡◌, ◌≤◌, ◌↔◌, IsTrue, IsSome, Some, Ok, IfOk};
+ghost use Rattle.pg_fen.specs.DiagramText.{IsDiagram};
+ghost use Rattle.pg_fen.specs.Packing.{packed_of};
+ghost use Rattle.pg_fen.specs.PlacementText.{placement_text};
+
+use pg_fen::{Diagram, FenFault, Length, LengthFault};
+use std::test::Fail;
+
+// The length that is written and read again.
+fn read_back(length: Length) -> Result<Length, LengthFault>
+    ensures { result ≡ Ok length }
+{
+    Length::read(length.write().as_str())
+}
+
+// One ply more, where that is a length.
+fn longer(length: Length) -> Option<Length>
+    ensures { IsSome result ↔ (length ≤ 127) }
+{
+    Length::from_plies(length.plies() + 1)
+}
+
+// The diagram that is written and read again.
+fn read_diagram_back(diagram: &Diagram) -> Result<Diagram, FenFault>
+    ensures { result ≡ Ok diagram.now }
+{
+    Diagram::read(diagram.write().as_str())
+}
+
+// Whether two diagrams are one, by their bytes.
+fn same_bytes(a: &Diagram, b: &Diagram) -> bool
+    ensures { IsTrue result ↔ (a.now ≡ b.now) }
+{
+    let (x, y) = (a.packed(), b.packed());
+    x == y
+}
+
+#[test]
+fn calls(rt: HostRuntime) -> Result<(), Fail> {
+    let length = Length::read("18.5")?;
+    assert!(rt; read_back(length)? == length);
+    assert_eq!(rt; longer(length).map(|l| l.plies()), Some(38));
+    let diagram = Diagram::read("4k3/8/8/8/8/8/8/4K3")?;
+    assert!(rt; read_diagram_back(&diagram)? == diagram);
+    assert!(rt; same_bytes(&diagram, &diagram));
+    Ok(())
+}

@@ -1,0 +1,357 @@
+use super::*;
+use pg_san::{AddFault, Games, GamesFault, SanFault, read_games};
+use std::alloc::Global;
+use std::fmt::Display;
+
+// The games of three plies to one placement, one by en passant, in canonical order.
+const FOUR: [&str; 4] = [
+    "1. e4 a6 2. e5 d5 3. exd6",
+    "1. e4 a6 2. e5 d6 3. exd6",
+    "1. e4 d5 2. exd5 a6 3. d6",
+    "1. e4 d6 2. e5 a6 3. exd6",
+];
+
+const FOUR_BY_SQUARES: [&str; 4] = [
+    "e2e4 a7a6 e4e5 d7d5 e5d6",
+    "e2e4 a7a6 e4e5 d7d6 e5d6",
+    "e2e4 d7d5 e4d5 a7a6 d5d6",
+    "e2e4 d7d6 e4e5 a7a6 e5d6",
+];
+
+const WHITE: [&str; 16] = [
+    "a2a3", "a2a4", "b2b3", "b2b4", "c2c3", "c2c4", "d2d3", "d2d4", "e2e3", "e2e4", "f2f3", "f2f4",
+    "g2g3", "g2g4", "h2h3", "h2h4",
+];
+
+const BLACK: [&str; 20] = [
+    "Na6", "Nc6", "Nf6", "Nh6", "a6", "a5", "b6", "b5", "c6", "c5", "d6", "d5", "e6", "e5", "f6",
+    "f5", "g6", "g5", "h6", "h5",
+];
+
+// One of 4,480 different games of three plies: White moves pawns of two files, Black anything.
+fn line(i: usize) -> [&'static str; 3] {
+    let first = i / 280 % 16;
+    let other = i % 14;
+    let second = if other < first / 2 * 2 {
+        other
+    } else {
+        other + 2
+    };
+    [WHITE[first], BLACK[i / 14 % 20], WHITE[second]]
+}
+
+// A text and then another.
+fn push(rt: &impl Abort, text: &mut String, more: &str) {
+    assert!(rt; text.push_str(more).is_ok());
+}
+
+// A text so many times.
+fn repeated<R: Abort + AllocGlobal>(rt: &R, part: &str, times: usize) -> String {
+    let mut text = String::new(rt.alloc());
+    for _ in 0..times {
+        push(rt, &mut text, part);
+    }
+    text
+}
+
+// So many different games, a line each.
+fn many_lines<R: Abort + AllocGlobal>(rt: &R, count: usize) -> String {
+    let mut text = String::new(rt.alloc());
+    for i in 0..count {
+        for word in line(i) {
+            push(rt, &mut text, word);
+            push(rt, &mut text, " ");
+        }
+        push(rt, &mut text, "\n");
+    }
+    text
+}
+
+fn fault_of(alloc: Global, text: &str) -> Option<GamesFault> {
+    match read_games(alloc, text) {
+        Ok(_) => None,
+        Err(fault) => Some(fault),
+    }
+}
+
+fn bad(line: usize, ply: usize, cause: SanFault) -> Option<GamesFault> {
+    Some(GamesFault::At { line, ply, cause })
+}
+
+fn push_square(rt: &impl Abort, text: &mut String, square: Square) {
+    assert!(rt; text.push(char::from(square.file() + 96)).is_ok());
+    assert!(rt; text.push(char::from(square.rank() + 48)).is_ok());
+}
+
+// A game by the squares that its men leave and come to.
+fn by_squares<R: Abort + AllocGlobal>(rt: &R, game: &[Move]) -> String {
+    let mut text = String::new(rt.alloc());
+    for m in game {
+        if !text.is_empty() {
+            push(rt, &mut text, " ");
+        }
+        push_square(rt, &mut text, m.from);
+        push_square(rt, &mut text, m.to);
+    }
+    text
+}
+
+// That the list holds these games in this order, and no more.
+fn check_games<R: Abort + AllocGlobal>(rt: &R, games: &Games, wanted: &[&str]) {
+    assert_eq!(rt; games.len(), wanted.len());
+    for (i, squares) in wanted.iter().enumerate() {
+        let game = games.game(i).expect(rt, squares);
+        assert_eq!(rt; by_squares(rt, game).as_str(), *squares);
+        assert!(rt; games.contains(game), "{squares}");
+    }
+    assert!(rt; games.game(wanted.len()).is_none());
+}
+
+// The games of a text.
+fn list<R: Abort + AllocGlobal>(rt: &R, text: &str) -> Games {
+    let Ok(games) = read_games(rt.alloc(), text) else {
+        panic!(rt; "a list of games");
+    };
+    games
+}
+
+// That a text is a list of these games.
+fn check_list<R: Abort + AllocGlobal>(rt: &R, text: &str, wanted: &[&str]) {
+    check_games(rt, &list(rt, text), wanted);
+}
+
+// That a text is no list.
+fn check_fault<R: Abort + AllocGlobal>(rt: &R, text: &str, wanted: Option<GamesFault>) {
+    assert_eq!(rt; fault_of(rt.alloc(), text), wanted);
+}
+
+#[test]
+fn four_games(rt: HostRuntime) {
+    let text = "\n1. e4 d6 2. e5 a6 3. exd6\r\n \t\n1. e4 a6 2. e5 d6 3. exd6\n\
+        1.e4 d5\t2.exd5 a6 3.d6\n\r\n1. e4 a6 2. e5 d5 3. exd6e.p.\r";
+    check_list(&rt, text, &FOUR_BY_SQUARES);
+    let lapsed = "1. e4 d5 2. e5 a6 3. exd6";
+    check_fault(&rt, lapsed, bad(1, 5, SanFault::NoSuchMove));
+}
+
+#[test]
+fn empty_lists(rt: HostRuntime) {
+    for text in ["", "\n", "\r\n \t\r\n\n", "\r"] {
+        check_list(&rt, text, &[]);
+    }
+    check_games(&rt, &Games::new(rt.alloc()), &[]);
+}
+
+#[test]
+fn games_of_no_move(rt: HostRuntime) {
+    for text in ["-", "\t- \r\n", "1.", "\n1... 27.\n"] {
+        check_list(&rt, text, &[""]);
+    }
+    check_fault(&rt, "-\n\n1.", Some(GamesFault::Repeated { line: 3 }));
+    check_list(&rt, "e4 e5\n-\ne4", &["", "e2e4", "e2e4 e7e5"]);
+}
+
+// That two spellings are one game.
+fn check_spellings<R: Abort + AllocGlobal>(rt: &R, first: &str, second: &str) {
+    let mut text = repeated(rt, first, 1);
+    push(rt, &mut text, "\n");
+    push(rt, &mut text, second);
+    check_fault(rt, text.as_str(), Some(GamesFault::Repeated { line: 2 }));
+}
+
+#[test]
+fn one_game_in_three_spellings(rt: HostRuntime) {
+    let spellings = ["1.e4 e5", "1. e4 e5", "e2-e4 e7-e5"];
+    for first in spellings {
+        for second in spellings {
+            check_spellings(&rt, first, second);
+        }
+    }
+}
+
+#[test]
+fn bad_words(rt: HostRuntime) {
+    for (text, line, ply) in [
+        ("1. e4 e5 *", 1, 3),
+        ("e4\n\n1. d4 d5 2. 1-0", 3, 3),
+        ("1.1.e4", 1, 1),
+        ("1.e4 1.1. e5", 1, 2),
+        ("1 e4", 1, 1),
+        (".e4", 1, 1),
+        ("- -", 1, 1),
+        ("1.-", 1, 1),
+        ("e4\re5", 1, 1),
+        ("e4\r\r\n", 1, 1),
+        ("\r e4", 1, 1),
+        ("e4 e\0", 1, 2),
+        ("e4 é5", 1, 2),
+        ("e4\u{a0}e5", 1, 1),
+    ] {
+        check_fault(&rt, text, bad(line, ply, SanFault::Shape));
+    }
+    let ambiguous = "1. Nf3 a6 2. d4 a5 3. Nd2";
+    check_fault(&rt, ambiguous, bad(1, 5, SanFault::Ambiguous));
+}
+
+#[test]
+fn a_word_of_two_million_characters(rt: HostRuntime) {
+    let mut word = repeated(&rt, "1", 1_000_000);
+    check_fault(&rt, word.as_str(), bad(1, 1, SanFault::Shape));
+    let dots = repeated(&rt, ".", 1_000_000);
+    push(&rt, &mut word, dots.as_str());
+    check_list(&rt, word.as_str(), &[""]);
+    push(&rt, &mut word, "x");
+    check_fault(&rt, word.as_str(), bad(1, 1, SanFault::Shape));
+}
+
+#[test]
+fn too_many(rt: HostRuntime) {
+    let same = repeated(&rt, "e4\n", 4097);
+    check_fault(&rt, same.as_str(), Some(GamesFault::Repeated { line: 2 }));
+    let more = many_lines(&rt, 4097);
+    check_fault(&rt, more.as_str(), Some(GamesFault::TooMany { line: 4097 }));
+    let mut most = many_lines(&rt, 4096);
+    push(&rt, &mut most, " \n\n");
+    assert_eq!(rt; list(&rt, most.as_str()).len(), 4096);
+    push(&rt, &mut most, "?");
+    check_fault(&rt, most.as_str(), Some(GamesFault::TooMany { line: 4099 }));
+}
+
+// That a game is added, or why it is not.
+fn check_add(rt: &impl Abort, games: &mut Games, game: &[Move], wanted: Result<(), AddFault>) {
+    assert_eq!(rt; games.add(game), wanted);
+}
+
+// The same, of the one game of a text.
+fn check_add_text<R: Abort + AllocGlobal>(
+    rt: &R,
+    games: &mut Games,
+    text: &str,
+    wanted: Result<(), AddFault>,
+) {
+    let list = list(rt, text);
+    assert_eq!(rt; list.len(), 1, "{text}");
+    check_add(rt, games, list.game(0).expect(rt, text), wanted);
+}
+
+// That a game is refused with its last move once more behind it.
+fn check_late<R: Abort + AllocGlobal>(rt: &R, games: &mut Games, text: &str, ply: usize) {
+    let list = list(rt, text);
+    let game = list.game(0).expect(rt, text);
+    let Ok(mut late) = Vec::from_slice(rt.alloc(), game) else {
+        panic!(rt; "memory");
+    };
+    let last = *late.last().expect(rt, text);
+    assert!(rt; late.push(last).is_ok());
+    check_add(rt, games, late.as_slice(), Err(AddFault::IllegalMove(ply)));
+}
+
+#[test]
+fn adds_in_any_order(rt: HostRuntime) {
+    let mut games = Games::new(rt.alloc());
+    for text in FOUR.iter().rev() {
+        check_add_text(&rt, &mut games, text, Ok(()));
+        check_add_text(&rt, &mut games, text, Err(AddFault::Repeated));
+    }
+    check_games(&rt, &games, &FOUR_BY_SQUARES);
+    let illegal = [Move {
+        from: Square::at(12),
+        to: Square::at(36),
+        promotion: None,
+    }];
+    check_add(&rt, &mut games, &illegal, Err(AddFault::IllegalMove(1)));
+    check_late(&rt, &mut games, FOUR[0], 6);
+    check_games(&rt, &games, &FOUR_BY_SQUARES);
+}
+
+#[test]
+fn adds_up_to_4096(rt: HostRuntime) {
+    let mut games = Games::new(rt.alloc());
+    let text = many_lines(&rt, 4097);
+    for (i, words) in text.as_str().lines().enumerate() {
+        let full = if i < 4096 {
+            Ok(())
+        } else {
+            Err(AddFault::TooMany)
+        };
+        check_add_text(&rt, &mut games, words, full);
+    }
+    check_add_text(&rt, &mut games, "a3 Na6 b3", Err(AddFault::TooMany));
+    assert_eq!(rt; games.len(), 4096);
+}
+
+// Where a growth is refused the list stays as it was, and the next try adds the game.
+fn add_at_last<R: Abort + AllocGlobal>(rt: &R, games: &mut Games, game: &[Move]) {
+    let held = games.len();
+    for _ in 0..9 {
+        match games.add(game) {
+            Ok(()) => return,
+            Err(fault) => {
+                assert_eq!(rt; fault, AddFault::Memory);
+                assert_eq!(rt; games.len(), held);
+                assert!(rt; !games.contains(game));
+            }
+        }
+    }
+}
+
+// Passes too where `rt try --test --fail-alloc N` refuses the N-th growth.
+#[test]
+fn refused_growths(rt: HostRuntime) {
+    let text = "1. e4 d6 2. e5 a6 3. exd6\n1. e4 a6 2. e5 d6 3. exd6\n1.e4 d5 2. exd5 a6 3. d6\n-";
+    for _ in 0..9 {
+        match read_games(rt.alloc(), text) {
+            Ok(games) => {
+                let mut again = Games::new(rt.alloc());
+                for i in [2, 0, 3, 1] {
+                    add_at_last(&rt, &mut again, games.game(i).expect(&rt, "four games"));
+                }
+                assert_eq!(rt; again.len(), 4);
+            }
+            Err(fault) => assert_eq!(rt; fault, GamesFault::Memory),
+        }
+    }
+}
+
+// A word that is not read is told, and not want of memory: passes too where
+// `rt try --test --fail-alloc N` refuses the N-th growth.
+#[test]
+fn bad_words_behind_refused_growths(rt: HostRuntime) {
+    for _ in 0..9 {
+        let fault = read_games(rt.alloc(), "1. e4 e5 2. Nf3 Nc6 3. Bb5 a6 4. Ke3").err();
+        let wanted = GamesFault::At {
+            line: 1,
+            ply: 7,
+            cause: SanFault::NoSuchMove,
+        };
+        assert_eq!(rt; fault, Some(wanted));
+    }
+}
+
+// That a fault is shown by a text.
+fn check_shown<R: Abort + AllocGlobal, T: Display>(rt: &R, fault: &T, wanted: &str) {
+    let Ok(text) = format!(in rt.alloc(); "{fault}") else {
+        panic!(rt; "memory");
+    };
+    assert_eq!(rt; text.as_str(), wanted);
+}
+
+// That the fault of a text is shown so.
+fn check_read<R: Abort + AllocGlobal>(rt: &R, text: &str, wanted: &str) {
+    let fault = fault_of(rt.alloc(), text).expect(rt, text);
+    check_shown(rt, &fault, wanted);
+}
+
+#[test]
+fn texts_of_faults(rt: HostRuntime) {
+    check_read(&rt, "e4\n1. e4 e5 *", "line 2, ply 3: not a move");
+    check_read(&rt, "e5", "line 1, ply 1: no such legal move");
+    check_read(&rt, "Nf3 a6 d4 a5 Nd2", "line 1, ply 5: ambiguous move");
+    check_read(&rt, "e4\n\ne4", "line 3: repeated game");
+    let full = GamesFault::TooMany { line: 4097 };
+    check_shown(&rt, &full, "line 4097: more than 4096 games");
+    check_shown(&rt, &AddFault::IllegalMove(3), "illegal move at ply 3");
+    check_shown(&rt, &AddFault::TooMany, "more than 4096 games");
+    check_shown(&rt, &AddFault::Repeated, "repeated game");
+    check_shown(&rt, &AddFault::Memory, "out of memory");
+}
