@@ -5,7 +5,7 @@
 # command may be told as ever, since a word that is like them is looked for in vain. The refusals are made by a library of
 # a dozen lines that stands before malloc and realloc, for which a C compiler is wanted (CC, or cc).
 #
-# Then each test of the crates below whose name begins with `refused_growths` is run in the same way: it is to pass with
+# Then each test of the crates below with `refused_growths` in its name is run in the same way: it is to pass with
 # each growth refused. Where a crate's tests are not built, or not since a change of its sources, they are proved and built
 # first, which takes minutes. Quiet where all is so; else prints what was wrong, and ends with status 1. PG may name the
 # program.
@@ -90,10 +90,19 @@ refuse 40 why "$open" 1.0 good.pgc 'd4'
 refuse 40 upgrade old.pgc new.pgc
 refuse 40 upgrade old.pgc old.pgc
 
+# The folder of the crate $1, and those of the crates that it stands on.
+folders() {
+  local name
+  for name in "$1" $(sed -n "s/^$1://p" "$top/crates.txt"); do
+    [ ! -d "$top/crates/$name" ] || echo "$top/crates/$name"
+  done
+}
+
 # Runs each test of the crate $1 for refused growths, refusing each growth in turn.
 refuse_tests() {
-  local tests="$top/crates/$1/out/$1_tests" name number found=
-  if [ ! -x "$tests" ] || [ -n "$(find "$top/crates/$1" -path '*/out' -prune -o -name '*.rt' -newer "$tests" -print -quit)" ]; then
+  local tests="$top/crates/$1/out/$1_tests" name number found= stands
+  mapfile -t stands < <(folders "$1")
+  if [ ! -x "$tests" ] || [ -n "$(find "${stands[@]}" -path '*/out' -prune -o -name '*.rt' -newer "$tests" -print -quit)" ]; then
     (cd "$top/crates/$1" && rt test) >"$work/err" 2>&1 || { say 0 "$1" "its tests do not pass"; return; }
     touch "$tests"
   fi
@@ -111,7 +120,7 @@ refuse_tests() {
   done
   [ -n "$found" ] || { : >"$work/err"; say 0 "$1" "no test of refused growths"; }
 }
-for crate in pg_moves pg_san pg_checker pg_searcher pg_report pg_guide; do
+for crate in tests_of_rules tests_of_checker tests_of_searcher tests_of_reports tests_of_guide; do
   refuse_tests "$crate"
 done
 exit "$wrong"

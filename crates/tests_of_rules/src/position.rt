@@ -1,31 +1,11 @@
 mod games;
 mod positions;
 
+use crate::texts::{move_of, square};
 use pg_board::{Board, Color, Kind, Man, Square};
+use pg_fen::man_of;
 use pg_position::{BadPosition, Illegal, Move, Position, Rights};
 use std::process::Abort;
-
-fn kind_of(letter: u8) -> Option<Kind> {
-    match letter.to_ascii_lowercase() {
-        b'p' => Some(Kind::Pawn),
-        b'n' => Some(Kind::Knight),
-        b'b' => Some(Kind::Bishop),
-        b'r' => Some(Kind::Rook),
-        b'q' => Some(Kind::Queen),
-        b'k' => Some(Kind::King),
-        _ => None,
-    }
-}
-
-fn man_of(letter: u8) -> Option<Man> {
-    let kind = kind_of(letter)?;
-    let color = if letter.is_ascii_uppercase() {
-        Color::White
-    } else {
-        Color::Black
-    };
-    Some(Man { color, kind })
-}
 
 // The board of a placement as a FEN writes it, from a8 to h1.
 fn board(text: &str) -> Board {
@@ -51,31 +31,6 @@ fn rights(text: &str) -> Rights {
         white_queen: holds(b'Q'),
         black_king: holds(b'k'),
         black_queen: holds(b'q'),
-    }
-}
-
-// The square of a name such as `e4`.
-fn square(rt: &impl Abort, name: &str) -> Square {
-    let bytes = name.as_bytes();
-    assert!(rt; bytes.len() >= 2, "{name}");
-    assert!(rt; bytes[0] >= b'a' && bytes[1] >= b'0', "{name}");
-    Square::new(bytes[0] - b'a' + 1, bytes[1] - b'0').expect(rt, name)
-}
-
-// The move of a text such as `e2e4` or `e7e8q`.
-fn move_of(rt: &impl Abort, text: &str) -> Move {
-    let bytes = text.as_bytes();
-    assert!(rt; bytes.len() >= 4, "{text}");
-    assert!(rt; bytes[0] >= b'a' && bytes[1] >= b'0', "{text}");
-    assert!(rt; bytes[2] >= b'a' && bytes[3] >= b'0', "{text}");
-    Move {
-        from: Square::new(bytes[0] - b'a' + 1, bytes[1] - b'0').expect(rt, text),
-        to: Square::new(bytes[2] - b'a' + 1, bytes[3] - b'0').expect(rt, text),
-        promotion: if bytes.len() == 5 {
-            kind_of(bytes[4])
-        } else {
-            None
-        },
     }
 }
 

@@ -102,11 +102,18 @@ fn texts(rt: HostRuntime) -> Result<(), std::test::Fail> {
 fn order_of_moves(rt: HostRuntime) {
     let plain = move_of(&rt, "b7b8");
     let mut last = plain;
-    for letter in [b'p', b'n', b'b', b'r', b'q', b'k'] {
+    for kind in [
+        Kind::Pawn,
+        Kind::Knight,
+        Kind::Bishop,
+        Kind::Rook,
+        Kind::Queen,
+        Kind::King,
+    ] {
         let next = Move {
             from: plain.from,
             to: plain.to,
-            promotion: kind_of(letter),
+            promotion: Some(kind),
         };
         assert!(rt; last < next);
         last = next;

@@ -1,4 +1,5 @@
 use super::*;
+use pg_board::Square;
 use pg_san::{AddFault, Games, GamesFault, SanFault, read_games};
 use std::alloc::Global;
 use std::fmt::Display;
