@@ -120,7 +120,7 @@ refuse_tests() {
   done
   [ -n "$found" ] || { : >"$work/err"; say 0 "$1" "no test of refused growths"; }
 }
-for crate in tests_of_rules tests_of_checker tests_of_searcher tests_of_reports tests_of_guide; do
+for crate in tests_of_rules tests_of_checker tests_of_searcher tests_of_reports; do
   refuse_tests "$crate"
 done
 exit "$wrong"

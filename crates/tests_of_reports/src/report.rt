@@ -10,20 +10,16 @@ mod runs;
 mod shown_diagrams;
 mod upgrades;
 
+use crate::shared::{AFTER_E4_E5, ARRAY, diagram_of, four_bounds, length_of, text_of};
 use pg_report::*;
 use pg_trial::{FailsAt, OneByte};
 use std::alloc::Global;
 use std::fmt::Display;
 use std::io::ErrorKind;
 use std::process::Abort;
-use std::str;
 
 // More than any certificate here needs.
 const MANY: u64 = 1_000_000;
-
-const ARRAY: &str = "rnbqkbnr/pppppppp/8/8/8/8/PPPPPPPP/RNBQKBNR";
-
-const AFTER_E4_E5: &str = "rnbqkbnr/pppp1ppp/8/4p3/4P3/8/PPPP1PPP/RNBQKBNR";
 
 const SCHWEIG: &str = "r1bqkbnr/ppp2ppp/3p4/8/8/8/PPPPPPPP/R1BQKBNR";
 
@@ -97,36 +93,6 @@ const FOOLS_MATE: [&str; 3] = [
     "1. f3 e5 2. g4 Qh4#\n1. g4 e5 2. f3 Qh4#",
 ];
 
-// The diagram that a text gives.
-fn diagram_of(rt: &impl Abort, text: &str) -> Diagram {
-    Diagram::read(text).expect(rt, "a diagram")
-}
-
-// The length that a text gives.
-fn length_of(rt: &impl Abort, text: &str) -> Length {
-    Length::read(text).expect(rt, "a length")
-}
-
-// A bound in a box.
-fn boxed<R: Abort + AllocGlobal, B: Bound>(rt: &R, bound: B) -> Box<B> {
-    Box::new(rt.alloc(), bound).expect(rt, "memory")
-}
-
-// Puts a bound behind the others.
-fn add(rt: &impl Abort, bounds: &mut Vec<Box<dyn Bound>>, bound: Box<dyn Bound>) {
-    bounds.push(bound).expect(rt, "memory");
-}
-
-// The four bounds of the program.
-fn bounds<R: Abort + AllocGlobal>(rt: &R) -> Vec<Box<dyn Bound>> {
-    let mut bounds: Vec<Box<dyn Bound>> = Vec::new(rt.alloc());
-    add(rt, &mut bounds, boxed(rt, Captures));
-    add(rt, &mut bounds, boxed(rt, Promotions));
-    add(rt, &mut bounds, boxed(rt, PawnFiles));
-    add(rt, &mut bounds, boxed(rt, Travel));
-    bounds
-}
-
 // What is answered with the four bounds.
 fn answered<R: Abort + AllocGlobal, S: Source, W: Sink>(
     rt: &R,
@@ -135,7 +101,7 @@ fn answered<R: Abort + AllocGlobal, S: Source, W: Sink>(
     out: &mut W,
     max_records: u64,
 ) -> Result<Verdict, RunFault> {
-    let bounds = bounds(rt);
+    let bounds = four_bounds(rt);
     let [diagram, length, games] = texts;
     run_check(
         rt.alloc(),
@@ -210,11 +176,6 @@ fn failing_source(bytes: &[u8], at: u64) -> FromRead<FailsAt<OneByte<&[u8]>>> {
 // A sink where the write with this number fails.
 fn failing_sink(alloc: Global, at: u64) -> ToWrite<FailsAt<Vec<u8>>> {
     ToWrite::new(FailsAt::new(Vec::new(alloc), at, ErrorKind::Interrupted))
-}
-
-// The bytes as a text.
-fn text_of<'a>(rt: &impl Abort, bytes: &'a [u8]) -> &'a str {
-    str::from_utf8(bytes).expect(rt, "a text")
 }
 
 // What was written.

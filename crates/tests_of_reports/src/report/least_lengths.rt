@@ -1,4 +1,5 @@
 use super::*;
+use crate::shared::{add, boxed};
 use pg_moves::legal_moves;
 use pg_position::Position;
 use pg_trial::Never;
@@ -14,7 +15,7 @@ fn least_by<R: Abort + AllocGlobal>(
 
 // The least number of plies that no bound of the program excludes.
 fn least<R: Abort + AllocGlobal>(rt: &R, diagram: &Diagram) -> Option<u8> {
-    least_by(rt, diagram, &bounds(rt)).map(|length| length.plies())
+    least_by(rt, diagram, &four_bounds(rt)).map(|length| length.plies())
 }
 
 // The least number of plies for a diagram.

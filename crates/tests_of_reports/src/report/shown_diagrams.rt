@@ -10,7 +10,7 @@ fn shown<R: Abort + AllocGlobal, W: Sink>(
     diagram: &str,
     out: &mut W,
 ) -> Result<(), ShowFault> {
-    run_show(rt.alloc(), diagram, &bounds(rt), out)
+    run_show(rt.alloc(), diagram, &four_bounds(rt), out)
 }
 
 // The lines below the board.

@@ -102,18 +102,11 @@ fn texts(rt: HostRuntime) -> Result<(), std::test::Fail> {
 fn order_of_moves(rt: HostRuntime) {
     let plain = move_of(&rt, "b7b8");
     let mut last = plain;
-    for kind in [
-        Kind::Pawn,
-        Kind::Knight,
-        Kind::Bishop,
-        Kind::Rook,
-        Kind::Queen,
-        Kind::King,
-    ] {
+    for letter in *b"pnbrqk" {
         let next = Move {
             from: plain.from,
             to: plain.to,
-            promotion: Some(kind),
+            promotion: man_of(letter).map(|man| man.kind),
         };
         assert!(rt; last < next);
         last = next;

@@ -3,65 +3,23 @@ mod growths;
 mod lines;
 mod refusals;
 
-use pg_captures::{Bound, Captures, Promotions};
+use crate::shared::{AFTER_E4_E5, ARRAY, diagram_of, four_bounds, length_of, text_of};
+use pg_captures::Bound;
 use pg_certificate::{FromRead, Sink, Source, ToWrite};
-use pg_fen::{Diagram, Length};
 use pg_guide::*;
-use pg_pawns::PawnFiles;
-use pg_travel::Travel;
 use std::alloc::Global;
 use std::fmt::Write;
 use std::process::Abort;
-use std::str;
 
 // More records than any certificate here has.
 const MANY: u64 = 1_000_000;
 
-const ARRAY: &str = "rnbqkbnr/pppppppp/8/8/8/8/PPPPPPPP/RNBQKBNR";
-
 const AFTER_E4: &str = "rnbqkbnr/pppppppp/8/8/4P3/8/PPPP1PPP/RNBQKBNR";
-
-const AFTER_E4_E5: &str = "rnbqkbnr/pppp1ppp/8/4p3/4P3/8/PPPP1PPP/RNBQKBNR";
 
 // Three moves of White's and two of Black's by distances, but White's bishop is shut in.
 const SHUT_IN: &str = "rnbqkbnr/1pppppp1/p6p/8/8/P3B2P/1PPPPPP1/RN1QKBNR";
 
 const RIGHT: &str = "the certificate is right\n";
-
-// The diagram that a text gives.
-fn diagram_of(rt: &impl Abort, text: &str) -> Diagram {
-    Diagram::read(text).expect(rt, "a diagram")
-}
-
-// The length that a text gives.
-fn length_of(rt: &impl Abort, text: &str) -> Length {
-    Length::read(text).expect(rt, "a length")
-}
-
-// The bytes as a text.
-fn text_of<'a>(rt: &impl Abort, bytes: &'a [u8]) -> &'a str {
-    str::from_utf8(bytes).expect(rt, "a text")
-}
-
-// A bound in a box.
-fn boxed<R: Abort + AllocGlobal, B: Bound>(rt: &R, bound: B) -> Box<B> {
-    Box::new(rt.alloc(), bound).expect(rt, "memory")
-}
-
-// Puts a bound behind the others.
-fn add(rt: &impl Abort, bounds: &mut Vec<Box<dyn Bound>>, bound: Box<dyn Bound>) {
-    bounds.push(bound).expect(rt, "memory");
-}
-
-// The bounds by captures, promotions, pawn files and travel.
-fn bounds<R: Abort + AllocGlobal>(rt: &R) -> Vec<Box<dyn Bound>> {
-    let mut bounds: Vec<Box<dyn Bound>> = Vec::new(rt.alloc());
-    add(rt, &mut bounds, boxed(rt, Captures));
-    add(rt, &mut bounds, boxed(rt, Promotions));
-    add(rt, &mut bounds, boxed(rt, PawnFiles));
-    add(rt, &mut bounds, boxed(rt, Travel));
-    bounds
-}
 
 // This is answered with the four bounds, by three readings of the certificate.
 fn check_answer<R: Abort + AllocGlobal, S: Source, W: Sink>(
@@ -73,7 +31,7 @@ fn check_answer<R: Abort + AllocGlobal, S: Source, W: Sink>(
     out: &mut W,
     wanted: &Result<(), WhyFault>,
 ) {
-    let bounds = bounds(rt);
+    let bounds = four_bounds(rt);
     let answer = why(
         rt.alloc(),
         asked,

@@ -1,6 +1,0 @@
-//! Tests of what no contract of `pg_guide` says. They stand apart, since a crate
-//! that has tests is proved twice, without them and with them.
-#![tactic(auto)]
-
-#[cfg(test)]
-mod guide;
