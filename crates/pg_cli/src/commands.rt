@@ -61,139 +61,177 @@ Example, with the certificate that the initial array is reached in no move:
   echo UEdDMQAkUzZCEREREQAAAAAAAAAAAAAAAAAAAACZmZmZrNu+yg== | base64 -d >v1.pgc
   pg upgrade v1.pgc v2.pgc";
 
-// `pg` with its commands.
-pub(crate) fn pg<'a>(alloc: Global) -> Result<Command<'a>, AllocError> {
-    Command::new(alloc, "pg")
-        .version("1.0.0")
-        .about(ABOUT)
-        .after_help(EXAMPLE)
-        .subcommand_required(true)
-        .arg_required_else_help(true)
-        .subcommand(show(alloc)?)?
-        .subcommand(moves(alloc)?)?
-        .subcommand(count(alloc)?)?
-        .subcommand(check(alloc)?)?
-        .subcommand(search(alloc)?)?
-        .subcommand(why(alloc)?)?
-        .subcommand(upgrade(alloc)?)
+// What may stand behind a command.
+#[derive(Clone, Copy)]
+enum Word {
+    Fen,
+    Plies,
+    Diagram,
+    Length,
+    Certificate,
+    Games,
+    Moves,
+    Draft,
+    Old,
+    New,
+    Records,
+    Nodes,
 }
+
+// A command: its name, what it does, what stands below its help, and its words in their order.
+struct Entry {
+    name: &'static str,
+    about: &'static str,
+    below: &'static str,
+    words: &'static [Word],
+}
+
+const COMMANDS: [Entry; 7] = [
+    Entry {
+        name: "show",
+        about: "Prints the board of a diagram, and what is known of it at once",
+        below: SHOW_EXAMPLE,
+        words: &[Word::Diagram],
+    },
+    Entry {
+        name: "moves",
+        about: "Prints the legal moves of a position, one a line",
+        below: MOVES_EXAMPLE,
+        words: &[Word::Fen],
+    },
+    Entry {
+        name: "count",
+        about: "Prints the number of games of so many plies from a position",
+        below: COUNT_EXAMPLE,
+        words: &[Word::Fen, Word::Plies],
+    },
+    Entry {
+        name: "check",
+        about: "Checks a certificate against a list of games, and prints the report",
+        below: CHECK_EXAMPLE,
+        words: &[
+            Word::Diagram,
+            Word::Length,
+            Word::Certificate,
+            Word::Games,
+            Word::Records,
+        ],
+    },
+    Entry {
+        name: "search",
+        about: "Searches for the games, writes a certificate, checks it, and reports",
+        below: SEARCH_EXAMPLE,
+        words: &[Word::Diagram, Word::Length, Word::Draft, Word::Nodes],
+    },
+    Entry {
+        name: "why",
+        about: "Explains a line of moves by a certificate",
+        below: WHY_EXAMPLE,
+        words: &[
+            Word::Diagram,
+            Word::Length,
+            Word::Certificate,
+            Word::Moves,
+            Word::Records,
+        ],
+    },
+    Entry {
+        name: "upgrade",
+        about: "Copies a certificate of version 1 as one of version 2",
+        below: UPGRADE_EXAMPLE,
+        words: &[Word::Old, Word::New, Word::Records],
+    },
+];
 
 // An argument that must be given.
 fn wanted<'a>(alloc: Global, name: &'a str, help: &'a str) -> Arg<'a> {
     Arg::new(alloc, name).required(true).help(help)
 }
 
-fn position<'a>(alloc: Global) -> Arg<'a> {
-    wanted(
-        alloc,
-        "FEN",
-        "The position: the six fields of a FEN, as one word",
-    )
-}
-
-fn diagram<'a>(alloc: Global) -> Arg<'a> {
-    wanted(
-        alloc,
-        "DIAGRAM",
-        "Where the games end: the placement of a FEN, or all its fields",
-    )
-}
-
-fn length<'a>(alloc: Global) -> Arg<'a> {
-    wanted(
-        alloc,
-        "LENGTH",
-        "In moves, 64.0 at most: 18.5 is 37 plies, 18 and 18.0 are 36",
-    )
-}
-
-fn records<'a>(alloc: Global) -> Arg<'a> {
-    Arg::new(alloc, "records")
-        .long("records")
+// A number that may be given behind its name.
+fn limit<'a>(alloc: Global, name: &'a str, usual: &'a str, least: u64, help: &'a str) -> Arg<'a> {
+    Arg::new(alloc, name)
+        .long(name)
         .value_name("N")
-        .default_value("100000000")
-        .value_parser(ValueParser::unsigned(1, u64::MAX))
-        .help("Refuses a certificate of more records")
+        .default_value(usual)
+        .value_parser(ValueParser::unsigned(least, u64::MAX))
+        .help(help)
 }
 
-fn show<'a>(alloc: Global) -> Result<Command<'a>, AllocError> {
-    Command::new(alloc, "show")
-        .about("Prints the board of a diagram, and what is known of it at once")
-        .after_help(SHOW_EXAMPLE)
-        .arg(diagram(alloc))
-}
-
-fn moves<'a>(alloc: Global) -> Result<Command<'a>, AllocError> {
-    Command::new(alloc, "moves")
-        .about("Prints the legal moves of a position, one a line")
-        .after_help(MOVES_EXAMPLE)
-        .arg(position(alloc))
-}
-
-fn count<'a>(alloc: Global) -> Result<Command<'a>, AllocError> {
-    Command::new(alloc, "count")
-        .about("Prints the number of games of so many plies from a position")
-        .after_help(COUNT_EXAMPLE)
-        .arg(position(alloc))?
-        .arg(wanted(alloc, "PLIES", "How many plies, 8 at most").value_parser(ValueParser::unsigned(
-            0, 255,
-        )))
-}
-
-fn check<'a>(alloc: Global) -> Result<Command<'a>, AllocError> {
-    Command::new(alloc, "check")
-        .about("Checks a certificate against a list of games, and prints the report")
-        .after_help(CHECK_EXAMPLE)
-        .arg(diagram(alloc))?
-        .arg(length(alloc))?
-        .arg(wanted(alloc, "CERT", "The certificate, as `pg search` writes it"))?
-        .arg(Arg::new(alloc, "GAMES").help(
-            "A file with one game a line; standard input where it is missing",
-        ))?
-        .arg(records(alloc))
-}
-
-fn search<'a>(alloc: Global) -> Result<Command<'a>, AllocError> {
-    Command::new(alloc, "search")
-        .about("Searches for the games, writes a certificate, checks it, and reports")
-        .after_help(SEARCH_EXAMPLE)
-        .arg(diagram(alloc))?
-        .arg(length(alloc))?
-        .arg(wanted(
+// The argument that a word is read by.
+fn arg_of<'a>(alloc: Global, word: Word) -> Arg<'a> {
+    match word {
+        Word::Fen => wanted(
             alloc,
-            "CERT",
-            "The plain file that the certificate is written to",
-        ))?
-        .arg(
-            Arg::new(alloc, "nodes")
-                .long("nodes")
-                .value_name("N")
-                .default_value("1000000")
-                .value_parser(ValueParser::unsigned(0, u64::MAX))
-                .help("Gives up where more nodes would be visited"),
-        )
-}
-
-fn why<'a>(alloc: Global) -> Result<Command<'a>, AllocError> {
-    Command::new(alloc, "why")
-        .about("Explains a line of moves by a certificate")
-        .after_help(WHY_EXAMPLE)
-        .arg(diagram(alloc))?
-        .arg(length(alloc))?
-        .arg(wanted(alloc, "CERT", "The certificate, as `pg search` writes it"))?
-        .arg(wanted(
+            "FEN",
+            "The position: the six fields of a FEN, as one word",
+        ),
+        Word::Plies => wanted(alloc, "PLIES", "How many plies, 8 at most").value_parser(
+            ValueParser::unsigned(0, 255),
+        ),
+        Word::Diagram => wanted(
+            alloc,
+            "DIAGRAM",
+            "Where the games end: the placement of a FEN, or all its fields",
+        ),
+        Word::Length => wanted(
+            alloc,
+            "LENGTH",
+            "In moves, 64.0 at most: 18.5 is 37 plies, 18 and 18.0 are 36",
+        ),
+        Word::Certificate => wanted(alloc, "CERT", "The certificate, as `pg search` writes it"),
+        Word::Games => Arg::new(alloc, "GAMES").help(
+            "A file with one game a line; standard input where it is missing",
+        ),
+        Word::Moves => wanted(
             alloc,
             "MOVES",
             "The moves of a game from the array, as one word; - for none",
-        ))?
-        .arg(records(alloc))
+        ),
+        Word::Draft => wanted(
+            alloc,
+            "CERT",
+            "The plain file that the certificate is written to",
+        ),
+        Word::Old => wanted(alloc, "OLD", "The certificate of version 1"),
+        Word::New => wanted(alloc, "NEW", "The plain file that the copy is written to"),
+        Word::Records => limit(
+            alloc,
+            "records",
+            "100000000",
+            1,
+            "Refuses a certificate of more records",
+        ),
+        Word::Nodes => limit(
+            alloc,
+            "nodes",
+            "1000000",
+            0,
+            "Gives up where more nodes would be visited",
+        ),
+    }
 }
 
-fn upgrade<'a>(alloc: Global) -> Result<Command<'a>, AllocError> {
-    Command::new(alloc, "upgrade")
-        .about("Copies a certificate of version 1 as one of version 2")
-        .after_help(UPGRADE_EXAMPLE)
-        .arg(wanted(alloc, "OLD", "The certificate of version 1"))?
-        .arg(wanted(alloc, "NEW", "The plain file that the copy is written to"))?
-        .arg(records(alloc))
+fn command_of<'a>(alloc: Global, entry: &Entry) -> Result<Command<'a>, AllocError> {
+    let mut command = Command::new(alloc, entry.name)
+        .about(entry.about)
+        .after_help(entry.below);
+    for word in entry.words {
+        command = command.arg(arg_of(alloc, *word))?;
+    }
+    Ok(command)
+}
+
+// `pg` with its commands.
+pub(crate) fn pg<'a>(alloc: Global) -> Result<Command<'a>, AllocError> {
+    let mut pg = Command::new(alloc, "pg")
+        .version("1.0.0")
+        .about(ABOUT)
+        .after_help(EXAMPLE)
+        .subcommand_required(true)
+        .arg_required_else_help(true);
+    for entry in &COMMANDS {
+        pg = pg.subcommand(command_of(alloc, entry)?)?;
+    }
+    Ok(pg)
 }

@@ -31,6 +31,28 @@ use std::process::ExitCode;
 use std::rt::Runtime;
 use std::{env, io};
 
+// Does what the words of a command say, with these bounds.
+fn carry_out<'a, R: Runtime + AllocGlobal>(
+    rt: &R,
+    words: &ArgMatches<'a>,
+    bounds: &[Box<dyn Bound>],
+    screen: Screen,
+) -> Result<u8, Refusal<'a>> {
+    let Some((name, inner)) = words.subcommand() else {
+        return Ok(BAD_INPUT);
+    };
+    match name {
+        "show" => positions::show(rt, inner, bounds),
+        "moves" => positions::moves(rt, inner),
+        "count" => positions::count(rt, inner, screen.errors),
+        "check" => checking::check(rt, inner, bounds, screen),
+        "search" => searching::search(rt, inner, bounds, screen.errors),
+        "why" => guiding::why(rt, inner, bounds, screen.errors),
+        "upgrade" => upgrading::upgrade(rt, inner, screen.errors),
+        _ => Ok(BAD_INPUT),
+    }
+}
+
 // Does what the words of a command say, with the four bounds in the order of their codes, and gives
 // the status.
 fn run<R: Runtime + AllocGlobal>(rt: &R, words: &ArgMatches<'_>, screen: Screen) -> io::Result<u8> {
@@ -39,17 +61,7 @@ fn run<R: Runtime + AllocGlobal>(rt: &R, words: &ArgMatches<'_>, screen: Screen)
     bounds.push(Box::new(rt.alloc(), Promotions)?)?;
     bounds.push(Box::new(rt.alloc(), PawnFiles)?)?;
     bounds.push(Box::new(rt.alloc(), Travel)?)?;
-    let answer = match words.subcommand() {
-        Some(("show", inner)) => positions::show(rt, inner, bounds.as_slice()),
-        Some(("moves", inner)) => positions::moves(rt, inner),
-        Some(("count", inner)) => positions::count(rt, inner, screen.errors),
-        Some(("check", inner)) => checking::check(rt, inner, bounds.as_slice(), screen),
-        Some(("search", inner)) => searching::search(rt, inner, bounds.as_slice(), screen.errors),
-        Some(("why", inner)) => guiding::why(rt, inner, bounds.as_slice(), screen.errors),
-        Some(("upgrade", inner)) => upgrading::upgrade(rt, inner, screen.errors),
-        _ => Ok(BAD_INPUT),
-    };
-    match answer {
+    match carry_out(rt, words, bounds.as_slice(), screen) {
         Ok(status) => Ok(status),
         Err(refusal) => Ok(refuse(rt, &refusal)),
     }
