@@ -37,22 +37,23 @@ IsOneLineFault text Moves = (list : List (List Move)) × IsListing text list × 
 IsOneLineFault text (Run (Games fault)) = IsTextFault text fault
 IsOneLineFault text (Run fault) = ⊥
 
--- the certificate is refused: memory, or reading it; or, by the rules, a list of games is not the exact answer to what the
--- texts spell, or the known bytes are no certificate of that within the limits
-abbrev pub IsCertificateFault : (Placement → ℕ → List (List Move) → CheckRules) → List ℕ → List ℕ → ℕ → ℕ → Option (List ℕ) → Bool → Fault → Type 0
-IsCertificateFault rules diagram length max_records max_named known failed fault =
-    (fault ≡ Memory) ⊎ ((fault ≡ Read)
+-- the certificate is refused: memory; or reading it, where the source of one of the two walks has failed; or, by the rules, a
+-- list of games is not the exact answer to what the texts spell, or the known bytes are no certificate of that within the limits
+abbrev pub IsCertificateFault : (Placement → ℕ → List (List Move) → CheckRules) → List ℕ → List ℕ → ℕ → ℕ → Option (List ℕ) → Bool → Bool → Bool → Fault → Type 0
+IsCertificateFault rules diagram length max_records max_named known walked cited failed fault =
+    (fault ≡ Memory) ⊎ (((fault ≡ Read) × ((walked ≡ true) ⊎ (cited ≡ true)))
     ⊎ ((d : Placement) × (n : ℕ) × (list : List (List Move)) × (diagram_of (fields diagram) ≡ Ok d) × (length_of length ≡ Ok n)
     × Accepts (rules d n list) d list max_records max_named known (Err fault)
     × Refuses (rules d n list) d list max_records max_named known failed (Err fault)))
 
 -- why a line is not explained by a certificate that is right: a text is refused, the diagram first, then the length, then
--- the moves; or none of them is, and the certificate is refused, or the sink has failed
-abbrev pub IsWhyFault : (Placement → ℕ → List (List Move) → CheckRules) → List ℕ → List ℕ → List ℕ → ℕ → ℕ → Option (List ℕ) → Bool → Bool → WhyFault → Type 0
-IsWhyFault rules diagram length moves max_records max_named known failed broken Moves = IsProblem diagram length × IsOneLineFault moves Moves
-IsWhyFault rules diagram length moves max_records max_named known failed broken (Run (Diagram fault)) = IsProblemFault diagram length (Diagram fault)
-IsWhyFault rules diagram length moves max_records max_named known failed broken (Run (Length fault)) = IsProblemFault diagram length (Length fault)
-IsWhyFault rules diagram length moves max_records max_named known failed broken (Run (Games fault)) = IsProblem diagram length × IsTextFault moves fault
-IsWhyFault rules diagram length moves max_records max_named known failed broken (Run (Check fault)) =
-    IsProblem diagram length × IsOneLine moves × IsCertificateFault rules diagram length max_records max_named known failed fault
-IsWhyFault rules diagram length moves max_records max_named known failed broken (Run Write) = IsProblem diagram length × IsOneLine moves × (broken ≡ true)
+-- the moves; or none of them is, and the certificate is refused, or the sink has failed. The Bools say whether the sources
+-- of the two walks, that of the check, and the sink have failed
+abbrev pub IsWhyFault : (Placement → ℕ → List (List Move) → CheckRules) → List ℕ → List ℕ → List ℕ → ℕ → ℕ → Option (List ℕ) → Bool → Bool → Bool → Bool → WhyFault → Type 0
+IsWhyFault rules diagram length moves max_records max_named known walked cited failed broken Moves = IsProblem diagram length × IsOneLineFault moves Moves
+IsWhyFault rules diagram length moves max_records max_named known walked cited failed broken (Run (Diagram fault)) = IsProblemFault diagram length (Diagram fault)
+IsWhyFault rules diagram length moves max_records max_named known walked cited failed broken (Run (Length fault)) = IsProblemFault diagram length (Length fault)
+IsWhyFault rules diagram length moves max_records max_named known walked cited failed broken (Run (Games fault)) = IsProblem diagram length × IsTextFault moves fault
+IsWhyFault rules diagram length moves max_records max_named known walked cited failed broken (Run (Check fault)) =
+    IsProblem diagram length × IsOneLine moves × IsCertificateFault rules diagram length max_records max_named known walked cited failed fault
+IsWhyFault rules diagram length moves max_records max_named known walked cited failed broken (Run Write) = IsProblem diagram length × IsOneLine moves × (broken ≡ true)

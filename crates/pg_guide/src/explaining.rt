@@ -1,7 +1,8 @@
 //! A line of moves is explained by a certificate.
-ghost use Rattle.std.specs.Prelude.{◌≡◌, ◌⊎◌, ℕ, List, true, false, length, IfOk, IfErr, OnOk};
+ghost use Rattle.std.specs.Prelude.{◌≡◌, ◌⊎◌, ℕ, List, Bool, true, false, length, IfOk, IfErr, OnOk};
 ghost use Rattle.pg_checker.specs.Cuts.{rules_by};
 ghost use Rattle.pg_san.specs.Listing.{IsListing};
+ghost use Rattle.pg_guide.specs.Stops.{EndsTruly, IsStopFault};
 ghost use Rattle.pg_guide.specs.Why.{IsOneLineFault, IsOneLine, IsProved, IsWhyFault};
 
 use crate::fault::WhyFault;
@@ -58,7 +59,9 @@ fn cited_by<R: Source>(
     machine: &Machine,
     source: &mut R,
     records: u64,
-) -> Result<Option<Cited>, Stop> {
+) -> Result<Option<Cited>, Stop>
+    ensures says { (walked : Bool) → IfErr result (EndsTruly walked (R.has_failed source.new)) }
+{
     let Some(Ending::Said(Record::Ref(number))) = &machine.ending else {
         return Ok(None);
     };
@@ -70,7 +73,8 @@ fn cited_by<R: Source>(
     };
     match walk(alloc, &question, source, records) {
         (_, Err(Stop::Refused)) => Ok(None),
-        (_, Err(stop)) => Err(stop),
+        (_, Err(Stop::Memory)) => Err(Stop::Memory),
+        (_, Err(Stop::Read)) => Err(Stop::Read),
         (machine, Ok(())) => {
             let Machine { cited, .. } = machine;
             Ok(cited)
@@ -85,7 +89,9 @@ fn found<R: Source>(
     walked: &mut R,
     cited: &mut R,
     records: u64,
-) -> Result<Findings, Stop> {
+) -> Result<Findings, Stop>
+    ensures says { IfErr result (EndsTruly (R.has_failed walked.new) (R.has_failed cited.new)) }
+{
     let (machine, answer) = walk(alloc, question, walked, records);
     match answer {
         Ok(()) => {}
@@ -96,7 +102,8 @@ fn found<R: Source>(
                 is_whole: false,
             });
         }
-        Err(stop) => return Err(stop),
+        Err(Stop::Memory) => return Err(Stop::Memory),
+        Err(Stop::Read) => return Err(Stop::Read),
     }
     match cited_by(alloc, question, &machine, cited, records) {
         Ok(cited) => Ok(Findings {
@@ -110,7 +117,7 @@ fn found<R: Source>(
 
 // Why a walk that stops is a fault of the check.
 fn fault_of(stop: Stop) -> WhyFault
-    ensures { (result ≡ WhyFault.Run (RunFault.Check Fault.Memory)) ⊎ (result ≡ WhyFault.Run (RunFault.Check Fault.Read)) }
+    ensures { (walked cited : Bool) → EndsTruly walked cited stop → IsStopFault walked cited result }
 {
     match stop {
         Stop::Memory => WhyFault::Run(RunFault::Check(Fault::Memory)),
@@ -192,7 +199,7 @@ pub fn why<R: Source, W: Sink>(
     ensures runs { OnOk result (W.has_failed out.new ≡ false) }
     ensures err { IfErr result (λ e. IsWhyFault
         (rules_by code_of excluded bounds.now) asked.now.diagram.now asked.now.length.now asked.now.moves.now max_records max_named
-        (R.left checked.old) (R.has_failed checked.new) (W.has_failed out.new) e) }
+        (R.left checked.old) (R.has_failed walked.new) (R.has_failed cited.new) (R.has_failed checked.new) (W.has_failed out.new) e) }
 {
     let problem = match Problem::read(asked.diagram, asked.length) {
         Ok(problem) => problem,

@@ -1,7 +1,8 @@
 //! The walk over the trees of a certificate, with a stack of open nodes.
 
-ghost use Rattle.std.specs.Prelude.{◌≡◌, IfSome};
+ghost use Rattle.std.specs.Prelude.{◌≡◌, Bool, IfErr, IfSome};
 ghost use Rattle.pg_moves.specs.Moves.{IsLegal};
+ghost use Rattle.pg_guide.specs.Stops.{StopsTruly};
 
 use crate::machine::{Cited, Ending, Frame, Machine, Question, Stop, Tally, game_along};
 use crate::play::after;
@@ -14,23 +15,18 @@ use pg_position::{Move, Position};
 use pg_san::{AddFault, Games};
 use std::alloc::Global;
 
-// Why the walk stops where a header or a record is not read.
-fn stop_of(fault: ReadFault) -> Stop {
-    match fault {
-        ReadFault::Read => Stop::Read,
-        _ => Stop::Refused,
-    }
-}
-
 // The next record.
-fn next<S: Source>(machine: &mut Machine, source: &mut S) -> Result<Record, Stop> {
+fn next<S: Source>(machine: &mut Machine, source: &mut S) -> Result<Record, Stop>
+    ensures says { IfErr result (StopsTruly (S.has_failed source.new)) }
+{
     if machine.records == 0 {
         return Err(Stop::Refused);
     }
     machine.records -= 1;
     match machine.reader.next_record(source) {
         Ok(record) => Ok(record),
-        Err(fault) => Err(stop_of(fault)),
+        Err(ReadFault::Read) => Err(Stop::Read),
+        Err(_) => Err(Stop::Refused),
     }
 }
 
@@ -46,7 +42,9 @@ fn enter(
     left: u8,
     record: &Record,
     on_line: bool,
-) -> Result<(), Stop> {
+) -> Result<(), Stop>
+    ensures says { (failed : Bool) → IfErr result (StopsTruly failed) }
+{
     let Record::Expand { named } = record else {
         if on_line {
             machine.ending = Some(Ending::Said(*record));
@@ -67,7 +65,9 @@ fn enter(
 }
 
 // A game of the tree's length ends on the diagram. The list takes it where that is the stated length.
-fn end(question: &Question, machine: &mut Machine, game: &[Move]) -> Result<(), Stop> {
+fn end(question: &Question, machine: &mut Machine, game: &[Move]) -> Result<(), Stop>
+    ensures says { (failed : Bool) → IfErr result (StopsTruly failed) }
+{
     if machine.tree != question.plies || question.wanted.is_some() {
         return Ok(());
     }
@@ -103,7 +103,9 @@ fn leaf(
     on_line: bool,
     m: &Move,
     hit: bool,
-) -> Result<(), Stop> {
+) -> Result<(), Stop>
+    ensures says { (failed : Bool) → IfErr result (StopsTruly failed) }
+{
     if goes_on(question, on_line, machine.frames.len(), m) {
         machine.ending = Some(Ending::Leaf(hit));
     }
@@ -134,7 +136,9 @@ fn following(moves: &mut LegalMoves) -> Option<Move>
 }
 
 // The moves of a node with one ply left are played, and it closes.
-fn leaves(question: &Question, machine: &mut Machine, top: Frame) -> Result<(), Stop> {
+fn leaves(question: &Question, machine: &mut Machine, top: Frame) -> Result<(), Stop>
+    ensures says { (failed : Bool) → IfErr result (StopsTruly failed) }
+{
     let mut top = top;
     let position = top.moves.position();
     for _ in 0..u16::MAX {
@@ -161,7 +165,9 @@ fn step<S: Source>(
     machine: &mut Machine,
     source: &mut S,
     top: Frame,
-) -> Result<(), Stop> {
+) -> Result<(), Stop>
+    ensures says { IfErr result (StopsTruly (S.has_failed source.new)) }
+{
     let mut top = top;
     top.tally.games = top.tally.games.saturating_add(machine.below);
     machine.below = 0;
@@ -184,8 +190,26 @@ fn step<S: Source>(
     }
 }
 
+// A turn of the walk, at the topmost node.
+fn turn<S: Source>(
+    question: &Question,
+    machine: &mut Machine,
+    source: &mut S,
+    top: Frame,
+) -> Result<(), Stop>
+    ensures says { IfErr result (StopsTruly (S.has_failed source.new)) }
+{
+    if top.left == 0 {
+        leaves(question, machine, top)
+    } else {
+        step(question, machine, source, top)
+    }
+}
+
 // The root of the tree without a ply.
-fn bare_root(question: &Question, machine: &mut Machine) -> Result<(), Stop> {
+fn bare_root(question: &Question, machine: &mut Machine) -> Result<(), Stop>
+    ensures says { (failed : Bool) → IfErr result (StopsTruly failed) }
+{
     let hit = question.diagram.matches(&Position::array());
     if question.plies == 0 {
         machine.ending = Some(Ending::Leaf(hit));
@@ -198,7 +222,9 @@ fn bare_root(question: &Question, machine: &mut Machine) -> Result<(), Stop> {
 }
 
 // The root of a tree.
-fn root<S: Source>(question: &Question, machine: &mut Machine, source: &mut S) -> Result<(), Stop> {
+fn root<S: Source>(question: &Question, machine: &mut Machine, source: &mut S) -> Result<(), Stop>
+    ensures says { IfErr result (StopsTruly (S.has_failed source.new)) }
+{
     let tree = machine.tree;
     if tree == 0 {
         return bare_root(question, machine);
@@ -215,7 +241,9 @@ fn tree_of<S: Source>(
     question: &Question,
     machine: &mut Machine,
     source: &mut S,
-) -> Result<(), Stop> {
+) -> Result<(), Stop>
+    ensures says { IfErr result (StopsTruly (S.has_failed source.new)) }
+{
     match root(question, machine, source) {
         Ok(()) => {}
         Err(stop) => return Err(stop),
@@ -227,12 +255,7 @@ fn tree_of<S: Source>(
         let Some(top) = machine.frames.pop() else {
             return Ok(());
         };
-        let answer = if top.left == 0 {
-            leaves(question, machine, top)
-        } else {
-            step(question, machine, source, top)
-        };
-        match answer {
+        match turn(question, machine, source, top) {
             Ok(()) => {}
             Err(stop) => return Err(stop),
         }
@@ -240,20 +263,46 @@ fn tree_of<S: Source>(
     Err(Stop::Refused)
 }
 
-// The header, which must be for the diagram and the length, the trees of all lengths, and the end. A
-// second walk is over at the node that is wanted.
+// The header, which must be for the diagram and the length.
+fn start<S: Source>(question: &Question, machine: &mut Machine, source: &mut S) -> Result<(), Stop>
+    ensures says { IfErr result (StopsTruly (S.has_failed source.new)) }
+{
+    match machine.reader.header(source) {
+        Ok(header) => {
+            if header.plies == question.plies && header.diagram == question.diagram.packed() {
+                Ok(())
+            } else {
+                Err(Stop::Refused)
+            }
+        }
+        Err(ReadFault::Read) => Err(Stop::Read),
+        Err(_) => Err(Stop::Refused),
+    }
+}
+
+// The end, with no byte behind it.
+fn finish<S: Source>(machine: &mut Machine, source: &mut S) -> Result<(), Stop>
+    ensures says { IfErr result (StopsTruly (S.has_failed source.new)) }
+{
+    match machine.reader.more(source) {
+        Ok(false) => Ok(()),
+        Ok(true) => Err(Stop::Refused),
+        Err(ReadFault::Read) => Err(Stop::Read),
+        Err(_) => Err(Stop::Refused),
+    }
+}
+
+// The header, the trees of all lengths, and the end. A second walk is over at the node that is wanted.
 fn all_trees<S: Source>(
     question: &Question,
     machine: &mut Machine,
     source: &mut S,
-) -> Result<(), Stop> {
-    match machine.reader.header(source) {
-        Ok(header) => {
-            if header.plies != question.plies || header.diagram != question.diagram.packed() {
-                return Err(Stop::Refused);
-            }
-        }
-        Err(fault) => return Err(stop_of(fault)),
+) -> Result<(), Stop>
+    ensures says { IfErr result (StopsTruly (S.has_failed source.new)) }
+{
+    match start(question, machine, source) {
+        Ok(()) => {}
+        Err(stop) => return Err(stop),
     }
     for tree in 0..=question.plies {
         machine.tree = tree;
@@ -266,11 +315,7 @@ fn all_trees<S: Source>(
             return Ok(());
         }
     }
-    match machine.reader.more(source) {
-        Ok(false) => Ok(()),
-        Ok(true) => Err(Stop::Refused),
-        Err(fault) => Err(stop_of(fault)),
-    }
+    finish(machine, source)
 }
 
 // Walks over a certificate of at most so many records; what was found, and how the walk ended. What is
@@ -280,7 +325,9 @@ pub(crate) fn walk<S: Source>(
     question: &Question,
     source: &mut S,
     records: u64,
-) -> (Machine, Result<(), Stop>) {
+) -> (Machine, Result<(), Stop>)
+    ensures says { IfErr result.1 (StopsTruly (S.has_failed source.new)) }
+{
     let mut machine = Machine {
         reader: RecordReader::new(),
         records,

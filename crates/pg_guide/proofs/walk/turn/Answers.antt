@@ -1,0 +1,4 @@
+use Rattle.pg_guide.proofs.walk.turn.Goals as goal
+
+pub returns-then-top-eq0 : goal.returns-then-top-eq0
+returns-then-top-eq0 g c = record { says = c.leaves.ensures.says _ }
