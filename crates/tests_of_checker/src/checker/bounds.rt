@@ -33,7 +33,7 @@ fn judged_from<R: AllocGlobal, S: Source>(
 }
 
 /// The answer with bounds of the test's own, through a reader of one byte a call and one of many.
-pub fn judged<R: Abort + AllocGlobal>(
+pub(super) fn judged<R: Abort + AllocGlobal>(
     rt: &R,
     asked: &Problem,
     bounds: &[Box<dyn Bound>],

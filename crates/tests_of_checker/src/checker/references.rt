@@ -9,7 +9,12 @@ const CUT: &[u8] = &[2, 3];
 
 /// The pawn on d3 in five plies: a named node in the tree of length 1, three cuts, and the knight
 /// shuffle down to a position with these bytes.
-pub fn shuffle<R: Abort + AllocGlobal>(rt: &R, asked: &Problem, first: u8, last: &[u8]) -> Vec<u8> {
+pub(super) fn shuffle<R: Abort + AllocGlobal>(
+    rt: &R,
+    asked: &Problem,
+    first: u8,
+    last: &[u8],
+) -> Vec<u8> {
     let mut bytes = certified(rt, asked, &[first, 2, 3, 2, 3, 2, 3, 1, 2, 3, 2, 3, 1]);
     repeat(rt, &mut bytes, CUT, 18);
     repeat(rt, &mut bytes, &[1], 1);
@@ -21,10 +26,10 @@ pub fn shuffle<R: Abort + AllocGlobal>(rt: &R, asked: &Problem, first: u8, last:
 }
 
 /// Four cuts and a reference to number 0.
-pub const TO_THE_ARRAY: [u8; 13] = [2, 3, 2, 3, 2, 3, 2, 3, 3, 0, 0, 0, 0];
+pub(super) const TO_THE_ARRAY: [u8; 13] = [2, 3, 2, 3, 2, 3, 2, 3, 3, 0, 0, 0, 0];
 
 /// Three cuts and the same reference.
-pub const EARLIER: [u8; 11] = [2, 3, 2, 3, 2, 3, 3, 0, 0, 0, 0];
+pub(super) const EARLIER: [u8; 11] = [2, 3, 2, 3, 2, 3, 3, 0, 0, 0, 0];
 
 #[test]
 fn the_knight_shuffle(rt: HostRuntime) {
@@ -93,7 +98,7 @@ fn led<R: Abort + AllocGlobal>(
 }
 
 // Yes, with so many named nodes.
-pub fn names(said: Result<Proved, Fault>, wanted: u32) -> bool {
+pub(super) fn names(said: Result<Proved, Fault>, wanted: u32) -> bool {
     matches!(said, Ok(Proved { records: _, named }) if named == wanted)
 }
 
@@ -194,7 +199,7 @@ fn mark<R: Abort + AllocGlobal>(
 
 /// The certificate of trees of all lengths up to the stated one, where in the last the node after one
 /// game is named and that after another refers to it.
-pub fn marked_bytes<R: Abort + AllocGlobal>(
+pub(super) fn marked_bytes<R: Abort + AllocGlobal>(
     rt: &R,
     asked: &Problem,
     named: &str,
