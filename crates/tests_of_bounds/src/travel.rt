@@ -1,6 +1,7 @@
 use crate::texts::{diagram, position};
 use pg_board::{Color, Kind, Man, Square};
 use pg_captures::Bound;
+use pg_fen::Diagram;
 use pg_position::Position;
 use pg_travel::*;
 use std::process::Abort;
@@ -12,6 +13,12 @@ fn square(rt: &impl Abort, name: &str) -> Square {
     let file = bytes[0].wrapping_sub(b'`');
     let rank = bytes[1].wrapping_sub(b'0');
     Square::new(file, rank).expect(rt, name)
+}
+
+// White's rooks on the squares in front of a1.
+fn two_rooks(rt: &impl Abort) -> Diagram {
+    let rooks = "4k3/8/8/8/8/R7/R7/4K3";
+    diagram(rt, rooks)
 }
 
 fn steps(rt: &impl Abort, man: Man, from: &str, kind: Kind, to: &str) -> Option<u8> {
@@ -50,7 +57,7 @@ fn the_castled_rook(rt: HostRuntime) {
 // Each rook can go to either of two squares, and each has to move once: two plies of White's.
 #[test]
 fn both_rooks_move(rt: HostRuntime) {
-    let rooks = diagram(&rt, "4k3/8/8/8/8/R7/R7/4K3");
+    let rooks = two_rooks(&rt);
     let home = position(&rt, "4k3/8/8/8/8/8/8/R3K2R w - - 0 1");
     assert_eq!(rt; need(Color::White, &rooks, &home), Some(2));
     assert!(rt; Travel.excludes(&rooks, &home, 2));
@@ -129,7 +136,7 @@ fn one_list(rt: &impl Abort, u: &[u8], v: &[u8]) -> Prices {
 fn prices_of_two_rooks(rt: HostRuntime) {
     let white = Color::White;
     let rooks = position(&rt, "4k3/8/8/8/8/8/8/R3K2R w - - 0 1");
-    let wanted = diagram(&rt, "4k3/8/8/8/8/R7/R7/4K3");
+    let wanted = two_rooks(&rt);
     assert_eq!(rt; need(white, &wanted, &rooks), Some(2));
     assert!(rt; !Travel.excludes(&wanted, &rooks, 4));
     assert!(rt; !Travel.excludes(&wanted, &rooks, 5));
@@ -148,7 +155,7 @@ fn prices_of_two_rooks(rt: HostRuntime) {
 fn prices_that_do_not_fit(rt: HostRuntime) {
     let white = Color::White;
     let rooks = position(&rt, "4k3/8/8/8/8/8/8/R3K2R w - - 0 1");
-    let wanted = diagram(&rt, "4k3/8/8/8/8/R7/R7/4K3");
+    let wanted = two_rooks(&rt);
     for (u, v) in [
         ([1, 0, 0], [0, 3, 2]),
         ([1, 0, 0], [0, 2, 3]),
@@ -173,7 +180,7 @@ fn prices_that_do_not_fit(rt: HostRuntime) {
 fn prices_for_other_men(rt: HostRuntime) {
     let white = Color::White;
     let rooks = position(&rt, "4k3/8/8/8/8/8/8/R3K2R w - - 0 1");
-    let wanted = diagram(&rt, "4k3/8/8/8/8/R7/R7/4K3");
+    let wanted = two_rooks(&rt);
     for n in [0, 2, 4, 63, 64] {
         let short = one_list(&rt, &[0; 64][..n], &[0, 2, 2]);
         assert!(rt; !prices_exclude(&wanted, &rooks, 0, white, &short), "{n}");
