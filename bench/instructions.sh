@@ -1,7 +1,7 @@
 #!/usr/bin/env bash
 # What the program's work costs in instructions, as valgrind counts them: the same for the same program and input, whatever
 # else the machine is doing. The first rows are whole runs, start of the program included; the others are what one more
-# record costs the checker, from two runs of bench_checker. Last come the counts beside a peer (counts.sh).
+# record costs the checker, from two runs of bench_checks. Last come the counts beside a peer (counts.sh).
 set -eu
 top=$(cd "$(dirname "$(readlink -f "$0")")/.." && pwd)
 work=$(mktemp -d)
@@ -17,13 +17,14 @@ run() {
   instructions "$@" | awk -v label="$label" '{ printf "%-60s %8.1f M\n", label, $1 / 1e6 }'
 }
 
-bench="$top/crates/bench_checker/out/bench_checker"
-(cd "$top/crates/bench_checker" && rt run >/dev/null 2>&1)
+bench="$top/crates/bench_checks/out/bench_checks"
+(cd "$top/crates/bench_checks" && rt run >/dev/null 2>&1)
+counted() { "$bench" "$1" "$2" | sed 's/.*: //'; }
 record() {
   local few many records
   few=$(instructions "$bench" "$2" 1)
   many=$(instructions "$bench" "$2" 3)
-  records=$(("$("$bench" "$2" 3)" - "$("$bench" "$2" 1)"))
+  records=$(($(counted "$2" 3) - $(counted "$2" 1)))
   echo "$few $many $records" | awk -v label="$1" '{ printf "%-60s %8.0f\n", label, ($2 - $1) / $3 }'
 }
 

@@ -4,7 +4,7 @@ use Rattle.std.specs.Io.KnownBytes.{Consumes}
 use Rattle.pg_certificate.specs.declared.record.Record.{Record}
 use Rattle.pg_certificate.specs.Spelling.{spelling, longest_record}
 use Rattle.pg_certificate.specs.Reader.{to_come}
-use Rattle.bench_records.proofs.count_expansions.Given as goal
+use Rattle.bench_checks.proofs.records.count_expansions.Given as goal
 
 abbrev pub invariant-loop-read : goal.invariant-loop-read
 invariant-loop-read g l = record {

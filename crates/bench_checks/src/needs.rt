@@ -1,10 +1,4 @@
-//! Measures assignments and needs. `bench_prices ROUNDS random` makes so many matrices of 16 targets and
-//! 16 sources with costs as men have them, or none, and prints the sum of the least assignments;
-//! `made` in the place of `random` assigns nothing. `bench_prices ROUNDS needs` finds all that both
-//! colours need, for a diagram of 24 random plies, from so many positions of random games; `first`
-//! leaves the assignments out, and `positions` all of it. What is printed is the same at each run; the
-//! time is taken from outside.
-#![tactic(auto)]
+//! Least assignments, and what both colours need.
 
 use pg_board::Color;
 use pg_fen::Diagram;
@@ -12,13 +6,6 @@ use pg_moves::legal_moves;
 use pg_position::Position;
 use pg_prices::{Costs, MOST, Rows, assign, first_needs, pawn_lists, travel_lists};
 use std::alloc::{AllocError, Global};
-use std::env;
-
-#[derive(Debug, Drop, thiserror::Error)]
-enum Fault {
-    #[error("write a number of rounds, and random, made, needs, first or positions")]
-    Usage,
-}
 
 fn next(state: u64) -> u64 {
     let state = state ^ (state << 13);
@@ -45,7 +32,9 @@ fn fill(costs: &mut Costs, state: u64) -> u64 {
     state
 }
 
-fn rounds(count: u64, is_assigned: bool) -> u64 {
+// The sum of the least assignments of so many random matrices of 16 targets and 16 sources, with costs as men have them or
+// none; where nothing is assigned, what making them costs.
+pub(crate) fn assignments(count: u64, is_assigned: bool) -> u64 {
     let mut costs = [[200u8; MOST]; MOST];
     let mut state = 0x9e37_79b9_7f4a_7c15;
     let mut sum = 0u64;
@@ -78,7 +67,7 @@ fn moved(alloc: Global, position: &Position, state: u64) -> Result<Position, All
 
 // How much of the needs is found.
 #[derive(Clone, Copy, PartialEq, Eq)]
-enum Part {
+pub(crate) enum Part {
     Nothing,
     First,
     All,
@@ -99,8 +88,9 @@ fn sum_of(rows: &Rows, diagram: &Diagram, position: &Position, part: Part) -> u6
         .saturating_add(u64::from(pawns))
 }
 
-// Games of 16 plies each.
-fn positions(alloc: Global, count: u64, part: Part) -> Result<u64, AllocError> {
+// The sum of what both colours need, for a diagram of 24 random plies, from so many positions of random games of 16 plies
+// each.
+pub(crate) fn needs(alloc: Global, count: u64, part: Part) -> Result<u64, AllocError> {
     let mut state = 0x9e37_79b9_7f4a_7c15;
     let mut goal = Position::array();
     for _ in 0..24u8 {
@@ -123,30 +113,4 @@ fn positions(alloc: Global, count: u64, part: Part) -> Result<u64, AllocError> {
         sum = sum.saturating_add(sum_of(&black, &diagram, &position, part));
     }
     Ok(sum)
-}
-
-fn sum_for(alloc: Global, count: u64, what: &str) -> anyhow::Result<u64> {
-    let part = match what {
-        "random" => return Ok(rounds(count, true)),
-        "made" => return Ok(rounds(count, false)),
-        "needs" => Part::All,
-        "first" => Part::First,
-        "positions" => Part::Nothing,
-        _ => return Err(Fault::Usage)?,
-    };
-    Ok(positions(alloc, count, part)?)
-}
-
-fn main(rt: HostRuntime) -> anyhow::Result<()> {
-    let words = env::args(&rt)?;
-    let mut words = words.skip(1);
-    let (Some(count), Some(what)) = (words.next(), words.next()) else {
-        return Err(Fault::Usage)?;
-    };
-    let Ok(count) = count.as_str().parse::<u64>() else {
-        return Err(Fault::Usage)?;
-    };
-    let sum = sum_for(rt.alloc(), count, what.as_str())?;
-    println!(rt; "sum {sum}")?;
-    Ok(())
 }

@@ -1,20 +1,16 @@
-//! Measures the search: `bench_search DIAGRAM LENGTH NODES` searches and prints how many games were
-//! found, how many bytes the certificate has and how many records of each sort; with `check` behind it
-//! the certificate is checked too. `bench_search table` does both for twelve problems. What is printed is
-//! the same at each run; the time is taken from outside.
-#![tactic(auto)]
+//! Searches: how many games were found, how many bytes the certificate has and how many records of each sort.
 
+use crate::fault::Fault;
 use pg_captures::{Bound, Captures, Promotions};
 use pg_certificate::{FromRead, Record, RecordReader, ToWrite};
 use pg_checker::check;
-use pg_fen::{Diagram, FenFault, Length, LengthFault};
+use pg_fen::{Diagram, Length};
 use pg_moves::Unwatched;
 use pg_pawns::PawnFiles;
 use pg_san::Games;
-use pg_searcher::{SearchFault, search};
+use pg_searcher::search;
 use pg_travel::Travel;
 use std::alloc::{AllocError, Global};
-use std::env;
 
 // Problems of four to twelve moves: diagram and length.
 const TABLE: [(&str, &str); 12] = [
@@ -37,20 +33,6 @@ const TABLE: [(&str, &str); 12] = [
 
 // How many nodes are visited at most for a problem of the table.
 const MOST: u64 = 100_000;
-
-#[derive(Debug, Drop, thiserror::Error)]
-enum Fault {
-    #[error("write table, or a diagram, a length, a number of nodes and perhaps check")]
-    Usage,
-    #[error("{0}")]
-    Diagram(FenFault),
-    #[error("{0}")]
-    Length(LengthFault),
-    #[error("{0}")]
-    Search(SearchFault),
-    #[error("a certificate is refused")]
-    Refused,
-}
 
 // How many records of each sort.
 #[derive(Debug, Clone, Copy, Drop)]
@@ -162,7 +144,8 @@ fn print(rt: &HostRuntime, found: &Found) -> anyhow::Result<()> {
     Ok(())
 }
 
-fn run_table(rt: &HostRuntime) -> anyhow::Result<()> {
+// Settles each problem of the table, checks its certificate and prints the numbers.
+pub(crate) fn print_table(rt: &HostRuntime) -> anyhow::Result<()> {
     for (diagram, length) in TABLE {
         let (diagram, length) = read(diagram, length)?;
         let found = run(rt.alloc(), &diagram, length, MOST)?;
@@ -174,25 +157,18 @@ fn run_table(rt: &HostRuntime) -> anyhow::Result<()> {
     Ok(())
 }
 
-fn main(rt: HostRuntime) -> anyhow::Result<()> {
-    let words = env::args(&rt)?;
-    let mut words = words.skip(1);
-    let Some(diagram) = words.next() else {
-        return Err(Fault::Usage)?;
-    };
-    if diagram.as_str() == "table" {
-        return run_table(&rt);
-    }
-    let (Some(length), Some(nodes)) = (words.next(), words.next()) else {
-        return Err(Fault::Usage)?;
-    };
-    let Ok(nodes) = nodes.as_str().parse::<u64>() else {
-        return Err(Fault::Usage)?;
-    };
-    let (diagram, length) = read(diagram.as_str(), length.as_str())?;
+// Searches so many nodes for one problem, checks the certificate where that is asked for, and prints the numbers.
+pub(crate) fn print_one(
+    rt: &HostRuntime,
+    diagram: &str,
+    length: &str,
+    nodes: u64,
+    is_checked: bool,
+) -> anyhow::Result<()> {
+    let (diagram, length) = read(diagram, length)?;
     let found = run(rt.alloc(), &diagram, length, nodes)?;
-    if words.next().is_some() && !holds(rt.alloc(), &diagram, length, &found, nodes)? {
+    if is_checked && !holds(rt.alloc(), &diagram, length, &found, nodes)? {
         return Err(Fault::Refused)?;
     }
-    print(&rt, &found)
+    print(rt, &found)
 }

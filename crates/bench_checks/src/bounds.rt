@@ -1,24 +1,13 @@
-//! Measures the bound by travel and the tests of prices: `bench_travel ROUNDS` asks `Travel.excludes`
-//! eight cases in each round, and prints how many calls excluded. `bench_travel ROUNDS prices` asks
-//! the test of travel prices, and `bench_travel ROUNDS pawns` that of pawn prices, four cases of 16
-//! men a side in each round. What is printed is the same at each run; the time is taken from outside.
-#![tactic(auto)]
+//! The bound by travel and the tests of prices. A round of `travel` asks eight cases, a round of `travel-prices` four cases of
+//! 16 men a side with six lists in all, a round of `pawn-prices` four cases of 8 pawns.
 
+use crate::fault::Fault;
 use pg_board::Color;
 use pg_captures::Bound;
 use pg_fen::{Diagram, FenFault, read_position};
 use pg_position::Position;
 use pg_travel::{Prices, Travel};
 use std::alloc::Global;
-use std::env;
-
-#[derive(Debug, Drop, thiserror::Error)]
-enum Fault {
-    #[error("write a number of rounds, and prices, pawns or nothing")]
-    Usage,
-    #[error("{0}")]
-    Case(FenFault),
-}
 
 // What one call is given.
 #[derive(Drop)]
@@ -87,7 +76,7 @@ fn read_cases(alloc: Global) -> anyhow::Result<Vec<Case>> {
     for (diagram, position, left) in CASES {
         match case_of(diagram, position, left) {
             Ok(case) => cases.push(case)?,
-            Err(fault) => Err(Fault::Case(fault))?,
+            Err(fault) => Err(Fault::Diagram(fault))?,
         }
     }
     Ok(cases)
@@ -153,7 +142,7 @@ fn priced_case(position: &str, left: u8, prices: Prices) -> anyhow::Result<Price
                 prices,
             })
         }
-        Err(fault) => Err(Fault::Case(fault))?,
+        Err(fault) => Err(Fault::Diagram(fault))?,
     }
 }
 
@@ -209,8 +198,8 @@ fn count_pawns(diagram: &Diagram, position: &Position) -> u64 {
     count
 }
 
-// The count of all rounds.
-fn run(alloc: Global, rounds: u64) -> anyhow::Result<u64> {
+// How many calls of the bound by travel excluded, in all rounds.
+pub(crate) fn travel(alloc: Global, rounds: u64) -> anyhow::Result<u64> {
     let cases = read_cases(alloc)?;
     let mut count = 0u64;
     for _ in 0..rounds {
@@ -219,8 +208,8 @@ fn run(alloc: Global, rounds: u64) -> anyhow::Result<u64> {
     Ok(count)
 }
 
-// The same of travel prices.
-fn run_prices(alloc: Global, rounds: u64) -> anyhow::Result<u64> {
+// The same of the test of travel prices.
+pub(crate) fn travel_prices(alloc: Global, rounds: u64) -> anyhow::Result<u64> {
     let cases = priced_cases(alloc)?;
     let mut count = 0u64;
     for _ in 0..rounds {
@@ -229,8 +218,8 @@ fn run_prices(alloc: Global, rounds: u64) -> anyhow::Result<u64> {
     Ok(count)
 }
 
-// The same of pawn prices.
-fn run_pawns(rounds: u64) -> anyhow::Result<u64> {
+// The same of the test of pawn prices.
+pub(crate) fn pawn_prices(rounds: u64) -> Result<u64, Fault> {
     let mut count = 0u64;
     match case_of(SHIFTED, ARRAY, 4) {
         Ok(case) => {
@@ -238,34 +227,7 @@ fn run_pawns(rounds: u64) -> anyhow::Result<u64> {
                 count = count.saturating_add(count_pawns(&case.diagram, &case.position));
             }
         }
-        Err(fault) => Err(Fault::Case(fault))?,
+        Err(fault) => return Err(Fault::Diagram(fault)),
     }
     Ok(count)
-}
-
-fn main(rt: HostRuntime) -> anyhow::Result<()> {
-    let mut rounds = None;
-    let mut prices = false;
-    let mut pawns = false;
-    for argument in env::args(&rt)?.skip(1) {
-        match argument.as_str() {
-            "prices" => prices = true,
-            "pawns" => pawns = true,
-            word => rounds = word.parse::<u64>().ok(),
-        }
-    }
-    match rounds {
-        None => Err(Fault::Usage)?,
-        Some(rounds) => {
-            let count = if prices {
-                run_prices(rt.alloc(), rounds)?
-            } else if pawns {
-                run_pawns(rounds)?
-            } else {
-                run(rt.alloc(), rounds)?
-            };
-            println!(rt; "{count}")?;
-        }
-    }
-    Ok(())
 }

@@ -1,11 +1,9 @@
-// Measures `attacked` and `play`: the first word says which (`attacked`, `play`), the second how many rounds.
-// It prints what it counted, which is the same at each run; the time is taken from outside.
-#![tactic(auto)]
+//! Attacked squares, and moves played, in a position in the middle of a game.
 
+use crate::fault::Fault;
 use pg_board::{Color, Kind, Square};
 use pg_position::{Move, Position};
 use std::alloc::{AllocError, Global};
-use std::{env, io};
 
 const PROMOTIONS: [Option<Kind>; 5] = [
     None,
@@ -100,31 +98,25 @@ fn count_played(position: &Position, moves: &[Move]) -> u64 {
     count
 }
 
-// The count of all rounds, by the mode.
-fn run(alloc: Global, mode: &str, rounds: u64) -> Result<u64, AllocError> {
+// How many squares are attacked, by either colour, in all rounds.
+pub(crate) fn attacked(rounds: u64) -> u64 {
     let position = middle();
-    let moves = all_moves(alloc, &position)?;
     let mut count = 0u64;
     for _ in 0..rounds {
-        let round = if mode == "attacked" {
-            count_attacked(&position)
-        } else {
-            count_played(&position, moves.as_slice())
-        };
-        count = count.saturating_add(round);
+        count = count.saturating_add(count_attacked(&position));
     }
-    Ok(count)
+    count
 }
 
-fn main(rt: HostRuntime) -> io::Result<()> {
-    let mut words = env::args(&rt)?;
-    let _program = words.next();
-    if let Some(mode) = words.next() {
-        if let Some(text) = words.next() {
-            let rounds = text.as_str().parse::<u64>().unwrap_or(0);
-            let count = run(rt.alloc(), mode.as_str(), rounds)?;
-            println!(rt; "{mode} {rounds}: {count}")?;
-        }
+// How many legal moves are played, and how many of them give check, in all rounds.
+pub(crate) fn played(alloc: Global, rounds: u64) -> Result<u64, Fault> {
+    let position = middle();
+    let Ok(moves) = all_moves(alloc, &position) else {
+        return Err(Fault::Memory);
+    };
+    let mut count = 0u64;
+    for _ in 0..rounds {
+        count = count.saturating_add(count_played(&position, moves.as_slice()));
     }
-    Ok(())
+    Ok(count)
 }

@@ -4,9 +4,9 @@ use Rattle.std.proofs.lemmas.List.{flat_map_more}
 use Rattle.std.specs.Io.KnownBytes.{Consumes}
 use Rattle.pg_certificate.specs.declared.record.Bare.{Bare}
 use Rattle.pg_certificate.specs.Spelling.{record_of, spelling, longest_record}
-use Rattle.bench_records.proofs.RunLemmas.{one_longer, within_more, pulls_refused}
-use Rattle.bench_records.proofs.count_expansions.Goals as goal
-use Rattle.bench_records.proofs.count_expansions.Goals.{in-Expand, in_default}
+use Rattle.bench_checks.proofs.RunLemmas.{one_longer, within_more, pulls_refused}
+use Rattle.bench_checks.proofs.records.count_expansions.Goals as goal
+use Rattle.bench_checks.proofs.records.count_expansions.Goals.{in-Expand, in_default}
 
 pub returns-in_err-next_bare-clause-pulls : goal.returns-in_err-next_bare-clause-pulls
 returns-in_err-next_bare-clause-pulls g c =

@@ -1,7 +1,4 @@
-//! Reads records of one byte from memory, as many as its argument says (1,000 where there is none),
-//! and prints how many were read. To measure: run it with 10000000.
-#![tactic(auto)]
-
+//! The reader of records, on records of one byte from memory.
 ghost use Rattle.std.specs.Prelude.{◌≡◌, ◌*◌, ◌≤◌, List, length, IfOk, IfSome, OnOk};
 ghost use Rattle.std.specs.List.{flat_map};
 ghost use Rattle.pg_certificate.specs.declared.record.Record.{Record};
@@ -10,7 +7,7 @@ ghost use Rattle.pg_certificate.specs.Reader.{PullsAtMost};
 
 use pg_certificate::{Bare, FromRead, ReadFault, RecordReader, Source, no_spelling_is_longer};
 use pg_travel::Prices;
-use std::{env, io};
+use std::alloc::{AllocError, Global};
 
 // Reads this many records and then the end, and answers how many were expansions.
 fn count_expansions<S: Source>(source: &mut S, count: u64) -> Result<u64, ReadFault>
@@ -33,18 +30,9 @@ fn count_expansions<S: Source>(source: &mut S, count: u64) -> Result<u64, ReadFa
     Ok(expansions)
 }
 
-fn main(rt: HostRuntime) -> io::Result<()> {
-    let mut count = 1_000u32;
-    for word in env::args(&rt)? {
-        if let Ok(number) = word.as_str().parse() {
-            count = number;
-        }
-    }
-    let bytes = vec![in rt.alloc(); 1u8; count as usize]?;
+// The number of expansions among so many records of one byte.
+pub(crate) fn read(alloc: Global, count: u32) -> Result<u64, AllocError> {
+    let bytes = vec![in alloc; 1u8; count as usize]?;
     let mut source = FromRead::new(bytes.as_slice());
-    match count_expansions(&mut source, count as u64) {
-        Ok(expansions) => println!(rt; "records {expansions}")?,
-        Err(fault) => println!(rt; "{fault}")?,
-    }
-    Ok(())
+    Ok(count_expansions(&mut source, count as u64).unwrap_or(0))
 }
