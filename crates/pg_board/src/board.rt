@@ -1,14 +1,17 @@
+//! Which man stands where.
 ghost use Rattle.std.specs.Prelude.{◌≡◌, ℕ, ◌<◌, ◌≢◌, ◌↔◌, IsTrue, MatchOption, Some, false};
 ghost use Rattle.std.specs.Cmp.{partial_equiv_from_equiv, decided};
 ghost use Rattle.pg_board.specs.Men.{king_of, is_man, is_of, is_held};
-ghost use Rattle.pg_board.specs.Placement.{placement_of, get, empty, put, without, IsFirst};
+ghost use Rattle.pg_board.specs.Placement.{placement_of, get, empty, put, without, write, IsFirst};
 ghost use Rattle.pg_board.specs.Equality.{placement_eq, placement_eq_decides};
 ghost use Rattle.pg_board.specs.Tally.{count_of};
 ghost use Rattle.pg_board.specs.Bits.{has};
 ghost use Rattle.pg_board.specs.numbers.Sets.{man_in, IsSound};
 
 use crate::man::{Color, Kind, Man};
-use crate::sets::{Sets, color_set, differing, man_at, man_set, replaced, same_sets};
+use crate::sets::{
+    Sets, color_set, differing, man_at, man_set, replaced, replaced_from, same_sets,
+};
 use crate::square::Square;
 use crate::square_set::SquareSet;
 use std::marker::Model;
@@ -97,6 +100,17 @@ impl Board {
         let man = self.get(square);
         self.sets = replaced(&self.sets, square.index(), None);
         man
+    }
+
+    /// Takes what stands on `from` to `to`, in the place of what stood there, and leaves `from` empty. The
+    /// other squares stay as they are; so does the whole board where both are the same square.
+    #[inline(always)]
+    pub fn relocate(&mut self, from: Square, to: Square)
+        ensures { self.new ≡ write (without self.old from) to (get self.old from) }
+    {
+        let from = from.index();
+        let emptied = replaced(&self.sets, from, None);
+        self.sets = replaced_from(&emptied, to.index(), &self.sets, from);
     }
 
     /// How many of this man stand on the board, 0 to 64.

@@ -2,7 +2,7 @@
 ghost use Rattle.std.specs.Prelude.{◌≡◌, ℕ, ◌+◌, ◌<◌, ◌^◌, ◌↔◌, cond, IsTrue, bit_and, eqb};
 ghost use Rattle.pg_board.specs.Men.{is_kind, is_of};
 ghost use Rattle.pg_board.specs.Bits.{has};
-ghost use Rattle.pg_board.specs.numbers.Sets.{kind_in, man_in, set_of, set_of_kind, set_of_color, unlike, Replaces, AreWords};
+ghost use Rattle.pg_board.specs.numbers.Sets.{kind_in, man_in, set_of, set_of_kind, set_of_color, unlike, Replaces, AreWords, IsSound};
 
 use crate::man::{Color, Kind, Man};
 
@@ -109,6 +109,27 @@ pub fn replaced(sets: &Sets, i: u8, man: Option<Man>) -> Sets
         kings: adjusted(sets.kings, i, is_of_kind(man, Kind::King)),
         white: adjusted(sets.white, i, is_of_color(man, Color::White)),
         black: adjusted(sets.black, i, is_of_color(man, Color::Black)),
+    }
+}
+
+/// The sets after the square got what stands on the square `from` of other sets.
+#[inline(always)]
+pub fn replaced_from(sets: &Sets, i: u8, other: &Sets, from: u8) -> Sets
+    requires square { i < 64 }
+    requires from { from < 64 }
+    requires sound { IsSound other.now }
+    ensures square { Replaces sets.now i (man_in other.now from) result }
+    ensures words { AreWords result }
+{
+    Sets {
+        pawns: adjusted(sets.pawns, i, contains(other.pawns, from)),
+        knights: adjusted(sets.knights, i, contains(other.knights, from)),
+        bishops: adjusted(sets.bishops, i, contains(other.bishops, from)),
+        rooks: adjusted(sets.rooks, i, contains(other.rooks, from)),
+        queens: adjusted(sets.queens, i, contains(other.queens, from)),
+        kings: adjusted(sets.kings, i, contains(other.kings, from)),
+        white: adjusted(sets.white, i, contains(other.white, from)),
+        black: adjusted(sets.black, i, contains(other.black, from)),
     }
 }
 

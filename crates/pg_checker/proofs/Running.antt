@@ -61,10 +61,6 @@ few_then a b c left xs most mid now (Err stop.Memory) h f k = few_end a b left x
 few_then a b c left xs most mid now (Err (stop.Because q)) h f k = few_end a b left xs most mid h f k
 
 -- ---- the stack
-pub no_frames : (items : List Frame) → (0 < length items → false ≡ true) → items ≡ []
-no_frames [] h = refl
-no_frames (f ∷ fs) h = absurd (let e : false ≡ true = h (omega arith) in cc)
-
 frames_length : (fs : List Frame) → length (frames_of fs) ≡ length fs
 unfolding frames_of
 frames_length [] = refl

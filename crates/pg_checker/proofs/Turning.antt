@@ -9,7 +9,7 @@ use Rattle.pg_moves.specs.Moves.{IsNext, IsLast}
 use Rattle.pg_moves.proofs.PlayLemmas.{play_of_is}
 use Rattle.pg_checker.specs.Tree as tree
 use Rattle.pg_checker.specs.Tree.{one_if, entry}
-use Rattle.pg_checker.specs.numbers.Frames.{enter, turn, turn_at, Work}
+use Rattle.pg_checker.specs.numbers.Frames.{enter, turn, turn_at, turn_top, Work}
 use Rattle.pg_checker.specs.Chess.{Cuts, chess}
 use Rattle.pg_checker.specs.Left.{left_after}
 use Rattle.pg_checker.specs.numbers.Machine.{path, entered, entry_of, entries_of, frame_of, frames_of, count_named, state_at, work_at}
@@ -21,19 +21,15 @@ use Rattle.pg_checker.proofs.Goings.{stays, goes_as, stops_as}
 use Rattle.pg_checker.proofs.FrameViews.{path_more, frames_more, count_more}
 use Rattle.pg_checker.proofs.Left.{left_next, left_last}
 
-pub or_then : (a b f : Bool) → a ≡ true → f ≡ a → f ≡ (a || b)
-or_then true b f h e = e
-or_then false b f h e = absurd (cc)
-
-pub or_else : (a b f : Bool) → a ≡ false → f ≡ b → f ≡ (a || b)
-or_else true b f h e = absurd (cc)
-or_else false b f h e = e
-
 pub kept_pushed : (m : Machine) (items : List Frame) (top advanced : Frame) → advanced.named ≡ top.named → m.table.kept ≡ one_if top.named + count_named (reverse m.frames.items) → items ≡ m.frames.items ++ (advanced ∷ []) → m.table.kept ≡ count_named (reverse items)
 kept_pushed m items top advanced same kept pushed =
     let one : count_named (reverse items) ≡ one_if advanced.named + count_named (reverse m.frames.items) = ap (λ (v : List Frame). count_named (reverse v)) pushed ∙ count_more m.frames.items advanced in
     let two : one_if advanced.named ≡ one_if top.named = ap one_if same in
     omega arith
+
+-- the machine with these frames
+abbrev pub under : Machine → List Frame → Machine
+under m below = record m { frames = record { items = below } }
 
 module _ (d : Placement) (l : ℕ) (games : List (List Move)) (cut : Cuts) (n : ℕ) where
   abbrev pub turns : Frame → Machine → Answer (Work (chess d l games cut))
@@ -105,3 +101,20 @@ module _ (d : Placement) (l : ℕ) (games : List (List Move)) (cut : Cuts) (n : 
       stops_as before m.room (λ rest x. enter (chess d l games cut) n top.plies (path (reverse mid.frames.items)) next (frames_of (reverse mid.frames.items)) (state_at mid rest x)) (turns top m) s
       (plays top advanced m mid next move (is ∙ ap (λ (f : Bool). record top { moves = record { position = top.moves.position; last = Some move }; found = f }) or) first valid legal pushed table records)
       (subst (λ (left : ℕ). Stops before left (λ rest x. enter (chess d l games cut) n top.plies (path (reverse mid.frames.items)) next (frames_of (reverse mid.frames.items)) (state_at mid rest x)) s) room h)
+
+  -- a turn of the whole stack is one of its topmost frame
+  abbrev pub tops : Machine → Answer (Work (chess d l games cut))
+  tops m rest x = turn_top (chess d l games cut) n (frames_of (reverse m.frames.items)) m.found (state_at m rest x)
+
+  pub tops_are : (m : Machine) (below : List Frame) (top : Frame) → m.frames.items ≡ below ++ (top ∷ []) → tops m ≡ turns top (under m below)
+  tops_are m below top items = λ i rest x. turn_top (chess d l games cut) n ((ap (λ (v : List Frame). frames_of (reverse v)) items ∙ frames_more below top) i) m.found (state_at m rest x)
+
+  pub says_tops : (before after : Option (List ℕ)) (m new : Machine) (below : List Frame) (top : Frame) (res : Result (Unit {0}) Stop) → m.frames.items ≡ below ++ (top ∷ [])
+      → Says before after m.room new.room (turns top (under m below)) (λ _ rest x. work_at (chess d l games cut) new rest x) res
+      → Says before after m.room new.room (tops m) (λ _ rest x. work_at (chess d l games cut) new rest x) res
+  says_tops before after m new below top res items h = subst (λ (v : Answer (Work (chess d l games cut))). Says before after m.room new.room v (λ _ rest x. work_at (chess d l games cut) new rest x) res) (sym (tops_are m below top items)) h
+
+  pub tops_say : (before after : Option (List ℕ)) (m new : Machine) (below : List Frame) (top : Frame) (res : Result (Unit {0}) Stop) → m.frames.items ≡ below ++ (top ∷ [])
+      → Says before after m.room new.room (tops m) (λ _ rest x. work_at (chess d l games cut) new rest x) res
+      → Says before after m.room new.room (turns top (under m below)) (λ _ rest x. work_at (chess d l games cut) new rest x) res
+  tops_say before after m new below top res items h = subst (λ (v : Answer (Work (chess d l games cut))). Says before after m.room new.room v (λ _ rest x. work_at (chess d l games cut) new rest x) res) (tops_are m below top items) h

@@ -1,14 +1,12 @@
 //! The walk over the trees of a certificate, with a stack of open nodes.
-ghost use Rattle.std.specs.Prelude.{◌≡◌, ◌||◌, ◌+◌, ◌<◌, ◌≤◌, ◌++◌, suc, true, false, [], length, map, reverse, OnOk};
+ghost use Rattle.std.specs.Prelude.{◌≡◌, ◌||◌, ◌+◌, ◌<◌, ◌≤◌, ◌++◌, suc, true, false, [], ◌∷◌, length, map, reverse, MatchOption, OnOk};
 ghost use Rattle.pg_checker.specs.Cuts.{rules_for};
-ghost use Rattle.pg_checker.specs.numbers.Frames.{enter as enter_of, finish, turn as turn_of, Stacked};
+ghost use Rattle.pg_checker.specs.numbers.Frames.{enter as enter_of, finish, turn_top, Stacked};
 ghost use Rattle.pg_checker.specs.Whole.{run as run_of};
 ghost use Rattle.pg_position.specs.Array.{array_state};
-ghost use Rattle.pg_position.specs.Position.{IsPosition};
 ghost use Rattle.pg_checker.specs.numbers.Halting.{causes, stops};
 ghost use Rattle.pg_checker.specs.numbers.Judging.{LeafSays};
-ghost use Rattle.pg_checker.specs.numbers.Machine.{ReadsVersion, Walks, WalksOn, entered, entries_of, frame_of, game_at, named_at, path, stack_at, state_at, work_at};
-ghost use Rattle.pg_checker.specs.Passing.{AllElsewhere, PassesOver};
+ghost use Rattle.pg_checker.specs.numbers.Machine.{Closes, HasNone, OnTop, Passed, Plays, ReadsVersion, Walks, WalksOn, entered, entries_of, fresh, game_at, named_at, path, stack_at, state_at, work_at};
 ghost use Rattle.pg_checker.specs.numbers.Steps.{FailsRead};
 ghost use Rattle.pg_checker.specs.Tree.{one_if};
 ghost use Rattle.pg_checker.specs.Walk.{leaf as leaf_of, visit};
@@ -19,6 +17,7 @@ use crate::nearness::pass_over;
 use crate::node::head;
 use crate::play::after;
 use crate::table::Entry;
+use arrayvec::ArrayVec;
 use pg_certificate::Source;
 use pg_fen::Diagram;
 use pg_moves::LegalMoves;
@@ -49,6 +48,20 @@ fn leaf(
     } else {
         Err(Reason::Unlisted)
     }
+}
+
+// A node with so many plies left below it opens: all its moves are still to be played.
+#[inline(never)]
+fn open_node(position: &Position, plies: u8, named: bool, frames: &mut ArrayVec<Frame, 128>)
+    requires { length frames.old.items < 128 }
+    ensures { frames.new.items ≡ frames.old.items ++ (fresh position.now plies named ∷ []) }
+{
+    frames.push(Frame {
+        moves: LegalMoves::new(position),
+        plies,
+        named,
+        found: false,
+    });
 }
 
 // A node is entered: it ends at once, or it is open from now on.
@@ -90,12 +103,7 @@ fn enter<S: Source>(
         }
         Ok(Node::Opened(named)) => {
             machine.found = false;
-            machine.frames.push(Frame {
-                moves: LegalMoves::new(position),
-                plies: left - 1,
-                named,
-                found: false,
-            });
+            open_node(position, left - 1, named, &mut machine.frames);
             Ok(())
         }
         Err(halt) => Err(halt),
@@ -125,21 +133,79 @@ fn close(position: &Position, plies: u8, named: bool, found: bool, machine: &mut
     }
 }
 
+fn either(a: bool, b: bool) -> bool
+    ensures { result ≡ (a || b) }
+{
+    a || b
+}
+
+// The topmost node closes.
+#[inline(never)]
+fn close_top(tree: u8, machine: &mut Machine)
+    requires open { 0 < length machine.old.frames.items }
+    requires stacked { Stacked tree (stack_at machine.old) }
+    requires limit { tree ≤ 128 }
+    requires kept { machine.old.table.kept ≡ named_at machine.old }
+    ensures { Closes machine.old machine.new }
+{
+    if let Some(top) = machine.frames.pop() {
+        let found = either(top.found, machine.found);
+        let position = top.moves.position();
+        close(&position, top.plies, top.named, found, machine);
+    }
+}
+
+// A child of an open node: its position, and the plies left at it.
+#[derive(Drop)]
+struct Child {
+    position: Position,
+    plies: u8,
+}
+
+// The next move of an open node is played, and what its last child said is kept with it. None where
+// no move is left: then nothing changes.
+#[inline(always)]
+fn play_on(top: &mut Frame, found: bool) -> Option<Child>
+    ensures { MatchOption result (HasNone top.old top.new) (λ child. Plays found child.position child.plies top.old top.new) }
+{
+    let m = top.moves.next()?;
+    top.found = either(top.found, found);
+    Some(Child {
+        position: after(&top.moves.position(), &m),
+        plies: top.plies,
+    })
+}
+
+// The next move of the topmost node is played.
+#[inline(always)]
+fn play_top(frames: &mut ArrayVec<Frame, 128>, found: bool) -> Option<Child>
+    requires { 0 < length frames.old.items }
+    ensures { MatchOption result
+        (OnTop HasNone frames.old.items frames.new.items)
+        (λ child. OnTop (Plays found child.position child.plies) frames.old.items frames.new.items) }
+{
+    let last = frames.len() - 1;
+    match frames.get_mut(last) {
+        Some(top) => play_on(top, found),
+        None => None,
+    }
+}
+
 // One turn: the next move of the topmost node is played, or the node closes.
 fn turn<S: Source>(
     question: &Question,
     tree: u8,
-    top: Frame,
     machine: &mut Machine,
     source: &mut S,
 ) -> Result<(), Halt>
-    requires depth { top.plies + suc (length machine.old.frames.items) ≡ tree }
+    requires open { 0 < length machine.old.frames.items }
+    requires stacked { Stacked tree (stack_at machine.old) }
     requires limit { tree ≤ 128 }
-    requires kept { machine.old.table.kept ≡ one_if top.named + named_at machine.old }
+    requires kept { machine.old.table.kept ≡ named_at machine.old }
     requires runs { ReadsVersion question.now.version machine.old.reader }
     requires held { length machine.old.reader.held ≤ 4096 }
     ensures says { Walks machine.old machine.new (S.left source.old) (S.left source.new)
-        (turn_of (rules_for code_of excluded question.now) tree (frame_of top (reverse machine.old.frames.items)) (stack_at machine.old) machine.old.found)
+        (turn_top (rules_for code_of excluded question.now) tree (stack_at machine.old) machine.old.found)
         (λ _. work_at (rules_for code_of excluded question.now) machine.new) (stops (game_at machine.new) result) }
     ensures kept { OnOk result (machine.new.table.kept ≡ named_at machine.new) }
     ensures runs { OnOk result (ReadsVersion question.now.version machine.new.reader) }
@@ -147,52 +213,45 @@ fn turn<S: Source>(
     ensures fails { FailsRead (S.has_failed source.new) (stops [] result) }
     ensures few { WalksOn machine.old machine.new (S.left source.old) (S.left source.new) (stops [] result) }
 {
-    let found = top.found || machine.found;
-    let position = top.moves.position();
-    let Frame {
-        moves,
-        plies,
-        named,
-        ..
-    } = top;
-    let mut moves = moves;
-    match moves.next() {
+    let found = machine.found;
+    match play_top(&mut machine.frames, found) {
+        Some(child) => enter(
+            question,
+            tree,
+            child.plies,
+            &child.position,
+            machine,
+            source,
+        ),
         None => {
-            close(&position, plies, named, found, machine);
+            close_top(tree, machine);
             Ok(())
         }
-        Some(m) => {
-            let next = after(&position, &m);
-            machine.frames.push(Frame {
-                moves,
-                plies,
-                named,
-                found,
-            });
-            enter(question, tree, plies, &next, machine, source)
-        }
     }
-}
-
-fn either(a: bool, b: bool) -> bool
-    ensures { result ≡ (a || b) }
-{
-    a || b
 }
 
 // Whether no move that is left at an open node leads on: its children are leaves, none of them on
 // the diagram. Such moves are passed over.
 fn is_over(diagram: &Diagram, top: &mut Frame) -> bool
-    ensures frame { top.new ≡ record top.old { moves = top.new.moves } }
-    ensures passed { PassesOver diagram.now top.old.moves top.new.moves }
-    ensures inner { 0 < top.old.plies → top.new.moves ≡ top.old.moves }
-    ensures over { result ≡ true → (top.old.plies ≡ 0) × AllElsewhere diagram.now top.new.moves }
-    ensures position { top.old.plies ≡ 0 → IsPosition top.old.moves.position }
+    ensures { Passed diagram.now result top.old top.new }
 {
     if top.plies > 0 {
         return false;
     }
     !pass_over(diagram, &mut top.moves)
+}
+
+// Whether the topmost node is over in that sense.
+#[inline(always)]
+fn is_top_over(diagram: &Diagram, frames: &mut ArrayVec<Frame, 128>) -> bool
+    requires { 0 < length frames.old.items }
+    ensures { OnTop (Passed diagram.now result) frames.old.items frames.new.items }
+{
+    let last = frames.len() - 1;
+    match frames.get_mut(last) {
+        Some(top) => is_over(diagram, top),
+        None => false,
+    }
 }
 
 // Turns until no node is open. Leaves that are not on the diagram are passed over.
@@ -217,15 +276,12 @@ fn run<S: Source>(
     ensures fails { FailsRead (S.has_failed source.new) (stops [] result) }
     ensures few { WalksOn machine.old machine.new (S.left source.old) (S.left source.new) (stops [] result) }
 {
-    while let Some(top) = machine.frames.pop() {
-        let mut top = top;
-        if is_over(question.diagram, &mut top) {
-            let found = either(top.found, machine.found);
-            let position = top.moves.position();
-            close(&position, top.plies, top.named, found, machine);
+    while !machine.frames.is_empty() {
+        if is_top_over(question.diagram, &mut machine.frames) {
+            close_top(tree, machine);
             continue;
         }
-        match turn(question, tree, top, machine, source) {
+        match turn(question, tree, machine, source) {
             Ok(()) => {}
             Err(halt) => return Err(halt),
         }

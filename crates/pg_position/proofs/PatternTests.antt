@@ -9,7 +9,7 @@ use Rattle.pg_board.specs.Squares.{file, rank}
 use Rattle.pg_position.specs.declared.direction.Direction.{Direction}
 use Rattle.pg_position.specs.declared.direction.Direction.TheVariants.{North, NorthEast, East, SouthEast, South, SouthWest, West, NorthWest}
 use Rattle.pg_position.specs.Geometry.{apart, InPattern}
-use Rattle.pg_position.specs.numbers.Rays.{OnRay}
+use Rattle.pg_position.specs.numbers.Rays.{OnRay, OnFileOrRank, OnDiagonal}
 
 unfoldable pub knight_test : ℕ → ℕ → Bool
 knight_test r s = (eqb (apart (file r) (file s)) 1 && eqb (apart (rank r) (rank s)) 2) || (eqb (apart (file r) (file s)) 2 && eqb (apart (rank r) (rank s)) 1)
@@ -58,3 +58,17 @@ ray_decides South r s = Decides-and _ _ (Decides-eqb (file s) (file r)) (Decides
 ray_decides SouthWest r s = Decides-and _ _ (Decides-eqb (file s + rank r) (file r + rank s)) (Decides-ltb (rank s) (rank r))
 ray_decides West r s = Decides-and _ _ (Decides-eqb (rank s) (rank r)) (Decides-ltb (file s) (file r))
 ray_decides NorthWest r s = Decides-and _ _ (Decides-eqb (file s + rank s) (file r + rank r)) (Decides-ltb (rank r) (rank s))
+
+unfoldable pub straight_test : ℕ → ℕ → Bool
+straight_test r s = ((ray_test North r s || ray_test East r s) || ray_test South r s) || ray_test West r s
+
+pub straight_decides : (r s : ℕ) → Decides (straight_test r s) (OnFileOrRank r s)
+unfolding straight_test
+straight_decides r s = Decides-or _ _ (Decides-or _ _ (Decides-or _ _ (ray_decides North r s) (ray_decides East r s)) (ray_decides South r s)) (ray_decides West r s)
+
+unfoldable pub diagonal_test : ℕ → ℕ → Bool
+diagonal_test r s = ((ray_test NorthEast r s || ray_test SouthEast r s) || ray_test SouthWest r s) || ray_test NorthWest r s
+
+pub diagonal_decides : (r s : ℕ) → Decides (diagonal_test r s) (OnDiagonal r s)
+unfolding diagonal_test
+diagonal_decides r s = Decides-or _ _ (Decides-or _ _ (Decides-or _ _ (ray_decides NorthEast r s) (ray_decides SouthEast r s)) (ray_decides SouthWest r s)) (ray_decides NorthWest r s)

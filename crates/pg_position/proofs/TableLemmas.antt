@@ -7,13 +7,13 @@ use Rattle.pg_board.specs.declared.man.Kind.TheVariants.{Pawn, Knight, King}
 use Rattle.pg_board.specs.declared.man.Color.TheVariants.{White, Black}
 use Rattle.pg_board.specs.Bits.{has, bits_below, has-bits_below}
 use Rattle.pg_position.specs.declared.tables.TheConstants.{KNIGHT, KING, PAWN}
-use Rattle.pg_position.specs.declared.ray_tables.TheConstants.{RAYS}
+use Rattle.pg_position.specs.declared.ray_tables.TheConstants.{RAYS, STRAIGHT, DIAGONAL}
 use Rattle.pg_position.specs.declared.direction.Direction.{Direction}
 use Rattle.pg_position.specs.declared.direction.Direction.TheVariants.{North, NorthEast, East, SouthEast, South, SouthWest, West, NorthWest}
 use Rattle.pg_position.specs.Geometry.{InPattern}
-use Rattle.pg_position.specs.numbers.Rays.{OnRay, direction_number}
+use Rattle.pg_position.specs.numbers.Rays.{OnRay, OnFileOrRank, OnDiagonal, direction_number}
 use Rattle.pg_board.specs.SquareSets.{IsSetOf}
-use Rattle.pg_position.proofs.PatternTests.{knight_test, king_test, pawn_test, ray_test, knight_decides, king_decides, pawn_decides, ray_decides}
+use Rattle.pg_position.proofs.PatternTests.{knight_test, king_test, pawn_test, ray_test, straight_test, diagonal_test, knight_decides, king_decides, pawn_decides, ray_decides, straight_decides, diagonal_decides}
 
 unfoldable all_below : (ℕ → Bool) → ℕ → Bool
 all_below p zero = true
@@ -56,6 +56,14 @@ rays_are SouthWest = refl
 rays_are West = refl
 rays_are NorthWest = refl
 
+straight_is : is_table STRAIGHT straight_test ≡ true
+unfolding is_table all_below bits_below ray_test straight_test
+straight_is = refl
+
+diagonal_is : is_table DIAGONAL diagonal_test ≡ true
+unfolding is_table all_below bits_below ray_test diagonal_test
+diagonal_is = refl
+
 decided : {P : ℕ → Type 0} (t : List ℕ) (f : ℕ → ℕ → Bool) → is_table t f ≡ true → (s : ℕ) → s < 64 → ((q : ℕ) → Decides (f s q) (P q)) → IsSetOf (get_or t s 0) P
 decided t f h s l d q k = Decides-at _ _ (entry t f h s q l k) (d q)
 
@@ -89,3 +97,9 @@ black_pawns_from c s i e f l = subst (λ (x : Color). IsSetOf (get_or (get_or PA
 
 pub rays_from : (d : Direction) (s i p : ℕ) → p ≡ direction_number d → i ≡ s → s < 64 → IsSetOf (get_or (get_or RAYS p []) i 0) (OnRay d s)
 rays_from d s i p e f l = subst (λ (x : ℕ). IsSetOf (get_or (get_or RAYS x []) i 0) (OnRay d s)) (sym e) (subst (λ (x : ℕ). IsSetOf (get_or (get_or RAYS (direction_number d) []) x 0) (OnRay d s)) (sym f) (rays_at d s l))
+
+pub straight_from : (s i : ℕ) → i ≡ s → s < 64 → IsSetOf (get_or STRAIGHT i 0) (OnFileOrRank s)
+straight_from s i f l = subst (λ (x : ℕ). IsSetOf (get_or STRAIGHT x 0) (OnFileOrRank s)) (sym f) (decided STRAIGHT straight_test straight_is s l (straight_decides s))
+
+pub diagonal_from : (s i : ℕ) → i ≡ s → s < 64 → IsSetOf (get_or DIAGONAL i 0) (OnDiagonal s)
+diagonal_from s i f l = subst (λ (x : ℕ). IsSetOf (get_or DIAGONAL x 0) (OnDiagonal s)) (sym f) (decided DIAGONAL diagonal_test diagonal_is s l (diagonal_decides s))

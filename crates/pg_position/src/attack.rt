@@ -2,13 +2,13 @@
 ghost use Rattle.std.specs.Prelude.{◌≡◌, ℕ, ◌<◌, ◌↔◌, IsTrue, ◌⊎◌, MatchOption, Some, None};
 ghost use Rattle.pg_board.specs.Men.{man};
 ghost use Rattle.pg_board.specs.Placement.{get};
-ghost use Rattle.pg_position.specs.numbers.Rays.{OnRay, OnFileOrRank, OnDiagonal};
+ghost use Rattle.pg_position.specs.numbers.Rays.{OnRay};
 ghost use Rattle.pg_position.specs.Attack.{Attacks};
 ghost use Rattle.pg_board.specs.SquareSets.{IsSetOf};
 ghost use Rattle.pg_position.specs.numbers.Lines.{AttackedBy, AttackedAlong, IsBlocked, ByStep, Straight, Diagonal};
 
 use crate::direction::Direction;
-use crate::masks::{king_mask, knight_mask, pawn_mask, ray};
+use crate::masks::{diagonal_lines, king_mask, knight_mask, pawn_mask, ray, straight_lines};
 use pg_board::{Board, Color, Kind, Man, Square, SquareSet};
 
 // The man of a colour and a kind.
@@ -79,26 +79,6 @@ fn sliders(board: &Board, by: Color, kind: Kind) -> SquareSet
     ensures { IsSetOf result (λ q. (get board.now q ≡ Some (man by kind)) ⊎ (get board.now q ≡ Some (man by Kind.Queen))) }
 {
     board.squares_of(man(by, kind)) | board.squares_of(man(by, Kind::Queen))
-}
-
-// The other squares of the file and the rank.
-fn straight_lines(square: Square) -> SquareSet
-    ensures { IsSetOf result (OnFileOrRank square) }
-{
-    ray(Direction::North, square)
-        | ray(Direction::East, square)
-        | ray(Direction::South, square)
-        | ray(Direction::West, square)
-}
-
-// The other squares of the two diagonals.
-fn diagonal_lines(square: Square) -> SquareSet
-    ensures { IsSetOf result (OnDiagonal square) }
-{
-    ray(Direction::NorthEast, square)
-        | ray(Direction::SouthEast, square)
-        | ray(Direction::SouthWest, square)
-        | ray(Direction::NorthWest, square)
 }
 
 // Whether a rook or a queen attacks the square along a file or a rank.

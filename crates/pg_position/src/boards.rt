@@ -1,10 +1,10 @@
-//! What stands where, and a man that goes from a square to another.
+//! What stands where, and which squares are attacked.
 ghost use Rattle.std.specs.Prelude.{◌≡◌, ◌↔◌, ◌≤◌, ◌<◌, ℕ, IsTrue};
 ghost use Rattle.pg_board.specs.Squares.{file};
 ghost use Rattle.pg_position.specs.Geometry.{IsForward};
 ghost use Rattle.pg_position.specs.Attack.{Reaches, Attacks};
 ghost use Rattle.pg_position.specs.Position.{Stands, IsVacant, InCheck};
-ghost use Rattle.pg_position.specs.Step.{IsEnemy, Goes, relocated};
+ghost use Rattle.pg_position.specs.Step.{IsEnemy, Goes};
 
 use crate::attack::{attacked, man};
 use crate::reaching::reaches;
@@ -56,18 +56,6 @@ pub(crate) fn goes(board: &Board, man: &Man, from: Square, to: Square) -> bool
     match man.kind {
         Kind::Pawn => from.file() == to.file() && is_forward(man.color, 1, from, to),
         _ => reaches(board, *man, from, to),
-    }
-}
-
-// Takes what stands on `from` to `to`.
-pub(crate) fn relocate(board: &mut Board, from: Square, to: Square)
-    ensures { board.new ≡ relocated board.old from to }
-{
-    match board.take(from) {
-        Some(man) => board.put(to, man),
-        None => {
-            board.take(to);
-        }
     }
 }
 

@@ -1,11 +1,11 @@
 //! The tables by their meaning: sets of squares.
 ghost use Rattle.std.specs.Prelude.{◌≡◌, ℕ, ◌<◌};
 ghost use Rattle.pg_position.specs.Geometry.{InPattern};
-ghost use Rattle.pg_position.specs.numbers.Rays.{OnRay};
+ghost use Rattle.pg_position.specs.numbers.Rays.{OnRay, OnFileOrRank, OnDiagonal};
 ghost use Rattle.pg_board.specs.SquareSets.{IsSetOf};
 
 use crate::direction::Direction;
-use crate::ray_tables::RAYS;
+use crate::ray_tables::{DIAGONAL, RAYS, STRAIGHT};
 use crate::tables::{KING, KNIGHT, PAWN};
 use pg_board::{Color, Kind, Square, SquareSet};
 
@@ -38,4 +38,18 @@ pub(crate) fn ray(direction: Direction, square: Square) -> SquareSet
     ensures { IsSetOf result (OnRay direction square) }
 {
     SquareSet::of_bits(RAYS[direction.place()][square.index() as usize])
+}
+
+// The other squares of the file and the rank.
+pub(crate) fn straight_lines(square: Square) -> SquareSet
+    ensures { IsSetOf result (OnFileOrRank square) }
+{
+    SquareSet::of_bits(STRAIGHT[square.index() as usize])
+}
+
+// The other squares of the two diagonals.
+pub(crate) fn diagonal_lines(square: Square) -> SquareSet
+    ensures { IsSetOf result (OnDiagonal square) }
+{
+    SquareSet::of_bits(DIAGONAL[square.index() as usize])
 }

@@ -1,9 +1,8 @@
 //! The state that a step leaves.
 ghost use Rattle.std.specs.Prelude.{◌≡◌, ℕ, ◌+◌, ◌-◌, ◌<◌};
 ghost use Rattle.pg_position.specs.Position.{IsPosition};
-ghost use Rattle.pg_position.specs.Step.{IsWay, relocated, board_after, passed_after, touches, keeps, rights_after, after};
+ghost use Rattle.pg_position.specs.Step.{IsWay, board_after, passed_after, touches, keeps, rights_after, after};
 
-use crate::boards::relocate;
 use crate::moves::{Move, Way};
 use crate::rights::{Rights, Wing};
 use crate::squares::{ahead, castling_homes, king_crossed, king_home, rook_home};
@@ -63,9 +62,9 @@ impl State {
     {
         let mut board = self.board;
         match way {
-            Way::Plain | Way::Capture | Way::DoubleAdvance => relocate(&mut board, m.from, m.to),
+            Way::Plain | Way::Capture | Way::DoubleAdvance => board.relocate(m.from, m.to),
             Way::EnPassant => {
-                relocate(&mut board, m.from, m.to);
+                board.relocate(m.from, m.to);
                 board.take(ahead(self.side.other(), 1, m.to));
             }
             Way::Promotion(piece) => {
@@ -79,12 +78,8 @@ impl State {
                 );
             }
             Way::Castling(wing) => {
-                relocate(&mut board, m.from, m.to);
-                relocate(
-                    &mut board,
-                    rook_home(self.side, wing),
-                    king_crossed(self.side, wing),
-                );
+                board.relocate(m.from, m.to);
+                board.relocate(rook_home(self.side, wing), king_crossed(self.side, wing));
             }
         }
         board

@@ -3,17 +3,18 @@ ghost use Rattle.std.specs.Prelude.{◌≡◌, ℕ, ◌↔◌, IsTrue};
 ghost use Rattle.pg_travel.specs.Needs.{TravelHolds};
 
 use crate::needs::excludes_for;
-use pg_board::Color;
 use pg_captures::Bound;
 use pg_fen::Diagram;
 use pg_position::Position;
 
-// Whether the test of either colour holds.
+// Whether the test of either colour holds. Where one does, it is mostly that of the colour that has
+// just moved, since its move was of no use: so that one is tried first.
 fn travel_holds(diagram: &Diagram, position: &Position, left: u8) -> bool
     ensures { IsTrue result ↔ TravelHolds diagram.now position.now left }
 {
-    excludes_for(Color::White, diagram, position, left)
-        || excludes_for(Color::Black, diagram, position, left)
+    let side = position.side();
+    excludes_for(side.other(), diagram, position, left)
+        || excludes_for(side, diagram, position, left)
 }
 
 /// The bound by travel, code 4. Each man of the diagram comes from one of the position by steps of

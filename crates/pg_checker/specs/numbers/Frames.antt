@@ -51,6 +51,11 @@ module _ {P M : Type 0} (r : Rules P M) where
   abbrev pub turn : ℕ → Frame P M → List (Frame P M) → Bool → WalkState P → Result Work (Cause M)
   turn n f fs found s = turn_at n f fs found s f.left
 
+  -- the same of the whole stack; where nothing is open, nothing is done
+  abbrev pub turn_top : ℕ → List (Frame P M) → Bool → WalkState P → Result Work (Cause M)
+  turn_top n [] found s = Ok (record { frames = []; found = found; state = s })
+  turn_top n (f ∷ fs) found s = turn n f fs found s
+
   -- how much is left to do, where no position has more than most moves
   abbrev pub load : List (Frame P M) → ℕ
   load [] = 0

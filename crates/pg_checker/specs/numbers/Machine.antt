@@ -1,8 +1,13 @@
 -- What the values of the machine stand for: the frames of the walk, its entries and its state; and what code did from one machine to another.
-use Rattle.std.specs.Prelude.{◌≡◌, ℕ, ◌+◌, Bool, true, false, List, [], ◌∷◌, ◌++◌, map, reverse, Option, Some, None, Result}
+use Rattle.std.specs.Prelude.{◌≡◌, ℕ, suc, ◌+◌, ◌<◌, ◌||◌, Bool, true, false, List, [], ◌∷◌, ◌++◌, map, reverse, Option, Some, None, Result}
 use Rattle.pg_position.specs.declared.state.State.{State}
 use Rattle.pg_position.specs.declared.moves.Move.{Move}
+use Rattle.pg_position.specs.Position.{IsPosition}
+use Rattle.pg_position.specs.Step.{Legal}
+use Rattle.pg_board.specs.Placement.{Placement}
+use Rattle.pg_moves.specs.Moves.{IsNext, IsLast}
 use Rattle.pg_certificate.specs.Reader.{ReaderState, to_come}
+use Rattle.pg_checker.specs.Passing.{AllElsewhere, PassesOver}
 use Rattle.pg_checker.specs.Tree as tree
 use Rattle.pg_checker.specs.Tree.{one_if}
 use Rattle.pg_checker.specs.Left.{left_after}
@@ -51,6 +56,41 @@ stack_at m = frames_of (reverse m.frames.items)
 abbrev pub named_at : Machine → ℕ
 named_at m = count_named (reverse m.frames.items)
 
+-- ---- what is done at the topmost frame
+-- the topmost frame is made into another one, and those below it stay
+pub record OnTop (did : Frame → Frame → Type 0) (old new : List Frame) : Type 0 where
+  pub below : List Frame
+  pub before : Frame
+  pub after : Frame
+  pub was : old ≡ below ++ (before ∷ [])
+  pub is : new ≡ below ++ (after ∷ [])
+  pub happened : did before after
+
+-- a node that has just opened
+abbrev pub fresh : State → ℕ → Bool → Frame
+fresh p plies is_named = record { moves = record { position = p; last = None }; plies = plies; named = is_named; found = false }
+
+-- no move is left at it
+abbrev pub HasNone : Frame → Frame → Type 0
+HasNone old new = IsLast old.moves.position old.moves.last × (new ≡ old)
+
+-- its next move is played, which leads to p
+pub record Plays (found : Bool) (p : State) (plies : ℕ) (old new : Frame) : Type 0 where
+  pub move : Move
+  pub next : IsNext old.moves.position old.moves.last move
+  pub position : IsPosition old.moves.position
+  pub leads : Legal old.moves.position move p
+  pub below : plies ≡ old.plies
+  pub advanced : new ≡ record old { moves = record { position = old.moves.position; last = Some move }; found = old.found || found }
+
+-- leaves that are not on the diagram are passed over; it is over where no move that is left leads to one that is
+pub record Passed (d : Placement) (over : Bool) (old new : Frame) : Type 0 where
+  pub frame : new ≡ record old { moves = new.moves }
+  pub passed : PassesOver d old.moves new.moves
+  pub inner : 0 < old.plies → new.moves ≡ old.moves
+  pub ends : over ≡ true → (old.plies ≡ 0) × AllElsewhere d new.moves
+  pub position : old.plies ≡ 0 → IsPosition old.moves.position
+
 -- ---- entries
 abbrev pub entry_of : Entry → tree.Entry State
 entry_of e = record { position = e.position; plies = e.plies; fertile = e.fertile }
@@ -62,6 +102,19 @@ entered false e = []
 
 abbrev pub entries_of : Machine → List (tree.Entry State)
 entries_of m = map entry_of m.table.entries
+
+-- the topmost node closes
+pub record Closes (old new : Machine) : Type 0 where
+  pub below : List Frame
+  pub top : Frame
+  pub was : old.frames.items ≡ below ++ (top ∷ [])
+  pub frames : new.frames ≡ record { items = below }
+  pub entries : entries_of new ≡ entries_of old ++ entered top.named (record { position = top.moves.position; plies = suc top.plies; fertile = top.found || old.found })
+  pub kept : new.table.kept + one_if top.named ≡ old.table.kept
+  pub found : new.found ≡ (top.found || old.found)
+  pub reader : new.reader ≡ old.reader
+  pub records : new.records ≡ old.records
+  pub room : new.room ≡ old.room
 
 -- ---- the state of the walk, with bytes to come and room for named nodes
 abbrev pub state_at : Machine → List ℕ → ℕ → walk.WalkState State

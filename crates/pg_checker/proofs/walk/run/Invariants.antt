@@ -9,8 +9,8 @@ use Rattle.pg_checker.specs.numbers.Machine.{work_at}
 use Rattle.pg_checker.proofs.Running.{Runs}
 use Rattle.pg_checker.proofs.walk.run.Given as goal
 
-abbrev pub invariant-loop-top : goal.invariant-loop-top
-invariant-loop-top g l = Runs l.question.diagram.now l.question.plies l.question.games.now (cuts_for (λ b. (goal.Bound-dyn g (b.vtable, b.value)).code_of b.value) (λ b. (goal.Bound-dyn g (b.vtable, b.value)).excluded b.value) l.question) l.tree (to_come l.initial.machine.reader (g.S.Source.left l.initial.source)) (to_come l.machine.reader (g.S.Source.left l.source)) l.initial.machine l.machine
+abbrev pub invariant-loop-machine : goal.invariant-loop-machine
+invariant-loop-machine g l = Runs l.question.diagram.now l.question.plies l.question.games.now (cuts_for (λ b. (goal.Bound-dyn g (b.vtable, b.value)).code_of b.value) (λ b. (goal.Bound-dyn g (b.vtable, b.value)).excluded b.value) l.question) l.tree (to_come l.initial.machine.reader (g.S.Source.left l.initial.source)) (to_come l.machine.reader (g.S.Source.left l.source)) l.initial.machine l.machine
 
-abbrev pub decreases-loop-top : goal.decreases-loop-top
-decreases-loop-top g l = effort (chess l.question.diagram.now l.question.plies l.question.games.now (cuts_for (λ b. (goal.Bound-dyn g (b.vtable, b.value)).code_of b.value) (λ b. (goal.Bound-dyn g (b.vtable, b.value)).excluded b.value) l.question)) most_moves (work_at (chess l.question.diagram.now l.question.plies l.question.games.now (cuts_for (λ b. (goal.Bound-dyn g (b.vtable, b.value)).code_of b.value) (λ b. (goal.Bound-dyn g (b.vtable, b.value)).excluded b.value) l.question)) l.machine [] 0)
+abbrev pub decreases-loop-machine : goal.decreases-loop-machine
+decreases-loop-machine g l = effort (chess l.question.diagram.now l.question.plies l.question.games.now (cuts_for (λ b. (goal.Bound-dyn g (b.vtable, b.value)).code_of b.value) (λ b. (goal.Bound-dyn g (b.vtable, b.value)).excluded b.value) l.question)) most_moves (work_at (chess l.question.diagram.now l.question.plies l.question.games.now (cuts_for (λ b. (goal.Bound-dyn g (b.vtable, b.value)).code_of b.value) (λ b. (goal.Bound-dyn g (b.vtable, b.value)).excluded b.value) l.question)) l.machine [] 0)

@@ -1,0 +1,140 @@
+-- What is written at the topmost frame, and what the turns make of it. Leads to the contracts of `turn` and `run`.
+use Rattle.std.proofs.Common.{◌≡◌, ℕ, zero, suc, ◌+◌, ◌<◌, ◌≤◌, Bool, true, ◌||◌, List, [], ◌∷◌, ◌++◌, length, reverse, take, get_or, set, Option, Some, None, MatchOption, Result, Ok, Err, refl, sym, ◌∙◌, ap, subst, arith, lt_of_lt_of_le}
+use Rattle.std.specs.Bool.{◌==◌}
+use Rattle.std.proofs.lemmas.Bool.{eqb-true}
+use Rattle.std.proofs.lemmas.List.{reverse-append, length-append}
+use Rattle.arrayvec.specs.ArrayVec.{ArrayVec}
+use Rattle.pg_board.specs.Placement.{Placement}
+use Rattle.pg_position.specs.declared.state.State.{State}
+use Rattle.pg_position.specs.declared.moves.Move.{Move}
+use Rattle.pg_position.specs.Position.{IsPosition}
+use Rattle.pg_moves.specs.Moves.{IsLast}
+use Rattle.pg_moves.specs.numbers.Places.{most_moves}
+use Rattle.pg_checker.specs.Tree.{one_if}
+use Rattle.pg_checker.specs.Chess.{Cuts, chess}
+use Rattle.pg_checker.specs.Passing.{AllElsewhere}
+use Rattle.pg_checker.specs.numbers.Frames.{enter, effort, Stacked}
+use Rattle.pg_checker.specs.numbers.Halting.{Stop}
+use Rattle.pg_checker.specs.numbers.Machine.{Closes, HasNone, OnTop, Passed, Plays, ReadsVersion, path, frames_of, count_named, state_at, work_at}
+use Rattle.pg_checker.specs.numbers.Steps.{Stops, Says}
+use Rattle.pg_checker.specs.declared.machine.Frame.{Frame}
+use Rattle.pg_checker.specs.declared.machine.Machine.{Machine}
+use Rattle.pg_checker.proofs.Passing.{runs_over, over_less, frame_plies}
+use Rattle.pg_checker.proofs.Running.{Runs, Few, finishes, runs_on, runs_less, runs_stop, runs_skip, skip_less, kept_popped, depth}
+use Rattle.pg_checker.proofs.Turning.{under, kept_pushed, says_tops, tops, tops_say, turn_closes, turn_plays}
+
+front : (fs : List Frame) (n : ℕ) (x : Frame) → length fs ≡ suc n → x ≡ get_or fs n x → fs ≡ take n fs ++ (x ∷ [])
+front [] n x e is = absurd (omega arith)
+front (f ∷ []) zero x e is = ap (λ (v : Frame). v ∷ []) (sym is)
+front (f ∷ g ∷ fs) zero x e is = absurd (omega arith)
+front (f ∷ fs) (suc n) x e is = ap (λ (v : List Frame). f ∷ v) (front fs n x (omega arith) is)
+
+front_set : (fs : List Frame) (n : ℕ) (y : Frame) → length fs ≡ suc n → set fs n y ≡ take n fs ++ (y ∷ [])
+front_set [] n y e = absurd (omega arith)
+front_set (f ∷ []) zero y e = refl
+front_set (f ∷ g ∷ fs) zero y e = absurd (omega arith)
+front_set (f ∷ fs) (suc n) y e = ap (λ (v : List Frame). f ∷ v) (front_set fs n y (omega arith))
+
+pub on_top : (did : Frame → Frame → Type 0) (old : List Frame) (n : ℕ) (x y : Frame) → length old ≡ suc n → x ≡ get_or old n x → did x y → OnTop did old (set old n y)
+on_top did old n x y e is happened = record { below = take n old; before = x; after = y; was = front old n x e is; is = front_set old n y e; happened = happened }
+
+pub each_on_top : {X : Type 0} (r : Option X) (none : Frame → Frame → Type 0) (some : X → Frame → Frame → Type 0) (old : List Frame) (n : ℕ) (x y : Frame) → length old ≡ suc n → x ≡ get_or old n x → MatchOption r (none x y) (λ v. some v x y) → MatchOption r (OnTop none old (set old n y)) (λ v. OnTop (some v) old (set old n y))
+each_on_top None none some old n x y e is h = on_top none old n x y e is h
+each_on_top (Some v) none some old n x y e is h = on_top (some v) old n x y e is h
+
+-- the last frame of a list is one
+top_of : Frame → List Frame → Frame
+top_of d [] = d
+top_of d (f ∷ fs) = f
+
+last_is : (xs ys : List Frame) (x y : Frame) → xs ++ (x ∷ []) ≡ ys ++ (y ∷ []) → x ≡ y
+unfolding top_of
+last_is xs ys x y e = sym (ap (top_of x) (reverse-append xs (x ∷ []))) ∙ ap (λ (v : List Frame). top_of x (reverse v)) e ∙ ap (top_of x) (reverse-append ys (y ∷ []))
+
+pub no_items : (items : List Frame) (b : Bool) → b ≡ (length items == 0) → b ≡ true → items ≡ []
+no_items [] b is e = refl
+no_items (f ∷ fs) b is e = absurd (let none : suc (length fs) ≡ 0 = eqb-true (suc (length fs)) 0 (sym is ∙ e) in omega arith)
+
+-- where nothing is played, nothing is written
+pub same_items : (old new : List Frame) → OnTop HasNone old new → new ≡ old
+same_items old new w = w.is ∙ ap (λ (f : Frame). w.below ++ (f ∷ [])) w.happened.1 ∙ sym w.was
+
+pub play_depth : {found : Bool} {p : State} (n plies : ℕ) (old new : List Frame) → OnTop (Plays found p plies) old new → Stacked n (frames_of (reverse old)) → plies + length new ≡ n
+play_depth n plies old new w stacked =
+    let deep : w.before.plies + suc (length w.below) ≡ n = depth n old w.below w.before w.was stacked in
+    let long : length new ≡ length w.below + 1 = ap length w.is ∙ length-append w.below (w.after ∷ []) in
+    let same : plies ≡ w.before.plies = w.happened.below in
+    omega arith
+
+pub play_kept : {found : Bool} {p : State} (plies : ℕ) (m : Machine) (new : List Frame) → OnTop (Plays found p plies) m.frames.items new → m.table.kept ≡ count_named (reverse m.frames.items) → m.table.kept ≡ count_named (reverse new)
+play_kept plies m new w kept = kept_pushed (under m w.below) new w.before w.after (ap (λ (f : Frame). f.named) w.happened.advanced) (kept_popped m.table.kept m.frames.items w.below w.before w.was kept) w.is
+
+pub closes_kept : (old new : Machine) → Closes old new → old.table.kept ≡ count_named (reverse old.frames.items) → new.table.kept ≡ count_named (reverse new.frames.items)
+closes_kept old new cl kept =
+    let one : old.table.kept ≡ one_if cl.top.named + count_named (reverse cl.below) = kept_popped old.table.kept old.frames.items cl.below cl.top cl.was kept in
+    let two : new.table.kept + one_if cl.top.named ≡ old.table.kept = cl.kept in
+    let three : new.table.kept ≡ count_named (reverse cl.below) = omega arith in
+    three ∙ ap (λ (v : ArrayVec Frame). count_named (reverse v.items)) (sym cl.frames)
+
+module _ (d : Placement) (l : ℕ) (games : List (List Move)) (cut : Cuts) (n : ℕ) where
+  -- ---- one turn
+  pub top_plays : (before after : Option (List ℕ)) (m mid new : Machine) (p : State) (plies : ℕ) (res : Result (Unit {0}) Stop) → OnTop (Plays m.found p plies) m.frames.items mid.frames.items → mid.table ≡ m.table → mid.records ≡ m.records → mid.room ≡ m.room
+      → Says before after mid.room new.room (λ rest x. enter (chess d l games cut) n plies (path (reverse mid.frames.items)) p (frames_of (reverse mid.frames.items)) (state_at mid rest x)) (λ _ rest x. work_at (chess d l games cut) new rest x) res
+      → Says before after m.room new.room (tops d l games cut n m) (λ _ rest x. work_at (chess d l games cut) new rest x) res
+  top_plays before after m mid new p plies res w table records room h =
+      says_tops d l games cut n before after m new w.below w.before res w.was
+      (turn_plays d l games cut n before after w.before w.after (under m w.below) mid new p w.happened.move (w.before.found || m.found) res w.happened.advanced refl w.happened.next w.happened.position w.happened.leads w.is table records room
+      (subst (λ (k : ℕ). Says before after mid.room new.room (λ rest x. enter (chess d l games cut) n k (path (reverse mid.frames.items)) p (frames_of (reverse mid.frames.items)) (state_at mid rest x)) (λ _ rest x. work_at (chess d l games cut) new rest x) res) w.happened.below h))
+
+  pub top_closes : (known after : Option (List ℕ)) (m new : Machine) (fs : ArrayVec Frame) → OnTop HasNone m.frames.items fs.items → Closes (record m { frames = fs }) new → after ≡ known
+      → Says {X = Unit {0}} known after m.room new.room (tops d l games cut n m) (λ _ rest x. work_at (chess d l games cut) new rest x) (Ok tt)
+  top_closes known after m new fs w cl there =
+      let one : w.before ≡ cl.top = sym w.happened.1 ∙ last_is w.below cl.below w.after cl.top (sym w.is ∙ cl.was) in
+      says_tops d l games cut n known after m new cl.below cl.top (Ok tt) (sym (same_items m.frames.items fs.items w) ∙ cl.was)
+      (turn_closes d l games cut n known after cl.top (under m cl.below) new (cl.top.found || m.found) there refl (subst (λ (f : Frame). IsLast f.moves.position f.moves.last) one w.happened.0) cl.frames cl.room cl.records cl.found cl.entries)
+
+  -- ---- the loop: past leaves that are not on the diagram
+  pub passed_on : {over : Bool} (before here : Option (List ℕ)) (old now : Machine) (fs : ArrayVec Frame) → Runs d l games cut n before here old now → OnTop (Passed d over) now.frames.items fs.items → Runs d l games cut n before here old (record now { frames = fs })
+  passed_on before here old now fs run w =
+      subst (λ (v : List Frame). Runs d l games cut n before here old (record now { frames = record { items = v } })) (sym w.is)
+      (runs_over d l games cut n old now (under now w.below) w.before w.after run w.was w.happened.position w.happened.frame w.happened.passed w.happened.inner)
+
+  passed_less : {over : Bool} (now : Machine) (fs : ArrayVec Frame) → OnTop (Passed d over) now.frames.items fs.items
+      → effort (chess d l games cut) most_moves (work_at (chess d l games cut) (record now { frames = fs }) [] 0) ≤ effort (chess d l games cut) most_moves (work_at (chess d l games cut) now [] 0)
+  passed_less now fs w =
+      subst (λ (v : List Frame). effort (chess d l games cut) most_moves (work_at (chess d l games cut) (record now { frames = record { items = v } }) [] 0) ≤ effort (chess d l games cut) most_moves (work_at (chess d l games cut) now [] 0)) (sym w.is)
+      (over_less d l games cut n now (under now w.below) w.before w.after w.was w.happened.frame w.happened.passed)
+
+  -- then a turn
+  pub turn_runs : {over : Bool} (before here after : Option (List ℕ)) (old now new : Machine) (fs : ArrayVec Frame) → Runs d l games cut n before here old now → OnTop (Passed d over) now.frames.items fs.items
+      → Says {X = Unit {0}} here after now.room new.room (tops d l games cut n (record now { frames = fs })) (λ _ rest x. work_at (chess d l games cut) new rest x) (Ok tt)
+      → new.table.kept ≡ count_named (reverse new.frames.items) → ReadsVersion cut.version new.reader → length new.reader.held ≤ 4096 → Few here after now.records new.records → Runs d l games cut n before after old new
+  turn_runs before here after old now new fs run w says kept runs held few =
+      runs_on d l games cut n before here after old (record now { frames = fs }) (under now w.below) new w.after (passed_on before here old now fs run w) w.is refl refl refl refl
+      (tops_say d l games cut n here after (record now { frames = fs }) new w.below w.after (Ok tt) w.is says) kept runs held few
+
+  pub turn_less : {over : Bool} (here after : Option (List ℕ)) (now new : Machine) (fs : ArrayVec Frame) → OnTop (Passed d over) now.frames.items fs.items
+      → Says {X = Unit {0}} here after now.room new.room (tops d l games cut n (record now { frames = fs })) (λ _ rest x. work_at (chess d l games cut) new rest x) (Ok tt)
+      → effort (chess d l games cut) most_moves (work_at (chess d l games cut) new [] 0) < effort (chess d l games cut) most_moves (work_at (chess d l games cut) now [] 0)
+  turn_less here after now new fs w says =
+      lt_of_lt_of_le (runs_less d l games cut n here after (record now { frames = fs }) (under now w.below) new w.after w.is refl (tops_say d l games cut n here after (record now { frames = fs }) new w.below w.after (Ok tt) w.is says)) (passed_less now fs w)
+
+  pub turn_stops : {over : Bool} (before here after : Option (List ℕ)) (old now new : Machine) (fs : ArrayVec Frame) (s : Stop) → Runs d l games cut n before here old now → OnTop (Passed d over) now.frames.items fs.items
+      → Stops here now.room (tops d l games cut n (record now { frames = fs })) s → Stops before old.room (finishes d l games cut n old) s
+  turn_stops before here after old now new fs s run w says =
+      runs_stop d l games cut n before here old (record now { frames = fs }) (under now w.below) w.after s (passed_on before here old now fs run w) w.is refl refl refl refl
+      (tops_say d l games cut n here after (record now { frames = fs }) new w.below w.after (Err s) w.is says)
+
+  -- or the node is over
+  pub close_runs : {over : Bool} (before here : Option (List ℕ)) (old now new : Machine) (fs : ArrayVec Frame) → over ≡ true → Runs d l games cut n before here old now → OnTop (Passed d over) now.frames.items fs.items → Closes (record now { frames = fs }) new → Runs d l games cut n before here old new
+  close_runs before here old now new fs e run w cl =
+      let ends = w.happened.ends e in
+      let last : w.after.plies ≡ 0 = frame_plies d l games cut n w.before w.after w.happened.frame ∙ ends.0 in
+      let valid : IsPosition w.after.moves.position = subst (λ (p : State). IsPosition p) (sym w.happened.passed.position) (w.happened.position ends.0) in
+      let one : w.after ≡ cl.top = last_is w.below cl.below w.after cl.top (sym w.is ∙ cl.was) in
+      let all : (cl.top.plies ≡ 0) × (IsPosition cl.top.moves.position × AllElsewhere d cl.top.moves) = subst (λ (f : Frame). (f.plies ≡ 0) × (IsPosition f.moves.position × AllElsewhere d f.moves)) one (last, (valid, ends.1)) in
+      runs_skip d l games cut n before here old (record now { frames = fs }) (under now cl.below) new cl.top (cl.top.found || now.found) (passed_on before here old now fs run w) cl.was all.0 all.1.0 all.1.1 refl cl.frames cl.room cl.records cl.reader cl.found cl.kept cl.entries
+
+  pub close_less : {over : Bool} (now new : Machine) (fs : ArrayVec Frame) → OnTop (Passed d over) now.frames.items fs.items → Closes (record now { frames = fs }) new
+      → effort (chess d l games cut) most_moves (work_at (chess d l games cut) new [] 0) < effort (chess d l games cut) most_moves (work_at (chess d l games cut) now [] 0)
+  close_less now new fs w cl = lt_of_lt_of_le (skip_less d l games cut n (record now { frames = fs }) (under now cl.below) new cl.top cl.was cl.frames cl.records) (passed_less now fs w)
