@@ -5,7 +5,6 @@ use pg_captures::{Bound, Captures, Promotions};
 use pg_certificate::{FromRead, Record, RecordReader, ToWrite};
 use pg_checker::check;
 use pg_fen::{Diagram, Length};
-use pg_moves::Unwatched;
 use pg_pawns::PawnFiles;
 use pg_san::Games;
 use pg_searcher::search;
@@ -82,7 +81,7 @@ struct Found {
 
 fn run(alloc: Global, diagram: &Diagram, length: Length, nodes: u64) -> anyhow::Result<Found> {
     let mut sink = ToWrite::new(Vec::new(alloc));
-    let games = match search(alloc, diagram, length, nodes, &mut sink, &mut Unwatched) {
+    let games = match search(alloc, diagram, length, nodes, &mut sink) {
         Ok(games) => games,
         Err(fault) => Err(Fault::Search(fault))?,
     };

@@ -1,5 +1,7 @@
 //! Boards in 32 bytes.
-ghost use Rattle.std.specs.Prelude.{◌≡◌};
+ghost use Rattle.std.specs.Prelude.{◌≡◌, ◌↔◌, IsTrue};
+ghost use Rattle.std.specs.Cmp.{partial_equiv_from_equiv, decided};
+ghost use Rattle.pg_board.specs.Equality.{placement_eq, placement_eq_decides};
 ghost use Rattle.pg_board.specs.numbers.Packed.{quarters_of, unpacked};
 ghost use Rattle.pg_board.specs.numbers.Sets.{IsSound};
 
@@ -9,7 +11,7 @@ use std::marker::Model;
 
 // Each kind has a number: pawn 1, knight 2, bishop 3, rook 4, queen 5, king 6; `low`, `middle` and
 // `high` are the squares where its three bits are 1.
-#[derive(Clone, Copy, Debug)]
+#[derive(Clone, Copy, Debug, PartialEq, Eq)]
 struct Quarters {
     low: u64,
     middle: u64,
@@ -48,8 +50,14 @@ fn unpacked(quarters: &Quarters) -> Sets
     }
 }
 
+fn same_quarters(a: &Quarters, b: &Quarters) -> bool
+    ensures { IsTrue result ↔ (a.now ≡ b.now) }
+{
+    *a == *b
+}
+
 /// A board in 32 bytes, for keeping many of them. Contracts see it as a placement.
-#[derive(Debug, Drop)]
+#[derive(Clone, Copy, Debug)]
 pub struct PackedBoard {
     quarters: Quarters,
 }
@@ -57,8 +65,8 @@ pub struct PackedBoard {
 impl Model for PackedBoard {
     ghost use Rattle.pg_board.specs.Placement.{Placement, placement_of};
     ghost use Rattle.pg_board.specs.lemmas.Codes.{placement_code};
-    ghost use Rattle.pg_board.specs.numbers.Packed.{unpacked};
-    ghost use Rattle.pg_board.specs.numbers.Sets.{man_in, IsSound};
+    ghost use Rattle.pg_board.specs.numbers.Packed.{quarters_of, unpacked, quarters_back};
+    ghost use Rattle.pg_board.specs.numbers.Sets.{man_in, IsSound, sets_of};
 
     ghost Value = { Placement };
 
@@ -67,6 +75,10 @@ impl Model for PackedBoard {
     ghost view = { λ b. placement_of (man_in (unpacked b.quarters)) };
 
     ghost invariant = { λ b. IsSound (unpacked b.quarters) };
+
+    ghost inverse = { λ p. record { quarters = quarters_of (sets_of p) } };
+
+    ghost inverse_ok = { λ b h i. record { quarters = quarters_back b.quarters h i } };
 }
 
 impl PackedBoard {
@@ -76,6 +88,24 @@ impl PackedBoard {
     {
         Board::of_sets(unpacked(&self.quarters))
     }
+}
+
+/// Two packed boards are equal where they are the same board.
+impl PartialEq for PackedBoard {
+    ghost eq = { placement_eq };
+
+    ghost laws = { partial_equiv_from_equiv (decided placement_eq placement_eq_decides) };
+
+    fn eq(&self, other: &PackedBoard) -> bool
+        ensures value { result ≡ placement_eq self.now other.now }
+        ensures same { IsTrue result ↔ (self.now ≡ other.now) }
+    {
+        same_quarters(&self.quarters, &other.quarters)
+    }
+}
+
+impl Eq for PackedBoard {
+    ghost laws = { decided placement_eq placement_eq_decides };
 }
 
 impl Board {

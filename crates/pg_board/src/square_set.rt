@@ -225,7 +225,7 @@ impl Sub for SquareSet {
 }
 
 /// The squares of a set, one at a time in ascending order: those from the index `from` on are left.
-#[derive(Clone, Copy, Debug)]
+#[derive(Clone, Copy, Debug, PartialEq, Eq)]
 pub struct Squares {
     pub set: SquareSet,
     pub from: u8,
@@ -238,6 +238,7 @@ impl Squares {
         ensures same { self.new.set ≡ self.old.set }
         ensures found { MatchOption result (HasNoneFrom self.old.set self.old.from) (λ s. IsFirstFrom self.old.set self.old.from s) }
         ensures beyond { IfSome result (λ s. self.new.from ≡ s + 1) }
+        ensures none { IfNone result (self.new ≡ self.old) }
     {
         match self.set.first_from(self.from) {
             Some(square) => {

@@ -5,8 +5,7 @@ use Rattle.pg_board.specs.Placement.{Placement}
 use Rattle.pg_position.specs.declared.state.State.{State}
 use Rattle.pg_position.specs.declared.moves.Move.{Move}
 use Rattle.pg_position.specs.Array.{array_state}
-use Rattle.pg_position.specs.Game.{IsGame}
-use Rattle.pg_moves.specs.Counts.{IsOnce}
+use Rattle.pg_position.specs.Game.{IsGame, IsOnce}
 
 -- a game of n plies from the initial array, whose last placement is the diagram d
 abbrev pub IsSolution : Placement → ℕ → List Move → Type 0

@@ -21,4 +21,4 @@ pub use chess_laws::{
 };
 pub use fault::{Fault, ListFault};
 pub use listed::check_listed;
-pub use nearness::{may_reach, pass_over};
+pub use nearness::pass_over;

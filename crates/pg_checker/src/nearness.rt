@@ -20,10 +20,10 @@ fn differing(diagram: &Diagram, position: &Position) -> SquareSet
     position.board().differing(&diagram.board())
 }
 
-/// Whether the position differs from the diagram's placement on two squares at least and on four at
-/// most. A legal move changes that many: the square which it leaves and that to which it goes, and
-/// with castling those of the rook too. So no legal move leads to the diagram where the answer is no.
-pub fn may_reach(diagram: &Diagram, position: &Position) -> bool
+// Whether the position differs from the diagram's placement on two squares at least and on four at
+// most. A legal move changes that many: the square which it leaves and that to which it goes, and
+// with castling those of the rook too. So no legal move leads to the diagram where the answer is no.
+fn may_reach(diagram: &Diagram, position: &Position) -> bool
     ensures near { IsTrue result ↔ TwoToFour position.now.board diagram.now }
     ensures position { IsPosition position.now }
 {

@@ -12,7 +12,7 @@ use crate::refusals::Refusal;
 use crate::runs::SearchLine;
 use crate::writing::begin;
 use clap::ArgMatches;
-use pg_report::{Bound, Games, Problem, ToWrite, run_listed, search as search_for};
+use pg_report::{Bound, Games, Problem, ToWrite, run_listed, search_watched};
 use std::io;
 use std::io::{Read, Seek, SeekFrom, Write};
 use std::rt::Runtime;
@@ -31,7 +31,7 @@ pub(crate) fn search_to<'a, R: Runtime + AllocGlobal, W: Write + Drop>(
     let mut sink = ToWrite::new(certificate);
     let terminal = Terminal::new(screen);
     let mut line = SearchLine::new(rt, &terminal, nodes);
-    let found = search_for(
+    let found = search_watched(
         rt.alloc(),
         &problem.diagram,
         problem.length,

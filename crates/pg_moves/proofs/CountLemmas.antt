@@ -11,12 +11,12 @@ use Rattle.pg_position.specs.declared.state.State.{State}
 use Rattle.pg_position.specs.declared.moves.Move.{Move}
 use Rattle.pg_position.specs.Position.{IsPosition}
 use Rattle.pg_position.specs.Step.{Legal}
-use Rattle.pg_position.specs.Game.{IsGame}
+use Rattle.pg_position.specs.Game.{IsGame, IsOnce}
 use Rattle.pg_position.proofs.FutureLemmas.{legal_position}
 use Rattle.pg_moves.specs.declared.fault.CountFault.{CountFault}
 use Rattle.pg_moves.specs.declared.fault.CountFault.TheVariants.{TooDeep, Overflow, Memory}
 use Rattle.pg_moves.specs.Moves.{move_cmp, IsLegal, IsMoveList}
-use Rattle.pg_moves.specs.Counts.{IsFollowed, IsOnce, IsGameOf, IsGameList, IsGameCount, IsCountFault}
+use Rattle.pg_moves.specs.Counts.{IsFollowed, IsGameOf, IsGameList, IsGameCount, IsCountFault}
 use Rattle.pg_moves.proofs.SortLemmas.{Contains-head, Contains-later, Contains-cons, Contains-none, sorted_below, sorted_rest}
 use Rattle.pg_moves.proofs.PlaceLemmas.{move_cmp_total}
 use Rattle.pg_moves.proofs.ListLemmas.{moves_of, moves_of_is, move_list_is}

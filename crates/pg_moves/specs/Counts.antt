@@ -1,17 +1,12 @@
 -- How many games of so many plies go on from a position.
-use Rattle.std.specs.Prelude.{◌≡◌, ◌↔◌, ℕ, ◌^◌, ◌<◌, ◌≤◌, List, [], ◌∷◌, length}
+use Rattle.std.specs.Prelude.{◌≡◌, ◌↔◌, ℕ, ◌^◌, ◌<◌, ◌≤◌, List, length}
 use Rattle.std.specs.List.{Contains}
 use Rattle.pg_position.specs.declared.state.State.{State}
 use Rattle.pg_position.specs.declared.moves.Move.{Move}
 use Rattle.pg_position.specs.Step.{Legal}
-use Rattle.pg_position.specs.Game.{IsGame}
+use Rattle.pg_position.specs.Game.{IsGame, IsOnce}
 use Rattle.pg_moves.specs.declared.fault.CountFault.{CountFault}
 use Rattle.pg_moves.specs.declared.fault.CountFault.TheVariants.{TooDeep, Overflow, Memory}
-
--- each element stands in the list once: the first is not among the rest, and so on
-unfoldable pub IsOnce : {A : Type 0} → List A → Type 0
-IsOnce [] = Unit {0}
-IsOnce (x ∷ xs) = (¬ Contains xs x) × IsOnce xs
 
 -- the moves are a game of k plies from p
 abbrev pub IsGameOf : State → ℕ → List Move → Type 0

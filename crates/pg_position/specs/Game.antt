@@ -1,5 +1,6 @@
 -- Games: lists of legal moves, one after another; and placements that no game of so many plies comes to.
 use Rattle.std.specs.Prelude.{◌≡◌, ◌≢◌, ℕ, List, [], ◌∷◌, length}
+use Rattle.std.specs.List.{Contains}
 use Rattle.pg_board.specs.Placement.{Placement}
 use Rattle.pg_position.specs.declared.state.State.{State}
 use Rattle.pg_position.specs.declared.moves.Move.{Move}
@@ -9,6 +10,11 @@ use Rattle.pg_position.specs.Step.{Legal}
 abbrev pub IsGame : State → List Move → State → Type 0
 IsGame p [] r = p ≡ r
 IsGame p (m ∷ ms) r = (q : State) × Legal p m q × IsGame q ms r
+
+-- each element stands in the list once, as games in a list of games: the first is not among the rest, and so on
+unfoldable pub IsOnce : {A : Type 0} → List A → Type 0
+IsOnce [] = Unit {0}
+IsOnce (x ∷ xs) = (¬ Contains xs x) × IsOnce xs
 
 -- the same moves, played from both, end on the same placement
 abbrev pub EndAlike : State → State → Type 0

@@ -1,5 +1,8 @@
 //! Positions in few bytes.
-ghost use Rattle.std.specs.Prelude.{◌≡◌};
+ghost use Rattle.std.specs.Prelude.{◌≡◌, ◌↔◌, IsTrue};
+ghost use Rattle.std.specs.Cmp.{partial_equiv_from_equiv, decided};
+ghost use Rattle.pg_position.specs.Equality.{AreAlike, state_eq};
+ghost use Rattle.pg_position.specs.lemmas.Equalities.{state_eq_decides};
 
 use crate::position::Position;
 use crate::rights::Rights;
@@ -9,7 +12,7 @@ use std::marker::Model;
 
 /// A position in 40 bytes, for keeping many of them. Contracts see it as the four parts of the
 /// position.
-#[derive(Debug, Drop)]
+#[derive(Clone, Copy, Debug)]
 pub struct PackedPosition {
     board: PackedBoard,
     side: Color,
@@ -29,6 +32,8 @@ impl Model for PackedPosition {
     ghost view = { λ p. record { board = p.board; side = p.side; rights = p.rights; passed = p.passed } };
 
     ghost invariant = { λ p. IsPosition (record { board = p.board; side = p.side; rights = p.rights; passed = p.passed }) };
+
+    ghost inverse = { λ s. record { board = s.board; side = s.side; rights = s.rights; passed = s.passed } };
 }
 
 impl PackedPosition {
@@ -43,6 +48,30 @@ impl PackedPosition {
             passed: self.passed,
         })
     }
+}
+
+fn are_alike(a: &PackedPosition, b: &PackedPosition) -> bool
+    ensures { IsTrue result ↔ AreAlike a.now b.now }
+{
+    a.board == b.board && a.side == b.side && a.rights == b.rights && a.passed == b.passed
+}
+
+/// Two packed positions are equal where they are the same position.
+impl PartialEq for PackedPosition {
+    ghost eq = { state_eq };
+
+    ghost laws = { partial_equiv_from_equiv (decided state_eq state_eq_decides) };
+
+    fn eq(&self, other: &PackedPosition) -> bool
+        ensures value { result ≡ state_eq self.now other.now }
+        ensures same { IsTrue result ↔ (self.now ≡ other.now) }
+    {
+        are_alike(self, other)
+    }
+}
+
+impl Eq for PackedPosition {
+    ghost laws = { decided state_eq state_eq_decides };
 }
 
 impl Position {

@@ -42,5 +42,5 @@ pub use pg_fen::{Diagram, FenFault, Length, LengthFault};
 pub use pg_moves::{CountFault, Progress, Unwatched};
 pub use pg_pawns::PawnFiles;
 pub use pg_san::{Games, GamesFault};
-pub use pg_searcher::{Progress as SearchProgress, SearchFault, search};
+pub use pg_searcher::{Progress as SearchProgress, SearchFault, search, search_watched};
 pub use pg_travel::Travel;

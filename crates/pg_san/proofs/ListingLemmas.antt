@@ -7,8 +7,7 @@ use Rattle.std.proofs.lemmas.List.Elements.{Contains-append_left, Contains-push,
 use Rattle.pg_position.specs.declared.state.State.{State}
 use Rattle.pg_position.specs.declared.moves.Move.{Move}
 use Rattle.pg_position.specs.Array.{array_state}
-use Rattle.pg_position.specs.Game.{IsGame}
-use Rattle.pg_moves.specs.Counts.{IsOnce}
+use Rattle.pg_position.specs.Game.{IsGame, IsOnce}
 use Rattle.pg_moves.proofs.SortLemmas.{Contains-none, Contains-head, Contains-later}
 use Rattle.pg_san.specs.declared.listing.LineFault.{LineFault}
 use Rattle.pg_san.specs.declared.listing.LineFault.TheVariants.{Word, NoMemory}

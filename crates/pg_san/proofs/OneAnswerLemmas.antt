@@ -11,7 +11,7 @@ use Rattle.pg_position.specs.Position.{IsPosition}
 use Rattle.pg_position.specs.Step.{Legal}
 use Rattle.pg_position.proofs.ArrayLemmas.{array_position}
 use Rattle.pg_position.proofs.FutureLemmas.{legal_position, one_result}
-use Rattle.pg_moves.specs.Counts.{IsOnce}
+use Rattle.pg_position.specs.Game.{IsOnce}
 use Rattle.pg_moves.proofs.SortLemmas.{Contains-none, Contains-head, Contains-cons}
 use Rattle.pg_san.specs.declared.fault.SanFault.{SanFault}
 use Rattle.pg_san.specs.declared.fault.SanFault.TheVariants.{Shape, NoSuchMove, Ambiguous}

@@ -16,7 +16,7 @@ use Rattle.pg_board.specs.declared.man.Kind.TheVariants.{Pawn, Knight, Bishop, R
 use Rattle.pg_moves.specs.Moves.{move_cmp, promotion_number}
 use Rattle.pg_moves.proofs.PlaceLemmas.{move_cmp_total, same_parts}
 use Rattle.pg_moves.proofs.SortLemmas.{sorted_none, sorted_below, sorted_rest, sorted_same, Contains-none}
-use Rattle.pg_moves.specs.Counts.{IsOnce}
+use Rattle.pg_position.specs.Game.{IsOnce}
 use Rattle.pg_san.specs.Games.{game_cmp, IsGames}
 
 pub game_cmp_total : IsTotalOrder game_cmp

@@ -5,7 +5,7 @@ use Rattle.pg_position.specs.declared.state.State.{State}
 use Rattle.pg_position.specs.declared.moves.Move.{Move}
 use Rattle.pg_position.specs.Array.{array_state}
 use Rattle.pg_position.specs.Step.{Legal}
-use Rattle.pg_moves.specs.Counts.{IsOnce}
+use Rattle.pg_position.specs.Game.{IsOnce}
 use Rattle.pg_san.specs.declared.fault.SanFault.{SanFault}
 use Rattle.pg_san.specs.declared.listing_fault.GamesFault.{GamesFault}
 use Rattle.pg_san.specs.declared.listing_fault.GamesFault.TheVariants.{At, TooMany, Repeated, Memory}

@@ -2,7 +2,7 @@
 ghost use Rattle.std.specs.Prelude.{◌≡◌, ◌≢◌, ℕ, ◌↔◌, List};
 ghost use Rattle.std.specs.List.{Contains};
 ghost use Rattle.pg_position.specs.declared.moves.Move.{Move};
-ghost use Rattle.pg_moves.specs.Counts.{IsOnce};
+ghost use Rattle.pg_position.specs.Game.{IsOnce};
 ghost use Rattle.pg_san.specs.Games.{IsGames};
 ghost use Rattle.pg_san.specs.Listing.{IsListing, IsTextFault};
 ghost use Rattle.pg_san.specs.declared.listing_fault.GamesFault.{GamesFault};

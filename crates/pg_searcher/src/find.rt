@@ -10,6 +10,7 @@ use crate::walk::tree_of;
 use arrayvec::ArrayVec;
 use pg_certificate::{Header, RecordWriter, Sink};
 use pg_fen::{Diagram, Length};
+use pg_moves::Unwatched;
 use pg_prices::Closed;
 use pg_san::Games;
 use std::alloc::Global;
@@ -65,14 +66,30 @@ fn write<W: Sink, P: Progress>(
 /// need of travel; or where prices do, of pawn files or else of travel, of the two colours those with
 /// the fewer bytes. Otherwise it refers to a closed node of as many plies and the same future with no
 /// game below it, if there is one; or it is expanded and named, up to 4,194,304 nodes. What the search
-/// grows by is taken from `alloc`. `watch` is told how far it is.
+/// grows by is taken from `alloc`.
 ///
 /// # Errors
 /// `Budget` where a node more than `max_nodes` would be visited; `Shorter` with the plies of a game
 /// that is shorter than stated and ends on the diagram; `TooManyGames` at the 4,097th game; `Write`
 /// where the sink has failed; `Memory` where memory is refused. After any of them what was written is
 /// to be thrown away.
-pub fn search<W: Sink, P: Progress>(
+pub fn search<W: Sink>(
+    alloc: Global,
+    diagram: &Diagram,
+    length: Length,
+    max_nodes: u64,
+    sink: &mut W,
+) -> Result<Games, SearchFault>
+    ensures { RefusesTruly length (W.has_failed sink.new) result }
+{
+    search_watched(alloc, diagram, length, max_nodes, sink, &mut Unwatched)
+}
+
+/// As `search`, and tells `watch` how far it is.
+///
+/// # Errors
+/// As for `search`.
+pub fn search_watched<W: Sink, P: Progress>(
     alloc: Global,
     diagram: &Diagram,
     length: Length,

@@ -16,7 +16,7 @@ mod sides;
 mod walk;
 
 pub use fault::SearchFault;
-pub use find::search;
+pub use find::{search, search_watched};
 pub use progress::Progress;
 
 #[cfg(test)]

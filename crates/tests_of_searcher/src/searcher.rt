@@ -7,7 +7,7 @@ use pg_captures::{Bound, Captures, Promotions};
 use pg_certificate::{FromRead, Sink, ToWrite};
 use pg_checker::{Fault, Proved, check};
 use pg_fen::{Diagram, Length};
-use pg_moves::{Unwatched, legal_moves};
+use pg_moves::legal_moves;
 use pg_pawns::PawnFiles;
 use pg_position::Position;
 use pg_san::Games;
@@ -152,9 +152,7 @@ fn holds(alloc: Global, diagram: &Diagram, length: Length, games: &Games, bytes:
 // The certificate and the games of a search; the certificate has been checked.
 fn found(rt: &impl Abort, alloc: Global, diagram: &Diagram, length: Length) -> (Games, Vec<u8>) {
     let mut sink = ToWrite::new(Vec::new(alloc));
-    let games = search(alloc, diagram, length, NODES, &mut sink, &mut Unwatched).expect(
-        rt, "found",
-    );
+    let games = search(alloc, diagram, length, NODES, &mut sink).expect(rt, "found");
     let bytes = sink.into_inner();
     assert!(rt; holds(alloc, diagram, length, &games, bytes.as_slice()));
     (games, bytes)
@@ -169,7 +167,7 @@ fn fault(
     nodes: u64,
 ) -> Option<SearchFault> {
     let mut sink = ToWrite::new(Vec::new(alloc));
-    match search(alloc, diagram, length, nodes, &mut sink, &mut Unwatched) {
+    match search(alloc, diagram, length, nodes, &mut sink) {
         Ok(games) => {
             let bytes = sink.into_inner();
             assert!(rt; holds(alloc, diagram, length, &games, bytes.as_slice()));

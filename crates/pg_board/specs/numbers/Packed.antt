@@ -3,7 +3,7 @@ use Rattle.std.specs.Prelude.{◌≡◌, ℕ, ◌+◌, ◌%◌, ◌^◌, ◌<◌
 use Rattle.std.specs.Int.Bits.{bit_xor, and_lt}
 use Rattle.std.proofs.lemmas.Nat.{or_lt, xor_lt}
 use Rattle.std.proofs.Common.{sym, ap, ap₂, subst, ◌∙◌}
-use Rattle.std.proofs.lemmas.Nat.Bits.{bit_at_xor}
+use Rattle.std.proofs.lemmas.Nat.Bits.{bit_at_xor, same_from_bits}
 use Rattle.pg_board.specs.declared.man.Color.{Color}
 use Rattle.pg_board.specs.declared.man.Color.TheVariants.{White, Black}
 use Rattle.pg_board.specs.declared.man.Kind.{Kind}
@@ -12,7 +12,7 @@ use Rattle.pg_board.specs.declared.man.Man.{Man}
 use Rattle.pg_board.specs.Men.{man, is_kind, is_of}
 use Rattle.pg_board.specs.Bits.{has, bit_has, same_sets, has-and, has-or}
 use Rattle.pg_board.specs.Placement.{placement_of}
-use Rattle.pg_board.specs.numbers.Sets.{man_in, Shows, IsSound}
+use Rattle.pg_board.specs.numbers.Sets.{man_in, Shows, IsSound, sets_of, sets_of-placement_of}
 use Rattle.pg_board.specs.declared.sets.Sets.{Sets}
 use Rattle.pg_board.specs.declared.packed.Quarters.{Quarters}
 
@@ -167,3 +167,47 @@ packed_sound s h = subst IsSound (sym (unpacked_is s h)) h
 
 pub packed_shows : (s : Sets) → IsSound s → placement_of (man_in (unpacked (quarters_of s))) ≡ placement_of (man_in s)
 packed_shows s h = ap (λ (x : Sets). placement_of (man_in x)) (unpacked_is s h)
+
+-- ---- the four sets of eight that were made of four
+same_has : (a b : ℕ) → ((q : ℕ) → has a q ≡ has b q) → a ≡ b
+same_has a b h = same_from_bits a b (λ q. bit_has a q ∙ ap (λ t. cond t 1 0) (h q) ∙ sym (bit_has b q))
+
+-- what a square is low, middle and high by is known from its kind
+record AreBack (l m h : Bool) : Type 0 where
+  low : ((one_of l ((l && m) || (l && h)) || (l && m)) || (l && h)) ≡ l
+  middle : ((one_of m ((l && m) || (m && h)) || (l && m)) || (m && h)) ≡ m
+  high : ((one_of h ((l && h) || (m && h)) || (l && h)) || (m && h)) ≡ h
+
+are_back : (l m h : Bool) → AreBack l m h
+are_back true true true = record { low = refl; middle = refl; high = refl }
+are_back true true false = record { low = refl; middle = refl; high = refl }
+are_back true false true = record { low = refl; middle = refl; high = refl }
+are_back true false false = record { low = refl; middle = refl; high = refl }
+are_back false true true = record { low = refl; middle = refl; high = refl }
+are_back false true false = record { low = refl; middle = refl; high = refl }
+are_back false false true = record { low = refl; middle = refl; high = refl }
+are_back false false false = record { low = refl; middle = refl; high = refl }
+
+-- a set that is parted in three and joined again
+joined : (x a b c d : ℕ) (y : Bool) (q : ℕ) → ((one_of (has x q) ((has a q && has b q) || (has c q && has d q)) || (has a q && has b q)) || (has c q && has d q)) ≡ y → has (bit_or (bit_or (bit_xor x (bit_or (bit_and a b) (bit_and c d))) (bit_and a b)) (bit_and c d)) q ≡ y
+joined x a b c d y q h =
+    let first : has (bit_and a b) q ≡ has a q && has b q = has-and a b q in
+    let second : has (bit_and c d) q ≡ has c q && has d q = has-and c d q in
+    has-or _ _ q
+    ∙ ap₂ (λ s t. s || t) (has-or _ _ q ∙ ap₂ (λ s t. s || t) (has-xor _ _ q ∙ ap (one_of (has x q)) (has-or _ _ q ∙ ap₂ (λ s t. s || t) first second)) first) second
+    ∙ h
+
+packed_again : (f : Quarters) → quarters_of (unpacked f) ≡ f
+packed_again f i = record {
+  low = same_has (quarters_of (unpacked f)).low f.low (λ q. joined f.low f.low f.middle f.low f.high _ q (back q).low) i;
+  middle = same_has (quarters_of (unpacked f)).middle f.middle (λ q. joined f.middle f.low f.middle f.middle f.high _ q (back q).middle) i;
+  high = same_has (quarters_of (unpacked f)).high f.high (λ q. joined f.high f.low f.high f.middle f.high _ q (back q).high) i;
+  black = f.black;
+}
+  where
+    back : (q : ℕ) → AreBack (has f.low q) (has f.middle q) (has f.high q)
+    back q = are_back (has f.low q) (has f.middle q) (has f.high q)
+
+-- packing what a packed board shows gives its four sets back
+pub quarters_back : (f : Quarters) → IsSound (unpacked f) → quarters_of (sets_of (placement_of (man_in (unpacked f)))) ≡ f
+quarters_back f h = ap quarters_of (sets_of-placement_of (unpacked f) h) ∙ packed_again f

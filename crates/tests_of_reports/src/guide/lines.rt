@@ -1,7 +1,7 @@
 use super::*;
 use pg_moves::legal_moves;
 use pg_position::{Move, Position};
-use pg_report::{Unwatched, search};
+use pg_report::search;
 
 const EXPANDED: [(&str, &str); 6] = [
     ("-", "at the start: 20 of 20 moves lead on; 1 game below\n"),
@@ -101,7 +101,7 @@ fn searched<R: Abort + AllocGlobal>(rt: &R, diagram: &str, length: &str) -> Vec<
     let goal = diagram_of(rt, diagram);
     let plies = length_of(rt, length);
     let mut sink = ToWrite::new(Vec::new(rt.alloc()));
-    let answer = search(rt.alloc(), &goal, plies, MANY, &mut sink, &mut Unwatched);
+    let answer = search(rt.alloc(), &goal, plies, MANY, &mut sink);
     assert_eq!(rt; answer.expect(rt, "games").len(), 0);
     sink.into_inner()
 }

@@ -88,7 +88,7 @@ fn searched<R: Abort + AllocGlobal>(rt: &R, texts: [&str; 3], count: usize) -> V
     let goal = diagram_of(rt, diagram);
     let plies = length_of(rt, length);
     let mut sink = ToWrite::new(Vec::new(rt.alloc()));
-    let answer = search(rt.alloc(), &goal, plies, MANY, &mut sink, &mut Unwatched);
+    let answer = search(rt.alloc(), &goal, plies, MANY, &mut sink);
     assert_eq!(rt; answer.expect(rt, "games").len(), count);
     sink.into_inner()
 }

@@ -74,7 +74,7 @@ const LENGTHS: [&str; 7] = ["0", "0.5", "1.0", "1.5", "2.0", "2.5", "3.0"];
 fn games_of(rt: &impl Abort, alloc: Global, diagram: &Diagram, plies: u8) -> (usize, bool) {
     let stated = length(rt, LENGTHS[usize::from(plies % 7)]);
     let mut sink = ToWrite::new(Vec::new(alloc));
-    match search(alloc, diagram, stated, NODES, &mut sink, &mut Unwatched) {
+    match search(alloc, diagram, stated, NODES, &mut sink) {
         Ok(games) => {
             let bytes = sink.into_inner();
             assert!(rt; holds(alloc, diagram, stated, &games, bytes.as_slice()));

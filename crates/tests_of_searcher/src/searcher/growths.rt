@@ -39,7 +39,7 @@ fn refused_growths(rt: HostRuntime) {
         let mut sink = Small {
             bytes: ArrayVec::new(),
         };
-        match search(rt.alloc(), &e4_e5, one, NODES, &mut sink, &mut Unwatched) {
+        match search(rt.alloc(), &e4_e5, one, NODES, &mut sink) {
             Ok(games) => {
                 assert_eq!(rt; (games.len(), sink.bytes.len()), (1, 59));
                 match checks(rt.alloc(), &e4_e5, one, &games, sink.bytes.as_slice()) {
@@ -69,7 +69,7 @@ fn refused_growths_of_prices(rt: HostRuntime) {
     let mut sink = Small {
         bytes: ArrayVec::new(),
     };
-    match search(rt.alloc(), &goal, plies, nodes, &mut sink, &mut Unwatched) {
+    match search(rt.alloc(), &goal, plies, nodes, &mut sink) {
         Ok(games) => assert_eq!(rt; games.len(), count),
         Err(fault) => assert_eq!(rt; fault, SearchFault::Memory),
     }

@@ -7,7 +7,7 @@ fn problems_are_settled_with_so_many_nodes(rt: HostRuntime) {
         let goal = diagram(&rt, placement);
         let plies = length(&rt, plies);
         let mut sink = ToWrite::new(Vec::new(rt.alloc()));
-        let found = search(rt.alloc(), &goal, plies, nodes, &mut sink, &mut Unwatched);
+        let found = search(rt.alloc(), &goal, plies, nodes, &mut sink);
         let games = found.expect(&rt, placement);
         assert_eq!(rt; games.len(), count, "{placement}");
         let bytes = sink.into_inner();
@@ -139,7 +139,7 @@ fn a_search_is_watched(rt: HostRuntime) {
         in_order: true,
         times: 0,
     };
-    let games = search(rt.alloc(), &diagram, length, nodes, &mut sink, &mut told).expect(
+    let games = search_watched(rt.alloc(), &diagram, length, nodes, &mut sink, &mut told).expect(
         &rt, placement,
     );
     assert_eq!(rt; games.len(), count);

@@ -8,9 +8,7 @@ fn pieces_of_one_byte(rt: HostRuntime) {
     let diagram = diagram(&rt, SECOND_PROBLEM);
     let (_, bytes) = found(&rt, rt.alloc(), &diagram, four);
     let mut sink = ToWrite::new(OneByte::new(Vec::new(rt.alloc())));
-    let games = search(rt.alloc(), &diagram, four, NODES, &mut sink, &mut Unwatched).expect(
-        &rt, "found",
-    );
+    let games = search(rt.alloc(), &diagram, four, NODES, &mut sink).expect(&rt, "found");
     assert_eq!(rt; games.len(), 1);
     assert_eq!(rt; sink.into_inner().into_inner().as_slice(), bytes.as_slice());
 }
@@ -26,7 +24,7 @@ fn refused(
 ) -> (Option<SearchFault>, u64) {
     let pieces = FailsAt::new(OneByte::new(Vec::new(alloc)), at, ErrorKind::Other);
     let mut sink = ToWrite::new(pieces);
-    let answer = search(alloc, diagram, length, NODES, &mut sink, &mut Unwatched);
+    let answer = search(alloc, diagram, length, NODES, &mut sink);
     let pieces = sink.into_inner();
     let writes = pieces.calls();
     match answer {
@@ -61,7 +59,7 @@ fn refused_pieces(rt: HostRuntime) {
     for at in 0..4 {
         let pieces = FailsAt::new(Vec::new(rt.alloc()), at, ErrorKind::Other);
         let mut sink = ToWrite::new(pieces);
-        let answer = search(rt.alloc(), &diagram, four, NODES, &mut sink, &mut Unwatched);
+        let answer = search(rt.alloc(), &diagram, four, NODES, &mut sink);
         let pieces = sink.into_inner();
         let writes = pieces.calls();
         match answer {
