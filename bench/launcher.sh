@@ -112,7 +112,7 @@ for signal in INT TERM HUP; do
   kill -"$signal" -- "-$run"
   wait "$run"
   ended "SIG$signal" $? $((128 + $(kill -l "$signal")))
-  grep -q "^pg: ended by SIG$signal" "$work/err" || fail "SIG$signal: it does not say so"
+  grep -q "^pg: ended by SIG$signal" "$work/err" && ! grep -qv '^pg: ' "$work/err" || fail "SIG$signal: it does not say so, or more than that"
 done
 set +m
 
