@@ -128,8 +128,13 @@ fn equal_by_value(rt: HostRuntime) -> Result<(), Fail> {
     assert_eq!(rt; board.take(e1), Some(king));
     assert_eq!(rt; board.take(e1), None);
     assert!(rt; board != copy);
+    let without = board.packed();
     board.put(e1, king);
     assert!(rt; board == copy);
+    let packed = board.packed();
+    let kept = packed;
+    assert!(rt; kept == copy.packed() && packed != without);
+    assert!(rt; packed.board() == board);
     Ok(())
 }
 
@@ -165,11 +170,15 @@ fn sets_of_squares(rt: HostRuntime) {
     assert_eq!(rt; SquareSet::of_bits(ends.bits()), ends);
     let mut left = three;
     let mut squares = three.squares();
+    let start = squares;
     for square in [Some(a1), Some(e4), Some(h8), None] {
         assert_eq!(rt; squares.next(), square);
         assert_eq!(rt; left.pop_first(), square);
     }
     assert_eq!(rt; left, SquareSet::empty());
+    let end = squares;
+    assert_eq!(rt; squares.next(), None);
+    assert!(rt; squares == end && squares != start);
 }
 
 #[test]

@@ -29,6 +29,10 @@ fn parts_are_read_back(rt: HostRuntime) {
     assert_eq!(rt; position.passed(), Some(square(&rt, "d6")));
     let other = parts(&rt, placement, Color::White, "Kq", "-").expect(&rt, placement);
     assert!(rt; position == position && position != other);
+    let packed = position.packed();
+    let kept = packed;
+    assert!(rt; kept == position.packed() && packed != other.packed());
+    assert!(rt; packed.position() == position);
 }
 
 #[test]
