@@ -8,8 +8,8 @@ ghost use Rattle.pg_certificate.specs.declared.record.Record.{Record};
 ghost use Rattle.pg_certificate.specs.Spelling.{spelling, longest_record};
 ghost use Rattle.pg_certificate.specs.Reader.{PullsAtMost};
 
+use pg_price_lists::Prices;
 use pg_certificate::{Bare, FromRead, ReadFault, RecordReader, Source, no_spelling_is_longer};
-use pg_travel::Prices;
 use std::{env, io};
 
 // Reads this many records and then the end, and answers how many were expansions.

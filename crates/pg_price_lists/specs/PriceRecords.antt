@@ -1,6 +1,6 @@
 -- One to three price lists of the same lengths, as a list.
 use Rattle.std.specs.Prelude.{◌≡◌, ℕ, zero, suc, ◌<◌, ◌≤◌, Option, Some, None, List, [], ◌∷◌, length}
-use Rattle.pg_captures.specs.PriceLists.{PriceList, list_of}
+use Rattle.pg_price_lists.specs.PriceLists.{PriceList, list_of}
 
 -- how many sources and targets the lists are for: as the first has
 abbrev pub sources : List PriceList → ℕ

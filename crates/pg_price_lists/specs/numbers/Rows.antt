@@ -1,9 +1,9 @@
 -- The rows of a record of prices as price lists.
 use Rattle.std.proofs.Common.{◌≡◌, ℕ, zero, suc, ◌<◌, ◌≤◌, List, [], ◌∷◌, ◌++◌, length, take, drop, replicate, arith}
 use Rattle.std.proofs.lemmas.List.{length-take-le}
-use Rattle.pg_travel.specs.declared.prices.Row.{Row}
-use Rattle.pg_captures.specs.PriceLists.{PriceList, list_of}
-use Rattle.pg_travel.specs.PriceRecords.{sources, targets, list_at}
+use Rattle.pg_price_lists.specs.declared.prices.Row.{Row}
+use Rattle.pg_price_lists.specs.PriceLists.{PriceList, list_of}
+use Rattle.pg_price_lists.specs.PriceRecords.{sources, targets, list_at}
 
 abbrev pub row_list : ℕ → ℕ → Row → PriceList
 row_list a b r = list_of (take a r.u) (take b r.v)
