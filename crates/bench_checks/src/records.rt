@@ -6,7 +6,7 @@ ghost use Rattle.pg_certificate.specs.Spelling.{spelling, longest_record};
 ghost use Rattle.pg_certificate.specs.Reader.{PullsAtMost};
 
 use pg_certificate::{Bare, FromRead, ReadFault, RecordReader, Source, no_spelling_is_longer};
-use pg_travel::Prices;
+use pg_price_lists::Prices;
 use std::alloc::{AllocError, Global};
 
 // Reads this many records and then the end, and answers how many were expansions.

@@ -1,19 +1,12 @@
--- Price lists: a number for each source, a man of the position, and one for each target, a man of the diagram. Sources and
+-- What price lists are for: a source is a man of the position, and a target one of the diagram. Sources and
 -- targets stand in the order of their squares. A test of a square and a kind says which of a colour's men are meant.
 use Rattle.std.specs.Prelude.{◌≡◌, ℕ, Bool, List, length, get_or}
 use Rattle.pg_board.specs.declared.man.Color.{Color}
 use Rattle.pg_board.specs.declared.man.Kind.{Kind}
 use Rattle.pg_board.specs.Placement.{Placement}
 use Rattle.pg_board.specs.Tally.{tally_below}
+pub use Rattle.pg_price_lists.specs.PriceLists.{PriceList, list_of}
 use Rattle.pg_captures.specs.Counting.{of_color, men}
-
--- a price list: u has a number for each source, v one for each target
-pub record PriceList : Type 0 where
-  pub u : List ℕ
-  pub v : List ℕ
-
-abbrev pub list_of : List ℕ → List ℕ → PriceList
-list_of u v = record { u = u; v = v }
 
 -- which of these men the one on a square is, from 0: so many of them stand on the squares before
 abbrev pub number_among : Color → (ℕ → Kind → Bool) → Placement → ℕ → ℕ

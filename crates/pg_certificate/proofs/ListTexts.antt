@@ -5,7 +5,7 @@ use Rattle.std.proofs.Math.Seq.{take-add}
 use Rattle.std.proofs.lemmas.List.{append_assoc, length-append, length-take-le, length-drop, nil_from_length, take_at, drop_at, take-append-drop}
 use Rattle.std.proofs.lemmas.List.Elements.{All-cons, All-head, All-tail}
 use Rattle.std.specs.Prelude.{All}
-use Rattle.pg_captures.specs.PriceLists.{PriceList, list_of}
+use Rattle.pg_price_lists.specs.PriceLists.{PriceList, list_of}
 use Rattle.pg_certificate.specs.Spelling.{AreBytes, IsPriceList}
 use Rattle.pg_certificate.specs.numbers.Outlines.{lists_spelling}
 use Rattle.pg_certificate.specs.Reading.{lists_of}

@@ -3,8 +3,8 @@ use Rattle.std.proofs.Common.{◌≡◌, ℕ, suc, ◌+◌, ◌*◌, ◌<◌, �
 use Rattle.std.proofs.Math.Nat.{suc-mul}
 use Rattle.std.proofs.lemmas.List.{length-append, length-take-le, length-drop}
 use Rattle.std.specs.Prelude.{Option}
-use Rattle.pg_captures.specs.PriceLists.{PriceList, list_of}
-use Rattle.pg_travel.specs.PriceRecords.{sources, targets, NewIs, CanAdd}
+use Rattle.pg_price_lists.specs.PriceLists.{PriceList, list_of}
+use Rattle.pg_price_lists.specs.PriceRecords.{sources, targets, NewIs, CanAdd}
 use Rattle.pg_certificate.specs.Reading.{lists_of}
 use Rattle.pg_certificate.proofs.ListTexts.{next_list}
 

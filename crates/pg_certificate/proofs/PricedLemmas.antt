@@ -4,7 +4,7 @@ use Rattle.std.specs.Prelude.{Option, slice_index}
 use Rattle.std.proofs.KnownBytes.{Consumes-trans}
 use Rattle.std.proofs.lemmas.Bool.{cases_lt}
 use Rattle.std.specs.Io.KnownBytes.{Consumes}
-use Rattle.pg_captures.specs.PriceLists.{PriceList}
+use Rattle.pg_price_lists.specs.PriceLists.{PriceList}
 use Rattle.pg_certificate.specs.declared.outline.Outline.{Outline}
 use Rattle.pg_certificate.specs.Spelling.{AreBytes, spelling}
 use Rattle.pg_certificate.specs.numbers.Outlines.{IsOutline, outline_spelling, AreListsOf, lists_spelling}

@@ -4,7 +4,7 @@ use Rattle.std.proofs.lemmas.Bool.Decides.{eqb_tells}
 use Rattle.std.proofs.lemmas.List.{append-nil}
 use Rattle.pg_board.specs.declared.man.Color.{Color}
 use Rattle.pg_board.specs.declared.man.Color.TheVariants.{White, Black}
-use Rattle.pg_captures.specs.PriceLists.{PriceList}
+use Rattle.pg_price_lists.specs.PriceLists.{PriceList}
 use Rattle.pg_certificate.specs.declared.outline.Outline.{Outline}
 use Rattle.pg_certificate.specs.Spelling.{color_byte}
 use Rattle.pg_certificate.specs.numbers.Outlines.{IsOutline, outline_spelling, AreListsOf, lists_spelling}

@@ -6,8 +6,8 @@ use Rattle.std.proofs.lemmas.List.{append-nil}
 use Rattle.std.proofs.lemmas.Nat.{be_bytes_4, from_be_bytes-to_be_bytes_4}
 use Rattle.std.proofs.Math.Nat.{mul-le-mul_right}
 use Rattle.pg_board.specs.declared.man.Color.{Color}
-use Rattle.pg_captures.specs.PriceLists.{PriceList}
-use Rattle.pg_travel.specs.PriceRecords.{sources, targets}
+use Rattle.pg_price_lists.specs.PriceLists.{PriceList}
+use Rattle.pg_price_lists.specs.PriceRecords.{sources, targets}
 use Rattle.pg_certificate.specs.declared.fault.ReadFault.TheVariants.{Truncated, UnknownRecord}
 use Rattle.pg_certificate.specs.declared.outline.Outline.{Outline}
 use Rattle.pg_certificate.specs.declared.record.Record.{Record}

@@ -5,8 +5,8 @@ use Rattle.std.proofs.KnownBytes.{Appends-trans}
 use Rattle.std.specs.Prelude.{Option}
 use Rattle.std.specs.List.{flat_map}
 use Rattle.std.specs.Io.KnownBytes.{Appends}
-use Rattle.pg_captures.specs.PriceLists.{PriceList}
-use Rattle.pg_travel.specs.PriceRecords.{sources, targets, u_at, v_at}
+use Rattle.pg_price_lists.specs.PriceLists.{PriceList}
+use Rattle.pg_price_lists.specs.PriceRecords.{sources, targets, u_at, v_at}
 use Rattle.pg_certificate.specs.Spelling.{list_spelling}
 
 -- the numbers before the lists, and the first of the lists

@@ -5,7 +5,7 @@ use Rattle.std.specs.Option.{option_map}
 use Prim.Native.Char.{code}
 use Rattle.pg_board.specs.declared.man.Color.{Color}
 use Rattle.pg_board.specs.declared.man.Color.TheVariants.{White, Black}
-use Rattle.pg_captures.specs.PriceLists.{PriceList, list_of}
+use Rattle.pg_price_lists.specs.PriceLists.{PriceList, list_of}
 use Rattle.pg_certificate.specs.declared.fault.ReadFault.{ReadFault}
 use Rattle.pg_certificate.specs.declared.fault.ReadFault.TheVariants.{Truncated, Magic, UnknownRecord, Trailing}
 use Rattle.pg_certificate.specs.declared.record.Header.{Header}

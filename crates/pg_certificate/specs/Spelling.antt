@@ -5,8 +5,8 @@ use Rattle.std.specs.Int.{w32, to_be_bytes}
 use Prim.Native.Char.{code}
 use Rattle.pg_board.specs.declared.man.Color.{Color}
 use Rattle.pg_board.specs.declared.man.Color.TheVariants.{White, Black}
-use Rattle.pg_captures.specs.PriceLists.{PriceList}
-use Rattle.pg_travel.specs.PriceRecords.{sources, targets}
+use Rattle.pg_price_lists.specs.PriceLists.{PriceList}
+use Rattle.pg_price_lists.specs.PriceRecords.{sources, targets}
 use Rattle.pg_certificate.specs.declared.record.Header.{Header}
 use Rattle.pg_certificate.specs.declared.record.Bare.{Bare}
 use Rattle.pg_certificate.specs.declared.record.Bare.TheVariants as bare

@@ -5,7 +5,7 @@ ghost use Rattle.pg_certificate.specs.Spelling.{color_byte};
 ghost use Rattle.pg_certificate.specs.numbers.Outlines.{IsOutline};
 
 use pg_board::Color;
-use pg_travel::Prices;
+use pg_price_lists::Prices;
 
 /// The parts of a priced record before its lists.
 #[derive(Clone, Copy)]

@@ -13,7 +13,7 @@ use crate::magic::{HEADER_LENGTH, header_of};
 use crate::outline::{Outline, color_of, prices_of};
 use crate::record::{Bare, Header, Record};
 use crate::source::{Refused, Source};
-use pg_travel::Prices;
+use pg_price_lists::Prices;
 use std::marker::Model;
 
 // The room of the buffer, in bytes.

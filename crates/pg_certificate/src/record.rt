@@ -1,7 +1,7 @@
 //! What a certificate is made of.
 
 use pg_board::Color;
-use pg_travel::Prices;
+use pg_price_lists::Prices;
 
 /// One node of a certificate's trees that has at least one ply left.
 #[derive(Clone, Copy, Debug, PartialEq, Eq)]

@@ -8,7 +8,7 @@ use crate::fault::WriteFault;
 use crate::outline::color_byte;
 use crate::record::{Header, Record};
 use crate::source::{Refused, Sink};
-use pg_travel::Prices;
+use pg_price_lists::Prices;
 use std::marker::Model;
 
 // The room of the buffer, in bytes.

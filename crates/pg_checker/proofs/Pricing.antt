@@ -8,7 +8,7 @@ use Rattle.pg_position.specs.Future.{SameFuture}
 use Rattle.pg_captures.specs.PriceLists.{PriceList, list_of}
 use Rattle.pg_pawns.specs.PawnPrices.{PawnPricesExclude}
 use Rattle.pg_pawns.specs.PricesDecided.{pawn_prices_test_is}
-use Rattle.pg_travel.specs.PriceRecords.{u_at, v_at}
+use Rattle.pg_price_lists.specs.PriceRecords.{u_at, v_at}
 use Rattle.pg_checker.specs.Chess.{stands_for}
 use Rattle.pg_checker.specs.Cuts.{files_by}
 use Rattle.pg_checker.proofs.Chess.{stands_future}

@@ -4,7 +4,7 @@ use Rattle.std.specs.Prelude.{All}
 use Rattle.std.specs.Bool.{Decides}
 use Rattle.pg_board.specs.lemmas.Decisions.{dec_and, dec_along, dec_equal, dec_at_most, answer, answer_tells, dec_less}
 use Rattle.pg_captures.specs.PriceLists.{PriceList}
-use Rattle.pg_travel.specs.PriceRecords.{sources, targets}
+use Rattle.pg_price_lists.specs.PriceRecords.{sources, targets}
 use Rattle.pg_certificate.specs.Spelling.{AreBytes, IsPriceList, ArePrices}
 
 dec_bytes : (bytes : List ℕ) → Dec (AreBytes bytes)

@@ -11,6 +11,7 @@ mod machine;
 mod nearness;
 mod node;
 mod play;
+mod problem;
 mod table;
 mod walk;
 
@@ -19,6 +20,7 @@ pub use chess_laws::{
     accepted_is_exact, accepted_where_it_fits, exact_has_a_certificate, moves_come_in_order,
     records_are_read_as_spelled, refused_at_the_first_cause, rules_are_those_of_chess,
 };
-pub use fault::{Fault, ListFault};
+pub use fault::{Fault, ListFault, RunFault};
 pub use listed::check_listed;
 pub use nearness::pass_over;
+pub use problem::Problem;

@@ -4,11 +4,11 @@ use Rattle.std.specs.Prelude.{Result, Ok, Err, IfOk, OnOk, MatchResult}
 use Rattle.pg_board.specs.Placement.{Placement}
 use Rattle.pg_position.specs.declared.moves.Move.{Move}
 use Rattle.pg_checker.specs.Answer.{IsExactAnswer}
-use Rattle.pg_report.specs.Report.{IsVerdict}
+use Rattle.pg_texts.specs.Report.{IsVerdict}
 use Rattle.pg_report.specs.Run.{AreSpelled}
 use Rattle.pg_report.specs.Statuses.{verdict_status}
-use Rattle.pg_report.specs.declared.verdict.Verdict.{Verdict}
-use Rattle.pg_report.specs.declared.fault.RunFault.{RunFault}
+use Rattle.pg_texts.specs.declared.verdict.Verdict.{Verdict}
+use Rattle.pg_checker.specs.declared.fault.RunFault.{RunFault}
 use Rattle.pg_cli.specs.declared.refusals.Refusal.{Refusal}
 use Rattle.pg_cli.specs.Answers.{IsAnswered, AreAnswered}
 

@@ -6,10 +6,10 @@ use Rattle.pg_fen.specs.Fields.{fields}
 use Rattle.pg_fen.specs.DiagramText.{diagram_of}
 use Rattle.pg_fen.specs.Lengths.{length_of}
 use Rattle.pg_checker.specs.Answer.{IsExactAnswer}
-use Rattle.pg_report.specs.Report.{IsVerdict}
+use Rattle.pg_texts.specs.Report.{IsVerdict}
 use Rattle.pg_report.specs.Run.{AreSpelled}
 use Rattle.pg_report.specs.Statuses.{verdict_status}
-use Rattle.pg_report.specs.declared.verdict.Verdict.{Verdict}
+use Rattle.pg_texts.specs.declared.verdict.Verdict.{Verdict}
 
 -- the list is the exact answer to the diagram and the length, and the status is that of its verdict: 0 where it has one game, else 1
 abbrev pub IsAnswered : Placement → ℕ → List (List Move) → ℕ → Type 0

@@ -2,7 +2,7 @@
 
 ghost use Rattle.std.specs.Prelude.{◌≡◌, IfOk, IfErr, MatchResult};
 ghost use Rattle.pg_report.specs.Statuses.{verdict_status};
-ghost use Rattle.pg_report.specs.declared.fault.RunFault.TheVariants.{Write};
+ghost use Rattle.pg_checker.specs.declared.fault.RunFault.TheVariants.{Write};
 ghost use Rattle.pg_cli.specs.Answers.{AreAnswered};
 
 use crate::gathered::Gathered;

@@ -6,7 +6,8 @@ use crate::refusals::{DONE, Refusal};
 use crate::runs::CountLine;
 use clap::ArgMatches;
 use pg_report::{
-    Bound, CountRunFault, MovesFault, Refused, ShowFault, ToWrite, run_count, run_moves, run_show,
+    Bound, CountRunFault, MovesFault, Refused, ShowFault, ToWrite, run_count_watched, run_moves,
+    run_show,
 };
 use std::io;
 use std::rt::Runtime;
@@ -38,7 +39,7 @@ pub(crate) fn count<'a, R: Runtime + AllocGlobal>(
     let mut out = Gathered::new(ToWrite::new(io::writer(rt)));
     let terminal = Terminal::new(screen);
     let mut line = CountLine::new(rt, &terminal);
-    let answer = run_count(rt.alloc(), fen, plies, &mut out, &mut line);
+    let answer = run_count_watched(rt.alloc(), fen, plies, &mut out, &mut line);
     line.end();
     match answer {
         Ok(()) => match out.finish() {

@@ -1,7 +1,7 @@
 -- Why a walk over a certificate stops, and what is said where it does.
 use Rattle.std.specs.Prelude.{◌≡◌, ◌⊎◌, Bool, true}
 use Rattle.pg_checker.specs.declared.fault.Fault.TheVariants.{Memory as MemoryFault, Read as ReadFault}
-use Rattle.pg_report.specs.declared.fault.RunFault.TheVariants.{Check}
+use Rattle.pg_checker.specs.declared.fault.RunFault.TheVariants.{Check}
 use Rattle.pg_guide.specs.declared.fault.WhyFault.{WhyFault}
 use Rattle.pg_guide.specs.declared.fault.WhyFault.TheVariants.{Run}
 use Rattle.pg_guide.specs.declared.machine.Stop.{Stop}

@@ -10,10 +10,10 @@ use Rattle.pg_checker.specs.Check.{Accepts, Refuses}
 use Rattle.pg_checker.specs.declared.fault.Fault.{Fault}
 use Rattle.pg_checker.specs.declared.fault.Fault.TheVariants.{Memory, Read}
 use Rattle.pg_san.specs.Listing.{IsListing, IsTextFault}
-use Rattle.pg_report.specs.Run.{IsProblemFault}
+use Rattle.pg_checker.specs.ProblemText.{IsProblemFault}
 use Rattle.pg_checker.specs.Cuts.{CheckRules}
 use Rattle.pg_checker.specs.declared.certify.Proved.{Proved}
-use Rattle.pg_report.specs.declared.fault.RunFault.TheVariants.{Diagram, Length, Games, Check, Write}
+use Rattle.pg_checker.specs.declared.fault.RunFault.TheVariants.{Diagram, Length, Games, Check, Write}
 use Rattle.pg_guide.specs.declared.fault.WhyFault.{WhyFault}
 use Rattle.pg_guide.specs.declared.fault.WhyFault.TheVariants.{Moves, Run}
 

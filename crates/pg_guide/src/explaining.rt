@@ -11,9 +11,8 @@ use crate::walk::walk;
 use crate::writing::{put_found, put_verdict};
 use pg_captures::Bound;
 use pg_certificate::{Record, Sink, Source};
-use pg_checker::{Fault, check};
+use pg_checker::{Fault, Problem, RunFault, check};
 use pg_position::Move;
-use pg_report::{Problem, RunFault};
 use pg_san::{Games, read_games};
 use std::alloc::Global;
 

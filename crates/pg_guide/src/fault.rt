@@ -1,6 +1,6 @@
 //! Why a line is not explained.
 
-use pg_report::RunFault;
+use pg_checker::RunFault;
 use thiserror::Error;
 
 /// Why a line of moves is not explained by a certificate that is right.

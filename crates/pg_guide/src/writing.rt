@@ -11,7 +11,7 @@ use arrayvec::ArrayString;
 use pg_certificate::{Refused, Sink};
 use pg_checker::Fault;
 use pg_position::{Move, Position};
-use pg_report::write_movetext;
+use pg_texts::write_movetext;
 use std::fmt::Write;
 
 // The moves before a ply, as far as there are any.

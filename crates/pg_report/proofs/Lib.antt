@@ -1,15 +1,3 @@
-pub mod MoveLineLemmas
-pub mod OutcomeLemmas
-pub mod PlyLemmas
-pub mod ReportLemmas
 pub mod RunLemmas
-pub mod UpgradeLemmas
-pub mod BoardTextLemmas
 pub mod ShortestLemmas
-pub mod Wider
-pub mod ExactUpgrades
-pub mod UpgradedFits
-pub mod Nodes
-pub mod Refusable
-pub mod RefusedUpgrades
 pub mod ShowLemmas

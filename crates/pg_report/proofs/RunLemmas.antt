@@ -1,12 +1,12 @@
 -- What the check of a list says, handed on to the run over texts. Leads to the contract of `run_check`.
-use Rattle.std.proofs.Common.{◌≡◌, ℕ, ◌<◌, ◌≤◌, Bool, List, Option, Result, Ok, Err, subst, arith}
-use Rattle.std.specs.Prelude.{OnErr}
+use Rattle.std.proofs.Common.{ℕ, Bool, List, Option}
 use Rattle.pg_board.specs.Placement.{Placement}
 use Rattle.pg_position.specs.declared.moves.Move.{Move}
 use Rattle.pg_checker.specs.Cuts.{CheckRules}
-use Rattle.pg_report.specs.declared.fault.RunFault.{RunFault}
-use Rattle.pg_report.specs.declared.fault.RunFault.TheVariants.{Diagram, Length, Games, Check, Write}
-use Rattle.pg_report.specs.Run.{AreSpelled, IsCheckFault, IsOfTexts, IsProblemFault, IsRunFault}
+use Rattle.pg_checker.specs.declared.fault.RunFault.{RunFault}
+use Rattle.pg_checker.specs.declared.fault.RunFault.TheVariants.{Diagram, Length, Games, Check, Write}
+use Rattle.pg_checker.specs.ProblemText.{IsProblemFault}
+use Rattle.pg_report.specs.Run.{AreSpelled, IsCheckFault, IsOfTexts, IsRunFault}
 
 pub refused_with : (rules : Placement → ℕ → List (List Move) → CheckRules) (diagram length games : List ℕ) (max_records max_named : ℕ) (known : Option (List ℕ)) (failed broken : Bool) (d : Placement) (n : ℕ) (list : List (List Move)) (e : RunFault)
     → AreSpelled diagram length games d n list → IsCheckFault (rules d n list) d n list max_records max_named known failed broken e → IsRunFault rules diagram length games max_records max_named known failed broken e
@@ -32,7 +32,3 @@ not_of_texts r d n list max_records max_named known failed broken (Length f) h t
 not_of_texts r d n list max_records max_named known failed broken (Games f) h t = absurd h
 not_of_texts r d n list max_records max_named known failed broken (Check f) h t = absurd t
 not_of_texts r d n list max_records max_named known failed broken Write h t = absurd t
-
--- at most 8 plies, where more are refused
-pub few : {A E : Type 0} (plies : ℕ) (a : A) (e : E) → (8 < plies → Ok a ≡ Err e) → plies ≤ 8
-few {A = A} {E = E} plies a e h = let shallow : ¬ (8 < plies) = λ deep. subst (λ (r : Result A E). OnErr r ⊥) (h deep) tt in omega (arith, shallow)

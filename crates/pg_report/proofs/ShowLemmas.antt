@@ -11,7 +11,7 @@ use Rattle.pg_position.specs.declared.state.State.{State}
 use Rattle.pg_captures.specs.Counting.{men, any_man}
 use Rattle.pg_travel.specs.Needs.{NeedIs}
 use Rattle.pg_fen.specs.Lengths.{length_text}
-use Rattle.pg_report.specs.BoardText.{board_text}
+use Rattle.pg_texts.specs.BoardText.{board_text}
 use Rattle.pg_report.specs.Showing.{counted_text, name_of, men_text, captured_text, need_text, open_line, IsSideLine, IsShown}
 
 pub men_grow : (d : Placement) (c : Color) (n : ℕ) (name : List ℕ) (x y z : Option (List ℕ)) → name ≡ name_of c → n ≡ men c any_man d → Appends x y name → Appends y z (counted_text n (codes " man, captured ") (codes " men, captured ")) → Appends x z (men_text d c)

@@ -1,11 +1,4 @@
-pub mod MovesText
-pub mod Movetext
-pub mod Report
 pub mod Run
 pub mod Statuses
-pub mod Upgrade
-pub mod BoardText
 pub mod Shortest
-pub mod UpgradeLaws
 pub mod Showing
-pub mod numbers

@@ -1,9 +1,7 @@
--- What a run says: of a check, its report or why there is none; of a count, its number or why there is none.
-use Rattle.std.specs.Prelude.{◌≡◌, ℕ, ◌≤◌, Bool, true, List, Option, Ok, Err}
+-- What a check of texts says: which texts spell what, and why there is no report.
+use Rattle.std.specs.Prelude.{◌≡◌, ℕ, Bool, true, List, Option, Ok, Err}
 use Rattle.pg_board.specs.Placement.{Placement}
-use Rattle.pg_position.specs.declared.state.State.{State}
 use Rattle.pg_position.specs.declared.moves.Move.{Move}
-use Rattle.pg_moves.specs.Counts.{IsCountFault}
 use Rattle.pg_fen.specs.Fields.{fields}
 use Rattle.pg_fen.specs.DiagramText.{diagram_of}
 use Rattle.pg_fen.specs.Lengths.{length_of}
@@ -11,13 +9,11 @@ use Rattle.pg_san.specs.Listing.{IsListing, IsTextFault}
 use Rattle.pg_checker.specs.Answer.{IsExactAnswer}
 use Rattle.pg_checker.specs.Check.{Accepts, Refuses}
 use Rattle.pg_checker.specs.Cuts.{CheckRules}
-use Rattle.pg_report.specs.MovesText.{SpellsPosition, IsRefusedAs}
-use Rattle.pg_report.specs.declared.fault.RunFault.{RunFault}
-use Rattle.pg_report.specs.declared.fault.RunFault.TheVariants.{Diagram, Length, Games, Check, Write}
-use Rattle.pg_report.specs.declared.fault.CountRunFault.{CountRunFault}
-use Rattle.pg_report.specs.declared.fault.CountRunFault.TheVariants.{Position, Count, Write as NoNumber}
+use Rattle.pg_checker.specs.declared.certify.Proved.{Proved}
+use Rattle.pg_checker.specs.ProblemText.{IsProblemFault}
+use Rattle.pg_checker.specs.declared.fault.RunFault.{RunFault}
+use Rattle.pg_checker.specs.declared.fault.RunFault.TheVariants.{Diagram, Length, Games, Check, Write}
 
--- ---- checks
 -- three texts spell the diagram d, a length of n plies and the list of games
 pub record AreSpelled (diagram length games : List ℕ) (d : Placement) (n : ℕ) (list : List (List Move)) : Type 0 where
   pub diagram_is : diagram_of (fields diagram) ≡ Ok d
@@ -28,7 +24,8 @@ pub record AreSpelled (diagram length games : List ℕ) (d : Placement) (n : ℕ
 abbrev pub IsCheckFault : CheckRules → Placement → ℕ → List (List Move) → ℕ → ℕ → Option (List ℕ) → Bool → Bool → RunFault → Type 0
 IsCheckFault r d n list max_records max_named known failed broken (Check fault) =
     Accepts r d list max_records max_named known (Err fault) × Refuses r d list max_records max_named known failed (Err fault)
-IsCheckFault r d n list max_records max_named known failed broken Write = IsExactAnswer d n list × (broken ≡ true)
+IsCheckFault r d n list max_records max_named known failed broken Write =
+    IsExactAnswer d n list × (broken ≡ true) × ((proved : Proved) × Accepts r d list max_records max_named known (Ok proved))
 IsCheckFault r d n list max_records max_named known failed broken fault = ⊥
 
 -- the cause lies in the texts alone
@@ -36,12 +33,6 @@ abbrev pub IsOfTexts : RunFault → Type 0
 IsOfTexts (Check fault) = ⊥
 IsOfTexts Write = ⊥
 IsOfTexts fault = Unit {0}
-
--- why two texts are no problem: the first is refused as a diagram; else the second as a length
-abbrev pub IsProblemFault : List ℕ → List ℕ → RunFault → Type 0
-IsProblemFault diagram length (Diagram fault) = diagram_of (fields diagram) ≡ Err fault
-IsProblemFault diagram length (Length fault) = ((d : Placement) × (diagram_of (fields diagram) ≡ Ok d)) × (length_of length ≡ Err fault)
-IsProblemFault diagram length fault = ⊥
 
 -- why three texts and a certificate end without a report: a text is refused, the diagram first, then the length, then the games; else as the check of what they spell
 abbrev pub IsRunFault : (Placement → ℕ → List (List Move) → CheckRules) → List ℕ → List ℕ → List ℕ → ℕ → ℕ → Option (List ℕ) → Bool → Bool → RunFault → Type 0
@@ -52,10 +43,3 @@ IsRunFault rules diagram length games max_records max_named known failed broken 
 IsRunFault rules diagram length games max_records max_named known failed broken fault =
     (d : Placement) × (n : ℕ) × (list : List (List Move)) × AreSpelled diagram length games d n list
     × IsCheckFault (rules d n list) d n list max_records max_named known failed broken fault
-
--- ---- counts
--- why the number of games of so many plies is not written: the text is refused; else they are not counted; else the sink has failed
-abbrev pub IsCountRunFault : List ℕ → ℕ → Bool → CountRunFault → Type 0
-IsCountRunFault text plies failed (Position fault) = IsRefusedAs text fault
-IsCountRunFault text plies failed (Count fault) = (p : State) × SpellsPosition text p × IsCountFault p plies fault
-IsCountRunFault text plies failed NoNumber = ((p : State) × SpellsPosition text p) × (plies ≤ 8) × (failed ≡ true)

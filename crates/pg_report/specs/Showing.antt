@@ -11,7 +11,7 @@ use Rattle.pg_travel.specs.Needs.{NeedIs}
 use Rattle.pg_fen.specs.Fields.{fields}
 use Rattle.pg_fen.specs.DiagramText.{diagram_of}
 use Rattle.pg_fen.specs.Lengths.{length_text}
-use Rattle.pg_report.specs.BoardText.{board_text}
+use Rattle.pg_texts.specs.BoardText.{board_text}
 use Rattle.pg_report.specs.declared.fault.ShowFault.{ShowFault}
 use Rattle.pg_report.specs.declared.fault.ShowFault.TheVariants.{Diagram, Memory, Write}
 

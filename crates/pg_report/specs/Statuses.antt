@@ -9,18 +9,18 @@ use Rattle.pg_checker.specs.declared.fault.Fault.{Fault}
 use Rattle.pg_checker.specs.declared.fault.Fault.TheVariants as checking
 use Rattle.pg_searcher.specs.declared.fault.SearchFault.{SearchFault}
 use Rattle.pg_searcher.specs.declared.fault.SearchFault.TheVariants as searching
-use Rattle.pg_report.specs.declared.fault.MovesFault.{MovesFault}
-use Rattle.pg_report.specs.declared.fault.MovesFault.TheVariants as moving
-use Rattle.pg_report.specs.declared.fault.CountRunFault.{CountRunFault}
-use Rattle.pg_report.specs.declared.fault.CountRunFault.TheVariants as numbering
-use Rattle.pg_report.specs.declared.fault.RunFault.{RunFault}
-use Rattle.pg_report.specs.declared.fault.RunFault.TheVariants as running
+use Rattle.pg_texts.specs.declared.fault.MovesFault.{MovesFault}
+use Rattle.pg_texts.specs.declared.fault.MovesFault.TheVariants as moving
+use Rattle.pg_texts.specs.declared.fault.CountRunFault.{CountRunFault}
+use Rattle.pg_texts.specs.declared.fault.CountRunFault.TheVariants as numbering
+use Rattle.pg_checker.specs.declared.fault.RunFault.{RunFault}
+use Rattle.pg_checker.specs.declared.fault.RunFault.TheVariants as running
 use Rattle.pg_report.specs.declared.fault.ShowFault.{ShowFault}
 use Rattle.pg_report.specs.declared.fault.ShowFault.TheVariants as showing
-use Rattle.pg_report.specs.declared.fault.UpgradeFault.{UpgradeFault}
-use Rattle.pg_report.specs.declared.fault.UpgradeFault.TheVariants as upgrading
-use Rattle.pg_report.specs.declared.verdict.Verdict.{Verdict}
-use Rattle.pg_report.specs.declared.verdict.Verdict.TheVariants as verdict
+use Rattle.pg_texts.specs.declared.fault.UpgradeFault.{UpgradeFault}
+use Rattle.pg_texts.specs.declared.fault.UpgradeFault.TheVariants as upgrading
+use Rattle.pg_texts.specs.declared.verdict.Verdict.{Verdict}
+use Rattle.pg_texts.specs.declared.verdict.Verdict.TheVariants as verdict
 
 abbrev pub verdict_status : Verdict → ℕ
 verdict_status verdict.Sound = 0

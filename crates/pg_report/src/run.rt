@@ -7,18 +7,15 @@ ghost use Rattle.pg_checker.specs.Answer.{IsExactAnswer};
 ghost use Rattle.pg_checker.specs.Check.{Accepts};
 ghost use Rattle.pg_checker.specs.Cuts.{rules_by};
 ghost use Rattle.pg_checker.specs.declared.certify.Proved.{Proved};
-ghost use Rattle.pg_report.specs.Report.{IsVerdict, IsReport};
+ghost use Rattle.pg_texts.specs.Report.{IsVerdict, IsReport};
 ghost use Rattle.pg_report.specs.Run.{AreSpelled, IsCheckFault, IsOfTexts, IsRunFault};
 
-use crate::fault::RunFault;
-use crate::problem::Problem;
-use crate::report::write_report;
-use crate::verdict::Verdict;
 use pg_captures::Bound;
 use pg_certificate::{Sink, Source};
-use pg_checker::check;
+use pg_checker::{Problem, RunFault, check};
 use pg_fen::{Diagram, Length};
 use pg_san::{Games, read_games};
+use pg_texts::{Verdict, write_report};
 use std::alloc::Global;
 
 /// Checks a certificate for a diagram, a length in plies and a list of games, as `check` does, and
@@ -26,7 +23,8 @@ use std::alloc::Global;
 /// written and nothing else; nothing is written before the check has said yes.
 ///
 /// # Errors
-/// `Check` where the check does not say yes, with its cause; `Write` where the sink has failed.
+/// `Check` where the check does not say yes, with its cause; `Write` where it does and the sink has
+/// failed.
 pub fn run_listed<R: Source, W: Sink>(
     alloc: Global,
     diagram: &Diagram,
@@ -81,8 +79,8 @@ pub fn run_listed<R: Source, W: Sink>(
 ///
 /// # Errors
 /// In this order: `Diagram`, `Length` and `Games` where that text is refused, with its refusal, before
-/// the source is asked; `Check` where the check does not say yes, with its cause; `Write` where the
-/// sink has failed.
+/// the source is asked; `Check` where the check does not say yes, with its cause; `Write` where it does
+/// and the sink has failed.
 pub fn run_check<R: Source, W: Sink>(
     alloc: Global,
     diagram: &str,

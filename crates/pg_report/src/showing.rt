@@ -10,7 +10,6 @@ ghost use Rattle.pg_fen.specs.DiagramText.{diagram_of};
 ghost use Rattle.pg_report.specs.Shortest.{IsLeastLength, NoneBelow};
 ghost use Rattle.pg_report.specs.Showing.{counted_text, name_of, men_text, captured_text, need_text, open_line, IsSideLine, IsShown, IsShowFault};
 
-use crate::boards::append_board;
 use crate::fault::ShowFault;
 use crate::lengths::shortest;
 use pg_board::Color;
@@ -19,6 +18,7 @@ use pg_certificate::{Refused, Sink};
 use pg_fen::text::digits;
 use pg_fen::{Diagram, Length};
 use pg_position::Position;
+use pg_texts::write_board;
 use pg_travel::need;
 use std::alloc::{AllocError, Global};
 
@@ -118,7 +118,10 @@ fn write_shown<W: Sink>(
     ensures runs { OnOk result ((W.has_failed out.old ≡ false) × (W.has_failed out.new ≡ false)) }
     ensures fault { OnErr result (W.has_failed out.new ≡ true) }
 {
-    append_board(&diagram.board(), out)?;
+    match write_board(diagram, out) {
+        Ok(()) => {}
+        Err(_) => return Err(Refused),
+    }
     write_side(Color::White, diagram, out)?;
     write_side(Color::Black, diagram, out)?;
     write_open(least, out)

@@ -3,12 +3,12 @@ ghost use Rattle.std.specs.Prelude.{◌≡◌};
 ghost use Rattle.pg_report.specs.Statuses.{verdict_status, games_status, check_status, status_of, search_status_of};
 ghost use Rattle.pg_report.specs.Statuses.{moves_status_of, count_status_of, show_status_of, upgrade_status_of};
 
-use crate::fault::{CountRunFault, MovesFault, RunFault, ShowFault, UpgradeFault};
-use crate::verdict::Verdict;
-use pg_checker::Fault;
+use crate::fault::ShowFault;
+use pg_checker::{Fault, RunFault};
 use pg_moves::CountFault;
 use pg_san::GamesFault;
 use pg_searcher::SearchFault;
+use pg_texts::{CountRunFault, MovesFault, UpgradeFault, Verdict};
 
 /// The status after a report: 0 where it says `sound`, 1 where it says `cooked` or `no game`.
 pub fn verdict_status(verdict: Verdict) -> u8

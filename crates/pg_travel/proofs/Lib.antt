@@ -3,5 +3,4 @@ pub mod Nearness
 pub mod PawnRows
 pub mod PromotedRows
 pub mod Within
-pub mod RowLemmas
 pub mod PriceLemmas

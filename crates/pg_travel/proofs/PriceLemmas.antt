@@ -26,7 +26,7 @@ use Rattle.pg_travel.specs.Walks.{IsDistance}
 use Rattle.pg_travel.specs.Origins.{charge, counted}
 use Rattle.pg_travel.specs.numbers.Formulas.{distance_of, is_promoted, soonest, least_steps}
 use Rattle.pg_travel.specs.lemmas.Pawns.{none_by_steps, some_by_steps, by_other}
-use Rattle.pg_travel.specs.PriceRecords.{list_at}
+use Rattle.pg_price_lists.specs.PriceRecords.{list_at}
 use Rattle.pg_travel.specs.lemmas.Values.{counted_low}
 use Rattle.pg_travel.proofs.Nearness.{no_sooner, soonest_counted}
 use Rattle.pg_travel.specs.numbers.PriceTests.{PairFits, IsBySquare, IsLeastPrice, IsLow, BeyondFits, ManFits, KindFits, StoodFits, TargetFits, AllFit}

@@ -3,7 +3,6 @@ pub mod Origins
 pub mod Needs
 pub mod Decided
 pub mod TravelPrices
-pub mod PriceRecords
 pub mod PricesDecided
 pub mod lemmas
 pub mod numbers

@@ -10,7 +10,6 @@ mod misplaced;
 mod needs;
 mod pawn_table;
 mod price_cuts;
-mod prices;
 mod promotion_table;
 mod targets;
 mod travel;
@@ -19,5 +18,7 @@ pub use distances::distance;
 pub use laws::{origins_law, travel_law};
 pub use needs::need;
 pub use price_cuts::prices_exclude;
-pub use prices::Prices;
 pub use travel::Travel;
+
+// What the test of prices takes.
+pub use pg_price_lists::Prices;

@@ -2,17 +2,17 @@
 ghost use Rattle.std.specs.Prelude.{◌↔◌, IsTrue};
 ghost use Rattle.pg_position.specs.Game.{Barren};
 ghost use Rattle.pg_captures.specs.PriceLists.{list_of};
-ghost use Rattle.pg_travel.specs.PriceRecords.{list_at};
+ghost use Rattle.pg_price_lists.specs.PriceRecords.{list_at};
 ghost use Rattle.pg_travel.specs.TravelPrices.{WayPricesExclude, TravelPricesExclude};
 ghost use Rattle.pg_travel.specs.numbers.PriceTests.{OneExcludes, TwoExclude, ThreeExclude};
 
 use crate::castling::charge;
-use crate::prices::Prices;
 use crate::targets::all_fit;
 use pg_board::Color;
 use pg_captures::{all_men, plies_left, price_sum};
 use pg_fen::Diagram;
 use pg_position::{Position, Wing};
+use pg_price_lists::Prices;
 
 // Whether the list of a way excludes it.
 fn way_excludes(

@@ -1,7 +1,7 @@
 -- A priced record in two parts, as it is read: what stands before its lists, and the lists.
 use Rattle.std.specs.Prelude.{◌≡◌, ℕ, ◌<◌, ◌≤◌, ◌^◌, List, [], ◌∷◌, length, All}
 use Rattle.std.specs.List.{flat_map}
-use Rattle.pg_captures.specs.PriceLists.{PriceList}
+use Rattle.pg_price_lists.specs.PriceLists.{PriceList}
 use Rattle.pg_certificate.specs.declared.outline.Outline.{Outline}
 use Rattle.pg_certificate.specs.Spelling.{color_byte, list_spelling, IsPriceList}
 

@@ -13,7 +13,7 @@ use Rattle.pg_captures.specs.Counting.{any_man}
 use Rattle.pg_captures.specs.PriceLists.{PriceList, price}
 use Rattle.pg_travel.specs.Walks.{IsDistance}
 use Rattle.pg_travel.specs.Origins.{counted}
-use Rattle.pg_travel.specs.PriceRecords.{list_at}
+use Rattle.pg_price_lists.specs.PriceRecords.{list_at}
 use Rattle.pg_travel.specs.TravelPrices.{WayPricesExclude}
 
 -- the kind j on t pays v: no more than u and the distance of m from r

@@ -1,6 +1,6 @@
 use super::*;
 use pg_board::Color;
-use pg_travel::Prices;
+use pg_price_lists::Prices;
 use pg_trial::{Endless, FailsAt, OneByte};
 use std::io::{ErrorKind, Read};
 

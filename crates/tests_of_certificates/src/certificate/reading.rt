@@ -1,5 +1,5 @@
 use super::*;
-use pg_travel::Prices;
+use pg_price_lists::Prices;
 use pg_trial::{Endless, FailsAt, OneByte};
 use std::io::{ErrorKind, Read};
 

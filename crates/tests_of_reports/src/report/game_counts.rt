@@ -7,7 +7,7 @@ const MIDDLE_GAME: &str = "r3k2r/p1ppqpb1/bn2pnp1/3PN3/1p2P3/2N2Q1p/PPPBBPPP/R3K
 // What is written for a number of plies.
 fn check_count<R: Abort + AllocGlobal>(rt: &R, fen: &str, plies: u8, wanted: &str) {
     let mut out = ToWrite::new(Vec::new(rt.alloc()));
-    let answer = run_count(rt.alloc(), fen, plies, &mut out, &mut Unwatched);
+    let answer = run_count(rt.alloc(), fen, plies, &mut out);
     answer.expect(rt, fen);
     check_output(rt, out, wanted);
 }
@@ -25,10 +25,33 @@ fn counts(rt: HostRuntime) {
     check_count(&rt, MATED, 3, "0\n");
 }
 
+// Adds up what it is told.
+#[derive(Drop)]
+struct Told {
+    games: u64,
+}
+
+impl Progress for Told {
+    fn counted(&mut self, games: u64) {
+        self.games = self.games.saturating_add(games);
+    }
+}
+
+// The watch is told of all the games.
+#[test]
+fn a_count_is_watched(rt: HostRuntime) {
+    let mut told = Told { games: 0 };
+    let mut out = ToWrite::new(Vec::new(rt.alloc()));
+    let answer = run_count_watched(rt.alloc(), START, 4, &mut out, &mut told);
+    answer.expect(&rt, START);
+    check_output(&rt, out, "197281\n");
+    assert_eq!(rt; told.games, 197_281);
+}
+
 // The refusal is told so, after which nothing was written.
 fn check_refused<R: Abort + AllocGlobal>(rt: &R, fen: &str, plies: u8, wanted: &str) {
     let mut out = failing_sink(rt.alloc(), MANY);
-    let answer = run_count(rt.alloc(), fen, plies, &mut out, &mut Unwatched);
+    let answer = run_count(rt.alloc(), fen, plies, &mut out);
     check_text(rt, &answer.expect_err(rt, "a refusal"), wanted);
     check_unwritten(rt, out);
 }
@@ -56,7 +79,7 @@ fn counts_that_are_refused(rt: HostRuntime) {
 // The write with this number fails, after so many bytes.
 fn check_write<R: Abort + AllocGlobal>(rt: &R, at: u64, length: usize) {
     let mut out = failing_sink(rt.alloc(), at);
-    let answer = run_count(rt.alloc(), ENDGAME, 3, &mut out, &mut Unwatched);
+    let answer = run_count_watched(rt.alloc(), ENDGAME, 3, &mut out, &mut Unwatched);
     assert!(rt; answer == Err(CountRunFault::Write), "{at}");
     assert_eq!(rt; written_before(rt, out, at).len(), length);
 }

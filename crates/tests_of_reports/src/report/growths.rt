@@ -65,7 +65,7 @@ fn refused_growths_of_a_check(rt: HostRuntime) {
 fn refused_growths_of_a_count(rt: HostRuntime) {
     for _ in 0..9u8 {
         let mut out = ToWrite::new(Counted::new());
-        let answer = run_count(rt.alloc(), ENDGAME, 3, &mut out, &mut Unwatched);
+        let answer = run_count_watched(rt.alloc(), ENDGAME, 3, &mut out, &mut Unwatched);
         let memory = CountRunFault::Count(CountFault::Memory);
         check_told(&rt, answer, out, 5, memory);
     }

@@ -1,13 +1,12 @@
-use Rattle.std.proofs.Common.{List, ℕ, subst}
+use Rattle.std.proofs.Common.{List, ℕ}
 use Rattle.std.specs.Io.KnownBytes.{Appends}
-use Rattle.pg_report.specs.BoardText.{board_text}
 use Rattle.pg_report.specs.Showing.{open_line, IsShown}
-use Rattle.pg_report.proofs.OutcomeLemmas.{on_ok}
+use Rattle.pg_texts.proofs.OutcomeLemmas.{on_ok}
 use Rattle.pg_report.proofs.ShowLemmas.{shown}
 use Rattle.pg_report.proofs.showing.write_shown.Goals as goal
 
 pub returns-clause-text : goal.returns-clause-text
 returns-clause-text g c =
     on_ok c.write_open.result (Appends (g.W.Sink.held c.write_side-2.new.out) (g.W.Sink.held c.write_open.new.out) (open_line c.args.least)) ((text : List ℕ) × IsShown c.args.diagram.now c.args.least text × Appends (g.W.Sink.held c.args.out.now) (g.W.Sink.held c.write_open.new.out) text)
-    (shown c.args.diagram.now c.args.least (g.W.Sink.held c.args.out.now) (g.W.Sink.held c.append_board.new.out) (g.W.Sink.held c.write_side.new.out) (g.W.Sink.held c.write_side-2.new.out) (g.W.Sink.held c.write_open.new.out) (subst (λ b. Appends (g.W.Sink.held c.args.out.now) (g.W.Sink.held c.append_board.new.out) (board_text b)) c.board.ensures.value c.in_ok-append_board.ensures.text) c.in_ok-write_side.ensures.text c.in_ok-write_side-2.ensures.text)
+    (shown c.args.diagram.now c.args.least (g.W.Sink.held c.args.out.now) (g.W.Sink.held c.write_board.new.out) (g.W.Sink.held c.write_side.new.out) (g.W.Sink.held c.write_side-2.new.out) (g.W.Sink.held c.write_open.new.out) c.in-Ok.ensures.text c.in_ok-write_side.ensures.text c.in_ok-write_side-2.ensures.text)
     c.write_open.ensures.text

@@ -1,7 +1,7 @@
 use Rattle.std.proofs.Common.{List, ℕ}
 use Rattle.std.specs.Io.KnownBytes.{Appends}
 use Rattle.pg_report.specs.Showing.{need_text, IsSideLine}
-use Rattle.pg_report.proofs.OutcomeLemmas.{on_ok}
+use Rattle.pg_texts.proofs.OutcomeLemmas.{on_ok}
 use Rattle.pg_report.proofs.ShowLemmas.{side_grows}
 use Rattle.pg_report.proofs.showing.write_side.Goals as goal
 

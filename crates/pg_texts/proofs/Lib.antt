@@ -1,0 +1,7 @@
+pub mod MoveLineLemmas
+pub mod CountLemmas
+pub mod OutcomeLemmas
+pub mod PlyLemmas
+pub mod ReportLemmas
+pub mod UpgradeLemmas
+pub mod BoardTextLemmas

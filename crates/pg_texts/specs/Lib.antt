@@ -1,0 +1,7 @@
+pub mod MovesText
+pub mod CountText
+pub mod Movetext
+pub mod Report
+pub mod Upgrade
+pub mod BoardText
+pub mod numbers

@@ -1,0 +1,80 @@
+//! The number of games from a position.
+ghost use Rattle.std.specs.Prelude.{◌≡◌, ◌≢◌, ◌∷◌, [], ◌++◌, ◌≤◌, ℕ, IfErr, OnOk, OnErr, false, true};
+ghost use Rattle.std.specs.Fmt.{decimal};
+ghost use Rattle.std.specs.Io.KnownBytes.{Appends};
+ghost use Rattle.pg_position.specs.declared.state.State.{State};
+ghost use Rattle.pg_moves.specs.Counts.{IsGameCount};
+ghost use Rattle.pg_texts.specs.MovesText.{SpellsPosition};
+ghost use Rattle.pg_texts.specs.CountText.{IsCountRunFault};
+
+use crate::fault::CountRunFault;
+use crate::moves::game_of;
+use pg_certificate::{Refused, Sink};
+use pg_fen::text::digits;
+use pg_moves::{Progress, Unwatched, count_watched};
+use std::alloc::Global;
+
+// Appends a number and a line feed.
+fn write_number<W: Sink>(n: u64, out: &mut W) -> Result<(), Refused>
+    ensures text { OnOk result (Appends (W.held out.old) (W.held out.new) (decimal n ++ 10 ∷ [])) }
+    ensures runs { OnOk result ((W.has_failed out.old ≡ false) × (W.has_failed out.new ≡ false)) }
+    ensures fault { OnErr result (W.has_failed out.new ≡ true) }
+{
+    out.push(digits(n as usize).as_bytes())?;
+    out.push(b"\n")
+}
+
+/// Writes the number of games of so many plies, 0 to 8, from the position that a text of six fields
+/// spells, and a line feed. What the count needs is taken from `alloc`, and nothing is written before
+/// the number stands.
+///
+/// # Errors
+/// `Position` where the text is refused as a position, with that refusal; `Count` where the games are
+/// not counted: `TooDeep` above 8 plies, `Overflow` where the number does not fit in 64 bits, `Memory`
+/// where a growth was refused; `Write` where the sink has failed. With the first two the sink is as it
+/// was.
+pub fn run_count<W: Sink>(
+    alloc: Global,
+    fen: &str,
+    plies: u8,
+    out: &mut W,
+) -> Result<(), CountRunFault>
+    ensures ok { OnOk result ((p : State) × SpellsPosition fen.now p × (plies ≤ 8)
+        × ((n : ℕ) × IsGameCount p plies n × Appends (W.held out.old) (W.held out.new) (decimal n ++ 10 ∷ []))) }
+    ensures err { IfErr result (λ e. IsCountRunFault fen.now plies (W.has_failed out.new) e) }
+    ensures unwritten { IfErr result (λ e. e ≢ CountRunFault.Write → out.new ≡ out.old) }
+    ensures runs { OnOk result ((W.has_failed out.old ≡ false) × (W.has_failed out.new ≡ false)) }
+{
+    run_count_watched(alloc, fen, plies, out, &mut Unwatched)
+}
+
+/// As `run_count`, and tells `watch` of games as they are counted.
+///
+/// # Errors
+/// As for `run_count`.
+pub fn run_count_watched<W: Sink, P: Progress>(
+    alloc: Global,
+    fen: &str,
+    plies: u8,
+    out: &mut W,
+    watch: &mut P,
+) -> Result<(), CountRunFault>
+    ensures ok { OnOk result ((p : State) × SpellsPosition fen.now p × (plies ≤ 8)
+        × ((n : ℕ) × IsGameCount p plies n × Appends (W.held out.old) (W.held out.new) (decimal n ++ 10 ∷ []))) }
+    ensures err { IfErr result (λ e. IsCountRunFault fen.now plies (W.has_failed out.new) e) }
+    ensures unwritten { IfErr result (λ e. e ≢ CountRunFault.Write → out.new ≡ out.old) }
+    ensures runs { OnOk result ((W.has_failed out.old ≡ false) × (W.has_failed out.new ≡ false)) }
+{
+    let game = match game_of(fen) {
+        Ok(game) => game,
+        Err(fault) => return Err(CountRunFault::Position(fault)),
+    };
+    let n = match count_watched(alloc, &game.position, plies, watch) {
+        Ok(n) => n,
+        Err(fault) => return Err(CountRunFault::Count(fault)),
+    };
+    match write_number(n, out) {
+        Ok(()) => Ok(()),
+        Err(Refused) => Err(CountRunFault::Write),
+    }
+}

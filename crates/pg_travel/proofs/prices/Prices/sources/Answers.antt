@@ -1,7 +1,0 @@
-use Rattle.std.proofs.Common.{sym, ap, ◌∙◌}
-use Rattle.pg_travel.specs.PriceRecords.{sources}
-use Rattle.pg_travel.specs.numbers.Rows.{sources_of}
-use Rattle.pg_travel.proofs.prices.Prices.sources.Goals as goal
-
-pub returns-clause-number : goal.returns-clause-number
-returns-clause-number c = sym (sym (ap sources c.self.view_is) ∙ sources_of c.self.inside.ways c.self.inside.sources c.self.inside.targets c.self.inside.first c.self.inside.second c.self.inside.third c.self.invariant.0 c.self.invariant.2 c.self.invariant.4)

@@ -1,0 +1,6 @@
+mod Wider
+mod ExactUpgrades
+mod UpgradedFits
+mod Nodes
+mod Refusable
+mod RefusedUpgrades
