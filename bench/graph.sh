@@ -1,8 +1,7 @@
 #!/usr/bin/env bash
-# Holds crates.txt to the sources. A crate lists each library that its sources name (src/, specs/ and proofs/), and the crates
-# of this repository on which those stand, since `rt` asks for that. It lists nothing else, but libraries of the toolchain on
-# which those stand: what it lists and does not need makes its proof wait, and be done again, for nothing. Words in comments
-# and texts do not count. Quiet where all is so; else prints what is amiss, and ends with status 1.
+# Holds crates.txt to the sources. A crate lists each library that its sources name (src/, specs/ and proofs/), and nothing else:
+# what it lists and does not name makes its proof wait, and be done again, for nothing. Words in comments and texts do not
+# count. Quiet where all is so; else prints what is amiss, and ends with status 1.
 set -u
 cd "$(dirname "$(readlink -f "$0")")/.." || exit 1
 python3 - <<'END'
@@ -37,14 +36,8 @@ def named(crate):
 wrong = []
 for crate, listed in lists.items():
     names = named(crate)
-    stand = {below for name in names for below in [name, *lists.get(name, [])]}
-    for name in listed:
-        if name not in stand:
-            wrong.append(f"{crate} lists {name}, which its sources do not name, nor anything that they name stands on")
-    for name in sorted(names - set(listed)):
-        wrong.append(f"{crate} does not list {name}, which its sources name")
-    for name in sorted((stand - names - set(listed)) & set(lists)):
-        wrong.append(f"{crate} does not list {name}, on which something stands that its sources name")
+    wrong += [f"{crate} lists {name}, which its sources do not name" for name in listed if name not in names]
+    wrong += [f"{crate} does not list {name}, which its sources name" for name in sorted(names - set(listed))]
 print(*wrong, sep="\n", end="\n" * bool(wrong), file=sys.stderr)
 sys.exit(1 if wrong else 0)
 END
