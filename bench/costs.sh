@@ -33,16 +33,16 @@ def kind_of(words, folder):
 
 def look(top, calls):
     """Notes the time and memory that each rattle below the process top has taken so far."""
-    parents = {}
+    stats = {}
     for pid in filter(str.isdigit, os.listdir("/proc")):
         try:
-            parents[int(pid)] = read(f"/proc/{pid}/stat").rpartition(")")[2].split()
+            stats[int(pid)] = read(f"/proc/{pid}/stat").rpartition(")")[2].split()
         except OSError:
             continue
-    for pid, stat in parents.items():
+    for pid, stat in stats.items():
         above = pid
-        while above in parents and above != top:
-            above = int(parents[above][1])
+        while above in stats and above != top:
+            above = int(stats[above][1])
         try:
             words = read(f"/proc/{pid}/cmdline").split("\0") if above == top else []
             if not words or os.path.basename(words[0]) != "rattle" or "--crate-name" not in words:
