@@ -1,39 +1,38 @@
 -- What is refused below, handed on to an explanation. Leads to the contract of `why`.
-use Rattle.std.proofs.Common.{◌≡◌, ◌⊎◌, inl, inr, ℕ, Bool, true, List, Option, refl, sym, subst}
+use Rattle.std.proofs.Common.{◌≡◌, ◌⊎◌, inl, inr, ℕ, true, refl, sym, subst}
 use Rattle.pg_board.specs.Placement.{Placement}
-use Rattle.pg_position.specs.declared.moves.Move.{Move}
-use Rattle.pg_checker.specs.Cuts.{CheckRules}
 use Rattle.pg_checker.specs.declared.fault.Fault.{Fault}
 use Rattle.pg_checker.specs.declared.fault.RunFault.TheVariants.{Diagram, Length, Games, Check, Write}
+use Rattle.pg_guide.specs.declared.explaining.Asked.{Asked}
 use Rattle.pg_guide.specs.declared.fault.WhyFault.{WhyFault}
 use Rattle.pg_guide.specs.declared.fault.WhyFault.TheVariants.{Moves, Run}
-use Rattle.pg_guide.specs.Stops.{IsStopFault}
-use Rattle.pg_guide.specs.Why.{IsProblem, IsOneLine, IsOneLineFault, IsCertificateFault, IsWhyFault}
+use Rattle.pg_guide.specs.Stops.{HasSolution, IsStopFault}
+use Rattle.pg_guide.specs.Why.{Terms, Failures, Spells, IsProblem, IsOneLine, IsOneLineFault, IsCertificateFault, IsWhyFault}
 
 -- the moves are refused
-pub bad_line : (rules : Placement → ℕ → List (List Move) → CheckRules) (diagram length moves : List ℕ) (max_records max_named : ℕ) (known : Option (List ℕ)) (walked cited failed broken : Bool) (e : WhyFault)
-    → IsProblem diagram length → IsOneLineFault moves e → IsWhyFault rules diagram length moves max_records max_named known walked cited failed broken e
-bad_line rules diagram length moves max_records max_named known walked cited failed broken Moves p h = (p, h)
-bad_line rules diagram length moves max_records max_named known walked cited failed broken (Run (Diagram f)) p h = absurd h
-bad_line rules diagram length moves max_records max_named known walked cited failed broken (Run (Length f)) p h = absurd h
-bad_line rules diagram length moves max_records max_named known walked cited failed broken (Run (Games f)) p h = (p, h)
-bad_line rules diagram length moves max_records max_named known walked cited failed broken (Run (Check f)) p h = absurd h
-bad_line rules diagram length moves max_records max_named known walked cited failed broken (Run Write) p h = absurd h
-
--- the certificate is refused, and so may be the sink that is to be told
-pub bad_certificate : (rules : Placement → ℕ → List (List Move) → CheckRules) (diagram length moves : List ℕ) (max_records max_named : ℕ) (known : Option (List ℕ)) (walked cited failed broken : Bool) (f : Fault) (e : WhyFault)
-    → IsProblem diagram length → IsOneLine moves → ((e ≡ Run Write) × (broken ≡ true)) ⊎ (e ≡ Run (Check f)) → IsCertificateFault rules diagram length max_records max_named known walked cited failed f
-    → IsWhyFault rules diagram length moves max_records max_named known walked cited failed broken e
-bad_certificate rules diagram length moves max_records max_named known walked cited failed broken f e p l (inl w) r = subst (λ (x : WhyFault). IsWhyFault rules diagram length moves max_records max_named known walked cited failed broken x) (sym w.0) (p, l, w.1)
-bad_certificate rules diagram length moves max_records max_named known walked cited failed broken f e p l (inr w) r = subst (λ (x : WhyFault). IsWhyFault rules diagram length moves max_records max_named known walked cited failed broken x) (sym w) (p, l, r)
-
--- a walk of the certificate stops before the check
-pub stopped_early : (rules : Placement → ℕ → List (List Move) → CheckRules) (diagram length moves : List ℕ) (max_records max_named : ℕ) (known : Option (List ℕ)) (walked cited failed broken : Bool) (e : WhyFault)
-    → IsProblem diagram length → IsOneLine moves → IsStopFault walked cited e → IsWhyFault rules diagram length moves max_records max_named known walked cited failed broken e
-stopped_early rules diagram length moves max_records max_named known walked cited failed broken e p l (inl w) = subst (λ (x : WhyFault). IsWhyFault rules diagram length moves max_records max_named known walked cited failed broken x) (sym w) (p, l, inl refl)
-stopped_early rules diagram length moves max_records max_named known walked cited failed broken e p l (inr w) = subst (λ (x : WhyFault). IsWhyFault rules diagram length moves max_records max_named known walked cited failed broken x) (sym w.0) (p, l, inr (inl (refl, w.1)))
+pub bad_line : (asked : Asked) (t : Terms) (failed : Failures) (e : WhyFault) → IsProblem asked → IsOneLineFault asked.moves.now e → IsWhyFault asked t failed e
+bad_line asked t failed Moves p h = (p, h)
+bad_line asked t failed (Run (Diagram f)) p h = absurd h
+bad_line asked t failed (Run (Length f)) p h = absurd h
+bad_line asked t failed (Run (Games f)) p h = (p, h)
+bad_line asked t failed (Run (Check f)) p h = absurd h
+bad_line asked t failed (Run Write) p h = absurd h
 
 -- the sink has failed
-pub untold : (rules : Placement → ℕ → List (List Move) → CheckRules) (diagram length moves : List ℕ) (max_records max_named : ℕ) (known : Option (List ℕ)) (walked cited failed broken : Bool) (e : WhyFault)
-    → IsProblem diagram length → IsOneLine moves → (e ≡ Run Write) × (broken ≡ true) → IsWhyFault rules diagram length moves max_records max_named known walked cited failed broken e
-untold rules diagram length moves max_records max_named known walked cited failed broken e p l w = subst (λ (x : WhyFault). IsWhyFault rules diagram length moves max_records max_named known walked cited failed broken x) (sym w.0) (p, l, w.1)
+pub untold : (asked : Asked) (t : Terms) (failed : Failures) (e : WhyFault) → IsProblem asked → IsOneLine asked.moves.now
+    → (e ≡ Run Write) × (failed.sink ≡ true) → IsWhyFault asked t failed e
+untold asked t failed e p l w = subst (λ (x : WhyFault). IsWhyFault asked t failed x) (sym w.0) (p, l, w.1)
+
+-- the certificate is refused, and so may be the sink that is to be told
+pub bad_certificate : (asked : Asked) (t : Terms) (failed : Failures) (d : Placement) (n : ℕ) (f : Fault) (e : WhyFault) → Spells asked d n → IsOneLine asked.moves.now
+    → ((e ≡ Run Write) × (failed.sink ≡ true)) ⊎ (e ≡ Run (Check f)) → IsCertificateFault d n t failed f → IsWhyFault asked t failed e
+bad_certificate asked t failed d n f e s l (inl w) r = untold asked t failed e (d, n, s) l w
+bad_certificate asked t failed d n f e s l (inr w) r = subst (λ (x : WhyFault). IsWhyFault asked t failed x) (sym w) (l, (d, n, s, r))
+
+-- a walk of the certificate stops before the check
+pub stopped_early : (asked : Asked) (t : Terms) (failed : Failures) (d : Placement) (n k : ℕ) (e : WhyFault) → Spells asked d n → k ≡ n → IsOneLine asked.moves.now
+    → IsStopFault d k failed.walked failed.cited e → IsWhyFault asked t failed e
+stopped_early asked t failed d n k e s same l (inl w) =
+    let some : HasSolution d n = subst (λ (x : ℕ). HasSolution d x) same w.1 in
+    subst (λ (x : WhyFault). IsWhyFault asked t failed x) (sym w.0) (l, (d, n, s, inl (refl, some)))
+stopped_early asked t failed d n k e s same l (inr w) = subst (λ (x : WhyFault). IsWhyFault asked t failed x) (sym w.0) (l, (d, n, s, inr (inl (refl, w.1))))

@@ -5,7 +5,7 @@ use Rattle.pg_position.specs.declared.moves.Move.{Move}
 use Rattle.pg_fen.specs.Fields.{fields}
 use Rattle.pg_fen.specs.DiagramText.{diagram_of}
 use Rattle.pg_fen.specs.Lengths.{length_of}
-use Rattle.pg_checker.specs.Answer.{IsExactAnswer}
+use Rattle.pg_checker.specs.Answer.{IsExactAnswer, AreSolutions}
 use Rattle.pg_checker.specs.Check.{Accepts, Refuses}
 use Rattle.pg_checker.specs.declared.fault.Fault.{Fault}
 use Rattle.pg_checker.specs.declared.fault.Fault.TheVariants.{Memory, Read}
@@ -14,20 +14,40 @@ use Rattle.pg_checker.specs.ProblemText.{IsProblemFault}
 use Rattle.pg_checker.specs.Cuts.{CheckRules}
 use Rattle.pg_checker.specs.declared.certify.Proved.{Proved}
 use Rattle.pg_checker.specs.declared.fault.RunFault.TheVariants.{Diagram, Length, Games, Check, Write}
+use Rattle.pg_guide.specs.Stops.{HasSolution}
+use Rattle.pg_guide.specs.declared.explaining.Asked.{Asked}
 use Rattle.pg_guide.specs.declared.fault.WhyFault.{WhyFault}
 use Rattle.pg_guide.specs.declared.fault.WhyFault.TheVariants.{Moves, Run}
 
+-- What the check goes by: the rules, the limits, and the bytes that its source gives, where it tells them.
+pub record Terms : Type 0 where
+  pub rules : Placement → ℕ → List (List Move) → CheckRules
+  pub max_records : ℕ
+  pub max_named : ℕ
+  pub known : Option (List ℕ)
+
+-- Which of them have failed: the sources of the two walks, that of the check, and the sink.
+pub record Failures : Type 0 where
+  pub walked : Bool
+  pub cited : Bool
+  pub checked : Bool
+  pub sink : Bool
+
+-- the texts spell a diagram d and a length of n plies
+abbrev pub Spells : Asked → Placement → ℕ → Type 0
+Spells asked d n = (diagram_of (fields asked.diagram.now) ≡ Ok d) × (length_of asked.length.now ≡ Ok n)
+
 -- the texts spell a diagram d and a length of n plies, a list of games is the exact answer to them, and by the rules the known bytes are a certificate of that within the limits
-abbrev pub IsProved : (Placement → ℕ → List (List Move) → CheckRules) → List ℕ → List ℕ → ℕ → ℕ → Option (List ℕ) → Type 0
-IsProved rules diagram length max_records max_named known =
-    (d : Placement) × (n : ℕ) × (list : List (List Move)) × (diagram_of (fields diagram) ≡ Ok d) × (length_of length ≡ Ok n) × IsExactAnswer d n list
-    × ((proved : Proved) × Accepts (rules d n list) d list max_records max_named known (Ok proved))
+abbrev pub IsProved : Asked → Terms → Type 0
+IsProved asked t =
+    (d : Placement) × (n : ℕ) × (list : List (List Move)) × (diagram_of (fields asked.diagram.now) ≡ Ok d) × (length_of asked.length.now ≡ Ok n) × IsExactAnswer d n list
+    × ((proved : Proved) × Accepts (t.rules d n list) d list t.max_records t.max_named t.known (Ok proved))
 
--- two texts spell a diagram and a length
-abbrev pub IsProblem : List ℕ → List ℕ → Type 0
-IsProblem diagram length = ((d : Placement) × (diagram_of (fields diagram) ≡ Ok d)) × ((n : ℕ) × (length_of length ≡ Ok n))
+-- the texts spell a diagram and a length
+abbrev pub IsProblem : Asked → Type 0
+IsProblem asked = (d : Placement) × (n : ℕ) × Spells asked d n
 
--- a text is the moves of one game
+-- the text is the moves of one game
 abbrev pub IsOneLine : List ℕ → Type 0
 IsOneLine text = (list : List (List Move)) × IsListing text list × (length_of_list list ≡ 1)
 
@@ -37,23 +57,23 @@ IsOneLineFault text Moves = (list : List (List Move)) × IsListing text list × 
 IsOneLineFault text (Run (Games fault)) = IsTextFault text fault
 IsOneLineFault text (Run fault) = ⊥
 
--- the certificate is refused: memory; or reading it, where the source of one of the two walks has failed; or, by the rules, a
--- list of games is not the exact answer to what the texts spell, or the known bytes are no certificate of that within the limits
-abbrev pub IsCertificateFault : (Placement → ℕ → List (List Move) → CheckRules) → List ℕ → List ℕ → ℕ → ℕ → Option (List ℕ) → Bool → Bool → Bool → Fault → Type 0
-IsCertificateFault rules diagram length max_records max_named known walked cited failed fault =
-    (fault ≡ Memory) ⊎ (((fault ≡ Read) × ((walked ≡ true) ⊎ (cited ≡ true)))
-    ⊎ ((d : Placement) × (n : ℕ) × (list : List (List Move)) × (diagram_of (fields diagram) ≡ Ok d) × (length_of length ≡ Ok n)
-    × Accepts (rules d n list) d list max_records max_named known (Err fault)
-    × Refuses (rules d n list) d list max_records max_named known failed (Err fault)))
+-- why the certificate is refused, for a diagram d and n plies: memory was, where a solution was found; or reading, where the
+-- source of one of the two walks has failed; or, by the rules, the known bytes are no certificate within the limits that
+-- some solutions, each listed once, are the exact answer
+abbrev pub IsCertificateFault : Placement → ℕ → Terms → Failures → Fault → Type 0
+IsCertificateFault d n t failed fault =
+    ((fault ≡ Memory) × HasSolution d n) ⊎ (((fault ≡ Read) × ((failed.walked ≡ true) ⊎ (failed.cited ≡ true)))
+    ⊎ ((list : List (List Move)) × AreSolutions d n list
+    × Accepts (t.rules d n list) d list t.max_records t.max_named t.known (Err fault)
+    × Refuses (t.rules d n list) d list t.max_records t.max_named t.known failed.checked (Err fault)))
 
 -- why a line is not explained by a certificate that is right: a text is refused, the diagram first, then the length, then
--- the moves; or none of them is, and the certificate is refused, or the sink has failed. The Bools say whether the sources
--- of the two walks, that of the check, and the sink have failed
-abbrev pub IsWhyFault : (Placement → ℕ → List (List Move) → CheckRules) → List ℕ → List ℕ → List ℕ → ℕ → ℕ → Option (List ℕ) → Bool → Bool → Bool → Bool → WhyFault → Type 0
-IsWhyFault rules diagram length moves max_records max_named known walked cited failed broken Moves = IsProblem diagram length × IsOneLineFault moves Moves
-IsWhyFault rules diagram length moves max_records max_named known walked cited failed broken (Run (Diagram fault)) = IsProblemFault diagram length (Diagram fault)
-IsWhyFault rules diagram length moves max_records max_named known walked cited failed broken (Run (Length fault)) = IsProblemFault diagram length (Length fault)
-IsWhyFault rules diagram length moves max_records max_named known walked cited failed broken (Run (Games fault)) = IsProblem diagram length × IsTextFault moves fault
-IsWhyFault rules diagram length moves max_records max_named known walked cited failed broken (Run (Check fault)) =
-    IsProblem diagram length × IsOneLine moves × IsCertificateFault rules diagram length max_records max_named known walked cited failed fault
-IsWhyFault rules diagram length moves max_records max_named known walked cited failed broken (Run Write) = IsProblem diagram length × IsOneLine moves × (broken ≡ true)
+-- the moves; or none of them is, and the certificate is refused, or the sink has failed
+abbrev pub IsWhyFault : Asked → Terms → Failures → WhyFault → Type 0
+IsWhyFault asked t failed Moves = IsProblem asked × IsOneLineFault asked.moves.now Moves
+IsWhyFault asked t failed (Run (Diagram fault)) = IsProblemFault asked.diagram.now asked.length.now (Diagram fault)
+IsWhyFault asked t failed (Run (Length fault)) = IsProblemFault asked.diagram.now asked.length.now (Length fault)
+IsWhyFault asked t failed (Run (Games fault)) = IsProblem asked × IsTextFault asked.moves.now fault
+IsWhyFault asked t failed (Run (Check fault)) =
+    IsOneLine asked.moves.now × ((d : Placement) × (n : ℕ) × Spells asked d n × IsCertificateFault d n t failed fault)
+IsWhyFault asked t failed (Run Write) = IsProblem asked × IsOneLine asked.moves.now × (failed.sink ≡ true)

@@ -1,8 +1,9 @@
 //! A line of moves is explained by a certificate.
 ghost use Rattle.std.specs.Prelude.{◌≡◌, ◌⊎◌, ℕ, List, Bool, true, false, length, IfOk, IfErr, OnOk};
+ghost use Rattle.pg_board.specs.Placement.{Placement};
 ghost use Rattle.pg_checker.specs.Cuts.{rules_by};
 ghost use Rattle.pg_san.specs.Listing.{IsListing};
-ghost use Rattle.pg_guide.specs.Stops.{EndsTruly, IsStopFault};
+ghost use Rattle.pg_guide.specs.Stops.{EndsTruly, Finds, IsStopFault};
 ghost use Rattle.pg_guide.specs.Why.{IsOneLineFault, IsOneLine, IsProved, IsWhyFault};
 
 use crate::fault::WhyFault;
@@ -59,7 +60,8 @@ fn cited_by<R: Source>(
     source: &mut R,
     records: u64,
 ) -> Result<Option<Cited>, Stop>
-    ensures says { (walked : Bool) → IfErr result (EndsTruly walked (R.has_failed source.new)) }
+    ensures says { (walked : Bool) → IfErr result (EndsTruly question.now.diagram.now question.now.plies
+        walked (R.has_failed source.new)) }
 {
     let Some(Ending::Said(Record::Ref(number))) = &machine.ending else {
         return Ok(None);
@@ -70,7 +72,9 @@ fn cited_by<R: Source>(
         line: &[],
         wanted: Some(*number),
     };
-    match walk(alloc, &question, source, records) {
+    // No game goes into a list where a node is wanted.
+    let mut games = Games::new(alloc);
+    match walk(&question, &mut games, source, records) {
         (_, Err(Stop::Refused)) => Ok(None),
         (_, Err(Stop::Memory)) => Err(Stop::Memory),
         (_, Err(Stop::Read)) => Err(Stop::Read),
@@ -81,17 +85,21 @@ fn cited_by<R: Source>(
     }
 }
 
-// What is found along the line by the walks; what stops them, unless it is the certificate.
+// What is found along the line by the walks, and the games, which go into the list; what stops them, unless it is
+// the certificate.
 fn found<R: Source>(
     alloc: Global,
     question: &Question,
+    games: &mut Games,
     walked: &mut R,
     cited: &mut R,
     records: u64,
 ) -> Result<Findings, Stop>
-    ensures says { IfErr result (EndsTruly (R.has_failed walked.new) (R.has_failed cited.new)) }
+    ensures says { IfErr result (EndsTruly question.now.diagram.now question.now.plies
+        (R.has_failed walked.new) (R.has_failed cited.new)) }
+    ensures finds { Finds question.now games.old games.new }
 {
-    let (machine, answer) = walk(alloc, question, walked, records);
+    let (machine, answer) = walk(question, games, walked, records);
     match answer {
         Ok(()) => {}
         Err(Stop::Refused) => {
@@ -116,7 +124,8 @@ fn found<R: Source>(
 
 // Why a walk that stops is a fault of the check.
 fn fault_of(stop: Stop) -> WhyFault
-    ensures { (walked cited : Bool) → EndsTruly walked cited stop → IsStopFault walked cited result }
+    ensures { (d : Placement) (n : ℕ) (walked cited : Bool)
+        → EndsTruly d n walked cited stop → IsStopFault d n walked cited result }
 {
     match stop {
         Stop::Memory => WhyFault::Run(RunFault::Check(Fault::Memory)),
@@ -177,10 +186,11 @@ fn refuse<W: Sink>(question: &Question, found: &Findings, fault: Fault, out: &mu
 /// # Errors
 /// In this order: `Run` with `Diagram` and `Length` where that text is refused, and with `Games` where the
 /// moves are, as a list of games; `Moves` where they are not one game; `Run` with `Check` where a reading
-/// fails or memory is refused, and where the check does not say yes; `Run` with `Write` where the sink has
-/// failed. With a fault of the certificate what stands along the line is written all the same, if the whole
-/// certificate could be walked over, and the fault as the last line; with the others nothing is, but for what
-/// went out before `Write`.
+/// fails, where memory is refused for a game that was found, and where the check does not say yes (never
+/// `Listed`, since each game that was found is a solution); `Run` with `Write` where the sink has failed.
+/// With a fault of the certificate what stands along the line is written all the same, if the whole
+/// certificate could be walked over, and the fault as the last line; with the others nothing is, but for
+/// what went out before `Write`.
 pub fn why<R: Source, W: Sink>(
     alloc: Global,
     asked: &Asked<'_>,
@@ -192,13 +202,28 @@ pub fn why<R: Source, W: Sink>(
     max_records: u64,
     max_named: u32,
 ) -> Result<(), WhyFault>
-    ensures right { OnOk result (IsProved
-        (rules_by code_of excluded bounds.now) asked.now.diagram.now asked.now.length.now max_records max_named (R.left checked.old)) }
+    ensures right { OnOk result (IsProved asked.now
+        (record {
+          rules = rules_by code_of excluded bounds.now;
+          max_records = max_records;
+          max_named = max_named;
+          known = R.left checked.old;
+        })) }
     ensures line { OnOk result (IsOneLine asked.now.moves.now) }
     ensures runs { OnOk result (W.has_failed out.new ≡ false) }
-    ensures err { IfErr result (λ e. IsWhyFault
-        (rules_by code_of excluded bounds.now) asked.now.diagram.now asked.now.length.now asked.now.moves.now max_records max_named
-        (R.left checked.old) (R.has_failed walked.new) (R.has_failed cited.new) (R.has_failed checked.new) (W.has_failed out.new) e) }
+    ensures err { IfErr result (IsWhyFault asked.now
+        (record {
+          rules = rules_by code_of excluded bounds.now;
+          max_records = max_records;
+          max_named = max_named;
+          known = R.left checked.old;
+        })
+        (record {
+          walked = R.has_failed walked.new;
+          cited = R.has_failed cited.new;
+          checked = R.has_failed checked.new;
+          sink = W.has_failed out.new;
+        })) }
 {
     let problem = match Problem::read(asked.diagram, asked.length) {
         Ok(problem) => problem,
@@ -217,7 +242,8 @@ pub fn why<R: Source, W: Sink>(
         line,
         wanted: None,
     };
-    let found = match found(alloc, &question, walked, cited, max_records) {
+    let mut solutions = Games::new(alloc);
+    let found = match found(alloc, &question, &mut solutions, walked, cited, max_records) {
         Ok(found) => found,
         Err(stop) => return Err(fault_of(stop)),
     };
@@ -225,7 +251,7 @@ pub fn why<R: Source, W: Sink>(
         alloc,
         &problem.diagram,
         problem.length,
-        &found.machine.games,
+        &solutions,
         bounds,
         checked,
         max_records,

@@ -5,7 +5,6 @@ use pg_certificate::{Record, RecordReader};
 use pg_fen::Diagram;
 use pg_moves::LegalMoves;
 use pg_position::{Move, Position};
-use pg_san::Games;
 
 // What is looked for: what the tree of the stated length says along a line of moves, or, on a second walk,
 // the node with this number.
@@ -72,16 +71,14 @@ pub(crate) struct Cited {
     pub(crate) games: u64,
 }
 
-// The record reader, how many records may still come, the plies of the tree that is walked, the games of
-// the stated length that end on the diagram, the open nodes, how many named nodes have closed, and how many
-// games the subtree that ended last has. What is found: the expanded nodes on the line, the last one
-// first, what ends them, and the node that was wanted.
+// The record reader, how many records may still come, the plies of the tree that is walked, the open nodes,
+// how many named nodes have closed, and how many games the subtree that ended last has. What is found: the
+// expanded nodes on the line, the last one first, what ends them, and the node that was wanted.
 #[derive(Drop)]
 pub(crate) struct Machine {
     pub(crate) reader: RecordReader,
     pub(crate) records: u64,
     pub(crate) tree: u8,
-    pub(crate) games: Games,
     pub(crate) frames: ArrayVec<Frame, 128>,
     pub(crate) closed: u32,
     pub(crate) below: u64,

@@ -1,5 +1,9 @@
 //! Playing moves.
+ghost use Rattle.std.specs.Prelude.{MatchOption};
 ghost use Rattle.pg_moves.specs.Moves.{IsLegal};
+ghost use Rattle.pg_position.specs.Array.{array_state};
+ghost use Rattle.pg_position.specs.Game.{IsGame};
+ghost use Rattle.pg_san.specs.Games.{IsFromArray};
 
 use pg_position::{Move, Position};
 
@@ -20,4 +24,18 @@ pub(crate) fn position_after(moves: &[Move]) -> Position {
         }
     }
     position
+}
+
+// The last position of a game from the initial array; none where a move is not legal.
+pub(crate) fn end_of(game: &[Move]) -> Option<Position>
+    ensures { MatchOption result (¬ IsFromArray game.now) (λ r. IsGame array_state game.now r) }
+{
+    let mut position = Position::array();
+    for m in game {
+        match position.play(*m) {
+            Ok(next) => position = next,
+            Err(_) => return None,
+        }
+    }
+    Some(position)
 }

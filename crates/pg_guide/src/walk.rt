@@ -1,11 +1,13 @@
 //! The walk over the trees of a certificate, with a stack of open nodes.
 
-ghost use Rattle.std.specs.Prelude.{◌≡◌, Bool, IfErr, IfSome};
+ghost use Rattle.std.specs.Prelude.{◌≡◌, ◌↔◌, Bool, IsTrue, IfErr, IfSome};
 ghost use Rattle.pg_moves.specs.Moves.{IsLegal};
-ghost use Rattle.pg_guide.specs.Stops.{StopsTruly};
+ghost use Rattle.pg_checker.specs.Answer.{IsSolution};
+ghost use Rattle.pg_guide.specs.Stops.{Finds, StopsTruly};
+ghost use Rattle.pg_guide.specs.declared.machine.Question.{Question};
 
 use crate::machine::{Cited, Ending, Frame, Machine, Question, Stop, Tally, game_along};
-use crate::play::after;
+use crate::play::{after, end_of};
 use arrayvec::ArrayVec;
 use pg_certificate::{ReadFault, Record, RecordReader, Source};
 use pg_checker::pass_over;
@@ -13,11 +15,10 @@ use pg_fen::Diagram;
 use pg_moves::LegalMoves;
 use pg_position::{Move, Position};
 use pg_san::{AddFault, Games};
-use std::alloc::Global;
 
 // The next record.
 fn next<S: Source>(machine: &mut Machine, source: &mut S) -> Result<Record, Stop>
-    ensures says { IfErr result (StopsTruly (S.has_failed source.new)) }
+    ensures says { (q : Question) → IfErr result (StopsTruly q (S.has_failed source.new)) }
 {
     if machine.records == 0 {
         return Err(Stop::Refused);
@@ -43,7 +44,7 @@ fn enter(
     record: &Record,
     on_line: bool,
 ) -> Result<(), Stop>
-    ensures says { (failed : Bool) → IfErr result (StopsTruly failed) }
+    ensures says { (q : Question) (failed : Bool) → IfErr result (StopsTruly q failed) }
 {
     let Record::Expand { named } = record else {
         if on_line {
@@ -64,16 +65,32 @@ fn enter(
     }
 }
 
-// A game of the tree's length ends on the diagram. The list takes it where that is the stated length.
-fn end(question: &Question, machine: &mut Machine, game: &[Move]) -> Result<(), Stop>
-    ensures says { (failed : Bool) → IfErr result (StopsTruly failed) }
+// Whether a game is a solution: it has the stated length and ends on the diagram.
+fn is_solution(question: &Question, game: &[Move]) -> bool
+    ensures { IsTrue result ↔ IsSolution question.now.diagram.now question.now.plies game.now }
 {
-    if machine.tree != question.plies || question.wanted.is_some() {
+    if game.len() != usize::from(question.plies) {
+        return false;
+    }
+    match end_of(game) {
+        Some(position) => question.diagram.matches(&position),
+        None => false,
+    }
+}
+
+// A game of some tree ends on the diagram. The list takes it where it has the stated length. It is played once
+// more for that: so the list holds solutions alone, and nothing else need be proved of the walk.
+fn end(question: &Question, games: &mut Games, game: &[Move]) -> Result<(), Stop>
+    ensures says { (failed : Bool) → IfErr result (StopsTruly question.now failed) }
+    ensures finds { Finds question.now games.old games.new }
+{
+    if question.wanted.is_some() || !is_solution(question, game) {
         return Ok(());
     }
-    match machine.games.add(game) {
+    match games.add(game) {
+        Ok(()) => Ok(()),
         Err(AddFault::Memory) => Err(Stop::Memory),
-        _ => Ok(()),
+        Err(_) => Ok(()),
     }
 }
 
@@ -100,11 +117,13 @@ fn close(question: &Question, machine: &mut Machine, top: &Frame) {
 fn leaf(
     question: &Question,
     machine: &mut Machine,
+    games: &mut Games,
     on_line: bool,
     m: &Move,
     hit: bool,
 ) -> Result<(), Stop>
-    ensures says { (failed : Bool) → IfErr result (StopsTruly failed) }
+    ensures says { (failed : Bool) → IfErr result (StopsTruly question.now failed) }
+    ensures finds { Finds question.now games.old games.new }
 {
     if goes_on(question, on_line, machine.frames.len(), m) {
         machine.ending = Some(Ending::Leaf(hit));
@@ -114,7 +133,7 @@ fn leaf(
     }
     let mut game = game_along(machine.frames.as_slice());
     let _ = game.try_push(*m);
-    end(question, machine, game.as_slice())
+    end(question, games, game.as_slice())
 }
 
 // Passes over the moves that do not lead to the diagram, but not on the line; whether none is left then.
@@ -136,8 +155,14 @@ fn following(moves: &mut LegalMoves) -> Option<Move>
 }
 
 // The moves of a node with one ply left are played, and it closes.
-fn leaves(question: &Question, machine: &mut Machine, top: Frame) -> Result<(), Stop>
-    ensures says { (failed : Bool) → IfErr result (StopsTruly failed) }
+fn leaves(
+    question: &Question,
+    machine: &mut Machine,
+    games: &mut Games,
+    top: Frame,
+) -> Result<(), Stop>
+    ensures says { (failed : Bool) → IfErr result (StopsTruly question.now failed) }
+    ensures finds { Finds question.now games.old games.new }
 {
     let mut top = top;
     let position = top.moves.position();
@@ -150,7 +175,7 @@ fn leaves(question: &Question, machine: &mut Machine, top: Frame) -> Result<(), 
         };
         let hit = question.diagram.matches(&after(&position, &m));
         top.tally.count_leaf(hit);
-        match leaf(question, machine, top.on_line, &m, hit) {
+        match leaf(question, machine, games, top.on_line, &m, hit) {
             Ok(()) => {}
             Err(stop) => return Err(stop),
         }
@@ -166,7 +191,7 @@ fn step<S: Source>(
     source: &mut S,
     top: Frame,
 ) -> Result<(), Stop>
-    ensures says { IfErr result (StopsTruly (S.has_failed source.new)) }
+    ensures says { IfErr result (StopsTruly question.now (S.has_failed source.new)) }
 {
     let mut top = top;
     top.tally.games = top.tally.games.saturating_add(machine.below);
@@ -194,40 +219,49 @@ fn step<S: Source>(
 fn turn<S: Source>(
     question: &Question,
     machine: &mut Machine,
+    games: &mut Games,
     source: &mut S,
     top: Frame,
 ) -> Result<(), Stop>
-    ensures says { IfErr result (StopsTruly (S.has_failed source.new)) }
+    ensures says { IfErr result (StopsTruly question.now (S.has_failed source.new)) }
+    ensures finds { Finds question.now games.old games.new }
 {
     if top.left == 0 {
-        leaves(question, machine, top)
+        leaves(question, machine, games, top)
     } else {
         step(question, machine, source, top)
     }
 }
 
 // The root of the tree without a ply.
-fn bare_root(question: &Question, machine: &mut Machine) -> Result<(), Stop>
-    ensures says { (failed : Bool) → IfErr result (StopsTruly failed) }
+fn bare_root(question: &Question, machine: &mut Machine, games: &mut Games) -> Result<(), Stop>
+    ensures says { (failed : Bool) → IfErr result (StopsTruly question.now failed) }
+    ensures finds { Finds question.now games.old games.new }
 {
     let hit = question.diagram.matches(&Position::array());
     if question.plies == 0 {
         machine.ending = Some(Ending::Leaf(hit));
     }
     if hit {
-        end(question, machine, &[])
+        end(question, games, &[])
     } else {
         Ok(())
     }
 }
 
 // The root of a tree.
-fn root<S: Source>(question: &Question, machine: &mut Machine, source: &mut S) -> Result<(), Stop>
-    ensures says { IfErr result (StopsTruly (S.has_failed source.new)) }
+fn root<S: Source>(
+    question: &Question,
+    machine: &mut Machine,
+    games: &mut Games,
+    source: &mut S,
+) -> Result<(), Stop>
+    ensures says { IfErr result (StopsTruly question.now (S.has_failed source.new)) }
+    ensures finds { Finds question.now games.old games.new }
 {
     let tree = machine.tree;
     if tree == 0 {
-        return bare_root(question, machine);
+        return bare_root(question, machine, games);
     }
     let on_line = tree == question.plies && question.wanted.is_none();
     match next(machine, source) {
@@ -240,11 +274,13 @@ fn root<S: Source>(question: &Question, machine: &mut Machine, source: &mut S) -
 fn tree_of<S: Source>(
     question: &Question,
     machine: &mut Machine,
+    games: &mut Games,
     source: &mut S,
 ) -> Result<(), Stop>
-    ensures says { IfErr result (StopsTruly (S.has_failed source.new)) }
+    ensures says { IfErr result (StopsTruly question.now (S.has_failed source.new)) }
+    ensures finds { Finds question.now games.old games.new }
 {
-    match root(question, machine, source) {
+    match root(question, machine, games, source) {
         Ok(()) => {}
         Err(stop) => return Err(stop),
     }
@@ -255,7 +291,7 @@ fn tree_of<S: Source>(
         let Some(top) = machine.frames.pop() else {
             return Ok(());
         };
-        match turn(question, machine, source, top) {
+        match turn(question, machine, games, source, top) {
             Ok(()) => {}
             Err(stop) => return Err(stop),
         }
@@ -265,7 +301,7 @@ fn tree_of<S: Source>(
 
 // The header, which must be for the diagram and the length.
 fn start<S: Source>(question: &Question, machine: &mut Machine, source: &mut S) -> Result<(), Stop>
-    ensures says { IfErr result (StopsTruly (S.has_failed source.new)) }
+    ensures says { IfErr result (StopsTruly question.now (S.has_failed source.new)) }
 {
     match machine.reader.header(source) {
         Ok(header) => {
@@ -282,7 +318,7 @@ fn start<S: Source>(question: &Question, machine: &mut Machine, source: &mut S) 
 
 // The end, with no byte behind it.
 fn finish<S: Source>(machine: &mut Machine, source: &mut S) -> Result<(), Stop>
-    ensures says { IfErr result (StopsTruly (S.has_failed source.new)) }
+    ensures says { (q : Question) → IfErr result (StopsTruly q (S.has_failed source.new)) }
 {
     match machine.reader.more(source) {
         Ok(false) => Ok(()),
@@ -296,9 +332,11 @@ fn finish<S: Source>(machine: &mut Machine, source: &mut S) -> Result<(), Stop>
 fn all_trees<S: Source>(
     question: &Question,
     machine: &mut Machine,
+    games: &mut Games,
     source: &mut S,
 ) -> Result<(), Stop>
-    ensures says { IfErr result (StopsTruly (S.has_failed source.new)) }
+    ensures says { IfErr result (StopsTruly question.now (S.has_failed source.new)) }
+    ensures finds { Finds question.now games.old games.new }
 {
     match start(question, machine, source) {
         Ok(()) => {}
@@ -307,7 +345,7 @@ fn all_trees<S: Source>(
     for tree in 0..=question.plies {
         machine.tree = tree;
         machine.below = 0;
-        match tree_of(question, machine, source) {
+        match tree_of(question, machine, games, source) {
             Ok(()) => {}
             Err(stop) => return Err(stop),
         }
@@ -318,21 +356,22 @@ fn all_trees<S: Source>(
     finish(machine, source)
 }
 
-// Walks over a certificate of at most so many records; what was found, and how the walk ended. What is
-// found before the walk stops is kept. The list of games is taken from `alloc`, nothing else takes memory.
+// Walks over a certificate of at most so many records; what was found, and how the walk ended. The games of the
+// stated length that end on the diagram go into the list, unless a node is wanted. What is found before the walk
+// stops is kept. What the list grows by is all the memory that is taken.
 pub(crate) fn walk<S: Source>(
-    alloc: Global,
     question: &Question,
+    games: &mut Games,
     source: &mut S,
     records: u64,
 ) -> (Machine, Result<(), Stop>)
-    ensures says { IfErr result.1 (StopsTruly (S.has_failed source.new)) }
+    ensures says { IfErr result.1 (StopsTruly question.now (S.has_failed source.new)) }
+    ensures finds { Finds question.now games.old games.new }
 {
     let mut machine = Machine {
         reader: RecordReader::new(),
         records,
         tree: 0,
-        games: Games::new(alloc),
         frames: ArrayVec::new(),
         closed: 0,
         below: 0,
@@ -340,6 +379,6 @@ pub(crate) fn walk<S: Source>(
         ending: None,
         cited: None,
     };
-    let answer = all_trees(question, &mut machine, source);
+    let answer = all_trees(question, &mut machine, games, source);
     (machine, answer)
 }
