@@ -49,8 +49,8 @@ fn sides_by(color: Color, own: Side, other: Side) -> Sides {
     }
 }
 
-// Both colours of a position. What they need is missing.
-pub(crate) fn sides_of(position: &Position) -> Sides {
+/// Both colours of a position. What they need is missing.
+pub fn sides_of(position: &Position) -> Sides {
     let board = position.board();
     let rights = position.rights();
     Sides {

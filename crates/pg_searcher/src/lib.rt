@@ -17,7 +17,6 @@ mod walk;
 
 pub use fault::SearchFault;
 pub use find::{search, search_watched};
+pub use judge::sides_of;
 pub use progress::Progress;
-
-#[cfg(test)]
-mod tests;
+pub use sides::{Change, Changes, Side, Sides, changes_of};

@@ -4,27 +4,34 @@ use pg_board::{Board, Color, Kind, Man, Square, SquareSet};
 use pg_position::{Move, Position, Rights, Wing, castling_homes, king_home, rook_home};
 use pg_prices::{Needs, color_key, man_key, right_key};
 
-// One colour at a node: the key of its men and rights, what they need, and how many men, pawns and ways
-// to castle or not it has.
+/// One colour at a node: the key of its men and rights, what they need, and how many men, pawns and ways
+/// to castle or not it has.
 #[derive(Clone, Copy)]
-pub(crate) struct Side {
-    pub(crate) key: u64,
-    pub(crate) needs: Needs,
-    pub(crate) men: u8,
-    pub(crate) pawns: u8,
-    pub(crate) ways: u8,
+pub struct Side {
+    /// The key of its men and rights.
+    pub key: u64,
+    /// What they need, where it is known.
+    pub needs: Needs,
+    /// How many men it has.
+    pub men: u8,
+    /// How many of them are pawns.
+    pub pawns: u8,
+    /// How many ways it has: one, and one more for each right to castle.
+    pub ways: u8,
 }
 
-// Both colours at a node.
+/// Both colours at a node.
 #[derive(Clone, Copy)]
-pub(crate) struct Sides {
-    pub(crate) white: Side,
-    pub(crate) black: Side,
+pub struct Sides {
+    /// What is known of White.
+    pub white: Side,
+    /// What is known of Black.
+    pub black: Side,
 }
 
 impl Sides {
-    // What is known of a colour.
-    pub(crate) fn of(&self, color: Color) -> &Side {
+    /// What is known of a colour.
+    pub fn of(&self, color: Color) -> &Side {
         match color {
             Color::White => &self.white,
             Color::Black => &self.black,
@@ -49,26 +56,28 @@ pub(crate) fn side_of(board: &Board, rights: Rights, color: Color, needs: Needs)
     }
 }
 
-// What a move changes of one colour: its key, by exclusive or, and how many men, pawns and ways are
-// gone.
+/// What a move changes of one colour: its key, by exclusive or, and how many men, pawns and ways are
+/// gone.
 #[derive(Clone, Copy)]
-pub(crate) struct Change {
+pub struct Change {
     key: u64,
     men: u8,
     pawns: u8,
     ways: u8,
 }
 
-// What a move changes of its own colour and of the other one.
+/// What a move changes of its own colour and of the other one.
 #[derive(Clone, Copy)]
-pub(crate) struct Changes {
-    pub(crate) own: Change,
-    pub(crate) other: Option<Change>,
+pub struct Changes {
+    /// What it changes of the colour that moves.
+    pub own: Change,
+    /// What it changes of the other colour, where it captures.
+    pub other: Option<Change>,
 }
 
 impl Change {
-    // The colour after the move, with its needs.
-    pub(crate) fn applied(&self, side: &Side, needs: Needs) -> Side {
+    /// The colour after the move, with its needs.
+    pub fn applied(&self, side: &Side, needs: Needs) -> Side {
         Side {
             key: self.key_after(side),
             needs,
@@ -138,8 +147,8 @@ pub(crate) fn is_special(man: Man, taken: Option<Man>, m: &Move) -> bool {
     }
 }
 
-// What a legal move changes; none where it is castling, a capture en passant or a promotion.
-pub(crate) fn changes_of(position: &Position, m: &Move) -> Option<Changes> {
+/// What a legal move changes; none where it is castling, a capture en passant or a promotion.
+pub fn changes_of(position: &Position, m: &Move) -> Option<Changes> {
     let board = position.board();
     let Some(man) = board.get(m.from) else {
         return None;

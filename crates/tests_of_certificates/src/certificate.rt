@@ -3,64 +3,89 @@ mod reading;
 mod writing;
 
 use pg_certificate::*;
+use std::fmt::{Display, Write};
 use std::process::Abort;
 use std::test::*;
 
-// The array, in 0 plies.
-const ARRAY_HEADER: [u8; 37] = [
-    0x50, 0x47, 0x43, 0x31, 0x00, 0x24, 0x53, 0x36, 0x42, 0x11, 0x11, 0x11, 0x11, 0x00, 0x00, 0x00,
-    0x00, 0x00, 0x00, 0x00, 0x00, 0x00, 0x00, 0x00, 0x00, 0x00, 0x00, 0x00, 0x00, 0x99, 0x99, 0x99,
-    0x99, 0xac, 0xdb, 0xbe, 0xca,
+// A header of the array in 0 plies, behind its magic.
+const ARRAY: &str = "00 24533642 11*4 00*16 99*4 acdbbeca";
+
+// Appends the bytes that a text spells: words of at most eight bytes, two digits a byte, and behind a star how
+// many times they stand there, as in `01 0204*13`.
+fn append<R: Abort>(rt: &R, bytes: &mut Vec<u8>, text: &str) {
+    for word in text.split_whitespace() {
+        let (digits, times) = word.split_once('*').unwrap_or((word, "1"));
+        let number = u64::from_str_radix(digits, 16).expect(rt, word);
+        let times = times.parse::<u32>().expect(rt, word);
+        let unused = 8usize.saturating_sub(digits.len() / 2);
+        for _ in 0..times {
+            let piece = &number.to_be_bytes()[unused..];
+            bytes.extend_from_slice(piece).expect(rt, "memory");
+        }
+    }
+}
+
+// The bytes of a header of the array of this version, if it is told, and of records.
+fn spelled<R: Abort + AllocGlobal>(rt: &R, version: &str, records: &str) -> Vec<u8> {
+    let mut bytes = Vec::new(rt.alloc());
+    if !version.is_empty() {
+        append(
+            rt,
+            &mut bytes,
+            words(rt, &format_args!("5047433{version}")).as_str(),
+        );
+        append(rt, &mut bytes, ARRAY);
+    }
+    append(rt, &mut bytes, records);
+    bytes
+}
+
+// What a value says, or the arguments of a format.
+fn words<R: Abort + AllocGlobal>(rt: &R, text: &impl Display) -> String {
+    format!(in rt.alloc(); "{text}").expect(rt, "memory")
+}
+
+// What stands before a mark, and what behind it.
+fn halves<'a>(rt: &impl Abort, text: &'a str, mark: &str) -> (&'a str, &'a str) {
+    text.split_once(mark).expect(rt, text)
+}
+
+static READ_FAULTS: [ReadFault; 7] = [
+    ReadFault::Truncated,
+    ReadFault::Magic,
+    ReadFault::UnknownRecord(7),
+    ReadFault::UnknownRecord(255),
+    ReadFault::Read,
+    ReadFault::Trailing,
+    ReadFault::Failed,
 ];
 
-// Each record of version 1 once.
-const RECORDS: [Record; 4] = [
-    Record::Expand { named: false },
-    Record::Expand { named: true },
-    Record::Cut(4),
-    Record::Ref(66_051),
-];
+// Their texts in turn, and then those of faults of writing, and of a refusal.
+const TEXTS: &str = "truncated certificate
+not a certificate
+unknown record byte 7
+unknown record byte 255
+read fault
+bytes after the certificate
+reading went on after a fault
+write fault
+writing went on after a fault
+the source or the sink has failed";
 
-// Their bytes.
-const RECORD_BYTES: [u8; 9] = [1, 5, 2, 4, 3, 0, 1, 2, 3];
-
-// Bytes behind others.
-fn append(rt: &impl Abort, bytes: &mut Vec<u8>, more: &[u8]) {
-    bytes.extend_from_slice(more).expect(rt, "memory");
-}
-
-// A call is refused so.
-fn refused<T: Drop>(rt: &impl Abort, read: Result<T, ReadFault>, fault: ReadFault) {
-    assert!(rt; matches!(read, Err(f) if f == fault));
-}
-
-// A fault of reading reads so.
-fn tells_reading<R: Abort + AllocGlobal>(rt: &R, fault: ReadFault, text: &str) {
-    let told = format!(in rt.alloc(); "{fault}").expect(rt, "memory");
-    assert!(rt; told.as_str() == text);
-}
-
-// A fault of writing reads so.
-fn tells_writing<R: Abort + AllocGlobal>(rt: &R, fault: WriteFault, text: &str) {
-    let told = format!(in rt.alloc(); "{fault}").expect(rt, "memory");
-    assert!(rt; told.as_str() == text);
+// A fault reads so.
+fn tells<R: Abort + AllocGlobal>(rt: &R, fault: &impl Display, text: Option<&str>) {
+    let told = words(rt, fault);
+    assert_eq!(rt; Some(told.as_str()), text);
 }
 
 #[test]
 fn faults_have_their_texts(rt: HostRuntime) {
-    tells_reading(&rt, ReadFault::Truncated, "truncated certificate");
-    tells_reading(&rt, ReadFault::Magic, "not a certificate");
-    tells_reading(&rt, ReadFault::UnknownRecord(7), "unknown record byte 7");
-    tells_reading(
-        &rt,
-        ReadFault::UnknownRecord(255),
-        "unknown record byte 255",
-    );
-    tells_reading(&rt, ReadFault::Read, "read fault");
-    tells_reading(&rt, ReadFault::Trailing, "bytes after the certificate");
-    tells_reading(&rt, ReadFault::Failed, "reading went on after a fault");
-    tells_writing(&rt, WriteFault::Write, "write fault");
-    tells_writing(&rt, WriteFault::Failed, "writing went on after a fault");
-    let refused = format!(in rt.alloc(); "{Refused}").expect(&rt, "memory");
-    assert_eq!(rt; refused.as_str(), "the source or the sink has failed");
+    let mut lines = TEXTS.lines();
+    for fault in &READ_FAULTS {
+        tells(&rt, fault, lines.next());
+    }
+    tells(&rt, &WriteFault::Write, lines.next());
+    tells(&rt, &WriteFault::Failed, lines.next());
+    tells(&rt, &Refused, lines.next());
+    assert_eq!(rt; lines.next(), None);
 }

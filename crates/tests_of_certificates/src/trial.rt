@@ -1,45 +1,50 @@
 use pg_captures::Bound;
 use pg_fen::{Diagram, Length, read_position};
-use pg_position::Position;
 use pg_trial::*;
 use std::io::{ErrorKind, Read, Write};
 use std::process::Abort;
 
-// After 1. e4 d5 2. exd5: Black has lost a pawn.
-const CAPTURED: &str = "rnbqkbnr/ppp1pppp/8/3P4/8/8/PPPP1PPP/RNBQKBNR b KQkq - 0 2";
-
-// One ply on, the queen has recaptured.
-const RECAPTURED: &str = "rnb1kbnr/ppp1pppp/8/3q4/8/8/PPPP1PPP/RNBQKBNR w KQkq - 0 3";
+const ARRAY: &str = "rnbqkbnr/pppppppp/8/8/8/8/PPPPPPPP/RNBQKBNR";
 
 fn diagram(rt: &impl Abort, text: &str) -> Diagram {
     Diagram::read(text).expect(rt, text)
 }
 
-fn position(rt: &impl Abort, text: &str) -> Position {
-    read_position(text).expect(rt, text).position
+// Whether a bound excludes a diagram from a position with so many plies left.
+fn excludes(rt: &impl Abort, bound: &impl Bound, goal: &str, from: &str, left: u8) -> bool {
+    let position = read_position(from).expect(rt, from).position;
+    bound.excludes(&diagram(rt, goal), &position, left)
 }
+
+// A diagram, a position, the plies left, and whether the diagram is excluded. After 1. e4 d5 2. exd5 Black has lost a
+// pawn, and one ply on the queen has recaptured.
+const MEN: &str =
+    "rnbqkbnr/pppppppp/8/8/8/8/PPPPPPPP/RNBQKBNR | rnbqkbnr/ppp1pppp/8/3P4/8/8/PPPP1PPP/RNBQKBNR b KQkq - 0 2 | 255 | true
+rnbqkbnr/ppp1pppp/8/3P4/8/8/PPPP1PPP/RNBQKBNR | rnb1kbnr/ppp1pppp/8/3q4/8/8/PPPP1PPP/RNBQKBNR w KQkq - 0 3 | 255 | true
+rnbqkbnr/ppp1pppp/8/3P4/8/8/PPPP1PPP/RNBQKBNR | rnbqkbnr/pppppppp/8/8/8/8/PPPPPPPP/RNBQKBNR w KQkq - 0 1 | 0 | false
+rnbqkbnr/pppppppp/8/8/8/8/PPPPPPPP/RNBQKBNR | rnbqkbnr/pppppppp/8/8/8/8/PPPPPPPP/RNBQKBNR w KQkq - 0 1 | 0 | false";
 
 #[test]
 fn no_game_adds_men(rt: HostRuntime) {
-    let array = Position::array();
-    let captured = position(&rt, CAPTURED);
-    let recaptured = position(&rt, RECAPTURED);
-    let array_diagram = diagram(&rt, "rnbqkbnr/pppppppp/8/8/8/8/PPPPPPPP/RNBQKBNR");
-    let captured_diagram = diagram(&rt, "rnbqkbnr/ppp1pppp/8/3P4/8/8/PPPP1PPP/RNBQKBNR");
     assert_eq!(rt; Men.code(), 9);
-    assert!(rt; Men.excludes(&array_diagram, &captured, 255));
-    assert!(rt; Men.excludes(&captured_diagram, &recaptured, 255));
-    assert!(rt; !Men.excludes(&captured_diagram, &array, 0));
-    assert!(rt; !Men.excludes(&array_diagram, &array, 0));
+    for row in MEN.lines() {
+        let mut all = [""; 4];
+        for (field, text) in all.iter_mut().zip(row.split(" | ")) {
+            *field = text;
+        }
+        let [goal, from, left, wanted] = all;
+        let left = left.parse().expect(&rt, row);
+        let excluded = excludes(&rt, &Men, goal, from, left);
+        assert_eq!(rt; Some(excluded), wanted.parse().ok(), "{row}");
+    }
 }
 
 #[test]
 fn one_that_never_excludes(rt: HostRuntime) {
-    let captured = position(&rt, CAPTURED);
-    let array_diagram = diagram(&rt, "rnbqkbnr/pppppppp/8/8/8/8/PPPPPPPP/RNBQKBNR");
     let never = Never::new(200);
     assert_eq!(rt; never.code(), 200);
-    assert!(rt; !never.excludes(&array_diagram, &captured, 0));
+    let captured = "rnbqkbnr/ppp1pppp/8/3P4/8/8/PPPP1PPP/RNBQKBNR b KQkq - 0 2";
+    assert!(rt; !excludes(&rt, &never, ARRAY, captured, 0));
 }
 
 // 300 bytes, the same ones each time.
@@ -53,42 +58,48 @@ fn some_bytes() -> [u8; 300] {
     bytes
 }
 
+// The reader gives those bytes.
+fn check_reader<R: Abort + AllocGlobal>(rt: &R, reader: &mut impl Read) {
+    let mut read = Vec::new(rt.alloc());
+    let count = reader.read_to_end(&mut read).expect(rt, "reads on");
+    assert_eq!(rt; count, 300);
+    assert!(rt; read.as_slice() == some_bytes().as_slice());
+}
+
 #[test]
 fn a_fault_out_of_reach_reads_everything(rt: HostRuntime) {
     let bytes = some_bytes();
-    let mut reader = FailsAt::new(&bytes[..], 400, ErrorKind::Other);
-    let mut read = Vec::new(rt.alloc());
-    let count = reader.read_to_end(&mut read).expect(&rt, "reads on");
-    assert_eq!(rt; count, 300);
-    assert_eq!(rt; read.as_slice(), &bytes[..]);
-    let mut reader = FailsAt::new(OneByte::new(&bytes[..]), 400, ErrorKind::Other);
-    let mut read = Vec::new(rt.alloc());
-    let count = reader.read_to_end(&mut read).expect(&rt, "reads on");
-    assert_eq!(rt; count, 300);
-    assert_eq!(rt; read.as_slice(), &bytes[..]);
+    check_reader(
+        &rt,
+        &mut FailsAt::new(bytes.as_slice(), 400, ErrorKind::Other),
+    );
+    let mut reader = FailsAt::new(OneByte::new(bytes.as_slice()), 400, ErrorKind::Other);
+    check_reader(&rt, &mut reader);
     assert_eq!(rt; reader.calls(), 301);
     assert_eq!(rt; reader.into_inner().into_inner().len(), 0);
+}
+
+// A writer where no call fails takes those bytes and a flush, by so many calls; what it wrote to.
+fn written<W: Write + Drop>(rt: &impl Abort, inner: W, calls: u64) -> W {
+    let mut writer = FailsAt::new(inner, 400, ErrorKind::Other);
+    writer.write_all(&some_bytes()).expect(rt, "writes on");
+    writer.flush().expect(rt, "flushes");
+    assert_eq!(rt; writer.calls(), calls);
+    writer.into_inner()
 }
 
 #[test]
 fn a_fault_out_of_reach_writes_everything(rt: HostRuntime) {
     let bytes = some_bytes();
-    let mut writer = FailsAt::new(Vec::new(rt.alloc()), 400, ErrorKind::Other);
-    writer.write_all(&bytes).expect(&rt, "writes on");
-    writer.flush().expect(&rt, "flushes");
-    assert_eq!(rt; writer.calls(), 2);
-    assert_eq!(rt; writer.into_inner().as_slice(), &bytes[..]);
-    let pieces = OneByte::new(Vec::new(rt.alloc()));
-    let mut writer = FailsAt::new(pieces, 400, ErrorKind::Other);
-    writer.write_all(&bytes).expect(&rt, "writes on");
-    writer.flush().expect(&rt, "flushes");
-    assert_eq!(rt; writer.calls(), 301);
-    assert_eq!(rt; writer.into_inner().into_inner().as_slice(), &bytes[..]);
+    let many = written(&rt, Vec::new(rt.alloc()), 2);
+    assert!(rt; many.as_slice() == bytes.as_slice());
+    let pieces = written(&rt, OneByte::new(Vec::new(rt.alloc())), 301);
+    assert!(rt; pieces.into_inner().as_slice() == bytes.as_slice());
 }
 
 // One byte a call on the way to what is behind, and each flush is handed on.
 #[test]
-fn one_byte_hands_on_each_call(rt: HostRuntime) {
+fn one_byte_hands_on_each_write(rt: HostRuntime) {
     let bytes = some_bytes();
     let inner = FailsAt::new(Vec::new(rt.alloc()), 300, ErrorKind::Other);
     let mut pieces = OneByte::new(inner);
@@ -97,13 +108,20 @@ fn one_byte_hands_on_each_call(rt: HostRuntime) {
     assert!(rt; pieces.flush().is_ok());
     let inner = pieces.into_inner();
     assert_eq!(rt; inner.calls(), 302);
-    assert_eq!(rt; inner.into_inner().as_slice(), &bytes[..]);
-    let mut pieces = OneByte::new(FailsAt::new(&bytes[..], 2, ErrorKind::Other));
+    assert!(rt; inner.into_inner().as_slice() == bytes.as_slice());
+}
+
+#[test]
+fn one_byte_hands_on_each_read(rt: HostRuntime) {
+    let bytes = some_bytes();
+    let mut pieces = OneByte::new(FailsAt::new(bytes.as_slice(), 2, ErrorKind::Other));
     let mut room = [0; 8];
-    assert_eq!(rt; pieces.read(&mut room).ok(), Some(1));
-    assert_eq!(rt; pieces.read(&mut room[1..]).ok(), Some(1));
-    assert!(rt; pieces.read(&mut room[2..]).is_err());
-    assert_eq!(rt; pieces.read(&mut room[2..]).ok(), Some(1));
+    let mut start = 0usize;
+    for wanted in [Some(1), Some(1), None, Some(1)] {
+        let count = pieces.read(&mut room[start.min(8)..]).ok();
+        assert_eq!(rt; count, wanted);
+        start = start.saturating_add(count.unwrap_or(0));
+    }
     assert_eq!(rt; room[..3], bytes[..3]);
     assert_eq!(rt; pieces.read(&mut []).ok(), Some(0));
 }
@@ -121,7 +139,7 @@ fn counts_and_keeps_none(rt: HostRuntime) {
 // The header of the array has the packed bytes that the format gives.
 #[test]
 fn certificates_begin_with_their_header(rt: HostRuntime) {
-    let array = diagram(&rt, "rnbqkbnr/pppppppp/8/8/8/8/PPPPPPPP/RNBQKBNR");
+    let array = diagram(&rt, ARRAY);
     let one = Length::read("1.0").expect(&rt, "a length");
     let bytes = certificate(rt.alloc(), b'1', &array, one, &[5; 22]).expect(&rt, "memory");
     assert_eq!(rt; bytes.as_slice(), named_expansions(&array).as_slice());

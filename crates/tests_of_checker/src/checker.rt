@@ -4,54 +4,139 @@ mod faults;
 mod references;
 mod version2;
 
+use arrayvec::ArrayString;
 use pg_captures::{Bound, Captures, Promotions};
 use pg_certificate::{FromRead, Source};
 use pg_checker::*;
 use pg_fen::{Diagram, Length};
 use pg_pawns::PawnFiles;
+use pg_position::Move;
 use pg_san::{Games, read_games};
 use pg_travel::Travel;
-use pg_trial::{FailsAt, OPEN_GAME, OneByte, certificate};
+use pg_trial::{FailsAt, OneByte};
+use std::fmt::{Display, Write};
 use std::io::ErrorKind;
 use std::process::Abort;
 use std::test::*;
 
-const ARRAY: &str = "rnbqkbnr/pppppppp/8/8/8/8/PPPPPPPP/RNBQKBNR";
-
-const AFTER_E4: &str = "rnbqkbnr/pppppppp/8/8/4P3/8/PPPP1PPP/RNBQKBNR";
-
-const AFTER_E4_E5: &str = "rnbqkbnr/pppp1ppp/8/4p3/4P3/8/PPPP1PPP/RNBQKBNR";
-
-const PAWN_ON_D3: &str = "rnbqkbnr/pppppppp/8/8/8/3P4/PPPP1PPP/RNBQKBNR";
-
-const RECAPTURED: &str = "rnb1kbnr/ppp1pppp/8/3q4/8/8/PPPP1PPP/RNBQKBNR";
-
 // More than any certificate here needs.
 const MANY: u64 = 1_000_000;
 
-// A diagram, a length and a list of games.
-#[derive(Drop)]
-struct Problem {
-    diagram: Diagram,
-    length: Length,
-    games: Games,
+// What is answered, in words.
+type Said = ArrayString<256>;
+
+// Diagrams by their names.
+const NAMES: &str = "array rnbqkbnr/pppppppp/8/8/8/8/PPPPPPPP/RNBQKBNR
+after-e4 rnbqkbnr/pppppppp/8/8/4P3/8/PPPP1PPP/RNBQKBNR
+after-e4-e5 rnbqkbnr/pppp1ppp/8/4p3/4P3/8/PPPP1PPP/RNBQKBNR
+pawn-on-a3 rnbqkbnr/pppppppp/8/8/8/P7/PPPPPPPP/RNBQKBNR
+pawn-on-d3 rnbqkbnr/pppppppp/8/8/8/3P4/PPPP1PPP/RNBQKBNR
+bishop-on-d3 rnbqkbnr/pppppppp/8/8/8/3B4/PPPPPPPP/RN1QKBNR
+two-pawns rnbqkbnr/pppp1ppp/4p3/8/8/3PP3/PPP2PPP/RNBQKBNR
+four-pawns rnbqkbnr/ppp2ppp/3pp3/8/8/3PP3/PPP2PPP/RNBQKBNR
+pawn-on-d4 rnbqkbnr/pppp1ppp/4p3/8/3P4/4P3/PPP2PPP/RNBQKBNR
+pawn-on-d6 rnbqkbnr/1pp1pppp/p2P4/8/8/8/PPPP1PPP/RNBQKBNR
+recaptured rnb1kbnr/ppp1pppp/8/3q4/8/8/PPPP1PPP/RNBQKBNR
+fools-mate rnb1kbnr/pppp1ppp/8/4p3/6Pq/5P2/PPPPP2P/RNBQKBNR
+far rnbqkbnr/pppppppp/8/8/PPPPPPPP/8/8/RNBQKBNR";
+
+// The diagram that has this name.
+fn diagram_of(rt: &impl Abort, text: &str) -> Diagram {
+    for line in NAMES.lines() {
+        let (name, fen) = halves(rt, line, " ");
+        if name == text {
+            return Diagram::read(fen).expect(rt, fen);
+        }
+    }
+    panic!(rt; "{text}")
 }
 
-fn ask<R: Abort + AllocGlobal>(rt: &R, diagram: &str, length: &str, games: &str) -> Problem {
-    let Ok(diagram) = Diagram::read(diagram) else {
-        panic!(rt; "a diagram");
-    };
-    let Ok(length) = Length::read(length) else {
-        panic!(rt; "a length");
-    };
-    let Ok(games) = read_games(rt.alloc(), games) else {
-        panic!(rt; "a list of games");
-    };
-    Problem {
-        diagram,
-        length,
-        games,
+fn length_of(rt: &impl Abort, text: &str) -> Length {
+    Length::read(text).expect(rt, text)
+}
+
+// The games that a text gives, of which a slash parts the lines.
+fn games_of<R: Abort + AllocGlobal>(rt: &R, text: &str) -> Games {
+    let text = text.replace(rt.alloc(), '/', "\n").expect(rt, text);
+    read_games(rt.alloc(), text.as_str()).expect(rt, text.as_str())
+}
+
+// What stands before a mark, and what behind it.
+fn halves<'a>(rt: &impl Abort, text: &'a str, mark: &str) -> (&'a str, &'a str) {
+    text.split_once(mark).expect(rt, text)
+}
+
+// The fields of a case, between bars; those that it lacks are empty.
+fn fields<'a>(case: &'a str) -> [&'a str; 8] {
+    let mut all = [""; 8];
+    for (field, text) in all.iter_mut().zip(case.split(" | ")) {
+        *field = text;
     }
+    all
+}
+
+// What a value says, or the arguments of a format.
+fn words(text: &impl Display) -> Said {
+    let mut said = Said::new();
+    let _ = write!(said, "{text}");
+    said
+}
+
+// A game by the indexes of the squares.
+fn squares_of(game: &[Move]) -> Said {
+    let mut said = Said::new();
+    for m in game {
+        let _ = write!(said, " {}-{}", m.from.index(), m.to.index());
+    }
+    said
+}
+
+// How many records and named nodes a certificate has, or the fault, or the game that the list lacks.
+fn told(answer: &Result<Proved, Fault>) -> Said {
+    match answer {
+        Ok(proved) => words(&format_args!("{} {}", proved.records, proved.named)),
+        Err(Fault::Unlisted(game)) => words(&format_args!("lacks{}", squares_of(game))),
+        Err(fault) => words(&format_args!("{fault:?}")),
+    }
+}
+
+// Whether the answer is yes: it begins with a number.
+fn is_yes(said: &Said) -> bool {
+    matches!(said.as_str().bytes().next(), Some(b'0'..=b'9'))
+}
+
+// The bytes that a text spells: words of at most eight bytes, two digits a byte, and behind a star how many
+// times they stand there, as in `01 0204*13`.
+fn append<R: Abort>(rt: &R, bytes: &mut Vec<u8>, text: &str) {
+    for word in text.split_whitespace() {
+        let (digits, times) = word.split_once('*').unwrap_or((word, "1"));
+        let number = u64::from_str_radix(digits, 16).expect(rt, word);
+        let times = times.parse::<u32>().expect(rt, word);
+        let unused = 8usize.saturating_sub(digits.len() / 2);
+        for _ in 0..times {
+            let piece = &number.to_be_bytes()[unused..];
+            bytes.extend_from_slice(piece).expect(rt, "memory");
+        }
+    }
+}
+
+// The header that has the version, the diagram and the length in this text; none where that is empty.
+fn headed<R: Abort + AllocGlobal>(rt: &R, header: &str) -> Vec<u8> {
+    let Some((version, problem)) = header.split_once(' ') else {
+        return Vec::new(rt.alloc());
+    };
+    let (diagram, length) = halves(rt, problem, " ");
+    let digit = version.bytes().next().expect(rt, header);
+    let diagram = diagram_of(rt, diagram);
+    let length = length_of(rt, length);
+    pg_trial::certificate(rt.alloc(), digit, &diagram, length, &[]).expect(rt, header)
+}
+
+// The same with the records that a text spells.
+fn certificate<R: Abort + AllocGlobal>(rt: &R, header: &str, records: &str) -> Vec<u8> {
+    let mut bytes = headed(rt, header);
+    append(rt, &mut bytes, records);
+    bytes
 }
 
 fn boxed<R: Abort + AllocGlobal, B>(rt: &R, bound: B) -> Box<B> {
@@ -72,102 +157,91 @@ fn four_bounds<R: Abort + AllocGlobal>(rt: &R) -> Vec<Box<dyn Bound>> {
     bounds
 }
 
-// What is answered with the four bounds.
-fn checked<R: Abort + AllocGlobal, S: Source>(
+// What is answered with these bounds. A diagram, a length, games, and the limits of records, if there is one, and
+// of named nodes are asked.
+fn judged<R: Abort + AllocGlobal, S: Source>(
     rt: &R,
-    problem: &Problem,
+    asked: &str,
+    bounds: &[Box<dyn Bound>],
     source: &mut S,
-    max_records: u64,
-    max_named: u32,
-) -> Result<Proved, Fault> {
-    let bounds = four_bounds(rt);
-    check(
-        rt.alloc(),
-        &problem.diagram,
-        problem.length,
-        &problem.games,
-        &bounds,
-        source,
-        max_records,
-        max_named,
-    )
+) -> Said {
+    let [diagram, length, games, records, named, ..] = fields(asked);
+    let diagram = diagram_of(rt, diagram);
+    let length = length_of(rt, length);
+    let games = games_of(rt, games);
+    let records = records.parse().unwrap_or(MANY);
+    let named = named.parse().expect(rt, asked);
+    let alloc = rt.alloc();
+    told(&check(
+        alloc, &diagram, length, &games, bounds, source, records, named,
+    ))
 }
 
-// A certificate for the problem with these records.
-fn certified<R: Abort + AllocGlobal>(rt: &R, problem: &Problem, records: &[u8]) -> Vec<u8> {
-    let made = certificate(rt.alloc(), b'1', &problem.diagram, problem.length, records);
-    made.expect(rt, "memory")
+// What is answered with the four bounds.
+fn checked<R: Abort + AllocGlobal, S: Source>(rt: &R, asked: &str, source: &mut S) -> Said {
+    judged(rt, asked, &four_bounds(rt), source)
 }
 
-// The same bytes so many times.
-fn repeat<R: Abort>(rt: &R, bytes: &mut Vec<u8>, piece: &[u8], times: usize) {
-    for _ in 0..times {
-        bytes.extend_from_slice(piece).expect(rt, "memory");
-    }
+// What is answered with these bounds, through a reader of one byte a call and one of many.
+fn answer<R: Abort + AllocGlobal>(
+    rt: &R,
+    asked: &str,
+    bounds: &[Box<dyn Bound>],
+    bytes: &[u8],
+) -> Said {
+    let slowly = judged(rt, asked, bounds, &mut FromRead::new(OneByte::new(bytes)));
+    let said = judged(rt, asked, bounds, &mut FromRead::new(bytes));
+    assert_eq!(rt; said.as_str(), slowly.as_str(), "{asked}");
+    said
 }
 
-// A certificate for the problem, with each piece so many times.
-fn pieced<R: Abort + AllocGlobal>(rt: &R, problem: &Problem, pieces: &[(&[u8], usize)]) -> Vec<u8> {
-    let mut bytes = certified(rt, problem, &[]);
-    for (piece, times) in pieces {
-        repeat(rt, &mut bytes, piece, *times);
+// This is answered with the four bounds.
+fn check_bytes<R: Abort + AllocGlobal>(rt: &R, asked: &str, bytes: &[u8], wanted: &str) {
+    let said = answer(rt, asked, &four_bounds(rt), bytes);
+    assert_eq!(rt; said.as_str(), wanted, "{asked}");
+}
+
+// The certificate of a row: what its header has, its records, and how many bytes it has, if that is told.
+fn bytes_of<R: Abort + AllocGlobal>(rt: &R, asked: &str) -> Vec<u8> {
+    let [_, _, _, _, _, header, records, length] = fields(asked);
+    let bytes = certificate(rt, header, records);
+    if !length.is_empty() {
+        assert_eq!(rt; length.parse().ok(), Some(bytes.len()), "{asked}");
     }
     bytes
 }
 
-// Writes a byte over another.
-fn put(bytes: &mut [u8], place: usize, byte: u8) {
-    if let Some(kept) = bytes.get_mut(place) {
-        *kept = byte;
+// A row of a table: what is asked, and behind an arrow what is answered.
+fn check_row<R: Abort + AllocGlobal>(rt: &R, row: &str) {
+    let (asked, wanted) = halves(rt, row, " => ");
+    check_bytes(rt, asked, bytes_of(rt, asked).as_slice(), wanted);
+}
+
+fn check_table<R: Abort + AllocGlobal>(rt: &R, table: &str) {
+    for row in table.lines() {
+        check_row(rt, row);
     }
 }
 
-// What is answered with the four bounds to the bytes, through a reader of one byte a call and
-// one of many.
-fn answer<R: Abort + AllocGlobal>(
-    rt: &R,
-    problem: &Problem,
-    bytes: &[u8],
-    max_records: u64,
-    max_named: u32,
-) -> Result<Proved, Fault> {
-    let mut one = FromRead::new(OneByte::new(bytes));
-    let slowly = checked(rt, problem, &mut one, max_records, max_named);
-    let mut many = FromRead::new(bytes);
-    let said = checked(rt, problem, &mut many, max_records, max_named);
-    assert!(rt; said == slowly);
-    said
-}
-
-// The answer to the bytes is this one.
-fn answers<R: Abort + AllocGlobal>(
-    rt: &R,
-    problem: &Problem,
-    bytes: &[u8],
-    max_records: u64,
-    max_named: u32,
-    wanted: Result<Proved, Fault>,
-) {
-    assert!(rt; answer(rt, problem, bytes, max_records, max_named) == wanted);
-}
-
-// Every proper prefix of the bytes is truncated.
-fn each_prefix_is_truncated<R: Abort + AllocGlobal>(rt: &R, problem: &Problem, bytes: &[u8]) {
+// Every proper prefix of the certificate is truncated.
+fn each_prefix_is_truncated<R: Abort + AllocGlobal>(rt: &R, asked: &str) {
+    let bytes = bytes_of(rt, asked);
     for n in 0..bytes.len() {
-        answers(rt, problem, &bytes[..n], MANY, 9, Err(Fault::Truncated));
+        check_bytes(rt, asked, &bytes[..n], "Truncated");
     }
+}
+
+// The read of a byte with this number refuses.
+fn check_read<R: Abort + AllocGlobal>(rt: &R, asked: &str, bytes: &[u8], at: u64) {
+    let reader = FailsAt::new(OneByte::new(bytes), at, ErrorKind::Interrupted);
+    let said = checked(rt, asked, &mut FromRead::new(reader));
+    assert_eq!(rt; said.as_str(), "Read", "{at}");
 }
 
 // Each of so many reads of a byte refuses in turn.
-fn each_read_fails<R: Abort + AllocGlobal>(rt: &R, problem: &Problem, bytes: &[u8], reads: u64) {
-    for call in 0..reads {
-        let reader = FailsAt::new(OneByte::new(bytes), call, ErrorKind::Interrupted);
-        let said = checked(rt, problem, &mut FromRead::new(reader), MANY, 9);
-        assert!(rt; said == Err(Fault::Read));
+fn each_read_fails<R: Abort + AllocGlobal>(rt: &R, asked: &str, reads: u64) {
+    let bytes = bytes_of(rt, asked);
+    for at in 0..reads {
+        check_read(rt, asked, bytes.as_slice(), at);
     }
-}
-
-// Yes, with so many records and named nodes.
-fn yes(records: u64, named: u32) -> Result<Proved, Fault> {
-    Ok(Proved { records, named })
 }

@@ -10,20 +10,23 @@ mod runs;
 mod shown_diagrams;
 mod upgrades;
 
-use crate::shared::{AFTER_E4_E5, ARRAY, diagram_of, four_bounds, length_of, text_of};
+use crate::shared::{
+    MANY, Said, certificate, diagram_of, fields, four_bounds, halves, length_of, lines_of, named,
+    text_of, told, words,
+};
+use pg_position::Move;
 use pg_report::*;
+use pg_san::read_games;
 use pg_trial::{FailsAt, OneByte};
 use std::alloc::Global;
-use std::fmt::Display;
 use std::io::ErrorKind;
 use std::process::Abort;
 
-// More than any certificate here needs.
-const MANY: u64 = 1_000_000;
+const AFTER_E4_E5: &str = "rnbqkbnr/pppp1ppp/8/4p3/4P3/8/PPPP1PPP/RNBQKBNR";
 
-const SCHWEIG: &str = "r1bqkbnr/ppp2ppp/3p4/8/8/8/PPPPPPPP/R1BQKBNR";
+const ENDGAME: &str = "8/2p5/3p4/KP5r/1R3p1k/8/4P1P1/8 w - - 0 1";
 
-// What is shown of it.
+// What is shown of Schweig's game.
 const SCHWEIG_SHOWN: &str = "8 r . b q k b n r
 7 p p p . . p p p
 6 . . . p . . . .
@@ -41,133 +44,6 @@ no game is shorter than 1.5
 // How many bytes of that the board has.
 const BOARD: usize = 9 * 18;
 
-const ENDGAME: &str = "8/2p5/3p4/KP5r/1R3p1k/8/4P1P1/8 w - - 0 1";
-
-// A position without a legal move.
-const MATED: &str = "rnb1kbnr/pppp1ppp/8/4p3/6Pq/5P2/PPPPP2P/RNBQKBNR w KQkq - 1 3";
-
-// A diagram, a length and a list of games, as texts.
-const NO_PLY: [&str; 3] = [ARRAY, "0", "-"];
-
-const ONE_PLY: [&str; 3] = ["rnbqkbnr/pppppppp/8/8/4P3/8/PPPP1PPP/RNBQKBNR", "0.5", "e4"];
-
-const E4_E5: [&str; 3] = [AFTER_E4_E5, "1.0", "1. e4 e5"];
-
-const E4_E5_REPORT: &str = "diagram rnbqkbnr/pppp1ppp/8/4p3/4P3/8/PPPP1PPP/RNBQKBNR
-length 1.0
-games 1
-1. e4 e5
-sound
-";
-
-// The games are out of order.
-const TWO_ORDERS: [&str; 3] = [
-    "rnbqkbnr/pppp1ppp/4p3/8/8/3PP3/PPP2PPP/RNBQKBNR",
-    "1.5",
-    "1. e3 e6 2. d3\n1. d3 e6 2. e3\n",
-];
-
-const TWO_REPORT: &str = "diagram rnbqkbnr/pppp1ppp/4p3/8/8/3PP3/PPP2PPP/RNBQKBNR
-length 1.5
-games 2
-1. d3 e6 2. e3
-1. e3 e6 2. d3
-cooked
-";
-
-const EN_PASSANT: [&str; 3] = [
-    "rnbqkbnr/1pp1pppp/p2P4/8/8/8/PPPP1PPP/RNBQKBNR",
-    "2.5",
-    "1. e4 d6 2. e5 a6 3. exd6\n1. e4 a6 2. e5 d6 3. exd6\n1. e4 d5 2. exd5 a6 3. d6\n1. e4 a6 2. e5 d5 3. exd6ep",
-];
-
-const RECAPTURED: [&str; 3] = [
-    "rnb1kbnr/ppp1pppp/8/3q4/8/8/PPPP1PPP/RNBQKBNR",
-    "2",
-    "1. e4 d5 2. exd5 Qxd5",
-];
-
-const FOOLS_MATE: [&str; 3] = [
-    "rnb1kbnr/pppp1ppp/8/4p3/6Pq/5P2/PPPPP2P/RNBQKBNR",
-    "2.0",
-    "1. f3 e5 2. g4 Qh4#\n1. g4 e5 2. f3 Qh4#",
-];
-
-// What is answered with the four bounds.
-fn answered<R: Abort + AllocGlobal, S: Source, W: Sink>(
-    rt: &R,
-    texts: [&str; 3],
-    source: &mut S,
-    out: &mut W,
-    max_records: u64,
-) -> Result<Verdict, RunFault> {
-    let bounds = four_bounds(rt);
-    let [diagram, length, games] = texts;
-    run_check(
-        rt.alloc(),
-        diagram,
-        length,
-        games,
-        &bounds,
-        source,
-        out,
-        max_records,
-        4_194_304,
-    )
-}
-
-// This is answered with the four bounds.
-fn check_answer<R: Abort + AllocGlobal, S: Source, W: Sink>(
-    rt: &R,
-    texts: [&str; 3],
-    source: &mut S,
-    out: &mut W,
-    wanted: &Result<Verdict, RunFault>,
-) {
-    let answer = answered(rt, texts, source, out, MANY);
-    assert!(rt; answer == *wanted);
-}
-
-// With these bytes the verdict is this one; what is written.
-fn reported<R: Abort + AllocGlobal>(
-    rt: &R,
-    texts: [&str; 3],
-    bytes: &[u8],
-    verdict: Verdict,
-) -> Vec<u8> {
-    let mut source = FromRead::new(bytes);
-    let mut out = ToWrite::new(Vec::new(rt.alloc()));
-    check_answer(rt, texts, &mut source, &mut out, &Ok(verdict));
-    out.into_inner()
-}
-
-// A certificate of version 1 for the first two texts, with these records.
-fn certificate<R: Abort + AllocGlobal>(rt: &R, texts: [&str; 3], records: &[u8]) -> Vec<u8> {
-    let [diagram, length, _] = texts;
-    let diagram = diagram_of(rt, diagram);
-    let length = length_of(rt, length);
-    pg_trial::certificate(rt.alloc(), b'1', &diagram, length, records).expect(rt, "memory")
-}
-
-// The certificate of e4 e5: 79 bytes.
-fn open_game<R: Abort + AllocGlobal>(rt: &R) -> Vec<u8> {
-    certificate(rt, E4_E5, &pg_trial::OPEN_GAME)
-}
-
-// The certificate of the two orders: 158 bytes.
-fn two_orders<R: Abort + AllocGlobal>(rt: &R) -> Vec<u8> {
-    certificate(rt, TWO_ORDERS, &pg_trial::TWO_ORDERS)
-}
-
-// Each node with a ply left is expanded.
-fn expanded<R: Abort + AllocGlobal>(rt: &R, texts: [&str; 3], nodes: usize) -> Vec<u8> {
-    let mut bytes = certificate(rt, texts, &[]);
-    for _ in 0..nodes {
-        bytes.push(1).expect(rt, "memory");
-    }
-    bytes
-}
-
 // The bytes, one a call, where the read with this number fails.
 fn failing_source(bytes: &[u8], at: u64) -> FromRead<FailsAt<OneByte<&[u8]>>> {
     FromRead::new(FailsAt::new(OneByte::new(bytes), at, ErrorKind::Interrupted))
@@ -178,38 +54,215 @@ fn failing_sink(alloc: Global, at: u64) -> ToWrite<FailsAt<Vec<u8>>> {
     ToWrite::new(FailsAt::new(Vec::new(alloc), at, ErrorKind::Interrupted))
 }
 
-// What was written.
-fn check_output(rt: &impl Abort, out: ToWrite<Vec<u8>>, wanted: &str) {
-    assert_eq!(rt; text_of(rt, out.into_inner().as_slice()), wanted);
+// What is answered to the report on a list of games.
+fn report<R: Abort + AllocGlobal, W: Sink>(rt: &R, texts: [&str; 3], out: &mut W) -> Said {
+    let [diagram, length, games] = texts;
+    let diagram = diagram_of(rt, diagram);
+    let length = length_of(rt, length);
+    let games = read_games(rt.alloc(), games).expect(rt, games);
+    told(&write_report(&diagram, length, &games, out))
 }
 
-// The text of a fault.
-fn check_text<R: Abort + AllocGlobal, E: Display>(rt: &R, fault: &E, wanted: &str) {
-    let text = format!(in rt.alloc(); "{fault}").expect(rt, "memory");
-    assert_eq!(rt; text.as_str(), wanted);
+// The game that a list lacks.
+fn lacking<R: Abort + AllocGlobal>(rt: &R, game: &[Move]) -> Said {
+    let mut out = ToWrite::new(Vec::new(rt.alloc()));
+    write_movetext(game, &mut out).expect(rt, "written");
+    let text = out.into_inner();
+    words(&format_args!("lacks {}", text_of(rt, text.as_slice())))
 }
 
-// The write with this number was the last one; what was written before it.
-fn written_before(rt: &impl Abort, out: ToWrite<FailsAt<Vec<u8>>>, at: u64) -> Vec<u8> {
-    let writer = out.into_inner();
-    assert_eq!(rt; writer.calls(), at.saturating_add(1));
-    writer.into_inner()
+// What is answered with the four bounds.
+fn check<R: Abort + AllocGlobal, S: Source, W: Sink>(
+    rt: &R,
+    texts: [&str; 3],
+    limit: u64,
+    source: &mut S,
+    out: &mut W,
+) -> Said {
+    let bounds = four_bounds(rt);
+    let [diagram, length, games] = texts;
+    let answer = run_check(
+        rt.alloc(),
+        diagram,
+        length,
+        games,
+        &bounds,
+        source,
+        out,
+        limit,
+        4_194_304,
+    );
+    if let Err(RunFault::Check(Fault::Unlisted(game))) = &answer {
+        return lacking(rt, game);
+    }
+    told(&answer)
 }
 
-// What was written before that one begins the text.
-fn check_failed(rt: &impl Abort, out: ToWrite<FailsAt<Vec<u8>>>, at: u64, text: &str) {
-    let written = written_before(rt, out, at);
-    assert!(rt; text.as_bytes().starts_with(written.as_slice()), "{at}");
+// What a command answers: its word stands before its texts and the limit of records.
+fn obey<R: Abort + AllocGlobal, S: Source, W: Sink>(
+    rt: &R,
+    asked: &str,
+    source: &mut S,
+    out: &mut W,
+) -> Said {
+    let [command, text, number, games, limit, ..] = fields(asked);
+    let text = named(text);
+    let plies = number.parse().unwrap_or(0);
+    let limit = limit.parse().unwrap_or(MANY);
+    match command {
+        "board" => told(&write_board(&diagram_of(rt, text), out)),
+        "count" => told(&run_count(rt.alloc(), text, plies, out)),
+        "moves" => told(&run_moves(rt.alloc(), text, out)),
+        "show" => told(&run_show(rt.alloc(), text, &four_bounds(rt), out)),
+        "report" => report(rt, [text, number, games], out),
+        "upgrade" => told(&upgrade(source, out, limit)),
+        _ => check(rt, [text, number, games], limit, source, out),
+    }
 }
 
-// The whole text was written, by so many writes.
-fn check_written(rt: &impl Abort, out: ToWrite<FailsAt<Vec<u8>>>, writes: u64, text: &str) {
-    let writer = out.into_inner();
-    assert_eq!(rt; writer.calls(), writes);
-    assert_eq!(rt; text_of(rt, writer.into_inner().as_slice()), text);
+// The command answers so, where the write with this number fails; what was written, and by how many writes.
+fn written<R: Abort + AllocGlobal>(
+    rt: &R,
+    asked: &str,
+    bytes: &[u8],
+    at: u64,
+    answer: &str,
+) -> FailsAt<Vec<u8>> {
+    let mut out = failing_sink(rt.alloc(), at);
+    let said = obey(rt, asked, &mut FromRead::new(bytes), &mut out);
+    assert_eq!(rt; said.as_str(), answer, "{asked}");
+    out.into_inner()
 }
 
-// Not one write was made.
-fn check_unwritten(rt: &impl Abort, out: ToWrite<FailsAt<Vec<u8>>>) {
-    assert_eq!(rt; out.into_inner().calls(), 0);
+// The command answers and writes so. Where nothing is written there is no write.
+fn check_quickly<R: Abort + AllocGlobal>(
+    rt: &R,
+    asked: &str,
+    bytes: &[u8],
+    answer: &str,
+    text: &[u8],
+) {
+    let writer = written(rt, asked, bytes, MANY, answer);
+    assert!(rt; !text.is_empty() || writer.calls() == 0, "{asked}");
+    assert!(rt; writer.into_inner().as_slice() == text, "{asked}");
+}
+
+// The same, through a reader and a writer of one byte a call.
+fn check_slowly<R: Abort + AllocGlobal>(
+    rt: &R,
+    asked: &str,
+    bytes: &[u8],
+    answer: &str,
+    text: &[u8],
+) {
+    let mut source = FromRead::new(OneByte::new(bytes));
+    let mut out = ToWrite::new(OneByte::new(Vec::new(rt.alloc())));
+    let said = obey(rt, asked, &mut source, &mut out);
+    assert_eq!(rt; said.as_str(), answer, "{asked}");
+    assert!(rt; out.into_inner().into_inner().as_slice() == text, "{asked}");
+}
+
+// The same, both ways.
+fn check_both<R: Abort + AllocGlobal>(
+    rt: &R,
+    asked: &str,
+    bytes: &[u8],
+    answer: &str,
+    text: &[u8],
+) {
+    check_quickly(rt, asked, bytes, answer, text);
+    check_slowly(rt, asked, bytes, answer, text);
+}
+
+// The certificate of a command: what its header has, its records, and how many bytes it has, if that is told.
+fn bytes_of<R: Abort + AllocGlobal>(rt: &R, asked: &str) -> Vec<u8> {
+    let [_, _, _, _, _, header, records, length] = fields(asked);
+    let bytes = certificate(rt, header, records);
+    if !length.is_empty() {
+        assert_eq!(rt; length.parse().ok(), Some(bytes.len()), "{asked}");
+    }
+    bytes
+}
+
+// What is asked, what is answered, and what is written: an arrow stands before each answer, and one before
+// a text.
+fn parts<'a>(rt: &impl Abort, row: &'a str) -> [&'a str; 3] {
+    let (asked, rest) = halves(rt, row, " => ");
+    let (answer, text) = rest.split_once(" => ").unwrap_or((rest, ""));
+    [asked, answer, text]
+}
+
+// The command of a row answers and writes what stands there.
+fn check_row<R: Abort + AllocGlobal>(rt: &R, row: &str) {
+    let row = lines_of(rt, row);
+    let [asked, answer, text] = parts(rt, row.as_str());
+    let bytes = bytes_of(rt, asked);
+    check_both(rt, asked, bytes.as_slice(), answer, text.as_bytes());
+}
+
+// So does each command of a table.
+fn check_table<R: Abort + AllocGlobal>(rt: &R, table: &str) {
+    for row in table.lines() {
+        check_row(rt, row);
+    }
+}
+
+// The write with this number fails: it is the last one, and what was written before it stands.
+fn check_write<R: Abort + AllocGlobal>(rt: &R, asked: &str, bytes: &[u8], at: u64, text: &str) {
+    let writer = written(rt, asked, bytes, at, "Write: write fault");
+    assert_eq!(rt; writer.calls(), at.saturating_add(1), "{asked}");
+    let before = writer.into_inner();
+    assert!(rt;
+        text.as_bytes().starts_with(before.as_slice()),
+        "{asked}: {at}"
+    );
+}
+
+// Each of so many writes fails in turn, and the next one, which is not made.
+fn check_writes<R: Abort + AllocGlobal>(
+    rt: &R,
+    asked: &str,
+    bytes: &[u8],
+    writes: u64,
+    answer: &str,
+    text: &str,
+) {
+    for at in 0..writes {
+        check_write(rt, asked, bytes, at, text);
+    }
+    let writer = written(rt, asked, bytes, writes, answer);
+    assert_eq!(rt; writer.calls(), writes, "{asked}");
+    assert!(rt;
+        writer.into_inner().as_slice() == text.as_bytes(),
+        "{asked}"
+    );
+}
+
+// The same of the command of a row.
+fn check_row_writes<R: Abort + AllocGlobal>(rt: &R, row: &str, writes: u64) {
+    let row = lines_of(rt, row);
+    let [asked, answer, text] = parts(rt, row.as_str());
+    let bytes = bytes_of(rt, asked);
+    check_writes(rt, asked, bytes.as_slice(), writes, answer, text);
+}
+
+// The read of one byte with this number fails, which is answered so. It is the last one. How many bytes are
+// written then.
+fn read_until<R: Abort + AllocGlobal>(
+    rt: &R,
+    asked: &str,
+    bytes: &[u8],
+    at: u64,
+    answer: &str,
+) -> usize {
+    let mut source = failing_source(bytes, at);
+    let mut out = ToWrite::new(Vec::new(rt.alloc()));
+    let said = obey(rt, asked, &mut source, &mut out);
+    assert_eq!(rt; said.as_str(), answer, "{asked}: {at}");
+    assert_eq!(rt;
+        source.into_inner().calls(),
+        at.saturating_add(1),
+        "{asked}"
+    );
+    out.into_inner().len()
 }

@@ -1,29 +1,128 @@
-//! What the tests of reports and of explanations share.
+//! What the tests of reports and of explanations share: tables of texts, a case a line. A bar separates the
+//! fields of a case, an arrow what is asked from what is answered, and a dollar stands for the end of a line.
 
+use arrayvec::ArrayString;
 use pg_captures::{Bound, Captures, Promotions};
 use pg_fen::{Diagram, Length};
 use pg_pawns::PawnFiles;
 use pg_travel::Travel;
+use std::fmt::{Debug, Display, Write};
 use std::process::Abort;
 use std::str;
 
-pub(crate) const ARRAY: &str = "rnbqkbnr/pppppppp/8/8/8/8/PPPPPPPP/RNBQKBNR";
+// More than any certificate here needs.
+pub(crate) const MANY: u64 = 1_000_000;
 
-pub(crate) const AFTER_E4_E5: &str = "rnbqkbnr/pppp1ppp/8/4p3/4P3/8/PPPP1PPP/RNBQKBNR";
+// What a call answers, in words.
+pub(crate) type Said = ArrayString<256>;
+
+// Diagrams and positions by their names.
+const NAMES: &str = "array rnbqkbnr/pppppppp/8/8/8/8/PPPPPPPP/RNBQKBNR
+after-e4 rnbqkbnr/pppppppp/8/8/4P3/8/PPPP1PPP/RNBQKBNR
+after-e4-e5 rnbqkbnr/pppp1ppp/8/4p3/4P3/8/PPPP1PPP/RNBQKBNR
+two-orders rnbqkbnr/pppp1ppp/4p3/8/8/3PP3/PPP2PPP/RNBQKBNR
+en-passant rnbqkbnr/1pp1pppp/p2P4/8/8/8/PPPP1PPP/RNBQKBNR
+recaptured rnb1kbnr/ppp1pppp/8/3q4/8/8/PPPP1PPP/RNBQKBNR
+fools-mate rnb1kbnr/pppp1ppp/8/4p3/6Pq/5P2/PPPPP2P/RNBQKBNR
+schweig r1bqkbnr/ppp2ppp/3p4/8/8/8/PPPPPPPP/R1BQKBNR
+shut-in rnbqkbnr/1pppppp1/p6p/8/8/P3B2P/1PPPPPP1/RN1QKBNR
+start rnbqkbnr/pppppppp/8/8/8/8/PPPPPPPP/RNBQKBNR w KQkq - 0 1
+middle-game r3k2r/p1ppqpb1/bn2pnp1/3PN3/1p2P3/2N2Q1p/PPPBBPPP/R3K2R w KQkq - 0 1
+endgame 8/2p5/3p4/KP5r/1R3p1k/8/4P1P1/8 w - - 0 1
+mated rnb1kbnr/pppp1ppp/8/4p3/6Pq/5P2/PPPPP2P/RNBQKBNR w KQkq - 1 3";
+
+// The diagram or the position that has this name; what has none stands for itself.
+pub(crate) fn named<'a>(text: &'a str) -> &'a str {
+    for line in NAMES.lines() {
+        if let Some((name, fen)) = line.split_once(' ') {
+            if name == text {
+                return fen;
+            }
+        }
+    }
+    text
+}
 
 // The diagram that a text gives.
 pub(crate) fn diagram_of(rt: &impl Abort, text: &str) -> Diagram {
-    Diagram::read(text).expect(rt, "a diagram")
+    Diagram::read(named(text)).expect(rt, text)
 }
 
 // The length that a text gives.
 pub(crate) fn length_of(rt: &impl Abort, text: &str) -> Length {
-    Length::read(text).expect(rt, "a length")
+    Length::read(text).expect(rt, text)
 }
 
 // The bytes as a text.
 pub(crate) fn text_of<'a>(rt: &impl Abort, bytes: &'a [u8]) -> &'a str {
     str::from_utf8(bytes).expect(rt, "a text")
+}
+
+// The text with ends of lines.
+pub(crate) fn lines_of<R: Abort + AllocGlobal>(rt: &R, row: &str) -> String {
+    row.replace(rt.alloc(), '$', "\n").expect(rt, "memory")
+}
+
+// What stands before a mark, and what behind it.
+pub(crate) fn halves<'a>(rt: &impl Abort, text: &'a str, mark: &str) -> (&'a str, &'a str) {
+    text.split_once(mark).expect(rt, text)
+}
+
+// The fields of a case; those that it lacks are empty.
+pub(crate) fn fields<'a>(case: &'a str) -> [&'a str; 8] {
+    let mut all = [""; 8];
+    for (field, text) in all.iter_mut().zip(case.split(" | ")) {
+        *field = text;
+    }
+    all
+}
+
+// What a value says, or the arguments of a format.
+pub(crate) fn words(text: &impl Display) -> Said {
+    let mut said = Said::new();
+    let _ = write!(said, "{text}");
+    said
+}
+
+// The value that was answered, or the fault and its text.
+pub(crate) fn told<T: Debug, E: Debug + Display>(answer: &Result<T, E>) -> Said {
+    match answer {
+        Ok(value) => words(&format_args!("{value:?}")),
+        Err(fault) => words(&format_args!("{fault:?}: {fault}")),
+    }
+}
+
+// The bytes that a text spells: words of at most eight bytes, two digits a byte, and behind a star how many
+// times they stand there, as in `01 0204*13`.
+pub(crate) fn spelled<R: Abort + AllocGlobal>(rt: &R, text: &str) -> Vec<u8> {
+    let mut bytes = Vec::new(rt.alloc());
+    for word in text.split_whitespace() {
+        let (digits, times) = word.split_once('*').unwrap_or((word, "1"));
+        let number = u64::from_str_radix(digits, 16).expect(rt, word);
+        let times = times.parse::<u32>().expect(rt, word);
+        let unused = 8usize.saturating_sub(digits.len() / 2);
+        for _ in 0..times {
+            let piece = &number.to_be_bytes()[unused..];
+            bytes.extend_from_slice(piece).expect(rt, "memory");
+        }
+    }
+    bytes
+}
+
+// The certificate with these records, whose header has the version, the diagram and the length in this text;
+// where that is empty, the records alone.
+pub(crate) fn certificate<R: Abort + AllocGlobal>(rt: &R, header: &str, records: &str) -> Vec<u8> {
+    let records = spelled(rt, records);
+    let Some((version, problem)) = header.split_once(' ') else {
+        return records;
+    };
+    let digit = version.bytes().next().expect(rt, header);
+    let (diagram, length) = halves(rt, problem, " ");
+    let diagram = diagram_of(rt, diagram);
+    let length = length_of(rt, length);
+    pg_trial::certificate(rt.alloc(), digit, &diagram, length, records.as_slice()).expect(
+        rt, header,
+    )
 }
 
 // A bound in a box.

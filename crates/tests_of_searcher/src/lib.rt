@@ -4,3 +4,5 @@
 
 #[cfg(test)]
 mod searcher;
+#[cfg(test)]
+mod sides;

@@ -1,88 +1,52 @@
 use super::*;
 use pg_moves::legal_moves;
 use pg_position::Position;
-use pg_trial::TWO_ORDERS;
+
+// No ply; one ply; two by cuts of travel, by expansions, and by named ones.
+const OPEN_GAMES: &str = "array | 0 | - |  | 0 | 1 array 0 |  | 37 => 0 0
+after-e4 | 0.5 | e4 |  | 0 | 1 after-e4 0.5 | 01 | 38 => 1 0
+after-e4-e5 | 1.0 | 1. e4 e5 | 22 | 0 | 1 after-e4-e5 1.0 | 0204 01 0204*13 01 0204*6 | 79 => 22 0
+after-e4-e5 | 1.0 | 1. e4 e5 | 21 | 0 | 1 after-e4-e5 1.0 | 0204 01 0204*13 01 0204*6 => Budget
+after-e4-e5 | 1.0 | 1. e4 e5 | 22 | 0 | 1 after-e4-e5 1.0 | 01*22 | 59 => 22 0
+after-e4-e5 | 1.0 | 1. e4 e5 | 21 | 0 | 1 after-e4-e5 1.0 | 01*22 => Budget
+after-e4-e5 | 1.0 | 1. e4 e5 | 22 | 22 | 1 after-e4-e5 1.0 | 05*22 => 22 22
+after-e4-e5 | 1.0 | 1. e4 e5 | 22 | 21 | 1 after-e4-e5 1.0 | 05*22 => TooManyNamed";
 
 #[test]
-fn the_empty_game(rt: HostRuntime) {
-    let asked = ask(&rt, ARRAY, "0", "-");
-    let bytes = certified(&rt, &asked, &[]);
-    assert_eq!(rt; bytes.len(), 37);
-    answers(&rt, &asked, &bytes, MANY, 0, yes(0, 0));
+fn games_of_two_plies_or_fewer(rt: HostRuntime) {
+    check_table(&rt, OPEN_GAMES);
 }
 
-#[test]
-fn one_ply(rt: HostRuntime) {
-    let asked = ask(&rt, AFTER_E4, "0.5", "e4");
-    let bytes = certified(&rt, &asked, &[1]);
-    assert_eq!(rt; bytes.len(), 38);
-    answers(&rt, &asked, &bytes, MANY, 0, yes(1, 0));
-}
-
-#[test]
-fn e4_e5(rt: HostRuntime) {
-    let asked = ask(&rt, AFTER_E4_E5, "1.0", "1. e4 e5");
-    let bytes = certified(&rt, &asked, &OPEN_GAME);
-    assert_eq!(rt; bytes.len(), 79);
-    answers(&rt, &asked, &bytes, 22, 0, yes(22, 0));
-    answers(&rt, &asked, &bytes, 21, 0, Err(Fault::Budget));
-}
-
-#[test]
-fn e4_e5_by_expansions(rt: HostRuntime) {
-    let asked = ask(&rt, AFTER_E4_E5, "1.0", "1. e4 e5");
-    let bytes = pieced(&rt, &asked, &[(&[1], 22)]);
-    assert_eq!(rt; bytes.len(), 59);
-    answers(&rt, &asked, &bytes, 22, 0, yes(22, 0));
-    answers(&rt, &asked, &bytes, 21, 0, Err(Fault::Budget));
-    let named = pieced(&rt, &asked, &[(&[5], 22)]);
-    answers(&rt, &asked, &named, 22, 22, yes(22, 22));
-    answers(&rt, &asked, &named, 22, 21, Err(Fault::TooManyNamed));
-}
-
-// The answer to the bytes is that a game of another list is not in this one.
-fn lacks<R: Abort + AllocGlobal>(rt: &R, asked: &Problem, bytes: &[u8], missing: &Problem) {
-    let said = answer(rt, asked, bytes, MANY, 0);
-    assert!(rt; matches!(said, Err(Fault::Unlisted(game)) if missing.games.contains(&game)));
-}
-
-const TWO_PAWNS: &str = "rnbqkbnr/pppp1ppp/4p3/8/8/3PP3/PPP2PPP/RNBQKBNR";
+// Two games in either order, with one of them left out, and by expansions.
+const TWO_ORDERS: &str =
+    "two-pawns | 1.5 | 1. d3 e6 2. e3/1. e3 e6 2. d3 | 63 | 0 | 1 two-pawns 1.5 | 0204*2 01 0204*10 01 0204*9 01 0204*11 01 0204*9 01 0204*17 | 158 => 63 0
+two-pawns | 1.5 | 1. d3 e6 2. e3/1. e3 e6 2. d3 | 62 | 0 | 1 two-pawns 1.5 | 0204*2 01 0204*10 01 0204*9 01 0204*11 01 0204*9 01 0204*17 => Budget
+two-pawns | 1.5 | 1. d3 e6 2. e3 |  | 0 | 1 two-pawns 1.5 | 0204*2 01 0204*10 01 0204*9 01 0204*11 01 0204*9 01 0204*17 => lacks 12-20 52-44 11-19
+two-pawns | 1.5 | 1. e3 e6 2. d3 |  | 0 | 1 two-pawns 1.5 | 0204*2 01 0204*10 01 0204*9 01 0204*11 01 0204*9 01 0204*17 => lacks 11-19 52-44 12-20
+two-pawns | 1.5 | 1. d3 e6 2. e3/1. e3 e6 2. d3 | 443 | 0 | 1 two-pawns 1.5 | 01*443 => 443 0
+two-pawns | 1.5 | 1. d3 e6 2. e3/1. e3 e6 2. d3 | 442 | 0 | 1 two-pawns 1.5 | 01*443 => Budget";
 
 #[test]
 fn two_move_orders(rt: HostRuntime) {
-    let both = ask(&rt, TWO_PAWNS, "1.5", "1. d3 e6 2. e3\n1. e3 e6 2. d3");
-    let bytes = certified(&rt, &both, &TWO_ORDERS);
-    assert_eq!(rt; bytes.len(), 158);
-    answers(&rt, &both, &bytes, 63, 0, yes(63, 0));
-    answers(&rt, &both, &bytes, 62, 0, Err(Fault::Budget));
-    let first = ask(&rt, TWO_PAWNS, "1.5", "1. d3 e6 2. e3");
-    let second = ask(&rt, TWO_PAWNS, "1.5", "1. e3 e6 2. d3");
-    lacks(&rt, &first, &bytes, &second);
-    lacks(&rt, &second, &bytes, &first);
-    let expanded = pieced(&rt, &both, &[(&[1], 443)]);
-    answers(&rt, &both, &expanded, 443, 0, yes(443, 0));
-    answers(&rt, &both, &expanded, 442, 0, Err(Fault::Budget));
+    check_table(&rt, TWO_ORDERS);
 }
+
+const NO_GAME: &str = "after-e4-e5 | 0.5 |  |  | 0 | 1 after-e4-e5 0.5 | 0204 => 1 0
+after-e4-e5 | 0.5 |  |  | 0 | 1 after-e4-e5 0.5 | 01 => 1 0";
 
 #[test]
 fn no_game(rt: HostRuntime) {
-    let asked = ask(&rt, AFTER_E4_E5, "0.5", "");
-    let cut = certified(&rt, &asked, &[2, 4]);
-    answers(&rt, &asked, &cut, MANY, 0, yes(1, 0));
-    let expanded = certified(&rt, &asked, &[1]);
-    answers(&rt, &asked, &expanded, MANY, 0, yes(1, 0));
+    check_table(&rt, NO_GAME);
 }
+
+// Listed games that are longer; no game is listed; another parity.
+const SHORTER: &str = "array | 2.0 | 1. Nf3 Nf6 2. Ng1 Ng8 |  | 0 | 1 array 2.0 |  => Shorter(0)
+array | 2.0 |  |  | 0 | 1 array 2.0 |  => Shorter(0)
+after-e4 | 2.0 |  |  | 0 | 1 after-e4 2.0 | 01 => Shorter(1)";
 
 #[test]
 fn a_shorter_game(rt: HostRuntime) {
-    let shuffled = ask(&rt, ARRAY, "2.0", "1. Nf3 Nf6 2. Ng1 Ng8");
-    let header = certified(&rt, &shuffled, &[]);
-    answers(&rt, &shuffled, &header, MANY, 0, Err(Fault::Shorter(0)));
-    let unlisted = ask(&rt, ARRAY, "2.0", "");
-    answers(&rt, &unlisted, &header, MANY, 0, Err(Fault::Shorter(0)));
-    let other_parity = ask(&rt, AFTER_E4, "2.0", "");
-    let bytes = certified(&rt, &other_parity, &[1]);
-    answers(&rt, &other_parity, &bytes, MANY, 0, Err(Fault::Shorter(1)));
+    check_table(&rt, SHORTER);
 }
 
 // Writes the tree below a position: cut by travel where it excludes, else expanded.
@@ -97,9 +61,9 @@ fn grow<R: Abort + AllocGlobal>(
         return;
     }
     if Travel.excludes(diagram, position, left) {
-        return repeat(rt, bytes, &[2, 4], 1);
+        return append(rt, bytes, "0204");
     }
-    repeat(rt, bytes, &[1], 1);
+    append(rt, bytes, "01");
     let moves = legal_moves(rt.alloc(), position).expect(rt, "memory");
     for m in moves.as_slice() {
         if let Ok(next) = position.play(*m) {
@@ -108,43 +72,35 @@ fn grow<R: Abort + AllocGlobal>(
     }
 }
 
-// Black's pawns on a7 and d7 have moved, and White's pawn stands on d6.
-const PAWN_ON_D6: &str = "rnbqkbnr/1pp1pppp/p2P4/8/8/8/PPPP1PPP/RNBQKBNR";
+// What is answered to a list of games, by this certificate.
+fn answer_to<R: Abort + AllocGlobal>(rt: &R, games: &str, bytes: &[u8]) -> Said {
+    let asked = words(&format_args!("pawn-on-d6 | 2.5 | {games} |  | 0"));
+    answer(rt, asked.as_str(), &four_bounds(rt), bytes)
+}
 
+// Black's pawns on a7 and d7 have moved, and White's pawn stands on d6.
 #[test]
 fn four_games(rt: HostRuntime) {
-    let text = "1. e4 a6 2. e5 d5 3. exd6\n1. e4 a6 2. e5 d6 3. exd6\n\
-        1. e4 d5 2. exd5 a6 3. d6\n1. e4 d6 2. e5 a6 3. exd6\n";
-    let asked = ask(&rt, PAWN_ON_D6, "2.5", text);
-    assert_eq!(rt; asked.games.len(), 4);
-    let mut bytes = pieced(&rt, &asked, &[(&[2, 4], 4)]);
-    grow(&rt, &mut bytes, &asked.diagram, &Position::array(), 5);
-    assert!(rt; answer(&rt, &asked, &bytes, MANY, 0).is_ok());
-    let text = "1. e4 a6 2. e5 d6 3. exd6\n1. e4 d5 2. exd5 a6 3. d6\n1. e4 d6 2. e5 a6 3. exd6";
-    let three = ask(&rt, PAWN_ON_D6, "2.5", text);
-    let missing = ask(&rt, PAWN_ON_D6, "2.5", "1. e4 a6 2. e5 d5 3. exd6");
-    lacks(&rt, &three, &bytes, &missing);
+    let all =
+        "1. e4 a6 2. e5 d5 3. exd6/1. e4 a6 2. e5 d6 3. exd6/1. e4 d5 2. exd5 a6 3. d6/1. e4 d6 2. e5 a6 3. exd6/";
+    assert_eq!(rt; games_of(&rt, all).len(), 4);
+    let mut bytes = certificate(&rt, "1 pawn-on-d6 2.5", "0204*4");
+    let diagram = diagram_of(&rt, "pawn-on-d6");
+    grow(&rt, &mut bytes, &diagram, &Position::array(), 5);
+    let said = answer_to(&rt, all, bytes.as_slice());
+    assert!(rt; is_yes(&said), "{said}");
+    let three = "1. e4 a6 2. e5 d6 3. exd6/1. e4 d5 2. exd5 a6 3. d6/1. e4 d6 2. e5 a6 3. exd6";
+    let said = answer_to(&rt, three, bytes.as_slice());
+    assert_eq!(rt; said.as_str(), "lacks 12-28 48-40 28-36 51-35 36-43");
 }
 
-#[test]
-fn the_queen_recaptures(rt: HostRuntime) {
-    let asked = ask(&rt, RECAPTURED, "2.0", "1. e4 d5 2. exd5 Qxd5");
-    let bytes = pieced(&rt, &asked, &[(&[1], 9_766)]);
-    assert_eq!(rt; bytes.len(), 9_803);
-    answers(&rt, &asked, &bytes, MANY, 0, yes(9_766, 0));
-    let cut = pieced(&rt, &asked, &[(&[2, 1], 1), (&[1], 9_765)]);
-    assert_eq!(rt; cut.len(), 9_804);
-    answers(&rt, &asked, &cut, MANY, 0, yes(9_766, 0));
-}
+// A queen recaptures, by expansions, and by a cut in the tree of one ply; two ways to a mate.
+const LONG: &str =
+    "recaptured | 2.0 | 1. e4 d5 2. exd5 Qxd5 |  | 0 | 1 recaptured 2.0 | 01*9766 | 9803 => 9766 0
+recaptured | 2.0 | 1. e4 d5 2. exd5 Qxd5 |  | 0 | 1 recaptured 2.0 | 0201 01*9765 | 9804 => 9766 0
+fools-mate | 2.0 | 1. f3 e5 2. g4 Qh4#/1. g4 e5 2. f3 Qh4# |  | 0 | 1 fools-mate 2.0 | 01*9766 => 9766 0";
 
 #[test]
-fn fools_mate(rt: HostRuntime) {
-    let asked = ask(
-        &rt,
-        "rnb1kbnr/pppp1ppp/8/4p3/6Pq/5P2/PPPPP2P/RNBQKBNR",
-        "2.0",
-        "1. f3 e5 2. g4 Qh4#\n1. g4 e5 2. f3 Qh4#",
-    );
-    let bytes = pieced(&rt, &asked, &[(&[1], 9_766)]);
-    answers(&rt, &asked, &bytes, MANY, 0, yes(9_766, 0));
+fn expansions_of_four_plies(rt: HostRuntime) {
+    check_table(&rt, LONG);
 }

@@ -1,160 +1,121 @@
 use super::*;
 use pg_moves::legal_moves;
-use pg_position::{Move, Position};
+use pg_position::Position;
 use pg_san::GamesFault;
 use pg_trial::named_expansions;
 
-// Cuts by pawn files.
-const CUT: &[u8] = &[2, 3];
-
-/// The pawn on d3 in five plies: a named node in the tree of length 1, three cuts, and the knight
-/// shuffle down to a position with these bytes.
-pub(super) fn shuffle<R: Abort + AllocGlobal>(
-    rt: &R,
-    asked: &Problem,
-    first: u8,
-    last: &[u8],
-) -> Vec<u8> {
-    let mut bytes = certified(rt, asked, &[first, 2, 3, 2, 3, 2, 3, 1, 2, 3, 2, 3, 1]);
-    repeat(rt, &mut bytes, CUT, 18);
-    repeat(rt, &mut bytes, &[1], 1);
-    repeat(rt, &mut bytes, CUT, 17);
-    repeat(rt, &mut bytes, &[1], 1);
-    repeat(rt, &mut bytes, last, 1);
-    repeat(rt, &mut bytes, CUT, 39);
-    bytes
-}
-
-/// Four cuts and a reference to number 0.
-pub(super) const TO_THE_ARRAY: [u8; 13] = [2, 3, 2, 3, 2, 3, 2, 3, 3, 0, 0, 0, 0];
-
-/// Three cuts and the same reference.
-pub(super) const EARLIER: [u8; 11] = [2, 3, 2, 3, 2, 3, 3, 0, 0, 0, 0];
+// The pawn on d3 in five plies: a named node in the tree of length 1, three cuts, and the knight shuffle down
+// to a position with a reference to number 0 behind four cuts. Then with no name allowed; without a name; to
+// number 1; behind three cuts; to a node of other plies; and below the node itself, which is open and has no
+// number.
+const SHUFFLED: &str =
+    "pawn-on-d3 | 2.5 |  |  | 1 | 1 pawn-on-d3 2.5 | 05 0203*3 01 0203*2 01 0203*18 01 0203*17 01 0203*4 0300000000 0203*39 | 213 => 89 1
+pawn-on-d3 | 2.5 |  |  | 0 | 1 pawn-on-d3 2.5 | 05 0203*3 01 0203*2 01 0203*18 01 0203*17 01 0203*4 0300000000 0203*39 => TooManyNamed
+pawn-on-d3 | 2.5 |  |  | 9 | 1 pawn-on-d3 2.5 | 01 0203*3 01 0203*2 01 0203*18 01 0203*17 01 0203*4 0300000000 0203*39 => RefUnknown
+pawn-on-d3 | 2.5 |  |  | 9 | 1 pawn-on-d3 2.5 | 05 0203*3 01 0203*2 01 0203*18 01 0203*17 01 0203*4 0300000001 0203*39 => RefUnknown
+pawn-on-d3 | 2.5 |  |  | 9 | 1 pawn-on-d3 2.5 | 05 0203*3 01 0203*2 01 0203*18 01 0203*17 01 0203*3 0300000000 0203*39 => RefDiffers
+pawn-on-d3 | 1.0 |  |  | 9 | 1 pawn-on-d3 1.0 | 05 0300000000 => RefDiffers
+pawn-on-d3 | 1.0 |  |  | 9 | 1 pawn-on-d3 1.0 | 0203 05 0300000000 => RefUnknown";
 
 #[test]
 fn the_knight_shuffle(rt: HostRuntime) {
-    let asked = ask(&rt, PAWN_ON_D3, "2.5", "");
-    let bytes = shuffle(&rt, &asked, 5, &TO_THE_ARRAY);
-    assert_eq!(rt; bytes.len(), 213);
-    answers(&rt, &asked, &bytes, MANY, 1, yes(89, 1));
-    answers(&rt, &asked, &bytes, MANY, 0, Err(Fault::TooManyNamed));
+    check_table(&rt, SHUFFLED);
 }
 
-#[test]
-fn references_that_are_refused(rt: HostRuntime) {
-    let asked = ask(&rt, PAWN_ON_D3, "2.5", "");
-    let unnamed = shuffle(&rt, &asked, 1, &TO_THE_ARRAY);
-    answers(&rt, &asked, &unnamed, MANY, 9, Err(Fault::RefUnknown));
-    let unknown = shuffle(&rt, &asked, 5, &[2, 3, 2, 3, 2, 3, 2, 3, 3, 0, 0, 0, 1]);
-    answers(&rt, &asked, &unknown, MANY, 9, Err(Fault::RefUnknown));
-    let differs = shuffle(&rt, &asked, 5, &EARLIER);
-    answers(&rt, &asked, &differs, MANY, 9, Err(Fault::RefDiffers));
-    let longer = ask(&rt, PAWN_ON_D3, "1.0", "");
-    let bytes = certified(&rt, &longer, &[5, 3, 0, 0, 0, 0]);
-    answers(&rt, &longer, &bytes, MANY, 9, Err(Fault::RefDiffers));
-}
-
-#[test]
-fn an_open_node_has_no_number(rt: HostRuntime) {
-    let asked = ask(&rt, PAWN_ON_D3, "1.0", "");
-    let bytes = certified(&rt, &asked, &[2, 3, 5, 3, 0, 0, 0, 0]);
-    answers(&rt, &asked, &bytes, MANY, 9, Err(Fault::RefUnknown));
-}
-
-// Writes the nodes along a game, cut beside it, up to the game's end, and answers how many cuts follow.
+// Appends the nodes along a game, cut beside it, up to the game's end; how many cuts follow.
 fn along<R: Abort + AllocGlobal>(rt: &R, bytes: &mut Vec<u8>, game: &[Move]) -> usize {
     let mut position = Position::array();
     let mut behind = 0usize;
     for m in game {
-        repeat(rt, bytes, &[1], 1);
+        append(rt, bytes, "01");
         let moves = legal_moves(rt.alloc(), &position).expect(rt, "memory");
-        let before = moves.as_slice().iter().filter(|other| **other < *m).count();
-        repeat(rt, bytes, CUT, before);
-        behind = behind.saturating_add(moves.len().saturating_sub(before).saturating_sub(1));
+        for other in &moves {
+            if *other < *m {
+                append(rt, bytes, "0203");
+            } else {
+                behind = behind.saturating_add(1);
+            }
+        }
+        behind = behind.saturating_sub(1);
         position = position.play(*m).expect(rt, "a legal move");
     }
     behind
 }
 
-// The answer to a certificate for the pawn on d3: these bytes, and then a tree that leads along a
-// game, cut beside it, to a node with bytes of its own.
-fn led<R: Abort + AllocGlobal>(
-    rt: &R,
-    length: &str,
-    first: &[u8],
-    game: &str,
-    last: &[u8],
-) -> Result<Proved, Fault> {
-    let leading = ask(rt, PAWN_ON_D3, "0", game);
-    let Some(game) = leading.games.game(0) else {
-        panic!(rt; "a game");
-    };
-    let asked = ask(rt, PAWN_ON_D3, length, "");
-    let mut bytes = certified(rt, &asked, first);
-    let behind = along(rt, &mut bytes, game);
-    repeat(rt, &mut bytes, last, 1);
-    repeat(rt, &mut bytes, CUT, behind);
-    answer(rt, &asked, &bytes, MANY, 9)
-}
-
-// Yes, with so many named nodes.
-pub(super) fn names(said: Result<Proved, Fault>, wanted: u32) -> bool {
-    matches!(said, Ok(Proved { records: _, named }) if named == wanted)
-}
-
-const KNIGHTS: &str = "1. Nf3 Nf6 2. Ng1 Ng8";
-
-// The rooks that went out and back have lost a right each, so the array does not come back.
-#[test]
-fn rights_tell_positions_apart(rt: HostRuntime) {
-    let first = [5, 2, 3, 2, 3, 2, 3, 2, 3, 2, 3, 2, 3, 2, 3];
-    let rooks = "1. Nf3 Nf6 2. Rg1 Rg8 3. Rh1 Rh8 4. Ng1 Ng8";
-    let knights = "1. Nf3 Nf6 2. Ng1 Ng8 3. Nf3 Nf6 4. Ng1 Ng8";
-    let to_the_array = [3, 0, 0, 0, 0];
-    assert!(rt; names(led(&rt, "4.5", &first, knights, &to_the_array), 1));
-    assert!(rt; names(led(&rt, "4.5", &first, rooks, CUT), 1));
-    let without = led(&rt, "4.5", &first, rooks, &to_the_array);
-    assert!(rt; without == Err(Fault::RefDiffers));
-}
-
-// The array is named in the trees of lengths 1 and 2, and comes back with two plies left.
-#[test]
-fn numbers_go_on_from_tree_to_tree(rt: HostRuntime) {
-    let mut first = Vec::new(rt.alloc());
-    repeat(&rt, &mut first, &[5], 2);
-    repeat(&rt, &mut first, CUT, 23);
-    assert!(rt; names(led(&rt, "3.0", &first, KNIGHTS, &[3, 0, 0, 0, 1]), 2));
-    let zero = led(&rt, "3.0", &first, KNIGHTS, &[3, 0, 0, 0, 0]);
-    assert!(rt; zero == Err(Fault::RefDiffers));
-    let two = led(&rt, "3.0", &first, KNIGHTS, &[3, 0, 0, 0, 2]);
-    assert!(rt; two == Err(Fault::RefUnknown));
-}
-
-// All nodes are expanded but for 122 cuts in the tree of length 3, which bring the reference after
-// 1. c3 a5 2. Na3, to the node after 1. Na3 a5 2. c3, to the last two bytes of the buffer.
-fn across<R: Abort + AllocGlobal>(rt: &R, asked: &Problem) -> Vec<u8> {
-    let mut bytes = pieced(rt, asked, &[(&[1], 23)]);
-    for _ in 0..6u8 {
-        repeat(rt, &mut bytes, &[1], 1);
-        repeat(rt, &mut bytes, &[2, 1], 20);
-    }
-    repeat(rt, &mut bytes, &[1, 2, 1, 2, 1], 1);
-    repeat(rt, &mut bytes, &[1], 299);
-    repeat(rt, &mut bytes, &[5], 1);
-    repeat(rt, &mut bytes, &[1], 3_483);
-    assert!(rt; bytes.len() == 4_094);
-    repeat(rt, &mut bytes, &[3, 0, 0, 0, 0], 1);
-    repeat(rt, &mut bytes, &[1], 5_830);
+// A certificate for the pawn on d3: these records, and then a tree that leads along a game, cut beside it, to a node
+// with records of its own.
+fn led<R: Abort + AllocGlobal>(rt: &R, row: &str) -> Vec<u8> {
+    let [length, first, game, last, ..] = fields(row);
+    let header = words(&format_args!("1 pawn-on-d3 {length}"));
+    let mut bytes = certificate(rt, header.as_str(), first);
+    let games = games_of(rt, game);
+    let behind = along(rt, &mut bytes, games.game(0).expect(rt, game));
+    append(rt, &mut bytes, last);
+    append(
+        rt,
+        &mut bytes,
+        words(&format_args!("0203*{behind}")).as_str(),
+    );
     bytes
 }
 
+// How many named nodes there are where the answer is yes, or the fault.
+pub(super) fn names(said: &Said) -> &str {
+    match said.as_str().split_once(' ') {
+        Some((_, named)) => named,
+        None => said.as_str(),
+    }
+}
+
+// The certificate of a row has so many named nodes, or is refused so.
+fn check_led<R: Abort + AllocGlobal>(rt: &R, row: &str) {
+    let (row, wanted) = halves(rt, row, " => ");
+    let [length, ..] = fields(row);
+    let asked = words(&format_args!("pawn-on-d3 | {length} |  |  | 9"));
+    let said = answer(
+        rt,
+        asked.as_str(),
+        &four_bounds(rt),
+        led(rt, row).as_slice(),
+    );
+    assert_eq!(rt; names(&said), wanted, "{row}");
+}
+
+// A length, the records before the game, the game, and those behind it. The rooks that went out and back have
+// lost a right each, so the array does not come back.
+const RIGHTS: &str =
+    "4.5 | 05 0203*7 | 1. Nf3 Nf6 2. Ng1 Ng8 3. Nf3 Nf6 4. Ng1 Ng8 | 0300000000 => 1
+4.5 | 05 0203*7 | 1. Nf3 Nf6 2. Rg1 Rg8 3. Rh1 Rh8 4. Ng1 Ng8 | 0203 => 1
+4.5 | 05 0203*7 | 1. Nf3 Nf6 2. Rg1 Rg8 3. Rh1 Rh8 4. Ng1 Ng8 | 0300000000 => RefDiffers";
+
+#[test]
+fn rights_tell_positions_apart(rt: HostRuntime) {
+    for row in RIGHTS.lines() {
+        check_led(&rt, row);
+    }
+}
+
+// The array is named in the trees of lengths 1 and 2, and comes back with two plies left.
+const NUMBERS: &str = "3.0 | 05*2 0203*23 | 1. Nf3 Nf6 2. Ng1 Ng8 | 0300000001 => 2
+3.0 | 05*2 0203*23 | 1. Nf3 Nf6 2. Ng1 Ng8 | 0300000000 => RefDiffers
+3.0 | 05*2 0203*23 | 1. Nf3 Nf6 2. Ng1 Ng8 | 0300000002 => RefUnknown";
+
+#[test]
+fn numbers_go_on_from_tree_to_tree(rt: HostRuntime) {
+    for row in NUMBERS.lines() {
+        check_led(&rt, row);
+    }
+}
+
+// All nodes are expanded but for 122 cuts in the tree of length 3, which bring the reference after 1. c3 a5 2.
+// Na3, to the node after 1. Na3 a5 2. c3, to the last two bytes of the buffer, of 4,096.
+const ACROSS: &str =
+    "recaptured | 2.0 | 1. e4 d5 2. exd5 Qxd5 |  | 1 | 1 recaptured 2.0 | 01*23 01 0201*20 01 0201*20 01 0201*20 01 0201*20 01 0201*20 01 0201*20 01 0201*2 01*299 05 01*3483 0300000000 01*5830 | 9929 => 9766 1
+recaptured | 2.0 | 1. e4 d5 2. exd5 Qxd5 |  | 1 | 1 recaptured 2.0 | 01*23 01 0201*20 01 0201*20 01 0201*20 01 0201*20 01 0201*20 01 0201*20 01 0201*2 01*299 05 01*3483 0300000001 01*5830 => RefUnknown";
+
 #[test]
 fn a_reference_across_the_end_of_the_buffer(rt: HostRuntime) {
-    let asked = ask(&rt, RECAPTURED, "2.0", "1. e4 d5 2. exd5 Qxd5");
-    let mut bytes = across(&rt, &asked);
-    answers(&rt, &asked, &bytes, MANY, 1, yes(9_766, 1));
-    put(&mut bytes, 4_098, 1);
-    answers(&rt, &asked, &bytes, MANY, 1, Err(Fault::RefUnknown));
+    check_table(&rt, ACROSS);
 }
 
 // The two games at which `mark` writes another record.
@@ -180,13 +141,13 @@ fn mark<R: Abort + AllocGlobal>(
     }
     let at = game.as_slice();
     if at == marks.refers {
-        return repeat(rt, bytes, &[3, 0, 0, 0, 0], 1);
+        return append(rt, bytes, "0300000000");
     }
     let leads = marks.named.starts_with(at) || marks.refers.starts_with(at);
     if !leads && Travel.excludes(diagram, position, left) {
-        return repeat(rt, bytes, &[2, 4], 1);
+        return append(rt, bytes, "0204");
     }
-    repeat(rt, bytes, &[if at == marks.named { 5 } else { 1 }], 1);
+    append(rt, bytes, if at == marks.named { "05" } else { "01" });
     let moves = legal_moves(rt.alloc(), position).expect(rt, "memory");
     for m in moves.as_slice() {
         if let Ok(next) = position.play(*m) {
@@ -197,84 +158,85 @@ fn mark<R: Abort + AllocGlobal>(
     }
 }
 
-/// The certificate of trees of all lengths up to the stated one, where in the last the node after one
-/// game is named and that after another refers to it.
-pub(super) fn marked_bytes<R: Abort + AllocGlobal>(
-    rt: &R,
-    asked: &Problem,
-    named: &str,
-    refers: &str,
-) -> Vec<u8> {
-    let named = ask(rt, PAWN_ON_D3, "0", named);
-    let refers = ask(rt, PAWN_ON_D3, "0", refers);
-    let (Some(named), Some(refers)) = (named.games.game(0), refers.games.game(0)) else {
-        panic!(rt; "two games");
+// The certificate of trees of all lengths up to the stated one, where in the last the node after one game is named
+// and that after another refers to it.
+fn marked<R: Abort + AllocGlobal>(rt: &R, header: &str, named: &str, refers: &str) -> Vec<u8> {
+    let named = games_of(rt, named);
+    let refers = games_of(rt, refers);
+    let marks = Marks {
+        named: named.game(0).expect(rt, header),
+        refers: refers.game(0).expect(rt, header),
     };
-    let marks = Marks { named, refers };
+    let mut bytes = headed(rt, header);
+    let (_, problem) = halves(rt, header, " ");
+    let (diagram, length) = halves(rt, problem, " ");
+    grow_marked(
+        rt,
+        &mut bytes,
+        &diagram_of(rt, diagram),
+        length_of(rt, length).plies(),
+        &marks,
+    );
+    bytes
+}
+
+// Writes those trees.
+fn grow_marked<R: Abort + AllocGlobal>(
+    rt: &R,
+    bytes: &mut Vec<u8>,
+    diagram: &Diagram,
+    plies: u8,
+    marks: &Marks<'_>,
+) {
     let nowhere = [Move::default()];
     let unmarked = Marks {
         named: &nowhere,
         refers: &nowhere,
     };
-    let mut bytes = certified(rt, asked, &[]);
     let mut game = Vec::new(rt.alloc());
     let array = Position::array();
-    let plies = asked.length.plies();
     for left in 1..=plies {
-        let at = if left == plies { &marks } else { &unmarked };
-        mark(rt, &mut bytes, &asked.diagram, at, &mut game, &array, left);
+        let at = if left == plies { marks } else { &unmarked };
+        mark(rt, bytes, diagram, at, &mut game, &array, left);
     }
-    bytes
 }
 
-// The answer to it.
-fn marked<R: Abort + AllocGlobal>(
-    rt: &R,
-    asked: &Problem,
-    named: &str,
-    refers: &str,
-) -> Result<Proved, Fault> {
-    answer(rt, asked, &marked_bytes(rt, asked, named, refers), MANY, 9)
+// A row of a diagram, a length, games, a version, the game whose node is named, and the game whose node refers to it:
+// how many named nodes there are, or how it is refused.
+pub(super) fn check_marked<R: Abort + AllocGlobal>(rt: &R, row: &str) {
+    let (row, wanted) = halves(rt, row, " => ");
+    let [diagram, length, games, version, named, refers, ..] = fields(row);
+    let header = words(&format_args!("{version} {diagram} {length}"));
+    let bytes = marked(rt, header.as_str(), named, refers);
+    let asked = words(&format_args!("{diagram} | {length} | {games} |  | 9"));
+    let said = answer(rt, asked.as_str(), &four_bounds(rt), bytes.as_slice());
+    assert_eq!(rt; names(&said), wanted, "{row}");
 }
 
-#[test]
-fn a_node_with_a_game_below_is_fertile(rt: HostRuntime) {
-    let asked = ask(
-        &rt,
-        "rnbqkbnr/ppp2ppp/3pp3/8/8/3PP3/PPP2PPP/RNBQKBNR",
-        "2.0",
-        "1. d3 d6 2. e3 e6\n1. d3 e6 2. e3 d6\n1. e3 d6 2. d3 e6\n1. e3 e6 2. d3 d6",
-    );
-    let said = marked(&rt, &asked, "1. d3 d6 2. e3", "1. e3 d6 2. d3");
-    assert!(rt; said == Err(Fault::RefFertile));
-}
+// A node with a game below is fertile. Passed squares tell positions apart.
+const MARKED: &str =
+    "four-pawns | 2.0 | 1. d3 d6 2. e3 e6/1. d3 e6 2. e3 d6/1. e3 d6 2. d3 e6/1. e3 e6 2. d3 d6 | 1 | 1. d3 d6 2. e3 | 1. e3 d6 2. d3 => RefFertile
+pawn-on-d4 | 1.5 | 1. d4 e6 2. e3/1. e3 e6 2. d4 | 1 | 1. d4 e6 | 1. e3 e6 => RefDiffers
+pawn-on-d3 | 2.0 |  | 1 | 1. d4 e6 2. e3 | 1. e3 e6 2. d4 => RefDiffers
+pawn-on-d3 | 2.0 |  | 1 | 1. d3 e6 2. e3 | 1. e3 e6 2. d3 => 1";
 
 #[test]
-fn passed_squares_tell_positions_apart(rt: HostRuntime) {
-    let asked = ask(
-        &rt,
-        "rnbqkbnr/pppp1ppp/4p3/8/3P4/4P3/PPP2PPP/RNBQKBNR",
-        "1.5",
-        "1. d4 e6 2. e3\n1. e3 e6 2. d4",
-    );
-    let said = marked(&rt, &asked, "1. d4 e6", "1. e3 e6");
-    assert!(rt; said == Err(Fault::RefDiffers));
-    let pawn = ask(&rt, PAWN_ON_D3, "2.0", "");
-    let passed = marked(&rt, &pawn, "1. d4 e6 2. e3", "1. e3 e6 2. d4");
-    assert!(rt; passed == Err(Fault::RefDiffers));
-    assert!(rt; names(marked(&rt, &pawn, "1. d3 e6 2. e3", "1. e3 e6 2. d3"), 1));
+fn nodes_with_a_game_and_passed_squares(rt: HostRuntime) {
+    for row in MARKED.lines() {
+        check_marked(&rt, row);
+    }
 }
 
 // How many of three checks of a certificate that names each of its 22 nodes are refused memory.
-fn refusals<R: Abort + AllocGlobal>(rt: &R, asked: &Problem, bytes: &[u8]) -> u8 {
+fn refusals<R: Abort + AllocGlobal>(rt: &R, diagram: &Diagram, games: &Games, bytes: &[u8]) -> u8 {
     let none: Vec<Box<dyn Bound>> = Vec::new(rt.alloc());
     let mut refused = 0u8;
     for _ in 0..3u8 {
         let said = check(
             rt.alloc(),
-            &asked.diagram,
-            asked.length,
-            &asked.games,
+            diagram,
+            length_of(rt, "1.0"),
+            games,
             &none,
             &mut FromRead::new(bytes),
             22,
@@ -283,7 +245,12 @@ fn refusals<R: Abort + AllocGlobal>(rt: &R, asked: &Problem, bytes: &[u8]) -> u8
         if said == Err(Fault::Memory) {
             refused = refused.saturating_add(1);
         } else {
-            assert!(rt; said == yes(22, 22));
+            assert!(rt;
+                said == Ok(Proved {
+                    records: 22,
+                    named: 22
+                })
+            );
         }
     }
     refused
@@ -293,18 +260,13 @@ fn refusals<R: Abort + AllocGlobal>(rt: &R, asked: &Problem, bytes: &[u8]) -> u8
 // answers that memory was refused, and the next ones say yes.
 #[test]
 fn refused_growths(rt: HostRuntime) {
-    let diagram = Diagram::read(AFTER_E4_E5).expect(&rt, "a diagram");
+    let diagram = diagram_of(&rt, "after-e4-e5");
     let bytes = named_expansions(&diagram);
     let mut refused = 0u8;
     for _ in 0..3u8 {
         match read_games(rt.alloc(), "1. e4 e5") {
             Ok(games) => {
-                let asked = Problem {
-                    diagram,
-                    length: Length::read("1.0").expect(&rt, "a length"),
-                    games,
-                };
-                refused = refused.saturating_add(refusals(&rt, &asked, &bytes));
+                refused = refused.saturating_add(refusals(&rt, &diagram, &games, &bytes));
             }
             Err(fault) => {
                 assert_eq!(rt; fault, GamesFault::Memory);

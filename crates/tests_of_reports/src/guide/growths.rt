@@ -4,6 +4,8 @@ use pg_report::RunFault;
 use pg_san::GamesFault;
 use pg_trial::{Counted, named_expansions};
 
+const AFTER_E4_E5: &str = "rnbqkbnr/pppp1ppp/8/4p3/4P3/8/PPPP1PPP/RNBQKBNR";
+
 // The answer to e4 e5 by a certificate of 22 named expansions, and how many bytes were written.
 fn named_run(rt: &impl Abort, alloc: Global) -> (Result<(), WhyFault>, usize) {
     let bytes = named_expansions(&diagram_of(rt, AFTER_E4_E5));

@@ -1,237 +1,89 @@
 use super::*;
-use pg_checker::Fault;
-use pg_fen::{FenFault, LengthFault};
-use pg_report::RunFault;
-use pg_san::{GamesFault, SanFault};
 use pg_trial::{FailsAt, OneByte};
 use std::io::ErrorKind;
 
-// The texts are refused so, and nothing is written.
-fn check_texts<R: Abort + AllocGlobal>(rt: &R, texts: [&str; 3], wanted: WhyFault) {
-    let [diagram, length, moves] = texts;
-    let asked = Asked {
-        diagram,
-        length,
-        moves,
-    };
-    check_refused(rt, expanded(rt).as_slice(), &asked, "", wanted);
-}
-
-// The text of the moves is refused so.
-fn check_moves<R: Abort + AllocGlobal>(rt: &R, moves: &str, ply: usize, cause: SanFault) {
-    let fault = GamesFault::At {
-        line: 1,
-        ply,
-        cause,
-    };
-    let texts = [AFTER_E4_E5, "1.0", moves];
-    check_texts(rt, texts, WhyFault::Run(RunFault::Games(fault)));
-}
+// Nothing is written.
+const TEXTS: &str =
+    " |  |  | 1 after-e4-e5 1.0 | 01*22 => Run(Diagram(Fields)): wrong number of fields
+after-e4-e5 | 1. |  | 1 after-e4-e5 1.0 | 01*22 => Run(Length(Shape)): bad length
+after-e4-e5 | 1.0 |  | 1 after-e4-e5 1.0 | 01*22 => Moves: not one line of moves
+after-e4-e5 | 1.0 |  $\t | 1 after-e4-e5 1.0 | 01*22 => Moves: not one line of moves
+after-e4-e5 | 1.0 | e4$d4 | 1 after-e4-e5 1.0 | 01*22 => Moves: not one line of moves
+after-e4-e5 | 1.0 | e4 e5 Ke3 | 1 after-e4-e5 1.0 | 01*22 => Run(Games(At { line: 1, ply: 3, cause: NoSuchMove })): line 1, ply 3: no such legal move
+after-e4-e5 | 1.0 | 1. e4, e5 | 1 after-e4-e5 1.0 | 01*22 => Run(Games(At { line: 1, ply: 1, cause: Shape })): line 1, ply 1: not a move";
 
 #[test]
 fn texts_that_are_refused(rt: HostRuntime) {
-    let fault = RunFault::Diagram(FenFault::Fields);
-    check_texts(&rt, ["", "", ""], WhyFault::Run(fault));
-    let fault = RunFault::Length(LengthFault::Shape);
-    check_texts(&rt, [AFTER_E4_E5, "1.", ""], WhyFault::Run(fault));
-    for moves in ["", " \n\t", "e4\nd4"] {
-        check_texts(&rt, [AFTER_E4_E5, "1.0", moves], WhyFault::Moves);
-    }
-    check_moves(&rt, "e4 e5 Ke3", 3, SanFault::NoSuchMove);
-    check_moves(&rt, "1. e4, e5", 1, SanFault::Shape);
+    check_table(&rt, TEXTS);
 }
 
-// The certificate is refused so, after these lines.
-fn check_certificate<R: Abort + AllocGlobal>(
-    rt: &R,
-    texts: [&str; 3],
-    records: &[u8],
-    lines: &str,
-    wanted: Fault,
-) {
-    let [diagram, length, moves] = texts;
-    let bytes = certificate(rt, 2, diagram, length, records);
-    let asked = Asked {
-        diagram,
-        length,
-        moves,
-    };
-    let fault = WhyFault::Run(RunFault::Check(wanted));
-    check_refused(rt, bytes.as_slice(), &asked, lines, fault);
-}
-
-// The bound with this code does not exclude the one move.
-fn check_cut<R: Abort + AllocGlobal>(rt: &R, code: u8) {
-    let lines = format!(in rt.alloc();
-        "at the start: cut by bound {code}, which is not seen to exclude\ncut {code} does not exclude\n"
-    ).expect(rt, "memory");
-    let wanted = Fault::CutFails(code);
-    check_certificate(
-        rt,
-        [AFTER_E4, "0.5", "-"],
-        &[2, code],
-        lines.as_str(),
-        wanted,
-    );
-}
+// Bounds that do not exclude the one move, one that is not known, and prices.
+const CUTS: &str =
+    "after-e4 | 0.5 | - | 2 after-e4 0.5 | 0201 => Run(Check(CutFails(1))): cut 1 does not exclude => at the start: cut by bound 1, which is not seen to exclude$cut 1 does not exclude$
+after-e4 | 0.5 | - | 2 after-e4 0.5 | 0202 => Run(Check(CutFails(2))): cut 2 does not exclude => at the start: cut by bound 2, which is not seen to exclude$cut 2 does not exclude$
+after-e4 | 0.5 | - | 2 after-e4 0.5 | 0203 => Run(Check(CutFails(3))): cut 3 does not exclude => at the start: cut by bound 3, which is not seen to exclude$cut 3 does not exclude$
+after-e4 | 0.5 | - | 2 after-e4 0.5 | 0204 => Run(Check(CutFails(4))): cut 4 does not exclude => at the start: cut by bound 4, which is not seen to exclude$cut 4 does not exclude$
+after-e4 | 0.5 | d4 | 2 after-e4 0.5 | 0209 => Run(Check(UnknownBound(9))): unknown bound 9 => at the start: cut by bound 9, which is not seen to exclude; the line goes on$unknown bound 9$
+after-e4 | 0.5 | - | 2 after-e4 0.5 | 060400010000 => Run(Check(CutFails(4))): cut 4 does not exclude => at the start: cut by bound 4, which is not seen to exclude$cut 4 does not exclude$";
 
 #[test]
 fn cuts_that_do_not_hold(rt: HostRuntime) {
-    for code in 1..5u8 {
-        check_cut(&rt, code);
-    }
-    check_certificate(
-        &rt,
-        [AFTER_E4, "0.5", "d4"],
-        &[2, 9],
-        "at the start: cut by bound 9, which is not seen to exclude; the line goes on\nunknown bound 9\n",
-        Fault::UnknownBound(9),
-    );
-    check_certificate(
-        &rt,
-        [AFTER_E4, "0.5", "-"],
-        &[6, 4, 0, 1, 0, 0],
-        "at the start: cut by bound 4, which is not seen to exclude\ncut 4 does not exclude\n",
-        Fault::CutFails(4),
-    );
+    check_table(&rt, CUTS);
 }
 
-#[test]
-fn references_to_no_node(rt: HostRuntime) {
-    check_certificate(
-        &rt,
-        [AFTER_E4, "0.5", "-"],
-        &[3, 0, 0, 0, 7],
-        "at the start: a reference to no closed node\nreference to no closed node\n",
-        Fault::RefUnknown,
-    );
-}
-
-// The node after Na3 refers to the root of the tree of one ply.
-fn check_reference<R: Abort + AllocGlobal>(
-    rt: &R,
-    diagram: &str,
-    below: &str,
-    ends: &str,
-    wanted: Fault,
-) {
-    let mut records = [1; 26];
-    records[..7].copy_from_slice(&[5, 1, 3, 0, 0, 0, 0]);
-    let lines = format!(in rt.alloc();
-        "at the start: 19 of 20 moves lead on; cut 1 by reference; {below}after 1. Na3: as at the start, which is another position, below which {ends}"
-    ).expect(rt, "memory");
-    check_certificate(
-        rt,
-        [diagram, "1.0", "Na3"],
-        &records,
-        lines.as_str(),
-        wanted,
-    );
-}
+// To no node; and after Na3 to the root of the tree of one ply.
+const REFERENCES: &str =
+    "after-e4 | 0.5 | - | 2 after-e4 0.5 | 0300000007 => Run(Check(RefUnknown)): reference to no closed node => at the start: a reference to no closed node$reference to no closed node$
+after-e4-e5 | 1.0 | Na3 | 2 after-e4-e5 1.0 | 0501 0300000000 01*19 => Run(Check(RefDiffers)): reference to another position => at the start: 19 of 20 moves lead on; cut 1 by reference; 1 game below$after 1. Na3: as at the start, which is another position, below which no game ends on the diagram$reference to another position$
+after-e4 | 1.0 | Na3 | 2 after-e4 1.0 | 0501 0300000000 01*19 => Run(Check(Shorter(1))): a game of 1 plies reaches the diagram => at the start: 19 of 20 moves lead on; cut 1 by reference; no game below$after 1. Na3: as at the start, which is another position, below which a game ends on the diagram$a game of 1 plies reaches the diagram$";
 
 #[test]
 fn references_that_do_not_hold(rt: HostRuntime) {
-    check_reference(
-        &rt,
-        AFTER_E4_E5,
-        "1 game below\n",
-        "no game ends on the diagram\nreference to another position\n",
-        Fault::RefDiffers,
-    );
-    check_reference(
-        &rt,
-        AFTER_E4,
-        "no game below\n",
-        "a game ends on the diagram\na game of 1 plies reaches the diagram\n",
-        Fault::Shorter(1),
-    );
+    check_table(&rt, REFERENCES);
 }
 
-// Records that are no certificate of e4.
-fn check_records<R: Abort + AllocGlobal>(rt: &R, records: &[u8], fault: Fault, line: &str) {
-    check_certificate(rt, [AFTER_E4, "0.5", "e4"], records, line, fault);
-}
+// What cannot be walked to its end is not explained: records that are no certificate of e4, and the header of
+// another problem, of e4 in two plies.
+const WRONG: &str =
+    "after-e4 | 0.5 | e4 | 2 after-e4 0.5 |  => Run(Check(Truncated)): truncated certificate => truncated certificate$
+after-e4 | 0.5 | e4 | 2 after-e4 0.5 | 02 => Run(Check(Truncated)): truncated certificate => truncated certificate$
+after-e4 | 0.5 | e4 | 2 after-e4 0.5 | 0101 => Run(Check(Trailing)): bytes after the certificate => bytes after the certificate$
+after-e4 | 0.5 | e4 | 2 after-e4 0.5 | 04 => Run(Check(UnknownRecord(4))): unknown record byte 4 => unknown record byte 4$
+after-e4 | 0.5 | - | 1 after-e4 1.0 | 01*22 => Run(Check(OtherLength)): certificate for another length => certificate for another length$
+after-e4-e5 | 1.0 | - | 1 after-e4 1.0 | 01*22 => Run(Check(OtherDiagram)): certificate for another diagram => certificate for another diagram$";
 
-// The header is that of another problem: of e4, in two plies.
-fn check_header<R: Abort + AllocGlobal>(
-    rt: &R,
-    diagram: &str,
-    length: &str,
-    fault: Fault,
-    line: &str,
-) {
-    let bytes = certificate(rt, 1, AFTER_E4, "1.0", &[1; 22]);
-    let asked = Asked {
-        diagram,
-        length,
-        moves: "-",
-    };
-    let fault = WhyFault::Run(RunFault::Check(fault));
-    check_refused(rt, bytes.as_slice(), &asked, line, fault);
-}
-
-// What cannot be walked to its end is not explained.
 #[test]
 fn certificates_that_are_refused(rt: HostRuntime) {
-    check_records(&rt, &[], Fault::Truncated, "truncated certificate\n");
-    check_records(&rt, &[2], Fault::Truncated, "truncated certificate\n");
-    check_records(
-        &rt,
-        &[1, 1],
-        Fault::Trailing,
-        "bytes after the certificate\n",
-    );
-    check_records(
-        &rt,
-        &[4],
-        Fault::UnknownRecord(4),
-        "unknown record byte 4\n",
-    );
-    check_header(
-        &rt,
-        AFTER_E4,
-        "0.5",
-        Fault::OtherLength,
-        "certificate for another length\n",
-    );
-    check_header(
-        &rt,
-        AFTER_E4_E5,
-        "1.0",
-        Fault::OtherDiagram,
-        "certificate for another diagram\n",
-    );
+    check_table(&rt, WRONG);
 }
+
+const EXPANDED: &str = "after-e4-e5 | 1.0 | e4 d5 | 1 after-e4-e5 1.0 | 01*22";
 
 // How many writes the explanation of e4 d5 takes: four for the first line; seven and nine for the two
 // others, of which the moves take three and five; one for the verdict.
 const WRITES: u64 = 21;
 
 // This is answered where one write fails, after so many calls.
-fn check_write<R: Abort + AllocGlobal>(rt: &R, at: u64, wanted: &Result<(), WhyFault>, calls: u64) {
-    let bytes = expanded(rt);
-    let asked = Asked {
-        diagram: AFTER_E4_E5,
-        length: "1.0",
-        moves: "e4 d5",
-    };
+fn check_write<R: Abort + AllocGlobal>(rt: &R, bytes: &[u8], at: u64, answer: &str, calls: u64) {
     let mut out = ToWrite::new(FailsAt::new(Vec::new(rt.alloc()), at, ErrorKind::Other));
-    check_bytes(rt, &asked, bytes.as_slice(), &mut out, wanted);
-    assert_eq!(rt; out.into_inner().calls(), calls);
+    let said = explain_bytes(rt, EXPANDED, bytes, &mut out);
+    assert_eq!(rt; said.as_str(), answer, "{at}");
+    assert_eq!(rt; out.into_inner().calls(), calls, "{at}");
 }
 
 // Each write that fails is the last one.
 #[test]
 fn writes_that_fail(rt: HostRuntime) {
-    check_write(&rt, MANY, &Ok(()), WRITES);
+    let bytes = bytes_of(&rt, EXPANDED);
+    check_write(&rt, bytes.as_slice(), MANY, "()", WRITES);
     for at in 0..WRITES {
-        let wanted = Err(WhyFault::Run(RunFault::Write));
-        check_write(&rt, at, &wanted, at.saturating_add(1));
+        let calls = at.saturating_add(1);
+        check_write(&rt, bytes.as_slice(), at, "Run(Write): write fault", calls);
     }
 }
 
 // The call at which a reading fails, if it is the one.
-fn call_of(reading: usize, failing: usize) -> u64 {
+fn call_of(reading: u8, failing: u8) -> u64 {
     if reading == failing { 1 } else { MANY }
 }
 
@@ -242,49 +94,29 @@ fn failing(bytes: &[u8], at: u64) -> FromRead<FailsAt<OneByte<&[u8]>>> {
 
 // This is answered where the first, the second or the third reading fails at its second call; how much
 // is written.
-fn read<R: Abort + AllocGlobal>(
-    rt: &R,
-    moves: &str,
-    bytes: &[u8],
-    reading: usize,
-    wanted: &Result<(), WhyFault>,
-) -> usize {
-    let asked = Asked {
-        diagram: AFTER_E4_E5,
-        length: "1.0",
-        moves,
-    };
-    let mut walked = failing(bytes, call_of(0, reading));
-    let mut checked = failing(bytes, call_of(1, reading));
-    let mut cited = failing(bytes, call_of(2, reading));
+fn read<R: Abort + AllocGlobal>(rt: &R, asked: &str, reading: u8, answer: &str) -> usize {
+    let bytes = bytes_of(rt, asked);
+    let mut walked = failing(bytes.as_slice(), call_of(0, reading));
+    let mut checked = failing(bytes.as_slice(), call_of(1, reading));
+    let mut cited = failing(bytes.as_slice(), call_of(2, reading));
     let mut out = ToWrite::new(Vec::new(rt.alloc()));
-    check_answer(
-        rt,
-        &asked,
-        &mut walked,
-        &mut checked,
-        &mut cited,
-        &mut out,
-        wanted,
-    );
+    let said = explain(rt, asked, &mut walked, &mut checked, &mut cited, &mut out);
+    assert_eq!(rt; said.as_str(), answer, "{asked}: {reading}");
     out.into_inner().len()
-}
-
-// The certificate cannot be read, and nothing is written.
-fn check_unread<R: Abort + AllocGlobal>(rt: &R, moves: &str, bytes: &[u8], reading: usize) {
-    let wanted = Err(WhyFault::Run(RunFault::Check(Fault::Read)));
-    assert_eq!(rt; read(rt, moves, bytes, reading, &wanted), 0);
 }
 
 // A reading that fails ends the explanation before it is written; the third is made for a reference
 // alone.
 #[test]
 fn readings_that_fail(rt: HostRuntime) {
-    let bytes = expanded(&rt);
-    check_unread(&rt, "e4", bytes.as_slice(), 0);
-    check_unread(&rt, "e4", bytes.as_slice(), 1);
-    let length = read(&rt, "e4", bytes.as_slice(), 2, &Ok(()));
-    assert!(rt; length > RIGHT.len());
-    let bytes = certificate(&rt, 1, AFTER_E4_E5, "1.0", &[1, 3, 0, 0, 0, 0]);
-    check_unread(&rt, "-", bytes.as_slice(), 2);
+    let node = "after-e4-e5 | 1.0 | e4 | 1 after-e4-e5 1.0 | 01*22";
+    let reference = "after-e4-e5 | 1.0 | - | 1 after-e4-e5 1.0 | 01 0300000000";
+    for (asked, reading) in [(node, 0), (node, 1), (reference, 2)] {
+        assert_eq!(rt;
+            read(&rt, asked, reading, "Run(Check(Read)): read fault"),
+            0,
+            "{asked}"
+        );
+    }
+    assert!(rt; read(&rt, node, 2, "()") > "the certificate is right\n".len());
 }

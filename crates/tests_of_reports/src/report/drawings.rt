@@ -32,37 +32,26 @@ fn schweig_drawn(rt: &impl Abort) -> &'static str {
 }
 
 // The board of a diagram.
-fn check_board<R: Abort + AllocGlobal>(rt: &R, diagram: &str, wanted: &str) {
-    let mut out = ToWrite::new(Vec::new(rt.alloc()));
-    let answer = write_board(&diagram_of(rt, diagram), &mut out);
-    answer.expect(rt, "written");
-    check_output(rt, out, wanted);
+fn check_board<R: Abort + AllocGlobal>(rt: &R, asked: &str, drawn: &str) {
+    check_both(rt, asked, b"", "()", drawn.as_bytes());
 }
 
 #[test]
 fn drawn_boards(rt: HostRuntime) {
-    let [fools_mate, _, _] = FOOLS_MATE;
-    check_board(&rt, SCHWEIG, schweig_drawn(&rt));
-    check_board(&rt, fools_mate, MATE_DRAWN);
-    check_board(&rt, "4k3/8/8/8/8/8/8/K7", KINGS_DRAWN);
-}
-
-// The write with this number fails, and is not tried again.
-fn check_write<R: Abort + AllocGlobal>(rt: &R, at: u64) {
-    let mut out = failing_sink(rt.alloc(), at);
-    let answer = write_board(&diagram_of(rt, SCHWEIG), &mut out);
-    assert!(rt; answer == Err(WriteFault::Write), "{at}");
-    check_failed(rt, out, at, schweig_drawn(rt));
+    check_board(&rt, "board | schweig", schweig_drawn(&rt));
+    check_board(&rt, "board | fools-mate", MATE_DRAWN);
+    check_board(&rt, "board | 4k3/8/8/8/8/8/8/K7", KINGS_DRAWN);
 }
 
 // Each write fails in turn, and is not tried again.
 #[test]
 fn writes_of_a_board_that_fail(rt: HostRuntime) {
-    for at in 0..WRITES {
-        check_write(&rt, at);
-    }
-    let mut out = failing_sink(rt.alloc(), WRITES);
-    let answer = write_board(&diagram_of(&rt, SCHWEIG), &mut out);
-    answer.expect(&rt, "written");
-    check_written(&rt, out, WRITES, schweig_drawn(&rt));
+    check_writes(
+        &rt,
+        "board | schweig",
+        b"",
+        WRITES,
+        "()",
+        schweig_drawn(&rt),
+    );
 }

@@ -1,28 +1,44 @@
 use super::*;
 
-const START: &str = "rnbqkbnr/pppppppp/8/8/8/8/PPPPPPPP/RNBQKBNR w KQkq - 0 1";
-
-const MIDDLE_GAME: &str = "r3k2r/p1ppqpb1/bn2pnp1/3PN3/1p2P3/2N2Q1p/PPPBBPPP/R3K2R w KQkq - 0 1";
-
-// What is written for a number of plies.
-fn check_count<R: Abort + AllocGlobal>(rt: &R, fen: &str, plies: u8, wanted: &str) {
-    let mut out = ToWrite::new(Vec::new(rt.alloc()));
-    let answer = run_count(rt.alloc(), fen, plies, &mut out);
-    answer.expect(rt, fen);
-    check_output(rt, out, wanted);
-}
+const COUNTS: &str = "count | start | 0 => () => 1$
+count | start | 1 => () => 20$
+count | start | 2 => () => 400$
+count | start | 3 => () => 8902$
+count | start | 4 => () => 197281$
+count | middle-game | 2 => () => 2039$
+count | endgame | 3 => () => 2812$
+count | mated | 0 => () => 1$
+count | mated | 3 => () => 0$";
 
 #[test]
 fn counts(rt: HostRuntime) {
-    check_count(&rt, START, 0, "1\n");
-    check_count(&rt, START, 1, "20\n");
-    check_count(&rt, START, 2, "400\n");
-    check_count(&rt, START, 3, "8902\n");
-    check_count(&rt, START, 4, "197281\n");
-    check_count(&rt, MIDDLE_GAME, 2, "2039\n");
-    check_count(&rt, ENDGAME, 3, "2812\n");
-    check_count(&rt, MATED, 0, "1\n");
-    check_count(&rt, MATED, 3, "0\n");
+    check_table(&rt, COUNTS);
+}
+
+// Where several things are wrong, the text comes first.
+const REFUSED: &str = "count | start | 9 => Count(TooDeep): more than 8 plies
+count | mated | 255 => Count(TooDeep): more than 8 plies
+count |  | 9 => Position(Fields): wrong number of fields
+count | 4k3/8/8/8/8/8/8/4K3 w KK - 0 1 | 1 => Position(Rights): bad castling rights
+count | 4k3/8/8/8/8/8/8/4K3 w K - 0 1 | 0 => Position(Invalid(Rights)): impossible position: a castling right without its king and rook at home";
+
+#[test]
+fn counts_that_are_refused(rt: HostRuntime) {
+    check_table(&rt, REFUSED);
+}
+
+// The write with this number fails, after so many bytes.
+fn check_length<R: Abort + AllocGlobal>(rt: &R, at: u64, length: usize) {
+    let writer = written(rt, "count | endgame | 3", b"", at, "Write: write fault");
+    assert_eq!(rt; writer.into_inner().len(), length);
+}
+
+// The number fails to be written, and then the line feed.
+#[test]
+fn writes_of_a_count_that_fail(rt: HostRuntime) {
+    check_row_writes(&rt, "count | endgame | 3 => () => 2812$", 2);
+    check_length(&rt, 0, 0);
+    check_length(&rt, 1, 4);
 }
 
 // Adds up what it is told.
@@ -42,59 +58,8 @@ impl Progress for Told {
 fn a_count_is_watched(rt: HostRuntime) {
     let mut told = Told { games: 0 };
     let mut out = ToWrite::new(Vec::new(rt.alloc()));
-    let answer = run_count_watched(rt.alloc(), START, 4, &mut out, &mut told);
-    answer.expect(&rt, START);
-    check_output(&rt, out, "197281\n");
-    assert_eq!(rt; told.games, 197_281);
-}
-
-// The refusal is told so, after which nothing was written.
-fn check_refused<R: Abort + AllocGlobal>(rt: &R, fen: &str, plies: u8, wanted: &str) {
-    let mut out = failing_sink(rt.alloc(), MANY);
-    let answer = run_count(rt.alloc(), fen, plies, &mut out);
-    check_text(rt, &answer.expect_err(rt, "a refusal"), wanted);
-    check_unwritten(rt, out);
-}
-
-// Where several things are wrong, the text comes first.
-#[test]
-fn counts_that_are_refused(rt: HostRuntime) {
-    check_refused(&rt, START, 9, "more than 8 plies");
-    check_refused(&rt, MATED, 255, "more than 8 plies");
-    check_refused(&rt, "", 9, "wrong number of fields");
-    check_refused(
-        &rt,
-        "4k3/8/8/8/8/8/8/4K3 w KK - 0 1",
-        1,
-        "bad castling rights",
-    );
-    check_refused(
-        &rt,
-        "4k3/8/8/8/8/8/8/4K3 w K - 0 1",
-        0,
-        "impossible position: a castling right without its king and rook at home",
-    );
-}
-
-// The write with this number fails, after so many bytes.
-fn check_write<R: Abort + AllocGlobal>(rt: &R, at: u64, length: usize) {
-    let mut out = failing_sink(rt.alloc(), at);
-    let answer = run_count_watched(rt.alloc(), ENDGAME, 3, &mut out, &mut Unwatched);
-    assert!(rt; answer == Err(CountRunFault::Write), "{at}");
-    assert_eq!(rt; written_before(rt, out, at).len(), length);
-}
-
-// The number fails to be written, and then the line feed.
-#[test]
-fn writes_of_a_count_that_fail(rt: HostRuntime) {
-    check_write(&rt, 0, 0);
-    check_write(&rt, 1, 4);
-}
-
-// A position without a legal move: not one write.
-#[test]
-fn no_moves_no_writes(rt: HostRuntime) {
-    let mut out = failing_sink(rt.alloc(), 0);
-    run_moves(rt.alloc(), MATED, &mut out).expect(&rt, "written");
-    check_unwritten(&rt, out);
+    let answer = run_count_watched(rt.alloc(), ENDGAME, 4, &mut out, &mut told);
+    answer.expect(&rt, ENDGAME);
+    assert_eq!(rt; out.into_inner().as_slice(), b"43238\n".as_slice());
+    assert_eq!(rt; told.games, 43_238);
 }

@@ -4,16 +4,15 @@ use std::fmt::Debug;
 
 // The answer to e4 e5 and a certificate of 22 named expansions, and how many bytes were written.
 fn named_run(rt: &impl Abort, alloc: Global) -> (Result<Verdict, RunFault>, usize) {
-    let [text, length, games] = E4_E5;
-    let bytes = named_expansions(&diagram_of(rt, text));
+    let bytes = named_expansions(&diagram_of(rt, AFTER_E4_E5));
     let bounds: Vec<Box<dyn Bound>> = Vec::new(alloc);
     let mut source = FromRead::new(bytes.as_slice());
     let mut out = ToWrite::new(Counted::new());
     let answer = run_check(
         alloc,
-        text,
-        length,
-        games,
+        AFTER_E4_E5,
+        "1.0",
+        "1. e4 e5",
         &bounds,
         &mut source,
         &mut out,
@@ -22,6 +21,9 @@ fn named_run(rt: &impl Abort, alloc: Global) -> (Result<Verdict, RunFault>, usiz
     );
     (answer, out.into_inner().bytes())
 }
+
+// How many bytes the report has: four lines and the game's.
+const REPORT: usize = 56 + 11 + 8 + 9 + 6;
 
 // All was written, or nothing, and want of memory is told.
 fn check_told<E: PartialEq + Debug + Drop>(
@@ -49,7 +51,7 @@ fn refused_growths_of_a_check(rt: HostRuntime) {
         let (answer, bytes) = named_run(&rt, rt.alloc());
         match answer {
             Ok(verdict) => {
-                assert_eq!(rt; (verdict, bytes), (Verdict::Sound, E4_E5_REPORT.len()));
+                assert_eq!(rt; (verdict, bytes), (Verdict::Sound, REPORT));
             }
             Err(fault) => {
                 let games = fault == RunFault::Games(GamesFault::Memory);

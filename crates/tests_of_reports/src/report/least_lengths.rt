@@ -4,34 +4,37 @@ use pg_moves::legal_moves;
 use pg_position::Position;
 use pg_trial::Never;
 
-// The least length that these bounds leave.
+// The least number of plies that these bounds leave.
 fn least_by<R: Abort + AllocGlobal>(
     rt: &R,
     diagram: &Diagram,
     bounds: &[Box<dyn Bound>],
-) -> Option<Length> {
-    shortest(rt.alloc(), diagram, bounds).expect(rt, "memory")
+) -> Option<u8> {
+    match shortest(rt.alloc(), diagram, bounds).expect(rt, "memory") {
+        Some(length) => Some(length.plies()),
+        None => None,
+    }
 }
 
 // The least number of plies that no bound of the program excludes.
 fn least<R: Abort + AllocGlobal>(rt: &R, diagram: &Diagram) -> Option<u8> {
-    least_by(rt, diagram, &four_bounds(rt)).map(|length| length.plies())
-}
-
-// The least number of plies for a diagram.
-fn check_least<R: Abort + AllocGlobal>(rt: &R, diagram: &str, plies: Option<u8>) {
-    let found = least(rt, &diagram_of(rt, diagram));
-    assert_eq!(rt; found, plies, "{diagram}");
+    least_by(rt, diagram, &four_bounds(rt))
 }
 
 // The array, one move of each side, and two diagrams that no game reaches: a second bishop on light
 // squares beside eight pawns, and two pawns on a file with nothing captured.
+const LEAST: &str = "array | 0
+after-e4-e5 | 2
+rnbqkbnr/pppppppp/8/8/8/3B4/PPPPPPPP/RN1QKBNR | none
+rnbqkbnr/pppppppp/8/8/8/3P4/PPPP1PPP/RNBQKBNR | none";
+
 #[test]
 fn least_lengths(rt: HostRuntime) {
-    check_least(&rt, ARRAY, Some(0));
-    check_least(&rt, AFTER_E4_E5, Some(2));
-    check_least(&rt, "rnbqkbnr/pppppppp/8/8/8/3B4/PPPPPPPP/RN1QKBNR", None);
-    check_least(&rt, "rnbqkbnr/pppppppp/8/8/8/3P4/PPPP1PPP/RNBQKBNR", None);
+    for row in LEAST.lines() {
+        let [diagram, plies, ..] = fields(row);
+        let found = least(&rt, &diagram_of(&rt, diagram));
+        assert_eq!(rt; found, plies.parse().ok(), "{row}");
+    }
 }
 
 // Adds the positions one ply after this one.
@@ -52,9 +55,18 @@ fn one_ply_on<R: Abort + AllocGlobal>(rt: &R, positions: &[Position]) -> Vec<Pos
     all
 }
 
-// The least length of each position is so many plies.
-fn check_all<R: Abort + AllocGlobal>(rt: &R, positions: &[Position], plies: u8) {
-    for position in positions {
+// The positions so many plies after the array.
+fn after<R: Abort + AllocGlobal>(rt: &R, plies: u8) -> Vec<Position> {
+    let mut positions = one_ply_on(rt, &[Position::array()]);
+    for _ in 1..plies {
+        positions = one_ply_on(rt, positions.as_slice());
+    }
+    positions
+}
+
+// The least length of each position after so many plies is just that.
+fn check_all<R: Abort + AllocGlobal>(rt: &R, plies: u8) {
+    for position in &after(rt, plies) {
         assert_eq!(rt; least(rt, &Diagram::of(position)), Some(plies));
     }
 }
@@ -62,18 +74,16 @@ fn check_all<R: Abort + AllocGlobal>(rt: &R, positions: &[Position], plies: u8) 
 // After one move of each side there is no shorter game, and each bound lets the game pass.
 #[test]
 fn least_lengths_after_two_plies(rt: HostRuntime) {
-    let first = one_ply_on(&rt, &[Position::array()]);
-    check_all(&rt, first.as_slice(), 1);
-    let second = one_ply_on(&rt, first.as_slice());
-    check_all(&rt, second.as_slice(), 2);
+    check_all(&rt, 1);
+    check_all(&rt, 2);
 }
 
-// The placements of positions.
-fn placements<R: Abort + AllocGlobal>(rt: &R, positions: &[Position]) -> Vec<[u8; 32]> {
+// The placements after so many plies.
+fn placements<R: Abort + AllocGlobal>(rt: &R, plies: u8) -> Vec<[u8; 32]> {
     let mut all = Vec::new(rt.alloc());
-    for position in positions {
-        all.push(Diagram::of(position).packed())
-            .expect(rt, "memory");
+    for position in &after(rt, plies) {
+        let packed = Diagram::of(position).packed();
+        all.push(packed).expect(rt, "memory");
     }
     all
 }
@@ -92,54 +102,46 @@ fn is_exact<R: Abort + AllocGlobal>(rt: &R, diagram: &Diagram, earlier: &[[u8; 3
 // least length is never above that, and is just that for most.
 #[test]
 fn least_lengths_after_three_plies(rt: HostRuntime) {
-    let first = one_ply_on(&rt, &[Position::array()]);
-    let second = one_ply_on(&rt, first.as_slice());
-    let third = one_ply_on(&rt, second.as_slice());
-    let earlier = placements(&rt, second.as_slice());
+    let earlier = placements(&rt, 2);
+    let mut all = 0u32;
     let mut exact = 0u32;
-    for position in &third {
-        if is_exact(&rt, &Diagram::of(position), earlier.as_slice()) {
-            exact = exact.saturating_add(1);
-        }
+    for position in &after(&rt, 3) {
+        let is_exact = is_exact(&rt, &Diagram::of(position), earlier.as_slice());
+        all = all.saturating_add(1);
+        exact = exact.saturating_add(u32::from(is_exact));
     }
-    assert_eq!(rt; (third.len(), exact), (8902, 8822));
+    assert_eq!(rt; (all, exact), (8902, 8822));
 }
 
+// The least number of plies by prices alone, and with the four bounds; and that of a game.
+const BY_PRICES: &str = "schweig | 2 | 3 | 8
+rnbqkb1r/ppp2ppp/8/8/8/8/PPPPPPPP/RNBQKB1R | 0 | 5 | 8
+r1bqnNnr/pppkpp1p/7R/3p4/8/8/PPPPPPP1/RNBQKBN1 | 11 | 11 | 11
+1nbqkbnr/p1ppppp1/1N6/8/8/6n1/1PPPPP1P/RNBQKBN1 | 12 | 12 | 12";
+
 // By prices alone, and with the four bounds.
-fn check_prices<R: Abort + AllocGlobal>(rt: &R, text: &str, alone: u8, all: u8, plies: u8) {
-    let diagram = diagram_of(rt, text);
-    let found = least_by(rt, &diagram, &[]);
-    assert_eq!(rt; found, Length::from_plies(alone));
-    assert_eq!(rt; least(rt, &diagram), Some(all));
-    assert!(rt; all <= plies);
+fn check_prices<R: Abort + AllocGlobal>(rt: &R, row: &str) {
+    let [diagram, alone, all, plies, ..] = fields(row);
+    let diagram = diagram_of(rt, diagram);
+    let found = least(rt, &diagram);
+    assert_eq!(rt; least_by(rt, &diagram, &[]), alone.parse().ok(), "{row}");
+    assert_eq!(rt; found, all.parse().ok(), "{row}");
+    assert!(rt; found <= plies.parse().ok(), "{row}");
 }
 
 // Prices alone, and with the four bounds: they say more where several men would come from one square, as
 // the nearest man of each, and less where captures are owed. Each diagram has a game, of so many plies.
 #[test]
 fn least_lengths_by_prices(rt: HostRuntime) {
-    check_prices(&rt, SCHWEIG, 2, 3, 8);
-    check_prices(&rt, "rnbqkb1r/ppp2ppp/8/8/8/8/PPPPPPPP/RNBQKB1R", 0, 5, 8);
-    check_prices(
-        &rt,
-        "r1bqnNnr/pppkpp1p/7R/3p4/8/8/PPPPPPP1/RNBQKBN1",
-        11,
-        11,
-        11,
-    );
-    check_prices(
-        &rt,
-        "1nbqkbnr/p1ppppp1/1N6/8/8/6n1/1PPPPP1P/RNBQKBN1",
-        12,
-        12,
-        12,
-    );
+    for row in BY_PRICES.lines() {
+        check_prices(&rt, row);
+    }
 }
 
 // A bound that excludes nothing changes nothing.
 #[test]
 fn no_bound_excludes(rt: HostRuntime) {
-    let diagram = diagram_of(&rt, SCHWEIG);
+    let diagram = diagram_of(&rt, "schweig");
     let mut bounds: Vec<Box<dyn Bound>> = Vec::new(rt.alloc());
     let alone = least_by(&rt, &diagram, &bounds);
     add(&rt, &mut bounds, boxed(&rt, Never::new(9)));

@@ -1,20 +1,20 @@
 use super::*;
 use pg_board::Square;
-use pg_position::Move;
-use pg_san::read_games;
 
 // The square with an index.
-fn square(rt: &impl Abort, index: u8) -> Square {
+fn square(rt: &impl Abort, index: &str) -> Square {
+    let index = index.parse().expect(rt, index);
     Square::from_index(index).expect(rt, "a square")
 }
 
 // The moves from square to square, by the indexes of the squares.
-fn moves_of<R: Abort + AllocGlobal>(rt: &R, squares: &[(u8, u8)]) -> Vec<Move> {
+fn moves_of<R: Abort + AllocGlobal>(rt: &R, text: &str) -> Vec<Move> {
     let mut moves = Vec::new(rt.alloc());
-    for (from, to) in squares {
+    for word in text.split_whitespace() {
+        let (from, to) = halves(rt, word, "-");
         let m = Move {
-            from: square(rt, *from),
-            to: square(rt, *to),
+            from: square(rt, from),
+            to: square(rt, to),
             promotion: None,
         };
         moves.push(m).expect(rt, "memory");
@@ -22,94 +22,59 @@ fn moves_of<R: Abort + AllocGlobal>(rt: &R, squares: &[(u8, u8)]) -> Vec<Move> {
     moves
 }
 
-// The games that a text gives.
-fn games_of<R: Abort + AllocGlobal>(rt: &R, text: &str) -> Games {
-    read_games(rt.alloc(), text).expect(rt, "games")
-}
-
 // The movetext of moves.
 fn check_movetext<R: Abort + AllocGlobal>(rt: &R, moves: &[Move], wanted: &str) {
     let mut out = ToWrite::new(Vec::new(rt.alloc()));
-    write_movetext(moves, &mut out).expect(rt, "written");
-    check_output(rt, out, wanted);
+    write_movetext(moves, &mut out).expect(rt, wanted);
+    assert_eq!(rt; text_of(rt, out.into_inner().as_slice()), wanted);
 }
 
 // A game is written as it was read.
 fn check_game<R: Abort + AllocGlobal>(rt: &R, text: &str) {
-    let games = games_of(rt, text);
-    check_movetext(rt, games.game(0).expect(rt, "a game"), text);
+    let games = read_games(rt.alloc(), text).expect(rt, text);
+    check_movetext(rt, games.game(0).expect(rt, text), text);
 }
+
+const GAMES: &str = "1. e4 e5 2. Nf3
+1. f3 e5 2. g4 Qh4#
+-
+1. Nf3 Nf6 2. Ng1 Ng8 3. Nf3 Nf6 4. Ng1 Ng8 5. Nf3 Nf6 6. Ng1 Ng8 7. Nf3 Nf6 8. Ng1 Ng8 9. Nf3 Nf6 10. Ng1 Ng8 11. Nf3";
 
 #[test]
 fn movetexts_of_games(rt: HostRuntime) {
-    check_game(&rt, "1. e4 e5 2. Nf3");
-    check_game(&rt, "1. f3 e5 2. g4 Qh4#");
-    check_game(&rt, "-");
-    check_game(
-        &rt,
-        "1. Nf3 Nf6 2. Ng1 Ng8 3. Nf3 Nf6 4. Ng1 Ng8 5. Nf3 Nf6 6. Ng1 Ng8 7. Nf3 Nf6 8. Ng1 Ng8 9. Nf3 Nf6 10. Ng1 Ng8 11. Nf3",
-    );
+    for text in GAMES.lines() {
+        check_game(&rt, text);
+    }
 }
 
-// The movetext of the moves from square to square.
-fn check_moves<R: Abort + AllocGlobal>(rt: &R, squares: &[(u8, u8)], wanted: &str) {
-    check_movetext(rt, moves_of(rt, squares).as_slice(), wanted);
-}
+// Moves of e4, e4 again and e5, from square to square.
+const ILLEGAL: &str = "12-28 52-36 12-28 => 1. e4 e5
+12-28 12-28 52-36 => 1. e4
+52-36 12-28 52-36 => -
+ => -";
 
 // What stands behind a move that is not legal is left out, even where the position would allow it.
 #[test]
 fn movetexts_end_at_an_illegal_move(rt: HostRuntime) {
-    let (e4, e5) = ((12, 28), (52, 36));
-    check_moves(&rt, &[e4, e5, e4], "1. e4 e5");
-    check_moves(&rt, &[e4, e4, e5], "1. e4");
-    check_moves(&rt, &[e5, e4, e5], "-");
-    check_moves(&rt, &[], "-");
+    for row in ILLEGAL.lines() {
+        let (squares, wanted) = halves(&rt, row, " => ");
+        check_movetext(&rt, moves_of(&rt, squares).as_slice(), wanted);
+    }
 }
 
-// What is answered to the report on a list.
-fn report_on<R: Abort + AllocGlobal, W: Sink>(
-    rt: &R,
-    texts: [&str; 3],
-    out: &mut W,
-) -> Result<Verdict, WriteFault> {
-    let [diagram, length, games] = texts;
-    let diagram = diagram_of(rt, diagram);
-    let length = length_of(rt, length);
-    write_report(&diagram, length, &games_of(rt, games), out)
-}
-
-// The report on a list, and its verdict.
-fn check_report<R: Abort + AllocGlobal>(rt: &R, texts: [&str; 3], verdict: Verdict, wanted: &str) {
-    let mut out = ToWrite::new(Vec::new(rt.alloc()));
-    assert_eq!(rt; report_on(rt, texts, &mut out), Ok(verdict));
-    check_output(rt, out, wanted);
-}
+const REPORTS: &str =
+    "report | array | 0 | - => Sound => diagram rnbqkbnr/pppppppp/8/8/8/8/PPPPPPPP/RNBQKBNR$length 0.0$games 1$-$sound$
+report | two-orders | 1.5 | 1. e3 e6 2. d3$1. d3 e6 2. e3$ => Cooked => diagram rnbqkbnr/pppp1ppp/4p3/8/8/3PP3/PPP2PPP/RNBQKBNR$length 1.5$games 2$1. d3 e6 2. e3$1. e3 e6 2. d3$cooked$
+report | two-orders | 02 |  => NoGame => diagram rnbqkbnr/pppp1ppp/4p3/8/8/3PP3/PPP2PPP/RNBQKBNR$length 2.0$games 0$no game$";
 
 #[test]
 fn reports(rt: HostRuntime) {
-    check_report(
-        &rt,
-        NO_PLY,
-        Verdict::Sound,
-        "diagram rnbqkbnr/pppppppp/8/8/8/8/PPPPPPPP/RNBQKBNR\nlength 0.0\ngames 1\n-\nsound\n",
-    );
-    check_report(&rt, TWO_ORDERS, Verdict::Cooked, TWO_REPORT);
-    let [diagram, _, _] = TWO_ORDERS;
-    check_report(
-        &rt,
-        [diagram, "02", ""],
-        Verdict::NoGame,
-        "diagram rnbqkbnr/pppp1ppp/4p3/8/8/3PP3/PPP2PPP/RNBQKBNR\nlength 2.0\ngames 0\nno game\n",
-    );
+    check_table(&rt, REPORTS);
 }
 
 // Each write fails in turn: what was written before it stands, and no write follows.
 #[test]
 fn writes_of_a_report_that_fail(rt: HostRuntime) {
-    for at in 0..31u64 {
-        let mut out = failing_sink(rt.alloc(), at);
-        let answer = report_on(&rt, TWO_ORDERS, &mut out);
-        assert!(rt; answer == Err(WriteFault::Write), "{at}");
-        check_failed(&rt, out, at, TWO_REPORT);
-    }
+    let row = REPORTS.lines().nth(1).expect(&rt, "two orders");
+    check_row_writes(&rt, row, 31);
 }

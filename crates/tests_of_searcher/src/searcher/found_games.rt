@@ -1,6 +1,16 @@
 use super::*;
 use pg_san::read_games;
 
+// A diagram, a length, and all games, of which a slash parts the lines.
+const CASES: &str = "array | 0 | -
+after-e4 | 0.5 | 1. e4
+after-e4-e5 | 1.0 | 1. e4 e5
+rnbqkbnr/pppp1ppp/4p3/8/8/3PP3/PPP2PPP/RNBQKBNR | 1.5 | 1. d3 e6 2. e3/1. e3 e6 2. d3
+after-e4-e5 | 0.5
+rnbqkbnr/1pp1pppp/p2P4/8/8/8/PPPP1PPP/RNBQKBNR | 2.5 | 1. e4 a6 2. e5 d5 3. exd6/1. e4 a6 2. e5 d6 3. exd6/1. e4 d5 2. exd5 a6 3. d6/1. e4 d6 2. e5 a6 3. exd6
+rnb1kbnr/ppp1pppp/8/3q4/8/8/PPPP1PPP/RNBQKBNR | 2.0 | 1. e4 d5 2. exd5 Qxd5
+rnb1kbnr/pppp1ppp/8/4p3/6Pq/5P2/PPPPP2P/RNBQKBNR | 2.0 | 1. f3 e5 2. g4 Qh4#/1. g4 e5 2. f3 Qh4#";
+
 fn are_same(a: &Games, b: &Games) -> bool {
     for i in 0..b.len() {
         if a.game(i) != b.game(i) {
@@ -10,48 +20,73 @@ fn are_same(a: &Games, b: &Games) -> bool {
     a.len() == b.len()
 }
 
+// The games that a search finds; its certificate has been checked.
+fn found<R: Abort + AllocGlobal>(rt: &R, goal: &Goal) -> Games {
+    let mut sink = ToWrite::new(Vec::new(rt.alloc()));
+    let games = searched(rt.alloc(), goal, NODES, &mut sink).expect(rt, "found");
+    let bytes = sink.into_inner();
+    records_of(rt, rt.alloc(), goal, &games, bytes.as_slice());
+    games
+}
+
+// The games that a text gives.
+fn games_of<R: Abort + AllocGlobal>(rt: &R, text: &str) -> Games {
+    let text = text.replace(rt.alloc(), '/', "\n").expect(rt, text);
+    read_games(rt.alloc(), text.as_str()).expect(rt, text.as_str())
+}
+
+// The games of a row are found.
+fn check_games<R: Abort + AllocGlobal>(rt: &R, row: &str) {
+    let [diagram, length, text, ..] = fields(row);
+    let games = found(rt, &goal_of(rt, diagram, length));
+    assert!(rt; are_same(&games, &games_of(rt, text)), "{row}");
+}
+
 #[test]
 fn all_games_are_found(rt: HostRuntime) {
-    for (placement, plies, text) in CASES {
-        let diagram = diagram(&rt, placement);
-        let length = length(&rt, plies);
-        let (games, _) = found(&rt, rt.alloc(), &diagram, length);
-        let wanted = read_games(rt.alloc(), text).expect(&rt, text);
-        assert!(rt; are_same(&games, &wanted), "{text}");
+    for row in CASES.lines() {
+        check_games(&rt, row);
     }
 }
 
-// Searches the placement after each second ply, which one game reaches.
-fn one_game_after(rt: &impl Abort, alloc: Global, first: &Position) -> Result<u64, Fail> {
-    let one = length(rt, "1.0");
-    let mut count = 0u64;
-    for m in legal_moves(alloc, first)?.as_slice() {
-        let diagram = Diagram::of(&first.play(*m).expect(rt, "legal"));
-        let (games, _) = found(rt, alloc, &diagram, one);
-        assert_eq!(rt; games.len(), 1);
-        count = count.saturating_add(1);
+// The legal moves' positions of one ply more.
+fn after<R: Abort + AllocGlobal>(rt: &R, position: &Position) -> Vec<Position> {
+    let mut all = Vec::new(rt.alloc());
+    for m in &legal_moves(rt.alloc(), position).expect(rt, "memory") {
+        let next = position.play(*m).expect(rt, "legal");
+        all.push(next).expect(rt, "memory");
     }
-    Ok(count)
+    all
+}
+
+// Searches the placement after each second ply, which one game reaches; how many there are.
+fn one_game_after<R: Abort + AllocGlobal>(rt: &R, first: &Position) -> usize {
+    let seconds = after(rt, first);
+    for second in &seconds {
+        let goal = Goal {
+            diagram: Diagram::of(second),
+            length: length_of(rt, "1.0"),
+        };
+        assert!(rt; matches!(settled(rt, &goal, NODES), Ok(Found { games: 1, .. })));
+    }
+    seconds.len()
 }
 
 #[test]
-fn one_game_leads_to_each_placement_after_two_plies(rt: HostRuntime) -> Result<(), Fail> {
-    let array = Position::array();
-    let mut count = 0u64;
-    for m in legal_moves(rt.alloc(), &array)?.as_slice() {
-        let first = array.play(*m).expect(&rt, "legal");
-        count = count.saturating_add(one_game_after(&rt, rt.alloc(), &first)?);
+fn one_game_leads_to_each_placement_after_two_plies(rt: HostRuntime) {
+    let mut count = 0usize;
+    for first in &after(&rt, &Position::array()) {
+        count = count.saturating_add(one_game_after(&rt, first));
     }
     assert_eq!(rt; count, 400);
-    Ok(())
 }
 
 // The position after so many moves by chance.
-fn wander(alloc: Global, plies: u8, seed: u64) -> Result<Position, AllocError> {
+fn wander<R: Abort + AllocGlobal>(rt: &R, plies: u8, seed: u64) -> Position {
     let mut position = Position::array();
     let mut state = seed;
     for _ in 0..plies {
-        let moves = legal_moves(alloc, &position)?;
+        let moves = legal_moves(rt.alloc(), &position).expect(rt, "memory");
         state ^= state << 13;
         state ^= state >> 7;
         state ^= state << 17;
@@ -62,29 +97,25 @@ fn wander(alloc: Global, plies: u8, seed: u64) -> Result<Position, AllocError> {
             }
         }
     }
-    Ok(position)
+    position
 }
 
-// Lengths by plies.
-const LENGTHS: [&str; 7] = ["0", "0.5", "1.0", "1.5", "2.0", "2.5", "3.0"];
-
-// Searches a diagram at a length of so many plies, below 7, and at that of a shorter game where there
-// is one. Each certificate has been checked. The answer is how many games there are at the length where
-// the search ended, and whether that is the first one.
-fn games_of(rt: &impl Abort, alloc: Global, diagram: &Diagram, plies: u8) -> (usize, bool) {
-    let stated = length(rt, LENGTHS[usize::from(plies % 7)]);
-    let mut sink = ToWrite::new(Vec::new(alloc));
-    match search(alloc, diagram, stated, NODES, &mut sink) {
-        Ok(games) => {
-            let bytes = sink.into_inner();
-            assert!(rt; holds(alloc, diagram, stated, &games, bytes.as_slice()));
-            (games.len(), true)
-        }
+// Searches a diagram at a length of so many plies, and at that of a shorter game where there is one. Each certificate
+// has been checked. The answer is how many games there are at the length where the search ended, and whether that is
+// the first one.
+fn count_games<R: Abort + AllocGlobal>(rt: &R, diagram: &Diagram, plies: u8) -> (usize, bool) {
+    let goal = |plies| Goal {
+        diagram: *diagram,
+        length: Length::from_plies(plies).expect(rt, "a length"),
+    };
+    match settled(rt, &goal(plies), NODES) {
+        Ok(found) => (found.games, true),
         Err(SearchFault::Shorter(fewer)) => {
             assert!(rt; fewer < plies);
-            let shorter = length(rt, LENGTHS[usize::from(fewer % 7)]);
-            let (games, _) = found(rt, alloc, diagram, shorter);
-            (games.len(), false)
+            match settled(rt, &goal(fewer), NODES) {
+                Ok(found) => (found.games, false),
+                Err(fault) => panic!(rt; "{fault}"),
+            }
         }
         Err(_) => (0, false),
     }
@@ -97,11 +128,10 @@ fn random_games_are_settled(rt: HostRuntime) {
     let mut several = 0u32;
     let mut none = 0u32;
     for seed in 1..13u64 {
-        let end = wander(rt.alloc(), 6, seed * 0x9e37_79b9).expect(&rt, "memory");
-        let diagram = Diagram::of(&end);
-        let (games, _) = games_of(&rt, rt.alloc(), &diagram, 6);
+        let diagram = Diagram::of(&wander(&rt, 6, seed * 0x9e37_79b9));
+        let (games, _) = count_games(&rt, &diagram, 6);
         assert!(rt; games > 0, "{seed}");
-        let (fewer, is_stated) = games_of(&rt, rt.alloc(), &diagram, 5);
+        let (fewer, is_stated) = count_games(&rt, &diagram, 5);
         several = several.saturating_add(u32::from(games > 1));
         none = none.saturating_add(u32::from(fewer == 0 && is_stated));
     }
@@ -111,8 +141,8 @@ fn random_games_are_settled(rt: HostRuntime) {
 // Five pawn moves of each side in any order: 120 * 120 games.
 #[test]
 fn too_many_games(rt: HostRuntime) {
-    let many = diagram(&rt, "rnbqkbnr/5ppp/ppppp3/8/8/PPPPP3/5PPP/RNBQKBNR");
-    let five = length(&rt, "5.0");
-    let answer = fault(&rt, rt.alloc(), &many, five, NODES);
-    assert_eq!(rt; answer, Some(SearchFault::TooManyGames));
+    check_row(
+        &rt,
+        "rnbqkbnr/5ppp/ppppp3/8/8/PPPPP3/5PPP/RNBQKBNR | 5.0 => TooManyGames",
+    );
 }

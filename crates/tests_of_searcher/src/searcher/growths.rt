@@ -27,35 +27,33 @@ impl Sink for Small {
     }
 }
 
+// How many times a search, or the check of what it finds, is refused memory.
+fn refusals(rt: &impl Abort, alloc: Global, goal: &Goal) -> u8 {
+    let mut sink = Small {
+        bytes: ArrayVec::new(),
+    };
+    match searched(alloc, goal, NODES, &mut sink) {
+        Ok(games) => {
+            assert_eq!(rt; (games.len(), sink.bytes.len()), (1, 59));
+            let said = checked(alloc, goal, &games, sink.bytes.as_slice());
+            if said.as_str() == "22" {
+                return 0;
+            }
+            assert_eq!(rt; said.as_str(), "Memory");
+        }
+        Err(fault) => assert_eq!(rt; fault, SearchFault::Memory),
+    }
+    1
+}
+
 // Passes too where `rt try --test --fail-alloc N` refuses the N-th growth: then one search or one
 // check of all answers that memory was refused.
 #[test]
 fn refused_growths(rt: HostRuntime) {
-    let (placement, plies, _) = CASES[2];
-    let e4_e5 = diagram(&rt, placement);
-    let one = length(&rt, plies);
+    let goal = goal_of(&rt, "after-e4-e5", "1.0");
     let mut refused = 0u8;
     for _ in 0..9u8 {
-        let mut sink = Small {
-            bytes: ArrayVec::new(),
-        };
-        match search(rt.alloc(), &e4_e5, one, NODES, &mut sink) {
-            Ok(games) => {
-                assert_eq!(rt; (games.len(), sink.bytes.len()), (1, 59));
-                match checks(rt.alloc(), &e4_e5, one, &games, sink.bytes.as_slice()) {
-                    Ok(Ok(proved)) => assert_eq!(rt; proved.records, 22),
-                    Ok(Err(fault)) => {
-                        assert_eq!(rt; fault, Fault::Memory);
-                        refused = refused.saturating_add(1);
-                    }
-                    Err(_) => refused = refused.saturating_add(1),
-                }
-            }
-            Err(fault) => {
-                assert_eq!(rt; fault, SearchFault::Memory);
-                refused = refused.saturating_add(1);
-            }
-        }
+        refused = refused.saturating_add(refusals(&rt, rt.alloc(), &goal));
     }
     assert!(rt; refused <= 1);
 }
@@ -63,14 +61,12 @@ fn refused_growths(rt: HostRuntime) {
 // The same of a search that finds prices: its certificate does not fit the sink, which keeps none.
 #[test]
 fn refused_growths_of_prices(rt: HostRuntime) {
-    let (placement, plies, count, nodes) = PROBLEMS[3];
-    let goal = diagram(&rt, placement);
-    let plies = length(&rt, plies);
+    let goal = goal_of(&rt, "r1bqnNnr/pppkpp1p/7R/3p4/8/8/PPPPPPP1/RNBQKBN1", "5.5");
     let mut sink = Small {
         bytes: ArrayVec::new(),
     };
-    match search(rt.alloc(), &goal, plies, nodes, &mut sink) {
-        Ok(games) => assert_eq!(rt; games.len(), count),
+    match searched(rt.alloc(), &goal, 428, &mut sink) {
+        Ok(games) => assert_eq!(rt; games.len(), 1),
         Err(fault) => assert_eq!(rt; fault, SearchFault::Memory),
     }
 }

@@ -1,25 +1,29 @@
 use super::*;
 use pg_certificate::{Record, RecordReader};
 
+// Problems of three and a half to nine moves: a diagram, a length, how many nodes are allowed; how many games there
+// are, and how many nodes a search visits, or that a node less is too few. A node that a cut excludes is cut, and
+// one that none does is expanded once, so the number is the same for each right search.
+const PROBLEMS: &str = "four-knights-gone | 4.0 | 6118 => 1 6118
+four-knights-gone | 4.0 | 6117 => Budget
+rnQ1kbnr/pp1ppppp/8/2p5/2P5/2q5/PP1PPPPP/RNB1KBNR | 3.5 | 920 => 1 920
+rnQ1kbnr/pp1ppppp/8/2p5/2P5/2q5/PP1PPPPP/RNB1KBNR | 3.5 | 919 => Budget
+rnbqkbnr/p1pppppp/8/8/8/3QP3/PPP2PPP/RNB1K1NR | 3.5 | 8313 => 2 8313
+rnbqkbnr/p1pppppp/8/8/8/3QP3/PPP2PPP/RNB1K1NR | 3.5 | 8312 => Budget
+r1bqnNnr/pppkpp1p/7R/3p4/8/8/PPPPPPP1/RNBQKBN1 | 5.5 | 428 => 1 428
+r1bqnNnr/pppkpp1p/7R/3p4/8/8/PPPPPPP1/RNBQKBN1 | 5.5 | 427 => Budget
+Rnb1kbnr/p1p1pppp/8/3p4/8/8/1PPPPP2/RNBQ1KNR | 5.5 | 3856 => 1 3856
+Rnb1kbnr/p1p1pppp/8/3p4/8/8/1PPPPP2/RNBQ1KNR | 5.5 | 3855 => Budget
+1nbqkbnr/p1ppppp1/1N6/8/8/6n1/1PPPPP1P/RNBQKBN1 | 6.0 | 373 => 1 373
+1nbqkbnr/p1ppppp1/1N6/8/8/6n1/1PPPPP1P/RNBQKBN1 | 6.0 | 372 => Budget
+rnbq1bnr/ppppp1p1/8/8/2k4p/2NPP3/PPP2PPP/RNBQ1RK1 | 6.5 | 4020 => 1 4020
+rnbq1bnr/ppppp1p1/8/8/2k4p/2NPP3/PPP2PPP/RNBQ1RK1 | 6.5 | 4019 => Budget
+2bqr1k1/2pNppbp/1p5p/7n/1r1P4/8/P1P1PPPP/RNB1KBNR | 9.0 | 9198 => 1 9198
+2bqr1k1/2pNppbp/1p5p/7n/1r1P4/8/P1P1PPPP/RNB1KBNR | 9.0 | 9197 => Budget";
+
 #[test]
 fn problems_are_settled_with_so_many_nodes(rt: HostRuntime) {
-    for (placement, plies, count, nodes) in PROBLEMS {
-        let goal = diagram(&rt, placement);
-        let plies = length(&rt, plies);
-        let mut sink = ToWrite::new(Vec::new(rt.alloc()));
-        let found = search(rt.alloc(), &goal, plies, nodes, &mut sink);
-        let games = found.expect(&rt, placement);
-        assert_eq!(rt; games.len(), count, "{placement}");
-        let bytes = sink.into_inner();
-        match checks(rt.alloc(), &goal, plies, &games, bytes.as_slice()) {
-            Ok(Ok(proved)) => assert_eq!(rt; proved.records, nodes, "{placement}"),
-            _ => assert!(rt; false, "{placement}"),
-        }
-        assert_eq!(rt;
-            fault(&rt, rt.alloc(), &goal, plies, nodes.saturating_sub(1)),
-            Some(SearchFault::Budget)
-        );
-    }
+    check_table(&rt, PROBLEMS);
 }
 
 // How many records of a certificate are cuts by prices.
@@ -38,73 +42,65 @@ fn count_priced(bytes: &[u8]) -> u64 {
     count
 }
 
-// How many cuts by prices the certificate of the problem with this number has.
-fn priced(rt: &impl Abort, alloc: Global, number: usize) -> u64 {
-    let (placement, plies, _, _) = PROBLEMS[number % PROBLEMS.len()];
-    let diagram = diagram(rt, placement);
-    let plies = length(rt, plies);
-    let (_, bytes) = found(rt, alloc, &diagram, plies);
-    count_priced(bytes.as_slice())
-}
+// The certificate of a problem has so many cuts by prices, or more than that.
+const PRICED: &str = "four-knights-gone | 4.0 | 0 | 0
+r1bqnNnr/pppkpp1p/7R/3p4/8/8/PPPPPPP1/RNBQKBN1 | 5.5 | 1 | 428
+2bqr1k1/2pNppbp/1p5p/7n/1r1P4/8/P1P1PPPP/RNB1KBNR | 9.0 | 1001 | 9198";
 
 // Prices cut where the bounds do not.
 #[test]
 fn prices_cut(rt: HostRuntime) {
-    assert_eq!(rt; priced(&rt, rt.alloc(), 0), 0);
-    assert!(rt; priced(&rt, rt.alloc(), 3) > 0);
-    assert!(rt; priced(&rt, rt.alloc(), 7) > 1000);
+    for row in PRICED.lines() {
+        let [diagram, length, least, most] = fields(row);
+        let bytes = certificate(&rt, &goal_of(&rt, diagram, length));
+        let count = Some(count_priced(bytes.as_slice()));
+        assert!(rt;
+            least.parse().ok() <= count && count <= most.parse().ok(),
+            "{row}"
+        );
+    }
 }
+
+const LIMITS: &str = "after-e4-e5 | 1.0 | 0 => Budget
+after-e4-e5 | 1.0 | 21 => Budget
+after-e4-e5 | 1.0 | 22 => 1 22
+array | 0 | 0 => 1 0";
 
 #[test]
 fn limits(rt: HostRuntime) {
-    let (placement, plies, _) = CASES[2];
-    let e4_e5 = diagram(&rt, placement);
-    let one = length(&rt, plies);
-    assert_eq!(rt;
-        fault(&rt, rt.alloc(), &e4_e5, one, 0),
-        Some(SearchFault::Budget)
-    );
-    assert_eq!(rt;
-        fault(&rt, rt.alloc(), &e4_e5, one, 21),
-        Some(SearchFault::Budget)
-    );
-    assert_eq!(rt; fault(&rt, rt.alloc(), &e4_e5, one, 22), None);
-    let (array, plies, _) = CASES[0];
-    let array = diagram(&rt, array);
-    assert_eq!(rt; fault(&rt, rt.alloc(), &array, length(&rt, plies), 0), None);
+    check_table(&rt, LIMITS);
 }
+
+const SHORTER: &str = "array | 2.0 | 0 => Shorter(0)
+after-e4 | 2.0 => Shorter(1)";
 
 #[test]
 fn a_shorter_game(rt: HostRuntime) {
-    let two = length(&rt, "2.0");
-    let array = diagram(&rt, ARRAY);
-    assert_eq!(rt;
-        fault(&rt, rt.alloc(), &array, two, 0),
-        Some(SearchFault::Shorter(0))
-    );
-    let e4 = diagram(&rt, CASES[1].0);
-    assert_eq!(rt;
-        fault(&rt, rt.alloc(), &e4, two, NODES),
-        Some(SearchFault::Shorter(1))
-    );
+    check_table(&rt, SHORTER);
 }
 
+static FAULTS: [SearchFault; 5] = [
+    SearchFault::Budget,
+    SearchFault::Shorter(3),
+    SearchFault::TooManyGames,
+    SearchFault::Write,
+    SearchFault::Memory,
+];
+
+// Their texts in turn.
+const TEXTS: &str = "node limit reached
+a game of 3 plies reaches the diagram
+more than 4096 games
+write fault
+out of memory";
+
 #[test]
-fn faults_have_their_texts(rt: HostRuntime) -> Result<(), Fail> {
-    let texts = [
-        (SearchFault::Budget, "node limit reached"),
-        (
-            SearchFault::Shorter(3),
-            "a game of 3 plies reaches the diagram",
-        ),
-        (SearchFault::TooManyGames, "more than 4096 games"),
-        (SearchFault::Write, "write fault"),
-        (SearchFault::Memory, "out of memory"),
-    ];
-    for (fault, text) in texts {
-        assert_eq!(rt; format!(in rt.alloc(); "{fault}")?.as_str(), text);
+fn faults_have_their_texts(rt: HostRuntime) {
+    let mut lines = TEXTS.lines();
+    for fault in &FAULTS {
+        assert_eq!(rt; Some(words(fault).as_str()), lines.next());
     }
-    Ok(())
+    assert_eq!(rt; lines.next(), None);
 }
 
 // What is told of a search: the last tree, and whether the trees came in order and the nodes that are
@@ -126,26 +122,25 @@ impl Progress for Told {
     }
 }
 
+// How many games a search of so many nodes finds, that tells of itself.
+fn watched<R: Abort + AllocGlobal>(rt: &R, goal: &Goal, nodes: u64, told: &mut Told) -> usize {
+    let mut sink = ToWrite::new(Vec::new(rt.alloc()));
+    let (diagram, length) = (&goal.diagram, goal.length);
+    let answer = search_watched(rt.alloc(), diagram, length, nodes, &mut sink, told);
+    answer.expect(rt, "found").len()
+}
+
 // The watch is told of the longest tree last, and of all nodes.
 #[test]
 fn a_search_is_watched(rt: HostRuntime) {
-    let (placement, text, count, nodes) = PROBLEMS[3];
-    let diagram = diagram(&rt, placement);
-    let length = length(&rt, text);
-    let mut sink = ToWrite::new(Vec::new(rt.alloc()));
+    let goal = goal_of(&rt, "r1bqnNnr/pppkpp1p/7R/3p4/8/8/PPPPPPP1/RNBQKBN1", "5.5");
     let mut told = Told {
         tree: 0,
-        left: nodes,
+        left: 428,
         in_order: true,
         times: 0,
     };
-    let games = search_watched(rt.alloc(), &diagram, length, nodes, &mut sink, &mut told).expect(
-        &rt, placement,
-    );
-    assert_eq!(rt; games.len(), count);
-    assert_eq!(rt;
-        (told.tree, told.left, told.in_order),
-        (length.plies(), 0, true)
-    );
+    assert_eq!(rt; watched(&rt, &goal, 428, &mut told), 1);
+    assert_eq!(rt; (told.tree, told.left, told.in_order), (11, 0, true));
     assert!(rt; told.times > 1);
 }
