@@ -1,8 +1,8 @@
 mod callers;
 
+use crate::texts::{cells, square};
 use pg_board::*;
 use std::process::Abort;
-use std::test::Fail;
 
 const COLORS: [Color; 2] = [Color::White, Color::Black];
 
@@ -112,81 +112,132 @@ fn agrees_with_cells(rt: HostRuntime) {
 }
 
 #[test]
-fn equal_by_value(rt: HostRuntime) -> Result<(), Fail> {
-    let mut board = Board::empty();
-    let e1 = Square::new(5, 1).ok_or("e1")?;
-    let a8 = Square::new(1, 8).ok_or("a8")?;
+fn equal_by_value(rt: HostRuntime) {
+    let (a8, e1) = (square(&rt, "a8"), square(&rt, "e1"));
     let king = Man {
         color: Color::White,
         kind: Kind::King,
     };
+    let mut board = Board::empty();
     board.put(a8, king);
     board.put(e1, king);
-    assert_eq!(rt; board.king(Color::White), Some(e1));
-    assert_eq!(rt; board.king(Color::Black), None);
+    assert!(rt; board.king(Color::White) == Some(e1) && board.king(Color::Black).is_none());
     let copy = board;
-    assert_eq!(rt; board.take(e1), Some(king));
-    assert_eq!(rt; board.take(e1), None);
+    assert!(rt; board.take(e1) == Some(king) && board.take(e1).is_none());
     assert!(rt; board != copy);
-    let without = board.packed();
     board.put(e1, king);
     assert!(rt; board == copy);
-    let packed = board.packed();
-    let kept = packed;
-    assert!(rt; kept == copy.packed() && packed != without);
-    assert!(rt; packed.board() == board);
-    Ok(())
 }
 
 #[test]
-fn squares(rt: HostRuntime) -> Result<(), Fail> {
-    for (file, rank, index) in [(1, 1, 0), (8, 1, 7), (5, 4, 28), (1, 8, 56), (8, 8, 63)] {
-        let square = Square::new(file, rank).ok_or("on the board")?;
-        assert_eq!(rt; square.index(), index);
-        assert_eq!(rt; square.file(), file);
-        assert_eq!(rt; square.rank(), rank);
-        assert_eq!(rt; Square::from_index(index), Some(square));
+fn packed_boards(rt: HostRuntime) {
+    let mut board = Board::empty();
+    let without = board.packed();
+    board.put(
+        square(&rt, "e1"),
+        Man {
+            color: Color::White,
+            kind: Kind::King,
+        },
+    );
+    let packed = board.packed();
+    let kept = packed;
+    assert!(rt; kept == board.packed() && packed != without);
+    assert!(rt; packed.board() == board);
+}
+
+// A file, a rank, and the number of their square.
+const SQUARES: &str = "1 | 1 => 0
+8 | 1 => 7
+5 | 4 => 28
+1 | 8 => 56
+8 | 8 => 63
+0 | 1 => none
+9 | 1 => none
+1 | 0 => none
+1 | 9 => none
+255 | 255 => none";
+
+#[test]
+fn squares(rt: HostRuntime) {
+    for row in SQUARES.lines() {
+        check_square(&rt, row);
     }
-    for (file, rank) in [(0, 1), (9, 1), (1, 0), (1, 9), (255, 255)] {
-        assert_eq!(rt; Square::new(file, rank), None);
+    assert!(rt; Square::from_index(64).is_none());
+}
+
+fn number(rt: &impl Abort, text: &str) -> u8 {
+    text.parse::<u8>().expect(rt, text)
+}
+
+fn check_square(rt: &impl Abort, row: &str) {
+    let (file, rank, wanted) = cells(rt, row);
+    let (file, rank) = (number(rt, file), number(rt, rank));
+    match Square::new(file, rank) {
+        Some(square) => {
+            assert!(rt; wanted.parse::<u8>() == Ok(square.index()), "{row}");
+            assert!(rt; square.file() == file && square.rank() == rank, "{row}");
+            assert!(rt; Square::from_index(square.index()) == Some(square), "{row}");
+        }
+        None => assert!(rt; wanted == "none", "{row}"),
     }
-    assert_eq!(rt; Square::from_index(64), None);
-    Ok(())
+}
+
+// The set of the squares of these names, with blanks between them.
+fn set(rt: &impl Abort, names: &str) -> SquareSet {
+    let mut squares = SquareSet::empty();
+    for name in names.split(' ') {
+        squares = squares | SquareSet::single(square(rt, name));
+    }
+    squares
 }
 
 #[test]
 fn sets_of_squares(rt: HostRuntime) {
-    let (a1, e4, h8) = (Square::at(0), Square::at(28), Square::at(63));
-    let ends = SquareSet::single(h8) | SquareSet::single(a1);
-    let three = ends | SquareSet::single(e4);
-    assert_eq!(rt; three.len(), 3);
-    assert_eq!(rt; (three.first(), three.last()), (Some(a1), Some(h8)));
-    assert_eq!(rt; three.first_from(29), Some(h8));
-    assert_eq!(rt; ends.first_from(64), None);
-    assert_eq!(rt; three - ends, SquareSet::single(e4));
-    assert_eq!(rt; SquareSet::full() & ends, ends);
-    assert!(rt; three.meets(ends) && !ends.contains(e4));
+    let ends = set(&rt, "h8 a1");
+    let three = set(&rt, "h8 a1 e4");
+    assert!(rt; three == ends | SquareSet::single(Square::at(28)));
+    assert!(rt; three - ends == SquareSet::single(Square::at(28)));
+    assert!(rt; SquareSet::full() & ends == ends && SquareSet::of_bits(ends.bits()) == ends);
+    assert!(rt; three.meets(ends) && !ends.contains(Square::at(28)));
     assert!(rt; (ends - three).is_empty());
-    assert_eq!(rt; SquareSet::of_bits(ends.bits()), ends);
-    let mut left = three;
-    let mut squares = three.squares();
+}
+
+#[test]
+fn squares_of_sets(rt: HostRuntime) {
+    let ends = set(&rt, "h8 a1");
+    let three = set(&rt, "h8 a1 e4");
+    assert!(rt; three.len() == 3 && three.first() == Some(Square::at(0)));
+    assert!(rt; three.last() == Some(Square::at(63)));
+    assert!(rt; three.first_from(29) == Some(Square::at(63)));
+    assert!(rt; ends.first_from(64).is_none());
+}
+
+#[test]
+fn squares_in_order(rt: HostRuntime) {
+    let mut left = set(&rt, "h8 a1 e4");
+    let mut squares = left.squares();
     let start = squares;
-    for square in [Some(a1), Some(e4), Some(h8), None] {
-        assert_eq!(rt; squares.next(), square);
-        assert_eq!(rt; left.pop_first(), square);
+    for index in [0, 28, 63] {
+        let wanted = Square::from_index(index);
+        assert!(rt;
+            squares.next() == wanted && left.pop_first() == wanted,
+            "{index}"
+        );
     }
-    assert_eq!(rt; left, SquareSet::empty());
+    assert!(rt; squares.next().is_none() && left.pop_first().is_none());
+    assert!(rt; left == SquareSet::empty());
     let end = squares;
-    assert_eq!(rt; squares.next(), None);
-    assert!(rt; squares == end && squares != start);
+    assert!(rt; squares.next().is_none() && squares == end && squares != start);
 }
 
 #[test]
 fn orders(rt: HostRuntime) {
     assert!(rt; Square::at(7) < Square::at(8));
-    assert!(rt; Kind::Pawn < Kind::Knight && Kind::Knight < Kind::Bishop);
-    assert!(rt; Kind::Bishop < Kind::Rook && Kind::Rook < Kind::Queen);
-    assert!(rt; Kind::Queen < Kind::King);
-    assert_eq!(rt; Color::White.other(), Color::Black);
-    assert_eq!(rt; Color::Black.other(), Color::White);
+    let mut last = None;
+    for kind in KINDS {
+        assert!(rt; last < Some(kind));
+        last = Some(kind);
+    }
+    assert!(rt; Color::White.other() == Color::Black && Color::Black.other() == Color::White);
 }

@@ -1,170 +1,188 @@
 mod callers;
 mod positions;
 
+use crate::texts::{check_case, check_shown, halves};
+use pg_fen::text::digits;
 use pg_fen::*;
 use pg_position::BadPosition;
 use std::process::Abort;
-use std::test::Fail;
 
 const ARRAY: &str = "rnbqkbnr/pppppppp/8/8/8/8/PPPPPPPP/RNBQKBNR";
 
-// A text that is read as a length of so many plies, and what that length is written as.
-fn check_length(rt: &impl Abort, text: &str, plies: u8, written: &str) {
+const KINGS: &str = "4k3/8/8/8/8/8/8/4K3";
+
+// That a text is read as a length of so many plies that is written so, or refused by a fault that is shown so.
+fn check_length(rt: &impl Abort, text: &str, wanted: &str) {
     match Length::read(text) {
         Ok(length) => {
-            assert_eq!(rt; length.plies(), plies, "{text}");
+            let (plies, written) = wanted.split_once(' ').expect(rt, text);
+            assert_eq!(rt; digits(length.plies() as usize).as_str(), plies, "{text}");
             assert_eq!(rt; length.write().as_str(), written, "{text}");
-            assert!(rt; Length::from_plies(plies) == Some(length), "{text}");
+            assert!(rt;
+                Length::from_plies(length.plies()) == Some(length),
+                "{text}"
+            );
         }
-        Err(fault) => assert!(rt; false, "{text}: {fault}"),
+        Err(fault) => check_case(rt, text, &fault, wanted),
     }
 }
 
-fn check_length_fault(rt: &impl Abort, text: &str, wanted: LengthFault) {
-    match Length::read(text) {
-        Ok(length) => assert!(rt; false, "{text}: {}", length.plies()),
-        Err(fault) => assert!(rt; fault == wanted, "{text}: {fault}"),
+// The same of each row of a table.
+fn check_lengths(rt: &impl Abort, table: &str) {
+    for row in table.lines() {
+        let (text, wanted) = halves(rt, row);
+        check_length(rt, text, wanted);
     }
 }
+
+const LENGTHS: &str = "18.5 => 37 18.5
+18 => 36 18.0
+18.0 => 36 18.0
+04 => 8 4.0
+64.0 => 128 64.0
+0 => 0 0.0
+0000000000000000000000000000009.5 => 19 9.5";
 
 #[test]
 fn lengths(rt: HostRuntime) {
-    check_length(&rt, "18.5", 37, "18.5");
-    check_length(&rt, "18", 36, "18.0");
-    check_length(&rt, "18.0", 36, "18.0");
-    check_length(&rt, "04", 8, "4.0");
-    check_length(&rt, "64.0", 128, "64.0");
-    check_length(&rt, "0", 0, "0.0");
-    check_length(&rt, "0000000000000000000000000000009.5", 19, "9.5");
+    check_lengths(&rt, LENGTHS);
     assert!(rt; Length::from_plies(129).is_none());
 }
 
+const NO_LENGTHS: &str = "64.5 => length above 64.0
+65 => length above 64.0
+18446744073709551616.5 => length above 64.0
+99999999999999999999999999999999999999 => length above 64.0
+ => bad length
+.5 => bad length
+1. => bad length
+4.25 => bad length
+4.1 => bad length
+4.50 => bad length
+4.5  => bad length
+ 4 => bad length
++4 => bad length
+-1 => bad length
+4,5 => bad length
+٤ => bad length";
+
 #[test]
 fn length_refusals(rt: HostRuntime) {
-    check_length_fault(&rt, "64.5", LengthFault::TooLong);
-    check_length_fault(&rt, "65", LengthFault::TooLong);
-    check_length_fault(&rt, "18446744073709551616.5", LengthFault::TooLong);
-    check_length_fault(
-        &rt,
-        "99999999999999999999999999999999999999",
-        LengthFault::TooLong,
-    );
-    for text in [
-        "", ".5", "1.", "4.25", "4.1", "4.50", "4.5 ", " 4", "+4", "-1", "4,5", "٤",
-    ] {
-        check_length_fault(&rt, text, LengthFault::Shape);
-    }
+    check_lengths(&rt, NO_LENGTHS);
 }
 
-fn check_diagram(rt: &impl Abort, text: &str, written: &str) {
+fn diagram(rt: &impl Abort, text: &str) -> Diagram {
+    Diagram::read(text).expect(rt, text)
+}
+
+// That a text is read as a diagram that is written so, or refused by a fault that is shown so.
+fn check_diagram(rt: &impl Abort, text: &str, wanted: &str) {
     match Diagram::read(text) {
-        Ok(diagram) => {
-            assert_eq!(rt; diagram.write().as_str(), written, "{text}");
-            match Diagram::read(written) {
-                Ok(again) => assert!(rt; again == diagram && again.packed() == diagram.packed()),
-                Err(fault) => assert!(rt; false, "{written}: {fault}"),
-            }
+        Ok(read) => {
+            assert_eq!(rt; read.write().as_str(), wanted, "{text}");
+            let again = diagram(rt, wanted);
+            assert!(rt; again == read && again.packed() == read.packed(), "{text}");
         }
-        Err(fault) => assert!(rt; false, "{text}: {fault}"),
+        Err(fault) => check_case(rt, text, &fault, wanted),
     }
 }
 
-fn check_fault(rt: &impl Abort, text: &str, wanted: FenFault) {
-    match Diagram::read(text) {
-        Ok(_) => assert!(rt; false, "{text} is read"),
-        Err(fault) => assert!(rt; fault == wanted, "{text}: {fault}"),
+// The same of each row of a table.
+fn check_diagrams(rt: &impl Abort, table: &str) {
+    for row in table.lines() {
+        let (text, wanted) = halves(rt, row);
+        check_diagram(rt, text, wanted);
     }
 }
+
+// In the last diagram one king stands in check, as no position may.
+const DIAGRAMS: &str =
+    "rnbqkbnr/pppppppp/8/8/8/8/PPPPPPPP/RNBQKBNR => rnbqkbnr/pppppppp/8/8/8/8/PPPPPPPP/RNBQKBNR
+rnbqkbnr/pppp1ppp/4p3/8/8/3PP3/PPP2PPP/RNBQKBNR => rnbqkbnr/pppp1ppp/4p3/8/8/3PP3/PPP2PPP/RNBQKBNR
+4k3/8/8/8/8/8/8/4K3 => 4k3/8/8/8/8/8/8/4K3
+4k3/8/8/44/1111p3/8/8/4K3 => 4k3/8/8/8/4p3/8/8/4K3
+4k3/8/8/8/8/8/8/4K3 w K - 0 1 => 4k3/8/8/8/8/8/8/4K3
+4k3/8/8/8/8/8/8/4K3 w - e6 0 1 => 4k3/8/8/8/8/8/8/4K3
+4k3/8/8/8/8/8/8/4K3 b qkQK a3 65535 00000 => 4k3/8/8/8/8/8/8/4K3
+4k3/8/8/8/8/8/8/4R1K1 => 4k3/8/8/8/8/8/8/4R1K1";
 
 #[test]
 fn diagrams(rt: HostRuntime) {
-    check_diagram(&rt, ARRAY, ARRAY);
-    let d3 = "rnbqkbnr/pppp1ppp/4p3/8/8/3PP3/PPP2PPP/RNBQKBNR";
-    check_diagram(&rt, d3, d3);
-    let kings = "4k3/8/8/8/8/8/8/4K3";
-    check_diagram(&rt, kings, kings);
-    check_diagram(&rt, "4k3/8/8/44/1111p3/8/8/4K3", "4k3/8/8/8/4p3/8/8/4K3");
-    check_diagram(&rt, "4k3/8/8/8/8/8/8/4K3 w K - 0 1", kings);
-    check_diagram(&rt, "4k3/8/8/8/8/8/8/4K3 w - e6 0 1", kings);
-    check_diagram(&rt, "4k3/8/8/8/8/8/8/4K3 b qkQK a3 65535 00000", kings);
-    check_diagram(&rt, "4k3/8/8/8/8/8/8/4K3\n", kings);
-    check_diagram(&rt, "\r\n\n \t4k3/8/8/8/8/8/8/4K3 \n\n\n", kings);
-    check_diagram(&rt, " 4k3/8/8/8/8/8/8/4K3\tw\r\n- \n-  0\n\n1\n\n", kings);
-    // One king stands in check, as no position may.
-    check_diagram(&rt, "4k3/8/8/8/8/8/8/4R1K1", "4k3/8/8/8/8/8/8/4R1K1");
+    check_diagrams(&rt, DIAGRAMS);
 }
+
+#[test]
+fn ends_of_lines(rt: HostRuntime) {
+    check_diagram(&rt, " \n", "wrong number of fields");
+    for text in [
+        "4k3/8/8/8/8/8/8/4K3\n",
+        "\r\n\n \t4k3/8/8/8/8/8/8/4K3 \n\n\n",
+        " 4k3/8/8/8/8/8/8/4K3\tw\r\n- \n-  0\n\n1\n\n",
+    ] {
+        check_diagram(&rt, text, KINGS);
+    }
+}
+
+const NO_DIAGRAMS: &str = " => wrong number of fields
+8/8/8/8/8/8/8 => bad rank
+rnbqkbnr/pppppppp/9/8/8/8/PPPPPPPP/RNBQKBNR => bad rank
+rnbqkbnr/pppppppp/7x/8/8/8/PPPPPPPP/RNBQKBNR => bad letter in the placement
+8/8/8/8/8/8/8/8 => each side must have one king
+P3k3/8/8/8/8/8/8/4K3 => a pawn stands on rank 1 or 8
+4k3/8/8/8/8/8/8/4K3 x - - 0 1 => bad side to move
+4k3/8/8/8/8/8/8/4K3 w KK - 0 1 => bad castling rights
+4k3/8/8/8/8/8/8/4K3 w - e4 0 1 => bad en passant square
+4k3/8/8/8/8/8/8/4K3 w - - 0 x => bad move number
+4k3/8/8/8/8/8/8/4K3 w => wrong number of fields
+4k3/8/8/8/8/8/8/4K3 w - - 0 => wrong number of fields
+4k3/8/8/8/8/8/8/4K3 w - - 0 1 x => wrong number of fields
+4k3/8/8/8/8/8/8/4K3/ => bad rank
+4k3/8/8/8/08/8/8/4K3 => bad rank
+4k3/8/8/8/07/8/8/4K3 => bad letter in the placement
+4k3/8/8/8/8/8/8/4K2k => each side must have one king
+4k3/8/8/8/8/8/8/8 => each side must have one king
+4k3/8/8/8/8/8/8/4K2p => a pawn stands on rank 1 or 8
+4k3/8/8/8/8/8/8/4K2p x KK e4 x x => a pawn stands on rank 1 or 8
+4k3/8/8/8/8/8/8/4K3 W - - 0 1 => bad side to move
+4k3/8/8/8/8/8/8/4K3 w K- - 0 1 => bad castling rights
+4k3/8/8/8/8/8/8/4K3 w - i3 0 1 => bad en passant square
+4k3/8/8/8/8/8/8/4K3 w - - +0 1 => bad move number
+4k3/8/8/8/8/8/8/4K3 w - - 0 65536 => bad move number";
 
 #[test]
 fn refusals(rt: HostRuntime) {
-    check_fault(&rt, "", FenFault::Fields);
-    check_fault(&rt, " \n", FenFault::Fields);
-    check_fault(&rt, "8/8/8/8/8/8/8", FenFault::Rank);
-    check_fault(
-        &rt,
-        "rnbqkbnr/pppppppp/9/8/8/8/PPPPPPPP/RNBQKBNR",
-        FenFault::Rank,
-    );
-    check_fault(
-        &rt,
-        "rnbqkbnr/pppppppp/7x/8/8/8/PPPPPPPP/RNBQKBNR",
-        FenFault::Letter,
-    );
-    check_fault(&rt, "8/8/8/8/8/8/8/8", FenFault::Kings);
-    check_fault(&rt, "P3k3/8/8/8/8/8/8/4K3", FenFault::PawnRank);
-    check_fault(&rt, "4k3/8/8/8/8/8/8/4K3 x - - 0 1", FenFault::Side);
-    check_fault(&rt, "4k3/8/8/8/8/8/8/4K3 w KK - 0 1", FenFault::Rights);
-    check_fault(&rt, "4k3/8/8/8/8/8/8/4K3 w - e4 0 1", FenFault::EnPassant);
-    check_fault(&rt, "4k3/8/8/8/8/8/8/4K3 w - - 0 x", FenFault::Number);
-}
-
-#[test]
-fn more_refusals(rt: HostRuntime) {
-    check_fault(&rt, "4k3/8/8/8/8/8/8/4K3 w", FenFault::Fields);
-    check_fault(&rt, "4k3/8/8/8/8/8/8/4K3 w - - 0", FenFault::Fields);
-    check_fault(&rt, "4k3/8/8/8/8/8/8/4K3 w - - 0 1 x", FenFault::Fields);
-    check_fault(&rt, "4k3/8/8/8/8/8/8/4K3/", FenFault::Rank);
-    check_fault(&rt, "4k3/8/8/8/08/8/8/4K3", FenFault::Rank);
-    check_fault(&rt, "4k3/8/8/8/07/8/8/4K3", FenFault::Letter);
-    check_fault(&rt, "4k3/8/8/8/8/8/8/4K2k", FenFault::Kings);
-    check_fault(&rt, "4k3/8/8/8/8/8/8/8", FenFault::Kings);
-    check_fault(&rt, "4k3/8/8/8/8/8/8/4K2p", FenFault::PawnRank);
-    check_fault(&rt, "4k3/8/8/8/8/8/8/4K2p x KK e4 x x", FenFault::PawnRank);
-    check_fault(&rt, "4k3/8/8/8/8/8/8/4K3 W - - 0 1", FenFault::Side);
-    check_fault(&rt, "4k3/8/8/8/8/8/8/4K3 w K- - 0 1", FenFault::Rights);
-    check_fault(&rt, "4k3/8/8/8/8/8/8/4K3 w - i3 0 1", FenFault::EnPassant);
-    check_fault(&rt, "4k3/8/8/8/8/8/8/4K3 w - - +0 1", FenFault::Number);
-    check_fault(&rt, "4k3/8/8/8/8/8/8/4K3 w - - 0 65536", FenFault::Number);
+    check_diagrams(&rt, NO_DIAGRAMS);
 }
 
 // Every character of a rank counts one, however many bytes it has; only spaces, tabs and ends of
 // lines separate fields.
+const ODD: &str = "4k3/8/8/8/7é/8/8/4K3 => bad letter in the placement
+4k3/8/8/8/6é/8/8/4K3 => bad rank
+4k3/8/8/8/7♔/8/8/4K3 => bad letter in the placement
+4k3/8/8/8/7😀/8/8/4K3 => bad letter in the placement
+4k3/8/8/8/8é/8/8/4K3 => bad rank
+4k3/8/8/8/7\0/8/8/4K3 => bad letter in the placement
+4k3/8/8/8/8/8/8/4K3\0 => bad rank
+\0 => bad rank
+4k3/8/8/8/8/8/8/4K3\u{c} => bad rank
+4k3/8/8/8/8/8/8/4K3\u{a0}w - - 0 1 => wrong number of fields";
+
 #[test]
 fn odd_characters(rt: HostRuntime) {
-    check_fault(&rt, "4k3/8/8/8/7é/8/8/4K3", FenFault::Letter);
-    check_fault(&rt, "4k3/8/8/8/6é/8/8/4K3", FenFault::Rank);
-    check_fault(&rt, "4k3/8/8/8/7♔/8/8/4K3", FenFault::Letter);
-    check_fault(&rt, "4k3/8/8/8/7😀/8/8/4K3", FenFault::Letter);
-    check_fault(&rt, "4k3/8/8/8/8é/8/8/4K3", FenFault::Rank);
-    check_fault(&rt, "4k3/8/8/8/7\0/8/8/4K3", FenFault::Letter);
-    check_fault(&rt, "4k3/8/8/8/8/8/8/4K3\0", FenFault::Rank);
-    check_fault(&rt, "\0", FenFault::Rank);
-    check_fault(&rt, "4k3/8/8/8/8/8/8/4K3\u{c}", FenFault::Rank);
-    check_fault(&rt, "4k3/8/8/8/8/8/8/4K3\u{a0}w - - 0 1", FenFault::Fields);
+    check_diagrams(&rt, ODD);
 }
 
 #[test]
-fn packed_bytes(rt: HostRuntime) -> Result<(), Fail> {
-    let packed = Diagram::read(ARRAY)?.packed();
+fn packed_bytes(rt: HostRuntime) {
     let wanted = [
         0x24, 0x53, 0x36, 0x42, 0x11, 0x11, 0x11, 0x11, 0, 0, 0, 0, 0, 0, 0, 0, 0, 0, 0, 0, 0, 0,
         0, 0, 0x99, 0x99, 0x99, 0x99, 0xac, 0xdb, 0xbe, 0xca,
     ];
-    assert!(rt; packed == wanted);
-    Ok(())
+    assert!(rt; diagram(&rt, ARRAY).packed() == wanted);
 }
 
 #[test]
-fn fault_texts(rt: HostRuntime) -> Result<(), Fail> {
+fn fault_texts(rt: HostRuntime) {
     let texts = [
         (FenFault::Fields, "wrong number of fields"),
         (FenFault::Rank, "bad rank"),
@@ -197,14 +215,10 @@ fn fault_texts(rt: HostRuntime) -> Result<(), Fail> {
         ),
     ];
     for (fault, text) in texts {
-        let shown = format!(in rt.alloc(); "{fault}")?;
-        assert_eq!(rt; shown.as_str(), text);
+        check_shown(&rt, &fault, text);
     }
-    let shape = format!(in rt.alloc(); "{}", LengthFault::Shape)?;
-    assert_eq!(rt; shape.as_str(), "bad length");
-    let too_long = format!(in rt.alloc(); "{}", LengthFault::TooLong)?;
-    assert_eq!(rt; too_long.as_str(), "length above 64.0");
-    Ok(())
+    check_shown(&rt, &LengthFault::Shape, "bad length");
+    check_shown(&rt, &LengthFault::TooLong, "length above 64.0");
 }
 
 #[test]

@@ -1,7 +1,7 @@
 mod counts;
 mod lists;
 
-use crate::texts::{move_of, position};
+use crate::texts::{cells, check_shown, halves, move_of, position};
 use pg_position::{Move, Position};
 use std::process::Abort;
 

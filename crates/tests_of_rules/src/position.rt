@@ -1,8 +1,8 @@
 mod games;
 mod positions;
 
-use crate::texts::{move_of, square};
-use pg_board::{Board, Color, Kind, Man, Square};
+use crate::texts::{cells, check_shown, is_yes, move_of, position, square};
+use pg_board::{Board, Color, Square};
 use pg_fen::man_of;
 use pg_position::{BadPosition, Illegal, Move, Position, Rights};
 use std::process::Abort;
@@ -49,25 +49,13 @@ fn parts(
     Position::from_parts(board(placement), side, rights(castling), passed)
 }
 
-// The position with White to move and no passed square.
-fn white(rt: &impl Abort, placement: &str, castling: &str) -> Position {
-    parts(rt, placement, Color::White, castling, "-").expect(rt, placement)
-}
-
-// The position with Black to move and no rights.
-fn black(rt: &impl Abort, placement: &str, passed: &str) -> Position {
-    parts(rt, placement, Color::Black, "-", passed).expect(rt, placement)
-}
-
-// The position after moves that must all be legal.
-fn after(rt: &impl Abort, start: &Position, moves: &[&str]) -> Position {
-    let mut position = *start;
-    for text in moves {
-        position = position.play(move_of(rt, text)).expect(rt, text);
+// The position after a game, which must be legal: moves with blanks between them, or nothing.
+fn after(rt: &impl Abort, start: &str, game: &str) -> Position {
+    let mut reached = position(rt, start);
+    for text in game.split(' ') {
+        if !text.is_empty() {
+            reached = reached.play(move_of(rt, text)).expect(rt, text);
+        }
     }
-    position
-}
-
-fn refusal(rt: &impl Abort, position: &Position, text: &str) -> Option<Illegal> {
-    position.play(move_of(rt, text)).err()
+    reached
 }

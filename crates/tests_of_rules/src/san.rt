@@ -2,6 +2,6 @@ mod lists;
 mod reads;
 mod writes;
 
-use crate::texts::{move_of, position};
+use crate::texts::{cells, check_case, check_shown, halves, move_of, position};
 use pg_position::{Move, Position};
 use std::process::Abort;

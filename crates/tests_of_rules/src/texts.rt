@@ -1,9 +1,29 @@
-//! Positions, squares and moves as their texts give them.
+//! Positions, squares and moves as their texts give them, the cells of a table's row, and what a value shows.
 
+use arrayvec::ArrayString;
 use pg_board::Square;
 use pg_fen::{man_of, read_position};
 use pg_position::{Move, Position};
+use std::fmt::{Display, Write};
 use std::process::Abort;
+
+// The cells of a row: what stands before ` | `, what stands behind it, and what is wanted of them behind ` => `.
+pub(crate) fn cells<'a>(rt: &impl Abort, row: &'a str) -> (&'a str, &'a str, &'a str) {
+    let (case, wanted) = halves(rt, row);
+    let (start, text) = case.split_once(" | ").expect(rt, row);
+    (start, text, wanted)
+}
+
+// The cells of a row that has one case: that, and what is wanted of it behind ` => `.
+pub(crate) fn halves<'a>(rt: &impl Abort, row: &'a str) -> (&'a str, &'a str) {
+    row.split_once(" => ").expect(rt, row)
+}
+
+// Whether a row wants `yes`, and not `no`.
+pub(crate) fn is_yes(rt: &impl Abort, wanted: &str) -> bool {
+    assert!(rt; wanted == "yes" || wanted == "no", "{wanted}");
+    wanted == "yes"
+}
 
 // The position of a FEN.
 pub(crate) fn position(rt: &impl Abort, text: &str) -> Position {
@@ -32,4 +52,16 @@ pub(crate) fn move_of(rt: &impl Abort, text: &str) -> Move {
             .and_then(|letter| man_of(*letter))
             .map(|man| man.kind),
     }
+}
+
+// That a value is shown by a text, and else the case of a table that gave it.
+pub(crate) fn check_case<T: Display>(rt: &impl Abort, case: &str, value: &T, wanted: &str) {
+    let mut text = ArrayString::<128>::new();
+    assert!(rt; write!(text, "{value}").is_ok(), "{case}");
+    assert_eq!(rt; text.as_str(), wanted, "{case}");
+}
+
+// That a value is shown by a text.
+pub(crate) fn check_shown<T: Display>(rt: &impl Abort, value: &T, wanted: &str) {
+    check_case(rt, wanted, value, wanted);
 }

@@ -5,7 +5,6 @@ ghost use Rattle.pg_board.specs.Placement.{get};
 ghost use Rattle.pg_board.specs.Tally.{tally};
 
 use pg_board::{Board, Color, Man, Square};
-use std::test::Fail;
 
 // The board after the man on `from` goes to `to`.
 #[tactic(auto, using(pg_board::specs::lemmas::Placements::gets))]
@@ -42,7 +41,7 @@ fn men_of(board: &Board, color: Color) -> u8
 
 #[test]
 #[tactic(auto, using(pg_board::specs::lemmas::Placements::gets))]
-fn shifts_and_counts(rt: HostRuntime) -> Result<(), Fail> {
+fn shifts_and_counts(rt: HostRuntime) {
     let e2 = Square::at(12);
     let e4 = Square::at(28);
     let pawn = Man {
@@ -52,9 +51,6 @@ fn shifts_and_counts(rt: HostRuntime) -> Result<(), Fail> {
     let mut board = Board::empty();
     board.put(e2, pawn);
     let moved = shift(&board, e2, e4);
-    assert_eq!(rt; moved.get(e4), Some(pawn));
-    assert_eq!(rt; moved.get(e2), None);
-    assert_eq!(rt; men_of(&moved, Color::White), 1);
-    assert_eq!(rt; men_of(&moved, Color::Black), 0);
-    Ok(())
+    assert!(rt; moved.get(e4) == Some(pawn) && moved.get(e2).is_none());
+    assert!(rt; men_of(&moved, Color::White) == 1 && men_of(&moved, Color::Black) == 0);
 }

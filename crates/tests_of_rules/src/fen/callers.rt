@@ -5,7 +5,6 @@ ghost use Rattle.pg_fen.specs.Packing.{packed_of};
 ghost use Rattle.pg_fen.specs.PlacementText.{placement_text};
 
 use pg_fen::{Diagram, FenFault, Length, LengthFault};
-use std::test::Fail;
 
 // The length that is written and read again.
 fn read_back(length: Length) -> Result<Length, LengthFault>
@@ -37,12 +36,11 @@ fn same_bytes(a: &Diagram, b: &Diagram) -> bool
 }
 
 #[test]
-fn calls(rt: HostRuntime) -> Result<(), Fail> {
-    let length = Length::read("18.5")?;
-    assert!(rt; read_back(length)? == length);
+fn calls(rt: HostRuntime) {
+    let length = Length::read("18.5").expect(&rt, "18.5");
+    assert!(rt; read_back(length) == Ok(length));
     assert_eq!(rt; longer(length).map(|l| l.plies()), Some(38));
-    let diagram = Diagram::read("4k3/8/8/8/8/8/8/4K3")?;
-    assert!(rt; read_diagram_back(&diagram)? == diagram);
+    let diagram = super::diagram(&rt, super::KINGS);
+    assert!(rt; read_diagram_back(&diagram) == Ok(diagram));
     assert!(rt; same_bytes(&diagram, &diagram));
-    Ok(())
 }

@@ -1,11 +1,10 @@
 use super::*;
 use pg_moves::{legal_moves, next_legal};
 use std::alloc::Global;
-use std::test::Fail;
 
 // Walks all legal moves by the next one, and compares them with the list.
-fn walk(rt: &impl Abort, alloc: Global, position: &Position, expected: usize) -> Result<(), Fail> {
-    let moves = legal_moves(alloc, position)?;
+fn walk(rt: &impl Abort, alloc: Global, position: &Position, expected: usize) {
+    let moves = legal_moves(alloc, position).expect(rt, "memory");
     assert_eq!(rt; moves.len(), expected);
     let mut last = None;
     for m in &moves {
@@ -13,79 +12,80 @@ fn walk(rt: &impl Abort, alloc: Global, position: &Position, expected: usize) ->
         last = Some(*m);
     }
     assert_eq!(rt; next_legal(position, last), None);
-    Ok(())
 }
 
 #[test]
-fn walks(rt: HostRuntime) -> Result<(), Fail> {
-    walk(&rt, rt.alloc(), &Position::array(), 20)?;
-    walk(&rt, rt.alloc(), &position(&rt, MANY), 48)?;
-    walk(&rt, rt.alloc(), &position(&rt, FEW), 14)?;
-    walk(&rt, rt.alloc(), &position(&rt, MATED), 0)
+fn walks(rt: HostRuntime) {
+    walk(&rt, rt.alloc(), &Position::array(), 20);
+    walk(&rt, rt.alloc(), &position(&rt, MANY), 48);
+    walk(&rt, rt.alloc(), &position(&rt, FEW), 14);
+    walk(&rt, rt.alloc(), &position(&rt, MATED), 0);
+    let castling = "4k3/8/8/3pP3/8/8/8/R3K2R w KQ d6 0 1";
+    walk(&rt, rt.alloc(), &position(&rt, castling), 28);
 }
 
-// The next move after one that need not be legal.
-fn next(rt: &impl Abort, position: &Position, text: &str) -> Option<Move> {
-    next_legal(position, Some(move_of(rt, text)))
+// That in each row's position this move, or none, is the next one after a move that need not be legal.
+fn check_next(rt: &impl Abort, table: &str) {
+    for row in table.lines() {
+        let (start, text, wanted) = cells(rt, row);
+        let found = next_legal(&position(rt, start), Some(move_of(rt, text)));
+        let wanted = match wanted {
+            "none" => None,
+            then => Some(move_of(rt, then)),
+        };
+        assert_eq!(rt; found, wanted, "{row}");
+    }
 }
+
+const ILLEGAL: &str = "rnbqkbnr/pppppppp/8/8/8/8/PPPPPPPP/RNBQKBNR w KQkq - 0 1 | a1a1 => b1a3
+rnbqkbnr/pppppppp/8/8/8/8/PPPPPPPP/RNBQKBNR w KQkq - 0 1 | b1a3k => b1c3
+rnbqkbnr/pppppppp/8/8/8/8/PPPPPPPP/RNBQKBNR w KQkq - 0 1 | b1b3 => b1c3
+rnbqkbnr/pppppppp/8/8/8/8/PPPPPPPP/RNBQKBNR w KQkq - 0 1 | c1h8 => g1f3
+rnbqkbnr/pppppppp/8/8/8/8/PPPPPPPP/RNBQKBNR w KQkq - 0 1 | a2a3 => a2a4
+rnbqkbnr/pppppppp/8/8/8/8/PPPPPPPP/RNBQKBNR w KQkq - 0 1 | a2a3q => a2a4
+rnbqkbnr/pppppppp/8/8/8/8/PPPPPPPP/RNBQKBNR w KQkq - 0 1 | h2h3 => h2h4
+rnbqkbnr/pppppppp/8/8/8/8/PPPPPPPP/RNBQKBNR w KQkq - 0 1 | h2h4 => none
+rnbqkbnr/pppppppp/8/8/8/8/PPPPPPPP/RNBQKBNR w KQkq - 0 1 | h2h4p => none
+rnbqkbnr/pppppppp/8/8/8/8/PPPPPPPP/RNBQKBNR w KQkq - 0 1 | h8h8k => none
+rnbqkbnr/pppppppp/8/8/8/8/PPPPPPPP/RNBQKBNR w KQkq - 0 1 | a7a5 => none";
 
 #[test]
 fn after_illegal_moves(rt: HostRuntime) {
-    let array = Position::array();
-    for (text, expected) in [
-        ("a1a1", "b1a3"),
-        ("b1a3k", "b1c3"),
-        ("b1b3", "b1c3"),
-        ("c1h8", "g1f3"),
-        ("a2a3", "a2a4"),
-        ("a2a3q", "a2a4"),
-        ("h2h3", "h2h4"),
-    ] {
-        assert_eq!(rt;
-            next(&rt, &array, text),
-            Some(move_of(&rt, expected)),
-            "{text}"
-        );
-    }
-    for text in ["h2h4", "h2h4p", "h8h8k", "a7a5"] {
-        assert_eq!(rt; next(&rt, &array, text), None, "{text}");
-    }
+    check_next(&rt, ILLEGAL);
+}
+
+const PROMOTIONS: &str = "3r3k/4P3/8/8/8/8/8/K7 w - - 0 1 | e7d8 => e7d8n
+3r3k/4P3/8/8/8/8/8/K7 w - - 0 1 | e7d8p => e7d8n
+3r3k/4P3/8/8/8/8/8/K7 w - - 0 1 | e7d8n => e7d8b
+3r3k/4P3/8/8/8/8/8/K7 w - - 0 1 | e7d8q => e7e8n
+3r3k/4P3/8/8/8/8/8/K7 w - - 0 1 | e7d8k => e7e8n
+3r3k/4P3/8/8/8/8/8/K7 w - - 0 1 | e7e8p => e7e8n
+3r3k/4P3/8/8/8/8/8/K7 w - - 0 1 | e7e8q => none
+3r3k/4P3/8/8/8/8/8/K7 w - - 0 1 | e7e8k => none";
+
+#[test]
+fn after_promotions(rt: HostRuntime) {
+    check_next(&rt, PROMOTIONS);
+}
+
+const CASTLING_AND_EN_PASSANT: &str = "4k3/8/8/3pP3/8/8/8/R3K2R w KQ d6 0 1 | e1d1 => e1f1
+4k3/8/8/3pP3/8/8/8/R3K2R w KQ d6 0 1 | e1a1 => e1c1
+4k3/8/8/3pP3/8/8/8/R3K2R w KQ d6 0 1 | e1f1 => e1g1
+4k3/8/8/3pP3/8/8/8/R3K2R w KQ d6 0 1 | e5a1 => e5d6
+4k3/8/8/3pP3/8/8/8/R3K2R w KQ d6 0 1 | e5d6 => e5e6";
+
+#[test]
+fn castling_and_en_passant(rt: HostRuntime) {
+    check_next(&rt, CASTLING_AND_EN_PASSANT);
 }
 
 #[test]
-fn promotions_in_order(rt: HostRuntime) -> Result<(), Fail> {
+fn promotions_in_order(rt: HostRuntime) {
     let start = position(&rt, "3r3k/4P3/8/8/8/8/8/K7 w - - 0 1");
-    let expected = [
-        "a1b1", "a1a2", "a1b2", "e7d8n", "e7d8b", "e7d8r", "e7d8q", "e7e8n", "e7e8b", "e7e8r",
-        "e7e8q",
-    ];
-    let moves = legal_moves(rt.alloc(), &start)?;
-    assert_eq!(rt; moves.len(), expected.len());
-    for (m, text) in moves.iter().zip(expected.iter()) {
+    let expected = "a1b1 a1a2 a1b2 e7d8n e7d8b e7d8r e7d8q e7e8n e7e8b e7e8r e7e8q";
+    let moves = legal_moves(rt.alloc(), &start).expect(&rt, "memory");
+    assert_eq!(rt; moves.len(), 11);
+    for (m, text) in moves.iter().zip(expected.split(' ')) {
         assert_eq!(rt; *m, move_of(&rt, text), "{text}");
     }
-    for (text, then) in [
-        ("e7d8", "e7d8n"),
-        ("e7d8p", "e7d8n"),
-        ("e7d8n", "e7d8b"),
-        ("e7d8q", "e7e8n"),
-        ("e7d8k", "e7e8n"),
-        ("e7e8p", "e7e8n"),
-    ] {
-        assert_eq!(rt; next(&rt, &start, text), Some(move_of(&rt, then)), "{text}");
-    }
-    assert_eq!(rt; next(&rt, &start, "e7e8q"), None);
-    assert_eq!(rt; next(&rt, &start, "e7e8k"), None);
-    Ok(())
-}
-
-#[test]
-fn castling_and_en_passant(rt: HostRuntime) -> Result<(), Fail> {
-    let start = position(&rt, "4k3/8/8/3pP3/8/8/8/R3K2R w KQ d6 0 1");
-    assert_eq!(rt; next(&rt, &start, "e1d1"), Some(move_of(&rt, "e1f1")));
-    assert_eq!(rt; next(&rt, &start, "e1a1"), Some(move_of(&rt, "e1c1")));
-    assert_eq!(rt; next(&rt, &start, "e1f1"), Some(move_of(&rt, "e1g1")));
-    assert_eq!(rt; next(&rt, &start, "e5a1"), Some(move_of(&rt, "e5d6")));
-    assert_eq!(rt; next(&rt, &start, "e5d6"), Some(move_of(&rt, "e5e6")));
-    walk(&rt, rt.alloc(), &start, 28)
 }

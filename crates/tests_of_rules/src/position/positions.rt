@@ -1,21 +1,35 @@
 use super::*;
 
+// The first clause that parts are to break.
+fn bad(rt: &impl Abort, wanted: &str) -> BadPosition {
+    match wanted {
+        "Kings" => BadPosition::Kings,
+        "PawnRank" => BadPosition::PawnRank,
+        "Rights" => BadPosition::Rights,
+        "EnPassant" => BadPosition::EnPassant,
+        "Check" => BadPosition::Check,
+        name => panic!(rt; "{name}"),
+    }
+}
+
+// A placement, the rights and the passed square, with White to move, and the clause that they break.
+const PARTS: &str = "8/8/8/8/8/8/8/8 | - - => Kings
+4k3/8/8/8/8/8/8/4K2K | - - => Kings
+P3k3/8/8/8/8/8/8/4K3 | - - => PawnRank
+4k3/8/8/8/8/8/8/4K2p | - - => PawnRank
+4k3/8/8/8/8/8/8/4K3 | K - => Rights
+4k3/8/8/8/8/8/8/4K2R | Q - => Rights
+4k3/8/8/8/8/8/8/4K3 | - e6 => EnPassant
+4k3/8/8/8/4P3/8/8/4K3 | - e3 => EnPassant
+4k3/8/8/8/8/8/8/4R1K1 | - - => Check";
+
 #[test]
 fn refused_parts(rt: HostRuntime) {
-    let bare = "4k3/8/8/8/8/8/8/4K3";
-    for (placement, castling, passed, cause) in [
-        ("8/8/8/8/8/8/8/8", "-", "-", BadPosition::Kings),
-        ("4k3/8/8/8/8/8/8/4K2K", "-", "-", BadPosition::Kings),
-        ("P3k3/8/8/8/8/8/8/4K3", "-", "-", BadPosition::PawnRank),
-        ("4k3/8/8/8/8/8/8/4K2p", "-", "-", BadPosition::PawnRank),
-        (bare, "K", "-", BadPosition::Rights),
-        ("4k3/8/8/8/8/8/8/4K2R", "Q", "-", BadPosition::Rights),
-        (bare, "-", "e6", BadPosition::EnPassant),
-        ("4k3/8/8/8/4P3/8/8/4K3", "-", "e3", BadPosition::EnPassant),
-        ("4k3/8/8/8/8/8/8/4R1K1", "-", "-", BadPosition::Check),
-    ] {
+    for row in PARTS.lines() {
+        let (placement, rest, wanted) = cells(&rt, row);
+        let (castling, passed) = rest.split_once(' ').expect(&rt, row);
         let found = parts(&rt, placement, Color::White, castling, passed).err();
-        assert_eq!(rt; found, Some(cause), "{placement} {castling} {passed}");
+        assert_eq!(rt; found, Some(bad(&rt, wanted)), "{row}");
     }
 }
 
@@ -39,67 +53,62 @@ fn parts_are_read_back(rt: HostRuntime) {
 fn the_array(rt: HostRuntime) {
     let array = Position::array();
     let placement = "rnbqkbnr/pppppppp/8/8/8/8/PPPPPPPP/RNBQKBNR";
-    assert!(rt; array == white(&rt, placement, "KQkq"));
-    assert!(rt; array.attacked(square(&rt, "f3"), Color::White));
-    assert!(rt; array.attacked(square(&rt, "d8"), Color::Black));
-    assert!(rt; !array.attacked(square(&rt, "e4"), Color::White));
-    assert!(rt; !array.in_check());
+    let read = parts(&rt, placement, Color::White, "KQkq", "-").expect(&rt, placement);
+    assert!(rt; array == read && !array.in_check());
 }
+
+// A position, a colour and squares, and whether the colour attacks each of them.
+const ATTACKS: &str = "rnbqkbnr/pppppppp/8/8/8/8/PPPPPPPP/RNBQKBNR w KQkq - 0 1 | White f3 => yes
+rnbqkbnr/pppppppp/8/8/8/8/PPPPPPPP/RNBQKBNR w KQkq - 0 1 | Black d8 => yes
+rnbqkbnr/pppppppp/8/8/8/8/PPPPPPPP/RNBQKBNR w KQkq - 0 1 | White e4 => no
+4k3/8/2n5/8/3pB1q1/8/5P2/R3K3 w - - 0 1 | White d5 c6 f3 h7 b1 a8 e3 g3 d1 e2 h1 f2 => yes
+4k3/8/2n5/8/3pB1q1/8/5P2/R3K3 w - - 0 1 | Black e5 b4 e3 c3 e4 d7 f5 d1 h5 g8 d4 => yes
+4k3/8/2n5/8/3pB1q1/8/5P2/R3K3 w - - 0 1 | White b7 g1 a1 b2 b4 => no
+4k3/8/2n5/8/3pB1q1/8/5P2/R3K3 w - - 0 1 | Black a4 => no";
 
 #[test]
 fn attack_by_each_kind(rt: HostRuntime) {
-    let position = white(&rt, "4k3/8/2n5/8/3pB1q1/8/5P2/R3K3", "-");
-    for (by, names) in [
-        (Color::White, "d5 c6 f3 h7 b1 a8 e3 g3 d1 e2 h1"),
-        (Color::Black, "e5 b4 e3 c3 e4 d7 f5 d1 h5 g8 d4"),
-    ] {
+    for row in ATTACKS.lines() {
+        let (start, rest, wanted) = cells(&rt, row);
+        let (color, names) = rest.split_once(' ').expect(&rt, row);
         for name in names.split(' ') {
-            assert!(rt; position.attacked(square(&rt, name), by), "{name}");
+            let by = if color == "White" {
+                Color::White
+            } else {
+                Color::Black
+            };
+            let hit = position(&rt, start).attacked(square(&rt, name), by);
+            assert_eq!(rt; hit, is_yes(&rt, wanted), "{name} of {row}");
         }
     }
-    for name in ["b7", "g1", "a1", "b2", "f2"] {
-        let hit = position.attacked(square(&rt, name), Color::White);
-        assert_eq!(rt; hit, name == "f2", "{name}");
-    }
-    assert!(rt; !position.attacked(square(&rt, "b4"), Color::White));
-    assert!(rt; !position.attacked(square(&rt, "a4"), Color::Black));
 }
+
+// A position of Black's with a passed square, the same with none, and whether they have the same future.
+const FUTURES: &str = "4k3/8/8/8/4P3/8/8/4K3 b - e3 0 1 | 4k3/8/8/8/4P3/8/8/4K3 b - - 0 1 => yes
+4k3/8/8/8/3pP3/8/8/4K3 b - e3 0 1 | 4k3/8/8/8/3pP3/8/8/4K3 b - - 0 1 => no
+8/8/8/8/k2pP2R/8/8/4K3 b - e3 0 1 | 8/8/8/8/k2pP2R/8/8/4K3 b - - 0 1 => no";
 
 #[test]
 fn same_futures(rt: HostRuntime) {
-    for (placement, same) in [
-        ("4k3/8/8/8/4P3/8/8/4K3", true),
-        ("4k3/8/8/8/3pP3/8/8/4K3", false),
-        ("8/8/8/8/k2pP2R/8/8/4K3", false),
-    ] {
-        let passed = black(&rt, placement, "e3");
-        let idle = black(&rt, placement, "-");
-        assert_eq!(rt; passed.same_future(&idle), same, "{placement}");
-        assert_eq!(rt; idle.same_future(&passed), same, "{placement}");
+    for row in FUTURES.lines() {
+        let (with, without, wanted) = cells(&rt, row);
+        let passed = position(&rt, with);
+        let idle = position(&rt, without);
+        assert_eq!(rt; passed.same_future(&idle), is_yes(&rt, wanted), "{row}");
+        assert_eq!(rt; idle.same_future(&passed), is_yes(&rt, wanted), "{row}");
     }
 }
 
 #[test]
-fn texts(rt: HostRuntime) -> Result<(), std::test::Fail> {
-    for (cause, text) in [
-        (BadPosition::Kings, "each side must have one king"),
-        (BadPosition::PawnRank, "a pawn stands on rank 1 or 8"),
-        (
-            BadPosition::Rights,
-            "a castling right without its king and rook at home",
-        ),
-        (
-            BadPosition::EnPassant,
-            "an en passant square that fits no two-square advance",
-        ),
-        (
-            BadPosition::Check,
-            "the side that is not to move is in check",
-        ),
-    ] {
-        assert_eq!(rt; format!(in rt.alloc(); "{cause}")?.as_str(), text);
-    }
-    Ok(())
+fn texts(rt: HostRuntime) {
+    check_shown(&rt, &BadPosition::Kings, "each side must have one king");
+    check_shown(&rt, &BadPosition::PawnRank, "a pawn stands on rank 1 or 8");
+    let rights = "a castling right without its king and rook at home";
+    check_shown(&rt, &BadPosition::Rights, rights);
+    let passed = "an en passant square that fits no two-square advance";
+    check_shown(&rt, &BadPosition::EnPassant, passed);
+    let check = "the side that is not to move is in check";
+    check_shown(&rt, &BadPosition::Check, check);
 }
 
 #[test]

@@ -1,8 +1,6 @@
 use super::*;
 use pg_board::Square;
 use pg_san::{AddFault, Games, GamesFault, SanFault, read_games};
-use std::alloc::Global;
-use std::fmt::Display;
 
 // The games of three plies to one placement, one by en passant, in canonical order.
 const FOUR: [&str; 4] = [
@@ -12,12 +10,10 @@ const FOUR: [&str; 4] = [
     "1. e4 d6 2. e5 a6 3. exd6",
 ];
 
-const FOUR_BY_SQUARES: [&str; 4] = [
-    "e2e4 a7a6 e4e5 d7d5 e5d6",
-    "e2e4 a7a6 e4e5 d7d6 e5d6",
-    "e2e4 d7d5 e4d5 a7a6 d5d6",
-    "e2e4 d7d6 e4e5 a7a6 e5d6",
-];
+const FOUR_BY_SQUARES: &str = "e2e4 a7a6 e4e5 d7d5 e5d6
+e2e4 a7a6 e4e5 d7d6 e5d6
+e2e4 d7d5 e4d5 a7a6 d5d6
+e2e4 d7d6 e4e5 a7a6 e5d6";
 
 const WHITE: [&str; 16] = [
     "a2a3", "a2a4", "b2b3", "b2b4", "c2c3", "c2c4", "d2d3", "d2d4", "e2e3", "e2e4", "f2f3", "f2f4",
@@ -68,17 +64,6 @@ fn many_lines<R: Abort + AllocGlobal>(rt: &R, count: usize) -> String {
     text
 }
 
-fn fault_of(alloc: Global, text: &str) -> Option<GamesFault> {
-    match read_games(alloc, text) {
-        Ok(_) => None,
-        Err(fault) => Some(fault),
-    }
-}
-
-fn bad(line: usize, ply: usize, cause: SanFault) -> Option<GamesFault> {
-    Some(GamesFault::At { line, ply, cause })
-}
-
 fn push_square(rt: &impl Abort, text: &mut String, square: Square) {
     assert!(rt; text.push(char::from(square.file() + 96)).is_ok());
     assert!(rt; text.push(char::from(square.rank() + 48)).is_ok());
@@ -97,15 +82,17 @@ fn by_squares<R: Abort + AllocGlobal>(rt: &R, game: &[Move]) -> String {
     text
 }
 
-// That the list holds these games in this order, and no more.
-fn check_games<R: Abort + AllocGlobal>(rt: &R, games: &Games, wanted: &[&str]) {
-    assert_eq!(rt; games.len(), wanted.len());
-    for (i, squares) in wanted.iter().enumerate() {
-        let game = games.game(i).expect(rt, squares);
-        assert_eq!(rt; by_squares(rt, game).as_str(), *squares);
+// That the list holds these games in this order, a line each, and no more.
+fn check_games<R: Abort + AllocGlobal>(rt: &R, games: &Games, wanted: &str) {
+    let mut count = 0usize;
+    for squares in wanted.lines() {
+        let game = games.game(count).expect(rt, squares);
+        assert_eq!(rt; by_squares(rt, game).as_str(), squares);
         assert!(rt; games.contains(game), "{squares}");
+        count = count.saturating_add(1);
     }
-    assert!(rt; games.game(wanted.len()).is_none());
+    assert_eq!(rt; games.len(), count);
+    assert!(rt; games.game(count).is_none());
 }
 
 // The games of a text.
@@ -117,39 +104,40 @@ fn list<R: Abort + AllocGlobal>(rt: &R, text: &str) -> Games {
 }
 
 // That a text is a list of these games.
-fn check_list<R: Abort + AllocGlobal>(rt: &R, text: &str, wanted: &[&str]) {
+fn check_list<R: Abort + AllocGlobal>(rt: &R, text: &str, wanted: &str) {
     check_games(rt, &list(rt, text), wanted);
 }
 
-// That a text is no list.
-fn check_fault<R: Abort + AllocGlobal>(rt: &R, text: &str, wanted: Option<GamesFault>) {
-    assert_eq!(rt; fault_of(rt.alloc(), text), wanted);
+// That a text is no list, by a fault that is shown so.
+fn check_fault<R: Abort + AllocGlobal>(rt: &R, text: &str, wanted: &str) {
+    match read_games(rt.alloc(), text) {
+        Ok(_) => panic!(rt; "{text}"),
+        Err(fault) => check_case(rt, text, &fault, wanted),
+    }
 }
 
 #[test]
 fn four_games(rt: HostRuntime) {
     let text = "\n1. e4 d6 2. e5 a6 3. exd6\r\n \t\n1. e4 a6 2. e5 d6 3. exd6\n\
         1.e4 d5\t2.exd5 a6 3.d6\n\r\n1. e4 a6 2. e5 d5 3. exd6e.p.\r";
-    check_list(&rt, text, &FOUR_BY_SQUARES);
-    let lapsed = "1. e4 d5 2. e5 a6 3. exd6";
-    check_fault(&rt, lapsed, bad(1, 5, SanFault::NoSuchMove));
+    check_list(&rt, text, FOUR_BY_SQUARES);
 }
 
 #[test]
 fn empty_lists(rt: HostRuntime) {
     for text in ["", "\n", "\r\n \t\r\n\n", "\r"] {
-        check_list(&rt, text, &[]);
+        check_list(&rt, text, "");
     }
-    check_games(&rt, &Games::new(rt.alloc()), &[]);
+    check_games(&rt, &Games::new(rt.alloc()), "");
 }
 
 #[test]
 fn games_of_no_move(rt: HostRuntime) {
     for text in ["-", "\t- \r\n", "1.", "\n1... 27.\n"] {
-        check_list(&rt, text, &[""]);
+        check_list(&rt, text, "\n");
     }
-    check_fault(&rt, "-\n\n1.", Some(GamesFault::Repeated { line: 3 }));
-    check_list(&rt, "e4 e5\n-\ne4", &["", "e2e4", "e2e4 e7e5"]);
+    check_fault(&rt, "-\n\n1.", "line 3: repeated game");
+    check_list(&rt, "e4 e5\n-\ne4", "\ne2e4\ne2e4 e7e5");
 }
 
 // That two spellings are one game.
@@ -157,7 +145,7 @@ fn check_spellings<R: Abort + AllocGlobal>(rt: &R, first: &str, second: &str) {
     let mut text = repeated(rt, first, 1);
     push(rt, &mut text, "\n");
     push(rt, &mut text, second);
-    check_fault(rt, text.as_str(), Some(GamesFault::Repeated { line: 2 }));
+    check_fault(rt, text.as_str(), "line 2: repeated game");
 }
 
 #[test]
@@ -170,52 +158,54 @@ fn one_game_in_three_spellings(rt: HostRuntime) {
     }
 }
 
+// In the last two a word names two moves, and none: the pawn passed a move too early.
+const BAD_WORDS: &str = "1. e4 e5 * => line 1, ply 3: not a move
+1.1.e4 => line 1, ply 1: not a move
+1.e4 1.1. e5 => line 1, ply 2: not a move
+1 e4 => line 1, ply 1: not a move
+.e4 => line 1, ply 1: not a move
+- - => line 1, ply 1: not a move
+1.- => line 1, ply 1: not a move
+e4\re5 => line 1, ply 1: not a move
+\r e4 => line 1, ply 1: not a move
+e4 e\0 => line 1, ply 2: not a move
+e4 é5 => line 1, ply 2: not a move
+e4\u{a0}e5 => line 1, ply 1: not a move
+1. Nf3 a6 2. d4 a5 3. Nd2 => line 1, ply 5: ambiguous move
+1. e4 d5 2. e5 a6 3. exd6 => line 1, ply 5: no such legal move";
+
 #[test]
 fn bad_words(rt: HostRuntime) {
-    for (text, line, ply) in [
-        ("1. e4 e5 *", 1, 3),
-        ("e4\n\n1. d4 d5 2. 1-0", 3, 3),
-        ("1.1.e4", 1, 1),
-        ("1.e4 1.1. e5", 1, 2),
-        ("1 e4", 1, 1),
-        (".e4", 1, 1),
-        ("- -", 1, 1),
-        ("1.-", 1, 1),
-        ("e4\re5", 1, 1),
-        ("e4\r\r\n", 1, 1),
-        ("\r e4", 1, 1),
-        ("e4 e\0", 1, 2),
-        ("e4 é5", 1, 2),
-        ("e4\u{a0}e5", 1, 1),
-    ] {
-        check_fault(&rt, text, bad(line, ply, SanFault::Shape));
+    for row in BAD_WORDS.lines() {
+        let (text, wanted) = halves(&rt, row);
+        check_fault(&rt, text, wanted);
     }
-    let ambiguous = "1. Nf3 a6 2. d4 a5 3. Nd2";
-    check_fault(&rt, ambiguous, bad(1, 5, SanFault::Ambiguous));
+    check_fault(&rt, "e4\n\n1. d4 d5 2. 1-0", "line 3, ply 3: not a move");
+    check_fault(&rt, "e4\r\r\n", "line 1, ply 1: not a move");
 }
 
 #[test]
 fn a_word_of_two_million_characters(rt: HostRuntime) {
     let mut word = repeated(&rt, "1", 1_000_000);
-    check_fault(&rt, word.as_str(), bad(1, 1, SanFault::Shape));
+    check_fault(&rt, word.as_str(), "line 1, ply 1: not a move");
     let dots = repeated(&rt, ".", 1_000_000);
     push(&rt, &mut word, dots.as_str());
-    check_list(&rt, word.as_str(), &[""]);
+    check_list(&rt, word.as_str(), "\n");
     push(&rt, &mut word, "x");
-    check_fault(&rt, word.as_str(), bad(1, 1, SanFault::Shape));
+    check_fault(&rt, word.as_str(), "line 1, ply 1: not a move");
 }
 
 #[test]
 fn too_many(rt: HostRuntime) {
     let same = repeated(&rt, "e4\n", 4097);
-    check_fault(&rt, same.as_str(), Some(GamesFault::Repeated { line: 2 }));
+    check_fault(&rt, same.as_str(), "line 2: repeated game");
     let more = many_lines(&rt, 4097);
-    check_fault(&rt, more.as_str(), Some(GamesFault::TooMany { line: 4097 }));
+    check_fault(&rt, more.as_str(), "line 4097: more than 4096 games");
     let mut most = many_lines(&rt, 4096);
     push(&rt, &mut most, " \n\n");
     assert_eq!(rt; list(&rt, most.as_str()).len(), 4096);
     push(&rt, &mut most, "?");
-    check_fault(&rt, most.as_str(), Some(GamesFault::TooMany { line: 4099 }));
+    check_fault(&rt, most.as_str(), "line 4099: more than 4096 games");
 }
 
 // That a game is added, or why it is not.
@@ -254,7 +244,7 @@ fn adds_in_any_order(rt: HostRuntime) {
         check_add_text(&rt, &mut games, text, Ok(()));
         check_add_text(&rt, &mut games, text, Err(AddFault::Repeated));
     }
-    check_games(&rt, &games, &FOUR_BY_SQUARES);
+    check_games(&rt, &games, FOUR_BY_SQUARES);
     let illegal = [Move {
         from: Square::at(12),
         to: Square::at(36),
@@ -262,7 +252,7 @@ fn adds_in_any_order(rt: HostRuntime) {
     }];
     check_add(&rt, &mut games, &illegal, Err(AddFault::IllegalMove(1)));
     check_late(&rt, &mut games, FOUR[0], 6);
-    check_games(&rt, &games, &FOUR_BY_SQUARES);
+    check_games(&rt, &games, FOUR_BY_SQUARES);
 }
 
 #[test]
@@ -329,26 +319,12 @@ fn bad_words_behind_refused_growths(rt: HostRuntime) {
     }
 }
 
-// That a fault is shown by a text.
-fn check_shown<R: Abort + AllocGlobal, T: Display>(rt: &R, fault: &T, wanted: &str) {
-    let Ok(text) = format!(in rt.alloc(); "{fault}") else {
-        panic!(rt; "memory");
-    };
-    assert_eq!(rt; text.as_str(), wanted);
-}
-
-// That the fault of a text is shown so.
-fn check_read<R: Abort + AllocGlobal>(rt: &R, text: &str, wanted: &str) {
-    let fault = fault_of(rt.alloc(), text).expect(rt, text);
-    check_shown(rt, &fault, wanted);
-}
-
 #[test]
 fn texts_of_faults(rt: HostRuntime) {
-    check_read(&rt, "e4\n1. e4 e5 *", "line 2, ply 3: not a move");
-    check_read(&rt, "e5", "line 1, ply 1: no such legal move");
-    check_read(&rt, "Nf3 a6 d4 a5 Nd2", "line 1, ply 5: ambiguous move");
-    check_read(&rt, "e4\n\ne4", "line 3: repeated game");
+    check_fault(&rt, "e4\n1. e4 e5 *", "line 2, ply 3: not a move");
+    check_fault(&rt, "e5", "line 1, ply 1: no such legal move");
+    check_fault(&rt, "Nf3 a6 d4 a5 Nd2", "line 1, ply 5: ambiguous move");
+    check_fault(&rt, "e4\n\ne4", "line 3: repeated game");
     let full = GamesFault::TooMany { line: 4097 };
     check_shown(&rt, &full, "line 4097: more than 4096 games");
     check_shown(&rt, &AddFault::IllegalMove(3), "illegal move at ply 3");
