@@ -1,82 +1,79 @@
-use crate::texts::diagram;
-use pg_board::{Color, Square};
+use crate::texts::{check_bound, color, diagram, position, row_of};
+use pg_board::Color;
 use pg_captures::*;
-use pg_position::{Move, Position};
+use pg_position::Position;
 use pg_trial::Never;
 use std::process::Abort;
 
-// The position after 1. d3, 1. e4 d5 2. exd5 and so on: moves by square indexes, all legal.
-fn after(rt: &impl Abort, moves: &[(u8, u8)]) -> Position {
-    let mut position = Position::array();
-    for (from, to) in moves {
-        let m = Move {
-            from: Square::from_index(*from).expect(rt, "from"),
-            to: Square::from_index(*to).expect(rt, "to"),
-            promotion: None,
-        };
-        position = position.play(m).expect(rt, "legal");
+// A diagram, a position and a colour, and the captures that the colour owes. In the last two it is after 1. e4 d5 2. exd5.
+const OWED: &str =
+    "rnb1kbnr/ppp1pppp/8/3q4/8/8/PPPP1PPP/RNBQKBNR | rnbqkbnr/pppppppp/8/8/8/8/PPPPPPPP/RNBQKBNR w KQkq - 0 1 | Black => 1
+rnb1kbnr/ppp1pppp/8/3q4/8/8/PPPP1PPP/RNBQKBNR | rnbqkbnr/pppppppp/8/8/8/8/PPPPPPPP/RNBQKBNR w KQkq - 0 1 | White => 1
+rnb1kbnr/ppp1pppp/8/3q4/8/8/PPPP1PPP/RNBQKBNR | rnbqkbnr/ppp1pppp/8/3P4/8/8/PPPP1PPP/RNBQKBNR b KQkq - 0 2 | White => 0
+rnbqkbnr/pppppppp/8/8/8/8/PPPPPPPP/RNBQKBNR | rnbqkbnr/ppp1pppp/8/3P4/8/8/PPPP1PPP/RNBQKBNR b KQkq - 0 2 | White => -1";
+
+#[test]
+fn captures_owed(rt: HostRuntime) {
+    for line in OWED.lines() {
+        let row = row_of(&rt, line);
+        let by = color(&rt, row.asked);
+        let found = owed(by, &diagram(&rt, row.diagram), &position(&rt, row.position));
+        assert_eq!(rt; Ok(found), row.wanted.parse::<i16>(), "{line}");
     }
-    position
 }
 
-#[test]
-fn the_queen_recaptures(rt: HostRuntime) {
-    let recaptured = diagram(&rt, "rnb1kbnr/ppp1pppp/8/3q4/8/8/PPPP1PPP/RNBQKBNR");
-    let array = Position::array();
-    assert_eq!(rt; owed(Color::Black, &recaptured, &array), 1);
-    assert_eq!(rt; owed(Color::White, &recaptured, &array), 1);
-    assert!(rt; Captures.excludes(&recaptured, &array, 1));
-    assert!(rt; !Captures.excludes(&recaptured, &array, 2));
-    let first = after(&rt, &[(12, 28), (51, 35), (28, 35)]);
-    assert_eq!(rt; owed(Color::White, &recaptured, &first), 0);
-    assert!(rt; !Captures.excludes(&recaptured, &first, 1));
-    let full = diagram(&rt, "rnbqkbnr/pppppppp/8/8/8/8/PPPPPPPP/RNBQKBNR");
-    assert_eq!(rt; owed(Color::White, &full, &first), -1);
-    assert!(rt; Captures.excludes(&full, &first, 100));
-}
+const CAPTURES: &str =
+    "rnb1kbnr/ppp1pppp/8/3q4/8/8/PPPP1PPP/RNBQKBNR | rnbqkbnr/pppppppp/8/8/8/8/PPPPPPPP/RNBQKBNR w KQkq - 0 1 | 1 => yes
+rnb1kbnr/ppp1pppp/8/3q4/8/8/PPPP1PPP/RNBQKBNR | rnbqkbnr/pppppppp/8/8/8/8/PPPPPPPP/RNBQKBNR w KQkq - 0 1 | 2 => no
+rnb1kbnr/ppp1pppp/8/3q4/8/8/PPPP1PPP/RNBQKBNR | rnbqkbnr/ppp1pppp/8/3P4/8/8/PPPP1PPP/RNBQKBNR b KQkq - 0 2 | 1 => no
+rnbqkbnr/pppppppp/8/8/8/8/PPPPPPPP/RNBQKBNR | rnbqkbnr/ppp1pppp/8/3P4/8/8/PPPP1PPP/RNBQKBNR b KQkq - 0 2 | 100 => yes
+rnbqkbnr/pppppppp/8/8/8/3B4/PPPPPPPP/RN1QKBNR | rnbqkbnr/pppppppp/8/8/8/8/PPPPPPPP/RNBQKBNR w KQkq - 0 1 | 4 => no
+rnbqkbnr/pppppppp/8/8/8/3P4/PPPP1PPP/RNBQKBNR | rnbqkbnr/pppppppp/8/8/8/8/PPPPPPPP/RNBQKBNR w KQkq - 0 1 | 4 => no";
 
 #[test]
-fn one_bishop_too_many(rt: HostRuntime) {
-    let light = diagram(&rt, "rnbqkbnr/pppppppp/8/8/8/3B4/PPPPPPPP/RN1QKBNR");
-    let array = Position::array();
-    assert!(rt; Promotions.excludes(&light, &array, 4));
-    assert!(rt; !Captures.excludes(&light, &array, 4));
-    let dark = diagram(&rt, "rnbqkbnr/pppppppp/8/8/8/4B3/PPPPPPPP/RN1QKBNR");
-    assert!(rt; !Promotions.excludes(&dark, &array, 4));
-    let promoted = diagram(&rt, "rnbqkbnr/pppppppp/8/8/8/3B4/PPPPPPP1/RN1QKBNR");
-    assert!(rt; !Promotions.excludes(&promoted, &array, 4));
-}
-
-#[test]
-fn plain_cases(rt: HostRuntime) {
-    let d3 = diagram(&rt, "rnbqkbnr/pppppppp/8/8/8/3P4/PPPP1PPP/RNBQKBNR");
-    let array = Position::array();
-    assert!(rt; !Captures.excludes(&d3, &array, 4));
-    assert!(rt; !Promotions.excludes(&d3, &array, 4));
+fn captures(rt: HostRuntime) {
+    check_bound(&rt, &Captures, CAPTURES);
     assert_eq!(rt; Captures.code(), 1);
+}
+
+const PROMOTIONS: &str =
+    "rnbqkbnr/pppppppp/8/8/8/3B4/PPPPPPPP/RN1QKBNR | rnbqkbnr/pppppppp/8/8/8/8/PPPPPPPP/RNBQKBNR w KQkq - 0 1 | 4 => yes
+rnbqkbnr/pppppppp/8/8/8/4B3/PPPPPPPP/RN1QKBNR | rnbqkbnr/pppppppp/8/8/8/8/PPPPPPPP/RNBQKBNR w KQkq - 0 1 | 4 => no
+rnbqkbnr/pppppppp/8/8/8/3B4/PPPPPPP1/RN1QKBNR | rnbqkbnr/pppppppp/8/8/8/8/PPPPPPPP/RNBQKBNR w KQkq - 0 1 | 4 => no
+rnbqkbnr/pppppppp/8/8/8/3P4/PPPP1PPP/RNBQKBNR | rnbqkbnr/pppppppp/8/8/8/8/PPPPPPPP/RNBQKBNR w KQkq - 0 1 | 4 => no";
+
+#[test]
+fn promotions(rt: HostRuntime) {
+    check_bound(&rt, &Promotions, PROMOTIONS);
     assert_eq!(rt; Promotions.code(), 2);
-    assert_eq!(rt; plies_left(Color::White, Color::White, 5), 3);
-    assert_eq!(rt; plies_left(Color::White, Color::Black, 5), 2);
-    assert_eq!(rt; plies_left(Color::Black, Color::White, 4), 2);
 }
 
 #[test]
-fn the_first_bound_of_a_code(rt: HostRuntime) -> Result<(), std::test::Fail> {
-    let recaptured = diagram(&rt, "rnb1kbnr/ppp1pppp/8/3q4/8/8/PPPP1PPP/RNBQKBNR");
-    let array = Position::array();
+fn plies_of_a_color(rt: HostRuntime) {
+    assert!(rt; plies_left(Color::White, Color::White, 5) == 3);
+    assert!(rt; plies_left(Color::White, Color::Black, 5) == 2);
+    assert!(rt; plies_left(Color::Black, Color::White, 4) == 2);
+}
+
+fn boxed<R: Abort + AllocGlobal, B>(rt: &R, bound: B) -> Box<B> {
+    Box::new(rt.alloc(), bound).expect(rt, "memory")
+}
+
+fn add(rt: &impl Abort, bounds: &mut Vec<Box<dyn Bound>>, bound: Box<dyn Bound>) {
+    bounds.push(bound).expect(rt, "memory");
+}
+
+// Captures alone exclude this diagram from the array: the queen has recaptured.
+#[test]
+fn the_first_bound_of_a_code(rt: HostRuntime) {
     let mut bounds: Vec<Box<dyn Bound>> = Vec::new(rt.alloc());
-    bounds.push(Box::new(rt.alloc(), Captures)?)?;
-    bounds.push(Box::new(rt.alloc(), Never::new(1))?)?;
-    bounds.push(Box::new(rt.alloc(), Never::new(7))?)?;
-    bounds.push(Box::new(rt.alloc(), Captures)?)?;
-    assert_eq!(rt;
-        first_excludes(&bounds, 1, &recaptured, &array, 1),
-        Some(true)
-    );
-    assert_eq!(rt;
-        first_excludes(&bounds, 7, &recaptured, &array, 1),
-        Some(false)
-    );
-    assert_eq!(rt; first_excludes(&bounds, 2, &recaptured, &array, 1), None);
-    Ok(())
+    add(&rt, &mut bounds, boxed(&rt, Captures));
+    add(&rt, &mut bounds, boxed(&rt, Never::new(1)));
+    add(&rt, &mut bounds, boxed(&rt, Never::new(7)));
+    add(&rt, &mut bounds, boxed(&rt, Captures));
+    let recaptured = diagram(&rt, "rnb1kbnr/ppp1pppp/8/3q4/8/8/PPPP1PPP/RNBQKBNR");
+    for (code, wanted) in [(1, Some(true)), (7, Some(false)), (2, None)] {
+        let found = first_excludes(&bounds, code, &recaptured, &Position::array(), 1);
+        assert!(rt; found == wanted, "{code}");
+    }
 }

@@ -1,143 +1,142 @@
-use crate::texts::{diagram, position};
+use crate::texts::{
+    NumberList, Row, check_bound, color, diagram, is_yes, numbers, position, row_of,
+};
 use pg_board::Color;
-use pg_captures::{Bound, Captures, Promotions};
+use pg_captures::Bound;
 use pg_pawns::*;
-use pg_position::Position;
 use std::process::Abort;
 
+// A diagram, a position and a colour, and how many captures its pawns need to come to their files.
+const SHIFTS: &str =
+    "rnbqkbnr/pppppppp/8/8/8/3P4/PPPP1PPP/RNBQKBNR | rnbqkbnr/pppppppp/8/8/8/8/PPPPPPPP/RNBQKBNR w KQkq - 0 1 | White => 1
+rnbqkbnr/pppppppp/8/8/8/3P4/PPPP1PPP/RNBQKBNR | rnbqkbnr/pppppppp/8/8/8/8/PPPPPPPP/RNBQKBNR w KQkq - 0 1 | Black => 0
+rnbqkbnr/pppp1ppp/8/4p3/4P3/8/PPPP1PPP/RNBQKBNR | rnbqkbnr/pppppppp/8/8/8/8/PPPPPPPP/RNBQKBNR w KQkq - 0 1 | White => 0
+rnbqkbnr/pppppppp/8/8/8/3B4/PPPPPPPP/RN1QKBNR | rnbqkbnr/pppppppp/8/8/8/8/PPPPPPPP/RNBQKBNR w KQkq - 0 1 | White => 0
+rnb1kbnr/ppp1pppp/8/3q4/8/8/PPPP1PPP/RNBQKBNR | rnbqkbnr/pppppppp/8/8/8/8/PPPPPPPP/RNBQKBNR w KQkq - 0 1 | White => 0
+rnbqkbnr/pppp1ppp/8/8/8/2P5/PPPP1PPP/RNBQKBNR | rnbqkbnr/pppppppp/8/8/8/8/PPPPPPPP/RNBQKBNR w KQkq - 0 1 | White => 2";
+
 #[test]
-fn a_pawn_from_the_e_file_on_the_d_file(rt: HostRuntime) {
-    let text = "rnbqkbnr/pppppppp/8/8/8/3P4/PPPP1PPP/RNBQKBNR";
-    let d3 = diagram(&rt, text);
-    let array = Position::array();
-    assert_eq!(rt; shift_need(Color::White, &d3, &array), 1);
-    assert_eq!(rt; shift_need(Color::Black, &d3, &array), 0);
-    assert!(rt; PawnFiles.excludes(&d3, &array, 4));
-    assert!(rt; !Captures.excludes(&d3, &array, 4));
-    assert!(rt; !Promotions.excludes(&d3, &array, 4));
+fn shifts(rt: HostRuntime) {
+    for line in SHIFTS.lines() {
+        let row = row_of(&rt, line);
+        let by = color(&rt, row.asked);
+        let found = shift_need(by, &diagram(&rt, row.diagram), &position(&rt, row.position));
+        assert_eq!(rt; Ok(found), row.wanted.parse::<u16>(), "{line}");
+    }
+}
+
+const FILES: &str =
+    "rnbqkbnr/pppppppp/8/8/8/3P4/PPPP1PPP/RNBQKBNR | rnbqkbnr/pppppppp/8/8/8/8/PPPPPPPP/RNBQKBNR w KQkq - 0 1 | 4 => yes
+rnbqkbnr/pppp1ppp/8/4p3/4P3/8/PPPP1PPP/RNBQKBNR | rnbqkbnr/pppppppp/8/8/8/8/PPPPPPPP/RNBQKBNR w KQkq - 0 1 | 4 => no
+rnbqkbnr/pppppppp/8/8/8/3B4/PPPPPPPP/RN1QKBNR | rnbqkbnr/pppppppp/8/8/8/8/PPPPPPPP/RNBQKBNR w KQkq - 0 1 | 4 => no
+rnb1kbnr/ppp1pppp/8/3q4/8/8/PPPP1PPP/RNBQKBNR | rnbqkbnr/pppppppp/8/8/8/8/PPPPPPPP/RNBQKBNR w KQkq - 0 1 | 4 => no
+rnbqkbnr/pppp1ppp/8/8/8/2P5/PPPP1PPP/RNBQKBNR | rnbqkbnr/pppppppp/8/8/8/8/PPPPPPPP/RNBQKBNR w KQkq - 0 1 | 40 => yes";
+
+#[test]
+fn pawn_files(rt: HostRuntime) {
+    check_bound(&rt, &PawnFiles, FILES);
     assert_eq!(rt; PawnFiles.code(), 3);
 }
 
-#[test]
-fn no_need_to_shift(rt: HostRuntime) {
-    let array = Position::array();
-    for text in [
-        "rnbqkbnr/pppp1ppp/8/4p3/4P3/8/PPPP1PPP/RNBQKBNR",
-        "rnbqkbnr/pppppppp/8/8/8/3B4/PPPPPPPP/RN1QKBNR",
-        "rnb1kbnr/ppp1pppp/8/3q4/8/8/PPPP1PPP/RNBQKBNR",
-    ] {
-        let wanted = diagram(&rt, text);
-        assert_eq!(rt; shift_need(Color::White, &wanted, &array), 0, "{text}");
-        assert!(rt; !PawnFiles.excludes(&wanted, &array, 4), "{text}");
+// That in each row the prices of a colour, those of its pawns and those of their targets, exclude the
+// diagram from the position, or do not.
+fn check_prices(rt: &impl Abort, table: &str) {
+    for line in table.lines() {
+        let row = row_of(rt, line);
+        let (by, prices) = row.asked.split_once(' ').expect(rt, line);
+        let (pawns, targets) = prices.split_once(" : ").expect(rt, line);
+        let found = is_cut(
+            rt,
+            &row,
+            color(rt, by),
+            &numbers(rt, pawns),
+            &numbers(rt, targets),
+        );
+        assert_eq!(rt; found, is_yes(rt, row.wanted), "{line}");
     }
 }
 
-#[test]
-fn two_files_of_one_pawn(rt: HostRuntime) {
-    let text = "rnbqkbnr/pppp1ppp/8/8/8/2P5/PPPP1PPP/RNBQKBNR";
-    let wanted = diagram(&rt, text);
-    let array = Position::array();
-    assert_eq!(rt; shift_need(Color::White, &wanted, &array), 2);
-    assert!(rt; PawnFiles.excludes(&wanted, &array, 40));
+fn is_cut(
+    rt: &impl Abort,
+    row: &Row<'_>,
+    by: Color,
+    pawns: &NumberList,
+    targets: &NumberList,
+) -> bool {
+    let wanted = diagram(rt, row.diagram);
+    let start = position(rt, row.position);
+    prices_exclude(&wanted, &start, by, pawns.as_slice(), targets.as_slice())
 }
 
-// Prices of the pawns of the array: that of d2 pays one.
-const U: [u8; 8] = [0, 0, 0, 1, 0, 0, 0, 0];
-
-// Prices of their targets: d2 and d3 get one each.
-const V: [u8; 8] = [0, 0, 0, 1, 0, 0, 0, 1];
-
-// Whether prices of a colour cut the array against a pawn that came from the e-file to d3: one capture,
-// and White owes none.
-fn is_cut(rt: &impl Abort, color: Color, u: &[u8], v: &[u8]) -> bool {
-    let text = "rnbqkbnr/pppppppp/8/8/8/3P4/PPPP1PPP/RNBQKBNR";
-    let d3 = diagram(rt, text);
-    prices_exclude(&d3, &Position::array(), color, u, v)
-}
+// A pawn came from the e-file to d3: one capture, and White owes none. The pawn of d2 pays one, d2 and d3 get
+// one each.
+const E_PAWN: &str =
+    "rnbqkbnr/pppppppp/8/8/8/3P4/PPPP1PPP/RNBQKBNR | rnbqkbnr/pppppppp/8/8/8/8/PPPPPPPP/RNBQKBNR w KQkq - 0 1 | White 0 0 0 1 0 0 0 0 : 0 0 0 1 0 0 0 1 => yes
+rnbqkbnr/pppppppp/8/8/8/3P4/PPPP1PPP/RNBQKBNR | rnbqkbnr/pppppppp/8/8/8/8/PPPPPPPP/RNBQKBNR w KQkq - 0 1 | Black 0 0 0 1 0 0 0 0 : 0 0 0 1 0 0 0 1 => no
+rnbqkbnr/pppppppp/8/8/8/3P4/PPPP1PPP/RNBQKBNR | rnbqkbnr/pppppppp/8/8/8/8/PPPPPPPP/RNBQKBNR w KQkq - 0 1 | White 0 0 0 1 0 0 0 1 : 0 0 0 1 0 0 0 0 => no
+rnbqkbnr/pppppppp/8/8/8/3P4/PPPP1PPP/RNBQKBNR | rnbqkbnr/pppppppp/8/8/8/8/PPPPPPPP/RNBQKBNR w KQkq - 0 1 | White 0*8 : 0 0 0 1 0 0 0 1 => no
+rnbqkbnr/pppppppp/8/8/8/3P4/PPPP1PPP/RNBQKBNR | rnbqkbnr/pppppppp/8/8/8/8/PPPPPPPP/RNBQKBNR w KQkq - 0 1 | White 0 0 0 1 0 0 0 1 : 0 0 0 1 0 0 0 1 => no
+rnbqkbnr/pppppppp/8/8/8/3P4/PPPP1PPP/RNBQKBNR | rnbqkbnr/pppppppp/8/8/8/8/PPPPPPPP/RNBQKBNR w KQkq - 0 1 | White 0 0 0 1 0 0 0 0 : 0 0 0 1 0 0 0 2 => no
+rnbqkbnr/pppppppp/8/8/8/3P4/PPPP1PPP/RNBQKBNR | rnbqkbnr/pppppppp/8/8/8/8/PPPPPPPP/RNBQKBNR w KQkq - 0 1 | White 0*8 : 0*8 => no
+rnbqkbnr/pppppppp/8/8/8/3P4/PPPP1PPP/RNBQKBNR | rnbqkbnr/pppppppp/8/8/8/8/PPPPPPPP/RNBQKBNR w KQkq - 0 1 | White 0*8 : 255*8 => no
+rnbqkbnr/pppppppp/8/8/8/3P4/PPPP1PPP/RNBQKBNR | rnbqkbnr/pppppppp/8/8/8/8/PPPPPPPP/RNBQKBNR w KQkq - 0 1 | White 255*8 : 255*8 => no";
 
 #[test]
 fn prices_of_the_e_pawn(rt: HostRuntime) {
-    let white = Color::White;
-    assert!(rt; is_cut(&rt, white, &U, &V));
-    assert!(rt; !is_cut(&rt, Color::Black, &U, &V));
-    for (u, v) in [
-        (V, U),
-        ([0; 8], V),
-        (V, V),
-        (U, [0, 0, 0, 1, 0, 0, 0, 2]),
-        ([0; 8], [0; 8]),
-        ([0; 8], [255; 8]),
-        ([255; 8], [255; 8]),
-    ] {
-        assert!(rt; !is_cut(&rt, white, &u, &v));
-    }
+    check_prices(&rt, E_PAWN);
 }
+
+const OTHER_PAWNS: &str =
+    "rnbqkbnr/pppppppp/8/8/8/3P4/PPPP1PPP/RNBQKBNR | rnbqkbnr/pppppppp/8/8/8/8/PPPPPPPP/RNBQKBNR w KQkq - 0 1 | White 0 0 0 1 0 0 0 0 : 255*0 => no
+rnbqkbnr/pppppppp/8/8/8/3P4/PPPP1PPP/RNBQKBNR | rnbqkbnr/pppppppp/8/8/8/8/PPPPPPPP/RNBQKBNR w KQkq - 0 1 | White 0*0 : 0 0 0 1 0 0 0 1 => no
+rnbqkbnr/pppppppp/8/8/8/3P4/PPPP1PPP/RNBQKBNR | rnbqkbnr/pppppppp/8/8/8/8/PPPPPPPP/RNBQKBNR w KQkq - 0 1 | White 0*0 : 255*0 => no
+rnbqkbnr/pppppppp/8/8/8/3P4/PPPP1PPP/RNBQKBNR | rnbqkbnr/pppppppp/8/8/8/8/PPPPPPPP/RNBQKBNR w KQkq - 0 1 | White 0 0 0 1 0 0 0 0 : 255*7 => no
+rnbqkbnr/pppppppp/8/8/8/3P4/PPPP1PPP/RNBQKBNR | rnbqkbnr/pppppppp/8/8/8/8/PPPPPPPP/RNBQKBNR w KQkq - 0 1 | White 0*7 : 0 0 0 1 0 0 0 1 => no
+rnbqkbnr/pppppppp/8/8/8/3P4/PPPP1PPP/RNBQKBNR | rnbqkbnr/pppppppp/8/8/8/8/PPPPPPPP/RNBQKBNR w KQkq - 0 1 | White 0*7 : 255*7 => no
+rnbqkbnr/pppppppp/8/8/8/3P4/PPPP1PPP/RNBQKBNR | rnbqkbnr/pppppppp/8/8/8/8/PPPPPPPP/RNBQKBNR w KQkq - 0 1 | White 0 0 0 1 0 0 0 0 : 255*9 => no
+rnbqkbnr/pppppppp/8/8/8/3P4/PPPP1PPP/RNBQKBNR | rnbqkbnr/pppppppp/8/8/8/8/PPPPPPPP/RNBQKBNR w KQkq - 0 1 | White 0*9 : 0 0 0 1 0 0 0 1 => no
+rnbqkbnr/pppppppp/8/8/8/3P4/PPPP1PPP/RNBQKBNR | rnbqkbnr/pppppppp/8/8/8/8/PPPPPPPP/RNBQKBNR w KQkq - 0 1 | White 0*9 : 255*9 => no
+rnbqkbnr/pppppppp/8/8/8/3P4/PPPP1PPP/RNBQKBNR | rnbqkbnr/pppppppp/8/8/8/8/PPPPPPPP/RNBQKBNR w KQkq - 0 1 | White 0 0 0 1 0 0 0 0 : 255*63 => no
+rnbqkbnr/pppppppp/8/8/8/3P4/PPPP1PPP/RNBQKBNR | rnbqkbnr/pppppppp/8/8/8/8/PPPPPPPP/RNBQKBNR w KQkq - 0 1 | White 0*63 : 0 0 0 1 0 0 0 1 => no
+rnbqkbnr/pppppppp/8/8/8/3P4/PPPP1PPP/RNBQKBNR | rnbqkbnr/pppppppp/8/8/8/8/PPPPPPPP/RNBQKBNR w KQkq - 0 1 | White 0*63 : 255*63 => no
+rnbqkbnr/pppppppp/8/8/8/3P4/PPPP1PPP/RNBQKBNR | rnbqkbnr/pppppppp/8/8/8/8/PPPPPPPP/RNBQKBNR w KQkq - 0 1 | White 0 0 0 1 0 0 0 0 : 255*64 => no
+rnbqkbnr/pppppppp/8/8/8/3P4/PPPP1PPP/RNBQKBNR | rnbqkbnr/pppppppp/8/8/8/8/PPPPPPPP/RNBQKBNR w KQkq - 0 1 | White 0*64 : 0 0 0 1 0 0 0 1 => no
+rnbqkbnr/pppppppp/8/8/8/3P4/PPPP1PPP/RNBQKBNR | rnbqkbnr/pppppppp/8/8/8/8/PPPPPPPP/RNBQKBNR w KQkq - 0 1 | White 0*64 : 255*64 => no
+rnbqkbnr/pppppppp/8/8/8/3P4/PPPP1PPP/RNBQKBNR | rnbqkbnr/pppppppp/8/8/8/8/PPPPPPPP/RNBQKBNR w KQkq - 0 1 | White 0 0 0 1 0 0 0 0 : 255*65 => no
+rnbqkbnr/pppppppp/8/8/8/3P4/PPPP1PPP/RNBQKBNR | rnbqkbnr/pppppppp/8/8/8/8/PPPPPPPP/RNBQKBNR w KQkq - 0 1 | White 0*65 : 0 0 0 1 0 0 0 1 => no
+rnbqkbnr/pppppppp/8/8/8/3P4/PPPP1PPP/RNBQKBNR | rnbqkbnr/pppppppp/8/8/8/8/PPPPPPPP/RNBQKBNR w KQkq - 0 1 | White 0*65 : 255*65 => no";
 
 #[test]
 fn prices_for_other_pawns(rt: HostRuntime) {
-    let white = Color::White;
-    for n in [0, 7, 9, 63, 64, 65] {
-        let few = &[0; 65][..n];
-        let full = &[255; 65][..n];
-        assert!(rt; !is_cut(&rt, white, &U, full), "{n}");
-        assert!(rt; !is_cut(&rt, white, few, &V), "{n}");
-        assert!(rt; !is_cut(&rt, white, few, full), "{n}");
-    }
+    check_prices(&rt, OTHER_PAWNS);
 }
 
 // A pawn that would have to go back has no cost, so its target may pay anything.
+const GOES_BACK: &str =
+    "4k3/8/8/8/8/3P4/8/4K3 w - - 0 1 | 4k3/8/8/8/4P3/8/8/4K3 w - - 0 1 | White 0 : 255 => yes
+4k3/8/8/8/4P3/8/8/4K3 w - - 0 1 | 4k3/8/8/8/8/3P4/8/4K3 w - - 0 1 | White 0 : 1 => yes
+4k3/8/8/8/4P3/8/8/4K3 w - - 0 1 | 4k3/8/8/8/8/3P4/8/4K3 w - - 0 1 | White 0 : 2 => no
+4k3/8/8/8/4P3/8/8/4K3 w - - 0 1 | 4k3/8/8/8/8/3P4/8/4K3 w - - 0 1 | White 0 : 0 => no
+4k3/8/8/8/4P3/8/8/4K3 w - - 0 1 | 4k3/8/8/8/8/3P4/8/4K3 w - - 0 1 | Black 0*0 : 0*0 => no
+4k3/8/3p4/8/8/8/8/4K3 w - - 0 1 | 4k3/8/8/4p3/8/8/8/4K3 w - - 0 1 | Black 0 : 255 => yes
+4k3/8/8/4p3/8/8/8/4K3 w - - 0 1 | 4k3/8/3p4/8/8/8/8/4K3 w - - 0 1 | Black 0 : 1 => yes
+4k3/8/8/4p3/8/8/8/4K3 w - - 0 1 | 4k3/8/3p4/8/8/8/8/4K3 w - - 0 1 | Black 0 : 2 => no
+4k3/8/8/4p3/8/8/8/4K3 w - - 0 1 | 4k3/8/3p4/8/8/8/8/4K3 w - - 0 1 | Black 0 : 0 => no
+4k3/8/8/4p3/8/8/8/4K3 w - - 0 1 | 4k3/8/3p4/8/8/8/8/4K3 w - - 0 1 | White 0*0 : 0*0 => no";
+
 #[test]
 fn prices_of_a_pawn_that_goes_back(rt: HostRuntime) {
-    for (placed, wanted, color) in [
-        (
-            "4k3/8/8/8/4P3/8/8/4K3 w - - 0 1",
-            "4k3/8/8/8/8/3P4/8/4K3 w - - 0 1",
-            Color::White,
-        ),
-        (
-            "4k3/8/8/4p3/8/8/8/4K3 w - - 0 1",
-            "4k3/8/3p4/8/8/8/8/4K3 w - - 0 1",
-            Color::Black,
-        ),
-    ] {
-        let forth = diagram(&rt, wanted);
-        let back = diagram(&rt, placed);
-        let here = position(&rt, placed);
-        let there = position(&rt, wanted);
-        assert!(rt;
-            prices_exclude(&forth, &here, color, &[0], &[255]),
-            "{wanted}"
-        );
-        assert!(rt;
-            prices_exclude(&back, &there, color, &[0], &[1]),
-            "{placed}"
-        );
-        assert!(rt;
-            !prices_exclude(&back, &there, color, &[0], &[2]),
-            "{placed}"
-        );
-        assert!(rt;
-            !prices_exclude(&back, &there, color, &[0], &[0]),
-            "{placed}"
-        );
-        assert!(rt;
-            !prices_exclude(&back, &there, color.other(), &[], &[]),
-            "{placed}"
-        );
-    }
+    check_prices(&rt, GOES_BACK);
 }
 
 // Two files in one rank are no way of a pawn: they have no cost.
+const TOO_NEAR: &str =
+    "4k3/8/8/8/8/2P5/8/4K3 | 4k3/8/8/8/8/8/4P3/4K3 w - - 0 1 | White 0 : 255 => yes
+4k3/8/8/8/2P5/8/8/4K3 | 4k3/8/8/8/8/8/4P3/4K3 w - - 0 1 | White 0 : 255 => no
+4k3/8/8/8/2P5/8/8/4K3 | 4k3/8/8/8/8/8/4P3/4K3 w - - 0 1 | White 0 : 2 => yes
+4k3/8/8/8/2P5/8/8/4K3 | 4k3/8/8/8/8/8/4P3/4K3 w - - 0 1 | White 0 : 3 => no";
+
 #[test]
 fn prices_of_a_pawn_too_near(rt: HostRuntime) {
-    let here = position(&rt, "4k3/8/8/8/8/8/4P3/4K3 w - - 0 1");
-    let near = "4k3/8/8/8/8/2P5/8/4K3";
-    let far = "4k3/8/8/8/2P5/8/8/4K3";
-    let white = Color::White;
-    let near = diagram(&rt, near);
-    let far = diagram(&rt, far);
-    assert!(rt; prices_exclude(&near, &here, white, &[0], &[255]));
-    assert!(rt; !prices_exclude(&far, &here, white, &[0], &[255]));
-    assert!(rt; prices_exclude(&far, &here, white, &[0], &[2]));
-    assert!(rt; !prices_exclude(&far, &here, white, &[0], &[3]));
+    check_prices(&rt, TOO_NEAR);
 }

@@ -1,5 +1,7 @@
-//! Diagrams and positions as their texts give them.
+//! Diagrams, positions, colours and numbers as their texts give them, and tables of them.
 
+use pg_board::Color;
+use pg_captures::Bound;
 use pg_fen::{Diagram, read_position};
 use pg_position::Position;
 use std::process::Abort;
@@ -10,4 +12,84 @@ pub(crate) fn diagram(rt: &impl Abort, text: &str) -> Diagram {
 
 pub(crate) fn position(rt: &impl Abort, text: &str) -> Position {
     read_position(text).expect(rt, text).position
+}
+
+pub(crate) fn color(rt: &impl Abort, text: &str) -> Color {
+    assert!(rt; text == "White" || text == "Black", "{text}");
+    if text == "White" {
+        Color::White
+    } else {
+        Color::Black
+    }
+}
+
+// Whether a row wants `yes`, and not `no`.
+pub(crate) fn is_yes(rt: &impl Abort, wanted: &str) -> bool {
+    assert!(rt; wanted == "yes" || wanted == "no", "{wanted}");
+    wanted == "yes"
+}
+
+// A row of a table: a diagram and a position, what is asked of them, and what is wanted.
+#[derive(Clone, Copy)]
+pub(crate) struct Row<'a> {
+    pub diagram: &'a str,
+    pub position: &'a str,
+    pub asked: &'a str,
+    pub wanted: &'a str,
+}
+
+// The row of a line such as `diagram | position | asked => wanted`.
+pub(crate) fn row_of<'a>(rt: &impl Abort, line: &'a str) -> Row<'a> {
+    let (case, wanted) = line.split_once(" => ").expect(rt, line);
+    let (diagram, rest) = case.split_once(" | ").expect(rt, line);
+    let (position, asked) = rest.split_once(" | ").expect(rt, line);
+    Row {
+        diagram,
+        position,
+        asked,
+        wanted,
+    }
+}
+
+// That in each row the bound excludes the diagram from the position in so many plies, or does not.
+pub(crate) fn check_bound<B: Bound>(rt: &impl Abort, bound: &B, table: &str) {
+    for line in table.lines() {
+        let row = row_of(rt, line);
+        let plies = row.asked.parse::<u8>().expect(rt, line);
+        let found = bound.excludes(
+            &diagram(rt, row.diagram),
+            &position(rt, row.position),
+            plies,
+        );
+        assert_eq!(rt; found, is_yes(rt, row.wanted), "{line}");
+    }
+}
+
+// At most 65 numbers.
+#[derive(Drop)]
+pub(crate) struct NumberList {
+    items: [u8; 65],
+    count: usize,
+}
+
+impl NumberList {
+    pub fn as_slice(&self) -> &[u8] {
+        self.items.get(..self.count).unwrap_or(&[])
+    }
+}
+
+// The numbers of a text such as `1 0 2`; `255*8` is eight times 255.
+pub(crate) fn numbers(rt: &impl Abort, text: &str) -> NumberList {
+    let mut items = [0; 65];
+    let mut count = 0usize;
+    for word in text.split(' ') {
+        let (number, times) = word.split_once('*').unwrap_or((word, "1"));
+        let number = number.parse::<u8>().expect(rt, text);
+        for _ in 0..times.parse::<u8>().expect(rt, text) {
+            assert!(rt; count < 65, "{text}");
+            items[count] = number;
+            count += 1;
+        }
+    }
+    NumberList { items, count }
 }

@@ -1,105 +1,102 @@
-use crate::texts::{diagram, position};
+use crate::texts::{
+    NumberList, Row, check_bound, color, diagram, is_yes, numbers, position, row_of,
+};
 use pg_board::{Color, Kind, Man, Square};
 use pg_captures::Bound;
-use pg_fen::Diagram;
-use pg_position::Position;
+use pg_fen::man_of;
 use pg_travel::*;
 use std::process::Abort;
 
-// The square of a name, as `e4`.
-fn square(rt: &impl Abort, name: &str) -> Square {
-    let bytes = name.as_bytes();
-    assert_eq!(rt; bytes.len(), 2, "{name}");
-    let file = bytes[0].wrapping_sub(b'`');
-    let rank = bytes[1].wrapping_sub(b'0');
-    Square::new(file, rank).expect(rt, name)
-}
+// A diagram, a position and a colour, and the least plies of that colour. Without the right to castle, or with the
+// other one, a castled rook needs three; rooks that can each go to either of two squares need one each.
+const NEEDS: &str = "4k3/8/8/8/8/8/8/R4RK1 | 4k3/8/8/8/8/8/8/R3K2R w K - 0 1 | White => 1
+4k3/8/8/8/8/8/8/R4RK1 | 4k3/8/8/8/8/8/8/R3K2R w K - 0 1 | Black => 0
+4k3/8/8/8/8/8/8/R4RK1 | 4k3/8/8/8/8/8/8/R3K2R w - - 0 1 | White => 3
+4k3/8/8/8/8/8/8/R4RK1 | 4k3/8/8/8/8/8/8/R3K2R w Q - 0 1 | White => 3
+4k3/8/8/8/8/R7/R7/4K3 | 4k3/8/8/8/8/8/8/R3K2R w - - 0 1 | White => 2
+rnbqkbnr/pppppppp/8/8/8/3B4/PPPPPPPP/RN1QKBNR | rnbqkbnr/pppppppp/8/8/8/8/PPPPPPPP/RNBQKBNR w KQkq - 0 1 | White => 1";
 
-// White's rooks on the squares in front of a1.
-fn two_rooks(rt: &impl Abort) -> Diagram {
-    let rooks = "4k3/8/8/8/8/R7/R7/4K3";
-    diagram(rt, rooks)
-}
-
-fn steps(rt: &impl Abort, man: Man, from: &str, kind: Kind, to: &str) -> Option<u8> {
-    distance(man, square(rt, from), kind, square(rt, to))
-}
-
-fn white(kind: Kind) -> Man {
-    Man {
-        color: Color::White,
-        kind,
+#[test]
+fn needs(rt: HostRuntime) {
+    for line in NEEDS.lines() {
+        let row = row_of(&rt, line);
+        let by = color(&rt, row.asked);
+        let found = need(by, &diagram(&rt, row.diagram), &position(&rt, row.position));
+        assert_eq!(rt; found, row.wanted.parse::<u16>().ok(), "{line}");
     }
 }
 
-fn black(kind: Kind) -> Man {
-    Man {
-        color: Color::Black,
-        kind,
+const TRAVEL: &str = "4k3/8/8/8/8/8/8/R4RK1 | 4k3/8/8/8/8/8/8/R3K2R w K - 0 1 | 1 => no
+4k3/8/8/8/8/8/8/R4RK1 | 4k3/8/8/8/8/8/8/R3K2R w - - 0 1 | 4 => yes
+4k3/8/8/8/8/8/8/R4RK1 | 4k3/8/8/8/8/8/8/R3K2R w - - 0 1 | 5 => no
+4k3/8/8/8/8/R7/R7/4K3 | 4k3/8/8/8/8/8/8/R3K2R w - - 0 1 | 2 => yes
+4k3/8/8/8/8/R7/R7/4K3 | 4k3/8/8/8/8/8/8/R3K2R w - - 0 1 | 4 => no
+4k3/8/8/8/8/R7/R7/4K3 | 4k3/8/8/8/8/8/8/R3K2R w - - 0 1 | 5 => no
+rnbqkbnr/pppppppp/8/8/8/3B4/PPPPPPPP/RN1QKBNR | rnbqkbnr/pppppppp/8/8/8/8/PPPPPPPP/RNBQKBNR w KQkq - 0 1 | 4 => no
+rnbqkbnr/pppppppp/8/8/8/3B4/PPPPPPPP/RN1QKBNR | rnbqkbnr/pppppppp/8/8/8/8/PPPPPPPP/RNBQKBNR w KQkq - 0 1 | 0 => yes";
+
+#[test]
+fn travel(rt: HostRuntime) {
+    check_bound(&rt, &Travel, TRAVEL);
+    assert_eq!(rt; Travel.code(), 4);
+}
+
+// The man and the square of a text such as `Pe2`, a white pawn, or `pe7`, a black one.
+fn placed(rt: &impl Abort, text: &str) -> (Man, Square) {
+    let bytes = text.as_bytes();
+    assert_eq!(rt; bytes.len(), 3, "{text}");
+    let man = man_of(bytes[0]).expect(rt, text);
+    let (file, rank) = (bytes[1].wrapping_sub(b'`'), bytes[2].wrapping_sub(b'0'));
+    (man, Square::new(file, rank).expect(rt, text))
+}
+
+// That each row's man comes to its square as such a man by so many moves, or never.
+fn check_distances(rt: &impl Abort, table: &str) {
+    for line in table.lines() {
+        let (case, wanted) = line.split_once(" => ").expect(rt, line);
+        let (from, to) = case.split_once(' ').expect(rt, line);
+        let (man, from) = placed(rt, from);
+        let (other, to) = placed(rt, to);
+        assert!(rt; wanted == "never" || wanted.parse::<u8>().is_ok(), "{line}");
+        let found = distance(man, from, other.kind, to);
+        assert_eq!(rt; found, wanted.parse::<u8>().ok(), "{line}");
     }
 }
 
-#[test]
-fn the_castled_rook(rt: HostRuntime) {
-    let castled = diagram(&rt, "4k3/8/8/8/8/8/8/R4RK1");
-    let with_right = position(&rt, "4k3/8/8/8/8/8/8/R3K2R w K - 0 1");
-    assert_eq!(rt; need(Color::White, &castled, &with_right), Some(1));
-    assert_eq!(rt; need(Color::Black, &castled, &with_right), Some(0));
-    assert!(rt; !Travel.excludes(&castled, &with_right, 1));
-    let without = position(&rt, "4k3/8/8/8/8/8/8/R3K2R w - - 0 1");
-    assert_eq!(rt; need(Color::White, &castled, &without), Some(3));
-    assert!(rt; Travel.excludes(&castled, &without, 4));
-    assert!(rt; !Travel.excludes(&castled, &without, 5));
-    let long_right = position(&rt, "4k3/8/8/8/8/8/8/R3K2R w Q - 0 1");
-    assert_eq!(rt; need(Color::White, &castled, &long_right), Some(3));
-}
-
-// Each rook can go to either of two squares, and each has to move once: two plies of White's.
-#[test]
-fn both_rooks_move(rt: HostRuntime) {
-    let rooks = two_rooks(&rt);
-    let home = position(&rt, "4k3/8/8/8/8/8/8/R3K2R w - - 0 1");
-    assert_eq!(rt; need(Color::White, &rooks, &home), Some(2));
-    assert!(rt; Travel.excludes(&rooks, &home, 2));
-    assert!(rt; !Travel.excludes(&rooks, &home, 4));
-    assert!(rt; !Travel.excludes(&rooks, &home, 5));
-}
+const DISTANCES: &str = "Pe2 Pd6 => 3
+Pe2 Qe8 => 5
+Pe4 Pe2 => never
+Na1 Nb2 => 4
+Bc1 Bd1 => never
+Rc1 Qc1 => never
+Pa8 Qa8 => never";
 
 #[test]
 fn some_distances(rt: HostRuntime) {
-    let pawn = white(Kind::Pawn);
-    assert_eq!(rt; steps(&rt, pawn, "e2", Kind::Pawn, "d6"), Some(3));
-    assert_eq!(rt; steps(&rt, pawn, "e2", Kind::Queen, "e8"), Some(5));
-    assert_eq!(rt; steps(&rt, pawn, "e4", Kind::Pawn, "e2"), None);
-    assert_eq!(rt;
-        steps(&rt, white(Kind::Knight), "a1", Kind::Knight, "b2"),
-        Some(4)
-    );
-    assert_eq!(rt;
-        steps(&rt, white(Kind::Bishop), "c1", Kind::Bishop, "d1"),
-        None
-    );
-    assert_eq!(rt;
-        steps(&rt, white(Kind::Rook), "c1", Kind::Queen, "c1"),
-        None
-    );
-    assert_eq!(rt; steps(&rt, pawn, "a8", Kind::Queen, "a8"), None);
+    check_distances(&rt, DISTANCES);
 }
+
+const PROMOTIONS: &str = "Pe2 Ne8 => 5
+pe7 ne1 => 5
+Pe2 Na1 => 9
+pe7 na8 => 9
+Pe2 Be8 => 5
+pe7 be1 => 5
+Pe2 Ba1 => 6
+pe7 ba8 => 6
+Pe2 Re8 => 5
+pe7 re1 => 5
+Pe2 Ra1 => 6
+pe7 ra8 => 6
+Pe2 Qe8 => 5
+pe7 qe1 => 5
+Pe2 Qa1 => 6
+pe7 qa8 => 6
+Pe7 Ke8 => never";
 
 #[test]
 fn promotions_of_both_colors(rt: HostRuntime) {
-    for (kind, near, far) in [
-        (Kind::Knight, 5, 9),
-        (Kind::Bishop, 5, 6),
-        (Kind::Rook, 5, 6),
-        (Kind::Queen, 5, 6),
-    ] {
-        assert_eq!(rt; steps(&rt, white(Kind::Pawn), "e2", kind, "e8"), Some(near));
-        assert_eq!(rt; steps(&rt, black(Kind::Pawn), "e7", kind, "e1"), Some(near));
-        assert_eq!(rt; steps(&rt, white(Kind::Pawn), "e2", kind, "a1"), Some(far));
-        assert_eq!(rt; steps(&rt, black(Kind::Pawn), "e7", kind, "a8"), Some(far));
-    }
-    assert_eq!(rt; steps(&rt, white(Kind::Pawn), "e7", Kind::King, "e8"), None);
+    check_distances(&rt, PROMOTIONS);
 }
 
 // The least knight moves from a1, rank 1 first.
@@ -111,199 +108,214 @@ const FROM_CORNER: [u8; 64] = [
 #[test]
 fn knights_from_the_corner(rt: HostRuntime) {
     let corner = Square::at(0);
+    let knight = Man {
+        color: Color::White,
+        kind: Kind::Knight,
+    };
     for i in 0..64u8 {
-        let found = distance(white(Kind::Knight), corner, Kind::Knight, Square::at(i));
+        let found = distance(knight, corner, Kind::Knight, Square::at(i));
         assert_eq!(rt; found, Some(FROM_CORNER[i as usize]), "square {i}");
     }
 }
 
-#[test]
-fn one_bishop_too_many(rt: HostRuntime) {
-    let bishops = diagram(&rt, "rnbqkbnr/pppppppp/8/8/8/3B4/PPPPPPPP/RN1QKBNR");
-    let array = Position::array();
-    assert!(rt; !Travel.excludes(&bishops, &array, 4));
-    assert_eq!(rt; need(Color::White, &bishops, &array), Some(1));
-    assert!(rt; Travel.excludes(&bishops, &array, 0));
-    assert_eq!(rt; Travel.code(), 4);
+// The numbers on either side of the colon of a text such as `1 0 0 : 0 2 2`.
+fn list_of(rt: &impl Abort, text: &str) -> (NumberList, NumberList) {
+    let (sources, targets) = text.split_once(" : ").expect(rt, text);
+    (numbers(rt, sources), numbers(rt, targets))
 }
 
-fn one_list(rt: &impl Abort, u: &[u8], v: &[u8]) -> Prices {
-    Prices::new(u, v).expect(rt, "at most 64 of each")
+fn one_list(rt: &impl Abort, text: &str) -> Option<Prices> {
+    let (u, v) = list_of(rt, text);
+    Prices::new(u.as_slice(), v.as_slice())
+}
+
+fn adds(rt: &impl Abort, prices: &mut Prices, text: &str) -> bool {
+    let (u, v) = list_of(rt, text);
+    prices.add(u.as_slice(), v.as_slice())
+}
+
+// The prices of a text with a list for each way and `, ` between lists.
+fn prices_of(rt: &impl Abort, text: &str) -> Prices {
+    let (first, more) = text.split_once(", ").unwrap_or((text, ""));
+    let mut prices = one_list(rt, first).expect(rt, text);
+    let mut ways = 1usize;
+    for list in more.split(", ") {
+        if !list.is_empty() {
+            assert!(rt; adds(rt, &mut prices, list), "{text}");
+            ways = ways.saturating_add(1);
+        }
+    }
+    assert!(rt; prices.ways() == ways, "{text}");
+    prices
+}
+
+// That in each row the prices of a colour exclude the diagram from the position in so many plies, or do not.
+fn check_prices(rt: &impl Abort, table: &str) {
+    for line in table.lines() {
+        let row = row_of(rt, line);
+        let (by, rest) = row.asked.split_once(' ').expect(rt, line);
+        let (plies, prices) = rest.split_once(" | ").expect(rt, line);
+        let plies = plies.parse::<u8>().expect(rt, line);
+        let found = is_cut(rt, &row, plies, color(rt, by), &prices_of(rt, prices));
+        assert_eq!(rt; found, is_yes(rt, row.wanted), "{line}");
+    }
+}
+
+fn is_cut(rt: &impl Abort, row: &Row<'_>, plies: u8, by: Color, prices: &Prices) -> bool {
+    let wanted = diagram(rt, row.diagram);
+    let start = position(rt, row.position);
+    prices_exclude(&wanted, &start, plies, by, prices)
 }
 
 // A rook of a1 or h1 on a2, the other on a3: three plies together, where each target alone is near.
+const TWO_ROOKS: &str =
+    "4k3/8/8/8/8/R7/R7/4K3 | 4k3/8/8/8/8/8/8/R3K2R w - - 0 1 | White 4 | 1 0 0 : 0 2 2 => yes
+4k3/8/8/8/8/R7/R7/4K3 | 4k3/8/8/8/8/8/8/R3K2R w - - 0 1 | White 0 | 1 0 0 : 0 2 2 => yes
+4k3/8/8/8/8/R7/R7/4K3 | 4k3/8/8/8/8/8/8/R3K2R w - - 0 1 | White 5 | 1 0 0 : 0 2 2 => no
+4k3/8/8/8/8/R7/R7/4K3 | 4k3/8/8/8/8/8/8/R3K2R w - - 0 1 | White 255 | 1 0 0 : 0 2 2 => no
+4k3/8/8/8/8/R7/R7/4K3 | 4k3/8/8/8/8/8/8/R3K2R w - - 0 1 | Black 4 | 1 0 0 : 0 2 2 => no";
+
 #[test]
 fn prices_of_two_rooks(rt: HostRuntime) {
-    let white = Color::White;
-    let rooks = position(&rt, "4k3/8/8/8/8/8/8/R3K2R w - - 0 1");
-    let wanted = two_rooks(&rt);
-    assert_eq!(rt; need(white, &wanted, &rooks), Some(2));
-    assert!(rt; !Travel.excludes(&wanted, &rooks, 4));
-    assert!(rt; !Travel.excludes(&wanted, &rooks, 5));
-    let prices = one_list(&rt, &[1, 0, 0], &[0, 2, 2]);
-    assert!(rt; prices_exclude(&wanted, &rooks, 4, white, &prices));
-    assert!(rt; prices_exclude(&wanted, &rooks, 0, white, &prices));
-    assert!(rt; !prices_exclude(&wanted, &rooks, 5, white, &prices));
-    assert!(rt; !prices_exclude(&wanted, &rooks, 255, white, &prices));
-    assert!(rt; !prices_exclude(&wanted, &rooks, 4, Color::Black, &prices));
-    let copied = prices;
-    assert!(rt; prices_exclude(&wanted, &rooks, 4, white, &prices) && copied.ways() == 1);
+    check_prices(&rt, TWO_ROOKS);
 }
 
 // A price too high, and pairs violated that no best assignment uses: from a1 to a2 and to a3.
+const NO_FIT: &str =
+    "4k3/8/8/8/8/R7/R7/4K3 | 4k3/8/8/8/8/8/8/R3K2R w - - 0 1 | White 4 | 1 0 0 : 0 3 2 => no
+4k3/8/8/8/8/R7/R7/4K3 | 4k3/8/8/8/8/8/8/R3K2R w - - 0 1 | White 4 | 1 0 0 : 0 2 3 => no
+4k3/8/8/8/8/R7/R7/4K3 | 4k3/8/8/8/8/8/8/R3K2R w - - 0 1 | White 4 | 1 0 0 : 1 2 2 => no
+4k3/8/8/8/8/R7/R7/4K3 | 4k3/8/8/8/8/8/8/R3K2R w - - 0 1 | White 4 | 0 0 0 : 0 1 2 => no
+4k3/8/8/8/8/R7/R7/4K3 | 4k3/8/8/8/8/8/8/R3K2R w - - 0 1 | White 4 | 0 0 0 : 0 2 1 => no
+4k3/8/8/8/8/R7/R7/4K3 | 4k3/8/8/8/8/8/8/R3K2R w - - 0 1 | White 4 | 0 0 1 : 0 2 2 => no
+4k3/8/8/8/8/R7/R7/4K3 | 4k3/8/8/8/8/8/8/R3K2R w - - 0 1 | White 4 | 0 0 0 : 0 0 0 => no
+4k3/8/8/8/8/R7/R7/4K3 | 4k3/8/8/8/8/8/8/R3K2R w - - 0 1 | White 4 | 255 255 255 : 255 255 255 => no
+4k3/8/8/8/8/R7/R7/4K3 | 4k3/8/8/8/8/8/8/R3K2R w - - 0 1 | White 4 | 0 0 0 : 255 255 255 => no";
+
 #[test]
 fn prices_that_do_not_fit(rt: HostRuntime) {
-    let white = Color::White;
-    let rooks = position(&rt, "4k3/8/8/8/8/8/8/R3K2R w - - 0 1");
-    let wanted = two_rooks(&rt);
-    for (u, v) in [
-        ([1, 0, 0], [0, 3, 2]),
-        ([1, 0, 0], [0, 2, 3]),
-        ([1, 0, 0], [1, 2, 2]),
-        ([0, 0, 0], [0, 1, 2]),
-        ([0, 0, 0], [0, 2, 1]),
-        ([0, 0, 1], [0, 2, 2]),
-        ([0, 0, 0], [0, 0, 0]),
-        ([255, 255, 255], [255, 255, 255]),
-        ([0, 0, 0], [255, 255, 255]),
-    ] {
-        let prices = one_list(&rt, &u, &v);
-        assert!(rt;
-            !prices_exclude(&wanted, &rooks, 4, white, &prices),
-            "{u:?} {v:?}"
-        );
-    }
+    check_prices(&rt, NO_FIT);
 }
 
 // Another number of entries than of men, or of lists than of ways.
+const OTHER_MEN: &str =
+    "4k3/8/8/8/8/R7/R7/4K3 | 4k3/8/8/8/8/8/8/R3K2R w - - 0 1 | White 0 | 0*0 : 0 2 2 => no
+4k3/8/8/8/8/R7/R7/4K3 | 4k3/8/8/8/8/8/8/R3K2R w - - 0 1 | White 0 | 1 0 0 : 2*0 => no
+4k3/8/8/8/8/R7/R7/4K3 | 4k3/8/8/8/8/8/8/R3K2R w - - 0 1 | White 0 | 0*0 : 255*0 => no
+4k3/8/8/8/8/R7/R7/4K3 | 4k3/8/8/8/8/8/8/R3K2R w - - 0 1 | White 0 | 0*2 : 0 2 2 => no
+4k3/8/8/8/8/R7/R7/4K3 | 4k3/8/8/8/8/8/8/R3K2R w - - 0 1 | White 0 | 1 0 0 : 2*2 => no
+4k3/8/8/8/8/R7/R7/4K3 | 4k3/8/8/8/8/8/8/R3K2R w - - 0 1 | White 0 | 0*2 : 255*2 => no
+4k3/8/8/8/8/R7/R7/4K3 | 4k3/8/8/8/8/8/8/R3K2R w - - 0 1 | White 0 | 0*4 : 0 2 2 => no
+4k3/8/8/8/8/R7/R7/4K3 | 4k3/8/8/8/8/8/8/R3K2R w - - 0 1 | White 0 | 1 0 0 : 2*4 => no
+4k3/8/8/8/8/R7/R7/4K3 | 4k3/8/8/8/8/8/8/R3K2R w - - 0 1 | White 0 | 0*4 : 255*4 => no
+4k3/8/8/8/8/R7/R7/4K3 | 4k3/8/8/8/8/8/8/R3K2R w - - 0 1 | White 0 | 0*63 : 0 2 2 => no
+4k3/8/8/8/8/R7/R7/4K3 | 4k3/8/8/8/8/8/8/R3K2R w - - 0 1 | White 0 | 1 0 0 : 2*63 => no
+4k3/8/8/8/8/R7/R7/4K3 | 4k3/8/8/8/8/8/8/R3K2R w - - 0 1 | White 0 | 0*63 : 255*63 => no
+4k3/8/8/8/8/R7/R7/4K3 | 4k3/8/8/8/8/8/8/R3K2R w - - 0 1 | White 0 | 0*64 : 0 2 2 => no
+4k3/8/8/8/8/R7/R7/4K3 | 4k3/8/8/8/8/8/8/R3K2R w - - 0 1 | White 0 | 1 0 0 : 2*64 => no
+4k3/8/8/8/8/R7/R7/4K3 | 4k3/8/8/8/8/8/8/R3K2R w - - 0 1 | White 0 | 0*64 : 255*64 => no
+4k3/8/8/8/8/R7/R7/4K3 | 4k3/8/8/8/8/8/8/R3K2R w - - 0 1 | White 0 | 1 0 0 : 0 2 2, 1 0 0 : 0 2 2 => no
+4k3/8/8/8/8/R7/R7/4K3 | 4k3/8/8/8/8/8/8/R3K2R w - - 0 1 | White 0 | 1 0 0 : 0 2 2, 1 0 0 : 0 2 2, 1 0 0 : 0 2 2 => no";
+
 #[test]
 fn prices_for_other_men(rt: HostRuntime) {
-    let white = Color::White;
-    let rooks = position(&rt, "4k3/8/8/8/8/8/8/R3K2R w - - 0 1");
-    let wanted = two_rooks(&rt);
-    for n in [0, 2, 4, 63, 64] {
-        let short = one_list(&rt, &[0; 64][..n], &[0, 2, 2]);
-        assert!(rt; !prices_exclude(&wanted, &rooks, 0, white, &short), "{n}");
-        let short = one_list(&rt, &[1, 0, 0], &[2; 64][..n]);
-        assert!(rt; !prices_exclude(&wanted, &rooks, 0, white, &short), "{n}");
-        let both = one_list(&rt, &[0; 64][..n], &[255; 64][..n]);
-        assert!(rt; !prices_exclude(&wanted, &rooks, 0, white, &both), "{n}");
-    }
-    let mut lists = one_list(&rt, &[1, 0, 0], &[0, 2, 2]);
-    assert!(rt; lists.add(&[1, 0, 0], &[0, 2, 2]));
-    assert!(rt; !prices_exclude(&wanted, &rooks, 0, white, &lists));
-    assert!(rt; lists.add(&[1, 0, 0], &[0, 2, 2]));
-    assert!(rt; !prices_exclude(&wanted, &rooks, 0, white, &lists));
+    check_prices(&rt, OTHER_MEN);
 }
 
 // 63 white men, and no queen becomes the knight of b8.
+const FULL_BOARD: &str =
+    "kNQQQQQQ/QQQQQQQQ/QQQQQQQQ/QQQQQQQQ/QQQQQQQQ/QQQQQQQQ/QQQQQQQQ/QQQQQQQK | kQQQQQQQ/QQQQQQQQ/QQQQQQQQ/QQQQQQQQ/QQQQQQQQ/QQQQQQQQ/QQQQQQQQ/QQQQQQQK b - - 0 1 | White 255 | 0*63 : 0*56 255 0*6 => yes
+kNQQQQQQ/QQQQQQQQ/QQQQQQQQ/QQQQQQQQ/QQQQQQQQ/QQQQQQQQ/QQQQQQQQ/QQQQQQQK | kQQQQQQQ/QQQQQQQQ/QQQQQQQQ/QQQQQQQQ/QQQQQQQQ/QQQQQQQQ/QQQQQQQQ/QQQQQQQK b - - 0 1 | White 0 | 255*63 : 255*63 => no
+kNQQQQQQ/QQQQQQQQ/QQQQQQQQ/QQQQQQQQ/QQQQQQQQ/QQQQQQQQ/QQQQQQQQ/QQQQQQQK | kQQQQQQQ/QQQQQQQQ/QQQQQQQQ/QQQQQQQQ/QQQQQQQQ/QQQQQQQQ/QQQQQQQQ/QQQQQQQK b - - 0 1 | White 255 | 0*63 : 255*63 => no";
+
 #[test]
 fn prices_of_a_full_board(rt: HostRuntime) {
-    let white = Color::White;
-    let men = "kQQQQQQQ/QQQQQQQQ/QQQQQQQQ/QQQQQQQQ/QQQQQQQQ/QQQQQQQQ/QQQQQQQQ/QQQQQQQK b - - 0 1";
-    let queens = position(&rt, men);
-    let wanted = diagram(
-        &rt,
-        "kNQQQQQQ/QQQQQQQQ/QQQQQQQQ/QQQQQQQQ/QQQQQQQQ/QQQQQQQQ/QQQQQQQQ/QQQQQQQK",
-    );
-    let mut knight = [0; 63];
-    knight[56] = 255;
-    let prices = one_list(&rt, &[0; 63], &knight);
-    assert!(rt; prices_exclude(&wanted, &queens, 255, white, &prices));
-    let full = one_list(&rt, &[255; 63], &[255; 63]);
-    assert!(rt; !prices_exclude(&wanted, &queens, 0, white, &full));
-    let high = one_list(&rt, &[0; 63], &[255; 63]);
-    assert!(rt; !prices_exclude(&wanted, &queens, 255, white, &high));
+    check_prices(&rt, FULL_BOARD);
 }
 
 // With the right to castle there are two ways, and the castling way costs one ply alone.
+const CASTLING_WAY: &str =
+    "4k3/8/8/8/8/8/8/R4RK1 | 4k3/8/8/8/8/8/8/R3K2R w K - 0 1 | White 0 | 0 0 0 : 0 1 2 => no
+4k3/8/8/8/8/8/8/R4RK1 | 4k3/8/8/8/8/8/8/R3K2R w K - 0 1 | White 4 | 0 0 0 : 0 1 2, 0 0 0 : 0 0 0 => no
+4k3/8/8/8/8/8/8/R4RK1 | 4k3/8/8/8/8/8/8/R3K2R w K - 0 1 | White 1 | 0 0 0 : 0 1 2, 0 0 0 : 0 0 0 => no
+4k3/8/8/8/8/8/8/R4RK1 | 4k3/8/8/8/8/8/8/R3K2R w K - 0 1 | White 0 | 0 0 0 : 0 1 2, 0 0 0 : 0 0 0 => yes
+4k3/8/8/8/8/8/8/R4RK1 | 4k3/8/8/8/8/8/8/R3K2R w K - 0 1 | White 0 | 0 0 0 : 0 1 2, 0 0 0 : 0 1 0 => no
+4k3/8/8/8/8/8/8/R4RK1 | 4k3/8/8/8/8/8/8/R3K2R w K - 0 1 | White 0 | 0 0 0 : 0 0 0, 0 0 0 : 0 1 2 => no
+4k3/8/8/8/8/8/8/R4RK1 | 4k3/8/8/8/8/8/8/R3K2R w - - 0 1 | White 4 | 0 0 0 : 0 1 2 => yes
+4k3/8/8/8/8/8/8/R4RK1 | 4k3/8/8/8/8/8/8/R3K2R w - - 0 1 | White 5 | 0 0 0 : 0 1 2 => no";
+
 #[test]
 fn prices_of_a_castling_way(rt: HostRuntime) {
-    let white = Color::White;
-    let castled = diagram(&rt, "4k3/8/8/8/8/8/8/R4RK1");
-    let home = position(&rt, "4k3/8/8/8/8/8/8/R3K2R w K - 0 1");
-    let free = one_list(&rt, &[0, 0, 0], &[0, 1, 2]);
-    assert!(rt; !prices_exclude(&castled, &home, 0, white, &free));
-    let mut prices = free;
-    assert!(rt; prices.add(&[0, 0, 0], &[0, 0, 0]));
-    assert_eq!(rt; prices.ways(), 2);
-    assert!(rt; !prices_exclude(&castled, &home, 4, white, &prices));
-    assert!(rt; !prices_exclude(&castled, &home, 1, white, &prices));
-    assert!(rt; prices_exclude(&castled, &home, 0, white, &prices));
-    let mut high = free;
-    assert!(rt; high.add(&[0, 0, 0], &[0, 1, 0]));
-    assert!(rt; !prices_exclude(&castled, &home, 0, white, &high));
-    let mut swapped = one_list(&rt, &[0, 0, 0], &[0, 0, 0]);
-    assert!(rt; swapped.add(&[0, 0, 0], &[0, 1, 2]));
-    assert!(rt; !prices_exclude(&castled, &home, 0, white, &swapped));
-    let no_right = position(&rt, "4k3/8/8/8/8/8/8/R3K2R w - - 0 1");
-    assert!(rt; prices_exclude(&castled, &no_right, 4, white, &free));
-    assert!(rt; !prices_exclude(&castled, &no_right, 5, white, &free));
+    check_prices(&rt, CASTLING_WAY);
 }
 
 // The ways in their order: none, king side, queen side.
+const THREE_WAYS: &str =
+    "4k3/8/8/8/8/8/8/R4RK1 | 4k3/8/8/8/8/8/8/R3K2R w KQ - 0 1 | White 0 | 0 0 0 : 0 1 2, 0 0 0 : 0 0 0 => no
+4k3/8/8/8/8/8/8/R4RK1 | 4k3/8/8/8/8/8/8/R3K2R w KQ - 0 1 | White 0 | 0 0 0 : 0 1 2, 0 0 0 : 0 0 0, 0 0 0 : 1 1 4 => yes
+4k3/8/8/8/8/8/8/R4RK1 | 4k3/8/8/8/8/8/8/R3K2R w KQ - 0 1 | White 1 | 0 0 0 : 0 1 2, 0 0 0 : 0 0 0, 0 0 0 : 1 1 4 => no
+4k3/8/8/8/8/8/8/R4RK1 | 4k3/8/8/8/8/8/8/R3K2R w KQ - 0 1 | White 0 | 0 0 0 : 0 1 2, 0 0 0 : 0 0 0, 0 0 0 : 1 1 5 => no
+4k3/8/8/8/8/8/8/R4RK1 | 4k3/8/8/8/8/8/8/R3K2R w K - 0 1 | White 0 | 0 0 0 : 0 1 2, 0 0 0 : 0 0 0, 0 0 0 : 1 1 4 => no";
+
 #[test]
 fn prices_of_three_ways(rt: HostRuntime) {
-    let white = Color::White;
-    let castled = diagram(&rt, "4k3/8/8/8/8/8/8/R4RK1");
-    let both = position(&rt, "4k3/8/8/8/8/8/8/R3K2R w KQ - 0 1");
-    let mut prices = one_list(&rt, &[0, 0, 0], &[0, 1, 2]);
-    assert!(rt; prices.add(&[0, 0, 0], &[0, 0, 0]));
-    assert!(rt; !prices_exclude(&castled, &both, 0, white, &prices));
-    let mut other = prices;
-    assert!(rt; prices.add(&[0, 0, 0], &[1, 1, 4]));
-    assert!(rt; prices_exclude(&castled, &both, 0, white, &prices));
-    assert!(rt; !prices_exclude(&castled, &both, 1, white, &prices));
-    assert!(rt; other.add(&[0, 0, 0], &[1, 1, 5]));
-    assert!(rt; !prices_exclude(&castled, &both, 0, white, &other));
-    let king_side = position(&rt, "4k3/8/8/8/8/8/8/R3K2R w K - 0 1");
-    assert!(rt; !prices_exclude(&castled, &king_side, 0, white, &prices));
+    check_prices(&rt, THREE_WAYS);
 }
 
 // Queen side, and the other colour.
+const OTHER_CASTLINGS: &str =
+    "4k3/8/8/8/8/8/8/2KR3R | 4k3/8/8/8/8/8/8/R3K2R w Q - 0 1 | White 0 | 0 0 0 : 2 1 0, 0 0 0 : 0 0 0 => yes
+4k3/8/8/8/8/8/8/2KR3R | 4k3/8/8/8/8/8/8/R3K2R w Q - 0 1 | White 1 | 0 0 0 : 2 1 0, 0 0 0 : 0 0 0 => no
+r4rk1/8/8/8/8/8/8/4K3 | r3k2r/8/8/8/8/8/8/4K3 b k - 0 1 | Black 0 | 0 0 0 : 0 1 2, 0 0 0 : 0 0 0 => yes
+r4rk1/8/8/8/8/8/8/4K3 | r3k2r/8/8/8/8/8/8/4K3 b k - 0 1 | Black 1 | 0 0 0 : 0 1 2, 0 0 0 : 0 0 0 => no";
+
 #[test]
 fn prices_of_other_castlings(rt: HostRuntime) {
-    let long = diagram(&rt, "4k3/8/8/8/8/8/8/2KR3R");
-    let home = position(&rt, "4k3/8/8/8/8/8/8/R3K2R w Q - 0 1");
-    let mut prices = one_list(&rt, &[0, 0, 0], &[2, 1, 0]);
-    assert!(rt; prices.add(&[0, 0, 0], &[0, 0, 0]));
-    assert!(rt; prices_exclude(&long, &home, 0, Color::White, &prices));
-    assert!(rt; !prices_exclude(&long, &home, 1, Color::White, &prices));
-    let short = diagram(&rt, "r4rk1/8/8/8/8/8/8/4K3");
-    let black = position(&rt, "r3k2r/8/8/8/8/8/8/4K3 b k - 0 1");
-    let mut prices = one_list(&rt, &[0, 0, 0], &[0, 1, 2]);
-    assert!(rt; prices.add(&[0, 0, 0], &[0, 0, 0]));
-    assert!(rt; prices_exclude(&short, &black, 0, Color::Black, &prices));
-    assert!(rt; !prices_exclude(&short, &black, 1, Color::Black, &prices));
+    check_prices(&rt, OTHER_CASTLINGS);
+}
+
+// That the list of a way is this one.
+fn check_list(rt: &impl Abort, prices: &Prices, way: usize, text: &str) {
+    let (u, v) = list_of(rt, text);
+    assert!(rt;
+        prices.u(way) == u.as_slice() && prices.v(way) == v.as_slice(),
+        "{text}"
+    );
+}
+
+fn check_sizes(rt: &impl Abort, text: &str, sources: usize, targets: usize) {
+    let prices = prices_of(rt, text);
+    assert!(rt; prices.ways() == 1, "{text}");
+    assert!(rt;
+        prices.sources() == sources && prices.targets() == targets,
+        "{text}"
+    );
+    check_list(rt, &prices, 0, text);
 }
 
 #[test]
 fn lists_of_prices(rt: HostRuntime) {
-    assert!(rt; Prices::new(&[0; 65], &[]).is_none());
-    assert!(rt; Prices::new(&[], &[0; 65]).is_none());
-    for n in [0, 63, 64] {
-        let full = one_list(&rt, &[255; 64][..n], &[255; 64][..n]);
-        assert_eq!(rt; (full.ways(), full.sources(), full.targets()), (1, n, n));
-        assert_eq!(rt; (full.u(0), full.v(0)), (&[255; 64][..n], &[255; 64][..n]));
+    assert!(rt; one_list(&rt, "0*65 : 0*0").is_none() && one_list(&rt, "0*0 : 0*65").is_none());
+    check_sizes(&rt, "255*0 : 255*0", 0, 0);
+    check_sizes(&rt, "255*63 : 255*63", 63, 63);
+    check_sizes(&rt, "255*64 : 255*64", 64, 64);
+    check_sizes(&rt, "1 2 : 3", 2, 1);
+}
+
+#[test]
+fn three_lists_of_prices(rt: HostRuntime) {
+    let mut prices = prices_of(&rt, "1 2 : 3");
+    let copied = prices;
+    for text in ["1 : 3", "1 2 : 0*0", "1 2 3 : 3"] {
+        assert!(rt; !adds(&rt, &mut prices, text), "{text}");
     }
-    let mut prices = one_list(&rt, &[1, 2], &[3]);
-    assert_eq!(rt;
-        (prices.ways(), prices.sources(), prices.targets()),
-        (1, 2, 1)
-    );
-    assert!(rt; !prices.add(&[1], &[3]));
-    assert!(rt; !prices.add(&[1, 2], &[]));
-    assert!(rt; !prices.add(&[1, 2, 3], &[3]));
-    assert_eq!(rt; prices.ways(), 1);
-    assert!(rt; prices.add(&[4, 5], &[6]));
-    assert!(rt; prices.add(&[7, 8], &[9]));
-    assert!(rt; !prices.add(&[10, 11], &[12]));
-    assert_eq!(rt;
-        (prices.ways(), prices.u(0), prices.v(0)),
-        (3, &[1, 2][..], &[3][..])
-    );
-    assert_eq!(rt; (prices.u(1), prices.v(1)), (&[4, 5][..], &[6][..]));
-    assert_eq!(rt; (prices.u(2), prices.v(2)), (&[7, 8][..], &[9][..]));
-    assert_eq!(rt; (prices.u(3).len(), prices.v(3).len()), (0, 0));
-    assert_eq!(rt; prices.u(usize::MAX).len(), 0);
+    assert!(rt; prices.ways() == 1);
+    assert!(rt; adds(&rt, &mut prices, "4 5 : 6") && adds(&rt, &mut prices, "7 8 : 9"));
+    assert!(rt; !adds(&rt, &mut prices, "10 11 : 12"));
+    assert!(rt; prices.ways() == 3 && copied.ways() == 1);
+    check_list(&rt, &prices, 0, "1 2 : 3");
+    check_list(&rt, &prices, 1, "4 5 : 6");
+    check_list(&rt, &prices, 2, "7 8 : 9");
+    check_list(&rt, &prices, 3, "0*0 : 0*0");
+    assert!(rt; prices.u(usize::MAX).is_empty());
 }

@@ -1,33 +1,39 @@
 use super::*;
+use crate::texts::diagram;
 use pg_captures::{Bound, Promotions};
 use pg_moves::legal_moves;
 use pg_pawns::shift_need;
-use std::alloc::{AllocError, Global};
+use std::alloc::Global;
 
 // The position after so many moves by chance, and the next state of the chance.
 fn wander(
+    rt: &impl Abort,
     alloc: Global,
-    position: &Position,
+    start: &Position,
     plies: u8,
     state: u64,
-) -> Result<(Position, u64), AllocError> {
-    let mut position = *position;
+) -> (Position, u64) {
+    let mut position = *start;
     let mut state = state;
     for _ in 0..plies {
-        let moves = legal_moves(alloc, &position)?;
         state = next(state);
-        let pick = if moves.is_empty() {
-            0
-        } else {
-            (state >> 20) % moves.len() as u64
-        };
-        if let Some(m) = moves.get(pick as usize) {
-            if let Ok(after) = position.play(*m) {
-                position = after;
-            }
-        }
+        position = stepped(rt, alloc, &position, state >> 20);
     }
-    Ok((position, state))
+    (position, state)
+}
+
+// The position after the legal move with this number, counted round; the same where there is none.
+fn stepped(rt: &impl Abort, alloc: Global, position: &Position, number: u64) -> Position {
+    let moves = legal_moves(alloc, position).expect(rt, "memory");
+    let pick = if moves.is_empty() {
+        0
+    } else {
+        number % moves.len() as u64
+    };
+    match moves.get(pick as usize) {
+        Some(m) => position.play(*m).unwrap_or(*position),
+        None => *position,
+    }
 }
 
 // Whether the price lists of travel exclude up to their value and no further.
@@ -56,33 +62,33 @@ fn pawns_are_priced(rows: &Rows, diagram: &Diagram, position: &Position, shift: 
 }
 
 // What the rows give of a position for a diagram is what the checked functions give.
-fn agrees(alloc: Global, diagram: &Diagram, position: &Position) -> Result<bool, AllocError> {
+fn agrees(rt: &impl Abort, alloc: Global, diagram: &Diagram, position: &Position) -> bool {
     let mut short = false;
     for color in [Color::White, Color::Black] {
-        let rows = Rows::new(alloc, color, diagram)?;
-        let needs = first_needs(&rows, diagram, position);
-        if needs.need == NEVER {
+        let rows = Rows::new(alloc, color, diagram).expect(rt, "memory");
+        if first_needs(&rows, diagram, position).need == NEVER {
             short = true;
         }
-        let least = match pg_travel::need(color, diagram, position) {
-            Some(need) => need.min(250) as u8,
-            None => 200,
-        };
-        let need = need(&rows, position);
-        if need != least && (need < 200 || least < 200) {
-            return Ok(false);
-        }
-        let shift = shift_need(color, diagram, position).min(250) as u8;
-        if needs.need != NEVER && (needs.need != need || needs.shift != shift) {
-            return Ok(false);
-        }
-        if !travel_is_priced(&rows, diagram, position, need)
-            || !pawns_are_priced(&rows, diagram, position, shift)
-        {
-            return Ok(false);
+        if !rows_agree(&rows, diagram, position) {
+            return false;
         }
     }
-    Ok(short == Promotions.excludes(diagram, position, 1))
+    short == Promotions.excludes(diagram, position, 1)
+}
+
+fn rows_agree(rows: &Rows, diagram: &Diagram, position: &Position) -> bool {
+    let color = rows.color();
+    let least = match pg_travel::need(color, diagram, position) {
+        Some(need) => need.min(250) as u8,
+        None => 200,
+    };
+    let shift = shift_need(color, diagram, position).min(250) as u8;
+    let need = need(rows, position);
+    let needs = first_needs(rows, diagram, position);
+    (need == least || (need >= 200 && least >= 200))
+        && (needs.need == NEVER || (needs.need == need && needs.shift == shift))
+        && travel_is_priced(rows, diagram, position, need)
+        && pawns_are_priced(rows, diagram, position, shift)
 }
 
 // Positions and diagrams along random games: as many plies between them as before them.
@@ -91,30 +97,27 @@ fn needs_are_those_of_the_bounds(rt: HostRuntime) {
     let mut state = 0x9e37_79b9_7f4a_7c15u64;
     for round in 0..60u8 {
         let plies = round % 30;
-        let answer = wander(rt.alloc(), &Position::array(), plies, state);
-        let (position, after) = answer.expect(&rt, "memory");
-        let answer = wander(rt.alloc(), &position, plies, after);
-        let (end, after) = answer.expect(&rt, "memory");
+        let (position, after) = wander(&rt, rt.alloc(), &Position::array(), plies, state);
+        let (end, after) = wander(&rt, rt.alloc(), &position, plies, after);
         state = after;
-        let diagram = Diagram::of(&end);
-        let same = agrees(rt.alloc(), &diagram, &position).expect(&rt, "memory");
-        assert!(rt; same, "{round}");
-        let other = agrees(rt.alloc(), &Diagram::of(&position), &end).expect(&rt, "memory");
-        assert!(rt; other, "{round}");
+        assert!(rt;
+            agrees(&rt, rt.alloc(), &Diagram::of(&end), &position),
+            "{round}"
+        );
+        assert!(rt;
+            agrees(&rt, rt.alloc(), &Diagram::of(&position), &end),
+            "{round}"
+        );
     }
 }
 
 // After 1. e4 e5 2. Nf3: from the array White has two steps to make.
 #[test]
 fn a_board_is_priced(rt: HostRuntime) {
-    let text = "rnbqkbnr/pppp1ppp/8/4p3/4P3/5N2/PPPP1PPP/RNBQKB1R";
-    let diagram = Diagram::read(text).expect(&rt, text);
+    let diagram = diagram(&rt, "rnbqkbnr/pppp1ppp/8/4p3/4P3/5N2/PPPP1PPP/RNBQKB1R");
     let rows = Rows::new(rt.alloc(), Color::White, &diagram).expect(&rt, "memory");
     let array = Position::array();
-    assert_eq!(rt; (rows.targets(), rows.pawn_targets()), (16, 8));
-    assert_eq!(rt;
-        (need(&rows, &array), travel_lists(&rows, &array).0),
-        (2, 2)
-    );
-    assert_eq!(rt; pawn_lists(&rows, &array).0, 0);
+    assert!(rt; rows.targets() == 16 && rows.pawn_targets() == 8);
+    assert!(rt; need(&rows, &array) == 2 && travel_lists(&rows, &array).0 == 2);
+    assert!(rt; pawn_lists(&rows, &array).0 == 0);
 }

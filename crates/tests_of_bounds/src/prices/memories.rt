@@ -1,4 +1,5 @@
 use super::*;
+use pg_position::Rights;
 
 // The key with this number: all differ, and none is 0.
 fn key(number: u32) -> u64 {
@@ -15,22 +16,34 @@ fn needs(number: u32) -> Needs {
     }
 }
 
+fn put(rt: &impl Abort, memory: &mut Memory, number: u32, needs: Needs) {
+    memory.set(key(number), needs).expect(rt, "memory");
+}
+
+fn is_known(memory: &Memory, number: u32) -> bool {
+    memory.get(key(number)).is_some()
+}
+
+fn check_known(rt: &impl Abort, memory: &Memory, number: u32, needs: Needs) {
+    assert!(rt; memory.get(key(number)) == Some(needs), "{number}");
+}
+
 #[test]
 fn a_memory_gives_what_was_set_last(rt: HostRuntime) {
     let mut memory = Memory::new(rt.alloc(), 1_000_000);
-    assert!(rt; memory.is_empty() && memory.get(key(0)).is_none());
+    assert!(rt; memory.is_empty() && !is_known(&memory, 0));
     for number in 0..50_000u32 {
-        memory.set(key(number), needs(number)).expect(&rt, "memory");
+        put(&rt, &mut memory, number, needs(number));
     }
     for number in 0..50_000u32 {
-        assert_eq!(rt; memory.get(key(number)), Some(needs(number)), "{number}");
+        check_known(&rt, &memory, number, needs(number));
     }
-    assert!(rt; memory.get(key(50_000)).is_none());
+    assert!(rt; !is_known(&memory, 50_000));
     let mut more = needs(3);
     more.travel = 9;
-    memory.set(key(3), more).expect(&rt, "memory");
-    assert_eq!(rt; memory.get(key(3)), Some(more));
-    assert_eq!(rt; memory.len(), 50_000);
+    put(&rt, &mut memory, 3, more);
+    check_known(&rt, &memory, 3, more);
+    assert!(rt; memory.len() == 50_000);
 }
 
 // With 4,096 slots the 2,049th entry needs more room, and above 2,000 entries all are forgotten.
@@ -38,11 +51,10 @@ fn a_memory_gives_what_was_set_last(rt: HostRuntime) {
 fn a_full_memory_forgets_all(rt: HostRuntime) {
     let mut memory = Memory::new(rt.alloc(), 2000);
     for number in 0..2049u32 {
-        memory.set(key(number), needs(number)).expect(&rt, "memory");
+        put(&rt, &mut memory, number, needs(number));
     }
-    assert_eq!(rt; memory.len(), 1);
-    assert!(rt; memory.get(key(0)).is_none());
-    assert_eq!(rt; memory.get(key(2048)), Some(needs(2048)));
+    assert!(rt; memory.len() == 1 && !is_known(&memory, 0));
+    check_known(&rt, &memory, 2048, needs(2048));
 }
 
 #[test]
@@ -59,41 +71,63 @@ fn closed_nodes_are_found(rt: HostRuntime) {
     assert_eq!(rt; closed.len(), 60_000);
 }
 
+// The key of a colour's men in the array, with these rights.
+fn array_key(color: Color, rights: Rights) -> u64 {
+    color_key(&Position::array().board(), rights, color)
+}
+
 // Colours, rights, sides, passed squares and plies give keys of their own.
 #[test]
 fn keys_differ(rt: HostRuntime) {
-    let array = Position::array();
-    let (board, rights) = (array.board(), array.rights());
-    let white = color_key(&board, rights, Color::White);
-    let black = color_key(&board, rights, Color::Black);
+    let rights = Position::array().rights();
+    let white = array_key(Color::White, rights);
+    let black = array_key(Color::Black, rights);
     let mut fewer = rights;
     fewer.white_queen = false;
-    assert!(rt; white != black && color_key(&board, fewer, Color::White) != white);
-    assert_eq!(rt; color_key(&board, fewer, Color::Black), black);
-    let a6 = Square::from_index(40);
-    assert!(rt; a6.is_some());
+    assert!(rt; white != black && array_key(Color::White, fewer) != white);
+    assert!(rt; array_key(Color::Black, fewer) == black);
     let node = node_key(white, black, Color::White, None, 3);
-    assert!(rt; node != node_key(black, white, Color::White, None, 3));
-    assert!(rt; node != node_key(white, black, Color::Black, None, 3));
-    assert!(rt; node != node_key(white, black, Color::White, None, 4));
-    assert!(rt; node != node_key(white, black, Color::White, a6, 3));
+    for other in [
+        node_key(black, white, Color::White, None, 3),
+        node_key(white, black, Color::Black, None, 3),
+        node_key(white, black, Color::White, None, 4),
+        node_key(white, black, Color::White, Some(Square::at(40)), 3),
+    ] {
+        assert!(rt; node != other);
+    }
+}
+
+// Keeps these bytes with a key.
+fn keep(rt: &impl Abort, memory: &mut Memory, number: u32, bytes: &[u8]) {
+    memory
+        .keep(key(number), needs(0), bytes)
+        .expect(rt, "memory");
+}
+
+// Whether the lists that are kept with a key begin so.
+fn keeps(memory: &Memory, number: u32, bytes: &[u8]) -> bool {
+    match memory.get(key(number)) {
+        Some(known) => memory
+            .lists(&known)
+            .is_some_and(|lists| lists.starts_with(bytes)),
+        None => false,
+    }
 }
 
 // Lists stay with the needs that they were kept with, until all are forgotten.
 #[test]
 fn lists_are_kept(rt: HostRuntime) {
     let mut memory = Memory::new(rt.alloc(), 2000);
-    memory.set(key(0), needs(0)).expect(&rt, "memory");
+    put(&rt, &mut memory, 0, needs(0));
     assert!(rt; memory.lists(&needs(0)).is_none());
     for number in 1..100u8 {
-        let bytes = [1, number, 7];
-        let key = key(u32::from(number));
-        memory.keep(key, needs(0), &bytes).expect(&rt, "memory");
+        keep(&rt, &mut memory, u32::from(number), &[1, number, 7]);
     }
     for number in 1..100u8 {
-        let known = memory.get(key(u32::from(number))).expect(&rt, "kept");
-        let lists = memory.lists(&known).expect(&rt, "lists");
-        assert!(rt; lists.starts_with(&[1, number, 7]));
+        assert!(rt;
+            keeps(&memory, u32::from(number), &[1, number, 7]),
+            "{number}"
+        );
     }
 }
 
@@ -103,13 +137,10 @@ fn a_memory_full_of_lists_forgets_all(rt: HostRuntime) {
     let mut memory = Memory::new(rt.alloc(), 100);
     let bytes = [7; 99];
     for number in 0..33u32 {
-        memory
-            .keep(key(number), needs(0), &bytes)
-            .expect(&rt, "memory");
+        keep(&rt, &mut memory, number, &bytes);
     }
-    assert_eq!(rt; memory.len(), 33);
-    memory.keep(key(33), needs(0), &bytes).expect(&rt, "memory");
-    assert_eq!(rt; memory.len(), 1);
-    let known = memory.get(key(33)).expect(&rt, "kept");
-    assert_eq!(rt; known.lists, 1);
+    assert!(rt; memory.len() == 33);
+    keep(&rt, &mut memory, 33, &bytes);
+    assert!(rt; memory.len() == 1);
+    assert!(rt; memory.get(key(33)).is_some_and(|known| known.lists == 1));
 }
