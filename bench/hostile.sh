@@ -13,6 +13,7 @@ array=rnbqkbnr/pppppppp/8/8/8/8/PPPPPPPP/RNBQKBNR
 first=rnbqkbnr/pppppppp/8/8/4P3/8/PPPP1PPP/RNBQKBNR
 open=rnbqkbnr/pppp1ppp/8/4p3/4P3/8/PPPP1PPP/RNBQKBNR
 queen=rnb1kbnr/ppp1pppp/8/3q4/8/8/PPPP1PPP/RNBQKBNR
+orders=rnbqkbnr/pppp1ppp/4p3/8/8/3PP3/PPP2PPP/RNBQKBNR
 unreachable=rnbqkbnr/pppppppp/8/8/8/3P4/PPPP1PPP/RNBQKBNR
 schweig=r1bqkbnr/ppp2ppp/3p4/8/8/8/PPPPPPPP/R1BQKBNR
 position="$array w KQkq - 0 1"
@@ -26,33 +27,184 @@ echo UEdDMYAkUzZCEREQEQAQAAAAAAAAAAAAAAAAAACZmZmZrNu+yg== | base64 -d >long.pgc 
 cp -r "$files" "$work/before"
 wrong=0
 
-# Runs the shell command $3 in the folder with the files: it is to end with status $1, and to say $2 on standard error.
+# Runs the shell command $3 in the folder with the files: it is to end with status $1, and to say $2 on standard error; and to
+# print $4, where that is given.
 expect() {
   local status
   (eval "$3") >"$work/out" 2>"$work/err"
   status=$?
-  if [ "$status" != "$1" ] || [ "$(cat "$work/err")" != "$2" ] || ! diff -r "$work/before" "$files" >"$work/changed"; then
-    { echo "$3"; echo "    status $status for $1; said:"; sed 's/^/    /' "$work/err" "$work/changed"; } >&2
+  if [ "$status" != "$1" ] || [ "$(cat "$work/err")" != "$2" ] || [ "${4-$(cat "$work/out")}" != "$(cat "$work/out")" ] ||
+    ! diff -r "$work/before" "$files" >"$work/changed"; then
+    { echo "$3"; echo "    status $status for $1; said and printed:"; sed 's/^/    /' "$work/err" "$work/out" "$work/changed"; } >&2
     wrong=1
     rm -rf "${files:?}"/* && cp -r "$work"/before/* "$files"
   fi
 }
+
+# The first 37 bytes of a certificate of version 1 for the diagram $1 and $2 plies: two squares a byte, from a1, the first one low.
+header() {
+  local ranks rank row number square codes=.PNBRQK..pnbrqk low high bytes=
+  IFS=/ read -ra ranks <<<"$1"
+  for rank in 7 6 5 4 3 2 1 0; do
+    row=${ranks[rank]}
+    for number in 1 2 3 4 5 6 7 8; do row=${row//$number/$(printf "%${number}s" | tr ' ' .)}; done
+    for square in 0 2 4 6; do
+      low=${codes%%"${row:square:1}"*} high=${codes%%"${row:square+1:1}"*}
+      bytes+=$(printf '\\x%02x' $((${#low} + 16 * ${#high})))
+    done
+  done
+  printf "PGC1\\x$(printf %02x "$2")$bytes"
+}
+
+# So many bytes 1, each an expansion.
+ones() { head -c "$1" /dev/zero | tr '\0' '\1'; }
 
 # Words.
 expect 2 'pg: a word of the command line is not UTF-8' '"$pg" moves $'"'\\xe9'"
 expect 2 'pg: a word of the command line is not UTF-8' '"$pg" search $first 0.5 $'"'caf\\xe9.pgc'"
 expect 4 'pg: cannot open a\u{1b}[31mb\n\u{9b}é' '"$pg" check $first 0.5 $'"'a\\e[31mb\\n\\xc2\\x9b\\xc3\\xa9'"
 expect 4 'pg: cannot open ' '"$pg" search $first 0.5 ""'
+while read -r status words; do
+  expect "$status" '' "\"\$pg\" $words </dev/null 2>/dev/null"
+done <<END
+2
+2 play
+2 moves
+2 moves 8/8
+2 count $array 256
+2 count $array -1
+2 check $array 0
+2 check $array 0 none none --records 0
+2 check $array 0 none none more
+2 search $array 0 none --nodes 18446744073709551616
+2 search 8/8 0 none
+2 search $array 64.5 none
+2 why $array 0 none
+4 check $array 0 none none --records=18446744073709551615
+4 check 8/8 64.5 none
+4 why 8/8 64.5 none -
+4 search $array 0 none/none --nodes=0
+4 search $array 0 none/
+0 --help
+0 check --help
+0 why --help
+0 --version
+END
+
+# Checks of certificates of expansions alone, with lists of games whose backslashes are read.
+{ header "$open" 2; ones 22; } >"$work/open.pgc"
+{ header "$open" 1; ones 1; } >"$work/short.pgc"
+header "$array" 0 >"$work/none.pgc"
+{ header "$orders" 3; ones 443; } >"$work/orders.pgc"
+head -c -1 "$work/orders.pgc" >"$work/cut.pgc"
+{ header "$orders" 3; ones 444; } >"$work/long.pgc"
+declare -A reports=(
+  [nothing]=
+  [sound]="diagram $open"$'\nlength 1.0\ngames 1\n1. e4 e5\nsound'
+  [array]="diagram $array"$'\nlength 0.0\ngames 1\n-\nsound'
+  [cooked]="diagram $orders"$'\nlength 1.5\ngames 2\n1. d3 e6 2. e3\n1. e3 e6 2. d3\ncooked'
+  [none]="diagram $open"$'\nlength 0.5\ngames 0\nno game'
+)
+while IFS='|' read -r status words list said printed; do
+  printf -- "$list" >"$work/list"
+  expect "$status" "${said:+pg: $said}" "\"\$pg\" check $words ../list" "${reports[${printed:-nothing}]}"
+done <<END
+0|$open 1.0 ../open.pgc --records 22|1. e4 e5\n||sound
+1|$open 1.0 ../open.pgc --records 21|1. e4 e5\n|record limit reached|
+1|$open 1.0 ../open.pgc --records 22||unlisted game: 1. e4 e5|
+1|$open 1.0 ../open.pgc --records 22|1. e4 d5\n|game 1 does not end on the diagram|
+2|$open 1.0 ../open.pgc --records 22|1. e4 e4\n|line 1, ply 2: no such legal move|
+2|$open 1.0 ../open.pgc --records 22|\xff|games are not UTF-8|
+2|$open 1. ../open.pgc --records 22|1. e4 e5\n|bad length|
+1|$open 1.5 ../open.pgc --records 22||certificate for another length|
+1|$orders 1.5 ../orders.pgc|1. e3 e6 2. d3\n1. d3 e6 2. e3\n||cooked
+1|$open 0.5 ../short.pgc|||none
+0|$array 0 ../none.pgc|-||array
+1|$orders 1.5 ../orders.pgc|1. d3 e6 2. e3|unlisted game: 1. e3 e6 2. d3|
+1|$orders 1.5 ../orders.pgc|1. e3 e6 2. d3|unlisted game: 1. d3 e6 2. e3|
+1|$orders 1.5 ../long.pgc|1. e3 e6 2. d3\n1. d3 e6 2. e3|bytes after the certificate|
+1|$orders 1.5 ../cut.pgc|1. e3 e6 2. d3\n1. d3 e6 2. e3|truncated certificate|
+1|$orders 1.5 ../orders.pgc|1. e3 e6|game 1 does not have the stated length|
+2|$orders 1.5 ../orders.pgc|1. e3 e6 2. e3|line 1, ply 3: no such legal move|
+2|$array 0 ../none.pgc|e4\0|line 1, ply 1: not a move|
+2|$array 0 ../none.pgc|\0|line 1, ply 1: not a move|
+2|$array 0 ../none.pgc|e4\re5|line 1, ply 1: not a move|
+2|$array 0 ../none.pgc|\xef\xbb\xbfe4|line 1, ply 1: not a move|
+2|$array 0 ../none.pgc|\xc2\xa0e4|line 1, ply 1: not a move|
+2|$array 0 ../none.pgc|\xe2\x99\x98f3|line 1, ply 1: not a move|
+2|$array 0 ../none.pgc|Sf\xc3\xa9|line 1, ply 1: not a move|
+2|$array 0 ../none.pgc|e4 \xc3|games are not UTF-8|
+2|$array 0 ../none.pgc|\xed\xa0\x80|games are not UTF-8|
+END
+many() { head -c "$1" /dev/zero | tr '\0' "$2"; }
+expect 2 'pg: line 2: repeated game' 'yes e4 | head -n 4097 | "$pg" check $array 0 ../none.pgc'
+expect 2 'pg: line 1, ply 1: not a move' '(many 1000000 1; echo e4) | "$pg" check $array 0 ../none.pgc'
+expect 1 'pg: game 1 does not have the stated length' '(many 1000000 1; many 1000000 .; echo e4) | "$pg" check $array 0 ../none.pgc'
+
+# Lines that are explained by such certificates.
+{ header "$open" 2; ones 21; } >"$work/cut.pgc"
+{ header "$open" 2; ones 23; } >"$work/long.pgc"
+{ header "$open" 2; printf '\1\3\0\0\0\0'; } >"$work/reference.pgc"
+open_line='at the start: 20 of 20 moves lead on; 1 game below
+after 1. e4: 1 of 20 moves ends on the diagram
+the certificate is right'
+expect 0 '' '"$pg" why $open 1.0 ../open.pgc "1. e4" --records 22' "$open_line"
+expect 1 'pg: reference to no closed node' '"$pg" why $open 1.0 ../reference.pgc - --records 22' \
+  $'at the start: a reference to no closed node\nreference to no closed node'
+expect 1 'pg: truncated certificate' '"$pg" why $open 1.0 ../cut.pgc - --records 22' 'truncated certificate'
+expect 1 'pg: bytes after the certificate' '"$pg" why $open 1.0 ../long.pgc - --records 22' 'bytes after the certificate'
+expect 2 'pg: not one line of moves' '"$pg" why $open 1.0 ../open.pgc "" --records 22' ''
+expect 2 'pg: line 1, ply 1: no such legal move' '"$pg" why $open 1.0 ../open.pgc e5 --records 22' ''
+
+# Copies, and what is not copied.
+{ header "$array" 4; printf '\1\5\2\1\3\1\1\1\1\2\4\1'; } >"$work/old.pgc"
+expect 0 '' '"$pg" upgrade ../old.pgc ../two --records 6 && head -c 4 ../two && tail -c +5 ../two | cmp - <(tail -c +5 ../old.pgc)' \
+  $'records 6\nPGC2'
+while IFS='|' read -r records limit said; do
+  { header "$array" 4; printf "$records"; } >"$work/old.pgc"
+  expect 1 "pg: $said" '"$pg" upgrade ../old.pgc new.pgc --records '"$limit" ''
+done <<'END'
+\1\2\4|1|record limit reached
+\1\2|9|truncated certificate
+\1\6|9|unknown record byte 6
+END
+echo 'not a certificate, though it is long enough' >"$work/old.pgc"
+expect 1 'pg: not a certificate of version 1' '"$pg" upgrade ../old.pgc new.pgc' ''
+
+# Searches that find the array at once, in the place of another file, and searches that give up.
+echo old >"$work/found.pgc"
+expect 0 '' '"$pg" search $array 0 ../found.pgc && wc -c <../found.pgc' "${reports[array]}"$'\n37'
+expect 4 'pg: cannot open ../found.pgc' '"$pg" check $array 0.0 ../found.pgc ../found.pgc' ''
+expect 1 'pg: unlisted game: -' '"$pg" check $array 0.0 ../found.pgc /dev/null' ''
+echo - >"$work/list"
+expect 1 'pg: truncated certificate' '"$pg" check $array 0 empty ../list' ''
+while IFS='|' read -r status diagram length nodes said; do
+  for name in good.pgc new.pgc; do
+    expect "$status" "pg: $said" "\"\$pg\" search $diagram $length $name --nodes=$nodes" ''
+  done
+done <<END
+1|$open|1.0|0|node limit reached
+1|$array|1.0|1000|a game of 0 plies reaches the diagram
+1|$array|2.0|1000|a game of 0 plies reaches the diagram
+1|$first|1.0|1000|a game of 1 plies reaches the diagram
+2|8/8|1.0|1000|bad rank
+2|$array|64.5|1000|length above 64.0
+2|$array|''|1000|bad length
+END
 
 # Streams that are closed or full.
 expect 4 'pg: read fault' '"$pg" check $queen 2.0 games <&-'
 expect 4 'pg: read fault' '"$pg" check $queen 2.0 good.pgc <&-'
 expect 4 'pg: read fault' '"$pg" check $queen 2.0 good.pgc <.'
+expect 4 'pg: read fault' '"$pg" check $queen 2.0 . games'
+expect 4 'pg: read fault' '"$pg" why $queen 2.0 . -'
+expect 4 'pg: read fault' '"$pg" upgrade . new.pgc'
 for full in '>&-' '>/dev/full'; do
   expect 4 'pg: write fault' '"$pg" moves "$position" '"$full"
   expect 4 'pg: write fault' '"$pg" count "$position" 2 '"$full"
   expect 4 'pg: write fault' '"$pg" check $queen 2.0 good.pgc games '"$full"
   expect 4 'pg: write fault' '"$pg" search $queen 2.0 good.pgc '"$full"
+  expect 4 'pg: write fault' '"$pg" why $queen 2.0 good.pgc - '"$full"
   expect 4 'pg: write fault' '"$pg" upgrade old.pgc new.pgc '"$full"
   expect 4 'pg: write fault' '"$pg" --help '"$full"
 done
@@ -68,16 +220,19 @@ expect 1 'pg: unlisted game: 1. e4 d5 2. exd5 Qxd5' 'head -c 16777216 /dev/zero 
 endless() { head -c 37 "$1"; yes x | tr -d '\n' | tr x "$2"; }
 expect 1 'pg: record limit reached' '"$pg" check $queen 2.0 <(endless good.pgc "\1") games --records 1000'
 expect 1 'pg: record limit reached' '"$pg" check $unreachable 64.0 <(endless long.pgc "\1") empty --records 1000'
+expect 1 'pg: record limit reached' '"$pg" check $unreachable 64.0 <(endless long.pgc "\5") empty --records 1000'
 expect 1 'pg: too many named nodes' '"$pg" check $unreachable 64.0 <(endless long.pgc "\5") empty'
 expect 1 'pg: unknown record byte 6' '"$pg" check $unreachable 64.0 <(endless long.pgc "\6") empty'
 expect 1 'pg: bytes after the certificate' '"$pg" check $queen 2.0 <(cat good.pgc; endless good.pgc "\1") games'
+expect 1 'pg: bytes after the certificate' '"$pg" check $first 0.5 <(header $first 1; yes x | tr -d "\n" | tr x "\1") <(echo e4)'
 expect 1 'pg: record limit reached' '"$pg" upgrade <(endless old.pgc "\1") new.pgc --records 1000'
 
 # Files that are not to be written, and one that is two at once.
 mkfifo "$work/fifo"
-for name in /dev/stdout /dev/null . "$work/fifo" none/new.pgc; do
-  expect 4 "pg: cannot open $name" '"$pg" search $queen 2.0 '"$name"
-  expect 4 "pg: cannot open $name" '"$pg" upgrade old.pgc '"$name"
+ln -s nothing "$work/dead"
+for name in /dev/stdout /dev/null /dev/full . / "$work/fifo" "$work/dead" none/new.pgc none/ "''"; do
+  expect 4 "pg: cannot open ${name#"''"}" '"$pg" search $queen 2.0 '"$name"
+  expect 4 "pg: cannot open ${name#"''"}" '"$pg" upgrade old.pgc '"$name"
 done
 expect 4 'pg: cannot open good.pgc' '"$pg" search $queen 2.0 good.pgc >>good.pgc'
 expect 4 'pg: cannot open /dev/stdout' '"$pg" search $queen 2.0 /dev/stdout >>good.pgc'
@@ -86,12 +241,16 @@ expect 4 'pg: cannot open good.pgc' '"$pg" check $queen 2.0 good.pgc good.pgc'
 expect 4 'pg: cannot open none' '"$pg" check $queen 2.0 none games'
 expect 4 'pg: cannot open none' '"$pg" check $queen 2.0 good.pgc none'
 expect 4 'pg: cannot open none' '"$pg" upgrade none new.pgc'
+expect 4 'pg: cannot open none' '"$pg" upgrade none old.pgc'
+expect 4 'pg: cannot open none' '"$pg" why $queen 2.0 none -'
 
 # Runs that end without an answer, and a full disk: files may not grow past 1,024 bytes.
 expect 1 'pg: node limit reached' '"$pg" search $queen 2.0 good.pgc --nodes 3'
 expect 1 'pg: a game of 4 plies reaches the diagram' '"$pg" search $queen 3.0 good.pgc'
 expect 4 'pg: write fault' 'trap "" XFSZ; ulimit -f 1; "$pg" search $schweig 4.0 good.pgc'
 expect 1 'pg: not a certificate of version 1' '"$pg" upgrade old.pgc ../two >/dev/null; "$pg" upgrade ../two good.pgc'
+{ header "$array" 4; ones 2000; } >"$work/old.pgc"
+expect 4 'pg: write fault' 'trap "" XFSZ; ulimit -f 1; "$pg" upgrade ../old.pgc new.pgc'
 
 # On a terminal: a bad diagram is told before the list is typed, and else how it is typed.
 if command -v script >/dev/null; then

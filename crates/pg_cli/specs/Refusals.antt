@@ -1,5 +1,7 @@
 -- The status with which the program ends where a command has no answer.
 use Rattle.std.specs.Prelude.{ℕ}
+use Rattle.pg_files.specs.declared.faults.FileFault.{FileFault}
+use Rattle.pg_files.specs.declared.faults.FileFault.TheVariants as file
 use Rattle.pg_report.specs.Statuses.{status_of, search_status_of, show_status_of, moves_status_of, count_status_of, upgrade_status_of}
 use Rattle.pg_cli.specs.declared.refusals.Refusal.{Refusal}
 use Rattle.pg_cli.specs.declared.refusals.Refusal.TheVariants.{Words, Open, Line, NotUtf8, Read, Write, Memory, Show, Moves, Count, Search, Upgrade, Check}
@@ -19,3 +21,10 @@ refusal_status (Count fault) = count_status_of fault
 refusal_status (Search fault) = search_status_of fault
 refusal_status (Upgrade fault) = upgrade_status_of fault
 refusal_status (Check fault) = status_of fault
+
+-- 3 for want of memory, 4 for a file that is not opened, created, read or written
+abbrev pub file_status : FileFault → ℕ
+file_status file.Memory = 3
+file_status file.Open = 4
+file_status file.Read = 4
+file_status file.Write = 4

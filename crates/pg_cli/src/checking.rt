@@ -5,18 +5,14 @@ ghost use Rattle.pg_report.specs.Statuses.{verdict_status};
 ghost use Rattle.pg_checker.specs.declared.fault.RunFault.TheVariants.{Write};
 ghost use Rattle.pg_cli.specs.Answers.{AreAnswered};
 
-use crate::gathered::Gathered;
-use crate::input::{list, open};
-use crate::line::{Cleared, Terminal};
-use crate::names::FileName;
-use crate::progress::watch_records;
 use crate::refusals::Refusal;
 use crate::screen::Screen;
-use crate::writing::lead_to_one;
 use clap::ArgMatches;
+use pg_files::{FileName, lead_to_one, list, open};
 use pg_report::{
     Bound, Problem, Refused, RunFault, Sink, ToWrite, Verdict, run_check, verdict_status,
 };
+use pg_streams::{Cleared, Gathered, Terminal, watch_records};
 use std::io::{Read, Write};
 use std::rt::Runtime;
 use std::{io, str};
@@ -118,7 +114,10 @@ fn games_of<'a, R: Runtime + AllocGlobal>(
         }
         _ => {}
     }
-    list(rt, path)
+    match list(rt, path) {
+        Ok(games) => Ok(games),
+        Err(fault) => Err(Refusal::of_file(fault, path.unwrap_or(""))),
+    }
 }
 
 // `pg check`: the certificate of a file is checked, and the report stands on standard output.
@@ -129,7 +128,10 @@ pub(crate) fn check<'a, R: Runtime + AllocGlobal>(
     screen: Screen,
 ) -> Result<u8, Refusal<'a>> {
     let path = words.get_str("CERT").unwrap_or("");
-    let certificate = open(rt, path)?;
+    let certificate = match open(rt, path) {
+        Ok(certificate) => certificate,
+        Err(fault) => return Err(Refusal::of_file(fault, path)),
+    };
     let games = match games_of(rt, words, screen) {
         Ok(games) => games,
         Err(refusal) => return Err(refusal),

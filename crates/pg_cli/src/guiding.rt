@@ -3,14 +3,12 @@ ghost use Rattle.std.specs.Prelude.{OnOk};
 ghost use Rattle.pg_cli.specs.Answers.{HasExactAnswer};
 
 use crate::checking::{NAMED, RECORDS};
-use crate::gathered::Gathered;
-use crate::input::open;
-use crate::line::{Cleared, Terminal};
-use crate::progress::watch_records;
 use crate::refusals::{DONE, Refusal};
 use clap::ArgMatches;
+use pg_files::{FileFault, open};
 use pg_guide::{Asked, WhyFault, why as explain};
 use pg_report::{Bound, Refused, RunFault, Sink, ToWrite};
+use pg_streams::{Cleared, Gathered, Terminal, watch_records};
 use std::io;
 use std::io::{Read, Write};
 use std::rt::Runtime;
@@ -78,6 +76,14 @@ pub(crate) fn why_from<'a, R: Runtime + AllocGlobal, C: Read + Drop, W: Write + 
     }
 }
 
+// A file, opened three times.
+fn open_thrice<R: Runtime + AllocGlobal>(
+    rt: &R,
+    path: &str,
+) -> Result<(R::File, R::File, R::File), FileFault> {
+    Ok((open(rt, path)?, open(rt, path)?, open(rt, path)?))
+}
+
 // `pg why`: the certificate of a file explains a line on standard output.
 pub(crate) fn why<'a, R: Runtime + AllocGlobal>(
     rt: &R,
@@ -86,7 +92,10 @@ pub(crate) fn why<'a, R: Runtime + AllocGlobal>(
     screen: bool,
 ) -> Result<u8, Refusal<'a>> {
     let path = words.get_str("CERT").unwrap_or("");
-    let certificates = (open(rt, path)?, open(rt, path)?, open(rt, path)?);
+    let certificates = match open_thrice(rt, path) {
+        Ok(certificates) => certificates,
+        Err(fault) => return Err(Refusal::of_file(fault, path)),
+    };
     let asked = Asked {
         diagram: words.get_str("DIAGRAM").unwrap_or(""),
         length: words.get_str("LENGTH").unwrap_or(""),

@@ -4,27 +4,19 @@
 #![tactic(auto)]
 
 mod checking;
-mod commands;
-mod gathered;
 mod guiding;
-mod input;
-mod line;
-mod names;
 mod positions;
-mod progress;
 mod refusals;
-mod runs;
 mod screen;
 mod searching;
 mod upgrading;
-mod writing;
 
-use crate::commands::pg;
 use crate::refusals::{BAD_INPUT, DONE, Refusal, refuse};
 use crate::screen::Screen;
 use clap::ArgMatches;
 use clap::error::ErrorKind;
 use pg_report::{Bound, Captures, PawnFiles, Promotions, Travel};
+use pg_words::pg;
 use std::fs::File;
 use std::io::IsTerminal;
 use std::process::ExitCode;
@@ -53,17 +45,38 @@ fn carry_out<'a, R: Runtime + AllocGlobal>(
     }
 }
 
-// Does what the words of a command say, with the four bounds in the order of their codes, and gives
-// the status.
-fn run<R: Runtime + AllocGlobal>(rt: &R, words: &ArgMatches<'_>, screen: Screen) -> io::Result<u8> {
-    let mut bounds: Vec<Box<dyn Bound>> = Vec::new(rt.alloc());
-    bounds.push(Box::new(rt.alloc(), Captures)?)?;
-    bounds.push(Box::new(rt.alloc(), Promotions)?)?;
-    bounds.push(Box::new(rt.alloc(), PawnFiles)?)?;
-    bounds.push(Box::new(rt.alloc(), Travel)?)?;
+// Does what the words of a command say, with these bounds, and gives the status.
+fn lend<R: Runtime + AllocGlobal>(
+    rt: &R,
+    words: &ArgMatches<'_>,
+    bounds: Vec<Box<dyn Bound>>,
+    screen: Screen,
+) -> u8 {
     match carry_out(rt, words, bounds.as_slice(), screen) {
-        Ok(status) => Ok(status),
-        Err(refusal) => Ok(refuse(rt, &refusal)),
+        Ok(status) => status,
+        Err(refusal) => refuse(rt, &refusal),
+    }
+}
+
+// Does what the words of a command say, with the four bounds in the order of their codes, and gives
+// the status; None where a growth was refused before.
+fn run<R: Runtime + AllocGlobal>(rt: &R, words: &ArgMatches<'_>, screen: Screen) -> Option<u8> {
+    let Ok(captures) = Box::new(rt.alloc(), Captures) else {
+        return None;
+    };
+    let Ok(promotions) = Box::new(rt.alloc(), Promotions) else {
+        return None;
+    };
+    let Ok(pawn_files) = Box::new(rt.alloc(), PawnFiles) else {
+        return None;
+    };
+    let Ok(travel) = Box::new(rt.alloc(), Travel) else {
+        return None;
+    };
+    let four: [Box<dyn Bound>; 4] = [captures, promotions, pawn_files, travel];
+    match Vec::from_array(rt.alloc(), four) {
+        Ok(bounds) => Some(lend(rt, words, bounds, screen)),
+        Err(_) => None,
     }
 }
 
@@ -72,10 +85,13 @@ fn explain<R: Runtime + AllocGlobal>(rt: &R, error: &clap::Error) -> u8 {
     if error.kind() == ErrorKind::OutOfMemory {
         return refuse(rt, &Refusal::Memory);
     }
-    match (error.print(rt), error.use_stderr()) {
-        (_, true) => BAD_INPUT,
-        (Ok(()), false) => DONE,
-        (Err(_), false) => refuse(rt, &Refusal::Write),
+    let is_printed = error.print(rt).is_ok();
+    if error.use_stderr() {
+        BAD_INPUT
+    } else if is_printed {
+        DONE
+    } else {
+        refuse(rt, &Refusal::Write)
     }
 }
 
@@ -86,8 +102,8 @@ fn obey<R: Runtime + AllocGlobal>(rt: &R, words: &[String], screen: Screen) -> u
     };
     match command.try_get_matches_from(words) {
         Ok(matches) => match run(rt, &matches, screen) {
-            Ok(status) => status,
-            Err(_) => refuse(rt, &Refusal::Memory),
+            Some(status) => status,
+            None => refuse(rt, &Refusal::Memory),
         },
         Err(error) => explain(rt, &error),
     }
@@ -128,6 +144,3 @@ fn main(rt: HostRuntime) -> ExitCode {
     };
     ExitCode::from(program(&rt, screen))
 }
-
-#[cfg(test)]
-mod tests;

@@ -1,14 +1,12 @@
 //! The commands on one position: its legal moves, the number of games from it, and a diagram shown.
 
-use crate::gathered::Gathered;
-use crate::line::Terminal;
 use crate::refusals::{DONE, Refusal};
-use crate::runs::CountLine;
 use clap::ArgMatches;
 use pg_report::{
     Bound, CountRunFault, MovesFault, Refused, ShowFault, ToWrite, run_count_watched, run_moves,
     run_show,
 };
+use pg_streams::{CountLine, Gathered, Terminal};
 use std::io;
 use std::rt::Runtime;
 

@@ -1,14 +1,14 @@
 //! Why a command ends without its answer, what the program says then, and its status.
 ghost use Rattle.std.specs.Prelude.{◌≡◌, false, true};
-ghost use Rattle.pg_cli.specs.Refusals.{refusal_status};
+ghost use Rattle.pg_cli.specs.Refusals.{refusal_status, file_status};
 
-use crate::gathered::Gathered;
-use crate::names::FileName;
+use pg_files::{FileFault, FileName};
 use pg_report::{
     CountRunFault, Fault, MovesFault, Refused, RunFault, SearchFault, ShowFault, Sink,
     UpgradeFault, count_status, moves_status, search_status, show_status, status, upgrade_status,
     write_movetext,
 };
+use pg_streams::Gathered;
 use std::fmt::Write;
 use std::io::Eprint;
 use std::str;
@@ -67,6 +67,20 @@ pub(crate) enum Refusal<'a> {
     /// The check has no report.
     #[error("{0}")]
     Check(RunFault),
+}
+
+impl<'a> Refusal<'a> {
+    // Why the file of this name is not read or written.
+    pub(crate) fn of_file(fault: FileFault, name: &'a str) -> Refusal<'a>
+        ensures { refusal_status result ≡ file_status fault }
+    {
+        match fault {
+            FileFault::Open => Refusal::Open(FileName(name)),
+            FileFault::Read => Refusal::Read,
+            FileFault::Write => Refusal::Write,
+            FileFault::Memory => Refusal::Memory,
+        }
+    }
 }
 
 impl Refusal<'_> {

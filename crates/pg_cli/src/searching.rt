@@ -5,14 +5,11 @@ ghost use Rattle.pg_position.specs.declared.moves.Move.{Move};
 ghost use Rattle.pg_cli.specs.Answers.{IsAnswered};
 
 use crate::checking::{NAMED, RECORDS, finished};
-use crate::gathered::Gathered;
-use crate::line::{Cleared, Terminal};
-use crate::progress::watch_records;
 use crate::refusals::Refusal;
-use crate::runs::SearchLine;
-use crate::writing::begin;
 use clap::ArgMatches;
+use pg_files::begin;
 use pg_report::{Bound, Games, Problem, ToWrite, run_listed, search_watched};
+use pg_streams::{Cleared, Gathered, SearchLine, Terminal, watch_records};
 use std::io;
 use std::io::{Read, Seek, SeekFrom, Write};
 use std::rt::Runtime;
@@ -131,13 +128,16 @@ pub(crate) fn search<'a, R: Runtime + AllocGlobal>(
         Err(fault) => return Err(Refusal::Check(fault)),
     };
     let nodes = words.get_one::<u64>("nodes").unwrap_or(NODES);
-    let mut draft = begin(rt, path)?;
+    let mut draft = match begin(rt, path) {
+        Ok(draft) => draft,
+        Err(fault) => return Err(Refusal::of_file(fault, path)),
+    };
     let out = io::writer(rt);
     match search_in(rt, &problem, bounds, &mut draft.file, out, nodes, screen) {
-        Ok(status) => {
-            draft.put(rt)?;
-            Ok(status)
-        }
+        Ok(status) => match draft.put(rt) {
+            Ok(()) => Ok(status),
+            Err(fault) => Err(Refusal::of_file(fault, path)),
+        },
         Err(refusal) => {
             draft.discard(rt);
             Err(refusal)

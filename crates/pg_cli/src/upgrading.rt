@@ -2,15 +2,11 @@
 ghost use Rattle.std.specs.Prelude.{◌≡◌, ◌≤◌, IfOk};
 
 use crate::checking::RECORDS;
-use crate::gathered::Gathered;
-use crate::input::open;
-use crate::line::Terminal;
-use crate::names::FileName;
-use crate::progress::watch_records;
 use crate::refusals::{DONE, Refusal};
-use crate::writing::{begin, lead_to_one};
 use clap::ArgMatches;
+use pg_files::{FileName, begin, lead_to_one, open};
 use pg_report::{Refused, ToWrite, UpgradeFault, upgrade as upgrade_from};
+use pg_streams::{Gathered, Terminal, watch_records};
 use std::fmt::Write as WriteText;
 use std::io;
 use std::io::{Read, Write};
@@ -64,18 +60,24 @@ pub(crate) fn upgrade<'a, R: Runtime + AllocGlobal>(
 ) -> Result<u8, Refusal<'a>> {
     let old = words.get_str("OLD").unwrap_or("");
     let new = words.get_str("NEW").unwrap_or("");
-    let source = open(rt, old)?;
+    let source = match open(rt, old) {
+        Ok(source) => source,
+        Err(fault) => return Err(Refusal::of_file(fault, old)),
+    };
     if lead_to_one(rt, old, new) {
         return Err(Refusal::Open(FileName(new)));
     }
     let records = words.get_one::<u64>("records").unwrap_or(RECORDS);
-    let mut draft = begin(rt, new)?;
+    let mut draft = match begin(rt, new) {
+        Ok(draft) => draft,
+        Err(fault) => return Err(Refusal::of_file(fault, new)),
+    };
     let out = io::writer(rt);
     match upgrade_to(rt, source, &mut draft.file, out, records, screen) {
-        Ok(_) => {
-            draft.put(rt)?;
-            Ok(DONE)
-        }
+        Ok(_) => match draft.put(rt) {
+            Ok(()) => Ok(DONE),
+            Err(fault) => Err(Refusal::of_file(fault, new)),
+        },
         Err(refusal) => {
             draft.discard(rt);
             Err(refusal)

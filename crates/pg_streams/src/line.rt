@@ -1,7 +1,7 @@
 //! A line on the terminal, rewritten about twice a second.
 ghost use Rattle.std.specs.Prelude.{◌≡◌};
 
-use pg_report::{Refused, Sink};
+use pg_certificate::{Refused, Sink};
 use std::cell::Cell;
 use std::io::Eprint;
 use std::time::{Clock, Instant};
@@ -15,9 +15,9 @@ const BETWEEN: u128 = 500;
 // A line has so many characters at most, one fewer than the narrowest terminal that it is for.
 pub(crate) const WIDTH: usize = 19;
 
-// The line of a terminal on which runs say how far they are, as all see it that write there.
+/// The line of a terminal on which runs say how far they are, as all see it that write there.
 #[derive(Drop)]
-pub(crate) struct Terminal {
+pub struct Terminal {
     /// Whether somebody looks at it.
     screen: bool,
     /// Whether a text stands on the line.
@@ -25,8 +25,8 @@ pub(crate) struct Terminal {
 }
 
 impl Terminal {
-    // A line with no text, on a screen or on none.
-    pub(crate) fn new(screen: bool) -> Terminal {
+    /// A line with no text, on a screen or on none.
+    pub fn new(screen: bool) -> Terminal {
         Terminal {
             screen,
             shown: Cell::new(false),
@@ -106,17 +106,17 @@ impl<'a, R: Clock + Eprint> Line<'a, R> {
     }
 }
 
-// A sink that takes the text on the terminal away before it hands bytes on, which may stand there too.
+/// A sink that takes the text on the terminal away before it hands bytes on, which may stand there too.
 #[derive(Drop)]
-pub(crate) struct Cleared<'a, W, R> {
+pub struct Cleared<'a, W, R> {
     inner: W,
     rt: &'a R,
     terminal: &'a Terminal,
 }
 
 impl<'a, W: Sink, R: Eprint> Cleared<'a, W, R> {
-    // Over a sink.
-    pub(crate) fn new(inner: W, rt: &'a R, terminal: &'a Terminal) -> Cleared<'a, W, R>
+    /// Over a sink.
+    pub fn new(inner: W, rt: &'a R, terminal: &'a Terminal) -> Cleared<'a, W, R>
         ensures held { ⟦<Cleared<'a, W, R> as Sink>⟧.held result ≡ W.held inner }
         ensures runs { ⟦<Cleared<'a, W, R> as Sink>⟧.has_failed result ≡ W.has_failed inner }
     {

@@ -1,6 +1,10 @@
-use super::*;
-use crate::writing::{begin, lead_to_one};
+//! Files that are written beside their place, and put there when they are whole.
+
+use pg_files::{FileFault, begin, lead_to_one};
+use std::io::Write;
 use std::os::unix::fs::{PermissionsExt, symlink};
+use std::process::Abort;
+use std::rt::Runtime;
 use std::{env, fs, process};
 
 // The path of a file in a folder.
@@ -106,13 +110,8 @@ fn a_draft_is_put_in_its_place_or_dropped(rt: HostRuntime) {
 
 // That no draft is begun under a name.
 fn check_not_opened<R: Runtime + Abort + AllocGlobal>(rt: &R, name: &str) {
-    let Err(refusal) = begin(rt, name) else {
-        panic!(rt; "{name}");
-    };
-    let Ok(wanted) = format!(in rt.alloc(); "cannot open {name}") else {
-        panic!(rt; "memory");
-    };
-    check_said(rt, Err(refusal), wanted.as_str(), 4);
+    let refused = begin(rt, name);
+    assert!(rt; matches!(&refused, Err(FileFault::Open)), "{name}");
 }
 
 // Names that lead to no plain file that may be written: none of them is touched.
@@ -165,67 +164,5 @@ fn links_stay(rt: HostRuntime) {
     assert!(rt; !lead_to_one(&rt, file.as_str(), "/dev/null"));
     assert!(rt; !lead_to_one(&rt, "/dev/null", "/dev/null"));
     check_link(&rt, file.as_str(), name.as_str());
-    remove(&rt, folder.as_str());
-}
-
-// A search that gives up leaves an old certificate as it was, and one that is done replaces it.
-fn check_searches<R: Runtime + Abort + AllocGlobal>(rt: &R, folder: &str, path: &str) {
-    let refused = ["search", AFTER_E4_E5, "1.0", path, "--nodes=0"];
-    check_status(rt, &refused, 1);
-    check_count(rt, folder, 0);
-    write(rt, path, b"old");
-    check_status(rt, &refused, 1);
-    check_status(rt, &["search", ARRAY, "1.0", path], 1);
-    check_file(rt, path, b"old");
-    check_count(rt, folder, 1);
-    check_status(rt, &["search", ARRAY, "0.0", path], 0);
-    assert_eq!(rt; read(rt, path).len(), 37);
-    check_count(rt, folder, 1);
-    check_status(rt, &["check", ARRAY, "0.0", path, path], 4);
-    check_status(rt, &["check", ARRAY, "0.0", path, "/dev/null"], 1);
-}
-
-#[test]
-fn searches_leave_no_rubbish(rt: HostRuntime) {
-    let folder = folder(&rt, process::id(rt.process()), "search");
-    let path = path_in(&rt, folder.as_str(), "certificate");
-    check_searches(&rt, folder.as_str(), path.as_str());
-    remove(&rt, folder.as_str());
-}
-
-// A copy is put in its place when it is whole; no old file is harmed, least of all the one that is copied.
-fn check_copies<R: Runtime + Abort + AllocGlobal>(
-    rt: &R,
-    folder: &str,
-    old: &str,
-    new: &str,
-    bytes: &[u8],
-) {
-    write(rt, old, bytes);
-    check_status(rt, &["upgrade", old, old], 4);
-    check_status(rt, &["upgrade", new, old], 4);
-    check_status(rt, &["upgrade", old, folder], 4);
-    check_file(rt, old, bytes);
-    check_count(rt, folder, 1);
-    check_status(rt, &["upgrade", old, new], 0);
-    check_status(rt, &["upgrade", new, old], 1);
-    check_file(rt, old, bytes);
-    assert!(rt; read(rt, new).as_slice().starts_with(b"PGC2"));
-    check_count(rt, folder, 2);
-}
-
-#[test]
-fn copies_leave_no_rubbish(rt: HostRuntime) {
-    let folder = folder(&rt, process::id(rt.process()), "upgrade");
-    let old = path_in(&rt, folder.as_str(), "old");
-    let new = path_in(&rt, folder.as_str(), "new");
-    let bytes = certificate(&rt, ARRAY, 0, &[]);
-    check_copies(
-        &rt,
-        folder.as_str(),
-        old.as_str(),
-        new.as_str(),
-        bytes.as_slice(),
-    );
     remove(&rt, folder.as_str());
 }

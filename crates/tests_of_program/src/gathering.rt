@@ -1,7 +1,12 @@
-use super::*;
-use pg_report::{Refused, Sink};
-use pg_trial::FailsAt;
+//! Bytes that are gathered before they are written.
+
+use crate::shared::repeated;
+use pg_certificate::{Refused, Sink, ToWrite};
+use pg_streams::Gathered;
+use pg_trial::{FailsAt, OneByte};
 use std::io;
+use std::io::Write;
+use std::process::Abort;
 
 // Ten thousand bytes in pieces of seven.
 fn push_pieces<W: Sink>(out: &mut Gathered<W>) -> Result<(), Refused> {
@@ -60,4 +65,44 @@ fn a_long_piece(rt: HostRuntime) {
     assert_eq!(rt; bytes.len(), 5011);
     assert!(rt; bytes.as_slice().starts_with(b"beforex"));
     assert!(rt; bytes.as_slice().ends_with(b"xafter"));
+}
+
+const REPORT: &[u8] =
+    b"diagram rnbqkbnr/pppppppp/8/8/4P3/8/PPPP1PPP/RNBQKBNR\nlength 0.5\ngames 1\n1. e4\nsound\n";
+
+// Whether a report, gathered line by line, is wholly written to a writer.
+fn is_written<W: Write + Drop>(out: W) -> bool {
+    let mut out = Gathered::new(ToWrite::new(out));
+    for line in REPORT.split_inclusive(|byte| *byte == b'\n') {
+        if out.push(line).is_err() {
+            return false;
+        }
+    }
+    out.finish().is_ok()
+}
+
+// One write, which may fail.
+fn check_one_write<R: Abort + AllocGlobal>(rt: &R, at: u64, wanted: bool) {
+    let mut out = Vec::new(rt.alloc());
+    let mut writer = FailsAt::new(&mut out, at, io::ErrorKind::Interrupted);
+    assert_eq!(rt; is_written(&mut writer), wanted);
+    assert_eq!(rt; writer.calls(), 1);
+}
+
+// A byte a write, of which one fails: what stands before it is written.
+fn check_slow_write<R: Abort + AllocGlobal>(rt: &R, call: usize) {
+    let mut out = Vec::new(rt.alloc());
+    let failing = FailsAt::new(&mut out, call as u64, io::ErrorKind::WriteZero);
+    assert_eq!(rt; is_written(OneByte::new(failing)), call == REPORT.len());
+    assert_eq!(rt; Some(out.as_slice()), REPORT.get(..call));
+}
+
+// A report is one write; each write that fails is told, and one byte a call gives the same.
+#[test]
+fn reports_that_are_not_written(rt: HostRuntime) {
+    check_one_write(&rt, 0, false);
+    check_one_write(&rt, 9, true);
+    for call in 0..=REPORT.len() {
+        check_slow_write(&rt, call);
+    }
 }

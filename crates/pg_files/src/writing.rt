@@ -1,8 +1,7 @@
 //! Files that are written beside their place, and put there when they are whole.
 ghost use Rattle.std.specs.Io.{StartsWith};
 
-use crate::names::FileName;
-use crate::refusals::Refusal;
+use crate::faults::FileFault;
 use std::alloc::Global;
 use std::fs;
 use std::fs::{File, Metadata, OpenFile, Permissions};
@@ -18,8 +17,8 @@ fn is_same(one: &Metadata, other: &Metadata) -> bool {
     one.dev() == other.dev() && one.ino() == other.ino()
 }
 
-// Whether two names lead to one plain file.
-pub(crate) fn lead_to_one<R: Files>(rt: &R, one: &str, other: &str) -> bool {
+/// Whether two names lead to one plain file.
+pub fn lead_to_one<R: Files>(rt: &R, one: &str, other: &str) -> bool {
     match (fs::metadata(rt, one), fs::metadata(rt, other)) {
         (Ok(one), Ok(other)) => one.is_file() && is_same(&one, &other),
         _ => false,
@@ -47,52 +46,49 @@ struct Place {
 }
 
 // A text of one's own.
-fn copied<'a>(alloc: Global, text: &str) -> Result<String, Refusal<'a>> {
+fn copied(alloc: Global, text: &str) -> Result<String, FileFault> {
     match String::from_str(alloc, text) {
         Ok(copy) => Ok(copy),
-        Err(_) => Err(Refusal::Memory),
+        Err(_) => Err(FileFault::Memory),
     }
 }
 
 // The place of a file that is there already: the plain file to which the name leads, if it may be
 // written and is not where the program prints.
-fn place_of_old<'a, R: Files + AllocGlobal>(
-    rt: &R,
-    name: FileName<'a>,
-) -> Result<Place, Refusal<'a>> {
-    let Ok(old) = fs::metadata(rt, name.0) else {
-        return Err(Refusal::Open(name));
+fn place_of_old<R: Files + AllocGlobal>(rt: &R, name: &str) -> Result<Place, FileFault> {
+    let Ok(old) = fs::metadata(rt, name) else {
+        return Err(FileFault::Open);
     };
     if !old.is_file() || is_printed_to(rt, &old) {
-        return Err(Refusal::Open(name));
+        return Err(FileFault::Open);
     }
-    if File::options().write(true).open(rt, name.0).is_err() {
-        return Err(Refusal::Open(name));
+    if File::options().write(true).open(rt, name).is_err() {
+        return Err(FileFault::Open);
     }
-    match fs::canonicalize(rt, name.0) {
+    match fs::canonicalize(rt, name) {
         Ok(path) => Ok(Place {
             path: copied(rt.alloc(), path.as_str())?,
             permissions: Some(old.permissions()),
         }),
-        Err(fault) if fault.kind() == ErrorKind::OutOfMemory => Err(Refusal::Memory),
-        Err(_) => Err(Refusal::Open(name)),
+        Err(fault) if fault.kind() == ErrorKind::OutOfMemory => Err(FileFault::Memory),
+        Err(_) => Err(FileFault::Open),
     }
 }
 
 // The place of a file with this name.
-fn place_of<'a, R: Files + AllocGlobal>(rt: &R, name: FileName<'a>) -> Result<Place, Refusal<'a>> {
-    match fs::symlink_metadata(rt, name.0) {
+fn place_of<R: Files + AllocGlobal>(rt: &R, name: &str) -> Result<Place, FileFault> {
+    match fs::symlink_metadata(rt, name) {
         Ok(_) => place_of_old(rt, name),
         Err(fault) if fault.kind() == ErrorKind::NotFound => {
-            if name.0.is_empty() || name.0.ends_with('/') {
-                return Err(Refusal::Open(name));
+            if name.is_empty() || name.ends_with('/') {
+                return Err(FileFault::Open);
             }
             Ok(Place {
-                path: copied(rt.alloc(), name.0)?,
+                path: copied(rt.alloc(), name)?,
                 permissions: None,
             })
         }
-        Err(_) => Err(Refusal::Open(name)),
+        Err(_) => Err(FileFault::Open),
     }
 }
 
@@ -106,87 +102,68 @@ fn folder_of(path: &str) -> &str
     }
 }
 
-// A file that is written beside its place, in the same folder. It is to be put there or dropped.
+/// A file that is written beside its place, in the same folder. It is to be put there or dropped.
 #[derive(Drop)]
-pub(crate) struct Draft<'a, F> {
-    pub(crate) file: F,
-    name: FileName<'a>,
+pub struct Draft<F> {
+    pub file: F,
     place: Place,
     /// Where the file is now.
     path: String,
 }
 
 // Makes a new file in the folder of a place.
-fn make_beside<'a, R: Files + AllocGlobal>(
-    rt: &R,
-    name: FileName<'a>,
-    place: Place,
-) -> Result<Draft<'a, R::File>, Refusal<'a>> {
+fn make_beside<R: Files + AllocGlobal>(rt: &R, place: Place) -> Result<Draft<R::File>, FileFault> {
     let folder = folder_of(place.path.as_str());
     for number in 0..NAMES {
         let Ok(path) = format!(in rt.alloc(); "{folder}pg-part-{number}") else {
-            return Err(Refusal::Memory);
+            return Err(FileFault::Memory);
         };
         match File::create_new(rt, path.as_str()) {
             Ok(file) => {
-                return Ok(Draft {
-                    file,
-                    name,
-                    place,
-                    path,
-                });
+                return Ok(Draft { file, place, path });
             }
             Err(fault) if fault.kind() == ErrorKind::AlreadyExists => {}
-            Err(_) => return Err(Refusal::Open(name)),
+            Err(_) => return Err(FileFault::Open),
         }
     }
-    Err(Refusal::Open(name))
+    Err(FileFault::Open)
 }
 
-// Begins a file of this name, beside the place where it is to stand. Nothing that is there is touched.
-//
-// # Errors
-// `Open` where the name leads to a folder, a pipe, a device or to nothing, where the program prints to
-// that file, where it must not be written, or where its folder takes no file; `Memory` where a growth
-// is refused.
-pub(crate) fn begin<'a, R: Files + AllocGlobal>(
-    rt: &R,
-    name: &'a str,
-) -> Result<Draft<'a, R::File>, Refusal<'a>> {
-    let name = FileName(name);
+/// Begins a file of this name, beside the place where it is to stand. Nothing that is there is touched.
+///
+/// # Errors
+/// `Open` where the name leads to a folder, a pipe, a device or to nothing, where the program prints to
+/// that file, where it must not be written, or where its folder takes no file; `Memory` where a growth
+/// is refused.
+pub fn begin<R: Files + AllocGlobal>(rt: &R, name: &str) -> Result<Draft<R::File>, FileFault> {
     let place = place_of(rt, name)?;
-    make_beside(rt, name, place)
+    make_beside(rt, place)
 }
 
-impl<'a, F: OpenFile + Drop> Draft<'a, F> {
-    // Puts the file in its place, with the permissions of the one that stood there.
-    //
-    // # Errors
-    // `Write` where the system does not have the whole file, `Open` where it cannot be put there. The
-    // file is gone then, and its place is as it was.
-    pub(crate) fn put<R: Files>(self, rt: &R) -> Result<(), Refusal<'a>> {
-        let Draft {
-            file,
-            name,
-            place,
-            path,
-        } = self;
+impl<F: OpenFile + Drop> Draft<F> {
+    /// Puts the file in its place, with the permissions of the one that stood there.
+    ///
+    /// # Errors
+    /// `Write` where the system does not have the whole file, `Open` where it cannot be put there. The
+    /// file is gone then, and its place is as it was.
+    pub fn put<R: Files>(self, rt: &R) -> Result<(), FileFault> {
+        let Draft { file, place, path } = self;
         if let Some(permissions) = place.permissions {
             let _ = file.set_permissions(permissions);
         }
         if file.sync_all().is_err() {
             let _ = fs::remove_file(rt, path.as_str());
-            return Err(Refusal::Write);
+            return Err(FileFault::Write);
         }
         if fs::rename(rt, path.as_str(), place.path.as_str()).is_err() {
             let _ = fs::remove_file(rt, path.as_str());
-            return Err(Refusal::Open(name));
+            return Err(FileFault::Open);
         }
         Ok(())
     }
 
-    // Takes the file away. Its place is as it was.
-    pub(crate) fn discard<R: Files>(self, rt: &R) {
+    /// Takes the file away. Its place is as it was.
+    pub fn discard<R: Files>(self, rt: &R) {
         let _ = fs::remove_file(rt, self.path.as_str());
     }
 }

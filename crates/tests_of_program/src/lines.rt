@@ -1,12 +1,23 @@
-use super::*;
-use crate::line::{Cleared, Terminal};
-use crate::progress::{RecordCount, line_of, watch_records};
-use crate::runs::{CountLine, SearchLine, count_line, search_line};
-use pg_report::{Progress, SearchProgress, Sink, Source, ToWrite};
+//! The line on the terminal that says how far a run is.
+
+use crate::shared::{joined, repeated};
+use pg_certificate::{Sink, Source, ToWrite};
+use pg_moves::Progress;
+use pg_searcher::Progress as SearchProgress;
+use pg_streams::{
+    Cleared, CountLine, RecordCount, SearchLine, Terminal, count_line, line_of, search_line,
+    watch_records,
+};
 use std::cell::Cell;
 use std::fmt::Display;
+use std::io;
 use std::io::Eprint;
+use std::process::Abort;
 use std::time::{Clock, Duration};
+
+// The header of a certificate for the array and four plies.
+const HEADER: &[u8] =
+    b"PGC1\x04\x24\x53\x36\x42\x11\x11\x11\x11\0\0\0\0\0\0\0\0\0\0\0\0\0\0\0\0\x99\x99\x99\x99\xac\xdb\xbe\xca";
 
 // A clock that is set by hand, and a screen that counts what is printed on it.
 #[derive(Drop)]
@@ -88,7 +99,7 @@ fn records_in(front: &[u8], back: &[u8]) -> u64 {
 // A cut has two bytes and a reference five; the header is no record, wherever the bytes are parted.
 #[test]
 fn records_that_pass_by(rt: HostRuntime) {
-    let bytes = certificate(&rt, ARRAY, 4, &[1, 5, 2, 1, 3, 1, 1, 1, 1, 2, 4, 1]);
+    let bytes = joined(&rt, &[HEADER, &[1, 5, 2, 1, 3, 1, 1, 1, 1, 2, 4, 1]]);
     for at in 0..=bytes.len() {
         let (front, back) = bytes.as_slice().split_at(at);
         assert_eq!(rt; records_in(front, back), 6);
@@ -98,8 +109,7 @@ fn records_that_pass_by(rt: HostRuntime) {
 // Four records, of which the second is one of prices, with so many lists behind its head.
 fn check_prices<R: Abort + AllocGlobal>(rt: &R, head: &[u8], lists: usize) {
     let rest = repeated(rt, 6, lists);
-    let records = joined(rt, &[&[1], head, rest.as_slice(), &[2, 6, 1]]);
-    let bytes = certificate(rt, ARRAY, 4, records.as_slice());
+    let bytes = joined(rt, &[HEADER, &[1], head, rest.as_slice(), &[2, 6, 1]]);
     assert_eq!(rt; records_in(bytes.as_slice(), b""), 4);
 }
 
@@ -112,42 +122,71 @@ fn records_of_prices_that_pass_by(rt: HostRuntime) {
     check_prices(&rt, &[6, 4, 0, 3, 64, 64], 384);
 }
 
+// A number of a table.
+fn number(rt: &impl Abort, text: &str) -> u64 {
+    let Ok(number) = text.parse::<u64>() else {
+        panic!(rt; "{text}");
+    };
+    number
+}
+
+// The numbers of a line before `: `, and what stands behind it.
+fn row<'a>(rt: &impl Abort, line: &'a str) -> ([u64; 3], &'a str) {
+    let Some((numbers, wanted)) = line.split_once(": ") else {
+        panic!(rt; "{line}");
+    };
+    let mut found = [0; 3];
+    for (place, text) in found.iter_mut().zip(numbers.split(' ')) {
+        *place = number(rt, text);
+    }
+    (found, wanted)
+}
+
+// Records and their limit, and what is shown.
+const CHECKS: &str = "0 0: 0 records 100%
+0 1: 0 records 0%
+99999 100000: 99999 records 99%
+100000 100000: 100k records 100%
+12345678 100000000: 12345k records 12%
+99999999 99999999: 99999k records 100%
+100000000 1000000000: 100M records 10%
+18446744073709551615 18446744073709551615: 18446P records 100%";
+
+// Games, and what is shown.
+const COUNTS: &str = "0: 0 games
+84998978956: 84998M games
+18446744073709551615: 18446P games";
+
+// Plies, nodes and their limit, and what is shown.
+const SEARCHES: &str = "0 0 1000000: 0.0 0 0%
+11 428 1000000: 5.5 428 0%
+24 32105000 80000000: 12.0 32105k 40%
+128 99999999 99999999: 64.0 99999k 100%";
+
 // What is shown is never wider than nineteen columns.
-fn check_line(rt: &impl Abort, count: u64, limit: u64, wanted: &str) {
-    let line = line_of(count, limit);
-    assert_eq!(rt; line.as_str(), wanted);
-    assert!(rt; line.as_str().len() <= 19, "{wanted}");
+fn check_shown(rt: &impl Abort, shown: &str, wanted: &str) {
+    assert_eq!(rt; shown, wanted);
+    assert!(rt; shown.len() <= 19, "{wanted}");
 }
 
 #[test]
 fn lines_that_fit(rt: HostRuntime) {
-    check_line(&rt, 0, 0, "0 records 100%");
-    check_line(&rt, 0, 1, "0 records 0%");
-    check_line(&rt, 99_999, 100_000, "99999 records 99%");
-    check_line(&rt, 100_000, 100_000, "100k records 100%");
-    check_line(&rt, 12_345_678, 100_000_000, "12345k records 12%");
-    check_line(&rt, 99_999_999, 99_999_999, "99999k records 100%");
-    check_line(&rt, 100_000_000, 1_000_000_000, "100M records 10%");
-    check_line(&rt, u64::MAX, u64::MAX, "18446P records 100%");
-}
-
-fn check_count(rt: &impl Abort, games: u64, wanted: &str) {
-    assert_eq!(rt; count_line(games).as_str(), wanted);
-}
-
-fn check_search(rt: &impl Abort, plies: u8, nodes: u64, limit: u64, wanted: &str) {
-    assert_eq!(rt; search_line(plies, nodes, limit).as_str(), wanted);
+    for line in CHECKS.lines() {
+        let ([count, limit, _], wanted) = row(&rt, line);
+        check_shown(&rt, line_of(count, limit).as_str(), wanted);
+    }
 }
 
 #[test]
 fn lines_of_counts_and_searches(rt: HostRuntime) {
-    check_count(&rt, 0, "0 games");
-    check_count(&rt, 84_998_978_956, "84998M games");
-    check_count(&rt, u64::MAX, "18446P games");
-    check_search(&rt, 0, 0, 1_000_000, "0.0 0 0%");
-    check_search(&rt, 11, 428, 1_000_000, "5.5 428 0%");
-    check_search(&rt, 24, 32_105_000, 80_000_000, "12.0 32105k 40%");
-    check_search(&rt, 128, 99_999_999, 99_999_999, "64.0 99999k 100%");
+    for line in COUNTS.lines() {
+        let ([games, _, _], wanted) = row(&rt, line);
+        check_shown(&rt, count_line(games).as_str(), wanted);
+    }
+    for line in SEARCHES.lines() {
+        let ([plies, nodes, limit], wanted) = row(&rt, line);
+        check_shown(&rt, search_line(plies as u8, nodes, limit).as_str(), wanted);
+    }
 }
 
 // A desk at this time.

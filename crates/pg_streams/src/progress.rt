@@ -3,7 +3,7 @@ ghost use Rattle.std.specs.Prelude.{◌≡◌, ◌≤◌};
 
 use crate::line::{Line, Terminal, WIDTH};
 use arrayvec::ArrayString;
-use pg_report::{FromRead, Refused, Source};
+use pg_certificate::{FromRead, Refused, Source};
 use std::fmt::Write;
 use std::io::{Eprint, Read};
 use std::time::Clock;
@@ -14,9 +14,9 @@ const HEADER: u32 = 37;
 // The bytes of a record of prices that stand before its lists, the first one not counted.
 const PRICES_HEAD: u8 = 5;
 
-// How many records of a certificate have passed by.
+/// How many records of a certificate have passed by.
 #[derive(Clone, Copy)]
-pub(crate) struct RecordCount {
+pub struct RecordCount {
     /// So many bytes more belong to the header or to the record that began last.
     rest: u32,
     /// So many bytes more stand before the lists of a record of prices.
@@ -24,11 +24,12 @@ pub(crate) struct RecordCount {
     /// How many lists that record has, as far as it is read, and how many sources each has.
     lists: u8,
     sources: u8,
-    pub(crate) records: u64,
+    pub records: u64,
 }
 
 impl RecordCount {
-    pub(crate) fn new() -> RecordCount {
+    /// No record yet: the header comes first.
+    pub fn new() -> RecordCount {
         RecordCount {
             rest: HEADER,
             head: 0,
@@ -72,8 +73,8 @@ impl RecordCount {
         }
     }
 
-    // Counts the records that begin in the next bytes of the certificate.
-    pub(crate) fn pass(&mut self, bytes: &[u8]) {
+    /// Counts the records that begin in the next bytes of the certificate.
+    pub fn pass(&mut self, bytes: &[u8]) {
         for byte in bytes {
             self.pass_byte(*byte);
         }
@@ -106,8 +107,8 @@ pub(crate) fn scaled(number: u64) -> (u64, &'static str)
     }
 }
 
-// The line of a check: how many records, and how many hundredths of the limit those are.
-pub(crate) fn line_of(count: u64, limit: u64) -> ArrayString<WIDTH> {
+/// The line of a check: how many records, and how many hundredths of the limit those are.
+pub fn line_of(count: u64, limit: u64) -> ArrayString<WIDTH> {
     let mut line = ArrayString::new();
     let (number, unit) = scaled(count);
     let share = share(count, limit);
@@ -152,8 +153,8 @@ impl<'a, R: Clock + Eprint> Watch<'a, R> {
     }
 }
 
-// A source whose bytes are watched.
-pub(crate) struct Watched<'a, T, R> {
+/// A source whose bytes are watched.
+pub struct Watched<'a, T, R> {
     inner: T,
     watch: Watch<'a, R>,
 }
@@ -163,8 +164,8 @@ impl<'a, T: Drop, R: Clock + Eprint> Watched<'a, T, R> {
         Watched { inner, watch }
     }
 
-    // Takes the line away, and drops what was watched.
-    pub(crate) fn end(self) {
+    /// Takes the line away, and drops what was watched.
+    pub fn end(self) {
         let Watched {
             inner: _,
             mut watch,
@@ -173,8 +174,8 @@ impl<'a, T: Drop, R: Clock + Eprint> Watched<'a, T, R> {
     }
 }
 
-// A certificate that a reader gives, at most so many of its records counted on a terminal.
-pub(crate) fn watch_records<'a, R: Clock + Eprint, C: Read + Drop>(
+/// A certificate that a reader gives, at most so many of its records counted on a terminal.
+pub fn watch_records<'a, R: Clock + Eprint, C: Read + Drop>(
     rt: &'a R,
     terminal: &'a Terminal,
     certificate: C,

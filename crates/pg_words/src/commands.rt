@@ -212,26 +212,56 @@ fn arg_of<'a>(alloc: Global, word: Word) -> Arg<'a> {
     }
 }
 
+// A command with one more word.
+fn with_word<'a>(
+    command: Command<'a>,
+    alloc: Global,
+    word: Word,
+) -> Result<Command<'a>, AllocError> {
+    command.arg(arg_of(alloc, word))
+}
+
+// A command by its entry.
 fn command_of<'a>(alloc: Global, entry: &Entry) -> Result<Command<'a>, AllocError> {
     let mut command = Command::new(alloc, entry.name)
         .about(entry.about)
         .after_help(entry.below);
     for word in entry.words {
-        command = command.arg(arg_of(alloc, *word))?;
+        command = with_word(command, alloc, *word)?;
     }
     Ok(command)
 }
 
-// `pg` with its commands.
-pub(crate) fn pg<'a>(alloc: Global) -> Result<Command<'a>, AllocError> {
-    let mut pg = Command::new(alloc, "pg")
+// `pg` with no command yet.
+fn top<'a>(alloc: Global) -> Command<'a> {
+    Command::new(alloc, "pg")
         .version("1.0.0")
         .about(ABOUT)
         .after_help(EXAMPLE)
         .subcommand_required(true)
-        .arg_required_else_help(true);
+        .arg_required_else_help(true)
+}
+
+// A command with one more command below it.
+fn with_command<'a>(
+    pg: Command<'a>,
+    alloc: Global,
+    entry: &Entry,
+) -> Result<Command<'a>, AllocError> {
+    match command_of(alloc, entry) {
+        Ok(command) => pg.subcommand(command),
+        Err(fault) => Err(fault),
+    }
+}
+
+/// `pg` with its commands.
+///
+/// # Errors
+/// `AllocError` where a growth is refused.
+pub fn pg<'a>(alloc: Global) -> Result<Command<'a>, AllocError> {
+    let mut pg = top(alloc);
     for entry in &COMMANDS {
-        pg = pg.subcommand(command_of(alloc, entry)?)?;
+        pg = with_command(pg, alloc, entry)?;
     }
     Ok(pg)
 }

@@ -3,10 +3,10 @@
 use std::fmt;
 use std::fmt::{Display, Formatter};
 
-// The name of a file as it was given. It is shown with its control characters escaped, as `\n` or
-// `\u{1b}`, so that no name does anything to a terminal.
+/// The name of a file as it was given. It is shown with its control characters escaped, as `\n` or
+/// `\u{1b}`, so that no name does anything to a terminal.
 #[derive(Clone, Copy, Debug, PartialEq, Eq)]
-pub(crate) struct FileName<'a>(pub(crate) &'a str);
+pub struct FileName<'a>(pub &'a str);
 
 impl Display for FileName<'_> {
     fn fmt<W: fmt::Write>(&self, f: &mut Formatter<W>) -> fmt::Result {

@@ -3,7 +3,9 @@
 use crate::line::{Line, Terminal, WIDTH};
 use crate::progress::{scaled, share};
 use arrayvec::ArrayString;
-use pg_report::{Length, Progress, SearchProgress};
+use pg_fen::Length;
+use pg_moves::Progress;
+use pg_searcher::Progress as SearchProgress;
 use std::fmt::Write;
 use std::io::Eprint;
 use std::time::Clock;
@@ -11,30 +13,30 @@ use std::time::Clock;
 // The clock is asked once in so many turns of a search.
 const TURNS: u32 = 1024;
 
-// Shows how many games are counted.
+/// Shows how many games are counted.
 #[derive(Drop)]
-pub(crate) struct CountLine<'a, R> {
+pub struct CountLine<'a, R> {
     line: Line<'a, R>,
     games: u64,
 }
 
 impl<'a, R: Clock + Eprint> CountLine<'a, R> {
-    // With no game counted.
-    pub(crate) fn new(rt: &'a R, terminal: &'a Terminal) -> CountLine<'a, R> {
+    /// With no game counted.
+    pub fn new(rt: &'a R, terminal: &'a Terminal) -> CountLine<'a, R> {
         CountLine {
             line: Line::new(rt, terminal),
             games: 0,
         }
     }
 
-    // Takes the line away.
-    pub(crate) fn end(&mut self) {
+    /// Takes the line away.
+    pub fn end(&mut self) {
         self.line.end();
     }
 }
 
-// The line of a count.
-pub(crate) fn count_line(games: u64) -> ArrayString<WIDTH> {
+/// The line of a count.
+pub fn count_line(games: u64) -> ArrayString<WIDTH> {
     let mut line = ArrayString::new();
     let (number, unit) = scaled(games);
     let _ = write!(line, "{number}{unit} games");
@@ -50,18 +52,18 @@ impl<R: Clock + Eprint> Progress for CountLine<'_, R> {
     }
 }
 
-// Shows how many nodes a search has visited, how many of its limit those are, and the length of the
-// tree at work.
+/// Shows how many nodes a search has visited, how many of its limit those are, and the length of the
+/// tree at work.
 #[derive(Drop)]
-pub(crate) struct SearchLine<'a, R> {
+pub struct SearchLine<'a, R> {
     line: Line<'a, R>,
     limit: u64,
     turns: u32,
 }
 
 impl<'a, R: Clock + Eprint> SearchLine<'a, R> {
-    // Of a search of so many nodes at most.
-    pub(crate) fn new(rt: &'a R, terminal: &'a Terminal, limit: u64) -> SearchLine<'a, R> {
+    /// Of a search of so many nodes at most.
+    pub fn new(rt: &'a R, terminal: &'a Terminal, limit: u64) -> SearchLine<'a, R> {
         SearchLine {
             line: Line::new(rt, terminal),
             limit,
@@ -69,14 +71,14 @@ impl<'a, R: Clock + Eprint> SearchLine<'a, R> {
         }
     }
 
-    // Takes the line away.
-    pub(crate) fn end(&mut self) {
+    /// Takes the line away.
+    pub fn end(&mut self) {
         self.line.end();
     }
 }
 
-// The line of a search: the length of the tree, the nodes, and their share of the limit.
-pub(crate) fn search_line(plies: u8, nodes: u64, limit: u64) -> ArrayString<WIDTH> {
+/// The line of a search: the length of the tree, the nodes, and their share of the limit.
+pub fn search_line(plies: u8, nodes: u64, limit: u64) -> ArrayString<WIDTH> {
     let mut line = ArrayString::new();
     if let Some(length) = Length::from_plies(plies) {
         let (number, unit) = scaled(nodes);

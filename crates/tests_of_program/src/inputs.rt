@@ -1,12 +1,16 @@
-use super::*;
-use crate::input::{MOST_BYTES, list, read_all};
+//! Lists of games, read whole.
+
+use crate::shared::repeated;
+use pg_files::{FileFault, MOST_BYTES, list, read_all};
 use pg_trial::{Endless, FailsAt};
 use std::io;
+use std::io::Read;
+use std::process::Abort;
 
-// Why a reader is not read whole.
+// That a reader is not read whole, and why.
 fn check_unread<R: Abort + AllocGlobal, C: Read>(rt: &R, reader: &mut C) {
     let unread = read_all(rt.alloc(), reader);
-    check_said(rt, unread.map(|_| 0), "read fault", 4);
+    assert!(rt; matches!(&unread, Err(FileFault::Read)));
 }
 
 // The bytes of a reader.
@@ -20,9 +24,8 @@ fn whole<R: Abort + AllocGlobal, C: Read>(rt: &R, reader: &mut C) -> Vec<u8> {
 #[test]
 fn lists_that_are_not_read(rt: HostRuntime) {
     let missing = list(&rt, Some("no/such/file"));
-    check_said(&rt, missing.map(|_| 0), "cannot open no/such/file", 4);
+    assert!(rt; matches!(&missing, Err(FileFault::Open)));
     check_unread(&rt, &mut Endless::new(b'\n'));
-    check_said(&rt, Err(Refusal::Memory), "out of memory", 3);
 }
 
 #[test]

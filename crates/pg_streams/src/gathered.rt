@@ -3,24 +3,24 @@ ghost use Rattle.std.specs.Prelude.{◌≡◌, [], true, false, IfOk, OnOk, OnEr
 ghost use Rattle.std.specs.Io.KnownBytes.{Keeps, append_known};
 
 use arrayvec::ArrayVec;
-use pg_report::{Refused, Sink};
+use pg_certificate::{Refused, Sink};
 use std::fmt;
 
 // So many bytes are held at most.
 const ROOM: usize = 4096;
 
-// Hands the bytes that it takes on to a sink, up to 4,096 of small pieces at a time, so that a text of
-// many short pieces costs few writes. What it counts as held is what that sink holds and then the
-// bytes that it has not handed on. `finish` hands on the last.
+/// Hands the bytes that it takes on to a sink, up to 4,096 of small pieces at a time, so that a text of
+/// many short pieces costs few writes. What it counts as held is what that sink holds and then the
+/// bytes that it has not handed on. `finish` hands on the last.
 #[derive(Drop)]
-pub(crate) struct Gathered<W> {
+pub struct Gathered<W> {
     inner: W,
     bytes: ArrayVec<u8, ROOM>,
 }
 
 impl<W: Sink> Gathered<W> {
-    // Over a sink, with nothing gathered.
-    pub(crate) fn new(inner: W) -> Gathered<W>
+    /// Over a sink, with nothing gathered.
+    pub fn new(inner: W) -> Gathered<W>
         ensures held { Keeps (W.held inner) (⟦<Gathered<W> as Sink>⟧.held result) }
         ensures runs { ⟦<Gathered<W> as Sink>⟧.has_failed result ≡ W.has_failed inner }
     {
@@ -46,11 +46,11 @@ impl<W: Sink> Gathered<W> {
         }
     }
 
-    // Hands on the last bytes; the sink then holds all that was pushed.
-    //
-    // # Errors
-    // `Refused` where the sink refuses them.
-    pub(crate) fn finish(self) -> Result<W, Refused>
+    /// Hands on the last bytes; the sink then holds all that was pushed.
+    ///
+    /// # Errors
+    /// `Refused` where the sink refuses them.
+    pub fn finish(self) -> Result<W, Refused>
     where
         W: Drop,
         ensures held { IfOk result (λ w. Keeps (⟦<Gathered<W> as Sink>⟧.held self) (W.held w)) }

@@ -1,0 +1,63 @@
+//! Files that are read, and lists of games, read whole.
+
+use crate::faults::FileFault;
+use std::alloc::Global;
+use std::fs::File;
+use std::io::{Input, Read};
+use std::rt::Files;
+
+/// The longest list that is read: 16,777,216 bytes.
+pub const MOST_BYTES: usize = 16_777_216;
+
+/// The file of this name, to be read.
+///
+/// # Errors
+/// `Open` where it cannot be opened.
+pub fn open<R: Files + AllocGlobal>(rt: &R, path: &str) -> Result<R::File, FileFault> {
+    match File::open(rt, path) {
+        Ok(file) => Ok(file),
+        Err(_) => Err(FileFault::Open),
+    }
+}
+
+// Reads once, and appends what came; how much that was.
+fn read_more<R: Read>(
+    bytes: &mut Vec<u8>,
+    reader: &mut R,
+    buffer: &mut [u8],
+) -> Result<usize, FileFault> {
+    let Ok(count) = reader.read(buffer) else {
+        return Err(FileFault::Read);
+    };
+    if bytes.len().saturating_add(count) > MOST_BYTES {
+        return Err(FileFault::Read);
+    }
+    match bytes.extend_from_slice(&buffer[..count]) {
+        Ok(()) => Ok(count),
+        Err(_) => Err(FileFault::Memory),
+    }
+}
+
+/// All the bytes of a reader, 16,777,216 at most. A longer reader, and one that fails, is `Read`; a
+/// fault is not tried again. `Memory` where a growth is refused.
+pub fn read_all<R: Read>(alloc: Global, reader: &mut R) -> Result<Vec<u8>, FileFault> {
+    let mut bytes = Vec::new(alloc);
+    let mut buffer = [0u8; 4096];
+    for _ in 0..u64::MAX {
+        if read_more(&mut bytes, reader, &mut buffer)? == 0 {
+            return Ok(bytes);
+        }
+    }
+    Err(FileFault::Read)
+}
+
+/// The bytes of a list of games, from a file or else from standard input.
+pub fn list<R: Files + Input + AllocGlobal>(
+    rt: &R,
+    path: Option<&str>,
+) -> Result<Vec<u8>, FileFault> {
+    match path {
+        Some(path) => read_all(rt.alloc(), &mut open(rt, path)?),
+        None => read_all(rt.alloc(), &mut rt.reader()),
+    }
+}

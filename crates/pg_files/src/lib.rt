@@ -1,0 +1,12 @@
+//! Files: lists that are read whole, files that are written beside their place, and names as they are shown.
+#![tactic(auto)]
+
+mod faults;
+mod input;
+mod names;
+mod writing;
+
+pub use faults::FileFault;
+pub use input::{MOST_BYTES, list, open, read_all};
+pub use names::FileName;
+pub use writing::{Draft, begin, lead_to_one};

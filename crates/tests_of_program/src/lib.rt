@@ -1,0 +1,14 @@
+//! Tests of what no contract of `pg_files` and `pg_streams` says. They stand apart, since a crate that has tests is
+//! proved twice, without them and with them. What the commands say is tried on the built program, by scripts.
+#![tactic(auto)]
+
+#[cfg(test)]
+mod drafts;
+#[cfg(test)]
+mod gathering;
+#[cfg(test)]
+mod inputs;
+#[cfg(test)]
+mod lines;
+#[cfg(test)]
+mod shared;
