@@ -166,7 +166,9 @@ struct Child {
 // no move is left: then nothing changes.
 #[inline(always)]
 fn play_on(top: &mut Frame, found: bool) -> Option<Child>
-    ensures { MatchOption result (HasNone top.old top.new) (λ child. Plays found child.position child.plies top.old top.new) }
+    ensures { MatchOption result
+        (HasNone top.old top.new)
+        (λ child. Plays found child.position child.plies top.old top.new) }
 {
     let m = top.moves.next()?;
     top.found = either(top.found, found);
