@@ -1,3 +1,4 @@
+//! Colours, kinds and men.
 ghost use Rattle.std.specs.Prelude.{◌≡◌, ◌<◌};
 ghost use Rattle.pg_board.specs.Men.{number_of_kind, other};
 

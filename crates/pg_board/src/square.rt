@@ -1,3 +1,4 @@
+//! Squares of the board: files, ranks and indexes.
 ghost use Rattle.std.specs.Prelude.{◌≡◌, ℕ, ◌+◌, ◌-◌, ◌*◌, ◌<◌, ◌≤◌, ◌↔◌, IfSome, IsSome};
 ghost use Rattle.pg_board.specs.Squares.{file, rank};
 

@@ -1,3 +1,4 @@
+//! The trait of bounds, with its law.
 ghost use Rattle.std.specs.Prelude.{◌≡◌, ℕ, Bool, true};
 ghost use Rattle.pg_board.specs.Placement.{Placement};
 ghost use Rattle.pg_position.specs.declared.state.State.{State};

@@ -1,3 +1,4 @@
+//! The captures owed, and the bound by them.
 ghost use Rattle.std.specs.Prelude.{◌≡◌, ◌↔◌, ◌≤◌, IsTrue};
 ghost use Rattle.pg_captures.specs.Owed.{plies_left, victims, owed, CapturesFor, CapturesHolds};
 

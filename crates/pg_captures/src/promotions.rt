@@ -1,3 +1,4 @@
+//! The bound by promotions: pawns to spare against men that are short.
 ghost use Rattle.std.specs.Prelude.{◌≡◌, ℕ, ◌↔◌, ◌≤◌, IsTrue};
 ghost use Rattle.pg_captures.specs.Owed.{missing, shortage, PromotionsFor, PromotionsHolds};
 

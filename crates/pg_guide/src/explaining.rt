@@ -175,7 +175,7 @@ fn refuse<W: Sink>(question: &Question, found: &Findings, fault: Fault, out: &mu
 
 /// Explains what a certificate says along a line of moves, and writes that: a line for each ply to where
 /// the line or the proof ends, and last `the certificate is right`, or why it is not. docs/FORMATS.md has
-/// the lines; nothing is proved of those before the last. Ok means that the check said yes.
+/// the lines; no clause speaks of what is written. Ok means that the check said yes.
 ///
 /// The certificate is read up to three times, each time from its start: by `walked` for what stands along
 /// the line, and for the games of the stated length that end on the diagram; by `checked` for the check, as

@@ -1,5 +1,5 @@
-//! What a certificate says of a line of moves, in words. Nothing that this crate says is trusted but the
-//! last line: that the certificate is right, which a check said.
+//! What a certificate says of a line of moves, in words. No clause speaks of the words; that `why` answers
+//! Ok means that a check of the certificate said yes.
 #![tactic(auto)]
 
 mod counts;

@@ -1,3 +1,4 @@
+//! The number of games of so many plies from a position.
 ghost use Rattle.std.specs.Prelude.{◌≡◌, ◌<◌, ◌≤◌, ◌↔◌, IfOk, IfErr, IsErrOf, MatchResult};
 ghost use Rattle.pg_position.specs.Step.{Legal};
 ghost use Rattle.pg_moves.specs.Moves.{IsLegal, IsMoveList};

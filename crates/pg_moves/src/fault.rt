@@ -1,3 +1,5 @@
+//! Why games are not counted.
+
 use thiserror::Error;
 
 /// Why games are not counted.

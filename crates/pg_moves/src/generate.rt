@@ -1,3 +1,4 @@
+//! The legal moves of a position as a list, and the next one after a move.
 ghost use Rattle.std.specs.Prelude.{◌≡◌, MatchOption, IfOk, IfErr};
 ghost use Rattle.pg_moves.specs.Moves.{IsLegal, IsMoveList, IsNext, IsLast};
 ghost use Rattle.pg_position.specs.declared.moves.Move.{Move};

@@ -1,3 +1,4 @@
+//! Moves and their order, and the cases of a step.
 ghost use Rattle.std.specs.Prelude.{◌≡◌};
 ghost use Rattle.pg_position.specs.Order.{move_cmp};
 

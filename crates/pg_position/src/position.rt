@@ -1,3 +1,4 @@
+//! Positions: the five clauses kept, the calls of a position.
 ghost use Rattle.std.specs.Prelude.{◌≡◌, ℕ, ◌<◌, ◌↔◌, IsTrue, None, MatchResult, IfOk, IfErr};
 ghost use Rattle.std.specs.Cmp.{partial_equiv_from_equiv, decided};
 ghost use Rattle.pg_position.specs.Attack.{Attacks};

@@ -1,3 +1,5 @@
+//! Why parts are no position, and why a move is not legal.
+
 use thiserror::Error;
 
 /// The first clause that parts of a position break.

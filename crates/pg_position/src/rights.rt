@@ -1,3 +1,4 @@
+//! Castling rights.
 ghost use Rattle.std.specs.Prelude.{◌≡◌};
 ghost use Rattle.pg_position.specs.Position.{holds};
 

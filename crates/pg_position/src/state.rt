@@ -1,3 +1,5 @@
+//! The four parts of a position, as contracts see them.
+
 use crate::rights::Rights;
 use pg_board::{Board, Color, Square};
 

@@ -1,3 +1,5 @@
+//! Why a game is not taken into a list.
+
 use thiserror::Error;
 
 /// Why a game is not added to a list of games.

@@ -1,3 +1,5 @@
+//! Why a text is no list of games.
+
 use crate::fault::SanFault;
 use thiserror::Error;
 

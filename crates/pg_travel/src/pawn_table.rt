@@ -1,3 +1,5 @@
+//! The table of a pawn's distances.
+
 /// The distance of a white pawn from one square to another, 64 for none: a row for each square where
 /// it stands, and in it a number for each where it is to stand, a1, b1 .. h8.
 pub static WHITE_PAWN: [[u8; 64]; 64] = [

@@ -1,3 +1,5 @@
+//! The table of the distances of pawns that are promoted.
+
 /// What a white pawn needs from one square to be another man on another: a row for each square where it
 /// stands, and in it a number for each where it is to stand, a1, b1 .. h8. Its digits to the base 16 are the
 /// distances as a queen, a rook, a bishop and a knight, f for none.
