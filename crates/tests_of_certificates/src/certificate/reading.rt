@@ -81,7 +81,7 @@ fn bare_words<R: Abort + AllocGlobal>(
 }
 
 // The calls after a refusal, each of which is refused.
-const AFTER: &str = "header record more end header record more end";
+const AFTER: &str = "bare header record more end bare header record more end";
 
 // What the calls of a reader of records answer, in turn, up to a refusal; after that each call answers `Failed`.
 // Behind a star stands how often a call is made.
@@ -107,7 +107,7 @@ pub(super) fn answers<R: Abort + AllocGlobal, S: Source>(
     if refused {
         for name in AFTER.split_whitespace() {
             let answer = call(rt, &mut reader, &mut prices, source, name);
-            assert_eq!(rt; answer.as_str(), "!Failed");
+            assert!(rt; answer.as_str().starts_with("!Failed"), "{answer}");
         }
     }
     said
