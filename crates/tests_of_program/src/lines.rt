@@ -8,10 +8,11 @@ use pg_streams::{
     Cleared, CountLine, RecordCount, SearchLine, Terminal, count_line, line_of, search_line,
     watch_records,
 };
+use pg_trial::{FailsAt, OneByte};
 use std::cell::Cell;
 use std::fmt::Display;
 use std::io;
-use std::io::Eprint;
+use std::io::{Eprint, ErrorKind};
 use std::process::Abort;
 use std::time::{Clock, Duration};
 
@@ -86,6 +87,24 @@ fn lines_that_are_shown(rt: HostRuntime) {
     check_prints(&rt, [0, 1000, 1001], (1, 2));
     check_prints(&rt, [1000, 1499, 1500], (2, 3));
     check_prints(&rt, [1000, 1500, 2000], (3, 4));
+}
+
+// A read that fails after others is a fault of the watched source, and each later one is.
+#[test]
+fn watched_reads_that_fail(rt: HostRuntime) {
+    let desk = Desk {
+        millis: Cell::new(5000),
+        prints: Cell::new(0),
+    };
+    let terminal = Terminal::new(false);
+    let bytes = repeated(&rt, 1, 8);
+    let pieces = FailsAt::new(OneByte::new(bytes.as_slice()), 2, ErrorKind::Other);
+    let mut source = watch_records(&desk, &terminal, pieces, 100);
+    check_pull(&rt, &mut source, 1);
+    check_pull(&rt, &mut source, 1);
+    let mut buffer = [0u8; 1];
+    assert!(rt; source.pull(&mut buffer).is_err() && source.failed());
+    assert!(rt; source.pull(&mut buffer).is_err() && source.failed());
 }
 
 // How many records a certificate has that passes by in two parts.
