@@ -6,10 +6,9 @@ use Rattle.pg_position.specs.declared.state.State.{State}
 use Rattle.pg_position.specs.declared.moves.Move.{Move}
 use Rattle.pg_position.specs.Step.{Legal}
 use Rattle.pg_position.specs.Array.{array_state}
-use Rattle.pg_position.specs.Game.{IsGame}
+use Rattle.pg_position.specs.Game.{IsGame, IsOnce}
 use Rattle.pg_position.proofs.ArrayLemmas.{array_position}
 use Rattle.pg_position.proofs.FutureLemmas.{one_end}
-use Rattle.pg_moves.specs.Counts.{IsOnce}
 use Rattle.pg_san.specs.Games.{IsFromArray}
 use Rattle.pg_san.specs.Adding.{IsIllegalAt, IsAdded}
 use Rattle.pg_san.proofs.OrderLemmas.{games_once}
