@@ -66,13 +66,9 @@ fn halves<'a>(rt: &impl Abort, text: &'a str, mark: &str) -> (&'a str, &'a str) 
     text.split_once(mark).expect(rt, text)
 }
 
-// The fields of a case, between bars; those that it lacks are empty.
-fn fields<'a>(case: &'a str) -> [&'a str; 8] {
-    let mut all = [""; 8];
-    for (field, text) in all.iter_mut().zip(case.split(" | ")) {
-        *field = text;
-    }
-    all
+// The field of a case with this number from 0, between bars; empty where the case has fewer.
+fn field<'a>(case: &'a str, number: usize) -> &'a str {
+    case.split(" | ").nth(number).unwrap_or("")
 }
 
 // What a value says, or the arguments of a format.
@@ -165,7 +161,11 @@ fn judged<R: Abort + AllocGlobal, S: Source>(
     bounds: &[Box<dyn Bound>],
     source: &mut S,
 ) -> Said {
-    let [diagram, length, games, records, named, ..] = fields(asked);
+    let diagram = field(asked, 0);
+    let length = field(asked, 1);
+    let games = field(asked, 2);
+    let records = field(asked, 3);
+    let named = field(asked, 4);
     let diagram = diagram_of(rt, diagram);
     let length = length_of(rt, length);
     let games = games_of(rt, games);
@@ -203,7 +203,9 @@ fn check_bytes<R: Abort + AllocGlobal>(rt: &R, asked: &str, bytes: &[u8], wanted
 
 // The certificate of a row: what its header has, its records, and how many bytes it has, if that is told.
 fn bytes_of<R: Abort + AllocGlobal>(rt: &R, asked: &str) -> Vec<u8> {
-    let [_, _, _, _, _, header, records, length] = fields(asked);
+    let header = field(asked, 5);
+    let records = field(asked, 6);
+    let length = field(asked, 7);
     let bytes = certificate(rt, header, records);
     if !length.is_empty() {
         assert_eq!(rt; length.parse().ok(), Some(bytes.len()), "{asked}");

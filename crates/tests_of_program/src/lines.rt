@@ -105,6 +105,7 @@ fn watched_reads_that_fail(rt: HostRuntime) {
     let mut buffer = [0u8; 1];
     assert!(rt; source.pull(&mut buffer).is_err() && source.failed());
     assert!(rt; source.pull(&mut buffer).is_err() && source.failed());
+    source.end();
 }
 
 // How many records a certificate has that passes by in two parts.
@@ -204,7 +205,8 @@ fn lines_of_counts_and_searches(rt: HostRuntime) {
     }
     for line in SEARCHES.lines() {
         let ([plies, nodes, limit], wanted) = row(&rt, line);
-        check_shown(&rt, search_line(plies as u8, nodes, limit).as_str(), wanted);
+        let plies = u8::try_from(plies).expect(&rt, line);
+        check_shown(&rt, search_line(plies, nodes, limit).as_str(), wanted);
     }
 }
 

@@ -4,7 +4,7 @@ mod lines;
 mod refusals;
 
 use crate::shared::{
-    MANY, Said, certificate, diagram_of, fields, four_bounds, halves, length_of, lines_of, named,
+    MANY, Said, certificate, diagram_of, field, four_bounds, halves, length_of, lines_of, named,
     text_of, told, words,
 };
 use pg_captures::Bound;
@@ -23,7 +23,9 @@ fn explain<R: Abort + AllocGlobal, S: Source, W: Sink>(
     cited: &mut S,
     out: &mut W,
 ) -> Said {
-    let [diagram, length, moves, ..] = fields(asked);
+    let diagram = field(asked, 0);
+    let length = field(asked, 1);
+    let moves = field(asked, 2);
     let diagram = named(diagram);
     let asked = Asked {
         diagram,
@@ -73,7 +75,8 @@ fn check<R: Abort + AllocGlobal>(rt: &R, asked: &str, bytes: &[u8], answer: &str
 
 // The certificate of a row: what its header has, and its records.
 fn bytes_of<R: Abort + AllocGlobal>(rt: &R, asked: &str) -> Vec<u8> {
-    let [_, _, _, header, records, ..] = fields(asked);
+    let header = field(asked, 3);
+    let records = field(asked, 4);
     certificate(rt, header, records)
 }
 

@@ -11,7 +11,7 @@ mod shown_diagrams;
 mod upgrades;
 
 use crate::shared::{
-    MANY, Said, certificate, diagram_of, fields, four_bounds, halves, length_of, lines_of, named,
+    MANY, Said, certificate, diagram_of, field, four_bounds, halves, length_of, lines_of, named,
     text_of, told, words,
 };
 use pg_position::Move;
@@ -105,7 +105,11 @@ fn obey<R: Abort + AllocGlobal, S: Source, W: Sink>(
     source: &mut S,
     out: &mut W,
 ) -> Said {
-    let [command, text, number, games, limit, ..] = fields(asked);
+    let command = field(asked, 0);
+    let text = field(asked, 1);
+    let number = field(asked, 2);
+    let games = field(asked, 3);
+    let limit = field(asked, 4);
     let text = named(text);
     let plies = number.parse().unwrap_or(0);
     let limit = limit.parse().unwrap_or(MANY);
@@ -176,7 +180,9 @@ fn check_both<R: Abort + AllocGlobal>(
 
 // The certificate of a command: what its header has, its records, and how many bytes it has, if that is told.
 fn bytes_of<R: Abort + AllocGlobal>(rt: &R, asked: &str) -> Vec<u8> {
-    let [_, _, _, _, _, header, records, length] = fields(asked);
+    let header = field(asked, 5);
+    let records = field(asked, 6);
+    let length = field(asked, 7);
     let bytes = certificate(rt, header, records);
     if !length.is_empty() {
         assert_eq!(rt; length.parse().ok(), Some(bytes.len()), "{asked}");

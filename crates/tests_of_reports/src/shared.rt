@@ -68,13 +68,9 @@ pub(crate) fn halves<'a>(rt: &impl Abort, text: &'a str, mark: &str) -> (&'a str
     text.split_once(mark).expect(rt, text)
 }
 
-// The fields of a case; those that it lacks are empty.
-pub(crate) fn fields<'a>(case: &'a str) -> [&'a str; 8] {
-    let mut all = [""; 8];
-    for (field, text) in all.iter_mut().zip(case.split(" | ")) {
-        *field = text;
-    }
-    all
+// The field of a case with this number from 0, between bars; empty where the case has fewer.
+pub(crate) fn field<'a>(case: &'a str, number: usize) -> &'a str {
+    case.split(" | ").nth(number).unwrap_or("")
 }
 
 // What a value says, or the arguments of a format.

@@ -73,13 +73,9 @@ fn halves<'a>(rt: &impl Abort, text: &'a str, mark: &str) -> (&'a str, &'a str) 
     text.split_once(mark).expect(rt, text)
 }
 
-// The fields of a case, between bars; those that it lacks are empty.
-fn fields<'a>(case: &'a str) -> [&'a str; 4] {
-    let mut all = [""; 4];
-    for (field, text) in all.iter_mut().zip(case.split(" | ")) {
-        *field = text;
-    }
-    all
+// The field of a case with this number from 0, between bars; empty where the case has fewer.
+fn field<'a>(case: &'a str, number: usize) -> &'a str {
+    case.split(" | ").nth(number).unwrap_or("")
 }
 
 // What a value says, or the arguments of a format.
@@ -174,7 +170,9 @@ fn certificate<R: Abort + AllocGlobal>(rt: &R, goal: &Goal) -> Vec<u8> {
 // or the fault.
 fn check_row<R: Abort + AllocGlobal>(rt: &R, row: &str) {
     let (asked, wanted) = halves(rt, row, " => ");
-    let [diagram, length, nodes, ..] = fields(asked);
+    let diagram = field(asked, 0);
+    let length = field(asked, 1);
+    let nodes = field(asked, 2);
     let goal = goal_of(rt, diagram, length);
     let nodes = nodes.parse().unwrap_or(NODES);
     assert_eq!(rt;

@@ -5,7 +5,9 @@ use std::io::Read;
 
 // What the check of the listed games alone answers.
 fn listed<R: Abort + AllocGlobal>(rt: &R, asked: &str) -> Said {
-    let [diagram, length, games, ..] = fields(asked);
+    let diagram = field(asked, 0);
+    let length = field(asked, 1);
+    let games = field(asked, 2);
     let diagram = diagram_of(rt, diagram);
     let games = games_of(rt, games);
     match check_listed(&diagram, length_of(rt, length), &games) {

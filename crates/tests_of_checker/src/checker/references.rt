@@ -45,7 +45,10 @@ fn along<R: Abort + AllocGlobal>(rt: &R, bytes: &mut Vec<u8>, game: &[Move]) -> 
 // A certificate for the pawn on d3: these records, and then a tree that leads along a game, cut beside it, to a node
 // with records of its own.
 fn led<R: Abort + AllocGlobal>(rt: &R, row: &str) -> Vec<u8> {
-    let [length, first, game, last, ..] = fields(row);
+    let length = field(row, 0);
+    let first = field(row, 1);
+    let game = field(row, 2);
+    let last = field(row, 3);
     let header = words(&format_args!("1 pawn-on-d3 {length}"));
     let mut bytes = certificate(rt, header.as_str(), first);
     let games = games_of(rt, game);
@@ -70,7 +73,7 @@ pub(super) fn names(said: &Said) -> &str {
 // The certificate of a row has so many named nodes, or is refused so.
 fn check_led<R: Abort + AllocGlobal>(rt: &R, row: &str) {
     let (row, wanted) = halves(rt, row, " => ");
-    let [length, ..] = fields(row);
+    let length = field(row, 0);
     let asked = words(&format_args!("pawn-on-d3 | {length} |  |  | 9"));
     let said = answer(
         rt,
@@ -195,9 +198,11 @@ fn grow_marked<R: Abort + AllocGlobal>(
     };
     let mut game = Vec::new(rt.alloc());
     let array = Position::array();
-    for left in 1..=plies {
-        let at = if left == plies { marks } else { &unmarked };
-        mark(rt, bytes, diagram, at, &mut game, &array, left);
+    for left in 1..plies {
+        mark(rt, bytes, diagram, &unmarked, &mut game, &array, left);
+    }
+    if plies > 0 {
+        mark(rt, bytes, diagram, marks, &mut game, &array, plies);
     }
 }
 
@@ -205,7 +210,12 @@ fn grow_marked<R: Abort + AllocGlobal>(
 // how many named nodes there are, or how it is refused.
 pub(super) fn check_marked<R: Abort + AllocGlobal>(rt: &R, row: &str) {
     let (row, wanted) = halves(rt, row, " => ");
-    let [diagram, length, games, version, named, refers, ..] = fields(row);
+    let diagram = field(row, 0);
+    let length = field(row, 1);
+    let games = field(row, 2);
+    let version = field(row, 3);
+    let named = field(row, 4);
+    let refers = field(row, 5);
     let header = words(&format_args!("{version} {diagram} {length}"));
     let bytes = marked(rt, header.as_str(), named, refers);
     let asked = words(&format_args!("{diagram} | {length} | {games} |  | 9"));

@@ -16,7 +16,9 @@ rnbqkbnr/pppppppp/8/8/8/4P3/PPPP1PPP/2KR1BNR | 04 | white needs 2 moves and has 
 
 // What the one cut says in a version, whether or not the line goes on.
 fn check_cut<R: Abort + AllocGlobal>(rt: &R, version: u8, row: &str) {
-    let [diagram, code, said, ..] = fields(row);
+    let diagram = field(row, 0);
+    let code = field(row, 1);
+    let said = field(row, 2);
     let header = words(&format_args!("{version} {diagram} 0.5"));
     let record = words(&format_args!("02{code}"));
     let bytes = certificate(rt, header.as_str(), record.as_str());

@@ -31,7 +31,8 @@ rnbqkbnr/pppppppp/8/8/8/3P4/PPPP1PPP/RNBQKBNR | none";
 #[test]
 fn least_lengths(rt: HostRuntime) {
     for row in LEAST.lines() {
-        let [diagram, plies, ..] = fields(row);
+        let diagram = field(row, 0);
+        let plies = field(row, 1);
         let found = least(&rt, &diagram_of(&rt, diagram));
         assert_eq!(rt; found, plies.parse().ok(), "{row}");
     }
@@ -121,7 +122,10 @@ r1bqnNnr/pppkpp1p/7R/3p4/8/8/PPPPPPP1/RNBQKBN1 | 11 | 11 | 11
 
 // By prices alone, and with the four bounds.
 fn check_prices<R: Abort + AllocGlobal>(rt: &R, row: &str) {
-    let [diagram, alone, all, plies, ..] = fields(row);
+    let diagram = field(row, 0);
+    let alone = field(row, 1);
+    let all = field(row, 2);
+    let plies = field(row, 3);
     let diagram = diagram_of(rt, diagram);
     let found = least(rt, &diagram);
     assert_eq!(rt; least_by(rt, &diagram, &[]), alone.parse().ok(), "{row}");

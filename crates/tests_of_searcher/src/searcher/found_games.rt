@@ -37,7 +37,9 @@ fn games_of<R: Abort + AllocGlobal>(rt: &R, text: &str) -> Games {
 
 // The games of a row are found.
 fn check_games<R: Abort + AllocGlobal>(rt: &R, row: &str) {
-    let [diagram, length, text, ..] = fields(row);
+    let diagram = field(row, 0);
+    let length = field(row, 1);
+    let text = field(row, 2);
     let games = found(rt, &goal_of(rt, diagram, length));
     assert!(rt; are_same(&games, &games_of(rt, text)), "{row}");
 }

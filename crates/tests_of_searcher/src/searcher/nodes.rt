@@ -51,7 +51,10 @@ r1bqnNnr/pppkpp1p/7R/3p4/8/8/PPPPPPP1/RNBQKBN1 | 5.5 | 1 | 428
 #[test]
 fn prices_cut(rt: HostRuntime) {
     for row in PRICED.lines() {
-        let [diagram, length, least, most] = fields(row);
+        let diagram = field(row, 0);
+        let length = field(row, 1);
+        let least = field(row, 2);
+        let most = field(row, 3);
         let bytes = certificate(&rt, &goal_of(&rt, diagram, length));
         let count = Some(count_priced(bytes.as_slice()));
         assert!(rt;
