@@ -1,3 +1,5 @@
+//! The file changes that pawns need, and the bound by them.
+
 ghost use Rattle.std.specs.Prelude.{◌≡◌, ℕ, ◌↔◌, ◌<◌, ◌≤◌, IsTrue};
 ghost use Rattle.pg_captures.specs.Owed.{victims};
 ghost use Rattle.pg_pawns.specs.PawnFiles.{line_need, shift, PawnFilesFor, PawnFilesHolds};

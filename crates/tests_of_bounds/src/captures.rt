@@ -1,3 +1,5 @@
+//! The bounds by captures and by promotions: worked examples.
+
 use crate::texts::{check_bound, color, diagram, position, row_of};
 use pg_board::Color;
 use pg_captures::*;

@@ -1,3 +1,5 @@
+//! The bound by pawn files, and its prices: worked examples.
+
 use crate::texts::{
     NumberList, Row, check_bound, color, diagram, is_yes, numbers, position, row_of,
 };

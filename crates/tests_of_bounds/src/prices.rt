@@ -1,3 +1,5 @@
+//! What a searcher reckons with: what its tests share.
+
 mod assignments;
 mod distances;
 mod memories;

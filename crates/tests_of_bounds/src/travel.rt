@@ -1,3 +1,5 @@
+//! Distances, the bound by travel, and its prices: worked examples.
+
 use crate::texts::{
     NumberList, Row, check_bound, color, diagram, is_yes, numbers, position, row_of,
 };

@@ -1,3 +1,5 @@
+//! Certificates as bytes: what the tests of reading and writing share, and the texts of faults.
+
 mod prices;
 mod reading;
 mod writing;

@@ -1,3 +1,5 @@
+//! The bounds, readers and writers that serve tests.
+
 use pg_captures::Bound;
 use pg_fen::{Diagram, Length, read_position};
 use pg_trial::*;

@@ -1,3 +1,5 @@
+//! Checks of small certificates: what the tests share.
+
 mod bounds;
 mod examples;
 mod faults;

@@ -1,3 +1,5 @@
+//! Explanations of a line: what the tests share.
+
 mod cuts;
 mod growths;
 mod lines;

@@ -1,3 +1,5 @@
+//! Reports, counts, moves and shown diagrams: what the tests share.
+
 mod drawings;
 mod faults;
 mod game_counts;

@@ -1,3 +1,5 @@
+//! Boards, held against a plain board of 64 cells.
+
 mod callers;
 
 use crate::texts::{cells, square};

@@ -1,3 +1,5 @@
+//! Lengths and diagrams as text.
+
 mod callers;
 mod positions;
 

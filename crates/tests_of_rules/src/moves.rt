@@ -1,3 +1,5 @@
+//! Legal moves: what the tests share.
+
 mod counts;
 mod lists;
 

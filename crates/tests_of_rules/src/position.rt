@@ -1,3 +1,5 @@
+//! Positions: what the tests share.
+
 mod games;
 mod positions;
 

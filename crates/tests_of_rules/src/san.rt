@@ -1,3 +1,5 @@
+//! Texts of moves and of games.
+
 mod lists;
 mod reads;
 mod writes;

@@ -1,3 +1,5 @@
+//! Searches: what the tests share.
+
 mod found_games;
 mod growths;
 mod nodes;

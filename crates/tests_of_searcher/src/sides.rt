@@ -1,3 +1,5 @@
+//! What a move changes of either colour, held against both made anew.
+
 use pg_fen::read_position;
 use pg_moves::legal_moves;
 use pg_position::{Move, Position};

@@ -1,3 +1,5 @@
+//! Least assignments, held against every assignment of small matrices.
+
 use super::*;
 
 // Numbers that are the same at each run.

@@ -1,3 +1,5 @@
+//! Needs and price lists, held against the bounds after random games.
+
 use super::*;
 use crate::texts::diagram;
 use pg_captures::{Bound, Promotions};

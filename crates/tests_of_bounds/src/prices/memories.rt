@@ -1,3 +1,5 @@
+//! Memories, closed nodes and keys.
+
 use super::*;
 use pg_position::Rights;
 

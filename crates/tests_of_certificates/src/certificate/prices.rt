@@ -1,3 +1,5 @@
+//! Records with prices, written and read again.
+
 use super::*;
 use pg_trial::OneByte;
 

@@ -1,3 +1,5 @@
+//! Headers and records that are read or refused, and reads that fail.
+
 use super::*;
 use pg_price_lists::Prices;
 use pg_trial::{Endless, FailsAt, OneByte};

@@ -1,3 +1,5 @@
+//! Headers and records that are written, and writes that fail.
+
 ghost use Rattle.std.specs.Prelude.{◌≡◌};
 
 use super::reading::answers;

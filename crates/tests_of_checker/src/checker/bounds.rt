@@ -1,3 +1,5 @@
+//! Cuts by bounds that are handed in.
+
 use super::*;
 use pg_trial::{Men, Never};
 

@@ -1,3 +1,5 @@
+//! Certificates that are right, or lack a game.
+
 use super::*;
 use pg_moves::legal_moves;
 use pg_position::Position;

@@ -1,3 +1,5 @@
+//! Each fault of a list, a header and a record; reads and growths that are refused.
+
 use super::*;
 use arrayvec::ArrayVec;
 use pg_trial::Endless;

@@ -1,3 +1,5 @@
+//! Named nodes and references to them.
+
 use super::*;
 use pg_moves::legal_moves;
 use pg_position::Position;

@@ -1,3 +1,5 @@
+//! Certificates of version 2: prices, and positions of the same future.
+
 use super::references::check_marked;
 use super::*;
 use pg_trial::Endless;

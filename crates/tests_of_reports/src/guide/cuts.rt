@@ -1,3 +1,5 @@
+//! What is said of a cut.
+
 use super::*;
 
 // What the one cut at the array says of a diagram that no game of one ply ends on, by the code of its bound.

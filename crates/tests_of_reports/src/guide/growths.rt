@@ -1,3 +1,5 @@
+//! Explanations that are refused memory.
+
 use super::*;
 use pg_checker::Fault;
 use pg_report::RunFault;

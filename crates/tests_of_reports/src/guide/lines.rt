@@ -1,3 +1,5 @@
+//! What is said of expanded nodes, leaves and references.
+
 use super::*;
 use pg_moves::legal_moves;
 use pg_position::{Move, Position};

@@ -1,3 +1,5 @@
+//! What is said where a text or a certificate is refused.
+
 use super::*;
 use pg_trial::{FailsAt, OneByte};
 use std::io::ErrorKind;

@@ -1,3 +1,5 @@
+//! Boards for the eye.
+
 use super::*;
 
 // How many writes a board takes: for each rank its digit, eight squares and the end of the line; and

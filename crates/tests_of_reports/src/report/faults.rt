@@ -1,3 +1,5 @@
+//! The text and the status of each fault.
+
 use super::*;
 use crate::shared::words;
 use arrayvec::ArrayVec;

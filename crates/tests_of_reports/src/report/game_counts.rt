@@ -1,3 +1,5 @@
+//! Numbers of games, written or refused.
+
 use super::*;
 
 const COUNTS: &str = "count | start | 0 => () => 1$

@@ -1,3 +1,5 @@
+//! Runs that are refused memory.
+
 use super::*;
 use pg_trial::{Counted, named_expansions};
 use std::fmt::Debug;

@@ -1,3 +1,5 @@
+//! Least lengths that neither a bound nor prices exclude.
+
 use super::*;
 use crate::shared::{add, boxed};
 use pg_moves::legal_moves;

@@ -1,3 +1,5 @@
+//! Legal moves, one a line.
+
 use super::*;
 
 const LISTS: &str =

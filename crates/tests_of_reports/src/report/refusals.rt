@@ -1,3 +1,5 @@
+//! Runs of a check that end without a report.
+
 use super::*;
 
 // The list lacks a game.

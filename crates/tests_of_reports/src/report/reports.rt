@@ -1,3 +1,5 @@
+//! Movetext and reports, written or refused.
+
 use super::*;
 use pg_board::Square;
 

@@ -1,3 +1,5 @@
+//! Runs of a check from texts to a report.
+
 use super::*;
 
 // No choice: in no ply and in one. Cuts by travel; the games of the second list are out of order. No game, by a

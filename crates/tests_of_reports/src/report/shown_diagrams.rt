@@ -1,3 +1,5 @@
+//! What is shown of a diagram.
+
 use super::*;
 
 // How many writes `SCHWEIG_SHOWN` takes: the board; for each colour its name, two parts of its men, two of

@@ -1,3 +1,5 @@
+//! Certificates of version 1 that are upgraded or refused.
+
 use super::runs::RUNS;
 use super::*;
 use pg_trial::Endless;

@@ -1,3 +1,5 @@
+//! Positions as text.
+
 use super::*;
 use pg_board::{Color, Square};
 use pg_position::{Move, Position};

@@ -1,3 +1,5 @@
+//! Numbers of games from positions, as others count them.
+
 use super::*;
 use pg_fen::text::digits;
 use pg_moves::{CountFault, count, legal_moves};

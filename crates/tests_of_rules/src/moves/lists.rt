@@ -1,3 +1,5 @@
+//! The legal moves of a position, one after the other.
+
 use super::*;
 use pg_moves::{legal_moves, next_legal};
 use std::alloc::Global;

@@ -1,3 +1,5 @@
+//! Moves that are played or refused, move by move.
+
 use super::*;
 
 // Why a position is to refuse a move, or nothing where it is legal.

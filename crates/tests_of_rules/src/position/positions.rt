@@ -1,3 +1,5 @@
+//! Parts that are a position or none, attack, and packed positions.
+
 use super::*;
 
 // The first clause that parts are to break.

@@ -1,3 +1,5 @@
+//! Lists of games, and their faults.
+
 use super::*;
 use pg_board::Square;
 use pg_san::{AddFault, Games, GamesFault, SanFault, read_games};

@@ -1,3 +1,5 @@
+//! Texts that are read as a move, or refused.
+
 use super::*;
 use pg_san::{SanFault, read};
 

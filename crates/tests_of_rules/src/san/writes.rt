@@ -1,3 +1,5 @@
+//! Moves as they are written.
+
 ghost use Rattle.pg_moves.specs.Moves.{IsLegal};
 
 use super::*;

@@ -1,3 +1,5 @@
+//! The games that searches find, each with its certificate checked.
+
 use super::*;
 use pg_san::read_games;
 

@@ -1,3 +1,5 @@
+//! Searches that are refused memory.
+
 use super::*;
 use arrayvec::ArrayVec;
 use pg_certificate::Refused;

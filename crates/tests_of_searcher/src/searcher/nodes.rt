@@ -1,3 +1,5 @@
+//! How many nodes a search visits, and its limits.
+
 use super::*;
 use pg_certificate::{Record, RecordReader};
 

@@ -1,3 +1,5 @@
+//! Searches whose writes fail.
+
 use super::*;
 use pg_trial::{FailsAt, OneByte};
 use std::io::{ErrorKind, Write};
