@@ -50,7 +50,7 @@ fn close(top: &Frame, machine: &mut Machine) -> Result<(), SearchFault>
 
 // Whether a move may lead to a position one move away from a board, from which the position differs on
 // these squares.
-fn may_be_near(goal: &Board, position: &Position, squares: SquareSet, m: &Move) -> bool {
+pub(crate) fn may_be_near(goal: &Board, position: &Position, squares: SquareSet, m: &Move) -> bool {
     let board = position.board();
     let Some(man) = board.get(m.from) else {
         return false;
