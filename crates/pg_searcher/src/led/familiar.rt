@@ -1,6 +1,6 @@
 //! The moves that are familiar: those that men of either colour make in games that are known.
 
-use pg_board::{Board, Color, Kind, SquareSet};
+use pg_board::{Board, Color, Kind, Square, SquareSet};
 use pg_position::{Move, Position};
 use pg_san::Games;
 use std::alloc::{AllocError, Global};
@@ -25,6 +25,13 @@ fn row_of(kind: Kind, m: &Move) -> usize {
     usize::from(number)
         .saturating_mul(64)
         .saturating_add(usize::from(m.from.index()))
+}
+
+// Puts a square into the set of a row.
+fn put(rows: &mut Vec<SquareSet>, row: usize, square: Square) {
+    if let Some(set) = rows.get_mut(row) {
+        *set = *set | SquareSet::single(square);
+    }
 }
 
 impl Familiar {
@@ -59,12 +66,10 @@ impl Familiar {
         let Some(man) = position.board().get(m.from) else {
             return;
         };
-        let rows = match position.side() {
-            Color::White => &mut self.white,
-            Color::Black => &mut self.black,
-        };
-        if let Some(set) = rows.get_mut(row_of(man.kind, m)) {
-            *set = *set | SquareSet::single(m.to);
+        let row = row_of(man.kind, m);
+        match position.side() {
+            Color::White => put(&mut self.white, row, m.to),
+            Color::Black => put(&mut self.black, row, m.to),
         }
     }
 

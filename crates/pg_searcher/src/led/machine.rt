@@ -1,4 +1,5 @@
 //! What a led search holds.
+ghost use Rattle.std.specs.Prelude.{◌≡◌};
 
 use crate::judge::Judge;
 use crate::known::MISSING;

@@ -81,7 +81,8 @@ fn near(question: &Question, machine: &mut Machine, top: Open) -> Result<(), Hal
             return Err(Halt::Budget);
         }
         if may_be_near(&goal, &position, squares, &m) {
-            let last = leaf(question.diagram, &after(&position, &m));
+            let next = after(&position, &m);
+            let last = leaf(question.diagram, &next);
             if last.is_some() {
                 match end(question, machine, &Some(m), &last) {
                     Ok(()) => top.found = true,
