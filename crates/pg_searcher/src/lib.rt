@@ -4,6 +4,7 @@
 #![tactic(auto)]
 
 mod ends;
+mod expected;
 mod fault;
 mod find;
 mod judge;
@@ -16,6 +17,7 @@ mod progress;
 mod sides;
 mod walk;
 
+pub use expected::{Slacks, forecast, next_tree, slacks};
 pub use fault::SearchFault;
 pub use find::{search, search_watched};
 pub use judge::sides_of;

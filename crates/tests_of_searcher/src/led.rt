@@ -1,7 +1,6 @@
 mod found;
-
-
-
+mod growths;
+mod limits;
 
 use arrayvec::ArrayString;
 use pg_fen::{Diagram, Length};
@@ -110,10 +109,12 @@ fn told(rt: &impl Abort, asked: &Asked, answer: &Result<Led, LedFault>) -> Said 
             assert!(rt; is_another(asked, game.as_slice()));
             words(&format_args!("{} plies", game.len()))
         }
-        Ok(Led::NotFound {
-            foreign: Some(most),
-            ..
-        }) => words(&format_args!("none with {most}")),
+        Ok(
+            Led::NotFound {
+                foreign: Some(most),
+                ..
+            },
+        ) => words(&format_args!("none with {most}")),
         Ok(Led::NotFound { foreign: None, .. }) => words(&"none met"),
         Err(fault) => words(fault),
     }
