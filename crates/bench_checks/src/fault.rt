@@ -2,11 +2,11 @@
 
 use pg_checker::Fault as CheckFault;
 use pg_fen::{FenFault, LengthFault};
-use pg_searcher::SearchFault;
+use pg_searcher::{LedFault, SearchFault};
 
 #[derive(Debug, Drop, thiserror::Error)]
 pub(crate) enum Fault {
-    #[error("write a case and a number, table, or search, a diagram, a length, a number of nodes and perhaps check")]
+    #[error("write a case and a number, table, search, a diagram, a length, a number of nodes and perhaps check, or cooks, a game, a number of nodes and perhaps one of moves")]
     Usage,
     #[error("a text is not read")]
     Text,
@@ -18,6 +18,8 @@ pub(crate) enum Fault {
     Check(CheckFault),
     #[error("{0}")]
     Search(SearchFault),
+    #[error("{0}")]
+    Led(LedFault),
     #[error("a certificate is refused")]
     Refused,
 }

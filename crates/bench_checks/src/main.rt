@@ -1,11 +1,14 @@
 //! Measures what stands on the rules. `bench_checks CASE NUMBER` prints what so many rounds of a case counted, which is the
 //! same at each run; the time or the instructions are taken from outside. The cases are those of `measured`.
+//! `bench_checks cooks GAME NODES [FOREIGN]` looks for another game to the diagram on which a game ends, and prints how long it is,
+//! how many foreign moves it has at most, and how many nodes were visited.
 //! `bench_checks search DIAGRAM LENGTH NODES` searches for the games of a problem and prints their number and the certificate's
 //! bytes and records, with `check` behind it once the certificate is checked; `bench_checks table` does both for twelve problems.
 #![tactic(auto)]
 
 mod bounds;
 mod checking;
+mod cooks;
 mod fault;
 mod needs;
 mod records;
@@ -74,6 +77,17 @@ fn print_search(rt: &HostRuntime, words: &[String]) -> anyhow::Result<()> {
     )
 }
 
+fn print_cooks(rt: &HostRuntime, words: &[String]) -> anyhow::Result<()> {
+    let (Some(game), Some(nodes)) = (words.get(2), words.get(3)) else {
+        return Err(Fault::Usage)?;
+    };
+    let Ok(nodes) = nodes.as_str().parse::<u64>() else {
+        return Err(Fault::Usage)?;
+    };
+    let foreign = words.get(4).and_then(|word| word.as_str().parse().ok());
+    cooks::print_one(rt, game.as_str(), nodes, foreign)
+}
+
 fn main(rt: HostRuntime) -> anyhow::Result<()> {
     let mut words = Vec::new(rt.alloc());
     for word in env::args(&rt)? {
@@ -85,6 +99,7 @@ fn main(rt: HostRuntime) -> anyhow::Result<()> {
     match case.as_str() {
         "table" => return searching::print_table(&rt),
         "search" => return print_search(&rt, words.as_slice()),
+        "cooks" => return print_cooks(&rt, words.as_slice()),
         _ => (),
     }
     let number = words.get(2).and_then(|word| word.as_str().parse().ok());

@@ -77,25 +77,26 @@ fn promotion(position: &Position, goal: &Board, from: Square, to: Square) -> Opt
     }
 }
 
-// The games that a man's moves from a square to one of a set end.
-fn leaves_from(
-    question: &Question,
-    tree: u8,
-    machine: &mut Machine,
-    before: &Option<Move>,
+// Whether a move is legal and leads to the diagram.
+fn leads(diagram: &Diagram, position: &Position, m: &Move) -> bool {
+    match position.play(*m) {
+        Ok(next) => diagram.matches(&next),
+        Err(_) => false,
+    }
+}
+
+// The move of a man from a square to one of a set that leads to the diagram.
+fn leaf_from(
+    diagram: &Diagram,
     position: &Position,
     from: Square,
     targets: SquareSet,
-) -> Result<(), SearchFault>
-    ensures frames { machine.new.frames ≡ machine.old.frames }
-    ensures writer { machine.new.writer ≡ machine.old.writer }
-    ensures says { (failed : Bool) → RefusesTruly question.now.plies failed result }
-{
-    let goal = question.diagram.board();
+) -> Option<Move> {
+    let goal = diagram.board();
     let mut targets = targets;
     for _ in 0..64u8 {
         let Some(to) = targets.pop_first() else {
-            return Ok(());
+            return None;
         };
         let promotion = promotion(position, &goal, from, to);
         let m = Move {
@@ -103,22 +104,11 @@ fn leaves_from(
             to,
             promotion,
         };
-        if leads(question.diagram, position, &m) {
-            match end(question, tree, machine, before, &Some(m)) {
-                Ok(()) => {}
-                Err(fault) => return Err(fault),
-            }
+        if leads(diagram, position, &m) {
+            return Some(m);
         }
     }
-    Ok(())
-}
-
-// Whether a move is legal and leads to the diagram.
-fn leads(diagram: &Diagram, position: &Position, m: &Move) -> bool {
-    match position.play(*m) {
-        Ok(next) => diagram.matches(&next),
-        Err(_) => false,
-    }
+    None
 }
 
 // Whether a move may change all squares of a set and no others: those that it leaves and reaches, in a
@@ -128,8 +118,29 @@ pub(crate) fn is_near(squares: SquareSet) -> bool {
     2 <= count && count <= 4
 }
 
-// The leaves on the diagram below a node with one ply left, to which this move led. A move to the
-// diagram leaves a square that differs, and goes to one where the diagram has a man of its colour.
+// The move that leads from a position to the diagram. There is one at most, since the squares that it
+// changes tell it: it leaves a square that differs, and goes to one where the diagram has a man of its colour.
+pub(crate) fn leaf(diagram: &Diagram, position: &Position) -> Option<Move> {
+    let goal = diagram.board();
+    let board = position.board();
+    let squares = board.differing(&goal);
+    if !is_near(squares) {
+        return None;
+    }
+    let targets = squares & goal.squares_of_color(position.side());
+    let mut sources = squares & board.squares_of_color(position.side());
+    for _ in 0..64u8 {
+        let Some(from) = sources.pop_first() else {
+            return None;
+        };
+        if let Some(m) = leaf_from(diagram, position, from, targets) {
+            return Some(m);
+        }
+    }
+    None
+}
+
+// The leaf on the diagram below a node with one ply left, to which this move led.
 pub(crate) fn leaves(
     question: &Question,
     tree: u8,
@@ -141,24 +152,10 @@ pub(crate) fn leaves(
     ensures writer { machine.new.writer ≡ machine.old.writer }
     ensures says { (failed : Bool) → RefusesTruly question.now.plies failed result }
 {
-    let goal = question.diagram.board();
-    let board = position.board();
-    let squares = board.differing(&goal);
-    if !is_near(squares) {
-        return Ok(());
+    match leaf(question.diagram, position) {
+        Some(m) => end(question, tree, machine, before, &Some(m)),
+        None => Ok(()),
     }
-    let targets = squares & goal.squares_of_color(position.side());
-    let mut sources = squares & board.squares_of_color(position.side());
-    for _ in 0..64u8 {
-        let Some(from) = sources.pop_first() else {
-            return Ok(());
-        };
-        match leaves_from(question, tree, machine, before, position, from, targets) {
-            Ok(()) => {}
-            Err(fault) => return Err(fault),
-        }
-    }
-    Ok(())
 }
 
 // Visits a node with one ply left and writes its record.

@@ -4,10 +4,12 @@
 #![tactic(auto)]
 
 mod ends;
+mod expected;
 mod fault;
 mod find;
 mod judge;
 mod known;
+mod led;
 mod machine;
 mod node;
 mod play;
@@ -15,8 +17,10 @@ mod progress;
 mod sides;
 mod walk;
 
+pub use expected::{Slacks, forecast, next_tree, slacks};
 pub use fault::SearchFault;
 pub use find::{search, search_watched};
 pub use judge::sides_of;
+pub use led::{Game, Led, LedFault, LedLimits, LedProgress, search_led};
 pub use progress::Progress;
 pub use sides::{Change, Changes, Side, Sides, changes_of};

@@ -13,6 +13,7 @@ use pg_board::{Board, SquareSet};
 use pg_certificate::Sink;
 use pg_moves::LegalMoves;
 use pg_position::{Move, Position};
+use pg_san::Games;
 
 // The frame of a node that opens.
 fn frame_of(opened: &Opened) -> Frame {
@@ -50,7 +51,7 @@ fn close(top: &Frame, machine: &mut Machine) -> Result<(), SearchFault>
 
 // Whether a move may lead to a position one move away from a board, from which the position differs on
 // these squares.
-fn may_be_near(goal: &Board, position: &Position, squares: SquareSet, m: &Move) -> bool {
+pub(crate) fn may_be_near(goal: &Board, position: &Position, squares: SquareSet, m: &Move) -> bool {
     let board = position.board();
     let Some(man) = board.get(m.from) else {
         return false;
@@ -210,6 +211,16 @@ fn turn<W: Sink>(
     }
 }
 
+// Tells of the games beyond so many, which were met since; how many there are now. They are met in canonical order.
+fn tell<P: Progress>(games: &Games, known: usize, watch: &mut P) -> usize {
+    for i in known..games.len() {
+        if let Some(game) = games.game(i) {
+            watch.met(game);
+        }
+    }
+    games.len()
+}
+
 // The tree of one length.
 pub(crate) fn tree_of<W: Sink, P: Progress>(
     question: &Question,
@@ -223,15 +234,19 @@ pub(crate) fn tree_of<W: Sink, P: Progress>(
     ensures runs { OnOk result (machine.new.writer.failed ≡ false) }
     ensures says { RefusesTruly question.now.plies (W.has_failed sink.new) result }
 {
+    let known = machine.games.len();
     match enter_root(question, tree, machine, sink) {
         Ok(()) => {}
         Err(fault) => return Err(fault),
     }
+    let mut known = tell(&machine.games, known, watch);
     for _ in 0..u64::MAX {
         let Some(top) = machine.frames.pop() else {
             return Ok(());
         };
-        match turn(question, tree, top, machine, sink) {
+        let answer = turn(question, tree, top, machine, sink);
+        known = tell(&machine.games, known, watch);
+        match answer {
             Ok(()) => watch.reached(tree, machine.nodes),
             Err(fault) => return Err(fault),
         }

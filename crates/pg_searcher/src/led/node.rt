@@ -1,0 +1,130 @@
+//! One node of a led search: judged, and opened where nothing excludes it.
+ghost use Rattle.std.specs.Prelude.{◌≡◌};
+ghost use Rattle.pg_moves.specs.Moves.{IsLegal};
+
+use crate::judge::{Verdict, sides_of};
+use crate::led::barren::ANY;
+use crate::led::machine::{Halt, Machine, Open, Question, visit};
+use crate::led::order::Due;
+use crate::play::after;
+use crate::sides::{Sides, changes_of};
+use pg_position::Position;
+use pg_prices::node_key;
+use std::alloc::AllocError;
+
+// What becomes of a node: no game ends on the diagram below it; none with as many foreign moves as may
+// come; or it opens.
+#[derive(Drop)]
+pub(crate) enum Entry {
+    Barren,
+    Refused,
+    Opens(Open),
+}
+
+// How many plies are left at a node, and how many foreign moves may come.
+#[derive(Clone, Copy)]
+pub(crate) struct Means {
+    pub(crate) left: u8,
+    pub(crate) foreign: u8,
+}
+
+// Whether a cut excludes a node.
+fn is_cut(verdict: Verdict) -> bool {
+    match verdict {
+        Verdict::Cut(_) | Verdict::Pawns(_) | Verdict::Travel(_) => true,
+        Verdict::Stays | Verdict::Unknown => false,
+    }
+}
+
+// A node that no cut excludes: barren where one of the same future was, with as many foreign moves.
+fn stay(machine: &Machine, position: &Position, sides: &Sides, means: Means) -> Entry {
+    let key = node_key(
+        sides.white.key,
+        sides.black.key,
+        position.side(),
+        position.effective_passed(),
+        means.left,
+    );
+    match machine.barren.get(key) {
+        Some(ANY) => Entry::Barren,
+        Some(foreign) if foreign >= means.foreign => Entry::Refused,
+        _ => Entry::Opens(Open::new(position, sides, key, means.foreign)),
+    }
+}
+
+// Judges a node with at least two plies left, of which so much is known.
+pub(crate) fn enter(
+    question: &Question,
+    machine: &mut Machine,
+    position: &Position,
+    known: Option<Sides>,
+    means: Means,
+) -> Result<Entry, AllocError>
+    ensures { machine.new.frames ≡ machine.old.frames }
+{
+    let mut sides = match known {
+        Some(sides) => sides,
+        None => sides_of(position),
+    };
+    match machine.judge.fill(question.diagram, position, &mut sides) {
+        Ok(()) => {}
+        Err(fault) => return Err(fault),
+    }
+    match machine.judge.judged(position, &mut sides, means.left) {
+        Ok(verdict) => {
+            if is_cut(verdict) {
+                Ok(Entry::Barren)
+            } else {
+                Ok(stay(machine, position, &sides, means))
+            }
+        }
+        Err(fault) => Err(fault),
+    }
+}
+
+// Visits the node after a legal move of an open one, with so many plies left, at least two: the node where
+// it opens.
+pub(crate) fn child(
+    question: &Question,
+    machine: &mut Machine,
+    top: &mut Open,
+    position: &Position,
+    due: &Due,
+    left: u8,
+) -> Result<Option<Open>, Halt>
+    requires legal { IsLegal position.now due.now.m }
+    ensures frames { machine.new.frames ≡ machine.old.frames }
+    ensures moves { top.new.moves ≡ top.old.moves }
+{
+    if !visit(machine) {
+        return Err(Halt::Budget);
+    }
+    let mut known = None;
+    if let Some(changes) = changes_of(position, &due.m) {
+        let (verdict, sides) = machine
+            .judge
+            .quick(position.side(), &top.sides, &changes, left);
+        if is_cut(verdict) {
+            return Ok(None);
+        }
+        known = sides;
+    }
+    if due.is_foreign && top.foreign == 0 {
+        top.refused = true;
+        return Ok(None);
+    }
+    let foreign = top.foreign.saturating_sub(u8::from(due.is_foreign));
+    let next = after(position, &due.m);
+    match enter(question, machine, &next, known, Means { left, foreign }) {
+        Ok(Entry::Barren) => Ok(None),
+        Ok(Entry::Refused) => {
+            top.refused = true;
+            Ok(None)
+        }
+        Ok(Entry::Opens(opened)) => {
+            top.played = Some(due.m);
+            Ok(Some(opened))
+        }
+        Err(_) => Err(Halt::Memory),
+    }
+}
