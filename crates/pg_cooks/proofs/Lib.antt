@@ -1,0 +1,3 @@
+mod CookLemmas
+mod KnownLemmas
+mod TextLemmas
