@@ -1,5 +1,5 @@
 -- The refusals of the texts, and the games that are told. Leads to the contracts of `read_known`, `run_games` and `run_cooks`.
-use Rattle.std.proofs.Common.{◌≡◌, ℕ, Bool, List, refl}
+use Rattle.std.proofs.Common.{ℕ, Bool, List, length}
 use Rattle.pg_board.specs.Placement.{Placement}
 use Rattle.pg_position.specs.declared.moves.Move.{Move}
 use Rattle.pg_san.specs.Games.{IsFromArray}

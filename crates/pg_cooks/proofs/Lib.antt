@@ -1,3 +1,4 @@
-mod CookLemmas
+pub mod CookLemmas
+mod FoundLemmas
 mod KnownLemmas
 mod TextLemmas

@@ -1,17 +1,16 @@
 -- The parts of the reports. Leads to the contracts of `write_standing` and `write_cooks`.
-use Rattle.std.proofs.Common.{◌≡◌, ℕ, List, ◌++◌, Option, length, refl, subst}
-use Rattle.std.specs.Prelude.{codes}
+use Rattle.std.proofs.Common.{◌≡◌, ℕ, List, ◌++◌, Option, Some, length, refl, sym, subst}
+use Rattle.std.specs.Prelude.{codes, decimal}
 use Rattle.std.specs.Io.KnownBytes.{Appends}
 use Rattle.std.proofs.KnownBytes.{Appends-trans}
 use Rattle.pg_board.specs.Placement.{Placement}
 use Rattle.pg_position.specs.declared.moves.Move.{Move}
-use Rattle.pg_texts.specs.Movetext.{IsMovetext}
-use Rattle.pg_texts.specs.Report.{AreGameLines, head_text, line_text}
+use Rattle.pg_texts.specs.Report.{head_text, line_text}
 use Rattle.pg_texts.proofs.ReportLemmas.{LinesGrow, LineGrows}
 use Rattle.pg_cooks.specs.Standing.{IsKnownText, IsStanding, IsGamesReport, standing_text}
 use Rattle.pg_cooks.specs.declared.standing.Standing.{Standing}
 use Rattle.pg_cooks.specs.declared.finding.CookAnswer.{CookAnswer}
-use Rattle.pg_cooks.specs.Cooks.{IsAnswerText, IsCooksReport, IsEndText, IsFoundText}
+use Rattle.pg_cooks.specs.Cooks.{IsAnswerText, IsCooksReport, IsEndText, IsFoundText, unfound_text}
 
 -- the lines of known games were appended
 abbrev pub KnownGrows : Placement → ℕ → List (List Move) → Option (List ℕ) → Option (List ℕ) → Type 0
@@ -57,3 +56,16 @@ end_grows game a b c (line, is, grows) last = (
 pub found_grows : (what : List ℕ) (game : List Move) (a b c : Option (List ℕ)) → Appends a b what → ((text : List ℕ) × IsEndText game text × Appends b c text)
     → (text : List ℕ) × IsFoundText what game text × Appends a c text
 found_grows what game a b c first (rest, is, grows) = (what ++ rest, (rest, is, refl), Appends-trans a b c what rest first grows)
+
+-- the line that no game was found, with how far the search went
+pub unfound_grows : (o : Option ℕ) (k n : ℕ) (a b : Option (List ℕ)) → o ≡ Some k → n ≡ k → Appends a b (codes "none with at most " ++ (decimal n ++ line_text (codes " moves of other kinds"))) → Appends a b (unfound_text o)
+unfound_grows o k n a b is same h =
+    subst (λ (x : Option ℕ). Appends a b (unfound_text x)) (sym is)
+    (subst (λ (x : ℕ). Appends a b (codes "none with at most " ++ (decimal x ++ line_text (codes " moves of other kinds")))) same h)
+
+-- the lines of a game that was found, as those of an answer
+pub answer_grows : (P : List ℕ → Type 0) (what : List ℕ) (game items : List Move) (a b c : Option (List ℕ)) → game ≡ items → ((x : List ℕ) → IsFoundText what items x → P x) → Appends a b what
+    → ((text : List ℕ) × IsEndText game text × Appends b c text) → (text : List ℕ) × P text × Appends a c text
+answer_grows P what game items a b c same says first rest =
+    let (text, is, grows) = found_grows what game a b c first rest in
+    (text, says text (subst (λ (x : List Move). IsFoundText what x text) same is), grows)

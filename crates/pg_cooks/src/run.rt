@@ -1,12 +1,13 @@
 //! From texts to the reports.
-ghost use Rattle.std.specs.Prelude.{◌≡◌, ◌≢◌, ℕ, List, true, false, IfOk, IfErr, OnOk};
+ghost use Rattle.std.specs.Prelude.{◌≡◌, ◌≢◌, ℕ, Bool, List, true, false, IfOk, IfErr, OnOk};
 ghost use Rattle.std.specs.Io.KnownBytes.{Appends};
 ghost use Rattle.pg_board.specs.Placement.{Placement};
 ghost use Rattle.pg_position.specs.declared.moves.Move.{Move};
 ghost use Rattle.pg_checker.specs.declared.fault.RunFault.TheVariants.{Write};
 ghost use Rattle.pg_cooks.specs.Known.{IsKnown, IsKnownFault};
 ghost use Rattle.pg_cooks.specs.Standing.{IsStanding, IsGamesReport};
-ghost use Rattle.pg_cooks.specs.Cooks.{IsCookAnswer, IsCooksReport, IsCooksRunFault, IsRefuted};
+ghost use Rattle.pg_cooks.specs.Cooks.{IsCookAnswer, IsCooksFault, IsCooksReport, IsCooksRunFault, IsRefuted};
+ghost use Rattle.pg_cooks.specs.declared.asked.Asked.{Asked};
 
 use crate::asked::{Asked, read_known};
 use crate::fault::{CooksFault, CooksRunFault};
@@ -54,6 +55,18 @@ pub fn run_games<W: Sink>(
     }
 }
 
+// Why nothing is found beside the games that texts spell.
+fn run_fault(fault: CooksFault) -> CooksRunFault
+    ensures { (asked : Asked) (failed : Bool) (d : Placement) (n : ℕ) (list : List (List Move))
+        → IsKnown asked d n list → IsCooksFault d n list fault → IsCooksRunFault asked failed result }
+{
+    match fault {
+        CooksFault::NoGame => CooksRunFault::NoGame,
+        CooksFault::Memory => CooksRunFault::Memory,
+        CooksFault::Listed(fault) => CooksRunFault::Run(RunFault::Check(Fault::Listed(fault))),
+    }
+}
+
 /// Reads a diagram, a length and a list of games as `run_games` does, looks for a game beside them as
 /// `cooks` does, and writes what is known then. The lines, each ended by a line feed: `diagram ` and the
 /// placement; `length ` and the length; `games ` and their number; the movetext of each game, in
@@ -97,11 +110,7 @@ pub fn run_cooks<P: LedProgress, W: Sink>(
         watch,
     ) {
         Ok(answer) => answer,
-        Err(CooksFault::NoGame) => return Err(CooksRunFault::NoGame),
-        Err(CooksFault::Memory) => return Err(CooksRunFault::Memory),
-        Err(CooksFault::Listed(fault)) => {
-            return Err(CooksRunFault::Run(RunFault::Check(Fault::Listed(fault))));
-        }
+        Err(fault) => return Err(run_fault(fault)),
     };
     match write_cooks(&problem.diagram, problem.length, games, &answer, out) {
         Ok(()) => Ok(answer),

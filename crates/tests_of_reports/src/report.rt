@@ -136,6 +136,7 @@ fn cooks<R: Abort + AllocGlobal, W: Sink>(
         Ok(CookAnswer::Cook(_)) => words(&"Cook"),
         Ok(CookAnswer::Shorter(_)) => words(&"Shorter"),
         Ok(CookAnswer::NotFound { .. }) => words(&"NotFound"),
+        Err(CooksRunFault::Run(fault)) => words(&format_args!("{fault:?}: {fault}")),
         Err(fault) => words(&format_args!("{fault:?}: {fault}")),
     }
 }

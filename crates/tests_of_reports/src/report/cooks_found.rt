@@ -21,11 +21,11 @@ fn shorter_games_or_none(rt: HostRuntime) {
 }
 
 // One text is bad, the first is told; a game is no solution; none is given.
-const REFUSED: &str = "cooks | 8/8 | 1. |  => Run(Diagram(Shape)): bad diagram
-cooks | after-e4-e5 | 1. |  => Run(Length(Shape)): bad length
-cooks | after-e4-e5 | 1.0 | 1. e4 e4 => Run(Games(At { line: 1, ply: 2, cause: NoSuchMove })): line 1, ply 2: no such legal move
-cooks | after-e4-e5 | 1.0 | 1. e4 e6 => Run(Check(Listed(NotReaching(0)))): game 1 does not end on the diagram
-cooks | after-e4-e5 | 1.0 | 1. e4 => Run(Check(Listed(WrongLength(0)))): game 1 does not have the stated length
+const REFUSED: &str = "cooks | 8/8 | 1. |  => Diagram(Rank): bad rank
+cooks | after-e4-e5 | 1. |  => Length(Shape): bad length
+cooks | after-e4-e5 | 1.0 | 1. e4 e4 => Games(At { line: 1, ply: 2, cause: NoSuchMove }): line 1, ply 2: no such legal move
+cooks | after-e4-e5 | 1.0 | 1. e4 e6 => Check(Listed(NotReaching(0))): game 1 does not end on the diagram
+cooks | after-e4-e5 | 1.0 | 1. e4 => Check(Listed(WrongLength(0))): game 1 does not have the stated length
 cooks | after-e4-e5 | 1.0 | $ => NoGame: no game to go by";
 
 #[test]
@@ -39,7 +39,7 @@ fn writes_of_cooks_that_fail(rt: HostRuntime) {
     check_row_writes(
         &rt,
         "cooks | two-orders | 1.5 | 1. e3 e6 2. d3 => Cook => diagram rnbqkbnr/pppp1ppp/4p3/8/8/3PP3/PPP2PPP/RNBQKBNR$length 1.5$games 1$1. e3 e6 2. d3$another game$1. d3 e6 2. e3$not sound$",
-        27,
+        33,
     );
 }
 

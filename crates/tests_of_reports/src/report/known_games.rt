@@ -31,10 +31,10 @@ fn games_of_every_kind(rt: HostRuntime) {
 }
 
 // One text is bad; two are, and the first is told; a game is too short and another ends elsewhere.
-const REFUSED: &str = "games | 8/8 | 1.0 | 1. e4 e5 => Diagram(Shape): bad diagram
+const REFUSED: &str = "games | 8/8 | 1.0 | 1. e4 e5 => Diagram(Rank): bad rank
 games | after-e4-e5 | 1. | 1. e4 e5 => Length(Shape): bad length
 games | after-e4-e5 | 1.0 | 1. e4 e4 => Games(At { line: 1, ply: 2, cause: NoSuchMove }): line 1, ply 2: no such legal move
-games | 8/8 | 1. | 1. e4 e4 => Diagram(Shape): bad diagram
+games | 8/8 | 1. | 1. e4 e4 => Diagram(Rank): bad rank
 games | after-e4-e5 | 1. | 1. e4 e4 => Length(Shape): bad length
 games | after-e4-e5 | 1.0 | 1. e4$1. e4 e4 => Games(At { line: 2, ply: 2, cause: NoSuchMove }): line 2, ply 2: no such legal move
 games | after-e4-e5 | 1.0 | 1. e4 e5$1. e4 e5 => Games(Repeated { line: 2 }): line 2: repeated game
@@ -53,7 +53,7 @@ fn writes_of_games_that_fail(rt: HostRuntime) {
     check_row_writes(
         &rt,
         "games | two-orders | 1.5 | 1. e3 e6 2. d3$1. d3 e6 2. e3$ => NotSound => diagram rnbqkbnr/pppp1ppp/4p3/8/8/3PP3/PPP2PPP/RNBQKBNR$length 1.5$games 2$1. d3 e6 2. e3$1. e3 e6 2. d3$not sound$",
-        27,
+        31,
     );
 }
 
