@@ -89,6 +89,20 @@ pub(crate) fn check_from<'a, R: Runtime + AllocGlobal, C: Read + Drop, W: Write 
     finished(answer, out)
 }
 
+// Says that the games are to be typed. A bad diagram or length is told before.
+pub(crate) fn ask_for_games<'a, R: Runtime + AllocGlobal>(
+    rt: &R,
+    words: &ArgMatches<'a>,
+) -> Result<(), Refusal<'a>> {
+    let diagram = words.get_str("DIAGRAM").unwrap_or("");
+    let length = words.get_str("LENGTH").unwrap_or("");
+    if let Err(fault) = Problem::read(diagram, length) {
+        return Err(Refusal::Check(fault));
+    }
+    let _ = eprintln!(rt; "pg: type the games, one a line; end with Ctrl-D on a line of its own");
+    Ok(())
+}
+
 // The list of games, from a file that is not the certificate's, or else from standard input. Where
 // somebody is to type it, a bad diagram or length is told before.
 fn games_of<'a, R: Runtime + AllocGlobal>(
@@ -102,16 +116,10 @@ fn games_of<'a, R: Runtime + AllocGlobal>(
         Some(path) if lead_to_one(rt, certificate, path) => {
             return Err(Refusal::Open(FileName(certificate)));
         }
-        None if screen.input => {
-            let diagram = words.get_str("DIAGRAM").unwrap_or("");
-            let length = words.get_str("LENGTH").unwrap_or("");
-            if let Err(fault) = Problem::read(diagram, length) {
-                return Err(Refusal::Check(fault));
-            }
-            let _ = eprintln!(rt;
-                "pg: type the games, one a line; end with Ctrl-D on a line of its own"
-            );
-        }
+        None if screen.input => match ask_for_games(rt, words) {
+            Ok(()) => {}
+            Err(refusal) => return Err(refusal),
+        },
         _ => {}
     }
     match list(rt, path) {

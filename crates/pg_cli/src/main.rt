@@ -1,10 +1,12 @@
 //! The program `pg`, the checker of shortest proof games: `pg show DIAGRAM`, `pg moves FEN`, `pg count FEN PLIES`,
+//! `pg games DIAGRAM LENGTH [GAMES]`, `pg cooks DIAGRAM LENGTH GAMES [--nodes N] [--foreign D]`,
 //! `pg check DIAGRAM LENGTH CERT [GAMES] [--records N]`, `pg search DIAGRAM LENGTH CERT [--nodes N]`,
 //! `pg why DIAGRAM LENGTH CERT MOVES [--records N]` and `pg upgrade OLD NEW [--records N]`.
 #![tactic(auto)]
 
 mod checking;
 mod guiding;
+mod knowing;
 mod positions;
 mod refusals;
 mod screen;
@@ -37,6 +39,8 @@ fn carry_out<'a, R: Runtime + AllocGlobal>(
         "show" => positions::show(rt, inner, bounds),
         "moves" => positions::moves(rt, inner),
         "count" => positions::count(rt, inner, screen.errors),
+        "games" => knowing::games(rt, inner, screen),
+        "cooks" => knowing::cooks(rt, inner, screen),
         "check" => checking::check(rt, inner, bounds, screen),
         "search" => searching::search(rt, inner, bounds, screen.errors),
         "why" => guiding::why(rt, inner, bounds, screen.errors),

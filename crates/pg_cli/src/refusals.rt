@@ -37,6 +37,9 @@ pub(crate) enum Refusal<'a> {
     /// The moves that are asked for are not one game.
     #[error("not one line of moves")]
     Line,
+    /// The list of games has none, where one is to go by.
+    #[error("no game to go by")]
+    NoGame,
     /// The list of games is not UTF-8.
     #[error("games are not UTF-8")]
     NotUtf8,
@@ -91,7 +94,7 @@ impl Refusal<'_> {
     {
         match self {
             Refusal::Open(_) | Refusal::Read | Refusal::Write => FILES,
-            Refusal::Words | Refusal::Line | Refusal::NotUtf8 => BAD_INPUT,
+            Refusal::Words | Refusal::Line | Refusal::NoGame | Refusal::NotUtf8 => BAD_INPUT,
             Refusal::Memory => MEMORY,
             Refusal::Show(fault) => show_status(fault),
             Refusal::Moves(fault) => moves_status(fault),

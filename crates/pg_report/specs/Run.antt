@@ -5,20 +5,15 @@ use Rattle.pg_position.specs.declared.moves.Move.{Move}
 use Rattle.pg_fen.specs.Fields.{fields}
 use Rattle.pg_fen.specs.DiagramText.{diagram_of}
 use Rattle.pg_fen.specs.Lengths.{length_of}
-use Rattle.pg_san.specs.Listing.{IsListing, IsTextFault}
+use Rattle.pg_san.specs.Listing.{IsTextFault}
 use Rattle.pg_checker.specs.Answer.{IsExactAnswer}
 use Rattle.pg_checker.specs.Check.{Accepts, Refuses}
 use Rattle.pg_checker.specs.Cuts.{CheckRules}
 use Rattle.pg_checker.specs.declared.certify.Proved.{Proved}
 use Rattle.pg_checker.specs.ProblemText.{IsProblemFault}
+pub use Rattle.pg_texts.specs.Spelled.{AreSpelled}
 use Rattle.pg_checker.specs.declared.fault.RunFault.{RunFault}
 use Rattle.pg_checker.specs.declared.fault.RunFault.TheVariants.{Diagram, Length, Games, Check, Write}
-
--- three texts spell the diagram d, a length of n plies and the list of games
-pub record AreSpelled (diagram length games : List ℕ) (d : Placement) (n : ℕ) (list : List (List Move)) : Type 0 where
-  pub diagram_is : diagram_of (fields diagram) ≡ Ok d
-  pub length_is : length_of length ≡ Ok n
-  pub games_are : IsListing games list
 
 -- why a check by the rules r ends without its report: the check does not say yes, for a cause that it has; or it did, and the sink has failed
 abbrev pub IsCheckFault : CheckRules → Placement → ℕ → List (List Move) → ℕ → ℕ → Option (List ℕ) → Bool → Bool → RunFault → Type 0

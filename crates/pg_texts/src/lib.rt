@@ -17,6 +17,6 @@ pub use counts::{run_count, run_count_watched};
 pub use fault::{CountRunFault, MovesFault, UpgradeFault};
 pub use moves::run_moves;
 pub use movetext::write_movetext;
-pub use report::write_report;
+pub use report::{write_game, write_games, write_head, write_line, write_report};
 pub use upgrading::upgrade;
 pub use verdict::Verdict;

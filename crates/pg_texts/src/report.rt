@@ -13,8 +13,11 @@ use pg_fen::{Diagram, Length};
 use pg_position::Move;
 use pg_san::Games;
 
-// Appends a text and a line feed.
-fn write_line<W: Sink>(text: &str, out: &mut W) -> Result<(), Refused>
+/// Appends a text and a line feed.
+///
+/// # Errors
+/// `Refused` where the sink has failed.
+pub fn write_line<W: Sink>(text: &str, out: &mut W) -> Result<(), Refused>
     ensures text { OnOk result (Appends (W.held out.old) (W.held out.new) (line_text text.now)) }
     ensures runs { OnOk result ((W.has_failed out.old ≡ false) × (W.has_failed out.new ≡ false)) }
     ensures fault { OnErr result (W.has_failed out.new ≡ true) }
@@ -33,8 +36,12 @@ fn write_labelled<W: Sink>(label: &str, text: &str, out: &mut W) -> Result<(), R
     write_line(text, out)
 }
 
-// Appends the lines that say what was asked, and how many games there are.
-fn write_head<W: Sink>(
+/// Appends the first lines of a report, each ended by a line feed: `diagram ` and the placement;
+/// `length ` and the length in moves; `games ` and their number, which is for the caller to know.
+///
+/// # Errors
+/// `Refused` where the sink has failed.
+pub fn write_head<W: Sink>(
     diagram: &Diagram,
     length: Length,
     count: usize,
@@ -49,8 +56,11 @@ fn write_head<W: Sink>(
     write_labelled("games ", digits(count).as_str(), out)
 }
 
-// Appends the movetext of a game, and a line feed.
-fn write_game<W: Sink>(game: &[Move], out: &mut W) -> Result<(), Refused>
+/// Appends the movetext of a game from the initial array, and a line feed.
+///
+/// # Errors
+/// `Refused` where the sink has failed.
+pub fn write_game<W: Sink>(game: &[Move], out: &mut W) -> Result<(), Refused>
     requires { IsFromArray game.now }
     ensures text { OnOk result ((text : List ℕ) × IsMovetext game.now text × Appends (W.held out.old) (W.held out.new) (line_text text)) }
     ensures runs { OnOk result ((W.has_failed out.old ≡ false) × (W.has_failed out.new ≡ false)) }
@@ -60,8 +70,11 @@ fn write_game<W: Sink>(game: &[Move], out: &mut W) -> Result<(), Refused>
     out.push(b"\n")
 }
 
-// Appends a line for each game of the list, in its order.
-fn write_games<W: Sink>(games: &Games, out: &mut W) -> Result<(), Refused>
+/// Appends the movetext of each game of the list, in canonical order, each ended by a line feed.
+///
+/// # Errors
+/// `Refused` where the sink has failed.
+pub fn write_games<W: Sink>(games: &Games, out: &mut W) -> Result<(), Refused>
     ensures lines { OnOk result ((text : List ℕ) × AreGameLines games.now text × Appends (W.held out.old) (W.held out.new) text) }
     ensures runs { OnOk result (W.has_failed out.new ≡ W.has_failed out.old) }
     ensures fault { OnErr result (W.has_failed out.new ≡ true) }

@@ -30,6 +30,25 @@ const MOVES_EXAMPLE: &str = "Example:
 const COUNT_EXAMPLE: &str = "Example:
   pg count 'rnbqkbnr/pppppppp/8/8/8/8/PPPPPPPP/RNBQKBNR w KQkq - 0 1' 4";
 
+const GAMES_EXAMPLE: &str =
+    "It tests that each game ends on the diagram, and prints them. With two games or
+more the last line is `not sound`, which no other game can change; no certificate
+is needed. With one game it is `at least one game`, with none `no game given`.
+
+Example:
+  printf '1. e3 e6 2. d3\n1. d3 e6 2. e3\n' >games
+  pg games rnbqkbnr/pppp1ppp/4p3/8/8/3PP3/PPP2PPP/RNBQKBNR 1.5 games || true";
+
+const COOKS_EXAMPLE: &str =
+    "The search keeps near the games of the list: first it plays their kinds of moves
+alone, then one other move, then two, and so on. A game that it finds is tested
+and printed, and `not sound` below it. Else the last line says how many other
+moves the games had that were gone through; that is no proof that there is none.
+
+Example:
+  echo '1. e3 e6 2. d3' >games
+  pg cooks rnbqkbnr/pppp1ppp/4p3/8/8/3PP3/PPP2PPP/RNBQKBNR 1.5 games || true";
+
 const CHECK_EXAMPLE: &str =
     "The report goes to standard output: the diagram, the length, the games, and
 `sound`, `cooked` or `no game`.
@@ -70,12 +89,15 @@ enum Word {
     Length,
     Certificate,
     Games,
+    Known,
     Moves,
     Draft,
     Old,
     New,
     Records,
     Nodes,
+    LedNodes,
+    Foreign,
 }
 
 // A command: its name, what it does, what stands below its help, and its words in their order.
@@ -86,7 +108,7 @@ struct Entry {
     words: &'static [Word],
 }
 
-const COMMANDS: [Entry; 7] = [
+const COMMANDS: [Entry; 9] = [
     Entry {
         name: "show",
         about: "Prints the board of a diagram, and what is known of it at once",
@@ -104,6 +126,24 @@ const COMMANDS: [Entry; 7] = [
         about: "Prints the number of games of so many plies from a position",
         below: COUNT_EXAMPLE,
         words: &[Word::Fen, Word::Plies],
+    },
+    Entry {
+        name: "games",
+        about: "Prints what a list of games shows by itself",
+        below: GAMES_EXAMPLE,
+        words: &[Word::Diagram, Word::Length, Word::Games],
+    },
+    Entry {
+        name: "cooks",
+        about: "Looks for another game, or a shorter one, near the games of a list",
+        below: COOKS_EXAMPLE,
+        words: &[
+            Word::Diagram,
+            Word::Length,
+            Word::Known,
+            Word::LedNodes,
+            Word::Foreign,
+        ],
     },
     Entry {
         name: "check",
@@ -183,6 +223,7 @@ fn arg_of<'a>(alloc: Global, word: Word) -> Arg<'a> {
         Word::Games => Arg::new(alloc, "GAMES").help(
             "A file with one game a line; standard input where it is missing",
         ),
+        Word::Known => wanted(alloc, "GAMES", "A file with one game a line, at least one"),
         Word::Moves => wanted(
             alloc,
             "MOVES",
@@ -209,6 +250,18 @@ fn arg_of<'a>(alloc: Global, word: Word) -> Arg<'a> {
             0,
             "Gives up where more nodes would be visited",
         ),
+        Word::LedNodes => limit(
+            alloc,
+            "nodes",
+            "10000000",
+            0,
+            "Gives up where more nodes would be visited",
+        ),
+        Word::Foreign => Arg::new(alloc, "foreign")
+            .long("foreign")
+            .value_name("D")
+            .value_parser(ValueParser::unsigned(0, 255))
+            .help("Tries at most so many moves of other kinds; no limit if it is missing"),
     }
 }
 

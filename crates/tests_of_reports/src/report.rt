@@ -1,9 +1,11 @@
 //! Reports, counts, moves and shown diagrams: what the tests share.
 
+mod cooks_found;
 mod drawings;
 mod faults;
 mod game_counts;
 mod growths;
+mod known_games;
 mod least_lengths;
 mod move_lists;
 mod refusals;
@@ -15,6 +17,10 @@ mod upgrades;
 use crate::shared::{
     MANY, Said, certificate, diagram_of, field, four_bounds, halves, length_of, lines_of, named,
     text_of, told, words,
+};
+use pg_cooks::{
+    Asked, CookAnswer, CooksRunFault, LedLimits, Standing, run_cooks as find_cooks,
+    run_games as test_games,
 };
 use pg_position::Move;
 use pg_report::*;
@@ -100,6 +106,43 @@ fn check<R: Abort + AllocGlobal, S: Source, W: Sink>(
     told(&answer)
 }
 
+// What is answered to a list of games by itself.
+fn games<R: Abort + AllocGlobal, W: Sink>(rt: &R, texts: [&str; 3], out: &mut W) -> Said {
+    let [diagram, length, games] = texts;
+    let asked = Asked {
+        diagram,
+        length,
+        games,
+    };
+    told(&test_games(rt.alloc(), &asked, out))
+}
+
+// What is found beside a list of games, in one word.
+fn cooks<R: Abort + AllocGlobal, W: Sink>(
+    rt: &R,
+    texts: [&str; 3],
+    limit: u64,
+    out: &mut W,
+) -> Said {
+    let [diagram, length, games] = texts;
+    let asked = Asked {
+        diagram,
+        length,
+        games,
+    };
+    let limits = LedLimits {
+        max_nodes: limit,
+        foreign: Some(3),
+    };
+    match find_cooks(rt.alloc(), &asked, limits, &mut Unwatched, out) {
+        Ok(CookAnswer::Cook(_)) => words(&"Cook"),
+        Ok(CookAnswer::Shorter(_)) => words(&"Shorter"),
+        Ok(CookAnswer::NotFound { .. }) => words(&"NotFound"),
+        Err(CooksRunFault::Run(fault)) => words(&format_args!("{fault:?}: {fault}")),
+        Err(fault) => words(&format_args!("{fault:?}: {fault}")),
+    }
+}
+
 // What a command answers: its word stands before its texts and the limit of records.
 fn obey<R: Abort + AllocGlobal, S: Source, W: Sink>(
     rt: &R,
@@ -110,7 +153,7 @@ fn obey<R: Abort + AllocGlobal, S: Source, W: Sink>(
     let command = field(asked, 0);
     let text = field(asked, 1);
     let number = field(asked, 2);
-    let games = field(asked, 3);
+    let list = field(asked, 3);
     let limit = field(asked, 4);
     let text = named(text);
     let plies = number.parse().unwrap_or(0);
@@ -118,11 +161,13 @@ fn obey<R: Abort + AllocGlobal, S: Source, W: Sink>(
     match command {
         "board" => told(&write_board(&diagram_of(rt, text), out)),
         "count" => told(&run_count(rt.alloc(), text, plies, out)),
+        "games" => games(rt, [text, number, list], out),
         "moves" => told(&run_moves(rt.alloc(), text, out)),
         "show" => told(&run_show(rt.alloc(), text, &four_bounds(rt), out)),
-        "report" => report(rt, [text, number, games], out),
+        "cooks" => cooks(rt, [text, number, list], limit, out),
+        "report" => report(rt, [text, number, list], out),
         "upgrade" => told(&upgrade(source, out, limit)),
-        _ => check(rt, [text, number, games], limit, source, out),
+        _ => check(rt, [text, number, list], limit, source, out),
     }
 }
 

@@ -1,0 +1,4 @@
+pub mod CookLemmas
+mod FoundLemmas
+mod KnownLemmas
+mod TextLemmas

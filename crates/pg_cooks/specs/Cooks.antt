@@ -1,0 +1,79 @@
+-- What is found beside a list of games, what that says of the problem, its report, and why there is none.
+use Rattle.std.specs.Prelude.{◌≡◌, ◌≢◌, ℕ, ◌<◌, Bool, Option, Some, None, List, [], ◌++◌, length, codes, decimal}
+use Rattle.std.specs.List.{Contains}
+use Rattle.pg_board.specs.Placement.{Placement}
+use Rattle.pg_position.specs.declared.moves.Move.{Move}
+use Rattle.pg_san.specs.Games.{IsFromArray}
+use Rattle.pg_texts.specs.Movetext.{IsMovetext}
+use Rattle.pg_texts.specs.Report.{line_text}
+use Rattle.pg_checker.specs.Answer.{IsSolution, AreSolutions}
+use Rattle.pg_checker.specs.Listed.{IsListFault}
+use Rattle.pg_cooks.specs.declared.asked.Asked.{Asked}
+use Rattle.pg_cooks.specs.declared.finding.CookAnswer.{CookAnswer}
+use Rattle.pg_cooks.specs.declared.finding.CookAnswer.TheVariants.{Cook, Shorter, NotFound}
+use Rattle.pg_cooks.specs.declared.fault.CooksFault.{CooksFault}
+use Rattle.pg_cooks.specs.declared.fault.CooksFault.TheVariants.{NoGame, Listed, Memory}
+use Rattle.pg_cooks.specs.declared.fault.CooksRunFault.{CooksRunFault}
+use Rattle.pg_cooks.specs.declared.fault.CooksRunFault.TheVariants as run
+use Rattle.pg_cooks.specs.Known.{IsKnown, IsKnownFault}
+use Rattle.pg_cooks.specs.Standing.{IsKnownText}
+use Rattle.pg_cooks.specs.Unsound.{IsUnsound, HasNoAnswer}
+
+-- ---- the answer
+-- another game: a solution that the list does not have; a shorter one: it has fewer plies, and is a solution for so many
+abbrev pub IsCookAnswer : Placement → ℕ → List (List Move) → CookAnswer → Type 0
+IsCookAnswer d n games (Cook game) = IsSolution d n game.items × ¬ Contains games game.items
+IsCookAnswer d n games (Shorter game) = (length game.items < n) × IsSolution d (length game.items) game.items
+IsCookAnswer d n games (NotFound foreign nodes) = Unit {0}
+
+-- what it says of the problem: with another game no list of one game is the exact answer; with a shorter one no list is
+abbrev pub IsRefuted : Placement → ℕ → CookAnswer → Type 0
+IsRefuted d n (Cook game) = IsUnsound d n
+IsRefuted d n (Shorter game) = HasNoAnswer d n
+IsRefuted d n (NotFound foreign nodes) = Unit {0}
+
+-- why there is no answer: the list is empty; else a listed game is no solution; else memory was refused
+abbrev pub IsCooksFault : Placement → ℕ → List (List Move) → CooksFault → Type 0
+IsCooksFault d n games NoGame = games ≡ []
+IsCooksFault d n games (Listed fault) = (games ≢ []) × IsListFault d n games fault
+IsCooksFault d n games Memory = (games ≢ []) × AreSolutions d n games
+
+-- ---- the report
+-- the game that is told is one from the initial array
+abbrev pub IsTold : CookAnswer → Type 0
+IsTold (Cook game) = IsFromArray game.items
+IsTold (Shorter game) = IsFromArray game.items
+IsTold (NotFound foreign nodes) = Unit {0}
+
+-- the movetext of a game that is found, and that the problem is not sound
+abbrev pub IsEndText : List Move → List ℕ → Type 0
+IsEndText game text = (line : List ℕ) × IsMovetext game line × (text ≡ line_text line ++ line_text (codes "not sound"))
+
+-- the line that says what the game is, and these two
+abbrev pub IsFoundText : List ℕ → List Move → List ℕ → Type 0
+IsFoundText what game text = (rest : List ℕ) × IsEndText game rest × (text ≡ what ++ rest)
+
+abbrev pub unfound_text : Option ℕ → List ℕ
+unfound_text (Some foreign) = codes "none with at most " ++ (decimal foreign ++ line_text (codes " moves of other kinds"))
+unfound_text None = line_text (codes "none found")
+
+-- the lines of an answer
+abbrev pub IsAnswerText : CookAnswer → List ℕ → Type 0
+IsAnswerText (Cook game) text = IsFoundText (line_text (codes "another game")) game.items text
+IsAnswerText (Shorter game) text = IsFoundText (codes "a game of " ++ (decimal (length game.items) ++ line_text (codes " plies"))) game.items text
+IsAnswerText (NotFound foreign nodes) text = text ≡ unfound_text foreign
+
+-- the report of a diagram, a length in plies, games that are known and what was found beside them
+pub record IsCooksReport (diagram : Placement) (plies : ℕ) (games : List (List Move)) (answer : CookAnswer) (text : List ℕ) : Type 0 where
+  pub front : List ℕ
+  pub last : List ℕ
+  pub is_front : IsKnownText diagram plies games front
+  pub is_last : IsAnswerText answer last
+  pub is : text ≡ front ++ last
+
+-- ---- refusals
+-- why the texts end without that report: they spell a problem and no game; or a problem and solutions of it, and memory was refused in the search; else as for the report of games alone
+abbrev pub IsCooksRunFault : Asked → Bool → CooksRunFault → Type 0
+IsCooksRunFault asked failed run.NoGame = (d : Placement) × (n : ℕ) × IsKnown asked d n []
+IsCooksRunFault asked failed run.Memory = (d : Placement) × (n : ℕ) × (list : List (List Move)) × IsKnown asked d n list × (list ≢ [])
+IsCooksRunFault asked failed (run.Run fault) = IsKnownFault asked failed fault

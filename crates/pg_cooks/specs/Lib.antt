@@ -1,0 +1,4 @@
+pub mod Standing
+pub mod Unsound
+pub mod Known
+pub mod Cooks

@@ -1,0 +1,21 @@
+//! What is known without a certificate: what a list of games shows by itself, and the games beside it that a
+//! search finds, each tested before it is told.
+#![tactic(auto)]
+
+mod asked;
+mod fault;
+mod finding;
+mod laws;
+mod run;
+mod standing;
+mod writing;
+
+pub use asked::Asked;
+pub use fault::{CooksFault, CooksRunFault};
+pub use finding::{CookAnswer, cooks};
+pub use laws::{not_sound_is_true, shorter_is_a_cook, two_are_a_cook, unlisted_is_a_cook};
+pub use run::{run_cooks, run_games};
+pub use standing::Standing;
+
+// What a caller needs of the search.
+pub use pg_searcher::{LedLimits, LedProgress};

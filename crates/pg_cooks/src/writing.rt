@@ -1,0 +1,126 @@
+//! The reports: of games that are known, and of what was found beside them.
+ghost use Rattle.std.specs.Prelude.{◌≡◌, ◌++◌, ℕ, List, true, false, IfOk, OnOk, OnErr, decimal, codes};
+ghost use Rattle.std.specs.Io.KnownBytes.{Appends};
+ghost use Rattle.pg_san.specs.Games.{IsFromArray};
+ghost use Rattle.pg_texts.specs.Report.{line_text};
+ghost use Rattle.pg_cooks.specs.Standing.{IsKnownText, IsStanding, IsGamesReport};
+ghost use Rattle.pg_cooks.specs.Cooks.{IsAnswerText, IsCooksReport, IsEndText, IsTold, unfound_text};
+
+use crate::finding::CookAnswer;
+use crate::standing::{Standing, standing_of, standing_words};
+use pg_certificate::{Refused, Sink};
+use pg_fen::text::digits;
+use pg_fen::{Diagram, Length};
+use pg_position::Move;
+use pg_san::Games;
+use pg_texts::{write_game, write_games, write_head, write_line};
+
+// Appends the lines that say what was asked, and the games that are known.
+fn write_known<W: Sink>(
+    diagram: &Diagram,
+    length: Length,
+    games: &Games,
+    out: &mut W,
+) -> Result<(), Refused>
+    ensures text { OnOk result ((text : List ℕ) × IsKnownText diagram.now length games.now text
+        × Appends (W.held out.old) (W.held out.new) text) }
+    ensures runs { OnOk result ((W.has_failed out.old ≡ false) × (W.has_failed out.new ≡ false)) }
+    ensures fault { OnErr result (W.has_failed out.new ≡ true) }
+{
+    write_head(diagram, length, games.len(), out)?;
+    write_games(games, out)
+}
+
+// Appends the report of games that are known; what they say.
+pub(crate) fn write_standing<W: Sink>(
+    diagram: &Diagram,
+    length: Length,
+    games: &Games,
+    out: &mut W,
+) -> Result<Standing, Refused>
+    ensures text { OnOk result ((text : List ℕ) × IsGamesReport diagram.now length games.now text
+        × Appends (W.held out.old) (W.held out.new) text) }
+    ensures standing { IfOk result (λ s. IsStanding games.now s) }
+    ensures runs { OnOk result ((W.has_failed out.old ≡ false) × (W.has_failed out.new ≡ false)) }
+    ensures fault { OnErr result (W.has_failed out.new ≡ true) }
+{
+    let standing = standing_of(games);
+    write_known(diagram, length, games, out)?;
+    write_line(standing_words(standing), out)?;
+    Ok(standing)
+}
+
+// Appends a text, a number, a text and a line feed.
+fn write_numbered<W: Sink>(before: &str, n: usize, behind: &str, out: &mut W) -> Result<(), Refused>
+    ensures text { OnOk result (Appends (W.held out.old) (W.held out.new) (before.now ++ (decimal n ++ line_text behind.now))) }
+    ensures runs { OnOk result ((W.has_failed out.old ≡ false) × (W.has_failed out.new ≡ false)) }
+    ensures fault { OnErr result (W.has_failed out.new ≡ true) }
+{
+    out.push(before.as_bytes())?;
+    out.push(digits(n).as_bytes())?;
+    write_line(behind, out)
+}
+
+// Appends the line that no game was found, and how far the search says that it went.
+fn write_unfound<W: Sink>(foreign: Option<u8>, out: &mut W) -> Result<(), Refused>
+    ensures text { OnOk result (Appends (W.held out.old) (W.held out.new) (unfound_text foreign)) }
+    ensures runs { OnOk result ((W.has_failed out.old ≡ false) × (W.has_failed out.new ≡ false)) }
+    ensures fault { OnErr result (W.has_failed out.new ≡ true) }
+{
+    match foreign {
+        Some(foreign) => {
+            let foreign = usize::from(foreign);
+            write_numbered("none with at most ", foreign, " moves of other kinds", out)
+        }
+        None => write_line("none found", out),
+    }
+}
+
+// Appends a game that was found, behind the line that says what it is.
+fn write_found<W: Sink>(game: &[Move], out: &mut W) -> Result<(), Refused>
+    requires { IsFromArray game.now }
+    ensures text { OnOk result ((text : List ℕ) × IsEndText game.now text × Appends (W.held out.old) (W.held out.new) text) }
+    ensures runs { OnOk result ((W.has_failed out.old ≡ false) × (W.has_failed out.new ≡ false)) }
+    ensures fault { OnErr result (W.has_failed out.new ≡ true) }
+{
+    write_game(game, out)?;
+    write_line("not sound", out)
+}
+
+// Appends the lines of what was found beside games that are known.
+fn write_answer<W: Sink>(answer: &CookAnswer, out: &mut W) -> Result<(), Refused>
+    requires { IsTold answer.now }
+    ensures text { OnOk result ((text : List ℕ) × IsAnswerText answer.now text × Appends (W.held out.old) (W.held out.new) text) }
+    ensures runs { OnOk result ((W.has_failed out.old ≡ false) × (W.has_failed out.new ≡ false)) }
+    ensures fault { OnErr result (W.has_failed out.new ≡ true) }
+{
+    match answer {
+        CookAnswer::Cook(game) => {
+            write_line("another game", out)?;
+            write_found(game.as_slice(), out)
+        }
+        CookAnswer::Shorter(game) => {
+            write_numbered("a game of ", game.len(), " plies", out)?;
+            write_found(game.as_slice(), out)
+        }
+        CookAnswer::NotFound { foreign, nodes: _ } => write_unfound(*foreign, out),
+    }
+}
+
+// Appends the report of games that are known and of what was found beside them.
+pub(crate) fn write_cooks<W: Sink>(
+    diagram: &Diagram,
+    length: Length,
+    games: &Games,
+    answer: &CookAnswer,
+    out: &mut W,
+) -> Result<(), Refused>
+    requires { IsTold answer.now }
+    ensures text { OnOk result ((text : List ℕ) × IsCooksReport diagram.now length games.now answer.now text
+        × Appends (W.held out.old) (W.held out.new) text) }
+    ensures runs { OnOk result ((W.has_failed out.old ≡ false) × (W.has_failed out.new ≡ false)) }
+    ensures fault { OnErr result (W.has_failed out.new ≡ true) }
+{
+    write_known(diagram, length, games, out)?;
+    write_answer(answer, out)
+}
