@@ -3,11 +3,12 @@ ghost use Rattle.std.specs.Prelude.{OnOk};
 ghost use Rattle.pg_cli.specs.Answers.{HasExactAnswer};
 
 use crate::checking::{NAMED, RECORDS};
-use crate::refusals::{DONE, Refusal};
+use crate::refusals::{DONE, Refusal, say};
+use crate::screen::Screen;
 use clap::ArgMatches;
 use pg_files::{FileFault, open};
 use pg_guide::{Asked, WhyFault, why as explain};
-use pg_report::{Bound, Refused, RunFault, Sink, ToWrite};
+use pg_report::{Bound, Fault, Refused, RunFault, SearchFault, Sink, ToWrite};
 use pg_streams::{Cleared, Gathered, Terminal, watch_records};
 use std::io;
 use std::io::{Read, Write};
@@ -17,6 +18,7 @@ use std::rt::Runtime;
 fn refusal_of<'a>(fault: WhyFault) -> Refusal<'a> {
     match fault {
         WhyFault::Moves => Refusal::Line,
+        WhyFault::TooMany => Refusal::Search(SearchFault::TooManyGames),
         WhyFault::Run(fault) => Refusal::Check(fault),
     }
 }
@@ -27,6 +29,26 @@ fn done<'a, W: Sink + Drop>(out: Gathered<W>) -> Result<u8, Refusal<'a>> {
         Ok(_) => Ok(DONE),
         Err(Refused) => Err(Refusal::Check(RunFault::Write)),
     }
+}
+
+// Whether the certificate itself is why there is no answer, or the games that it has.
+fn is_of_certificate(refusal: &Refusal<'_>) -> bool {
+    match refusal {
+        Refusal::Check(RunFault::Check(fault)) => !matches!(fault, Fault::Memory | Fault::Read),
+        Refusal::Search(_) => true,
+        _ => false,
+    }
+}
+
+// Ends an explanation with why the certificate is refused, which is said on standard error too: so not where both are
+// the same terminal.
+fn end<W: Sink + Drop>(out: Gathered<W>, refusal: &Refusal<'_>, screen: Screen) {
+    let mut out = out;
+    if is_of_certificate(refusal) && !(screen.output && screen.errors) {
+        let _ = say(refusal, &mut out);
+        let _ = out.push(b"\n");
+    }
+    let _ = out.finish();
 }
 
 // Explains a line by the certificate that each of three readers gives, and writes what it says. A status
@@ -43,12 +65,12 @@ pub(crate) fn why_from<'a, R: Runtime + AllocGlobal, C: Read + Drop, W: Write + 
     certificates: (C, C, C),
     out: W,
     records: u64,
-    screen: bool,
+    screen: Screen,
 ) -> Result<u8, Refusal<'a>>
     ensures right { OnOk result (HasExactAnswer asked.now.diagram.now asked.now.length.now) }
 {
     let (walked, checked, cited) = certificates;
-    let terminal = Terminal::new(screen);
+    let terminal = Terminal::new(screen.errors);
     let mut walked = watch_records(rt, &terminal, walked, records);
     let mut checked = watch_records(rt, &terminal, checked, records);
     let mut cited = watch_records(rt, &terminal, cited, records);
@@ -70,8 +92,9 @@ pub(crate) fn why_from<'a, R: Runtime + AllocGlobal, C: Read + Drop, W: Write + 
     match answer {
         Ok(()) => done(out),
         Err(fault) => {
-            let _ = out.finish();
-            Err(refusal_of(fault))
+            let refusal = refusal_of(fault);
+            end(out, &refusal, screen);
+            Err(refusal)
         }
     }
 }
@@ -89,7 +112,7 @@ pub(crate) fn why<'a, R: Runtime + AllocGlobal>(
     rt: &R,
     words: &ArgMatches<'a>,
     bounds: &[Box<dyn Bound>],
-    screen: bool,
+    screen: Screen,
 ) -> Result<u8, Refusal<'a>> {
     let path = words.get_str("CERT").unwrap_or("");
     let certificates = match open_thrice(rt, path) {

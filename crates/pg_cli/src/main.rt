@@ -43,7 +43,7 @@ fn carry_out<'a, R: Runtime + AllocGlobal>(
         "cooks" => knowing::cooks(rt, inner, screen),
         "check" => checking::check(rt, inner, bounds, screen),
         "search" => searching::search(rt, inner, bounds, screen.errors),
-        "why" => guiding::why(rt, inner, bounds, screen.errors),
+        "why" => guiding::why(rt, inner, bounds, screen),
         "upgrade" => upgrading::upgrade(rt, inner, screen.errors),
         _ => Ok(BAD_INPUT),
     }
@@ -144,6 +144,7 @@ fn program<R: Runtime + AllocGlobal>(rt: &R, screen: Screen) -> u8 {
 fn main(rt: HostRuntime) -> ExitCode {
     let screen = Screen {
         input: rt.stdin().is_terminal(),
+        output: rt.stdout().is_terminal(),
         errors: rt.stderr().is_terminal(),
     };
     ExitCode::from(program(&rt, screen))

@@ -1,8 +1,9 @@
 //! Which of the standard streams are terminals.
 
-// Whether standard input and standard error are terminals: somebody types the one and reads the other.
+// Whether the standard streams are terminals: somebody types the first and reads the others.
 #[derive(Clone, Copy)]
 pub(crate) struct Screen {
     pub(crate) input: bool,
+    pub(crate) output: bool,
     pub(crate) errors: bool,
 }

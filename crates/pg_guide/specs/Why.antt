@@ -1,5 +1,6 @@
 -- What an explanation says of the certificate, and what its refusals say.
 use Rattle.std.specs.Prelude.{◌≡◌, ◌≢◌, ◌⊎◌, ℕ, Bool, true, List, Option, Ok, Err, length as length_of_list}
+use Rattle.arrayvec.specs.ArrayVec.{ArrayVec}
 use Rattle.pg_board.specs.Placement.{Placement}
 use Rattle.pg_position.specs.declared.moves.Move.{Move}
 use Rattle.pg_fen.specs.Fields.{fields}
@@ -8,7 +9,7 @@ use Rattle.pg_fen.specs.Lengths.{length_of}
 use Rattle.pg_checker.specs.Answer.{IsExactAnswer, AreSolutions}
 use Rattle.pg_checker.specs.Check.{Accepts, Refuses}
 use Rattle.pg_checker.specs.declared.fault.Fault.{Fault}
-use Rattle.pg_checker.specs.declared.fault.Fault.TheVariants.{Memory, Read}
+use Rattle.pg_checker.specs.declared.fault.Fault.TheVariants.{Memory, Read, Unlisted}
 use Rattle.pg_san.specs.Listing.{IsListing, IsTextFault}
 use Rattle.pg_checker.specs.ProblemText.{IsProblemFault}
 use Rattle.pg_checker.specs.Cuts.{CheckRules}
@@ -17,7 +18,7 @@ use Rattle.pg_checker.specs.declared.fault.RunFault.TheVariants.{Diagram, Length
 use Rattle.pg_guide.specs.Stops.{HasSolution}
 use Rattle.pg_guide.specs.declared.explaining.Asked.{Asked}
 use Rattle.pg_guide.specs.declared.fault.WhyFault.{WhyFault}
-use Rattle.pg_guide.specs.declared.fault.WhyFault.TheVariants.{Moves, Run}
+use Rattle.pg_guide.specs.declared.fault.WhyFault.TheVariants.{Moves, TooMany, Run}
 
 -- What the check goes by: the rules, the limits, and the bytes that its source gives, where it tells them.
 pub record Terms : Type 0 where
@@ -54,6 +55,7 @@ IsOneLine text = (list : List (List Move)) × IsListing text list × (length_of_
 -- why a text is not the moves of one game: it is refused as a list of games, or it has none or more than one
 abbrev pub IsOneLineFault : List ℕ → WhyFault → Type 0
 IsOneLineFault text Moves = (list : List (List Move)) × IsListing text list × (length_of_list list ≢ 1)
+IsOneLineFault text TooMany = ⊥
 IsOneLineFault text (Run (Games fault)) = IsTextFault text fault
 IsOneLineFault text (Run fault) = ⊥
 
@@ -67,10 +69,22 @@ IsCertificateFault d n t failed fault =
     × Accepts (t.rules d n list) d list t.max_records t.max_named t.known (Err fault)
     × Refuses (t.rules d n list) d list t.max_records t.max_named t.known failed.checked (Err fault)))
 
+-- the fault of a check with a full list, or one with room, as a refusal: a full list of which the check tells one more game is too long
+abbrev pub IsRefusal : Bool → Fault → WhyFault → Type 0
+IsRefusal full fault e = ((e ≡ TooMany) × (full ≡ true) × ((game : ArrayVec Move) × (fault ≡ Unlisted game))) ⊎ (e ≡ Run (Check fault))
+
+-- more than 4,096 games of n plies end on d: so many different ones are known, and by the rules a check of the known bytes with
+-- these listed tells one more
+abbrev pub AreTooMany : Placement → ℕ → Terms → Bool → Type 0
+AreTooMany d n t failed = (list : List (List Move)) × (game : ArrayVec Move) × AreSolutions d n list × (length_of_list list ≡ 4096)
+    × Accepts (t.rules d n list) d list t.max_records t.max_named t.known (Err (Unlisted game))
+    × Refuses (t.rules d n list) d list t.max_records t.max_named t.known failed (Err (Unlisted game))
+
 -- why a line is not explained by a certificate that is right: a text is refused, the diagram first, then the length, then
 -- the moves; or none of them is, and the certificate is refused, or the sink has failed
 abbrev pub IsWhyFault : Asked → Terms → Failures → WhyFault → Type 0
 IsWhyFault asked t failed Moves = IsProblem asked × IsOneLineFault asked.moves.now Moves
+IsWhyFault asked t failed TooMany = IsOneLine asked.moves.now × ((d : Placement) × (n : ℕ) × Spells asked d n × AreTooMany d n t failed.checked)
 IsWhyFault asked t failed (Run (Diagram fault)) = IsProblemFault asked.diagram.now asked.length.now (Diagram fault)
 IsWhyFault asked t failed (Run (Length fault)) = IsProblemFault asked.diagram.now asked.length.now (Length fault)
 IsWhyFault asked t failed (Run (Games fault)) = IsProblem asked × IsTextFault asked.moves.now fault

@@ -1,20 +1,20 @@
 //! A line of moves is explained by a certificate.
-ghost use Rattle.std.specs.Prelude.{◌≡◌, ◌⊎◌, ℕ, List, Bool, true, false, length, IfOk, IfErr, OnOk};
+ghost use Rattle.std.specs.Prelude.{◌≡◌, ◌↔◌, ◌⊎◌, ℕ, List, Bool, IsTrue, true, false, length, IfOk, IfErr, OnOk};
 ghost use Rattle.pg_board.specs.Placement.{Placement};
 ghost use Rattle.pg_checker.specs.Cuts.{rules_by};
 ghost use Rattle.pg_san.specs.Listing.{IsListing};
 ghost use Rattle.pg_guide.specs.Stops.{EndsTruly, Finds, IsStopFault};
-ghost use Rattle.pg_guide.specs.Why.{IsOneLineFault, IsOneLine, IsProved, IsWhyFault};
+ghost use Rattle.pg_guide.specs.Why.{IsOneLineFault, IsOneLine, IsProved, IsRefusal, IsWhyFault};
 
 use crate::fault::WhyFault;
-use crate::machine::{Cited, Ending, Machine, Question, Stop};
+use crate::machine::{Machine, Question, Stop};
 use crate::walk::walk;
-use crate::writing::{put_found, put_verdict};
 use pg_captures::Bound;
-use pg_certificate::{Record, Sink, Source};
+use pg_certificate::{Record, Refused, Sink, Source};
 use pg_checker::{Fault, Problem, RunFault, check};
 use pg_position::Move;
 use pg_san::{Games, read_games};
+use pg_sentences::{Cited, Ending, Found, write_found};
 use std::alloc::Global;
 
 /// What is asked: the texts of a diagram, of a length in moves, and of the moves of one game from the
@@ -133,25 +133,40 @@ fn fault_of(stop: Stop) -> WhyFault
     }
 }
 
-// Writes what was found, and then the verdict of the check.
-fn tell<W: Sink>(
-    question: &Question,
-    found: &Findings,
-    fault: Option<&Fault>,
-    out: &mut W,
-) -> Result<(), WhyFault>
+// Writes what was found, if the whole certificate was walked over.
+fn tell<W: Sink>(question: &Question, found: &Findings, out: &mut W) -> Result<(), WhyFault>
+    ensures runs { OnOk result (W.has_failed out.new ≡ W.has_failed out.old) }
+    ensures err { IfErr result (λ e. (e ≡ WhyFault.Run RunFault.Write) × (W.has_failed out.new ≡ true)) }
+{
+    if !found.is_whole {
+        return Ok(());
+    }
+    let found = Found {
+        diagram: question.diagram,
+        plies: question.plies,
+        line: question.line,
+        tallies: found.machine.tallies.as_slice(),
+        ending: &found.machine.ending,
+        cited: &found.cited,
+    };
+    match write_found(&found, out) {
+        Ok(()) => Ok(()),
+        Err(Refused) => Err(WhyFault::Run(RunFault::Write)),
+    }
+}
+
+// Writes what was found, and that the certificate is right.
+fn tell_right<W: Sink>(question: &Question, found: &Findings, out: &mut W) -> Result<(), WhyFault>
     ensures runs { OnOk result (W.has_failed out.new ≡ false) }
     ensures err { IfErr result (λ e. (e ≡ WhyFault.Run RunFault.Write) × (W.has_failed out.new ≡ true)) }
 {
-    if found.is_whole {
-        match put_found(question, &found.machine, &found.cited, out) {
-            Ok(()) => {}
-            Err(_) => return Err(WhyFault::Run(RunFault::Write)),
-        }
+    match tell(question, found, out) {
+        Ok(()) => {}
+        Err(fault) => return Err(fault),
     }
-    match put_verdict(fault, out) {
+    match out.push(b"the certificate is right\n") {
         Ok(()) => Ok(()),
-        Err(_) => Err(WhyFault::Run(RunFault::Write)),
+        Err(Refused) => Err(WhyFault::Run(RunFault::Write)),
     }
 }
 
@@ -160,21 +175,44 @@ fn is_interrupted(fault: &Fault) -> bool {
     matches!(fault, Fault::Memory | Fault::Read)
 }
 
+// Whether a list has no room for one more game.
+fn is_full(games: &Games) -> bool
+    ensures { IsTrue result ↔ (length games.now ≡ 4096) }
+{
+    games.len() == 4096
+}
+
+// The fault of a check with a list of solutions that is full, or not, as a refusal.
+fn refusal_of(fault: Fault, is_full: bool) -> WhyFault
+    ensures { IsRefusal is_full fault result }
+{
+    match fault {
+        Fault::Unlisted(_) if is_full => WhyFault::TooMany,
+        fault => WhyFault::Run(RunFault::Check(fault)),
+    }
+}
+
 // The check does not say yes: what was found is written all the same, unless the check was stopped.
-fn refuse<W: Sink>(question: &Question, found: &Findings, fault: Fault, out: &mut W) -> WhyFault
-    ensures { ((result ≡ WhyFault.Run RunFault.Write) × (W.has_failed out.new ≡ true)) ⊎ (result ≡ WhyFault.Run (RunFault.Check fault)) }
+fn refuse<W: Sink>(
+    question: &Question,
+    found: &Findings,
+    fault: Fault,
+    is_full: bool,
+    out: &mut W,
+) -> WhyFault
+    ensures { ((result ≡ WhyFault.Run RunFault.Write) × (W.has_failed out.new ≡ true)) ⊎ IsRefusal is_full fault result }
 {
     if !is_interrupted(&fault) {
-        match tell(question, found, Some(&fault), out) {
+        match tell(question, found, out) {
             Ok(()) => {}
             Err(fault) => return fault,
         }
     }
-    WhyFault::Run(RunFault::Check(fault))
+    refusal_of(fault, is_full)
 }
 
 /// Explains what a certificate says along a line of moves, and writes that: a line for each ply to where
-/// the line or the proof ends, and last `the certificate is right`, or why it is not. docs/FORMATS.md has
+/// the line or the proof ends, and last `the certificate is right`, if it is. docs/FORMATS.md has
 /// the lines; no clause speaks of what is written. Ok means that the check said yes.
 ///
 /// The certificate is read up to three times, each time from its start: by `walked` for what stands along
@@ -187,10 +225,10 @@ fn refuse<W: Sink>(question: &Question, found: &Findings, fault: Fault, out: &mu
 /// In this order: `Run` with `Diagram` and `Length` where that text is refused, and with `Games` where the
 /// moves are, as a list of games; `Moves` where they are not one game; `Run` with `Check` where a reading
 /// fails, where memory is refused for a game that was found, and where the check does not say yes (never
-/// `Listed`, since each game that was found is a solution); `Run` with `Write` where the sink has failed.
-/// With a fault of the certificate what stands along the line is written all the same, if the whole
-/// certificate could be walked over, and the fault as the last line; with the others nothing is, but for
-/// what went out before `Write`.
+/// `Listed`, since each game that was found is a solution), but `TooMany` where 4,096 games were found and the check
+/// met one more; `Run` with `Write` where the sink has failed.
+/// With a fault of the certificate and with `TooMany` what stands along the line is written all the same, if the
+/// whole certificate could be walked over; with the others nothing is, but for what went out before `Write`.
 pub fn why<R: Source, W: Sink>(
     alloc: Global,
     asked: &Asked<'_>,
@@ -257,10 +295,10 @@ pub fn why<R: Source, W: Sink>(
         max_records,
         max_named,
     ) {
-        Ok(_) => match tell(&question, &found, None, out) {
+        Ok(_) => match tell_right(&question, &found, out) {
             Ok(()) => Ok(()),
             Err(fault) => Err(fault),
         },
-        Err(fault) => Err(refuse(&question, &found, fault, out)),
+        Err(fault) => Err(refuse(&question, &found, fault, is_full(&solutions), out)),
     }
 }

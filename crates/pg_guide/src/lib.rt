@@ -2,18 +2,11 @@
 //! Ok means that a check of the certificate said yes.
 #![tactic(auto)]
 
-mod counts;
 mod explaining;
 mod fault;
 mod machine;
-mod names;
-mod numbers;
 mod play;
-mod prices;
-mod sentences;
-mod travel;
 mod walk;
-mod writing;
 
 pub use explaining::{Asked, why};
 pub use fault::WhyFault;

@@ -1,10 +1,14 @@
 //! What the walk over a certificate holds.
 
 use arrayvec::ArrayVec;
+use pg_captures::{Bound, Captures, Promotions};
 use pg_certificate::{Record, RecordReader};
 use pg_fen::Diagram;
 use pg_moves::LegalMoves;
+use pg_pawns::PawnFiles;
 use pg_position::{Move, Position};
+use pg_sentences::{Cited, Ending, Tally};
+use pg_travel::Travel;
 
 // What is looked for: what the tree of the stated length says along a line of moves, or, on a second walk,
 // the node with this number.
@@ -14,29 +18,6 @@ pub(crate) struct Question<'a> {
     pub(crate) plies: u8,
     pub(crate) line: &'a [Move],
     pub(crate) wanted: Option<u32>,
-}
-
-// What an expanded node's children are: how many moves there are, how many of them lead to expanded nodes,
-// or with one ply left to the diagram, and how many to nodes that are cut in each way or refer. And how
-// many games below end on the diagram.
-#[derive(Clone, Copy, Default)]
-pub(crate) struct Tally {
-    pub(crate) moves: u16,
-    pub(crate) lead: u16,
-    pub(crate) captures: u16,
-    pub(crate) promotions: u16,
-    pub(crate) files: u16,
-    pub(crate) travel: u16,
-    pub(crate) others: u16,
-    pub(crate) references: u16,
-    pub(crate) games: u64,
-}
-
-// What ends a line: a leaf, which is on the diagram or not, or a record that has nothing below it.
-#[derive(Clone, Copy)]
-pub(crate) enum Ending {
-    Leaf(bool),
-    Said(Record),
 }
 
 // An open node: its position with the moves that are still to be played, the plies left below it,
@@ -60,15 +41,6 @@ impl Default for Frame {
             tally: Tally::default(),
         }
     }
-}
-
-// The node that was wanted: the line that leads there, the plies left there, and how many games below it
-// end on the diagram.
-#[derive(Drop)]
-pub(crate) struct Cited {
-    pub(crate) line: ArrayVec<Move, 128>,
-    pub(crate) left: u8,
-    pub(crate) games: u64,
 }
 
 // The record reader, how many records may still come, the plies of the tree that is walked, the open nodes,
@@ -96,32 +68,61 @@ pub(crate) enum Stop {
     Refused,
 }
 
-impl Tally {
-    // Counts a move to a node with this record.
-    pub(crate) fn count(&mut self, record: &Record) {
-        self.moves = self.moves.saturating_add(1);
-        let kind = match record {
-            Record::Expand { .. } => &mut self.lead,
-            Record::Cut(code) | Record::Priced { code, .. } => match code {
-                1 => &mut self.captures,
-                2 => &mut self.promotions,
-                3 => &mut self.files,
-                4 => &mut self.travel,
-                _ => &mut self.others,
-            },
-            Record::Ref(_) => &mut self.references,
-        };
-        *kind = kind.saturating_add(1);
+// The number of the children that are cut by a bound with this code.
+fn cut_by(tally: &mut Tally, code: u8) -> &mut u16 {
+    match code {
+        1 => &mut tally.captures,
+        2 => &mut tally.promotions,
+        3 => &mut tally.files,
+        4 => &mut tally.travel,
+        _ => &mut tally.others,
     }
+}
 
-    // Counts a move to a leaf, which is on the diagram or not.
-    pub(crate) fn count_leaf(&mut self, hit: bool) {
-        self.moves = self.moves.saturating_add(1);
-        if hit {
-            self.lead = self.lead.saturating_add(1);
-            self.games = self.games.saturating_add(1);
-        }
+// Counts a move to a node with this record.
+pub(crate) fn count(tally: &mut Tally, record: &Record) {
+    tally.moves = tally.moves.saturating_add(1);
+    let kind = match record {
+        Record::Expand { .. } => &mut tally.lead,
+        Record::Cut(code) | Record::Priced { code, .. } => cut_by(tally, *code),
+        Record::Ref(_) => &mut tally.references,
+    };
+    *kind = kind.saturating_add(1);
+}
+
+// Counts a move to a leaf, which is on the diagram or not.
+pub(crate) fn count_leaf(tally: &mut Tally, hit: bool) {
+    tally.moves = tally.moves.saturating_add(1);
+    if hit {
+        tally.lead = tally.lead.saturating_add(1);
+        tally.games = tally.games.saturating_add(1);
     }
+}
+
+// The code of the first bound of the four that excludes a position with so many plies left.
+fn first_code(diagram: &Diagram, position: &Position, left: u8) -> Option<u8> {
+    if Captures.excludes(diagram, position, left) {
+        Some(1)
+    } else if Promotions.excludes(diagram, position, left) {
+        Some(2)
+    } else if PawnFiles.excludes(diagram, position, left) {
+        Some(3)
+    } else if Travel.excludes(diagram, position, left) {
+        Some(4)
+    } else {
+        None
+    }
+}
+
+// A child with one ply left that was counted as one that leads on has no game below: it is counted as one that is
+// cut by the first bound that excludes there, as which most certificates do not write it down, or else as played out.
+pub(crate) fn recount(tally: &mut Tally, diagram: &Diagram, child: &Position) {
+    tally.lead = tally.lead.saturating_sub(1);
+    let kind = match first_code(diagram, child, 1) {
+        Some(code) => cut_by(tally, code),
+        None => &mut tally.played_out,
+    };
+    *kind = kind.saturating_add(1);
 }
 
 // The game that leads along open nodes, by the move that was played last at each.

@@ -14,18 +14,6 @@ pub(crate) fn after(position: &Position, m: &Move) -> Position
     position.after(m)
 }
 
-// The position after moves from the initial array, up to the first that is not legal.
-pub(crate) fn position_after(moves: &[Move]) -> Position {
-    let mut position = Position::array();
-    for m in moves {
-        match position.play(*m) {
-            Ok(next) => position = next,
-            Err(_) => return position,
-        }
-    }
-    position
-}
-
 // The last position of a game from the initial array; none where a move is not legal.
 pub(crate) fn end_of(game: &[Move]) -> Option<Position>
     ensures { MatchOption result (¬ IsFromArray game.now) (λ r. IsGame array_state game.now r) }

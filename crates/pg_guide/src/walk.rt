@@ -6,7 +6,7 @@ ghost use Rattle.pg_checker.specs.Answer.{IsSolution};
 ghost use Rattle.pg_guide.specs.Stops.{Finds, StopsTruly};
 ghost use Rattle.pg_guide.specs.declared.machine.Question.{Question};
 
-use crate::machine::{Cited, Ending, Frame, Machine, Question, Stop, Tally, game_along};
+use crate::machine::{Frame, Machine, Question, Stop, count, count_leaf, game_along, recount};
 use crate::play::{after, end_of};
 use arrayvec::ArrayVec;
 use pg_certificate::{ReadFault, Record, RecordReader, Source};
@@ -15,6 +15,7 @@ use pg_fen::Diagram;
 use pg_moves::LegalMoves;
 use pg_position::{Move, Position};
 use pg_san::{AddFault, Games};
+use pg_sentences::{Cited, Ending, Tally};
 
 // The next record.
 fn next<S: Source>(machine: &mut Machine, source: &mut S) -> Result<Record, Stop>
@@ -154,6 +155,18 @@ fn following(moves: &mut LegalMoves) -> Option<Move>
     }
 }
 
+// A node with one ply left and no game closes below a node on the line, which does not lead on by it.
+fn lead_nowhere(diagram: &Diagram, machine: &mut Machine, top: &Frame) {
+    if top.tally.games > 0 {
+        return;
+    }
+    if let Some(parent) = machine.frames.last_mut() {
+        if parent.on_line {
+            recount(&mut parent.tally, diagram, &top.moves.position());
+        }
+    }
+}
+
 // The moves of a node with one ply left are played, and it closes.
 fn leaves(
     question: &Question,
@@ -174,12 +187,13 @@ fn leaves(
             break;
         };
         let hit = question.diagram.matches(&after(&position, &m));
-        top.tally.count_leaf(hit);
+        count_leaf(&mut top.tally, hit);
         match leaf(question, machine, games, top.on_line, &m, hit) {
             Ok(()) => {}
             Err(stop) => return Err(stop),
         }
     }
+    lead_nowhere(question.diagram, machine, &top);
     close(question, machine, &top);
     Ok(())
 }
@@ -208,7 +222,7 @@ fn step<S: Source>(
         Ok(record) => record,
         Err(stop) => return Err(stop),
     };
-    top.tally.count(&record);
+    count(&mut top.tally, &record);
     match machine.frames.try_push(top) {
         Ok(()) => enter(machine, &next_position, left, &record, on_line),
         Err(_) => Err(Stop::Refused),

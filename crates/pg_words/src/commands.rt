@@ -228,7 +228,8 @@ fn arg_of<'a>(alloc: Global, word: Word) -> Arg<'a> {
             alloc,
             "MOVES",
             "The moves of a game from the array, as one word; - for none",
-        ),
+        )
+        .allow_hyphen_values(true),
         Word::Draft => wanted(
             alloc,
             "CERT",

@@ -43,7 +43,7 @@ fn refused_growths(rt: HostRuntime) {
         let (answer, bytes) = named_run(&rt, rt.alloc());
         match answer {
             Ok(()) => assert_eq!(rt; bytes, BYTES),
-            Err(WhyFault::Moves) => assert!(rt; false),
+            Err(WhyFault::Moves | WhyFault::TooMany) => assert!(rt; false),
             Err(WhyFault::Run(fault)) => {
                 let games = fault == RunFault::Games(GamesFault::Memory);
                 assert!(rt; games || fault == RunFault::Check(Fault::Memory));

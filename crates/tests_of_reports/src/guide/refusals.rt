@@ -21,12 +21,12 @@ fn texts_that_are_refused(rt: HostRuntime) {
 
 // Bounds that do not exclude the one move, one that is not known, and prices.
 const CUTS: &str =
-    "after-e4 | 0.5 | - | 2 after-e4 0.5 | 0201 => Run(Check(CutFails(1))): cut 1 does not exclude => at the start: cut by bound 1, which is not seen to exclude$cut 1 does not exclude$
-after-e4 | 0.5 | - | 2 after-e4 0.5 | 0202 => Run(Check(CutFails(2))): cut 2 does not exclude => at the start: cut by bound 2, which is not seen to exclude$cut 2 does not exclude$
-after-e4 | 0.5 | - | 2 after-e4 0.5 | 0203 => Run(Check(CutFails(3))): cut 3 does not exclude => at the start: cut by bound 3, which is not seen to exclude$cut 3 does not exclude$
-after-e4 | 0.5 | - | 2 after-e4 0.5 | 0204 => Run(Check(CutFails(4))): cut 4 does not exclude => at the start: cut by bound 4, which is not seen to exclude$cut 4 does not exclude$
-after-e4 | 0.5 | d4 | 2 after-e4 0.5 | 0209 => Run(Check(UnknownBound(9))): unknown bound 9 => at the start: cut by bound 9, which is not seen to exclude; the line goes on$unknown bound 9$
-after-e4 | 0.5 | - | 2 after-e4 0.5 | 060400010000 => Run(Check(CutFails(4))): cut 4 does not exclude => at the start: cut by bound 4, which is not seen to exclude$cut 4 does not exclude$";
+    "after-e4 | 0.5 | - | 2 after-e4 0.5 | 0201 => Run(Check(CutFails(1))): cut 1 does not exclude => at the start: cut by bound 1, which is not seen to exclude$
+after-e4 | 0.5 | - | 2 after-e4 0.5 | 0202 => Run(Check(CutFails(2))): cut 2 does not exclude => at the start: cut by bound 2, which is not seen to exclude$
+after-e4 | 0.5 | - | 2 after-e4 0.5 | 0203 => Run(Check(CutFails(3))): cut 3 does not exclude => at the start: cut by bound 3, which is not seen to exclude$
+after-e4 | 0.5 | - | 2 after-e4 0.5 | 0204 => Run(Check(CutFails(4))): cut 4 does not exclude => at the start: cut by bound 4, which is not seen to exclude$
+after-e4 | 0.5 | d4 | 2 after-e4 0.5 | 0209 => Run(Check(UnknownBound(9))): unknown bound 9 => at the start: cut by bound 9, which is not seen to exclude; the line goes on$
+after-e4 | 0.5 | - | 2 after-e4 0.5 | 060400010000 => Run(Check(CutFails(4))): cut 4 does not exclude => at the start: cut by bound 4, which is not seen to exclude$";
 
 #[test]
 fn cuts_that_do_not_hold(rt: HostRuntime) {
@@ -35,9 +35,9 @@ fn cuts_that_do_not_hold(rt: HostRuntime) {
 
 // To no node; and after Na3 to the root of the tree of one ply.
 const REFERENCES: &str =
-    "after-e4 | 0.5 | - | 2 after-e4 0.5 | 0300000007 => Run(Check(RefUnknown)): reference to no closed node => at the start: a reference to no closed node$reference to no closed node$
-after-e4-e5 | 1.0 | Na3 | 2 after-e4-e5 1.0 | 0501 0300000000 01*19 => Run(Check(RefDiffers)): reference to another position => at the start: 19 of 20 moves lead on; cut 1 by reference; 1 game below$after 1. Na3: as at the start, which is another position, below which no game ends on the diagram$reference to another position$
-after-e4 | 1.0 | Na3 | 2 after-e4 1.0 | 0501 0300000000 01*19 => Run(Check(Shorter(1))): a game of 1 plies reaches the diagram => at the start: 19 of 20 moves lead on; cut 1 by reference; no game below$after 1. Na3: as at the start, which is another position, below which a game ends on the diagram$a game of 1 plies reaches the diagram$";
+    "after-e4 | 0.5 | - | 2 after-e4 0.5 | 0300000007 => Run(Check(RefUnknown)): reference to no closed node => at the start: a reference to no closed node$
+after-e4-e5 | 1.0 | Na3 | 2 after-e4-e5 1.0 | 0501 0300000000 01*19 => Run(Check(RefDiffers)): reference to another position => at the start: 19 of 20 moves lead on; cut 1 by reference; 1 game below$after 1. Na3: as at the start, which is another position, below which no game ends on the diagram$
+after-e4 | 1.0 | Na3 | 2 after-e4 1.0 | 0501 0300000000 01*19 => Run(Check(Shorter(1))): a game of 1 plies reaches the diagram => at the start: 19 of 20 moves lead on; cut 1 by reference; no game below$after 1. Na3: as at the start, which is another position, below which a game ends on the diagram$";
 
 #[test]
 fn references_that_do_not_hold(rt: HostRuntime) {
@@ -47,12 +47,12 @@ fn references_that_do_not_hold(rt: HostRuntime) {
 // What cannot be walked to its end is not explained: records that are no certificate of e4, and the header of
 // another problem, of e4 in two plies.
 const WRONG: &str =
-    "after-e4 | 0.5 | e4 | 2 after-e4 0.5 |  => Run(Check(Truncated)): truncated certificate => truncated certificate$
-after-e4 | 0.5 | e4 | 2 after-e4 0.5 | 02 => Run(Check(Truncated)): truncated certificate => truncated certificate$
-after-e4 | 0.5 | e4 | 2 after-e4 0.5 | 0101 => Run(Check(Trailing)): bytes after the certificate => bytes after the certificate$
-after-e4 | 0.5 | e4 | 2 after-e4 0.5 | 04 => Run(Check(UnknownRecord(4))): unknown record byte 4 => unknown record byte 4$
-after-e4 | 0.5 | - | 1 after-e4 1.0 | 01*22 => Run(Check(OtherLength)): certificate for another length => certificate for another length$
-after-e4-e5 | 1.0 | - | 1 after-e4 1.0 | 01*22 => Run(Check(OtherDiagram)): certificate for another diagram => certificate for another diagram$";
+    "after-e4 | 0.5 | e4 | 2 after-e4 0.5 |  => Run(Check(Truncated)): truncated certificate
+after-e4 | 0.5 | e4 | 2 after-e4 0.5 | 02 => Run(Check(Truncated)): truncated certificate
+after-e4 | 0.5 | e4 | 2 after-e4 0.5 | 0101 => Run(Check(Trailing)): bytes after the certificate
+after-e4 | 0.5 | e4 | 2 after-e4 0.5 | 04 => Run(Check(UnknownRecord(4))): unknown record byte 4
+after-e4 | 0.5 | - | 1 after-e4 1.0 | 01*22 => Run(Check(OtherLength)): certificate for another length
+after-e4-e5 | 1.0 | - | 1 after-e4 1.0 | 01*22 => Run(Check(OtherDiagram)): certificate for another diagram";
 
 #[test]
 fn certificates_that_are_refused(rt: HostRuntime) {

@@ -1,4 +1,3 @@
-use Rattle.std.proofs.Common.{inr}
 use Rattle.pg_checker.specs.Cuts.{rules_by}
 use Rattle.pg_guide.proofs.FindLemmas.{all_found}
 use Rattle.pg_guide.proofs.WhyLemmas.{bad_certificate, bad_line, stopped_early, untold}
@@ -23,14 +22,14 @@ returns-clause-err g c =
     bad_certificate c.args.asked.now
     (record { rules = rules_by (λ b. (goal.Bound-dyn g (b.vtable, b.value)).code_of b.value) (λ b. (goal.Bound-dyn g (b.vtable, b.value)).excluded b.value) c.args.bounds.now; max_records = c.args.max_records; max_named = c.args.max_named; known = g.R.Source.left c.args.checked.now })
     (record { walked = g.R.Source.has_failed c.found.new.walked; cited = g.R.Source.has_failed c.found.new.cited; checked = g.R.Source.has_failed c.check.new.source; sink = g.W.Sink.has_failed c.refuse.new.out })
-    c.in-Ok.problem.diagram c.in-Ok.problem.length c.in-Err-check.fault c.refuse.result (c.in-Ok.ensures.ok.0, c.in-Ok.ensures.ok.1) (c.in-Ok-line_of.games, c.in-Ok-line_of.ensures.listing.0, c.in-Ok-line_of.ensures.listing.1) c.refuse.ensures
-    (inr (inr (c.found.new.games, found, c.in-Err-check.ensures.accepted, c.in-Err-check.ensures.refused)))
+    c.in-Ok.problem.diagram c.in-Ok.problem.length c.found.new.games c.is_full.result c.in-Err-check.fault c.refuse.result (c.in-Ok.ensures.ok.0, c.in-Ok.ensures.ok.1) (c.in-Ok-line_of.games, c.in-Ok-line_of.ensures.listing.0, c.in-Ok-line_of.ensures.listing.1)
+    c.is_full.ensures c.refuse.ensures (record { are = found; accepted = c.in-Err-check.ensures.accepted; refused = c.in-Err-check.ensures.refused })
 
-pub returns-in-Ok-tell-clause-right : goal.returns-in-Ok-tell-clause-right
-returns-in-Ok-tell-clause-right g c = (c.in-Ok.problem.diagram, c.in-Ok.problem.length, c.found.new.games, c.in-Ok.ensures.ok.0, c.in-Ok.ensures.ok.1, c.in-Ok-check.ensures.headline, (c.in-Ok-check.field-0, c.in-Ok-check.ensures.accepted))
+pub returns-in-Ok-tell_right-clause-right : goal.returns-in-Ok-tell_right-clause-right
+returns-in-Ok-tell_right-clause-right g c = (c.in-Ok.problem.diagram, c.in-Ok.problem.length, c.found.new.games, c.in-Ok.ensures.ok.0, c.in-Ok.ensures.ok.1, c.in-Ok-check.ensures.headline, (c.in-Ok-check.field-0, c.in-Ok-check.ensures.accepted))
 
 pub returns-in-Ok-check-clause-err : goal.returns-in-Ok-check-clause-err
 returns-in-Ok-check-clause-err g c = untold c.args.asked.now
     (record { rules = rules_by (λ b. (goal.Bound-dyn g (b.vtable, b.value)).code_of b.value) (λ b. (goal.Bound-dyn g (b.vtable, b.value)).excluded b.value) c.args.bounds.now; max_records = c.args.max_records; max_named = c.args.max_named; known = g.R.Source.left c.args.checked.now })
-    (record { walked = g.R.Source.has_failed c.found.new.walked; cited = g.R.Source.has_failed c.found.new.cited; checked = g.R.Source.has_failed c.check.new.source; sink = g.W.Sink.has_failed c.tell.new.out })
-    c.in-Err-tell.fault (c.in-Ok.problem.diagram, c.in-Ok.problem.length, (c.in-Ok.ensures.ok.0, c.in-Ok.ensures.ok.1)) (c.in-Ok-line_of.games, c.in-Ok-line_of.ensures.listing.0, c.in-Ok-line_of.ensures.listing.1) c.in-Err-tell.ensures.err
+    (record { walked = g.R.Source.has_failed c.found.new.walked; cited = g.R.Source.has_failed c.found.new.cited; checked = g.R.Source.has_failed c.check.new.source; sink = g.W.Sink.has_failed c.tell_right.new.out })
+    c.in-Err-tell_right.fault (c.in-Ok.problem.diagram, c.in-Ok.problem.length, (c.in-Ok.ensures.ok.0, c.in-Ok.ensures.ok.1)) (c.in-Ok-line_of.games, c.in-Ok-line_of.ensures.listing.0, c.in-Ok-line_of.ensures.listing.1) c.in-Err-tell_right.ensures.err

@@ -1,6 +1,6 @@
 //! What is said of a node that ends.
 
-use crate::machine::Ending;
+use crate::found::Ending;
 use crate::numbers::{Node, captures_of, files_of, promotions_of};
 use crate::prices::prices_of;
 use crate::travel::travel_of;
@@ -29,6 +29,16 @@ fn reason(node: &Node, code: u8) -> Option<Sentence> {
         Some(text) => Some(text),
         None => reason_of(node, code, Color::Black),
     }
+}
+
+// Why the first bound that excludes a node does; none where no bound is seen to.
+pub(crate) fn first_reason(node: &Node) -> Option<Sentence> {
+    for code in 1..5u8 {
+        if let Some(text) = reason(node, code) {
+            return Some(text);
+        }
+    }
+    None
 }
 
 // What is said of a cut, with why it excludes.

@@ -2,17 +2,26 @@
 ghost use Rattle.std.specs.Prelude.{◌≡◌, true, false, OnOk, OnErr};
 
 use crate::counts::expanded;
-use crate::machine::{Cited, Ending, Machine, Question};
-use crate::names::many;
+use crate::found::{Cited, Ending, Found};
 use crate::numbers::Node;
-use crate::play::position_after;
 use crate::sentences::{Sentence, ended};
-use arrayvec::ArrayString;
+use crate::tally::Tally;
 use pg_certificate::{Refused, Sink};
-use pg_checker::Fault;
 use pg_position::{Move, Position};
 use pg_texts::write_movetext;
 use std::fmt::Write;
+
+// The position after moves from the initial array, up to the first that is not legal.
+fn position_after(moves: &[Move]) -> Position {
+    let mut position = Position::array();
+    for m in moves {
+        match position.play(*m) {
+            Ok(next) => position = next,
+            Err(_) => return position,
+        }
+    }
+    position
+}
 
 // The moves before a ply, as far as there are any.
 fn front(line: &[Move], plies: usize) -> &[Move] {
@@ -94,8 +103,8 @@ fn put_reference<W: Sink>(
 }
 
 // Whether the line goes on after so many plies, in words.
-fn more_words(question: &Question, plies: usize) -> &'static str {
-    if plies < question.line.len() {
+fn more_words(found: &Found, plies: usize) -> &'static str {
+    if plies < found.line.len() {
         "; the line goes on"
     } else {
         ""
@@ -103,31 +112,30 @@ fn more_words(question: &Question, plies: usize) -> &'static str {
 }
 
 // The plies that are left after so many.
-fn plies_after(question: &Question, plies: usize) -> u8 {
+fn plies_after(found: &Found, plies: usize) -> u8 {
     let gone = plies.min(255) as u8;
-    question.plies.saturating_sub(gone)
+    found.plies.saturating_sub(gone)
 }
 
-// Appends the line of what ends the line, after so many plies.
+// Appends the line of what ends the line of moves, after so many plies.
 fn put_ending<W: Sink>(
-    question: &Question,
+    found: &Found,
     plies: usize,
     ending: &Ending,
-    cited: &Option<Cited>,
     out: &mut W,
 ) -> Result<(), Refused>
     ensures runs { OnOk result ((W.has_failed out.old ≡ false) × (W.has_failed out.new ≡ false)) }
     ensures fault { OnErr result (W.has_failed out.new ≡ true) }
 {
-    let moves = front(question.line, plies);
-    let more = more_words(question, plies);
-    let left = plies_after(question, plies);
-    if let Some(cited) = cited {
+    let moves = front(found.line, plies);
+    let more = more_words(found, plies);
+    let left = plies_after(found, plies);
+    if let Some(cited) = found.cited {
         return put_reference(moves, left, cited, more, out);
     }
     let position = position_after(moves);
     let node = Node {
-        diagram: question.diagram,
+        diagram: found.diagram,
         position: &position,
         left,
     };
@@ -136,50 +144,43 @@ fn put_ending<W: Sink>(
     put_line(moves, &said, out)
 }
 
+// What is said of an expanded node on the line, after so many plies.
+fn expanded_after(found: &Found, plies: usize, tally: &Tally) -> Sentence {
+    let position = position_after(front(found.line, plies));
+    let node = Node {
+        diagram: found.diagram,
+        position: &position,
+        left: plies_after(found, plies),
+    };
+    expanded(&node, tally)
+}
+
 // Appends a line for each expanded node on the line, from the array on.
-fn put_expanded<W: Sink>(question: &Question, machine: &Machine, out: &mut W) -> Result<(), Refused>
+fn put_expanded<W: Sink>(found: &Found, out: &mut W) -> Result<(), Refused>
     ensures runs { OnOk result (W.has_failed out.new ≡ W.has_failed out.old) }
     ensures fault { OnErr result (W.has_failed out.new ≡ true) }
 {
     let mut plies = 0usize;
-    for tally in machine.tallies.as_slice().iter().rev() {
-        let said = expanded(tally, plies_after(question, plies));
-        put_line(front(question.line, plies), &said, out)?;
+    for tally in found.tallies.iter().rev() {
+        let said = expanded_after(found, plies, tally);
+        put_line(front(found.line, plies), &said, out)?;
         plies = plies.saturating_add(1);
     }
     Ok(())
 }
 
-// Appends what was found along the line: a line for each node to where the proof ends it.
-pub(crate) fn put_found<W: Sink>(
-    question: &Question,
-    machine: &Machine,
-    cited: &Option<Cited>,
-    out: &mut W,
-) -> Result<(), Refused>
+/// Appends what was found along a line of moves: a line of text for each expanded node, from the initial array on, and
+/// one for what ends the line of moves. docs/FORMATS.md has the sentences; no clause speaks of them.
+///
+/// # Errors
+/// `Refused` where the sink has failed.
+pub fn write_found<W: Sink>(found: &Found, out: &mut W) -> Result<(), Refused>
     ensures runs { OnOk result (W.has_failed out.new ≡ W.has_failed out.old) }
     ensures fault { OnErr result (W.has_failed out.new ≡ true) }
 {
-    put_expanded(question, machine, out)?;
-    match &machine.ending {
-        Some(ending) => put_ending(question, machine.tallies.len(), ending, cited, out),
+    put_expanded(found, out)?;
+    match found.ending {
+        Some(ending) => put_ending(found, found.tallies.len(), ending, out),
         None => Ok(()),
     }
-}
-
-// Appends the last line: that the certificate is right, or why it is refused.
-pub(crate) fn put_verdict<W: Sink>(fault: Option<&Fault>, out: &mut W) -> Result<(), Refused>
-    ensures runs { OnOk result ((W.has_failed out.old ≡ false) × (W.has_failed out.new ≡ false)) }
-    ensures fault { OnErr result (W.has_failed out.new ≡ true) }
-{
-    let Some(fault) = fault else {
-        return out.push(b"the certificate is right\n");
-    };
-    let mut text: ArrayString<64> = ArrayString::new();
-    let _ = write!(text, "{fault}");
-    out.push(text.as_str().as_bytes())?;
-    if let Fault::Unlisted(game) = fault {
-        put_moves(game.as_slice(), out)?;
-    }
-    out.push(b"\n")
 }

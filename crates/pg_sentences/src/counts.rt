@@ -1,8 +1,9 @@
 //! What is said of an expanded node.
 
-use crate::machine::Tally;
 use crate::names::many;
-use crate::sentences::Sentence;
+use crate::numbers::Node;
+use crate::sentences::{Sentence, first_reason};
+use crate::tally::Tally;
 use std::fmt::Write;
 
 // How many moves of so many do something, as in `7 of 28 moves lead on`.
@@ -41,22 +42,44 @@ fn write_cuts(tally: &Tally, text: &mut Sentence) {
     }
 }
 
-// What is said of an expanded node with so many plies left: of its moves, and of the games below.
-pub(crate) fn expanded(tally: &Tally, left: u8) -> Sentence {
+// How many children were played out without a game, and how many games are below.
+fn write_games(tally: &Tally, text: &mut Sentence) {
+    if tally.played_out > 0 {
+        let played_out = tally.played_out;
+        let _ = write!(text, "; {played_out} played out");
+    }
+    let games = many(tally.games, "game", "games");
+    let games = games.as_str();
+    let _ = write!(text, "; {games} below");
+}
+
+// What is said of an expanded node with one ply left: how many moves end on the diagram, and where none does the
+// bound that excludes there, if one does.
+fn last_ply(node: &Node, tally: &Tally) -> Sentence {
+    let mut text = Sentence::new();
+    let (one, more) = ("ends on the diagram", "end on the diagram");
+    write_share(tally.lead, tally.moves, one, more, &mut text);
+    if tally.lead == 0 {
+        if let Some(reason) = first_reason(node) {
+            let reason = reason.as_str();
+            let _ = write!(text, ": {reason}");
+        }
+    }
+    text
+}
+
+// What is said of an expanded node: of its moves, and of the games below.
+pub(crate) fn expanded(node: &Node, tally: &Tally) -> Sentence {
+    if tally.moves > 0 && node.left == 1 {
+        return last_ply(node, tally);
+    }
     let mut text = Sentence::new();
     if tally.moves == 0 {
         let _ = write!(text, "no move is legal");
         return text;
     }
-    if left == 1 {
-        let (one, more) = ("ends on the diagram", "end on the diagram");
-        write_share(tally.lead, tally.moves, one, more, &mut text);
-        return text;
-    }
     write_share(tally.lead, tally.moves, "leads on", "lead on", &mut text);
     write_cuts(tally, &mut text);
-    let games = many(tally.games, "game", "games");
-    let games = games.as_str();
-    let _ = write!(text, "; {games} below");
+    write_games(tally, &mut text);
     text
 }
