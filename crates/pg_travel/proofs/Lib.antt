@@ -4,3 +4,7 @@ pub mod PawnRows
 pub mod PromotedRows
 pub mod Within
 pub mod PriceLemmas
+pub mod RowTables
+pub mod SourceLemmas
+pub mod LeastRows
+pub mod Sides

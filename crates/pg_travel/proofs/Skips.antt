@@ -41,7 +41,7 @@ color_sym White Black = refl
 color_sym Black White = refl
 color_sym Black Black = refl
 
-cost_none : (b : Placement) (c : Color) (way : Option Wing) (t : ℕ) (o : Option Man) → is_of c o ≡ false → cost_of b c way t o ≡ 0
+pub cost_none : (b : Placement) (c : Color) (way : Option Wing) (t : ℕ) (o : Option Man) → is_of c o ≡ false → cost_of b c way t o ≡ 0
 cost_none b c way t None e = refl
 cost_none b c way t (Some m) e = ap (λ (x : Bool). cond x (nearest b c way m.kind t) 0) (color_sym c m.color ∙ e)
 

@@ -1,13 +1,12 @@
 -- Sums that stop at a limit. Leads to the contracts of `total_within`, `pays` and `excludes_for`.
-use Rattle.std.proofs.Common.{◌≡◌, ◌≢◌, ℕ, zero, suc, ◌+◌, ◌*◌, ◌<◌, ◌≤◌, ◌⊎◌, ◌&&◌, ◌^◌, inl, inr, not, nat_eq, Bool, true, false, cond, Option, Some, None, bit_and, bit_or, count_ones, refl, sym, ap, subst, arith, ◌∙◌, w64, ◌-◌, IsTrue, ◌↔◌, leb, ◌||◌}
+use Rattle.std.proofs.Common.{◌≡◌, ◌≢◌, ℕ, zero, suc, ◌+◌, ◌*◌, ◌<◌, ◌≤◌, ◌⊎◌, ◌&&◌, inl, inr, not, nat_eq, Bool, true, false, cond, Option, Some, None, count_ones, refl, sym, ap, subst, arith, ◌∙◌, IsTrue, ◌↔◌, leb, ◌||◌}
 use Rattle.std.proofs.lemmas.Bool.Decides.{eqb_tells, leb_tells}
 use Rattle.std.proofs.lemmas.Bool.{ne_eqb}
-use Rattle.std.specs.Int.{bit_not}
 use Rattle.pg_board.specs.declared.man.Color.{Color}
 use Rattle.pg_board.specs.declared.man.Color.TheVariants.{White, Black}
 use Rattle.pg_board.specs.declared.man.Kind.{Kind}
 use Rattle.pg_board.specs.declared.man.Man.{Man}
-use Rattle.pg_board.specs.Bits.{has, has-and, or_out, ones-count}
+use Rattle.pg_board.specs.Bits.{has}
 use Rattle.pg_board.specs.Men.{man, is_of, color_eq}
 use Rattle.pg_board.specs.lemmas.Equalities.{color_decides}
 use Rattle.pg_board.specs.SquareSets.{IsSetOf}
@@ -19,7 +18,6 @@ use Rattle.pg_position.specs.declared.rights.Wing.TheVariants.{KingSide, QueenSi
 use Rattle.pg_position.specs.declared.state.State.{State}
 use Rattle.pg_position.specs.Position.{holds}
 use Rattle.pg_position.specs.Squares.{king_home, rook_home, king_crossed, king_target, IsCastlingHome}
-use Rattle.pg_board.proofs.SetLemmas.{has-not}
 use Rattle.pg_captures.specs.Owed.{plies_left}
 use Rattle.pg_travel.specs.Origins.{charge, counted}
 use Rattle.pg_travel.specs.numbers.Formulas.{distance_of}

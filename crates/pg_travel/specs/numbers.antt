@@ -3,3 +3,5 @@ pub mod Promoted
 pub mod Costs
 pub mod Within
 pub mod PriceTests
+pub mod DistanceRows
+pub mod LeastRows

@@ -1,21 +1,52 @@
 //! The test of price lists.
-ghost use Rattle.std.specs.Prelude.{◌↔◌, IsTrue};
+ghost use Rattle.std.specs.Prelude.{◌≡◌, ◌↔◌, IsTrue, IfSome};
 ghost use Rattle.pg_position.specs.Game.{Barren};
-ghost use Rattle.pg_captures.specs.PriceLists.{list_of};
+ghost use Rattle.pg_captures.specs.Counting.{any_man};
+ghost use Rattle.pg_captures.specs.PriceLists.{list_of, IsPriced};
 ghost use Rattle.pg_price_lists.specs.PriceRecords.{list_at};
 ghost use Rattle.pg_travel.specs.TravelPrices.{WayPricesExclude, TravelPricesExclude};
-ghost use Rattle.pg_travel.specs.numbers.PriceTests.{OneExcludes, TwoExclude, ThreeExclude};
+ghost use Rattle.pg_travel.specs.numbers.PriceTests.{AllFit, OneExcludes, TwoExclude, ThreeExclude};
 
 use crate::castling::charge;
+use crate::rows::Rows;
+use crate::sources::few_fit;
 use crate::targets::all_fit;
-use pg_board::Color;
+use pg_board::{Board, Color};
 use pg_captures::{all_men, plies_left, price_sum};
 use pg_fen::Diagram;
 use pg_position::{Position, Wing};
 use pg_price_lists::Prices;
 
+// Whether every target fits every source, by rows of the diagram where they are at hand and have each
+// target.
+fn lists_fit(
+    rows: Option<&Rows>,
+    board: &Board,
+    goal: &Board,
+    color: Color,
+    way: Option<Wing>,
+    u: &[u8],
+    v: &[u8],
+) -> bool
+    requires rows { IfSome rows (λ r. r.now ≡ goal.now) }
+    requires priced { IsPriced u.now color any_man board.now × IsPriced v.now color any_man goal.now }
+    ensures { IsTrue result ↔ AllFit board.now goal.now color way u.now v.now }
+{
+    match rows {
+        None => all_fit(board, goal, color, way, u, v),
+        Some(rows) => {
+            if v.len() <= 16 {
+                few_fit(rows, board, color, way, u, v)
+            } else {
+                all_fit(board, goal, color, way, u, v)
+            }
+        }
+    }
+}
+
 // Whether the list of a way excludes it.
 fn way_excludes(
+    rows: Option<&Rows>,
     diagram: &Diagram,
     position: &Position,
     left: u8,
@@ -24,6 +55,7 @@ fn way_excludes(
     u: &[u8],
     v: &[u8],
 ) -> bool
+    requires { IfSome rows (λ r. r.now ≡ diagram.now) }
     ensures { IsTrue result ↔ WayPricesExclude diagram.now position.now left color way (list_of u.now v.now) }
 {
     let board = position.board();
@@ -38,11 +70,12 @@ fn way_excludes(
     if price_sum(v) + charge(way) <= plies + price_sum(u) {
         return false;
     }
-    all_fit(&board, &goal, color, way, u, v)
+    lists_fit(rows, &board, &goal, color, way, u, v)
 }
 
 // The same for a list of the prices.
 fn list_excludes(
+    rows: Option<&Rows>,
     diagram: &Diagram,
     position: &Position,
     left: u8,
@@ -51,9 +84,11 @@ fn list_excludes(
     prices: &Prices,
     i: usize,
 ) -> bool
+    requires { IfSome rows (λ r. r.now ≡ diagram.now) }
     ensures { IsTrue result ↔ WayPricesExclude diagram.now position.now left color way (list_at prices.now i) }
 {
     way_excludes(
+        rows,
         diagram,
         position,
         left,
@@ -65,14 +100,23 @@ fn list_excludes(
 }
 
 // Whether there is one list, and it excludes the way without castling.
-fn one_way(diagram: &Diagram, position: &Position, left: u8, color: Color, prices: &Prices) -> bool
+fn one_way(
+    rows: Option<&Rows>,
+    diagram: &Diagram,
+    position: &Position,
+    left: u8,
+    color: Color,
+    prices: &Prices,
+) -> bool
+    requires { IfSome rows (λ r. r.now ≡ diagram.now) }
     ensures { IsTrue result ↔ OneExcludes diagram.now position.now left color prices.now }
 {
-    prices.ways() == 1 && list_excludes(diagram, position, left, color, None, prices, 0)
+    prices.ways() == 1 && list_excludes(rows, diagram, position, left, color, None, prices, 0)
 }
 
 // Whether there are two lists, and they exclude the way without castling and that with it.
 fn two_ways(
+    rows: Option<&Rows>,
     diagram: &Diagram,
     position: &Position,
     left: u8,
@@ -80,26 +124,30 @@ fn two_ways(
     wing: Wing,
     prices: &Prices,
 ) -> bool
+    requires { IfSome rows (λ r. r.now ≡ diagram.now) }
     ensures { IsTrue result ↔ TwoExclude diagram.now position.now left color wing prices.now }
 {
     prices.ways() == 2
-        && list_excludes(diagram, position, left, color, None, prices, 0)
-        && list_excludes(diagram, position, left, color, Some(wing), prices, 1)
+        && list_excludes(rows, diagram, position, left, color, None, prices, 0)
+        && list_excludes(rows, diagram, position, left, color, Some(wing), prices, 1)
 }
 
 // Whether there are three lists, and they exclude the way without castling and both with it.
 fn three_ways(
+    rows: Option<&Rows>,
     diagram: &Diagram,
     position: &Position,
     left: u8,
     color: Color,
     prices: &Prices,
 ) -> bool
+    requires { IfSome rows (λ r. r.now ≡ diagram.now) }
     ensures { IsTrue result ↔ ThreeExclude diagram.now position.now left color prices.now }
 {
     prices.ways() == 3
-        && list_excludes(diagram, position, left, color, None, prices, 0)
+        && list_excludes(rows, diagram, position, left, color, None, prices, 0)
         && list_excludes(
+            rows,
             diagram,
             position,
             left,
@@ -109,6 +157,7 @@ fn three_ways(
             1,
         )
         && list_excludes(
+            rows,
             diagram,
             position,
             left,
@@ -119,7 +168,15 @@ fn three_ways(
         )
 }
 
-fn excluded(diagram: &Diagram, position: &Position, left: u8, color: Color, prices: &Prices) -> bool
+fn excluded(
+    rows: Option<&Rows>,
+    diagram: &Diagram,
+    position: &Position,
+    left: u8,
+    color: Color,
+    prices: &Prices,
+) -> bool
+    requires { IfSome rows (λ r. r.now ≡ diagram.now) }
     ensures { IsTrue result ↔ TravelPricesExclude diagram.now position.now left color prices.now }
 {
     let rights = position.rights();
@@ -127,14 +184,22 @@ fn excluded(diagram: &Diagram, position: &Position, left: u8, color: Color, pric
     let long = rights.holds(color, Wing::QueenSide);
     if short {
         if long {
-            three_ways(diagram, position, left, color, prices)
+            three_ways(rows, diagram, position, left, color, prices)
         } else {
-            two_ways(diagram, position, left, color, Wing::KingSide, prices)
+            two_ways(rows, diagram, position, left, color, Wing::KingSide, prices)
         }
     } else if long {
-        two_ways(diagram, position, left, color, Wing::QueenSide, prices)
+        two_ways(
+            rows,
+            diagram,
+            position,
+            left,
+            color,
+            Wing::QueenSide,
+            prices,
+        )
     } else {
-        one_way(diagram, position, left, color, prices)
+        one_way(rows, diagram, position, left, color, prices)
     }
 }
 
@@ -157,5 +222,27 @@ pub fn prices_exclude(
 {
     // A fact for the proof: what is handed in is a position.
     position.side();
-    excluded(diagram, position, left, color, prices)
+    excluded(None, diagram, position, left, color, prices)
+}
+
+/// The same answer, by rows of distances where they are those of the diagram: for a diagram that is asked
+/// about often.
+pub fn prices_exclude_by(
+    rows: &Rows,
+    diagram: &Diagram,
+    position: &Position,
+    left: u8,
+    color: Color,
+    prices: &Prices,
+) -> bool
+    ensures exact { IsTrue result ↔ TravelPricesExclude diagram.now position.now left color prices.now }
+    ensures barren { IsTrue result → Barren diagram.now position.now left }
+{
+    if rows.is_of(diagram) {
+        // A fact for the proof: what is handed in is a position.
+        position.side();
+        excluded(Some(rows), diagram, position, left, color, prices)
+    } else {
+        prices_exclude(diagram, position, left, color, prices)
+    }
 }

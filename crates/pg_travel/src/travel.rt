@@ -9,7 +9,7 @@ use pg_position::Position;
 
 // Whether the test of either colour holds. Where one does, it is mostly that of the colour that has
 // just moved, since its move was of no use: so that one is tried first.
-fn travel_holds(diagram: &Diagram, position: &Position, left: u8) -> bool
+pub(crate) fn travel_holds(diagram: &Diagram, position: &Position, left: u8) -> bool
     ensures { IsTrue result ↔ TravelHolds diagram.now position.now left }
 {
     let side = position.side();

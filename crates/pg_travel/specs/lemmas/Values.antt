@@ -23,15 +23,15 @@ use Rattle.pg_travel.specs.numbers.Formulas.{least_of, distance_of}
 use Rattle.pg_travel.specs.numbers.Costs.{reach_of, nearest, cost_of, cost, SumLaw}
 use Rattle.pg_travel.specs.lemmas.Pawns.{walk_bounds, some_by_steps}
 
-least_at_most : (f : ℕ → ℕ) (n t : ℕ) → t < n → least_of f n ≤ f t
+pub least_at_most : (f : ℕ → ℕ) (n t : ℕ) → t < n → least_of f n ≤ f t
 unfolding least_of
 least_at_most f zero t low = absurd (omega arith)
 least_at_most f (suc n) t low = elim (eqb_tells t n) [ inl w ↦ (let e : f t ≡ f n = ap f w.1 in omega arith) | inr w ↦ (let ne : t ≢ n = w.1 in omega (arith, least_at_most f n t (omega arith))) ]
 
-abbrev Reached : (ℕ → ℕ) → ℕ → Type 0
+abbrev pub Reached : (ℕ → ℕ) → ℕ → Type 0
 Reached f n = (least_of f n ≡ 64) ⊎ ((t : ℕ) × (t < n) × (least_of f n ≡ f t))
 
-least_reached : (f : ℕ → ℕ) (n : ℕ) → Reached f n
+pub least_reached : (f : ℕ → ℕ) (n : ℕ) → Reached f n
 unfolding least_of
 least_reached f zero = inl refl
 least_reached f (suc n) = elim (leb_tells (least_of f n) (f n)) [

@@ -1,8 +1,8 @@
 use Rattle.std.proofs.Common.{◌≡◌, ◌≢◌, ℕ, ◌+◌, ◌*◌, ◌<◌, ◌≤◌, inl, inr, ap, subst, sym, arith, count_ones, ◌∙◌}
 use Rattle.std.proofs.lemmas.Bool.Decides.{eqb_tells, leb_tells}
-use Rattle.pg_board.specs.Bits.{has, ones-count}
+use Rattle.pg_board.specs.Bits.{has}
 use Rattle.pg_board.specs.Tally.{one, count_below, total}
-use Rattle.pg_board.specs.lemmas.Sums.{count_below-le, total-none, total-more}
+use Rattle.pg_board.specs.lemmas.Sums.{total-none}
 use Rattle.pg_travel.specs.Origins.{charge}
 use Rattle.pg_travel.specs.numbers.Costs.{cost}
 use Rattle.pg_travel.proofs.Skips.{sum_skip}

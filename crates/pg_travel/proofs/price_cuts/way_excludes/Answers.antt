@@ -23,5 +23,5 @@ pub returns : goal.returns
 returns c =
     let p : c.from-plies.result ≡ plies_left c.args.position.now.side c.args.color c.args.left = c.from-plies.ensures ∙ c.plies_left.ensures ∙ ap (λ (s : Color). plies_left s c.args.color c.args.left) c.side.ensures.value in
     let above : plies_left c.args.position.now.side c.args.color c.args.left + sum c.args.u.now < sum c.args.v.now + charge c.args.way = omega (arith, p, c.price_sum.ensures.value, c.price_sum-2.ensures.value, c.charge.ensures.value, c.if-price_sum-charge.false) in
-    way_at c.args.position.now c.args.diagram.now c.args.left c.args.color c.args.way (list_of c.args.u.now c.args.v.now) c.all_fit.result (c.if-u-all_men.false ∙ c.all_men.ensures.value ∙ ap (men c.args.color any_man) c.board-board.ensures.value, c.if-v-all_men.false ∙ c.all_men-2.ensures.value ∙ ap (men c.args.color any_man) c.board-goal.ensures.value) above
-    (fit_moved c.board-board.result c.args.position.now.board c.board-goal.result c.args.diagram.now c.args.color c.args.way c.args.u.now c.args.v.now c.all_fit.result c.board-board.ensures.value c.board-goal.ensures.value c.all_fit.ensures)
+    way_at c.args.position.now c.args.diagram.now c.args.left c.args.color c.args.way (list_of c.args.u.now c.args.v.now) c.lists_fit.result (c.if-u-all_men.false ∙ c.all_men.ensures.value ∙ ap (men c.args.color any_man) c.board-board.ensures.value, c.if-v-all_men.false ∙ c.all_men-2.ensures.value ∙ ap (men c.args.color any_man) c.board-goal.ensures.value) above
+    (fit_moved c.board-board.result c.args.position.now.board c.board-goal.result c.args.diagram.now c.args.color c.args.way c.args.u.now c.args.v.now c.lists_fit.result c.board-board.ensures.value c.board-goal.ensures.value c.lists_fit.ensures)

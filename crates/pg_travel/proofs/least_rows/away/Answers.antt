@@ -1,0 +1,8 @@
+use Rattle.std.proofs.Common.{ℕ, subst}
+use Rattle.pg_board.specs.declared.man.Kind.TheVariants.{Pawn, Knight, Bishop, Rook, Queen, King}
+use Rattle.pg_travel.specs.numbers.LeastRows.{IsUnreached}
+use Rattle.pg_travel.proofs.LeastRows.{of_kind, away_all}
+use Rattle.pg_travel.proofs.least_rows.away.Goals as goal
+
+pub returns : goal.returns
+returns c = away_all c.args.rows.now c.args.board.now c.args.color c.unreached-none.result c.lowered_by-pawns.result c.lowered_by-knights.result c.lowered_by-bishops.result c.lowered_by-rooks.result c.lowered_by-queens.result c.lowered_by.result (subst (λ (n : ℕ). IsUnreached n c.unreached-none.result) c.men.ensures c.unreached-none.ensures) (of_kind c.args.rows.now c.args.board.now c.args.color Pawn c.man.result c.unreached-none.result c.lowered_by-pawns.result c.man.ensures c.lowered_by-pawns.ensures) (of_kind c.args.rows.now c.args.board.now c.args.color Knight c.man-2.result c.lowered_by-pawns.result c.lowered_by-knights.result c.man-2.ensures c.lowered_by-knights.ensures) (of_kind c.args.rows.now c.args.board.now c.args.color Bishop c.man-3.result c.lowered_by-knights.result c.lowered_by-bishops.result c.man-3.ensures c.lowered_by-bishops.ensures) (of_kind c.args.rows.now c.args.board.now c.args.color Rook c.man-4.result c.lowered_by-bishops.result c.lowered_by-rooks.result c.man-4.ensures c.lowered_by-rooks.ensures) (of_kind c.args.rows.now c.args.board.now c.args.color Queen c.man-5.result c.lowered_by-rooks.result c.lowered_by-queens.result c.man-5.ensures c.lowered_by-queens.ensures) (of_kind c.args.rows.now c.args.board.now c.args.color King c.man-6.result c.lowered_by-queens.result c.lowered_by.result c.man-6.ensures c.lowered_by.ensures)

@@ -1,0 +1,5 @@
+use Rattle.pg_travel.specs.lemmas.TravelPricesLaw.{travel_prices_barren}
+use Rattle.pg_travel.proofs.price_cuts.prices_exclude_by.Goals as goal
+
+pub returns-then-is_of-clause-barren : goal.returns-then-is_of-clause-barren
+returns-then-is_of-clause-barren c = λ yes_it_is. travel_prices_barren c.args.diagram.now c.args.position.now c.args.left c.args.color c.args.prices.now c.side.ensures.position (c.excluded.ensures.0 yes_it_is)

@@ -1,0 +1,5 @@
+use Rattle.pg_travel.specs.numbers.DistanceRows.{AreFirstRows}
+use Rattle.pg_travel.proofs.rows.table.Given as goal
+
+abbrev pub invariant-loop-place : goal.invariant-loop-place
+invariant-loop-place l = AreFirstRows l.goal l.place l.rows

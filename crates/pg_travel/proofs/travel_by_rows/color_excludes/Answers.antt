@@ -1,0 +1,7 @@
+use Rattle.std.proofs.Common.{◌↔◌, IsTrue, subst}
+use Rattle.pg_board.specs.Placement.{Placement}
+use Rattle.pg_travel.specs.Needs.{TravelTest}
+use Rattle.pg_travel.proofs.travel_by_rows.color_excludes.Goals as goal
+
+pub returns-then-men-le16 : goal.returns-then-men-le16
+returns-then-men-le16 c = subst (λ (d : Placement). IsTrue c.excludes_by.result ↔ TravelTest d c.args.position.now c.args.left c.args.color) c.requires c.excludes_by.ensures

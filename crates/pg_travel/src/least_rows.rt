@@ -1,0 +1,211 @@
+//! The need of a way by rows: the least distances to all men of a diagram at once.
+ghost use Rattle.std.specs.Prelude.{◌≡◌, ℕ, ◌<◌, ◌≤◌, ◌↔◌, IsTrue, get_or, None};
+ghost use Rattle.pg_board.specs.Placement.{get};
+ghost use Rattle.pg_board.specs.SquareSets.{IsSetOf};
+ghost use Rattle.pg_board.specs.Tally.{total};
+ghost use Rattle.pg_captures.specs.Counting.{men, any_man};
+ghost use Rattle.pg_position.specs.declared.state.State.{State};
+ghost use Rattle.pg_travel.specs.Needs.{TravelTest};
+ghost use Rattle.pg_travel.specs.numbers.LeastRows.{IsUnreached, AreLesser, IsLowered, IsHomeOf, IsAway, IsLeastRow};
+ghost use Rattle.pg_travel.specs.numbers.Within.{PaysIs, CastledIs};
+
+use crate::castling::{charge, counted};
+use crate::needs::{man, same_side};
+use crate::rows::Rows;
+use pg_board::{Board, Color, Kind, Man, Square, SquareSet};
+use pg_captures::plies_left;
+use pg_position::{Position, Wing, king_home, rook_home};
+
+// No distance, where there are so many men and this is one of them.
+fn no_distance(number: u8, count: u8) -> u8
+    ensures among { number < count → result ≡ 255 }
+    ensures past { count ≤ number → result ≡ 0 }
+{
+    if number < count { 255 } else { 0 }
+}
+
+// A row without a distance to any of so many men.
+#[inline(always)]
+fn unreached(count: u8) -> [u8; 16]
+    ensures { IsUnreached count result }
+{
+    let mut row = [0; 16];
+    for i in 0..16u8 {
+        row[i as usize] = no_distance(i, count);
+    }
+    row
+}
+
+// The lesser of each two numbers.
+#[inline(always)]
+fn lesser(least: [u8; 16], row: [u8; 16]) -> [u8; 16]
+    ensures { AreLesser least row result }
+{
+    let mut lowered = least;
+    for i in 0..16usize {
+        lowered[i] = lowered[i].min(row[i]);
+    }
+    lowered
+}
+
+// The sum of a row.
+#[inline(always)]
+fn sum(row: [u8; 16]) -> u16
+    ensures value { result ≡ total (λ i. get_or row i 0) 16 }
+    ensures low { result ≤ 4080 }
+{
+    let mut sum = 0u16;
+    for i in 0..16usize {
+        sum += u16::from(row[i]);
+    }
+    sum
+}
+
+// Where the colour's king and rooks stand before they castle.
+fn homes(color: Color) -> SquareSet
+    ensures { IsSetOf result (IsHomeOf color) }
+{
+    SquareSet::single(king_home(color))
+        | (SquareSet::single(rook_home(color, Wing::KingSide))
+            | SquareSet::single(rook_home(color, Wing::QueenSide)))
+}
+
+// Lowered by the rows of each such man that stands off the homes.
+fn lowered_by(rows: &Rows, board: &Board, man: Man, homes: SquareSet, least: [u8; 16]) -> [u8; 16]
+    requires { IsSetOf homes (IsHomeOf man.color) }
+    ensures { IsLowered rows.now board.now man.color None (λ q. (get board.now q ≡ Some man) × ¬ IsHomeOf man.color q) least result }
+{
+    let own = board.squares_of(man) - homes;
+    let mut lowest = least;
+    let mut from = 0u8;
+    while let Some(o) = own.first_from(from) {
+        let next = lesser(lowest, rows.of(man.color, man.kind, o));
+        lowest = next;
+        from = o.index() + 1;
+    }
+    lowest
+}
+
+// The least distances from the men off the homes, which all ways count where they stand.
+fn away(rows: &Rows, board: &Board, color: Color) -> [u8; 16]
+    ensures { IsAway rows.now board.now color result }
+{
+    let homes = homes(color);
+    let none = unreached(rows.men(color));
+    let pawns = lowered_by(rows, board, man(color, Kind::Pawn), homes, none);
+    let knights = lowered_by(rows, board, man(color, Kind::Knight), homes, pawns);
+    let bishops = lowered_by(rows, board, man(color, Kind::Bishop), homes, knights);
+    let rooks = lowered_by(rows, board, man(color, Kind::Rook), homes, bishops);
+    let queens = lowered_by(rows, board, man(color, Kind::Queen), homes, rooks);
+    lowered_by(rows, board, man(color, Kind::King), homes, queens)
+}
+
+// Lowered by the row of what stands on a square, if it is a man of the colour.
+#[inline(always)]
+fn lowered_at(
+    rows: &Rows,
+    board: &Board,
+    color: Color,
+    way: Option<Wing>,
+    o: Square,
+    least: [u8; 16],
+) -> [u8; 16]
+    ensures { IsLowered rows.now board.now color way (λ q. q ≡ o) least result }
+{
+    // A fact for the proof: the square is on the board.
+    o.index();
+    match board.get(o) {
+        None => least,
+        Some(m) => {
+            if same_side(m.color, color) {
+                lesser(least, rows.of(color, m.kind, counted(color, way, o)))
+            } else {
+                least
+            }
+        }
+    }
+}
+
+// The least distances by a way, where those from off the homes are known.
+fn least(rows: &Rows, board: &Board, color: Color, way: Option<Wing>, away: [u8; 16]) -> [u8; 16]
+    requires { IsAway rows.now board.now color away }
+    ensures { IsLeastRow rows.now board.now color way result }
+{
+    let king = lowered_at(rows, board, color, way, king_home(color), away);
+    let short = lowered_at(
+        rows,
+        board,
+        color,
+        way,
+        rook_home(color, Wing::KingSide),
+        king,
+    );
+    lowered_at(
+        rows,
+        board,
+        color,
+        way,
+        rook_home(color, Wing::QueenSide),
+        short,
+    )
+}
+
+// Whether so many plies pay for a way.
+fn pays(
+    rows: &Rows,
+    board: &Board,
+    color: Color,
+    way: Option<Wing>,
+    away: [u8; 16],
+    plies: u16,
+) -> bool
+    requires few { men color any_man rows.now ≤ 16 }
+    requires limit { plies < 255 }
+    requires away { IsAway rows.now board.now color away }
+    ensures { (p : State) → p.board ≡ board.now → PaysIs p rows.now color way plies result }
+{
+    let need = charge(way) + sum(least(rows, board, color, way, away));
+    need <= plies
+}
+
+// Whether a right is held to castle so, and so many plies pay for it.
+fn pays_castled(
+    rows: &Rows,
+    position: &Position,
+    color: Color,
+    right: Wing,
+    away: [u8; 16],
+    plies: u16,
+) -> bool
+    requires few { men color any_man rows.now ≤ 16 }
+    requires limit { plies < 255 }
+    requires away { IsAway rows.now position.now.board color away }
+    ensures { CastledIs position.now rows.now color right plies result }
+{
+    if position.rights().holds(color, right) {
+        let board = position.board();
+        pays(rows, &board, color, Some(right), away, plies)
+    } else {
+        false
+    }
+}
+
+// Whether the colour's need does not exist or is above its plies left: no way is paid for.
+pub(crate) fn excludes_by(rows: &Rows, color: Color, position: &Position, left: u8) -> bool
+    requires { men color any_man rows.now ≤ 16 }
+    ensures { IsTrue result ↔ TravelTest rows.now position.now left color }
+{
+    let plies = u16::from(plies_left(position.side(), color, left));
+    let board = position.board();
+    let away = away(rows, &board, color);
+    let free = pays(rows, &board, color, None, away, plies);
+    if free {
+        return false;
+    }
+    let short = pays_castled(rows, position, color, Wing::KingSide, away, plies);
+    if short {
+        return false;
+    }
+    let long = pays_castled(rows, position, color, Wing::QueenSide, away, plies);
+    !long
+}

@@ -1,0 +1,84 @@
+//! The bound by travel for one diagram, by rows.
+ghost use Rattle.std.specs.Prelude.{◌≡◌, ℕ, ◌↔◌, IsTrue};
+ghost use Rattle.pg_travel.specs.Needs.{TravelTest, TravelHolds};
+
+use crate::least_rows::excludes_by;
+use crate::needs::excludes_for;
+use crate::rows::Rows;
+use crate::travel::travel_holds;
+use pg_board::Color;
+use pg_captures::Bound;
+use pg_fen::Diagram;
+use pg_position::Position;
+
+// Whether the test of a colour holds, by rows of the diagram where they have each man of the colour.
+fn color_excludes(
+    rows: &Rows,
+    color: Color,
+    diagram: &Diagram,
+    position: &Position,
+    left: u8,
+) -> bool
+    requires { rows.now ≡ diagram.now }
+    ensures { IsTrue result ↔ TravelTest diagram.now position.now left color }
+{
+    if rows.men(color) <= 16 {
+        excludes_by(rows, color, position, left)
+    } else {
+        excludes_for(color, diagram, position, left)
+    }
+}
+
+// Whether the test of either colour holds, by rows of the diagram. The colour that has just moved is
+// tried first.
+fn either_excludes(rows: &Rows, diagram: &Diagram, position: &Position, left: u8) -> bool
+    requires { rows.now ≡ diagram.now }
+    ensures { IsTrue result ↔ TravelHolds diagram.now position.now left }
+{
+    let side = position.side();
+    color_excludes(rows, side.other(), diagram, position, left)
+        || color_excludes(rows, side, diagram, position, left)
+}
+
+// The same test, by rows where they are those of the diagram.
+fn travel_holds_by(rows: &Rows, diagram: &Diagram, position: &Position, left: u8) -> bool
+    ensures { IsTrue result ↔ TravelHolds diagram.now position.now left }
+{
+    if rows.is_of(diagram) {
+        either_excludes(rows, diagram, position, left)
+    } else {
+        travel_holds(diagram, position, left)
+    }
+}
+
+/// The bound by travel, code 4, for many positions and one diagram: it excludes what `Travel` does, for
+/// any diagram, and is several times as fast for the one that its rows are made of.
+#[derive(Drop)]
+pub struct TravelByRows {
+    pub rows: Rows,
+}
+
+impl Bound for TravelByRows {
+    ghost use Rattle.pg_board.specs.lemmas.Decisions.{answer_tells};
+    ghost use Rattle.pg_travel.specs.Decided.{dec_travel, travel_test};
+    ghost use Rattle.pg_travel.specs.lemmas.NeedLemmas.{travel_barren};
+
+    ghost code_of = { λ b. 4 };
+
+    ghost excluded = { λ b d p k. travel_test d p k };
+
+    ghost sound = { λ b d p k valid h. travel_barren d p k valid ((answer_tells (dec_travel d p k)).0 h) };
+
+    fn code(&self) -> u8
+        ensures { result ≡ 4 }
+    {
+        4
+    }
+
+    fn excludes(&self, diagram: &Diagram, position: &Position, left: u8) -> bool
+        ensures fixed { result ≡ travel_test diagram.now position.now left }
+        ensures exact { IsTrue result ↔ TravelHolds diagram.now position.now left }
+    {
+        travel_holds_by(&self.rows, diagram, position, left)
+    }
+}
