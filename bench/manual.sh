@@ -44,14 +44,14 @@ calls() {
 # The commands, words and options, with the program's own where `help` and `version` are.
 compare() {
   calls | sort >"$work/has"
-  part SYNOPSIS | sed -n 's/^\.Nm pg Cm /Cm /p' | plain | same 'synopsis'
-  part Commands | sed -n 's/^\.It //p' | plain | same 'commands'
+  same 'synopsis' < <(part SYNOPSIS | sed -n 's/^\.Nm pg Cm /Cm /p' | plain)
+  same 'commands' < <(part Commands | sed -n 's/^\.It //p' | plain)
   awk -F '\t' '$1 == "word" { print $3 }' "$work/table" | sort -u >"$work/has"
-  part Words | sed -n 's/^\.It //p' | plain | same 'words'
+  same 'words' < <(part Words | sed -n 's/^\.It //p' | plain)
   awk -F '\t' '$1 == "option" { print ($4 == "-" ? "" : $4 ", ") $3 ($5 == "-" ? "" : " " $5) }' "$work/table" | sort -u >"$work/has"
-  part Options | sed -n 's/^\.It //p' | plain | same 'options'
+  same 'options' < <(part Options | sed -n 's/^\.It //p' | plain)
   awk '/^\| Status \| Where \|$/ { on = 1; next } on && !/^\|/ { exit } on && /^\| [0-9]/ { print $2 }' "$top/docs/FORMATS.md" | sort >"$work/has"
-  part 'EXIT STATUS' | sed -n 's/^\.It //p' | same 'statuses'
+  same 'statuses' < <(part 'EXIT STATUS' | sed -n 's/^\.It //p')
 }
 
 # Whether the page says each default at its option.
