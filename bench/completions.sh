@@ -197,11 +197,17 @@ fish_completions() {
     END {
       print "# Completions of pg for fish; made by bench/completions.sh."
       print ""
+      print "# Whether the command is $argv[1]."
+      print "function __pg_is"
+      print "    set -l before (commandline -opc)"
+      print "    test (count $before) -ge 2; and test \"$before[2]\" = $argv[1]"
+      print "end"
+      print ""
       print "# Whether the word at the cursor is the one at place $argv[2] behind the command $argv[1]; of the options behind those each"
       print "# has a value."
       print "function __pg_is_at"
+      print "    __pg_is $argv[1]; or return 1"
       print "    set -l before (commandline -opc)"
-      print "    test (count $before) -ge 2; and test \"$before[2]\" = $argv[1]; or return 1"
       print "    set -e before[1..2]"
       print "    set -l place 1"
       print "    set -l passes 0"
@@ -228,7 +234,7 @@ fish_completions() {
         }
         valued = ""
         for (j = 1; j <= options[name]; j++) {
-          an_option(name, j, "__fish_seen_subcommand_from " name)
+          an_option(name, j, "__pg_is " name)
           if (value[name, j] != "-") valued = valued " " option[name, j]
         }
         for (j = 1; j <= words[name]; j++)

@@ -1,10 +1,16 @@
 # Completions of pg for fish; made by bench/completions.sh.
 
+# Whether the command is $argv[1].
+function __pg_is
+    set -l before (commandline -opc)
+    test (count $before) -ge 2; and test "$before[2]" = $argv[1]
+end
+
 # Whether the word at the cursor is the one at place $argv[2] behind the command $argv[1]; of the options behind those each
 # has a value.
 function __pg_is_at
+    __pg_is $argv[1]; or return 1
     set -l before (commandline -opc)
-    test (count $before) -ge 2; and test "$before[2]" = $argv[1]; or return 1
     set -e before[1..2]
     set -l place 1
     set -l passes 0
@@ -31,21 +37,21 @@ complete -c pg -n __fish_use_subcommand -a search -d 'Searches for the games, wr
 complete -c pg -n __fish_use_subcommand -a why -d 'Explains a line of moves by a certificate'
 complete -c pg -n __fish_use_subcommand -a upgrade -d 'Copies a certificate of version 1 as one of version 2'
 complete -c pg -n __fish_use_subcommand -a help -d 'Print this message or the help of the given subcommand(s)'
-complete -c pg -n '__fish_seen_subcommand_from show' -s h -l help -d 'Print help'
-complete -c pg -n '__fish_seen_subcommand_from moves' -s h -l help -d 'Print help'
-complete -c pg -n '__fish_seen_subcommand_from count' -s h -l help -d 'Print help'
-complete -c pg -n '__fish_seen_subcommand_from check' -l records -x -d 'Refuses a certificate of more records [default: 100000000]'
-complete -c pg -n '__fish_seen_subcommand_from check' -s h -l help -d 'Print help'
+complete -c pg -n '__pg_is show' -s h -l help -d 'Print help'
+complete -c pg -n '__pg_is moves' -s h -l help -d 'Print help'
+complete -c pg -n '__pg_is count' -s h -l help -d 'Print help'
+complete -c pg -n '__pg_is check' -l records -x -d 'Refuses a certificate of more records [default: 100000000]'
+complete -c pg -n '__pg_is check' -s h -l help -d 'Print help'
 complete -c pg -n '__pg_is_at check 3 --records' -F
 complete -c pg -n '__pg_is_at check 4 --records' -F
-complete -c pg -n '__fish_seen_subcommand_from search' -l nodes -x -d 'Gives up where more nodes would be visited [default: 1000000]'
-complete -c pg -n '__fish_seen_subcommand_from search' -s h -l help -d 'Print help'
+complete -c pg -n '__pg_is search' -l nodes -x -d 'Gives up where more nodes would be visited [default: 1000000]'
+complete -c pg -n '__pg_is search' -s h -l help -d 'Print help'
 complete -c pg -n '__pg_is_at search 3 --nodes' -F
-complete -c pg -n '__fish_seen_subcommand_from why' -l records -x -d 'Refuses a certificate of more records [default: 100000000]'
-complete -c pg -n '__fish_seen_subcommand_from why' -s h -l help -d 'Print help'
+complete -c pg -n '__pg_is why' -l records -x -d 'Refuses a certificate of more records [default: 100000000]'
+complete -c pg -n '__pg_is why' -s h -l help -d 'Print help'
 complete -c pg -n '__pg_is_at why 3 --records' -F
-complete -c pg -n '__fish_seen_subcommand_from upgrade' -l records -x -d 'Refuses a certificate of more records [default: 100000000]'
-complete -c pg -n '__fish_seen_subcommand_from upgrade' -s h -l help -d 'Print help'
+complete -c pg -n '__pg_is upgrade' -l records -x -d 'Refuses a certificate of more records [default: 100000000]'
+complete -c pg -n '__pg_is upgrade' -s h -l help -d 'Print help'
 complete -c pg -n '__pg_is_at upgrade 1 --records' -F
 complete -c pg -n '__pg_is_at upgrade 2 --records' -F
 complete -c pg -n '__pg_is_at help 1' -a show -d 'Prints the board of a diagram, and what is known of it at once'
