@@ -1,8 +1,9 @@
 #!/usr/bin/env bash
 # Holds the documents to the repository, without a proof: the program's version heads CHANGELOG.md; each link of a document to a
 # file leads to one, and to a heading of it where it names one; each path that a document names in backticks is there; each source
-# file begins with a line `//!` and each definition at the top of a specs/ with a line `--` that says what it is; and docs/FILES.md
-# is the list that these lines make. Quiet where all is so; else prints what is amiss, and ends with status 1.
+# file begins with a line `//!` and each definition at the top of a specs/ with a line `--` that says what it is; docs/FILES.md
+# is the list that these lines make; and each crate pg_* stands in ARCHITECTURE and PROVED. Quiet where all is so; else prints what
+# is amiss, and ends with status 1.
 #
 #   bench/documents.sh           compares
 #   bench/documents.sh --write   writes docs/FILES.md anew first
@@ -88,6 +89,10 @@ def links(path):
             yield f"{path}: there is no {name}"
 
 
+for document in ("docs/ARCHITECTURE.md", "docs/PROVED.md"):
+    for crate in re.findall(r"^(pg_\w+):", read("crates.txt"), re.M):
+        if f"`{crate}`" not in read(document):
+            wrong.append(f"{document} says nothing of {crate}")
 version = re.search(r'\.version\("([^"]+)"\)', "".join(map(read, glob.glob("crates/pg_words/src/*.rt"))))
 newest = re.search(r"^## (\d\S*)", read("CHANGELOG.md"), re.M)
 if not version or not newest or version[1] != newest[1]:

@@ -1,0 +1,36 @@
+# Completions of pg for bash; made by bench/completions.sh.
+_pg() {
+  local cur=${COMP_WORDS[COMP_CWORD]} before=${COMP_WORDS[COMP_CWORD - 1]} place=1 at
+  local commands options valued=" " file_options=" " file_places=" "
+  commands="show moves count check search why upgrade help"
+  COMPREPLY=()
+  if [ "$COMP_CWORD" = 1 ]; then
+    mapfile -t COMPREPLY < <(compgen -W "$commands --help -h --version -V" -- "$cur")
+    return
+  fi
+  case ${COMP_WORDS[1]} in
+    show) options="--help -h" ;;
+    moves) options="--help -h" ;;
+    count) options="--help -h" ;;
+    check) options="--records --help -h" valued=" --records " file_places=" 3 4 " ;;
+    search) options="--nodes --help -h" valued=" --nodes " file_places=" 3 " ;;
+    why) options="--records --help -h" valued=" --records " file_places=" 3 " ;;
+    upgrade) options="--records --help -h" valued=" --records " file_places=" 1 2 " ;;
+    help) options=$commands ;;
+    *) return ;;
+  esac
+  for ((at = 2; at < COMP_CWORD; at++)); do
+    case ${COMP_WORDS[at]} in
+      --*) [[ $valued != *" ${COMP_WORDS[at]} "* ]] || at=$((at + 1)) ;;
+      -[a-zA-Z]) ;;
+      *) place=$((place + 1)) ;;
+    esac
+  done
+  if [[ $file_options == *" $before "* ]] || [[ $valued != *" $before "* && $cur != -* && $file_places == *" $place "* ]]; then
+    compopt -o filenames 2>/dev/null
+    mapfile -t COMPREPLY < <(compgen -f -- "$cur")
+  elif [[ $valued != *" $before "* ]] && [[ $cur == -* || ${COMP_WORDS[1]} == help && $place == 1 ]]; then
+    mapfile -t COMPREPLY < <(compgen -W "$options" -- "$cur")
+  fi
+}
+complete -F _pg pg

@@ -1,0 +1,64 @@
+# Completions of pg for fish; made by bench/completions.sh.
+
+# Whether the command is $argv[1].
+function __pg_is
+    set -l before (commandline -opc)
+    test (count $before) -ge 2; and test "$before[2]" = $argv[1]
+end
+
+# Whether the word at the cursor is the one at place $argv[2] behind the command $argv[1]; of the options behind those each
+# has a value.
+function __pg_is_at
+    __pg_is $argv[1]; or return 1
+    set -l before (commandline -opc)
+    set -e before[1..2]
+    set -l place 1
+    set -l passes 0
+    for word in $before
+        if test $passes = 1
+            set passes 0
+        else if contains -- $word $argv[3..]
+            set passes 1
+        else if not string match -qr -- "^(--.*|-[a-zA-Z])\$" $word
+            set place (math $place + 1)
+        end
+    end
+    test $passes = 0 -a $place = $argv[2]
+end
+
+complete -c pg -f
+complete -c pg -n '__fish_use_subcommand' -s h -l help -d 'Print help'
+complete -c pg -n '__fish_use_subcommand' -s V -l version -d 'Print version'
+complete -c pg -n __fish_use_subcommand -a show -d 'Prints the board of a diagram, and what is known of it at once'
+complete -c pg -n __fish_use_subcommand -a moves -d 'Prints the legal moves of a position, one a line'
+complete -c pg -n __fish_use_subcommand -a count -d 'Prints the number of games of so many plies from a position'
+complete -c pg -n __fish_use_subcommand -a check -d 'Checks a certificate against a list of games, and prints the report'
+complete -c pg -n __fish_use_subcommand -a search -d 'Searches for the games, writes a certificate, checks it, and reports'
+complete -c pg -n __fish_use_subcommand -a why -d 'Explains a line of moves by a certificate'
+complete -c pg -n __fish_use_subcommand -a upgrade -d 'Copies a certificate of version 1 as one of version 2'
+complete -c pg -n __fish_use_subcommand -a help -d 'Print this message or the help of the given subcommand(s)'
+complete -c pg -n '__pg_is show' -s h -l help -d 'Print help'
+complete -c pg -n '__pg_is moves' -s h -l help -d 'Print help'
+complete -c pg -n '__pg_is count' -s h -l help -d 'Print help'
+complete -c pg -n '__pg_is check' -l records -x -d 'Refuses a certificate of more records [default: 100000000]'
+complete -c pg -n '__pg_is check' -s h -l help -d 'Print help'
+complete -c pg -n '__pg_is_at check 3 --records' -F
+complete -c pg -n '__pg_is_at check 4 --records' -F
+complete -c pg -n '__pg_is search' -l nodes -x -d 'Gives up where more nodes would be visited [default: 1000000]'
+complete -c pg -n '__pg_is search' -s h -l help -d 'Print help'
+complete -c pg -n '__pg_is_at search 3 --nodes' -F
+complete -c pg -n '__pg_is why' -l records -x -d 'Refuses a certificate of more records [default: 100000000]'
+complete -c pg -n '__pg_is why' -s h -l help -d 'Print help'
+complete -c pg -n '__pg_is_at why 3 --records' -F
+complete -c pg -n '__pg_is upgrade' -l records -x -d 'Refuses a certificate of more records [default: 100000000]'
+complete -c pg -n '__pg_is upgrade' -s h -l help -d 'Print help'
+complete -c pg -n '__pg_is_at upgrade 1 --records' -F
+complete -c pg -n '__pg_is_at upgrade 2 --records' -F
+complete -c pg -n '__pg_is_at help 1' -a show -d 'Prints the board of a diagram, and what is known of it at once'
+complete -c pg -n '__pg_is_at help 1' -a moves -d 'Prints the legal moves of a position, one a line'
+complete -c pg -n '__pg_is_at help 1' -a count -d 'Prints the number of games of so many plies from a position'
+complete -c pg -n '__pg_is_at help 1' -a check -d 'Checks a certificate against a list of games, and prints the report'
+complete -c pg -n '__pg_is_at help 1' -a search -d 'Searches for the games, writes a certificate, checks it, and reports'
+complete -c pg -n '__pg_is_at help 1' -a why -d 'Explains a line of moves by a certificate'
+complete -c pg -n '__pg_is_at help 1' -a upgrade -d 'Copies a certificate of version 1 as one of version 2'
+complete -c pg -n '__pg_is_at help 1' -a help -d 'Print this message or the help of the given subcommand(s)'
