@@ -1,5 +1,6 @@
 mod found_games;
 mod growths;
+mod met;
 mod nodes;
 mod refused_writes;
 
