@@ -23,7 +23,7 @@ impl Progress for Met {
 }
 
 // How many games a search of so many nodes tells of, and what it answers.
-fn met<R: Abort + AllocGlobal>(rt: &R, goal: &Goal, nodes: u64) -> Said {
+fn told_of<R: Abort + AllocGlobal>(rt: &R, goal: &Goal, nodes: u64) -> Said {
     let mut watch = Met {
         games: 0,
         last: Game::new(),
@@ -45,7 +45,7 @@ const MET: &str = "array | 0 | 0 => 1 of 1
 after-e4 | 0.5 | 100 => 1 of 1
 rnbqkbnr/1pp1pppp/p2P4/8/8/8/PPPP1PPP/RNBQKBNR | 2.5 | 100000 => 4 of 4
 rnb1kb1r/ppppqppp/8/8/8/5P2/PPPP1KPP/RNB2BNn | 5.0 | 100000 => 3 of 3
-rnb1kb1r/ppppqppp/8/8/8/5P2/PPPP1KPP/RNB2BNn | 5.0 | 2500 => 2 and Budget
+rnbqkbnr/p1pppppp/8/8/8/3QP3/PPP2PPP/RNB1K1NR | 3.5 | 8312 => 2 and Budget
 after-e4 | 2.0 | 100000 => 0 and Shorter(1)
 rnbqkbnr/5ppp/ppppp3/8/8/PPPPP3/5PPP/RNBQKBNR | 5.0 | 1000000 => 4096 and TooManyGames";
 
@@ -55,6 +55,6 @@ fn games_are_told_as_they_are_met(rt: HostRuntime) {
         let (asked, wanted) = halves(&rt, row, " => ");
         let goal = goal_of(&rt, field(asked, 0), field(asked, 1));
         let nodes = field(asked, 2).parse().expect(&rt, row);
-        assert_eq!(rt; met(&rt, &goal, nodes).as_str(), wanted, "{row}");
+        assert_eq!(rt; told_of(&rt, &goal, nodes).as_str(), wanted, "{row}");
     }
 }
