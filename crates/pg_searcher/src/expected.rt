@@ -12,7 +12,7 @@ use std::alloc::{AllocError, Global};
 /// How many plies more either colour has at the initial array than the least assignment of its men to the men of
 /// a diagram takes; none where it has fewer, so that no game of that length ends on the diagram.
 #[derive(Clone, Copy, Debug, PartialEq, Eq)]
-pub struct Slacks {
+pub struct Leeway {
     /// White's plies to spare.
     pub white: Option<u8>,
     /// Black's plies to spare.
@@ -36,8 +36,8 @@ fn slack(
 ///
 /// # Errors
 /// `AllocError` where memory is refused.
-pub fn slacks(alloc: Global, diagram: &Diagram, length: Length) -> Result<Slacks, AllocError> {
-    Ok(Slacks {
+pub fn slacks(alloc: Global, diagram: &Diagram, length: Length) -> Result<Leeway, AllocError> {
+    Ok(Leeway {
         white: slack(alloc, Color::White, diagram, length)?,
         black: slack(alloc, Color::Black, diagram, length)?,
     })

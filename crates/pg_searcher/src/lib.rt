@@ -17,7 +17,7 @@ mod progress;
 mod sides;
 mod walk;
 
-pub use expected::{Slacks, forecast, next_tree, slacks};
+pub use expected::{Leeway, forecast, next_tree, slacks};
 pub use fault::SearchFault;
 pub use find::{search, search_watched};
 pub use judge::sides_of;

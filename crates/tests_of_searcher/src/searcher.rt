@@ -2,6 +2,7 @@
 
 mod found_games;
 mod growths;
+mod met;
 mod nodes;
 mod refused_writes;
 

@@ -40,13 +40,14 @@ pub(crate) enum Pass {
 }
 
 // An open node with at least two plies left: its position with the moves that are still to be played, which
-// of them come next, the move that is being gone into, what is known of both colours, its key, how many
+// of them come next, the one that led, the move that is being gone into, what is known of both colours, its key, how many
 // foreign moves may still come; whether a listed game lies below, and whether a foreign move was refused
 // there.
 #[derive(Drop)]
 pub(crate) struct Open {
     pub(crate) moves: LegalMoves,
     pub(crate) pass: Pass,
+    pub(crate) lead: Option<Move>,
     pub(crate) played: Option<Move>,
     pub(crate) sides: Sides,
     pub(crate) key: u64,
@@ -61,6 +62,7 @@ impl Open {
         Open {
             moves: LegalMoves::new(position),
             pass: Pass::Lead,
+            lead: None,
             played: None,
             sides: *sides,
             key,

@@ -70,17 +70,19 @@ pub(crate) fn next_due(
     ensures legal { IfSome result (λ due. IsLegal position.now due.m) }
     ensures same { top.new.moves.position ≡ position.now }
 {
-    let lead = lead_of(question, position, ply);
     if top.pass == Pass::Lead {
+        let lead = lead_of(question, position, ply);
         top.pass = Pass::Familiar;
-        if let Some(m) = lead {
+        if let Some(m) = &lead {
+            top.lead = Some(*m);
             return Some(Due {
-                m,
+                m: *m,
                 is_foreign: false,
             });
         }
     }
     if top.pass == Pass::Familiar {
+        let lead = top.lead;
         if let Some(m) = next_of(question.familiar, &mut top.moves, position, true, &lead) {
             return Some(Due {
                 m,
