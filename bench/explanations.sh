@@ -59,15 +59,15 @@ queens-abroad|c4 c5 Qa4 Qa5 Qxd7+|after 1. c4 c5 2. Qa4 Qa5 3. Qxd7+: excluded: 
 castling-long|d3 c6 Bf4 Qa5+ Nd2 Qxa2|after 1. d3 c6 2. Bf4 Qa5+ 3. Nd2 Qxa2: excluded: white needs 8 pawns and has 7: 1 short
 knight-in-the-corner|e4 Nf6 f3 Nxe4 fxe4|after 1. e4 Nf6 2. f3 Nxe4 3. fxe4: excluded: white's pawns must change file 1 time, and white has no man to capture
 roessler|h4 d5 h5 Nd7 h6 Nxh6|after 1. h4 d5 2. h5 Nd7 3. h6 Nxh6: excluded: black has captured 1 man too many
-four-games|e4 a5|after 1. e4 a5: excluded: black's pawns must change file 17 times, and black has no man to capture (prices: the pawn on a6 needs 17, the pawn on b7 needs 16, less 16)
+four-games|e4 a5|after 1. e4 a5: excluded: black has no man to capture, and black's pawns must change file 17 times at least, counted pair by pair: the pawn on b7 16, the pawn on a6 1
 en-passant|e3|after 1. e3: excluded: white needs 5 moves and has 4 (travel)
 castling-long|Nf3|after 1. Nf3: excluded: white needs 5 moves and has 4 (travel, castling queen side)
-promotion|d3|after 1. d3: excluded: white needs 5 moves and has 4 (prices: the queen on g8 needs 5, the queen on d1 needs 3, less 3)
+promotion|d3|after 1. d3: excluded: white has 4 moves left, and white's men need 5 moves at least, counted pair by pair: the queen on g8 5
 king-abroad|e3 h5 d3|after 1. e3 h5 2. d3: as after 1. d3 h5 2. e3, below which no game ends on the diagram
 king-abroad|e3 h5 d3 a6|after 1. e3 h5 2. d3: as after 1. d3 h5 2. e3, below which no game ends on the diagram; the line goes on
 schweig|Na3 Na6 Nb1 Nb8|after 1. Na3 Na6 2. Nb1 Nb8: as at the start, below which no game ends on the diagram
 after-the-mate|f3 e6 g4 Qh4|after 1. f3 e6 2. g4 Qh4#: no move is legal
-after-the-mate|f3 e6 g4|after 1. f3 e6 2. g4: 30 of 30 moves lead on; no game below
+after-the-mate|f3 e6 g4|after 1. f3 e6 2. g4: none of 30 moves leads on; cut 29 by travel; 1 played out; no game below
 array|-|at the start: a solution
 fools-mate|f3 e5 g4|after 1. f3 e5 2. g4: 1 of 30 moves ends on the diagram
 seven-moves|-|at the start: 2 of 20 moves lead on; cut 18 by travel; 1 game below

@@ -145,7 +145,7 @@ expect 1 'pg: game 1 does not have the stated length' '(many 1000000 1; many 100
 { header "$open" 2; ones 21; } >"$work/cut.pgc"
 { header "$open" 2; ones 23; } >"$work/long.pgc"
 { header "$open" 2; printf '\1\3\0\0\0\0'; } >"$work/reference.pgc"
-open_line='at the start: 20 of 20 moves lead on; 1 game below
+open_line='at the start: 1 of 20 moves leads on; cut 19 by travel; 1 game below
 after 1. e4: 1 of 20 moves ends on the diagram
 the certificate is right'
 expect 0 '' '"$pg" why $open 1.0 ../open.pgc "1. e4" --records 22' "$open_line"
@@ -155,6 +155,9 @@ expect 1 'pg: truncated certificate' '"$pg" why $open 1.0 ../cut.pgc - --records
 expect 1 'pg: bytes after the certificate' '"$pg" why $open 1.0 ../long.pgc - --records 22' 'bytes after the certificate'
 expect 2 'pg: not one line of moves' '"$pg" why $open 1.0 ../open.pgc "" --records 22' ''
 expect 2 'pg: line 1, ply 1: no such legal move' '"$pg" why $open 1.0 ../open.pgc e5 --records 22' ''
+expect 2 'pg: line 1, ply 1: not a move' '"$pg" why $open 1.0 ../open.pgc "- e4" --records 22' ''
+expect 2 'pg: bad length' '"$pg" show $array 1.2' ''
+expect 2 'pg: bad rank' '"$pg" show 8/8 1.2' ''
 
 # Copies, and what is not copied.
 { header "$array" 4; printf '\1\5\2\1\3\1\1\1\1\2\4\1'; } >"$work/old.pgc"
@@ -257,6 +260,8 @@ if command -v script >/dev/null; then
   on_terminal() { script -qec "$1" /dev/null </dev/null | tr -d '\r'; }
   on_terminal "'$pg' check 8/8 2.0 good.pgc" >"$work/said"
   grep -qx 'pg: bad rank' "$work/said" || { echo "a bad diagram is not told before the list" >&2; wrong=1; }
+  on_terminal "'$pg' why $open 1.0 ../reference.pgc -" >"$work/said"
+  [ "$(grep -cx '\(pg: \)\?reference to no closed node' "$work/said")" = 1 ] || { echo "a refused explanation does not tell its fault once" >&2; wrong=1; }
   on_terminal "'$pg' check $open 2.0 good.pgc" >"$work/said"
   grep -q 'pg: type the games, one a line; end with Ctrl-D' "$work/said" || { echo "not told how to type a list" >&2; wrong=1; }
 fi

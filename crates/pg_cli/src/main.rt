@@ -1,4 +1,4 @@
-//! The program `pg`, the checker of shortest proof games: `pg show DIAGRAM`, `pg moves FEN`, `pg count FEN PLIES`,
+//! The program `pg`, the checker of shortest proof games: `pg show DIAGRAM [LENGTH]`, `pg moves FEN`, `pg count FEN PLIES`,
 //! `pg games DIAGRAM LENGTH [GAMES]`, `pg cooks DIAGRAM LENGTH GAMES [--nodes N] [--foreign D]`,
 //! `pg check DIAGRAM LENGTH CERT [GAMES] [--records N]`, `pg search DIAGRAM LENGTH CERT [--nodes N]`,
 //! `pg why DIAGRAM LENGTH CERT MOVES [--records N]` and `pg upgrade OLD NEW [--records N]`.

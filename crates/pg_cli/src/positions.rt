@@ -4,7 +4,7 @@ use crate::refusals::{DONE, Refusal};
 use clap::ArgMatches;
 use pg_report::{
     Bound, CountRunFault, MovesFault, Refused, ShowFault, ToWrite, run_count_watched, run_moves,
-    run_show,
+    run_show, run_show_within,
 };
 use pg_streams::{CountLine, Gathered, Terminal};
 use std::io;
@@ -48,7 +48,7 @@ pub(crate) fn count<'a, R: Runtime + AllocGlobal>(
     }
 }
 
-// `pg show DIAGRAM`: the board and what is known at once, on standard output.
+// `pg show DIAGRAM [LENGTH]`: the board and what is known at once, on standard output.
 pub(crate) fn show<'a, R: Runtime + AllocGlobal>(
     rt: &R,
     words: &ArgMatches<'a>,
@@ -56,7 +56,11 @@ pub(crate) fn show<'a, R: Runtime + AllocGlobal>(
 ) -> Result<u8, Refusal<'a>> {
     let diagram = words.get_str("DIAGRAM").unwrap_or("");
     let mut out = Gathered::new(ToWrite::new(io::writer(rt)));
-    match run_show(rt.alloc(), diagram, bounds, &mut out) {
+    let answer = match words.get_str("LENGTH") {
+        None => run_show(rt.alloc(), diagram, bounds, &mut out),
+        Some(length) => run_show_within(rt.alloc(), diagram, length, bounds, &mut out),
+    };
+    match answer {
         Ok(()) => match out.finish() {
             Ok(_) => Ok(DONE),
             Err(Refused) => Err(Refusal::Show(ShowFault::Write)),

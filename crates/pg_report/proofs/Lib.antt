@@ -1,3 +1,4 @@
 pub mod RunLemmas
 pub mod ShortestLemmas
 pub mod ShowLemmas
+pub mod SideLemmas

@@ -1,18 +1,22 @@
 -- Texts appended one after the other make the lines that show a diagram. Leads to the contract of `run_show`.
-use Rattle.std.proofs.Common.{◌≡◌, ℕ, List, ◌++◌, Option, Some, subst, sym, refl}
+use Rattle.std.proofs.Common.{◌≡◌, ◌⊎◌, inl, inr, ℕ, Bool, true, List, ◌++◌, Option, Some, Ok, subst, sym, refl}
 use Rattle.std.specs.Prelude.{codes}
+use Rattle.std.specs.Option.{option_map}
 use Rattle.std.proofs.KnownBytes.{Appends-trans}
 use Rattle.std.specs.Io.KnownBytes.{Appends}
 use Rattle.pg_board.specs.Placement.{Placement}
 use Rattle.pg_board.specs.declared.man.Color.{Color}
 use Rattle.pg_board.specs.declared.man.Color.TheVariants.{White, Black}
-use Rattle.pg_position.specs.Array.{array_state}
-use Rattle.pg_position.specs.declared.state.State.{State}
 use Rattle.pg_captures.specs.Counting.{men, any_man}
-use Rattle.pg_travel.specs.Needs.{NeedIs}
-use Rattle.pg_fen.specs.Lengths.{length_text}
+use Rattle.pg_fen.specs.Fields.{fields}
+use Rattle.pg_fen.specs.DiagramText.{diagram_of}
+use Rattle.pg_fen.specs.Lengths.{length_of, length_text}
 use Rattle.pg_texts.specs.BoardText.{board_text}
-use Rattle.pg_report.specs.Showing.{counted_text, name_of, men_text, captured_text, need_text, open_line, IsSideLine, IsShown}
+use Rattle.pg_report.specs.declared.fault.ShowFault.{ShowFault}
+use Rattle.pg_report.specs.declared.fault.ShowFault.TheVariants.{Memory, Write}
+use Rattle.pg_report.specs.declared.sides.Reason.{Reason}
+use Rattle.pg_report.specs.Sides.{own_plies, IsSideNeed}
+use Rattle.pg_report.specs.Showing.{counted_text, name_of, men_text, captured_text, reason_text, spare_text, need_text, open_line, IsSideLine, IsShown, IsShowFault, IsShowWithinFault}
 
 pub men_grow : (d : Placement) (c : Color) (n : ℕ) (name : List ℕ) (x y z : Option (List ℕ)) → name ≡ name_of c → n ≡ men c any_man d → Appends x y name → Appends y z (counted_text n (codes " man, captured ") (codes " men, captured ")) → Appends x z (men_text d c)
 men_grow d c n name x y z named counted first second = Appends-trans x y z (name_of c) _ (subst (Appends x y) named first) (subst (λ k. Appends y z (counted_text k (codes " man, captured ") (codes " men, captured "))) counted second)
@@ -20,16 +24,40 @@ men_grow d c n name x y z named counted first second = Appends-trans x y z (name
 pub open_grows : (least : Option ℕ) (n : ℕ) (text : List ℕ) (w x y z : Option (List ℕ)) → least ≡ Some n → text ≡ length_text n → Appends w x (codes "no game is shorter than ") → Appends x y text → Appends y z (codes "\n") → Appends w z (open_line least)
 open_grows least n text w x y z is said first second third = subst (λ o. Appends w z (open_line o)) (sym is) (Appends-trans w x z (codes "no game is shorter than ") _ first (Appends-trans x y z (length_text n) (codes "\n") (subst (Appends x y) said second) third))
 
-pub side_grows : (d : Placement) (c : Color) (p : State) (need : Option ℕ) (w x y z : Option (List ℕ)) → p ≡ array_state → NeedIs d p c need → Appends w x (men_text d c) → Appends x y (captured_text d c) → Appends y z (need_text need) → (text : List ℕ) × IsSideLine d c text × Appends w z text
-side_grows d c p need w x y z at is first second third = (
-  men_text d c ++ (captured_text d c ++ need_text need),
-  (need, subst (λ s. NeedIs d s c need) at is, refl),
-  Appends-trans w x z (men_text d c) _ first (Appends-trans x y z (captured_text d c) (need_text need) second third),
+pub never_grows : (reason : Option Reason) (words : List ℕ) (w x y z : Option (List ℕ)) → words ≡ reason_text reason → Appends w x (codes "cannot stand so in 64.0 moves or less") → Appends x y words → Appends y z (codes "\n")
+    → Appends w z (codes "cannot stand so in 64.0 moves or less" ++ (reason_text reason ++ codes "\n"))
+never_grows reason words w x y z is first second third = Appends-trans w x z (codes "cannot stand so in 64.0 moves or less") _ first (Appends-trans x y z (reason_text reason) (codes "\n") (subst (Appends x y) is second) third)
+
+-- what a colour needs, then what is left over
+pub need_grows : (c : Color) (n : ℕ) (need : Option ℕ) (reason : Option Reason) (asked own : Option ℕ) (w x y : Option (List ℕ)) → need ≡ Some n → own ≡ option_map (own_plies c) asked
+    → Appends w x (codes "needs " ++ (counted_text n (codes " ply") (codes " plies") ++ reason_text reason)) → Appends x y (spare_text own n) → Appends w y (need_text c need reason asked)
+need_grows c n need reason asked own w x y is has first second =
+    subst (λ o. Appends w y (need_text c o reason asked)) (sym is)
+    (Appends-trans w x y (codes "needs " ++ (counted_text n (codes " ply") (codes " plies") ++ reason_text reason)) _ first (subst (λ o. Appends x y (spare_text o n)) has second))
+
+pub side_grows : (d : Placement) (c : Color) (need : Option ℕ) (reason : Option Reason) (asked : Option ℕ) (w x y z : Option (List ℕ)) → IsSideNeed d c need reason → Appends w x (men_text d c) → Appends x y (captured_text d c) → Appends y z (need_text c need reason asked) → (text : List ℕ) × IsSideLine d c asked text × Appends w z text
+side_grows d c need reason asked w x y z is first second third = (
+  men_text d c ++ (captured_text d c ++ need_text c need reason asked),
+  (need, reason, is, refl),
+  Appends-trans w x z (men_text d c) _ first (Appends-trans x y z (captured_text d c) (need_text c need reason asked) second third),
 )
 
-pub shown : (d : Placement) (least : Option ℕ) (v w x y z : Option (List ℕ)) → Appends v w (board_text d) → (text : List ℕ) × IsSideLine d White text × Appends w x text → (text : List ℕ) × IsSideLine d Black text × Appends x y text → Appends y z (open_line least) → (text : List ℕ) × IsShown d least text × Appends v z text
-shown d least v w x y z board (white, is_white, second) (black, is_black, third) last = (
+pub shown : (d : Placement) (asked least : Option ℕ) (v w x y z : Option (List ℕ)) → Appends v w (board_text d) → (text : List ℕ) × IsSideLine d White asked text × Appends w x text → (text : List ℕ) × IsSideLine d Black asked text × Appends x y text → Appends y z (open_line least) → (text : List ℕ) × IsShown d asked least text × Appends v z text
+shown d asked least v w x y z board (white, is_white, second) (black, is_black, third) last = (
   board_text d ++ (white ++ (black ++ open_line least)),
   (white, black, is_white, is_black, refl),
   Appends-trans v w z (board_text d) _ board (Appends-trans w x z white _ second (Appends-trans x y z black (open_line least) third last)),
 )
+
+-- the line of a colour that is this one
+pub side_of : (d : Placement) (c here : Color) (asked : Option ℕ) (x y : Option (List ℕ)) → here ≡ c → (text : List ℕ) × IsSideLine d here asked text × Appends x y text → (text : List ℕ) × IsSideLine d c asked text × Appends x y text
+side_of d c here asked x y is h = subst (λ k. (text : List ℕ) × IsSideLine d k asked text × Appends x y text) is h
+
+-- ---- refusals
+pub show_refused : {P : Type 0} (text : List ℕ) (d : Placement) (failed : Bool) (e : ShowFault) → diagram_of (fields text) ≡ Ok d → ((e ≡ Memory) × P) ⊎ ((e ≡ Write) × (failed ≡ true)) → IsShowFault text failed e
+show_refused text d failed e read (inl (is, same)) = subst (λ (x : ShowFault). IsShowFault text failed x) (sym is) (d, read)
+show_refused text d failed e read (inr (is, wrong)) = subst (λ (x : ShowFault). IsShowFault text failed x) (sym is) ((d, read), wrong)
+
+pub within_refused : {P : Type 0} (text length : List ℕ) (d : Placement) (n : ℕ) (failed : Bool) (e : ShowFault) → diagram_of (fields text) ≡ Ok d → length_of length ≡ Ok n → ((e ≡ Memory) × P) ⊎ ((e ≡ Write) × (failed ≡ true)) → IsShowWithinFault text length failed e
+within_refused text length d n failed e read long (inl (is, same)) = subst (λ (x : ShowFault). IsShowWithinFault text length failed x) (sym is) (d, n, read, long)
+within_refused text length d n failed e read long (inr (is, wrong)) = subst (λ (x : ShowFault). IsShowWithinFault text length failed x) (sym is) ((d, n, read, long), wrong)

@@ -1,4 +1,5 @@
 pub mod Run
 pub mod Statuses
 pub mod Shortest
+pub mod Sides
 pub mod Showing

@@ -9,9 +9,17 @@ use Rattle.pg_pawns.specs.PawnPrices.{PawnPricesExclude}
 use Rattle.pg_travel.specs.TravelPrices.{TravelPricesExclude}
 use Rattle.pg_checker.specs.Answer.{IsSolution}
 
+-- some prices of c's travel exclude the games of m plies from the initial array to d
+abbrev pub HasTravelPrices : Placement → ℕ → Color → Type 0
+HasTravelPrices d m c = (lists : List PriceList) × TravelPricesExclude d array_state m c lists
+
+-- some prices of c's pawns exclude the games of any number of plies from the initial array to d
+abbrev pub HasPawnPrices : Placement → Color → Type 0
+HasPawnPrices d c = (list : PriceList) × PawnPricesExclude d array_state c list
+
 -- some prices of a colour's travel, or of its pawns, exclude the games of m plies from the initial array to d
 abbrev pub ArePriced : Placement → ℕ → Type 0
-ArePriced d m = ((c : Color) × (lists : List PriceList) × TravelPricesExclude d array_state m c lists) ⊎ ((c : Color) × (list : PriceList) × PawnPricesExclude d array_state c list)
+ArePriced d m = ((c : Color) × HasTravelPrices d m c) ⊎ ((c : Color) × HasPawnPrices d c)
 
 -- games of m plies are excluded: by a bound, or by prices
 abbrev pub IsExcluded : (ℕ → Bool) → Placement → ℕ → Type 0

@@ -1,19 +1,21 @@
 -- What is said at once of a diagram: its board, what either colour has done, and the least length.
-use Rattle.std.specs.Prelude.{◌≡◌, ℕ, ◌-◌, eqb, cond, Bool, true, List, ◌++◌, Option, Some, None, Ok, Err, codes}
+use Rattle.std.specs.Prelude.{◌≡◌, ℕ, ◌-◌, eqb, nat_le, cond, Bool, true, List, ◌++◌, Option, Some, None, Ok, Err, codes}
 use Rattle.std.specs.Fmt.{decimal}
+use Rattle.std.specs.Option.{option_map}
 use Rattle.pg_board.specs.Placement.{Placement}
 use Rattle.pg_board.specs.declared.man.Color.{Color}
 use Rattle.pg_board.specs.declared.man.Color.TheVariants.{White, Black}
-use Rattle.pg_position.specs.Array.{array_state}
 use Rattle.pg_captures.specs.Counting.{men, any_man}
 use Rattle.pg_captures.specs.Owed.{victims}
-use Rattle.pg_travel.specs.Needs.{NeedIs}
 use Rattle.pg_fen.specs.Fields.{fields}
 use Rattle.pg_fen.specs.DiagramText.{diagram_of}
-use Rattle.pg_fen.specs.Lengths.{length_text}
+use Rattle.pg_fen.specs.Lengths.{length_of, length_text}
 use Rattle.pg_texts.specs.BoardText.{board_text}
 use Rattle.pg_report.specs.declared.fault.ShowFault.{ShowFault}
-use Rattle.pg_report.specs.declared.fault.ShowFault.TheVariants.{Diagram, Memory, Write}
+use Rattle.pg_report.specs.declared.fault.ShowFault.TheVariants.{Diagram, Length, Memory, Write}
+use Rattle.pg_report.specs.declared.sides.Reason.{Reason}
+use Rattle.pg_report.specs.declared.sides.Reason.TheVariants.{Captures, Promotions, PawnFiles, Travel, Pairs}
+use Rattle.pg_report.specs.Sides.{own_plies, IsSideNeed}
 
 -- a number, and what is said of one or of another number
 abbrev pub counted_text : ℕ → List ℕ → List ℕ → List ℕ
@@ -31,14 +33,33 @@ men_text d c = name_of c ++ counted_text (men c any_man d) (codes " man, capture
 abbrev pub captured_text : Placement → Color → List ℕ
 captured_text d c = decimal (16 - victims c d) ++ codes ", "
 
--- how many of its plies it needs at least, by distances; none where no man can come to one of the squares
-abbrev pub need_text : Option ℕ → List ℕ
-need_text None = codes "can never stand so\n"
-need_text (Some n) = codes "needs " ++ counted_text n (codes " ply\n") (codes " plies\n")
+-- what a need is for
+abbrev pub reason_text : Option Reason → List ℕ
+reason_text None = codes ""
+reason_text (Some Captures) = codes " (captures)"
+reason_text (Some Promotions) = codes " (promotions)"
+reason_text (Some PawnFiles) = codes " (pawn files)"
+reason_text (Some Travel) = codes " (travel)"
+reason_text (Some Pairs) = codes " (travel, pair by pair)"
 
--- the line of a colour, by its need from the initial array
-abbrev pub IsSideLine : Placement → Color → List ℕ → Type 0
-IsSideLine d c text = (need : Option ℕ) × NeedIs d array_state c need × (text ≡ men_text d c ++ (captured_text d c ++ need_text need))
+-- a comma, a number, and what is said of it
+abbrev pub behind_text : ℕ → List ℕ → List ℕ
+behind_text n words = codes ", " ++ (decimal n ++ words)
+
+-- how many of so many plies of its own are left over, or short, for a need of n; nothing where no length is asked
+abbrev pub spare_text : Option ℕ → ℕ → List ℕ
+spare_text None n = codes "\n"
+spare_text (Some own) n = cond (nat_le n own) (behind_text (own - n) (codes " left over\n")) (behind_text (n - own) (codes " short\n"))
+
+-- what a colour needs, for what reason, and what is left over of its plies of a game of the length that is asked, if one is
+abbrev pub need_text : Color → Option ℕ → Option Reason → Option ℕ → List ℕ
+need_text c None reason asked = codes "cannot stand so in 64.0 moves or less" ++ (reason_text reason ++ codes "\n")
+need_text c (Some n) reason asked = (codes "needs " ++ (counted_text n (codes " ply") (codes " plies") ++ reason_text reason)) ++ spare_text (option_map (own_plies c) asked) n
+
+-- the line of a colour, by what it needs from the initial array
+abbrev pub IsSideLine : Placement → Color → Option ℕ → List ℕ → Type 0
+IsSideLine d c asked text =
+    (need : Option ℕ) × (reason : Option Reason) × IsSideNeed d c need reason × (text ≡ men_text d c ++ (captured_text d c ++ need_text c need reason asked))
 
 -- the least length, none where no length up to 128 plies is open
 abbrev pub open_line : Option ℕ → List ℕ
@@ -46,11 +67,24 @@ open_line None = codes "no game of 64.0 moves or less\n"
 open_line (Some n) = codes "no game is shorter than " ++ (length_text n ++ codes "\n")
 
 -- the board, a line for white and one for black, and the least length
-abbrev pub IsShown : Placement → Option ℕ → List ℕ → Type 0
-IsShown d least text = (white : List ℕ) × (black : List ℕ) × IsSideLine d White white × IsSideLine d Black black × (text ≡ board_text d ++ (white ++ (black ++ open_line least)))
+abbrev pub IsShown : Placement → Option ℕ → Option ℕ → List ℕ → Type 0
+IsShown d asked least text =
+    (white : List ℕ) × (black : List ℕ) × IsSideLine d White asked white × IsSideLine d Black asked black × (text ≡ board_text d ++ (white ++ (black ++ open_line least)))
+
+-- the texts spell a diagram and a length
+abbrev pub IsAsked : List ℕ → List ℕ → Type 0
+IsAsked text length = (d : Placement) × (n : ℕ) × (diagram_of (fields text) ≡ Ok d) × (length_of length ≡ Ok n)
 
 -- why nothing is shown, or not all: the text is refused as a diagram; else memory was refused, or the sink has failed
 abbrev pub IsShowFault : List ℕ → Bool → ShowFault → Type 0
 IsShowFault text failed (Diagram fault) = diagram_of (fields text) ≡ Err fault
+IsShowFault text failed (Length fault) = ⊥
 IsShowFault text failed Memory = (d : Placement) × (diagram_of (fields text) ≡ Ok d)
 IsShowFault text failed Write = ((d : Placement) × (diagram_of (fields text) ≡ Ok d)) × (failed ≡ true)
+
+-- the same where a length is asked: after the diagram its text may be refused
+abbrev pub IsShowWithinFault : List ℕ → List ℕ → Bool → ShowFault → Type 0
+IsShowWithinFault text length failed (Diagram fault) = diagram_of (fields text) ≡ Err fault
+IsShowWithinFault text length failed (Length fault) = ((d : Placement) × (diagram_of (fields text) ≡ Ok d)) × (length_of length ≡ Err fault)
+IsShowWithinFault text length failed Memory = IsAsked text length
+IsShowWithinFault text length failed Write = IsAsked text length × (failed ≡ true)

@@ -67,6 +67,7 @@ count_status_of numbering.Write = 4
 
 abbrev pub show_status_of : ShowFault → ℕ
 show_status_of (showing.Diagram fault) = 2
+show_status_of (showing.Length fault) = 2
 show_status_of showing.Memory = 3
 show_status_of showing.Write = 4
 

@@ -1,6 +1,6 @@
 //! Why a diagram is not shown.
 
-use pg_fen::FenFault;
+use pg_fen::{FenFault, LengthFault};
 use thiserror::Error;
 
 /// Why a diagram is not shown.
@@ -9,6 +9,9 @@ pub enum ShowFault {
     /// The text is refused as a diagram.
     #[error("{0}")]
     Diagram(FenFault),
+    /// The text is refused as a length.
+    #[error("{0}")]
+    Length(LengthFault),
     /// A growth was refused.
     #[error("out of memory")]
     Memory,

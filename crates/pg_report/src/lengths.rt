@@ -3,7 +3,7 @@ ghost use Rattle.std.specs.Prelude.{◌≡◌, IsTrue, IfOk, false};
 ghost use Rattle.std.specs.List.{list_any};
 ghost use Rattle.pg_position.specs.Array.{array_state};
 ghost use Rattle.pg_position.specs.Game.{Barren};
-ghost use Rattle.pg_report.specs.Shortest.{ArePriced, IsExcluded, IsLeastLength, NoneBelow};
+ghost use Rattle.pg_report.specs.Shortest.{ArePriced, HasPawnPrices, HasTravelPrices, IsExcluded, IsLeastLength, NoneBelow};
 
 use pg_board::Color;
 use pg_captures::{Bound, ask};
@@ -14,14 +14,20 @@ use std::alloc::{AllocError, Global};
 
 // Prices of a colour at the initial array, of its travel and of its pawns. They are trusted for nothing.
 #[derive(Clone, Copy)]
-struct Offers {
-    color: Color,
-    travel: Lists,
-    pawns: Lists,
+pub(crate) struct Offers {
+    pub(crate) color: Color,
+    pub(crate) travel: Lists,
+    pub(crate) pawns: Lists,
 }
 
 // The prices that least assignments give.
-fn offers_of(alloc: Global, color: Color, diagram: &Diagram) -> Result<Offers, AllocError> {
+pub(crate) fn offers_of(
+    alloc: Global,
+    color: Color,
+    diagram: &Diagram,
+) -> Result<Offers, AllocError>
+    ensures { IfOk result (λ offers. offers.color ≡ color) }
+{
     let rows = Rows::new(alloc, color, diagram)?;
     let array = Position::array();
     let (_, travel) = travel_lists(&rows, &array);
@@ -34,8 +40,8 @@ fn offers_of(alloc: Global, color: Color, diagram: &Diagram) -> Result<Offers, A
 }
 
 // Whether prices of a colour's travel exclude the games of so many plies.
-fn travel_excludes(diagram: &Diagram, plies: u8, color: Color, lists: &Lists) -> bool
-    ensures priced { IsTrue result → ArePriced diagram.now plies }
+pub(crate) fn travel_excludes(diagram: &Diagram, plies: u8, color: Color, lists: &Lists) -> bool
+    ensures priced { IsTrue result → HasTravelPrices diagram.now plies color }
     ensures barren { IsTrue result → Barren diagram.now array_state plies }
 {
     match prices_of(lists.as_slice()) {
@@ -47,8 +53,8 @@ fn travel_excludes(diagram: &Diagram, plies: u8, color: Color, lists: &Lists) ->
 }
 
 // Whether prices of a colour's pawns exclude the games of so many plies, as they do of any number.
-fn pawns_exclude(diagram: &Diagram, plies: u8, color: Color, lists: &Lists) -> bool
-    ensures priced { IsTrue result → ArePriced diagram.now plies }
+pub(crate) fn pawns_exclude(diagram: &Diagram, plies: u8, color: Color, lists: &Lists) -> bool
+    ensures priced { IsTrue result → HasPawnPrices diagram.now color }
     ensures barren { IsTrue result → Barren diagram.now array_state plies }
 {
     match prices_of(lists.as_slice()) {
@@ -101,7 +107,7 @@ fn is_excluded(
 }
 
 // The least number of plies that is not excluded.
-fn first_open(
+pub(crate) fn first_open(
     bounds: &[Box<dyn Bound>],
     diagram: &Diagram,
     white: &Offers,

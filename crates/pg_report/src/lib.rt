@@ -6,12 +6,13 @@ mod fault;
 mod lengths;
 mod run;
 mod showing;
+mod sides;
 mod statuses;
 
 pub use fault::ShowFault;
 pub use lengths::shortest;
 pub use run::{run_check, run_listed};
-pub use showing::run_show;
+pub use showing::{run_show, run_show_within};
 pub use statuses::{
     count_status, moves_status, search_status, show_status, status, upgrade_status, verdict_status,
 };

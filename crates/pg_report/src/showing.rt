@@ -1,25 +1,28 @@
 //! What is said at once of a diagram, for the eye.
-ghost use Rattle.std.specs.Prelude.{◌≡◌, ◌≢◌, ◌++◌, ℕ, List, Option, IfErr, OnOk, OnErr, Ok, true, false};
+ghost use Rattle.std.specs.Prelude.{◌≡◌, ◌≢◌, ◌++◌, ◌⊎◌, ℕ, List, Option, Some, None, IfOk, IfErr, OnOk, OnErr, Ok, codes, true, false};
+ghost use Rattle.std.specs.Option.{option_map};
 ghost use Rattle.std.specs.List.{list_any};
 ghost use Rattle.std.specs.Io.KnownBytes.{Appends};
 ghost use Rattle.pg_board.specs.Placement.{Placement};
 ghost use Rattle.pg_position.specs.Array.{array_state};
-ghost use Rattle.pg_travel.specs.Needs.{NeedIs};
+ghost use Rattle.pg_board.specs.declared.man.Color.TheVariants.{White, Black};
 ghost use Rattle.pg_fen.specs.Fields.{fields};
 ghost use Rattle.pg_fen.specs.DiagramText.{diagram_of};
+ghost use Rattle.pg_fen.specs.Lengths.{length_of};
 ghost use Rattle.pg_report.specs.Shortest.{IsLeastLength, NoneBelow};
-ghost use Rattle.pg_report.specs.Showing.{counted_text, name_of, men_text, captured_text, need_text, open_line, IsSideLine, IsShown, IsShowFault};
+ghost use Rattle.pg_report.specs.Sides.{own_plies};
+ghost use Rattle.pg_report.specs.Showing.{counted_text, name_of, men_text, captured_text, reason_text, behind_text, spare_text, need_text, open_line};
+ghost use Rattle.pg_report.specs.Showing.{IsSideLine, IsShown, IsShowFault, IsShowWithinFault};
 
 use crate::fault::ShowFault;
-use crate::lengths::shortest;
+use crate::lengths::{Offers, first_open, offers_of};
+use crate::sides::{Need, Reason, need_of};
 use pg_board::Color;
-use pg_captures::{Bound, all_men, victims_of};
+use pg_captures::{Bound, all_men, plies_left, victims_of};
 use pg_certificate::{Refused, Sink};
 use pg_fen::text::digits;
 use pg_fen::{Diagram, Length};
-use pg_position::Position;
 use pg_texts::write_board;
-use pg_travel::need;
 use std::alloc::{AllocError, Global};
 
 // Appends a number, and what is said of one or of another number.
@@ -65,31 +68,119 @@ fn write_captured<W: Sink>(color: Color, diagram: &Diagram, out: &mut W) -> Resu
     out.push(b", ")
 }
 
-// Appends how many plies a colour needs.
-fn write_need<W: Sink>(plies: Option<u16>, out: &mut W) -> Result<(), Refused>
-    ensures text { OnOk result (Appends (W.held out.old) (W.held out.new) (need_text plies)) }
+// Why a need is not smaller, in brackets.
+fn reason_words(reason: Option<Reason>) -> &'static str
+    ensures { result.now ≡ reason_text reason }
+{
+    match reason {
+        None => "",
+        Some(Reason::Captures) => " (captures)",
+        Some(Reason::Promotions) => " (promotions)",
+        Some(Reason::PawnFiles) => " (pawn files)",
+        Some(Reason::Travel) => " (travel)",
+        Some(Reason::Pairs) => " (travel, pair by pair)",
+    }
+}
+
+// Appends a comma, a number, and what is said of it.
+fn write_behind<W: Sink>(n: u8, words: &str, out: &mut W) -> Result<(), Refused>
+    ensures text { OnOk result (Appends (W.held out.old) (W.held out.new) (behind_text n words.now)) }
     ensures runs { OnOk result ((W.has_failed out.old ≡ false) × (W.has_failed out.new ≡ false)) }
     ensures fault { OnErr result (W.has_failed out.new ≡ true) }
 {
-    match plies {
-        None => out.push(b"can never stand so\n"),
-        Some(n) => {
-            out.push(b"needs ")?;
-            write_counted(usize::from(n), " ply\n", " plies\n", out)
+    out.push(b", ")?;
+    out.push(digits(usize::from(n)).as_bytes())?;
+    out.push(words.as_bytes())
+}
+
+// Appends how many plies are left over, or short, of those that a colour has; the end of the line alone where no
+// length is asked.
+fn write_spare<W: Sink>(own: Option<u8>, needed: u8, out: &mut W) -> Result<(), Refused>
+    ensures text { OnOk result (Appends (W.held out.old) (W.held out.new) (spare_text own needed)) }
+    ensures runs { OnOk result ((W.has_failed out.old ≡ false) × (W.has_failed out.new ≡ false)) }
+    ensures fault { OnErr result (W.has_failed out.new ≡ true) }
+{
+    match own {
+        None => out.push(b"\n"),
+        Some(own) => {
+            if needed <= own {
+                write_behind(own - needed, " left over\n", out)
+            } else {
+                write_behind(needed - own, " short\n", out)
+            }
+        }
+    }
+}
+
+// Appends how many plies a colour needs, and for what reason.
+fn write_plies<W: Sink>(plies: u8, reason: Option<Reason>, out: &mut W) -> Result<(), Refused>
+    ensures text { OnOk result (Appends (W.held out.old) (W.held out.new)
+        (codes "needs " ++ (counted_text plies (codes " ply") (codes " plies") ++ reason_text reason))) }
+    ensures runs { OnOk result ((W.has_failed out.old ≡ false) × (W.has_failed out.new ≡ false)) }
+    ensures fault { OnErr result (W.has_failed out.new ≡ true) }
+{
+    out.push(b"needs ")?;
+    write_counted(usize::from(plies), " ply", " plies", out)?;
+    out.push(reason_words(reason).as_bytes())
+}
+
+// Appends that no number of plies up to 64 is enough for a colour, and why.
+fn write_never<W: Sink>(reason: Option<Reason>, out: &mut W) -> Result<(), Refused>
+    ensures text { OnOk result (Appends (W.held out.old) (W.held out.new)
+        (codes "cannot stand so in 64.0 moves or less" ++ (reason_text reason ++ codes "\n"))) }
+    ensures runs { OnOk result ((W.has_failed out.old ≡ false) × (W.has_failed out.new ≡ false)) }
+    ensures fault { OnErr result (W.has_failed out.new ≡ true) }
+{
+    out.push(b"cannot stand so in 64.0 moves or less")?;
+    out.push(reason_words(reason).as_bytes())?;
+    out.push(b"\n")
+}
+
+// The plies of a colour in a game of a length.
+fn own_plies(color: Color, asked: &Option<Length>) -> Option<u8>
+    ensures { result ≡ option_map (own_plies color) asked.now }
+{
+    match asked {
+        None => None,
+        Some(length) => Some(plies_left(Color::White, color, length.plies())),
+    }
+}
+
+// Appends what a colour needs, and what is left over where a length is asked.
+fn write_need<W: Sink>(
+    color: Color,
+    need: Need,
+    asked: &Option<Length>,
+    out: &mut W,
+) -> Result<(), Refused>
+    ensures text { OnOk result (Appends (W.held out.old) (W.held out.new) (need_text color need.plies need.reason asked.now)) }
+    ensures runs { OnOk result ((W.has_failed out.old ≡ false) × (W.has_failed out.new ≡ false)) }
+    ensures fault { OnErr result (W.has_failed out.new ≡ true) }
+{
+    match need.plies {
+        None => write_never(need.reason, out),
+        Some(plies) => {
+            write_plies(plies, need.reason, out)?;
+            write_spare(own_plies(color, asked), plies, out)
         }
     }
 }
 
 // Appends the line of a colour.
-fn write_side<W: Sink>(color: Color, diagram: &Diagram, out: &mut W) -> Result<(), Refused>
-    ensures text { OnOk result ((text : List ℕ) × IsSideLine diagram.now color text × Appends (W.held out.old) (W.held out.new) text) }
+fn write_side<W: Sink>(
+    diagram: &Diagram,
+    offers: &Offers,
+    asked: &Option<Length>,
+    out: &mut W,
+) -> Result<(), Refused>
+    ensures text { OnOk result ((text : List ℕ) × IsSideLine diagram.now offers.now.color asked.now text × Appends (W.held out.old) (W.held out.new) text) }
     ensures runs { OnOk result ((W.has_failed out.old ≡ false) × (W.has_failed out.new ≡ false)) }
     ensures fault { OnErr result (W.has_failed out.new ≡ true) }
 {
-    let plies = need(color, diagram, &Position::array());
-    write_men(color, diagram, out)?;
-    write_captured(color, diagram, out)?;
-    write_need(plies, out)
+    let need = need_of(diagram, offers);
+    write_men(offers.color, diagram, out)?;
+    write_captured(offers.color, diagram, out)?;
+    write_need(offers.color, need, asked, out)
 }
 
 // Appends the line of the least length.
@@ -111,10 +202,15 @@ fn write_open<W: Sink>(least: Option<Length>, out: &mut W) -> Result<(), Refused
 // Appends the board, the lines of the colours and that of the least length.
 fn write_shown<W: Sink>(
     diagram: &Diagram,
+    asked: &Option<Length>,
+    white: &Offers,
+    black: &Offers,
     least: Option<Length>,
     out: &mut W,
 ) -> Result<(), Refused>
-    ensures text { OnOk result ((text : List ℕ) × IsShown diagram.now least text × Appends (W.held out.old) (W.held out.new) text) }
+    requires white { white.now.color ≡ White }
+    requires black { black.now.color ≡ Black }
+    ensures text { OnOk result ((text : List ℕ) × IsShown diagram.now asked.now least text × Appends (W.held out.old) (W.held out.new) text) }
     ensures runs { OnOk result ((W.has_failed out.old ≡ false) × (W.has_failed out.new ≡ false)) }
     ensures fault { OnErr result (W.has_failed out.new ≡ true) }
 {
@@ -122,17 +218,48 @@ fn write_shown<W: Sink>(
         Ok(()) => {}
         Err(_) => return Err(Refused),
     }
-    write_side(Color::White, diagram, out)?;
-    write_side(Color::Black, diagram, out)?;
+    write_side(diagram, white, asked, out)?;
+    write_side(diagram, black, asked, out)?;
     write_open(least, out)
+}
+
+// Shows a diagram that was read, within a length if one is asked: one reckoning gives what the lines of both colours
+// and of the least length say.
+fn show<W: Sink>(
+    alloc: Global,
+    diagram: &Diagram,
+    asked: Option<Length>,
+    bounds: &[Box<dyn Bound>],
+    out: &mut W,
+) -> Result<(), ShowFault>
+    ensures ok { OnOk result ((least : Option ℕ) × NoneBelow diagram.now least
+        × IsLeastLength (λ m. list_any (λ b. excluded b diagram.now array_state m) bounds.now) diagram.now least
+        × ((text : List ℕ) × IsShown diagram.now asked least text × Appends (W.held out.old) (W.held out.new) text)) }
+    ensures err { IfErr result (λ e. ((e ≡ ShowFault.Memory) × (out.new ≡ out.old)) ⊎ ((e ≡ ShowFault.Write) × (W.has_failed out.new ≡ true))) }
+    ensures runs { OnOk result ((W.has_failed out.old ≡ false) × (W.has_failed out.new ≡ false)) }
+{
+    let white = match offers_of(alloc, Color::White, diagram) {
+        Ok(white) => white,
+        Err(AllocError) => return Err(ShowFault::Memory),
+    };
+    let black = match offers_of(alloc, Color::Black, diagram) {
+        Ok(black) => black,
+        Err(AllocError) => return Err(ShowFault::Memory),
+    };
+    let least = first_open(bounds, diagram, &white, &black);
+    match write_shown(diagram, &asked, &white, &black, least, out) {
+        Ok(()) => Ok(()),
+        Err(Refused) => Err(ShowFault::Write),
+    }
 }
 
 /// Writes what is known at once of the diagram that a text spells (the placement field of FEN, or all
 /// six fields; the PGN standard, section 16.1): its board, as `write_board` writes it; a line for white
 /// and one for black, with how many men it has, how many of the other colour's 16 men are gone, and how
-/// many plies of its own it needs at least from the initial array, by distances; and the length in moves
-/// such that no game of fewer moves ends on the diagram, as `shortest` gives it. Each line ends
-/// with a line feed. What finds the length takes memory from `alloc`, and nothing is written before.
+/// many plies of its own it needs at least from the initial array, with what shows that (the men that it has to
+/// capture, the moves of the nearest men, or those of its men pair by pair, by prices), or that 64 are not enough;
+/// and the length in moves such that no game of fewer moves ends on the diagram, as `shortest` gives it. Each line ends
+/// with a line feed. What finds these numbers takes memory from `alloc`, and nothing is written before.
 ///
 /// # Errors
 /// `Diagram` where the text is refused as a diagram, with that refusal; `Memory` where a growth was
@@ -145,7 +272,7 @@ pub fn run_show<W: Sink>(
 ) -> Result<(), ShowFault>
     ensures ok { OnOk result ((d : Placement) × (diagram_of (fields diagram.now) ≡ Ok d)
         × ((least : Option ℕ) × NoneBelow d least × IsLeastLength (λ m. list_any (λ b. excluded b d array_state m) bounds.now) d least
-        × ((text : List ℕ) × IsShown d least text × Appends (W.held out.old) (W.held out.new) text))) }
+        × ((text : List ℕ) × IsShown d None least text × Appends (W.held out.old) (W.held out.new) text))) }
     ensures err { IfErr result (λ e. IsShowFault diagram.now (W.has_failed out.new) e) }
     ensures unwritten { IfErr result (λ e. e ≢ ShowFault.Write → out.new ≡ out.old) }
     ensures runs { OnOk result ((W.has_failed out.old ≡ false) × (W.has_failed out.new ≡ false)) }
@@ -154,12 +281,42 @@ pub fn run_show<W: Sink>(
         Ok(diagram) => diagram,
         Err(fault) => return Err(ShowFault::Diagram(fault)),
     };
-    let least = match shortest(alloc, &diagram, bounds) {
-        Ok(least) => least,
-        Err(AllocError) => return Err(ShowFault::Memory),
-    };
-    match write_shown(&diagram, least, out) {
+    match show(alloc, &diagram, None, bounds, out) {
         Ok(()) => Ok(()),
-        Err(Refused) => Err(ShowFault::Write),
+        Err(fault) => Err(fault),
+    }
+}
+
+/// The same with a length in moves, 64.0 at most, of which a text says how long it is: behind what a colour needs
+/// stands how many of its plies of a game of that length are left over, or how many are short.
+///
+/// # Errors
+/// In this order: `Diagram` and `Length` where that text is refused, with that refusal; `Memory` where a growth was
+/// refused; `Write` where the sink has failed. With all but the last the sink is as it was.
+pub fn run_show_within<W: Sink>(
+    alloc: Global,
+    diagram: &str,
+    length: &str,
+    bounds: &[Box<dyn Bound>],
+    out: &mut W,
+) -> Result<(), ShowFault>
+    ensures ok { OnOk result ((d : Placement) × (n : ℕ) × (diagram_of (fields diagram.now) ≡ Ok d) × (length_of length.now ≡ Ok n)
+        × ((least : Option ℕ) × NoneBelow d least × IsLeastLength (λ m. list_any (λ b. excluded b d array_state m) bounds.now) d least
+        × ((text : List ℕ) × IsShown d (Some n) least text × Appends (W.held out.old) (W.held out.new) text))) }
+    ensures err { IfErr result (λ e. IsShowWithinFault diagram.now length.now (W.has_failed out.new) e) }
+    ensures unwritten { IfErr result (λ e. e ≢ ShowFault.Write → out.new ≡ out.old) }
+    ensures runs { OnOk result ((W.has_failed out.old ≡ false) × (W.has_failed out.new ≡ false)) }
+{
+    let diagram = match Diagram::read(diagram) {
+        Ok(diagram) => diagram,
+        Err(fault) => return Err(ShowFault::Diagram(fault)),
+    };
+    let length = match Length::read(length) {
+        Ok(length) => length,
+        Err(fault) => return Err(ShowFault::Length(fault)),
+    };
+    match show(alloc, &diagram, Some(length), bounds, out) {
+        Ok(()) => Ok(()),
+        Err(fault) => Err(fault),
     }
 }

@@ -92,13 +92,13 @@ pub fn count_status(fault: &CountRunFault) -> u8
     }
 }
 
-/// The status where a diagram is not shown: 2 for a bad diagram, 3 for want of memory, 4 for a write
+/// The status where a diagram is not shown: 2 for a bad diagram or length, 3 for want of memory, 4 for a write
 /// fault.
 pub fn show_status(fault: &ShowFault) -> u8
     ensures { result ≡ show_status_of fault.now }
 {
     match fault {
-        ShowFault::Diagram(_) => 2,
+        ShowFault::Diagram(_) | ShowFault::Length(_) => 2,
         ShowFault::Memory => 3,
         ShowFault::Write => 4,
     }

@@ -6,6 +6,7 @@ mod counts;
 mod found;
 mod names;
 mod numbers;
+mod pairing;
 mod prices;
 mod sentences;
 mod tally;

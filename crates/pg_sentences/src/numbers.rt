@@ -23,7 +23,7 @@ pub(crate) fn own_plies(node: &Node, color: Color) -> u8 {
 }
 
 // That a colour has captured more men than the diagram lacks.
-fn too_many(color: Color, owed: i16) -> Sentence {
+pub(crate) fn too_many(color: Color, owed: i16) -> Sentence {
     let mut text = Sentence::new();
     let color = color_name(color);
     let men = many(u64::from(owed.unsigned_abs()), "man", "men");
@@ -82,9 +82,10 @@ pub(crate) fn promotions_of(node: &Node, color: Color) -> Option<Sentence> {
     Some(text)
 }
 
-// Why changes of file exclude a colour, so many as its pawns need: it owes fewer captures; none where
-// they do not.
-pub(crate) fn files_by(node: &Node, color: Color, shift: u16) -> Option<Sentence> {
+// Why changes of file exclude a colour, so many as the lines between files show: it owes fewer captures; none where they
+// do not.
+pub(crate) fn files_of(node: &Node, color: Color) -> Option<Sentence> {
+    let shift = shift_need(color, node.diagram, node.position);
     let owed = owed(color, node.diagram, node.position);
     if owed < 0 {
         return Some(too_many(color, owed));
@@ -102,9 +103,4 @@ pub(crate) fn files_by(node: &Node, color: Color, shift: u16) -> Option<Sentence
         "{color}'s pawns must change file {times}, and {color} has {men} to capture"
     );
     Some(text)
-}
-
-// The same with the changes of file that the lines between files show.
-pub(crate) fn files_of(node: &Node, color: Color) -> Option<Sentence> {
-    files_by(node, color, shift_need(color, node.diagram, node.position))
 }

@@ -18,11 +18,12 @@ file that cannot be opened, created, read or written.";
 
 const SHOW_EXAMPLE: &str =
     "Below the board stand, for each side, its men, how many it captured, and how
-many moves of its own it needs at least, by distances; and a length that no game
-which ends on the diagram can be below.
+many moves of its own it needs at least, with what shows that; and a length that
+no game which ends on the diagram can be below. With LENGTH stands for each side
+how many of its moves of such a game are left over.
 
 Example:
-  pg show r1bqkbnr/ppp2ppp/3p4/8/8/8/PPPPPPPP/R1BQKBNR";
+  pg show r1bqkbnr/ppp2ppp/3p4/8/8/8/PPPPPPPP/R1BQKBNR 4.0";
 
 const MOVES_EXAMPLE: &str = "Example:
   pg moves 'rnbqkbnr/pppppppp/8/8/8/8/PPPPPPPP/RNBQKBNR w KQkq - 0 1'";
@@ -87,6 +88,7 @@ enum Word {
     Plies,
     Diagram,
     Length,
+    Within,
     Certificate,
     Games,
     Known,
@@ -113,7 +115,7 @@ const COMMANDS: [Entry; 9] = [
         name: "show",
         about: "Prints the board of a diagram, and what is known of it at once",
         below: SHOW_EXAMPLE,
-        words: &[Word::Diagram],
+        words: &[Word::Diagram, Word::Within],
     },
     Entry {
         name: "moves",
@@ -218,6 +220,9 @@ fn arg_of<'a>(alloc: Global, word: Word) -> Arg<'a> {
             alloc,
             "LENGTH",
             "In moves, 64.0 at most: 18.5 is 37 plies, 18 and 18.0 are 36",
+        ),
+        Word::Within => Arg::new(alloc, "LENGTH").help(
+            "In moves, 64.0 at most: says what a game of it leaves over",
         ),
         Word::Certificate => wanted(alloc, "CERT", "The certificate, as `pg search` writes it"),
         Word::Games => Arg::new(alloc, "GAMES").help(

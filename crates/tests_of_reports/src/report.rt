@@ -44,8 +44,8 @@ const SCHWEIG_SHOWN: &str = "8 r . b q k b n r
 2 P P P P P P P P
 1 R . B Q K B N R
   a b c d e f g h
-white 15 men, captured 2, needs 0 plies
-black 14 men, captured 1, needs 1 ply
+white 15 men, captured 2, needs 2 plies (captures)
+black 14 men, captured 1, needs 1 ply (captures)
 no game is shorter than 1.5
 ";
 
@@ -166,6 +166,7 @@ fn obey<R: Abort + AllocGlobal, S: Source, W: Sink>(
         "show" => told(&run_show(rt.alloc(), text, &four_bounds(rt), out)),
         "cooks" => cooks(rt, [text, number, list], limit, out),
         "report" => report(rt, [text, number, list], out),
+        "within" => told(&run_show_within(rt.alloc(), text, number, &four_bounds(rt), out)),
         "upgrade" => told(&upgrade(source, out, limit)),
         _ => check(rt, [text, number, list], limit, source, out),
     }

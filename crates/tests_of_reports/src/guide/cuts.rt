@@ -42,12 +42,12 @@ fn cuts_in_both_versions(rt: HostRuntime) {
 }
 
 // The cut of a record of prices: a code, white's colour, how many ways, sources and targets, and for each way what
-// these pay. By pawn files, and by travel three times; of four men that are dear the first three are named.
+// these pay. What is said is what each pair costs, so that the sum is the number that excludes. By pawn files, and by travel three times; of four men that are dear the first three are named.
 const PRICES: &str =
-    "rnbqkbnr/pppppppp/8/8/8/3P4/PPPP1PPP/RNBQKBNR | 0.5 | - | 2 rnbqkbnr/pppppppp/8/8/8/3P4/PPPP1PPP/RNBQKBNR 0.5 | 060300010808 00*3 01 00*7 01 00*3 01 => () => at the start: excluded: white's pawns must change file 1 time, and white has no man to capture (prices: the pawn on d2 needs 1, the pawn on d3 needs 1, less 1)$the certificate is right$
-rnbqkbnr/pppppppp/8/8/8/2N2N2/PPPPPPPP/R1BQKB1R | 0.5 | - | 2 rnbqkbnr/pppppppp/8/8/8/2N2N2/PPPPPPPP/R1BQKB1R 0.5 | 060400031010 00*30 01*2 00*30 01*2 00*30 01*2 => () => at the start: excluded: white needs 2 moves and has 1 (prices: the knight on c3 needs 1, the knight on f3 needs 1)$the certificate is right$
-rnbqkbnr/pppppppp/8/8/8/4P3/PPPP1PPP/RNBQ1RK1 | 0.5 | - | 2 rnbqkbnr/pppppppp/8/8/8/4P3/PPPP1PPP/RNBQ1RK1 0.5 | 06040003100e 00*20 01 02 00*7 01 00*29 01 00*20 01 02 00*7 01 => () => at the start: excluded: white needs 2 moves and has 1 (prices: the pawn on e3 needs 1, castling 1)$the certificate is right$
-rnbqkbnr/pppppppp/4N3/8/8/2N2P1P/PPPPP1P1/R1BQKB1R | 0.5 | - | 2 rnbqkbnr/pppppppp/4N3/8/8/2N2P1P/PPPPP1P1/R1BQKB1R 0.5 | 060400031010 00*28 01*3 03 00*28 01*3 03 00*28 01*3 03 => () => at the start: excluded: white needs 6 moves and has 1 (prices: the knight on e6 needs 3, the knight on c3 needs 1, the pawn on f3 needs 1, others 1)$the certificate is right$";
+    "rnbqkbnr/pppppppp/8/8/8/3P4/PPPP1PPP/RNBQKBNR | 0.5 | - | 2 rnbqkbnr/pppppppp/8/8/8/3P4/PPPP1PPP/RNBQKBNR 0.5 | 060300010808 00*3 01 00*7 01 00*3 01 => () => at the start: excluded: white has no man to capture, and white's pawns must change file 1 time at least, counted pair by pair: the pawn on d3 1$the certificate is right$
+rnbqkbnr/pppppppp/8/8/8/2N2N2/PPPPPPPP/R1BQKB1R | 0.5 | - | 2 rnbqkbnr/pppppppp/8/8/8/2N2N2/PPPPPPPP/R1BQKB1R 0.5 | 060400031010 00*30 01*2 00*30 01*2 00*30 01*2 => () => at the start: excluded: white has 1 move left, and white's men need 2 moves at least, counted pair by pair: the knight on c3 1, the knight on f3 1$the certificate is right$
+rnbqkbnr/pppppppp/8/8/8/4P3/PPPP1PPP/RNBQ1RK1 | 0.5 | - | 2 rnbqkbnr/pppppppp/8/8/8/4P3/PPPP1PPP/RNBQ1RK1 0.5 | 06040003100e 00*20 01 02 00*7 01 00*29 01 00*20 01 02 00*7 01 => () => at the start: excluded: white has 1 move left, and white's men need 2 moves at least, counted pair by pair: the pawn on e3 1, castling 1$the certificate is right$
+rnbqkbnr/pppppppp/4N3/8/8/2N2P1P/PPPPP1P1/R1BQKB1R | 0.5 | - | 2 rnbqkbnr/pppppppp/4N3/8/8/2N2P1P/PPPPP1P1/R1BQKB1R 0.5 | 060400031010 00*28 01*3 03 00*28 01*3 03 00*28 01*3 03 => () => at the start: excluded: white has 1 move left, and white's men need 6 moves at least, counted pair by pair: the knight on e6 3, the knight on c3 1, the pawn on f3 1, others 1$the certificate is right$";
 
 #[test]
 fn prices(rt: HostRuntime) {

@@ -33,7 +33,7 @@ fn named_run(rt: &impl Abort, alloc: Global) -> (Result<(), WhyFault>, usize) {
 }
 
 // How many bytes three lines have: of the start, of the node after e4, and the verdict.
-const BYTES: usize = 51 + 47 + 25;
+const BYTES: usize = 69 + 47 + 25;
 
 // Passes too where `rt try --test --fail-alloc N` refuses the N-th growth: want of memory is told,
 // with nothing written.

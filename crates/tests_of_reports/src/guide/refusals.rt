@@ -36,8 +36,8 @@ fn cuts_that_do_not_hold(rt: HostRuntime) {
 // To no node; and after Na3 to the root of the tree of one ply.
 const REFERENCES: &str =
     "after-e4 | 0.5 | - | 2 after-e4 0.5 | 0300000007 => Run(Check(RefUnknown)): reference to no closed node => at the start: a reference to no closed node$
-after-e4-e5 | 1.0 | Na3 | 2 after-e4-e5 1.0 | 0501 0300000000 01*19 => Run(Check(RefDiffers)): reference to another position => at the start: 19 of 20 moves lead on; cut 1 by reference; 1 game below$after 1. Na3: as at the start, which is another position, below which no game ends on the diagram$
-after-e4 | 1.0 | Na3 | 2 after-e4 1.0 | 0501 0300000000 01*19 => Run(Check(Shorter(1))): a game of 1 plies reaches the diagram => at the start: 19 of 20 moves lead on; cut 1 by reference; no game below$after 1. Na3: as at the start, which is another position, below which a game ends on the diagram$";
+after-e4-e5 | 1.0 | Na3 | 2 after-e4-e5 1.0 | 0501 0300000000 01*19 => Run(Check(RefDiffers)): reference to another position => at the start: 1 of 20 moves leads on; cut 18 by travel, 1 by reference; 1 game below$after 1. Na3: as at the start, which is another position, below which no game ends on the diagram$
+after-e4 | 1.0 | Na3 | 2 after-e4 1.0 | 0501 0300000000 01*19 => Run(Check(Shorter(1))): a game of 1 plies reaches the diagram => at the start: none of 20 moves leads on; cut 18 by travel, 1 by reference; 1 played out; no game below$after 1. Na3: as at the start, which is another position, below which a game ends on the diagram$";
 
 #[test]
 fn references_that_do_not_hold(rt: HostRuntime) {

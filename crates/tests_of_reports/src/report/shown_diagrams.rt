@@ -3,17 +3,20 @@
 use super::*;
 
 // How many writes `SCHWEIG_SHOWN` takes: the board; for each colour its name, two parts of its men, two of
-// its captures and three of its need; and the last line.
-const WRITES: u64 = 8 * 10 + 1 + 2 * 8 + 3;
+// its captures and five of its need; and the last line.
+const WRITES: u64 = 8 * 10 + 1 + 2 * 10 + 3;
 
-// The array; one move of each side; a bishop too many; a lone king against a king; and more men than a
-// side has, which is no captured man.
+// The array; one move of each side; a bishop too many; a lone king against a king; more men than a side has, which is
+// no captured man; men that one man cannot all be; and lengths that leave moves over, none, or are too short.
 const LINES: &str =
     "show | array => white 16 men, captured 0, needs 0 plies$black 16 men, captured 0, needs 0 plies$no game is shorter than 0.0$
-show | after-e4-e5 => white 16 men, captured 0, needs 1 ply$black 16 men, captured 0, needs 1 ply$no game is shorter than 1.0$
-show | rnbqkbnr/pppppppp/8/8/8/3B4/PPPPPPPP/RN1QKBNR => white 16 men, captured 0, needs 1 ply$black 16 men, captured 0, needs 0 plies$no game of 64.0 moves or less$
-show | 4k3/8/8/8/8/8/PPPPPPPP/QQQQQQQK => white 16 men, captured 15, needs 8 plies$black 1 man, captured 0, needs 0 plies$no game of 64.0 moves or less$
-show | rnbqkbnr/pppppppp/8/8/8/P7/PPPPPPPP/RNBQKBNR => white 17 men, captured 0, needs 1 ply$black 16 men, captured 0, needs 0 plies$no game of 64.0 moves or less$";
+show | after-e4-e5 => white 16 men, captured 0, needs 1 ply (travel)$black 16 men, captured 0, needs 1 ply (travel)$no game is shorter than 1.0$
+show | rnbqkbnr/pppppppp/8/8/8/3B4/PPPPPPPP/RN1QKBNR => white 16 men, captured 0, cannot stand so in 64.0 moves or less (promotions)$black 16 men, captured 0, needs 0 plies$no game of 64.0 moves or less$
+show | 4k3/8/8/8/8/8/PPPPPPPP/QQQQQQQK => white 16 men, captured 15, cannot stand so in 64.0 moves or less (promotions)$black 1 man, captured 0, needs 0 plies$no game of 64.0 moves or less$
+show | rnbqkbnr/pppppppp/8/8/8/P7/PPPPPPPP/RNBQKBNR => white 17 men, captured 0, cannot stand so in 64.0 moves or less (promotions)$black 16 men, captured 0, cannot stand so in 64.0 moves or less (captures)$no game of 64.0 moves or less$
+show | r1bqnNnr/pppkpp1p/7R/3p4/8/8/PPPPPPP1/RNBQKBN1 => white 16 men, captured 2, needs 6 plies (travel, pair by pair)$black 14 men, captured 0, needs 5 plies (travel, pair by pair)$no game is shorter than 5.5$
+within | schweig | 4.0 => white 15 men, captured 2, needs 2 plies (captures), 2 left over$black 14 men, captured 1, needs 1 ply (captures), 3 left over$no game is shorter than 1.5$
+within | after-e4-e5 | 0.5 => white 16 men, captured 0, needs 1 ply (travel), 0 left over$black 16 men, captured 0, needs 1 ply (travel), 1 short$no game is shorter than 1.0$";
 
 // The lines below the board.
 fn check_lines<R: Abort + AllocGlobal>(rt: &R, row: &str) {
@@ -33,7 +36,10 @@ fn lines_below_the_board(rt: HostRuntime) {
 
 const NO_DIAGRAMS: &str = "show |  => Diagram(Fields): wrong number of fields
 show | 8/8/8/8/8/8/8/8 => Diagram(Kings): each side must have one king
-show | rnbqkbnr/pppppppp/8/8/8/8/PPPPPPPP/RNBQKBN => Diagram(Rank): bad rank";
+show | rnbqkbnr/pppppppp/8/8/8/8/PPPPPPPP/RNBQKBN => Diagram(Rank): bad rank
+within | 8/8/8/8/8/8/8/8 | 1.2 => Diagram(Kings): each side must have one king
+within | array | 1.2 => Length(Shape): bad length
+within | array | 64.5 => Length(TooLong): length above 64.0";
 
 #[test]
 fn texts_that_are_no_diagram(rt: HostRuntime) {

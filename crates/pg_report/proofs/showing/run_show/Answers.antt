@@ -1,11 +1,9 @@
 use Rattle.std.proofs.Common.{sym}
+use Rattle.pg_report.proofs.ShowLemmas.{show_refused}
 use Rattle.pg_report.proofs.showing.run_show.Goals as goal
 
-pub returns-in-Err-shortest-clause-err : goal.returns-in-Err-shortest-clause-err
-returns-in-Err-shortest-clause-err g c = (c.in-Ok.diagram, sym c.in-Ok.ensures.value)
+pub returns-in-Ok-show-clause-ok : goal.returns-in-Ok-show-clause-ok
+returns-in-Ok-show-clause-ok g c = (c.in-Ok.diagram, sym c.in-Ok.ensures.value, c.in-Ok-show.ensures.ok)
 
-pub returns-in-Ok-write_shown-clause-ok : goal.returns-in-Ok-write_shown-clause-ok
-returns-in-Ok-write_shown-clause-ok g c = (c.in-Ok.diagram, sym c.in-Ok.ensures.value, (c.in-Ok-shortest.least, c.in-Ok-shortest.ensures.headline, c.in-Ok-shortest.ensures.least, c.in-Ok-write_shown.ensures.text))
-
-pub returns-in-Err-write_shown-clause-err : goal.returns-in-Err-write_shown-clause-err
-returns-in-Err-write_shown-clause-err g c = ((c.in-Ok.diagram, sym c.in-Ok.ensures.value), c.in-Err-write_shown.ensures.fault)
+pub returns-in-Err-show-clause-err : goal.returns-in-Err-show-clause-err
+returns-in-Err-show-clause-err g c = show_refused c.args.diagram.now c.in-Ok.diagram (g.W.Sink.has_failed c.show.new.out) c.in-Err-show.fault (sym c.in-Ok.ensures.value) c.in-Err-show.ensures.err
