@@ -12,8 +12,8 @@ const EXAMPLE: &str = "Example, a problem by Schweig (1938):
   tail -n +4 report | head -n -1 >games
   pg check r1bqkbnr/ppp2ppp/3p4/8/8/8/PPPPPPPP/R1BQKBNR 4.0 s.pgc games
 
-Statuses: 0 sound, or a command done; 1 cooked, no game, a list or certificate
-refused, or a search that gave up; 2 bad words or texts; 3 out of memory; 4 a
+Statuses: 0 sound, or a command done; 1 cooked, no game, not sound, a list or
+certificate refused, or a search that gave up; 2 bad words or texts; 3 out of memory; 4 a
 file that cannot be opened, created, read or written.";
 
 const SHOW_EXAMPLE: &str =
