@@ -36,7 +36,8 @@ more the last line is `not sound`, which no other game can change; no certificat
 is needed. With one game it is `at least one game`, with none `no game given`.
 
 Example:
-  printf '1. e3 e6 2. d3\n1. d3 e6 2. e3\n' >games
+  echo '1. e3 e6 2. d3' >games
+  echo '1. d3 e6 2. e3' >>games
   pg games rnbqkbnr/pppp1ppp/4p3/8/8/3PP3/PPP2PPP/RNBQKBNR 1.5 games || true";
 
 const COOKS_EXAMPLE: &str =
