@@ -256,13 +256,13 @@ fn arg_of<'a>(alloc: Global, word: Word) -> Arg<'a> {
             "nodes",
             "10000000",
             0,
-            "Gives up where more nodes would be visited",
+            "Gives up where more would be visited",
         ),
         Word::Foreign => Arg::new(alloc, "foreign")
             .long("foreign")
             .value_name("D")
             .value_parser(ValueParser::unsigned(0, 255))
-            .help("Tries at most so many moves of other kinds; no limit if it is missing"),
+            .help("At most so many moves of other kinds; else any number"),
     }
 }
 
