@@ -73,6 +73,10 @@ done <<END
 2 moves 8/8
 2 count $array 256
 2 count $array -1
+2 games $array
+2 cooks $array 0
+2 cooks $array 0 list --foreign 256
+2 cooks $array 0 list --nodes -1
 2 check $array 0
 2 check $array 0 none none --records 0
 2 check $array 0 none none more
@@ -87,6 +91,8 @@ done <<END
 4 search $array 0 none/
 0 --help
 0 check --help
+0 cooks --help
+0 games --help
 0 why --help
 0 --version
 END
@@ -140,6 +146,26 @@ many() { head -c "$1" /dev/zero | tr '\0' "$2"; }
 expect 2 'pg: line 2: repeated game' 'yes e4 | head -n 4097 | "$pg" check $array 0 ../none.pgc'
 expect 2 'pg: line 1, ply 1: not a move' '(many 1000000 1; echo e4) | "$pg" check $array 0 ../none.pgc'
 expect 1 'pg: game 1 does not have the stated length' '(many 1000000 1; many 1000000 .; echo e4) | "$pg" check $array 0 ../none.pgc'
+
+# What lists show by themselves, and what is found beside them.
+while IFS='|' read -r status words list said printed; do
+  printf -- "$list" >"$work/list"
+  expect "$status" "${said:+pg: $said}" "\"\$pg\" $words" "$(printf -- "$printed")"
+done <<END
+0|games $open 1.0 ../list|1. e4 e5||diagram $open\nlength 1.0\ngames 1\n1. e4 e5\nat least one game
+0|games $open 1.0 <../list|||diagram $open\nlength 1.0\ngames 0\nno game given
+1|games $orders 1.5 ../list|1. e3 e6 2. d3\n1. d3 e6 2. e3||diagram $orders\nlength 1.5\ngames 2\n1. d3 e6 2. e3\n1. e3 e6 2. d3\nnot sound
+1|games $open 1.0 ../list|1. e4 e6|game 1 does not end on the diagram|
+2|games $open 1. ../list|1. e4 e6|bad length|
+2|games $open 1.0 ../list|\xff|games are not UTF-8|
+4|games $open 1.0 none||cannot open none|
+1|cooks $orders 1.5 ../list|1. e3 e6 2. d3||diagram $orders\nlength 1.5\ngames 1\n1. e3 e6 2. d3\nanother game\n1. d3 e6 2. e3\nnot sound
+0|cooks $orders 1.5 ../list --nodes 0|1. e3 e6 2. d3||diagram $orders\nlength 1.5\ngames 1\n1. e3 e6 2. d3\nnone found
+1|cooks $open 1.0 ../list|1. e4|game 1 does not have the stated length|
+2|cooks $open 1.0 ../list|\n|no game to go by|
+2|cooks $open 1.0 ../list|1. e4 e4|line 1, ply 2: no such legal move|
+4|cooks $open 1.0 none||cannot open none|
+END
 
 # Lines that are explained by such certificates.
 { header "$open" 2; ones 21; } >"$work/cut.pgc"

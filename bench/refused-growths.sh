@@ -83,6 +83,9 @@ refuse 40 moves 'no position'
 refuse 40 count "$array w KQkq - 0 1" 4
 refuse 40 check "$open" 1.0 good.pgc games
 refuse 40 check "$open" 1.0 good.pgc empty
+refuse 40 games "$open" 1.0 games
+refuse 40 games "$open" 1.0 empty
+refuse 40 cooks "$open" 1.0 games
 refuse 40 search "$open" 1.0 good.pgc
 refuse 40 search "$open" 1.0 new.pgc --nodes 3
 refuse 40 why "$open" 1.0 good.pgc '1. e4 e5'

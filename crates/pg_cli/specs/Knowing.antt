@@ -5,7 +5,23 @@ use Rattle.pg_fen.specs.Fields.{fields}
 use Rattle.pg_fen.specs.DiagramText.{diagram_of}
 use Rattle.pg_fen.specs.Lengths.{length_of}
 use Rattle.pg_cooks.specs.Unsound.{IsUnsound}
+use Rattle.pg_cooks.specs.declared.standing.Standing.{Standing}
+use Rattle.pg_cooks.specs.declared.standing.Standing.TheVariants.{NotSound, AtLeastOne, NoneGiven}
+use Rattle.pg_cooks.specs.declared.finding.CookAnswer.{CookAnswer}
+use Rattle.pg_cooks.specs.declared.finding.CookAnswer.TheVariants.{Cook, Shorter, NotFound}
 
 -- the two texts spell a diagram and a length, and no list of one game is the exact answer to them
 abbrev pub AreUnsound : List ℕ → List ℕ → Type 0
 AreUnsound diagram length = (d : Placement) × (n : ℕ) × (diagram_of (fields diagram) ≡ Ok d) × (length_of length ≡ Ok n) × IsUnsound d n
+
+-- 1 where the problem is not sound, else 0
+abbrev pub standing_status : Standing → ℕ
+standing_status NotSound = 1
+standing_status AtLeastOne = 0
+standing_status NoneGiven = 0
+
+-- 1 where a game is found, else 0
+abbrev pub answer_status : CookAnswer → ℕ
+answer_status (Cook game) = 1
+answer_status (Shorter game) = 1
+answer_status (NotFound foreign nodes) = 0

@@ -1,12 +1,14 @@
 //! `pg games` and `pg cooks`: what a list of games shows by itself, and what is found beside it.
-ghost use Rattle.std.specs.Prelude.{◌≡◌, IfOk};
-ghost use Rattle.pg_cli.specs.Knowing.{AreUnsound};
+ghost use Rattle.std.specs.Prelude.{◌≡◌, IfOk, MatchResult};
+ghost use Rattle.pg_cli.specs.Knowing.{AreUnsound, answer_status, standing_status};
 
 use crate::checking::{Asked, ask_for_games};
-use crate::refusals::{DONE, Refusal};
+use crate::refusals::Refusal;
 use crate::screen::Screen;
 use clap::ArgMatches;
-use pg_cooks::{Asked as Texts, CookAnswer, CooksRunFault, LedLimits, Standing, run_cooks, run_games};
+use pg_cooks::{
+    Asked as Texts, CookAnswer, CooksRunFault, LedLimits, Standing, run_cooks, run_games,
+};
 use pg_files::list;
 use pg_report::{Refused, RunFault, Sink, ToWrite};
 use pg_streams::{Cleared, Gathered, LedLine, Terminal};
@@ -14,24 +16,50 @@ use std::io::Write;
 use std::rt::Runtime;
 use std::{io, str};
 
-// The status where a problem is not sound.
-const NOT_SOUND: u8 = 1;
-
 // So many nodes are visited at most, where the words do not say it.
 const NODES: u64 = 10_000_000;
 
-// The status once a report is wholly written.
-fn done<'a, W: Sink + Drop>(out: Gathered<W>, status: u8) -> Result<u8, Refusal<'a>>
-    ensures { IfOk result (λ s. s ≡ status) }
+// The status after a list was tested: 1 where it shows that the problem is not sound.
+fn standing_status(standing: Standing) -> u8
+    ensures { result ≡ standing_status standing }
 {
-    match out.finish() {
-        Ok(_) => Ok(status),
-        Err(Refused) => Err(Refusal::Check(RunFault::Write)),
+    match standing {
+        Standing::NotSound => 1,
+        Standing::AtLeastOne | Standing::NoneGiven => 0,
     }
 }
 
-// Tests a list of games, and writes what it shows by itself. The status is 1 where the texts spell a diagram
-// and a length, and no list of one game is the exact answer to them; else 0.
+// The status after a search beside a list: 1 where a game was found.
+fn answer_status(answer: &CookAnswer) -> u8
+    ensures { result ≡ answer_status answer.now }
+{
+    match answer {
+        CookAnswer::Cook(_) | CookAnswer::Shorter(_) => 1,
+        CookAnswer::NotFound {
+            foreign: _,
+            nodes: _,
+        } => 0,
+    }
+}
+
+// The status after a list was tested, once its report is wholly written.
+fn tested<'a, W: Sink + Drop>(
+    answer: Result<Standing, RunFault>,
+    out: Gathered<W>,
+) -> Result<u8, Refusal<'a>>
+    ensures { IfOk result (λ status. MatchResult answer (λ s. status ≡ standing_status s) (λ _. ⊥)) }
+{
+    match answer {
+        Ok(standing) => match out.finish() {
+            Ok(_) => Ok(standing_status(standing)),
+            Err(Refused) => Err(Refusal::Check(RunFault::Write)),
+        },
+        Err(fault) => Err(Refusal::Check(fault)),
+    }
+}
+
+// Tests a list of games, and writes what it shows by itself. The status is 1 only where the texts spell a
+// diagram and a length, and no list of one game is the exact answer to them; else it is 0.
 //
 // # Errors
 // `NotUtf8` where the list is not UTF-8, else `Check` with the fault of the run.
@@ -40,7 +68,7 @@ pub(crate) fn games_from<'a, R: Runtime + AllocGlobal, W: Write + Drop>(
     asked: &Asked<'_>,
     out: W,
 ) -> Result<u8, Refusal<'a>>
-    ensures { IfOk result (λ status. status ≡ 1 → AreUnsound asked.now.diagram.now asked.now.length.now) }
+    ensures headline { IfOk result (λ status. status ≡ 1 → AreUnsound asked.now.diagram.now asked.now.length.now) }
 {
     let Ok(games) = str::from_utf8(asked.games) else {
         return Err(Refusal::NotUtf8);
@@ -51,24 +79,30 @@ pub(crate) fn games_from<'a, R: Runtime + AllocGlobal, W: Write + Drop>(
         games,
     };
     let mut out = Gathered::new(ToWrite::new(out));
-    match run_games(rt.alloc(), &texts, &mut out) {
-        Ok(Standing::NotSound) => done(out, NOT_SOUND),
-        Ok(Standing::AtLeastOne | Standing::NoneGiven) => done(out, DONE),
-        Err(fault) => Err(Refusal::Check(fault)),
+    let answer = run_games(rt.alloc(), &texts, &mut out);
+    tested(answer, out)
+}
+
+// The status after a search beside a list, once its report is wholly written.
+fn looked<'a, W: Sink + Drop>(
+    answer: Result<CookAnswer, CooksRunFault>,
+    out: Gathered<W>,
+) -> Result<u8, Refusal<'a>>
+    ensures { IfOk result (λ status. MatchResult answer (λ a. status ≡ answer_status a) (λ _. ⊥)) }
+{
+    match answer {
+        Ok(answer) => match out.finish() {
+            Ok(_) => Ok(answer_status(&answer)),
+            Err(Refused) => Err(Refusal::Check(RunFault::Write)),
+        },
+        Err(CooksRunFault::NoGame) => Err(Refusal::NoGame),
+        Err(CooksRunFault::Memory) => Err(Refusal::Memory),
+        Err(CooksRunFault::Run(fault)) => Err(Refusal::Check(fault)),
     }
 }
 
-// Why nothing is found, as a refusal.
-fn refusal_of<'a>(fault: CooksRunFault) -> Refusal<'a> {
-    match fault {
-        CooksRunFault::NoGame => Refusal::NoGame,
-        CooksRunFault::Memory => Refusal::Memory,
-        CooksRunFault::Run(fault) => Refusal::Check(fault),
-    }
-}
-
-// Looks for a game beside those of a list, and writes what is found. The status is 1 where the texts spell a
-// diagram and a length, and no list of one game is the exact answer to them; else 0.
+// Looks for a game beside those of a list, and writes what is found. The status is 1 only where the texts spell
+// a diagram and a length, and no list of one game is the exact answer to them; else it is 0.
 //
 // # Errors
 // `NotUtf8` where the list is not UTF-8, `NoGame` where it is empty, `Memory`, else `Check` with the fault
@@ -80,7 +114,7 @@ pub(crate) fn cooks_from<'a, R: Runtime + AllocGlobal, W: Write + Drop>(
     out: W,
     screen: bool,
 ) -> Result<u8, Refusal<'a>>
-    ensures { IfOk result (λ status. status ≡ 1 → AreUnsound asked.now.diagram.now asked.now.length.now) }
+    ensures headline { IfOk result (λ status. status ≡ 1 → AreUnsound asked.now.diagram.now asked.now.length.now) }
 {
     let Ok(games) = str::from_utf8(asked.games) else {
         return Err(Refusal::NotUtf8);
@@ -95,16 +129,7 @@ pub(crate) fn cooks_from<'a, R: Runtime + AllocGlobal, W: Write + Drop>(
     let mut out = Gathered::new(Cleared::new(ToWrite::new(out), rt, &terminal));
     let answer = run_cooks(rt.alloc(), &texts, limits, &mut line, &mut out);
     line.end();
-    match answer {
-        Ok(CookAnswer::Cook(_) | CookAnswer::Shorter(_)) => done(out, NOT_SOUND),
-        Ok(
-            CookAnswer::NotFound {
-                foreign: _,
-                nodes: _,
-            },
-        ) => done(out, DONE),
-        Err(fault) => Err(refusal_of(fault)),
-    }
+    looked(answer, out)
 }
 
 // The list of games, from a file or else from standard input. Where somebody is to type it, a bad diagram or

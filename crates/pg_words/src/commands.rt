@@ -12,8 +12,8 @@ const EXAMPLE: &str = "Example, a problem by Schweig (1938):
   tail -n +4 report | head -n -1 >games
   pg check r1bqkbnr/ppp2ppp/3p4/8/8/8/PPPPPPPP/R1BQKBNR 4.0 s.pgc games
 
-Statuses: 0 sound, or a command done; 1 cooked, no game, a list or certificate
-refused, or a search that gave up; 2 bad words or texts; 3 out of memory; 4 a
+Statuses: 0 sound, or a command done; 1 cooked, no game, not sound, a list or
+certificate refused, or a search that gave up; 2 bad words or texts; 3 out of memory; 4 a
 file that cannot be opened, created, read or written.";
 
 const SHOW_EXAMPLE: &str =
@@ -37,7 +37,8 @@ more the last line is `not sound`, which no other game can change; no certificat
 is needed. With one game it is `at least one game`, with none `no game given`.
 
 Example:
-  printf '1. e3 e6 2. d3\n1. d3 e6 2. e3\n' >games
+  echo '1. e3 e6 2. d3' >games
+  echo '1. d3 e6 2. e3' >>games
   pg games rnbqkbnr/pppp1ppp/4p3/8/8/3PP3/PPP2PPP/RNBQKBNR 1.5 games || true";
 
 const COOKS_EXAMPLE: &str =
@@ -261,13 +262,13 @@ fn arg_of<'a>(alloc: Global, word: Word) -> Arg<'a> {
             "nodes",
             "10000000",
             0,
-            "Gives up where more nodes would be visited",
+            "Gives up where more would be visited",
         ),
         Word::Foreign => Arg::new(alloc, "foreign")
             .long("foreign")
             .value_name("D")
             .value_parser(ValueParser::unsigned(0, 255))
-            .help("Tries at most so many moves of other kinds; no limit if it is missing"),
+            .help("At most so many moves of other kinds; else any number"),
     }
 }
 

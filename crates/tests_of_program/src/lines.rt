@@ -5,8 +5,8 @@ use pg_certificate::{Sink, Source, ToWrite};
 use pg_moves::Progress;
 use pg_searcher::Progress as SearchProgress;
 use pg_streams::{
-    Cleared, CountLine, RecordCount, SearchLine, Terminal, count_line, line_of, search_line,
-    watch_records,
+    Cleared, CountLine, RecordCount, SearchLine, Terminal, count_line, led_line, line_of,
+    search_line, watch_records,
 };
 use pg_trial::{FailsAt, OneByte};
 use std::cell::Cell;
@@ -183,6 +183,11 @@ const SEARCHES: &str = "0 0 1000000: 0.0 0 0%
 24 32105000 80000000: 12.0 32105k 40%
 128 99999999 99999999: 64.0 99999k 100%";
 
+// Moves of other kinds, plies and nodes, and what is shown.
+const LED: &str = "0 0 0: +0 0.0 0
+3 37 1234567: +3 18.5 1234k
+255 128 18446744073709551615: +255 64.0 18446P";
+
 // What is shown is never wider than nineteen columns.
 fn check_shown(rt: &impl Abort, shown: &str, wanted: &str) {
     assert_eq!(rt; shown, wanted);
@@ -207,6 +212,16 @@ fn lines_of_counts_and_searches(rt: HostRuntime) {
         let ([plies, nodes, limit], wanted) = row(&rt, line);
         let plies = u8::try_from(plies).expect(&rt, line);
         check_shown(&rt, search_line(plies, nodes, limit).as_str(), wanted);
+    }
+}
+
+#[test]
+fn lines_of_led_searches(rt: HostRuntime) {
+    for line in LED.lines() {
+        let ([foreign, plies, nodes], wanted) = row(&rt, line);
+        let foreign = u8::try_from(foreign).expect(&rt, line);
+        let plies = u8::try_from(plies).expect(&rt, line);
+        check_shown(&rt, led_line(foreign, plies, nodes).as_str(), wanted);
     }
 }
 

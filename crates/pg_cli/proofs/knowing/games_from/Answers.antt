@@ -1,0 +1,7 @@
+use Rattle.pg_cli.proofs.KnowingLemmas.{list_shows}
+use Rattle.pg_cli.proofs.knowing.games_from.Goals as goal
+
+pub returns : goal.returns
+returns g c = record {
+  headline = list_shows (record { diagram = c.args.asked.now.diagram; length = c.args.asked.now.length; games = c.in-Ok.games }) _ c.run_games-answer.result c.tested.result c.run_games-answer.ensures.ok c.tested.ensures;
+}
