@@ -1,6 +1,6 @@
 -- When two positions have the same future, as a test: they are equal but for the passed square, and their effective passed
 -- squares are equal.
-use Rattle.std.specs.Prelude.{◌≡◌, ℕ, ◌<◌, Bool, Option, Some, None}
+use Rattle.std.specs.Prelude.{ℕ, Bool, Option, Some, None}
 use Rattle.pg_board.specs.declared.man.Kind.TheVariants.{Pawn}
 use Rattle.pg_board.specs.Men.{man}
 use Rattle.pg_board.specs.lemmas.Decisions.{dec_and, dec_along, dec_some_below, dec_get}

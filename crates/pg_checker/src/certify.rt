@@ -24,7 +24,7 @@ use pg_captures::Bound;
 use pg_certificate::{ReadFault, RecordReader, Source};
 use pg_fen::{Diagram, Length};
 use pg_san::Games;
-use pg_travel::Prices;
+use pg_travel::{Prices, Rows};
 use std::alloc::Global;
 
 /// What proved the answer: how many records the certificate has, and how many named nodes.
@@ -75,6 +75,15 @@ fn read_header<S: Source>(
         Err(Fault::OtherDiagram)
     } else {
         Ok(header.version)
+    }
+}
+
+// The rows of the diagram, where records of the version have price lists.
+fn rows_for(version: u8, diagram: &Diagram) -> Option<Rows> {
+    if version == 2 {
+        Some(Rows::new(diagram))
+    } else {
+        None
     }
 }
 
@@ -175,6 +184,7 @@ pub fn check<R: Source>(
         version,
         games,
         bounds,
+        rows: rows_for(version, diagram),
     };
     match walk(&question, &mut machine, source) {
         Ok(proved) => Ok(proved),

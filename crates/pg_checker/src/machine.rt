@@ -10,9 +10,10 @@ use pg_fen::Diagram;
 use pg_moves::LegalMoves;
 use pg_position::{Move, Position};
 use pg_san::Games;
-use pg_travel::Prices;
+use pg_travel::{Prices, Rows};
 
-// What is asked of a certificate, and its version, which its header told.
+// What is asked of a certificate, its version, which its header told, and rows of distances for the tests
+// of price lists, where they are at hand.
 #[derive(Drop)]
 pub(crate) struct Question<'a> {
     pub(crate) diagram: &'a Diagram,
@@ -20,6 +21,7 @@ pub(crate) struct Question<'a> {
     pub(crate) version: u8,
     pub(crate) games: &'a Games,
     pub(crate) bounds: &'a [Box<dyn Bound>],
+    pub(crate) rows: Option<Rows>,
 }
 
 // An open node: its position with the moves that are still to be played, the plies left below it,

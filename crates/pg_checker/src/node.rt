@@ -20,7 +20,7 @@ use pg_captures::first_excludes;
 use pg_certificate::{Bare, ReadFault, RecordReader, Source};
 use pg_fen::Diagram;
 use pg_position::Position;
-use pg_travel::Prices;
+use pg_travel::{Prices, Rows};
 
 // A refusal to read a record, as a halt. No record is refused as Magic or Trailing.
 pub(crate) fn halt_of(fault: ReadFault) -> Halt
@@ -73,8 +73,9 @@ fn files_exclude(diagram: &Diagram, position: &Position, color: Color, prices: &
     }
 }
 
-// Whether price lists of travel exclude: there is one for each way.
+// Whether price lists of travel exclude: there is one for each way. Rows are used where they are at hand.
 fn travel_excludes(
+    rows: Option<&Rows>,
     diagram: &Diagram,
     position: &Position,
     left: u8,
@@ -83,24 +84,29 @@ fn travel_excludes(
 ) -> bool
     ensures { result ≡ travel_prices_test diagram.now position.now left color prices.now }
 {
-    pg_travel::prices_exclude(diagram, position, left, color, prices)
+    match rows {
+        None => pg_travel::prices_exclude(diagram, position, left, color, prices),
+        Some(rows) => { pg_travel::prices_exclude_by(rows, diagram, position, left, color, prices) }
+    }
 }
 
 // A cut by prices: code 3 is that of pawn files, 4 that of travel.
 #[inline(never)]
 fn priced(
-    diagram: &Diagram,
+    question: &Question,
     position: &Position,
     left: u8,
     code: u8,
     color: Color,
     prices: &Prices,
 ) -> Result<(), Reason>
-    ensures { (game : List Move) → Ends (causes game result) (cut_answer (prices_by diagram.now code color prices.now position.now left) code) }
+    ensures { (game : List Move) → Ends (causes game result) (cut_answer (prices_by question.now.diagram.now code color prices.now position.now left) code) }
 {
+    let diagram = question.diagram;
+    let rows = question.rows.as_ref();
     let excluded = match code {
         3 => files_exclude(diagram, position, color, prices),
-        4 => travel_excludes(diagram, position, left, color, prices),
+        4 => travel_excludes(rows, diagram, position, left, color, prices),
         _ => return Err(Reason::UnknownBound(code)),
     };
     if excluded {
@@ -191,7 +197,7 @@ fn judge(
         }
         Bare::Priced { code, color } => {
             let prices = &machine.prices;
-            let answer = priced(question.diagram, position, left, code, color, prices);
+            let answer = priced(question, position, left, code, color, prices);
             ended(answer)
         }
     }

@@ -1,5 +1,5 @@
 -- The test of the same future tells it.
-use Rattle.std.proofs.Common.{◌≡◌, ℕ, Bool, true, Option, Some, None, refl, sym, ap, subst, ◌∙◌}
+use Rattle.std.proofs.Common.{◌≡◌, ℕ, true, Option, Some, None, refl, sym, ap, subst, ◌∙◌}
 use Rattle.std.specs.Bool.{Decides}
 use Rattle.pg_position.specs.declared.state.State.{State}
 use Rattle.pg_position.specs.lemmas.Equalities.{state_eq_decides}
