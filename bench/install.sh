@@ -1,6 +1,6 @@
 #!/usr/bin/env bash
 # The script `install` at work, in folders made here: below DESTDIR, twice, under a PREFIX with a blank, removed again, and
-# refused: where a folder is a file, a place a folder, another file in the place, and no room. Each run is to end with the status
+# refused: where a folder is a file, a place a folder, another file in the place, no room, and a signal. Each run is to end with the status
 # that is written here, and a refusal to leave all as it was. Quiet where all is so; else prints what was wrong, and ends
 # with status 1.
 set -u
@@ -83,6 +83,28 @@ if [ "$(id -u)" != 0 ]; then
   chmod 555 "$work/closed"
   refused 4 "$work/closed/bin/pg cannot be written" '"$top/install" "$work/closed"' closed
 fi
+
+# Signals, after the first file was written beside its place.
+printf '#!/bin/sh\n: >"$TMPDIR/at-work"; exec sleep 5\n' >"$work/chmod"
+chmod 755 "$work/chmod"
+set -m
+for signal in INT TERM HUP; do
+  PATH="$work:$PATH" "$top/install" "$work/room" >"$work/out" 2>"$work/err" &
+  run=$!
+  for ((wait = 0; wait < 300; wait++)); do
+    [ ! -e "$TMPDIR/at-work" ] || break
+    sleep 0.1
+  done
+  rm -f "$TMPDIR/at-work"
+  [ -n "$(find "$work/room" -name 'pg.pg-install-*')" ] || fail "SIG$signal: nothing was begun"
+  kill -"$signal" -- "-$run"
+  wait "$run"
+  status=$?
+  [ "$status" = $((128 + $(kill -l "$signal"))) ] || fail "SIG$signal: status $status"
+  grep -q "^install: ended by SIG$signal\$" "$work/err" || fail "SIG$signal: it does not say so"
+  [ -z "$(ls -A "$work/room" "$TMPDIR" | grep -v ':$' | tr -d '\n')" ] || fail "SIG$signal: it left files"
+done
+set +m
 
 # Words.
 refused 2 "'--all' is not understood" '"$top/install" --all' room
