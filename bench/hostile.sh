@@ -226,7 +226,8 @@ expect 4 'pg: read fault' '"$pg" check $queen 2.0 games <&-'
 expect 4 'pg: read fault' '"$pg" check $queen 2.0 good.pgc <&-'
 expect 4 'pg: read fault' '"$pg" check $queen 2.0 good.pgc <.'
 expect 4 'pg: read fault' '"$pg" check $queen 2.0 . games'
-expect 4 'pg: read fault' '"$pg" why $queen 2.0 . -'
+expect 4 'pg: cannot open .' '"$pg" why $queen 2.0 . -'
+expect 4 'pg: cannot open /dev/stdin' 'cat good.pgc | "$pg" why $queen 2.0 /dev/stdin -'
 expect 4 'pg: read fault' '"$pg" upgrade . new.pgc'
 for full in '>&-' '>/dev/full'; do
   expect 4 'pg: write fault' '"$pg" moves "$position" '"$full"
@@ -272,6 +273,17 @@ expect 4 'pg: cannot open none' '"$pg" check $queen 2.0 good.pgc none'
 expect 4 'pg: cannot open none' '"$pg" upgrade none new.pgc'
 expect 4 'pg: cannot open none' '"$pg" upgrade none old.pgc'
 expect 4 'pg: cannot open none' '"$pg" why $queen 2.0 none -'
+expect 4 "pg: cannot open $work/fifo" '"$pg" why $queen 2.0 "$work/fifo" -'
+
+# Drafts that killed runs have left: the next number is taken, and with a thousand of them there is no search. Rights are kept, and no
+# setuid or setgid bit. A name of 255 bytes has a draft too.
+mkdir "$work/drafts"
+echo old >"$work/drafts/c.pgc" && chmod 6751 "$work/drafts/c.pgc" && echo left >"$work/drafts/.c.pgc.pg-part-0"
+expect 0 '' '"$pg" search $array 0 ../drafts/c.pgc >/dev/null; stat -c %a ../drafts/c.pgc; cat ../drafts/.c.pgc.pg-part-0' $'751\nleft'
+(cd "$work/drafts" && seq -f '.c.pgc.pg-part-%g' 0 999 | xargs touch)
+expect 4 'pg: cannot open ../drafts/c.pgc' '"$pg" search $array 0 ../drafts/c.pgc'
+long=$(printf '%0255d' 0)
+expect 0 '' '"$pg" search $array 0 ../drafts/$long >/dev/null; wc -c <../drafts/$long' 37
 
 # Runs that end without an answer, and a full disk: files may not grow past 1,024 bytes.
 expect 1 'pg: node limit reached' '"$pg" search $queen 2.0 good.pgc --nodes 3'
@@ -280,6 +292,10 @@ expect 4 'pg: write fault' 'trap "" XFSZ; ulimit -f 1; "$pg" search $schweig 4.0
 expect 1 'pg: not a certificate of version 1' '"$pg" upgrade old.pgc ../two >/dev/null; "$pg" upgrade ../two good.pgc'
 { header "$array" 4; ones 2000; } >"$work/old.pgc"
 expect 4 'pg: write fault' 'trap "" XFSZ; ulimit -f 1; "$pg" upgrade ../old.pgc new.pgc'
+
+# With the least stack that the README names.
+expect 0 '' 'ulimit -s 256; "$pg" search $queen 2.0 good.pgc | cmp - report && "$pg" check $queen 2.0 good.pgc games | cmp - report'
+expect 0 '' 'ulimit -s 256; "$pg" why $queen 2.0 good.pgc "e4 d5" >/dev/null && "$pg" count "$position" 3 >/dev/null && "$pg" moves "$position" >/dev/null && "$pg" show $queen >/dev/null && "$pg" upgrade old.pgc ../two >/dev/null'
 
 # On a terminal: a bad diagram is told before the list is typed, and else how it is typed.
 if command -v script >/dev/null; then

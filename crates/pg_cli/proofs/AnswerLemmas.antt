@@ -1,6 +1,13 @@
 -- From the answer of a run to the status that the program gives.
-use Rattle.std.proofs.Common.{◌≡◌, ℕ, List, subst}
-use Rattle.std.specs.Prelude.{Result, Ok, Err, IfOk, OnOk, MatchResult}
+use Rattle.std.proofs.Common.{◌≡◌, ◌∙◌, ℕ, List, [], subst, sym, ap, codes, arith, slice_index}
+use Rattle.std.specs.Prelude.{Option, Some, None, Result, Ok, Err, IfOk, OnOk, MatchResult, option_map, unwrap_or}
+use Rattle.clap.specs.Words.{Row, Text, first_value, rows_of, subcommand_name_of, subcommand_rows_of}
+use Rattle.clap.specs.declared.parser.matches.Found.{Found}
+use Rattle.clap.specs.declared.parser.matches.ArgMatches.{ArgMatches}
+use Rattle.clap.proofs.WalkLemmas.{first_value-rows}
+use Rattle.pg_fen.specs.Fields.{fields}
+use Rattle.pg_fen.specs.DiagramText.{diagram_of}
+use Rattle.pg_fen.specs.Lengths.{length_of}
 use Rattle.pg_board.specs.Placement.{Placement}
 use Rattle.pg_position.specs.declared.moves.Move.{Move}
 use Rattle.pg_checker.specs.Answer.{IsExactAnswer}
@@ -10,7 +17,8 @@ use Rattle.pg_report.specs.Statuses.{verdict_status}
 use Rattle.pg_texts.specs.declared.verdict.Verdict.{Verdict}
 use Rattle.pg_checker.specs.declared.fault.RunFault.{RunFault}
 use Rattle.pg_cli.specs.declared.refusals.Refusal.{Refusal}
-use Rattle.pg_cli.specs.Answers.{IsAnswered, AreAnswered}
+use Rattle.pg_cli.specs.Answers.{IsAnswered, AreAnswered, HasExactAnswer}
+use Rattle.pg_cli.specs.Words.{spelled, IsChecked, IsSearched, IsExplained, IsSubcommand, IsMeant}
 
 -- the status that is given is that of the verdict, where there is one
 abbrev pub IsGiven : Result Verdict RunFault → Result ℕ Refusal → Type 0
@@ -38,3 +46,77 @@ games_answered d n list (Err f) (Err r) h i k = tt
 pub said_of : {A E : Type 0} (result : Result A E) (P : Type 0) → P → OnOk result P
 said_of (Ok a) P h = h
 said_of (Err e) P h = tt
+
+-- the text of a word, from what `clap` gives for its name
+pub word_given : (f : Found) (name : Text) (text : List ℕ) → Some text ≡ first_value f name → text ≡ spelled name (rows_of f)
+word_given f name text e = ap (λ (x : Option (List ℕ)). unwrap_or x []) (e ∙ first_value-rows f name)
+
+pub word_missing : (f : Found) (name : Text) → None ≡ first_value f name → [] ≡ spelled name (rows_of f)
+word_missing f name e = ap (λ (x : Option (List ℕ)). unwrap_or x []) (e ∙ first_value-rows f name)
+
+pub check_means : (rows : List Row) (diagram length games : List ℕ) (result : Result ℕ Refusal)
+    → diagram ≡ spelled (codes "DIAGRAM") rows → length ≡ spelled (codes "LENGTH") rows
+    → IfOk result (λ status. AreAnswered diagram length games status) → IfOk result (λ status. IsChecked rows status)
+check_means rows diagram length games (Ok s) e f h =
+    (games, subst (λ (x : List ℕ). AreAnswered x (spelled (codes "LENGTH") rows) games s) e (subst (λ (y : List ℕ). AreAnswered diagram y games s) f h))
+check_means rows diagram length games (Err r) e f h = tt
+
+-- some list is the exact answer to a diagram and a length, with this status
+abbrev pub HasAnswer : Placement → ℕ → ℕ → Type 0
+HasAnswer d n status = (games : List (List Move)) × IsAnswered d n games status
+
+pub search_means : (rows : List Row) (diagram length : List ℕ) (d : Placement) (n : ℕ) (result : Result ℕ Refusal)
+    → diagram ≡ spelled (codes "DIAGRAM") rows → length ≡ spelled (codes "LENGTH") rows
+    → diagram_of (fields diagram) ≡ Ok d → length_of length ≡ Ok n
+    → IfOk result (λ status. HasAnswer d n status) → IfOk result (λ status. IsSearched rows status)
+search_means rows diagram length d n (Ok s) e f g h k =
+    (d, n, k.0, ap (λ (x : List ℕ). diagram_of (fields x)) (sym e) ∙ g, ap (λ (x : List ℕ). length_of x) (sym f) ∙ h, k.1)
+search_means rows diagram length d n (Err r) e f g h k = tt
+
+pub why_means : (rows : List Row) (diagram length : List ℕ) (result : Result ℕ Refusal)
+    → diagram ≡ spelled (codes "DIAGRAM") rows → length ≡ spelled (codes "LENGTH") rows
+    → OnOk result (HasExactAnswer diagram length) → IfOk result (λ status. status ≡ 0) → IfOk result (λ status. IsExplained rows status)
+why_means rows diagram length (Ok s) e f h z =
+    (subst (λ (x : List ℕ). HasExactAnswer x (spelled (codes "LENGTH") rows)) e (subst (λ (y : List ℕ). HasExactAnswer diagram y) f h), z)
+why_means rows diagram length (Err r) e f h z = tt
+
+-- what is said of the command that was taken out is said of the one that the words name
+pub carried : (words : ArgMatches) (name : Text) (rows : List Row) (P : Text → List Row → ℕ → Type 0) (result : Result ℕ Refusal)
+    → Some name ≡ subcommand_name_of words → Some rows ≡ option_map (λ p. p.1) (subcommand_rows_of words)
+    → IfOk result (λ s. P name rows s) → IfOk result (λ s. (n : Text) (r : List Row) → IsSubcommand words n r → P n r s)
+carried words name rows P (Ok s) e f h = λ n r k.
+    let en : name ≡ n = ap (λ (o : Option Text). unwrap_or o name) (e ∙ k.0) in
+    let er : rows ≡ r = ap (λ (o : Option (List Row)). unwrap_or o rows) (f ∙ k.1) in
+    subst (λ (x : Text). P x r s) en (subst (λ (y : List Row). P name y s) er h)
+carried words name rows P (Err x) e f h = tt
+
+-- what is said of a command's status is what its name asks for
+pub check_is_meant : (name : Text) (rows : List Row) (result : Result ℕ Refusal) → name ≡ codes "check"
+    → IfOk result (λ s. IsChecked rows s) → IfOk result (λ s. IsMeant name rows s)
+check_is_meant name rows (Ok s) n h = record {
+  check = λ _. h;
+  search = λ e. let bad : 99 ≡ 115 = ap (λ (t : Text). slice_index t 0) (sym n ∙ e) in absurd (omega arith);
+  why = λ e. let bad : 99 ≡ 119 = ap (λ (t : Text). slice_index t 0) (sym n ∙ e) in absurd (omega arith);
+  upgrade = λ e. let bad : 99 ≡ 117 = ap (λ (t : Text). slice_index t 0) (sym n ∙ e) in absurd (omega arith);
+}
+check_is_meant name rows (Err x) n h = tt
+
+pub search_is_meant : (name : Text) (rows : List Row) (result : Result ℕ Refusal) → name ≡ codes "search"
+    → IfOk result (λ s. IsSearched rows s) → IfOk result (λ s. IsMeant name rows s)
+search_is_meant name rows (Ok s) n h = record {
+  check = λ e. let bad : 115 ≡ 99 = ap (λ (t : Text). slice_index t 0) (sym n ∙ e) in absurd (omega arith);
+  search = λ _. h;
+  why = λ e. let bad : 115 ≡ 119 = ap (λ (t : Text). slice_index t 0) (sym n ∙ e) in absurd (omega arith);
+  upgrade = λ e. let bad : 115 ≡ 117 = ap (λ (t : Text). slice_index t 0) (sym n ∙ e) in absurd (omega arith);
+}
+search_is_meant name rows (Err x) n h = tt
+
+pub why_is_meant : (name : Text) (rows : List Row) (result : Result ℕ Refusal) → name ≡ codes "why"
+    → IfOk result (λ s. IsExplained rows s) → IfOk result (λ s. IsMeant name rows s)
+why_is_meant name rows (Ok s) n h = record {
+  check = λ e. let bad : 119 ≡ 99 = ap (λ (t : Text). slice_index t 0) (sym n ∙ e) in absurd (omega arith);
+  search = λ e. let bad : 119 ≡ 115 = ap (λ (t : Text). slice_index t 0) (sym n ∙ e) in absurd (omega arith);
+  why = λ _. h;
+  upgrade = λ e. let bad : 119 ≡ 117 = ap (λ (t : Text). slice_index t 0) (sym n ∙ e) in absurd (omega arith);
+}
+why_is_meant name rows (Err x) n h = tt

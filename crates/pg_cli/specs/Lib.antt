@@ -1,3 +1,4 @@
 pub mod Answers
 pub mod Knowing
 pub mod Refusals
+pub mod Words

@@ -3,10 +3,13 @@
 ghost use Rattle.std.specs.Prelude.{◌≡◌, IfOk, IfErr, MatchResult};
 ghost use Rattle.pg_report.specs.Statuses.{verdict_status};
 ghost use Rattle.pg_checker.specs.declared.fault.RunFault.TheVariants.{Write};
+ghost use Rattle.clap.specs.Words.{found_of, rows_of};
 ghost use Rattle.pg_cli.specs.Answers.{AreAnswered};
+ghost use Rattle.pg_cli.specs.Words.{IsChecked};
 
 use crate::refusals::Refusal;
 use crate::screen::Screen;
+use crate::spelling::text_of;
 use clap::ArgMatches;
 use pg_files::{FileName, lead_to_one, list, open};
 use pg_report::{
@@ -94,8 +97,8 @@ pub(crate) fn ask_for_games<'a, R: Runtime + AllocGlobal>(
     rt: &R,
     words: &ArgMatches<'a>,
 ) -> Result<(), Refusal<'a>> {
-    let diagram = words.get_str("DIAGRAM").unwrap_or("");
-    let length = words.get_str("LENGTH").unwrap_or("");
+    let diagram = text_of(words, "DIAGRAM");
+    let length = text_of(words, "LENGTH");
     if let Err(fault) = Problem::read(diagram, length) {
         return Err(Refusal::Check(fault));
     }
@@ -110,7 +113,7 @@ fn games_of<'a, R: Runtime + AllocGlobal>(
     words: &ArgMatches<'a>,
     screen: Screen,
 ) -> Result<Vec<u8>, Refusal<'a>> {
-    let certificate = words.get_str("CERT").unwrap_or("");
+    let certificate = text_of(words, "CERT");
     let path = words.get_str("GAMES");
     match path {
         Some(path) if lead_to_one(rt, certificate, path) => {
@@ -128,14 +131,18 @@ fn games_of<'a, R: Runtime + AllocGlobal>(
     }
 }
 
-// `pg check`: the certificate of a file is checked, and the report stands on standard output.
+// `pg check`: the certificate of a file is checked, and the report stands on standard output. A status means
+// that a list is the exact answer to the diagram and the length which the words spell, and 0 that it has one
+// game; the list is that of the file GAMES or of standard input, of which no contract can say what it gives.
 pub(crate) fn check<'a, R: Runtime + AllocGlobal>(
     rt: &R,
     words: &ArgMatches<'a>,
     bounds: &[Box<dyn Bound>],
     screen: Screen,
-) -> Result<u8, Refusal<'a>> {
-    let path = words.get_str("CERT").unwrap_or("");
+) -> Result<u8, Refusal<'a>>
+    ensures headline { IfOk result (λ status. IsChecked (rows_of (found_of words.now)) status) }
+{
+    let path = text_of(words, "CERT");
     let certificate = match open(rt, path) {
         Ok(certificate) => certificate,
         Err(fault) => return Err(Refusal::of_file(fault, path)),
@@ -144,9 +151,11 @@ pub(crate) fn check<'a, R: Runtime + AllocGlobal>(
         Ok(games) => games,
         Err(refusal) => return Err(refusal),
     };
+    let diagram = text_of(words, "DIAGRAM");
+    let length = text_of(words, "LENGTH");
     let asked = Asked {
-        diagram: words.get_str("DIAGRAM").unwrap_or(""),
-        length: words.get_str("LENGTH").unwrap_or(""),
+        diagram,
+        length,
         games: games.as_slice(),
     };
     let records = words.get_one::<u64>("records").unwrap_or(RECORDS);

@@ -1,12 +1,15 @@
 //! `pg why`: a certificate explains a line of moves.
-ghost use Rattle.std.specs.Prelude.{OnOk};
+ghost use Rattle.std.specs.Prelude.{◌≡◌, IfOk, OnOk};
+ghost use Rattle.clap.specs.Words.{found_of, rows_of};
 ghost use Rattle.pg_cli.specs.Answers.{HasExactAnswer};
+ghost use Rattle.pg_cli.specs.Words.{IsExplained};
 
 use crate::checking::{NAMED, RECORDS};
 use crate::refusals::{DONE, Refusal, say};
 use crate::screen::Screen;
+use crate::spelling::text_of;
 use clap::ArgMatches;
-use pg_files::{FileFault, open};
+use pg_files::{FileFault, open_plain};
 use pg_guide::{Asked, WhyFault, why as explain};
 use pg_report::{Bound, Fault, Refused, RunFault, SearchFault, Sink, ToWrite};
 use pg_streams::{Cleared, Gathered, Terminal, watch_records};
@@ -24,7 +27,9 @@ fn refusal_of<'a>(fault: WhyFault) -> Refusal<'a> {
 }
 
 // The status once the explanation is wholly written.
-fn done<'a, W: Sink + Drop>(out: Gathered<W>) -> Result<u8, Refusal<'a>> {
+fn done<'a, W: Sink + Drop>(out: Gathered<W>) -> Result<u8, Refusal<'a>>
+    ensures zero { IfOk result (λ status. status ≡ 0) }
+{
     match out.finish() {
         Ok(_) => Ok(DONE),
         Err(Refused) => Err(Refusal::Check(RunFault::Write)),
@@ -68,6 +73,7 @@ pub(crate) fn why_from<'a, R: Runtime + AllocGlobal, C: Read + Drop, W: Write + 
     screen: Screen,
 ) -> Result<u8, Refusal<'a>>
     ensures right { OnOk result (HasExactAnswer asked.now.diagram.now asked.now.length.now) }
+    ensures zero { IfOk result (λ status. status ≡ 0) }
 {
     let (walked, checked, cited) = certificates;
     let terminal = Terminal::new(screen.errors);
@@ -99,30 +105,39 @@ pub(crate) fn why_from<'a, R: Runtime + AllocGlobal, C: Read + Drop, W: Write + 
     }
 }
 
-// A file, opened three times.
+// A plain file, opened three times.
 fn open_thrice<R: Runtime + AllocGlobal>(
     rt: &R,
     path: &str,
 ) -> Result<(R::File, R::File, R::File), FileFault> {
-    Ok((open(rt, path)?, open(rt, path)?, open(rt, path)?))
+    Ok((
+        open_plain(rt, path)?,
+        open_plain(rt, path)?,
+        open_plain(rt, path)?,
+    ))
 }
 
-// `pg why`: the certificate of a file explains a line on standard output.
+// `pg why`: the certificate of a plain file explains a line on standard output. A status means that some list
+// is the exact answer to the diagram and the length which the words spell, and it is 0.
 pub(crate) fn why<'a, R: Runtime + AllocGlobal>(
     rt: &R,
     words: &ArgMatches<'a>,
     bounds: &[Box<dyn Bound>],
     screen: Screen,
-) -> Result<u8, Refusal<'a>> {
-    let path = words.get_str("CERT").unwrap_or("");
+) -> Result<u8, Refusal<'a>>
+    ensures headline { IfOk result (λ status. IsExplained (rows_of (found_of words.now)) status) }
+{
+    let path = text_of(words, "CERT");
     let certificates = match open_thrice(rt, path) {
         Ok(certificates) => certificates,
         Err(fault) => return Err(Refusal::of_file(fault, path)),
     };
+    let diagram = text_of(words, "DIAGRAM");
+    let length = text_of(words, "LENGTH");
     let asked = Asked {
-        diagram: words.get_str("DIAGRAM").unwrap_or(""),
-        length: words.get_str("LENGTH").unwrap_or(""),
-        moves: words.get_str("MOVES").unwrap_or(""),
+        diagram,
+        length,
+        moves: text_of(words, "MOVES"),
     };
     let records = words.get_one::<u64>("records").unwrap_or(RECORDS);
     let out = io::writer(rt);

@@ -5,6 +5,7 @@ ghost use Rattle.pg_cli.specs.Knowing.{AreUnsound, answer_status, standing_statu
 use crate::checking::{Asked, ask_for_games};
 use crate::refusals::Refusal;
 use crate::screen::Screen;
+use crate::spelling::text_of;
 use clap::ArgMatches;
 use pg_cooks::{
     Asked as Texts, CookAnswer, CooksRunFault, LedLimits, Standing, run_cooks, run_games,
@@ -163,8 +164,8 @@ pub(crate) fn games<'a, R: Runtime + AllocGlobal>(
         Err(refusal) => return Err(refusal),
     };
     let asked = Asked {
-        diagram: words.get_str("DIAGRAM").unwrap_or(""),
-        length: words.get_str("LENGTH").unwrap_or(""),
+        diagram: text_of(words, "DIAGRAM"),
+        length: text_of(words, "LENGTH"),
         games: games.as_slice(),
     };
     games_from(rt, &asked, io::writer(rt))
@@ -181,8 +182,8 @@ pub(crate) fn cooks<'a, R: Runtime + AllocGlobal>(
         Err(refusal) => return Err(refusal),
     };
     let asked = Asked {
-        diagram: words.get_str("DIAGRAM").unwrap_or(""),
-        length: words.get_str("LENGTH").unwrap_or(""),
+        diagram: text_of(words, "DIAGRAM"),
+        length: text_of(words, "LENGTH"),
         games: games.as_slice(),
     };
     let limits = LedLimits {

@@ -4,6 +4,10 @@
 //! `pg why DIAGRAM LENGTH CERT MOVES [--records N]` and `pg upgrade OLD NEW [--records N]`.
 #![tactic(auto)]
 
+ghost use Rattle.std.specs.Prelude.{List, IfOk};
+ghost use Rattle.clap.specs.Words.{Row, Text};
+ghost use Rattle.pg_cli.specs.Words.{IsMeant, IsSubcommand};
+
 mod checking;
 mod guiding;
 mod knowing;
@@ -11,6 +15,7 @@ mod positions;
 mod refusals;
 mod screen;
 mod searching;
+mod spelling;
 mod upgrading;
 
 use crate::refusals::{BAD_INPUT, DONE, Refusal, refuse};
@@ -25,13 +30,16 @@ use std::process::ExitCode;
 use std::rt::Runtime;
 use std::{env, io};
 
-// Does what the words of a command say, with these bounds.
+// Does what the words of a command say, with these bounds. A status of `check`, `search` or `why` means
+// that a list is the exact answer to the diagram and the length which the words spell.
 fn carry_out<'a, R: Runtime + AllocGlobal>(
     rt: &R,
     words: &ArgMatches<'a>,
     bounds: &[Box<dyn Bound>],
     screen: Screen,
-) -> Result<u8, Refusal<'a>> {
+) -> Result<u8, Refusal<'a>>
+    ensures headline { IfOk result (λ status. (name : Text) (rows : List Row) → IsSubcommand words.now name rows → IsMeant name rows status) }
+{
     let Some((name, inner)) = words.subcommand() else {
         return Ok(BAD_INPUT);
     };

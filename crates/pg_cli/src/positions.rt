@@ -1,6 +1,7 @@
 //! The commands on one position: its legal moves, the number of games from it, and a diagram shown.
 
 use crate::refusals::{DONE, Refusal};
+use crate::spelling::text_of;
 use clap::ArgMatches;
 use pg_report::{
     Bound, CountRunFault, MovesFault, Refused, ShowFault, ToWrite, run_count_watched, run_moves,
@@ -15,7 +16,7 @@ pub(crate) fn moves<'a, R: Runtime + AllocGlobal>(
     rt: &R,
     words: &ArgMatches<'a>,
 ) -> Result<u8, Refusal<'a>> {
-    let fen = words.get_str("FEN").unwrap_or("");
+    let fen = text_of(words, "FEN");
     let mut out = Gathered::new(ToWrite::new(io::writer(rt)));
     match run_moves(rt.alloc(), fen, &mut out) {
         Ok(()) => match out.finish() {
@@ -32,7 +33,7 @@ pub(crate) fn count<'a, R: Runtime + AllocGlobal>(
     words: &ArgMatches<'a>,
     screen: bool,
 ) -> Result<u8, Refusal<'a>> {
-    let fen = words.get_str("FEN").unwrap_or("");
+    let fen = text_of(words, "FEN");
     let plies = words.get_one::<u8>("PLIES").unwrap_or(u8::MAX);
     let mut out = Gathered::new(ToWrite::new(io::writer(rt)));
     let terminal = Terminal::new(screen);
@@ -54,7 +55,7 @@ pub(crate) fn show<'a, R: Runtime + AllocGlobal>(
     words: &ArgMatches<'a>,
     bounds: &[Box<dyn Bound>],
 ) -> Result<u8, Refusal<'a>> {
-    let diagram = words.get_str("DIAGRAM").unwrap_or("");
+    let diagram = text_of(words, "DIAGRAM");
     let mut out = Gathered::new(ToWrite::new(io::writer(rt)));
     let answer = match words.get_str("LENGTH") {
         None => run_show(rt.alloc(), diagram, bounds, &mut out),

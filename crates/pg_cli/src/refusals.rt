@@ -34,6 +34,9 @@ pub(crate) enum Refusal<'a> {
     /// given.
     #[error("cannot open {0}")]
     Open(FileName<'a>),
+    /// A file of this name cannot be created beside its place: a thousand drafts of it stand there.
+    #[error("cannot open {0}")]
+    Drafts(FileName<'a>),
     /// The moves that are asked for are not one game.
     #[error("not one line of moves")]
     Line,
@@ -79,6 +82,7 @@ impl<'a> Refusal<'a> {
     {
         match fault {
             FileFault::Open => Refusal::Open(FileName(name)),
+            FileFault::Drafts => Refusal::Drafts(FileName(name)),
             FileFault::Read => Refusal::Read,
             FileFault::Write => Refusal::Write,
             FileFault::Memory => Refusal::Memory,
@@ -93,7 +97,7 @@ impl Refusal<'_> {
         ensures { result ≡ refusal_status self.now }
     {
         match self {
-            Refusal::Open(_) | Refusal::Read | Refusal::Write => FILES,
+            Refusal::Open(_) | Refusal::Drafts(_) | Refusal::Read | Refusal::Write => FILES,
             Refusal::Words | Refusal::Line | Refusal::NoGame | Refusal::NotUtf8 => BAD_INPUT,
             Refusal::Memory => MEMORY,
             Refusal::Show(fault) => show_status(fault),

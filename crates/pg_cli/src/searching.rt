@@ -2,10 +2,13 @@
 
 ghost use Rattle.std.specs.Prelude.{◌≤◌, List, IfOk};
 ghost use Rattle.pg_position.specs.declared.moves.Move.{Move};
+ghost use Rattle.clap.specs.Words.{found_of, rows_of};
 ghost use Rattle.pg_cli.specs.Answers.{IsAnswered};
+ghost use Rattle.pg_cli.specs.Words.{IsSearched};
 
 use crate::checking::{NAMED, RECORDS, finished};
 use crate::refusals::Refusal;
+use crate::spelling::text_of;
 use clap::ArgMatches;
 use pg_files::begin;
 use pg_report::{Bound, Games, Problem, ToWrite, run_listed, search_watched};
@@ -112,28 +115,25 @@ where
     check_found(rt, problem, &games, bounds, file, out, records, screen)
 }
 
-// `pg search`: the certificate is written beside its place, checked from there and put in its place
-// once the report stands on standard output. Else it is taken away, and what stood there is as it was.
-pub(crate) fn search<'a, R: Runtime + AllocGlobal>(
+// Searches for the games of a problem: the certificate is written beside its place, checked from there and put in
+// its place once the report stands on standard output. Else it is taken away, and what stood there is as it was.
+fn search_for<'a, R: Runtime + AllocGlobal>(
     rt: &R,
     words: &ArgMatches<'a>,
+    problem: &Problem,
     bounds: &[Box<dyn Bound>],
     screen: bool,
-) -> Result<u8, Refusal<'a>> {
-    let diagram = words.get_str("DIAGRAM").unwrap_or("");
-    let length = words.get_str("LENGTH").unwrap_or("");
-    let path = words.get_str("CERT").unwrap_or("");
-    let problem = match Problem::read(diagram, length) {
-        Ok(problem) => problem,
-        Err(fault) => return Err(Refusal::Check(fault)),
-    };
+) -> Result<u8, Refusal<'a>>
+    ensures headline { IfOk result (λ status. (games : List (List Move)) × IsAnswered problem.now.diagram problem.now.length games status) }
+{
+    let path = text_of(words, "CERT");
     let nodes = words.get_one::<u64>("nodes").unwrap_or(NODES);
     let mut draft = match begin(rt, path) {
         Ok(draft) => draft,
         Err(fault) => return Err(Refusal::of_file(fault, path)),
     };
     let out = io::writer(rt);
-    match search_in(rt, &problem, bounds, &mut draft.file, out, nodes, screen) {
+    match search_in(rt, problem, bounds, &mut draft.file, out, nodes, screen) {
         Ok(status) => match draft.put(rt) {
             Ok(()) => Ok(status),
             Err(fault) => Err(Refusal::of_file(fault, path)),
@@ -142,5 +142,23 @@ pub(crate) fn search<'a, R: Runtime + AllocGlobal>(
             draft.discard(rt);
             Err(refusal)
         }
+    }
+}
+
+// `pg search`: games are searched for, and a certificate is written and checked. A status means that a list is the
+// exact answer to the diagram and the length which the words spell, and 0 that it has one game.
+pub(crate) fn search<'a, R: Runtime + AllocGlobal>(
+    rt: &R,
+    words: &ArgMatches<'a>,
+    bounds: &[Box<dyn Bound>],
+    screen: bool,
+) -> Result<u8, Refusal<'a>>
+    ensures headline { IfOk result (λ status. IsSearched (rows_of (found_of words.now)) status) }
+{
+    let diagram = text_of(words, "DIAGRAM");
+    let length = text_of(words, "LENGTH");
+    match Problem::read(diagram, length) {
+        Ok(problem) => search_for(rt, words, &problem, bounds, screen),
+        Err(fault) => Err(Refusal::Check(fault)),
     }
 }

@@ -3,6 +3,7 @@ ghost use Rattle.std.specs.Prelude.{◌≡◌, ◌≤◌, IfOk};
 
 use crate::checking::RECORDS;
 use crate::refusals::{DONE, Refusal};
+use crate::spelling::text_of;
 use clap::ArgMatches;
 use pg_files::{FileName, begin, lead_to_one, open};
 use pg_report::{Refused, ToWrite, UpgradeFault, upgrade as upgrade_from};
@@ -57,9 +58,11 @@ pub(crate) fn upgrade<'a, R: Runtime + AllocGlobal>(
     rt: &R,
     words: &ArgMatches<'a>,
     screen: bool,
-) -> Result<u8, Refusal<'a>> {
-    let old = words.get_str("OLD").unwrap_or("");
-    let new = words.get_str("NEW").unwrap_or("");
+) -> Result<u8, Refusal<'a>>
+    ensures zero { IfOk result (λ status. status ≡ 0) }
+{
+    let old = text_of(words, "OLD");
+    let new = text_of(words, "NEW");
     let source = match open(rt, old) {
         Ok(source) => source,
         Err(fault) => return Err(Refusal::of_file(fault, old)),

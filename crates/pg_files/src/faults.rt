@@ -5,6 +5,8 @@
 pub enum FileFault {
     /// A file cannot be opened, created or put in its place, or must not be written.
     Open,
+    /// A file cannot be created, since 1,000 drafts of it stand beside its place, which runs that were killed have left.
+    Drafts,
     /// A read has failed, or there is too much to read.
     Read,
     /// A file is not wholly written.

@@ -2,6 +2,7 @@
 
 use crate::faults::FileFault;
 use std::alloc::Global;
+use std::fs;
 use std::fs::File;
 use std::io::{Input, Read};
 use std::rt::Files;
@@ -17,6 +18,17 @@ pub fn open<R: Files + AllocGlobal>(rt: &R, path: &str) -> Result<R::File, FileF
     match File::open(rt, path) {
         Ok(file) => Ok(file),
         Err(_) => Err(FileFault::Open),
+    }
+}
+
+/// The plain file of this name, to be read, also more than once.
+///
+/// # Errors
+/// `Open` where it cannot be opened, or where it is no plain file: a folder, a pipe, a socket or a device.
+pub fn open_plain<R: Files + AllocGlobal>(rt: &R, path: &str) -> Result<R::File, FileFault> {
+    match fs::metadata(rt, path) {
+        Ok(found) if found.is_file() => open(rt, path),
+        _ => Err(FileFault::Open),
     }
 }
 

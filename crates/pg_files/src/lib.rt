@@ -7,6 +7,6 @@ mod names;
 mod writing;
 
 pub use faults::FileFault;
-pub use input::{MOST_BYTES, list, open, read_all};
+pub use input::{MOST_BYTES, list, open, open_plain, read_all};
 pub use names::FileName;
 pub use writing::{Draft, begin, lead_to_one};

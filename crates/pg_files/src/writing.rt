@@ -1,4 +1,5 @@
 //! Files that are written beside their place, and put there when they are whole.
+ghost use Rattle.std.specs.Prelude.{◌≤◌, length};
 ghost use Rattle.std.specs.Io.{StartsWith};
 
 use crate::faults::FileFault;
@@ -6,11 +7,18 @@ use std::alloc::Global;
 use std::fs;
 use std::fs::{File, Metadata, OpenFile, Permissions};
 use std::io::ErrorKind;
-use std::os::unix::fs::MetadataExt;
+use std::os::unix::fs::{MetadataExt, PermissionsExt};
 use std::rt::Files;
 
 // So many names are tried for a file beside its place.
 const NAMES: u32 = 1000;
+
+// A draft has so many bytes of its file's name at most, so that its own name, which is a dot, those bytes and
+// `.pg-part-999`, has 255, the most that Linux takes.
+const MOST_OF_NAME: usize = 242;
+
+// The bits of a mode that are handed on: who may read, write and run the file, and no setuid, setgid or sticky bit.
+const RIGHTS: u32 = 0o777;
 
 // Whether two files are one.
 fn is_same(one: &Metadata, other: &Metadata) -> bool {
@@ -41,7 +49,7 @@ fn is_printed_to<R: Files>(rt: &R, file: &Metadata) -> bool {
 #[derive(Drop)]
 struct Place {
     path: String,
-    /// Those of the file that stands there, if one does.
+    /// Those of the file that stands there, if one does, without its setuid, setgid and sticky bits.
     permissions: Option<Permissions>,
 }
 
@@ -51,6 +59,11 @@ fn copied(alloc: Global, text: &str) -> Result<String, FileFault> {
         Ok(copy) => Ok(copy),
         Err(_) => Err(FileFault::Memory),
     }
+}
+
+// Who may read, write and run a file.
+fn rights_of(file: &Metadata) -> Permissions {
+    Permissions::from_mode(file.permissions().mode() & RIGHTS)
 }
 
 // The place of a file that is there already: the plain file to which the name leads, if it may be
@@ -68,7 +81,7 @@ fn place_of_old<R: Files + AllocGlobal>(rt: &R, name: &str) -> Result<Place, Fil
     match fs::canonicalize(rt, name) {
         Ok(path) => Ok(Place {
             path: copied(rt.alloc(), path.as_str())?,
-            permissions: Some(old.permissions()),
+            permissions: Some(rights_of(&old)),
         }),
         Err(fault) if fault.kind() == ErrorKind::OutOfMemory => Err(FileFault::Memory),
         Err(_) => Err(FileFault::Open),
@@ -102,7 +115,25 @@ fn folder_of(path: &str) -> &str
     }
 }
 
-/// A file that is written beside its place, in the same folder. It is to be put there or dropped.
+// The name of a path, behind its last `/`.
+fn name_of(path: &str) -> &str {
+    match path.rsplit_once('/') {
+        Some((_, name)) => name,
+        None => path,
+    }
+}
+
+// The front of a name that a draft's has room for, which cuts no character.
+fn front_of(name: &str) -> &str
+    ensures front { StartsWith name.now result.now }
+    ensures short { length result.now ≤ 242 }
+{
+    &name[..name.floor_char_boundary(MOST_OF_NAME)]
+}
+
+/// A file that is written beside its place, in the same folder, as `.NAME.pg-part-N`: N is the least number below
+/// 1,000 that is free, and NAME the name of the file that is to stand there, or the front of it, 242 bytes at most.
+/// It is to be put there or dropped. A run that is killed leaves it.
 #[derive(Drop)]
 pub struct Draft<F> {
     pub file: F,
@@ -114,8 +145,9 @@ pub struct Draft<F> {
 // Makes a new file in the folder of a place.
 fn make_beside<R: Files + AllocGlobal>(rt: &R, place: Place) -> Result<Draft<R::File>, FileFault> {
     let folder = folder_of(place.path.as_str());
+    let name = front_of(name_of(place.path.as_str()));
     for number in 0..NAMES {
-        let Ok(path) = format!(in rt.alloc(); "{folder}pg-part-{number}") else {
+        let Ok(path) = format!(in rt.alloc(); "{folder}.{name}.pg-part-{number}") else {
             return Err(FileFault::Memory);
         };
         match File::create_new(rt, path.as_str()) {
@@ -126,22 +158,23 @@ fn make_beside<R: Files + AllocGlobal>(rt: &R, place: Place) -> Result<Draft<R::
             Err(_) => return Err(FileFault::Open),
         }
     }
-    Err(FileFault::Open)
+    Err(FileFault::Drafts)
 }
 
 /// Begins a file of this name, beside the place where it is to stand. Nothing that is there is touched.
 ///
 /// # Errors
 /// `Open` where the name leads to a folder, a pipe, a device or to nothing, where the program prints to
-/// that file, where it must not be written, or where its folder takes no file; `Memory` where a growth
-/// is refused.
+/// that file, where it must not be written, or where its folder takes no file; `Drafts` where 1,000 drafts of
+/// it stand there, which runs have left; `Memory` where a growth is refused.
 pub fn begin<R: Files + AllocGlobal>(rt: &R, name: &str) -> Result<Draft<R::File>, FileFault> {
     let place = place_of(rt, name)?;
     make_beside(rt, place)
 }
 
 impl<F: OpenFile + Drop> Draft<F> {
-    /// Puts the file in its place, with the permissions of the one that stood there.
+    /// Puts the file in its place. Who may read, write and run it is as it was of the one that stood there; its
+    /// owner is who runs the program, and it has no setuid, setgid or sticky bit.
     ///
     /// # Errors
     /// `Write` where the system does not have the whole file, `Open` where it cannot be put there. The

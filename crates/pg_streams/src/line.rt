@@ -12,8 +12,8 @@ const FIRST: u128 = 1000;
 // So many milliseconds stand between two lines.
 const BETWEEN: u128 = 500;
 
-// A line has so many characters at most, one fewer than the narrowest terminal that it is for.
-pub(crate) const WIDTH: usize = 19;
+// A line has so many characters at most.
+pub(crate) const WIDTH: usize = 28;
 
 /// The line of a terminal on which runs say how far they are, as all see it that write there.
 #[derive(Drop)]
@@ -33,16 +33,17 @@ impl Terminal {
         }
     }
 
-    // Shows a text in the place of the last one.
+    // Shows a text in the place of the last one. A terminal that is narrower cuts it off: it is told not to
+    // wrap (`ESC [ ? 7 l`, ECMA-48 and DEC), so one line is all that has to be taken away.
     fn show<R: Eprint>(&self, rt: &R, text: &str) {
-        let _ = eprint!(rt; "\r{text:<19}");
+        let _ = eprint!(rt; "\r\x1b[K\x1b[?7l{text}\x1b[?7h");
         self.shown.set(true);
     }
 
     // Takes the text away, where one is shown.
     fn clear<R: Eprint>(&self, rt: &R) {
         if self.shown.replace(false) {
-            let _ = eprint!(rt; "\r{:<19}\r", "");
+            let _ = eprint!(rt; "\r\x1b[K");
         }
     }
 }

@@ -112,7 +112,7 @@ pub fn line_of(count: u64, limit: u64) -> ArrayString<WIDTH> {
     let mut line = ArrayString::new();
     let (number, unit) = scaled(count);
     let share = share(count, limit);
-    let _ = write!(line, "{number}{unit} records {share}%");
+    let _ = write!(line, "{number}{unit} records {share}% of limit");
     line
 }
 

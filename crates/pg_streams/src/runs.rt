@@ -83,7 +83,11 @@ pub fn search_line(plies: u8, nodes: u64, limit: u64) -> ArrayString<WIDTH> {
     if let Some(length) = Length::from_plies(plies) {
         let (number, unit) = scaled(nodes);
         let share = share(nodes, limit);
-        let _ = write!(line, "{} {number}{unit} {share}%", length.write().as_str());
+        let _ = write!(
+            line,
+            "{} {number}{unit} {share}% of limit",
+            length.write().as_str()
+        );
     }
     line
 }

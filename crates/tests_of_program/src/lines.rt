@@ -163,14 +163,14 @@ fn row<'a>(rt: &impl Abort, line: &'a str) -> ([u64; 3], &'a str) {
 }
 
 // Records and their limit, and what is shown.
-const CHECKS: &str = "0 0: 0 records 100%
-0 1: 0 records 0%
-99999 100000: 99999 records 99%
-100000 100000: 100k records 100%
-12345678 100000000: 12345k records 12%
-99999999 99999999: 99999k records 100%
-100000000 1000000000: 100M records 10%
-18446744073709551615 18446744073709551615: 18446P records 100%";
+const CHECKS: &str = "0 0: 0 records 100% of limit
+0 1: 0 records 0% of limit
+99999 100000: 99999 records 99% of limit
+100000 100000: 100k records 100% of limit
+12345678 100000000: 12345k records 12% of limit
+99999999 99999999: 99999k records 100% of limit
+100000000 1000000000: 100M records 10% of limit
+18446744073709551615 18446744073709551615: 18446P records 100% of limit";
 
 // Games, and what is shown.
 const COUNTS: &str = "0: 0 games
@@ -178,20 +178,20 @@ const COUNTS: &str = "0: 0 games
 18446744073709551615: 18446P games";
 
 // Plies, nodes and their limit, and what is shown.
-const SEARCHES: &str = "0 0 1000000: 0.0 0 0%
-11 428 1000000: 5.5 428 0%
-24 32105000 80000000: 12.0 32105k 40%
-128 99999999 99999999: 64.0 99999k 100%";
+const SEARCHES: &str = "0 0 1000000: 0.0 0 0% of limit
+11 428 1000000: 5.5 428 0% of limit
+24 32105000 80000000: 12.0 32105k 40% of limit
+128 99999999 99999999: 64.0 99999k 100% of limit";
 
 // Moves of other kinds, plies and nodes, and what is shown.
 const LED: &str = "0 0 0: +0 0.0 0
 3 37 1234567: +3 18.5 1234k
 255 128 18446744073709551615: +255 64.0 18446P";
 
-// What is shown is never wider than nineteen columns.
+// What is shown is never wider than 28 columns.
 fn check_shown(rt: &impl Abort, shown: &str, wanted: &str) {
     assert_eq!(rt; shown, wanted);
-    assert!(rt; shown.len() <= 19, "{wanted}");
+    assert!(rt; shown.len() <= 28, "{wanted}");
 }
 
 #[test]

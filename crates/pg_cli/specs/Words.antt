@@ -1,0 +1,39 @@
+-- What the words of a command spell, and what its status says of that.
+use Rattle.std.specs.Prelude.{◌≡◌, ℕ, List, [], Ok, Some, codes, option_map, unwrap_or}
+use Rattle.clap.specs.Words.{Row, Text, first_of, subcommand_name_of, subcommand_rows_of}
+use Rattle.clap.specs.declared.parser.matches.ArgMatches.{ArgMatches}
+use Rattle.pg_board.specs.Placement.{Placement}
+use Rattle.pg_position.specs.declared.moves.Move.{Move}
+use Rattle.pg_fen.specs.Fields.{fields}
+use Rattle.pg_fen.specs.DiagramText.{diagram_of}
+use Rattle.pg_fen.specs.Lengths.{length_of}
+use Rattle.pg_cli.specs.Answers.{IsAnswered, AreAnswered, HasExactAnswer}
+
+-- the text of the word with this name; no text where there is none
+abbrev pub spelled : Text → List Row → List ℕ
+spelled name rows = unwrap_or (first_of name rows) []
+
+-- what a status of `pg check` says: the words DIAGRAM and LENGTH and some text of games spell a diagram, a length and a list, and the list is the
+-- exact answer, with this status
+abbrev pub IsChecked : List Row → ℕ → Type 0
+IsChecked rows status = (games : List ℕ) × AreAnswered (spelled (codes "DIAGRAM") rows) (spelled (codes "LENGTH") rows) games status
+
+-- what a status of `pg search` says: the words DIAGRAM and LENGTH spell a diagram and a length, and some list is the exact answer, with this status
+abbrev pub IsSearched : List Row → ℕ → Type 0
+IsSearched rows status = (d : Placement) × (n : ℕ) × (list : List (List Move)) × (diagram_of (fields (spelled (codes "DIAGRAM") rows)) ≡ Ok d)
+    × (length_of (spelled (codes "LENGTH") rows) ≡ Ok n) × IsAnswered d n list status
+
+-- what a status of `pg why` says: the words DIAGRAM and LENGTH spell a diagram and a length, some list is the exact answer, and the status is 0
+abbrev pub IsExplained : List Row → ℕ → Type 0
+IsExplained rows status = HasExactAnswer (spelled (codes "DIAGRAM") rows) (spelled (codes "LENGTH") rows) × (status ≡ 0)
+
+-- the command that the words name has this name, and its words are these
+abbrev pub IsSubcommand : ArgMatches → Text → List Row → Type 0
+IsSubcommand words name rows = (subcommand_name_of words ≡ Some name) × (option_map (λ p. p.1) (subcommand_rows_of words) ≡ Some rows)
+
+-- what a status says of the command with this name, and with these words
+pub record IsMeant (name : Text) (rows : List Row) (status : ℕ) : Type 0 where
+  pub check : name ≡ codes "check" → IsChecked rows status
+  pub search : name ≡ codes "search" → IsSearched rows status
+  pub why : name ≡ codes "why" → IsExplained rows status
+  pub upgrade : name ≡ codes "upgrade" → status ≡ 0

@@ -1,0 +1,16 @@
+//! What the words of a command spell, as `clap` has read them.
+ghost use Rattle.std.specs.Prelude.{◌≡◌};
+ghost use Rattle.clap.specs.Words.{found_of, rows_of};
+ghost use Rattle.pg_cli.specs.Words.{spelled};
+
+use clap::ArgMatches;
+
+// The text of the word with this name; no text where there is none.
+pub(crate) fn text_of<'a>(words: &ArgMatches<'a>, name: &str) -> &'a str
+    ensures { result.now ≡ spelled name.now (rows_of (found_of words.now)) }
+{
+    match words.get_str(name) {
+        Some(text) => text,
+        None => "",
+    }
+}
