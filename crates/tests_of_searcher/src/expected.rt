@@ -1,3 +1,5 @@
+//! What a search may be expected to take: the forecast, the next tree, the slack of either side.
+
 use pg_fen::{Diagram, Length};
 use pg_searcher::{forecast, next_tree, slacks};
 

@@ -1,3 +1,5 @@
+//! The led search: what its tests share.
+
 mod found;
 mod growths;
 mod limits;

@@ -1,3 +1,5 @@
+//! Reports of games that are found beside a list.
+
 use super::*;
 
 // Another order of moves; a capture in passing where the list has none; a game of Black's kind.

@@ -1,3 +1,5 @@
+//! Reports of what a list of games shows by itself.
+
 use super::*;
 
 // No game, one, and two, not in order; no move. The last move is Black's and White's, and a capture in passing.

@@ -1,3 +1,5 @@
+//! Games that a led search finds, each played through and tested.
+
 use super::*;
 
 // Games that lead to another one within so many nodes, with so many foreign moves at most, and how many plies that one

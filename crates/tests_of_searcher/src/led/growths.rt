@@ -1,3 +1,5 @@
+//! A led search with each growth refused in turn.
+
 use super::*;
 
 // How many times a list, or a search that it leads, is refused memory. Two games are mates in two moves.

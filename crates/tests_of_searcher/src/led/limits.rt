@@ -1,3 +1,5 @@
+//! Sound problems, and limits of nodes and of foreign moves.
+
 use super::*;
 
 // A game, how many nodes are allowed, how many foreign moves, and what is answered: with too few nodes not even the

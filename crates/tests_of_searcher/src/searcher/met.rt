@@ -1,3 +1,5 @@
+//! The games that a search tells of as it meets them.
+
 use super::*;
 use pg_position::Move;
 use std::cmp::Ordering;
