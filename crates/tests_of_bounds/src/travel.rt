@@ -43,6 +43,15 @@ fn travel(rt: HostRuntime) {
     assert_eq!(rt; Travel.code(), 4);
 }
 
+// By the rows of one of the diagrams: the others are asked as without rows.
+#[test]
+fn travel_by_rows(rt: HostRuntime) {
+    let rows = Rows::new(&diagram(&rt, "4k3/8/8/8/8/8/8/R4RK1"));
+    let bound = TravelByRows { rows };
+    check_bound(&rt, &bound, TRAVEL);
+    assert_eq!(rt; bound.code(), 4);
+}
+
 // The man and the square of a text such as `Pe2`, a white pawn, or `pe7`, a black one.
 fn placed(rt: &impl Abort, text: &str) -> (Man, Square) {
     let bytes = text.as_bytes();
@@ -166,7 +175,11 @@ fn check_prices(rt: &impl Abort, table: &str) {
 fn is_cut(rt: &impl Abort, row: &Row<'_>, plies: u8, by: Color, prices: &Prices) -> bool {
     let wanted = diagram(rt, row.diagram);
     let start = position(rt, row.position);
-    prices_exclude(&wanted, &start, plies, by, prices)
+    let found = prices_exclude(&wanted, &start, plies, by, prices);
+    let rows = Rows::new(&wanted);
+    let by_rows = prices_exclude_by(&rows, &wanted, &start, plies, by, prices);
+    assert_eq!(rt; by_rows, found);
+    found
 }
 
 // A rook of a1 or h1 on a2, the other on a3: three plies together, where each target alone is near.
