@@ -2,7 +2,7 @@
 _pg() {
   local cur=${COMP_WORDS[COMP_CWORD]} before=${COMP_WORDS[COMP_CWORD - 1]} place=1 at
   local commands options valued=" " file_options=" " file_places=" "
-  commands="show moves count check search why upgrade help"
+  commands="show moves count games cooks check search why upgrade help"
   COMPREPLY=()
   if [ "$COMP_CWORD" = 1 ]; then
     mapfile -t COMPREPLY < <(compgen -W "$commands --help -h --version -V" -- "$cur")
@@ -12,6 +12,8 @@ _pg() {
     show) options="--help -h" ;;
     moves) options="--help -h" ;;
     count) options="--help -h" ;;
+    games) options="--help -h" file_places=" 3 " ;;
+    cooks) options="--nodes --foreign --help -h" valued=" --nodes --foreign " file_places=" 3 " ;;
     check) options="--records --help -h" valued=" --records " file_places=" 3 4 " ;;
     search) options="--nodes --help -h" valued=" --nodes " file_places=" 3 " ;;
     why) options="--records --help -h" valued=" --records " file_places=" 3 " ;;

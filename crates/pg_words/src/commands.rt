@@ -13,8 +13,8 @@ const EXAMPLE: &str = "Example, a problem by Schweig (1938):
   pg check r1bqkbnr/ppp2ppp/3p4/8/8/8/PPPPPPPP/R1BQKBNR 4.0 s.pgc games
 
 Statuses: 0 sound, or a command done; 1 cooked, no game, not sound, a list or
-certificate refused, or a search that gave up; 2 bad words or texts; 3 out of memory; 4 a
-file that cannot be opened, created, read or written.";
+certificate refused, or a search that gave up; 2 bad words or texts; 3 out of
+memory; 4 a file that cannot be opened, created, read or written.";
 
 const SHOW_EXAMPLE: &str =
     "Below the board stand, for each side, its men, how many it captured, and how
@@ -33,8 +33,8 @@ const COUNT_EXAMPLE: &str = "Example:
 
 const GAMES_EXAMPLE: &str =
     "It tests that each game ends on the diagram, and prints them. With two games or
-more the last line is `not sound`, which no other game can change; no certificate
-is needed. With one game it is `at least one game`, with none `no game given`.
+more the last line is `not sound`, which no other game can change; that needs no
+certificate. With one it is `at least one game`, with none `no game given`.
 
 Example:
   echo '1. e3 e6 2. d3' >games
