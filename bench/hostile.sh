@@ -294,8 +294,8 @@ expect 1 'pg: not a certificate of version 1' '"$pg" upgrade old.pgc ../two >/de
 expect 4 'pg: write fault' 'trap "" XFSZ; ulimit -f 1; "$pg" upgrade ../old.pgc new.pgc'
 
 # With the least stack that the README names.
-expect 0 '' 'ulimit -s 256; "$pg" search $queen 2.0 good.pgc | cmp - report && "$pg" check $queen 2.0 good.pgc games | cmp - report'
-expect 0 '' 'ulimit -s 256; "$pg" why $queen 2.0 good.pgc "e4 d5" >/dev/null && "$pg" count "$position" 3 >/dev/null && "$pg" moves "$position" >/dev/null && "$pg" show $queen >/dev/null && "$pg" upgrade old.pgc ../two >/dev/null'
+expect 0 '' 'ulimit -s 512; "$pg" search $queen 2.0 good.pgc | cmp - report && "$pg" check $queen 2.0 good.pgc games | cmp - report'
+expect 0 '' 'ulimit -s 512; "$pg" why $queen 2.0 good.pgc "e4 d5" >/dev/null && "$pg" count "$position" 3 >/dev/null && "$pg" moves "$position" >/dev/null && "$pg" show $queen >/dev/null && "$pg" upgrade old.pgc ../two >/dev/null'
 
 # On a terminal: a bad diagram is told before the list is typed, and else how it is typed.
 if command -v script >/dev/null; then
