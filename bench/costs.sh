@@ -1,11 +1,17 @@
 #!/usr/bin/env bash
-# Says what a run of the toolchain costs: `bench/costs.sh COMMAND ..` runs the command, `rt ci --anew` where none is given, looks
-# twice a second at each `rattle` that it started, and prints at its end, crate by crate, the seconds of a processor's
+# Says what a run of the toolchain costs: `bench/costs.sh COMMAND ..` runs the command, looks twice a second at each `rattle` that
+# it started, and prints at its end, crate by crate, the seconds of a processor's
 # time that its proof took, its tests, the first proof that its edits begin with, and its edits, with their number and mean; and
 # the most memory that one process took, in GB. The last line has the sums, what all of the command took, and the minutes on
 # the clock. For figures that can be compared: RT_JOBS=1, on a machine without other work. Ends with the command's status.
+#
+# Where no command is given it is `rt ci --anew`, or `rt ci` with a kit that keeps nothing. Of such a kit the first edit of a crate is
+# what the others begin with, and is counted as that proof.
 set -u
-[ $# -gt 0 ] || set -- rt ci --anew
+if [ $# = 0 ]; then
+  set -- rt ci
+  ! rt help 2>&1 | grep -q -- --anew || set -- rt ci --anew
+fi
 exec python3 -c "$(cat <<'END'
 import os
 import re
@@ -27,7 +33,7 @@ def kind_of(words, folder):
     """Which of KINDS a call of rattle is, from its words and the folder that it works in."""
     over = words[words.index("--incremental") + 1] if "--incremental" in words else ""
     if re.search(r"/rt-edit-[^/]*$", folder):
-        return "seed" if over.endswith("/seed") else "edits"
+        return "seed" if over.endswith("/seed") or over and firsts.setdefault(over, folder) == folder else "edits"
     return "tests" if "--test" in words else "proof"
 
 
@@ -55,7 +61,7 @@ def look(top, calls):
         calls[pid, stat[19]] = what, (int(stat[11]) + int(stat[12])) / TICKS, int(most[1]) / 1e6 if most else 0
 
 
-calls, begun = {}, time.time()
+calls, firsts, begun = {}, {}, time.time()
 command = subprocess.Popen(sys.argv[1:])
 while command.poll() is None:
     look(command.pid, calls)
