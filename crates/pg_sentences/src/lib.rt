@@ -14,5 +14,6 @@ mod travel;
 mod writing;
 
 pub use found::{Cited, Ending, Found};
+pub use sentences::{Grounds, reason_of_bounds, reason_of_cut};
 pub use tally::Tally;
 pub use writing::write_found;

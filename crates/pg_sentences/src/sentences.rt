@@ -7,10 +7,19 @@ use crate::travel::travel_of;
 use arrayvec::ArrayString;
 use pg_board::Color;
 use pg_certificate::Record;
+use pg_fen::Diagram;
+use pg_position::Position;
 use std::fmt::Write;
 
 // What is said of a node. What would be longer is cut off.
 pub(crate) type Sentence = ArrayString<320>;
+
+/// Why a node is excluded: the code of the bound, and in words what excludes there; no words where that is not seen.
+#[derive(Clone, Copy)]
+pub struct Grounds {
+    pub code: u8,
+    pub text: ArrayString<320>,
+}
 
 // Why the bound with this code excludes a colour; none where it does not, or is not known.
 fn reason_of(node: &Node, code: u8, color: Color) -> Option<Sentence> {
@@ -33,9 +42,17 @@ fn reason(node: &Node, code: u8) -> Option<Sentence> {
 
 // Why the first bound that excludes a node does; none where no bound is seen to.
 pub(crate) fn first_reason(node: &Node) -> Option<Sentence> {
+    match first_of_four(node) {
+        Some(reason) => Some(reason.text),
+        None => None,
+    }
+}
+
+// The same with the code of that bound.
+fn first_of_four(node: &Node) -> Option<Grounds> {
     for code in 1..5u8 {
         if let Some(text) = reason(node, code) {
-            return Some(text);
+            return Some(Grounds { code, text });
         }
     }
     None
@@ -80,4 +97,49 @@ pub(crate) fn ended(node: &Node, ending: &Ending) -> Sentence {
         Ending::Leaf(false) => said("does not end on the diagram"),
         Ending::Said(record) => recorded(node, record),
     }
+}
+
+// Why a bound excludes, with no words where it is not seen to.
+fn with_code(code: u8, text: Option<Sentence>) -> Grounds {
+    match text {
+        Some(text) => Grounds { code, text },
+        None => Grounds {
+            code,
+            text: Sentence::new(),
+        },
+    }
+}
+
+/// Why a record cuts the node that it stands at, a position with so many plies left below which no game ends on the
+/// diagram; none where it is no cut. No clause speaks of the words.
+pub fn reason_of_cut(
+    diagram: &Diagram,
+    position: &Position,
+    left: u8,
+    record: &Record,
+) -> Option<Grounds> {
+    let node = Node {
+        diagram,
+        position,
+        left,
+    };
+    match record {
+        Record::Cut(code) => Some(with_code(*code, reason(&node, *code))),
+        Record::Priced {
+            code,
+            color,
+            prices,
+        } => Some(with_code(*code, prices_of(&node, *code, *color, prices))),
+        Record::Ref(_) | Record::Expand { .. } => None,
+    }
+}
+
+/// Why the first of the four bounds that excludes a position with so many plies left does; none where no bound is seen
+/// to. No clause speaks of the words.
+pub fn reason_of_bounds(diagram: &Diagram, position: &Position, left: u8) -> Option<Grounds> {
+    first_of_four(&Node {
+        diagram,
+        position,
+        left,
+    })
 }
