@@ -10,7 +10,7 @@ use Rattle.pg_guide.specs.declared.explaining.Asked.{Asked}
 use Rattle.pg_guide.specs.declared.fault.WhyFault.{WhyFault}
 use Rattle.pg_guide.specs.declared.fault.WhyFault.TheVariants.{Moves, TooMany, Run}
 use Rattle.pg_guide.specs.Stops.{HasSolution, IsStopFault}
-use Rattle.pg_guide.specs.Why.{Terms, Failures, Spells, IsProblem, IsOneLine, IsOneLineFault, IsRefusal, IsWhyFault}
+use Rattle.pg_guide.specs.Why.{Terms, Failures, Spells, IsProblem, IsOneLine, IsOneLineFault, IsRefusal, IsGatheringFault, IsWhyFault}
 
 -- the moves are refused
 pub bad_line : (asked : Asked) (t : Terms) (failed : Failures) (e : WhyFault) → IsProblem asked → IsOneLineFault asked.moves.now e → IsWhyFault asked t failed e
@@ -50,3 +50,20 @@ stopped_early asked t failed d n k e s same l (inl w) =
     let some : HasSolution d n = subst (λ (x : ℕ). HasSolution d x) same w.1 in
     subst (λ (x : WhyFault). IsWhyFault asked t failed x) (sym w.0) (l, (d, n, s, inl (refl, some)))
 stopped_early asked t failed d n k e s same l (inr w) = subst (λ (x : WhyFault). IsWhyFault asked t failed x) (sym w.0) (l, (d, n, s, inr (inl (refl, w.1))))
+
+-- a walk of the certificate stops before the check, with no line in question
+pub gathering_stopped : (d : Placement) (n k : ℕ) (t : Terms) (failed : Failures) (e : WhyFault) → k ≡ n
+    → IsStopFault d k failed.walked failed.cited e → IsGatheringFault d n t failed e
+gathering_stopped d n k t failed e same (inl w) =
+    let some : HasSolution d n = subst (λ (x : ℕ). HasSolution d x) same w.1 in
+    subst (λ (x : WhyFault). IsGatheringFault d n t failed x) (sym w.0) (inl (refl, some))
+gathering_stopped d n k t failed e same (inr w) = subst (λ (x : WhyFault). IsGatheringFault d n t failed x) (sym w.0) (inr (inl (refl, w.1)))
+
+-- the certificate is refused with the games that it has; where a full list lacks one there are too many
+pub gathering_refused : (d : Placement) (n : ℕ) (t : Terms) (failed : Failures) (list : List (List Move)) (full : Bool) (f : Fault) (e : WhyFault)
+    → IsTrue full ↔ (length list ≡ 4096) → IsRefusal full f e → IsTold d n t failed list f → IsGatheringFault d n t failed e
+gathering_refused d n t failed list full f e long (inl (is, filled, (game, same))) r =
+    subst (λ (x : WhyFault). IsGatheringFault d n t failed x) (sym is)
+    (list, game, r.are, long.0 filled, subst (λ (x : Fault). Accepts (t.rules d n list) d list t.max_records t.max_named t.known (Err x)) same r.accepted, subst (λ (x : Fault). Refuses (t.rules d n list) d list t.max_records t.max_named t.known failed.checked (Err x)) same r.refused)
+gathering_refused d n t failed list full f e long (inr is) r =
+    subst (λ (x : WhyFault). IsGatheringFault d n t failed x) (sym is) (inr (inr (list, r.are, r.accepted, r.refused)))

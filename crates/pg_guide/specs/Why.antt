@@ -91,3 +91,17 @@ IsWhyFault asked t failed (Run (Games fault)) = IsProblem asked × IsTextFault a
 IsWhyFault asked t failed (Run (Check fault)) =
     IsOneLine asked.moves.now × ((d : Placement) × (n : ℕ) × Spells asked d n × IsCertificateFault d n t failed fault)
 IsWhyFault asked t failed (Run Write) = IsProblem asked × IsOneLine asked.moves.now × (failed.sink ≡ true)
+
+-- the list is the exact answer to the diagram d and n plies, and by the rules the known bytes are a certificate of that within the limits
+abbrev pub IsRight : Placement → ℕ → Terms → List (List Move) → Type 0
+IsRight d n t list = IsExactAnswer d n list × ((proved : Proved) × Accepts (t.rules d n list) d list t.max_records t.max_named t.known (Ok proved))
+
+-- why a certificate is not right with the games that it has: it is refused with these, or has too many
+abbrev pub IsGatheringFault : Placement → ℕ → Terms → Failures → WhyFault → Type 0
+IsGatheringFault d n t failed Moves = ⊥
+IsGatheringFault d n t failed TooMany = AreTooMany d n t failed.checked
+IsGatheringFault d n t failed (Run (Diagram fault)) = ⊥
+IsGatheringFault d n t failed (Run (Length fault)) = ⊥
+IsGatheringFault d n t failed (Run (Games fault)) = ⊥
+IsGatheringFault d n t failed (Run (Check fault)) = IsCertificateFault d n t failed fault
+IsGatheringFault d n t failed (Run Write) = ⊥

@@ -123,7 +123,7 @@ fn found<R: Source>(
 }
 
 // Why a walk that stops is a fault of the check.
-fn fault_of(stop: Stop) -> WhyFault
+pub(crate) fn fault_of(stop: Stop) -> WhyFault
     ensures { (d : Placement) (n : ℕ) (walked cited : Bool)
         → EndsTruly d n walked cited stop → IsStopFault d n walked cited result }
 {
@@ -176,14 +176,14 @@ fn is_interrupted(fault: &Fault) -> bool {
 }
 
 // Whether a list has no room for one more game.
-fn is_full(games: &Games) -> bool
+pub(crate) fn is_full(games: &Games) -> bool
     ensures { IsTrue result ↔ (length games.now ≡ 4096) }
 {
     games.len() == 4096
 }
 
 // The fault of a check with a list of solutions that is full, or not, as a refusal.
-fn refusal_of(fault: Fault, is_full: bool) -> WhyFault
+pub(crate) fn refusal_of(fault: Fault, is_full: bool) -> WhyFault
     ensures { IsRefusal is_full fault result }
 {
     match fault {

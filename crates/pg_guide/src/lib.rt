@@ -4,9 +4,11 @@
 
 mod explaining;
 mod fault;
+mod gathering;
 mod machine;
 mod play;
 mod walk;
 
 pub use explaining::{Asked, why};
 pub use fault::WhyFault;
+pub use gathering::{Gathered, gather};

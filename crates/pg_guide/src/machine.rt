@@ -44,7 +44,8 @@ impl Default for Frame {
 }
 
 // The record reader, how many records may still come, the plies of the tree that is walked, the open nodes,
-// how many named nodes have closed, and how many games the subtree that ended last has. What is found: the
+// how many named nodes have closed, how many games the subtree that ended last has, and how many nodes of the tree were
+// expanded so far with each number of plies left. What is found: the
 // expanded nodes on the line, the last one first, what ends them, and the node that was wanted.
 #[derive(Drop)]
 pub(crate) struct Machine {
@@ -54,6 +55,7 @@ pub(crate) struct Machine {
     pub(crate) frames: ArrayVec<Frame, 128>,
     pub(crate) closed: u32,
     pub(crate) below: u64,
+    pub(crate) expanded: [u64; 129],
     pub(crate) tallies: ArrayVec<Tally, 128>,
     pub(crate) ending: Option<Ending>,
     pub(crate) cited: Option<Cited>,

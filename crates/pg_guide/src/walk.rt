@@ -53,6 +53,9 @@ fn enter(
         }
         return Ok(());
     };
+    if let Some(count) = machine.expanded.get_mut(usize::from(left)) {
+        *count = count.saturating_add(1);
+    }
     let frame = Frame {
         moves: LegalMoves::new(position),
         left: left.saturating_sub(1),
@@ -359,6 +362,7 @@ fn all_trees<S: Source>(
     for tree in 0..=question.plies {
         machine.tree = tree;
         machine.below = 0;
+        machine.expanded = [0; 129];
         match tree_of(question, machine, games, source) {
             Ok(()) => {}
             Err(stop) => return Err(stop),
@@ -389,6 +393,7 @@ pub(crate) fn walk<S: Source>(
         frames: ArrayVec::new(),
         closed: 0,
         below: 0,
+        expanded: [0; 129],
         tallies: ArrayVec::new(),
         ending: None,
         cited: None,
