@@ -1,9 +1,11 @@
-//! Tests of what no contract of `pg_report` and `pg_guide` says. They stand apart, since a crate that has tests
+//! Tests of what no contract of `pg_report`, `pg_guide` and `pg_page` says. They stand apart, since a crate that has tests
 //! is proved twice, without them and with them.
 #![tactic(auto)]
 
 #[cfg(test)]
 mod guide;
+#[cfg(test)]
+mod page;
 #[cfg(test)]
 mod report;
 #[cfg(test)]

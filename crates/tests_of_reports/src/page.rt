@@ -1,0 +1,66 @@
+//! Pages that show a certificate: what the tests share.
+
+mod refusals;
+mod trees;
+
+use crate::shared::{
+    MANY, Said, certificate, field, four_bounds, halves, lines_of, named, text_of, told,
+};
+use pg_certificate::{FromRead, Sink, Source, ToWrite};
+use pg_page::*;
+use std::process::Abort;
+
+// What is answered with the four bounds, by three readings of the certificate. A diagram, a length and a number of nodes
+// are asked.
+fn show<R: Abort + AllocGlobal, S: Source, W: Sink>(
+    rt: &R,
+    asked: &str,
+    walked: &mut S,
+    checked: &mut S,
+    read: &mut S,
+    out: &mut W,
+) -> Said {
+    let asked = Asked {
+        diagram: named(field(asked, 0)),
+        length: field(asked, 1),
+        nodes: field(asked, 2).parse::<u64>().expect(rt, asked),
+    };
+    let bounds = four_bounds(rt);
+    told(&page(
+        rt.alloc(),
+        &asked,
+        &bounds,
+        walked,
+        checked,
+        read,
+        out,
+        MANY,
+        4_194_304,
+    ))
+}
+
+// What is answered over these bytes.
+fn show_bytes<R: Abort + AllocGlobal, W: Sink>(
+    rt: &R,
+    asked: &str,
+    bytes: &[u8],
+    out: &mut W,
+) -> Said {
+    let mut walked = FromRead::new(bytes);
+    let mut checked = FromRead::new(bytes);
+    let mut read = FromRead::new(bytes);
+    show(rt, asked, &mut walked, &mut checked, &mut read, out)
+}
+
+// This is answered over these bytes; what is written.
+fn page_of<R: Abort + AllocGlobal>(rt: &R, asked: &str, bytes: &[u8], answer: &str) -> Vec<u8> {
+    let mut out = ToWrite::new(Vec::new(rt.alloc()));
+    let said = show_bytes(rt, asked, bytes, &mut out);
+    assert_eq!(rt; said.as_str(), answer, "{asked}");
+    out.into_inner()
+}
+
+// The certificate of a row: what its header has, and its records.
+fn bytes_of<R: Abort + AllocGlobal>(rt: &R, asked: &str) -> Vec<u8> {
+    certificate(rt, field(asked, 3), field(asked, 4))
+}
