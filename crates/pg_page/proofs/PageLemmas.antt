@@ -1,7 +1,6 @@
 -- What is refused below, handed on to a page. Leads to the contract of `page`.
-use Rattle.std.proofs.Common.{◌≡◌, ◌⊎◌, inl, inr, ℕ, Bool, true, List, refl, sym, subst}
+use Rattle.std.proofs.Common.{inl, inr, ℕ, refl, sym, subst}
 use Rattle.pg_board.specs.Placement.{Placement}
-use Rattle.pg_checker.specs.declared.fault.Fault.TheVariants.{Read as ReadFault}
 use Rattle.pg_checker.specs.declared.fault.RunFault.TheVariants.{Diagram, Length, Games, Check, Write}
 use Rattle.pg_guide.specs.declared.fault.WhyFault.{WhyFault}
 use Rattle.pg_guide.specs.declared.fault.WhyFault.TheVariants.{Moves, TooMany, Run}

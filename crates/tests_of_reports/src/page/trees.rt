@@ -23,7 +23,11 @@ fn check_trees<R: Abort + AllocGlobal>(rt: &R, row: &str) {
     let row = lines_of(rt, row);
     let (asked, lines) = halves(rt, row.as_str(), " => ");
     let page = page_of(rt, asked, bytes_of(rt, asked).as_slice(), "()");
-    assert_eq!(rt; trees_of(rt, text_of(rt, page.as_slice())), lines, "{asked}");
+    assert_eq!(rt;
+        trees_of(rt, text_of(rt, page.as_slice())),
+        lines,
+        "{asked}"
+    );
 }
 
 #[test]
@@ -34,7 +38,8 @@ fn trees_are_told_depth_first(rt: HostRuntime) {
 }
 
 // What a page says of its problem, its verdict and its games.
-const HEADS: &str = "after-e4 | 0.5 | 9 | 2 after-e4 0.5 | 01 => <title>A proof game in 0.5 moves</title>
+const HEADS: &str =
+    "after-e4 | 0.5 | 9 | 2 after-e4 0.5 | 01 => <title>A proof game in 0.5 moves</title>
 after-e4 | 0.5 | 9 | 2 after-e4 0.5 | 01 => <body data-diagram=\"rnbqkbnr/pppppppp/8/8/4P3/8/PPPP1PPP/RNBQKBNR\" data-length=\"0.5\" data-plies=\"1\">
 after-e4 | 0.5 | 9 | 2 after-e4 0.5 | 01 => <use class=\"w\" href=\"#mP\" x=\"4\" y=\"4\" width=\"1\" height=\"1\"/>
 after-e4 | 0.5 | 9 | 2 after-e4 0.5 | 01 => <use class=\"b\" href=\"#mK\" x=\"4\" y=\"0\" width=\"1\" height=\"1\"/>
