@@ -6,6 +6,7 @@
 mod assignment;
 mod closed;
 mod keys;
+mod leasts;
 mod lists;
 mod memory;
 mod needs;
@@ -14,6 +15,7 @@ mod rows;
 pub use assignment::{Assignment, Costs, MOST, assign};
 pub use closed::Closed;
 pub use keys::{color_key, man_key, node_key, pawn_key, right_key};
+pub use leasts::{Leasts, Rest};
 pub use lists::{Lists, prices_of};
 pub use memory::Memory;
 pub use needs::{

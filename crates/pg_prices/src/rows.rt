@@ -249,6 +249,31 @@ impl Rows {
         self.pawn_targets
     }
 
+    /// The distances of a man of the colour on a square to the targets.
+    pub fn distances(&self, kind: Kind, square: Square) -> [u8; MOST] {
+        row_of(&self.travel, first(kind), square)
+    }
+
+    // The distances of a king and a rook where they castle to.
+    pub(crate) fn castled_distances(&self, wing: Wing) -> ([u8; MOST], [u8; MOST]) {
+        let ((_, king), (_, rook)) = castled(self.color, wing);
+        (
+            row_at(&self.travel, place(Kind::King, king)),
+            row_at(&self.travel, place(Kind::Rook, rook)),
+        )
+    }
+
+    // The least distances where there is no man: no way to each target.
+    pub(crate) fn without_men(&self) -> [u8; MOST] {
+        let mut least = [0; MOST];
+        for t in 0..MOST {
+            if t < self.targets {
+                least[t] = NO_WAY;
+            }
+        }
+        least
+    }
+
     /// The distances of the colour's men on a board, in the order of their squares, to the targets.
     pub fn travel(&self, board: &Board) -> Costs {
         let mut costs = [[NO_WAY; MOST]; MOST];

@@ -5,6 +5,7 @@ ghost use Rattle.pg_searcher.specs.Refusals.{RefusesTruly};
 use crate::fault::SearchFault;
 use crate::judge::Judge;
 use crate::machine::{Machine, Question};
+use crate::outlook::Mover;
 use crate::progress::Progress;
 use crate::walk::tree_of;
 use arrayvec::ArrayVec;
@@ -111,6 +112,7 @@ pub fn search_watched<W: Sink, P: Progress>(
         writer: RecordWriter::new(),
         games: Games::new(alloc),
         judge,
+        mover: Mover::none(),
         closed_nodes: Closed::new(alloc),
         frames: ArrayVec::new(),
         nodes: max_nodes,

@@ -1,11 +1,12 @@
 //! Which cut excludes a node, by what is remembered of the men and rights of either colour.
 
 use crate::known::{Known, MISSING};
+use crate::outlook::{Mover, Outlook, Plain};
 use crate::sides::{Change, Changes, Side, Sides, side_of};
 use pg_board::Color;
 use pg_captures::plies_left;
 use pg_fen::Diagram;
-use pg_position::Position;
+use pg_position::{Move, Position};
 use pg_prices::{NEVER, Needs, UNKNOWN};
 use pg_travel::Prices;
 use std::alloc::{AllocError, Global};
@@ -178,21 +179,23 @@ impl Judge {
         }
     }
 
-    // A colour after a move, with its needs where they are known.
-    fn after(&self, color: Color, side: &Side, change: &Change) -> Side {
+    // A colour after a move, with its needs where they are known, else these.
+    fn after(&self, color: Color, side: &Side, change: &Change, missing: Needs) -> Side {
         let needs = match self.known(color).get(change.key_after(side)) {
             Some(needs) => needs,
-            None => MISSING,
+            None => missing,
         };
         change.applied(side, needs)
     }
 
-    // What becomes of a node after a move of a colour, by what is known, and both colours there.
+    // What becomes of a node after a move of a colour, by what is known, and both colours there. What that
+    // colour needs then is as stated where it is not remembered.
     pub(crate) fn quick(
         &self,
         color: Color,
         sides: &Sides,
         changes: &Changes,
+        missing: Needs,
         left: u8,
     ) -> (Verdict, Option<Sides>) {
         let (own, other) = (sides.of(color), sides.of(color.other()));
@@ -203,9 +206,9 @@ impl Judge {
         if captures_exclude(self.means(color, other_men, color.other(), left)) {
             return (Verdict::Cut(1), None);
         }
-        let own = self.after(color, own, &changes.own);
+        let own = self.after(color, own, &changes.own, missing);
         let other = match &changes.other {
-            Some(change) => self.after(color.other(), other, change),
+            Some(change) => self.after(color.other(), other, change, MISSING),
             None => *other,
         };
         let sides = sides_by(color, own, other);
@@ -213,6 +216,32 @@ impl Judge {
             return (Verdict::Unknown, Some(sides));
         }
         (self.verdict(&sides, color.other(), left), Some(sides))
+    }
+
+    // What is known of a node that opens with so many plies left.
+    pub(crate) fn outlook(&self, position: &Position, sides: &Sides, left: u8) -> Outlook {
+        let left = left.saturating_sub(1);
+        if left < 2 {
+            return Outlook::of(sides, left);
+        }
+        let color = position.side();
+        let other = color.other();
+        let means = self.means(color, sides.of(other).men, other, left);
+        let rows = &self.known(color).rows;
+        let is_owing = captures_exclude(means);
+        Outlook::new(sides, left, rows, position, means.plies, is_owing)
+    }
+
+    // What is known of a legal move by its colour's travel.
+    pub(crate) fn plain(
+        &self,
+        outlook: &Outlook,
+        position: &Position,
+        mover: &mut Mover,
+        m: &Move,
+    ) -> Plain {
+        let rows = &self.known(position.side()).rows;
+        outlook.plain(rows, position, mover, m)
     }
 
     // Finds the needs by bounds that are missing.

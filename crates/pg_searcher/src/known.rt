@@ -21,11 +21,19 @@ pub(crate) const MISSING: Needs = Needs {
     lists: 0,
 };
 
+// The needs after a plain move, of which the need of travel is known, by those before it.
+pub(crate) fn after_plain(before: &Needs, need: u8) -> Needs {
+    let mut needs = MISSING;
+    needs.need = need;
+    needs.shift = before.shift;
+    needs
+}
+
 // The distances of a colour's men to the squares of the diagram, the needs that are known by men and
 // rights and by pawns, and how many men and pawns the colour has in the diagram.
 #[derive(Drop)]
 pub(crate) struct Known {
-    rows: Rows,
+    pub(crate) rows: Rows,
     memory: Memory,
     pawns: Memory,
     pub(crate) wanted_men: u8,

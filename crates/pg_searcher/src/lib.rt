@@ -12,6 +12,7 @@ mod known;
 mod led;
 mod machine;
 mod node;
+mod outlook;
 mod play;
 mod progress;
 mod sides;

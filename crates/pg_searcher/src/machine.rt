@@ -2,6 +2,7 @@
 
 use crate::judge::Judge;
 use crate::known::MISSING;
+use crate::outlook::{Mover, Outlook};
 use crate::sides::{Side, Sides};
 use arrayvec::ArrayVec;
 use pg_certificate::RecordWriter;
@@ -24,7 +25,7 @@ pub(crate) struct Question<'a> {
 #[derive(Drop)]
 pub(crate) struct Frame {
     pub(crate) moves: LegalMoves,
-    pub(crate) sides: Sides,
+    pub(crate) outlook: Outlook,
     pub(crate) key: u64,
     pub(crate) named: bool,
     pub(crate) found: bool,
@@ -41,10 +42,13 @@ impl Default for Frame {
         };
         Frame {
             moves: LegalMoves::new(&Position::array()),
-            sides: Sides {
-                white: none,
-                black: none,
-            },
+            outlook: Outlook::of(
+                &Sides {
+                    white: none,
+                    black: none,
+                },
+                0,
+            ),
             key: 0,
             named: false,
             found: false,
@@ -52,14 +56,16 @@ impl Default for Frame {
     }
 }
 
-// The record writer, the games that were found, what judges nodes, the closed nodes, the open nodes,
-// how many nodes may still be visited, how many are named and how many of those have closed. `found` says
-// whether a game of the subtree that ended last ends on the diagram.
+// The record writer, the games that were found, what judges nodes, the man whose moves are judged, the
+// closed nodes, the open nodes above the topmost, how many nodes may still be visited, how many are named
+// and how many of those have closed. `found` says whether a game of the subtree that ended last ends on the
+// diagram.
 #[derive(Drop)]
 pub(crate) struct Machine {
     pub(crate) writer: RecordWriter,
     pub(crate) games: Games,
     pub(crate) judge: Judge,
+    pub(crate) mover: Mover,
     pub(crate) closed_nodes: Closed,
     pub(crate) frames: ArrayVec<Frame, 128>,
     pub(crate) nodes: u64,

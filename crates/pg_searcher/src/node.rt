@@ -5,18 +5,30 @@ ghost use Rattle.pg_searcher.specs.Refusals.{RefusesTruly};
 
 use crate::fault::SearchFault;
 use crate::judge::{Verdict, sides_of};
+use crate::known::{MISSING, after_plain};
 use crate::machine::{Machine, Question};
+use crate::outlook::{Outlook, Plain};
 use crate::play::after;
 use crate::sides::{Sides, changes_of};
-use pg_board::Color;
+use pg_board::{Color, Square};
 use pg_certificate::{Record, Sink};
 use pg_position::{Move, Position};
-use pg_prices::node_key;
+use pg_prices::{Needs, node_key};
 use pg_travel::Prices;
 use std::alloc::AllocError;
 
 // How many nodes are named at most.
 const MOST_NAMED: u32 = 4_194_304;
+
+// The key of a node.
+fn key_of(sides: &Sides, side: Color, passed: Option<Square>, left: u8) -> u64 {
+    node_key(sides.white.key, sides.black.key, side, passed, left)
+}
+
+// Whether a move may be a pawn's advance of two squares.
+fn may_pass(m: &Move) -> bool {
+    m.from.index().abs_diff(m.to.index()) == 16
+}
 
 // A node that is open from now on.
 #[derive(Clone, Copy)]
@@ -90,8 +102,50 @@ fn prices_of(
     }
 }
 
+// Writes a reference to the closed node with a key, and answers whether there is one.
+fn refer<W: Sink>(machine: &mut Machine, sink: &mut W, key: u64) -> Result<bool, SearchFault>
+    requires runs { machine.old.writer.failed ≡ false }
+    ensures frames { machine.new.frames ≡ machine.old.frames }
+    ensures runs { OnOk result (machine.new.writer.failed ≡ false) }
+    ensures says { (plies : ℕ) → RefusesTruly plies (W.has_failed sink.new) result }
+{
+    let Some(number) = machine.closed_nodes.find(key) else {
+        return Ok(false);
+    };
+    match put(machine, &Record::Ref(number), sink) {
+        Ok(()) => Ok(true),
+        Err(fault) => Err(fault),
+    }
+}
+
+// A node is open from now on, with a name where there are names.
+fn open<W: Sink>(
+    machine: &mut Machine,
+    sink: &mut W,
+    position: &Position,
+    sides: &Sides,
+    key: u64,
+) -> Result<Option<Opened>, SearchFault>
+    requires runs { machine.old.writer.failed ≡ false }
+    ensures frames { machine.new.frames ≡ machine.old.frames }
+    ensures runs { OnOk result (machine.new.writer.failed ≡ false) }
+    ensures says { (plies : ℕ) → RefusesTruly plies (W.has_failed sink.new) result }
+{
+    let named = machine.named < MOST_NAMED;
+    machine.named = machine.named.saturating_add(u32::from(named));
+    match put(machine, &Record::Expand { named }, sink) {
+        Ok(()) => Ok(Some(Opened {
+            position: *position,
+            sides: *sides,
+            key,
+            named,
+        })),
+        Err(fault) => Err(fault),
+    }
+}
+
 // A node that no cut excludes, with so many plies left, at least two: a reference where one of the same
-// future has closed barren; otherwise it is open from now on, with a name where there are names.
+// future has closed barren; otherwise it is open from now on.
 fn stay<W: Sink>(
     machine: &mut Machine,
     sink: &mut W,
@@ -104,28 +158,38 @@ fn stay<W: Sink>(
     ensures runs { OnOk result (machine.new.writer.failed ≡ false) }
     ensures says { (plies : ℕ) → RefusesTruly plies (W.has_failed sink.new) result }
 {
-    let key = node_key(
-        sides.white.key,
-        sides.black.key,
-        position.side(),
-        position.effective_passed(),
-        left,
-    );
-    if let Some(number) = machine.closed_nodes.find(key) {
-        return match put(machine, &Record::Ref(number), sink) {
-            Ok(()) => Ok(None),
-            Err(fault) => Err(fault),
-        };
+    let passed = position.effective_passed();
+    let key = key_of(sides, position.side(), passed, left);
+    match refer(machine, sink, key) {
+        Ok(true) => Ok(None),
+        Ok(false) => open(machine, sink, position, sides, key),
+        Err(fault) => Err(fault),
     }
-    let named = machine.named < MOST_NAMED;
-    machine.named = machine.named.saturating_add(u32::from(named));
-    match put(machine, &Record::Expand { named }, sink) {
-        Ok(()) => Ok(Some(Opened {
-            position: *position,
-            sides: *sides,
-            key,
-            named,
-        })),
+}
+
+// A node after a legal move that no cut excludes, as `stay`. Its position is not made where a reference is
+// written.
+fn stay_after<W: Sink>(
+    machine: &mut Machine,
+    sink: &mut W,
+    position: &Position,
+    m: &Move,
+    sides: &Sides,
+    left: u8,
+) -> Result<Option<Opened>, SearchFault>
+    requires legal { IsLegal position.now m.now }
+    requires runs { machine.old.writer.failed ≡ false }
+    ensures frames { machine.new.frames ≡ machine.old.frames }
+    ensures runs { OnOk result (machine.new.writer.failed ≡ false) }
+    ensures says { (plies : ℕ) → RefusesTruly plies (W.has_failed sink.new) result }
+{
+    if may_pass(m) {
+        return stay(machine, sink, &after(position, m), sides, left);
+    }
+    let key = key_of(sides, position.side().other(), None, left);
+    match refer(machine, sink, key) {
+        Ok(true) => Ok(None),
+        Ok(false) => open(machine, sink, &after(position, m), sides, key),
         Err(fault) => Err(fault),
     }
 }
@@ -214,27 +278,19 @@ fn put_cut<W: Sink>(machine: &mut Machine, code: u8, sink: &mut W) -> Result<boo
     }
 }
 
-// Writes the record of a node after a legal move by what is known, where it is a cut, and answers
-// whether it did. What is known of both colours there is left in `known`.
-fn cut<W: Sink>(
+// Writes the record of a node where a bound excludes it, or prices do that are kept, and answers whether it
+// did.
+fn put_judged<W: Sink>(
     machine: &mut Machine,
+    verdict: Verdict,
+    known: &Option<Sides>,
     sink: &mut W,
-    position: &Position,
-    m: &Move,
-    sides: &Sides,
-    known: &mut Option<Sides>,
-    left: u8,
 ) -> Result<bool, SearchFault>
     requires runs { machine.old.writer.failed ≡ false }
     ensures frames { machine.new.frames ≡ machine.old.frames }
     ensures runs { OnOk result (machine.new.writer.failed ≡ false) }
     ensures says { (plies : ℕ) → RefusesTruly plies (W.has_failed sink.new) result }
 {
-    let Some(changes) = changes_of(position, m) else {
-        return Ok(false);
-    };
-    let (verdict, after) = machine.judge.quick(position.side(), sides, &changes, left);
-    *known = after;
     match verdict {
         Verdict::Cut(code) => put_cut(machine, code, sink),
         Verdict::Travel(color) => put_kept(machine, color, known, sink),
@@ -242,15 +298,54 @@ fn cut<W: Sink>(
     }
 }
 
-// Visits the node after a legal move, with so many plies left, at least two, and writes its record.
+// What became of a node that was judged before its move was made: its record is written; it stays; or that
+// is not known, but so much of both colours.
+#[derive(Clone, Copy)]
+enum Before {
+    Written,
+    Stays(Sides),
+    Unknown(Option<Sides>),
+}
+
+// Judges a node after a legal move by what is known, and writes its record where it is a cut.
+fn judge_before<W: Sink>(
+    machine: &mut Machine,
+    sink: &mut W,
+    position: &Position,
+    m: &Move,
+    outlook: &Outlook,
+    missing: Needs,
+) -> Result<Before, SearchFault>
+    requires runs { machine.old.writer.failed ≡ false }
+    ensures frames { machine.new.frames ≡ machine.old.frames }
+    ensures runs { OnOk result (machine.new.writer.failed ≡ false) }
+    ensures says { (plies : ℕ) → RefusesTruly plies (W.has_failed sink.new) result }
+{
+    let Some(changes) = changes_of(position, m) else {
+        return Ok(Before::Unknown(None));
+    };
+    let (sides, left) = (&outlook.sides, outlook.left);
+    let (verdict, known) = machine
+        .judge
+        .quick(position.side(), sides, &changes, missing, left);
+    match put_judged(machine, verdict, &known, sink) {
+        Ok(true) => Ok(Before::Written),
+        Ok(false) => Ok(match known {
+            Some(sides) if verdict == Verdict::Stays => Before::Stays(sides),
+            _ => Before::Unknown(known),
+        }),
+        Err(fault) => Err(fault),
+    }
+}
+
+// Visits the node after a legal move, with at least two plies left, and writes its record.
 pub(crate) fn child<W: Sink>(
     question: &Question,
     machine: &mut Machine,
     sink: &mut W,
     position: &Position,
     m: &Move,
-    sides: &Sides,
-    left: u8,
+    outlook: &Outlook,
 ) -> Result<Option<Opened>, SearchFault>
     requires legal { IsLegal position.now m.now }
     requires runs { machine.old.writer.failed ≡ false }
@@ -261,12 +356,27 @@ pub(crate) fn child<W: Sink>(
     if !visit(machine) {
         return Err(SearchFault::Budget);
     }
-    let mut known = None;
-    match cut(machine, sink, position, m, sides, &mut known, left) {
-        Ok(true) => return Ok(None),
-        Ok(false) => {}
-        Err(fault) => return Err(fault),
+    let missing = match machine
+        .judge
+        .plain(outlook, position, &mut machine.mover, m)
+    {
+        Plain::Cut(code) => {
+            return match put(machine, &Record::Cut(code), sink) {
+                Ok(()) => Ok(None),
+                Err(fault) => Err(fault),
+            };
+        }
+        Plain::Needs(need) => after_plain(&outlook.sides.of(position.side()).needs, need),
+        Plain::No => MISSING,
+    };
+    let left = outlook.left;
+    match judge_before(machine, sink, position, m, outlook, missing) {
+        Ok(Before::Written) => Ok(None),
+        Ok(Before::Stays(sides)) => stay_after(machine, sink, position, m, &sides, left),
+        Ok(Before::Unknown(known)) => {
+            let next = after(position, m);
+            enter(question, machine, sink, &next, known, left)
+        }
+        Err(fault) => Err(fault),
     }
-    let next = after(position, m);
-    enter(question, machine, sink, &next, known, left)
 }

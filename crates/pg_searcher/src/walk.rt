@@ -6,6 +6,7 @@ use crate::ends::{end, is_near, last_node, leaves};
 use crate::fault::SearchFault;
 use crate::machine::{Frame, Machine, Question};
 use crate::node::{Opened, child, enter, visit};
+use crate::outlook::Mover;
 use crate::play::after;
 use crate::progress::Progress;
 use crate::sides::is_special;
@@ -14,12 +15,13 @@ use pg_certificate::Sink;
 use pg_moves::LegalMoves;
 use pg_position::{Move, Position};
 use pg_san::Games;
+use std::mem;
 
-// The frame of a node that opens.
-fn frame_of(opened: &Opened) -> Frame {
+// The frame of a node that opens with so many plies left.
+fn frame_of(machine: &Machine, opened: &Opened, left: u8) -> Frame {
     Frame {
         moves: LegalMoves::new(&opened.position),
-        sides: opened.sides,
+        outlook: machine.judge.outlook(&opened.position, &opened.sides, left),
         key: opened.key,
         named: opened.named,
         found: false,
@@ -79,7 +81,7 @@ pub(crate) fn may_be_near(goal: &Board, position: &Position, squares: SquareSet,
 fn near<W: Sink>(
     question: &Question,
     tree: u8,
-    top: Frame,
+    top: &mut Frame,
     machine: &mut Machine,
     sink: &mut W,
 ) -> Result<(), SearchFault>
@@ -88,13 +90,12 @@ fn near<W: Sink>(
     ensures runs { OnOk result (machine.new.writer.failed ≡ false) }
     ensures says { RefusesTruly question.now.plies (W.has_failed sink.new) result }
 {
-    let mut top = top;
     let position = top.moves.position();
     let goal = question.diagram.board();
     let squares = position.board().differing(&goal);
     for _ in 0..u16::MAX {
         let Some(m) = top.moves.next() else {
-            return close(&top, machine);
+            return close(top, machine);
         };
         match last_node(machine, sink) {
             Ok(()) => {}
@@ -111,35 +112,37 @@ fn near<W: Sink>(
     Err(SearchFault::Budget)
 }
 
-// The moves of a node are played up to the first that leads to a node that opens; with no such move
-// the node closes.
+// The moves of a node are played up to the first that leads to a node that opens, which is the topmost from
+// now on; with no such move the node closes. The answer is whether one has opened.
 fn far<W: Sink>(
     question: &Question,
-    left: u8,
-    top: Frame,
+    top: &mut Frame,
     machine: &mut Machine,
     sink: &mut W,
-) -> Result<(), SearchFault>
-    requires room { length machine.old.frames.items + 2 ≤ 128 }
+) -> Result<bool, SearchFault>
+    requires room { length machine.old.frames.items + 1 ≤ 128 }
     requires runs { machine.old.writer.failed ≡ false }
-    ensures depth { OnOk result (length machine.new.frames.items ≤ length machine.old.frames.items + 2) }
+    ensures depth { OnOk result (length machine.new.frames.items ≤ length machine.old.frames.items + 1) }
     ensures runs { OnOk result (machine.new.writer.failed ≡ false) }
     ensures says { RefusesTruly question.now.plies (W.has_failed sink.new) result }
 {
-    let mut top = top;
     let position = top.moves.position();
     top.found = top.found || machine.found;
     machine.found = false;
+    machine.mover = Mover::none();
     for _ in 0..u16::MAX {
         let Some(m) = top.moves.next() else {
-            return close(&top, machine);
+            return match close(top, machine) {
+                Ok(()) => Ok(false),
+                Err(fault) => Err(fault),
+            };
         };
-        match child(question, machine, sink, &position, &m, &top.sides, left) {
+        match child(question, machine, sink, &position, &m, &top.outlook) {
             Ok(None) => {}
             Ok(Some(opened)) => {
-                machine.frames.push(top);
-                machine.frames.push(frame_of(&opened));
-                return Ok(());
+                let opened = frame_of(machine, &opened, top.outlook.left);
+                machine.frames.push(mem::replace(top, opened));
+                return Ok(true);
             }
             Err(fault) => return Err(fault),
         }
@@ -147,71 +150,83 @@ fn far<W: Sink>(
     Err(SearchFault::Budget)
 }
 
-// The tree of one length is entered.
-fn enter_root<W: Sink>(
+// The tree of no ply or of one.
+fn short_tree<W: Sink>(
     question: &Question,
     tree: u8,
     machine: &mut Machine,
     sink: &mut W,
 ) -> Result<(), SearchFault>
     requires runs { machine.old.writer.failed ≡ false }
-    ensures depth { OnOk result (length machine.new.frames.items ≤ tree) }
+    ensures frames { machine.new.frames ≡ machine.old.frames }
     ensures runs { OnOk result (machine.new.writer.failed ≡ false) }
     ensures says { RefusesTruly question.now.plies (W.has_failed sink.new) result }
 {
-    machine.frames.clear();
-    machine.found = false;
     let array = Position::array();
-    if tree == 0 {
-        return if question.diagram.matches(&array) {
-            end(question, tree, machine, &None, &None)
-        } else {
-            Ok(())
-        };
-    }
-    if tree == 1 {
+    if tree > 0 {
         return match last_node(machine, sink) {
             Ok(()) => leaves(question, tree, machine, &None, &array),
             Err(fault) => Err(fault),
         };
     }
+    if question.diagram.matches(&array) {
+        end(question, tree, machine, &None, &None)
+    } else {
+        Ok(())
+    }
+}
+
+// The first node of a tree of at least two plies, where that opens.
+fn enter_root<W: Sink>(
+    question: &Question,
+    tree: u8,
+    machine: &mut Machine,
+    sink: &mut W,
+) -> Result<Option<Frame>, SearchFault>
+    requires runs { machine.old.writer.failed ≡ false }
+    ensures frames { machine.new.frames ≡ machine.old.frames }
+    ensures runs { OnOk result (machine.new.writer.failed ≡ false) }
+    ensures says { RefusesTruly question.now.plies (W.has_failed sink.new) result }
+{
     if !visit(machine) {
         return Err(SearchFault::Budget);
     }
-    match enter(question, machine, sink, &array, None, tree) {
-        Ok(None) => Ok(()),
-        Ok(Some(opened)) => {
-            machine.frames.push(frame_of(&opened));
-            Ok(())
-        }
+    match enter(question, machine, sink, &Position::array(), None, tree) {
+        Ok(None) => Ok(None),
+        Ok(Some(opened)) => Ok(Some(frame_of(machine, &opened, tree))),
         Err(fault) => Err(fault),
     }
 }
 
-// One turn: moves of the topmost node are played.
+// One turn: moves of the topmost node are played, until a node opens that is the topmost from now on, or it
+// closes. The answer is whether one has opened.
 fn turn<W: Sink>(
     question: &Question,
     tree: u8,
-    top: Frame,
+    top: &mut Frame,
     machine: &mut Machine,
     sink: &mut W,
-) -> Result<(), SearchFault>
+) -> Result<bool, SearchFault>
     requires limit { tree ≤ 128 }
     requires depth { length machine.old.frames.items < tree }
     requires runs { machine.old.writer.failed ≡ false }
-    ensures depth { OnOk result (length machine.new.frames.items ≤ tree) }
+    ensures depth { OnOk result (length machine.new.frames.items < tree) }
     ensures runs { OnOk result (machine.new.writer.failed ≡ false) }
     ensures says { RefusesTruly question.now.plies (W.has_failed sink.new) result }
 {
     let left = tree - machine.frames.len() as u8 - 1;
     if left < 2 {
-        near(question, tree, top, machine, sink)
+        match near(question, tree, top, machine, sink) {
+            Ok(()) => Ok(false),
+            Err(fault) => Err(fault),
+        }
     } else {
-        far(question, left, top, machine, sink)
+        far(question, top, machine, sink)
     }
 }
 
-// Tells of the games beyond so many, which were met since; how many there are now. They are met in canonical order.
+// Tells of the games beyond so many, which were met since; how many there are now. They are met in
+// canonical order.
 fn tell<P: Progress>(games: &Games, known: usize, watch: &mut P) -> usize {
     for i in known..games.len() {
         if let Some(game) = games.game(i) {
@@ -234,21 +249,32 @@ pub(crate) fn tree_of<W: Sink, P: Progress>(
     ensures runs { OnOk result (machine.new.writer.failed ≡ false) }
     ensures says { RefusesTruly question.now.plies (W.has_failed sink.new) result }
 {
-    let known = machine.games.len();
-    match enter_root(question, tree, machine, sink) {
-        Ok(()) => {}
-        Err(fault) => return Err(fault),
+    machine.frames.clear();
+    machine.found = false;
+    let mut known = machine.games.len();
+    if tree < 2 {
+        let answer = short_tree(question, tree, machine, sink);
+        tell(&machine.games, known, watch);
+        return answer;
     }
-    let mut known = tell(&machine.games, known, watch);
+    let mut top = match enter_root(question, tree, machine, sink) {
+        Ok(Some(top)) => top,
+        Ok(None) => return Ok(()),
+        Err(fault) => return Err(fault),
+    };
     for _ in 0..u64::MAX {
-        let Some(top) = machine.frames.pop() else {
-            return Ok(());
-        };
-        let answer = turn(question, tree, top, machine, sink);
+        let answer = turn(question, tree, &mut top, machine, sink);
         known = tell(&machine.games, known, watch);
-        match answer {
-            Ok(()) => watch.reached(tree, machine.nodes),
+        let has_opened = match answer {
+            Ok(has_opened) => has_opened,
             Err(fault) => return Err(fault),
+        };
+        watch.reached(tree, machine.nodes);
+        if !has_opened {
+            top = match machine.frames.pop() {
+                Some(frame) => frame,
+                None => return Ok(()),
+            };
         }
     }
     Err(SearchFault::Budget)

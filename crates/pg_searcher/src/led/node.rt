@@ -3,6 +3,7 @@ ghost use Rattle.std.specs.Prelude.{◌≡◌};
 ghost use Rattle.pg_moves.specs.Moves.{IsLegal};
 
 use crate::judge::{Verdict, sides_of};
+use crate::known::MISSING;
 use crate::led::barren::ANY;
 use crate::led::machine::{Halt, Machine, Open, Question, visit};
 use crate::led::order::Due;
@@ -103,7 +104,7 @@ pub(crate) fn child(
     if let Some(changes) = changes_of(position, &due.m) {
         let (verdict, sides) = machine
             .judge
-            .quick(position.side(), &top.sides, &changes, left);
+            .quick(position.side(), &top.sides, &changes, MISSING, left);
         if is_cut(verdict) {
             return Ok(None);
         }

@@ -5,6 +5,7 @@ use crate::texts::diagram;
 use pg_captures::{Bound, Promotions};
 use pg_moves::legal_moves;
 use pg_pawns::shift_need;
+use pg_position::Move;
 use std::alloc::Global;
 
 // The position after so many moves by chance, and the next state of the chance.
@@ -122,4 +123,58 @@ fn a_board_is_priced(rt: HostRuntime) {
     assert!(rt; rows.targets() == 16 && rows.pawn_targets() == 8);
     assert!(rt; need(&rows, &array) == 2 && travel_lists(&rows, &array).0 == 2);
     assert!(rt; pawn_lists(&rows, &array).0 == 0);
+}
+
+// Whether a legal move takes nothing, and is neither castling nor a promotion.
+fn is_plain(position: &Position, after: &Position, m: &Move) -> bool {
+    let board = position.board();
+    let is_quiet = board.get(m.to).is_none() && m.promotion.is_none();
+    is_quiet && board.differing(&after.board()).len() == 2
+}
+
+// The need after a plain move, by the least distances of the other men and the mover's from his new square.
+fn need_by_leasts(rows: &Rows, leasts: &Leasts, position: &Position, m: &Move) -> u8 {
+    match position.board().get(m.from) {
+        Some(man) => leasts
+            .without(rows, man.kind, m.from)
+            .need(rows.distances(man.kind, m.to)),
+        None => NEVER,
+    }
+}
+
+// How many plain moves a position has; none where least distances give another need after one of them.
+fn agreeing_moves(rt: &impl Abort, alloc: Global, rows: &Rows, position: &Position) -> Option<u32> {
+    let leasts = Leasts::new(rows, &position.board(), position.rights());
+    let mut count = 0u32;
+    for m in &legal_moves(alloc, position).expect(rt, "memory") {
+        let after = position.play(*m).unwrap_or(*position);
+        if is_plain(position, &after, m) {
+            if need_by_leasts(rows, &leasts, position, m) != need(rows, &after) {
+                return None;
+            }
+            count = count.saturating_add(1);
+        }
+    }
+    Some(count)
+}
+
+// Positions along random games, with castling still to come in the first ones.
+#[test]
+fn least_distances_give_the_need_after_a_move(rt: HostRuntime) {
+    let mut state = 0x2545_f491_4f6c_dd1du64;
+    let mut moves = 0u32;
+    for round in 0..60u8 {
+        let plies = round % 30;
+        let (position, after) = wander(&rt, rt.alloc(), &Position::array(), plies, state);
+        let (end, after) = wander(&rt, rt.alloc(), &position, plies, after);
+        state = after;
+        let color = position.side();
+        let rows = Rows::new(rt.alloc(), color, &Diagram::of(&end)).expect(&rt, "memory");
+        match agreeing_moves(&rt, rt.alloc(), &rows, &position) {
+            Some(count) => moves = moves.saturating_add(count),
+            None => assert!(rt; false, "{round}"),
+        }
+    }
+    assert!(rt; moves > 1000, "{moves}");
+    assert!(rt; Rest::none().need([1; MOST]) == 0);
 }

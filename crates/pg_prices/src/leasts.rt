@@ -1,0 +1,213 @@
+//! The least distances of a colour's men to the targets, kept so that one man can be counted on another square.
+
+use crate::assignment::MOST;
+use crate::rows::{KINDS, Rows};
+use pg_board::{Board, Color, Kind, Man, Square, SquareSet};
+use pg_position::{Rights, Wing, king_home, rook_home};
+
+// For each target the least distance of a man to it, and the least one of the others.
+#[derive(Clone, Copy)]
+struct Two {
+    first: [u8; MOST],
+    second: [u8; MOST],
+}
+
+// With a man more that has these distances.
+fn entered(two: Two, row: [u8; MOST]) -> Two {
+    let mut two = two;
+    for t in 0..MOST {
+        let behind = two.first[t].max(row[t]);
+        two.second[t] = two.second[t].min(behind);
+        two.first[t] = two.first[t].min(row[t]);
+    }
+    two
+}
+
+// The least distances without the man that has these.
+fn without(two: &Two, row: [u8; MOST]) -> [u8; MOST] {
+    let mut least = [0; MOST];
+    for t in 0..MOST {
+        least[t] = if row[t] == two.first[t] {
+            two.second[t]
+        } else {
+            two.first[t]
+        };
+    }
+    least
+}
+
+// The sum of the lesser of two distances to each target.
+fn sum_of_least(a: &[u8; MOST], b: [u8; MOST]) -> u16 {
+    let mut sum = 0u16;
+    for t in 0..MOST {
+        sum = sum.wrapping_add(u16::from(a[t].min(b[t])));
+    }
+    sum
+}
+
+// With these men of a kind more.
+#[inline(always)]
+fn with_men(two: Two, rows: &Rows, kind: Kind, men: SquareSet) -> Two {
+    let mut two = two;
+    let mut men = men;
+    for _ in 0..64u8 {
+        let Some(square) = men.pop_first() else {
+            return two;
+        };
+        two = entered(two, rows.distances(kind, square));
+    }
+    two
+}
+
+// The least distances of the men of a board on some squares.
+fn least_of(rows: &Rows, board: &Board, squares: SquareSet) -> Two {
+    let none = rows.without_men();
+    let mut two = Two {
+        first: none,
+        second: none,
+    };
+    for kind in KINDS {
+        let men = board.squares_of(Man {
+            color: rows.color(),
+            kind,
+        });
+        two = with_men(two, rows, kind, men & squares);
+    }
+    two
+}
+
+// The squares that a king and a rook leave when they castle.
+fn homes(color: Color, wing: Wing) -> SquareSet {
+    SquareSet::single(king_home(color)) | SquareSet::single(rook_home(color, wing))
+}
+
+// The squares of the king and the rooks that may castle.
+fn castling_men(color: Color, rights: Rights) -> SquareSet {
+    let mut men = SquareSet::empty();
+    for wing in [Wing::KingSide, Wing::QueenSide] {
+        if rights.holds(color, wing) {
+            men = men | homes(color, wing);
+        }
+    }
+    men
+}
+
+// A way with castling: the squares that king and rook leave, and the least distances with both where they
+// castle to.
+#[derive(Clone, Copy)]
+struct Castled {
+    homes: SquareSet,
+    least: Two,
+}
+
+// The way of a wing, by the least distances of the men that cannot castle.
+fn way_of(two: Two, rows: &Rows, rights: Rights, wing: Wing, other: Wing) -> Option<Castled> {
+    let color = rows.color();
+    if !rights.holds(color, wing) {
+        return None;
+    }
+    let (king, rook) = rows.castled_distances(wing);
+    let mut least = entered(entered(two, king), rook);
+    if rights.holds(color, other) {
+        least = entered(least, rows.distances(Kind::Rook, rook_home(color, other)));
+    }
+    Some(Castled {
+        homes: homes(color, wing),
+        least,
+    })
+}
+
+// The way without castling, by the least distances of the men that cannot castle.
+fn free(two: Two, rows: &Rows, board: &Board, men: SquareSet) -> Two {
+    let color = rows.color();
+    let mut least = two;
+    for kind in [Kind::Rook, Kind::King] {
+        let standing = board.squares_of(Man { color, kind });
+        least = with_men(least, rows, kind, standing & men);
+    }
+    least
+}
+
+/// The least distances of the men of a colour to the targets, for each way that its rights allow, kept so that any
+/// man can be left out.
+#[derive(Clone, Copy)]
+pub struct Leasts {
+    free: Two,
+    king_side: Option<Castled>,
+    queen_side: Option<Castled>,
+}
+
+/// The least distances of all men of a colour but one to the targets, for each way that is left when that one moves.
+#[derive(Clone, Copy)]
+pub struct Rest {
+    free: [u8; MOST],
+    king_side: Option<[u8; MOST]>,
+    queen_side: Option<[u8; MOST]>,
+}
+
+// A way with castling without a man on a square who has these distances; none where he is needed for it.
+fn castled_without(way: &Option<Castled>, square: Square, row: [u8; MOST]) -> Option<[u8; MOST]> {
+    match way {
+        Some(castled) if !castled.homes.contains(square) => Some(without(&castled.least, row)),
+        _ => None,
+    }
+}
+
+impl Leasts {
+    /// No man and no target.
+    pub fn none() -> Leasts {
+        Leasts {
+            free: Two {
+                first: [0; MOST],
+                second: [0; MOST],
+            },
+            king_side: None,
+            queen_side: None,
+        }
+    }
+
+    /// The least distances of the men of a board, with these rights.
+    pub fn new(rows: &Rows, board: &Board, rights: Rights) -> Leasts {
+        let men = castling_men(rows.color(), rights);
+        let abroad = least_of(rows, board, SquareSet::full() - men);
+        let (short, long) = (Wing::KingSide, Wing::QueenSide);
+        Leasts {
+            free: free(abroad, rows, board, men),
+            king_side: way_of(abroad, rows, rights, short, long),
+            queen_side: way_of(abroad, rows, rights, long, short),
+        }
+    }
+
+    /// The least distances without the man of this kind on a square.
+    pub fn without(&self, rows: &Rows, kind: Kind, square: Square) -> Rest {
+        let row = rows.distances(kind, square);
+        Rest {
+            free: without(&self.free, row),
+            king_side: castled_without(&self.king_side, square, row),
+            queen_side: castled_without(&self.queen_side, square, row),
+        }
+    }
+}
+
+impl Rest {
+    /// No man and no target.
+    pub fn none() -> Rest {
+        Rest {
+            free: [0; MOST],
+            king_side: None,
+            queen_side: None,
+        }
+    }
+
+    /// The need of travel where the man that was left out has these distances, at most 250.
+    pub fn need(&self, row: [u8; MOST]) -> u8 {
+        let mut need = sum_of_least(&self.free, row);
+        if let Some(least) = &self.king_side {
+            need = need.min(sum_of_least(least, row).saturating_add(1));
+        }
+        if let Some(least) = &self.queen_side {
+            need = need.min(sum_of_least(least, row).saturating_add(1));
+        }
+        need.min(250) as u8
+    }
+}
