@@ -1,27 +1,34 @@
 -- A source against all targets by its row of distances. Leads to the contract of `few_fit`.
-use Rattle.std.proofs.Common.{◌≡◌, ◌≢◌, ◌↔◌, ℕ, zero, suc, ◌+◌, ◌-◌, cond, ◌<◌, ◌≤◌, ◌⊎◌, inl, inr, Bool, true, false, IsTrue, Option, Some, None, List, [], ◌∷◌, length, get_or, drop, replicate, refl, sym, ap, subst, arith, ◌∙◌}
+use Rattle.std.proofs.Common.{◌≡◌, ◌≢◌, ◌↔◌, ℕ, zero, suc, ◌+◌, ◌-◌, ◌*◌, ◌%◌, ◌^◌, ◌&&◌, eqb, ltb, lt-ltb, le-ltb, cond, ◌<◌, ◌≤◌, ◌⊎◌, inl, inr, Bool, true, false, IsTrue, Option, Some, None, List, [], ◌∷◌, length, get_or, drop, replicate, refl, sym, ap, subst, arith, ◌∙◌}
 use Rattle.std.proofs.lemmas.Bool.Decides.{eqb_tells, leb_tells}
 use Rattle.std.proofs.lemmas.List.{get_or_append_left, get_or-append_right, get_or-drop, get_or-replicate}
 use Rattle.pg_board.specs.declared.man.Color.{Color}
+use Rattle.std.proofs.lemmas.Nat.{one_shl}
+use Rattle.std.proofs.lemmas.Nat.Bits.{bit_at_ones, bit_at_ones_above}
 use Rattle.pg_board.specs.declared.man.Kind.{Kind}
+use Rattle.pg_board.specs.declared.man.Kind.TheVariants.{Pawn, Knight, Bishop, Rook, Queen, King}
 use Rattle.pg_board.specs.declared.man.Man.{Man}
-use Rattle.pg_board.specs.Men.{man, color_eq, is_of, passes}
-use Rattle.pg_board.specs.Tally.{one}
-use Rattle.pg_board.specs.lemmas.Equalities.{color_decides}
+use Rattle.pg_board.specs.Bits.{has}
+use Rattle.pg_board.specs.SquareSets.{IsFirstFrom, HasNoneFrom}
+use Rattle.pg_board.specs.Men.{man, color_eq, is_of, is_man, passes}
+use Rattle.pg_board.specs.Tally.{one, count_below, tally_below}
+use Rattle.pg_board.specs.lemmas.Sums.{count_below_same}
+use Rattle.pg_board.specs.lemmas.Equalities.{color_decides, is_man_decides}
 use Rattle.pg_board.specs.lemmas.Tallies.{tally_below-none, tally_below-more, tally_below-all}
 use Rattle.pg_board.specs.Placement.{Placement, get}
 use Rattle.pg_position.specs.declared.rights.Wing.{Wing}
 use Rattle.pg_position.specs.Position.{Stands}
 use Rattle.pg_captures.specs.Counting.{of_color, men, any_man}
 use Rattle.pg_captures.specs.PriceLists.{number_among, price, IsPriced}
-use Rattle.pg_captures.specs.lemmas.PlaceLemmas.{passes_like, and-true}
+use Rattle.pg_captures.specs.lemmas.PlaceLemmas.{passes_like, and-true, marks_men, place_within, seen_next, all_last}
 use Rattle.pg_travel.specs.Origins.{counted}
 use Rattle.pg_travel.specs.lemmas.Pawns.{some_by_steps, walk_bounds}
 use Rattle.pg_travel.specs.lemmas.Values.{counted_low}
 use Rattle.pg_travel.specs.numbers.Formulas.{distance_of}
 use Rattle.pg_travel.specs.numbers.PriceTests.{PairFits, AllFit}
 use Rattle.pg_travel.proofs.RowTables.{up_to_all}
-use Rattle.pg_travel.specs.numbers.DistanceRows.{stored, to_stood, IsRow, FitsAt, RowFits, AreFew, SourceFits, AreSixteen}
+use Rattle.pg_travel.proofs.Within.{count_skip}
+use Rattle.pg_travel.specs.numbers.DistanceRows.{stored, to_stood, IsRow, FitsAt, RowFits, AreFew, SourceFits, MenFit, SourcesFit, AreSixteen}
 
 -- ---- men by their numbers
 is_there_of : (c : Color) (q : ℕ) (o : Option Man) → passes (of_color c any_man q) o ≡ is_of c o
@@ -125,9 +132,6 @@ pub source_off : (d : Placement) (c : Color) (way : Option Wing) (here : Option 
 unfolding SourceFits
 source_off d c way here s u v off k h = absurd (let e : is_of c here ≡ true = ap (is_of c) h ∙ (color_decides c c).1 refl in cc)
 
-pub source_free : (d : Placement) (c : Color) (way : Option Wing) (here : Option Man) (s u : ℕ) (v : List ℕ) → is_of c here ≡ false → IsTrue true ↔ SourceFits d c way here s u v
-source_free d c way here s u v off = ((λ y. source_off d c way here s u v off), (λ y. refl))
-
 -- ---- all sources
 past : (v : List ℕ) (i : ℕ) → length v ≤ i → get_or v i 0 ≡ 0
 past [] i l = refl
@@ -146,13 +150,95 @@ pub are_few : (d : Placement) (c : Color) (v all : List ℕ) → AreSixteen v al
 unfolding AreFew
 are_few d c v all e l is = (omega (arith, is, l), λ i m li. same_price v all i e l li ∙ past v i (omega (arith, is, m)))
 
-pub sources_all : (b d : Placement) (c : Color) (way : Option Wing) (u v all : List ℕ) → AreSixteen v all → length v ≤ 16 → IsPriced v c any_man d → ((s : ℕ) → s < 64 → SourceFits d c way (get b s) s (price u c any_man b s) all) → IsTrue true ↔ AllFit b d c way u v
+sources_all : (b d : Placement) (c : Color) (way : Option Wing) (u v all : List ℕ) → AreSixteen v all → length v ≤ 16 → IsPriced v c any_man d → ((s : ℕ) → s < 64 → SourceFits d c way (get b s) s (price u c any_man b s) all) → AllFit b d c way u v
 unfolding SourceFits AllFit
-sources_all b d c way u v all e l is h = ((λ y j k s t ls lt hs ht. subst (λ (x : ℕ). PairFits (man c k) (counted c way s) (price u c any_man b s) j t x) (same_price v all (number_among c any_man d t) e l (let n : number_among c any_man d t < men c any_man d = below_all d c t lt (of_there d c j t ht) in omega (arith, n, is, l))) (h s ls k hs j t lt ht)), (λ y. refl))
+sources_all b d c way u v all e l is h = (λ j k s t ls lt hs ht. subst (λ (x : ℕ). PairFits (man c k) (counted c way s) (price u c any_man b s) j t x) (same_price v all (number_among c any_man d t) e l (let n : number_among c any_man d t < men c any_man d = below_all d c t lt (of_there d c j t ht) in omega (arith, n, is, l))) (h s ls k hs j t lt ht))
 
-pub sources_not : (b d : Placement) (c : Color) (way : Option Wing) (u v all : List ℕ) (s : ℕ) → AreSixteen v all → length v ≤ 16 → IsPriced v c any_man d → s < 64 → ¬ SourceFits d c way (get b s) s (price u c any_man b s) all → IsTrue false ↔ AllFit b d c way u v
-unfolding SourceFits AllFit
-sources_not b d c way u v all s e l is ls wrong = ((λ y. cc), (λ y. absurd (wrong (λ k hs j t lt ht. subst (λ (x : ℕ). PairFits (man c k) (counted c way s) (price u c any_man b s) j t x) (sym (same_price v all (number_among c any_man d t) e l (let n : number_among c any_man d t < men c any_man d = below_all d c t lt (of_there d c j t ht) in omega (arith, n, is, l)))) (y j k s t ls lt hs ht)))))
+-- all fit, so each of this man does
+men_of : (b d : Placement) (c : Color) (way : Option Wing) (u v all : List ℕ) (i : Kind) → AreSixteen v all → length v ≤ 16 → IsPriced v c any_man d → AllFit b d c way u v → MenFit d b way u all (man c i)
+unfolding MenFit SourceFits AllFit
+men_of b d c way u v all i e l is y s ls here k same j t lt ht = subst (λ (x : ℕ). PairFits (man c k) (counted c way s) (price u c any_man b s) j t x) (sym (same_price v all (number_among c any_man d t) e l (let n : number_among c any_man d t < men c any_man d = below_all d c t lt (of_there d c j t ht) in omega (arith, n, is, l)))) (y j k s t ls lt (here ∙ same) ht)
 
-pub source_moved : (d : Placement) (c : Color) (way : Option Wing) (g h : Option Man) (s u w : ℕ) (v : List ℕ) → g ≡ h → u ≡ w → SourceFits d c way g s u v → SourceFits d c way h s w v
-source_moved d c way g h s u w v e f x = subst (λ (y : Option Man). SourceFits d c way y s w v) e (subst (λ (y : ℕ). SourceFits d c way g s y v) f x)
+-- what stands on a square fits, where each man of each kind does
+there_fits : (b d : Placement) (c : Color) (way : Option Wing) (u all : List ℕ) → SourcesFit c (MenFit d b way u all) → (s : ℕ) → s < 64 → SourceFits d c way (get b s) s (price u c any_man b s) all
+unfolding MenFit
+there_fits b d c way u all h s ls = go (is_of c (get b s)) refl
+  where
+    kind : (i : Kind) → get b s ≡ Some (man c i) → SourceFits d c way (Some (man c i)) s (price u c any_man b s) all
+    kind Pawn e = h.pawns s ls e
+    kind Knight e = h.knights s ls e
+    kind Bishop e = h.bishops s ls e
+    kind Rook e = h.rooks s ls e
+    kind Queen e = h.queens s ls e
+    kind King e = h.kings s ls e
+
+    go : (x : Bool) → is_of c (get b s) ≡ x → SourceFits d c way (get b s) s (price u c any_man b s) all
+    go false e = source_off d c way (get b s) s (price u c any_man b s) all e
+    go true e = let j : (j : Kind) × (get b s ≡ Some (man c j)) = of_man c (get b s) e in subst (λ (o : Option Man). SourceFits d c way o s (price u c any_man b s) all) (sym j.1) (kind j.0 j.1)
+
+pub sources_by : (b d : Placement) (c : Color) (way : Option Wing) (u v all : List ℕ) (r : Bool) → AreSixteen v all → length v ≤ 16 → IsPriced v c any_man d → IsTrue r ↔ SourcesFit c (MenFit d b way u all) → IsTrue r ↔ AllFit b d c way u v
+sources_by b d c way u v all r e l is h = (
+  (λ t. sources_all b d c way u v all e l is (there_fits b d c way u all (h.0 t))),
+  (λ y. h.1 (record {
+    pawns = men_of b d c way u v all Pawn e l is y;
+    knights = men_of b d c way u v all Knight e l is y;
+    bishops = men_of b d c way u v all Bishop e l is y;
+    rooks = men_of b d c way u v all Rook e l is y;
+    queens = men_of b d c way u v all Queen e l is y;
+    kings = men_of b d c way u v all King e l is y;
+  })),
+)
+
+-- ---- the number of a source
+and_no : (x : Bool) → (x && false) ≡ false
+and_no true = refl
+and_no false = refl
+
+pub before_has : (s q : ℕ) → s < 64 → has (1 * 2 ^ s % 2 ^ 64 - 1) q ≡ ltb q s
+before_has s q l = ap (λ (n : ℕ). has (n - 1) q) (one_shl s 64 l) ∙ elim (leb_tells s q) [
+  | inl w ↦ ap (λ (n : ℕ). eqb n 1) (bit_at_ones_above s q w.1) ∙ sym (le-ltb q s w.1)
+  | inr w ↦ ap (λ (n : ℕ). eqb n 1) (bit_at_ones s q w.1) ∙ sym (lt-ltb q s w.1)
+]
+
+pub counted_before : (set mask kept s n : ℕ) → s < 64 → ((q : ℕ) → has mask q ≡ ltb q s) → ((q : ℕ) → has kept q ≡ (has set q && has mask q)) → n ≡ count_below (has kept) 64 → n ≡ count_below (has set) s
+counted_before set mask kept s n l before both e = e ∙ count_skip kept s 64 (omega arith) (λ q low high. both q ∙ off q low) ∙ count_below_same (has kept) (has set) s (λ q low. both q ∙ on q low)
+  where
+    off : (q : ℕ) → s ≤ q → (has set q && has mask q) ≡ false
+    off q low = ap (λ (x : Bool). has set q && x) (before q ∙ le-ltb q s low) ∙ and_no (has set q)
+
+    on : (q : ℕ) → q < s → (has set q && has mask q) ≡ has set q
+    on q low = ap (λ (x : Bool). has set q && x) (before q ∙ lt-ltb q s low) ∙ and-true (has set q)
+
+-- the number of the man on s of these
+pub number_of : (b : Placement) (c : Color) (own s : ℕ) → s ≤ 64 → ((q : ℕ) → q < 64 → has own q ≡ is_of c (get b q)) → count_below (has own) s ≡ number_among c any_man b s
+unfolding tally_below
+number_of b c own s l is = count_below_same (has own) (λ q. passes (of_color c any_man q) (get b q)) s (λ q low. marks_men b c own is q (omega arith))
+
+-- ---- a source of a kind
+pub men_off : (d b : Placement) (way : Option Wing) (u v : List ℕ) (m : Man) (men q : ℕ) → q < 64 → ((r : ℕ) → r < 64 → has men r ≡ is_man m (get b r)) → has men q ≡ false → get b q ≡ Some m → SourceFits d m.color way (Some m) q (price u m.color any_man b q) v
+men_off d b way u v m men q l is off here = absurd (let on : is_man m (get b q) ≡ true = (is_man_decides m (get b q)).1 here in let e : has men q ≡ is_man m (get b q) = is q l in cc)
+
+pub is_here : (b : Placement) (m : Man) (men low s : ℕ) → ((r : ℕ) → r < 64 → has men r ≡ is_man m (get b r)) → IsFirstFrom men low s → get b s ≡ Some m
+is_here b m men low s is first = (is_man_decides m (get b s)).0 (sym (is s first.on_board) ∙ first.member)
+
+pub source_low : (b : Placement) (m : Man) (own s n : ℕ) (u : List ℕ) → IsPriced u m.color any_man b → ((q : ℕ) → q < 64 → has own q ≡ is_of m.color (get b q)) → s < 64 → get b s ≡ Some m → n ≡ count_below (has own) s → n < length u
+source_low b m own s n u priced is l here e =
+    let w : number_among m.color any_man b s < men m.color any_man b = place_within m.color any_man b own s (marks_men b m.color own is) l (is s l ∙ ap (is_of m.color) here ∙ (color_decides m.color m.color).1 refl) in
+    let k : n ≡ number_among m.color any_man b s = e ∙ number_of b m.color own s (omega arith) is in
+    omega (arith, priced, w, k)
+
+pub source_is : (d b : Placement) (way : Option Wing) (m : Man) (s n origin own : ℕ) (u v row : List ℕ) (r : Bool) → s < 64 → AreFew d m.color v → ((q : ℕ) → q < 64 → has own q ≡ is_of m.color (get b q)) → n ≡ count_below (has own) s → origin ≡ counted m.color way s → IsRow d m.color m.kind origin row → IsTrue r ↔ RowFits v (get_or u n 0) row → IsTrue r ↔ SourceFits d m.color way (Some m) s (price u m.color any_man b s) v
+source_is d b way m s n origin own u v row r l few is e at isrow h =
+    source_at d m.color way m (Some m) s (price u m.color any_man b s) origin v row r refl ((color_decides m.color m.color).1 refl) l few at isrow
+    (subst (λ (x : ℕ). IsTrue r ↔ RowFits v x row) (ap (λ (i : ℕ). get_or u i 0) (e ∙ number_of b m.color own s (omega arith) is)) h)
+
+pub men_not : (d b : Placement) (way : Option Wing) (m : Man) (s : ℕ) (u v : List ℕ) (r : Bool) → s < 64 → get b s ≡ Some m → r ≡ false → IsTrue r ↔ SourceFits d m.color way (Some m) s (price u m.color any_man b s) v → IsTrue false ↔ MenFit d b way u v m
+unfolding MenFit
+men_not d b way m s u v r l here e h = ((λ y. absurd (cc)), (λ all. absurd (let t : r ≡ true = h.1 (all s l here) in cc)))
+
+pub men_next : (d b : Placement) (way : Option Wing) (m : Man) (men low s n : ℕ) (u v : List ℕ) → ((r : ℕ) → r < 64 → has men r ≡ is_man m (get b r)) → ((q : ℕ) → q < low → get b q ≡ Some m → SourceFits d m.color way (Some m) q (price u m.color any_man b q) v) → IsFirstFrom men low s → n ≡ s → SourceFits d m.color way (Some m) s (price u m.color any_man b s) v → (q : ℕ) → q < n + 1 → get b q ≡ Some m → SourceFits d m.color way (Some m) q (price u m.color any_man b q) v
+men_next d b way m men low s n u v is seen first same here = seen_next (λ q. get b q ≡ Some m → SourceFits d m.color way (Some m) q (price u m.color any_man b q) v) men low s n (λ q l off. men_off d b way u v m men q l is off) seen first same (λ e. here)
+
+pub men_all : (d b : Placement) (way : Option Wing) (m : Man) (men low : ℕ) (u v : List ℕ) → ((r : ℕ) → r < 64 → has men r ≡ is_man m (get b r)) → ((q : ℕ) → q < low → get b q ≡ Some m → SourceFits d m.color way (Some m) q (price u m.color any_man b q) v) → HasNoneFrom men low → IsTrue true ↔ MenFit d b way u v m
+unfolding MenFit
+men_all d b way m men low u v is seen none = ((λ y. all_last (λ q. get b q ≡ Some m → SourceFits d m.color way (Some m) q (price u m.color any_man b q) v) men low (λ q l off. men_off d b way u v m men q l is off) seen none), (λ y. refl))

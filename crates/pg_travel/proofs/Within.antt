@@ -173,7 +173,7 @@ sum_grows f a (suc b) h = elim (eqb_tells a (suc b)) [
 ]
 
 -- ---- a sum that begins with what is sure
-count_skip : (set a b : ℕ) → a ≤ b → ((q : ℕ) → a ≤ q → q < b → has set q ≡ false) → count_below (has set) b ≡ count_below (has set) a
+pub count_skip : (set a b : ℕ) → a ≤ b → ((q : ℕ) → a ≤ q → q < b → has set q ≡ false) → count_below (has set) b ≡ count_below (has set) a
 count_skip set a zero h none = let e : 0 ≡ a = omega arith in ap (count_below (has set)) e
 count_skip set a (suc b) h none = elim (eqb_tells (suc b) a) [
   | inl w ↦ ap (count_below (has set)) w.1

@@ -1,15 +1,17 @@
 //! Whether the sources of a price list fit its targets, where rows of distances are at hand: one source
 //! against all targets at once.
-ghost use Rattle.std.specs.Prelude.{◌≡◌, ℕ, ◌<◌, ◌≤◌, ◌↔◌, IsTrue, length, get_or};
+ghost use Rattle.std.specs.Prelude.{◌≡◌, ℕ, ◌<◌, ◌≤◌, ◌↔◌, IsTrue, length, get_or, ltb};
+ghost use Rattle.pg_board.specs.Bits.{has};
+ghost use Rattle.pg_board.specs.Tally.{count_below};
 ghost use Rattle.pg_captures.specs.Counting.{any_man};
 ghost use Rattle.pg_captures.specs.PriceLists.{IsPriced};
 ghost use Rattle.pg_travel.specs.numbers.PriceTests.{AllFit};
-ghost use Rattle.pg_travel.specs.numbers.DistanceRows.{AreFew, SourceFits, AreSixteen};
+ghost use Rattle.pg_travel.specs.numbers.DistanceRows.{AreFew, MenFit, SourcesFit, AreSixteen};
 
 use crate::castling::counted;
-use crate::needs::same_side;
+use crate::needs::man;
 use crate::rows::{Rows, fits};
-use pg_board::{Board, Color, Man, Square};
+use pg_board::{Board, Color, Kind, Man, Square, SquareSet};
 use pg_position::Wing;
 
 // At most sixteen prices, and zeros after them.
@@ -23,32 +25,63 @@ fn sixteen(prices: &[u8]) -> [u8; 16]
     all
 }
 
-// Whether what stands on a square fits every target, if it is a man of the colour.
-fn source_fits(
+// The squares before one.
+#[inline(always)]
+fn squares_before(s: Square) -> SquareSet
+    ensures members { (q : ℕ) → has result q ≡ ltb q s }
+    ensures bound { s < 64 }
+{
+    SquareSet::of_bits((1u64 << s.index()) - 1)
+}
+
+// How many squares of a set are before one.
+#[inline(always)]
+fn number_before(set: SquareSet, s: Square) -> usize
+    ensures { result ≡ count_below (has set) s }
+{
+    (set & squares_before(s)).len() as usize
+}
+
+// Whether each such man fits every target.
+#[inline(always)]
+fn men_fit(rows: &Rows, board: &Board, man: Man, way: Option<Wing>, u: &[u8], v: [u8; 16]) -> bool
+    requires few { AreFew rows.now man.color v }
+    requires priced { IsPriced u.now man.color any_man board.now }
+    ensures { IsTrue result ↔ MenFit rows.now board.now way u.now v man }
+{
+    let own = board.squares_of_color(man.color);
+    let men = board.squares_of(man);
+    let mut from = 0u8;
+    while let Some(s) = men.first_from(from) {
+        let origin = counted(man.color, way, s);
+        let price = u[number_before(own, s)];
+        if !fits(v, price, rows.of(man.color, man.kind, origin)) {
+            return false;
+        }
+        from = s.index() + 1;
+    }
+    true
+}
+
+// Whether each man of the colour fits every target.
+fn sources_fit(
     rows: &Rows,
+    board: &Board,
     color: Color,
     way: Option<Wing>,
-    here: Option<Man>,
-    s: Square,
-    u: u8,
+    u: &[u8],
     v: [u8; 16],
 ) -> bool
-    requires { AreFew rows.now color v }
-    ensures { IsTrue result ↔ SourceFits rows.now color way here s u v }
+    requires few { AreFew rows.now color v }
+    requires priced { IsPriced u.now color any_man board.now }
+    ensures { IsTrue result ↔ SourcesFit color (MenFit rows.now board.now way u.now v) }
 {
-    // A fact for the proof: the square is on the board.
-    s.index();
-    match here {
-        None => true,
-        Some(m) => {
-            if same_side(m.color, color) {
-                let origin = counted(color, way, s);
-                fits(v, u, rows.of(color, m.kind, origin))
-            } else {
-                true
-            }
-        }
-    }
+    men_fit(rows, board, man(color, Kind::Pawn), way, u, v)
+        && men_fit(rows, board, man(color, Kind::Knight), way, u, v)
+        && men_fit(rows, board, man(color, Kind::Bishop), way, u, v)
+        && men_fit(rows, board, man(color, Kind::Rook), way, u, v)
+        && men_fit(rows, board, man(color, Kind::Queen), way, u, v)
+        && men_fit(rows, board, man(color, Kind::King), way, u, v)
 }
 
 // Whether every target fits every source, where there are at most sixteen targets.
@@ -64,16 +97,5 @@ pub(crate) fn few_fit(
     requires priced { IsPriced u.now color any_man board.now × IsPriced v.now color any_man rows.now }
     ensures { IsTrue result ↔ AllFit board.now rows.now color way u.now v.now }
 {
-    let prices = sixteen(v);
-    let own = board.squares_of_color(color);
-    let mut place = 0usize;
-    let mut from = 0u8;
-    while let Some(s) = own.first_from(from) {
-        if !source_fits(rows, color, way, board.get(s), s, u[place], prices) {
-            return false;
-        }
-        place += 1;
-        from = s.index() + 1;
-    }
-    true
+    sources_fit(rows, board, color, way, u, sixteen(v))
 }

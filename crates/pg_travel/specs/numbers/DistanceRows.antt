@@ -3,6 +3,7 @@ use Rattle.std.specs.Prelude.{◌≡◌, ℕ, ◌+◌, ◌*◌, ◌<◌, ◌≤�
 use Rattle.pg_board.specs.declared.man.Color.{Color}
 use Rattle.pg_board.specs.declared.man.Color.TheVariants.{White, Black}
 use Rattle.pg_board.specs.declared.man.Kind.{Kind}
+use Rattle.pg_board.specs.declared.man.Kind.TheVariants.{Pawn, Knight, Bishop, Rook, Queen, King}
 use Rattle.pg_board.specs.declared.man.Man.{Man}
 use Rattle.pg_board.specs.Men.{is_of, man, number_of_kind}
 use Rattle.pg_board.specs.Placement.{Placement, get}
@@ -68,6 +69,19 @@ AreFew d c v = (men c any_man d ≤ 16) × ((i : ℕ) → men c any_man d ≤ i 
 -- what stands on s, if it is a man of c, pays u and fits every man of c on d
 unfoldable pub SourceFits : Placement → Color → Option Wing → Option Man → ℕ → ℕ → List ℕ → Type 0
 SourceFits d c way here s u v = (k : Kind) → here ≡ Some (man c k) → (j : Kind) (t : ℕ) → t < 64 → Stands d c j t → PairFits (man c k) (counted c way s) u j t (price v c any_man d t)
+
+-- so does each such man of b
+unfoldable pub MenFit : Placement → Placement → Option Wing → List ℕ → List ℕ → Man → Type 0
+MenFit d b way u v m = (s : ℕ) → s < 64 → get b s ≡ Some m → SourceFits d m.color way (Some m) s (price u m.color any_man b s) v
+
+-- P holds of c's men of each kind
+pub record SourcesFit (c : Color) (P : Man → Type 0) : Type 0 where
+  pub pawns : P (man c Pawn)
+  pub knights : P (man c Knight)
+  pub bishops : P (man c Bishop)
+  pub rooks : P (man c Rook)
+  pub queens : P (man c Queen)
+  pub kings : P (man c King)
 
 -- these prices, with zeros after them
 unfoldable pub AreSixteen : List ℕ → List ℕ → Type 0
