@@ -247,6 +247,10 @@ pays_not p d c way limit r h over = go (sum_of p.board d c way).0 (sum_of p.boar
     go None s = (None, sum_is_value p d c way None s, tt)
     go (Some v) s = (Some v, sum_is_value p d c way (Some v) s, above r v h over s)
 
+-- where the men that are sure to cost a ply are too many, the way is not paid for
+pub surely_unpaid : (p : State) (d : Placement) (c : Color) (way : Option Wing) (limit set : ℕ) → count_ones set ≡ count_below (has set) 64 → CostsEach p.board d c way set → limit < charge way + count_ones set → PaysIs p d c way limit false
+surely_unpaid p d c way limit set n each over = pays_not p d c way limit None (within_sure p.board d c way limit set n each over) (λ v e. absurd (cc))
+
 pub pays_at : (p : State) (d : Placement) (c : Color) (way : Option Wing) (limit v : ℕ) → SumIs p.board d c way (Some v) → v ≤ limit → PaysIs p d c way limit true
 pays_at p d c way limit v s l = (v, sum_is_value p d c way (Some v) s, l)
 

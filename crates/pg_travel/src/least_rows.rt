@@ -1,9 +1,10 @@
 //! The need of a way by rows: the least distances to all men of a diagram at once.
-ghost use Rattle.std.specs.Prelude.{◌≡◌, ℕ, ◌<◌, ◌≤◌, ◌↔◌, IsTrue, get_or, None};
+ghost use Rattle.std.specs.Prelude.{◌≡◌, ℕ, ◌<◌, ◌≤◌, ◌↔◌, IsTrue, get_or, None, false};
 ghost use Rattle.pg_board.specs.Placement.{get};
 ghost use Rattle.pg_board.specs.SquareSets.{IsSetOf};
 ghost use Rattle.pg_board.specs.Tally.{total};
 ghost use Rattle.pg_captures.specs.Counting.{men, any_man};
+ghost use Rattle.pg_position.specs.declared.rights.Wing.TheVariants.{KingSide, QueenSide};
 ghost use Rattle.pg_position.specs.declared.state.State.{State};
 ghost use Rattle.pg_travel.specs.Needs.{TravelTest};
 ghost use Rattle.pg_travel.specs.numbers.LeastRows.{IsUnreached, AreLesser, IsLowered, IsHomeOf, IsAway, IsLeastRow};
@@ -190,12 +191,47 @@ fn pays_castled(
     }
 }
 
+// Whether the men that are sure to cost a ply each are more than so many plies pay for, by a way.
+#[inline(always)]
+fn too_many(rows: &Rows, position: &Position, color: Color, way: Option<Wing>, plies: u16) -> bool
+    ensures { IsTrue result → PaysIs position.now rows.now color way plies false }
+{
+    let sure = rows.sure_to_cost(&position.board(), color, way);
+    charge(way) + u16::from(sure.len()) > plies
+}
+
+// The same of castling by a right, which has to be held.
+#[inline(always)]
+fn too_many_castled(rows: &Rows, position: &Position, color: Color, right: Wing, plies: u16) -> bool
+    ensures { IsTrue result → CastledIs position.now rows.now color right plies false }
+{
+    if position.rights().holds(color, right) {
+        too_many(rows, position, color, Some(right), plies)
+    } else {
+        true
+    }
+}
+
+// Whether so many plies pay for no way, by the men that are sure to cost one each: no row is read.
+fn far_off(rows: &Rows, position: &Position, color: Color, plies: u16) -> bool
+    ensures free { IsTrue result → PaysIs position.now rows.now color None plies false }
+    ensures short { IsTrue result → CastledIs position.now rows.now color KingSide plies false }
+    ensures long { IsTrue result → CastledIs position.now rows.now color QueenSide plies false }
+{
+    too_many(rows, position, color, None, plies)
+        && too_many_castled(rows, position, color, Wing::KingSide, plies)
+        && too_many_castled(rows, position, color, Wing::QueenSide, plies)
+}
+
 // Whether the colour's need does not exist or is above its plies left: no way is paid for.
 pub(crate) fn excludes_by(rows: &Rows, color: Color, position: &Position, left: u8) -> bool
     requires { men color any_man rows.now ≤ 16 }
     ensures { IsTrue result ↔ TravelTest rows.now position.now left color }
 {
     let plies = u16::from(plies_left(position.side(), color, left));
+    if far_off(rows, position, color, plies) {
+        return true;
+    }
     let board = position.board();
     let away = away(rows, &board, color);
     let free = pays(rows, &board, color, None, away, plies);

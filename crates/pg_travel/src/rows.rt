@@ -3,11 +3,14 @@ ghost use Rattle.std.specs.Prelude.{◌≡◌, ℕ, ◌<◌, ◌≤◌, ◌↔�
 ghost use Rattle.pg_board.specs.Men.{number_of_kind};
 ghost use Rattle.pg_captures.specs.Counting.{men, any_man};
 ghost use Rattle.pg_travel.specs.numbers.DistanceRows.{stored, to_stood, IsRow, row_place, IsRowAt, AreRows, AreFirstRows, RowFits};
+ghost use Rattle.pg_travel.specs.numbers.Within.{CostsEach};
 
 use crate::distances::all_steps;
-use pg_board::{Board, Color, Kind, Man, Square};
+use crate::misplaced::sure_to_cost;
+use pg_board::{Board, Color, Kind, Man, Square, SquareSet};
 use pg_captures::all_men;
 use pg_fen::Diagram;
+use pg_position::Wing;
 use std::marker::Model;
 
 /// The distances of each man on each square to the men of its colour in a diagram, for tests that are
@@ -158,6 +161,14 @@ impl Rows {
         ensures { result ≡ men color any_man self.now }
     {
         all_men(&self.goal, color)
+    }
+
+    // Squares of the diagram each of whose men of the colour costs something, by a way.
+    #[inline(always)]
+    pub(crate) fn sure_to_cost(&self, board: &Board, color: Color, way: Option<Wing>) -> SquareSet
+        ensures { CostsEach board.now self.now color way result }
+    {
+        sure_to_cost(board, &self.goal, color, way)
     }
 
     // The row of a man on a square.
