@@ -169,6 +169,27 @@ fn pays(
     need <= plies
 }
 
+// Whether the men that are sure to cost a ply each are more than so many plies pay for, by a way.
+#[inline(always)]
+fn too_many(rows: &Rows, position: &Position, color: Color, way: Option<Wing>, plies: u16) -> bool
+    ensures { IsTrue result → PaysIs position.now rows.now color way plies false }
+{
+    let sure = rows.sure_to_cost(&position.board(), color, way);
+    charge(way) + u16::from(sure.len()) > plies
+}
+
+// The same of castling by a right, and whether that is not held.
+#[inline(always)]
+fn too_many_castled(rows: &Rows, position: &Position, color: Color, right: Wing, plies: u16) -> bool
+    ensures { IsTrue result → CastledIs position.now rows.now color right plies false }
+{
+    if position.rights().holds(color, right) {
+        too_many(rows, position, color, Some(right), plies)
+    } else {
+        true
+    }
+}
+
 // Whether a right is held to castle so, and so many plies pay for it.
 fn pays_castled(
     rows: &Rows,
@@ -184,31 +205,13 @@ fn pays_castled(
     ensures { CastledIs position.now rows.now color right plies result }
 {
     if position.rights().holds(color, right) {
+        if too_many(rows, position, color, Some(right), plies) {
+            return false;
+        }
         let board = position.board();
         pays(rows, &board, color, Some(right), away, plies)
     } else {
         false
-    }
-}
-
-// Whether the men that are sure to cost a ply each are more than so many plies pay for, by a way.
-#[inline(always)]
-fn too_many(rows: &Rows, position: &Position, color: Color, way: Option<Wing>, plies: u16) -> bool
-    ensures { IsTrue result → PaysIs position.now rows.now color way plies false }
-{
-    let sure = rows.sure_to_cost(&position.board(), color, way);
-    charge(way) + u16::from(sure.len()) > plies
-}
-
-// The same of castling by a right, which has to be held.
-#[inline(always)]
-fn too_many_castled(rows: &Rows, position: &Position, color: Color, right: Wing, plies: u16) -> bool
-    ensures { IsTrue result → CastledIs position.now rows.now color right plies false }
-{
-    if position.rights().holds(color, right) {
-        too_many(rows, position, color, Some(right), plies)
-    } else {
-        true
     }
 }
 
