@@ -37,3 +37,9 @@ IsKnownFault asked failed (Games fault) = IsProblem asked × IsTextFault asked.g
 IsKnownFault asked failed (Check fault) =
     (d : Placement) × (n : ℕ) × (list : List (List Move)) × AreSpelled asked.diagram.now asked.length.now asked.games.now d n list × IsListedFault d n list fault
 IsKnownFault asked failed Write = ((d : Placement) × (n : ℕ) × (list : List (List Move)) × IsKnown asked d n list) × (failed ≡ true)
+
+-- why a list of games is not written: the first of them is named that is no solution, or the sink has failed after each was tested
+abbrev pub IsListingFault : Placement → ℕ → List (List Move) → Bool → RunFault → Type 0
+IsListingFault d n list failed (Check fault) = IsListedFault d n list fault
+IsListingFault d n list failed Write = AreSolutions d n list × (failed ≡ true)
+IsListingFault d n list failed fault = ⊥

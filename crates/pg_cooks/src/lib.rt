@@ -14,7 +14,7 @@ pub use asked::Asked;
 pub use fault::{CooksFault, CooksRunFault};
 pub use finding::{CookAnswer, cooks};
 pub use laws::{not_sound_is_true, shorter_is_a_cook, two_are_a_cook, unlisted_is_a_cook};
-pub use run::{run_cooks, run_games};
+pub use run::{run_cooks, run_games, standing_on, write_solutions};
 pub use standing::Standing;
 
 // What a caller needs of the search.

@@ -4,7 +4,10 @@ ghost use Rattle.std.specs.Io.KnownBytes.{Appends};
 ghost use Rattle.pg_board.specs.Placement.{Placement};
 ghost use Rattle.pg_position.specs.declared.moves.Move.{Move};
 ghost use Rattle.pg_checker.specs.declared.fault.RunFault.TheVariants.{Write};
-ghost use Rattle.pg_cooks.specs.Known.{IsKnown, IsKnownFault};
+ghost use Rattle.pg_texts.specs.Report.{AreGameLines};
+ghost use Rattle.pg_checker.specs.Answer.{AreSolutions};
+ghost use Rattle.pg_checker.specs.Listed.{IsListFault};
+ghost use Rattle.pg_cooks.specs.Known.{IsKnown, IsKnownFault, IsListingFault};
 ghost use Rattle.pg_cooks.specs.Standing.{IsStanding, IsGamesReport};
 ghost use Rattle.pg_cooks.specs.Cooks.{IsCookAnswer, IsCooksFault, IsCooksReport, IsCooksRunFault, IsRefuted};
 ghost use Rattle.pg_cooks.specs.declared.asked.Asked.{Asked};
@@ -12,11 +15,14 @@ ghost use Rattle.pg_cooks.specs.declared.asked.Asked.{Asked};
 use crate::asked::{Asked, read_known};
 use crate::fault::{CooksFault, CooksRunFault};
 use crate::finding::{CookAnswer, cooks};
-use crate::standing::Standing;
+use crate::standing::{Standing, standing_of};
 use crate::writing::{write_cooks, write_standing};
 use pg_certificate::Sink;
-use pg_checker::{Fault, RunFault};
+use pg_checker::{Fault, ListFault, RunFault, check_listed};
+use pg_fen::{Diagram, Length};
+use pg_san::Games;
 use pg_searcher::{LedLimits, LedProgress};
+use pg_texts::write_games;
 use std::alloc::Global;
 
 /// Reads a diagram (the placement field of FEN, or all six fields; the PGN standard, section 16.1), a
@@ -51,6 +57,48 @@ pub fn run_games<W: Sink>(
     let problem = &known.problem;
     match write_standing(&problem.diagram, problem.length, &known.games, out) {
         Ok(standing) => Ok(standing),
+        Err(_) => Err(RunFault::Write),
+    }
+}
+
+/// Tests that each game of a list has the length and ends on the diagram; what they say by themselves. Takes no
+/// memory.
+///
+/// # Errors
+/// The first game that is no solution, as `check_listed` tells it.
+pub fn standing_on(diagram: &Diagram, length: Length, games: &Games) -> Result<Standing, ListFault>
+    ensures ok { IfOk result (λ s. AreSolutions diagram.now length games.now × IsStanding games.now s) }
+    ensures err { IfErr result (λ e. IsListFault diagram.now length games.now e) }
+{
+    match check_listed(diagram, length, games) {
+        Ok(()) => Ok(standing_of(games)),
+        Err(fault) => Err(fault),
+    }
+}
+
+/// Writes a list of games as `read_games` reads it, after `standing_on` has tested it: the movetext of each game, in
+/// canonical order, each ended by a line feed. Takes no memory, and writes nothing before the games were tested.
+///
+/// # Errors
+/// In this order: `Check` with `Listed` where a game is no solution, and then the sink is as it was; `Write` where the
+/// sink has failed.
+pub fn write_solutions<W: Sink>(
+    diagram: &Diagram,
+    length: Length,
+    games: &Games,
+    out: &mut W,
+) -> Result<Standing, RunFault>
+    ensures ok { IfOk result (λ s. AreSolutions diagram.now length games.now × IsStanding games.now s
+        × ((text : List ℕ) × AreGameLines games.now text × Appends (W.held out.old) (W.held out.new) text)) }
+    ensures err { IfErr result (λ e. IsListingFault diagram.now length games.now (W.has_failed out.new) e) }
+    ensures unwritten { IfErr result (λ e. e ≢ RunFault.Write → out.new ≡ out.old) }
+{
+    let standing = match standing_on(diagram, length, games) {
+        Ok(standing) => standing,
+        Err(fault) => return Err(RunFault::Check(Fault::Listed(fault))),
+    };
+    match write_games(games, out) {
+        Ok(()) => Ok(standing),
         Err(_) => Err(RunFault::Write),
     }
 }
