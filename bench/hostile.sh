@@ -16,6 +16,8 @@ queen=rnb1kbnr/ppp1pppp/8/3q4/8/8/PPPP1PPP/RNBQKBNR
 orders=rnbqkbnr/pppp1ppp/4p3/8/8/3PP3/PPP2PPP/RNBQKBNR
 unreachable=rnbqkbnr/pppppppp/8/8/8/3P4/PPPP1PPP/RNBQKBNR
 schweig=r1bqkbnr/ppp2ppp/3p4/8/8/8/PPPPPPPP/R1BQKBNR
+cooked=rnbqkbnr/p1pppppp/8/8/8/3QP3/PPP2PPP/RNB1K1NR
+stalemate=5bnr/4p1pq/4Qpkr/7p/7P/4P3/PPPP1PP1/RNB1KBNR
 position="$array w KQkq - 0 1"
 files=$work/files
 mkdir "$files" && cd "$files" || exit 1
@@ -288,6 +290,13 @@ expect 0 '' '"$pg" search $array 0 ../drafts/$long >/dev/null; wc -c <../drafts/
 # Runs that end without an answer, and a full disk: files may not grow past 1,024 bytes.
 expect 1 'pg: node limit reached' '"$pg" search $queen 2.0 good.pgc --nodes 3'
 expect 1 'pg: a game of 4 plies reaches the diagram' '"$pg" search $queen 3.0 good.pgc'
+# The games that a search met are kept: by one that gives up, by one that has a report, and nowhere else.
+expect 1 'pg: node limit reached' '"$pg" search $cooked 3.5 new.pgc --nodes 8312 --games ../met' ''
+expect 1 '' '"$pg" games $cooked 3.5 ../met | tail -n 1; exit "${PIPESTATUS[0]}"' 'not sound'
+expect 0 '' '"$pg" search $queen 2.0 ../new.pgc --games ../kept | cmp - report && cmp ../kept games' ''
+expect 4 'pg: write fault' '"$pg" search $queen 2.0 new.pgc --games games >/dev/full' ''
+expect 4 'pg: cannot open new.pgc' '"$pg" search $queen 2.0 new.pgc --games new.pgc' ''
+expect 4 'pg: cannot open no/list' '"$pg" search $queen 2.0 new.pgc --games no/list' ''
 expect 4 'pg: write fault' 'trap "" XFSZ; ulimit -f 1; "$pg" search $schweig 4.0 good.pgc'
 expect 1 'pg: not a certificate of version 1' '"$pg" upgrade old.pgc ../two >/dev/null; "$pg" upgrade ../two good.pgc'
 { header "$array" 4; ones 2000; } >"$work/old.pgc"
@@ -306,5 +315,38 @@ if command -v script >/dev/null; then
   [ "$(grep -cx '\(pg: \)\?reference to no closed node' "$work/said")" = 1 ] || { echo "a refused explanation does not tell its fault once" >&2; wrong=1; }
   on_terminal "'$pg' check $open 2.0 good.pgc" >"$work/said"
   grep -q 'pg: type the games, one a line; end with Ctrl-D' "$work/said" || { echo "not told how to type a list" >&2; wrong=1; }
+
+  # The command $1 on a terminal is to say the lines behind it, and nothing else.
+  says() {
+    on_terminal "$1" >"$work/said"
+    shift
+    printf '%s\n' "$@" | diff - "$work/said" >&2 || wrong=1
+  }
+  says "'$pg' show 8/8" 'pg: bad rank' 'pg: 2 ranks; a board has 8'
+  says "'$pg' show ${array/pppppppp/ppppppp}" 'pg: bad rank' 'pg: rank 7 is 7 squares wide, not 8'
+  says "'$pg' show ${array/pppppppp/pppdpppp} 4.0" 'pg: bad letter in the placement' "pg: 'd' in rank 7; men are KQRBNP and kqrbnp"
+  says "'$pg' search ${array/rnbq/rnbk} 4.0 new.pgc" 'pg: each side must have one king' 'pg: white has 1, black 2'
+  says "'$pg' count '$array w' 4" 'pg: wrong number of fields' 'pg: fields: 2; a diagram has 1, a FEN 6'
+  says "'$pg' moves $position" "error: unexpected argument 'w' found" '' 'Usage: pg_cli moves <FEN>' '' "For more information, try '--help'." \
+    'pg: quote the FEN: it is one word'
+  echo '1. e4 e5 2. Nf9' >../misspelt
+  says "'$pg' check $open 2.0 good.pgc ../misspelt" 'pg: line 1, ply 3: not a move' 'pg: the word is "Nf9"; legal there: Nf3, Nc3, Qf3'
+  says "'$pg' games $open 2.0 ../misspelt" 'pg: line 1, ply 3: not a move' 'pg: the word is "Nf9"; legal there: Nf3, Nc3, Qf3'
+  says "cat ../misspelt | '$pg' games $open 2.0" 'pg: line 1, ply 3: not a move'
+  says "'$pg' why $queen 2.0 good.pgc 'e4 Qd6'" 'pg: line 1, ply 2: no such legal move' 'pg: the word is "Qd6"; legal there: d6, b6, c6'
+  says "'$pg' check $queen 2.0 nothing games" 'pg: cannot open nothing' 'pg: No such file or directory (os error 2)'
+  says "'$pg' check $queen 2.0 games games" 'pg: cannot open games' 'pg: another word names this file'
+  says "'$pg' search $queen 2.0 new.pgc --games ./new.pgc" 'pg: cannot open ./new.pgc' 'pg: another word names this file'
+  gzip -c good.pgc >../packed
+  says "'$pg' check $queen 2.0 ../packed games" 'pg: not a certificate' 'pg: it looks packed by gzip; unpack it, or let `pg check` read it from a pipe'
+  says "'$pg' search $queen 3.0 new.pgc" 'pg: a game of 4 plies reaches the diagram' 'pg: try the length 2.0'
+  says "'$pg' search $cooked 3.5 new.pgc --nodes 8312" 'pg: node limit reached' 'pg: 8307 nodes, tree 3.5 of 3.5' 'pg: 2 games known: not sound' \
+    'pg: try `pg cooks` with a game, `pg show DIAGRAM LENGTH` for a forecast, or more --nodes'
+
+  # A long search on 10 columns: what it shows does not wrap, has the tree, the share and the nodes to expect, and is taken away.
+  script -qec "stty cols 10; '$pg' search $stalemate 9.5 new.pgc --nodes 8000000" /dev/null </dev/null >"$work/said"
+  wraps=$'\e\\[?7h' cuts=$'\e\\[?7l' clears=$'\r\e\\[K'
+  grep -q "${clears}${cuts}[0-9.]* [0-9]*k [0-9]*% of limit\(, tree ~[0-9]*[kMG]\)\?${wraps}" "$work/said" || { echo "a long search does not show how far it is" >&2; wrong=1; }
+  grep -q "${wraps}${clears}pg: node limit reached" "$work/said" || { echo "the line of a search is not taken away" >&2; wrong=1; }
 fi
 exit "$wrong"

@@ -88,6 +88,8 @@ refuse 40 games "$open" 1.0 empty
 refuse 40 cooks "$open" 1.0 games
 refuse 40 search "$open" 1.0 good.pgc
 refuse 40 search "$open" 1.0 new.pgc --nodes 3
+refuse 40 search "$open" 1.0 good.pgc --games games
+refuse 40 search "$open" 1.0 new.pgc --games new.games --nodes 3
 refuse 40 why "$open" 1.0 good.pgc '1. e4 e5'
 refuse 40 why "$open" 1.0 good.pgc 'd4'
 refuse 40 upgrade old.pgc new.pgc

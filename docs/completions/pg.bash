@@ -15,7 +15,7 @@ _pg() {
     games) options="--help -h" file_places=" 3 " ;;
     cooks) options="--nodes --foreign --help -h" valued=" --nodes --foreign " file_places=" 3 " ;;
     check) options="--records --help -h" valued=" --records " file_places=" 3 4 " ;;
-    search) options="--nodes --help -h" valued=" --nodes " file_places=" 3 " ;;
+    search) options="--nodes --games --help -h" valued=" --nodes --games " file_options=" --games " file_places=" 3 " ;;
     why) options="--records --help -h" valued=" --records " file_places=" 3 " ;;
     upgrade) options="--records --help -h" valued=" --records " file_places=" 1 2 " ;;
     help) options=$commands ;;

@@ -52,9 +52,10 @@ complete -c pg -n '__pg_is check' -l records -x -d 'Refuses a certificate of mor
 complete -c pg -n '__pg_is check' -s h -l help -d 'Print help'
 complete -c pg -n '__pg_is_at check 3 --records' -F
 complete -c pg -n '__pg_is_at check 4 --records' -F
-complete -c pg -n '__pg_is search' -l nodes -x -d 'Gives up where more nodes would be visited [default: 1000000]'
+complete -c pg -n '__pg_is search' -l nodes -x -d 'Gives up before more nodes are visited [default: 1000000]'
+complete -c pg -n '__pg_is search' -l games -r -F -d 'Keeps the games that were met, also where it gives up'
 complete -c pg -n '__pg_is search' -s h -l help -d 'Print help'
-complete -c pg -n '__pg_is_at search 3 --nodes' -F
+complete -c pg -n '__pg_is_at search 3 --nodes --games' -F
 complete -c pg -n '__pg_is why' -l records -x -d 'Refuses a certificate of more records [default: 100000000]'
 complete -c pg -n '__pg_is why' -s h -l help -d 'Print help'
 complete -c pg -n '__pg_is_at why 3 --records' -F

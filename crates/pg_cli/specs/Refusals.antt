@@ -4,13 +4,12 @@ use Rattle.pg_files.specs.declared.faults.FileFault.{FileFault}
 use Rattle.pg_files.specs.declared.faults.FileFault.TheVariants as file
 use Rattle.pg_report.specs.Statuses.{status_of, search_status_of, show_status_of, moves_status_of, count_status_of, upgrade_status_of}
 use Rattle.pg_cli.specs.declared.refusals.Refusal.{Refusal}
-use Rattle.pg_cli.specs.declared.refusals.Refusal.TheVariants.{Words, Open, Drafts, Line, NoGame, NotUtf8, Read, Write, Memory, Show, Moves, Count, Search, Upgrade, Check}
+use Rattle.pg_cli.specs.declared.refusals.Refusal.TheVariants.{Words, Open, Line, NoGame, NotUtf8, Read, Write, Memory, Show, Moves, Count, Search, GaveUp, Upgrade, Check}
 
 -- 1 where a list or a certificate is refused or a search gave up, 2 for bad words and texts, 3 for want of memory, 4 for a file
 abbrev pub refusal_status : Refusal → ℕ
 refusal_status Words = 2
-refusal_status (Open name) = 4
-refusal_status (Drafts name) = 4
+refusal_status (Open name obstacle) = 4
 refusal_status Line = 2
 refusal_status NoGame = 2
 refusal_status NotUtf8 = 2
@@ -21,13 +20,13 @@ refusal_status (Show fault) = show_status_of fault
 refusal_status (Moves fault) = moves_status_of fault
 refusal_status (Count fault) = count_status_of fault
 refusal_status (Search fault) = search_status_of fault
+refusal_status (GaveUp fault known) = search_status_of fault
 refusal_status (Upgrade fault) = upgrade_status_of fault
 refusal_status (Check fault) = status_of fault
 
 -- 3 for want of memory, 4 for a file that is not opened, created, read or written
 abbrev pub file_status : FileFault → ℕ
 file_status file.Memory = 3
-file_status file.Open = 4
-file_status file.Drafts = 4
+file_status (file.Open obstacle) = 4
 file_status file.Read = 4
 file_status file.Write = 4

@@ -11,7 +11,7 @@ use crate::refusals::Refusal;
 use crate::screen::Screen;
 use crate::spelling::text_of;
 use clap::ArgMatches;
-use pg_files::{FileName, lead_to_one, list, open};
+use pg_files::{FileName, Obstacle, lead_to_one, list, open};
 use pg_report::{
     Bound, Problem, Refused, RunFault, Sink, ToWrite, Verdict, run_check, verdict_status,
 };
@@ -117,7 +117,7 @@ fn games_of<'a, R: Runtime + AllocGlobal>(
     let path = words.get_str("GAMES");
     match path {
         Some(path) if lead_to_one(rt, certificate, path) => {
-            return Err(Refusal::Open(FileName(certificate)));
+            return Err(Refusal::Open(FileName(certificate), Obstacle::NamedTwice));
         }
         None if screen.input => match ask_for_games(rt, words) {
             Ok(()) => {}

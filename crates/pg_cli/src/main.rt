@@ -1,6 +1,6 @@
 //! The program `pg`, the checker of shortest proof games: `pg show DIAGRAM [LENGTH]`, `pg moves FEN`, `pg count FEN PLIES`,
 //! `pg games DIAGRAM LENGTH [GAMES]`, `pg cooks DIAGRAM LENGTH GAMES [--nodes N] [--foreign D]`,
-//! `pg check DIAGRAM LENGTH CERT [GAMES] [--records N]`, `pg search DIAGRAM LENGTH CERT [--nodes N]`,
+//! `pg check DIAGRAM LENGTH CERT [GAMES] [--records N]`, `pg search DIAGRAM LENGTH CERT [--nodes N] [--games FILE]`,
 //! `pg why DIAGRAM LENGTH CERT MOVES [--records N]` and `pg upgrade OLD NEW [--records N]`.
 #![tactic(auto)]
 
@@ -10,6 +10,7 @@ ghost use Rattle.pg_cli.specs.Words.{IsMeant, IsSubcommand};
 
 mod checking;
 mod guiding;
+mod hints;
 mod knowing;
 mod positions;
 mod refusals;
@@ -18,6 +19,7 @@ mod searching;
 mod spelling;
 mod upgrading;
 
+use crate::hints::{advise, advise_words};
 use crate::refusals::{BAD_INPUT, DONE, Refusal, refuse};
 use crate::screen::Screen;
 use clap::ArgMatches;
@@ -66,7 +68,13 @@ fn lend<R: Runtime + AllocGlobal>(
 ) -> u8 {
     match carry_out(rt, words, bounds.as_slice(), screen) {
         Ok(status) => status,
-        Err(refusal) => refuse(rt, &refusal),
+        Err(refusal) => {
+            let status = refuse(rt, &refusal);
+            if screen.errors {
+                advise(rt, words, &refusal);
+            }
+            status
+        }
     }
 }
 
@@ -117,7 +125,13 @@ fn obey<R: Runtime + AllocGlobal>(rt: &R, words: &[String], screen: Screen) -> u
             Some(status) => status,
             None => refuse(rt, &Refusal::Memory),
         },
-        Err(error) => explain(rt, &error),
+        Err(error) => {
+            let status = explain(rt, &error);
+            if screen.errors {
+                advise_words(rt, words);
+            }
+            status
+        }
     }
 }
 

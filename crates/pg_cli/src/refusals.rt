@@ -2,7 +2,7 @@
 ghost use Rattle.std.specs.Prelude.{◌≡◌, false, true};
 ghost use Rattle.pg_cli.specs.Refusals.{refusal_status, file_status};
 
-use pg_files::{FileFault, FileName};
+use pg_files::{FileFault, FileName, Obstacle};
 use pg_report::{
     CountRunFault, Fault, MovesFault, Refused, RunFault, SearchFault, ShowFault, Sink,
     UpgradeFault, count_status, moves_status, search_status, show_status, status, upgrade_status,
@@ -24,6 +24,16 @@ const MEMORY: u8 = 3;
 
 const FILES: u8 = 4;
 
+// How far a search came that gave up: the games that it met, each tested; the nodes that it visited; and the plies of the
+// tree at work and of the game that is asked.
+#[derive(Clone, Copy, Debug, PartialEq, Eq)]
+pub(crate) struct Known {
+    pub(crate) games: usize,
+    pub(crate) nodes: u64,
+    pub(crate) tree: u8,
+    pub(crate) plies: u8,
+}
+
 // Why a command ends without its answer.
 #[derive(Debug, PartialEq, Eq, Drop, Error)]
 pub(crate) enum Refusal<'a> {
@@ -31,12 +41,9 @@ pub(crate) enum Refusal<'a> {
     #[error("a word of the command line is not UTF-8")]
     Words,
     /// A file cannot be opened, created or put in its place, or must not be written. It has this name, as
-    /// given.
+    /// given; and what stands in the way.
     #[error("cannot open {0}")]
-    Open(FileName<'a>),
-    /// A file of this name cannot be created beside its place: a thousand drafts of it stand there.
-    #[error("cannot open {0}")]
-    Drafts(FileName<'a>),
+    Open(FileName<'a>, Obstacle),
     /// The moves that are asked for are not one game.
     #[error("not one line of moves")]
     Line,
@@ -67,6 +74,9 @@ pub(crate) enum Refusal<'a> {
     /// The search has no certificate.
     #[error("{0}")]
     Search(SearchFault),
+    /// The search gave up, and so much is known.
+    #[error("{0}")]
+    GaveUp(SearchFault, Known),
     /// The certificate is not copied.
     #[error("{0}")]
     Upgrade(UpgradeFault),
@@ -81,8 +91,7 @@ impl<'a> Refusal<'a> {
         ensures { refusal_status result ≡ file_status fault }
     {
         match fault {
-            FileFault::Open => Refusal::Open(FileName(name)),
-            FileFault::Drafts => Refusal::Drafts(FileName(name)),
+            FileFault::Open(obstacle) => Refusal::Open(FileName(name), obstacle),
             FileFault::Read => Refusal::Read,
             FileFault::Write => Refusal::Write,
             FileFault::Memory => Refusal::Memory,
@@ -97,13 +106,13 @@ impl Refusal<'_> {
         ensures { result ≡ refusal_status self.now }
     {
         match self {
-            Refusal::Open(_) | Refusal::Drafts(_) | Refusal::Read | Refusal::Write => FILES,
+            Refusal::Open(_, _) | Refusal::Read | Refusal::Write => FILES,
             Refusal::Words | Refusal::Line | Refusal::NoGame | Refusal::NotUtf8 => BAD_INPUT,
             Refusal::Memory => MEMORY,
             Refusal::Show(fault) => show_status(fault),
             Refusal::Moves(fault) => moves_status(fault),
             Refusal::Count(fault) => count_status(fault),
-            Refusal::Search(fault) => search_status(fault),
+            Refusal::Search(fault) | Refusal::GaveUp(fault, _) => search_status(fault),
             Refusal::Upgrade(fault) => upgrade_status(fault),
             Refusal::Check(fault) => status(fault),
         }

@@ -5,7 +5,7 @@ use crate::checking::RECORDS;
 use crate::refusals::{DONE, Refusal};
 use crate::spelling::text_of;
 use clap::ArgMatches;
-use pg_files::{FileName, begin, lead_to_one, open};
+use pg_files::{FileName, Obstacle, begin, lead_to_one, open};
 use pg_report::{Refused, ToWrite, UpgradeFault, upgrade as upgrade_from};
 use pg_streams::{Gathered, Terminal, watch_records};
 use std::fmt::Write as WriteText;
@@ -68,7 +68,7 @@ pub(crate) fn upgrade<'a, R: Runtime + AllocGlobal>(
         Err(fault) => return Err(Refusal::of_file(fault, old)),
     };
     if lead_to_one(rt, old, new) {
-        return Err(Refusal::Open(FileName(new)));
+        return Err(Refusal::Open(FileName(new), Obstacle::NamedTwice));
     }
     let records = words.get_one::<u64>("records").unwrap_or(RECORDS);
     let mut draft = match begin(rt, new) {

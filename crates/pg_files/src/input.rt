@@ -1,6 +1,6 @@
 //! Files that are read, and lists of games, read whole.
 
-use crate::faults::FileFault;
+use crate::faults::{FileFault, Obstacle};
 use std::alloc::Global;
 use std::fs;
 use std::fs::File;
@@ -17,7 +17,7 @@ pub const MOST_BYTES: usize = 16_777_216;
 pub fn open<R: Files + AllocGlobal>(rt: &R, path: &str) -> Result<R::File, FileFault> {
     match File::open(rt, path) {
         Ok(file) => Ok(file),
-        Err(_) => Err(FileFault::Open),
+        Err(fault) => Err(FileFault::Open(Obstacle::of(&fault))),
     }
 }
 
@@ -28,8 +28,18 @@ pub fn open<R: Files + AllocGlobal>(rt: &R, path: &str) -> Result<R::File, FileF
 pub fn open_plain<R: Files + AllocGlobal>(rt: &R, path: &str) -> Result<R::File, FileFault> {
     match fs::metadata(rt, path) {
         Ok(found) if found.is_file() => open(rt, path),
-        _ => Err(FileFault::Open),
+        Ok(_) => Err(FileFault::Open(Obstacle::NotPlain)),
+        Err(fault) => Err(FileFault::Open(Obstacle::of(&fault))),
     }
+}
+
+/// The first six bytes of a plain file, where it can be read; bytes that it lacks are 0.
+pub fn first_bytes<R: Files + AllocGlobal>(rt: &R, path: &str) -> [u8; 6] {
+    let mut bytes = [0u8; 6];
+    if let Ok(mut file) = open_plain(rt, path) {
+        let _ = file.read(&mut bytes);
+    }
+    bytes
 }
 
 // Reads once, and appends what came; how much that was.

@@ -6,7 +6,7 @@ mod input;
 mod names;
 mod writing;
 
-pub use faults::FileFault;
-pub use input::{MOST_BYTES, list, open, open_plain, read_all};
+pub use faults::{FileFault, Obstacle};
+pub use input::{MOST_BYTES, first_bytes, list, open, open_plain, read_all};
 pub use names::FileName;
-pub use writing::{Draft, begin, lead_to_one};
+pub use writing::{Draft, begin, lead_to_one, stand_at_one};

@@ -2,7 +2,7 @@
 ghost use Rattle.std.specs.Prelude.{◌≤◌, length};
 ghost use Rattle.std.specs.Io.{StartsWith};
 
-use crate::faults::FileFault;
+use crate::faults::{FileFault, Obstacle};
 use std::alloc::Global;
 use std::fs;
 use std::fs::{File, Metadata, OpenFile, Permissions};
@@ -69,14 +69,18 @@ fn rights_of(file: &Metadata) -> Permissions {
 // The place of a file that is there already: the plain file to which the name leads, if it may be
 // written and is not where the program prints.
 fn place_of_old<R: Files + AllocGlobal>(rt: &R, name: &str) -> Result<Place, FileFault> {
-    let Ok(old) = fs::metadata(rt, name) else {
-        return Err(FileFault::Open);
+    let old = match fs::metadata(rt, name) {
+        Ok(old) => old,
+        Err(fault) => return Err(FileFault::Open(Obstacle::of(&fault))),
     };
-    if !old.is_file() || is_printed_to(rt, &old) {
-        return Err(FileFault::Open);
+    if !old.is_file() {
+        return Err(FileFault::Open(Obstacle::NotPlain));
     }
-    if File::options().write(true).open(rt, name).is_err() {
-        return Err(FileFault::Open);
+    if is_printed_to(rt, &old) {
+        return Err(FileFault::Open(Obstacle::PrintedTo));
+    }
+    if let Err(fault) = File::options().write(true).open(rt, name) {
+        return Err(FileFault::Open(Obstacle::of(&fault)));
     }
     match fs::canonicalize(rt, name) {
         Ok(path) => Ok(Place {
@@ -84,7 +88,7 @@ fn place_of_old<R: Files + AllocGlobal>(rt: &R, name: &str) -> Result<Place, Fil
             permissions: Some(rights_of(&old)),
         }),
         Err(fault) if fault.kind() == ErrorKind::OutOfMemory => Err(FileFault::Memory),
-        Err(_) => Err(FileFault::Open),
+        Err(fault) => Err(FileFault::Open(Obstacle::of(&fault))),
     }
 }
 
@@ -94,14 +98,14 @@ fn place_of<R: Files + AllocGlobal>(rt: &R, name: &str) -> Result<Place, FileFau
         Ok(_) => place_of_old(rt, name),
         Err(fault) if fault.kind() == ErrorKind::NotFound => {
             if name.is_empty() || name.ends_with('/') {
-                return Err(FileFault::Open);
+                return Err(FileFault::Open(Obstacle::NoName));
             }
             Ok(Place {
                 path: copied(rt.alloc(), name)?,
                 permissions: None,
             })
         }
-        Err(_) => Err(FileFault::Open),
+        Err(fault) => Err(FileFault::Open(Obstacle::of(&fault))),
     }
 }
 
@@ -120,6 +124,32 @@ fn name_of(path: &str) -> &str {
     match path.rsplit_once('/') {
         Some((_, name)) => name,
         None => path,
+    }
+}
+
+// The folder of a path, as a name that can be asked about.
+fn folder_name(path: &str) -> &str {
+    match folder_of(path) {
+        "" => ".",
+        folder => folder,
+    }
+}
+
+/// Whether two names stand at one place, so that files written under both would be one: they lead to one plain file,
+/// or they are one name in one folder.
+pub fn stand_at_one<R: Files>(rt: &R, one: &str, other: &str) -> bool {
+    if lead_to_one(rt, one, other) {
+        return true;
+    }
+    if name_of(one) != name_of(other) {
+        return false;
+    }
+    match (
+        fs::metadata(rt, folder_name(one)),
+        fs::metadata(rt, folder_name(other)),
+    ) {
+        (Ok(one), Ok(other)) => is_same(&one, &other),
+        _ => false,
     }
 }
 
@@ -155,18 +185,18 @@ fn make_beside<R: Files + AllocGlobal>(rt: &R, place: Place) -> Result<Draft<R::
                 return Ok(Draft { file, place, path });
             }
             Err(fault) if fault.kind() == ErrorKind::AlreadyExists => {}
-            Err(_) => return Err(FileFault::Open),
+            Err(fault) => return Err(FileFault::Open(Obstacle::of(&fault))),
         }
     }
-    Err(FileFault::Drafts)
+    Err(FileFault::Open(Obstacle::Drafts))
 }
 
 /// Begins a file of this name, beside the place where it is to stand. Nothing that is there is touched.
 ///
 /// # Errors
 /// `Open` where the name leads to a folder, a pipe, a device or to nothing, where the program prints to
-/// that file, where it must not be written, or where its folder takes no file; `Drafts` where 1,000 drafts of
-/// it stand there, which runs have left; `Memory` where a growth is refused.
+/// that file, where it must not be written, where its folder takes no file, or where 1,000 drafts of it stand
+/// there, which runs have left; `Memory` where a growth is refused.
 pub fn begin<R: Files + AllocGlobal>(rt: &R, name: &str) -> Result<Draft<R::File>, FileFault> {
     let place = place_of(rt, name)?;
     make_beside(rt, place)
@@ -188,9 +218,9 @@ impl<F: OpenFile + Drop> Draft<F> {
             let _ = fs::remove_file(rt, path.as_str());
             return Err(FileFault::Write);
         }
-        if fs::rename(rt, path.as_str(), place.path.as_str()).is_err() {
+        if let Err(fault) = fs::rename(rt, path.as_str(), place.path.as_str()) {
             let _ = fs::remove_file(rt, path.as_str());
-            return Err(FileFault::Open);
+            return Err(FileFault::Open(Obstacle::of(&fault)));
         }
         Ok(())
     }

@@ -1,5 +1,5 @@
 -- Texts appended one after the other make the lines that show a diagram. Leads to the contract of `run_show`.
-use Rattle.std.proofs.Common.{◌≡◌, ◌⊎◌, inl, inr, ℕ, Bool, true, List, ◌++◌, Option, Some, Ok, subst, sym, refl}
+use Rattle.std.proofs.Common.{◌≡◌, ◌⊎◌, inl, inr, ℕ, ◌%◌, ◌/◌, Bool, true, List, ◌++◌, Option, Some, Ok, subst, sym, refl}
 use Rattle.std.specs.Prelude.{codes}
 use Rattle.std.specs.Option.{option_map}
 use Rattle.std.proofs.KnownBytes.{Appends-trans}
@@ -16,6 +16,7 @@ use Rattle.pg_report.specs.declared.fault.ShowFault.{ShowFault}
 use Rattle.pg_report.specs.declared.fault.ShowFault.TheVariants.{Memory, Write}
 use Rattle.pg_report.specs.declared.sides.Reason.{Reason}
 use Rattle.pg_report.specs.Sides.{own_plies, IsSideNeed}
+use Rattle.pg_report.specs.Expecting.{IsExpected, digit_text, unit_text, expected_text}
 use Rattle.pg_report.specs.Showing.{counted_text, name_of, men_text, captured_text, reason_text, spare_text, need_text, open_line, IsSideLine, IsShown, IsShowFault, IsShowWithinFault}
 
 pub men_grow : (d : Placement) (c : Color) (n : ℕ) (name : List ℕ) (x y z : Option (List ℕ)) → name ≡ name_of c → n ≡ men c any_man d → Appends x y name → Appends y z (counted_text n (codes " man, captured ") (codes " men, captured ")) → Appends x z (men_text d c)
@@ -23,6 +24,12 @@ men_grow d c n name x y z named counted first second = Appends-trans x y z (name
 
 pub open_grows : (least : Option ℕ) (n : ℕ) (text : List ℕ) (w x y z : Option (List ℕ)) → least ≡ Some n → text ≡ length_text n → Appends w x (codes "no game is shorter than ") → Appends x y text → Appends y z (codes "\n") → Appends w z (open_line least)
 open_grows least n text w x y z is said first second third = subst (λ o. Appends w z (open_line o)) (sym is) (Appends-trans w x z (codes "no game is shorter than ") _ first (Appends-trans x y z (length_text n) (codes "\n") (subst (Appends x y) said second) third))
+
+pub expected_grows : (expected : Option ℕ) (h : ℕ) (digit unit : List ℕ) (v w x y z : Option (List ℕ)) → expected ≡ Some h → digit ≡ digit_text (h % 100) → unit ≡ unit_text (h / 100)
+    → Appends v w (codes "a search may visit about ") → Appends w x digit → Appends x y unit → Appends y z (codes " nodes, by a rule of thumb\n") → Appends v z (expected_text expected)
+expected_grows expected h digit unit v w x y z is one two first second third last =
+    subst (λ o. Appends v z (expected_text o)) (sym is) (Appends-trans v w z (codes "a search may visit about ") _ first (Appends-trans w x z (digit_text (h % 100)) _ (subst (Appends w x) one second)
+    (Appends-trans x y z (unit_text (h / 100)) (codes " nodes, by a rule of thumb\n") (subst (Appends x y) two third) last)))
 
 pub never_grows : (reason : Option Reason) (words : List ℕ) (w x y z : Option (List ℕ)) → words ≡ reason_text reason → Appends w x (codes "cannot stand so in 64.0 moves or less") → Appends x y words → Appends y z (codes "\n")
     → Appends w z (codes "cannot stand so in 64.0 moves or less" ++ (reason_text reason ++ codes "\n"))
@@ -42,11 +49,12 @@ side_grows d c need reason asked w x y z is first second third = (
   Appends-trans w x z (men_text d c) _ first (Appends-trans x y z (captured_text d c) (need_text c need reason asked) second third),
 )
 
-pub shown : (d : Placement) (asked least : Option ℕ) (v w x y z : Option (List ℕ)) → Appends v w (board_text d) → (text : List ℕ) × IsSideLine d White asked text × Appends w x text → (text : List ℕ) × IsSideLine d Black asked text × Appends x y text → Appends y z (open_line least) → (text : List ℕ) × IsShown d asked least text × Appends v z text
-shown d asked least v w x y z board (white, is_white, second) (black, is_black, third) last = (
-  board_text d ++ (white ++ (black ++ open_line least)),
-  (white, black, is_white, is_black, refl),
-  Appends-trans v w z (board_text d) _ board (Appends-trans w x z white _ second (Appends-trans x y z black (open_line least) third last)),
+pub shown : (d : Placement) (asked least expected : Option ℕ) (v w x y z : Option (List ℕ)) → IsExpected asked expected → Appends v w (board_text d) → (text : List ℕ) × IsSideLine d White asked text × Appends w x text
+    → (text : List ℕ) × IsSideLine d Black asked text × Appends x y text → Appends y z (open_line least ++ expected_text expected) → (text : List ℕ) × IsShown d asked least text × Appends v z text
+shown d asked least expected v w x y z is board (white, is_white, second) (black, is_black, third) last = (
+  board_text d ++ (white ++ (black ++ (open_line least ++ expected_text expected))),
+  (white, black, expected, is_white, is_black, is, refl),
+  Appends-trans v w z (board_text d) _ board (Appends-trans w x z white _ second (Appends-trans x y z black (open_line least ++ expected_text expected) third last)),
 )
 
 -- the line of a colour that is this one

@@ -3,3 +3,4 @@ pub mod Statuses
 pub mod Shortest
 pub mod Sides
 pub mod Showing
+pub mod Expecting

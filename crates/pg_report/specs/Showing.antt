@@ -16,6 +16,7 @@ use Rattle.pg_report.specs.declared.fault.ShowFault.TheVariants.{Diagram, Length
 use Rattle.pg_report.specs.declared.sides.Reason.{Reason}
 use Rattle.pg_report.specs.declared.sides.Reason.TheVariants.{Captures, Promotions, PawnFiles, Travel, Pairs}
 use Rattle.pg_report.specs.Sides.{own_plies, IsSideNeed}
+use Rattle.pg_report.specs.Expecting.{IsExpected, expected_text}
 
 -- a number, and what is said of one or of another number
 abbrev pub counted_text : ℕ → List ℕ → List ℕ → List ℕ
@@ -66,10 +67,11 @@ abbrev pub open_line : Option ℕ → List ℕ
 open_line None = codes "no game of 64.0 moves or less\n"
 open_line (Some n) = codes "no game is shorter than " ++ (length_text n ++ codes "\n")
 
--- the board, a line for white and one for black, and the least length
+-- the board, a line for white and one for black, the least length, and with a length what may be expected of a search
 abbrev pub IsShown : Placement → Option ℕ → Option ℕ → List ℕ → Type 0
 IsShown d asked least text =
-    (white : List ℕ) × (black : List ℕ) × IsSideLine d White asked white × IsSideLine d Black asked black × (text ≡ board_text d ++ (white ++ (black ++ open_line least)))
+    (white : List ℕ) × (black : List ℕ) × (expected : Option ℕ) × IsSideLine d White asked white × IsSideLine d Black asked black × IsExpected asked expected
+    × (text ≡ board_text d ++ (white ++ (black ++ (open_line least ++ expected_text expected))))
 
 -- the texts spell a diagram and a length
 abbrev pub IsAsked : List ℕ → List ℕ → Type 0

@@ -2,6 +2,7 @@
 //! once of a diagram, and the status of each fault; and all that the program uses of the crates below.
 #![tactic(auto)]
 
+mod expecting;
 mod fault;
 mod lengths;
 mod run;

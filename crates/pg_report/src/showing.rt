@@ -13,7 +13,9 @@ ghost use Rattle.pg_report.specs.Shortest.{IsLeastLength, NoneBelow};
 ghost use Rattle.pg_report.specs.Sides.{own_plies};
 ghost use Rattle.pg_report.specs.Showing.{counted_text, name_of, men_text, captured_text, reason_text, behind_text, spare_text, need_text, open_line};
 ghost use Rattle.pg_report.specs.Showing.{IsSideLine, IsShown, IsShowFault, IsShowWithinFault};
+ghost use Rattle.pg_report.specs.Expecting.{IsExpected, expected_text};
 
+use crate::expecting::{expected_of, write_expected};
 use crate::fault::ShowFault;
 use crate::lengths::{Offers, first_open, offers_of};
 use crate::sides::{Need, Reason, need_of};
@@ -199,18 +201,36 @@ fn write_open<W: Sink>(least: Option<Length>, out: &mut W) -> Result<(), Refused
     }
 }
 
-// Appends the board, the lines of the colours and that of the least length.
+// What is asked, and what is written of it below the lines of the colours.
+#[derive(Clone, Copy)]
+struct Below {
+    asked: Option<Length>,
+    least: Option<Length>,
+    expected: Option<u32>,
+}
+
+// Appends the line of the least length, and that of what may be expected of a search.
+fn write_below<W: Sink>(below: &Below, out: &mut W) -> Result<(), Refused>
+    ensures text { OnOk result (Appends (W.held out.old) (W.held out.new) (open_line below.now.least ++ expected_text below.now.expected)) }
+    ensures runs { OnOk result ((W.has_failed out.old ≡ false) × (W.has_failed out.new ≡ false)) }
+    ensures fault { OnErr result (W.has_failed out.new ≡ true) }
+{
+    write_open(below.least, out)?;
+    write_expected(below.expected, out)
+}
+
+// Appends the board, the lines of the colours, that of the least length, and that of what may be expected of a search.
 fn write_shown<W: Sink>(
     diagram: &Diagram,
-    asked: &Option<Length>,
     white: &Offers,
     black: &Offers,
-    least: Option<Length>,
+    below: &Below,
     out: &mut W,
 ) -> Result<(), Refused>
     requires white { white.now.color ≡ White }
     requires black { black.now.color ≡ Black }
-    ensures text { OnOk result ((text : List ℕ) × IsShown diagram.now asked.now least text × Appends (W.held out.old) (W.held out.new) text) }
+    requires expected { IsExpected below.now.asked below.now.expected }
+    ensures text { OnOk result ((text : List ℕ) × IsShown diagram.now below.now.asked below.now.least text × Appends (W.held out.old) (W.held out.new) text) }
     ensures runs { OnOk result ((W.has_failed out.old ≡ false) × (W.has_failed out.new ≡ false)) }
     ensures fault { OnErr result (W.has_failed out.new ≡ true) }
 {
@@ -218,9 +238,9 @@ fn write_shown<W: Sink>(
         Ok(()) => {}
         Err(_) => return Err(Refused),
     }
-    write_side(diagram, white, asked, out)?;
-    write_side(diagram, black, asked, out)?;
-    write_open(least, out)
+    write_side(diagram, white, &below.asked, out)?;
+    write_side(diagram, black, &below.asked, out)?;
+    write_below(below, out)
 }
 
 // Shows a diagram that was read, within a length if one is asked: one reckoning gives what the lines of both colours
@@ -246,8 +266,17 @@ fn show<W: Sink>(
         Ok(black) => black,
         Err(AllocError) => return Err(ShowFault::Memory),
     };
+    let expected = match expected_of(alloc, diagram, &asked) {
+        Ok(expected) => expected,
+        Err(AllocError) => return Err(ShowFault::Memory),
+    };
     let least = first_open(bounds, diagram, &white, &black);
-    match write_shown(diagram, &asked, &white, &black, least, out) {
+    let below = Below {
+        asked,
+        least,
+        expected,
+    };
+    match write_shown(diagram, &white, &black, &below, out) {
         Ok(()) => Ok(()),
         Err(Refused) => Err(ShowFault::Write),
     }
@@ -288,7 +317,8 @@ pub fn run_show<W: Sink>(
 }
 
 /// The same with a length in moves, 64.0 at most, of which a text says how long it is: behind what a colour needs
-/// stands how many of its plies of a game of that length are left over, or how many are short.
+/// stands how many of its plies of a game of that length are left over, or how many are short; and where neither has too
+/// few for its men, a last line says how many nodes `search` may visit, by the rule of thumb of `forecast`.
 ///
 /// # Errors
 /// In this order: `Diagram` and `Length` where that text is refused, with that refusal; `Memory` where a growth was

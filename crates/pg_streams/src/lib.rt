@@ -1,14 +1,17 @@
-//! What the program's streams go through: a buffer over a sink, sources whose records are counted, and the line on the
-//! terminal that says how far a run is.
+//! What the program's streams go through: a buffer over a sink, sources whose records are counted, the line on the terminal
+//! that says how far a run is, and the games that a search meets.
 #![tactic(auto)]
 
 mod gathered;
+mod kept;
 mod led;
 mod line;
 mod progress;
 mod runs;
+mod trees;
 
 pub use gathered::Gathered;
+pub use kept::Kept;
 pub use led::{LedLine, led_line};
 pub use line::{Cleared, Terminal};
 pub use progress::{RecordCount, Watched, line_of, watch_records};

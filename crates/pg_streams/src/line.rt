@@ -13,7 +13,7 @@ const FIRST: u128 = 1000;
 const BETWEEN: u128 = 500;
 
 // A line has so many characters at most.
-pub(crate) const WIDTH: usize = 28;
+pub(crate) const WIDTH: usize = 48;
 
 /// The line of a terminal on which runs say how far they are, as all see it that write there.
 #[derive(Drop)]

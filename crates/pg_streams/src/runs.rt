@@ -2,6 +2,7 @@
 
 use crate::line::{Line, Terminal, WIDTH};
 use crate::progress::{scaled, share};
+use crate::trees::Trees;
 use arrayvec::ArrayString;
 use pg_fen::Length;
 use pg_moves::Progress;
@@ -52,13 +53,14 @@ impl<R: Clock + Eprint> Progress for CountLine<'_, R> {
     }
 }
 
-/// Shows how many nodes a search has visited, how many of its limit those are, and the length of the
-/// tree at work.
+/// Shows how many nodes a search has visited, how many of its limit those are, the length of the tree at work,
+/// and how many nodes that one may come to.
 #[derive(Drop)]
 pub struct SearchLine<'a, R> {
     line: Line<'a, R>,
     limit: u64,
     turns: u32,
+    trees: Trees,
 }
 
 impl<'a, R: Clock + Eprint> SearchLine<'a, R> {
@@ -68,6 +70,7 @@ impl<'a, R: Clock + Eprint> SearchLine<'a, R> {
             line: Line::new(rt, terminal),
             limit,
             turns: 0,
+            trees: Trees::new(),
         }
     }
 
@@ -77,8 +80,9 @@ impl<'a, R: Clock + Eprint> SearchLine<'a, R> {
     }
 }
 
-/// The line of a search: the length of the tree, the nodes, and their share of the limit.
-pub fn search_line(plies: u8, nodes: u64, limit: u64) -> ArrayString<WIDTH> {
+/// The line of a search: the length of the tree, the nodes, and their share of the limit; and how many nodes the tree
+/// may come to, where that is told.
+pub fn search_line(plies: u8, nodes: u64, limit: u64, expected: Option<u64>) -> ArrayString<WIDTH> {
     let mut line = ArrayString::new();
     if let Some(length) = Length::from_plies(plies) {
         let (number, unit) = scaled(nodes);
@@ -89,6 +93,10 @@ pub fn search_line(plies: u8, nodes: u64, limit: u64) -> ArrayString<WIDTH> {
             length.write().as_str()
         );
     }
+    if let Some(expected) = expected {
+        let (number, unit) = scaled(expected);
+        let _ = write!(line, ", tree ~{number}{unit}");
+    }
     line
 }
 
@@ -97,11 +105,13 @@ impl<R: Clock + Eprint> SearchProgress for SearchLine<'_, R> {
         if !self.line.is_on() {
             return;
         }
+        let nodes = self.limit.saturating_sub(left);
+        self.trees.reach(plies, nodes);
         self.turns = self.turns.wrapping_add(1);
         if self.turns % TURNS == 0 && self.line.is_due() {
-            let nodes = self.limit.saturating_sub(left);
+            let expected = self.trees.expected();
             self.line
-                .show(search_line(plies, nodes, self.limit).as_str());
+                .show(search_line(plies, nodes, self.limit, expected).as_str());
         }
     }
 }

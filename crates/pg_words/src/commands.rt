@@ -20,7 +20,8 @@ const SHOW_EXAMPLE: &str =
     "Below the board stand, for each side, its men, how many it captured, and how
 many moves of its own it needs at least, with what shows that; and a length that
 no game which ends on the diagram can be below. With LENGTH stands for each side
-how many of its moves of such a game are left over.
+how many of its moves of such a game are left over, and last how many nodes a
+search may visit, by a rule of thumb.
 
 Example:
   pg show r1bqkbnr/ppp2ppp/3p4/8/8/8/PPPPPPPP/R1BQKBNR 4.0";
@@ -62,7 +63,8 @@ Example, with a certificate that a search writes first:
 
 const SEARCH_EXAMPLE: &str =
     "What the search finds counts for nothing until the check of its certificate has
-said yes. CERT is written, or replaced, only then.
+said yes. CERT is written, or replaced, only then. The games that it met are
+solutions whatever ended it; `--games` keeps them as a list.
 
 Example:
   pg search rnbqkbnr/pppp1ppp/8/4p3/4P3/8/PPPP1PPP/RNBQKBNR 1.0 e4e5.pgc";
@@ -101,6 +103,7 @@ enum Word {
     Nodes,
     LedNodes,
     Foreign,
+    Kept,
 }
 
 // A command: its name, what it does, what stands below its help, and its words in their order.
@@ -164,7 +167,13 @@ const COMMANDS: [Entry; 9] = [
         name: "search",
         about: "Searches for the games, writes a certificate, checks it, and reports",
         below: SEARCH_EXAMPLE,
-        words: &[Word::Diagram, Word::Length, Word::Draft, Word::Nodes],
+        words: &[
+            Word::Diagram,
+            Word::Length,
+            Word::Draft,
+            Word::Nodes,
+            Word::Kept,
+        ],
     },
     Entry {
         name: "why",
@@ -255,7 +264,7 @@ fn arg_of<'a>(alloc: Global, word: Word) -> Arg<'a> {
             "nodes",
             "1000000",
             0,
-            "Gives up where more nodes would be visited",
+            "Gives up before more nodes are visited",
         ),
         Word::LedNodes => limit(
             alloc,
@@ -269,6 +278,10 @@ fn arg_of<'a>(alloc: Global, word: Word) -> Arg<'a> {
             .value_name("D")
             .value_parser(ValueParser::unsigned(0, 255))
             .help("At most so many moves of other kinds; else any number"),
+        Word::Kept => Arg::new(alloc, "games")
+            .long("games")
+            .value_name("FILE")
+            .help("Keeps the games that were met, also where it gives up"),
     }
 }
 

@@ -111,7 +111,7 @@ fn a_draft_is_put_in_its_place_or_dropped(rt: HostRuntime) {
 // That no draft is begun under a name.
 fn check_not_opened<R: Runtime + Abort + AllocGlobal>(rt: &R, name: &str) {
     let refused = begin(rt, name);
-    assert!(rt; matches!(&refused, Err(FileFault::Open)), "{name}");
+    assert!(rt; matches!(&refused, Err(FileFault::Open(_))), "{name}");
 }
 
 // Names that lead to no plain file that may be written: none of them is touched.

@@ -1,7 +1,7 @@
 //! Lists of games, read whole.
 
 use crate::shared::repeated;
-use pg_files::{FileFault, MOST_BYTES, list, read_all};
+use pg_files::{FileFault, MOST_BYTES, Obstacle, first_bytes, list, open_plain, read_all};
 use pg_trial::{Endless, FailsAt};
 use std::io;
 use std::io::Read;
@@ -21,11 +21,38 @@ fn whole<R: Abort + AllocGlobal, C: Read>(rt: &R, reader: &mut C) -> Vec<u8> {
     bytes
 }
 
+// What an obstacle says.
+fn to_text<R: Abort + AllocGlobal>(rt: &R, obstacle: Obstacle) -> String {
+    let Ok(text) = obstacle.to_string(rt.alloc()) else {
+        panic!(rt; "memory");
+    };
+    text
+}
+
 #[test]
 fn lists_that_are_not_read(rt: HostRuntime) {
     let missing = list(&rt, Some("no/such/file"));
-    assert!(rt; matches!(&missing, Err(FileFault::Open)));
+    assert!(rt; matches!(&missing, Err(FileFault::Open(Obstacle::System(2)))));
     check_unread(&rt, &mut Endless::new(b'\n'));
+}
+
+// What stands in the way of a file, as it is said.
+const OBSTACLES: &str = "no/such/file: No such file or directory (os error 2)
+/: it is no plain file
+/dev/null: it is no plain file
+/dev/null/file: Not a directory (os error 20)";
+
+#[test]
+fn obstacles(rt: HostRuntime) {
+    for row in OBSTACLES.lines() {
+        let (path, wanted) = row.split_once(": ").expect(&rt, row);
+        let Err(FileFault::Open(obstacle)) = open_plain(&rt, path) else {
+            panic!(rt; "{row}");
+        };
+        let said = to_text(&rt, obstacle);
+        assert_eq!(rt; said.as_str(), wanted);
+        assert_eq!(rt; first_bytes(&rt, path), [0; 6]);
+    }
 }
 
 #[test]

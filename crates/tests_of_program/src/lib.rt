@@ -1,4 +1,4 @@
-//! Tests of what no contract of `pg_files` and `pg_streams` says. They stand apart, since a crate that has tests is
+//! Tests of what no contract of `pg_files`, `pg_streams` and `pg_hints` says. They stand apart, since a crate that has tests is
 //! proved twice, without them and with them. What the commands say is tried on the built program, by scripts.
 #![tactic(auto)]
 
@@ -7,8 +7,12 @@ mod drafts;
 #[cfg(test)]
 mod gathering;
 #[cfg(test)]
+mod hints;
+#[cfg(test)]
 mod inputs;
 #[cfg(test)]
 mod lines;
+#[cfg(test)]
+mod searching;
 #[cfg(test)]
 mod shared;

@@ -177,21 +177,21 @@ const COUNTS: &str = "0: 0 games
 84998978956: 84998M games
 18446744073709551615: 18446P games";
 
-// Plies, nodes and their limit, and what is shown.
-const SEARCHES: &str = "0 0 1000000: 0.0 0 0% of limit
-11 428 1000000: 5.5 428 0% of limit
-24 32105000 80000000: 12.0 32105k 40% of limit
-128 99999999 99999999: 64.0 99999k 100% of limit";
+// Plies, nodes and their limit, what the tree may come to, where that is told, and what is shown.
+const SEARCHES: &str = "0 0 1000000 -: 0.0 0 0% of limit
+11 428 1000000 -: 5.5 428 0% of limit
+24 32105000 80000000 40123456: 12.0 32105k 40% of limit, tree ~40123k
+128 99999999 99999999 18446744073709551615: 64.0 99999k 100% of limit, tree ~18446P";
 
 // Moves of other kinds, plies and nodes, and what is shown.
 const LED: &str = "0 0 0: +0 0.0 0
 3 37 1234567: +3 18.5 1234k
 255 128 18446744073709551615: +255 64.0 18446P";
 
-// What is shown is never wider than 28 columns.
+// What is shown is never wider than 48 columns.
 fn check_shown(rt: &impl Abort, shown: &str, wanted: &str) {
     assert_eq!(rt; shown, wanted);
-    assert!(rt; shown.len() <= 28, "{wanted}");
+    assert!(rt; shown.len() <= 48, "{wanted}");
 }
 
 #[test]
@@ -203,15 +203,22 @@ fn lines_that_fit(rt: HostRuntime) {
 }
 
 #[test]
-fn lines_of_counts_and_searches(rt: HostRuntime) {
+fn lines_of_counts(rt: HostRuntime) {
     for line in COUNTS.lines() {
         let ([games, _, _], wanted) = row(&rt, line);
         check_shown(&rt, count_line(games).as_str(), wanted);
     }
+}
+
+#[test]
+fn lines_of_searches(rt: HostRuntime) {
     for line in SEARCHES.lines() {
         let ([plies, nodes, limit], wanted) = row(&rt, line);
         let plies = u8::try_from(plies).expect(&rt, line);
-        check_shown(&rt, search_line(plies, nodes, limit).as_str(), wanted);
+        let (numbers, _) = line.split_once(": ").expect(&rt, line);
+        let expected = numbers.split(' ').nth(3).and_then(|n| n.parse().ok());
+        let shown = search_line(plies, nodes, limit, expected);
+        check_shown(&rt, shown.as_str(), wanted);
     }
 }
 

@@ -1,0 +1,135 @@
+//! Second lines, on a terminal alone, behind the line that says why a command has no answer: what is wrong in a text or a file,
+//! and what to try. They take no part in any answer.
+
+use crate::refusals::{Known, Refusal};
+use crate::spelling::text_of;
+use clap::ArgMatches;
+use pg_files::{first_bytes, list};
+use pg_hints::{
+    Hint, is_fen_in_words, on_diagram, on_known, on_length, on_limit, on_move, packing_of,
+};
+use pg_report::{
+    CountRunFault, Fault, FenFault, GamesFault, MovesFault, RunFault, SearchFault, ShowFault,
+    UpgradeFault,
+};
+use std::fmt::Display;
+use std::io::Eprint;
+use std::rt::Runtime;
+use std::{fs, str};
+
+// The file through which standard input may be read once more, where it is a plain one.
+const INPUT: &str = "/dev/stdin";
+
+// Says a line, where there is one.
+fn tell<R: Eprint>(rt: &R, hint: &Hint) {
+    if !hint.is_empty() {
+        let _ = eprintln!(rt; "pg: {}", hint.as_str());
+    }
+}
+
+// Says what stands in the way.
+fn tell_value<R: Eprint, D: Display + Drop>(rt: &R, value: D) {
+    let _ = eprintln!(rt; "pg: {value}");
+}
+
+// Points to what is wrong in the text of a diagram or of a position.
+fn tell_diagram<R: Runtime + AllocGlobal>(rt: &R, words: &ArgMatches<'_>, fault: FenFault) {
+    let text = match text_of(words, "DIAGRAM") {
+        "" => text_of(words, "FEN"),
+        text => text,
+    };
+    tell(rt, &on_diagram(text, fault));
+}
+
+// Points to the word of a list, where that can be read again: MOVES, or a plain file.
+fn tell_move<R: Runtime + AllocGlobal>(rt: &R, words: &ArgMatches<'_>, line: usize, ply: usize) {
+    if let Some(moves) = words.get_str("MOVES") {
+        tell(rt, &on_move(rt.alloc(), moves, line, ply));
+        return;
+    }
+    let path = words.get_str("GAMES").unwrap_or(INPUT);
+    let is_plain = match fs::metadata(rt, path) {
+        Ok(found) => found.is_file(),
+        Err(_) => false,
+    };
+    if !is_plain {
+        return;
+    }
+    if let Ok(games) = list(rt, Some(path)) {
+        if let Ok(games) = str::from_utf8(games.as_slice()) {
+            tell(rt, &on_move(rt.alloc(), games, line, ply));
+        }
+    }
+}
+
+// Says that a certificate looks packed.
+fn tell_packing<R: Runtime + AllocGlobal>(rt: &R, path: &str) {
+    if let Some(packing) = packing_of(&first_bytes(rt, path)) {
+        let _ = eprintln!(rt;
+            "pg: it looks packed by {packing}; unpack it, or let `pg check` read it from a pipe"
+        );
+    }
+}
+
+// Says what a search that gave up knows, and what to try.
+fn tell_known<R: Eprint>(rt: &R, fault: &SearchFault, known: &Known) {
+    if let SearchFault::Shorter(plies) = fault {
+        tell(rt, &on_length(*plies));
+        return;
+    }
+    tell(rt, &on_limit(known.nodes, known.tree, known.plies));
+    tell(rt, &on_known(known.games));
+    if *fault == SearchFault::Budget {
+        let _ = eprintln!(rt;
+            "pg: try `pg cooks` with a game, `pg show DIAGRAM LENGTH` for a forecast, or more --nodes"
+        );
+    }
+}
+
+// Points to what is wrong in a text of a check.
+fn tell_check<R: Runtime + AllocGlobal>(rt: &R, words: &ArgMatches<'_>, fault: &RunFault) {
+    match fault {
+        RunFault::Diagram(fault) => tell_diagram(rt, words, *fault),
+        RunFault::Games(
+            GamesFault::At {
+                line,
+                ply,
+                cause: _,
+            },
+        ) => tell_move(rt, words, *line, *ply),
+        RunFault::Check(Fault::Magic | Fault::Truncated) => {
+            tell_packing(rt, text_of(words, "CERT"))
+        }
+        _ => {}
+    }
+}
+
+// Says what may help where a command of these words has no answer.
+pub(crate) fn advise<R: Runtime + AllocGlobal>(
+    rt: &R,
+    words: &ArgMatches<'_>,
+    refusal: &Refusal<'_>,
+) {
+    let Some((_, words)) = words.subcommand() else {
+        return;
+    };
+    match refusal {
+        Refusal::Open(_, obstacle) => tell_value(rt, *obstacle),
+        Refusal::GaveUp(fault, known) => tell_known(rt, fault, known),
+        Refusal::Check(fault) => tell_check(rt, words, fault),
+        Refusal::Show(ShowFault::Diagram(fault))
+        | Refusal::Moves(MovesFault::Position(fault))
+        | Refusal::Count(CountRunFault::Position(fault)) => tell_diagram(rt, words, *fault),
+        Refusal::Upgrade(UpgradeFault::NotVersion1 | UpgradeFault::Truncated) => {
+            tell_packing(rt, text_of(words, "OLD"))
+        }
+        _ => {}
+    }
+}
+
+// Says that a FEN is one word, where the words have one in pieces.
+pub(crate) fn advise_words<R: Eprint>(rt: &R, words: &[String]) {
+    if is_fen_in_words(words) {
+        let _ = eprintln!(rt; "pg: quote the FEN: it is one word");
+    }
+}

@@ -1,0 +1,127 @@
+//! The word of a list that is no move, and the legal moves that are most like it.
+
+use crate::Hint;
+use pg_moves::next_legal;
+use pg_position::Position;
+use pg_san::{San, read, write};
+use std::alloc::{AllocError, Global};
+use std::fmt;
+use std::fmt::Write;
+use strsim::levenshtein;
+
+// So many legal moves are named at most.
+const NAMED: usize = 3;
+
+// So many bytes of a word are shown and compared at most.
+const SHOWN: usize = 24;
+
+// The word without a move number at its front, as a list is read.
+fn bare(word: &str) -> &str {
+    let rest = word.trim_start_matches(|c: char| c.is_ascii_digit());
+    let behind = rest.trim_start_matches('.');
+    if rest.len() < word.len() && behind.len() < rest.len() {
+        behind
+    } else {
+        word
+    }
+}
+
+// The position before the word of this ply of a line, and that word; none where a word before it is no move.
+fn word_at(line: &str, ply: usize) -> Option<(Position, &str)> {
+    let mut position = Position::array();
+    let mut at = 0usize;
+    for word in line.split([' ', '\t']) {
+        let text = bare(word);
+        if !text.is_empty() {
+            at = at.saturating_add(1);
+            if at == ply {
+                return Some((position, text));
+            }
+            match read(&position, text) {
+                Ok(m) => match position.play(m) {
+                    Ok(next) => position = next,
+                    Err(_) => return None,
+                },
+                Err(_) => return None,
+            }
+        }
+    }
+    None
+}
+
+// Legal moves with how far their texts are from a word, the nearest first.
+#[derive(Clone, Copy)]
+struct Nearest {
+    moves: [Option<(usize, San)>; NAMED],
+}
+
+impl Nearest {
+    // Takes a move in behind those that are as near; the farthest goes.
+    fn take(&mut self, distance: usize, san: San) {
+        let mut next = Some((distance, san));
+        for place in self.moves.iter_mut() {
+            if let Some((own, _)) = next {
+                let is_behind = match place {
+                    Some((other, _)) => *other <= own,
+                    None => false,
+                };
+                if !is_behind {
+                    let gone = *place;
+                    *place = next;
+                    next = gone;
+                }
+            }
+        }
+    }
+}
+
+// The legal moves of a position whose texts are nearest to a word.
+fn nearest_to(alloc: Global, position: &Position, word: &str) -> Result<Nearest, AllocError> {
+    let mut found = Nearest {
+        moves: [None; NAMED],
+    };
+    let mut last = None;
+    for _ in 0..u16::MAX {
+        let Some(m) = next_legal(position, last) else {
+            return Ok(found);
+        };
+        let san = write(position, m);
+        found.take(levenshtein(alloc, word, san.as_str())?, san);
+        last = Some(m);
+    }
+    Ok(found)
+}
+
+// Writes a word, and the moves that are nearest to it.
+fn write_moves(word: &str, nearest: &Nearest, hint: &mut Hint) -> fmt::Result {
+    write!(hint, "the word is {word:?}; ")?;
+    let mut before = "legal there: ";
+    for place in nearest.moves.iter() {
+        if let Some((_, san)) = place {
+            write!(hint, "{before}{}", san.as_str())?;
+            before = ", ";
+        }
+    }
+    if before == ", " {
+        Ok(())
+    } else {
+        write!(hint, "no move is legal there")
+    }
+}
+
+/// The word of a list of games that is refused, by its line and its ply in it, both from 1, and up to three legal moves whose texts
+/// are nearest to it. Nothing where there is no such word, or where memory is refused, which is taken from `alloc`.
+pub fn on_move(alloc: Global, list: &str, line: usize, ply: usize) -> Hint {
+    let mut hint = Hint::new();
+    let Some(line) = list.split('\n').nth(line.saturating_sub(1)) else {
+        return hint;
+    };
+    let line = line.strip_suffix('\r').unwrap_or(line);
+    if let Some((position, word)) = word_at(line, ply) {
+        let word = &word[..word.floor_char_boundary(SHOWN)];
+        if let Ok(nearest) = nearest_to(alloc, &position, word) {
+            let _ = write_moves(word, &nearest, &mut hint);
+        }
+    }
+    hint
+}

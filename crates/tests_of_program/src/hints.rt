@@ -1,0 +1,109 @@
+//! What is said on a terminal behind a refusal.
+
+use pg_fen::Diagram;
+use pg_hints::{is_fen_in_words, on_diagram, on_known, on_length, on_limit, on_move, packing_of};
+use std::process::Abort;
+
+// A text that is no diagram, and what is wrong with it.
+const DIAGRAMS: &str =
+    "rnbqkbnr/pppppppp/9/8/8/8/PPPPPPPP/RNBQKBNR => rank 6 is 1 squares wide, not 8
+rnbqkbnr/pppppppp/8/8/7/8/PPPPPPPP/RNBQKBNR => rank 4 is 7 squares wide, not 8
+rnbqkbnr/pppppppp/8/8/8/8/PPPPPPPPP/RNBQKBNR => rank 2 is 9 squares wide, not 8
+8/8 => 2 ranks; a board has 8
+rnbqkbnr/pppppppp/8/8/8/8/PPPPPPPP/RNBQKBNX => 'X' in rank 1; men are KQRBNP and kqrbnp
+rnbqkbnr/pppppppp/8/3é4/8/8/PPPPPPPP/RNBQKBNR => 'é' in rank 5; men are KQRBNP and kqrbnp
+rnbqqbnr/pppppppp/8/8/8/8/PPPPPPPP/RNBQKBKR => white has 2, black 0
+8/8/8/8/8/8/8/8 w - - => fields: 4; a diagram has 1, a FEN 6
+4k3/8/8/8/8/8/8/4K3 x - - 0 1 => ";
+
+// What is said of a text that is refused as a diagram.
+fn check_diagram(rt: &impl Abort, row: &str) {
+    let (text, wanted) = row.split_once(" => ").expect(rt, row);
+    let Err(fault) = Diagram::read(text) else {
+        panic!(rt; "{row}");
+    };
+    assert_eq!(rt; on_diagram(text, fault).as_str(), wanted);
+}
+
+#[test]
+fn hints_on_diagrams(rt: HostRuntime) {
+    for row in DIAGRAMS.lines() {
+        check_diagram(&rt, row);
+    }
+}
+
+// A list, of which a slash parts the lines, the line and the ply of a word, and what is said of it: castling, promotion and
+// a capture in passing too, for either side.
+const MOVES: &str = "1. e4 e5 2. Nf9 | 1 | 3 => the word is \"Nf9\"; legal there: Nf3, Nc3, Qf3
+e4 d5/1.e4 d5 2.ed5 Dxd5 | 2 | 4 => the word is \"Dxd5\"; legal there: Qxd5, b5, c5
+1. e3 e6 2. Nf3 Nf6 3. Be2 Be7 4. OO | 1 | 7 => the word is \"OO\"; legal there: O-O, a3, a4
+1. e4 a6 2. e5 d5 3. exd6ep.. | 1 | 5 => the word is \"exd6ep..\"; legal there: exd6, Bxa6, e6
+h4 g5 hxg5 a6 g6 b6 gxh7 c6 hxg8=K | 1 | 9 => the word is \"hxg8=K\"; legal there: hxg8=N, hxg8=B, hxg8=R
+a3 h5 b3 h4 c3 h3 d3 hxg2 e3 gxh1 | 1 | 10 => the word is \"gxh1\"; legal there: gxh1=N, gxh1=B, gxh1=R
+f3 e5 g4 Qh4# a3 | 1 | 5 => the word is \"a3\"; no move is legal there
+e4 | 2 | 1 => 
+e4 | 1 | 2 => 
+x e4 | 1 | 2 => ";
+
+// What is said of a word of a list.
+fn check_move<R: Abort + AllocGlobal>(rt: &R, row: &str) {
+    let (asked, wanted) = row.split_once(" => ").expect(rt, row);
+    let mut fields = asked.split(" | ");
+    let list = fields.next().unwrap_or("").replace(rt.alloc(), '/', "\n");
+    let list = list.expect(rt, row);
+    let line = fields.next().unwrap_or("").parse().expect(rt, row);
+    let ply = fields.next().unwrap_or("").parse().expect(rt, row);
+    let said = on_move(rt.alloc(), list.as_str(), line, ply);
+    assert_eq!(rt; said.as_str(), wanted);
+}
+
+#[test]
+fn hints_on_moves(rt: HostRuntime) {
+    for row in MOVES.lines() {
+        check_move(&rt, row);
+    }
+}
+
+#[test]
+fn hints_on_searches(rt: HostRuntime) {
+    assert_eq!(rt;
+        on_limit(1000, 14, 17).as_str(),
+        "1000 nodes, tree 7.0 of 8.5"
+    );
+    assert_eq!(rt;
+        on_limit(u64::MAX, 128, 128).as_str(),
+        "18446744073709551615 nodes, tree 64.0 of 64.0"
+    );
+    assert_eq!(rt; on_known(0).as_str(), "no game known");
+    assert_eq!(rt; on_known(1).as_str(), "1 game known");
+    assert_eq!(rt; on_known(4096).as_str(), "4096 games known: not sound");
+    assert_eq!(rt; on_length(5).as_str(), "try the length 2.5");
+}
+
+#[test]
+fn packed_files(rt: HostRuntime) {
+    assert_eq!(rt; packing_of(b"\xfd7zXZ\0"), Some("xz"));
+    assert_eq!(rt; packing_of(b"\x1f\x8b\x08\0\0\0"), Some("gzip"));
+    assert_eq!(rt; packing_of(b"\x28\xb5\x2f\xfd\0\0"), Some("zstd"));
+    assert_eq!(rt; packing_of(b"BZh91A"), Some("bzip2"));
+    assert_eq!(rt; packing_of(b"PK\x03\x04\0\0"), Some("zip"));
+    assert_eq!(rt; packing_of(b"PGC2\x08$"), None);
+}
+
+// Whether words that spaces part have a FEN in pieces.
+fn is_in_words<R: Abort + AllocGlobal>(rt: &R, text: &str) -> bool {
+    let mut words = Vec::new(rt.alloc());
+    for word in text.split(' ') {
+        let word = String::from_str(rt.alloc(), word).expect(rt, text);
+        assert!(rt; words.push(word).is_ok());
+    }
+    is_fen_in_words(words.as_slice())
+}
+
+#[test]
+fn fens_that_are_not_quoted(rt: HostRuntime) {
+    assert!(rt; is_in_words(&rt, "pg moves 8/8/8/8/8/8/8/8 w - - 0 1"));
+    assert!(rt; is_in_words(&rt, "pg count 8/8/8/8/8/8/8/8 b - - 0 1 4"));
+    assert!(rt; !is_in_words(&rt, "pg check 8/8/8/8/8/8/8/8 4.0 w"));
+    assert!(rt; !is_in_words(&rt, "pg check w 8/8/8/8/8/8/8/8"));
+}
