@@ -24,7 +24,9 @@ use crate::refusals::{BAD_INPUT, DONE, Refusal, refuse};
 use crate::screen::Screen;
 use clap::ArgMatches;
 use clap::error::ErrorKind;
+use pg_fen::Diagram;
 use pg_report::{Bound, Captures, PawnFiles, Promotions, Travel};
+use pg_travel::{Rows, TravelByRows};
 use pg_words::pg;
 use std::fs::File;
 use std::io::IsTerminal;
@@ -78,6 +80,17 @@ fn lend<R: Runtime + AllocGlobal>(
     }
 }
 
+// The rows of the diagram that the words of a command spell, where it also names a certificate: the
+// bound by travel is asked often then, and is faster by them.
+fn rows_of(words: &ArgMatches<'_>) -> Option<Rows> {
+    let (_, inner) = words.subcommand()?;
+    inner.get_str("CERT")?;
+    match Diagram::read(inner.get_str("DIAGRAM")?) {
+        Ok(diagram) => Some(Rows::new(&diagram)),
+        Err(_) => None,
+    }
+}
+
 // Does what the words of a command say, with the four bounds in the order of their codes, and gives
 // the status; None where a growth was refused before.
 fn run<R: Runtime + AllocGlobal>(rt: &R, words: &ArgMatches<'_>, screen: Screen) -> Option<u8> {
@@ -90,8 +103,15 @@ fn run<R: Runtime + AllocGlobal>(rt: &R, words: &ArgMatches<'_>, screen: Screen)
     let Ok(pawn_files) = Box::new(rt.alloc(), PawnFiles) else {
         return None;
     };
-    let Ok(travel) = Box::new(rt.alloc(), Travel) else {
-        return None;
+    let travel: Box<dyn Bound> = match rows_of(words) {
+        Some(rows) => match Box::new(rt.alloc(), TravelByRows { rows }) {
+            Ok(travel) => travel,
+            Err(_) => return None,
+        },
+        None => match Box::new(rt.alloc(), Travel) {
+            Ok(travel) => travel,
+            Err(_) => return None,
+        },
     };
     let four: [Box<dyn Bound>; 4] = [captures, promotions, pawn_files, travel];
     match Vec::from_array(rt.alloc(), four) {
