@@ -84,13 +84,15 @@ fn readings_that_fail(rt: HostRuntime) {
 #[test]
 fn readings_that_differ(rt: HostRuntime) {
     let bytes = bytes_of(&rt, SHOWN);
+    let mut other = bytes_of(&rt, SHOWN);
+    other.truncate(30);
     let mut out = ToWrite::new(Vec::new(rt.alloc()));
     let said = show(
         &rt,
         SHOWN,
         &mut FromRead::new(bytes.as_slice()),
         &mut FromRead::new(bytes.as_slice()),
-        &mut FromRead::new(&bytes.as_slice()[..30]),
+        &mut FromRead::new(other.as_slice()),
         &mut out,
     );
     assert_eq!(rt; said.as_str(), "()");
