@@ -1,7 +1,6 @@
 //! Texts of games.
 ghost use Rattle.std.specs.Prelude.{◌≡◌, ◌≢◌, ◌↔◌, ◌∷◌, ◌++◌, IsTrue, MatchResult, IfOk, IfErr, OnOk, OnErr, []};
-ghost use Rattle.pg_position.specs.Step.{Legal};
-ghost use Rattle.pg_moves.specs.Moves.{IsLegal};
+ghost use Rattle.pg_position.specs.Step.{Legal, IsLegal};
 ghost use Rattle.pg_san.specs.GameText.{words, dash};
 ghost use Rattle.pg_san.specs.Listing.{AreGame, IsGameLine, IsLineFault, IsListing, IsTextFault};
 ghost use Rattle.pg_san.specs.numbers.LineReading.{IsWordsFault, IsGameFault, IsLineRead};

@@ -2,8 +2,7 @@
 ghost use Rattle.std.specs.Prelude.{◌≡◌, ◌≢◌, ◌↔◌, IsTrue, IfSome, Some};
 ghost use Rattle.pg_board.specs.Squares.{file, rank};
 ghost use Rattle.pg_position.specs.Position.{Stands, IsPosition};
-ghost use Rattle.pg_position.specs.Step.{IsEnemy, IsEnPassant};
-ghost use Rattle.pg_moves.specs.Moves.{IsLegal};
+ghost use Rattle.pg_position.specs.Step.{IsLegal, IsEnemy, IsEnPassant};
 ghost use Rattle.pg_san.specs.Matching.{IsCapturing, FitsCore, FitsForm, FitsAs, Fits};
 
 use crate::castling::castles;

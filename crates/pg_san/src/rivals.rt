@@ -1,7 +1,7 @@
 //! The other men that could make a move to the same square, and what tells a man apart from them.
 ghost use Rattle.std.specs.Prelude.{◌≡◌, ◌≢◌, ◌↔◌, IsTrue};
 ghost use Rattle.pg_position.specs.Position.{Stands};
-ghost use Rattle.pg_moves.specs.Moves.{IsLegal};
+ghost use Rattle.pg_position.specs.Step.{IsLegal};
 ghost use Rattle.pg_moves.specs.Targets.{plain_move};
 ghost use Rattle.pg_san.specs.Writing.{HasRival, IsHint, Counts, IsRivalOn};
 

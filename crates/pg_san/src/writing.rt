@@ -1,7 +1,7 @@
 //! Writing a legal move.
 ghost use Rattle.std.specs.Prelude.{◌≡◌, ◌≢◌};
 ghost use Rattle.pg_position.specs.Position.{Stands};
-ghost use Rattle.pg_moves.specs.Moves.{IsLegal};
+ghost use Rattle.pg_position.specs.Step.{IsLegal};
 ghost use Rattle.pg_san.specs.Writing.{IsCore, IsForm, IsHint, IsPawnHint, IsSignOf, IsSan};
 
 use crate::castling::castles;
