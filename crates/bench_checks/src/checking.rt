@@ -4,6 +4,7 @@ use crate::fault::Fault;
 use crate::transposed;
 use pg_captures::Bound;
 use pg_certificate::FromRead;
+use pg_certificate::format::EXPAND;
 use pg_checker::{check, pass_over};
 use pg_fen::{Diagram, Length, read_position};
 use pg_moves::LegalMoves;
@@ -28,7 +29,7 @@ fn certificate(alloc: Global, diagram: &Diagram, length: Length) -> Result<Vec<u
     bytes.push(length.plies())?;
     bytes.extend_from_slice(&diagram.packed())?;
     for _ in 0..9_766 {
-        bytes.push(1)?;
+        bytes.push(EXPAND)?;
     }
     Ok(bytes)
 }

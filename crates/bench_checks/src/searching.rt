@@ -2,6 +2,7 @@
 
 use crate::fault::Fault;
 use pg_captures::{Bound, Captures, Promotions};
+use pg_certificate::format::MOST_NAMED;
 use pg_certificate::{FromRead, Record, RecordReader, ToWrite};
 use pg_checker::check;
 use pg_fen::{Diagram, Length};
@@ -123,7 +124,7 @@ fn holds(
         bounds.as_slice(),
         &mut source,
         nodes,
-        4_194_304,
+        MOST_NAMED,
     );
     Ok(answer.is_ok())
 }

@@ -1,5 +1,6 @@
 //! A certificate in which positions are met again.
 
+use pg_certificate::format::{EXPAND, NAMED, REF};
 use pg_fen::{Diagram, Length};
 use pg_moves::legal_moves;
 use pg_position::Position;
@@ -17,12 +18,12 @@ fn put_node(
         .position(|earlier| *earlier == position);
     match place {
         Some(number) => {
-            bytes.push(3)?;
+            bytes.push(REF)?;
             let number = u32::try_from(number).unwrap_or(u32::MAX);
             bytes.extend_from_slice(&number.to_be_bytes())?;
         }
         None => {
-            bytes.push(5)?;
+            bytes.push(NAMED)?;
             met.push(position)?;
         }
     }
@@ -33,13 +34,13 @@ fn put_node(
 fn put_tree(alloc: Global, bytes: &mut Vec<u8>) -> anyhow::Result<()> {
     let array = Position::array();
     let mut met = Vec::new(alloc);
-    bytes.push(1)?;
+    bytes.push(EXPAND)?;
     for first in &legal_moves(alloc, &array)? {
         let after_first = array.play(*first)?;
-        bytes.push(1)?;
+        bytes.push(EXPAND)?;
         for second in &legal_moves(alloc, &after_first)? {
             let after_second = after_first.play(*second)?;
-            bytes.push(1)?;
+            bytes.push(EXPAND)?;
             for third in &legal_moves(alloc, &after_second)? {
                 put_node(bytes, &mut met, after_second.play(*third)?)?;
             }
@@ -60,7 +61,7 @@ pub(crate) fn certificate(
     bytes.push(length.plies())?;
     bytes.extend_from_slice(&diagram.packed())?;
     for _ in 0..1 + 21 + 421 {
-        bytes.push(1)?;
+        bytes.push(EXPAND)?;
     }
     put_tree(alloc, &mut bytes)?;
     Ok(bytes)

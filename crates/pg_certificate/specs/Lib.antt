@@ -3,5 +3,6 @@ pub mod Reading
 pub mod Reader
 pub mod Writer
 pub mod Stream
+pub mod Counting
 pub mod Laws
 pub mod numbers

@@ -1,5 +1,5 @@
 -- What a reader of records holds, and what its calls answer and pull.
-use Rattle.std.specs.Prelude.{◌≡◌, ℕ, ◌+◌, ◌≤◌, Bool, true, false, List, length, Option, Some, None, IfSome, Result, Ok, Err}
+use Rattle.std.specs.Prelude.{◌≡◌, ℕ, ◌+◌, ◌≤◌, Bool, true, false, List, [], length, Option, Some, None, IfSome, Result, Ok, Err, OnOk, OnErr}
 use Rattle.std.specs.Io.KnownBytes.{prepend_known}
 use Rattle.pg_certificate.specs.declared.fault.ReadFault.{ReadFault}
 use Rattle.pg_certificate.specs.declared.fault.ReadFault.TheVariants.{Read, Failed}
@@ -44,3 +44,16 @@ RefusesOnce before after source (Err e) = (before ≡ false) × (after ≡ true)
 abbrev pub PullsAtMost : {A : Type 0} → ℕ → Option (List ℕ) → Option (List ℕ) → Result A ReadFault → Type 0
 PullsAtMost n before left (Err Read) = Unit {0}
 PullsAtMost n before left answer = IfSome before (λ bytes. IfSome left (λ rest. length bytes ≤ length rest + (4096 + n)))
+
+-- what any call of a reader keeps, by the reader and the source before and after it, and what it answers
+pub record IsCall {S A : Type 0} (has_failed : S → Bool) (old new : ReaderState) (source_old source_new : S) (result : Result A ReadFault) : Type 0 where
+  -- a refusal is the first, or Failed
+  pub refuses : RefusesOnce old.failed new.failed (has_failed source_new) result
+  -- an answer leaves a source that runs running
+  pub runs : OnOk result (has_failed source_old ≡ false → has_failed source_new ≡ false)
+  -- a refusal drops what was held
+  pub emptied : OnErr result (new.held ≡ [])
+  -- no more than one buffer is held
+  pub room : length new.held ≤ 4096
+  -- a reader that had refused leaves the source as it is
+  pub untouched : old.failed ≡ true → source_new ≡ source_old

@@ -1,9 +1,12 @@
 //! What reading and spelling have to do with one another. Each law is a function that does nothing:
 //! its contract is the law.
-ghost use Rattle.std.specs.Prelude.{List, ℕ};
+ghost use Rattle.std.specs.Prelude.{◌≡◌, List, ℕ};
+ghost use Rattle.pg_certificate.specs.declared.format.TheConstants.{LONGEST_RECORD};
+ghost use Rattle.pg_certificate.specs.Spelling.{longest_record};
 ghost use Rattle.pg_certificate.specs.Laws.{RecordsAreReadAgain, WhatIsReadIsSpelled, NoSpellingBeginsAnother, NoSpellingIsLonger};
 ghost use Rattle.pg_certificate.specs.Laws.{TruncatedWhereCutShort, UnknownWhereNoneGoesOn};
 ghost use Rattle.pg_certificate.specs.Laws.{HeadersAreReadAgain, WhatIsReadIsAHeader, RefusesWhatIsNoHeader};
+ghost use Rattle.pg_certificate.specs.Counting.{EachRecordIsCounted};
 
 /// Bytes that begin with the spelling of a record of a version are read as that record by that
 /// version, and what follows is left.
@@ -23,9 +26,12 @@ pub fn no_spelling_begins_another()
     ensures { NoSpellingBeginsAnother }
 {}
 
-/// No record has more bytes than the longest.
+/// No record has more bytes than the longest, whose length is [`format::LONGEST_RECORD`].
+///
+/// [`format::LONGEST_RECORD`]: crate::format::LONGEST_RECORD
 pub fn no_spelling_is_longer()
-    ensures { NoSpellingIsLonger }
+    ensures longest { NoSpellingIsLonger }
+    ensures length { longest_record ≡ LONGEST_RECORD }
 {}
 
 /// Reading a record answers Truncated exactly where the bytes are less than a whole one.
@@ -53,4 +59,10 @@ pub fn what_is_read_is_a_header()
 /// more that begin with no header's spelling.
 pub fn refuses_what_is_no_header()
     ensures { (bytes : List ℕ) → RefusesWhatIsNoHeader bytes }
+{}
+
+/// A count of records that a header and records pass by, in whatever parts, is the number of those
+/// records, and counts the next one from its first byte on.
+pub fn each_record_is_counted()
+    ensures { EachRecordIsCounted }
 {}

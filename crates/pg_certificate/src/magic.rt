@@ -1,11 +1,9 @@
-//! The 37 bytes of a header.
+//! A header, of its bytes.
 ghost use Rattle.std.specs.Prelude.{◌≡◌};
 ghost use Rattle.pg_certificate.specs.Reading.{version_named, version_of, header_of};
 
+use crate::format::HEADER_LENGTH;
 use crate::record::Header;
-
-/// The length of a header, in bytes.
-pub const HEADER_LENGTH: usize = 37;
 
 // The version that a digit stands for; none where there is no such version.
 fn version_named(digit: u8) -> Option<u8>

@@ -6,21 +6,19 @@ ghost use Rattle.std.specs.Int.{w32, to_be_bytes};
 ghost use Rattle.pg_certificate.specs.Spelling.{record_of, spelling, header_spelling, longest_record, IsHeader, IsRecord, IsRecordOf, PricesStay};
 ghost use Rattle.pg_certificate.specs.Reading.{more_at, byte_at, byte_from, exactly, number_at, outline_at, lists_at, priced_at, header_at, record_at, end_at};
 ghost use Rattle.pg_certificate.specs.numbers.Outlines.{IsOutline, AreListsOf, outline_spelling, lists_spelling};
-ghost use Rattle.pg_certificate.specs.Reader.{to_come, Reads, ReadsAs, RefusesOnce, PullsAtMost};
+ghost use Rattle.pg_certificate.specs.Reader.{to_come, Reads, ReadsAs, IsCall, PullsAtMost};
 
 use crate::fault::ReadFault;
-use crate::magic::{HEADER_LENGTH, header_of};
+use crate::format::{
+    CUT, EXPAND, HEADER_LENGTH, LONGEST_LISTS, MOST_LISTS, MOST_PRICES, NAMED, NUMBER_LENGTH,
+    PRICED, REF,
+};
+use crate::magic::header_of;
 use crate::outline::{Outline, color_of, prices_of};
 use crate::record::{Bare, Header, Record};
-use crate::source::{Refused, Source};
+use crate::source::{CAPACITY, Refused, Source};
 use pg_price_lists::Prices;
 use std::marker::Model;
-
-// The room of the buffer, in bytes.
-const CAPACITY: usize = 4096;
-
-// The most bytes that the price lists of a record have: three lists of 64 sources and 64 targets.
-const LONGEST_LISTS: usize = 3 * (64 + 64);
 
 /// Reads a certificate: its header first, then its records. The reader holds up to 4,096 bytes that
 /// it has pulled and not yet read, so each call is to be given the same source.
@@ -80,13 +78,9 @@ impl RecordReader {
             (to_come self.old (S.left source.old)) (to_come self.new (S.left source.new))
             (header_spelling h)) }
         ensures spelled { IfOk result (λ h. IsHeader h) }
-        ensures refuses { RefusesOnce self.old.failed self.new.failed (S.has_failed source.new) result }
-        ensures runs { OnOk result (S.has_failed source.old ≡ false → S.has_failed source.new ≡ false) }
+        ensures call { IsCall S.has_failed self.old self.new source.old source.new result }
         ensures pulls { PullsAtMost 37 (to_come self.old (S.left source.old)) (S.left source.new) result }
-        ensures room { length self.new.held ≤ 4096 }
-        ensures emptied { OnErr result (self.new.held ≡ []) }
         ensures version { IfOk result (λ h. self.new.version ≡ h.version) }
-        ensures untouched { self.old.failed ≡ true → source.new ≡ source.old }
     {
         let mut text = [0; HEADER_LENGTH];
         self.exact(&mut text, source)?;
@@ -116,13 +110,9 @@ impl RecordReader {
             (to_come self.old (S.left source.old)) (to_come self.new (S.left source.new))
             (spelling x)) }
         ensures spelled { IfOk result (λ x. IsRecordOf self.old.version x) }
-        ensures refuses { RefusesOnce self.old.failed self.new.failed (S.has_failed source.new) result }
-        ensures runs { OnOk result (S.has_failed source.old ≡ false → S.has_failed source.new ≡ false) }
+        ensures call { IsCall S.has_failed self.old self.new source.old source.new result }
         ensures pulls { PullsAtMost longest_record (to_come self.old (S.left source.old)) (S.left source.new) result }
-        ensures room { length self.new.held ≤ 4096 }
-        ensures emptied { OnErr result (self.new.held ≡ []) }
         ensures version { self.new.version ≡ self.old.version }
-        ensures untouched { self.old.failed ≡ true → source.new ≡ source.old }
     {
         let mut prices = Prices::new(&[], &[]).unwrap();
         match self.next_bare(&mut prices, source)? {
@@ -157,26 +147,22 @@ impl RecordReader {
         ensures spelled { IfOk result (λ x. IsRecordOf self.old.version (record_of prices.new x)) }
         ensures stay { IfOk result (λ x. PricesStay x prices.old prices.new) }
         ensures refused { OnErr result (prices.new ≡ prices.old) }
-        ensures refuses { RefusesOnce self.old.failed self.new.failed (S.has_failed source.new) result }
-        ensures runs { OnOk result (S.has_failed source.old ≡ false → S.has_failed source.new ≡ false) }
+        ensures call { IsCall S.has_failed self.old self.new source.old source.new result }
         ensures pulls { PullsAtMost longest_record (to_come self.old (S.left source.old)) (S.left source.new) result }
-        ensures room { length self.new.held ≤ 4096 }
-        ensures emptied { OnErr result (self.new.held ≡ []) }
         ensures version { self.new.version ≡ self.old.version }
-        ensures untouched { self.old.failed ≡ true → source.new ≡ source.old }
     {
         match self.byte(source)? {
-            1 => Ok(Bare::Expand { named: false }),
-            5 => Ok(Bare::Expand { named: true }),
-            2 => {
+            EXPAND => Ok(Bare::Expand { named: false }),
+            NAMED => Ok(Bare::Expand { named: true }),
+            CUT => {
                 let code = self.byte(source)?;
                 Ok(Bare::Cut(code))
             }
-            3 => {
+            REF => {
                 let number = self.number(source)?;
                 Ok(Bare::Ref(number))
             }
-            6 if self.version == 2 => self.priced(prices, source),
+            PRICED if self.version == 2 => self.priced(prices, source),
             unknown => {
                 self.refuse();
                 Err(ReadFault::UnknownRecord(unknown))
@@ -194,14 +180,10 @@ impl RecordReader {
         ensures kept { OnOk result (Keeps
             (to_come self.old (S.left source.old)) (to_come self.new (S.left source.new))) }
         ensures end { IfOk result (λ more. more ≡ false → IsAtEnd (to_come self.new (S.left source.new))) }
-        ensures refuses { RefusesOnce self.old.failed self.new.failed (S.has_failed source.new) result }
-        ensures runs { OnOk result (S.has_failed source.old ≡ false → S.has_failed source.new ≡ false) }
+        ensures call { IsCall S.has_failed self.old self.new source.old source.new result }
         ensures ended { IfOk result (λ more. more ≡ false → S.has_failed source.new ≡ false) }
         ensures pulls { PullsAtMost 0 (to_come self.old (S.left source.old)) (S.left source.new) result }
-        ensures room { length self.new.held ≤ 4096 }
-        ensures emptied { OnErr result (self.new.held ≡ []) }
         ensures version { self.new.version ≡ self.old.version }
-        ensures untouched { self.old.failed ≡ true → source.new ≡ source.old }
     {
         if self.start < self.end {
             return Ok(true);
@@ -217,13 +199,10 @@ impl RecordReader {
     pub fn end<S: Source>(&mut self, source: &mut S) -> Result<(), ReadFault>
         ensures bytes { ReadsAs (λ _. tt) end_at
             (to_come self.old (S.left source.old)) (to_come self.new (S.left source.new)) result }
-        ensures refuses { RefusesOnce self.old.failed self.new.failed (S.has_failed source.new) result }
+        ensures call { IsCall S.has_failed self.old self.new source.old source.new result }
         ensures runs { OnOk result (S.has_failed source.new ≡ false) }
         ensures pulls { PullsAtMost 0 (to_come self.old (S.left source.old)) (S.left source.new) result }
-        ensures room { length self.new.held ≤ 4096 }
-        ensures emptied { OnErr result (self.new.held ≡ []) }
         ensures version { self.new.version ≡ self.old.version }
-        ensures untouched { self.old.failed ≡ true → source.new ≡ source.old }
     {
         if self.more(source)? {
             self.refuse();
@@ -280,14 +259,11 @@ impl RecordReader {
         ensures kept { OnOk result (Keeps
             (to_come self.old (S.left source.old)) (to_come self.new (S.left source.new))) }
         ensures end { IfOk result (λ more. more ≡ false → IsAtEnd (to_come self.new (S.left source.new))) }
-        ensures refuses { RefusesOnce self.old.failed self.new.failed (S.has_failed source.new) result }
+        ensures call { IsCall S.has_failed self.old self.new source.old source.new result }
         ensures runs { OnOk result (S.has_failed source.new ≡ false) }
         ensures pulls { PullsAtMost 0 (to_come self.old (S.left source.old)) (S.left source.new) result }
-        ensures room { length self.new.held ≤ 4096 }
         ensures held { IfOk result (λ more. IsTrue more ↔ 0 < length self.new.held) }
-        ensures emptied { OnErr result (self.new.held ≡ []) }
         ensures version { self.new.version ≡ self.old.version }
-        ensures untouched { self.old.failed ≡ true → source.new ≡ source.old }
     {
         if self.failed {
             return Err(ReadFault::Failed);
@@ -312,13 +288,9 @@ impl RecordReader {
         ensures text { IfOk result (λ b. Consumes
             (to_come self.old (S.left source.old)) (to_come self.new (S.left source.new))
             (b ∷ [])) }
-        ensures refuses { RefusesOnce self.old.failed self.new.failed (S.has_failed source.new) result }
-        ensures runs { OnOk result (S.has_failed source.old ≡ false → S.has_failed source.new ≡ false) }
+        ensures call { IsCall S.has_failed self.old self.new source.old source.new result }
         ensures pulls { PullsAtMost 1 (to_come self.old (S.left source.old)) (S.left source.new) result }
-        ensures room { length self.new.held ≤ 4096 }
-        ensures emptied { OnErr result (self.new.held ≡ []) }
         ensures version { self.new.version ≡ self.old.version }
-        ensures untouched { self.old.failed ≡ true → source.new ≡ source.old }
     {
         if self.start < self.end {
             return Ok(self.pop());
@@ -338,14 +310,10 @@ impl RecordReader {
         ensures text { OnOk result (Consumes
             (to_come self.old (S.left source.old)) (to_come self.new (S.left source.new)) out.new) }
         ensures fits { OnOk result ((k : ℕ) → k < length out.new → slice_index out.new k < 2 ^ 8) }
-        ensures refuses { RefusesOnce self.old.failed self.new.failed (S.has_failed source.new) result }
-        ensures runs { OnOk result (S.has_failed source.old ≡ false → S.has_failed source.new ≡ false) }
+        ensures call { IsCall S.has_failed self.old self.new source.old source.new result }
         ensures pulls { PullsAtMost (length out.old)
             (to_come self.old (S.left source.old)) (S.left source.new) result }
-        ensures room { length self.new.held ≤ 4096 }
-        ensures emptied { OnErr result (self.new.held ≡ []) }
         ensures version { self.new.version ≡ self.old.version }
-        ensures untouched { self.old.failed ≡ true → source.new ≡ source.old }
     {
         if out.len() <= self.end - self.start {
             self.take(out);
@@ -364,15 +332,11 @@ impl RecordReader {
         ensures text { IfOk result (λ n. Consumes
             (to_come self.old (S.left source.old)) (to_come self.new (S.left source.new))
             (to_be_bytes w32 n)) }
-        ensures refuses { RefusesOnce self.old.failed self.new.failed (S.has_failed source.new) result }
-        ensures runs { OnOk result (S.has_failed source.old ≡ false → S.has_failed source.new ≡ false) }
+        ensures call { IsCall S.has_failed self.old self.new source.old source.new result }
         ensures pulls { PullsAtMost 4 (to_come self.old (S.left source.old)) (S.left source.new) result }
-        ensures room { length self.new.held ≤ 4096 }
-        ensures emptied { OnErr result (self.new.held ≡ []) }
         ensures version { self.new.version ≡ self.old.version }
-        ensures untouched { self.old.failed ≡ true → source.new ≡ source.old }
     {
-        let mut bytes = [0; 4];
+        let mut bytes = [0; NUMBER_LENGTH];
         self.exact(&mut bytes, source)?;
         Ok(u32::from_be_bytes([bytes[0], bytes[1], bytes[2], bytes[3]]))
     }
@@ -385,13 +349,9 @@ impl RecordReader {
             (to_come self.old (S.left source.old)) (to_come self.new (S.left source.new))
             (b ∷ [])) }
         ensures within { IfOk result (λ b. (least ≤ b) × (b ≤ most)) }
-        ensures refuses { RefusesOnce self.old.failed self.new.failed (S.has_failed source.new) result }
-        ensures runs { OnOk result (S.has_failed source.old ≡ false → S.has_failed source.new ≡ false) }
+        ensures call { IsCall S.has_failed self.old self.new source.old source.new result }
         ensures pulls { PullsAtMost 1 (to_come self.old (S.left source.old)) (S.left source.new) result }
-        ensures room { length self.new.held ≤ 4096 }
-        ensures emptied { OnErr result (self.new.held ≡ []) }
         ensures version { self.new.version ≡ self.old.version }
-        ensures untouched { self.old.failed ≡ true → source.new ≡ source.old }
     {
         let byte = self.byte(source)?;
         if byte < least || most < byte {
@@ -409,19 +369,15 @@ impl RecordReader {
             (to_come self.old (S.left source.old)) (to_come self.new (S.left source.new))
             (outline_spelling o)) }
         ensures fits { IfOk result (λ o. IsOutline o) }
-        ensures refuses { RefusesOnce self.old.failed self.new.failed (S.has_failed source.new) result }
-        ensures runs { OnOk result (S.has_failed source.old ≡ false → S.has_failed source.new ≡ false) }
+        ensures call { IsCall S.has_failed self.old self.new source.old source.new result }
         ensures pulls { PullsAtMost 5 (to_come self.old (S.left source.old)) (S.left source.new) result }
-        ensures room { length self.new.held ≤ 4096 }
-        ensures emptied { OnErr result (self.new.held ≡ []) }
         ensures version { self.new.version ≡ self.old.version }
-        ensures untouched { self.old.failed ≡ true → source.new ≡ source.old }
     {
         let code = self.byte(source)?;
         let color = self.byte_from(0, 1, source)?;
-        let ways = self.byte_from(1, 3, source)?;
-        let sources = self.byte_from(0, 64, source)?;
-        let targets = self.byte_from(0, 64, source)?;
+        let ways = self.byte_from(1, MOST_LISTS as u8, source)?;
+        let sources = self.byte_from(0, MOST_PRICES as u8, source)?;
+        let targets = self.byte_from(0, MOST_PRICES as u8, source)?;
         Ok(Outline {
             code,
             color: color_of(color),
@@ -440,14 +396,10 @@ impl RecordReader {
         ensures text { OnOk result (Consumes
             (to_come self.old (S.left source.old)) (to_come self.new (S.left source.new)) out.new) }
         ensures fits { OnOk result ((k : ℕ) → k < length out.new → slice_index out.new k < 2 ^ 8) }
-        ensures refuses { RefusesOnce self.old.failed self.new.failed (S.has_failed source.new) result }
-        ensures runs { OnOk result (S.has_failed source.old ≡ false → S.has_failed source.new ≡ false) }
+        ensures call { IsCall S.has_failed self.old self.new source.old source.new result }
         ensures pulls { PullsAtMost (length out.old)
             (to_come self.old (S.left source.old)) (S.left source.new) result }
-        ensures room { length self.new.held ≤ 4096 }
-        ensures emptied { OnErr result (self.new.held ≡ []) }
         ensures version { self.new.version ≡ self.old.version }
-        ensures untouched { self.old.failed ≡ true → source.new ≡ source.old }
     {
         if out.is_empty() {
             return Ok(());
@@ -472,13 +424,9 @@ impl RecordReader {
             (to_come self.old (S.left source.old)) (to_come self.new (S.left source.new))
             (lists_spelling ls)) }
         ensures fits { IfOk result (λ ls. AreListsOf outline.now ls) }
-        ensures refuses { RefusesOnce self.old.failed self.new.failed (S.has_failed source.new) result }
-        ensures runs { OnOk result (S.has_failed source.old ≡ false → S.has_failed source.new ≡ false) }
+        ensures call { IsCall S.has_failed self.old self.new source.old source.new result }
         ensures pulls { PullsAtMost (3 * (64 + 64)) (to_come self.old (S.left source.old)) (S.left source.new) result }
-        ensures room { length self.new.held ≤ 4096 }
-        ensures emptied { OnErr result (self.new.held ≡ []) }
         ensures version { self.new.version ≡ self.old.version }
-        ensures untouched { self.old.failed ≡ true → source.new ≡ source.old }
     {
         self.numbers(bytes, source)?;
         Ok(prices_of(bytes, outline))
@@ -495,13 +443,9 @@ impl RecordReader {
         ensures fits { IfOk result (λ x. IsRecord (record_of prices.new x)) }
         ensures stay { IfOk result (λ x. PricesStay x prices.old prices.new) }
         ensures refused { OnErr result (prices.new ≡ prices.old) }
-        ensures refuses { RefusesOnce self.old.failed self.new.failed (S.has_failed source.new) result }
-        ensures runs { OnOk result (S.has_failed source.old ≡ false → S.has_failed source.new ≡ false) }
+        ensures call { IsCall S.has_failed self.old self.new source.old source.new result }
         ensures pulls { PullsAtMost (5 + 3 * (64 + 64)) (to_come self.old (S.left source.old)) (S.left source.new) result }
-        ensures room { length self.new.held ≤ 4096 }
-        ensures emptied { OnErr result (self.new.held ≡ []) }
         ensures version { self.new.version ≡ self.old.version }
-        ensures untouched { self.old.failed ≡ true → source.new ≡ source.old }
     {
         let outline = self.outline(source)?;
         let mut room = [0; LONGEST_LISTS];

@@ -4,6 +4,9 @@ ghost use Rattle.std.specs.Io.KnownBytes.{Consumes, Appends, IsAtEnd};
 
 use thiserror::Error;
 
+// The room of a reader's buffer, and of a writer's, in bytes.
+pub(crate) const CAPACITY: usize = 4096;
+
 /// A source or a sink has failed.
 #[derive(Clone, Copy, Debug, PartialEq, Eq, Error)]
 #[error("the source or the sink has failed")]

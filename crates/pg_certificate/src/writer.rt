@@ -5,14 +5,12 @@ ghost use Rattle.pg_certificate.specs.Spelling.{spelling, header_spelling, price
 ghost use Rattle.pg_certificate.specs.Writer.{written, RefusesOnce};
 
 use crate::fault::WriteFault;
+use crate::format::{CUT, EXPAND, NAMED, PRICED, REF};
 use crate::outline::color_byte;
 use crate::record::{Header, Record};
-use crate::source::{Refused, Sink};
+use crate::source::{CAPACITY, Refused, Sink};
 use pg_price_lists::Prices;
 use std::marker::Model;
-
-// The room of the buffer, in bytes.
-const CAPACITY: usize = 4096;
 
 /// Writes a certificate: its header first, then its records, and `finish` last. The writer holds up
 /// to 4,096 bytes before it pushes them, so each call is to be given the same sink.
@@ -83,14 +81,14 @@ impl RecordWriter {
         ensures untouched { self.old.failed ≡ true → sink.new ≡ sink.old }
     {
         match node {
-            Record::Expand { named: false } => self.byte(1, sink),
-            Record::Expand { named: true } => self.byte(5, sink),
+            Record::Expand { named: false } => self.byte(EXPAND, sink),
+            Record::Expand { named: true } => self.byte(NAMED, sink),
             Record::Cut(code) => {
-                self.byte(2, sink)?;
+                self.byte(CUT, sink)?;
                 self.byte(*code, sink)
             }
             Record::Ref(number) => {
-                self.byte(3, sink)?;
+                self.byte(REF, sink)?;
                 self.bytes(&number.to_be_bytes(), sink)
             }
             Record::Priced {
@@ -98,7 +96,7 @@ impl RecordWriter {
                 color,
                 prices,
             } => {
-                self.byte(6, sink)?;
+                self.byte(PRICED, sink)?;
                 self.byte(*code, sink)?;
                 self.byte(color_byte(*color), sink)?;
                 self.prices(prices, sink)

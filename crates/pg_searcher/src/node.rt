@@ -11,14 +11,12 @@ use crate::outlook::{Outlook, Plain};
 use crate::play::after;
 use crate::sides::{Sides, changes_of};
 use pg_board::{Color, Square};
+use pg_certificate::format::MOST_NAMED;
 use pg_certificate::{Record, Sink};
 use pg_position::{Move, Position};
 use pg_prices::{Needs, node_key};
 use pg_travel::Prices;
 use std::alloc::AllocError;
-
-// How many nodes are named at most.
-const MOST_NAMED: u32 = 4_194_304;
 
 // The key of a node.
 fn key_of(sides: &Sides, side: Color, passed: Option<Square>, left: u8) -> u64 {

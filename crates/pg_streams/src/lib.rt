@@ -14,5 +14,5 @@ pub use gathered::Gathered;
 pub use kept::Kept;
 pub use led::{LedLine, led_line};
 pub use line::{Cleared, Terminal};
-pub use progress::{RecordCount, Watched, line_of, watch_records};
+pub use progress::{Watched, line_of, watch_records};
 pub use runs::{CountLine, SearchLine, count_line, search_line};

@@ -3,83 +3,10 @@ ghost use Rattle.std.specs.Prelude.{◌≡◌, ◌≤◌};
 
 use crate::line::{Line, Terminal, WIDTH};
 use arrayvec::ArrayString;
-use pg_certificate::{FromRead, Refused, Source};
+use pg_certificate::{FromRead, RecordCount, Refused, Source};
 use std::fmt::Write;
 use std::io::{Eprint, Read};
 use std::time::Clock;
-
-// The bytes of a header, which are no record.
-const HEADER: u32 = 37;
-
-// The bytes of a record of prices that stand before its lists, the first one not counted.
-const PRICES_HEAD: u8 = 5;
-
-/// How many records of a certificate have passed by.
-#[derive(Clone, Copy)]
-pub struct RecordCount {
-    /// So many bytes more belong to the header or to the record that began last.
-    rest: u32,
-    /// So many bytes more stand before the lists of a record of prices.
-    head: u8,
-    /// How many lists that record has, as far as it is read, and how many sources each has.
-    lists: u8,
-    sources: u8,
-    pub records: u64,
-}
-
-impl RecordCount {
-    /// No record yet: the header comes first.
-    pub fn new() -> RecordCount {
-        RecordCount {
-            rest: HEADER,
-            head: 0,
-            lists: 0,
-            sources: 0,
-            records: 0,
-        }
-    }
-
-    // A byte of a record of prices that stands before its lists: code, colour, and the numbers of
-    // lists, sources and targets.
-    fn pass_head(&mut self, byte: u8) {
-        match self.head {
-            3 => self.lists = byte,
-            2 => self.sources = byte,
-            1 => {
-                let each = u32::from(self.sources).saturating_add(u32::from(byte));
-                self.rest = u32::from(self.lists).saturating_mul(each);
-            }
-            _ => {}
-        }
-        self.head = self.head.saturating_sub(1);
-    }
-
-    // Counts a byte more.
-    fn pass_byte(&mut self, byte: u8) {
-        if self.head > 0 {
-            self.pass_head(byte);
-            return;
-        }
-        if self.rest > 0 {
-            self.rest -= 1;
-            return;
-        }
-        self.records = self.records.saturating_add(1);
-        match byte {
-            2 => self.rest = 1,
-            3 => self.rest = 4,
-            6 => self.head = PRICES_HEAD,
-            _ => {}
-        }
-    }
-
-    /// Counts the records that begin in the next bytes of the certificate.
-    pub fn pass(&mut self, bytes: &[u8]) {
-        for byte in bytes {
-            self.pass_byte(*byte);
-        }
-    }
-}
 
 // How many hundredths of the limit a count is, 100 at most.
 pub(crate) fn share(count: u64, limit: u64) -> u64

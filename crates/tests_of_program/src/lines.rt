@@ -1,12 +1,12 @@
 //! The line on the terminal that says how far a run is.
 
 use crate::shared::{joined, repeated};
-use pg_certificate::{Sink, Source, ToWrite};
+use pg_certificate::{RecordCount, Sink, Source, ToWrite};
 use pg_moves::Progress;
 use pg_searcher::Progress as SearchProgress;
 use pg_streams::{
-    Cleared, CountLine, RecordCount, SearchLine, Terminal, count_line, led_line, line_of,
-    search_line, watch_records,
+    Cleared, CountLine, SearchLine, Terminal, count_line, led_line, line_of, search_line,
+    watch_records,
 };
 use pg_trial::{FailsAt, OneByte};
 use std::cell::Cell;

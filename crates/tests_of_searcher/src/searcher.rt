@@ -8,6 +8,7 @@ mod refused_writes;
 
 use arrayvec::ArrayString;
 use pg_captures::{Bound, Captures, Promotions};
+use pg_certificate::format::MOST_NAMED;
 use pg_certificate::{FromRead, Sink, ToWrite};
 use pg_checker::check;
 use pg_fen::{Diagram, Length};
@@ -122,7 +123,7 @@ fn checked(alloc: Global, goal: &Goal, games: &Games, bytes: &[u8]) -> Said {
         &bounds,
         &mut source,
         NODES,
-        4_194_304,
+        MOST_NAMED,
     ) {
         Ok(proved) => words(&proved.records),
         Err(fault) => words(&format_args!("{fault:?}")),

@@ -2,6 +2,7 @@
 use crate::case::{Case, part};
 use crate::dice::Dice;
 use crate::lists;
+use pg_certificate::format::HEADER_LENGTH;
 use pg_fen::Length;
 use pg_san::Games;
 use std::alloc::{AllocError, Global};
@@ -52,8 +53,8 @@ fn by_bytes(alloc: Global, dice: &mut Dice, bytes: &[u8]) -> Result<Vec<u8>, All
     let at = if dice.below(8) == 0 {
         dice.below(end)
     } else {
-        end.min(37)
-            .saturating_add(dice.below(end.saturating_sub(37)))
+        end.min(HEADER_LENGTH)
+            .saturating_add(dice.below(end.saturating_sub(HEADER_LENGTH)))
     };
     let front = part(bytes, 0, at);
     let next = at.saturating_add(1);
