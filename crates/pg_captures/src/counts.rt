@@ -13,7 +13,7 @@ pub const LIGHT_SQUARES: u64 = 0x55aa_55aa_55aa_55aa;
 
 pub const DARK_SQUARES: u64 = 0xaa55_aa55_aa55_aa55;
 
-fn man(color: Color, kind: Kind) -> Man
+pub(crate) fn man(color: Color, kind: Kind) -> Man
     ensures { result ≡ man color kind }
 {
     Man { color, kind }
