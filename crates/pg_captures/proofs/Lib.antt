@@ -1,3 +1,4 @@
 pub mod TallyLemmas
 pub mod FirstLemmas
 pub mod SumLemmas
+pub mod TakingTold

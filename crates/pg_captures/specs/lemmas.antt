@@ -9,3 +9,4 @@ pub mod MoveLemmas
 pub mod Duality
 pub mod PriceSums
 pub mod PlaceLemmas
+pub mod TakingLemmas

@@ -1,12 +1,15 @@
 //! The captures owed, and the bound by them.
-ghost use Rattle.std.specs.Prelude.{◌≡◌, ◌↔◌, ◌≤◌, IsTrue};
+ghost use Rattle.std.specs.Prelude.{◌≡◌, ◌↔◌, ◌⊎◌, ◌+◌, ◌<◌, ◌≤◌, IsTrue};
 ghost use Rattle.pg_captures.specs.Owed.{plies_left, victims, owed, CapturesFor, CapturesHolds};
+ghost use Rattle.pg_position.specs.declared.state.State.{State};
+ghost use Rattle.pg_position.specs.Step.{IsLegal, Legal};
 
 use crate::bound::Bound;
 use crate::counts::all_men;
+use crate::taking::victims_after;
 use pg_board::{Board, Color};
 use pg_fen::Diagram;
-use pg_position::Position;
+use pg_position::{Move, Position};
 
 /// How many of the next `plies` plies are the colour's, where `side` is to move first.
 pub fn plies_left(side: Color, color: Color, plies: u8) -> u8
@@ -37,13 +40,23 @@ pub fn owed(color: Color, diagram: &Diagram, position: &Position) -> i16
     here - there
 }
 
+// Whether a colour owes fewer captures than none, or more than so many plies, where the other colour has
+// so many men here and there.
+#[inline(always)]
+fn is_owed_wrongly(here: u8, there: u8, plies: u8) -> bool
+    requires { plies + there < 256 }
+    ensures { IsTrue result ↔ ((here < there) ⊎ (plies + there < here)) }
+{
+    here < there || plies + there < here
+}
+
 #[tactic(auto, using(crate::specs::lemmas::OwedLemmas::captures_told))]
 fn captures_hold_for(diagram: &Diagram, position: &Position, left: u8, color: Color) -> bool
     ensures { IsTrue result ↔ CapturesFor diagram.now position.now.board position.now.side left color }
 {
     let here = victims_of(&position.board(), color);
     let there = victims_of(&diagram.board(), color);
-    here < there || plies_left(position.side(), color, left) + there < here
+    is_owed_wrongly(here, there, plies_left(position.side(), color, left))
 }
 
 #[tactic(auto, unfolding(crate::specs::Owed::CapturesHolds))]
@@ -52,6 +65,27 @@ fn captures_hold(diagram: &Diagram, position: &Position, left: u8) -> bool
 {
     captures_hold_for(diagram, position, left, Color::White)
         || captures_hold_for(diagram, position, left, Color::Black)
+}
+
+// The same after a legal move: the mover's captures, and those of the other side, which is to move then.
+fn captures_hold_after(diagram: &Diagram, position: &Position, m: &Move, left: u8) -> bool
+    requires { IsLegal position.now m.now }
+    ensures { (q : State) → Legal position.now m.now q → IsTrue result ↔ CapturesHolds diagram.now q left }
+{
+    let mover = position.side();
+    let other = mover.other();
+    let wanted = diagram.board();
+    let here = victims_after(position, m);
+    let own = victims_of(&position.board(), other);
+    is_owed_wrongly(
+        here,
+        victims_of(&wanted, mover),
+        plies_left(other, mover, left),
+    ) || is_owed_wrongly(
+        own,
+        victims_of(&wanted, other),
+        plies_left(other, other, left),
+    )
 }
 
 /// The bound by captures, code 1. Each capture is a ply of its own colour: it excludes where a
@@ -81,5 +115,9 @@ impl Bound for Captures {
         ensures exact { IsTrue result ↔ CapturesHolds diagram.now position.now left }
     {
         captures_hold(diagram, position, left)
+    }
+
+    fn excludes_after(&self, diagram: &Diagram, position: &Position, m: &Move, left: u8) -> bool {
+        captures_hold_after(diagram, position, m, left)
     }
 }

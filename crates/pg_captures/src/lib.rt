@@ -9,9 +9,10 @@ mod classes;
 mod counts;
 mod prices;
 mod promotions;
+mod taking;
 
 pub use bound::Bound;
-pub use boxes::{ask, first_excludes};
+pub use boxes::{ask, first_excludes, first_excludes_after};
 pub use captures::{Captures, owed, plies_left, victims_of};
 pub use classes::Class;
 pub use counts::{all_men, pawns};

@@ -5,3 +5,4 @@ pub mod Halting
 pub mod Steps
 pub mod Judging
 pub mod Checking
+pub mod Spots

@@ -12,6 +12,7 @@ mod nearness;
 mod node;
 mod play;
 mod problem;
+mod spot;
 mod table;
 mod walk;
 

@@ -9,14 +9,16 @@ ghost use Rattle.pg_position.specs.declared.moves.Move.{Move};
 ghost use Rattle.pg_checker.specs.numbers.Halting.{full, causes, stops};
 ghost use Rattle.pg_checker.specs.numbers.Judging.{Ends, Judges, ended_of, refer_answer, stop_of};
 ghost use Rattle.pg_checker.specs.numbers.Machine.{ReadsVersion, Walks, WalksOn, entry_of, opened, shape_of, state_at};
+ghost use Rattle.pg_checker.specs.numbers.Spots.{IsReached, spot_of};
 ghost use Rattle.pg_checker.specs.numbers.Steps.{Says, FailsRead, TakesFew};
 ghost use Rattle.pg_checker.specs.Walk.{judge as judge_of, head as head_of, cut_answer};
 
 use crate::halt::{Halt, Reason};
 use crate::machine::{Machine, Node, Question};
+use crate::spot::Spot;
 use crate::table::Table;
 use pg_board::Color;
-use pg_captures::first_excludes;
+use pg_captures::{first_excludes, first_excludes_after};
 use pg_certificate::{Bare, ReadFault, RecordReader, Source};
 use pg_fen::Diagram;
 use pg_position::Position;
@@ -51,11 +53,27 @@ fn take_place(table: &mut Table, position: &Position, room: u32) -> Result<u32, 
     }
 }
 
-// A cut, by the first bound of its code.
-fn cut(question: &Question, position: &Position, left: u8, code: u8) -> Result<(), Reason>
-    ensures { (game : List Move) → Ends (causes game result) (cut_answer ((cuts_for code_of excluded question.now).bounds code position.now left) code) }
+// What the first bound of a code says of a node: it is asked of the position before the move that leads
+// there.
+#[inline(always)]
+fn first_says(question: &Question, spot: &Spot, left: u8, code: u8) -> Option<bool>
+    requires { IsReached spot.now }
+    ensures { result ≡ (cuts_for code_of excluded question.now).bounds code (spot_of spot.now) left }
 {
-    match first_excludes(question.bounds, code, question.diagram, position, left) {
+    let bounds = question.bounds;
+    let diagram = question.diagram;
+    match &spot.m {
+        Some(m) => first_excludes_after(bounds, code, diagram, &spot.from, m, left),
+        None => first_excludes(bounds, code, diagram, &spot.from, left),
+    }
+}
+
+// A cut, by the first bound of its code.
+fn cut(question: &Question, spot: &Spot, left: u8, code: u8) -> Result<(), Reason>
+    requires { IsReached spot.now }
+    ensures { (game : List Move) → Ends (causes game result) (cut_answer ((cuts_for code_of excluded question.now).bounds code (spot_of spot.now) left) code) }
+{
+    match first_says(question, spot, left, code) {
         None => Err(Reason::UnknownBound(code)),
         Some(false) => Err(Reason::CutFails(code)),
         Some(true) => Ok(()),
@@ -168,12 +186,13 @@ fn ended(answer: Result<(), Reason>) -> Result<Node, Halt>
 fn judge(
     question: &Question,
     machine: &mut Machine,
-    position: &Position,
+    spot: &Spot,
     left: u8,
     bare: Bare,
 ) -> Result<Node, Halt>
+    requires { IsReached spot.now }
     ensures says { (game : List Move) → Judges machine.old machine.new
-        (judge_of (rules_for code_of excluded question.now) left position.now (record_of machine.old.prices bare))
+        (judge_of (rules_for code_of excluded question.now) left (spot_of spot.now) (record_of machine.old.prices bare))
         (stops game result) }
     ensures kept { IfOk result (λ node. machine.new.table.kept ≡ machine.old.table.kept + opened node) }
     ensures fails { (failed : Bool) → FailsRead failed (stops [] result) }
@@ -184,20 +203,26 @@ fn judge(
     match bare {
         Bare::Expand { named: false } => Ok(Node::Opened(false)),
         Bare::Expand { named: true } => {
-            match take_place(&mut machine.table, position, machine.room) {
+            match take_place(&mut machine.table, &spot.from, machine.room) {
                 Ok(room) => machine.room = room,
                 Err(halt) => return Err(halt),
             }
             Ok(Node::Opened(true))
         }
-        Bare::Cut(code) => ended(cut(question, position, left, code)),
+        Bare::Cut(code) => ended(cut(question, spot, left, code)),
         Bare::Ref(number) => {
-            let answer = refer(question.version, &machine.table, position, left, number);
+            let answer = refer(
+                question.version,
+                &machine.table,
+                &spot.position(),
+                left,
+                number,
+            );
             ended(answer)
         }
         Bare::Priced { code, color } => {
             let prices = &machine.prices;
-            let answer = priced(question, position, left, code, color, prices);
+            let answer = priced(question, &spot.position(), left, code, color, prices);
             ended(answer)
         }
     }
@@ -233,13 +258,14 @@ pub(crate) fn head<S: Source>(
     question: &Question,
     machine: &mut Machine,
     source: &mut S,
-    position: &Position,
+    spot: &Spot,
     left: u8,
 ) -> Result<Node, Halt>
+    requires reached { IsReached spot.now }
     requires runs { ReadsVersion question.now.version machine.old.reader }
     requires held { length machine.old.reader.held ≤ 4096 }
     ensures says { (game : List Move) → Walks machine.old machine.new (S.left source.old) (S.left source.new)
-        (head_of (rules_for code_of excluded question.now) left position.now)
+        (head_of (rules_for code_of excluded question.now) left (spot_of spot.now))
         (λ node rest n. (shape_of node, state_at machine.new rest n)) (stops game result) }
     ensures kept { IfOk result (λ node. machine.new.table.kept ≡ machine.old.table.kept + opened node) }
     ensures frames { machine.new.frames ≡ machine.old.frames }
@@ -253,7 +279,7 @@ pub(crate) fn head<S: Source>(
     }
     machine.records -= 1;
     match next(&mut machine.reader, &mut machine.prices, source) {
-        Ok(bare) => judge(question, machine, position, left, bare),
+        Ok(bare) => judge(question, machine, spot, left, bare),
         Err(halt) => Err(halt),
     }
 }

@@ -1,5 +1,5 @@
 //! The walk over the trees of a certificate, with a stack of open nodes.
-ghost use Rattle.std.specs.Prelude.{◌≡◌, ◌||◌, ◌+◌, ◌<◌, ◌≤◌, ◌++◌, suc, true, false, [], ◌∷◌, length, map, reverse, MatchOption, OnOk};
+ghost use Rattle.std.specs.Prelude.{◌≡◌, ◌||◌, ◌+◌, ◌<◌, ◌≤◌, ◌++◌, suc, true, false, [], ◌∷◌, length, map, reverse, IfSome, MatchOption, OnOk};
 ghost use Rattle.pg_checker.specs.Cuts.{rules_for};
 ghost use Rattle.pg_checker.specs.numbers.Frames.{enter as enter_of, finish, turn_top, Stacked};
 ghost use Rattle.pg_checker.specs.Whole.{run as run_of};
@@ -7,6 +7,7 @@ ghost use Rattle.pg_position.specs.Array.{array_state};
 ghost use Rattle.pg_checker.specs.numbers.Halting.{causes, stops};
 ghost use Rattle.pg_checker.specs.numbers.Judging.{LeafSays};
 ghost use Rattle.pg_checker.specs.numbers.Machine.{Closes, HasNone, OnTop, Passed, Plays, ReadsVersion, Walks, WalksOn, entered, entries_of, fresh, game_at, named_at, path, stack_at, state_at, work_at};
+ghost use Rattle.pg_checker.specs.numbers.Spots.{IsReached, spot_of};
 ghost use Rattle.pg_checker.specs.numbers.Steps.{FailsRead};
 ghost use Rattle.pg_checker.specs.Tree.{one_if};
 ghost use Rattle.pg_checker.specs.Walk.{leaf as leaf_of, visit};
@@ -15,7 +16,7 @@ use crate::halt::{Halt, Reason};
 use crate::machine::{Frame, Machine, Node, Question, game_along};
 use crate::nearness::pass_over;
 use crate::node::head;
-use crate::play::after;
+use crate::spot::Spot;
 use crate::table::Entry;
 use arrayvec::ArrayVec;
 use pg_certificate::Source;
@@ -69,17 +70,18 @@ fn enter<S: Source>(
     question: &Question,
     tree: u8,
     left: u8,
-    position: &Position,
+    spot: &Spot,
     machine: &mut Machine,
     source: &mut S,
 ) -> Result<(), Halt>
+    requires reached { IsReached spot.now }
     requires depth { left + length machine.old.frames.items ≡ tree }
     requires limit { tree ≤ 128 }
     requires kept { machine.old.table.kept ≡ named_at machine.old }
     requires runs { ReadsVersion question.now.version machine.old.reader }
     requires held { length machine.old.reader.held ≤ 4096 }
     ensures says { Walks machine.old machine.new (S.left source.old) (S.left source.new)
-        (enter_of (rules_for code_of excluded question.now) tree left (game_at machine.old) position.now (stack_at machine.old))
+        (enter_of (rules_for code_of excluded question.now) tree left (game_at machine.old) (spot_of spot.now) (stack_at machine.old))
         (λ _. work_at (rules_for code_of excluded question.now) machine.new) (stops (game_at machine.new) result) }
     ensures kept { OnOk result (machine.new.table.kept ≡ named_at machine.new) }
     ensures runs { OnOk result (ReadsVersion question.now.version machine.new.reader) }
@@ -88,7 +90,7 @@ fn enter<S: Source>(
     ensures few { WalksOn machine.old machine.new (S.left source.old) (S.left source.new) (stops [] result) }
 {
     if left == 0 {
-        return match leaf(question, tree, machine.frames.as_slice(), position) {
+        return match leaf(question, tree, machine.frames.as_slice(), &spot.position()) {
             Ok(found) => {
                 machine.found = found;
                 Ok(())
@@ -96,14 +98,14 @@ fn enter<S: Source>(
             Err(reason) => Err(Halt::Because(reason)),
         };
     }
-    match head(question, machine, source, position, left) {
+    match head(question, machine, source, spot, left) {
         Ok(Node::Done) => {
             machine.found = false;
             Ok(())
         }
         Ok(Node::Opened(named)) => {
             machine.found = false;
-            open_node(position, left - 1, named, &mut machine.frames);
+            open_node(&spot.position(), left - 1, named, &mut machine.frames);
             Ok(())
         }
         Err(halt) => Err(halt),
@@ -155,10 +157,10 @@ fn close_top(tree: u8, machine: &mut Machine)
     }
 }
 
-// A child of an open node: its position, and the plies left at it.
+// A child of an open node: where it stands, and the plies left at it.
 #[derive(Drop)]
 struct Child {
-    position: Position,
+    spot: Spot,
     plies: u8,
 }
 
@@ -166,14 +168,18 @@ struct Child {
 // no move is left: then nothing changes.
 #[inline(always)]
 fn play_on(top: &mut Frame, found: bool) -> Option<Child>
-    ensures { MatchOption result
+    ensures plays { MatchOption result
         (HasNone top.old top.new)
-        (λ child. Plays found child.position child.plies top.old top.new) }
+        (λ child. Plays found (spot_of child.spot) child.plies top.old top.new) }
+    ensures reached { IfSome result (λ child. IsReached child.spot) }
 {
     let m = top.moves.next()?;
     top.found = either(top.found, found);
+    let from = top.moves.position();
+    // A fact for the proof: it is a position.
+    from.side();
     Some(Child {
-        position: after(&top.moves.position(), &m),
+        spot: Spot { from, m: Some(m) },
         plies: top.plies,
     })
 }
@@ -182,9 +188,10 @@ fn play_on(top: &mut Frame, found: bool) -> Option<Child>
 #[inline(always)]
 fn play_top(frames: &mut ArrayVec<Frame, 128>, found: bool) -> Option<Child>
     requires { 0 < length frames.old.items }
-    ensures { MatchOption result
+    ensures plays { MatchOption result
         (OnTop HasNone frames.old.items frames.new.items)
-        (λ child. OnTop (Plays found child.position child.plies) frames.old.items frames.new.items) }
+        (λ child. OnTop (Plays found (spot_of child.spot) child.plies) frames.old.items frames.new.items) }
+    ensures reached { IfSome result (λ child. IsReached child.spot) }
 {
     let last = frames.len() - 1;
     match frames.get_mut(last) {
@@ -217,14 +224,7 @@ fn turn<S: Source>(
 {
     let found = machine.found;
     match play_top(&mut machine.frames, found) {
-        Some(child) => enter(
-            question,
-            tree,
-            child.plies,
-            &child.position,
-            machine,
-            source,
-        ),
+        Some(child) => enter(question, tree, child.plies, &child.spot, machine, source),
         None => {
             close_top(tree, machine);
             Ok(())
@@ -313,7 +313,11 @@ fn tree_of<S: Source>(
     ensures fails { FailsRead (S.has_failed source.new) (stops [] result) }
     ensures few { WalksOn machine.old machine.new (S.left source.old) (S.left source.new) (stops [] result) }
 {
-    match enter(question, tree, tree, &Position::array(), machine, source) {
+    let root = Spot {
+        from: Position::array(),
+        m: None,
+    };
+    match enter(question, tree, tree, &root, machine, source) {
         Ok(()) => run(question, tree, machine, source),
         Err(halt) => Err(halt),
     }

@@ -181,7 +181,7 @@ turn_tally f p k m (Promotion x) valid low stands way = promotion f p k m x vali
 turn_tally f p k m (Castling v) valid low stands way = castling f p k m v valid low stands way
 
 -- what is taken is of the other colour
-taken : (p : State) (k : Kind) (m : Move) (w : Way) → IsPosition p → IsWay p k m w →
+pub taken : (p : State) (k : Kind) (m : Move) (w : Way) → IsPosition p → IsWay p k m w →
     (get p.board (taken_at p m w) ≡ None) ⊎ ((j : Kind) × (get p.board (taken_at p m w) ≡ Some (man (other p.side) j)))
 unfolding IsEnemy IsPassed
 taken p k m Plain valid way = inl way.vacant

@@ -1,8 +1,12 @@
-use Rattle.std.proofs.Common.{subst, sym, ap, ◌∙◌}
+use Rattle.std.proofs.Common.{◌≡◌, subst, sym, ap, ◌∙◌}
 use Rattle.pg_position.specs.declared.state.State.{State}
 use Rattle.pg_position.specs.Step.{IsLegal}
 use Rattle.pg_moves.specs.Left.{MovesLeft}
+use Rattle.pg_checker.proofs.SpotLemmas.{plays_on}
 use Rattle.pg_checker.proofs.walk.play_on.Goals as goal
 
-pub after-requires : goal.after-requires
-after-requires c = subst (λ (p : State). IsLegal p c.in_ok-m.m) (sym (c.position.ensures ∙ ap (λ (v : MovesLeft). v.position) c.in_ok-m.ensures.some)) c.in_ok-m.ensures.answer.legal
+pub returns-clause-plays : goal.returns-clause-plays
+returns-clause-plays c = plays_on c.args.top.now c.args.found c.either-top.result c.next.new.self c.in_ok-m.m c.position-from.result c.in_ok-m.ensures.answer c.in_ok-m.ensures.some c.either-top.ensures (c.position-from.ensures ∙ ap (λ (v : MovesLeft). v.position) c.in_ok-m.ensures.some) c.side.ensures.position
+
+pub returns-clause-reached : goal.returns-clause-reached
+returns-clause-reached c = subst (λ (p : State). IsLegal p c.in_ok-m.m) (sym (c.position-from.ensures ∙ ap (λ (v : MovesLeft). v.position) c.in_ok-m.ensures.some)) c.in_ok-m.ensures.answer.legal
