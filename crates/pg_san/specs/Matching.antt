@@ -1,5 +1,5 @@
 -- Which legal moves are as a text says, and what reading the text in a position gives.
-use Rattle.std.specs.Prelude.{◌≡◌, ◌≢◌, ℕ, ◌+◌, ◌⊎◌, true, List, Some, None, IfSome, Result, Ok, Err}
+use Rattle.std.specs.Prelude.{◌≡◌, ◌≢◌, ℕ, ◌+◌, ◌⊎◌, true, List, IfSome, Result, Ok, Err}
 use Rattle.pg_board.specs.declared.man.Kind.{Kind}
 use Rattle.pg_board.specs.Squares.{file, rank}
 use Rattle.pg_position.specs.declared.rights.Wing.{Wing}
