@@ -1,10 +1,9 @@
 -- Price lists made of their bytes, one after the other.
-use Rattle.std.proofs.Common.{◌≡◌, ℕ, suc, ◌+◌, ◌*◌, ◌<◌, ◌≤◌, ◌↔◌, Bool, true, false, cond, IsTrue, List, [], ◌∷◌, ◌++◌, length, take, drop, Some, None, refl, sym, ap, ◌∙◌, arith}
+use Rattle.std.proofs.Common.{◌≡◌, ℕ, suc, ◌+◌, ◌*◌, ◌<◌, ◌≤◌, ◌↔◌, Bool, true, false, cond, IsTrue, List, [], ◌∷◌, ◌++◌, length, take, drop, refl, sym, ap, ◌∙◌, arith}
 use Rattle.std.proofs.Math.Nat.{suc-mul}
-use Rattle.std.proofs.lemmas.List.{length-append, length-take-le, length-drop}
-use Rattle.std.specs.Prelude.{Option}
+use Rattle.std.proofs.lemmas.List.{append-nil, length-append, length-take, length-take-le, length-drop}
 use Rattle.pg_price_lists.specs.PriceLists.{PriceList, list_of}
-use Rattle.pg_price_lists.specs.PriceRecords.{sources, targets, NewIs, CanAdd}
+use Rattle.pg_price_lists.specs.PriceRecords.{sources, targets, CanAdd}
 use Rattle.pg_certificate.specs.Reading.{lists_of}
 use Rattle.pg_certificate.proofs.ListTexts.{next_list}
 
@@ -15,13 +14,14 @@ pub record Made (ls : List PriceList) (v a b at : ℕ) (bytes : List ℕ) (all :
   pub left : at + v * (a + b) ≡ length bytes
   pub made : ls ++ lists_of v a b (drop at bytes) ≡ all
 
-new_is : (u v : List ℕ) (r : Option (List PriceList)) (ls : List PriceList) → NewIs u v r → r ≡ Some ls → ls ≡ list_of u v ∷ []
-new_is u v None ls is e = absurd cc
-new_is u v (Some ls) ms is e = let same : ls ≡ ms = cc in sym same ∙ is.2
+added_is : (r : Bool) (ls ms new : List PriceList) → IsTrue r → new ≡ cond r ms ls → new ≡ ms
+added_is true ls ms new h e = e
+added_is false ls ms new h e = absurd cc
 
-pub first_made : (ls : List PriceList) (r : Option (List PriceList)) (w v a b n : ℕ) (bytes : List ℕ) → suc v ≡ w → n ≡ b → length bytes ≡ w * (a + b) → NewIs (take a bytes) (take n (drop a bytes)) r → r ≡ Some ls → (length ls ≡ 1) × Made ls v a b (a + b) bytes (lists_of w a b bytes)
-first_made ls r w v a b n bytes next second len is e =
-    let one : ls ≡ list_of (take a bytes) (take n (drop a bytes)) ∷ [] = new_is (take a bytes) (take n (drop a bytes)) r ls is e in
+pub first_made : (old ls : List PriceList) (r : Bool) (w v a b n : ℕ) (bytes : List ℕ) → suc v ≡ w → n ≡ b → a ≤ 64 → b ≤ 64 → length bytes ≡ w * (a + b)
+    → IsTrue r ↔ ((length (take a bytes) ≤ 64) × (length (take n (drop a bytes)) ≤ 64)) → ls ≡ cond r (list_of (take a bytes) (take n (drop a bytes)) ∷ []) old → (length ls ≡ 1) × Made ls v a b (a + b) bytes (lists_of w a b bytes)
+first_made old ls r w v a b n bytes next second few few_too len when set =
+    let one : ls ≡ list_of (take a bytes) (take n (drop a bytes)) ∷ [] = added_is r old (list_of (take a bytes) (take n (drop a bytes)) ∷ []) ls (when.1 (omega (arith, few, length-take a bytes), omega (arith, second, few_too, length-take n (drop a bytes)))) set in
     let same : ls ≡ list_of (take a bytes) (take b (drop a bytes)) ∷ [] = one ∙ ap (λ (k : ℕ). list_of (take a bytes) (take k (drop a bytes)) ∷ []) second in
     let more : w * (a + b) ≡ v * (a + b) + (a + b) = ap (λ (k : ℕ). k * (a + b)) (sym next) ∙ suc-mul v (a + b) in (
       ap length same,
@@ -33,9 +33,10 @@ first_made ls r w v a b n bytes next second len is e =
       },
     )
 
-added_is : (r : Bool) (ls ms new : List PriceList) → IsTrue r → new ≡ cond r ms ls → new ≡ ms
-added_is true ls ms new h e = e
-added_is false ls ms new h e = absurd cc
+-- none is left to be made
+pub all_made : (ls : List PriceList) (v a b at : ℕ) (bytes : List ℕ) (all : List PriceList) → v ≡ 0 → Made ls v a b at bytes all → ls ≡ all
+all_made ls v a b at bytes all none is =
+    sym (append-nil ls) ∙ ap (λ (k : ℕ). ls ++ lists_of k a b (drop at bytes)) (sym none) ∙ is.made
 
 same_sources : (ls : List PriceList) (l : PriceList) → 1 ≤ length ls → sources (ls ++ l ∷ []) ≡ sources ls
 same_sources [] l p = absurd (omega arith)

@@ -1,9 +1,11 @@
 -- Reading price lists from a source that tells its bytes.
-use Rattle.std.proofs.Common.{◌≡◌, ℕ, zero, suc, ◌+◌, ◌*◌, ◌<◌, ◌≤◌, ◌^◌, inl, inr, List, [], ◌∷◌, ◌++◌, length, get_or, Some, None, refl, sym, subst, ap, ◌∙◌, arith}
+use Rattle.std.proofs.Common.{◌≡◌, ℕ, zero, suc, ◌+◌, ◌*◌, ◌-◌, take, drop, drop-drop, slice_range, ◌<◌, ◌≤◌, ◌^◌, inl, inr, List, [], ◌∷◌, ◌++◌, length, get_or, Some, None, refl, sym, subst, ap, ◌∙◌, arith}
 use Rattle.std.specs.Prelude.{Option, slice_index}
 use Rattle.std.proofs.KnownBytes.{Consumes-trans}
+use Rattle.std.proofs.Math.Seq.{take-add}
 use Rattle.std.proofs.lemmas.Bool.{cases_lt}
-use Rattle.std.specs.Io.KnownBytes.{Consumes}
+use Rattle.std.proofs.lemmas.List.{append_assoc, length-take}
+use Rattle.std.specs.Io.KnownBytes.{Consumes, prepend_known}
 use Rattle.pg_price_lists.specs.PriceLists.{PriceList}
 use Rattle.pg_certificate.specs.declared.outline.Outline.{Outline}
 use Rattle.pg_certificate.specs.Spelling.{AreBytes, spelling}
@@ -11,11 +13,31 @@ use Rattle.pg_certificate.specs.numbers.Outlines.{IsOutline, outline_spelling, A
 use Rattle.pg_certificate.specs.Reading.{exactly, lists_of, lists_at}
 use Rattle.pg_certificate.specs.Reader.{Leaves}
 use Rattle.pg_certificate.proofs.ListTexts.{many_lists, are_lists, spelled_lists}
+use Rattle.pg_certificate.proofs.PricedTexts.{lists_reads}
 use Rattle.pg_certificate.proofs.RecordLaws.{few_bytes, lists_are, priced_of, priced_spelling}
 
 -- how many bytes the lists have
 abbrev pub all_bytes : Outline → ℕ
 all_bytes o = o.ways * (o.sources + o.targets)
+
+-- lists whose bytes stand at the front of what is held leave the rest
+pub lists_taken : (o : Outline) (ls : List PriceList) (buffer : List ℕ) (start m end : ℕ) → lists_spelling ls ≡ take m (drop start buffer) → m ≡ all_bytes o → start ≤ end → all_bytes o ≤ length (slice_range buffer start end) → slice_range buffer start end ≡ lists_spelling ls ++ slice_range buffer (start + all_bytes o) end
+lists_taken o ls buffer start m end spelled len p q =
+    let within : length (slice_range buffer start end) ≤ end - start = omega (arith, length-take (end - start) (drop start buffer)) in
+    let parted : end - start ≡ m + (end - (start + m)) = omega arith in
+    ap (λ (k : ℕ). take k (drop start buffer)) parted
+    ∙ take-add m (end - (start + m)) (drop start buffer)
+    ∙ ap (λ (l : List ℕ). take m (drop start buffer) ++ take (end - (start + m)) l) (drop-drop m start buffer)
+    ∙ ap (λ (l : List ℕ). l ++ slice_range buffer (start + m) end) (sym spelled)
+    ∙ ap (λ (k : ℕ). lists_spelling ls ++ slice_range buffer (start + k) end) len
+
+-- the lists whose bytes are held, whatever follows
+pub lists_held : (o : Outline) (ls : List PriceList) (held rest : List ℕ) (left : Option (List ℕ)) → held ≡ lists_spelling ls ++ rest → AreListsOf o ls → Leaves (lists_at o) (prepend_known held left) (prepend_known rest left) ls
+lists_held o ls held rest None e are = tt
+lists_held o ls held rest (Some l) e are =
+    ap (λ (m : List ℕ). lists_at o (m ++ l)) e
+    ∙ ap (lists_at o) (append_assoc (lists_spelling ls) rest l)
+    ∙ (lists_reads o).again ls (lists_spelling ls) (rest ++ l) (are, refl)
 
 pub few : (o : Outline) → IsOutline o → all_bytes o ≤ 3 * (64 + 64)
 few o is = few_bytes o.ways o.sources o.targets is.few is.sources is.targets

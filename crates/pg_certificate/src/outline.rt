@@ -2,7 +2,7 @@
 ghost use Rattle.std.specs.Prelude.{◌≡◌, ◌+◌, ◌*◌, length};
 ghost use Rattle.pg_certificate.specs.Reading.{color_of, lists_of};
 ghost use Rattle.pg_certificate.specs.Spelling.{color_byte};
-ghost use Rattle.pg_certificate.specs.numbers.Outlines.{IsOutline};
+ghost use Rattle.pg_certificate.specs.numbers.Outlines.{IsOutline, AreListsOf, lists_spelling};
 
 use pg_board::Color;
 use pg_price_lists::Prices;
@@ -43,19 +43,20 @@ pub fn color_byte(color: Color) -> u8
     }
 }
 
-/// The price lists whose bytes these are.
-pub fn prices_of(bytes: &[u8], outline: &Outline) -> Prices
+/// Puts the price lists whose bytes these are in place of those that are held.
+pub fn put_prices(bytes: &[u8], outline: &Outline, prices: &mut Prices)
     requires fits { IsOutline outline.now }
     requires whole { length bytes.now ≡ outline.now.ways * (outline.now.sources + outline.now.targets) }
-    ensures { result ≡ lists_of outline.now.ways outline.now.sources outline.now.targets bytes.now }
+    ensures lists { prices.new ≡ lists_of outline.now.ways outline.now.sources outline.now.targets bytes.now }
+    ensures spelled { lists_spelling prices.new ≡ bytes.now }
+    ensures fits { AreListsOf outline.now prices.new }
 {
     let sources = outline.sources;
     let both = sources + outline.targets;
-    let mut prices = Prices::new(&bytes[..sources], &bytes[sources..both]).unwrap();
+    prices.set(&bytes[..sources], &bytes[sources..both]);
     let mut at = both;
     for _ in 1..outline.ways {
         prices.add(&bytes[at..at + sources], &bytes[at + sources..at + both]);
         at += both;
     }
-    prices
 }

@@ -14,7 +14,7 @@ use crate::format::{
     PRICED, REF,
 };
 use crate::magic::header_of;
-use crate::outline::{Outline, color_of, prices_of};
+use crate::outline::{Outline, color_of, put_prices};
 use crate::record::{Bare, Header, Record};
 use crate::source::{CAPACITY, Refused, Source};
 use pg_price_lists::Prices;
@@ -387,49 +387,54 @@ impl RecordReader {
         })
     }
 
-    // Reads so many bytes, of which there may be none.
-    fn numbers<S: Source>(&mut self, out: &mut [u8], source: &mut S) -> Result<(), ReadFault>
+    // Takes the bytes of the price lists of a record, which are all held, and puts the lists in place
+    // of those in `prices`.
+    fn take_lists(&mut self, outline: &Outline, prices: &mut Prices)
+        requires fits { IsOutline outline.now }
+        requires held { outline.now.ways * (outline.now.sources + outline.now.targets) ≤ length self.old.held }
         requires runs { self.old.failed ≡ false }
-        requires room { length self.old.held ≤ 4096 }
-        ensures bytes { ReadsAs (λ _. out.new) (exactly (length out.old))
-            (to_come self.old (S.left source.old)) (to_come self.new (S.left source.new)) result }
-        ensures text { OnOk result (Consumes
-            (to_come self.old (S.left source.old)) (to_come self.new (S.left source.new)) out.new) }
-        ensures fits { OnOk result ((k : ℕ) → k < length out.new → slice_index out.new k < 2 ^ 8) }
-        ensures call { IsCall S.has_failed self.old self.new source.old source.new result }
-        ensures pulls { PullsAtMost (length out.old)
-            (to_come self.old (S.left source.old)) (S.left source.new) result }
+        ensures held { self.old.held ≡ lists_spelling prices.new ++ self.new.held }
+        ensures fits { AreListsOf outline.now prices.new }
+        ensures failed { self.new.failed ≡ false }
+        ensures room { length self.new.held ≤ 4096 }
         ensures version { self.new.version ≡ self.old.version }
     {
-        if out.is_empty() {
-            return Ok(());
-        }
-        self.exact(out, source)
+        let end = self.start + outline.ways * (outline.sources + outline.targets);
+        put_prices(&self.buffer[self.start..end], outline, prices);
+        self.start = end;
     }
 
-    // Reads the price lists of a record, whose bytes come into `bytes`.
+    // Reads the price lists of a record in place of those in `prices`.
     fn lists<S: Source>(
         &mut self,
         outline: &Outline,
-        bytes: &mut [u8],
+        prices: &mut Prices,
         source: &mut S,
-    ) -> Result<Prices, ReadFault>
+    ) -> Result<(), ReadFault>
         requires fits { IsOutline outline.now }
-        requires whole { length bytes.old ≡ outline.now.ways * (outline.now.sources + outline.now.targets) }
         requires runs { self.old.failed ≡ false }
         requires room { length self.old.held ≤ 4096 }
-        ensures bytes { Reads (lists_at outline.now)
+        ensures bytes { ReadsAs (λ _. prices.new) (lists_at outline.now)
             (to_come self.old (S.left source.old)) (to_come self.new (S.left source.new)) result }
-        ensures text { IfOk result (λ ls. Consumes
+        ensures text { OnOk result (Consumes
             (to_come self.old (S.left source.old)) (to_come self.new (S.left source.new))
-            (lists_spelling ls)) }
-        ensures fits { IfOk result (λ ls. AreListsOf outline.now ls) }
+            (lists_spelling prices.new)) }
+        ensures fits { OnOk result (AreListsOf outline.now prices.new) }
+        ensures refused { OnErr result (prices.new ≡ prices.old) }
         ensures call { IsCall S.has_failed self.old self.new source.old source.new result }
         ensures pulls { PullsAtMost (3 * (64 + 64)) (to_come self.old (S.left source.old)) (S.left source.new) result }
         ensures version { self.new.version ≡ self.old.version }
     {
-        self.numbers(bytes, source)?;
-        Ok(prices_of(bytes, outline))
+        let count = outline.ways * (outline.sources + outline.targets);
+        if count <= self.end - self.start {
+            self.take_lists(outline, prices);
+            return Ok(());
+        }
+        let mut room = [0; LONGEST_LISTS];
+        let bytes = &mut room[..count];
+        self.exact(bytes, source)?;
+        put_prices(bytes, outline, prices);
+        Ok(())
     }
 
     // Reads a priced record after its first byte, its lists into `prices`.
@@ -448,9 +453,7 @@ impl RecordReader {
         ensures version { self.new.version ≡ self.old.version }
     {
         let outline = self.outline(source)?;
-        let mut room = [0; LONGEST_LISTS];
-        let bytes = &mut room[..outline.ways * (outline.sources + outline.targets)];
-        *prices = self.lists(&outline, bytes, source)?;
+        self.lists(&outline, prices, source)?;
         Ok(Bare::Priced {
             code: outline.code,
             color: outline.color,

@@ -51,28 +51,41 @@ impl Model for Prices {
     } };
 }
 
-// These bytes, and zeros after them.
+// Puts these bytes into the row, and zeros after them.
 #[tactic(auto, unfolding(crate::specs::numbers::Rows::padded))]
-fn padded(xs: &[u8]) -> [u8; 64]
+fn pad(row: &mut [u8; 64], xs: &[u8])
     requires { length xs.now ≤ 64 }
-    ensures list { take (length xs.now) result ≡ xs.now }
-    ensures zeros { result ≡ padded xs.now }
+    ensures list { take (length xs.now) row.new ≡ xs.now }
+    ensures zeros { row.new ≡ padded xs.now }
 {
-    let mut all = [0; 64];
-    all[..xs.len()].copy_from_slice(xs);
-    all
+    *row = [0; 64];
+    row[..xs.len()].copy_from_slice(xs);
 }
 
+// Puts a list into the row, and zeros after its numbers.
+fn fill(row: &mut Row, u: &[u8], v: &[u8])
+    requires { (length u.now ≤ 64) × (length v.now ≤ 64) }
+    ensures zeros { row.new ≡ row_of (list_of u.now v.now) }
+    ensures list { row_list (length u.now) (length v.now) row.new ≡ list_of u.now v.now }
+    ensures room { (length row.new.u ≡ 64) × (length row.new.v ≡ 64) }
+{
+    pad(&mut row.u, u);
+    pad(&mut row.v, v);
+}
+
+// The row of a list.
 fn filled(u: &[u8], v: &[u8]) -> Row
     requires { (length u.now ≤ 64) × (length v.now ≤ 64) }
     ensures zeros { result ≡ row_of (list_of u.now v.now) }
     ensures list { row_list (length u.now) (length v.now) result ≡ list_of u.now v.now }
     ensures room { (length result.u ≡ 64) × (length result.v ≡ 64) }
 {
-    Row {
-        u: padded(u),
-        v: padded(v),
-    }
+    let mut row = Row {
+        u: [0; 64],
+        v: [0; 64],
+    };
+    fill(&mut row, u, v);
+    row
 }
 
 impl Prices {
@@ -96,6 +109,24 @@ impl Prices {
         })
     }
 
+    /// Puts this one list in place of all that are held. False, and the lists are as they were, where
+    /// there are more than 64 sources or more than 64 targets.
+    pub fn set(&mut self, u: &[u8], v: &[u8]) -> bool
+        ensures when { IsTrue result ↔ ((length u.now ≤ 64) × (length v.now ≤ 64)) }
+        ensures set { self.new ≡ cond result (list_of u.now v.now ∷ []) self.old }
+    {
+        if 64 < u.len() || 64 < v.len() {
+            return false;
+        }
+        fill(&mut self.first, u, v);
+        self.second = filled(&[], &[]);
+        self.third = filled(&[], &[]);
+        self.ways = 1;
+        self.sources = u.len();
+        self.targets = v.len();
+        true
+    }
+
     /// Adds a list, for the next way. False, and the lists are as they were, where it has another
     /// number of sources or of targets than the first, or where three lists are held.
     pub fn add(&mut self, u: &[u8], v: &[u8]) -> bool
@@ -106,11 +137,11 @@ impl Prices {
             return false;
         }
         if self.ways == 1 {
-            self.second = filled(u, v);
+            fill(&mut self.second, u, v);
             self.ways = 2;
             true
         } else if self.ways == 2 {
-            self.third = filled(u, v);
+            fill(&mut self.third, u, v);
             self.ways = 3;
             true
         } else {

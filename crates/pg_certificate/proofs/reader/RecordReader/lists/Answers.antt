@@ -1,12 +1,11 @@
-use Rattle.std.proofs.Common.{◌∙◌}
-use Rattle.pg_certificate.proofs.PricedLemmas.{lists_given, lists_text, lists_fit}
+use Rattle.std.proofs.Common.{ℕ, List, subst, sym}
+use Rattle.std.specs.Io.KnownBytes.{Consumes}
+use Rattle.pg_certificate.specs.Reader.{to_come}
+use Rattle.pg_certificate.proofs.PricedLemmas.{lists_held}
 use Rattle.pg_certificate.proofs.reader.RecordReader.lists.Goals as goal
 
-pub returns-clause-bytes : goal.returns-clause-bytes
-returns-clause-bytes g c = lists_given _ _ c.args.outline.now _ c.numbers.new.out c.prices_of.result c.requires.whole c.prices_of.ensures c.in_ok-numbers.ensures.bytes
+pub returns-then-count-self-clause-bytes : goal.returns-then-count-self-clause-bytes
+returns-then-count-self-clause-bytes g c = lists_held c.args.outline.now c.take_lists.new.prices c.args.self.now.held c.take_lists.new.self.held (g.S.Source.left c.args.source.now) c.take_lists.ensures.held c.take_lists.ensures.fits
 
 pub returns-clause-text : goal.returns-clause-text
-returns-clause-text g c = lists_text _ _ c.args.outline.now c.numbers.new.out c.prices_of.result (c.numbers.auto.out ∙ c.requires.whole) c.prices_of.ensures c.in_ok-numbers.ensures.text
-
-pub returns-clause-fits : goal.returns-clause-fits
-returns-clause-fits g c = lists_fit c.args.outline.now c.numbers.new.out c.prices_of.result (c.numbers.auto.out ∙ c.requires.whole) c.prices_of.ensures c.in_ok-numbers.ensures.fits
+returns-clause-text g c = subst (λ (l : List ℕ). Consumes (to_come c.args.self.now (g.S.Source.left c.args.source.now)) (to_come c.exact.new.self (g.S.Source.left c.exact.new.source)) l) (sym c.put_prices.ensures.spelled) c.in_ok-exact.ensures.text

@@ -1,7 +1,7 @@
 use Rattle.std.proofs.Common.{◌≡◌, ◌-◌, ◌≤◌, length}
 use Rattle.pg_certificate.specs.Reading.{lists_of}
 use Rattle.pg_certificate.proofs.PriceLoops.{Made}
-use Rattle.pg_certificate.proofs.outline.prices_of.Given as goal
+use Rattle.pg_certificate.proofs.outline.put_prices.Given as goal
 
 abbrev pub invariant-loop : goal.invariant-loop
 invariant-loop l = record {
