@@ -1,5 +1,5 @@
 -- What tests of the position before a legal move tell of the position after it.
-use Rattle.std.proofs.Common.{◌≡◌, ◌≢◌, ℕ, ◌+◌, ◌<◌, ◌⊎◌, ◌↔◌, inl, inr, Option, Some, None, Bool, true, false, IsTrue, refl, sym, ap, subst, ◌∙◌}
+use Rattle.std.proofs.Common.{◌≡◌, ℕ, ◌+◌, ◌<◌, ◌⊎◌, ◌↔◌, inl, inr, Option, Some, None, Bool, true, false, IsTrue, refl, sym, ap, subst, ◌∙◌}
 use Rattle.std.specs.Bool.{Decides}
 use Rattle.std.proofs.lemmas.Bool.Decides.{Decides-like}
 use Rattle.pg_board.specs.declared.man.Color.{Color}
@@ -10,7 +10,6 @@ use Rattle.pg_board.specs.declared.man.Man.{Man}
 use Rattle.pg_board.specs.Bits.{has}
 use Rattle.pg_board.specs.Men.{man, other, color_eq, is_of, is_man}
 use Rattle.pg_board.specs.Placement.{Placement, get}
-use Rattle.pg_board.specs.Squares.{file}
 use Rattle.pg_board.specs.lemmas.Equalities.{color_decides, is_man_decides}
 use Rattle.pg_position.specs.declared.state.State.{State}
 use Rattle.pg_position.specs.declared.moves.Move.{Move}

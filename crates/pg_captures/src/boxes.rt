@@ -101,7 +101,7 @@ pub fn first_excludes_after(
     ensures barren { result ≡ Some true → (q : State) → Legal position.now m.now q → Barren diagram.now q left }
 {
     for bound in bounds {
-        if code_of_box(bound) == code {
+        if code == code_of_box(bound) {
             return Some(ask_after(bound, diagram, position, m, left));
         }
     }

@@ -93,6 +93,11 @@ fn captures_hold_after(diagram: &Diagram, position: &Position, m: &Move, left: u
 #[derive(Drop)]
 pub struct Captures;
 
+impl Captures {
+    /// The code by which a certificate names this bound.
+    pub const CODE: u8 = 1;
+}
+
 impl Bound for Captures {
     ghost use Rattle.pg_captures.specs.lemmas.CapturesLaw.{captures_barren};
     ghost use Rattle.pg_board.specs.lemmas.Decisions.{answer_tells};
@@ -107,7 +112,7 @@ impl Bound for Captures {
     fn code(&self) -> u8
         ensures { result ≡ 1 }
     {
-        1
+        Captures::CODE
     }
 
     fn excludes(&self, diagram: &Diagram, position: &Position, left: u8) -> bool

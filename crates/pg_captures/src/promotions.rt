@@ -58,6 +58,11 @@ fn promotions_hold(diagram: &Diagram, position: &Position) -> bool
 #[derive(Drop)]
 pub struct Promotions;
 
+impl Promotions {
+    /// The code by which a certificate names this bound.
+    pub const CODE: u8 = 2;
+}
+
 impl Bound for Promotions {
     ghost use Rattle.pg_captures.specs.lemmas.PromotionsLaw.{promotions_barren};
     ghost use Rattle.pg_board.specs.lemmas.Decisions.{answer_tells};
@@ -72,7 +77,7 @@ impl Bound for Promotions {
     fn code(&self) -> u8
         ensures { result ≡ 2 }
     {
-        2
+        Promotions::CODE
     }
 
     fn excludes(&self, diagram: &Diagram, position: &Position, left: u8) -> bool

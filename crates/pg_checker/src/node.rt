@@ -21,8 +21,9 @@ use pg_board::Color;
 use pg_captures::{first_excludes, first_excludes_after};
 use pg_certificate::{Bare, ReadFault, RecordReader, Source};
 use pg_fen::Diagram;
+use pg_pawns::PawnFiles;
 use pg_position::Position;
-use pg_travel::{Prices, Rows};
+use pg_travel::{Prices, Rows, Travel};
 
 // A refusal to read a record, as a halt. No record is refused as Magic or Trailing.
 pub(crate) fn halt_of(fault: ReadFault) -> Halt
@@ -108,7 +109,7 @@ fn travel_excludes(
     }
 }
 
-// A cut by prices: code 3 is that of pawn files, 4 that of travel.
+// A cut by prices, under the code of the bound by pawn files or of that by travel.
 #[inline(never)]
 fn priced(
     question: &Question,
@@ -123,8 +124,8 @@ fn priced(
     let diagram = question.diagram;
     let rows = question.rows.as_ref();
     let excluded = match code {
-        3 => files_exclude(diagram, position, color, prices),
-        4 => travel_excludes(rows, diagram, position, left, color, prices),
+        PawnFiles::CODE => files_exclude(diagram, position, color, prices),
+        Travel::CODE => travel_excludes(rows, diagram, position, left, color, prices),
         _ => return Err(Reason::UnknownBound(code)),
     };
     if excluded {

@@ -68,6 +68,11 @@ fn pawn_files_hold(diagram: &Diagram, position: &Position) -> bool
 #[derive(Drop)]
 pub struct PawnFiles;
 
+impl PawnFiles {
+    /// The code by which a certificate names this bound, and prices of pawn files.
+    pub const CODE: u8 = 3;
+}
+
 impl Bound for PawnFiles {
     ghost use Rattle.pg_board.specs.lemmas.Decisions.{answer_tells};
     ghost use Rattle.pg_pawns.specs.Decided.{dec_pawn_files, pawn_files_test};
@@ -82,7 +87,7 @@ impl Bound for PawnFiles {
     fn code(&self) -> u8
         ensures { result ≡ 3 }
     {
-        3
+        PawnFiles::CODE
     }
 
     fn excludes(&self, diagram: &Diagram, position: &Position, left: u8) -> bool

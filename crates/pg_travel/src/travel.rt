@@ -22,6 +22,11 @@ pub(crate) fn travel_holds(diagram: &Diagram, position: &Position, left: u8) -> 
 #[derive(Drop)]
 pub struct Travel;
 
+impl Travel {
+    /// The code by which a certificate names this bound, and prices of travel.
+    pub const CODE: u8 = 4;
+}
+
 impl Bound for Travel {
     ghost use Rattle.pg_board.specs.lemmas.Decisions.{answer_tells};
     ghost use Rattle.pg_travel.specs.Decided.{dec_travel, travel_test};
@@ -36,7 +41,7 @@ impl Bound for Travel {
     fn code(&self) -> u8
         ensures { result ≡ 4 }
     {
-        4
+        Travel::CODE
     }
 
     fn excludes(&self, diagram: &Diagram, position: &Position, left: u8) -> bool

@@ -5,7 +5,7 @@ ghost use Rattle.pg_travel.specs.Needs.{TravelTest, TravelHolds};
 use crate::least_rows::excludes_by;
 use crate::needs::excludes_for;
 use crate::rows::Rows;
-use crate::travel::travel_holds;
+use crate::travel::{Travel, travel_holds};
 use pg_board::Color;
 use pg_captures::Bound;
 use pg_fen::Diagram;
@@ -72,7 +72,7 @@ impl Bound for TravelByRows {
     fn code(&self) -> u8
         ensures { result ≡ 4 }
     {
-        4
+        Travel::CODE
     }
 
     fn excludes(&self, diagram: &Diagram, position: &Position, left: u8) -> bool

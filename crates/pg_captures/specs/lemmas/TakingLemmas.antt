@@ -1,11 +1,11 @@
 -- A legal move leaves the other side a man less where it takes one, and its own side's men as many as they are.
-use Rattle.std.proofs.Common.{◌≡◌, ◌≢◌, ℕ, ◌+◌, ◌-◌, ◌<◌, ◌⊎◌, ◌↔◌, inl, inr, Option, Some, None, Bool, true, false, IsTrue, refl, sym, ap, subst, arith, ◌∙◌}
+use Rattle.std.proofs.Common.{◌≡◌, ◌≢◌, ℕ, ◌+◌, ◌-◌, ◌<◌, ◌↔◌, inl, inr, Some, None, Bool, true, false, IsTrue, refl, sym, ap, subst, arith}
 use Rattle.pg_board.specs.declared.man.Color.{Color}
 use Rattle.pg_board.specs.declared.man.Color.TheVariants.{White, Black}
 use Rattle.pg_board.specs.declared.man.Kind.{Kind}
 use Rattle.pg_board.specs.declared.man.Kind.TheVariants.{Pawn}
 use Rattle.pg_board.specs.Squares.{file, rank}
-use Rattle.pg_board.specs.Placement.{Placement, get}
+use Rattle.pg_board.specs.Placement.{get}
 use Rattle.pg_board.specs.Tally.{one}
 use Rattle.pg_board.specs.Men.{man, other}
 use Rattle.pg_position.specs.declared.state.State.{State}
@@ -15,7 +15,7 @@ use Rattle.pg_position.specs.declared.moves.Way.TheVariants.{Plain, Capture, Dou
 use Rattle.pg_position.specs.Geometry.{apart, InPattern}
 use Rattle.pg_position.specs.Position.{Stands, IsVacant, IsPassed, IsPosition}
 use Rattle.pg_position.specs.Squares.{ahead, passed_rank, last_rank}
-use Rattle.pg_position.specs.Step.{IsEnemy, IsEnPassant, IsWay, after, board_after, Step, Legal}
+use Rattle.pg_position.specs.Step.{IsEnemy, IsEnPassant, IsWay, board_after, Step, Legal}
 use Rattle.pg_position.proofs.StepLemmas.{not_both, one_way}
 use Rattle.pg_position.proofs.LegalLemmas.{pawn_passing}
 use Rattle.pg_captures.specs.Counting.{men, any_man, of_color}
