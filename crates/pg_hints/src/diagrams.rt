@@ -32,13 +32,15 @@ fn rank_width(rank: &str) -> u32 {
 fn write_rank(placement: &str, hint: &mut Hint) -> fmt::Result {
     let count = placement.split('/').count();
     if count != 8 {
-        return write!(hint, "{count} ranks; a board has 8");
+        let ranks = if count == 1 { "rank" } else { "ranks" };
+        return write!(hint, "{count} {ranks}; a board has 8");
     }
     let mut number = 8u8;
     for rank in placement.split('/') {
         let width = rank_width(rank);
         if width != 8 {
-            return write!(hint, "rank {number} is {width} squares wide, not 8");
+            let squares = if width == 1 { "square" } else { "squares" };
+            return write!(hint, "rank {number} is {width} {squares} wide, not 8");
         }
         number = number.saturating_sub(1);
     }

@@ -14,7 +14,8 @@ fn moves_of(plies: u8, hint: &mut Hint) {
 /// How far a search came that met its limit: the nodes, and the length of the tree at work of the stated one.
 pub fn on_limit(nodes: u64, tree: u8, plies: u8) -> Hint {
     let mut hint = Hint::new();
-    let _ = write!(hint, "{nodes} nodes, tree ");
+    let word = if nodes == 1 { "node" } else { "nodes" };
+    let _ = write!(hint, "{nodes} {word}, tree ");
     moves_of(tree, &mut hint);
     let _ = write!(hint, " of ");
     moves_of(plies, &mut hint);

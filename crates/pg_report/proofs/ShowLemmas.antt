@@ -16,7 +16,7 @@ use Rattle.pg_report.specs.declared.fault.ShowFault.{ShowFault}
 use Rattle.pg_report.specs.declared.fault.ShowFault.TheVariants.{Memory, Write}
 use Rattle.pg_report.specs.declared.sides.Reason.{Reason}
 use Rattle.pg_report.specs.Sides.{own_plies, IsSideNeed}
-use Rattle.pg_report.specs.Expecting.{IsExpected, digit_text, unit_text, expected_text}
+use Rattle.pg_report.specs.Expecting.{IsExpected, digit_text, rounded, unit_text, nodes_text, expected_text}
 use Rattle.pg_report.specs.Showing.{counted_text, name_of, men_text, captured_text, reason_text, spare_text, need_text, open_line, IsSideLine, IsShown, IsShowFault, IsShowWithinFault}
 
 pub men_grow : (d : Placement) (c : Color) (n : ℕ) (name : List ℕ) (x y z : Option (List ℕ)) → name ≡ name_of c → n ≡ men c any_man d → Appends x y name → Appends y z (counted_text n (codes " man, captured ") (codes " men, captured ")) → Appends x z (men_text d c)
@@ -25,11 +25,14 @@ men_grow d c n name x y z named counted first second = Appends-trans x y z (name
 pub open_grows : (least : Option ℕ) (n : ℕ) (text : List ℕ) (w x y z : Option (List ℕ)) → least ≡ Some n → text ≡ length_text n → Appends w x (codes "no game is shorter than ") → Appends x y text → Appends y z (codes "\n") → Appends w z (open_line least)
 open_grows least n text w x y z is said first second third = subst (λ o. Appends w z (open_line o)) (sym is) (Appends-trans w x z (codes "no game is shorter than ") _ first (Appends-trans x y z (length_text n) (codes "\n") (subst (Appends x y) said second) third))
 
-pub expected_grows : (expected : Option ℕ) (h : ℕ) (digit unit : List ℕ) (v w x y z : Option (List ℕ)) → expected ≡ Some h → digit ≡ digit_text (h % 100) → unit ≡ unit_text (h / 100)
-    → Appends v w (codes "a search may visit about ") → Appends w x digit → Appends x y unit → Appends y z (codes " nodes, by a rule of thumb\n") → Appends v z (expected_text expected)
-expected_grows expected h digit unit v w x y z is one two first second third last =
-    subst (λ o. Appends v z (expected_text o)) (sym is) (Appends-trans v w z (codes "a search may visit about ") _ first (Appends-trans w x z (digit_text (h % 100)) _ (subst (Appends w x) one second)
-    (Appends-trans x y z (unit_text (h / 100)) (codes " nodes, by a rule of thumb\n") (subst (Appends x y) two third) last)))
+pub expected_grows : (expected : Option ℕ) (h k : ℕ) (digit unit nodes : List ℕ) (v w x y z : Option (List ℕ)) → expected ≡ Some h → k ≡ rounded h
+    → digit ≡ digit_text (k % 100) → unit ≡ unit_text (k / 100) → nodes ≡ nodes_text k
+    → Appends v w (codes "a search may visit about ") → Appends w x digit → Appends x y unit → Appends y z nodes → Appends v z (expected_text expected)
+expected_grows expected h k digit unit nodes v w x y z is near one two three first second third last =
+    subst (λ o. Appends v z (expected_text o)) (sym is)
+    (subst (λ k. Appends v z (codes "a search may visit about " ++ (digit_text (k % 100) ++ (unit_text (k / 100) ++ nodes_text k)))) near
+    (Appends-trans v w z (codes "a search may visit about ") _ first (Appends-trans w x z (digit_text (k % 100)) _ (subst (Appends w x) one second)
+    (Appends-trans x y z (unit_text (k / 100)) (nodes_text k) (subst (Appends x y) two third) (subst (Appends y z) three last)))))
 
 pub never_grows : (reason : Option Reason) (words : List ℕ) (w x y z : Option (List ℕ)) → words ≡ reason_text reason → Appends w x (codes "cannot stand so in 64.0 moves or less") → Appends x y words → Appends y z (codes "\n")
     → Appends w z (codes "cannot stand so in 64.0 moves or less" ++ (reason_text reason ++ codes "\n"))

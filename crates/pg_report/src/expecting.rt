@@ -1,7 +1,7 @@
 //! How many nodes a search may visit, by a rule of thumb.
 ghost use Rattle.std.specs.Prelude.{◌≡◌, ◌/◌, ◌%◌, ℕ, IfOk, OnOk, OnErr, true, false};
 ghost use Rattle.std.specs.Io.KnownBytes.{Appends};
-ghost use Rattle.pg_report.specs.Expecting.{IsExpected, digit_text, expected_text, unit_text};
+ghost use Rattle.pg_report.specs.Expecting.{IsExpected, digit_text, expected_text, nodes_text, rounded, unit_text};
 
 use pg_certificate::{Refused, Sink};
 use pg_fen::{Diagram, Length};
@@ -33,25 +33,36 @@ pub(crate) fn expected_of(
     Ok(Some(forecast(white, black, length.plies())))
 }
 
-// The first digit of the power of ten whose exponent has these hundredths behind its point.
+// The hundredths of an exponent, of the next power of ten where that is nearer than nine times the last one.
+fn rounded(hundredths: u32) -> u32
+    ensures { result ≡ rounded hundredths }
+{
+    if hundredths % 100 >= 98 {
+        hundredths + 2
+    } else {
+        hundredths
+    }
+}
+
+// The digit that is nearest to the power of ten whose exponent has these hundredths behind its point, fewer than 98.
 fn digit_words(hundredths: u32) -> &'static str
     ensures { result.now ≡ digit_text hundredths }
 {
-    if hundredths <= 29 {
+    if hundredths <= 17 {
         "1"
-    } else if hundredths <= 47 {
+    } else if hundredths <= 39 {
         "2"
-    } else if hundredths <= 59 {
+    } else if hundredths <= 54 {
         "3"
-    } else if hundredths <= 69 {
+    } else if hundredths <= 65 {
         "4"
-    } else if hundredths <= 77 {
+    } else if hundredths <= 74 {
         "5"
-    } else if hundredths <= 84 {
+    } else if hundredths <= 81 {
         "6"
-    } else if hundredths <= 89 {
+    } else if hundredths <= 87 {
         "7"
-    } else if hundredths <= 94 {
+    } else if hundredths <= 92 {
         "8"
     } else {
         "9"
@@ -91,6 +102,17 @@ fn unit_words(zeros: u32) -> &'static str
     }
 }
 
+// The end of the line, for one node or more.
+fn nodes_words(hundredths: u32) -> &'static str
+    ensures { result.now ≡ nodes_text hundredths }
+{
+    if hundredths <= 17 {
+        " node, by a rule of thumb\n"
+    } else {
+        " nodes, by a rule of thumb\n"
+    }
+}
+
 // Appends the line of what may be expected, where anything is.
 pub(crate) fn write_expected<W: Sink>(expected: Option<u32>, out: &mut W) -> Result<(), Refused>
     ensures text { OnOk result (Appends (W.held out.old) (W.held out.new) (expected_text expected)) }
@@ -100,10 +122,11 @@ pub(crate) fn write_expected<W: Sink>(expected: Option<u32>, out: &mut W) -> Res
     match expected {
         None => out.push(b""),
         Some(exponent) => {
+            let exponent = rounded(exponent);
             out.push(b"a search may visit about ")?;
             out.push(digit_words(exponent % 100).as_bytes())?;
             out.push(unit_words(exponent / 100).as_bytes())?;
-            out.push(b" nodes, by a rule of thumb\n")
+            out.push(nodes_words(exponent).as_bytes())
         }
     }
 }

@@ -6,10 +6,11 @@ use std::process::Abort;
 
 // A text that is no diagram, and what is wrong with it.
 const DIAGRAMS: &str =
-    "rnbqkbnr/pppppppp/9/8/8/8/PPPPPPPP/RNBQKBNR => rank 6 is 1 squares wide, not 8
+    "rnbqkbnr/pppppppp/9/8/8/8/PPPPPPPP/RNBQKBNR => rank 6 is 1 square wide, not 8
 rnbqkbnr/pppppppp/8/8/7/8/PPPPPPPP/RNBQKBNR => rank 4 is 7 squares wide, not 8
 rnbqkbnr/pppppppp/8/8/8/8/PPPPPPPPP/RNBQKBNR => rank 2 is 9 squares wide, not 8
 8/8 => 2 ranks; a board has 8
+8 => 1 rank; a board has 8
 rnbqkbnr/pppppppp/8/8/8/8/PPPPPPPP/RNBQKBNX => 'X' in rank 1; men are KQRBNP and kqrbnp
 rnbqkbnr/pppppppp/8/3é4/8/8/PPPPPPPP/RNBQKBNR => 'é' in rank 5; men are KQRBNP and kqrbnp
 rnbqqbnr/pppppppp/8/8/8/8/PPPPPPPP/RNBQKBKR => white has 2, black 0
@@ -66,6 +67,7 @@ fn hints_on_moves(rt: HostRuntime) {
 
 #[test]
 fn hints_on_searches(rt: HostRuntime) {
+    assert_eq!(rt; on_limit(1, 0, 1).as_str(), "1 node, tree 0.0 of 0.5");
     assert_eq!(rt;
         on_limit(1000, 14, 17).as_str(),
         "1000 nodes, tree 7.0 of 8.5"

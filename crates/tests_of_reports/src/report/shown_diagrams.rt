@@ -8,7 +8,8 @@ const WRITES: u64 = 8 * 10 + 1 + 2 * 10 + 3;
 
 // The array; one move of each side; a bishop too many; a lone king against a king; more men than a side has, which is
 // no captured man; men that one man cannot all be; and lengths that leave moves over, none, or are too short. The nodes to
-// expect are 10^(-0.6 + 0.65 slack + 0.26 plies), the slack of both sides being what the least moves of their men leave.
+// expect are 10^(-0.6 + 0.65 slack + 0.26 plies), rounded to a digit, the slack of both sides being what the least moves of
+// their men leave.
 const LINES: &str =
     "show | array => white 16 men, captured 0, needs 0 plies$black 16 men, captured 0, needs 0 plies$no game is shorter than 0.0$
 show | after-e4-e5 => white 16 men, captured 0, needs 1 ply (travel)$black 16 men, captured 0, needs 1 ply (travel)$no game is shorter than 1.0$
@@ -18,12 +19,14 @@ show | rnbqkbnr/pppppppp/8/8/8/P7/PPPPPPPP/RNBQKBNR => white 17 men, captured 0,
 show | r1bqnNnr/pppkpp1p/7R/3p4/8/8/PPPPPPP1/RNBQKBN1 => white 16 men, captured 2, needs 6 plies (travel, pair by pair)$black 14 men, captured 0, needs 5 plies (travel, pair by pair)$no game is shorter than 5.5$
 within | schweig | 4.0 => white 15 men, captured 2, needs 2 plies (captures), 2 left over$black 14 men, captured 1, needs 1 ply (captures), 3 left over$no game is shorter than 1.5$a search may visit about 1 million nodes, by a rule of thumb$
 within | rnb1kbnr/ppp1pppp/8/3q4/8/8/PPPP1PPP/RNBQKBNR | 2.0 => white 15 men, captured 1, needs 1 ply (captures), 1 left over$black 15 men, captured 1, needs 1 ply (captures), 1 left over$no game is shorter than 1.0$a search may visit about 200 nodes, by a rule of thumb$
+within | array | 0.0 => white 16 men, captured 0, needs 0 plies, 0 left over$black 16 men, captured 0, needs 0 plies, 0 left over$no game is shorter than 0.0$a search may visit about 1 node, by a rule of thumb$
 within | array | 0.5 => white 16 men, captured 0, needs 0 plies, 1 left over$black 16 men, captured 0, needs 0 plies, 0 left over$no game is shorter than 0.0$a search may visit about 2 nodes, by a rule of thumb$
 within | array | 1.5 => white 16 men, captured 0, needs 0 plies, 2 left over$black 16 men, captured 0, needs 0 plies, 1 left over$no game is shorter than 0.0$a search may visit about 100 nodes, by a rule of thumb$
 within | array | 3.0 => white 16 men, captured 0, needs 0 plies, 3 left over$black 16 men, captured 0, needs 0 plies, 3 left over$no game is shorter than 0.0$a search may visit about 70 thousand nodes, by a rule of thumb$
-within | array | 4.5 => white 16 men, captured 0, needs 0 plies, 5 left over$black 16 men, captured 0, needs 0 plies, 4 left over$no game is shorter than 0.0$a search may visit about 30 million nodes, by a rule of thumb$
+within | array | 4.5 => white 16 men, captured 0, needs 0 plies, 5 left over$black 16 men, captured 0, needs 0 plies, 4 left over$no game is shorter than 0.0$a search may visit about 40 million nodes, by a rule of thumb$
 within | array | 6.0 => white 16 men, captured 0, needs 0 plies, 6 left over$black 16 men, captured 0, needs 0 plies, 6 left over$no game is shorter than 0.0$a search may visit about 20 billion nodes, by a rule of thumb$
 within | array | 7.0 => white 16 men, captured 0, needs 0 plies, 7 left over$black 16 men, captured 0, needs 0 plies, 7 left over$no game is shorter than 0.0$a search may visit about 1000 billion or more nodes, by a rule of thumb$
+within | rnbqkbnr/ppp2ppp/8/3pp3/3PP3/8/PPP2PPP/RNBQKBNR | 4.5 => white 16 men, captured 0, needs 2 plies (travel), 3 left over$black 16 men, captured 0, needs 2 plies (travel), 2 left over$no game is shorter than 2.0$a search may visit about 100 thousand nodes, by a rule of thumb$
 within | after-e4-e5 | 0.5 => white 16 men, captured 0, needs 1 ply (travel), 0 left over$black 16 men, captured 0, needs 1 ply (travel), 1 short$no game is shorter than 1.0$";
 
 // The lines below the board.
