@@ -15,7 +15,6 @@ use crate::halt::{Halt, Reason};
 use crate::machine::{Frame, Machine, Node, Question, game_along};
 use crate::nearness::pass_over;
 use crate::node::head;
-use crate::play::after;
 use crate::table::Entry;
 use arrayvec::ArrayVec;
 use pg_certificate::Source;
@@ -173,7 +172,7 @@ fn play_on(top: &mut Frame, found: bool) -> Option<Child>
     let m = top.moves.next()?;
     top.found = either(top.found, found);
     Some(Child {
-        position: after(&top.moves.position(), &m),
+        position: top.moves.position().after(&m),
         plies: top.plies,
     })
 }
