@@ -125,13 +125,7 @@ impl Board {
     pub fn king(&self, color: Color) -> Option<Square>
         ensures { MatchOption result ((q : ℕ) → get self.now q ≢ Some (king_of color)) (λ s. IsFirst self.now (king_of color) s) }
     {
-        let kings = man_set(
-            &self.sets,
-            Man {
-                color,
-                kind: Kind::King,
-            },
-        );
+        let kings = man_set(&self.sets, Man::new(color, Kind::King));
         if kings == 0 {
             None
         } else {

@@ -1,6 +1,6 @@
 //! Colours, kinds and men.
 ghost use Rattle.std.specs.Prelude.{◌≡◌, ◌<◌};
-ghost use Rattle.pg_board.specs.Men.{number_of_kind, other};
+ghost use Rattle.pg_board.specs.Men.{man, number_of_kind, other};
 
 /// The two sides (FIDE article 1.1).
 #[derive(Clone, Copy, Debug, PartialEq, Eq, PartialOrd, Ord, Hash)]
@@ -54,4 +54,14 @@ impl Kind {
 pub struct Man {
     pub color: Color,
     pub kind: Kind,
+}
+
+impl Man {
+    /// The man of a colour and a kind.
+    #[inline(always)]
+    pub fn new(color: Color, kind: Kind) -> Man
+        ensures { result ≡ man color kind }
+    {
+        Man { color, kind }
+    }
 }

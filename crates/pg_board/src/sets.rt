@@ -80,15 +80,9 @@ pub fn man_at(sets: &Sets, i: u8) -> Option<Man>
     ensures { result ≡ man_in sets.now i }
 {
     if contains(sets.white, i) {
-        Some(Man {
-            color: Color::White,
-            kind: kind_at(sets, i),
-        })
+        Some(Man::new(Color::White, kind_at(sets, i)))
     } else if contains(sets.black, i) {
-        Some(Man {
-            color: Color::Black,
-            kind: kind_at(sets, i),
-        })
+        Some(Man::new(Color::Black, kind_at(sets, i)))
     } else {
         None
     }

@@ -2,6 +2,7 @@
 ghost use Rattle.std.specs.Prelude.{◌≡◌, ℕ, ◌+◌, ◌<◌, ◌≤◌, ◌^◌, ◌↔◌, ◌&&◌, ◌||◌, not, eqb, IsTrue, IfSome, IfNone, MatchOption, cond, true, false, bit_and, bit_or, count_ones};
 ghost use Rattle.std.specs.Int.{bit_not, w64};
 ghost use Rattle.pg_board.specs.Bits.{has};
+ghost use Rattle.pg_board.specs.Squares.{is_dark, is_light};
 ghost use Rattle.pg_board.specs.SquareSets.{IsSetOf, Meet, HasNoneFrom, IsFirstFrom, IsLastIn};
 ghost use Rattle.pg_board.specs.Tally.{count_below};
 
@@ -42,6 +43,26 @@ impl SquareSet {
         ensures { (q : ℕ) → q < 64 → has result q ≡ true }
     {
         SquareSet { bits: u64::MAX }
+    }
+
+    /// The light squares, b1 among them (FIDE article 2.1).
+    #[inline(always)]
+    pub fn light() -> SquareSet
+        ensures { (q : ℕ) → q < 64 → has result q ≡ is_light q }
+    {
+        SquareSet {
+            bits: 0x55aa_55aa_55aa_55aa,
+        }
+    }
+
+    /// The dark squares, a1 among them (FIDE article 2.1).
+    #[inline(always)]
+    pub fn dark() -> SquareSet
+        ensures { (q : ℕ) → q < 64 → has result q ≡ is_dark q }
+    {
+        SquareSet {
+            bits: 0xaa55_aa55_aa55_aa55,
+        }
     }
 
     /// The set whose squares are the bits of a number, a1 the lowest.

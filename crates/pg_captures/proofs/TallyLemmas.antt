@@ -8,13 +8,12 @@ use Rattle.pg_board.specs.Squares.{is_light, is_dark}
 use Rattle.pg_board.specs.Men.{man, passes, color_eq, kind_eq, man_eq, is_man, is_of}
 use Rattle.pg_board.specs.Tally.{one, tally, tally_below, count_of, count_below}
 use Rattle.pg_board.specs.lemmas.Sums.{total_same, count_below_same}
-use Rattle.pg_board.specs.Bits.{has, has-and, ones-count, bits_below, has-bits_below}
+use Rattle.pg_board.specs.Bits.{has}
 use Rattle.pg_board.specs.Placement.{Placement, get}
 use Rattle.pg_captures.specs.declared.classes.Class.{Class}
 use Rattle.pg_captures.specs.declared.classes.Class.TheVariants.{Queens, Rooks, Knights, LightBishops, DarkBishops}
 use Rattle.pg_captures.specs.Counting.{of_color, men, any_man, any_pawn, in_class}
 use Rattle.pg_captures.specs.lemmas.PlaceLemmas.{passes_like, and-true, pawn_like}
-use Rattle.pg_captures.specs.declared.counts.TheConstants.{LIGHT_SQUARES, DARK_SQUARES}
 
 -- two tests that agree count alike
 pub tally_like : (f g : ℕ → Man → Bool) (b : Placement) → ((s : ℕ) (m : Man) → f s m ≡ g s m) → tally f b ≡ tally g b
@@ -34,20 +33,6 @@ pub pawns_counted : (b : Placement) (c : Color) → count_of b (man c Pawn) ≡ 
 pawns_counted b c = tally_like (λ _ x. man_eq x (man c Pawn)) (of_color c any_pawn) b (λ s m. ap (λ x. color_eq m.color c && x) (pawn_like m.kind))
 
 -- ---- the five classes as sets
-light_bits : (q : ℕ) → q < 64 → has LIGHT_SQUARES q ≡ is_light q
-unfolding bits_below
-light_bits q l = has-bits_below is_light 64 q l
-
-dark_bits : (q : ℕ) → q < 64 → has DARK_SQUARES q ≡ is_dark q
-unfolding bits_below
-dark_bits q l = has-bits_below is_dark 64 q l
-
-pub light_at : (n : ℕ) → n ≡ LIGHT_SQUARES → (q : ℕ) → q < 64 → has n q ≡ is_light q
-light_at n e q l = ap (λ x. has x q) e ∙ light_bits q l
-
-pub dark_at : (n : ℕ) → n ≡ DARK_SQUARES → (q : ℕ) → q < 64 → has n q ≡ is_dark q
-dark_at n e q l = ap (λ x. has x q) e ∙ dark_bits q l
-
 class_like : (l : Class) (k : Kind) (q : ℕ) → Bool
 class_like Queens k q = kind_eq k Queen
 class_like Rooks k q = kind_eq k Rook

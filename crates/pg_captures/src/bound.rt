@@ -3,7 +3,7 @@ ghost use Rattle.std.specs.Prelude.{◌≡◌, ℕ, Bool, true};
 ghost use Rattle.pg_board.specs.Placement.{Placement};
 ghost use Rattle.pg_position.specs.declared.state.State.{State};
 ghost use Rattle.pg_position.specs.Position.{IsPosition};
-ghost use Rattle.pg_position.specs.Step.{Legal};
+ghost use Rattle.pg_position.specs.Step.{IsLegal, Legal};
 ghost use Rattle.pg_position.specs.Game.{Barren};
 
 use pg_fen::Diagram;
@@ -30,7 +30,7 @@ pub trait Bound: Drop {
     /// Whether the bound excludes every game of `left` plies from the position after a legal move to the
     /// diagram: what `excludes` answers there. A bound may tell it from the position before the move.
     fn excludes_after(&self, diagram: &Diagram, position: &Position, m: &Move, left: u8) -> bool
-        requires { (q : State) × Legal position.now m.now q }
+        requires { IsLegal position.now m.now }
         ensures { (q : State) → Legal position.now m.now q → result ≡ excluded self.now diagram.now q left }
     {
         self.excludes(diagram, &position.after(m), left)

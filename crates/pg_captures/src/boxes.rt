@@ -4,7 +4,7 @@ ghost use Rattle.std.specs.Option.{option_map};
 ghost use Rattle.pg_captures.specs.Lists.{first_of};
 ghost use Rattle.pg_position.specs.declared.state.State.{State};
 ghost use Rattle.pg_position.specs.Game.{Barren};
-ghost use Rattle.pg_position.specs.Step.{Legal};
+ghost use Rattle.pg_position.specs.Step.{IsLegal, Legal};
 
 use crate::bound::Bound;
 use pg_fen::Diagram;
@@ -61,7 +61,7 @@ fn excludes_after_box(
     m: &Move,
     left: u8,
 ) -> bool
-    requires { (q : State) × Legal position.now m.now q }
+    requires { IsLegal position.now m.now }
     ensures { (q : State) → Legal position.now m.now q → result ≡ excluded bound.now diagram.now q left }
 {
     bound.excludes_after(diagram, position, m, left)
@@ -75,7 +75,7 @@ fn ask_after(
     m: &Move,
     left: u8,
 ) -> bool
-    requires { (q : State) × Legal position.now m.now q }
+    requires { IsLegal position.now m.now }
     ensures value { (q : State) → Legal position.now m.now q → result ≡ excluded bound.now diagram.now q left }
     ensures barren { IsTrue result → (q : State) → Legal position.now m.now q → Barren diagram.now q left }
 {
@@ -95,7 +95,7 @@ pub fn first_excludes_after(
     m: &Move,
     left: u8,
 ) -> Option<bool>
-    requires { (q : State) × Legal position.now m.now q }
+    requires { IsLegal position.now m.now }
     ensures first { (q : State) → Legal position.now m.now q → result
         ≡ option_map (λ b. excluded b diagram.now q left) (first_of (λ b. code_of b) code bounds.now) }
     ensures barren { result ≡ Some true → (q : State) → Legal position.now m.now q → Barren diagram.now q left }

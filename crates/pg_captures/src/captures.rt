@@ -2,7 +2,7 @@
 ghost use Rattle.std.specs.Prelude.{◌≡◌, ◌↔◌, ◌⊎◌, ◌+◌, ◌<◌, ◌≤◌, IsTrue};
 ghost use Rattle.pg_captures.specs.Owed.{plies_left, victims, owed, CapturesFor, CapturesHolds};
 ghost use Rattle.pg_position.specs.declared.state.State.{State};
-ghost use Rattle.pg_position.specs.Step.{Legal};
+ghost use Rattle.pg_position.specs.Step.{IsLegal, Legal};
 
 use crate::bound::Bound;
 use crate::counts::all_men;
@@ -69,7 +69,7 @@ fn captures_hold(diagram: &Diagram, position: &Position, left: u8) -> bool
 
 // The same after a legal move: the mover's captures, and those of the other side, which is to move then.
 fn captures_hold_after(diagram: &Diagram, position: &Position, m: &Move, left: u8) -> bool
-    requires { (q : State) × Legal position.now m.now q }
+    requires { IsLegal position.now m.now }
     ensures { (q : State) → Legal position.now m.now q → IsTrue result ↔ CapturesHolds diagram.now q left }
 {
     let mover = position.side();

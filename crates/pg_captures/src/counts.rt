@@ -1,23 +1,12 @@
 //! Counting men on a board by its sets of squares.
 ghost use Rattle.std.specs.Prelude.{◌≡◌, ℕ, ◌<◌, ◌≤◌};
 ghost use Rattle.pg_board.specs.Bits.{has};
-ghost use Rattle.pg_board.specs.Men.{man, passes};
+ghost use Rattle.pg_board.specs.Men.{passes};
 ghost use Rattle.pg_board.specs.Placement.{get};
 ghost use Rattle.pg_captures.specs.Counting.{of_color, men, any_man, any_pawn, in_class};
 
 use crate::classes::Class;
 use pg_board::{Board, Color, Kind, Man, SquareSet};
-
-/// The light squares, b1 among them: bit q for the square q. And the dark ones, a1 among them.
-pub const LIGHT_SQUARES: u64 = 0x55aa_55aa_55aa_55aa;
-
-pub const DARK_SQUARES: u64 = 0xaa55_aa55_aa55_aa55;
-
-pub(crate) fn man(color: Color, kind: Kind) -> Man
-    ensures { result ≡ man color kind }
-{
-    Man { color, kind }
-}
 
 /// How many men the colour has.
 pub fn all_men(board: &Board, color: Color) -> u8
@@ -32,7 +21,7 @@ pub fn pawns(board: &Board, color: Color) -> u8
     ensures value { result ≡ men color any_pawn board.now }
     ensures few { result ≤ 64 }
 {
-    board.count(man(color, Kind::Pawn))
+    board.count(Man::new(color, Kind::Pawn))
 }
 
 // The squares of the colour's men of a class.
@@ -40,14 +29,14 @@ fn class_set(board: &Board, color: Color, class: Class) -> SquareSet
     ensures { (q : ℕ) → q < 64 → has result q ≡ passes (of_color color (in_class class) q) (get board.now q) }
 {
     match class {
-        Class::Queens => board.squares_of(man(color, Kind::Queen)),
-        Class::Rooks => board.squares_of(man(color, Kind::Rook)),
-        Class::Knights => board.squares_of(man(color, Kind::Knight)),
+        Class::Queens => board.squares_of(Man::new(color, Kind::Queen)),
+        Class::Rooks => board.squares_of(Man::new(color, Kind::Rook)),
+        Class::Knights => board.squares_of(Man::new(color, Kind::Knight)),
         Class::LightBishops => {
-            board.squares_of(man(color, Kind::Bishop)) & SquareSet::of_bits(LIGHT_SQUARES)
+            board.squares_of(Man::new(color, Kind::Bishop)) & SquareSet::light()
         }
         Class::DarkBishops => {
-            board.squares_of(man(color, Kind::Bishop)) & SquareSet::of_bits(DARK_SQUARES)
+            board.squares_of(Man::new(color, Kind::Bishop)) & SquareSet::dark()
         }
     }
 }

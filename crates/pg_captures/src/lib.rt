@@ -17,4 +17,4 @@ pub use captures::{Captures, owed, plies_left, victims_of};
 pub use classes::Class;
 pub use counts::{all_men, pawns};
 pub use prices::price_sum;
-pub use promotions::{Promotions, shortage};
+pub use promotions::{Promotions, is_short, shortage};

@@ -33,7 +33,9 @@ pub fn shortage(wanted: &Board, board: &Board, color: Color) -> u16
     queens + rooks + knights + light + dark
 }
 
-fn promotions_hold_for(wanted: &Board, board: &Board, color: Color) -> bool
+/// Whether the colour lacks more men that are no pawns than it has pawns above those of the wanted board:
+/// no number of promotions leads there.
+pub fn is_short(wanted: &Board, board: &Board, color: Color) -> bool
     ensures { IsTrue result ↔ PromotionsFor wanted.now board.now color }
 {
     let here = u16::from(pawns(board, color));
@@ -47,8 +49,7 @@ fn promotions_hold(diagram: &Diagram, position: &Position) -> bool
 {
     let wanted = diagram.board();
     let board = position.board();
-    promotions_hold_for(&wanted, &board, Color::White)
-        || promotions_hold_for(&wanted, &board, Color::Black)
+    is_short(&wanted, &board, Color::White) || is_short(&wanted, &board, Color::Black)
 }
 
 /// The bound by promotions, code 2. Each man that the diagram has above those of the position must

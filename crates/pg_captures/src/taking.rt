@@ -3,11 +3,10 @@ ghost use Rattle.std.specs.Prelude.{◌≡◌, ◌↔◌, ◌≤◌, IsTrue};
 ghost use Rattle.pg_captures.specs.Owed.{victims};
 ghost use Rattle.pg_captures.specs.Taking.{Takes, TakesPassing};
 ghost use Rattle.pg_position.specs.declared.state.State.{State};
-ghost use Rattle.pg_position.specs.Step.{IsEnemy, Legal};
+ghost use Rattle.pg_position.specs.Step.{IsEnemy, IsLegal, Legal};
 
 use crate::captures::victims_of;
-use crate::counts::man;
-use pg_board::Kind;
+use pg_board::{Kind, Man};
 use pg_position::{Move, Position};
 
 // Whether a man of the other colour stands where the move goes.
@@ -30,7 +29,7 @@ fn takes_passing(position: &Position, m: &Move) -> bool
     }
     let pawns = position
         .board()
-        .squares_of(man(position.side(), Kind::Pawn));
+        .squares_of(Man::new(position.side(), Kind::Pawn));
     pawns.contains(m.from) && m.from.file() != m.to.file()
 }
 
@@ -46,7 +45,7 @@ fn takes(position: &Position, m: &Move) -> bool
 // How many men the side that is not to move has after a legal move.
 #[inline(always)]
 pub(crate) fn victims_after(position: &Position, m: &Move) -> u8
-    requires { (q : State) × Legal position.now m.now q }
+    requires { IsLegal position.now m.now }
     ensures value { (q : State) → Legal position.now m.now q → result ≡ victims position.now.side q.board }
     ensures few { result ≤ 64 }
 {

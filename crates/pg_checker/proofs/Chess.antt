@@ -8,7 +8,7 @@ use Rattle.pg_board.specs.Equality.{placement_eq_decides}
 use Rattle.pg_position.specs.declared.state.State.{State}
 use Rattle.pg_position.specs.declared.moves.Move.{Move}
 use Rattle.pg_position.specs.Position.{IsPosition}
-use Rattle.pg_position.specs.Step.{Legal}
+use Rattle.pg_position.specs.Step.{Legal, IsLegal}
 use Rattle.pg_position.specs.Game.{IsGame, Barren}
 use Rattle.pg_position.specs.Array.{array_state}
 use Rattle.pg_position.specs.Equality.{state_eq}
@@ -16,7 +16,6 @@ use Rattle.pg_position.specs.lemmas.Equalities.{state_eq_decides}
 use Rattle.pg_position.proofs.ArrayLemmas.{array_position}
 use Rattle.pg_position.specs.Future.{SameFuture}
 use Rattle.pg_position.proofs.FutureLemmas.{legal_position, future_sym, same_games, same_ends}
-use Rattle.pg_moves.specs.Moves.{IsLegal}
 use Rattle.pg_moves.proofs.ListLemmas.{moves_of_is, few_moves}
 use Rattle.pg_moves.proofs.PlayLemmas.{play_of_is}
 use Rattle.pg_moves.specs.numbers.Places.{most_moves}

@@ -8,11 +8,10 @@ use Rattle.pg_position.specs.declared.state.State.{State}
 use Rattle.pg_position.specs.declared.moves.Move.{Move}
 use Rattle.pg_position.specs.Array.{array_state}
 use Rattle.pg_position.specs.Position.{IsPosition}
-use Rattle.pg_position.specs.Step.{Legal}
+use Rattle.pg_position.specs.Step.{Legal, IsLegal}
 use Rattle.pg_position.specs.Game.{IsGame}
 use Rattle.pg_position.proofs.ArrayLemmas.{array_position}
 use Rattle.pg_position.proofs.FutureLemmas.{one_result, one_end}
-use Rattle.pg_moves.specs.Moves.{IsLegal}
 use Rattle.pg_san.specs.Games.{IsFromArray, IsGames}
 use Rattle.pg_checker.specs.Answer.{IsSolution, AreSolutions}
 use Rattle.pg_checker.specs.Listed.{AreFine, IsGameFault, IsListFault}

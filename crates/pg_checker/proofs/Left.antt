@@ -10,7 +10,8 @@ use Rattle.std.proofs.lemmas.List.Kept.{IsStrictlySortedBy-filter}
 use Rattle.pg_board.specs.Placement.{Placement}
 use Rattle.pg_position.specs.declared.state.State.{State}
 use Rattle.pg_position.specs.declared.moves.Move.{Move}
-use Rattle.pg_moves.specs.Moves.{move_cmp, IsLegal, IsPast, IsNext, IsLast}
+use Rattle.pg_position.specs.Step.{IsLegal}
+use Rattle.pg_moves.specs.Moves.{move_cmp, IsPast, IsNext, IsLast}
 use Rattle.pg_moves.proofs.PlaceLemmas.{move_cmp_total}
 use Rattle.pg_moves.proofs.SortLemmas.{Contains-head, Contains-later, Contains-cons, sorted_same}
 use Rattle.pg_moves.proofs.ListLemmas.{kept_are, kept_has, moves_of, moves_of_is}

@@ -3,9 +3,9 @@ use Rattle.std.proofs.Common.{◌≡◌, ◌||◌, Bool, Option, Some, None, IfS
 use Rattle.pg_position.specs.declared.state.State.{State}
 use Rattle.pg_position.specs.declared.moves.Move.{Move}
 use Rattle.pg_position.specs.Position.{IsPosition}
-use Rattle.pg_position.specs.Step.{Legal}
+use Rattle.pg_position.specs.Step.{IsLegal, Legal}
 use Rattle.pg_moves.specs.Left.{MovesLeft}
-use Rattle.pg_moves.specs.Moves.{IsLegal, IsNext}
+use Rattle.pg_moves.specs.Moves.{IsNext}
 use Rattle.pg_moves.proofs.PlayLemmas.{play_of, play_of_legal, play_of_is}
 use Rattle.pg_checker.specs.numbers.Machine.{Plays}
 use Rattle.pg_checker.specs.numbers.Spots.{played_from}

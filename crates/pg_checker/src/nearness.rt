@@ -1,8 +1,8 @@
 //! Whether a diagram may be one move away.
 ghost use Rattle.std.specs.Prelude.{◌≡◌, ◌↔◌, IsTrue, true, false};
-ghost use Rattle.pg_moves.specs.Moves.{IsLegal};
 ghost use Rattle.pg_position.specs.declared.moves.Move.{Move};
 ghost use Rattle.pg_position.specs.Position.{IsPosition};
+ghost use Rattle.pg_position.specs.Step.{IsLegal};
 ghost use Rattle.pg_checker.specs.Differing.{Differ, TwoToFour};
 ghost use Rattle.pg_checker.specs.Passing.{AllElsewhere, LeadsElsewhere, LeadsTo, NextLeads, PassesOver};
 

@@ -1,7 +1,6 @@
 //! Playing a move that is known to be legal.
 ghost use Rattle.pg_position.specs.Position.{IsPosition};
-ghost use Rattle.pg_position.specs.Step.{Legal};
-ghost use Rattle.pg_moves.specs.Moves.{IsLegal};
+ghost use Rattle.pg_position.specs.Step.{Legal, IsLegal};
 
 use pg_position::{Move, Position};
 

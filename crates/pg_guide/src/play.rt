@@ -1,8 +1,8 @@
 //! Playing moves.
 ghost use Rattle.std.specs.Prelude.{MatchOption};
-ghost use Rattle.pg_moves.specs.Moves.{IsLegal};
 ghost use Rattle.pg_position.specs.Array.{array_state};
 ghost use Rattle.pg_position.specs.Game.{IsGame};
+ghost use Rattle.pg_position.specs.Step.{IsLegal};
 ghost use Rattle.pg_san.specs.Games.{IsFromArray};
 
 use pg_position::{Move, Position};

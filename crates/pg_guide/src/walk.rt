@@ -1,7 +1,7 @@
 //! The walk over the trees of a certificate, with a stack of open nodes.
 
 ghost use Rattle.std.specs.Prelude.{◌≡◌, ◌↔◌, Bool, IsTrue, IfErr, IfSome};
-ghost use Rattle.pg_moves.specs.Moves.{IsLegal};
+ghost use Rattle.pg_position.specs.Step.{IsLegal};
 ghost use Rattle.pg_checker.specs.Answer.{IsSolution};
 ghost use Rattle.pg_guide.specs.Stops.{Finds, StopsTruly};
 ghost use Rattle.pg_guide.specs.declared.machine.Question.{Question};

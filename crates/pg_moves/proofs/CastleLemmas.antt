@@ -18,10 +18,9 @@ use Rattle.pg_position.specs.declared.moves.Way.TheVariants.{Castling}
 use Rattle.pg_position.specs.Geometry.{IsBetween}
 use Rattle.pg_position.specs.Attack.{IsClear, AttacksFrom, Attacks}
 use Rattle.pg_position.specs.Position.{Stands, HasOneKing, IsOnlyKing, InCheck, IsPosition, RightsClause, IsHome}
-use Rattle.pg_position.specs.Step.{IsCastling, IsOnBoard, relocated, after, Step}
+use Rattle.pg_position.specs.Step.{IsLegal, IsCastling, IsOnBoard, relocated, after, Step}
 use Rattle.pg_position.specs.Squares.{king_home, rook_home, king_crossed, king_target}
 use Rattle.pg_position.proofs.StepLemmas.{same_kind, not_other}
-use Rattle.pg_moves.specs.Moves.{IsLegal}
 use Rattle.pg_moves.proofs.LeafLemmas.{one_king}
 use Rattle.pg_moves.proofs.KingLemmas.{not_end}
 

@@ -10,12 +10,12 @@ use Rattle.std.proofs.lemmas.List.Elements.{Contains-append_left, Contains-appen
 use Rattle.pg_position.specs.declared.state.State.{State}
 use Rattle.pg_position.specs.declared.moves.Move.{Move}
 use Rattle.pg_position.specs.Position.{IsPosition}
-use Rattle.pg_position.specs.Step.{Legal}
+use Rattle.pg_position.specs.Step.{Legal, IsLegal}
 use Rattle.pg_position.specs.Game.{IsGame, IsOnce}
 use Rattle.pg_position.proofs.FutureLemmas.{legal_position}
 use Rattle.pg_moves.specs.declared.fault.CountFault.{CountFault}
 use Rattle.pg_moves.specs.declared.fault.CountFault.TheVariants.{TooDeep, Overflow, Memory}
-use Rattle.pg_moves.specs.Moves.{move_cmp, IsLegal, IsMoveList}
+use Rattle.pg_moves.specs.Moves.{move_cmp, IsMoveList}
 use Rattle.pg_moves.specs.Counts.{IsFollowed, IsGameOf, IsGameList, IsGameCount, IsCountFault}
 use Rattle.pg_moves.proofs.SortLemmas.{Contains-head, Contains-later, Contains-cons, Contains-none, sorted_below, sorted_rest}
 use Rattle.pg_moves.proofs.PlaceLemmas.{move_cmp_total}

@@ -5,8 +5,8 @@ use Rattle.pg_position.specs.declared.state.State.{State}
 use Rattle.pg_position.specs.declared.moves.Move.{Move}
 use Rattle.pg_position.specs.Position.{IsPosition}
 use Rattle.pg_position.specs.Game.{IsGame}
+use Rattle.pg_position.specs.Step.{IsLegal}
 use Rattle.pg_position.proofs.FutureLemmas.{legal_position}
-use Rattle.pg_moves.specs.Moves.{IsLegal}
 use Rattle.pg_moves.proofs.ListLemmas.{moves_of, moves_of_is}
 use Rattle.pg_moves.proofs.PlayLemmas.{play_of, play_of_legal, play_of_is}
 

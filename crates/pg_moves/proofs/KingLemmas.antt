@@ -16,9 +16,8 @@ use Rattle.pg_position.specs.declared.moves.Way.TheVariants.{Plain, Capture, Dou
 use Rattle.pg_position.specs.Geometry.{apart, IsBetween, InPattern}
 use Rattle.pg_position.specs.Attack.{IsClear, Reaches, AttacksFrom, Attacks}
 use Rattle.pg_position.specs.Position.{Stands, HasOneKing, IsOnlyKing, InCheck, IsPosition}
-use Rattle.pg_position.specs.Step.{IsEnemy, Goes, IsWay, relocated, board_after, after, Step}
+use Rattle.pg_position.specs.Step.{IsLegal, IsEnemy, Goes, IsWay, relocated, board_after, after, Step}
 use Rattle.pg_position.proofs.StepLemmas.{same_kind, same_side, not_other, two_files}
-use Rattle.pg_moves.specs.Moves.{IsLegal}
 use Rattle.pg_moves.specs.Targets.{plain_move, IsOwn}
 use Rattle.pg_moves.proofs.LeafLemmas.{one_king}
 

@@ -21,11 +21,11 @@ use Rattle.pg_position.specs.Geometry.{IsForward, InPattern}
 use Rattle.pg_position.specs.Attack.{Reaches, Attacks}
 use Rattle.pg_board.specs.SquareSets.{IsSetOf, HasNoneFrom, IsFirstFrom}
 use Rattle.pg_position.specs.Position.{Stands, IsOnlyKing, HasOneKing, InCheck, IsPosition}
-use Rattle.pg_position.specs.Step.{Goes, IsOnBoard}
+use Rattle.pg_position.specs.Step.{IsLegal, Goes, IsOnBoard}
 use Rattle.pg_position.specs.Squares.{home_rank, last_rank}
 use Rattle.pg_position.proofs.StepLemmas.{same_kind}
 use Rattle.pg_board.proofs.SetLemmas.{set_of_union}
-use Rattle.pg_moves.specs.Moves.{promotion_number, IsLegal}
+use Rattle.pg_moves.specs.Moves.{promotion_number}
 use Rattle.pg_moves.specs.numbers.Places.{place, place_of, NoneFrom, IsFirstMove, IsCountBelow, Adds}
 use Rattle.pg_moves.specs.numbers.Sources.{IsExact}
 use Rattle.pg_moves.specs.Targets.{plain_move, Strides, Leaps, Advances, CapturesEnPassant, IsFree, FreeOff, IsOrdinary}

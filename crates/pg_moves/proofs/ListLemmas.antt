@@ -7,8 +7,8 @@ use Rattle.std.proofs.lemmas.List.Elements.{Contains-push, Contains-push_cases, 
 use Rattle.std.proofs.lemmas.Bool.Decides.{eqb_tells, leb_tells}
 use Rattle.pg_position.specs.declared.state.State.{State}
 use Rattle.pg_position.specs.declared.moves.Move.{Move}
-use Rattle.pg_position.specs.Step.{IsOnBoard, Step}
-use Rattle.pg_moves.specs.Moves.{move_cmp, IsLegal, IsMoveList}
+use Rattle.pg_position.specs.Step.{IsLegal, IsOnBoard, Step}
+use Rattle.pg_moves.specs.Moves.{move_cmp, IsMoveList}
 use Rattle.pg_moves.specs.numbers.Places.{place, NoneFrom, IsFirstMove, IsListBelow}
 use Rattle.pg_moves.proofs.SortLemmas.{Contains-head, Contains-later, Contains-cons, Contains-none, sorted_push, sorted_none, sorted_same}
 use Rattle.pg_moves.proofs.PlaceLemmas.{move_cmp_total, place_less, same_place, place_low, moves_below, all_moves, all_ascend, all_have}

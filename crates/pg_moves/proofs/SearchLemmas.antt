@@ -17,12 +17,12 @@ use Rattle.pg_board.specs.declared.man.Man.{Man}
 use Rattle.pg_board.specs.Bits.{has}
 use Rattle.pg_board.specs.Men.{man, is_of}
 use Rattle.pg_board.specs.Placement.{Placement, get}
-use Rattle.pg_position.specs.Step.{IsOnBoard, IsWay, IsPiece, MustPromote, Step}
+use Rattle.pg_position.specs.Step.{IsLegal, IsOnBoard, IsWay, IsPiece, MustPromote, Step}
 use Rattle.pg_position.specs.Squares.{ahead, passed_rank, home_rank, last_rank}
 use Rattle.pg_position.proofs.StepLemmas.{same_kind}
 use Rattle.pg_board.specs.SquareSets.{HasNoneFrom, IsFirstFrom}
 use Rattle.pg_moves.proofs.TargetLemmas.{own_set}
-use Rattle.pg_moves.specs.Moves.{promotion_number, move_cmp, IsLegal, IsPast, IsNext, IsLast}
+use Rattle.pg_moves.specs.Moves.{promotion_number, move_cmp, IsPast, IsNext, IsLast}
 use Rattle.pg_moves.specs.numbers.Places.{place_of, start_after, place, NoneFrom, IsFirstMove, IsListBelow}
 use Rattle.pg_moves.specs.Targets.{IsOwn, Covers}
 use Rattle.pg_moves.proofs.PlaceLemmas.{move_cmp_total, promotion_low, place_less, same_place, place_low}

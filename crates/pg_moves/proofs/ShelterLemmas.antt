@@ -14,9 +14,8 @@ use Rattle.pg_position.specs.declared.moves.Way.TheVariants.{Plain, Capture, Dou
 use Rattle.pg_position.specs.Geometry.{IsBetween}
 use Rattle.pg_position.specs.Attack.{IsClear, Reaches, AttacksFrom, Attacks}
 use Rattle.pg_position.specs.Position.{Stands, IsOnlyKing, InCheck}
-use Rattle.pg_position.specs.Step.{IsEnemy, MustPromote, IsWay, relocated, after, Step}
+use Rattle.pg_position.specs.Step.{IsLegal, IsEnemy, MustPromote, IsWay, relocated, after, Step}
 use Rattle.pg_position.proofs.StepLemmas.{same_kind, same_side, not_other}
-use Rattle.pg_moves.specs.Moves.{IsLegal}
 use Rattle.pg_moves.specs.Targets.{plain_move, Strides, Leaps, Advances}
 use Rattle.pg_moves.proofs.LineLemmas.{seen_back, between_more}
 

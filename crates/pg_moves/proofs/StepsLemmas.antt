@@ -17,10 +17,9 @@ use Rattle.pg_position.specs.Attack.{Reaches, Attacks}
 use Rattle.pg_board.specs.SquareSets.{IsSetOf, IsFirstFrom, HasNoneFrom}
 use Rattle.pg_position.specs.Position.{Stands, IsPosition, IsHome, HasOneKing, IsOnlyKing, RightsClause}
 use Rattle.pg_position.specs.Squares.{king_home, rook_home}
-use Rattle.pg_position.specs.Step.{Goes, IsWay, IsCastling, Step}
+use Rattle.pg_position.specs.Step.{IsLegal, Goes, IsWay, IsCastling, Step}
 use Rattle.pg_position.proofs.StepLemmas.{same_kind}
 use Rattle.pg_board.proofs.SetLemmas.{set_of_union, set_of_rest}
-use Rattle.pg_moves.specs.Moves.{IsLegal}
 use Rattle.pg_moves.specs.numbers.Sources.{IsExact}
 use Rattle.pg_moves.specs.Targets.{plain_move, Strides, Advances}
 use Rattle.pg_moves.proofs.TargetLemmas.{not_own}

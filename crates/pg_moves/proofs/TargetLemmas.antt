@@ -20,12 +20,11 @@ use Rattle.pg_position.specs.Geometry.{IsForward, InPattern}
 use Rattle.pg_position.specs.Attack.{IsClear, Reaches}
 use Rattle.pg_board.specs.SquareSets.{IsSetOf}
 use Rattle.pg_position.specs.Position.{Stands, IsVacant}
-use Rattle.pg_position.specs.Step.{IsEnemy, Goes, IsWay, Step}
+use Rattle.pg_position.specs.Step.{IsLegal, IsEnemy, Goes, IsWay, Step}
 use Rattle.pg_position.specs.Squares.{ahead, HasAhead, home_rank}
 use Rattle.pg_position.proofs.StepLemmas.{same_kind, same_side, not_other}
 use Rattle.pg_position.proofs.LineLemmas.{pawn_near}
 use Rattle.pg_board.proofs.SetLemmas.{set_like, set_of_union, set_of_both, set_of_rest, set_none}
-use Rattle.pg_moves.specs.Moves.{IsLegal}
 use Rattle.pg_moves.specs.Targets.{IsOwn, Strides, Leaps, Advances, CapturesEnPassant, Covers}
 
 -- ---- what stands on a square

@@ -5,16 +5,12 @@ use Rattle.std.specs.List.{Contains}
 use Rattle.std.specs.List.Sorted.{IsStrictlySortedBy}
 use Rattle.pg_position.specs.declared.state.State.{State}
 use Rattle.pg_position.specs.declared.moves.Move.{Move}
-use Rattle.pg_position.specs.Step.{Legal}
+use Rattle.pg_position.specs.Step.{IsLegal}
 pub use Rattle.pg_position.specs.Order.{promotion_number, move_cmp}
 
 -- the move a comes before the move b
 abbrev pub IsBefore : Move → Move → Type 0
 IsBefore a b = move_cmp a b ≡ Less
-
--- the move may be made: it leads somewhere
-abbrev pub IsLegal : State → Move → Type 0
-IsLegal p m = (q : State) × Legal p m q
 
 -- the legal moves, each once, in canonical order
 pub record IsMoveList (p : State) (ms : List Move) : Type 0 where

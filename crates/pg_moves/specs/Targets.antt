@@ -13,9 +13,8 @@ use Rattle.pg_position.specs.declared.moves.Move.{Move}
 use Rattle.pg_position.specs.Geometry.{InPattern}
 use Rattle.pg_position.specs.Attack.{Reaches}
 use Rattle.pg_position.specs.Position.{Stands, IsVacant}
-use Rattle.pg_position.specs.Step.{IsEnemy, Goes, MustPromote}
+use Rattle.pg_position.specs.Step.{IsLegal, IsEnemy, Goes, MustPromote}
 use Rattle.pg_position.specs.Squares.{ahead, home_rank}
-use Rattle.pg_moves.specs.Moves.{IsLegal}
 
 -- a man of the colour stands there
 unfoldable pub IsOwn : Placement → Color → ℕ → Type 0

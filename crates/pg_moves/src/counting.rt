@@ -1,7 +1,6 @@
 //! The number of games of so many plies from a position.
 ghost use Rattle.std.specs.Prelude.{◌≡◌, ◌<◌, ◌≤◌, ◌↔◌, IfOk, IfErr, IsErrOf, MatchResult};
-ghost use Rattle.pg_position.specs.Step.{Legal};
-ghost use Rattle.pg_moves.specs.Moves.{IsLegal, IsMoveList};
+ghost use Rattle.pg_moves.specs.Moves.{IsMoveList};
 ghost use Rattle.pg_moves.specs.Counts.{IsGameCount, IsCountFault};
 
 use crate::fault::CountFault;
@@ -19,14 +18,6 @@ fn listed(alloc: Global, position: &Position) -> Result<Vec<Move>, CountFault>
         Ok(moves) => Ok(moves),
         Err(AllocError) => Err(CountFault::Memory),
     }
-}
-
-// The position after a move of the list.
-fn played(position: &Position, m: &Move) -> Position
-    requires { IsLegal position.now m.now }
-    ensures { Legal position.now m.now result }
-{
-    position.after(m)
 }
 
 // Tells of the games below a move, where they take a while to count.
@@ -76,7 +67,7 @@ fn count_listed<P: Progress>(
     let moves = listed(alloc, position)?;
     let mut total = 0u64;
     for m in &moves {
-        let next = played(position, m);
+        let next = position.after(m);
         match count_from(alloc, &next, plies - 1, watch) {
             Ok(games) => match total.checked_add(games) {
                 Some(sum) => {

@@ -1,7 +1,8 @@
 //! The legal moves of a position as a list, and the next one after a move.
 ghost use Rattle.std.specs.Prelude.{◌≡◌, MatchOption, IfOk, IfErr};
-ghost use Rattle.pg_moves.specs.Moves.{IsLegal, IsMoveList, IsNext, IsLast};
+ghost use Rattle.pg_moves.specs.Moves.{IsMoveList, IsNext, IsLast};
 ghost use Rattle.pg_position.specs.declared.moves.Move.{Move};
+ghost use Rattle.pg_position.specs.Step.{IsLegal};
 
 use crate::left::LegalMoves;
 use crate::places::promotion_number;

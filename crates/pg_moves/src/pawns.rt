@@ -148,10 +148,7 @@ fn en_passant_sources(position: &Position) -> SquareSet
 {
     match position.passed() {
         Some(square) => {
-            let pawn = Man {
-                color: position.side().other(),
-                kind: Kind::Pawn,
-            };
+            let pawn = Man::new(position.side().other(), Kind::Pawn);
             attacks_from(&position.board(), pawn, square)
         }
         None => SquareSet::empty(),
@@ -165,9 +162,6 @@ pub(crate) fn quiet_pawns(position: &Position, board: &Board, maybe_pinned: Squa
     ensures { (q : ℕ) → q < 64 → has result q ≡ true → IsQuiet position.now q }
 {
     let side = position.side();
-    let pawns = board.squares_of(Man {
-        color: side,
-        kind: Kind::Pawn,
-    });
+    let pawns = board.squares_of(Man::new(side, Kind::Pawn));
     pawns - maybe_pinned - en_passant_sources(position) - home(side.other())
 }

@@ -1,7 +1,7 @@
 //! The search for the first legal move from a place on.
 ghost use Rattle.std.specs.Prelude.{◌≡◌, ◌≢◌, ℕ, ◌+◌, ◌*◌, ◌<◌, ◌≤◌, ◌↔◌, IsTrue, MatchOption};
 ghost use Rattle.pg_position.specs.Position.{Stands};
-ghost use Rattle.pg_moves.specs.Moves.{IsLegal};
+ghost use Rattle.pg_position.specs.Step.{IsLegal};
 ghost use Rattle.pg_moves.specs.numbers.Places.{most_moves, place, place_of, NoneFrom, IsNextWithin};
 ghost use Rattle.pg_moves.specs.numbers.Sources.{IsExact};
 ghost use Rattle.pg_moves.specs.Targets.{IsOwn, Covers, FreeOff};
@@ -10,16 +10,6 @@ use crate::places::{next_square, promotion_at, resume_at};
 use crate::sources::{first_of_source, source_at};
 use pg_board::{Kind, Square, SquareSet};
 use pg_position::{Move, Position, must_promote};
-
-// Whether the move is played.
-fn plays(position: &Position, m: &Move) -> bool
-    ensures { IsTrue result ↔ IsLegal position.now m.now }
-{
-    match position.play(*m) {
-        Ok(_) => true,
-        Err(_) => false,
-    }
-}
 
 // The move, if it is legal.
 fn legal_at(position: &Position, from: Square, to: Square, number: u8) -> Option<Move>
@@ -35,7 +25,7 @@ fn legal_at(position: &Position, from: Square, to: Square, number: u8) -> Option
     };
     // A fact for the proof: the square is on the board.
     to.index();
-    if plays(position, &m) { Some(m) } else { None }
+    if position.is_legal(&m) { Some(m) } else { None }
 }
 
 // The promotions that are to be tried, as two places: none alone, or knight to queen.

@@ -27,10 +27,7 @@ fn in_front(color: Color, from: Square) -> SquareSet
 fn pawn_strides(board: &Board, color: Color, from: Square) -> SquareSet
     ensures { IsSetOf result (Strides board.now color Kind.Pawn from) }
 {
-    let pawn = Man {
-        color,
-        kind: Kind::Pawn,
-    };
+    let pawn = Man::new(color, Kind::Pawn);
     let taken = attacks_from(board, pawn, from) & board.squares_of_color(color.other());
     taken | (in_front(color, from) - board.occupied())
 }
@@ -40,7 +37,7 @@ fn piece_strides(board: &Board, color: Color, kind: Kind, from: Square) -> Squar
     requires { kind ≢ Kind.Pawn }
     ensures { IsSetOf result (Strides board.now color kind from) }
 {
-    attacks_from(board, Man { color, kind }, from) - board.squares_of_color(color)
+    attacks_from(board, Man::new(color, kind), from) - board.squares_of_color(color)
 }
 
 // Whether a pawn stands at home with two empty squares in front of it.
@@ -81,10 +78,7 @@ pub(crate) fn en_passant_targets(position: &Position, from: Square) -> SquareSet
 {
     match position.passed() {
         Some(square) => {
-            let pawn = Man {
-                color: position.side(),
-                kind: Kind::Pawn,
-            };
+            let pawn = Man::new(position.side(), Kind::Pawn);
             attacks_from(&position.board(), pawn, from) & SquareSet::single(square)
         }
         None => SquareSet::empty(),

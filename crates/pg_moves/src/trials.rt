@@ -15,7 +15,7 @@ use pg_position::{Position, attacked, attacks_from, home_rank};
 fn bits_of(board: &Board, color: Color, kind: Kind) -> u64
     ensures { (q : ℕ) → q < 64 → has result q ≡ is_man (man color kind) (get board.now q) }
 {
-    board.squares_of(Man { color, kind }).bits()
+    board.squares_of(Man::new(color, kind)).bits()
 }
 
 // The squares of a colour where only the men of one colour are left, as the bits of a number.
@@ -73,10 +73,7 @@ pub(crate) fn maybe_pinned(position: &Position) -> SquareSet
 {
     let side = position.side();
     let board = position.board();
-    let queen = Man {
-        color: side,
-        kind: Kind::Queen,
-    };
+    let queen = Man::new(side, Kind::Queen);
     match board.king(side) {
         Some(king) => {
             if !attacked_bare(&board, king, side) {

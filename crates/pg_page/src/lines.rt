@@ -1,6 +1,6 @@
 //! The parts of the lines that the page's script reads.
 ghost use Rattle.std.specs.Prelude.{◌≡◌, true, OnErr, OnOk};
-ghost use Rattle.pg_moves.specs.Moves.{IsLegal};
+ghost use Rattle.pg_position.specs.Step.{IsLegal};
 
 use arrayvec::ArrayString;
 use pg_board::Square;

@@ -1,7 +1,7 @@
 //! The trees of a certificate as lines for the page's script, depth first, a line for each node that is told. docs/FORMATS.md
 //! has the lines.
 ghost use Rattle.std.specs.Prelude.{◌≡◌, Bool, true, IfErr, IfSome, OnErr};
-ghost use Rattle.pg_moves.specs.Moves.{IsLegal};
+ghost use Rattle.pg_position.specs.Step.{IsLegal};
 ghost use Rattle.pg_page.specs.Telling.{StopsTruly};
 
 use crate::lines::{MoveText, move_text, write_escaped, write_number};

@@ -5,7 +5,7 @@ use Rattle.pg_board.specs.declared.man.Kind.TheVariants.{Pawn}
 use Rattle.pg_board.specs.declared.man.Man.{Man}
 use Rattle.pg_board.specs.Squares.{file}
 use Rattle.pg_board.specs.Men.{man, is_man}
-use Rattle.pg_board.specs.Tally.{total, count_below}
+use Rattle.pg_board.specs.Tally.{count_below}
 use Rattle.pg_board.specs.lemmas.Sums.{below_seven, total-none, total-more}
 use Rattle.pg_board.specs.Bits.{has, bits_below, has-bits_below}
 use Rattle.pg_board.specs.Placement.{Placement, get}

@@ -1,5 +1,5 @@
 -- What tells the pawn-files test in natural numbers tells it.
-use Rattle.std.proofs.Common.{ℕ, ◌+◌, ◌<◌, ◌↔◌, Bool, IsTrue}
+use Rattle.std.proofs.Common.{◌+◌, ◌<◌, ◌↔◌, Bool, IsTrue}
 use Rattle.pg_board.specs.declared.man.Color.{Color}
 use Rattle.pg_board.specs.Placement.{Placement}
 use Rattle.pg_captures.specs.Owed.{victims}

@@ -1,6 +1,5 @@
 //! Sets of squares left and right of the lines between files.
 ghost use Rattle.std.specs.Prelude.{◌≡◌, ◌+◌, ◌<◌, ◌≤◌};
-ghost use Rattle.pg_board.specs.Men.{man};
 ghost use Rattle.pg_captures.specs.Counting.{men};
 ghost use Rattle.pg_pawns.specs.PawnFiles.{pawn_left, pawn_right};
 
@@ -34,7 +33,8 @@ pub fn left_pawns(board: &Board, color: Color, n: u8) -> u8
     ensures value { result ≡ men color (pawn_left (n + 1)) board.now }
     ensures few { result ≤ 64 }
 {
-    (board.squares_of(pawn(color)) & SquareSet::of_bits(LEFT_FILES[n as usize])).len()
+    (board.squares_of(Man::new(color, Kind::Pawn))
+        & SquareSet::of_bits(LEFT_FILES[n as usize])).len()
 }
 
 /// How many pawns of the colour stand right of the line after the file `n + 1`.
@@ -43,14 +43,6 @@ pub fn right_pawns(board: &Board, color: Color, n: u8) -> u8
     ensures value { result ≡ men color (pawn_right (n + 1)) board.now }
     ensures few { result ≤ 64 }
 {
-    (board.squares_of(pawn(color)) & SquareSet::of_bits(RIGHT_FILES[n as usize])).len()
-}
-
-pub fn pawn(color: Color) -> Man
-    ensures { result ≡ man color Kind.Pawn }
-{
-    Man {
-        color,
-        kind: Kind::Pawn,
-    }
+    (board.squares_of(Man::new(color, Kind::Pawn))
+        & SquareSet::of_bits(RIGHT_FILES[n as usize])).len()
 }

@@ -1,25 +1,15 @@
 //! The test of a price list of pawn files.
 ghost use Rattle.std.specs.Prelude.{◌≡◌, ℕ, ◌+◌, ◌↔◌, IsTrue, ◌<◌, ◌≤◌};
 ghost use Rattle.pg_position.specs.Game.{Barren};
-ghost use Rattle.pg_position.specs.Geometry.{apart};
 ghost use Rattle.pg_captures.specs.Counting.{any_pawn};
 ghost use Rattle.pg_captures.specs.PriceLists.{IsPriced, list_of};
 ghost use Rattle.pg_pawns.specs.PawnPrices.{PawnPricesExclude};
 ghost use Rattle.pg_pawns.specs.numbers.PriceTests.{IsAhead, PairFits, SourceFits, AllFit};
 
-use crate::files::pawn;
-use pg_board::{Board, Color, Square};
+use pg_board::{Board, Color, Kind, Man, Square};
 use pg_captures::{pawns, price_sum, victims_of};
 use pg_fen::Diagram;
 use pg_position::Position;
-
-fn files_apart(a: u8, b: u8) -> u8
-    requires { (a < 9) × (b < 9) }
-    ensures value { result ≡ apart a b }
-    ensures low { result < 9 }
-{
-    if a < b { b - a } else { a - b }
-}
 
 // Whether the second rank is at least so many ranks before the first, as the colour's pawns go.
 fn is_ahead(color: Color, from: u8, to: u8, ranks: u8) -> bool
@@ -49,7 +39,7 @@ fn pair_fits(color: Color, s: Square, u: u8, t: Square, v: u8) -> bool
     // Facts for the proof: both squares are on the board.
     s.index();
     t.index();
-    let shift = files_apart(s.file(), t.file());
+    let shift = s.file().abs_diff(t.file());
     if is_ahead(color, s.rank(), t.rank(), shift) {
         pays_at_most(v, u, shift)
     } else {
@@ -62,7 +52,7 @@ fn source_fits(goal: &Board, color: Color, s: Square, u: u8, v: &[u8]) -> bool
     requires { IsPriced v.now color any_pawn goal.now }
     ensures { IsTrue result ↔ SourceFits goal.now color s u v.now }
 {
-    let own = goal.squares_of(pawn(color));
+    let own = goal.squares_of(Man::new(color, Kind::Pawn));
     let mut place = 0usize;
     let mut from = 0u8;
     while let Some(t) = own.first_from(from) {
@@ -80,7 +70,7 @@ fn all_fit(board: &Board, goal: &Board, color: Color, u: &[u8], v: &[u8]) -> boo
     requires { IsPriced u.now color any_pawn board.now × IsPriced v.now color any_pawn goal.now }
     ensures { IsTrue result ↔ AllFit board.now goal.now color u.now v.now }
 {
-    let own = board.squares_of(pawn(color));
+    let own = board.squares_of(Man::new(color, Kind::Pawn));
     let mut place = 0usize;
     let mut from = 0u8;
     while let Some(s) = own.first_from(from) {

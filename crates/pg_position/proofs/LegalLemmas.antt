@@ -1,5 +1,5 @@
 -- The case of a legal move, told apart by few tests.
-use Rattle.std.proofs.Common.{◌≡◌, ◌≢◌, ℕ, ◌+◌, ◌⊎◌, ◌↔◌, inl, inr, Bool, true, false, IsTrue, Some, None, sym, ap, subst, arith, ◌∙◌}
+use Rattle.std.proofs.Common.{refl, Ok, Err, Result, IfOk, IfErr, is_ok, ◌≡◌, ◌≢◌, ℕ, ◌+◌, ◌⊎◌, ◌↔◌, inl, inr, Bool, true, false, IsTrue, Some, None, sym, ap, subst, arith, ◌∙◌}
 use Rattle.pg_board.specs.declared.man.Color.{Color}
 use Rattle.pg_board.specs.declared.man.Color.TheVariants.{White, Black}
 use Rattle.pg_board.specs.declared.man.Kind.{Kind}
@@ -14,9 +14,10 @@ use Rattle.pg_position.specs.declared.state.State.{State}
 use Rattle.pg_position.specs.declared.moves.Move.{Move}
 use Rattle.pg_position.specs.declared.moves.Way.{Way}
 use Rattle.pg_position.specs.declared.moves.Way.TheVariants.{Plain, Capture, DoubleAdvance, EnPassant, Promotion, Castling}
+use Rattle.pg_position.specs.declared.refusals.Illegal.{Illegal}
 use Rattle.pg_position.specs.Geometry.{apart, IsForward, InPattern}
 use Rattle.pg_position.specs.Position.{IsVacant, IsPassed, IsPosition}
-use Rattle.pg_position.specs.Step.{Goes, IsPromotion, IsCastling, IsWay, after, Step, Legal}
+use Rattle.pg_position.specs.Step.{Goes, IsPromotion, IsCastling, IsWay, after, Step, Legal, IsLegal, IsCause}
 use Rattle.pg_position.specs.Squares.{king_home, ahead, home_rank, king_target}
 use Rattle.pg_position.proofs.StepLemmas.{not_both, one_way, one_target, promoted_not, two_files}
 use Rattle.pg_position.proofs.ValidLemmas.{step_valid}
@@ -149,18 +150,23 @@ pawn_capture p m pos n f v (Promotion y, h) = promoted_not p m y h.promoted n
 mover : (p : State) (k : Kind) (r : ℕ) (x : Man) → get p.board r ≡ Some (man p.side k) → get p.board r ≡ Some x → k ≡ x.kind
 mover p k r x e f = let g : man p.side k ≡ x = cc in ap (λ (y : Man). y.kind) g
 
-pub mover_way : (p : State) (m : Move) (x : Man) → ((q : State) × Legal p m q) → get p.board m.from ≡ Some x → (w : Way) × IsWay p x.kind m w
+pub mover_way : (p : State) (m : Move) (x : Man) → IsLegal p m → get p.board m.from ≡ Some x → (w : Way) × IsWay p x.kind m w
 unfolding Step
 mover_way p m x (q, ((k, w, on, stands, way, e), safe)) there = (w, subst (λ (j : Kind). IsWay p j m w) (mover p k m.from x stands there) way)
 
-pub mover_there : (p : State) (m : Move) → ((q : State) × Legal p m q) → get p.board m.from ≡ None → ⊥
+pub mover_there : (p : State) (m : Move) → IsLegal p m → get p.board m.from ≡ None → ⊥
 unfolding Step
 mover_there p m (q, ((k, w, on, stands, way, e), safe)) none = let there : get p.board m.from ≡ Some (man p.side k) = stands in cc
 
-pub after_is : (p : State) (m : Move) (x : Man) (v : Way) (r : State) → IsPosition p → ((q : State) × Legal p m q) → get p.board m.from ≡ Some x → IsWay p x.kind m v → r ≡ after p m v → Legal p m r × IsPosition r
+pub after_is : (p : State) (m : Move) (x : Man) (v : Way) (r : State) → IsPosition p → IsLegal p m → get p.board m.from ≡ Some x → IsWay p x.kind m v → r ≡ after p m v → Legal p m r × IsPosition r
 unfolding Step
 after_is p m x v r pos (q, ((k, w, on, stands, way, e), safe)) there h is =
     let path : IsWay p k m v = subst (λ (j : Kind). IsWay p j m v) (sym (mover p k m.from x stands there)) h in
     let both : w ≡ v = one_way p k m w v pos.passing way path in
     let same : q ≡ r = e ∙ ap (after p m) both ∙ sym is in
     subst (λ (s : State). Legal p m s × IsPosition s) same (((k, w, on, stands, way, e), safe), step_valid p m q pos (k, w, on, stands, way, e) safe)
+
+-- ---- whether it is legal
+pub played_tells : (p : State) (m : Move) (x : Result State Illegal) (b : Bool) → b ≡ is_ok x → IfOk x (λ q. (r : State) → (q ≡ r) ↔ Legal p m r) → IfErr x (λ e. IsCause p m e × ((r : State) → ¬ Legal p m r)) → IsTrue b ↔ IsLegal p m
+played_tells p m (Ok q) b e ok err = (λ _. (q, (ok q).0 refl), λ _. e)
+played_tells p m (Err f) b e ok err = (λ t. (let same : true ≡ false = sym t ∙ e in cc), λ (q, legal). absurd (err.1 q legal))

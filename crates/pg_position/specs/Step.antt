@@ -145,6 +145,10 @@ Step p m q = (k : Kind) × (w : Way) × IsOnBoard m × Stands p.board p.side k m
 abbrev pub Legal : State → Move → State → Type 0
 Legal p m q = Step p m q × ¬ InCheck q.board p.side
 
+-- the move may be made: it leads somewhere
+abbrev pub IsLegal : State → Move → Type 0
+IsLegal p m = (q : State) × Legal p m q
+
 -- why a move is refused: no man on its square, the other side's, no step of the mover's man, or a step into check
 abbrev pub IsCause : State → Move → Illegal → Type 0
 IsCause p m EmptyFrom = IsVacant p.board m.from

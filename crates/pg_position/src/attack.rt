@@ -11,13 +11,6 @@ use crate::direction::Direction;
 use crate::masks::{diagonal_lines, king_mask, knight_mask, pawn_mask, ray, straight_lines};
 use pg_board::{Board, Color, Kind, Man, Square, SquareSet};
 
-// The man of a colour and a kind.
-pub(crate) fn man(color: Color, kind: Kind) -> Man
-    ensures { result ≡ man color kind }
-{
-    Man { color, kind }
-}
-
 // The first square in a direction with a man; none where the ray is empty up to the edge.
 pub(crate) fn blocker(board: &Board, direction: Direction, square: Square) -> Option<Square>
     ensures { MatchOption result ((t : ℕ) → t < 64 → OnRay direction square t → get board.now t ≡ None) (λ x. IsBlocked board.now direction square x) }
@@ -33,13 +26,13 @@ pub(crate) fn blocker(board: &Board, direction: Direction, square: Square) -> Op
 fn knight_attacks(board: &Board, square: Square, by: Color) -> bool
     ensures { IsTrue result ↔ AttackedBy board.now (man by Kind.Knight) square }
 {
-    knight_mask(square).meets(board.squares_of(man(by, Kind::Knight)))
+    knight_mask(square).meets(board.squares_of(Man::new(by, Kind::Knight)))
 }
 
 fn king_attacks(board: &Board, square: Square, by: Color) -> bool
     ensures { IsTrue result ↔ AttackedBy board.now (man by Kind.King) square }
 {
-    king_mask(square).meets(board.squares_of(man(by, Kind::King)))
+    king_mask(square).meets(board.squares_of(Man::new(by, Kind::King)))
 }
 
 // Whether a pawn of the colour attacks the square: it does from where a pawn of the other colour on
@@ -47,7 +40,7 @@ fn king_attacks(board: &Board, square: Square, by: Color) -> bool
 pub(crate) fn pawn_attacks(board: &Board, square: Square, by: Color) -> bool
     ensures { IsTrue result ↔ AttackedBy board.now (man by Kind.Pawn) square }
 {
-    pawn_mask(by.other(), square).meets(board.squares_of(man(by, Kind::Pawn)))
+    pawn_mask(by.other(), square).meets(board.squares_of(Man::new(by, Kind::Pawn)))
 }
 
 // Whether a man that stands in this direction attacks the square along it.
@@ -57,9 +50,9 @@ fn attacked_along(board: &Board, direction: Direction, square: Square, by: Color
     match blocker(board, direction, square) {
         Some(first) => {
             board
-                .squares_of(man(by, direction.slider()))
+                .squares_of(Man::new(by, direction.slider()))
                 .contains(first)
-                || board.squares_of(man(by, Kind::Queen)).contains(first)
+                || board.squares_of(Man::new(by, Kind::Queen)).contains(first)
         }
         None => false,
     }
@@ -78,7 +71,7 @@ fn attacked_by_step(board: &Board, square: Square, by: Color) -> bool
 fn sliders(board: &Board, by: Color, kind: Kind) -> SquareSet
     ensures { IsSetOf result (λ q. (get board.now q ≡ Some (man by kind)) ⊎ (get board.now q ≡ Some (man by Kind.Queen))) }
 {
-    board.squares_of(man(by, kind)) | board.squares_of(man(by, Kind::Queen))
+    board.squares_of(Man::new(by, kind)) | board.squares_of(Man::new(by, Kind::Queen))
 }
 
 // Whether a rook or a queen attacks the square along a file or a rank.

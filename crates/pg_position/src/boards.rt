@@ -6,12 +6,13 @@ ghost use Rattle.pg_position.specs.Attack.{Reaches, Attacks};
 ghost use Rattle.pg_position.specs.Position.{Stands, IsVacant, InCheck};
 ghost use Rattle.pg_position.specs.Step.{IsEnemy, Goes};
 
-use crate::attack::{attacked, man};
+use crate::attack::attacked;
 use crate::reaching::reaches;
 use crate::state::State;
 use pg_board::{Board, Color, Kind, Man, Square};
 
-pub(crate) fn stands(board: &Board, color: Color, kind: Kind, square: Square) -> bool
+/// Whether a man of this colour and kind stands on the square.
+pub fn stands(board: &Board, color: Color, kind: Kind, square: Square) -> bool
     ensures { IsTrue result ↔ Stands board.now color kind square }
 {
     match board.get(square) {
@@ -27,8 +28,9 @@ pub fn is_vacant(board: &Board, square: Square) -> bool
     board.get(square).is_none()
 }
 
+/// Whether a man of the other colour stands on the square.
 #[tactic(auto, unfolding(crate::specs::Step::IsEnemy))]
-pub(crate) fn is_enemy(board: &Board, color: Color, square: Square) -> bool
+pub fn is_enemy(board: &Board, color: Color, square: Square) -> bool
     ensures { IsTrue result ↔ IsEnemy board.now color square }
 {
     match board.get(square) {
@@ -63,7 +65,7 @@ pub(crate) fn goes(board: &Board, man: &Man, from: Square, to: Square) -> bool
 pub(crate) fn in_check(board: &Board, color: Color) -> bool
     ensures { IsTrue result ↔ InCheck board.now color }
 {
-    let kings = board.squares_of(man(color, Kind::King));
+    let kings = board.squares_of(Man::new(color, Kind::King));
     let mut from = 0;
     while let Some(king) = kings.first_from(from) {
         if attacked(board, king, color.other()) {

@@ -5,7 +5,7 @@ ghost use Rattle.pg_position.specs.Geometry.{InPattern};
 ghost use Rattle.pg_position.specs.Step.{IsPlain, IsCapture, IsDoubleAdvance, IsEnPassant, IsPromotion, IsCastling, IsWay, MustPromote, IsEnemy};
 ghost use Rattle.pg_position.specs.Position.{IsVacant};
 
-use crate::attack::{attacked, man};
+use crate::attack::attacked;
 use crate::boards::{goes, is_enemy, is_vacant};
 use crate::masks::pawn_mask;
 use crate::moves::{Move, Way};
@@ -13,7 +13,7 @@ use crate::reaching::reaches;
 use crate::rights::Wing;
 use crate::squares::{ahead, home_rank, king_home, king_target, must_promote};
 use crate::state::State;
-use pg_board::{Color, Kind};
+use pg_board::{Color, Kind, Man};
 
 pub(crate) fn is_plain(state: &State, kind: Kind, m: &Move) -> bool
     ensures { IsTrue result ↔ IsPlain state.now kind m.now }
@@ -21,7 +21,7 @@ pub(crate) fn is_plain(state: &State, kind: Kind, m: &Move) -> bool
     m.promotion.is_none()
         && !must_promote(kind, state.side, m.to)
         && is_vacant(&state.board, m.to)
-        && goes(&state.board, &man(state.side, kind), m.from, m.to)
+        && goes(&state.board, &Man::new(state.side, kind), m.from, m.to)
 }
 
 pub(crate) fn is_capture(state: &State, kind: Kind, m: &Move) -> bool
@@ -30,7 +30,7 @@ pub(crate) fn is_capture(state: &State, kind: Kind, m: &Move) -> bool
     m.promotion.is_none()
         && !must_promote(kind, state.side, m.to)
         && is_enemy(&state.board, state.side, m.to)
-        && reaches(&state.board, man(state.side, kind), m.from, m.to)
+        && reaches(&state.board, Man::new(state.side, kind), m.from, m.to)
 }
 
 // Whether a pawn on its home rank goes two forward over an empty square to an empty square.
@@ -62,9 +62,9 @@ pub(crate) fn is_promotion(state: &State, kind: Kind, m: &Move, piece: Kind) -> 
         && piece != Kind::King
         && must_promote(kind, state.side, m.to)
         && ((is_vacant(&state.board, m.to)
-            && goes(&state.board, &man(state.side, kind), m.from, m.to))
+            && goes(&state.board, &Man::new(state.side, kind), m.from, m.to))
             || (is_enemy(&state.board, state.side, m.to)
-                && reaches(&state.board, man(state.side, kind), m.from, m.to)))
+                && reaches(&state.board, Man::new(state.side, kind), m.from, m.to)))
 }
 
 pub(crate) fn is_castling(state: &State, kind: Kind, m: &Move, wing: Wing) -> bool

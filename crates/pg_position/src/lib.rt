@@ -27,7 +27,7 @@ mod steps;
 mod tables;
 
 pub use attack::attacked;
-pub use boards::is_vacant;
+pub use boards::{is_enemy, is_vacant, stands};
 pub use laws::{legal_leads_to_a_position, legal_leads_to_one_position, same_future_same_games};
 pub use moves::{Move, move_order};
 pub use packed::PackedPosition;

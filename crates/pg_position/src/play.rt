@@ -2,7 +2,7 @@
 ghost use Rattle.std.specs.Prelude.{◌≡◌, ℕ, ◌↔◌, MatchResult, IfOk, IfErr};
 ghost use Rattle.pg_position.specs.declared.state.State.{State};
 ghost use Rattle.pg_position.specs.Position.{Stands, IsPosition};
-ghost use Rattle.pg_position.specs.Step.{Step, Legal, IsCause};
+ghost use Rattle.pg_position.specs.Step.{Step, Legal, IsLegal, IsCause};
 
 use crate::boards::in_check;
 use crate::cases::way;
@@ -70,7 +70,7 @@ impl State {
     // The state after a move that is known to be legal.
     pub(crate) fn after_legal(&self, m: &Move) -> State
         requires position { IsPosition self.now }
-        requires legal { (q : State) × Legal self.now m.now q }
+        requires legal { IsLegal self.now m.now }
         ensures legal { Legal self.now m.now result }
         ensures position { IsPosition result }
     {

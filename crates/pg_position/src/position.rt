@@ -6,7 +6,7 @@ ghost use Rattle.pg_position.specs.Array.{array_state};
 ghost use Rattle.pg_position.specs.Position.{parts, InCheck, IsPosition, IsFirstBroken};
 ghost use Rattle.pg_position.specs.Squares.{king_home};
 ghost use Rattle.pg_board.specs.SquareSets.{IsSetOf};
-ghost use Rattle.pg_position.specs.Step.{Legal, IsCause, IsCastling};
+ghost use Rattle.pg_position.specs.Step.{Legal, IsLegal, IsCause, IsCastling};
 ghost use Rattle.pg_board.specs.declared.man.Kind.TheVariants.{King};
 ghost use Rattle.pg_position.specs.declared.rights.Wing.{Wing};
 ghost use Rattle.pg_position.specs.Future.{IsEffective, SameFuture};
@@ -185,9 +185,16 @@ impl Position {
         }
     }
 
-    /// The position that a move leads to which is known to be legal: `play` without its tests.
+    /// Whether the move is legal: whether `play` gives the position that it leads to.
+    pub fn is_legal(&self, m: &Move) -> bool
+        ensures { IsTrue result ↔ IsLegal self.now m.now }
+    {
+        self.play(*m).is_ok()
+    }
+
+    /// The position that a move leads to which is known to be legal: that of `play`, without its tests.
     pub fn after(&self, m: &Move) -> Position
-        requires { (q : State) × Legal self.now m.now q }
+        requires { IsLegal self.now m.now }
         ensures legal { Legal self.now m.now result }
         ensures from { IsPosition self.now }
     {

@@ -65,10 +65,7 @@ pub fn reaches(board: &Board, man: Man, from: Square, to: Square) -> bool
 pub fn is_clear(board: &Board, from: Square, to: Square) -> bool
     ensures { IsTrue result ↔ IsClear board.now from to }
 {
-    let queen = Man {
-        color: Color::White,
-        kind: Kind::Queen,
-    };
+    let queen = Man::new(Color::White, Kind::Queen);
     // A queen gets there, or would not get there on an empty board either.
     reaches(board, queen, from, to) || !reaches(&Board::empty(), queen, from, to)
 }

@@ -69,13 +69,7 @@ impl State {
             }
             Way::Promotion(piece) => {
                 board.take(m.from);
-                board.put(
-                    m.to,
-                    Man {
-                        color: self.side,
-                        kind: piece,
-                    },
-                );
+                board.put(m.to, Man::new(self.side, piece));
             }
             Way::Castling(wing) => {
                 board.relocate(m.from, m.to);

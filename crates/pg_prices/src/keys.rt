@@ -66,7 +66,7 @@ pub fn color_key(board: &Board, rights: Rights, color: Color) -> u64 {
 fn pieces_key(board: &Board, color: Color) -> u64 {
     let mut sum = 0u64;
     for kind in KINDS {
-        let man = Man { color, kind };
+        let man = Man::new(color, kind);
         sum ^= men_key(man, board.squares_of(man));
     }
     sum
@@ -74,10 +74,7 @@ fn pieces_key(board: &Board, color: Color) -> u64 {
 
 /// The key of a colour's pawns.
 pub fn pawn_key(board: &Board, color: Color) -> u64 {
-    let man = Man {
-        color,
-        kind: Kind::Pawn,
-    };
+    let man = Man::new(color, Kind::Pawn);
     spread(board.squares_of(man).bits() ^ color_number(color))
 }
 

@@ -67,10 +67,7 @@ fn least_of(rows: &Rows, board: &Board, squares: SquareSet) -> Two {
         second: none,
     };
     for kind in KINDS {
-        let men = board.squares_of(Man {
-            color: rows.color(),
-            kind,
-        });
+        let men = board.squares_of(Man::new(rows.color(), kind));
         two = with_men(two, rows, kind, men & squares);
     }
     two
@@ -122,7 +119,7 @@ fn free(two: Two, rows: &Rows, board: &Board, men: SquareSet) -> Two {
     let color = rows.color();
     let mut least = two;
     for kind in [Kind::Rook, Kind::King] {
-        let standing = board.squares_of(Man { color, kind });
+        let standing = board.squares_of(Man::new(color, kind));
         least = with_men(least, rows, kind, standing & men);
     }
     least

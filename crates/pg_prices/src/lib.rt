@@ -19,7 +19,6 @@ pub use leasts::{Leasts, Rest};
 pub use lists::{Lists, prices_of};
 pub use memory::Memory;
 pub use needs::{
-    NEVER, Needs, PAWN_DUMMY, TRAVEL_DUMMY, UNKNOWN, first_needs, is_short, need, pawn_lists,
-    travel_lists,
+    NEVER, Needs, PAWN_DUMMY, TRAVEL_DUMMY, UNKNOWN, first_needs, need, pawn_lists, travel_lists,
 };
 pub use rows::{NO_WAY, Rows};

@@ -4,7 +4,8 @@
 use crate::assignment::{Costs, MOST, assign};
 use crate::lists::Lists;
 use crate::rows::Rows;
-use pg_board::{Board, Color, Kind, Man, SquareSet};
+use pg_board::{Board, Color, Kind, Man};
+use pg_captures::is_short;
 use pg_fen::Diagram;
 use pg_pawns::shift_need;
 use pg_position::{Position, Rights, Wing};
@@ -24,9 +25,6 @@ pub const NEVER: u8 = 255;
 // The ways of a colour: without castling, and with each castling.
 const WAYS: [Option<Wing>; 3] = [None, Some(Wing::KingSide), Some(Wing::QueenSide)];
 
-// The light squares.
-const LIGHT: u64 = 0x55aa_55aa_55aa_55aa;
-
 /// What is known of the men and the rights of one colour: the need of travel, `NEVER` where pawns to
 /// promote are short; the changes of file by lines; the least assignment of travel and that of changes
 /// of file, or `UNKNOWN`; and the place of price lists that a memory keeps, 0 for none.
@@ -37,33 +35,6 @@ pub struct Needs {
     pub travel: u8,
     pub pawns: u8,
     pub lists: u32,
-}
-
-fn lacking(wanted: SquareSet, here: SquareSet) -> u32 {
-    u32::from(wanted.len().saturating_sub(here.len()))
-}
-
-/// Whether the colour lacks more pieces than it has pawns to promote.
-pub fn is_short(color: Color, wanted: &Board, board: &Board) -> bool {
-    let mut short = 0u32;
-    for kind in [Kind::Queen, Kind::Rook, Kind::Knight] {
-        let man = Man { color, kind };
-        short = short.saturating_add(lacking(wanted.squares_of(man), board.squares_of(man)));
-    }
-    let man = Man {
-        color,
-        kind: Kind::Bishop,
-    };
-    let (there, here) = (wanted.squares_of(man), board.squares_of(man));
-    let light = SquareSet::of_bits(LIGHT);
-    short = short.saturating_add(lacking(there & light, here & light));
-    short = short.saturating_add(lacking(there - light, here - light));
-    let man = Man {
-        color,
-        kind: Kind::Pawn,
-    };
-    let there = u32::from(wanted.squares_of(man).len());
-    u32::from(board.squares_of(man).len()) < short.saturating_add(there)
 }
 
 // The numbers of the first targets, added up, at most 250.
@@ -132,10 +103,7 @@ pub fn travel_lists(rows: &Rows, position: &Position) -> (u8, Lists) {
 /// The value of the least assignment of pawns, at most 250, and its prices.
 pub fn pawn_lists(rows: &Rows, position: &Position) -> (u8, Lists) {
     let board = position.board();
-    let pawn = Man {
-        color: rows.color(),
-        kind: Kind::Pawn,
-    };
+    let pawn = Man::new(rows.color(), Kind::Pawn);
     let sources = usize::from(board.squares_of(pawn).len());
     let mut lists = Lists::new(sources, rows.pawn_targets());
     let answer = assign(&rows.pawns(&board), rows.pawn_targets(), PAWN_DUMMY);
@@ -152,7 +120,7 @@ pub fn first_needs(rows: &Rows, diagram: &Diagram, position: &Position) -> Needs
         pawns: UNKNOWN,
         lists: 0,
     };
-    if is_short(rows.color(), &diagram.board(), &position.board()) {
+    if is_short(&diagram.board(), &position.board(), rows.color()) {
         return needs;
     }
     needs.need = need(rows, position);

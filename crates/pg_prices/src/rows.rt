@@ -94,11 +94,7 @@ fn travel_row(man: Man, from: Square, targets: &Targets) -> [u8; MOST] {
 fn pawn_cost(color: Color, from: u8, to: u8) -> u8 {
     let (file, rank) = (from % 8, from / 8);
     let (new_file, new_rank) = (to % 8, to / 8);
-    let files = if file < new_file {
-        new_file - file
-    } else {
-        file - new_file
-    };
+    let files = file.abs_diff(new_file);
     let (behind, ahead) = match color {
         Color::White => (rank, new_rank),
         Color::Black => (new_rank, rank),
@@ -218,7 +214,7 @@ impl Rows {
         let mut travel = Vec::with_capacity(alloc, ROWS)?;
         for kind in KINDS {
             for q in 0..64u8 {
-                travel.push(travel_row(Man { color, kind }, Square::at(q), &targets))?;
+                travel.push(travel_row(Man::new(color, kind), Square::at(q), &targets))?;
             }
         }
         let mut pawns = Vec::with_capacity(alloc, 64)?;
@@ -279,10 +275,7 @@ impl Rows {
         let mut costs = [[NO_WAY; MOST]; MOST];
         let all = board.squares_of_color(self.color);
         for kind in KINDS {
-            let men = board.squares_of(Man {
-                color: self.color,
-                kind,
-            });
+            let men = board.squares_of(Man::new(self.color, kind));
             put_men(&mut costs, &self.travel, first(kind), men, all);
         }
         costs
@@ -317,10 +310,7 @@ impl Rows {
             );
         }
         for kind in KINDS {
-            let men = board.squares_of(Man {
-                color: self.color,
-                kind,
-            });
+            let men = board.squares_of(Man::new(self.color, kind));
             lower_to(&mut least, &self.travel, first(kind), men & there);
         }
         least
@@ -330,10 +320,7 @@ impl Rows {
     /// the targets that are pawns.
     pub fn pawns(&self, board: &Board) -> Costs {
         let mut costs = [[NO_WAY; MOST]; MOST];
-        let men = board.squares_of(Man {
-            color: self.color,
-            kind: Kind::Pawn,
-        });
+        let men = board.squares_of(Man::new(self.color, Kind::Pawn));
         put_men(&mut costs, &self.pawns, 0, men, men);
         costs
     }

@@ -17,10 +17,9 @@ use Rattle.pg_position.specs.declared.moves.Way.{Way}
 use Rattle.pg_position.specs.declared.moves.Way.TheVariants.{Plain, Capture, DoubleAdvance, EnPassant, Promotion, Castling as CastlingWay}
 use Rattle.pg_position.specs.Geometry.{apart, IsForward, InPattern}
 use Rattle.pg_position.specs.Position.{Stands, IsVacant, IsPassed, IsPosition}
-use Rattle.pg_position.specs.Step.{IsEnemy, Goes, IsPiece, IsWay, IsEnPassant, IsCastling, Step}
+use Rattle.pg_position.specs.Step.{IsLegal, IsEnemy, Goes, IsPiece, IsWay, IsEnPassant, IsCastling, Step}
 use Rattle.pg_position.specs.Squares.{ahead, king_home, passed_rank, home_rank, last_rank, king_target}
 use Rattle.pg_position.proofs.StepLemmas.{same_kind, some_none}
-use Rattle.pg_moves.specs.Moves.{IsLegal}
 use Rattle.pg_san.specs.declared.said.Said.{Said}
 use Rattle.pg_san.specs.Matching.{GoesTwo, IsCapturing, FitsAs}
 

@@ -4,7 +4,7 @@ use Rattle.pg_board.specs.declared.man.Kind.{Kind}
 use Rattle.pg_board.specs.declared.man.Kind.TheVariants.{Pawn}
 use Rattle.pg_position.specs.declared.state.State.{State}
 use Rattle.pg_position.specs.declared.moves.Move.{Move}
-use Rattle.pg_moves.specs.Moves.{IsLegal}
+use Rattle.pg_position.specs.Step.{IsLegal}
 use Rattle.pg_moves.specs.Targets.{plain_move}
 use Rattle.pg_moves.proofs.ListLemmas.{on_board}
 use Rattle.pg_san.specs.declared.rivals.Among.{Among}

@@ -8,8 +8,7 @@ use Rattle.pg_board.specs.lemmas.Kinds.{each_kind}
 use Rattle.pg_position.specs.declared.state.State.{State}
 use Rattle.pg_position.specs.declared.moves.Move.{Move}
 use Rattle.pg_position.specs.Position.{Stands}
-use Rattle.pg_position.specs.Step.{IsPiece}
-use Rattle.pg_moves.specs.Moves.{IsLegal}
+use Rattle.pg_position.specs.Step.{IsLegal, IsPiece}
 use Rattle.pg_moves.proofs.ListLemmas.{on_board}
 use Rattle.pg_position.specs.declared.rights.Wing.TheVariants.{KingSide, QueenSide}
 use Rattle.pg_san.specs.declared.cores.Core.{Core}

@@ -5,7 +5,8 @@ use Rattle.std.specs.declared.cmp.Ordering.TheVariants.{Less, Equal}
 use Rattle.std.proofs.lemmas.Cmp.{tied_itself}
 use Rattle.pg_position.specs.declared.state.State.{State}
 use Rattle.pg_position.specs.declared.moves.Move.{Move}
-use Rattle.pg_moves.specs.Moves.{move_cmp, IsLegal, IsBefore, IsPast, IsNext, IsLast}
+use Rattle.pg_position.specs.Step.{IsLegal}
+use Rattle.pg_moves.specs.Moves.{move_cmp, IsBefore, IsPast, IsNext, IsLast}
 use Rattle.pg_moves.specs.numbers.Places.{place, start_after}
 use Rattle.pg_moves.proofs.ListLemmas.{on_board}
 use Rattle.pg_moves.proofs.PlaceLemmas.{move_cmp_total, place_low}

@@ -5,7 +5,7 @@ use Rattle.pg_position.specs.declared.state.State.{State}
 use Rattle.pg_position.specs.declared.moves.Move.{Move}
 use Rattle.pg_position.specs.Array.{array_state}
 use Rattle.pg_position.specs.Game.{IsGame}
-use Rattle.pg_moves.specs.Moves.{IsLegal}
+use Rattle.pg_position.specs.Step.{IsLegal}
 use Rattle.pg_san.specs.declared.adding.AddFault.{AddFault}
 use Rattle.pg_san.specs.declared.adding.AddFault.TheVariants.{IllegalMove, TooMany, Repeated, Memory}
 use Rattle.pg_san.specs.Games.{IsFromArray, IsGames}

@@ -1,5 +1,5 @@
 -- Which legal moves are as a text says, and what reading the text in a position gives.
-use Rattle.std.specs.Prelude.{◌≡◌, ◌≢◌, ℕ, ◌+◌, ◌⊎◌, true, List, Some, None, IfSome, Result, Ok, Err}
+use Rattle.std.specs.Prelude.{◌≡◌, ◌≢◌, ℕ, ◌+◌, ◌⊎◌, true, List, IfSome, Result, Ok, Err}
 use Rattle.pg_board.specs.declared.man.Kind.{Kind}
 use Rattle.pg_board.specs.Squares.{file, rank}
 use Rattle.pg_position.specs.declared.rights.Wing.{Wing}
@@ -7,8 +7,7 @@ use Rattle.pg_position.specs.declared.rights.Wing.TheVariants.{KingSide, QueenSi
 use Rattle.pg_position.specs.declared.state.State.{State}
 use Rattle.pg_position.specs.declared.moves.Move.{Move}
 use Rattle.pg_position.specs.Position.{Stands}
-use Rattle.pg_position.specs.Step.{IsEnemy, IsEnPassant, IsCastling}
-use Rattle.pg_moves.specs.Moves.{IsLegal}
+use Rattle.pg_position.specs.Step.{IsLegal, IsEnemy, IsEnPassant, IsCastling}
 use Rattle.pg_san.specs.declared.cores.Core.{Core}
 use Rattle.pg_san.specs.declared.said.Form.{Form}
 use Rattle.pg_san.specs.declared.said.Form.TheVariants.{Castles, Moves}

@@ -7,8 +7,7 @@ use Rattle.pg_position.specs.declared.rights.Wing.{Wing}
 use Rattle.pg_position.specs.declared.state.State.{State}
 use Rattle.pg_position.specs.declared.moves.Move.{Move}
 use Rattle.pg_position.specs.Position.{Stands, InCheck}
-use Rattle.pg_position.specs.Step.{IsCastling, Legal}
-use Rattle.pg_moves.specs.Moves.{IsLegal}
+use Rattle.pg_position.specs.Step.{IsCastling, Legal, IsLegal}
 use Rattle.pg_moves.specs.Targets.{plain_move}
 use Rattle.pg_san.specs.declared.cores.Core.{Core}
 use Rattle.pg_san.specs.declared.rivals.Among.{Among}

@@ -3,7 +3,7 @@ ghost use Rattle.std.specs.Prelude.{◌≡◌, ◌↔◌, ℕ, List, None, Some,
 ghost use Rattle.pg_position.specs.declared.state.State.{State};
 ghost use Rattle.pg_position.specs.declared.moves.Move.{Move};
 ghost use Rattle.pg_position.specs.Position.{IsPosition};
-ghost use Rattle.pg_moves.specs.Moves.{IsLegal};
+ghost use Rattle.pg_position.specs.Step.{IsLegal};
 ghost use Rattle.pg_san.specs.declared.fault.SanFault.{SanFault};
 ghost use Rattle.pg_san.specs.declared.said.Said.{Said};
 ghost use Rattle.pg_san.specs.Grammar.{IsSaidText};

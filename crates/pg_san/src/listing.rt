@@ -1,7 +1,5 @@
 //! Texts of games.
 ghost use Rattle.std.specs.Prelude.{◌≡◌, ◌≢◌, ◌↔◌, ◌∷◌, ◌++◌, IsTrue, MatchResult, IfOk, IfErr, OnOk, OnErr, []};
-ghost use Rattle.pg_position.specs.Step.{Legal};
-ghost use Rattle.pg_moves.specs.Moves.{IsLegal};
 ghost use Rattle.pg_san.specs.GameText.{words, dash};
 ghost use Rattle.pg_san.specs.Listing.{AreGame, IsGameLine, IsLineFault, IsListing, IsTextFault};
 ghost use Rattle.pg_san.specs.numbers.LineReading.{IsWordsFault, IsGameFault, IsLineRead};
@@ -22,17 +20,6 @@ use std::alloc::Global;
 enum LineFault {
     Word(usize, SanFault),
     NoMemory,
-}
-
-// The position after a legal move.
-fn played(position: &Position, m: &Move) -> Position
-    requires { IsLegal position.now m.now }
-    ensures { Legal position.now m.now result }
-{
-    match position.play(*m) {
-        Ok(next) => next,
-        Err(_) => unreachable!(),
-    }
 }
 
 // Keeps a move behind the others, where those are kept; whether it is.
@@ -60,7 +47,7 @@ fn read_words(alloc: Global, line: &[u8]) -> Result<Vec<Move>, LineFault>
                 Ok(m) => m,
                 Err(cause) => return Err(LineFault::Word(plies + 1, cause)),
             };
-            here = played(&here, &m);
+            here = here.after(&m);
             plies += 1;
             kept = keep(&mut game, kept, m);
         }

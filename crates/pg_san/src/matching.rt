@@ -2,25 +2,14 @@
 ghost use Rattle.std.specs.Prelude.{◌≡◌, ◌≢◌, ◌↔◌, IsTrue, IfSome, Some};
 ghost use Rattle.pg_board.specs.Squares.{file, rank};
 ghost use Rattle.pg_position.specs.Position.{Stands, IsPosition};
-ghost use Rattle.pg_position.specs.Step.{IsEnemy, IsEnPassant};
-ghost use Rattle.pg_moves.specs.Moves.{IsLegal};
+ghost use Rattle.pg_position.specs.Step.{IsLegal, IsEnPassant};
 ghost use Rattle.pg_san.specs.Matching.{IsCapturing, FitsCore, FitsForm, FitsAs, Fits};
 
 use crate::castling::castles;
 use crate::cores::Core;
 use crate::said::{Form, Said};
 use pg_board::{Kind, Square};
-use pg_position::{Move, Position};
-
-#[tactic(auto, unfolding(pg_position::specs::Step::IsEnemy))]
-fn is_enemy(position: &Position, square: Square) -> bool
-    ensures { IsTrue result ↔ IsEnemy position.now.board position.now.side square }
-{
-    match position.board().get(square) {
-        Some(man) => man.color == position.side().other(),
-        None => false,
-    }
-}
+use pg_position::{Move, Position, is_enemy};
 
 // Whether a man of this kind comes to the passed square from another file, as a pawn.
 fn is_aside(position: &Position, kind: Kind, m: &Move) -> bool
@@ -47,7 +36,7 @@ pub fn takes(position: &Position, kind: Kind, m: &Move) -> bool
     requires stands { Stands position.now.board position.now.side kind m.now.from }
     ensures { IsTrue result ↔ IsCapturing position.now kind m.now }
 {
-    is_enemy(position, m.to) || is_en_passant(position, kind, m)
+    is_enemy(&position.board(), position.side(), m.to) || is_en_passant(position, kind, m)
 }
 
 fn fits_kind(said: Option<Kind>, kind: Kind) -> bool

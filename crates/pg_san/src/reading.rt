@@ -3,8 +3,8 @@ ghost use Rattle.std.specs.Prelude.{MatchOption, Some};
 ghost use Rattle.std.specs.Bool.{OnTrue, OnFalse};
 ghost use Rattle.std.specs.Option.{ForSome};
 ghost use Rattle.pg_position.specs.declared.moves.Move.{Move};
+ghost use Rattle.pg_position.specs.Step.{IsLegal};
 ghost use Rattle.pg_san.specs.Matching.{IsReading};
-ghost use Rattle.pg_moves.specs.Moves.{IsLegal};
 ghost use Rattle.pg_san.specs.numbers.Walk.{NoneFits, IsFirstFit};
 
 use crate::fault::SanFault;

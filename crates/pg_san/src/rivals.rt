@@ -1,12 +1,12 @@
 //! The other men that could make a move to the same square, and what tells a man apart from them.
 ghost use Rattle.std.specs.Prelude.{◌≡◌, ◌≢◌, ◌↔◌, IsTrue};
 ghost use Rattle.pg_position.specs.Position.{Stands};
-ghost use Rattle.pg_moves.specs.Moves.{IsLegal};
+ghost use Rattle.pg_position.specs.Step.{IsLegal};
 ghost use Rattle.pg_moves.specs.Targets.{plain_move};
 ghost use Rattle.pg_san.specs.Writing.{HasRival, IsHint, Counts, IsRivalOn};
 
 use pg_board::{Kind, Square};
-use pg_position::{Move, Position};
+use pg_position::{Move, Position, stands};
 
 /// Which squares count.
 #[derive(Clone, Copy, Debug, PartialEq, Eq)]
@@ -36,15 +36,6 @@ pub struct Hint {
     pub rank: Option<u8>,
 }
 
-fn stands(position: &Position, kind: Kind, square: Square) -> bool
-    ensures { IsTrue result ↔ Stands position.now.board position.now.side kind square }
-{
-    match position.board().get(square) {
-        Some(man) => man.color == position.side() && man.kind == kind,
-        None => false,
-    }
-}
-
 fn may_go(position: &Position, from: Square, to: Square) -> bool
     ensures { IsTrue result ↔ IsLegal position.now (plain_move from to) }
 {
@@ -53,17 +44,16 @@ fn may_go(position: &Position, from: Square, to: Square) -> bool
         to,
         promotion: None,
     };
-    match position.play(m) {
-        Ok(_) => true,
-        Err(_) => false,
-    }
+    position.is_legal(&m)
 }
 
 // Whether another man of this kind stands on the square, and the square counts.
 fn is_other(position: &Position, kind: Kind, m: &Move, among: Among, square: Square) -> bool
     ensures { IsTrue result ↔ (Counts among square m.now.from × (square ≢ m.now.from) × Stands position.now.board position.now.side kind square) }
 {
-    among.counts(square, m.from) && square != m.from && stands(position, kind, square)
+    among.counts(square, m.from)
+        && square != m.from
+        && stands(&position.board(), position.side(), kind, square)
 }
 
 fn is_rival(position: &Position, kind: Kind, m: &Move, among: Among, square: Square) -> bool

@@ -1,7 +1,7 @@
 //! Writing a legal move.
 ghost use Rattle.std.specs.Prelude.{◌≡◌, ◌≢◌};
 ghost use Rattle.pg_position.specs.Position.{Stands};
-ghost use Rattle.pg_moves.specs.Moves.{IsLegal};
+ghost use Rattle.pg_position.specs.Step.{IsLegal};
 ghost use Rattle.pg_san.specs.Writing.{IsCore, IsForm, IsHint, IsPawnHint, IsSignOf, IsSan};
 
 use crate::castling::castles;
@@ -78,9 +78,7 @@ fn write_move(position: &Position, m: &Move) -> San
     requires { IsLegal position.now m.now }
     ensures { IsSan position.now m.now result.bytes }
 {
-    let Ok(next) = position.play(*m) else {
-        unreachable!()
-    };
+    let next = position.after(m);
     let kind = mover(position, m);
     let form = form_for(position, kind, m);
     write_form(kind, &form, sign_after(&next))

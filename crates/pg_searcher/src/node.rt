@@ -1,6 +1,6 @@
 //! The record of a node: chosen, and written.
 ghost use Rattle.std.specs.Prelude.{◌≡◌, ℕ, false, OnOk};
-ghost use Rattle.pg_moves.specs.Moves.{IsLegal};
+ghost use Rattle.pg_position.specs.Step.{IsLegal};
 ghost use Rattle.pg_searcher.specs.Refusals.{RefusesTruly};
 
 use crate::fault::SearchFault;

@@ -1,5 +1,5 @@
+ghost use Rattle.pg_position.specs.Step.{IsLegal};
 //! Playing a move that is known to be legal.
-ghost use Rattle.pg_moves.specs.Moves.{IsLegal};
 
 use pg_position::{Move, Position};
 

@@ -4,7 +4,8 @@ use Prim.Native.Char.{code}
 use Rattle.pg_position.specs.declared.state.State.{State}
 use Rattle.pg_position.specs.declared.moves.Move.{Move}
 use Rattle.pg_position.specs.Position.{IsPosition}
-use Rattle.pg_moves.specs.Moves.{IsMoveList, IsLegal}
+use Rattle.pg_position.specs.Step.{IsLegal}
+use Rattle.pg_moves.specs.Moves.{IsMoveList}
 use Rattle.pg_fen.specs.declared.fault.FenFault.{FenFault}
 use Rattle.pg_fen.specs.declared.games.GameParts.{GameParts}
 use Rattle.pg_fen.specs.Fields.{fields}

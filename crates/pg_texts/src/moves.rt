@@ -2,7 +2,8 @@
 ghost use Rattle.std.specs.Prelude.{◌≡◌, ◌≢◌, ◌∷◌, [], ◌++◌, ℕ, List, true, false, IfOk, IfErr, OnOk, OnErr};
 ghost use Rattle.std.specs.Io.KnownBytes.{Appends};
 ghost use Rattle.pg_position.specs.declared.state.State.{State};
-ghost use Rattle.pg_moves.specs.Moves.{IsLegal, IsMoveList};
+ghost use Rattle.pg_position.specs.Step.{IsLegal};
+ghost use Rattle.pg_moves.specs.Moves.{IsMoveList};
 ghost use Rattle.pg_san.specs.Writing.{IsSan};
 ghost use Rattle.pg_texts.specs.MovesText.{AreMoveLines, IsMovesText, SpellsPosition, IsRefusedAs, IsMovesFault};
 

@@ -2,7 +2,7 @@
 ghost use Rattle.std.specs.Prelude.{◌≡◌, ◌<◌, ℕ, List, true, false, IfOk, IfErr, OnOk, OnErr};
 ghost use Rattle.std.specs.Io.KnownBytes.{Appends};
 ghost use Rattle.pg_position.specs.declared.moves.Move.{Move};
-ghost use Rattle.pg_moves.specs.Moves.{IsLegal};
+ghost use Rattle.pg_position.specs.Step.{IsLegal};
 ghost use Rattle.pg_san.specs.Writing.{IsSan};
 ghost use Rattle.pg_texts.specs.Movetext.{space_text, number_text, IsMovetext, IsLongestGame};
 ghost use Rattle.pg_texts.specs.numbers.Plies.{PlyGrows, IsPlayedOut};

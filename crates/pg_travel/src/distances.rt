@@ -1,6 +1,5 @@
 //! Distances: the least number of steps of a man that is alone on the board. 64 stands for none.
 ghost use Rattle.std.specs.Prelude.{◌≡◌, ◌≢◌, ℕ, ◌+◌, ◌-◌, ◌*◌, ◌/◌, ◌%◌, ◌<◌, ◌≤◌, ◌&&◌, ◌||◌, cond, eqb, min, max, IsTrue};
-ghost use Rattle.pg_position.specs.Geometry.{apart};
 ghost use Rattle.pg_travel.specs.Walks.{DistanceIs};
 ghost use Rattle.pg_travel.specs.numbers.Formulas.{files, ranks, king, rook, bishop, queen, knight, is_corner, long_way, knight_by, piece, rank_for};
 ghost use Rattle.pg_travel.specs.numbers.Formulas.{mirrored, pawn, soonest, is_promoted, least_steps, from_pawn, distance_of};
@@ -10,17 +9,11 @@ use crate::pawn_table::WHITE_PAWN;
 use crate::promotion_table::WHITE_PROMOTED;
 use pg_board::{Color, Kind, Man, Square};
 
-fn apart_by(a: u8, b: u8) -> u8
-    ensures { result ≡ apart a b }
-{
-    if a < b { b - a } else { a - b }
-}
-
 fn files(from: Square, to: Square) -> u8
     ensures value { result ≡ files from to }
     ensures low { result < 8 }
 {
-    apart_by(from.file(), to.file())
+    from.file().abs_diff(to.file())
 }
 
 fn ranks(from: Square, to: Square) -> u8
@@ -30,7 +23,7 @@ fn ranks(from: Square, to: Square) -> u8
     // Facts for the proof: both squares are on the board.
     from.index();
     to.index();
-    apart_by(from.rank(), to.rank())
+    from.rank().abs_diff(to.rank())
 }
 
 #[tactic(auto, unfolding(crate::specs::numbers::Formulas::king))]

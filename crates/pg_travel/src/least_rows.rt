@@ -11,7 +11,7 @@ ghost use Rattle.pg_travel.specs.numbers.LeastRows.{IsUnreached, AreLesser, IsLo
 ghost use Rattle.pg_travel.specs.numbers.Within.{PaysIs, CastledIs};
 
 use crate::castling::{charge, counted};
-use crate::needs::{man, same_side};
+use crate::needs::same_side;
 use crate::rows::Rows;
 use pg_board::{Board, Color, Kind, Man, Square, SquareSet};
 use pg_captures::plies_left;
@@ -93,12 +93,12 @@ fn away(rows: &Rows, board: &Board, color: Color) -> [u8; 16]
 {
     let homes = homes(color);
     let none = unreached(rows.men(color));
-    let pawns = lowered_by(rows, board, man(color, Kind::Pawn), homes, none);
-    let knights = lowered_by(rows, board, man(color, Kind::Knight), homes, pawns);
-    let bishops = lowered_by(rows, board, man(color, Kind::Bishop), homes, knights);
-    let rooks = lowered_by(rows, board, man(color, Kind::Rook), homes, bishops);
-    let queens = lowered_by(rows, board, man(color, Kind::Queen), homes, rooks);
-    lowered_by(rows, board, man(color, Kind::King), homes, queens)
+    let pawns = lowered_by(rows, board, Man::new(color, Kind::Pawn), homes, none);
+    let knights = lowered_by(rows, board, Man::new(color, Kind::Knight), homes, pawns);
+    let bishops = lowered_by(rows, board, Man::new(color, Kind::Bishop), homes, knights);
+    let rooks = lowered_by(rows, board, Man::new(color, Kind::Rook), homes, bishops);
+    let queens = lowered_by(rows, board, Man::new(color, Kind::Queen), homes, rooks);
+    lowered_by(rows, board, Man::new(color, Kind::King), homes, queens)
 }
 
 // Lowered by the row of what stands on a square, if it is a man of the colour.

@@ -3,7 +3,7 @@ ghost use Rattle.std.specs.Prelude.{◌≡◌, ℕ, ◌+◌, ◌*◌, ◌<◌, �
 ghost use Rattle.pg_board.specs.Bits.{has};
 ghost use Rattle.pg_board.specs.Placement.{get};
 ghost use Rattle.pg_board.specs.Tally.{one};
-ghost use Rattle.pg_board.specs.Men.{color_eq, man};
+ghost use Rattle.pg_board.specs.Men.{color_eq};
 ghost use Rattle.pg_captures.specs.Owed.{plies_left};
 ghost use Rattle.pg_travel.specs.Origins.{counted, charge};
 ghost use Rattle.pg_travel.specs.numbers.Formulas.{least_of};
@@ -24,12 +24,6 @@ pub(crate) fn same_side(a: Color, b: Color) -> bool
     ensures { result ≡ color_eq a b }
 {
     a == b
-}
-
-pub(crate) fn man(color: Color, kind: Kind) -> Man
-    ensures { result ≡ man color kind }
-{
-    Man { color, kind }
 }
 
 // From the nearest square with this man to a kind on a target, where that is less than `best`. Those
@@ -69,9 +63,10 @@ fn nearest(board: &Board, color: Color, way: Option<Wing>, kind: Kind, t: Square
     ensures value { result ≡ nearest board.now color way kind t }
     ensures low { result ≤ 64 }
 {
-    let own = nearer(board, man(color, kind), way, kind, t, 64, whole_board());
+    let man = Man::new(color, kind);
+    let own = nearer(board, man, way, kind, t, 64, whole_board());
     if is_promoted(kind) {
-        let pawn = man(color, Kind::Pawn);
+        let pawn = Man::new(color, Kind::Pawn);
         nearer(board, pawn, way, kind, t, own, promoting(color, own))
     } else {
         own

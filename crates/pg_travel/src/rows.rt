@@ -99,17 +99,11 @@ fn row_at(goal: &Board, place: u16) -> [u8; 16]
     ensures { IsRowAt goal.now place result }
 {
     if place < 384 {
-        let man = Man {
-            color: Color::White,
-            kind: kind_with(place / 64),
-        };
+        let man = Man::new(Color::White, kind_with(place / 64));
         row(goal, man, Square::at((place % 64) as u8))
     } else {
         let rest = place - 384;
-        let man = Man {
-            color: Color::Black,
-            kind: kind_with(rest / 64),
-        };
+        let man = Man::new(Color::Black, kind_with(rest / 64));
         row(goal, man, Square::at((rest % 64) as u8))
     }
 }

@@ -9,7 +9,6 @@ ghost use Rattle.pg_travel.specs.numbers.PriceTests.{AllFit};
 ghost use Rattle.pg_travel.specs.numbers.DistanceRows.{AreFew, MenFit, SourcesFit, AreSixteen};
 
 use crate::castling::counted;
-use crate::needs::man;
 use crate::rows::{Rows, fits};
 use pg_board::{Board, Color, Kind, Man, Square, SquareSet};
 use pg_position::Wing;
@@ -76,12 +75,12 @@ fn sources_fit(
     requires priced { IsPriced u.now color any_man board.now }
     ensures { IsTrue result ↔ SourcesFit color (MenFit rows.now board.now way u.now v) }
 {
-    men_fit(rows, board, man(color, Kind::Pawn), way, u, v)
-        && men_fit(rows, board, man(color, Kind::Knight), way, u, v)
-        && men_fit(rows, board, man(color, Kind::Bishop), way, u, v)
-        && men_fit(rows, board, man(color, Kind::Rook), way, u, v)
-        && men_fit(rows, board, man(color, Kind::Queen), way, u, v)
-        && men_fit(rows, board, man(color, Kind::King), way, u, v)
+    men_fit(rows, board, Man::new(color, Kind::Pawn), way, u, v)
+        && men_fit(rows, board, Man::new(color, Kind::Knight), way, u, v)
+        && men_fit(rows, board, Man::new(color, Kind::Bishop), way, u, v)
+        && men_fit(rows, board, Man::new(color, Kind::Rook), way, u, v)
+        && men_fit(rows, board, Man::new(color, Kind::Queen), way, u, v)
+        && men_fit(rows, board, Man::new(color, Kind::King), way, u, v)
 }
 
 // Whether every target fits every source, where there are at most sixteen targets.

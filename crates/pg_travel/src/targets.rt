@@ -10,7 +10,7 @@ ghost use Rattle.pg_travel.specs.numbers.PriceTests.{PairFits, IsBySquare, IsLea
 use crate::bands::{Band, promoting, whole_board};
 use crate::castling::counted;
 use crate::distances::{all_steps, is_promoted, least_steps};
-use crate::needs::{man, same_side};
+use crate::needs::same_side;
 use pg_board::{Board, Color, Kind, Man, Square};
 use pg_position::Wing;
 
@@ -110,13 +110,13 @@ fn kind_fits(
 {
     // A fact for the proof: the square is on the board.
     t.index();
-    let own = man(color, kind);
+    let own = Man::new(color, kind);
     if !man_fits(board, own, way, prices, kind, t, v, whole_board()) {
         return false;
     }
     if is_promoted(kind) {
         let near = promoting(color, v.saturating_sub(least));
-        let pawn = man(color, Kind::Pawn);
+        let pawn = Man::new(color, Kind::Pawn);
         man_fits(board, pawn, way, prices, kind, t, v, near)
     } else {
         true

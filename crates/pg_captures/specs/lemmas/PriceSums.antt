@@ -5,10 +5,9 @@ use Rattle.std.proofs.lemmas.List.{take_all}
 use Rattle.std.proofs.lemmas.List.Sums.{sum_by_more}
 use Rattle.pg_board.specs.declared.man.Color.{Color}
 use Rattle.pg_board.specs.declared.man.Kind.{Kind}
-use Rattle.pg_board.specs.Men.{passes}
 use Rattle.pg_board.specs.Tally.{total, one, count_below, tally, tally_below}
 use Rattle.pg_board.specs.lemmas.Sums.{total-suc}
-use Rattle.pg_board.specs.Placement.{Placement, get}
+use Rattle.pg_board.specs.Placement.{Placement}
 use Rattle.pg_captures.specs.Counting.{on, is_there}
 use Rattle.pg_captures.specs.PriceLists.{price, IsPriced}
 

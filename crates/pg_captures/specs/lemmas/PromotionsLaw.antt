@@ -16,7 +16,7 @@ use Rattle.pg_position.specs.declared.moves.Way.TheVariants.{Plain, Capture, Dou
 use Rattle.pg_position.specs.Geometry.{apart, OnOneDiagonal, InPattern}
 use Rattle.pg_position.specs.Position.{Stands, IsPosition}
 use Rattle.pg_position.specs.Squares.{rook_home, king_crossed}
-use Rattle.pg_position.specs.Step.{Goes, IsPiece, IsPlain, IsCapture, IsWay, board_after, after, Step}
+use Rattle.pg_position.specs.Step.{Goes, IsPiece, IsPlain, IsCapture, IsWay, board_after}
 use Rattle.pg_board.specs.Squares.{file, rank, is_dark}
 use Rattle.pg_captures.specs.Counting.{of_color, men, is_pawn, any_pawn, in_class}
 use Rattle.pg_position.specs.Game.{Barren}

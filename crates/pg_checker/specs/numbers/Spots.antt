@@ -2,7 +2,7 @@
 use Rattle.std.specs.Prelude.{Option, Some, None, IfSome}
 use Rattle.pg_position.specs.declared.state.State.{State}
 use Rattle.pg_position.specs.declared.moves.Move.{Move}
-use Rattle.pg_moves.specs.Moves.{IsLegal}
+use Rattle.pg_position.specs.Step.{IsLegal}
 use Rattle.pg_moves.proofs.PlayLemmas.{play_of}
 use Rattle.pg_checker.specs.declared.spot.Spot.{Spot}
 

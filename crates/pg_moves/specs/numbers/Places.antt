@@ -4,7 +4,8 @@ use Rattle.std.specs.List.{Contains}
 use Rattle.std.specs.List.Sorted.{IsStrictlySortedBy}
 use Rattle.pg_position.specs.declared.state.State.{State}
 use Rattle.pg_position.specs.declared.moves.Move.{Move}
-use Rattle.pg_moves.specs.Moves.{promotion_number, move_cmp, IsLegal}
+use Rattle.pg_position.specs.Step.{IsLegal}
+use Rattle.pg_moves.specs.Moves.{promotion_number, move_cmp}
 
 -- the place of the promotion n of the moves from r to s
 abbrev pub place_of : ℕ → ℕ → ℕ → ℕ

@@ -4,7 +4,7 @@ use Rattle.pg_board.specs.Bits.{has}
 use Rattle.pg_position.specs.declared.state.State.{State}
 use Rattle.pg_position.specs.declared.moves.Move.{Move}
 use Rattle.pg_position.specs.Position.{Stands}
-use Rattle.pg_moves.specs.Moves.{IsLegal}
+use Rattle.pg_position.specs.Step.{IsLegal}
 use Rattle.pg_moves.specs.Targets.{Covers}
 use Rattle.pg_moves.specs.declared.sources.Source.{Source}
 

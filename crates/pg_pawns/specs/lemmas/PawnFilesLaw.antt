@@ -15,8 +15,8 @@ use Rattle.pg_position.specs.declared.moves.Way.{Way}
 use Rattle.pg_position.specs.declared.moves.Way.TheVariants.{Plain, Capture, DoubleAdvance, EnPassant, Promotion, Castling}
 use Rattle.pg_position.specs.Geometry.{apart, InPattern}
 use Rattle.pg_position.specs.Position.{IsPosition, IsPassed, Stands}
-use Rattle.pg_position.specs.Step.{IsEnemy, Goes, IsWay, board_after, after, Step}
-use Rattle.pg_position.specs.Squares.{king_crossed, ahead, home_rank}
+use Rattle.pg_position.specs.Step.{IsEnemy, Goes, IsWay, board_after}
+use Rattle.pg_position.specs.Squares.{king_crossed}
 use Rattle.pg_captures.specs.Counting.{of_color, men, any_man, is_pawn}
 use Rattle.pg_position.specs.Game.{Barren}
 use Rattle.pg_captures.specs.lemmas.StepCounts.{placed, rook_leaves, rook_comes, own_tally, their_fall, took_one, own_men}

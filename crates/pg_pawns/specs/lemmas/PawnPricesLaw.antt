@@ -21,7 +21,7 @@ use Rattle.pg_position.specs.declared.moves.Way.{Way}
 use Rattle.pg_position.specs.declared.moves.Way.TheVariants.{Plain, Capture, DoubleAdvance, EnPassant, Promotion, Castling}
 use Rattle.pg_position.specs.Geometry.{apart, InPattern}
 use Rattle.pg_position.specs.Position.{Stands, IsPosition, IsPassed}
-use Rattle.pg_position.specs.Squares.{last_rank, king_target, king_crossed, ahead, home_rank}
+use Rattle.pg_position.specs.Squares.{last_rank, king_target, king_crossed}
 use Rattle.pg_position.specs.Step.{IsEnemy, Goes, IsWay, Step, board_after, after}
 use Rattle.pg_position.specs.Game.{Barren}
 use Rattle.pg_captures.specs.Counting.{of_color, men, any_man, any_pawn, is_pawn, on, is_there}

@@ -2,7 +2,8 @@
 use Rattle.std.specs.Prelude.{◌≡◌, ◌⊎◌, Option}
 use Rattle.pg_position.specs.declared.state.State.{State}
 use Rattle.pg_position.specs.declared.moves.Move.{Move}
-use Rattle.pg_moves.specs.Moves.{IsLegal, IsPast, IsBefore}
+use Rattle.pg_position.specs.Step.{IsLegal}
+use Rattle.pg_moves.specs.Moves.{IsPast, IsBefore}
 use Rattle.pg_san.specs.declared.said.Said.{Said}
 use Rattle.pg_san.specs.Matching.{Fits}
 

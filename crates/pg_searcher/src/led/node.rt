@@ -1,6 +1,6 @@
 //! One node of a led search: judged, and opened where nothing excludes it.
 ghost use Rattle.std.specs.Prelude.{◌≡◌};
-ghost use Rattle.pg_moves.specs.Moves.{IsLegal};
+ghost use Rattle.pg_position.specs.Step.{IsLegal};
 
 use crate::judge::{Verdict, sides_of};
 use crate::known::MISSING;

@@ -1,6 +1,6 @@
 //! The order in which the moves of a node come: the one that leads, those that are familiar, the others.
 ghost use Rattle.std.specs.Prelude.{◌≡◌, IfSome};
-ghost use Rattle.pg_moves.specs.Moves.{IsLegal};
+ghost use Rattle.pg_position.specs.Step.{IsLegal};
 
 use crate::led::familiar::Familiar;
 use crate::led::machine::{Open, Pass, Question};

@@ -1,6 +1,6 @@
 use Rattle.std.proofs.Common.{sym, subst, ◌∙◌}
 use Rattle.pg_position.specs.declared.state.State.{State}
-use Rattle.pg_moves.specs.Moves.{IsLegal}
+use Rattle.pg_position.specs.Step.{IsLegal}
 use Rattle.pg_checker.specs.Passing.{LeadsElsewhere, LeadsTo}
 use Rattle.pg_checker.proofs.Passing.{passes_none, passes_more, fewer_left, none_elsewhere}
 use Rattle.pg_checker.proofs.Differing.{far_elsewhere}

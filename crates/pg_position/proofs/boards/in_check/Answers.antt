@@ -24,7 +24,7 @@ unfolding InCheck
 returns-then-attacked c =
     let first = c.in-Some.ensures in
     let hit : Attacks c.args.board.now (other c.args.color) c.in-Some.king = subst (λ (x : Color). Attacks c.args.board.now x c.in-Some.king) c.other.ensures (c.if-attacked.ensures.0 refl) in
-    let here : Stands c.args.board.now c.args.color King c.in-Some.king = found _ _ _ _ c.man.ensures c.squares_of-kings.ensures c.in-Some.king first.on_board first.member in
+    let here : Stands c.args.board.now c.args.color King c.in-Some.king = found _ _ _ _ c.new.ensures c.squares_of-kings.ensures c.in-Some.king first.on_board first.member in
     (λ t. (c.in-Some.king, first.on_board, here, hit), λ h. refl)
 
 pub returns : goal.returns
@@ -35,7 +35,7 @@ returns c = (
     | inl low ↦ absurd (c.loop-king.invariant k low st hit)
     | inr high ↦ (
         let off = c.in_default.ensures k high l in
-        let on = member c.args.board.now c.args.color _ _ c.man.ensures c.squares_of-kings.ensures k l st in
+        let on = member c.args.board.now c.args.color _ _ c.new.ensures c.squares_of-kings.ensures k l st in
         cc)
   ],
 )

@@ -1,6 +1,6 @@
 use Rattle.std.proofs.Common.{◌-◌}
 use Rattle.std.specs.Option.{ForSome}
-use Rattle.pg_moves.specs.Moves.{IsLegal}
+use Rattle.pg_position.specs.Step.{IsLegal}
 use Rattle.pg_moves.specs.numbers.Places.{start_after}
 use Rattle.pg_san.specs.numbers.Walk.{WalkedTo}
 use Rattle.pg_san.proofs.reading.next_fit.Given as goal

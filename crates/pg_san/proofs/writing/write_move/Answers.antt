@@ -1,19 +1,18 @@
-use Rattle.std.proofs.Common.{refl}
 use Rattle.pg_san.proofs.SpellLemmas.{writable}
 use Rattle.pg_san.proofs.writing.write_move.Goals as goal
 
 pub write_form-requires : goal.write_form-requires
-write_form-requires c = writable c.args.position.now c.mover-kind.result c.args.m.now c.form_for-form.result c.in-Ok.next c.sign_after.result.now c.mover-kind.ensures c.requires c.form_for-form.ensures c.sign_after.ensures
+write_form-requires c = writable c.args.position.now c.mover-kind.result c.args.m.now c.form_for-form.result c.after-next.result c.sign_after.result.now c.mover-kind.ensures c.requires c.form_for-form.ensures c.sign_after.ensures
 
 pub returns : goal.returns
 returns c = record {
   kind = c.mover-kind.result;
   form = c.form_for-form.result;
   sign = c.sign_after.result.now;
-  after = c.in-Ok.next;
+  after = c.after-next.result;
   stands = c.mover-kind.ensures;
   form_is = c.form_for-form.ensures;
-  legal = (c.in-Ok.ensures.ok c.in-Ok.next).0 refl;
+  legal = c.after-next.ensures.legal;
   sign_is = c.sign_after.ensures;
   spelled = c.write_form.ensures;
 }

@@ -1,0 +1,7 @@
+use Rattle.pg_board.specs.Squares.{is_dark}
+use Rattle.pg_board.specs.Bits.{bits_below, has-bits_below}
+use Rattle.pg_board.proofs.square_set.SquareSet.dark.Goals as goal
+
+pub returns : goal.returns
+unfolding bits_below
+returns c q l = has-bits_below is_dark 64 q l
