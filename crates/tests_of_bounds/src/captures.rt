@@ -1,6 +1,6 @@
 //! The bounds by captures and by promotions: worked examples.
 
-use crate::texts::{check_bound, color, diagram, position, row_of};
+use crate::texts::{check_after, check_bound, color, diagram, position, row_of};
 use pg_board::Color;
 use pg_captures::*;
 use pg_position::Position;
@@ -48,6 +48,29 @@ rnbqkbnr/pppppppp/8/8/8/3P4/PPPP1PPP/RNBQKBNR | rnbqkbnr/pppppppp/8/8/8/8/PPPPPP
 fn promotions(rt: HostRuntime) {
     check_bound(&rt, &Promotions, PROMOTIONS);
     assert_eq!(rt; Promotions.code(), 2);
+}
+
+// A diagram with 16 black men or with 15, the position before 1. exd6 en passant, 1. e6 or 1. exd5, and the plies
+// left after the move. In the last rows a pawn promotes.
+const AFTER: &str =
+    "rnbqkbnr/ppp1pppp/8/3pP3/8/8/PPPP1PPP/RNBQKBNR | rnbqkbnr/ppp1pppp/8/3pP3/8/8/PPPP1PPP/RNBQKBNR w KQkq d6 0 3 | e5d6 9 => yes
+rnbqkbnr/ppp1pppp/8/3pP3/8/8/PPPP1PPP/RNBQKBNR | rnbqkbnr/ppp1pppp/8/3pP3/8/8/PPPP1PPP/RNBQKBNR w KQkq d6 0 3 | e5e6 9 => no
+rnbqkbnr/ppp1pppp/3P4/8/8/8/PPPP1PPP/RNBQKBNR | rnbqkbnr/ppp1pppp/8/3pP3/8/8/PPPP1PPP/RNBQKBNR w KQkq d6 0 3 | e5d6 0 => no
+rnbqkbnr/ppp1pppp/3P4/8/8/8/PPPP1PPP/RNBQKBNR | rnbqkbnr/ppp1pppp/8/3pP3/8/8/PPPP1PPP/RNBQKBNR w KQkq d6 0 3 | e5e6 1 => yes
+rnbqkbnr/ppp1pppp/3P4/8/8/8/PPPP1PPP/RNBQKBNR | rnbqkbnr/ppp1pppp/8/3pP3/8/8/PPPP1PPP/RNBQKBNR w KQkq d6 0 3 | e5e6 2 => no
+rnbqkbnr/ppp1pppp/8/3P4/8/8/PPPP1PPP/RNBQKBNR | rnbqkbnr/ppp1pppp/8/3p4/4P3/8/PPPP1PPP/RNBQKBNR w KQkq - 0 2 | e4d5 0 => no
+rnbqkbnr/ppp1pppp/8/3P4/8/8/PPPP1PPP/RNBQKBNR | rnbqkbnr/ppp1pppp/8/3p4/4P3/8/PPPP1PPP/RNBQKBNR w KQkq - 0 2 | e4e5 1 => yes
+1Q5k/8/8/8/8/8/8/K7 | 1n5k/P7/8/8/8/8/8/K7 w - - 0 1 | a7b8q 0 => no
+1Q5k/8/8/8/8/8/8/K7 | 1n5k/P7/8/8/8/8/8/K7 w - - 0 1 | a7a8q 1 => yes";
+
+// Two queens lack a pawn; one is the pawn that has promoted.
+const PROMOTED: &str = "1Q5k/8/8/8/8/8/8/K7 | 1n5k/P7/8/8/8/8/8/K7 w - - 0 1 | a7b8q 0 => no
+QQ5k/8/8/8/8/8/8/K7 | 1n5k/P7/8/8/8/8/8/K7 w - - 0 1 | a7b8q 9 => yes";
+
+#[test]
+fn after_a_move(rt: HostRuntime) {
+    check_after(&rt, &Captures, AFTER);
+    check_after(&rt, &Promotions, PROMOTED);
 }
 
 #[test]

@@ -1,9 +1,9 @@
 //! Diagrams, positions, colours and numbers as their texts give them, and tables of them.
 
-use pg_board::Color;
+use pg_board::{Color, Kind, Square};
 use pg_captures::Bound;
 use pg_fen::{Diagram, read_position};
-use pg_position::Position;
+use pg_position::{Move, Position};
 use std::process::Abort;
 
 pub(crate) fn diagram(rt: &impl Abort, text: &str) -> Diagram {
@@ -61,6 +61,42 @@ pub(crate) fn check_bound<B: Bound>(rt: &impl Abort, bound: &B, table: &str) {
             &position(rt, row.position),
             plies,
         );
+        assert_eq!(rt; found, is_yes(rt, row.wanted), "{line}");
+    }
+}
+
+fn square_of(rt: &impl Abort, name: &[u8]) -> Square {
+    assert!(rt; name.len() == 2);
+    Square::new(name[0].wrapping_sub(b'`'), name[1].wrapping_sub(b'0')).expect(rt, "a square")
+}
+
+// The move of a text such as `e2e4` or `e7e8q`.
+pub(crate) fn move_of(rt: &impl Abort, text: &str) -> Move {
+    let bytes = text.as_bytes();
+    assert!(rt; bytes.len() >= 4, "{text}");
+    let promotion = if bytes.len() > 4 {
+        Some(Kind::Queen)
+    } else {
+        None
+    };
+    Move {
+        from: square_of(rt, &bytes[..2]),
+        to: square_of(rt, &bytes[2..4]),
+        promotion,
+    }
+}
+
+// That in each row the bound excludes the diagram from the position after a legal move in so many plies, or
+// does not.
+pub(crate) fn check_after<B: Bound>(rt: &impl Abort, bound: &B, table: &str) {
+    for line in table.lines() {
+        let row = row_of(rt, line);
+        let (text, plies) = row.asked.split_once(' ').expect(rt, line);
+        let plies = plies.parse::<u8>().expect(rt, line);
+        let start = position(rt, row.position);
+        let m = move_of(rt, text);
+        assert!(rt; start.is_legal(&m), "{line}");
+        let found = bound.excludes_after(&diagram(rt, row.diagram), &start, &m, plies);
         assert_eq!(rt; found, is_yes(rt, row.wanted), "{line}");
     }
 }
