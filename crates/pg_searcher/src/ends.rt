@@ -63,10 +63,7 @@ pub(crate) fn end(
 // What a pawn becomes that goes to a square of a board, if it is the last of its file: what stands
 // there.
 fn promotion(position: &Position, goal: &Board, from: Square, to: Square) -> Option<Kind> {
-    let pawn = Man {
-        color: position.side(),
-        kind: Kind::Pawn,
-    };
+    let pawn = Man::new(position.side(), Kind::Pawn);
     let is_last = to.index() < 8 || to.index() >= 56;
     if !is_last || position.board().get(from) != Some(pawn) {
         return None;
@@ -79,10 +76,7 @@ fn promotion(position: &Position, goal: &Board, from: Square, to: Square) -> Opt
 
 // Whether a move is legal and leads to the diagram.
 fn leads(diagram: &Diagram, position: &Position, m: &Move) -> bool {
-    match position.play(*m) {
-        Ok(next) => diagram.matches(&next),
-        Err(_) => false,
-    }
+    position.is_legal(m) && diagram.matches(&position.after(m))
 }
 
 // The move of a man from a square to one of a set that leads to the diagram.
