@@ -10,7 +10,6 @@ mod listed;
 mod machine;
 mod nearness;
 mod node;
-mod play;
 mod problem;
 mod spot;
 mod table;

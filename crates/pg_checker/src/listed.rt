@@ -8,7 +8,6 @@ ghost use Rattle.pg_checker.specs.Answer.{IsSolution, AreSolutions};
 ghost use Rattle.pg_checker.specs.Listed.{IsGameFault, IsListFault};
 
 use crate::fault::ListFault;
-use crate::play::after;
 use pg_fen::{Diagram, Length};
 use pg_position::{Move, Position};
 use pg_san::Games;
@@ -20,7 +19,7 @@ fn end_of(game: &[Move]) -> Position
 {
     let mut position = Position::array();
     for m in game {
-        position = after(&position, m);
+        position = position.after(m);
     }
     position
 }

@@ -6,7 +6,6 @@ ghost use Rattle.pg_position.specs.Step.{IsLegal};
 ghost use Rattle.pg_checker.specs.Differing.{Differ, TwoToFour};
 ghost use Rattle.pg_checker.specs.Passing.{AllElsewhere, LeadsElsewhere, LeadsTo, NextLeads, PassesOver};
 
-use crate::play::after;
 use pg_board::{Square, SquareSet};
 use pg_fen::Diagram;
 use pg_moves::LegalMoves;
@@ -50,10 +49,7 @@ fn may_reach(diagram: &Diagram, position: &Position) -> bool
 fn plays_to(diagram: &Diagram, position: &Position, m: &Move) -> bool
     ensures { IsTrue result ↔ LeadsTo diagram.now position.now m.now }
 {
-    match position.play(*m) {
-        Ok(next) => diagram.matches(&next),
-        Err(_) => false,
-    }
+    position.is_legal(m) && diagram.matches(&position.after(m))
 }
 
 // Whether a move from one square to another leads to the diagram. Where it promotes, what it becomes
@@ -128,7 +124,7 @@ fn leads(diagram: &Diagram, squares: SquareSet, position: &Position, m: &Move) -
     if !squares.contains(m.from) {
         return false;
     }
-    diagram.matches(&after(position, m))
+    diagram.matches(&position.after(m))
 }
 
 /// Passes over legal moves that do not lead to the diagram, up to the first that does, and answers

@@ -2,7 +2,6 @@
 ghost use Rattle.std.specs.Prelude.{◌≡◌};
 ghost use Rattle.pg_checker.specs.numbers.Spots.{IsReached, spot_of};
 
-use crate::play::after;
 use pg_position::{Move, Position};
 
 // Where a node stands: after a legal move from a position, or at the position itself, where there is
@@ -20,7 +19,7 @@ impl Spot {
         ensures { result ≡ spot_of self.now }
     {
         match &self.m {
-            Some(m) => after(&self.from, m),
+            Some(m) => self.from.after(m),
             None => self.from,
         }
     }

@@ -1,6 +1,5 @@
-ghost use Rattle.pg_position.specs.Step.{IsLegal};
 //! Moves as they are written.
-
+ghost use Rattle.pg_position.specs.Step.{IsLegal};
 
 use super::*;
 use pg_moves::next_legal;
