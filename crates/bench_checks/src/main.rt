@@ -33,6 +33,7 @@ fn measured(alloc: Global, case: &str, number: u32) -> anyhow::Result<u64> {
         "first-needs" => needs::needs(alloc, rounds, Part::First)?,
         "needs" => needs::needs(alloc, rounds, Part::All)?,
         "records" => records::read(alloc, number)?,
+        "price-records" => records::read_priced(alloc, number)?,
         "expansions" => checking::expansions(alloc, number)?,
         "full" => checking::full(alloc, number)?,
         "references" => checking::references(alloc, number)?,

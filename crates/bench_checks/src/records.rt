@@ -1,10 +1,11 @@
-//! The reader of records, on records of one byte from memory.
+//! The reader of records, on records of one byte and on records of prices, from memory.
 ghost use Rattle.std.specs.Prelude.{◌≡◌, ◌*◌, ◌≤◌, List, length, IfOk, IfSome, OnOk};
 ghost use Rattle.std.specs.List.{flat_map};
 ghost use Rattle.pg_certificate.specs.declared.record.Record.{Record};
 ghost use Rattle.pg_certificate.specs.Spelling.{spelling, longest_record};
 ghost use Rattle.pg_certificate.specs.Reader.{PullsAtMost};
 
+use pg_certificate::format::PRICED;
 use pg_certificate::{Bare, FromRead, ReadFault, RecordReader, Source, no_spelling_is_longer};
 use pg_price_lists::Prices;
 use std::alloc::{AllocError, Global};
@@ -35,4 +36,37 @@ pub(crate) fn read(alloc: Global, count: u32) -> Result<u64, AllocError> {
     let bytes = vec![in alloc; 1u8; count as usize]?;
     let mut source = FromRead::new(bytes.as_slice());
     Ok(count_expansions(&mut source, count as u64).unwrap_or(0))
+}
+
+// How many records of prices the memory has, of so many at most.
+fn count_priced(bytes: &[u8], most: u64) -> u64 {
+    let mut source = FromRead::new(bytes);
+    let mut reader = RecordReader::new();
+    let mut prices = Prices::new(&[], &[]).unwrap();
+    let mut counted = 0u64;
+    if reader.header(&mut source).is_err() {
+        return counted;
+    }
+    for read in 0..most {
+        if let Ok(Bare::Priced { code: _, color: _ }) = reader.next_bare(&mut prices, &mut source) {
+            counted = counted.saturating_add(1);
+        }
+    }
+    counted
+}
+
+// So many times the same hundred records of prices, three lists of 14 sources and 14 targets each.
+pub(crate) fn read_priced(alloc: Global, rounds: u32) -> Result<u64, AllocError> {
+    let mut bytes = Vec::new(alloc);
+    bytes.extend_from_slice(b"PGC2")?;
+    bytes.extend_from_slice(&[0; 33])?;
+    for _ in 0..100 {
+        bytes.extend_from_slice(&[PRICED, 4, 0, 3, 14, 14])?;
+        bytes.extend_from_slice(&[1; 84])?;
+    }
+    let mut counted = 0u64;
+    for round in 0..rounds {
+        counted = counted.saturating_add(count_priced(bytes.as_slice(), 100));
+    }
+    Ok(counted)
 }

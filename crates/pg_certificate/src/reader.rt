@@ -342,6 +342,7 @@ impl RecordReader {
     }
 
     // Reads one byte, from the least to the most that may stand there. UnknownRecord at any other.
+    #[inline(always)]
     fn byte_from<S: Source>(&mut self, least: u8, most: u8, source: &mut S) -> Result<u8, ReadFault>
         ensures bytes { Reads (byte_from least most)
             (to_come self.old (S.left source.old)) (to_come self.new (S.left source.new)) result }

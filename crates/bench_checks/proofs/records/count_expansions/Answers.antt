@@ -35,6 +35,6 @@ loop-read-preserved g c =
         | in-Expand v ↦ omega (arith, v.expansions-is, c.loop-read.invariant.counted)
         | in_default v ↦ omega (arith, v.expansions-is, c.loop-read.invariant.counted)
       ];
-      runs = c.in_ok-next_bare.ensures.refuses.1;
-      taken = (w.0 ++ x ∷ [], omega (arith, w.1, length-append w.0 (x ∷ [])), subst (Consumes _ _) (flat_map_more spelling [] w.0 x) read, one_longer w.0 x c.loop-read.read w.3 (c.no_spelling_is_longer.ensures x c.in_ok-next_bare.ensures.spelled.fits));
+      runs = c.in_ok-next_bare.ensures.call.refuses.1;
+      taken = (w.0 ++ x ∷ [], omega (arith, w.1, length-append w.0 (x ∷ [])), subst (Consumes _ _) (flat_map_more spelling [] w.0 x) read, one_longer w.0 x c.loop-read.read w.3 (c.no_spelling_is_longer.ensures.longest x c.in_ok-next_bare.ensures.spelled.fits));
     }
