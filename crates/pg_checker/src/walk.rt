@@ -4,6 +4,8 @@ ghost use Rattle.pg_checker.specs.Cuts.{rules_for};
 ghost use Rattle.pg_checker.specs.numbers.Frames.{enter as enter_of, finish, turn_top, Stacked};
 ghost use Rattle.pg_checker.specs.Whole.{run as run_of};
 ghost use Rattle.pg_position.specs.Array.{array_state};
+ghost use Rattle.pg_position.specs.Position.{IsPosition};
+ghost use Rattle.pg_position.specs.Step.{IsLegal, Legal};
 ghost use Rattle.pg_checker.specs.numbers.Halting.{causes, stops};
 ghost use Rattle.pg_checker.specs.numbers.Judging.{LeafSays};
 ghost use Rattle.pg_checker.specs.numbers.Machine.{Closes, HasNone, OnTop, Passed, Plays, ReadsVersion, Walks, WalksOn, entered, entries_of, fresh, game_at, named_at, path, stack_at, state_at, work_at};
@@ -20,7 +22,7 @@ use arrayvec::ArrayVec;
 use pg_certificate::Source;
 use pg_fen::Diagram;
 use pg_moves::LegalMoves;
-use pg_position::Position;
+use pg_position::{Move, Position};
 
 // A node with no ply left, in the tree of a length: whether its placement is the diagram. Where it
 // is, the length must be the stated one and the game must be listed.
@@ -161,6 +163,20 @@ struct Child {
     plies: u8,
 }
 
+// The node to which a legal move of an open one leads.
+#[inline(always)]
+fn child_after(top: &Frame, m: &Move) -> Child
+    requires { IsLegal top.now.moves.position m.now }
+    ensures leads { Legal top.now.moves.position m.now result.position }
+    ensures below { result.plies ≡ top.now.plies }
+    ensures from { IsPosition top.now.moves.position }
+{
+    Child {
+        position: top.moves.position().after(m),
+        plies: top.plies,
+    }
+}
+
 // The next move of an open node is played, and what its last child said is kept with it. None where
 // no move is left: then nothing changes.
 #[inline(always)]
@@ -171,10 +187,7 @@ fn play_on(top: &mut Frame, found: bool) -> Option<Child>
 {
     let m = top.moves.next()?;
     top.found = either(top.found, found);
-    Some(Child {
-        position: top.moves.position().after(&m),
-        plies: top.plies,
-    })
+    Some(child_after(top, &m))
 }
 
 // The next move of the topmost node is played.
