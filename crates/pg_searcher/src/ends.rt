@@ -76,7 +76,10 @@ fn promotion(position: &Position, goal: &Board, from: Square, to: Square) -> Opt
 
 // Whether a move is legal and leads to the diagram.
 fn leads(diagram: &Diagram, position: &Position, m: &Move) -> bool {
-    position.is_legal(m) && diagram.matches(&position.after(m))
+    match position.play(*m) {
+        Ok(next) => diagram.matches(&next),
+        Err(_) => false,
+    }
 }
 
 // The move of a man from a square to one of a set that leads to the diagram.
