@@ -110,7 +110,6 @@ fn travel_excludes(
 }
 
 // A cut by prices, under the code of the bound by pawn files or of that by travel.
-#[inline(never)]
 fn priced(
     question: &Question,
     position: &Position,
@@ -133,6 +132,22 @@ fn priced(
     } else {
         Err(Reason::CutFails(code))
     }
+}
+
+// The same of a node: a function of its own, so that a cut by a bound pays for no position.
+#[inline(never)]
+fn priced_there(
+    question: &Question,
+    spot: &Spot,
+    left: u8,
+    code: u8,
+    color: Color,
+    prices: &Prices,
+) -> Result<(), Reason>
+    requires { IsReached spot.now }
+    ensures { (game : List Move) → Ends (causes game result) (cut_answer (prices_by question.now.diagram.now code color prices.now (spot_of spot.now) left) code) }
+{
+    priced(question, &spot.position(), left, code, color, prices)
 }
 
 // Whether an entry of one position may stand for another: in version 2 where they have the same
@@ -168,6 +183,15 @@ fn refer(
     } else {
         Ok(())
     }
+}
+
+// The same of a node.
+#[inline(never)]
+fn refer_there(version: u8, table: &Table, spot: &Spot, left: u8, number: u32) -> Result<(), Reason>
+    requires { IsReached spot.now }
+    ensures { (game : List Move) → Ends (causes game result) (refer_answer version (slice_get (map entry_of table.now.entries) number) left (spot_of spot.now)) }
+{
+    refer(version, table, &spot.position(), left, number)
 }
 
 // What a node that ends at once, or a cause, says of the node.
@@ -212,18 +236,12 @@ fn judge(
         }
         Bare::Cut(code) => ended(cut(question, spot, left, code)),
         Bare::Ref(number) => {
-            let answer = refer(
-                question.version,
-                &machine.table,
-                &spot.position(),
-                left,
-                number,
-            );
+            let answer = refer_there(question.version, &machine.table, spot, left, number);
             ended(answer)
         }
         Bare::Priced { code, color } => {
             let prices = &machine.prices;
-            let answer = priced(question, &spot.position(), left, code, color, prices);
+            let answer = priced_there(question, spot, left, code, color, prices);
             ended(answer)
         }
     }

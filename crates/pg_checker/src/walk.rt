@@ -51,9 +51,20 @@ fn leaf(
     }
 }
 
-// A node with so many plies left below it opens: all its moves are still to be played.
+// The same of a node: a function of its own, so that a node which ends at once pays for no position.
 #[inline(never)]
-fn open_node(position: &Position, plies: u8, named: bool, frames: &mut ArrayVec<Frame, 128>)
+fn leaf_there(question: &Question, tree: u8, frames: &[Frame], spot: &Spot) -> Result<bool, Reason>
+    requires reached { IsReached spot.now }
+    requires few { length frames.now ≤ 128 }
+    ensures { LeafSays
+        (causes (path (reverse frames.now)) result)
+        (leaf_of (rules_for code_of excluded question.now) tree (path (reverse frames.now)) (spot_of spot.now)) }
+{
+    leaf(question, tree, frames, &spot.position())
+}
+
+// A node with so many plies left below it opens: all its moves are still to be played.
+fn open_at(position: &Position, plies: u8, named: bool, frames: &mut ArrayVec<Frame, 128>)
     requires { length frames.old.items < 128 }
     ensures { frames.new.items ≡ frames.old.items ++ (fresh position.now plies named ∷ []) }
 {
@@ -63,6 +74,16 @@ fn open_node(position: &Position, plies: u8, named: bool, frames: &mut ArrayVec<
         named,
         found: false,
     });
+}
+
+// The same of a node.
+#[inline(never)]
+fn open_node(spot: &Spot, plies: u8, named: bool, frames: &mut ArrayVec<Frame, 128>)
+    requires reached { IsReached spot.now }
+    requires room { length frames.old.items < 128 }
+    ensures { frames.new.items ≡ frames.old.items ++ (fresh (spot_of spot.now) plies named ∷ []) }
+{
+    open_at(&spot.position(), plies, named, frames);
 }
 
 // A node is entered: it ends at once, or it is open from now on.
@@ -90,7 +111,7 @@ fn enter<S: Source>(
     ensures few { WalksOn machine.old machine.new (S.left source.old) (S.left source.new) (stops [] result) }
 {
     if left == 0 {
-        return match leaf(question, tree, machine.frames.as_slice(), &spot.position()) {
+        return match leaf_there(question, tree, machine.frames.as_slice(), spot) {
             Ok(found) => {
                 machine.found = found;
                 Ok(())
@@ -105,7 +126,7 @@ fn enter<S: Source>(
         }
         Ok(Node::Opened(named)) => {
             machine.found = false;
-            open_node(&spot.position(), left - 1, named, &mut machine.frames);
+            open_node(spot, left - 1, named, &mut machine.frames);
             Ok(())
         }
         Err(halt) => Err(halt),

@@ -9,7 +9,7 @@ use crate::travel::{Travel, travel_holds};
 use pg_board::Color;
 use pg_captures::Bound;
 use pg_fen::Diagram;
-use pg_position::Position;
+use pg_position::{Move, Position};
 
 // Whether the test of a colour holds, by rows of the diagram where they have each man of the colour.
 fn color_excludes(
@@ -41,6 +41,7 @@ fn either_excludes(rows: &Rows, diagram: &Diagram, position: &Position, left: u8
 }
 
 // The same test, by rows where they are those of the diagram.
+#[inline(always)]
 fn travel_holds_by(rows: &Rows, diagram: &Diagram, position: &Position, left: u8) -> bool
     ensures { IsTrue result ↔ TravelHolds diagram.now position.now left }
 {
@@ -80,5 +81,9 @@ impl Bound for TravelByRows {
         ensures exact { IsTrue result ↔ TravelHolds diagram.now position.now left }
     {
         travel_holds_by(&self.rows, diagram, position, left)
+    }
+
+    fn excludes_after(&self, diagram: &Diagram, position: &Position, m: &Move, left: u8) -> bool {
+        travel_holds_by(&self.rows, diagram, &position.after(m), left)
     }
 }

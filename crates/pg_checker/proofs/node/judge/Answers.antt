@@ -1,11 +1,7 @@
-use Rattle.std.proofs.Common.{refl, ap, subst, map, slice_get, true, false, Ok, Err}
-use Rattle.pg_position.specs.declared.state.State.{State}
+use Rattle.std.proofs.Common.{refl, ap, true, false, Ok, Err}
 use Rattle.pg_certificate.specs.declared.record.Record.TheVariants.{Cut, Ref, Priced}
 use Rattle.pg_certificate.specs.Spelling.{record_of}
-use Rattle.pg_checker.specs.Cuts.{cuts_for, prices_by}
-use Rattle.pg_checker.specs.Walk.{cut_answer}
-use Rattle.pg_checker.specs.numbers.Judging.{Ends, refer_answer}
-use Rattle.pg_checker.specs.numbers.Machine.{entry_of}
+use Rattle.pg_checker.specs.Cuts.{cuts_for}
 use Rattle.pg_checker.specs.numbers.Halting.{full, causes, stops}
 use Rattle.pg_checker.specs.declared.machine.Node.TheVariants as node
 use Rattle.pg_checker.specs.numbers.Spots.{spot_of}
@@ -25,7 +21,7 @@ pub returns-in-Cut-clause-says : goal.returns-in-Cut-clause-says
 returns-in-Cut-clause-says g c = λ game. of_record c.args.question.now.diagram.now c.args.question.now.plies c.args.question.now.games.now (cuts_for (λ b. (goal.Bound-dyn g (b.vtable, b.value)).code_of b.value) (λ b. (goal.Bound-dyn g (b.vtable, b.value)).excluded b.value) c.args.question.now) c.args.left (spot_of c.args.spot.now) c.args.machine.now c.args.machine.now (record_of c.args.machine.now.prices c.args.bare) (Cut c.in-Cut.code) (stops game c.ended.result) (ap (record_of c.args.machine.now.prices) c.in-Cut.is) (cut_judged c.args.question.now.diagram.now c.args.question.now.plies c.args.question.now.games.now (cuts_for (λ b. (goal.Bound-dyn g (b.vtable, b.value)).code_of b.value) (λ b. (goal.Bound-dyn g (b.vtable, b.value)).excluded b.value) c.args.question.now) c.args.left (spot_of c.args.spot.now) c.args.machine.now c.in-Cut.code (causes game c.cut.result) (stops game c.ended.result) (c.ended.ensures.says game) (c.cut.ensures game))
 
 pub returns-in-Ref-clause-says : goal.returns-in-Ref-clause-says
-returns-in-Ref-clause-says g c = λ game. of_record c.args.question.now.diagram.now c.args.question.now.plies c.args.question.now.games.now (cuts_for (λ b. (goal.Bound-dyn g (b.vtable, b.value)).code_of b.value) (λ b. (goal.Bound-dyn g (b.vtable, b.value)).excluded b.value) c.args.question.now) c.args.left (spot_of c.args.spot.now) c.args.machine.now c.args.machine.now (record_of c.args.machine.now.prices c.args.bare) (Ref c.in-Ref.number) (stops game c.ended-in-Ref.result) (ap (record_of c.args.machine.now.prices) c.in-Ref.is) (ref_judged c.args.question.now.diagram.now c.args.question.now.plies c.args.question.now.games.now (cuts_for (λ b. (goal.Bound-dyn g (b.vtable, b.value)).code_of b.value) (λ b. (goal.Bound-dyn g (b.vtable, b.value)).excluded b.value) c.args.question.now) c.args.left (spot_of c.args.spot.now) c.args.machine.now c.in-Ref.number (causes game c.refer-answer.result) (stops game c.ended-in-Ref.result) (c.ended-in-Ref.ensures.says game) (subst (λ (p : State). Ends (causes game c.refer-answer.result) (refer_answer c.args.question.now.version (slice_get (map entry_of c.args.machine.now.table.entries) c.in-Ref.number) c.args.left p)) c.position.ensures (c.refer-answer.ensures game)))
+returns-in-Ref-clause-says g c = λ game. of_record c.args.question.now.diagram.now c.args.question.now.plies c.args.question.now.games.now (cuts_for (λ b. (goal.Bound-dyn g (b.vtable, b.value)).code_of b.value) (λ b. (goal.Bound-dyn g (b.vtable, b.value)).excluded b.value) c.args.question.now) c.args.left (spot_of c.args.spot.now) c.args.machine.now c.args.machine.now (record_of c.args.machine.now.prices c.args.bare) (Ref c.in-Ref.number) (stops game c.ended-in-Ref.result) (ap (record_of c.args.machine.now.prices) c.in-Ref.is) (ref_judged c.args.question.now.diagram.now c.args.question.now.plies c.args.question.now.games.now (cuts_for (λ b. (goal.Bound-dyn g (b.vtable, b.value)).code_of b.value) (λ b. (goal.Bound-dyn g (b.vtable, b.value)).excluded b.value) c.args.question.now) c.args.left (spot_of c.args.spot.now) c.args.machine.now c.in-Ref.number (causes game c.refer_there-answer.result) (stops game c.ended-in-Ref.result) (c.ended-in-Ref.ensures.says game) (c.refer_there-answer.ensures game))
 
 pub returns-in-Cut-clause-kept : goal.returns-in-Cut-clause-kept
 returns-in-Cut-clause-kept g c = kept_none c.ended.result c.args.machine.now.table.kept c.ended.ensures.none
@@ -34,7 +30,7 @@ pub returns-in-Ref-clause-kept : goal.returns-in-Ref-clause-kept
 returns-in-Ref-clause-kept g c = kept_none c.ended-in-Ref.result c.args.machine.now.table.kept c.ended-in-Ref.ensures.none
 
 pub returns-in-Priced-clause-says : goal.returns-in-Priced-clause-says
-returns-in-Priced-clause-says g c = λ game. of_record c.args.question.now.diagram.now c.args.question.now.plies c.args.question.now.games.now (cuts_for (λ b. (goal.Bound-dyn g (b.vtable, b.value)).code_of b.value) (λ b. (goal.Bound-dyn g (b.vtable, b.value)).excluded b.value) c.args.question.now) c.args.left (spot_of c.args.spot.now) c.args.machine.now c.args.machine.now (record_of c.args.machine.now.prices c.args.bare) (Priced c.in-Priced.code c.in-Priced.color c.args.machine.now.prices) (stops game c.ended-in-Priced.result) (ap (record_of c.args.machine.now.prices) c.in-Priced.is) (priced_judged c.args.question.now.diagram.now c.args.question.now.plies c.args.question.now.games.now (cuts_for (λ b. (goal.Bound-dyn g (b.vtable, b.value)).code_of b.value) (λ b. (goal.Bound-dyn g (b.vtable, b.value)).excluded b.value) c.args.question.now) c.args.left (spot_of c.args.spot.now) c.args.machine.now c.in-Priced.code c.in-Priced.color c.args.machine.now.prices (causes game c.priced-answer.result) (stops game c.ended-in-Priced.result) (c.ended-in-Priced.ensures.says game) (subst (λ (p : State). Ends (causes game c.priced-answer.result) (cut_answer (prices_by c.args.question.now.diagram.now c.in-Priced.code c.in-Priced.color c.args.machine.now.prices p c.args.left) c.in-Priced.code)) c.position-in-Priced.ensures (c.priced-answer.ensures game)))
+returns-in-Priced-clause-says g c = λ game. of_record c.args.question.now.diagram.now c.args.question.now.plies c.args.question.now.games.now (cuts_for (λ b. (goal.Bound-dyn g (b.vtable, b.value)).code_of b.value) (λ b. (goal.Bound-dyn g (b.vtable, b.value)).excluded b.value) c.args.question.now) c.args.left (spot_of c.args.spot.now) c.args.machine.now c.args.machine.now (record_of c.args.machine.now.prices c.args.bare) (Priced c.in-Priced.code c.in-Priced.color c.args.machine.now.prices) (stops game c.ended-in-Priced.result) (ap (record_of c.args.machine.now.prices) c.in-Priced.is) (priced_judged c.args.question.now.diagram.now c.args.question.now.plies c.args.question.now.games.now (cuts_for (λ b. (goal.Bound-dyn g (b.vtable, b.value)).code_of b.value) (λ b. (goal.Bound-dyn g (b.vtable, b.value)).excluded b.value) c.args.question.now) c.args.left (spot_of c.args.spot.now) c.args.machine.now c.in-Priced.code c.in-Priced.color c.args.machine.now.prices (causes game c.priced_there-answer.result) (stops game c.ended-in-Priced.result) (c.ended-in-Priced.ensures.says game) (c.priced_there-answer.ensures game))
 
 pub returns-in-Priced-clause-kept : goal.returns-in-Priced-clause-kept
 returns-in-Priced-clause-kept g c = kept_none c.ended-in-Priced.result c.args.machine.now.table.kept c.ended-in-Priced.ensures.none
