@@ -86,9 +86,14 @@ done <<END
 2 search 8/8 0 none
 2 search $array 64.5 none
 2 why $array 0 none
+2 page $array 0
+2 page $array 0 none more
+2 page $array 0 none --records 0
+2 page $array 0 none --nodes -1
 4 check $array 0 none none --records=18446744073709551615
 4 check 8/8 64.5 none
 4 why 8/8 64.5 none -
+4 page 8/8 64.5 none --nodes=18446744073709551615
 4 search $array 0 none/none --nodes=0
 4 search $array 0 none/
 0 --help
@@ -96,6 +101,7 @@ done <<END
 0 cooks --help
 0 games --help
 0 why --help
+0 page --help
 0 --version
 END
 
@@ -184,6 +190,24 @@ expect 1 'pg: bytes after the certificate' '"$pg" why $open 1.0 ../long.pgc - --
 expect 2 'pg: not one line of moves' '"$pg" why $open 1.0 ../open.pgc "" --records 22' ''
 expect 2 'pg: line 1, ply 1: no such legal move' '"$pg" why $open 1.0 ../open.pgc e5 --records 22' ''
 expect 2 'pg: line 1, ply 1: not a move' '"$pg" why $open 1.0 ../open.pgc "- e4" --records 22' ''
+
+# Pages of such certificates: whole, or not begun.
+whole=$'<!DOCTYPE html>\n</html>'
+expect 0 '' '"$pg" page $open 1.0 ../open.pgc --records 22 | sed -n "1p;\$p"' "$whole"
+expect 0 '' '"$pg" page $open 1.0 ../open.pgc --nodes 0 | sed -n "1p;\$p"' "$whole"
+expect 0 '' '"$pg" page $open 0.5 ../short.pgc | grep -c "No game.</strong> No game of 0.5 moves"' 1
+expect 1 'pg: record limit reached' '"$pg" page $open 1.0 ../open.pgc --records 21' ''
+expect 1 'pg: reference to no closed node' '"$pg" page $open 1.0 ../reference.pgc' ''
+expect 1 'pg: truncated certificate' '"$pg" page $open 1.0 ../cut.pgc' ''
+expect 1 'pg: truncated certificate' '"$pg" page $open 1.0 empty' ''
+expect 1 'pg: not a certificate' '"$pg" page $queen 2.0 report' ''
+expect 1 'pg: bytes after the certificate' '"$pg" page $open 1.0 ../long.pgc' ''
+expect 1 'pg: certificate for another length' '"$pg" page $open 1.5 ../open.pgc' ''
+expect 1 'pg: certificate for another diagram' '"$pg" page $queen 1.0 ../open.pgc' ''
+expect 2 'pg: bad rank' '"$pg" page 8/8 1. ../open.pgc' ''
+expect 2 'pg: bad length' '"$pg" page $open 1. ../open.pgc' ''
+
+# What is known of a diagram at once.
 expect 2 'pg: bad length' '"$pg" show $array 1.2' ''
 expect 2 'pg: bad rank' '"$pg" show 8/8 1.2' ''
 
@@ -230,6 +254,8 @@ expect 4 'pg: read fault' '"$pg" check $queen 2.0 good.pgc <.'
 expect 4 'pg: read fault' '"$pg" check $queen 2.0 . games'
 expect 4 'pg: cannot open .' '"$pg" why $queen 2.0 . -'
 expect 4 'pg: cannot open /dev/stdin' 'cat good.pgc | "$pg" why $queen 2.0 /dev/stdin -'
+expect 4 'pg: cannot open .' '"$pg" page $queen 2.0 .'
+expect 4 'pg: cannot open /dev/stdin' 'cat good.pgc | "$pg" page $queen 2.0 /dev/stdin'
 expect 4 'pg: read fault' '"$pg" upgrade . new.pgc'
 for full in '>&-' '>/dev/full'; do
   expect 4 'pg: write fault' '"$pg" moves "$position" '"$full"
@@ -237,12 +263,14 @@ for full in '>&-' '>/dev/full'; do
   expect 4 'pg: write fault' '"$pg" check $queen 2.0 good.pgc games '"$full"
   expect 4 'pg: write fault' '"$pg" search $queen 2.0 good.pgc '"$full"
   expect 4 'pg: write fault' '"$pg" why $queen 2.0 good.pgc - '"$full"
+  expect 4 'pg: write fault' '"$pg" page $queen 2.0 good.pgc '"$full"
   expect 4 'pg: write fault' '"$pg" upgrade old.pgc new.pgc '"$full"
   expect 4 'pg: write fault' '"$pg" --help '"$full"
 done
 expect 1 '' '"$pg" search $queen 2.0 good.pgc --nodes 3 2>&-'
 expect 1 '' '"$pg" search $queen 2.0 new.pgc --nodes 3 <&- >&- 2>&-'
 expect 0 '' '"$pg" check $queen 2.0 good.pgc games <&- 2>&- | cmp - report'
+expect 0 '' '"$pg" page $queen 2.0 good.pgc <&- 2>&- | cmp - <("$pg" page $queen 2.0 good.pgc)'
 
 # Pipes that never end. A certificate is a header, and then bytes for ever.
 expect 4 'pg: read fault' 'yes "" | "$pg" check $queen 2.0 good.pgc'
@@ -276,6 +304,8 @@ expect 4 'pg: cannot open none' '"$pg" upgrade none new.pgc'
 expect 4 'pg: cannot open none' '"$pg" upgrade none old.pgc'
 expect 4 'pg: cannot open none' '"$pg" why $queen 2.0 none -'
 expect 4 "pg: cannot open $work/fifo" '"$pg" why $queen 2.0 "$work/fifo" -'
+expect 4 'pg: cannot open none' '"$pg" page $queen 2.0 none'
+expect 4 "pg: cannot open $work/fifo" '"$pg" page $queen 2.0 "$work/fifo"'
 
 # Drafts that killed runs have left: the next number is taken, and with a thousand of them there is no search. Rights are kept, and no
 # setuid or setgid bit. A name of 255 bytes has a draft too.
@@ -298,12 +328,14 @@ expect 4 'pg: write fault' '"$pg" search $queen 2.0 new.pgc --games games >/dev/
 expect 4 'pg: cannot open new.pgc' '"$pg" search $queen 2.0 new.pgc --games new.pgc' ''
 expect 4 'pg: cannot open no/list' '"$pg" search $queen 2.0 new.pgc --games no/list' ''
 expect 4 'pg: write fault' 'trap "" XFSZ; ulimit -f 1; "$pg" search $schweig 4.0 good.pgc'
+expect 4 'pg: write fault' 'trap "" XFSZ; ulimit -f 1; "$pg" page $queen 2.0 good.pgc >../page.html'
 expect 1 'pg: not a certificate of version 1' '"$pg" upgrade old.pgc ../two >/dev/null; "$pg" upgrade ../two good.pgc'
 { header "$array" 4; ones 2000; } >"$work/old.pgc"
 expect 4 'pg: write fault' 'trap "" XFSZ; ulimit -f 1; "$pg" upgrade ../old.pgc new.pgc'
 
 # With the least stack that the README names.
 expect 0 '' 'ulimit -s 512; "$pg" search $queen 2.0 good.pgc | cmp - report && "$pg" check $queen 2.0 good.pgc games | cmp - report'
+expect 0 '' 'ulimit -s 512; "$pg" page $queen 2.0 good.pgc | cmp - <("$pg" page $queen 2.0 good.pgc)'
 expect 0 '' 'ulimit -s 512; "$pg" why $queen 2.0 good.pgc "e4 d5" >/dev/null && "$pg" count "$position" 3 >/dev/null && "$pg" moves "$position" >/dev/null && "$pg" show $queen >/dev/null && "$pg" upgrade old.pgc ../two >/dev/null'
 
 # On a terminal: a bad diagram is told before the list is typed, and else how it is typed.
@@ -342,6 +374,12 @@ if command -v script >/dev/null; then
   says "'$pg' search $queen 3.0 new.pgc" 'pg: a game of 4 plies reaches the diagram' 'pg: try the length 2.0'
   says "'$pg' search $cooked 3.5 new.pgc --nodes 8312" 'pg: node limit reached' 'pg: 8307 nodes, tree 3.5 of 3.5' 'pg: 2 games known: not sound' \
     'pg: try `pg cooks` with a game, `pg show DIAGRAM LENGTH` for a forecast, or more --nodes'
+
+  # A page of a long certificate that is refused shows how far its check is, takes that away, and prints nothing.
+  { cat long.pgc; ones 12000000; } >../many.pgc
+  script -qec "'$pg' page $unreachable 64.0 ../many.pgc >../page.html" /dev/null </dev/null | tr -d '\n' | tr '\r' '\n' >"$work/said"
+  grep -q 'records [0-9]*% of limit' "$work/said" || { echo "a long page does not show how far it is" >&2; wrong=1; }
+  [ "$(tail -n 1 "$work/said")" = $'\e[Kpg: truncated certificate' ] && [ ! -s ../page.html ] || { echo "a refused page leaves something" >&2; wrong=1; }
 
   # A long search on 10 columns: what it shows does not wrap, has the tree, the share and the nodes to expect, and is taken away.
   script -qec "stty cols 10; '$pg' search $stalemate 9.5 new.pgc --nodes 8000000" /dev/null </dev/null >"$work/said"

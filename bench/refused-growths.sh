@@ -92,6 +92,8 @@ refuse 40 search "$open" 1.0 good.pgc --games games
 refuse 40 search "$open" 1.0 new.pgc --games new.games --nodes 3
 refuse 40 why "$open" 1.0 good.pgc '1. e4 e5'
 refuse 40 why "$open" 1.0 good.pgc 'd4'
+refuse 40 page "$open" 1.0 good.pgc
+refuse 40 page "$open" 1.0 good.pgc --nodes 0
 refuse 40 upgrade old.pgc new.pgc
 refuse 40 upgrade old.pgc old.pgc
 

@@ -97,6 +97,7 @@ check_is_meant name rows (Ok s) n h = record {
   check = λ _. h;
   search = λ e. let bad : 99 ≡ 115 = ap (λ (t : Text). slice_index t 0) (sym n ∙ e) in absurd (omega arith);
   why = λ e. let bad : 99 ≡ 119 = ap (λ (t : Text). slice_index t 0) (sym n ∙ e) in absurd (omega arith);
+  page = λ e. let bad : 99 ≡ 112 = ap (λ (t : Text). slice_index t 0) (sym n ∙ e) in absurd (omega arith);
   upgrade = λ e. let bad : 99 ≡ 117 = ap (λ (t : Text). slice_index t 0) (sym n ∙ e) in absurd (omega arith);
 }
 check_is_meant name rows (Err x) n h = tt
@@ -107,6 +108,7 @@ search_is_meant name rows (Ok s) n h = record {
   check = λ e. let bad : 115 ≡ 99 = ap (λ (t : Text). slice_index t 0) (sym n ∙ e) in absurd (omega arith);
   search = λ _. h;
   why = λ e. let bad : 115 ≡ 119 = ap (λ (t : Text). slice_index t 0) (sym n ∙ e) in absurd (omega arith);
+  page = λ e. let bad : 115 ≡ 112 = ap (λ (t : Text). slice_index t 0) (sym n ∙ e) in absurd (omega arith);
   upgrade = λ e. let bad : 115 ≡ 117 = ap (λ (t : Text). slice_index t 0) (sym n ∙ e) in absurd (omega arith);
 }
 search_is_meant name rows (Err x) n h = tt
@@ -117,6 +119,18 @@ why_is_meant name rows (Ok s) n h = record {
   check = λ e. let bad : 119 ≡ 99 = ap (λ (t : Text). slice_index t 0) (sym n ∙ e) in absurd (omega arith);
   search = λ e. let bad : 119 ≡ 115 = ap (λ (t : Text). slice_index t 0) (sym n ∙ e) in absurd (omega arith);
   why = λ _. h;
+  page = λ e. let bad : 119 ≡ 112 = ap (λ (t : Text). slice_index t 0) (sym n ∙ e) in absurd (omega arith);
   upgrade = λ e. let bad : 119 ≡ 117 = ap (λ (t : Text). slice_index t 0) (sym n ∙ e) in absurd (omega arith);
 }
 why_is_meant name rows (Err x) n h = tt
+
+pub page_is_meant : (name : Text) (rows : List Row) (result : Result ℕ Refusal) → name ≡ codes "page"
+    → IfOk result (λ s. IsExplained rows s) → IfOk result (λ s. IsMeant name rows s)
+page_is_meant name rows (Ok s) n h = record {
+  check = λ e. let bad : 112 ≡ 99 = ap (λ (t : Text). slice_index t 0) (sym n ∙ e) in absurd (omega arith);
+  search = λ e. let bad : 112 ≡ 115 = ap (λ (t : Text). slice_index t 0) (sym n ∙ e) in absurd (omega arith);
+  why = λ e. let bad : 112 ≡ 119 = ap (λ (t : Text). slice_index t 0) (sym n ∙ e) in absurd (omega arith);
+  page = λ _. h;
+  upgrade = λ e. let bad : 112 ≡ 117 = ap (λ (t : Text). slice_index t 0) (sym n ∙ e) in absurd (omega arith);
+}
+page_is_meant name rows (Err x) n h = tt

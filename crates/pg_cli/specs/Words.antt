@@ -23,7 +23,7 @@ abbrev pub IsSearched : List Row → ℕ → Type 0
 IsSearched rows status = (d : Placement) × (n : ℕ) × (list : List (List Move)) × (diagram_of (fields (spelled (codes "DIAGRAM") rows)) ≡ Ok d)
     × (length_of (spelled (codes "LENGTH") rows) ≡ Ok n) × IsAnswered d n list status
 
--- what a status of `pg why` says: the words DIAGRAM and LENGTH spell a diagram and a length, some list is the exact answer, and the status is 0
+-- what a status of `pg why` or `pg page` says: the words DIAGRAM and LENGTH spell a diagram and a length, some list is the exact answer, and the status is 0
 abbrev pub IsExplained : List Row → ℕ → Type 0
 IsExplained rows status = HasExactAnswer (spelled (codes "DIAGRAM") rows) (spelled (codes "LENGTH") rows) × (status ≡ 0)
 
@@ -36,4 +36,5 @@ pub record IsMeant (name : Text) (rows : List Row) (status : ℕ) : Type 0 where
   pub check : name ≡ codes "check" → IsChecked rows status
   pub search : name ≡ codes "search" → IsSearched rows status
   pub why : name ≡ codes "why" → IsExplained rows status
+  pub page : name ≡ codes "page" → IsExplained rows status
   pub upgrade : name ≡ codes "upgrade" → status ≡ 0

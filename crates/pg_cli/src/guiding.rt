@@ -17,8 +17,8 @@ use std::io;
 use std::io::{Read, Write};
 use std::rt::Runtime;
 
-// Why a line is not explained, as a refusal.
-fn refusal_of<'a>(fault: WhyFault) -> Refusal<'a> {
+// Why a line is not explained, or a certificate not shown, as a refusal.
+pub(crate) fn refusal_of<'a>(fault: WhyFault) -> Refusal<'a> {
     match fault {
         WhyFault::Moves => Refusal::Line,
         WhyFault::TooMany => Refusal::Search(SearchFault::TooManyGames),
@@ -26,8 +26,8 @@ fn refusal_of<'a>(fault: WhyFault) -> Refusal<'a> {
     }
 }
 
-// The status once the explanation is wholly written.
-fn done<'a, W: Sink + Drop>(out: Gathered<W>) -> Result<u8, Refusal<'a>>
+// The status once the explanation, or the page, is wholly written.
+pub(crate) fn done<'a, W: Sink + Drop>(out: Gathered<W>) -> Result<u8, Refusal<'a>>
     ensures zero { IfOk result (λ status. status ≡ 0) }
 {
     match out.finish() {
@@ -106,7 +106,7 @@ pub(crate) fn why_from<'a, R: Runtime + AllocGlobal, C: Read + Drop, W: Write + 
 }
 
 // A plain file, opened three times.
-fn open_thrice<R: Runtime + AllocGlobal>(
+pub(crate) fn open_thrice<R: Runtime + AllocGlobal>(
     rt: &R,
     path: &str,
 ) -> Result<(R::File, R::File, R::File), FileFault> {

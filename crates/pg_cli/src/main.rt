@@ -1,7 +1,8 @@
 //! The program `pg`, the checker of shortest proof games: `pg show DIAGRAM [LENGTH]`, `pg moves FEN`, `pg count FEN PLIES`,
 //! `pg games DIAGRAM LENGTH [GAMES]`, `pg cooks DIAGRAM LENGTH GAMES [--nodes N] [--foreign D]`,
 //! `pg check DIAGRAM LENGTH CERT [GAMES] [--records N]`, `pg search DIAGRAM LENGTH CERT [--nodes N] [--games FILE]`,
-//! `pg why DIAGRAM LENGTH CERT MOVES [--records N]` and `pg upgrade OLD NEW [--records N]`.
+//! `pg why DIAGRAM LENGTH CERT MOVES [--records N]`, `pg page DIAGRAM LENGTH CERT [--records N] [--nodes K]` and
+//! `pg upgrade OLD NEW [--records N]`.
 #![tactic(auto)]
 
 ghost use Rattle.std.specs.Prelude.{List, IfOk};
@@ -12,6 +13,7 @@ mod checking;
 mod guiding;
 mod hints;
 mod knowing;
+mod paging;
 mod positions;
 mod refusals;
 mod screen;
@@ -34,8 +36,8 @@ use std::process::ExitCode;
 use std::rt::Runtime;
 use std::{env, io};
 
-// Does what the words of a command say, with these bounds. A status of `check`, `search` or `why` means
-// that a list is the exact answer to the diagram and the length which the words spell.
+// Does what the words of a command say, with these bounds. A status of `check`, `search`, `why` or `page`
+// means that a list is the exact answer to the diagram and the length which the words spell.
 fn carry_out<'a, R: Runtime + AllocGlobal>(
     rt: &R,
     words: &ArgMatches<'a>,
@@ -56,6 +58,7 @@ fn carry_out<'a, R: Runtime + AllocGlobal>(
         "check" => checking::check(rt, inner, bounds, screen),
         "search" => searching::search(rt, inner, bounds, screen.errors),
         "why" => guiding::why(rt, inner, bounds, screen),
+        "page" => paging::page(rt, inner, bounds, screen.errors),
         "upgrade" => upgrading::upgrade(rt, inner, screen.errors),
         _ => Ok(BAD_INPUT),
     }

@@ -20,10 +20,12 @@ button:disabled { color: #999; border-color: #bbb; cursor: default; }
 button:hover:enabled, button:focus-visible { background: #dde6f2; }
 #bar button { min-width: 3em; margin-top: .5em; }
 #line button, .move { padding: .1em .4em; margin: .1em 0; }
-#games .here { font-weight: bold; } #games li { margin: .3em 0; }
-.rows { list-style: none; padding: 0; } .rows li { padding: .15em 0; border-bottom: 1px solid #ddd; }
-.move { min-width: 4em; margin-right: .6em; text-align: left; font-weight: bold; }
+#games .here { font-weight: bold; } #games li { margin: .3em 0; } #games button { text-align: left; }
+.rows { list-style: none; padding: 0; } .rows li { display: flex; align-items: baseline; padding: .15em 0; border-bottom: 1px solid #ddd; }
+.move { flex: none; min-width: 4em; margin-right: .6em; text-align: left; font-weight: bold; }
 summary { cursor: pointer; padding: .3em 0; } .small { font-size: .85em; color: #444; }
+@media (min-width: 50em) { figure { float: left; width: 24em; margin: 0 2em 1em 0; } #games { overflow: hidden; } #games + h2 { clear: both; } }
+@media (max-width: 40em) { .move, #line button { padding: .4em .7em; } summary { padding: .6em 0; } }
 @media print { #bar, .hint { display: none; } button { border: none; background: none; padding: 0 .3em; } .board { max-width: 9cm; } }
 </style>
 ";

@@ -77,6 +77,16 @@ Example, with a certificate that a search writes first:
   pg search rnbqkbnr/pppp1ppp/8/4p3/4P3/8/PPPP1PPP/RNBQKBNR 1.0 e4e5.pgc
   pg why rnbqkbnr/pppp1ppp/8/4p3/4P3/8/PPPP1PPP/RNBQKBNR 1.0 e4e5.pgc '1. e4'";
 
+const PAGE_EXAMPLE: &str =
+    "The page shows the diagram, the verdict, the games, and what the certificate has
+at each position; it is one file of HTML and loads nothing else. Nothing is
+written before the check has said yes. What the page says of a position is not
+proved.
+
+Example, with a certificate that a search writes first:
+  pg search rnbqkbnr/pppp1ppp/8/4p3/4P3/8/PPPP1PPP/RNBQKBNR 1.0 e4e5.pgc
+  pg page rnbqkbnr/pppp1ppp/8/4p3/4P3/8/PPPP1PPP/RNBQKBNR 1.0 e4e5.pgc >e4.html";
+
 const UPGRADE_EXAMPLE: &str =
     "The copy says what the old one says. It is put in its place when it is whole.
 
@@ -104,6 +114,7 @@ enum Word {
     LedNodes,
     Foreign,
     Kept,
+    Told,
 }
 
 // A command: its name, what it does, what stands below its help, and its words in their order.
@@ -114,7 +125,7 @@ struct Entry {
     words: &'static [Word],
 }
 
-const COMMANDS: [Entry; 9] = [
+const COMMANDS: [Entry; 10] = [
     Entry {
         name: "show",
         about: "Prints the board of a diagram, and what is known of it at once",
@@ -185,6 +196,18 @@ const COMMANDS: [Entry; 9] = [
             Word::Certificate,
             Word::Moves,
             Word::Records,
+        ],
+    },
+    Entry {
+        name: "page",
+        about: "Writes a page of HTML that shows a certificate",
+        below: PAGE_EXAMPLE,
+        words: &[
+            Word::Diagram,
+            Word::Length,
+            Word::Certificate,
+            Word::Records,
+            Word::Told,
         ],
     },
     Entry {
@@ -278,6 +301,14 @@ fn arg_of<'a>(alloc: Global, word: Word) -> Arg<'a> {
             .value_name("D")
             .value_parser(ValueParser::unsigned(0, 255))
             .help("At most so many moves of other kinds; else any number"),
+        Word::Told => limit(
+            alloc,
+            "nodes",
+            "20000",
+            0,
+            "Shows at most so many expanded nodes",
+        )
+        .value_name("K"),
         Word::Kept => Arg::new(alloc, "games")
             .long("games")
             .value_name("FILE")

@@ -1,6 +1,6 @@
 use Rattle.clap.specs.Words.{found_of, rows_of}
 use Rattle.pg_cli.specs.Words.{IsMeant}
-use Rattle.pg_cli.proofs.AnswerLemmas.{carried, check_is_meant, search_is_meant, why_is_meant}
+use Rattle.pg_cli.proofs.AnswerLemmas.{carried, check_is_meant, search_is_meant, why_is_meant, page_is_meant}
 use Rattle.pg_cli.proofs.carry_out.Goals as goal
 
 pub returns-in-check : goal.returns-in-check
@@ -17,3 +17,8 @@ pub returns-in-why : goal.returns-in-why
 returns-in-why g c =
     let rows = rows_of (found_of c.in-Some.inner.now) in
     record { headline = carried c.args.words.now c.in-Some.name.now rows IsMeant c.why.result c.in-Some.ensures.name c.in-Some.ensures.rows (why_is_meant c.in-Some.name.now rows c.why.result c.in-why.is c.why.ensures.headline) }
+
+pub returns-in-page : goal.returns-in-page
+returns-in-page g c =
+    let rows = rows_of (found_of c.in-Some.inner.now) in
+    record { headline = carried c.args.words.now c.in-Some.name.now rows IsMeant c.page.result c.in-Some.ensures.name c.in-Some.ensures.rows (page_is_meant c.in-Some.name.now rows c.page.result c.in-page.is c.page.ensures.headline) }

@@ -1,0 +1,8 @@
+use Rattle.clap.specs.Words.{found_of, rows_of}
+use Rattle.pg_cli.proofs.AnswerLemmas.{why_means}
+use Rattle.pg_cli.proofs.paging.page.Goals as goal
+
+pub returns : goal.returns
+returns g c = record {
+  headline = why_means (rows_of (found_of c.args.words.now)) c.text_of-diagram.result.now c.text_of-length.result.now c.page_from.result c.text_of-diagram.ensures c.text_of-length.ensures c.page_from.ensures.right c.page_from.ensures.zero;
+}
