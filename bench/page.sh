@@ -210,9 +210,9 @@ while IFS='|' read -r name nodes verdict address steps end asks; do
   compare "$verdict" "$end"
   [ "$asked" = "$asks" ] || fail "the page says $asked times what to ask, not $asks times"
 done <<'END_OF_READERS'
-schweig|20000|Sound||reads;rows KQkq -;game 1;first;play;press ArrowLeft;back;line 2;rows KQkq -;move Nb5;press ArrowLeft;history;line start;move a3|after 1. a3: excluded: no man of white's can come to be the pawn on a2 (travel)|0
-schweig|20000|Sound|1.Nc3 d6 2.Nd5|rows KQkq -;move Nd7;move a3;history;rows KQkq -|after 1. Nc3 d6 2. Nd5 Nd7: 2 of 24 moves lead on; cut 20 by captures, 2 by travel; 1 game below|0
-schweig|100|Sound||game 1;first;play;line 5;asks|after 1. Nc3 d6 2. Nd5 Nd7: expanded, with 1 game below|1
+schweig|20000|Sound||reads;rows KQkq -;game 1;first;play;press ArrowLeft;back;line 3;rows KQkq -;move Nb5;press ArrowLeft;history;line start;move a3|after 1. a3: excluded: no man of white's can come to be the pawn on a2 (travel)|0
+schweig|20000|Sound|1.Nc3 d6 2.Nd5|rows KQkq -;move Nd7;move a3;history;rows KQkq -|after 1. Nc3 d6 2. Nd5 Nd7: 1 of 27 moves leads on; cut 25 by captures, 1 by travel; 1 game below|0
+schweig|100|Sound||game 1;first;play;line 5;asks|after 1. Nc3 d6 2. Nd5 Nd7: not told on this page|1
 four-games|20000|Cooked||reads;game 4;first;play;game 1;first;play;back;rows KQkq d6;address 1.e4 d5;last|after 1. e4 a6 2. e5 d5 3. exd6: a solution|0
 castling|20000|Sound||reads;game 1;first;play;back;next;press ArrowLeft;rows KQkq -|after 1. e4 g6 2. Ba6 Nxa6 3. Nf3 Nb8: 1 of 26 moves ends on the diagram|0
 castling-long|20000|Sound||reads;game 1;first;play|after 1. d3 c6 2. Bf4 Qa5+ 3. Nd2 Qxd2+ 4. Qxd2 f6 5. O-O-O: a solution|0

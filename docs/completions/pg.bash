@@ -2,7 +2,7 @@
 _pg() {
   local cur=${COMP_WORDS[COMP_CWORD]} before=${COMP_WORDS[COMP_CWORD - 1]} place=1 at
   local commands options valued=" " file_options=" " file_places=" "
-  commands="show moves count games cooks check search why upgrade help"
+  commands="show moves count games cooks check search why page upgrade help"
   COMPREPLY=()
   if [ "$COMP_CWORD" = 1 ]; then
     mapfile -t COMPREPLY < <(compgen -W "$commands --help -h --version -V" -- "$cur")
@@ -17,6 +17,7 @@ _pg() {
     check) options="--records --help -h" valued=" --records " file_places=" 3 4 " ;;
     search) options="--nodes --games --help -h" valued=" --nodes --games " file_options=" --games " file_places=" 3 " ;;
     why) options="--records --help -h" valued=" --records " file_places=" 3 " ;;
+    page) options="--records --nodes --help -h" valued=" --records --nodes " file_places=" 3 " ;;
     upgrade) options="--records --help -h" valued=" --records " file_places=" 1 2 " ;;
     help) options=$commands ;;
     *) return ;;

@@ -37,6 +37,7 @@ complete -c pg -n __fish_use_subcommand -a cooks -d 'Looks for another game, or 
 complete -c pg -n __fish_use_subcommand -a check -d 'Checks a certificate against a list of games, and prints the report'
 complete -c pg -n __fish_use_subcommand -a search -d 'Searches for the games, writes a certificate, checks it, and reports'
 complete -c pg -n __fish_use_subcommand -a why -d 'Explains a line of moves by a certificate'
+complete -c pg -n __fish_use_subcommand -a page -d 'Writes a page of HTML that shows a certificate'
 complete -c pg -n __fish_use_subcommand -a upgrade -d 'Copies a certificate of version 1 as one of version 2'
 complete -c pg -n __fish_use_subcommand -a help -d 'Print this message or the help of the given subcommand(s)'
 complete -c pg -n '__pg_is show' -s h -l help -d 'Print help'
@@ -59,6 +60,10 @@ complete -c pg -n '__pg_is_at search 3 --nodes --games' -F
 complete -c pg -n '__pg_is why' -l records -x -d 'Refuses a certificate of more records [default: 100000000]'
 complete -c pg -n '__pg_is why' -s h -l help -d 'Print help'
 complete -c pg -n '__pg_is_at why 3 --records' -F
+complete -c pg -n '__pg_is page' -l records -x -d 'Refuses a certificate of more records [default: 100000000]'
+complete -c pg -n '__pg_is page' -l nodes -x -d 'Shows at most so many expanded nodes [default: 20000]'
+complete -c pg -n '__pg_is page' -s h -l help -d 'Print help'
+complete -c pg -n '__pg_is_at page 3 --records --nodes' -F
 complete -c pg -n '__pg_is upgrade' -l records -x -d 'Refuses a certificate of more records [default: 100000000]'
 complete -c pg -n '__pg_is upgrade' -s h -l help -d 'Print help'
 complete -c pg -n '__pg_is_at upgrade 1 --records' -F
@@ -71,5 +76,6 @@ complete -c pg -n '__pg_is_at help 1' -a cooks -d 'Looks for another game, or a 
 complete -c pg -n '__pg_is_at help 1' -a check -d 'Checks a certificate against a list of games, and prints the report'
 complete -c pg -n '__pg_is_at help 1' -a search -d 'Searches for the games, writes a certificate, checks it, and reports'
 complete -c pg -n '__pg_is_at help 1' -a why -d 'Explains a line of moves by a certificate'
+complete -c pg -n '__pg_is_at help 1' -a page -d 'Writes a page of HTML that shows a certificate'
 complete -c pg -n '__pg_is_at help 1' -a upgrade -d 'Copies a certificate of version 1 as one of version 2'
 complete -c pg -n '__pg_is_at help 1' -a help -d 'Print this message or the help of the given subcommand(s)'

@@ -306,7 +306,7 @@ fn arg_of<'a>(alloc: Global, word: Word) -> Arg<'a> {
             "nodes",
             "20000",
             0,
-            "Shows at most so many expanded nodes of the tree",
+            "Shows at most so many expanded nodes",
         )
         .value_name("K"),
         Word::Kept => Arg::new(alloc, "games")
