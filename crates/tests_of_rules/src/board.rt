@@ -29,10 +29,7 @@ impl Cells {
     }
 
     fn king(&self, color: Color) -> Option<Square> {
-        let king = Some(Man {
-            color,
-            kind: Kind::King,
-        });
+        let king = Some(Man::new(color, Kind::King));
         for i in 0..64u8 {
             if self.cells[i as usize] == king {
                 return Square::from_index(i);
@@ -64,7 +61,7 @@ fn compare(rt: &impl Abort, board: &Board, cells: &Cells) {
     for color in COLORS {
         assert_eq!(rt; board.king(color), cells.king(color));
         for kind in KINDS {
-            compare_man(rt, board, cells, Man { color, kind });
+            compare_man(rt, board, cells, Man::new(color, kind));
         }
     }
 }
@@ -106,7 +103,7 @@ fn agrees_with_cells(rt: HostRuntime) {
                     &mut board,
                     &mut cells,
                     Square::at(i),
-                    Man { color, kind },
+                    Man::new(color, kind),
                 );
             }
         }
@@ -116,10 +113,7 @@ fn agrees_with_cells(rt: HostRuntime) {
 #[test]
 fn equal_by_value(rt: HostRuntime) {
     let (a8, e1) = (square(&rt, "a8"), square(&rt, "e1"));
-    let king = Man {
-        color: Color::White,
-        kind: Kind::King,
-    };
+    let king = Man::new(Color::White, Kind::King);
     let mut board = Board::empty();
     board.put(a8, king);
     board.put(e1, king);
@@ -135,13 +129,7 @@ fn equal_by_value(rt: HostRuntime) {
 fn packed_boards(rt: HostRuntime) {
     let mut board = Board::empty();
     let without = board.packed();
-    board.put(
-        square(&rt, "e1"),
-        Man {
-            color: Color::White,
-            kind: Kind::King,
-        },
-    );
+    board.put(square(&rt, "e1"), Man::new(Color::White, Kind::King));
     let packed = board.packed();
     let kept = packed;
     assert!(rt; kept == board.packed() && packed != without);
@@ -242,4 +230,13 @@ fn orders(rt: HostRuntime) {
         last = Some(kind);
     }
     assert!(rt; Color::White.other() == Color::Black && Color::Black.other() == Color::White);
+}
+
+#[test]
+fn shades(rt: HostRuntime) {
+    let (a1, h1) = (square(&rt, "a1"), square(&rt, "h1"));
+    let (light, dark) = (SquareSet::light(), SquareSet::dark());
+    assert!(rt; light.contains(h1) && !light.contains(a1));
+    assert!(rt; dark.contains(a1) && !dark.contains(h1));
+    assert!(rt; light.len() == 32 && dark.len() == 32);
 }

@@ -4,9 +4,9 @@ mod games;
 mod positions;
 
 use crate::texts::{cells, check_shown, is_yes, move_of, position, square};
-use pg_board::{Board, Color, Square};
+use pg_board::{Board, Color, Kind, Square};
 use pg_fen::man_of;
-use pg_position::{BadPosition, Illegal, Move, Position, Rights};
+use pg_position::{BadPosition, Illegal, Move, Position, Rights, is_enemy, is_vacant, stands};
 use std::process::Abort;
 
 // The board of a placement as a FEN writes it, from a8 to h1.
@@ -51,12 +51,20 @@ fn parts(
     Position::from_parts(board(placement), side, rights(castling), passed)
 }
 
+// Whether a move is legal and leads to a position, without the tests of `play`.
+fn leads(here: &Position, m: &Move, next: &Position) -> bool {
+    here.is_legal(m) && here.after(m) == *next
+}
+
 // The position after a game, which must be legal: moves with blanks between them, or nothing.
 fn after(rt: &impl Abort, start: &str, game: &str) -> Position {
     let mut reached = position(rt, start);
     for text in game.split(' ') {
         if !text.is_empty() {
-            reached = reached.play(move_of(rt, text)).expect(rt, text);
+            let m = move_of(rt, text);
+            let next = reached.play(m).expect(rt, text);
+            assert!(rt; leads(&reached, &m, &next), "{text}");
+            reached = next;
         }
     }
     reached

@@ -44,10 +44,7 @@ fn men_of(board: &Board, color: Color) -> u8
 fn shifts_and_counts(rt: HostRuntime) {
     let e2 = Square::at(12);
     let e4 = Square::at(28);
-    let pawn = Man {
-        color: Color::White,
-        kind: pg_board::Kind::Pawn,
-    };
+    let pawn = Man::new(Color::White, pg_board::Kind::Pawn);
     let mut board = Board::empty();
     board.put(e2, pawn);
     let moved = shift(&board, e2, e4);

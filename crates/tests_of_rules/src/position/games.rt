@@ -19,8 +19,10 @@ fn check_last(rt: &impl Abort, table: &str) {
     for row in table.lines() {
         let (start, game, wanted) = cells(rt, row);
         let (before, last) = game.rsplit_once(' ').unwrap_or(("", game));
-        let found = after(rt, start, before).play(move_of(rt, last)).err();
-        assert_eq!(rt; found, illegal(rt, wanted), "{row}");
+        let here = after(rt, start, before);
+        let m = move_of(rt, last);
+        assert_eq!(rt; here.play(m).err(), illegal(rt, wanted), "{row}");
+        assert_eq!(rt; here.is_legal(&m), wanted == "legal", "{row}");
     }
 }
 

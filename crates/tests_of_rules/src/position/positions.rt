@@ -114,6 +114,16 @@ fn texts(rt: HostRuntime) {
 }
 
 #[test]
+fn men_on_squares(rt: HostRuntime) {
+    let board = Position::array().board();
+    let (e1, e4, e7) = (square(&rt, "e1"), square(&rt, "e4"), square(&rt, "e7"));
+    assert!(rt; stands(&board, Color::White, Kind::King, e1));
+    assert!(rt; !stands(&board, Color::Black, Kind::King, e1));
+    assert!(rt; is_enemy(&board, Color::White, e7) && !is_enemy(&board, Color::Black, e7));
+    assert!(rt; is_vacant(&board, e4) && !is_enemy(&board, Color::White, e4));
+}
+
+#[test]
 fn order_of_moves(rt: HostRuntime) {
     let plain = move_of(&rt, "b7b8");
     let mut last = plain;
