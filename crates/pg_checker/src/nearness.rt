@@ -49,7 +49,10 @@ fn may_reach(diagram: &Diagram, position: &Position) -> bool
 fn plays_to(diagram: &Diagram, position: &Position, m: &Move) -> bool
     ensures { IsTrue result ↔ LeadsTo diagram.now position.now m.now }
 {
-    position.is_legal(m) && diagram.matches(&position.after(m))
+    match position.play(*m) {
+        Ok(next) => diagram.matches(&next),
+        Err(_) => false,
+    }
 }
 
 // Whether a move from one square to another leads to the diagram. Where it promotes, what it becomes

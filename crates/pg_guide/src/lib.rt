@@ -6,7 +6,6 @@ mod explaining;
 mod fault;
 mod gathering;
 mod machine;
-mod play;
 mod walk;
 
 pub use explaining::{Asked, why};

@@ -1,13 +1,15 @@
 //! The walk over the trees of a certificate, with a stack of open nodes.
 
-ghost use Rattle.std.specs.Prelude.{◌≡◌, ◌↔◌, Bool, IsTrue, IfErr, IfSome};
+ghost use Rattle.std.specs.Prelude.{◌≡◌, ◌↔◌, Bool, IsTrue, IfErr, IfSome, MatchOption};
+ghost use Rattle.pg_position.specs.Array.{array_state};
+ghost use Rattle.pg_position.specs.Game.{IsGame};
 ghost use Rattle.pg_position.specs.Step.{IsLegal};
+ghost use Rattle.pg_san.specs.Games.{IsFromArray};
 ghost use Rattle.pg_checker.specs.Answer.{IsSolution};
 ghost use Rattle.pg_guide.specs.Stops.{Finds, StopsTruly};
 ghost use Rattle.pg_guide.specs.declared.machine.Question.{Question};
 
 use crate::machine::{Frame, Machine, Question, Stop, count, count_leaf, game_along, recount};
-use crate::play::{after, end_of};
 use arrayvec::ArrayVec;
 use pg_certificate::{ReadFault, Record, RecordReader, Source};
 use pg_checker::pass_over;
@@ -67,6 +69,20 @@ fn enter(
         Ok(()) => Ok(()),
         Err(_) => Err(Stop::Refused),
     }
+}
+
+// The last position of a game from the initial array; none where a move is not legal.
+fn end_of(game: &[Move]) -> Option<Position>
+    ensures { MatchOption result (¬ IsFromArray game.now) (λ r. IsGame array_state game.now r) }
+{
+    let mut position = Position::array();
+    for m in game {
+        match position.play(*m) {
+            Ok(next) => position = next,
+            Err(_) => return None,
+        }
+    }
+    Some(position)
 }
 
 // Whether a game is a solution: it has the stated length and ends on the diagram.
@@ -189,7 +205,7 @@ fn leaves(
         let Some(m) = following(&mut top.moves) else {
             break;
         };
-        let hit = question.diagram.matches(&after(&position, &m));
+        let hit = question.diagram.matches(&position.after(&m));
         count_leaf(&mut top.tally, hit);
         match leaf(question, machine, games, top.on_line, &m, hit) {
             Ok(()) => {}
@@ -218,7 +234,7 @@ fn step<S: Source>(
         close(question, machine, &top);
         return Ok(());
     };
-    let next_position = after(&position, &m);
+    let next_position = position.after(&m);
     let on_line = goes_on(question, top.on_line, machine.frames.len(), &m);
     let left = top.left;
     let record = match next(machine, source) {

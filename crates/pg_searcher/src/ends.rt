@@ -63,10 +63,7 @@ pub(crate) fn end(
 // What a pawn becomes that goes to a square of a board, if it is the last of its file: what stands
 // there.
 fn promotion(position: &Position, goal: &Board, from: Square, to: Square) -> Option<Kind> {
-    let pawn = Man {
-        color: position.side(),
-        kind: Kind::Pawn,
-    };
+    let pawn = Man::new(position.side(), Kind::Pawn);
     let is_last = to.index() < 8 || to.index() >= 56;
     if !is_last || position.board().get(from) != Some(pawn) {
         return None;

@@ -41,10 +41,7 @@ pub(crate) struct Known {
 }
 
 fn count_pawns(board: &Board, color: Color) -> u8 {
-    let pawn = Man {
-        color,
-        kind: Kind::Pawn,
-    };
+    let pawn = Man::new(color, Kind::Pawn);
     board.squares_of(pawn).len()
 }
 

@@ -13,7 +13,6 @@ mod led;
 mod machine;
 mod node;
 mod outlook;
-mod play;
 mod progress;
 mod sides;
 mod walk;

@@ -8,7 +8,6 @@ use crate::judge::{Verdict, sides_of};
 use crate::known::{MISSING, after_plain};
 use crate::machine::{Machine, Question};
 use crate::outlook::{Outlook, Plain};
-use crate::play::after;
 use crate::sides::{Sides, changes_of};
 use pg_board::{Color, Square};
 use pg_certificate::{Record, Sink};
@@ -184,12 +183,12 @@ fn stay_after<W: Sink>(
     ensures says { (plies : ℕ) → RefusesTruly plies (W.has_failed sink.new) result }
 {
     if may_pass(m) {
-        return stay(machine, sink, &after(position, m), sides, left);
+        return stay(machine, sink, &position.after(m), sides, left);
     }
     let key = key_of(sides, position.side().other(), None, left);
     match refer(machine, sink, key) {
         Ok(true) => Ok(None),
-        Ok(false) => open(machine, sink, &after(position, m), sides, key),
+        Ok(false) => open(machine, sink, &position.after(m), sides, key),
         Err(fault) => Err(fault),
     }
 }
@@ -374,7 +373,7 @@ pub(crate) fn child<W: Sink>(
         Ok(Before::Written) => Ok(None),
         Ok(Before::Stays(sides)) => stay_after(machine, sink, position, m, &sides, left),
         Ok(Before::Unknown(known)) => {
-            let next = after(position, m);
+            let next = position.after(m);
             enter(question, machine, sink, &next, known, left)
         }
         Err(fault) => Err(fault),

@@ -43,10 +43,7 @@ impl Mover {
         Mover {
             rest: Rest::none(),
             from: 64,
-            man: Man {
-                color: Color::White,
-                kind: Kind::Pawn,
-            },
+            man: Man::new(Color::White, Kind::Pawn),
         }
     }
 

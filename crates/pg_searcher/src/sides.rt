@@ -41,10 +41,7 @@ impl Sides {
 
 // A colour's key and numbers, before its needs are known.
 pub(crate) fn side_of(board: &Board, rights: Rights, color: Color, needs: Needs) -> Side {
-    let pawn = Man {
-        color,
-        kind: Kind::Pawn,
-    };
+    let pawn = Man::new(color, Kind::Pawn);
     let short = u8::from(rights.holds(color, Wing::KingSide));
     let long = u8::from(rights.holds(color, Wing::QueenSide));
     Side {
@@ -130,18 +127,13 @@ fn change_of(rights: Rights, man: Man, key: u64, squares: SquareSet, taken: bool
     }
 }
 
-fn files_apart(a: Square, b: Square) -> u8 {
-    let (a, b) = (a.index() % 8, b.index() % 8);
-    if a < b { b - a } else { a - b }
-}
-
 // Whether a move changes more than the squares that it leaves and reaches, or the man that moves:
 // castling, a capture en passant, a promotion.
 pub(crate) fn is_special(man: Man, taken: Option<Man>, m: &Move) -> bool {
     match man.kind {
-        Kind::King => files_apart(m.from, m.to) == 2,
+        Kind::King => m.from.file().abs_diff(m.to.file()) == 2,
         Kind::Pawn => {
-            m.promotion.is_some() || (taken.is_none() && files_apart(m.from, m.to) == 1)
+            m.promotion.is_some() || (taken.is_none() && m.from.file().abs_diff(m.to.file()) == 1)
         }
         _ => false,
     }

@@ -7,7 +7,6 @@ use crate::fault::SearchFault;
 use crate::machine::{Frame, Machine, Question};
 use crate::node::{Opened, child, enter, visit};
 use crate::outlook::Mover;
-use crate::play::after;
 use crate::progress::Progress;
 use crate::sides::is_special;
 use pg_board::{Board, SquareSet};
@@ -102,7 +101,7 @@ fn near<W: Sink>(
             Err(fault) => return Err(fault),
         }
         if may_be_near(&goal, &position, squares, &m) {
-            let next = after(&position, &m);
+            let next = position.after(&m);
             match leaves(question, tree, machine, &Some(m), &next) {
                 Ok(()) => {}
                 Err(fault) => return Err(fault),

@@ -7,7 +7,6 @@ use crate::known::MISSING;
 use crate::led::barren::ANY;
 use crate::led::machine::{Halt, Machine, Open, Question, visit};
 use crate::led::order::Due;
-use crate::play::after;
 use crate::sides::{Sides, changes_of};
 use pg_position::Position;
 use pg_prices::node_key;
@@ -115,7 +114,7 @@ pub(crate) fn child(
         return Ok(None);
     }
     let foreign = top.foreign.saturating_sub(u8::from(due.is_foreign));
-    let next = after(position, &due.m);
+    let next = position.after(&due.m);
     match enter(question, machine, &next, known, Means { left, foreign }) {
         Ok(Entry::Barren) => Ok(None),
         Ok(Entry::Refused) => {

@@ -7,7 +7,6 @@ use crate::led::barren::ANY;
 use crate::led::machine::{Halt, Machine, Open, Question, visit};
 use crate::led::node::{Entry, Means, child, enter};
 use crate::led::order::next_due;
-use crate::play::after;
 use crate::walk::may_be_near;
 use arrayvec::ArrayVec;
 use pg_position::{Move, Position};
@@ -81,7 +80,7 @@ fn near(question: &Question, machine: &mut Machine, top: Open) -> Result<(), Hal
             return Err(Halt::Budget);
         }
         if may_be_near(&goal, &position, squares, &m) {
-            let next = after(&position, &m);
+            let next = position.after(&m);
             let last = leaf(question.diagram, &next);
             if last.is_some() {
                 match end(question, machine, &Some(m), &last) {

@@ -1,7 +1,7 @@
 use Rattle.std.proofs.Common.{take}
 use Rattle.pg_position.specs.Array.{array_state}
 use Rattle.pg_position.specs.Game.{IsGame}
-use Rattle.pg_guide.proofs.play.end_of.Given as goal
+use Rattle.pg_guide.proofs.walk.end_of.Given as goal
 
 -- the moves so far lead to the position
 abbrev pub invariant-loop-m : goal.invariant-loop-m

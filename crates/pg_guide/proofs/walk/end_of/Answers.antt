@@ -1,7 +1,7 @@
 use Rattle.std.proofs.Common.{◌+◌, refl}
 use Rattle.pg_san.proofs.GameLemmas.{illegal_at, step_game}
 use Rattle.pg_guide.proofs.FindLemmas.{no_game, whole_end}
-use Rattle.pg_guide.proofs.play.end_of.Goals as goal
+use Rattle.pg_guide.proofs.walk.end_of.Goals as goal
 
 pub loop-m-preserved : goal.loop-m-preserved
 loop-m-preserved c = step_game c.args.game.now c.loop-m.m-index c.m-item.result c.loop-m.position c.in-Ok.next c.loop-m-test.true c.m-item.is c.loop-m.invariant ((c.in-Ok.ensures.ok c.in-Ok.next).0 refl)
