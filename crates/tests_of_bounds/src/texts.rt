@@ -86,6 +86,21 @@ pub(crate) fn move_of(rt: &impl Abort, text: &str) -> Move {
     }
 }
 
+// What the bound says of the position after a move; none where the move is not legal.
+fn says_after<B: Bound>(
+    bound: &B,
+    diagram: &Diagram,
+    position: &Position,
+    m: &Move,
+    plies: u8,
+) -> Option<bool> {
+    if position.is_legal(m) {
+        Some(bound.excludes_after(diagram, position, m, plies))
+    } else {
+        None
+    }
+}
+
 // That in each row the bound excludes the diagram from the position after a legal move in so many plies, or
 // does not.
 pub(crate) fn check_after<B: Bound>(rt: &impl Abort, bound: &B, table: &str) {
@@ -95,9 +110,8 @@ pub(crate) fn check_after<B: Bound>(rt: &impl Abort, bound: &B, table: &str) {
         let plies = plies.parse::<u8>().expect(rt, line);
         let start = position(rt, row.position);
         let m = move_of(rt, text);
-        assert!(rt; start.is_legal(&m), "{line}");
-        let found = bound.excludes_after(&diagram(rt, row.diagram), &start, &m, plies);
-        assert_eq!(rt; found, is_yes(rt, row.wanted), "{line}");
+        let found = says_after(bound, &diagram(rt, row.diagram), &start, &m, plies);
+        assert_eq!(rt; found, Some(is_yes(rt, row.wanted)), "{line}");
     }
 }
 
