@@ -376,13 +376,13 @@ if command -v script >/dev/null; then
     'pg: try `pg cooks` with a game, `pg show DIAGRAM LENGTH` for a forecast, or more --nodes'
 
   # A page of a long certificate that is refused shows how far its check is, takes that away, and prints nothing.
-  { cat long.pgc; ones 12000000; } >../many.pgc
+  { cat long.pgc; ones 24000000; } >../many.pgc
   script -qec "'$pg' page $unreachable 64.0 ../many.pgc >../page.html" /dev/null </dev/null | tr -d '\n' | tr '\r' '\n' >"$work/said"
   grep -q 'records [0-9]*% of limit' "$work/said" || { echo "a long page does not show how far it is" >&2; wrong=1; }
   [ "$(tail -n 1 "$work/said")" = $'\e[Kpg: truncated certificate' ] && [ ! -s ../page.html ] || { echo "a refused page leaves something" >&2; wrong=1; }
 
   # A long search on 10 columns: what it shows does not wrap, has the tree, the share and the nodes to expect, and is taken away.
-  script -qec "stty cols 10; '$pg' search $stalemate 9.5 new.pgc --nodes 8000000" /dev/null </dev/null >"$work/said"
+  script -qec "stty cols 10; '$pg' search $stalemate 9.5 new.pgc --nodes 30000000" /dev/null </dev/null >"$work/said"
   wraps=$'\e\\[?7h' cuts=$'\e\\[?7l' clears=$'\r\e\\[K'
   grep -q "${clears}${cuts}[0-9.]* [0-9]*k [0-9]*% of limit\(, tree ~[0-9]*[kMG]\)\?${wraps}" "$work/said" || { echo "a long search does not show how far it is" >&2; wrong=1; }
   grep -q "${wraps}${clears}pg: node limit reached" "$work/said" || { echo "the line of a search is not taken away" >&2; wrong=1; }

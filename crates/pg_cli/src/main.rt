@@ -36,6 +36,24 @@ use std::process::ExitCode;
 use std::rt::Runtime;
 use std::{env, io};
 
+// Does what the words of a command say that needs no certificate, with these bounds.
+fn carry_out_other<'a, R: Runtime + AllocGlobal>(
+    rt: &R,
+    name: &str,
+    words: &ArgMatches<'a>,
+    bounds: &[Box<dyn Bound>],
+    screen: Screen,
+) -> Result<u8, Refusal<'a>> {
+    match name {
+        "show" => positions::show(rt, words, bounds),
+        "moves" => positions::moves(rt, words),
+        "count" => positions::count(rt, words, screen.errors),
+        "games" => knowing::games(rt, words, screen),
+        "cooks" => knowing::cooks(rt, words, screen),
+        _ => Ok(BAD_INPUT),
+    }
+}
+
 // Does what the words of a command say, with these bounds. A status of `check`, `search`, `why` or `page`
 // means that a list is the exact answer to the diagram and the length which the words spell.
 fn carry_out<'a, R: Runtime + AllocGlobal>(
@@ -50,17 +68,12 @@ fn carry_out<'a, R: Runtime + AllocGlobal>(
         return Ok(BAD_INPUT);
     };
     match name {
-        "show" => positions::show(rt, inner, bounds),
-        "moves" => positions::moves(rt, inner),
-        "count" => positions::count(rt, inner, screen.errors),
-        "games" => knowing::games(rt, inner, screen),
-        "cooks" => knowing::cooks(rt, inner, screen),
         "check" => checking::check(rt, inner, bounds, screen),
         "search" => searching::search(rt, inner, bounds, screen.errors),
         "why" => guiding::why(rt, inner, bounds, screen),
         "page" => paging::page(rt, inner, bounds, screen.errors),
         "upgrade" => upgrading::upgrade(rt, inner, screen.errors),
-        _ => Ok(BAD_INPUT),
+        _ => carry_out_other(rt, name, inner, bounds, screen),
     }
 }
 
