@@ -4,7 +4,8 @@ use super::*;
 
 // Games that lead to another one within so many nodes, with so many foreign moves at most, and how many plies that one
 // has: known games of ten to eighteen moves; men of either colour who move in another order; castling to either side,
-// promotions of either colour, captures en passant; a first move that is foreign; and a game that is shorter.
+// promotions of either colour, captures en passant; a first move that is foreign; a pawn's two squares in place of one, Black's and White's, so
+// that the first foreign move is theirs; and a game that is shorter.
 const LEADS: &str =
     "1. e3 a5 2. Qh5 Ra6 3. Qxa5 h5 4. h4 Rah6 5. Qxc7 f6 6. Qxd7+ Kf7 7. Qxb7 Qd3 8. Qxb8 Qh7 9. Qxc8 Kg6 10. Qe6 | 1000 | 0 => 19 plies
 1. c4 d5 2. Qb3 Bh3 3. gxh3 f5 4. Qxb7 Kf7 5. Qxa7 Kg6 6. f3 c5 7. Qxe7 Rxa2 8. Kf2 Rxb2 9. Qxg7+ Kh5 10. Qxg8 Rxb1 11. Rxb1 Kh4 12. Qxh8 h5 13. Qh6 Bxh6 14. Rxb8 Be3+ 15. dxe3 Qxb8+ 16. Kg2 Qf4 17. exf4 d4 18. Be3 dxe3 | 1000 | 0 => 36 plies
@@ -20,6 +21,10 @@ const LEADS: &str =
 1. d4 d5 2. Nc3 Nc6 3. Bf4 Bf5 4. Qd2 Qd7 5. O-O-O O-O-O | 1000 | 0 => 10 plies
 1. h4 g5 2. hxg5 a6 3. g6 b6 4. gxh7 c6 5. hxg8=Q | 1000 | 0 => 9 plies
 1. a3 h5 2. b3 h4 3. c3 h3 4. d3 hxg2 5. e3 gxh1=N | 1000 | 0 => 10 plies
+1. e4 f5 2. exf5 e6 3. fxe6 a5 4. exd7+ | 20000 | 0 => none with 0
+1. e4 f5 2. exf5 e6 3. fxe6 a5 4. exd7+ | 20000 | 1 => 7 plies
+1. d3 f5 2. e4 fxe4 3. Qe2 exd3 4. cxd3/1. e4 f5 2. Qe2 fxe4 3. d3 exd3 4. cxd3/1. e4 f5 2. d3 fxe4 3. Qe2 exd3 4. cxd3 | 20000 | 0 => none with 0
+1. d3 f5 2. e4 fxe4 3. Qe2 exd3 4. cxd3/1. e4 f5 2. Qe2 fxe4 3. d3 exd3 4. cxd3/1. e4 f5 2. d3 fxe4 3. Qe2 exd3 4. cxd3 | 20000 | 1 => 7 plies
 1. e4 e6 2. Bb5 Ke7 3. Bxd7 c6 4. Be8 Kxe8 | 20000 => 6 plies";
 
 #[test]
