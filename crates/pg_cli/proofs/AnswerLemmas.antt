@@ -18,7 +18,7 @@ use Rattle.pg_texts.specs.declared.verdict.Verdict.{Verdict}
 use Rattle.pg_checker.specs.declared.fault.RunFault.{RunFault}
 use Rattle.pg_cli.specs.declared.refusals.Refusal.{Refusal}
 use Rattle.pg_cli.specs.Answers.{IsAnswered, AreAnswered, HasExactAnswer}
-use Rattle.pg_cli.specs.Words.{spelled, IsChecked, IsSearched, IsExplained, IsSubcommand, IsMeant}
+use Rattle.pg_cli.specs.Words.{spelled, IsTested, IsFollowed, IsChecked, IsSearched, IsExplained, IsSubcommand, IsMeant}
 
 -- the status that is given is that of the verdict, where there is one
 abbrev pub IsGiven : Result Verdict RunFault → Result ℕ Refusal → Type 0
@@ -94,6 +94,8 @@ carried words name rows P (Err x) e f h = tt
 pub check_is_meant : (name : Text) (rows : List Row) (result : Result ℕ Refusal) → name ≡ codes "check"
     → IfOk result (λ s. IsChecked rows s) → IfOk result (λ s. IsMeant name rows s)
 check_is_meant name rows (Ok s) n h = record {
+  games = λ e. let bad : 99 ≡ 103 = ap (λ (t : Text). slice_index t 0) (sym n ∙ e) in absurd (omega arith);
+  cooks = λ e. let bad : 104 ≡ 111 = ap (λ (t : Text). slice_index t 1) (sym n ∙ e) in absurd (omega arith);
   check = λ _. h;
   search = λ e. let bad : 99 ≡ 115 = ap (λ (t : Text). slice_index t 0) (sym n ∙ e) in absurd (omega arith);
   why = λ e. let bad : 99 ≡ 119 = ap (λ (t : Text). slice_index t 0) (sym n ∙ e) in absurd (omega arith);
@@ -105,6 +107,8 @@ check_is_meant name rows (Err x) n h = tt
 pub search_is_meant : (name : Text) (rows : List Row) (result : Result ℕ Refusal) → name ≡ codes "search"
     → IfOk result (λ s. IsSearched rows s) → IfOk result (λ s. IsMeant name rows s)
 search_is_meant name rows (Ok s) n h = record {
+  games = λ e. let bad : 115 ≡ 103 = ap (λ (t : Text). slice_index t 0) (sym n ∙ e) in absurd (omega arith);
+  cooks = λ e. let bad : 115 ≡ 99 = ap (λ (t : Text). slice_index t 0) (sym n ∙ e) in absurd (omega arith);
   check = λ e. let bad : 115 ≡ 99 = ap (λ (t : Text). slice_index t 0) (sym n ∙ e) in absurd (omega arith);
   search = λ _. h;
   why = λ e. let bad : 115 ≡ 119 = ap (λ (t : Text). slice_index t 0) (sym n ∙ e) in absurd (omega arith);
@@ -116,6 +120,8 @@ search_is_meant name rows (Err x) n h = tt
 pub why_is_meant : (name : Text) (rows : List Row) (result : Result ℕ Refusal) → name ≡ codes "why"
     → IfOk result (λ s. IsExplained rows s) → IfOk result (λ s. IsMeant name rows s)
 why_is_meant name rows (Ok s) n h = record {
+  games = λ e. let bad : 119 ≡ 103 = ap (λ (t : Text). slice_index t 0) (sym n ∙ e) in absurd (omega arith);
+  cooks = λ e. let bad : 119 ≡ 99 = ap (λ (t : Text). slice_index t 0) (sym n ∙ e) in absurd (omega arith);
   check = λ e. let bad : 119 ≡ 99 = ap (λ (t : Text). slice_index t 0) (sym n ∙ e) in absurd (omega arith);
   search = λ e. let bad : 119 ≡ 115 = ap (λ (t : Text). slice_index t 0) (sym n ∙ e) in absurd (omega arith);
   why = λ _. h;
@@ -124,9 +130,37 @@ why_is_meant name rows (Ok s) n h = record {
 }
 why_is_meant name rows (Err x) n h = tt
 
+pub games_is_meant : (name : Text) (rows : List Row) (result : Result ℕ Refusal) → name ≡ codes "games"
+    → IfOk result (λ s. IsTested rows s) → IfOk result (λ s. IsMeant name rows s)
+games_is_meant name rows (Ok s) n h = record {
+  games = λ _. h;
+  cooks = λ e. let bad : 103 ≡ 99 = ap (λ (t : Text). slice_index t 0) (sym n ∙ e) in absurd (omega arith);
+  check = λ e. let bad : 103 ≡ 99 = ap (λ (t : Text). slice_index t 0) (sym n ∙ e) in absurd (omega arith);
+  search = λ e. let bad : 103 ≡ 115 = ap (λ (t : Text). slice_index t 0) (sym n ∙ e) in absurd (omega arith);
+  why = λ e. let bad : 103 ≡ 119 = ap (λ (t : Text). slice_index t 0) (sym n ∙ e) in absurd (omega arith);
+  page = λ e. let bad : 103 ≡ 112 = ap (λ (t : Text). slice_index t 0) (sym n ∙ e) in absurd (omega arith);
+  upgrade = λ e. let bad : 103 ≡ 117 = ap (λ (t : Text). slice_index t 0) (sym n ∙ e) in absurd (omega arith);
+}
+games_is_meant name rows (Err x) n h = tt
+
+pub cooks_is_meant : (name : Text) (rows : List Row) (result : Result ℕ Refusal) → name ≡ codes "cooks"
+    → IfOk result (λ s. IsFollowed rows s) → IfOk result (λ s. IsMeant name rows s)
+cooks_is_meant name rows (Ok s) n h = record {
+  games = λ e. let bad : 99 ≡ 103 = ap (λ (t : Text). slice_index t 0) (sym n ∙ e) in absurd (omega arith);
+  cooks = λ _. h;
+  check = λ e. let bad : 111 ≡ 104 = ap (λ (t : Text). slice_index t 1) (sym n ∙ e) in absurd (omega arith);
+  search = λ e. let bad : 99 ≡ 115 = ap (λ (t : Text). slice_index t 0) (sym n ∙ e) in absurd (omega arith);
+  why = λ e. let bad : 99 ≡ 119 = ap (λ (t : Text). slice_index t 0) (sym n ∙ e) in absurd (omega arith);
+  page = λ e. let bad : 99 ≡ 112 = ap (λ (t : Text). slice_index t 0) (sym n ∙ e) in absurd (omega arith);
+  upgrade = λ e. let bad : 99 ≡ 117 = ap (λ (t : Text). slice_index t 0) (sym n ∙ e) in absurd (omega arith);
+}
+cooks_is_meant name rows (Err x) n h = tt
+
 pub page_is_meant : (name : Text) (rows : List Row) (result : Result ℕ Refusal) → name ≡ codes "page"
     → IfOk result (λ s. IsExplained rows s) → IfOk result (λ s. IsMeant name rows s)
 page_is_meant name rows (Ok s) n h = record {
+  games = λ e. let bad : 112 ≡ 103 = ap (λ (t : Text). slice_index t 0) (sym n ∙ e) in absurd (omega arith);
+  cooks = λ e. let bad : 112 ≡ 99 = ap (λ (t : Text). slice_index t 0) (sym n ∙ e) in absurd (omega arith);
   check = λ e. let bad : 112 ≡ 99 = ap (λ (t : Text). slice_index t 0) (sym n ∙ e) in absurd (omega arith);
   search = λ e. let bad : 112 ≡ 115 = ap (λ (t : Text). slice_index t 0) (sym n ∙ e) in absurd (omega arith);
   why = λ e. let bad : 112 ≡ 119 = ap (λ (t : Text). slice_index t 0) (sym n ∙ e) in absurd (omega arith);

@@ -1,10 +1,15 @@
 -- What the status of `pg games` and `pg cooks` says.
 use Rattle.std.specs.Prelude.{◌≡◌, ℕ, List, Ok}
 use Rattle.pg_board.specs.Placement.{Placement}
+use Rattle.pg_position.specs.declared.moves.Move.{Move}
 use Rattle.pg_fen.specs.Fields.{fields}
 use Rattle.pg_fen.specs.DiagramText.{diagram_of}
 use Rattle.pg_fen.specs.Lengths.{length_of}
+use Rattle.pg_texts.specs.Spelled.{AreSpelled}
+use Rattle.pg_checker.specs.Answer.{AreSolutions}
 use Rattle.pg_cooks.specs.Unsound.{IsUnsound}
+use Rattle.pg_cooks.specs.Standing.{IsStanding}
+use Rattle.pg_cooks.specs.Cooks.{IsCookAnswer}
 use Rattle.pg_cooks.specs.declared.standing.Standing.{Standing}
 use Rattle.pg_cooks.specs.declared.standing.Standing.TheVariants.{NotSound, AtLeastOne, NoneGiven}
 use Rattle.pg_cooks.specs.declared.finding.CookAnswer.{CookAnswer}
@@ -25,3 +30,13 @@ abbrev pub answer_status : CookAnswer → ℕ
 answer_status (Cook game) = 1
 answer_status (Shorter game) = 1
 answer_status (NotFound foreign nodes) = 0
+
+-- the three texts spell a diagram, a length and a list of solutions, and the status is that of what the list shows by itself
+abbrev pub AreTested : List ℕ → List ℕ → List ℕ → ℕ → Type 0
+AreTested diagram length games status = (d : Placement) × (n : ℕ) × (list : List (List Move)) × AreSpelled diagram length games d n list × AreSolutions d n list
+    × ((s : Standing) × IsStanding list s × (status ≡ standing_status s))
+
+-- the three texts spell a diagram, a length and a list of solutions, and the status is that of what is found beside the list
+abbrev pub AreFollowed : List ℕ → List ℕ → List ℕ → ℕ → Type 0
+AreFollowed diagram length games status = (d : Placement) × (n : ℕ) × (list : List (List Move)) × AreSpelled diagram length games d n list × AreSolutions d n list
+    × ((a : CookAnswer) × IsCookAnswer d n list a × (status ≡ answer_status a))

@@ -8,6 +8,7 @@ use Rattle.pg_fen.specs.Fields.{fields}
 use Rattle.pg_fen.specs.DiagramText.{diagram_of}
 use Rattle.pg_fen.specs.Lengths.{length_of}
 use Rattle.pg_cli.specs.Answers.{IsAnswered, AreAnswered, HasExactAnswer}
+use Rattle.pg_cli.specs.Knowing.{AreUnsound, AreTested, AreFollowed}
 
 -- the text of the word with this name; no text where there is none
 abbrev pub spelled : Text → List Row → List ℕ
@@ -27,12 +28,25 @@ IsSearched rows status = (d : Placement) × (n : ℕ) × (list : List (List Move
 abbrev pub IsExplained : List Row → ℕ → Type 0
 IsExplained rows status = HasExactAnswer (spelled (codes "DIAGRAM") rows) (spelled (codes "LENGTH") rows) × (status ≡ 0)
 
+-- what a status of `pg games` says: the words DIAGRAM and LENGTH and some text of games spell a diagram, a length and solutions, the status is that of what
+-- these show, and 1 only where no list of one game is the exact answer
+abbrev pub IsTested : List Row → ℕ → Type 0
+IsTested rows status = (status ≡ 1 → AreUnsound (spelled (codes "DIAGRAM") rows) (spelled (codes "LENGTH") rows))
+    × ((games : List ℕ) × AreTested (spelled (codes "DIAGRAM") rows) (spelled (codes "LENGTH") rows) games status)
+
+-- what a status of `pg cooks` says: the same of what is found beside solutions
+abbrev pub IsFollowed : List Row → ℕ → Type 0
+IsFollowed rows status = (status ≡ 1 → AreUnsound (spelled (codes "DIAGRAM") rows) (spelled (codes "LENGTH") rows))
+    × ((games : List ℕ) × AreFollowed (spelled (codes "DIAGRAM") rows) (spelled (codes "LENGTH") rows) games status)
+
 -- the command that the words name has this name, and its words are these
 abbrev pub IsSubcommand : ArgMatches → Text → List Row → Type 0
 IsSubcommand words name rows = (subcommand_name_of words ≡ Some name) × (option_map (λ p. p.1) (subcommand_rows_of words) ≡ Some rows)
 
 -- what a status says of the command with this name, and with these words
 pub record IsMeant (name : Text) (rows : List Row) (status : ℕ) : Type 0 where
+  pub games : name ≡ codes "games" → IsTested rows status
+  pub cooks : name ≡ codes "cooks" → IsFollowed rows status
   pub check : name ≡ codes "check" → IsChecked rows status
   pub search : name ≡ codes "search" → IsSearched rows status
   pub why : name ≡ codes "why" → IsExplained rows status

@@ -1,6 +1,8 @@
 //! `pg games` and `pg cooks`: what a list of games shows by itself, and what is found beside it.
 ghost use Rattle.std.specs.Prelude.{◌≡◌, IfOk, MatchResult};
-ghost use Rattle.pg_cli.specs.Knowing.{AreUnsound, answer_status, standing_status};
+ghost use Rattle.clap.specs.Words.{found_of, rows_of};
+ghost use Rattle.pg_cli.specs.Knowing.{AreFollowed, AreTested, AreUnsound, answer_status, standing_status};
+ghost use Rattle.pg_cli.specs.Words.{IsFollowed, IsTested};
 
 use crate::checking::{Asked, ask_for_games};
 use crate::refusals::Refusal;
@@ -59,8 +61,8 @@ fn tested<'a, W: Sink + Drop>(
     }
 }
 
-// Tests a list of games, and writes what it shows by itself. The status is 1 only where the texts spell a
-// diagram and a length, and no list of one game is the exact answer to them; else it is 0.
+// Tests a list of games, and writes what it shows by itself. The texts spell a diagram, a length and solutions, and the
+// status is that of what they show: 1 only where no list of one game is the exact answer.
 //
 // # Errors
 // `NotUtf8` where the list is not UTF-8, else `Check` with the fault of the run.
@@ -70,6 +72,7 @@ pub(crate) fn games_from<'a, R: Runtime + AllocGlobal, W: Write + Drop>(
     out: W,
 ) -> Result<u8, Refusal<'a>>
     ensures headline { IfOk result (λ status. status ≡ 1 → AreUnsound asked.now.diagram.now asked.now.length.now) }
+    ensures status { IfOk result (λ status. AreTested asked.now.diagram.now asked.now.length.now asked.now.games.now status) }
 {
     let Ok(games) = str::from_utf8(asked.games) else {
         return Err(Refusal::NotUtf8);
@@ -102,8 +105,8 @@ fn looked<'a, W: Sink + Drop>(
     }
 }
 
-// Looks for a game beside those of a list, and writes what is found. The status is 1 only where the texts spell
-// a diagram and a length, and no list of one game is the exact answer to them; else it is 0.
+// Looks for a game beside those of a list, and writes what is found. The texts spell a diagram, a length and solutions, and the
+// status is that of what is found: 1 only where no list of one game is the exact answer.
 //
 // # Errors
 // `NotUtf8` where the list is not UTF-8, `NoGame` where it is empty, `Memory`, else `Check` with the fault
@@ -116,6 +119,7 @@ pub(crate) fn cooks_from<'a, R: Runtime + AllocGlobal, W: Write + Drop>(
     screen: bool,
 ) -> Result<u8, Refusal<'a>>
     ensures headline { IfOk result (λ status. status ≡ 1 → AreUnsound asked.now.diagram.now asked.now.length.now) }
+    ensures status { IfOk result (λ status. AreFollowed asked.now.diagram.now asked.now.length.now asked.now.games.now status) }
 {
     let Ok(games) = str::from_utf8(asked.games) else {
         return Err(Refusal::NotUtf8);
@@ -153,37 +157,47 @@ fn games_of<'a, R: Runtime + AllocGlobal>(
     }
 }
 
-// `pg games`: what the list shows stands on standard output.
+// `pg games`: what the list shows stands on standard output. The list is that of the file GAMES or of standard input, of which
+// no contract can say what it gives.
 pub(crate) fn games<'a, R: Runtime + AllocGlobal>(
     rt: &R,
     words: &ArgMatches<'a>,
     screen: Screen,
-) -> Result<u8, Refusal<'a>> {
+) -> Result<u8, Refusal<'a>>
+    ensures headline { IfOk result (λ status. IsTested (rows_of (found_of words.now)) status) }
+{
     let games = match games_of(rt, words, screen) {
         Ok(games) => games,
         Err(refusal) => return Err(refusal),
     };
+    let diagram = text_of(words, "DIAGRAM");
+    let length = text_of(words, "LENGTH");
     let asked = Asked {
-        diagram: text_of(words, "DIAGRAM"),
-        length: text_of(words, "LENGTH"),
+        diagram,
+        length,
         games: games.as_slice(),
     };
     games_from(rt, &asked, io::writer(rt))
 }
 
-// `pg cooks`: what is found beside the list stands on standard output.
+// `pg cooks`: what is found beside the list stands on standard output. The list is that of the file GAMES, of which no contract
+// can say what it gives.
 pub(crate) fn cooks<'a, R: Runtime + AllocGlobal>(
     rt: &R,
     words: &ArgMatches<'a>,
     screen: Screen,
-) -> Result<u8, Refusal<'a>> {
+) -> Result<u8, Refusal<'a>>
+    ensures headline { IfOk result (λ status. IsFollowed (rows_of (found_of words.now)) status) }
+{
     let games = match games_of(rt, words, screen) {
         Ok(games) => games,
         Err(refusal) => return Err(refusal),
     };
+    let diagram = text_of(words, "DIAGRAM");
+    let length = text_of(words, "LENGTH");
     let asked = Asked {
-        diagram: text_of(words, "DIAGRAM"),
-        length: text_of(words, "LENGTH"),
+        diagram,
+        length,
         games: games.as_slice(),
     };
     let limits = LedLimits {

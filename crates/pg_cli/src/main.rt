@@ -36,7 +36,7 @@ use std::process::ExitCode;
 use std::rt::Runtime;
 use std::{env, io};
 
-// Does what the words of a command say that needs no certificate, with these bounds.
+// Does what the words of a command say that judges no game, with these bounds.
 fn carry_out_other<'a, R: Runtime + AllocGlobal>(
     rt: &R,
     name: &str,
@@ -48,14 +48,13 @@ fn carry_out_other<'a, R: Runtime + AllocGlobal>(
         "show" => positions::show(rt, words, bounds),
         "moves" => positions::moves(rt, words),
         "count" => positions::count(rt, words, screen.errors),
-        "games" => knowing::games(rt, words, screen),
-        "cooks" => knowing::cooks(rt, words, screen),
         _ => Ok(BAD_INPUT),
     }
 }
 
 // Does what the words of a command say, with these bounds. A status of `check`, `search`, `why` or `page`
-// means that a list is the exact answer to the diagram and the length which the words spell.
+// means that a list is the exact answer to the diagram and the length which the words spell, and 1 of `games` or
+// `cooks` that no list of one game is.
 fn carry_out<'a, R: Runtime + AllocGlobal>(
     rt: &R,
     words: &ArgMatches<'a>,
@@ -68,6 +67,8 @@ fn carry_out<'a, R: Runtime + AllocGlobal>(
         return Ok(BAD_INPUT);
     };
     match name {
+        "games" => knowing::games(rt, inner, screen),
+        "cooks" => knowing::cooks(rt, inner, screen),
         "check" => checking::check(rt, inner, bounds, screen),
         "search" => searching::search(rt, inner, bounds, screen.errors),
         "why" => guiding::why(rt, inner, bounds, screen),
