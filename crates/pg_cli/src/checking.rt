@@ -11,6 +11,7 @@ use crate::refusals::Refusal;
 use crate::screen::Screen;
 use crate::spelling::text_of;
 use clap::ArgMatches;
+use pg_certificate::format::MOST_NAMED;
 use pg_files::{FileName, Obstacle, lead_to_one, list, open};
 use pg_report::{
     Bound, Problem, Refused, RunFault, Sink, ToWrite, Verdict, run_check, verdict_status,
@@ -22,9 +23,6 @@ use std::{io, str};
 
 // So many records are read at most, where the words do not say it.
 pub(crate) const RECORDS: u64 = 100_000_000;
-
-// So many nodes of a certificate may be named.
-pub(crate) const NAMED: u32 = 4_194_304;
 
 // What is asked: the texts of a diagram and of a length, and the bytes of a list of games.
 #[derive(Clone, Copy)]
@@ -86,7 +84,7 @@ pub(crate) fn check_from<'a, R: Runtime + AllocGlobal, C: Read + Drop, W: Write 
         &mut source,
         &mut out,
         records,
-        NAMED,
+        MOST_NAMED,
     );
     source.end();
     finished(answer, out)

@@ -4,11 +4,12 @@ ghost use Rattle.clap.specs.Words.{found_of, rows_of};
 ghost use Rattle.pg_cli.specs.Answers.{HasExactAnswer};
 ghost use Rattle.pg_cli.specs.Words.{IsExplained};
 
-use crate::checking::{NAMED, RECORDS};
+use crate::checking::RECORDS;
 use crate::refusals::{DONE, Refusal, say};
 use crate::screen::Screen;
 use crate::spelling::text_of;
 use clap::ArgMatches;
+use pg_certificate::format::MOST_NAMED;
 use pg_files::{FileFault, open_plain};
 use pg_guide::{Asked, WhyFault, why as explain};
 use pg_report::{Bound, Fault, Refused, RunFault, SearchFault, Sink, ToWrite};
@@ -90,7 +91,7 @@ pub(crate) fn why_from<'a, R: Runtime + AllocGlobal, C: Read + Drop, W: Write + 
         &mut cited,
         &mut out,
         records,
-        NAMED,
+        MOST_NAMED,
     );
     walked.end();
     checked.end();

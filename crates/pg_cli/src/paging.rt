@@ -4,11 +4,12 @@ ghost use Rattle.clap.specs.Words.{found_of, rows_of};
 ghost use Rattle.pg_cli.specs.Answers.{HasExactAnswer};
 ghost use Rattle.pg_cli.specs.Words.{IsExplained};
 
-use crate::checking::{NAMED, RECORDS};
+use crate::checking::RECORDS;
 use crate::guiding::{done, open_thrice, refusal_of};
 use crate::refusals::Refusal;
 use crate::spelling::text_of;
 use clap::ArgMatches;
+use pg_certificate::format::MOST_NAMED;
 use pg_page::{Asked, page as show};
 use pg_report::{Bound, ToWrite};
 use pg_streams::{Cleared, Gathered, Terminal, watch_records};
@@ -52,7 +53,7 @@ pub(crate) fn page_from<'a, R: Runtime + AllocGlobal, C: Read + Drop, W: Write +
         &mut told,
         &mut out,
         records,
-        NAMED,
+        MOST_NAMED,
     );
     walked.end();
     checked.end();

@@ -6,10 +6,11 @@ ghost use Rattle.clap.specs.Words.{found_of, rows_of};
 ghost use Rattle.pg_cli.specs.Answers.{IsAnswered};
 ghost use Rattle.pg_cli.specs.Words.{IsSearched};
 
-use crate::checking::{NAMED, RECORDS, finished};
+use crate::checking::{RECORDS, finished};
 use crate::refusals::{Known, Refusal};
 use crate::spelling::text_of;
 use clap::ArgMatches;
+use pg_certificate::format::MOST_NAMED;
 use pg_cooks::{standing_on, write_solutions};
 use pg_files::{Draft, FileName, Obstacle, begin, stand_at_one};
 use pg_report::{
@@ -151,7 +152,7 @@ pub(crate) fn check_found<'a, R: Runtime + AllocGlobal, C: Read + Drop, W: Write
         &mut source,
         &mut out,
         records,
-        NAMED,
+        MOST_NAMED,
     );
     source.end();
     finished(answer, out)

@@ -10,6 +10,7 @@ use crate::shared::{
     text_of, told, words,
 };
 use pg_captures::Bound;
+use pg_certificate::format::MOST_NAMED;
 use pg_certificate::{FromRead, Sink, Source, ToWrite};
 use pg_guide::*;
 use std::alloc::Global;
@@ -44,7 +45,7 @@ fn explain<R: Abort + AllocGlobal, S: Source, W: Sink>(
         cited,
         out,
         MANY,
-        4_194_304,
+        MOST_NAMED,
     ))
 }
 

@@ -6,6 +6,7 @@ mod trees;
 use crate::shared::{
     MANY, Said, certificate, field, four_bounds, halves, lines_of, named, text_of, told,
 };
+use pg_certificate::format::MOST_NAMED;
 use pg_certificate::{FromRead, Sink, Source, ToWrite};
 use pg_page::*;
 use std::process::Abort;
@@ -35,7 +36,7 @@ fn show<R: Abort + AllocGlobal, S: Source, W: Sink>(
         read,
         out,
         MANY,
-        4_194_304,
+        MOST_NAMED,
     ))
 }
 

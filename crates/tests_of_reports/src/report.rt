@@ -18,6 +18,7 @@ use crate::shared::{
     MANY, Said, certificate, diagram_of, field, four_bounds, halves, length_of, lines_of, named,
     text_of, told, words,
 };
+use pg_certificate::format::MOST_NAMED;
 use pg_cooks::{
     Asked, CookAnswer, CooksRunFault, LedLimits, Standing, run_cooks as find_cooks,
     run_games as test_games,
@@ -98,7 +99,7 @@ fn check<R: Abort + AllocGlobal, S: Source, W: Sink>(
         source,
         out,
         limit,
-        4_194_304,
+        MOST_NAMED,
     );
     if let Err(RunFault::Check(Fault::Unlisted(game))) = &answer {
         return lacking(rt, game);
