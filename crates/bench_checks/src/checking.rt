@@ -5,7 +5,7 @@ use crate::transposed;
 use pg_captures::Bound;
 use pg_certificate::FromRead;
 use pg_certificate::format::EXPAND;
-use pg_checker::{check, pass_over};
+use pg_checker::{check, skip_to_solution};
 use pg_fen::{Diagram, Length, read_position};
 use pg_moves::LegalMoves;
 use pg_san::{Games, read_games};
@@ -92,7 +92,7 @@ pub(crate) fn near(rounds: u32) -> Result<u64, Fault> {
     for _ in 0..rounds {
         for _ in 0..1_000 {
             let mut moves = LegalMoves::new(&game.position);
-            if !pass_over(&diagram, &mut moves) {
+            if !skip_to_solution(&diagram, &mut moves) {
                 records = records.saturating_add(1);
             }
         }

@@ -11,7 +11,7 @@ use Rattle.pg_board.specs.Men.{is_man, is_of, is_held}
 use Rattle.pg_board.specs.lemmas.Equalities.{is_man_decides}
 use Rattle.pg_board.specs.Placement.{Placement, placement_of, get, get-placement_of, empty, empty_is, write, without, write_is, get_off, same_placement, IsFirst}
 use Rattle.pg_board.specs.Bits.{has, has-none, has-first, ones-count}
-use Rattle.pg_board.specs.numbers.Sets.{man_in, IsSound, IsSound-replaced, AreWords, Replaces, Shows, shown, man_in-replaced, unlike, unlike_out, unlike_in, set_of, set_of_color, has-set_of, has_color, has-held, sets_of, sets_of-placement_of}
+use Rattle.pg_board.specs.inner.Sets.{man_in, IsSound, IsSound-replaced, AreWords, Replaces, Shows, shown, man_in-replaced, unlike, unlike_out, unlike_in, set_of, set_of_color, has-set_of, has_color, has-held, sets_of, sets_of-placement_of}
 use Rattle.pg_board.specs.declared.sets.Sets.{Sets}
 
 -- ---- a placement that is made of a function f

@@ -6,4 +6,4 @@ pub mod Equality
 pub mod Bits
 pub mod SquareSets
 pub mod lemmas
-pub mod numbers
+pub mod inner

@@ -6,7 +6,7 @@ ghost use Rattle.pg_board.specs.Placement.{placement_of, get, empty, put, withou
 ghost use Rattle.pg_board.specs.Equality.{placement_eq, placement_eq_decides};
 ghost use Rattle.pg_board.specs.Tally.{count_of};
 ghost use Rattle.pg_board.specs.Bits.{has};
-ghost use Rattle.pg_board.specs.numbers.Sets.{man_in, IsSound};
+ghost use Rattle.pg_board.specs.inner.Sets.{man_in, IsSound};
 
 use crate::man::{Color, Kind, Man};
 use crate::sets::{
@@ -26,7 +26,7 @@ pub struct Board {
 impl Model for Board {
     ghost use Rattle.pg_board.specs.Placement.{Placement, placement_of};
     ghost use Rattle.pg_board.specs.lemmas.Codes.{placement_code};
-    ghost use Rattle.pg_board.specs.numbers.Sets.{man_in, IsSound, sets_of, sets_of-placement_of};
+    ghost use Rattle.pg_board.specs.inner.Sets.{man_in, IsSound, sets_of, sets_of-placement_of};
 
     ghost Value = { Placement };
 
@@ -123,7 +123,8 @@ impl Board {
     /// The square of the colour's king: the one with the least index where there are several, none
     /// where there is no such king.
     pub fn king(&self, color: Color) -> Option<Square>
-        ensures { MatchOption result ((q : ℕ) → get self.now q ≢ Some (king_of color)) (λ s. IsFirst self.now (king_of color) s) }
+        ensures { MatchOption result ((q : ℕ) → get self.now q ≢ Some (king_of color))
+            (λ s. IsFirst self.now (king_of color) s) }
     {
         let kings = man_set(&self.sets, Man::new(color, Kind::King));
         if kings == 0 {

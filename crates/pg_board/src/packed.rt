@@ -2,8 +2,8 @@
 ghost use Rattle.std.specs.Prelude.{◌≡◌, ◌↔◌, IsTrue};
 ghost use Rattle.std.specs.Cmp.{partial_equiv_from_equiv, decided};
 ghost use Rattle.pg_board.specs.Equality.{placement_eq, placement_eq_decides};
-ghost use Rattle.pg_board.specs.numbers.Packed.{quarters_of, unpacked};
-ghost use Rattle.pg_board.specs.numbers.Sets.{IsSound};
+ghost use Rattle.pg_board.specs.inner.Packed.{quarters_of, unpacked};
+ghost use Rattle.pg_board.specs.inner.Sets.{IsSound};
 
 use crate::board::Board;
 use crate::sets::Sets;
@@ -65,8 +65,8 @@ pub struct PackedBoard {
 impl Model for PackedBoard {
     ghost use Rattle.pg_board.specs.Placement.{Placement, placement_of};
     ghost use Rattle.pg_board.specs.lemmas.Codes.{placement_code};
-    ghost use Rattle.pg_board.specs.numbers.Packed.{quarters_of, unpacked, quarters_back};
-    ghost use Rattle.pg_board.specs.numbers.Sets.{man_in, IsSound, sets_of};
+    ghost use Rattle.pg_board.specs.inner.Packed.{quarters_of, unpacked, quarters_back};
+    ghost use Rattle.pg_board.specs.inner.Sets.{man_in, IsSound, sets_of};
 
     ghost Value = { Placement };
 

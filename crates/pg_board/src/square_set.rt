@@ -257,7 +257,8 @@ impl Squares {
     #[inline(always)]
     pub fn next(&mut self) -> Option<Square>
         ensures same { self.new.set ≡ self.old.set }
-        ensures found { MatchOption result (HasNoneFrom self.old.set self.old.from) (λ s. IsFirstFrom self.old.set self.old.from s) }
+        ensures found { MatchOption result (HasNoneFrom self.old.set self.old.from)
+            (λ s. IsFirstFrom self.old.set self.old.from s) }
         ensures beyond { IfSome result (λ s. self.new.from ≡ s + 1) }
         ensures none { IfNone result (self.new ≡ self.old) }
     {

@@ -43,7 +43,8 @@ pub fn first_excludes(
     position: &Position,
     left: u8,
 ) -> Option<bool>
-    ensures first { result ≡ option_map (λ b. excluded b diagram.now position.now left) (first_of (λ b. code_of b) code bounds.now) }
+    ensures first { result ≡ option_map (λ b. excluded b diagram.now position.now left)
+        (first_of (λ b. code_of b) code bounds.now) }
     ensures barren { result ≡ Some true → Barren diagram.now position.now left }
 {
     for bound in bounds {

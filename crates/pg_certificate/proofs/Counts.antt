@@ -12,7 +12,7 @@ use Rattle.pg_certificate.specs.declared.record.Record.{Record}
 use Rattle.pg_certificate.specs.declared.record.Record.TheVariants.{Expand, Cut, Ref, Priced}
 use Rattle.pg_price_lists.specs.PriceRecords.{sources, targets}
 use Rattle.pg_certificate.specs.Spelling.{magic, spelling, header_spelling, IsRecord, IsHeader}
-use Rattle.pg_certificate.specs.numbers.Outlines.{lists_spelling}
+use Rattle.pg_certificate.specs.inner.Outlines.{lists_spelling}
 use Rattle.pg_certificate.specs.Counting.{no_records, one_more, byte_passed, passed, CountsRecords}
 use Rattle.pg_certificate.proofs.ListTexts.{length_lists}
 

@@ -7,7 +7,7 @@ use Rattle.std.proofs.lemmas.List.Elements.{All-cons, All-head, All-tail}
 use Rattle.std.specs.Prelude.{All}
 use Rattle.pg_price_lists.specs.PriceLists.{PriceList, list_of}
 use Rattle.pg_certificate.specs.Spelling.{AreBytes, IsPriceList}
-use Rattle.pg_certificate.specs.numbers.Outlines.{lists_spelling}
+use Rattle.pg_certificate.specs.inner.Outlines.{lists_spelling}
 use Rattle.pg_certificate.specs.Reading.{lists_of}
 use Rattle.pg_certificate.proofs.Grammars.{bytes_after}
 use Rattle.pg_certificate.proofs.Pieces.{bytes_both, bytes_before}

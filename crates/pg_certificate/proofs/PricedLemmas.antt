@@ -9,7 +9,7 @@ use Rattle.std.specs.Io.KnownBytes.{Consumes, prepend_known}
 use Rattle.pg_price_lists.specs.PriceLists.{PriceList}
 use Rattle.pg_certificate.specs.declared.outline.Outline.{Outline}
 use Rattle.pg_certificate.specs.Spelling.{AreBytes, spelling}
-use Rattle.pg_certificate.specs.numbers.Outlines.{IsOutline, outline_spelling, AreListsOf, lists_spelling}
+use Rattle.pg_certificate.specs.inner.Outlines.{IsOutline, outline_spelling, AreListsOf, lists_spelling}
 use Rattle.pg_certificate.specs.Reading.{exactly, lists_of, lists_at}
 use Rattle.pg_certificate.specs.Reader.{Leaves}
 use Rattle.pg_certificate.proofs.ListTexts.{many_lists, are_lists, spelled_lists}

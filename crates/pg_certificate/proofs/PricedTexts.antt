@@ -7,7 +7,7 @@ use Rattle.pg_board.specs.declared.man.Color.TheVariants.{White, Black}
 use Rattle.pg_price_lists.specs.PriceLists.{PriceList}
 use Rattle.pg_certificate.specs.declared.outline.Outline.{Outline}
 use Rattle.pg_certificate.specs.Spelling.{color_byte}
-use Rattle.pg_certificate.specs.numbers.Outlines.{IsOutline, outline_spelling, AreListsOf, lists_spelling}
+use Rattle.pg_certificate.specs.inner.Outlines.{IsOutline, outline_spelling, AreListsOf, lists_spelling}
 use Rattle.pg_certificate.specs.Reading.{◌>>=◌, byte_at, byte_from, exactly, color_of, outline_at, lists_of, lists_at}
 use Rattle.pg_certificate.proofs.Grammars.{Read, Grammar, Then, then_reads, Only, only_reads, as_reads}
 use Rattle.pg_certificate.proofs.Pieces.{Byte, byte_reads, Between, from_reads, Exactly, exactly_reads}

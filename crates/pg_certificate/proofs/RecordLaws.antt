@@ -13,7 +13,7 @@ use Rattle.pg_certificate.specs.declared.outline.Outline.{Outline}
 use Rattle.pg_certificate.specs.declared.record.Record.{Record}
 use Rattle.pg_certificate.specs.declared.record.Record.TheVariants.{Expand, Cut, Ref, Priced}
 use Rattle.pg_certificate.specs.Spelling.{AreBytes, color_byte, spelling, longest_record, ArePrices, IsRecord, IsRecordOf}
-use Rattle.pg_certificate.specs.numbers.Outlines.{IsOutline, AreListsOf, lists_spelling}
+use Rattle.pg_certificate.specs.inner.Outlines.{IsOutline, AreListsOf, lists_spelling}
 use Rattle.pg_certificate.specs.Reading.{◌>>=◌, byte_at as one_at, exactly, number_at, outline_at, lists_at, priced_at, record_at}
 use Rattle.pg_certificate.specs.Laws.{IsCutShort, IsUnknownAt}
 use Rattle.pg_certificate.proofs.Grammars.{Read, Short, Unknown, Meets, Grammar, Then, then_reads, Only, only_reads, as_reads, same_front, reads_taken, reads_short, short_reads, reads_unknown, unknown_reads}

@@ -5,4 +5,4 @@ pub mod Writer
 pub mod Stream
 pub mod Counting
 pub mod Laws
-pub mod numbers
+pub mod inner

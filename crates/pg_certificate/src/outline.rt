@@ -2,7 +2,7 @@
 ghost use Rattle.std.specs.Prelude.{◌≡◌, ◌+◌, ◌*◌, length};
 ghost use Rattle.pg_certificate.specs.Reading.{color_of, lists_of};
 ghost use Rattle.pg_certificate.specs.Spelling.{color_byte};
-ghost use Rattle.pg_certificate.specs.numbers.Outlines.{IsOutline, AreListsOf, lists_spelling};
+ghost use Rattle.pg_certificate.specs.inner.Outlines.{IsOutline, AreListsOf, lists_spelling};
 
 use pg_board::Color;
 use pg_price_lists::Prices;

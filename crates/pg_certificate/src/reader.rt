@@ -5,7 +5,7 @@ ghost use Rattle.std.specs.Io.KnownBytes.{Keeps, Consumes, IsAtEnd};
 ghost use Rattle.std.specs.Int.{w32, to_be_bytes};
 ghost use Rattle.pg_certificate.specs.Spelling.{record_of, spelling, header_spelling, longest_record, IsHeader, IsRecord, IsRecordOf, PricesStay};
 ghost use Rattle.pg_certificate.specs.Reading.{more_at, byte_at, byte_from, exactly, number_at, outline_at, lists_at, priced_at, header_at, record_at, end_at};
-ghost use Rattle.pg_certificate.specs.numbers.Outlines.{IsOutline, AreListsOf, outline_spelling, lists_spelling};
+ghost use Rattle.pg_certificate.specs.inner.Outlines.{IsOutline, AreListsOf, outline_spelling, lists_spelling};
 ghost use Rattle.pg_certificate.specs.Reader.{to_come, Reads, ReadsAs, IsCall, PullsAtMost};
 
 use crate::fault::ReadFault;
@@ -450,7 +450,8 @@ impl RecordReader {
         ensures stay { IfOk result (λ x. PricesStay x prices.old prices.new) }
         ensures refused { OnErr result (prices.new ≡ prices.old) }
         ensures call { IsCall S.has_failed self.old self.new source.old source.new result }
-        ensures pulls { PullsAtMost (5 + 3 * (64 + 64)) (to_come self.old (S.left source.old)) (S.left source.new) result }
+        ensures pulls { PullsAtMost (5 + 3 * (64 + 64)) (to_come self.old (S.left source.old))
+            (S.left source.new) result }
         ensures version { self.new.version ≡ self.old.version }
     {
         let outline = self.outline(source)?;

@@ -21,20 +21,20 @@ use Rattle.pg_checker.specs.Walk as walk
 use Rattle.pg_checker.specs.Walk.{◌>>=◌}
 use Rattle.pg_checker.specs.Whole.{run, answer, ended}
 use Rattle.pg_checker.specs.Chess.{Cuts, chess}
-use Rattle.pg_checker.specs.numbers.Judging.{stop_of}
-use Rattle.pg_checker.specs.numbers.Machine.{entry_of, state_at}
-use Rattle.pg_checker.specs.numbers.Steps.{Answer, Goes, Stops}
+use Rattle.pg_checker.specs.inner.Judging.{stop_of}
+use Rattle.pg_checker.specs.inner.Machine.{entry_of, state_at}
+use Rattle.pg_checker.specs.inner.Steps.{Answer, Goes, Stops}
 use Rattle.pg_checker.specs.declared.machine.Machine.{Machine}
-use Rattle.pg_checker.specs.numbers.Halting.{Stop}
-use Rattle.pg_checker.specs.numbers.Halting as stop
+use Rattle.pg_checker.specs.inner.Halting.{Stop}
+use Rattle.pg_checker.specs.inner.Halting as stop
 use Rattle.pg_checker.specs.declared.halt.Halt.{Halt}
 use Rattle.pg_checker.specs.declared.halt.Halt.TheVariants as halt
-use Rattle.pg_checker.specs.numbers.Checking.{WalkTakes}
-use Rattle.pg_checker.specs.numbers.Halting.{full}
-use Rattle.pg_checker.specs.numbers.Steps.{FailsRead, TakesFew}
+use Rattle.pg_checker.specs.inner.Checking.{WalkTakes}
+use Rattle.pg_checker.specs.inner.Halting.{full}
+use Rattle.pg_checker.specs.inner.Steps.{FailsRead, TakesFew}
 use Rattle.pg_checker.proofs.Goings.{stops_as, stops_with}
 use Rattle.pg_checker.proofs.Planting.{runs_all}
-use Rattle.pg_checker.specs.numbers.Checking.{AreKnown}
+use Rattle.pg_checker.specs.inner.Checking.{AreKnown}
 
 -- ---- the header
 -- with nothing held, what is to come is what is left

@@ -18,7 +18,7 @@ use Rattle.pg_position.specs.Future.{SameFuture}
 use Rattle.pg_position.proofs.FutureLemmas.{legal_position, future_sym, same_games, same_ends}
 use Rattle.pg_moves.proofs.ListLemmas.{moves_of_is, few_moves}
 use Rattle.pg_moves.proofs.PlayLemmas.{play_of_is}
-use Rattle.pg_moves.specs.numbers.Places.{most_moves}
+use Rattle.pg_moves.specs.inner.Places.{most_moves}
 use Rattle.pg_checker.specs.Tree.{Rules, Trees, EndsOnGoal, TooManyNamed, spelling_all, records_all}
 use Rattle.pg_checker.specs.Tree as tree
 use Rattle.pg_checker.specs.Claims.{IsExact, IsRight, IsComplete, IsCertificate}

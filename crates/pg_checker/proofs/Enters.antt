@@ -7,21 +7,21 @@ use Rattle.pg_checker.specs.Tree as tree
 use Rattle.pg_checker.specs.Tree.{one_if}
 use Rattle.pg_checker.specs.Walk as walk
 use Rattle.pg_checker.specs.Walk.{leaf, head, ◌>>=◌}
-use Rattle.pg_checker.specs.numbers.Frames as frames
-use Rattle.pg_checker.specs.numbers.Frames.{enter, opens, Work}
+use Rattle.pg_checker.specs.inner.Frames as frames
+use Rattle.pg_checker.specs.inner.Frames.{enter, opens, Work}
 use Rattle.pg_checker.specs.Chess.{Cuts, chess}
 use Rattle.pg_checker.specs.Left.{left_after}
-use Rattle.pg_checker.specs.numbers.Machine.{path, entry_of, frame_of, frames_of, count_named, opened as opened_by, shape_of, state_at, work_at}
-use Rattle.pg_checker.specs.numbers.Steps.{Answer, Goes, Stops}
+use Rattle.pg_checker.specs.inner.Machine.{path, entry_of, frame_of, frames_of, count_named, opened as opened_by, shape_of, state_at, work_at}
+use Rattle.pg_checker.specs.inner.Steps.{Answer, Goes, Stops}
 use Rattle.pg_checker.specs.declared.machine.Frame.{Frame}
 use Rattle.pg_checker.specs.declared.machine.Machine.{Machine}
 use Rattle.pg_checker.specs.declared.machine.Node.{Node}
 use Rattle.pg_checker.specs.declared.machine.Node.TheVariants as node
-use Rattle.pg_checker.specs.numbers.Halting.{Stop}
-use Rattle.pg_checker.specs.numbers.Halting as stop
+use Rattle.pg_checker.specs.inner.Halting.{Stop}
+use Rattle.pg_checker.specs.inner.Halting as stop
 use Rattle.pg_checker.specs.declared.halt.Halt.TheVariants as halt
 use Rattle.pg_checker.specs.declared.halt.Reason.{Reason}
-use Rattle.pg_checker.specs.numbers.Halting.{full, cause_with}
+use Rattle.pg_checker.specs.inner.Halting.{full, cause_with}
 use Rattle.pg_checker.proofs.Goings.{stays, goes_as, goes_then, stops_then, stops_as}
 use Rattle.pg_checker.proofs.FrameViews.{frames_more, count_more}
 use Rattle.pg_checker.proofs.Left.{rules_start}

@@ -8,7 +8,7 @@ use Rattle.pg_checker.specs.Claims.{IsExact}
 use Rattle.pg_checker.specs.Walk.{judge}
 use Rattle.pg_checker.proofs.Steps.{bind_ok, leaf_ok, head_ok, room_ok, cut_ok, ref_ok}
 use Rattle.std.proofs.Common.{nat_eq, slice_get}
-use Rattle.pg_checker.specs.numbers.Frames.{Frame, resume, Work, finish, opens, enter, turn_at, turn, load, effort, Stacked}
+use Rattle.pg_checker.specs.inner.Frames.{Frame, resume, Work, finish, opens, enter, turn_at, turn, load, effort, Stacked}
 
 pub bind_assoc : {A B C E : Type 0} (x : Result A E) (f : A → Result B E) (g : B → Result C E) → ((x >>= f) >>= g) ≡ (x >>= (λ a. f a >>= g))
 bind_assoc (Ok a) f g = refl

@@ -5,9 +5,9 @@ use Rattle.std.specs.Io.KnownBytes.{Consumes}
 use Rattle.pg_position.specs.declared.moves.Move.{Move}
 use Rattle.pg_checker.specs.Tree as tree
 use Rattle.pg_checker.specs.Walk.{◌>>=◌}
-use Rattle.pg_checker.specs.numbers.Steps.{Answer, Goes, Stops}
-use Rattle.pg_checker.specs.numbers.Halting.{Stop}
-use Rattle.pg_checker.specs.numbers.Halting as stop
+use Rattle.pg_checker.specs.inner.Steps.{Answer, Goes, Stops}
+use Rattle.pg_checker.specs.inner.Halting.{Stop}
+use Rattle.pg_checker.specs.inner.Halting as stop
 
 pub consumes_none : (known : Option (List ℕ)) → Consumes known known []
 consumes_none None = tt

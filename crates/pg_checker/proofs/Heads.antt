@@ -18,13 +18,13 @@ use Rattle.pg_checker.specs.Tree as tree
 use Rattle.pg_checker.specs.Walk as walk
 use Rattle.pg_checker.specs.Walk.{judge, head, ◌>>=◌}
 use Rattle.pg_checker.specs.Chess.{Cuts, chess, read}
-use Rattle.pg_checker.specs.numbers.Judging.{Judges, stop_of}
-use Rattle.pg_checker.specs.numbers.Machine.{entry_of, entries_of, state_at, shape_of}
-use Rattle.pg_checker.specs.numbers.Steps.{Answer, Goes, Stops, Says, TakesFew}
+use Rattle.pg_checker.specs.inner.Judging.{Judges, stop_of}
+use Rattle.pg_checker.specs.inner.Machine.{entry_of, entries_of, state_at, shape_of}
+use Rattle.pg_checker.specs.inner.Steps.{Answer, Goes, Stops, Says, TakesFew}
 use Rattle.pg_checker.specs.declared.machine.Machine.{Machine}
 use Rattle.pg_checker.specs.declared.machine.Node.{Node}
-use Rattle.pg_checker.specs.numbers.Halting.{Stop}
-use Rattle.pg_checker.specs.numbers.Halting as stop
+use Rattle.pg_checker.specs.inner.Halting.{Stop}
+use Rattle.pg_checker.specs.inner.Halting as stop
 use Rattle.pg_certificate.proofs.RecordLaws.{none_longer}
 use Rattle.pg_checker.proofs.Reading.{read_spelled, read_err}
 use Rattle.pg_checker.proofs.Goings.{goes_on, goes_as, goes_reading, stops_on, stops_as, stops_with}

@@ -11,18 +11,18 @@ use Rattle.pg_checker.specs.Tree as tree
 use Rattle.pg_checker.specs.Walk as walk
 use Rattle.pg_checker.specs.Walk.{judge, cut_answer, ref_answer, take_room}
 use Rattle.pg_checker.specs.Chess.{Cuts, chess}
-use Rattle.pg_checker.specs.numbers.Judging.{Judgement, Ends, EndsAs, Judges, ended_of, refer_answer}
-use Rattle.pg_checker.specs.numbers.Machine.{entry_of, opened, state_at}
-use Rattle.pg_checker.specs.numbers.Steps.{Stops}
+use Rattle.pg_checker.specs.inner.Judging.{Judgement, Ends, EndsAs, Judges, ended_of, refer_answer}
+use Rattle.pg_checker.specs.inner.Machine.{entry_of, opened, state_at}
+use Rattle.pg_checker.specs.inner.Steps.{Stops}
 use Rattle.pg_checker.specs.declared.machine.Machine.{Machine}
 use Rattle.pg_checker.specs.declared.machine.Node.{Node}
 use Rattle.pg_checker.specs.declared.machine.Node.TheVariants as node
-use Rattle.pg_checker.specs.numbers.Halting.{Stop}
-use Rattle.pg_checker.specs.numbers.Halting as stop
+use Rattle.pg_checker.specs.inner.Halting.{Stop}
+use Rattle.pg_checker.specs.inner.Halting as stop
 use Rattle.pg_checker.specs.declared.halt.Halt.{Halt}
 use Rattle.pg_checker.specs.declared.halt.Halt.TheVariants as halt
 use Rattle.pg_checker.specs.declared.halt.Reason.TheVariants as reason
-use Rattle.pg_checker.specs.numbers.Halting.{full}
+use Rattle.pg_checker.specs.inner.Halting.{full}
 use Rattle.pg_checker.proofs.Goings.{stays, consumes_none}
 
 -- a node that ends at once, where the walk says so of each state with the machine's entries

@@ -1,4 +1,4 @@
--- Passing over moves that do not lead to the diagram leaves what the walk answers. Leads to the contracts of `pass_over` and `run`.
+-- Passing over moves that do not lead to the diagram leaves what the walk answers. Leads to the contracts of `skip_to_solution` and `run`.
 use Rattle.std.proofs.Common.{◌≡◌, ◌≢◌, ℕ, zero, suc, ◌+◌, ◌<◌, ◌≤◌, Bool, true, false, ◌||◌, List, [], ◌∷◌, ◌++◌, length, reverse, Option, Some, Result, IsTrue, ◌↔◌, refl, sym, ◌∙◌, ap, subst, arith, append_assoc}
 use Rattle.std.specs.List.{Contains}
 use Rattle.std.proofs.lemmas.List.{length-append}
@@ -13,14 +13,14 @@ use Rattle.pg_position.proofs.FutureLemmas.{one_result}
 use Rattle.pg_moves.specs.Left.{MovesLeft}
 use Rattle.pg_moves.specs.Moves.{IsNext, IsLast}
 use Rattle.pg_moves.proofs.SortLemmas.{Contains-none, Contains-cons}
-use Rattle.pg_moves.specs.numbers.Places.{most_moves}
+use Rattle.pg_moves.specs.inner.Places.{most_moves}
 use Rattle.pg_checker.specs.Tree as tree
 use Rattle.pg_checker.specs.Walk as walk
 use Rattle.pg_checker.specs.Walk.{visit, each, ◌>>=◌}
-use Rattle.pg_checker.specs.numbers.Frames.{resume, effort, Stacked}
+use Rattle.pg_checker.specs.inner.Frames.{resume, effort, Stacked}
 use Rattle.pg_checker.specs.Chess.{Cuts, chess}
 use Rattle.pg_checker.specs.Left.{left_after}
-use Rattle.pg_checker.specs.numbers.Machine.{path, frame_of, frames_of, count_named, state_at, work_at}
+use Rattle.pg_checker.specs.inner.Machine.{path, frame_of, frames_of, count_named, state_at, work_at}
 use Rattle.pg_checker.specs.Passing.{LeadsElsewhere, AllElsewhere, PassesOver}
 use Rattle.pg_checker.specs.declared.machine.Frame.{Frame}
 use Rattle.pg_checker.specs.declared.machine.Machine.{Machine}

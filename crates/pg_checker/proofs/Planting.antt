@@ -7,13 +7,13 @@ use Rattle.pg_checker.specs.Tree as tree
 use Rattle.pg_checker.specs.Walk as walk
 use Rattle.pg_checker.specs.Walk.{visit, ◌>>=◌}
 use Rattle.pg_checker.specs.Whole.{run}
-use Rattle.pg_checker.specs.numbers.Frames.{finish, enter, Stacked}
+use Rattle.pg_checker.specs.inner.Frames.{finish, enter, Stacked}
 use Rattle.pg_checker.specs.Chess.{Cuts, chess}
-use Rattle.pg_checker.specs.numbers.Machine.{ReadsVersion, path, frames_of, count_named, state_at, work_at}
-use Rattle.pg_checker.specs.numbers.Steps.{Answer, Goes, Stops, Says}
+use Rattle.pg_checker.specs.inner.Machine.{ReadsVersion, path, frames_of, count_named, state_at, work_at}
+use Rattle.pg_checker.specs.inner.Steps.{Answer, Goes, Stops, Says}
 use Rattle.pg_checker.specs.declared.machine.Frame.{Frame}
 use Rattle.pg_checker.specs.declared.machine.Machine.{Machine}
-use Rattle.pg_checker.specs.numbers.Halting.{Stop}
+use Rattle.pg_checker.specs.inner.Halting.{Stop}
 use Rattle.pg_checker.proofs.Frames.{start_is, enter_stacked}
 use Rattle.pg_checker.proofs.FrameViews.{path_none}
 use Rattle.pg_checker.proofs.Goings.{stays, goes_on, goes_as, goes_then, stops_on, stops_then, stops_as}

@@ -6,19 +6,19 @@ use Rattle.pg_certificate.specs.Spelling.{longest_record}
 use Rattle.pg_board.specs.Placement.{Placement}
 use Rattle.pg_position.specs.declared.state.State.{State}
 use Rattle.pg_position.specs.declared.moves.Move.{Move}
-use Rattle.pg_moves.specs.numbers.Places.{most_moves}
+use Rattle.pg_moves.specs.inner.Places.{most_moves}
 use Rattle.pg_checker.specs.Tree as tree
 use Rattle.pg_checker.specs.Tree.{one_if}
 use Rattle.pg_checker.specs.Walk as walk
 use Rattle.pg_checker.specs.Walk.{visit, each, leaf_answer, ◌>>=◌}
-use Rattle.pg_checker.specs.numbers.Frames.{resume, turn, finish, effort, Stacked}
+use Rattle.pg_checker.specs.inner.Frames.{resume, turn, finish, effort, Stacked}
 use Rattle.pg_checker.specs.Chess.{Cuts, chess}
-use Rattle.pg_checker.specs.numbers.Machine.{ReadsVersion, entered, entry_of, path, frame_of, frames_of, count_named, state_at, work_at}
-use Rattle.pg_checker.specs.numbers.Steps.{Answer, Goes, Stops, TakesFew}
+use Rattle.pg_checker.specs.inner.Machine.{ReadsVersion, entered, entry_of, path, frame_of, frames_of, count_named, state_at, work_at}
+use Rattle.pg_checker.specs.inner.Steps.{Answer, Goes, Stops, TakesFew}
 use Rattle.pg_checker.specs.declared.machine.Frame.{Frame}
 use Rattle.pg_checker.specs.declared.machine.Machine.{Machine}
-use Rattle.pg_checker.specs.numbers.Halting.{Stop}
-use Rattle.pg_checker.specs.numbers.Halting as stop
+use Rattle.pg_checker.specs.inner.Halting.{Stop}
+use Rattle.pg_checker.specs.inner.Halting as stop
 use Rattle.pg_checker.proofs.Chess.{chess_exact, chess_few, chess_is}
 use Rattle.pg_checker.proofs.Left.{left_are}
 use Rattle.pg_moves.proofs.SortLemmas.{Contains-head, Contains-later}

@@ -9,14 +9,14 @@ use Rattle.pg_position.specs.declared.state.State.{State}
 use Rattle.pg_position.specs.declared.moves.Move.{Move}
 use Rattle.pg_position.specs.Position.{IsPosition}
 use Rattle.pg_moves.specs.Moves.{IsLast}
-use Rattle.pg_moves.specs.numbers.Places.{most_moves}
+use Rattle.pg_moves.specs.inner.Places.{most_moves}
 use Rattle.pg_checker.specs.Tree.{one_if}
 use Rattle.pg_checker.specs.Chess.{Cuts, chess}
 use Rattle.pg_checker.specs.Passing.{AllElsewhere}
-use Rattle.pg_checker.specs.numbers.Frames.{enter, effort, Stacked}
-use Rattle.pg_checker.specs.numbers.Halting.{Stop}
-use Rattle.pg_checker.specs.numbers.Machine.{Closes, HasNone, OnTop, Passed, Plays, ReadsVersion, path, frames_of, count_named, state_at, work_at}
-use Rattle.pg_checker.specs.numbers.Steps.{Stops, Says}
+use Rattle.pg_checker.specs.inner.Frames.{enter, effort, Stacked}
+use Rattle.pg_checker.specs.inner.Halting.{Stop}
+use Rattle.pg_checker.specs.inner.Machine.{Closes, HasNone, OnTop, Passed, Plays, ReadsVersion, path, frames_of, count_named, state_at, work_at}
+use Rattle.pg_checker.specs.inner.Steps.{Stops, Says}
 use Rattle.pg_checker.specs.declared.machine.Frame.{Frame}
 use Rattle.pg_checker.specs.declared.machine.Machine.{Machine}
 use Rattle.pg_checker.proofs.Passing.{runs_over, over_less, frame_plies}

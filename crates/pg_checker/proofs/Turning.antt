@@ -9,14 +9,14 @@ use Rattle.pg_moves.specs.Moves.{IsNext, IsLast}
 use Rattle.pg_moves.proofs.PlayLemmas.{play_of_is}
 use Rattle.pg_checker.specs.Tree as tree
 use Rattle.pg_checker.specs.Tree.{one_if, entry}
-use Rattle.pg_checker.specs.numbers.Frames.{enter, turn, turn_at, turn_top, Work}
+use Rattle.pg_checker.specs.inner.Frames.{enter, turn, turn_at, turn_top, Work}
 use Rattle.pg_checker.specs.Chess.{Cuts, chess}
 use Rattle.pg_checker.specs.Left.{left_after}
-use Rattle.pg_checker.specs.numbers.Machine.{path, entered, entry_of, entries_of, frame_of, frames_of, count_named, state_at, work_at}
-use Rattle.pg_checker.specs.numbers.Steps.{Answer, Goes, Stops, Says}
+use Rattle.pg_checker.specs.inner.Machine.{path, entered, entry_of, entries_of, frame_of, frames_of, count_named, state_at, work_at}
+use Rattle.pg_checker.specs.inner.Steps.{Answer, Goes, Stops, Says}
 use Rattle.pg_checker.specs.declared.machine.Frame.{Frame}
 use Rattle.pg_checker.specs.declared.machine.Machine.{Machine}
-use Rattle.pg_checker.specs.numbers.Halting.{Stop}
+use Rattle.pg_checker.specs.inner.Halting.{Stop}
 use Rattle.pg_checker.proofs.Goings.{stays, goes_as, stops_as}
 use Rattle.pg_checker.proofs.FrameViews.{path_more, frames_more, count_more}
 use Rattle.pg_checker.proofs.Left.{left_next, left_last}

@@ -34,17 +34,17 @@ use Rattle.pg_checker.specs.Listed.{IsListFault}
 use Rattle.pg_checker.specs.Chess.{Cuts, IsSoundCut, chess}
 use Rattle.pg_checker.specs.Cuts.{CheckRules, cuts_by, files_by, prices_by}
 use Rattle.pg_checker.specs.Check.{header_for, IsHeaded, IsCertified, Accepts, IsRefused, Refuses, StopsAt}
-use Rattle.pg_checker.specs.numbers.Checking.{Headed, HeaderFails, AreKnown, Answers, fault_of}
+use Rattle.pg_checker.specs.inner.Checking.{Headed, HeaderFails, AreKnown, Answers, fault_of}
 use Rattle.pg_checker.specs.Front.{CauseAt, RecordCause, no_budget, no_record, refused}
-use Rattle.pg_checker.specs.numbers.Steps.{Stops, FailsRead}
+use Rattle.pg_checker.specs.inner.Steps.{Stops, FailsRead}
 use Rattle.pg_checker.specs.Whole.{answer, IsStopped, HasMore}
 use Rattle.pg_checker.specs.declared.certify.Proved.{Proved}
 use Rattle.pg_checker.specs.declared.fault.Fault.{Fault}
 use Rattle.pg_checker.specs.declared.fault.Fault.TheVariants as fault
 use Rattle.pg_checker.specs.declared.fault.ListFault.{ListFault}
 use Rattle.pg_checker.specs.declared.fault.ListFault.TheVariants.{WrongLength, NotReaching}
-use Rattle.pg_checker.specs.numbers.Halting.{Stop}
-use Rattle.pg_checker.specs.numbers.Halting as stop
+use Rattle.pg_checker.specs.inner.Halting.{Stop}
+use Rattle.pg_checker.specs.inner.Halting as stop
 use Rattle.pg_checker.proofs.Chess.{chess_exact, chess_plain, chess_read, yes_is_exact}
 use Rattle.pg_checker.proofs.Reading.{read_no_trailing}
 use Rattle.pg_checker.proofs.Whole.{accepted, accepts, stopped, at_named}

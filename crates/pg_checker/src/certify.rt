@@ -6,11 +6,11 @@ ghost use Rattle.pg_certificate.specs.Reader.{to_come};
 ghost use Rattle.pg_certificate.specs.Spelling.{longest_record};
 ghost use Rattle.pg_checker.specs.Answer.{IsExactAnswer};
 ghost use Rattle.pg_checker.specs.Check.{Accepts, Refuses, Takes};
-ghost use Rattle.pg_checker.specs.numbers.Checking.{Answers, Headed, HeaderFails, HeaderTakes, WalkTakes, header_fault};
+ghost use Rattle.pg_checker.specs.inner.Checking.{Answers, Headed, HeaderFails, HeaderTakes, WalkTakes, header_fault};
 ghost use Rattle.pg_checker.specs.Cuts.{rules_by, rules_for};
-ghost use Rattle.pg_checker.specs.numbers.Halting.{stops};
-ghost use Rattle.pg_checker.specs.numbers.Machine.{ReadsVersion, game_at};
-ghost use Rattle.pg_checker.specs.numbers.Steps.{FailsRead};
+ghost use Rattle.pg_checker.specs.inner.Halting.{stops};
+ghost use Rattle.pg_checker.specs.inner.Machine.{ReadsVersion, game_at};
+ghost use Rattle.pg_checker.specs.inner.Steps.{FailsRead};
 
 use crate::fault::Fault;
 use crate::halt::{Halt, Reason, fault_of};
@@ -63,7 +63,8 @@ fn read_header<S: Source>(
     ensures held { length_of reader.new.held ≤ 4096 }
     ensures err { IfErr result (λ e. HeaderFails diagram.now plies
         (S.left source.old) (S.has_failed source.new) e) }
-    ensures pulls { HeaderTakes (S.left source.old) (to_come reader.new (S.left source.new)) (S.left source.new) result }
+    ensures pulls { HeaderTakes (S.left source.old) (to_come reader.new (S.left source.new))
+        (S.left source.new) result }
 {
     let header = match reader.header(source) {
         Ok(header) => header,
@@ -105,7 +106,8 @@ fn walk<S: Source>(
     ensures end { OnOk result (IsAtEnd (S.left source.new)) }
     ensures runs { OnOk result (S.has_failed source.new ≡ false) }
     ensures fails { FailsRead (S.has_failed source.new) (stops [] result) }
-    ensures pulls { WalkTakes (longest_record * machine.old.records) (to_come machine.old.reader (S.left source.old)) (S.left source.new) (stops [] result) }
+    ensures pulls { WalkTakes (longest_record * machine.old.records) (to_come machine.old.reader (S.left source.old))
+        (S.left source.new) (stops [] result) }
 {
     let records = machine.records;
     let room = machine.room;
@@ -153,8 +155,10 @@ pub fn check<R: Source>(
     max_named: u32,
 ) -> Result<Proved, Fault>
     ensures headline { OnOk result (IsExactAnswer diagram.now length games.now) }
-    ensures accepted { Accepts (rules_by code_of excluded bounds.now diagram.now length games.now) diagram.now games.now max_records max_named (R.left source.old) result }
-    ensures refused { Refuses (rules_by code_of excluded bounds.now diagram.now length games.now) diagram.now games.now max_records max_named
+    ensures accepted { Accepts (rules_by code_of excluded bounds.now diagram.now length games.now) diagram.now
+        games.now max_records max_named (R.left source.old) result }
+    ensures refused { Refuses (rules_by code_of excluded bounds.now diagram.now length games.now) diagram.now
+        games.now max_records max_named
         (R.left source.old) (R.has_failed source.new) result }
     ensures pulls { Takes (37 + longest_record * max_records + 4096) (R.left source.old) (R.left source.new) result }
     ensures end { OnOk result (IsAtEnd (R.left source.new)) }

@@ -6,7 +6,7 @@ ghost use Rattle.pg_position.specs.declared.state.State.{State};
 ghost use Rattle.pg_position.specs.declared.moves.Move.{Move};
 ghost use Rattle.pg_position.specs.Array.{array_state};
 ghost use Rattle.pg_moves.specs.Moves.{IsNext, IsLast};
-ghost use Rattle.pg_moves.specs.numbers.Places.{most_moves};
+ghost use Rattle.pg_moves.specs.inner.Places.{most_moves};
 ghost use Rattle.pg_certificate.specs.declared.fault.ReadFault.{ReadFault};
 ghost use Rattle.pg_certificate.specs.declared.record.Record.{Record};
 ghost use Rattle.pg_certificate.specs.Laws.{IsCutShort, IsUnknownAt};
@@ -23,30 +23,42 @@ ghost use Rattle.pg_checker.specs.Whole.{IsAtNamed, full_from, answer, IsAccepte
 /// certificates of their version, and no state has more than 28,672 moves.
 #[tactic(auto, using(crate::proofs::Chess::of_chess))]
 pub fn rules_are_those_of_chess()
-    ensures rules { (d : Placement) (n : ℕ) (games : List (List Move)) (cut : Cuts) → IsChess (chess d n games cut) cut.version d n games }
-    ensures cuts { (d : Placement) (n : ℕ) (games : List (List Move)) (cut : Cuts) → (chess d n games cut).cut ≡ cut.bounds }
-    ensures prices { (d : Placement) (n : ℕ) (games : List (List Move)) (cut : Cuts) → (chess d n games cut).priced ≡ cut.prices }
-    ensures reads { (d : Placement) (n : ℕ) (games : List (List Move)) (cut : Cuts) → (chess d n games cut).read ≡ read cut.version }
+    ensures rules { (d : Placement) (n : ℕ) (games : List (List Move)) (cut : Cuts)
+        → IsChess (chess d n games cut) cut.version d n games }
+    ensures cuts { (d : Placement) (n : ℕ) (games : List (List Move)) (cut : Cuts)
+        → (chess d n games cut).cut ≡ cut.bounds }
+    ensures prices { (d : Placement) (n : ℕ) (games : List (List Move)) (cut : Cuts)
+        → (chess d n games cut).priced ≡ cut.prices }
+    ensures reads { (d : Placement) (n : ℕ) (games : List (List Move)) (cut : Cuts)
+        → (chess d n games cut).read ≡ read cut.version }
     ensures records { (d : Placement) (n : ℕ) (games : List (List Move)) (cut : Cuts) → IsExact (chess d n games cut) }
-    ensures few { (d : Placement) (n : ℕ) (games : List (List Move)) (cut : Cuts) (p : State) → length ((chess d n games cut).moves p) ≤ most_moves }
+    ensures few { (d : Placement) (n : ℕ) (games : List (List Move)) (cut : Cuts) (p : State)
+        → length ((chess d n games cut).moves p) ≤ most_moves }
 {}
 
 /// The walk reads records as those of its version are read from bytes: Truncated stands where the bytes
 /// are less than a whole record, and UnknownRecord at the first that no record can have at its place.
 pub fn records_are_read_as_spelled()
-    ensures bytes { (version : ℕ) (bytes : List ℕ) → AreBytes bytes → read version bytes ≡ renamed (record_at version bytes) }
-    ensures spelled { (version : ℕ) (x : Record) (rest : List ℕ) → IsRecordOf version x → read version (spelling x ++ rest) ≡ Ok (x, rest) }
-    ensures truncated { (version : ℕ) (bytes : List ℕ) → AreBytes bytes → read version bytes ≡ Err Truncated ↔ IsCutShort version bytes }
-    ensures unknown { (version : ℕ) (bytes : List ℕ) (x : ℕ) → AreBytes bytes → read version bytes ≡ Err (UnknownRecord x) ↔ IsUnknownAt version bytes x }
-    ensures refusals { (version : ℕ) (bytes : List ℕ) (e : ReadFault) → record_at version bytes ≡ Err e → read version bytes ≡ Err (cause_of e) }
+    ensures bytes { (version : ℕ) (bytes : List ℕ) → AreBytes bytes
+        → read version bytes ≡ renamed (record_at version bytes) }
+    ensures spelled { (version : ℕ) (x : Record) (rest : List ℕ) → IsRecordOf version x
+        → read version (spelling x ++ rest) ≡ Ok (x, rest) }
+    ensures truncated { (version : ℕ) (bytes : List ℕ) → AreBytes bytes
+        → read version bytes ≡ Err Truncated ↔ IsCutShort version bytes }
+    ensures unknown { (version : ℕ) (bytes : List ℕ) (x : ℕ) → AreBytes bytes
+        → read version bytes ≡ Err (UnknownRecord x) ↔ IsUnknownAt version bytes x }
+    ensures refusals { (version : ℕ) (bytes : List ℕ) (e : ReadFault) → record_at version bytes ≡ Err e
+        → read version bytes ≡ Err (cause_of e) }
 {}
 
 /// Of the moves that the rules have for a position the next legal one comes first, and what is left
 /// after it is what is left of them.
 #[tactic(auto, using(crate::proofs::Left::in_order))]
 pub fn moves_come_in_order()
-    ensures start { (d : Placement) (n : ℕ) (games : List (List Move)) (cut : Cuts) (p : State) → (chess d n games cut).moves p ≡ left_after p None }
-    ensures next { (p : State) (last : Option Move) (m : Move) → IsNext p last m → left_after p last ≡ m ∷ left_after p (Some m) }
+    ensures start { (d : Placement) (n : ℕ) (games : List (List Move)) (cut : Cuts) (p : State)
+        → (chess d n games cut).moves p ≡ left_after p None }
+    ensures next { (p : State) (last : Option Move) (m : Move) → IsNext p last m
+        → left_after p last ≡ m ∷ left_after p (Some m) }
     ensures end { (p : State) (last : Option Move) → IsLast p last → left_after p last ≡ [] }
 {}
 
@@ -64,13 +76,15 @@ pub fn exact_has_a_certificate()
         → IsCertificate (chess d n games cut) array_state (full_from (chess d n games cut) (suc n) 0 array_state) }
     ensures accepted { (d : Placement) (n : ℕ) (games : List (List Move)) (cut : Cuts) → IsExactAnswer d n games
         → let r : Rules State Move = chess d n games cut in let trees : Trees = full_from r (suc n) 0 array_state in
-        (a b : ℕ) → records_all trees ≤ a → answer r array_state a b (spelling_all r trees) ≡ Ok (records_all trees, 0) }
+        (a b : ℕ) → records_all trees ≤ a → answer r array_state a b (spelling_all r trees)
+        ≡ Ok (records_all trees, 0) }
 {}
 
 /// A yes is given exactly to the whole spelling of a certificate that fits, within the limits.
 pub fn accepted_where_it_fits()
     ensures { (d : Placement) (n : ℕ) (games : List (List Move)) (cut : Cuts) (a b : ℕ) (bytes : List ℕ) (x : ℕ × ℕ)
-        → answer (chess d n games cut) array_state a b bytes ≡ Ok x ↔ IsAccepted (chess d n games cut) array_state a b bytes x }
+        → answer (chess d n games cut) array_state a b bytes ≡ Ok x
+        ↔ IsAccepted (chess d n games cut) array_state a b bytes x }
 {}
 
 /// A fault is answered exactly where it is the first cause at a front, or, for Trailing, where bytes
@@ -78,9 +92,11 @@ pub fn accepted_where_it_fits()
 /// answers TooManyNamed, the walk that may keep all comes to that place without a cause to stop, and a
 /// named node is next.
 pub fn refused_at_the_first_cause()
-    ensures cause { (d : Placement) (n : ℕ) (games : List (List Move)) (cut : Cuts) (a b : ℕ) (bytes : List ℕ) (f : Cause Move)
+    ensures cause { (d : Placement) (n : ℕ) (games : List (List Move)) (cut : Cuts) (a b : ℕ) (bytes : List ℕ)
+        (f : Cause Move)
         → answer (chess d n games cut) array_state a b bytes ≡ Err f
         ↔ (IsStopped (chess d n games cut) array_state a b bytes f ⊎ ((f ≡ Trailing) × HasMore (chess d n games cut) array_state a b bytes)) }
-    ensures memory { (d : Placement) (n : ℕ) (games : List (List Move)) (cut : Cuts) (a b fewer : ℕ) (bytes : List ℕ) → fewer < b
+    ensures memory { (d : Placement) (n : ℕ) (games : List (List Move)) (cut : Cuts) (a b fewer : ℕ) (bytes : List ℕ)
+        → fewer < b
         → answer (chess d n games cut) array_state a fewer bytes ≡ Err TooManyNamed → IsAtNamed (chess d n games cut) array_state a b bytes }
 {}

@@ -1,8 +1,8 @@
 //! Why the walk stops.
 ghost use Rattle.std.specs.Prelude.{◌≡◌, ◌≤◌, length, reverse};
-ghost use Rattle.pg_checker.specs.numbers.Machine.{path};
-ghost use Rattle.pg_checker.specs.numbers.Checking.{fault_of};
-ghost use Rattle.pg_checker.specs.numbers.Halting.{full};
+ghost use Rattle.pg_checker.specs.inner.Machine.{path};
+ghost use Rattle.pg_checker.specs.inner.Checking.{fault_of};
+ghost use Rattle.pg_checker.specs.inner.Halting.{full};
 
 use crate::fault::Fault;
 use crate::machine::{Frame, game_along};

@@ -1,6 +1,6 @@
 //! What the walk holds.
 ghost use Rattle.std.specs.Prelude.{◌≡◌, ◌≤◌, length, reverse};
-ghost use Rattle.pg_checker.specs.numbers.Machine.{path};
+ghost use Rattle.pg_checker.specs.inner.Machine.{path};
 
 use crate::table::Table;
 use arrayvec::ArrayVec;

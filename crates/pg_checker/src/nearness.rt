@@ -132,7 +132,7 @@ fn leads(diagram: &Diagram, squares: SquareSet, position: &Position, m: &Move) -
 
 /// Passes over legal moves that do not lead to the diagram, up to the first that does, and answers
 /// whether there is one. It is then the next of the moves.
-pub fn pass_over(diagram: &Diagram, moves: &mut LegalMoves) -> bool
+pub fn skip_to_solution(diagram: &Diagram, moves: &mut LegalMoves) -> bool
     ensures passed { PassesOver diagram.now moves.old moves.new }
     ensures none { result ≡ false → AllElsewhere diagram.now moves.new }
     ensures some { result ≡ true → NextLeads diagram.now moves.new }
@@ -146,11 +146,11 @@ pub fn pass_over(diagram: &Diagram, moves: &mut LegalMoves) -> bool
     if !has_leading(diagram, squares, &position) {
         return false;
     }
-    while let Some(ahead) = moves.ahead() {
-        if leads(diagram, squares, &position, &ahead.m) {
+    while let Some(peeked) = moves.peek() {
+        if leads(diagram, squares, &position, &peeked.m) {
             return true;
         }
-        moves.pass(&ahead);
+        moves.advance(&peeked);
     }
     false
 }

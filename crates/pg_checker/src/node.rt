@@ -6,11 +6,11 @@ ghost use Rattle.pg_certificate.specs.Spelling.{record_of};
 ghost use Rattle.pg_checker.specs.Cuts.{rules_for, cuts_for, files_by, prices_by};
 ghost use Rattle.pg_travel.specs.PricesDecided.{travel_prices_test};
 ghost use Rattle.pg_position.specs.declared.moves.Move.{Move};
-ghost use Rattle.pg_checker.specs.numbers.Halting.{full, causes, stops};
-ghost use Rattle.pg_checker.specs.numbers.Judging.{Ends, Judges, ended_of, refer_answer, stop_of};
-ghost use Rattle.pg_checker.specs.numbers.Machine.{ReadsVersion, Walks, WalksOn, entry_of, opened, shape_of, state_at};
-ghost use Rattle.pg_checker.specs.numbers.Spots.{IsReached, spot_of};
-ghost use Rattle.pg_checker.specs.numbers.Steps.{Says, FailsRead, TakesFew};
+ghost use Rattle.pg_checker.specs.inner.Halting.{full, causes, stops};
+ghost use Rattle.pg_checker.specs.inner.Judging.{Ends, Judges, ended_of, refer_answer, stop_of};
+ghost use Rattle.pg_checker.specs.inner.Machine.{ReadsVersion, Walks, WalksOn, entry_of, opened, shape_of, state_at};
+ghost use Rattle.pg_checker.specs.inner.Spots.{IsReached, spot_of};
+ghost use Rattle.pg_checker.specs.inner.Steps.{Says, FailsRead, TakesFew};
 ghost use Rattle.pg_checker.specs.Walk.{judge as judge_of, head as head_of, cut_answer};
 
 use crate::halt::{Halt, Reason};
@@ -42,7 +42,8 @@ pub(crate) fn halt_of(fault: ReadFault) -> Halt
 // A named node takes its place in the table, where there is room for one more: how much room is left.
 fn take_place(table: &mut Table, position: &Position, room: u32) -> Result<u32, Halt>
     ensures ok { IfOk result (λ left. (left + 1 ≡ room) × (table.new.kept ≡ table.old.kept + 1)) }
-    ensures err { IfErr result (λ s. ((s ≡ Halt.Because Reason.TooManyNamed) × (room ≡ 0)) ⊎ ((s ≡ Halt.Memory) × (0 < room))) }
+    ensures err { IfErr result (λ s. ((s ≡ Halt.Because Reason.TooManyNamed) × (room ≡ 0))
+        ⊎ ((s ≡ Halt.Memory) × (0 < room))) }
     ensures entries { table.new.entries ≡ table.old.entries }
 {
     if room == 0 {
@@ -72,7 +73,8 @@ fn first_says(question: &Question, spot: &Spot, left: u8, code: u8) -> Option<bo
 // A cut, by the first bound of its code.
 fn cut(question: &Question, spot: &Spot, left: u8, code: u8) -> Result<(), Reason>
     requires { IsReached spot.now }
-    ensures { (game : List Move) → Ends (causes game result) (cut_answer ((cuts_for code_of excluded question.now).bounds code (spot_of spot.now) left) code) }
+    ensures { (game : List Move) → Ends (causes game result)
+        (cut_answer ((cuts_for code_of excluded question.now).bounds code (spot_of spot.now) left) code) }
 {
     match first_says(question, spot, left, code) {
         None => Err(Reason::UnknownBound(code)),
@@ -118,7 +120,8 @@ fn priced(
     color: Color,
     prices: &Prices,
 ) -> Result<(), Reason>
-    ensures { (game : List Move) → Ends (causes game result) (cut_answer (prices_by question.now.diagram.now code color prices.now position.now left) code) }
+    ensures { (game : List Move) → Ends (causes game result)
+        (cut_answer (prices_by question.now.diagram.now code color prices.now position.now left) code) }
 {
     let diagram = question.diagram;
     let rows = question.rows.as_ref();
@@ -145,7 +148,8 @@ fn priced_there(
     prices: &Prices,
 ) -> Result<(), Reason>
     requires { IsReached spot.now }
-    ensures { (game : List Move) → Ends (causes game result) (cut_answer (prices_by question.now.diagram.now code color prices.now (spot_of spot.now) left) code) }
+    ensures { (game : List Move) → Ends (causes game result)
+        (cut_answer (prices_by question.now.diagram.now code color prices.now (spot_of spot.now) left) code) }
 {
     priced(question, &spot.position(), left, code, color, prices)
 }
@@ -170,7 +174,8 @@ fn refer(
     left: u8,
     number: u32,
 ) -> Result<(), Reason>
-    ensures { (game : List Move) → Ends (causes game result) (refer_answer version (slice_get (map entry_of table.now.entries) number) left position.now) }
+    ensures { (game : List Move) → Ends (causes game result)
+        (refer_answer version (slice_get (map entry_of table.now.entries) number) left position.now) }
 {
     let Some(entry) = table.get(number) else {
         return Err(Reason::RefUnknown);
@@ -189,7 +194,8 @@ fn refer(
 #[inline(never)]
 fn refer_there(version: u8, table: &Table, spot: &Spot, left: u8, number: u32) -> Result<(), Reason>
     requires { IsReached spot.now }
-    ensures { (game : List Move) → Ends (causes game result) (refer_answer version (slice_get (map entry_of table.now.entries) number) left (spot_of spot.now)) }
+    ensures { (game : List Move) → Ends (causes game result)
+        (refer_answer version (slice_get (map entry_of table.now.entries) number) left (spot_of spot.now)) }
 {
     refer(version, table, &spot.position(), left, number)
 }

@@ -22,7 +22,8 @@ impl Problem {
     /// # Errors
     /// `Diagram` and then `Length` where that text is refused, with its refusal.
     pub fn read(diagram: &str, length: &str) -> Result<Problem, RunFault>
-        ensures ok { IfOk result (λ p. (diagram_of (fields diagram.now) ≡ Ok p.diagram) × (length_of length.now ≡ Ok p.length)) }
+        ensures ok { IfOk result (λ p. (diagram_of (fields diagram.now) ≡ Ok p.diagram)
+            × (length_of length.now ≡ Ok p.length)) }
         ensures err { IfErr result (λ e. IsProblemFault diagram.now length.now e) }
     {
         let diagram = match Diagram::read(diagram) {

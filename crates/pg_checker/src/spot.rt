@@ -1,6 +1,6 @@
 //! Where a node stands: at a position, or after a legal move from one.
 ghost use Rattle.std.specs.Prelude.{◌≡◌};
-ghost use Rattle.pg_checker.specs.numbers.Spots.{IsReached, spot_of};
+ghost use Rattle.pg_checker.specs.inner.Spots.{IsReached, spot_of};
 
 use pg_position::{Move, Position};
 

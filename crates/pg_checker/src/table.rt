@@ -27,7 +27,7 @@ impl Model for Table {
     ghost use Rattle.std.specs.Prelude.{◌-◌, ◌≤◌, length, take};
     ghost use Rattle.std.specs.Coded.{codes};
     ghost use Rattle.pg_checker.specs.contracts.table.Entry as entry;
-    ghost use Rattle.pg_checker.specs.numbers.Table.{TableState};
+    ghost use Rattle.pg_checker.specs.inner.Table.{TableState};
 
     ghost Value = { TableState };
 
@@ -76,7 +76,8 @@ impl Table {
 
     // The entry with a number; none where no closed node has it.
     pub(crate) fn get(&self, number: u32) -> Option<&Entry>
-        ensures { MatchOption result (slice_get self.now.entries number ≡ None) (λ e. slice_get self.now.entries number ≡ Some e.now) }
+        ensures { MatchOption result (slice_get self.now.entries number ≡ None)
+            (λ e. slice_get self.now.entries number ≡ Some e.now) }
     {
         let number = number as usize;
         if number < self.closed {

@@ -1,20 +1,20 @@
 //! The walk over the trees of a certificate, with a stack of open nodes.
 ghost use Rattle.std.specs.Prelude.{◌≡◌, ◌||◌, ◌+◌, ◌<◌, ◌≤◌, ◌++◌, suc, true, false, [], ◌∷◌, length, map, reverse, IfSome, MatchOption, OnOk};
 ghost use Rattle.pg_checker.specs.Cuts.{rules_for};
-ghost use Rattle.pg_checker.specs.numbers.Frames.{enter as enter_of, finish, turn_top, Stacked};
+ghost use Rattle.pg_checker.specs.inner.Frames.{enter as enter_of, finish, turn_top, Stacked};
 ghost use Rattle.pg_checker.specs.Whole.{run as run_of};
 ghost use Rattle.pg_position.specs.Array.{array_state};
-ghost use Rattle.pg_checker.specs.numbers.Halting.{causes, stops};
-ghost use Rattle.pg_checker.specs.numbers.Judging.{LeafSays};
-ghost use Rattle.pg_checker.specs.numbers.Machine.{Closes, HasNone, OnTop, Passed, Plays, ReadsVersion, Walks, WalksOn, entered, entries_of, fresh, game_at, named_at, path, stack_at, state_at, work_at};
-ghost use Rattle.pg_checker.specs.numbers.Spots.{IsReached, spot_of};
-ghost use Rattle.pg_checker.specs.numbers.Steps.{FailsRead};
+ghost use Rattle.pg_checker.specs.inner.Halting.{causes, stops};
+ghost use Rattle.pg_checker.specs.inner.Judging.{LeafSays};
+ghost use Rattle.pg_checker.specs.inner.Machine.{Closes, HasNone, OnTop, Passed, Plays, ReadsVersion, Walks, WalksOn, entered, entries_of, fresh, game_at, named_at, path, stack_at, state_at, work_at};
+ghost use Rattle.pg_checker.specs.inner.Spots.{IsReached, spot_of};
+ghost use Rattle.pg_checker.specs.inner.Steps.{FailsRead};
 ghost use Rattle.pg_checker.specs.Tree.{one_if};
 ghost use Rattle.pg_checker.specs.Walk.{leaf as leaf_of, visit};
 
 use crate::halt::{Halt, Reason};
 use crate::machine::{Frame, Machine, Node, Question, game_along};
-use crate::nearness::pass_over;
+use crate::nearness::skip_to_solution;
 use crate::node::head;
 use crate::spot::Spot;
 use crate::table::Entry;
@@ -102,7 +102,8 @@ fn enter<S: Source>(
     requires runs { ReadsVersion question.now.version machine.old.reader }
     requires held { length machine.old.reader.held ≤ 4096 }
     ensures says { Walks machine.old machine.new (S.left source.old) (S.left source.new)
-        (enter_of (rules_for code_of excluded question.now) tree left (game_at machine.old) (spot_of spot.now) (stack_at machine.old))
+        (enter_of (rules_for code_of excluded question.now) tree left (game_at machine.old) (spot_of spot.now)
+        (stack_at machine.old))
         (λ _. work_at (rules_for code_of excluded question.now) machine.new) (stops (game_at machine.new) result) }
     ensures kept { OnOk result (machine.new.table.kept ≡ named_at machine.new) }
     ensures runs { OnOk result (ReadsVersion question.now.version machine.new.reader) }
@@ -138,7 +139,8 @@ fn close(position: &Position, plies: u8, named: bool, found: bool, machine: &mut
     requires few { plies < 128 }
     requires kept { one_if named ≤ machine.old.table.kept }
     ensures entries { entries_of machine.new
-        ≡ entries_of machine.old ++ entered named (record { position = position.now; plies = suc plies; fertile = found }) }
+        ≡ entries_of machine.old ++ entered named
+        (record { position = position.now; plies = suc plies; fertile = found }) }
     ensures kept { machine.new.table.kept + one_if named ≡ machine.old.table.kept }
     ensures found { machine.new.found ≡ found }
     ensures reader { machine.new.reader ≡ machine.old.reader }
@@ -261,7 +263,7 @@ fn is_over(diagram: &Diagram, top: &mut Frame) -> bool
     if top.plies > 0 {
         return false;
     }
-    !pass_over(diagram, &mut top.moves)
+    !skip_to_solution(diagram, &mut top.moves)
 }
 
 // Whether the topmost node is over in that sense.
@@ -290,7 +292,8 @@ fn run<S: Source>(
     requires runs { ReadsVersion question.now.version machine.old.reader }
     requires held { length machine.old.reader.held ≤ 4096 }
     ensures says { Walks machine.old machine.new (S.left source.old) (S.left source.new)
-        (λ s. finish (rules_for code_of excluded question.now) tree (record { frames = stack_at machine.old; found = machine.old.found; state = s }))
+        (λ s. finish (rules_for code_of excluded question.now) tree
+        (record { frames = stack_at machine.old; found = machine.old.found; state = s }))
         (λ _ rest n. (machine.new.found, state_at machine.new rest n)) (stops (game_at machine.new) result) }
     ensures closed { OnOk result (machine.new.frames.items ≡ []) }
     ensures kept { OnOk result (machine.new.table.kept ≡ 0) }

@@ -41,7 +41,8 @@ pub(crate) fn finished<'a, W: Sink + Drop>(
     out: Gathered<W>,
 ) -> Result<u8, Refusal<'a>>
     ensures ok { IfOk result (λ status. MatchResult answer (λ v. status ≡ verdict_status v) (λ _. ⊥)) }
-    ensures err { IfErr result (λ refusal. MatchResult answer (λ _. refusal ≡ Refusal.Check Write) (λ fault. refusal ≡ Refusal.Check fault)) }
+    ensures err { IfErr result (λ refusal. MatchResult answer (λ _. refusal ≡ Refusal.Check Write)
+        (λ fault. refusal ≡ Refusal.Check fault)) }
 {
     match answer {
         Ok(verdict) => match out.finish() {
@@ -67,7 +68,8 @@ pub(crate) fn check_from<'a, R: Runtime + AllocGlobal, C: Read + Drop, W: Write 
     records: u64,
     screen: bool,
 ) -> Result<u8, Refusal<'a>>
-    ensures headline { IfOk result (λ status. AreAnswered asked.now.diagram.now asked.now.length.now asked.now.games.now status) }
+    ensures headline { IfOk result (λ status. AreAnswered asked.now.diagram.now asked.now.length.now
+        asked.now.games.now status) }
 {
     let Ok(games) = str::from_utf8(asked.games) else {
         return Err(Refusal::NotUtf8);

@@ -72,7 +72,8 @@ pub(crate) fn games_from<'a, R: Runtime + AllocGlobal, W: Write + Drop>(
     out: W,
 ) -> Result<u8, Refusal<'a>>
     ensures headline { IfOk result (λ status. status ≡ 1 → AreUnsound asked.now.diagram.now asked.now.length.now) }
-    ensures status { IfOk result (λ status. AreTested asked.now.diagram.now asked.now.length.now asked.now.games.now status) }
+    ensures status { IfOk result (λ status. AreTested asked.now.diagram.now asked.now.length.now asked.now.games.now
+        status) }
 {
     let Ok(games) = str::from_utf8(asked.games) else {
         return Err(Refusal::NotUtf8);
@@ -119,7 +120,8 @@ pub(crate) fn cooks_from<'a, R: Runtime + AllocGlobal, W: Write + Drop>(
     screen: bool,
 ) -> Result<u8, Refusal<'a>>
     ensures headline { IfOk result (λ status. status ≡ 1 → AreUnsound asked.now.diagram.now asked.now.length.now) }
-    ensures status { IfOk result (λ status. AreFollowed asked.now.diagram.now asked.now.length.now asked.now.games.now status) }
+    ensures status { IfOk result (λ status. AreFollowed asked.now.diagram.now asked.now.length.now asked.now.games.now
+        status) }
 {
     let Ok(games) = str::from_utf8(asked.games) else {
         return Err(Refusal::NotUtf8);

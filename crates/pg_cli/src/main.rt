@@ -61,7 +61,8 @@ fn carry_out<'a, R: Runtime + AllocGlobal>(
     bounds: &[Box<dyn Bound>],
     screen: Screen,
 ) -> Result<u8, Refusal<'a>>
-    ensures headline { IfOk result (λ status. (name : Text) (rows : List Row) → IsSubcommand words.now name rows → IsMeant name rows status) }
+    ensures headline { IfOk result (λ status. (name : Text) (rows : List Row) → IsSubcommand words.now name rows
+        → IsMeant name rows status) }
 {
     let Some((name, inner)) = words.subcommand() else {
         return Ok(BAD_INPUT);

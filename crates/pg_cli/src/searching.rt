@@ -174,7 +174,8 @@ where
     R: Runtime + AllocGlobal,
     F: Read + Write + Seek,
     W: Write + Drop,
-    ensures headline { IfOk result (λ status. (games : List (List Move)) × IsAnswered problem.now.diagram problem.now.length games status) }
+    ensures headline { IfOk result (λ status. (games : List (List Move))
+        × IsAnswered problem.now.diagram problem.now.length games status) }
 {
     let Searched { found, met, known } = search_to(rt, problem, &mut *file, nodes, screen)?;
     write_list(problem, &met, &mut *list)?;
@@ -298,7 +299,8 @@ fn search_for<'a, R: Runtime + AllocGlobal>(
     bounds: &[Box<dyn Bound>],
     screen: bool,
 ) -> Result<u8, Refusal<'a>>
-    ensures headline { IfOk result (λ status. (games : List (List Move)) × IsAnswered problem.now.diagram problem.now.length games status) }
+    ensures headline { IfOk result (λ status. (games : List (List Move))
+        × IsAnswered problem.now.diagram problem.now.length games status) }
 {
     let nodes = words.get_one::<u64>("nodes").unwrap_or(NODES);
     let mut drafts = match begin_both(rt, words) {

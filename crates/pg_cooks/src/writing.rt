@@ -52,7 +52,8 @@ pub(crate) fn write_standing<W: Sink>(
 
 // Appends a text, a number, a text and a line feed.
 fn write_numbered<W: Sink>(before: &str, n: usize, behind: &str, out: &mut W) -> Result<(), Refused>
-    ensures text { OnOk result (Appends (W.held out.old) (W.held out.new) (before.now ++ (decimal n ++ line_text behind.now))) }
+    ensures text { OnOk result (Appends (W.held out.old) (W.held out.new)
+        (before.now ++ (decimal n ++ line_text behind.now))) }
     ensures runs { OnOk result ((W.has_failed out.old ≡ false) × (W.has_failed out.new ≡ false)) }
     ensures fault { OnErr result (W.has_failed out.new ≡ true) }
 {
@@ -79,7 +80,8 @@ fn write_unfound<W: Sink>(foreign: Option<u8>, out: &mut W) -> Result<(), Refuse
 // Appends a game that was found, behind the line that says what it is.
 fn write_found<W: Sink>(game: &[Move], out: &mut W) -> Result<(), Refused>
     requires { IsFromArray game.now }
-    ensures text { OnOk result ((text : List ℕ) × IsEndText game.now text × Appends (W.held out.old) (W.held out.new) text) }
+    ensures text { OnOk result ((text : List ℕ) × IsEndText game.now text
+        × Appends (W.held out.old) (W.held out.new) text) }
     ensures runs { OnOk result ((W.has_failed out.old ≡ false) × (W.has_failed out.new ≡ false)) }
     ensures fault { OnErr result (W.has_failed out.new ≡ true) }
 {
@@ -90,7 +92,8 @@ fn write_found<W: Sink>(game: &[Move], out: &mut W) -> Result<(), Refused>
 // Appends the lines of what was found beside games that are known.
 fn write_answer<W: Sink>(answer: &CookAnswer, out: &mut W) -> Result<(), Refused>
     requires { IsTold answer.now }
-    ensures text { OnOk result ((text : List ℕ) × IsAnswerText answer.now text × Appends (W.held out.old) (W.held out.new) text) }
+    ensures text { OnOk result ((text : List ℕ) × IsAnswerText answer.now text
+        × Appends (W.held out.old) (W.held out.new) text) }
     ensures runs { OnOk result ((W.has_failed out.old ≡ false) × (W.has_failed out.new ≡ false)) }
     ensures fault { OnErr result (W.has_failed out.new ≡ true) }
 {

@@ -105,8 +105,10 @@ fn details_in(position: &Position, half: u16, full: u16) -> Details
 pub fn write_position(game: &FenGame) -> ArrayString<93>
     ensures text { result.bytes ≡ position_text game.now }
     ensures read_again { game_parts (fields result.bytes) ≡ Ok (parts_of_game game.now) }
-    ensures read_back { (answer : Result FenGame FenFault) → IsGameRead (game_parts (fields result.bytes)) answer → answer ≡ Ok game.now }
-    ensures alone { (other : FenGame) → IsPosition other.position → other.half < 65536 → other.full < 65536 → position_text other ≡ result.bytes → other ≡ game.now }
+    ensures read_back { (answer : Result FenGame FenFault) → IsGameRead (game_parts (fields result.bytes)) answer
+        → answer ≡ Ok game.now }
+    ensures alone { (other : FenGame) → IsPosition other.position → other.half < 65536 → other.full < 65536
+        → position_text other ≡ result.bytes → other ≡ game.now }
 {
     let mut text = ArrayString::new();
     put_placement(&mut text, &game.position.board());

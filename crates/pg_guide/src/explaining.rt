@@ -200,7 +200,8 @@ fn refuse<W: Sink>(
     is_full: bool,
     out: &mut W,
 ) -> WhyFault
-    ensures { ((result ≡ WhyFault.Run RunFault.Write) × (W.has_failed out.new ≡ true)) ⊎ IsRefusal is_full fault result }
+    ensures { ((result ≡ WhyFault.Run RunFault.Write) × (W.has_failed out.new ≡ true))
+        ⊎ IsRefusal is_full fault result }
 {
     if !is_interrupted(&fault) {
         match tell(question, found, out) {

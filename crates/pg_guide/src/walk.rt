@@ -12,7 +12,7 @@ ghost use Rattle.pg_guide.specs.declared.machine.Question.{Question};
 use crate::machine::{Frame, Machine, Question, Stop, count, count_leaf, game_along, recount};
 use arrayvec::ArrayVec;
 use pg_certificate::{ReadFault, Record, RecordReader, Source};
-use pg_checker::pass_over;
+use pg_checker::skip_to_solution;
 use pg_fen::Diagram;
 use pg_moves::LegalMoves;
 use pg_position::{Move, Position};
@@ -160,7 +160,7 @@ fn leaf(
 fn is_over(diagram: &Diagram, on_line: bool, moves: &mut LegalMoves) -> bool
     ensures { moves.new.position ≡ moves.old.position }
 {
-    !on_line && !pass_over(diagram, moves)
+    !on_line && !skip_to_solution(diagram, moves)
 }
 
 // The next legal move.

@@ -12,7 +12,7 @@ use Rattle.pg_board.specs.lemmas.Equalities.{color_decides}
 use Rattle.pg_board.specs.Bits.{has}
 use Rattle.pg_board.specs.Placement.{Placement, get, without, IsFirst}
 use Rattle.pg_board.specs.lemmas.Placements.{get_on, get-write_same, get-write_other}
-use Rattle.pg_board.specs.numbers.Sets.{Shows, AreWords, IsSound, man_in, shown, shows_itself}
+use Rattle.pg_board.specs.inner.Sets.{Shows, AreWords, IsSound, man_in, shown, shows_itself}
 use Rattle.pg_position.specs.declared.state.State.{State}
 use Rattle.pg_position.specs.Geometry.{IsBetween}
 use Rattle.pg_board.specs.SquareSets.{IsSetOf}

@@ -26,8 +26,8 @@ use Rattle.pg_position.specs.Squares.{home_rank, last_rank}
 use Rattle.pg_position.proofs.StepLemmas.{same_kind}
 use Rattle.pg_board.proofs.SetLemmas.{set_of_union}
 use Rattle.pg_moves.specs.Moves.{promotion_number}
-use Rattle.pg_moves.specs.numbers.Places.{place, place_of, NoneFrom, IsFirstMove, IsCountBelow, Adds}
-use Rattle.pg_moves.specs.numbers.Sources.{IsExact}
+use Rattle.pg_moves.specs.inner.Places.{place, place_of, NoneFrom, IsFirstMove, IsCountBelow, Adds}
+use Rattle.pg_moves.specs.inner.Sources.{IsExact}
 use Rattle.pg_moves.specs.Targets.{plain_move, Strides, Leaps, Advances, CapturesEnPassant, IsFree, FreeOff, IsOrdinary}
 use Rattle.pg_moves.specs.Counts.{IsGameCount}
 use Rattle.pg_moves.proofs.PlaceLemmas.{promotion_low}

@@ -6,11 +6,11 @@ use Rattle.pg_board.specs.Placement.{get}
 use Rattle.pg_position.specs.declared.state.State.{State}
 use Rattle.pg_position.specs.declared.moves.Move.{Move}
 use Rattle.pg_board.specs.SquareSets.{HasNoneFrom, IsFirstFrom}
-use Rattle.pg_moves.specs.Left.{MovesLeft, IsFound, IsAhead}
-use Rattle.pg_moves.specs.numbers.Sources.{IsSource}
-use Rattle.pg_moves.specs.declared.left.Ahead.{Ahead}
+use Rattle.pg_moves.specs.Left.{MovesLeft, IsFound, IsPeeked}
+use Rattle.pg_moves.specs.inner.Sources.{IsSource}
+use Rattle.pg_moves.specs.declared.cursor.Peeked.{Peeked}
 use Rattle.pg_moves.specs.Moves.{promotion_number, IsNext, IsLast}
-use Rattle.pg_moves.specs.numbers.Places.{place, place_of, NoneFrom, IsFirstMove}
+use Rattle.pg_moves.specs.inner.Places.{place, place_of, NoneFrom, IsFirstMove}
 use Rattle.pg_moves.specs.declared.sources.Source.{Source}
 use Rattle.pg_moves.proofs.ListLemmas.{on_board}
 use Rattle.pg_moves.proofs.PlaceLemmas.{promotion_low}
@@ -55,11 +55,11 @@ module _ (p : State) (last : Move) (from : last.from < 64) (to : last.to < 64) (
   next_over none rest = next_none p (Some last) (from, to) (none_then p (place last + 1) next next 28672 (none_then p (place last + 1) (place last + 1) low next (none_yet p _ _ (omega arith)) (subst (λ n. NoneFrom p low n) (sym beyond) none) (omega arith)) rest (omega arith))
 
 -- ---- the answer, by what is seen of the moves
-ahead_here : (p : State) (l last : Option Move) (r : Option Ahead) → l ≡ last
-    → MatchOption r (IsLast p last) (λ a. IsNext p last a.m × IsAhead p a) → MatchOption r (IsLast p l) (λ a. IsNext p l a.m × IsAhead p a)
-ahead_here p l last r e h = subst (λ (x : Option Move). MatchOption r (IsLast p x) (λ a. IsNext p x a.m × IsAhead p a)) (sym e) h
+ahead_here : (p : State) (l last : Option Move) (r : Option Peeked) → l ≡ last
+    → MatchOption r (IsLast p last) (λ a. IsNext p last a.m × IsPeeked p a) → MatchOption r (IsLast p l) (λ a. IsNext p l a.m × IsPeeked p a)
+ahead_here p l last r e h = subst (λ (x : Option Move). MatchOption r (IsLast p x) (λ a. IsNext p x a.m × IsPeeked p a)) (sym e) h
 
-pub ahead_of : (q : MovesLeft) (p : State) (l last : Option Move) (r : Option Ahead) → record { position = p; last = l } ≡ q → l ≡ last
-    → MatchOption r (IsLast p last) (λ a. IsNext p last a.m × IsAhead p a)
-    → MatchOption r (IsLast q.position q.last) (λ a. IsNext q.position q.last a.m × IsAhead q.position a)
-ahead_of q p l last r is e h = subst (λ (v : MovesLeft). MatchOption r (IsLast v.position v.last) (λ a. IsNext v.position v.last a.m × IsAhead v.position a)) is (ahead_here p l last r e h)
+pub ahead_of : (q : MovesLeft) (p : State) (l last : Option Move) (r : Option Peeked) → record { position = p; last = l } ≡ q → l ≡ last
+    → MatchOption r (IsLast p last) (λ a. IsNext p last a.m × IsPeeked p a)
+    → MatchOption r (IsLast q.position q.last) (λ a. IsNext q.position q.last a.m × IsPeeked q.position a)
+ahead_of q p l last r is e h = subst (λ (v : MovesLeft). MatchOption r (IsLast v.position v.last) (λ a. IsNext v.position v.last a.m × IsPeeked v.position a)) is (ahead_here p l last r e h)

@@ -9,7 +9,7 @@ use Rattle.pg_position.specs.declared.state.State.{State}
 use Rattle.pg_position.specs.declared.moves.Move.{Move}
 use Rattle.pg_position.specs.Step.{IsLegal, IsOnBoard, Step}
 use Rattle.pg_moves.specs.Moves.{move_cmp, IsMoveList}
-use Rattle.pg_moves.specs.numbers.Places.{place, NoneFrom, IsFirstMove, IsListBelow}
+use Rattle.pg_moves.specs.inner.Places.{place, NoneFrom, IsFirstMove, IsListBelow}
 use Rattle.pg_moves.proofs.SortLemmas.{Contains-head, Contains-later, Contains-cons, Contains-none, sorted_push, sorted_none, sorted_same}
 use Rattle.pg_moves.proofs.PlaceLemmas.{move_cmp_total, place_less, same_place, place_low, moves_below, all_moves, all_ascend, all_have}
 use Rattle.pg_moves.proofs.DecisionLemmas.{dec_legal}

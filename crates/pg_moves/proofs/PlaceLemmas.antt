@@ -15,7 +15,7 @@ use Rattle.pg_board.specs.declared.man.Kind.TheVariants.{Pawn, Knight, Bishop, R
 use Rattle.pg_position.specs.declared.moves.Move.{Move}
 use Rattle.pg_position.specs.Step.{IsOnBoard}
 use Rattle.pg_moves.specs.Moves.{promotion_number, move_cmp}
-use Rattle.pg_moves.specs.numbers.Places.{place}
+use Rattle.pg_moves.specs.inner.Places.{place}
 use Rattle.pg_moves.proofs.SortLemmas.{sorted_push, sorted_none, Contains-none}
 
 pub move_cmp_total : IsTotalOrder move_cmp

@@ -22,11 +22,11 @@ use Rattle.pg_position.specs.Step.{IsEnemy, Goes}
 use Rattle.pg_position.specs.Squares.{ahead, home_rank}
 use Rattle.pg_position.proofs.LineLemmas.{pawn_near}
 use Rattle.pg_board.proofs.SetLemmas.{set_of_rest, set_none}
-use Rattle.pg_moves.specs.numbers.Places.{place_of, NoneFrom, IsCountBelow, Adds}
+use Rattle.pg_moves.specs.inner.Places.{place_of, NoneFrom, IsCountBelow, Adds}
 use Rattle.pg_moves.specs.Counts.{IsGameCount}
 use Rattle.pg_moves.specs.Targets.{IsOwn, Advances, Strides, Leaps, CapturesEnPassant, FreeOff}
 use Rattle.pg_moves.specs.declared.pawns.PawnWays.{PawnWays}
-use Rattle.pg_moves.specs.numbers.Pawns.{forward, IsInside, AreWays, IsQuiet, to_left, to_right, moves_from}
+use Rattle.pg_moves.specs.inner.Pawns.{forward, IsInside, AreWays, IsQuiet, to_left, to_right, moves_from}
 use Rattle.pg_moves.proofs.ShiftLemmas.{itself, total_add}
 use Rattle.pg_moves.proofs.TargetLemmas.{own_set}
 use Rattle.pg_moves.proofs.SearchLemmas.{own_gap}

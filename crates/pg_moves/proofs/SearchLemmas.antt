@@ -23,7 +23,7 @@ use Rattle.pg_position.proofs.StepLemmas.{same_kind}
 use Rattle.pg_board.specs.SquareSets.{HasNoneFrom, IsFirstFrom}
 use Rattle.pg_moves.proofs.TargetLemmas.{own_set}
 use Rattle.pg_moves.specs.Moves.{promotion_number, move_cmp, IsPast, IsNext, IsLast}
-use Rattle.pg_moves.specs.numbers.Places.{place_of, start_after, place, NoneFrom, IsFirstMove, IsListBelow}
+use Rattle.pg_moves.specs.inner.Places.{place_of, start_after, place, NoneFrom, IsFirstMove, IsListBelow}
 use Rattle.pg_moves.specs.Targets.{IsOwn, Covers}
 use Rattle.pg_moves.proofs.PlaceLemmas.{move_cmp_total, promotion_low, place_less, same_place, place_low}
 use Rattle.pg_moves.proofs.ListLemmas.{on_board}

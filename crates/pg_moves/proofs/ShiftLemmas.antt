@@ -18,7 +18,7 @@ use Rattle.pg_position.specs.Step.{IsEnemy}
 use Rattle.pg_position.specs.Squares.{home_rank}
 use Rattle.pg_board.proofs.SetLemmas.{and_true, set_like, set_of_both, set_of_rest}
 use Rattle.pg_moves.specs.declared.pawns.PawnWays.{PawnWays}
-use Rattle.pg_moves.specs.numbers.Pawns.{forward, IsInside, AreInside, moves_from}
+use Rattle.pg_moves.specs.inner.Pawns.{forward, IsInside, AreInside, moves_from}
 use Rattle.pg_moves.proofs.TargetLemmas.{enemy_set, held_set}
 
 -- ---- shifts

@@ -20,7 +20,7 @@ use Rattle.pg_position.specs.Squares.{king_home, rook_home}
 use Rattle.pg_position.specs.Step.{IsLegal, Goes, IsWay, IsCastling, Step}
 use Rattle.pg_position.proofs.StepLemmas.{same_kind}
 use Rattle.pg_board.proofs.SetLemmas.{set_of_union, set_of_rest}
-use Rattle.pg_moves.specs.numbers.Sources.{IsExact}
+use Rattle.pg_moves.specs.inner.Sources.{IsExact}
 use Rattle.pg_moves.specs.Targets.{plain_move, Strides, Advances}
 use Rattle.pg_moves.proofs.TargetLemmas.{not_own}
 use Rattle.pg_moves.proofs.SearchLemmas.{promotes}

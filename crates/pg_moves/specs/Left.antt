@@ -5,10 +5,10 @@ use Rattle.pg_position.specs.declared.state.State.{State}
 use Rattle.pg_position.specs.declared.moves.Move.{Move}
 use Rattle.pg_position.specs.contracts.state.State.{the_row as state_row}
 use Rattle.pg_position.specs.contracts.moves.Move.{the_row as move_row}
-use Rattle.pg_moves.specs.numbers.Places.{most_moves, IsFirstMove}
-use Rattle.pg_moves.specs.numbers.Sources.{IsSource}
+use Rattle.pg_moves.specs.inner.Places.{most_moves, IsFirstMove}
+use Rattle.pg_moves.specs.inner.Sources.{IsSource}
 use Rattle.pg_moves.specs.Targets.{FreeOff}
-use Rattle.pg_moves.specs.declared.left.Ahead.{Ahead}
+use Rattle.pg_moves.specs.declared.cursor.Peeked.{Peeked}
 use Rattle.pg_moves.specs.declared.sources.Source.{Source}
 
 -- a position, and the move that was handed out last
@@ -30,5 +30,5 @@ IsReady p None maybe_pinned s = Unit {0}
 IsReady p (Some m) maybe_pinned s = FreeOff p maybe_pinned × IsSource p m.from s
 
 -- what was found for a move ahead holds past it
-unfoldable pub IsAhead : State → Ahead → Type 0
-IsAhead p a = FreeOff p a.maybe_pinned × IsSource p a.m.from a.source
+unfoldable pub IsPeeked : State → Peeked → Type 0
+IsPeeked p a = FreeOff p a.maybe_pinned × IsSource p a.m.from a.source

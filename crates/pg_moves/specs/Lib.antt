@@ -2,4 +2,4 @@ pub mod Moves
 pub mod Targets
 pub mod Left
 pub mod Counts
-pub mod numbers
+pub mod inner

@@ -6,7 +6,7 @@ ghost use Rattle.pg_moves.specs.Counts.{IsGameCount, IsCountFault};
 use crate::fault::CountFault;
 use crate::generate::legal_moves;
 use crate::leaves::count_moves;
-use crate::progress::{Progress, Unwatched};
+use crate::progress::{CountProgress, Unwatched};
 use pg_position::{Move, Position};
 use std::alloc::{AllocError, Global};
 
@@ -21,7 +21,7 @@ fn listed(alloc: Global, position: &Position) -> Result<Vec<Move>, CountFault>
 }
 
 // Tells of the games below a move, where they take a while to count.
-fn tell<P: Progress>(plies: u8, games: u64, watch: &mut P) {
+fn tell<P: CountProgress>(plies: u8, games: u64, watch: &mut P) {
     if plies > 3 {
         watch.counted(games);
     }
@@ -30,7 +30,7 @@ fn tell<P: Progress>(plies: u8, games: u64, watch: &mut P) {
 // The games of so many plies, 8 at most.
 #[cycle(count)]
 #[inline(always)]
-fn count_from<P: Progress>(
+fn count_from<P: CountProgress>(
     alloc: Global,
     position: &Position,
     plies: u8,
@@ -50,7 +50,7 @@ fn count_from<P: Progress>(
 
 // The games of so many plies, 2 to 8, summed over a list of the moves.
 #[cycle(count)]
-fn count_listed<P: Progress>(
+fn count_listed<P: CountProgress>(
     alloc: Global,
     position: &Position,
     plies: u8,
@@ -101,7 +101,7 @@ pub fn count(alloc: Global, position: &Position, plies: u8) -> Result<u64, Count
 ///
 /// # Errors
 /// As for `count`.
-pub fn count_watched<P: Progress>(
+pub fn count_watched<P: CountProgress>(
     alloc: Global,
     position: &Position,
     plies: u8,

@@ -4,10 +4,10 @@ ghost use Rattle.pg_moves.specs.Moves.{IsMoveList, IsNext, IsLast};
 ghost use Rattle.pg_position.specs.declared.moves.Move.{Move};
 ghost use Rattle.pg_position.specs.Step.{IsLegal};
 
-use crate::left::LegalMoves;
+use crate::cursor::LegalMoves;
+use crate::pins::maybe_pinned;
 use crate::places::promotion_number;
 use crate::search::first_move;
-use crate::trials::maybe_pinned;
 use pg_position::{Move, Position};
 use std::alloc::{AllocError, Global};
 

@@ -4,7 +4,7 @@ ghost use Rattle.pg_board.specs.Bits.{has};
 ghost use Rattle.pg_position.specs.Position.{Stands};
 ghost use Rattle.pg_position.specs.Step.{IsLegal};
 ghost use Rattle.pg_board.specs.SquareSets.{IsSetOf};
-ghost use Rattle.pg_moves.specs.numbers.Sources.{IsExact};
+ghost use Rattle.pg_moves.specs.inner.Sources.{IsExact};
 ghost use Rattle.pg_moves.specs.Targets.{Advances, plain_move};
 
 use crate::targets::advances;

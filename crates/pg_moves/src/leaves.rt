@@ -1,15 +1,15 @@
 //! How many legal moves a position has, without a trial of those that cannot leave the king attacked.
 ghost use Rattle.std.specs.Prelude.{◌≡◌, ◌≢◌, ℕ, ◌+◌, ◌*◌, ◌<◌, ◌≤◌, IsFalse, Some};
 ghost use Rattle.pg_position.specs.Position.{Stands};
-ghost use Rattle.pg_moves.specs.numbers.Places.{most_of_a_man, place_of, Adds};
+ghost use Rattle.pg_moves.specs.inner.Places.{most_of_a_man, place_of, Adds};
 ghost use Rattle.pg_moves.specs.Targets.{IsOwn, Covers, FreeOff};
 ghost use Rattle.pg_moves.specs.Counts.{IsGameCount};
 
 use crate::pawns::{pawn_ways, quiet_pawns};
+use crate::pins::maybe_pinned;
 use crate::places::promotion_number;
 use crate::search::first_of_man;
 use crate::sources::source_to_count;
-use crate::trials::maybe_pinned;
 use pg_board::{Board, Kind, Square, SquareSet};
 use pg_position::Position;
 
@@ -32,7 +32,7 @@ fn walked(position: &Position, kind: Kind, from: Square, set: SquareSet) -> u64
 }
 
 // How many legal moves the man of the side to move on a square has.
-#[tactic(auto, unfolding(crate::specs::numbers::Sources::IsSource))]
+#[tactic(auto, unfolding(crate::specs::inner::Sources::IsSource))]
 fn count_of_square(position: &Position, board: &Board, maybe_pinned: SquareSet, from: Square) -> u64
     requires same { board.now ≡ position.now.board }
     requires free { FreeOff position.now maybe_pinned }

@@ -2,23 +2,23 @@
 #![tactic(auto)]
 
 mod counting;
+mod cursor;
 mod fault;
 mod generate;
 mod kings;
 mod laws;
 mod leaves;
-mod left;
 mod pawns;
+mod pins;
 mod places;
 mod progress;
 mod search;
 mod sources;
 mod targets;
-mod trials;
 
 pub use counting::{count, count_watched};
+pub use cursor::{LegalMoves, Peeked};
 pub use fault::CountFault;
 pub use generate::{legal_moves, next_legal};
 pub use laws::{moves_and_play_are_functions, next_in_list, one_game_count, one_move_list};
-pub use left::{Ahead, LegalMoves};
-pub use progress::{Progress, Unwatched};
+pub use progress::{CountProgress, Unwatched};

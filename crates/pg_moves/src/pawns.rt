@@ -9,7 +9,7 @@ ghost use Rattle.pg_position.specs.Position.{IsVacant};
 ghost use Rattle.pg_board.specs.SquareSets.{IsSetOf};
 ghost use Rattle.pg_position.specs.Step.{IsEnemy};
 ghost use Rattle.pg_position.specs.Squares.{home_rank};
-ghost use Rattle.pg_moves.specs.numbers.Pawns.{forward, IsInside, AreInside, AreWays, IsQuiet, moves_from, one_rank, two_ranks, to_left, to_right};
+ghost use Rattle.pg_moves.specs.inner.Pawns.{forward, IsInside, AreInside, AreWays, IsQuiet, moves_from, one_rank, two_ranks, to_left, to_right};
 ghost use Rattle.pg_moves.specs.Targets.{FreeOff, CapturesEnPassant};
 
 use pg_board::{Board, Color, Kind, Man, SquareSet};
@@ -80,7 +80,8 @@ fn going_once(board: &Board, color: Color, pawns: SquareSet) -> SquareSet
 // From where pawns that go one square forward may go two.
 fn going_twice(board: &Board, color: Color, once: SquareSet) -> SquareSet
     requires { AreInside color once }
-    ensures { IsSetOf result (λ q. ((has once q ≡ true) × (rank q ≡ home_rank color)) × IsVacant board.now (forward color two_ranks q)) }
+    ensures { IsSetOf result (λ q. ((has once q ≡ true) × (rank q ≡ home_rank color))
+        × IsVacant board.now (forward color two_ranks q)) }
 {
     (once & home(color)) & seen_ahead(empty_squares(board), color, 2 * RANK)
 }

@@ -1,7 +1,7 @@
 //! Who is told how far a long run is.
 
 /// Is told how far a count is. Nothing that it does changes the number.
-pub trait Progress {
+pub trait CountProgress {
     /// So many games more are counted.
     fn counted(&mut self, games: u64);
 }
@@ -10,6 +10,6 @@ pub trait Progress {
 #[derive(Clone, Copy, Debug, PartialEq, Eq)]
 pub struct Unwatched;
 
-impl Progress for Unwatched {
+impl CountProgress for Unwatched {
     fn counted(&mut self, _games: u64) {}
 }

@@ -2,8 +2,8 @@
 ghost use Rattle.std.specs.Prelude.{◌≡◌, ◌≢◌, ℕ, ◌+◌, ◌*◌, ◌<◌, ◌≤◌, ◌↔◌, IsTrue, MatchOption};
 ghost use Rattle.pg_position.specs.Position.{Stands};
 ghost use Rattle.pg_position.specs.Step.{IsLegal};
-ghost use Rattle.pg_moves.specs.numbers.Places.{most_moves, place, place_of, NoneFrom, IsNextWithin};
-ghost use Rattle.pg_moves.specs.numbers.Sources.{IsExact};
+ghost use Rattle.pg_moves.specs.inner.Places.{most_moves, place, place_of, NoneFrom, IsNextWithin};
+ghost use Rattle.pg_moves.specs.inner.Sources.{IsExact};
 ghost use Rattle.pg_moves.specs.Targets.{IsOwn, Covers, FreeOff};
 
 use crate::places::{next_square, promotion_at, resume_at};

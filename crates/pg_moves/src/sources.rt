@@ -1,14 +1,14 @@
 //! The men of the side to move, and where each goes.
 ghost use Rattle.std.specs.Prelude.{◌≡◌, ◌<◌, ◌≤◌, ◌+◌};
 ghost use Rattle.pg_position.specs.Position.{Stands};
-ghost use Rattle.pg_moves.specs.numbers.Places.{place_of, IsNextWithin};
-ghost use Rattle.pg_moves.specs.numbers.Sources.{IsSource};
+ghost use Rattle.pg_moves.specs.inner.Places.{place_of, IsNextWithin};
+ghost use Rattle.pg_moves.specs.inner.Sources.{IsSource};
 ghost use Rattle.pg_moves.specs.Targets.{IsOwn, FreeOff};
 
 use crate::kings::king_targets;
+use crate::pins::must_try;
 use crate::search::{first_of_exact, first_of_man};
 use crate::targets::{advances, targets};
-use crate::trials::must_try;
 use pg_board::{Board, Color, Kind, Square, SquareSet};
 use pg_position::{Move, Position};
 
@@ -24,7 +24,7 @@ pub(crate) struct Source {
 // The man of the side to move, of this colour and kind, on a square. Where a caller's loop reads the
 // colour off each man, LLVM cannot work out ahead of the loop what only a pawn needs of it.
 #[inline(always)]
-#[tactic(auto, unfolding(crate::specs::numbers::Sources::IsSource))]
+#[tactic(auto, unfolding(crate::specs::inner::Sources::IsSource))]
 fn source_of(
     position: &Position,
     board: &Board,
@@ -139,7 +139,7 @@ pub(crate) fn source_to_count(
 
 // The first legal move of a man, from this target and promotion on.
 #[inline(always)]
-#[tactic(auto, unfolding(crate::specs::numbers::Sources::IsSource))]
+#[tactic(auto, unfolding(crate::specs::inner::Sources::IsSource))]
 pub(crate) fn first_of_source(
     position: &Position,
     from: Square,

@@ -43,7 +43,8 @@ fn piece_strides(board: &Board, color: Color, kind: Kind, from: Square) -> Squar
 // Whether a pawn stands at home with two empty squares in front of it.
 fn can_leap(board: &Board, color: Color, from: Square) -> bool
     ensures { IsTrue result ↔
-        ((rank from ≡ home_rank color) × IsVacant board.now (ahead color 1 from) × IsVacant board.now (ahead color 2 from)) }
+        ((rank from ≡ home_rank color) × IsVacant board.now (ahead color 1 from)
+        × IsVacant board.now (ahead color 2 from)) }
 {
     from.rank() == home_rank(color)
         && is_vacant(board, ahead(color, 1, from))

@@ -7,7 +7,7 @@ ghost use Rattle.pg_page.specs.Telling.{StopsTruly};
 use crate::lines::{MoveText, move_text, write_escaped, write_number};
 use arrayvec::ArrayVec;
 use pg_certificate::{ReadFault, Record, RecordReader, Refused, Sink, Source};
-use pg_checker::pass_over;
+use pg_checker::skip_to_solution;
 use pg_fen::Diagram;
 use pg_moves::LegalMoves;
 use pg_position::{Move, Position};
@@ -283,7 +283,7 @@ fn write_leaf<W: Sink>(
 fn is_over(diagram: &Diagram, is_told: bool, moves: &mut LegalMoves) -> bool
     ensures { moves.new.position ≡ moves.old.position }
 {
-    !is_told && !pass_over(diagram, moves)
+    !is_told && !skip_to_solution(diagram, moves)
 }
 
 // The next legal move.

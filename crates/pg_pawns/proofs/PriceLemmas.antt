@@ -18,7 +18,7 @@ use Rattle.pg_captures.specs.Owed.{victims}
 use Rattle.pg_captures.specs.lemmas.OwedLemmas.{owed_below_less}
 use Rattle.pg_captures.specs.PriceLists.{PriceList, price, IsFor}
 use Rattle.pg_pawns.specs.PawnPrices.{IsShift, PawnPricesFit, PawnPricesExclude}
-use Rattle.pg_pawns.specs.numbers.PriceTests.{IsAhead, PairFits, SourceFits, AllFit}
+use Rattle.pg_pawns.specs.inner.PriceTests.{IsAhead, PairFits, SourceFits, AllFit}
 
 -- ---- a pair
 yes_pair : (c : Color) (s u t v : ℕ) → PairFits c s u t v → IsTrue true ↔ PairFits c s u t v

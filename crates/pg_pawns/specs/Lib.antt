@@ -3,4 +3,4 @@ pub mod Decided
 pub mod PawnPrices
 pub mod PricesDecided
 pub mod lemmas
-pub mod numbers
+pub mod inner

@@ -4,7 +4,7 @@ ghost use Rattle.pg_position.specs.Game.{Barren};
 ghost use Rattle.pg_captures.specs.Counting.{any_pawn};
 ghost use Rattle.pg_captures.specs.PriceLists.{IsPriced, list_of};
 ghost use Rattle.pg_pawns.specs.PawnPrices.{PawnPricesExclude};
-ghost use Rattle.pg_pawns.specs.numbers.PriceTests.{IsAhead, PairFits, SourceFits, AllFit};
+ghost use Rattle.pg_pawns.specs.inner.PriceTests.{IsAhead, PairFits, SourceFits, AllFit};
 
 use pg_board::{Board, Color, Kind, Man, Square};
 use pg_captures::{pawns, price_sum, victims_of};

@@ -7,7 +7,7 @@ use Rattle.pg_board.specs.declared.sets.Sets.{Sets}
 use Rattle.pg_board.specs.Bits.{has, bits_below, bits_below-lt, has-bits_below}
 use Rattle.pg_board.specs.Men.{is_kind, is_of}
 use Rattle.pg_board.specs.Placement.{Placement, get}
-use Rattle.pg_board.specs.numbers.Sets.{man_in, Shows, shown, shows_itself, IsSound}
+use Rattle.pg_board.specs.inner.Sets.{man_in, Shows, shown, shows_itself, IsSound}
 use Rattle.pg_position.specs.Array.{first_man, array_board}
 use Rattle.pg_position.proofs.ArrayLemmas.{array_from}
 

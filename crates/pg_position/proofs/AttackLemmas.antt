@@ -15,10 +15,10 @@ use Rattle.pg_board.specs.lemmas.Placements.{get_on}
 use Rattle.pg_position.specs.declared.direction.Direction.{Direction}
 use Rattle.pg_position.specs.declared.direction.Direction.TheVariants.{North, NorthEast, East, SouthEast, South, SouthWest, West, NorthWest}
 use Rattle.pg_position.specs.Geometry.{InPattern, IsBetween}
-use Rattle.pg_position.specs.numbers.Rays.{OnRay, OnFileOrRank, OnDiagonal, IsIn, ascends, is_straight, slides}
+use Rattle.pg_position.specs.inner.Rays.{OnRay, OnFileOrRank, OnDiagonal, IsIn, ascends, is_straight, slides}
 use Rattle.pg_board.specs.SquareSets.{IsSetOf, Meet, HasNoneFrom, IsFirstFrom, IsLastIn}
 use Rattle.pg_position.specs.Attack.{IsClear, Attacks, AttacksFrom}
-use Rattle.pg_position.specs.numbers.Lines.{AttackedBy, AttackedAlong, IsBlocked, IsFree, ByStep, Straight, Diagonal}
+use Rattle.pg_position.specs.inner.Lines.{AttackedBy, AttackedAlong, IsBlocked, IsFree, ByStep, Straight, Diagonal}
 use Rattle.pg_board.proofs.SetLemmas.{and_true, second}
 use Rattle.pg_position.proofs.LineLemmas.{between_forth, between_back, slide_pattern, bishop_ray, rook_ray, queen_ray, pawn_near, knight_near, king_near}
 

@@ -22,7 +22,7 @@ use Rattle.pg_position.specs.Position.{holds}
 use Rattle.pg_board.specs.SquareSets.{IsSetOf, Meet}
 use Rattle.pg_position.specs.Step.{IsCastling, touches, rights_after}
 use Rattle.pg_position.specs.Squares.{king_home, rook_home, king_target, IsCastlingHome}
-use Rattle.pg_position.specs.numbers.Castling.{IsOpen, IsSafe, IsSafeTo}
+use Rattle.pg_position.specs.inner.Castling.{IsOpen, IsSafe, IsSafeTo}
 use Rattle.pg_position.proofs.AttackLemmas.{not_held}
 use Rattle.pg_board.proofs.SetLemmas.{set_of_union, set_like}
 

@@ -8,7 +8,7 @@ use Rattle.pg_board.specs.Squares.{file, rank}
 use Rattle.pg_position.specs.declared.direction.Direction.{Direction}
 use Rattle.pg_position.specs.declared.direction.Direction.TheVariants.{North, NorthEast, East, SouthEast, South, SouthWest, West, NorthWest}
 use Rattle.pg_position.specs.Geometry.{OnOneLine, OnOneDiagonal, InPattern, IsWithin, IsBetween}
-use Rattle.pg_position.specs.numbers.Rays.{OnRay, Before, is_straight, slides}
+use Rattle.pg_position.specs.inner.Rays.{OnRay, Before, is_straight, slides}
 
 -- lines and diagonals are rays
 pub straight_pattern : (d : Direction) (s r : ℕ) → is_straight d ≡ true → OnRay d s r → (r ≢ s) × OnOneLine r s

@@ -9,7 +9,7 @@ use Rattle.pg_board.specs.Squares.{file, rank}
 use Rattle.pg_position.specs.declared.direction.Direction.{Direction}
 use Rattle.pg_position.specs.declared.direction.Direction.TheVariants.{North, NorthEast, East, SouthEast, South, SouthWest, West, NorthWest}
 use Rattle.pg_position.specs.Geometry.{apart, InPattern}
-use Rattle.pg_position.specs.numbers.Rays.{OnRay, OnFileOrRank, OnDiagonal}
+use Rattle.pg_position.specs.inner.Rays.{OnRay, OnFileOrRank, OnDiagonal}
 
 unfoldable pub knight_test : ℕ → ℕ → Bool
 knight_test r s = (eqb (apart (file r) (file s)) 1 && eqb (apart (rank r) (rank s)) 2) || (eqb (apart (file r) (file s)) 2 && eqb (apart (rank r) (rank s)) 1)

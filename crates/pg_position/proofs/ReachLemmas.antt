@@ -9,11 +9,11 @@ use Rattle.pg_board.specs.lemmas.Placements.{get-empty}
 use Rattle.pg_position.specs.declared.direction.Direction.{Direction}
 use Rattle.pg_position.specs.declared.direction.Direction.TheVariants.{North, NorthEast, East, SouthEast, South, SouthWest, West, NorthWest}
 use Rattle.pg_position.specs.Geometry.{OnOneLine, InPattern, IsBetween}
-use Rattle.pg_position.specs.numbers.Rays.{OnRay, Before, IsIn, ascends, slides, is_straight}
+use Rattle.pg_position.specs.inner.Rays.{OnRay, Before, IsIn, ascends, slides, is_straight}
 use Rattle.pg_board.specs.SquareSets.{IsSetOf}
 use Rattle.pg_board.proofs.SetLemmas.{set_like, set_of_rest}
 use Rattle.pg_position.specs.Attack.{IsClear, Reaches}
-use Rattle.pg_position.specs.numbers.Lines.{IsBlocked, IsFree, ReachesAlong, ReachesStraight, ReachesDiagonal}
+use Rattle.pg_position.specs.inner.Lines.{IsBlocked, IsFree, ReachesAlong, ReachesStraight, ReachesDiagonal}
 use Rattle.pg_position.proofs.LineLemmas.{between_forth, between_back, slide_pattern, bishop_ray, rook_ray, queen_ray, pawn_near, knight_near, king_near}
 use Rattle.pg_position.proofs.AttackLemmas.{not_held, held_on}
 

@@ -11,7 +11,7 @@ use Rattle.pg_position.specs.declared.ray_tables.TheConstants.{RAYS, STRAIGHT, D
 use Rattle.pg_position.specs.declared.direction.Direction.{Direction}
 use Rattle.pg_position.specs.declared.direction.Direction.TheVariants.{North, NorthEast, East, SouthEast, South, SouthWest, West, NorthWest}
 use Rattle.pg_position.specs.Geometry.{InPattern}
-use Rattle.pg_position.specs.numbers.Rays.{OnRay, OnFileOrRank, OnDiagonal, direction_number}
+use Rattle.pg_position.specs.inner.Rays.{OnRay, OnFileOrRank, OnDiagonal, direction_number}
 use Rattle.pg_board.specs.SquareSets.{IsSetOf}
 use Rattle.pg_position.proofs.PatternTests.{knight_test, king_test, pawn_test, ray_test, straight_test, diagonal_test, knight_decides, king_decides, pawn_decides, ray_decides, straight_decides, diagonal_decides}
 

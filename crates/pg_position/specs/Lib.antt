@@ -9,4 +9,4 @@ pub mod Future
 pub mod Equality
 pub mod Order
 pub mod lemmas
-pub mod numbers
+pub mod inner

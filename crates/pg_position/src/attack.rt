@@ -2,10 +2,10 @@
 ghost use Rattle.std.specs.Prelude.{◌≡◌, ℕ, ◌<◌, ◌↔◌, IsTrue, ◌⊎◌, MatchOption, Some, None};
 ghost use Rattle.pg_board.specs.Men.{man};
 ghost use Rattle.pg_board.specs.Placement.{get};
-ghost use Rattle.pg_position.specs.numbers.Rays.{OnRay};
+ghost use Rattle.pg_position.specs.inner.Rays.{OnRay};
 ghost use Rattle.pg_position.specs.Attack.{Attacks};
 ghost use Rattle.pg_board.specs.SquareSets.{IsSetOf};
-ghost use Rattle.pg_position.specs.numbers.Lines.{AttackedBy, AttackedAlong, IsBlocked, ByStep, Straight, Diagonal};
+ghost use Rattle.pg_position.specs.inner.Lines.{AttackedBy, AttackedAlong, IsBlocked, ByStep, Straight, Diagonal};
 
 use crate::direction::Direction;
 use crate::masks::{diagonal_lines, king_mask, knight_mask, pawn_mask, ray, straight_lines};
@@ -13,7 +13,8 @@ use pg_board::{Board, Color, Kind, Man, Square, SquareSet};
 
 // The first square in a direction with a man; none where the ray is empty up to the edge.
 pub(crate) fn blocker(board: &Board, direction: Direction, square: Square) -> Option<Square>
-    ensures { MatchOption result ((t : ℕ) → t < 64 → OnRay direction square t → get board.now t ≡ None) (λ x. IsBlocked board.now direction square x) }
+    ensures { MatchOption result ((t : ℕ) → t < 64 → OnRay direction square t → get board.now t ≡ None)
+        (λ x. IsBlocked board.now direction square x) }
 {
     let blockers = ray(direction, square) & board.occupied();
     if direction.ascends() {
@@ -69,7 +70,8 @@ fn attacked_by_step(board: &Board, square: Square, by: Color) -> bool
 
 // The men of the colour that are of the kind or queens.
 fn sliders(board: &Board, by: Color, kind: Kind) -> SquareSet
-    ensures { IsSetOf result (λ q. (get board.now q ≡ Some (man by kind)) ⊎ (get board.now q ≡ Some (man by Kind.Queen))) }
+    ensures { IsSetOf result (λ q. (get board.now q ≡ Some (man by kind))
+        ⊎ (get board.now q ≡ Some (man by Kind.Queen))) }
 {
     board.squares_of(Man::new(by, kind)) | board.squares_of(Man::new(by, Kind::Queen))
 }
@@ -101,7 +103,8 @@ fn attacked_diagonal(board: &Board, square: Square, by: Color) -> bool
 }
 
 fn attacked_by_any(board: &Board, square: Square, by: Color) -> bool
-    ensures { IsTrue result ↔ (ByStep board.now by square ⊎ Straight board.now by square ⊎ Diagonal board.now by square) }
+    ensures { IsTrue result ↔ (ByStep board.now by square ⊎ Straight board.now by square
+        ⊎ Diagonal board.now by square) }
 {
     attacked_by_step(board, square, by)
         || attacked_straight(board, square, by)

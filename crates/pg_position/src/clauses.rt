@@ -44,7 +44,8 @@ pub(crate) fn is_inner(square: Square) -> bool
 }
 
 pub(crate) fn has_no_pawn_at_end(board: &Board, square: Square) -> bool
-    ensures { IsTrue result ↔ ((c : Color) → Stands board.now c Kind.Pawn square → (rank square ≢ 1) × (rank square ≢ 8)) }
+    ensures { IsTrue result ↔ ((c : Color) → Stands board.now c Kind.Pawn square
+        → (rank square ≢ 1) × (rank square ≢ 8)) }
 {
     match board.get(square) {
         Some(man) => match man.kind {

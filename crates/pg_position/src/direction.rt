@@ -1,6 +1,6 @@
 //! The eight directions in which men move along lines.
 ghost use Rattle.std.specs.Prelude.{◌≡◌, ◌↔◌, ◌⊎◌, true, false};
-ghost use Rattle.pg_position.specs.numbers.Rays.{direction_number, is_straight, ascends, slides};
+ghost use Rattle.pg_position.specs.inner.Rays.{direction_number, is_straight, ascends, slides};
 
 use pg_board::Kind;
 

@@ -20,6 +20,7 @@ pub fn legal_leads_to_one_position()
 /// Two positions with the same future have the same games, and each game ends on the same placement
 /// from both.
 pub fn same_future_same_games()
-    ensures games { (p : State) (q : State) (ms : List Move) → SameFuture p q → ((r : State) × IsGame p ms r) ↔ ((s : State) × IsGame q ms s) }
+    ensures games { (p : State) (q : State) (ms : List Move) → SameFuture p q
+        → ((r : State) × IsGame p ms r) ↔ ((s : State) × IsGame q ms s) }
     ensures ends { (p : State) (q : State) → IsPosition p → IsPosition q → SameFuture p q → EndAlike p q }
 {}

@@ -1,7 +1,7 @@
 //! The tables by their meaning: sets of squares.
 ghost use Rattle.std.specs.Prelude.{◌≡◌, ℕ, ◌<◌};
 ghost use Rattle.pg_position.specs.Geometry.{InPattern};
-ghost use Rattle.pg_position.specs.numbers.Rays.{OnRay, OnFileOrRank, OnDiagonal};
+ghost use Rattle.pg_position.specs.inner.Rays.{OnRay, OnFileOrRank, OnDiagonal};
 ghost use Rattle.pg_board.specs.SquareSets.{IsSetOf};
 
 use crate::direction::Direction;

@@ -16,7 +16,8 @@ impl State {
     // The kind of the man that moves.
     #[tactic(auto, using(crate::proofs::StepLemmas::same_color_else), unfolding(crate::specs::Step::IsEnemy))]
     fn mover(&self, m: &Move) -> Result<Kind, Illegal>
-        ensures { MatchResult result (λ k. Stands self.now.board self.now.side k m.now.from) (λ e. IsCause self.now m.now e) }
+        ensures { MatchResult result (λ k. Stands self.now.board self.now.side k m.now.from)
+            (λ e. IsCause self.now m.now e) }
     {
         match self.board.get(m.from) {
             None => Err(Illegal::EmptyFrom),

@@ -91,7 +91,8 @@ impl Position {
         rights: Rights,
         passed: Option<Square>,
     ) -> Result<Position, BadPosition>
-        ensures { MatchResult result (λ p. (p ≡ parts board side rights passed) × IsPosition p) (λ e. IsFirstBroken (parts board side rights passed) e) }
+        ensures { MatchResult result (λ p. (p ≡ parts board side rights passed) × IsPosition p)
+            (λ e. IsFirstBroken (parts board side rights passed) e) }
     {
         let state = State {
             board,
@@ -207,7 +208,8 @@ impl Position {
     /// the king's square, the one that he crosses and the one that he comes to are not attacked (FIDE
     /// article 3.8.2).
     pub fn castling_targets(&self) -> SquareSet
-        ensures { IsSetOf result (λ q. (w : Wing) × IsCastling self.now King (record { from = king_home self.now.side; to = q; promotion = None }) w) }
+        ensures { IsSetOf result (λ q. (w : Wing)
+            × IsCastling self.now King (record { from = king_home self.now.side; to = q; promotion = None }) w) }
     {
         self.state.castling_targets()
     }

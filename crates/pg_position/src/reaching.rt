@@ -2,7 +2,7 @@
 ghost use Rattle.std.specs.Prelude.{◌≡◌, ℕ, ◌<◌, ◌⊎◌, ◌↔◌, IsTrue};
 ghost use Rattle.pg_board.specs.SquareSets.{IsSetOf};
 ghost use Rattle.pg_position.specs.Attack.{IsClear, Reaches};
-ghost use Rattle.pg_position.specs.numbers.Lines.{ReachesAlong, ReachesStraight, ReachesDiagonal};
+ghost use Rattle.pg_position.specs.inner.Lines.{ReachesAlong, ReachesStraight, ReachesDiagonal};
 
 use crate::attack::blocker;
 use crate::direction::Direction;

@@ -3,7 +3,7 @@ use Rattle.std.proofs.Common.{◌≡◌, ℕ, zero, suc, ◌<◌, ◌≤◌, [],
 use Rattle.pg_price_lists.specs.declared.prices.Row.{Row}
 use Rattle.pg_price_lists.specs.PriceLists.{PriceList, list_of}
 use Rattle.pg_price_lists.specs.PriceRecords.{u_at, v_at, list_at}
-use Rattle.pg_price_lists.specs.numbers.Rows.{rows, row_list}
+use Rattle.pg_price_lists.specs.inner.Rows.{rows, row_list}
 
 past : (n a b i : ℕ) (x y z : Row) → n ≤ 3 → n ≤ i → list_at (rows n a b x y z) i ≡ list_of [] []
 past zero a b i x y z l h = refl

@@ -1,3 +1,3 @@
 pub mod PriceLists
 pub mod PriceRecords
-pub mod numbers
+pub mod inner

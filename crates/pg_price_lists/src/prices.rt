@@ -3,7 +3,7 @@ ghost use Rattle.std.proofs.Common.{sym};
 ghost use Rattle.std.specs.Prelude.{◌≡◌, ℕ, ◌↔◌, ◌<◌, ◌≤◌, IsTrue, cond, List, [], ◌∷◌, ◌++◌, length, take};
 ghost use Rattle.pg_price_lists.specs.PriceLists.{PriceList, list_of};
 ghost use Rattle.pg_price_lists.specs.PriceRecords.{list_at, sources, targets, u_at, v_at, NewIs, CanAdd};
-ghost use Rattle.pg_price_lists.specs.numbers.Rows.{row_list, rows, AreRows, padded, row_of, sources_of, targets_of, ways_of, source_number, target_number};
+ghost use Rattle.pg_price_lists.specs.inner.Rows.{row_list, rows, AreRows, padded, row_of, sources_of, targets_of, ways_of, source_number, target_number};
 
 use std::marker::Model;
 
@@ -52,7 +52,7 @@ impl Model for Prices {
 }
 
 // Puts these bytes into the row, and zeros after them.
-#[tactic(auto, unfolding(crate::specs::numbers::Rows::padded))]
+#[tactic(auto, unfolding(crate::specs::inner::Rows::padded))]
 fn pad(row: &mut [u8; 64], xs: &[u8])
     requires { length xs.now ≤ 64 }
     ensures list { take (length xs.now) row.new ≡ xs.now }

@@ -97,7 +97,8 @@ fn is_excluded(
     white: &Offers,
     black: &Offers,
 ) -> bool
-    ensures yes { IsTrue result → IsExcluded (λ m. list_any (λ b. excluded b diagram.now array_state m) bounds.now) diagram.now plies }
+    ensures yes { IsTrue result → IsExcluded (λ m. list_any (λ b. excluded b diagram.now array_state m) bounds.now)
+        diagram.now plies }
     ensures no { result ≡ false → list_any (λ b. excluded b diagram.now array_state plies) bounds.now ≡ false }
     ensures barren { IsTrue result → Barren diagram.now array_state plies }
 {
@@ -114,7 +115,8 @@ pub(crate) fn first_open(
     black: &Offers,
 ) -> Option<Length>
     ensures headline { NoneBelow diagram.now result }
-    ensures least { IsLeastLength (λ m. list_any (λ b. excluded b diagram.now array_state m) bounds.now) diagram.now result }
+    ensures least { IsLeastLength (λ m. list_any (λ b. excluded b diagram.now array_state m) bounds.now) diagram.now
+        result }
 {
     for plies in 0..129u8 {
         if !is_excluded(bounds, diagram, plies, white, black) {
@@ -138,7 +140,8 @@ pub fn shortest(
     bounds: &[Box<dyn Bound>],
 ) -> Result<Option<Length>, AllocError>
     ensures headline { IfOk result (NoneBelow diagram.now) }
-    ensures least { IfOk result (IsLeastLength (λ m. list_any (λ b. excluded b diagram.now array_state m) bounds.now) diagram.now) }
+    ensures least { IfOk result (IsLeastLength
+        (λ m. list_any (λ b. excluded b diagram.now array_state m) bounds.now) diagram.now) }
 {
     let white = offers_of(alloc, Color::White, diagram)?;
     let black = offers_of(alloc, Color::Black, diagram)?;

@@ -23,10 +23,10 @@ pub use pg_captures::{Bound, Captures, Promotions};
 pub use pg_certificate::{FromRead, Refused, Sink, Source, ToWrite, WriteFault};
 pub use pg_checker::{Fault, Problem, RunFault, check};
 pub use pg_fen::{Diagram, FenFault, Length, LengthFault};
-pub use pg_moves::{CountFault, Progress, Unwatched};
+pub use pg_moves::{CountFault, CountProgress, Unwatched};
 pub use pg_pawns::PawnFiles;
 pub use pg_san::{Games, GamesFault};
-pub use pg_searcher::{Progress as SearchProgress, SearchFault, search, search_watched};
+pub use pg_searcher::{SearchFault, SearchProgress, search, search_watched};
 pub use pg_texts::{
     CountRunFault, MovesFault, UpgradeFault, Verdict, run_count, run_count_watched, run_moves,
     upgrade, write_board, write_movetext, write_report,

@@ -41,13 +41,15 @@ pub fn run_listed<R: Source, W: Sink>(
     ensures text { OnOk result ((text : List ℕ)
         × IsReport diagram.now length games.now text × Appends (W.held out.old) (W.held out.new) text) }
     ensures accepted { OnOk result ((proved : Proved)
-        × Accepts (rules_by code_of excluded bounds.now diagram.now length games.now) diagram.now games.now max_records max_named
+        × Accepts (rules_by code_of excluded bounds.now diagram.now length games.now) diagram.now games.now
+        max_records max_named
         (R.left source.old) (Ok proved)) }
     ensures end { OnOk result (IsAtEnd (R.left source.new)) }
     ensures runs { OnOk result (R.has_failed source.new ≡ false) }
     ensures written { OnOk result (W.has_failed out.new ≡ false) }
     ensures err { IfErr result (λ e. IsCheckFault
-        (rules_by code_of excluded bounds.now diagram.now length games.now) diagram.now length games.now max_records max_named
+        (rules_by code_of excluded bounds.now diagram.now length games.now) diagram.now length games.now max_records
+        max_named
         (R.left source.old) (R.has_failed source.new) (W.has_failed out.new) e) }
     ensures unwritten { IfErr result (λ e. e ≢ RunFault.Write → out.new ≡ out.old) }
 {

@@ -155,7 +155,8 @@ fn write_need<W: Sink>(
     asked: &Option<Length>,
     out: &mut W,
 ) -> Result<(), Refused>
-    ensures text { OnOk result (Appends (W.held out.old) (W.held out.new) (need_text color need.plies need.reason asked.now)) }
+    ensures text { OnOk result (Appends (W.held out.old) (W.held out.new)
+        (need_text color need.plies need.reason asked.now)) }
     ensures runs { OnOk result ((W.has_failed out.old ≡ false) × (W.has_failed out.new ≡ false)) }
     ensures fault { OnErr result (W.has_failed out.new ≡ true) }
 {
@@ -175,7 +176,8 @@ fn write_side<W: Sink>(
     asked: &Option<Length>,
     out: &mut W,
 ) -> Result<(), Refused>
-    ensures text { OnOk result ((text : List ℕ) × IsSideLine diagram.now offers.now.color asked.now text × Appends (W.held out.old) (W.held out.new) text) }
+    ensures text { OnOk result ((text : List ℕ) × IsSideLine diagram.now offers.now.color asked.now text
+        × Appends (W.held out.old) (W.held out.new) text) }
     ensures runs { OnOk result ((W.has_failed out.old ≡ false) × (W.has_failed out.new ≡ false)) }
     ensures fault { OnErr result (W.has_failed out.new ≡ true) }
 {
@@ -211,7 +213,8 @@ struct Below {
 
 // Appends the line of the least length, and that of what may be expected of a search.
 fn write_below<W: Sink>(below: &Below, out: &mut W) -> Result<(), Refused>
-    ensures text { OnOk result (Appends (W.held out.old) (W.held out.new) (open_line below.now.least ++ expected_text below.now.expected)) }
+    ensures text { OnOk result (Appends (W.held out.old) (W.held out.new)
+        (open_line below.now.least ++ expected_text below.now.expected)) }
     ensures runs { OnOk result ((W.has_failed out.old ≡ false) × (W.has_failed out.new ≡ false)) }
     ensures fault { OnErr result (W.has_failed out.new ≡ true) }
 {
@@ -230,7 +233,8 @@ fn write_shown<W: Sink>(
     requires white { white.now.color ≡ White }
     requires black { black.now.color ≡ Black }
     requires expected { IsExpected below.now.asked below.now.expected }
-    ensures text { OnOk result ((text : List ℕ) × IsShown diagram.now below.now.asked below.now.least text × Appends (W.held out.old) (W.held out.new) text) }
+    ensures text { OnOk result ((text : List ℕ) × IsShown diagram.now below.now.asked below.now.least text
+        × Appends (W.held out.old) (W.held out.new) text) }
     ensures runs { OnOk result ((W.has_failed out.old ≡ false) × (W.has_failed out.new ≡ false)) }
     ensures fault { OnErr result (W.has_failed out.new ≡ true) }
 {
@@ -255,7 +259,8 @@ fn show<W: Sink>(
     ensures ok { OnOk result ((least : Option ℕ) × NoneBelow diagram.now least
         × IsLeastLength (λ m. list_any (λ b. excluded b diagram.now array_state m) bounds.now) diagram.now least
         × ((text : List ℕ) × IsShown diagram.now asked least text × Appends (W.held out.old) (W.held out.new) text)) }
-    ensures err { IfErr result (λ e. ((e ≡ ShowFault.Memory) × (out.new ≡ out.old)) ⊎ ((e ≡ ShowFault.Write) × (W.has_failed out.new ≡ true))) }
+    ensures err { IfErr result (λ e. ((e ≡ ShowFault.Memory) × (out.new ≡ out.old))
+        ⊎ ((e ≡ ShowFault.Write) × (W.has_failed out.new ≡ true))) }
     ensures runs { OnOk result ((W.has_failed out.old ≡ false) × (W.has_failed out.new ≡ false)) }
 {
     let white = match offers_of(alloc, Color::White, diagram) {
@@ -300,7 +305,8 @@ pub fn run_show<W: Sink>(
     out: &mut W,
 ) -> Result<(), ShowFault>
     ensures ok { OnOk result ((d : Placement) × (diagram_of (fields diagram.now) ≡ Ok d)
-        × ((least : Option ℕ) × NoneBelow d least × IsLeastLength (λ m. list_any (λ b. excluded b d array_state m) bounds.now) d least
+        × ((least : Option ℕ) × NoneBelow d least
+        × IsLeastLength (λ m. list_any (λ b. excluded b d array_state m) bounds.now) d least
         × ((text : List ℕ) × IsShown d None least text × Appends (W.held out.old) (W.held out.new) text))) }
     ensures err { IfErr result (λ e. IsShowFault diagram.now (W.has_failed out.new) e) }
     ensures unwritten { IfErr result (λ e. e ≢ ShowFault.Write → out.new ≡ out.old) }
@@ -330,7 +336,8 @@ pub fn run_show_within<W: Sink>(
     bounds: &[Box<dyn Bound>],
     out: &mut W,
 ) -> Result<(), ShowFault>
-    ensures ok { OnOk result ((d : Placement) × (n : ℕ) × (diagram_of (fields diagram.now) ≡ Ok d) × (length_of length.now ≡ Ok n)
+    ensures ok { OnOk result ((d : Placement) × (n : ℕ) × (diagram_of (fields diagram.now) ≡ Ok d)
+        × (length_of length.now ≡ Ok n)
         × ((least : Option ℕ) × NoneBelow d least × IsLeastLength (λ m. list_any (λ b. excluded b d array_state m) bounds.now) d least
         × ((text : List ℕ) × IsShown d (Some n) least text × Appends (W.held out.old) (W.held out.new) text))) }
     ensures err { IfErr result (λ e. IsShowWithinFault diagram.now length.now (W.has_failed out.new) e) }

@@ -17,7 +17,7 @@ use Rattle.pg_san.specs.Games.{IsFromArray, IsGames}
 use Rattle.pg_san.specs.Adding.{IsAdded}
 use Rattle.pg_san.specs.GameText.{words, dash, lines}
 use Rattle.pg_san.specs.Listing.{Spells, AreGame, IsGameLine, IsBadLine, Give, AreRead, IsListing, IsLine, IsLineFault, IsTextFault}
-use Rattle.pg_san.specs.numbers.LineReading.{IsWordsFault, IsGameFault, IsLineRead}
+use Rattle.pg_san.specs.inner.LineReading.{IsWordsFault, IsGameFault, IsLineRead}
 
 -- ---- a line
 pub dash_line : (line : List ℕ) → words line ≢ [] → words line ≡ dash → IsGameLine line []

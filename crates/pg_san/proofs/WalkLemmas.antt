@@ -7,7 +7,7 @@ use Rattle.pg_position.specs.declared.state.State.{State}
 use Rattle.pg_position.specs.declared.moves.Move.{Move}
 use Rattle.pg_position.specs.Step.{IsLegal}
 use Rattle.pg_moves.specs.Moves.{move_cmp, IsBefore, IsPast, IsNext, IsLast}
-use Rattle.pg_moves.specs.numbers.Places.{place, start_after}
+use Rattle.pg_moves.specs.inner.Places.{place, start_after}
 use Rattle.pg_moves.proofs.ListLemmas.{on_board}
 use Rattle.pg_moves.proofs.PlaceLemmas.{move_cmp_total, place_low}
 use Rattle.pg_moves.proofs.SearchLemmas.{less_place}
@@ -15,7 +15,7 @@ use Rattle.pg_san.specs.declared.said.Said.{Said}
 use Rattle.pg_san.specs.Said.{said_of}
 use Rattle.pg_san.specs.Grammar.{IsSaidText}
 use Rattle.pg_san.specs.Matching.{Fits, Matches}
-use Rattle.pg_san.specs.numbers.Walk.{NoneFits, IsFirstFit, WalkedTo}
+use Rattle.pg_san.specs.inner.Walk.{NoneFits, IsFirstFit, WalkedTo}
 use Rattle.pg_san.proofs.EndLemmas.{said_again}
 use Rattle.pg_san.proofs.TextFoundLemmas.{said_found}
 

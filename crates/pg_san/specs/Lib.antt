@@ -8,4 +8,4 @@ pub mod Games
 pub mod Adding
 pub mod GameText
 pub mod Listing
-pub mod numbers
+pub mod inner

@@ -104,7 +104,8 @@ fn rank_off(text: &[u8]) -> (Option<u8>, &[u8])
 }
 
 fn square_off(text: &[u8]) -> Option<(&[u8], Square)>
-    ensures { MatchOption result (square_in (reverse text.now) ≡ None) (λ s. square_in (reverse text.now) ≡ Some (s.1, reverse s.0.now)) }
+    ensures { MatchOption result (square_in (reverse text.now) ≡ None)
+        (λ s. square_in (reverse text.now) ≡ Some (s.1, reverse s.0.now)) }
 {
     let (text, rank) = last_off(text)?;
     let (text, file) = last_off(text)?;

@@ -21,12 +21,14 @@ pub fn text_grammar()
 /// The text that is written for a legal move is matched by that move, and by no other legal move.
 pub fn written_text_is_matched()
     ensures itself { (p : State) (m : Move) (text : List ℕ) → IsSan p m text → Matches p text m }
-    ensures no_other { (p : State) (m n : Move) (text : List ℕ) → IsSan p m text → IsLegal p n → Matches p text n → n ≡ m }
+    ensures no_other { (p : State) (m n : Move) (text : List ℕ) → IsSan p m text → IsLegal p n → Matches p text n
+        → n ≡ m }
 {}
 
 /// The text that is written for a legal move is read as that move.
 pub fn written_text_is_read()
-    ensures { (p : State) (m : Move) (text : List ℕ) (result : Result Move SanFault) → IsSan p m text → IsReading p text result → result ≡ Ok m }
+    ensures { (p : State) (m : Move) (text : List ℕ) (result : Result Move SanFault) → IsSan p m text
+        → IsReading p text result → result ≡ Ok m }
 {}
 
 /// One text is written for each legal move of a position.

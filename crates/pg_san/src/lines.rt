@@ -2,7 +2,7 @@
 ghost use Rattle.std.specs.Prelude.{◌≡◌, ◌+◌, ◌<◌, ◌∷◌, length};
 ghost use Rattle.std.specs.Str.Lines.{strip_carriage_return};
 ghost use Rattle.pg_san.specs.GameText.{lines};
-ghost use Rattle.pg_san.specs.numbers.TextLeft.{lines_left, length_left};
+ghost use Rattle.pg_san.specs.inner.TextLeft.{lines_left, length_left};
 
 use memchr::memchr;
 

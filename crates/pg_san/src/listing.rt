@@ -2,7 +2,7 @@
 ghost use Rattle.std.specs.Prelude.{◌≡◌, ◌≢◌, ◌↔◌, ◌∷◌, ◌++◌, IsTrue, MatchResult, IfOk, IfErr, OnOk, OnErr, []};
 ghost use Rattle.pg_san.specs.GameText.{words, dash};
 ghost use Rattle.pg_san.specs.Listing.{AreGame, IsGameLine, IsLineFault, IsListing, IsTextFault};
-ghost use Rattle.pg_san.specs.numbers.LineReading.{IsWordsFault, IsGameFault, IsLineRead};
+ghost use Rattle.pg_san.specs.inner.LineReading.{IsWordsFault, IsGameFault, IsLineRead};
 
 use crate::adding::AddFault;
 use crate::fault::SanFault;

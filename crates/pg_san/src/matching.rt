@@ -13,7 +13,8 @@ use pg_position::{Move, Position, is_enemy};
 
 // Whether a man of this kind comes to the passed square from another file, as a pawn.
 fn is_aside(position: &Position, kind: Kind, m: &Move) -> bool
-    ensures { IsTrue result ↔ ((kind ≡ Kind.Pawn) × (position.now.passed ≡ Some m.now.to) × (file m.now.from ≢ file m.now.to)) }
+    ensures { IsTrue result ↔ ((kind ≡ Kind.Pawn) × (position.now.passed ≡ Some m.now.to)
+        × (file m.now.from ≢ file m.now.to)) }
 {
     kind == Kind::Pawn && position.passed() == Some(m.to) && m.from.file() != m.to.file()
 }

@@ -5,7 +5,7 @@ ghost use Rattle.std.specs.Option.{ForSome};
 ghost use Rattle.pg_position.specs.declared.moves.Move.{Move};
 ghost use Rattle.pg_position.specs.Step.{IsLegal};
 ghost use Rattle.pg_san.specs.Matching.{IsReading};
-ghost use Rattle.pg_san.specs.numbers.Walk.{NoneFits, IsFirstFit};
+ghost use Rattle.pg_san.specs.inner.Walk.{NoneFits, IsFirstFit};
 
 use crate::fault::SanFault;
 use crate::matching::fits;
@@ -16,7 +16,8 @@ use pg_position::{Move, Position};
 // The first legal move that is as the text says, of those after the legal move handed in, or of all.
 fn next_fit(position: &Position, said: &Said, after: Option<Move>) -> Option<Move>
     requires { ForSome after (λ m. IsLegal position.now m) }
-    ensures { MatchOption result (NoneFits position.now said.now after) (λ m. IsFirstFit position.now said.now after m) }
+    ensures { MatchOption result (NoneFits position.now said.now after)
+        (λ m. IsFirstFit position.now said.now after m) }
 {
     let mut last = after;
     while let Some(m) = next_legal(position, last) {

@@ -49,7 +49,8 @@ fn may_go(position: &Position, from: Square, to: Square) -> bool
 
 // Whether another man of this kind stands on the square, and the square counts.
 fn is_other(position: &Position, kind: Kind, m: &Move, among: Among, square: Square) -> bool
-    ensures { IsTrue result ↔ (Counts among square m.now.from × (square ≢ m.now.from) × Stands position.now.board position.now.side kind square) }
+    ensures { IsTrue result ↔ (Counts among square m.now.from × (square ≢ m.now.from)
+        × Stands position.now.board position.now.side kind square) }
 {
     among.counts(square, m.from)
         && square != m.from

@@ -78,7 +78,8 @@ fn without_check(text: &[u8]) -> &[u8]
 
 // What stands before this byte, where it is the last.
 fn byte_off(text: &[u8], byte: u8) -> Option<&[u8]>
-    ensures { MatchOption result (byte_in byte (reverse text.now) ≡ None) (λ s. byte_in byte (reverse text.now) ≡ Some (reverse s.now)) }
+    ensures { MatchOption result (byte_in byte (reverse text.now) ≡ None)
+        (λ s. byte_in byte (reverse text.now) ≡ Some (reverse s.now)) }
 {
     match last_off(text) {
         Some((front, last)) if last == byte => Some(front),
@@ -88,7 +89,8 @@ fn byte_off(text: &[u8], byte: u8) -> Option<&[u8]>
 
 // What stands before `ep`.
 fn ep_off(text: &[u8]) -> Option<&[u8]>
-    ensures { MatchOption result (ep_in (reverse text.now) ≡ None) (λ s. ep_in (reverse text.now) ≡ Some (reverse s.now)) }
+    ensures { MatchOption result (ep_in (reverse text.now) ≡ None)
+        (λ s. ep_in (reverse text.now) ≡ Some (reverse s.now)) }
 {
     let text = byte_off(text, b'p')?;
     byte_off(text, b'e')
@@ -96,7 +98,8 @@ fn ep_off(text: &[u8]) -> Option<&[u8]>
 
 // What stands before `e.p.`.
 fn dots_off(text: &[u8]) -> Option<&[u8]>
-    ensures { MatchOption result (dots_in (reverse text.now) ≡ None) (λ s. dots_in (reverse text.now) ≡ Some (reverse s.now)) }
+    ensures { MatchOption result (dots_in (reverse text.now) ≡ None)
+        (λ s. dots_in (reverse text.now) ≡ Some (reverse s.now)) }
 {
     let text = byte_off(text, b'.')?;
     let text = byte_off(text, b'p')?;

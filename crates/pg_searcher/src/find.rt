@@ -6,7 +6,7 @@ use crate::fault::SearchFault;
 use crate::judge::Judge;
 use crate::machine::{Machine, Question};
 use crate::outlook::Mover;
-use crate::progress::Progress;
+use crate::progress::SearchProgress;
 use crate::walk::tree_of;
 use arrayvec::ArrayVec;
 use pg_certificate::{Header, RecordWriter, Sink};
@@ -28,7 +28,7 @@ fn header(diagram: &Diagram, plies: u8) -> Header
 }
 
 // The header, the trees of all lengths from 0 to the stated one, and the end.
-fn write<W: Sink, P: Progress>(
+fn write<W: Sink, P: SearchProgress>(
     question: &Question,
     machine: &mut Machine,
     sink: &mut W,
@@ -90,7 +90,7 @@ pub fn search<W: Sink>(
 ///
 /// # Errors
 /// As for `search`.
-pub fn search_watched<W: Sink, P: Progress>(
+pub fn search_watched<W: Sink, P: SearchProgress>(
     alloc: Global,
     diagram: &Diagram,
     length: Length,

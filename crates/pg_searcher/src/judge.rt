@@ -21,7 +21,7 @@ pub(crate) struct Judge {
 // What becomes of a node: a bound excludes it, or prices of one colour's pawns or of one colour's
 // travel do, or none does; or that is not known.
 #[derive(Clone, Copy, Debug, PartialEq, Eq)]
-pub(crate) enum Verdict {
+pub(crate) enum Cutting {
     Cut(u8),
     Pawns(Color),
     Travel(Color),
@@ -142,40 +142,40 @@ impl Judge {
     }
 
     // What becomes of a node with this side to move and so many plies left.
-    fn verdict(&self, sides: &Sides, side: Color, left: u8) -> Verdict {
+    fn verdict(&self, sides: &Sides, side: Color, left: u8) -> Cutting {
         let white = self.means(Color::White, sides.black.men, side, left);
         let black = self.means(Color::Black, sides.white.men, side, left);
         if captures_exclude(white) || captures_exclude(black) {
-            return Verdict::Cut(1);
+            return Cutting::Cut(1);
         }
         if let Some(code) = bound_for(white, &sides.white.needs) {
-            return Verdict::Cut(code);
+            return Cutting::Cut(code);
         }
         if let Some(code) = bound_for(black, &sides.black.needs) {
-            return Verdict::Cut(code);
+            return Cutting::Cut(code);
         }
         if sides.white.needs.travel == UNKNOWN || sides.black.needs.travel == UNKNOWN {
-            return Verdict::Unknown;
+            return Cutting::Unknown;
         }
         self.priced(sides, white, black)
     }
 
     // Whether prices exclude a node.
-    fn priced(&self, sides: &Sides, white: Means, black: Means) -> Verdict {
+    fn priced(&self, sides: &Sides, white: Means, black: Means) -> Cutting {
         let pawns = shorter(
             pawn_length(white, &sides.white, self.white.wanted_pawns),
             pawn_length(black, &sides.black, self.black.wanted_pawns),
         );
         if let Some(color) = pawns {
-            return Verdict::Pawns(color);
+            return Cutting::Pawns(color);
         }
         let travel = shorter(
             travel_length(white, &sides.white, self.white.wanted_men),
             travel_length(black, &sides.black, self.black.wanted_men),
         );
         match travel {
-            Some(color) => Verdict::Travel(color),
-            None => Verdict::Stays,
+            Some(color) => Cutting::Travel(color),
+            None => Cutting::Stays,
         }
     }
 
@@ -197,14 +197,14 @@ impl Judge {
         changes: &Changes,
         missing: Needs,
         left: u8,
-    ) -> (Verdict, Option<Sides>) {
+    ) -> (Cutting, Option<Sides>) {
         let (own, other) = (sides.of(color), sides.of(color.other()));
         let other_men = match &changes.other {
             Some(change) => change.men_after(other),
             None => other.men,
         };
         if captures_exclude(self.means(color, other_men, color.other(), left)) {
-            return (Verdict::Cut(1), None);
+            return (Cutting::Cut(1), None);
         }
         let own = self.after(color, own, &changes.own, missing);
         let other = match &changes.other {
@@ -213,7 +213,7 @@ impl Judge {
         };
         let sides = sides_by(color, own, other);
         if own.needs.need == UNKNOWN || other.needs.need == UNKNOWN {
-            return (Verdict::Unknown, Some(sides));
+            return (Cutting::Unknown, Some(sides));
         }
         (self.verdict(&sides, color.other(), left), Some(sides))
     }
@@ -275,10 +275,10 @@ impl Judge {
         position: &Position,
         sides: &mut Sides,
         left: u8,
-    ) -> Result<Verdict, AllocError> {
+    ) -> Result<Cutting, AllocError> {
         let side = position.side();
         let verdict = self.verdict(sides, side, left);
-        if verdict != Verdict::Unknown {
+        if verdict != Cutting::Unknown {
             return Ok(verdict);
         }
         let (white, black) = (sides.white, sides.black);

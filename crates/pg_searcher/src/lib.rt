@@ -22,5 +22,5 @@ pub use fault::SearchFault;
 pub use find::{search, search_watched};
 pub use judge::sides_of;
 pub use led::{Game, Led, LedFault, LedLimits, LedProgress, search_led};
-pub use progress::Progress;
+pub use progress::SearchProgress;
 pub use sides::{Change, Changes, Side, Sides, changes_of};

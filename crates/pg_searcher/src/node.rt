@@ -4,7 +4,7 @@ ghost use Rattle.pg_position.specs.Step.{IsLegal};
 ghost use Rattle.pg_searcher.specs.Refusals.{RefusesTruly};
 
 use crate::fault::SearchFault;
-use crate::judge::{Verdict, sides_of};
+use crate::judge::{Cutting, sides_of};
 use crate::known::{MISSING, after_plain};
 use crate::machine::{Machine, Question};
 use crate::outlook::{Outlook, Plain};
@@ -79,14 +79,14 @@ fn prices_of(
     machine: &mut Machine,
     position: &Position,
     sides: &Sides,
-    verdict: Verdict,
+    verdict: Cutting,
 ) -> Result<Option<(u8, Color, Prices)>, AllocError>
     ensures frames { machine.new.frames ≡ machine.old.frames }
     ensures writer { machine.new.writer ≡ machine.old.writer }
 {
     let (code, color, answer) = match verdict {
-        Verdict::Pawns(color) => (3, color, machine.judge.pawn_prices(color, position)),
-        Verdict::Travel(color) => {
+        Cutting::Pawns(color) => (3, color, machine.judge.pawn_prices(color, position)),
+        Cutting::Travel(color) => {
             let side = sides.of(color);
             (4, color, machine.judge.travel_prices(color, position, side))
         }
@@ -218,7 +218,7 @@ pub(crate) fn enter<W: Sink>(
         Ok(verdict) => verdict,
         Err(_) => return Err(SearchFault::Memory),
     };
-    if let Verdict::Cut(code) = verdict {
+    if let Cutting::Cut(code) = verdict {
         return match put(machine, &Record::Cut(code), sink) {
             Ok(()) => Ok(None),
             Err(fault) => Err(fault),
@@ -279,7 +279,7 @@ fn put_cut<W: Sink>(machine: &mut Machine, code: u8, sink: &mut W) -> Result<boo
 // did.
 fn put_judged<W: Sink>(
     machine: &mut Machine,
-    verdict: Verdict,
+    verdict: Cutting,
     known: &Option<Sides>,
     sink: &mut W,
 ) -> Result<bool, SearchFault>
@@ -289,8 +289,8 @@ fn put_judged<W: Sink>(
     ensures says { (plies : ℕ) → RefusesTruly plies (W.has_failed sink.new) result }
 {
     match verdict {
-        Verdict::Cut(code) => put_cut(machine, code, sink),
-        Verdict::Travel(color) => put_kept(machine, color, known, sink),
+        Cutting::Cut(code) => put_cut(machine, code, sink),
+        Cutting::Travel(color) => put_kept(machine, color, known, sink),
         _ => Ok(false),
     }
 }
@@ -328,7 +328,7 @@ fn judge_before<W: Sink>(
     match put_judged(machine, verdict, &known, sink) {
         Ok(true) => Ok(Before::Written),
         Ok(false) => Ok(match known {
-            Some(sides) if verdict == Verdict::Stays => Before::Stays(sides),
+            Some(sides) if verdict == Cutting::Stays => Before::Stays(sides),
             _ => Before::Unknown(known),
         }),
         Err(fault) => Err(fault),

@@ -4,7 +4,7 @@ use pg_moves::Unwatched;
 use pg_position::Move;
 
 /// Is told how far a search is. Nothing that it does changes what is found.
-pub trait Progress {
+pub trait SearchProgress {
     /// The tree of so many plies is at work, and so many nodes more may be visited.
     fn reached(&mut self, plies: u8, left: u64);
 
@@ -13,6 +13,6 @@ pub trait Progress {
     fn met(&mut self, _game: &[Move]) {}
 }
 
-impl Progress for Unwatched {
+impl SearchProgress for Unwatched {
     fn reached(&mut self, _plies: u8, _left: u64) {}
 }

@@ -7,7 +7,7 @@ use crate::fault::SearchFault;
 use crate::machine::{Frame, Machine, Question};
 use crate::node::{Opened, child, enter, visit};
 use crate::outlook::Mover;
-use crate::progress::Progress;
+use crate::progress::SearchProgress;
 use crate::sides::is_special;
 use pg_board::{Board, SquareSet};
 use pg_certificate::Sink;
@@ -226,7 +226,7 @@ fn turn<W: Sink>(
 
 // Tells of the games beyond so many, which were met since; how many there are now. They are met in
 // canonical order.
-fn tell<P: Progress>(games: &Games, known: usize, watch: &mut P) -> usize {
+fn tell<P: SearchProgress>(games: &Games, known: usize, watch: &mut P) -> usize {
     for i in known..games.len() {
         if let Some(game) = games.game(i) {
             watch.met(game);
@@ -236,7 +236,7 @@ fn tell<P: Progress>(games: &Games, known: usize, watch: &mut P) -> usize {
 }
 
 // The tree of one length.
-pub(crate) fn tree_of<W: Sink, P: Progress>(
+pub(crate) fn tree_of<W: Sink, P: SearchProgress>(
     question: &Question,
     tree: u8,
     machine: &mut Machine,

@@ -32,7 +32,8 @@ impl<W: Sink> Gathered<W> {
 
     // Hands on what is gathered.
     fn hand_on(&mut self) -> Result<(), Refused>
-        ensures bytes { OnOk result (Keeps (append_known (W.held self.old.inner) self.old.bytes.items) (W.held self.new.inner)) }
+        ensures bytes { OnOk result (Keeps (append_known (W.held self.old.inner) self.old.bytes.items)
+            (W.held self.new.inner)) }
         ensures empty { OnOk result (self.new.bytes.items ≡ []) }
         ensures runs { OnOk result ((W.has_failed self.old.inner ≡ false) × (W.has_failed self.new.inner ≡ false)) }
         ensures fault { OnErr result (W.has_failed self.new.inner ≡ true) }

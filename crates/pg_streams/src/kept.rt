@@ -2,7 +2,7 @@
 
 use pg_position::Move;
 use pg_san::{AddFault, Games};
-use pg_searcher::Progress;
+use pg_searcher::SearchProgress;
 use std::alloc::Global;
 
 /// Keeps the games that a search tells of, and how far it came, and tells another watch what it is told.
@@ -33,7 +33,7 @@ impl<P> Kept<P> {
     }
 }
 
-impl<P: Progress> Progress for Kept<P> {
+impl<P: SearchProgress> SearchProgress for Kept<P> {
     fn reached(&mut self, plies: u8, left: u64) {
         self.tree = plies;
         self.left = left;

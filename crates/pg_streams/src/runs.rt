@@ -5,8 +5,8 @@ use crate::progress::{scaled, share};
 use crate::trees::Trees;
 use arrayvec::ArrayString;
 use pg_fen::Length;
-use pg_moves::Progress;
-use pg_searcher::Progress as SearchProgress;
+use pg_moves::CountProgress;
+use pg_searcher::SearchProgress;
 use std::fmt::Write;
 use std::io::Eprint;
 use std::time::Clock;
@@ -44,7 +44,7 @@ pub fn count_line(games: u64) -> ArrayString<WIDTH> {
     line
 }
 
-impl<R: Clock + Eprint> Progress for CountLine<'_, R> {
+impl<R: Clock + Eprint> CountProgress for CountLine<'_, R> {
     fn counted(&mut self, games: u64) {
         self.games = self.games.saturating_add(games);
         if self.line.is_due() {

@@ -16,7 +16,7 @@ use Rattle.pg_position.proofs.FutureLemmas.{one_result, legal_position}
 use Rattle.pg_san.specs.Games.{IsFromArray}
 use Rattle.pg_san.specs.Writing.{IsSan}
 use Rattle.pg_texts.specs.Movetext.{space_text, number_text, ArePlies, IsMovetext, IsLongestGame}
-use Rattle.pg_texts.specs.numbers.Plies.{PlyGrows, PliesGrow, Stops, IsPlayedOut}
+use Rattle.pg_texts.specs.inner.Plies.{PlyGrows, PliesGrow, Stops, IsPlayedOut}
 
 -- ---- one ply
 around : (front number san rest more : List ℕ) → (front ++ (number ++ (san ++ rest))) ++ more ≡ front ++ (number ++ (san ++ (rest ++ more)))

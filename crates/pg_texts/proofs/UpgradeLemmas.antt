@@ -17,7 +17,7 @@ use Rattle.pg_certificate.specs.Spelling.{spelling, header_spelling, longest_rec
 use Rattle.pg_certificate.proofs.RecordLaws.{records_again, none_longer}
 use Rattle.pg_texts.specs.declared.fault.UpgradeFault.{UpgradeFault}
 use Rattle.pg_texts.specs.declared.fault.UpgradeFault.TheVariants.{Truncated, NotVersion1, UnknownRecord, Read, Budget, Write}
-use Rattle.pg_texts.specs.numbers.Copying.{CopiesOne, Copies, one_in}
+use Rattle.pg_texts.specs.inner.Copying.{CopiesOne, Copies, one_in}
 use Rattle.pg_texts.specs.Upgrade.{◌>>=◌, Certificate1, certificate_bytes, with_digit_2, IsUpgraded, one_more, records_in, IsUpgradeFault, Takes}
 
 abbrev pub Counted : Type 0

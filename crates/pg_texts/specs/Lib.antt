@@ -5,4 +5,4 @@ pub mod Report
 pub mod Spelled
 pub mod Upgrade
 pub mod BoardText
-pub mod numbers
+pub mod inner

@@ -11,7 +11,7 @@ use crate::fault::CountRunFault;
 use crate::moves::game_of;
 use pg_certificate::{Refused, Sink};
 use pg_fen::text::digits;
-use pg_moves::{Progress, Unwatched, count_watched};
+use pg_moves::{CountProgress, Unwatched, count_watched};
 use std::alloc::Global;
 
 // Appends a number and a line feed.
@@ -52,7 +52,7 @@ pub fn run_count<W: Sink>(
 ///
 /// # Errors
 /// As for `run_count`.
-pub fn run_count_watched<W: Sink, P: Progress>(
+pub fn run_count_watched<W: Sink, P: CountProgress>(
     alloc: Global,
     fen: &str,
     plies: u8,

@@ -26,7 +26,8 @@ pub(crate) fn game_of(text: &str) -> Result<FenGame, FenFault>
 // Appends the text of a legal move, and a line feed.
 fn write_line<W: Sink>(position: &Position, m: &Move, out: &mut W) -> Result<(), Refused>
     requires { IsLegal position.now m.now }
-    ensures line { OnOk result ((text : List ℕ) × IsSan position.now m.now text × Appends (W.held out.old) (W.held out.new) (text ++ 10 ∷ [])) }
+    ensures line { OnOk result ((text : List ℕ) × IsSan position.now m.now text
+        × Appends (W.held out.old) (W.held out.new) (text ++ 10 ∷ [])) }
     ensures runs { OnOk result ((W.has_failed out.old ≡ false) × (W.has_failed out.new ≡ false)) }
     ensures fault { OnErr result (W.has_failed out.new ≡ true) }
 {
@@ -38,7 +39,8 @@ fn write_line<W: Sink>(position: &Position, m: &Move, out: &mut W) -> Result<(),
 // Appends a line for each move of the list, in its order.
 fn write_lines<W: Sink>(position: &Position, moves: &[Move], out: &mut W) -> Result<(), Refused>
     requires { IsMoveList position.now moves.now }
-    ensures lines { OnOk result ((text : List ℕ) × AreMoveLines position.now moves.now text × Appends (W.held out.old) (W.held out.new) text) }
+    ensures lines { OnOk result ((text : List ℕ) × AreMoveLines position.now moves.now text
+        × Appends (W.held out.old) (W.held out.new) text) }
     ensures runs { OnOk result (W.has_failed out.new ≡ W.has_failed out.old) }
     ensures fault { OnErr result (W.has_failed out.new ≡ true) }
 {
@@ -58,7 +60,8 @@ fn write_lines<W: Sink>(position: &Position, moves: &[Move], out: &mut W) -> Res
 /// was refused, and only where there is a legal move; `Write` where the sink has failed. With the
 /// first two the sink is as it was.
 pub fn run_moves<W: Sink>(alloc: Global, fen: &str, out: &mut W) -> Result<(), MovesFault>
-    ensures ok { OnOk result ((p : State) × SpellsPosition fen.now p × ((text : List ℕ) × IsMovesText p text × Appends (W.held out.old) (W.held out.new) text)) }
+    ensures ok { OnOk result ((p : State) × SpellsPosition fen.now p
+        × ((text : List ℕ) × IsMovesText p text × Appends (W.held out.old) (W.held out.new) text)) }
     ensures err { IfErr result (λ e. IsMovesFault fen.now (W.has_failed out.new) e) }
     ensures unwritten { IfErr result (λ e. e ≢ MovesFault.Write → out.new ≡ out.old) }
     ensures runs { OnOk result (W.has_failed out.new ≡ W.has_failed out.old) }

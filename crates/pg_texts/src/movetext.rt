@@ -5,7 +5,7 @@ ghost use Rattle.pg_position.specs.declared.moves.Move.{Move};
 ghost use Rattle.pg_position.specs.Step.{IsLegal};
 ghost use Rattle.pg_san.specs.Writing.{IsSan};
 ghost use Rattle.pg_texts.specs.Movetext.{space_text, number_text, IsMovetext, IsLongestGame};
-ghost use Rattle.pg_texts.specs.numbers.Plies.{PlyGrows, IsPlayedOut};
+ghost use Rattle.pg_texts.specs.inner.Plies.{PlyGrows, IsPlayedOut};
 
 use pg_certificate::{Refused, Sink, WriteFault};
 use pg_fen::text::digits;
@@ -52,7 +52,8 @@ fn write_ply<W: Sink>(ply: usize, position: &Position, m: &Move, out: &mut W) ->
 // Appends the moves up to the first that is not legal; how many they are.
 fn write_plies<W: Sink>(moves: &[Move], out: &mut W) -> Result<usize, Refused>
     ensures plies { IfOk result (λ n. IsPlayedOut moves.now n (W.held out.old) (W.held out.new)) }
-    ensures runs { IfOk result (λ n. (W.has_failed out.new ≡ W.has_failed out.old) × (0 < n → W.has_failed out.new ≡ false)) }
+    ensures runs { IfOk result (λ n. (W.has_failed out.new ≡ W.has_failed out.old)
+        × (0 < n → W.has_failed out.new ≡ false)) }
     ensures fault { OnErr result (W.has_failed out.new ≡ true) }
 {
     let mut position = Position::array();

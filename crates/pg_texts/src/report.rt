@@ -62,7 +62,8 @@ pub fn write_head<W: Sink>(
 /// `Refused` where the sink has failed.
 pub fn write_game<W: Sink>(game: &[Move], out: &mut W) -> Result<(), Refused>
     requires { IsFromArray game.now }
-    ensures text { OnOk result ((text : List ℕ) × IsMovetext game.now text × Appends (W.held out.old) (W.held out.new) (line_text text)) }
+    ensures text { OnOk result ((text : List ℕ) × IsMovetext game.now text
+        × Appends (W.held out.old) (W.held out.new) (line_text text)) }
     ensures runs { OnOk result ((W.has_failed out.old ≡ false) × (W.has_failed out.new ≡ false)) }
     ensures fault { OnErr result (W.has_failed out.new ≡ true) }
 {
@@ -75,7 +76,8 @@ pub fn write_game<W: Sink>(game: &[Move], out: &mut W) -> Result<(), Refused>
 /// # Errors
 /// `Refused` where the sink has failed.
 pub fn write_games<W: Sink>(games: &Games, out: &mut W) -> Result<(), Refused>
-    ensures lines { OnOk result ((text : List ℕ) × AreGameLines games.now text × Appends (W.held out.old) (W.held out.new) text) }
+    ensures lines { OnOk result ((text : List ℕ) × AreGameLines games.now text
+        × Appends (W.held out.old) (W.held out.new) text) }
     ensures runs { OnOk result (W.has_failed out.new ≡ W.has_failed out.old) }
     ensures fault { OnErr result (W.has_failed out.new ≡ true) }
 {
@@ -95,7 +97,8 @@ fn append_report<W: Sink>(
     games: &Games,
     out: &mut W,
 ) -> Result<Verdict, Refused>
-    ensures text { OnOk result ((text : List ℕ) × IsReport diagram.now length games.now text × Appends (W.held out.old) (W.held out.new) text) }
+    ensures text { OnOk result ((text : List ℕ) × IsReport diagram.now length games.now text
+        × Appends (W.held out.old) (W.held out.new) text) }
     ensures verdict { IfOk result (λ v. IsVerdict games.now v) }
     ensures runs { OnOk result ((W.has_failed out.old ≡ false) × (W.has_failed out.new ≡ false)) }
     ensures fault { OnErr result (W.has_failed out.new ≡ true) }
@@ -122,7 +125,8 @@ pub fn write_report<W: Sink>(
     games: &Games,
     out: &mut W,
 ) -> Result<Verdict, WriteFault>
-    ensures text { OnOk result ((text : List ℕ) × IsReport diagram.now length games.now text × Appends (W.held out.old) (W.held out.new) text) }
+    ensures text { OnOk result ((text : List ℕ) × IsReport diagram.now length games.now text
+        × Appends (W.held out.old) (W.held out.new) text) }
     ensures verdict { IfOk result (λ v. IsVerdict games.now v) }
     ensures runs { OnOk result ((W.has_failed out.old ≡ false) × (W.has_failed out.new ≡ false)) }
     ensures fault { IfErr result (λ e. (e ≡ WriteFault.Write) × (W.has_failed out.new ≡ true)) }

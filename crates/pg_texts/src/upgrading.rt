@@ -5,7 +5,7 @@ ghost use Rattle.pg_certificate.specs.Reader.{to_come};
 ghost use Rattle.pg_certificate.specs.Reading.{more_at};
 ghost use Rattle.pg_certificate.specs.Spelling.{longest_record};
 ghost use Rattle.pg_certificate.specs.Writer.{written};
-ghost use Rattle.pg_texts.specs.numbers.Copying.{Copies, CopiesOne, one_in};
+ghost use Rattle.pg_texts.specs.inner.Copying.{Copies, CopiesOne, one_in};
 ghost use Rattle.pg_texts.specs.Upgrade.{IsUpgraded, IsUpgradeFault, Takes, upgrade_fault_of, records_in, upgrade_of};
 
 use crate::fault::UpgradeFault;
@@ -67,13 +67,15 @@ fn copy_records<R: Source, W: Sink>(
         (to_come reader.old (R.left source.old)) (to_come reader.new (R.left source.new))
         (written (W.held out.old) writer.old) (written (W.held out.new) writer.new)) }
     ensures few { IfOk result (λ n. n ≤ max_records) }
-    ensures answer { IfOk result (λ n. IfSome (to_come reader.old (R.left source.old)) (λ bytes. records_in max_records bytes ≡ Ok n)) }
+    ensures answer { IfOk result (λ n. IfSome (to_come reader.old (R.left source.old))
+        (λ bytes. records_in max_records bytes ≡ Ok n)) }
     ensures end { OnOk result (IsAtEnd (to_come reader.new (R.left source.new))) }
     ensures runs { OnOk result (R.has_failed source.new ≡ false) }
     ensures writes { OnOk result (writer.new.failed ≡ false) }
     ensures err { IfErr result (λ e. IsUpgradeFault (records_in max_records) (to_come reader.old (R.left source.old))
         (R.has_failed source.new) (W.has_failed out.new) e) }
-    ensures takes { Takes (longest_record * max_records + 4096) (to_come reader.old (R.left source.old)) (R.left source.new) result }
+    ensures takes { Takes (longest_record * max_records + 4096) (to_come reader.old (R.left source.old))
+        (R.left source.new) result }
 {
     let mut count = 0;
     'records: loop {

@@ -28,14 +28,14 @@ use Rattle.pg_travel.specs.Origins.{counted, charge}
 use Rattle.pg_travel.specs.Decided.{sum_of}
 use Rattle.pg_travel.specs.lemmas.Pawns.{some_by_steps, walk_bounds}
 use Rattle.pg_travel.specs.lemmas.Values.{least_at_most, least_reached, counted_low, sum_is_value, cost_man}
-use Rattle.pg_travel.specs.numbers.Formulas.{distance_of, least_of}
-use Rattle.pg_travel.specs.numbers.Costs.{reach_of, nearest, cost, SumIs}
-use Rattle.pg_travel.specs.numbers.Within.{PaysIs}
+use Rattle.pg_travel.specs.inner.Formulas.{distance_of, least_of}
+use Rattle.pg_travel.specs.inner.Costs.{reach_of, nearest, cost, SumIs}
+use Rattle.pg_travel.specs.inner.Within.{PaysIs}
 use Rattle.pg_travel.proofs.Skips.{sum_skip, cost_none}
 use Rattle.pg_travel.proofs.SourceLemmas.{row_has, below_all, of_there, of_man, number_next}
 use Rattle.pg_travel.proofs.Within.{pays_by}
-use Rattle.pg_travel.specs.numbers.DistanceRows.{stored, IsRow}
-use Rattle.pg_travel.specs.numbers.LeastRows.{at_target, steps_of, IsUnreached, AreLesser, IsLowered, IsHomeOf, IsAway, IsLeastRow}
+use Rattle.pg_travel.specs.inner.DistanceRows.{stored, IsRow}
+use Rattle.pg_travel.specs.inner.LeastRows.{at_target, steps_of, IsUnreached, AreLesser, IsLowered, IsHomeOf, IsAway, IsLeastRow}
 
 -- ---- a row without distances
 -- what is known of the first i numbers

@@ -14,8 +14,8 @@ use Rattle.pg_position.specs.declared.rights.Wing.{Wing}
 use Rattle.pg_position.specs.declared.rights.Wing.TheVariants.{KingSide, QueenSide}
 use Rattle.pg_board.specs.SquareSets.{IsFirstFrom}
 use Rattle.pg_travel.specs.Origins.{counted}
-use Rattle.pg_travel.specs.numbers.Formulas.{rank_for, pawn_steps, last_at, least_of, pawn_to, soonest, knight, bishop, rook, queen, distance_of, is_promoted, least_steps}
-use Rattle.pg_travel.specs.numbers.Costs.{reach_of, reach_from, BeyondFar, nearest, nearest_man}
+use Rattle.pg_travel.specs.inner.Formulas.{rank_for, pawn_steps, last_at, least_of, pawn_to, soonest, knight, bishop, rook, queen, distance_of, is_promoted, least_steps}
+use Rattle.pg_travel.specs.inner.Costs.{reach_of, reach_from, BeyondFar, nearest, nearest_man}
 use Rattle.pg_travel.specs.lemmas.Pawns.{by_other, some_by_steps, least_of_more, least_of_none}
 use Rattle.pg_travel.proofs.Skips.{least_le, least_skip}
 

@@ -3,7 +3,7 @@ use Rattle.std.proofs.Common.{◌≡◌, ℕ, ◌<◌, ◌≤◌, Bool, true, Li
 use Rattle.pg_board.specs.declared.man.Color.{Color}
 use Rattle.pg_board.specs.declared.man.Color.TheVariants.{White, Black}
 use Rattle.pg_travel.specs.declared.pawn_table.TheConstants.{WHITE_PAWN}
-use Rattle.pg_travel.specs.numbers.Formulas.{mirrored, pawn_steps, pawn}
+use Rattle.pg_travel.specs.inner.Formulas.{mirrored, pawn_steps, pawn}
 use Rattle.pg_travel.specs.lemmas.PairTests.{all_below, below_at}
 
 abbrev at : List (List ℕ) → ℕ → ℕ → ℕ

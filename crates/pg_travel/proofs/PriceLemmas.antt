@@ -24,12 +24,12 @@ use Rattle.pg_captures.specs.lemmas.PlaceLemmas.{marks_men, place_within, price_
 use Rattle.pg_captures.specs.PriceLists.{PriceList, number_among, price, IsPriced, IsFor}
 use Rattle.pg_travel.specs.Walks.{IsDistance}
 use Rattle.pg_travel.specs.Origins.{charge, counted}
-use Rattle.pg_travel.specs.numbers.Formulas.{distance_of, is_promoted, soonest, least_steps}
+use Rattle.pg_travel.specs.inner.Formulas.{distance_of, is_promoted, soonest, least_steps}
 use Rattle.pg_travel.specs.lemmas.Pawns.{none_by_steps, some_by_steps, by_other}
 use Rattle.pg_price_lists.specs.PriceRecords.{list_at}
 use Rattle.pg_travel.specs.lemmas.Values.{counted_low}
 use Rattle.pg_travel.proofs.Nearness.{no_sooner, soonest_counted}
-use Rattle.pg_travel.specs.numbers.PriceTests.{PairFits, IsBySquare, IsLeastPrice, IsLow, BeyondFits, ManFits, KindFits, StoodFits, TargetFits, AllFit}
+use Rattle.pg_travel.specs.inner.PriceTests.{PairFits, IsBySquare, IsLeastPrice, IsLow, BeyondFits, ManFits, KindFits, StoodFits, TargetFits, AllFit}
 use Rattle.pg_travel.specs.TravelPrices.{ways_of, TravelPricesFit, WayPricesExclude, TravelPricesExclude}
 
 -- ---- a pair

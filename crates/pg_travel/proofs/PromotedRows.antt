@@ -3,8 +3,8 @@ use Rattle.std.proofs.Common.{◌≡◌, ℕ, ◌<◌, ◌/◌, ◌%◌, Bool, t
 use Rattle.pg_board.specs.declared.man.Color.{Color}
 use Rattle.pg_board.specs.declared.man.Color.TheVariants.{White, Black}
 use Rattle.pg_travel.specs.declared.promotion_table.TheConstants.{WHITE_PROMOTED}
-use Rattle.pg_travel.specs.numbers.Formulas.{mirrored, knight, bishop, rook, queen, pawn_steps, least_of, pawn_to}
-use Rattle.pg_travel.specs.numbers.Promoted.{told, ArePromoted}
+use Rattle.pg_travel.specs.inner.Formulas.{mirrored, knight, bishop, rook, queen, pawn_steps, least_of, pawn_to}
+use Rattle.pg_travel.specs.inner.Promoted.{told, ArePromoted}
 use Rattle.pg_travel.specs.lemmas.PairTests.{all_below, below_at}
 
 abbrev at : List (List ℕ) → ℕ → ℕ → ℕ

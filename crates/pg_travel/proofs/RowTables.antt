@@ -19,7 +19,7 @@ use Rattle.pg_board.specs.Placement.{Placement, get}
 use Rattle.pg_captures.specs.Counting.{of_color, men, any_man}
 use Rattle.pg_captures.specs.PriceLists.{number_among}
 use Rattle.pg_captures.specs.lemmas.PlaceLemmas.{marks_men, place_skip, place_next, seen_next, all_last}
-use Rattle.pg_travel.specs.numbers.DistanceRows.{to_stood, IsRow, row_place, IsRowAt, AreRows, AreFirstRows, FitsAt, RowFits}
+use Rattle.pg_travel.specs.inner.DistanceRows.{to_stood, IsRow, row_place, IsRowAt, AreRows, AreFirstRows, FitsAt, RowFits}
 
 -- what row says of the man on a square, if it is one of the first sixteen
 abbrev pub SeenIn : Placement → Color → (ℕ → ℕ) → List ℕ → ℕ → Type 0

@@ -9,8 +9,8 @@ use Rattle.pg_board.specs.Placement.{Placement, get}
 use Rattle.pg_board.specs.Bits.{has}
 use Rattle.pg_position.specs.declared.rights.Wing.{Wing}
 use Rattle.pg_board.specs.Tally.{total}
-use Rattle.pg_travel.specs.numbers.Formulas.{least_of}
-use Rattle.pg_travel.specs.numbers.Costs.{nearest, cost_of, cost}
+use Rattle.pg_travel.specs.inner.Formulas.{least_of}
+use Rattle.pg_travel.specs.inner.Costs.{nearest, cost_of, cost}
 
 pub least_le : (f : ℕ → ℕ) (n : ℕ) → least_of f n ≤ 64
 unfolding least_of

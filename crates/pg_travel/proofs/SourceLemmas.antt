@@ -24,11 +24,11 @@ use Rattle.pg_captures.specs.lemmas.PlaceLemmas.{passes_like, and-true, marks_me
 use Rattle.pg_travel.specs.Origins.{counted}
 use Rattle.pg_travel.specs.lemmas.Pawns.{some_by_steps, walk_bounds}
 use Rattle.pg_travel.specs.lemmas.Values.{counted_low}
-use Rattle.pg_travel.specs.numbers.Formulas.{distance_of}
-use Rattle.pg_travel.specs.numbers.PriceTests.{PairFits, AllFit}
+use Rattle.pg_travel.specs.inner.Formulas.{distance_of}
+use Rattle.pg_travel.specs.inner.PriceTests.{PairFits, AllFit}
 use Rattle.pg_travel.proofs.RowTables.{up_to_all}
 use Rattle.pg_travel.proofs.Within.{count_skip}
-use Rattle.pg_travel.specs.numbers.DistanceRows.{stored, to_stood, IsRow, FitsAt, RowFits, AreFew, SourceFits, MenFit, SourcesFit, AreSixteen}
+use Rattle.pg_travel.specs.inner.DistanceRows.{stored, to_stood, IsRow, FitsAt, RowFits, AreFew, SourceFits, MenFit, SourcesFit, AreSixteen}
 
 -- ---- men by their numbers
 is_there_of : (c : Color) (q : ℕ) (o : Option Man) → passes (of_color c any_man q) o ≡ is_of c o

@@ -20,15 +20,15 @@ use Rattle.pg_position.specs.Position.{holds}
 use Rattle.pg_position.specs.Squares.{king_home, rook_home, king_crossed, king_target, IsCastlingHome}
 use Rattle.pg_captures.specs.Owed.{plies_left}
 use Rattle.pg_travel.specs.Origins.{charge, counted}
-use Rattle.pg_travel.specs.numbers.Formulas.{distance_of}
+use Rattle.pg_travel.specs.inner.Formulas.{distance_of}
 use Rattle.pg_travel.specs.Needs.{NeedIs, TravelTest}
 use Rattle.pg_travel.specs.lemmas.NeedLemmas.{test_fails}
-use Rattle.pg_travel.specs.numbers.Costs.{reach_of, nearest, cost, SumIs, lesser}
+use Rattle.pg_travel.specs.inner.Costs.{reach_of, nearest, cost, SumIs, lesser}
 use Rattle.pg_travel.specs.lemmas.Pawns.{some_by_steps}
 use Rattle.pg_travel.specs.lemmas.Values.{sum_is_value, cost_home, cost_man, counted_low}
 use Rattle.pg_travel.specs.Decided.{sum_of}
 use Rattle.pg_travel.specs.lemmas.Least.{need_is, test_none, test_some, held_by_value}
-use Rattle.pg_travel.specs.numbers.Within.{CostsOnly, CostsEach, SumWithin, IsAbove, PaysIs, CastledIs}
+use Rattle.pg_travel.specs.inner.Within.{CostsOnly, CostsEach, SumWithin, IsAbove, PaysIs, CastledIs}
 use Rattle.pg_travel.proofs.Nearness.{least_above}
 use Rattle.pg_travel.proofs.Skips.{IsOwn, cost_off, sum_skip}
 

@@ -13,8 +13,8 @@ use Rattle.pg_captures.specs.Owed.{plies_left}
 use Rattle.pg_travel.specs.Origins.{charge}
 use Rattle.pg_board.specs.Tally.{total}
 use Rattle.pg_travel.specs.Needs.{NeedIs, TravelTest, TravelHolds}
-use Rattle.pg_travel.specs.numbers.Formulas.{least_of}
-use Rattle.pg_travel.specs.numbers.Costs.{reach_of, nearest, cost_of, cost, ValueIs, SumIs, HeldIs, lesser}
+use Rattle.pg_travel.specs.inner.Formulas.{least_of}
+use Rattle.pg_travel.specs.inner.Costs.{reach_of, nearest, cost_of, cost, ValueIs, SumIs, HeldIs, lesser}
 use Rattle.pg_travel.specs.lemmas.Values.{sum_is_value}
 use Rattle.pg_travel.specs.lemmas.Least.{need_is, test_none, test_some, held_by_value}
 

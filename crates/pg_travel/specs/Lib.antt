@@ -5,4 +5,4 @@ pub mod Decided
 pub mod TravelPrices
 pub mod PricesDecided
 pub mod lemmas
-pub mod numbers
+pub mod inner

@@ -1,6 +1,6 @@
 //! The ranks from which a pawn soon becomes another man.
 ghost use Rattle.std.specs.Prelude.{◌≡◌, ℕ, ◌-◌, ◌<◌, ◌≤◌, ◌⊎◌};
-ghost use Rattle.pg_travel.specs.numbers.Formulas.{soonest};
+ghost use Rattle.pg_travel.specs.inner.Formulas.{soonest};
 
 use pg_board::Color;
 

@@ -1,9 +1,9 @@
 //! Distances: the least number of steps of a man that is alone on the board. 64 stands for none.
 ghost use Rattle.std.specs.Prelude.{◌≡◌, ◌≢◌, ℕ, ◌+◌, ◌-◌, ◌*◌, ◌/◌, ◌%◌, ◌<◌, ◌≤◌, ◌&&◌, ◌||◌, cond, eqb, min, max, IsTrue};
 ghost use Rattle.pg_travel.specs.Walks.{DistanceIs};
-ghost use Rattle.pg_travel.specs.numbers.Formulas.{files, ranks, king, rook, bishop, queen, knight, is_corner, long_way, knight_by, piece, rank_for};
-ghost use Rattle.pg_travel.specs.numbers.Formulas.{mirrored, pawn, soonest, is_promoted, least_steps, from_pawn, distance_of};
-ghost use Rattle.pg_travel.specs.numbers.Promoted.{told, ArePromoted};
+ghost use Rattle.pg_travel.specs.inner.Formulas.{files, ranks, king, rook, bishop, queen, knight, is_corner, long_way, knight_by, piece, rank_for};
+ghost use Rattle.pg_travel.specs.inner.Formulas.{mirrored, pawn, soonest, is_promoted, least_steps, from_pawn, distance_of};
+ghost use Rattle.pg_travel.specs.inner.Promoted.{told, ArePromoted};
 
 use crate::pawn_table::WHITE_PAWN;
 use crate::promotion_table::WHITE_PROMOTED;
@@ -26,7 +26,7 @@ fn ranks(from: Square, to: Square) -> u8
     from.rank().abs_diff(to.rank())
 }
 
-#[tactic(auto, unfolding(crate::specs::numbers::Formulas::king))]
+#[tactic(auto, unfolding(crate::specs::inner::Formulas::king))]
 fn king_steps(from: Square, to: Square) -> u8
     ensures value { result ≡ king from to }
     ensures low { result ≤ 64 }
@@ -34,7 +34,7 @@ fn king_steps(from: Square, to: Square) -> u8
     files(from, to).max(ranks(from, to))
 }
 
-#[tactic(auto, unfolding(crate::specs::numbers::Formulas::rook))]
+#[tactic(auto, unfolding(crate::specs::inner::Formulas::rook))]
 fn rook_steps(from: Square, to: Square) -> u8
     ensures value { result ≡ rook from to }
     ensures low { result ≤ 64 }
@@ -48,7 +48,7 @@ fn rook_steps(from: Square, to: Square) -> u8
     }
 }
 
-#[tactic(auto, unfolding(crate::specs::numbers::Formulas::bishop))]
+#[tactic(auto, unfolding(crate::specs::inner::Formulas::bishop))]
 fn bishop_steps(from: Square, to: Square) -> u8
     ensures value { result ≡ bishop from to }
     ensures low { result ≤ 64 }
@@ -66,7 +66,7 @@ fn bishop_steps(from: Square, to: Square) -> u8
     }
 }
 
-#[tactic(auto, unfolding(crate::specs::numbers::Formulas::queen))]
+#[tactic(auto, unfolding(crate::specs::inner::Formulas::queen))]
 fn queen_steps(from: Square, to: Square) -> u8
     ensures value { result ≡ queen from to }
     ensures low { result ≤ 64 }
@@ -114,7 +114,7 @@ fn knight_by(x: u8, y: u8, corner: bool) -> u8
     }
 }
 
-#[tactic(auto, unfolding(crate::specs::numbers::Formulas::knight))]
+#[tactic(auto, unfolding(crate::specs::inner::Formulas::knight))]
 fn knight_steps(from: Square, to: Square) -> u8
     ensures value { result ≡ knight from to }
     ensures low { result ≤ 64 }

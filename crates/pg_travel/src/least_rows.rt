@@ -7,8 +7,8 @@ ghost use Rattle.pg_captures.specs.Counting.{men, any_man};
 ghost use Rattle.pg_position.specs.declared.rights.Wing.TheVariants.{KingSide, QueenSide};
 ghost use Rattle.pg_position.specs.declared.state.State.{State};
 ghost use Rattle.pg_travel.specs.Needs.{TravelTest};
-ghost use Rattle.pg_travel.specs.numbers.LeastRows.{IsUnreached, AreLesser, IsLowered, IsHomeOf, IsAway, IsLeastRow};
-ghost use Rattle.pg_travel.specs.numbers.Within.{PaysIs, CastledIs};
+ghost use Rattle.pg_travel.specs.inner.LeastRows.{IsUnreached, AreLesser, IsLowered, IsHomeOf, IsAway, IsLeastRow};
+ghost use Rattle.pg_travel.specs.inner.Within.{PaysIs, CastledIs};
 
 use crate::castling::{charge, counted};
 use crate::needs::same_side;
@@ -74,7 +74,8 @@ fn homes(color: Color) -> SquareSet
 // Lowered by the rows of each such man that stands off the homes.
 fn lowered_by(rows: &Rows, board: &Board, man: Man, homes: SquareSet, least: [u8; 16]) -> [u8; 16]
     requires { IsSetOf homes (IsHomeOf man.color) }
-    ensures { IsLowered rows.now board.now man.color None (λ q. (get board.now q ≡ Some man) × ¬ IsHomeOf man.color q) least result }
+    ensures { IsLowered rows.now board.now man.color None
+        (λ q. (get board.now q ≡ Some man) × ¬ IsHomeOf man.color q) least result }
 {
     let own = board.squares_of(man) - homes;
     let mut lowest = least;

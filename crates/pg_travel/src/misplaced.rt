@@ -2,7 +2,7 @@
 ghost use Rattle.std.specs.Prelude.{◌≡◌, ℕ, ◌<◌, ◌⊎◌};
 ghost use Rattle.pg_board.specs.SquareSets.{IsSetOf};
 ghost use Rattle.pg_position.specs.Squares.{king_crossed, king_target};
-ghost use Rattle.pg_travel.specs.numbers.Within.{CostsOnly, CostsEach};
+ghost use Rattle.pg_travel.specs.inner.Within.{CostsOnly, CostsEach};
 
 use pg_board::{Board, Color, SquareSet};
 use pg_position::{Wing, castling_homes, king_crossed, king_target};

@@ -6,10 +6,10 @@ ghost use Rattle.pg_board.specs.Tally.{one};
 ghost use Rattle.pg_board.specs.Men.{color_eq};
 ghost use Rattle.pg_captures.specs.Owed.{plies_left};
 ghost use Rattle.pg_travel.specs.Origins.{counted, charge};
-ghost use Rattle.pg_travel.specs.numbers.Formulas.{least_of};
-ghost use Rattle.pg_travel.specs.numbers.Costs.{BeyondFar, nearest_man, nearest, cost_of, cost, ValueIs, SumIs, HeldIs, lesser};
+ghost use Rattle.pg_travel.specs.inner.Formulas.{least_of};
+ghost use Rattle.pg_travel.specs.inner.Costs.{BeyondFar, nearest_man, nearest, cost_of, cost, ValueIs, SumIs, HeldIs, lesser};
 ghost use Rattle.pg_travel.specs.Needs.{NeedIs, TravelTest};
-ghost use Rattle.pg_travel.specs.numbers.Within.{SumWithin, PaysIs, CastledIs};
+ghost use Rattle.pg_travel.specs.inner.Within.{SumWithin, PaysIs, CastledIs};
 
 use crate::bands::{Band, promoting, whole_board};
 use crate::castling::{charge, counted};
@@ -28,7 +28,7 @@ pub(crate) fn same_side(a: Color, b: Color) -> bool
 
 // From the nearest square with this man to a kind on a target, where that is less than `best`. Those
 // outside of a band are no nearer than that.
-#[tactic(auto, unfolding(crate::specs::numbers::Costs::nearest_man))]
+#[tactic(auto, unfolding(crate::specs::inner::Costs::nearest_man))]
 fn nearer(
     board: &Board,
     man: Man,
@@ -84,7 +84,7 @@ fn is_home(color: Color, way: Option<Wing>, t: Square, here: Option<Man>, man: M
 }
 
 // What the man of the diagram on a square costs: nothing where it is not of the colour.
-#[tactic(auto, unfolding(crate::specs::numbers::Costs::cost))]
+#[tactic(auto, unfolding(crate::specs::inner::Costs::cost))]
 fn cost(board: &Board, goal: &Board, color: Color, way: Option<Wing>, t: Square) -> u8
     ensures value { result ≡ cost board.now goal.now color way t }
     ensures low { result ≤ 64 }

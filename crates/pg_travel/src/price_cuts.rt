@@ -5,7 +5,7 @@ ghost use Rattle.pg_captures.specs.Counting.{any_man};
 ghost use Rattle.pg_captures.specs.PriceLists.{list_of, IsPriced};
 ghost use Rattle.pg_price_lists.specs.PriceRecords.{list_at};
 ghost use Rattle.pg_travel.specs.TravelPrices.{WayPricesExclude, TravelPricesExclude};
-ghost use Rattle.pg_travel.specs.numbers.PriceTests.{AllFit, OneExcludes, TwoExclude, ThreeExclude};
+ghost use Rattle.pg_travel.specs.inner.PriceTests.{AllFit, OneExcludes, TwoExclude, ThreeExclude};
 
 use crate::castling::charge;
 use crate::rows::Rows;

@@ -2,8 +2,8 @@
 ghost use Rattle.std.specs.Prelude.{◌≡◌, ℕ, ◌<◌, ◌≤◌, ◌↔◌, IsTrue};
 ghost use Rattle.pg_board.specs.Men.{number_of_kind};
 ghost use Rattle.pg_captures.specs.Counting.{men, any_man};
-ghost use Rattle.pg_travel.specs.numbers.DistanceRows.{stored, to_stood, IsRow, row_place, IsRowAt, AreRows, AreFirstRows, RowFits};
-ghost use Rattle.pg_travel.specs.numbers.Within.{CostsEach};
+ghost use Rattle.pg_travel.specs.inner.DistanceRows.{stored, to_stood, IsRow, row_place, IsRowAt, AreRows, AreFirstRows, RowFits};
+ghost use Rattle.pg_travel.specs.inner.Within.{CostsEach};
 
 use crate::distances::all_steps;
 use crate::misplaced::sure_to_cost;
@@ -26,7 +26,7 @@ pub struct Rows {
 impl Model for Rows {
     ghost use Rattle.pg_board.specs.Placement.{Placement};
     ghost use Rattle.pg_board.specs.lemmas.Codes.{placement_code};
-    ghost use Rattle.pg_travel.specs.numbers.DistanceRows.{AreRows};
+    ghost use Rattle.pg_travel.specs.inner.DistanceRows.{AreRows};
 
     ghost Value = { Placement };
 

@@ -5,8 +5,8 @@ ghost use Rattle.pg_board.specs.Bits.{has};
 ghost use Rattle.pg_board.specs.Tally.{count_below};
 ghost use Rattle.pg_captures.specs.Counting.{any_man};
 ghost use Rattle.pg_captures.specs.PriceLists.{IsPriced};
-ghost use Rattle.pg_travel.specs.numbers.PriceTests.{AllFit};
-ghost use Rattle.pg_travel.specs.numbers.DistanceRows.{AreFew, MenFit, SourcesFit, AreSixteen};
+ghost use Rattle.pg_travel.specs.inner.PriceTests.{AllFit};
+ghost use Rattle.pg_travel.specs.inner.DistanceRows.{AreFew, MenFit, SourcesFit, AreSixteen};
 
 use crate::castling::counted;
 use crate::rows::{Rows, fits};
@@ -14,7 +14,7 @@ use pg_board::{Board, Color, Kind, Man, Square, SquareSet};
 use pg_position::Wing;
 
 // At most sixteen prices, and zeros after them.
-#[tactic(auto, unfolding(crate::specs::numbers::DistanceRows::AreSixteen))]
+#[tactic(auto, unfolding(crate::specs::inner::DistanceRows::AreSixteen))]
 fn sixteen(prices: &[u8]) -> [u8; 16]
     requires { length prices.now ≤ 16 }
     ensures { AreSixteen prices.now result }

@@ -2,8 +2,8 @@
 
 use crate::shared::{joined, repeated};
 use pg_certificate::{RecordCount, Sink, Source, ToWrite};
-use pg_moves::Progress;
-use pg_searcher::Progress as SearchProgress;
+use pg_moves::CountProgress;
+use pg_searcher::SearchProgress;
 use pg_streams::{
     Cleared, CountLine, SearchLine, Terminal, count_line, led_line, line_of, search_line,
     watch_records,

@@ -3,7 +3,7 @@
 use pg_moves::Unwatched;
 use pg_position::Move;
 use pg_san::read_games;
-use pg_searcher::Progress;
+use pg_searcher::SearchProgress;
 use pg_streams::Kept;
 use std::process::Abort;
 

@@ -2,7 +2,7 @@
 ghost use Rattle.std.specs.Prelude.{◌≡◌};
 ghost use Rattle.pg_position.specs.Step.{IsLegal};
 
-use crate::judge::{Verdict, sides_of};
+use crate::judge::{Cutting, sides_of};
 use crate::known::MISSING;
 use crate::led::barren::ANY;
 use crate::led::machine::{Halt, Machine, Open, Question, visit};
@@ -29,10 +29,10 @@ pub(crate) struct Means {
 }
 
 // Whether a cut excludes a node.
-fn is_cut(verdict: Verdict) -> bool {
+fn is_cut(verdict: Cutting) -> bool {
     match verdict {
-        Verdict::Cut(_) | Verdict::Pawns(_) | Verdict::Travel(_) => true,
-        Verdict::Stays | Verdict::Unknown => false,
+        Cutting::Cut(_) | Cutting::Pawns(_) | Cutting::Travel(_) => true,
+        Cutting::Stays | Cutting::Unknown => false,
     }
 }
 

@@ -7,7 +7,7 @@ use Rattle.pg_board.specs.declared.man.Kind.TheVariants.{Pawn, King}
 use Rattle.pg_board.specs.Squares.{file, rank}
 use Rattle.pg_board.specs.Men.{kind_eq}
 use Rattle.pg_board.specs.lemmas.Kinds.{each_man}
-use Rattle.pg_travel.specs.numbers.Formulas.{files, rook, bishop, queen, knight, piece, pawn_steps, pawn, least_of, pawn_to, from_pawn}
+use Rattle.pg_travel.specs.inner.Formulas.{files, rook, bishop, queen, knight, piece, pawn_steps, pawn, least_of, pawn_to, from_pawn}
 use Rattle.pg_travel.specs.lemmas.PairTests.{all_below, gather, all_of, any_of, fits_at, fits_row, fits_rows}
 
 -- where a pawn steps, as a test: n ranks forward

@@ -15,7 +15,7 @@ use Rattle.pg_position.specs.Geometry.{InPattern}
 use Rattle.pg_position.specs.Squares.{last_rank}
 use Rattle.pg_captures.specs.FreeSteps.{StepsTo, Becomes, FreeStep}
 use Rattle.pg_travel.specs.Walks.{Walk, DistanceIs}
-use Rattle.pg_travel.specs.numbers.Formulas.{files, king, rook, bishop, queen, knight, piece, from_pawn, least_of, distance_of, DistanceLaw}
+use Rattle.pg_travel.specs.inner.Formulas.{files, king, rook, bishop, queen, knight, piece, from_pawn, least_of, distance_of, DistanceLaw}
 use Rattle.pg_travel.specs.lemmas.PairTests.{Fits, fits}
 use Rattle.pg_travel.specs.lemmas.Pieces.{answer_none, answer_some, piece_step, piece_free, piece_fits}
 use Rattle.pg_travel.specs.lemmas.Tables.{goes_to}

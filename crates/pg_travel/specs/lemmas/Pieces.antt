@@ -8,7 +8,7 @@ use Rattle.pg_board.specs.Squares.{file, rank}
 use Rattle.pg_position.specs.Geometry.{InPattern}
 use Rattle.pg_captures.specs.FreeSteps.{StepsTo, Becomes, FreeStep}
 use Rattle.pg_travel.specs.Walks.{DistanceIs}
-use Rattle.pg_travel.specs.numbers.Formulas.{files, ranks, piece, answer, PieceLaw}
+use Rattle.pg_travel.specs.inner.Formulas.{files, ranks, piece, answer, PieceLaw}
 use Rattle.pg_travel.specs.lemmas.PairTests.{Fits, fits}
 use Rattle.pg_travel.specs.lemmas.Tables.{knight_to, bishop_to, rook_to, queen_to, king_to, goes_to, pieces_fit}
 use Rattle.pg_travel.specs.lemmas.WalkLemmas.{Local, distance}

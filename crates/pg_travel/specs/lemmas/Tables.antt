@@ -4,7 +4,7 @@ use Rattle.pg_board.specs.declared.man.Kind.{Kind}
 use Rattle.pg_board.specs.declared.man.Kind.TheVariants.{Pawn, Knight, Bishop, Rook, Queen, King}
 use Rattle.pg_board.specs.Squares.{file, rank}
 use Rattle.pg_board.specs.lemmas.Kinds.{each_kind}
-use Rattle.pg_travel.specs.numbers.Formulas.{files, ranks, king, rook, bishop, queen, knight, piece}
+use Rattle.pg_travel.specs.inner.Formulas.{files, ranks, king, rook, bishop, queen, knight, piece}
 use Rattle.pg_travel.specs.lemmas.PairTests.{all_below, gather, all_of, any_of, fits_at, fits_row, fits_rows}
 
 -- the patterns as tests

@@ -19,8 +19,8 @@ use Rattle.pg_travel.specs.Origins.{charge, counted}
 use Rattle.pg_captures.specs.Counting.{any_man, is_there}
 use Rattle.pg_travel.specs.lemmas.SumLemmas.{man_there, over_all}
 use Rattle.pg_travel.specs.Needs.{Comes, IsValue}
-use Rattle.pg_travel.specs.numbers.Formulas.{least_of, distance_of}
-use Rattle.pg_travel.specs.numbers.Costs.{reach_of, nearest, cost_of, cost, SumLaw}
+use Rattle.pg_travel.specs.inner.Formulas.{least_of, distance_of}
+use Rattle.pg_travel.specs.inner.Costs.{reach_of, nearest, cost_of, cost, SumLaw}
 use Rattle.pg_travel.specs.lemmas.Pawns.{walk_bounds, some_by_steps}
 
 pub least_at_most : (f : ℕ → ℕ) (n t : ℕ) → t < n → least_of f n ≤ f t

@@ -5,7 +5,7 @@ use Rattle.pg_board.specs.declared.man.Color.{Color}
 use Rattle.pg_board.specs.declared.man.Kind.{Kind}
 use Rattle.pg_captures.specs.FreeSteps.{FreeStep}
 use Rattle.pg_travel.specs.Walks.{Walk, DistanceIs}
-use Rattle.pg_travel.specs.numbers.Formulas.{answer}
+use Rattle.pg_travel.specs.inner.Formulas.{answer}
 
 -- D k r s stands for the distance from k on r to j on s, 64 for none. K are the kinds that a man may have on the way
 pub record Local (c : Color) (j : Kind) (K : Kind → Type 0) (D : Kind → ℕ → ℕ → ℕ) : Type 0 where

@@ -49,7 +49,7 @@ struct Told {
     games: u64,
 }
 
-impl Progress for Told {
+impl CountProgress for Told {
     fn counted(&mut self, games: u64) {
         self.games = self.games.saturating_add(games);
     }

@@ -12,7 +12,7 @@ struct Met {
     in_order: bool,
 }
 
-impl Progress for Met {
+impl SearchProgress for Met {
     fn reached(&mut self, _plies: u8, _left: u64) {}
 
     fn met(&mut self, game: &[Move]) {

@@ -118,7 +118,7 @@ struct Told {
     times: u32,
 }
 
-impl Progress for Told {
+impl SearchProgress for Told {
     fn reached(&mut self, plies: u8, left: u64) {
         self.in_order = self.in_order && self.tree <= plies && left <= self.left;
         self.tree = plies;

@@ -5,9 +5,9 @@ use Rattle.pg_checker.specs.Chess.{chess}
 use Rattle.pg_checker.specs.Check.{Accepts, Refuses}
 use Rattle.pg_checker.specs.declared.certify.Proved.{Proved}
 use Rattle.pg_checker.specs.declared.fault.Fault.{Fault}
-use Rattle.pg_checker.specs.numbers.Checking.{Answers, Headed, HeaderFails, fault_of}
-use Rattle.pg_checker.specs.numbers.Halting.{full}
-use Rattle.pg_checker.specs.numbers.Machine.{path}
+use Rattle.pg_checker.specs.inner.Checking.{Answers, Headed, HeaderFails, fault_of}
+use Rattle.pg_checker.specs.inner.Halting.{full}
+use Rattle.pg_checker.specs.inner.Machine.{path}
 use Rattle.pg_checker.specs.declared.machine.Frame.{Frame}
 use Rattle.pg_checker.proofs.Certifying.{fails_game}
 use Rattle.pg_checker.specs.Cuts.{cuts_by}

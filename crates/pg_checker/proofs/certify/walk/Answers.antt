@@ -3,8 +3,8 @@ use Rattle.std.proofs.Common.{[], reverse, Bool, Ok, refl, subst}
 use Rattle.pg_certificate.specs.Reader.{to_come, Reads}
 use Rattle.pg_certificate.specs.Reading.{more_at}
 use Rattle.pg_checker.specs.Cuts.{cuts_for}
-use Rattle.pg_checker.specs.numbers.Halting.{full}
-use Rattle.pg_checker.specs.numbers.Machine.{path}
+use Rattle.pg_checker.specs.inner.Halting.{full}
+use Rattle.pg_checker.specs.inner.Machine.{path}
 use Rattle.pg_checker.specs.declared.certify.Proved.{Proved}
 use Rattle.pg_checker.proofs.Certifying.{answers_stop, fails_stop, takes_stop, answers_end, answers_more, answers_unread, end_left}
 use Rattle.pg_checker.proofs.certify.walk.Goals as goal

@@ -1,5 +1,5 @@
 use Rattle.std.proofs.Common.{◌≡◌, ◌≤◌, length, reverse, take}
-use Rattle.pg_checker.specs.numbers.Machine.{path}
+use Rattle.pg_checker.specs.inner.Machine.{path}
 use Rattle.pg_checker.proofs.machine.game_along.Given as goal
 
 -- the moves of the frames so far

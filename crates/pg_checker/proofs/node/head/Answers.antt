@@ -4,10 +4,10 @@ use Rattle.pg_certificate.specs.Spelling.{record_of}
 use Rattle.pg_certificate.specs.Reader.{to_come, ReaderState}
 use Rattle.pg_checker.specs.Chess.{read}
 use Rattle.pg_checker.specs.Cuts.{cuts_for}
-use Rattle.pg_checker.specs.numbers.Halting.{full, stops}
-use Rattle.pg_checker.specs.numbers.Steps.{Goes, Stops}
+use Rattle.pg_checker.specs.inner.Halting.{full, stops}
+use Rattle.pg_checker.specs.inner.Steps.{Goes, Stops}
 use Rattle.pg_checker.specs.declared.machine.Node.{Node}
-use Rattle.pg_checker.specs.numbers.Spots.{spot_of}
+use Rattle.pg_checker.specs.inner.Spots.{spot_of}
 use Rattle.pg_checker.proofs.Heads.{head_budget, head_unread, head_judged, few_judged, few_unread, few_same}
 use Rattle.pg_checker.proofs.node.head.Goals as goal
 

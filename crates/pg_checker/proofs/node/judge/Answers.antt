@@ -2,9 +2,9 @@ use Rattle.std.proofs.Common.{refl, ap, true, false, Ok, Err}
 use Rattle.pg_certificate.specs.declared.record.Record.TheVariants.{Cut, Ref, Priced}
 use Rattle.pg_certificate.specs.Spelling.{record_of}
 use Rattle.pg_checker.specs.Cuts.{cuts_for}
-use Rattle.pg_checker.specs.numbers.Halting.{full, causes, stops}
+use Rattle.pg_checker.specs.inner.Halting.{full, causes, stops}
 use Rattle.pg_checker.specs.declared.machine.Node.TheVariants as node
-use Rattle.pg_checker.specs.numbers.Spots.{spot_of}
+use Rattle.pg_checker.specs.inner.Spots.{spot_of}
 use Rattle.pg_checker.proofs.Judgements.{cut_judged, ref_judged, priced_judged, opened_judged, named_judged, full_judged, halted, kept_none, of_record, of_named}
 use Rattle.pg_checker.proofs.node.judge.Goals as goal
 

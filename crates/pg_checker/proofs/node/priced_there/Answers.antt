@@ -2,8 +2,8 @@ use Rattle.std.proofs.Common.{subst}
 use Rattle.pg_position.specs.declared.state.State.{State}
 use Rattle.pg_checker.specs.Cuts.{prices_by}
 use Rattle.pg_checker.specs.Walk.{cut_answer}
-use Rattle.pg_checker.specs.numbers.Halting.{causes}
-use Rattle.pg_checker.specs.numbers.Judging.{Ends}
+use Rattle.pg_checker.specs.inner.Halting.{causes}
+use Rattle.pg_checker.specs.inner.Judging.{Ends}
 use Rattle.pg_checker.proofs.node.priced_there.Goals as goal
 
 pub returns : goal.returns

@@ -3,8 +3,8 @@ use Rattle.std.proofs.Common.{reverse}
 use Rattle.pg_position.specs.Array.{array_state}
 use Rattle.pg_certificate.specs.Reader.{to_come}
 use Rattle.pg_checker.specs.Cuts.{cuts_for}
-use Rattle.pg_checker.specs.numbers.Halting.{full}
-use Rattle.pg_checker.specs.numbers.Machine.{path}
+use Rattle.pg_checker.specs.inner.Halting.{full}
+use Rattle.pg_checker.specs.inner.Machine.{path}
 use Rattle.pg_checker.proofs.Planting.{trees_start, trees_on, trees_stop, trees_end}
 use Rattle.pg_checker.proofs.walk.all_trees.Goals as goal
 

@@ -1,9 +1,9 @@
 use Rattle.std.proofs.Common.{◌≢◌, false, [], reverse, refl, arith}
 use Rattle.pg_certificate.specs.Reader.{to_come}
 use Rattle.pg_checker.specs.Cuts.{cuts_for}
-use Rattle.pg_checker.specs.numbers.Halting.{full}
-use Rattle.pg_checker.specs.numbers.Machine.{path}
-use Rattle.pg_checker.specs.numbers.Spots.{spot_of}
+use Rattle.pg_checker.specs.inner.Halting.{full}
+use Rattle.pg_checker.specs.inner.Machine.{path}
+use Rattle.pg_checker.specs.inner.Spots.{spot_of}
 use Rattle.pg_checker.proofs.Enters.{enter_leaf, enter_halt, enter_unread, enter_done, enter_opened, kept_opened}
 use Rattle.pg_checker.proofs.walk.enter.Goals as goal
 

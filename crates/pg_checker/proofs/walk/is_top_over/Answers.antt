@@ -1,5 +1,5 @@
 use Rattle.std.proofs.Common.{◌≡◌, ◌-◌, ◌<◌, length, arith}
-use Rattle.pg_checker.specs.numbers.Machine.{Passed}
+use Rattle.pg_checker.specs.inner.Machine.{Passed}
 use Rattle.pg_checker.proofs.Tops.{on_top}
 use Rattle.pg_checker.proofs.walk.is_top_over.Goals as goal
 

@@ -1,6 +1,6 @@
 use Rattle.std.proofs.Common.{reverse, refl, ◌∙◌}
 use Rattle.pg_checker.specs.Cuts.{cuts_for}
-use Rattle.pg_checker.specs.numbers.Machine.{path}
+use Rattle.pg_checker.specs.inner.Machine.{path}
 use Rattle.pg_checker.proofs.Leaves.{leaf_off, leaf_shorter, leaf_listed, leaf_unlisted}
 use Rattle.pg_checker.proofs.walk.leaf.Goals as goal
 

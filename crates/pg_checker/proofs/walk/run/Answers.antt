@@ -2,8 +2,8 @@
 use Rattle.std.proofs.Common.{[], Err, reverse, sym, subst}
 use Rattle.pg_certificate.specs.Reader.{to_come, ReaderState}
 use Rattle.pg_checker.specs.Cuts.{cuts_for}
-use Rattle.pg_checker.specs.numbers.Halting.{full}
-use Rattle.pg_checker.specs.numbers.Machine.{path}
+use Rattle.pg_checker.specs.inner.Halting.{full}
+use Rattle.pg_checker.specs.inner.Machine.{path}
 use Rattle.pg_checker.proofs.Running.{Runs, runs_start, runs_end, kept_end, few_then}
 use Rattle.pg_checker.proofs.Tops.{passed_on, turn_runs, turn_less, turn_stops, close_runs, close_less, no_items}
 use Rattle.pg_checker.proofs.walk.run.Goals as goal

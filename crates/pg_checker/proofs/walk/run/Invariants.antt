@@ -1,11 +1,11 @@
 -- What is left to do answers what the whole answers, and there is less of it at each turn.
 use Rattle.std.proofs.Common.{[]}
 use Rattle.pg_certificate.specs.Reader.{to_come}
-use Rattle.pg_moves.specs.numbers.Places.{most_moves}
+use Rattle.pg_moves.specs.inner.Places.{most_moves}
 use Rattle.pg_checker.specs.Chess.{chess}
 use Rattle.pg_checker.specs.Cuts.{cuts_for}
-use Rattle.pg_checker.specs.numbers.Frames.{effort}
-use Rattle.pg_checker.specs.numbers.Machine.{work_at}
+use Rattle.pg_checker.specs.inner.Frames.{effort}
+use Rattle.pg_checker.specs.inner.Machine.{work_at}
 use Rattle.pg_checker.proofs.Running.{Runs}
 use Rattle.pg_checker.proofs.walk.run.Given as goal
 

@@ -3,8 +3,8 @@ use Rattle.std.proofs.Common.{[], reverse}
 use Rattle.pg_position.specs.Array.{array_state}
 use Rattle.pg_certificate.specs.Reader.{to_come}
 use Rattle.pg_checker.specs.Cuts.{cuts_for}
-use Rattle.pg_checker.specs.numbers.Halting.{full, stops}
-use Rattle.pg_checker.specs.numbers.Machine.{path}
+use Rattle.pg_checker.specs.inner.Halting.{full, stops}
+use Rattle.pg_checker.specs.inner.Machine.{path}
 use Rattle.pg_checker.proofs.Running.{few_then}
 use Rattle.pg_checker.proofs.Planting.{kept_none, tree_says, tree_stops, root_stacked, entered_at, stops_at}
 use Rattle.pg_checker.proofs.walk.tree_of.Goals as goal

@@ -2,9 +2,9 @@
 use Rattle.std.proofs.Common.{reverse, refl, ap}
 use Rattle.pg_certificate.specs.Reader.{to_come, ReaderState}
 use Rattle.pg_checker.specs.Cuts.{cuts_for}
-use Rattle.pg_checker.specs.numbers.Halting.{stops}
-use Rattle.pg_checker.specs.numbers.Machine.{path}
-use Rattle.pg_checker.specs.numbers.Spots.{spot_of}
+use Rattle.pg_checker.specs.inner.Halting.{stops}
+use Rattle.pg_checker.specs.inner.Machine.{path}
+use Rattle.pg_checker.specs.inner.Spots.{spot_of}
 use Rattle.pg_checker.proofs.Tops.{closes_kept, play_depth, play_kept, same_items, top_closes, top_plays}
 use Rattle.pg_checker.proofs.walk.turn.Goals as goal
 

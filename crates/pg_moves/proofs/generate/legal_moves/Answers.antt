@@ -4,7 +4,7 @@ use Rattle.pg_position.specs.declared.moves.Move.{Move}
 use Rattle.pg_position.specs.Step.{IsLegal}
 use Rattle.pg_moves.specs.Left.{MovesLeft}
 use Rattle.pg_moves.specs.Moves.{IsNext, IsLast}
-use Rattle.pg_moves.specs.numbers.Places.{place, start_after, IsFirstMove, IsListBelow}
+use Rattle.pg_moves.specs.inner.Places.{place, start_after, IsFirstMove, IsListBelow}
 use Rattle.pg_moves.proofs.ListLemmas.{on_board, list_start, list_more, list_end, if_err}
 use Rattle.pg_moves.proofs.SearchLemmas.{IsGood, found_next, none_next, start_low}
 use Rattle.pg_moves.proofs.generate.legal_moves.Goals as goal

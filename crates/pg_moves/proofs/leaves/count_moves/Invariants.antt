@@ -1,7 +1,7 @@
 use Rattle.std.proofs.Common.{◌≤◌, ◌+◌, ◌-◌, ◌*◌}
 use Rattle.pg_board.specs.Tally.{total}
-use Rattle.pg_moves.specs.numbers.Places.{place_of, IsCountBelow}
-use Rattle.pg_moves.specs.numbers.Pawns.{moves_from}
+use Rattle.pg_moves.specs.inner.Places.{place_of, IsCountBelow}
+use Rattle.pg_moves.specs.inner.Pawns.{moves_from}
 use Rattle.pg_moves.proofs.leaves.count_moves.Given as goal
 
 abbrev pub invariant-loop-square : goal.invariant-loop-square

@@ -1,5 +1,5 @@
 use Rattle.std.proofs.Common.{◌<◌, ◌≤◌, ◌+◌, ◌-◌, ◌*◌}
-use Rattle.pg_moves.specs.numbers.Places.{place_of, Adds}
+use Rattle.pg_moves.specs.inner.Places.{place_of, Adds}
 use Rattle.pg_moves.specs.Targets.{Covers}
 use Rattle.pg_moves.proofs.leaves.walked.Given as goal
 

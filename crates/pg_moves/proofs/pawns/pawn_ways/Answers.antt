@@ -1,5 +1,5 @@
 use Rattle.pg_moves.proofs.ShiftLemmas.{fewer_inside, once_inside, twice_set, side_set}
-use Rattle.pg_moves.specs.numbers.Pawns.{to_left, to_right}
+use Rattle.pg_moves.specs.inner.Pawns.{to_left, to_right}
 use Rattle.pg_moves.proofs.pawns.pawn_ways.Goals as goal
 
 pub going_twice-requires : goal.going_twice-requires

@@ -1,5 +1,5 @@
 use Rattle.std.proofs.Common.{◌≤◌, ◌-◌}
-use Rattle.pg_moves.specs.numbers.Places.{place_of, NoneFrom}
+use Rattle.pg_moves.specs.inner.Places.{place_of, NoneFrom}
 use Rattle.pg_moves.specs.Targets.{Covers}
 use Rattle.pg_moves.proofs.search.first_of_man.Given as goal
 

@@ -1,4 +1,4 @@
-use Rattle.pg_moves.specs.numbers.Sources.{IsSource}
+use Rattle.pg_moves.specs.inner.Sources.{IsSource}
 use Rattle.pg_moves.proofs.LeafLemmas.{exact_free}
 use Rattle.pg_moves.proofs.sources.source_of.Goals as goal
 

@@ -3,7 +3,7 @@ use Rattle.pg_board.specs.declared.man.Kind.TheVariants.{Pawn}
 use Rattle.pg_position.specs.Position.{Stands}
 use Rattle.pg_captures.specs.Counting.{any_pawn}
 use Rattle.pg_captures.specs.PriceLists.{number_among, price}
-use Rattle.pg_pawns.specs.numbers.PriceTests.{PairFits}
+use Rattle.pg_pawns.specs.inner.PriceTests.{PairFits}
 use Rattle.pg_pawns.proofs.prices.source_fits.Given as goal
 
 abbrev pub invariant-loop-t : goal.invariant-loop-t

@@ -1,6 +1,6 @@
 use Rattle.std.proofs.Common.{◌≤◌, ◌+◌, length}
 use Rattle.pg_san.specs.GameText.{lines}
-use Rattle.pg_san.specs.numbers.TextLeft.{lines_left, length_left}
+use Rattle.pg_san.specs.inner.TextLeft.{lines_left, length_left}
 use Rattle.pg_san.proofs.ListingLemmas.{IsReadTo}
 use Rattle.pg_san.proofs.listing.read_games.Given as goal
 

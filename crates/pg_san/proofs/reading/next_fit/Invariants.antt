@@ -1,8 +1,8 @@
 use Rattle.std.proofs.Common.{◌-◌}
 use Rattle.std.specs.Option.{ForSome}
 use Rattle.pg_position.specs.Step.{IsLegal}
-use Rattle.pg_moves.specs.numbers.Places.{start_after}
-use Rattle.pg_san.specs.numbers.Walk.{WalkedTo}
+use Rattle.pg_moves.specs.inner.Places.{start_after}
+use Rattle.pg_san.specs.inner.Walk.{WalkedTo}
 use Rattle.pg_san.proofs.reading.next_fit.Given as goal
 
 abbrev pub invariant-loop-m : goal.invariant-loop-m

@@ -1,5 +1,5 @@
 use Rattle.std.proofs.Common.{◌≡◌, ◌<◌, false}
-use Rattle.pg_texts.specs.numbers.Plies.{PliesGrow}
+use Rattle.pg_texts.specs.inner.Plies.{PliesGrow}
 use Rattle.pg_texts.proofs.movetext.write_plies.Given as goal
 
 -- the moves so far lead to the position, and their text was appended

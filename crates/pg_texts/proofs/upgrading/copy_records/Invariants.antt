@@ -1,7 +1,7 @@
 use Rattle.std.proofs.Common.{◌≡◌, ◌-◌, ◌≤◌, false, length}
 use Rattle.pg_certificate.specs.Reader.{to_come}
 use Rattle.pg_certificate.specs.Writer.{written}
-use Rattle.pg_texts.specs.numbers.Copying.{Copies}
+use Rattle.pg_texts.specs.inner.Copying.{Copies}
 use Rattle.pg_texts.proofs.upgrading.copy_records.Given as goal
 
 -- the records so far were copied, and neither side has refused

@@ -1,6 +1,6 @@
 use Rattle.std.proofs.Common.{ℕ, subst}
 use Rattle.pg_board.specs.declared.man.Kind.TheVariants.{Pawn, Knight, Bishop, Rook, Queen, King}
-use Rattle.pg_travel.specs.numbers.LeastRows.{IsUnreached}
+use Rattle.pg_travel.specs.inner.LeastRows.{IsUnreached}
 use Rattle.pg_travel.proofs.LeastRows.{of_kind, away_all}
 use Rattle.pg_travel.proofs.least_rows.away.Goals as goal
 

@@ -2,7 +2,7 @@ use Rattle.std.proofs.Common.{Bool, false, None, ap, subst, sym, ◌∙◌}
 use Rattle.pg_board.specs.declared.man.Color.{Color}
 use Rattle.pg_position.specs.declared.rights.Wing.TheVariants.{KingSide}
 use Rattle.pg_captures.specs.Owed.{plies_left}
-use Rattle.pg_travel.specs.numbers.Within.{PaysIs, CastledIs}
+use Rattle.pg_travel.specs.inner.Within.{PaysIs, CastledIs}
 use Rattle.pg_travel.proofs.Within.{free_paid, castled_paid, told}
 use Rattle.pg_travel.proofs.least_rows.excludes_by.Goals as goal
 

@@ -1,5 +1,5 @@
 use Rattle.std.proofs.Common.{arith}
-use Rattle.pg_travel.specs.numbers.LeastRows.{AreLesser}
+use Rattle.pg_travel.specs.inner.LeastRows.{AreLesser}
 use Rattle.pg_travel.proofs.least_rows.lesser.Goals as goal
 
 pub returns : goal.returns

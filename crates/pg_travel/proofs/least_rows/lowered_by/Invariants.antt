@@ -1,5 +1,5 @@
 use Rattle.std.proofs.Common.{None, ◌-◌, ◌≤◌}
-use Rattle.pg_travel.specs.numbers.LeastRows.{IsLowered}
+use Rattle.pg_travel.specs.inner.LeastRows.{IsLowered}
 use Rattle.pg_travel.proofs.LeastRows.{Before, OffHome}
 use Rattle.pg_travel.proofs.least_rows.lowered_by.Given as goal
 

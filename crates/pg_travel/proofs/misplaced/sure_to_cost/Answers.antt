@@ -1,5 +1,5 @@
 use Rattle.std.proofs.Common.{Option, sym, subst}
-use Rattle.pg_travel.specs.numbers.Within.{CostsEach}
+use Rattle.pg_travel.specs.inner.Within.{CostsEach}
 use Rattle.pg_position.specs.declared.rights.Wing.{Wing}
 use Rattle.pg_travel.proofs.Within.{sure_free, sure_castled}
 use Rattle.pg_travel.proofs.misplaced.sure_to_cost.Goals as goal

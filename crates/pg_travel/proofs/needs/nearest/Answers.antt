@@ -2,7 +2,7 @@ use Rattle.std.proofs.Common.{◌≡◌, ℕ, min, sym, ap, arith, ◌∙◌}
 use Rattle.pg_board.specs.declared.man.Kind.TheVariants.{Pawn}
 use Rattle.pg_board.specs.declared.man.Man.{Man}
 use Rattle.pg_board.specs.Men.{man}
-use Rattle.pg_travel.specs.numbers.Costs.{nearest, nearest_man}
+use Rattle.pg_travel.specs.inner.Costs.{nearest, nearest_man}
 use Rattle.pg_travel.proofs.Nearness.{whole_beyond, pawns_beyond, nearest_promoted, nearest_plain}
 use Rattle.pg_travel.proofs.needs.nearest.Goals as goal
 

@@ -1,5 +1,5 @@
 use Rattle.std.proofs.Common.{ℕ, Option, sym, ap, subst, ◌∙◌}
-use Rattle.pg_travel.specs.numbers.Costs.{lesser}
+use Rattle.pg_travel.specs.inner.Costs.{lesser}
 use Rattle.pg_travel.specs.lemmas.Least.{need_is}
 use Rattle.pg_travel.proofs.needs.need_by.Goals as goal
 use Rattle.pg_travel.specs.Needs.{NeedIs}

@@ -2,8 +2,8 @@ use Rattle.std.proofs.Common.{◌≡◌, ℕ, ◌+◌, ◌-◌, ◌*◌, ◌<◌
 use Rattle.pg_board.specs.Bits.{has}
 use Rattle.pg_board.specs.Tally.{count_below, total}
 use Rattle.pg_travel.specs.Origins.{charge}
-use Rattle.pg_travel.specs.numbers.Costs.{cost}
-use Rattle.pg_travel.specs.numbers.Within.{CostsOnly, CostsEach}
+use Rattle.pg_travel.specs.inner.Costs.{cost}
+use Rattle.pg_travel.specs.inner.Within.{CostsOnly, CostsEach}
 use Rattle.pg_travel.proofs.needs.total_within.Given as goal
 
 abbrev pub invariant-loop-t : goal.invariant-loop-t

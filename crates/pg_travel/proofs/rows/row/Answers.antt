@@ -3,7 +3,7 @@ use Rattle.std.proofs.Math.ListN.{length-set}
 use Rattle.pg_board.specs.Placement.{get}
 use Rattle.pg_captures.specs.Counting.{any_man}
 use Rattle.pg_captures.specs.lemmas.PlaceLemmas.{marks_men, place_first, index_next}
-use Rattle.pg_travel.specs.numbers.DistanceRows.{to_stood}
+use Rattle.pg_travel.specs.inner.DistanceRows.{to_stood}
 use Rattle.pg_travel.proofs.RowTables.{row_next, zeros_first, zeros_next, row_done, row_full}
 use Rattle.pg_travel.proofs.rows.row.Goals as goal
 

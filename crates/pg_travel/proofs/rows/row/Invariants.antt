@@ -2,7 +2,7 @@ use Rattle.std.proofs.Common.{◌≡◌, ℕ, ◌-◌, ◌<◌, ◌≤◌, lengt
 use Rattle.pg_board.specs.Placement.{get}
 use Rattle.pg_captures.specs.Counting.{any_man}
 use Rattle.pg_captures.specs.PriceLists.{number_among}
-use Rattle.pg_travel.specs.numbers.DistanceRows.{to_stood}
+use Rattle.pg_travel.specs.inner.DistanceRows.{to_stood}
 use Rattle.pg_travel.proofs.RowTables.{SeenIn}
 use Rattle.pg_travel.proofs.rows.row.Given as goal
 

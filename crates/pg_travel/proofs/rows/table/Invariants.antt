@@ -1,4 +1,4 @@
-use Rattle.pg_travel.specs.numbers.DistanceRows.{AreFirstRows}
+use Rattle.pg_travel.specs.inner.DistanceRows.{AreFirstRows}
 use Rattle.pg_travel.proofs.rows.table.Given as goal
 
 abbrev pub invariant-loop-place : goal.invariant-loop-place

@@ -2,7 +2,7 @@ use Rattle.std.proofs.Common.{◌≡◌, ℕ, ◌-◌, ◌<◌, ◌≤◌, Some}
 use Rattle.pg_board.specs.Placement.{get}
 use Rattle.pg_captures.specs.Counting.{any_man}
 use Rattle.pg_captures.specs.PriceLists.{price}
-use Rattle.pg_travel.specs.numbers.DistanceRows.{SourceFits}
+use Rattle.pg_travel.specs.inner.DistanceRows.{SourceFits}
 use Rattle.pg_travel.proofs.sources.men_fit.Given as goal
 
 abbrev pub invariant-loop-s : goal.invariant-loop-s

@@ -1,7 +1,7 @@
 use Rattle.std.proofs.Common.{◌≡◌, ℕ, ◌-◌, ◌<◌, ◌≤◌, Some, get_or}
 use Rattle.pg_board.specs.Placement.{get}
 use Rattle.pg_travel.specs.Origins.{counted}
-use Rattle.pg_travel.specs.numbers.PriceTests.{PairFits}
+use Rattle.pg_travel.specs.inner.PriceTests.{PairFits}
 use Rattle.pg_travel.proofs.targets.man_fits.Given as goal
 
 abbrev pub invariant-loop-s : goal.invariant-loop-s

@@ -3,7 +3,7 @@ use Rattle.pg_board.specs.Placement.{get}
 use Rattle.pg_captures.specs.Counting.{any_man}
 use Rattle.pg_captures.specs.PriceLists.{price}
 use Rattle.pg_captures.specs.lemmas.PlaceLemmas.{marks_men, place_first, index_low, index_within, price_at, index_next, seen_next, all_last}
-use Rattle.pg_travel.specs.numbers.PriceTests.{StoodFits}
+use Rattle.pg_travel.specs.inner.PriceTests.{StoodFits}
 use Rattle.pg_travel.proofs.PriceLemmas.{stood_free, stood_paid, targets_all, targets_not}
 use Rattle.pg_travel.proofs.targets.targets_fit.Goals as goal
 

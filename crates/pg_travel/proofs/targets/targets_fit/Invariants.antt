@@ -2,7 +2,7 @@ use Rattle.std.proofs.Common.{◌≡◌, ℕ, ◌-◌, ◌<◌, ◌≤◌}
 use Rattle.pg_board.specs.Placement.{get}
 use Rattle.pg_captures.specs.Counting.{any_man}
 use Rattle.pg_captures.specs.PriceLists.{number_among, price}
-use Rattle.pg_travel.specs.numbers.PriceTests.{StoodFits}
+use Rattle.pg_travel.specs.inner.PriceTests.{StoodFits}
 use Rattle.pg_travel.proofs.targets.targets_fit.Given as goal
 
 abbrev pub invariant-loop-t : goal.invariant-loop-t

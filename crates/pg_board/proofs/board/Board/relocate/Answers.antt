@@ -1,4 +1,4 @@
-use Rattle.pg_board.specs.numbers.Sets.{IsSound-replaced}
+use Rattle.pg_board.specs.inner.Sets.{IsSound-replaced}
 use Rattle.pg_board.proofs.BoardLemmas.{relocate_sets}
 use Rattle.pg_board.proofs.board.Board.relocate.Goals as goal
 

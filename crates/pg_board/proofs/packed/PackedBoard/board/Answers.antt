@@ -2,7 +2,7 @@
 use Rattle.std.proofs.Common.{sym, ◌∙◌, ap}
 use Rattle.pg_board.specs.declared.sets.Sets.{Sets}
 use Rattle.pg_board.specs.Placement.{placement_of, get-placement_of, same_placement}
-use Rattle.pg_board.specs.numbers.Sets.{man_in}
+use Rattle.pg_board.specs.inner.Sets.{man_in}
 use Rattle.pg_board.proofs.packed.PackedBoard.board.Goals as goal
 
 pub returns : goal.returns

@@ -4,8 +4,8 @@ use Rattle.std.proofs.lemmas.Bool.Decides.{same_from_decides}
 use Rattle.pg_board.specs.declared.packed.Quarters.{Quarters}
 use Rattle.pg_board.specs.Placement.{placement_of}
 use Rattle.pg_board.specs.Equality.{placement_eq_decides}
-use Rattle.pg_board.specs.numbers.Packed.{quarters_of, unpacked, quarters_back}
-use Rattle.pg_board.specs.numbers.Sets.{man_in, sets_of}
+use Rattle.pg_board.specs.inner.Packed.{quarters_of, unpacked, quarters_back}
+use Rattle.pg_board.specs.inner.Sets.{man_in, sets_of}
 use Rattle.pg_board.proofs.packed.PackedBoardPartialEq.eq.Goals as goal
 
 pub returns-clause-same : goal.returns-clause-same

@@ -1,5 +1,5 @@
 use Rattle.pg_position.specs.Future.{IsPawnAttacked}
-use Rattle.pg_position.specs.numbers.Lines.{AttackedBy}
+use Rattle.pg_position.specs.inner.Lines.{AttackedBy}
 use Rattle.pg_position.proofs.state.State.is_pawn_attacked.Goals as goal
 
 pub returns : goal.returns

@@ -1,6 +1,6 @@
 use Rattle.std.proofs.Common.{sym, ap, ◌∙◌}
 use Rattle.pg_price_lists.specs.PriceRecords.{sources}
-use Rattle.pg_price_lists.specs.numbers.Rows.{sources_of}
+use Rattle.pg_price_lists.specs.inner.Rows.{sources_of}
 use Rattle.pg_price_lists.proofs.prices.Prices.sources.Goals as goal
 
 pub returns-clause-number : goal.returns-clause-number

@@ -1,6 +1,6 @@
 use Rattle.std.proofs.Common.{sym, ap, ◌∙◌}
 use Rattle.pg_price_lists.specs.PriceRecords.{targets}
-use Rattle.pg_price_lists.specs.numbers.Rows.{targets_of}
+use Rattle.pg_price_lists.specs.inner.Rows.{targets_of}
 use Rattle.pg_price_lists.proofs.prices.Prices.targets.Goals as goal
 
 pub returns-clause-number : goal.returns-clause-number

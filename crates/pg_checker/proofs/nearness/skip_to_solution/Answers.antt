@@ -1,0 +1,38 @@
+use Rattle.std.proofs.Common.{sym, subst, ◌∙◌}
+use Rattle.pg_position.specs.declared.state.State.{State}
+use Rattle.pg_position.specs.Step.{IsLegal}
+use Rattle.pg_checker.specs.Passing.{LeadsElsewhere, LeadsTo}
+use Rattle.pg_checker.proofs.Passing.{passes_none, passes_more, fewer_left, none_elsewhere}
+use Rattle.pg_checker.proofs.Differing.{far_elsewhere}
+use Rattle.pg_checker.proofs.Leading.{none_leads}
+use Rattle.pg_checker.proofs.nearness.skip_to_solution.Goals as goal
+
+pub loop-peeked-init : goal.loop-peeked-init
+loop-peeked-init c = passes_none c.args.diagram.now c.args.moves.now
+
+pub leads-requires-clause-legal : goal.leads-requires-clause-legal
+leads-requires-clause-legal c = subst (λ (p : State). IsLegal p c.in-Some.peeked.m) (c.loop-peeked.invariant.position ∙ sym c.position-position.ensures) c.in-Some.ensures.0.legal
+
+pub returns-then-leads-clause-passed : goal.returns-then-leads-clause-passed
+returns-then-leads-clause-passed c = c.loop-peeked.invariant
+
+pub loop-peeked-smaller : goal.loop-peeked-smaller
+loop-peeked-smaller c = fewer_left c.loop-peeked.moves c.advance.new.self c.in-Some.peeked.m c.in-Some.ensures.0 c.advance.ensures
+
+pub loop-peeked-preserved : goal.loop-peeked-preserved
+loop-peeked-preserved c = passes_more c.args.diagram.now c.args.moves.now c.loop-peeked.moves c.advance.new.self c.in-Some.peeked.m c.loop-peeked.invariant c.in-Some.ensures.0 c.advance.ensures (subst (λ (p : State). LeadsElsewhere c.args.diagram.now p c.in-Some.peeked.m) c.position-position.ensures (c.leads.ensures.away c.if-leads.false))
+
+pub returns-clause-passed : goal.returns-clause-passed
+returns-clause-passed c = c.loop-peeked.invariant
+
+pub returns-clause-none : goal.returns-clause-none
+returns-clause-none c = λ e. none_elsewhere c.args.diagram.now c.loop-peeked.moves c.in_default.ensures
+
+pub returns-then-not-has_leading-clause-none : goal.returns-then-not-has_leading-clause-none
+returns-then-not-has_leading-clause-none c = λ _. none_leads c.args.diagram.now c.args.moves.now c.position-position.result c.has_leading.result c.position-position.ensures c.has_leading.ensures c.if-not-has_leading.true
+
+pub returns-then-leads-clause-some : goal.returns-then-leads-clause-some
+returns-then-leads-clause-some c = λ e. (c.in-Some.peeked.m, c.in-Some.ensures.0, subst (λ (p : State). LeadsTo c.args.diagram.now p c.in-Some.peeked.m) (c.position-position.ensures ∙ sym c.loop-peeked.invariant.position) (c.leads.ensures.there c.if-leads.true))
+
+pub returns-then-not-may_reach-clause-none : goal.returns-then-not-may_reach-clause-none
+returns-then-not-may_reach-clause-none c = λ _ m _ q legal same. far_elsewhere c.args.moves.now.position c.position-position.result c.args.diagram.now c.may_reach.result c.position-position.ensures c.may_reach.ensures.position c.may_reach.ensures.near.1 c.if-not-may_reach.true m q legal same

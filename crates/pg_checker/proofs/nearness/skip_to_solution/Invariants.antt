@@ -1,0 +1,11 @@
+-- What was passed over leads elsewhere, and fewer moves are left at each turn.
+use Rattle.std.proofs.Common.{length}
+use Rattle.pg_checker.specs.Left.{left_after}
+use Rattle.pg_checker.specs.Passing.{PassesOver}
+use Rattle.pg_checker.proofs.nearness.skip_to_solution.Given as goal
+
+abbrev pub invariant-loop-peeked : goal.invariant-loop-peeked
+invariant-loop-peeked l = PassesOver l.diagram l.initial.moves l.moves
+
+abbrev pub decreases-loop-peeked : goal.decreases-loop-peeked
+decreases-loop-peeked l = length (left_after l.moves.position l.moves.last)

@@ -1,0 +1,193 @@
+//! The legal moves of a position, one after the other.
+ghost use Rattle.std.specs.Prelude.{◌≡◌, ◌<◌, ◌≤◌, ◌+◌, None, Some, MatchOption, IfSome, IfNone};
+ghost use Rattle.pg_moves.specs.Left.{IsPeeked, IsFound};
+ghost use Rattle.pg_moves.specs.inner.Sources.{IsSource};
+ghost use Rattle.pg_moves.specs.Moves.{IsNext, IsLast};
+ghost use Rattle.pg_moves.specs.inner.Places.{most_moves, place_of, NoneFrom, IsFirstMove, IsNextWithin};
+ghost use Rattle.pg_moves.specs.Targets.{FreeOff};
+
+use crate::pins::maybe_pinned;
+use crate::places::promotion_number;
+use crate::sources::{Source, first_of_source, source_at};
+use pg_board::{Kind, SquareSet};
+use pg_position::{Move, Position};
+use std::marker::Model;
+
+/// The next legal move of a position, with what was found for it.
+#[derive(Clone, Copy)]
+pub struct Peeked {
+    pub m: Move,
+    maybe_pinned: SquareSet,
+    source: Source,
+}
+
+/// The legal moves of a position past the last one that was handed out. What was found for that one
+/// serves the next.
+#[derive(Drop)]
+pub struct LegalMoves {
+    position: Position,
+    last: Option<Move>,
+    maybe_pinned: SquareSet,
+    source: Source,
+}
+
+impl Model for LegalMoves {
+    ghost use Rattle.pg_moves.specs.Left.{MovesLeft, moves_left_code, IsReady};
+
+    ghost Value = { MovesLeft };
+
+    ghost coded = { moves_left_code };
+
+    ghost view = { λ a. record { position = a.position; last = a.last } };
+
+    ghost invariant = { λ a. IsReady a.position a.last a.maybe_pinned a.source };
+}
+
+// The first legal move of the men from a square on, and its man.
+fn first_beyond(position: &Position, maybe_pinned: SquareSet, from: u8) -> Option<(Move, Source)>
+    requires free { FreeOff position.now maybe_pinned }
+    requires source { from ≤ 64 }
+    ensures { MatchOption result
+        (NoneFrom position.now (place_of from 0 0) most_moves)
+        (λ r. IsFound position.now (place_of from 0 0) r.0 r.1) }
+{
+    let board = position.board();
+    let own = board.squares_of_color(position.side());
+    let mut at = from;
+    while let Some(square) = own.first_from(at) {
+        let source = source_at(position, &board, maybe_pinned, square);
+        if let Some(m) = first_of_source(position, square, &source, 0, 0) {
+            return Some((m, source));
+        }
+        at = square.index() + 1;
+    }
+    None
+}
+
+impl LegalMoves {
+    /// All legal moves of a position.
+    #[tactic(auto, unfolding(crate::specs::Left::IsReady))]
+    pub fn new(position: &Position) -> LegalMoves
+        ensures position { result.position ≡ position.now }
+        ensures last { result.last ≡ None }
+    {
+        LegalMoves {
+            position: *position,
+            last: None,
+            maybe_pinned: SquareSet::empty(),
+            source: Source {
+                kind: Kind::Pawn,
+                set: SquareSet::empty(),
+                exact: false,
+            },
+        }
+    }
+
+    /// The position.
+    pub fn position(&self) -> Position
+        ensures { result ≡ self.now.position }
+    {
+        self.position
+    }
+
+    /// The move that was handed out last.
+    pub fn last(&self) -> Option<Move>
+        ensures { result ≡ self.now.last }
+    {
+        self.last
+    }
+
+    // The first legal move.
+    fn first(position: &Position) -> Option<Peeked>
+        ensures { MatchOption result (IsLast position.now None)
+            (λ a. IsNext position.now None a.m × IsPeeked position.now a) }
+    {
+        let maybe_pinned = maybe_pinned(position);
+        match first_beyond(position, maybe_pinned, 0) {
+            Some((m, source)) => Some(Peeked {
+                m,
+                maybe_pinned,
+                source,
+            }),
+            None => None,
+        }
+    }
+
+    // The legal move after the last one.
+    fn following(
+        position: &Position,
+        maybe_pinned: SquareSet,
+        source: &Source,
+        last: &Move,
+    ) -> Option<Peeked>
+        requires free { FreeOff position.now maybe_pinned }
+        requires source { IsSource position.now last.now.from source.now }
+        ensures { MatchOption result (IsLast position.now (Some last.now))
+            (λ a. IsNext position.now (Some last.now) a.m × IsPeeked position.now a) }
+    {
+        let from = last.from.index();
+        let to = last.to.index();
+        let number = promotion_number(last.promotion) + 1;
+        match first_of_source(position, last.from, source, to, number) {
+            Some(m) => Some(Peeked {
+                m,
+                maybe_pinned,
+                source: *source,
+            }),
+            None => match first_beyond(position, maybe_pinned, from + 1) {
+                Some((m, source)) => Some(Peeked {
+                    m,
+                    maybe_pinned,
+                    source,
+                }),
+                None => None,
+            },
+        }
+    }
+
+    /// The next legal move. It stays the next one.
+    #[tactic(auto, unfolding(crate::specs::Left::IsReady))]
+    pub fn peek(&self) -> Option<Peeked>
+        ensures { MatchOption result
+            (IsLast self.now.position self.now.last)
+            (λ a. IsNext self.now.position self.now.last a.m × IsPeeked self.now.position a) }
+    {
+        match self.last {
+            None => LegalMoves::first(&self.position),
+            Some(last) => LegalMoves::following(
+                &self.position,
+                self.maybe_pinned,
+                &self.source,
+                &last,
+            ),
+        }
+    }
+
+    /// Hands out a move that was peeked at.
+    #[tactic(auto, unfolding(crate::specs::Left::IsReady, crate::specs::Left::IsPeeked))]
+    pub fn advance(&mut self, peeked: &Peeked)
+        requires { IsPeeked self.old.position peeked.now }
+        ensures { self.new ≡ record self.old { last = Some peeked.now.m } }
+    {
+        self.last = Some(peeked.m);
+        self.maybe_pinned = peeked.maybe_pinned;
+        self.source = peeked.source;
+    }
+
+    /// The next legal move.
+    pub fn next(&mut self) -> Option<Move>
+        ensures answer { MatchOption result
+            (IsLast self.old.position self.old.last)
+            (λ m. IsNext self.old.position self.old.last m) }
+        ensures some { IfSome result (λ m. self.new ≡ record self.old { last = Some m }) }
+        ensures none { IfNone result (self.new ≡ self.old) }
+    {
+        match self.peek() {
+            Some(peeked) => {
+                self.advance(&peeked);
+                Some(peeked.m)
+            }
+            None => None,
+        }
+    }
+}

@@ -1,0 +1,159 @@
+//! Which men's moves are to be tried, since they may leave their king attacked.
+ghost use Rattle.std.specs.Prelude.{◌≡◌, ◌↔◌, ℕ, ◌<◌, IsTrue, IsFalse};
+ghost use Rattle.pg_board.specs.Bits.{has};
+ghost use Rattle.pg_board.specs.Men.{is_man, is_of, man, other};
+ghost use Rattle.pg_board.specs.Placement.{get, without};
+ghost use Rattle.pg_position.specs.Attack.{Attacks};
+ghost use Rattle.pg_position.specs.Position.{Stands};
+ghost use Rattle.pg_moves.specs.Targets.{FreeOff, IsFree, IsOrdinary, IsOwn, only};
+
+use crate::targets::en_passant_targets;
+use pg_board::{Board, Color, Kind, Man, Sets, Square, SquareSet};
+use pg_position::{Position, attacked, attacks_from, home_rank};
+
+// The squares with this man, as the bits of a number.
+fn bits_of(board: &Board, color: Color, kind: Kind) -> u64
+    ensures { (q : ℕ) → q < 64 → has result q ≡ is_man (man color kind) (get board.now q) }
+{
+    board.squares_of(Man::new(color, kind)).bits()
+}
+
+// The squares of a colour where only the men of one colour are left, as the bits of a number.
+fn left_of(board: &Board, color: Color, side: Color) -> u64
+    ensures { (q : ℕ) → q < 64 → has result q ≡ is_of side (only color (get board.now q)) }
+{
+    match color {
+        Color::White => match side {
+            Color::White => board.squares_of_color(Color::White).bits(),
+            Color::Black => 0,
+        },
+        Color::Black => match side {
+            Color::White => 0,
+            Color::Black => board.squares_of_color(Color::Black).bits(),
+        },
+    }
+}
+
+// The men of the colour alone.
+fn men_of(board: &Board, color: Color) -> Board
+    ensures { (q : ℕ) → q < 64 → get result q ≡ only color (get board.now q) }
+{
+    let white = left_of(board, color, Color::White);
+    let black = left_of(board, color, Color::Black);
+    let pawns = bits_of(board, color, Kind::Pawn);
+    let knights = bits_of(board, color, Kind::Knight);
+    let bishops = bits_of(board, color, Kind::Bishop);
+    let rooks = bits_of(board, color, Kind::Rook);
+    let queens = bits_of(board, color, Kind::Queen);
+    let kings = bits_of(board, color, Kind::King);
+    Board::of_sets(Sets {
+        pawns,
+        knights,
+        bishops,
+        rooks,
+        queens,
+        kings,
+        white,
+        black,
+    })
+}
+
+// Whether the other colour would attack the square with none of the colour's men on the board.
+fn attacked_bare(board: &Board, square: Square, color: Color) -> bool
+    ensures { IsFalse result → (r : ℕ) → IsOwn board.now color r
+        → ¬ Attacks (without board.now r) (other color) square }
+{
+    attacked(&men_of(board, color.other()), square, color.other())
+}
+
+// The squares of the men that may be pinned, so that their moves are to be tried: the king's alone
+// where he would not be attacked with none of his men on the board. Else all in check, and else the
+// king's and those that a queen would see from there.
+pub(crate) fn maybe_pinned(position: &Position) -> SquareSet
+    ensures { FreeOff position.now result }
+{
+    let side = position.side();
+    let board = position.board();
+    let queen = Man::new(side, Kind::Queen);
+    match board.king(side) {
+        Some(king) => {
+            if !attacked_bare(&board, king, side) {
+                SquareSet::single(king)
+            } else if position.in_check() {
+                SquareSet::full()
+            } else {
+                attacks_from(&board, queen, king) | SquareSet::single(king)
+            }
+        }
+        None => SquareSet::full(),
+    }
+}
+
+// Whether the man is a pawn that may promote or capture en passant.
+#[inline(always)]
+fn is_special(position: &Position, color: Color, kind: Kind, from: Square) -> bool
+    requires { color ≡ position.now.side }
+    ensures { IsFalse result → IsOrdinary position.now kind from }
+{
+    match kind {
+        Kind::Pawn => {
+            if en_passant_targets(position, from).is_empty() {
+                from.rank() == home_rank(color.other())
+            } else {
+                true
+            }
+        }
+        _ => false,
+    }
+}
+
+// Whether the king would be attacked with the man taken off the board.
+fn is_pinned(position: &Position, kind: Kind, from: Square) -> bool
+    requires { Stands position.now.board position.now.side kind from }
+    ensures { IsFalse result → IsFree position.now kind from }
+{
+    // A fact for the proof: the square is on the board.
+    from.index();
+    let side = position.side();
+    let board = position.board();
+    match kind {
+        Kind::King => true,
+        _ => match board.king(side) {
+            Some(king) => attacked_without(&board, from, king, side.other()),
+            None => true,
+        },
+    }
+}
+
+// Whether the colour would attack `square` with the man on `from` taken off the board.
+pub(crate) fn attacked_without(board: &Board, from: Square, square: Square, by: Color) -> bool
+    ensures { IsTrue result ↔ Attacks (without board.now from) by square }
+{
+    let mut rest = *board;
+    rest.take(from);
+    attacked(&rest, square, by)
+}
+
+// Whether the moves of the man are to be tried: it may leave its king attacked, promote or capture en
+// passant.
+#[inline(always)]
+pub(crate) fn must_try(
+    position: &Position,
+    maybe_pinned: SquareSet,
+    color: Color,
+    kind: Kind,
+    from: Square,
+) -> bool
+    requires color { color ≡ position.now.side }
+    requires free { FreeOff position.now maybe_pinned }
+    requires stands { Stands position.now.board position.now.side kind from }
+    ensures { IsFalse result → (IsFree position.now kind from × IsOrdinary position.now kind from) }
+{
+    if is_special(position, color, kind, from) {
+        true
+    } else if maybe_pinned.contains(from) {
+        is_pinned(position, kind, from)
+    } else {
+        false
+    }
+}
