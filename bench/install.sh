@@ -4,6 +4,8 @@
 # that is written here, and a refusal to leave all as it was. Quiet where all is so; else prints what was wrong, and ends
 # with status 1.
 set -u
+# Whoever was started in the background has SIGINT ignored, and no trap of a shell can undo that: so this begins again without.
+[ -n "${SIGNALS_RESET-}" ] || SIGNALS_RESET=1 exec env --default-signal=HUP,INT,TERM "$0" "$@"
 top=$(cd "$(dirname "$(readlink -f "$0")")/.." && pwd)
 work=$(mktemp -d) || exit 1
 trap 'chmod -R u+w "$work"; rm -rf "$work"' EXIT

@@ -4,6 +4,8 @@
 # written here, and to leave no process and no folder. What it proves is new each time, so it takes a minute of a
 # core's time. Quiet where all is so; else prints what was wrong, and ends with status 1.
 set -u
+# Whoever was started in the background has SIGINT ignored, and no trap of a shell can undo that: so this begins again without.
+[ -n "${SIGNALS_RESET-}" ] || SIGNALS_RESET=1 exec env --default-signal=HUP,INT,TERM "$0" "$@"
 top=$(cd "$(dirname "$(readlink -f "$0")")/.." && pwd)
 work=$(mktemp -d) && work=$(cd "$work" && pwd -P) || exit 1
 trap 'rm -rf "$work"' EXIT
