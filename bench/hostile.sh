@@ -191,6 +191,14 @@ expect 2 'pg: not one line of moves' '"$pg" why $open 1.0 ../open.pgc "" --recor
 expect 2 'pg: line 1, ply 1: no such legal move' '"$pg" why $open 1.0 ../open.pgc e5 --records 22' ''
 expect 2 'pg: line 1, ply 1: not a move' '"$pg" why $open 1.0 ../open.pgc "- e4" --records 22' ''
 
+# More games than a list holds, of five pawn moves of each side in any order.
+five=rnbqkbnr/5ppp/ppppp3/8/8/PPPPP3/5PPP/RNBQKBNR
+{ header "$five" 10; python3 "$top/bench/many-games.py"; } >"$work/five.pgc"
+expect 1 'pg: more than 4096 games' '"$pg" why $five 5.0 ../five.pgc -' \
+  $'at the start: 2 of 20 moves lead on; cut 18 by travel; 4200 games below\nmore than 4096 games'
+expect 1 'pg: more than 4096 games' '"$pg" page $five 5.0 ../five.pgc' ''
+expect 1 'pg: unlisted game: 1. a3 a6 2. b3 b6 3. c3 c6 4. d3 d6 5. e3 e6' '"$pg" check $five 5.0 ../five.pgc /dev/null' ''
+
 # Pages of such certificates: whole, or not begun.
 whole=$'<!DOCTYPE html>\n</html>'
 expect 0 '' '"$pg" page $open 1.0 ../open.pgc --records 22 | sed -n "1p;\$p"' "$whole"
