@@ -3,8 +3,7 @@ ghost use Rattle.std.specs.Prelude.{◌≡◌, ℕ, Bool, false, OnOk};
 ghost use Rattle.pg_searcher.specs.Refusals.{RefusesTruly};
 
 use crate::fault::SearchFault;
-use crate::machine::{Frame, Machine, Question};
-use crate::node::{put, visit};
+use crate::machine::{Findings, Frame, Output, Question};
 use arrayvec::ArrayVec;
 use pg_board::{Board, Kind, Man, Square, SquareSet};
 use pg_certificate::{Record, Sink};
@@ -12,12 +11,10 @@ use pg_fen::Diagram;
 use pg_position::{Move, Position};
 use pg_san::AddFault;
 
-fn put_move(game: &mut ArrayVec<Move, 128>, m: &Option<Move>) {
+// Adds a move to a game, where there is one. A game has room for the 128 plies that it may have.
+pub(crate) fn put_move(game: &mut ArrayVec<Move, 128>, m: &Option<Move>) {
     if let Some(m) = m {
-        match game.try_push(*m) {
-            Ok(()) => {}
-            Err(_) => {}
-        }
+        let _ = game.try_push(*m);
     }
 }
 
@@ -33,25 +30,23 @@ fn game_along(frames: &[Frame], before: &Option<Move>, last: &Option<Move>) -> A
     game
 }
 
-// A game of a tree's length ends on the diagram. The length must be the stated one, and the game is
+// A game of the tree's length ends on the diagram. The length must be the stated one, and the game is
 // added.
 pub(crate) fn end(
     question: &Question,
-    tree: u8,
-    machine: &mut Machine,
+    frames: &[Frame],
+    findings: &mut Findings,
     before: &Option<Move>,
     last: &Option<Move>,
 ) -> Result<(), SearchFault>
-    ensures frames { machine.new.frames ≡ machine.old.frames }
-    ensures writer { machine.new.writer ≡ machine.old.writer }
-    ensures says { (failed : Bool) → RefusesTruly question.now.plies failed result }
+    ensures { (failed : Bool) → RefusesTruly question.now.plies failed result }
 {
-    machine.found = true;
-    if tree < question.plies {
-        return Err(SearchFault::Shorter(tree));
+    findings.fertile = true;
+    if question.tree < question.plies {
+        return Err(SearchFault::Shorter(question.tree));
     }
-    let game = game_along(machine.frames.as_slice(), before, last);
-    match machine.games.add(game.as_slice()) {
+    let game = game_along(frames, before, last);
+    match findings.games.add(game.as_slice()) {
         Ok(()) => Ok(()),
         Err(AddFault::Memory) => Err(SearchFault::Memory),
         Err(AddFault::TooMany) => Err(SearchFault::TooManyGames),
@@ -140,30 +135,27 @@ pub(crate) fn leaf(diagram: &Diagram, position: &Position) -> Option<Move> {
 // The leaf on the diagram below a node with one ply left, to which this move led.
 pub(crate) fn leaves(
     question: &Question,
-    tree: u8,
-    machine: &mut Machine,
+    frames: &[Frame],
+    findings: &mut Findings,
     before: &Option<Move>,
     position: &Position,
 ) -> Result<(), SearchFault>
-    ensures frames { machine.new.frames ≡ machine.old.frames }
-    ensures writer { machine.new.writer ≡ machine.old.writer }
-    ensures says { (failed : Bool) → RefusesTruly question.now.plies failed result }
+    ensures { (failed : Bool) → RefusesTruly question.now.plies failed result }
 {
     match leaf(question.diagram, position) {
-        Some(m) => end(question, tree, machine, before, &Some(m)),
+        Some(m) => end(question, frames, findings, before, &Some(m)),
         None => Ok(()),
     }
 }
 
 // Visits a node with one ply left and writes its record.
-pub(crate) fn last_node<W: Sink>(machine: &mut Machine, sink: &mut W) -> Result<(), SearchFault>
-    requires runs { machine.old.writer.failed ≡ false }
-    ensures frames { machine.new.frames ≡ machine.old.frames }
-    ensures runs { OnOk result (machine.new.writer.failed ≡ false) }
+pub(crate) fn last_node<W: Sink>(output: &mut Output, sink: &mut W) -> Result<(), SearchFault>
+    requires runs { output.old.writer.failed ≡ false }
+    ensures runs { OnOk result (output.new.writer.failed ≡ false) }
     ensures says { (plies : ℕ) → RefusesTruly plies (W.has_failed sink.new) result }
 {
-    if visit(machine) {
-        put(machine, &Record::Expand { named: false }, sink)
+    if output.visit() {
+        output.put(&Record::Expand { named: false }, sink)
     } else {
         Err(SearchFault::Budget)
     }

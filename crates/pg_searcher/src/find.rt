@@ -4,15 +4,13 @@ ghost use Rattle.pg_searcher.specs.Refusals.{RefusesTruly};
 
 use crate::fault::SearchFault;
 use crate::judge::Judge;
-use crate::machine::{Machine, Question};
-use crate::outlook::Mover;
+use crate::machine::{Findings, Machine, Question, Recorder};
 use crate::progress::SearchProgress;
 use crate::walk::tree_of;
 use arrayvec::ArrayVec;
-use pg_certificate::{Header, RecordWriter, Sink};
+use pg_certificate::{Header, Sink};
 use pg_fen::{Diagram, Length};
 use pg_moves::Unwatched;
-use pg_prices::Closed;
 use pg_san::Games;
 use std::alloc::Global;
 
@@ -29,29 +27,33 @@ fn header(diagram: &Diagram, plies: u8) -> Header
 
 // The header, the trees of all lengths from 0 to the stated one, and the end.
 fn write<W: Sink, P: SearchProgress>(
-    question: &Question,
+    diagram: &Diagram,
+    plies: u8,
     machine: &mut Machine,
     sink: &mut W,
     watch: &mut P,
 ) -> Result<(), SearchFault>
-    requires limit { question.now.plies ≤ 128 }
-    requires runs { machine.old.writer.failed ≡ false }
-    ensures { RefusesTruly question.now.plies (W.has_failed sink.new) result }
+    requires limit { plies ≤ 128 }
+    requires runs { machine.old.recorder.output.writer.failed ≡ false }
+    ensures { RefusesTruly plies (W.has_failed sink.new) result }
 {
-    match machine
-        .writer
-        .header(&header(question.diagram, question.plies), sink)
-    {
+    let header = header(diagram, plies);
+    match machine.recorder.output.writer.header(&header, sink) {
         Ok(()) => {}
         Err(_) => return Err(SearchFault::Write),
     }
-    for tree in 0..=question.plies {
-        match tree_of(question, tree, machine, sink, watch) {
+    for tree in 0..=plies {
+        let question = Question {
+            diagram,
+            plies,
+            tree,
+        };
+        match tree_of(&question, machine, sink, watch) {
             Ok(()) => {}
             Err(fault) => return Err(fault),
         }
     }
-    match machine.writer.finish(sink) {
+    match machine.recorder.output.writer.finish(sink) {
         Ok(()) => Ok(()),
         Err(_) => Err(SearchFault::Write),
     }
@@ -100,30 +102,22 @@ pub fn search_watched<W: Sink, P: SearchProgress>(
 ) -> Result<Games, SearchFault>
     ensures { RefusesTruly length (W.has_failed sink.new) result }
 {
-    let question = Question {
-        diagram,
-        plies: length.plies(),
-    };
-    let judge = match Judge::new(alloc, diagram) {
-        Ok(judge) => judge,
-        Err(_) => return Err(SearchFault::Memory),
+    let Ok(judge) = Judge::new(alloc, diagram) else {
+        return Err(SearchFault::Memory);
     };
     let mut machine = Machine {
-        writer: RecordWriter::new(),
-        games: Games::new(alloc),
-        judge,
-        mover: Mover::none(),
-        closed_nodes: Closed::new(alloc),
         frames: ArrayVec::new(),
-        nodes: max_nodes,
-        named: 0,
-        closed: 0,
-        found: false,
+        recorder: Recorder::new(alloc, judge, max_nodes),
+        findings: Findings {
+            games: Games::new(alloc),
+            fertile: false,
+        },
     };
-    match write(&question, &mut machine, sink, watch) {
+    match write(diagram, length.plies(), &mut machine, sink, watch) {
         Ok(()) => {}
         Err(fault) => return Err(fault),
     }
-    let Machine { games, .. } = machine;
+    let Machine { findings, .. } = machine;
+    let Findings { games, .. } = findings;
     Ok(games)
 }

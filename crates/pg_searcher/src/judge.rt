@@ -4,11 +4,12 @@ use crate::known::{Known, MISSING};
 use crate::outlook::{Mover, Outlook, Plain};
 use crate::sides::{Change, Changes, Side, Sides, side_of};
 use pg_board::Color;
-use pg_captures::plies_left;
+use pg_captures::{Captures, Promotions, plies_left};
 use pg_fen::Diagram;
+use pg_pawns::PawnFiles;
 use pg_position::{Move, Position};
 use pg_prices::{NEVER, Needs, UNKNOWN};
-use pg_travel::Prices;
+use pg_travel::{Prices, Travel};
 use std::alloc::{AllocError, Global};
 
 // What judges nodes by their cuts for a diagram.
@@ -68,11 +69,11 @@ fn captures_exclude(means: Means) -> bool {
 // The bound of promotions, pawn files or travel that excludes for a colour.
 fn bound_for(means: Means, needs: &Needs) -> Option<u8> {
     if needs.need == NEVER {
-        Some(2)
+        Some(Promotions::CODE)
     } else if i16::from(needs.shift) > means.owed {
-        Some(3)
+        Some(PawnFiles::CODE)
     } else if needs.need > means.plies {
-        Some(4)
+        Some(Travel::CODE)
     } else {
         None
     }
@@ -92,19 +93,21 @@ fn shorter(white: Option<u16>, black: Option<u16>) -> Option<Color> {
     }
 }
 
-// How many price bytes a cut by pawn files has, where the prices exclude.
-fn pawn_length(means: Means, side: &Side, wanted: u8) -> Option<u16> {
+// How many price bytes a cut by pawn files has, where the prices exclude: one for each pawn of the side, and of the
+// diagram, so many.
+fn pawn_length(means: Means, side: &Side, goal: u8) -> Option<u16> {
     if i16::from(side.needs.pawns) > means.owed {
-        Some(u16::from(side.pawns) + u16::from(wanted))
+        Some(u16::from(side.pawns) + u16::from(goal))
     } else {
         None
     }
 }
 
-// How many price bytes a cut by travel has, where the prices exclude.
-fn travel_length(means: Means, side: &Side, wanted: u8) -> Option<u16> {
+// How many price bytes a cut by travel has, where the prices exclude: for each way one for each man of the side, and
+// of the diagram, so many.
+fn travel_length(means: Means, side: &Side, goal: u8) -> Option<u16> {
     if side.needs.travel > means.plies {
-        let men = u16::from(side.men) + u16::from(wanted);
+        let men = u16::from(side.men) + u16::from(goal);
         Some(men.saturating_mul(u16::from(side.ways)))
     } else {
         None
@@ -114,17 +117,13 @@ fn travel_length(means: Means, side: &Side, wanted: u8) -> Option<u16> {
 impl Judge {
     // What judges nodes by their cuts for a diagram.
     pub(crate) fn new(alloc: Global, diagram: &Diagram) -> Result<Judge, AllocError> {
-        let white = match Known::new(alloc, Color::White, diagram) {
-            Ok(known) => known,
-            Err(fault) => return Err(fault),
-        };
-        let black = match Known::new(alloc, Color::Black, diagram) {
-            Ok(known) => known,
-            Err(fault) => return Err(fault),
-        };
-        Ok(Judge { white, black })
+        Ok(Judge {
+            white: Known::new(alloc, Color::White, diagram)?,
+            black: Known::new(alloc, Color::Black, diagram)?,
+        })
     }
 
+    // What is known of a colour.
     fn known(&self, color: Color) -> &Known {
         match color {
             Color::White => &self.white,
@@ -134,9 +133,9 @@ impl Judge {
 
     // A colour's numbers where the other one has so many men.
     fn means(&self, color: Color, other_men: u8, side: Color, left: u8) -> Means {
-        let wanted = self.known(color.other()).wanted_men;
+        let goal = self.known(color.other()).goal_men;
         Means {
-            owed: i16::from(other_men) - i16::from(wanted),
+            owed: i16::from(other_men) - i16::from(goal),
             plies: plies_left(side, color, left),
         }
     }
@@ -146,7 +145,7 @@ impl Judge {
         let white = self.means(Color::White, sides.black.men, side, left);
         let black = self.means(Color::Black, sides.white.men, side, left);
         if captures_exclude(white) || captures_exclude(black) {
-            return Cutting::Cut(1);
+            return Cutting::Cut(Captures::CODE);
         }
         if let Some(code) = bound_for(white, &sides.white.needs) {
             return Cutting::Cut(code);
@@ -163,15 +162,15 @@ impl Judge {
     // Whether prices exclude a node.
     fn priced(&self, sides: &Sides, white: Means, black: Means) -> Cutting {
         let pawns = shorter(
-            pawn_length(white, &sides.white, self.white.wanted_pawns),
-            pawn_length(black, &sides.black, self.black.wanted_pawns),
+            pawn_length(white, &sides.white, self.white.goal_pawns),
+            pawn_length(black, &sides.black, self.black.goal_pawns),
         );
         if let Some(color) = pawns {
             return Cutting::Pawns(color);
         }
         let travel = shorter(
-            travel_length(white, &sides.white, self.white.wanted_men),
-            travel_length(black, &sides.black, self.black.wanted_men),
+            travel_length(white, &sides.white, self.white.goal_men),
+            travel_length(black, &sides.black, self.black.goal_men),
         );
         match travel {
             Some(color) => Cutting::Travel(color),
@@ -204,7 +203,7 @@ impl Judge {
             None => other.men,
         };
         if captures_exclude(self.means(color, other_men, color.other(), left)) {
-            return (Cutting::Cut(1), None);
+            return (Cutting::Cut(Captures::CODE), None);
         }
         let own = self.after(color, own, &changes.own, missing);
         let other = match &changes.other {
@@ -244,33 +243,42 @@ impl Judge {
         outlook.plain(rows, position, mover, m)
     }
 
+    // What becomes of a node of which so much is known, with so many plies left, and both its colours.
+    pub(crate) fn enter(
+        &mut self,
+        diagram: &Diagram,
+        position: &Position,
+        known: Option<Sides>,
+        left: u8,
+    ) -> Result<(Cutting, Sides), AllocError> {
+        let mut sides = match known {
+            Some(sides) => sides,
+            None => sides_of(position),
+        };
+        self.fill(diagram, position, &mut sides)?;
+        let verdict = self.judged(position, &mut sides, left)?;
+        Ok((verdict, sides))
+    }
+
     // Finds the needs by bounds that are missing.
-    pub(crate) fn fill(
+    fn fill(
         &mut self,
         diagram: &Diagram,
         position: &Position,
         sides: &mut Sides,
     ) -> Result<(), AllocError> {
         if sides.white.needs.need == UNKNOWN {
-            let key = sides.white.key;
-            sides.white.needs = match self.white.needs(diagram, position, key) {
-                Ok(needs) => needs,
-                Err(fault) => return Err(fault),
-            };
+            sides.white.needs = self.white.needs(diagram, position, sides.white.key)?;
         }
         if sides.black.needs.need == UNKNOWN {
-            let key = sides.black.key;
-            sides.black.needs = match self.black.needs(diagram, position, key) {
-                Ok(needs) => needs,
-                Err(fault) => return Err(fault),
-            };
+            sides.black.needs = self.black.needs(diagram, position, sides.black.key)?;
         }
         Ok(())
     }
 
     // What becomes of a node with so many plies left. Its colours' needs are complete afterwards, where
     // no bound excludes it.
-    pub(crate) fn judged(
+    fn judged(
         &mut self,
         position: &Position,
         sides: &mut Sides,
@@ -283,15 +291,13 @@ impl Judge {
         }
         let (white, black) = (sides.white, sides.black);
         let plies = plies_left(side, Color::White, left);
-        sides.white.needs = match self.white.complete(position, white.key, white.needs, plies) {
-            Ok(needs) => needs,
-            Err(fault) => return Err(fault),
-        };
+        sides.white.needs = self
+            .white
+            .complete(position, white.key, white.needs, plies)?;
         let plies = plies_left(side, Color::Black, left);
-        sides.black.needs = match self.black.complete(position, black.key, black.needs, plies) {
-            Ok(needs) => needs,
-            Err(fault) => return Err(fault),
-        };
+        sides.black.needs = self
+            .black
+            .complete(position, black.key, black.needs, plies)?;
         Ok(self.verdict(sides, side, left))
     }
 

@@ -10,7 +10,7 @@ use pg_travel::Prices;
 use std::alloc::{AllocError, Global};
 
 // How many groups of men and rights of a colour are remembered at most.
-const MOST: usize = 2_097_152;
+const MOST_REMEMBERED: usize = 2_097_152;
 
 // What stands for needs that are not known.
 pub(crate) const MISSING: Needs = Needs {
@@ -36,10 +36,11 @@ pub(crate) struct Known {
     pub(crate) rows: Rows,
     memory: Memory,
     pawns: Memory,
-    pub(crate) wanted_men: u8,
-    pub(crate) wanted_pawns: u8,
+    pub(crate) goal_men: u8,
+    pub(crate) goal_pawns: u8,
 }
 
+// How many pawns of a colour stand on a board.
 fn count_pawns(board: &Board, color: Color) -> u8 {
     let pawn = Man::new(color, Kind::Pawn);
     board.squares_of(pawn).len()
@@ -48,17 +49,13 @@ fn count_pawns(board: &Board, color: Color) -> u8 {
 impl Known {
     // Nothing but the diagram is known.
     pub(crate) fn new(alloc: Global, color: Color, diagram: &Diagram) -> Result<Known, AllocError> {
-        let rows = match Rows::new(alloc, color, diagram) {
-            Ok(rows) => rows,
-            Err(fault) => return Err(fault),
-        };
         let board = diagram.board();
         Ok(Known {
-            rows,
-            memory: Memory::new(alloc, MOST),
-            pawns: Memory::new(alloc, MOST),
-            wanted_men: board.squares_of_color(color).len(),
-            wanted_pawns: count_pawns(&board, color),
+            rows: Rows::new(alloc, color, diagram)?,
+            memory: Memory::new(alloc, MOST_REMEMBERED),
+            pawns: Memory::new(alloc, MOST_REMEMBERED),
+            goal_men: board.squares_of_color(color).len(),
+            goal_pawns: count_pawns(&board, color),
         })
     }
 
@@ -78,10 +75,8 @@ impl Known {
             return Ok(needs);
         }
         let needs = first_needs(&self.rows, diagram, position);
-        match self.memory.set(key.max(1), needs) {
-            Ok(()) => Ok(needs),
-            Err(fault) => Err(fault),
-        }
+        self.memory.set(key.max(1), needs)?;
+        Ok(needs)
     }
 
     // The needs with both least assignments. The prices of travel are kept where they exclude so many
@@ -97,21 +92,15 @@ impl Known {
             return Ok(needs);
         }
         let mut needs = needs;
-        needs.pawns = match self.pawn_needs(position) {
-            Ok(pawns) => pawns.pawns,
-            Err(fault) => return Err(fault),
-        };
+        needs.pawns = self.pawn_needs(position)?.pawns;
         let (value, lists) = travel_lists(&self.rows, position);
         needs.travel = value;
-        let kept = if value > plies {
-            self.memory.keep(key.max(1), needs, lists.as_slice())
+        if value > plies {
+            self.memory.keep(key.max(1), needs, lists.as_slice())?;
         } else {
-            self.memory.set(key.max(1), needs)
-        };
-        match kept {
-            Ok(()) => Ok(needs),
-            Err(fault) => Err(fault),
+            self.memory.set(key.max(1), needs)?;
         }
+        Ok(needs)
     }
 
     // What is known of the colour's pawns: their least assignment, with its price list.
@@ -123,14 +112,8 @@ impl Known {
         let (value, lists) = pawn_lists(&self.rows, position);
         let mut needs = MISSING;
         needs.pawns = value;
-        match self.pawns.keep(key.max(1), needs, lists.as_slice()) {
-            Ok(()) => {}
-            Err(fault) => return Err(fault),
-        }
-        match self.pawns.get(key.max(1)) {
-            Some(needs) => Ok(needs),
-            None => Ok(needs),
-        }
+        self.pawns.keep(key.max(1), needs, lists.as_slice())?;
+        Ok(self.pawns.get(key.max(1)).unwrap_or(needs))
     }
 
     // The price list of the colour's pawns.
@@ -138,10 +121,7 @@ impl Known {
         &mut self,
         position: &Position,
     ) -> Result<Option<Prices>, AllocError> {
-        let needs = match self.pawn_needs(position) {
-            Ok(needs) => needs,
-            Err(fault) => return Err(fault),
-        };
+        let needs = self.pawn_needs(position)?;
         match self.pawns.lists(&needs) {
             Some(lists) => Ok(prices_of(lists)),
             None => Ok(None),
@@ -170,9 +150,7 @@ impl Known {
             return Ok(Some(prices));
         }
         let (_, lists) = travel_lists(&self.rows, position);
-        match self.memory.keep(key.max(1), needs, lists.as_slice()) {
-            Ok(()) => Ok(prices_of(lists.as_slice())),
-            Err(fault) => Err(fault),
-        }
+        self.memory.keep(key.max(1), needs, lists.as_slice())?;
+        Ok(prices_of(lists.as_slice()))
     }
 }

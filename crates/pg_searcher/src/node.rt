@@ -4,17 +4,17 @@ ghost use Rattle.pg_position.specs.Step.{IsLegal};
 ghost use Rattle.pg_searcher.specs.Refusals.{RefusesTruly};
 
 use crate::fault::SearchFault;
-use crate::judge::{Cutting, sides_of};
+use crate::judge::{Cutting, Judge};
 use crate::known::{MISSING, after_plain};
-use crate::machine::{Machine, Question};
-use crate::outlook::{Outlook, Plain};
+use crate::machine::{Output, Question, Recorder};
+use crate::outlook::{Mover, Outlook, Plain};
 use crate::sides::{Sides, changes_of};
 use pg_board::{Color, Square};
-use pg_certificate::format::MOST_NAMED;
 use pg_certificate::{Record, Sink};
+use pg_pawns::PawnFiles;
 use pg_position::{Move, Position};
-use pg_prices::{Needs, node_key};
-use pg_travel::Prices;
+use pg_prices::node_key;
+use pg_travel::{Prices, Travel};
 use std::alloc::AllocError;
 
 // The key of a node.
@@ -36,35 +36,6 @@ pub(crate) struct Opened {
     pub(crate) named: bool,
 }
 
-// Counts a node, and answers whether it may be visited.
-pub(crate) fn visit(machine: &mut Machine) -> bool
-    ensures frames { machine.new.frames ≡ machine.old.frames }
-    ensures writer { machine.new.writer ≡ machine.old.writer }
-{
-    if machine.nodes == 0 {
-        return false;
-    }
-    machine.nodes -= 1;
-    true
-}
-
-// Writes a record.
-pub(crate) fn put<W: Sink>(
-    machine: &mut Machine,
-    node: &Record,
-    sink: &mut W,
-) -> Result<(), SearchFault>
-    requires runs { machine.old.writer.failed ≡ false }
-    ensures frames { machine.new.frames ≡ machine.old.frames }
-    ensures runs { OnOk result (machine.new.writer.failed ≡ false) }
-    ensures says { (plies : ℕ) → RefusesTruly plies (W.has_failed sink.new) result }
-{
-    match machine.writer.put_record(node, sink) {
-        Ok(()) => Ok(()),
-        Err(_) => Err(SearchFault::Write),
-    }
-}
-
 // A cut by prices.
 fn priced(code: u8, color: Color, prices: &Prices) -> Record {
     Record::Priced {
@@ -74,42 +45,56 @@ fn priced(code: u8, color: Color, prices: &Prices) -> Record {
     }
 }
 
-// The prices of a verdict.
-fn prices_of(
-    machine: &mut Machine,
+// A cut by the prices of a colour's pawns.
+fn pawns_record(
+    judge: &mut Judge,
+    color: Color,
+    position: &Position,
+) -> Result<Option<Record>, AllocError> {
+    match judge.pawn_prices(color, position)? {
+        Some(prices) => Ok(Some(priced(PawnFiles::CODE, color, &prices))),
+        None => Ok(None),
+    }
+}
+
+// A cut by the prices of a colour's travel.
+fn travel_record(
+    judge: &mut Judge,
+    color: Color,
+    position: &Position,
+    sides: &Sides,
+) -> Result<Option<Record>, AllocError> {
+    match judge.travel_prices(color, position, sides.of(color))? {
+        Some(prices) => Ok(Some(priced(Travel::CODE, color, &prices))),
+        None => Ok(None),
+    }
+}
+
+// The record of a node with this verdict; none where no cut excludes it.
+fn record_of(
+    judge: &mut Judge,
     position: &Position,
     sides: &Sides,
     verdict: Cutting,
-) -> Result<Option<(u8, Color, Prices)>, AllocError>
-    ensures frames { machine.new.frames ≡ machine.old.frames }
-    ensures writer { machine.new.writer ≡ machine.old.writer }
-{
-    let (code, color, answer) = match verdict {
-        Cutting::Pawns(color) => (3, color, machine.judge.pawn_prices(color, position)),
-        Cutting::Travel(color) => {
-            let side = sides.of(color);
-            (4, color, machine.judge.travel_prices(color, position, side))
-        }
-        _ => return Ok(None),
-    };
-    match answer {
-        Ok(Some(prices)) => Ok(Some((code, color, prices))),
-        Ok(None) => Ok(None),
-        Err(fault) => Err(fault),
+) -> Result<Option<Record>, AllocError> {
+    match verdict {
+        Cutting::Cut(code) => Ok(Some(Record::Cut(code))),
+        Cutting::Pawns(color) => pawns_record(judge, color, position),
+        Cutting::Travel(color) => travel_record(judge, color, position, sides),
+        Cutting::Stays | Cutting::Unknown => Ok(None),
     }
 }
 
 // Writes a reference to the closed node with a key, and answers whether there is one.
-fn refer<W: Sink>(machine: &mut Machine, sink: &mut W, key: u64) -> Result<bool, SearchFault>
-    requires runs { machine.old.writer.failed ≡ false }
-    ensures frames { machine.new.frames ≡ machine.old.frames }
-    ensures runs { OnOk result (machine.new.writer.failed ≡ false) }
+fn refer<W: Sink>(output: &mut Output, sink: &mut W, key: u64) -> Result<bool, SearchFault>
+    requires runs { output.old.writer.failed ≡ false }
+    ensures runs { OnOk result (output.new.writer.failed ≡ false) }
     ensures says { (plies : ℕ) → RefusesTruly plies (W.has_failed sink.new) result }
 {
-    let Some(number) = machine.closed_nodes.find(key) else {
+    let Some(number) = output.names.find(key) else {
         return Ok(false);
     };
-    match put(machine, &Record::Ref(number), sink) {
+    match output.put(&Record::Ref(number), sink) {
         Ok(()) => Ok(true),
         Err(fault) => Err(fault),
     }
@@ -117,20 +102,18 @@ fn refer<W: Sink>(machine: &mut Machine, sink: &mut W, key: u64) -> Result<bool,
 
 // A node is open from now on, with a name where there are names.
 fn open<W: Sink>(
-    machine: &mut Machine,
+    output: &mut Output,
     sink: &mut W,
     position: &Position,
     sides: &Sides,
     key: u64,
 ) -> Result<Option<Opened>, SearchFault>
-    requires runs { machine.old.writer.failed ≡ false }
-    ensures frames { machine.new.frames ≡ machine.old.frames }
-    ensures runs { OnOk result (machine.new.writer.failed ≡ false) }
+    requires runs { output.old.writer.failed ≡ false }
+    ensures runs { OnOk result (output.new.writer.failed ≡ false) }
     ensures says { (plies : ℕ) → RefusesTruly plies (W.has_failed sink.new) result }
 {
-    let named = machine.named < MOST_NAMED;
-    machine.named = machine.named.saturating_add(u32::from(named));
-    match put(machine, &Record::Expand { named }, sink) {
+    let named = output.names.open();
+    match output.put(&Record::Expand { named }, sink) {
         Ok(()) => Ok(Some(Opened {
             position: *position,
             sides: *sides,
@@ -144,22 +127,21 @@ fn open<W: Sink>(
 // A node that no cut excludes, with so many plies left, at least two: a reference where one of the same
 // future has closed barren; otherwise it is open from now on.
 fn stay<W: Sink>(
-    machine: &mut Machine,
+    output: &mut Output,
     sink: &mut W,
     position: &Position,
     sides: &Sides,
     left: u8,
 ) -> Result<Option<Opened>, SearchFault>
-    requires runs { machine.old.writer.failed ≡ false }
-    ensures frames { machine.new.frames ≡ machine.old.frames }
-    ensures runs { OnOk result (machine.new.writer.failed ≡ false) }
+    requires runs { output.old.writer.failed ≡ false }
+    ensures runs { OnOk result (output.new.writer.failed ≡ false) }
     ensures says { (plies : ℕ) → RefusesTruly plies (W.has_failed sink.new) result }
 {
     let passed = position.effective_passed();
     let key = key_of(sides, position.side(), passed, left);
-    match refer(machine, sink, key) {
+    match refer(output, sink, key) {
         Ok(true) => Ok(None),
-        Ok(false) => open(machine, sink, position, sides, key),
+        Ok(false) => open(output, sink, position, sides, key),
         Err(fault) => Err(fault),
     }
 }
@@ -167,7 +149,7 @@ fn stay<W: Sink>(
 // A node after a legal move that no cut excludes, as `stay`. Its position is not made where a reference is
 // written.
 fn stay_after<W: Sink>(
-    machine: &mut Machine,
+    output: &mut Output,
     sink: &mut W,
     position: &Position,
     m: &Move,
@@ -175,63 +157,63 @@ fn stay_after<W: Sink>(
     left: u8,
 ) -> Result<Option<Opened>, SearchFault>
     requires legal { IsLegal position.now m.now }
-    requires runs { machine.old.writer.failed ≡ false }
-    ensures frames { machine.new.frames ≡ machine.old.frames }
-    ensures runs { OnOk result (machine.new.writer.failed ≡ false) }
+    requires runs { output.old.writer.failed ≡ false }
+    ensures runs { OnOk result (output.new.writer.failed ≡ false) }
     ensures says { (plies : ℕ) → RefusesTruly plies (W.has_failed sink.new) result }
 {
     if may_pass(m) {
-        return stay(machine, sink, &position.after(m), sides, left);
+        return stay(output, sink, &position.after(m), sides, left);
     }
     let key = key_of(sides, position.side().other(), None, left);
-    match refer(machine, sink, key) {
+    match refer(output, sink, key) {
         Ok(true) => Ok(None),
-        Ok(false) => open(machine, sink, &position.after(m), sides, key),
+        Ok(false) => open(output, sink, &position.after(m), sides, key),
         Err(fault) => Err(fault),
     }
 }
 
-// Writes the record of a node with so many plies left, at least two, of which so much is known.
+// Writes the record of a node that was judged, with so many plies left, at least two.
+fn put_verdict<W: Sink>(
+    recorder: &mut Recorder,
+    sink: &mut W,
+    position: &Position,
+    sides: &Sides,
+    verdict: Cutting,
+    left: u8,
+) -> Result<Option<Opened>, SearchFault>
+    requires runs { recorder.old.output.writer.failed ≡ false }
+    ensures runs { OnOk result (recorder.new.output.writer.failed ≡ false) }
+    ensures says { (plies : ℕ) → RefusesTruly plies (W.has_failed sink.new) result }
+{
+    match record_of(&mut recorder.judge, position, sides, verdict) {
+        Ok(None) => stay(&mut recorder.output, sink, position, sides, left),
+        Ok(Some(record)) => match recorder.output.put(&record, sink) {
+            Ok(()) => Ok(None),
+            Err(fault) => Err(fault),
+        },
+        Err(_) => Err(SearchFault::Memory),
+    }
+}
+
+// Judges a node with so many plies left, at least two, of which so much is known, and writes its record.
 #[inline(never)]
 pub(crate) fn enter<W: Sink>(
     question: &Question,
-    machine: &mut Machine,
+    recorder: &mut Recorder,
     sink: &mut W,
     position: &Position,
     known: Option<Sides>,
     left: u8,
 ) -> Result<Option<Opened>, SearchFault>
-    requires runs { machine.old.writer.failed ≡ false }
-    ensures frames { machine.new.frames ≡ machine.old.frames }
-    ensures runs { OnOk result (machine.new.writer.failed ≡ false) }
+    requires runs { recorder.old.output.writer.failed ≡ false }
+    ensures runs { OnOk result (recorder.new.output.writer.failed ≡ false) }
     ensures says { (plies : ℕ) → RefusesTruly plies (W.has_failed sink.new) result }
 {
-    let mut sides = match known {
-        Some(sides) => sides,
-        None => sides_of(position),
-    };
-    match machine.judge.fill(question.diagram, position, &mut sides) {
-        Ok(()) => {}
-        Err(_) => return Err(SearchFault::Memory),
-    }
-    let verdict = match machine.judge.judged(position, &mut sides, left) {
-        Ok(verdict) => verdict,
-        Err(_) => return Err(SearchFault::Memory),
-    };
-    if let Cutting::Cut(code) = verdict {
-        return match put(machine, &Record::Cut(code), sink) {
-            Ok(()) => Ok(None),
-            Err(fault) => Err(fault),
-        };
-    }
-    match prices_of(machine, position, &sides, verdict) {
-        Ok(None) => stay(machine, sink, position, &sides, left),
-        Ok(Some((code, color, prices))) => {
-            match put(machine, &priced(code, color, &prices), sink) {
-                Ok(()) => Ok(None),
-                Err(fault) => Err(fault),
-            }
-        }
+    match recorder
+        .judge
+        .enter(question.diagram, position, known, left)
+    {
+        Ok((verdict, sides)) => put_verdict(recorder, sink, position, &sides, verdict, left),
         Err(_) => Err(SearchFault::Memory),
     }
 }
@@ -239,23 +221,23 @@ pub(crate) fn enter<W: Sink>(
 // Writes a cut by a colour's travel, where its price lists are kept, and answers whether they are.
 #[inline(never)]
 fn put_kept<W: Sink>(
-    machine: &mut Machine,
+    judge: &Judge,
+    output: &mut Output,
     color: Color,
     known: &Option<Sides>,
     sink: &mut W,
 ) -> Result<bool, SearchFault>
-    requires runs { machine.old.writer.failed ≡ false }
-    ensures frames { machine.new.frames ≡ machine.old.frames }
-    ensures runs { OnOk result (machine.new.writer.failed ≡ false) }
+    requires runs { output.old.writer.failed ≡ false }
+    ensures runs { OnOk result (output.new.writer.failed ≡ false) }
     ensures says { (plies : ℕ) → RefusesTruly plies (W.has_failed sink.new) result }
 {
     let Some(sides) = known else {
         return Ok(false);
     };
-    let Some(prices) = machine.judge.kept_prices(color, sides.of(color).key) else {
+    let Some(prices) = judge.kept_prices(color, sides.of(color).key) else {
         return Ok(false);
     };
-    match put(machine, &priced(4, color, &prices), sink) {
+    match output.put(&priced(Travel::CODE, color, &prices), sink) {
         Ok(()) => Ok(true),
         Err(fault) => Err(fault),
     }
@@ -263,13 +245,12 @@ fn put_kept<W: Sink>(
 
 // Writes a cut by a bound.
 #[inline(never)]
-fn put_cut<W: Sink>(machine: &mut Machine, code: u8, sink: &mut W) -> Result<bool, SearchFault>
-    requires runs { machine.old.writer.failed ≡ false }
-    ensures frames { machine.new.frames ≡ machine.old.frames }
-    ensures runs { OnOk result (machine.new.writer.failed ≡ false) }
+fn put_cut<W: Sink>(output: &mut Output, code: u8, sink: &mut W) -> Result<bool, SearchFault>
+    requires runs { output.old.writer.failed ≡ false }
+    ensures runs { OnOk result (output.new.writer.failed ≡ false) }
     ensures says { (plies : ℕ) → RefusesTruly plies (W.has_failed sink.new) result }
 {
-    match put(machine, &Record::Cut(code), sink) {
+    match output.put(&Record::Cut(code), sink) {
         Ok(()) => Ok(true),
         Err(fault) => Err(fault),
     }
@@ -278,102 +259,81 @@ fn put_cut<W: Sink>(machine: &mut Machine, code: u8, sink: &mut W) -> Result<boo
 // Writes the record of a node where a bound excludes it, or prices do that are kept, and answers whether it
 // did.
 fn put_judged<W: Sink>(
-    machine: &mut Machine,
+    judge: &Judge,
+    output: &mut Output,
     verdict: Cutting,
     known: &Option<Sides>,
     sink: &mut W,
 ) -> Result<bool, SearchFault>
-    requires runs { machine.old.writer.failed ≡ false }
-    ensures frames { machine.new.frames ≡ machine.old.frames }
-    ensures runs { OnOk result (machine.new.writer.failed ≡ false) }
+    requires runs { output.old.writer.failed ≡ false }
+    ensures runs { OnOk result (output.new.writer.failed ≡ false) }
     ensures says { (plies : ℕ) → RefusesTruly plies (W.has_failed sink.new) result }
 {
     match verdict {
-        Cutting::Cut(code) => put_cut(machine, code, sink),
-        Cutting::Travel(color) => put_kept(machine, color, known, sink),
+        Cutting::Cut(code) => put_cut(output, code, sink),
+        Cutting::Travel(color) => put_kept(judge, output, color, known, sink),
         _ => Ok(false),
     }
 }
 
-// What became of a node that was judged before its move was made: its record is written; it stays; or that
-// is not known, but so much of both colours.
-#[derive(Clone, Copy)]
-enum Before {
-    Written,
-    Stays(Sides),
-    Unknown(Option<Sides>),
-}
-
-// Judges a node after a legal move by what is known, and writes its record where it is a cut.
-fn judge_before<W: Sink>(
-    machine: &mut Machine,
-    sink: &mut W,
+// What becomes of a node after a legal move, by what is known before the move is made: by the travel of its
+// colour, or else by both colours there, which are answered too.
+fn judge_before(
+    judge: &Judge,
+    mover: &mut Mover,
     position: &Position,
     m: &Move,
     outlook: &Outlook,
-    missing: Needs,
-) -> Result<Before, SearchFault>
-    requires runs { machine.old.writer.failed ≡ false }
-    ensures frames { machine.new.frames ≡ machine.old.frames }
-    ensures runs { OnOk result (machine.new.writer.failed ≡ false) }
-    ensures says { (plies : ℕ) → RefusesTruly plies (W.has_failed sink.new) result }
-{
-    let Some(changes) = changes_of(position, m) else {
-        return Ok(Before::Unknown(None));
+) -> (Cutting, Option<Sides>) {
+    let side = position.side();
+    let missing = match judge.plain(outlook, position, mover, m) {
+        Plain::Cut(code) => return (Cutting::Cut(code), None),
+        Plain::Needs(need) => after_plain(&outlook.sides.of(side).needs, need),
+        Plain::No => MISSING,
     };
-    let (sides, left) = (&outlook.sides, outlook.left);
-    let (verdict, known) = machine
-        .judge
-        .quick(position.side(), sides, &changes, missing, left);
-    match put_judged(machine, verdict, &known, sink) {
-        Ok(true) => Ok(Before::Written),
-        Ok(false) => Ok(match known {
-            Some(sides) if verdict == Cutting::Stays => Before::Stays(sides),
-            _ => Before::Unknown(known),
-        }),
-        Err(fault) => Err(fault),
+    match changes_of(position, m) {
+        Some(changes) => judge.quick(side, &outlook.sides, &changes, missing, outlook.left),
+        None => (Cutting::Unknown, None),
     }
 }
 
 // Visits the node after a legal move, with at least two plies left, and writes its record.
 pub(crate) fn child<W: Sink>(
     question: &Question,
-    machine: &mut Machine,
+    recorder: &mut Recorder,
     sink: &mut W,
     position: &Position,
     m: &Move,
     outlook: &Outlook,
 ) -> Result<Option<Opened>, SearchFault>
     requires legal { IsLegal position.now m.now }
-    requires runs { machine.old.writer.failed ≡ false }
-    ensures frames { machine.new.frames ≡ machine.old.frames }
-    ensures runs { OnOk result (machine.new.writer.failed ≡ false) }
+    requires runs { recorder.old.output.writer.failed ≡ false }
+    ensures runs { OnOk result (recorder.new.output.writer.failed ≡ false) }
     ensures says { (plies : ℕ) → RefusesTruly plies (W.has_failed sink.new) result }
 {
-    if !visit(machine) {
+    if !recorder.output.visit() {
         return Err(SearchFault::Budget);
     }
-    let missing = match machine
-        .judge
-        .plain(outlook, position, &mut machine.mover, m)
-    {
-        Plain::Cut(code) => {
-            return match put(machine, &Record::Cut(code), sink) {
-                Ok(()) => Ok(None),
-                Err(fault) => Err(fault),
-            };
+    let (verdict, known) = judge_before(&recorder.judge, &mut recorder.mover, position, m, outlook);
+    match put_judged(&recorder.judge, &mut recorder.output, verdict, &known, sink) {
+        Ok(true) => return Ok(None),
+        Ok(false) => {}
+        Err(fault) => return Err(fault),
+    }
+    match known {
+        Some(sides) if verdict == Cutting::Stays => {
+            stay_after(
+                &mut recorder.output,
+                sink,
+                position,
+                m,
+                &sides,
+                outlook.left,
+            )
         }
-        Plain::Needs(need) => after_plain(&outlook.sides.of(position.side()).needs, need),
-        Plain::No => MISSING,
-    };
-    let left = outlook.left;
-    match judge_before(machine, sink, position, m, outlook, missing) {
-        Ok(Before::Written) => Ok(None),
-        Ok(Before::Stays(sides)) => stay_after(machine, sink, position, m, &sides, left),
-        Ok(Before::Unknown(known)) => {
+        _ => {
             let next = position.after(m);
-            enter(question, machine, sink, &next, known, left)
+            enter(question, recorder, sink, &next, known, outlook.left)
         }
-        Err(fault) => Err(fault),
     }
 }

@@ -2,8 +2,10 @@
 
 use crate::sides::{Sides, is_special};
 use pg_board::{Color, Kind, Man, Square, SquareSet};
+use pg_captures::Captures;
 use pg_position::{Move, Position};
 use pg_prices::{Leasts, Rest, Rows};
+use pg_travel::Travel;
 
 // What is known of an open node: both colours, how many plies are left after a move, the least distances of
 // the men of the side to move, all men, how many plies that side has left after a move of its own, and
@@ -109,11 +111,11 @@ impl Outlook {
             return Plain::No;
         }
         if self.is_owing {
-            return Plain::Cut(1);
+            return Plain::Cut(Captures::CODE);
         }
         let need = mover.rest.need(rows.distances(mover.man.kind, m.to));
         if need > self.plies {
-            Plain::Cut(4)
+            Plain::Cut(Travel::CODE)
         } else {
             Plain::Needs(need)
         }

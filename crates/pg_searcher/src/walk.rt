@@ -4,8 +4,9 @@ ghost use Rattle.pg_searcher.specs.Refusals.{RefusesTruly};
 
 use crate::ends::{end, is_near, last_node, leaves};
 use crate::fault::SearchFault;
-use crate::machine::{Frame, Machine, Question};
-use crate::node::{Opened, child, enter, visit};
+use crate::judge::Judge;
+use crate::machine::{Findings, Frame, Machine, Names, Output, Question, Recorder};
+use crate::node::{Opened, child, enter};
 use crate::outlook::Mover;
 use crate::progress::SearchProgress;
 use crate::sides::is_special;
@@ -16,35 +17,29 @@ use pg_position::{Move, Position};
 use pg_san::Games;
 use std::mem;
 
+// Each loop has a bound, and refuses the budget where it comes to it. None does: no position has 65,535 moves,
+// and no run takes 2^64 - 1 turns.
+
 // The frame of a node that opens with so many plies left.
-fn frame_of(machine: &Machine, opened: &Opened, left: u8) -> Frame {
+fn frame_of(judge: &Judge, opened: &Opened, left: u8) -> Frame {
     Frame {
         moves: LegalMoves::new(&opened.position),
-        outlook: machine.judge.outlook(&opened.position, &opened.sides, left),
+        outlook: judge.outlook(&opened.position, &opened.sides, left),
         key: opened.key,
         named: opened.named,
-        found: false,
+        fertile: false,
     }
 }
 
-// A node closes: a named one takes its number, and one below which no game ends on the diagram is
-// entered among the closed ones.
-fn close(top: &Frame, machine: &mut Machine) -> Result<(), SearchFault>
-    ensures frames { machine.new.frames ≡ machine.old.frames }
-    ensures writer { machine.new.writer ≡ machine.old.writer }
-    ensures says { (plies : ℕ) (failed : Bool) → RefusesTruly plies failed result }
+// A node closes. Whether a game below it ends on the diagram is told from now on.
+fn close(top: &Frame, names: &mut Names, findings: &mut Findings) -> Result<(), SearchFault>
+    ensures { (plies : ℕ) (failed : Bool) → RefusesTruly plies failed result }
 {
-    let found = top.found || machine.found;
-    machine.found = found;
+    findings.fertile = findings.fertile || top.fertile;
     if !top.named {
         return Ok(());
     }
-    let number = machine.closed;
-    machine.closed = machine.closed.saturating_add(1);
-    if found {
-        return Ok(());
-    }
-    match machine.closed_nodes.insert(top.key, number) {
+    match names.close(top.key, findings.fertile) {
         Ok(()) => Ok(()),
         Err(_) => Err(SearchFault::Memory),
     }
@@ -77,16 +72,16 @@ pub(crate) fn may_be_near(goal: &Board, position: &Position, squares: SquareSet,
 }
 
 // The moves of a node with two plies left are played, and the node closes.
-fn near<W: Sink>(
+fn play_last_two<W: Sink>(
     question: &Question,
-    tree: u8,
     top: &mut Frame,
-    machine: &mut Machine,
+    frames: &[Frame],
+    findings: &mut Findings,
+    output: &mut Output,
     sink: &mut W,
 ) -> Result<(), SearchFault>
-    requires runs { machine.old.writer.failed ≡ false }
-    ensures frames { OnOk result (machine.new.frames ≡ machine.old.frames) }
-    ensures runs { OnOk result (machine.new.writer.failed ≡ false) }
+    requires runs { output.old.writer.failed ≡ false }
+    ensures runs { OnOk result (output.new.writer.failed ≡ false) }
     ensures says { RefusesTruly question.now.plies (W.has_failed sink.new) result }
 {
     let position = top.moves.position();
@@ -94,15 +89,15 @@ fn near<W: Sink>(
     let squares = position.board().differing(&goal);
     for _ in 0..u16::MAX {
         let Some(m) = top.moves.next() else {
-            return close(top, machine);
+            return close(top, &mut output.names, findings);
         };
-        match last_node(machine, sink) {
+        match last_node(output, sink) {
             Ok(()) => {}
             Err(fault) => return Err(fault),
         }
         if may_be_near(&goal, &position, squares, &m) {
             let next = position.after(&m);
-            match leaves(question, tree, machine, &Some(m), &next) {
+            match leaves(question, frames, findings, &Some(m), &next) {
                 Ok(()) => {}
                 Err(fault) => return Err(fault),
             }
@@ -111,65 +106,86 @@ fn near<W: Sink>(
     Err(SearchFault::Budget)
 }
 
-// The moves of a node are played up to the first that leads to a node that opens, which is the topmost from
-// now on; with no such move the node closes. The answer is whether one has opened.
-fn far<W: Sink>(
+// The moves of a node are played up to the first that leads to a node that opens, which is the answer; none
+// where there is no such move.
+fn next_opened<W: Sink>(
     question: &Question,
     top: &mut Frame,
-    machine: &mut Machine,
+    recorder: &mut Recorder,
     sink: &mut W,
-) -> Result<bool, SearchFault>
-    requires room { length machine.old.frames.items + 1 ≤ 128 }
-    requires runs { machine.old.writer.failed ≡ false }
-    ensures depth { OnOk result (length machine.new.frames.items ≤ length machine.old.frames.items + 1) }
-    ensures runs { OnOk result (machine.new.writer.failed ≡ false) }
+) -> Result<Option<Opened>, SearchFault>
+    requires runs { recorder.old.output.writer.failed ≡ false }
+    ensures runs { OnOk result (recorder.new.output.writer.failed ≡ false) }
     ensures says { RefusesTruly question.now.plies (W.has_failed sink.new) result }
 {
     let position = top.moves.position();
-    top.found = top.found || machine.found;
-    machine.found = false;
-    machine.mover = Mover::none();
+    recorder.mover = Mover::none();
     for _ in 0..u16::MAX {
         let Some(m) = top.moves.next() else {
-            return match close(top, machine) {
-                Ok(()) => Ok(false),
-                Err(fault) => Err(fault),
-            };
+            return Ok(None);
         };
-        match child(question, machine, sink, &position, &m, &top.outlook) {
+        match child(question, recorder, sink, &position, &m, &top.outlook) {
             Ok(None) => {}
-            Ok(Some(opened)) => {
-                let opened = frame_of(machine, &opened, top.outlook.left);
-                machine.frames.push(mem::replace(top, opened));
-                return Ok(true);
-            }
+            Ok(Some(opened)) => return Ok(Some(opened)),
             Err(fault) => return Err(fault),
         }
     }
     Err(SearchFault::Budget)
 }
 
+// The moves of a node are played until a node opens, which is the topmost from now on; where none does the
+// node closes. The answer is whether one has opened.
+fn play_until_opened<W: Sink>(
+    question: &Question,
+    top: &mut Frame,
+    machine: &mut Machine,
+    sink: &mut W,
+) -> Result<bool, SearchFault>
+    requires room { length machine.old.frames.items + 1 ≤ 128 }
+    requires runs { machine.old.recorder.output.writer.failed ≡ false }
+    ensures depth { OnOk result (length machine.new.frames.items ≤ length machine.old.frames.items + 1) }
+    ensures runs { OnOk result (machine.new.recorder.output.writer.failed ≡ false) }
+    ensures says { RefusesTruly question.now.plies (W.has_failed sink.new) result }
+{
+    top.fertile = top.fertile || machine.findings.fertile;
+    machine.findings.fertile = false;
+    match next_opened(question, top, &mut machine.recorder, sink) {
+        Ok(Some(opened)) => {
+            let opened = frame_of(&machine.recorder.judge, &opened, top.outlook.left);
+            machine.frames.push(mem::replace(top, opened));
+            Ok(true)
+        }
+        Ok(None) => {
+            let names = &mut machine.recorder.output.names;
+            match close(top, names, &mut machine.findings) {
+                Ok(()) => Ok(false),
+                Err(fault) => Err(fault),
+            }
+        }
+        Err(fault) => Err(fault),
+    }
+}
+
 // The tree of no ply or of one.
 fn short_tree<W: Sink>(
     question: &Question,
-    tree: u8,
-    machine: &mut Machine,
+    findings: &mut Findings,
+    output: &mut Output,
     sink: &mut W,
 ) -> Result<(), SearchFault>
-    requires runs { machine.old.writer.failed ≡ false }
-    ensures frames { machine.new.frames ≡ machine.old.frames }
-    ensures runs { OnOk result (machine.new.writer.failed ≡ false) }
+    requires runs { output.old.writer.failed ≡ false }
+    ensures runs { OnOk result (output.new.writer.failed ≡ false) }
     ensures says { RefusesTruly question.now.plies (W.has_failed sink.new) result }
 {
     let array = Position::array();
-    if tree > 0 {
-        return match last_node(machine, sink) {
-            Ok(()) => leaves(question, tree, machine, &None, &array),
+    if question.tree > 0 {
+        return match last_node(output, sink) {
+            Ok(()) => leaves(question, &[], findings, &None, &array),
             Err(fault) => Err(fault),
         };
     }
     if question.diagram.matches(&array) {
-        end(question, tree, machine, &None, &None)
+        end(question, &[], findings, &None, &None)
     } else {
         Ok(())
     }
@@ -178,21 +194,20 @@ fn short_tree<W: Sink>(
 // The first node of a tree of at least two plies, where that opens.
 fn enter_root<W: Sink>(
     question: &Question,
-    tree: u8,
-    machine: &mut Machine,
+    recorder: &mut Recorder,
     sink: &mut W,
 ) -> Result<Option<Frame>, SearchFault>
-    requires runs { machine.old.writer.failed ≡ false }
-    ensures frames { machine.new.frames ≡ machine.old.frames }
-    ensures runs { OnOk result (machine.new.writer.failed ≡ false) }
+    requires runs { recorder.old.output.writer.failed ≡ false }
+    ensures runs { OnOk result (recorder.new.output.writer.failed ≡ false) }
     ensures says { RefusesTruly question.now.plies (W.has_failed sink.new) result }
 {
-    if !visit(machine) {
+    if !recorder.output.visit() {
         return Err(SearchFault::Budget);
     }
-    match enter(question, machine, sink, &Position::array(), None, tree) {
+    let left = question.tree;
+    match enter(question, recorder, sink, &Position::array(), None, left) {
         Ok(None) => Ok(None),
-        Ok(Some(opened)) => Ok(Some(frame_of(machine, &opened, tree))),
+        Ok(Some(opened)) => Ok(Some(frame_of(&recorder.judge, &opened, left))),
         Err(fault) => Err(fault),
     }
 }
@@ -201,26 +216,31 @@ fn enter_root<W: Sink>(
 // closes. The answer is whether one has opened.
 fn turn<W: Sink>(
     question: &Question,
-    tree: u8,
     top: &mut Frame,
     machine: &mut Machine,
     sink: &mut W,
 ) -> Result<bool, SearchFault>
-    requires limit { tree ≤ 128 }
-    requires depth { length machine.old.frames.items < tree }
-    requires runs { machine.old.writer.failed ≡ false }
-    ensures depth { OnOk result (length machine.new.frames.items < tree) }
-    ensures runs { OnOk result (machine.new.writer.failed ≡ false) }
+    requires limit { question.now.tree ≤ 128 }
+    requires depth { length machine.old.frames.items < question.now.tree }
+    requires runs { machine.old.recorder.output.writer.failed ≡ false }
+    ensures depth { OnOk result (length machine.new.frames.items < question.now.tree) }
+    ensures runs { OnOk result (machine.new.recorder.output.writer.failed ≡ false) }
     ensures says { RefusesTruly question.now.plies (W.has_failed sink.new) result }
 {
-    let left = tree - machine.frames.len() as u8 - 1;
-    if left < 2 {
-        match near(question, tree, top, machine, sink) {
-            Ok(()) => Ok(false),
-            Err(fault) => Err(fault),
-        }
-    } else {
-        far(question, top, machine, sink)
+    let left = question.tree - machine.frames.len() as u8 - 1;
+    if left >= 2 {
+        return play_until_opened(question, top, machine, sink);
+    }
+    match play_last_two(
+        question,
+        top,
+        machine.frames.as_slice(),
+        &mut machine.findings,
+        &mut machine.recorder.output,
+        sink,
+    ) {
+        Ok(()) => Ok(false),
+        Err(fault) => Err(fault),
     }
 }
 
@@ -238,37 +258,37 @@ fn tell<P: SearchProgress>(games: &Games, known: usize, watch: &mut P) -> usize 
 // The tree of one length.
 pub(crate) fn tree_of<W: Sink, P: SearchProgress>(
     question: &Question,
-    tree: u8,
     machine: &mut Machine,
     sink: &mut W,
     watch: &mut P,
 ) -> Result<(), SearchFault>
-    requires limit { tree ≤ 128 }
-    requires runs { machine.old.writer.failed ≡ false }
-    ensures runs { OnOk result (machine.new.writer.failed ≡ false) }
+    requires limit { question.now.tree ≤ 128 }
+    requires runs { machine.old.recorder.output.writer.failed ≡ false }
+    ensures runs { OnOk result (machine.new.recorder.output.writer.failed ≡ false) }
     ensures says { RefusesTruly question.now.plies (W.has_failed sink.new) result }
 {
     machine.frames.clear();
-    machine.found = false;
-    let mut known = machine.games.len();
-    if tree < 2 {
-        let answer = short_tree(question, tree, machine, sink);
-        tell(&machine.games, known, watch);
+    machine.findings.fertile = false;
+    let mut known = machine.findings.games.len();
+    if question.tree < 2 {
+        let output = &mut machine.recorder.output;
+        let answer = short_tree(question, &mut machine.findings, output, sink);
+        tell(&machine.findings.games, known, watch);
         return answer;
     }
-    let mut top = match enter_root(question, tree, machine, sink) {
+    let mut top = match enter_root(question, &mut machine.recorder, sink) {
         Ok(Some(top)) => top,
         Ok(None) => return Ok(()),
         Err(fault) => return Err(fault),
     };
     for _ in 0..u64::MAX {
-        let answer = turn(question, tree, &mut top, machine, sink);
-        known = tell(&machine.games, known, watch);
+        let answer = turn(question, &mut top, machine, sink);
+        known = tell(&machine.findings.games, known, watch);
         let has_opened = match answer {
             Ok(has_opened) => has_opened,
             Err(fault) => return Err(fault),
         };
-        watch.reached(tree, machine.nodes);
+        watch.reached(question.tree, machine.recorder.output.nodes);
         if !has_opened {
             top = match machine.frames.pop() {
                 Some(frame) => frame,

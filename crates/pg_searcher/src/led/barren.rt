@@ -4,12 +4,12 @@
 use std::alloc::{AllocError, Global};
 
 // How many slots the first entry makes, and how many there are at most: 64 MB.
-const FIRST: usize = 16_384;
+const FIRST_SLOTS: usize = 16_384;
 
-const MOST: usize = 4_194_304;
+const MOST_SLOTS: usize = 4_194_304;
 
 // A key stands in one of so many slots from its place on.
-const BUCKET: usize = 4;
+const BUCKET_SLOTS: usize = 4;
 
 // Stands for any number of foreign moves.
 pub(crate) const ANY: u8 = 255;
@@ -22,7 +22,7 @@ struct Slot {
     left: u8,
 }
 
-const FREE: Slot = Slot {
+const FREE_SLOT: Slot = Slot {
     key: 0,
     foreign: 0,
     left: 0,
@@ -43,7 +43,7 @@ fn place_of(slots: &Vec<Slot>, key: u64) -> usize {
     let first = key as usize & mask;
     let mut least = u8::MAX;
     let mut place = first;
-    for i in 0..BUCKET {
+    for i in 0..BUCKET_SLOTS {
         let at = first.wrapping_add(i) & mask;
         if let Some(slot) = slots.get(at) {
             if slot.key == key || slot.key == 0 {
@@ -77,11 +77,8 @@ impl Barren {
 
     // Enters a node with so many plies left by its key, which is not 0.
     pub(crate) fn put(&mut self, key: u64, left: u8, foreign: u8) -> Result<(), AllocError> {
-        if self.used >= self.slots.len() / 2 && self.slots.len() < MOST {
-            match self.grow() {
-                Ok(()) => {}
-                Err(fault) => return Err(fault),
-            }
+        if self.used >= self.slots.len() / 2 && self.slots.len() < MOST_SLOTS {
+            self.grow()?;
         }
         self.write(Slot { key, foreign, left });
         Ok(())
@@ -102,8 +99,8 @@ impl Barren {
 
     // Doubles the slots.
     fn grow(&mut self) -> Result<(), AllocError> {
-        let count = self.slots.len().saturating_mul(2).max(FIRST);
-        let slots = vec![in *self.slots.allocator(); FREE; count]?;
+        let count = self.slots.len().saturating_mul(2).max(FIRST_SLOTS);
+        let slots = vec![in *self.slots.allocator(); FREE_SLOT; count]?;
         let mut grown = Barren { slots, used: 0 };
         for slot in self.slots.iter() {
             if slot.key != 0 {

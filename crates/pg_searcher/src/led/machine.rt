@@ -1,5 +1,4 @@
 //! What a led search holds.
-ghost use Rattle.std.specs.Prelude.{◌≡◌};
 
 use crate::judge::Judge;
 use crate::known::MISSING;
@@ -52,7 +51,7 @@ pub(crate) struct Open {
     pub(crate) sides: Sides,
     pub(crate) key: u64,
     pub(crate) foreign: u8,
-    pub(crate) found: bool,
+    pub(crate) fertile: bool,
     pub(crate) refused: bool,
 }
 
@@ -67,7 +66,7 @@ impl Open {
             sides: *sides,
             key,
             foreign,
-            found: false,
+            fertile: false,
             refused: false,
         }
     }
@@ -98,25 +97,32 @@ pub(crate) enum Halt {
     Memory,
 }
 
-// What judges nodes, the barren nodes, the open nodes, how many nodes may still be visited, whether a foreign
-// move was refused in this round, and the game that was found.
+// What tells whether a node is gone into: what judges nodes, the barren ones, and how many may still be
+// visited.
 #[derive(Drop)]
-pub(crate) struct Machine {
+pub(crate) struct Sieve {
     pub(crate) judge: Judge,
     pub(crate) barren: Barren,
-    pub(crate) frames: ArrayVec<Open, 128>,
     pub(crate) nodes: u64,
-    pub(crate) refused: bool,
-    pub(crate) game: Game,
 }
 
-// Counts a node, and answers whether it may be visited.
-pub(crate) fn visit(machine: &mut Machine) -> bool
-    ensures { machine.new.frames ≡ machine.old.frames }
-{
-    if machine.nodes == 0 {
-        return false;
+impl Sieve {
+    // Counts a node, and answers whether it may be visited.
+    pub(crate) fn visit(&mut self) -> bool {
+        if self.nodes == 0 {
+            return false;
+        }
+        self.nodes -= 1;
+        true
     }
-    machine.nodes -= 1;
-    true
+}
+
+// What tells whether nodes are gone into, the open nodes, whether a foreign move was refused in this round,
+// and the game that was found.
+#[derive(Drop)]
+pub(crate) struct Machine {
+    pub(crate) sieve: Sieve,
+    pub(crate) frames: ArrayVec<Open, 128>,
+    pub(crate) refused: bool,
+    pub(crate) game: Game,
 }

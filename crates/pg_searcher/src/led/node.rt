@@ -2,10 +2,10 @@
 ghost use Rattle.std.specs.Prelude.{◌≡◌};
 ghost use Rattle.pg_position.specs.Step.{IsLegal};
 
-use crate::judge::{Cutting, sides_of};
+use crate::judge::Cutting;
 use crate::known::MISSING;
-use crate::led::barren::ANY;
-use crate::led::machine::{Halt, Machine, Open, Question, visit};
+use crate::led::barren::{ANY, Barren};
+use crate::led::machine::{Halt, Open, Question, Sieve};
 use crate::led::order::Due;
 use crate::sides::{Sides, changes_of};
 use pg_position::Position;
@@ -37,7 +37,7 @@ fn is_cut(verdict: Cutting) -> bool {
 }
 
 // A node that no cut excludes: barren where one of the same future was, with as many foreign moves.
-fn stay(machine: &Machine, position: &Position, sides: &Sides, means: Means) -> Entry {
+fn stay(barren: &Barren, position: &Position, sides: &Sides, means: Means) -> Entry {
     let key = node_key(
         sides.white.key,
         sides.black.key,
@@ -45,7 +45,7 @@ fn stay(machine: &Machine, position: &Position, sides: &Sides, means: Means) -> 
         position.effective_passed(),
         means.left,
     );
-    match machine.barren.get(key) {
+    match barren.get(key) {
         Some(ANY) => Entry::Barren,
         Some(foreign) if foreign >= means.foreign => Entry::Refused,
         _ => Entry::Opens(Open::new(position, sides, key, means.foreign)),
@@ -55,30 +55,17 @@ fn stay(machine: &Machine, position: &Position, sides: &Sides, means: Means) -> 
 // Judges a node with at least two plies left, of which so much is known.
 pub(crate) fn enter(
     question: &Question,
-    machine: &mut Machine,
+    sieve: &mut Sieve,
     position: &Position,
     known: Option<Sides>,
     means: Means,
-) -> Result<Entry, AllocError>
-    ensures { machine.new.frames ≡ machine.old.frames }
-{
-    let mut sides = match known {
-        Some(sides) => sides,
-        None => sides_of(position),
-    };
-    match machine.judge.fill(question.diagram, position, &mut sides) {
-        Ok(()) => {}
-        Err(fault) => return Err(fault),
-    }
-    match machine.judge.judged(position, &mut sides, means.left) {
-        Ok(verdict) => {
-            if is_cut(verdict) {
-                Ok(Entry::Barren)
-            } else {
-                Ok(stay(machine, position, &sides, means))
-            }
-        }
-        Err(fault) => Err(fault),
+) -> Result<Entry, AllocError> {
+    let diagram = question.diagram;
+    let (verdict, sides) = sieve.judge.enter(diagram, position, known, means.left)?;
+    if is_cut(verdict) {
+        Ok(Entry::Barren)
+    } else {
+        Ok(stay(&sieve.barren, position, &sides, means))
     }
 }
 
@@ -86,22 +73,21 @@ pub(crate) fn enter(
 // it opens.
 pub(crate) fn child(
     question: &Question,
-    machine: &mut Machine,
+    sieve: &mut Sieve,
     top: &mut Open,
     position: &Position,
     due: &Due,
     left: u8,
 ) -> Result<Option<Open>, Halt>
     requires legal { IsLegal position.now due.now.m }
-    ensures frames { machine.new.frames ≡ machine.old.frames }
     ensures moves { top.new.moves ≡ top.old.moves }
 {
-    if !visit(machine) {
+    if !sieve.visit() {
         return Err(Halt::Budget);
     }
     let mut known = None;
     if let Some(changes) = changes_of(position, &due.m) {
-        let (verdict, sides) = machine
+        let (verdict, sides) = sieve
             .judge
             .quick(position.side(), &top.sides, &changes, MISSING, left);
         if is_cut(verdict) {
@@ -115,7 +101,7 @@ pub(crate) fn child(
     }
     let foreign = top.foreign.saturating_sub(u8::from(due.is_foreign));
     let next = position.after(&due.m);
-    match enter(question, machine, &next, known, Means { left, foreign }) {
+    match enter(question, sieve, &next, known, Means { left, foreign }) {
         Ok(Entry::Barren) => Ok(None),
         Ok(Entry::Refused) => {
             top.refused = true;

@@ -4,7 +4,7 @@ use crate::judge::Judge;
 use crate::led::answer::{Game, Led, LedFault, LedLimits, LedProgress};
 use crate::led::barren::Barren;
 use crate::led::familiar::Familiar;
-use crate::led::machine::{Halt, Machine, Question};
+use crate::led::machine::{Halt, Machine, Question, Sieve};
 use crate::led::walk::tree;
 use arrayvec::ArrayVec;
 use pg_fen::{Diagram, Length};
@@ -21,10 +21,7 @@ fn round<P: LedProgress>(
 ) -> Result<(), Halt> {
     let most = length.plies();
     for fewer in 0..=most {
-        match tree(question, machine, most - fewer, foreign, watch) {
-            Ok(()) => {}
-            Err(halt) => return Err(halt),
-        }
+        tree(question, machine, most - fewer, foreign, watch)?;
     }
     Ok(())
 }
@@ -67,17 +64,17 @@ fn rounds<P: LedProgress>(
 
 // A machine that may visit so many nodes.
 fn machine_of(alloc: Global, diagram: &Diagram, nodes: u64) -> Result<Machine, AllocError> {
-    match Judge::new(alloc, diagram) {
-        Ok(judge) => Ok(Machine {
-            judge,
-            barren: Barren::new(alloc),
-            frames: ArrayVec::new(),
-            nodes,
-            refused: false,
-            game: Game::new(),
-        }),
-        Err(fault) => Err(fault),
-    }
+    let sieve = Sieve {
+        judge: Judge::new(alloc, diagram)?,
+        barren: Barren::new(alloc),
+        nodes,
+    };
+    Ok(Machine {
+        sieve,
+        frames: ArrayVec::new(),
+        refused: false,
+        game: Game::new(),
+    })
 }
 
 /// Looks for a game to the diagram beside those of a list: one of so many plies that is not in the list, or
@@ -120,13 +117,13 @@ pub fn search_led<P: LedProgress>(
     };
     let most = limits.foreign.unwrap_or(length.plies());
     let ran = rounds(&question, &mut machine, length, most, watch);
-    let Machine { nodes, game, .. } = machine;
+    let Machine { sieve, game, .. } = machine;
     match ran.halt {
         Some(Halt::Found) => Ok(Led::Found(game)),
         Some(Halt::Memory) => Err(LedFault::Memory),
         Some(Halt::Budget) | None => Ok(Led::NotFound {
             foreign: ran.foreign,
-            nodes: limits.max_nodes.saturating_sub(nodes),
+            nodes: limits.max_nodes.saturating_sub(sieve.nodes),
         }),
     }
 }

@@ -1,21 +1,18 @@
 //! The walk through the games of one length, with a stack of open nodes.
 ghost use Rattle.std.specs.Prelude.{◌≡◌, ◌+◌, ◌<◌, ◌≤◌, length, OnOk};
 
-use crate::ends::leaf;
+use crate::ends::{leaf, put_move};
 use crate::led::answer::{Game, LedProgress};
 use crate::led::barren::ANY;
-use crate::led::machine::{Halt, Machine, Open, Question, visit};
+use crate::led::machine::{Halt, Machine, Open, Question, Sieve};
 use crate::led::node::{Entry, Means, child, enter};
 use crate::led::order::next_due;
 use crate::walk::may_be_near;
 use arrayvec::ArrayVec;
 use pg_position::{Move, Position};
 
-fn put_move(game: &mut Game, m: &Option<Move>) {
-    if let Some(m) = m {
-        let _ = game.try_push(*m);
-    }
-}
+// Each loop has a bound, and halts as at the end of the budget where it comes to it. None does: no position has
+// 65,535 moves, and no run takes 2^64 - 1 turns.
 
 // The game that leads along the open nodes and then by these moves.
 fn game_along(frames: &[Open], before: &Option<Move>, last: &Option<Move>) -> Game {
@@ -31,17 +28,16 @@ fn game_along(frames: &[Open], before: &Option<Move>, last: &Option<Move>) -> Ga
 // A game along the open nodes and by these moves ends on the diagram. One that is not listed is found.
 fn end(
     question: &Question,
-    machine: &mut Machine,
+    frames: &[Open],
+    found: &mut Game,
     before: &Option<Move>,
     last: &Option<Move>,
-) -> Result<(), Halt>
-    ensures { machine.new.frames ≡ machine.old.frames }
-{
-    let game = game_along(machine.frames.as_slice(), before, last);
+) -> Result<(), Halt> {
+    let game = game_along(frames, before, last);
     if question.games.contains(game.as_slice()) {
         return Ok(());
     }
-    machine.game = game;
+    *found = game;
     Err(Halt::Found)
 }
 
@@ -50,73 +46,94 @@ fn close(top: &Open, machine: &mut Machine, left: u8) -> Result<(), Halt>
     ensures { length machine.new.frames.items ≡ length machine.old.frames.items }
 {
     if let Some(parent) = machine.frames.last_mut() {
-        parent.found = parent.found || top.found;
+        parent.fertile = parent.fertile || top.fertile;
         parent.refused = parent.refused || top.refused;
     }
     machine.refused = machine.refused || top.refused;
-    if top.found {
+    if top.fertile {
         return Ok(());
     }
     let foreign = if top.refused { top.foreign } else { ANY };
-    match machine.barren.put(top.key, left, foreign) {
+    match machine.sieve.barren.put(top.key, left, foreign) {
         Ok(()) => Ok(()),
         Err(_) => Err(Halt::Memory),
     }
 }
 
-// The moves of a node with two plies left are played, familiar or not, and the node closes.
-fn near(question: &Question, machine: &mut Machine, top: Open) -> Result<(), Halt>
-    ensures { OnOk result (length machine.new.frames.items ≡ length machine.old.frames.items) }
-{
-    let mut top = top;
+// The moves of a node with two plies left are played, familiar or not.
+fn play_last_two(
+    question: &Question,
+    top: &mut Open,
+    frames: &[Open],
+    sieve: &mut Sieve,
+    found: &mut Game,
+) -> Result<(), Halt> {
     let position = top.moves.position();
     let goal = question.diagram.board();
     let squares = position.board().differing(&goal);
     for _ in 0..u16::MAX {
         let Some(m) = top.moves.next() else {
-            return close(&top, machine, 2);
+            return Ok(());
         };
-        if !visit(machine) {
+        if !sieve.visit() {
             return Err(Halt::Budget);
         }
         if may_be_near(&goal, &position, squares, &m) {
             let next = position.after(&m);
             let last = leaf(question.diagram, &next);
             if last.is_some() {
-                match end(question, machine, &Some(m), &last) {
-                    Ok(()) => top.found = true,
-                    Err(halt) => return Err(halt),
-                }
+                end(question, frames, found, &Some(m), &last)?;
+                top.fertile = true;
             }
         }
     }
     Err(Halt::Budget)
 }
 
-// The moves of a node are played up to the first that leads to a node that opens, with so many plies left;
-// with no such move the node closes.
-fn far(question: &Question, machine: &mut Machine, top: Open, left: u8) -> Result<(), Halt>
-    requires { length machine.old.frames.items + 2 ≤ 128 }
-    ensures { OnOk result (length machine.new.frames.items ≤ length machine.old.frames.items + 2) }
-{
-    let mut top = top;
+// The moves of a node at a ply are played up to the first that leads to a node that opens, with so many plies
+// left, which is the answer; none where there is no such move.
+fn next_opened(
+    question: &Question,
+    top: &mut Open,
+    sieve: &mut Sieve,
+    ply: usize,
+    left: u8,
+) -> Result<Option<Open>, Halt> {
     let position = top.moves.position();
-    let ply = machine.frames.len();
     for _ in 0..u16::MAX {
-        let Some(due) = next_due(question, &mut top, &position, ply) else {
-            return close(&top, machine, left.saturating_add(1));
+        let Some(due) = next_due(question, top, &position, ply) else {
+            return Ok(None);
         };
-        match child(question, machine, &mut top, &position, &due, left) {
+        match child(question, sieve, top, &position, &due, left) {
             Ok(None) => {}
-            Ok(Some(opened)) => {
-                machine.frames.push(top);
-                machine.frames.push(opened);
-                return Ok(());
-            }
+            Ok(Some(opened)) => return Ok(Some(opened)),
             Err(halt) => return Err(halt),
         }
     }
     Err(Halt::Budget)
+}
+
+// The moves of a node are played until a node opens, with so many plies left; where none does the node closes.
+fn play_until_opened(
+    question: &Question,
+    machine: &mut Machine,
+    top: Open,
+    left: u8,
+) -> Result<(), Halt>
+    requires { length machine.old.frames.items + 2 ≤ 128 }
+    ensures { OnOk result (length machine.new.frames.items ≤ length machine.old.frames.items + 2) }
+{
+    let mut top = top;
+    let ply = machine.frames.len();
+    match next_opened(question, &mut top, &mut machine.sieve, ply, left) {
+        Ok(Some(opened)) => {
+            machine.frames.push(top);
+            machine.frames.push(opened);
+            Ok(())
+        }
+        Ok(None) => close(&top, machine, left.saturating_add(1)),
+        Err(halt) => Err(halt),
+    }
 }
 
 // One turn: moves of the topmost node are played.
@@ -126,53 +143,56 @@ fn turn(question: &Question, machine: &mut Machine, top: Open, plies: u8) -> Res
     ensures { OnOk result (length machine.new.frames.items ≤ plies) }
 {
     let left = plies - machine.frames.len() as u8 - 1;
-    if left < 2 {
-        near(question, machine, top)
-    } else {
-        far(question, machine, top, left)
+    if left >= 2 {
+        return play_until_opened(question, machine, top, left);
+    }
+    let mut top = top;
+    match play_last_two(
+        question,
+        &mut top,
+        machine.frames.as_slice(),
+        &mut machine.sieve,
+        &mut machine.game,
+    ) {
+        Ok(()) => close(&top, machine, 2),
+        Err(halt) => Err(halt),
     }
 }
 
-// The initial array is entered, for games of so many plies.
+// The initial array is entered, for games of so many plies, at least two: the first open node, if it opens.
 fn enter_root(
     question: &Question,
-    machine: &mut Machine,
+    sieve: &mut Sieve,
     plies: u8,
     foreign: u8,
-) -> Result<(), Halt>
-    ensures { OnOk result (length machine.new.frames.items ≤ plies) }
-{
-    machine.frames.clear();
-    let array = Position::array();
-    if plies == 0 {
-        return if question.diagram.matches(&array) {
-            end(question, machine, &None, &None)
-        } else {
-            Ok(())
-        };
-    }
-    if plies == 1 {
-        let last = leaf(question.diagram, &array);
-        return if last.is_some() {
-            end(question, machine, &None, &last)
-        } else {
-            Ok(())
-        };
-    }
-    if !visit(machine) {
+) -> Result<Option<Open>, Halt> {
+    if !sieve.visit() {
         return Err(Halt::Budget);
     }
     let means = Means {
         left: plies,
         foreign,
     };
-    match enter(question, machine, &array, None, means) {
-        Ok(Entry::Opens(opened)) => {
-            machine.frames.push(opened);
-            Ok(())
-        }
-        Ok(_) => Ok(()),
+    match enter(question, sieve, &Position::array(), None, means) {
+        Ok(Entry::Opens(opened)) => Ok(Some(opened)),
+        Ok(_) => Ok(None),
         Err(_) => Err(Halt::Memory),
+    }
+}
+
+// The games of no ply, or of one.
+fn short_tree(question: &Question, found: &mut Game, plies: u8) -> Result<(), Halt> {
+    let array = Position::array();
+    if plies > 0 {
+        return match leaf(question.diagram, &array) {
+            Some(m) => end(question, &[], found, &None, &Some(m)),
+            None => Ok(()),
+        };
+    }
+    if question.diagram.matches(&array) {
+        end(question, &[], found, &None, &None)
+    } else {
+        Ok(())
     }
 }
 
@@ -186,18 +206,19 @@ pub(crate) fn tree<P: LedProgress>(
 ) -> Result<(), Halt>
     requires { plies ≤ 128 }
 {
-    match enter_root(question, machine, plies, foreign) {
-        Ok(()) => {}
-        Err(halt) => return Err(halt),
+    machine.frames.clear();
+    if plies < 2 {
+        return short_tree(question, &mut machine.game, plies);
+    }
+    if let Some(opened) = enter_root(question, &mut machine.sieve, plies, foreign)? {
+        machine.frames.push(opened);
     }
     for _ in 0..u64::MAX {
         let Some(top) = machine.frames.pop() else {
             return Ok(());
         };
-        match turn(question, machine, top, plies) {
-            Ok(()) => watch.reached(foreign, plies, machine.nodes),
-            Err(halt) => return Err(halt),
-        }
+        turn(question, machine, top, plies)?;
+        watch.reached(foreign, plies, machine.sieve.nodes);
     }
     Err(Halt::Budget)
 }

@@ -3,4 +3,4 @@ use Rattle.pg_searcher.proofs.walk.tree_of.Given as goal
 
 -- between two turns fewer nodes are open above the topmost than the tree has plies, and the writer has not refused
 abbrev pub invariant-loop : goal.invariant-loop
-invariant-loop g l = (length l.machine.frames.items < l.tree) × (l.machine.writer.failed ≡ false)
+invariant-loop g l = (length l.machine.frames.items < l.question.tree) × (l.machine.recorder.output.writer.failed ≡ false)
