@@ -100,26 +100,26 @@ module _ (d : Placement) (l : ℕ) (games : List (List Move)) (cut : Cuts) where
   abbrev answers : ℕ → Answer (ℕ × ℕ)
   answers records bytes room = answer (chess d l games cut) array_state records room bytes
 
-  fresh : (m : Machine) (records : ℕ) → m.table.entries ≡ [] → m.records ≡ records → (bytes : List ℕ) (room : ℕ) → answers records bytes room ≡ (runs_all d l games cut array_state m bytes room >>= (λ s. ended (chess d l games cut) records room s.rest s))
+  fresh : (m : Machine) (records : ℕ) → m.names.table.entries ≡ [] → m.input.records ≡ records → (bytes : List ℕ) (room : ℕ) → answers records bytes room ≡ (runs_all d l games cut array_state m bytes room >>= (λ s. ended (chess d l games cut) records room s.rest s))
   unfolding chess answer
   fresh m records none same bytes room = λ i. run (chess d l games cut) (suc l) 0 array_state (record { rest = bytes; entries = map entry_of (sym none i); records = sym same i; room = room }) >>= (λ s. ended (chess d l games cut) records room s.rest s)
 
-  pub answers_stop : (known : Option (List ℕ)) (m : Machine) (records : ℕ) (s : Stop) → m.table.entries ≡ [] → m.records ≡ records → Stops known m.room (runs_all d l games cut array_state m) s → Stops known m.room (answers records) s
+  pub answers_stop : (known : Option (List ℕ)) (m : Machine) (records : ℕ) (s : Stop) → m.names.table.entries ≡ [] → m.input.records ≡ records → Stops known m.names.left (runs_all d l games cut array_state m) s → Stops known m.names.left (answers records) s
   answers_stop known m records s none same h =
-      stops_as known m.room (λ bytes room. runs_all d l games cut array_state m bytes room >>= (λ t. ended (chess d l games cut) records room t.rest t)) (answers records) s (fresh m records none same)
-      (stops_with known m.room (runs_all d l games cut array_state m) (λ room t. ended (chess d l games cut) records room t.rest t) s h)
+      stops_as known m.names.left (λ bytes room. runs_all d l games cut array_state m bytes room >>= (λ t. ended (chess d l games cut) records room t.rest t)) (answers records) s (fresh m records none same)
+      (stops_with known m.names.left (runs_all d l games cut array_state m) (λ room t. ended (chess d l games cut) records room t.rest t) s h)
 
   -- where bytes are taken and others are left, the answer is that of the end
-  comes_to : (known after : Option (List ℕ)) (m new : Machine) (records : ℕ) → m.table.entries ≡ [] → m.records ≡ records → (goes : Goes known after m.room new.room (runs_all d l games cut array_state m) (λ rest room. Ok (state_at new rest room)))
-      → (rest : List ℕ) → answers records (goes.taken ++ rest) m.room ≡ ended (chess d l games cut) records m.room rest (state_at new rest new.room)
+  comes_to : (known after : Option (List ℕ)) (m new : Machine) (records : ℕ) → m.names.table.entries ≡ [] → m.input.records ≡ records → (goes : Goes known after m.names.left new.names.left (runs_all d l games cut array_state m) (λ rest room. Ok (state_at new rest room)))
+      → (rest : List ℕ) → answers records (goes.taken ++ rest) m.names.left ≡ ended (chess d l games cut) records m.names.left rest (state_at new rest new.names.left)
   comes_to known after m new records none same goes rest =
-      fresh m records none same (goes.taken ++ rest) m.room
-      ∙ ap (λ (x : Result (walk.WalkState State) (tree.Cause Move)). x >>= (λ s. ended (chess d l games cut) records m.room s.rest s))
-      (ap (λ (room : ℕ). runs_all d l games cut array_state m (goes.taken ++ rest) room) goes.spends ∙ goes.same rest new.room)
+      fresh m records none same (goes.taken ++ rest) m.names.left
+      ∙ ap (λ (x : Result (walk.WalkState State) (tree.Cause Move)). x >>= (λ s. ended (chess d l games cut) records m.names.left s.rest s))
+      (ap (λ (room : ℕ). runs_all d l games cut array_state m (goes.taken ++ rest) room) goes.spends ∙ goes.same rest new.names.left)
 
   -- the bytes end there
-  pub answers_end : (known after later : Option (List ℕ)) (m new : Machine) (records : ℕ) → m.table.entries ≡ [] → m.records ≡ records → Goes known after m.room new.room (runs_all d l games cut array_state m) (λ rest room. Ok (state_at new rest room))
-      → (a b : ℕ) → a ≡ records - new.records → b ≡ m.room - new.room → Keeps after later → IsAtEnd later → (bytes : List ℕ) × AreKnown known bytes × (answers records bytes m.room ≡ Ok (a, b))
+  pub answers_end : (known after later : Option (List ℕ)) (m new : Machine) (records : ℕ) → m.names.table.entries ≡ [] → m.input.records ≡ records → Goes known after m.names.left new.names.left (runs_all d l games cut array_state m) (λ rest room. Ok (state_at new rest room))
+      → (a b : ℕ) → a ≡ records - new.input.records → b ≡ m.names.left - new.names.left → Keeps after later → IsAtEnd later → (bytes : List ℕ) × AreKnown known bytes × (answers records bytes m.names.left ≡ Ok (a, b))
   answers_end known after later m new records none same goes a b ea eb kept end = (goes.taken ++ [], all known after later goes.taken goes.consumes kept end, comes_to known after m new records none same goes [] ∙ (λ i. Ok (sym ea i, sym eb i)))
     where
       all : (known after later : Option (List ℕ)) (xs : List ℕ) → Consumes known after xs → Keeps after later → IsAtEnd later → AreKnown known (xs ++ [])
@@ -129,34 +129,34 @@ module _ (d : Placement) (l : ℕ) (games : List (List Move)) (cut : Cuts) where
       all (Some bytes) (Some ys) (Some zs) xs h k e = h ∙ ap (λ (v : List ℕ). xs ++ v) (sym k ∙ e)
 
   -- bytes are left there
-  pub answers_more : (known after later : Option (List ℕ)) (m new : Machine) (records : ℕ) → m.table.entries ≡ [] → m.records ≡ records → Goes known after m.room new.room (runs_all d l games cut array_state m) (λ rest room. Ok (state_at new rest room))
-      → Reads {A = Bool} more_at after later (Ok true) → Stops known m.room (answers records) (stop.Because tree.Trailing)
+  pub answers_more : (known after later : Option (List ℕ)) (m new : Machine) (records : ℕ) → m.names.table.entries ≡ [] → m.input.records ≡ records → Goes known after m.names.left new.names.left (runs_all d l games cut array_state m) (λ rest room. Ok (state_at new rest room))
+      → Reads {A = Bool} more_at after later (Ok true) → Stops known m.names.left (answers records) (stop.Because tree.Trailing)
   unfolding Stops
   answers_more None after later m new records none same goes read_ = tt
   answers_more (Some bytes) None later m new records none same goes read_ = absurd (goes.consumes)
   answers_more (Some bytes) (Some ys) None m new records none same goes read_ = absurd read_
-  answers_more (Some bytes) (Some ys) (Some zs) m new records none same goes read_ = ap (λ (v : List ℕ). answers records v m.room) goes.consumes ∙ comes_to (Some bytes) (Some ys) m new records none same goes ys ∙ trailing ys read_
+  answers_more (Some bytes) (Some ys) (Some zs) m new records none same goes read_ = ap (λ (v : List ℕ). answers records v m.names.left) goes.consumes ∙ comes_to (Some bytes) (Some ys) m new records none same goes ys ∙ trailing ys read_
     where
-      trailing : (ys : List ℕ) → more_at ys ≡ Ok (true, zs) → ended (chess d l games cut) records m.room ys (state_at new ys new.room) ≡ Err tree.Trailing
+      trailing : (ys : List ℕ) → more_at ys ≡ Ok (true, zs) → ended (chess d l games cut) records m.names.left ys (state_at new ys new.names.left) ≡ Err tree.Trailing
       trailing [] e = absurd (let both : (true, zs) ≡ (false, []) = cc in let t : true ≡ false = ap (λ (v : Bool × List ℕ). v.0) both in cc)
       trailing (y ∷ rest) e = refl
 
   -- the end can not be read
-  pub answers_unread : (known after later : Option (List ℕ)) (m new : Machine) (records : ℕ) (e : ReadFault) (s : Stop) → s ≡ stop_of e → m.table.entries ≡ [] → m.records ≡ records → Goes known after m.room new.room (runs_all d l games cut array_state m) (λ rest room. Ok (state_at new rest room))
-      → Reads {A = Bool} more_at after later (Err e) → Stops known m.room (answers records) s
-  answers_unread known after later m new records e s is none same goes read_ = subst (Stops known m.room (answers records)) (sym is) (go known after e goes.consumes read_)
+  pub answers_unread : (known after later : Option (List ℕ)) (m new : Machine) (records : ℕ) (e : ReadFault) (s : Stop) → s ≡ stop_of e → m.names.table.entries ≡ [] → m.input.records ≡ records → Goes known after m.names.left new.names.left (runs_all d l games cut array_state m) (λ rest room. Ok (state_at new rest room))
+      → Reads {A = Bool} more_at after later (Err e) → Stops known m.names.left (answers records) s
+  answers_unread known after later m new records e s is none same goes read_ = subst (Stops known m.names.left (answers records)) (sym is) (go known after e goes.consumes read_)
     where
       never : {A : Type 0} (ys : List ℕ) (f : ReadFault) → more_at ys ≡ Err f → A
       never [] f e = absurd (cc)
       never (y ∷ rest) f e = absurd (cc)
 
-      go : (known after : Option (List ℕ)) (e : ReadFault) → Consumes known after goes.taken → Reads {A = Bool} more_at after later (Err e) → Stops known m.room (answers records) (stop_of e)
-      go known after reading.Read h r = stops_read known m.room (answers records)
-      go known after reading.Failed h r = stops_read known m.room (answers records)
-      go None after reading.Truncated h r = stops_unknown m.room (answers records) (stop.Because tree.Truncated)
-      go None after reading.Magic h r = stops_unknown m.room (answers records) (stop.Because tree.Truncated)
-      go None after reading.Trailing h r = stops_unknown m.room (answers records) (stop.Because tree.Truncated)
-      go None after (reading.UnknownRecord b) h r = stops_unknown m.room (answers records) (stop.Because (tree.UnknownRecord b))
+      go : (known after : Option (List ℕ)) (e : ReadFault) → Consumes known after goes.taken → Reads {A = Bool} more_at after later (Err e) → Stops known m.names.left (answers records) (stop_of e)
+      go known after reading.Read h r = stops_read known m.names.left (answers records)
+      go known after reading.Failed h r = stops_read known m.names.left (answers records)
+      go None after reading.Truncated h r = stops_unknown m.names.left (answers records) (stop.Because tree.Truncated)
+      go None after reading.Magic h r = stops_unknown m.names.left (answers records) (stop.Because tree.Truncated)
+      go None after reading.Trailing h r = stops_unknown m.names.left (answers records) (stop.Because tree.Truncated)
+      go None after (reading.UnknownRecord b) h r = stops_unknown m.names.left (answers records) (stop.Because (tree.UnknownRecord b))
       go (Some bytes) None e h r = absurd h
       go (Some bytes) (Some ys) reading.Truncated h r = never ys reading.Truncated r
       go (Some bytes) (Some ys) reading.Magic h r = never ys reading.Magic r

@@ -1,5 +1,5 @@
 -- Reading the record of a node, and judging it. Leads to the contract of `head`.
-use Rattle.std.proofs.Common.{◌≡◌, ℕ, suc, ◌+◌, ◌*◌, ◌≤◌, List, length, Option, Some, None, IfSome, map, Result, Ok, Err, refl, sym, ◌∙◌, ap, subst, arith}
+use Rattle.std.proofs.Common.{◌≡◌, ℕ, suc, ◌+◌, ◌*◌, ◌≤◌, List, length, Option, Some, None, IfSome, Result, Ok, Err, refl, sym, ◌∙◌, ap, subst, arith}
 use Rattle.std.proofs.lemmas.List.{length-append}
 use Rattle.std.specs.Io.KnownBytes.{Consumes, prepend_known}
 use Rattle.pg_certificate.specs.Spelling.{longest_record}
@@ -18,11 +18,10 @@ use Rattle.pg_checker.specs.Tree as tree
 use Rattle.pg_checker.specs.Walk as walk
 use Rattle.pg_checker.specs.Walk.{judge, head, ◌>>=◌}
 use Rattle.pg_checker.specs.Chess.{Cuts, chess, read}
-use Rattle.pg_checker.specs.inner.Judging.{Judges, stop_of}
-use Rattle.pg_checker.specs.inner.Machine.{entry_of, entries_of, state_at, shape_of}
+use Rattle.pg_checker.specs.inner.Judging.{stop_of}
+use Rattle.pg_checker.specs.inner.Machine.{Point, state_of, shape_of}
 use Rattle.pg_checker.specs.inner.Steps.{Answer, Goes, Stops, Says, TakesFew}
-use Rattle.pg_checker.specs.declared.machine.Machine.{Machine}
-use Rattle.pg_checker.specs.declared.machine.Node.{Node}
+use Rattle.pg_checker.specs.declared.machine.Opening.{Opening}
 use Rattle.pg_checker.specs.inner.Halting.{Stop}
 use Rattle.pg_checker.specs.inner.Halting as stop
 use Rattle.pg_certificate.proofs.RecordLaws.{none_longer}
@@ -62,45 +61,45 @@ as_record version prices before after reading.Read h = tt
 as_record version prices before after reading.Failed h = tt
 
 module _ (d : Placement) (l : ℕ) (games : List (List Move)) (cut : Cuts) (k : ℕ) (p : State) where
-  abbrev heads : Machine → Answer (walk.Shape × walk.WalkState State)
-  heads m bytes n = head (chess d l games cut) k p (state_at m bytes n)
+  abbrev heads : Point → Answer (walk.Shape × walk.WalkState State)
+  heads at bytes n = head (chess d l games cut) k p (state_of at bytes n)
 
   -- a record less, and then the record that is read is judged
-  abbrev judged : Machine → ℕ → Record × List ℕ → Result (walk.Shape × walk.WalkState State) (tree.Cause Move)
-  judged m n got = judge (chess d l games cut) k p got.0 (state_at m got.1 n)
+  abbrev judged : Point → ℕ → Record × List ℕ → Result (walk.Shape × walk.WalkState State) (tree.Cause Move)
+  judged at n got = judge (chess d l games cut) k p got.0 (state_of at got.1 n)
 
-  head_paid : (old mid : Machine) (left : ℕ) → old.records ≡ suc left → mid.records ≡ left → mid.table.entries ≡ old.table.entries → (bytes : List ℕ) (n : ℕ) → heads old bytes n ≡ (read cut.version bytes >>= judged mid n)
+  head_paid : (old : Point) (left : ℕ) → old.records ≡ suc left → (bytes : List ℕ) (n : ℕ) → heads old bytes n ≡ (read cut.version bytes >>= judged (record old { records = left }) n)
   unfolding chess
-  head_paid old mid left paid kept entries bytes n =
-      ap (λ (r : ℕ). head (chess d l games cut) k p (record (state_at old bytes n) { records = r })) paid
-      ∙ ap (λ (s : walk.WalkState State). read cut.version bytes >>= (λ got. judge (chess d l games cut) k p got.0 (record s { rest = got.1; room = n }))) states
-    where
-      states : record { rest = bytes; entries = entries_of old; records = left; room = n } ≡ state_at mid bytes n
-      states = λ i. record { rest = bytes; entries = map entry_of (sym entries i); records = sym kept i; room = n }
+  head_paid old left paid bytes n = ap (λ (r : ℕ). head (chess d l games cut) k p (record (state_of old bytes n) { records = r })) paid
 
-  pub head_budget : (before : Option (List ℕ)) (old : Machine) → old.records ≡ 0 → Stops before old.room (heads old) (stop.Because tree.Budget)
+  pub head_budget : (old : Point) → old.records ≡ 0 → Stops old.known old.room (heads old) (stop.Because tree.Budget)
   unfolding Stops
-  head_budget None old e = tt
-  head_budget (Some bytes) old e = ap (λ (r : ℕ). head (chess d l games cut) k p (record (state_at old bytes old.room) { records = r })) e
+  head_budget old e = budget old.known
+    where
+      budget : (known : Option (List ℕ)) → Stops known old.room (heads old) (stop.Because tree.Budget)
+      budget None = tt
+      budget (Some bytes) = ap (λ (r : ℕ). head (chess d l games cut) k p (record (state_of old bytes old.room) { records = r })) e
 
-  pub head_unread : (before : Option (List ℕ)) (old mid : Machine) (left : ℕ) (s : Stop) → old.records ≡ suc left → mid.records ≡ left → mid.table.entries ≡ old.table.entries → Stops before old.room (λ bytes n. read cut.version bytes) s → Stops before old.room (heads old) s
-  head_unread before old mid left s paid kept entries h =
-      stops_as before old.room (λ bytes n. read cut.version bytes >>= judged mid n) (heads old) s (head_paid old mid left paid kept entries)
-      (stops_with before old.room (λ bytes n. read cut.version bytes) (judged mid) s h)
+  pub head_unread : (old : Point) (left : ℕ) (s : Stop) → old.records ≡ suc left → Stops old.known old.room (λ bytes n. read cut.version bytes) s → Stops old.known old.room (heads old) s
+  head_unread old left s paid h =
+      stops_as old.known old.room (λ bytes n. read cut.version bytes >>= judged (record old { records = left }) n) (heads old) s (head_paid old left paid)
+      (stops_with old.known old.room (λ bytes n. read cut.version bytes) (judged (record old { records = left })) s h)
 
-  pub head_judged : (before after : Option (List ℕ)) (old mid new : Machine) (left : ℕ) (x : Record) (res : Result Node Stop) → old.records ≡ suc left → mid.records ≡ left → mid.table.entries ≡ old.table.entries → mid.room ≡ old.room
-      → Goes before after old.room old.room (λ bytes n. read cut.version bytes) (λ rest n. Ok (x, rest)) → Judges mid new (judge (chess d l games cut) k p x) res
-      → Says before after old.room new.room (heads old) (λ node rest n. (shape_of node, state_at new rest n)) res
-  head_judged before after old mid new left x (Ok node) paid kept entries room read_ judged_ =
-      goes_as before after old.room new.room (λ bytes n. read cut.version bytes >>= judged mid n) (λ rest n. Ok (shape_of node, state_at new rest n)) (heads old) (λ rest n. Ok (shape_of node, state_at new rest n)) (head_paid old mid left paid kept entries) (λ rest n. refl)
-      (goes_on before after after old.room old.room new.room (λ bytes n. read cut.version bytes >>= judged mid n) (λ rest n. judged mid n (x, rest)) (λ rest n. Ok (shape_of node, state_at new rest n))
-      (goes_reading before after old.room (λ bytes n. read cut.version bytes) (λ rest. (x, rest)) (judged mid) read_)
-      (subst (λ (m : ℕ). Goes after after m new.room (λ rest n. judged mid n (x, rest)) (λ rest n. Ok (shape_of node, state_at new rest n))) room (judged_ after)))
-  head_judged before after old mid new left x (Err s) paid kept entries room read_ judged_ =
-      stops_as before old.room (λ bytes n. read cut.version bytes >>= judged mid n) (heads old) s (head_paid old mid left paid kept entries)
-      (stops_on before after old.room old.room (λ bytes n. read cut.version bytes >>= judged mid n) (λ rest n. judged mid n (x, rest)) s
-      (goes_reading before after old.room (λ bytes n. read cut.version bytes) (λ rest. (x, rest)) (judged mid) read_)
-      (subst (λ (m : ℕ). Stops after m (λ rest n. judged mid n (x, rest)) s) room (judged_ after)))
+  -- what judging the record says is said with the entries and the room of the first point, and a record less
+  pub head_judged : (old new : Point) (left : ℕ) (x : Record) (res : Result Opening Stop) → old.records ≡ suc left
+      → Goes old.known new.known old.room old.room (λ bytes n. read cut.version bytes) (λ rest n. Ok (x, rest))
+      → Says new.known new.known old.room new.room (λ rest n. judged (record old { records = left }) n (x, rest)) (λ node rest n. (shape_of node, state_of new rest n)) res
+      → Says old.known new.known old.room new.room (heads old) (λ node rest n. (shape_of node, state_of new rest n)) res
+  head_judged old new left x (Ok node) paid read_ judged_ =
+      goes_as old.known new.known old.room new.room (λ bytes n. read cut.version bytes >>= judged (record old { records = left }) n) (λ rest n. Ok (shape_of node, state_of new rest n)) (heads old) (λ rest n. Ok (shape_of node, state_of new rest n)) (head_paid old left paid) (λ rest n. refl)
+      (goes_on old.known new.known new.known old.room old.room new.room (λ bytes n. read cut.version bytes >>= judged (record old { records = left }) n) (λ rest n. judged (record old { records = left }) n (x, rest)) (λ rest n. Ok (shape_of node, state_of new rest n))
+      (goes_reading old.known new.known old.room (λ bytes n. read cut.version bytes) (λ rest. (x, rest)) (judged (record old { records = left })) read_)
+      judged_)
+  head_judged old new left x (Err s) paid read_ judged_ =
+      stops_as old.known old.room (λ bytes n. read cut.version bytes >>= judged (record old { records = left }) n) (heads old) s (head_paid old left paid)
+      (stops_on old.known new.known old.room old.room (λ bytes n. read cut.version bytes >>= judged (record old { records = left }) n) (λ rest n. judged (record old { records = left }) n (x, rest)) s
+      (goes_reading old.known new.known old.room (λ bytes n. read cut.version bytes) (λ rest. (x, rest)) (judged (record old { records = left })) read_)
+      judged_)
 
 -- ---- how many bytes are taken
 pub few_record : (version : ℕ) (before after left : Option (List ℕ)) (x : Record) → IsRecordOf version x → Consumes before after (spelling x) → (most : ℕ) → TakesFew before after left (most + 1) most (Ok x)
@@ -126,6 +125,3 @@ pub few_unread : (X Y : Type 0) (before after left : Option (List ℕ)) (most no
 few_unread X Y before after left most now other stop.Read e h = tt
 few_unread X Y before after left most now other stop.Memory e h = rw e h
 few_unread X Y before after left most now other (stop.Because c) e h = rw e h
-
-pub few_same : {X : Type 0} (before after other left : Option (List ℕ)) (most now records : ℕ) (res : Result X Stop) → other ≡ after → records ≡ now → TakesFew before after left most now res → TakesFew before other left most records res
-few_same before after other left most now records res e f h = subst (λ (v : Option (List ℕ)). TakesFew before v left most records res) (sym e) (subst (λ (v : ℕ). TakesFew before after left most v res) (sym f) h)

@@ -13,7 +13,7 @@ use Rattle.pg_checker.specs.Walk as walk
 use Rattle.pg_checker.specs.Walk.{visit, each, leaf_answer, ◌>>=◌}
 use Rattle.pg_checker.specs.inner.Frames.{resume, turn, finish, effort, Stacked}
 use Rattle.pg_checker.specs.Chess.{Cuts, chess}
-use Rattle.pg_checker.specs.inner.Machine.{ReadsVersion, entered, entry_of, path, frame_of, frames_of, count_named, state_at, work_at}
+use Rattle.pg_checker.specs.inner.Machine.{IsReady, entered, entry_of, path, frame_of, frames_of, count_named, state_at, work_at}
 use Rattle.pg_checker.specs.inner.Steps.{Answer, Goes, Stops, TakesFew}
 use Rattle.pg_checker.specs.declared.machine.Frame.{Frame}
 use Rattle.pg_checker.specs.declared.machine.Machine.{Machine}
@@ -109,46 +109,42 @@ module _ (d : Placement) (l : ℕ) (games : List (List Move)) (cut : Cuts) (n : 
 
   -- ---- what holds at each turn, from the first machine to this one
   pub record Runs (before after : Option (List ℕ)) (old now : Machine) : Type 0 where
-    pub stacked : Stacked n (frames_of (reverse now.frames.items))
-    pub kept : now.table.kept ≡ count_named (reverse now.frames.items)
-    pub runs : ReadsVersion cut.version now.reader
-    pub held : length now.reader.held ≤ 4096
-    pub few : Few before after old.records now.records
-    pub goes : Goes before after old.room now.room (finishes old) (finishes now)
+    pub stacked : Stacked n (frames_of (reverse now.stack.frames.items))
+    pub ready : IsReady cut.version now
+    pub few : Few before after old.input.records now.input.records
+    pub goes : Goes before after old.names.left now.names.left (finishes old) (finishes now)
 
-  pub runs_start : (known : Option (List ℕ)) (m : Machine) → Stacked n (frames_of (reverse m.frames.items)) → m.table.kept ≡ count_named (reverse m.frames.items) → ReadsVersion cut.version m.reader → length m.reader.held ≤ 4096 → Runs known known m m
-  runs_start known m stacked kept runs held = record { stacked = stacked; kept = kept; runs = runs; held = held; few = few_none known m.records; goes = stays known m.room (finishes m) (finishes m) (λ rest room. refl) }
+  pub runs_start : (known : Option (List ℕ)) (m : Machine) → Stacked n (frames_of (reverse m.stack.frames.items)) → IsReady cut.version m → Runs known known m m
+  runs_start known m stacked ready = record { stacked = stacked; ready = ready; few = few_none known m.input.records; goes = stays known m.names.left (finishes m) (finishes m) (λ rest room. refl) }
 
   -- the next turn, and then the rest
-  turned : (now mid : Machine) (top : Frame) → now.frames.items ≡ mid.frames.items ++ (top ∷ []) → mid.found ≡ now.found → mid.table ≡ now.table → mid.records ≡ now.records → (rest : List ℕ) (room : ℕ) → finishes now rest room ≡ (turns d l games cut n top mid rest room >>= finish (chess d l games cut) n)
+  turned : (now mid : Machine) (top : Frame) → now.stack.frames.items ≡ mid.stack.frames.items ++ (top ∷ []) → mid.stack.fertile ≡ now.stack.fertile → mid.names.table ≡ now.names.table → mid.input.records ≡ now.input.records → (rest : List ℕ) (room : ℕ) → finishes now rest room ≡ (turns d l games cut n top mid rest room >>= finish (chess d l games cut) n)
   turned now mid top items found table records rest room =
-      ap (λ v. resume (chess d l games cut) n v (now.found, state_at now rest room)) (frames_popped now.frames.items mid.frames.items top items)
-      ∙ turn_is (chess d l games cut) n (frame_of top (reverse mid.frames.items)) (frames_of (reverse mid.frames.items)) now.found (state_at now rest room)
-      ∙ (λ i. turn (chess d l games cut) n (frame_of top (reverse mid.frames.items)) (frames_of (reverse mid.frames.items)) (sym found i) (record { rest = rest; entries = map entry_of (sym table i).entries; records = sym records i; room = room }) >>= finish (chess d l games cut) n)
+      ap (λ v. resume (chess d l games cut) n v (now.stack.fertile, state_at now rest room)) (frames_popped now.stack.frames.items mid.stack.frames.items top items)
+      ∙ turn_is (chess d l games cut) n (frame_of top (reverse mid.stack.frames.items)) (frames_of (reverse mid.stack.frames.items)) now.stack.fertile (state_at now rest room)
+      ∙ (λ i. turn (chess d l games cut) n (frame_of top (reverse mid.stack.frames.items)) (frames_of (reverse mid.stack.frames.items)) (sym found i) (record { rest = rest; entries = map entry_of (sym table i).entries; records = sym records i; room = room }) >>= finish (chess d l games cut) n)
 
-  pub runs_on : (before here after : Option (List ℕ)) (old now mid new : Machine) (top : Frame) → Runs before here old now → now.frames.items ≡ mid.frames.items ++ (top ∷ []) → mid.found ≡ now.found → mid.table ≡ now.table → mid.records ≡ now.records → mid.room ≡ now.room
-      → Goes here after mid.room new.room (turns d l games cut n top mid) (λ rest room. Ok (work_at (chess d l games cut) new rest room)) → new.table.kept ≡ count_named (reverse new.frames.items) → ReadsVersion cut.version new.reader → length new.reader.held ≤ 4096 → Few here after mid.records new.records
+  pub runs_on : (before here after : Option (List ℕ)) (old now mid new : Machine) (top : Frame) → Runs before here old now → now.stack.frames.items ≡ mid.stack.frames.items ++ (top ∷ []) → mid.stack.fertile ≡ now.stack.fertile → mid.names.table ≡ now.names.table → mid.input.records ≡ now.input.records → mid.names.left ≡ now.names.left
+      → Goes here after mid.names.left new.names.left (turns d l games cut n top mid) (λ rest room. Ok (work_at (chess d l games cut) new rest room)) → IsReady cut.version new → Few here after mid.input.records new.input.records
       → Runs before after old new
-  runs_on before here after old now mid new top run items found table records room turning kept runs held few = record {
-    stacked = turn_stacked (chess d l games cut) n n (frame_of top (reverse mid.frames.items)) (frames_of (reverse mid.frames.items)) mid.found (state_at mid (turning.taken ++ []) (turning.used + 0)) (work_at (chess d l games cut) new [] 0) (subst (λ v. Stacked n v) (frames_popped now.frames.items mid.frames.items top items) run.stacked) (turning.same [] 0);
-    kept = kept;
-    runs = runs;
-    held = held;
-    few = few_on before here after run.goes.taken old.records now.records new.records run.goes.consumes run.few (subst (λ (m : ℕ). Few here after m new.records) records few);
-    goes = goes_on before here after old.room now.room new.room (finishes old) (finishes now) (finishes new) run.goes
-        (goes_as here after now.room new.room (λ rest x. turns d l games cut n top mid rest x >>= finish (chess d l games cut) n) (finishes new) (finishes now) (finishes new) (turned now mid top items found table records) (λ rest x. refl)
-        (subst (λ (m : ℕ). Goes here after m new.room (λ rest x. turns d l games cut n top mid rest x >>= finish (chess d l games cut) n) (finishes new)) room
-        (goes_then here after mid.room new.room (turns d l games cut n top mid) (λ rest x. Ok (work_at (chess d l games cut) new rest x)) (finish (chess d l games cut) n) turning)));
+  runs_on before here after old now mid new top run items found table records room turning ready few = record {
+    stacked = turn_stacked (chess d l games cut) n n (frame_of top (reverse mid.stack.frames.items)) (frames_of (reverse mid.stack.frames.items)) mid.stack.fertile (state_at mid (turning.taken ++ []) (turning.used + 0)) (work_at (chess d l games cut) new [] 0) (subst (λ v. Stacked n v) (frames_popped now.stack.frames.items mid.stack.frames.items top items) run.stacked) (turning.same [] 0);
+    ready = ready;
+    few = few_on before here after run.goes.taken old.input.records now.input.records new.input.records run.goes.consumes run.few (subst (λ (m : ℕ). Few here after m new.input.records) records few);
+    goes = goes_on before here after old.names.left now.names.left new.names.left (finishes old) (finishes now) (finishes new) run.goes
+        (goes_as here after now.names.left new.names.left (λ rest x. turns d l games cut n top mid rest x >>= finish (chess d l games cut) n) (finishes new) (finishes now) (finishes new) (turned now mid top items found table records) (λ rest x. refl)
+        (subst (λ (m : ℕ). Goes here after m new.names.left (λ rest x. turns d l games cut n top mid rest x >>= finish (chess d l games cut) n) (finishes new)) room
+        (goes_then here after mid.names.left new.names.left (turns d l games cut n top mid) (λ rest x. Ok (work_at (chess d l games cut) new rest x)) (finish (chess d l games cut) n) turning)));
   }
 
   -- there is less to do
-  pub runs_less : (here after : Option (List ℕ)) (now mid new : Machine) (top : Frame) → now.frames.items ≡ mid.frames.items ++ (top ∷ []) → mid.records ≡ now.records
-      → Goes here after mid.room new.room (turns d l games cut n top mid) (λ rest room. Ok (work_at (chess d l games cut) new rest room))
+  pub runs_less : (here after : Option (List ℕ)) (now mid new : Machine) (top : Frame) → now.stack.frames.items ≡ mid.stack.frames.items ++ (top ∷ []) → mid.input.records ≡ now.input.records
+      → Goes here after mid.names.left new.names.left (turns d l games cut n top mid) (λ rest room. Ok (work_at (chess d l games cut) new rest room))
       → effort (chess d l games cut) most_moves (work_at (chess d l games cut) new [] 0) < effort (chess d l games cut) most_moves (work_at (chess d l games cut) now [] 0)
   runs_less here after now mid new top items records turning =
-      let less = turn_less (chess d l games cut) (chess_exact d l games cut) most_moves (chess_few d l games cut) n (frame_of top (reverse mid.frames.items)) (frames_of (reverse mid.frames.items)) mid.found (state_at mid (turning.taken ++ []) (turning.used + 0)) (work_at (chess d l games cut) new [] 0) (turning.same [] 0) in
-      subst (λ (m : ℕ). effort (chess d l games cut) most_moves (work_at (chess d l games cut) new [] 0) < effort (chess d l games cut) most_moves (record { frames = frames_of (reverse now.frames.items); found = now.found; state = record (state_at now [] 0) { records = m } })) records
-      (subst (λ v. effort (chess d l games cut) most_moves (work_at (chess d l games cut) new [] 0) < effort (chess d l games cut) most_moves (record { frames = v; found = now.found; state = record (state_at now [] 0) { records = mid.records } })) (sym (frames_popped now.frames.items mid.frames.items top items)) less)
+      let less = turn_less (chess d l games cut) (chess_exact d l games cut) most_moves (chess_few d l games cut) n (frame_of top (reverse mid.stack.frames.items)) (frames_of (reverse mid.stack.frames.items)) mid.stack.fertile (state_at mid (turning.taken ++ []) (turning.used + 0)) (work_at (chess d l games cut) new [] 0) (turning.same [] 0) in
+      subst (λ (m : ℕ). effort (chess d l games cut) most_moves (work_at (chess d l games cut) new [] 0) < effort (chess d l games cut) most_moves (record { frames = frames_of (reverse now.stack.frames.items); found = now.stack.fertile; state = record (state_at now [] 0) { records = m } })) records
+      (subst (λ v. effort (chess d l games cut) most_moves (work_at (chess d l games cut) new [] 0) < effort (chess d l games cut) most_moves (record { frames = v; found = now.stack.fertile; state = record (state_at now [] 0) { records = mid.input.records } })) (sym (frames_popped now.stack.frames.items mid.stack.frames.items top items)) less)
 
   -- ---- leaves of which none is on the diagram
   pub dry_front : (p : State) (g : List Move) (passed ms : List Move) (found : Bool) (s : walk.WalkState State) → ((m : Move) → Contains passed m → (chess d l games cut).is_goal ((chess d l games cut).play p m) ≡ false) → each (chess d l games cut) (visit (chess d l games cut) n 0) g p (passed ++ ms) found s ≡ each (chess d l games cut) (visit (chess d l games cut) n 0) g p ms found s
@@ -161,19 +157,19 @@ module _ (d : Placement) (l : ℕ) (games : List (List Move)) (cut : Cuts) (n : 
   dry p g ms found s off = ap (λ (v : List Move). each (chess d l games cut) (visit (chess d l games cut) n 0) g p v found s) (sym (append-nil ms)) ∙ dry_front p g ms [] found s off
 
   -- the node closes at once
-  skipped : (now mid new : Machine) (top : Frame) (found : Bool) → now.frames.items ≡ mid.frames.items ++ (top ∷ []) → top.plies ≡ 0 → ((m : Move) → Contains (left_after top.moves.position top.moves.last) m → (chess d l games cut).is_goal ((chess d l games cut).play top.moves.position m) ≡ false)
-      → found ≡ (top.found || now.found) → new.frames ≡ mid.frames → new.records ≡ now.records → new.found ≡ found → map entry_of new.table.entries ≡ map entry_of now.table.entries ++ entered top.named (record { position = top.moves.position; plies = suc top.plies; fertile = found })
+  skipped : (now mid new : Machine) (top : Frame) (found : Bool) → now.stack.frames.items ≡ mid.stack.frames.items ++ (top ∷ []) → top.plies ≡ 0 → ((m : Move) → Contains (left_after top.moves.position top.moves.last) m → (chess d l games cut).is_goal ((chess d l games cut).play top.moves.position m) ≡ false)
+      → found ≡ (top.fertile || now.stack.fertile) → new.stack.frames ≡ mid.stack.frames → new.input.records ≡ now.input.records → new.stack.fertile ≡ found → map entry_of new.names.table.entries ≡ map entry_of now.names.table.entries ++ entered top.named (record { position = top.moves.position; plies = suc top.plies; fertile = found })
       → (rest : List ℕ) (room : ℕ) → finishes now rest room ≡ finishes new rest room
   skipped now mid new top found items last off is same records found_is entries rest room =
-      ap (λ v. resume (chess d l games cut) n v (now.found, state_at now rest room)) (frames_popped now.frames.items mid.frames.items top items)
-      ∙ (ap (λ (k : ℕ). each (chess d l games cut) (visit (chess d l games cut) n k) (path (reverse mid.frames.items)) top.moves.position (left_after top.moves.position top.moves.last) (top.found || now.found) (state_at now rest room) >>= (λ all. walk.close (chess d l games cut) top.named (suc top.plies) top.moves.position all >>= resume (chess d l games cut) n (frames_of (reverse mid.frames.items)))) last
-      ∙ (ap (λ (x : Result (Bool × walk.WalkState State) (tree.Cause Move)). x >>= (λ all. walk.close (chess d l games cut) top.named (suc top.plies) top.moves.position all >>= resume (chess d l games cut) n (frames_of (reverse mid.frames.items)))) (dry top.moves.position (path (reverse mid.frames.items)) (left_after top.moves.position top.moves.last) (top.found || now.found) (state_at now rest room) off)
+      ap (λ v. resume (chess d l games cut) n v (now.stack.fertile, state_at now rest room)) (frames_popped now.stack.frames.items mid.stack.frames.items top items)
+      ∙ (ap (λ (k : ℕ). each (chess d l games cut) (visit (chess d l games cut) n k) (path (reverse mid.stack.frames.items)) top.moves.position (left_after top.moves.position top.moves.last) (top.fertile || now.stack.fertile) (state_at now rest room) >>= (λ all. walk.close (chess d l games cut) top.named (suc top.plies) top.moves.position all >>= resume (chess d l games cut) n (frames_of (reverse mid.stack.frames.items)))) last
+      ∙ (ap (λ (x : Result (Bool × walk.WalkState State) (tree.Cause Move)). x >>= (λ all. walk.close (chess d l games cut) top.named (suc top.plies) top.moves.position all >>= resume (chess d l games cut) n (frames_of (reverse mid.stack.frames.items)))) (dry top.moves.position (path (reverse mid.stack.frames.items)) (left_after top.moves.position top.moves.last) (top.fertile || now.stack.fertile) (state_at now rest room) off)
       ∙ (λ i. resume (chess d l games cut) n (stack i) (fertile i, record { rest = rest; entries = entries_closed d l games cut n now new top found is entries i; records = sym records i; room = room }))))
     where
-      stack : frames_of (reverse mid.frames.items) ≡ frames_of (reverse new.frames.items)
+      stack : frames_of (reverse mid.stack.frames.items) ≡ frames_of (reverse new.stack.frames.items)
       stack = rw same refl
 
-      fertile : (top.found || now.found) ≡ new.found
+      fertile : (top.fertile || now.stack.fertile) ≡ new.stack.fertile
       fertile = sym (found_is ∙ is)
 
   -- a legal move that leads elsewhere does not lead to the diagram
@@ -185,44 +181,42 @@ module _ (d : Placement) (l : ℕ) (games : List (List Move)) (cut : Cuts) (n : 
   none_left : (top : Frame) → IsPosition top.moves.position → AllElsewhere d top.moves → (m : Move) → Contains (left_after top.moves.position top.moves.last) m → (chess d l games cut).is_goal ((chess d l games cut).play top.moves.position m) ≡ false
   none_left top valid far m c = goal_off top.moves.position m valid (left_legal top.moves.position top.moves.last m c) (far m c)
 
-  pub runs_skip : (before here : Option (List ℕ)) (old now mid new : Machine) (top : Frame) (found : Bool) → Runs before here old now → now.frames.items ≡ mid.frames.items ++ (top ∷ []) → top.plies ≡ 0 → IsPosition top.moves.position → AllElsewhere d top.moves
-      → found ≡ (top.found || now.found) → new.frames ≡ mid.frames → new.room ≡ now.room → new.records ≡ now.records → new.reader ≡ now.reader → new.found ≡ found → new.table.kept + one_if top.named ≡ now.table.kept → map entry_of new.table.entries ≡ map entry_of now.table.entries ++ entered top.named (record { position = top.moves.position; plies = suc top.plies; fertile = found })
+  pub runs_skip : (before here : Option (List ℕ)) (old now mid new : Machine) (top : Frame) (found : Bool) → Runs before here old now → now.stack.frames.items ≡ mid.stack.frames.items ++ (top ∷ []) → top.plies ≡ 0 → IsPosition top.moves.position → AllElsewhere d top.moves
+      → found ≡ (top.fertile || now.stack.fertile) → new.stack.frames ≡ mid.stack.frames → new.names.left ≡ now.names.left → new.input.records ≡ now.input.records → new.input.reader ≡ now.input.reader → new.stack.fertile ≡ found → new.names.table.kept + one_if top.named ≡ now.names.table.kept → map entry_of new.names.table.entries ≡ map entry_of now.names.table.entries ++ entered top.named (record { position = top.moves.position; plies = suc top.plies; fertile = found })
       → Runs before here old new
   runs_skip before here old now mid new top found run items last valid far is same room records reader found_is kept entries = record {
-    stacked = subst (λ v. Stacked n v) (rw same refl) (subst (λ v. Stacked n v) (frames_popped now.frames.items mid.frames.items top items) run.stacked).1;
-    kept = (let one : now.table.kept ≡ one_if top.named + count_named (reverse mid.frames.items) = kept_popped now.table.kept now.frames.items mid.frames.items top items run.kept in let two : new.table.kept ≡ count_named (reverse mid.frames.items) = omega arith in two ∙ rw same refl);
-    runs = rw reader run.runs;
-    held = rw reader run.held;
-    few = subst (λ (m : ℕ). Few before here old.records m) (sym records) run.few;
-    goes = subst (λ (m : ℕ). Goes before here old.room m (finishes old) (finishes new)) (sym room)
-        (goes_as before here old.room now.room (finishes old) (finishes now) (finishes old) (finishes new) (λ rest x. refl) (skipped now mid new top found items last (none_left top valid far) is same records found_is entries) run.goes);
+    stacked = subst (λ v. Stacked n v) (rw same refl) (subst (λ v. Stacked n v) (frames_popped now.stack.frames.items mid.stack.frames.items top items) run.stacked).1;
+    ready = record {
+      reader = rw reader run.ready.reader;
+      kept = (let one : now.names.table.kept ≡ one_if top.named + count_named (reverse mid.stack.frames.items) = kept_popped now.names.table.kept now.stack.frames.items mid.stack.frames.items top items run.ready.kept in let two : new.names.table.kept ≡ count_named (reverse mid.stack.frames.items) = omega arith in two ∙ rw same refl);
+    };
+    few = subst (λ (m : ℕ). Few before here old.input.records m) (sym records) run.few;
+    goes = subst (λ (m : ℕ). Goes before here old.names.left m (finishes old) (finishes new)) (sym room)
+        (goes_as before here old.names.left now.names.left (finishes old) (finishes now) (finishes old) (finishes new) (λ rest x. refl) (skipped now mid new top found items last (none_left top valid far) is same records found_is entries) run.goes);
   }
 
   -- there is less to do
-  pub skip_less : (now mid new : Machine) (top : Frame) → now.frames.items ≡ mid.frames.items ++ (top ∷ []) → new.frames ≡ mid.frames → new.records ≡ now.records
+  pub skip_less : (now mid new : Machine) (top : Frame) → now.stack.frames.items ≡ mid.stack.frames.items ++ (top ∷ []) → new.stack.frames ≡ mid.stack.frames → new.input.records ≡ now.input.records
       → effort (chess d l games cut) most_moves (work_at (chess d l games cut) new [] 0) < effort (chess d l games cut) most_moves (work_at (chess d l games cut) now [] 0)
   skip_less now mid new top items same records =
-      subst (λ v. effort (chess d l games cut) most_moves (work_at (chess d l games cut) new [] 0) < effort (chess d l games cut) most_moves (record { frames = v; found = now.found; state = state_at now [] 0 })) (sym (frames_popped now.frames.items mid.frames.items top items))
+      subst (λ v. effort (chess d l games cut) most_moves (work_at (chess d l games cut) new [] 0) < effort (chess d l games cut) most_moves (record { frames = v; found = now.stack.fertile; state = state_at now [] 0 })) (sym (frames_popped now.stack.frames.items mid.stack.frames.items top items))
       (rw (same, records) (omega arith))
 
   -- a turn stops
-  pub runs_stop : (before here : Option (List ℕ)) (old now mid : Machine) (top : Frame) (s : Stop) → Runs before here old now → now.frames.items ≡ mid.frames.items ++ (top ∷ []) → mid.found ≡ now.found → mid.table ≡ now.table → mid.records ≡ now.records → mid.room ≡ now.room
-      → Stops here mid.room (turns d l games cut n top mid) s → Stops before old.room (finishes old) s
+  pub runs_stop : (before here : Option (List ℕ)) (old now mid : Machine) (top : Frame) (s : Stop) → Runs before here old now → now.stack.frames.items ≡ mid.stack.frames.items ++ (top ∷ []) → mid.stack.fertile ≡ now.stack.fertile → mid.names.table ≡ now.names.table → mid.input.records ≡ now.input.records → mid.names.left ≡ now.names.left
+      → Stops here mid.names.left (turns d l games cut n top mid) s → Stops before old.names.left (finishes old) s
   runs_stop before here old now mid top s run items found table records room h =
-      stops_on before here old.room now.room (finishes old) (finishes now) s run.goes
-      (stops_as here now.room (λ rest x. turns d l games cut n top mid rest x >>= finish (chess d l games cut) n) (finishes now) s (turned now mid top items found table records)
+      stops_on before here old.names.left now.names.left (finishes old) (finishes now) s run.goes
+      (stops_as here now.names.left (λ rest x. turns d l games cut n top mid rest x >>= finish (chess d l games cut) n) (finishes now) s (turned now mid top items found table records)
       (subst (λ (m : ℕ). Stops here m (λ rest x. turns d l games cut n top mid rest x >>= finish (chess d l games cut) n) s) room
-      (stops_then here mid.room (turns d l games cut n top mid) (finish (chess d l games cut) n) s h)))
+      (stops_then here mid.names.left (turns d l games cut n top mid) (finish (chess d l games cut) n) s h)))
 
   -- nothing is open
-  pub runs_end : (before here : Option (List ℕ)) (old now : Machine) → Runs before here old now → now.frames.items ≡ [] → Goes before here old.room now.room (finishes old) (λ rest room. Ok (now.found, state_at now rest room))
-  runs_end before here old now run none = goes_as before here old.room now.room (finishes old) (finishes now) (finishes old) (λ rest room. Ok (now.found, state_at now rest room)) (λ rest room. refl) (λ rest room. closed rest room) run.goes
+  pub runs_end : (before here : Option (List ℕ)) (old now : Machine) → Runs before here old now → now.stack.frames.items ≡ [] → Goes before here old.names.left now.names.left (finishes old) (λ rest room. Ok (now.stack.fertile, state_at now rest room))
+  runs_end before here old now run none = goes_as before here old.names.left now.names.left (finishes old) (finishes now) (finishes old) (λ rest room. Ok (now.stack.fertile, state_at now rest room)) (λ rest room. refl) (λ rest room. closed rest room) run.goes
     where
-      closed : (rest : List ℕ) (room : ℕ) → finishes now rest room ≡ Ok (now.found, state_at now rest room)
-      closed rest room = ap (λ (v : List Frame). finish (chess d l games cut) n (record { frames = frames_of (reverse v); found = now.found; state = state_at now rest room })) none ∙ ap (λ v. resume (chess d l games cut) n v (now.found, state_at now rest room)) empty
+      closed : (rest : List ℕ) (room : ℕ) → finishes now rest room ≡ Ok (now.stack.fertile, state_at now rest room)
+      closed rest room = ap (λ (v : List Frame). finish (chess d l games cut) n (record { frames = frames_of (reverse v); found = now.stack.fertile; state = state_at now rest room })) none ∙ ap (λ v. resume (chess d l games cut) n v (now.stack.fertile, state_at now rest room)) empty
         where
           empty : frames_of (reverse []) ≡ []
           empty = frames_none
-
-  pub kept_end : (before here : Option (List ℕ)) (old now : Machine) → Runs before here old now → now.frames.items ≡ [] → now.table.kept ≡ 0
-  kept_end before here old now run none = run.kept ∙ ap (λ (v : List Frame). count_named (reverse v)) none ∙ count_none

@@ -21,8 +21,8 @@ pub is_there : (p : State) (o : Option Move) (m : Move) (q : State) → o ≡ So
 is_there p o m q e valid legal = sym (play_of_is p m q valid legal) ∙ sym (ap (played_from p) e)
 
 -- the next move of an open node is played
-pub plays_on : (old : Frame) (found now : Bool) (moves : MovesLeft) (m : Move) (p : State) → IsNext old.moves.position old.moves.last m → moves ≡ record { position = old.moves.position; last = Some m } → now ≡ (old.found || found) → p ≡ old.moves.position → IsPosition p
-    → Plays found (play_of p m) old.plies old (record old { moves = moves; found = now })
+pub plays_on : (old : Frame) (found now : Bool) (moves : MovesLeft) (m : Move) (p : State) → IsNext old.moves.position old.moves.last m → moves ≡ record { position = old.moves.position; last = Some m } → now ≡ (old.fertile || found) → p ≡ old.moves.position → IsPosition p
+    → Plays found (play_of p m) old.plies old (record old { moves = moves; fertile = now })
 plays_on old found now moves m p next stepped kept here valid =
     let legal : IsLegal p m = subst (λ (q : State). IsLegal q m) (sym here) next.legal in
     record {
@@ -31,5 +31,5 @@ plays_on old found now moves m p next stepped kept here valid =
       position = subst (λ (q : State). IsPosition q) here valid;
       leads = subst (λ (q : State). Legal q m (play_of p m)) here (play_of_legal p m legal);
       below = refl;
-      advanced = λ i. record old { moves = stepped i; found = kept i };
+      advanced = λ i. record old { moves = stepped i; fertile = kept i };
     }

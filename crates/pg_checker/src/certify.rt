@@ -1,6 +1,5 @@
 //! The check of a certificate.
 ghost use Rattle.std.specs.Prelude.{◌≡◌, ◌+◌, ◌*◌, ◌≤◌, false, [], OnOk, IfOk, IfErr};
-ghost use Rattle.std.specs.Prelude.{length as length_of};
 ghost use Rattle.std.specs.Io.KnownBytes.{IsAtEnd};
 ghost use Rattle.pg_certificate.specs.Reader.{to_come};
 ghost use Rattle.pg_certificate.specs.Spelling.{longest_record};
@@ -9,13 +8,13 @@ ghost use Rattle.pg_checker.specs.Check.{Accepts, Refuses, Takes};
 ghost use Rattle.pg_checker.specs.inner.Checking.{Answers, Headed, HeaderFails, HeaderTakes, WalkTakes, header_fault};
 ghost use Rattle.pg_checker.specs.Cuts.{rules_by, rules_for};
 ghost use Rattle.pg_checker.specs.inner.Halting.{stops};
-ghost use Rattle.pg_checker.specs.inner.Machine.{ReadsVersion, game_at};
+ghost use Rattle.pg_checker.specs.inner.Machine.{IsReading, IsReady, game_at};
 ghost use Rattle.pg_checker.specs.inner.Steps.{FailsRead};
 
 use crate::fault::Fault;
 use crate::halt::{Halt, Reason, fault_of};
 use crate::listed::check_listed;
-use crate::machine::{Machine, Question};
+use crate::machine::{Input, Machine, Names, Question, Stack};
 use crate::node::halt_of;
 use crate::table::Table;
 use crate::walk::all_trees;
@@ -59,8 +58,7 @@ fn read_header<S: Source>(
     requires runs { reader.old.failed ≡ false }
     ensures ok { IfOk result (λ version. Headed diagram.now plies
         (S.left source.old) (to_come reader.new (S.left source.new)) version) }
-    ensures runs { IfOk result (λ version. ReadsVersion version reader.new) }
-    ensures held { length_of reader.new.held ≤ 4096 }
+    ensures ready { IfOk result (λ version. IsReading version reader.new) }
     ensures err { IfErr result (λ e. HeaderFails diagram.now plies
         (S.left source.old) (S.has_failed source.new) e) }
     ensures pulls { HeaderTakes (S.left source.old) (to_come reader.new (S.left source.new))
@@ -95,31 +93,29 @@ fn walk<S: Source>(
     source: &mut S,
 ) -> Result<Proved, Halt>
     requires limit { question.now.plies ≤ 128 }
-    requires runs { ReadsVersion question.now.version machine.old.reader }
-    requires held { length_of machine.old.reader.held ≤ 4096 }
-    requires entries { machine.old.table.entries ≡ [] }
-    requires kept { machine.old.table.kept ≡ 0 }
-    requires closed { machine.old.frames.items ≡ [] }
+    requires ready { IsReady question.now.version machine.old }
+    requires entries { machine.old.names.table.entries ≡ [] }
+    requires closed { machine.old.stack.frames.items ≡ [] }
     ensures says { Answers
-        (rules_for code_of excluded question.now) (to_come machine.old.reader (S.left source.old))
-        machine.old.records machine.old.room (stops (game_at machine.new) result) }
+        (rules_for code_of excluded question.now) (to_come machine.old.input.reader (S.left source.old))
+        machine.old.input.records machine.old.names.left (stops (game_at machine.new.stack) result) }
     ensures end { OnOk result (IsAtEnd (S.left source.new)) }
     ensures runs { OnOk result (S.has_failed source.new ≡ false) }
     ensures fails { FailsRead (S.has_failed source.new) (stops [] result) }
-    ensures pulls { WalkTakes (longest_record * machine.old.records) (to_come machine.old.reader (S.left source.old))
-        (S.left source.new) (stops [] result) }
+    ensures pulls { WalkTakes (longest_record * machine.old.input.records)
+        (to_come machine.old.input.reader (S.left source.old)) (S.left source.new) (stops [] result) }
 {
-    let records = machine.records;
-    let room = machine.room;
+    let records = machine.input.records;
+    let names = machine.names.left;
     match all_trees(question, machine, source) {
         Ok(()) => {}
         Err(halt) => return Err(halt),
     }
-    match machine.reader.more(source) {
+    match machine.input.reader.more(source) {
         Ok(true) => Err(Halt::Because(Reason::Trailing)),
         Ok(false) => Ok(Proved {
-            records: records.saturating_sub(machine.records),
-            named: room.saturating_sub(machine.room),
+            records: records.saturating_sub(machine.input.records),
+            named: names.saturating_sub(machine.names.left),
         }),
         Err(fault) => Err(halt_of(fault)),
     }
@@ -170,15 +166,21 @@ pub fn check<R: Source>(
     }
     let plies = length.plies();
     let mut machine = Machine {
-        reader: RecordReader::new(),
-        prices: Prices::new(&[], &[]).unwrap(),
-        table: Table::new(alloc),
-        records: max_records,
-        room: max_named,
-        frames: ArrayVec::new(),
-        found: false,
+        input: Input {
+            reader: RecordReader::new(),
+            prices: Prices::new(&[], &[]).unwrap(),
+            records: max_records,
+        },
+        names: Names {
+            table: Table::new(alloc),
+            left: max_named,
+        },
+        stack: Stack {
+            frames: ArrayVec::new(),
+            fertile: false,
+        },
     };
-    let version = match read_header(diagram, plies, &mut machine.reader, source) {
+    let version = match read_header(diagram, plies, &mut machine.input.reader, source) {
         Ok(version) => version,
         Err(fault) => return Err(fault),
     };
@@ -192,6 +194,6 @@ pub fn check<R: Source>(
     };
     match walk(&question, &mut machine, source) {
         Ok(proved) => Ok(proved),
-        Err(halt) => Err(fault_of(halt, machine.frames.as_slice())),
+        Err(halt) => Err(fault_of(halt, machine.stack.frames.as_slice())),
     }
 }

@@ -31,7 +31,7 @@ pub(crate) struct Frame {
     pub(crate) moves: LegalMoves,
     pub(crate) plies: u8,
     pub(crate) named: bool,
-    pub(crate) found: bool,
+    pub(crate) fertile: bool,
 }
 
 impl Default for Frame {
@@ -40,30 +40,48 @@ impl Default for Frame {
             moves: LegalMoves::new(&Position::array()),
             plies: 0,
             named: false,
-            found: false,
+            fertile: false,
         }
     }
 }
 
 // What a good record says: nothing stands below the node, or its children do.
 #[derive(Clone, Copy)]
-pub(crate) enum Node {
+pub(crate) enum Opening {
     Done,
     Opened(bool),
 }
 
-// The record reader, the price lists that it read last, the table of named nodes, the open nodes, and how many records and named nodes
-// may still come. A named node takes its place in the table as its record is read. `found` says
-// whether the subtree that ended last is fertile.
+// What a certificate is read from: the reader of its records, the price lists that it read last, and how
+// many records may still come.
 #[derive(Drop)]
-pub(crate) struct Machine {
+pub(crate) struct Input {
     pub(crate) reader: RecordReader,
     pub(crate) prices: Prices,
-    pub(crate) table: Table,
     pub(crate) records: u64,
-    pub(crate) room: u32,
+}
+
+// The table of named nodes, and how many may still come. A named node takes its place in the table as its
+// record is read.
+#[derive(Drop)]
+pub(crate) struct Names {
+    pub(crate) table: Table,
+    pub(crate) left: u32,
+}
+
+// The open nodes, the topmost last, and whether the subtree that ended last is fertile.
+#[derive(Drop)]
+pub(crate) struct Stack {
     pub(crate) frames: ArrayVec<Frame, 128>,
-    pub(crate) found: bool,
+    pub(crate) fertile: bool,
+}
+
+// What the walk holds. A function takes the part that it may change.
+#[derive(Drop)]
+pub(crate) struct Machine {
+    pub(crate) input: Input,
+    pub(crate) names: Names,
+    pub(crate) stack: Stack,
 }
 
 // The game that leads along the open nodes: the move that was played last at each.

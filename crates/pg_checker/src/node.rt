@@ -1,20 +1,19 @@
 //! The record of a node: read, and judged at the node's position.
-ghost use Rattle.std.specs.Prelude.{◌≡◌, ◌+◌, ◌<◌, ◌≤◌, ◌⊎◌, ℕ, Bool, List, [], false, length, slice_get, map, OnOk, IfOk, IfErr};
-ghost use Rattle.pg_checker.specs.Chess.{read, stands_for};
-ghost use Rattle.pg_certificate.specs.Reader.{to_come};
+ghost use Rattle.std.specs.Prelude.{◌≡◌, ◌+◌, ◌<◌, ◌⊎◌, Bool, List, [], false, slice_get, map, OnOk, IfOk, IfErr};
+ghost use Rattle.pg_checker.specs.Chess.{stands_for};
 ghost use Rattle.pg_certificate.specs.Spelling.{record_of};
 ghost use Rattle.pg_checker.specs.Cuts.{rules_for, cuts_for, files_by, prices_by};
 ghost use Rattle.pg_travel.specs.PricesDecided.{travel_prices_test};
 ghost use Rattle.pg_position.specs.declared.moves.Move.{Move};
 ghost use Rattle.pg_checker.specs.inner.Halting.{full, causes, stops};
-ghost use Rattle.pg_checker.specs.inner.Judging.{Ends, Judges, ended_of, refer_answer, stop_of};
-ghost use Rattle.pg_checker.specs.inner.Machine.{ReadsVersion, Walks, WalksOn, entry_of, opened, shape_of, state_at};
+ghost use Rattle.pg_checker.specs.inner.Judging.{EndsSo, Judges, SaysRecord, TakesOne, ended_of, refer_answer, stop_of};
+ghost use Rattle.pg_checker.specs.inner.Machine.{IsReading, Walks, WalksOn, entry_of, opened, point_of, shape_of};
 ghost use Rattle.pg_checker.specs.inner.Spots.{IsReached, spot_of};
-ghost use Rattle.pg_checker.specs.inner.Steps.{Says, FailsRead, TakesFew};
+ghost use Rattle.pg_checker.specs.inner.Steps.{FailsRead};
 ghost use Rattle.pg_checker.specs.Walk.{judge as judge_of, head as head_of, cut_answer};
 
 use crate::halt::{Halt, Reason};
-use crate::machine::{Machine, Node, Question};
+use crate::machine::{Input, Names, Opening, Question};
 use crate::spot::Spot;
 use crate::table::Table;
 use pg_board::Color;
@@ -39,18 +38,22 @@ pub(crate) fn halt_of(fault: ReadFault) -> Halt
     }
 }
 
-// A named node takes its place in the table, where there is room for one more: how much room is left.
-fn take_place(table: &mut Table, position: &Position, room: u32) -> Result<u32, Halt>
-    ensures ok { IfOk result (λ left. (left + 1 ≡ room) × (table.new.kept ≡ table.old.kept + 1)) }
-    ensures err { IfErr result (λ s. ((s ≡ Halt.Because Reason.TooManyNamed) × (room ≡ 0))
-        ⊎ ((s ≡ Halt.Memory) × (0 < room))) }
-    ensures entries { table.new.entries ≡ table.old.entries }
+// A named node takes its place in the table, where one more may come.
+fn take_place(names: &mut Names, position: &Position) -> Result<(), Halt>
+    ensures ok { OnOk result
+        ((names.new.left + 1 ≡ names.old.left) × (names.new.table.kept ≡ names.old.table.kept + 1)) }
+    ensures err { IfErr result (λ s. ((s ≡ Halt.Because Reason.TooManyNamed) × (names.old.left ≡ 0))
+        ⊎ ((s ≡ Halt.Memory) × (0 < names.old.left))) }
+    ensures entries { names.new.table.entries ≡ names.old.table.entries }
 {
-    if room == 0 {
+    if names.left == 0 {
         return Err(Halt::Because(Reason::TooManyNamed));
     }
-    match table.keep(position) {
-        Ok(()) => Ok(room - 1),
+    match names.table.keep(position) {
+        Ok(()) => {
+            names.left -= 1;
+            Ok(())
+        }
         Err(_) => Err(Halt::Memory),
     }
 }
@@ -73,7 +76,7 @@ fn first_says(question: &Question, spot: &Spot, left: u8, code: u8) -> Option<bo
 // A cut, by the first bound of its code.
 fn cut(question: &Question, spot: &Spot, left: u8, code: u8) -> Result<(), Reason>
     requires { IsReached spot.now }
-    ensures { (game : List Move) → Ends (causes game result)
+    ensures { EndsSo result
         (cut_answer ((cuts_for code_of excluded question.now).bounds code (spot_of spot.now) left) code) }
 {
     match first_says(question, spot, left, code) {
@@ -120,7 +123,7 @@ fn priced(
     color: Color,
     prices: &Prices,
 ) -> Result<(), Reason>
-    ensures { (game : List Move) → Ends (causes game result)
+    ensures { EndsSo result
         (cut_answer (prices_by question.now.diagram.now code color prices.now position.now left) code) }
 {
     let diagram = question.diagram;
@@ -148,7 +151,7 @@ fn priced_there(
     prices: &Prices,
 ) -> Result<(), Reason>
     requires { IsReached spot.now }
-    ensures { (game : List Move) → Ends (causes game result)
+    ensures { EndsSo result
         (cut_answer (prices_by question.now.diagram.now code color prices.now (spot_of spot.now) left) code) }
 {
     priced(question, &spot.position(), left, code, color, prices)
@@ -174,7 +177,7 @@ fn refer(
     left: u8,
     number: u32,
 ) -> Result<(), Reason>
-    ensures { (game : List Move) → Ends (causes game result)
+    ensures { EndsSo result
         (refer_answer version (slice_get (map entry_of table.now.entries) number) left position.now) }
 {
     let Some(entry) = table.get(number) else {
@@ -194,59 +197,53 @@ fn refer(
 #[inline(never)]
 fn refer_there(version: u8, table: &Table, spot: &Spot, left: u8, number: u32) -> Result<(), Reason>
     requires { IsReached spot.now }
-    ensures { (game : List Move) → Ends (causes game result)
+    ensures { EndsSo result
         (refer_answer version (slice_get (map entry_of table.now.entries) number) left (spot_of spot.now)) }
 {
     refer(version, table, &spot.position(), left, number)
 }
 
 // What a node that ends at once, or a cause, says of the node.
-fn ended(answer: Result<(), Reason>) -> Result<Node, Halt>
+fn ended(answer: Result<(), Reason>) -> Result<Opening, Halt>
     ensures says { (game : List Move) → stops game result ≡ ended_of (causes game answer) }
     ensures none { IfOk result (λ node. opened node ≡ 0) }
 {
     match answer {
-        Ok(()) => Ok(Node::Done),
+        Ok(()) => Ok(Opening::Done),
         Err(reason) => Err(Halt::Because(reason)),
     }
 }
 
-// A record, whose price lists the machine has, judged at a node with so many plies left: what stands
-// below the node, or why the record is refused there.
+// A record with its price lists, judged at a node with so many plies left: what stands below the node, or
+// why the record is refused there.
 #[inline(always)]
 fn judge(
     question: &Question,
-    machine: &mut Machine,
+    names: &mut Names,
     spot: &Spot,
     left: u8,
     bare: Bare,
-) -> Result<Node, Halt>
+    prices: &Prices,
+) -> Result<Opening, Halt>
     requires { IsReached spot.now }
-    ensures says { (game : List Move) → Judges machine.old machine.new
-        (judge_of (rules_for code_of excluded question.now) left (spot_of spot.now) (record_of machine.old.prices bare))
+    ensures says { (game : List Move) → Judges names.old names.new
+        (judge_of (rules_for code_of excluded question.now) left (spot_of spot.now) (record_of prices.now bare))
         (stops game result) }
-    ensures kept { IfOk result (λ node. machine.new.table.kept ≡ machine.old.table.kept + opened node) }
+    ensures kept { IfOk result (λ node. names.new.table.kept ≡ names.old.table.kept + opened node) }
     ensures fails { (failed : Bool) → FailsRead failed (stops [] result) }
-    ensures reader { machine.new.reader ≡ machine.old.reader }
-    ensures frames { machine.new.frames ≡ machine.old.frames }
-    ensures records { machine.new.records ≡ machine.old.records }
 {
     match bare {
-        Bare::Expand { named: false } => Ok(Node::Opened(false)),
-        Bare::Expand { named: true } => {
-            match take_place(&mut machine.table, &spot.from, machine.room) {
-                Ok(room) => machine.room = room,
-                Err(halt) => return Err(halt),
-            }
-            Ok(Node::Opened(true))
-        }
+        Bare::Expand { named: false } => Ok(Opening::Opened(false)),
+        Bare::Expand { named: true } => match take_place(names, &spot.from) {
+            Ok(()) => Ok(Opening::Opened(true)),
+            Err(halt) => Err(halt),
+        },
         Bare::Cut(code) => ended(cut(question, spot, left, code)),
         Bare::Ref(number) => {
-            let answer = refer_there(question.version, &machine.table, spot, left, number);
+            let answer = refer_there(question.version, &names.table, spot, left, number);
             ended(answer)
         }
         Bare::Priced { code, color } => {
-            let prices = &machine.prices;
             let answer = priced_there(question, spot, left, code, color, prices);
             ended(answer)
         }
@@ -261,15 +258,10 @@ fn next<S: Source>(
     source: &mut S,
 ) -> Result<Bare, Halt>
     requires runs { reader.old.failed ≡ false }
-    ensures says { (game : List Move) (room : ℕ) → Says
-        (to_come reader.old (S.left source.old)) (to_come reader.new (S.left source.new)) room room
-        (λ bytes _. read reader.old.version bytes) (λ x rest _. (record_of prices.new x, rest)) (stops game result) }
-    ensures runs { OnOk result (ReadsVersion reader.old.version reader.new) }
-    ensures held { length reader.new.held ≤ 4096 }
+    ensures says { SaysRecord reader.old reader.new (S.left source.old) (S.left source.new) prices.new result }
+    ensures ready { OnOk result (IsReading reader.old.version reader.new) }
     ensures fails { FailsRead (S.has_failed source.new) (stops [] result) }
-    ensures few { (most : ℕ) → TakesFew
-        (to_come reader.old (S.left source.old)) (to_come reader.new (S.left source.new)) (S.left source.new)
-        (most + 1) most (stops [] result) }
+    ensures few { TakesOne reader.old reader.new (S.left source.old) (S.left source.new) result }
 {
     match reader.next_bare(prices, source) {
         Ok(bare) => Ok(bare),
@@ -279,32 +271,33 @@ fn next<S: Source>(
 
 // The record of a node with so many plies left.
 #[inline(always)]
-pub(crate) fn head<S: Source>(
+pub(crate) fn judge_next<S: Source>(
     question: &Question,
-    machine: &mut Machine,
+    input: &mut Input,
+    names: &mut Names,
     source: &mut S,
     spot: &Spot,
     left: u8,
-) -> Result<Node, Halt>
+) -> Result<Opening, Halt>
     requires reached { IsReached spot.now }
-    requires runs { ReadsVersion question.now.version machine.old.reader }
-    requires held { length machine.old.reader.held ≤ 4096 }
-    ensures says { (game : List Move) → Walks machine.old machine.new (S.left source.old) (S.left source.new)
+    requires ready { IsReading question.now.version input.old.reader }
+    ensures says { (game : List Move) → Walks
+        (point_of input.old names.old (S.left source.old)) (point_of input.new names.new (S.left source.new))
         (head_of (rules_for code_of excluded question.now) left (spot_of spot.now))
-        (λ node rest n. (shape_of node, state_at machine.new rest n)) (stops game result) }
-    ensures kept { IfOk result (λ node. machine.new.table.kept ≡ machine.old.table.kept + opened node) }
-    ensures frames { machine.new.frames ≡ machine.old.frames }
-    ensures runs { OnOk result (ReadsVersion question.now.version machine.new.reader) }
-    ensures held { length machine.new.reader.held ≤ 4096 }
+        (λ node s. (shape_of node, s)) (stops game result) }
+    ensures kept { IfOk result (λ node. names.new.table.kept ≡ names.old.table.kept + opened node) }
+    ensures ready { OnOk result (IsReading question.now.version input.new.reader) }
     ensures fails { FailsRead (S.has_failed source.new) (stops [] result) }
-    ensures few { WalksOn machine.old machine.new (S.left source.old) (S.left source.new) (stops [] result) }
+    ensures few { WalksOn
+        (point_of input.old names.old (S.left source.old)) (point_of input.new names.new (S.left source.new))
+        (S.left source.new) (stops [] result) }
 {
-    if machine.records == 0 {
+    if input.records == 0 {
         return Err(Halt::Because(Reason::Budget));
     }
-    machine.records -= 1;
-    match next(&mut machine.reader, &mut machine.prices, source) {
-        Ok(bare) => judge(question, machine, spot, left, bare),
+    input.records -= 1;
+    match next(&mut input.reader, &mut input.prices, source) {
+        Ok(bare) => judge(question, names, spot, left, bare, &input.prices),
         Err(halt) => Err(halt),
     }
 }

@@ -6,18 +6,17 @@ ghost use Rattle.pg_checker.specs.Whole.{run as run_of};
 ghost use Rattle.pg_position.specs.Array.{array_state};
 ghost use Rattle.pg_checker.specs.inner.Halting.{causes, stops};
 ghost use Rattle.pg_checker.specs.inner.Judging.{LeafSays};
-ghost use Rattle.pg_checker.specs.inner.Machine.{Closes, HasNone, OnTop, Passed, Plays, ReadsVersion, Walks, WalksOn, entered, entries_of, fresh, game_at, named_at, path, stack_at, state_at, work_at};
+ghost use Rattle.pg_checker.specs.inner.Machine.{Closes, GoesOn, HasNone, IsReady, OnTop, Passed, Plays, Visits, Walks, Works, entered, entry_of, fresh, game_at, named_at, path, point_at, stack_at};
 ghost use Rattle.pg_checker.specs.inner.Spots.{IsReached, spot_of};
-ghost use Rattle.pg_checker.specs.inner.Steps.{FailsRead};
 ghost use Rattle.pg_checker.specs.Tree.{one_if};
 ghost use Rattle.pg_checker.specs.Walk.{leaf as leaf_of, visit};
 
 use crate::halt::{Halt, Reason};
-use crate::machine::{Frame, Machine, Node, Question, game_along};
+use crate::machine::{Frame, Machine, Opening, Question, Stack, game_along};
 use crate::nearness::skip_to_solution;
-use crate::node::head;
+use crate::node::judge_next;
 use crate::spot::Spot;
-use crate::table::Entry;
+use crate::table::{Entry, Table};
 use arrayvec::ArrayVec;
 use pg_certificate::Source;
 use pg_fen::Diagram;
@@ -72,7 +71,7 @@ fn open_at(position: &Position, plies: u8, named: bool, frames: &mut ArrayVec<Fr
         moves: LegalMoves::new(position),
         plies,
         named,
-        found: false,
+        fertile: false,
     });
 }
 
@@ -96,38 +95,39 @@ fn enter<S: Source>(
     source: &mut S,
 ) -> Result<(), Halt>
     requires reached { IsReached spot.now }
-    requires depth { left + length machine.old.frames.items ≡ tree }
+    requires depth { left + length machine.old.stack.frames.items ≡ tree }
     requires limit { tree ≤ 128 }
-    requires kept { machine.old.table.kept ≡ named_at machine.old }
-    requires runs { ReadsVersion question.now.version machine.old.reader }
-    requires held { length machine.old.reader.held ≤ 4096 }
-    ensures says { Walks machine.old machine.new (S.left source.old) (S.left source.new)
-        (enter_of (rules_for code_of excluded question.now) tree left (game_at machine.old) (spot_of spot.now)
-        (stack_at machine.old))
-        (λ _. work_at (rules_for code_of excluded question.now) machine.new) (stops (game_at machine.new) result) }
-    ensures kept { OnOk result (machine.new.table.kept ≡ named_at machine.new) }
-    ensures runs { OnOk result (ReadsVersion question.now.version machine.new.reader) }
-    ensures held { length machine.new.reader.held ≤ 4096 }
-    ensures fails { FailsRead (S.has_failed source.new) (stops [] result) }
-    ensures few { WalksOn machine.old machine.new (S.left source.old) (S.left source.new) (stops [] result) }
+    requires ready { IsReady question.now.version machine.old }
+    ensures says { Works (rules_for code_of excluded question.now) machine.old machine.new
+        (S.left source.old) (S.left source.new)
+        (λ r. enter_of r tree left (game_at machine.old.stack) (spot_of spot.now) (stack_at machine.old.stack)) result }
+    ensures keeps { GoesOn question.now.version machine.old machine.new
+        (S.left source.old) (S.left source.new) (S.has_failed source.new) result }
 {
     if left == 0 {
-        return match leaf_there(question, tree, machine.frames.as_slice(), spot) {
-            Ok(found) => {
-                machine.found = found;
+        return match leaf_there(question, tree, machine.stack.frames.as_slice(), spot) {
+            Ok(fertile) => {
+                machine.stack.fertile = fertile;
                 Ok(())
             }
             Err(reason) => Err(Halt::Because(reason)),
         };
     }
-    match head(question, machine, source, spot, left) {
-        Ok(Node::Done) => {
-            machine.found = false;
+    match judge_next(
+        question,
+        &mut machine.input,
+        &mut machine.names,
+        source,
+        spot,
+        left,
+    ) {
+        Ok(Opening::Done) => {
+            machine.stack.fertile = false;
             Ok(())
         }
-        Ok(Node::Opened(named)) => {
-            machine.found = false;
-            open_node(spot, left - 1, named, &mut machine.frames);
+        Ok(Opening::Opened(named)) => {
+            machine.stack.fertile = false;
+            open_node(spot, left - 1, named, &mut machine.stack.frames);
             Ok(())
         }
         Err(halt) => Err(halt),
@@ -135,29 +135,24 @@ fn enter<S: Source>(
 }
 
 // A node with so many plies left below it closes: a named one is entered in the table.
-fn close(position: &Position, plies: u8, named: bool, found: bool, machine: &mut Machine)
+fn close(position: &Position, plies: u8, named: bool, fertile: bool, table: &mut Table)
     requires few { plies < 128 }
-    requires kept { one_if named ≤ machine.old.table.kept }
-    ensures entries { entries_of machine.new
-        ≡ entries_of machine.old ++ entered named
-        (record { position = position.now; plies = suc plies; fertile = found }) }
-    ensures kept { machine.new.table.kept + one_if named ≡ machine.old.table.kept }
-    ensures found { machine.new.found ≡ found }
-    ensures reader { machine.new.reader ≡ machine.old.reader }
-    ensures frames { machine.new.frames ≡ machine.old.frames }
-    ensures records { machine.new.records ≡ machine.old.records }
-    ensures room { machine.new.room ≡ machine.old.room }
+    requires kept { one_if named ≤ table.old.kept }
+    ensures entries { map entry_of table.new.entries
+        ≡ map entry_of table.old.entries ++ entered named
+        (record { position = position.now; plies = suc plies; fertile = fertile }) }
+    ensures kept { table.new.kept + one_if named ≡ table.old.kept }
 {
-    machine.found = found;
     if named {
-        machine.table.close(Entry {
+        table.close(Entry {
             position: position.packed(),
             plies: plies + 1,
-            fertile: found,
+            fertile: fertile,
         });
     }
 }
 
+// Whether either is true. A call, since `||` would part the proof of what follows into two ways.
 fn either(a: bool, b: bool) -> bool
     ensures { result ≡ (a || b) }
 {
@@ -166,17 +161,18 @@ fn either(a: bool, b: bool) -> bool
 
 // The topmost node closes.
 #[inline(never)]
-fn close_top(tree: u8, machine: &mut Machine)
-    requires open { 0 < length machine.old.frames.items }
-    requires stacked { Stacked tree (stack_at machine.old) }
+fn close_top(tree: u8, stack: &mut Stack, table: &mut Table)
+    requires open { 0 < length stack.old.frames.items }
+    requires stacked { Stacked tree (stack_at stack.old) }
     requires limit { tree ≤ 128 }
-    requires kept { machine.old.table.kept ≡ named_at machine.old }
-    ensures { Closes machine.old machine.new }
+    requires kept { table.old.kept ≡ named_at stack.old }
+    ensures { Closes stack.old stack.new table.old table.new }
 {
-    if let Some(top) = machine.frames.pop() {
-        let found = either(top.found, machine.found);
+    if let Some(top) = stack.frames.pop() {
+        let fertile = either(top.fertile, stack.fertile);
         let position = top.moves.position();
-        close(&position, top.plies, top.named, found, machine);
+        close(&position, top.plies, top.named, fertile, table);
+        stack.fertile = fertile;
     }
 }
 
@@ -190,14 +186,14 @@ struct Child {
 // The next move of an open node is played, and what its last child said is kept with it. None where
 // no move is left: then nothing changes.
 #[inline(always)]
-fn play_on(top: &mut Frame, found: bool) -> Option<Child>
+fn play_on(top: &mut Frame, fertile: bool) -> Option<Child>
     ensures plays { MatchOption result
         (HasNone top.old top.new)
-        (λ child. Plays found (spot_of child.spot) child.plies top.old top.new) }
+        (λ child. Plays fertile (spot_of child.spot) child.plies top.old top.new) }
     ensures reached { IfSome result (λ child. IsReached child.spot) }
 {
     let m = top.moves.next()?;
-    top.found = either(top.found, found);
+    top.fertile = either(top.fertile, fertile);
     let from = top.moves.position();
     // A fact for the proof: it is a position.
     from.side();
@@ -209,16 +205,16 @@ fn play_on(top: &mut Frame, found: bool) -> Option<Child>
 
 // The next move of the topmost node is played.
 #[inline(always)]
-fn play_top(frames: &mut ArrayVec<Frame, 128>, found: bool) -> Option<Child>
+fn play_top(frames: &mut ArrayVec<Frame, 128>, fertile: bool) -> Option<Child>
     requires { 0 < length frames.old.items }
     ensures plays { MatchOption result
         (OnTop HasNone frames.old.items frames.new.items)
-        (λ child. OnTop (Plays found (spot_of child.spot) child.plies) frames.old.items frames.new.items) }
+        (λ child. OnTop (Plays fertile (spot_of child.spot) child.plies) frames.old.items frames.new.items) }
     ensures reached { IfSome result (λ child. IsReached child.spot) }
 {
     let last = frames.len() - 1;
     match frames.get_mut(last) {
-        Some(top) => play_on(top, found),
+        Some(top) => play_on(top, fertile),
         None => None,
     }
 }
@@ -230,26 +226,21 @@ fn turn<S: Source>(
     machine: &mut Machine,
     source: &mut S,
 ) -> Result<(), Halt>
-    requires open { 0 < length machine.old.frames.items }
-    requires stacked { Stacked tree (stack_at machine.old) }
+    requires open { 0 < length machine.old.stack.frames.items }
+    requires stacked { Stacked tree (stack_at machine.old.stack) }
     requires limit { tree ≤ 128 }
-    requires kept { machine.old.table.kept ≡ named_at machine.old }
-    requires runs { ReadsVersion question.now.version machine.old.reader }
-    requires held { length machine.old.reader.held ≤ 4096 }
-    ensures says { Walks machine.old machine.new (S.left source.old) (S.left source.new)
-        (turn_top (rules_for code_of excluded question.now) tree (stack_at machine.old) machine.old.found)
-        (λ _. work_at (rules_for code_of excluded question.now) machine.new) (stops (game_at machine.new) result) }
-    ensures kept { OnOk result (machine.new.table.kept ≡ named_at machine.new) }
-    ensures runs { OnOk result (ReadsVersion question.now.version machine.new.reader) }
-    ensures held { length machine.new.reader.held ≤ 4096 }
-    ensures fails { FailsRead (S.has_failed source.new) (stops [] result) }
-    ensures few { WalksOn machine.old machine.new (S.left source.old) (S.left source.new) (stops [] result) }
+    requires ready { IsReady question.now.version machine.old }
+    ensures says { Works (rules_for code_of excluded question.now) machine.old machine.new
+        (S.left source.old) (S.left source.new)
+        (λ r. turn_top r tree (stack_at machine.old.stack) machine.old.stack.fertile) result }
+    ensures keeps { GoesOn question.now.version machine.old machine.new
+        (S.left source.old) (S.left source.new) (S.has_failed source.new) result }
 {
-    let found = machine.found;
-    match play_top(&mut machine.frames, found) {
+    let fertile = machine.stack.fertile;
+    match play_top(&mut machine.stack.frames, fertile) {
         Some(child) => enter(question, tree, child.plies, &child.spot, machine, source),
         None => {
-            close_top(tree, machine);
+            close_top(tree, &mut machine.stack, &mut machine.names.table);
             Ok(())
         }
     }
@@ -286,25 +277,19 @@ fn run<S: Source>(
     machine: &mut Machine,
     source: &mut S,
 ) -> Result<(), Halt>
-    requires stacked { Stacked tree (stack_at machine.old) }
+    requires stacked { Stacked tree (stack_at machine.old.stack) }
     requires limit { tree ≤ 128 }
-    requires kept { machine.old.table.kept ≡ named_at machine.old }
-    requires runs { ReadsVersion question.now.version machine.old.reader }
-    requires held { length machine.old.reader.held ≤ 4096 }
-    ensures says { Walks machine.old machine.new (S.left source.old) (S.left source.new)
+    requires ready { IsReady question.now.version machine.old }
+    ensures says { Visits machine.old machine.new (S.left source.old) (S.left source.new)
         (λ s. finish (rules_for code_of excluded question.now) tree
-        (record { frames = stack_at machine.old; found = machine.old.found; state = s }))
-        (λ _ rest n. (machine.new.found, state_at machine.new rest n)) (stops (game_at machine.new) result) }
-    ensures closed { OnOk result (machine.new.frames.items ≡ []) }
-    ensures kept { OnOk result (machine.new.table.kept ≡ 0) }
-    ensures runs { OnOk result (ReadsVersion question.now.version machine.new.reader) }
-    ensures held { length machine.new.reader.held ≤ 4096 }
-    ensures fails { FailsRead (S.has_failed source.new) (stops [] result) }
-    ensures few { WalksOn machine.old machine.new (S.left source.old) (S.left source.new) (stops [] result) }
+        (record { frames = stack_at machine.old.stack; found = machine.old.stack.fertile; state = s })) result }
+    ensures closed { OnOk result (machine.new.stack.frames.items ≡ []) }
+    ensures keeps { GoesOn question.now.version machine.old machine.new
+        (S.left source.old) (S.left source.new) (S.has_failed source.new) result }
 {
-    while !machine.frames.is_empty() {
-        if is_top_over(question.diagram, &mut machine.frames) {
-            close_top(tree, machine);
+    while !machine.stack.frames.is_empty() {
+        if is_top_over(question.diagram, &mut machine.stack.frames) {
+            close_top(tree, &mut machine.stack, &mut machine.names.table);
             continue;
         }
         match turn(question, tree, machine, source) {
@@ -323,19 +308,13 @@ fn tree_of<S: Source>(
     source: &mut S,
 ) -> Result<(), Halt>
     requires limit { tree ≤ 128 }
-    requires closed { machine.old.frames.items ≡ [] }
-    requires kept { machine.old.table.kept ≡ 0 }
-    requires runs { ReadsVersion question.now.version machine.old.reader }
-    requires held { length machine.old.reader.held ≤ 4096 }
-    ensures says { Walks machine.old machine.new (S.left source.old) (S.left source.new)
-        (visit (rules_for code_of excluded question.now) tree tree [] array_state)
-        (λ _ rest n. (machine.new.found, state_at machine.new rest n)) (stops (game_at machine.new) result) }
-    ensures closed { OnOk result (machine.new.frames.items ≡ []) }
-    ensures kept { OnOk result (machine.new.table.kept ≡ 0) }
-    ensures runs { OnOk result (ReadsVersion question.now.version machine.new.reader) }
-    ensures held { length machine.new.reader.held ≤ 4096 }
-    ensures fails { FailsRead (S.has_failed source.new) (stops [] result) }
-    ensures few { WalksOn machine.old machine.new (S.left source.old) (S.left source.new) (stops [] result) }
+    requires closed { machine.old.stack.frames.items ≡ [] }
+    requires ready { IsReady question.now.version machine.old }
+    ensures says { Visits machine.old machine.new (S.left source.old) (S.left source.new)
+        (visit (rules_for code_of excluded question.now) tree tree [] array_state) result }
+    ensures closed { OnOk result (machine.new.stack.frames.items ≡ []) }
+    ensures keeps { GoesOn question.now.version machine.old machine.new
+        (S.left source.old) (S.left source.new) (S.has_failed source.new) result }
 {
     let root = Spot {
         from: Position::array(),
@@ -354,17 +333,13 @@ pub(crate) fn all_trees<S: Source>(
     source: &mut S,
 ) -> Result<(), Halt>
     requires limit { question.now.plies ≤ 128 }
-    requires closed { machine.old.frames.items ≡ [] }
-    requires kept { machine.old.table.kept ≡ 0 }
-    requires runs { ReadsVersion question.now.version machine.old.reader }
-    requires held { length machine.old.reader.held ≤ 4096 }
-    ensures says { Walks machine.old machine.new (S.left source.old) (S.left source.new)
+    requires closed { machine.old.stack.frames.items ≡ [] }
+    requires ready { IsReady question.now.version machine.old }
+    ensures says { Walks (point_at machine.old (S.left source.old)) (point_at machine.new (S.left source.new))
         (run_of (rules_for code_of excluded question.now) (suc question.now.plies) 0 array_state)
-        (λ _. state_at machine.new) (stops (game_at machine.new) result) }
-    ensures runs { OnOk result (ReadsVersion question.now.version machine.new.reader) }
-    ensures held { length machine.new.reader.held ≤ 4096 }
-    ensures fails { FailsRead (S.has_failed source.new) (stops [] result) }
-    ensures few { WalksOn machine.old machine.new (S.left source.old) (S.left source.new) (stops [] result) }
+        (λ _ s. s) (stops (game_at machine.new.stack) result) }
+    ensures keeps { GoesOn question.now.version machine.old machine.new
+        (S.left source.old) (S.left source.new) (S.has_failed source.new) result }
 {
     let mut tree: u8 = 0;
     loop {

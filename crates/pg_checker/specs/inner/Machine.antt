@@ -1,5 +1,5 @@
 -- What the values of the machine stand for: the frames of the walk, its entries and its state; and what code did from one machine to another.
-use Rattle.std.specs.Prelude.{◌≡◌, ℕ, suc, ◌+◌, ◌<◌, ◌||◌, Bool, true, false, List, [], ◌∷◌, ◌++◌, map, reverse, Option, Some, None, Result}
+use Rattle.std.specs.Prelude.{◌≡◌, ℕ, suc, ◌+◌, ◌<◌, ◌≤◌, ◌||◌, Bool, true, false, List, [], ◌∷◌, ◌++◌, length, map, reverse, Option, Some, None, Result, OnOk}
 use Rattle.pg_position.specs.declared.state.State.{State}
 use Rattle.pg_position.specs.declared.moves.Move.{Move}
 use Rattle.pg_position.specs.Position.{IsPosition}
@@ -13,13 +13,18 @@ use Rattle.pg_checker.specs.Tree.{one_if}
 use Rattle.pg_checker.specs.Left.{left_after}
 use Rattle.pg_checker.specs.Walk as walk
 use Rattle.pg_checker.specs.inner.Frames as frames
-use Rattle.pg_checker.specs.inner.Halting.{Stop}
-use Rattle.pg_checker.specs.inner.Steps.{Says, TakesFew}
+use Rattle.pg_checker.specs.inner.Halting.{Stop, stops}
+use Rattle.pg_checker.specs.inner.Steps.{Says, FailsRead, TakesFew}
+use Rattle.pg_checker.specs.declared.halt.Halt.{Halt}
 use Rattle.pg_checker.specs.declared.table.Entry.{Entry}
 use Rattle.pg_checker.specs.declared.machine.Frame.{Frame}
+use Rattle.pg_checker.specs.inner.Table.{TableState}
+use Rattle.pg_checker.specs.declared.machine.Input.{Input}
+use Rattle.pg_checker.specs.declared.machine.Names.{Names}
+use Rattle.pg_checker.specs.declared.machine.Stack.{Stack}
 use Rattle.pg_checker.specs.declared.machine.Machine.{Machine}
-use Rattle.pg_checker.specs.declared.machine.Node.{Node}
-use Rattle.pg_checker.specs.declared.machine.Node.TheVariants as node
+use Rattle.pg_checker.specs.declared.machine.Opening.{Opening}
+use Rattle.pg_checker.specs.declared.machine.Opening.TheVariants as node
 
 -- ---- frames, the topmost first
 -- the move that was played last at a node
@@ -33,7 +38,7 @@ path [] = []
 path (f ∷ fs) = path fs ++ played f.moves.last
 
 abbrev pub frame_of : Frame → List Frame → frames.Frame State Move
-frame_of f fs = record { game = path fs; position = f.moves.position; plies = f.plies; left = left_after f.moves.position f.moves.last; named = f.named; found = f.found }
+frame_of f fs = record { game = path fs; position = f.moves.position; plies = f.plies; left = left_after f.moves.position f.moves.last; named = f.named; found = f.fertile }
 
 unfoldable pub frames_of : List Frame → List (frames.Frame State Move)
 frames_of [] = []
@@ -44,17 +49,17 @@ unfoldable pub count_named : List Frame → ℕ
 count_named [] = 0
 count_named (f ∷ fs) = one_if f.named + count_named fs
 
--- the game that leads along the open nodes of the machine
-abbrev pub game_at : Machine → List Move
-game_at m = path (reverse m.frames.items)
+-- the game that leads along the open nodes
+abbrev pub game_at : Stack → List Move
+game_at s = path (reverse s.frames.items)
 
--- its open nodes, the topmost first
-abbrev pub stack_at : Machine → List (frames.Frame State Move)
-stack_at m = frames_of (reverse m.frames.items)
+-- the open nodes, the topmost first
+abbrev pub stack_at : Stack → List (frames.Frame State Move)
+stack_at s = frames_of (reverse s.frames.items)
 
 -- how many of them are named
-abbrev pub named_at : Machine → ℕ
-named_at m = count_named (reverse m.frames.items)
+abbrev pub named_at : Stack → ℕ
+named_at s = count_named (reverse s.frames.items)
 
 -- ---- what is done at the topmost frame
 -- the topmost frame is made into another one, and those below it stay
@@ -68,7 +73,7 @@ pub record OnTop (did : Frame → Frame → Type 0) (old new : List Frame) : Typ
 
 -- a node that has just opened
 abbrev pub fresh : State → ℕ → Bool → Frame
-fresh p plies is_named = record { moves = record { position = p; last = None }; plies = plies; named = is_named; found = false }
+fresh p plies is_named = record { moves = record { position = p; last = None }; plies = plies; named = is_named; fertile = false }
 
 -- no move is left at it
 abbrev pub HasNone : Frame → Frame → Type 0
@@ -81,7 +86,7 @@ pub record Plays (found : Bool) (p : State) (plies : ℕ) (old new : Frame) : Ty
   pub position : IsPosition old.moves.position
   pub leads : Legal old.moves.position move p
   pub below : plies ≡ old.plies
-  pub advanced : new ≡ record old { moves = record { position = old.moves.position; last = Some move }; found = old.found || found }
+  pub advanced : new ≡ record old { moves = record { position = old.moves.position; last = Some move }; fertile = old.fertile || found }
 
 -- leaves that are not on the diagram are passed over; it is over where no move that is left leads to one that is
 pub record Passed (d : Placement) (over : Bool) (old new : Frame) : Type 0 where
@@ -100,48 +105,88 @@ abbrev pub entered : Bool → tree.Entry State → List (tree.Entry State)
 entered true e = e ∷ []
 entered false e = []
 
-abbrev pub entries_of : Machine → List (tree.Entry State)
-entries_of m = map entry_of m.table.entries
+abbrev pub entries_of : TableState → List (tree.Entry State)
+entries_of t = map entry_of t.entries
 
 -- the topmost node closes
-pub record Closes (old new : Machine) : Type 0 where
+pub record Closes (old new : Stack) (table_old table_new : TableState) : Type 0 where
   pub below : List Frame
   pub top : Frame
   pub was : old.frames.items ≡ below ++ (top ∷ [])
   pub frames : new.frames ≡ record { items = below }
-  pub entries : entries_of new ≡ entries_of old ++ entered top.named (record { position = top.moves.position; plies = suc top.plies; fertile = top.found || old.found })
-  pub kept : new.table.kept + one_if top.named ≡ old.table.kept
-  pub found : new.found ≡ (top.found || old.found)
-  pub reader : new.reader ≡ old.reader
-  pub records : new.records ≡ old.records
-  pub room : new.room ≡ old.room
+  pub entries : entries_of table_new ≡ entries_of table_old ++ entered top.named (record { position = top.moves.position; plies = suc top.plies; fertile = top.fertile || old.fertile })
+  pub kept : table_new.kept + one_if top.named ≡ table_old.kept
+  pub fertile : new.fertile ≡ (top.fertile || old.fertile)
 
--- ---- the state of the walk, with bytes to come and room for named nodes
+-- ---- where the walk stands
+-- the known bytes to come, the entries so far, and how many records and named nodes may still come
+pub record Point : Type 0 where
+  pub known : Option (List ℕ)
+  pub entries : List (tree.Entry State)
+  pub records : ℕ
+  pub room : ℕ
+
+-- by what is read, the names, and what the source tells
+abbrev pub point_of : Input → Names → Option (List ℕ) → Point
+point_of input names left = record { known = to_come input.reader left; entries = entries_of names.table; records = input.records; room = names.left }
+
+abbrev pub point_at : Machine → Option (List ℕ) → Point
+point_at m left = point_of m.input m.names left
+
+-- its state, with bytes to come and room for named nodes
+abbrev pub state_of : Point → List ℕ → ℕ → walk.WalkState State
+state_of p rest room = record { rest = rest; entries = p.entries; records = p.records; room = room }
+
 abbrev pub state_at : Machine → List ℕ → ℕ → walk.WalkState State
-state_at m rest room = record { rest = rest; entries = entries_of m; records = m.records; room = room }
+state_at m rest room = record { rest = rest; entries = entries_of m.names.table; records = m.input.records; room = room }
 
-abbrev pub shape_of : Node → walk.Shape
+abbrev pub shape_of : Opening → walk.Shape
 shape_of node.Done = walk.Done
 shape_of (node.Opened is_named) = walk.Opened is_named
 
 abbrev pub work_at : (r : tree.Rules State Move) → Machine → List ℕ → ℕ → frames.Work r
-work_at r m rest room = record { frames = stack_at m; found = m.found; state = state_at m rest room }
+work_at r m rest room = record { frames = stack_at m.stack; found = m.stack.fertile; state = state_at m rest room }
 
 -- how many named nodes a record opens
-abbrev pub opened : Node → ℕ
+abbrev pub opened : Opening → ℕ
 opened node.Done = 0
 opened (node.Opened is_named) = one_if is_named
 
--- ---- the reader
--- it has not refused, and reads records of this version
-abbrev pub ReadsVersion : ℕ → ReaderState → Type 0
-ReadsVersion version reader = (reader.failed ≡ false) × (reader.version ≡ version)
+-- ---- what the next piece of the walk needs
+-- a reader has not refused, reads records of this version, and holds at most one buffer of 4,096 bytes
+pub record IsReading (version : ℕ) (reader : ReaderState) : Type 0 where
+  pub runs : reader.failed ≡ false
+  pub reads : reader.version ≡ version
+  pub held : length reader.held ≤ 4096
 
--- ---- a piece of the walk done by code, from one machine to another, with what the source tells before and after
--- the code answered what the walk answers from the state of the first machine: a value, seen by got, or a stop
-abbrev pub Walks : {X A : Type 0} → Machine → Machine → Option (List ℕ) → Option (List ℕ) → (walk.WalkState State → Result A (tree.Cause Move)) → (X → List ℕ → ℕ → A) → Result X Stop → Type 0
-Walks old new before after walk got result = Says (to_come old.reader before) (to_come new.reader after) old.room new.room (λ bytes n. walk (state_at old bytes n)) got result
+-- the reader of the machine reads, and a place is kept in the table for each open node that is named
+pub record IsReady (version : ℕ) (m : Machine) : Type 0 where
+  pub reader : IsReading version m.input.reader
+  pub kept : m.names.table.kept ≡ named_at m.stack
 
--- for each record that was read, few of the bytes to come were taken
-abbrev pub WalksOn : {X : Type 0} → Machine → Machine → Option (List ℕ) → Option (List ℕ) → Result X Stop → Type 0
-WalksOn old new before after result = TakesFew (to_come old.reader before) (to_come new.reader after) after old.records new.records result
+-- ---- a piece of the walk done by code, from one point to another
+-- the code answered what the walk answers from the state of the first: a value, seen by got with the state of the second, or a stop
+abbrev pub Walks : {X A : Type 0} → Point → Point → (walk.WalkState State → Result A (tree.Cause Move)) → (X → walk.WalkState State → A) → Result X Stop → Type 0
+Walks old new walk got result = Says old.known new.known old.room new.room (λ bytes n. walk (state_of old bytes n)) (λ x rest n. got x (state_of new rest n)) result
+
+-- for each record that was read, few of the bytes to come were taken; after a stop, by what is left in the source
+abbrev pub WalksOn : {X : Type 0} → Point → Point → Option (List ℕ) → Result X Stop → Type 0
+WalksOn old new left result = TakesFew old.known new.known left old.records new.records result
+
+-- ---- the same from one machine to another, with what the source tells before and after
+-- the walk leads to the work that the machine then holds
+abbrev pub Works : (r : tree.Rules State Move) → Machine → Machine → Option (List ℕ) → Option (List ℕ) → ((r : tree.Rules State Move) → walk.WalkState State → Result (frames.Work r) (tree.Cause Move)) → Result (Unit {0}) Halt → Type 0
+Works r old new before after walk result = Walks (point_at old before) (point_at new after) (walk r) (λ _ s. record { frames = stack_at new.stack; found = new.stack.fertile; state = s }) (stops (game_at new.stack) result)
+
+-- the walk visits a subtree, and the machine then says whether it is fertile
+abbrev pub Visits : Machine → Machine → Option (List ℕ) → Option (List ℕ) → (walk.WalkState State → Result (Bool × walk.WalkState State) (tree.Cause Move)) → Result (Unit {0}) Halt → Type 0
+Visits old new before after walk result = Walks (point_at old before) (point_at new after) walk (λ _ s. (new.stack.fertile, s)) (stops (game_at new.stack) result)
+
+-- what any piece of the walk keeps, by what the source tells, whether it has failed by then, and what was answered
+pub record GoesOn (version : ℕ) (old new : Machine) (before after : Option (List ℕ)) (failed : Bool) (result : Result (Unit {0}) Halt) : Type 0 where
+  -- where it does not stop, the machine can go on
+  pub ready : OnOk result (IsReady version new)
+  -- a read stops it only where the source has failed
+  pub fails : FailsRead failed (stops [] result)
+  -- few of the bytes to come were taken
+  pub few : WalksOn (point_at old before) (point_at new after) after (stops [] result)

@@ -7,7 +7,7 @@ use Rattle.pg_checker.proofs.Planting.{Trees}
 use Rattle.pg_checker.proofs.walk.all_trees.Given as goal
 
 abbrev pub invariant-loop-halt : goal.invariant-loop-halt
-invariant-loop-halt g l = Trees l.question.diagram.now l.question.plies l.question.games.now (cuts_for (λ b. (goal.Bound-dyn g (b.vtable, b.value)).code_of b.value) (λ b. (goal.Bound-dyn g (b.vtable, b.value)).excluded b.value) l.question) array_state (to_come l.initial.machine.reader (g.S.Source.left l.initial.source)) (to_come l.machine.reader (g.S.Source.left l.source)) l.tree l.initial.machine l.machine
+invariant-loop-halt g l = Trees l.question.diagram.now l.question.plies l.question.games.now (cuts_for (λ b. (goal.Bound-dyn g (b.vtable, b.value)).code_of b.value) (λ b. (goal.Bound-dyn g (b.vtable, b.value)).excluded b.value) l.question) array_state (to_come l.initial.machine.input.reader (g.S.Source.left l.initial.source)) (to_come l.machine.input.reader (g.S.Source.left l.source)) l.tree l.initial.machine l.machine
 
 abbrev pub decreases-loop-halt : goal.decreases-loop-halt
 decreases-loop-halt g l = l.question.plies - l.tree

@@ -8,19 +8,19 @@ use Rattle.pg_checker.proofs.Enters.{enter_leaf, enter_halt, enter_unread, enter
 use Rattle.pg_checker.proofs.walk.enter.Goals as goal
 
 pub returns-in-Ok-clause-says : goal.returns-in-Ok-clause-says
-returns-in-Ok-clause-says g c = enter_leaf c.args.question.now.diagram.now c.args.question.now.plies c.args.question.now.games.now (cuts_for (λ b. (goal.Bound-dyn g (b.vtable, b.value)).code_of b.value) (λ b. (goal.Bound-dyn g (b.vtable, b.value)).excluded b.value) c.args.question.now) c.args.tree c.args.left (spot_of c.args.spot.now) (to_come c.args.machine.now.reader (g.S.Source.left c.args.source.now)) c.args.machine.now c.as_slice.result.now c.in-Ok.found c.if-left-eq0.true c.as_slice.ensures.value c.in-Ok.ensures
+returns-in-Ok-clause-says g c = enter_leaf c.args.question.now.diagram.now c.args.question.now.plies c.args.question.now.games.now (cuts_for (λ b. (goal.Bound-dyn g (b.vtable, b.value)).code_of b.value) (λ b. (goal.Bound-dyn g (b.vtable, b.value)).excluded b.value) c.args.question.now) c.args.tree c.args.left (spot_of c.args.spot.now) (to_come c.args.machine.now.input.reader (g.S.Source.left c.args.source.now)) c.args.machine.now c.as_slice.result.now c.in-Ok.fertile c.if-left-eq0.true c.as_slice.ensures.value c.in-Ok.ensures
 
 pub returns-in-Err-clause-says : goal.returns-in-Err-clause-says
-returns-in-Err-clause-says g c = enter_halt c.args.question.now.diagram.now c.args.question.now.plies c.args.question.now.games.now (cuts_for (λ b. (goal.Bound-dyn g (b.vtable, b.value)).code_of b.value) (λ b. (goal.Bound-dyn g (b.vtable, b.value)).excluded b.value) c.args.question.now) c.args.tree c.args.left (spot_of c.args.spot.now) (to_come c.args.machine.now.reader (g.S.Source.left c.args.source.now)) c.args.machine.now c.as_slice.result.now c.in-Err.reason c.if-left-eq0.true c.as_slice.ensures.value c.in-Err.ensures
+returns-in-Err-clause-says g c = enter_halt c.args.question.now.diagram.now c.args.question.now.plies c.args.question.now.games.now (cuts_for (λ b. (goal.Bound-dyn g (b.vtable, b.value)).code_of b.value) (λ b. (goal.Bound-dyn g (b.vtable, b.value)).excluded b.value) c.args.question.now) c.args.tree c.args.left (spot_of c.args.spot.now) (to_come c.args.machine.now.input.reader (g.S.Source.left c.args.source.now)) c.args.machine.now c.as_slice.result.now c.in-Err.reason c.if-left-eq0.true c.as_slice.ensures.value c.in-Err.ensures
 
 pub returns-in-Ok-Done-clause-says : goal.returns-in-Ok-Done-clause-says
-returns-in-Ok-Done-clause-says g c = enter_done c.args.question.now.diagram.now c.args.question.now.plies c.args.question.now.games.now (cuts_for (λ b. (goal.Bound-dyn g (b.vtable, b.value)).code_of b.value) (λ b. (goal.Bound-dyn g (b.vtable, b.value)).excluded b.value) c.args.question.now) c.args.tree c.args.left (spot_of c.args.spot.now) (to_come c.args.machine.now.reader (g.S.Source.left c.args.source.now)) (to_come c.head.new.machine.reader (g.S.Source.left c.head.new.source)) c.args.machine.now c.head.new.machine c.in-Ok-Done.field-0 c.in-Ok-Done.field-0-is (let ne : c.args.left ≢ 0 = c.if-left-eq0.false in omega arith) c.head.ensures.frames (c.in-Ok-Done.ensures.says [])
+returns-in-Ok-Done-clause-says g c = enter_done c.args.question.now.diagram.now c.args.question.now.plies c.args.question.now.games.now (cuts_for (λ b. (goal.Bound-dyn g (b.vtable, b.value)).code_of b.value) (λ b. (goal.Bound-dyn g (b.vtable, b.value)).excluded b.value) c.args.question.now) c.args.tree c.args.left (spot_of c.args.spot.now) (to_come c.args.machine.now.input.reader (g.S.Source.left c.args.source.now)) (to_come c.judge_next.new.input.reader (g.S.Source.left c.judge_next.new.source)) c.args.machine.now (record c.args.machine.now { input = c.judge_next.new.input; names = c.judge_next.new.names }) c.in-Ok-Done.field-0 c.in-Ok-Done.field-0-is (let ne : c.args.left ≢ 0 = c.if-left-eq0.false in omega arith) refl (c.in-Ok-Done.ensures.says [])
 
 pub returns-in-Ok-Opened-clause-says : goal.returns-in-Ok-Opened-clause-says
-returns-in-Ok-Opened-clause-says g c = enter_opened c.args.question.now.diagram.now c.args.question.now.plies c.args.question.now.games.now (cuts_for (λ b. (goal.Bound-dyn g (b.vtable, b.value)).code_of b.value) (λ b. (goal.Bound-dyn g (b.vtable, b.value)).excluded b.value) c.args.question.now) c.args.tree c.args.left (spot_of c.args.spot.now) (to_come c.args.machine.now.reader (g.S.Source.left c.args.source.now)) (to_come c.head.new.machine.reader (g.S.Source.left c.head.new.source)) c.args.machine.now c.head.new.machine (record c.head.new.machine { frames = c.open_node.new.frames; found = false }) c.in-Ok-Opened.field-0 c.in-Ok-Opened.named c.in-Ok-Opened.field-0-is (let ne : c.args.left ≢ 0 = c.if-left-eq0.false in omega arith) c.head.ensures.frames refl refl refl refl c.open_node.ensures (c.in-Ok-Opened.ensures.says [])
+returns-in-Ok-Opened-clause-says g c = enter_opened c.args.question.now.diagram.now c.args.question.now.plies c.args.question.now.games.now (cuts_for (λ b. (goal.Bound-dyn g (b.vtable, b.value)).code_of b.value) (λ b. (goal.Bound-dyn g (b.vtable, b.value)).excluded b.value) c.args.question.now) c.args.tree c.args.left (spot_of c.args.spot.now) (to_come c.args.machine.now.input.reader (g.S.Source.left c.args.source.now)) (to_come c.judge_next.new.input.reader (g.S.Source.left c.judge_next.new.source)) c.args.machine.now (record c.args.machine.now { input = c.judge_next.new.input; names = c.judge_next.new.names }) (record { input = c.judge_next.new.input; names = c.judge_next.new.names; stack = record { frames = c.open_node.new.frames; fertile = false } }) c.in-Ok-Opened.field-0 c.in-Ok-Opened.named c.in-Ok-Opened.field-0-is (let ne : c.args.left ≢ 0 = c.if-left-eq0.false in omega arith) refl refl refl refl refl c.open_node.ensures (c.in-Ok-Opened.ensures.says [])
 
-pub returns-in-Ok-Opened-clause-kept : goal.returns-in-Ok-Opened-clause-kept
-returns-in-Ok-Opened-clause-kept g c = kept_opened c.args.question.now.diagram.now c.args.question.now.plies c.args.question.now.games.now (cuts_for (λ b. (goal.Bound-dyn g (b.vtable, b.value)).code_of b.value) (λ b. (goal.Bound-dyn g (b.vtable, b.value)).excluded b.value) c.args.question.now) c.args.tree c.args.left (spot_of c.args.spot.now) c.args.machine.now c.head.new.machine (record c.head.new.machine { frames = c.open_node.new.frames; found = false }) c.in-Ok-Opened.field-0 c.in-Ok-Opened.named c.in-Ok-Opened.field-0-is c.head.ensures.frames c.in-Ok-Opened.ensures.kept c.requires.kept c.open_node.ensures
+pub returns-in-Ok-Opened-clause-keeps : goal.returns-in-Ok-Opened-clause-keeps
+returns-in-Ok-Opened-clause-keeps g c = record { ready = record { reader = c.in-Ok-Opened.ensures.ready; kept = kept_opened c.args.question.now.diagram.now c.args.question.now.plies c.args.question.now.games.now (cuts_for (λ b. (goal.Bound-dyn g (b.vtable, b.value)).code_of b.value) (λ b. (goal.Bound-dyn g (b.vtable, b.value)).excluded b.value) c.args.question.now) c.args.tree c.args.left (spot_of c.args.spot.now) c.args.machine.now (record c.args.machine.now { input = c.judge_next.new.input; names = c.judge_next.new.names }) (record { input = c.judge_next.new.input; names = c.judge_next.new.names; stack = record { frames = c.open_node.new.frames; fertile = false } }) c.in-Ok-Opened.field-0 c.in-Ok-Opened.named c.in-Ok-Opened.field-0-is refl c.in-Ok-Opened.ensures.kept c.requires.ready.kept c.open_node.ensures }; fails = tt; few = c.in-Ok-Opened.ensures.few }
 
-pub returns-in-Err-head-clause-says : goal.returns-in-Err-head-clause-says
-returns-in-Err-head-clause-says g c = enter_unread c.args.question.now.diagram.now c.args.question.now.plies c.args.question.now.games.now (cuts_for (λ b. (goal.Bound-dyn g (b.vtable, b.value)).code_of b.value) (λ b. (goal.Bound-dyn g (b.vtable, b.value)).excluded b.value) c.args.question.now) c.args.tree c.args.left (spot_of c.args.spot.now) (to_come c.args.machine.now.reader (g.S.Source.left c.args.source.now)) c.args.machine.now (full (path (reverse c.head.new.machine.frames.items)) c.in-Err-head.halt) (let ne : c.args.left ≢ 0 = c.if-left-eq0.false in omega arith) (c.in-Err-head.ensures.says (path (reverse c.head.new.machine.frames.items)))
+pub returns-in-Err-judge_next-clause-says : goal.returns-in-Err-judge_next-clause-says
+returns-in-Err-judge_next-clause-says g c = enter_unread c.args.question.now.diagram.now c.args.question.now.plies c.args.question.now.games.now (cuts_for (λ b. (goal.Bound-dyn g (b.vtable, b.value)).code_of b.value) (λ b. (goal.Bound-dyn g (b.vtable, b.value)).excluded b.value) c.args.question.now) c.args.tree c.args.left (spot_of c.args.spot.now) (to_come c.args.machine.now.input.reader (g.S.Source.left c.args.source.now)) c.args.machine.now (full (path (reverse c.args.machine.now.stack.frames.items)) c.in-Err-judge_next.halt) (let ne : c.args.left ≢ 0 = c.if-left-eq0.false in omega arith) (c.in-Err-judge_next.ensures.says (path (reverse c.args.machine.now.stack.frames.items)))
