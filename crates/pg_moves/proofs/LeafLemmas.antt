@@ -119,7 +119,7 @@ module _ (p : State) (k : Kind) (r set : ℕ) (low : r < 64) (here : Stands p.bo
   -- its legal moves are its advances
   free_forth : (m : Move) → IsLegal p m → m.from ≡ r → (m.to < 64) × Advances p.board p.side k r m.to
   unfolding Goals IsFree IsOrdinary
-  free_forth m l f = let g : (m.to < 64) × Goals p k r m.to = legal_goals p k r here p.board p.side refl refl m l f in (
+  free_forth m l f = let g : (m.to < 64) × Goals p k r m.to = legal_goals p k r here m l f in (
     g.0,
     elim g.1 [
       | inl a ↦ a

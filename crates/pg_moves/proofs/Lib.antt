@@ -9,6 +9,7 @@ pub mod LeftLemmas
 pub mod PlayLemmas
 pub mod LineLemmas
 pub mod ShelterLemmas
+pub mod ParryLemmas
 pub mod LeafLemmas
 pub mod GameLemmas
 pub mod CountLemmas
