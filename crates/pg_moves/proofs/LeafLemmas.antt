@@ -51,7 +51,7 @@ pub count_push : (p : State) (n k : ℕ) (m : Move) → IsCountBelow p k n → I
 unfolding IsCountBelow
 count_push p n k m (ms, list, e) legal at = (ms ++ m ∷ [], list_push p k ms m list legal at, (let f : length (ms ++ m ∷ []) ≡ length ms + 1 = length-append ms (m ∷ []) in omega arith))
 
-ones : (ms : List Move) (f : Move → ℕ) → ((m : Move) → f m ≡ 1) → sum_by f ms ≡ length ms
+pub ones : (ms : List Move) (f : Move → ℕ) → ((m : Move) → f m ≡ 1) → sum_by f ms ≡ length ms
 ones [] f h = refl
 ones (m ∷ ms) f h = let a : f m ≡ 1 = h m in let b : sum_by f ms ≡ length ms = ones ms f h in omega (arith, sum_by-cons f m ms)
 

@@ -11,6 +11,7 @@ pub mod LineLemmas
 pub mod ShelterLemmas
 pub mod ParryLemmas
 pub mod LeafLemmas
+pub mod PairLemmas
 pub mod GameLemmas
 pub mod CountLemmas
 pub mod BareLemmas
