@@ -225,7 +225,7 @@ pub one_less : (k : ℕ) → 2 ≤ k → suc (k - 1) ≡ k
 one_less k some = omega arith
 
 module _ (p : State) (k j : ℕ) (ms : List Move) (pos : IsPosition p) (list : IsMoveList p ms) (less : suc j ≡ k) where
-  whole : sum_by (follow p j) ms ≡ number_of k p
+  pub whole : sum_by (follow p j) ms ≡ number_of k p
   unfolding follow
   whole = ap (sum_by (follow p j)) (move_list_is p ms list) ∙ sym (number_more j p) ∙ ap (λ i. number_of i p) less
 

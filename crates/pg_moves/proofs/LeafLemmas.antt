@@ -51,7 +51,7 @@ pub count_push : (p : State) (n k : ℕ) (m : Move) → IsCountBelow p k n → I
 unfolding IsCountBelow
 count_push p n k m (ms, list, e) legal at = (ms ++ m ∷ [], list_push p k ms m list legal at, (let f : length (ms ++ m ∷ []) ≡ length ms + 1 = length-append ms (m ∷ []) in omega arith))
 
-ones : (ms : List Move) (f : Move → ℕ) → ((m : Move) → f m ≡ 1) → sum_by f ms ≡ length ms
+pub ones : (ms : List Move) (f : Move → ℕ) → ((m : Move) → f m ≡ 1) → sum_by f ms ≡ length ms
 ones [] f h = refl
 ones (m ∷ ms) f h = let a : f m ≡ 1 = h m in let b : sum_by f ms ≡ length ms = ones ms f h in omega (arith, sum_by-cons f m ms)
 
@@ -119,7 +119,7 @@ module _ (p : State) (k : Kind) (r set : ℕ) (low : r < 64) (here : Stands p.bo
   -- its legal moves are its advances
   free_forth : (m : Move) → IsLegal p m → m.from ≡ r → (m.to < 64) × Advances p.board p.side k r m.to
   unfolding Goals IsFree IsOrdinary
-  free_forth m l f = let g : (m.to < 64) × Goals p k r m.to = legal_goals p k r here p.board p.side refl refl m l f in (
+  free_forth m l f = let g : (m.to < 64) × Goals p k r m.to = legal_goals p k r here m l f in (
     g.0,
     elim g.1 [
       | inl a ↦ a

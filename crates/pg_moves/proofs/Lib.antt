@@ -9,7 +9,9 @@ pub mod LeftLemmas
 pub mod PlayLemmas
 pub mod LineLemmas
 pub mod ShelterLemmas
+pub mod ParryLemmas
 pub mod LeafLemmas
+pub mod PairLemmas
 pub mod GameLemmas
 pub mod CountLemmas
 pub mod BareLemmas

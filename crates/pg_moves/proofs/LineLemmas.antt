@@ -1,9 +1,9 @@
 -- Squares between others.
 use Rattle.std.proofs.Common.{◌≡◌, ℕ, ◌+◌, ◌-◌, inl, inr, sym, arith, ◌∙◌}
 use Rattle.pg_board.specs.declared.man.Color.{Color}
-use Rattle.pg_board.specs.declared.man.Kind.TheVariants.{Queen}
+use Rattle.pg_board.specs.declared.man.Kind.TheVariants.{Bishop, Rook, Queen}
 use Rattle.pg_board.specs.Squares.{file, rank}
-use Rattle.pg_position.specs.Geometry.{apart, InPattern, IsWithin, IsBetween}
+use Rattle.pg_position.specs.Geometry.{apart, OnOneDiagonal, InPattern, IsWithin, IsBetween}
 
 -- on a line, by numbers
 
@@ -26,6 +26,21 @@ less x r h a = omega arith
 line_same : (x t h : ℕ) → IsWithin x t h → x ≡ h → (x ≡ t) × (t ≡ h)
 line_same x t h w e = let s : t ≡ x = within_same x t h w e in (sym s, s ∙ e)
 
+-- on a diagonal its end is on one with each square within it
+diagonal_back : (x r h : ℕ) → IsWithin (file x) (file r) (file h) → IsWithin (rank x) (rank r) (rank h) → OnOneDiagonal x r → OnOneDiagonal x h → OnOneDiagonal h r
+diagonal_back x r h wf wr a b =
+    let f : apart (file r) (file h) ≡ apart (file x) (file h) - apart (file x) (file r) = less (file x) (file r) (file h) wf in
+    let g : apart (rank r) (rank h) ≡ apart (rank x) (rank h) - apart (rank x) (rank r) = less (rank x) (rank r) (rank h) wr in
+    let p : apart (file x) (file r) ≡ apart (rank x) (rank r) = a in
+    let q : apart (file x) (file h) ≡ apart (rank x) (rank h) = b in
+    turned (file r) (file h) (rank r) (rank h) (f ∙ both _ _ _ _ q p ∙ sym g)
+  where
+    turned : (a b c d : ℕ) → apart a b ≡ apart c d → apart b a ≡ apart d c
+    turned a b c d e = omega arith
+
+    both : (a b c d : ℕ) → a ≡ b → c ≡ d → a - c ≡ b - d
+    both a b c d e f = omega arith
+
 -- the end of a line sees each square within it along a queen's line
 pub seen_back : (c : Color) (x r h : ℕ) → IsBetween x r h → InPattern c Queen h r
 unfolding IsBetween InPattern
@@ -36,20 +51,36 @@ seen_back c x r h (n, m, wf, wr, z) = (
       | inl e ↦ inl (inl (sym (line_same (file x) (file r) (file h) wf e).1))
       | inr e ↦ inl (inr (sym (line_same (rank x) (rank r) (rank h) wr e).1))
     ]
-    | inr (a, b) ↦ inr (
-        let f : apart (file r) (file h) ≡ apart (file x) (file h) - apart (file x) (file r) = less (file x) (file r) (file h) wf in
-        let g : apart (rank r) (rank h) ≡ apart (rank x) (rank h) - apart (rank x) (rank r) = less (rank x) (rank r) (rank h) wr in
-        let p : apart (file x) (file r) ≡ apart (rank x) (rank r) = a in
-        let q : apart (file x) (file h) ≡ apart (rank x) (rank h) = b in
-        turned (file r) (file h) (rank r) (rank h) (f ∙ both _ _ _ _ q p ∙ sym g))
+    | inr (a, b) ↦ inr (diagonal_back x r h wf wr a b)
+  ],
+)
+
+-- a rook at the end of a line sees each square within it, and so does a bishop
+pub rook_within : (c : Color) (x r h : ℕ) → InPattern c Rook h x → IsBetween x r h → InPattern c Rook h r
+unfolding InPattern IsBetween
+rook_within c x r h (d, l) (n, m, wf, wr, z) = (
+  λ e. m (sym e),
+  elim l [
+    | inl e ↦ inl (sym (line_same (file x) (file r) (file h) wf (sym e)).1)
+    | inr e ↦ inr (sym (line_same (rank x) (rank r) (rank h) wr (sym e)).1)
+  ],
+)
+
+pub bishop_within : (c : Color) (x r h : ℕ) → InPattern c Bishop h x → IsBetween x r h → InPattern c Bishop h r
+unfolding InPattern IsBetween
+bishop_within c x r h (d, l) (n, m, wf, wr, z) = (
+  λ e. m (sym e),
+  elim z [
+    | inl o ↦ absurd (elim o [
+      | inl e ↦ d (same_square h x (sym e) (flat (file h) (file x) (rank h) (rank x) l (sym e)))
+      | inr e ↦ d (same_square h x (flat (rank h) (rank x) (file h) (file x) (sym l) (sym e)) (sym e))
+    ])
+    | inr (a, b) ↦ diagonal_back x r h wf wr a b
   ],
 )
   where
-    turned : (a b c d : ℕ) → apart a b ≡ apart c d → apart b a ≡ apart d c
-    turned a b c d e = omega arith
-
-    both : (a b c d : ℕ) → a ≡ b → c ≡ d → a - c ≡ b - d
-    both a b c d e f = omega arith
+    flat : (a b c d : ℕ) → apart a b ≡ apart c d → a ≡ b → c ≡ d
+    flat a b c d e f = omega arith
 
 diagonal_more : (a b c d e f g h : ℕ) → IsWithin a b c → IsWithin c d b → IsWithin e f g → IsWithin g h f → apart a c ≡ apart e g → apart c d ≡ apart g h → apart a d ≡ apart e h
 diagonal_more a b c d e f g h p q r s u v =

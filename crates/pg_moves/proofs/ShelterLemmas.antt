@@ -85,7 +85,7 @@ gone_plain b c k r s low to ne here = record {
 }
 
 -- a man goes to a square without a man of its own
-advance_off : (b : Placement) (c : Color) (k : Kind) (r s : ℕ) → Advances b c k r s → (j : Kind) → ¬ Stands b c j s
+pub advance_off : (b : Placement) (c : Color) (k : Kind) (r s : ℕ) → Advances b c k r s → (j : Kind) → ¬ Stands b c j s
 unfolding Advances Strides Leaps IsEnemy
 advance_off b c k r s (inl (inl h)) j own = let e : get b s ≡ None = h.0 in let f : get b s ≡ Some (man c j) = own in cc
 advance_off b c k r s (inl (inr h)) j own = not_other c (same_side own h.0.1)

@@ -25,7 +25,7 @@ use Rattle.pg_position.specs.Squares.{ahead, HasAhead, home_rank}
 use Rattle.pg_position.proofs.StepLemmas.{same_kind, same_side, not_other}
 use Rattle.pg_position.proofs.LineLemmas.{pawn_near}
 use Rattle.pg_board.proofs.SetLemmas.{set_like, set_of_union, set_of_both, set_of_rest, set_none}
-use Rattle.pg_moves.specs.Targets.{IsOwn, Strides, Leaps, Advances, CapturesEnPassant, Covers}
+use Rattle.pg_moves.specs.Targets.{IsOwn, Strides, Leaps, Advances, CapturesEnPassant}
 
 -- ---- what stands on a square
 of_decides : (c : Color) (o : Option Man) → Decides (is_of c o) ((k : Kind) × (o ≡ Some (man c k)))
@@ -162,23 +162,10 @@ goals p k m EnPassant h = inr (inl (h.pawn, (h.passed, h.reaches)))
 goals p k m (Promotion x) h = inl (inl h.moves)
 goals p k m (Castling w) h = inr (inr h.king)
 
-module _ (p : State) (k : Kind) (r : ℕ) (here : Stands p.board p.side k r) (b : Placement) (c : Color) (eb : b ≡ p.board) (ec : c ≡ p.side) where
-  at_state : (x : ℕ) → IsSetOf x (Advances b c k r) → IsSetOf x (Advances p.board p.side k r)
-  at_state x h = subst (λ (y : Placement). IsSetOf x (Advances y p.side k r)) eb (subst (λ (d : Color). IsSetOf x (Advances b d k r)) ec h)
-
+module _ (p : State) (k : Kind) (r : ℕ) (here : Stands p.board p.side k r) where
   pub legal_goals : (m : Move) → IsLegal p m → m.from ≡ r → (m.to < 64) × Goals p k r m.to
   unfolding Step
   legal_goals m (q, ((j, w, on, stands, way, e), safe)) f =
       let there : Stands p.board p.side j r = subst (λ (s : ℕ). Stands p.board p.side j s) f stands in
       let same : j ≡ k = same_kind there here in
       (on.1, subst (λ (s : ℕ). Goals p k s m.to) f (subst (λ (x : Kind). Goals p x m.from m.to) same (goals p j m w way)))
-
-  pub covers_pawn : (x y n : ℕ) → k ≡ Pawn → IsSetOf x (Advances b c k r) → IsSetOf y (CapturesEnPassant p r) → ((q : ℕ) → has n q ≡ has x q || has y q) → Covers p r n
-  unfolding Covers Goals
-  covers_pawn x y n e a z either m l f = let g : (m.to < 64) × Goals p k r m.to = legal_goals m l f in
-      (set_of_union n x y either (at_state x a) z m.to g.0).1 (elim g.1 [ inl t ↦ inl t | inr (inl t) ↦ inr t.1 | inr (inr t) ↦ absurd (let o : k ≡ King = t in cc) ])
-
-  pub covers_piece : (x : ℕ) → k ≢ Pawn → k ≢ King → IsSetOf x (Advances b c k r) → Covers p r x
-  unfolding Covers Goals
-  covers_piece x n o a m l f = let g : (m.to < 64) × Goals p k r m.to = legal_goals m l f in
-      (at_state x a m.to g.0).1 (elim g.1 [ inl t ↦ t | inr (inl t) ↦ absurd (n t.0) | inr (inr t) ↦ absurd (o t) ])

@@ -1,3 +1,4 @@
 pub mod Places
 pub mod Pawns
 pub mod Sources
+pub mod Parries

@@ -3,6 +3,7 @@ ghost use Rattle.std.specs.Prelude.{◌≡◌, ◌<◌, ◌≤◌, ◌↔◌, If
 ghost use Rattle.pg_moves.specs.Moves.{IsMoveList};
 ghost use Rattle.pg_moves.specs.Counts.{IsGameCount, IsCountFault};
 
+use crate::cursor::LegalMoves;
 use crate::fault::CountFault;
 use crate::generate::legal_moves;
 use crate::leaves::count_moves;
@@ -27,6 +28,21 @@ fn tell<P: CountProgress>(plies: u8, games: u64, watch: &mut P) {
     }
 }
 
+// The games of two plies. Most positions of a count are counted so: their moves are kept in no list.
+#[inline(always)]
+fn count_two(position: &Position) -> u64
+    ensures { IsGameCount position.now 2 result }
+{
+    // A fact for the proof: what is handed in is a position.
+    position.side();
+    let mut total = 0;
+    let mut left = LegalMoves::new(position);
+    while let Some(m) = left.next() {
+        total += count_moves(&position.after(&m));
+    }
+    total
+}
+
 // The games of so many plies, 8 at most.
 #[cycle(count)]
 #[inline(always)]
@@ -44,6 +60,7 @@ fn count_from<P: CountProgress>(
     match plies {
         0 => Ok(1),
         1 => Ok(count_moves(position)),
+        2 => Ok(count_two(position)),
         _ => count_listed(alloc, position, plies, watch),
     }
 }

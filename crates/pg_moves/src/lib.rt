@@ -8,6 +8,7 @@ mod generate;
 mod kings;
 mod laws;
 mod leaves;
+mod parries;
 mod pawns;
 mod pins;
 mod places;

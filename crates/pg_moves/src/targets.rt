@@ -7,6 +7,7 @@ ghost use Rattle.pg_position.specs.Position.{Stands, IsVacant};
 ghost use Rattle.pg_position.specs.Squares.{ahead, home_rank};
 ghost use Rattle.pg_moves.specs.Targets.{IsOwn, Strides, Leaps, Advances, CapturesEnPassant, Covers};
 
+use crate::parries::parries;
 use pg_board::{Board, Color, Kind, Man, Square, SquareSet};
 use pg_position::{Position, ahead, attacks_from, has_ahead, home_rank, is_vacant};
 
@@ -94,8 +95,9 @@ pub(crate) fn targets(position: &Position, kind: Kind, from: Square) -> SquareSe
 {
     let board = position.board();
     let side = position.side();
+    let steps = advances(&board, side, kind, from) & parries(position, from);
     match kind {
-        Kind::Pawn => advances(&board, side, kind, from) | en_passant_targets(position, from),
-        _ => advances(&board, side, kind, from),
+        Kind::Pawn => steps | en_passant_targets(position, from),
+        _ => steps,
     }
 }

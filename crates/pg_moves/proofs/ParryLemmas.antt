@@ -1,0 +1,175 @@
+-- Moves off the squares where a check is parried leave their king attacked.
+use Rattle.std.proofs.Common.{◌≡◌, ◌≢◌, ℕ, ◌<◌, ◌⊎◌, inl, inr, Bool, true, false, ◌&&◌, ◌||◌, Option, Some, None, refl, sym, ap, subst, ◌∙◌, arith}
+use Rattle.std.proofs.lemmas.Bool.Decides.{Decides-at}
+use Rattle.pg_board.specs.declared.man.Color.{Color}
+use Rattle.pg_board.specs.declared.man.Kind.{Kind}
+use Rattle.pg_board.specs.declared.man.Kind.TheVariants.{Pawn, Knight, Bishop, Rook, Queen, King}
+use Rattle.pg_board.specs.declared.man.Man.{Man}
+use Rattle.pg_board.specs.Bits.{has}
+use Rattle.pg_board.specs.Men.{man, other, is_man}
+use Rattle.pg_board.specs.lemmas.Equalities.{is_man_decides}
+use Rattle.pg_board.specs.Placement.{Placement, get, write, without}
+use Rattle.pg_board.specs.lemmas.Placements.{get-write_other}
+use Rattle.pg_board.specs.SquareSets.{IsSetOf, Meet}
+use Rattle.pg_board.proofs.SetLemmas.{second, set_of_union, set_of_both}
+use Rattle.pg_position.specs.declared.state.State.{State}
+use Rattle.pg_position.specs.declared.moves.Move.{Move}
+use Rattle.pg_position.specs.declared.moves.Way.{Way}
+use Rattle.pg_position.specs.declared.moves.Way.TheVariants.{Plain, Capture, DoubleAdvance, EnPassant, Promotion, Castling}
+use Rattle.pg_position.specs.Geometry.{InPattern, IsBetween}
+use Rattle.pg_position.specs.Attack.{IsClear, Reaches, AttacksFrom, Attacks}
+use Rattle.pg_position.specs.Position.{Stands, IsOnlyKing, InCheck}
+use Rattle.pg_position.specs.Step.{IsLegal, IsWay, board_after, Step}
+use Rattle.pg_position.proofs.StepLemmas.{same_kind}
+use Rattle.pg_position.proofs.LineLemmas.{knight_near}
+use Rattle.pg_position.proofs.ReachLemmas.{between_turn}
+use Rattle.pg_moves.specs.Targets.{Strides, Leaps, Advances, CapturesEnPassant, Covers}
+use Rattle.pg_moves.specs.inner.Parries.{StaysAttacked, IsInVain}
+use Rattle.pg_moves.proofs.LineLemmas.{rook_within, bishop_within, between_more}
+use Rattle.pg_moves.proofs.ShelterLemmas.{advance_off}
+use Rattle.pg_moves.proofs.ShiftLemmas.{itself}
+
+-- ---- an attack that stays
+module _ (b : Placement) (f : Color) (k : Kind) (h seen : ℕ) (sees : IsSetOf seen (Reaches b f k h)) where
+  -- a man of kind j is seen from h, and would see back: off what is seen his attack stays
+  stays : (j : Kind) (x s : ℕ) → x < 64 → s < 64 → get b x ≡ Some (man f j) → (InPattern f k h x → InPattern f j x h) → (InPattern f k h x → IsBetween x s h → InPattern f k h s) → has seen x ≡ true → has seen s ≡ false → StaysAttacked b f h s
+  unfolding StaysAttacked AttacksFrom IsClear
+  stays j x s low on at turn within visible off =
+      let r : Reaches b f k h x = (sees x low).0 visible in
+      let clear : (t : ℕ) → t < 64 → IsBetween x t h → get b t ≡ None = (λ t l bet. r.1 t l (between_turn x t h bet)) in (
+        x,
+        low,
+        (j, at, (turn r.0, clear)),
+        λ e. (let same : has seen x ≡ has seen s = ap (has seen) e in cc),
+        λ bet. (let there : has seen s ≡ true = (sees s on).1 (within r.0 bet, λ t l near. clear t l (between_more x s h t bet near)) in cc),
+      )
+
+  men_are : (j : Kind) (men : ℕ) → ((q : ℕ) → q < 64 → has men q ≡ is_man (man f j) (get b q)) → IsSetOf men (λ q. get b q ≡ Some (man f j))
+  men_are j men are q l = Decides-at _ _ (are q l) (is_man_decides (man f j) (get b q))
+
+  -- a line and its men, and the queens
+  module _ (slides : (k ≡ Rook) ⊎ (k ≡ Bishop)) where
+    turned : (x : ℕ) → InPattern f k h x → InPattern f k x h
+    unfolding InPattern
+    turned x p = elim slides [
+      | inl e ↦ subst (λ (j : Kind). InPattern f j x h) (sym e) (rook_turned x (subst (λ (j : Kind). InPattern f j h x) e p))
+      | inr e ↦ subst (λ (j : Kind). InPattern f j x h) (sym e) (bishop_turned x (subst (λ (j : Kind). InPattern f j h x) e p))
+    ]
+      where
+        rook_turned : (x : ℕ) → InPattern f Rook h x → InPattern f Rook x h
+        rook_turned x (n, l) = (λ e. n (sym e), elim l [ inl e ↦ inl (sym e) | inr e ↦ inr (sym e) ])
+
+        bishop_turned : (x : ℕ) → InPattern f Bishop h x → InPattern f Bishop x h
+        bishop_turned x (n, l) = (λ e. n (sym e), omega arith)
+
+    as_queen : (x : ℕ) → InPattern f k x h → InPattern f Queen x h
+    unfolding InPattern
+    as_queen x p = elim slides [
+      | inl e ↦ of_rook x (subst (λ (j : Kind). InPattern f j x h) e p)
+      | inr e ↦ of_bishop x (subst (λ (j : Kind). InPattern f j x h) e p)
+    ]
+      where
+        of_rook : (x : ℕ) → InPattern f Rook x h → InPattern f Queen x h
+        of_rook x (n, l) = (n, inl l)
+
+        of_bishop : (x : ℕ) → InPattern f Bishop x h → InPattern f Queen x h
+        of_bishop x (n, l) = (n, inr l)
+
+    inside : (x s : ℕ) → InPattern f k h x → IsBetween x s h → InPattern f k h s
+    inside x s p bet = elim slides [
+      | inl e ↦ subst (λ (j : Kind). InPattern f j h s) (sym e) (rook_within f x s h (subst (λ (j : Kind). InPattern f j h x) e p) bet)
+      | inr e ↦ subst (λ (j : Kind). InPattern f j h s) (sym e) (bishop_within f x s h (subst (λ (j : Kind). InPattern f j h x) e p) bet)
+    ]
+
+    pub line_stays : (own queens men : ℕ) → ((q : ℕ) → q < 64 → has own q ≡ is_man (man f k) (get b q)) → ((q : ℕ) → q < 64 → has queens q ≡ is_man (man f Queen) (get b q)) → ((q : ℕ) → has men q ≡ has own q || has queens q) → (s : ℕ) → s < 64 → (has seen s ≡ false) × Meet seen men → StaysAttacked b f h s
+    line_stays own queens men are reign either s on (off, (x, low, visible, there)) = elim ((set_of_union men own queens either (men_are k own are) (men_are Queen queens reign) x low).0 there) [
+      | inl at ↦ stays k x s low on at (turned x) (inside x s) visible off
+      | inr at ↦ stays Queen x s low on at (λ p. as_queen x (turned x p)) (inside x s) visible off
+    ]
+
+-- a knight
+pub leap_stays : (b : Placement) (f : Color) (h seen men : ℕ) → IsSetOf seen (Reaches b f Knight h) → ((q : ℕ) → q < 64 → has men q ≡ is_man (man f Knight) (get b q)) → (s : ℕ) → s < 64 → (has seen s ≡ false) × Meet seen men → StaysAttacked b f h s
+unfolding InPattern
+leap_stays b f h seen men sees are s on (off, (x, low, visible, there)) =
+    stays b f Knight h seen sees Knight x s low on ((men_are b f Knight h seen sees Knight men are x low).0 there) (back x) (λ p bet. absurd (knight_near f x s h (back x p) bet)) visible off
+  where
+    back : (x : ℕ) → InPattern f Knight h x → InPattern f Knight x h
+    back x p = elim p [ inl (a, c) ↦ inl (omega arith, omega arith) | inr (a, c) ↦ inr (omega arith, omega arith) ]
+
+-- what is off two sets' common squares is off one of them
+pub off_both : {P : Type 0} (x y : Bool) → (x ≡ false → P) → (y ≡ false → P) → x && y ≡ false → P
+off_both true y p q e = q (second true y refl e)
+off_both false y p q e = p refl
+
+-- ---- a move that leaves its king attacked
+pub in_vain : (p : State) (b : Placement) (c : Color) (r h s : ℕ) → b ≡ p.board → c ≡ p.side → IsOnlyKing p.board p.side h → StaysAttacked (without b r) (other c) h s → IsInVain p r s
+unfolding IsInVain
+in_vain p b c r h s eb ec king stay = (h, king, subst (λ (d : Placement). StaysAttacked (without d r) (other p.side) h s) eb (subst (λ (f : Color). StaysAttacked (without b r) (other f) h s) ec stay))
+
+stays_check : (b : Placement) (c : Color) (r s h : ℕ) (o : Option Man) → IsOnlyKing b c h → h ≢ r → h ≢ s → StaysAttacked (without b r) (other c) h s → InCheck (write (without b r) s o) c
+unfolding StaysAttacked IsOnlyKing InCheck Attacks AttacksFrom IsClear
+stays_check b c r s h o king nr ns (x, low, (j, at, (pattern, clear)), off, out) =
+    let e : Placement = write (without b r) s o in
+    let there : get e x ≡ Some (man (other c) j) = get-write_other (without b r) s o x off ∙ at in
+    let open_line : (t : ℕ) → t < 64 → IsBetween x t h → get e t ≡ None = (λ t l bet. get-write_other (without b r) s o t (λ i. out (subst (λ y. IsBetween x y h) i bet)) ∙ clear t l bet) in
+    let home : get e h ≡ Some (man c King) = get-write_other (without b r) s o h ns ∙ get-write_other b r None h nr ∙ king.1 in
+    (h, king.0, home, (x, low, (j, there, (pattern, open_line))))
+
+-- an advance, and the board after it: the man is gone from his square, and he, or what he became, stands on the other
+record Lands (p : State) (k : Kind) (m : Move) (w : Way) : Type 0 where
+  advance : Advances p.board p.side k m.from m.to
+  there : Option Man
+  board : board_after p m w ≡ write (without p.board m.from) m.to there
+
+lands : (p : State) (k : Kind) (m : Move) (w : Way) → k ≢ King → IsWay p k m w → Lands p k m w ⊎ ((k ≡ Pawn) × CapturesEnPassant p m.from m.to)
+unfolding Advances Strides Leaps CapturesEnPassant
+lands p k m Plain n h = inl (record { advance = inl (inl (h.vacant, h.goes)); there = get p.board m.from; board = refl })
+lands p k m Capture n h = inl (record { advance = inl (inr (h.enemy, h.reaches)); there = get p.board m.from; board = refl })
+lands p k m DoubleAdvance n h = inl (record { advance = inr (h.pawn, (h.home, h.two, h.crossed, h.vacant)); there = get p.board m.from; board = refl })
+lands p k m EnPassant n h = inr (h.pawn, (h.passed, h.reaches))
+lands p k m (Promotion x) n h = inl (record { advance = inl h.moves; there = Some (man p.side x); board = refl })
+lands p k m (Castling w) n h = absurd (n h.king)
+
+module _ (p : State) (k : Kind) (r : ℕ) (here : Stands p.board p.side k r) (no_king : k ≢ King) (z : ℕ) (vain : (s : ℕ) → s < 64 → has z s ≡ false → IsInVain p r s) where
+  -- an advance off the set leaves its king attacked
+  unsafe_off : (m : Move) (w : Way) → Lands p k m w → m.from ≡ r → IsInVain p r m.to → InCheck (board_after p m w) p.side
+  unfolding IsInVain IsOnlyKing
+  unsafe_off m w l f (h, king, stay) =
+      let at : Stands p.board p.side King h = king.1 in
+      let nr : h ≢ r = (λ e. no_king (same_kind here (subst (λ x. Stands p.board p.side King x) e at))) in
+      let ns : h ≢ m.to = (λ e. advance_off p.board p.side k m.from m.to l.advance King (subst (λ x. Stands p.board p.side King x) e at)) in
+      let board : board_after p m w ≡ write (without p.board r) m.to l.there = l.board ∙ ap (λ x. write (without p.board x) m.to l.there) f in
+      subst (λ (b : Placement). InCheck b p.side) (sym board) (stays_check p.board p.side r m.to h l.there king nr ns stay)
+
+  parried : (m : Move) → IsLegal p m → m.from ≡ r → (m.to < 64) × ((Advances p.board p.side k r m.to × (has z m.to ≡ true)) ⊎ ((k ≡ Pawn) × CapturesEnPassant p r m.to))
+  unfolding Step
+  parried m (q, ((j, w, on, stands, way, e), safe)) f =
+      let there : Stands p.board p.side j r = subst (λ (s : ℕ). Stands p.board p.side j s) f stands in
+      let same : j ≡ k = same_kind there here in (
+        on.1,
+        elim (lands p k m w no_king (subst (λ (x : Kind). IsWay p x m w) same way)) [
+          | inl l ↦ inl (
+            subst (λ (s : ℕ). Advances p.board p.side k s m.to) f l.advance,
+            elim (has z m.to) as (λ v. has z m.to ≡ v → has z m.to ≡ true) [
+              | true ↦ λ t. t
+              | false ↦ λ t. absurd (safe (subst (λ (b : Placement). InCheck b p.side) (sym (ap (λ (x : State). x.board) e)) (unsafe_off m w l f (vain m.to on.1 t))))
+            ] refl,
+          )
+          | inr c ↦ inr (c.0, subst (λ (s : ℕ). CapturesEnPassant p s m.to) f c.1)
+        ],
+      )
+
+  module _ (b : Placement) (c : Color) (eb : b ≡ p.board) (ec : c ≡ p.side) (x : ℕ) (advances : IsSetOf x (Advances b c k r)) (steps : ℕ) (both : (q : ℕ) → has steps q ≡ has x q && has z q) where
+    kept : (m : Move) → m.to < 64 → Advances p.board p.side k r m.to → has z m.to ≡ true → has steps m.to ≡ true
+    kept m low a within =
+        let set : IsSetOf x (Advances p.board p.side k r) = subst (λ (y : Placement). IsSetOf x (Advances y p.side k r)) eb (subst (λ (d : Color). IsSetOf x (Advances b d k r)) ec advances) in
+        (set_of_both steps x z both set (itself z) m.to low).1 (a, within)
+
+    pub covers_pawn : (y n : ℕ) → IsSetOf y (CapturesEnPassant p r) → ((q : ℕ) → has n q ≡ has steps q || has y q) → Covers p r n
+    unfolding Covers
+    covers_pawn y n passing either m l f = let g = parried m l f in
+        (set_of_union n steps y either (itself steps) passing m.to g.0).1 (elim g.1 [ inl a ↦ inl (kept m g.0 a.0 a.1) | inr a ↦ inr a.1 ])
+
+    pub covers_piece : k ≢ Pawn → Covers p r steps
+    unfolding Covers
+    covers_piece n m l f = let g = parried m l f in elim g.1 [ inl a ↦ kept m g.0 a.0 a.1 | inr a ↦ absurd (n a.0) ]
