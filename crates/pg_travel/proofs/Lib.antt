@@ -8,3 +8,4 @@ pub mod RowTables
 pub mod SourceLemmas
 pub mod LeastRows
 pub mod Sides
+pub mod CastledRows

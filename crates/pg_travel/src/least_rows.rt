@@ -7,7 +7,7 @@ ghost use Rattle.pg_captures.specs.Counting.{men, any_man};
 ghost use Rattle.pg_position.specs.declared.rights.Wing.TheVariants.{KingSide, QueenSide};
 ghost use Rattle.pg_position.specs.declared.state.State.{State};
 ghost use Rattle.pg_travel.specs.Needs.{TravelTest};
-ghost use Rattle.pg_travel.specs.inner.LeastRows.{IsUnreached, AreLesser, IsLowered, IsHomeOf, IsAway, IsLeastRow};
+ghost use Rattle.pg_travel.specs.inner.LeastRows.{IsUnreached, AreLesser, IsLowered, IsHomeOf, IsOff, StandsOff, IsLeastFrom, IsFree, IsAway, IsLeastRow, IsCastled, row_cost};
 ghost use Rattle.pg_travel.specs.inner.Within.{PaysIs, CastledIs};
 
 use crate::castling::{charge, counted};
@@ -15,7 +15,7 @@ use crate::needs::same_side;
 use crate::rows::Rows;
 use pg_board::{Board, Color, Kind, Man, Square, SquareSet};
 use pg_captures::plies_left;
-use pg_position::{Position, Wing, king_home, rook_home};
+use pg_position::{Position, Wing, king_crossed, king_home, king_target, rook_home};
 
 // No distance, where there are so many men and this is one of them.
 fn no_distance(number: u8, count: u8) -> u8
@@ -71,13 +71,12 @@ fn homes(color: Color) -> SquareSet
             | SquareSet::single(rook_home(color, Wing::QueenSide)))
 }
 
-// Lowered by the rows of each such man that stands off the homes.
-fn lowered_by(rows: &Rows, board: &Board, man: Man, homes: SquareSet, least: [u8; 16]) -> [u8; 16]
-    requires { IsSetOf homes (IsHomeOf man.color) }
-    ensures { IsLowered rows.now board.now man.color None
-        (λ q. (get board.now q ≡ Some man) × ¬ IsHomeOf man.color q) least result }
+// Lowered by the rows of each such man that stands off these squares.
+#[inline(always)]
+fn lowered_by(rows: &Rows, board: &Board, man: Man, off: SquareSet, least: [u8; 16]) -> [u8; 16]
+    ensures { IsLowered rows.now board.now man.color None (StandsOff board.now man off) least result }
 {
-    let own = board.squares_of(man) - homes;
+    let own = board.squares_of(man) - off;
     let mut lowest = least;
     let mut from = 0u8;
     while let Some(o) = own.first_from(from) {
@@ -88,18 +87,33 @@ fn lowered_by(rows: &Rows, board: &Board, man: Man, homes: SquareSet, least: [u8
     lowest
 }
 
+// The least distances from the men off these squares, which no way moves.
+#[inline(always)]
+fn least_off(rows: &Rows, board: &Board, color: Color, off: SquareSet) -> [u8; 16]
+    ensures { IsLeastFrom rows.now board.now color (IsOff off) result }
+{
+    let none = unreached(rows.men(color));
+    let pawns = lowered_by(rows, board, Man::new(color, Kind::Pawn), off, none);
+    let knights = lowered_by(rows, board, Man::new(color, Kind::Knight), off, pawns);
+    let bishops = lowered_by(rows, board, Man::new(color, Kind::Bishop), off, knights);
+    let rooks = lowered_by(rows, board, Man::new(color, Kind::Rook), off, bishops);
+    let queens = lowered_by(rows, board, Man::new(color, Kind::Queen), off, rooks);
+    lowered_by(rows, board, Man::new(color, Kind::King), off, queens)
+}
+
+// The least distances from all men where they stand: those by the way without castling.
+#[inline(always)]
+fn free_row(rows: &Rows, board: &Board, color: Color) -> [u8; 16]
+    ensures { IsFree rows.now board.now color result }
+{
+    least_off(rows, board, color, SquareSet::empty())
+}
+
 // The least distances from the men off the homes, which all ways count where they stand.
 fn away(rows: &Rows, board: &Board, color: Color) -> [u8; 16]
     ensures { IsAway rows.now board.now color result }
 {
-    let homes = homes(color);
-    let none = unreached(rows.men(color));
-    let pawns = lowered_by(rows, board, Man::new(color, Kind::Pawn), homes, none);
-    let knights = lowered_by(rows, board, Man::new(color, Kind::Knight), homes, pawns);
-    let bishops = lowered_by(rows, board, Man::new(color, Kind::Bishop), homes, knights);
-    let rooks = lowered_by(rows, board, Man::new(color, Kind::Rook), homes, bishops);
-    let queens = lowered_by(rows, board, Man::new(color, Kind::Queen), homes, rooks);
-    lowered_by(rows, board, Man::new(color, Kind::King), homes, queens)
+    least_off(rows, board, color, homes(color))
 }
 
 // Lowered by the row of what stands on a square, if it is a man of the colour.
@@ -152,6 +166,14 @@ fn least(rows: &Rows, board: &Board, color: Color, way: Option<Wing>, away: [u8;
     )
 }
 
+// What a way costs by a row of least distances.
+#[inline(always)]
+fn cost_by(way: Option<Wing>, row: [u8; 16]) -> u16
+    ensures { result ≡ row_cost way row }
+{
+    charge(way) + sum(row)
+}
+
 // Whether so many plies pay for a way.
 fn pays(
     rows: &Rows,
@@ -166,8 +188,7 @@ fn pays(
     requires away { IsAway rows.now board.now color away }
     ensures { (p : State) → p.board ≡ board.now → PaysIs p rows.now color way plies result }
 {
-    let need = charge(way) + sum(least(rows, board, color, way, away));
-    need <= plies
+    cost_by(way, least(rows, board, color, way, away)) <= plies
 }
 
 // Whether the men that are sure to cost a ply each are more than so many plies pay for, by a way.
@@ -191,25 +212,39 @@ fn too_many_castled(rows: &Rows, position: &Position, color: Color, right: Wing,
     }
 }
 
-// Whether a right is held to castle so, and so many plies pay for it.
+// Lowered by the rows of king and rook where castling brings them. No man is nearer by that way, since
+// it moves no other.
+#[inline(always)]
+fn castled(rows: &Rows, color: Color, wing: Wing, free: [u8; 16]) -> [u8; 16]
+    ensures { IsCastled rows.now color wing free result }
+{
+    let king = lesser(free, rows.of(color, Kind::King, king_target(color, wing)));
+    lesser(king, rows.of(color, Kind::Rook, king_crossed(color, wing)))
+}
+
+// Whether a right is held to castle so, and so many plies pay for it. Mostly they are too few even where
+// king and rook count on both their squares.
 fn pays_castled(
     rows: &Rows,
     position: &Position,
     color: Color,
     right: Wing,
-    away: [u8; 16],
+    free: [u8; 16],
     plies: u16,
 ) -> bool
     requires few { men color any_man rows.now ≤ 16 }
     requires limit { plies < 255 }
-    requires away { IsAway rows.now position.now.board color away }
+    requires free { IsFree rows.now position.now.board color free }
     ensures { CastledIs position.now rows.now color right plies result }
 {
+    // A fact for the proof: what is handed in is a position, so the right has king and rook at home.
+    position.side();
     if position.rights().holds(color, right) {
-        if too_many(rows, position, color, Some(right), plies) {
+        if cost_by(Some(right), castled(rows, color, right, free)) > plies {
             return false;
         }
         let board = position.board();
+        let away = away(rows, &board, color);
         pays(rows, &board, color, Some(right), away, plies)
     } else {
         false
@@ -237,15 +272,14 @@ pub(crate) fn excludes_by(rows: &Rows, color: Color, position: &Position, left: 
         return true;
     }
     let board = position.board();
-    let away = away(rows, &board, color);
-    let free = pays(rows, &board, color, None, away, plies);
-    if free {
+    let free = free_row(rows, &board, color);
+    if cost_by(None, free) <= plies {
         return false;
     }
-    let short = pays_castled(rows, position, color, Wing::KingSide, away, plies);
+    let short = pays_castled(rows, position, color, Wing::KingSide, free, plies);
     if short {
         return false;
     }
-    let long = pays_castled(rows, position, color, Wing::QueenSide, away, plies);
+    let long = pays_castled(rows, position, color, Wing::QueenSide, free, plies);
     !long
 }
