@@ -1,5 +1,5 @@
 //! The need of a way by rows: the least distances to all men of a diagram at once.
-ghost use Rattle.std.specs.Prelude.{◌≡◌, ℕ, ◌<◌, ◌≤◌, ◌↔◌, IsTrue, get_or, None, false};
+ghost use Rattle.std.specs.Prelude.{◌≡◌, ℕ, ◌<◌, ◌≤◌, ◌↔◌, IsTrue, get_or, Some, None, false};
 ghost use Rattle.pg_board.specs.Placement.{get};
 ghost use Rattle.pg_board.specs.SquareSets.{IsSetOf};
 ghost use Rattle.pg_board.specs.Tally.{total};
@@ -76,18 +76,16 @@ fn homes(color: Color) -> SquareSet
 fn lowered_by(rows: &Rows, board: &Board, man: Man, off: SquareSet, least: [u8; 16]) -> [u8; 16]
     ensures { IsLowered rows.now board.now man.color None (StandsOff board.now man off) least result }
 {
-    let own = board.squares_of(man) - off;
+    let mut own = board.squares_of(man) - off;
     let mut lowest = least;
-    let mut from = 0u8;
-    while let Some(o) = own.first_from(from) {
+    while let Some(o) = own.pop_first() {
         let next = lesser(lowest, rows.of(man.color, man.kind, o));
         lowest = next;
-        from = o.index() + 1;
     }
     lowest
 }
 
-// The least distances from the men off these squares, which no way moves.
+// The least distances from the men off these squares, counted where they stand.
 #[inline(always)]
 fn least_off(rows: &Rows, board: &Board, color: Color, off: SquareSet) -> [u8; 16]
     ensures { IsLeastFrom rows.now board.now color (IsOff off) result }
@@ -212,8 +210,8 @@ fn too_many_castled(rows: &Rows, position: &Position, color: Color, right: Wing,
     }
 }
 
-// Lowered by the rows of king and rook where castling brings them. No man is nearer by that way, since
-// it moves no other.
+// Lowered by the rows of king and rook where castling brings them. It moves no other man, so by that
+// way none is nearer than this row has it.
 #[inline(always)]
 fn castled(rows: &Rows, color: Color, wing: Wing, free: [u8; 16]) -> [u8; 16]
     ensures { IsCastled rows.now color wing free result }
@@ -222,8 +220,21 @@ fn castled(rows: &Rows, color: Color, wing: Wing, free: [u8; 16]) -> [u8; 16]
     lesser(king, rows.of(color, Kind::Rook, king_crossed(color, wing)))
 }
 
+// Whether so many plies pay for castling.
+#[inline(never)]
+fn pays_exactly(rows: &Rows, position: &Position, color: Color, wing: Wing, plies: u16) -> bool
+    requires few { men color any_man rows.now ≤ 16 }
+    requires limit { plies < 255 }
+    ensures { PaysIs position.now rows.now color (Some wing) plies result }
+{
+    let board = position.board();
+    let away = away(rows, &board, color);
+    pays(rows, &board, color, Some(wing), away, plies)
+}
+
 // Whether a right is held to castle so, and so many plies pay for it. Mostly they are too few even where
 // king and rook count on both their squares.
+#[inline(always)]
 fn pays_castled(
     rows: &Rows,
     position: &Position,
@@ -243,9 +254,7 @@ fn pays_castled(
         if cost_by(Some(right), castled(rows, color, right, free)) > plies {
             return false;
         }
-        let board = position.board();
-        let away = away(rows, &board, color);
-        pays(rows, &board, color, Some(right), away, plies)
+        pays_exactly(rows, position, color, right, plies)
     } else {
         false
     }

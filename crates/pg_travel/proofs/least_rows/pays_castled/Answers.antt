@@ -9,4 +9,4 @@ pub returns-then-cost_by-plies : goal.returns-then-cost_by-plies
 returns-then-cost_by-plies c = castled_over c.args.position.now c.args.rows.now c.args.color c.args.right c.args.free c.castled.result c.args.plies c.cost_by.result c.side.ensures.position (ap (λ (r : Rights). holds r c.args.color c.args.right) (sym c.rights.ensures) ∙ sym c.holds.ensures ∙ c.if-holds.true) c.requires.free c.castled.ensures c.requires.few c.cost_by.ensures (omega (arith, c.if-cost_by-plies.true))
 
 pub returns-else-cost_by-plies : goal.returns-else-cost_by-plies
-returns-else-cost_by-plies c = castled_by c.args.position.now c.args.rows.now c.args.color c.args.right c.args.plies c.pays.result (ap (λ (r : Rights). holds r c.args.color c.args.right) (sym c.rights.ensures) ∙ sym c.holds.ensures ∙ c.if-holds.true) (c.pays.ensures c.args.position.now (sym c.board-board.ensures.value))
+returns-else-cost_by-plies c = castled_by c.args.position.now c.args.rows.now c.args.color c.args.right c.args.plies c.pays_exactly.result (ap (λ (r : Rights). holds r c.args.color c.args.right) (sym c.rights.ensures) ∙ sym c.holds.ensures ∙ c.if-holds.true) c.pays_exactly.ensures
