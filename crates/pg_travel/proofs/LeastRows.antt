@@ -1,5 +1,5 @@
 -- The least distances by rows, and the need of a way from them. Leads to the contracts of least_rows.
-use Rattle.std.proofs.Common.{◌≡◌, ◌≢◌, ℕ, zero, suc, ◌+◌, ltb, lt-ltb, le-ltb, cond, ◌<◌, ◌≤◌, ◌⊎◌, not, nat_eq, ◌&&◌, inl, inr, Bool, true, false, leb, Option, Some, None, List, length, get_or, set, refl, sym, ap, subst, arith, ◌∙◌}
+use Rattle.std.proofs.Common.{◌≡◌, ◌≢◌, ℕ, zero, suc, ◌+◌, cond, ◌<◌, ◌≤◌, ◌⊎◌, not, nat_eq, ◌&&◌, inl, inr, Bool, true, false, leb, Option, Some, None, List, length, get_or, set, refl, sym, ap, subst, arith, ◌∙◌}
 use Rattle.std.proofs.lemmas.Bool.Decides.{eqb_tells, leb_tells}
 use Rattle.std.proofs.lemmas.Bool.{ne_eqb}
 use Rattle.std.proofs.lemmas.List.{get_or-set_same, get_or-set_other}
@@ -14,8 +14,8 @@ use Rattle.pg_board.specs.Men.{man, color_eq, is_of, is_man}
 use Rattle.pg_board.specs.SquareSets.{IsSetOf, IsFirstFrom, HasNoneFrom}
 use Rattle.pg_board.specs.lemmas.Equalities.{color_decides, is_man_decides}
 use Rattle.pg_board.specs.Placement.{Placement, get}
-use Rattle.pg_board.specs.Tally.{one, count_below, total}
-use Rattle.pg_board.specs.lemmas.Sums.{total-none, total-suc, total-more}
+use Rattle.pg_board.specs.Tally.{total}
+use Rattle.pg_board.specs.lemmas.Sums.{total-none, total-more}
 use Rattle.pg_board.specs.lemmas.Tallies.{tally_below-none, tally_below-all}
 use Rattle.pg_board.proofs.SetLemmas.{set_of_rest}
 use Rattle.pg_position.specs.declared.rights.Wing.{Wing}
@@ -34,6 +34,7 @@ use Rattle.pg_travel.specs.inner.Formulas.{distance_of, least_of}
 use Rattle.pg_travel.specs.inner.Costs.{reach_of, nearest, cost, SumIs}
 use Rattle.pg_travel.specs.inner.Within.{PaysIs}
 use Rattle.pg_travel.proofs.Skips.{sum_skip, cost_none}
+use Rattle.pg_travel.proofs.TakenSets.{AreAll, IsWithout, other_than, taken_itself}
 use Rattle.pg_travel.proofs.SourceLemmas.{row_has, below_all, of_there, of_man, number_next}
 use Rattle.pg_travel.proofs.Within.{pays_by}
 use Rattle.pg_travel.specs.inner.DistanceRows.{stored, IsRow}
@@ -125,32 +126,11 @@ lowered_one d b c way k o origin x row y lo stands at isrow less = record {
 abbrev pub Taken : (ℕ → Type 0) → ℕ → ℕ → Type 0
 Taken Q own q = Q q × (has own q ≡ false)
 
--- what is in the set has Q
-abbrev pub AreAll : (ℕ → Type 0) → ℕ → Type 0
-AreAll Q own = (q : ℕ) → q < 64 → has own q ≡ true → Q q
-
--- a square was taken out of the set
-abbrev IsWithout : ℕ → ℕ → ℕ → Type 0
-IsWithout old new o = (q : ℕ) → q < 64 → has new q ≡ cond (nat_eq q o) false (has old q)
-
 pub stands_off : (b : Placement) (m : Man) (all off own : ℕ) → ((q : ℕ) → q < 64 → has all q ≡ is_man m (get b q)) → ((q : ℕ) → q < 64 → has own q ≡ (has all q && not (has off q))) → IsSetOf own (StandsOff b m off)
 stands_off b m all off own men rest = set_of_rest own all off rest (λ q l. ((λ h. (is_man_decides m (get b q)).0 (sym (men q l) ∙ h)), (λ h. men q l ∙ (is_man_decides m (get b q)).1 h))) (λ q l. ((λ h. h), (λ h. h)))
 
 pub by_first : (d b : Placement) (c : Color) (Q : ℕ → Type 0) (own : ℕ) (x : List ℕ) → IsSetOf own Q → IsLowered d b c None (Taken Q own) x x
 by_first d b c Q own x is = lowered_none d b c None (Taken Q own) x (λ q k l stands h. (let on : has own q ≡ true = (is q l).1 h.0 in let off : has own q ≡ false = h.1 in cc))
-
--- what is left after one was taken
-other_than : (old new o q : ℕ) → IsWithout old new o → q < 64 → q ≢ o → has new q ≡ has old q
-other_than old new o q rest l ne = elim (eqb_tells q o) [ inl w ↦ absurd (ne w.1) | inr w ↦ rest q l ∙ ap (λ (x : Bool). cond x false (has old q)) w.0 ]
-
-taken_itself : (old new o q : ℕ) → IsWithout old new o → q < 64 → q ≡ o → has new q ≡ false
-taken_itself old new o q rest l e = elim (eqb_tells q o) [ inl w ↦ rest q l ∙ ap (λ (x : Bool). cond x false (has old q)) w.0 | inr w ↦ absurd (w.1 e) ]
-
-pub all_left : (Q : ℕ → Type 0) (old new o : ℕ) → AreAll Q old → IsWithout old new o → AreAll Q new
-all_left Q old new o all rest q l on = elim (eqb_tells q o) [
-  | inl w ↦ absurd (let off : has new q ≡ false = taken_itself old new o q rest l w.1 in cc)
-  | inr w ↦ all q l (sym (other_than old new o q rest l w.1) ∙ on)
-]
 
 pub by_next : (d b : Placement) (m : Man) (Q : ℕ → Type 0) (old new o : ℕ) (x y row z : List ℕ) → ((q : ℕ) → Q q → get b q ≡ Some m) → AreAll Q old → IsFirstFrom old 0 o → IsWithout old new o → IsRow d m.color m.kind o row → AreLesser y row z → IsLowered d b m.color None (Taken Q old) x y → IsLowered d b m.color None (Taken Q new) x z
 by_next d b m Q old new o x y row z stood all is rest isrow less h =
@@ -171,37 +151,6 @@ by_next d b m Q old new o x y row z stood all is rest isrow less h =
 
 pub by_all : (d b : Placement) (c : Color) (Q : ℕ → Type 0) (own : ℕ) (x y : List ℕ) → HasNoneFrom own 0 → IsLowered d b c None (Taken Q own) x y → IsLowered d b c None Q x y
 by_all d b c Q own x y none h = lowered_as d b c None (Taken Q own) Q x y (λ q k l stands p. (p, none q (omega arith) l)) (λ q l p. p.0) h
-
--- fewer are left
-left_below : (old new o n : ℕ) → IsWithout old new o → has old o ≡ true → n ≤ 64 → count_below (has new) n + one (ltb o n) ≡ count_below (has old) n
-left_below old new o zero rest on l =
-    let a : count_below (has new) 0 ≡ 0 = total-none (λ k. one (has new k)) in
-    let b : count_below (has old) 0 ≡ 0 = total-none (λ k. one (has old k)) in
-    let x : one (ltb o 0) ≡ 0 = ap one (le-ltb o 0 (omega arith)) in
-    omega arith
-left_below old new o (suc n) rest on l =
-    let before : count_below (has new) n + one (ltb o n) ≡ count_below (has old) n = left_below old new o n rest on (omega arith) in
-    let a : count_below (has new) (suc n) ≡ count_below (has new) n + one (has new n) = total-suc (λ k. one (has new k)) n in
-    let b : count_below (has old) (suc n) ≡ count_below (has old) n + one (has old n) = total-suc (λ k. one (has old k)) n in
-    elim (eqb_tells n o) [
-      | inl w ↦
-          (let off : one (has new n) ≡ 0 = ap one (taken_itself old new o n rest (omega arith) w.1) in
-          let was : one (has old n) ≡ 1 = ap (λ (q : ℕ). one (has old q)) w.1 ∙ ap one on in
-          let x : one (ltb o n) ≡ 0 = ap one (le-ltb o n (omega (arith, w.1))) in
-          let y : one (ltb o (suc n)) ≡ 1 = ap one (lt-ltb o (suc n) (omega (arith, w.1))) in
-          omega arith)
-      | inr w ↦
-          (let same : one (has new n) ≡ one (has old n) = ap one (other_than old new o n rest (omega arith) w.1) in
-          let ne : n ≢ o = w.1 in
-          let x : one (ltb o (suc n)) ≡ one (ltb o n) = elim (leb_tells (o + 1) n) [
-            | inl v ↦ ap one (lt-ltb o (suc n) (omega (arith, v.1))) ∙ sym (ap one (lt-ltb o n (omega (arith, v.1))))
-            | inr v ↦ ap one (le-ltb o (suc n) (omega (arith, v.1))) ∙ sym (ap one (le-ltb o n (omega (arith, v.1))))
-          ] in
-          omega arith)
-    ]
-
-pub fewer : (old new o : ℕ) → IsFirstFrom old 0 o → IsWithout old new o → count_below (has new) 64 < count_below (has old) 64
-fewer old new o is rest = let e : one (ltb o 64) ≡ 1 = ap one (lt-ltb o 64 is.on_board) in omega (arith, left_below old new o 64 rest is.member (omega arith))
 
 -- ---- all kinds
 abbrev OfKind : Placement → Color → ℕ → Kind → ℕ → Type 0

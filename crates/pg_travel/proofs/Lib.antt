@@ -3,6 +3,7 @@ pub mod Nearness
 pub mod PawnRows
 pub mod PromotedRows
 pub mod Within
+pub mod TakenSets
 pub mod PriceLemmas
 pub mod RowTables
 pub mod SourceLemmas

@@ -1,5 +1,6 @@
 use Rattle.pg_travel.specs.inner.LeastRows.{StandsOff}
-use Rattle.pg_travel.proofs.LeastRows.{stands_off, by_first, by_next, by_all, all_left, fewer}
+use Rattle.pg_travel.proofs.LeastRows.{stands_off, by_first, by_next, by_all}
+use Rattle.pg_travel.proofs.TakenSets.{all_left, fewer}
 use Rattle.pg_travel.proofs.least_rows.lowered_by.Goals as goal
 
 pub loop-o-init : goal.loop-o-init
