@@ -5,6 +5,7 @@ use Rattle.std.proofs.lemmas.Bool.{ne_eqb}
 use Rattle.std.proofs.lemmas.List.{get_or-set_same, get_or-set_other}
 use Rattle.std.proofs.Math.ListN.{length-set}
 use Rattle.pg_board.specs.declared.man.Color.{Color}
+use Rattle.pg_board.specs.declared.man.Color.TheVariants.{White, Black}
 use Rattle.pg_board.specs.declared.man.Kind.{Kind}
 use Rattle.pg_board.specs.declared.man.Kind.TheVariants.{Pawn, Knight, Bishop, Rook, Queen, King}
 use Rattle.pg_board.specs.declared.man.Man.{Man}
@@ -23,6 +24,7 @@ use Rattle.pg_position.specs.declared.state.State.{State}
 use Rattle.pg_position.specs.Position.{Stands}
 use Rattle.pg_position.specs.Squares.{king_home, rook_home, king_target, king_crossed}
 use Rattle.pg_captures.specs.Counting.{of_color, men, any_man}
+use Rattle.pg_captures.specs.Owed.{plies_left}
 use Rattle.pg_captures.specs.PriceLists.{number_among}
 use Rattle.pg_travel.specs.Origins.{counted, charge}
 use Rattle.pg_travel.specs.Decided.{sum_of}
@@ -32,10 +34,11 @@ use Rattle.pg_travel.specs.inner.Formulas.{distance_of, least_of}
 use Rattle.pg_travel.specs.inner.Costs.{reach_of, nearest, cost, SumIs}
 use Rattle.pg_travel.specs.inner.Within.{PaysIs}
 use Rattle.pg_travel.proofs.Skips.{sum_skip, cost_none}
+use Rattle.pg_travel.proofs.TakenSets.{AreAll, IsWithout, other_than, taken_itself}
 use Rattle.pg_travel.proofs.SourceLemmas.{row_has, below_all, of_there, of_man, number_next}
 use Rattle.pg_travel.proofs.Within.{pays_by}
 use Rattle.pg_travel.specs.inner.DistanceRows.{stored, IsRow}
-use Rattle.pg_travel.specs.inner.LeastRows.{at_target, steps_of, IsUnreached, AreLesser, IsLowered, IsHomeOf, IsAway, IsLeastRow}
+use Rattle.pg_travel.specs.inner.LeastRows.{at_target, steps_of, IsUnreached, AreLesser, IsLowered, IsHomeOf, IsOff, StandsOff, IsLeastFrom, IsFree, IsAway, IsLeastRow, row_cost}
 
 -- ---- a row without distances
 -- what is known of the first i numbers
@@ -98,7 +101,7 @@ lowered_none d b c way P x no_man = record {
   from = λ j t lt there small. inl refl;
 }
 
-same_kind : (k i : Kind) (c : Color) (o : Option Man) → o ≡ Some (man c k) → o ≡ Some (man c i) → k ≡ i
+pub same_kind : (k i : Kind) (c : Color) (o : Option Man) → o ≡ Some (man c k) → o ≡ Some (man c i) → k ≡ i
 same_kind k i c o e f = let g : Some (man c k) ≡ Some (man c i) = sym e ∙ f in let q : man c k ≡ man c i = cc in ap (λ (z : Man). z.kind) q
 
 -- a man
@@ -118,105 +121,93 @@ lowered_one d b c way k o origin x row y lo stands at isrow less = record {
     has_it : (j : Kind) (t : ℕ) → t < 64 → Stands d c j t → number_among c any_man d t < 16 → at_target d c row t ≡ steps_of c way k o j t
     has_it j t lt there small = row_has d c k j origin t row isrow lt small there ∙ ap (λ (r : ℕ). stored (distance_of c j k r t)) at
 
--- ---- the men of a kind off the homes
--- those on squares with Q, before from
-abbrev pub Before : (ℕ → Type 0) → ℕ → ℕ → Type 0
-Before Q from q = Q q × (q < from)
+-- ---- the men of a kind off a set
+-- those on squares with Q that are in the set no longer
+abbrev pub Taken : (ℕ → Type 0) → ℕ → ℕ → Type 0
+Taken Q own q = Q q × (has own q ≡ false)
 
--- which squares these are
-abbrev pub OffHome : Placement → Man → ℕ → Type 0
-OffHome b m q = (get b q ≡ Some m) × ¬ IsHomeOf m.color q
+pub stands_off : (b : Placement) (m : Man) (all off own : ℕ) → ((q : ℕ) → q < 64 → has all q ≡ is_man m (get b q)) → ((q : ℕ) → q < 64 → has own q ≡ (has all q && not (has off q))) → IsSetOf own (StandsOff b m off)
+stands_off b m all off own men rest = set_of_rest own all off rest (λ q l. ((λ h. (is_man_decides m (get b q)).0 (sym (men q l) ∙ h)), (λ h. men q l ∙ (is_man_decides m (get b q)).1 h))) (λ q l. ((λ h. h), (λ h. h)))
 
-pub off_home : (b : Placement) (m : Man) (all homes own : ℕ) → ((q : ℕ) → q < 64 → has all q ≡ is_man m (get b q)) → IsSetOf homes (IsHomeOf m.color) → ((q : ℕ) → q < 64 → has own q ≡ (has all q && not (has homes q))) → IsSetOf own (OffHome b m)
-off_home b m all homes own men is rest = set_of_rest own all homes rest (λ q l. ((λ h. (is_man_decides m (get b q)).0 (sym (men q l) ∙ h)), (λ h. men q l ∙ (is_man_decides m (get b q)).1 h))) is
+pub by_first : (d b : Placement) (c : Color) (Q : ℕ → Type 0) (own : ℕ) (x : List ℕ) → IsSetOf own Q → IsLowered d b c None (Taken Q own) x x
+by_first d b c Q own x is = lowered_none d b c None (Taken Q own) x (λ q k l stands h. (let on : has own q ≡ true = (is q l).1 h.0 in let off : has own q ≡ false = h.1 in cc))
 
-pub by_first : (d b : Placement) (m : Man) (x : List ℕ) → IsLowered d b m.color None (Before (OffHome b m) 0) x x
-by_first d b m x = lowered_none d b m.color None (Before (OffHome b m) 0) x (λ q k l stands h. absurd (omega (arith, h.1)))
-
-pub by_next : (d b : Placement) (m : Man) (own low o n : ℕ) (x y row z : List ℕ) → IsSetOf own (OffHome b m) → IsFirstFrom own low o → n ≡ o → IsRow d m.color m.kind o row → AreLesser y row z → IsLowered d b m.color None (Before (OffHome b m) low) x y → IsLowered d b m.color None (Before (OffHome b m) (n + 1)) x z
-by_next d b m own low o n x y row z is first e isrow less h =
-    lowered_as d b m.color None (λ q. Before (OffHome b m) low q ⊎ (q ≡ o)) (Before (OffHome b m) (n + 1)) x z to back
-    (lowered_then d b m.color None (Before (OffHome b m) low) (λ q. q ≡ o) x y z h (lowered_one d b m.color None m.kind o o y row z on_board here.0 refl isrow less))
+pub by_next : (d b : Placement) (m : Man) (Q : ℕ → Type 0) (old new o : ℕ) (x y row z : List ℕ) → ((q : ℕ) → Q q → get b q ≡ Some m) → AreAll Q old → IsFirstFrom old 0 o → IsWithout old new o → IsRow d m.color m.kind o row → AreLesser y row z → IsLowered d b m.color None (Taken Q old) x y → IsLowered d b m.color None (Taken Q new) x z
+by_next d b m Q old new o x y row z stood all is rest isrow less h =
+    lowered_as d b m.color None (λ q. Taken Q old q ⊎ (q ≡ o)) (Taken Q new) x z to back
+    (lowered_then d b m.color None (Taken Q old) (λ q. q ≡ o) x y z h (lowered_one d b m.color None m.kind o o y row z is.on_board (stood o here) refl isrow less))
   where
-    on_board : o < 64
-    on_board = first.on_board
+    here : Q o
+    here = all o is.on_board is.member
 
-    here : OffHome b m o
-    here = (is o on_board).0 first.member
+    to : (q : ℕ) (k : Kind) → q < 64 → Stands b m.color k q → Taken Q new q → Taken Q old q ⊎ (q ≡ o)
+    to q k l stands p = elim (eqb_tells q o) [ inl w ↦ inr w.1 | inr w ↦ inl (p.0, sym (other_than old new o q rest l w.1) ∙ p.1) ]
 
-    to : (q : ℕ) (k : Kind) → q < 64 → Stands b m.color k q → Before (OffHome b m) (n + 1) q → Before (OffHome b m) low q ⊎ (q ≡ o)
-    to q k l stands p = elim (leb_tells low q) [
-      | inr w ↦ inl (p.0, w.1)
-      | inl w ↦ elim (eqb_tells q o) [
-        | inl v ↦ inr v.1
-        | inr v ↦ (let ne : q ≢ o = v.1 in let below : q < o = omega (arith, p.1, e) in absurd (let off : has own q ≡ false = first.before q w.1 below in let on : has own q ≡ true = (is q l).1 p.0 in cc))
-      ]
-    ]
-
-    back : (q : ℕ) → q < 64 → Before (OffHome b m) low q ⊎ (q ≡ o) → Before (OffHome b m) (n + 1) q
+    back : (q : ℕ) → q < 64 → Taken Q old q ⊎ (q ≡ o) → Taken Q new q
     back q l p = elim p [
-      | inl h ↦ (h.0, omega (arith, h.1, first.reached, e))
-      | inr h ↦ (subst (λ (r : ℕ). OffHome b m r) (sym h) here, omega (arith, h, e))
+      | inl h ↦ (h.0, elim (eqb_tells q o) [ inl w ↦ taken_itself old new o q rest l w.1 | inr w ↦ other_than old new o q rest l w.1 ∙ h.1 ])
+      | inr h ↦ (subst Q (sym h) here, taken_itself old new o q rest l h)
     ]
 
-pub by_all : (d b : Placement) (m : Man) (own low : ℕ) (x y : List ℕ) → IsSetOf own (OffHome b m) → HasNoneFrom own low → IsLowered d b m.color None (Before (OffHome b m) low) x y → IsLowered d b m.color None (OffHome b m) x y
-by_all d b m own low x y is none h = lowered_as d b m.color None (Before (OffHome b m) low) (OffHome b m) x y to (λ q l p. p.0) h
-  where
-    to : (q : ℕ) (k : Kind) → q < 64 → Stands b m.color k q → OffHome b m q → Before (OffHome b m) low q
-    to q k l stands p = elim (leb_tells low q) [
-      | inr w ↦ (p, w.1)
-      | inl w ↦ absurd (let off : has own q ≡ false = none q w.1 l in let on : has own q ≡ true = (is q l).1 p in cc)
-    ]
+pub by_all : (d b : Placement) (c : Color) (Q : ℕ → Type 0) (own : ℕ) (x y : List ℕ) → HasNoneFrom own 0 → IsLowered d b c None (Taken Q own) x y → IsLowered d b c None Q x y
+by_all d b c Q own x y none h = lowered_as d b c None (Taken Q own) Q x y (λ q k l stands p. (p, none q (omega arith) l)) (λ q l p. p.0) h
 
 -- ---- all kinds
-abbrev OfKind : Placement → Color → Kind → ℕ → Type 0
-OfKind b c k q = OffHome b (man c k) q
+abbrev OfKind : Placement → Color → ℕ → Kind → ℕ → Type 0
+OfKind b c off k q = StandsOff b (man c k) off q
 
-pub of_kind : (d b : Placement) (c : Color) (k : Kind) (m : Man) (x y : List ℕ) → m ≡ man c k → IsLowered d b m.color None (OffHome b m) x y → IsLowered d b c None (OfKind b c k) x y
-of_kind d b c k m x y e h = subst (λ (z : Man). IsLowered d b z.color None (OffHome b z) x y) e h
+pub of_kind : (d b : Placement) (c : Color) (off : ℕ) (k : Kind) (m : Man) (x y : List ℕ) → m ≡ man c k → IsLowered d b m.color None (StandsOff b m off) x y → IsLowered d b c None (OfKind b c off k) x y
+of_kind d b c off k m x y e h = subst (λ (z : Man). IsLowered d b z.color None (StandsOff b z off) x y) e h
 
-pub away_all : (d b : Placement) (c : Color) (none pawns knights bishops rooks queens kings : List ℕ) → IsUnreached (men c any_man d) none → IsLowered d b c None (OfKind b c Pawn) none pawns → IsLowered d b c None (OfKind b c Knight) pawns knights → IsLowered d b c None (OfKind b c Bishop) knights bishops → IsLowered d b c None (OfKind b c Rook) bishops rooks → IsLowered d b c None (OfKind b c Queen) rooks queens → IsLowered d b c None (OfKind b c King) queens kings → IsAway d b c kings
-away_all d b c none pawns knights bishops rooks queens kings free p n s r q k = record {
+pub off_all : (d b : Placement) (c : Color) (off : ℕ) (none pawns knights bishops rooks queens kings : List ℕ) → IsUnreached (men c any_man d) none → IsLowered d b c None (OfKind b c off Pawn) none pawns → IsLowered d b c None (OfKind b c off Knight) pawns knights → IsLowered d b c None (OfKind b c off Bishop) knights bishops → IsLowered d b c None (OfKind b c off Rook) bishops rooks → IsLowered d b c None (OfKind b c off Queen) rooks queens → IsLowered d b c None (OfKind b c off King) queens kings → IsLeastFrom d b c (IsOff off) kings
+off_all d b c off none pawns knights bishops rooks queens kings free p n s r q k = record {
   none = none;
   unreached = free;
-  lowered = lowered_as d b c None Six (λ q. ¬ IsHomeOf c q) none kings to back
-      (lowered_then d b c None Five (OfKind b c King) none queens kings
-      (lowered_then d b c None Four (OfKind b c Queen) none rooks queens
-      (lowered_then d b c None Three (OfKind b c Rook) none bishops rooks
-      (lowered_then d b c None Two (OfKind b c Bishop) none knights bishops
-      (lowered_then d b c None (OfKind b c Pawn) (OfKind b c Knight) none pawns knights p n) s) r) q) k);
+  lowered = lowered_as d b c None Six (IsOff off) none kings to back
+      (lowered_then d b c None Five (OfKind b c off King) none queens kings
+      (lowered_then d b c None Four (OfKind b c off Queen) none rooks queens
+      (lowered_then d b c None Three (OfKind b c off Rook) none bishops rooks
+      (lowered_then d b c None Two (OfKind b c off Bishop) none knights bishops
+      (lowered_then d b c None (OfKind b c off Pawn) (OfKind b c off Knight) none pawns knights p n) s) r) q) k);
 }
   where
     Two : ℕ → Type 0
-    Two = λ q. OfKind b c Pawn q ⊎ OfKind b c Knight q
+    Two = λ q. OfKind b c off Pawn q ⊎ OfKind b c off Knight q
 
     Three : ℕ → Type 0
-    Three = λ q. Two q ⊎ OfKind b c Bishop q
+    Three = λ q. Two q ⊎ OfKind b c off Bishop q
 
     Four : ℕ → Type 0
-    Four = λ q. Three q ⊎ OfKind b c Rook q
+    Four = λ q. Three q ⊎ OfKind b c off Rook q
 
     Five : ℕ → Type 0
-    Five = λ q. Four q ⊎ OfKind b c Queen q
+    Five = λ q. Four q ⊎ OfKind b c off Queen q
 
     Six : ℕ → Type 0
-    Six = λ q. Five q ⊎ OfKind b c King q
+    Six = λ q. Five q ⊎ OfKind b c off King q
 
-    to : (q : ℕ) (k : Kind) → q < 64 → Stands b c k q → ¬ IsHomeOf c q → Six q
-    to q Pawn l stands off = inl (inl (inl (inl (inl (stands, off)))))
-    to q Knight l stands off = inl (inl (inl (inl (inr (stands, off)))))
-    to q Bishop l stands off = inl (inl (inl (inr (stands, off))))
-    to q Rook l stands off = inl (inl (inr (stands, off)))
-    to q Queen l stands off = inl (inr (stands, off))
-    to q King l stands off = inr (stands, off)
+    to : (q : ℕ) (k : Kind) → q < 64 → Stands b c k q → IsOff off q → Six q
+    to q Pawn l stands p = inl (inl (inl (inl (inl (stands, p)))))
+    to q Knight l stands p = inl (inl (inl (inl (inr (stands, p)))))
+    to q Bishop l stands p = inl (inl (inl (inr (stands, p))))
+    to q Rook l stands p = inl (inl (inr (stands, p)))
+    to q Queen l stands p = inl (inr (stands, p))
+    to q King l stands p = inr (stands, p)
 
-    back : (q : ℕ) → q < 64 → Six q → ¬ IsHomeOf c q
+    back : (q : ℕ) → q < 64 → Six q → IsOff off q
     back q l (inl (inl (inl (inl (inl h))))) = h.1
     back q l (inl (inl (inl (inl (inr h))))) = h.1
     back q l (inl (inl (inl (inr h)))) = h.1
     back q l (inl (inl (inr h))) = h.1
     back q l (inl (inr h)) = h.1
     back q l (inr h) = h.1
+
+-- off no square are all men, and off the homes those that no way moves
+pub free_is : (d b : Placement) (c : Color) (off : ℕ) (row : List ℕ) → HasNoneFrom off 0 → IsLeastFrom d b c (IsOff off) row → IsFree d b c row
+free_is d b c off row none h = record { none = h.none; unreached = h.unreached; lowered = lowered_as d b c None (IsOff off) (λ q. q < 64) h.none row (λ q k l stands p on. (let f : has off q ≡ false = none q (omega arith) l in let g : has off q ≡ true = on in cc)) (λ q l p. l) h.lowered }
+
+pub away_is : (d b : Placement) (c : Color) (off : ℕ) (row : List ℕ) → IsSetOf off (IsHomeOf c) → IsLeastFrom d b c (IsOff off) row → IsAway d b c row
+away_is d b c off row homes h = record { none = h.none; unreached = h.unreached; lowered = lowered_as d b c None (IsOff off) (λ q. ¬ IsHomeOf c q) h.none row (λ q k l stands p on. p ((homes q l).0 on)) (λ q l p home. p ((homes q l).1 home)) h.lowered }
 
 -- ---- the least of all
 distance_low : (c : Color) (j k : Kind) (r t : ℕ) → r < 64 → t < 64 → distance_of c j k r t ≤ 64
@@ -225,13 +216,13 @@ distance_low c j k r t lr lt = elim (eqb_tells (distance_of c j k r t) 64) [
   | inr w ↦ (let b : (distance_of c j k r t ≤ distance_of c j k r t) × (distance_of c j k r t < 64) = walk_bounds c k r j t (distance_of c j k r t) lr lt (some_by_steps c k r j t (distance_of c j k r t) lr lt refl w.1).0 in omega (arith, b.1))
 ]
 
-stored_is : (n : ℕ) → ((n ≡ 64) × (stored n ≡ 255)) ⊎ ((n ≢ 64) × (stored n ≡ n))
+pub stored_is : (n : ℕ) → ((n ≡ 64) × (stored n ≡ 255)) ⊎ ((n ≢ 64) × (stored n ≡ n))
 stored_is n = elim (eqb_tells n 64) [ inl w ↦ inl (w.1, ap (λ (b : Bool). cond b 255 n) w.0) | inr w ↦ inr (w.1, ap (λ (b : Bool). cond b 255 n) w.0) ]
 
-reach_own : (b : Placement) (c : Color) (way : Option Wing) (j k : Kind) (t o : ℕ) → Stands b c k o → reach_of c way j t o (get b o) ≡ distance_of c j k (counted c way o) t
+pub reach_own : (b : Placement) (c : Color) (way : Option Wing) (j k : Kind) (t o : ℕ) → Stands b c k o → reach_of c way j t o (get b o) ≡ distance_of c j k (counted c way o) t
 reach_own b c way j k t o h = ap (reach_of c way j t o) h ∙ ap (λ (x : Bool). cond x (distance_of c j k (counted c way o) t) 64) ((color_decides c c).1 refl)
 
-reach_cases : (c : Color) (way : Option Wing) (j : Kind) (t o : ℕ) (m : Option Man) → (reach_of c way j t o m ≡ 64) ⊎ ((k : Kind) × (m ≡ Some (man c k)))
+pub reach_cases : (c : Color) (way : Option Wing) (j : Kind) (t o : ℕ) (m : Option Man) → (reach_of c way j t o m ≡ 64) ⊎ ((k : Kind) × (m ≡ Some (man c k)))
 reach_cases c way j t o None = inl refl
 reach_cases c way j t o (Some m) = go (color_eq c m.color) refl
   where
@@ -278,6 +269,15 @@ least_is b c way j t x lt below from = elim (stored_is N) [ inl z ↦ far from z
           omega (arith, s, q, below h.0 o lo h.1, at_least from low))
     ]
 
+pub free_least : (d b : Placement) (c : Color) (row : List ℕ) → IsFree d b c row → IsLeastRow d b c None row
+free_least d b c row a = record {
+  at = λ j t lt there small. least_is b c None j t (at_target d c row t) lt (λ k o lo stands. a.lowered.below j k t o lt there small lo lo stands) (elim (a.lowered.from j t lt there small) [
+    | inl e ↦ inl (e ∙ a.unreached.none (number_among c any_man d t) (below_all d c t lt (of_there d c j t there)) small)
+    | inr h ↦ inr (h.0, h.1, h.2, h.4, h.5)
+  ]);
+  rest = λ i m l. omega (arith, a.lowered.kept i l, a.unreached.rest i m l);
+}
+
 -- a way counts what is off the homes where it stands
 counted_off : (c : Color) (way : Option Wing) (q : ℕ) → ¬ IsHomeOf c q → counted c way q ≡ q
 counted_off c None q off = refl
@@ -315,10 +315,10 @@ least_all d b c way s1 s2 s3 away king short row a e1 e2 e3 k s r = record {
         (lowered_then d b c way (λ q. ¬ IsHomeOf c q) (λ q. q ≡ s1) a.none away king (lowered_way d b c way (λ q. ¬ IsHomeOf c q) a.none away (λ q l off. counted_off c way q off) a.lowered) k) s) r
 
 -- ---- the sum
-abbrev Number : List ℕ → ℕ → ℕ
+abbrev pub Number : List ℕ → ℕ → ℕ
 Number row = λ i. get_or row i 0
 
-cost_off_man : (b d : Placement) (c : Color) (way : Option Wing) (t : ℕ) → is_of c (get d t) ≡ false → cost b d c way t ≡ 0
+pub cost_off_man : (b d : Placement) (c : Color) (way : Option Wing) (t : ℕ) → is_of c (get d t) ≡ false → cost b d c way t ≡ 0
 unfolding cost
 cost_off_man b d c way t e = cost_none b c way t (get d t) e
 
@@ -391,3 +391,24 @@ lowered_off d b c way o x off = lowered_none d b c way (λ q. q ≡ o) x (λ q k
 
 pub lowered_here : (d b : Placement) (c : Color) (way : Option Wing) (m : Man) (o origin : ℕ) (x row y : List ℕ) → o < 64 → get b o ≡ Some m → color_eq m.color c ≡ true → origin ≡ counted c way o → IsRow d c m.kind origin row → AreLesser x row y → IsLowered d b c way (λ q. q ≡ o) x y
 lowered_here d b c way m o origin x row y lo is own at isrow less = lowered_one d b c way m.kind o origin x row y lo (is ∙ ap (λ (z : Color). Some (man z m.kind)) ((color_decides m.color c).0 own)) at isrow less
+
+free_pays : (p : State) (b d : Placement) (c : Color) (row : List ℕ) (limit x : ℕ) → p.board ≡ b → IsFree d b c row → men c any_man d ≤ 16 → limit < 255 → x ≡ row_cost None row → PaysIs p d c None limit (leb x limit)
+free_pays p b d c row limit x same is few low e = row_pays p b d c None row limit x (total (Number row) 16) same (free_least d b c row is) few low refl e
+
+pub free_within : (p : State) (b d : Placement) (c : Color) (row : List ℕ) (limit x : ℕ) → p.board ≡ b → IsFree d b c row → men c any_man d ≤ 16 → limit < 255 → x ≡ row_cost None row → x ≤ limit → PaysIs p d c None limit true
+free_within p b d c row limit x same is few low e within = elim (leb_tells x limit) [
+  | inl w ↦ subst (λ (z : Bool). PaysIs p d c None limit z) w.0 (free_pays p b d c row limit x same is few low e)
+  | inr w ↦ absurd (omega (arith, w.1, within))
+]
+
+pub free_above : (p : State) (b d : Placement) (c : Color) (row : List ℕ) (limit x : ℕ) → p.board ≡ b → IsFree d b c row → men c any_man d ≤ 16 → limit < 255 → x ≡ row_cost None row → limit < x → PaysIs p d c None limit false
+free_above p b d c row limit x same is few low e above = elim (leb_tells x limit) [
+  | inl w ↦ absurd (omega (arith, w.1, above))
+  | inr w ↦ subst (λ (z : Bool). PaysIs p d c None limit z) w.0 (free_pays p b d c row limit x same is few low e)
+]
+
+pub few_plies : (s c : Color) (k n : ℕ) → n ≡ plies_left s c k → k < 256 → n < 255
+few_plies White White k n e l = omega arith
+few_plies White Black k n e l = omega arith
+few_plies Black White k n e l = omega arith
+few_plies Black Black k n e l = omega arith

@@ -9,7 +9,7 @@ use Rattle.pg_board.specs.declared.man.Kind.{Kind}
 use Rattle.pg_board.specs.declared.man.Kind.TheVariants.{Pawn, Knight, Bishop, Rook, Queen, King}
 use Rattle.pg_board.specs.declared.man.Man.{Man}
 use Rattle.pg_board.specs.Bits.{has}
-use Rattle.pg_board.specs.SquareSets.{IsFirstFrom, HasNoneFrom}
+use Rattle.pg_board.specs.SquareSets.{HasNoneFrom}
 use Rattle.pg_board.specs.Men.{man, color_eq, is_of, is_man, passes}
 use Rattle.pg_board.specs.Tally.{one, count_below, tally_below}
 use Rattle.pg_board.specs.lemmas.Sums.{count_below_same}
@@ -20,7 +20,7 @@ use Rattle.pg_position.specs.declared.rights.Wing.{Wing}
 use Rattle.pg_position.specs.Position.{Stands}
 use Rattle.pg_captures.specs.Counting.{of_color, men, any_man}
 use Rattle.pg_captures.specs.PriceLists.{number_among, price, IsPriced}
-use Rattle.pg_captures.specs.lemmas.PlaceLemmas.{passes_like, and-true, marks_men, place_within, seen_next, all_last}
+use Rattle.pg_captures.specs.lemmas.PlaceLemmas.{passes_like, and-true, marks_men, place_within}
 use Rattle.pg_travel.specs.Origins.{counted}
 use Rattle.pg_travel.specs.lemmas.Pawns.{some_by_steps, walk_bounds}
 use Rattle.pg_travel.specs.lemmas.Values.{counted_low}
@@ -28,6 +28,7 @@ use Rattle.pg_travel.specs.inner.Formulas.{distance_of}
 use Rattle.pg_travel.specs.inner.PriceTests.{PairFits, AllFit}
 use Rattle.pg_travel.proofs.RowTables.{up_to_all}
 use Rattle.pg_travel.proofs.Within.{count_skip}
+use Rattle.pg_travel.proofs.TakenSets.{AreAll, IsWithout, other_than}
 use Rattle.pg_travel.specs.inner.DistanceRows.{stored, to_stood, IsRow, FitsAt, RowFits, AreFew, SourceFits, MenFit, SourcesFit, AreSixteen}
 
 -- ---- men by their numbers
@@ -218,9 +219,6 @@ number_of b c own s l is = count_below_same (has own) (λ q. passes (of_color c 
 pub men_off : (d b : Placement) (way : Option Wing) (u v : List ℕ) (m : Man) (men q : ℕ) → q < 64 → ((r : ℕ) → r < 64 → has men r ≡ is_man m (get b r)) → has men q ≡ false → get b q ≡ Some m → SourceFits d m.color way (Some m) q (price u m.color any_man b q) v
 men_off d b way u v m men q l is off here = absurd (let on : is_man m (get b q) ≡ true = (is_man_decides m (get b q)).1 here in let e : has men q ≡ is_man m (get b q) = is q l in cc)
 
-pub is_here : (b : Placement) (m : Man) (men low s : ℕ) → ((r : ℕ) → r < 64 → has men r ≡ is_man m (get b r)) → IsFirstFrom men low s → get b s ≡ Some m
-is_here b m men low s is first = (is_man_decides m (get b s)).0 (sym (is s first.on_board) ∙ first.member)
-
 pub source_low : (b : Placement) (m : Man) (own s n : ℕ) (u : List ℕ) → IsPriced u m.color any_man b → ((q : ℕ) → q < 64 → has own q ≡ is_of m.color (get b q)) → s < 64 → get b s ≡ Some m → n ≡ count_below (has own) s → n < length u
 source_low b m own s n u priced is l here e =
     let w : number_among m.color any_man b s < men m.color any_man b = place_within m.color any_man b own s (marks_men b m.color own is) l (is s l ∙ ap (is_of m.color) here ∙ (color_decides m.color m.color).1 refl) in
@@ -236,9 +234,19 @@ pub men_not : (d b : Placement) (way : Option Wing) (m : Man) (s : ℕ) (u v : L
 unfolding MenFit
 men_not d b way m s u v r l here e h = ((λ y. absurd (cc)), (λ all. absurd (let t : r ≡ true = h.1 (all s l here) in cc)))
 
-pub men_next : (d b : Placement) (way : Option Wing) (m : Man) (men low s n : ℕ) (u v : List ℕ) → ((r : ℕ) → r < 64 → has men r ≡ is_man m (get b r)) → ((q : ℕ) → q < low → get b q ≡ Some m → SourceFits d m.color way (Some m) q (price u m.color any_man b q) v) → IsFirstFrom men low s → n ≡ s → SourceFits d m.color way (Some m) s (price u m.color any_man b s) v → (q : ℕ) → q < n + 1 → get b q ≡ Some m → SourceFits d m.color way (Some m) q (price u m.color any_man b q) v
-men_next d b way m men low s n u v is seen first same here = seen_next (λ q. get b q ≡ Some m → SourceFits d m.color way (Some m) q (price u m.color any_man b q) v) men low s n (λ q l off. men_off d b way u v m men q l is off) seen first same (λ e. here)
+-- those that were taken fit
+abbrev pub AreSeen : Placement → Placement → Option Wing → List ℕ → List ℕ → Man → ℕ → Type 0
+AreSeen d b way u v m men = (q : ℕ) → q < 64 → has men q ≡ false → get b q ≡ Some m → SourceFits d m.color way (Some m) q (price u m.color any_man b q) v
 
-pub men_all : (d b : Placement) (way : Option Wing) (m : Man) (men low : ℕ) (u v : List ℕ) → ((r : ℕ) → r < 64 → has men r ≡ is_man m (get b r)) → ((q : ℕ) → q < low → get b q ≡ Some m → SourceFits d m.color way (Some m) q (price u m.color any_man b q) v) → HasNoneFrom men low → IsTrue true ↔ MenFit d b way u v m
+pub men_first : (b : Placement) (m : Man) (men : ℕ) → ((r : ℕ) → r < 64 → has men r ≡ is_man m (get b r)) → AreAll (λ q. get b q ≡ Some m) men
+men_first b m men is q l on = (is_man_decides m (get b q)).0 (sym (is q l) ∙ on)
+
+pub men_next : (d b : Placement) (way : Option Wing) (m : Man) (old new s : ℕ) (u v : List ℕ) → AreSeen d b way u v m old → IsWithout old new s → SourceFits d m.color way (Some m) s (price u m.color any_man b s) v → AreSeen d b way u v m new
+men_next d b way m old new s u v seen rest here q l off there = elim (eqb_tells q s) [
+  | inl w ↦ subst (λ (x : ℕ). SourceFits d m.color way (Some m) x (price u m.color any_man b x) v) (sym w.1) here
+  | inr w ↦ seen q l (sym (other_than old new s q rest l w.1) ∙ off) there
+]
+
+pub men_all : (d b : Placement) (way : Option Wing) (m : Man) (men : ℕ) (u v : List ℕ) → AreSeen d b way u v m men → HasNoneFrom men 0 → IsTrue true ↔ MenFit d b way u v m
 unfolding MenFit
-men_all d b way m men low u v is seen none = ((λ y. all_last (λ q. get b q ≡ Some m → SourceFits d m.color way (Some m) q (price u m.color any_man b q) v) men low (λ q l off. men_off d b way u v m men q l is off) seen none), (λ y. refl))
+men_all d b way m men u v seen none = ((λ y q l here. seen q l (none q (omega arith) l) here), (λ y. refl))

@@ -23,6 +23,8 @@ pub(crate) fn promoting(color: Color, steps: u8) -> Band
     ensures first { result.first ≤ 64 }
     ensures outside { (q : ℕ) → q < 64 → (q < result.first) ⊎ (result.past ≤ q) → steps ≤ soonest color q }
 {
+    // A step a rank from the third on, and no more from the second, whose first step may be two squares:
+    // a pawn there is as near as one on the third, with five steps.
     let ranks = if steps <= 5 {
         8 - steps
     } else {

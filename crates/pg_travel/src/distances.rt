@@ -89,6 +89,8 @@ fn is_corner(s: Square) -> bool
     index == 0 || index == 7 || index == 56 || index == 63
 }
 
+// A knight goes two squares at most along files or ranks, and three in all, in one move, and each move
+// changes the colour of its square: so many moves are needed, and but for the cases below enough.
 fn long_way(x: u8, y: u8) -> u8
     requires { (x < 8) × (y < 8) }
     ensures value { result ≡ long_way x y }
@@ -98,6 +100,7 @@ fn long_way(x: u8, y: u8) -> u8
     n + (n + x + y) % 2
 }
 
+// The same near by, where the other squares of a move lie elsewhere, or off the board.
 fn knight_by(x: u8, y: u8, corner: bool) -> u8
     requires { (x < 8) × (y < 8) }
     ensures value { result ≡ knight_by x y corner }
@@ -175,7 +178,8 @@ fn pawn(color: Color, from: Square, to: Square) -> u8
     }
 }
 
-// The distances of a pawn to the men that it can become, as digits to the base 16.
+// The distances of a pawn to the men that it can become, as digits to the base 16: knight, bishop, rook
+// and queen from the lowest on, 15 for none. So the table of them has half the bytes.
 fn promoted(color: Color, from: Square, to: Square) -> u16
     ensures { ArePromoted color from to result }
 {

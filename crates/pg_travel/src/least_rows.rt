@@ -1,5 +1,5 @@
 //! The need of a way by rows: the least distances to all men of a diagram at once.
-ghost use Rattle.std.specs.Prelude.{◌≡◌, ℕ, ◌<◌, ◌≤◌, ◌↔◌, IsTrue, get_or, None, false};
+ghost use Rattle.std.specs.Prelude.{◌≡◌, ℕ, ◌<◌, ◌≤◌, ◌↔◌, IsTrue, get_or, Some, None, false};
 ghost use Rattle.pg_board.specs.Placement.{get};
 ghost use Rattle.pg_board.specs.SquareSets.{IsSetOf};
 ghost use Rattle.pg_board.specs.Tally.{total};
@@ -7,7 +7,7 @@ ghost use Rattle.pg_captures.specs.Counting.{men, any_man};
 ghost use Rattle.pg_position.specs.declared.rights.Wing.TheVariants.{KingSide, QueenSide};
 ghost use Rattle.pg_position.specs.declared.state.State.{State};
 ghost use Rattle.pg_travel.specs.Needs.{TravelTest};
-ghost use Rattle.pg_travel.specs.inner.LeastRows.{IsUnreached, AreLesser, IsLowered, IsHomeOf, IsAway, IsLeastRow};
+ghost use Rattle.pg_travel.specs.inner.LeastRows.{IsUnreached, AreLesser, IsLowered, IsHomeOf, IsOff, StandsOff, IsLeastFrom, IsFree, IsAway, IsLeastRow, IsCastled, row_cost};
 ghost use Rattle.pg_travel.specs.inner.Within.{PaysIs, CastledIs};
 
 use crate::castling::{charge, counted};
@@ -15,7 +15,7 @@ use crate::needs::same_side;
 use crate::rows::Rows;
 use pg_board::{Board, Color, Kind, Man, Square, SquareSet};
 use pg_captures::plies_left;
-use pg_position::{Position, Wing, king_home, rook_home};
+use pg_position::{Position, Wing, king_crossed, king_home, king_target, rook_home};
 
 // No distance, where there are so many men and this is one of them.
 fn no_distance(number: u8, count: u8) -> u8
@@ -71,35 +71,47 @@ fn homes(color: Color) -> SquareSet
             | SquareSet::single(rook_home(color, Wing::QueenSide)))
 }
 
-// Lowered by the rows of each such man that stands off the homes.
-fn lowered_by(rows: &Rows, board: &Board, man: Man, homes: SquareSet, least: [u8; 16]) -> [u8; 16]
-    requires { IsSetOf homes (IsHomeOf man.color) }
-    ensures { IsLowered rows.now board.now man.color None
-        (λ q. (get board.now q ≡ Some man) × ¬ IsHomeOf man.color q) least result }
+// Lowered by the rows of each such man that stands off these squares.
+#[inline(always)]
+fn lowered_by(rows: &Rows, board: &Board, man: Man, off: SquareSet, least: [u8; 16]) -> [u8; 16]
+    ensures { IsLowered rows.now board.now man.color None (StandsOff board.now man off) least result }
 {
-    let own = board.squares_of(man) - homes;
+    let mut own = board.squares_of(man) - off;
     let mut lowest = least;
-    let mut from = 0u8;
-    while let Some(o) = own.first_from(from) {
+    while let Some(o) = own.pop_first() {
         let next = lesser(lowest, rows.of(man.color, man.kind, o));
         lowest = next;
-        from = o.index() + 1;
     }
     lowest
+}
+
+// The least distances from the men off these squares, counted where they stand.
+#[inline(always)]
+fn least_off(rows: &Rows, board: &Board, color: Color, off: SquareSet) -> [u8; 16]
+    ensures { IsLeastFrom rows.now board.now color (IsOff off) result }
+{
+    let none = unreached(rows.men(color));
+    let pawns = lowered_by(rows, board, Man::new(color, Kind::Pawn), off, none);
+    let knights = lowered_by(rows, board, Man::new(color, Kind::Knight), off, pawns);
+    let bishops = lowered_by(rows, board, Man::new(color, Kind::Bishop), off, knights);
+    let rooks = lowered_by(rows, board, Man::new(color, Kind::Rook), off, bishops);
+    let queens = lowered_by(rows, board, Man::new(color, Kind::Queen), off, rooks);
+    lowered_by(rows, board, Man::new(color, Kind::King), off, queens)
+}
+
+// The least distances from all men where they stand: those by the way without castling.
+#[inline(always)]
+fn free_row(rows: &Rows, board: &Board, color: Color) -> [u8; 16]
+    ensures { IsFree rows.now board.now color result }
+{
+    least_off(rows, board, color, SquareSet::empty())
 }
 
 // The least distances from the men off the homes, which all ways count where they stand.
 fn away(rows: &Rows, board: &Board, color: Color) -> [u8; 16]
     ensures { IsAway rows.now board.now color result }
 {
-    let homes = homes(color);
-    let none = unreached(rows.men(color));
-    let pawns = lowered_by(rows, board, Man::new(color, Kind::Pawn), homes, none);
-    let knights = lowered_by(rows, board, Man::new(color, Kind::Knight), homes, pawns);
-    let bishops = lowered_by(rows, board, Man::new(color, Kind::Bishop), homes, knights);
-    let rooks = lowered_by(rows, board, Man::new(color, Kind::Rook), homes, bishops);
-    let queens = lowered_by(rows, board, Man::new(color, Kind::Queen), homes, rooks);
-    lowered_by(rows, board, Man::new(color, Kind::King), homes, queens)
+    least_off(rows, board, color, homes(color))
 }
 
 // Lowered by the row of what stands on a square, if it is a man of the colour.
@@ -152,6 +164,14 @@ fn least(rows: &Rows, board: &Board, color: Color, way: Option<Wing>, away: [u8;
     )
 }
 
+// What a way costs by a row of least distances.
+#[inline(always)]
+fn cost_by(way: Option<Wing>, row: [u8; 16]) -> u16
+    ensures { result ≡ row_cost way row }
+{
+    charge(way) + sum(row)
+}
+
 // Whether so many plies pay for a way.
 fn pays(
     rows: &Rows,
@@ -166,8 +186,7 @@ fn pays(
     requires away { IsAway rows.now board.now color away }
     ensures { (p : State) → p.board ≡ board.now → PaysIs p rows.now color way plies result }
 {
-    let need = charge(way) + sum(least(rows, board, color, way, away));
-    need <= plies
+    cost_by(way, least(rows, board, color, way, away)) <= plies
 }
 
 // Whether the men that are sure to cost a ply each are more than so many plies pay for, by a way.
@@ -191,26 +210,51 @@ fn too_many_castled(rows: &Rows, position: &Position, color: Color, right: Wing,
     }
 }
 
-// Whether a right is held to castle so, and so many plies pay for it.
+// Lowered by the rows of king and rook where castling brings them. It moves no other man, so by that
+// way none is nearer than this row has it.
+#[inline(always)]
+fn castled(rows: &Rows, color: Color, wing: Wing, free: [u8; 16]) -> [u8; 16]
+    ensures { IsCastled rows.now color wing free result }
+{
+    let king = lesser(free, rows.of(color, Kind::King, king_target(color, wing)));
+    lesser(king, rows.of(color, Kind::Rook, king_crossed(color, wing)))
+}
+
+// Whether so many plies pay for castling.
+#[inline(never)]
+fn pays_exactly(rows: &Rows, position: &Position, color: Color, wing: Wing, plies: u16) -> bool
+    requires few { men color any_man rows.now ≤ 16 }
+    requires limit { plies < 255 }
+    ensures { PaysIs position.now rows.now color (Some wing) plies result }
+{
+    let board = position.board();
+    let away = away(rows, &board, color);
+    pays(rows, &board, color, Some(wing), away, plies)
+}
+
+// Whether a right is held to castle so, and so many plies pay for it. Mostly they are too few even where
+// king and rook count on both their squares.
+#[inline(always)]
 fn pays_castled(
     rows: &Rows,
     position: &Position,
     color: Color,
     right: Wing,
-    away: [u8; 16],
+    free: [u8; 16],
     plies: u16,
 ) -> bool
     requires few { men color any_man rows.now ≤ 16 }
     requires limit { plies < 255 }
-    requires away { IsAway rows.now position.now.board color away }
+    requires free { IsFree rows.now position.now.board color free }
     ensures { CastledIs position.now rows.now color right plies result }
 {
+    // A fact for the proof: what is handed in is a position, so the right has king and rook at home.
+    position.side();
     if position.rights().holds(color, right) {
-        if too_many(rows, position, color, Some(right), plies) {
+        if cost_by(Some(right), castled(rows, color, right, free)) > plies {
             return false;
         }
-        let board = position.board();
-        pays(rows, &board, color, Some(right), away, plies)
+        pays_exactly(rows, position, color, right, plies)
     } else {
         false
     }
@@ -237,15 +281,14 @@ pub(crate) fn excludes_by(rows: &Rows, color: Color, position: &Position, left: 
         return true;
     }
     let board = position.board();
-    let away = away(rows, &board, color);
-    let free = pays(rows, &board, color, None, away, plies);
-    if free {
+    let free = free_row(rows, &board, color);
+    if cost_by(None, free) <= plies {
         return false;
     }
-    let short = pays_castled(rows, position, color, Wing::KingSide, away, plies);
+    let short = pays_castled(rows, position, color, Wing::KingSide, free, plies);
     if short {
         return false;
     }
-    let long = pays_castled(rows, position, color, Wing::QueenSide, away, plies);
+    let long = pays_castled(rows, position, color, Wing::QueenSide, free, plies);
     !long
 }

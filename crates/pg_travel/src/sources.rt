@@ -49,15 +49,13 @@ fn men_fit(rows: &Rows, board: &Board, man: Man, way: Option<Wing>, u: &[u8], v:
     ensures { IsTrue result ↔ MenFit rows.now board.now way u.now v man }
 {
     let own = board.squares_of_color(man.color);
-    let men = board.squares_of(man);
-    let mut from = 0u8;
-    while let Some(s) = men.first_from(from) {
+    let mut men = board.squares_of(man);
+    while let Some(s) = men.pop_first() {
         let origin = counted(man.color, way, s);
         let price = u[number_before(own, s)];
         if !fits(v, price, rows.of(man.color, man.kind, origin)) {
             return false;
         }
-        from = s.index() + 1;
     }
     true
 }

@@ -211,6 +211,7 @@ pub(crate) fn all_fit(
 {
     let prices = by_square(board, color, u);
     let least = least_price(u);
+    // A fact for the proof: on which squares the sources stand.
     board.squares_of_color(color);
     targets_fit(board, goal, color, way, &prices, least, v)
 }

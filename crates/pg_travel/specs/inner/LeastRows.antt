@@ -1,18 +1,22 @@
 -- The least distances to the men of a diagram, by rows, from the men of a colour on a board.
-use Rattle.std.specs.Prelude.{◌≡◌, ℕ, ◌<◌, ◌≤◌, ◌⊎◌, min, Option, None, List, length, get_or}
+use Rattle.std.specs.Prelude.{◌≡◌, ℕ, ◌+◌, ◌<◌, ◌≤◌, ◌⊎◌, min, true, Option, Some, None, List, length, get_or}
 use Rattle.pg_board.specs.declared.man.Color.{Color}
 use Rattle.pg_board.specs.declared.man.Kind.{Kind}
-use Rattle.pg_board.specs.Placement.{Placement}
+use Rattle.pg_board.specs.declared.man.Kind.TheVariants.{Rook, King}
+use Rattle.pg_board.specs.declared.man.Man.{Man}
+use Rattle.pg_board.specs.Bits.{has}
+use Rattle.pg_board.specs.Placement.{Placement, get}
+use Rattle.pg_board.specs.Tally.{total}
 use Rattle.pg_position.specs.declared.rights.Wing.{Wing}
 use Rattle.pg_position.specs.declared.rights.Wing.TheVariants.{KingSide, QueenSide}
 use Rattle.pg_position.specs.Position.{Stands}
-use Rattle.pg_position.specs.Squares.{king_home, rook_home}
+use Rattle.pg_position.specs.Squares.{king_home, rook_home, king_target, king_crossed}
 use Rattle.pg_captures.specs.Counting.{men, any_man}
 use Rattle.pg_captures.specs.PriceLists.{number_among}
-use Rattle.pg_travel.specs.Origins.{counted}
+use Rattle.pg_travel.specs.Origins.{counted, charge}
 use Rattle.pg_travel.specs.inner.Formulas.{distance_of}
 use Rattle.pg_travel.specs.inner.Costs.{nearest}
-use Rattle.pg_travel.specs.inner.DistanceRows.{stored}
+use Rattle.pg_travel.specs.inner.DistanceRows.{stored, IsRow}
 
 -- the number that a row has for c's man of d on t
 abbrev pub at_target : Placement → Color → List ℕ → ℕ → ℕ
@@ -42,13 +46,43 @@ pub record IsLowered (d b : Placement) (c : Color) (way : Option Wing) (P : ℕ 
 abbrev pub IsHomeOf : Color → ℕ → Type 0
 IsHomeOf c q = (q ≡ king_home c) ⊎ ((q ≡ rook_home c KingSide) ⊎ (q ≡ rook_home c QueenSide))
 
--- the least distances from c's men off these squares
-pub record IsAway (d b : Placement) (c : Color) (row : List ℕ) : Type 0 where
+-- the square is not in the set
+abbrev pub IsOff : ℕ → ℕ → Type 0
+IsOff off q = ¬ (has off q ≡ true)
+
+-- such a man stands there, and the square is not in the set
+abbrev pub StandsOff : Placement → Man → ℕ → ℕ → Type 0
+StandsOff b m off q = (get b q ≡ Some m) × IsOff off q
+
+-- the least distances from c's men on squares with P
+pub record IsLeastFrom (d b : Placement) (c : Color) (P : ℕ → Type 0) (row : List ℕ) : Type 0 where
   pub none : List ℕ
   pub unreached : IsUnreached (men c any_man d) none
-  pub lowered : IsLowered d b c None (λ q. ¬ IsHomeOf c q) none row
+  pub lowered : IsLowered d b c None P none row
+
+-- the least distances from c's men where they stand
+abbrev pub IsFree : Placement → Placement → Color → List ℕ → Type 0
+IsFree d b c row = IsLeastFrom d b c (λ q. q < 64) row
+
+-- the least distances from c's men off these squares
+abbrev pub IsAway : Placement → Placement → Color → List ℕ → Type 0
+IsAway d b c row = IsLeastFrom d b c (λ q. ¬ IsHomeOf c q) row
 
 -- the least distance to each of the first sixteen of c's men of d, and zeros after the last
 pub record IsLeastRow (d b : Placement) (c : Color) (way : Option Wing) (row : List ℕ) : Type 0 where
   pub at : (j : Kind) (t : ℕ) → t < 64 → Stands d c j t → number_among c any_man d t < 16 → at_target d c row t ≡ stored (nearest b c way j t)
   pub rest : (i : ℕ) → men c any_man d ≤ i → i < 16 → get_or row i 0 ≡ 0
+
+-- row is the least of free and of the rows of king and rook on the squares that castling brings them to
+pub record IsCastled (d : Placement) (c : Color) (w : Wing) (free row : List ℕ) : Type 0 where
+  pub king : List ℕ
+  pub rook : List ℕ
+  pub with_king : List ℕ
+  pub of_king : IsRow d c King (king_target c w) king
+  pub of_rook : IsRow d c Rook (king_crossed c w) rook
+  pub first : AreLesser free king with_king
+  pub second : AreLesser with_king rook row
+
+-- what a way costs by a row
+abbrev pub row_cost : Option Wing → List ℕ → ℕ
+row_cost way row = charge way + total (λ i. get_or row i 0) 16

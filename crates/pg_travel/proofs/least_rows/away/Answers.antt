@@ -1,8 +1,5 @@
-use Rattle.std.proofs.Common.{ℕ, subst}
-use Rattle.pg_board.specs.declared.man.Kind.TheVariants.{Pawn, Knight, Bishop, Rook, Queen, King}
-use Rattle.pg_travel.specs.inner.LeastRows.{IsUnreached}
-use Rattle.pg_travel.proofs.LeastRows.{of_kind, away_all}
+use Rattle.pg_travel.proofs.LeastRows.{away_is}
 use Rattle.pg_travel.proofs.least_rows.away.Goals as goal
 
 pub returns : goal.returns
-returns c = away_all c.args.rows.now c.args.board.now c.args.color c.unreached-none.result c.lowered_by-pawns.result c.lowered_by-knights.result c.lowered_by-bishops.result c.lowered_by-rooks.result c.lowered_by-queens.result c.lowered_by.result (subst (λ (n : ℕ). IsUnreached n c.unreached-none.result) c.men.ensures c.unreached-none.ensures) (of_kind c.args.rows.now c.args.board.now c.args.color Pawn c.new.result c.unreached-none.result c.lowered_by-pawns.result c.new.ensures c.lowered_by-pawns.ensures) (of_kind c.args.rows.now c.args.board.now c.args.color Knight c.new-2.result c.lowered_by-pawns.result c.lowered_by-knights.result c.new-2.ensures c.lowered_by-knights.ensures) (of_kind c.args.rows.now c.args.board.now c.args.color Bishop c.new-3.result c.lowered_by-knights.result c.lowered_by-bishops.result c.new-3.ensures c.lowered_by-bishops.ensures) (of_kind c.args.rows.now c.args.board.now c.args.color Rook c.new-4.result c.lowered_by-bishops.result c.lowered_by-rooks.result c.new-4.ensures c.lowered_by-rooks.ensures) (of_kind c.args.rows.now c.args.board.now c.args.color Queen c.new-5.result c.lowered_by-rooks.result c.lowered_by-queens.result c.new-5.ensures c.lowered_by-queens.ensures) (of_kind c.args.rows.now c.args.board.now c.args.color King c.new-6.result c.lowered_by-queens.result c.lowered_by.result c.new-6.ensures c.lowered_by.ensures)
+returns c = away_is c.args.rows.now c.args.board.now c.args.color c.homes.result c.least_off.result c.homes.ensures c.least_off.ensures

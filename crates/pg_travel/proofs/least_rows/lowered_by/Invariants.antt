@@ -1,10 +1,13 @@
-use Rattle.std.proofs.Common.{None, ◌-◌, ◌≤◌}
-use Rattle.pg_travel.specs.inner.LeastRows.{IsLowered}
-use Rattle.pg_travel.proofs.LeastRows.{Before, OffHome}
+use Rattle.std.proofs.Common.{None}
+use Rattle.pg_board.specs.Bits.{has}
+use Rattle.pg_board.specs.Tally.{count_below}
+use Rattle.pg_travel.specs.inner.LeastRows.{IsLowered, StandsOff}
+use Rattle.pg_travel.proofs.LeastRows.{Taken}
+use Rattle.pg_travel.proofs.TakenSets.{AreAll}
 use Rattle.pg_travel.proofs.least_rows.lowered_by.Given as goal
 
 abbrev pub invariant-loop-o : goal.invariant-loop-o
-invariant-loop-o l = record { is : IsLowered l.rows l.board l.man.color None (Before (OffHome l.board l.man) l.from) l.fn.least l.lowest; within : l.from ≤ 64 }
+invariant-loop-o l = record { is : IsLowered l.rows l.board l.man.color None (Taken (StandsOff l.board l.man l.fn.off) l.own) l.fn.least l.lowest; all : AreAll (StandsOff l.board l.man l.fn.off) l.own }
 
 abbrev pub decreases-loop-o : goal.decreases-loop-o
-decreases-loop-o l = 64 - l.from
+decreases-loop-o l = count_below (has l.own) 64

@@ -1,12 +1,13 @@
-use Rattle.std.proofs.Common.{◌≡◌, ℕ, ◌-◌, ◌<◌, ◌≤◌, Some}
+use Rattle.std.proofs.Common.{◌≡◌, Some}
+use Rattle.pg_board.specs.Bits.{has}
 use Rattle.pg_board.specs.Placement.{get}
-use Rattle.pg_captures.specs.Counting.{any_man}
-use Rattle.pg_captures.specs.PriceLists.{price}
-use Rattle.pg_travel.specs.inner.DistanceRows.{SourceFits}
+use Rattle.pg_board.specs.Tally.{count_below}
+use Rattle.pg_travel.proofs.SourceLemmas.{AreSeen}
+use Rattle.pg_travel.proofs.TakenSets.{AreAll}
 use Rattle.pg_travel.proofs.sources.men_fit.Given as goal
 
 abbrev pub invariant-loop-s : goal.invariant-loop-s
-invariant-loop-s l = record { seen : (s : ℕ) → s < l.from → get l.board s ≡ Some l.man → SourceFits l.rows l.man.color l.way (Some l.man) s (price l.u l.man.color any_man l.board s) l.v; within : l.from ≤ 64 }
+invariant-loop-s l = record { seen : AreSeen l.rows l.board l.way l.u l.v l.man l.men; all : AreAll (λ q. get l.board q ≡ Some l.man) l.men }
 
 abbrev pub decreases-loop-s : goal.decreases-loop-s
-decreases-loop-s l = 64 - l.from
+decreases-loop-s l = count_below (has l.men) 64
