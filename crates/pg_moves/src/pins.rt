@@ -69,20 +69,20 @@ fn attacked_bare(board: &Board, square: Square, color: Color) -> bool
 // The squares of the men that may be pinned, so that their moves are to be tried: the king's alone
 // where he would not be attacked with none of his men on the board. Else all in check, and else the
 // king's and those that a queen would see from there.
-pub(crate) fn maybe_pinned(position: &Position) -> SquareSet
+pub(crate) fn maybe_pinned(position: &Position, board: &Board) -> SquareSet
+    requires { board.now ≡ position.now.board }
     ensures { FreeOff position.now result }
 {
     let side = position.side();
-    let board = position.board();
     let queen = Man::new(side, Kind::Queen);
     match board.king(side) {
         Some(king) => {
-            if !attacked_bare(&board, king, side) {
+            if !attacked_bare(board, king, side) {
                 SquareSet::single(king)
             } else if position.in_check() {
                 SquareSet::full()
             } else {
-                attacks_from(&board, queen, king) | SquareSet::single(king)
+                attacks_from(board, queen, king) | SquareSet::single(king)
             }
         }
         None => SquareSet::full(),
