@@ -21,8 +21,8 @@ pub(crate) struct Source {
     pub(crate) exact: bool,
 }
 
-// The man of the side to move, of this colour and kind, on a square. Where a caller's loop reads the
-// colour off each man, LLVM cannot work out ahead of the loop what only a pawn needs of it.
+// The man of the side to move, of this colour and kind, on a square: the king with his legal moves, one
+// whose moves are to be tried with all squares to which they may go, any other with his advances.
 #[inline(always)]
 #[tactic(auto, unfolding(crate::specs::inner::Sources::IsSource))]
 fn source_of(
@@ -82,9 +82,7 @@ pub(crate) fn source_at(
     }
 }
 
-// The pawn of the side to move on a square. A function of its own for the counts, which meet few pawns
-// one by one: in their loop, what only a pawn needs of the colour would be worked out ahead for each
-// position.
+// The pawn of the side to move on a square: not inlined, since the counts meet few pawns one by one.
 #[inline(never)]
 fn source_of_pawn(
     position: &Position,
