@@ -26,7 +26,7 @@ use Rattle.pg_moves.specs.inner.Places.{place_of, NoneFrom, IsCountBelow, Adds}
 use Rattle.pg_moves.specs.Counts.{IsGameCount}
 use Rattle.pg_moves.specs.Targets.{IsOwn, Advances, Strides, Leaps, CapturesEnPassant, FreeOff}
 use Rattle.pg_moves.specs.declared.pawns.PawnWays.{PawnWays}
-use Rattle.pg_moves.specs.inner.Pawns.{forward, IsInside, AreWays, IsQuiet, to_left, to_right, moves_from}
+use Rattle.pg_moves.specs.inner.Pawns.{forward, IsInside, AreWays, IsQuiet, to_west, to_east, moves_from}
 use Rattle.pg_moves.proofs.ShiftLemmas.{itself, total_add}
 use Rattle.pg_moves.proofs.TargetLemmas.{own_set}
 use Rattle.pg_moves.proofs.SearchLemmas.{own_gap}
@@ -168,20 +168,20 @@ front_is : (c : Color) (q : ℕ) → q < 64 → IsInside c 16 q → (file q ≡ 
 front_is White q l h = (omega arith, omega arith)
 front_is Black q l h = (omega arith, omega arith)
 
-beside : (c : Color) (q s : ℕ) → q < 64 → s < 64 → InPattern c Pawn q s → ((file q ≢ 1) × (s ≡ forward c (to_left c) q)) ⊎ ((file q ≢ 8) × (s ≡ forward c (to_right c) q))
+beside : (c : Color) (q s : ℕ) → q < 64 → s < 64 → InPattern c Pawn q s → ((file q ≢ 1) × (s ≡ forward c (to_west c) q)) ⊎ ((file q ≢ 8) × (s ≡ forward c (to_east c) q))
 unfolding InPattern
 beside White q s k l (a, r) = elim (eqb_tells (s + 1) (q + 8)) [ inl e ↦ (let f : s + 1 ≡ q + 8 = e.1 in inl (omega arith, omega arith)) | inr e ↦ (let f : s + 1 ≢ q + 8 = e.1 in inr (omega arith, omega arith)) ]
 beside Black q s k l (a, r) = elim (eqb_tells (s + 9) q) [ inl e ↦ (let f : s + 9 ≡ q = e.1 in inl (omega arith, omega arith)) | inr e ↦ (let f : s + 9 ≢ q = e.1 in inr (omega arith, omega arith)) ]
 
-left_is : (c : Color) (q : ℕ) → q < 64 → IsInside c 16 q → file q ≢ 1 → InPattern c Pawn q (forward c (to_left c) q)
+west_is : (c : Color) (q : ℕ) → q < 64 → IsInside c 16 q → file q ≢ 1 → InPattern c Pawn q (forward c (to_west c) q)
 unfolding InPattern
-left_is White q l h n = (omega arith, omega arith)
-left_is Black q l h n = (omega arith, omega arith)
+west_is White q l h n = (omega arith, omega arith)
+west_is Black q l h n = (omega arith, omega arith)
 
-right_is : (c : Color) (q : ℕ) → q < 64 → IsInside c 16 q → file q ≢ 8 → InPattern c Pawn q (forward c (to_right c) q)
+east_is : (c : Color) (q : ℕ) → q < 64 → IsInside c 16 q → file q ≢ 8 → InPattern c Pawn q (forward c (to_east c) q)
 unfolding InPattern
-right_is White q l h n = (omega arith, omega arith)
-right_is Black q l h n = (omega arith, omega arith)
+east_is White q l h n = (omega arith, omega arith)
+east_is Black q l h n = (omega arith, omega arith)
 
 -- four squares of the board, no two of them the same
 record AreApart (t u v w : ℕ) : Type 0 where
@@ -189,20 +189,20 @@ record AreApart (t u v w : ℕ) : Type 0 where
   first : (t ≢ u) × (t ≢ v) × (t ≢ w)
   rest : (u ≢ v) × (u ≢ w) × (v ≢ w)
 
-apart : (c : Color) (q : ℕ) → q < 64 → IsInside c 16 q → AreApart (forward c 8 q) (forward c 16 q) (forward c (to_left c) q) (forward c (to_right c) q)
+apart : (c : Color) (q : ℕ) → q < 64 → IsInside c 16 q → AreApart (forward c 8 q) (forward c 16 q) (forward c (to_west c) q) (forward c (to_east c) q)
 apart White q l h = record { on = (omega arith, omega arith, omega arith, omega arith); first = (λ e. omega arith, λ e. omega arith, λ e. omega arith); rest = (λ e. omega arith, λ e. omega arith, λ e. omega arith) }
 apart Black q l h = record { on = (omega arith, omega arith, omega arith, omega arith); first = (λ e. omega arith, λ e. omega arith, λ e. omega arith); rest = (λ e. omega arith, λ e. omega arith, λ e. omega arith) }
 
 module _ (b : Placement) (c : Color) (pawns : ℕ) (w : PawnWays) (is : AreWays b c pawns w) (q : ℕ) (low : q < 64) (mine : has pawns q ≡ true) (inside : IsInside c 16 q) where
   abbrev goal_of : ℕ → Type 0
-  goal_of s = (((s ≡ forward c 8 q) × (has w.once q ≡ true)) ⊎ ((s ≡ forward c 16 q) × (has w.twice q ≡ true))) ⊎ (((s ≡ forward c (to_left c) q) × (has w.left q ≡ true)) ⊎ ((s ≡ forward c (to_right c) q) × (has w.right q ≡ true)))
+  goal_of s = (((s ≡ forward c 8 q) × (has w.once q ≡ true)) ⊎ ((s ≡ forward c 16 q) × (has w.twice q ≡ true))) ⊎ (((s ≡ forward c (to_west c) q) × (has w.west q ≡ true)) ⊎ ((s ≡ forward c (to_east c) q) × (has w.east q ≡ true)))
 
   advance_forth : (s : ℕ) → s < 64 → Advances b c Pawn q s → goal_of s
   unfolding Advances Strides Leaps Goes
   advance_forth s l (inl (inl h)) = let at : s ≡ forward c 8 q = in_front c q s l h.1 in inl (inl (at, (is.once q low).1 (mine, subst (IsVacant b) at h.0)))
   advance_forth s l (inl (inr h)) = elim (beside c q s low l h.1.0) [
-    | inl g ↦ inr (inl (g.1, (is.left q low).1 (mine, g.0, subst (IsEnemy b c) g.1 h.0)))
-    | inr g ↦ inr (inr (g.1, (is.right q low).1 (mine, g.0, subst (IsEnemy b c) g.1 h.0)))
+    | inl g ↦ inr (inl (g.1, (is.west q low).1 (mine, g.0, subst (IsEnemy b c) g.1 h.0)))
+    | inr g ↦ inr (inr (g.1, (is.east q low).1 (mine, g.0, subst (IsEnemy b c) g.1 h.0)))
   ]
   advance_forth s l (inr (_, h)) = let at : s ≡ forward c 16 q = h.1 ∙ two_ahead c q in inl (inr (at, (is.twice q low).1 (mine, subst (IsVacant b) (one_ahead c q) h.2, h.0, subst (IsVacant b) at h.3)))
 
@@ -218,11 +218,11 @@ module _ (b : Placement) (c : Color) (pawns : ℕ) (w : PawnWays) (is : AreWays 
   advance_back s (inl (inr (at, e))) = (
       let h = (is.twice q low).0 e in
       inr (refl, (h.2, at ∙ sym (two_ahead c q), subst (IsVacant b) (sym (one_ahead c q)) h.1, subst (IsVacant b) (sym at) h.3)))
-  advance_back s (inr (inl (at, e))) = let h = (is.left q low).0 e in captures s (to_left c) at (left_is c q low inside h.1) h.2
-  advance_back s (inr (inr (at, e))) = let h = (is.right q low).0 e in captures s (to_right c) at (right_is c q low inside h.1) h.2
+  advance_back s (inr (inl (at, e))) = let h = (is.west q low).0 e in captures s (to_west c) at (west_is c q low inside h.1) h.2
+  advance_back s (inr (inr (at, e))) = let h = (is.east q low).0 e in captures s (to_east c) at (east_is c q low inside h.1) h.2
 
   abbrev goals_at : ℕ → Bool
-  goals_at = four (forward c 8 q) (forward c 16 q) (forward c (to_left c) q) (forward c (to_right c) q) (has w.once q) (has w.twice q) (has w.left q) (has w.right q)
+  goals_at = four (forward c 8 q) (forward c 16 q) (forward c (to_west c) q) (forward c (to_east c) q) (has w.once q) (has w.twice q) (has w.west q) (has w.east q)
 
   goals_set : IsSetOf (bits_below goals_at 64) (Advances b c Pawn q)
   goals_set s l = Decides-at _ _ (has-bits_below goals_at 64 s l) (Decides-like (goals_at s) (advance_back s) (advance_forth s l) (four_is _ _ _ _ _ _ _ _ s))
@@ -230,10 +230,10 @@ module _ (b : Placement) (c : Color) (pawns : ℕ) (w : PawnWays) (is : AreWays 
   goals_counted : moves_from w q ≡ count_below (has (bits_below goals_at 64)) 64
   unfolding moves_from
   goals_counted =
-      let z : AreApart (forward c 8 q) (forward c 16 q) (forward c (to_left c) q) (forward c (to_right c) q) = apart c q low inside in
+      let z : AreApart (forward c 8 q) (forward c 16 q) (forward c (to_west c) q) (forward c (to_east c) q) = apart c q low inside in
       sym (
       count_below_same (has (bits_below goals_at 64)) goals_at 64 (λ s l. has-bits_below goals_at 64 s l)
-      ∙ four_counted _ _ _ _ (has w.once q) (has w.twice q) (has w.left q) (has w.right q) z.on.0 z.on.1 z.on.2 z.on.3 z.first.0 z.first.1 z.first.2 z.rest.0 z.rest.1 z.rest.2
+      ∙ four_counted _ _ _ _ (has w.once q) (has w.twice q) (has w.west q) (has w.east q) z.on.0 z.on.1 z.on.2 z.on.3 z.first.0 z.first.1 z.first.2 z.rest.0 z.rest.1 z.rest.2
       )
 
 pub pawn_adds : (p : State) (b : Placement) (c : Color) (pawns : ℕ) (w : PawnWays) → b ≡ p.board → c ≡ p.side → AreWays b c pawns w → ((q : ℕ) → q < 64 → has pawns q ≡ true → IsQuiet p q) → (q : ℕ) → q < 64 → has pawns q ≡ true → Adds p (place_of q 0 0) (place_of (q + 1) 0 0) (moves_from w q)
@@ -252,8 +252,8 @@ no_ways b c pawns w is q l off =
     let none : has pawns q ≡ true → ⊥ = (λ e. cc) in
     let x : has w.once q ≡ false = false_of _ (λ e. none ((is.once q l).0 e).0) in
     let y : has w.twice q ≡ false = false_of _ (λ e. none ((is.twice q l).0 e).0) in
-    let z : has w.left q ≡ false = false_of _ (λ e. none ((is.left q l).0 e).0) in
-    let v : has w.right q ≡ false = false_of _ (λ e. none ((is.right q l).0 e).0) in
+    let z : has w.west q ≡ false = false_of _ (λ e. none ((is.west q l).0 e).0) in
+    let v : has w.east q ≡ false = false_of _ (λ e. none ((is.east q l).0 e).0) in
     omega (arith, ap one x, ap one y, ap one z, ap one v)
 
 -- ---- the loop over the other men

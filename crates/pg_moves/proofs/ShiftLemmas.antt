@@ -61,13 +61,13 @@ pub home_black : (c : Color) → c ≡ Black → IsSetOf 71776119061217280 (λ q
 unfolding bits_below
 home_black c e = subst (λ (d : Color). IsSetOf 71776119061217280 (λ q. rank q ≡ home_rank d)) (sym e) (λ q l. Decides-at _ _ (has-bits_below (λ s. eqb (rank s) 7) 64 q l) (Decides-eqb (rank q) 7))
 
-pub off_left_file : IsSetOf 18374403900871474942 (λ q. file q ≢ 1)
+pub off_a_file : IsSetOf 18374403900871474942 (λ q. file q ≢ 1)
 unfolding bits_below
-off_left_file q l = Decides-at _ _ (has-bits_below (λ s. not (eqb (file s) 1)) 64 q l) (Decides-not _ (Decides-eqb (file q) 1))
+off_a_file q l = Decides-at _ _ (has-bits_below (λ s. not (eqb (file s) 1)) 64 q l) (Decides-not _ (Decides-eqb (file q) 1))
 
-pub off_right_file : IsSetOf 9187201950435737471 (λ q. file q ≢ 8)
+pub off_h_file : IsSetOf 9187201950435737471 (λ q. file q ≢ 8)
 unfolding bits_below
-off_right_file q l = Decides-at _ _ (has-bits_below (λ s. not (eqb (file s) 8)) 64 q l) (Decides-not _ (Decides-eqb (file q) 8))
+off_h_file q l = Decides-at _ _ (has-bits_below (λ s. not (eqb (file s) 8)) 64 q l) (Decides-not _ (Decides-eqb (file q) 8))
 
 -- ---- sets
 none_held : (b : Placement) (q : ℕ) → ¬ (get b q ≢ None) → IsVacant b q
@@ -105,13 +105,13 @@ pub total_add : (f g : ℕ → ℕ) (n : ℕ) → total f n + total g n ≡ tota
 total_add f g zero = omega (arith, total-none f, total-none g, total-none (λ q. f q + g q))
 total_add f g (suc n) = let h : total f n + total g n ≡ total (λ q. f q + g q) n = total_add f g n in omega (arith, total-suc f n, total-suc g n, total-suc (λ q. f q + g q) n)
 
-pub ways_counted : (w : PawnWays) (i j m n : ℕ) → i ≡ count_below (has w.once) 64 → j ≡ count_below (has w.twice) 64 → m ≡ count_below (has w.left) 64 → n ≡ count_below (has w.right) 64 → (i + j) + (m + n) ≡ total (moves_from w) 64
+pub ways_counted : (w : PawnWays) (i j m n : ℕ) → i ≡ count_below (has w.once) 64 → j ≡ count_below (has w.twice) 64 → m ≡ count_below (has w.west) 64 → n ≡ count_below (has w.east) 64 → (i + j) + (m + n) ≡ total (moves_from w) 64
 unfolding moves_from
 ways_counted w i j m n a b c d =
     let f : ℕ → ℕ = λ q. one (has w.once q) in
     let g : ℕ → ℕ = λ q. one (has w.twice q) in
-    let h : ℕ → ℕ = λ q. one (has w.left q) in
-    let k : ℕ → ℕ = λ q. one (has w.right q) in
+    let h : ℕ → ℕ = λ q. one (has w.west q) in
+    let k : ℕ → ℕ = λ q. one (has w.east q) in
     let steps : i + j ≡ total (λ q. f q + g q) 64 = ap₂ (λ (x y : ℕ). x + y) a b ∙ total_add f g 64 in
     let captures : m + n ≡ total (λ q. h q + k q) 64 = ap₂ (λ (x y : ℕ). x + y) c d ∙ total_add h k 64 in
     ap₂ (λ (x y : ℕ). x + y) steps captures ∙ total_add (λ q. f q + g q) (λ q. h q + k q) 64
@@ -133,10 +133,10 @@ module _ (b : Placement) (c : Color) (pawns : ℕ) where
       (λ q l g. (((is q l).1 (g.0, g.1), g.2), g.3))
       h
 
-  pub side_set : (k j n m off left : ℕ) → j ≡ k → IsSetOf off (λ q. file q ≢ m) → ((q : ℕ) → has left q ≡ has pawns q && has off q) → IsSetOf n (λ q. (has left q ≡ true) × IsEnemy b c (forward c j q)) → IsSetOf n (λ q. (has pawns q ≡ true) × (file q ≢ m) × IsEnemy b c (forward c k q))
-  side_set k j n m off left e out both h = set_like n
-      (λ q l g. (let o = (set_of_both left pawns off both (itself pawns) out q l).0 g.0 in (o.0, o.1, subst (λ (i : ℕ). IsEnemy b c (forward c i q)) e g.1)))
-      (λ q l g. ((set_of_both left pawns off both (itself pawns) out q l).1 (g.0, g.1), subst (λ (i : ℕ). IsEnemy b c (forward c i q)) (sym e) g.2))
+  pub side_set : (k j n m off kept : ℕ) → j ≡ k → IsSetOf off (λ q. file q ≢ m) → ((q : ℕ) → has kept q ≡ has pawns q && has off q) → IsSetOf n (λ q. (has kept q ≡ true) × IsEnemy b c (forward c j q)) → IsSetOf n (λ q. (has pawns q ≡ true) × (file q ≢ m) × IsEnemy b c (forward c k q))
+  side_set k j n m off kept e out both h = set_like n
+      (λ q l g. (let o = (set_of_both kept pawns off both (itself pawns) out q l).0 g.0 in (o.0, o.1, subst (λ (i : ℕ). IsEnemy b c (forward c i q)) e g.1)))
+      (λ q l g. ((set_of_both kept pawns off both (itself pawns) out q l).1 (g.0, g.1), subst (λ (i : ℕ). IsEnemy b c (forward c i q)) (sym e) g.2))
       h
 
   pub once_inside : (once : ℕ) → IsSetOf once (λ q. (has pawns q ≡ true) × IsVacant b (forward c 8 q)) → AreInside c pawns → AreInside c once

@@ -102,7 +102,7 @@ impl LegalMoves {
         ensures { MatchOption result (IsLast position.now None)
             (λ a. IsNext position.now None a.m × IsPeeked position.now a) }
     {
-        let maybe_pinned = maybe_pinned(position);
+        let maybe_pinned = maybe_pinned(position, &position.board());
         match first_beyond(position, maybe_pinned, 0) {
             Some((m, source)) => Some(Peeked {
                 m,

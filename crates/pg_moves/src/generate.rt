@@ -17,7 +17,7 @@ use std::alloc::{AllocError, Global};
 pub fn next_legal(position: &Position, after: Option<Move>) -> Option<Move>
     ensures { MatchOption result (IsLast position.now after) (λ m. IsNext position.now after m) }
 {
-    let maybe_pinned = maybe_pinned(position);
+    let maybe_pinned = maybe_pinned(position, &position.board());
     match after {
         None => first_move(position, maybe_pinned, 0, 0, 0),
         Some(m) => first_move(

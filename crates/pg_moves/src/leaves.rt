@@ -54,7 +54,7 @@ pub(crate) fn count_moves(position: &Position) -> u64
 {
     let board = position.board();
     let side = position.side();
-    let maybe_pinned = maybe_pinned(position);
+    let maybe_pinned = maybe_pinned(position, &board);
     let own = board.squares_of_color(side);
     let pawns = quiet_pawns(position, &board, maybe_pinned);
     let ways = pawn_ways(&board, side, pawns);

@@ -9,7 +9,7 @@ ghost use Rattle.pg_position.specs.Position.{IsVacant};
 ghost use Rattle.pg_board.specs.SquareSets.{IsSetOf};
 ghost use Rattle.pg_position.specs.Step.{IsEnemy};
 ghost use Rattle.pg_position.specs.Squares.{home_rank};
-ghost use Rattle.pg_moves.specs.inner.Pawns.{forward, IsInside, AreInside, AreWays, IsQuiet, moves_from, one_rank, two_ranks, to_left, to_right};
+ghost use Rattle.pg_moves.specs.inner.Pawns.{forward, IsInside, AreInside, AreWays, IsQuiet, moves_from, one_rank, two_ranks, to_west, to_east};
 ghost use Rattle.pg_moves.specs.Targets.{FreeOff, CapturesEnPassant};
 
 use pg_board::{Board, Color, Kind, Man, SquareSet};
@@ -21,8 +21,8 @@ use pg_position::{Position, attacks_from};
 pub(crate) struct PawnWays {
     pub(crate) once: SquareSet,
     pub(crate) twice: SquareSet,
-    pub(crate) left: SquareSet,
-    pub(crate) right: SquareSet,
+    pub(crate) west: SquareSet,
+    pub(crate) east: SquareSet,
 }
 
 // How far the index of a square grows from one rank to the next.
@@ -50,14 +50,14 @@ fn home(color: Color) -> SquareSet
 }
 
 // The squares off the a-file.
-fn off_left() -> SquareSet
+fn off_a_file() -> SquareSet
     ensures { IsSetOf result (λ q. file q ≢ 1) }
 {
     SquareSet::of_bits(0xfefe_fefe_fefe_fefe)
 }
 
 // The squares off the h-file.
-fn off_right() -> SquareSet
+fn off_h_file() -> SquareSet
     ensures { IsSetOf result (λ q. file q ≢ 8) }
 {
     SquareSet::of_bits(0x7f7f_7f7f_7f7f_7f7f)
@@ -96,8 +96,8 @@ fn capturing(board: &Board, color: Color, pawns: SquareSet, by: u8) -> SquareSet
 }
 
 // How far a capture towards the a-file goes.
-fn to_left(color: Color) -> u8
-    ensures value { result ≡ to_left color }
+fn to_west(color: Color) -> u8
+    ensures value { result ≡ to_west color }
     ensures bound { result ≤ 16 }
 {
     match color {
@@ -107,8 +107,8 @@ fn to_left(color: Color) -> u8
 }
 
 // How far a capture towards the h-file goes.
-fn to_right(color: Color) -> u8
-    ensures value { result ≡ to_right color }
+fn to_east(color: Color) -> u8
+    ensures value { result ≡ to_east color }
     ensures bound { result ≤ 16 }
 {
     match color {
@@ -126,8 +126,8 @@ pub(crate) fn pawn_ways(board: &Board, color: Color, pawns: SquareSet) -> PawnWa
     PawnWays {
         once,
         twice: going_twice(board, color, once),
-        left: capturing(board, color, pawns & off_left(), to_left(color)),
-        right: capturing(board, color, pawns & off_right(), to_right(color)),
+        west: capturing(board, color, pawns & off_a_file(), to_west(color)),
+        east: capturing(board, color, pawns & off_h_file(), to_east(color)),
     }
 }
 
@@ -138,7 +138,7 @@ impl PawnWays {
         ensures bound { result ≤ 256 }
     {
         let steps = self.once.len() as u64 + self.twice.len() as u64;
-        let captures = self.left.len() as u64 + self.right.len() as u64;
+        let captures = self.west.len() as u64 + self.east.len() as u64;
         steps + captures
     }
 }

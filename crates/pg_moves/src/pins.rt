@@ -18,8 +18,8 @@ fn bits_of(board: &Board, color: Color, kind: Kind) -> u64
     board.squares_of(Man::new(color, kind)).bits()
 }
 
-// The squares of a colour where only the men of one colour are left, as the bits of a number.
-fn left_of(board: &Board, color: Color, side: Color) -> u64
+// The squares of the side where the colour's men stand alone, as the bits of a number: theirs, or none.
+fn alone_of(board: &Board, color: Color, side: Color) -> u64
     ensures { (q : ℕ) → q < 64 → has result q ≡ is_of side (only color (get board.now q)) }
 {
     match color {
@@ -38,8 +38,8 @@ fn left_of(board: &Board, color: Color, side: Color) -> u64
 fn men_of(board: &Board, color: Color) -> Board
     ensures { (q : ℕ) → q < 64 → get result q ≡ only color (get board.now q) }
 {
-    let white = left_of(board, color, Color::White);
-    let black = left_of(board, color, Color::Black);
+    let white = alone_of(board, color, Color::White);
+    let black = alone_of(board, color, Color::Black);
     let pawns = bits_of(board, color, Kind::Pawn);
     let knights = bits_of(board, color, Kind::Knight);
     let bishops = bits_of(board, color, Kind::Bishop);
@@ -59,7 +59,7 @@ fn men_of(board: &Board, color: Color) -> Board
 }
 
 // Whether the other colour would attack the square with none of the colour's men on the board.
-fn attacked_bare(board: &Board, square: Square, color: Color) -> bool
+fn attacked_alone(board: &Board, square: Square, color: Color) -> bool
     ensures { IsFalse result → (r : ℕ) → IsOwn board.now color r
         → ¬ Attacks (without board.now r) (other color) square }
 {
@@ -69,20 +69,20 @@ fn attacked_bare(board: &Board, square: Square, color: Color) -> bool
 // The squares of the men that may be pinned, so that their moves are to be tried: the king's alone
 // where he would not be attacked with none of his men on the board. Else all in check, and else the
 // king's and those that a queen would see from there.
-pub(crate) fn maybe_pinned(position: &Position) -> SquareSet
+pub(crate) fn maybe_pinned(position: &Position, board: &Board) -> SquareSet
+    requires { board.now ≡ position.now.board }
     ensures { FreeOff position.now result }
 {
     let side = position.side();
-    let board = position.board();
     let queen = Man::new(side, Kind::Queen);
     match board.king(side) {
         Some(king) => {
-            if !attacked_bare(&board, king, side) {
+            if !attacked_alone(board, king, side) {
                 SquareSet::single(king)
             } else if position.in_check() {
                 SquareSet::full()
             } else {
-                attacks_from(&board, queen, king) | SquareSet::single(king)
+                attacks_from(board, queen, king) | SquareSet::single(king)
             }
         }
         None => SquareSet::full(),

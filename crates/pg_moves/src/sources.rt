@@ -1,5 +1,5 @@
 //! The men of the side to move, and where each goes.
-ghost use Rattle.std.specs.Prelude.{◌≡◌, ◌<◌, ◌≤◌, ◌+◌};
+ghost use Rattle.std.specs.Prelude.{◌≡◌, ◌<◌, ◌≤◌, ◌+◌, ◌↔◌, IsTrue};
 ghost use Rattle.pg_position.specs.Position.{Stands};
 ghost use Rattle.pg_moves.specs.inner.Places.{place_of, IsNextWithin};
 ghost use Rattle.pg_moves.specs.inner.Sources.{IsSource};
@@ -9,7 +9,7 @@ use crate::kings::king_targets;
 use crate::pins::must_try;
 use crate::search::{first_of_exact, first_of_man};
 use crate::targets::{advances, targets};
-use pg_board::{Board, Color, Kind, Square, SquareSet};
+use pg_board::{Board, Color, Kind, Man, Square, SquareSet};
 use pg_position::{Move, Position};
 
 // A man of the side to move: where it may go, its kind, and whether it goes to just those squares, with
@@ -21,8 +21,8 @@ pub(crate) struct Source {
     pub(crate) exact: bool,
 }
 
-// The man of the side to move, of this colour and kind, on a square. Where a caller's loop reads the
-// colour off each man, LLVM cannot work out ahead of the loop what only a pawn needs of it.
+// The man of the side to move, of this colour and kind, on a square: the king with his legal moves, one
+// whose moves are to be tried with all squares to which they may go, any other with his advances.
 #[inline(always)]
 #[tactic(auto, unfolding(crate::specs::inner::Sources::IsSource))]
 fn source_of(
@@ -82,9 +82,7 @@ pub(crate) fn source_at(
     }
 }
 
-// The pawn of the side to move on a square. A function of its own for the counts, which meet few pawns
-// one by one: in their loop, what only a pawn needs of the colour would be worked out ahead for each
-// position.
+// The pawn of the side to move on a square: not inlined, since the counts meet few pawns one by one.
 #[inline(never)]
 fn source_of_pawn(
     position: &Position,
@@ -107,9 +105,37 @@ fn source_of_pawn(
     )
 }
 
+// Whether a man of this colour and kind stands on the square, by the set of these men.
+#[inline(always)]
+fn is_there(board: &Board, color: Color, kind: Kind, from: Square) -> bool
+    ensures { IsTrue result ↔ Stands board.now color kind from }
+{
+    board.squares_of(Man::new(color, kind)).contains(from)
+}
+
+// The kind of the colour's man on a square. The counts meet few pawns one by one: so they come last.
+#[inline(always)]
+fn kind_of(board: &Board, color: Color, from: Square) -> Kind
+    requires { IsOwn board.now color from }
+    ensures { Stands board.now color result from }
+{
+    if is_there(board, color, Kind::Knight, from) {
+        Kind::Knight
+    } else if is_there(board, color, Kind::Bishop, from) {
+        Kind::Bishop
+    } else if is_there(board, color, Kind::Rook, from) {
+        Kind::Rook
+    } else if is_there(board, color, Kind::Queen, from) {
+        Kind::Queen
+    } else if is_there(board, color, Kind::King, from) {
+        Kind::King
+    } else {
+        Kind::Pawn
+    }
+}
+
 // The man of the side to move on a square, for the counts: seldom a pawn.
 #[inline(always)]
-#[tactic(auto, using(crate::proofs::SearchLemmas::stands_own))]
 pub(crate) fn source_to_count(
     position: &Position,
     board: &Board,
@@ -121,19 +147,10 @@ pub(crate) fn source_to_count(
     requires own { IsOwn position.now.board position.now.side from }
     ensures { IsSource position.now from result }
 {
-    match board.get(from) {
-        Some(man) => match man.kind {
-            Kind::Pawn => source_of_pawn(position, board, maybe_pinned, from),
-            _ => source_of(
-                position,
-                board,
-                maybe_pinned,
-                position.side(),
-                man.kind,
-                from,
-            ),
-        },
-        None => unreachable!(),
+    let side = position.side();
+    match kind_of(board, side, from) {
+        Kind::Pawn => source_of_pawn(position, board, maybe_pinned, from),
+        kind => source_of(position, board, maybe_pinned, side, kind, from),
     }
 }
 

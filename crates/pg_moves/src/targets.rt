@@ -1,4 +1,4 @@
-//! Where the men of the side to move may go, as sets of squares, their king's safety apart.
+//! Where the men of the side to move may go, as sets of squares.
 ghost use Rattle.std.specs.Prelude.{◌≡◌, ◌≢◌, ℕ, ◌+◌, ◌-◌, ◌*◌, ◌<◌, ◌↔◌, IsTrue, true, Some};
 ghost use Rattle.pg_board.specs.Squares.{file, rank};
 ghost use Rattle.pg_position.specs.Geometry.{IsForward};

@@ -33,13 +33,13 @@ IsInside White n q = q + n < 64
 IsInside Black n q = n ≤ q
 
 -- how far a pawn's capture goes towards the a-file, and towards the h-file
-abbrev pub to_left : Color → ℕ
-to_left White = 7
-to_left Black = 9
+abbrev pub to_west : Color → ℕ
+to_west White = 7
+to_west Black = 9
 
-abbrev pub to_right : Color → ℕ
-to_right White = 9
-to_right Black = 7
+abbrev pub to_east : Color → ℕ
+to_east White = 9
+to_east Black = 7
 
 -- a pawn of the side to move that is free, neither promotes nor captures en passant, and has two ranks in front
 pub record IsQuiet (p : State) (q : ℕ) : Type 0 where
@@ -56,9 +56,9 @@ AreInside c pawns = (q : ℕ) → q < 64 → has pawns q ≡ true → IsInside c
 pub record AreWays (b : Placement) (c : Color) (pawns : ℕ) (w : PawnWays) : Type 0 where
   pub once : IsSetOf w.once (λ q. (has pawns q ≡ true) × IsVacant b (forward c one_rank q))
   pub twice : IsSetOf w.twice (λ q. (has pawns q ≡ true) × IsVacant b (forward c one_rank q) × (rank q ≡ home_rank c) × IsVacant b (forward c two_ranks q))
-  pub left : IsSetOf w.left (λ q. (has pawns q ≡ true) × (file q ≢ 1) × IsEnemy b c (forward c (to_left c) q))
-  pub right : IsSetOf w.right (λ q. (has pawns q ≡ true) × (file q ≢ 8) × IsEnemy b c (forward c (to_right c) q))
+  pub west : IsSetOf w.west (λ q. (has pawns q ≡ true) × (file q ≢ 1) × IsEnemy b c (forward c (to_west c) q))
+  pub east : IsSetOf w.east (λ q. (has pawns q ≡ true) × (file q ≢ 8) × IsEnemy b c (forward c (to_east c) q))
 
 -- how many of the moves go from q
 unfoldable pub moves_from : PawnWays → ℕ → ℕ
-moves_from w q = (one (has w.once q) + one (has w.twice q)) + (one (has w.left q) + one (has w.right q))
+moves_from w q = (one (has w.once q) + one (has w.twice q)) + (one (has w.west q) + one (has w.east q))
