@@ -74,16 +74,16 @@ fn captures_hold_after(diagram: &Diagram, position: &Position, m: &Move, left: u
 {
     let mover = position.side();
     let other = mover.other();
-    let wanted = diagram.board();
+    let goal = diagram.board();
     let here = victims_after(position, m);
     let own = victims_of(&position.board(), other);
     is_owed_wrongly(
         here,
-        victims_of(&wanted, mover),
+        victims_of(&goal, mover),
         plies_left(other, mover, left),
     ) || is_owed_wrongly(
         own,
-        victims_of(&wanted, other),
+        victims_of(&goal, other),
         plies_left(other, other, left),
     )
 }

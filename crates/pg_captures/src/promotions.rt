@@ -11,45 +11,45 @@ use pg_position::Position;
 
 // How many men of a class the board has too few.
 #[tactic(auto, unfolding(crate::specs::Owed::missing))]
-fn missing(wanted: &Board, board: &Board, color: Color, class: Class) -> u8
-    ensures value { result ≡ missing wanted.now board.now color class }
+fn missing(goal: &Board, board: &Board, color: Color, class: Class) -> u8
+    ensures value { result ≡ missing goal.now board.now color class }
     ensures few { result ≤ 64 }
 {
-    class_men(wanted, color, class).saturating_sub(class_men(board, color, class))
+    class_men(goal, color, class).saturating_sub(class_men(board, color, class))
 }
 
 /// How many men that are no pawns the colour has too few on a board to come to the wanted one, 0 to 320:
 /// queens, rooks, knights, bishops on light squares and bishops on dark squares, each for itself.
 #[tactic(auto, unfolding(crate::specs::Owed::shortage))]
-pub fn shortage(wanted: &Board, board: &Board, color: Color) -> u16
-    ensures value { result ≡ shortage wanted.now board.now color }
+pub fn shortage(goal: &Board, board: &Board, color: Color) -> u16
+    ensures value { result ≡ shortage goal.now board.now color }
     ensures few { result ≤ 320 }
 {
-    let queens = u16::from(missing(wanted, board, color, Class::Queens));
-    let rooks = u16::from(missing(wanted, board, color, Class::Rooks));
-    let knights = u16::from(missing(wanted, board, color, Class::Knights));
-    let light = u16::from(missing(wanted, board, color, Class::LightBishops));
-    let dark = u16::from(missing(wanted, board, color, Class::DarkBishops));
+    let queens = u16::from(missing(goal, board, color, Class::Queens));
+    let rooks = u16::from(missing(goal, board, color, Class::Rooks));
+    let knights = u16::from(missing(goal, board, color, Class::Knights));
+    let light = u16::from(missing(goal, board, color, Class::LightBishops));
+    let dark = u16::from(missing(goal, board, color, Class::DarkBishops));
     queens + rooks + knights + light + dark
 }
 
 /// Whether the colour lacks more men that are no pawns than it has pawns above those of the wanted board:
 /// no number of promotions leads there.
-pub fn is_short(wanted: &Board, board: &Board, color: Color) -> bool
-    ensures { IsTrue result ↔ PromotionsFor wanted.now board.now color }
+pub fn is_short(goal: &Board, board: &Board, color: Color) -> bool
+    ensures { IsTrue result ↔ PromotionsFor goal.now board.now color }
 {
     let here = u16::from(pawns(board, color));
-    let there = u16::from(pawns(wanted, color));
-    here < shortage(wanted, board, color) + there
+    let there = u16::from(pawns(goal, color));
+    here < shortage(goal, board, color) + there
 }
 
 #[tactic(auto, unfolding(crate::specs::Owed::PromotionsHolds))]
 fn promotions_hold(diagram: &Diagram, position: &Position) -> bool
     ensures { IsTrue result ↔ PromotionsHolds diagram.now position.now }
 {
-    let wanted = diagram.board();
+    let goal = diagram.board();
     let board = position.board();
-    is_short(&wanted, &board, Color::White) || is_short(&wanted, &board, Color::Black)
+    is_short(&goal, &board, Color::White) || is_short(&goal, &board, Color::Black)
 }
 
 /// The bound by promotions, code 2. Each man that the diagram has above those of the position must

@@ -12,25 +12,25 @@ use pg_position::Position;
 
 // How many pawns are short left and right of the line after the file `n + 1`.
 #[tactic(auto, unfolding(crate::specs::PawnFiles::line_need))]
-fn line_need(wanted: &Board, board: &Board, color: Color, n: u8) -> u16
+fn line_need(goal: &Board, board: &Board, color: Color, n: u8) -> u16
     requires { n < 7 }
-    ensures value { result ≡ line_need wanted.now board.now color n }
+    ensures value { result ≡ line_need goal.now board.now color n }
     ensures few { result ≤ 128 }
 {
-    let left = left_pawns(wanted, color, n).saturating_sub(left_pawns(board, color, n));
-    let right = right_pawns(wanted, color, n).saturating_sub(right_pawns(board, color, n));
+    let left = left_pawns(goal, color, n).saturating_sub(left_pawns(board, color, n));
+    let right = right_pawns(goal, color, n).saturating_sub(right_pawns(board, color, n));
     u16::from(left) + u16::from(right)
 }
 
 // How many file changes the pawns need.
 #[tactic(auto, using(crate::proofs::FileLemmas::totals), unfolding(crate::specs::PawnFiles::shift))]
-fn shift(wanted: &Board, board: &Board, color: Color) -> u16
-    ensures value { result ≡ shift wanted.now board.now color }
+fn shift(goal: &Board, board: &Board, color: Color) -> u16
+    ensures value { result ≡ shift goal.now board.now color }
     ensures few { result ≤ 896 }
 {
     let mut sum = 0;
     for n in 0..7u8 {
-        sum += line_need(wanted, board, color, n);
+        sum += line_need(goal, board, color, n);
     }
     sum
 }
@@ -45,22 +45,22 @@ pub fn shift_need(color: Color, diagram: &Diagram, position: &Position) -> u16
 }
 
 #[tactic(auto, using(crate::proofs::OwedLemmas::files_told))]
-fn pawn_files_hold_for(wanted: &Board, board: &Board, color: Color) -> bool
-    ensures { IsTrue result ↔ PawnFilesFor wanted.now board.now color }
+fn pawn_files_hold_for(goal: &Board, board: &Board, color: Color) -> bool
+    ensures { IsTrue result ↔ PawnFilesFor goal.now board.now color }
 {
     let here = u16::from(victims_of(board, color));
-    let there = u16::from(victims_of(wanted, color));
-    here < shift(wanted, board, color) + there
+    let there = u16::from(victims_of(goal, color));
+    here < shift(goal, board, color) + there
 }
 
 #[tactic(auto, unfolding(crate::specs::PawnFiles::PawnFilesHolds))]
 fn pawn_files_hold(diagram: &Diagram, position: &Position) -> bool
     ensures { IsTrue result ↔ PawnFilesHolds diagram.now position.now }
 {
-    let wanted = diagram.board();
+    let goal = diagram.board();
     let board = position.board();
-    pawn_files_hold_for(&wanted, &board, Color::White)
-        || pawn_files_hold_for(&wanted, &board, Color::Black)
+    pawn_files_hold_for(&goal, &board, Color::White)
+        || pawn_files_hold_for(&goal, &board, Color::Black)
 }
 
 /// The bound by pawn files, code 3. A pawn changes its file by a capture alone, one file at a time:

@@ -89,8 +89,8 @@ fn is_corner(s: Square) -> bool
     index == 0 || index == 7 || index == 56 || index == 63
 }
 
-// A knight goes two squares at most along files or ranks, and three in all, in one move, and each move
-// changes the colour of its square: so many moves are needed, and but for the cases below enough.
+// A knight goes at most two squares along files or along ranks in a move, three in all, and each move
+// changes the colour of its square. So it needs as many moves as this, and no more but near by.
 fn long_way(x: u8, y: u8) -> u8
     requires { (x < 8) × (y < 8) }
     ensures value { result ≡ long_way x y }
@@ -100,7 +100,7 @@ fn long_way(x: u8, y: u8) -> u8
     n + (n + x + y) % 2
 }
 
-// The same near by, where the other squares of a move lie elsewhere, or off the board.
+// The same, but for three cases near by that take more moves.
 fn knight_by(x: u8, y: u8, corner: bool) -> u8
     requires { (x < 8) × (y < 8) }
     ensures value { result ≡ knight_by x y corner }
