@@ -3,6 +3,7 @@ pub mod Reading
 pub mod Reader
 pub mod Writer
 pub mod Stream
+pub mod Pushing
 pub mod Counting
 pub mod Laws
 pub mod inner

@@ -3,21 +3,18 @@ use Rattle.std.proofs.Common.{◌≡◌, ℕ, List, ◌++◌, Option, Some, leng
 use Rattle.std.specs.Prelude.{codes, decimal}
 use Rattle.std.specs.Io.KnownBytes.{Appends}
 use Rattle.std.proofs.KnownBytes.{Appends-trans}
+use Rattle.pg_certificate.specs.Pushing.{AddsSome}
 use Rattle.pg_board.specs.Placement.{Placement}
 use Rattle.pg_position.specs.declared.moves.Move.{Move}
-use Rattle.pg_texts.specs.Report.{head_text, line_text}
-use Rattle.pg_texts.proofs.ReportLemmas.{LinesGrow, LineGrows}
+use Rattle.pg_texts.specs.Movetext.{IsMovetext}
+use Rattle.pg_texts.specs.Report.{AddsLine, AreGameLines, head_text, line_text}
 use Rattle.pg_cooks.specs.Standing.{IsKnownText, IsStanding, IsGamesReport, standing_text}
 use Rattle.pg_cooks.specs.declared.standing.Standing.{Standing}
 use Rattle.pg_cooks.specs.declared.finding.CookAnswer.{CookAnswer}
 use Rattle.pg_cooks.specs.Cooks.{IsAnswerText, IsCooksReport, IsEndText, IsFoundText, unfound_text}
 
--- the lines of known games were appended
-abbrev pub KnownGrows : Placement → ℕ → List (List Move) → Option (List ℕ) → Option (List ℕ) → Type 0
-KnownGrows d plies games old new = (text : List ℕ) × IsKnownText d plies games text × Appends old new text
-
 -- the head and the games
-pub known_grows : (d : Placement) (plies count : ℕ) (games : List (List Move)) (a b c : Option (List ℕ)) → count ≡ length games → Appends a b (head_text d plies count) → LinesGrow games b c → KnownGrows d plies games a c
+pub known_grows : (d : Placement) (plies count : ℕ) (games : List (List Move)) (a b c : Option (List ℕ)) → count ≡ length games → Appends a b (head_text d plies count) → AddsSome (AreGameLines games) b c → AddsSome (IsKnownText d plies games) a c
 known_grows d plies count games a b c many head (lines, are, grows) =
     let h : Appends a b (head_text d plies (length games)) = subst (λ (n : ℕ). Appends a b (head_text d plies n)) many head in (
       head_text d plies (length games) ++ lines,
@@ -26,8 +23,8 @@ known_grows d plies count games a b c many head (lines, are, grows) =
     )
 
 -- these, and what the games say
-pub standing_grows : (d : Placement) (plies : ℕ) (games : List (List Move)) (s : Standing) (words : List ℕ) (a b c : Option (List ℕ)) → IsStanding games s → words ≡ standing_text s → KnownGrows d plies games a b → Appends b c (line_text words)
-    → (text : List ℕ) × IsGamesReport d plies games text × Appends a c text
+pub standing_grows : (d : Placement) (plies : ℕ) (games : List (List Move)) (s : Standing) (words : List ℕ) (a b c : Option (List ℕ)) → IsStanding games s → words ≡ standing_text s → AddsSome (IsKnownText d plies games) a b → Appends b c (line_text words)
+    → AddsSome (IsGamesReport d plies games) a c
 standing_grows d plies games s words a b c is same (front, is_front, grows) last =
     let l : Appends b c (line_text (standing_text s)) = subst (λ (t : List ℕ). Appends b c (line_text t)) same last in (
       front ++ line_text (standing_text s),
@@ -36,8 +33,8 @@ standing_grows d plies games s words a b c is same (front, is_front, grows) last
     )
 
 -- these, and what was found
-pub cooks_grow : (d : Placement) (plies : ℕ) (games : List (List Move)) (answer : CookAnswer) (a b c : Option (List ℕ)) → KnownGrows d plies games a b → ((text : List ℕ) × IsAnswerText answer text × Appends b c text)
-    → (text : List ℕ) × IsCooksReport d plies games answer text × Appends a c text
+pub cooks_grow : (d : Placement) (plies : ℕ) (games : List (List Move)) (answer : CookAnswer) (a b c : Option (List ℕ)) → AddsSome (IsKnownText d plies games) a b → AddsSome (IsAnswerText answer) b c
+    → AddsSome (IsCooksReport d plies games answer) a c
 cooks_grow d plies games answer a b c (front, is_front, grows) (last, is_last, more) = (
   front ++ last,
   record { front = front; last = last; is_front = is_front; is_last = is_last; is = refl },
@@ -45,7 +42,7 @@ cooks_grow d plies games answer a b c (front, is_front, grows) (last, is_last, m
 )
 
 -- the movetext of a game, and the last line
-pub end_grows : (game : List Move) (a b c : Option (List ℕ)) → LineGrows game a b → Appends b c (line_text (codes "not sound")) → (text : List ℕ) × IsEndText game text × Appends a c text
+pub end_grows : (game : List Move) (a b c : Option (List ℕ)) → AddsLine (IsMovetext game) a b → Appends b c (line_text (codes "not sound")) → AddsSome (IsEndText game) a c
 end_grows game a b c (line, is, grows) last = (
   line_text line ++ line_text (codes "not sound"),
   (line, is, refl),
@@ -53,8 +50,8 @@ end_grows game a b c (line, is, grows) last = (
 )
 
 -- the line that says what a game is, and the lines of the game
-pub found_grows : (what : List ℕ) (game : List Move) (a b c : Option (List ℕ)) → Appends a b what → ((text : List ℕ) × IsEndText game text × Appends b c text)
-    → (text : List ℕ) × IsFoundText what game text × Appends a c text
+pub found_grows : (what : List ℕ) (game : List Move) (a b c : Option (List ℕ)) → Appends a b what → AddsSome (IsEndText game) b c
+    → AddsSome (IsFoundText what game) a c
 found_grows what game a b c first (rest, is, grows) = (what ++ rest, (rest, is, refl), Appends-trans a b c what rest first grows)
 
 -- the line that no game was found, with how far the search went
@@ -65,7 +62,7 @@ unfound_grows o k n a b is same h =
 
 -- the lines of a game that was found, as those of an answer
 pub answer_grows : (P : List ℕ → Type 0) (what : List ℕ) (game items : List Move) (a b c : Option (List ℕ)) → game ≡ items → ((x : List ℕ) → IsFoundText what items x → P x) → Appends a b what
-    → ((text : List ℕ) × IsEndText game text × Appends b c text) → (text : List ℕ) × P text × Appends a c text
+    → AddsSome (IsEndText game) b c → AddsSome P a c
 answer_grows P what game items a b c same says first rest =
     let (text, is, grows) = found_grows what game a b c first rest in
     (text, says text (subst (λ (x : List Move). IsFoundText what x text) same is), grows)

@@ -1,6 +1,6 @@
 //! The reports: of games that are known, and of what was found beside them.
-ghost use Rattle.std.specs.Prelude.{◌≡◌, ◌++◌, ℕ, List, true, false, IfOk, OnOk, OnErr, decimal, codes};
-ghost use Rattle.std.specs.Io.KnownBytes.{Appends};
+ghost use Rattle.std.specs.Prelude.{◌++◌, IfOk, decimal};
+ghost use Rattle.pg_certificate.specs.Pushing.{Adds, AddsSome, Pushes};
 ghost use Rattle.pg_san.specs.Games.{IsFromArray};
 ghost use Rattle.pg_texts.specs.Report.{line_text};
 ghost use Rattle.pg_cooks.specs.Standing.{IsKnownText, IsStanding, IsGamesReport};
@@ -22,10 +22,7 @@ fn write_known<W: Sink>(
     games: &Games,
     out: &mut W,
 ) -> Result<(), Refused>
-    ensures text { OnOk result ((text : List ℕ) × IsKnownText diagram.now length games.now text
-        × Appends (W.held out.old) (W.held out.new) text) }
-    ensures runs { OnOk result ((W.has_failed out.old ≡ false) × (W.has_failed out.new ≡ false)) }
-    ensures fault { OnErr result (W.has_failed out.new ≡ true) }
+    ensures { Pushes W.held W.has_failed (AddsSome (IsKnownText diagram.now length games.now)) out.old out.new result }
 {
     write_head(diagram, length, games.len(), out)?;
     write_games(games, out)
@@ -38,11 +35,9 @@ pub(crate) fn write_standing<W: Sink>(
     games: &Games,
     out: &mut W,
 ) -> Result<Standing, Refused>
-    ensures text { OnOk result ((text : List ℕ) × IsGamesReport diagram.now length games.now text
-        × Appends (W.held out.old) (W.held out.new) text) }
+    ensures push { Pushes W.held W.has_failed
+        (AddsSome (IsGamesReport diagram.now length games.now)) out.old out.new result }
     ensures standing { IfOk result (λ s. IsStanding games.now s) }
-    ensures runs { OnOk result ((W.has_failed out.old ≡ false) × (W.has_failed out.new ≡ false)) }
-    ensures fault { OnErr result (W.has_failed out.new ≡ true) }
 {
     let standing = standing_of(games);
     write_known(diagram, length, games, out)?;
@@ -52,10 +47,8 @@ pub(crate) fn write_standing<W: Sink>(
 
 // Appends a text, a number, a text and a line feed.
 fn write_numbered<W: Sink>(before: &str, n: usize, behind: &str, out: &mut W) -> Result<(), Refused>
-    ensures text { OnOk result (Appends (W.held out.old) (W.held out.new)
-        (before.now ++ (decimal n ++ line_text behind.now))) }
-    ensures runs { OnOk result ((W.has_failed out.old ≡ false) × (W.has_failed out.new ≡ false)) }
-    ensures fault { OnErr result (W.has_failed out.new ≡ true) }
+    ensures { Pushes W.held W.has_failed
+        (Adds (before.now ++ (decimal n ++ line_text behind.now))) out.old out.new result }
 {
     out.push(before.as_bytes())?;
     out.push(digits(n).as_bytes())?;
@@ -64,9 +57,7 @@ fn write_numbered<W: Sink>(before: &str, n: usize, behind: &str, out: &mut W) ->
 
 // Appends the line that no game was found, and how far the search says that it went.
 fn write_unfound<W: Sink>(foreign: Option<u8>, out: &mut W) -> Result<(), Refused>
-    ensures text { OnOk result (Appends (W.held out.old) (W.held out.new) (unfound_text foreign)) }
-    ensures runs { OnOk result ((W.has_failed out.old ≡ false) × (W.has_failed out.new ≡ false)) }
-    ensures fault { OnErr result (W.has_failed out.new ≡ true) }
+    ensures { Pushes W.held W.has_failed (Adds (unfound_text foreign)) out.old out.new result }
 {
     match foreign {
         Some(foreign) => {
@@ -80,10 +71,7 @@ fn write_unfound<W: Sink>(foreign: Option<u8>, out: &mut W) -> Result<(), Refuse
 // Appends a game that was found, behind the line that says what it is.
 fn write_found<W: Sink>(game: &[Move], out: &mut W) -> Result<(), Refused>
     requires { IsFromArray game.now }
-    ensures text { OnOk result ((text : List ℕ) × IsEndText game.now text
-        × Appends (W.held out.old) (W.held out.new) text) }
-    ensures runs { OnOk result ((W.has_failed out.old ≡ false) × (W.has_failed out.new ≡ false)) }
-    ensures fault { OnErr result (W.has_failed out.new ≡ true) }
+    ensures { Pushes W.held W.has_failed (AddsSome (IsEndText game.now)) out.old out.new result }
 {
     write_game(game, out)?;
     write_line("not sound", out)
@@ -92,10 +80,7 @@ fn write_found<W: Sink>(game: &[Move], out: &mut W) -> Result<(), Refused>
 // Appends the lines of what was found beside games that are known.
 fn write_answer<W: Sink>(answer: &CookAnswer, out: &mut W) -> Result<(), Refused>
     requires { IsTold answer.now }
-    ensures text { OnOk result ((text : List ℕ) × IsAnswerText answer.now text
-        × Appends (W.held out.old) (W.held out.new) text) }
-    ensures runs { OnOk result ((W.has_failed out.old ≡ false) × (W.has_failed out.new ≡ false)) }
-    ensures fault { OnErr result (W.has_failed out.new ≡ true) }
+    ensures { Pushes W.held W.has_failed (AddsSome (IsAnswerText answer.now)) out.old out.new result }
 {
     match answer {
         CookAnswer::Cook(game) => {
@@ -119,10 +104,8 @@ pub(crate) fn write_cooks<W: Sink>(
     out: &mut W,
 ) -> Result<(), Refused>
     requires { IsTold answer.now }
-    ensures text { OnOk result ((text : List ℕ) × IsCooksReport diagram.now length games.now answer.now text
-        × Appends (W.held out.old) (W.held out.new) text) }
-    ensures runs { OnOk result ((W.has_failed out.old ≡ false) × (W.has_failed out.new ≡ false)) }
-    ensures fault { OnErr result (W.has_failed out.new ≡ true) }
+    ensures { Pushes W.held W.has_failed
+        (AddsSome (IsCooksReport diagram.now length games.now answer.now)) out.old out.new result }
 {
     write_known(diagram, length, games, out)?;
     write_answer(answer, out)

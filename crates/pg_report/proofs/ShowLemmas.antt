@@ -4,6 +4,7 @@ use Rattle.std.specs.Prelude.{codes}
 use Rattle.std.specs.Option.{option_map}
 use Rattle.std.proofs.KnownBytes.{Appends-trans}
 use Rattle.std.specs.Io.KnownBytes.{Appends}
+use Rattle.pg_certificate.specs.Pushing.{AddsSome}
 use Rattle.pg_board.specs.Placement.{Placement}
 use Rattle.pg_board.specs.declared.man.Color.{Color}
 use Rattle.pg_board.specs.declared.man.Color.TheVariants.{White, Black}
@@ -45,15 +46,15 @@ need_grows c n need reason asked own w x y is has first second =
     subst (λ o. Appends w y (need_text c o reason asked)) (sym is)
     (Appends-trans w x y (codes "needs " ++ (counted_text n (codes " ply") (codes " plies") ++ reason_text reason)) _ first (subst (λ o. Appends x y (spare_text o n)) has second))
 
-pub side_grows : (d : Placement) (c : Color) (need : Option ℕ) (reason : Option Reason) (asked : Option ℕ) (w x y z : Option (List ℕ)) → IsSideNeed d c need reason → Appends w x (men_text d c) → Appends x y (captured_text d c) → Appends y z (need_text c need reason asked) → (text : List ℕ) × IsSideLine d c asked text × Appends w z text
+pub side_grows : (d : Placement) (c : Color) (need : Option ℕ) (reason : Option Reason) (asked : Option ℕ) (w x y z : Option (List ℕ)) → IsSideNeed d c need reason → Appends w x (men_text d c) → Appends x y (captured_text d c) → Appends y z (need_text c need reason asked) → AddsSome (IsSideLine d c asked) w z
 side_grows d c need reason asked w x y z is first second third = (
   men_text d c ++ (captured_text d c ++ need_text c need reason asked),
   (need, reason, is, refl),
   Appends-trans w x z (men_text d c) _ first (Appends-trans x y z (captured_text d c) (need_text c need reason asked) second third),
 )
 
-pub shown : (d : Placement) (asked least expected : Option ℕ) (v w x y z : Option (List ℕ)) → IsExpected asked expected → Appends v w (board_text d) → (text : List ℕ) × IsSideLine d White asked text × Appends w x text
-    → (text : List ℕ) × IsSideLine d Black asked text × Appends x y text → Appends y z (open_line least ++ expected_text expected) → (text : List ℕ) × IsShown d asked least text × Appends v z text
+pub shown : (d : Placement) (asked least expected : Option ℕ) (v w x y z : Option (List ℕ)) → IsExpected asked expected → Appends v w (board_text d) → AddsSome (IsSideLine d White asked) w x
+    → AddsSome (IsSideLine d Black asked) x y → Appends y z (open_line least ++ expected_text expected) → AddsSome (IsShown d asked least) v z
 shown d asked least expected v w x y z is board (white, is_white, second) (black, is_black, third) last = (
   board_text d ++ (white ++ (black ++ (open_line least ++ expected_text expected))),
   (white, black, expected, is_white, is_black, is, refl),
@@ -61,8 +62,8 @@ shown d asked least expected v w x y z is board (white, is_white, second) (black
 )
 
 -- the line of a colour that is this one
-pub side_of : (d : Placement) (c here : Color) (asked : Option ℕ) (x y : Option (List ℕ)) → here ≡ c → (text : List ℕ) × IsSideLine d here asked text × Appends x y text → (text : List ℕ) × IsSideLine d c asked text × Appends x y text
-side_of d c here asked x y is h = subst (λ k. (text : List ℕ) × IsSideLine d k asked text × Appends x y text) is h
+pub side_of : (d : Placement) (c here : Color) (asked : Option ℕ) (x y : Option (List ℕ)) → here ≡ c → AddsSome (IsSideLine d here asked) x y → AddsSome (IsSideLine d c asked) x y
+side_of d c here asked x y is h = subst (λ k. AddsSome (IsSideLine d k asked) x y) is h
 
 -- ---- refusals
 pub show_refused : {P : Type 0} (text : List ℕ) (d : Placement) (failed : Bool) (e : ShowFault) → diagram_of (fields text) ≡ Ok d → ((e ≡ Memory) × P) ⊎ ((e ≡ Write) × (failed ≡ true)) → IsShowFault text failed e

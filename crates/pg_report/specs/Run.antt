@@ -15,13 +15,32 @@ pub use Rattle.pg_texts.specs.Spelled.{AreSpelled}
 use Rattle.pg_checker.specs.declared.fault.RunFault.{RunFault}
 use Rattle.pg_checker.specs.declared.fault.RunFault.TheVariants.{Diagram, Length, Games, Check, Write}
 
--- why a check by the rules r ends without its report: the check does not say yes, for a cause that it has; or it did, and the sink has failed
-abbrev pub IsCheckFault : CheckRules → Placement → ℕ → List (List Move) → ℕ → ℕ → Option (List ℕ) → Bool → Bool → RunFault → Type 0
-IsCheckFault r d n list max_records max_named known failed broken (Check fault) =
-    Accepts r d list max_records max_named known (Err fault) × Refuses r d list max_records max_named known failed (Err fault)
-IsCheckFault r d n list max_records max_named known failed broken Write =
-    IsExactAnswer d n list × (broken ≡ true) × ((proved : Proved) × Accepts r d list max_records max_named known (Ok proved))
-IsCheckFault r d n list max_records max_named known failed broken fault = ⊥
+-- what is asked: the texts of a diagram, of a length and of a list of games
+pub record Texts : Type 0 where
+  pub diagram : List ℕ
+  pub length : List ℕ
+  pub games : List ℕ
+
+-- what the check goes by: the rules for what the texts spell, the limits, and the bytes that its source gives, where it tells them
+pub record Terms : Type 0 where
+  pub rules : Placement → ℕ → List (List Move) → CheckRules
+  pub max_records : ℕ
+  pub max_named : ℕ
+  pub known : Option (List ℕ)
+
+-- which have failed: the source of the check, and the sink of the report
+pub record Failures : Type 0 where
+  pub source : Bool
+  pub sink : Bool
+
+-- why a check of a list ends without its report: the check does not say yes, for a cause that it has; or it did, and the sink has failed
+abbrev pub IsCheckFault : Placement → ℕ → List (List Move) → Terms → Failures → RunFault → Type 0
+IsCheckFault d n list t failed (Check fault) =
+    Accepts (t.rules d n list) d list t.max_records t.max_named t.known (Err fault)
+    × Refuses (t.rules d n list) d list t.max_records t.max_named t.known failed.source (Err fault)
+IsCheckFault d n list t failed Write =
+    IsExactAnswer d n list × (failed.sink ≡ true) × ((proved : Proved) × Accepts (t.rules d n list) d list t.max_records t.max_named t.known (Ok proved))
+IsCheckFault d n list t failed fault = ⊥
 
 -- the cause lies in the texts alone
 abbrev pub IsOfTexts : RunFault → Type 0
@@ -30,11 +49,10 @@ IsOfTexts Write = ⊥
 IsOfTexts fault = Unit {0}
 
 -- why three texts and a certificate end without a report: a text is refused, the diagram first, then the length, then the games; else as the check of what they spell
-abbrev pub IsRunFault : (Placement → ℕ → List (List Move) → CheckRules) → List ℕ → List ℕ → List ℕ → ℕ → ℕ → Option (List ℕ) → Bool → Bool → RunFault → Type 0
-IsRunFault rules diagram length games max_records max_named known failed broken (Diagram fault) = IsProblemFault diagram length (Diagram fault)
-IsRunFault rules diagram length games max_records max_named known failed broken (Length fault) = IsProblemFault diagram length (Length fault)
-IsRunFault rules diagram length games max_records max_named known failed broken (Games fault) =
-    ((d : Placement) × (diagram_of (fields diagram) ≡ Ok d)) × ((n : ℕ) × (length_of length ≡ Ok n)) × IsTextFault games fault
-IsRunFault rules diagram length games max_records max_named known failed broken fault =
-    (d : Placement) × (n : ℕ) × (list : List (List Move)) × AreSpelled diagram length games d n list
-    × IsCheckFault (rules d n list) d n list max_records max_named known failed broken fault
+abbrev pub IsRunFault : Texts → Terms → Failures → RunFault → Type 0
+IsRunFault asked t failed (Diagram fault) = IsProblemFault asked.diagram asked.length (Diagram fault)
+IsRunFault asked t failed (Length fault) = IsProblemFault asked.diagram asked.length (Length fault)
+IsRunFault asked t failed (Games fault) =
+    ((d : Placement) × (diagram_of (fields asked.diagram) ≡ Ok d)) × ((n : ℕ) × (length_of asked.length ≡ Ok n)) × IsTextFault asked.games fault
+IsRunFault asked t failed fault =
+    (d : Placement) × (n : ℕ) × (list : List (List Move)) × AreSpelled asked.diagram asked.length asked.games d n list × IsCheckFault d n list t failed fault

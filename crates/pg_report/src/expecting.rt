@@ -1,6 +1,6 @@
 //! How many nodes a search may visit, by a rule of thumb.
-ghost use Rattle.std.specs.Prelude.{◌≡◌, ◌/◌, ◌%◌, ℕ, IfOk, OnOk, OnErr, true, false};
-ghost use Rattle.std.specs.Io.KnownBytes.{Appends};
+ghost use Rattle.std.specs.Prelude.{◌≡◌, ◌/◌, ◌%◌, ℕ, IfOk};
+ghost use Rattle.pg_certificate.specs.Pushing.{Adds, Pushes};
 ghost use Rattle.pg_report.specs.Expecting.{IsExpected, digit_text, expected_text, nodes_text, rounded, unit_text};
 
 use pg_certificate::{Refused, Sink};
@@ -48,24 +48,16 @@ fn rounded(hundredths: u32) -> u32
 fn digit_words(hundredths: u32) -> &'static str
     ensures { result.now ≡ digit_text hundredths }
 {
-    if hundredths <= 17 {
-        "1"
-    } else if hundredths <= 39 {
-        "2"
-    } else if hundredths <= 54 {
-        "3"
-    } else if hundredths <= 65 {
-        "4"
-    } else if hundredths <= 74 {
-        "5"
-    } else if hundredths <= 81 {
-        "6"
-    } else if hundredths <= 87 {
-        "7"
-    } else if hundredths <= 92 {
-        "8"
-    } else {
-        "9"
+    match hundredths {
+        0..=17 => "1",
+        0..=39 => "2",
+        0..=54 => "3",
+        0..=65 => "4",
+        0..=74 => "5",
+        0..=81 => "6",
+        0..=87 => "7",
+        0..=92 => "8",
+        _ => "9",
     }
 }
 
@@ -73,32 +65,20 @@ fn digit_words(hundredths: u32) -> &'static str
 fn unit_words(zeros: u32) -> &'static str
     ensures { result.now ≡ unit_text zeros }
 {
-    if zeros <= 0 {
-        ""
-    } else if zeros <= 1 {
-        "0"
-    } else if zeros <= 2 {
-        "00"
-    } else if zeros <= 3 {
-        " thousand"
-    } else if zeros <= 4 {
-        "0 thousand"
-    } else if zeros <= 5 {
-        "00 thousand"
-    } else if zeros <= 6 {
-        " million"
-    } else if zeros <= 7 {
-        "0 million"
-    } else if zeros <= 8 {
-        "00 million"
-    } else if zeros <= 9 {
-        " billion"
-    } else if zeros <= 10 {
-        "0 billion"
-    } else if zeros <= 11 {
-        "00 billion"
-    } else {
-        "000 billion or more"
+    match zeros {
+        0 => "",
+        0..=1 => "0",
+        0..=2 => "00",
+        0..=3 => " thousand",
+        0..=4 => "0 thousand",
+        0..=5 => "00 thousand",
+        0..=6 => " million",
+        0..=7 => "0 million",
+        0..=8 => "00 million",
+        0..=9 => " billion",
+        0..=10 => "0 billion",
+        0..=11 => "00 billion",
+        _ => "000 billion or more",
     }
 }
 
@@ -115,9 +95,7 @@ fn nodes_words(hundredths: u32) -> &'static str
 
 // Appends the line of what may be expected, where anything is.
 pub(crate) fn write_expected<W: Sink>(expected: Option<u32>, out: &mut W) -> Result<(), Refused>
-    ensures text { OnOk result (Appends (W.held out.old) (W.held out.new) (expected_text expected)) }
-    ensures runs { OnOk result ((W.has_failed out.old ≡ false) × (W.has_failed out.new ≡ false)) }
-    ensures fault { OnErr result (W.has_failed out.new ≡ true) }
+    ensures { Pushes W.held W.has_failed (Adds (expected_text expected)) out.old out.new result }
 {
     match expected {
         None => out.push(b""),

@@ -42,15 +42,18 @@ pub fn run_listed<R: Source, W: Sink>(
         × IsReport diagram.now length games.now text × Appends (W.held out.old) (W.held out.new) text) }
     ensures accepted { OnOk result ((proved : Proved)
         × Accepts (rules_by code_of excluded bounds.now diagram.now length games.now) diagram.now games.now
-        max_records max_named
-        (R.left source.old) (Ok proved)) }
+        max_records max_named (R.left source.old) (Ok proved)) }
     ensures end { OnOk result (IsAtEnd (R.left source.new)) }
     ensures runs { OnOk result (R.has_failed source.new ≡ false) }
     ensures written { OnOk result (W.has_failed out.new ≡ false) }
-    ensures err { IfErr result (λ e. IsCheckFault
-        (rules_by code_of excluded bounds.now diagram.now length games.now) diagram.now length games.now max_records
-        max_named
-        (R.left source.old) (R.has_failed source.new) (W.has_failed out.new) e) }
+    ensures err { IfErr result (IsCheckFault diagram.now length games.now
+        (record {
+          rules = rules_by code_of excluded bounds.now;
+          max_records = max_records;
+          max_named = max_named;
+          known = R.left source.old;
+        })
+        (record { source = R.has_failed source.new; sink = W.has_failed out.new })) }
     ensures unwritten { IfErr result (λ e. e ≢ RunFault.Write → out.new ≡ out.old) }
 {
     match check(
@@ -102,9 +105,15 @@ pub fn run_check<R: Source, W: Sink>(
     ensures end { OnOk result (IsAtEnd (R.left source.new)) }
     ensures runs { OnOk result (R.has_failed source.new ≡ false) }
     ensures written { OnOk result (W.has_failed out.new ≡ false) }
-    ensures err { IfErr result (λ e. IsRunFault
-        (rules_by code_of excluded bounds.now) diagram.now length.now games.now max_records max_named
-        (R.left source.old) (R.has_failed source.new) (W.has_failed out.new) e) }
+    ensures err { IfErr result (IsRunFault
+        (record { diagram = diagram.now; length = length.now; games = games.now })
+        (record {
+          rules = rules_by code_of excluded bounds.now;
+          max_records = max_records;
+          max_named = max_named;
+          known = R.left source.old;
+        })
+        (record { source = R.has_failed source.new; sink = W.has_failed out.new })) }
     ensures unwritten { IfErr result (λ e. e ≢ RunFault.Write → out.new ≡ out.old) }
     ensures unread { IfErr result (λ e. IsOfTexts e → source.new ≡ source.old) }
 {

@@ -1,8 +1,8 @@
 //! What is said at once of a diagram, for the eye.
-ghost use Rattle.std.specs.Prelude.{◌≡◌, ◌≢◌, ◌++◌, ◌⊎◌, ℕ, List, Option, Some, None, IfOk, IfErr, OnOk, OnErr, Ok, codes, true, false};
+ghost use Rattle.std.specs.Prelude.{◌≡◌, ◌≢◌, ◌++◌, ◌⊎◌, ℕ, Option, Some, None, IfErr, OnOk, Ok, codes, true, false};
 ghost use Rattle.std.specs.Option.{option_map};
 ghost use Rattle.std.specs.List.{list_any};
-ghost use Rattle.std.specs.Io.KnownBytes.{Appends};
+ghost use Rattle.pg_certificate.specs.Pushing.{Adds, AddsSome, Pushes};
 ghost use Rattle.pg_board.specs.Placement.{Placement};
 ghost use Rattle.pg_position.specs.Array.{array_state};
 ghost use Rattle.pg_board.specs.declared.man.Color.TheVariants.{White, Black};
@@ -29,9 +29,7 @@ use std::alloc::{AllocError, Global};
 
 // Appends a number, and what is said of one or of another number.
 fn write_counted<W: Sink>(n: usize, one: &str, many: &str, out: &mut W) -> Result<(), Refused>
-    ensures text { OnOk result (Appends (W.held out.old) (W.held out.new) (counted_text n one.now many.now)) }
-    ensures runs { OnOk result ((W.has_failed out.old ≡ false) × (W.has_failed out.new ≡ false)) }
-    ensures fault { OnErr result (W.has_failed out.new ≡ true) }
+    ensures { Pushes W.held W.has_failed (Adds (counted_text n one.now many.now)) out.old out.new result }
 {
     out.push(digits(n).as_bytes())?;
     let rest = if n == 1 { one } else { many };
@@ -50,9 +48,7 @@ fn name_of(color: Color) -> &'static str
 
 // Appends how many men a colour has.
 fn write_men<W: Sink>(color: Color, diagram: &Diagram, out: &mut W) -> Result<(), Refused>
-    ensures text { OnOk result (Appends (W.held out.old) (W.held out.new) (men_text diagram.now color)) }
-    ensures runs { OnOk result ((W.has_failed out.old ≡ false) × (W.has_failed out.new ≡ false)) }
-    ensures fault { OnErr result (W.has_failed out.new ≡ true) }
+    ensures { Pushes W.held W.has_failed (Adds (men_text diagram.now color)) out.old out.new result }
 {
     out.push(name_of(color).as_bytes())?;
     let men = all_men(&diagram.board(), color);
@@ -61,9 +57,7 @@ fn write_men<W: Sink>(color: Color, diagram: &Diagram, out: &mut W) -> Result<()
 
 // Appends how many men of the other colour are gone of 16.
 fn write_captured<W: Sink>(color: Color, diagram: &Diagram, out: &mut W) -> Result<(), Refused>
-    ensures text { OnOk result (Appends (W.held out.old) (W.held out.new) (captured_text diagram.now color)) }
-    ensures runs { OnOk result ((W.has_failed out.old ≡ false) × (W.has_failed out.new ≡ false)) }
-    ensures fault { OnErr result (W.has_failed out.new ≡ true) }
+    ensures { Pushes W.held W.has_failed (Adds (captured_text diagram.now color)) out.old out.new result }
 {
     let left = victims_of(&diagram.board(), color);
     out.push(digits(usize::from(16u8.saturating_sub(left))).as_bytes())?;
@@ -86,9 +80,7 @@ fn reason_words(reason: Option<Reason>) -> &'static str
 
 // Appends a comma, a number, and what is said of it.
 fn write_behind<W: Sink>(n: u8, words: &str, out: &mut W) -> Result<(), Refused>
-    ensures text { OnOk result (Appends (W.held out.old) (W.held out.new) (behind_text n words.now)) }
-    ensures runs { OnOk result ((W.has_failed out.old ≡ false) × (W.has_failed out.new ≡ false)) }
-    ensures fault { OnErr result (W.has_failed out.new ≡ true) }
+    ensures { Pushes W.held W.has_failed (Adds (behind_text n words.now)) out.old out.new result }
 {
     out.push(b", ")?;
     out.push(digits(usize::from(n)).as_bytes())?;
@@ -98,9 +90,7 @@ fn write_behind<W: Sink>(n: u8, words: &str, out: &mut W) -> Result<(), Refused>
 // Appends how many plies are left over, or short, of those that a colour has; the end of the line alone where no
 // length is asked.
 fn write_spare<W: Sink>(own: Option<u8>, needed: u8, out: &mut W) -> Result<(), Refused>
-    ensures text { OnOk result (Appends (W.held out.old) (W.held out.new) (spare_text own needed)) }
-    ensures runs { OnOk result ((W.has_failed out.old ≡ false) × (W.has_failed out.new ≡ false)) }
-    ensures fault { OnErr result (W.has_failed out.new ≡ true) }
+    ensures { Pushes W.held W.has_failed (Adds (spare_text own needed)) out.old out.new result }
 {
     match own {
         None => out.push(b"\n"),
@@ -116,10 +106,9 @@ fn write_spare<W: Sink>(own: Option<u8>, needed: u8, out: &mut W) -> Result<(), 
 
 // Appends how many plies a colour needs, and for what reason.
 fn write_plies<W: Sink>(plies: u8, reason: Option<Reason>, out: &mut W) -> Result<(), Refused>
-    ensures text { OnOk result (Appends (W.held out.old) (W.held out.new)
-        (codes "needs " ++ (counted_text plies (codes " ply") (codes " plies") ++ reason_text reason))) }
-    ensures runs { OnOk result ((W.has_failed out.old ≡ false) × (W.has_failed out.new ≡ false)) }
-    ensures fault { OnErr result (W.has_failed out.new ≡ true) }
+    ensures { Pushes W.held W.has_failed
+        (Adds (codes "needs " ++ (counted_text plies (codes " ply") (codes " plies") ++ reason_text reason)))
+        out.old out.new result }
 {
     out.push(b"needs ")?;
     write_counted(usize::from(plies), " ply", " plies", out)?;
@@ -128,10 +117,9 @@ fn write_plies<W: Sink>(plies: u8, reason: Option<Reason>, out: &mut W) -> Resul
 
 // Appends that no number of plies up to 64 is enough for a colour, and why.
 fn write_never<W: Sink>(reason: Option<Reason>, out: &mut W) -> Result<(), Refused>
-    ensures text { OnOk result (Appends (W.held out.old) (W.held out.new)
-        (codes "cannot stand so in 64.0 moves or less" ++ (reason_text reason ++ codes "\n"))) }
-    ensures runs { OnOk result ((W.has_failed out.old ≡ false) × (W.has_failed out.new ≡ false)) }
-    ensures fault { OnErr result (W.has_failed out.new ≡ true) }
+    ensures { Pushes W.held W.has_failed
+        (Adds (codes "cannot stand so in 64.0 moves or less" ++ (reason_text reason ++ codes "\n")))
+        out.old out.new result }
 {
     out.push(b"cannot stand so in 64.0 moves or less")?;
     out.push(reason_words(reason).as_bytes())?;
@@ -155,10 +143,8 @@ fn write_need<W: Sink>(
     asked: &Option<Length>,
     out: &mut W,
 ) -> Result<(), Refused>
-    ensures text { OnOk result (Appends (W.held out.old) (W.held out.new)
-        (need_text color need.plies need.reason asked.now)) }
-    ensures runs { OnOk result ((W.has_failed out.old ≡ false) × (W.has_failed out.new ≡ false)) }
-    ensures fault { OnErr result (W.has_failed out.new ≡ true) }
+    ensures { Pushes W.held W.has_failed
+        (Adds (need_text color need.plies need.reason asked.now)) out.old out.new result }
 {
     match need.plies {
         None => write_never(need.reason, out),
@@ -176,10 +162,8 @@ fn write_side<W: Sink>(
     asked: &Option<Length>,
     out: &mut W,
 ) -> Result<(), Refused>
-    ensures text { OnOk result ((text : List ℕ) × IsSideLine diagram.now offers.now.color asked.now text
-        × Appends (W.held out.old) (W.held out.new) text) }
-    ensures runs { OnOk result ((W.has_failed out.old ≡ false) × (W.has_failed out.new ≡ false)) }
-    ensures fault { OnErr result (W.has_failed out.new ≡ true) }
+    ensures { Pushes W.held W.has_failed
+        (AddsSome (IsSideLine diagram.now offers.now.color asked.now)) out.old out.new result }
 {
     let need = need_of(diagram, offers);
     write_men(offers.color, diagram, out)?;
@@ -189,9 +173,7 @@ fn write_side<W: Sink>(
 
 // Appends the line of the least length.
 fn write_open<W: Sink>(least: Option<Length>, out: &mut W) -> Result<(), Refused>
-    ensures text { OnOk result (Appends (W.held out.old) (W.held out.new) (open_line least)) }
-    ensures runs { OnOk result ((W.has_failed out.old ≡ false) × (W.has_failed out.new ≡ false)) }
-    ensures fault { OnErr result (W.has_failed out.new ≡ true) }
+    ensures { Pushes W.held W.has_failed (Adds (open_line least)) out.old out.new result }
 {
     match least {
         None => out.push(b"no game of 64.0 moves or less\n"),
@@ -213,10 +195,8 @@ struct Below {
 
 // Appends the line of the least length, and that of what may be expected of a search.
 fn write_below<W: Sink>(below: &Below, out: &mut W) -> Result<(), Refused>
-    ensures text { OnOk result (Appends (W.held out.old) (W.held out.new)
-        (open_line below.now.least ++ expected_text below.now.expected)) }
-    ensures runs { OnOk result ((W.has_failed out.old ≡ false) × (W.has_failed out.new ≡ false)) }
-    ensures fault { OnErr result (W.has_failed out.new ≡ true) }
+    ensures { Pushes W.held W.has_failed
+        (Adds (open_line below.now.least ++ expected_text below.now.expected)) out.old out.new result }
 {
     write_open(below.least, out)?;
     write_expected(below.expected, out)
@@ -233,10 +213,8 @@ fn write_shown<W: Sink>(
     requires white { white.now.color ≡ White }
     requires black { black.now.color ≡ Black }
     requires expected { IsExpected below.now.asked below.now.expected }
-    ensures text { OnOk result ((text : List ℕ) × IsShown diagram.now below.now.asked below.now.least text
-        × Appends (W.held out.old) (W.held out.new) text) }
-    ensures runs { OnOk result ((W.has_failed out.old ≡ false) × (W.has_failed out.new ≡ false)) }
-    ensures fault { OnErr result (W.has_failed out.new ≡ true) }
+    ensures { Pushes W.held W.has_failed
+        (AddsSome (IsShown diagram.now below.now.asked below.now.least)) out.old out.new result }
 {
     match write_board(diagram, out) {
         Ok(()) => {}
@@ -258,7 +236,7 @@ fn show<W: Sink>(
 ) -> Result<(), ShowFault>
     ensures ok { OnOk result ((least : Option ℕ) × NoneBelow diagram.now least
         × IsLeastLength (λ m. list_any (λ b. excluded b diagram.now array_state m) bounds.now) diagram.now least
-        × ((text : List ℕ) × IsShown diagram.now asked least text × Appends (W.held out.old) (W.held out.new) text)) }
+        × AddsSome (IsShown diagram.now asked least) (W.held out.old) (W.held out.new)) }
     ensures err { IfErr result (λ e. ((e ≡ ShowFault.Memory) × (out.new ≡ out.old))
         ⊎ ((e ≡ ShowFault.Write) × (W.has_failed out.new ≡ true))) }
     ensures runs { OnOk result ((W.has_failed out.old ≡ false) × (W.has_failed out.new ≡ false)) }
@@ -307,7 +285,7 @@ pub fn run_show<W: Sink>(
     ensures ok { OnOk result ((d : Placement) × (diagram_of (fields diagram.now) ≡ Ok d)
         × ((least : Option ℕ) × NoneBelow d least
         × IsLeastLength (λ m. list_any (λ b. excluded b d array_state m) bounds.now) d least
-        × ((text : List ℕ) × IsShown d None least text × Appends (W.held out.old) (W.held out.new) text))) }
+        × AddsSome (IsShown d None least) (W.held out.old) (W.held out.new))) }
     ensures err { IfErr result (λ e. IsShowFault diagram.now (W.has_failed out.new) e) }
     ensures unwritten { IfErr result (λ e. e ≢ ShowFault.Write → out.new ≡ out.old) }
     ensures runs { OnOk result ((W.has_failed out.old ≡ false) × (W.has_failed out.new ≡ false)) }
@@ -338,8 +316,9 @@ pub fn run_show_within<W: Sink>(
 ) -> Result<(), ShowFault>
     ensures ok { OnOk result ((d : Placement) × (n : ℕ) × (diagram_of (fields diagram.now) ≡ Ok d)
         × (length_of length.now ≡ Ok n)
-        × ((least : Option ℕ) × NoneBelow d least × IsLeastLength (λ m. list_any (λ b. excluded b d array_state m) bounds.now) d least
-        × ((text : List ℕ) × IsShown d (Some n) least text × Appends (W.held out.old) (W.held out.new) text))) }
+        × ((least : Option ℕ) × NoneBelow d least
+        × IsLeastLength (λ m. list_any (λ b. excluded b d array_state m) bounds.now) d least
+        × AddsSome (IsShown d (Some n) least) (W.held out.old) (W.held out.new))) }
     ensures err { IfErr result (λ e. IsShowWithinFault diagram.now length.now (W.has_failed out.new) e) }
     ensures unwritten { IfErr result (λ e. e ≢ ShowFault.Write → out.new ≡ out.old) }
     ensures runs { OnOk result ((W.has_failed out.old ≡ false) × (W.has_failed out.new ≡ false)) }

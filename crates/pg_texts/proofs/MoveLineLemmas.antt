@@ -2,19 +2,12 @@
 use Rattle.std.proofs.Common.{◌≡◌, ℕ, ◌+◌, ◌<◌, ◌≤◌, List, [], ◌∷◌, ◌++◌, Option, length, get_or, take, refl, sym, ap, subst, append_assoc, ◌∙◌}
 use Rattle.std.proofs.KnownBytes.{Appends-nil, Appends-trans}
 use Rattle.std.proofs.lemmas.List.{take_more, take_all}
-use Rattle.std.specs.Io.KnownBytes.{Appends}
+use Rattle.pg_certificate.specs.Pushing.{AddsSome}
 use Rattle.pg_position.specs.declared.state.State.{State}
 use Rattle.pg_position.specs.declared.moves.Move.{Move}
 use Rattle.pg_san.specs.Writing.{IsSan}
 use Rattle.pg_texts.specs.MovesText.{AreMoveLines}
-
--- the lines of these moves were appended
-abbrev pub LinesGrow : State → List Move → Option (List ℕ) → Option (List ℕ) → Type 0
-LinesGrow p ms old new = (text : List ℕ) × AreMoveLines p ms text × Appends old new text
-
--- the line of one move was appended
-abbrev pub LineGrows : State → Move → Option (List ℕ) → Option (List ℕ) → Type 0
-LineGrows p m old new = (text : List ℕ) × IsSan p m text × Appends old new (text ++ 10 ∷ [])
+use Rattle.pg_texts.specs.Report.{AddsLine}
 
 lines_more : (p : State) (ms : List Move) (m : Move) (text line : List ℕ) → AreMoveLines p ms text → IsSan p m line → AreMoveLines p (ms ++ m ∷ []) (text ++ (line ++ 10 ∷ []))
 unfolding AreMoveLines
@@ -27,11 +20,11 @@ lines_more p (x ∷ xs) m text line (first, rest, is, more, e) s = (
   ap (λ (l : List ℕ). l ++ (line ++ 10 ∷ [])) e ∙ append_assoc first (10 ∷ rest) (line ++ 10 ∷ []),
 )
 
-pub no_lines : (p : State) (ms : List Move) (held : Option (List ℕ)) → LinesGrow p (take 0 ms) held held
+pub no_lines : (p : State) (ms : List Move) (held : Option (List ℕ)) → AddsSome (AreMoveLines p (take 0 ms)) held held
 unfolding AreMoveLines
 no_lines p ms held = ([], refl, Appends-nil held)
 
-pub one_line_more : (p : State) (ms : List Move) (n : ℕ) (m : Move) (a b c : Option (List ℕ)) → n < length ms → m ≡ get_or ms n m → LinesGrow p (take n ms) a b → LineGrows p m b c → LinesGrow p (take (n + 1) ms) a c
+pub one_line_more : (p : State) (ms : List Move) (n : ℕ) (m : Move) (a b c : Option (List ℕ)) → n < length ms → m ≡ get_or ms n m → AddsSome (AreMoveLines p (take n ms)) a b → AddsLine (IsSan p m) b c → AddsSome (AreMoveLines p (take (n + 1) ms)) a c
 one_line_more p ms n m a b c low at (text, lines, grows) (line, san, more) =
     let e : take (n + 1) ms ≡ take n ms ++ m ∷ [] = take_more ms n m low ∙ ap (λ (x : Move). take n ms ++ x ∷ []) (sym at) in (
       text ++ (line ++ 10 ∷ []),
@@ -39,5 +32,5 @@ one_line_more p ms n m a b c low at (text, lines, grows) (line, san, more) =
       Appends-trans a b c text (line ++ 10 ∷ []) grows more,
     )
 
-pub all_lines : (p : State) (ms : List Move) (n : ℕ) (a b : Option (List ℕ)) → length ms ≤ n → LinesGrow p (take n ms) a b → LinesGrow p ms a b
-all_lines p ms n a b l h = subst (λ (x : List Move). LinesGrow p x a b) (take_all n ms l) h
+pub all_lines : (p : State) (ms : List Move) (n : ℕ) (a b : Option (List ℕ)) → length ms ≤ n → AddsSome (AreMoveLines p (take n ms)) a b → AddsSome (AreMoveLines p ms) a b
+all_lines p ms n a b l h = subst (λ (x : List Move). AddsSome (AreMoveLines p x) a b) (take_all n ms l) h

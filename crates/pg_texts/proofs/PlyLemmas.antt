@@ -5,6 +5,7 @@ use Rattle.std.proofs.lemmas.List.{take_more, take_all, take-append-drop, length
 use Rattle.std.proofs.Math.Seq.{drop-cons}
 use Rattle.std.specs.Prelude.{codes}
 use Rattle.std.specs.Io.KnownBytes.{Appends}
+use Rattle.pg_certificate.specs.Pushing.{AddsSome}
 use Rattle.pg_position.specs.declared.state.State.{State}
 use Rattle.pg_position.specs.declared.moves.Move.{Move}
 use Rattle.pg_position.specs.Array.{array_state}
@@ -15,8 +16,8 @@ use Rattle.pg_position.proofs.ArrayLemmas.{array_position}
 use Rattle.pg_position.proofs.FutureLemmas.{one_result, legal_position}
 use Rattle.pg_san.specs.Games.{IsFromArray}
 use Rattle.pg_san.specs.Writing.{IsSan}
-use Rattle.pg_texts.specs.Movetext.{space_text, number_text, ArePlies, IsMovetext, IsLongestGame}
-use Rattle.pg_texts.specs.inner.Plies.{PlyGrows, PliesGrow, Stops, IsPlayedOut}
+use Rattle.pg_texts.specs.Movetext.{AddsLongest, space_text, number_text, ArePlies, IsMovetext, IsLongestGame}
+use Rattle.pg_texts.specs.inner.Plies.{AddsPlies, AddsPly, Stops, IsPlayedOut}
 
 -- ---- one ply
 around : (front number san rest more : List ℕ) → (front ++ (number ++ (san ++ rest))) ++ more ≡ front ++ (number ++ (san ++ (rest ++ more)))
@@ -54,11 +55,11 @@ plies_game ply p [] q text h = h.0
 plies_game ply p (x ∷ xs) q text (s, first, rest, step, said, more, e) = (s, step, plies_game (ply + 1) s xs q rest more)
 
 -- ---- the loop
-pub no_plies : (ms : List Move) (held : Option (List ℕ)) → PliesGrow ms 0 array_state held held
+pub no_plies : (ms : List Move) (held : Option (List ℕ)) → AddsPlies ms 0 array_state held held
 unfolding ArePlies
 no_plies ms held = ([], (refl, refl), Appends-nil held)
 
-pub one_ply_more : (ms : List Move) (n : ℕ) (m : Move) (p q : State) (a b c : Option (List ℕ)) → n < length ms → m ≡ get_or ms n m → PliesGrow ms n p a b → Legal p m q → PlyGrows n p m b c → PliesGrow ms (n + 1) q a c
+pub one_ply_more : (ms : List Move) (n : ℕ) (m : Move) (p q : State) (a b c : Option (List ℕ)) → n < length ms → m ≡ get_or ms n m → AddsPlies ms n p a b → Legal p m q → AddsPly n p m b c → AddsPlies ms (n + 1) q a c
 one_ply_more ms n m p q a b c low at (text, plies, grows) legal (san, is, more) =
     let e : take (n + 1) ms ≡ take n ms ++ m ∷ [] = take_more ms n m low ∙ ap (λ (x : Move). take n ms ++ x ∷ []) (sym at) in
     let l : length (take n ms) ≡ n = length-take-le n ms (omega arith) in
@@ -69,7 +70,7 @@ one_ply_more ms n m p q a b c low at (text, plies, grows) legal (san, is, more) 
       Appends-trans a b c text next grows more,
     )
 
-pub played_to_the_end : (ms : List Move) (n : ℕ) (p : State) (a b : Option (List ℕ)) → length ms ≤ n → PliesGrow ms n p a b → IsPlayedOut ms (length ms) a b
+pub played_to_the_end : (ms : List Move) (n : ℕ) (p : State) (a b : Option (List ℕ)) → length ms ≤ n → AddsPlies ms n p a b → IsPlayedOut ms (length ms) a b
 played_to_the_end ms n p a b high (text, plies, grows) = record {
   within = omega arith;
   end = p;
@@ -82,7 +83,7 @@ next_at ms n m low at =
     let k : n + 1 ≡ suc n = omega arith in
     rw k (drop-cons ms n m low ∙ ap (λ (x : Move). x ∷ drop (suc n) ms) (sym at))
 
-pub played_until : (ms : List Move) (n : ℕ) (m : Move) (p : State) (a b : Option (List ℕ)) → n < length ms → m ≡ get_or ms n m → PliesGrow ms n p a b → ((q : State) → ¬ Legal p m q) → IsPlayedOut ms n a b
+pub played_until : (ms : List Move) (n : ℕ) (m : Move) (p : State) (a b : Option (List ℕ)) → n < length ms → m ≡ get_or ms n m → AddsPlies ms n p a b → ((q : State) → ¬ Legal p m q) → IsPlayedOut ms n a b
 played_until ms n m p a b low at grows illegal = record {
   within = omega arith;
   end = p;
@@ -133,16 +134,12 @@ longest_game ms n p within game stops = record {
 }
 
 -- ---- the movetext
--- the movetext of the longest game was appended
-abbrev pub GameGrows : List Move → Option (List ℕ) → Option (List ℕ) → Type 0
-GameGrows ms old new = (game : List Move) × IsLongestGame ms game × ((text : List ℕ) × IsMovetext game text × Appends old new text)
-
 movetext_of : (game : List Move) (q : State) (text : List ℕ) → 0 < length game → ArePlies 0 array_state game q text → IsMovetext game text
 unfolding IsMovetext
 movetext_of [] q text l h = absurd (omega arith)
 movetext_of (m ∷ ms) q text l h = (q, h)
 
-pub some_moves : (ms : List Move) (n : ℕ) (a b : Option (List ℕ)) → 0 < n → IsPlayedOut ms n a b → GameGrows ms a b
+pub some_moves : (ms : List Move) (n : ℕ) (a b : Option (List ℕ)) → 0 < n → IsPlayedOut ms n a b → AddsLongest ms a b
 some_moves ms n a b some out =
     let (text, plies, grows) = out.grows in
     let l : length (take n ms) ≡ n = length-take-le n ms out.within in
@@ -159,7 +156,7 @@ none_text : (p q : State) (text : List ℕ) → ArePlies 0 p [] q text → text 
 unfolding ArePlies
 none_text p q text h = h.1
 
-pub no_moves : (ms : List Move) (n : ℕ) (a b c : Option (List ℕ)) → n ≡ 0 → IsPlayedOut ms n a b → Appends b c (codes "-") → GameGrows ms a c
+pub no_moves : (ms : List Move) (n : ℕ) (a b c : Option (List ℕ)) → n ≡ 0 → IsPlayedOut ms n a b → Appends b c (codes "-") → AddsLongest ms a c
 no_moves ms n a b c zero_is out dash =
     let (text, plies, grows) = out.grows in
     let e : take n ms ≡ [] = ap (λ (k : ℕ). take k ms) zero_is in
@@ -168,7 +165,7 @@ no_moves ms n a b c zero_is out dash =
     ([], long, (codes "-", dash_for_none, nothing_appended a b c text (codes "-") none grows dash))
 
 -- the longest game of a game is that game
-pub whole_game : (ms : List Move) (a b : Option (List ℕ)) → IsFromArray ms → GameGrows ms a b → (text : List ℕ) × IsMovetext ms text × Appends a b text
+pub whole_game : (ms : List Move) (a b : Option (List ℕ)) → IsFromArray ms → AddsLongest ms a b → AddsSome (IsMovetext ms) a b
 whole_game ms a b legal (game, long, (text, is, grows)) =
     let l : length ms ≤ length game = long.longest ms [] (sym (append-nil ms)) legal in
     let k : length ms ≡ length game + length long.rest = ap (λ (x : List Move). length x) long.is ∙ length-append game long.rest in

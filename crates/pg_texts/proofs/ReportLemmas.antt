@@ -6,25 +6,18 @@ use Rattle.std.proofs.KnownBytes.{Appends-nil, Appends-trans}
 use Rattle.std.proofs.lemmas.List.{take_more, take_all}
 use Rattle.std.proofs.lemmas.Option.{get_or_from_slice_get}
 use Rattle.std.specs.Io.KnownBytes.{Appends}
+use Rattle.pg_certificate.specs.Pushing.{AddsSome}
 use Rattle.pg_board.specs.Placement.{Placement}
 use Rattle.pg_position.specs.declared.moves.Move.{Move}
 use Rattle.pg_san.specs.Games.{IsFromArray, IsGames}
-use Rattle.pg_texts.specs.Movetext.{IsMovetext}
+use Rattle.pg_texts.specs.Movetext.{AddsLongest, IsMovetext}
 use Rattle.pg_fen.specs.PlacementText.{placement_text}
 use Rattle.pg_fen.specs.Lengths.{length_text}
-use Rattle.pg_texts.specs.Report.{IsVerdict, IsReport, AreGameLines, line_text, labelled_text, verdict_text, head_text}
+use Rattle.pg_texts.specs.Report.{AddsLine, IsVerdict, IsReport, AreGameLines, line_text, labelled_text, verdict_text, head_text}
 use Rattle.pg_texts.specs.declared.verdict.Verdict.{Verdict}
-use Rattle.pg_texts.proofs.PlyLemmas.{GameGrows, whole_game}
+use Rattle.pg_texts.proofs.PlyLemmas.{whole_game}
 
--- the lines of these games were appended
-abbrev pub LinesGrow : List (List Move) → Option (List ℕ) → Option (List ℕ) → Type 0
-LinesGrow games old new = (text : List ℕ) × AreGameLines games text × Appends old new text
-
--- the line of one game was appended
-abbrev pub LineGrows : List Move → Option (List ℕ) → Option (List ℕ) → Type 0
-LineGrows game old new = (text : List ℕ) × IsMovetext game text × Appends old new (line_text text)
-
-pub game_line : (game : List Move) (a b c : Option (List ℕ)) → IsFromArray game → GameGrows game a b → Appends b c (10 ∷ []) → LineGrows game a c
+pub game_line : (game : List Move) (a b c : Option (List ℕ)) → IsFromArray game → AddsLongest game a b → Appends b c (10 ∷ []) → AddsLine (IsMovetext game) a c
 game_line game a b c legal grows feed = let (text, is, more) = whole_game game a b legal grows in (text, is, Appends-trans a b c text (10 ∷ []) more feed)
 
 lines_more : (games : List (List Move)) (g : List Move) (text line : List ℕ) → AreGameLines games text → IsMovetext g line → AreGameLines (games ++ g ∷ []) (text ++ (line ++ 10 ∷ []))
@@ -38,11 +31,11 @@ lines_more (x ∷ xs) g text line (first, rest, said, more, e) is = (
   ap (λ (l : List ℕ). l ++ (line ++ 10 ∷ [])) e ∙ append_assoc first (10 ∷ rest) (line ++ 10 ∷ []),
 )
 
-pub no_lines : (games : List (List Move)) (held : Option (List ℕ)) → LinesGrow (take 0 games) held held
+pub no_lines : (games : List (List Move)) (held : Option (List ℕ)) → AddsSome (AreGameLines (take 0 games)) held held
 unfolding AreGameLines
 no_lines games held = ([], refl, Appends-nil held)
 
-pub one_line_more : (games : List (List Move)) (n : ℕ) (g : List Move) (a b c : Option (List ℕ)) → n < length games → slice_get games n ≡ Some g → LinesGrow (take n games) a b → LineGrows g b c → LinesGrow (take (n + 1) games) a c
+pub one_line_more : (games : List (List Move)) (n : ℕ) (g : List Move) (a b c : Option (List ℕ)) → n < length games → slice_get games n ≡ Some g → AddsSome (AreGameLines (take n games)) a b → AddsLine (IsMovetext g) b c → AddsSome (AreGameLines (take (n + 1) games)) a c
 one_line_more games n g a b c low at (text, lines, grows) (line, is, more) =
     let here : get_or games n g ≡ g = get_or_from_slice_get games n g g at in
     let e : take (n + 1) games ≡ take n games ++ g ∷ [] = take_more games n g low ∙ ap (λ (x : List Move). take n games ++ x ∷ []) here in (
@@ -51,16 +44,16 @@ one_line_more games n g a b c low at (text, lines, grows) (line, is, more) =
       Appends-trans a b c text (line ++ 10 ∷ []) grows more,
     )
 
-pub all_lines : (games : List (List Move)) (n : ℕ) (a b : Option (List ℕ)) → length games ≤ n → LinesGrow (take n games) a b → LinesGrow games a b
-all_lines games n a b l h = subst (λ (x : List (List Move)). LinesGrow x a b) (take_all n games l) h
+pub all_lines : (games : List (List Move)) (n : ℕ) (a b : Option (List ℕ)) → length games ≤ n → AddsSome (AreGameLines (take n games)) a b → AddsSome (AreGameLines games) a b
+all_lines games n a b l h = subst (λ (x : List (List Move)). AddsSome (AreGameLines x) a b) (take_all n games l) h
 
 -- a game of the list is one from the initial array
 pub listed_game : (games : List (List Move)) (n : ℕ) (g : List Move) → IsGames games → n < length games → slice_get games n ≡ Some g → IsFromArray g
 listed_game games n g list low at = list.legal g (n, low, get_or_from_slice_get games n g g at)
 
 -- the three parts make the report
-pub report_grows : (d : Placement) (plies count : ℕ) (games : List (List Move)) (v : Verdict) (a b c e : Option (List ℕ)) → count ≡ length games → IsVerdict games v → Appends a b (head_text d plies count) → LinesGrow games b c → Appends c e (line_text (verdict_text v))
-    → (text : List ℕ) × IsReport d plies games text × Appends a e text
+pub report_grows : (d : Placement) (plies count : ℕ) (games : List (List Move)) (v : Verdict) (a b c e : Option (List ℕ)) → count ≡ length games → IsVerdict games v → Appends a b (head_text d plies count) → AddsSome (AreGameLines games) b c → Appends c e (line_text (verdict_text v))
+    → AddsSome (IsReport d plies games) a e
 report_grows d plies count games v a b c e many is head (lines, are, grows) last =
     let h : Appends a b (head_text d plies (length games)) = subst (λ (n : ℕ). Appends a b (head_text d plies n)) many head in (
       head_text d plies (length games) ++ (lines ++ line_text (verdict_text v)),

@@ -1,7 +1,8 @@
 -- The movetext of a game, as in `1. e4 e5 2. Nf3` (the PGN standard, section 8.2): before each move of White its number, a dot
 -- and a space; one space between two words; `-` for the game of no move.
-use Rattle.std.specs.Prelude.{◌≡◌, ℕ, ◌+◌, ◌/◌, ◌%◌, ◌≤◌, ◌==◌, List, [], ◌∷◌, ◌++◌, length, codes, if◌then◌else◌}
+use Rattle.std.specs.Prelude.{◌≡◌, ℕ, ◌+◌, ◌/◌, ◌%◌, ◌≤◌, ◌==◌, List, [], ◌∷◌, ◌++◌, Option, length, codes, if◌then◌else◌}
 use Rattle.std.specs.Fmt.{decimal}
+use Rattle.pg_certificate.specs.Pushing.{AddsSome}
 use Rattle.pg_position.specs.declared.state.State.{State}
 use Rattle.pg_position.specs.declared.moves.Move.{Move}
 use Rattle.pg_position.specs.Step.{Legal}
@@ -35,3 +36,7 @@ pub record IsLongestGame (ms game : List Move) : Type 0 where
   pub is : ms ≡ game ++ rest
   pub legal : IsFromArray game
   pub longest : (longer more : List Move) → ms ≡ longer ++ more → IsFromArray longer → length longer ≤ length game
+
+-- the movetext of this game is appended
+abbrev pub AddsLongest : List Move → Option (List ℕ) → Option (List ℕ) → Type 0
+AddsLongest ms before after = (game : List Move) × IsLongestGame ms game × AddsSome (IsMovetext game) before after

@@ -1,6 +1,7 @@
 -- The report of a diagram, a length and a list of games: what was asked, the games, and the verdict.
-use Rattle.std.specs.Prelude.{◌≡◌, ℕ, ◌≤◌, List, [], ◌∷◌, ◌++◌, length, codes}
+use Rattle.std.specs.Prelude.{◌≡◌, ℕ, ◌≤◌, List, [], ◌∷◌, ◌++◌, Option, length, codes}
 use Rattle.std.specs.Fmt.{decimal}
+use Rattle.std.specs.Io.KnownBytes.{Appends}
 use Prim.Native.Char.{code}
 use Rattle.pg_board.specs.Placement.{Placement}
 use Rattle.pg_position.specs.declared.moves.Move.{Move}
@@ -27,6 +28,10 @@ line_text text = text ++ code "\n" ∷ []
 
 abbrev pub labelled_text : List ℕ → List ℕ → List ℕ
 labelled_text label text = label ++ line_text text
+
+-- some text of this kind is appended, and a line feed
+abbrev pub AddsLine : (List ℕ → Type 0) → Option (List ℕ) → Option (List ℕ) → Type 0
+AddsLine Is before after = (text : List ℕ) × Is text × Appends before after (line_text text)
 
 -- the lines that say what was asked, and how many games there are
 unfoldable pub head_text : Placement → ℕ → ℕ → List ℕ

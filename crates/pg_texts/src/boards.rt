@@ -1,6 +1,6 @@
 //! A diagram for the eye.
-ghost use Rattle.std.specs.Prelude.{◌≡◌, ◌<◌, false, true, OnOk, OnErr, IfErr};
-ghost use Rattle.std.specs.Io.KnownBytes.{Appends};
+ghost use Rattle.std.specs.Prelude.{◌≡◌, ◌<◌, IfErr};
+ghost use Rattle.pg_certificate.specs.Pushing.{Adds, MayPush, Pushes};
 ghost use Rattle.pg_texts.specs.BoardText.{cell_of, squares_text, rank_line, upper_lines, board_text};
 
 use pg_board::{Board, Man, Square};
@@ -20,9 +20,7 @@ fn cell_of(man: Option<Man>) -> u8
 // Appends the squares of a rank, counted from 0, with a space before each.
 fn write_cells<W: Sink>(board: &Board, rank: u8, out: &mut W) -> Result<(), Refused>
     requires { rank < 8 }
-    ensures text { OnOk result (Appends (W.held out.old) (W.held out.new) (squares_text board.now rank 8)) }
-    ensures runs { OnOk result (W.has_failed out.new ≡ W.has_failed out.old) }
-    ensures fault { OnErr result (W.has_failed out.new ≡ true) }
+    ensures { MayPush W.held W.has_failed (Adds (squares_text board.now rank 8)) out.old out.new result }
 {
     for file in 0..8u8 {
         let man = board.get(Square::at(8 * rank + file));
@@ -34,9 +32,7 @@ fn write_cells<W: Sink>(board: &Board, rank: u8, out: &mut W) -> Result<(), Refu
 // Appends the line of a rank, counted from 0.
 fn write_rank<W: Sink>(board: &Board, rank: u8, out: &mut W) -> Result<(), Refused>
     requires { rank < 8 }
-    ensures text { OnOk result (Appends (W.held out.old) (W.held out.new) (rank_line board.now rank)) }
-    ensures runs { OnOk result ((W.has_failed out.old ≡ false) × (W.has_failed out.new ≡ false)) }
-    ensures fault { OnErr result (W.has_failed out.new ≡ true) }
+    ensures { Pushes W.held W.has_failed (Adds (rank_line board.now rank)) out.old out.new result }
 {
     out.push(&[b'1' + rank])?;
     write_cells(board, rank, out)?;
@@ -45,9 +41,7 @@ fn write_rank<W: Sink>(board: &Board, rank: u8, out: &mut W) -> Result<(), Refus
 
 // Appends the lines of the eight ranks, from the eighth down.
 fn write_ranks<W: Sink>(board: &Board, out: &mut W) -> Result<(), Refused>
-    ensures text { OnOk result (Appends (W.held out.old) (W.held out.new) (upper_lines board.now 8)) }
-    ensures runs { OnOk result (W.has_failed out.new ≡ W.has_failed out.old) }
-    ensures fault { OnErr result (W.has_failed out.new ≡ true) }
+    ensures { MayPush W.held W.has_failed (Adds (upper_lines board.now 8)) out.old out.new result }
 {
     for line in 0..8u8 {
         write_rank(board, 7 - line, out)?;
@@ -57,9 +51,7 @@ fn write_ranks<W: Sink>(board: &Board, out: &mut W) -> Result<(), Refused>
 
 // Appends the board.
 fn append_board<W: Sink>(board: &Board, out: &mut W) -> Result<(), Refused>
-    ensures text { OnOk result (Appends (W.held out.old) (W.held out.new) (board_text board.now)) }
-    ensures runs { OnOk result ((W.has_failed out.old ≡ false) × (W.has_failed out.new ≡ false)) }
-    ensures fault { OnErr result (W.has_failed out.new ≡ true) }
+    ensures { Pushes W.held W.has_failed (Adds (board_text board.now)) out.old out.new result }
 {
     write_ranks(board, out)?;
     out.push(b"  a b c d e f g h\n")
@@ -73,9 +65,8 @@ fn append_board<W: Sink>(board: &Board, out: &mut W) -> Result<(), Refused>
 /// # Errors
 /// `Write` where the sink has failed.
 pub fn write_board<W: Sink>(diagram: &Diagram, out: &mut W) -> Result<(), WriteFault>
-    ensures text { OnOk result (Appends (W.held out.old) (W.held out.new) (board_text diagram.now)) }
-    ensures runs { OnOk result ((W.has_failed out.old ≡ false) × (W.has_failed out.new ≡ false)) }
-    ensures fault { IfErr result (λ e. (e ≡ WriteFault.Write) × (W.has_failed out.new ≡ true)) }
+    ensures push { Pushes W.held W.has_failed (Adds (board_text diagram.now)) out.old out.new result }
+    ensures fault { IfErr result (λ e. e ≡ WriteFault.Write) }
 {
     match append_board(&diagram.board(), out) {
         Ok(()) => Ok(()),

@@ -1,7 +1,8 @@
 //! The number of games from a position.
-ghost use Rattle.std.specs.Prelude.{◌≡◌, ◌≢◌, ◌∷◌, [], ◌++◌, ◌≤◌, ℕ, IfErr, OnOk, OnErr, false, true};
+ghost use Rattle.std.specs.Prelude.{◌≡◌, ◌≢◌, ◌∷◌, [], ◌++◌, ◌≤◌, ℕ, IfErr, OnOk, false};
 ghost use Rattle.std.specs.Fmt.{decimal};
 ghost use Rattle.std.specs.Io.KnownBytes.{Appends};
+ghost use Rattle.pg_certificate.specs.Pushing.{Adds, Pushes};
 ghost use Rattle.pg_position.specs.declared.state.State.{State};
 ghost use Rattle.pg_moves.specs.Counts.{IsGameCount};
 ghost use Rattle.pg_texts.specs.MovesText.{SpellsPosition};
@@ -16,9 +17,7 @@ use std::alloc::Global;
 
 // Appends a number and a line feed.
 fn write_number<W: Sink>(n: u64, out: &mut W) -> Result<(), Refused>
-    ensures text { OnOk result (Appends (W.held out.old) (W.held out.new) (decimal n ++ 10 ∷ [])) }
-    ensures runs { OnOk result ((W.has_failed out.old ≡ false) × (W.has_failed out.new ≡ false)) }
-    ensures fault { OnErr result (W.has_failed out.new ≡ true) }
+    ensures { Pushes W.held W.has_failed (Adds (decimal n ++ 10 ∷ [])) out.old out.new result }
 {
     out.push(digits(n as usize).as_bytes())?;
     out.push(b"\n")

@@ -1,11 +1,12 @@
 //! The legal moves of a position, each on a line of its own.
-ghost use Rattle.std.specs.Prelude.{◌≡◌, ◌≢◌, ◌∷◌, [], ◌++◌, ℕ, List, true, false, IfOk, IfErr, OnOk, OnErr};
-ghost use Rattle.std.specs.Io.KnownBytes.{Appends};
+ghost use Rattle.std.specs.Prelude.{◌≡◌, ◌≢◌, IfOk, IfErr, OnOk};
+ghost use Rattle.pg_certificate.specs.Pushing.{AddsSome, MayPush, Pushes};
 ghost use Rattle.pg_position.specs.declared.state.State.{State};
 ghost use Rattle.pg_position.specs.Step.{IsLegal};
 ghost use Rattle.pg_moves.specs.Moves.{IsMoveList};
 ghost use Rattle.pg_san.specs.Writing.{IsSan};
 ghost use Rattle.pg_texts.specs.MovesText.{AreMoveLines, IsMovesText, SpellsPosition, IsRefusedAs, IsMovesFault};
+ghost use Rattle.pg_texts.specs.Report.{AddsLine};
 
 use crate::fault::MovesFault;
 use pg_certificate::{Refused, Sink};
@@ -26,10 +27,7 @@ pub(crate) fn game_of(text: &str) -> Result<FenGame, FenFault>
 // Appends the text of a legal move, and a line feed.
 fn write_line<W: Sink>(position: &Position, m: &Move, out: &mut W) -> Result<(), Refused>
     requires { IsLegal position.now m.now }
-    ensures line { OnOk result ((text : List ℕ) × IsSan position.now m.now text
-        × Appends (W.held out.old) (W.held out.new) (text ++ 10 ∷ [])) }
-    ensures runs { OnOk result ((W.has_failed out.old ≡ false) × (W.has_failed out.new ≡ false)) }
-    ensures fault { OnErr result (W.has_failed out.new ≡ true) }
+    ensures { Pushes W.held W.has_failed (AddsLine (IsSan position.now m.now)) out.old out.new result }
 {
     let text = write(position, *m);
     out.push(text.as_bytes())?;
@@ -39,10 +37,7 @@ fn write_line<W: Sink>(position: &Position, m: &Move, out: &mut W) -> Result<(),
 // Appends a line for each move of the list, in its order.
 fn write_lines<W: Sink>(position: &Position, moves: &[Move], out: &mut W) -> Result<(), Refused>
     requires { IsMoveList position.now moves.now }
-    ensures lines { OnOk result ((text : List ℕ) × AreMoveLines position.now moves.now text
-        × Appends (W.held out.old) (W.held out.new) text) }
-    ensures runs { OnOk result (W.has_failed out.new ≡ W.has_failed out.old) }
-    ensures fault { OnErr result (W.has_failed out.new ≡ true) }
+    ensures { MayPush W.held W.has_failed (AddsSome (AreMoveLines position.now moves.now)) out.old out.new result }
 {
     for m in moves {
         write_line(position, m, out)?;
@@ -61,7 +56,7 @@ fn write_lines<W: Sink>(position: &Position, moves: &[Move], out: &mut W) -> Res
 /// first two the sink is as it was.
 pub fn run_moves<W: Sink>(alloc: Global, fen: &str, out: &mut W) -> Result<(), MovesFault>
     ensures ok { OnOk result ((p : State) × SpellsPosition fen.now p
-        × ((text : List ℕ) × IsMovesText p text × Appends (W.held out.old) (W.held out.new) text)) }
+        × AddsSome (IsMovesText p) (W.held out.old) (W.held out.new)) }
     ensures err { IfErr result (λ e. IsMovesFault fen.now (W.has_failed out.new) e) }
     ensures unwritten { IfErr result (λ e. e ≢ MovesFault.Write → out.new ≡ out.old) }
     ensures runs { OnOk result (W.has_failed out.new ≡ W.has_failed out.old) }

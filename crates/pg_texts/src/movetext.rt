@@ -1,11 +1,9 @@
 //! Games as text.
-ghost use Rattle.std.specs.Prelude.{◌≡◌, ◌<◌, ℕ, List, true, false, IfOk, IfErr, OnOk, OnErr};
-ghost use Rattle.std.specs.Io.KnownBytes.{Appends};
-ghost use Rattle.pg_position.specs.declared.moves.Move.{Move};
+ghost use Rattle.std.specs.Prelude.{◌≡◌, ◌<◌, true, false, IfOk, IfErr, OnErr};
+ghost use Rattle.pg_certificate.specs.Pushing.{Adds, MayPush, Pushes};
 ghost use Rattle.pg_position.specs.Step.{IsLegal};
-ghost use Rattle.pg_san.specs.Writing.{IsSan};
-ghost use Rattle.pg_texts.specs.Movetext.{space_text, number_text, IsMovetext, IsLongestGame};
-ghost use Rattle.pg_texts.specs.inner.Plies.{PlyGrows, IsPlayedOut};
+ghost use Rattle.pg_texts.specs.Movetext.{AddsLongest, number_text, space_text};
+ghost use Rattle.pg_texts.specs.inner.Plies.{AddsPly, IsPlayedOut};
 
 use pg_certificate::{Refused, Sink, WriteFault};
 use pg_fen::text::digits;
@@ -14,9 +12,7 @@ use pg_san::write;
 
 // Appends the space before a ply, but for the first.
 fn write_space<W: Sink>(ply: usize, out: &mut W) -> Result<(), Refused>
-    ensures text { OnOk result (Appends (W.held out.old) (W.held out.new) (space_text ply)) }
-    ensures runs { OnOk result (W.has_failed out.new ≡ W.has_failed out.old) }
-    ensures fault { OnErr result (W.has_failed out.new ≡ true) }
+    ensures { MayPush W.held W.has_failed (Adds (space_text ply)) out.old out.new result }
 {
     if ply == 0 {
         return Ok(());
@@ -26,9 +22,7 @@ fn write_space<W: Sink>(ply: usize, out: &mut W) -> Result<(), Refused>
 
 // Appends the number before a ply of White's.
 fn write_number<W: Sink>(ply: usize, out: &mut W) -> Result<(), Refused>
-    ensures text { OnOk result (Appends (W.held out.old) (W.held out.new) (number_text ply)) }
-    ensures runs { OnOk result (W.has_failed out.new ≡ W.has_failed out.old) }
-    ensures fault { OnErr result (W.has_failed out.new ≡ true) }
+    ensures { MayPush W.held W.has_failed (Adds (number_text ply)) out.old out.new result }
 {
     if ply % 2 != 0 {
         return Ok(());
@@ -40,9 +34,7 @@ fn write_number<W: Sink>(ply: usize, out: &mut W) -> Result<(), Refused>
 // Appends a legal move, the ply with this number from 0, with what stands before it.
 fn write_ply<W: Sink>(ply: usize, position: &Position, m: &Move, out: &mut W) -> Result<(), Refused>
     requires { IsLegal position.now m.now }
-    ensures text { OnOk result (PlyGrows ply position.now m.now (W.held out.old) (W.held out.new)) }
-    ensures runs { OnOk result ((W.has_failed out.old ≡ false) × (W.has_failed out.new ≡ false)) }
-    ensures fault { OnErr result (W.has_failed out.new ≡ true) }
+    ensures { Pushes W.held W.has_failed (AddsPly ply position.now m.now) out.old out.new result }
 {
     write_space(ply, out)?;
     write_number(ply, out)?;
@@ -71,10 +63,7 @@ fn write_plies<W: Sink>(moves: &[Move], out: &mut W) -> Result<usize, Refused>
 
 // Appends the movetext of the longest front of the moves that is a game from the initial array.
 pub(crate) fn append_movetext<W: Sink>(moves: &[Move], out: &mut W) -> Result<(), Refused>
-    ensures text { OnOk result ((game : List Move) × IsLongestGame moves.now game
-        × ((text : List ℕ) × IsMovetext game text × Appends (W.held out.old) (W.held out.new) text)) }
-    ensures runs { OnOk result ((W.has_failed out.old ≡ false) × (W.has_failed out.new ≡ false)) }
-    ensures fault { OnErr result (W.has_failed out.new ≡ true) }
+    ensures { Pushes W.held W.has_failed (AddsLongest moves.now) out.old out.new result }
 {
     if write_plies(moves, out)? == 0 {
         return out.push(b"-");
@@ -89,10 +78,8 @@ pub(crate) fn append_movetext<W: Sink>(moves: &[Move], out: &mut W) -> Result<()
 /// # Errors
 /// `Write` where the sink has failed.
 pub fn write_movetext<W: Sink>(moves: &[Move], out: &mut W) -> Result<(), WriteFault>
-    ensures text { OnOk result ((game : List Move) × IsLongestGame moves.now game
-        × ((text : List ℕ) × IsMovetext game text × Appends (W.held out.old) (W.held out.new) text)) }
-    ensures runs { OnOk result ((W.has_failed out.old ≡ false) × (W.has_failed out.new ≡ false)) }
-    ensures fault { IfErr result (λ e. (e ≡ WriteFault.Write) × (W.has_failed out.new ≡ true)) }
+    ensures push { Pushes W.held W.has_failed (AddsLongest moves.now) out.old out.new result }
+    ensures fault { IfErr result (λ e. e ≡ WriteFault.Write) }
 {
     match append_movetext(moves, out) {
         Ok(()) => Ok(()),

@@ -1,9 +1,9 @@
 //! The report on a list of games.
-ghost use Rattle.std.specs.Prelude.{◌≡◌, ℕ, List, true, false, IfOk, IfErr, OnOk, OnErr};
-ghost use Rattle.std.specs.Io.KnownBytes.{Appends};
+ghost use Rattle.std.specs.Prelude.{◌≡◌, IfOk, IfErr};
+ghost use Rattle.pg_certificate.specs.Pushing.{Adds, AddsSome, MayPush, Pushes};
 ghost use Rattle.pg_san.specs.Games.{IsFromArray};
 ghost use Rattle.pg_texts.specs.Movetext.{IsMovetext};
-ghost use Rattle.pg_texts.specs.Report.{IsVerdict, IsReport, AreGameLines, line_text, labelled_text, head_text};
+ghost use Rattle.pg_texts.specs.Report.{AddsLine, AreGameLines, IsReport, IsVerdict, head_text, labelled_text, line_text};
 
 use crate::movetext::append_movetext;
 use crate::verdict::{Verdict, verdict_on, words};
@@ -18,9 +18,7 @@ use pg_san::Games;
 /// # Errors
 /// `Refused` where the sink has failed.
 pub fn write_line<W: Sink>(text: &str, out: &mut W) -> Result<(), Refused>
-    ensures text { OnOk result (Appends (W.held out.old) (W.held out.new) (line_text text.now)) }
-    ensures runs { OnOk result ((W.has_failed out.old ≡ false) × (W.has_failed out.new ≡ false)) }
-    ensures fault { OnErr result (W.has_failed out.new ≡ true) }
+    ensures { Pushes W.held W.has_failed (Adds (line_text text.now)) out.old out.new result }
 {
     out.push(text.as_bytes())?;
     out.push(b"\n")
@@ -28,9 +26,7 @@ pub fn write_line<W: Sink>(text: &str, out: &mut W) -> Result<(), Refused>
 
 // Appends a label, a text and a line feed.
 fn write_labelled<W: Sink>(label: &str, text: &str, out: &mut W) -> Result<(), Refused>
-    ensures text { OnOk result (Appends (W.held out.old) (W.held out.new) (labelled_text label.now text.now)) }
-    ensures runs { OnOk result ((W.has_failed out.old ≡ false) × (W.has_failed out.new ≡ false)) }
-    ensures fault { OnErr result (W.has_failed out.new ≡ true) }
+    ensures { Pushes W.held W.has_failed (Adds (labelled_text label.now text.now)) out.old out.new result }
 {
     out.push(label.as_bytes())?;
     write_line(text, out)
@@ -47,9 +43,7 @@ pub fn write_head<W: Sink>(
     count: usize,
     out: &mut W,
 ) -> Result<(), Refused>
-    ensures text { OnOk result (Appends (W.held out.old) (W.held out.new) (head_text diagram.now length count)) }
-    ensures runs { OnOk result ((W.has_failed out.old ≡ false) × (W.has_failed out.new ≡ false)) }
-    ensures fault { OnErr result (W.has_failed out.new ≡ true) }
+    ensures { Pushes W.held W.has_failed (Adds (head_text diagram.now length count)) out.old out.new result }
 {
     write_labelled("diagram ", diagram.write().as_str(), out)?;
     write_labelled("length ", length.write().as_str(), out)?;
@@ -62,10 +56,7 @@ pub fn write_head<W: Sink>(
 /// `Refused` where the sink has failed.
 pub fn write_game<W: Sink>(game: &[Move], out: &mut W) -> Result<(), Refused>
     requires { IsFromArray game.now }
-    ensures text { OnOk result ((text : List ℕ) × IsMovetext game.now text
-        × Appends (W.held out.old) (W.held out.new) (line_text text)) }
-    ensures runs { OnOk result ((W.has_failed out.old ≡ false) × (W.has_failed out.new ≡ false)) }
-    ensures fault { OnErr result (W.has_failed out.new ≡ true) }
+    ensures { Pushes W.held W.has_failed (AddsLine (IsMovetext game.now)) out.old out.new result }
 {
     append_movetext(game, out)?;
     out.push(b"\n")
@@ -76,10 +67,7 @@ pub fn write_game<W: Sink>(game: &[Move], out: &mut W) -> Result<(), Refused>
 /// # Errors
 /// `Refused` where the sink has failed.
 pub fn write_games<W: Sink>(games: &Games, out: &mut W) -> Result<(), Refused>
-    ensures lines { OnOk result ((text : List ℕ) × AreGameLines games.now text
-        × Appends (W.held out.old) (W.held out.new) text) }
-    ensures runs { OnOk result (W.has_failed out.new ≡ W.has_failed out.old) }
-    ensures fault { OnErr result (W.has_failed out.new ≡ true) }
+    ensures { MayPush W.held W.has_failed (AddsSome (AreGameLines games.now)) out.old out.new result }
 {
     for i in 0..games.len() {
         let Some(game) = games.game(i) else {
@@ -97,11 +85,9 @@ fn append_report<W: Sink>(
     games: &Games,
     out: &mut W,
 ) -> Result<Verdict, Refused>
-    ensures text { OnOk result ((text : List ℕ) × IsReport diagram.now length games.now text
-        × Appends (W.held out.old) (W.held out.new) text) }
+    ensures push { Pushes W.held W.has_failed
+        (AddsSome (IsReport diagram.now length games.now)) out.old out.new result }
     ensures verdict { IfOk result (λ v. IsVerdict games.now v) }
-    ensures runs { OnOk result ((W.has_failed out.old ≡ false) × (W.has_failed out.new ≡ false)) }
-    ensures fault { OnErr result (W.has_failed out.new ≡ true) }
 {
     let verdict = verdict_on(games);
     write_head(diagram, length, games.len(), out)?;
@@ -125,11 +111,10 @@ pub fn write_report<W: Sink>(
     games: &Games,
     out: &mut W,
 ) -> Result<Verdict, WriteFault>
-    ensures text { OnOk result ((text : List ℕ) × IsReport diagram.now length games.now text
-        × Appends (W.held out.old) (W.held out.new) text) }
+    ensures push { Pushes W.held W.has_failed
+        (AddsSome (IsReport diagram.now length games.now)) out.old out.new result }
     ensures verdict { IfOk result (λ v. IsVerdict games.now v) }
-    ensures runs { OnOk result ((W.has_failed out.old ≡ false) × (W.has_failed out.new ≡ false)) }
-    ensures fault { IfErr result (λ e. (e ≡ WriteFault.Write) × (W.has_failed out.new ≡ true)) }
+    ensures fault { IfErr result (λ e. e ≡ WriteFault.Write) }
 {
     match append_report(diagram, length, games, out) {
         Ok(verdict) => Ok(verdict),

@@ -5,7 +5,7 @@ ghost use Rattle.pg_certificate.specs.Reader.{to_come};
 ghost use Rattle.pg_certificate.specs.Reading.{more_at};
 ghost use Rattle.pg_certificate.specs.Spelling.{longest_record};
 ghost use Rattle.pg_certificate.specs.Writer.{written};
-ghost use Rattle.pg_texts.specs.inner.Copying.{Copies, CopiesOne, one_in};
+ghost use Rattle.pg_texts.specs.inner.Copying.{Copies, CopiesOne, IsCopying, one_in};
 ghost use Rattle.pg_texts.specs.Upgrade.{IsUpgraded, IsUpgradeFault, Takes, upgrade_fault_of, records_in, upgrade_of};
 
 use crate::fault::UpgradeFault;
@@ -30,13 +30,11 @@ fn copy_record<R: Source, W: Sink>(
     writer: &mut RecordWriter,
     out: &mut W,
 ) -> Result<(), UpgradeFault>
-    requires reads { (reader.old.failed ≡ false) × (reader.old.version ≡ 1) }
-    requires writes { writer.old.failed ≡ false }
+    requires { IsCopying reader.old writer.old }
     ensures copied { OnOk result (CopiesOne
         (to_come reader.old (R.left source.old)) (to_come reader.new (R.left source.new))
         (written (W.held out.old) writer.old) (written (W.held out.new) writer.new)) }
-    ensures reads { OnOk result ((reader.new.failed ≡ false) × (reader.new.version ≡ 1)) }
-    ensures writes { OnOk result (writer.new.failed ≡ false) }
+    ensures copying { OnOk result (IsCopying reader.new writer.new) }
     ensures room { length reader.new.held ≤ 4096 }
     ensures err { IfErr result (λ e. IsUpgradeFault one_in (to_come reader.old (R.left source.old))
         (R.has_failed source.new) (W.has_failed out.new) e) }
@@ -60,8 +58,7 @@ fn copy_records<R: Source, W: Sink>(
     out: &mut W,
     max_records: u64,
 ) -> Result<u64, UpgradeFault>
-    requires reads { (reader.old.failed ≡ false) × (reader.old.version ≡ 1) }
-    requires writes { writer.old.failed ≡ false }
+    requires copying { IsCopying reader.old writer.old }
     requires room { length reader.old.held ≤ 4096 }
     ensures copied { IfOk result (λ n. Copies n
         (to_come reader.old (R.left source.old)) (to_come reader.new (R.left source.new))
@@ -71,7 +68,7 @@ fn copy_records<R: Source, W: Sink>(
         (λ bytes. records_in max_records bytes ≡ Ok n)) }
     ensures end { OnOk result (IsAtEnd (to_come reader.new (R.left source.new))) }
     ensures runs { OnOk result (R.has_failed source.new ≡ false) }
-    ensures writes { OnOk result (writer.new.failed ≡ false) }
+    ensures copying { OnOk result (IsCopying reader.new writer.new) }
     ensures err { IfErr result (λ e. IsUpgradeFault (records_in max_records) (to_come reader.old (R.left source.old))
         (R.has_failed source.new) (W.has_failed out.new) e) }
     ensures takes { Takes (longest_record * max_records + 4096) (to_come reader.old (R.left source.old))

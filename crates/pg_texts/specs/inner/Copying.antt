@@ -1,10 +1,12 @@
 -- Records, copied from a source to a sink.
-use Rattle.std.specs.Prelude.{◌≡◌, ℕ, List, length, All, Option, Result, Ok}
+use Rattle.std.specs.Prelude.{◌≡◌, ℕ, false, List, length, All, Option, Result, Ok}
 use Rattle.std.specs.List.{flat_map}
 use Rattle.std.specs.Io.KnownBytes.{Consumes, Appends}
 use Rattle.pg_certificate.specs.declared.record.Record.{Record}
 use Rattle.pg_certificate.specs.Spelling.{spelling, IsRecordOf}
 use Rattle.pg_certificate.specs.Reading.{record_at}
+use Rattle.pg_certificate.specs.Reader.{ReaderState}
+use Rattle.pg_certificate.specs.Writer.{WriterState}
 use Rattle.pg_texts.specs.declared.fault.UpgradeFault.{UpgradeFault}
 use Rattle.pg_texts.specs.Upgrade.{◌>>=◌}
 
@@ -22,6 +24,12 @@ pub record Copies (n : ℕ) (before after : Option (List ℕ)) (old new : Option
   pub many : length nodes ≡ n
   pub taken : Consumes before after (flat_map spelling nodes)
   pub written : Appends old new (flat_map spelling nodes)
+
+-- neither side has refused, and records are read by version 1
+pub record IsCopying (reader : ReaderState) (writer : WriterState) : Type 0 where
+  pub reads : reader.failed ≡ false
+  pub version : reader.version ≡ 1
+  pub writes : writer.failed ≡ false
 
 -- one record, where one stands
 abbrev pub one_in : List ℕ → Result ℕ UpgradeFault

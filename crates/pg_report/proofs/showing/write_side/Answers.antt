@@ -1,13 +1,18 @@
-use Rattle.std.proofs.Common.{List, ℕ}
+use Rattle.std.proofs.Common.{rules}
 use Rattle.std.specs.Io.KnownBytes.{Appends}
+use Rattle.pg_certificate.specs.Pushing.{AddsSome}
 use Rattle.pg_report.specs.Showing.{need_text, IsSideLine}
 use Rattle.pg_texts.proofs.OutcomeLemmas.{on_ok}
 use Rattle.pg_report.proofs.ShowLemmas.{side_grows}
 use Rattle.pg_report.proofs.showing.write_side.Goals as goal
 
-pub returns-clause-text : goal.returns-clause-text
-returns-clause-text g c =
-    on_ok c.write_need.result (Appends (g.W.Sink.held c.write_captured.new.out) (g.W.Sink.held c.write_need.new.out) (need_text c.args.offers.now.color c.need_of-need.result.plies c.need_of-need.result.reason c.args.asked.now))
-    ((text : List ℕ) × IsSideLine c.args.diagram.now c.args.offers.now.color c.args.asked.now text × Appends (g.W.Sink.held c.args.out.now) (g.W.Sink.held c.write_need.new.out) text)
-    (side_grows c.args.diagram.now c.args.offers.now.color c.need_of-need.result.plies c.need_of-need.result.reason c.args.asked.now (g.W.Sink.held c.args.out.now) (g.W.Sink.held c.write_men.new.out) (g.W.Sink.held c.write_captured.new.out) (g.W.Sink.held c.write_need.new.out) c.need_of-need.ensures c.in_ok-write_men.ensures.text c.in_ok-write_captured.ensures.text)
-    c.write_need.ensures.text
+pub returns : goal.returns
+returns g c = record {
+  text =
+      on_ok c.write_need.result (Appends (g.W.Sink.held c.write_captured.new.out) (g.W.Sink.held c.write_need.new.out) (need_text c.args.offers.now.color c.need_of-need.result.plies c.need_of-need.result.reason c.args.asked.now))
+      (AddsSome (IsSideLine c.args.diagram.now c.args.offers.now.color c.args.asked.now) (g.W.Sink.held c.args.out.now) (g.W.Sink.held c.write_need.new.out))
+      (side_grows c.args.diagram.now c.args.offers.now.color c.need_of-need.result.plies c.need_of-need.result.reason c.args.asked.now (g.W.Sink.held c.args.out.now) (g.W.Sink.held c.write_men.new.out) (g.W.Sink.held c.write_captured.new.out) (g.W.Sink.held c.write_need.new.out) c.need_of-need.ensures c.in_ok-write_men.ensures.text c.in_ok-write_captured.ensures.text)
+      c.write_need.ensures.text;
+  runs = search rules;
+  fault = search rules;
+}

@@ -1,12 +1,12 @@
 use Rattle.std.proofs.Common.{refl, sym, ◌∙◌, subst, arith}
 use Rattle.pg_position.specs.declared.state.State.{State}
-use Rattle.pg_texts.specs.inner.Plies.{PliesGrow}
+use Rattle.pg_texts.specs.inner.Plies.{AddsPlies}
 use Rattle.pg_texts.proofs.PlyLemmas.{no_plies, one_ply_more, played_to_the_end, played_until}
 use Rattle.pg_texts.proofs.movetext.write_plies.Goals as goal
 
 pub loop-ply-init : goal.loop-ply-init
 loop-ply-init g c = record {
-  grows = subst (λ (p : State). PliesGrow c.args.moves.now 0 p (g.W.Sink.held c.args.out.now) (g.W.Sink.held c.args.out.now)) (sym c.array-position.ensures) (no_plies c.args.moves.now (g.W.Sink.held c.args.out.now));
+  grows = subst (λ (p : State). AddsPlies c.args.moves.now 0 p (g.W.Sink.held c.args.out.now) (g.W.Sink.held c.args.out.now)) (sym c.array-position.ensures) (no_plies c.args.moves.now (g.W.Sink.held c.args.out.now));
   same = refl;
   runs = λ l. absurd (omega arith);
 }

@@ -21,5 +21,9 @@ loop-i-preserved g c =
       runs = c.in_ok-write_game.ensures.runs.1 ∙ sym c.in_ok-write_game.ensures.runs.0 ∙ c.loop-i.invariant.runs;
     }
 
-pub returns-clause-lines : goal.returns-clause-lines
-returns-clause-lines g c = all_lines c.args.games.now c.loop-i.i (g.W.Sink.held c.args.out.now) (g.W.Sink.held c.loop-i.out) (omega (arith, c.loop-i-test.false, c.len-i-end.ensures.value)) c.loop-i.invariant.lines
+pub returns : goal.returns
+returns g c = record {
+  text = all_lines c.args.games.now c.loop-i.i (g.W.Sink.held c.args.out.now) (g.W.Sink.held c.loop-i.out) (omega (arith, c.loop-i-test.false, c.len-i-end.ensures.value)) c.loop-i.invariant.lines;
+  runs = c.loop-i.invariant.runs;
+  fault = tt;
+}

@@ -38,8 +38,6 @@ pub records-preserved : goal.records-preserved
 records-preserved g c = record {
   copied = one_copied c.records.count _ _ _ _ _ _ _ c.records.invariant.copied c.in-Ok-true.ensures.kept c.in-Ok.ensures.copied;
   few = omega (arith, c.records.invariant.few, c.if-count-max_records.false);
-  reads = c.in-Ok.ensures.reads.0;
-  version = c.in-Ok.ensures.reads.1;
-  writes = c.in-Ok.ensures.writes;
+  copying = c.in-Ok.ensures.copying;
   room = c.in-Ok.ensures.room;
 }

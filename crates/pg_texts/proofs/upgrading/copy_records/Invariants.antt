@@ -1,7 +1,7 @@
-use Rattle.std.proofs.Common.{◌≡◌, ◌-◌, ◌≤◌, false, length}
+use Rattle.std.proofs.Common.{◌-◌, ◌≤◌, length}
 use Rattle.pg_certificate.specs.Reader.{to_come}
 use Rattle.pg_certificate.specs.Writer.{written}
-use Rattle.pg_texts.specs.inner.Copying.{Copies}
+use Rattle.pg_texts.specs.inner.Copying.{Copies, IsCopying}
 use Rattle.pg_texts.proofs.upgrading.copy_records.Given as goal
 
 -- the records so far were copied, and neither side has refused
@@ -9,9 +9,7 @@ abbrev pub invariant-records : goal.invariant-records
 invariant-records g l = record {
   copied : Copies l.count (to_come l.fn.reader (g.R.Source.left l.fn.source)) (to_come l.reader (g.R.Source.left l.source)) (written (g.W.Sink.held l.fn.out) l.fn.writer) (written (g.W.Sink.held l.out) l.writer);
   few : l.count ≤ l.max_records;
-  reads : l.reader.failed ≡ false;
-  version : l.reader.version ≡ 1;
-  writes : l.writer.failed ≡ false;
+  copying : IsCopying l.reader l.writer;
   room : length l.reader.held ≤ 4096;
 }
 
