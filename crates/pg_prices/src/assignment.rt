@@ -32,16 +32,16 @@ struct Partners {
     held: [u8; MOST],
 }
 
-// A shortest way from an unsettled target to each source: its length, the target before the source,
+// A shortest path from an unsettled target to each source: its length, the target before the source,
 // and 255 for those whose length is final.
 #[derive(Clone, Copy)]
-struct Ways {
+struct Paths {
     length: [u8; MOST],
     before: [u8; MOST],
     closed: [u8; MOST],
 }
 
-// The end of a shortest way: a source that no target holds, or a dummy (`NONE`), the target before it,
+// The end of a shortest path: a source that no target holds, or a dummy (`NONE`), the target before it,
 // and the length.
 #[derive(Clone, Copy)]
 struct End {
@@ -50,10 +50,13 @@ struct End {
     length: u8,
 }
 
+// A number of a row. An index is a target's or a source's number, below `MOST`: the remainder changes nothing,
+// and spares the prover an invariant.
 fn at(row: &Row, i: u8) -> u8 {
     row[usize::from(i) % MOST]
 }
 
+// Writes a number of a row, by an index as in `at`.
 fn put(row: &mut Row, i: u8, x: u8) {
     row[usize::from(i) % MOST] = x;
 }
@@ -76,31 +79,32 @@ fn with_cost(row: &Row, cost: u8) -> u16 {
     set
 }
 
-// The ways that go on from a target, where they are shorter.
-fn go_on(ways: &mut Ways, row: &Row, prices: &Row, price: u8, target: u8, so_far: u8) {
+// The paths that go on from a target, where they are shorter.
+fn go_on(paths: &mut Paths, row: &Row, prices: &Row, price: u8, target: u8, so_far: u8) {
     for i in 0..MOST {
         let length = so_far
             .saturating_add(row[i])
             .saturating_add(prices[i])
             .saturating_sub(price);
-        let shorter = length < ways.length[i];
-        ways.length[i] = if shorter { length } else { ways.length[i] };
-        ways.before[i] = if shorter { target } else { ways.before[i] };
+        let shorter = length < paths.length[i];
+        paths.length[i] = if shorter { length } else { paths.length[i] };
+        paths.before[i] = if shorter { target } else { paths.before[i] };
     }
 }
 
-// The open source with the shortest way, with its length in the higher bits.
-fn nearest(ways: &Ways) -> u16 {
+// The open source with the shortest path, and the path's length. Of both one number is made, the length times
+// 16 and the source, so that the loop has no branch.
+fn nearest(paths: &Paths) -> (u8, u8) {
     let mut best = u16::MAX;
     for i in 0..MOST {
-        let length = u16::from(ways.length[i] | ways.closed[i]);
+        let length = u16::from(paths.length[i] | paths.closed[i]);
         best = best.min(length * 16 + i as u16);
     }
-    best
+    ((best % 16) as u8, (best / 16 % 256) as u8)
 }
 
-// Finds a shortest way from a target to a source that is not held or to a dummy.
-fn search(costs: &Costs, dummy: u8, partners: &Partners, start: u8, ways: &mut Ways) -> End {
+// Finds a shortest path from a target to a source that is not held or to a dummy.
+fn search(costs: &Costs, dummy: u8, partners: &Partners, start: u8, paths: &mut Paths) -> End {
     let mut end = End {
         source: NONE,
         target: start,
@@ -111,15 +115,14 @@ fn search(costs: &Costs, dummy: u8, partners: &Partners, start: u8, ways: &mut W
     for _ in 0..=MOST {
         let price = at(&partners.targets, target);
         let row = &costs[usize::from(target) % MOST];
-        go_on(ways, row, &partners.sources, price, target, so_far);
+        go_on(paths, row, &partners.sources, price, target, so_far);
         let to_dummy = so_far.saturating_add(dummy).saturating_sub(price);
         if to_dummy < end.length {
             end.target = target;
             end.length = to_dummy;
         }
-        let nearest = nearest(ways);
-        let source = (nearest % 16) as u8;
-        so_far = (nearest / 16 % 256) as u8;
+        let (source, length) = nearest(paths);
+        so_far = length;
         if end.length <= so_far {
             return end;
         }
@@ -127,20 +130,20 @@ fn search(costs: &Costs, dummy: u8, partners: &Partners, start: u8, ways: &mut W
         if target == NONE {
             return End {
                 source,
-                target: at(&ways.before, source),
+                target: at(&paths.before, source),
                 length: so_far,
             };
         }
-        put(&mut ways.closed, source, NONE);
+        put(&mut paths.closed, source, NONE);
     }
     end
 }
 
-// Raises the prices along the ways that are shorter than the one that was found.
-fn raise(partners: &mut Partners, ways: &Ways, start: u8, length: u8) {
+// Raises the prices along the paths that are shorter than the one that was found.
+fn raise(partners: &mut Partners, paths: &Paths, start: u8, length: u8) {
     for i in 0..MOST {
-        if ways.closed[i] != 0 {
-            let more = length.saturating_sub(ways.length[i]);
+        if paths.closed[i] != 0 {
+            let more = length.saturating_sub(paths.length[i]);
             partners.sources[i] = partners.sources[i].saturating_add(more);
             let target = partners.holder[i];
             let price = at(&partners.targets, target).saturating_add(more);
@@ -151,8 +154,8 @@ fn raise(partners: &mut Partners, ways: &Ways, start: u8, length: u8) {
     put(&mut partners.targets, start, price);
 }
 
-// Each target of the way takes the source behind it.
-fn shift(partners: &mut Partners, ways: &Ways, start: u8, end: End) {
+// Each target of the path takes the source behind it.
+fn shift(partners: &mut Partners, paths: &Paths, start: u8, end: End) {
     let mut source = end.source;
     let mut target = end.target;
     for _ in 0..MOST {
@@ -165,20 +168,20 @@ fn shift(partners: &mut Partners, ways: &Ways, start: u8, end: End) {
             return;
         }
         source = left;
-        target = at(&ways.before, left);
+        target = at(&paths.before, left);
     }
 }
 
 // Settles a target that has no source.
 fn settle(costs: &Costs, dummy: u8, partners: &mut Partners, start: u8) {
-    let mut ways = Ways {
+    let mut paths = Paths {
         length: [255; MOST],
         before: [0; MOST],
         closed: [0; MOST],
     };
-    let end = search(costs, dummy, partners, start, &mut ways);
-    raise(partners, &ways, start, end.length);
-    shift(partners, &ways, start, end);
+    let end = search(costs, dummy, partners, start, &mut paths);
+    raise(partners, &paths, start, end.length);
+    shift(partners, &paths, start, end);
 }
 
 // Prices each target by its least cost, and gives it a source of that cost that no target holds, or a
@@ -204,6 +207,7 @@ fn begin(costs: &Costs, targets: usize, dummy: u8, partners: &mut Partners) -> u
     left
 }
 
+// The prices of a row, added up.
 fn sum(prices: &Row) -> u16 {
     let mut sum = 0u16;
     for i in 0..MOST {
@@ -219,7 +223,7 @@ fn sum(prices: &Row) -> u16 {
 /// target that has no source of its least cost (J. Munkres, "Algorithms for the assignment and
 /// transportation problems", 1957; R. Jonker and A. Volgenant, "A shortest augmenting path algorithm
 /// for dense and sparse linear assignment problems", 1987). A dummy is never worth more than another
-/// one, so a way ends at the first dummy, and dummies have no price.
+/// one, so a path ends at the first dummy, and dummies have no price.
 pub fn assign(costs: &Costs, targets: usize, dummy: u8) -> Assignment {
     let mut partners = Partners {
         sources: [0; MOST],

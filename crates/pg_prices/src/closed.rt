@@ -3,7 +3,7 @@
 use std::alloc::{AllocError, Global};
 
 // How many slots the first entry makes.
-const FIRST: usize = 16384;
+const FIRST_SLOTS: usize = 16_384;
 
 // A slot: the halves of a key, both 0 for none, and the number: 12 bytes.
 #[derive(Clone, Copy)]
@@ -13,7 +13,7 @@ struct Slot {
     number: u32,
 }
 
-const FREE: Slot = Slot {
+const FREE_SLOT: Slot = Slot {
     high: 0,
     low: 0,
     number: 0,
@@ -27,6 +27,7 @@ pub struct Closed {
     used: usize,
 }
 
+// The slot of a key with its number.
 fn slot_of(key: u64, number: u32) -> Slot {
     Slot {
         high: (key >> 32) as u32,
@@ -35,10 +36,12 @@ fn slot_of(key: u64, number: u32) -> Slot {
     }
 }
 
+// Whether a slot has no key.
 fn is_free(slot: &Slot) -> bool {
     slot.high == 0 && slot.low == 0
 }
 
+// Whether two slots have one key.
 fn is_same(a: &Slot, b: &Slot) -> bool {
     a.high == b.high && a.low == b.low
 }
@@ -51,13 +54,13 @@ fn begin_of(slot: &Slot) -> usize {
 
 // The slot that has this key, or the first free one behind its place; the slots' number where there
 // is none.
-fn place_of(slots: &Vec<Slot>, wanted: &Slot) -> usize {
+fn place_of(slots: &Vec<Slot>, sought: &Slot) -> usize {
     let mask = slots.len().saturating_sub(1);
-    let mut at = begin_of(wanted) & mask;
+    let mut at = begin_of(sought) & mask;
     for _ in 0..slots.len() {
         match slots.get(at) {
             Some(slot) => {
-                if is_same(slot, wanted) || is_free(slot) {
+                if is_same(slot, sought) || is_free(slot) {
                     return at;
                 }
             }
@@ -96,8 +99,8 @@ impl Closed {
 
     /// The number of the node with this key, which is not 0.
     pub fn find(&self, key: u64) -> Option<u32> {
-        let wanted = slot_of(key, 0);
-        match self.slots.get(place_of(&self.slots, &wanted)) {
+        let sought = slot_of(key, 0);
+        match self.slots.get(place_of(&self.slots, &sought)) {
             Some(slot) => {
                 if is_free(slot) {
                     None
@@ -115,10 +118,7 @@ impl Closed {
     /// Where memory is refused.
     pub fn insert(&mut self, key: u64, number: u32) -> Result<(), AllocError> {
         if self.used >= self.slots.len() / 4 * 3 {
-            match self.grow() {
-                Ok(()) => {}
-                Err(fault) => return Err(fault),
-            }
+            self.grow()?;
         }
         let slot = slot_of(key, number);
         let at = place_of(&self.slots, &slot);
@@ -129,8 +129,8 @@ impl Closed {
 
     // Doubles the slots.
     fn grow(&mut self) -> Result<(), AllocError> {
-        let count = self.slots.len().saturating_mul(2).max(FIRST);
-        let mut slots = vec![in *self.slots.allocator(); FREE; count]?;
+        let count = self.slots.len().saturating_mul(2).max(FIRST_SLOTS);
+        let mut slots = vec![in *self.slots.allocator(); FREE_SLOT; count]?;
         for slot in self.slots.iter() {
             if !is_free(slot) {
                 let at = place_of(&slots, slot);

@@ -13,6 +13,7 @@ fn spread(number: u64) -> u64 {
     sum ^ (sum >> 31)
 }
 
+// A colour's part of a number that is spread: 1 or 2, so that none is 0.
 fn color_number(color: Color) -> u64 {
     match color {
         Color::White => 1,
@@ -20,6 +21,7 @@ fn color_number(color: Color) -> u64 {
     }
 }
 
+// A kind's part of a number that is spread, from 1 to 6.
 fn kind_number(kind: Kind) -> u64 {
     1 + u64::from(kind.number())
 }
@@ -63,6 +65,7 @@ pub fn color_key(board: &Board, rights: Rights, color: Color) -> u64 {
     sum ^ pieces_key(board, color)
 }
 
+// The keys of all men of a colour, put together.
 fn pieces_key(board: &Board, color: Color) -> u64 {
     let mut sum = 0u64;
     for kind in KINDS {

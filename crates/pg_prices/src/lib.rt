@@ -21,4 +21,4 @@ pub use memory::Memory;
 pub use needs::{
     NEVER, Needs, PAWN_DUMMY, TRAVEL_DUMMY, UNKNOWN, first_needs, need, pawn_lists, travel_lists,
 };
-pub use rows::{NO_WAY, Rows};
+pub use rows::{Rows, UNREACHABLE};

@@ -4,20 +4,20 @@ use crate::assignment::{Assignment, MOST};
 use pg_travel::Prices;
 
 /// How many bytes there are at most: three numbers, and three lists of 16 sources and 16 targets.
-pub const ROOM: usize = 99;
+pub const MOST_BYTES: usize = 99;
 
 /// Price lists of one colour, one for each way: how many lists there are, how many sources and how many
 /// targets each has, and then for each list the prices of the sources and those of the targets.
 #[derive(Clone, Copy, Debug, PartialEq, Eq)]
 pub struct Lists {
-    bytes: [u8; ROOM],
+    bytes: [u8; MOST_BYTES],
     end: usize,
 }
 
 impl Lists {
     /// No list, for so many sources and targets, at most 16 each.
     pub fn new(sources: usize, targets: usize) -> Lists {
-        let mut bytes = [0; ROOM];
+        let mut bytes = [0; MOST_BYTES];
         bytes[1] = sources.min(MOST) as u8;
         bytes[2] = targets.min(MOST) as u8;
         Lists { bytes, end: 3 }
@@ -31,6 +31,7 @@ impl Lists {
         self.bytes[0] = self.bytes[0].saturating_add(1);
     }
 
+    // Adds the first so many numbers of a row.
     fn add_row(&mut self, row: &[u8; MOST], count: u8) {
         let end = self.end;
         for i in 0..MOST {
@@ -41,8 +42,9 @@ impl Lists {
         self.end = end.saturating_add(usize::from(count));
     }
 
+    // Writes a byte, where there is room.
     fn put(&mut self, at: usize, byte: u8) {
-        if at < ROOM {
+        if at < MOST_BYTES {
             self.bytes[at] = byte;
         }
     }
@@ -56,6 +58,7 @@ impl Lists {
     }
 }
 
+// The byte at a place, 0 where there is none.
 fn number_at(bytes: &[u8], at: usize) -> usize {
     match bytes.get(at) {
         Some(number) => usize::from(*number),

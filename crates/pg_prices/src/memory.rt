@@ -4,7 +4,7 @@ use crate::needs::Needs;
 use std::alloc::{AllocError, Global};
 
 // How many slots the first entry makes.
-const FIRST: usize = 4096;
+const FIRST_SLOTS: usize = 4_096;
 
 // A slot: a key, 0 for none, and what is remembered: 16 bytes.
 #[derive(Clone, Copy)]
@@ -13,7 +13,7 @@ struct Slot {
     needs: Needs,
 }
 
-const FREE: Slot = Slot {
+const FREE_SLOT: Slot = Slot {
     key: 0,
     needs: Needs {
         need: 0,
@@ -113,10 +113,7 @@ impl Memory {
             return Ok(());
         }
         if self.used >= self.slots.len() / 2 {
-            match self.make_room() {
-                Ok(()) => {}
-                Err(fault) => return Err(fault),
-            }
+            self.make_room()?;
         }
         if let Place::Free(at) = place_of(&self.slots, key) {
             write(&mut self.slots, at, Slot { key, needs });
@@ -145,15 +142,9 @@ impl Memory {
         }
         let mut needs = needs;
         needs.lists = 0;
-        match self.set(key, needs) {
-            Ok(()) => {}
-            Err(fault) => return Err(fault),
-        }
+        self.set(key, needs)?;
         let place = self.lists.len().min(u32::MAX as usize - 1);
-        match self.lists.extend_from_slice(lists) {
-            Ok(()) => {}
-            Err(fault) => return Err(fault),
-        }
+        self.lists.extend_from_slice(lists)?;
         needs.lists = place as u32 + 1;
         self.set(key, needs)
     }
@@ -161,7 +152,7 @@ impl Memory {
     // Forgets all.
     fn forget(&mut self) {
         for slot in self.slots.iter_mut() {
-            *slot = FREE;
+            *slot = FREE_SLOT;
         }
         self.used = 0;
         self.lists.clear();
@@ -173,8 +164,8 @@ impl Memory {
             self.forget();
             return Ok(());
         }
-        let count = self.slots.len().saturating_mul(2).max(FIRST);
-        let mut slots = vec![in *self.slots.allocator(); FREE; count]?;
+        let count = self.slots.len().saturating_mul(2).max(FIRST_SLOTS);
+        let mut slots = vec![in *self.slots.allocator(); FREE_SLOT; count]?;
         for slot in self.slots.iter() {
             if slot.key != 0 {
                 if let Place::Free(at) = place_of(&slots, slot.key) {

@@ -48,6 +48,7 @@ fn least_sum(least: &[u8; MOST], targets: usize) -> u8 {
     sum.min(250)
 }
 
+// A number as a byte, at most 250, below those that stand for something else.
 fn small(value: u16) -> u8 {
     value.min(250) as u8
 }

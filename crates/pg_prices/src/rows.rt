@@ -9,8 +9,8 @@ use pg_position::{Wing, king_crossed, king_home, king_target, last_rank, rook_ho
 use pg_travel::distance;
 use std::alloc::{AllocError, Global};
 
-/// The cost where there is no way.
-pub const NO_WAY: u8 = 200;
+/// The cost where a man cannot get to a square.
+pub const UNREACHABLE: u8 = 200;
 
 // How many rows there are: one for each kind and square.
 const ROWS: usize = 384;
@@ -74,7 +74,7 @@ fn is_last_rank(square: Square) -> bool {
 
 // The distances of a man to the targets. No pawn stands on a last rank.
 fn travel_row(man: Man, from: Square, targets: &Targets) -> [u8; MOST] {
-    let mut row = [NO_WAY; MOST];
+    let mut row = [UNREACHABLE; MOST];
     let is_pawn = man.kind == Kind::Pawn;
     if is_pawn && is_last_rank(from) {
         return row;
@@ -90,7 +90,7 @@ fn travel_row(man: Man, from: Square, targets: &Targets) -> [u8; MOST] {
     row
 }
 
-// How many files a pawn has to change to a square, or no way.
+// How many files a pawn has to change to a square that it can get to.
 fn pawn_cost(color: Color, from: u8, to: u8) -> u8 {
     let (file, rank) = (from % 8, from / 8);
     let (new_file, new_rank) = (to % 8, to / 8);
@@ -100,7 +100,7 @@ fn pawn_cost(color: Color, from: u8, to: u8) -> u8 {
         Color::Black => (new_rank, rank),
     };
     if ahead < behind || ahead - behind < files {
-        NO_WAY
+        UNREACHABLE
     } else {
         files
     }
@@ -108,7 +108,7 @@ fn pawn_cost(color: Color, from: u8, to: u8) -> u8 {
 
 // How many files a pawn has to change to the targets, which are pawns.
 fn pawn_row(color: Color, from: u8, targets: &Targets) -> [u8; MOST] {
-    let mut row = [NO_WAY; MOST];
+    let mut row = [UNREACHABLE; MOST];
     for t in 0..MOST {
         if t < targets.count {
             row[t] = pawn_cost(color, from, targets.squares[t]);
@@ -129,11 +129,11 @@ fn place(kind: Kind, square: u8) -> usize {
     first(kind) + usize::from(square)
 }
 
-// The row at a place, or one without ways.
+// The row at a place, or one of squares that cannot be got to.
 fn row_at(rows: &Vec<[u8; MOST]>, place: usize) -> [u8; MOST] {
     match rows.get(place) {
         Some(row) => *row,
-        None => [NO_WAY; MOST],
+        None => [UNREACHABLE; MOST],
     }
 }
 
@@ -259,12 +259,12 @@ impl Rows {
         )
     }
 
-    // The least distances where there is no man: no way to each target.
+    // The least distances where there is no man: no target is reached.
     pub(crate) fn without_men(&self) -> [u8; MOST] {
         let mut least = [0; MOST];
         for t in 0..MOST {
             if t < self.targets {
-                least[t] = NO_WAY;
+                least[t] = UNREACHABLE;
             }
         }
         least
@@ -272,7 +272,7 @@ impl Rows {
 
     /// The distances of the colour's men on a board, in the order of their squares, to the targets.
     pub fn travel(&self, board: &Board) -> Costs {
-        let mut costs = [[NO_WAY; MOST]; MOST];
+        let mut costs = [[UNREACHABLE; MOST]; MOST];
         let all = board.squares_of_color(self.color);
         for kind in KINDS {
             let men = board.squares_of(Man::new(self.color, kind));
@@ -295,7 +295,7 @@ impl Rows {
     /// The least distance of any of the colour's men on a board to each target, with king and rook
     /// counted on the squares that they castle to where there is a castling.
     pub fn least(&self, board: &Board, way: Option<Wing>) -> [u8; MOST] {
-        let mut least = [NO_WAY; MOST];
+        let mut least = [UNREACHABLE; MOST];
         let mut there = SquareSet::full();
         if let Some(wing) = way {
             let ((king, king_to), (rook, rook_to)) = castled(self.color, wing);
@@ -319,7 +319,7 @@ impl Rows {
     /// How many files the colour's pawns on a board, in the order of their squares, have to change to
     /// the targets that are pawns.
     pub fn pawns(&self, board: &Board) -> Costs {
-        let mut costs = [[NO_WAY; MOST]; MOST];
+        let mut costs = [[UNREACHABLE; MOST]; MOST];
         let men = board.squares_of(Man::new(self.color, Kind::Pawn));
         put_men(&mut costs, &self.pawns, 0, men, men);
         costs
