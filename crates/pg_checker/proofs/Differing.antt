@@ -1,5 +1,5 @@
--- A legal move changes two squares at least and four at most, and which answer `may_reach` gives by the first squares that differ.
-use Rattle.std.proofs.Common.{◌≡◌, ◌≢◌, ℕ, ◌+◌, ◌<◌, ◌≤◌, ◌⊎◌, inl, inr, Bool, true, false, Some, None, refl, sym, ◌∙◌, ap, subst, arith, ltb, ltb-true, ltb-false}
+-- A legal move changes two squares at least and four at most, so where fewer or more differ, none leads to the diagram.
+use Rattle.std.proofs.Common.{◌≡◌, ◌≢◌, ℕ, zero, suc, ◌+◌, ◌<◌, ◌≤◌, ◌⊎◌, inl, inr, Bool, true, false, Some, None, refl, sym, ◌∙◌, ap, subst, arith, ltb, ltb-true, ltb-false}
 use Rattle.std.proofs.lemmas.Bool.Decides.{eqb_tells}
 use Rattle.pg_board.specs.declared.man.Color.{Color}
 use Rattle.pg_board.specs.declared.man.Kind.{Kind}
@@ -15,10 +15,12 @@ use Rattle.pg_position.specs.Position.{Stands, IsVacant, IsPassed, IsPosition}
 use Rattle.pg_position.specs.Step.{Step, Legal, IsEnemy, IsWay, relocated, board_after}
 use Rattle.pg_position.specs.Squares.{rook_home, ahead, king_crossed}
 use Rattle.pg_board.specs.Bits.{has}
-use Rattle.pg_board.specs.SquareSets.{HasNoneFrom, IsFirstFrom}
+use Rattle.pg_board.specs.Tally.{one, count_below}
+use Rattle.pg_board.specs.lemmas.Sums.{total-none, total-suc, one-le}
 use Rattle.pg_position.proofs.StepLemmas.{not_other}
 use Rattle.pg_position.proofs.ValidLemmas.{castle_squares, CastleSquares, castle_vacant}
 use Rattle.pg_checker.specs.Differing.{Differ, TwoToFour}
+use Rattle.pg_checker.specs.inner.Squares.{HasTwoToFour}
 use Rattle.pg_checker.specs.Passing.{LeadsTo}
 use Rattle.pg_captures.specs.lemmas.BoardLemmas.{written, unwritten, man_elsewhere, same_side}
 
@@ -164,86 +166,129 @@ far_elsewhere p r d b same valid near off m q legal there =
     let t : b ≡ true = near (subst (λ (v : State). TwoToFour v.board d) (sym same) (leads_near p q d m (subst (λ (v : State). IsPosition v) same valid) legal there)) in
     cc
 
--- ---- how many squares are in the set, by its first ones
-module _ (b d : Placement) (n : ℕ) (set : Differ b d n) where
-  unlike : (s : ℕ) → s < 64 → has n s ≡ true → get b s ≢ get d s
-  unlike s low member same =
-      let o : has n s ≡ false = (set s low).1 same in
-      cc
+-- ---- how many squares are in the set
+-- 1 where x is below k
+abbrev under : ℕ → ℕ → ℕ
+under x k = one (ltb x k)
 
-  like : (s : ℕ) → s < 64 → has n s ≡ false → get b s ≡ get d s
-  like s low off = (set s low).0 off
+under_here : (x k : ℕ) → x ≡ k → under x (suc k) ≡ under x k + 1
+under_here x k e = go (ltb x (suc k)) (ltb x k) refl refl
+  where
+    go : (a b : Bool) → ltb x (suc k) ≡ a → ltb x k ≡ b → one a ≡ one b + 1
+    go true false s t = refl
+    go true true s t = absurd (let l : x < k = ltb-true x k t in omega arith)
+    go false b s t = absurd (let l : suc k ≤ x = ltb-false x (suc k) s in omega arith)
 
-  -- a square after the first of the set, from k on, that is not this first one
-  past : (k a s : ℕ) → IsFirstFrom n k a → k ≤ s → s < 64 → s ≢ a → (a + 1 ≤ s → has n s ≡ false) → has n s ≡ false
-  past k a s first from low ne rest = elim (ltb s a) as (λ v. ltb s a ≡ v → has n s ≡ false) [
-    | true ↦ λ t. first.before s from (ltb-true s a t)
-    | false ↦ λ t. let r : a ≤ s = ltb-false s a t in rest (omega arith)
-  ] refl
+under_away : (x k : ℕ) → x ≢ k → under x (suc k) ≡ under x k
+under_away x k ne = go (ltb x (suc k)) (ltb x k) refl refl
+  where
+    go : (a b : Bool) → ltb x (suc k) ≡ a → ltb x k ≡ b → one a ≡ one b
+    go true true s t = refl
+    go false false s t = refl
+    go true false s t = absurd (let l : x < suc k = ltb-true x (suc k) s in let m : k ≤ x = ltb-false x k t in omega arith)
+    go false true s t = absurd (let l : suc k ≤ x = ltb-false x (suc k) s in let m : x < k = ltb-true x k t in omega arith)
 
-  pub none_is_few : HasNoneFrom n 0 → TwoToFour b d → ⊥
-  none_is_few none w = w.first_differs (like w.first w.first_on_board (none w.first (omega arith) w.first_on_board))
+under_grows : (x k : ℕ) → under x k ≤ under x (suc k)
+under_grows x k = elim (eqb_tells x k) [
+  | inl w ↦ (let e : under x (suc k) ≡ under x k + 1 = under_here x k w.1 in omega arith)
+  | inr w ↦ (let e : under x (suc k) ≡ under x k = under_away x k w.1 in omega arith)
+]
 
-  pub one_is_few : (a i : ℕ) → IsFirstFrom n 0 a → i ≡ a → HasNoneFrom n (i + 1) → TwoToFour b d → ⊥
-  one_is_few a i first is none w = w.apart (at w.first w.first_on_board w.first_differs ∙ sym (at w.second w.second_on_board w.second_differs))
-    where
-      at : (s : ℕ) → s < 64 → get b s ≢ get d s → s ≡ a
-      at s low differs = elim (eqb_tells s a) [
-        | inl w ↦ w.1
-        | inr w ↦ absurd (differs (like s low (past 0 a s first (omega arith) low w.1 (λ r. none s (omega arith) low))))
+under_board : (x : ℕ) → x < 64 → under x 64 ≡ 1
+under_board x low = go (ltb x 64) refl
+  where
+    go : (b : Bool) → ltb x 64 ≡ b → one b ≡ 1
+    go true t = refl
+    go false t = absurd (let l : 64 ≤ x = ltb-false x 64 t in omega arith)
+
+under_none : (x : ℕ) → under x 0 ≡ 0
+under_none x = go (ltb x 0) refl
+  where
+    go : (b : Bool) → ltb x 0 ≡ b → one b ≡ 0
+    go true t = absurd (let l : x < 0 = ltb-true x 0 t in omega arith)
+    go false t = refl
+
+-- two numbers that pass the test are counted
+at_least : (p : ℕ → Bool) (a c k : ℕ) → a ≢ c → p a ≡ true → p c ≡ true → under a k + under c k ≤ count_below p k
+at_least p a c zero apart pa pc = let none : under a 0 ≡ 0 = under_none a in let other_none : under c 0 ≡ 0 = under_none c in omega arith
+at_least p a c (suc k) apart pa pc =
+    let before : under a k + under c k ≤ count_below p k = at_least p a c k apart pa pc in
+    let more : count_below p (suc k) ≡ count_below p k + one (p k) = total-suc (λ s. one (p s)) k in
+    elim (eqb_tells a k) [
+      | inl w ↦ (
+          let here : under a (suc k) ≡ under a k + 1 = under_here a k w.1 in
+          let away : under c (suc k) ≡ under c k = under_away c k (λ e. apart (w.1 ∙ sym e)) in
+          let counted : one (p k) ≡ 1 = ap one (sym (ap p w.1) ∙ pa) in
+          omega arith)
+      | inr v ↦ elim (eqb_tells c k) [
+        | inl w ↦ (
+            let here : under c (suc k) ≡ under c k + 1 = under_here c k w.1 in
+            let away : under a (suc k) ≡ under a k = under_away a k v.1 in
+            let counted : one (p k) ≡ 1 = ap one (sym (ap p w.1) ∙ pc) in
+            omega arith)
+        | inr w ↦ (
+            let one_away : under a (suc k) ≡ under a k = under_away a k v.1 in
+            let other_away : under c (suc k) ≡ under c k = under_away c k w.1 in
+            omega arith)
       ]
+    ]
 
-  -- the first two of the set, and at most two more
-  right : (a c e f i : ℕ) → IsFirstFrom n 0 a → i ≡ a → IsFirstFrom n (i + 1) c → ((s : ℕ) → s < 64 → c + 1 ≤ s → s ≢ e → s ≢ f → has n s ≡ false) → TwoToFour b d
-  right a c e f i fa ia fc rest = record {
-    first = a;
-    second = c;
-    third = e;
-    fourth = f;
-    first_on_board = fa.on_board;
-    second_on_board = fc.on_board;
-    apart = λ x. let r : i + 1 ≤ c = fc.reached in omega arith;
-    first_differs = unlike a fa.on_board fa.member;
-    second_differs = unlike c fc.on_board fc.member;
-    others = λ s low na nc ne nf. like s low (past 0 a s fa (omega arith) low na (λ r. past (i + 1) c s fc (omega arith) low nc (λ r2. rest s low r2 ne nf)));
-  }
-
-  pub two_are_right : (a c i j : ℕ) → IsFirstFrom n 0 a → i ≡ a → IsFirstFrom n (i + 1) c → j ≡ c → HasNoneFrom n (j + 1) → TwoToFour b d
-  two_are_right a c i j fa ia fc jc none = right a c a a i fa ia fc (λ s low r _ _. none s (omega arith) low)
-
-  pub three_are_right : (a c e i j k : ℕ) → IsFirstFrom n 0 a → i ≡ a → IsFirstFrom n (i + 1) c → j ≡ c → IsFirstFrom n (j + 1) e → k ≡ e → HasNoneFrom n (k + 1) → TwoToFour b d
-  three_are_right a c e i j k fa ia fc jc fe ke none = right a c e e i fa ia fc (λ s low r ne _. past (j + 1) e s fe (omega arith) low ne (λ r2. none s (omega arith) low))
-
-  pub four_are_right : (a c e f i j k l : ℕ) → IsFirstFrom n 0 a → i ≡ a → IsFirstFrom n (i + 1) c → j ≡ c → IsFirstFrom n (j + 1) e → k ≡ e → IsFirstFrom n (k + 1) f → l ≡ f → HasNoneFrom n (l + 1) → TwoToFour b d
-  four_are_right a c e f i j k l fa ia fc jc fe ke ff lf none =
-      right a c e f i fa ia fc (λ s low r ne nf. past (j + 1) e s fe (omega arith) low ne (λ r2. past (k + 1) f s ff (omega arith) low nf (λ r3. none s (omega arith) low)))
-
-  pub five_are_many : (a c e f g i j k l : ℕ) → IsFirstFrom n 0 a → i ≡ a → IsFirstFrom n (i + 1) c → j ≡ c → IsFirstFrom n (j + 1) e → k ≡ e → IsFirstFrom n (k + 1) f → l ≡ f → IsFirstFrom n (l + 1) g → TwoToFour b d → ⊥
-  five_are_many a c e f g i j k l fa ia fc jc fe ke ff lf fg w =
-      let rc : i + 1 ≤ c = fc.reached in
-      let re : j + 1 ≤ e = fe.reached in
-      let rf : k + 1 ≤ f = ff.reached in
-      let rg : l + 1 ≤ g = fg.reached in
-      pigeon w.first w.second w.third w.fourth (omega arith) (omega arith) (omega arith) (omega arith)
-      (one a fa.on_board fa.member) (one c fc.on_board fc.member) (one e fe.on_board fe.member) (one f ff.on_board ff.member) (one g fg.on_board fg.member)
-    where
-      one : (s : ℕ) → s < 64 → has n s ≡ true → (s ≡ w.first) ⊎ ((s ≡ w.second) ⊎ ((s ≡ w.third) ⊎ (s ≡ w.fourth)))
-      one s low member = elim (eqb_tells s w.first) [
-        | inl x ↦ inl x.1
-        | inr x ↦ elim (eqb_tells s w.second) [
-          | inl y ↦ inr (inl y.1)
-          | inr y ↦ elim (eqb_tells s w.third) [
-            | inl z ↦ inr (inr (inl z.1))
-            | inr z ↦ elim (eqb_tells s w.fourth) [
-              | inl v ↦ inr (inr (inr v.1))
-              | inr v ↦ absurd (unlike s low member (w.others s low x.1 y.1 z.1 v.1))
+-- where no others than four pass, no more are counted
+at_most : (p : ℕ → Bool) (a c e f k : ℕ) → ((s : ℕ) → s < k → p s ≡ true → (s ≡ a) ⊎ ((s ≡ c) ⊎ ((s ≡ e) ⊎ (s ≡ f)))) → count_below p k ≤ under a k + under c k + under e k + under f k
+at_most p a c e f zero h = omega (arith, total-none (λ s. one (p s)))
+at_most p a c e f (suc k) h =
+    let before : count_below p k ≤ under a k + under c k + under e k + under f k = at_most p a c e f k (λ s l. h s (omega arith)) in
+    let more : count_below p (suc k) ≡ count_below p k + one (p k) = total-suc (λ s. one (p s)) k in
+    let ga : under a k ≤ under a (suc k) = under_grows a k in
+    let gc : under c k ≤ under c (suc k) = under_grows c k in
+    let ge : under e k ≤ under e (suc k) = under_grows e k in
+    let gf : under f k ≤ under f (suc k) = under_grows f k in
+    elim (p k) as (λ v. p k ≡ v → count_below p (suc k) ≤ under a (suc k) + under c (suc k) + under e (suc k) + under f (suc k)) [
+      | true ↦ λ t. (
+          let counted : one (p k) ≡ 1 = ap one t in
+          elim (h k (omega arith) t) [
+            | inl x ↦ (let here : under a (suc k) ≡ under a k + 1 = under_here a k (sym x) in omega arith)
+            | inr y ↦ elim y [
+              | inl x ↦ (let here : under c (suc k) ≡ under c k + 1 = under_here c k (sym x) in omega arith)
+              | inr z ↦ elim z [
+                | inl x ↦ (let here : under e (suc k) ≡ under e k + 1 = under_here e k (sym x) in omega arith)
+                | inr x ↦ (let here : under f (suc k) ≡ under f k + 1 = under_here f k (sym x) in omega arith)
+              ]
             ]
+          ])
+      | false ↦ λ t. (let none : one (p k) ≡ 0 = ap one t in omega arith)
+    ] refl
+
+in_it : (b : Bool) → (b ≡ false → ⊥) → b ≡ true
+in_it true h = refl
+in_it false h = absurd (h refl)
+
+pub two_to_four : (b d : Placement) (n : ℕ) → Differ b d n → TwoToFour b d → HasTwoToFour n
+two_to_four b d n set w =
+    let least : under w.first 64 + under w.second 64 ≤ count_below (has n) 64 = at_least (has n) w.first w.second 64 w.apart
+    (in_it (has n w.first) (λ off. w.first_differs ((set w.first w.first_on_board).0 off)))
+    (in_it (has n w.second) (λ off. w.second_differs ((set w.second w.second_on_board).0 off))) in
+    let most : count_below (has n) 64 ≤ under w.first 64 + under w.second 64 + under w.third 64 + under w.fourth 64 = at_most (has n) w.first w.second w.third w.fourth 64 one_of in
+    let first : under w.first 64 ≡ 1 = under_board w.first w.first_on_board in
+    let second : under w.second 64 ≡ 1 = under_board w.second w.second_on_board in
+    let third : under w.third 64 ≤ 1 = one-le (ltb w.third 64) in
+    let fourth : under w.fourth 64 ≤ 1 = one-le (ltb w.fourth 64) in
+    (omega arith, omega arith)
+  where
+    one_of : (s : ℕ) → s < 64 → has n s ≡ true → (s ≡ w.first) ⊎ ((s ≡ w.second) ⊎ ((s ≡ w.third) ⊎ (s ≡ w.fourth)))
+    one_of s low member = elim (eqb_tells s w.first) [
+      | inl x ↦ inl x.1
+      | inr x ↦ elim (eqb_tells s w.second) [
+        | inl y ↦ inr (inl y.1)
+        | inr y ↦ elim (eqb_tells s w.third) [
+          | inl z ↦ inr (inr (inl z.1))
+          | inr z ↦ elim (eqb_tells s w.fourth) [
+            | inl v ↦ inr (inr (inr v.1))
+            | inr v ↦ absurd (let off : has n s ≡ false = (set s low).1 (w.others s low x.1 y.1 z.1 v.1) in cc)
           ]
         ]
       ]
-
-      pigeon : (r t x y : ℕ) → a < c → c < e → e < f → f < g → (a ≡ r) ⊎ ((a ≡ t) ⊎ ((a ≡ x) ⊎ (a ≡ y))) → (c ≡ r) ⊎ ((c ≡ t) ⊎ ((c ≡ x) ⊎ (c ≡ y))) → (e ≡ r) ⊎ ((e ≡ t) ⊎ ((e ≡ x) ⊎ (e ≡ y))) → (f ≡ r) ⊎ ((f ≡ t) ⊎ ((f ≡ x) ⊎ (f ≡ y))) → (g ≡ r) ⊎ ((g ≡ t) ⊎ ((g ≡ x) ⊎ (g ≡ y))) → ⊥
-      pigeon r t x y ac ce ef fg ha hc he hf hg = omega (arith, ac, ce, ef, fg, ha, hc, he, hf, hg)
+    ]
 
 -- both squares of a move that leads to the diagram are in the set
 pub record Changed (n : ℕ) (m : Move) : Type 0 where
@@ -251,10 +296,6 @@ pub record Changed (n : ℕ) (m : Move) : Type 0 where
   pub to_low : m.to < 64
   pub from_in : has n m.from ≡ true
   pub to_in : has n m.to ≡ true
-
-in_it : (b : Bool) → (b ≡ false → ⊥) → b ≡ true
-in_it true h = refl
-in_it false h = absurd (h refl)
 
 pub both_in : (p : State) (d : Placement) (n : ℕ) → Differ p.board d n → IsPosition p → (m : Move) → LeadsTo d p m → Changed n m
 both_in p d n set valid m (q, legal, same) =

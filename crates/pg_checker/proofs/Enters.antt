@@ -16,7 +16,7 @@ use Rattle.pg_checker.specs.inner.Steps.{Answer, Goes, Stops}
 use Rattle.pg_checker.specs.declared.machine.Frame.{Frame}
 use Rattle.pg_checker.specs.declared.machine.Machine.{Machine}
 use Rattle.pg_checker.specs.declared.machine.Opening.{Opening}
-use Rattle.pg_checker.specs.declared.machine.Opening.TheVariants as node
+use Rattle.pg_checker.specs.declared.machine.Opening.TheVariants as opening
 use Rattle.pg_checker.specs.inner.Halting.{Stop}
 use Rattle.pg_checker.specs.inner.Halting as stop
 use Rattle.pg_checker.specs.declared.halt.Halt.TheVariants as halt
@@ -72,19 +72,19 @@ module _ (d : Placement) (l : ℕ) (games : List (List Move)) (cut : Cuts) (n k 
   heard before after m new said meant is h = subst (λ (v : Opening). Goes before after m.names.left new.names.left (λ bytes room. head (chess d l games cut) k p (state_at m bytes room)) (λ rest room. Ok (shape_of v, state_at new rest room))) is h
 
   -- a record that ends the node
-  pub enter_done : (before after : Option (List ℕ)) (m new : Machine) (said : Opening) → said ≡ node.Done → 0 < k → new.stack.frames ≡ m.stack.frames
+  pub enter_done : (before after : Option (List ℕ)) (m new : Machine) (said : Opening) → said ≡ opening.Done → 0 < k → new.stack.frames ≡ m.stack.frames
       → Goes before after m.names.left new.names.left (λ bytes room. head (chess d l games cut) k p (state_at m bytes room)) (λ rest room. Ok (shape_of said, state_at new rest room))
       → Goes before after m.names.left new.names.left (enters m) (λ rest room. Ok (work_at (chess d l games cut) (record new { stack = record new.stack { fertile = false } }) rest room))
-  enter_done before after m new said is low same read_ = entered before after m new walk.Done (λ rest room. work_at (chess d l games cut) (record new { stack = record new.stack { fertile = false } }) rest room) low (heard before after m new said node.Done is read_) (λ rest room. rw same refl)
+  enter_done before after m new said is low same read_ = entered before after m new walk.Done (λ rest room. work_at (chess d l games cut) (record new { stack = record new.stack { fertile = false } }) rest room) low (heard before after m new said opening.Done is read_) (λ rest room. rw same refl)
 
   -- a record that opens it
-  pub enter_opened : (before after : Option (List ℕ)) (m mid new : Machine) (said : Opening) (named : Bool) → said ≡ node.Opened named → 0 < k → mid.stack.frames ≡ m.stack.frames → new.names.table ≡ mid.names.table → new.input.records ≡ mid.input.records → new.names.left ≡ mid.names.left → new.stack.fertile ≡ false
+  pub enter_opened : (before after : Option (List ℕ)) (m mid new : Machine) (said : Opening) (named : Bool) → said ≡ opening.Opened named → 0 < k → mid.stack.frames ≡ m.stack.frames → new.names.table ≡ mid.names.table → new.input.records ≡ mid.input.records → new.names.left ≡ mid.names.left → new.stack.fertile ≡ false
       → new.stack.frames.items ≡ mid.stack.frames.items ++ (record { moves = record { position = p; last = None }; plies = k - 1; named = named; fertile = false } ∷ [])
       → Goes before after m.names.left mid.names.left (λ bytes room. head (chess d l games cut) k p (state_at m bytes room)) (λ rest room. Ok (shape_of said, state_at mid rest room))
       → Goes before after m.names.left new.names.left (enters m) (λ rest room. Ok (work_at (chess d l games cut) new rest room))
   enter_opened before after m mid new said named is low same table records room found items read_ =
       subst (λ (left : ℕ). Goes before after m.names.left left (enters m) (λ rest x. Ok (work_at (chess d l games cut) new rest x))) (sym room)
-      (entered before after m mid (walk.Opened named) (λ rest x. work_at (chess d l games cut) new rest x) low (heard before after m mid said (node.Opened named) is read_) (λ rest x i. Ok (record { frames = stack i; found = sym found i; state = states rest x i })))
+      (entered before after m mid (walk.Opened named) (λ rest x. work_at (chess d l games cut) new rest x) low (heard before after m mid said (opening.Opened named) is read_) (λ rest x i. Ok (record { frames = stack i; found = sym found i; state = states rest x i })))
     where
       top : Frame
       top = record { moves = record { position = p; last = None }; plies = k - 1; named = named; fertile = false }
@@ -101,7 +101,7 @@ module _ (d : Placement) (l : ℕ) (games : List (List Move)) (cut : Cuts) (n k 
       states : (rest : List ℕ) (x : ℕ) → state_at mid rest x ≡ state_at new rest x
       states rest x = λ i. record { rest = rest; entries = map entry_of (sym table i).entries; records = sym records i; room = x }
 
-  pub kept_opened : (m mid new : Machine) (said : Opening) (named : Bool) → said ≡ node.Opened named → mid.stack.frames ≡ m.stack.frames → mid.names.table.kept ≡ m.names.table.kept + opened_by said → m.names.table.kept ≡ count_named (reverse m.stack.frames.items)
+  pub kept_opened : (m mid new : Machine) (said : Opening) (named : Bool) → said ≡ opening.Opened named → mid.stack.frames ≡ m.stack.frames → mid.names.table.kept ≡ m.names.table.kept + opened_by said → m.names.table.kept ≡ count_named (reverse m.stack.frames.items)
       → new.stack.frames.items ≡ mid.stack.frames.items ++ (record { moves = record { position = p; last = None }; plies = k - 1; named = named; fertile = false } ∷ []) → mid.names.table.kept ≡ count_named (reverse new.stack.frames.items)
   kept_opened m mid new said named is same kept was items =
       let held : mid.names.table.kept ≡ m.names.table.kept + one_if named = kept ∙ ap (λ (v : Opening). m.names.table.kept + opened_by v) is in

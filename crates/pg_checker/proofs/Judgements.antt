@@ -16,7 +16,7 @@ use Rattle.pg_checker.specs.inner.Machine.{entry_of, opened}
 use Rattle.pg_checker.specs.inner.Steps.{Stops}
 use Rattle.pg_checker.specs.declared.machine.Names.{Names}
 use Rattle.pg_checker.specs.declared.machine.Opening.{Opening}
-use Rattle.pg_checker.specs.declared.machine.Opening.TheVariants as node
+use Rattle.pg_checker.specs.declared.machine.Opening.TheVariants as opening
 use Rattle.pg_checker.specs.inner.Halting.{Stop}
 use Rattle.pg_checker.specs.inner.Halting as stop
 use Rattle.pg_checker.specs.declared.halt.Halt.{Halt}
@@ -64,11 +64,11 @@ module _ (d : Placement) (l : ℕ) (games : List (List Move)) (cut : Cuts) (k : 
       (ends m (judge (chess d l games cut) k p (Ref number)) res (λ records rest n. subst (λ (v : Result (walk.Shape × walk.WalkState State) (tree.Cause Move)). EndsAs res v (judged_at m records rest n)) (sym (refers (slice_get (map entry_of m.table.entries) number) (judged_at m records rest n))) (h (judged_at m records rest n))))
 
   -- an expanded node
-  pub opened_judged : (m : Names) → Judges m m (judge (chess d l games cut) k p (Expand false)) (Ok (node.Opened false))
+  pub opened_judged : (m : Names) → Judges m m (judge (chess d l games cut) k p (Expand false)) (Ok (opening.Opened false))
   opened_judged m known records = stays known m.left _ _ (λ rest n. refl)
 
   -- a named one takes room
-  pub named_judged : (old new : Names) → new.left + 1 ≡ old.left → new.table.entries ≡ old.table.entries → Judges old new (judge (chess d l games cut) k p (Expand true)) (Ok (node.Opened true))
+  pub named_judged : (old new : Names) → new.left + 1 ≡ old.left → new.table.entries ≡ old.table.entries → Judges old new (judge (chess d l games cut) k p (Expand true)) (Ok (opening.Opened true))
   named_judged old new room entries known records = record {
     taken = [];
     used = 1;

@@ -6,3 +6,4 @@ pub mod Steps
 pub mod Judging
 pub mod Checking
 pub mod Spots
+pub mod Squares

@@ -3,7 +3,8 @@ ghost use Rattle.std.specs.Prelude.{◌≡◌, ◌↔◌, IsTrue, true, false};
 ghost use Rattle.pg_position.specs.declared.moves.Move.{Move};
 ghost use Rattle.pg_position.specs.Position.{IsPosition};
 ghost use Rattle.pg_position.specs.Step.{IsLegal};
-ghost use Rattle.pg_checker.specs.Differing.{Differ, TwoToFour};
+ghost use Rattle.pg_checker.specs.Differing.{Differ};
+ghost use Rattle.pg_checker.specs.inner.Squares.{HasTwoToFour};
 ghost use Rattle.pg_checker.specs.Passing.{AllElsewhere, LeadsElsewhere, LeadsTo, NextLeads, PassesOver};
 
 use pg_board::{Square, SquareSet};
@@ -19,30 +20,14 @@ fn differing(diagram: &Diagram, position: &Position) -> SquareSet
     position.board().differing(&diagram.board())
 }
 
-// Whether the position differs from the diagram's placement on two squares at least and on four at
-// most. A legal move changes that many: the square which it leaves and that to which it goes, and
-// with castling those of the rook too. So no legal move leads to the diagram where the answer is no.
-fn may_reach(diagram: &Diagram, position: &Position) -> bool
-    ensures near { IsTrue result ↔ TwoToFour position.now.board diagram.now }
-    ensures position { IsPosition position.now }
+// Whether the set of the squares that differ has two at least and four at most. A legal move changes that
+// many: the square which it leaves and that to which it goes, and with castling those of the rook too. So
+// no legal move leads to the diagram where the answer is no.
+fn may_reach(squares: SquareSet) -> bool
+    ensures { IsTrue result ↔ HasTwoToFour squares }
 {
-    let squares = differing(diagram, position);
-    let Some(first) = squares.first_from(0) else {
-        return false;
-    };
-    let Some(second) = squares.first_from(first.index() + 1) else {
-        return false;
-    };
-    let Some(third) = squares.first_from(second.index() + 1) else {
-        return true;
-    };
-    let Some(fourth) = squares.first_from(third.index() + 1) else {
-        return true;
-    };
-    match squares.first_from(fourth.index() + 1) {
-        Some(_fifth) => false,
-        None => true,
-    }
+    let count = squares.len();
+    2 <= count && count <= 4
 }
 
 // Whether the move is legal and leads to the diagram.
@@ -139,10 +124,10 @@ pub fn skip_to_solution(diagram: &Diagram, moves: &mut LegalMoves) -> bool
     ensures position { IsPosition moves.old.position }
 {
     let position = moves.position();
-    if !may_reach(diagram, &position) {
+    let squares = differing(diagram, &position);
+    if !may_reach(squares) {
         return false;
     }
-    let squares = differing(diagram, &position);
     if !has_leading(diagram, squares, &position) {
         return false;
     }

@@ -147,7 +147,7 @@ fn close(position: &Position, plies: u8, named: bool, fertile: bool, table: &mut
         table.close(Entry {
             position: position.packed(),
             plies: plies + 1,
-            fertile: fertile,
+            fertile,
         });
     }
 }

@@ -17,7 +17,7 @@ use Rattle.pg_checker.specs.declared.halt.Halt.{Halt}
 use Rattle.pg_checker.specs.declared.halt.Reason.{Reason}
 use Rattle.pg_checker.specs.declared.machine.Names.{Names}
 use Rattle.pg_checker.specs.declared.machine.Opening.{Opening}
-use Rattle.pg_checker.specs.declared.machine.Opening.TheVariants as node
+use Rattle.pg_checker.specs.declared.machine.Opening.TheVariants as opening
 use Rattle.pg_checker.specs.inner.Halting.{Stop, causes, stops}
 use Rattle.pg_checker.specs.inner.Halting as stop
 
@@ -48,7 +48,7 @@ EndsSo result judged = (game : List Move) → Ends (causes game result) judged
 
 -- the same as what a node says
 abbrev pub ended_of : Result (Unit {0}) (tree.Cause Move) → Result Opening Stop
-ended_of (Ok u) = Ok node.Done
+ended_of (Ok u) = Ok opening.Done
 ended_of (Err c) = Err (stop.Because c)
 
 -- what a reference to an entry says, in a certificate of this version

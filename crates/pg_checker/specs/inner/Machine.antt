@@ -24,7 +24,7 @@ use Rattle.pg_checker.specs.declared.machine.Names.{Names}
 use Rattle.pg_checker.specs.declared.machine.Stack.{Stack}
 use Rattle.pg_checker.specs.declared.machine.Machine.{Machine}
 use Rattle.pg_checker.specs.declared.machine.Opening.{Opening}
-use Rattle.pg_checker.specs.declared.machine.Opening.TheVariants as node
+use Rattle.pg_checker.specs.declared.machine.Opening.TheVariants as opening
 
 -- ---- frames, the topmost first
 -- the move that was played last at a node
@@ -141,16 +141,16 @@ abbrev pub state_at : Machine → List ℕ → ℕ → walk.WalkState State
 state_at m rest room = record { rest = rest; entries = entries_of m.names.table; records = m.input.records; room = room }
 
 abbrev pub shape_of : Opening → walk.Shape
-shape_of node.Done = walk.Done
-shape_of (node.Opened is_named) = walk.Opened is_named
+shape_of opening.Done = walk.Done
+shape_of (opening.Opened is_named) = walk.Opened is_named
 
 abbrev pub work_at : (r : tree.Rules State Move) → Machine → List ℕ → ℕ → frames.Work r
 work_at r m rest room = record { frames = stack_at m.stack; found = m.stack.fertile; state = state_at m rest room }
 
 -- how many named nodes a record opens
 abbrev pub opened : Opening → ℕ
-opened node.Done = 0
-opened (node.Opened is_named) = one_if is_named
+opened opening.Done = 0
+opened (opening.Opened is_named) = one_if is_named
 
 -- ---- what the next piece of the walk needs
 -- a reader has not refused, reads records of this version, and holds at most one buffer of 4,096 bytes

@@ -3,7 +3,7 @@ use Rattle.pg_position.specs.declared.state.State.{State}
 use Rattle.pg_position.specs.Step.{IsLegal}
 use Rattle.pg_checker.specs.Passing.{LeadsElsewhere, LeadsTo}
 use Rattle.pg_checker.proofs.Passing.{passes_none, passes_more, fewer_left, none_elsewhere}
-use Rattle.pg_checker.proofs.Differing.{far_elsewhere}
+use Rattle.pg_checker.proofs.Differing.{far_elsewhere, two_to_four}
 use Rattle.pg_checker.proofs.Leading.{none_leads}
 use Rattle.pg_checker.proofs.nearness.skip_to_solution.Goals as goal
 
@@ -35,4 +35,4 @@ pub returns-then-leads-clause-some : goal.returns-then-leads-clause-some
 returns-then-leads-clause-some c = λ e. (c.in-Some.peeked.m, c.in-Some.ensures.0, subst (λ (p : State). LeadsTo c.args.diagram.now p c.in-Some.peeked.m) (c.position-position.ensures ∙ sym c.loop-peeked.invariant.position) (c.leads.ensures.there c.if-leads.true))
 
 pub returns-then-not-may_reach-clause-none : goal.returns-then-not-may_reach-clause-none
-returns-then-not-may_reach-clause-none c = λ _ m _ q legal same. far_elsewhere c.args.moves.now.position c.position-position.result c.args.diagram.now c.may_reach.result c.position-position.ensures c.may_reach.ensures.position c.may_reach.ensures.near.1 c.if-not-may_reach.true m q legal same
+returns-then-not-may_reach-clause-none c = λ _ m _ q legal same. far_elsewhere c.args.moves.now.position c.position-position.result c.args.diagram.now c.may_reach.result c.position-position.ensures c.differing-squares.ensures.position (λ w. c.may_reach.ensures.1 (two_to_four c.position-position.result.board c.args.diagram.now c.differing-squares.result c.differing-squares.ensures.differ w)) c.if-not-may_reach.true m q legal same
