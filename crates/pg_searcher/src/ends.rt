@@ -6,7 +6,7 @@ use crate::fault::SearchFault;
 use crate::machine::{Findings, Frame, Output, Question};
 use arrayvec::ArrayVec;
 use pg_board::{Board, Kind, Man, Square, SquareSet};
-use pg_certificate::{Record, Sink};
+use pg_certificate::Sink;
 use pg_fen::Diagram;
 use pg_position::{Move, Position};
 use pg_san::AddFault;
@@ -155,7 +155,7 @@ pub(crate) fn last_node<W: Sink>(output: &mut Output, sink: &mut W) -> Result<()
     ensures says { (plies : ℕ) → RefusesTruly plies (W.has_failed sink.new) result }
 {
     if output.visit() {
-        output.put(&Record::Expand { named: false }, sink)
+        output.expand(false, sink)
     } else {
         Err(SearchFault::Budget)
     }

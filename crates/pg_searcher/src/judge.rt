@@ -4,12 +4,11 @@ use crate::known::{Known, MISSING};
 use crate::outlook::{Mover, Outlook, Plain};
 use crate::sides::{Change, Changes, Side, Sides, side_of};
 use pg_board::Color;
-use pg_captures::{Captures, Promotions, plies_left};
+use pg_captures::plies_left;
 use pg_fen::Diagram;
-use pg_pawns::PawnFiles;
 use pg_position::{Move, Position};
 use pg_prices::{NEVER, Needs, UNKNOWN};
-use pg_travel::{Prices, Travel};
+use pg_travel::Prices;
 use std::alloc::{AllocError, Global};
 
 // What judges nodes by their cuts for a diagram.
@@ -19,11 +18,20 @@ pub(crate) struct Judge {
     black: Known,
 }
 
+// The bound that excludes a node.
+#[derive(Clone, Copy, Debug, PartialEq, Eq)]
+pub(crate) enum CutBy {
+    Captures,
+    Promotions,
+    PawnFiles,
+    Travel,
+}
+
 // What becomes of a node: a bound excludes it, or prices of one colour's pawns or of one colour's
 // travel do, or none does; or that is not known.
 #[derive(Clone, Copy, Debug, PartialEq, Eq)]
 pub(crate) enum Cutting {
-    Cut(u8),
+    Cut(CutBy),
     Pawns(Color),
     Travel(Color),
     Stays,
@@ -67,13 +75,13 @@ fn captures_exclude(means: Means) -> bool {
 }
 
 // The bound of promotions, pawn files or travel that excludes for a colour.
-fn bound_for(means: Means, needs: &Needs) -> Option<u8> {
+fn bound_for(means: Means, needs: &Needs) -> Option<CutBy> {
     if needs.need == NEVER {
-        Some(Promotions::CODE)
+        Some(CutBy::Promotions)
     } else if i16::from(needs.shift) > means.owed {
-        Some(PawnFiles::CODE)
+        Some(CutBy::PawnFiles)
     } else if needs.need > means.plies {
-        Some(Travel::CODE)
+        Some(CutBy::Travel)
     } else {
         None
     }
@@ -145,13 +153,13 @@ impl Judge {
         let white = self.means(Color::White, sides.black.men, side, left);
         let black = self.means(Color::Black, sides.white.men, side, left);
         if captures_exclude(white) || captures_exclude(black) {
-            return Cutting::Cut(Captures::CODE);
+            return Cutting::Cut(CutBy::Captures);
         }
-        if let Some(code) = bound_for(white, &sides.white.needs) {
-            return Cutting::Cut(code);
+        if let Some(bound) = bound_for(white, &sides.white.needs) {
+            return Cutting::Cut(bound);
         }
-        if let Some(code) = bound_for(black, &sides.black.needs) {
-            return Cutting::Cut(code);
+        if let Some(bound) = bound_for(black, &sides.black.needs) {
+            return Cutting::Cut(bound);
         }
         if sides.white.needs.travel == UNKNOWN || sides.black.needs.travel == UNKNOWN {
             return Cutting::Unknown;
@@ -203,7 +211,7 @@ impl Judge {
             None => other.men,
         };
         if captures_exclude(self.means(color, other_men, color.other(), left)) {
-            return (Cutting::Cut(Captures::CODE), None);
+            return (Cutting::Cut(CutBy::Captures), None);
         }
         let own = self.after(color, own, &changes.own, missing);
         let other = match &changes.other {

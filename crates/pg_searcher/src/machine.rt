@@ -3,18 +3,21 @@ ghost use Rattle.std.specs.Prelude.{◌≡◌, ℕ, false, OnOk};
 ghost use Rattle.pg_searcher.specs.Refusals.{RefusesTruly};
 
 use crate::fault::SearchFault;
-use crate::judge::Judge;
+use crate::judge::{CutBy, Judge};
 use crate::known::MISSING;
 use crate::outlook::{Mover, Outlook};
 use crate::sides::{Side, Sides};
 use arrayvec::ArrayVec;
+use pg_captures::{Captures, Promotions};
 use pg_certificate::format::MOST_NAMED;
 use pg_certificate::{Record, RecordWriter, Sink};
 use pg_fen::Diagram;
 use pg_moves::LegalMoves;
+use pg_pawns::PawnFiles;
 use pg_position::Position;
 use pg_prices::Closed;
 use pg_san::Games;
+use pg_travel::Travel;
 use std::alloc::{AllocError, Global};
 
 // What is searched for, games of so many plies to a diagram, and how many plies the tree at work has.
@@ -105,16 +108,81 @@ impl Names {
     }
 }
 
-// The certificate so far: the writer of its records, the named nodes, which it may refer to, and how many
-// nodes may still be visited.
+// The records that most nodes have: expansions and cuts by bounds. Each is made once, since a record has some 400
+// bytes, all of which are written where one is made.
+#[derive(Clone, Copy)]
+struct Common {
+    named: Record,
+    nameless: Record,
+    by_captures: Record,
+    by_promotions: Record,
+    by_pawn_files: Record,
+    by_travel: Record,
+}
+
+impl Common {
+    fn new() -> Common {
+        Common {
+            named: Record::Expand { named: true },
+            nameless: Record::Expand { named: false },
+            by_captures: Record::Cut(Captures::CODE),
+            by_promotions: Record::Cut(Promotions::CODE),
+            by_pawn_files: Record::Cut(PawnFiles::CODE),
+            by_travel: Record::Cut(Travel::CODE),
+        }
+    }
+
+    // The record of an expanded node, with a name or without.
+    fn expansion(&self, named: bool) -> &Record {
+        if named { &self.named } else { &self.nameless }
+    }
+
+    // The record of a cut by a bound.
+    fn cut(&self, bound: CutBy) -> &Record {
+        match bound {
+            CutBy::Captures => &self.by_captures,
+            CutBy::Promotions => &self.by_promotions,
+            CutBy::PawnFiles => &self.by_pawn_files,
+            CutBy::Travel => &self.by_travel,
+        }
+    }
+}
+
+// The certificate so far: the writer of its records, those that most nodes have, the named nodes, which it may
+// refer to, and how many nodes may still be visited.
 #[derive(Drop)]
 pub(crate) struct Output {
     pub(crate) writer: RecordWriter,
+    common: Common,
     pub(crate) names: Names,
     pub(crate) nodes: u64,
 }
 
+// Writes a record.
+fn write<W: Sink>(writer: &mut RecordWriter, node: &Record, sink: &mut W) -> Result<(), SearchFault>
+    requires runs { writer.old.failed ≡ false }
+    ensures runs { OnOk result (writer.new.failed ≡ false) }
+    ensures says { (plies : ℕ) → RefusesTruly plies (W.has_failed sink.new) result }
+{
+    match writer.put_record(node, sink) {
+        Ok(()) => Ok(()),
+        Err(_) => Err(SearchFault::Write),
+    }
+}
+
 impl Output {
+    // Of a certificate of which nothing is written, with so many nodes that may be visited.
+    pub(crate) fn new(alloc: Global, nodes: u64) -> Output
+        ensures { result.writer.failed ≡ false }
+    {
+        Output {
+            writer: RecordWriter::new(),
+            common: Common::new(),
+            names: Names::new(alloc),
+            nodes,
+        }
+    }
+
     // Counts a node, and answers whether it may be visited.
     pub(crate) fn visit(&mut self) -> bool
         ensures writer { self.new.writer ≡ self.old.writer }
@@ -132,10 +200,25 @@ impl Output {
         ensures runs { OnOk result (self.new.writer.failed ≡ false) }
         ensures says { (plies : ℕ) → RefusesTruly plies (W.has_failed sink.new) result }
     {
-        match self.writer.put_record(node, sink) {
-            Ok(()) => Ok(()),
-            Err(_) => Err(SearchFault::Write),
-        }
+        write(&mut self.writer, node, sink)
+    }
+
+    // Writes that a node is expanded, with a name or without.
+    pub(crate) fn expand<W: Sink>(&mut self, named: bool, sink: &mut W) -> Result<(), SearchFault>
+        requires runs { self.old.writer.failed ≡ false }
+        ensures runs { OnOk result (self.new.writer.failed ≡ false) }
+        ensures says { (plies : ℕ) → RefusesTruly plies (W.has_failed sink.new) result }
+    {
+        write(&mut self.writer, self.common.expansion(named), sink)
+    }
+
+    // Writes a cut by a bound.
+    pub(crate) fn cut<W: Sink>(&mut self, bound: CutBy, sink: &mut W) -> Result<(), SearchFault>
+        requires runs { self.old.writer.failed ≡ false }
+        ensures runs { OnOk result (self.new.writer.failed ≡ false) }
+        ensures says { (plies : ℕ) → RefusesTruly plies (W.has_failed sink.new) result }
+    {
+        write(&mut self.writer, self.common.cut(bound), sink)
     }
 }
 
@@ -156,11 +239,7 @@ impl Recorder {
         Recorder {
             judge,
             mover: Mover::none(),
-            output: Output {
-                writer: RecordWriter::new(),
-                names: Names::new(alloc),
-                nodes,
-            },
+            output: Output::new(alloc, nodes),
         }
     }
 }

@@ -7,13 +7,13 @@ use crate::fault::SearchFault;
 use crate::judge::{Cutting, Judge};
 use crate::known::{MISSING, after_plain};
 use crate::machine::{Output, Question, Recorder};
-use crate::outlook::{Mover, Outlook, Plain};
+use crate::outlook::{Outlook, Plain};
 use crate::sides::{Sides, changes_of};
 use pg_board::{Color, Square};
 use pg_certificate::{Record, Sink};
 use pg_pawns::PawnFiles;
 use pg_position::{Move, Position};
-use pg_prices::node_key;
+use pg_prices::{Needs, node_key};
 use pg_travel::{Prices, Travel};
 use std::alloc::AllocError;
 
@@ -70,18 +70,17 @@ fn travel_record(
     }
 }
 
-// The record of a node with this verdict; none where no cut excludes it.
-fn record_of(
+// The cut by prices that is the verdict; none where that is another.
+fn priced_record(
     judge: &mut Judge,
     position: &Position,
     sides: &Sides,
     verdict: Cutting,
 ) -> Result<Option<Record>, AllocError> {
     match verdict {
-        Cutting::Cut(code) => Ok(Some(Record::Cut(code))),
         Cutting::Pawns(color) => pawns_record(judge, color, position),
         Cutting::Travel(color) => travel_record(judge, color, position, sides),
-        Cutting::Stays | Cutting::Unknown => Ok(None),
+        Cutting::Cut(_) | Cutting::Stays | Cutting::Unknown => Ok(None),
     }
 }
 
@@ -113,7 +112,7 @@ fn open<W: Sink>(
     ensures says { (plies : ℕ) → RefusesTruly plies (W.has_failed sink.new) result }
 {
     let named = output.names.open();
-    match output.put(&Record::Expand { named }, sink) {
+    match output.expand(named, sink) {
         Ok(()) => Ok(Some(Opened {
             position: *position,
             sides: *sides,
@@ -185,7 +184,13 @@ fn put_verdict<W: Sink>(
     ensures runs { OnOk result (recorder.new.output.writer.failed ≡ false) }
     ensures says { (plies : ℕ) → RefusesTruly plies (W.has_failed sink.new) result }
 {
-    match record_of(&mut recorder.judge, position, sides, verdict) {
+    if let Cutting::Cut(bound) = verdict {
+        return match recorder.output.cut(bound, sink) {
+            Ok(()) => Ok(None),
+            Err(fault) => Err(fault),
+        };
+    }
+    match priced_record(&mut recorder.judge, position, sides, verdict) {
         Ok(None) => stay(&mut recorder.output, sink, position, sides, left),
         Ok(Some(record)) => match recorder.output.put(&record, sink) {
             Ok(()) => Ok(None),
@@ -243,19 +248,6 @@ fn put_kept<W: Sink>(
     }
 }
 
-// Writes a cut by a bound.
-#[inline(never)]
-fn put_cut<W: Sink>(output: &mut Output, code: u8, sink: &mut W) -> Result<bool, SearchFault>
-    requires runs { output.old.writer.failed ≡ false }
-    ensures runs { OnOk result (output.new.writer.failed ≡ false) }
-    ensures says { (plies : ℕ) → RefusesTruly plies (W.has_failed sink.new) result }
-{
-    match output.put(&Record::Cut(code), sink) {
-        Ok(()) => Ok(true),
-        Err(fault) => Err(fault),
-    }
-}
-
 // Writes the record of a node where a bound excludes it, or prices do that are kept, and answers whether it
 // did.
 fn put_judged<W: Sink>(
@@ -270,27 +262,25 @@ fn put_judged<W: Sink>(
     ensures says { (plies : ℕ) → RefusesTruly plies (W.has_failed sink.new) result }
 {
     match verdict {
-        Cutting::Cut(code) => put_cut(output, code, sink),
+        Cutting::Cut(bound) => match output.cut(bound, sink) {
+            Ok(()) => Ok(true),
+            Err(fault) => Err(fault),
+        },
         Cutting::Travel(color) => put_kept(judge, output, color, known, sink),
         _ => Ok(false),
     }
 }
 
-// What becomes of a node after a legal move, by what is known before the move is made: by the travel of its
-// colour, or else by both colours there, which are answered too.
+// What becomes of a node after a legal move, by what is known of both colours before the move is made, and both
+// colours there. What the colour that moves needs is as stated where it is not remembered.
 fn judge_before(
     judge: &Judge,
-    mover: &mut Mover,
     position: &Position,
     m: &Move,
     outlook: &Outlook,
+    missing: Needs,
 ) -> (Cutting, Option<Sides>) {
     let side = position.side();
-    let missing = match judge.plain(outlook, position, mover, m) {
-        Plain::Cut(code) => return (Cutting::Cut(code), None),
-        Plain::Needs(need) => after_plain(&outlook.sides.of(side).needs, need),
-        Plain::No => MISSING,
-    };
     match changes_of(position, m) {
         Some(changes) => judge.quick(side, &outlook.sides, &changes, missing, outlook.left),
         None => (Cutting::Unknown, None),
@@ -314,7 +304,20 @@ pub(crate) fn child<W: Sink>(
     if !recorder.output.visit() {
         return Err(SearchFault::Budget);
     }
-    let (verdict, known) = judge_before(&recorder.judge, &mut recorder.mover, position, m, outlook);
+    let missing = match recorder
+        .judge
+        .plain(outlook, position, &mut recorder.mover, m)
+    {
+        Plain::Cut(bound) => {
+            return match recorder.output.cut(bound, sink) {
+                Ok(()) => Ok(None),
+                Err(fault) => Err(fault),
+            };
+        }
+        Plain::Needs(need) => after_plain(&outlook.sides.of(position.side()).needs, need),
+        Plain::No => MISSING,
+    };
+    let (verdict, known) = judge_before(&recorder.judge, position, m, outlook, missing);
     match put_judged(&recorder.judge, &mut recorder.output, verdict, &known, sink) {
         Ok(true) => return Ok(None),
         Ok(false) => {}

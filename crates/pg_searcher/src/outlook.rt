@@ -1,11 +1,10 @@
 //! What is known of an open node that judges its moves before they are made.
 
+use crate::judge::CutBy;
 use crate::sides::{Sides, is_special};
 use pg_board::{Color, Kind, Man, Square, SquareSet};
-use pg_captures::Captures;
 use pg_position::{Move, Position};
 use pg_prices::{Leasts, Rest, Rows};
-use pg_travel::Travel;
 
 // What is known of an open node: both colours, how many plies are left after a move, the least distances of
 // the men of the side to move, all men, how many plies that side has left after a move of its own, and
@@ -35,7 +34,7 @@ pub(crate) struct Mover {
 #[derive(Clone, Copy)]
 pub(crate) enum Plain {
     No,
-    Cut(u8),
+    Cut(CutBy),
     Needs(u8),
 }
 
@@ -111,11 +110,11 @@ impl Outlook {
             return Plain::No;
         }
         if self.is_owing {
-            return Plain::Cut(Captures::CODE);
+            return Plain::Cut(CutBy::Captures);
         }
         let need = mover.rest.need(rows.distances(mover.man.kind, m.to));
         if need > self.plies {
-            Plain::Cut(Travel::CODE)
+            Plain::Cut(CutBy::Travel)
         } else {
             Plain::Needs(need)
         }
