@@ -7,7 +7,7 @@ ghost use Rattle.pg_guide.specs.Stops.{EndsTruly, Finds, IsStopFault};
 ghost use Rattle.pg_guide.specs.Why.{IsOneLineFault, IsOneLine, IsProved, IsRefusal, IsWhyFault};
 
 use crate::fault::WhyFault;
-use crate::machine::{Machine, Question, Stop};
+use crate::machine::{Along, Question, Stop};
 use crate::walk::walk;
 use pg_captures::Bound;
 use pg_certificate::{Record, Refused, Sink, Source};
@@ -30,7 +30,7 @@ pub struct Asked<'a> {
 // was walked over.
 #[derive(Drop)]
 struct Findings {
-    machine: Machine,
+    along: Along,
     cited: Option<Cited>,
     is_whole: bool,
 }
@@ -56,14 +56,14 @@ fn line_of(alloc: Global, text: &str) -> Result<Games, WhyFault>
 fn cited_by<R: Source>(
     alloc: Global,
     question: &Question,
-    machine: &Machine,
+    along: &Along,
     source: &mut R,
     records: u64,
 ) -> Result<Option<Cited>, Stop>
     ensures says { (walked : Bool) → IfErr result (EndsTruly question.now.diagram.now question.now.plies
         walked (R.has_failed source.new)) }
 {
-    let Some(Ending::Said(Record::Ref(number))) = &machine.ending else {
+    let Some(Ending::Said(Record::Ref(number))) = &along.ending else {
         return Ok(None);
     };
     let question = Question {
@@ -78,8 +78,8 @@ fn cited_by<R: Source>(
         (_, Err(Stop::Refused)) => Ok(None),
         (_, Err(Stop::Memory)) => Err(Stop::Memory),
         (_, Err(Stop::Read)) => Err(Stop::Read),
-        (machine, Ok(())) => {
-            let Machine { cited, .. } = machine;
+        (along, Ok(())) => {
+            let Along { cited, .. } = along;
             Ok(cited)
         }
     }
@@ -99,12 +99,12 @@ fn found<R: Source>(
         (R.has_failed walked.new) (R.has_failed cited.new)) }
     ensures finds { Finds question.now games.old games.new }
 {
-    let (machine, answer) = walk(question, games, walked, records);
+    let (along, answer) = walk(question, games, walked, records);
     match answer {
         Ok(()) => {}
         Err(Stop::Refused) => {
             return Ok(Findings {
-                machine,
+                along,
                 cited: None,
                 is_whole: false,
             });
@@ -112,9 +112,9 @@ fn found<R: Source>(
         Err(Stop::Memory) => return Err(Stop::Memory),
         Err(Stop::Read) => return Err(Stop::Read),
     }
-    match cited_by(alloc, question, &machine, cited, records) {
+    match cited_by(alloc, question, &along, cited, records) {
         Ok(cited) => Ok(Findings {
-            machine,
+            along,
             cited,
             is_whole: true,
         }),
@@ -145,8 +145,8 @@ fn tell<W: Sink>(question: &Question, found: &Findings, out: &mut W) -> Result<(
         diagram: question.diagram,
         plies: question.plies,
         line: question.line,
-        tallies: found.machine.tallies.as_slice(),
-        ending: &found.machine.ending,
+        tallies: found.along.tallies.as_slice(),
+        ending: &found.along.ending,
         cited: &found.cited,
     };
     match write_found(&found, out) {

@@ -14,8 +14,8 @@ use pg_checker::{Problem, Proved, check};
 use pg_san::Games;
 use std::alloc::Global;
 
-/// What a certificate that is right has: the games, what its check counted, and how many nodes of the tree of the stated
-/// length are expanded with each number of plies left.
+/// What a certificate that is right has: the games, what its check counted, and how many nodes of the tree of the
+/// stated length are expanded with each number of plies left.
 #[derive(Drop)]
 pub struct Gathered {
     pub games: Games,
@@ -35,14 +35,14 @@ fn find<R: Source>(
         (R.has_failed source.new) cited) }
     ensures finds { Finds question.now games.old games.new }
 {
-    let (machine, answer) = walk(question, games, source, records);
+    let (along, answer) = walk(question, games, source, records);
     match answer {
         Ok(()) => {}
         Err(Stop::Refused) => {}
         Err(Stop::Memory) => return Err(Stop::Memory),
         Err(Stop::Read) => return Err(Stop::Read),
     }
-    Ok(machine.expanded)
+    Ok(along.expanded)
 }
 
 /// Gathers the games of the stated length that a certificate has, and checks it with them. Ok means that the check said
@@ -53,9 +53,9 @@ fn find<R: Source>(
 /// named nodes are taken from `alloc`; nothing else takes memory.
 ///
 /// # Errors
-/// `Run` with `Check` where a reading fails, where memory is refused for a game that was found, and where the check does
-/// not say yes (never `Listed`, since each game that was found is a solution), but `TooMany` where 4,096 games were found
-/// and the check met one more.
+/// `Run` with `Check` where a reading fails, where memory is refused for a game that was found, and where the check
+/// does not say yes (never `Listed`, since each game that was found is a solution), but `TooMany` where 4,096 games
+/// were found and the check met one more.
 pub fn gather<R: Source>(
     alloc: Global,
     problem: &Problem,

@@ -1,10 +1,9 @@
-//! What the walk over a certificate holds.
+//! What a walk looks for, and what it finds along a line.
 
 use arrayvec::ArrayVec;
 use pg_captures::{Bound, Captures, Promotions};
-use pg_certificate::{Record, RecordReader};
+use pg_certificate::Record;
 use pg_fen::Diagram;
-use pg_moves::LegalMoves;
 use pg_pawns::PawnFiles;
 use pg_position::{Move, Position};
 use pg_sentences::{Cited, Ending, Tally};
@@ -20,45 +19,15 @@ pub(crate) struct Question<'a> {
     pub(crate) wanted: Option<u32>,
 }
 
-// An open node: its position with the moves that are still to be played, the plies left below it,
-// whether it is named, whether the line leads through it, and its children so far.
+// What a walk finds along the line: what the children are of the nodes on it that are open, the root first, and of
+// those that have closed, the last one first; what ends the line, if something does; and the node that was wanted.
 #[derive(Drop)]
-pub(crate) struct Frame {
-    pub(crate) moves: LegalMoves,
-    pub(crate) left: u8,
-    pub(crate) named: bool,
-    pub(crate) on_line: bool,
-    pub(crate) tally: Tally,
-}
-
-impl Default for Frame {
-    fn default() -> Frame {
-        Frame {
-            moves: LegalMoves::new(&Position::array()),
-            left: 0,
-            named: false,
-            on_line: false,
-            tally: Tally::default(),
-        }
-    }
-}
-
-// The record reader, how many records may still come, the plies of the tree that is walked, the open nodes,
-// how many named nodes have closed, how many games the subtree that ended last has, and how many nodes of the tree were
-// expanded so far with each number of plies left. What is found: the
-// expanded nodes on the line, the last one first, what ends them, and the node that was wanted.
-#[derive(Drop)]
-pub(crate) struct Machine {
-    pub(crate) reader: RecordReader,
-    pub(crate) records: u64,
-    pub(crate) tree: u8,
-    pub(crate) frames: ArrayVec<Frame, 128>,
-    pub(crate) closed: u32,
-    pub(crate) below: u64,
-    pub(crate) expanded: [u64; 129],
+pub(crate) struct Along {
+    pub(crate) open: ArrayVec<Tally, 128>,
     pub(crate) tallies: ArrayVec<Tally, 128>,
     pub(crate) ending: Option<Ending>,
     pub(crate) cited: Option<Cited>,
+    pub(crate) expanded: [u64; 129],
 }
 
 // Why a walk stops: for want of memory, for a source that fails, or at bytes that are no certificate of
@@ -73,10 +42,10 @@ pub(crate) enum Stop {
 // The number of the children that are cut by a bound with this code.
 fn cut_by(tally: &mut Tally, code: u8) -> &mut u16 {
     match code {
-        1 => &mut tally.captures,
-        2 => &mut tally.promotions,
-        3 => &mut tally.files,
-        4 => &mut tally.travel,
+        Captures::CODE => &mut tally.captures,
+        Promotions::CODE => &mut tally.promotions,
+        PawnFiles::CODE => &mut tally.files,
+        Travel::CODE => &mut tally.travel,
         _ => &mut tally.others,
     }
 }
@@ -97,20 +66,19 @@ pub(crate) fn count_leaf(tally: &mut Tally, hit: bool) {
     tally.moves = tally.moves.saturating_add(1);
     if hit {
         tally.lead = tally.lead.saturating_add(1);
-        tally.games = tally.games.saturating_add(1);
     }
 }
 
 // The code of the first bound of the four that excludes a position with so many plies left.
 fn first_code(diagram: &Diagram, position: &Position, left: u8) -> Option<u8> {
     if Captures.excludes(diagram, position, left) {
-        Some(1)
+        Some(Captures::CODE)
     } else if Promotions.excludes(diagram, position, left) {
-        Some(2)
+        Some(Promotions::CODE)
     } else if PawnFiles.excludes(diagram, position, left) {
-        Some(3)
+        Some(PawnFiles::CODE)
     } else if Travel.excludes(diagram, position, left) {
-        Some(4)
+        Some(Travel::CODE)
     } else {
         None
     }
@@ -125,15 +93,4 @@ pub(crate) fn recount(tally: &mut Tally, diagram: &Diagram, child: &Position) {
         None => &mut tally.played_out,
     };
     *kind = kind.saturating_add(1);
-}
-
-// The game that leads along open nodes, by the move that was played last at each.
-pub(crate) fn game_along(frames: &[Frame]) -> ArrayVec<Move, 128> {
-    let mut game = ArrayVec::new();
-    for frame in frames {
-        if let Some(m) = frame.moves.last() {
-            let _ = game.try_push(m);
-        }
-    }
-    game
 }

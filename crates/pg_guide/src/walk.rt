@@ -1,73 +1,29 @@
-//! The walk over the trees of a certificate, with a stack of open nodes.
+//! A walk along a line: what the trees of a certificate say of its nodes, and which games they have.
 
-ghost use Rattle.std.specs.Prelude.{◌≡◌, ◌↔◌, Bool, IsTrue, IfErr, IfSome, MatchOption};
+ghost use Rattle.std.specs.Prelude.{◌≡◌, ◌↔◌, Bool, IsTrue, IfErr, MatchOption};
 ghost use Rattle.pg_position.specs.Array.{array_state};
 ghost use Rattle.pg_position.specs.Game.{IsGame};
-ghost use Rattle.pg_position.specs.Step.{IsLegal};
 ghost use Rattle.pg_san.specs.Games.{IsFromArray};
 ghost use Rattle.pg_checker.specs.Answer.{IsSolution};
 ghost use Rattle.pg_guide.specs.Stops.{Finds, StopsTruly};
+ghost use Rattle.pg_guide.specs.Trees.{BreaksTruly};
 ghost use Rattle.pg_guide.specs.declared.machine.Question.{Question};
 
-use crate::machine::{Frame, Machine, Question, Stop, count, count_leaf, game_along, recount};
+use crate::machine::{Along, Question, Stop, count, count_leaf, recount};
+use crate::trees::{Broken, Child, Closed, Leaf, TreeWalk};
 use arrayvec::ArrayVec;
-use pg_certificate::{ReadFault, Record, RecordReader, Source};
-use pg_checker::skip_to_solution;
-use pg_fen::Diagram;
-use pg_moves::LegalMoves;
+use pg_certificate::{Record, Source};
 use pg_position::{Move, Position};
 use pg_san::{AddFault, Games};
 use pg_sentences::{Cited, Ending, Tally};
 
-// The next record.
-fn next<S: Source>(machine: &mut Machine, source: &mut S) -> Result<Record, Stop>
-    ensures says { (q : Question) → IfErr result (StopsTruly q (S.has_failed source.new)) }
+// Why a walk along a line stops where it breaks off.
+fn stop_of(broken: Broken) -> Stop
+    ensures { (q : Question) (failed : Bool) → BreaksTruly failed broken → StopsTruly q failed result }
 {
-    if machine.records == 0 {
-        return Err(Stop::Refused);
-    }
-    machine.records -= 1;
-    match machine.reader.next_record(source) {
-        Ok(record) => Ok(record),
-        Err(ReadFault::Read) => Err(Stop::Read),
-        Err(_) => Err(Stop::Refused),
-    }
-}
-
-// Whether the line goes on from a node, which it comes to after so many moves, by this move.
-fn goes_on(question: &Question, on_line: bool, depth: usize, m: &Move) -> bool {
-    on_line && question.line.get(depth) == Some(m)
-}
-
-// A node with so many plies left opens, if its record says so; else it may end the line.
-fn enter(
-    machine: &mut Machine,
-    position: &Position,
-    left: u8,
-    record: &Record,
-    on_line: bool,
-) -> Result<(), Stop>
-    ensures says { (q : Question) (failed : Bool) → IfErr result (StopsTruly q failed) }
-{
-    let Record::Expand { named } = record else {
-        if on_line {
-            machine.ending = Some(Ending::Said(*record));
-        }
-        return Ok(());
-    };
-    if let Some(count) = machine.expanded.get_mut(usize::from(left)) {
-        *count = count.saturating_add(1);
-    }
-    let frame = Frame {
-        moves: LegalMoves::new(position),
-        left: left.saturating_sub(1),
-        named: *named,
-        on_line,
-        tally: Tally::default(),
-    };
-    match machine.frames.try_push(frame) {
-        Ok(()) => Ok(()),
-        Err(_) => Err(Stop::Refused),
+    match broken {
+        Broken::Read => Stop::Read,
+        Broken::Refused => Stop::Refused,
     }
 }
 
@@ -114,166 +70,195 @@ fn end(question: &Question, games: &mut Games, game: &[Move]) -> Result<(), Stop
     }
 }
 
-// A node closes: a named one takes its number, and one on the line is kept.
-fn close(question: &Question, machine: &mut Machine, top: &Frame) {
-    machine.below = top.tally.games;
-    if top.on_line {
-        let _ = machine.tallies.try_push(top.tally);
-    }
-    if !top.named {
+// How many moves of the line lead to a node of the tree of the stated length with so many plies left. Just so many
+// nodes on the line are open above it if its parent is on the line; in a shorter tree, none.
+fn ply_of(question: &Question, left: u8) -> usize {
+    usize::from(question.plies.saturating_sub(left))
+}
+
+// A node is reached, on the line or not: there it is one more that is open, or ends the line.
+fn enter(along: &mut Along, on_line: bool, record: &Record) {
+    if !on_line {
         return;
     }
-    if question.wanted == Some(machine.closed) {
-        machine.cited = Some(Cited {
-            line: game_along(machine.frames.as_slice()),
-            left: top.left.saturating_add(1),
-            games: top.tally.games,
-        });
-    }
-    machine.closed = machine.closed.saturating_add(1);
-}
-
-// A move of the topmost node, on the line or not, leads to a leaf, which is on the diagram or not.
-fn leaf(
-    question: &Question,
-    machine: &mut Machine,
-    games: &mut Games,
-    on_line: bool,
-    m: &Move,
-    hit: bool,
-) -> Result<(), Stop>
-    ensures says { (failed : Bool) → IfErr result (StopsTruly question.now failed) }
-    ensures finds { Finds question.now games.old games.new }
-{
-    if goes_on(question, on_line, machine.frames.len(), m) {
-        machine.ending = Some(Ending::Leaf(hit));
-    }
-    if !hit {
-        return Ok(());
-    }
-    let mut game = game_along(machine.frames.as_slice());
-    let _ = game.try_push(*m);
-    end(question, games, game.as_slice())
-}
-
-// Passes over the moves that do not lead to the diagram, but not on the line; whether none is left then.
-fn is_over(diagram: &Diagram, on_line: bool, moves: &mut LegalMoves) -> bool
-    ensures { moves.new.position ≡ moves.old.position }
-{
-    !on_line && !skip_to_solution(diagram, moves)
-}
-
-// The next legal move.
-fn following(moves: &mut LegalMoves) -> Option<Move>
-    ensures position { moves.new.position ≡ moves.old.position }
-    ensures legal { IfSome result (λ m. IsLegal moves.old.position m) }
-{
-    match moves.next() {
-        Some(m) => Some(m),
-        None => None,
-    }
-}
-
-// A node with one ply left and no game closes below a node on the line, which does not lead on by it.
-fn lead_nowhere(diagram: &Diagram, machine: &mut Machine, top: &Frame) {
-    if top.tally.games > 0 {
-        return;
-    }
-    if let Some(parent) = machine.frames.last_mut() {
-        if parent.on_line {
-            recount(&mut parent.tally, diagram, &top.moves.position());
+    match record {
+        Record::Expand { .. } => {
+            let _ = along.open.try_push(Tally::default());
         }
+        _ => along.ending = Some(Ending::Said(*record)),
     }
 }
 
-// The moves of a node with one ply left are played, and it closes.
+// Whether the line's move to this ply is this one.
+fn is_of_line(question: &Question, ply: usize, m: &Move) -> bool {
+    question.line.get(ply.saturating_sub(1)) == Some(m)
+}
+
+// A child is reached: a node on the line counts it, and the line leads to it or not.
+fn enter_child(question: &Question, along: &mut Along, child: &Child) {
+    let ply = ply_of(question, child.left);
+    if along.open.len() != ply {
+        return;
+    }
+    if let Some(tally) = along.open.last_mut() {
+        count(tally, &child.record);
+    }
+    let on_line = is_of_line(question, ply, &child.m);
+    enter(along, on_line, &child.record);
+}
+
+// A leaf is reached below a node, on the line or not, which counts it there; and it may end the line.
+fn enter_leaf(question: &Question, along: &mut Along, leaf: &Leaf) {
+    let ply = usize::from(question.plies);
+    if along.open.len() != ply {
+        return;
+    }
+    if let Some(tally) = along.open.last_mut() {
+        count_leaf(tally, leaf.hit);
+    }
+    if is_of_line(question, ply, &leaf.m) {
+        along.ending = Some(Ending::Leaf(leaf.hit));
+    }
+}
+
+// The moves of the topmost node are played if one ply is left there: all of them on the line, else those that lead to
+// the diagram.
 fn leaves(
     question: &Question,
-    machine: &mut Machine,
+    along: &mut Along,
     games: &mut Games,
-    top: Frame,
+    walk: &mut TreeWalk,
 ) -> Result<(), Stop>
     ensures says { (failed : Bool) → IfErr result (StopsTruly question.now failed) }
     ensures finds { Finds question.now games.old games.new }
 {
-    let mut top = top;
-    let position = top.moves.position();
+    let on_line = along.open.len() == usize::from(question.plies);
     for _ in 0..u16::MAX {
-        if is_over(question.diagram, top.on_line, &mut top.moves) {
-            break;
-        }
-        let Some(m) = following(&mut top.moves) else {
-            break;
+        let Some(leaf) = walk.next_leaf(question.diagram, on_line) else {
+            return Ok(());
         };
-        let hit = question.diagram.matches(&position.after(&m));
-        count_leaf(&mut top.tally, hit);
-        match leaf(question, machine, games, top.on_line, &m, hit) {
-            Ok(()) => {}
-            Err(stop) => return Err(stop),
+        enter_leaf(question, along, &leaf);
+        if leaf.hit {
+            match end(question, games, walk.line().as_slice()) {
+                Ok(()) => {}
+                Err(stop) => return Err(stop),
+            }
         }
     }
-    lead_nowhere(question.diagram, machine, &top);
-    close(question, machine, &top);
     Ok(())
 }
 
-// The next move of a node with more plies left is played, or the node closes.
-fn step<S: Source>(
-    question: &Question,
-    machine: &mut Machine,
-    source: &mut S,
-    top: Frame,
-) -> Result<(), Stop>
-    ensures says { IfErr result (StopsTruly question.now (S.has_failed source.new)) }
-{
-    let mut top = top;
-    top.tally.games = top.tally.games.saturating_add(machine.below);
-    machine.below = 0;
-    let position = top.moves.position();
-    let Some(m) = top.moves.next() else {
-        close(question, machine, &top);
-        return Ok(());
-    };
-    let next_position = position.after(&m);
-    let on_line = goes_on(question, top.on_line, machine.frames.len(), &m);
-    let left = top.left;
-    let record = match next(machine, source) {
-        Ok(record) => record,
-        Err(stop) => return Err(stop),
-    };
-    count(&mut top.tally, &record);
-    match machine.frames.try_push(top) {
-        Ok(()) => enter(machine, &next_position, left, &record, on_line),
-        Err(_) => Err(Stop::Refused),
+// A node has closed: what its children are is known if it is on the line, and so is the node that was wanted. With one
+// ply left and no game its parent does not lead on by it.
+fn close(question: &Question, along: &mut Along, walk: &TreeWalk, closed: &Closed) {
+    let ply = ply_of(question, closed.left);
+    if along.open.len() > ply {
+        close_on_line(along, closed.games);
+    }
+    if closed.left == 1 && closed.games == 0 && along.open.len() == ply {
+        if let Some(parent) = along.open.last_mut() {
+            recount(parent, question.diagram, &closed.position);
+        }
+    }
+    if closed.number.is_some() && closed.number == question.wanted {
+        along.cited = Some(Cited {
+            line: walk.line(),
+            left: closed.left,
+            games: closed.games,
+        });
     }
 }
 
-// A turn of the walk, at the topmost node.
+// The topmost node on the line has closed, with so many games below.
+fn close_on_line(along: &mut Along, games: u64) {
+    if let Some(tally) = along.open.pop() {
+        let mut tally = tally;
+        tally.games = games;
+        let _ = along.tallies.try_push(tally);
+    }
+}
+
+// The topmost node is left, with its leaves; whether the walk goes on in this tree.
+fn leave(
+    question: &Question,
+    along: &mut Along,
+    games: &mut Games,
+    walk: &mut TreeWalk,
+) -> Result<bool, Stop>
+    ensures says { (failed : Bool) → IfErr result (StopsTruly question.now failed) }
+    ensures finds { Finds question.now games.old games.new }
+{
+    match leaves(question, along, games, walk) {
+        Ok(()) => {}
+        Err(stop) => return Err(stop),
+    }
+    let Some(closed) = walk.close() else {
+        return Ok(false);
+    };
+    close(question, along, walk, &closed);
+    Ok(along.cited.is_none())
+}
+
+// A turn of the walk: a child is reached, or the topmost node is left; whether the walk goes on in this tree.
 fn turn<S: Source>(
     question: &Question,
-    machine: &mut Machine,
+    along: &mut Along,
     games: &mut Games,
+    walk: &mut TreeWalk,
     source: &mut S,
-    top: Frame,
+) -> Result<bool, Stop>
+    ensures says { IfErr result (StopsTruly question.now (S.has_failed source.new)) }
+    ensures finds { Finds question.now games.old games.new }
+{
+    match walk.child(source) {
+        Ok(Some(child)) => {
+            enter_child(question, along, &child);
+            Ok(true)
+        }
+        Ok(None) => leave(question, along, games, walk),
+        Err(broken) => Err(stop_of(broken)),
+    }
+}
+
+// The tree of so many plies, one at least. A second walk ends at the node that is wanted.
+fn tree_of<S: Source>(
+    question: &Question,
+    along: &mut Along,
+    games: &mut Games,
+    walk: &mut TreeWalk,
+    source: &mut S,
+    tree: u8,
 ) -> Result<(), Stop>
     ensures says { IfErr result (StopsTruly question.now (S.has_failed source.new)) }
     ensures finds { Finds question.now games.old games.new }
 {
-    if top.left == 0 {
-        leaves(question, machine, games, top)
-    } else {
-        step(question, machine, source, top)
+    match walk.root(tree, source) {
+        Ok(record) => enter(along, is_root_of_line(question, tree), &record),
+        Err(broken) => return Err(stop_of(broken)),
     }
+    for _ in 0..u64::MAX {
+        match turn(question, along, games, walk, source) {
+            Ok(true) => {}
+            Ok(false) => return Ok(()),
+            Err(stop) => return Err(stop),
+        }
+    }
+    Err(Stop::Refused)
 }
 
-// The root of the tree without a ply.
-fn bare_root(question: &Question, machine: &mut Machine, games: &mut Games) -> Result<(), Stop>
+// Whether the line begins in the tree of so many plies: no node is wanted, and it is the tree of the stated length.
+fn is_root_of_line(question: &Question, tree: u8) -> bool {
+    tree == question.plies && question.wanted.is_none()
+}
+
+// The root of the tree without a ply, which is a leaf.
+fn root_leaf(question: &Question, along: &mut Along, games: &mut Games) -> Result<(), Stop>
     ensures says { (failed : Bool) → IfErr result (StopsTruly question.now failed) }
     ensures finds { Finds question.now games.old games.new }
 {
     let hit = question.diagram.matches(&Position::array());
     if question.plies == 0 {
-        machine.ending = Some(Ending::Leaf(hit));
+        along.ending = Some(Ending::Leaf(hit));
     }
     if hit {
         end(question, games, &[])
@@ -282,112 +267,34 @@ fn bare_root(question: &Question, machine: &mut Machine, games: &mut Games) -> R
     }
 }
 
-// The root of a tree.
-fn root<S: Source>(
-    question: &Question,
-    machine: &mut Machine,
-    games: &mut Games,
-    source: &mut S,
-) -> Result<(), Stop>
-    ensures says { IfErr result (StopsTruly question.now (S.has_failed source.new)) }
-    ensures finds { Finds question.now games.old games.new }
-{
-    let tree = machine.tree;
-    if tree == 0 {
-        return bare_root(question, machine, games);
-    }
-    let on_line = tree == question.plies && question.wanted.is_none();
-    match next(machine, source) {
-        Ok(record) => enter(machine, &Position::array(), tree, &record, on_line),
-        Err(stop) => Err(stop),
-    }
-}
-
-// One tree. A second walk ends at the node that is wanted.
-fn tree_of<S: Source>(
-    question: &Question,
-    machine: &mut Machine,
-    games: &mut Games,
-    source: &mut S,
-) -> Result<(), Stop>
-    ensures says { IfErr result (StopsTruly question.now (S.has_failed source.new)) }
-    ensures finds { Finds question.now games.old games.new }
-{
-    match root(question, machine, games, source) {
-        Ok(()) => {}
-        Err(stop) => return Err(stop),
-    }
-    for _ in 0..u64::MAX {
-        if machine.cited.is_some() {
-            return Ok(());
-        }
-        let Some(top) = machine.frames.pop() else {
-            return Ok(());
-        };
-        match turn(question, machine, games, source, top) {
-            Ok(()) => {}
-            Err(stop) => return Err(stop),
-        }
-    }
-    Err(Stop::Refused)
-}
-
-// The header, which must be for the diagram and the length.
-fn start<S: Source>(question: &Question, machine: &mut Machine, source: &mut S) -> Result<(), Stop>
-    ensures says { IfErr result (StopsTruly question.now (S.has_failed source.new)) }
-{
-    match machine.reader.header(source) {
-        Ok(header) => {
-            if header.plies == question.plies && header.diagram == question.diagram.packed() {
-                Ok(())
-            } else {
-                Err(Stop::Refused)
-            }
-        }
-        Err(ReadFault::Read) => Err(Stop::Read),
-        Err(_) => Err(Stop::Refused),
-    }
-}
-
-// The end, with no byte behind it.
-fn finish<S: Source>(machine: &mut Machine, source: &mut S) -> Result<(), Stop>
-    ensures says { (q : Question) → IfErr result (StopsTruly q (S.has_failed source.new)) }
-{
-    match machine.reader.more(source) {
-        Ok(false) => Ok(()),
-        Ok(true) => Err(Stop::Refused),
-        Err(ReadFault::Read) => Err(Stop::Read),
-        Err(_) => Err(Stop::Refused),
-    }
-}
-
-// The header, the trees of all lengths, and the end. A second walk is over at the node that is wanted.
+// The trees of all lengths, and the end. A second walk is over at the node that is wanted.
 fn all_trees<S: Source>(
     question: &Question,
-    machine: &mut Machine,
+    along: &mut Along,
     games: &mut Games,
+    walk: &mut TreeWalk,
     source: &mut S,
 ) -> Result<(), Stop>
     ensures says { IfErr result (StopsTruly question.now (S.has_failed source.new)) }
     ensures finds { Finds question.now games.old games.new }
 {
-    match start(question, machine, source) {
+    match root_leaf(question, along, games) {
         Ok(()) => {}
         Err(stop) => return Err(stop),
     }
-    for tree in 0..=question.plies {
-        machine.tree = tree;
-        machine.below = 0;
-        machine.expanded = [0; 129];
-        match tree_of(question, machine, games, source) {
+    for tree in 1..=question.plies {
+        match tree_of(question, along, games, walk, source, tree) {
             Ok(()) => {}
             Err(stop) => return Err(stop),
         }
-        if machine.cited.is_some() {
+        if along.cited.is_some() {
             return Ok(());
         }
     }
-    finish(machine, source)
+    match walk.finish(source) {
+        Ok(()) => Ok(()),
+        Err(broken) => Err(stop_of(broken)),
+    }
 }
 
 // Walks over a certificate of at most so many records; what was found, and how the walk ended. The games of the
@@ -398,22 +305,22 @@ pub(crate) fn walk<S: Source>(
     games: &mut Games,
     source: &mut S,
     records: u64,
-) -> (Machine, Result<(), Stop>)
+) -> (Along, Result<(), Stop>)
     ensures says { IfErr result.1 (StopsTruly question.now (S.has_failed source.new)) }
     ensures finds { Finds question.now games.old games.new }
 {
-    let mut machine = Machine {
-        reader: RecordReader::new(),
-        records,
-        tree: 0,
-        frames: ArrayVec::new(),
-        closed: 0,
-        below: 0,
-        expanded: [0; 129],
+    let mut along = Along {
+        open: ArrayVec::new(),
         tallies: ArrayVec::new(),
         ending: None,
         cited: None,
+        expanded: [0; 129],
     };
-    let answer = all_trees(question, &mut machine, games, source);
-    (machine, answer)
+    let mut walk = match TreeWalk::start(question.diagram, question.plies, source, records) {
+        Ok(walk) => walk,
+        Err(broken) => return (along, Err(stop_of(broken))),
+    };
+    let answer = all_trees(question, &mut along, games, &mut walk, source);
+    along.expanded = walk.expanded;
+    (along, answer)
 }

@@ -12,8 +12,8 @@ use pg_checker::{Fault, Problem, RunFault};
 use pg_guide::{Gathered, WhyFault, gather};
 use std::alloc::Global;
 
-/// What is to be shown: the texts of a diagram and of a length in moves, and at most how many expanded nodes of the tree
-/// of the stated length.
+/// What is to be shown: the texts of a diagram and of a length in moves, and at most how many expanded nodes of the
+/// tree of the stated length.
 #[derive(Clone, Copy)]
 pub struct Asked<'a> {
     pub diagram: &'a str,
@@ -31,8 +31,8 @@ fn fault_of(stop: Stop) -> WhyFault
     }
 }
 
-// Writes the page of a certificate that is right, with what a third reading tells of its trees. Where that reading gives
-// something else than a certificate of the problem, the page says that it stops there.
+// Writes the page of a certificate that is right, with what a third reading tells of its trees. Where that reading
+// gives something else than a certificate of the problem, the page says that it stops there.
 fn show<R: Source, W: Sink>(
     problem: &Problem,
     nodes: u64,
@@ -65,20 +65,20 @@ fn show<R: Source, W: Sink>(
     }
 }
 
-/// Checks a certificate with the games that it has itself, and writes a page that shows it: one file of HTML, which needs
-/// nothing else. docs/FORMATS.md says what stands there; no clause speaks of it. Ok means that the check said yes, and
-/// nothing is written before it has.
+/// Checks a certificate with the games that it has itself, and writes a page that shows it: one file of HTML, which
+/// needs nothing else. docs/FORMATS.md says what stands there; no clause speaks of it. Ok means that the check said
+/// yes, and nothing is written before it has.
 ///
 /// The certificate is read three times, each time from its start: by `walked` for the games of the stated length that
 /// end on the diagram, by `checked` for the check, as `check` does with these games, and by `told` for the page. Each
-/// reading takes `max_records` records at most, and the check `max_named` named nodes. The games and the named nodes are
-/// taken from `alloc`; nothing else takes memory.
+/// reading takes `max_records` records at most, and the check `max_named` named nodes. The games and the named nodes
+/// are taken from `alloc`; nothing else takes memory.
 ///
 /// # Errors
-/// In this order: `Run` with `Diagram` and `Length` where that text is refused; `Run` with `Check` where a reading fails,
-/// where memory is refused for a game that was found, and where the check does not say yes (never `Listed`, since each game
-/// that was found is a solution), but `TooMany` where 4,096 games were found and the check met one more; `Run` with
-/// `Write` where the sink has failed. Never `Moves`, and `Run` never with `Games`.
+/// In this order: `Run` with `Diagram` and `Length` where that text is refused; `Run` with `Check` where a reading
+/// fails, where memory is refused for a game that was found, and where the check does not say yes (never `Listed`,
+/// since each game that was found is a solution), but `TooMany` where 4,096 games were found and the check met one
+/// more; `Run` with `Write` where the sink has failed. Never `Moves`, and `Run` never with `Games`.
 pub fn page<R: Source, W: Sink>(
     alloc: Global,
     asked: &Asked<'_>,

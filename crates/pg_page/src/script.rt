@@ -1,5 +1,5 @@
-//! The part of the page that shows the proof: what stands there, and the script that fills it. The script plays the moves that it
-//! is given on a board and never judges whether a move is legal.
+//! The part of the page that shows the proof: what stands there, and the script that fills it. The script plays the
+//! moves that it is given on a board and never judges whether a move is legal.
 
 // What the script fills.
 pub(crate) const VIEWER: &str = "<h2>The proof</h2>

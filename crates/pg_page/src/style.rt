@@ -26,12 +26,12 @@ button:hover:enabled, button:focus-visible { background: #dde6f2; }
 summary { cursor: pointer; padding: .3em 0; } .small { font-size: .85em; color: #444; }
 @media (min-width: 50em) { figure { float: left; width: 24em; margin: 0 2em 1em 0; } #games { overflow: hidden; } #games + h2 { clear: both; } }
 @media (max-width: 40em) { .move, #line button { padding: .4em .7em; } summary { padding: .6em 0; } }
-@media print { #bar, .hint { display: none; } button { border: none; background: none; padding: 0 .3em; } .board { max-width: 9cm; } }
+@media print { h1, h2 { break-after: avoid; } #bar, .hint { display: none; } button { border: none; background: none; padding: 0 .3em; } .board { max-width: 9cm; } }
 </style>
 ";
 
-// The drawings: the squares with the letters of the files and the digits of the ranks, and each kind of man in a square of
-// a hundred. White's men are drawn in outline and Black's are filled, by the class of who uses them.
+// The drawings: the squares with the letters of the files and the digits of the ranks, and each kind of man in a square
+// of a hundred. White's men are drawn in outline and Black's are filled, by the class of who uses them.
 pub(crate) const MEN: &str =
     "<svg width='0' height='0' style='position:absolute' aria-hidden='true'><defs>
 <pattern id='pair' width='2' height='2' patternUnits='userSpaceOnUse'><rect width='2' height='2' fill='#f6f3ea'/><path d='M1 0h1v1H1zM0 1h1v1H0z' fill='#bcc7ae'/></pattern>

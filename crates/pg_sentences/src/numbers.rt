@@ -55,10 +55,10 @@ pub(crate) fn captures_of(node: &Node, color: Color) -> Option<Sentence> {
 // Why promotions exclude a colour: pawns are short for the pieces that it lacks and the pawns of the
 // diagram; none where they do not.
 pub(crate) fn promotions_of(node: &Node, color: Color) -> Option<Sentence> {
-    let wanted = node.diagram.board();
+    let goal = node.diagram.board();
     let board = node.position.board();
-    let pieces = shortage(&wanted, &board, color);
-    let needed = pieces.saturating_add(u16::from(pawns(&wanted, color)));
+    let pieces = shortage(&goal, &board, color);
+    let needed = pieces.saturating_add(u16::from(pawns(&goal, color)));
     let here = u16::from(pawns(&board, color));
     if needed <= here {
         return None;
@@ -82,8 +82,8 @@ pub(crate) fn promotions_of(node: &Node, color: Color) -> Option<Sentence> {
     Some(text)
 }
 
-// Why changes of file exclude a colour, so many as the lines between files show: it owes fewer captures; none where they
-// do not.
+// Why changes of file exclude a colour, so many as the lines between files show: it owes fewer captures; none where
+// they do not.
 pub(crate) fn files_of(node: &Node, color: Color) -> Option<Sentence> {
     let shift = shift_need(color, node.diagram, node.position);
     let owed = owed(color, node.diagram, node.position);

@@ -6,8 +6,9 @@ use crate::pairing::{BySquare, Choices, Partners, settle_all};
 use crate::sentences::Sentence;
 use pg_board::{Board, Color, Kind, Man, Square, SquareSet};
 use pg_captures::{owed, price_sum};
+use pg_pawns::PawnFiles;
 use pg_position::{Rights, Wing, king_crossed, king_home, king_target, rook_home};
-use pg_travel::{Prices, distance};
+use pg_travel::{Prices, Travel, distance};
 use std::fmt::Write;
 
 // How many of the dearest men are named.
@@ -292,8 +293,8 @@ fn write_dearest(goal: &Board, costs: &BySquare, text: &mut Sentence) -> u16 {
     sum
 }
 
-// What a number of moves or of changes of file is made of, pair by pair: the dearest men, the others, castling, and what
-// men without a partner pay.
+// What a number of moves or of changes of file is made of, pair by pair: the dearest men, the others, castling, and
+// what men without a partner pay.
 fn write_pairs(sides: &Sides, prices: &Prices, way: usize, text: &mut Sentence) {
     let priced = Priced {
         sources: by_square(sides.sources, prices.u(way)),
@@ -390,10 +391,15 @@ fn travel_prices_of(node: &Node, color: Color, prices: &Prices) -> Option<Senten
 }
 
 // Why prices of this code exclude; none where they do not.
-pub(crate) fn prices_of(node: &Node, code: u8, color: Color, prices: &Prices) -> Option<Sentence> {
+pub(crate) fn reason_of_prices(
+    node: &Node,
+    code: u8,
+    color: Color,
+    prices: &Prices,
+) -> Option<Sentence> {
     match code {
-        3 => pawn_prices_of(node, color, prices),
-        4 => travel_prices_of(node, color, prices),
+        PawnFiles::CODE => pawn_prices_of(node, color, prices),
+        Travel::CODE => travel_prices_of(node, color, prices),
         _ => None,
     }
 }

@@ -2,14 +2,25 @@
 
 use crate::found::Ending;
 use crate::numbers::{Node, captures_of, files_of, promotions_of};
-use crate::prices::prices_of;
+use crate::prices::reason_of_prices;
 use crate::travel::travel_of;
 use arrayvec::ArrayString;
 use pg_board::Color;
+use pg_captures::{Captures, Promotions};
 use pg_certificate::Record;
 use pg_fen::Diagram;
+use pg_pawns::PawnFiles;
 use pg_position::Position;
+use pg_travel::Travel;
 use std::fmt::Write;
+
+// The codes of the four bounds, in the order in which they are asked.
+const CODES: [u8; 4] = [
+    Captures::CODE,
+    Promotions::CODE,
+    PawnFiles::CODE,
+    Travel::CODE,
+];
 
 // What is said of a node. What would be longer is cut off.
 pub(crate) type Sentence = ArrayString<320>;
@@ -24,10 +35,10 @@ pub struct Grounds {
 // Why the bound with this code excludes a colour; none where it does not, or is not known.
 fn reason_of(node: &Node, code: u8, color: Color) -> Option<Sentence> {
     match code {
-        1 => captures_of(node, color),
-        2 => promotions_of(node, color),
-        3 => files_of(node, color),
-        4 => travel_of(node, color),
+        Captures::CODE => captures_of(node, color),
+        Promotions::CODE => promotions_of(node, color),
+        PawnFiles::CODE => files_of(node, color),
+        Travel::CODE => travel_of(node, color),
         _ => None,
     }
 }
@@ -50,7 +61,7 @@ pub(crate) fn first_reason(node: &Node) -> Option<Sentence> {
 
 // The same with the code of that bound.
 fn first_of_four(node: &Node) -> Option<Grounds> {
-    for code in 1..5u8 {
+    for code in CODES {
         if let Some(text) = reason(node, code) {
             return Some(Grounds { code, text });
         }
@@ -79,7 +90,7 @@ fn recorded(node: &Node, record: &Record) -> Sentence {
             code,
             color,
             prices,
-        } => excluded(*code, prices_of(node, *code, *color, prices)),
+        } => excluded(*code, reason_of_prices(node, *code, *color, prices)),
         Record::Ref(_) | Record::Expand { .. } => said("a reference to no closed node"),
     }
 }
@@ -129,7 +140,7 @@ pub fn reason_of_cut(
             code,
             color,
             prices,
-        } => Some(with_code(*code, prices_of(&node, *code, *color, prices))),
+        } => Some(with_code(*code, reason_of_prices(&node, *code, *color, prices))),
         Record::Ref(_) | Record::Expand { .. } => None,
     }
 }

@@ -1,7 +1,7 @@
 use Rattle.pg_guide.proofs.walk.turn.Goals as goal
 
-pub returns-then-top-eq0 : goal.returns-then-top-eq0
-returns-then-top-eq0 g c = record { says = c.leaves.ensures.says _; finds = c.leaves.ensures.finds }
+pub returns-in-Ok-None-clause-says : goal.returns-in-Ok-None-clause-says
+returns-in-Ok-None-clause-says g c = c.leave.ensures.says _
 
-pub returns-else-top-eq0 : goal.returns-else-top-eq0
-returns-else-top-eq0 g c = record { says = c.step.ensures.says; finds = λ h. h }
+pub returns-in-Err : goal.returns-in-Err
+returns-in-Err g c = record { says = c.stop_of.ensures c.args.question.now _ c.in-Err.ensures.says; finds = λ h. h }

@@ -1,4 +1,4 @@
 use Rattle.pg_page.proofs.telling.turn.Goals as goal
 
-pub returns-then-top-le1 : goal.returns-then-top-le1
-returns-then-top-le1 g c = record { says = c.leaves.ensures.says _ }
+pub returns-in-Err : goal.returns-in-Err
+returns-in-Err g c = record { says = c.stop_of.ensures _ _ c.in-Err.ensures.says }
