@@ -1,6 +1,6 @@
 -- From the answer of a run to the status that the program gives.
 use Rattle.std.proofs.Common.{◌≡◌, ◌∙◌, ℕ, List, [], subst, sym, ap, codes, arith, slice_index}
-use Rattle.std.specs.Prelude.{Option, Some, None, Result, Ok, Err, IfOk, OnOk, MatchResult, option_map, unwrap_or}
+use Rattle.std.specs.Prelude.{Bool, true, Option, Some, None, Result, Ok, Err, IfOk, IfErr, OnOk, option_map, unwrap_or}
 use Rattle.clap.specs.Words.{Row, Text, first_value, rows_of, subcommand_name_of, subcommand_rows_of}
 use Rattle.clap.specs.declared.parser.matches.Found.{Found}
 use Rattle.clap.specs.declared.parser.matches.ArgMatches.{ArgMatches}
@@ -12,35 +12,81 @@ use Rattle.pg_board.specs.Placement.{Placement}
 use Rattle.pg_position.specs.declared.moves.Move.{Move}
 use Rattle.pg_checker.specs.Answer.{IsExactAnswer}
 use Rattle.pg_texts.specs.Report.{IsVerdict}
-use Rattle.pg_report.specs.Run.{AreSpelled}
+use Rattle.pg_report.specs.Run.{AreSpelled, IsRunFault}
 use Rattle.pg_report.specs.Statuses.{verdict_status}
 use Rattle.pg_texts.specs.declared.verdict.Verdict.{Verdict}
+use Rattle.pg_checker.specs.Check.{Accepts}
+use Rattle.pg_checker.specs.declared.certify.Proved.{Proved}
 use Rattle.pg_checker.specs.declared.fault.RunFault.{RunFault}
+use Rattle.pg_checker.specs.declared.fault.RunFault.TheVariants.{Write}
+use Rattle.pg_guide.specs.Why.{Terms, Failures, IsProved, IsOneLine}
+use Rattle.pg_guide.specs.declared.explaining.Asked.{Asked as Line}
+use Rattle.pg_guide.specs.declared.fault.WhyFault.TheVariants.{Run}
+use Rattle.pg_page.specs.Page.{IsShown}
+use Rattle.pg_page.specs.declared.paging.Asked.{Asked as Shown}
+use Rattle.pg_cli.specs.declared.checking.Asked.{Asked}
 use Rattle.pg_cli.specs.declared.refusals.Refusal.{Refusal}
+use Rattle.pg_cli.specs.declared.refusals.Refusal.TheVariants.{Check}
+use Rattle.pg_cli.specs.Reasons.{IsCheckRefusal, IsFoundRefusal, IsWhyRefusal, IsPageRefusal}
 use Rattle.pg_cli.specs.Answers.{IsAnswered, AreAnswered, HasExactAnswer}
 use Rattle.pg_cli.specs.Words.{spelled, IsTested, IsFollowed, IsChecked, IsSearched, IsExplained, IsSubcommand, IsMeant}
 
--- the status that is given is that of the verdict, where there is one
-abbrev pub IsGiven : Result Verdict RunFault → Result ℕ Refusal → Type 0
-IsGiven answer result = IfOk result (λ status. MatchResult answer (λ v. status ≡ verdict_status v) (λ _. ⊥))
+-- why a report has no status: the sink has failed
+abbrev pub IsUnwritten : Bool → Result ℕ Refusal → Type 0
+IsUnwritten failed result = IfErr result (λ r. (r ≡ Check Write) × (failed ≡ true))
+
+-- the texts spell a diagram, a length and a list; it is the exact answer, this is its verdict, and by the rules the known bytes are a certificate of it
+abbrev pub AreChecked : Terms → List ℕ → List ℕ → List ℕ → (Placement → ℕ → List (List Move) → Type 0) → Verdict → Type 0
+AreChecked t diagram length games X v =
+    (d : Placement) × (n : ℕ) × (list : List (List Move)) × AreSpelled diagram length games d n list × IsExactAnswer d n list × IsVerdict list v
+    × X d n list × ((proved : Proved) × Accepts (t.rules d n list) d list t.max_records t.max_named t.known (Ok proved))
 
 pub texts_answered : (diagram length games given : List ℕ) (X Y : Placement → ℕ → List (List Move) → Type 0)
-    (answer : Result Verdict RunFault) (result : Result ℕ Refusal) → games ≡ given
-    → IfOk answer (λ v. (d : Placement) × (n : ℕ) × (list : List (List Move)) × AreSpelled diagram length games d n list × IsExactAnswer d n list × IsVerdict list v × X d n list × Y d n list)
-    → IsGiven answer result → IfOk result (λ status. AreAnswered diagram length given status)
-texts_answered diagram length games given X Y (Ok v) (Ok s) e h k =
-    (h.0, h.1, h.2, subst (λ (g : List ℕ). AreSpelled diagram length g h.0 h.1 h.2) e h.3, (h.4, (v, h.5, k)))
-texts_answered diagram length games given X Y (Ok v) (Err r) e h k = tt
-texts_answered diagram length games given X Y (Err f) (Ok s) e h k = absurd k
-texts_answered diagram length games given X Y (Err f) (Err r) e h k = tt
+    (v : Verdict) (k : ℕ) (result : Result ℕ Refusal) → games ≡ given
+    → (d : Placement) × (n : ℕ) × (list : List (List Move)) × AreSpelled diagram length games d n list × IsExactAnswer d n list × IsVerdict list v × X d n list × Y d n list
+    → k ≡ verdict_status v → IfOk result (λ n. n ≡ k) → IfOk result (λ status. AreAnswered diagram length given status)
+texts_answered diagram length games given X Y v k (Ok s) e h f g =
+    (h.0, h.1, h.2, subst (λ (x : List ℕ). AreSpelled diagram length x h.0 h.1 h.2) e h.3, (h.4, (v, h.5, g ∙ f)))
+texts_answered diagram length games given X Y v k (Err r) e h f g = tt
 
-pub games_answered : (d : Placement) (n : ℕ) (list : List (List Move)) (answer : Result Verdict RunFault) (result : Result ℕ Refusal)
-    → MatchResult answer (λ _. IsExactAnswer d n list) (λ _. Unit {0}) → IfOk answer (λ v. IsVerdict list v)
-    → IsGiven answer result → IfOk result (λ status. IsAnswered d n list status)
-games_answered d n list (Ok v) (Ok s) h i k = (h, (v, i, k))
-games_answered d n list (Ok v) (Err r) h i k = tt
-games_answered d n list (Err f) (Ok s) h i k = absurd k
-games_answered d n list (Err f) (Err r) h i k = tt
+pub texts_unwritten : (t : Terms) (asked : Asked) (games : List ℕ) (failed broken : Bool) (X : Placement → ℕ → List (List Move) → Type 0)
+    (v : Verdict) (result : Result ℕ Refusal) → games ≡ asked.games.now
+    → AreChecked t asked.diagram.now asked.length.now games X v → IsUnwritten broken result
+    → IfErr result (λ r. IsCheckRefusal t asked failed broken r)
+texts_unwritten t asked games failed broken X v (Ok s) e h g = tt
+texts_unwritten t asked games failed broken X v (Err r) e h g =
+    subst (λ (x : Refusal). IsCheckRefusal t asked failed broken x) (sym g.0)
+    (h.0, h.1, h.2, subst (λ (x : List ℕ). AreSpelled asked.diagram.now asked.length.now x h.0 h.1 h.2) e h.3, (h.4, g.1, h.7))
+
+-- the same texts are refused for the same reason
+pub texts_refused : (t : Terms) (asked : Asked) (games : List ℕ) (failed broken : Bool) (fault : RunFault) → games ≡ asked.games.now
+    → IsRunFault t.rules asked.diagram.now asked.length.now games t.max_records t.max_named t.known failed broken fault
+    → IsCheckRefusal t asked failed broken (Check fault)
+texts_refused t asked games failed broken fault e h =
+    subst (λ (x : List ℕ). IsRunFault t.rules asked.diagram.now asked.length.now x t.max_records t.max_named t.known failed broken fault) e h
+
+pub games_answered : (d : Placement) (n : ℕ) (list : List (List Move)) (v : Verdict) (k : ℕ) (result : Result ℕ Refusal)
+    → IsExactAnswer d n list → IsVerdict list v → k ≡ verdict_status v → IfOk result (λ n. n ≡ k)
+    → IfOk result (λ status. IsAnswered d n list status)
+games_answered d n list v k (Ok s) h i f g = (h, (v, i, g ∙ f))
+games_answered d n list v k (Err r) h i f g = tt
+
+pub games_unwritten : (t : Terms) (d : Placement) (n : ℕ) (list : List (List Move)) (failed broken : Bool) (result : Result ℕ Refusal)
+    → IsExactAnswer d n list → (proved : Proved) × Accepts (t.rules d n list) d list t.max_records t.max_named t.known (Ok proved)
+    → IsUnwritten broken result → IfErr result (λ r. IsFoundRefusal t d n list failed broken r)
+games_unwritten t d n list failed broken (Ok s) h p g = tt
+games_unwritten t d n list failed broken (Err r) h p g =
+    subst (λ (x : Refusal). IsFoundRefusal t d n list failed broken x) (sym g.0) (h, g.1, p)
+
+pub line_unwritten : (asked : Line) (t : Terms) (f : Failures) (result : Result ℕ Refusal)
+    → IsProved asked t → IsOneLine asked.moves.now → IsUnwritten f.sink result → IfErr result (λ r. IsWhyRefusal asked t f r)
+line_unwritten asked t f (Ok s) h o g = tt
+line_unwritten asked t f (Err r) h o g = (Run Write, g.0, ((h.0, h.1, (h.3, h.4)), o, g.1))
+
+pub page_unwritten : (asked : Shown) (t : Terms) (f : Failures) (result : Result ℕ Refusal)
+    → IsShown asked t → IsUnwritten f.sink result → IfErr result (λ r. IsPageRefusal asked t f r)
+page_unwritten asked t f (Ok s) h g = tt
+page_unwritten asked t f (Err r) h g = (Run Write, g.0, (h, g.1))
 
 -- what holds is said of an answer too
 pub said_of : {A E : Type 0} (result : Result A E) (P : Type 0) → P → OnOk result P

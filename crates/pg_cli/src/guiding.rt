@@ -1,25 +1,68 @@
 //! `pg why`: a certificate explains a line of moves.
-ghost use Rattle.std.specs.Prelude.{◌≡◌, IfOk, OnOk};
+ghost use Rattle.std.specs.Prelude.{◌≡◌, IfOk, IfErr, OnOk};
+ghost use Rattle.pg_checker.specs.Cuts.{rules_by};
 ghost use Rattle.clap.specs.Words.{found_of, rows_of};
 ghost use Rattle.pg_cli.specs.Answers.{HasExactAnswer};
+ghost use Rattle.pg_cli.specs.Reasons.{IsWhyRefusal, why_refusal};
 ghost use Rattle.pg_cli.specs.Words.{IsExplained};
 
-use crate::checking::RECORDS;
-use crate::refusals::{DONE, Refusal, say};
+use crate::checking::{RECORDS, finished};
+use crate::refusals::{DONE, NO_FILE, Named, Refusal, say};
 use crate::screen::Screen;
 use crate::spelling::text_of;
 use clap::ArgMatches;
 use pg_certificate::format::MOST_NAMED;
 use pg_files::{FileFault, open_plain};
 use pg_guide::{Asked, WhyFault, why as explain};
-use pg_report::{Bound, Fault, Refused, RunFault, SearchFault, Sink, ToWrite};
-use pg_streams::{Cleared, Gathered, Terminal, watch_records};
+use pg_report::{Bound, Fault, FromRead, RunFault, SearchFault, Sink, Source, ToWrite};
+use pg_streams::{Cleared, Gathered, Terminal, Watched, watch_records};
+use std::alloc::Global;
 use std::io;
-use std::io::{Read, Write};
+use std::io::Read;
 use std::rt::Runtime;
 
+// Three readings of one certificate, each from its start: for what stands in it, for the check, and once more.
+pub(crate) struct Readings<S> {
+    pub(crate) walked: S,
+    pub(crate) checked: S,
+    pub(crate) again: S,
+}
+
+// The plain file of this name, opened three times, with its records counted on a terminal.
+pub(crate) fn read_thrice<'a, R: Runtime + AllocGlobal>(
+    rt: &'a R,
+    terminal: &'a Terminal,
+    path: &str,
+    records: u64,
+) -> Result<Readings<Watched<'a, FromRead<R::File>, R>>, FileFault> {
+    let walked = open_plain(rt, path)?;
+    let checked = open_plain(rt, path)?;
+    let again = open_plain(rt, path)?;
+    Ok(Readings {
+        walked: watch_records(rt, terminal, walked, records),
+        checked: watch_records(rt, terminal, checked, records),
+        again: watch_records(rt, terminal, again, records),
+    })
+}
+
+// Takes what is shown of three readings away, and ends them.
+pub(crate) fn end_readings<R: Runtime, C: Read + Drop>(
+    readings: Readings<Watched<'_, FromRead<C>, R>>,
+) {
+    let Readings {
+        walked,
+        checked,
+        again,
+    } = readings;
+    walked.end();
+    checked.end();
+    again.end();
+}
+
 // Why a line is not explained, or a certificate not shown, as a refusal.
-pub(crate) fn refusal_of<'a>(fault: WhyFault) -> Refusal<'a> {
+pub(crate) fn refusal_of(fault: WhyFault) -> Refusal
+    ensures { result ≡ why_refusal fault }
+{
     match fault {
         WhyFault::Moves => Refusal::Line,
         WhyFault::TooMany => Refusal::Search(SearchFault::TooManyGames),
@@ -27,18 +70,8 @@ pub(crate) fn refusal_of<'a>(fault: WhyFault) -> Refusal<'a> {
     }
 }
 
-// The status once the explanation, or the page, is wholly written.
-pub(crate) fn done<'a, W: Sink + Drop>(out: Gathered<W>) -> Result<u8, Refusal<'a>>
-    ensures zero { IfOk result (λ status. status ≡ 0) }
-{
-    match out.finish() {
-        Ok(_) => Ok(DONE),
-        Err(Refused) => Err(Refusal::Check(RunFault::Write)),
-    }
-}
-
 // Whether the certificate itself is why there is no answer, or the games that it has.
-fn is_of_certificate(refusal: &Refusal<'_>) -> bool {
+fn is_of_certificate(refusal: &Refusal) -> bool {
     match refusal {
         Refusal::Check(RunFault::Check(fault)) => !matches!(fault, Fault::Memory | Fault::Read),
         Refusal::Search(_) => true,
@@ -46,92 +79,81 @@ fn is_of_certificate(refusal: &Refusal<'_>) -> bool {
     }
 }
 
-// Ends an explanation with why the certificate is refused, which is said on standard error too: so not where both are
+// Ends an explanation with why the certificate is refused, if it is, which is said on standard error too: so not where both are
 // the same terminal.
-fn end<W: Sink + Drop>(out: Gathered<W>, refusal: &Refusal<'_>, screen: Screen) {
-    let mut out = out;
+fn end<W: Sink>(answer: &Result<u8, Refusal>, screen: Screen, out: &mut Gathered<W>) {
+    let Err(refusal) = answer else {
+        return;
+    };
     if is_of_certificate(refusal) && !(screen.output && screen.errors) {
-        let _ = say(refusal, &mut out);
+        let _ = say(refusal, NO_FILE, out);
         let _ = out.push(b"\n");
     }
-    let _ = out.finish();
+    let _ = out.flush();
 }
 
-// Explains a line by the certificate that each of three readers gives, and writes what it says. A status
+// Explains a line by a certificate that is read three times, and writes what it says. A status
 // means that a list of games is the exact answer to the diagram and the length: the check of the
 // certificate has said yes.
 //
 // # Errors
-// `Line` where the moves are not one game, else `Check` with the fault of the texts, of the certificate or of
-// the writer.
-pub(crate) fn why_from<'a, R: Runtime + AllocGlobal, C: Read + Drop, W: Write + Drop>(
-    rt: &R,
+// `Line` where the moves are not one game, `Search` with `TooManyGames` where the certificate has more games than a list,
+// else `Check` with the fault of the texts, of the certificate or of the writer.
+pub(crate) fn why_from<S: Source, W: Sink>(
+    alloc: Global,
     asked: &Asked<'_>,
     bounds: &[Box<dyn Bound>],
-    certificates: (C, C, C),
-    out: W,
+    readings: &mut Readings<S>,
+    out: &mut Gathered<W>,
     records: u64,
-    screen: Screen,
-) -> Result<u8, Refusal<'a>>
+) -> Result<u8, Refusal>
     ensures right { OnOk result (HasExactAnswer asked.now.diagram.now asked.now.length.now) }
     ensures zero { IfOk result (λ status. status ≡ 0) }
+    ensures err { IfErr result (λ refusal. IsWhyRefusal asked.now
+        (record {
+          rules = rules_by code_of excluded bounds.now;
+          max_records = records;
+          max_named = MOST_NAMED;
+          known = S.left readings.old.checked;
+        })
+        (record {
+          walked = S.has_failed readings.new.walked;
+          cited = S.has_failed readings.new.again;
+          checked = S.has_failed readings.new.checked;
+          sink = ⟦<Gathered<W> as Sink>⟧.has_failed out.new;
+        }) refusal) }
 {
-    let (walked, checked, cited) = certificates;
-    let terminal = Terminal::new(screen.errors);
-    let mut walked = watch_records(rt, &terminal, walked, records);
-    let mut checked = watch_records(rt, &terminal, checked, records);
-    let mut cited = watch_records(rt, &terminal, cited, records);
-    let mut out = Gathered::new(Cleared::new(ToWrite::new(out), rt, &terminal));
-    let answer = explain(
-        rt.alloc(),
+    match explain(
+        alloc,
         asked,
         bounds,
-        &mut walked,
-        &mut checked,
-        &mut cited,
-        &mut out,
+        &mut readings.walked,
+        &mut readings.checked,
+        &mut readings.again,
+        out,
         records,
         MOST_NAMED,
-    );
-    walked.end();
-    checked.end();
-    cited.end();
-    match answer {
-        Ok(()) => done(out),
-        Err(fault) => {
-            let refusal = refusal_of(fault);
-            end(out, &refusal, screen);
-            Err(refusal)
-        }
+    ) {
+        Ok(()) => finished(DONE, out),
+        Err(fault) => Err(refusal_of(fault)),
     }
-}
-
-// A plain file, opened three times.
-pub(crate) fn open_thrice<R: Runtime + AllocGlobal>(
-    rt: &R,
-    path: &str,
-) -> Result<(R::File, R::File, R::File), FileFault> {
-    Ok((
-        open_plain(rt, path)?,
-        open_plain(rt, path)?,
-        open_plain(rt, path)?,
-    ))
 }
 
 // `pg why`: the certificate of a plain file explains a line on standard output. A status means that some list
 // is the exact answer to the diagram and the length which the words spell, and it is 0.
-pub(crate) fn why<'a, R: Runtime + AllocGlobal>(
+pub(crate) fn why<R: Runtime + AllocGlobal>(
     rt: &R,
-    words: &ArgMatches<'a>,
+    words: &ArgMatches<'_>,
     bounds: &[Box<dyn Bound>],
     screen: Screen,
-) -> Result<u8, Refusal<'a>>
+) -> Result<u8, Refusal>
     ensures headline { IfOk result (λ status. IsExplained (rows_of (found_of words.now)) status) }
 {
-    let path = text_of(words, "CERT");
-    let certificates = match open_thrice(rt, path) {
-        Ok(certificates) => certificates,
-        Err(fault) => return Err(Refusal::of_file(fault, path)),
+    let records = words.get_one::<u64>("records").unwrap_or(RECORDS);
+    let terminal = Terminal::new(screen.errors);
+    let mut readings = match read_thrice(rt, &terminal, text_of(words, "CERT"), records) {
+        Ok(readings) => readings,
+        Err(fault) => return Err(Refusal::of_file(fault, Named::Certificate)),
     };
     let diagram = text_of(words, "DIAGRAM");
     let length = text_of(words, "LENGTH");
@@ -140,7 +162,9 @@ pub(crate) fn why<'a, R: Runtime + AllocGlobal>(
         length,
         moves: text_of(words, "MOVES"),
     };
-    let records = words.get_one::<u64>("records").unwrap_or(RECORDS);
-    let out = io::writer(rt);
-    why_from(rt, &asked, bounds, certificates, out, records, screen)
+    let mut out = Gathered::new(Cleared::new(ToWrite::new(io::writer(rt)), rt, &terminal));
+    let answer = why_from(rt.alloc(), &asked, bounds, &mut readings, &mut out, records);
+    end_readings(readings);
+    end(&answer, screen, &mut out);
+    answer
 }

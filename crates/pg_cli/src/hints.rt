@@ -105,11 +105,7 @@ fn tell_check<R: Runtime + AllocGlobal>(rt: &R, words: &ArgMatches<'_>, fault: &
 }
 
 // Says what may help where a command of these words has no answer.
-pub(crate) fn advise<R: Runtime + AllocGlobal>(
-    rt: &R,
-    words: &ArgMatches<'_>,
-    refusal: &Refusal<'_>,
-) {
+pub(crate) fn advise<R: Runtime + AllocGlobal>(rt: &R, words: &ArgMatches<'_>, refusal: &Refusal) {
     let Some((_, words)) = words.subcommand() else {
         return;
     };

@@ -22,11 +22,13 @@ mod spelling;
 mod upgrading;
 
 use crate::hints::{advise, advise_words};
-use crate::refusals::{BAD_INPUT, DONE, Refusal, refuse};
+use crate::refusals::{BAD_INPUT, DONE, NO_FILE, Refusal, refuse};
 use crate::screen::Screen;
+use crate::spelling::text_of;
 use clap::ArgMatches;
 use clap::error::ErrorKind;
 use pg_fen::Diagram;
+use pg_files::FileName;
 use pg_report::{Bound, Captures, PawnFiles, Promotions, Travel};
 use pg_travel::{Rows, TravelByRows};
 use pg_words::pg;
@@ -37,13 +39,13 @@ use std::rt::Runtime;
 use std::{env, io};
 
 // Does what the words of a command say that judges no game, with these bounds.
-fn carry_out_other<'a, R: Runtime + AllocGlobal>(
+fn carry_out_other<R: Runtime + AllocGlobal>(
     rt: &R,
     name: &str,
-    words: &ArgMatches<'a>,
+    words: &ArgMatches<'_>,
     bounds: &[Box<dyn Bound>],
     screen: Screen,
-) -> Result<u8, Refusal<'a>> {
+) -> Result<u8, Refusal> {
     match name {
         "show" => positions::show(rt, words, bounds),
         "moves" => positions::moves(rt, words),
@@ -55,12 +57,12 @@ fn carry_out_other<'a, R: Runtime + AllocGlobal>(
 // Does what the words of a command say, with these bounds. A status of `check`, `search`, `why` or `page`
 // means that a list is the exact answer to the diagram and the length which the words spell, and 1 of `games` or
 // `cooks` that no list of one game is.
-fn carry_out<'a, R: Runtime + AllocGlobal>(
+fn carry_out<R: Runtime + AllocGlobal>(
     rt: &R,
-    words: &ArgMatches<'a>,
+    words: &ArgMatches<'_>,
     bounds: &[Box<dyn Bound>],
     screen: Screen,
-) -> Result<u8, Refusal<'a>>
+) -> Result<u8, Refusal>
     ensures headline { IfOk result (λ status. (name : Text) (rows : List Row) → IsSubcommand words.now name rows
         → IsMeant name rows status) }
 {
@@ -79,6 +81,17 @@ fn carry_out<'a, R: Runtime + AllocGlobal>(
     }
 }
 
+// The file that a refusal speaks of, as the words of the command name it, or none.
+fn file_of<'a>(words: &ArgMatches<'a>, refusal: &Refusal) -> FileName<'a> {
+    let Refusal::Open(named, _) = refusal else {
+        return NO_FILE;
+    };
+    match words.subcommand() {
+        Some((_, inner)) => FileName(text_of(inner, named.word())),
+        None => NO_FILE,
+    }
+}
+
 // Does what the words of a command say, with these bounds, and gives the status.
 fn lend<R: Runtime + AllocGlobal>(
     rt: &R,
@@ -89,7 +102,7 @@ fn lend<R: Runtime + AllocGlobal>(
     match carry_out(rt, words, bounds.as_slice(), screen) {
         Ok(status) => status,
         Err(refusal) => {
-            let status = refuse(rt, &refusal);
+            let status = refuse(rt, &refusal, file_of(words, &refusal));
             if screen.errors {
                 advise(rt, words, &refusal);
             }
@@ -141,7 +154,7 @@ fn run<R: Runtime + AllocGlobal>(rt: &R, words: &ArgMatches<'_>, screen: Screen)
 // Says why the words are no command, or the help that they ask for, and gives the status.
 fn explain<R: Runtime + AllocGlobal>(rt: &R, error: &clap::Error) -> u8 {
     if error.kind() == ErrorKind::OutOfMemory {
-        return refuse(rt, &Refusal::Memory);
+        return refuse(rt, &Refusal::Memory, NO_FILE);
     }
     let is_printed = error.print(rt).is_ok();
     if error.use_stderr() {
@@ -149,19 +162,19 @@ fn explain<R: Runtime + AllocGlobal>(rt: &R, error: &clap::Error) -> u8 {
     } else if is_printed {
         DONE
     } else {
-        refuse(rt, &Refusal::Write)
+        refuse(rt, &Refusal::Write, NO_FILE)
     }
 }
 
 // Reads the words as commands, and gives the status.
 fn obey<R: Runtime + AllocGlobal>(rt: &R, words: &[String], screen: Screen) -> u8 {
     let Ok(command) = pg(rt.alloc()) else {
-        return refuse(rt, &Refusal::Memory);
+        return refuse(rt, &Refusal::Memory, NO_FILE);
     };
     match command.try_get_matches_from(words) {
         Ok(matches) => match run(rt, &matches, screen) {
             Some(status) => status,
-            None => refuse(rt, &Refusal::Memory),
+            None => refuse(rt, &Refusal::Memory, NO_FILE),
         },
         Err(error) => {
             let status = explain(rt, &error);
@@ -174,7 +187,7 @@ fn obey<R: Runtime + AllocGlobal>(rt: &R, words: &[String], screen: Screen) -> u
 }
 
 // The words of the command line.
-fn all_words<R: Runtime + AllocGlobal>(rt: &R) -> Result<Vec<String>, Refusal<'static>> {
+fn all_words<R: Runtime + AllocGlobal>(rt: &R) -> Result<Vec<String>, Refusal> {
     let given = match env::args(rt) {
         Ok(given) => given,
         Err(fault) if fault.kind() == io::ErrorKind::InvalidData => return Err(Refusal::Words),
@@ -197,7 +210,7 @@ fn program<R: Runtime + AllocGlobal>(rt: &R, screen: Screen) -> u8 {
     let _errors = File::open(rt, "/");
     match all_words(rt) {
         Ok(words) => obey(rt, words.as_slice(), screen),
-        Err(refusal) => refuse(rt, &refusal),
+        Err(refusal) => refuse(rt, &refusal, NO_FILE),
     }
 }
 

@@ -1,71 +1,156 @@
 //! The commands on one position: its legal moves, the number of games from it, and a diagram shown.
+ghost use Rattle.std.specs.Prelude.{◌≡◌, true, IfOk, IfErr};
+ghost use Rattle.pg_cli.specs.Reasons.{IsCountRefusal, IsMovesRefusal, IsShowRefusal, IsShowWithinRefusal};
 
 use crate::refusals::{DONE, Refusal};
 use crate::spelling::text_of;
 use clap::ArgMatches;
 use pg_report::{
-    Bound, CountRunFault, MovesFault, Refused, ShowFault, ToWrite, run_count_watched, run_moves,
-    run_show, run_show_within,
+    Bound, CountProgress, CountRunFault, MovesFault, Refused, ShowFault, Sink, ToWrite,
+    run_count_watched, run_moves, run_show, run_show_within,
 };
-use pg_streams::{CountLine, Gathered, Terminal};
+use pg_streams::{Cleared, CountLine, Gathered, Terminal};
+use std::alloc::Global;
 use std::io;
 use std::rt::Runtime;
 
-// `pg moves FEN`: the legal moves, on standard output.
-pub(crate) fn moves<'a, R: Runtime + AllocGlobal>(
-    rt: &R,
-    words: &ArgMatches<'a>,
-) -> Result<u8, Refusal<'a>> {
-    let fen = text_of(words, "FEN");
-    let mut out = Gathered::new(ToWrite::new(io::writer(rt)));
-    match run_moves(rt.alloc(), fen, &mut out) {
-        Ok(()) => match out.finish() {
-            Ok(_) => Ok(DONE),
+// Writes the legal moves of a position.
+//
+// # Errors
+// `Moves` with the fault of the run, or with `Write` where the rest is refused.
+pub(crate) fn moves_from<W: Sink>(
+    alloc: Global,
+    fen: &str,
+    out: &mut Gathered<W>,
+) -> Result<u8, Refusal>
+    ensures zero { IfOk result (λ status. status ≡ 0) }
+    ensures err { IfErr result (λ refusal. IsMovesRefusal fen.now
+        (⟦<Gathered<W> as Sink>⟧.has_failed out.new) refusal) }
+{
+    match run_moves(alloc, fen, out) {
+        Ok(()) => match out.flush() {
+            Ok(()) => Ok(DONE),
             Err(Refused) => Err(Refusal::Moves(MovesFault::Write)),
         },
         Err(fault) => Err(Refusal::Moves(fault)),
     }
 }
 
-// `pg count FEN PLIES`: the number of games, on standard output.
-pub(crate) fn count<'a, R: Runtime + AllocGlobal>(
+// `pg moves FEN`: the legal moves, on standard output.
+pub(crate) fn moves<R: Runtime + AllocGlobal>(
     rt: &R,
-    words: &ArgMatches<'a>,
-    screen: bool,
-) -> Result<u8, Refusal<'a>> {
-    let fen = text_of(words, "FEN");
-    let plies = words.get_one::<u8>("PLIES").unwrap_or(u8::MAX);
+    words: &ArgMatches<'_>,
+) -> Result<u8, Refusal> {
     let mut out = Gathered::new(ToWrite::new(io::writer(rt)));
-    let terminal = Terminal::new(screen);
-    let mut line = CountLine::new(rt, &terminal);
-    let answer = run_count_watched(rt.alloc(), fen, plies, &mut out, &mut line);
-    line.end();
-    match answer {
-        Ok(()) => match out.finish() {
-            Ok(_) => Ok(DONE),
+    moves_from(rt.alloc(), text_of(words, "FEN"), &mut out)
+}
+
+// Writes the number of games of so many plies from a position.
+//
+// # Errors
+// `Count` with the fault of the run, or with `Write` where the rest is refused.
+pub(crate) fn count_from<P: CountProgress, W: Sink>(
+    alloc: Global,
+    fen: &str,
+    plies: u8,
+    watch: &mut P,
+    out: &mut Gathered<W>,
+) -> Result<u8, Refusal>
+    ensures zero { IfOk result (λ status. status ≡ 0) }
+    ensures err { IfErr result (λ refusal. IsCountRefusal fen.now plies
+        (⟦<Gathered<W> as Sink>⟧.has_failed out.new) refusal) }
+{
+    match run_count_watched(alloc, fen, plies, out, watch) {
+        Ok(()) => match out.flush() {
+            Ok(()) => Ok(DONE),
             Err(Refused) => Err(Refusal::Count(CountRunFault::Write)),
         },
         Err(fault) => Err(Refusal::Count(fault)),
     }
 }
 
-// `pg show DIAGRAM [LENGTH]`: the board and what is known at once, on standard output.
-pub(crate) fn show<'a, R: Runtime + AllocGlobal>(
+// `pg count FEN PLIES`: the number of games, on standard output.
+pub(crate) fn count<R: Runtime + AllocGlobal>(
     rt: &R,
-    words: &ArgMatches<'a>,
+    words: &ArgMatches<'_>,
+    screen: bool,
+) -> Result<u8, Refusal> {
+    let fen = text_of(words, "FEN");
+    let plies = words.get_one::<u8>("PLIES").unwrap_or(u8::MAX);
+    let terminal = Terminal::new(screen);
+    let mut line = CountLine::new(rt, &terminal);
+    let mut out = Gathered::new(Cleared::new(ToWrite::new(io::writer(rt)), rt, &terminal));
+    let answer = count_from(rt.alloc(), fen, plies, &mut line, &mut out);
+    line.end();
+    answer
+}
+
+// The status once a diagram is wholly shown.
+//
+// # Errors
+// `Show` with `Write` where the rest is refused.
+fn shown<W: Sink>(out: &mut Gathered<W>) -> Result<u8, Refusal>
+    ensures zero { IfOk result (λ status. status ≡ 0) }
+    ensures err { IfErr result (λ refusal. (refusal ≡ Refusal.Show ShowFault.Write)
+        × (⟦<Gathered<W> as Sink>⟧.has_failed out.new ≡ true)) }
+{
+    match out.flush() {
+        Ok(()) => Ok(DONE),
+        Err(Refused) => Err(Refusal::Show(ShowFault::Write)),
+    }
+}
+
+// Writes the board of a diagram and what is known at once.
+//
+// # Errors
+// `Show` with the fault of the run, or with `Write` where the rest is refused.
+pub(crate) fn show_from<W: Sink>(
+    alloc: Global,
+    diagram: &str,
     bounds: &[Box<dyn Bound>],
-) -> Result<u8, Refusal<'a>> {
+    out: &mut Gathered<W>,
+) -> Result<u8, Refusal>
+    ensures zero { IfOk result (λ status. status ≡ 0) }
+    ensures err { IfErr result (λ refusal. IsShowRefusal diagram.now
+        (⟦<Gathered<W> as Sink>⟧.has_failed out.new) refusal) }
+{
+    match run_show(alloc, diagram, bounds, out) {
+        Ok(()) => shown(out),
+        Err(fault) => Err(Refusal::Show(fault)),
+    }
+}
+
+// The same with what a game of a length leaves over.
+//
+// # Errors
+// `Show` with the fault of the run, or with `Write` where the rest is refused.
+pub(crate) fn show_within_from<W: Sink>(
+    alloc: Global,
+    diagram: &str,
+    length: &str,
+    bounds: &[Box<dyn Bound>],
+    out: &mut Gathered<W>,
+) -> Result<u8, Refusal>
+    ensures zero { IfOk result (λ status. status ≡ 0) }
+    ensures err { IfErr result (λ refusal. IsShowWithinRefusal diagram.now length.now
+        (⟦<Gathered<W> as Sink>⟧.has_failed out.new) refusal) }
+{
+    match run_show_within(alloc, diagram, length, bounds, out) {
+        Ok(()) => shown(out),
+        Err(fault) => Err(Refusal::Show(fault)),
+    }
+}
+
+// `pg show DIAGRAM [LENGTH]`: the board and what is known at once, on standard output.
+pub(crate) fn show<R: Runtime + AllocGlobal>(
+    rt: &R,
+    words: &ArgMatches<'_>,
+    bounds: &[Box<dyn Bound>],
+) -> Result<u8, Refusal> {
     let diagram = text_of(words, "DIAGRAM");
     let mut out = Gathered::new(ToWrite::new(io::writer(rt)));
-    let answer = match words.get_str("LENGTH") {
-        None => run_show(rt.alloc(), diagram, bounds, &mut out),
-        Some(length) => run_show_within(rt.alloc(), diagram, length, bounds, &mut out),
-    };
-    match answer {
-        Ok(()) => match out.finish() {
-            Ok(_) => Ok(DONE),
-            Err(Refused) => Err(Refusal::Show(ShowFault::Write)),
-        },
-        Err(fault) => Err(Refusal::Show(fault)),
+    match words.get_str("LENGTH") {
+        None => show_from(rt.alloc(), diagram, bounds, &mut out),
+        Some(length) => show_within_from(rt.alloc(), diagram, length, bounds, &mut out),
     }
 }

@@ -34,16 +34,47 @@ pub(crate) struct Known {
     pub(crate) plies: u8,
 }
 
-// Why a command ends without its answer.
+// Which word of a command names a file.
+#[derive(Clone, Copy, Debug, PartialEq, Eq)]
+pub(crate) enum Named {
+    /// The certificate that is read, or that a search writes.
+    Certificate,
+    /// The list of games that is read.
+    Games,
+    /// The list of games that a search writes.
+    Kept,
+    /// The certificate that is copied.
+    Old,
+    /// The copy.
+    New,
+}
+
+impl Named {
+    // The name of the word.
+    pub(crate) fn word(self) -> &'static str {
+        match self {
+            Named::Certificate => "CERT",
+            Named::Games => "GAMES",
+            Named::Kept => "games",
+            Named::Old => "OLD",
+            Named::New => "NEW",
+        }
+    }
+}
+
+// No name of a file.
+pub(crate) const NO_FILE: FileName<'static> = FileName("");
+
+// Why a command ends without its answer. It has no name of a file in it: the words of the command have that.
 #[derive(Debug, PartialEq, Eq, Drop, Error)]
-pub(crate) enum Refusal<'a> {
+pub(crate) enum Refusal {
     /// A word of the command line is not UTF-8.
     #[error("a word of the command line is not UTF-8")]
     Words,
-    /// A file cannot be opened, created or put in its place, or must not be written. It has this name, as
-    /// given; and what stands in the way.
-    #[error("cannot open {0}")]
-    Open(FileName<'a>, Obstacle),
+    /// A file cannot be opened, created or put in its place, or must not be written: which word names it, and what
+    /// stands in the way. Its name stands behind the text.
+    #[error("cannot open ")]
+    Open(Named, Obstacle),
     /// The moves that are asked for are not one game.
     #[error("not one line of moves")]
     Line,
@@ -85,21 +116,19 @@ pub(crate) enum Refusal<'a> {
     Check(RunFault),
 }
 
-impl<'a> Refusal<'a> {
-    // Why the file of this name is not read or written.
-    pub(crate) fn of_file(fault: FileFault, name: &'a str) -> Refusal<'a>
+impl Refusal {
+    // Why the file that a word names is not read or written.
+    pub(crate) fn of_file(fault: FileFault, named: Named) -> Refusal
         ensures { refusal_status result ≡ file_status fault }
     {
         match fault {
-            FileFault::Open(obstacle) => Refusal::Open(FileName(name), obstacle),
+            FileFault::Open(obstacle) => Refusal::Open(named, obstacle),
             FileFault::Read => Refusal::Read,
             FileFault::Write => Refusal::Write,
             FileFault::Memory => Refusal::Memory,
         }
     }
-}
 
-impl Refusal<'_> {
     // The status of the program then: 1 where a list or a certificate is refused or a search gave up,
     // 2 for bad words and texts, 3 for want of memory, 4 for a file that is not opened, created, read or written.
     pub(crate) fn status(&self) -> u8
@@ -119,12 +148,16 @@ impl Refusal<'_> {
     }
 }
 
-// Writes what is said; with a game that is not listed, its movetext.
+// Writes what is said of a file of this name, or of none; with a game that is not listed, its movetext.
 //
 // # Errors
 // `Refused` where the sink refuses it.
-pub(crate) fn say<W: Sink>(refusal: &Refusal<'_>, out: &mut Gathered<W>) -> Result<(), Refused> {
-    if write!(out, "{refusal}").is_err() {
+pub(crate) fn say<W: Sink>(
+    refusal: &Refusal,
+    file: FileName<'_>,
+    out: &mut Gathered<W>,
+) -> Result<(), Refused> {
+    if write!(out, "{refusal}{file}").is_err() {
         return Err(Refused);
     }
     let Refusal::Check(RunFault::Check(Fault::Unlisted(game))) = refusal else {
@@ -168,11 +201,11 @@ impl<R: Eprint> Sink for Errors<'_, R> {
     }
 }
 
-// Says on standard error why there is no answer. It takes no memory.
-fn print_refusal<R: Eprint>(rt: &R, refusal: &Refusal<'_>) -> Result<(), Refused> {
+// Says on standard error why there is no answer, of a file of this name or of none. It takes no memory.
+fn print_refusal<R: Eprint>(rt: &R, refusal: &Refusal, file: FileName<'_>) -> Result<(), Refused> {
     let mut out = Gathered::new(Errors { rt, failed: false });
     out.push(b"pg: ")?;
-    say(refusal, &mut out)?;
+    say(refusal, file, &mut out)?;
     out.push(b"\n")?;
     match out.finish() {
         Ok(_) => Ok(()),
@@ -180,10 +213,10 @@ fn print_refusal<R: Eprint>(rt: &R, refusal: &Refusal<'_>) -> Result<(), Refused
     }
 }
 
-// Says on standard error why there is no answer, and gives the status.
-pub(crate) fn refuse<R: Eprint>(rt: &R, refusal: &Refusal<'_>) -> u8
+// Says on standard error why there is no answer, of a file of this name or of none, and gives the status.
+pub(crate) fn refuse<R: Eprint>(rt: &R, refusal: &Refusal, file: FileName<'_>) -> u8
     ensures { result ≡ refusal_status refusal.now }
 {
-    let _ = print_refusal(rt, refusal);
+    let _ = print_refusal(rt, refusal, file);
     refusal.status()
 }

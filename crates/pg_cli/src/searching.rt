@@ -1,23 +1,26 @@
 //! `pg search`: a certificate is searched for and written, and then checked.
 
-ghost use Rattle.std.specs.Prelude.{◌≤◌, List, IfOk};
+ghost use Rattle.std.specs.Prelude.{◌≤◌, List, IfOk, IfErr};
+ghost use Rattle.pg_checker.specs.Cuts.{rules_by};
 ghost use Rattle.pg_position.specs.declared.moves.Move.{Move};
 ghost use Rattle.clap.specs.Words.{found_of, rows_of};
 ghost use Rattle.pg_cli.specs.Answers.{IsAnswered};
+ghost use Rattle.pg_cli.specs.Reasons.{IsFoundRefusal};
 ghost use Rattle.pg_cli.specs.Words.{IsSearched};
 
 use crate::checking::{RECORDS, finished};
-use crate::refusals::{Known, Refusal};
+use crate::refusals::{Known, Named, Refusal};
 use crate::spelling::text_of;
 use clap::ArgMatches;
 use pg_certificate::format::MOST_NAMED;
 use pg_cooks::{standing_on, write_solutions};
-use pg_files::{Draft, FileName, Obstacle, begin, stand_at_one};
+use pg_files::{Draft, Obstacle, begin, stand_at_one};
 use pg_report::{
-    Bound, Fault, Games, Problem, Refused, RunFault, SearchFault, ToWrite, run_listed,
-    search_watched,
+    Bound, Fault, Games, Problem, Refused, RunFault, SearchFault, Sink, Source, ToWrite,
+    run_listed, search_watched, verdict_status,
 };
 use pg_streams::{Cleared, Gathered, Kept, SearchLine, Terminal, watch_records};
+use std::alloc::Global;
 use std::io;
 use std::io::{Read, Seek, SeekFrom, Write};
 use std::rt::Runtime;
@@ -38,16 +41,15 @@ pub(crate) struct Searched {
 // # Errors
 // `Memory` where a growth was refused for a game that was met; `Check` with `Listed` where such a game is no solution, which
 // should not be.
-pub(crate) fn search_to<'a, R: Runtime + AllocGlobal, W: Write + Drop>(
+pub(crate) fn search_to<R: Runtime + AllocGlobal, W: Write + Drop>(
     rt: &R,
     problem: &Problem,
     certificate: W,
     nodes: u64,
-    screen: bool,
-) -> Result<Searched, Refusal<'a>> {
+    terminal: &Terminal,
+) -> Result<Searched, Refusal> {
     let mut sink = ToWrite::new(certificate);
-    let terminal = Terminal::new(screen);
-    let line = SearchLine::new(rt, &terminal, nodes);
+    let line = SearchLine::new(rt, terminal, nodes);
     let mut kept = Kept::new(rt.alloc(), line, nodes);
     let found = search_watched(
         rt.alloc(),
@@ -86,7 +88,7 @@ pub(crate) fn search_to<'a, R: Runtime + AllocGlobal, W: Write + Drop>(
 }
 
 // Why a search has no certificate, with what is known then.
-fn gave_up<'a>(fault: SearchFault, known: Known) -> Refusal<'a> {
+fn gave_up(fault: SearchFault, known: Known) -> Refusal {
     match fault {
         SearchFault::Budget | SearchFault::Shorter(_) | SearchFault::TooManyGames => {
             Refusal::GaveUp(fault, known)
@@ -96,11 +98,11 @@ fn gave_up<'a>(fault: SearchFault, known: Known) -> Refusal<'a> {
 }
 
 // Writes a list of solutions to a file, where there is one.
-fn write_list<'a, F: Write>(
+fn write_list<F: Write>(
     problem: &Problem,
     games: &Games,
     list: &mut Option<Draft<F>>,
-) -> Result<(), Refusal<'a>> {
+) -> Result<(), Refusal> {
     let Some(list) = list else {
         return Ok(());
     };
@@ -123,108 +125,127 @@ fn records_for(nodes: u64) -> u64
     nodes.max(RECORDS)
 }
 
-// Checks the certificate that a reader gives with the games that were found, and writes the report;
+// Checks the certificate that a source gives with the games that were found, and writes the report;
 // the status of its verdict. A status means that these games are the exact answer, and 0 that it is one.
 //
 // # Errors
 // `Check` with the fault of the check.
-pub(crate) fn check_found<'a, R: Runtime + AllocGlobal, C: Read + Drop, W: Write + Drop>(
-    rt: &R,
+pub(crate) fn check_found<S: Source, W: Sink>(
+    alloc: Global,
     problem: &Problem,
     games: &Games,
     bounds: &[Box<dyn Bound>],
-    certificate: C,
-    out: W,
+    source: &mut S,
+    out: &mut Gathered<W>,
     records: u64,
-    screen: bool,
-) -> Result<u8, Refusal<'a>>
+) -> Result<u8, Refusal>
     ensures headline { IfOk result (λ status. IsAnswered problem.now.diagram problem.now.length games.now status) }
+    ensures err { IfErr result (λ refusal. IsFoundRefusal
+        (record {
+          rules = rules_by code_of excluded bounds.now;
+          max_records = records;
+          max_named = MOST_NAMED;
+          known = S.left source.old;
+        })
+        problem.now.diagram problem.now.length games.now (S.has_failed source.new)
+        (⟦<Gathered<W> as Sink>⟧.has_failed out.new) refusal) }
 {
-    let terminal = Terminal::new(screen);
-    let mut source = watch_records(rt, &terminal, certificate, records);
-    let mut out = Gathered::new(Cleared::new(ToWrite::new(out), rt, &terminal));
-    let answer = run_listed(
-        rt.alloc(),
+    match run_listed(
+        alloc,
         &problem.diagram,
         problem.length,
         games,
         bounds,
-        &mut source,
-        &mut out,
+        source,
+        out,
         records,
         MOST_NAMED,
-    );
-    source.end();
-    finished(answer, out)
-}
-
-// Searches, writes the certificate to a new file and the games that were met to another, if one is wanted; reads the
-// certificate again from there and checks it, and writes the report; the status of its verdict.
-pub(crate) fn search_in<'a, R, F, W>(
-    rt: &R,
-    problem: &Problem,
-    bounds: &[Box<dyn Bound>],
-    file: &mut F,
-    list: &mut Option<Draft<F>>,
-    out: W,
-    nodes: u64,
-    screen: bool,
-) -> Result<u8, Refusal<'a>>
-where
-    R: Runtime + AllocGlobal,
-    F: Read + Write + Seek,
-    W: Write + Drop,
-    ensures headline { IfOk result (λ status. (games : List (List Move))
-        × IsAnswered problem.now.diagram problem.now.length games status) }
-{
-    let Searched { found, met, known } = search_to(rt, problem, &mut *file, nodes, screen)?;
-    write_list(problem, &met, &mut *list)?;
-    let games = match found {
-        Ok(games) => games,
-        Err(fault) => return Err(gave_up(fault, known)),
-    };
-    if file.seek(SeekFrom::Start(0)).is_err() {
-        return Err(Refusal::Read);
+    ) {
+        Ok(verdict) => finished(verdict_status(verdict), out),
+        Err(fault) => Err(Refusal::Check(fault)),
     }
-    let records = records_for(nodes);
-    check_found(
-        rt, problem, &games, bounds, &mut *file, out, records, screen,
-    )
 }
 
 // The files that a search writes, beside their places: the certificate, and the list, if one is wanted.
 #[derive(Drop)]
-struct Drafts<F> {
+pub(crate) struct Drafts<F> {
     certificate: Draft<F>,
     list: Option<Draft<F>>,
 }
 
-// Begins the file of the list that the words want, if they want one, whose place is not that of the certificate.
-fn begin_list<'a, R: Runtime + AllocGlobal>(
+// Searches, writes the certificate to its new file and the games that were met to the list's, if one is wanted; reads the
+// certificate again from there and checks it, and writes the report; the status of its verdict.
+pub(crate) fn search_in<R, F, W>(
     rt: &R,
-    words: &ArgMatches<'a>,
-) -> Result<Option<Draft<R::File>>, Refusal<'a>> {
+    problem: &Problem,
+    bounds: &[Box<dyn Bound>],
+    drafts: &mut Drafts<F>,
+    terminal: &Terminal,
+    out: &mut Gathered<W>,
+    nodes: u64,
+) -> Result<u8, Refusal>
+where
+    R: Runtime + AllocGlobal,
+    F: Read + Write + Seek,
+    W: Sink,
+    ensures headline { IfOk result (λ status. (games : List (List Move))
+        × IsAnswered problem.now.diagram problem.now.length games status) }
+{
+    let Searched { found, met, known } = search_to(
+        rt,
+        problem,
+        &mut drafts.certificate.file,
+        nodes,
+        terminal,
+    )?;
+    write_list(problem, &met, &mut drafts.list)?;
+    let games = match found {
+        Ok(games) => games,
+        Err(fault) => return Err(gave_up(fault, known)),
+    };
+    if drafts.certificate.file.seek(SeekFrom::Start(0)).is_err() {
+        return Err(Refusal::Read);
+    }
+    let records = records_for(nodes);
+    let mut source = watch_records(rt, terminal, &mut drafts.certificate.file, records);
+    let answer = check_found(
+        rt.alloc(),
+        problem,
+        &games,
+        bounds,
+        &mut source,
+        out,
+        records,
+    );
+    source.end();
+    answer
+}
+
+// Begins the file of the list that the words want, if they want one, whose place is not that of the certificate.
+fn begin_list<R: Runtime + AllocGlobal>(
+    rt: &R,
+    words: &ArgMatches<'_>,
+) -> Result<Option<Draft<R::File>>, Refusal> {
     let Some(path) = words.get_str("games") else {
         return Ok(None);
     };
     if stand_at_one(rt, text_of(words, "CERT"), path) {
-        return Err(Refusal::Open(FileName(path), Obstacle::NamedTwice));
+        return Err(Refusal::Open(Named::Kept, Obstacle::NamedTwice));
     }
     match begin(rt, path) {
         Ok(draft) => Ok(Some(draft)),
-        Err(fault) => Err(Refusal::of_file(fault, path)),
+        Err(fault) => Err(Refusal::of_file(fault, Named::Kept)),
     }
 }
 
 // Begins the files of a search.
-fn begin_both<'a, R: Runtime + AllocGlobal>(
+fn begin_both<R: Runtime + AllocGlobal>(
     rt: &R,
-    words: &ArgMatches<'a>,
-) -> Result<Drafts<R::File>, Refusal<'a>> {
-    let path = text_of(words, "CERT");
-    let certificate = match begin(rt, path) {
+    words: &ArgMatches<'_>,
+) -> Result<Drafts<R::File>, Refusal> {
+    let certificate = match begin(rt, text_of(words, "CERT")) {
         Ok(draft) => draft,
-        Err(fault) => return Err(Refusal::of_file(fault, path)),
+        Err(fault) => return Err(Refusal::of_file(fault, Named::Certificate)),
     };
     match begin_list(rt, words) {
         Ok(list) => Ok(Drafts { certificate, list }),
@@ -236,49 +257,40 @@ fn begin_both<'a, R: Runtime + AllocGlobal>(
 }
 
 // Puts the list in its place, where one is wanted.
-fn put_list<'a, R: Runtime + AllocGlobal>(
-    rt: &R,
-    words: &ArgMatches<'a>,
-    list: Option<Draft<R::File>>,
-) -> Result<(), Refusal<'a>> {
+fn put_list<R: Runtime + AllocGlobal>(rt: &R, list: Option<Draft<R::File>>) -> Result<(), Refusal> {
     let Some(list) = list else {
         return Ok(());
     };
     match list.put(rt) {
         Ok(()) => Ok(()),
-        Err(fault) => Err(Refusal::of_file(fault, text_of(words, "games"))),
+        Err(fault) => Err(Refusal::of_file(fault, Named::Kept)),
     }
 }
 
 // Puts both files in their places, after a report.
-fn put_both<'a, R: Runtime + AllocGlobal>(
-    rt: &R,
-    words: &ArgMatches<'a>,
-    drafts: Drafts<R::File>,
-) -> Result<(), Refusal<'a>> {
+fn put_both<R: Runtime + AllocGlobal>(rt: &R, drafts: Drafts<R::File>) -> Result<(), Refusal> {
     let Drafts { certificate, list } = drafts;
     match certificate.put(rt) {
-        Ok(()) => put_list(rt, words, list),
+        Ok(()) => put_list(rt, list),
         Err(fault) => {
             if let Some(list) = list {
                 list.discard(rt);
             }
-            Err(Refusal::of_file(fault, text_of(words, "CERT")))
+            Err(Refusal::of_file(fault, Named::Certificate))
         }
     }
 }
 
 // Ends a search that has no report: the certificate is taken away, and the list put in its place where the search gave up.
-fn end_both<'a, R: Runtime + AllocGlobal>(
+fn end_both<R: Runtime + AllocGlobal>(
     rt: &R,
-    words: &ArgMatches<'a>,
     drafts: Drafts<R::File>,
-    refusal: Refusal<'a>,
-) -> Refusal<'a> {
+    refusal: Refusal,
+) -> Refusal {
     let Drafts { certificate, list } = drafts;
     certificate.discard(rt);
     if matches!(&refusal, Refusal::GaveUp(_, _)) {
-        return match put_list(rt, words, list) {
+        return match put_list(rt, list) {
             Ok(()) => refusal,
             Err(other) => other,
         };
@@ -292,13 +304,13 @@ fn end_both<'a, R: Runtime + AllocGlobal>(
 // Searches for the games of a problem: the certificate is written beside its place, checked from there and put in
 // its place once the report stands on standard output. Else it is taken away, and what stood there is as it was. So is the
 // list that the words may want, but a search that gives up puts it there too.
-fn search_for<'a, R: Runtime + AllocGlobal>(
+fn search_for<R: Runtime + AllocGlobal>(
     rt: &R,
-    words: &ArgMatches<'a>,
+    words: &ArgMatches<'_>,
     problem: &Problem,
     bounds: &[Box<dyn Bound>],
     screen: bool,
-) -> Result<u8, Refusal<'a>>
+) -> Result<u8, Refusal>
     ensures headline { IfOk result (λ status. (games : List (List Move))
         × IsAnswered problem.now.diagram problem.now.length games status) }
 {
@@ -307,33 +319,25 @@ fn search_for<'a, R: Runtime + AllocGlobal>(
         Ok(drafts) => drafts,
         Err(refusal) => return Err(refusal),
     };
-    let out = io::writer(rt);
-    match search_in(
-        rt,
-        problem,
-        bounds,
-        &mut drafts.certificate.file,
-        &mut drafts.list,
-        out,
-        nodes,
-        screen,
-    ) {
-        Ok(status) => match put_both(rt, words, drafts) {
+    let terminal = Terminal::new(screen);
+    let mut out = Gathered::new(Cleared::new(ToWrite::new(io::writer(rt)), rt, &terminal));
+    match search_in(rt, problem, bounds, &mut drafts, &terminal, &mut out, nodes) {
+        Ok(status) => match put_both(rt, drafts) {
             Ok(()) => Ok(status),
             Err(refusal) => Err(refusal),
         },
-        Err(refusal) => Err(end_both(rt, words, drafts, refusal)),
+        Err(refusal) => Err(end_both(rt, drafts, refusal)),
     }
 }
 
 // `pg search`: games are searched for, and a certificate is written and checked. A status means that a list is the
 // exact answer to the diagram and the length which the words spell, and 0 that it has one game.
-pub(crate) fn search<'a, R: Runtime + AllocGlobal>(
+pub(crate) fn search<R: Runtime + AllocGlobal>(
     rt: &R,
-    words: &ArgMatches<'a>,
+    words: &ArgMatches<'_>,
     bounds: &[Box<dyn Bound>],
     screen: bool,
-) -> Result<u8, Refusal<'a>>
+) -> Result<u8, Refusal>
     ensures headline { IfOk result (λ status. IsSearched (rows_of (found_of words.now)) status) }
 {
     let diagram = text_of(words, "DIAGRAM");

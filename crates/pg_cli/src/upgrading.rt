@@ -1,85 +1,97 @@
 //! `pg upgrade`: a certificate of version 1 is copied as one of version 2.
-ghost use Rattle.std.specs.Prelude.{◌≡◌, ◌≤◌, IfOk};
+ghost use Rattle.std.specs.Prelude.{◌≡◌, ◌≤◌, IfOk, IfErr, OnErr, true};
+ghost use Rattle.pg_cli.specs.Reasons.{IsUpgradeRefusal};
 
 use crate::checking::RECORDS;
-use crate::refusals::{DONE, Refusal};
+use crate::refusals::{DONE, Named, Refusal};
 use crate::spelling::text_of;
 use clap::ArgMatches;
-use pg_files::{FileName, Obstacle, begin, lead_to_one, open};
-use pg_report::{Refused, ToWrite, UpgradeFault, upgrade as upgrade_from};
-use pg_streams::{Gathered, Terminal, watch_records};
-use std::fmt::Write as WriteText;
+use pg_fen::text::digits;
+use pg_files::{Obstacle, begin, lead_to_one, open};
+use pg_report::{Refused, Sink, Source, ToWrite, UpgradeFault, upgrade as upgrade_from};
+use pg_streams::{Cleared, Gathered, Terminal, watch_records};
 use std::io;
-use std::io::{Read, Write};
+use std::io::Write;
 use std::rt::Runtime;
 
-// Copies the certificate that a reader gives to a writer, and prints how many records it has: no more
-// than `records`, which is the answer. The writer has the whole copy then.
+// Writes how many records there are.
+fn write_count<W: Sink>(count: u64, out: &mut Gathered<W>) -> Result<(), Refused>
+    ensures fault { OnErr result (⟦<Gathered<W> as Sink>⟧.has_failed out.new ≡ true) }
+{
+    out.push(b"records ")?;
+    out.push(digits(count as usize).as_bytes())?;
+    out.push(b"\n")?;
+    out.flush()
+}
+
+// Copies the certificate that a source gives to a sink, and prints how many records it has: no more
+// than `records`, which is the answer. The sink has the whole copy then.
 //
 // # Errors
 // `Upgrade` with the fault of the copying, or with `Write` where the number is not printed.
-pub(crate) fn upgrade_to<'a, R, C, W, O>(
-    rt: &R,
-    old: C,
-    new: W,
-    out: O,
+pub(crate) fn upgrade_to<S: Source, W: Sink, O: Sink>(
+    source: &mut S,
+    new: &mut W,
+    out: &mut Gathered<O>,
     records: u64,
-    screen: bool,
-) -> Result<u64, Refusal<'a>>
-where
-    R: Runtime + AllocGlobal,
-    C: Read + Drop,
-    W: Write + Drop,
-    O: Write + Drop,
+) -> Result<u64, Refusal>
     ensures few { IfOk result (λ n. n ≤ records) }
+    ensures err { IfErr result (λ refusal. IsUpgradeRefusal records (S.left source.old) (S.has_failed source.new)
+        (W.has_failed new.new) (⟦<Gathered<O> as Sink>⟧.has_failed out.new) refusal) }
 {
-    let terminal = Terminal::new(screen);
-    let mut source = watch_records(rt, &terminal, old, records);
-    let mut sink = ToWrite::new(new);
-    let answer = upgrade_from(&mut source, &mut sink, records);
-    source.end();
-    let count = match answer {
+    let count = match upgrade_from(source, new, records) {
         Ok(count) => count,
         Err(fault) => return Err(Refusal::Upgrade(fault)),
     };
-    let mut out = Gathered::new(ToWrite::new(out));
-    if writeln!(out, "records {count}").is_err() {
-        return Err(Refusal::Upgrade(UpgradeFault::Write));
-    }
-    match out.finish() {
-        Ok(_) => Ok(count),
+    match write_count(count, out) {
+        Ok(()) => Ok(count),
         Err(Refused) => Err(Refusal::Upgrade(UpgradeFault::Write)),
     }
 }
 
+// The same with a file as the sink.
+fn upgrade_file<S: Source, F: Write + Drop, O: Sink>(
+    source: &mut S,
+    file: F,
+    out: &mut Gathered<O>,
+    records: u64,
+) -> Result<u64, Refusal> {
+    let mut new = ToWrite::new(file);
+    upgrade_to(source, &mut new, out, records)
+}
+
 // `pg upgrade`: the copy is written beside its place, and put there once the number of its records
 // stands on standard output. Else it is taken away, and what stood there is as it was.
-pub(crate) fn upgrade<'a, R: Runtime + AllocGlobal>(
+pub(crate) fn upgrade<R: Runtime + AllocGlobal>(
     rt: &R,
-    words: &ArgMatches<'a>,
+    words: &ArgMatches<'_>,
     screen: bool,
-) -> Result<u8, Refusal<'a>>
+) -> Result<u8, Refusal>
     ensures zero { IfOk result (λ status. status ≡ 0) }
 {
     let old = text_of(words, "OLD");
     let new = text_of(words, "NEW");
     let source = match open(rt, old) {
         Ok(source) => source,
-        Err(fault) => return Err(Refusal::of_file(fault, old)),
+        Err(fault) => return Err(Refusal::of_file(fault, Named::Old)),
     };
     if lead_to_one(rt, old, new) {
-        return Err(Refusal::Open(FileName(new), Obstacle::NamedTwice));
+        return Err(Refusal::Open(Named::New, Obstacle::NamedTwice));
     }
     let records = words.get_one::<u64>("records").unwrap_or(RECORDS);
     let mut draft = match begin(rt, new) {
         Ok(draft) => draft,
-        Err(fault) => return Err(Refusal::of_file(fault, new)),
+        Err(fault) => return Err(Refusal::of_file(fault, Named::New)),
     };
-    let out = io::writer(rt);
-    match upgrade_to(rt, source, &mut draft.file, out, records, screen) {
+    let terminal = Terminal::new(screen);
+    let mut source = watch_records(rt, &terminal, source, records);
+    let mut out = Gathered::new(Cleared::new(ToWrite::new(io::writer(rt)), rt, &terminal));
+    let answer = upgrade_file(&mut source, &mut draft.file, &mut out, records);
+    source.end();
+    match answer {
         Ok(_) => match draft.put(rt) {
             Ok(()) => Ok(DONE),
-            Err(fault) => Err(Refusal::of_file(fault, new)),
+            Err(fault) => Err(Refusal::of_file(fault, Named::New)),
         },
         Err(refusal) => {
             draft.discard(rt);

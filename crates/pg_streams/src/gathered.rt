@@ -1,6 +1,7 @@
 //! A sink that gathers bytes before it hands them on.
 ghost use Rattle.std.specs.Prelude.{◌≡◌, [], true, false, IfOk, OnOk, OnErr};
 ghost use Rattle.std.specs.Io.KnownBytes.{Keeps, append_known};
+ghost use Rattle.pg_streams.specs.Buffer.{sink_of};
 
 use arrayvec::ArrayVec;
 use pg_certificate::{Refused, Sink};
@@ -45,6 +46,19 @@ impl<W: Sink> Gathered<W> {
             }
             Err(Refused) => Err(Refused),
         }
+    }
+
+    /// Hands on the bytes that are held; the sink then holds all that was pushed.
+    ///
+    /// # Errors
+    /// `Refused` where the sink refuses them, which has failed then.
+    pub fn flush(&mut self) -> Result<(), Refused>
+        ensures handed { OnOk result (Keeps (⟦<Gathered<W> as Sink>⟧.held self.old) (W.held (sink_of self.new))) }
+        ensures runs { OnOk result ((⟦<Gathered<W> as Sink>⟧.has_failed self.old ≡ false)
+            × (⟦<Gathered<W> as Sink>⟧.has_failed self.new ≡ false)) }
+        ensures fault { OnErr result (⟦<Gathered<W> as Sink>⟧.has_failed self.new ≡ true) }
+    {
+        self.hand_on()
     }
 
     /// Hands on the last bytes; the sink then holds all that was pushed.

@@ -94,28 +94,145 @@ Example, with the certificate that the initial array is reached in no move:
   echo UEdDMQAkUzZCEREREQAAAAAAAAAAAAAAAAAAAACZmZmZrNu+yg== | base64 -d >v1.pgc
   pg upgrade v1.pgc v2.pgc";
 
-// What may stand behind a command.
+// How a word is read.
 #[derive(Clone, Copy)]
-enum Word {
-    Fen,
-    Plies,
-    Diagram,
-    Length,
-    Within,
-    Certificate,
-    Games,
-    Known,
-    Moves,
-    Draft,
-    Old,
-    New,
-    Records,
-    Nodes,
-    LedNodes,
-    Foreign,
-    Kept,
-    Told,
+enum Kind {
+    /// A text that must be given.
+    Text,
+    /// A text that may be missing.
+    TextOrNone,
+    /// A text that must be given, and may begin with a hyphen.
+    Line,
+    /// A number that must be given, 255 at most.
+    Number,
+    /// A number behind the name of the word, from the least one up: what it is called, the one that is usual, and the least.
+    Limit(&'static str, &'static str, u64),
+    /// A number behind the name of the word, 255 at most, which may be missing: what it is called.
+    NumberOrNone(&'static str),
+    /// A text behind the name of the word, which may be missing: what it is called.
+    Named(&'static str),
 }
+
+// What may stand behind a command: its name, how it is read, and its help.
+struct Word {
+    name: &'static str,
+    kind: Kind,
+    help: &'static str,
+}
+
+const FEN: Word = Word {
+    name: "FEN",
+    kind: Kind::Text,
+    help: "The position: the six fields of a FEN, as one word",
+};
+
+const PLIES: Word = Word {
+    name: "PLIES",
+    kind: Kind::Number,
+    help: "How many plies, 8 at most",
+};
+
+const DIAGRAM: Word = Word {
+    name: "DIAGRAM",
+    kind: Kind::Text,
+    help: "Where the games end: the placement of a FEN, or all its fields",
+};
+
+const LENGTH: Word = Word {
+    name: "LENGTH",
+    kind: Kind::Text,
+    help: "In moves, 64.0 at most: 18.5 is 37 plies, 18 and 18.0 are 36",
+};
+
+// The length of `pg show`, which may be missing.
+const LENGTH_SHOWN: Word = Word {
+    name: "LENGTH",
+    kind: Kind::TextOrNone,
+    help: "In moves, 64.0 at most: says what a game of it leaves over",
+};
+
+const CERTIFICATE: Word = Word {
+    name: "CERT",
+    kind: Kind::Text,
+    help: "The certificate, as `pg search` writes it",
+};
+
+// The certificate of `pg search`, which is written.
+const CERTIFICATE_WRITTEN: Word = Word {
+    name: "CERT",
+    kind: Kind::Text,
+    help: "The plain file that the certificate is written to",
+};
+
+const GAMES: Word = Word {
+    name: "GAMES",
+    kind: Kind::TextOrNone,
+    help: "A file with one game a line; standard input where it is missing",
+};
+
+// The games of `pg cooks`, which must be given.
+const GAMES_KNOWN: Word = Word {
+    name: "GAMES",
+    kind: Kind::Text,
+    help: "A file with one game a line, at least one",
+};
+
+const MOVES: Word = Word {
+    name: "MOVES",
+    kind: Kind::Line,
+    help: "The moves of a game from the array, as one word; - for none",
+};
+
+const OLD: Word = Word {
+    name: "OLD",
+    kind: Kind::Text,
+    help: "The certificate of version 1",
+};
+
+const NEW: Word = Word {
+    name: "NEW",
+    kind: Kind::Text,
+    help: "The plain file that the copy is written to",
+};
+
+const RECORDS: Word = Word {
+    name: "records",
+    kind: Kind::Limit("N", "100000000", 1),
+    help: "Refuses a certificate of more records",
+};
+
+const NODES: Word = Word {
+    name: "nodes",
+    kind: Kind::Limit("N", "1000000", 0),
+    help: "Gives up before more nodes are visited",
+};
+
+// The nodes of `pg cooks`.
+const NODES_LED: Word = Word {
+    name: "nodes",
+    kind: Kind::Limit("N", "10000000", 0),
+    help: "Gives up where more would be visited",
+};
+
+// The nodes of `pg page`.
+const NODES_TOLD: Word = Word {
+    name: "nodes",
+    kind: Kind::Limit("K", "20000", 0),
+    help: "Shows at most so many expanded nodes",
+};
+
+const FOREIGN: Word = Word {
+    name: "foreign",
+    kind: Kind::NumberOrNone("D"),
+    help: "At most so many moves of other kinds; else any number",
+};
+
+// The file of `pg search` that the games are written to.
+const GAMES_KEPT: Word = Word {
+    name: "games",
+    kind: Kind::Named("FILE"),
+    help: "Keeps the games that were met, also where it gives up",
+};
 
 // A command: its name, what it does, what stands below its help, and its words in their order.
 struct Entry {
@@ -130,189 +247,84 @@ const COMMANDS: [Entry; 10] = [
         name: "show",
         about: "Prints the board of a diagram, and what is known of it at once",
         below: SHOW_EXAMPLE,
-        words: &[Word::Diagram, Word::Within],
+        words: &[DIAGRAM, LENGTH_SHOWN],
     },
     Entry {
         name: "moves",
         about: "Prints the legal moves of a position, one a line",
         below: MOVES_EXAMPLE,
-        words: &[Word::Fen],
+        words: &[FEN],
     },
     Entry {
         name: "count",
         about: "Prints the number of games of so many plies from a position",
         below: COUNT_EXAMPLE,
-        words: &[Word::Fen, Word::Plies],
+        words: &[FEN, PLIES],
     },
     Entry {
         name: "games",
         about: "Prints what a list of games shows by itself",
         below: GAMES_EXAMPLE,
-        words: &[Word::Diagram, Word::Length, Word::Games],
+        words: &[DIAGRAM, LENGTH, GAMES],
     },
     Entry {
         name: "cooks",
         about: "Looks for another game, or a shorter one, near the games of a list",
         below: COOKS_EXAMPLE,
-        words: &[
-            Word::Diagram,
-            Word::Length,
-            Word::Known,
-            Word::LedNodes,
-            Word::Foreign,
-        ],
+        words: &[DIAGRAM, LENGTH, GAMES_KNOWN, NODES_LED, FOREIGN],
     },
     Entry {
         name: "check",
         about: "Checks a certificate against a list of games, and prints the report",
         below: CHECK_EXAMPLE,
-        words: &[
-            Word::Diagram,
-            Word::Length,
-            Word::Certificate,
-            Word::Games,
-            Word::Records,
-        ],
+        words: &[DIAGRAM, LENGTH, CERTIFICATE, GAMES, RECORDS],
     },
     Entry {
         name: "search",
         about: "Searches for the games, writes a certificate, checks it, and reports",
         below: SEARCH_EXAMPLE,
-        words: &[
-            Word::Diagram,
-            Word::Length,
-            Word::Draft,
-            Word::Nodes,
-            Word::Kept,
-        ],
+        words: &[DIAGRAM, LENGTH, CERTIFICATE_WRITTEN, NODES, GAMES_KEPT],
     },
     Entry {
         name: "why",
         about: "Explains a line of moves by a certificate",
         below: WHY_EXAMPLE,
-        words: &[
-            Word::Diagram,
-            Word::Length,
-            Word::Certificate,
-            Word::Moves,
-            Word::Records,
-        ],
+        words: &[DIAGRAM, LENGTH, CERTIFICATE, MOVES, RECORDS],
     },
     Entry {
         name: "page",
         about: "Writes a page of HTML that shows a certificate",
         below: PAGE_EXAMPLE,
-        words: &[
-            Word::Diagram,
-            Word::Length,
-            Word::Certificate,
-            Word::Records,
-            Word::Told,
-        ],
+        words: &[DIAGRAM, LENGTH, CERTIFICATE, RECORDS, NODES_TOLD],
     },
     Entry {
         name: "upgrade",
         about: "Copies a certificate of version 1 as one of version 2",
         below: UPGRADE_EXAMPLE,
-        words: &[Word::Old, Word::New, Word::Records],
+        words: &[OLD, NEW, RECORDS],
     },
 ];
 
-// An argument that must be given.
-fn wanted<'a>(alloc: Global, name: &'a str, help: &'a str) -> Arg<'a> {
-    Arg::new(alloc, name).required(true).help(help)
-}
-
-// A number that may be given behind its name.
-fn limit<'a>(alloc: Global, name: &'a str, usual: &'a str, least: u64, help: &'a str) -> Arg<'a> {
-    Arg::new(alloc, name)
-        .long(name)
-        .value_name("N")
-        .default_value(usual)
-        .value_parser(ValueParser::unsigned(least, u64::MAX))
-        .help(help)
-}
-
 // The argument that a word is read by.
-fn arg_of<'a>(alloc: Global, word: Word) -> Arg<'a> {
-    match word {
-        Word::Fen => wanted(
-            alloc,
-            "FEN",
-            "The position: the six fields of a FEN, as one word",
-        ),
-        Word::Plies => wanted(alloc, "PLIES", "How many plies, 8 at most").value_parser(
-            ValueParser::unsigned(0, 255),
-        ),
-        Word::Diagram => wanted(
-            alloc,
-            "DIAGRAM",
-            "Where the games end: the placement of a FEN, or all its fields",
-        ),
-        Word::Length => wanted(
-            alloc,
-            "LENGTH",
-            "In moves, 64.0 at most: 18.5 is 37 plies, 18 and 18.0 are 36",
-        ),
-        Word::Within => Arg::new(alloc, "LENGTH").help(
-            "In moves, 64.0 at most: says what a game of it leaves over",
-        ),
-        Word::Certificate => wanted(alloc, "CERT", "The certificate, as `pg search` writes it"),
-        Word::Games => Arg::new(alloc, "GAMES").help(
-            "A file with one game a line; standard input where it is missing",
-        ),
-        Word::Known => wanted(alloc, "GAMES", "A file with one game a line, at least one"),
-        Word::Moves => wanted(
-            alloc,
-            "MOVES",
-            "The moves of a game from the array, as one word; - for none",
-        )
-        .allow_hyphen_values(true),
-        Word::Draft => wanted(
-            alloc,
-            "CERT",
-            "The plain file that the certificate is written to",
-        ),
-        Word::Old => wanted(alloc, "OLD", "The certificate of version 1"),
-        Word::New => wanted(alloc, "NEW", "The plain file that the copy is written to"),
-        Word::Records => limit(
-            alloc,
-            "records",
-            "100000000",
-            1,
-            "Refuses a certificate of more records",
-        ),
-        Word::Nodes => limit(
-            alloc,
-            "nodes",
-            "1000000",
-            0,
-            "Gives up before more nodes are visited",
-        ),
-        Word::LedNodes => limit(
-            alloc,
-            "nodes",
-            "10000000",
-            0,
-            "Gives up where more would be visited",
-        ),
-        Word::Foreign => Arg::new(alloc, "foreign")
-            .long("foreign")
-            .value_name("D")
-            .value_parser(ValueParser::unsigned(0, 255))
-            .help("At most so many moves of other kinds; else any number"),
-        Word::Told => limit(
-            alloc,
-            "nodes",
-            "20000",
-            0,
-            "Shows at most so many expanded nodes",
-        )
-        .value_name("K"),
-        Word::Kept => Arg::new(alloc, "games")
-            .long("games")
-            .value_name("FILE")
-            .help("Keeps the games that were met, also where it gives up"),
+fn arg_of<'a>(alloc: Global, word: &Word) -> Arg<'a> {
+    let arg = Arg::new(alloc, word.name).help(word.help);
+    match word.kind {
+        Kind::Text => arg.required(true),
+        Kind::TextOrNone => arg,
+        Kind::Line => arg.required(true).allow_hyphen_values(true),
+        Kind::Number => arg
+            .required(true)
+            .value_parser(ValueParser::unsigned(0, 255)),
+        Kind::Limit(called, usual, least) => arg
+            .long(word.name)
+            .value_name(called)
+            .default_value(usual)
+            .value_parser(ValueParser::unsigned(least, u64::MAX)),
+        Kind::NumberOrNone(called) => arg
+            .long(word.name)
+            .value_name(called)
+            .value_parser(ValueParser::unsigned(0, 255)),
+        Kind::Named(called) => arg.long(word.name).value_name(called),
     }
 }
 
@@ -320,7 +332,7 @@ fn arg_of<'a>(alloc: Global, word: Word) -> Arg<'a> {
 fn with_word<'a>(
     command: Command<'a>,
     alloc: Global,
-    word: Word,
+    word: &Word,
 ) -> Result<Command<'a>, AllocError> {
     command.arg(arg_of(alloc, word))
 }
@@ -331,7 +343,7 @@ fn command_of<'a>(alloc: Global, entry: &Entry) -> Result<Command<'a>, AllocErro
         .about(entry.about)
         .after_help(entry.below);
     for word in entry.words {
-        command = with_word(command, alloc, *word)?;
+        command = with_word(command, alloc, word)?;
     }
     Ok(command)
 }

@@ -4,5 +4,5 @@ use Rattle.pg_cli.proofs.knowing.cooks.Goals as goal
 
 pub returns : goal.returns
 returns g c = record {
-  headline = cooks_mean (rows_of (found_of c.args.words.now)) c.text_of-diagram.result.now c.text_of-length.result.now _ c.cooks_from.result c.text_of-diagram.ensures c.text_of-length.ensures c.cooks_from.ensures.headline c.cooks_from.ensures.status;
+  headline = cooks_mean (rows_of (found_of c.args.words.now)) c.text_of-diagram.result.now c.text_of-length.result.now _ c.cooks_from-answer.result c.text_of-diagram.ensures c.text_of-length.ensures c.cooks_from-answer.ensures.headline c.cooks_from-answer.ensures.status;
 }

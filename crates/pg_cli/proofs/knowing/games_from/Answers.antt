@@ -1,8 +1,16 @@
-use Rattle.pg_cli.proofs.KnowingLemmas.{list_tested, list_shows}
+use Rattle.std.proofs.Common.{refl}
+use Rattle.pg_cooks.specs.declared.asked.Asked.{Asked as Texts}
+use Rattle.pg_cli.proofs.KnowingLemmas.{list_shows, list_tested, list_unwritten}
 use Rattle.pg_cli.proofs.knowing.games_from.Goals as goal
 
-pub returns : goal.returns
-returns g c = record {
-  headline = list_shows (record { diagram = c.args.asked.now.diagram; length = c.args.asked.now.length; games = c.in-Ok.games }) _ c.run_games-answer.result c.tested.result c.run_games-answer.ensures.ok c.tested.ensures;
-  status = list_tested (record { diagram = c.args.asked.now.diagram; length = c.args.asked.now.length; games = c.in-Ok.games }) c.args.asked.now.games.now _ c.run_games-answer.result c.tested.result c.in-Ok.ensures.cases.0 c.run_games-answer.ensures.ok c.tested.ensures;
-}
+pub returns-in-Ok-run_games : goal.returns-in-Ok-run_games
+returns-in-Ok-run_games g c =
+    let texts : Texts = record { diagram = c.args.asked.now.diagram; length = c.args.asked.now.length; games = c.in-Ok.games } in
+    record {
+      headline = list_shows texts _ c.in-Ok-run_games.standing c.standing_status.result c.finished.result c.in-Ok-run_games.ensures.ok c.standing_status.ensures c.finished.ensures.ok;
+      status = list_tested texts c.args.asked.now.games.now _ c.in-Ok-run_games.standing c.standing_status.result c.finished.result c.in-Ok.ensures.cases.0 c.in-Ok-run_games.ensures.ok c.standing_status.ensures c.finished.ensures.ok;
+      err = list_unwritten c.args.asked.now texts _ _ c.in-Ok-run_games.standing c.finished.result (refl, refl, c.in-Ok.ensures.cases.0) c.in-Ok-run_games.ensures.ok c.finished.ensures.err;
+    }
+
+pub returns-in-Err-run_games-clause-err : goal.returns-in-Err-run_games-clause-err
+returns-in-Err-run_games-clause-err g c = (record { diagram = c.args.asked.now.diagram; length = c.args.asked.now.length; games = c.in-Ok.games }, (refl, refl, c.in-Ok.ensures.cases.0), c.in-Err-run_games.ensures.err)

@@ -1,0 +1,101 @@
+-- Why what a command does with bytes has no status: which refusal comes when, as far as the run below says it.
+use Rattle.std.specs.Prelude.{◌≡◌, ◌⊎◌, ℕ, Bool, true, List, Option, IsUtf8}
+use Rattle.pg_board.specs.Placement.{Placement}
+use Rattle.pg_position.specs.declared.moves.Move.{Move}
+use Rattle.pg_searcher.specs.declared.fault.SearchFault.TheVariants.{TooManyGames}
+use Rattle.pg_checker.specs.declared.fault.RunFault.{RunFault}
+use Rattle.pg_texts.specs.declared.fault.UpgradeFault.TheVariants.{Write as CopyWrite}
+use Rattle.pg_texts.specs.MovesText.{IsMovesFault}
+use Rattle.pg_texts.specs.CountText.{IsCountRunFault}
+use Rattle.pg_texts.specs.Upgrade.{IsUpgradeFault, upgrade_of}
+use Rattle.pg_report.specs.Showing.{IsShowFault, IsShowWithinFault}
+use Rattle.pg_report.specs.Run.{IsCheckFault, IsRunFault}
+use Rattle.pg_cooks.specs.Known.{IsKnownFault}
+use Rattle.pg_cooks.specs.Cooks.{IsCooksRunFault}
+use Rattle.pg_cooks.specs.declared.asked.Asked.{Asked as Texts}
+use Rattle.pg_cooks.specs.declared.fault.CooksRunFault.{CooksRunFault}
+use Rattle.pg_cooks.specs.declared.fault.CooksRunFault.TheVariants as cooking
+use Rattle.pg_guide.specs.Why.{Terms, Failures, IsWhyFault}
+use Rattle.pg_guide.specs.declared.explaining.Asked.{Asked as Line}
+use Rattle.pg_guide.specs.declared.fault.WhyFault.{WhyFault}
+use Rattle.pg_guide.specs.declared.fault.WhyFault.TheVariants as why
+use Rattle.pg_page.specs.Page.{IsPageFault}
+use Rattle.pg_page.specs.declared.paging.Asked.{Asked as Shown}
+use Rattle.pg_cli.specs.declared.checking.Asked.{Asked}
+use Rattle.pg_cli.specs.declared.refusals.Refusal.{Refusal}
+use Rattle.pg_cli.specs.declared.refusals.Refusal.TheVariants.{NoGame, NotUtf8, Memory, Line as NoLine, Show, Moves, Count, Search, Upgrade, Check}
+
+-- ---- a list of games
+-- the texts are those that are asked, and the bytes of the list are one of them
+abbrev pub AreTexts : Asked → Texts → Type 0
+AreTexts asked texts = (texts.diagram.now ≡ asked.diagram.now) × (texts.length.now ≡ asked.length.now) × (texts.games.now ≡ asked.games.now)
+
+-- the bytes of a list that is to be tested are no text; or one of the texts is refused, a listed game is no solution, or the sink has failed
+abbrev pub IsGamesRefusal : Asked → Bool → Refusal → Type 0
+IsGamesRefusal asked failed NotUtf8 = ¬ IsUtf8 asked.games.now
+IsGamesRefusal asked failed (Check fault) = (texts : Texts) × AreTexts asked texts × IsKnownFault texts failed fault
+IsGamesRefusal asked failed refusal = ⊥
+
+-- the refusal that a fault of a search beside a list is
+abbrev pub cooks_refusal : CooksRunFault → Refusal
+cooks_refusal cooking.NoGame = NoGame
+cooks_refusal cooking.Memory = Memory
+cooks_refusal (cooking.Run fault) = Check fault
+
+-- the bytes of a list that leads a search are no text; or the search of the texts has this fault
+abbrev pub IsCooksRefusal : Asked → Bool → Refusal → Type 0
+IsCooksRefusal asked failed refusal = ((refusal ≡ NotUtf8) × ¬ IsUtf8 asked.games.now)
+    ⊎ ((texts : Texts) × (fault : CooksRunFault) × AreTexts asked texts × (refusal ≡ cooks_refusal fault) × IsCooksRunFault texts failed fault)
+
+-- ---- a certificate
+-- the bytes of the list are no text; or the check has this fault: one of the texts is refused, or the certificate is, or the sink has failed
+abbrev pub IsCheckRefusal : Terms → Asked → Bool → Bool → Refusal → Type 0
+IsCheckRefusal t asked failed broken NotUtf8 = ¬ IsUtf8 asked.games.now
+IsCheckRefusal t asked failed broken (Check fault) =
+    IsRunFault t.rules asked.diagram.now asked.length.now asked.games.now t.max_records t.max_named t.known failed broken fault
+IsCheckRefusal t asked failed broken refusal = ⊥
+
+-- the check of a certificate for this list has this fault
+abbrev pub IsFoundRefusal : Terms → Placement → ℕ → List (List Move) → Bool → Bool → Refusal → Type 0
+IsFoundRefusal t d n list failed broken (Check fault) = IsCheckFault (t.rules d n list) d n list t.max_records t.max_named t.known failed broken fault
+IsFoundRefusal t d n list failed broken refusal = ⊥
+
+-- the refusal that a fault of an explanation or of a page is
+abbrev pub why_refusal : WhyFault → Refusal
+why_refusal why.Moves = NoLine
+why_refusal why.TooMany = Search TooManyGames
+why_refusal (why.Run fault) = Check fault
+
+-- the explanation of a line has this fault
+abbrev pub IsWhyRefusal : Line → Terms → Failures → Refusal → Type 0
+IsWhyRefusal asked t failed refusal = (fault : WhyFault) × (refusal ≡ why_refusal fault) × IsWhyFault asked t failed fault
+
+-- the page of a certificate has this fault
+abbrev pub IsPageRefusal : Shown → Terms → Failures → Refusal → Type 0
+IsPageRefusal asked t failed refusal = (fault : WhyFault) × (refusal ≡ why_refusal fault) × IsPageFault asked t failed fault
+
+-- copying has this fault, or the number of records is not printed, since that sink has failed
+abbrev pub IsUpgradeRefusal : ℕ → Option (List ℕ) → Bool → Bool → Bool → Refusal → Type 0
+IsUpgradeRefusal most known source sink out (Upgrade fault) = IsUpgradeFault (upgrade_of most) known source sink fault ⊎ ((fault ≡ CopyWrite) × (out ≡ true))
+IsUpgradeRefusal most known source sink out refusal = ⊥
+
+-- ---- a position or a diagram
+-- writing the moves has this fault
+abbrev pub IsMovesRefusal : List ℕ → Bool → Refusal → Type 0
+IsMovesRefusal text failed (Moves fault) = IsMovesFault text failed fault
+IsMovesRefusal text failed refusal = ⊥
+
+-- counting the games has this fault
+abbrev pub IsCountRefusal : List ℕ → ℕ → Bool → Refusal → Type 0
+IsCountRefusal text plies failed (Count fault) = IsCountRunFault text plies failed fault
+IsCountRefusal text plies failed refusal = ⊥
+
+-- showing a diagram has this fault
+abbrev pub IsShowRefusal : List ℕ → Bool → Refusal → Type 0
+IsShowRefusal text failed (Show fault) = IsShowFault text failed fault
+IsShowRefusal text failed refusal = ⊥
+
+-- showing it with a length has this fault
+abbrev pub IsShowWithinRefusal : List ℕ → List ℕ → Bool → Refusal → Type 0
+IsShowWithinRefusal text length failed (Show fault) = IsShowWithinFault text length failed fault
+IsShowWithinRefusal text length failed refusal = ⊥
