@@ -13,6 +13,7 @@ use Rattle.pg_position.specs.declared.moves.Move.{Move}
 use Rattle.pg_checker.specs.Answer.{IsExactAnswer}
 use Rattle.pg_texts.specs.Report.{IsVerdict}
 use Rattle.pg_report.specs.Run.{AreSpelled, IsRunFault}
+use Rattle.pg_report.specs.Run as run
 use Rattle.pg_report.specs.Statuses.{verdict_status}
 use Rattle.pg_texts.specs.declared.verdict.Verdict.{Verdict}
 use Rattle.pg_checker.specs.Check.{Accepts}
@@ -36,7 +37,7 @@ abbrev pub IsUnwritten : Bool → Result ℕ Refusal → Type 0
 IsUnwritten failed result = IfErr result (λ r. (r ≡ Check Write) × (failed ≡ true))
 
 -- the texts spell a diagram, a length and a list; it is the exact answer, this is its verdict, and by the rules the known bytes are a certificate of it
-abbrev pub AreChecked : Terms → List ℕ → List ℕ → List ℕ → (Placement → ℕ → List (List Move) → Type 0) → Verdict → Type 0
+abbrev pub AreChecked : run.Terms → List ℕ → List ℕ → List ℕ → (Placement → ℕ → List (List Move) → Type 0) → Verdict → Type 0
 AreChecked t diagram length games X v =
     (d : Placement) × (n : ℕ) × (list : List (List Move)) × AreSpelled diagram length games d n list × IsExactAnswer d n list × IsVerdict list v
     × X d n list × ((proved : Proved) × Accepts (t.rules d n list) d list t.max_records t.max_named t.known (Ok proved))
@@ -49,21 +50,21 @@ texts_answered diagram length games given X Y v k (Ok s) e h f g =
     (h.0, h.1, h.2, subst (λ (x : List ℕ). AreSpelled diagram length x h.0 h.1 h.2) e h.3, (h.4, (v, h.5, g ∙ f)))
 texts_answered diagram length games given X Y v k (Err r) e h f g = tt
 
-pub texts_unwritten : (t : Terms) (asked : Asked) (games : List ℕ) (failed broken : Bool) (X : Placement → ℕ → List (List Move) → Type 0)
+pub texts_unwritten : (t : run.Terms) (asked : Asked) (games : List ℕ) (failed : run.Failures) (X : Placement → ℕ → List (List Move) → Type 0)
     (v : Verdict) (result : Result ℕ Refusal) → games ≡ asked.games.now
-    → AreChecked t asked.diagram.now asked.length.now games X v → IsUnwritten broken result
-    → IfErr result (λ r. IsCheckRefusal t asked failed broken r)
-texts_unwritten t asked games failed broken X v (Ok s) e h g = tt
-texts_unwritten t asked games failed broken X v (Err r) e h g =
-    subst (λ (x : Refusal). IsCheckRefusal t asked failed broken x) (sym g.0)
+    → AreChecked t asked.diagram.now asked.length.now games X v → IsUnwritten failed.sink result
+    → IfErr result (λ r. IsCheckRefusal t asked failed r)
+texts_unwritten t asked games failed X v (Ok s) e h g = tt
+texts_unwritten t asked games failed X v (Err r) e h g =
+    subst (λ (x : Refusal). IsCheckRefusal t asked failed x) (sym g.0)
     (h.0, h.1, h.2, subst (λ (x : List ℕ). AreSpelled asked.diagram.now asked.length.now x h.0 h.1 h.2) e h.3, (h.4, g.1, h.7))
 
 -- the same texts are refused for the same reason
-pub texts_refused : (t : Terms) (asked : Asked) (games : List ℕ) (failed broken : Bool) (fault : RunFault) → games ≡ asked.games.now
-    → IsRunFault t.rules asked.diagram.now asked.length.now games t.max_records t.max_named t.known failed broken fault
-    → IsCheckRefusal t asked failed broken (Check fault)
-texts_refused t asked games failed broken fault e h =
-    subst (λ (x : List ℕ). IsRunFault t.rules asked.diagram.now asked.length.now x t.max_records t.max_named t.known failed broken fault) e h
+pub texts_refused : (t : run.Terms) (asked : Asked) (games : List ℕ) (failed : run.Failures) (fault : RunFault) → games ≡ asked.games.now
+    → IsRunFault (record { diagram = asked.diagram.now; length = asked.length.now; games = games }) t failed fault
+    → IsCheckRefusal t asked failed (Check fault)
+texts_refused t asked games failed fault e h =
+    subst (λ (x : List ℕ). IsRunFault (record { diagram = asked.diagram.now; length = asked.length.now; games = x }) t failed fault) e h
 
 pub games_answered : (d : Placement) (n : ℕ) (list : List (List Move)) (v : Verdict) (k : ℕ) (result : Result ℕ Refusal)
     → IsExactAnswer d n list → IsVerdict list v → k ≡ verdict_status v → IfOk result (λ n. n ≡ k)
@@ -71,12 +72,12 @@ pub games_answered : (d : Placement) (n : ℕ) (list : List (List Move)) (v : Ve
 games_answered d n list v k (Ok s) h i f g = (h, (v, i, g ∙ f))
 games_answered d n list v k (Err r) h i f g = tt
 
-pub games_unwritten : (t : Terms) (d : Placement) (n : ℕ) (list : List (List Move)) (failed broken : Bool) (result : Result ℕ Refusal)
+pub games_unwritten : (t : run.Terms) (d : Placement) (n : ℕ) (list : List (List Move)) (failed : run.Failures) (result : Result ℕ Refusal)
     → IsExactAnswer d n list → (proved : Proved) × Accepts (t.rules d n list) d list t.max_records t.max_named t.known (Ok proved)
-    → IsUnwritten broken result → IfErr result (λ r. IsFoundRefusal t d n list failed broken r)
-games_unwritten t d n list failed broken (Ok s) h p g = tt
-games_unwritten t d n list failed broken (Err r) h p g =
-    subst (λ (x : Refusal). IsFoundRefusal t d n list failed broken x) (sym g.0) (h, g.1, p)
+    → IsUnwritten failed.sink result → IfErr result (λ r. IsFoundRefusal d n list t failed r)
+games_unwritten t d n list failed (Ok s) h p g = tt
+games_unwritten t d n list failed (Err r) h p g =
+    subst (λ (x : Refusal). IsFoundRefusal d n list t failed x) (sym g.0) (h, g.1, p)
 
 pub line_unwritten : (asked : Line) (t : Terms) (f : Failures) (result : Result ℕ Refusal)
     → IsProved asked t → IsOneLine asked.moves.now → IsUnwritten f.sink result → IfErr result (λ r. IsWhyRefusal asked t f r)

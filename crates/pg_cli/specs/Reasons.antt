@@ -10,6 +10,7 @@ use Rattle.pg_texts.specs.CountText.{IsCountRunFault}
 use Rattle.pg_texts.specs.Upgrade.{IsUpgradeFault, upgrade_of}
 use Rattle.pg_report.specs.Showing.{IsShowFault, IsShowWithinFault}
 use Rattle.pg_report.specs.Run.{IsCheckFault, IsRunFault}
+use Rattle.pg_report.specs.Run as run
 use Rattle.pg_cooks.specs.Known.{IsKnownFault}
 use Rattle.pg_cooks.specs.Cooks.{IsCooksRunFault}
 use Rattle.pg_cooks.specs.declared.asked.Asked.{Asked as Texts}
@@ -49,16 +50,16 @@ IsCooksRefusal asked failed refusal = ((refusal ≡ NotUtf8) × ¬ IsUtf8 asked.
 
 -- ---- a certificate
 -- the bytes of the list are no text; or the check has this fault: one of the texts is refused, or the certificate is, or the sink has failed
-abbrev pub IsCheckRefusal : Terms → Asked → Bool → Bool → Refusal → Type 0
-IsCheckRefusal t asked failed broken NotUtf8 = ¬ IsUtf8 asked.games.now
-IsCheckRefusal t asked failed broken (Check fault) =
-    IsRunFault t.rules asked.diagram.now asked.length.now asked.games.now t.max_records t.max_named t.known failed broken fault
-IsCheckRefusal t asked failed broken refusal = ⊥
+abbrev pub IsCheckRefusal : run.Terms → Asked → run.Failures → Refusal → Type 0
+IsCheckRefusal t asked failed NotUtf8 = ¬ IsUtf8 asked.games.now
+IsCheckRefusal t asked failed (Check fault) =
+    IsRunFault (record { diagram = asked.diagram.now; length = asked.length.now; games = asked.games.now }) t failed fault
+IsCheckRefusal t asked failed refusal = ⊥
 
 -- the check of a certificate for this list has this fault
-abbrev pub IsFoundRefusal : Terms → Placement → ℕ → List (List Move) → Bool → Bool → Refusal → Type 0
-IsFoundRefusal t d n list failed broken (Check fault) = IsCheckFault (t.rules d n list) d n list t.max_records t.max_named t.known failed broken fault
-IsFoundRefusal t d n list failed broken refusal = ⊥
+abbrev pub IsFoundRefusal : Placement → ℕ → List (List Move) → run.Terms → run.Failures → Refusal → Type 0
+IsFoundRefusal d n list t failed (Check fault) = IsCheckFault d n list t failed fault
+IsFoundRefusal d n list t failed refusal = ⊥
 
 -- the refusal that a fault of an explanation or of a page is
 abbrev pub why_refusal : WhyFault → Refusal

@@ -71,7 +71,8 @@ pub(crate) fn check_from<S: Source, W: Sink>(
           max_named = MOST_NAMED;
           known = S.left source.old;
         })
-        asked.now (S.has_failed source.new) (⟦<Gathered<W> as Sink>⟧.has_failed out.new) refusal) }
+        asked.now
+        (record { source = S.has_failed source.new; sink = ⟦<Gathered<W> as Sink>⟧.has_failed out.new }) refusal) }
 {
     let games = match str::from_utf8(asked.games) {
         Ok(games) => games,

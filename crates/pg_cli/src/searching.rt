@@ -140,15 +140,14 @@ pub(crate) fn check_found<S: Source, W: Sink>(
     records: u64,
 ) -> Result<u8, Refusal>
     ensures headline { IfOk result (λ status. IsAnswered problem.now.diagram problem.now.length games.now status) }
-    ensures err { IfErr result (λ refusal. IsFoundRefusal
+    ensures err { IfErr result (λ refusal. IsFoundRefusal problem.now.diagram problem.now.length games.now
         (record {
           rules = rules_by code_of excluded bounds.now;
           max_records = records;
           max_named = MOST_NAMED;
           known = S.left source.old;
         })
-        problem.now.diagram problem.now.length games.now (S.has_failed source.new)
-        (⟦<Gathered<W> as Sink>⟧.has_failed out.new) refusal) }
+        (record { source = S.has_failed source.new; sink = ⟦<Gathered<W> as Sink>⟧.has_failed out.new }) refusal) }
 {
     match run_listed(
         alloc,

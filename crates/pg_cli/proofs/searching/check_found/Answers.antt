@@ -12,5 +12,7 @@ returns-in-Ok g c = record {
         max_named = 4194304;
         known = g.S.Source.left c.args.source.now;
       })
-      c.args.problem.now.diagram c.args.problem.now.length c.args.games.now (g.S.Source.has_failed c.run_listed.new.source) _ c.finished.result c.in-Ok.ensures.headline c.in-Ok.ensures.accepted c.finished.ensures.err;
+      c.args.problem.now.diagram c.args.problem.now.length c.args.games.now
+      (record { source = g.S.Source.has_failed c.run_listed.new.source; sink = _ })
+      c.finished.result c.in-Ok.ensures.headline c.in-Ok.ensures.accepted c.finished.ensures.err;
 }
