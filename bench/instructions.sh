@@ -1,7 +1,8 @@
 #!/usr/bin/env bash
 # What the program's work costs in instructions, as valgrind counts them: the same for the same program and input, whatever
 # else the machine is doing. The first rows are whole runs, start of the program included; the others are what one more
-# record costs the checker, from two runs of bench_checks. Last come the counts beside a peer (counts.sh).
+# record costs the checker, from two runs of bench_checks, and what one node costs a search. Last come the counts beside a peer
+# (counts.sh).
 set -eu
 top=$(cd "$(dirname "$(readlink -f "$0")")/.." && pwd)
 work=$(mktemp -d)
@@ -31,13 +32,17 @@ record() {
 "$top/pg" --help >/dev/null # builds the program where that is due
 pg="$top/crates/pg_cli/out/pg_cli"
 schweig=r1bqkbnr/ppp2ppp/3p4/8/8/8/PPPPPPPP/R1BQKBNR
+nine=2bqr1k1/2pNppbp/1p5p/7n/1r1P4/8/P1P1PPPP/RNB1KBNR
 twelve=4r1k1/2p1ppbp/1p5p/2N2b1n/2rP4/q3P3/P1P1BPPP/RNB1K1NR
+long=2bqr1k1/2p1ppbp/1pp4p/7n/r2P3P/8/P1P1PPP1/RNB1KBNR
 array='rnbqkbnr/pppppppp/8/8/8/8/PPPPPPPP/RNBQKBNR w KQkq - 0 1'
 many='r3k2r/p1ppqpb1/bn2pnp1/3PN3/1p2P3/2N2Q1p/PPPBBPPP/R3K2R w KQkq - 0 1'
 run 'check of examples/schweig' "$pg" check "$schweig" 4.0 "$top/examples/schweig/certificate.pgc" "$top/examples/schweig/games"
 run 'search of the same, its check included' "$pg" search "$schweig" 4.0 "$work/schweig.pgc"
 run 'check of what that wrote, version 2' "$pg" check "$schweig" 4.0 "$work/schweig.pgc" "$top/examples/schweig/games"
+run 'check of examples/nine-moves, version 2' "$pg" check "$nine" 9.0 "$top/examples/nine-moves/certificate.pgc" "$top/examples/nine-moves/games"
 run 'check of examples/twelve-moves, version 2' "$pg" check "$twelve" 12.0 "$top/examples/twelve-moves/certificate.pgc" "$top/examples/twelve-moves/games"
+run "search of ${long%%/*}.. 9.5, its check included" "$pg" search "$long" 9.5 "$work/long.pgc" --nodes 2000000
 run 'count of the array, 4 plies' "$pg" count "$array" 4
 run "count of ${many%% *}, 3 plies" "$pg" count "$many" 3
 record 'a record 01 on a diagram of 64 men, 2.0' full

@@ -5,9 +5,9 @@ use Rattle.pg_board.specs.Placement.{Placement}
 use Rattle.pg_position.specs.declared.moves.Move.{Move}
 use Rattle.pg_checker.specs.declared.fault.RunFault.TheVariants.{Write}
 use Rattle.pg_cooks.proofs.CookLemmas.{not_sound}
-use Rattle.pg_cooks.specs.Known.{IsKnown, IsKnownFault}
+use Rattle.pg_cooks.specs.Known.{IsKnown}
 use Rattle.pg_cooks.specs.Standing.{IsStanding}
-use Rattle.pg_cooks.specs.Cooks.{IsCookAnswer, IsCooksRunFault, IsRefuted}
+use Rattle.pg_cooks.specs.Cooks.{IsCookAnswer, IsRefuted}
 use Rattle.pg_cooks.specs.declared.asked.Asked.{Asked as Texts}
 use Rattle.pg_cooks.specs.declared.fault.CooksRunFault.TheVariants.{Run}
 use Rattle.pg_cooks.specs.declared.standing.Standing.{Standing}
