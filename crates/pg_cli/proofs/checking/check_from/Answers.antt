@@ -19,12 +19,12 @@ returns-in-Ok-run_check g c = record {
 
 pub returns-in-Err-run_check-clause-err : goal.returns-in-Err-run_check-clause-err
 returns-in-Err-run_check-clause-err g c = texts_refused
-      (record {
-        rules = rules_by (λ b. (goal.Bound-dyn g (b.vtable, b.value)).code_of b.value) (λ b. (goal.Bound-dyn g (b.vtable, b.value)).excluded b.value) c.args.bounds.now;
-        max_records = c.args.records;
-        max_named = 4194304;
-        known = g.S.Source.left c.args.source.now;
-      })
-      c.args.asked.now c.in-Ok.games.now
-      (record { source = g.S.Source.has_failed c.run_check.new.source; sink = _ })
-      c.in-Err-run_check.fault c.in-Ok.ensures.cases.0 c.in-Err-run_check.ensures.err
+    (record {
+      rules = rules_by (λ b. (goal.Bound-dyn g (b.vtable, b.value)).code_of b.value) (λ b. (goal.Bound-dyn g (b.vtable, b.value)).excluded b.value) c.args.bounds.now;
+      max_records = c.args.records;
+      max_named = 4194304;
+      known = g.S.Source.left c.args.source.now;
+    })
+    c.args.asked.now c.in-Ok.games.now
+    (record { source = g.S.Source.has_failed c.run_check.new.source; sink = _ })
+    c.in-Err-run_check.fault c.in-Ok.ensures.cases.0 c.in-Err-run_check.ensures.err
