@@ -14,8 +14,8 @@ use Rattle.pg_board.specs.Placement.{Placement, get}
 use Rattle.pg_board.specs.Bits.{has}
 use Rattle.pg_position.specs.declared.state.State.{State}
 use Rattle.pg_position.specs.declared.moves.Move.{Move}
-use Rattle.pg_position.specs.declared.moves.Way.{Way}
-use Rattle.pg_position.specs.declared.moves.Way.TheVariants.{Plain, Capture, DoubleAdvance, EnPassant, Promotion, Castling}
+use Rattle.pg_position.specs.declared.moves.StepKind.{StepKind}
+use Rattle.pg_position.specs.declared.moves.StepKind.TheVariants.{Plain, Capture, DoubleAdvance, EnPassant, Promotion, Castling}
 use Rattle.pg_position.specs.Geometry.{IsForward, InPattern}
 use Rattle.pg_position.specs.Attack.{IsClear, Reaches}
 use Rattle.pg_board.specs.SquareSets.{IsSetOf}
@@ -153,7 +153,7 @@ en_passant_none p r e = set_none (λ q _ t. let a : p.passed ≡ Some q = t.0 in
 unfoldable pub Goals : State → Kind → ℕ → ℕ → Type 0
 Goals p k r s = Advances p.board p.side k r s ⊎ (((k ≡ Pawn) × CapturesEnPassant p r s) ⊎ (k ≡ King))
 
-goals : (p : State) (k : Kind) (m : Move) (w : Way) → IsWay p k m w → Goals p k m.from m.to
+goals : (p : State) (k : Kind) (m : Move) (w : StepKind) → IsWay p k m w → Goals p k m.from m.to
 unfolding Goals Advances Strides Leaps CapturesEnPassant
 goals p k m Plain h = inl (inl (inl (h.vacant, h.goes)))
 goals p k m Capture h = inl (inl (inr (h.enemy, h.reaches)))
