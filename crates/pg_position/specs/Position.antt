@@ -1,4 +1,4 @@
--- What makes a state a position: a placement, a side to move, rights to castle and a passed square, by five clauses.
+-- What makes a state a position: a placement, a side to move, rights and a passed square that meet five clauses.
 use Rattle.std.specs.Prelude.{◌≡◌, ◌≢◌, ℕ, ◌<◌, Option, Some, None, Bool, true}
 use Rattle.pg_board.specs.declared.man.Color.{Color}
 use Rattle.pg_board.specs.declared.man.Color.TheVariants.{White, Black}
