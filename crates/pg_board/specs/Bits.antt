@@ -73,7 +73,8 @@ has-set n k q l = elim (eqb q k) as (λ v. eqb q k ≡ v → has (bit_or n (1 * 
   | false ↦ λ e. ap (λ b. eqb b 1) (bit_at_set_other w64 n k l q (eqb-false q k e))
 ] refl
 
-pub has-clear : (n k q : ℕ) → k < 64 → q < 64 → has (bit_and n (bit_not w64 (1 * 2 ^ k % 2 ^ 64))) q ≡ cond (eqb q k) false (has n q)
+pub has-clear : (n k q : ℕ) → k < 64 → q < 64 →
+    has (bit_and n (bit_not w64 (1 * 2 ^ k % 2 ^ 64))) q ≡ cond (eqb q k) false (has n q)
 has-clear n k q l m = elim (eqb q k) as (λ v. eqb q k ≡ v → has (bit_and n (bit_not w64 (1 * 2 ^ k % 2 ^ 64))) q ≡ cond v false (has n q)) [
   | true ↦ λ e. ap (λ j. has (bit_and n (bit_not w64 (1 * 2 ^ k % 2 ^ 64))) j) (eqb-true q k e) ∙ ap (λ b. eqb b 1) (bit_at_clear_same w64 n k l)
   | false ↦ λ e. ap (λ b. eqb b 1) (bit_at_clear_other w64 n k l q m (eqb-false q k e))
@@ -104,7 +105,8 @@ odd false true = (λ e. cc, λ e. cc)
 odd false false = (λ _. refl, λ _. refl)
 
 -- out of `a ^ b` is what is in both or in neither
-pub xor_out : (a b q : ℕ) → (has (bit_xor a b) q ≡ false → has a q ≡ has b q) × (has a q ≡ has b q → has (bit_xor a b) q ≡ false)
+pub xor_out : (a b q : ℕ) →
+    (has (bit_xor a b) q ≡ false → has a q ≡ has b q) × (has a q ≡ has b q → has (bit_xor a b) q ≡ false)
 xor_out a b q =
     let is : has (bit_xor a b) q ≡ eqb ((cond (has a q) 1 0 + cond (has b q) 1 0) % 2) 1 =
     ap (λ n. eqb n 1) (bit_at_xor a b q ∙ ap₂ (λ (x y : ℕ). (x + y) % 2) (bit_has a q) (bit_has b q)) in
@@ -114,7 +116,9 @@ neither : (a b : Bool) → ((a || b) ≡ false → (a ≡ false) × (b ≡ false
 neither true b = (λ e. cc, λ e. cc)
 neither false b = (λ e. (refl, e), λ e. e.1)
 
-pub or_out : (a b q : ℕ) → (has (bit_or a b) q ≡ false → (has a q ≡ false) × (has b q ≡ false)) × ((has a q ≡ false) × (has b q ≡ false) → has (bit_or a b) q ≡ false)
+pub or_out : (a b q : ℕ) →
+    (has (bit_or a b) q ≡ false → (has a q ≡ false) × (has b q ≡ false))
+    × ((has a q ≡ false) × (has b q ≡ false) → has (bit_or a b) q ≡ false)
 or_out a b q =
     (λ e. (neither (has a q) (has b q)).0 (sym (has-or a b q) ∙ e), λ e. has-or a b q ∙ (neither (has a q) (has b q)).1 e)
 
@@ -134,13 +138,16 @@ ones-count (suc k) n l =
 pub has-none : (q : ℕ) → has 0 q ≡ false
 has-none q = ap (λ b. eqb b 1) (bit_at-zero q)
 
-pub has-first : (n : ℕ) → 0 < n → n < 2 ^ 64 → (trailing_zeros w64 n < 64) × (has n (trailing_zeros w64 n) ≡ true) × ((q : ℕ) → q < trailing_zeros w64 n → has n q ≡ false)
+pub has-first : (n : ℕ) → 0 < n → n < 2 ^ 64 →
+    (trailing_zeros w64 n < 64) × (has n (trailing_zeros w64 n) ≡ true)
+    × ((q : ℕ) → q < trailing_zeros w64 n → has n q ≡ false)
 has-first n p l =
     let h = bit_at-trailing_zeros w64 n p l in
     (h.0, ap (λ b. eqb b 1) h.1, λ q k. ap (λ b. eqb b 1) (h.2 q k))
 
 -- the place of the highest bit, as `63 - n.leading_zeros()` has it
-pub has-last : (n k : ℕ) → 0 < n → n < 2 ^ 64 → k ≡ 63 - leading_zeros w64 n → (k < 64) × (has n k ≡ true) × ((q : ℕ) → k < q → has n q ≡ false)
+pub has-last : (n k : ℕ) → 0 < n → n < 2 ^ 64 → k ≡ 63 - leading_zeros w64 n →
+    (k < 64) × (has n k ≡ true) × ((q : ℕ) → k < q → has n q ≡ false)
 has-last n k p l e =
     let (j, at, low, high) = leading_top 64 n p l in
     let same : k ≡ j = omega arith in

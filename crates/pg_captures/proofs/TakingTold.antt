@@ -1,16 +1,15 @@
 -- What tests of the position before a legal move tell of the position after it.
-use Rattle.std.proofs.Common.{◌≡◌, ℕ, ◌+◌, ◌<◌, ◌⊎◌, ◌↔◌, inl, inr, Option, Some, None, Bool, true, false, IsTrue, refl, sym, ap, subst, ◌∙◌}
+use Rattle.std.proofs.Common.{◌≡◌, ℕ, ◌+◌, ◌<◌, ◌⊎◌, ◌↔◌, inl, inr, Some, Bool, true, false, IsTrue, refl, sym, ap, subst, ◌∙◌}
 use Rattle.std.specs.Bool.{Decides}
-use Rattle.std.proofs.lemmas.Bool.Decides.{Decides-like}
 use Rattle.pg_board.specs.declared.man.Color.{Color}
 use Rattle.pg_board.specs.declared.man.Color.TheVariants.{White, Black}
 use Rattle.pg_board.specs.declared.man.Kind.{Kind}
 use Rattle.pg_board.specs.declared.man.Kind.TheVariants.{Pawn}
 use Rattle.pg_board.specs.declared.man.Man.{Man}
 use Rattle.pg_board.specs.Bits.{has}
-use Rattle.pg_board.specs.Men.{man, other, color_eq, is_of, is_man}
+use Rattle.pg_board.specs.Men.{man, other, is_of, is_man}
 use Rattle.pg_board.specs.Placement.{Placement, get}
-use Rattle.pg_board.specs.lemmas.Equalities.{color_decides, is_man_decides}
+use Rattle.pg_board.specs.lemmas.Equalities.{is_man_decides, of_decides}
 use Rattle.pg_position.specs.declared.state.State.{State}
 use Rattle.pg_position.specs.declared.moves.Move.{Move}
 use Rattle.pg_position.specs.Position.{Stands, IsPosition}
@@ -22,13 +21,6 @@ use Rattle.pg_captures.specs.lemmas.MoveLemmas.{side_step}
 use Rattle.pg_captures.specs.lemmas.TakingLemmas.{own_left}
 
 -- ---- what stands on a square
-of_decides : (c : Color) (o : Option Man) → Decides (is_of c o) ((k : Kind) × (o ≡ Some (man c k)))
-of_decides c None = (λ e. absurd (cc), λ h. let e : None ≡ Some (man c h.0) = h.1 in absurd (cc))
-of_decides c (Some m) = Decides-like (color_eq m.color c)
-    (λ e. (m.kind, λ i. Some (record { color = e i; kind = m.kind })))
-    (λ h. let e : m ≡ man c h.0 = (let f : Some m ≡ Some (man c h.0) = h.1 in cc) in ap (λ (x : Man). x.color) e)
-    (color_decides m.color c)
-
 pub enemy_told : (b there : Placement) (c side theirs : Color) (n s : ℕ) (r : Bool) → there ≡ b → side ≡ c → theirs ≡ other side → ((q : ℕ) → q < 64 → has n q ≡ is_of theirs (get there q)) → r ≡ has n s → s < 64 → IsTrue r ↔ IsEnemy b c s
 unfolding IsEnemy
 enemy_told b there c side theirs n s r eb ec et set is low =

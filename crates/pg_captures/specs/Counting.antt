@@ -45,7 +45,7 @@ is_pawn King = false
 abbrev pub any_pawn : ℕ → Kind → Bool
 any_pawn s k = is_pawn k
 
--- a man of one of the five classes of promoted men: queen, rook, knight, bishop on light squares, bishop on dark squares
+-- a man of one of the five classes of promoted men: queen, rook, knight, bishop on light and on dark squares
 unfoldable pub in_class : Class → ℕ → Kind → Bool
 in_class Queens s Queen = true
 in_class Rooks s Rook = true

@@ -1,4 +1,5 @@
--- A test that can be decided, as a yes or a no: what a bound excludes is a fixed answer for each diagram, position and number of plies.
+-- A test that can be decided, as a yes or a no: what a bound excludes is a fixed answer for each diagram, position
+-- and number of plies.
 use Rattle.std.proofs.Common.{◌≡◌, ℕ, Bool, true, false}
 use Rattle.pg_board.specs.Placement.{Placement}
 use Rattle.pg_board.specs.lemmas.Decisions.{dec_along, dec_or, dec_less, dec_colors, answer}

@@ -34,7 +34,9 @@ missing d b c l = men c (in_class l) d - men c (in_class l) b
 
 -- the same of all five classes
 unfoldable pub shortage : Placement → Placement → Color → ℕ
-shortage d b c = missing d b c Queens + missing d b c Rooks + missing d b c Knights + missing d b c LightBishops + missing d b c DarkBishops
+shortage d b c =
+    missing d b c Queens + missing d b c Rooks + missing d b c Knights
+    + missing d b c LightBishops + missing d b c DarkBishops
 
 -- the promotions test of a colour: more men are missing than there are pawns to spare
 abbrev pub PromotionsFor : Placement → Placement → Color → Type 0

@@ -37,5 +37,6 @@ pub trait Bound: Drop {
     }
 
     /// The law: what is excluded cannot be reached.
-    ghost sound: { (b : Self) (d : Placement) (p : State) (k : ℕ) → IsPosition p → excluded b d p k ≡ true → Barren d p k };
+    ghost sound: { (b : Self) (d : Placement) (p : State) (k : ℕ) →
+        IsPosition p → excluded b d p k ≡ true → Barren d p k };
 }

@@ -18,7 +18,7 @@ fn missing(goal: &Board, board: &Board, color: Color, class: Class) -> u8
     class_men(goal, color, class).saturating_sub(class_men(board, color, class))
 }
 
-/// How many men that are no pawns the colour has too few on a board to come to the wanted one, 0 to 320:
+/// How many men that are no pawns the colour has too few on a board to come to the goal, 0 to 320:
 /// queens, rooks, knights, bishops on light squares and bishops on dark squares, each for itself.
 #[tactic(auto, unfolding(crate::specs::Owed::shortage))]
 pub fn shortage(goal: &Board, board: &Board, color: Color) -> u16
@@ -33,7 +33,7 @@ pub fn shortage(goal: &Board, board: &Board, color: Color) -> u16
     queens + rooks + knights + light + dark
 }
 
-/// Whether the colour lacks more men that are no pawns than it has pawns above those of the wanted board:
+/// Whether the colour lacks more men that are no pawns than it has pawns above those of the goal:
 /// no number of promotions leads there.
 pub fn is_short(goal: &Board, board: &Board, color: Color) -> bool
     ensures { IsTrue result ↔ PromotionsFor goal.now board.now color }

@@ -9,8 +9,8 @@ use Rattle.pg_board.specs.Placement.{Placement, get, without}
 use Rattle.pg_board.specs.Men.{man, other}
 use Rattle.pg_position.specs.declared.state.State.{State}
 use Rattle.pg_position.specs.declared.moves.Move.{Move}
-use Rattle.pg_position.specs.declared.moves.Way.{Way}
-use Rattle.pg_position.specs.declared.moves.Way.TheVariants.{Plain, Capture, DoubleAdvance, EnPassant, Promotion, Castling}
+use Rattle.pg_position.specs.declared.moves.StepKind.{StepKind}
+use Rattle.pg_position.specs.declared.moves.StepKind.TheVariants.{Plain, Capture, DoubleAdvance, EnPassant, Promotion, Castling}
 use Rattle.pg_position.specs.Position.{Stands, IsVacant, IsPassed, IsPosition}
 use Rattle.pg_position.specs.Step.{Step, Legal, IsEnemy, IsWay, relocated, board_after}
 use Rattle.pg_position.specs.Squares.{rook_home, ahead, king_crossed}
@@ -29,7 +29,7 @@ use Rattle.pg_captures.specs.lemmas.BoardLemmas.{written, unwritten, man_elsewhe
 abbrev Spares : State → Move → Placement → ℕ → ℕ → Type 0
 Spares p m b x y = (s : ℕ) → s ≢ m.from → s ≢ m.to → s ≢ x → s ≢ y → get b s ≡ get p.board s
 
-spares : (p : State) (m : Move) (w : Way) → (x : ℕ) × (y : ℕ) × Spares p m (board_after p m w) x y
+spares : (p : State) (m : Move) (w : StepKind) → (x : ℕ) × (y : ℕ) × Spares p m (board_after p m w) x y
 spares p m Plain = (m.from, m.from, λ s a b c d. man_elsewhere p.board m.from m.to s a b)
 spares p m Capture = (m.from, m.from, λ s a b c d. man_elsewhere p.board m.from m.to s a b)
 spares p m DoubleAdvance = (m.from, m.from, λ s a b c d. man_elsewhere p.board m.from m.to s a b)
@@ -59,7 +59,7 @@ enemy_no_own : (b : Placement) (c : Color) (s : ℕ) → IsEnemy b c s → NoOwn
 unfolding IsEnemy
 enemy_no_own b c s (j, there) k e = not_other c (same_side e there)
 
-no_own : (p : State) (k : Kind) (m : Move) (w : Way) → IsPosition p → IsWay p k m w → NoOwn p.board p.side m.to
+no_own : (p : State) (k : Kind) (m : Move) (w : StepKind) → IsPosition p → IsWay p k m w → NoOwn p.board p.side m.to
 unfolding IsPassed
 no_own p k m Plain valid way = vacant_no_own p.board p.side m.to way.vacant
 no_own p k m Capture valid way = enemy_no_own p.board p.side m.to way.enemy
@@ -79,7 +79,7 @@ went p k m from to stands ne = record {
   came = (k, written (without p.board m.from) m.to (get p.board m.from) to ∙ stands);
 }
 
-moved : (p : State) (k : Kind) (m : Move) (w : Way) → IsPosition p → m.from < 64 → m.to < 64 → Stands p.board p.side k m.from → IsWay p k m w → m.from ≢ m.to → Moved (board_after p m w) p.side m
+moved : (p : State) (k : Kind) (m : Move) (w : StepKind) → IsPosition p → m.from < 64 → m.to < 64 → Stands p.board p.side k m.from → IsWay p k m w → m.from ≢ m.to → Moved (board_after p m w) p.side m
 unfolding IsPassed
 moved p k m Plain valid from to stands way ne = went p k m from to stands ne
 moved p k m Capture valid from to stands way ne = went p k m from to stands ne

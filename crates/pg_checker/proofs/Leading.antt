@@ -9,8 +9,8 @@ use Rattle.pg_board.specs.Men.{man, is_of}
 use Rattle.pg_board.specs.Placement.{Placement, get, without}
 use Rattle.pg_position.specs.declared.state.State.{State}
 use Rattle.pg_position.specs.declared.moves.Move.{Move}
-use Rattle.pg_position.specs.declared.moves.Way.{Way}
-use Rattle.pg_position.specs.declared.moves.Way.TheVariants.{Plain, Capture, DoubleAdvance, EnPassant, Promotion, Castling}
+use Rattle.pg_position.specs.declared.moves.StepKind.{StepKind}
+use Rattle.pg_position.specs.declared.moves.StepKind.TheVariants.{Plain, Capture, DoubleAdvance, EnPassant, Promotion, Castling}
 use Rattle.pg_position.specs.Position.{IsPosition}
 use Rattle.pg_board.specs.SquareSets.{HasNoneFrom, IsFirstFrom}
 use Rattle.pg_position.specs.Step.{Step, Legal, IsWay, after}
@@ -37,7 +37,7 @@ becomes : (p : State) (d : Placement) (m : Move) → LeadsTo d p m → (m.promot
 unfolding Step
 becomes p d m (q, ((k, w, low, stands, way, is), safe), same) = go w way is
   where
-    go : (v : Way) → IsWay p k m v → q ≡ after p m v → (m.promotion ≡ None) ⊎ ((x : Kind) × (m.promotion ≡ Some x) × (get d m.to ≡ Some (man p.side x)))
+    go : (v : StepKind) → IsWay p k m v → q ≡ after p m v → (m.promotion ≡ None) ⊎ ((x : Kind) × (m.promotion ≡ Some x) × (get d m.to ≡ Some (man p.side x)))
     go Plain h e = inl h.unpromoted
     go Capture h e = inl h.unpromoted
     go DoubleAdvance h e = inl h.unpromoted

@@ -1,5 +1,5 @@
--- The five fields behind the placement (the PGN standard, sections 16.1.3.2 to 16.1.3.6): the side to move, the castling
--- rights, the passed square, the number of half moves and the number of the full move.
+-- The five fields behind the placement (the PGN standard, sections 16.1.3.2 to 16.1.3.6): the side to move, the
+-- castling rights, the passed square, the number of half moves and the number of the full move.
 use Rattle.std.specs.Prelude.{ℕ, ◌+◌, ◌-◌, ◌*◌, Bool, ◌&&◌, ◌||◌, ◌==◌, List, [], ◌∷◌, length, Option, Some, None, Result, Ok, Err, if◌then◌else◌, nat_lt, nat_le, codes}
 use Rattle.std.specs.Str.{bytes_eq, all_ascii_digits}
 use Rattle.std.specs.Str.Parse.{digits_value}
@@ -15,7 +15,9 @@ use Rattle.pg_fen.specs.declared.details.Details.{Details}
 -- ---- each field: its value, and none where it is not well formed
 -- `w` or `b`
 abbrev pub side_of : List ℕ → Option Color
-side_of text = if bytes_eq text (codes "w") then Some White else (if bytes_eq text (codes "b") then Some Black else None)
+side_of text =
+    if bytes_eq text (codes "w") then Some White
+    else (if bytes_eq text (codes "b") then Some Black else None)
 
 abbrev pub is_right : ℕ → Bool
 is_right b = (b == code "K") || (b == code "Q") || (b == code "k") || (b == code "q")
@@ -44,7 +46,9 @@ rights_in text = record {
 
 -- `-` for no right, or one to four different letters of `KQkq` in any order
 abbrev pub rights_of : List ℕ → Option Rights
-rights_of text = if bytes_eq text (codes "-") then Some (rights_in []) else (if are_rights text then Some (rights_in text) else None)
+rights_of text =
+    if bytes_eq text (codes "-") then Some (rights_in [])
+    else (if are_rights text then Some (rights_in text) else None)
 
 -- `-` for none, or a file a to h with rank 3 or 6
 abbrev pub passed_of : List ℕ → Option (Option ℕ)
@@ -75,4 +79,10 @@ details_of side_text rights_text passed_text half_text full_text =
     with_field EnPassant (passed_of passed_text) (λ passed_value.
     with_field Number (number_of half_text) (λ half_value.
     with_field Number (number_of full_text) (λ full_value.
-    Ok (record { side = side_value; rights = rights_value; passed = passed_value; half = half_value; full = full_value }))))))
+    Ok (record {
+      side = side_value;
+      rights = rights_value;
+      passed = passed_value;
+      half = half_value;
+      full = full_value;
+    }))))))

@@ -23,5 +23,6 @@ if_read (Ok b) (Ok _) = Ok b
 -- the placement that the fields of a text spell, or the first fault of the text
 unfoldable pub diagram_of : List (List ℕ) → Result Placement FenFault
 diagram_of (placement ∷ []) = read_placement placement
-diagram_of (placement ∷ side ∷ rights ∷ passed ∷ half ∷ full ∷ []) = if_read (read_placement placement) (details_of side rights passed half full)
+diagram_of (placement ∷ side ∷ rights ∷ passed ∷ half ∷ full ∷ []) =
+    if_read (read_placement placement) (details_of side rights passed half full)
 diagram_of _ = Err Fields

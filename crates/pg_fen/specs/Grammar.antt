@@ -19,14 +19,18 @@ use Rattle.pg_fen.specs.DetailText.{is_right, count_letter}
 use Rattle.pg_fen.specs.DiagramText.{IsDiagram}
 
 -- ---- the placement
--- A character spells squares of a rank: a digit n of 1 to 8 spells n empty ones, a man's letter one square with the man.
+-- A character spells squares of a rank: a digit n of 1 to 8 spells n empty ones, a man's letter a square with him.
 abbrev pub IsSymbol : ℕ → List (Option Man) → Type 0
-IsSymbol b cells = ((n : ℕ) × (1 ≤ n) × (n ≤ 8) × (b ≡ 48 + n) × (cells ≡ replicate n None)) ⊎ ((m : Man) × (b ≡ letter_of m) × (cells ≡ Some m ∷ []))
+IsSymbol b cells =
+    ((n : ℕ) × (1 ≤ n) × (n ≤ 8) × (b ≡ 48 + n) × (cells ≡ replicate n None))
+    ⊎ ((m : Man) × (b ≡ letter_of m) × (cells ≡ Some m ∷ []))
 
 -- A text spells squares of a rank where its characters do, one after another.
 abbrev pub IsRankText : List ℕ → List (Option Man) → Type 0
 IsRankText [] cells = cells ≡ []
-IsRankText (b ∷ text) cells = (first : List (Option Man)) × (others : List (Option Man)) × (cells ≡ first ++ others) × IsSymbol b first × IsRankText text others
+IsRankText (b ∷ text) cells =
+    (first : List (Option Man)) × (others : List (Option Man)) × (cells ≡ first ++ others)
+    × IsSymbol b first × IsRankText text others
 
 -- A text spells a placement: eight parts with a slash between two of them, and the part i spells the squares of
 -- rank 8 - i from file a to file h.
@@ -66,8 +70,8 @@ AreRightsText text r = ((text ≡ codes "-") × (r ≡ no_rights)) ⊎ AreRightL
 abbrev pub IsPassedText : List ℕ → Option ℕ → Type 0
 IsPassedText text None = text ≡ codes "-"
 IsPassedText text (Some s) =
-    (file : ℕ) × (rank : ℕ) × (1 ≤ file) × (file ≤ 8) × ((rank ≡ 3) ⊎ (rank ≡ 6)) × (text ≡ (96 + file) ∷ (48 + rank) ∷ [])
-    × (s ≡ 8 * (rank - 1) + (file - 1))
+    (file : ℕ) × (rank : ℕ) × (1 ≤ file) × (file ≤ 8) × ((rank ≡ 3) ⊎ (rank ≡ 6))
+    × (text ≡ (96 + file) ∷ (48 + rank) ∷ []) × (s ≡ 8 * (rank - 1) + (file - 1))
 
 -- one or more decimal digits, whose number is at most 65,535
 pub record IsNumberText (text : List ℕ) (n : ℕ) : Type 0 where

@@ -22,11 +22,18 @@ after_digits text = drop (prefix_len is_ascii_digit text) text
 
 -- the plies that the end of a length adds to the whole moves
 abbrev pub half_of : List ℕ → Option ℕ
-half_of end = if bytes_eq end [] then Some 0 else (if bytes_eq end (codes ".0") then Some 0 else (if bytes_eq end (codes ".5") then Some 1 else None))
+half_of end =
+    if bytes_eq end [] then Some 0
+    else (if bytes_eq end (codes ".0") then Some 0
+    else (if bytes_eq end (codes ".5") then Some 1
+    else None))
 
 -- the plies that a text spells, however many
 abbrev pub plies_of : List ℕ → Option ℕ
-plies_of text = if nat_lt 0 (prefix_len is_ascii_digit text) then option_map (λ half. 2 * digits_value 10 (front_digits text) + half) (half_of (after_digits text)) else None
+plies_of text =
+    if nat_lt 0 (prefix_len is_ascii_digit text)
+    then option_map (λ half. 2 * digits_value 10 (front_digits text) + half) (half_of (after_digits text))
+    else None
 
 abbrev pub length_or_fault : Option ℕ → Result ℕ LengthFault
 length_or_fault None = Err Shape

@@ -41,4 +41,6 @@ kind_of_letter b =
 
 -- the man that a letter stands for
 abbrev pub man_of : ℕ → Option Man
-man_of b = option_map (λ kind. man (if nat_lt b (code "a") then White else Black) kind) (kind_of_letter (to_ascii_uppercase b))
+man_of b =
+    option_map (λ kind. man (if nat_lt b (code "a") then White else Black) kind)
+    (kind_of_letter (to_ascii_uppercase b))

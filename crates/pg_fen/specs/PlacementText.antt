@@ -1,5 +1,6 @@
--- The placement of men as text (the PGN standard, section 16.1.3.1): eight ranks from 8 to 1 with a slash between two of
--- them; a rank has, from file a to file h, a man's letter for the man and a digit 1 to 8 for so many empty squares.
+-- The placement of men as text (the PGN standard, section 16.1.3.1): eight ranks from 8 to 1 with a slash between two
+-- of them; a rank has, from file a to file h, a man's letter for the man and a digit 1 to 8 for so many empty
+-- squares.
 --     read_placement text   what a text reads as: a placement, or the first fault
 --     placement_text b      what a placement is written as
 use Rattle.std.specs.Prelude.{ℕ, zero, suc, ◌+◌, ◌-◌, ◌*◌, ◌/◌, ◌%◌, Bool, ◌&&◌, ◌||◌, not, ◌==◌, List, [], ◌∷◌, ◌++◌, length, map, replicate, slice_index_or, Option, Some, None, Result, Ok, Err, if◌then◌else◌, nat_lt, nat_le}
@@ -28,8 +29,8 @@ slash = code "/"
 abbrev pub is_slash : ℕ → Bool
 is_slash b = b == slash
 
--- How many squares a byte takes. A byte from 128 to 191 goes on with a character that began before it and takes none, so
--- that a character takes one square, and a digit 1 to 8 as many as it says.
+-- How many squares a byte takes. A byte from 128 to 191 goes on with a character that began before it and takes none,
+-- so that a character takes one square, and a digit 1 to 8 as many as it says.
 abbrev pub width_of : ℕ → ℕ
 width_of b = if is_run b then b - code "0" else (if nat_le 128 b && nat_lt b 192 then 0 else 1)
 
@@ -49,7 +50,8 @@ abbrev pub chars_are_eight_wide : List ℕ → Bool
 chars_are_eight_wide rank = sum_by width_of_char rank == 8
 
 abbrev pub ranks_fit_by_chars : List ℕ → Bool
-ranks_fit_by_chars chars = (length (slice_split is_slash chars) == 8) && list_all chars_are_eight_wide (slice_split is_slash chars)
+ranks_fit_by_chars chars =
+    (length (slice_split is_slash chars) == 8) && list_all chars_are_eight_wide (slice_split is_slash chars)
 
 -- ---- letters
 abbrev pub is_letter : ℕ → Bool

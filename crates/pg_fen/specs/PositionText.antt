@@ -22,7 +22,8 @@ both_read (Ok b) (Ok d) = Ok (record { board = b; details = d })
 
 -- what the fields of a text say, or the first fault of the text
 unfoldable pub game_parts : List (List ℕ) → Result GameParts FenFault
-game_parts (placement ∷ side ∷ rights ∷ passed ∷ half ∷ full ∷ []) = both_read (read_placement placement) (details_of side rights passed half full)
+game_parts (placement ∷ side ∷ rights ∷ passed ∷ half ∷ full ∷ []) =
+    both_read (read_placement placement) (details_of side rights passed half full)
 game_parts _ = Err Fields
 
 -- the state and the game that a placement and details make
@@ -34,7 +35,9 @@ game_of g = record { position = state_of g; half = g.details.half; full = g.deta
 
 -- the game where its state is a position, else the first clause that it breaks
 abbrev pub IsGameOrBroken : GameParts → Result FenGame FenFault → Type 0
-IsGameOrBroken g result = MatchResult result (λ game. (game ≡ game_of g) × IsPosition (state_of g)) (λ e. (bad : BadPosition) × (e ≡ Invalid bad) × IsFirstBroken (state_of g) bad)
+IsGameOrBroken g result =
+    MatchResult result (λ game. (game ≡ game_of g) × IsPosition (state_of g))
+    (λ e. (bad : BadPosition) × (e ≡ Invalid bad) × IsFirstBroken (state_of g) bad)
 
 -- what reading answers: the first fault of the text, else as above
 abbrev pub IsGameRead : Result GameParts FenFault → Result FenGame FenFault → Type 0

@@ -24,7 +24,9 @@ any_right r = (r.white_king || r.white_queen) || (r.black_king || r.black_queen)
 
 -- the letters of the rights that are held, in the order KQkq
 abbrev pub right_letters : Rights → List ℕ
-right_letters r = right_text r.white_king (code "K") ++ (right_text r.white_queen (code "Q") ++ (right_text r.black_king (code "k") ++ right_text r.black_queen (code "q")))
+right_letters r =
+    right_text r.white_king (code "K") ++ (right_text r.white_queen (code "Q")
+    ++ (right_text r.black_king (code "k") ++ right_text r.black_queen (code "q")))
 
 -- these letters, and `-` for none
 abbrev pub rights_text : Rights → List ℕ
@@ -41,11 +43,22 @@ spaced field = code " " ∷ field
 
 -- the five fields behind the placement
 abbrev pub details_text : Details → List ℕ
-details_text d = spaced (side_text d.side) ++ (spaced (rights_text d.rights) ++ (spaced (passed_text d.passed) ++ (spaced (decimal d.half) ++ spaced (decimal d.full))))
+details_text d =
+    spaced (side_text d.side) ++ (spaced (rights_text d.rights) ++ (spaced (passed_text d.passed)
+    ++ (spaced (decimal d.half) ++ spaced (decimal d.full))))
 
 -- what a text has to say for a game
 abbrev pub parts_of_game : FenGame → GameParts
-parts_of_game g = record { board = g.position.board; details = record { side = g.position.side; rights = g.position.rights; passed = g.position.passed; half = g.half; full = g.full } }
+parts_of_game g = record {
+  board = g.position.board;
+  details = record {
+    side = g.position.side;
+    rights = g.position.rights;
+    passed = g.position.passed;
+    half = g.half;
+    full = g.full;
+  };
+}
 
 unfoldable pub position_text : FenGame → List ℕ
 position_text g = placement_text g.position.board ++ details_text (parts_of_game g).details

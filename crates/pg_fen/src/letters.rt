@@ -28,7 +28,7 @@ pub fn man_of(letter: u8) -> Option<Man>
     } else {
         Color::Black
     };
-    Some(Man { color, kind })
+    Some(Man::new(color, kind))
 }
 
 fn letter_of_kind(kind: Kind) -> u8

@@ -106,11 +106,7 @@ fn place(text: &[u8]) -> Board
 fn has_one_king(board: &Board, color: Color) -> bool
     ensures { result ≡ (count_of board.now (king_of color) == 1) }
 {
-    let king = Man {
-        color,
-        kind: Kind::King,
-    };
-    board.count(king) == 1
+    board.count(Man::new(color, Kind::King)) == 1
 }
 
 fn has_kings(board: &Board) -> bool

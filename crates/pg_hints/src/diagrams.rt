@@ -73,12 +73,7 @@ fn write_letter(placement: &str, hint: &mut Hint) -> fmt::Result {
 
 // Says how many kings each side has.
 fn write_kings(placement: &str, hint: &mut Hint) -> fmt::Result {
-    let letter = |color| {
-        char::from(letter_of(Man {
-            color,
-            kind: Kind::King,
-        }))
-    };
+    let letter = |color| char::from(letter_of(Man::new(color, Kind::King)));
     let white = placement.matches(letter(Color::White)).count();
     let black = placement.matches(letter(Color::Black)).count();
     write!(hint, "white has {white}, black {black}")

@@ -16,7 +16,7 @@ const NAMED: usize = 3;
 const SHOWN: usize = 24;
 
 // The word without a move number at its front, as a list is read.
-fn bare(word: &str) -> &str {
+fn without_move_number(word: &str) -> &str {
     let rest = word.trim_start_matches(|c: char| c.is_ascii_digit());
     let behind = rest.trim_start_matches('.');
     if rest.len() < word.len() && behind.len() < rest.len() {
@@ -31,7 +31,7 @@ fn word_at(line: &str, ply: usize) -> Option<(Position, &str)> {
     let mut position = Position::array();
     let mut at = 0usize;
     for word in line.split([' ', '\t']) {
-        let text = bare(word);
+        let text = without_move_number(word);
         if !text.is_empty() {
             at = at.saturating_add(1);
             if at == ply {

@@ -14,7 +14,7 @@ use Rattle.pg_position.specs.declared.rights.Wing.{Wing}
 use Rattle.pg_position.specs.declared.rights.Wing.TheVariants.{KingSide, QueenSide}
 use Rattle.pg_position.specs.declared.state.State.{State}
 use Rattle.pg_position.specs.declared.moves.Move.{Move}
-use Rattle.pg_position.specs.declared.moves.Way.TheVariants.{Castling}
+use Rattle.pg_position.specs.declared.moves.StepKind.TheVariants.{Castling}
 use Rattle.pg_position.specs.Geometry.{IsBetween}
 use Rattle.pg_position.specs.Attack.{IsClear, AttacksFrom, Attacks}
 use Rattle.pg_position.specs.Position.{Stands, HasOneKing, IsOnlyKing, InCheck, IsPosition, RightsClause, IsHome}

@@ -7,8 +7,8 @@ use Rattle.pg_board.specs.declared.man.Kind.TheVariants.{Pawn, Knight, Bishop, R
 use Rattle.pg_position.specs.declared.rights.Wing.TheVariants.{KingSide, QueenSide}
 use Rattle.pg_position.specs.declared.state.State.{State}
 use Rattle.pg_position.specs.declared.moves.Move.{Move}
-use Rattle.pg_position.specs.declared.moves.Way.{Way}
-use Rattle.pg_position.specs.declared.moves.Way.TheVariants.{Plain, Capture, DoubleAdvance, EnPassant, Promotion, Castling}
+use Rattle.pg_position.specs.declared.moves.StepKind.{StepKind}
+use Rattle.pg_position.specs.declared.moves.StepKind.TheVariants.{Plain, Capture, DoubleAdvance, EnPassant, Promotion, Castling}
 use Rattle.pg_board.specs.Placement.{Placement as Board, get}
 use Rattle.pg_board.specs.Squares.{file, rank}
 use Rattle.pg_board.specs.Men.{other, man}
@@ -21,10 +21,10 @@ use Rattle.pg_position.specs.Squares.{king_home, rook_home, ahead, home_rank, la
 
 -- 1 ways
 
-pub dec_ways : (P : Way → Type 0) → ((w : Way) → Dec (P w)) → Dec ((w : Way) × P w)
+pub dec_ways : (P : StepKind → Type 0) → ((w : StepKind) → Dec (P w)) → Dec ((w : StepKind) × P w)
 dec_ways P dec = dec_along out back (dec_or (dec Plain) (dec_or (dec Capture) (dec_or (dec DoubleAdvance) (dec_or (dec EnPassant) (dec_or (dec (Castling KingSide)) (dec_or (dec (Castling QueenSide)) (dec_kinds (λ x. P (Promotion x)) (λ x. dec (Promotion x)))))))))
   where
-    out : P Plain ⊎ (P Capture ⊎ (P DoubleAdvance ⊎ (P EnPassant ⊎ (P (Castling KingSide) ⊎ (P (Castling QueenSide) ⊎ ((x : Kind) × P (Promotion x))))))) → (w : Way) × P w
+    out : P Plain ⊎ (P Capture ⊎ (P DoubleAdvance ⊎ (P EnPassant ⊎ (P (Castling KingSide) ⊎ (P (Castling QueenSide) ⊎ ((x : Kind) × P (Promotion x))))))) → (w : StepKind) × P w
     out (inl h) = (Plain, h)
     out (inr (inl h)) = (Capture, h)
     out (inr (inr (inl h))) = (DoubleAdvance, h)
@@ -33,7 +33,7 @@ dec_ways P dec = dec_along out back (dec_or (dec Plain) (dec_or (dec Capture) (d
     out (inr (inr (inr (inr (inr (inl h)))))) = (Castling QueenSide, h)
     out (inr (inr (inr (inr (inr (inr h)))))) = (Promotion h.0, h.1)
 
-    back : ((w : Way) × P w) → P Plain ⊎ (P Capture ⊎ (P DoubleAdvance ⊎ (P EnPassant ⊎ (P (Castling KingSide) ⊎ (P (Castling QueenSide) ⊎ ((x : Kind) × P (Promotion x)))))))
+    back : ((w : StepKind) × P w) → P Plain ⊎ (P Capture ⊎ (P DoubleAdvance ⊎ (P EnPassant ⊎ (P (Castling KingSide) ⊎ (P (Castling QueenSide) ⊎ ((x : Kind) × P (Promotion x)))))))
     back (Plain, h) = inl h
     back (Capture, h) = inr (inl h)
     back (DoubleAdvance, h) = inr (inr (inl h))
@@ -111,7 +111,7 @@ dec_goes b c King r s = dec_reaches b c King r s
 dec_must : (k : Kind) (c : Color) (s : ℕ) → Dec (MustPromote k c s)
 dec_must k c s = dec_and (dec_kind k Pawn) (dec_equal (rank s) (last_rank c))
 
-pub dec_way : (p : State) (k : Kind) (m : Move) (w : Way) → Dec (IsWay p k m w)
+pub dec_way : (p : State) (k : Kind) (m : Move) (w : StepKind) → Dec (IsWay p k m w)
 dec_way p k m Plain = dec_along (λ h. record { unpromoted = h.0; stays = h.1; vacant = h.2; goes = h.3 }) (λ h. (h.unpromoted, h.stays, h.vacant, h.goes))
     (dec_and4 (dec_option dec_kind m.promotion None) (dec_not (dec_must k p.side m.to)) (dec_get p.board m.to None) (dec_goes p.board p.side k m.from m.to))
 dec_way p k m Capture = dec_along (λ h. record { unpromoted = h.0; stays = h.1; enemy = h.2; reaches = h.3 }) (λ h. (h.unpromoted, h.stays, h.enemy, h.reaches))
@@ -126,22 +126,22 @@ dec_way p k m (Castling w) = dec_along (λ h. record { unpromoted = h.0.0; king 
     (dec_and (dec_and4 (dec_option dec_kind m.promotion None) (dec_kind k King) (dec_equal m.from (king_home p.side)) (dec_equal m.to (king_target p.side w))) (dec_and5 (dec_true (holds p.rights p.side w)) (dec_clear p.board (king_home p.side) (rook_home p.side w)) (dec_not (dec_attacks p.board (other p.side) (king_home p.side))) (dec_not (dec_attacks p.board (other p.side) (king_crossed p.side w))) (dec_not (dec_attacks p.board (other p.side) (king_target p.side w)))))
 
 -- a legal move, in a form with no state to look for
-LegalBy : State → Move → Kind → Way → Type 0
+LegalBy : State → Move → Kind → StepKind → Type 0
 LegalBy p m k w = (IsOnBoard m × Stands p.board p.side k m.from) × (IsWay p k m w × ¬ InCheck (after p m w).board p.side)
 
-legal_out : (p : State) (m : Move) → ((k : Kind) × (w : Way) × LegalBy p m k w) → (q : State) × Legal p m q
+legal_out : (p : State) (m : Move) → ((k : Kind) × (w : StepKind) × LegalBy p m k w) → (q : State) × Legal p m q
 unfolding LegalBy Step
 legal_out p m (k, w, h) = (after p m w, ((k, w, h.0.0, h.0.1, h.1.0, refl), h.1.1))
 
-legal_back : (p : State) (m : Move) → ((q : State) × Legal p m q) → (k : Kind) × (w : Way) × LegalBy p m k w
+legal_back : (p : State) (m : Move) → ((q : State) × Legal p m q) → (k : Kind) × (w : StepKind) × LegalBy p m k w
 unfolding LegalBy Step
 legal_back p m (q, ((k, w, on, stands, way, e), safe)) = (k, w, ((on, stands), (way, subst (λ (x : State). ¬ InCheck x.board p.side) e safe)))
 
-dec_legal_by : (p : State) (m : Move) (k : Kind) (w : Way) → Dec (LegalBy p m k w)
+dec_legal_by : (p : State) (m : Move) (k : Kind) (w : StepKind) → Dec (LegalBy p m k w)
 unfolding LegalBy
 dec_legal_by p m k w = dec_and (dec_and (dec_and (dec_at_most (suc m.from) 64) (dec_at_most (suc m.to) 64)) (dec_get p.board m.from (Some (man p.side k)))) (dec_and (dec_way p k m w) (dec_not (dec_check (after p m w).board p.side)))
 
 -- for every state, position or not
 pub dec_legal : (p : State) (m : Move) → Dec ((q : State) × Legal p m q)
-dec_legal p m = dec_along (λ h. legal_out p m (h.0, h.1.0, h.1.1)) (λ h. let g : (k : Kind) × (w : Way) × LegalBy p m k w = legal_back p m h in (g.0, (g.1, g.2)))
-    (dec_kinds (λ k. (w : Way) × LegalBy p m k w) (λ k. dec_ways (λ w. LegalBy p m k w) (λ w. dec_legal_by p m k w)))
+dec_legal p m = dec_along (λ h. legal_out p m (h.0, h.1.0, h.1.1)) (λ h. let g : (k : Kind) × (w : StepKind) × LegalBy p m k w = legal_back p m h in (g.0, (g.1, g.2)))
+    (dec_kinds (λ k. (w : StepKind) × LegalBy p m k w) (λ k. dec_ways (λ w. LegalBy p m k w) (λ w. dec_legal_by p m k w)))

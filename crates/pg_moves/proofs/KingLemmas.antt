@@ -11,8 +11,8 @@ use Rattle.pg_board.specs.Men.{man, other}
 use Rattle.pg_board.specs.Placement.{Placement, get, without}
 use Rattle.pg_board.specs.lemmas.Placements.{get-write_same, get-write_other}
 use Rattle.pg_position.specs.declared.state.State.{State}
-use Rattle.pg_position.specs.declared.moves.Way.{Way}
-use Rattle.pg_position.specs.declared.moves.Way.TheVariants.{Plain, Capture, DoubleAdvance, EnPassant, Promotion, Castling}
+use Rattle.pg_position.specs.declared.moves.StepKind.{StepKind}
+use Rattle.pg_position.specs.declared.moves.StepKind.TheVariants.{Plain, Capture, DoubleAdvance, EnPassant, Promotion, Castling}
 use Rattle.pg_position.specs.Geometry.{apart, IsBetween, InPattern}
 use Rattle.pg_position.specs.Attack.{IsClear, Reaches, AttacksFrom, Attacks}
 use Rattle.pg_position.specs.Position.{Stands, HasOneKing, IsOnlyKing, InCheck, IsPosition}
@@ -89,7 +89,7 @@ module _ (p : State) (r s : ℕ) (pos : IsPosition p) (from : r < 64) (to : s < 
     | inr v ↦ (after p (plain_move r s) Capture, ((King, Capture, (from, to), here, record { unpromoted = refl; stays = λ m. king_no_pawn m.0; enemy = v; reaches = reach }, refl), no_check safe))
   ]
 
-  king_way : (k : Kind) (w : Way) → k ≡ King → IsWay p k (plain_move r s) w → (¬ IsOwn p.board p.side s) × (board_after p (plain_move r s) w ≡ relocated p.board r s)
+  king_way : (k : Kind) (w : StepKind) → k ≡ King → IsWay p k (plain_move r s) w → (¬ IsOwn p.board p.side s) × (board_after p (plain_move r s) w ≡ relocated p.board r s)
   unfolding IsOwn IsEnemy InPattern
   king_way k Plain e way = (λ o. none_some (sym way.vacant ∙ o.1), refl)
   king_way k Capture e way = (λ o. not_other p.side (same_side o.1 way.enemy.1), refl)

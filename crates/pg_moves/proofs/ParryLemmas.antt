@@ -14,8 +14,8 @@ use Rattle.pg_board.specs.SquareSets.{IsSetOf, Meet}
 use Rattle.pg_board.proofs.SetLemmas.{second, set_of_union, set_of_both}
 use Rattle.pg_position.specs.declared.state.State.{State}
 use Rattle.pg_position.specs.declared.moves.Move.{Move}
-use Rattle.pg_position.specs.declared.moves.Way.{Way}
-use Rattle.pg_position.specs.declared.moves.Way.TheVariants.{Plain, Capture, DoubleAdvance, EnPassant, Promotion, Castling}
+use Rattle.pg_position.specs.declared.moves.StepKind.{StepKind}
+use Rattle.pg_position.specs.declared.moves.StepKind.TheVariants.{Plain, Capture, DoubleAdvance, EnPassant, Promotion, Castling}
 use Rattle.pg_position.specs.Geometry.{InPattern, IsBetween}
 use Rattle.pg_position.specs.Attack.{IsClear, Reaches, AttacksFrom, Attacks}
 use Rattle.pg_position.specs.Position.{Stands, IsOnlyKing, InCheck}
@@ -116,12 +116,12 @@ stays_check b c r s h o king nr ns (x, low, (j, at, (pattern, clear)), off, out)
     (h, king.0, home, (x, low, (j, there, (pattern, open_line))))
 
 -- an advance, and the board after it: the man is gone from his square, and he, or what he became, stands on the other
-record Lands (p : State) (k : Kind) (m : Move) (w : Way) : Type 0 where
+record Lands (p : State) (k : Kind) (m : Move) (w : StepKind) : Type 0 where
   advance : Advances p.board p.side k m.from m.to
   there : Option Man
   board : board_after p m w ≡ write (without p.board m.from) m.to there
 
-lands : (p : State) (k : Kind) (m : Move) (w : Way) → k ≢ King → IsWay p k m w → Lands p k m w ⊎ ((k ≡ Pawn) × CapturesEnPassant p m.from m.to)
+lands : (p : State) (k : Kind) (m : Move) (w : StepKind) → k ≢ King → IsWay p k m w → Lands p k m w ⊎ ((k ≡ Pawn) × CapturesEnPassant p m.from m.to)
 unfolding Advances Strides Leaps CapturesEnPassant
 lands p k m Plain n h = inl (record { advance = inl (inl (h.vacant, h.goes)); there = get p.board m.from; board = refl })
 lands p k m Capture n h = inl (record { advance = inl (inr (h.enemy, h.reaches)); there = get p.board m.from; board = refl })
@@ -132,7 +132,7 @@ lands p k m (Castling w) n h = absurd (n h.king)
 
 module _ (p : State) (k : Kind) (r : ℕ) (here : Stands p.board p.side k r) (no_king : k ≢ King) (z : ℕ) (vain : (s : ℕ) → s < 64 → has z s ≡ false → IsInVain p r s) where
   -- an advance off the set leaves its king attacked
-  unsafe_off : (m : Move) (w : Way) → Lands p k m w → m.from ≡ r → IsInVain p r m.to → InCheck (board_after p m w) p.side
+  unsafe_off : (m : Move) (w : StepKind) → Lands p k m w → m.from ≡ r → IsInVain p r m.to → InCheck (board_after p m w) p.side
   unfolding IsInVain IsOnlyKing
   unsafe_off m w l f (h, king, stay) =
       let at : Stands p.board p.side King h = king.1 in

@@ -10,8 +10,8 @@ use Rattle.pg_board.specs.declared.man.Color.{Color}
 use Rattle.pg_board.specs.declared.man.Color.TheVariants.{White, Black}
 use Rattle.pg_board.specs.declared.man.Kind.{Kind}
 use Rattle.pg_board.specs.declared.man.Kind.TheVariants.{Pawn, Knight, Bishop, Rook, Queen, King}
-use Rattle.pg_position.specs.declared.moves.Way.{Way}
-use Rattle.pg_position.specs.declared.moves.Way.TheVariants.{Plain, Capture, DoubleAdvance, EnPassant, Promotion, Castling}
+use Rattle.pg_position.specs.declared.moves.StepKind.{StepKind}
+use Rattle.pg_position.specs.declared.moves.StepKind.TheVariants.{Plain, Capture, DoubleAdvance, EnPassant, Promotion, Castling}
 use Rattle.pg_board.specs.Squares.{rank}
 use Rattle.pg_board.specs.declared.man.Man.{Man}
 use Rattle.pg_board.specs.Bits.{has}
@@ -136,7 +136,7 @@ pub promotes : (p : State) (m : Move) → IsLegal p m → (m.promotion ≡ None)
 unfolding Step
 promotes p m (q, ((k, w, on, stands, way, e), safe)) = go w way
   where
-    go : (v : Way) → IsWay p k m v → (m.promotion ≡ None) ⊎ (Stands p.board p.side Pawn m.from × (rank m.to ≡ last_rank p.side))
+    go : (v : StepKind) → IsWay p k m v → (m.promotion ≡ None) ⊎ (Stands p.board p.side Pawn m.from × (rank m.to ≡ last_rank p.side))
     go Plain h = inl h.unpromoted
     go Capture h = inl h.unpromoted
     go DoubleAdvance h = inl h.unpromoted
@@ -161,7 +161,7 @@ piece_number Queen h = (omega arith, omega arith)
 piece_number King h = absurd (h.1 refl)
 
 -- a pawn that comes to its last rank becomes a piece
-promoted : (p : State) (k : Kind) (m : Move) (w : Way) → IsPosition p → IsWay p k m w → MustPromote k p.side m.to → (2 ≤ promotion_number m.promotion) × (promotion_number m.promotion < 6)
+promoted : (p : State) (k : Kind) (m : Move) (w : StepKind) → IsPosition p → IsWay p k m w → MustPromote k p.side m.to → (2 ≤ promotion_number m.promotion) × (promotion_number m.promotion < 6)
 unfolding IsPassed
 promoted p k m Plain pos h must = absurd (h.stays must)
 promoted p k m Capture pos h must = absurd (h.stays must)

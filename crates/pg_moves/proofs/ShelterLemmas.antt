@@ -9,8 +9,8 @@ use Rattle.pg_board.specs.Men.{man, other}
 use Rattle.pg_board.specs.Placement.{Placement, get, without}
 use Rattle.pg_board.specs.lemmas.Placements.{get-write_same, get-write_other}
 use Rattle.pg_position.specs.declared.state.State.{State}
-use Rattle.pg_position.specs.declared.moves.Way.{Way}
-use Rattle.pg_position.specs.declared.moves.Way.TheVariants.{Plain, Capture, DoubleAdvance}
+use Rattle.pg_position.specs.declared.moves.StepKind.{StepKind}
+use Rattle.pg_position.specs.declared.moves.StepKind.TheVariants.{Plain, Capture, DoubleAdvance}
 use Rattle.pg_position.specs.Geometry.{IsBetween}
 use Rattle.pg_position.specs.Attack.{IsClear, Reaches, AttacksFrom, Attacks}
 use Rattle.pg_position.specs.Position.{Stands, IsOnlyKing, InCheck}
@@ -95,7 +95,7 @@ not_here : (b : Placement) (c : Color) (k : Kind) (r s : ℕ) → Stands b c k r
 not_here b c k r s here off e = off k (subst (λ x. Stands b c k x) e here)
 
 -- the case of an advance
-advance_way : (p : State) (k : Kind) (r s : ℕ) → Advances p.board p.side k r s → ¬ MustPromote k p.side s → (w : Way) × IsWay p k (plain_move r s) w × ((after p (plain_move r s) w).board ≡ relocated p.board r s)
+advance_way : (p : State) (k : Kind) (r s : ℕ) → Advances p.board p.side k r s → ¬ MustPromote k p.side s → (w : StepKind) × IsWay p k (plain_move r s) w × ((after p (plain_move r s) w).board ≡ relocated p.board r s)
 unfolding Advances Strides Leaps
 advance_way p k r s (inl (inl h)) stays = (Plain, record { unpromoted = refl; stays = stays; vacant = h.0; goes = h.1 }, refl)
 advance_way p k r s (inl (inr h)) stays = (Capture, record { unpromoted = refl; stays = stays; enemy = h.0; reaches = h.1 }, refl)
@@ -106,7 +106,7 @@ module _ (p : State) (k : Kind) (r h : ℕ) (low : r < 64) (here : Stands p.boar
   pub sure_legal : (s : ℕ) → s < 64 → Advances p.board p.side k r s → ¬ MustPromote k p.side s → IsLegal p (plain_move r s)
   unfolding Step
   sure_legal s to a stays =
-      let w : (w : Way) × IsWay p k (plain_move r s) w × ((after p (plain_move r s) w).board ≡ relocated p.board r s) = advance_way p k r s a stays in
+      let w : (w : StepKind) × IsWay p k (plain_move r s) w × ((after p (plain_move r s) w).board ≡ relocated p.board r s) = advance_way p k r s a stays in
       let ne : r ≢ s = not_here p.board p.side k r s here (advance_off p.board p.side k r s a) in
       let clean : ¬ InCheck (relocated p.board r s) p.side = no_check p.board (relocated p.board r s) p.side k r s h low (gone_plain p.board p.side k r s low to ne here) no_king king lifted in
       (after p (plain_move r s) w.0, ((k, w.0, (low, to), here, w.1, refl), subst (λ (b : Placement). ¬ InCheck b p.side) (sym w.2) clean))

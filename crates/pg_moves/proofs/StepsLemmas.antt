@@ -11,8 +11,8 @@ use Rattle.pg_board.specs.lemmas.Placements.{get_on}
 use Rattle.pg_position.specs.declared.rights.Wing.{Wing}
 use Rattle.pg_position.specs.declared.state.State.{State}
 use Rattle.pg_position.specs.declared.moves.Move.{Move}
-use Rattle.pg_position.specs.declared.moves.Way.{Way}
-use Rattle.pg_position.specs.declared.moves.Way.TheVariants.{Plain, Capture, DoubleAdvance, EnPassant, Promotion, Castling}
+use Rattle.pg_position.specs.declared.moves.StepKind.{StepKind}
+use Rattle.pg_position.specs.declared.moves.StepKind.TheVariants.{Plain, Capture, DoubleAdvance, EnPassant, Promotion, Castling}
 use Rattle.pg_position.specs.Attack.{Reaches, Attacks}
 use Rattle.pg_board.specs.SquareSets.{IsSetOf, IsFirstFrom, HasNoneFrom}
 use Rattle.pg_position.specs.Position.{Stands, IsPosition, IsHome, HasOneKing, IsOnlyKing, RightsClause}
@@ -52,7 +52,7 @@ module _ (p : State) (r s steps : ℕ) (pos : IsPosition p) (from : r < 64) (to 
   unfolding Step Advances Strides
   far_castles far (q, ((k, v, _, stands, way, e), _)) = go v (subst (λ (x : Kind). IsWay p x (plain_move r s) v) (same_kind stands here) way)
     where
-      go : (v : Way) → IsWay p King (plain_move r s) v → (w : Wing) × IsCastling p King (plain_move r s) w
+      go : (v : StepKind) → IsWay p King (plain_move r s) v → (w : Wing) × IsCastling p King (plain_move r s) w
       go Plain h = absurd (far (inl (inl (h.vacant, h.goes))))
       go Capture h = absurd (far (inl (inr (h.enemy, h.reaches))))
       go DoubleAdvance h = absurd (king_no_pawn h.pawn)

@@ -1,21 +1,21 @@
 -- The sets of squares to which men may go.
 use Rattle.std.proofs.Common.{◌≡◌, ◌≢◌, ℕ, ◌<◌, ◌⊎◌, inl, inr, ◌↔◌, ◌&&◌, ◌||◌, not, Option, Some, None, refl, sym, ap, ◌∙◌, subst, arith}
 use Rattle.std.specs.Bool.{Decides}
-use Rattle.std.proofs.lemmas.Bool.Decides.{Decides-like, Decides-at}
+use Rattle.std.proofs.lemmas.Bool.Decides.{Decides-at}
 use Rattle.pg_board.specs.declared.man.Color.{Color}
 use Rattle.pg_board.specs.declared.man.Color.TheVariants.{White, Black}
 use Rattle.pg_board.specs.declared.man.Kind.{Kind}
 use Rattle.pg_board.specs.declared.man.Kind.TheVariants.{Pawn, Knight, Bishop, Rook, Queen, King}
 use Rattle.pg_board.specs.declared.man.Man.{Man}
 use Rattle.pg_board.specs.Squares.{file, rank}
-use Rattle.pg_board.specs.Men.{man, other, color_eq, is_of, is_held}
-use Rattle.pg_board.specs.lemmas.Equalities.{color_decides}
+use Rattle.pg_board.specs.Men.{man, other, is_of, is_held}
+use Rattle.pg_board.specs.lemmas.Equalities.{of_decides}
 use Rattle.pg_board.specs.Placement.{Placement, get}
 use Rattle.pg_board.specs.Bits.{has}
 use Rattle.pg_position.specs.declared.state.State.{State}
 use Rattle.pg_position.specs.declared.moves.Move.{Move}
-use Rattle.pg_position.specs.declared.moves.Way.{Way}
-use Rattle.pg_position.specs.declared.moves.Way.TheVariants.{Plain, Capture, DoubleAdvance, EnPassant, Promotion, Castling}
+use Rattle.pg_position.specs.declared.moves.StepKind.{StepKind}
+use Rattle.pg_position.specs.declared.moves.StepKind.TheVariants.{Plain, Capture, DoubleAdvance, EnPassant, Promotion, Castling}
 use Rattle.pg_position.specs.Geometry.{IsForward, InPattern}
 use Rattle.pg_position.specs.Attack.{IsClear, Reaches}
 use Rattle.pg_board.specs.SquareSets.{IsSetOf}
@@ -28,13 +28,6 @@ use Rattle.pg_board.proofs.SetLemmas.{set_like, set_of_union, set_of_both, set_o
 use Rattle.pg_moves.specs.Targets.{IsOwn, Strides, Leaps, Advances, CapturesEnPassant}
 
 -- ---- what stands on a square
-of_decides : (c : Color) (o : Option Man) → Decides (is_of c o) ((k : Kind) × (o ≡ Some (man c k)))
-of_decides c None = (λ e. absurd (cc), λ h. let e : None ≡ Some (man c h.0) = h.1 in absurd (cc))
-of_decides c (Some m) = Decides-like (color_eq m.color c)
-    (λ e. (m.kind, λ i. Some (record { color = e i; kind = m.kind })))
-    (λ h. let e : m ≡ man c h.0 = (let f : Some m ≡ Some (man c h.0) = h.1 in cc) in ap (λ (x : Man). x.color) e)
-    (color_decides m.color c)
-
 held_decides : (o : Option Man) → Decides (is_held o) (o ≢ None)
 held_decides None = (λ e. absurd (cc), λ h. absurd (h refl))
 held_decides (Some m) = (λ _ e. cc, λ _. refl)
@@ -153,7 +146,7 @@ en_passant_none p r e = set_none (λ q _ t. let a : p.passed ≡ Some q = t.0 in
 unfoldable pub Goals : State → Kind → ℕ → ℕ → Type 0
 Goals p k r s = Advances p.board p.side k r s ⊎ (((k ≡ Pawn) × CapturesEnPassant p r s) ⊎ (k ≡ King))
 
-goals : (p : State) (k : Kind) (m : Move) (w : Way) → IsWay p k m w → Goals p k m.from m.to
+goals : (p : State) (k : Kind) (m : Move) (w : StepKind) → IsWay p k m w → Goals p k m.from m.to
 unfolding Goals Advances Strides Leaps CapturesEnPassant
 goals p k m Plain h = inl (inl (inl (h.vacant, h.goes)))
 goals p k m Capture h = inl (inl (inr (h.enemy, h.reaches)))

@@ -26,7 +26,8 @@ pub record IsFollowed (p : State) (k : ℕ) (m : Move) (after : State) (n : ℕ)
   pub legal : Legal p m after
   pub games : IsGameCount after k n
 
--- why games are not counted: more than 8 plies, more games than 64 bits hold, or, where two plies or more are asked for, no memory
+-- why games are not counted: more than 8 plies, more games than 64 bits hold, or, where two plies or more are asked
+-- for, no memory
 abbrev pub IsCountFault : State → ℕ → CountFault → Type 0
 IsCountFault p k TooDeep = 8 < k
 IsCountFault p k Overflow = (k ≤ 8) × ((n : ℕ) × IsGameCount p k n × (2 ^ 64 ≤ n))

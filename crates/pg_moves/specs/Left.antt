@@ -17,7 +17,9 @@ pub record MovesLeft : Type 0 where
   pub last : Option Move
 
 abbrev pub moves_left_code : Coded MovesLeft
-moves_left_code = code_by (State × Option Move) (coded× state_row.coded (coded_option move_row.coded)) (λ a. (a.position, a.last)) (λ q. record { position = q.0; last = q.1 }) (λ _. refl)
+moves_left_code =
+    code_by (State × Option Move) (coded× state_row.coded (coded_option move_row.coded))
+    (λ a. (a.position, a.last)) (λ q. record { position = q.0; last = q.1 }) (λ _. refl)
 
 -- the first legal move from a place on, and its man
 pub record IsFound (p : State) (low : ℕ) (m : Move) (s : Source) : Type 0 where

@@ -51,7 +51,9 @@ plain_move r s = record { from = r; to = s; promotion = None }
 
 -- the man on r is no king, and each of its advances that is no promotion is legal
 unfoldable pub IsFree : State → Kind → ℕ → Type 0
-IsFree p k r = (k ≢ King) × ((s : ℕ) → s < 64 → Advances p.board p.side k r s → ¬ MustPromote k p.side s → IsLegal p (plain_move r s))
+IsFree p k r =
+    (k ≢ King)
+    × ((s : ℕ) → s < 64 → Advances p.board p.side k r s → ¬ MustPromote k p.side s → IsLegal p (plain_move r s))
 
 -- each man of the side to move that stands off the set is free
 unfoldable pub FreeOff : State → ℕ → Type 0
@@ -59,4 +61,6 @@ FreeOff p set = (k : Kind) (r : ℕ) → r < 64 → Stands p.board p.side k r �
 
 -- the man on r has neither a promotion nor a capture en passant
 unfoldable pub IsOrdinary : State → Kind → ℕ → Type 0
-IsOrdinary p k r = (s : ℕ) → s < 64 → (Advances p.board p.side k r s → ¬ MustPromote k p.side s) × (k ≡ Pawn → ¬ CapturesEnPassant p r s)
+IsOrdinary p k r =
+    (s : ℕ) → s < 64 →
+    (Advances p.board p.side k r s → ¬ MustPromote k p.side s) × (k ≡ Pawn → ¬ CapturesEnPassant p r s)

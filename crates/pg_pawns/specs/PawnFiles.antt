@@ -1,5 +1,5 @@
--- The pawn-files test. A pawn changes its file by a capture alone, one file at a time. d is the diagram's placement, b a
--- position's.
+-- The pawn-files test. A pawn changes its file by a capture alone, one file at a time. d is the diagram's placement,
+-- b a position's.
 use Rattle.std.specs.Prelude.{ℕ, ◌+◌, ◌-◌, Bool, ◌&&◌, not, nat_le, pos, ◌<ℤ◌}
 use Rattle.pg_board.specs.declared.man.Color.{Color}
 use Rattle.pg_board.specs.declared.man.Kind.{Kind}
@@ -19,7 +19,9 @@ pawn_right n s k = is_pawn k && not (nat_le (file s) n)
 
 -- how many pawns are short left and right of the line after the file n + 1
 unfoldable pub line_need : Placement → Placement → Color → ℕ → ℕ
-line_need d b c n = (men c (pawn_left (n + 1)) d - men c (pawn_left (n + 1)) b) + (men c (pawn_right (n + 1)) d - men c (pawn_right (n + 1)) b)
+line_need d b c n =
+    (men c (pawn_left (n + 1)) d - men c (pawn_left (n + 1)) b)
+    + (men c (pawn_right (n + 1)) d - men c (pawn_right (n + 1)) b)
 
 -- the same of the seven lines between neighbouring files: so many file changes are needed
 unfoldable pub shift : Placement → Placement → Color → ℕ

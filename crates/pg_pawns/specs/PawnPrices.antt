@@ -18,9 +18,13 @@ IsShift c s t n = (apart (file s) (file t) ≡ n) × ((ranks : ℕ) × IsForward
 
 -- the list fits: no target pays more than any source that has a cost to it, and that cost
 unfoldable pub PawnPricesFit : Placement → Placement → Color → PriceList → Type 0
-PawnPricesFit d b c l = (s t n : ℕ) → s < 64 → t < 64 → Stands b c Pawn s → Stands d c Pawn t → IsShift c s t n → price l.v c any_pawn d t ≤ price l.u c any_pawn b s + n
+PawnPricesFit d b c l =
+    (s t n : ℕ) → s < 64 → t < 64 → Stands b c Pawn s → Stands d c Pawn t → IsShift c s t n →
+    price l.v c any_pawn d t ≤ price l.u c any_pawn b s + n
 
--- The list excludes: it has a number for each pawn, it fits, and its value, the sum of v less the sum of u, is above the
--- captures that the colour owes.
+-- The list excludes: it has a number for each pawn, it fits, and its value, the sum of v less the sum of u, is above
+-- the captures that the colour owes.
 unfoldable pub PawnPricesExclude : Placement → State → Color → PriceList → Type 0
-PawnPricesExclude d p c l = IsFor l c any_pawn p.board d × PawnPricesFit d p.board c l × (owed d p.board c <ℤ (pos (sum l.v) -ℤ pos (sum l.u)))
+PawnPricesExclude d p c l =
+    IsFor l c any_pawn p.board d × PawnPricesFit d p.board c l
+    × (owed d p.board c <ℤ (pos (sum l.v) -ℤ pos (sum l.u)))

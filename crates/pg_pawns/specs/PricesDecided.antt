@@ -44,10 +44,12 @@ dec_pawn_prices d p c l = dec_along (λ h. ((h.0, h.1.0), h.1.1.0, h.1.1.1)) (λ
 unfoldable pub pawn_prices_test : Placement → State → Color → PriceList → Bool
 pawn_prices_test d p c l = answer (dec_pawn_prices d p c l)
 
-pub pawn_prices_test_tells : (d : Placement) (p : State) (c : Color) (l : PriceList) → pawn_prices_test d p c l ≡ true ↔ PawnPricesExclude d p c l
+pub pawn_prices_test_tells : (d : Placement) (p : State) (c : Color) (l : PriceList) →
+    pawn_prices_test d p c l ≡ true ↔ PawnPricesExclude d p c l
 unfolding pawn_prices_test
 pawn_prices_test_tells d p c l = answer_tells (dec_pawn_prices d p c l)
 
-pub pawn_prices_test_is : (d : Placement) (p : State) (c : Color) (l : PriceList) (b : Bool) → IsTrue b ↔ PawnPricesExclude d p c l → b ≡ pawn_prices_test d p c l
+pub pawn_prices_test_is : (d : Placement) (p : State) (c : Color) (l : PriceList) (b : Bool) →
+    IsTrue b ↔ PawnPricesExclude d p c l → b ≡ pawn_prices_test d p c l
 unfolding pawn_prices_test
 pawn_prices_test_is d p c l b h = answer_is b h (dec_pawn_prices d p c l)

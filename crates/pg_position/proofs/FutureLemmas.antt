@@ -4,8 +4,8 @@ use Rattle.pg_board.specs.declared.man.Kind.{Kind}
 use Rattle.pg_board.specs.declared.man.Kind.TheVariants.{Pawn}
 use Rattle.pg_position.specs.declared.state.State.{State}
 use Rattle.pg_position.specs.declared.moves.Move.{Move}
-use Rattle.pg_position.specs.declared.moves.Way.{Way}
-use Rattle.pg_position.specs.declared.moves.Way.TheVariants.{Plain, Capture, DoubleAdvance, EnPassant, Promotion, Castling}
+use Rattle.pg_position.specs.declared.moves.StepKind.{StepKind}
+use Rattle.pg_position.specs.declared.moves.StepKind.TheVariants.{Plain, Capture, DoubleAdvance, EnPassant, Promotion, Castling}
 use Rattle.pg_position.specs.Position.{parts, Stands, IsPosition}
 use Rattle.pg_position.specs.Step.{IsWay, after, Step, Legal}
 use Rattle.pg_position.specs.Game.{IsGame}
@@ -27,7 +27,7 @@ same_passing : (p q : State) (o : Option ℕ) (s : ℕ) → IsEffective p o → 
 same_passing p q None s h k e a = absurd (h s e a)
 same_passing p q (Some t) s h k e a = k.0 ∙ sym h.0 ∙ e
 
-way_moved : (p : State) (e : Option ℕ) (k : Kind) (m : Move) (w : Way) → Stands p.board p.side k m.from → m.from < 64 → ((s : ℕ) → p.passed ≡ Some s → IsPawnAttacked p s → e ≡ Some s) → IsWay p k m w → IsWay (passing p e) k m w
+way_moved : (p : State) (e : Option ℕ) (k : Kind) (m : Move) (w : StepKind) → Stands p.board p.side k m.from → m.from < 64 → ((s : ℕ) → p.passed ≡ Some s → IsPawnAttacked p s → e ≡ Some s) → IsWay p k m w → IsWay (passing p e) k m w
 unfolding IsPawnAttacked IsClear
 way_moved p e k m Plain st low f h = record { unpromoted = h.unpromoted; stays = h.stays; vacant = h.vacant; goes = h.goes }
 way_moved p e k m Capture st low f h = record { unpromoted = h.unpromoted; stays = h.stays; enemy = h.enemy; reaches = h.reaches }
@@ -38,7 +38,7 @@ way_moved p e k m EnPassant st low f h =
 way_moved p e k m (Promotion x) st low f h = record { promoted = h.promoted; piece = h.piece; must = h.must; moves = h.moves }
 way_moved p e k m (Castling w) st low f h = record { unpromoted = h.unpromoted; king = h.king; home = h.home; target = h.target; right = h.right; clear = h.clear; safe_home = h.safe_home; safe_crossed = h.safe_crossed; safe_target = h.safe_target }
 
-after_moved : (p : State) (e : Option ℕ) (m : Move) (w : Way) → after p m w ≡ after (passing p e) m w
+after_moved : (p : State) (e : Option ℕ) (m : Move) (w : StepKind) → after p m w ≡ after (passing p e) m w
 after_moved p e m Plain = refl
 after_moved p e m Capture = refl
 after_moved p e m DoubleAdvance = refl

@@ -12,8 +12,8 @@ use Rattle.pg_position.specs.declared.rights.Wing.{Wing}
 use Rattle.pg_position.specs.declared.rights.Wing.TheVariants.{KingSide, QueenSide}
 use Rattle.pg_position.specs.declared.state.State.{State}
 use Rattle.pg_position.specs.declared.moves.Move.{Move}
-use Rattle.pg_position.specs.declared.moves.Way.{Way}
-use Rattle.pg_position.specs.declared.moves.Way.TheVariants.{Plain, Capture, DoubleAdvance, EnPassant, Promotion, Castling}
+use Rattle.pg_position.specs.declared.moves.StepKind.{StepKind}
+use Rattle.pg_position.specs.declared.moves.StepKind.TheVariants.{Plain, Capture, DoubleAdvance, EnPassant, Promotion, Castling}
 use Rattle.pg_position.specs.declared.refusals.Illegal.{Illegal}
 use Rattle.pg_position.specs.Geometry.{apart, IsForward, InPattern}
 use Rattle.pg_position.specs.Position.{IsVacant, IsPassed, IsPosition}
@@ -25,7 +25,7 @@ use Rattle.pg_position.proofs.ValidLemmas.{step_valid}
 pub not_so : {A : Type 0} (b : Bool) → IsTrue b ↔ A → b ≡ false → ¬ A
 not_so b h e = λ a. let t : b ≡ true = h.1 a in cc
 
-pub promoted_way : (p : State) (k : Kind) (m : Move) (x : Kind) → m.promotion ≡ Some x → ((w : Way) × IsWay p k m w) → IsWay p k m (Promotion x)
+pub promoted_way : (p : State) (k : Kind) (m : Move) (x : Kind) → m.promotion ≡ Some x → ((w : StepKind) × IsWay p k m w) → IsWay p k m (Promotion x)
 promoted_way p k m x e (Plain, h) = promoted_not p m x e h.unpromoted
 promoted_way p k m x e (Capture, h) = promoted_not p m x e h.unpromoted
 promoted_way p k m x e (DoubleAdvance, h) = promoted_not p m x e h.unpromoted
@@ -33,7 +33,7 @@ promoted_way p k m x e (EnPassant, h) = promoted_not p m x e h.unpromoted
 promoted_way p k m x e (Castling v, h) = promoted_not p m x e h.unpromoted
 promoted_way p k m x e (Promotion y, h) = let a : m.promotion ≡ Some y = h.promoted in let same : y ≡ x = cc in subst (λ (z : Kind). IsPromotion p k m z) same h
 
-pub piece_plain : (p : State) (k : Kind) (m : Move) → k ≢ Pawn → k ≢ King → m.promotion ≡ None → IsVacant p.board m.to → ((w : Way) × IsWay p k m w) → IsWay p k m Plain
+pub piece_plain : (p : State) (k : Kind) (m : Move) → k ≢ Pawn → k ≢ King → m.promotion ≡ None → IsVacant p.board m.to → ((w : StepKind) × IsWay p k m w) → IsWay p k m Plain
 piece_plain p k m a b n v (Plain, h) = h
 piece_plain p k m a b n v (Capture, h) = absurd (not_both p m.to v h.enemy)
 piece_plain p k m a b n v (DoubleAdvance, h) = absurd (a h.pawn)
@@ -41,7 +41,7 @@ piece_plain p k m a b n v (EnPassant, h) = absurd (a h.pawn)
 piece_plain p k m a b n v (Castling u, h) = absurd (b h.king)
 piece_plain p k m a b n v (Promotion y, h) = promoted_not p m y h.promoted n
 
-pub piece_capture : (p : State) (k : Kind) (m : Move) → k ≢ Pawn → k ≢ King → m.promotion ≡ None → ¬ IsVacant p.board m.to → ((w : Way) × IsWay p k m w) → IsWay p k m Capture
+pub piece_capture : (p : State) (k : Kind) (m : Move) → k ≢ Pawn → k ≢ King → m.promotion ≡ None → ¬ IsVacant p.board m.to → ((w : StepKind) × IsWay p k m w) → IsWay p k m Capture
 piece_capture p k m a b n v (Plain, h) = absurd (v h.vacant)
 piece_capture p k m a b n v (Capture, h) = h
 piece_capture p k m a b n v (DoubleAdvance, h) = absurd (a h.pawn)
@@ -59,7 +59,7 @@ pawn_king e = absurd (cc)
 abbrev pub GoesCastling : State → Move → Wing → Type 0
 GoesCastling p m w = (m.from ≡ king_home p.side) × (m.to ≡ king_target p.side w)
 
-pub king_castles : (p : State) (m : Move) (w : Wing) → m.promotion ≡ None → GoesCastling p m w → ((v : Way) × IsWay p King m v) → IsWay p King m (Castling w)
+pub king_castles : (p : State) (m : Move) (w : Wing) → m.promotion ≡ None → GoesCastling p m w → ((v : StepKind) × IsWay p King m v) → IsWay p King m (Castling w)
 unfolding Goes InPattern
 king_castles p m w n at (Plain, h) = absurd (two_files p.side w m.from m.to at.0 at.1 h.goes.0.1)
 king_castles p m w n at (Capture, h) = absurd (two_files p.side w m.from m.to at.0 at.1 h.reaches.0.1)
@@ -75,7 +75,7 @@ not_castling : {A : Type 0} (p : State) (m : Move) (w : Wing) → ¬ GoesCastlin
 not_castling p m KingSide a b h = absurd (a (h.home, h.target))
 not_castling p m QueenSide a b h = absurd (b (h.home, h.target))
 
-pub king_plain : (p : State) (m : Move) → m.promotion ≡ None → ¬ GoesCastling p m KingSide → ¬ GoesCastling p m QueenSide → IsVacant p.board m.to → ((v : Way) × IsWay p King m v) → IsWay p King m Plain
+pub king_plain : (p : State) (m : Move) → m.promotion ≡ None → ¬ GoesCastling p m KingSide → ¬ GoesCastling p m QueenSide → IsVacant p.board m.to → ((v : StepKind) × IsWay p King m v) → IsWay p King m Plain
 king_plain p m n a b v (Plain, h) = h
 king_plain p m n a b v (Capture, h) = absurd (not_both p m.to v h.enemy)
 king_plain p m n a b v (DoubleAdvance, h) = king_pawn h.pawn
@@ -83,7 +83,7 @@ king_plain p m n a b v (EnPassant, h) = king_pawn h.pawn
 king_plain p m n a b v (Castling w, h) = not_castling p m w a b h
 king_plain p m n a b v (Promotion y, h) = promoted_not p m y h.promoted n
 
-pub king_capture : (p : State) (m : Move) → m.promotion ≡ None → ¬ GoesCastling p m KingSide → ¬ GoesCastling p m QueenSide → ¬ IsVacant p.board m.to → ((v : Way) × IsWay p King m v) → IsWay p King m Capture
+pub king_capture : (p : State) (m : Move) → m.promotion ≡ None → ¬ GoesCastling p m KingSide → ¬ GoesCastling p m QueenSide → ¬ IsVacant p.board m.to → ((v : StepKind) × IsWay p King m v) → IsWay p King m Capture
 king_capture p m n a b v (Plain, h) = absurd (v h.vacant)
 king_capture p m n a b v (Capture, h) = h
 king_capture p m n a b v (DoubleAdvance, h) = king_pawn h.pawn
@@ -110,7 +110,7 @@ two_file Black r s e h = omega arith
 off_file : (r s : ℕ) → file r ≡ file s → apart (file r) (file s) ≡ 1 → ⊥
 off_file r s e a = omega arith
 
-pub pawn_double : (p : State) (m : Move) → m.promotion ≡ None → file m.from ≡ file m.to → TwoRanks m → ((v : Way) × IsWay p Pawn m v) → IsWay p Pawn m DoubleAdvance
+pub pawn_double : (p : State) (m : Move) → m.promotion ≡ None → file m.from ≡ file m.to → TwoRanks m → ((v : StepKind) × IsWay p Pawn m v) → IsWay p Pawn m DoubleAdvance
 unfolding Goes InPattern
 pawn_double p m n f t (Plain, h) = absurd (one_rank p.side m.from m.to h.goes.1 t)
 pawn_double p m n f t (Capture, h) = absurd (off_file m.from m.to f h.reaches.0.0)
@@ -119,7 +119,7 @@ pawn_double p m n f t (EnPassant, h) = absurd (off_file m.from m.to f h.reaches.
 pawn_double p m n f t (Castling w, h) = pawn_king h.king
 pawn_double p m n f t (Promotion y, h) = promoted_not p m y h.promoted n
 
-pub pawn_plain : (p : State) (m : Move) → m.promotion ≡ None → file m.from ≡ file m.to → ¬ TwoRanks m → ((v : Way) × IsWay p Pawn m v) → IsWay p Pawn m Plain
+pub pawn_plain : (p : State) (m : Move) → m.promotion ≡ None → file m.from ≡ file m.to → ¬ TwoRanks m → ((v : StepKind) × IsWay p Pawn m v) → IsWay p Pawn m Plain
 unfolding InPattern
 pawn_plain p m n f t (Plain, h) = h
 pawn_plain p m n f t (Capture, h) = absurd (off_file m.from m.to f h.reaches.0.0)
@@ -128,7 +128,7 @@ pawn_plain p m n f t (EnPassant, h) = absurd (off_file m.from m.to f h.reaches.0
 pawn_plain p m n f t (Castling w, h) = pawn_king h.king
 pawn_plain p m n f t (Promotion y, h) = promoted_not p m y h.promoted n
 
-pub pawn_passing : (p : State) (m : Move) → m.promotion ≡ None → ¬ (file m.from ≡ file m.to) → IsVacant p.board m.to → ((v : Way) × IsWay p Pawn m v) → IsWay p Pawn m EnPassant
+pub pawn_passing : (p : State) (m : Move) → m.promotion ≡ None → ¬ (file m.from ≡ file m.to) → IsVacant p.board m.to → ((v : StepKind) × IsWay p Pawn m v) → IsWay p Pawn m EnPassant
 unfolding Goes
 pawn_passing p m n f v (Plain, h) = absurd (f h.goes.0)
 pawn_passing p m n f v (Capture, h) = absurd (not_both p m.to v h.enemy)
@@ -137,7 +137,7 @@ pawn_passing p m n f v (EnPassant, h) = h
 pawn_passing p m n f v (Castling w, h) = pawn_king h.king
 pawn_passing p m n f v (Promotion y, h) = promoted_not p m y h.promoted n
 
-pub pawn_capture : (p : State) (m : Move) → IsPosition p → m.promotion ≡ None → ¬ (file m.from ≡ file m.to) → ¬ IsVacant p.board m.to → ((v : Way) × IsWay p Pawn m v) → IsWay p Pawn m Capture
+pub pawn_capture : (p : State) (m : Move) → IsPosition p → m.promotion ≡ None → ¬ (file m.from ≡ file m.to) → ¬ IsVacant p.board m.to → ((v : StepKind) × IsWay p Pawn m v) → IsWay p Pawn m Capture
 unfolding Goes IsPassed
 pawn_capture p m pos n f v (Plain, h) = absurd (v h.vacant)
 pawn_capture p m pos n f v (Capture, h) = h
@@ -150,7 +150,7 @@ pawn_capture p m pos n f v (Promotion y, h) = promoted_not p m y h.promoted n
 mover : (p : State) (k : Kind) (r : ℕ) (x : Man) → get p.board r ≡ Some (man p.side k) → get p.board r ≡ Some x → k ≡ x.kind
 mover p k r x e f = let g : man p.side k ≡ x = cc in ap (λ (y : Man). y.kind) g
 
-pub mover_way : (p : State) (m : Move) (x : Man) → IsLegal p m → get p.board m.from ≡ Some x → (w : Way) × IsWay p x.kind m w
+pub mover_way : (p : State) (m : Move) (x : Man) → IsLegal p m → get p.board m.from ≡ Some x → (w : StepKind) × IsWay p x.kind m w
 unfolding Step
 mover_way p m x (q, ((k, w, on, stands, way, e), safe)) there = (w, subst (λ (j : Kind). IsWay p j m w) (mover p k m.from x stands there) way)
 
@@ -158,7 +158,7 @@ pub mover_there : (p : State) (m : Move) → IsLegal p m → get p.board m.from 
 unfolding Step
 mover_there p m (q, ((k, w, on, stands, way, e), safe)) none = let there : get p.board m.from ≡ Some (man p.side k) = stands in cc
 
-pub after_is : (p : State) (m : Move) (x : Man) (v : Way) (r : State) → IsPosition p → IsLegal p m → get p.board m.from ≡ Some x → IsWay p x.kind m v → r ≡ after p m v → Legal p m r × IsPosition r
+pub after_is : (p : State) (m : Move) (x : Man) (v : StepKind) (r : State) → IsPosition p → IsLegal p m → get p.board m.from ≡ Some x → IsWay p x.kind m v → r ≡ after p m v → Legal p m r × IsPosition r
 unfolding Step
 after_is p m x v r pos (q, ((k, w, on, stands, way, e), safe)) there h is =
     let path : IsWay p k m v = subst (λ (j : Kind). IsWay p j m v) (sym (mover p k m.from x stands there)) h in

@@ -11,8 +11,8 @@ use Rattle.pg_position.specs.declared.refusals.Illegal.{Illegal}
 use Rattle.pg_position.specs.declared.refusals.Illegal.TheVariants.{EmptyFrom, OtherSide, NotAMove, LeavesCheck}
 use Rattle.pg_position.specs.declared.state.State.{State}
 use Rattle.pg_position.specs.declared.moves.Move.{Move}
-use Rattle.pg_position.specs.declared.moves.Way.{Way}
-use Rattle.pg_position.specs.declared.moves.Way.TheVariants.{Plain, Capture, DoubleAdvance, EnPassant, Promotion, Castling}
+use Rattle.pg_position.specs.declared.moves.StepKind.{StepKind}
+use Rattle.pg_position.specs.declared.moves.StepKind.TheVariants.{Plain, Capture, DoubleAdvance, EnPassant, Promotion, Castling}
 use Rattle.pg_position.specs.Geometry.{apart, IsForward, InPattern}
 use Rattle.pg_board.specs.Squares.{file, rank}
 use Rattle.pg_board.specs.Men.{other, man}
@@ -26,7 +26,7 @@ passed_behind : (c : Color) (e : ℕ) → rank e ≡ passed_rank c → HasAhead 
 passed_behind White e h = omega arith
 passed_behind Black e h = omega arith
 
-pub taken_on_board : (p : State) (k : Kind) (m : Move) (w : Way) → IsPosition p → IsWay p k m w → w ≡ EnPassant → HasAhead (other p.side) 1 m.to
+pub taken_on_board : (p : State) (k : Kind) (m : Move) (w : StepKind) → IsPosition p → IsWay p k m w → w ≡ EnPassant → HasAhead (other p.side) 1 m.to
 unfolding IsPassed
 taken_on_board p k m EnPassant valid way e = passed_behind p.side m.to (valid.passing m.to way.passed).0
 taken_on_board p k m Plain valid way e = cc
@@ -117,7 +117,7 @@ pub promoted_not : {A : Type 0} (p : State) (m : Move) (x : Kind) → m.promotio
 promoted_not p m x a b = absurd (some_none (sym a ∙ b))
 
 -- a move is one case
-pub one_way : (p : State) (k : Kind) (m : Move) (w v : Way) → PassedClause p → IsWay p k m w → IsWay p k m v → w ≡ v
+pub one_way : (p : State) (k : Kind) (m : Move) (w v : StepKind) → PassedClause p → IsWay p k m w → IsWay p k m v → w ≡ v
 one_way p k m Plain Plain pos h d = refl
 one_way p k m Plain Capture pos h d = absurd (not_both p m.to h.vacant d.enemy)
 one_way p k m Plain DoubleAdvance pos h d = absurd (plain_double p k m h d)
@@ -165,7 +165,7 @@ one_step p m q r pos (k, w, on, stands, way, e) (j, v, on', also, path, f) =
     e ∙ ap (after p m) both ∙ sym f
 
 -- where no case holds there is no step
-pub no_step : (p : State) (k : Kind) (m : Move) → Stands p.board p.side k m.from → ((w : Way) → IsWay p k m w → ⊥) → (q : State) → Step p m q → ⊥
+pub no_step : (p : State) (k : Kind) (m : Move) → Stands p.board p.side k m.from → ((w : StepKind) → IsWay p k m w → ⊥) → (q : State) → Step p m q → ⊥
 unfolding Step
 no_step p k m at_from none q (j, w, on, also, way, e) = let same : j ≡ k = same_kind also at_from in let moved : IsWay p k m w = rw same at way in none w moved
 

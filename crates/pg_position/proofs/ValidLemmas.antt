@@ -15,8 +15,8 @@ use Rattle.pg_board.specs.lemmas.Placements.{get-write_same, get-write_other}
 use Rattle.pg_position.specs.declared.rights.Rights.{Rights}
 use Rattle.pg_position.specs.declared.state.State.{State}
 use Rattle.pg_position.specs.declared.moves.Move.{Move}
-use Rattle.pg_position.specs.declared.moves.Way.{Way}
-use Rattle.pg_position.specs.declared.moves.Way.TheVariants.{Plain, Capture, DoubleAdvance, EnPassant, Promotion, Castling}
+use Rattle.pg_position.specs.declared.moves.StepKind.{StepKind}
+use Rattle.pg_position.specs.declared.moves.StepKind.TheVariants.{Plain, Capture, DoubleAdvance, EnPassant, Promotion, Castling}
 use Rattle.pg_position.specs.Geometry.{IsForward, InPattern, IsBetween}
 use Rattle.pg_position.specs.Attack.{IsClear, Reaches, AttacksFrom, Attacks}
 use Rattle.pg_position.specs.Position.{Stands, IsVacant, IsOnlyKing, HasOneKing, InCheck, holds, PawnsClause, IsHome, RightsClause, IsPassed, IsPosition}
@@ -236,7 +236,7 @@ far_homes Black White QueenSide KingSide t ne e = (grind arith, grind arith)
 far_homes Black White QueenSide QueenSide t ne e = (grind arith, grind arith)
 
 -- 1 each case keeps one king of each colour
-kings_kept : (p : State) (k : Kind) (m : Move) (w : Way) → Moving p k m → IsWay p k m w → (c : Color) → HasOneKing (board_after p m w) c
+kings_kept : (p : State) (k : Kind) (m : Move) (w : StepKind) → Moving p k m → IsWay p k m w → (c : Color) → HasOneKing (board_after p m w) c
 kings_kept p k m Plain mv h c = king_kept_relocate p.board m.from m.to c mv.from_low mv.to_low (vacant_differs p.board p.side k m.from m.to mv.stands h.vacant) (one_king p mv.pos c) (vacant_no_man p.board c King m.to h.vacant)
 kings_kept p k m Capture mv h c = king_kept_relocate p.board m.from m.to c mv.from_low mv.to_low (enemy_differs p.board p.side k m.from m.to mv.stands h.enemy) (one_king p mv.pos c) (no_king_hit p k m mv h.enemy h.reaches c)
 kings_kept p k m DoubleAdvance mv h c = king_kept_relocate p.board m.from m.to c mv.from_low mv.to_low (vacant_differs p.board p.side k m.from m.to mv.stands h.vacant) (one_king p mv.pos c) (vacant_no_man p.board c King m.to h.vacant)
@@ -288,7 +288,7 @@ rook_not_pawn e = cc
 king_not_pawn : King ≡ Pawn → ⊥
 king_not_pawn e = cc
 
-pawns_kept : (p : State) (k : Kind) (m : Move) (w : Way) → Moving p k m → IsWay p k m w → PawnsClause (board_after p m w)
+pawns_kept : (p : State) (k : Kind) (m : Move) (w : StepKind) → Moving p k m → IsWay p k m w → PawnsClause (board_after p m w)
 pawns_kept p k m Plain mv h = pawns_kept_relocate p.board m.from m.to mv.from_low mv.to_low mv.pos.pawns (pawn_fine p k m mv (plain_fine p k m mv h))
 pawns_kept p k m Capture mv h = pawns_kept_relocate p.board m.from m.to mv.from_low mv.to_low mv.pos.pawns (pawn_fine p k m mv (capture_fine p k m mv h))
 pawns_kept p k m DoubleAdvance mv h = pawns_kept_relocate p.board m.from m.to mv.from_low mv.to_low mv.pos.pawns (λ c s. double_fine p.side m.from m.to h.two h.home)
@@ -332,7 +332,7 @@ kept r m Black KingSide h = kept_right r m Black KingSide h
 kept r m Black QueenSide h = kept_right r m Black QueenSide h
 
 -- a man at home that is no pawn is where it was
-stays_home : (p : State) (k : Kind) (m : Move) (v : Way) → Moving p k m → IsWay p k m v → (c : Color) (w : Wing) (j : Kind) (t : ℕ) → Untouched m c w → Stands p.board c j t → j ≢ Pawn → t ≢ m.from → t ≢ m.to → (t ≡ king_home c) ⊎ (t ≡ rook_home c w) → Stands (board_after p m v) c j t
+stays_home : (p : State) (k : Kind) (m : Move) (v : StepKind) → Moving p k m → IsWay p k m v → (c : Color) (w : Wing) (j : Kind) (t : ℕ) → Untouched m c w → Stands p.board c j t → j ≢ Pawn → t ≢ m.from → t ≢ m.to → (t ≡ king_home c) ⊎ (t ≡ rook_home c w) → Stands (board_after p m v) c j t
 stays_home p k m Plain mv h c w j t un at_home man_of f g where_at = unrelocated p.board m.from m.to t f g ∙ at_home
 stays_home p k m Capture mv h c w j t un at_home man_of f g where_at = unrelocated p.board m.from m.to t f g ∙ at_home
 stays_home p k m DoubleAdvance mv h c w j t un at_home man_of f g where_at = unrelocated p.board m.from m.to t f g ∙ at_home
@@ -345,7 +345,7 @@ stays_home p k m (Castling v) mv h c w j t un at_home man_of f g where_at =
     let far : (t ≢ rook_home p.side v) × (t ≢ king_crossed p.side v) = far_homes p.side c v w t (λ e. un.king_from (rw e (sym h.home))) where_at in
     unrelocated (relocated p.board m.from m.to) (rook_home p.side v) (king_crossed p.side v) t far.0 far.1 ∙ unrelocated p.board m.from m.to t f g ∙ at_home
 
-homes_kept : (p : State) (k : Kind) (m : Move) (w : Way) → Moving p k m → IsWay p k m w → RightsClause (board_after p m w) (rights_after p.rights m)
+homes_kept : (p : State) (k : Kind) (m : Move) (w : StepKind) → Moving p k m → IsWay p k m w → RightsClause (board_after p m w) (rights_after p.rights m)
 unfolding RightsClause IsHome
 homes_kept p k m v mv h c w held =
     let q : (holds p.rights c w ≡ true) × Untouched m c w = kept p.rights m c w held in
@@ -374,7 +374,7 @@ double_passed p k m mv h =
       subst (λ (s : ℕ). IsVacant (relocated p.board m.from m.to) s) (sym q.2) gone,
     )
 
-passing_kept : (p : State) (k : Kind) (m : Move) (w : Way) → Moving p k m → IsWay p k m w → (e : ℕ) → passed_after p m w ≡ Some e → IsPassed (board_after p m w) (other p.side) e
+passing_kept : (p : State) (k : Kind) (m : Move) (w : StepKind) → Moving p k m → IsWay p k m w → (e : ℕ) → passed_after p m w ≡ Some e → IsPassed (board_after p m w) (other p.side) e
 passing_kept p k m DoubleAdvance mv h e is = let same : ahead p.side 1 m.from ≡ e = cc in subst (λ (x : ℕ). IsPassed (relocated p.board m.from m.to) (other p.side) x) same (double_passed p k m mv h)
 passing_kept p k m Plain mv h e is = absurd (some_none (sym is))
 passing_kept p k m Capture mv h e is = absurd (some_none (sym is))
@@ -382,7 +382,7 @@ passing_kept p k m EnPassant mv h e is = absurd (some_none (sym is))
 passing_kept p k m (Promotion x) mv h e is = absurd (some_none (sym is))
 passing_kept p k m (Castling v) mv h e is = absurd (some_none (sym is))
 
-after_valid : (p : State) (k : Kind) (m : Move) (w : Way) → Moving p k m → IsWay p k m w → ¬ InCheck (board_after p m w) p.side → IsPosition (after p m w)
+after_valid : (p : State) (k : Kind) (m : Move) (w : StepKind) → Moving p k m → IsWay p k m w → ¬ InCheck (board_after p m w) p.side → IsPosition (after p m w)
 after_valid p k m w mv h safe = record {
   kings = (kings_kept p k m w mv h White, kings_kept p k m w mv h Black);
   pawns = pawns_kept p k m w mv h;

@@ -31,4 +31,6 @@ array_board = placement_of first_man
 
 -- White to move, with all four rights, and no passed square
 unfoldable pub array_state : State
-array_state = parts array_board White (record { white_king = true; white_queen = true; black_king = true; black_queen = true }) None
+array_state =
+    parts array_board White
+    (record { white_king = true; white_queen = true; black_king = true; black_queen = true }) None

@@ -1,4 +1,4 @@
--- Attack: which squares the men of a colour attack on a placement (FIDE 3.1.2, 3.1.3: also where such a man may not move).
+-- Attack: which squares the men of a colour attack on a placement (FIDE 3.1.2, 3.1.3: also where the man may not move).
 use Rattle.std.specs.Prelude.{◌≡◌, ℕ, ◌<◌, Some, None}
 use Rattle.pg_board.specs.declared.man.Color.{Color}
 use Rattle.pg_board.specs.declared.man.Kind.{Kind}

@@ -18,7 +18,9 @@ bool_eq false true = false
 bool_eq false false = true
 
 abbrev pub rights_eq : Rights → Rights → Bool
-rights_eq a b = (bool_eq a.white_king b.white_king && bool_eq a.white_queen b.white_queen) && (bool_eq a.black_king b.black_king && bool_eq a.black_queen b.black_queen)
+rights_eq a b =
+    (bool_eq a.white_king b.white_king && bool_eq a.white_queen b.white_queen)
+    && (bool_eq a.black_king b.black_king && bool_eq a.black_queen b.black_queen)
 
 abbrev pub passed_eq : Option ℕ → Option ℕ → Bool
 passed_eq None None = true
@@ -27,4 +29,6 @@ passed_eq None (Some b) = false
 passed_eq (Some a) None = false
 
 unfoldable pub state_eq : State → State → Bool
-state_eq a b = (placement_eq a.board b.board && color_eq a.side b.side) && (rights_eq a.rights b.rights && passed_eq a.passed b.passed)
+state_eq a b =
+    (placement_eq a.board b.board && color_eq a.side b.side)
+    && (rights_eq a.rights b.rights && passed_eq a.passed b.passed)

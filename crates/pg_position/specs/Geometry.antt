@@ -26,7 +26,9 @@ OnOneDiagonal r s = apart (file r) (file s) ≡ apart (rank r) (rank s)
 -- the pattern of a man: s is one of the squares that it attacks from r on an empty board
 unfoldable pub InPattern : Color → Kind → ℕ → ℕ → Type 0
 InPattern c Pawn r s = (apart (file r) (file s) ≡ 1) × IsForward c 1 r s
-InPattern c Knight r s = ((apart (file r) (file s) ≡ 1) × (apart (rank r) (rank s) ≡ 2)) ⊎ ((apart (file r) (file s) ≡ 2) × (apart (rank r) (rank s) ≡ 1))
+InPattern c Knight r s =
+    ((apart (file r) (file s) ≡ 1) × (apart (rank r) (rank s) ≡ 2))
+    ⊎ ((apart (file r) (file s) ≡ 2) × (apart (rank r) (rank s) ≡ 1))
 InPattern c Bishop r s = (r ≢ s) × OnOneDiagonal r s
 InPattern c Rook r s = (r ≢ s) × OnOneLine r s
 InPattern c Queen r s = (r ≢ s) × (OnOneLine r s ⊎ OnOneDiagonal r s)
@@ -36,7 +38,7 @@ InPattern c King r s = (r ≢ s) × (apart (file r) (file s) ≤ 1) × (apart (r
 abbrev pub IsWithin : ℕ → ℕ → ℕ → Type 0
 IsWithin a b c = apart a b + apart b c ≡ apart a c
 
--- t is strictly between r and s, on their line or diagonal: between them in file and in rank, and on a diagonal on it too
+-- t is strictly between r and s, on their line or diagonal: between them in file and in rank, on a diagonal on it too
 unfoldable pub IsBetween : ℕ → ℕ → ℕ → Type 0
 IsBetween r t s =
     (t ≢ r) × (t ≢ s) × IsWithin (file r) (file t) (file s) × IsWithin (rank r) (rank t) (rank s)

@@ -18,4 +18,6 @@ promotion_number (Some King) = 6
 
 -- the canonical order: by the square from, then the square to, then the promotion
 abbrev pub move_cmp : Move → Move → Ordering
-move_cmp = then_cmp (on (λ m. m.from) nat_cmp) (then_cmp (on (λ m. m.to) nat_cmp) (on (λ m. promotion_number m.promotion) nat_cmp))
+move_cmp =
+    then_cmp (on (λ m. m.from) nat_cmp)
+    (then_cmp (on (λ m. m.to) nat_cmp) (on (λ m. promotion_number m.promotion) nat_cmp))

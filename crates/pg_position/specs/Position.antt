@@ -1,4 +1,4 @@
--- What makes a state a position: a placement, a side to move, castling rights and a passed square that meet five clauses.
+-- What makes a state a position: a placement, a side to move, rights and a passed square that meet five clauses.
 use Rattle.std.specs.Prelude.{◌≡◌, ◌≢◌, ℕ, ◌<◌, Option, Some, None, Bool, true}
 use Rattle.pg_board.specs.declared.man.Color.{Color}
 use Rattle.pg_board.specs.declared.man.Color.TheVariants.{White, Black}
@@ -64,9 +64,12 @@ IsHome b c w = Stands b c King (king_home c) × Stands b c Rook (rook_home c w)
 unfoldable pub RightsClause : Placement → Rights → Type 0
 RightsClause b r = (c : Color) (w : Wing) → holds r c w ≡ true → IsHome b c w
 
--- the other side's last move could have passed the square: it is empty, the pawn stands one step ahead of it, and the pawn's home is empty
+-- the other side's last move could have passed the square: it is empty, the pawn stands one step ahead of it, and the
+-- pawn's home is empty
 unfoldable pub IsPassed : Placement → Color → ℕ → Type 0
-IsPassed b c e = (rank e ≡ passed_rank c) × IsVacant b e × Stands b (other c) Pawn (ahead (other c) 1 e) × IsVacant b (ahead c 1 e)
+IsPassed b c e =
+    (rank e ≡ passed_rank c) × IsVacant b e
+    × Stands b (other c) Pawn (ahead (other c) 1 e) × IsVacant b (ahead c 1 e)
 
 -- 4 a passed square was passed by a two-square advance
 abbrev pub PassedClause : State → Type 0
@@ -89,4 +92,6 @@ IsFirstBroken p Kings = ¬ KingsClause p.board
 IsFirstBroken p PawnRank = KingsClause p.board × ¬ PawnsClause p.board
 IsFirstBroken p BadRights = KingsClause p.board × PawnsClause p.board × ¬ RightsClause p.board p.rights
 IsFirstBroken p EnPassant = KingsClause p.board × PawnsClause p.board × RightsClause p.board p.rights × ¬ PassedClause p
-IsFirstBroken p Check = KingsClause p.board × PawnsClause p.board × RightsClause p.board p.rights × PassedClause p × InCheck p.board (other p.side)
+IsFirstBroken p Check =
+    KingsClause p.board × PawnsClause p.board × RightsClause p.board p.rights × PassedClause p
+    × InCheck p.board (other p.side)

@@ -12,8 +12,8 @@ use Rattle.pg_position.specs.declared.rights.Wing.TheVariants.{KingSide, QueenSi
 use Rattle.pg_position.specs.declared.rights.Rights.{Rights}
 use Rattle.pg_position.specs.declared.state.State.{State}
 use Rattle.pg_position.specs.declared.moves.Move.{Move}
-use Rattle.pg_position.specs.declared.moves.Way.{Way}
-use Rattle.pg_position.specs.declared.moves.Way.TheVariants.{Plain, Capture, DoubleAdvance, EnPassant, Promotion, Castling}
+use Rattle.pg_position.specs.declared.moves.StepKind.{StepKind}
+use Rattle.pg_position.specs.declared.moves.StepKind.TheVariants.{Plain, Capture, DoubleAdvance, EnPassant, Promotion, Castling}
 use Rattle.pg_position.specs.declared.refusals.Illegal.{Illegal}
 use Rattle.pg_position.specs.declared.refusals.Illegal.TheVariants.{EmptyFrom, OtherSide, NotAMove, LeavesCheck}
 use Rattle.pg_position.specs.Geometry.{IsForward, InPattern}
@@ -74,7 +74,9 @@ pub record IsPromotion (p : State) (k : Kind) (m : Move) (x : Kind) : Type 0 whe
   pub promoted : m.promotion ≡ Some x
   pub piece : IsPiece x
   pub must : MustPromote k p.side m.to
-  pub moves : (IsVacant p.board m.to × Goes p.board p.side k m.from m.to) ⊎ (IsEnemy p.board p.side m.to × Reaches p.board p.side k m.from m.to)
+  pub moves :
+      (IsVacant p.board m.to × Goes p.board p.side k m.from m.to)
+      ⊎ (IsEnemy p.board p.side m.to × Reaches p.board p.side k m.from m.to)
 
 -- the king two squares towards a rook, by a right (FIDE 3.8.2)
 pub record IsCastling (p : State) (k : Kind) (m : Move) (w : Wing) : Type 0 where
@@ -88,7 +90,11 @@ pub record IsCastling (p : State) (k : Kind) (m : Move) (w : Wing) : Type 0 wher
   pub safe_crossed : ¬ Attacks p.board (other p.side) (king_crossed p.side w)
   pub safe_target : ¬ Attacks p.board (other p.side) (king_target p.side w)
 
-abbrev pub IsWay : State → Kind → Move → Way → Type 0
+-- the king of the side to move castles to the square
+abbrev pub CastlesTo : State → ℕ → Type 0
+CastlesTo p q = (w : Wing) × IsCastling p King (record { from = king_home p.side; to = q; promotion = None }) w
+
+abbrev pub IsWay : State → Kind → Move → StepKind → Type 0
 IsWay p k m Plain = IsPlain p k m
 IsWay p k m Capture = IsCapture p k m
 IsWay p k m DoubleAdvance = IsDoubleAdvance p k m
@@ -101,7 +107,7 @@ IsWay p k m (Castling w) = IsCastling p k m w
 abbrev pub relocated : Placement → ℕ → ℕ → Placement
 relocated b r s = write (without b r) s (get b r)
 
-abbrev pub board_after : State → Move → Way → Placement
+abbrev pub board_after : State → Move → StepKind → Placement
 board_after p m Plain = relocated p.board m.from m.to
 board_after p m Capture = relocated p.board m.from m.to
 board_after p m DoubleAdvance = relocated p.board m.from m.to
@@ -110,7 +116,7 @@ board_after p m (Promotion x) = put (without p.board m.from) m.to (man p.side x)
 board_after p m (Castling w) = relocated (relocated p.board m.from m.to) (rook_home p.side w) (king_crossed p.side w)
 
 -- the crossed square after a two-square advance, and none after any other move
-abbrev pub passed_after : State → Move → Way → Option ℕ
+abbrev pub passed_after : State → Move → StepKind → Option ℕ
 passed_after p m Plain = None
 passed_after p m Capture = None
 passed_after p m DoubleAdvance = Some (ahead p.side 1 m.from)
@@ -127,10 +133,15 @@ abbrev pub keeps : Rights → Move → Color → Wing → Bool
 keeps r m c w = holds r c w && not (touches m (king_home c) || touches m (rook_home c w))
 
 abbrev pub rights_after : Rights → Move → Rights
-rights_after r m = record { white_king = keeps r m White KingSide; white_queen = keeps r m White QueenSide; black_king = keeps r m Black KingSide; black_queen = keeps r m Black QueenSide }
+rights_after r m = record {
+  white_king = keeps r m White KingSide;
+  white_queen = keeps r m White QueenSide;
+  black_king = keeps r m Black KingSide;
+  black_queen = keeps r m Black QueenSide;
+}
 
 -- the whole state after the move
-abbrev pub after : State → Move → Way → State
+abbrev pub after : State → Move → StepKind → State
 after p m w = parts (board_after p m w) (other p.side) (rights_after p.rights m) (passed_after p m w)
 
 -- both squares are on the board
@@ -139,7 +150,8 @@ IsOnBoard m = (m.from < 64) × (m.to < 64)
 
 -- the move leads from p to q by the rules, its king's safety apart
 unfoldable pub Step : State → Move → State → Type 0
-Step p m q = (k : Kind) × (w : Way) × IsOnBoard m × Stands p.board p.side k m.from × IsWay p k m w × (q ≡ after p m w)
+Step p m q =
+    (k : Kind) × (w : StepKind) × IsOnBoard m × Stands p.board p.side k m.from × IsWay p k m w × (q ≡ after p m w)
 
 -- a legal move: a step after which the mover's king is not attacked (FIDE 3.9.2)
 abbrev pub Legal : State → Move → State → Type 0

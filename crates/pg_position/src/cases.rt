@@ -8,7 +8,7 @@ ghost use Rattle.pg_position.specs.Position.{IsVacant};
 use crate::attack::attacked;
 use crate::boards::{goes, is_enemy, is_vacant};
 use crate::masks::pawn_mask;
-use crate::moves::{Move, Way};
+use crate::moves::{Move, StepKind};
 use crate::reaching::reaches;
 use crate::rights::Wing;
 use crate::squares::{ahead, home_rank, king_home, king_target, must_promote};
@@ -82,35 +82,35 @@ pub(crate) fn is_castling(state: &State, kind: Kind, m: &Move, wing: Wing) -> bo
 }
 
 // The case that a move without promotion is, if it is one.
-fn quiet_way(state: &State, kind: Kind, m: &Move) -> Option<Way>
+fn quiet_way(state: &State, kind: Kind, m: &Move) -> Option<StepKind>
     requires { m.now.promotion ≡ None }
-    ensures { MatchOption result ((w : Way) → ¬ IsWay state.now kind m.now w) (λ w. IsWay state.now kind m.now w) }
+    ensures { MatchOption result ((w : StepKind) → ¬ IsWay state.now kind m.now w) (λ w. IsWay state.now kind m.now w) }
 {
     if is_plain(state, kind, m) {
-        Some(Way::Plain)
+        Some(StepKind::Plain)
     } else if is_capture(state, kind, m) {
-        Some(Way::Capture)
+        Some(StepKind::Capture)
     } else if is_double_advance(state, kind, m) {
-        Some(Way::DoubleAdvance)
+        Some(StepKind::DoubleAdvance)
     } else if is_en_passant(state, kind, m) {
-        Some(Way::EnPassant)
+        Some(StepKind::EnPassant)
     } else if is_castling(state, kind, m, Wing::KingSide) {
-        Some(Way::Castling(Wing::KingSide))
+        Some(StepKind::Castling(Wing::KingSide))
     } else if is_castling(state, kind, m, Wing::QueenSide) {
-        Some(Way::Castling(Wing::QueenSide))
+        Some(StepKind::Castling(Wing::QueenSide))
     } else {
         None
     }
 }
 
 // The case that the move is, if it is one.
-pub(crate) fn way(state: &State, kind: Kind, m: &Move) -> Option<Way>
-    ensures { MatchOption result ((w : Way) → ¬ IsWay state.now kind m.now w) (λ w. IsWay state.now kind m.now w) }
+pub(crate) fn way(state: &State, kind: Kind, m: &Move) -> Option<StepKind>
+    ensures { MatchOption result ((w : StepKind) → ¬ IsWay state.now kind m.now w) (λ w. IsWay state.now kind m.now w) }
 {
     match m.promotion {
         Some(piece) => {
             if is_promotion(state, kind, m, piece) {
-                Some(Way::Promotion(piece))
+                Some(StepKind::Promotion(piece))
             } else {
                 None
             }

@@ -1,12 +1,11 @@
 //! Castling: the squares to which the king goes by it.
-ghost use Rattle.std.specs.Prelude.{◌≡◌, ◌<◌, ℕ, ◌↔◌, IsTrue, None, true};
+ghost use Rattle.std.specs.Prelude.{◌≡◌, ◌<◌, ℕ, ◌↔◌, IsTrue, true};
 ghost use Rattle.pg_position.specs.Attack.{IsClear};
 ghost use Rattle.pg_position.specs.Geometry.{IsBetween};
 ghost use Rattle.pg_board.specs.SquareSets.{IsSetOf};
-ghost use Rattle.pg_position.specs.Step.{IsCastling};
+ghost use Rattle.pg_position.specs.Step.{CastlesTo};
 ghost use Rattle.pg_position.specs.Squares.{king_home, rook_home};
 ghost use Rattle.pg_position.specs.inner.Castling.{IsOpen, IsSafe, IsSafeTo};
-ghost use Rattle.pg_position.specs.declared.rights.Wing.{Wing};
 
 use crate::attack::attacked;
 use crate::rights::Wing;
@@ -67,8 +66,7 @@ impl State {
 
     // The squares to which the king castles.
     pub(crate) fn castling_targets(&self) -> SquareSet
-        ensures { IsSetOf result (λ q. (w : Wing)
-            × IsCastling self.now Kind.King (record { from = king_home self.now.side; to = q; promotion = None }) w) }
+        ensures { IsSetOf result (CastlesTo self.now) }
     {
         let short = self.is_castling_open(Wing::KingSide);
         let long = self.is_castling_open(Wing::QueenSide);

@@ -6,7 +6,7 @@ ghost use Rattle.pg_position.specs.Step.{IsWay};
 ghost use Rattle.pg_position.specs.Squares.{king_home, king_target};
 
 use crate::boards::is_vacant;
-use crate::moves::{Move, Way};
+use crate::moves::{Move, StepKind};
 use crate::rights::Wing;
 use crate::squares::{king_home, king_target};
 use crate::state::State;
@@ -31,65 +31,69 @@ fn is_two_ranks(m: &Move) -> bool
     m.from.rank() + 2 == m.to.rank() || m.to.rank() + 2 == m.from.rank()
 }
 
-fn pawn_way(state: &State, m: &Move) -> Way
+fn pawn_way(state: &State, m: &Move) -> StepKind
     requires position { IsPosition state.now }
     requires unpromoted { m.now.promotion ≡ None }
-    requires way { (w : Way) × IsWay state.now Kind.Pawn m.now w }
+    requires way { (w : StepKind) × IsWay state.now Kind.Pawn m.now w }
     ensures { IsWay state.now Kind.Pawn m.now result }
 {
     let straight = is_same_file(m);
     let two = is_two_ranks(m);
     let vacant = is_vacant(&state.board, m.to);
     if straight {
-        if two { Way::DoubleAdvance } else { Way::Plain }
+        if two {
+            StepKind::DoubleAdvance
+        } else {
+            StepKind::Plain
+        }
     } else if vacant {
-        Way::EnPassant
+        StepKind::EnPassant
     } else {
-        Way::Capture
+        StepKind::Capture
     }
 }
 
-fn king_way(state: &State, m: &Move) -> Way
+fn king_way(state: &State, m: &Move) -> StepKind
     requires unpromoted { m.now.promotion ≡ None }
-    requires way { (w : Way) × IsWay state.now Kind.King m.now w }
+    requires way { (w : StepKind) × IsWay state.now Kind.King m.now w }
     ensures { IsWay state.now Kind.King m.now result }
 {
     let short = goes_castling(state, m, Wing::KingSide);
     let long = goes_castling(state, m, Wing::QueenSide);
     let vacant = is_vacant(&state.board, m.to);
     if short {
-        Way::Castling(Wing::KingSide)
+        StepKind::Castling(Wing::KingSide)
     } else if long {
-        Way::Castling(Wing::QueenSide)
+        StepKind::Castling(Wing::QueenSide)
     } else if vacant {
-        Way::Plain
+        StepKind::Plain
     } else {
-        Way::Capture
+        StepKind::Capture
     }
 }
 
-fn piece_way(state: &State, kind: Kind, m: &Move) -> Way
+fn piece_way(state: &State, kind: Kind, m: &Move) -> StepKind
     requires pawn { kind ≢ Kind.Pawn }
     requires king { kind ≢ Kind.King }
     requires unpromoted { m.now.promotion ≡ None }
-    requires way { (w : Way) × IsWay state.now kind m.now w }
+    requires way { (w : StepKind) × IsWay state.now kind m.now w }
     ensures { IsWay state.now kind m.now result }
 {
     if is_vacant(&state.board, m.to) {
-        Way::Plain
+        StepKind::Plain
     } else {
-        Way::Capture
+        StepKind::Capture
     }
 }
 
 // The case that a move is, where it is one.
-pub(crate) fn legal_way(state: &State, kind: Kind, m: &Move) -> Way
+pub(crate) fn legal_way(state: &State, kind: Kind, m: &Move) -> StepKind
     requires position { IsPosition state.now }
-    requires way { (w : Way) × IsWay state.now kind m.now w }
+    requires way { (w : StepKind) × IsWay state.now kind m.now w }
     ensures { IsWay state.now kind m.now result }
 {
     if let Some(piece) = m.promotion {
-        return Way::Promotion(piece);
+        return StepKind::Promotion(piece);
     }
     match kind {
         Kind::Pawn => pawn_way(state, m),

@@ -45,7 +45,7 @@ impl Default for Move {
 
 /// The six cases of a step.
 #[derive(Clone, Copy, Debug, PartialEq, Eq)]
-pub enum Way {
+pub enum StepKind {
     Plain,
     Capture,
     DoubleAdvance,

@@ -22,7 +22,7 @@ pub struct PackedPosition {
 
 impl Model for PackedPosition {
     ghost use Rattle.pg_position.specs.declared.state.State.{State};
-    ghost use Rattle.pg_position.specs.Position.{IsPosition};
+    ghost use Rattle.pg_position.specs.Position.{parts, IsPosition};
     ghost use Rattle.pg_position.specs.contracts.state.State.{the_row as state_row};
 
     ghost Value = { State };
@@ -31,7 +31,7 @@ impl Model for PackedPosition {
 
     ghost view = { λ p. record { board = p.board; side = p.side; rights = p.rights; passed = p.passed } };
 
-    ghost invariant = { λ p. IsPosition (record { board = p.board; side = p.side; rights = p.rights; passed = p.passed }) };
+    ghost invariant = { λ p. IsPosition (parts p.board p.side p.rights p.passed) };
 
     ghost inverse = { λ s. record { board = s.board; side = s.side; rights = s.rights; passed = s.passed } };
 }

@@ -1,14 +1,11 @@
 //! Positions: the five clauses kept, the calls of a position.
-ghost use Rattle.std.specs.Prelude.{◌≡◌, ℕ, ◌<◌, ◌↔◌, IsTrue, None, MatchResult, IfOk, IfErr};
+ghost use Rattle.std.specs.Prelude.{◌≡◌, ◌↔◌, IsTrue, MatchResult, IfOk, IfErr};
 ghost use Rattle.std.specs.Cmp.{partial_equiv_from_equiv, decided};
 ghost use Rattle.pg_position.specs.Attack.{Attacks};
 ghost use Rattle.pg_position.specs.Array.{array_state};
 ghost use Rattle.pg_position.specs.Position.{parts, InCheck, IsPosition, IsFirstBroken};
-ghost use Rattle.pg_position.specs.Squares.{king_home};
 ghost use Rattle.pg_board.specs.SquareSets.{IsSetOf};
-ghost use Rattle.pg_position.specs.Step.{Legal, IsLegal, IsCause, IsCastling};
-ghost use Rattle.pg_board.specs.declared.man.Kind.TheVariants.{King};
-ghost use Rattle.pg_position.specs.declared.rights.Wing.{Wing};
+ghost use Rattle.pg_position.specs.Step.{Legal, IsLegal, IsCause, CastlesTo};
 ghost use Rattle.pg_position.specs.Future.{IsEffective, SameFuture};
 ghost use Rattle.pg_position.specs.Equality.{state_eq};
 ghost use Rattle.pg_position.specs.lemmas.Equalities.{state_eq_decides};
@@ -208,8 +205,7 @@ impl Position {
     /// the king's square, the one that he crosses and the one that he comes to are not attacked (FIDE
     /// article 3.8.2).
     pub fn castling_targets(&self) -> SquareSet
-        ensures { IsSetOf result (λ q. (w : Wing)
-            × IsCastling self.now King (record { from = king_home self.now.side; to = q; promotion = None }) w) }
+        ensures { IsSetOf result (CastlesTo self.now) }
     {
         self.state.castling_targets()
     }

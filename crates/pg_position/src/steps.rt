@@ -3,7 +3,7 @@ ghost use Rattle.std.specs.Prelude.{◌≡◌, ℕ, ◌+◌, ◌-◌, ◌<◌};
 ghost use Rattle.pg_position.specs.Position.{IsPosition};
 ghost use Rattle.pg_position.specs.Step.{IsWay, board_after, passed_after, touches, keeps, rights_after, after};
 
-use crate::moves::{Move, Way};
+use crate::moves::{Move, StepKind};
 use crate::rights::{Rights, Wing};
 use crate::squares::{ahead, castling_homes, king_crossed, king_home, rook_home};
 use crate::state::State;
@@ -44,34 +44,36 @@ impl Rights {
 
 impl State {
     // The square that a two-square advance passes, if the move is one.
-    fn passed_after(&self, kind: Kind, m: &Move, way: Way) -> Option<Square>
+    fn passed_after(&self, kind: Kind, m: &Move, way: StepKind) -> Option<Square>
         requires { IsWay self.now kind m.now way }
         ensures { result ≡ passed_after self.now m.now way }
     {
         match way {
-            Way::DoubleAdvance => Some(ahead(self.side, 1, m.from)),
+            StepKind::DoubleAdvance => Some(ahead(self.side, 1, m.from)),
             _ => None,
         }
     }
 
     // The board that the move leaves.
-    fn board_after(&self, kind: Kind, m: &Move, way: Way) -> Board
+    fn board_after(&self, kind: Kind, m: &Move, way: StepKind) -> Board
         requires position { IsPosition self.now }
         requires way { IsWay self.now kind m.now way }
         ensures { result ≡ board_after self.now m.now way }
     {
         let mut board = self.board;
         match way {
-            Way::Plain | Way::Capture | Way::DoubleAdvance => board.relocate(m.from, m.to),
-            Way::EnPassant => {
+            StepKind::Plain | StepKind::Capture | StepKind::DoubleAdvance => board.relocate(
+                m.from, m.to,
+            ),
+            StepKind::EnPassant => {
                 board.relocate(m.from, m.to);
                 board.take(ahead(self.side.other(), 1, m.to));
             }
-            Way::Promotion(piece) => {
+            StepKind::Promotion(piece) => {
                 board.take(m.from);
                 board.put(m.to, Man::new(self.side, piece));
             }
-            Way::Castling(wing) => {
+            StepKind::Castling(wing) => {
                 board.relocate(m.from, m.to);
                 board.relocate(rook_home(self.side, wing), king_crossed(self.side, wing));
             }
@@ -81,7 +83,7 @@ impl State {
 
     // The state that the move leaves.
     #[inline(always)]
-    pub(crate) fn after(&self, kind: Kind, m: &Move, way: Way) -> State
+    pub(crate) fn after(&self, kind: Kind, m: &Move, way: StepKind) -> State
         requires position { IsPosition self.now }
         requires way { IsWay self.now kind m.now way }
         ensures { result ≡ after self.now m.now way }

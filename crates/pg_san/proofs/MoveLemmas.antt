@@ -13,8 +13,8 @@ use Rattle.pg_position.specs.declared.rights.Wing.{Wing}
 use Rattle.pg_position.specs.declared.rights.Wing.TheVariants.{KingSide, QueenSide}
 use Rattle.pg_position.specs.declared.state.State.{State}
 use Rattle.pg_position.specs.declared.moves.Move.{Move}
-use Rattle.pg_position.specs.declared.moves.Way.{Way}
-use Rattle.pg_position.specs.declared.moves.Way.TheVariants.{Plain, Capture, DoubleAdvance, EnPassant, Promotion, Castling as CastlingWay}
+use Rattle.pg_position.specs.declared.moves.StepKind.{StepKind}
+use Rattle.pg_position.specs.declared.moves.StepKind.TheVariants.{Plain, Capture, DoubleAdvance, EnPassant, Promotion, Castling as CastlingWay}
 use Rattle.pg_position.specs.Geometry.{apart, IsForward, InPattern}
 use Rattle.pg_position.specs.Position.{Stands, IsVacant, IsPassed, IsPosition}
 use Rattle.pg_position.specs.Step.{IsLegal, IsEnemy, Goes, IsPiece, IsWay, IsEnPassant, IsCastling, Step}
@@ -43,7 +43,7 @@ as_stands p said j k m h stands = subst (λ (i : Kind). FitsAs p said i m) (same
 
 -- the way of a legal move
 pub record Goer (p : State) (k : Kind) (m : Move) : Type 0 where
-  pub way : Way
+  pub way : StepKind
   pub is_way : IsWay p k m way
 
 pub goer : (p : State) (k : Kind) (m : Move) → Stands p.board p.side k m.from → IsLegal p m → Goer p k m
@@ -53,7 +53,7 @@ goer p k m at_from (q, ((j, w, on, stands, way, e), safe)) =
     record { way = w; is_way = subst (λ (x : Kind). IsWay p x m w) same way }
 
 -- ---- en passant: a pawn that comes to the passed square on another file
-aside_only : (p : State) (m : Move) (w : Way) → IsPosition p → IsWay p Pawn m w → p.passed ≡ Some m.to → file m.from ≢ file m.to → IsEnPassant p Pawn m
+aside_only : (p : State) (m : Move) (w : StepKind) → IsPosition p → IsWay p Pawn m w → p.passed ≡ Some m.to → file m.from ≢ file m.to → IsEnPassant p Pawn m
 unfolding IsPassed IsEnemy Goes
 aside_only p m Plain pos h e off = absurd (off h.goes.0)
 aside_only p m Capture pos h e off = absurd (some_none (sym h.enemy.1 ∙ (pos.passing m.to e).1))
@@ -103,7 +103,7 @@ other_wing White KingSide QueenSide r s a b g = absurd (omega arith)
 other_wing Black QueenSide KingSide r s a b g = absurd (omega arith)
 other_wing Black KingSide QueenSide r s a b g = absurd (omega arith)
 
-two_castles : (p : State) (m : Move) (w : Way) (wing : Wing) → IsWay p King m w → GoesTwo wing m.from m.to → IsCastling p King m wing
+two_castles : (p : State) (m : Move) (w : StepKind) (wing : Wing) → IsWay p King m w → GoesTwo wing m.from m.to → IsCastling p King m wing
 unfolding Goes
 two_castles p m Plain wing h g = absurd (king_near wing p.side m.from m.to h.goes.0 g)
 two_castles p m Capture wing h g = absurd (king_near wing p.side m.from m.to h.reaches.0 g)
@@ -122,7 +122,7 @@ pub castles_there : (p : State) (k : Kind) (m : Move) (wing : Wing) → IsLegal 
 castles_there p k m wing l stands = (λ h. castling_is p k m wing l stands h.0 h.1, λ h. (h.king, castling_two p k m wing h))
 
 -- ---- promotion: only a pawn promotes, and to a piece
-pub unpromoted : (p : State) (k : Kind) (m : Move) (w : Way) → IsWay p k m w → k ≢ Pawn → m.promotion ≡ None
+pub unpromoted : (p : State) (k : Kind) (m : Move) (w : StepKind) → IsWay p k m w → k ≢ Pawn → m.promotion ≡ None
 unpromoted p k m Plain h n = h.unpromoted
 unpromoted p k m Capture h n = h.unpromoted
 unpromoted p k m DoubleAdvance h n = h.unpromoted
@@ -130,7 +130,7 @@ unpromoted p k m EnPassant h n = h.unpromoted
 unpromoted p k m (Promotion x) h n = absurd (n h.must.0)
 unpromoted p k m (CastlingWay w) h n = h.unpromoted
 
-pub promotes_to : (p : State) (k : Kind) (m : Move) (w : Way) (x : Kind) → IsWay p k m w → m.promotion ≡ Some x → IsPiece x
+pub promotes_to : (p : State) (k : Kind) (m : Move) (w : StepKind) (x : Kind) → IsWay p k m w → m.promotion ≡ Some x → IsPiece x
 promotes_to p k m Plain x h e = absurd (some_none (sym e ∙ h.unpromoted))
 promotes_to p k m Capture x h e = absurd (some_none (sym e ∙ h.unpromoted))
 promotes_to p k m DoubleAdvance x h e = absurd (some_none (sym e ∙ h.unpromoted))
@@ -157,7 +157,7 @@ pub data Pace (b : Board) (c : Color) (r s : ℕ) : Type 0 where
   two_paces : GoesFromHome b c r s → Pace b c r s
   side_pace : GoesAside c r s → Pace b c r s
 
-pub pace_of : (p : State) (m : Move) (w : Way) → IsWay p Pawn m w → Pace p.board p.side m.from m.to
+pub pace_of : (p : State) (m : Move) (w : StepKind) → IsWay p Pawn m w → Pace p.board p.side m.from m.to
 unfolding Goes InPattern
 pace_of p m Plain h = one_pace (record { straight = h.goes.0; one = h.goes.1 })
 pace_of p m Capture h = side_pace (record { aside = h.reaches.0.0; one = h.reaches.0.1 })
@@ -205,7 +205,7 @@ one_pawn b c r t s x y f (side_pace g) (two_paces h) = sym (straight_not t r s (
 one_pawn b c r t s x y f (side_pace g) (side_pace h) = one_one c r t s f g.one h.one
 
 -- a pawn that takes nothing stays on its file
-pub stays_on_file : (p : State) (m : Move) (w : Way) → IsWay p Pawn m w → (IsCapturing p Pawn m → ⊥) → file m.from ≡ file m.to
+pub stays_on_file : (p : State) (m : Move) (w : StepKind) → IsWay p Pawn m w → (IsCapturing p Pawn m → ⊥) → file m.from ≡ file m.to
 unfolding Goes
 stays_on_file p m Plain h none = h.goes.0
 stays_on_file p m Capture h none = absurd (none (inl h.enemy))

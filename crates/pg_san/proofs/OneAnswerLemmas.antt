@@ -18,7 +18,7 @@ use Rattle.pg_san.specs.declared.fault.SanFault.TheVariants.{Shape, NoSuchMove, 
 use Rattle.pg_san.specs.declared.listing_fault.GamesFault.{GamesFault}
 use Rattle.pg_san.specs.declared.listing_fault.GamesFault.TheVariants.{At, TooMany, Repeated, Memory}
 use Rattle.pg_san.specs.Matching.{Matches, IsReading}
-use Rattle.pg_san.specs.GameText.{words, bare, lines}
+use Rattle.pg_san.specs.GameText.{words, without_move_number, lines}
 use Rattle.pg_san.specs.Listing.{Spells, AreGame, IsBadWord, IsGameLine, IsBadLine, Give, AreRead, IsListing, IsLine, IsLineFault, IsTextFault}
 use Rattle.pg_san.proofs.OrderLemmas.{same_games}
 
@@ -74,7 +74,7 @@ AfterWord p (Ok m) next r = (q : State) × (s : Outcome) × Legal p m q × next 
 -- the words give this game, or this first bad ply and its cause
 Gives : List (List ℕ) → State → Outcome → Type 0
 Gives [] p r = r ≡ Ok []
-Gives (w ∷ ws) p r = ((bare w ≡ []) × Gives ws p r) ⊎ ((bare w ≢ []) × ((t : Result Move SanFault) × IsReading p (bare w) t × AfterWord p t (Gives ws) r))
+Gives (w ∷ ws) p r = ((without_move_number w ≡ []) × Gives ws p r) ⊎ ((without_move_number w ≢ []) × ((t : Result Move SanFault) × IsReading p (without_move_number w) t × AfterWord p t (Gives ws) r))
 
 gives_spelled : (p q : State) (ws : List (List ℕ)) (ms : List Move) → Spells p ws ms q → Gives ws p (Ok ms)
 unfolding Spells Gives onto
@@ -84,12 +84,12 @@ gives_spelled p q (w ∷ ws) ms s = elim s [
   | inr h ↦ inr (h.0, (Ok h.1.0, h.1.4, (h.1.2, Ok h.1.1, h.1.5, gives_spelled h.1.2 q ws h.1.1 h.1.6, ap Ok h.1.3)))
 ]
 
-gives_bad : (p q : State) (ws after : List (List ℕ)) (w : List ℕ) (ms : List Move) (cause : SanFault) → Spells p ws ms q → bare w ≢ [] → IsReading q (bare w) (Err cause) → Gives (ws ++ w ∷ after) p (Err (length ms + 1, cause))
+gives_bad : (p q : State) (ws after : List (List ℕ)) (w : List ℕ) (ms : List Move) (cause : SanFault) → Spells p ws ms q → without_move_number w ≢ [] → IsReading q (without_move_number w) (Err cause) → Gives (ws ++ w ∷ after) p (Err (length ms + 1, cause))
 unfolding Spells Gives onto
 gives_bad p q [] after w ms cause s some h =
     let n : length ms ≡ 0 = ap length s.0 in
     let one_ply : length ms + 1 ≡ 1 = omega arith in
-    inr (some, (Err cause, subst (λ (x : State). IsReading x (bare w) (Err cause)) (sym s.1) h, ap (λ (k : ℕ). Err (k, cause)) one_ply))
+    inr (some, (Err cause, subst (λ (x : State). IsReading x (without_move_number w) (Err cause)) (sym s.1) h, ap (λ (k : ℕ). Err (k, cause)) one_ply))
 gives_bad p q (x ∷ xs) after w ms cause s some h = elim s [
   | inl k ↦ inl (k.0, gives_bad p q xs after w ms cause k.1 some h)
   | inr k ↦ (let n : length ms ≡ suc (length k.1.1) = ap length k.1.3 in
@@ -115,7 +115,7 @@ one_outcome (w ∷ ws) p r s pos h g = elim h [
   | inl a ↦ elim g [ inl b ↦ one_outcome ws p r s pos a.1 b.1 | inr b ↦ absurd (b.0 a.0) ]
   | inr a ↦ elim g [
     | inl b ↦ absurd (a.0 b.0)
-    | inr b ↦ one_after p ws a.1.0 b.1.0 r s pos (λ q x y. one_outcome ws q x y) (one_reading p (bare w) a.1.0 b.1.0 a.1.1 b.1.1) a.1.2 b.1.2
+    | inr b ↦ one_after p ws a.1.0 b.1.0 r s pos (λ q x y. one_outcome ws q x y) (one_reading p (without_move_number w) a.1.0 b.1.0 a.1.1 b.1.1) a.1.2 b.1.2
   ]
 ]
 

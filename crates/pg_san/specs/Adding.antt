@@ -10,7 +10,8 @@ use Rattle.pg_san.specs.declared.adding.AddFault.{AddFault}
 use Rattle.pg_san.specs.declared.adding.AddFault.TheVariants.{IllegalMove, TooMany, Repeated, Memory}
 use Rattle.pg_san.specs.Games.{IsFromArray, IsGames}
 
--- the moves before this ply, counted from 1, are a game from the initial array, and the ply's move is not legal after them
+-- the moves before this ply, counted from 1, are a game from the initial array, and the ply's move is not legal after
+-- them
 pub record IsIllegalAt (g : List Move) (ply : ℕ) : Type 0 where
   pub before : List Move
   pub move : Move

@@ -1,6 +1,6 @@
--- What the core of a move's text says, castling and the ends apart: a letter, a source and a target such as `Nbxd2`, or a
--- target alone such as `e4`. It is read from its end, so these functions take a text that is reversed. A file is a number,
--- 1 for a to 8 for h, and a rank is a number 1 to 8.
+-- What the core of a move's text says, castling and the ends apart: a letter, a source and a target such as `Nbxd2`,
+-- or a target alone such as `e4`. It is read from its end, so these functions take a text that is reversed. A file is
+-- a number, 1 for a to 8 for h, and a rank is a number 1 to 8.
 use Rattle.std.specs.Prelude.{ℕ, ◌+◌, ◌-◌, ◌*◌, Bool, true, false, ◌&&◌, ◌==◌, List, [], ◌∷◌, length, reverse, Option, Some, None, if◌then◌else◌, nat_le}
 use Rattle.std.specs.Option.{option_map, option_and_then}
 use Prim.Native.Char.{code}
@@ -45,7 +45,9 @@ square_in (r ∷ f ∷ more) = if is_file f && is_rank r then Some (square_named
 -- `x` or `-`, if one stands there
 abbrev pub sep_in : List ℕ → Sep × List ℕ
 sep_in [] = (Nothing, [])
-sep_in (b ∷ more) = if b == code "x" then (Cross, more) else (if b == code "-" then (Hyphen, more) else (Nothing, b ∷ more))
+sep_in (b ∷ more) =
+    if b == code "x" then (Cross, more)
+    else (if b == code "-" then (Hyphen, more) else (Nothing, b ∷ more))
 
 -- without `=`, if one stands there
 abbrev pub without_equals : List ℕ → List ℕ
@@ -78,10 +80,11 @@ unfoldable pub parts_in : List ℕ → Option Parts
 parts_in text = parts_by (square_in text)
 
 -- ---- what a core says
--- with no letter: a target alone is that of a pawn that stays on its file; a file, or a file and `x`, is a pawn's; a source
--- square is any man's
+-- with no letter: a target alone is that of a pawn that stays on its file; a file, or a file and `x`, is a pawn's; a
+-- source square is any man's
 abbrev pub plain_by : Option ℕ → Option ℕ → Sep → ℕ → Option Kind → Option Core
-plain_by None None Nothing target promotion = Some (core_to (Some Pawn) (Some (file target)) None target false promotion)
+plain_by None None Nothing target promotion =
+    Some (core_to (Some Pawn) (Some (file target)) None target false promotion)
 plain_by (Some f) None Nothing target promotion = Some (core_to (Some Pawn) (Some f) None target false promotion)
 plain_by (Some f) None Cross target promotion = Some (core_to (Some Pawn) (Some f) None target true promotion)
 plain_by (Some f) (Some r) sep target promotion = Some (core_to None (Some f) (Some r) target (is_cross sep) promotion)
@@ -93,7 +96,9 @@ plain_core promotion p = plain_by p.file p.rank p.sep p.target promotion
 -- a letter of a man says its kind and has no promotion; else the text may end with a promotion
 abbrev pub core_by : Option Kind → ℕ → List ℕ → Option Core
 core_by (Some kind) b rest = option_map (piece_core kind) (parts_in (reverse rest))
-core_by None b rest = option_and_then (plain_core (promotion_in (reverse (b ∷ rest))).0) (parts_in (promotion_in (reverse (b ∷ rest))).1)
+core_by None b rest =
+    option_and_then (plain_core (promotion_in (reverse (b ∷ rest))).0)
+    (parts_in (promotion_in (reverse (b ∷ rest))).1)
 
 -- what a text says of a move, castling apart; nothing where it is spelled as no move is
 unfoldable pub core_of : List ℕ → Option Core

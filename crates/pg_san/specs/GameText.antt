@@ -1,5 +1,5 @@
--- How a text of games is cut: into lines, a line into words, and the move number off the front of a word (the PGN standard,
--- section 8.2.2).
+-- How a text of games is cut: into lines, a line into words, and the move number off the front of a word (the PGN
+-- standard, section 8.2.2).
 use Rattle.std.specs.Prelude.{ℕ, Bool, ◌&&◌, ◌||◌, ◌==◌, not, nat_lt, List, [], ◌∷◌, length, map, drop, if◌then◌else◌, codes}
 use Rattle.std.specs.List.{slice_split, filter, prefix_len}
 use Rattle.std.specs.Str.Lines.{strip_carriage_return}
@@ -36,8 +36,10 @@ abbrev pub dots_len : List ℕ → ℕ
 dots_len word = prefix_len is_dot (drop (digits_len word) word)
 
 -- the word without a move number: one or more digits and then one or more dots at its front, dropped once
-unfoldable pub bare : List ℕ → List ℕ
-bare word = if nat_lt 0 (digits_len word) && nat_lt 0 (dots_len word) then drop (dots_len word) (drop (digits_len word) word) else word
+unfoldable pub without_move_number : List ℕ → List ℕ
+without_move_number word =
+    if nat_lt 0 (digits_len word) && nat_lt 0 (dots_len word)
+    then drop (dots_len word) (drop (digits_len word) word) else word
 
 -- the one word `-`, which stands for the game of no move
 abbrev pub dash : List (List ℕ)

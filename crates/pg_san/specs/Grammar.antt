@@ -1,5 +1,5 @@
--- The grammar of a move's text: which texts spell what is said of a move. The reading functions answer by it: a law says that
--- a text is read so exactly where it is spelled so.
+-- The grammar of a move's text: which texts spell what is said of a move. The reading functions answer by it: a law
+-- says that a text is read so exactly where it is spelled so.
 use Rattle.std.specs.Prelude.{◌≡◌, ℕ, ◌<◌, ◌⊎◌, Bool, true, false, List, [], ◌∷◌, ◌++◌, Option, Some, None, codes}
 use Prim.Native.Char.{code}
 use Rattle.pg_board.specs.declared.man.Kind.{Kind}
@@ -37,7 +37,14 @@ is_cross Cross = true
 is_cross Hyphen = false
 
 abbrev pub core_to : Option Kind → Option ℕ → Option ℕ → ℕ → Bool → Option Kind → Core
-core_to kind f r target takes promotion = record { kind = kind; file = f; rank = r; target = target; takes = takes; promotion = promotion }
+core_to kind f r target takes promotion = record {
+  kind = kind;
+  file = f;
+  rank = r;
+  target = target;
+  takes = takes;
+  promotion = promotion;
+}
 
 -- a letter's kind, and what is said of its source
 abbrev pub piece_core : Kind → Parts → Core
@@ -56,7 +63,8 @@ pub record IsPieceText (text : List ℕ) (core : Core) : Type 0 where
 -- the end of a text that promotes: a letter, with `=` before it or not
 abbrev pub IsPromotionText : List ℕ → Option Kind → Type 0
 IsPromotionText text None = text ≡ []
-IsPromotionText text (Some k) = (letter : ℕ) × (promoted_of letter ≡ Some k) × ((text ≡ letter ∷ []) ⊎ (text ≡ codes "=" ++ letter ∷ []))
+IsPromotionText text (Some k) =
+    (letter : ℕ) × (promoted_of letter ≡ Some k) × ((text ≡ letter ∷ []) ⊎ (text ≡ codes "=" ++ letter ∷ []))
 
 -- a file with `x` behind it or without, where one is given
 abbrev pub file_of : Option (ℕ × Bool) → Option ℕ

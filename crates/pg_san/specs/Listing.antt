@@ -10,7 +10,7 @@ use Rattle.pg_san.specs.declared.fault.SanFault.{SanFault}
 use Rattle.pg_san.specs.declared.listing_fault.GamesFault.{GamesFault}
 use Rattle.pg_san.specs.declared.listing_fault.GamesFault.TheVariants.{At, TooMany, Repeated, Memory}
 use Rattle.pg_san.specs.Games.{IsGames}
-use Rattle.pg_san.specs.GameText.{lines, words, bare, dash}
+use Rattle.pg_san.specs.GameText.{lines, words, without_move_number, dash}
 use Rattle.pg_san.specs.Matching.{IsReading}
 
 -- ---- a line
@@ -18,14 +18,16 @@ use Rattle.pg_san.specs.Matching.{IsReading}
 unfoldable pub Spells : State → List (List ℕ) → List Move → State → Type 0
 Spells p [] ms q = (ms ≡ []) × (p ≡ q)
 Spells p (w ∷ ws) ms q =
-    ((bare w ≡ []) × Spells p ws ms q)
-    ⊎ ((bare w ≢ []) × ((m : Move) × (ns : List Move) × (r : State) × (ms ≡ m ∷ ns) × IsReading p (bare w) (Ok m) × Legal p m r × Spells r ws ns q))
+    ((without_move_number w ≡ []) × Spells p ws ms q)
+    ⊎ ((without_move_number w ≢ []) × ((m : Move) × (ns : List Move) × (r : State) × (ms ≡ m ∷ ns)
+    × IsReading p (without_move_number w) (Ok m) × Legal p m r × Spells r ws ns q))
 
 -- the words are this game, from the initial array on
 abbrev pub AreGame : List (List ℕ) → List Move → Type 0
 AreGame ws g = (q : State) × Spells array_state ws g q
 
--- the words before one of the words are a game, and that word is the move of this ply, counted from 1, but is not read, for this cause
+-- the words before one of the words are a game, and that word is the move of this ply, counted from 1, but is not
+-- read, for this cause
 pub record IsBadWord (ws : List (List ℕ)) (ply : ℕ) (cause : SanFault) : Type 0 where
   pub before : List (List ℕ)
   pub word : List ℕ
@@ -34,13 +36,14 @@ pub record IsBadWord (ws : List (List ℕ)) (ply : ℕ) (cause : SanFault) : Typ
   pub here : State
   pub is : ws ≡ before ++ word ∷ after
   pub spells : Spells array_state before moves here
-  pub some : bare word ≢ []
+  pub some : without_move_number word ≢ []
   pub counts : ply ≡ length moves + 1
-  pub refused : IsReading here (bare word) (Err cause)
+  pub refused : IsReading here (without_move_number word) (Err cause)
 
 -- the line has words, and they are this game: `-` alone is the game of no move
 unfoldable pub IsGameLine : List ℕ → List Move → Type 0
-IsGameLine line g = (words line ≢ []) × (((words line ≡ dash) × (g ≡ [])) ⊎ ((words line ≢ dash) × AreGame (words line) g))
+IsGameLine line g =
+    (words line ≢ []) × (((words line ≡ dash) × (g ≡ [])) ⊎ ((words line ≢ dash) × AreGame (words line) g))
 
 -- the line has words, and one of them, the move of this ply, is not read, for this cause
 unfoldable pub IsBadLine : List ℕ → ℕ → SanFault → Type 0
@@ -75,13 +78,16 @@ pub record IsLine (text : List ℕ) (number : ℕ) (line : List ℕ) (gs : List 
   pub counts : number ≡ length before + 1
   pub read : AreRead before gs
 
--- a line's fault, behind these games: with 4,096 of them a line with words is one too many; else the first bad word; else the game of an earlier line, or want of memory for a game
+-- a line's fault, behind these games: with 4,096 of them a line with words is one too many; else the first bad word;
+-- else the game of an earlier line, or want of memory for a game
 abbrev pub IsLineFault : List ℕ → ℕ → List (List Move) → GamesFault → Type 0
 IsLineFault line n gs (TooMany number) = (number ≡ n) × (words line ≢ []) × (length gs ≡ 4096)
 IsLineFault line n gs (At number ply cause) = (number ≡ n) × (length gs < 4096) × IsBadLine line ply cause
-IsLineFault line n gs (Repeated number) = (number ≡ n) × (length gs < 4096) × ((g : List Move) × IsGameLine line g × Contains gs g)
+IsLineFault line n gs (Repeated number) =
+    (number ≡ n) × (length gs < 4096) × ((g : List Move) × IsGameLine line g × Contains gs g)
 IsLineFault line n gs Memory = (length gs < 4096) × ((g : List Move) × IsGameLine line g)
 
 -- the first fault of a text
 abbrev pub IsTextFault : List ℕ → GamesFault → Type 0
-IsTextFault text fault = (n : ℕ) × (line : List ℕ) × (gs : List (List Move)) × IsLine text n line gs × IsLineFault line n gs fault
+IsTextFault text fault =
+    (n : ℕ) × (line : List ℕ) × (gs : List (List Move)) × IsLine text n line gs × IsLineFault line n gs fault

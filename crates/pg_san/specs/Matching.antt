@@ -52,10 +52,12 @@ Fits p said m = (k : Kind) × FitsAs p said k m
 unfoldable pub Matches : State → List ℕ → Move → Type 0
 Matches p text m = (said : Said) × IsSaidText text said × Fits p said m
 
--- what reading a text gives: the one legal move that matches it; Shape, where the text says nothing of a move; NoSuchMove,
--- where no legal move matches it; Ambiguous, where two do
+-- what reading a text gives: the one legal move that matches it; Shape, where the text says nothing of a move;
+-- NoSuchMove, where no legal move matches it; Ambiguous, where two do
 abbrev pub IsReading : State → List ℕ → Result Move SanFault → Type 0
 IsReading p text (Ok m) = IsLegal p m × Matches p text m × ((n : Move) → IsLegal p n → Matches p text n → n ≡ m)
 IsReading p text (Err Shape) = (said : Said) → ¬ IsSaidText text said
-IsReading p text (Err NoSuchMove) = ((said : Said) × IsSaidText text said) × ((n : Move) → IsLegal p n → ¬ Matches p text n)
-IsReading p text (Err Ambiguous) = (m : Move) × (n : Move) × (m ≢ n) × (IsLegal p m × Matches p text m) × (IsLegal p n × Matches p text n)
+IsReading p text (Err NoSuchMove) =
+    ((said : Said) × IsSaidText text said) × ((n : Move) → IsLegal p n → ¬ Matches p text n)
+IsReading p text (Err Ambiguous) =
+    (m : Move) × (n : Move) × (m ≢ n) × (IsLegal p m × Matches p text m) × (IsLegal p n × Matches p text n)

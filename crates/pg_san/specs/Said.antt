@@ -1,5 +1,5 @@
--- What a whole text says of a move: a core or castling, and behind it three ends that may be missing, in this order: `ep`
--- or `e.p.`; `+`, `++` or `#`; one or two of `!` and `?`.
+-- What a whole text says of a move: a core or castling, and behind it three ends that may be missing, in this order:
+-- `ep` or `e.p.`; `+`, `++` or `#`; one or two of `!` and `?`.
 use Rattle.std.specs.Prelude.{ℕ, Bool, true, false, ◌||◌, ◌==◌, List, [], ◌∷◌, reverse, Option, Some, None, if◌then◌else◌, codes}
 use Rattle.std.specs.Option.{option_map, option_and_then}
 use Rattle.std.specs.Str.{bytes_eq}
@@ -60,7 +60,9 @@ ep_in text = option_and_then (byte_in (code "e")) (byte_in (code "p") text)
 
 -- what is left behind `e.p.`, reversed
 abbrev pub dots_in : List ℕ → Option (List ℕ)
-dots_in text = option_and_then (byte_in (code "e")) (option_and_then (byte_in (code ".")) (option_and_then (byte_in (code "p")) (byte_in (code ".") text)))
+dots_in text =
+    option_and_then (byte_in (code "e"))
+    (option_and_then (byte_in (code ".")) (option_and_then (byte_in (code "p")) (byte_in (code ".") text)))
 
 abbrev pub passing_by : Option (List ℕ) → Option (List ℕ) → List ℕ → Bool × List ℕ
 passing_by (Some front) dots text = (true, front)

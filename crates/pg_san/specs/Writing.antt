@@ -41,13 +41,14 @@ pub record IsRivalOn (p : State) (k : Kind) (m : Move) (among : Among) (s : ℕ)
   pub stands : Stands p.board p.side k s
   pub legal : IsLegal p (plain_move s m.to)
 
--- what tells a man other than a pawn apart: nothing without a rival, else its file without a rival on its file, else its
--- rank without a rival on its rank, else its file and its rank
+-- what tells a man other than a pawn apart: nothing without a rival, else its file without a rival on its file, else
+-- its rank without a rival on its rank, else its file and its rank
 abbrev pub IsHint : State → Kind → Move → Option ℕ → Option ℕ → Type 0
 IsHint p k m None None = ¬ HasRival p k m Anywhere
 IsHint p k m (Some f) None = HasRival p k m Anywhere × ¬ HasRival p k m SameFile × (f ≡ file m.from)
 IsHint p k m None (Some r) = HasRival p k m SameFile × ¬ HasRival p k m SameRank × (r ≡ rank m.from)
-IsHint p k m (Some f) (Some r) = HasRival p k m SameFile × HasRival p k m SameRank × (f ≡ file m.from) × (r ≡ rank m.from)
+IsHint p k m (Some f) (Some r) =
+    HasRival p k m SameFile × HasRival p k m SameRank × (f ≡ file m.from) × (r ≡ rank m.from)
 
 -- a pawn's file, which is written where it captures
 abbrev pub IsPawnHint : Move → Option ℕ → Option ℕ → Type 0
@@ -74,7 +75,8 @@ HasLegal q = (n : Move) × IsLegal q n
 abbrev pub IsSignOf : State → List ℕ → Type 0
 IsSignOf q sign =
     (¬ InCheck q.board q.side × (sign ≡ []))
-    ⊎ ((InCheck q.board q.side × HasLegal q × (sign ≡ codes "+")) ⊎ (InCheck q.board q.side × ¬ HasLegal q × (sign ≡ codes "#")))
+    ⊎ ((InCheck q.board q.side × HasLegal q × (sign ≡ codes "+"))
+    ⊎ (InCheck q.board q.side × ¬ HasLegal q × (sign ≡ codes "#")))
 
 -- the text that is written for the legal move m: what is said of it, and the sign
 pub record IsSan (p : State) (m : Move) (text : List ℕ) : Type 0 where

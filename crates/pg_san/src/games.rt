@@ -12,7 +12,7 @@ use std::cmp::Ordering;
 use std::marker::Model;
 
 // The most games that a list holds.
-pub(crate) const MOST: usize = 4096;
+pub(crate) const MOST_GAMES: usize = 4096;
 
 /// Different games from the initial array, in canonical order: the first moves that differ decide,
 /// and a game comes before each that goes on from it. At most 4,096 games. Contracts see the list of
@@ -129,7 +129,7 @@ impl Games {
         if let Some(ply) = first_illegal(game) {
             return Err(AddFault::IllegalMove(ply));
         }
-        if self.len() >= MOST {
+        if self.len() >= MOST_GAMES {
             return Err(AddFault::TooMany);
         }
         let Some(i) = place(&self.games, game) else {

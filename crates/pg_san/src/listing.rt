@@ -6,11 +6,11 @@ ghost use Rattle.pg_san.specs.inner.LineReading.{IsWordsFault, IsGameFault, IsLi
 
 use crate::adding::AddFault;
 use crate::fault::SanFault;
-use crate::games::{Games, MOST};
+use crate::games::{Games, MOST_GAMES};
 use crate::lines::next_line;
 use crate::listing_fault::GamesFault;
 use crate::reading::read_bytes;
-use crate::words::{bare, next_word};
+use crate::words::{next_word, without_move_number};
 use pg_position::{Move, Position};
 use std::alloc::Global;
 
@@ -41,7 +41,7 @@ fn read_words(alloc: Global, line: &[u8]) -> Result<Vec<Move>, LineFault>
     let mut rest = line;
     while let Some((word, after)) = next_word(rest) {
         rest = after;
-        let text = bare(word);
+        let text = without_move_number(word);
         if !text.is_empty() {
             let m = match read_bytes(&here, text) {
                 Ok(m) => m,
@@ -86,7 +86,7 @@ fn add_line(alloc: Global, games: &mut Games, line: &[u8], number: usize) -> Res
     ensures ok { OnOk result (IsLineRead line.now games.old games.new) }
     ensures err { IfErr result (λ e. IsLineFault line.now number games.old e) }
 {
-    if games.len() >= MOST {
+    if games.len() >= MOST_GAMES {
         return Err(GamesFault::TooMany { line: number });
     }
     let game = match read_game(alloc, line) {

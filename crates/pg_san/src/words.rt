@@ -1,7 +1,7 @@
 //! The words of a line of games.
 ghost use Rattle.std.specs.Prelude.{◌≡◌, ◌<◌, ◌≤◌, MatchOption, [], ◌∷◌, length};
 ghost use Rattle.std.specs.List.{prefix_len};
-ghost use Rattle.pg_san.specs.GameText.{is_gap, is_word_byte, words, is_dot, digits_len, bare};
+ghost use Rattle.pg_san.specs.GameText.{is_gap, is_word_byte, words, is_dot, digits_len, without_move_number};
 
 fn is_gap(byte: u8) -> bool
     ensures { result ≡ is_gap byte }
@@ -51,9 +51,9 @@ fn dot_len(text: &[u8]) -> usize
 }
 
 // The word without a move number at its front.
-#[tactic(auto, unfolding(crate::specs::GameText::bare))]
-pub(crate) fn bare(word: &[u8]) -> &[u8]
-    ensures { result.now ≡ bare word.now }
+#[tactic(auto, unfolding(crate::specs::GameText::without_move_number))]
+pub(crate) fn without_move_number(word: &[u8]) -> &[u8]
+    ensures { result.now ≡ without_move_number word.now }
 {
     let digits = digits_len(word);
     let (_, rest) = word.split_at(digits);

@@ -343,10 +343,7 @@ fn pawn_prices_of(node: &Node, color: Color, prices: &Prices) -> Option<Sentence
         return Some(too_many(color, owed));
     }
     let (here, goal) = (node.position.board(), node.diagram.board());
-    let pawn = Man {
-        color,
-        kind: Kind::Pawn,
-    };
+    let pawn = Man::new(color, Kind::Pawn);
     let sides = Sides {
         color,
         here,

@@ -9,7 +9,7 @@ use Rattle.pg_board.specs.Tally.{tally}
 use Rattle.pg_board.specs.lemmas.Decisions.{answer, dec_less, dec_colors}
 use Rattle.pg_position.specs.declared.state.State.{State}
 use Rattle.pg_position.specs.declared.moves.Move.{Move}
-use Rattle.pg_position.specs.declared.moves.Way.{Way}
+use Rattle.pg_position.specs.declared.moves.StepKind.{StepKind}
 use Rattle.pg_position.specs.Position.{IsPosition, Stands}
 use Rattle.pg_position.specs.Step.{IsWay, Step, after, board_after}
 use Rattle.pg_position.specs.Game.{Barren}
@@ -41,7 +41,7 @@ more_after d b a White Black own theirs h = omega arith
 more_after d b a Black White own theirs h = omega arith
 more_after d b a Black Black own theirs h = omega arith
 
-men_after : (d : Placement) (p : State) (m : Move) (w : Way) (j : Kind) → IsPosition p → m.to < 64 → Stands p.board p.side j m.from → IsWay p j m w → MenHolds d p → MenHolds d (after p m w)
+men_after : (d : Placement) (p : State) (m : Move) (w : StepKind) (j : Kind) → IsPosition p → m.to < 64 → Stands p.board p.side j m.from → IsWay p j m w → MenHolds d p → MenHolds d (after p m w)
 unfolding MenHolds
 men_after d p m w j valid low stands way (c, h) = (c, more_after d p.board (board_after p m w) p.side c (own_men p j m w valid low stands way) (their_fall any_man p j m w valid low stands way).0 h)
 

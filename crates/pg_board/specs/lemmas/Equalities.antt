@@ -7,7 +7,7 @@ use Rattle.pg_board.specs.declared.man.Color.{Color}
 use Rattle.pg_board.specs.declared.man.Color.TheVariants.{White, Black}
 use Rattle.pg_board.specs.declared.man.Kind.{Kind}
 use Rattle.pg_board.specs.declared.man.Man.{Man}
-use Rattle.pg_board.specs.Men.{color_eq, number_of_kind, kind_eq, man_eq, is_man}
+use Rattle.pg_board.specs.Men.{man, color_eq, number_of_kind, kind_eq, man_eq, is_man, is_of}
 use Rattle.pg_board.specs.lemmas.Codes.{kind_of_number, kind_back}
 
 pub color_decides : (a b : Color) → Decides (color_eq a b) (a ≡ b)
@@ -28,3 +28,10 @@ man_decides a b = Decides-like (man_eq a b)
 pub is_man_decides : (m : Man) (o : Option Man) → Decides (is_man m o) (o ≡ Some m)
 is_man_decides m (Some x) = Decides-like (man_eq x m) (λ e. ap Some e) (λ e. cc) (man_decides x m)
 is_man_decides m None = (λ e. cc, λ e. cc)
+
+pub of_decides : (c : Color) (o : Option Man) → Decides (is_of c o) ((k : Kind) × (o ≡ Some (man c k)))
+of_decides c None = (λ e. absurd (cc), λ h. let e : None ≡ Some (man c h.0) = h.1 in absurd (cc))
+of_decides c (Some m) = Decides-like (color_eq m.color c)
+    (λ e. (m.kind, λ i. Some (record { color = e i; kind = m.kind })))
+    (λ h. let e : m ≡ man c h.0 = (let f : Some m ≡ Some (man c h.0) = h.1 in cc) in ap (λ (x : Man). x.color) e)
+    (color_decides m.color c)

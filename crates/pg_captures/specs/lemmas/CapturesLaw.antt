@@ -8,7 +8,7 @@ use Rattle.pg_board.specs.Tally.{tally}
 use Rattle.pg_board.specs.Men.{other}
 use Rattle.pg_position.specs.declared.state.State.{State}
 use Rattle.pg_position.specs.declared.moves.Move.{Move}
-use Rattle.pg_position.specs.declared.moves.Way.{Way}
+use Rattle.pg_position.specs.declared.moves.StepKind.{StepKind}
 use Rattle.pg_position.specs.Position.{Stands, IsPosition}
 use Rattle.pg_position.specs.Step.{IsWay, board_after, after, Step}
 use Rattle.pg_captures.specs.Counting.{of_color, men, any_man}
@@ -35,7 +35,7 @@ captures_for : (d b a : Board) (side c : Color) (k : ℕ) → men side any_man a
     CapturesFor d b side (suc k) c → CapturesFor d a (other side) k c
 captures_for d b a side c k own theirs h = from_mismatched d a (other side) k c (mismatched_for d b a side c k own theirs (mismatched d b side (suc k) c h))
 
-captures_after : (d : Board) (p : State) (m : Move) (w : Way) (j : Kind) (k : ℕ) → IsPosition p → m.to < 64 → Stands p.board p.side j m.from → IsWay p j m w →
+captures_after : (d : Board) (p : State) (m : Move) (w : StepKind) (j : Kind) (k : ℕ) → IsPosition p → m.to < 64 → Stands p.board p.side j m.from → IsWay p j m w →
     CapturesHolds d p (suc k) → CapturesHolds d (after p m w) k
 unfolding CapturesHolds
 captures_after d p m w j k valid low stands way (c, h) =

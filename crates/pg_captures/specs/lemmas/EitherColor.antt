@@ -7,7 +7,7 @@ use Rattle.pg_board.specs.Men.{other}
 use Rattle.pg_board.specs.Placement.{Placement}
 use Rattle.pg_position.specs.declared.state.State.{State}
 use Rattle.pg_position.specs.declared.moves.Move.{Move}
-use Rattle.pg_position.specs.declared.moves.Way.{Way}
+use Rattle.pg_position.specs.declared.moves.StepKind.{StepKind}
 use Rattle.pg_position.specs.Position.{Stands, IsPosition}
 use Rattle.pg_position.specs.Step.{IsWay, Step, board_after}
 use Rattle.pg_captures.specs.lemmas.Potential.{Lasts}
@@ -25,7 +25,7 @@ other_other Black = refl
 
 -- each move keeps the test for this colour as the mover sees it
 abbrev pub KeptFor : (Color → Color) → (Placement → Color → Type 0) → Type 0
-KeptFor seen H = (p : State) (k : Kind) (m : Move) (w : Way) → IsPosition p → m.to < 64 → Stands p.board p.side k m.from → IsWay p k m w → H p.board (seen p.side) → H (board_after p m w) (seen p.side)
+KeptFor seen H = (p : State) (k : Kind) (m : Move) (w : StepKind) → IsPosition p → m.to < 64 → Stands p.board p.side k m.from → IsWay p k m w → H p.board (seen p.side) → H (board_after p m w) (seen p.side)
 
 pub either_lasts : (H : Placement → Color → Type 0) → KeptFor (λ c. c) H → KeptFor other H → Lasts (λ p k. (c : Color) × H p.board c)
 unfolding Step

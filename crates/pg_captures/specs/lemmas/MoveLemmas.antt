@@ -11,8 +11,8 @@ use Rattle.pg_board.specs.Placement.{Placement, write}
 use Rattle.pg_position.specs.declared.rights.Rights.{Rights}
 use Rattle.pg_position.specs.declared.state.State.{State}
 use Rattle.pg_position.specs.declared.moves.Move.{Move}
-use Rattle.pg_position.specs.declared.moves.Way.{Way}
-use Rattle.pg_position.specs.declared.moves.Way.TheVariants.{Plain, Capture, DoubleAdvance, EnPassant, Promotion, Castling}
+use Rattle.pg_position.specs.declared.moves.StepKind.{StepKind}
+use Rattle.pg_position.specs.declared.moves.StepKind.TheVariants.{Plain, Capture, DoubleAdvance, EnPassant, Promotion, Castling}
 use Rattle.pg_board.specs.Squares.{file, rank}
 use Rattle.pg_position.specs.Geometry.{IsForward, InPattern}
 use Rattle.pg_board.specs.Men.{other, man}
@@ -221,7 +221,7 @@ own_promotion p m k x (lf, lt) stood way =
 abbrev pub OwnMove : State → State → Move → Kind → Type 0
 OwnMove p n m k = OneStep p n p.side k m.from m.to ⊎ ((v : Wing) × Castled p n p.side v)
 
-own_way : (p : State) (m : Move) (k : Kind) (w : Way) → IsPosition p → IsOnBoard m → Stands p.board p.side k m.from → IsWay p k m w → OwnMove p (after p m w) m k
+own_way : (p : State) (m : Move) (k : Kind) (w : StepKind) → IsPosition p → IsOnBoard m → Stands p.board p.side k m.from → IsWay p k m w → OwnMove p (after p m w) m k
 own_way p m k Plain pos mv stood way = inl (own_relocation p (after p m Plain) m k mv stood refl refl (mv.0, mv.1, by_going p.board p.side k m.from m.to way.goes, stays_what_it_is p.side k m.to way.stays))
 own_way p m k Capture pos mv stood way = inl (own_relocation p (after p m Capture) m k mv stood refl refl (mv.0, mv.1, by_pattern p.side k m.from m.to way.reaches.0, stays_what_it_is p.side k m.to way.stays))
 own_way p m k DoubleAdvance pos mv stood way =
@@ -262,7 +262,7 @@ spared_castling p m k v pos mv stood way j t lt h =
     let still : Stands (relocated p.board m.from m.to) p.side Rook (rook_home p.side v) = man_elsewhere p.board m.from m.to (rook_home p.side v) q.rook_from q.rook_to ∙ rook in
     spared_relocation p.board p.side k m.from m.to mv.1 stood j t lt (spared_relocation (relocated p.board m.from m.to) p.side Rook (rook_home p.side v) (king_crossed p.side v) q.crossed_low still j t lt h)
 
-spared_men : (p : State) (m : Move) (k : Kind) (w : Way) → IsPosition p → IsOnBoard m → Stands p.board p.side k m.from → IsWay p k m w → (j : Kind) (t : ℕ) → t < 64 → Stands (after p m w).board (other p.side) j t → Stands p.board (other p.side) j t
+spared_men : (p : State) (m : Move) (k : Kind) (w : StepKind) → IsPosition p → IsOnBoard m → Stands p.board p.side k m.from → IsWay p k m w → (j : Kind) (t : ℕ) → t < 64 → Stands (after p m w).board (other p.side) j t → Stands p.board (other p.side) j t
 spared_men p m k Plain pos mv stood way j t lt h = spared_relocation p.board p.side k m.from m.to mv.1 stood j t lt h
 spared_men p m k Capture pos mv stood way j t lt h = spared_relocation p.board p.side k m.from m.to mv.1 stood j t lt h
 spared_men p m k DoubleAdvance pos mv stood way j t lt h = spared_relocation p.board p.side k m.from m.to mv.1 stood j t lt h
@@ -270,7 +270,7 @@ spared_men p m k EnPassant pos mv stood way j t lt h = spared_relocation p.board
 spared_men p m k (Promotion x) pos mv stood way j t lt h = spared_promotion p.board p.side x m.from m.to mv.1 j t lt h
 spared_men p m k (Castling v) pos mv stood way j t lt h = spared_castling p m k v pos mv stood way j t lt h
 
-spared_way : (p : State) (m : Move) (k : Kind) (w : Way) → IsPosition p → IsOnBoard m → Stands p.board p.side k m.from → IsWay p k m w → Spared p (after p m w) (other p.side)
+spared_way : (p : State) (m : Move) (k : Kind) (w : StepKind) → IsPosition p → IsOnBoard m → Stands p.board p.side k m.from → IsWay p k m w → Spared p (after p m w) (other p.side)
 spared_way p m k w pos mv stood way = record { kept = spared_men p m k w pos mv stood way; rights = λ v h. (kept_right p m (other p.side) v h).held }
 
 pub spared_step : (p n : State) (m : Move) → IsPosition p → Step p m n → Spared p n (other p.side)

@@ -11,8 +11,8 @@ use Rattle.pg_captures.specs.declared.classes.Class.{Class}
 use Rattle.pg_captures.specs.declared.classes.Class.TheVariants.{Queens, Rooks, Knights, LightBishops, DarkBishops}
 use Rattle.pg_position.specs.declared.state.State.{State}
 use Rattle.pg_position.specs.declared.moves.Move.{Move}
-use Rattle.pg_position.specs.declared.moves.Way.{Way}
-use Rattle.pg_position.specs.declared.moves.Way.TheVariants.{Plain, Capture, DoubleAdvance, EnPassant, Promotion, Castling}
+use Rattle.pg_position.specs.declared.moves.StepKind.{StepKind}
+use Rattle.pg_position.specs.declared.moves.StepKind.TheVariants.{Plain, Capture, DoubleAdvance, EnPassant, Promotion, Castling}
 use Rattle.pg_position.specs.Geometry.{apart, OnOneDiagonal, InPattern}
 use Rattle.pg_position.specs.Position.{Stands, IsPosition}
 use Rattle.pg_position.specs.Squares.{rook_home, king_crossed}
@@ -94,7 +94,7 @@ capture_dark p k m way e = let g : InPattern p.side Bishop m.from m.to = rw e at
 rook_class : (l : Class) (r s : ℕ) → in_class l r Rook ≡ in_class l s Rook
 rook_class l r s = class_along l Rook r s (λ e. absurd (let q : Rook ≡ Bishop = e in cc))
 
-abbrev is_promotion : Way → Bool
+abbrev is_promotion : StepKind → Bool
 is_promotion Plain = false
 is_promotion Capture = false
 is_promotion DoubleAdvance = false
@@ -103,7 +103,7 @@ is_promotion (Promotion x) = true
 is_promotion (Castling w) = false
 
 -- how much the class of the new man grows
-abbrev grows : Way → ℕ → Class → ℕ
+abbrev grows : StepKind → ℕ → Class → ℕ
 grows Plain s l = 0
 grows Capture s l = 0
 grows DoubleAdvance s l = 0
@@ -111,7 +111,7 @@ grows EnPassant s l = 0
 grows (Promotion x) s l = one (in_class l s x)
 grows (Castling w) s l = 0
 
-abbrev spent : Way → ℕ
+abbrev spent : StepKind → ℕ
 spent Plain = 0
 spent Capture = 0
 spent DoubleAdvance = 0
@@ -122,7 +122,7 @@ spent (Castling w) = 0
 even : (f : ℕ → Kind → Bool) (x y : ℕ) (k : Kind) (n a b : ℕ) → f x k ≡ f y k → n + (one (f x k) + 0) ≡ b + (one (f y k) + 0) → n ≡ b
 even f x y k n a b e h = let q : one (f x k) ≡ one (f y k) = ap one e in omega arith
 
-class_grown : (l : Class) (p : State) (k : Kind) (m : Move) (w : Way) → IsPosition p → m.to < 64 → Stands p.board p.side k m.from → IsWay p k m w →
+class_grown : (l : Class) (p : State) (k : Kind) (m : Move) (w : StepKind) → IsPosition p → m.to < 64 → Stands p.board p.side k m.from → IsWay p k m w →
     men p.side (in_class l) (board_after p m w) ≤ men p.side (in_class l) p.board + grows w m.to l
 class_grown l p k m Plain valid low stands way =
     let e : men p.side (in_class l) (board_after p m Plain) + (one (in_class l m.from k) + 0) ≡ men p.side (in_class l) p.board + (one (in_class l m.to k) + 0) = own_tally (in_class l) p k m Plain valid low stands way in
@@ -156,7 +156,7 @@ pub not_pawn : (x : Kind) → IsPiece x → is_pawn x ≡ false
 unfolding is_pawn
 not_pawn = each_kind (λ k. IsPiece k → is_pawn k ≡ false) (λ h. absurd (h.0 refl), λ h. refl, λ h. refl, λ h. refl, λ h. refl, λ h. refl)
 
-pawns_fallen : (p : State) (k : Kind) (m : Move) (w : Way) → IsPosition p → m.to < 64 → Stands p.board p.side k m.from → IsWay p k m w →
+pawns_fallen : (p : State) (k : Kind) (m : Move) (w : StepKind) → IsPosition p → m.to < 64 → Stands p.board p.side k m.from → IsWay p k m w →
     men p.side any_pawn (board_after p m w) + spent w ≤ men p.side any_pawn p.board
 unfolding is_pawn
 pawns_fallen p k m Plain valid low stands way = omega (arith, own_tally any_pawn p k m Plain valid low stands way)
@@ -184,7 +184,7 @@ one_class Rook s = omega arith
 one_class Queen s = omega arith
 one_class King s = omega arith
 
-few_grow : (w : Way) (s : ℕ) → grows w s Queens + grows w s Rooks + grows w s Knights + grows w s LightBishops + grows w s DarkBishops ≤ spent w
+few_grow : (w : StepKind) (s : ℕ) → grows w s Queens + grows w s Rooks + grows w s Knights + grows w s LightBishops + grows w s DarkBishops ≤ spent w
 few_grow Plain s = omega arith
 few_grow Capture s = omega arith
 few_grow DoubleAdvance s = omega arith
@@ -192,12 +192,12 @@ few_grow EnPassant s = omega arith
 few_grow (Promotion x) s = one_class x s
 few_grow (Castling v) s = omega arith
 
-own_promotions : (d : Board) (p : State) (k : Kind) (m : Move) (w : Way) → IsPosition p → m.to < 64 → Stands p.board p.side k m.from → IsWay p k m w →
+own_promotions : (d : Board) (p : State) (k : Kind) (m : Move) (w : StepKind) → IsPosition p → m.to < 64 → Stands p.board p.side k m.from → IsWay p k m w →
     PromotionsFor d p.board p.side → PromotionsFor d (board_after p m w) p.side
 own_promotions d p k m w valid low stands way h =
     promotions_kept d p.board (board_after p m w) p.side (grows w m.to) (spent w) (λ l. class_grown l p k m w valid low stands way) (pawns_fallen p k m w valid low stands way) (few_grow w m.to) h
 
-their_promotions : (d : Board) (p : State) (k : Kind) (m : Move) (w : Way) → IsPosition p → m.to < 64 → Stands p.board p.side k m.from → IsWay p k m w →
+their_promotions : (d : Board) (p : State) (k : Kind) (m : Move) (w : StepKind) → IsPosition p → m.to < 64 → Stands p.board p.side k m.from → IsWay p k m w →
     PromotionsFor d p.board (other p.side) → PromotionsFor d (board_after p m w) (other p.side)
 their_promotions d p k m w valid low stands way h =
     promotions_kept d p.board (board_after p m w) (other p.side) (λ l. 0) 0

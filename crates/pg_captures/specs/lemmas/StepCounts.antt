@@ -12,8 +12,8 @@ use Rattle.pg_board.specs.lemmas.Tallies.{tally-write}
 use Rattle.pg_board.specs.lemmas.Placements.{get-write_other, get_on}
 use Rattle.pg_position.specs.declared.state.State.{State}
 use Rattle.pg_position.specs.declared.moves.Move.{Move}
-use Rattle.pg_position.specs.declared.moves.Way.{Way}
-use Rattle.pg_position.specs.declared.moves.Way.TheVariants.{Plain, Capture, DoubleAdvance, EnPassant, Promotion, Castling}
+use Rattle.pg_position.specs.declared.moves.StepKind.{StepKind}
+use Rattle.pg_position.specs.declared.moves.StepKind.TheVariants.{Plain, Capture, DoubleAdvance, EnPassant, Promotion, Castling}
 use Rattle.pg_position.specs.Position.{Stands, IsVacant, IsHome, RightsClause, IsPassed, IsPosition}
 use Rattle.pg_position.specs.Squares.{king_home, rook_home, ahead, king_crossed, king_target}
 use Rattle.pg_position.specs.Step.{IsEnemy, IsEnPassant, IsPromotion, IsCastling, IsWay, relocated, board_after}
@@ -42,7 +42,7 @@ tally_relocated f b r s x lr ls ne is =
     omega arith
 
 -- the square that loses a man of the other colour, if one is taken
-abbrev pub taken_at : State → Move → Way → ℕ
+abbrev pub taken_at : State → Move → StepKind → ℕ
 taken_at p m Plain = m.to
 taken_at p m Capture = m.to
 taken_at p m DoubleAdvance = m.to
@@ -51,7 +51,7 @@ taken_at p m (Promotion x) = m.to
 taken_at p m (Castling w) = m.to
 
 -- the kind that arrives
-abbrev pub placed : Kind → Way → Kind
+abbrev pub placed : Kind → StepKind → Kind
 placed k Plain = k
 placed k Capture = k
 placed k DoubleAdvance = k
@@ -60,7 +60,7 @@ placed k (Promotion x) = x
 placed k (Castling w) = k
 
 -- a number that a castling has by its wing, and any other way has not
-abbrev pub of_castling : (Wing → ℕ) → Way → ℕ
+abbrev pub of_castling : (Wing → ℕ) → StepKind → ℕ
 of_castling n Plain = 0
 of_castling n Capture = 0
 of_castling n DoubleAdvance = 0
@@ -69,7 +69,7 @@ of_castling n (Promotion x) = 0
 of_castling n (Castling w) = n w
 
 -- what is so of 0 and 0, and of two such numbers at each castling, is so of them
-by_castling : (P : ℕ → ℕ → Type 0) (n k : Wing → ℕ) → P 0 0 → ((w : Wing) → P (n w) (k w)) → (w : Way) → P (of_castling n w) (of_castling k w)
+by_castling : (P : ℕ → ℕ → Type 0) (n k : Wing → ℕ) → P 0 0 → ((w : Wing) → P (n w) (k w)) → (w : StepKind) → P (of_castling n w) (of_castling k w)
 by_castling P n k none some Plain = none
 by_castling P n k none some Capture = none
 by_castling P n k none some DoubleAdvance = none
@@ -78,10 +78,10 @@ by_castling P n k none some (Promotion x) = none
 by_castling P n k none some (Castling w) = some w
 
 -- what the castling rook counts for where it leaves and where it comes to
-abbrev pub rook_from : (ℕ → Man → Bool) → Color → Way → ℕ
+abbrev pub rook_from : (ℕ → Man → Bool) → Color → StepKind → ℕ
 rook_from f c way = of_castling (λ w. one (f (rook_home c w) (man c Rook))) way
 
-abbrev pub rook_to : (ℕ → Man → Bool) → Color → Way → ℕ
+abbrev pub rook_to : (ℕ → Man → Bool) → Color → StepKind → ℕ
 rook_to f c way = of_castling (λ w. one (f (king_crossed c w) (man c Rook))) way
 
 -- a square empty or of the other colour is not the mover's
@@ -170,7 +170,7 @@ castling f p k m w valid low stands way =
     omega arith
 
 -- any count, before and after a turn
-pub turn_tally : (f : ℕ → Man → Bool) (p : State) (k : Kind) (m : Move) (w : Way) → IsPosition p → m.to < 64 → Stands p.board p.side k m.from → IsWay p k m w →
+pub turn_tally : (f : ℕ → Man → Bool) (p : State) (k : Kind) (m : Move) (w : StepKind) → IsPosition p → m.to < 64 → Stands p.board p.side k m.from → IsWay p k m w →
     tally f (board_after p m w) + (one (f m.from (man p.side k)) + worth f (taken_at p m w) (get p.board (taken_at p m w)) + rook_from f p.side w)
     ≡ tally f p.board + (one (f m.to (man p.side (placed k w))) + rook_to f p.side w)
 turn_tally f p k m Plain valid low stands way = relocation f p k m valid low stands (vacant_apart p.board m.from m.to (man p.side k) stands way.vacant)
@@ -181,7 +181,7 @@ turn_tally f p k m (Promotion x) valid low stands way = promotion f p k m x vali
 turn_tally f p k m (Castling v) valid low stands way = castling f p k m v valid low stands way
 
 -- what is taken is of the other colour
-pub taken : (p : State) (k : Kind) (m : Move) (w : Way) → IsPosition p → IsWay p k m w →
+pub taken : (p : State) (k : Kind) (m : Move) (w : StepKind) → IsPosition p → IsWay p k m w →
     (get p.board (taken_at p m w) ≡ None) ⊎ ((j : Kind) × (get p.board (taken_at p m w) ≡ Some (man (other p.side) j)))
 unfolding IsEnemy IsPassed
 taken p k m Plain valid way = inl way.vacant
@@ -204,16 +204,16 @@ other_one White x = refl
 other_one Black x = refl
 
 -- the castling rook, by a test of square and kind
-abbrev pub rook_leaves : (ℕ → Kind → Bool) → Color → Way → ℕ
+abbrev pub rook_leaves : (ℕ → Kind → Bool) → Color → StepKind → ℕ
 rook_leaves f c way = of_castling (λ w. one (f (rook_home c w) Rook)) way
 
-abbrev pub rook_comes : (ℕ → Kind → Bool) → Color → Way → ℕ
+abbrev pub rook_comes : (ℕ → Kind → Bool) → Color → StepKind → ℕ
 rook_comes f c way = of_castling (λ w. one (f (king_crossed c w) Rook)) way
 
-own_castling : (f : ℕ → Kind → Bool) (c : Color) (s : Wing → ℕ) (w : Way) → of_castling (λ v. one (of_color c f (s v) (man c Rook))) w ≡ of_castling (λ v. one (f (s v) Rook)) w
+own_castling : (f : ℕ → Kind → Bool) (c : Color) (s : Wing → ℕ) (w : StepKind) → of_castling (λ v. one (of_color c f (s v) (man c Rook))) w ≡ of_castling (λ v. one (f (s v) Rook)) w
 own_castling f c s w = by_castling (λ x y. x ≡ y) (λ v. one (of_color c f (s v) (man c Rook))) (λ v. one (f (s v) Rook)) refl (λ v. own_one c (f (s v) Rook)) w
 
-their_castling : (f : ℕ → Kind → Bool) (c : Color) (s : Wing → ℕ) (w : Way) → of_castling (λ v. one (of_color (other c) f (s v) (man c Rook))) w ≡ 0
+their_castling : (f : ℕ → Kind → Bool) (c : Color) (s : Wing → ℕ) (w : StepKind) → of_castling (λ v. one (of_color (other c) f (s v) (man c Rook))) w ≡ 0
 their_castling f c s w = by_castling (λ x y. x ≡ 0) (λ v. one (of_color (other c) f (s v) (man c Rook))) (λ v. 0) refl (λ v. their_one c (f (s v) Rook)) w
 
 -- the taken man is none of the mover's
@@ -226,7 +226,7 @@ worth_le g t None = omega arith
 worth_le g t (Some x) = one-le (g t x)
 
 -- any count of the mover's men
-pub own_tally : (f : ℕ → Kind → Bool) (p : State) (k : Kind) (m : Move) (w : Way) → IsPosition p → m.to < 64 → Stands p.board p.side k m.from → IsWay p k m w →
+pub own_tally : (f : ℕ → Kind → Bool) (p : State) (k : Kind) (m : Move) (w : StepKind) → IsPosition p → m.to < 64 → Stands p.board p.side k m.from → IsWay p k m w →
     men p.side f (board_after p m w) + (one (f m.from k) + rook_leaves f p.side w) ≡ men p.side f p.board + (one (f m.to (placed k w)) + rook_comes f p.side w)
 own_tally f p k m w valid low stands way =
     let c : Color = p.side in
@@ -242,7 +242,7 @@ own_tally f p k m w valid low stands way =
     omega arith
 
 -- any count of the other side's men
-pub their_tally : (f : ℕ → Kind → Bool) (p : State) (k : Kind) (m : Move) (w : Way) → IsPosition p → m.to < 64 → Stands p.board p.side k m.from → IsWay p k m w →
+pub their_tally : (f : ℕ → Kind → Bool) (p : State) (k : Kind) (m : Move) (w : StepKind) → IsPosition p → m.to < 64 → Stands p.board p.side k m.from → IsWay p k m w →
     men (other p.side) f (board_after p m w) + worth (of_color (other p.side) f) (taken_at p m w) (get p.board (taken_at p m w)) ≡ men (other p.side) f p.board
 their_tally f p k m w valid low stands way =
     let g : Color = other p.side in
@@ -255,7 +255,7 @@ their_tally f p k m w valid low stands way =
     let r2 : rook_to (of_color (other p.side) f) p.side w ≡ 0 = their_castling f p.side (king_crossed p.side) w in
     omega arith
 
-pub their_fall : (f : ℕ → Kind → Bool) (p : State) (k : Kind) (m : Move) (w : Way) → IsPosition p → m.to < 64 → Stands p.board p.side k m.from → IsWay p k m w →
+pub their_fall : (f : ℕ → Kind → Bool) (p : State) (k : Kind) (m : Move) (w : StepKind) → IsPosition p → m.to < 64 → Stands p.board p.side k m.from → IsWay p k m w →
     (men (other p.side) f (board_after p m w) ≤ men (other p.side) f p.board) × (men (other p.side) f p.board ≤ men (other p.side) f (board_after p m w) + 1)
 their_fall f p k m w valid low stands way =
     let e : men (other p.side) f (board_after p m w) + worth (of_color (other p.side) f) (taken_at p m w) (get p.board (taken_at p m w)) ≡ men (other p.side) f p.board = their_tally f p k m w valid low stands way in
@@ -267,19 +267,19 @@ self_one White = refl
 self_one Black = refl
 
 -- where a man is taken, the other side has one man less
-pub took_one : (p : State) (k : Kind) (m : Move) (w : Way) → IsPosition p → m.to < 64 → Stands p.board p.side k m.from → IsWay p k m w → (j : Kind) → get p.board (taken_at p m w) ≡ Some (man (other p.side) j) →
+pub took_one : (p : State) (k : Kind) (m : Move) (w : StepKind) → IsPosition p → m.to < 64 → Stands p.board p.side k m.from → IsWay p k m w → (j : Kind) → get p.board (taken_at p m w) ≡ Some (man (other p.side) j) →
     men (other p.side) any_man (board_after p m w) + 1 ≡ men (other p.side) any_man p.board
 took_one p k m w valid low stands way j there =
     let e : men (other p.side) any_man (board_after p m w) + worth (of_color (other p.side) any_man) (taken_at p m w) (get p.board (taken_at p m w)) ≡ men (other p.side) any_man p.board = their_tally any_man p k m w valid low stands way in
     let z : worth (of_color (other p.side) any_man) (taken_at p m w) (get p.board (taken_at p m w)) ≡ 1 = ap (worth (of_color (other p.side) any_man) (taken_at p m w)) there ∙ self_one p.side in
     omega arith
 
-rook_even : (f : ℕ → Kind → Bool) (c : Color) (w : Way) → ((s : ℕ) (j : Kind) → f s j ≡ true) → rook_leaves f c w ≡ rook_comes f c w
+rook_even : (f : ℕ → Kind → Bool) (c : Color) (w : StepKind) → ((s : ℕ) (j : Kind) → f s j ≡ true) → rook_leaves f c w ≡ rook_comes f c w
 rook_even f c w all =
     by_castling (λ x y. x ≡ y) (λ v. one (f (rook_home c v) Rook)) (λ v. one (f (king_crossed c v) Rook)) refl
     (λ v. ap one (all (rook_home c v) Rook ∙ sym (all (king_crossed c v) Rook))) w
 
-own_men_by : (f : ℕ → Kind → Bool) (p : State) (k : Kind) (m : Move) (w : Way) → ((s : ℕ) (j : Kind) → f s j ≡ true) → IsPosition p → m.to < 64 → Stands p.board p.side k m.from → IsWay p k m w →
+own_men_by : (f : ℕ → Kind → Bool) (p : State) (k : Kind) (m : Move) (w : StepKind) → ((s : ℕ) (j : Kind) → f s j ≡ true) → IsPosition p → m.to < 64 → Stands p.board p.side k m.from → IsWay p k m w →
     men p.side f (board_after p m w) ≡ men p.side f p.board
 own_men_by f p k m w all valid low stands way =
     let e : men p.side f (board_after p m w) + (one (f m.from k) + rook_leaves f p.side w) ≡ men p.side f p.board + (one (f m.to (placed k w)) + rook_comes f p.side w) = own_tally f p k m w valid low stands way in
@@ -289,6 +289,6 @@ own_men_by f p k m w all valid low stands way =
     omega arith
 
 -- the mover's men in all
-pub own_men : (p : State) (k : Kind) (m : Move) (w : Way) → IsPosition p → m.to < 64 → Stands p.board p.side k m.from → IsWay p k m w →
+pub own_men : (p : State) (k : Kind) (m : Move) (w : StepKind) → IsPosition p → m.to < 64 → Stands p.board p.side k m.from → IsWay p k m w →
     men p.side any_man (board_after p m w) ≡ men p.side any_man p.board
 own_men p k m w valid low stands way = own_men_by any_man p k m w (λ s j. refl) valid low stands way

@@ -10,8 +10,8 @@ use Rattle.pg_board.specs.Tally.{one}
 use Rattle.pg_board.specs.Men.{man, other}
 use Rattle.pg_position.specs.declared.state.State.{State}
 use Rattle.pg_position.specs.declared.moves.Move.{Move}
-use Rattle.pg_position.specs.declared.moves.Way.{Way}
-use Rattle.pg_position.specs.declared.moves.Way.TheVariants.{Plain, Capture, DoubleAdvance, EnPassant, Promotion, Castling}
+use Rattle.pg_position.specs.declared.moves.StepKind.{StepKind}
+use Rattle.pg_position.specs.declared.moves.StepKind.TheVariants.{Plain, Capture, DoubleAdvance, EnPassant, Promotion, Castling}
 use Rattle.pg_position.specs.Geometry.{apart, InPattern}
 use Rattle.pg_position.specs.Position.{Stands, IsVacant, IsPassed, IsPosition}
 use Rattle.pg_position.specs.Squares.{ahead, passed_rank, last_rank}
@@ -39,7 +39,7 @@ not_last Black s h = omega arith
 other_file : (r s : ℕ) → apart (file r) (file s) ≡ 1 → file r ≢ file s
 other_file r s a e = omega arith
 
-unpromoted : (p : State) (k : Kind) (m : Move) (w : Way) → rank m.to ≡ passed_rank p.side → IsWay p k m w → m.promotion ≡ None
+unpromoted : (p : State) (k : Kind) (m : Move) (w : StepKind) → rank m.to ≡ passed_rank p.side → IsWay p k m w → m.promotion ≡ None
 unpromoted p k m Plain r h = h.unpromoted
 unpromoted p k m Capture r h = h.unpromoted
 unpromoted p k m DoubleAdvance r h = h.unpromoted
@@ -48,7 +48,7 @@ unpromoted p k m (Promotion x) r h = absurd (not_last p.side m.to r h.must.1)
 unpromoted p k m (Castling v) r h = h.unpromoted
 
 -- a pawn that goes to the passed square from another file captures en passant
-passing_way : (p : State) (k : Kind) (m : Move) (w : Way) → IsPosition p → Stands p.board p.side k m.from → IsWay p k m w → TakesPassing p m → w ≡ EnPassant
+passing_way : (p : State) (k : Kind) (m : Move) (w : StepKind) → IsPosition p → Stands p.board p.side k m.from → IsWay p k m w → TakesPassing p m → w ≡ EnPassant
 unfolding IsPassed
 passing_way p k m w valid stands way (passed, pawn, files) =
     let kind : k ≡ Pawn = same_kind stands pawn in
@@ -62,7 +62,7 @@ unfolding InPattern
 en_passant_takes p k m stands h = (h.passed, subst (λ (x : Kind). Stands p.board p.side x m.from) h.pawn stands, other_file m.from m.to h.reaches.0)
 
 -- a move to an empty square that is no capture en passant takes nothing
-vacant_takes : (p : State) (k : Kind) (m : Move) (w : Way) → IsPosition p → Stands p.board p.side k m.from → IsWay p k m w → IsVacant p.board m.to → (w ≡ EnPassant → ⊥) → ¬ Takes p m
+vacant_takes : (p : State) (k : Kind) (m : Move) (w : StepKind) → IsPosition p → Stands p.board p.side k m.from → IsWay p k m w → IsVacant p.board m.to → (w ≡ EnPassant → ⊥) → ¬ Takes p m
 unfolding Takes
 vacant_takes p k m w valid stands way v ne (inl enemy) = not_both p m.to v enemy
 vacant_takes p k m w valid stands way v ne (inr passing) = ne (passing_way p k m w valid stands way passing)
@@ -76,7 +76,7 @@ unfolding Takes
 passing_takes p k m stands h = inr (en_passant_takes p k m stands h)
 
 -- it takes a man just where one stands on the square that loses it
-takes_man : (p : State) (k : Kind) (m : Move) (w : Way) (j : Kind) → Stands p.board p.side k m.from → IsWay p k m w → get p.board (taken_at p m w) ≡ Some (man (other p.side) j) → Takes p m
+takes_man : (p : State) (k : Kind) (m : Move) (w : StepKind) (j : Kind) → Stands p.board p.side k m.from → IsWay p k m w → get p.board (taken_at p m w) ≡ Some (man (other p.side) j) → Takes p m
 unfolding IsEnemy
 takes_man p k m Plain j stands way there = enemy_takes p m (j, there)
 takes_man p k m Capture j stands way there = enemy_takes p m (j, there)
@@ -85,7 +85,7 @@ takes_man p k m EnPassant j stands way there = passing_takes p k m stands way
 takes_man p k m (Promotion x) j stands way there = enemy_takes p m (j, there)
 takes_man p k m (Castling v) j stands way there = enemy_takes p m (j, there)
 
-takes_none : (p : State) (k : Kind) (m : Move) (w : Way) → IsPosition p → Stands p.board p.side k m.from → IsWay p k m w → get p.board (taken_at p m w) ≡ None → ¬ Takes p m
+takes_none : (p : State) (k : Kind) (m : Move) (w : StepKind) → IsPosition p → Stands p.board p.side k m.from → IsWay p k m w → get p.board (taken_at p m w) ≡ None → ¬ Takes p m
 unfolding IsPassed
 takes_none p k m Plain valid stands way none = vacant_takes p k m Plain valid stands way none (λ e. cc)
 takes_none p k m Capture valid stands way none = vacant_takes p k m Capture valid stands way none (λ e. cc)
@@ -94,7 +94,7 @@ takes_none p k m EnPassant valid stands way none = absurd (let pawn : get p.boar
 takes_none p k m (Promotion x) valid stands way none = vacant_takes p k m (Promotion x) valid stands way none (λ e. cc)
 takes_none p k m (Castling v) valid stands way none = vacant_takes p k m (Castling v) valid stands way none (λ e. cc)
 
-theirs_left : (p : State) (k : Kind) (m : Move) (w : Way) (b : Bool) → IsPosition p → m.to < 64 → Stands p.board p.side k m.from → IsWay p k m w → IsTrue b ↔ Takes p m →
+theirs_left : (p : State) (k : Kind) (m : Move) (w : StepKind) (b : Bool) → IsPosition p → m.to < 64 → Stands p.board p.side k m.from → IsWay p k m w → IsTrue b ↔ Takes p m →
     men (other p.side) any_man (board_after p m w) + one b ≡ men (other p.side) any_man p.board
 theirs_left p k m w b valid low stands way h =
     elim (taken p k m w valid way) [

@@ -11,8 +11,8 @@ use Rattle.pg_board.specs.lemmas.Sums.{total_same, total_changed, total-le, tota
 use Rattle.pg_board.specs.Placement.{Placement as Board}
 use Rattle.pg_position.specs.declared.state.State.{State}
 use Rattle.pg_position.specs.declared.moves.Move.{Move}
-use Rattle.pg_position.specs.declared.moves.Way.{Way}
-use Rattle.pg_position.specs.declared.moves.Way.TheVariants.{Plain, Capture, DoubleAdvance, EnPassant, Promotion, Castling}
+use Rattle.pg_position.specs.declared.moves.StepKind.{StepKind}
+use Rattle.pg_position.specs.declared.moves.StepKind.TheVariants.{Plain, Capture, DoubleAdvance, EnPassant, Promotion, Castling}
 use Rattle.pg_position.specs.Geometry.{apart, InPattern}
 use Rattle.pg_position.specs.Position.{IsPosition, IsPassed, Stands}
 use Rattle.pg_position.specs.Step.{IsEnemy, Goes, IsWay, board_after}
@@ -70,7 +70,7 @@ files_kept d b a c y s o h =
 no_pawn : (f : ℕ → Kind → Bool) → OfPawns f → (s : ℕ) (k : Kind) → is_pawn k ≡ false → one (f s k) ≡ 0
 no_pawn f of s k e = ap one (of s k e)
 
-no_rook : (f : ℕ → Kind → Bool) → OfPawns f → (c : Color) (w : Way) → rook_comes f c w ≡ 0
+no_rook : (f : ℕ → Kind → Bool) → OfPawns f → (c : Color) (w : StepKind) → rook_comes f c w ≡ 0
 unfolding is_pawn
 no_rook f of c Plain = refl
 no_rook f of c Capture = refl
@@ -80,7 +80,7 @@ no_rook f of c (Promotion x) = refl
 no_rook f of c (Castling v) = no_pawn f of (king_crossed c v) Rook refl
 
 -- where the arriving man is no pawn or counts as the leaving one, no count of pawns grows
-pawns_no_more : (f : ℕ → Kind → Bool) → OfPawns f → (p : State) (k : Kind) (m : Move) (w : Way) → IsPosition p → m.to < 64 → Stands p.board p.side k m.from → IsWay p k m w →
+pawns_no_more : (f : ℕ → Kind → Bool) → OfPawns f → (p : State) (k : Kind) (m : Move) (w : StepKind) → IsPosition p → m.to < 64 → Stands p.board p.side k m.from → IsWay p k m w →
     one (f m.to (placed k w)) ≤ one (f m.from k) → men p.side f (board_after p m w) ≤ men p.side f p.board
 pawns_no_more f of p k m w valid low stands way h =
     let e : men p.side f (board_after p m w) + (one (f m.from k) + rook_leaves f p.side w) ≡ men p.side f p.board + (one (f m.to (placed k w)) + rook_comes f p.side w) = own_tally f p k m w valid low stands way in
@@ -141,11 +141,11 @@ shift_fallen d b a c r s x h = elim (step_files r s h) [
   | inr e ↦ total_fallen (line_need d b c) (line_need d a c) 7 (s % 8) (omega arith) (λ n l ne. line_kept d b a c r s n x (sym (same_side_up s r n e ne))) (line_falls d b a c r s (s % 8) x)
 ]
 
-theirs_no_more : (p : State) (k : Kind) (m : Move) (w : Way) → IsPosition p → m.to < 64 → Stands p.board p.side k m.from → IsWay p k m w → men (other p.side) any_man (board_after p m w) + 0 ≤ men (other p.side) any_man p.board
+theirs_no_more : (p : State) (k : Kind) (m : Move) (w : StepKind) → IsPosition p → m.to < 64 → Stands p.board p.side k m.from → IsWay p k m w → men (other p.side) any_man (board_after p m w) + 0 ≤ men (other p.side) any_man p.board
 theirs_no_more p k m w valid low stands way = let e : men (other p.side) any_man (board_after p m w) ≤ men (other p.side) any_man p.board = (their_fall any_man p k m w valid low stands way).0 in omega arith
 
 -- the mover is no pawn
-files_by_piece : (d : Board) (p : State) (k : Kind) (m : Move) (w : Way) → IsPosition p → m.to < 64 → Stands p.board p.side k m.from → IsWay p k m w → is_pawn (placed k w) ≡ false →
+files_by_piece : (d : Board) (p : State) (k : Kind) (m : Move) (w : StepKind) → IsPosition p → m.to < 64 → Stands p.board p.side k m.from → IsWay p k m w → is_pawn (placed k w) ≡ false →
     PawnFilesFor d p.board p.side → PawnFilesFor d (board_after p m w) p.side
 files_by_piece d p k m w valid low stands way piece h =
     files_kept d p.board (board_after p m w) p.side 0
@@ -153,19 +153,19 @@ files_by_piece d p k m w valid low stands way piece h =
     (λ f of. pawns_no_more f of p k m w valid low stands way (let z : one (f m.to (placed k w)) ≡ 0 = no_pawn f of m.to (placed k w) piece in omega arith)) in omega arith)
     (theirs_no_more p k m w valid low stands way) h
 
-files_by_advance : (d : Board) (p : State) (k : Kind) (m : Move) (w : Way) → IsPosition p → m.to < 64 → Stands p.board p.side k m.from → IsWay p k m w → Crosses p.board (board_after p m w) p.side m.from m.to → file m.from ≡ file m.to →
+files_by_advance : (d : Board) (p : State) (k : Kind) (m : Move) (w : StepKind) → IsPosition p → m.to < 64 → Stands p.board p.side k m.from → IsWay p k m w → Crosses p.board (board_after p m w) p.side m.from m.to → file m.from ≡ file m.to →
     PawnFilesFor d p.board p.side → PawnFilesFor d (board_after p m w) p.side
 files_by_advance d p k m w valid low stands way x e h =
     files_kept d p.board (board_after p m w) p.side 0
     (let q : shift d p.board p.side ≡ shift d (board_after p m w) p.side = shift_same d p.board (board_after p m w) p.side m.from m.to x e in omega arith)
     (theirs_no_more p k m w valid low stands way) h
 
-files_by_capture : (d : Board) (p : State) (k : Kind) (m : Move) (w : Way) → IsPosition p → m.to < 64 → Stands p.board p.side k m.from → IsWay p k m w → Crosses p.board (board_after p m w) p.side m.from m.to → apart (file m.from) (file m.to) ≡ 1 →
+files_by_capture : (d : Board) (p : State) (k : Kind) (m : Move) (w : StepKind) → IsPosition p → m.to < 64 → Stands p.board p.side k m.from → IsWay p k m w → Crosses p.board (board_after p m w) p.side m.from m.to → apart (file m.from) (file m.to) ≡ 1 →
     men (other p.side) any_man (board_after p m w) + 1 ≡ men (other p.side) any_man p.board → PawnFilesFor d p.board p.side → PawnFilesFor d (board_after p m w) p.side
 files_by_capture d p k m w valid low stands way x e took h =
     files_kept d p.board (board_after p m w) p.side 1 (shift_fallen d p.board (board_after p m w) p.side m.from m.to x e) (omega arith) h
 
-crosses : (p : State) (k : Kind) (m : Move) (w : Way) → IsPosition p → m.to < 64 → Stands p.board p.side k m.from → IsWay p k m w → k ≡ Pawn → placed k w ≡ k → ((f : ℕ → Kind → Bool) → rook_leaves f p.side w ≡ 0) → ((f : ℕ → Kind → Bool) → rook_comes f p.side w ≡ 0) →
+crosses : (p : State) (k : Kind) (m : Move) (w : StepKind) → IsPosition p → m.to < 64 → Stands p.board p.side k m.from → IsWay p k m w → k ≡ Pawn → placed k w ≡ k → ((f : ℕ → Kind → Bool) → rook_leaves f p.side w ≡ 0) → ((f : ℕ → Kind → Bool) → rook_comes f p.side w ≡ 0) →
     Crosses p.board (board_after p m w) p.side m.from m.to
 crosses p k m w valid low stands way pawn kept leaves comes = record {
   counts = λ f.
@@ -177,7 +177,7 @@ crosses p k m w valid low stands way pawn kept leaves comes = record {
       omega arith;
 }
 
-own_files : (d : Board) (p : State) (k : Kind) (m : Move) (w : Way) → IsPosition p → m.to < 64 → Stands p.board p.side k m.from → IsWay p k m w →
+own_files : (d : Board) (p : State) (k : Kind) (m : Move) (w : StepKind) → IsPosition p → m.to < 64 → Stands p.board p.side k m.from → IsWay p k m w →
     PawnFilesFor d p.board p.side → PawnFilesFor d (board_after p m w) p.side
 unfolding Goes InPattern IsEnemy IsPassed is_pawn
 own_files d p k m Plain valid low stands way h = elim (pawn_or k) [
@@ -193,7 +193,7 @@ own_files d p k m EnPassant valid low stands way h = files_by_capture d p k m En
 own_files d p k m (Promotion x) valid low stands way h = files_by_piece d p k m (Promotion x) valid low stands way (not_pawn x way.piece) h
 own_files d p k m (Castling v) valid low stands way h = files_by_piece d p k m (Castling v) valid low stands way (ap is_pawn way.king) h
 
-their_files : (d : Board) (p : State) (k : Kind) (m : Move) (w : Way) → IsPosition p → m.to < 64 → Stands p.board p.side k m.from → IsWay p k m w →
+their_files : (d : Board) (p : State) (k : Kind) (m : Move) (w : StepKind) → IsPosition p → m.to < 64 → Stands p.board p.side k m.from → IsWay p k m w →
     PawnFilesFor d p.board (other p.side) → PawnFilesFor d (board_after p m w) (other p.side)
 their_files d p k m w valid low stands way h =
     let s : shift d p.board (other p.side) ≤ shift d (board_after p m w) (other p.side) = shift_grown d p.board (board_after p m w) (other p.side) (λ f of. (their_fall f p k m w valid low stands way).0) in

@@ -17,8 +17,8 @@ use Rattle.pg_board.specs.lemmas.Sums.{total_changed, total-le}
 use Rattle.pg_board.specs.Placement.{Placement, get}
 use Rattle.pg_position.specs.declared.state.State.{State}
 use Rattle.pg_position.specs.declared.moves.Move.{Move}
-use Rattle.pg_position.specs.declared.moves.Way.{Way}
-use Rattle.pg_position.specs.declared.moves.Way.TheVariants.{Plain, Capture, DoubleAdvance, EnPassant, Promotion, Castling}
+use Rattle.pg_position.specs.declared.moves.StepKind.{StepKind}
+use Rattle.pg_position.specs.declared.moves.StepKind.TheVariants.{Plain, Capture, DoubleAdvance, EnPassant, Promotion, Castling}
 use Rattle.pg_position.specs.Geometry.{apart, InPattern}
 use Rattle.pg_position.specs.Position.{Stands, IsPosition, IsPassed}
 use Rattle.pg_position.specs.Squares.{last_rank, king_target, king_crossed}
@@ -214,7 +214,7 @@ came_pawn c Queen r s (lr, ls, step, e) = cc
 came_pawn c King r s (lr, ls, step, e) = cc
 
 -- a pawn that changes its file takes a man
-shift_taken : (p : State) (k : Kind) (m : Move) (w : Way) → IsPosition p → m.to < 64 → Stands p.board p.side k m.from → IsWay p k m w → k ≡ Pawn → rank m.to ≢ last_rank p.side →
+shift_taken : (p : State) (k : Kind) (m : Move) (w : StepKind) → IsPosition p → m.to < 64 → Stands p.board p.side k m.from → IsWay p k m w → k ≡ Pawn → rank m.to ≢ last_rank p.side →
     victims p.side (board_after p m w) + apart (file m.from) (file m.to) ≤ victims p.side p.board
 unfolding Goes InPattern IsEnemy IsPassed
 shift_taken p k m Plain valid low stands way e off =
@@ -239,7 +239,7 @@ shift_taken p k m (Promotion x) valid low stands way e off = absurd (off way.mus
 shift_taken p k m (Castling v) valid low stands way e off = absurd (let q : King ≡ Pawn = sym way.king ∙ e in cc)
 
 -- c's own move
-above_own : (d : Placement) (p : State) (v : ℕ → ℕ) (k : Kind) (m : Move) (w : Way) → IsPosition p → m.from < 64 → m.to < 64 → Stands p.board p.side k m.from → IsWay p k m w → (j : Kind) → OwnMove p (after p m w) m j → Above d p.board p.side v → Above d (board_after p m w) p.side v
+above_own : (d : Placement) (p : State) (v : ℕ → ℕ) (k : Kind) (m : Move) (w : StepKind) → IsPosition p → m.from < 64 → m.to < 64 → Stands p.board p.side k m.from → IsWay p k m w → (j : Kind) → OwnMove p (after p m w) m j → Above d p.board p.side v → Above d (board_after p m w) p.side v
 above_own d p v k m w valid lf low stands way j (inr (wing, st)) h = above_fewer d p.board (board_after p m w) p.side v kept (their_fall any_man p k m w valid low stands way).0 h
   where
     kept : (t : ℕ) → t < 64 → Stands (board_after p m w) p.side Pawn t → Stands p.board p.side Pawn t
@@ -277,7 +277,7 @@ above_own d p v k m w valid lf low stands way j (inl st) h = go (is_there p.side
         above_went d p.board (board_after p m w) p.side v m.from m.to step.0 went h
 
 -- the other side's move
-above_other : (d : Placement) (p : State) (v : ℕ → ℕ) (k : Kind) (m : Move) (w : Way) → IsPosition p → m.to < 64 → Stands p.board p.side k m.from → IsWay p k m w → Spared p (after p m w) (other p.side) → Above d p.board (other p.side) v → Above d (board_after p m w) (other p.side) v
+above_other : (d : Placement) (p : State) (v : ℕ → ℕ) (k : Kind) (m : Move) (w : StepKind) → IsPosition p → m.to < 64 → Stands p.board p.side k m.from → IsWay p k m w → Spared p (after p m w) (other p.side) → Above d p.board (other p.side) v → Above d (board_after p m w) (other p.side) v
 above_other d p v k m w valid low stands way sp h =
     let o : men (other (other p.side)) any_man (board_after p m w) ≡ men (other (other p.side)) any_man p.board = rw other_other (own_men p k m w valid low stands way) in
     above_fewer d p.board (board_after p m w) (other p.side) v (λ t lt s. sp.kept Pawn t lt s) (omega arith) h

@@ -1,7 +1,7 @@
 use Rattle.std.proofs.Common.{◌≡◌, ◌<◌, [], length, sym, ◌∙◌, arith}
 use Rattle.std.proofs.lemmas.Bool.Decides.{nat_tests}
 use Rattle.std.proofs.lemmas.List.{nil_from_length}
-use Rattle.pg_san.specs.GameText.{words, bare}
+use Rattle.pg_san.specs.GameText.{words, without_move_number}
 use Rattle.pg_san.proofs.WordReadingLemmas.{so_none, so_skip, so_move, so_bad, so_kept, so_lost}
 use Rattle.pg_san.proofs.listing.read_words.Goals as goal
 
@@ -13,21 +13,21 @@ loop-word-init c = record {
 
 pub returns-in-Err : goal.returns-in-Err
 returns-in-Err c =
-    let l : 0 < length c.bare-text.result.now = grind (arith, nat_tests) in
-    so_bad (words c.args.line.now) (words c.loop-word.rest.now) (words c.in-Some.after.now) c.in-Some.word.now c.bare-text.result.now c.loop-word.plies c.loop-word.kept c.loop-word.game.items c.loop-word.here c.in-Err.cause c.loop-word.invariant.spelled c.in-Some.ensures.0 c.bare-text.ensures l c.in-Err.ensures
+    let l : 0 < length c.without_move_number-text.result.now = grind (arith, nat_tests) in
+    so_bad (words c.args.line.now) (words c.loop-word.rest.now) (words c.in-Some.after.now) c.in-Some.word.now c.without_move_number-text.result.now c.loop-word.plies c.loop-word.kept c.loop-word.game.items c.loop-word.here c.in-Err.cause c.loop-word.invariant.spelled c.in-Some.ensures.0 c.without_move_number-text.ensures l c.in-Err.ensures
 
 pub loop-word-preserved-then-not-is_empty : goal.loop-word-preserved-then-not-is_empty
 loop-word-preserved-then-not-is_empty c =
-    let l : 0 < length c.bare-text.result.now = grind (arith, nat_tests) in
+    let l : 0 < length c.without_move_number-text.result.now = grind (arith, nat_tests) in
     record {
       few = omega (arith, c.loop-word.invariant.few, c.in-Some.ensures.1);
-      spelled = so_move (words c.args.line.now) (words c.loop-word.rest.now) (words c.in-Some.after.now) c.in-Some.word.now c.bare-text.result.now c.loop-word.plies c.loop-word.kept c.keep-kept.result c.loop-word.game.items c.keep-kept.new.game.items c.in-Ok.m c.loop-word.here c.after-here.result c.loop-word.invariant.spelled c.in-Some.ensures.0 c.bare-text.ensures l c.in-Ok.ensures c.after-here.ensures.legal c.keep-kept.ensures;
+      spelled = so_move (words c.args.line.now) (words c.loop-word.rest.now) (words c.in-Some.after.now) c.in-Some.word.now c.without_move_number-text.result.now c.loop-word.plies c.loop-word.kept c.keep-kept.result c.loop-word.game.items c.keep-kept.new.game.items c.in-Ok.m c.loop-word.here c.after-here.result c.loop-word.invariant.spelled c.in-Some.ensures.0 c.without_move_number-text.ensures l c.in-Ok.ensures c.after-here.ensures.legal c.keep-kept.ensures;
     }
 
 pub loop-word-preserved : goal.loop-word-preserved
 loop-word-preserved c =
-    let l : length c.bare-text.result.now ≡ 0 = grind (arith, nat_tests) in
-    let nil : bare c.in-Some.word.now ≡ [] = sym c.bare-text.ensures ∙ nil_from_length c.bare-text.result.now l in
+    let l : length c.without_move_number-text.result.now ≡ 0 = grind (arith, nat_tests) in
+    let nil : without_move_number c.in-Some.word.now ≡ [] = sym c.without_move_number-text.ensures ∙ nil_from_length c.without_move_number-text.result.now l in
     record {
       few = omega (arith, c.loop-word.invariant.few, c.in-Some.ensures.1);
       spelled = so_skip (words c.args.line.now) (words c.loop-word.rest.now) (words c.in-Some.after.now) c.in-Some.word.now c.loop-word.plies c.loop-word.kept c.loop-word.game.items c.loop-word.here c.loop-word.invariant.spelled c.in-Some.ensures.0 nil;
