@@ -8,5 +8,6 @@ pub mod PriceLemmas
 pub mod RowTables
 pub mod SourceLemmas
 pub mod LeastRows
+pub mod MakingRows
 pub mod Sides
 pub mod CastledRows

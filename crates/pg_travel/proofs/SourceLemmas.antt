@@ -191,7 +191,7 @@ sources_by b d c way u v all r e l is h = (
 )
 
 -- ---- the number of a source
-and_no : (x : Bool) → (x && false) ≡ false
+pub and_no : (x : Bool) → (x && false) ≡ false
 and_no true = refl
 and_no false = refl
 

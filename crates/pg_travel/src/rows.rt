@@ -2,11 +2,14 @@
 ghost use Rattle.std.specs.Prelude.{◌≡◌, ℕ, ◌<◌, ◌≤◌, ◌↔◌, IsTrue};
 ghost use Rattle.pg_board.specs.Men.{number_of_kind};
 ghost use Rattle.pg_captures.specs.Counting.{men, any_man};
-ghost use Rattle.pg_travel.specs.inner.DistanceRows.{stored, to_stood, IsRow, row_place, IsRowAt, AreRows, AreFirstRows, RowFits};
+ghost use Rattle.pg_travel.specs.inner.DistanceRows.{stored, IsRow, IsWithKind, IsWritten, row_place, IsRowAt, AreRows, AreFirstRows, RowFits};
+ghost use Rattle.pg_board.specs.declared.man.Kind.TheVariants.{Pawn};
+ghost use Rattle.pg_travel.specs.inner.LeastRows.{IsUnreached};
 ghost use Rattle.pg_travel.specs.inner.Within.{CostsEach};
 
 use crate::distances::all_steps;
 use crate::misplaced::sure_to_cost;
+use crate::numbers::number_before;
 use pg_board::{Board, Color, Kind, Man, Square, SquareSet};
 use pg_captures::all_men;
 use pg_fen::Diagram;
@@ -44,33 +47,76 @@ fn stored(steps: u8) -> u8
     if steps == 64 { 255 } else { steps }
 }
 
-// From a man on a square to what stands on another.
-fn to_stood(man: Man, from: Square, here: Option<Man>, t: Square) -> u8
-    ensures { result ≡ to_stood man.color man.kind from t here }
+// No distance, where there are so many men and this is one of them.
+fn no_distance(number: u8, count: u8) -> u8
+    ensures among { number < count → result ≡ 255 }
+    ensures past { count ≤ number → result ≡ 0 }
 {
-    match here {
-        None => 0,
-        Some(m) => stored(all_steps(man, from, m.kind, t)),
-    }
+    if number < count { 255 } else { 0 }
 }
 
-// The row of a man on a square.
+// A row without a distance to any of so many men.
+#[inline(always)]
+pub(crate) fn unreached(count: u8) -> [u8; 16]
+    ensures { IsUnreached count result }
+{
+    let mut row = [0; 16];
+    for i in 0..16u8 {
+        row[i as usize] = no_distance(i, count);
+    }
+    row
+}
+
+// With a number at a place, where the row has the place.
+#[inline(always)]
+fn written(row: [u8; 16], place: usize, steps: u8) -> [u8; 16]
+    ensures { IsWritten 0 place steps row result }
+{
+    let mut all = row;
+    if place < 16 {
+        all[place] = steps;
+    }
+    all
+}
+
+// With the distances from a man on a square to the targets of a kind.
+#[inline(always)]
+fn with_kind(goal: &Board, man: Man, from: Square, kind: Kind, row: [u8; 16]) -> [u8; 16]
+    ensures { IsWithKind goal.now man.color man.kind from kind 0 row result }
+{
+    let own = goal.squares_of_color(man.color);
+    let mut left = goal.squares_of(Man::new(man.color, kind));
+    let mut all = row;
+    while let Some(t) = left.pop_first() {
+        let steps = stored(all_steps(man, from, kind, t));
+        let next = written(all, number_before(own, t), steps);
+        all = next;
+    }
+    all
+}
+
+// The row of a pawn, which comes to be of each kind but a king, where nothing is reached at first.
+fn row_of_pawn(goal: &Board, color: Color, from: Square, none: [u8; 16]) -> [u8; 16]
+    requires { IsUnreached (men color any_man goal.now) none }
+    ensures { IsRow goal.now color Pawn from result }
+{
+    let pawn = Man::new(color, Kind::Pawn);
+    let pawns = with_kind(goal, pawn, from, Kind::Pawn, none);
+    let knights = with_kind(goal, pawn, from, Kind::Knight, pawns);
+    let bishops = with_kind(goal, pawn, from, Kind::Bishop, knights);
+    let rooks = with_kind(goal, pawn, from, Kind::Rook, bishops);
+    with_kind(goal, pawn, from, Kind::Queen, rooks)
+}
+
+// The row of a man on a square. Any but a pawn stays of his kind.
 fn row(goal: &Board, man: Man, from: Square) -> [u8; 16]
     ensures { IsRow goal.now man.color man.kind from result }
 {
-    let own = goal.squares_of_color(man.color);
-    let mut all = [0; 16];
-    let mut place = 0usize;
-    let mut at = 0u8;
-    while let Some(t) = own.first_from(at) {
-        if place >= 16 {
-            return all;
-        }
-        all[place] = to_stood(man, from, goal.get(t), t);
-        place += 1;
-        at = t.index() + 1;
+    let none = unreached(all_men(goal, man.color));
+    match man.kind {
+        Kind::Pawn => row_of_pawn(goal, man.color, from, none),
+        _ => with_kind(goal, man, from, man.kind, none),
     }
-    all
 }
 
 // The kind with a number.

@@ -1,16 +1,15 @@
 //! Whether the sources of a price list fit its targets, where rows of distances are at hand: one source
 //! against all targets at once.
-ghost use Rattle.std.specs.Prelude.{◌≡◌, ℕ, ◌<◌, ◌≤◌, ◌↔◌, IsTrue, length, get_or, ltb};
-ghost use Rattle.pg_board.specs.Bits.{has};
-ghost use Rattle.pg_board.specs.Tally.{count_below};
+ghost use Rattle.std.specs.Prelude.{◌≡◌, ℕ, ◌<◌, ◌≤◌, ◌↔◌, IsTrue, length};
 ghost use Rattle.pg_captures.specs.Counting.{any_man};
 ghost use Rattle.pg_captures.specs.PriceLists.{IsPriced};
 ghost use Rattle.pg_travel.specs.inner.PriceTests.{AllFit};
 ghost use Rattle.pg_travel.specs.inner.DistanceRows.{AreFew, MenFit, SourcesFit, AreSixteen};
 
 use crate::castling::counted;
+use crate::numbers::number_before;
 use crate::rows::{Rows, fits};
-use pg_board::{Board, Color, Kind, Man, Square, SquareSet};
+use pg_board::{Board, Color, Kind, Man};
 use pg_position::Wing;
 
 // At most sixteen prices, and zeros after them.
@@ -22,23 +21,6 @@ fn sixteen(prices: &[u8]) -> [u8; 16]
     let mut all = [0; 16];
     all[..prices.len()].copy_from_slice(prices);
     all
-}
-
-// The squares before one.
-#[inline(always)]
-fn squares_before(s: Square) -> SquareSet
-    ensures members { (q : ℕ) → has result q ≡ ltb q s }
-    ensures bound { s < 64 }
-{
-    SquareSet::of_bits((1u64 << s.index()) - 1)
-}
-
-// How many squares of a set are before one.
-#[inline(always)]
-fn number_before(set: SquareSet, s: Square) -> usize
-    ensures { result ≡ count_below (has set) s }
-{
-    (set & squares_before(s)).len() as usize
 }
 
 // Whether each such man fits every target.

@@ -1,11 +1,11 @@
 -- The distances of a man to the men of a colour in a diagram, sixteen in a row, in the order of their squares. 255 is none.
-use Rattle.std.specs.Prelude.{◌≡◌, ℕ, ◌+◌, ◌*◌, ◌<◌, ◌≤◌, ◌⊎◌, true, cond, eqb, Option, Some, None, List, [], length, get_or, ◌++◌, drop, replicate}
+use Rattle.std.specs.Prelude.{◌≡◌, ◌≢◌, ℕ, ◌+◌, ◌*◌, ◌<◌, ◌≤◌, ◌⊎◌, true, cond, eqb, Option, Some, None, List, [], length, get_or, ◌++◌, drop, replicate}
 use Rattle.pg_board.specs.declared.man.Color.{Color}
 use Rattle.pg_board.specs.declared.man.Color.TheVariants.{White, Black}
 use Rattle.pg_board.specs.declared.man.Kind.{Kind}
 use Rattle.pg_board.specs.declared.man.Kind.TheVariants.{Pawn, Knight, Bishop, Rook, Queen, King}
 use Rattle.pg_board.specs.declared.man.Man.{Man}
-use Rattle.pg_board.specs.Men.{is_of, man, number_of_kind}
+use Rattle.pg_board.specs.Men.{is_of, man, kind_eq, number_of_kind}
 use Rattle.pg_board.specs.Placement.{Placement, get}
 use Rattle.pg_position.specs.declared.rights.Wing.{Wing}
 use Rattle.pg_position.specs.Position.{Stands}
@@ -33,6 +33,18 @@ pub record IsRowOf (d : Placement) (c : Color) (f : ℕ → ℕ) (row : List ℕ
 -- the row of kind k on r
 unfoldable pub IsRow : Placement → Color → Kind → ℕ → List ℕ → Type 0
 IsRow d c k r row = IsRowOf d c (λ t. to_stood c k r t (get d t)) row
+
+-- new is row with x for the man with a number, if he is one of sixteen from the n-th on
+pub record IsWritten (n number x : ℕ) (row new : List ℕ) : Type 0 where
+  pub long : length new ≡ 16
+  pub there : (i : ℕ) → i < 16 → number ≡ n + i → get_or new i 0 ≡ x
+  pub other : (i : ℕ) → i < 16 → number ≢ n + i → get_or new i 0 ≡ get_or row i 0
+
+-- new has the distances from kind k on r to c's men of d of kind j, for sixteen men from the n-th on, and else what old has
+pub record IsWithKind (d : Placement) (c : Color) (k : Kind) (r : ℕ) (j : Kind) (n : ℕ) (old new : List ℕ) : Type 0 where
+  pub long : length new ≡ 16
+  pub at : (o : Kind) (t i : ℕ) → t < 64 → Stands d c o t → number_among c any_man d t ≡ n + i → i < 16 → get_or new i 0 ≡ cond (kind_eq o j) (stored (distance_of c j k r t)) (get_or old i 0)
+  pub past : (i : ℕ) → men c any_man d ≤ n + i → i < 16 → get_or new i 0 ≡ get_or old i 0
 
 -- where the row of a man of c of kind k on r stands
 abbrev pub of_white : Color → ℕ
