@@ -9,5 +9,6 @@ pub mod RowTables
 pub mod SourceLemmas
 pub mod LeastRows
 pub mod MakingRows
+pub mod FurtherRows
 pub mod Sides
 pub mod CastledRows

@@ -1,5 +1,5 @@
 -- Rows of distances: how they are written, found and read. Leads to the contracts of rows.
-use Rattle.std.proofs.Common.{eqb, ◌≡◌, ◌≢◌, ◌↔◌, ℕ, zero, suc, ◌+◌, ◌-◌, ◌*◌, ◌/◌, ◌%◌, ◌<◌, ◌≤◌, inl, inr, Bool, false, IsTrue, List, [], length, get_or, set, refl, sym, ap, subst, arith, ◌∙◌}
+use Rattle.std.proofs.Common.{true, None, Some, Option, ◌&&◌, eqb, ◌≡◌, ◌≢◌, ◌↔◌, ℕ, zero, suc, ◌+◌, ◌-◌, ◌*◌, ◌/◌, ◌%◌, ◌<◌, ◌≤◌, inl, inr, Bool, false, IsTrue, List, [], length, get_or, set, refl, sym, ap, subst, arith, ◌∙◌}
 use Rattle.std.proofs.lemmas.Bool.Decides.{eqb_tells}
 use Rattle.std.proofs.lemmas.List.{get_or-set_same, get_or-set_other}
 use Rattle.std.proofs.Math.ListN.{length-set}
@@ -8,11 +8,12 @@ use Rattle.std.proofs.lemmas.Nat.{le_or_l, le_or_r}
 use Rattle.pg_board.specs.declared.man.Color.{Color}
 use Rattle.pg_board.specs.declared.man.Color.TheVariants.{White, Black}
 use Rattle.pg_board.specs.declared.man.Kind.{Kind}
+use Rattle.pg_board.specs.declared.man.Man.{Man}
 use Rattle.pg_board.specs.declared.man.Kind.TheVariants.{Pawn, Knight, Bishop, Rook, Queen, King}
-use Rattle.pg_board.specs.Men.{passes, number_of_kind}
+use Rattle.pg_board.specs.Men.{color_eq, passes, number_of_kind}
 use Rattle.pg_board.specs.lemmas.Codes.{kind_of_number, kind_back}
 use Rattle.pg_board.specs.Tally.{one}
-use Rattle.pg_board.specs.lemmas.Tallies.{tally_below-more, tally_below-all}
+use Rattle.pg_board.specs.lemmas.Tallies.{tally_below-none, tally_below-more, tally_below-all}
 use Rattle.pg_board.specs.Placement.{Placement, get}
 use Rattle.pg_captures.specs.Counting.{of_color, men, any_man}
 use Rattle.pg_captures.specs.PriceLists.{number_among}
@@ -33,8 +34,33 @@ grows d c low (suc n) l = elim (eqb_tells low (suc n)) [
 pub up_to_all : (d : Placement) (c : Color) (low : ℕ) → low ≤ 64 → number_among c any_man d low ≤ men c any_man d
 up_to_all d c low l = let a : number_among c any_man d 64 ≡ men c any_man d = tally_below-all (of_color c any_man) d 64 refl in omega (arith, grows d c low 64 l)
 
+-- ---- both colours
+-- men of both colours stand on different squares
+apart : (d : Placement) (n : ℕ) → number_among White any_man d n + number_among Black any_man d n ≤ n
+apart d zero = let a : number_among White any_man d 0 ≡ 0 = tally_below-none (of_color White any_man) d in let b : number_among Black any_man d 0 ≡ 0 = tally_below-none (of_color Black any_man) d in omega arith
+apart d (suc n) =
+    let a : number_among White any_man d (n + 1) ≡ number_among White any_man d n + one (passes (of_color White any_man n) (get d n)) = tally_below-more (of_color White any_man) d n in
+    let b : number_among Black any_man d (n + 1) ≡ number_among Black any_man d n + one (passes (of_color Black any_man n) (get d n)) = tally_below-more (of_color Black any_man) d n in
+    let s : number_among White any_man d (suc n) ≡ number_among White any_man d (n + 1) = ap (number_among White any_man d) (let e : suc n ≡ n + 1 = omega arith in e) in
+    let z : number_among Black any_man d (suc n) ≡ number_among Black any_man d (n + 1) = ap (number_among Black any_man d) (let e : suc n ≡ n + 1 = omega arith in e) in
+    omega (arith, apart d n, a, b, s, z, either (get d n) n)
+  where
+    either : (o : Option Man) (q : ℕ) → one (passes (of_color White any_man q) o) + one (passes (of_color Black any_man q) o) ≤ 1
+    either None q = omega arith
+    either (Some m) q = by_color m.color
+      where
+        by_color : (x : Color) → one (color_eq x White && true) + one (color_eq x Black && true) ≤ 1
+        by_color White = omega arith
+        by_color Black = omega arith
+
+pub both_fit : (d : Placement) → men White any_man d + men Black any_man d ≤ 64
+both_fit d =
+    let a : number_among White any_man d 64 ≡ men White any_man d = tally_below-all (of_color White any_man) d 64 refl in
+    let b : number_among Black any_man d 64 ≡ men Black any_man d = tally_below-all (of_color Black any_man) d 64 refl in
+    omega (arith, a, b, apart d 64)
+
 -- ---- where a row stands
-kind_low : (k : Kind) → number_of_kind k < 6
+pub kind_low : (k : Kind) → number_of_kind k < 6
 kind_low Pawn = omega arith
 kind_low Knight = omega arith
 kind_low Bishop = omega arith
@@ -42,7 +68,7 @@ kind_low Rook = omega arith
 kind_low Queen = omega arith
 kind_low King = omega arith
 
-same_kind : (a b : Kind) → number_of_kind a ≡ number_of_kind b → a ≡ b
+pub same_kind : (a b : Kind) → number_of_kind a ≡ number_of_kind b → a ≡ b
 same_kind a b e = sym (kind_back a) ∙ ap kind_of_number e ∙ kind_back b
 
 parts : (n k r : ℕ) → r < 64 → n ≡ 64 * k + r → (k ≡ n / 64) × (r ≡ n % 64)

@@ -16,8 +16,8 @@ fn squares_before(s: Square) -> SquareSet
 
 // How many squares of a set are before one.
 #[inline(always)]
-pub(crate) fn number_before(set: SquareSet, s: Square) -> usize
+pub(crate) fn number_before(set: SquareSet, s: Square) -> u8
     ensures { result ≡ count_below (has set) s }
 {
-    (set & squares_before(s)).len() as usize
+    (set & squares_before(s)).len()
 }
