@@ -8,5 +8,7 @@ pub mod PriceLemmas
 pub mod RowTables
 pub mod SourceLemmas
 pub mod LeastRows
+pub mod MakingRows
+pub mod FurtherRows
 pub mod Sides
 pub mod CastledRows

@@ -1,31 +1,25 @@
 -- Rows of distances: how they are written, found and read. Leads to the contracts of rows.
-use Rattle.std.proofs.Common.{eqb, ◌≡◌, ◌≢◌, ◌↔◌, ℕ, zero, suc, ◌+◌, ◌-◌, ◌*◌, ◌/◌, ◌%◌, ◌<◌, ◌≤◌, inl, inr, Bool, true, false, IsTrue, List, [], ◌∷◌, length, get_or, set, refl, sym, ap, subst, arith, ◌∙◌}
-use Rattle.std.proofs.lemmas.Bool.Decides.{eqb_tells, leb_tells}
+use Rattle.std.proofs.Common.{true, None, Some, Option, ◌&&◌, eqb, ◌≡◌, ◌≢◌, ◌↔◌, ℕ, zero, suc, ◌+◌, ◌-◌, ◌*◌, ◌/◌, ◌%◌, ◌<◌, ◌≤◌, inl, inr, Bool, false, IsTrue, List, [], length, get_or, set, refl, sym, ap, subst, arith, ◌∙◌}
+use Rattle.std.proofs.lemmas.Bool.Decides.{eqb_tells}
 use Rattle.std.proofs.lemmas.List.{get_or-set_same, get_or-set_other}
 use Rattle.std.proofs.Math.ListN.{length-set}
 use Rattle.std.specs.Int.Bits.{bit_or, or_zero_l}
 use Rattle.std.proofs.lemmas.Nat.{le_or_l, le_or_r}
-use Rattle.pg_board.specs.SquareSets.{IsFirstFrom, HasNoneFrom}
 use Rattle.pg_board.specs.declared.man.Color.{Color}
 use Rattle.pg_board.specs.declared.man.Color.TheVariants.{White, Black}
 use Rattle.pg_board.specs.declared.man.Kind.{Kind}
+use Rattle.pg_board.specs.declared.man.Man.{Man}
 use Rattle.pg_board.specs.declared.man.Kind.TheVariants.{Pawn, Knight, Bishop, Rook, Queen, King}
-use Rattle.pg_board.specs.Bits.{has}
-use Rattle.pg_board.specs.Men.{is_of, passes, number_of_kind}
+use Rattle.pg_board.specs.Men.{color_eq, passes, number_of_kind}
 use Rattle.pg_board.specs.lemmas.Codes.{kind_of_number, kind_back}
 use Rattle.pg_board.specs.Tally.{one}
-use Rattle.pg_board.specs.lemmas.Tallies.{tally_below-more, tally_below-all}
+use Rattle.pg_board.specs.lemmas.Tallies.{tally_below-none, tally_below-more, tally_below-all}
 use Rattle.pg_board.specs.Placement.{Placement, get}
 use Rattle.pg_captures.specs.Counting.{of_color, men, any_man}
 use Rattle.pg_captures.specs.PriceLists.{number_among}
-use Rattle.pg_captures.specs.lemmas.PlaceLemmas.{marks_men, place_skip, place_next, seen_next, all_last}
-use Rattle.pg_travel.specs.inner.DistanceRows.{to_stood, IsRow, row_place, IsRowAt, AreRows, AreFirstRows, FitsAt, RowFits}
+use Rattle.pg_travel.specs.inner.DistanceRows.{IsRow, row_place, IsRowAt, AreRows, AreFirstRows, FitsAt, RowFits}
 
--- what row says of the man on a square, if it is one of the first sixteen
-abbrev pub SeenIn : Placement → Color → (ℕ → ℕ) → List ℕ → ℕ → Type 0
-SeenIn d c f row q = is_of c (get d q) ≡ true → number_among c any_man d q < 16 → get_or row (number_among c any_man d q) 0 ≡ f q
-
-grows : (d : Placement) (c : Color) (low high : ℕ) → low ≤ high → number_among c any_man d low ≤ number_among c any_man d high
+pub grows : (d : Placement) (c : Color) (low high : ℕ) → low ≤ high → number_among c any_man d low ≤ number_among c any_man d high
 grows d c low zero l = let e : number_among c any_man d low ≡ number_among c any_man d 0 = ap (number_among c any_man d) (let e : low ≡ 0 = omega arith in e) in omega arith
 grows d c low (suc n) l = elim (eqb_tells low (suc n)) [
   | inl w ↦ (let e : number_among c any_man d low ≡ number_among c any_man d (suc n) = ap (number_among c any_man d) w.1 in omega arith)
@@ -40,69 +34,33 @@ grows d c low (suc n) l = elim (eqb_tells low (suc n)) [
 pub up_to_all : (d : Placement) (c : Color) (low : ℕ) → low ≤ 64 → number_among c any_man d low ≤ men c any_man d
 up_to_all d c low l = let a : number_among c any_man d 64 ≡ men c any_man d = tally_below-all (of_color c any_man) d 64 refl in omega (arith, grows d c low 64 l)
 
--- ---- writing a row
--- the number of the next man
-skips : (d : Placement) (c : Color) (own i low t : ℕ) → ((q : ℕ) → q < 64 → has own q ≡ is_of c (get d q)) → i ≡ number_among c any_man d low → IsFirstFrom own low t → i ≡ number_among c any_man d t
-skips d c own i low t is e first = e ∙ sym (place_skip c any_man d own low t (marks_men d c own is) first.reached (let l : t < 64 = first.on_board in omega arith) first.before)
+-- ---- both colours
+-- men of both colours stand on different squares
+apart : (d : Placement) (n : ℕ) → number_among White any_man d n + number_among Black any_man d n ≤ n
+apart d zero = let a : number_among White any_man d 0 ≡ 0 = tally_below-none (of_color White any_man) d in let b : number_among Black any_man d 0 ≡ 0 = tally_below-none (of_color Black any_man) d in omega arith
+apart d (suc n) =
+    let a : number_among White any_man d (n + 1) ≡ number_among White any_man d n + one (passes (of_color White any_man n) (get d n)) = tally_below-more (of_color White any_man) d n in
+    let b : number_among Black any_man d (n + 1) ≡ number_among Black any_man d n + one (passes (of_color Black any_man n) (get d n)) = tally_below-more (of_color Black any_man) d n in
+    let s : number_among White any_man d (suc n) ≡ number_among White any_man d (n + 1) = ap (number_among White any_man d) (let e : suc n ≡ n + 1 = omega arith in e) in
+    let z : number_among Black any_man d (suc n) ≡ number_among Black any_man d (n + 1) = ap (number_among Black any_man d) (let e : suc n ≡ n + 1 = omega arith in e) in
+    omega (arith, apart d n, a, b, s, z, either (get d n) n)
+  where
+    either : (o : Option Man) (q : ℕ) → one (passes (of_color White any_man q) o) + one (passes (of_color Black any_man q) o) ≤ 1
+    either None q = omega arith
+    either (Some m) q = by_color m.color
+      where
+        by_color : (x : Color) → one (color_eq x White && true) + one (color_eq x Black && true) ≤ 1
+        by_color White = omega arith
+        by_color Black = omega arith
 
-pub row_next : (d : Placement) (c : Color) (f : ℕ → ℕ) (xs : List ℕ) (own i low t n x : ℕ) → length xs ≡ 16 → ((q : ℕ) → q < 64 → has own q ≡ is_of c (get d q)) → i ≡ number_among c any_man d low → ((q : ℕ) → q < low → SeenIn d c f xs q) → IsFirstFrom own low t → n ≡ t → i < 16 → x ≡ f t → (q : ℕ) → q < n + 1 → SeenIn d c f (set xs i x) q
-row_next d c f xs own i low t n x long is at seen first same room e =
-    seen_next (SeenIn d c f (set xs i x)) own low t n
-    (λ q l off there small. absurd (let y : has own q ≡ true = is q l ∙ there in cc))
-    (λ q l there small. get_or-set_other xs i (number_among c any_man d q) x 0 (
-    let r : low ≤ t = first.reached in
-    let b : t < 64 = first.on_board in
-    let lq : q < 64 = omega arith in
-    let one : number_among c any_man d (q + 1) ≡ number_among c any_man d q + 1 = place_next c any_man d own q (marks_men d c own is) lq (is q lq ∙ there) in
-    let g : number_among c any_man d (q + 1) ≤ number_among c any_man d low = grows d c (q + 1) low (omega arith) in
-    λ f. omega arith) ∙ seen q l there small)
-    first same
-    (λ there small. ap (λ (y : ℕ). get_or (set xs i x) y 0) (sym (skips d c own i low t is at first)) ∙ get_or-set_same xs i x 0 (omega arith) ∙ e)
-
-pub zeros_next : (xs : List ℕ) (i x : ℕ) → ((j : ℕ) → i ≤ j → j < 16 → get_or xs j 0 ≡ 0) → (j : ℕ) → i + 1 ≤ j → j < 16 → get_or (set xs i x) j 0 ≡ 0
-zeros_next xs i x zeros j l m = get_or-set_other xs i j x 0 (λ e. omega arith) ∙ zeros j (omega arith) m
-
--- all are zeros at first
-pub zeros_first : (j : ℕ) → ◌≡◌ {A = ℕ} (get_or (0 ∷ 0 ∷ 0 ∷ 0 ∷ 0 ∷ 0 ∷ 0 ∷ 0 ∷ 0 ∷ 0 ∷ 0 ∷ 0 ∷ 0 ∷ 0 ∷ 0 ∷ 0 ∷ []) j 0) 0
-zeros_first zero = refl
-zeros_first (suc zero) = refl
-zeros_first (suc (suc zero)) = refl
-zeros_first (suc (suc (suc zero))) = refl
-zeros_first (suc (suc (suc (suc zero)))) = refl
-zeros_first (suc (suc (suc (suc (suc zero))))) = refl
-zeros_first (suc (suc (suc (suc (suc (suc zero)))))) = refl
-zeros_first (suc (suc (suc (suc (suc (suc (suc zero))))))) = refl
-zeros_first (suc (suc (suc (suc (suc (suc (suc (suc zero)))))))) = refl
-zeros_first (suc (suc (suc (suc (suc (suc (suc (suc (suc zero))))))))) = refl
-zeros_first (suc (suc (suc (suc (suc (suc (suc (suc (suc (suc zero)))))))))) = refl
-zeros_first (suc (suc (suc (suc (suc (suc (suc (suc (suc (suc (suc zero))))))))))) = refl
-zeros_first (suc (suc (suc (suc (suc (suc (suc (suc (suc (suc (suc (suc zero)))))))))))) = refl
-zeros_first (suc (suc (suc (suc (suc (suc (suc (suc (suc (suc (suc (suc (suc zero))))))))))))) = refl
-zeros_first (suc (suc (suc (suc (suc (suc (suc (suc (suc (suc (suc (suc (suc (suc zero)))))))))))))) = refl
-zeros_first (suc (suc (suc (suc (suc (suc (suc (suc (suc (suc (suc (suc (suc (suc (suc zero))))))))))))))) = refl
-zeros_first (suc (suc (suc (suc (suc (suc (suc (suc (suc (suc (suc (suc (suc (suc (suc (suc n)))))))))))))))) = refl
-
-pub row_done : (d : Placement) (c : Color) (k : Kind) (r : ℕ) (xs : List ℕ) (own i low : ℕ) → length xs ≡ 16 → ((q : ℕ) → q < 64 → has own q ≡ is_of c (get d q)) → i ≡ number_among c any_man d low → low ≤ 64 → ((q : ℕ) → q < low → SeenIn d c (λ t. to_stood c k r t (get d t)) xs q) → ((j : ℕ) → i ≤ j → j < 16 → get_or xs j 0 ≡ 0) → HasNoneFrom own low → IsRow d c k r xs
-unfolding IsRow
-row_done d c k r xs own i low long is at within seen zeros none = record {
-  long = long;
-  at = λ t lt there small. all_last (SeenIn d c (λ t. to_stood c k r t (get d t)) xs) own low (λ q l off there small. absurd (let y : has own q ≡ true = is q l ∙ there in cc)) seen none t lt there small;
-  rest = λ j m l. zeros j (omega (arith, m, at, up_to_all d c low within)) l;
-}
-
-pub row_full : (d : Placement) (c : Color) (k : Kind) (r : ℕ) (xs : List ℕ) (i low : ℕ) → length xs ≡ 16 → i ≡ number_among c any_man d low → low ≤ 64 → ((q : ℕ) → q < low → SeenIn d c (λ t. to_stood c k r t (get d t)) xs q) → 16 ≤ i → IsRow d c k r xs
-unfolding IsRow
-row_full d c k r xs i low long at within seen full = record {
-  long = long;
-  at = λ t lt there small. elim (leb_tells low t) [
-    | inl w ↦ absurd (omega (arith, small, full, at, grows d c low t w.1))
-    | inr w ↦ seen t w.1 there small
-  ];
-  rest = λ j m l. absurd (omega (arith, m, l, full, at, up_to_all d c low within));
-}
+pub both_fit : (d : Placement) → men White any_man d + men Black any_man d ≤ 64
+both_fit d =
+    let a : number_among White any_man d 64 ≡ men White any_man d = tally_below-all (of_color White any_man) d 64 refl in
+    let b : number_among Black any_man d 64 ≡ men Black any_man d = tally_below-all (of_color Black any_man) d 64 refl in
+    omega (arith, a, b, apart d 64)
 
 -- ---- where a row stands
-kind_low : (k : Kind) → number_of_kind k < 6
+pub kind_low : (k : Kind) → number_of_kind k < 6
 kind_low Pawn = omega arith
 kind_low Knight = omega arith
 kind_low Bishop = omega arith
@@ -110,7 +68,7 @@ kind_low Rook = omega arith
 kind_low Queen = omega arith
 kind_low King = omega arith
 
-same_kind : (a b : Kind) → number_of_kind a ≡ number_of_kind b → a ≡ b
+pub same_kind : (a b : Kind) → number_of_kind a ≡ number_of_kind b → a ≡ b
 same_kind a b e = sym (kind_back a) ∙ ap kind_of_number e ∙ kind_back b
 
 parts : (n k r : ℕ) → r < 64 → n ≡ 64 * k + r → (k ≡ n / 64) × (r ≡ n % 64)

@@ -1,7 +1,7 @@
--- A source against all targets by its row of distances. Leads to the contract of `few_fit`.
-use Rattle.std.proofs.Common.{◌≡◌, ◌≢◌, ◌↔◌, ℕ, zero, suc, ◌+◌, ◌-◌, ◌*◌, ◌%◌, ◌^◌, ◌&&◌, eqb, ltb, lt-ltb, le-ltb, cond, ◌<◌, ◌≤◌, ◌⊎◌, inl, inr, Bool, true, false, IsTrue, Option, Some, None, List, [], ◌∷◌, length, get_or, drop, replicate, refl, sym, ap, subst, arith, ◌∙◌}
+-- A source against all targets by its rows of distances. Leads to the contract of `fit_by`.
+use Rattle.std.proofs.Common.{◌≡◌, ◌≢◌, ◌↔◌, ℕ, zero, suc, ◌+◌, ◌-◌, ◌*◌, ◌/◌, ◌%◌, ◌^◌, ◌&&◌, eqb, ltb, lt-ltb, le-ltb, cond, ◌<◌, ◌≤◌, ◌⊎◌, inl, inr, Bool, true, false, IsTrue, Option, Some, None, List, [], ◌∷◌, length, get_or, min, ◌++◌, take, drop, replicate, refl, sym, ap, subst, arith, ◌∙◌}
 use Rattle.std.proofs.lemmas.Bool.Decides.{eqb_tells, leb_tells}
-use Rattle.std.proofs.lemmas.List.{get_or_append_left, get_or-append_right, get_or-drop, get_or-replicate}
+use Rattle.std.proofs.lemmas.List.{get_or_append_left, get_or-append_right, get_or-take, get_or-drop, get_or-replicate, length-take-le, length-drop}
 use Rattle.pg_board.specs.declared.man.Color.{Color}
 use Rattle.std.proofs.lemmas.Nat.{one_shl}
 use Rattle.std.proofs.lemmas.Nat.Bits.{bit_at_ones, bit_at_ones_above}
@@ -14,7 +14,7 @@ use Rattle.pg_board.specs.Men.{man, color_eq, is_of, is_man, passes}
 use Rattle.pg_board.specs.Tally.{one, count_below, tally_below}
 use Rattle.pg_board.specs.lemmas.Sums.{count_below_same}
 use Rattle.pg_board.specs.lemmas.Equalities.{color_decides, is_man_decides}
-use Rattle.pg_board.specs.lemmas.Tallies.{tally_below-none, tally_below-more, tally_below-all}
+use Rattle.pg_board.specs.lemmas.Tallies.{tally_below-none, tally_below-more, tally_below-all, tally_below-le}
 use Rattle.pg_board.specs.Placement.{Placement, get}
 use Rattle.pg_position.specs.declared.rights.Wing.{Wing}
 use Rattle.pg_position.specs.Position.{Stands}
@@ -23,13 +23,12 @@ use Rattle.pg_captures.specs.PriceLists.{number_among, price, IsPriced}
 use Rattle.pg_captures.specs.lemmas.PlaceLemmas.{passes_like, and-true, marks_men, place_within}
 use Rattle.pg_travel.specs.Origins.{counted}
 use Rattle.pg_travel.specs.lemmas.Pawns.{some_by_steps, walk_bounds}
-use Rattle.pg_travel.specs.lemmas.Values.{counted_low}
 use Rattle.pg_travel.specs.inner.Formulas.{distance_of}
 use Rattle.pg_travel.specs.inner.PriceTests.{PairFits, AllFit}
 use Rattle.pg_travel.proofs.RowTables.{up_to_all}
 use Rattle.pg_travel.proofs.Within.{count_skip}
 use Rattle.pg_travel.proofs.TakenSets.{AreAll, IsWithout, other_than}
-use Rattle.pg_travel.specs.inner.DistanceRows.{stored, to_stood, IsRow, FitsAt, RowFits, AreFew, SourceFits, MenFit, SourcesFit, AreSixteen}
+use Rattle.pg_travel.specs.inner.DistanceRows.{stored, to_stood, IsRow, IsRowFrom, IsReached, FitsAt, RowFits, AreSixteen, ArePages, ArePaged, PageFits, FirstFit, SourceFits, MenFit, SourcesFit}
 
 -- ---- men by their numbers
 is_there_of : (c : Color) (q : ℕ) (o : Option Man) → passes (of_color c any_man q) o ≡ is_of c o
@@ -88,50 +87,63 @@ pair_back c k r u j t v e lr lt is all = elim (eqb_tells (distance_of c j k r t)
   | inr w ↦ inr (omega (arith, is, stored_at (distance_of c j k r t) w.1, all (distance_of c j k r t) (some_by_steps c k r j t (distance_of c j k r t) lr lt refl w.1)))
 ]
 
--- ---- a source
+-- ---- a source against a page
+row_from : (d : Placement) (c : Color) (k j : Kind) (r t n i : ℕ) (row : List ℕ) → IsRowFrom d c k r n row → t < 64 → Stands d c j t → number_among c any_man d t ≡ n + i → i < 16 → get_or row i 0 ≡ stored (distance_of c j k r t)
+unfolding IsRowFrom
+row_from d c k j r t n i row is lt there e small = is.at t i lt (of_there d c j t there) e small ∙ ap (λ (o : Option Man). to_stood c k r t o) there
+
 pub row_has : (d : Placement) (c : Color) (k j : Kind) (r t : ℕ) (row : List ℕ) → IsRow d c k r row → t < 64 → number_among c any_man d t < 16 → Stands d c j t → get_or row (number_among c any_man d t) 0 ≡ stored (distance_of c j k r t)
-unfolding IsRow
-row_has d c k j r t row is lt small there = is.at t lt (of_there d c j t there) small ∙ ap (λ (o : Option Man). to_stood c k r t o) there
+row_has d c k j r t row is lt small there = row_from d c k j r t 0 (number_among c any_man d t) row is lt there (omega arith) small
 
-pub source_at : (d : Placement) (c : Color) (way : Option Wing) (m : Man) (here : Option Man) (s u origin : ℕ) (v row : List ℕ) (b : Bool) → here ≡ Some m → color_eq m.color c ≡ true → s < 64 → AreFew d c v → origin ≡ counted c way s → IsRow d c m.kind origin row → IsTrue b ↔ RowFits v u row → IsTrue b ↔ SourceFits d c way here s u v
-unfolding SourceFits RowFits AreFew
-source_at d c way m here s u origin v row b is same ls few at isrow tells = ((λ y. forth (tells.0 y)), (λ y. tells.1 (back (y m.kind stands))))
+pub page_is : (d : Placement) (c : Color) (k : Kind) (r u p : ℕ) (v row : List ℕ) (b : Bool) → r < 64 → ((i : ℕ) → i < 16 → men c any_man d ≤ 16 * p + i → get_or v i 0 ≡ 0) → (IsReached d c p → IsRowFrom d c k r (16 * p) row) → IsTrue b ↔ RowFits v u row → IsTrue b ↔ PageFits d c k r u p v
+unfolding RowFits PageFits
+page_is d c k r u p v row b lr zeros isrow tells = ((λ y. forth (tells.0 y)), (λ y. tells.1 (back y)))
   where
-    stands : here ≡ Some (man c m.kind)
-    stands = is ∙ ap (λ (q : Color). Some (man q m.kind)) ((color_decides m.color c).0 same)
+    here : (j : Kind) (t i : ℕ) → t < 64 → Stands d c j t → number_among c any_man d t ≡ 16 * p + i → i < 16 → get_or row i 0 ≡ stored (distance_of c j k r t)
+    here j t i lt there e small = row_from d c k j r t (16 * p) i row (isrow (let l : number_among c any_man d t < men c any_man d = below_all d c t lt (of_there d c j t there) in omega (arith, l, e))) lt there e small
 
-    one_kind : (k : Kind) → here ≡ Some (man c k) → m.kind ≡ k
-    one_kind k h = let g : Some m ≡ Some (man c k) = sym is ∙ h in let q : m ≡ man c k = cc in ap (λ (z : Man). z.kind) q
+    forth : ((i : ℕ) → i < 16 → FitsAt v u row i) → (j : Kind) (t i : ℕ) → t < 64 → Stands d c j t → number_among c any_man d t ≡ 16 * p + i → i < 16 → PairFits (man c k) r u j t (get_or v i 0)
+    forth all j t i lt there e small = pair_fits c k r u j t (get_or v i 0) (get_or row i 0) lr lt (here j t i lt there e small) (all i small)
 
-    low : origin < 64
-    low = omega (arith, at, counted_low c way s ls)
-
-    forth : ((i : ℕ) → i < 16 → FitsAt v u row i) → (k : Kind) → here ≡ Some (man c k) → (j : Kind) (t : ℕ) → t < 64 → Stands d c j t → PairFits (man c k) (counted c way s) u j t (price v c any_man d t)
-    forth all k h j t lt there =
-        let l : number_among c any_man d t < men c any_man d = below_all d c t lt (of_there d c j t there) in
-        let small : number_among c any_man d t < 16 = omega (arith, l, few.0) in
-        subst (λ (x : Kind). PairFits (man c x) (counted c way s) u j t (price v c any_man d t)) (one_kind k h)
-        (subst (λ (x : ℕ). PairFits (man c m.kind) x u j t (price v c any_man d t)) at
-        (pair_fits c m.kind origin u j t (price v c any_man d t) (get_or row (number_among c any_man d t) 0) low lt (row_has d c m.kind j origin t row isrow lt small there) (all (number_among c any_man d t) small)))
-
-    found : ((j : Kind) (t : ℕ) → t < 64 → Stands d c j t → PairFits (man c m.kind) (counted c way s) u j t (price v c any_man d t)) → (i t : ℕ) → i < 16 → t < 64 → is_of c (get d t) ≡ true → number_among c any_man d t ≡ i → FitsAt v u row i
+    found : ((j : Kind) (t i : ℕ) → t < 64 → Stands d c j t → number_among c any_man d t ≡ 16 * p + i → i < 16 → PairFits (man c k) r u j t (get_or v i 0)) → (i t : ℕ) → i < 16 → t < 64 → is_of c (get d t) ≡ true → number_among c any_man d t ≡ 16 * p + i → FitsAt v u row i
     found all i t li lt there e =
         let j : (j : Kind) × (get d t ≡ Some (man c j)) = of_man c (get d t) there in
-        subst (λ (x : ℕ). FitsAt v u row x) e
-        (pair_back c m.kind origin u j.0 t (price v c any_man d t) (get_or row (number_among c any_man d t) 0) low lt (row_has d c m.kind j.0 origin t row isrow lt (omega (arith, li, e)) j.1)
-        (subst (λ (x : ℕ). PairFits (man c m.kind) x u j.0 t (price v c any_man d t)) (sym at) (all j.0 t lt j.1)))
+        pair_back c k r u j.0 t (get_or v i 0) (get_or row i 0) lr lt (here j.0 t i lt j.1 e li) (all j.0 t i lt j.1 e li)
 
-    back : ((j : Kind) (t : ℕ) → t < 64 → Stands d c j t → PairFits (man c m.kind) (counted c way s) u j t (price v c any_man d t)) → (i : ℕ) → i < 16 → FitsAt v u row i
-    back all i li = elim (leb_tells (men c any_man d) i) [
-      | inl w ↦ inr (omega (arith, few.1 i w.1 li))
+    back : ((j : Kind) (t i : ℕ) → t < 64 → Stands d c j t → number_among c any_man d t ≡ 16 * p + i → i < 16 → PairFits (man c k) r u j t (get_or v i 0)) → (i : ℕ) → i < 16 → FitsAt v u row i
+    back all i li = elim (leb_tells (men c any_man d) (16 * p + i)) [
+      | inl w ↦ inr (omega (arith, zeros i li w.1))
       | inr w ↦
-          (let n : (t : ℕ) × (t < 64) × (is_of c (get d t) ≡ true) × (number_among c any_man d t ≡ i) = numbered d c i 64 (omega (arith, w.1, tally_below-all (of_color c any_man) d 64 refl)) in
+          (let n : (t : ℕ) × (t < 64) × (is_of c (get d t) ≡ true) × (number_among c any_man d t ≡ 16 * p + i) = numbered d c (16 * p + i) 64 (omega (arith, w.1, tally_below-all (of_color c any_man) d 64 refl)) in
           found all i n.0 li n.1 n.2 n.3)
     ]
 
-pub source_off : (d : Placement) (c : Color) (way : Option Wing) (here : Option Man) (s u : ℕ) (v : List ℕ) → is_of c here ≡ false → SourceFits d c way here s u v
-unfolding SourceFits
-source_off d c way here s u v off k h = absurd (let e : is_of c here ≡ true = ap (is_of c) h ∙ (color_decides c c).1 refl in cc)
+-- ---- a source against all pages
+pub fit_none : (d : Placement) (c : Color) (k : Kind) (r u : ℕ) (pages : List (List ℕ)) → FirstFit d c k r u pages 0
+unfolding FirstFit
+fit_none d c k r u pages p l = absurd (omega arith)
+
+pub fit_next : (d : Placement) (c : Color) (k : Kind) (r u n : ℕ) (pages : List (List ℕ)) → FirstFit d c k r u pages n → PageFits d c k r u n (get_or pages n []) → FirstFit d c k r u pages (n + 1)
+unfolding FirstFit
+fit_next d c k r u n pages all here p l = elim (eqb_tells p n) [
+  | inl w ↦ subst (λ (x : ℕ). PageFits d c k r u x (get_or pages x [])) (sym w.1) here
+  | inr w ↦ (let ne : p ≢ n = w.1 in all p (omega arith))
+]
+
+pub fit_all : (d : Placement) (c : Color) (k : Kind) (r u n : ℕ) (pages : List (List ℕ)) → n ≡ length pages → FirstFit d c k r u pages n → IsTrue true ↔ SourceFits d c k r u pages
+fit_all d c k r u n pages e all = ((λ y. subst (λ (x : ℕ). FirstFit d c k r u pages x) e all), (λ y. refl))
+
+pub fit_not : (d : Placement) (c : Color) (k : Kind) (r u n : ℕ) (pages : List (List ℕ)) (b : Bool) → n < length pages → b ≡ false → IsTrue b ↔ PageFits d c k r u n (get_or pages n []) → IsTrue false ↔ SourceFits d c k r u pages
+unfolding FirstFit
+fit_not d c k r u n pages b l e tells = ((λ y. absurd cc), (λ all. absurd (let t : b ≡ true = tells.1 (all n l) in cc)))
+
+pub page_at : (d : Placement) (c : Color) (k : Kind) (r u p : ℕ) (pages : List (List ℕ)) (row : List ℕ) (b : Bool) → r < 64 → p < length pages → ArePaged d c pages → (IsReached d c p → IsRowFrom d c k r (16 * p) row) → IsTrue b ↔ RowFits (get_or pages p []) u row → IsTrue b ↔ PageFits d c k r u p (get_or pages p [])
+unfolding ArePaged
+page_at d c k r u p pages row b lr lp paged isrow tells = page_is d c k r u p (get_or pages p []) row b lr (λ i li m. paged.1 p i lp li m) isrow tells
+
+pub few_pages : (d : Placement) (c : Color) (pages : List (List ℕ)) (p : ℕ) → ArePaged d c pages → p < length pages → p < 4
+unfolding ArePaged
+few_pages d c pages p paged l = omega (arith, paged.0, l)
 
 -- ---- all sources
 past : (v : List ℕ) (i : ℕ) → length v ≤ i → get_or v i 0 ≡ 0
@@ -139,59 +151,97 @@ past [] i l = refl
 past (x ∷ xs) zero l = absurd (omega arith)
 past (x ∷ xs) (suc i) l = past xs i (omega arith)
 
--- sixteen numbers are the same prices
-pub same_price : (v all : List ℕ) (i : ℕ) → AreSixteen v all → length v ≤ 16 → i < 16 → get_or all i 0 ≡ get_or v i 0
+-- sixteen prices are those from one on
+pub sixteen_are : (v some : List ℕ) (first low high : ℕ) → low ≡ min first (length v) → high ≡ min (low + 16) (length v) → some ≡ take (high - low) (drop low v) → AreSixteen v first (some ++ drop (length (take (high - low) (drop low v))) (replicate 16 0))
 unfolding AreSixteen
-same_price v all i e l li = ap (λ (x : List ℕ). get_or x i 0) e ∙ elim (leb_tells (length v) i) [
-  | inr w ↦ get_or_append_left v (drop (length v) (replicate 16 0)) 0 i w.1
-  | inl w ↦ get_or-append_right v (drop (length v) (replicate 16 0)) (length v) i 0 refl w.1 ∙ get_or-drop (length v) (replicate 16 0) (i - length v) 0 ∙ get_or-replicate 16 (length v + (i - length v)) 0 0 (omega (arith, w.1)) ∙ sym (past v i w.1)
+sixteen_are v some first low high from to is i li = ap (λ (x : List ℕ). get_or (x ++ drop (length (take (high - low) (drop low v))) (replicate 16 0)) i 0) is ∙ elim (leb_tells (high - low) i) [
+  | inr w ↦
+      (let e : low ≡ first = omega (arith, from, to, w.1) in
+      get_or_append_left (take (high - low) (drop low v)) (drop (length (take (high - low) (drop low v))) (replicate 16 0)) 0 i (omega (arith, w.1, long))
+      ∙ get_or-take (high - low) (drop low v) i 0 w.1 ∙ get_or-drop low v i 0 ∙ ap (λ (x : ℕ). get_or v (x + i) 0) e)
+  | inl w ↦
+      get_or-append_right (take (high - low) (drop low v)) (drop (length (take (high - low) (drop low v))) (replicate 16 0)) (length (take (high - low) (drop low v))) i 0 refl (omega (arith, w.1, long))
+      ∙ get_or-drop (length (take (high - low) (drop low v))) (replicate 16 0) (i - length (take (high - low) (drop low v))) 0
+      ∙ get_or-replicate 16 (length (take (high - low) (drop low v)) + (i - length (take (high - low) (drop low v)))) 0 0 (omega (arith, w.1, long, li))
+      ∙ sym (past v (first + i) (omega (arith, w.1, li, from, to)))
 ]
+  where
+    long : length (take (high - low) (drop low v)) ≡ high - low
+    long = length-take-le (high - low) (drop low v) (omega (arith, length-drop low v, from, to))
 
-pub are_few : (d : Placement) (c : Color) (v all : List ℕ) → AreSixteen v all → length v ≤ 16 → IsPriced v c any_man d → AreFew d c all
-unfolding AreFew
-are_few d c v all e l is = (omega (arith, is, l), λ i m li. same_price v all i e l li ∙ past v i (omega (arith, is, m)))
+pub one_page : (v a : List ℕ) → length v ≤ 16 → AreSixteen v 0 a → ArePages v (a ∷ [])
+unfolding ArePages
+one_page v a few first = (omega (arith, few), page)
+  where
+    page : (p : ℕ) → p < 1 → AreSixteen v (16 * p) (get_or (a ∷ []) p [])
+    page zero l = first
+    page (suc p) l = absurd (omega arith)
 
-sources_all : (b d : Placement) (c : Color) (way : Option Wing) (u v all : List ℕ) → AreSixteen v all → length v ≤ 16 → IsPriced v c any_man d → ((s : ℕ) → s < 64 → SourceFits d c way (get b s) s (price u c any_man b s) all) → AllFit b d c way u v
-unfolding SourceFits AllFit
-sources_all b d c way u v all e l is h = (λ j k s t ls lt hs ht. subst (λ (x : ℕ). PairFits (man c k) (counted c way s) (price u c any_man b s) j t x) (same_price v all (number_among c any_man d t) e l (let n : number_among c any_man d t < men c any_man d = below_all d c t lt (of_there d c j t ht) in omega (arith, n, is, l))) (h s ls k hs j t lt ht))
+pub four_pages : (v a b c e : List ℕ) → length v ≤ 64 → AreSixteen v 0 a → AreSixteen v 16 b → AreSixteen v 32 c → AreSixteen v 48 e → ArePages v (a ∷ b ∷ c ∷ e ∷ [])
+unfolding ArePages
+four_pages v a b c e few first second third fourth = (omega (arith, few), page)
+  where
+    page : (p : ℕ) → p < 4 → AreSixteen v (16 * p) (get_or (a ∷ b ∷ c ∷ e ∷ []) p [])
+    page zero l = first
+    page (suc zero) l = second
+    page (suc (suc zero)) l = third
+    page (suc (suc (suc zero))) l = fourth
+    page (suc (suc (suc (suc p)))) l = absurd (omega arith)
+
+pub priced_low : (v : List ℕ) (c : Color) (d : Placement) → IsPriced v c any_man d → length v ≤ 64
+priced_low v c d is =
+    let a : number_among c any_man d 64 ≡ men c any_man d = tally_below-all (of_color c any_man) d 64 refl in
+    omega (arith, is, a, tally_below-le (of_color c any_man) d 64)
+
+pub are_paged : (d : Placement) (c : Color) (v : List ℕ) (pages : List (List ℕ)) → ArePages v pages → length pages < 5 → IsPriced v c any_man d → ArePaged d c pages
+unfolding ArePages AreSixteen ArePaged
+are_paged d c v pages are few is = (few, λ p i lp li m. are.1 p lp i li ∙ past v (16 * p + i) (omega (arith, is, m)))
+
+of_kind : (c : Color) (P : Man → Type 0) (k : Kind) → SourcesFit c P → P (man c k)
+of_kind c P Pawn h = h.pawns
+of_kind c P Knight h = h.knights
+of_kind c P Bishop h = h.bishops
+of_kind c P Rook h = h.rooks
+of_kind c P Queen h = h.queens
+of_kind c P King h = h.kings
+
+sources_all : (b d : Placement) (c : Color) (way : Option Wing) (u v : List ℕ) (pages : List (List ℕ)) → ArePages v pages → IsPriced v c any_man d → SourcesFit c (MenFit d b way u pages) → AllFit b d c way u v
+unfolding ArePages AreSixteen MenFit FirstFit PageFits AllFit
+sources_all b d c way u v pages are is h j k s t ls lt hs ht =
+    let l : number_among c any_man d t < men c any_man d = below_all d c t lt (of_there d c j t ht) in
+    let e : number_among c any_man d t ≡ 16 * (number_among c any_man d t / 16) + number_among c any_man d t % 16 = split (number_among c any_man d t) in
+    let small : number_among c any_man d t % 16 < 16 = under (number_among c any_man d t) in
+    let lp : number_among c any_man d t / 16 < length pages = omega (arith, l, e, is, are.0) in
+    subst (λ (x : ℕ). PairFits (man c k) (counted c way s) (price u c any_man b s) j t x)
+    (are.1 (number_among c any_man d t / 16) lp (number_among c any_man d t % 16) small ∙ ap (λ (x : ℕ). get_or v x 0) (sym e))
+    (of_kind c (MenFit d b way u pages) k h s ls hs (number_among c any_man d t / 16) lp j t (number_among c any_man d t % 16) lt ht e small)
+  where
+    split : (n : ℕ) → n ≡ 16 * (n / 16) + n % 16
+    split n = omega arith
+
+    under : (n : ℕ) → n % 16 < 16
+    under n = omega arith
 
 -- all fit, so each of this man does
-men_of : (b d : Placement) (c : Color) (way : Option Wing) (u v all : List ℕ) (i : Kind) → AreSixteen v all → length v ≤ 16 → IsPriced v c any_man d → AllFit b d c way u v → MenFit d b way u all (man c i)
-unfolding MenFit SourceFits AllFit
-men_of b d c way u v all i e l is y s ls here k same j t lt ht = subst (λ (x : ℕ). PairFits (man c k) (counted c way s) (price u c any_man b s) j t x) (sym (same_price v all (number_among c any_man d t) e l (let n : number_among c any_man d t < men c any_man d = below_all d c t lt (of_there d c j t ht) in omega (arith, n, is, l)))) (y j k s t ls lt (here ∙ same) ht)
+men_of : (b d : Placement) (c : Color) (way : Option Wing) (u v : List ℕ) (pages : List (List ℕ)) (k : Kind) → ArePages v pages → AllFit b d c way u v → MenFit d b way u pages (man c k)
+unfolding ArePages AreSixteen MenFit FirstFit PageFits AllFit
+men_of b d c way u v pages k are y s ls here p lp j t i lt ht e small = subst (λ (x : ℕ). PairFits (man c k) (counted c way s) (price u c any_man b s) j t x) (ap (λ (x : ℕ). get_or v x 0) e ∙ sym (are.1 p lp i small)) (y j k s t ls lt here ht)
 
--- what stands on a square fits, where each man of each kind does
-there_fits : (b d : Placement) (c : Color) (way : Option Wing) (u all : List ℕ) → SourcesFit c (MenFit d b way u all) → (s : ℕ) → s < 64 → SourceFits d c way (get b s) s (price u c any_man b s) all
-unfolding MenFit
-there_fits b d c way u all h s ls = go (is_of c (get b s)) refl
-  where
-    kind : (i : Kind) → get b s ≡ Some (man c i) → SourceFits d c way (Some (man c i)) s (price u c any_man b s) all
-    kind Pawn e = h.pawns s ls e
-    kind Knight e = h.knights s ls e
-    kind Bishop e = h.bishops s ls e
-    kind Rook e = h.rooks s ls e
-    kind Queen e = h.queens s ls e
-    kind King e = h.kings s ls e
-
-    go : (x : Bool) → is_of c (get b s) ≡ x → SourceFits d c way (get b s) s (price u c any_man b s) all
-    go false e = source_off d c way (get b s) s (price u c any_man b s) all e
-    go true e = let j : (j : Kind) × (get b s ≡ Some (man c j)) = of_man c (get b s) e in subst (λ (o : Option Man). SourceFits d c way o s (price u c any_man b s) all) (sym j.1) (kind j.0 j.1)
-
-pub sources_by : (b d : Placement) (c : Color) (way : Option Wing) (u v all : List ℕ) (r : Bool) → AreSixteen v all → length v ≤ 16 → IsPriced v c any_man d → IsTrue r ↔ SourcesFit c (MenFit d b way u all) → IsTrue r ↔ AllFit b d c way u v
-sources_by b d c way u v all r e l is h = (
-  (λ t. sources_all b d c way u v all e l is (there_fits b d c way u all (h.0 t))),
+pub sources_by : (b d : Placement) (c : Color) (way : Option Wing) (u v : List ℕ) (pages : List (List ℕ)) (r : Bool) → ArePages v pages → IsPriced v c any_man d → IsTrue r ↔ SourcesFit c (MenFit d b way u pages) → IsTrue r ↔ AllFit b d c way u v
+sources_by b d c way u v pages r are is h = (
+  (λ t. sources_all b d c way u v pages are is (h.0 t)),
   (λ y. h.1 (record {
-    pawns = men_of b d c way u v all Pawn e l is y;
-    knights = men_of b d c way u v all Knight e l is y;
-    bishops = men_of b d c way u v all Bishop e l is y;
-    rooks = men_of b d c way u v all Rook e l is y;
-    queens = men_of b d c way u v all Queen e l is y;
-    kings = men_of b d c way u v all King e l is y;
+    pawns = men_of b d c way u v pages Pawn are y;
+    knights = men_of b d c way u v pages Knight are y;
+    bishops = men_of b d c way u v pages Bishop are y;
+    rooks = men_of b d c way u v pages Rook are y;
+    queens = men_of b d c way u v pages Queen are y;
+    kings = men_of b d c way u v pages King are y;
   })),
 )
 
 -- ---- the number of a source
-and_no : (x : Bool) → (x && false) ≡ false
+pub and_no : (x : Bool) → (x && false) ≡ false
 and_no true = refl
 and_no false = refl
 
@@ -216,8 +266,12 @@ unfolding tally_below
 number_of b c own s l is = count_below_same (has own) (λ q. passes (of_color c any_man q) (get b q)) s (λ q low. marks_men b c own is q (omega arith))
 
 -- ---- a source of a kind
-pub men_off : (d b : Placement) (way : Option Wing) (u v : List ℕ) (m : Man) (men q : ℕ) → q < 64 → ((r : ℕ) → r < 64 → has men r ≡ is_man m (get b r)) → has men q ≡ false → get b q ≡ Some m → SourceFits d m.color way (Some m) q (price u m.color any_man b q) v
-men_off d b way u v m men q l is off here = absurd (let on : is_man m (get b q) ≡ true = (is_man_decides m (get b q)).1 here in let e : has men q ≡ is_man m (get b q) = is q l in cc)
+-- what is asked of such a man on s
+abbrev pub FitsFrom : Placement → Placement → Option Wing → List ℕ → List (List ℕ) → Man → ℕ → Type 0
+FitsFrom d b way u pages m s = SourceFits d m.color m.kind (counted m.color way s) (price u m.color any_man b s) pages
+
+pub men_off : (d b : Placement) (way : Option Wing) (u : List ℕ) (pages : List (List ℕ)) (m : Man) (men q : ℕ) → q < 64 → ((r : ℕ) → r < 64 → has men r ≡ is_man m (get b r)) → has men q ≡ false → get b q ≡ Some m → FitsFrom d b way u pages m q
+men_off d b way u pages m men q l is off here = absurd (let on : is_man m (get b q) ≡ true = (is_man_decides m (get b q)).1 here in let e : has men q ≡ is_man m (get b q) = is q l in cc)
 
 pub source_low : (b : Placement) (m : Man) (own s n : ℕ) (u : List ℕ) → IsPriced u m.color any_man b → ((q : ℕ) → q < 64 → has own q ≡ is_of m.color (get b q)) → s < 64 → get b s ≡ Some m → n ≡ count_below (has own) s → n < length u
 source_low b m own s n u priced is l here e =
@@ -225,28 +279,28 @@ source_low b m own s n u priced is l here e =
     let k : n ≡ number_among m.color any_man b s = e ∙ number_of b m.color own s (omega arith) is in
     omega (arith, priced, w, k)
 
-pub source_is : (d b : Placement) (way : Option Wing) (m : Man) (s n origin own : ℕ) (u v row : List ℕ) (r : Bool) → s < 64 → AreFew d m.color v → ((q : ℕ) → q < 64 → has own q ≡ is_of m.color (get b q)) → n ≡ count_below (has own) s → origin ≡ counted m.color way s → IsRow d m.color m.kind origin row → IsTrue r ↔ RowFits v (get_or u n 0) row → IsTrue r ↔ SourceFits d m.color way (Some m) s (price u m.color any_man b s) v
-source_is d b way m s n origin own u v row r l few is e at isrow h =
-    source_at d m.color way m (Some m) s (price u m.color any_man b s) origin v row r refl ((color_decides m.color m.color).1 refl) l few at isrow
-    (subst (λ (x : ℕ). IsTrue r ↔ RowFits v x row) (ap (λ (i : ℕ). get_or u i 0) (e ∙ number_of b m.color own s (omega arith) is)) h)
+pub source_is : (d b : Placement) (way : Option Wing) (m : Man) (s n origin own : ℕ) (u : List ℕ) (pages : List (List ℕ)) (r : Bool) → s < 64 → ((q : ℕ) → q < 64 → has own q ≡ is_of m.color (get b q)) → n ≡ count_below (has own) s → origin ≡ counted m.color way s → IsTrue r ↔ SourceFits d m.color m.kind origin (get_or u n 0) pages → IsTrue r ↔ FitsFrom d b way u pages m s
+source_is d b way m s n origin own u pages r l is e at h =
+    subst (λ (x : ℕ). IsTrue r ↔ SourceFits d m.color m.kind x (price u m.color any_man b s) pages) at
+    (subst (λ (x : ℕ). IsTrue r ↔ SourceFits d m.color m.kind origin x pages) (ap (λ (i : ℕ). get_or u i 0) (e ∙ number_of b m.color own s (omega arith) is)) h)
 
-pub men_not : (d b : Placement) (way : Option Wing) (m : Man) (s : ℕ) (u v : List ℕ) (r : Bool) → s < 64 → get b s ≡ Some m → r ≡ false → IsTrue r ↔ SourceFits d m.color way (Some m) s (price u m.color any_man b s) v → IsTrue false ↔ MenFit d b way u v m
+pub men_not : (d b : Placement) (way : Option Wing) (m : Man) (s : ℕ) (u : List ℕ) (pages : List (List ℕ)) (r : Bool) → s < 64 → get b s ≡ Some m → r ≡ false → IsTrue r ↔ FitsFrom d b way u pages m s → IsTrue false ↔ MenFit d b way u pages m
 unfolding MenFit
-men_not d b way m s u v r l here e h = ((λ y. absurd (cc)), (λ all. absurd (let t : r ≡ true = h.1 (all s l here) in cc)))
+men_not d b way m s u pages r l here e h = ((λ y. absurd (cc)), (λ all. absurd (let t : r ≡ true = h.1 (all s l here) in cc)))
 
 -- those that were taken fit
-abbrev pub AreSeen : Placement → Placement → Option Wing → List ℕ → List ℕ → Man → ℕ → Type 0
-AreSeen d b way u v m men = (q : ℕ) → q < 64 → has men q ≡ false → get b q ≡ Some m → SourceFits d m.color way (Some m) q (price u m.color any_man b q) v
+abbrev pub AreSeen : Placement → Placement → Option Wing → List ℕ → List (List ℕ) → Man → ℕ → Type 0
+AreSeen d b way u pages m men = (q : ℕ) → q < 64 → has men q ≡ false → get b q ≡ Some m → FitsFrom d b way u pages m q
 
 pub men_first : (b : Placement) (m : Man) (men : ℕ) → ((r : ℕ) → r < 64 → has men r ≡ is_man m (get b r)) → AreAll (λ q. get b q ≡ Some m) men
 men_first b m men is q l on = (is_man_decides m (get b q)).0 (sym (is q l) ∙ on)
 
-pub men_next : (d b : Placement) (way : Option Wing) (m : Man) (old new s : ℕ) (u v : List ℕ) → AreSeen d b way u v m old → IsWithout old new s → SourceFits d m.color way (Some m) s (price u m.color any_man b s) v → AreSeen d b way u v m new
-men_next d b way m old new s u v seen rest here q l off there = elim (eqb_tells q s) [
-  | inl w ↦ subst (λ (x : ℕ). SourceFits d m.color way (Some m) x (price u m.color any_man b x) v) (sym w.1) here
+pub men_next : (d b : Placement) (way : Option Wing) (m : Man) (old new s : ℕ) (u : List ℕ) (pages : List (List ℕ)) → AreSeen d b way u pages m old → IsWithout old new s → FitsFrom d b way u pages m s → AreSeen d b way u pages m new
+men_next d b way m old new s u pages seen rest here q l off there = elim (eqb_tells q s) [
+  | inl w ↦ subst (λ (x : ℕ). FitsFrom d b way u pages m x) (sym w.1) here
   | inr w ↦ seen q l (sym (other_than old new s q rest l w.1) ∙ off) there
 ]
 
-pub men_all : (d b : Placement) (way : Option Wing) (m : Man) (men : ℕ) (u v : List ℕ) → AreSeen d b way u v m men → HasNoneFrom men 0 → IsTrue true ↔ MenFit d b way u v m
+pub men_all : (d b : Placement) (way : Option Wing) (m : Man) (men : ℕ) (u : List ℕ) (pages : List (List ℕ)) → AreSeen d b way u pages m men → HasNoneFrom men 0 → IsTrue true ↔ MenFit d b way u pages m
 unfolding MenFit
-men_all d b way m men u v seen none = ((λ y q l here. seen q l (none q (omega arith) l) here), (λ y. refl))
+men_all d b way m men u pages seen none = ((λ y q l here. seen q l (none q (omega arith) l) here), (λ y. refl))

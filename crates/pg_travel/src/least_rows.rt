@@ -7,35 +7,15 @@ ghost use Rattle.pg_captures.specs.Counting.{men, any_man};
 ghost use Rattle.pg_position.specs.declared.rights.Wing.TheVariants.{KingSide, QueenSide};
 ghost use Rattle.pg_position.specs.declared.state.State.{State};
 ghost use Rattle.pg_travel.specs.Needs.{TravelTest};
-ghost use Rattle.pg_travel.specs.inner.LeastRows.{IsUnreached, AreLesser, IsLowered, IsHomeOf, IsOff, StandsOff, IsLeastFrom, IsFree, IsAway, IsLeastRow, IsCastled, row_cost};
+ghost use Rattle.pg_travel.specs.inner.LeastRows.{AreLesser, IsLowered, IsHomeOf, IsOff, StandsOff, IsLeastFrom, IsFree, IsAway, IsLeastRow, IsCastled, row_cost};
 ghost use Rattle.pg_travel.specs.inner.Within.{PaysIs, CastledIs};
 
 use crate::castling::{charge, counted};
 use crate::needs::same_side;
-use crate::rows::Rows;
+use crate::rows::{Rows, unreached};
 use pg_board::{Board, Color, Kind, Man, Square, SquareSet};
 use pg_captures::plies_left;
 use pg_position::{Position, Wing, king_crossed, king_home, king_target, rook_home};
-
-// No distance, where there are so many men and this is one of them.
-fn no_distance(number: u8, count: u8) -> u8
-    ensures among { number < count → result ≡ 255 }
-    ensures past { count ≤ number → result ≡ 0 }
-{
-    if number < count { 255 } else { 0 }
-}
-
-// A row without a distance to any of so many men.
-#[inline(always)]
-fn unreached(count: u8) -> [u8; 16]
-    ensures { IsUnreached count result }
-{
-    let mut row = [0; 16];
-    for i in 0..16u8 {
-        row[i as usize] = no_distance(i, count);
-    }
-    row
-}
 
 // The lesser of each two numbers.
 #[inline(always)]

@@ -9,6 +9,7 @@ mod laws;
 mod least_rows;
 mod misplaced;
 mod needs;
+mod numbers;
 mod pawn_table;
 mod price_cuts;
 mod promotion_table;

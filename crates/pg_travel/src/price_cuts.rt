@@ -9,7 +9,7 @@ ghost use Rattle.pg_travel.specs.inner.PriceTests.{AllFit, OneExcludes, TwoExclu
 
 use crate::castling::charge;
 use crate::rows::Rows;
-use crate::sources::few_fit;
+use crate::sources::fit_by;
 use crate::targets::all_fit;
 use pg_board::{Board, Color};
 use pg_captures::{all_men, plies_left, price_sum};
@@ -17,8 +17,7 @@ use pg_fen::Diagram;
 use pg_position::{Position, Wing};
 use pg_price_lists::Prices;
 
-// Whether every target fits every source, by rows of the diagram where they are at hand and have each
-// target.
+// Whether every target fits every source, by rows of the diagram where they are at hand.
 fn lists_fit(
     rows: Option<&Rows>,
     board: &Board,
@@ -34,13 +33,7 @@ fn lists_fit(
 {
     match rows {
         None => all_fit(board, goal, color, way, u, v),
-        Some(rows) => {
-            if v.len() <= 16 {
-                few_fit(rows, board, color, way, u, v)
-            } else {
-                all_fit(board, goal, color, way, u, v)
-            }
-        }
+        Some(rows) => fit_by(rows, board, color, way, u, v),
     }
 }
 

@@ -1,59 +1,70 @@
 //! Whether the sources of a price list fit its targets, where rows of distances are at hand: one source
-//! against all targets at once.
-ghost use Rattle.std.specs.Prelude.{◌≡◌, ℕ, ◌<◌, ◌≤◌, ◌↔◌, IsTrue, length, get_or, ltb};
-ghost use Rattle.pg_board.specs.Bits.{has};
-ghost use Rattle.pg_board.specs.Tally.{count_below};
+//! against sixteen targets at once.
+ghost use Rattle.std.specs.Prelude.{◌≡◌, ℕ, ◌<◌, ◌≤◌, ◌↔◌, IsTrue, length};
 ghost use Rattle.pg_captures.specs.Counting.{any_man};
 ghost use Rattle.pg_captures.specs.PriceLists.{IsPriced};
 ghost use Rattle.pg_travel.specs.inner.PriceTests.{AllFit};
-ghost use Rattle.pg_travel.specs.inner.DistanceRows.{AreFew, MenFit, SourcesFit, AreSixteen};
+ghost use Rattle.pg_travel.specs.inner.DistanceRows.{AreSixteen, ArePaged, SourceFits, MenFit, SourcesFit};
 
 use crate::castling::counted;
+use crate::numbers::number_before;
 use crate::rows::{Rows, fits};
-use pg_board::{Board, Color, Kind, Man, Square, SquareSet};
+use pg_board::{Board, Color, Kind, Man, Square};
 use pg_position::Wing;
 
-// At most sixteen prices, and zeros after them.
-#[tactic(auto, unfolding(crate::specs::inner::DistanceRows::AreSixteen))]
-fn sixteen(prices: &[u8]) -> [u8; 16]
-    requires { length prices.now ≤ 16 }
-    ensures { AreSixteen prices.now result }
+// Sixteen prices from one on, and zeros after the last.
+fn sixteen(prices: &[u8], first: usize) -> [u8; 16]
+    requires { first ≤ 64 }
+    ensures { AreSixteen prices.now first result }
 {
     let mut all = [0; 16];
-    all[..prices.len()].copy_from_slice(prices);
+    let from = first.min(prices.len());
+    let to = (from + 16).min(prices.len());
+    let some = &prices[from..to];
+    all[..some.len()].copy_from_slice(some);
     all
 }
 
-// The squares before one.
+// Whether a source, a man from a square at a price, fits every target.
 #[inline(always)]
-fn squares_before(s: Square) -> SquareSet
-    ensures members { (q : ℕ) → has result q ≡ ltb q s }
-    ensures bound { s < 64 }
+fn source_fits(rows: &Rows, man: Man, origin: Square, price: u8, v: &[[u8; 16]]) -> bool
+    requires { ArePaged rows.now man.color v.now }
+    ensures { IsTrue result ↔ SourceFits rows.now man.color man.kind origin price v.now }
 {
-    SquareSet::of_bits((1u64 << s.index()) - 1)
-}
-
-// How many squares of a set are before one.
-#[inline(always)]
-fn number_before(set: SquareSet, s: Square) -> usize
-    ensures { result ≡ count_below (has set) s }
-{
-    (set & squares_before(s)).len() as usize
+    // A fact for the proof: the square is on the board.
+    origin.index();
+    for page in 0..v.len() {
+        if !fits(
+            v[page],
+            price,
+            rows.on_page(man.color, man.kind, origin, page),
+        ) {
+            return false;
+        }
+    }
+    true
 }
 
 // Whether each such man fits every target.
 #[inline(always)]
-fn men_fit(rows: &Rows, board: &Board, man: Man, way: Option<Wing>, u: &[u8], v: [u8; 16]) -> bool
-    requires few { AreFew rows.now man.color v }
+fn men_fit(
+    rows: &Rows,
+    board: &Board,
+    man: Man,
+    way: Option<Wing>,
+    u: &[u8],
+    v: &[[u8; 16]],
+) -> bool
+    requires paged { ArePaged rows.now man.color v.now }
     requires priced { IsPriced u.now man.color any_man board.now }
-    ensures { IsTrue result ↔ MenFit rows.now board.now way u.now v man }
+    ensures { IsTrue result ↔ MenFit rows.now board.now way u.now v.now man }
 {
     let own = board.squares_of_color(man.color);
     let mut men = board.squares_of(man);
     while let Some(s) = men.pop_first() {
         let origin = counted(man.color, way, s);
-        let price = u[number_before(own, s)];
-        if !fits(v, price, rows.of(man.color, man.kind, origin)) {
+        let price = u[number_before(own, s) as usize];
+        if !source_fits(rows, man, origin, price, v) {
             return false;
         }
     }
@@ -61,17 +72,18 @@ fn men_fit(rows: &Rows, board: &Board, man: Man, way: Option<Wing>, u: &[u8], v:
 }
 
 // Whether each man of the colour fits every target.
+#[inline(always)]
 fn sources_fit(
     rows: &Rows,
     board: &Board,
     color: Color,
     way: Option<Wing>,
     u: &[u8],
-    v: [u8; 16],
+    v: &[[u8; 16]],
 ) -> bool
-    requires few { AreFew rows.now color v }
+    requires paged { ArePaged rows.now color v.now }
     requires priced { IsPriced u.now color any_man board.now }
-    ensures { IsTrue result ↔ SourcesFit color (MenFit rows.now board.now way u.now v) }
+    ensures { IsTrue result ↔ SourcesFit color (MenFit rows.now board.now way u.now v.now) }
 {
     men_fit(rows, board, Man::new(color, Kind::Pawn), way, u, v)
         && men_fit(rows, board, Man::new(color, Kind::Knight), way, u, v)
@@ -82,7 +94,31 @@ fn sources_fit(
 }
 
 // Whether every target fits every source, where there are at most sixteen targets.
-pub(crate) fn few_fit(
+fn few_fit(rows: &Rows, board: &Board, color: Color, way: Option<Wing>, u: &[u8], v: &[u8]) -> bool
+    requires few { length v.now ≤ 16 }
+    requires priced { IsPriced u.now color any_man board.now × IsPriced v.now color any_man rows.now }
+    ensures { IsTrue result ↔ AllFit board.now rows.now color way u.now v.now }
+{
+    let one = [sixteen(v, 0)];
+    sources_fit(rows, board, color, way, u, &one)
+}
+
+// The same for any number of targets.
+fn many_fit(rows: &Rows, board: &Board, color: Color, way: Option<Wing>, u: &[u8], v: &[u8]) -> bool
+    requires priced { IsPriced u.now color any_man board.now × IsPriced v.now color any_man rows.now }
+    ensures { IsTrue result ↔ AllFit board.now rows.now color way u.now v.now }
+{
+    let four = [
+        sixteen(v, 0),
+        sixteen(v, 16),
+        sixteen(v, 32),
+        sixteen(v, 48),
+    ];
+    sources_fit(rows, board, color, way, u, &four)
+}
+
+// Whether every target fits every source.
+pub(crate) fn fit_by(
     rows: &Rows,
     board: &Board,
     color: Color,
@@ -90,9 +126,12 @@ pub(crate) fn few_fit(
     u: &[u8],
     v: &[u8],
 ) -> bool
-    requires few { length v.now ≤ 16 }
-    requires priced { IsPriced u.now color any_man board.now × IsPriced v.now color any_man rows.now }
+    requires { IsPriced u.now color any_man board.now × IsPriced v.now color any_man rows.now }
     ensures { IsTrue result ↔ AllFit board.now rows.now color way u.now v.now }
 {
-    sources_fit(rows, board, color, way, u, sixteen(v))
+    if v.len() <= 16 {
+        few_fit(rows, board, color, way, u, v)
+    } else {
+        many_fit(rows, board, color, way, u, v)
+    }
 }

@@ -1,4 +1,4 @@
-use Rattle.std.proofs.Common.{◌≡◌, Bool, true, false, ap, subst, sym, arith, ◌∙◌}
+use Rattle.std.proofs.Common.{◌≡◌, Bool, false, ap, subst, sym, ◌∙◌}
 use Rattle.pg_board.specs.declared.man.Color.{Color}
 use Rattle.pg_position.specs.declared.rights.Wing.TheVariants.{KingSide}
 use Rattle.pg_captures.specs.Owed.{plies_left}

@@ -1,5 +1,5 @@
 use Rattle.pg_travel.proofs.LeastRows.{FirstUnreached}
-use Rattle.pg_travel.proofs.least_rows.unreached.Given as goal
+use Rattle.pg_travel.proofs.rows.unreached.Given as goal
 
 abbrev pub invariant-loop-i : goal.invariant-loop-i
 invariant-loop-i l = FirstUnreached l.count l.i l.row

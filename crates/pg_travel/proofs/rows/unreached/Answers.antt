@@ -1,6 +1,6 @@
 use Rattle.std.proofs.Common.{refl, arith}
 use Rattle.pg_travel.proofs.LeastRows.{unreached_next, unreached_all}
-use Rattle.pg_travel.proofs.least_rows.unreached.Goals as goal
+use Rattle.pg_travel.proofs.rows.unreached.Goals as goal
 
 pub loop-i-init : goal.loop-i-init
 loop-i-init c = (refl, λ j l. absurd (omega arith))

@@ -1,0 +1,5 @@
+use Rattle.pg_travel.specs.inner.DistanceRows.{AreFirstFurther}
+use Rattle.pg_travel.proofs.rows.further.Given as goal
+
+abbrev pub invariant-loop-place : goal.invariant-loop-place
+invariant-loop-place l = AreFirstFurther l.goal l.place l.rows

@@ -1,0 +1,16 @@
+use Rattle.std.proofs.Common.{◌≡◌, Some}
+use Rattle.pg_board.specs.Bits.{has}
+use Rattle.pg_board.specs.Men.{man}
+use Rattle.pg_board.specs.Placement.{get}
+use Rattle.pg_board.specs.Tally.{count_below}
+use Rattle.pg_travel.specs.inner.DistanceRows.{stored}
+use Rattle.pg_travel.specs.inner.Formulas.{distance_of}
+use Rattle.pg_travel.proofs.MakingRows.{IsGoing}
+use Rattle.pg_travel.proofs.TakenSets.{AreAll}
+use Rattle.pg_travel.proofs.rows.with_kind.Given as goal
+
+abbrev pub invariant-loop-t : goal.invariant-loop-t
+invariant-loop-t l = record { going : IsGoing l.goal l.man.color l.kind l.first (λ t. stored (distance_of l.man.color l.kind l.man.kind l.from t)) l.left l.fn.row l.all; all : AreAll (λ q. get l.goal q ≡ Some (man l.man.color l.kind)) l.left }
+
+abbrev pub decreases-loop-t : goal.decreases-loop-t
+decreases-loop-t l = count_below (has l.left) 64
