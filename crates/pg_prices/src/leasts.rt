@@ -97,39 +97,14 @@ struct Castled {
     least: Two,
 }
 
-// The lesser of two distances to each target.
-fn lesser(a: [u8; MOST], b: [u8; MOST]) -> [u8; MOST] {
-    let mut least = a;
-    for t in 0..MOST {
-        least[t] = least[t].min(b[t]);
-    }
-    least
-}
-
-// Whether one of these distances is less than the other one to the same target.
-fn is_nearer(a: [u8; MOST], b: [u8; MOST]) -> bool {
-    let mut nearer = 0u8;
-    for t in 0..MOST {
-        nearer |= b[t].saturating_sub(a[t]);
-    }
-    nearer != 0
-}
-
-// The way of a wing, by the least distances of the men that cannot castle. There is none where king and rook are nearer
-// to no target when they have castled: that way no need is less than without castling.
+// The way of a wing, by the least distances of the men that cannot castle; none where it never takes fewer plies than the
+// way without castling.
 fn way_of(two: Two, rows: &Rows, rights: Rights, wing: Wing, other: Wing) -> Option<Castled> {
     let color = rows.color();
-    if !rights.holds(color, wing) {
+    if !rights.holds(color, wing) || !rows.may_pay(wing) {
         return None;
     }
     let (king, rook) = rows.castled_distances(wing);
-    let home = lesser(
-        rows.distances(Kind::King, king_home(color)),
-        rows.distances(Kind::Rook, rook_home(color, wing)),
-    );
-    if !is_nearer(lesser(king, rook), home) {
-        return None;
-    }
     let mut least = entered(entered(two, king), rook);
     if rights.holds(color, other) {
         least = entered(least, rows.distances(Kind::Rook, rook_home(color, other)));

@@ -118,7 +118,7 @@ pub fn travel_value(rows: &Rows, position: &Position) -> u8 {
     let free = rows.travel(&board);
     let mut least = small(assign(&free, rows.targets(), TRAVEL_DUMMY).value);
     for wing in [Wing::KingSide, Wing::QueenSide] {
-        if position.rights().holds(rows.color(), wing) {
+        if position.rights().holds(rows.color(), wing) && rows.may_pay(wing) {
             least = lesser_by(rows, &board, &free, wing, least);
         }
     }
