@@ -119,6 +119,7 @@ impl RecordWriter {
     ///
     /// # Errors
     /// As for `put_record`.
+    #[inline(always)]
     pub fn put_cut<W: Sink>(&mut self, code: u8, sink: &mut W) -> Result<(), WriteFault>
         ensures bytes { OnOk result (Appends
             (written (W.held sink.old) self.old) (written (W.held sink.new) self.new)
