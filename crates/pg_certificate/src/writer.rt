@@ -3,6 +3,7 @@ ghost use Rattle.std.specs.Prelude.{◌≡◌, ◌<◌, [], ◌∷◌, ◌++◌,
 ghost use Rattle.std.specs.Io.KnownBytes.{Appends, Keeps};
 ghost use Rattle.pg_certificate.specs.Spelling.{spelling, header_spelling, prices_spelling, IsVersion};
 ghost use Rattle.pg_certificate.specs.Writer.{written, RefusesOnce};
+ghost use Rattle.pg_certificate.specs.declared.record.Record.TheVariants.{Expand, Cut, Ref};
 
 use crate::fault::WriteFault;
 use crate::format::{CUT, EXPAND, NAMED, PRICED, REF};
@@ -81,16 +82,9 @@ impl RecordWriter {
         ensures untouched { self.old.failed ≡ true → sink.new ≡ sink.old }
     {
         match node {
-            Record::Expand { named: false } => self.byte(EXPAND, sink),
-            Record::Expand { named: true } => self.byte(NAMED, sink),
-            Record::Cut(code) => {
-                self.byte(CUT, sink)?;
-                self.byte(*code, sink)
-            }
-            Record::Ref(number) => {
-                self.byte(REF, sink)?;
-                self.bytes(&number.to_be_bytes(), sink)
-            }
+            Record::Expand { named } => self.put_expansion(*named, sink),
+            Record::Cut(code) => self.put_cut(*code, sink),
+            Record::Ref(number) => self.put_reference(*number, sink),
             Record::Priced {
                 code,
                 color,
@@ -102,6 +96,54 @@ impl RecordWriter {
                 self.prices(prices, sink)
             }
         }
+    }
+
+    /// Writes the record of an expanded node, named or not, as `put_record` does.
+    ///
+    /// # Errors
+    /// As for `put_record`.
+    pub fn put_expansion<W: Sink>(&mut self, named: bool, sink: &mut W) -> Result<(), WriteFault>
+        ensures bytes { OnOk result (Appends
+            (written (W.held sink.old) self.old) (written (W.held sink.new) self.new)
+            (spelling (Expand named))) }
+        ensures refuses { RefusesOnce self.old.failed self.new.failed (W.has_failed sink.new) result }
+        ensures untouched { self.old.failed ≡ true → sink.new ≡ sink.old }
+    {
+        match named {
+            true => self.byte(NAMED, sink),
+            false => self.byte(EXPAND, sink),
+        }
+    }
+
+    /// Writes the record of a cut by the bound with this code, as `put_record` does.
+    ///
+    /// # Errors
+    /// As for `put_record`.
+    #[inline(always)]
+    pub fn put_cut<W: Sink>(&mut self, code: u8, sink: &mut W) -> Result<(), WriteFault>
+        ensures bytes { OnOk result (Appends
+            (written (W.held sink.old) self.old) (written (W.held sink.new) self.new)
+            (spelling (Cut code))) }
+        ensures refuses { RefusesOnce self.old.failed self.new.failed (W.has_failed sink.new) result }
+        ensures untouched { self.old.failed ≡ true → sink.new ≡ sink.old }
+    {
+        self.byte(CUT, sink)?;
+        self.byte(code, sink)
+    }
+
+    /// Writes the record of a reference to the node with this number, as `put_record` does.
+    ///
+    /// # Errors
+    /// As for `put_record`.
+    pub fn put_reference<W: Sink>(&mut self, number: u32, sink: &mut W) -> Result<(), WriteFault>
+        ensures bytes { OnOk result (Appends
+            (written (W.held sink.old) self.old) (written (W.held sink.new) self.new)
+            (spelling (Ref number))) }
+        ensures refuses { RefusesOnce self.old.failed self.new.failed (W.has_failed sink.new) result }
+        ensures untouched { self.old.failed ≡ true → sink.new ≡ sink.old }
+    {
+        self.byte(REF, sink)?;
+        self.bytes(&number.to_be_bytes(), sink)
     }
 
     /// Pushes all that is held, so that the sink has the whole certificate.

@@ -216,6 +216,18 @@ fn sum(prices: &Row) -> u16 {
     sum
 }
 
+/// What the value of no assignment is below: the least costs of the first so many targets, added up, a dummy's
+/// included.
+pub fn least_costs(costs: &Costs, targets: usize, dummy: u8) -> u16 {
+    let mut sum = 0u16;
+    for t in 0..MOST {
+        if t < targets {
+            sum = sum.saturating_add(u16::from(least(&costs[t], dummy)));
+        }
+    }
+    sum
+}
+
 /// A least assignment of the first so many targets, at most 16: each gets a source of its own or a
 /// dummy of the stated cost, at most 85, and the value is the sum of the costs.
 ///

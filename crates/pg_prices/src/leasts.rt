@@ -97,10 +97,11 @@ struct Castled {
     least: Two,
 }
 
-// The way of a wing, by the least distances of the men that cannot castle.
+// The way of a wing, by the least distances of the men that cannot castle; none where it never takes fewer plies than the
+// way without castling.
 fn way_of(two: Two, rows: &Rows, rights: Rights, wing: Wing, other: Wing) -> Option<Castled> {
     let color = rows.color();
-    if !rights.holds(color, wing) {
+    if !rights.holds(color, wing) || !rows.may_pay(wing) {
         return None;
     }
     let (king, rook) = rows.castled_distances(wing);
@@ -125,8 +126,8 @@ fn free(two: Two, rows: &Rows, board: &Board, men: SquareSet) -> Two {
     least
 }
 
-/// The least distances of the men of a colour to the targets, for each way that its rights allow, kept so that any
-/// man can be left out.
+/// The least distances of the men of a colour to the targets, for each way that its rights allow and that may take
+/// fewer plies than the one without castling, kept so that any man can be left out.
 #[derive(Clone, Copy)]
 pub struct Leasts {
     free: Two,

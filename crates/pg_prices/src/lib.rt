@@ -12,7 +12,7 @@ mod memory;
 mod needs;
 mod rows;
 
-pub use assignment::{Assignment, Costs, MOST, assign};
+pub use assignment::{Assignment, Costs, MOST, assign, least_costs};
 pub use closed::Closed;
 pub use keys::{color_key, man_key, node_key, pawn_key, right_key};
 pub use leasts::{Leasts, Rest};
@@ -20,5 +20,6 @@ pub use lists::{Lists, prices_of};
 pub use memory::Memory;
 pub use needs::{
     NEVER, Needs, PAWN_DUMMY, TRAVEL_DUMMY, UNKNOWN, first_needs, need, pawn_lists, travel_lists,
+    travel_value,
 };
 pub use rows::{Rows, UNREACHABLE};

@@ -1,7 +1,7 @@
 //! What the men of one colour of a position need to come onto the squares of a diagram: the need of
 //! travel and its price, pawns to promote, changes of file and their price.
 
-use crate::assignment::{Costs, MOST, assign};
+use crate::assignment::{Costs, MOST, assign, least_costs};
 use crate::lists::Lists;
 use crate::rows::Rows;
 use pg_board::{Board, Color, Kind, Man};
@@ -99,6 +99,30 @@ pub fn travel_lists(rows: &Rows, position: &Position) -> (u8, Lists) {
         }
     }
     (least, lists)
+}
+
+// The lesser of a number and the value of a way with castling, which is found where it may be below that number.
+fn lesser_by(rows: &Rows, board: &Board, free: &Costs, wing: Wing, least: u8) -> u8 {
+    let costs = costs_of(rows, board, free, Some(wing));
+    let bound = small(least_costs(&costs, rows.targets(), TRAVEL_DUMMY));
+    if bound.saturating_add(1) >= least {
+        return least;
+    }
+    let answer = assign(&costs, rows.targets(), TRAVEL_DUMMY);
+    least.min(small(answer.value).saturating_add(1))
+}
+
+/// The value that `travel_lists` answers, without the prices.
+pub fn travel_value(rows: &Rows, position: &Position) -> u8 {
+    let board = position.board();
+    let free = rows.travel(&board);
+    let mut least = small(assign(&free, rows.targets(), TRAVEL_DUMMY).value);
+    for wing in [Wing::KingSide, Wing::QueenSide] {
+        if position.rights().holds(rows.color(), wing) && rows.may_pay(wing) {
+            least = lesser_by(rows, &board, &free, wing, least);
+        }
+    }
+    least
 }
 
 /// The value of the least assignment of pawns, at most 250, and its prices.

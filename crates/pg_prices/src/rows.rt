@@ -26,7 +26,8 @@ pub(crate) const KINDS: [Kind; 6] = [
 
 /// The men of one colour of a diagram, in the order of their squares, at most 16: the targets. For
 /// each kind and square of a man of the colour there is a row of its distances to the targets, and for
-/// each square of a pawn a row of how many files it has to change to each target that is a pawn.
+/// each square of a pawn a row of how many files it has to change to each target that is a pawn. Whether
+/// either castling may ever pay is known.
 #[derive(Drop)]
 pub struct Rows {
     color: Color,
@@ -34,6 +35,8 @@ pub struct Rows {
     pawn_targets: usize,
     travel: Vec<[u8; MOST]>,
     pawns: Vec<[u8; MOST]>,
+    short_may_pay: bool,
+    long_may_pay: bool,
 }
 
 // The targets of a colour: how many, and their squares and kinds.
@@ -169,8 +172,9 @@ fn put_men(
         let Some(square) = men.pop_first() else {
             return;
         };
-        let row = row_of(rows, first, square);
-        put_source(costs, number_of(all, square.index()), &row);
+        if let Some(row) = rows.get(first.saturating_add(usize::from(square.index()))) {
+            put_source(costs, number_of(all, square.index()), row);
+        }
     }
 }
 
@@ -202,6 +206,22 @@ fn castled(color: Color, wing: Wing) -> ((u8, u8), (u8, u8)) {
     (king, rook)
 }
 
+// Whether king or rook, when they have castled, is nearer to a target than both are at home. Else no need of travel is less
+// with the castling than without.
+fn may_pay(rows: &Vec<[u8; MOST]>, color: Color, wing: Wing) -> bool {
+    let ((king, king_to), (rook, rook_to)) = castled(color, wing);
+    let mut home = row_at(rows, place(Kind::King, king));
+    lower(&mut home, &row_at(rows, place(Kind::Rook, rook)));
+    let mut castled = row_at(rows, place(Kind::King, king_to));
+    lower(&mut castled, &row_at(rows, place(Kind::Rook, rook_to)));
+    for t in 0..MOST {
+        if castled[t] < home[t] {
+            return true;
+        }
+    }
+    false
+}
+
 impl Rows {
     /// The rows of a colour for a diagram.
     ///
@@ -221,12 +241,16 @@ impl Rows {
         for q in 0..64u8 {
             pawns.push(pawn_row(color, q, &pawn_targets))?;
         }
+        let short_may_pay = may_pay(&travel, color, Wing::KingSide);
+        let long_may_pay = may_pay(&travel, color, Wing::QueenSide);
         Ok(Rows {
             color,
             targets: targets.count,
             pawn_targets: pawn_targets.count,
             travel,
             pawns,
+            short_may_pay,
+            long_may_pay,
         })
     }
 
@@ -257,6 +281,14 @@ impl Rows {
             row_at(&self.travel, place(Kind::King, king)),
             row_at(&self.travel, place(Kind::Rook, rook)),
         )
+    }
+
+    // Whether a castling may make a need of travel less.
+    pub(crate) fn may_pay(&self, wing: Wing) -> bool {
+        match wing {
+            Wing::KingSide => self.short_may_pay,
+            Wing::QueenSide => self.long_may_pay,
+        }
     }
 
     // The least distances where there is no man: no target is reached.

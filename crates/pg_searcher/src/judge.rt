@@ -1,14 +1,15 @@
 //! Which cut excludes a node, by what is remembered of the men and rights of either colour.
 
-use crate::known::{Known, MISSING};
-use crate::outlook::{Mover, Outlook, Plain};
+use crate::known::{Known, MISSING, after_plain};
+use crate::outlook::Outlook;
 use crate::sides::{Change, Changes, Side, Sides, side_of};
 use pg_board::Color;
-use pg_captures::plies_left;
+use pg_captures::{Captures, Promotions, plies_left};
 use pg_fen::Diagram;
-use pg_position::{Move, Position};
-use pg_prices::{NEVER, Needs, UNKNOWN};
-use pg_travel::Prices;
+use pg_pawns::PawnFiles;
+use pg_position::Position;
+use pg_prices::{NEVER, Needs, Rows, UNKNOWN};
+use pg_travel::{Prices, Travel};
 use std::alloc::{AllocError, Global};
 
 // What judges nodes by their cuts for a diagram.
@@ -27,6 +28,18 @@ pub(crate) enum CutBy {
     Travel,
 }
 
+impl CutBy {
+    // The code by which a certificate names the bound.
+    pub(crate) fn code(self) -> u8 {
+        match self {
+            CutBy::Captures => Captures::CODE,
+            CutBy::Promotions => Promotions::CODE,
+            CutBy::PawnFiles => PawnFiles::CODE,
+            CutBy::Travel => Travel::CODE,
+        }
+    }
+}
+
 // What becomes of a node: a bound excludes it, or prices of one colour's pawns or of one colour's
 // travel do, or none does; or that is not known.
 #[derive(Clone, Copy, Debug, PartialEq, Eq)]
@@ -40,9 +53,9 @@ pub(crate) enum Cutting {
 
 // One colour's numbers at a node: how many captures it owes, and how many plies it has left.
 #[derive(Clone, Copy)]
-struct Means {
-    owed: i16,
-    plies: u8,
+pub(crate) struct Means {
+    pub(crate) owed: i16,
+    pub(crate) plies: u8,
 }
 
 // Both colours, from a colour and the other one.
@@ -131,6 +144,11 @@ impl Judge {
         })
     }
 
+    // The distances of a colour's men.
+    pub(crate) fn rows(&self, color: Color) -> &Rows {
+        &self.known(color).rows
+    }
+
     // What is known of a colour.
     fn known(&self, color: Color) -> &Known {
         match color {
@@ -186,43 +204,72 @@ impl Judge {
         }
     }
 
-    // A colour after a move, with its needs where they are known, else these.
-    fn after(&self, color: Color, side: &Side, change: &Change, missing: Needs) -> Side {
+    // A colour after a move, with its needs where they are known.
+    fn after(&self, color: Color, side: &Side, change: &Change) -> Side {
         let needs = match self.known(color).get(change.key_after(side)) {
             Some(needs) => needs,
-            None => missing,
+            None => MISSING,
         };
         change.applied(side, needs)
     }
 
-    // What becomes of a node after a move of a colour, by what is known, and both colours there. What that
-    // colour needs then is as stated where it is not remembered.
+    // What becomes of a node after a move of a colour, by what is known. Both colours are those there from now on,
+    // where captures do not exclude.
     pub(crate) fn quick(
         &self,
         color: Color,
-        sides: &Sides,
+        sides: &mut Sides,
         changes: &Changes,
-        missing: Needs,
         left: u8,
-    ) -> (Cutting, Option<Sides>) {
+    ) -> Cutting {
         let (own, other) = (sides.of(color), sides.of(color.other()));
         let other_men = match &changes.other {
             Some(change) => change.men_after(other),
             None => other.men,
         };
         if captures_exclude(self.means(color, other_men, color.other(), left)) {
-            return (Cutting::Cut(CutBy::Captures), None);
+            return Cutting::Cut(CutBy::Captures);
         }
-        let own = self.after(color, own, &changes.own, missing);
+        let own = self.after(color, own, &changes.own);
         let other = match &changes.other {
-            Some(change) => self.after(color.other(), other, change, MISSING),
+            Some(change) => self.after(color.other(), other, change),
             None => *other,
         };
-        let sides = sides_by(color, own, other);
+        *sides = sides_by(color, own, other);
         if own.needs.need == UNKNOWN || other.needs.need == UNKNOWN {
-            return (Cutting::Unknown, Some(sides));
+            return Cutting::Unknown;
         }
-        (self.verdict(&sides, color.other(), left), Some(sides))
+        self.verdict(sides, color.other(), left)
+    }
+
+    // What becomes of a node after a plain move of a colour that no bound excludes, after which it has this need
+    // of travel and these numbers. The other colour is as before the move, when no cut excluded it; what is known of
+    // this one is that after the move from now on.
+    pub(crate) fn after_plain(
+        &self,
+        color: Color,
+        sides: &mut Sides,
+        change: &Change,
+        need: u8,
+        means: Means,
+    ) -> Cutting {
+        let known = self.known(color);
+        let before = sides.of(color);
+        let needs = match known.get(change.key_after(before)) {
+            Some(needs) => needs,
+            None => after_plain(&before.needs, need),
+        };
+        let own = change.applied(before, needs);
+        sides.set(color, own);
+        if needs.travel == UNKNOWN {
+            Cutting::Unknown
+        } else if i16::from(needs.pawns) > means.owed {
+            Cutting::Pawns(color)
+        } else if needs.travel > means.plies {
+            Cutting::Travel(color)
+        } else {
+            Cutting::Stays
+        }
     }
 
     // What is known of a node that opens with so many plies left.
@@ -234,21 +281,9 @@ impl Judge {
         let color = position.side();
         let other = color.other();
         let means = self.means(color, sides.of(other).men, other, left);
-        let rows = &self.known(color).rows;
+        let rows = self.rows(color);
         let is_owing = captures_exclude(means);
-        Outlook::new(sides, left, rows, position, means.plies, is_owing)
-    }
-
-    // What is known of a legal move by its colour's travel.
-    pub(crate) fn plain(
-        &self,
-        outlook: &Outlook,
-        position: &Position,
-        mover: &mut Mover,
-        m: &Move,
-    ) -> Plain {
-        let rows = &self.known(position.side()).rows;
-        outlook.plain(rows, position, mover, m)
+        Outlook::new(sides, left, rows, position, means, is_owing)
     }
 
     // What becomes of a node of which so much is known, with so many plies left, and both its colours.

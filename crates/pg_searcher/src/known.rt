@@ -5,6 +5,7 @@ use pg_fen::Diagram;
 use pg_position::Position;
 use pg_prices::{
     Memory, Needs, Rows, UNKNOWN, first_needs, pawn_key, pawn_lists, prices_of, travel_lists,
+    travel_value,
 };
 use pg_travel::Prices;
 use std::alloc::{AllocError, Global};
@@ -93,9 +94,9 @@ impl Known {
         }
         let mut needs = needs;
         needs.pawns = self.pawn_needs(position)?.pawns;
-        let (value, lists) = travel_lists(&self.rows, position);
-        needs.travel = value;
-        if value > plies {
+        needs.travel = travel_value(&self.rows, position);
+        if needs.travel > plies {
+            let (_, lists) = travel_lists(&self.rows, position);
             self.memory.keep(key.max(1), needs, lists.as_slice())?;
         } else {
             self.memory.set(key.max(1), needs)?;

@@ -5,19 +5,16 @@ ghost use Rattle.pg_searcher.specs.Refusals.{RefusesTruly};
 use crate::fault::SearchFault;
 use crate::judge::{CutBy, Judge};
 use crate::known::MISSING;
-use crate::outlook::{Mover, Outlook};
+use crate::outlook::Outlook;
 use crate::sides::{Side, Sides};
 use arrayvec::ArrayVec;
-use pg_captures::{Captures, Promotions};
 use pg_certificate::format::MOST_NAMED;
 use pg_certificate::{Record, RecordWriter, Sink};
 use pg_fen::Diagram;
 use pg_moves::LegalMoves;
-use pg_pawns::PawnFiles;
 use pg_position::Position;
 use pg_prices::Closed;
 use pg_san::Games;
-use pg_travel::Travel;
 use std::alloc::{AllocError, Global};
 
 // What is searched for, games of so many plies to a diagram, and how many plies the tree at work has.
@@ -108,66 +105,13 @@ impl Names {
     }
 }
 
-// The records that most nodes have: expansions and cuts by bounds. Each is made once, since a record has some 400
-// bytes, all of which are written where one is made.
-#[derive(Clone, Copy)]
-struct Common {
-    named: Record,
-    nameless: Record,
-    by_captures: Record,
-    by_promotions: Record,
-    by_pawn_files: Record,
-    by_travel: Record,
-}
-
-impl Common {
-    fn new() -> Common {
-        Common {
-            named: Record::Expand { named: true },
-            nameless: Record::Expand { named: false },
-            by_captures: Record::Cut(Captures::CODE),
-            by_promotions: Record::Cut(Promotions::CODE),
-            by_pawn_files: Record::Cut(PawnFiles::CODE),
-            by_travel: Record::Cut(Travel::CODE),
-        }
-    }
-
-    // The record of an expanded node, with a name or without.
-    fn expansion(&self, named: bool) -> &Record {
-        if named { &self.named } else { &self.nameless }
-    }
-
-    // The record of a cut by a bound.
-    fn cut(&self, bound: CutBy) -> &Record {
-        match bound {
-            CutBy::Captures => &self.by_captures,
-            CutBy::Promotions => &self.by_promotions,
-            CutBy::PawnFiles => &self.by_pawn_files,
-            CutBy::Travel => &self.by_travel,
-        }
-    }
-}
-
-// The certificate so far: the writer of its records, those that most nodes have, the named nodes, which it may
-// refer to, and how many nodes may still be visited.
+// The certificate so far: the writer of its records, the named nodes, which it may refer to, and how many nodes may
+// still be visited.
 #[derive(Drop)]
 pub(crate) struct Output {
     pub(crate) writer: RecordWriter,
-    common: Common,
     pub(crate) names: Names,
     pub(crate) nodes: u64,
-}
-
-// Writes a record.
-fn write<W: Sink>(writer: &mut RecordWriter, node: &Record, sink: &mut W) -> Result<(), SearchFault>
-    requires runs { writer.old.failed ≡ false }
-    ensures runs { OnOk result (writer.new.failed ≡ false) }
-    ensures says { (plies : ℕ) → RefusesTruly plies (W.has_failed sink.new) result }
-{
-    match writer.put_record(node, sink) {
-        Ok(()) => Ok(()),
-        Err(_) => Err(SearchFault::Write),
-    }
 }
 
 impl Output {
@@ -177,7 +121,6 @@ impl Output {
     {
         Output {
             writer: RecordWriter::new(),
-            common: Common::new(),
             names: Names::new(alloc),
             nodes,
         }
@@ -200,7 +143,10 @@ impl Output {
         ensures runs { OnOk result (self.new.writer.failed ≡ false) }
         ensures says { (plies : ℕ) → RefusesTruly plies (W.has_failed sink.new) result }
     {
-        write(&mut self.writer, node, sink)
+        match self.writer.put_record(node, sink) {
+            Ok(()) => Ok(()),
+            Err(_) => Err(SearchFault::Write),
+        }
     }
 
     // Writes that a node is expanded, with a name or without.
@@ -209,25 +155,42 @@ impl Output {
         ensures runs { OnOk result (self.new.writer.failed ≡ false) }
         ensures says { (plies : ℕ) → RefusesTruly plies (W.has_failed sink.new) result }
     {
-        write(&mut self.writer, self.common.expansion(named), sink)
+        match self.writer.put_expansion(named, sink) {
+            Ok(()) => Ok(()),
+            Err(_) => Err(SearchFault::Write),
+        }
     }
 
     // Writes a cut by a bound.
+    #[inline(always)]
     pub(crate) fn cut<W: Sink>(&mut self, bound: CutBy, sink: &mut W) -> Result<(), SearchFault>
         requires runs { self.old.writer.failed ≡ false }
         ensures runs { OnOk result (self.new.writer.failed ≡ false) }
         ensures says { (plies : ℕ) → RefusesTruly plies (W.has_failed sink.new) result }
     {
-        write(&mut self.writer, self.common.cut(bound), sink)
+        match self.writer.put_cut(bound.code(), sink) {
+            Ok(()) => Ok(()),
+            Err(_) => Err(SearchFault::Write),
+        }
+    }
+
+    // Writes a reference to a closed node by its number.
+    pub(crate) fn refer<W: Sink>(&mut self, number: u32, sink: &mut W) -> Result<(), SearchFault>
+        requires runs { self.old.writer.failed ≡ false }
+        ensures runs { OnOk result (self.new.writer.failed ≡ false) }
+        ensures says { (plies : ℕ) → RefusesTruly plies (W.has_failed sink.new) result }
+    {
+        match self.writer.put_reference(number, sink) {
+            Ok(()) => Ok(()),
+            Err(_) => Err(SearchFault::Write),
+        }
     }
 }
 
-// What chooses the record of each node, and the certificate to which it goes: what judges nodes, and the man
-// whose moves are judged.
+// What chooses the record of each node, and the certificate to which it goes.
 #[derive(Drop)]
 pub(crate) struct Recorder {
     pub(crate) judge: Judge,
-    pub(crate) mover: Mover,
     pub(crate) output: Output,
 }
 
@@ -238,7 +201,6 @@ impl Recorder {
     {
         Recorder {
             judge,
-            mover: Mover::none(),
             output: Output::new(alloc, nodes),
         }
     }

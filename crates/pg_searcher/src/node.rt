@@ -5,15 +5,14 @@ ghost use Rattle.pg_searcher.specs.Refusals.{RefusesTruly};
 
 use crate::fault::SearchFault;
 use crate::judge::{Cutting, Judge};
-use crate::known::{MISSING, after_plain};
 use crate::machine::{Output, Question, Recorder};
-use crate::outlook::{Outlook, Plain};
-use crate::sides::{Sides, changes_of};
+use crate::outlook::{Outlook, PlainMove};
+use crate::sides::{Sides, changes_of, plain_change};
 use pg_board::{Color, Square};
 use pg_certificate::{Record, Sink};
 use pg_pawns::PawnFiles;
 use pg_position::{Move, Position};
-use pg_prices::{Needs, node_key};
+use pg_prices::node_key;
 use pg_travel::{Prices, Travel};
 use std::alloc::AllocError;
 
@@ -93,7 +92,7 @@ fn refer<W: Sink>(output: &mut Output, sink: &mut W, key: u64) -> Result<bool, S
     let Some(number) = output.names.find(key) else {
         return Ok(false);
     };
-    match output.put(&Record::Ref(number), sink) {
+    match output.refer(number, sink) {
         Ok(()) => Ok(true),
         Err(fault) => Err(fault),
     }
@@ -171,6 +170,31 @@ fn stay_after<W: Sink>(
     }
 }
 
+// Writes the record of a node that prices exclude, with so many plies left, at least two. Where there are no price
+// lists it is as one that no cut excludes.
+#[inline(never)]
+fn put_priced<W: Sink>(
+    recorder: &mut Recorder,
+    sink: &mut W,
+    position: &Position,
+    sides: &Sides,
+    verdict: Cutting,
+    left: u8,
+) -> Result<Option<Opened>, SearchFault>
+    requires runs { recorder.old.output.writer.failed ≡ false }
+    ensures runs { OnOk result (recorder.new.output.writer.failed ≡ false) }
+    ensures says { (plies : ℕ) → RefusesTruly plies (W.has_failed sink.new) result }
+{
+    match priced_record(&mut recorder.judge, position, sides, verdict) {
+        Ok(None) => stay(&mut recorder.output, sink, position, sides, left),
+        Ok(Some(record)) => match recorder.output.put(&record, sink) {
+            Ok(()) => Ok(None),
+            Err(fault) => Err(fault),
+        },
+        Err(_) => Err(SearchFault::Memory),
+    }
+}
+
 // Writes the record of a node that was judged, with so many plies left, at least two.
 fn put_verdict<W: Sink>(
     recorder: &mut Recorder,
@@ -184,19 +208,14 @@ fn put_verdict<W: Sink>(
     ensures runs { OnOk result (recorder.new.output.writer.failed ≡ false) }
     ensures says { (plies : ℕ) → RefusesTruly plies (W.has_failed sink.new) result }
 {
-    if let Cutting::Cut(bound) = verdict {
-        return match recorder.output.cut(bound, sink) {
-            Ok(()) => Ok(None),
-            Err(fault) => Err(fault),
-        };
-    }
-    match priced_record(&mut recorder.judge, position, sides, verdict) {
-        Ok(None) => stay(&mut recorder.output, sink, position, sides, left),
-        Ok(Some(record)) => match recorder.output.put(&record, sink) {
+    match verdict {
+        Cutting::Cut(bound) => match recorder.output.cut(bound, sink) {
             Ok(()) => Ok(None),
             Err(fault) => Err(fault),
         },
-        Err(_) => Err(SearchFault::Memory),
+        Cutting::Pawns(_) => put_priced(recorder, sink, position, sides, verdict, left),
+        Cutting::Travel(_) => put_priced(recorder, sink, position, sides, verdict, left),
+        _ => stay(&mut recorder.output, sink, position, sides, left),
     }
 }
 
@@ -229,16 +248,13 @@ fn put_kept<W: Sink>(
     judge: &Judge,
     output: &mut Output,
     color: Color,
-    known: &Option<Sides>,
+    sides: &Sides,
     sink: &mut W,
 ) -> Result<bool, SearchFault>
     requires runs { output.old.writer.failed ≡ false }
     ensures runs { OnOk result (output.new.writer.failed ≡ false) }
     ensures says { (plies : ℕ) → RefusesTruly plies (W.has_failed sink.new) result }
 {
-    let Some(sides) = known else {
-        return Ok(false);
-    };
     let Some(prices) = judge.kept_prices(color, sides.of(color).key) else {
         return Ok(false);
     };
@@ -254,7 +270,7 @@ fn put_judged<W: Sink>(
     judge: &Judge,
     output: &mut Output,
     verdict: Cutting,
-    known: &Option<Sides>,
+    sides: &Sides,
     sink: &mut W,
 ) -> Result<bool, SearchFault>
     requires runs { output.old.writer.failed ≡ false }
@@ -266,77 +282,75 @@ fn put_judged<W: Sink>(
             Ok(()) => Ok(true),
             Err(fault) => Err(fault),
         },
-        Cutting::Travel(color) => put_kept(judge, output, color, known, sink),
+        Cutting::Travel(color) => put_kept(judge, output, color, sides, sink),
         _ => Ok(false),
     }
 }
 
-// What becomes of a node after a legal move, by what is known of both colours before the move is made, and both
-// colours there. What the colour that moves needs is as stated where it is not remembered.
+// A legal move of an open node that no bound excludes by what is known of the node, and its man and its colour's need
+// of travel where it is plain.
+#[derive(Clone, Copy)]
+pub(crate) struct Uncut {
+    pub(crate) m: Move,
+    pub(crate) plain: Option<PlainMove>,
+}
+
+// What becomes of a node after a legal move, by what is known of both colours before the move is made; none where that
+// tells nothing. What is known of both is that after the move from now on, where captures do not exclude.
 fn judge_before(
     judge: &Judge,
     position: &Position,
-    m: &Move,
+    uncut: &Uncut,
     outlook: &Outlook,
-    missing: Needs,
-) -> (Cutting, Option<Sides>) {
+    sides: &mut Sides,
+) -> Option<Cutting> {
     let side = position.side();
-    match changes_of(position, m) {
-        Some(changes) => judge.quick(side, &outlook.sides, &changes, missing, outlook.left),
-        None => (Cutting::Unknown, None),
+    if let Some(plain) = &uncut.plain {
+        let change = plain_change(position.rights(), plain.man, &uncut.m);
+        return Some(judge.after_plain(side, sides, &change, plain.need, outlook.means));
+    }
+    match changes_of(position, &uncut.m) {
+        Some(changes) => Some(judge.quick(side, sides, &changes, outlook.left)),
+        None => None,
     }
 }
 
-// Visits the node after a legal move, with at least two plies left, and writes its record.
+// Writes the record of the node after a legal move, with at least two plies left.
+#[inline(never)]
 pub(crate) fn child<W: Sink>(
     question: &Question,
     recorder: &mut Recorder,
     sink: &mut W,
     position: &Position,
-    m: &Move,
+    uncut: &Uncut,
     outlook: &Outlook,
 ) -> Result<Option<Opened>, SearchFault>
-    requires legal { IsLegal position.now m.now }
+    requires legal { IsLegal position.now uncut.now.m }
     requires runs { recorder.old.output.writer.failed ≡ false }
     ensures runs { OnOk result (recorder.new.output.writer.failed ≡ false) }
     ensures says { (plies : ℕ) → RefusesTruly plies (W.has_failed sink.new) result }
 {
-    if !recorder.output.visit() {
-        return Err(SearchFault::Budget);
-    }
-    let missing = match recorder
-        .judge
-        .plain(outlook, position, &mut recorder.mover, m)
-    {
-        Plain::Cut(bound) => {
-            return match recorder.output.cut(bound, sink) {
-                Ok(()) => Ok(None),
-                Err(fault) => Err(fault),
-            };
-        }
-        Plain::Needs(need) => after_plain(&outlook.sides.of(position.side()).needs, need),
-        Plain::No => MISSING,
+    let mut sides = outlook.sides;
+    let Some(verdict) = judge_before(&recorder.judge, position, uncut, outlook, &mut sides) else {
+        let next = position.after(&uncut.m);
+        return enter(question, recorder, sink, &next, None, outlook.left);
     };
-    let (verdict, known) = judge_before(&recorder.judge, position, m, outlook, missing);
-    match put_judged(&recorder.judge, &mut recorder.output, verdict, &known, sink) {
-        Ok(true) => return Ok(None),
-        Ok(false) => {}
-        Err(fault) => return Err(fault),
+    if verdict == Cutting::Stays {
+        return stay_after(
+            &mut recorder.output,
+            sink,
+            position,
+            &uncut.m,
+            &sides,
+            outlook.left,
+        );
     }
-    match known {
-        Some(sides) if verdict == Cutting::Stays => {
-            stay_after(
-                &mut recorder.output,
-                sink,
-                position,
-                m,
-                &sides,
-                outlook.left,
-            )
+    match put_judged(&recorder.judge, &mut recorder.output, verdict, &sides, sink) {
+        Ok(true) => Ok(None),
+        Ok(false) => {
+            let next = position.after(&uncut.m);
+            enter(question, recorder, sink, &next, Some(sides), outlook.left)
         }
-        _ => {
-            let next = position.after(m);
-            enter(question, recorder, sink, &next, known, outlook.left)
-        }
+        Err(fault) => Err(fault),
     }
 }

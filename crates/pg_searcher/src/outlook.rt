@@ -1,21 +1,21 @@
 //! What is known of an open node that judges its moves before they are made.
 
-use crate::judge::CutBy;
+use crate::judge::{CutBy, Means};
 use crate::sides::{Sides, is_special};
 use pg_board::{Color, Kind, Man, Square, SquareSet};
 use pg_position::{Move, Position};
 use pg_prices::{Leasts, Rest, Rows};
 
 // What is known of an open node: both colours, how many plies are left after a move, the least distances of
-// the men of the side to move, all men, how many plies that side has left after a move of its own, and
-// whether captures exclude after one that takes nothing.
+// the men of the side to move, all men, that side's numbers after a move of its own that takes nothing, and
+// whether captures exclude after such a move.
 #[derive(Clone, Copy)]
 pub(crate) struct Outlook {
     pub(crate) sides: Sides,
     pub(crate) left: u8,
+    pub(crate) means: Means,
     leasts: Leasts,
     occupied: SquareSet,
-    plies: u8,
     is_owing: bool,
 }
 
@@ -28,14 +28,20 @@ pub(crate) struct Mover {
     man: Man,
 }
 
-// What is known of a move by its colour's travel: it is not plain, as it takes a man, or is castling, a
-// capture en passant or a promotion; or it is, and a bound excludes, or the colour's need of travel is this
-// one.
+// A plain move, which takes no man and is no castling, capture en passant or promotion: the man that moves, and
+// its colour's need of travel then.
+#[derive(Clone, Copy)]
+pub(crate) struct PlainMove {
+    pub(crate) man: Man,
+    pub(crate) need: u8,
+}
+
+// What is known of a move by its colour's travel: it is not plain; or it is, and a bound excludes, or none does.
 #[derive(Clone, Copy)]
 pub(crate) enum Plain {
     No,
     Cut(CutBy),
-    Needs(u8),
+    Stays(PlainMove),
 }
 
 impl Mover {
@@ -64,9 +70,9 @@ impl Outlook {
         Outlook {
             sides: *sides,
             left,
+            means: Means { owed: 0, plies: 0 },
             leasts: Leasts::none(),
             occupied: SquareSet::full(),
-            plies: 0,
             is_owing: false,
         }
     }
@@ -77,16 +83,16 @@ impl Outlook {
         left: u8,
         rows: &Rows,
         position: &Position,
-        plies: u8,
+        means: Means,
         is_owing: bool,
     ) -> Outlook {
         let board = position.board();
         Outlook {
             sides: *sides,
             left,
+            means,
             leasts: Leasts::new(rows, &board, position.rights()),
             occupied: board.occupied(),
-            plies,
             is_owing,
         }
     }
@@ -112,11 +118,12 @@ impl Outlook {
         if self.is_owing {
             return Plain::Cut(CutBy::Captures);
         }
-        let need = mover.rest.need(rows.distances(mover.man.kind, m.to));
-        if need > self.plies {
+        let man = mover.man;
+        let need = mover.rest.need(rows.distances(man.kind, m.to));
+        if need > self.means.plies {
             Plain::Cut(CutBy::Travel)
         } else {
-            Plain::Needs(need)
+            Plain::Stays(PlainMove { man, need })
         }
     }
 }

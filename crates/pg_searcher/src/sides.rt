@@ -37,6 +37,14 @@ impl Sides {
             Color::Black => &self.black,
         }
     }
+
+    // Something else is known of a colour from now on.
+    pub(crate) fn set(&mut self, color: Color, side: Side) {
+        match color {
+            Color::White => self.white = side,
+            Color::Black => self.black = side,
+        }
+    }
 }
 
 // A colour's key and numbers, before its needs are known.
@@ -127,16 +135,30 @@ fn change_of(rights: Rights, man: Man, key: u64, squares: SquareSet, taken: bool
     }
 }
 
+// What a move changes of the colour of a man that it takes.
+fn taken_change(rights: Rights, man: Man, m: &Move) -> Change {
+    let key = man_key(man, m.to.index() % 64);
+    change_of(rights, man, key, SquareSet::single(m.to), true)
+}
+
 // Whether a move changes more than the squares that it leaves and reaches, or the man that moves:
 // castling, a capture en passant, a promotion.
 pub(crate) fn is_special(man: Man, taken: Option<Man>, m: &Move) -> bool {
     match man.kind {
         Kind::King => m.from.file().abs_diff(m.to.file()) == 2,
         Kind::Pawn => {
-            m.promotion.is_some() || (taken.is_none() && m.from.file().abs_diff(m.to.file()) == 1)
+            m.promotion.is_some() || (taken.is_none() && m.from.file() != m.to.file())
         }
         _ => false,
     }
+}
+
+// What a plain move of a man changes of its colour.
+pub(crate) fn plain_change(rights: Rights, man: Man, m: &Move) -> Change {
+    let (from, to) = (m.from.index() % 64, m.to.index() % 64);
+    let squares = SquareSet::single(m.from) | SquareSet::single(m.to);
+    let key = man_key(man, from) ^ man_key(man, to);
+    change_of(rights, man, key, squares, false)
 }
 
 /// What a legal move changes; none where it is castling, a capture en passant or a promotion.
@@ -149,16 +171,13 @@ pub fn changes_of(position: &Position, m: &Move) -> Option<Changes> {
     if is_special(man, taken, m) {
         return None;
     }
-    let (from, to) = (m.from.index() % 64, m.to.index() % 64);
-    let squares = SquareSet::single(m.from) | SquareSet::single(m.to);
     let rights = position.rights();
-    let key = man_key(man, from) ^ man_key(man, to);
     let other = match taken {
-        Some(other) => Some(change_of(rights, other, man_key(other, to), squares, true)),
+        Some(other) => Some(taken_change(rights, other, m)),
         None => None,
     };
     Some(Changes {
-        own: change_of(rights, man, key, squares, false),
+        own: plain_change(rights, man, m),
         other,
     })
 }

@@ -1,13 +1,14 @@
 //! The search through the trees of all lengths, with a stack of open nodes.
-ghost use Rattle.std.specs.Prelude.{◌≡◌, ℕ, ◌+◌, ◌<◌, ◌≤◌, Bool, false, length, OnOk};
+ghost use Rattle.std.specs.Prelude.{◌≡◌, ℕ, ◌+◌, ◌<◌, ◌≤◌, Bool, false, length, OnOk, IfOk, IfSome};
+ghost use Rattle.pg_position.specs.Step.{IsLegal};
 ghost use Rattle.pg_searcher.specs.Refusals.{RefusesTruly};
 
 use crate::ends::{end, is_near, last_node, leaves};
 use crate::fault::SearchFault;
 use crate::judge::Judge;
 use crate::machine::{Findings, Frame, Machine, Names, Output, Question, Recorder};
-use crate::node::{Opened, child, enter};
-use crate::outlook::Mover;
+use crate::node::{Opened, Uncut, child, enter};
+use crate::outlook::{Mover, Outlook, Plain};
 use crate::progress::SearchProgress;
 use crate::sides::is_special;
 use pg_board::{Board, SquareSet};
@@ -106,6 +107,48 @@ fn play_last_two<W: Sink>(
     Err(SearchFault::Budget)
 }
 
+// The moves of a node are played up to the first that no bound excludes by what is known of the node, which is the
+// answer; none where there is no such move. The node after it is counted, and its record is still to be written.
+fn next_uncut<W: Sink>(
+    judge: &Judge,
+    moves: &mut LegalMoves,
+    outlook: &Outlook,
+    mover: &mut Mover,
+    output: &mut Output,
+    sink: &mut W,
+) -> Result<Option<Uncut>, SearchFault>
+    requires runs { output.old.writer.failed ≡ false }
+    ensures runs { OnOk result (output.new.writer.failed ≡ false) }
+    ensures same { moves.new.position ≡ moves.old.position }
+    ensures legal { IfOk result (λ uncut. IfSome uncut (λ u. IsLegal moves.old.position u.m)) }
+    ensures says { (plies : ℕ) → RefusesTruly plies (W.has_failed sink.new) result }
+{
+    let position = moves.position();
+    let rows = judge.rows(position.side());
+    for _ in 0..u16::MAX {
+        let Some(m) = moves.next() else {
+            return Ok(None);
+        };
+        if !output.visit() {
+            return Err(SearchFault::Budget);
+        }
+        match outlook.plain(rows, &position, mover, &m) {
+            Plain::Cut(bound) => match output.cut(bound, sink) {
+                Ok(()) => {}
+                Err(fault) => return Err(fault),
+            },
+            Plain::Stays(plain) => {
+                return Ok(Some(Uncut {
+                    m,
+                    plain: Some(plain),
+                }));
+            }
+            Plain::No => return Ok(Some(Uncut { m, plain: None })),
+        }
+    }
+    Err(SearchFault::Budget)
+}
+
 // The moves of a node are played up to the first that leads to a node that opens, which is the answer; none
 // where there is no such move.
 fn next_opened<W: Sink>(
@@ -119,14 +162,24 @@ fn next_opened<W: Sink>(
     ensures says { RefusesTruly question.now.plies (W.has_failed sink.new) result }
 {
     let position = top.moves.position();
-    recorder.mover = Mover::none();
+    let mut mover = Mover::none();
     for _ in 0..u16::MAX {
-        let Some(m) = top.moves.next() else {
-            return Ok(None);
-        };
-        match child(question, recorder, sink, &position, &m, &top.outlook) {
-            Ok(None) => {}
-            Ok(Some(opened)) => return Ok(Some(opened)),
+        match next_uncut(
+            &recorder.judge,
+            &mut top.moves,
+            &top.outlook,
+            &mut mover,
+            &mut recorder.output,
+            sink,
+        ) {
+            Ok(Some(uncut)) => {
+                match child(question, recorder, sink, &position, &uncut, &top.outlook) {
+                    Ok(None) => {}
+                    Ok(Some(opened)) => return Ok(Some(opened)),
+                    Err(fault) => return Err(fault),
+                }
+            }
+            Ok(None) => return Ok(None),
             Err(fault) => return Err(fault),
         }
     }

@@ -3,7 +3,6 @@ ghost use Rattle.std.specs.Prelude.{◌≡◌};
 ghost use Rattle.pg_position.specs.Step.{IsLegal};
 
 use crate::judge::Cutting;
-use crate::known::MISSING;
 use crate::led::barren::{ANY, Barren};
 use crate::led::machine::{Halt, Open, Question, Sieve};
 use crate::led::order::Due;
@@ -87,13 +86,14 @@ pub(crate) fn child(
     }
     let mut known = None;
     if let Some(changes) = changes_of(position, &due.m) {
-        let (verdict, sides) = sieve
+        let mut sides = top.sides;
+        let verdict = sieve
             .judge
-            .quick(position.side(), &top.sides, &changes, MISSING, left);
+            .quick(position.side(), &mut sides, &changes, left);
         if is_cut(verdict) {
             return Ok(None);
         }
-        known = sides;
+        known = Some(sides);
     }
     if due.is_foreign && top.foreign == 0 {
         top.refused = true;
