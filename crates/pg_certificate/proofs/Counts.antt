@@ -31,7 +31,7 @@ passed_both c (x ∷ xs) ys = passed_both (byte_passed c x) xs ys
 
 -- a count that waits for r bytes more of what began last
 abbrev waits : ℕ → ℕ → ℕ → ℕ → RecordCount
-waits r lists sources records = record { rest = r; head = 0; lists = lists; sources = sources; records = records }
+waits r lists sources records = record { rest = r; outline = 0; lists = lists; sources = sources; records = records }
 
 rest_passed : (bytes : List ℕ) (r l s n : ℕ) → r ≡ length bytes → passed (waits r l s n) bytes ≡ waits 0 l s n
 rest_passed [] r l s n e = ap (λ (k : ℕ). waits k l s n) e
@@ -97,10 +97,10 @@ one_at_most n = elim (cases_lt n 18446744073709551615) [
 ]
 
 byte_adds : (c : RecordCount) (b : ℕ) → c.records ≤ (byte_passed c b).records
-byte_adds c b = elim (cases_lt 0 c.head) [
-  | inl p ↦ let some : ltb 0 c.head ≡ true = lt-ltb _ _ p in rw some (omega arith)
+byte_adds c b = elim (cases_lt 0 c.outline) [
+  | inl p ↦ let some : ltb 0 c.outline ≡ true = lt-ltb _ _ p in rw some (omega arith)
   | inr p ↦
-      let none : ltb 0 c.head ≡ false = le-ltb _ _ p in
+      let none : ltb 0 c.outline ≡ false = le-ltb _ _ p in
       elim (cases_lt 0 c.rest) [
         | inl q ↦ let more : ltb 0 c.rest ≡ true = lt-ltb _ _ q in rw (none, more) (omega arith)
         | inr q ↦ let last : ltb 0 c.rest ≡ false = le-ltb _ _ q in rw (none, last) (one_at_most c.records)

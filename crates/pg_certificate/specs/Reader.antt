@@ -4,7 +4,8 @@ use Rattle.std.specs.Io.KnownBytes.{prepend_known}
 use Rattle.pg_certificate.specs.declared.fault.ReadFault.{ReadFault}
 use Rattle.pg_certificate.specs.declared.fault.ReadFault.TheVariants.{Read, Failed}
 
--- a reader of records: the bytes that it has pulled and not yet read, whether it has refused, and the version by which it reads records
+-- a reader of records: the bytes that it has pulled and not yet read,
+-- whether it has refused, and the version by which it reads records
 pub record ReaderState : Type 0 where
   pub held : List ℕ
   pub failed : Bool
@@ -15,21 +16,24 @@ abbrev pub to_come : ReaderState → Option (List ℕ) → Option (List ℕ)
 to_come reader left = prepend_known reader.held left
 
 -- reading takes this value from the front of the known bytes, and those after it are left
-abbrev pub Leaves : {A : Type 0} → (List ℕ → Result (A × List ℕ) ReadFault) → Option (List ℕ) → Option (List ℕ) → A → Type 0
+abbrev pub Leaves : {A : Type 0} → (List ℕ → Result (A × List ℕ) ReadFault)
+    → Option (List ℕ) → Option (List ℕ) → A → Type 0
 Leaves reading None after a = Unit {0}
 Leaves reading (Some bytes) None a = ⊥
 Leaves reading (Some bytes) (Some rest) a = reading bytes ≡ Ok (a, rest)
 
--- what a call answered, seen by view, is what reading the known bytes to come gives, and what that leaves is to come next;
--- where the source failed, or the reader had refused, nothing is said of the bytes
-abbrev pub ReadsAs : {A B : Type 0} → (A → B) → (List ℕ → Result (B × List ℕ) ReadFault) → Option (List ℕ) → Option (List ℕ) → Result A ReadFault → Type 0
+-- what a call answered, seen by view, is what reading the known bytes to come gives, and what that leaves
+-- is to come next; where the source failed, or the reader had refused, nothing is said of the bytes
+abbrev pub ReadsAs : {A B : Type 0} → (A → B) → (List ℕ → Result (B × List ℕ) ReadFault)
+    → Option (List ℕ) → Option (List ℕ) → Result A ReadFault → Type 0
 ReadsAs view reading before after (Ok a) = Leaves reading before after (view a)
 ReadsAs view reading before after (Err Read) = Unit {0}
 ReadsAs view reading before after (Err Failed) = Unit {0}
 ReadsAs view reading before after (Err e) = IfSome before (λ bytes. reading bytes ≡ Err e)
 
 -- the same for the answer itself
-abbrev pub Reads : {A : Type 0} → (List ℕ → Result (A × List ℕ) ReadFault) → Option (List ℕ) → Option (List ℕ) → Result A ReadFault → Type 0
+abbrev pub Reads : {A : Type 0} → (List ℕ → Result (A × List ℕ) ReadFault)
+    → Option (List ℕ) → Option (List ℕ) → Result A ReadFault → Type 0
 Reads reading before after result = ReadsAs (λ x. x) reading before after result
 
 -- whether the reader had refused before a call and has after it, and whether the source has failed by then: the first
@@ -40,13 +44,17 @@ RefusesOnce before after source (Err Failed) = (before ≡ true) × (after ≡ t
 RefusesOnce before after source (Err Read) = (before ≡ false) × (after ≡ true) × (source ≡ true)
 RefusesOnce before after source (Err e) = (before ≡ false) × (after ≡ true)
 
--- of the known bytes to come before a call, those that are not left in the source after it are at most n and one buffer of 4,096; a failed source does not tell
+-- of the known bytes to come before a call, those that are not left in the source
+-- after it are at most n and one buffer of 4,096; a failed source does not tell
 abbrev pub PullsAtMost : {A : Type 0} → ℕ → Option (List ℕ) → Option (List ℕ) → Result A ReadFault → Type 0
 PullsAtMost n before left (Err Read) = Unit {0}
-PullsAtMost n before left answer = IfSome before (λ bytes. IfSome left (λ rest. length bytes ≤ length rest + (4096 + n)))
+PullsAtMost n before left answer =
+    IfSome before (λ bytes. IfSome left (λ rest. length bytes ≤ length rest + (4096 + n)))
 
 -- what any call of a reader keeps, by the reader and the source before and after it, and what it answers
-pub record IsCall {S A : Type 0} (has_failed : S → Bool) (old new : ReaderState) (source_old source_new : S) (result : Result A ReadFault) : Type 0 where
+pub record IsCall {S A : Type 0} (has_failed : S → Bool) (old new : ReaderState) (source_old source_new : S)
+    (result : Result A ReadFault)
+    : Type 0 where
   -- a refusal is the first, or Failed
   pub refuses : RefusesOnce old.failed new.failed (has_failed source_new) result
   -- an answer leaves a source that runs running
@@ -54,6 +62,6 @@ pub record IsCall {S A : Type 0} (has_failed : S → Bool) (old new : ReaderStat
   -- a refusal drops what was held
   pub emptied : OnErr result (new.held ≡ [])
   -- no more than one buffer is held
-  pub room : length new.held ≤ 4096
+  pub few : length new.held ≤ 4096
   -- a reader that had refused leaves the source as it is
   pub untouched : old.failed ≡ true → source_new ≡ source_old

@@ -12,6 +12,7 @@ use Rattle.pg_certificate.specs.declared.record.Header.{Header}
 use Rattle.pg_certificate.specs.declared.record.Record.{Record}
 use Rattle.pg_certificate.specs.declared.record.Record.TheVariants.{Expand, Cut, Ref, Priced}
 use Rattle.pg_certificate.specs.declared.outline.Outline.{Outline}
+use Rattle.pg_certificate.specs.Spelling.{header_length}
 
 -- reading on from what was read
 infixl 10 ◌>>=◌
@@ -44,7 +45,8 @@ number_at bytes = exactly 4 bytes >>= λ x. Ok (from_be_bytes w32 x.0, x.1)
 
 -- one byte, from the least to the most that may stand there; any other is unknown
 abbrev pub byte_from : ℕ → ℕ → List ℕ → Result (ℕ × List ℕ) ReadFault
-byte_from least most bytes = byte_at bytes >>= λ x. if nat_lt x.0 least || nat_lt most x.0 then Err (UnknownRecord x.0) else Ok x
+byte_from least most bytes =
+    byte_at bytes >>= λ x. if nat_lt x.0 least || nat_lt most x.0 then Err (UnknownRecord x.0) else Ok x
 
 -- the colour of a byte
 abbrev pub color_of : ℕ → Color
@@ -67,11 +69,13 @@ lists_of (suc ways) a b bytes = list_of (take a bytes) (take b (drop a bytes)) �
 
 -- the price lists after their outline
 abbrev pub lists_at : Outline → List ℕ → Result (List PriceList × List ℕ) ReadFault
-lists_at o bytes = exactly (o.ways * (o.sources + o.targets)) bytes >>= λ x. Ok (lists_of o.ways o.sources o.targets x.0, x.1)
+lists_at o bytes =
+    exactly (o.ways * (o.sources + o.targets)) bytes >>= λ x. Ok (lists_of o.ways o.sources o.targets x.0, x.1)
 
 -- a priced record, after its first byte
 abbrev pub priced_at : List ℕ → Result (Record × List ℕ) ReadFault
-priced_at bytes = outline_at bytes >>= λ o. lists_at o.0 o.1 >>= λ prices. Ok (Priced o.0.code o.0.color prices.0, prices.1)
+priced_at bytes =
+    outline_at bytes >>= λ o. lists_at o.0 o.1 >>= λ prices. Ok (Priced o.0.code o.0.color prices.0, prices.1)
 
 -- the record of this version whose first byte was read
 abbrev pub record_after : ℕ → ℕ × List ℕ → Result (Record × List ℕ) ReadFault
@@ -98,9 +102,11 @@ version_of text =
     then version_named (slice_index text 3)
     else None
 
--- the header that 37 bytes spell: the magic, one byte of plies, 32 bytes of diagram
+-- the header that so many bytes spell: the magic, one byte of plies, 32 bytes of diagram
 abbrev pub header_of : List ℕ → Option Header
-header_of text = option_map (λ version. record { version = version; plies = slice_index text 4; diagram = drop 5 text }) (version_of text)
+header_of text =
+    option_map (λ version. record { version = version; plies = slice_index text 4; diagram = drop 5 text })
+    (version_of text)
 
 -- the header with the bytes after it, where there is one
 abbrev pub header_or_magic : Option Header → List ℕ → Result (Header × List ℕ) ReadFault
@@ -109,4 +115,4 @@ header_or_magic (Some h) rest = Ok (h, rest)
 
 -- a header: too few bytes come before a wrong magic
 abbrev pub header_at : List ℕ → Result (Header × List ℕ) ReadFault
-header_at bytes = exactly 37 bytes >>= λ x. header_or_magic (header_of x.0) x.1
+header_at bytes = exactly header_length bytes >>= λ x. header_or_magic (header_of x.0) x.1

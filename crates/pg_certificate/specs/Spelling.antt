@@ -35,7 +35,8 @@ list_spelling l = l.u ++ l.v
 abbrev pub prices_spelling : List PriceList → List ℕ
 prices_spelling prices = length prices ∷ sources prices ∷ targets prices ∷ flat_map list_spelling prices
 
--- 01 or 05; 02 and the bound's code; 03 and the number in four bytes, most significant byte first; 06, the bound's code, the colour and the prices
+-- 01 or 05; 02 and the bound's code; 03 and the number in four bytes, most
+-- significant byte first; 06, the bound's code, the colour and the prices
 abbrev pub spelling : Record → List ℕ
 spelling (Expand named) = expand_byte named ∷ []
 spelling (Cut code) = 2 ∷ code ∷ []
@@ -55,6 +56,10 @@ PricesStay (bare.Expand named) old new = new ≡ old
 PricesStay (bare.Cut code) old new = new ≡ old
 PricesStay (bare.Ref number) old new = new ≡ old
 PricesStay (bare.Priced code color) old new = Unit {0}
+
+-- the length of a header: four letters, one byte of plies, 32 of the diagram
+abbrev pub header_length : ℕ
+header_length = 37
 
 -- no spelling is longer: six bytes, then at most three lists of 64 sources and 64 targets
 abbrev pub longest_record : ℕ
@@ -106,7 +111,7 @@ header_spelling h = magic h.version ++ (h.plies ∷ h.diagram)
 abbrev pub IsVersion : ℕ → Type 0
 IsVersion version = (version ≡ 1) ⊎ (version ≡ 2)
 
--- a header of 37 bytes, of a version that there is
+-- a header of a version that there is, whose diagram has 32 bytes
 pub record IsHeader (h : Header) : Type 0 where
   pub known : IsVersion h.version
   pub whole : length h.diagram ≡ 32

@@ -13,8 +13,8 @@ pub record WriterState : Type 0 where
 abbrev pub written : Option (List ℕ) → WriterState → Option (List ℕ)
 written sink writer = append_known sink writer.held
 
--- whether the writer had refused before a call and has after it, and whether the sink has failed by then: Write comes once,
--- for a sink that failed, and from then on the answer is Failed
+-- whether the writer had refused before a call and has after it, and whether the sink has failed
+-- by then: Write comes once, for a sink that failed, and from then on the answer is Failed
 abbrev pub RefusesOnce : {A : Type 0} → Bool → Bool → Bool → Result A WriteFault → Type 0
 RefusesOnce before after sink (Ok a) = (before ≡ false) × (after ≡ false)
 RefusesOnce before after sink (Err Failed) = (before ≡ true) × (after ≡ true)

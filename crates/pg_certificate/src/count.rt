@@ -11,7 +11,7 @@ pub struct RecordCount {
     // So many bytes more belong to the header or to the record that began last.
     rest: u32,
     // So many bytes more stand before the lists of a record of prices.
-    head: u8,
+    outline: u8,
     // How many lists that record has, as far as it is read, and how many sources each has.
     lists: u8,
     sources: u8,
@@ -26,7 +26,7 @@ impl RecordCount {
     {
         RecordCount {
             rest: HEADER_LENGTH as u32,
-            head: 0,
+            outline: 0,
             lists: 0,
             sources: 0,
             records: 0,
@@ -36,10 +36,10 @@ impl RecordCount {
     // A byte of a record of prices that stands before its lists: code, colour, and the numbers of
     // lists, sources and targets.
     fn pass_outline(&mut self, byte: u8)
-        requires { 0 < self.old.head }
+        requires { 0 < self.old.outline }
         ensures { self.new ≡ outline_passed self.old byte }
     {
-        match self.head {
+        match self.outline {
             3 => self.lists = byte,
             2 => self.sources = byte,
             1 => {
@@ -48,7 +48,7 @@ impl RecordCount {
             }
             _ => {}
         }
-        self.head -= 1;
+        self.outline -= 1;
     }
 
     // The first byte of a record, which says how many are to follow.
@@ -61,7 +61,7 @@ impl RecordCount {
         match byte {
             CUT => self.rest = 1,
             REF => self.rest = NUMBER_LENGTH as u32,
-            PRICED => self.head = OUTLINE_LENGTH as u8,
+            PRICED => self.outline = OUTLINE_LENGTH as u8,
             _ => {}
         }
     }
@@ -70,7 +70,7 @@ impl RecordCount {
     fn pass_byte(&mut self, byte: u8)
         ensures { self.new ≡ byte_passed self.old byte }
     {
-        if self.head > 0 {
+        if self.outline > 0 {
             self.pass_outline(byte);
         } else if self.rest > 0 {
             self.rest -= 1;

@@ -3,7 +3,7 @@ ghost use Rattle.std.specs.Prelude.{◌≡◌, ◌↔◌, ◌<◌, ◌≤◌, �
 ghost use Rattle.std.specs.Prelude.{true, false, IfOk, OnOk, OnErr, IsTrue};
 ghost use Rattle.std.specs.Io.KnownBytes.{Keeps, Consumes, IsAtEnd};
 ghost use Rattle.std.specs.Int.{w32, to_be_bytes};
-ghost use Rattle.pg_certificate.specs.Spelling.{record_of, spelling, header_spelling, longest_record, IsHeader, IsRecord, IsRecordOf, PricesStay};
+ghost use Rattle.pg_certificate.specs.Spelling.{record_of, spelling, header_length, header_spelling, longest_record, IsHeader, IsRecord, IsRecordOf, PricesStay};
 ghost use Rattle.pg_certificate.specs.Reading.{more_at, byte_at, byte_from, exactly, number_at, outline_at, lists_at, priced_at, header_at, record_at, end_at};
 ghost use Rattle.pg_certificate.specs.inner.Outlines.{IsOutline, AreListsOf, outline_spelling, lists_spelling};
 ghost use Rattle.pg_certificate.specs.Reader.{to_come, Reads, ReadsAs, IsCall, PullsAtMost};
@@ -79,7 +79,7 @@ impl RecordReader {
             (header_spelling h)) }
         ensures spelled { IfOk result (λ h. IsHeader h) }
         ensures call { IsCall S.has_failed self.old self.new source.old source.new result }
-        ensures pulls { PullsAtMost 37 (to_come self.old (S.left source.old)) (S.left source.new) result }
+        ensures pulls { PullsAtMost header_length (to_come self.old (S.left source.old)) (S.left source.new) result }
         ensures version { IfOk result (λ h. self.new.version ≡ h.version) }
     {
         let mut text = [0; HEADER_LENGTH];
@@ -227,7 +227,7 @@ impl RecordReader {
         ensures held { self.old.held ≡ result ∷ self.new.held }
         ensures failed { self.new.failed ≡ self.old.failed }
         ensures runs { self.old.failed ≡ false }
-        ensures room { length self.new.held ≤ 4096 }
+        ensures few { length self.new.held ≤ 4096 }
         ensures version { self.new.version ≡ self.old.version }
     {
         let byte = self.buffer[self.start];
@@ -243,7 +243,7 @@ impl RecordReader {
         ensures fits { (k : ℕ) → k < length out.new → slice_index out.new k < 2 ^ 8 }
         ensures failed { self.new.failed ≡ self.old.failed }
         ensures runs { self.old.failed ≡ false }
-        ensures room { length self.new.held ≤ 4096 }
+        ensures few { length self.new.held ≤ 4096 }
         ensures version { self.new.version ≡ self.old.version }
     {
         let end = self.start + out.len();
@@ -397,7 +397,7 @@ impl RecordReader {
         ensures held { self.old.held ≡ lists_spelling prices.new ++ self.new.held }
         ensures fits { AreListsOf outline.now prices.new }
         ensures failed { self.new.failed ≡ false }
-        ensures room { length self.new.held ≤ 4096 }
+        ensures few { length self.new.held ≤ 4096 }
         ensures version { self.new.version ≡ self.old.version }
     {
         let end = self.start + outline.ways * (outline.sources + outline.targets);
@@ -414,7 +414,7 @@ impl RecordReader {
     ) -> Result<(), ReadFault>
         requires fits { IsOutline outline.now }
         requires runs { self.old.failed ≡ false }
-        requires room { length self.old.held ≤ 4096 }
+        requires few { length self.old.held ≤ 4096 }
         ensures bytes { ReadsAs (λ _. prices.new) (lists_at outline.now)
             (to_come self.old (S.left source.old)) (to_come self.new (S.left source.new)) result }
         ensures text { OnOk result (Consumes

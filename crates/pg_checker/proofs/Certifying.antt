@@ -47,8 +47,8 @@ other_length n None after h read_ ne = tt
 other_length n (Some bytes) None h read_ ne = absurd read_
 other_length n (Some bytes) (Some rest) h read_ ne = (h, rest, read_, ne)
 
-pub header_length : (n : ℕ) (reader : ReaderState) (left after : Option (List ℕ)) (h : Header) → reader.held ≡ [] → Reads {A = Header} header_at (to_come reader left) after (Ok h) → h.plies ≢ n → IfSome left (λ bytes. (x : Header) × (rest : List ℕ) × (header_at bytes ≡ Ok (x, rest)) × (x.plies ≢ n))
-header_length n reader left after h e read_ ne = other_length n left after h (subst (λ (v : Option (List ℕ)). Reads {A = Header} header_at v after (Ok h)) (left_alone reader left e) read_) ne
+pub header_plies : (n : ℕ) (reader : ReaderState) (left after : Option (List ℕ)) (h : Header) → reader.held ≡ [] → Reads {A = Header} header_at (to_come reader left) after (Ok h) → h.plies ≢ n → IfSome left (λ bytes. (x : Header) × (rest : List ℕ) × (header_at bytes ≡ Ok (x, rest)) × (x.plies ≢ n))
+header_plies n reader left after h e read_ ne = other_length n left after h (subst (λ (v : Option (List ℕ)). Reads {A = Header} header_at v after (Ok h)) (left_alone reader left e) read_) ne
 
 other_diagram : (d : Placement) (n : ℕ) (known after : Option (List ℕ)) (h : Header) → Reads {A = Header} header_at known after (Ok h) → h.plies ≡ n → h.diagram ≢ packed_of d → IfSome known (λ bytes. (x : Header) × (rest : List ℕ) × (header_at bytes ≡ Ok (x, rest)) × (x.plies ≡ n) × (x.diagram ≢ packed_of d))
 other_diagram d n None after h read_ e ne = tt

@@ -33,6 +33,7 @@ use Rattle.pg_checker.specs.Answer.{IsSolution, IsExactAnswer, AreSolutions}
 use Rattle.pg_checker.specs.Listed.{IsListFault}
 use Rattle.pg_checker.specs.Chess.{Cuts, IsSoundCut, chess}
 use Rattle.pg_checker.specs.Cuts.{CheckRules, cuts_by, files_by, prices_by}
+use Rattle.pg_checker.specs.Terms.{Terms, terms}
 use Rattle.pg_checker.specs.Check.{header_for, IsHeaded, IsCertified, Accepts, IsRefused, Refuses, StopsAt}
 use Rattle.pg_checker.specs.inner.Checking.{Headed, HeaderFails, AreKnown, Answers, fault_of}
 use Rattle.pg_checker.specs.Front.{CauseAt, RecordCause, no_budget, no_record, refused}
@@ -117,10 +118,21 @@ one_header a h k x y e f = ap (λ (v : Header × List ℕ). v.0) (one_ok a (h, x
 no_header : (a : Headers) (f : reading_fault.ReadFault) (k : Header) (y : List ℕ) → a ≡ Err f → a ≡ Ok (k, y) → ⊥
 no_header a f k y e g = one_answer a f (k, y) e g
 
-module _ (d : Placement) (l : ℕ) (games : List (List Move)) (cuts : ℕ → Cuts) where
+-- chess with a diagram, so many plies and games, cut as said for each diagram and version
+abbrev pub rules_cut : (Placement → ℕ → Cuts) → Placement → ℕ → List (List Move) → CheckRules
+rules_cut all d n games = record { plies = n; of = λ version. chess d n games (all d version) }
+
+module _ (d : Placement) (l : ℕ) (games : List (List Move)) (all_cuts : Placement → ℕ → Cuts) where
+  abbrev pub cuts : ℕ → Cuts
+  cuts version = all_cuts d version
+
   -- the rules of each version
   abbrev pub rules : CheckRules
-  rules = record { plies = l; of = λ version. chess d l games (cuts version) }
+  rules = rules_cut all_cuts d l games
+
+  -- with these limits and known bytes
+  abbrev pub by : ℕ → ℕ → Option (List ℕ) → Terms
+  by a b known = terms (rules_cut all_cuts) a b known
 
   -- what is certified begins with the header of its version
   certified_header : (a b : ℕ) (bytes : List ℕ) (proved : Proved) → (h : IsCertified rules d a b bytes proved) → IsHeaded h.version d l bytes (spelling_all (chess d l games (cuts h.version)) h.trees)
@@ -146,7 +158,7 @@ module _ (d : Placement) (l : ℕ) (games : List (List Move)) (cuts : ℕ → Cu
       record { version = v; known = at.0; trees = k.trees; fits = k.fits; spelled = at.1 ∙ ap (λ (x : List ℕ). header_spelling (header_for v d l) ++ x) k.bytes_are; records_are = k.records_are; named_are = k.named_are; records_fit = k.records_fit; named_fit = k.named_fit }
 
   -- ---- a listed game is wrong
-  pub listed_accepts : (a b : ℕ) (known : Option (List ℕ)) (e : ListFault) → IsListFault d l games e → Accepts rules d games a b known (Err (fault.Listed e))
+  pub listed_accepts : (a b : ℕ) (known : Option (List ℕ)) (e : ListFault) → IsListFault d l games e → Accepts (by a b known) d l games (Err (fault.Listed e))
   listed_accepts a b known e h = λ all. absurd (list_fault_refutes d l games e h all)
 
   pub listed_refuses : (e : ListFault) → IsListFault d l games e → IsListFault d l games e
@@ -178,7 +190,7 @@ module _ (d : Placement) (l : ℕ) (games : List (List Move)) (cuts : ℕ → Cu
   refuted (Some bytes) failed (fault.Unlisted x) h ne = absurd h
   refuted (Some bytes) failed fault.Trailing h ne = absurd h
 
-  pub header_accepts : (a b : ℕ) (known : Option (List ℕ)) (failed : Bool) (e : Fault) → HeaderFails d l known failed e → Accepts rules d games a b known (Err e)
+  pub header_accepts : (a b : ℕ) (known : Option (List ℕ)) (failed : Bool) (e : Fault) → HeaderFails d l known failed e → Accepts (by a b known) d l games (Err e)
   header_accepts a b known failed fault.Read h = tt
   header_accepts a b known failed fault.Truncated h = λ all. not_certified a b known (refuted known failed fault.Truncated h (λ e. cc))
   header_accepts a b known failed fault.Magic h = λ all. not_certified a b known (refuted known failed fault.Magic h (λ e. cc))
@@ -202,7 +214,7 @@ module _ (d : Placement) (l : ℕ) (games : List (List Move)) (cuts : ℕ → Cu
   along None f h = tt
   along (Some bytes) f h = f bytes h
 
-  pub header_refuses : (a b : ℕ) (known : Option (List ℕ)) (failed : Bool) (e : Fault) → AreSolutions d l games → HeaderFails d l known failed e → Refuses rules d games a b known failed (Err e)
+  pub header_refuses : (a b : ℕ) (known : Option (List ℕ)) (failed : Bool) (e : Fault) → AreSolutions d l games → HeaderFails d l known failed e → Refuses (by a b known) d l games failed (Err e)
   header_refuses a b known failed fault.Read all h = (all, h)
   header_refuses a b known failed fault.Truncated all h = (all, along known (λ bytes x. inl x) h)
   header_refuses a b known failed fault.Magic all h = (all, h)
@@ -226,7 +238,7 @@ module _ (d : Placement) (l : ℕ) (games : List (List Move)) (cuts : ℕ → Cu
   pub walk_headline : (v : ℕ) (left : Option (List ℕ)) (a b : ℕ) (proved : Proved) → IsSoundCut d (cuts v) → AreSolutions d l games → Answers (chess d l games (cuts v)) left a b (Ok proved) → IsExactAnswer d l games
   walk_headline v left a b proved sound all h = yes_is_exact d l games (cuts v) sound a b h.0 (proved.records, proved.named) h.2 all
 
-  pub walk_accepts : (v : ℕ) (known left : Option (List ℕ)) (a b : ℕ) (proved : Proved) → AreSolutions d l games → Headed d l known left v → Answers (chess d l games (cuts v)) left a b (Ok proved) → Accepts rules d games a b known (Ok proved)
+  pub walk_accepts : (v : ℕ) (known left : Option (List ℕ)) (a b : ℕ) (proved : Proved) → AreSolutions d l games → Headed d l known left v → Answers (chess d l games (cuts v)) left a b (Ok proved) → Accepts (by a b known) d l games (Ok proved)
   walk_accepts v known left a b proved all at h = (all, go known left at h.1)
     where
       go : (known left : Option (List ℕ)) → Headed d l known left v → AreKnown left h.0 → IfSome known (λ bytes. IsCertified rules d a b bytes proved)
@@ -266,7 +278,7 @@ module _ (d : Placement) (l : ℕ) (games : List (List Move)) (cuts : ℕ → Cu
   because v a b (Some bytes) None c at h f = absurd at
   because v a b (Some bytes) (Some rest) c at h f = f bytes rest at h
 
-  pub stop_accepts : (v : ℕ) (a b : ℕ) (known left : Option (List ℕ)) (s : Stop) → Headed d l known left v → Answers (chess d l games (cuts v)) left a b (Err s) → Accepts rules d games a b known (Err (fault_of s))
+  pub stop_accepts : (v : ℕ) (a b : ℕ) (known left : Option (List ℕ)) (s : Stop) → Headed d l known left v → Answers (chess d l games (cuts v)) left a b (Err s) → Accepts (by a b known) d l games (Err (fault_of s))
   stop_accepts v a b known left stop.Memory at h = tt
   stop_accepts v a b known left stop.Read at h = tt
   stop_accepts v a b known left (stop.Because tree.Budget) at h = λ all. because v a b known left tree.Budget at h (λ bytes rest. not_both v a b bytes rest tree.Budget)
@@ -282,16 +294,16 @@ module _ (d : Placement) (l : ℕ) (games : List (List Move)) (cuts : ℕ → Cu
   stop_accepts v a b known left (stop.Because (tree.Unlisted x)) at h = λ all. because v a b known left (tree.Unlisted x) at h (λ bytes rest. not_both v a b bytes rest (tree.Unlisted x))
   stop_accepts v a b known left (stop.Because tree.Trailing) at h = λ all. because v a b known left tree.Trailing at h (λ bytes rest. not_both v a b bytes rest tree.Trailing)
 
-  stops_at : (v : ℕ) (a b : ℕ) (f : tree.Cause Move) → f ≢ tree.Trailing → (bytes rest : List ℕ) → IsHeaded v d l bytes rest → answer (chess d l games (cuts v)) array_state a b rest ≡ Err f → StopsAt rules d a b bytes f
+  stops_at : (v : ℕ) (a b : ℕ) (f : tree.Cause Move) → f ≢ tree.Trailing → (bytes rest : List ℕ) → IsHeaded v d l bytes rest → answer (chess d l games (cuts v)) array_state a b rest ≡ Err f → StopsAt (by a b None) d l games bytes f
   stops_at v a b f ne bytes rest at h = (v, rest, at, stopped_for v a b rest f ne h)
 
-  memory_at : (v : ℕ) (a b : ℕ) (known left : Option (List ℕ)) → Headed d l known left v → Stops left b (λ bytes room. answer (chess d l games (cuts v)) array_state a room bytes) stop.Memory → IfSome known (λ bytes. IsRefused rules d a b bytes fault.Memory)
+  memory_at : (v : ℕ) (a b : ℕ) (known left : Option (List ℕ)) → Headed d l known left v → Stops left b (λ bytes room. answer (chess d l games (cuts v)) array_state a room bytes) stop.Memory → IfSome known (λ bytes. IsRefused (by a b known) d l games bytes fault.Memory)
   unfolding Stops
   memory_at v a b None left at h = tt
   memory_at v a b (Some bytes) None at h = absurd at
   memory_at v a b (Some bytes) (Some rest) at h = (v, rest, at, at_named (chess d l games (cuts v)) (chess_exact d l games (cuts v)) (chess_plain d l games (cuts v)) array_state a b h.0 rest h.1 h.2)
 
-  pub stop_refuses : (v : ℕ) (a b : ℕ) (known left : Option (List ℕ)) (failed : Bool) (s : Stop) → AreSolutions d l games → Headed d l known left v → FailsRead {X = Proved} failed (Err s) → Answers (chess d l games (cuts v)) left a b (Err s) → Refuses rules d games a b known failed (Err (fault_of s))
+  pub stop_refuses : (v : ℕ) (a b : ℕ) (known left : Option (List ℕ)) (failed : Bool) (s : Stop) → AreSolutions d l games → Headed d l known left v → FailsRead {X = Proved} failed (Err s) → Answers (chess d l games (cuts v)) left a b (Err s) → Refuses (by a b known) d l games failed (Err (fault_of s))
   stop_refuses v a b known left failed stop.Memory all at r h = (all, memory_at v a b known left at h)
   stop_refuses v a b known left failed stop.Read all at r h = (all, r)
   stop_refuses v a b known left failed (stop.Because tree.Budget) all at r h = (all, because v a b known left tree.Budget at h (stops_at v a b tree.Budget (λ e. cc)))

@@ -39,10 +39,12 @@ pub record Cuts : Type 0 where
 -- what excludes at a position, a bound or prices, hides no game that ends on the diagram d
 pub record IsSoundCut (d : Placement) (cut : Cuts) : Type 0 where
   pub bounds : (code k : ℕ) (p : State) → IsPosition p → cut.bounds code p k ≡ Some true → Barren d p k
-  pub prices : (code : ℕ) (color : Color) (prices : List PriceList) (k : ℕ) (p : State) → IsPosition p → cut.prices code color prices p k ≡ Some true → Barren d p k
+  pub prices : (code : ℕ) (color : Color) (prices : List PriceList) (k : ℕ) (p : State) → IsPosition p
+      → cut.prices code color prices p k ≡ Some true → Barren d p k
 
 -- the rules are those of chess, with the diagram d, n plies, and these games, and the records are those of this version
-pub record IsChess (r : Rules State Move) (version : ℕ) (d : Placement) (n : ℕ) (games : List (List Move)) : Type 0 where
+pub record IsChess (r : Rules State Move) (version : ℕ) (d : Placement) (n : ℕ) (games : List (List Move))
+    : Type 0 where
   pub moves : (p : State) → IsMoveList p (r.moves p)
   pub play : (p : State) (m : Move) (q : State) → IsPosition p → Legal p m q → r.play p m ≡ q
   pub goal : (p : State) → (r.is_goal p ≡ true) ↔ (p.board ≡ d)
@@ -75,14 +77,16 @@ is_spelled version (Priced code color prices) = (version == 2) && (nat_lt code (
 -- what was read is taken where its spelling stands there: always, where the numbers are bytes
 abbrev pub taken : ℕ → List ℕ → Result (Record × List ℕ) ReadFault → Result (Record × List ℕ) (Cause Move)
 taken version bytes (Err e) = Err (cause_of e)
-taken version bytes (Ok got) = if is_spelled version got.0 && bytes_eq bytes (spelling got.0 ++ got.1) then Ok got else Err Truncated
+taken version bytes (Ok got) =
+    if is_spelled version got.0 && bytes_eq bytes (spelling got.0 ++ got.1) then Ok got else Err Truncated
 
 -- the record of this version at the front of bytes
 unfoldable pub read : ℕ → List ℕ → Result (Record × List ℕ) (Cause Move)
 read version bytes = taken version bytes (record_at version bytes)
 
 -- ---- the rules
--- whether an entry of the first position may stand for the second: in version 2 where they have the same future, else where they are equal
+-- whether an entry of the first position may stand for the second: in
+-- version 2 where they have the same future, else where they are equal
 abbrev pub stands_for : ℕ → State → State → Bool
 stands_for version q p = if version == 2 then future_eq q p else state_eq q p
 

@@ -12,12 +12,14 @@ module _ {P M : Type 0} (r : Rules P M) where
   pub record IsRight (Met : P → Type 0) : Type 0 where
     pub next : (p : P) (m : M) → Met p → Contains (r.moves p) m → Met (r.play p m)
     pub cut : (code k : ℕ) (p : P) → Met p → r.cut code p k ≡ Some true → Barren r k p
-    pub priced : (code : ℕ) (color : Color) (prices : List PriceList) (k : ℕ) (p : P) → Met p → r.priced code color prices p k ≡ Some true → Barren r k p
+    pub priced : (code : ℕ) (color : Color) (prices : List PriceList) (k : ℕ) (p : P) → Met p
+        → r.priced code color prices p k ≡ Some true → Barren r k p
     pub same : (k : ℕ) (q p : P) → Met q → Met p → r.is_same q p ≡ true → Barren r k q → Barren r k p
 
   -- what is assumed of records: the reader takes a record exactly where its bytes stand
   pub record IsExact : Type 0 where
-    pub read : (bytes : List ℕ) (got : Record × List ℕ) → r.read bytes ≡ Ok got → (bytes ≡ r.write got.0 ++ got.1) × (r.is_record got.0 ≡ true)
+    pub read : (bytes : List ℕ) (got : Record × List ℕ) → r.read bytes ≡ Ok got
+        → (bytes ≡ r.write got.0 ++ got.1) × (r.is_record got.0 ≡ true)
     pub write : (x : Record) (rest : List ℕ) → r.is_record x ≡ true → r.read (r.write x ++ rest) ≡ Ok (x, rest)
     pub expanded : (is_named : Bool) → r.is_record (Expanded is_named) ≡ true
 

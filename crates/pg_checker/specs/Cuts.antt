@@ -20,7 +20,8 @@ abbrev pub files_by : Placement → State → Color → List PriceList → Bool
 files_by d p color (l ∷ []) = pawn_prices_test d p color l
 files_by d p color _ = false
 
--- whether prices exclude, for the diagram d: code 3 is that of pawn files, 4 that of travel; None: no prices have the code
+-- whether prices exclude, for the diagram d: code 3 is that of
+-- pawn files, 4 that of travel; None: no prices have the code
 abbrev pub prices_by : Placement → ℕ → Color → List PriceList → State → ℕ → Option Bool
 prices_by d code color prices p k =
     if code == 3 then Some (files_by d p color prices) else
@@ -40,12 +41,16 @@ pub record CheckRules : Type 0 where
   pub plies : ℕ
   pub of : (version : ℕ) → Rules State Move
 
--- chess with the diagram d, n plies and the games, cut by prices and by a list of bounds in boxes: each bound is seen by its code and by what it excludes
-abbrev pub rules_by : {B : Type 0} → (B → ℕ) → (B → Placement → State → ℕ → Bool) → List B → Placement → ℕ → List (List Move) → CheckRules
-rules_by code_of excluded bounds d n games = record { plies = n; of = λ version. chess d n games (cuts_by code_of excluded version d bounds) }
+-- chess with the diagram d, n plies and the games, cut by prices and by a list of bounds in boxes: each bound is seen
+-- by its code and by what it excludes
+abbrev pub rules_by : {B : Type 0} → (B → ℕ) → (B → Placement → State → ℕ → Bool) → List B → Placement → ℕ
+    → List (List Move) → CheckRules
+rules_by code_of excluded bounds d n games =
+    record { plies = n; of = λ version. chess d n games (cuts_by code_of excluded version d bounds) }
 
 -- ---- what is asked of a certificate, and its version
-module _ {X : Type 0} {F : X → Type 0} (code_of : DynBox X Global F → ℕ) (excluded : DynBox X Global F → Placement → State → ℕ → Bool) where
+module _ {X : Type 0} {F : X → Type 0} (code_of : DynBox X Global F → ℕ)
+    (excluded : DynBox X Global F → Placement → State → ℕ → Bool) where
   -- what cuts nodes
   abbrev pub cuts_for : Question X F → Cuts
   cuts_for question = cuts_by code_of excluded question.version question.diagram.now question.bounds.now

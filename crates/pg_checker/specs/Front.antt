@@ -27,13 +27,16 @@ pub record NextNode (P M : Type 0) : Type 0 where
 module _ {P M : Type 0} (r : Rules P M) where
   abbrev pub front_spelling : Front → List ℕ
   front_spelling Here = []
-  front_spelling (Below is_named before next) = r.write (Expanded is_named) ++ (spelling_all r before ++ front_spelling next)
+  front_spelling (Below is_named before next) =
+      r.write (Expanded is_named) ++ (spelling_all r before ++ front_spelling next)
 
   -- the trees fit the first of the moves, and at the next move the fact holds
-  abbrev pub After : (List M → P → List (Entry P) → Type 0) → ℕ → ℕ → List M → P → List M → List (Entry P) → Trees → Type 0
+  abbrev pub After : (List M → P → List (Entry P) → Type 0) → ℕ → ℕ → List M → P → List M → List (Entry P) → Trees
+      → Type 0
   After At n k g p [] es before = ⊥
   After At n k g p (m ∷ ms) es Empty = At (g ++ (m ∷ [])) (r.play p m) es
-  After At n k g p (m ∷ ms) es (First t ts) = Fits r n k (g ++ (m ∷ [])) (r.play p m) es t × After At n k g p ms (es ++ closed r k (r.play p m) t) ts
+  After At n k g p (m ∷ ms) es (First t ts) =
+      Fits r n k (g ++ (m ∷ [])) (r.play p m) es t × After At n k g p ms (es ++ closed r k (r.play p m) t) ts
 
   -- the front fits, and its next node is at the place, after the entries fs
   abbrev pub FitFront : ℕ → ℕ → List M → P → List (Entry P) → Front → NextNode P M → List (Entry P) → Type 0
@@ -46,19 +49,25 @@ module _ {P M : Type 0} (r : Rules P M) where
   abbrev pub RefusesRecord : ℕ → P → List (Entry P) → ℕ → Record → Cause M → Type 0
   RefusesRecord k p es room (Expanded true) TooManyNamed = room ≡ 0
   RefusesRecord k p es room (CutBy code) (UnknownBound c) = (c ≡ code) × (r.cut code p k ≡ None)
-  RefusesRecord k p es room (PricedBy code color prices) (UnknownBound c) = (c ≡ code) × (r.priced code color prices p k ≡ None)
+  RefusesRecord k p es room (PricedBy code color prices) (UnknownBound c) =
+      (c ≡ code) × (r.priced code color prices p k ≡ None)
   RefusesRecord k p es room (CutBy code) (CutFails c) = (c ≡ code) × (r.cut code p k ≡ Some false)
-  RefusesRecord k p es room (PricedBy code color prices) (CutFails c) = (c ≡ code) × (r.priced code color prices p k ≡ Some false)
+  RefusesRecord k p es room (PricedBy code color prices) (CutFails c) =
+      (c ≡ code) × (r.priced code color prices p k ≡ Some false)
   RefusesRecord k p es room (RefTo number) RefUnknown = slice_get es number ≡ None
-  RefusesRecord k p es room (RefTo number) RefDiffers = (e : Entry P) × (slice_get es number ≡ Some e) × ((r.is_same e.position p && nat_eq e.plies k) ≡ false)
-  RefusesRecord k p es room (RefTo number) RefFertile = (e : Entry P) × (slice_get es number ≡ Some e) × ((r.is_same e.position p && nat_eq e.plies k) ≡ true) × (e.fertile ≡ true)
+  RefusesRecord k p es room (RefTo number) RefDiffers =
+      (e : Entry P) × (slice_get es number ≡ Some e) × ((r.is_same e.position p && nat_eq e.plies k) ≡ false)
+  RefusesRecord k p es room (RefTo number) RefFertile =
+      (e : Entry P) × (slice_get es number ≡ Some e) × ((r.is_same e.position p && nat_eq e.plies k) ≡ true)
+      × (e.fertile ≡ true)
   RefusesRecord k p es room _ _ = ⊥
 
   -- the first cause at a node with k plies left, k at least 1
   pub data RecordCause (k : ℕ) (p : P) (s : WalkState P) (f : Cause M) : Type 0 where
     no_budget : s.records ≡ 0 → f ≡ Budget → RecordCause k p s f
     no_record : 0 < s.records → r.read s.rest ≡ Err f → RecordCause k p s f
-    refused : 0 < s.records → (got : Record) (rest : List ℕ) → r.read s.rest ≡ Ok (got, rest) → RefusesRecord k p s.entries s.room got f → RecordCause k p s f
+    refused : 0 < s.records → (got : Record) (rest : List ℕ) → r.read s.rest ≡ Ok (got, rest)
+        → RefusesRecord k p s.entries s.room got f → RecordCause k p s f
 
   -- the cause at a leaf
   abbrev pub LeafCause : ℕ → List M → P → Cause M → Type 0

@@ -1,5 +1,5 @@
--- When two positions have the same future, as a test: they are equal but for the passed square, and their effective passed
--- squares are equal.
+-- When two positions have the same future, as a test: they are equal but for the passed square, and their effective
+-- passed squares are equal.
 use Rattle.std.specs.Prelude.{ℕ, Bool, Option, Some, None}
 use Rattle.pg_board.specs.declared.man.Kind.TheVariants.{Pawn}
 use Rattle.pg_board.specs.Men.{man}
@@ -16,7 +16,8 @@ unfolding IsPawnAttacked
 dec_attacked p e =
     dec_along (λ h. (h.0, h.1, h.2.0, h.2.1)) (λ h. (h.0, h.1, (h.2, h.3)))
     (dec_some_below (λ r. Stands p.board p.side Pawn r × Reaches p.board p.side Pawn r e)
-    (λ r. dec_and (dec_get p.board r (Some (man p.side Pawn))) (dec_and (dec_pattern p.side Pawn r e) (dec_clear p.board r e))) 64)
+    (λ r. dec_and (dec_get p.board r (Some (man p.side Pawn)))
+    (dec_and (dec_pattern p.side Pawn r e) (dec_clear p.board r e))) 64)
 
 -- a square, where a pawn attacks it
 abbrev pub kept_if : {A : Type 0} → Dec A → ℕ → Option ℕ

@@ -17,5 +17,7 @@ IsGameFault d n g i (NotReaching j) = (j ≡ i) × (length g ≡ n) × ¬ IsSolu
 
 -- the first game that is no solution, the length before the diagram
 abbrev pub IsListFault : Placement → ℕ → List (List Move) → ListFault → Type 0
-IsListFault d n games (WrongLength i) = AreFine d n games i × ((g : List Move) × (slice_get games i ≡ Some g) × (length g ≢ n))
-IsListFault d n games (NotReaching i) = AreFine d n games i × ((g : List Move) × (slice_get games i ≡ Some g) × (length g ≡ n) × ¬ IsSolution d n g)
+IsListFault d n games (WrongLength i) =
+    AreFine d n games i × ((g : List Move) × (slice_get games i ≡ Some g) × (length g ≢ n))
+IsListFault d n games (NotReaching i) =
+    AreFine d n games i × ((g : List Move) × (slice_get games i ≡ Some g) × (length g ≡ n) × ¬ IsSolution d n g)

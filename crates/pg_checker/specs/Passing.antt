@@ -23,9 +23,11 @@ NextLeads d moves = (m : Move) × IsNext moves.position moves.last m × LeadsTo 
 
 -- no move that is left leads to the placement d
 abbrev pub AllElsewhere : Placement → MovesLeft → Type 0
-AllElsewhere d moves = (m : Move) → Contains (left_after moves.position moves.last) m → LeadsElsewhere d moves.position m
+AllElsewhere d moves =
+    (m : Move) → Contains (left_after moves.position moves.last) m → LeadsElsewhere d moves.position m
 
--- of the moves that were left the first are passed over, none of which leads to the placement d, and the others are left
+-- of the moves that were left the first are passed over, none
+-- of which leads to the placement d, and the others are left
 pub record PassesOver (d : Placement) (old new : MovesLeft) : Type 0 where
   pub position : new.position ≡ old.position
   pub passed : List Move

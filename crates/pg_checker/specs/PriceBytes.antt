@@ -17,12 +17,15 @@ dec_bytes (b ∷ bytes) = dec_along each (λ h. (h 0, λ i. h (suc i))) (dec_and
 
 dec_list : (a b : ℕ) (l : PriceList) → Dec (IsPriceList a b l)
 dec_list a b l =
-    dec_along (λ h. record { sources = h.0; targets = h.1.0; source_bytes = h.1.1.0; target_bytes = h.1.1.1 }) (λ h. (h.sources, (h.targets, (h.source_bytes, h.target_bytes))))
+    dec_along (λ h. record { sources = h.0; targets = h.1.0; source_bytes = h.1.1.0; target_bytes = h.1.1.1 })
+    (λ h. (h.sources, (h.targets, (h.source_bytes, h.target_bytes))))
     (dec_and (dec_equal (length l.u) a) (dec_and (dec_equal (length l.v) b) (dec_and (dec_bytes l.u) (dec_bytes l.v))))
 
 dec_lists : (a b : ℕ) (ls : List PriceList) → Dec (All (λ l. IsPriceList a b l) ls)
 dec_lists a b [] = yes (λ k d low. absurd (omega arith))
-dec_lists a b (l ∷ ls) = dec_along each (λ h. (h 0 l (omega arith), λ k d low. h (suc k) d (omega arith))) (dec_and (dec_list a b l) (dec_lists a b ls))
+dec_lists a b (l ∷ ls) =
+    dec_along each (λ h. (h 0 l (omega arith), λ k d low. h (suc k) d (omega arith)))
+    (dec_and (dec_list a b l) (dec_lists a b ls))
   where
     each : IsPriceList a b l × All (λ x. IsPriceList a b x) ls → All (λ x. IsPriceList a b x) (l ∷ ls)
     each h zero d low = h.0
@@ -30,8 +33,12 @@ dec_lists a b (l ∷ ls) = dec_along each (λ h. (h 0 l (omega arith), λ k d lo
 
 pub dec_prices : (prices : List PriceList) → Dec (ArePrices prices)
 dec_prices prices =
-    dec_along (λ h. record { some = h.0; few = h.1.0; few_sources = h.1.1.0; few_targets = h.1.1.1.0; lists = h.1.1.1.1 }) (λ h. (h.some, (h.few, (h.few_sources, (h.few_targets, h.lists)))))
-    (dec_and (dec_less 0 (length prices)) (dec_and (dec_at_most (length prices) 3) (dec_and (dec_at_most (sources prices) 64) (dec_and (dec_at_most (targets prices) 64) (dec_lists (sources prices) (targets prices) prices)))))
+    dec_along
+    (λ h. record { some = h.0; few = h.1.0; few_sources = h.1.1.0; few_targets = h.1.1.1.0; lists = h.1.1.1.1 })
+    (λ h. (h.some, (h.few, (h.few_sources, (h.few_targets, h.lists)))))
+    (dec_and (dec_less 0 (length prices)) (dec_and (dec_at_most (length prices) 3)
+    (dec_and (dec_at_most (sources prices) 64) (dec_and (dec_at_most (targets prices) 64)
+    (dec_lists (sources prices) (targets prices) prices)))))
 
 -- whether the lists can be spelled
 unfoldable pub are_prices : List PriceList → Bool

@@ -10,5 +10,6 @@ use Rattle.pg_checker.specs.declared.fault.RunFault.TheVariants.{Diagram, Length
 -- why two texts are no problem: the first is refused as a diagram; else the second as a length
 abbrev pub IsProblemFault : List ℕ → List ℕ → RunFault → Type 0
 IsProblemFault diagram length (Diagram fault) = diagram_of (fields diagram) ≡ Err fault
-IsProblemFault diagram length (Length fault) = ((d : Placement) × (diagram_of (fields diagram) ≡ Ok d)) × (length_of length ≡ Err fault)
+IsProblemFault diagram length (Length fault) =
+    ((d : Placement) × (diagram_of (fields diagram) ≡ Ok d)) × (length_of length ≡ Err fault)
 IsProblemFault diagram length fault = ⊥

@@ -98,7 +98,8 @@ module _ {P M : Type 0} (r : Rules P M) where
     closed k p (Priced code color prices) = []
     closed k p (Ref number) = []
     closed zero p (Expand named ts) = []
-    closed (suc k) p (Expand named ts) = closed_all k p (r.moves p) ts ++ entry named (suc k) p (any_fertile p (r.moves p) ts)
+    closed (suc k) p (Expand named ts) =
+        closed_all k p (r.moves p) ts ++ entry named (suc k) p (any_fertile p (r.moves p) ts)
 
     pub closed_all : ℕ → P → List M → Trees → List (Entry P)
     closed_all k p ms Empty = []
@@ -107,7 +108,8 @@ module _ {P M : Type 0} (r : Rules P M) where
 
   -- entry i stands for this position with k plies left
   abbrev pub StandsFor : List (Entry P) → ℕ → ℕ → P → Type 0
-  StandsFor es i k p = (e : Entry P) × (slice_get es i ≡ Some e) × (r.is_same e.position p ≡ true) × (e.plies ≡ k) × (e.fertile ≡ false)
+  StandsFor es i k p =
+      (e : Entry P) × (slice_get es i ≡ Some e) × (r.is_same e.position p ≡ true) × (e.plies ≡ k) × (e.fertile ≡ false)
 
   -- the tree fits at p with k plies left, reached by g, in the tree of length n, after the entries es
   abbrev mutual
@@ -119,7 +121,8 @@ module _ {P M : Type 0} (r : Rules P M) where
     Fits n zero g p es (Cut code) = ⊥
     Fits n zero g p es (Priced code color prices) = ⊥
     Fits n (suc k) g p es (Cut code) = (r.is_record (CutBy code) ≡ true) × (r.cut code p (suc k) ≡ Some true)
-    Fits n (suc k) g p es (Priced code color prices) = (r.is_record (PricedBy code color prices) ≡ true) × (r.priced code color prices p (suc k) ≡ Some true)
+    Fits n (suc k) g p es (Priced code color prices) =
+        (r.is_record (PricedBy code color prices) ≡ true) × (r.priced code color prices p (suc k) ≡ Some true)
     Fits n zero g p es (Ref number) = ⊥
     Fits n (suc k) g p es (Ref number) = (r.is_record (RefTo number) ≡ true) × StandsFor es number (suc k) p
 

@@ -61,7 +61,8 @@ module _ {P M : Type 0} (r : Rules P M) where
     got ← r.read paid.rest
     judge k p got.0 (record paid { rest = got.1 })
 
-  abbrev pub leaf_answer : ℕ → List M → P → WalkState P → (is_goal is_length is_listed : Bool) → Result (Bool × WalkState P) (Cause M)
+  abbrev pub leaf_answer : ℕ → List M → P → WalkState P → (is_goal is_length is_listed : Bool)
+      → Result (Bool × WalkState P) (Cause M)
   leaf_answer n g p s false is_length is_listed = Ok (false, s)
   leaf_answer n g p s true false is_listed = Err (Shorter n)
   leaf_answer n g p s true true false = Err (Unlisted g)
@@ -71,7 +72,8 @@ module _ {P M : Type 0} (r : Rules P M) where
   leaf n g p s = leaf_answer n g p s (r.is_goal p) (nat_eq n r.plies) (r.is_listed g)
 
   -- the children, each by visit; found: whether an earlier one was fertile
-  abbrev pub each : (List M → P → WalkState P → Result (Bool × WalkState P) (Cause M)) → List M → P → List M → Bool → WalkState P → Result (Bool × WalkState P) (Cause M)
+  abbrev pub each : (List M → P → WalkState P → Result (Bool × WalkState P) (Cause M)) → List M → P → List M → Bool
+      → WalkState P → Result (Bool × WalkState P) (Cause M)
   each visit g p [] found s = Ok (found, s)
   each visit g p (m ∷ ms) found s = do
     child ← visit (g ++ (m ∷ [])) (r.play p m) s
@@ -81,13 +83,15 @@ module _ {P M : Type 0} (r : Rules P M) where
   abbrev pub close : Bool → ℕ → P → Bool × WalkState P → Result (Bool × WalkState P) (Cause M)
   close is_named k p got = let s = got.1 in Ok (got.0, record s { entries = s.entries ++ entry r is_named k p got.0 })
 
-  abbrev pub below : (List M → P → WalkState P → Result (Bool × WalkState P) (Cause M)) → ℕ → List M → P → Shape → WalkState P → Result (Bool × WalkState P) (Cause M)
+  abbrev pub below : (List M → P → WalkState P → Result (Bool × WalkState P) (Cause M)) → ℕ → List M → P → Shape
+      → WalkState P → Result (Bool × WalkState P) (Cause M)
   below visit k g p Done s = Ok (false, s)
   below visit k g p (Opened is_named) s = do
     got ← each visit g p (r.moves p) false s
     close is_named k p got
 
-  -- the node at p with k plies left, reached by g, in the tree of length n: whether it is fertile, and the state after it
+  -- the node at p with k plies left, reached by g, in the tree
+  -- of length n: whether it is fertile, and the state after it
   abbrev pub visit : ℕ → ℕ → List M → P → WalkState P → Result (Bool × WalkState P) (Cause M)
   visit n zero g p s = leaf n g p s
   visit n (suc k) g p s = do

@@ -1,5 +1,5 @@
 -- The whole certificate: a tree for each length, and the end of the bytes.
-use Rattle.std.specs.Prelude.{◌≡◌, ◌≢◌, ℕ, zero, suc, ◌+◌, ◌-◌, ◌<◌, ◌≤◌, true, false, List, [], ◌∷◌, ◌++◌, Result, Ok, Err}
+use Rattle.std.specs.Prelude.{◌≡◌, ◌≢◌, ℕ, zero, suc, ◌+◌, ◌-◌, ◌<◌, ◌≤◌, ◌⊎◌, true, false, List, [], ◌∷◌, ◌++◌, Result, Ok, Err}
 use Rattle.pg_certificate.specs.declared.record.Record.TheVariants.{Expand as Expanded}
 use Rattle.pg_checker.specs.Tree.{Tree, Trees, Leaf, Expand, Empty, First, Cause, Trailing, Entry, Rules, closed, spelling_all, records_all, named_all}
 use Rattle.pg_checker.specs.Walk.{◌>>=◌, WalkState, visit}
@@ -38,12 +38,16 @@ module _ {P M : Type 0} (r : Rules P M) where
     pub records_fit : records_all trees ≤ max_records
     pub named_fit : named_all trees ≤ max_named
 
-  -- from the front of the bytes, within the limits: trees that fit, then a front of the next tree, whose next node is at the place
-  pub record HasFront (p : P) (max_records max_named : ℕ) (bytes : List ℕ) (before : Trees) (place : NextNode P M) (state : WalkState P) : Type 0 where
+  -- from the front of the bytes, within the limits: trees that fit,
+  -- then a front of the next tree, whose next node is at the place
+  pub record HasFront (p : P) (max_records max_named : ℕ) (bytes : List ℕ) (before : Trees) (place : NextNode P M)
+      (state : WalkState P)
+      : Type 0 where
     pub fits : FitFrom r 0 p [] before
     pub few : count r before < suc r.plies
     pub front : Front
-    pub front_fits : FitFront r (count r before) (count r before) [] p (closed_from 0 p before) front place state.entries
+    pub front_fits :
+        FitFront r (count r before) (count r before) [] p (closed_from 0 p before) front place state.entries
     pub bytes_are : bytes ≡ (spelling_all r before ++ front_spelling r front) ++ state.rest
     pub records_are : max_records ≡ (records_all before + front_records front) + state.records
     pub named_are : max_named ≡ (named_all before + front_named front) + state.room
@@ -65,6 +69,12 @@ module _ {P M : Type 0} (r : Rules P M) where
     pub bytes_are : bytes ≡ spelling_all r trees ++ more
     pub records_fit : records_all trees ≤ max_records
     pub named_fit : named_all trees ≤ max_named
+
+  -- why the bytes are refused: the cause is the first one at a front,
+  -- or, for Trailing, bytes stand behind a certificate that fits
+  abbrev pub IsRefusedFor : P → ℕ → ℕ → List ℕ → Cause M → Type 0
+  IsRefusedFor p max_records max_named bytes f =
+      IsStopped p max_records max_named bytes f ⊎ ((f ≡ Trailing) × HasMore p max_records max_named bytes)
 
   abbrev pub full_all : (P → Tree) → P → List M → Trees
   full_all below p [] = Empty

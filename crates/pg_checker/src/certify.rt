@@ -2,7 +2,7 @@
 ghost use Rattle.std.specs.Prelude.{◌≡◌, ◌+◌, ◌*◌, ◌≤◌, false, [], OnOk, IfOk, IfErr};
 ghost use Rattle.std.specs.Io.KnownBytes.{IsAtEnd};
 ghost use Rattle.pg_certificate.specs.Reader.{to_come};
-ghost use Rattle.pg_certificate.specs.Spelling.{longest_record};
+ghost use Rattle.pg_certificate.specs.Spelling.{header_length, longest_record};
 ghost use Rattle.pg_checker.specs.Answer.{IsExactAnswer};
 ghost use Rattle.pg_checker.specs.Check.{Accepts, Refuses, Takes};
 ghost use Rattle.pg_checker.specs.inner.Checking.{Answers, Headed, HeaderFails, HeaderTakes, WalkTakes, header_fault};
@@ -10,6 +10,7 @@ ghost use Rattle.pg_checker.specs.Cuts.{rules_by, rules_for};
 ghost use Rattle.pg_checker.specs.inner.Halting.{stops};
 ghost use Rattle.pg_checker.specs.inner.Machine.{IsReading, IsReady, game_at};
 ghost use Rattle.pg_checker.specs.inner.Steps.{FailsRead};
+ghost use Rattle.pg_checker.specs.Terms.{terms};
 
 use crate::fault::Fault;
 use crate::halt::{Halt, Reason, fault_of};
@@ -151,12 +152,12 @@ pub fn check<R: Source>(
     max_named: u32,
 ) -> Result<Proved, Fault>
     ensures headline { OnOk result (IsExactAnswer diagram.now length games.now) }
-    ensures accepted { Accepts (rules_by code_of excluded bounds.now diagram.now length games.now) diagram.now
-        games.now max_records max_named (R.left source.old) result }
-    ensures refused { Refuses (rules_by code_of excluded bounds.now diagram.now length games.now) diagram.now
-        games.now max_records max_named
-        (R.left source.old) (R.has_failed source.new) result }
-    ensures pulls { Takes (37 + longest_record * max_records + 4096) (R.left source.old) (R.left source.new) result }
+    ensures accepted { Accepts (terms (rules_by code_of excluded bounds.now) max_records max_named (R.left source.old))
+        diagram.now length games.now result }
+    ensures refused { Refuses (terms (rules_by code_of excluded bounds.now) max_records max_named (R.left source.old))
+        diagram.now length games.now (R.has_failed source.new) result }
+    ensures pulls { Takes (header_length + longest_record * max_records + 4096)
+        (R.left source.old) (R.left source.new) result }
     ensures end { OnOk result (IsAtEnd (R.left source.new)) }
     ensures runs { OnOk result (R.has_failed source.new ≡ false) }
 {

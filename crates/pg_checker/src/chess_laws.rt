@@ -1,6 +1,6 @@
 //! Laws of the walk over chess, each the contract of a function that does nothing. Lengths are in
 //! plies.
-ghost use Rattle.std.specs.Prelude.{◌≡◌, ◌≢◌, ◌⊎◌, ◌↔◌, ◌∷◌, ◌++◌, ◌≤◌, ◌<◌, ℕ, suc, List, [], Option, Some, None, length, Ok, Err};
+ghost use Rattle.std.specs.Prelude.{◌≡◌, ◌≢◌, ◌↔◌, ◌∷◌, ◌++◌, ◌≤◌, ◌<◌, ℕ, suc, List, [], Option, Some, None, length, Ok, Err};
 ghost use Rattle.pg_board.specs.Placement.{Placement};
 ghost use Rattle.pg_position.specs.declared.state.State.{State};
 ghost use Rattle.pg_position.specs.declared.moves.Move.{Move};
@@ -16,8 +16,8 @@ ghost use Rattle.pg_checker.specs.Answer.{IsExactAnswer, AreSolutions};
 ghost use Rattle.pg_checker.specs.Chess.{Cuts, IsSoundCut, IsChess, chess, cause_of, renamed, read};
 ghost use Rattle.pg_checker.specs.Claims.{IsExact, IsCertificate};
 ghost use Rattle.pg_checker.specs.Left.{left_after};
-ghost use Rattle.pg_checker.specs.Tree.{Rules, Trees, Cause, Truncated, UnknownRecord, Trailing, TooManyNamed, spelling_all, records_all};
-ghost use Rattle.pg_checker.specs.Whole.{IsAtNamed, full_from, answer, IsAccepted, IsStopped, HasMore};
+ghost use Rattle.pg_checker.specs.Tree.{Rules, Trees, Cause, Truncated, UnknownRecord, TooManyNamed, spelling_all, records_all};
+ghost use Rattle.pg_checker.specs.Whole.{IsAtNamed, full_from, answer, IsAccepted, IsRefusedFor};
 
 /// The rules by which the walk goes are those of chess, with the cuts handed in and the records of
 /// certificates of their version, and no state has more than 28,672 moves.
@@ -95,8 +95,8 @@ pub fn refused_at_the_first_cause()
     ensures cause { (d : Placement) (n : ℕ) (games : List (List Move)) (cut : Cuts) (a b : ℕ) (bytes : List ℕ)
         (f : Cause Move)
         → answer (chess d n games cut) array_state a b bytes ≡ Err f
-        ↔ (IsStopped (chess d n games cut) array_state a b bytes f ⊎ ((f ≡ Trailing) × HasMore (chess d n games cut) array_state a b bytes)) }
+        ↔ IsRefusedFor (chess d n games cut) array_state a b bytes f }
     ensures memory { (d : Placement) (n : ℕ) (games : List (List Move)) (cut : Cuts) (a b fewer : ℕ) (bytes : List ℕ)
-        → fewer < b
-        → answer (chess d n games cut) array_state a fewer bytes ≡ Err TooManyNamed → IsAtNamed (chess d n games cut) array_state a b bytes }
+        → fewer < b → answer (chess d n games cut) array_state a fewer bytes ≡ Err TooManyNamed
+        → IsAtNamed (chess d n games cut) array_state a b bytes }
 {}

@@ -1,12 +1,12 @@
 //! Laws of the walk over a spelled tree, each the contract of a function that does nothing. They
 //! hold of every game, whatever its rules `r` are; those of `chess_laws` are these over chess.
-ghost use Rattle.std.specs.Prelude.{◌≡◌, ◌⊎◌, ◌↔◌, ◌∷◌, ◌++◌, ◌≤◌, ◌<◌, ℕ, suc, Bool, true, List, length, Ok, Err};
+ghost use Rattle.std.specs.Prelude.{◌≡◌, ◌↔◌, ◌∷◌, ◌++◌, ◌≤◌, ◌<◌, ℕ, suc, Bool, true, List, length, Ok, Err};
 ghost use Rattle.pg_checker.specs.Claims.{IsExact, IsRight, IsComplete, IsCertificate};
 ghost use Rattle.pg_checker.specs.inner.Frames.{Frame, Work, resume, finish, turn, effort};
 ghost use Rattle.pg_checker.specs.Front.{Halts};
-ghost use Rattle.pg_checker.specs.Tree.{Rules, Trees, Cause, Trailing, TooManyNamed, spelling_all, records_all};
+ghost use Rattle.pg_checker.specs.Tree.{Rules, Trees, Cause, TooManyNamed, spelling_all, records_all};
 ghost use Rattle.pg_checker.specs.Walk.{WalkState, Shape, head, visit, ◌>>=◌ as and_then};
-ghost use Rattle.pg_checker.specs.Whole.{IsAtNamed, full_from, answer, IsAccepted, IsStopped, HasMore};
+ghost use Rattle.pg_checker.specs.Whole.{IsAtNamed, full_from, answer, IsAccepted, IsRefusedFor};
 
 // A yes proves that the list is complete.
 pub(crate) fn accepted_is_complete<P, M>()
@@ -26,7 +26,7 @@ pub(crate) fn accepted_where_it_fits<P, M>()
 // a named node.
 pub(crate) fn refused_at_the_first_cause<P, M>()
     ensures cause { (r : Rules P M) → IsExact r → (p : P) (a b : ℕ) (bytes : List ℕ) (f : Cause M)
-        → answer r p a b bytes ≡ Err f ↔ (IsStopped r p a b bytes f ⊎ ((f ≡ Trailing) × HasMore r p a b bytes)) }
+        → answer r p a b bytes ≡ Err f ↔ IsRefusedFor r p a b bytes f }
     ensures memory { (r : Rules P M) → IsExact r → ((bytes : List ℕ) → r.read bytes ≡ Err TooManyNamed → ⊥)
         → (p : P) (a b fewer : ℕ) (bytes : List ℕ) → fewer < b → answer r p a fewer bytes ≡ Err TooManyNamed
         → IsAtNamed r p a b bytes }

@@ -17,7 +17,8 @@ use Rattle.pg_texts.specs.declared.fault.MovesFault.TheVariants.{Position, Memor
 -- for each of these moves of p, in their order, the text of the move and a line feed
 unfoldable pub AreMoveLines : State → List Move → List ℕ → Type 0
 AreMoveLines p [] text = text ≡ []
-AreMoveLines p (m ∷ ms) text = (line : List ℕ) × (rest : List ℕ) × IsSan p m line × AreMoveLines p ms rest × (text ≡ line ++ code "\n" ∷ rest)
+AreMoveLines p (m ∷ ms) text =
+    (line : List ℕ) × (rest : List ℕ) × IsSan p m line × AreMoveLines p ms rest × (text ≡ line ++ code "\n" ∷ rest)
 
 -- the legal moves of p, each once and in canonical order, one a line
 abbrev pub IsMovesText : State → List ℕ → Type 0
@@ -31,7 +32,8 @@ SpellsPosition text p = (g : GameParts) × (game_parts (fields text) ≡ Ok g) �
 unfoldable pub IsRefusedAs : List ℕ → FenFault → Type 0
 IsRefusedAs text fault = IsGameRead (game_parts (fields text)) (Err fault)
 
--- why the moves are not written: the text is refused; else want of memory, where there is a legal move; else the sink has failed
+-- why the moves are not written: the text is refused; else want of
+-- memory, where there is a legal move; else the sink has failed
 abbrev pub IsMovesFault : List ℕ → Bool → MovesFault → Type 0
 IsMovesFault text failed (Position fault) = IsRefusedAs text fault
 IsMovesFault text failed Memory = (p : State) × SpellsPosition text p × ((m : Move) × IsLegal p m)

@@ -1,5 +1,5 @@
--- The movetext of a game, as in `1. e4 e5 2. Nf3` (the PGN standard, section 8.2): before each move of White its number, a dot
--- and a space; one space between two words; `-` for the game of no move.
+-- The movetext of a game, as in `1. e4 e5 2. Nf3` (the PGN standard, section 8.2): before each move of White its
+-- number, a dot and a space; one space between two words; `-` for the game of no move.
 use Rattle.std.specs.Prelude.{◌≡◌, ℕ, ◌+◌, ◌/◌, ◌%◌, ◌≤◌, ◌==◌, List, [], ◌∷◌, ◌++◌, Option, length, codes, if◌then◌else◌}
 use Rattle.std.specs.Fmt.{decimal}
 use Rattle.pg_certificate.specs.Pushing.{AddsSome}
@@ -18,7 +18,8 @@ space_text ply = if ply == 0 then [] else codes " "
 abbrev pub number_text : ℕ → List ℕ
 number_text ply = if ply % 2 == 0 then decimal (ply / 2 + 1) ++ codes ". " else []
 
--- the moves are legal, one after another, from p on, and lead to q; and this is their text, where the first of them is this ply
+-- the moves are legal, one after another, from p on, and lead to
+-- q; and this is their text, where the first of them is this ply
 unfoldable pub ArePlies : ℕ → State → List Move → State → List ℕ → Type 0
 ArePlies ply p [] q text = (p ≡ q) × (text ≡ [])
 ArePlies ply p (m ∷ ms) q text =

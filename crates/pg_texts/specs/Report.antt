@@ -42,7 +42,9 @@ head_text diagram plies count =
 -- the movetext of each game, in their order, one a line
 unfoldable pub AreGameLines : List (List Move) → List ℕ → Type 0
 AreGameLines [] text = text ≡ []
-AreGameLines (game ∷ games) text = (line : List ℕ) × (rest : List ℕ) × IsMovetext game line × AreGameLines games rest × (text ≡ line ++ code "\n" ∷ rest)
+AreGameLines (game ∷ games) text =
+    (line : List ℕ) × (rest : List ℕ) × IsMovetext game line × AreGameLines games rest
+    × (text ≡ line ++ code "\n" ∷ rest)
 
 -- the report of a diagram, a length in plies and a list of games: the head, the games and the verdict
 pub record IsReport (diagram : Placement) (plies : ℕ) (games : List (List Move)) (text : List ℕ) : Type 0 where

@@ -27,7 +27,8 @@ certificate_bytes c = header_spelling c.header ++ flat_map spelling c.records
 abbrev pub with_digit_2 : List ℕ → List ℕ
 with_digit_2 bytes = slice_set bytes 3 50
 
--- the old bytes are a header of version 1 and then n records of version 1, and the new ones are the same with the digit 2 as the fourth
+-- the old bytes are a header of version 1 and then n records of version
+-- 1, and the new ones are the same with the digit 2 as the fourth
 pub record IsUpgraded (old new : List ℕ) (n : ℕ) : Type 0 where
   pub certificate : Certificate1
   pub many : length certificate.records ≡ n
@@ -65,7 +66,8 @@ records_in (suc most) (b ∷ rest) = record_at 1 (b ∷ rest) >>= λ x. one_more
 abbrev pub upgrade_of : ℕ → List ℕ → Result ℕ UpgradeFault
 upgrade_of most bytes = header_at bytes >>= λ x. if x.0.version == 1 then records_in most x.1 else Err NotVersion1
 
--- why nothing more is written: Read for a source that has failed, Write for a sink that has; else what reading the known bytes gives
+-- why nothing more is written: Read for a source that has failed,
+-- Write for a sink that has; else what reading the known bytes gives
 abbrev pub IsUpgradeFault : (List ℕ → Result ℕ UpgradeFault) → Option (List ℕ) → Bool → Bool → UpgradeFault → Type 0
 IsUpgradeFault answer known source sink Read = source ≡ true
 IsUpgradeFault answer known source sink Write = sink ≡ true

@@ -1,12 +1,8 @@
 //! The number of games from a position.
-ghost use Rattle.std.specs.Prelude.{◌≡◌, ◌≢◌, ◌∷◌, [], ◌++◌, ◌≤◌, ℕ, IfErr, OnOk, false};
+ghost use Rattle.std.specs.Prelude.{◌≡◌, ◌≢◌, ◌∷◌, [], ◌++◌, IfErr, OnOk, false};
 ghost use Rattle.std.specs.Fmt.{decimal};
-ghost use Rattle.std.specs.Io.KnownBytes.{Appends};
 ghost use Rattle.pg_certificate.specs.Pushing.{Adds, Pushes};
-ghost use Rattle.pg_position.specs.declared.state.State.{State};
-ghost use Rattle.pg_moves.specs.Counts.{IsGameCount};
-ghost use Rattle.pg_texts.specs.MovesText.{SpellsPosition};
-ghost use Rattle.pg_texts.specs.CountText.{IsCountRunFault};
+ghost use Rattle.pg_texts.specs.CountText.{IsCounted, IsCountRunFault};
 
 use crate::fault::CountRunFault;
 use crate::moves::game_of;
@@ -38,8 +34,7 @@ pub fn run_count<W: Sink>(
     plies: u8,
     out: &mut W,
 ) -> Result<(), CountRunFault>
-    ensures ok { OnOk result ((p : State) × SpellsPosition fen.now p × (plies ≤ 8)
-        × ((n : ℕ) × IsGameCount p plies n × Appends (W.held out.old) (W.held out.new) (decimal n ++ 10 ∷ []))) }
+    ensures ok { OnOk result (IsCounted fen.now plies (W.held out.old) (W.held out.new)) }
     ensures err { IfErr result (λ e. IsCountRunFault fen.now plies (W.has_failed out.new) e) }
     ensures unwritten { IfErr result (λ e. e ≢ CountRunFault.Write → out.new ≡ out.old) }
     ensures runs { OnOk result ((W.has_failed out.old ≡ false) × (W.has_failed out.new ≡ false)) }
@@ -58,8 +53,7 @@ pub fn run_count_watched<W: Sink, P: CountProgress>(
     out: &mut W,
     watch: &mut P,
 ) -> Result<(), CountRunFault>
-    ensures ok { OnOk result ((p : State) × SpellsPosition fen.now p × (plies ≤ 8)
-        × ((n : ℕ) × IsGameCount p plies n × Appends (W.held out.old) (W.held out.new) (decimal n ++ 10 ∷ []))) }
+    ensures ok { OnOk result (IsCounted fen.now plies (W.held out.old) (W.held out.new)) }
     ensures err { IfErr result (λ e. IsCountRunFault fen.now plies (W.has_failed out.new) e) }
     ensures unwritten { IfErr result (λ e. e ≢ CountRunFault.Write → out.new ≡ out.old) }
     ensures runs { OnOk result ((W.has_failed out.old ≡ false) × (W.has_failed out.new ≡ false)) }

@@ -3,7 +3,7 @@ ghost use Rattle.std.specs.Prelude.{◌≡◌, ◌+◌, ◌*◌, ◌≤◌, ℕ,
 ghost use Rattle.std.specs.Io.KnownBytes.{Appends, Consumes, IsAtEnd, Keeps};
 ghost use Rattle.pg_certificate.specs.Reader.{to_come};
 ghost use Rattle.pg_certificate.specs.Reading.{more_at};
-ghost use Rattle.pg_certificate.specs.Spelling.{longest_record};
+ghost use Rattle.pg_certificate.specs.Spelling.{header_length, longest_record};
 ghost use Rattle.pg_certificate.specs.Writer.{written};
 ghost use Rattle.pg_texts.specs.inner.Copying.{Copies, CopiesOne, IsCopying, one_in};
 ghost use Rattle.pg_texts.specs.Upgrade.{IsUpgraded, IsUpgradeFault, Takes, upgrade_fault_of, records_in, upgrade_of};
@@ -35,7 +35,7 @@ fn copy_record<R: Source, W: Sink>(
         (to_come reader.old (R.left source.old)) (to_come reader.new (R.left source.new))
         (written (W.held out.old) writer.old) (written (W.held out.new) writer.new)) }
     ensures copying { OnOk result (IsCopying reader.new writer.new) }
-    ensures room { length reader.new.held ≤ 4096 }
+    ensures held { length reader.new.held ≤ 4096 }
     ensures err { IfErr result (λ e. IsUpgradeFault one_in (to_come reader.old (R.left source.old))
         (R.has_failed source.new) (W.has_failed out.new) e) }
     ensures takes { Takes (longest_record + 4096) (to_come reader.old (R.left source.old)) (R.left source.new) result }
@@ -59,7 +59,7 @@ fn copy_records<R: Source, W: Sink>(
     max_records: u64,
 ) -> Result<u64, UpgradeFault>
     requires copying { IsCopying reader.old writer.old }
-    requires room { length reader.old.held ≤ 4096 }
+    requires held { length reader.old.held ≤ 4096 }
     ensures copied { IfOk result (λ n. Copies n
         (to_come reader.old (R.left source.old)) (to_come reader.new (R.left source.new))
         (written (W.held out.old) writer.old) (written (W.held out.new) writer.new)) }
@@ -118,7 +118,8 @@ pub fn upgrade<R: Source, W: Sink>(
     ensures answer { IfOk result (λ n. IfSome (R.left source.old) (λ bytes. upgrade_of max_records bytes ≡ Ok n)) }
     ensures err { IfErr result (λ e. IsUpgradeFault (upgrade_of max_records) (R.left source.old)
         (R.has_failed source.new) (W.has_failed out.new) e) }
-    ensures takes { Takes (37 + longest_record * max_records + 4096) (R.left source.old) (R.left source.new) result }
+    ensures takes { Takes (header_length + longest_record * max_records + 4096)
+        (R.left source.old) (R.left source.new) result }
 {
     let mut reader = RecordReader::new();
     let mut writer = RecordWriter::new();

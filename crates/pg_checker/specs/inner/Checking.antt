@@ -9,6 +9,7 @@ use Rattle.pg_certificate.specs.declared.fault.ReadFault as reading_fault
 use Rattle.pg_certificate.specs.declared.fault.ReadFault.TheVariants as reading
 use Rattle.pg_certificate.specs.declared.record.Header.{Header}
 use Rattle.pg_certificate.specs.Reading.{header_at}
+use Rattle.pg_certificate.specs.Spelling.{header_length}
 use Rattle.pg_checker.specs.Tree as tree
 use Rattle.pg_checker.specs.Tree.{Rules}
 use Rattle.pg_checker.specs.Whole.{answer}
@@ -29,7 +30,7 @@ Headed d n (Some bytes) (Some rest) version = IsHeaded version d n bytes rest
 -- why the header is refused
 abbrev pub HeaderFails : Placement → ℕ → Option (List ℕ) → Bool → Fault → Type 0
 HeaderFails d n known failed fault.Read = failed ≡ true
-HeaderFails d n known failed fault.Truncated = IfSome known (λ bytes. length bytes < 37)
+HeaderFails d n known failed fault.Truncated = IfSome known (λ bytes. length bytes < header_length)
 HeaderFails d n known failed fault.Magic = IfSome known (λ bytes. header_at bytes ≡ Err reading.Magic)
 HeaderFails d n known failed fault.OtherLength = IfSome known (λ bytes. (h : Header) × (rest : List ℕ) × (header_at bytes ≡ Ok (h, rest)) × (h.plies ≢ n))
 HeaderFails d n known failed fault.OtherDiagram = IfSome known (λ bytes. (h : Header) × (rest : List ℕ) × (header_at bytes ≡ Ok (h, rest)) × (h.plies ≡ n) × (h.diagram ≢ packed_of d))
@@ -71,11 +72,11 @@ header_fault reading.Truncated = fault.Truncated
 header_fault reading.Trailing = fault.Truncated
 header_fault (reading.UnknownRecord b) = fault.Truncated
 
--- the header takes 37 of the known bytes, or one buffer more is not left
+-- the header takes its own length of the known bytes, or one buffer more is not left
 abbrev pub HeaderTakes : Option (List ℕ) → Option (List ℕ) → Option (List ℕ) → Result ℕ Fault → Type 0
-HeaderTakes before after left (Ok version) = IfSome before (λ bytes. IfSome after (λ rest. length bytes ≤ length rest + 37))
+HeaderTakes before after left (Ok version) = IfSome before (λ bytes. IfSome after (λ rest. length bytes ≤ length rest + header_length))
 HeaderTakes before after left (Err fault.Read) = Unit {0}
-HeaderTakes before after left (Err e) = IfSome before (λ bytes. IfSome left (λ rest. length bytes ≤ length rest + (4096 + 37)))
+HeaderTakes before after left (Err e) = IfSome before (λ bytes. IfSome left (λ rest. length bytes ≤ length rest + (4096 + header_length)))
 
 -- the walk takes so many of the known bytes, or one buffer more is not left
 abbrev pub WalkTakes : ℕ → Option (List ℕ) → Option (List ℕ) → Result Proved Stop → Type 0

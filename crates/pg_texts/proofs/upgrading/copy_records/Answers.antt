@@ -39,5 +39,5 @@ records-preserved g c = record {
   copied = one_copied c.records.count _ _ _ _ _ _ _ c.records.invariant.copied c.in-Ok-true.ensures.kept c.in-Ok.ensures.copied;
   few = omega (arith, c.records.invariant.few, c.if-count-max_records.false);
   copying = c.in-Ok.ensures.copying;
-  room = c.in-Ok.ensures.room;
+  held = c.in-Ok.ensures.held;
 }

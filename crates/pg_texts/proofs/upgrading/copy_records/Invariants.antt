@@ -10,7 +10,7 @@ invariant-records g l = record {
   copied : Copies l.count (to_come l.fn.reader (g.R.Source.left l.fn.source)) (to_come l.reader (g.R.Source.left l.source)) (written (g.W.Sink.held l.fn.out) l.fn.writer) (written (g.W.Sink.held l.out) l.writer);
   few : l.count ≤ l.max_records;
   copying : IsCopying l.reader l.writer;
-  room : length l.reader.held ≤ 4096;
+  held : length l.reader.held ≤ 4096;
 }
 
 abbrev pub decreases-records : goal.decreases-records
