@@ -1,13 +1,14 @@
 -- The legal moves past the last one.
-use Rattle.std.proofs.Common.{◌≡◌, ℕ, ◌+◌, ◌<◌, ◌≤◌, inl, inr, Option, Some, MatchOption, refl, sym, subst, arith}
+use Rattle.std.proofs.Common.{◌≡◌, ℕ, ◌+◌, ◌<◌, ◌≤◌, inl, inr, Option, Some, None, MatchOption, refl, sym, ap, subst, arith}
 use Rattle.pg_board.specs.Bits.{has}
 use Rattle.pg_board.specs.Men.{is_of}
 use Rattle.pg_board.specs.Placement.{get}
 use Rattle.pg_position.specs.declared.state.State.{State}
 use Rattle.pg_position.specs.declared.moves.Move.{Move}
 use Rattle.pg_board.specs.SquareSets.{HasNoneFrom, IsFirstFrom}
-use Rattle.pg_moves.specs.Left.{MovesLeft, IsFound, IsPeeked}
+use Rattle.pg_moves.specs.Left.{MovesLeft, IsFound, IsPeeked, IsReady, IsManDone, IsNextOfMan, men_from}
 use Rattle.pg_moves.specs.inner.Sources.{IsSource}
+use Rattle.pg_moves.specs.Targets.{FreeOff}
 use Rattle.pg_moves.specs.declared.cursor.Peeked.{Peeked}
 use Rattle.pg_moves.specs.Moves.{promotion_number, IsNext, IsLast}
 use Rattle.pg_moves.specs.inner.Places.{place, place_of, NoneFrom, IsFirstMove}
@@ -63,3 +64,64 @@ pub ahead_of : (q : MovesLeft) (p : State) (l last : Option Move) (r : Option Pe
     → MatchOption r (IsLast p last) (λ a. IsNext p last a.m × IsPeeked p a)
     → MatchOption r (IsLast q.position q.last) (λ a. IsNext q.position q.last a.m × IsPeeked q.position a)
 ahead_of q p l last r is e h = subst (λ (v : MovesLeft). MatchOption r (IsLast v.position v.last) (λ a. IsNext v.position v.last a.m × IsPeeked v.position a)) is (ahead_here p l last r e h)
+
+-- ---- the man that moved last, and then the others
+pub done_none : (p : State) → IsManDone p None
+unfolding IsManDone
+done_none p = tt
+
+-- the next move of the man that moved last
+pub of_man : (p : State) (a : Move) (t n : ℕ) → a.from < 64 → a.to < 64 → t ≡ a.to → n ≡ promotion_number a.promotion + 1 → (r : Option Move)
+    → MatchOption r (NoneFrom p (place_of a.from t n) (place_of (a.from + 1) 0 0)) (λ m. IsFirstMove p (place_of a.from t n) (place_of (a.from + 1) 0 0) m)
+    → MatchOption r (IsManDone p (Some a)) (λ m. IsNextOfMan p (Some a) m)
+unfolding IsManDone IsNextOfMan
+of_man p a t n from to e f None none = ((from, to), (let at : place_of a.from t n ≡ place a + 1 = omega arith in subst (λ x. NoneFrom p x (place_of (a.from + 1) 0 0)) at none))
+of_man p a t n from to e f (Some m) first =
+    let few : promotion_number a.promotion < 7 = promotion_low a.promotion in
+    let at : place_of a.from t n ≡ place a + 1 = omega arith in
+    (next_same p a from to (place_of a.from t n) (place_of (a.from + 1) 0 0) at refl m first, found_there p a.from t n m (omega arith) first)
+
+pub man_of : (q : MovesLeft) (p : State) (l last : Option Move) (r : Option Move) → record { position = p; last = l } ≡ q → l ≡ last
+    → MatchOption r (IsManDone p last) (λ m. IsNextOfMan p last m) → MatchOption r (IsManDone q.position q.last) (λ m. IsNextOfMan q.position q.last m)
+man_of q p l last r is e h = subst (λ (v : MovesLeft). MatchOption r (IsManDone v.position v.last) (λ m. IsNextOfMan v.position v.last m)) is
+    (subst (λ (x : Option Move). MatchOption r (IsManDone p x) (λ m. IsNextOfMan p x m)) (sym e) h)
+
+pub man_next : (p : State) (last : Option Move) (m : Move) → IsNextOfMan p last m → IsNext p last m
+unfolding IsNextOfMan
+man_next p None m h = absurd h
+man_next p (Some a) m h = h.0
+
+-- what was found of the man holds past a further move of his
+ready_past : (p : State) (last : Option Move) (m : Move) (maybe_pinned : ℕ) (s : Source) → IsReady p last maybe_pinned s → IsNextOfMan p last m → IsReady p (Some m) maybe_pinned s
+unfolding IsReady IsNextOfMan
+ready_past p None m maybe_pinned s h n = absurd n
+ready_past p (Some a) m maybe_pinned s h n = (h.0, subst (λ (x : ℕ). IsSource p x s) (sym n.1) h.1)
+
+pub ready_on : (q : MovesLeft) (p : State) (l : Option Move) (m : Move) (maybe_pinned : ℕ) (s : Source) → record { position = p; last = l } ≡ q → IsReady p l maybe_pinned s → IsNextOfMan q.position q.last m → IsReady p (Some m) maybe_pinned s
+ready_on q p l m maybe_pinned s is h next = ready_past p l m maybe_pinned s h (subst (λ (v : MovesLeft). IsNextOfMan v.position v.last m) (sym is) next)
+
+-- the first move of the men beyond is the next one, and none of theirs is none at all
+module _ (p : State) (from : ℕ) (le : from ≤ 64) where
+  beyond_is : (last : Option Move) (m : Move) → from ≡ men_from last → IsManDone p last → IsFirstMove p (place_of from 0 0) 28672 m → IsNext p last m
+  unfolding IsManDone
+  beyond_is None m e d f = next_found p None m tt (subst (λ x. IsFirstMove p (place_of x 0 0) 28672 m) e f)
+  beyond_is (Some a) m e d f = next_other p a d.0.0 d.0.1 (place a + 1) (place_of from 0 0) refl (ap (λ x. place_of x 0 0) e) m d.1 f
+
+  beyond_none : (last : Option Move) → from ≡ men_from last → IsManDone p last → NoneFrom p (place_of from 0 0) 28672 → IsLast p last
+  unfolding IsManDone
+  beyond_none None e d none = next_none p None tt (subst (λ x. NoneFrom p (place_of x 0 0) 28672) e none)
+  beyond_none (Some a) e d none = next_over p a d.0.0 d.0.1 (place a + 1) (place_of from 0 0) refl (ap (λ x. place_of x 0 0) e) d.1 none
+
+module _ (q : MovesLeft) (p : State) (l : Option Move) (from : ℕ) (is : record { position = p; last = l } ≡ q) (le : from ≤ 64) (e : from ≡ men_from q.last) (done : IsManDone q.position q.last) where
+  at_position : p ≡ q.position
+  at_position = ap (λ (v : MovesLeft). v.position) is
+
+  pub beyond_next_is : (m : Move) → IsFirstMove p (place_of from 0 0) 28672 m → IsNext q.position q.last m
+  beyond_next_is m f = beyond_is q.position from le q.last m e done (subst (λ (s : State). IsFirstMove s (place_of from 0 0) 28672 m) at_position f)
+
+  pub beyond_over : NoneFrom p (place_of from 0 0) 28672 → IsLast q.position q.last
+  beyond_over none = beyond_none q.position from le q.last e done (subst (λ (s : State). NoneFrom s (place_of from 0 0) 28672) at_position none)
+
+pub peeked_there : (q : MovesLeft) (p : State) (l : Option Move) (m : Move) (maybe_pinned : ℕ) (s : Source) → record { position = p; last = l } ≡ q → FreeOff q.position maybe_pinned → IsSource p m.from s → IsPeeked q.position (record { m = m; maybe_pinned = maybe_pinned; source = s })
+unfolding IsPeeked
+peeked_there q p l m maybe_pinned s is free source = (free, subst (λ (v : MovesLeft). IsSource v.position m.from s) is source)

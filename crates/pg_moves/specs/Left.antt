@@ -1,11 +1,13 @@
 -- The legal moves that are left of a position, and what is known of the man that moved last.
-use Rattle.std.specs.Prelude.{ℕ, Option, Some, None, refl}
+use Rattle.std.specs.Prelude.{◌≡◌, ℕ, ◌+◌, Option, Some, None, refl}
 use Rattle.std.specs.Coded.{Coded, code_by, coded×, coded_option}
 use Rattle.pg_position.specs.declared.state.State.{State}
 use Rattle.pg_position.specs.declared.moves.Move.{Move}
 use Rattle.pg_position.specs.contracts.state.State.{the_row as state_row}
 use Rattle.pg_position.specs.contracts.moves.Move.{the_row as move_row}
-use Rattle.pg_moves.specs.inner.Places.{most_moves, IsFirstMove}
+use Rattle.pg_position.specs.Step.{IsOnBoard}
+use Rattle.pg_moves.specs.Moves.{IsNext}
+use Rattle.pg_moves.specs.inner.Places.{most_moves, place, place_of, NoneFrom, IsFirstMove}
 use Rattle.pg_moves.specs.inner.Sources.{IsSource}
 use Rattle.pg_moves.specs.Targets.{FreeOff}
 use Rattle.pg_moves.specs.declared.cursor.Peeked.{Peeked}
@@ -34,3 +36,18 @@ IsReady p (Some m) maybe_pinned s = FreeOff p maybe_pinned × IsSource p m.from 
 -- what was found for a move ahead holds past it
 unfoldable pub IsPeeked : State → Peeked → Type 0
 IsPeeked p a = FreeOff p a.maybe_pinned × IsSource p a.m.from a.source
+
+-- the man that moved last, if one did, has no legal move left
+unfoldable pub IsManDone : State → Option Move → Type 0
+IsManDone p None = Unit {0}
+IsManDone p (Some a) = IsOnBoard a × NoneFrom p (place a + 1) (place_of (a.from + 1) 0 0)
+
+-- the next legal move is one of the man that moved last
+unfoldable pub IsNextOfMan : State → Option Move → Move → Type 0
+IsNextOfMan p None m = ⊥
+IsNextOfMan p (Some a) m = IsNext p (Some a) m × (m.from ≡ a.from)
+
+-- the squares of the men that did not yet move begin here
+abbrev pub men_from : Option Move → ℕ
+men_from None = 0
+men_from (Some a) = a.from + 1

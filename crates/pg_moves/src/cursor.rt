@@ -1,6 +1,6 @@
 //! The legal moves of a position, one after the other.
 ghost use Rattle.std.specs.Prelude.{◌≡◌, ◌<◌, ◌≤◌, ◌+◌, None, Some, MatchOption, IfSome, IfNone};
-ghost use Rattle.pg_moves.specs.Left.{IsPeeked, IsFound};
+ghost use Rattle.pg_moves.specs.Left.{IsPeeked, IsFound, IsManDone, IsNextOfMan, men_from};
 ghost use Rattle.pg_moves.specs.inner.Sources.{IsSource};
 ghost use Rattle.pg_moves.specs.Moves.{IsNext, IsLast};
 ghost use Rattle.pg_moves.specs.inner.Places.{most_moves, place_of, NoneFrom, IsFirstMove, IsNextWithin};
@@ -174,6 +174,75 @@ impl LegalMoves {
         self.source = peeked.source;
     }
 
+    // The legal move after the last one that the same man has.
+    #[inline(always)]
+    #[tactic(auto, unfolding(crate::specs::Left::IsReady))]
+    fn next_of_man(&self) -> Option<Move>
+        ensures { MatchOption result (IsManDone self.now.position self.now.last)
+            (λ m. IsNextOfMan self.now.position self.now.last m) }
+    {
+        match self.last {
+            None => None,
+            Some(last) => {
+                // A fact for the proof: the square is on the board.
+                last.from.index();
+                let to = last.to.index();
+                let number = promotion_number(last.promotion) + 1;
+                first_of_source(&self.position, last.from, &self.source, to, number)
+            }
+        }
+    }
+
+    // The men of which one moves next, once the man that moved last has no move left: those from a square
+    // on. And those of all that may be pinned.
+    #[inline(always)]
+    #[tactic(auto, unfolding(crate::specs::Left::IsReady))]
+    fn men_beyond(&self) -> (u8, SquareSet)
+        ensures from { result.0 ≡ men_from self.now.last }
+        ensures bound { result.0 ≤ 64 }
+        ensures free { FreeOff self.now.position result.1 }
+    {
+        match self.last {
+            None => (0, maybe_pinned(&self.position, &self.position.board())),
+            Some(last) => (last.from.index() + 1, self.maybe_pinned),
+        }
+    }
+
+    // The next legal move, once the man that moved last has none left.
+    #[inline(always)]
+    fn next_beyond(&mut self) -> Option<Move>
+        requires { IsManDone self.old.position self.old.last }
+        ensures answer { MatchOption result
+            (IsLast self.old.position self.old.last)
+            (λ m. IsNext self.old.position self.old.last m) }
+        ensures some { IfSome result (λ m. self.new ≡ record self.old { last = Some m }) }
+        ensures none { IfNone result (self.new ≡ self.old) }
+    {
+        let (from, maybe_pinned) = self.men_beyond();
+        match first_beyond(&self.position, maybe_pinned, from) {
+            Some((m, source)) => {
+                let peeked = Peeked {
+                    m,
+                    maybe_pinned,
+                    source,
+                };
+                self.advance(&peeked);
+                Some(peeked.m)
+            }
+            None => None,
+        }
+    }
+
+    // Hands out a further move of the man that moved last.
+    #[inline(always)]
+    #[tactic(auto, unfolding(crate::specs::Left::IsReady))]
+    fn go_on(&mut self, m: &Move)
+        requires { IsNextOfMan self.old.position self.old.last m.now }
+        ensures { self.new ≡ record self.old { last = Some m.now } }
+    {
+        self.last = Some(*m);
+    }
+
     /// The next legal move.
     pub fn next(&mut self) -> Option<Move>
         ensures answer { MatchOption result
@@ -182,12 +251,12 @@ impl LegalMoves {
         ensures some { IfSome result (λ m. self.new ≡ record self.old { last = Some m }) }
         ensures none { IfNone result (self.new ≡ self.old) }
     {
-        match self.peek() {
-            Some(peeked) => {
-                self.advance(&peeked);
-                Some(peeked.m)
+        match self.next_of_man() {
+            Some(m) => {
+                self.go_on(&m);
+                Some(m)
             }
-            None => None,
+            None => self.next_beyond(),
         }
     }
 }

@@ -47,6 +47,7 @@ fn safe_steps(position: &Position, from: Square, steps: SquareSet) -> SquareSet
 }
 
 // The squares to which the king's legal moves go: by a step, and by castling.
+#[inline(never)]
 pub(crate) fn king_targets(position: &Position, board: &Board, from: Square) -> SquareSet
     requires same { board.now ≡ position.now.board }
     requires stands { Stands position.now.board position.now.side Kind.King from }

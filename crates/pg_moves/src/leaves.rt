@@ -13,7 +13,9 @@ use crate::sources::source_to_count;
 use pg_board::{Board, Kind, Square, SquareSet};
 use pg_position::Position;
 
-// How many legal moves the man on a square has, which go to squares of the set, each tried.
+// How many legal moves the man on a square has, which go to squares of the set, each tried: not inlined,
+// since few men must be tried.
+#[inline(never)]
 fn walked(position: &Position, kind: Kind, from: Square, set: SquareSet) -> u64
     requires stands { Stands position.now.board position.now.side kind from }
     requires covers { Covers position.now from set }

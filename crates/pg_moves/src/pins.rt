@@ -108,6 +108,7 @@ fn is_special(position: &Position, color: Color, kind: Kind, from: Square) -> bo
 }
 
 // Whether the king would be attacked with the man taken off the board.
+#[inline(never)]
 fn is_pinned(position: &Position, kind: Kind, from: Square) -> bool
     requires { Stands position.now.board position.now.side kind from }
     ensures { IsFalse result → IsFree position.now kind from }

@@ -25,7 +25,7 @@ pub(crate) struct Source {
 // whose moves are to be tried with all squares to which they may go, any other with his advances.
 #[inline(always)]
 #[tactic(auto, unfolding(crate::specs::inner::Sources::IsSource))]
-fn source_of(
+fn source_of_kind(
     position: &Position,
     board: &Board,
     maybe_pinned: SquareSet,
@@ -62,6 +62,32 @@ fn source_of(
     }
 }
 
+// The man of the side to move, of this colour and kind, on a square, by code of its own for each kind.
+#[inline(always)]
+fn source_of(
+    position: &Position,
+    board: &Board,
+    maybe_pinned: SquareSet,
+    color: Color,
+    kind: Kind,
+    from: Square,
+) -> Source
+    requires same { board.now ≡ position.now.board }
+    requires free { FreeOff position.now maybe_pinned }
+    requires color { color ≡ position.now.side }
+    requires stands { Stands position.now.board position.now.side kind from }
+    ensures { IsSource position.now from result }
+{
+    match kind {
+        Kind::Pawn => source_of_kind(position, board, maybe_pinned, color, Kind::Pawn, from),
+        Kind::Knight => source_of_kind(position, board, maybe_pinned, color, Kind::Knight, from),
+        Kind::Bishop => source_of_kind(position, board, maybe_pinned, color, Kind::Bishop, from),
+        Kind::Rook => source_of_kind(position, board, maybe_pinned, color, Kind::Rook, from),
+        Kind::Queen => source_of_kind(position, board, maybe_pinned, color, Kind::Queen, from),
+        Kind::King => source_of_kind(position, board, maybe_pinned, color, Kind::King, from),
+    }
+}
+
 // The man of the side to move on a square.
 #[inline(always)]
 #[tactic(auto, using(crate::proofs::SearchLemmas::stands_own, crate::proofs::SearchLemmas::color_own))]
@@ -95,7 +121,7 @@ fn source_of_pawn(
     requires stands { Stands position.now.board position.now.side Kind.Pawn from }
     ensures { IsSource position.now from result }
 {
-    source_of(
+    source_of_kind(
         position,
         board,
         maybe_pinned,

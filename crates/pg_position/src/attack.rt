@@ -12,6 +12,7 @@ use crate::masks::{diagonal_lines, king_mask, knight_mask, pawn_mask, ray, strai
 use pg_board::{Board, Color, Kind, Man, Square, SquareSet};
 
 // The first square in a direction with a man; none where the ray is empty up to the edge.
+#[inline(always)]
 pub(crate) fn blocker(board: &Board, direction: Direction, square: Square) -> Option<Square>
     ensures { MatchOption result ((t : ℕ) → t < 64 → OnRay direction square t → get board.now t ≡ None)
         (λ x. IsBlocked board.now direction square x) }
@@ -24,12 +25,14 @@ pub(crate) fn blocker(board: &Board, direction: Direction, square: Square) -> Op
     }
 }
 
+#[inline(always)]
 fn knight_attacks(board: &Board, square: Square, by: Color) -> bool
     ensures { IsTrue result ↔ AttackedBy board.now (man by Kind.Knight) square }
 {
     knight_mask(square).meets(board.squares_of(Man::new(by, Kind::Knight)))
 }
 
+#[inline(always)]
 fn king_attacks(board: &Board, square: Square, by: Color) -> bool
     ensures { IsTrue result ↔ AttackedBy board.now (man by Kind.King) square }
 {
@@ -38,6 +41,7 @@ fn king_attacks(board: &Board, square: Square, by: Color) -> bool
 
 // Whether a pawn of the colour attacks the square: it does from where a pawn of the other colour on
 // the square would attack.
+#[inline(always)]
 pub(crate) fn pawn_attacks(board: &Board, square: Square, by: Color) -> bool
     ensures { IsTrue result ↔ AttackedBy board.now (man by Kind.Pawn) square }
 {
@@ -45,6 +49,7 @@ pub(crate) fn pawn_attacks(board: &Board, square: Square, by: Color) -> bool
 }
 
 // Whether a man that stands in this direction attacks the square along it.
+#[inline(always)]
 fn attacked_along(board: &Board, direction: Direction, square: Square, by: Color) -> bool
     ensures { IsTrue result ↔ AttackedAlong board.now by direction square }
 {
@@ -60,6 +65,7 @@ fn attacked_along(board: &Board, direction: Direction, square: Square, by: Color
 }
 
 // Whether a man of one step attacks the square.
+#[inline(always)]
 fn attacked_by_step(board: &Board, square: Square, by: Color) -> bool
     ensures { IsTrue result ↔ ByStep board.now by square }
 {
@@ -69,6 +75,7 @@ fn attacked_by_step(board: &Board, square: Square, by: Color) -> bool
 }
 
 // The men of the colour that are of the kind or queens.
+#[inline(always)]
 fn sliders(board: &Board, by: Color, kind: Kind) -> SquareSet
     ensures { IsSetOf result (λ q. (get board.now q ≡ Some (man by kind))
         ⊎ (get board.now q ≡ Some (man by Kind.Queen))) }
@@ -77,6 +84,7 @@ fn sliders(board: &Board, by: Color, kind: Kind) -> SquareSet
 }
 
 // Whether a rook or a queen attacks the square along a file or a rank.
+#[inline(always)]
 fn attacked_straight(board: &Board, square: Square, by: Color) -> bool
     ensures { IsTrue result ↔ Straight board.now by square }
 {
@@ -90,6 +98,7 @@ fn attacked_straight(board: &Board, square: Square, by: Color) -> bool
 }
 
 // Whether a bishop or a queen attacks the square along a diagonal.
+#[inline(always)]
 fn attacked_diagonal(board: &Board, square: Square, by: Color) -> bool
     ensures { IsTrue result ↔ Diagonal board.now by square }
 {
@@ -102,6 +111,7 @@ fn attacked_diagonal(board: &Board, square: Square, by: Color) -> bool
         || attacked_along(board, Direction::NorthWest, square, by)
 }
 
+#[inline(always)]
 fn attacked_by_any(board: &Board, square: Square, by: Color) -> bool
     ensures { IsTrue result ↔ (ByStep board.now by square ⊎ Straight board.now by square
         ⊎ Diagonal board.now by square) }
@@ -114,6 +124,7 @@ fn attacked_by_any(board: &Board, square: Square, by: Color) -> bool
 /// Whether a man of the colour `by` attacks the square: it could capture there by its pattern. One
 /// that may not move there, because its own king would then be attacked, attacks it too
 /// (FIDE articles 3.1.2 and 3.1.3).
+#[inline(always)]
 pub fn attacked(board: &Board, square: Square, by: Color) -> bool
     ensures { IsTrue result ↔ Attacks board.now by square }
 {

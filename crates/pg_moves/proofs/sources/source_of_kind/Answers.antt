@@ -1,6 +1,6 @@
 use Rattle.pg_moves.specs.inner.Sources.{IsSource}
 use Rattle.pg_moves.proofs.LeafLemmas.{exact_free}
-use Rattle.pg_moves.proofs.sources.source_of.Goals as goal
+use Rattle.pg_moves.proofs.sources.source_of_kind.Goals as goal
 
 pub returns-else-must_try : goal.returns-else-must_try
 unfolding IsSource
