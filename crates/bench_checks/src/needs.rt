@@ -4,7 +4,7 @@ use pg_board::Color;
 use pg_fen::Diagram;
 use pg_moves::legal_moves;
 use pg_position::Position;
-use pg_prices::{Costs, MOST, Rows, assign, first_needs, pawn_lists, travel_lists};
+use pg_prices::{Costs, MOST_MEN, Rows, assign, first_needs, pawn_lists, travel_lists};
 use std::alloc::{AllocError, Global};
 
 fn next(state: u64) -> u64 {
@@ -16,10 +16,10 @@ fn next(state: u64) -> u64 {
 // Fills the costs: 2 of 5 are none, the others 0 to 5, and most men stand where one is to stand.
 fn fill(costs: &mut Costs, state: u64) -> u64 {
     let mut state = state;
-    for t in 0..MOST {
+    for t in 0..MOST_MEN {
         state = next(state);
         let mut bits = state >> 4;
-        for s in 0..MOST {
+        for s in 0..MOST_MEN {
             let code = bits & 15;
             bits >>= 4;
             costs[t][s] = if code < 6 { 200 } else { (code / 2 - 2) as u8 };
@@ -35,13 +35,13 @@ fn fill(costs: &mut Costs, state: u64) -> u64 {
 // The sum of the least assignments of so many random matrices of 16 targets and 16 sources, with costs as men have them or
 // none; where nothing is assigned, what making them costs.
 pub(crate) fn assignments(count: u64, is_assigned: bool) -> u64 {
-    let mut costs = [[200u8; MOST]; MOST];
+    let mut costs = [[200u8; MOST_MEN]; MOST_MEN];
     let mut state = 0x9e37_79b9_7f4a_7c15;
     let mut sum = 0u64;
     for _ in 0..count {
         state = fill(&mut costs, state);
         if is_assigned {
-            sum = sum.saturating_add(u64::from(assign(&costs, MOST, 65).value));
+            sum = sum.saturating_add(u64::from(assign(&costs, MOST_MEN, 65).value));
         } else {
             sum = sum.saturating_add(u64::from(costs[3][5]));
         }

@@ -25,7 +25,7 @@ use Rattle.pg_board.proofs.SetLemmas.{set_of_rest, set_none}
 use Rattle.pg_moves.specs.inner.Places.{place_of, NoneFrom, IsCountBelow, Adds}
 use Rattle.pg_moves.specs.Counts.{IsGameCount}
 use Rattle.pg_moves.specs.Targets.{IsOwn, Advances, Strides, Leaps, CapturesEnPassant, FreeOff}
-use Rattle.pg_moves.specs.declared.pawns.PawnWays.{PawnWays}
+use Rattle.pg_moves.specs.declared.pawns.PawnMoves.{PawnMoves}
 use Rattle.pg_moves.specs.inner.Pawns.{forward, IsInside, AreWays, IsQuiet, to_west, to_east, moves_from}
 use Rattle.pg_moves.proofs.ShiftLemmas.{itself, total_add}
 use Rattle.pg_moves.proofs.TargetLemmas.{own_set}
@@ -193,7 +193,7 @@ apart : (c : Color) (q : ℕ) → q < 64 → IsInside c 16 q → AreApart (forwa
 apart White q l h = record { on = (omega arith, omega arith, omega arith, omega arith); first = (λ e. omega arith, λ e. omega arith, λ e. omega arith); rest = (λ e. omega arith, λ e. omega arith, λ e. omega arith) }
 apart Black q l h = record { on = (omega arith, omega arith, omega arith, omega arith); first = (λ e. omega arith, λ e. omega arith, λ e. omega arith); rest = (λ e. omega arith, λ e. omega arith, λ e. omega arith) }
 
-module _ (b : Placement) (c : Color) (pawns : ℕ) (w : PawnWays) (is : AreWays b c pawns w) (q : ℕ) (low : q < 64) (mine : has pawns q ≡ true) (inside : IsInside c 16 q) where
+module _ (b : Placement) (c : Color) (pawns : ℕ) (w : PawnMoves) (is : AreWays b c pawns w) (q : ℕ) (low : q < 64) (mine : has pawns q ≡ true) (inside : IsInside c 16 q) where
   abbrev goal_of : ℕ → Type 0
   goal_of s = (((s ≡ forward c 8 q) × (has w.once q ≡ true)) ⊎ ((s ≡ forward c 16 q) × (has w.twice q ≡ true))) ⊎ (((s ≡ forward c (to_west c) q) × (has w.west q ≡ true)) ⊎ ((s ≡ forward c (to_east c) q) × (has w.east q ≡ true)))
 
@@ -236,7 +236,7 @@ module _ (b : Placement) (c : Color) (pawns : ℕ) (w : PawnWays) (is : AreWays 
       ∙ four_counted _ _ _ _ (has w.once q) (has w.twice q) (has w.west q) (has w.east q) z.on.0 z.on.1 z.on.2 z.on.3 z.first.0 z.first.1 z.first.2 z.rest.0 z.rest.1 z.rest.2
       )
 
-pub pawn_adds : (p : State) (b : Placement) (c : Color) (pawns : ℕ) (w : PawnWays) → b ≡ p.board → c ≡ p.side → AreWays b c pawns w → ((q : ℕ) → q < 64 → has pawns q ≡ true → IsQuiet p q) → (q : ℕ) → q < 64 → has pawns q ≡ true → Adds p (place_of q 0 0) (place_of (q + 1) 0 0) (moves_from w q)
+pub pawn_adds : (p : State) (b : Placement) (c : Color) (pawns : ℕ) (w : PawnMoves) → b ≡ p.board → c ≡ p.side → AreWays b c pawns w → ((q : ℕ) → q < 64 → has pawns q ≡ true → IsQuiet p q) → (q : ℕ) → q < 64 → has pawns q ≡ true → Adds p (place_of q 0 0) (place_of (q + 1) 0 0) (moves_from w q)
 pawn_adds p b c pawns w eb ec is quiet q low mine =
     let here : IsQuiet p q = quiet q low mine in
     let ways : AreWays p.board p.side pawns w = subst (λ (x : Placement). AreWays x p.side pawns w) eb (subst (λ (d : Color). AreWays b d pawns w) ec is) in
@@ -246,7 +246,7 @@ false_of : (b : Bool) → ¬ (b ≡ true) → b ≡ false
 false_of true h = absurd (h refl)
 false_of false h = refl
 
-pub no_ways : (b : Placement) (c : Color) (pawns : ℕ) (w : PawnWays) → AreWays b c pawns w → (q : ℕ) → q < 64 → has pawns q ≡ false → moves_from w q ≡ 0
+pub no_ways : (b : Placement) (c : Color) (pawns : ℕ) (w : PawnMoves) → AreWays b c pawns w → (q : ℕ) → q < 64 → has pawns q ≡ false → moves_from w q ≡ 0
 unfolding moves_from
 no_ways b c pawns w is q l off =
     let none : has pawns q ≡ true → ⊥ = (λ e. cc) in
@@ -257,7 +257,7 @@ no_ways b c pawns w is q l off =
     omega (arith, ap one x, ap one y, ap one z, ap one v)
 
 -- ---- the loop over the other men
-module _ (p : State) (own pawns rest : ℕ) (w : PawnWays) (is_own : (q : ℕ) → q < 64 → has own q ≡ is_of p.side (get p.board q)) (others : (q : ℕ) → q < 64 → has rest q ≡ has own q && not (has pawns q)) (adds : (q : ℕ) → q < 64 → has pawns q ≡ true → Adds p (place_of q 0 0) (place_of (q + 1) 0 0) (moves_from w q)) (off : (q : ℕ) → q < 64 → has pawns q ≡ false → moves_from w q ≡ 0) where
+module _ (p : State) (own pawns rest : ℕ) (w : PawnMoves) (is_own : (q : ℕ) → q < 64 → has own q ≡ is_of p.side (get p.board q)) (others : (q : ℕ) → q < 64 → has rest q ≡ has own q && not (has pawns q)) (adds : (q : ℕ) → q < 64 → has pawns q ≡ true → Adds p (place_of q 0 0) (place_of (q + 1) 0 0) (moves_from w q)) (off : (q : ℕ) → q < 64 → has pawns q ≡ false → moves_from w q ≡ 0) where
   at_rest : (q : ℕ) → q < 64 → has rest q ≡ true → (has own q ≡ true) × (has pawns q ≡ false)
   at_rest q l e = out_of rest own pawns q others l e
 

@@ -17,7 +17,7 @@ use Rattle.pg_position.specs.Position.{IsVacant}
 use Rattle.pg_position.specs.Step.{IsEnemy}
 use Rattle.pg_position.specs.Squares.{home_rank}
 use Rattle.pg_board.proofs.SetLemmas.{and_true, set_like, set_of_both, set_of_rest}
-use Rattle.pg_moves.specs.declared.pawns.PawnWays.{PawnWays}
+use Rattle.pg_moves.specs.declared.pawns.PawnMoves.{PawnMoves}
 use Rattle.pg_moves.specs.inner.Pawns.{forward, IsInside, AreInside, moves_from}
 use Rattle.pg_moves.proofs.TargetLemmas.{enemy_set, held_set}
 
@@ -105,7 +105,7 @@ pub total_add : (f g : ℕ → ℕ) (n : ℕ) → total f n + total g n ≡ tota
 total_add f g zero = omega (arith, total-none f, total-none g, total-none (λ q. f q + g q))
 total_add f g (suc n) = let h : total f n + total g n ≡ total (λ q. f q + g q) n = total_add f g n in omega (arith, total-suc f n, total-suc g n, total-suc (λ q. f q + g q) n)
 
-pub ways_counted : (w : PawnWays) (i j m n : ℕ) → i ≡ count_below (has w.once) 64 → j ≡ count_below (has w.twice) 64 → m ≡ count_below (has w.west) 64 → n ≡ count_below (has w.east) 64 → (i + j) + (m + n) ≡ total (moves_from w) 64
+pub ways_counted : (w : PawnMoves) (i j m n : ℕ) → i ≡ count_below (has w.once) 64 → j ≡ count_below (has w.twice) 64 → m ≡ count_below (has w.west) 64 → n ≡ count_below (has w.east) 64 → (i + j) + (m + n) ≡ total (moves_from w) 64
 unfolding moves_from
 ways_counted w i j m n a b c d =
     let f : ℕ → ℕ = λ q. one (has w.once q) in

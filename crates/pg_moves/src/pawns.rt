@@ -18,7 +18,7 @@ use pg_position::{Position, attacks_from};
 // The squares from which pawns go one square forward, go two, capture towards the a-file, and capture
 // towards the h-file.
 #[derive(Clone, Copy)]
-pub(crate) struct PawnWays {
+pub(crate) struct PawnMoves {
     pub(crate) once: SquareSet,
     pub(crate) twice: SquareSet,
     pub(crate) west: SquareSet,
@@ -118,12 +118,12 @@ fn to_east(color: Color) -> u8
 }
 
 // The ways of the pawns on these squares.
-pub(crate) fn pawn_ways(board: &Board, color: Color, pawns: SquareSet) -> PawnWays
+pub(crate) fn pawn_ways(board: &Board, color: Color, pawns: SquareSet) -> PawnMoves
     requires { AreInside color pawns }
     ensures { AreWays board.now color pawns result }
 {
     let once = going_once(board, color, pawns);
-    PawnWays {
+    PawnMoves {
         once,
         twice: going_twice(board, color, once),
         west: capturing(board, color, pawns & off_a_file(), to_west(color)),
@@ -131,7 +131,7 @@ pub(crate) fn pawn_ways(board: &Board, color: Color, pawns: SquareSet) -> PawnWa
     }
 }
 
-impl PawnWays {
+impl PawnMoves {
     // How many there are.
     pub(crate) fn count(&self) -> u64
         ensures count { result ≡ total (moves_from self.now) 64 }

@@ -1,6 +1,6 @@
 //! The least distances of a colour's men to the targets, kept so that one man can be counted on another square.
 
-use crate::assignment::MOST;
+use crate::assignment::MOST_MEN;
 use crate::rows::{KINDS, Rows};
 use pg_board::{Board, Color, Kind, Man, Square, SquareSet};
 use pg_position::{Rights, Wing, king_home, rook_home};
@@ -8,14 +8,14 @@ use pg_position::{Rights, Wing, king_home, rook_home};
 // For each target the least distance of a man to it, and the least one of the others.
 #[derive(Clone, Copy)]
 struct Two {
-    first: [u8; MOST],
-    second: [u8; MOST],
+    first: [u8; MOST_MEN],
+    second: [u8; MOST_MEN],
 }
 
 // With a man more that has these distances.
-fn entered(two: Two, row: [u8; MOST]) -> Two {
+fn entered(two: Two, row: [u8; MOST_MEN]) -> Two {
     let mut two = two;
-    for t in 0..MOST {
+    for t in 0..MOST_MEN {
         let behind = two.first[t].max(row[t]);
         two.second[t] = two.second[t].min(behind);
         two.first[t] = two.first[t].min(row[t]);
@@ -24,9 +24,9 @@ fn entered(two: Two, row: [u8; MOST]) -> Two {
 }
 
 // The least distances without the man that has these.
-fn without(two: &Two, row: [u8; MOST]) -> [u8; MOST] {
-    let mut least = [0; MOST];
-    for t in 0..MOST {
+fn without(two: &Two, row: [u8; MOST_MEN]) -> [u8; MOST_MEN] {
+    let mut least = [0; MOST_MEN];
+    for t in 0..MOST_MEN {
         least[t] = if row[t] == two.first[t] {
             two.second[t]
         } else {
@@ -37,9 +37,9 @@ fn without(two: &Two, row: [u8; MOST]) -> [u8; MOST] {
 }
 
 // The sum of the lesser of two distances to each target.
-fn sum_of_least(a: &[u8; MOST], b: [u8; MOST]) -> u16 {
+fn sum_of_least(a: &[u8; MOST_MEN], b: [u8; MOST_MEN]) -> u16 {
     let mut sum = 0u16;
-    for t in 0..MOST {
+    for t in 0..MOST_MEN {
         sum = sum.wrapping_add(u16::from(a[t].min(b[t])));
     }
     sum
@@ -138,13 +138,17 @@ pub struct Leasts {
 /// The least distances of all men of a colour but one to the targets, for each way that is left when that one moves.
 #[derive(Clone, Copy)]
 pub struct Rest {
-    free: [u8; MOST],
-    king_side: Option<[u8; MOST]>,
-    queen_side: Option<[u8; MOST]>,
+    free: [u8; MOST_MEN],
+    king_side: Option<[u8; MOST_MEN]>,
+    queen_side: Option<[u8; MOST_MEN]>,
 }
 
 // A way with castling without a man on a square who has these distances; none where he is needed for it.
-fn castled_without(way: &Option<Castled>, square: Square, row: [u8; MOST]) -> Option<[u8; MOST]> {
+fn castled_without(
+    way: &Option<Castled>,
+    square: Square,
+    row: [u8; MOST_MEN],
+) -> Option<[u8; MOST_MEN]> {
     match way {
         Some(castled) if !castled.homes.contains(square) => Some(without(&castled.least, row)),
         _ => None,
@@ -156,8 +160,8 @@ impl Leasts {
     pub fn none() -> Leasts {
         Leasts {
             free: Two {
-                first: [0; MOST],
-                second: [0; MOST],
+                first: [0; MOST_MEN],
+                second: [0; MOST_MEN],
             },
             king_side: None,
             queen_side: None,
@@ -191,14 +195,14 @@ impl Rest {
     /// No man and no target.
     pub fn none() -> Rest {
         Rest {
-            free: [0; MOST],
+            free: [0; MOST_MEN],
             king_side: None,
             queen_side: None,
         }
     }
 
     /// The need of travel where the man that was left out has these distances, at most 250.
-    pub fn need(&self, row: [u8; MOST]) -> u8 {
+    pub fn need(&self, row: [u8; MOST_MEN]) -> u8 {
         let mut need = sum_of_least(&self.free, row);
         if let Some(least) = &self.king_side {
             need = need.min(sum_of_least(least, row).saturating_add(1));

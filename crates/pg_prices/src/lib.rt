@@ -12,14 +12,14 @@ mod memory;
 mod needs;
 mod rows;
 
-pub use assignment::{Assignment, Costs, MOST, assign, least_costs};
+pub use assignment::{Assignment, Costs, MOST_MEN, assign, least_costs};
 pub use closed::Closed;
 pub use keys::{color_key, man_key, node_key, pawn_key, right_key};
 pub use leasts::{Leasts, Rest};
 pub use lists::{Lists, prices_of};
 pub use memory::Memory;
 pub use needs::{
-    NEVER, Needs, PAWN_DUMMY, TRAVEL_DUMMY, UNKNOWN, first_needs, need, pawn_lists, travel_lists,
-    travel_value,
+    NEVER, Needs, PAWN_DUMMY, TRAVEL_DUMMY, UNKNOWN, first_needs, need_by_rows, pawn_lists,
+    travel_lists, travel_value,
 };
 pub use rows::{Rows, UNREACHABLE};

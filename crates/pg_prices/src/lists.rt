@@ -1,6 +1,6 @@
 //! Price lists of one colour as bytes.
 
-use crate::assignment::{Assignment, MOST};
+use crate::assignment::{Assignment, MOST_MEN};
 use pg_travel::Prices;
 
 /// How many bytes there are at most: three numbers, and three lists of 16 sources and 16 targets.
@@ -18,8 +18,8 @@ impl Lists {
     /// No list, for so many sources and targets, at most 16 each.
     pub fn new(sources: usize, targets: usize) -> Lists {
         let mut bytes = [0; MOST_BYTES];
-        bytes[1] = sources.min(MOST) as u8;
-        bytes[2] = targets.min(MOST) as u8;
+        bytes[1] = sources.min(MOST_MEN) as u8;
+        bytes[2] = targets.min(MOST_MEN) as u8;
         Lists { bytes, end: 3 }
     }
 
@@ -32,9 +32,9 @@ impl Lists {
     }
 
     // Adds the first so many numbers of a row.
-    fn add_row(&mut self, row: &[u8; MOST], count: u8) {
+    fn add_row(&mut self, row: &[u8; MOST_MEN], count: u8) {
         let end = self.end;
-        for i in 0..MOST {
+        for i in 0..MOST_MEN {
             if i < usize::from(count) {
                 self.put(end.saturating_add(i), row[i]);
             }

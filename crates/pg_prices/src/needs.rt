@@ -1,7 +1,7 @@
 //! What the men of one colour of a position need to come onto the squares of a diagram: the need of
 //! travel and its price, pawns to promote, changes of file and their price.
 
-use crate::assignment::{Costs, MOST, assign, least_costs};
+use crate::assignment::{Costs, MOST_MEN, assign, least_costs};
 use crate::lists::Lists;
 use crate::rows::Rows;
 use pg_board::{Board, Color, Kind, Man};
@@ -38,9 +38,9 @@ pub struct Needs {
 }
 
 // The numbers of the first targets, added up, at most 250.
-fn least_sum(least: &[u8; MOST], targets: usize) -> u8 {
+fn least_sum(least: &[u8; MOST_MEN], targets: usize) -> u8 {
     let mut sum = 0u8;
-    for t in 0..MOST {
+    for t in 0..MOST_MEN {
         if t < targets {
             sum = sum.saturating_add(least[t]);
         }
@@ -71,7 +71,7 @@ fn allows(rows: &Rows, rights: Rights, way: Option<Wing>) -> bool {
 }
 
 /// The need of travel, the least number of plies by distances over the ways: 200 and more for none.
-pub fn need(rows: &Rows, position: &Position) -> u8 {
+pub fn need_by_rows(rows: &Rows, position: &Position) -> u8 {
     let board = position.board();
     let mut least = u8::MAX;
     for way in WAYS {
@@ -148,7 +148,7 @@ pub fn first_needs(rows: &Rows, diagram: &Diagram, position: &Position) -> Needs
     if is_short(&diagram.board(), &position.board(), rows.color()) {
         return needs;
     }
-    needs.need = need(rows, position);
+    needs.need = need_by_rows(rows, position);
     needs.shift = small(shift_need(rows.color(), diagram, position));
     needs
 }

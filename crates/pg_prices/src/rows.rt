@@ -2,7 +2,7 @@
 //! matrices of costs of a board that are made of them.
 ghost use Rattle.std.specs.Prelude.{◌≤◌};
 
-use crate::assignment::{Costs, MOST};
+use crate::assignment::{Costs, MOST_MEN};
 use pg_board::{Board, Color, Kind, Man, Square, SquareSet};
 use pg_fen::Diagram;
 use pg_position::{Wing, king_crossed, king_home, king_target, last_rank, rook_home};
@@ -33,8 +33,8 @@ pub struct Rows {
     color: Color,
     targets: usize,
     pawn_targets: usize,
-    travel: Vec<[u8; MOST]>,
-    pawns: Vec<[u8; MOST]>,
+    travel: Vec<[u8; MOST_MEN]>,
+    pawns: Vec<[u8; MOST_MEN]>,
     short_may_pay: bool,
     long_may_pay: bool,
 }
@@ -43,22 +43,22 @@ pub struct Rows {
 #[derive(Clone, Copy)]
 struct Targets {
     count: usize,
-    squares: [u8; MOST],
-    kinds: [Kind; MOST],
+    squares: [u8; MOST_MEN],
+    kinds: [Kind; MOST_MEN],
 }
 
 // The men of a diagram that a test on kinds lets through, from the first square on.
 fn targets_of(board: &Board, color: Color, only_pawns: bool) -> Targets {
     let mut targets = Targets {
         count: 0,
-        squares: [0; MOST],
-        kinds: [Kind::Pawn; MOST],
+        squares: [0; MOST_MEN],
+        kinds: [Kind::Pawn; MOST_MEN],
     };
     let mut count = 0usize;
     for q in 0..64u8 {
         if let Some(man) = board.get(Square::at(q)) {
             let is_meant = man.color == color && (man.kind == Kind::Pawn || !only_pawns);
-            if is_meant && count < MOST {
+            if is_meant && count < MOST_MEN {
                 targets.squares[count] = q;
                 targets.kinds[count] = man.kind;
                 count += 1;
@@ -76,13 +76,13 @@ fn is_last_rank(square: Square) -> bool {
 }
 
 // The distances of a man to the targets. No pawn stands on a last rank.
-fn travel_row(man: Man, from: Square, targets: &Targets) -> [u8; MOST] {
-    let mut row = [UNREACHABLE; MOST];
+fn travel_row(man: Man, from: Square, targets: &Targets) -> [u8; MOST_MEN] {
+    let mut row = [UNREACHABLE; MOST_MEN];
     let is_pawn = man.kind == Kind::Pawn;
     if is_pawn && is_last_rank(from) {
         return row;
     }
-    for t in 0..MOST {
+    for t in 0..MOST_MEN {
         if t < targets.count && (is_pawn || man.kind == targets.kinds[t]) {
             let to = Square::at(targets.squares[t] % 64);
             if let Some(steps) = distance(man, from, targets.kinds[t], to) {
@@ -110,9 +110,9 @@ fn pawn_cost(color: Color, from: u8, to: u8) -> u8 {
 }
 
 // How many files a pawn has to change to the targets, which are pawns.
-fn pawn_row(color: Color, from: u8, targets: &Targets) -> [u8; MOST] {
-    let mut row = [UNREACHABLE; MOST];
-    for t in 0..MOST {
+fn pawn_row(color: Color, from: u8, targets: &Targets) -> [u8; MOST_MEN] {
+    let mut row = [UNREACHABLE; MOST_MEN];
+    for t in 0..MOST_MEN {
         if t < targets.count {
             row[t] = pawn_cost(color, from, targets.squares[t]);
         }
@@ -133,22 +133,22 @@ fn place(kind: Kind, square: u8) -> usize {
 }
 
 // The row at a place, or one of squares that cannot be got to.
-fn row_at(rows: &Vec<[u8; MOST]>, place: usize) -> [u8; MOST] {
+fn row_at(rows: &Vec<[u8; MOST_MEN]>, place: usize) -> [u8; MOST_MEN] {
     match rows.get(place) {
         Some(row) => *row,
-        None => [UNREACHABLE; MOST],
+        None => [UNREACHABLE; MOST_MEN],
     }
 }
 
 // The row of a square, behind the first of its kind.
-fn row_of(rows: &Vec<[u8; MOST]>, first: usize, square: Square) -> [u8; MOST] {
+fn row_of(rows: &Vec<[u8; MOST_MEN]>, first: usize, square: Square) -> [u8; MOST_MEN] {
     row_at(rows, first.saturating_add(usize::from(square.index())))
 }
 
 // Writes the costs of a source.
-fn put_source(costs: &mut Costs, source: usize, row: &[u8; MOST]) {
-    let source = source % MOST;
-    for t in 0..MOST {
+fn put_source(costs: &mut Costs, source: usize, row: &[u8; MOST_MEN]) {
+    let source = source % MOST_MEN;
+    for t in 0..MOST_MEN {
         costs[t][source] = row[t];
     }
 }
@@ -162,13 +162,13 @@ fn number_of(set: SquareSet, square: u8) -> usize {
 // Writes the costs of these men of a board, each as the source with its number among all.
 fn put_men(
     costs: &mut Costs,
-    rows: &Vec<[u8; MOST]>,
+    rows: &Vec<[u8; MOST_MEN]>,
     first: usize,
     men: SquareSet,
     all: SquareSet,
 ) {
     let mut men = men;
-    for _ in 0..MOST {
+    for _ in 0..MOST_MEN {
         let Some(square) = men.pop_first() else {
             return;
         };
@@ -179,16 +179,16 @@ fn put_men(
 }
 
 // Lowers numbers to those of a row.
-fn lower(least: &mut [u8; MOST], row: &[u8; MOST]) {
-    for t in 0..MOST {
+fn lower(least: &mut [u8; MOST_MEN], row: &[u8; MOST_MEN]) {
+    for t in 0..MOST_MEN {
         least[t] = least[t].min(row[t]);
     }
 }
 
 // Lowers numbers to the costs of these men of a board.
-fn lower_to(least: &mut [u8; MOST], rows: &Vec<[u8; MOST]>, first: usize, men: SquareSet) {
+fn lower_to(least: &mut [u8; MOST_MEN], rows: &Vec<[u8; MOST_MEN]>, first: usize, men: SquareSet) {
     let mut men = men;
-    for _ in 0..MOST {
+    for _ in 0..MOST_MEN {
         let Some(square) = men.pop_first() else {
             return;
         };
@@ -208,13 +208,13 @@ fn castled(color: Color, wing: Wing) -> ((u8, u8), (u8, u8)) {
 
 // Whether king or rook, when they have castled, is nearer to a target than both are at home. Else no need of travel is less
 // with the castling than without.
-fn may_pay(rows: &Vec<[u8; MOST]>, color: Color, wing: Wing) -> bool {
+fn may_pay(rows: &Vec<[u8; MOST_MEN]>, color: Color, wing: Wing) -> bool {
     let ((king, king_to), (rook, rook_to)) = castled(color, wing);
     let mut home = row_at(rows, place(Kind::King, king));
     lower(&mut home, &row_at(rows, place(Kind::Rook, rook)));
     let mut castled = row_at(rows, place(Kind::King, king_to));
     lower(&mut castled, &row_at(rows, place(Kind::Rook, rook_to)));
-    for t in 0..MOST {
+    for t in 0..MOST_MEN {
         if castled[t] < home[t] {
             return true;
         }
@@ -270,12 +270,12 @@ impl Rows {
     }
 
     /// The distances of a man of the colour on a square to the targets.
-    pub fn distances(&self, kind: Kind, square: Square) -> [u8; MOST] {
+    pub fn distances(&self, kind: Kind, square: Square) -> [u8; MOST_MEN] {
         row_of(&self.travel, first(kind), square)
     }
 
     // The distances of a king and a rook where they castle to.
-    pub(crate) fn castled_distances(&self, wing: Wing) -> ([u8; MOST], [u8; MOST]) {
+    pub(crate) fn castled_distances(&self, wing: Wing) -> ([u8; MOST_MEN], [u8; MOST_MEN]) {
         let ((_, king), (_, rook)) = castled(self.color, wing);
         (
             row_at(&self.travel, place(Kind::King, king)),
@@ -292,9 +292,9 @@ impl Rows {
     }
 
     // The least distances where there is no man: no target is reached.
-    pub(crate) fn without_men(&self) -> [u8; MOST] {
-        let mut least = [0; MOST];
-        for t in 0..MOST {
+    pub(crate) fn without_men(&self) -> [u8; MOST_MEN] {
+        let mut least = [0; MOST_MEN];
+        for t in 0..MOST_MEN {
             if t < self.targets {
                 least[t] = UNREACHABLE;
             }
@@ -304,7 +304,7 @@ impl Rows {
 
     /// The distances of the colour's men on a board, in the order of their squares, to the targets.
     pub fn travel(&self, board: &Board) -> Costs {
-        let mut costs = [[UNREACHABLE; MOST]; MOST];
+        let mut costs = [[UNREACHABLE; MOST_MEN]; MOST_MEN];
         let all = board.squares_of_color(self.color);
         for kind in KINDS {
             let men = board.squares_of(Man::new(self.color, kind));
@@ -326,8 +326,8 @@ impl Rows {
 
     /// The least distance of any of the colour's men on a board to each target, with king and rook
     /// counted on the squares that they castle to where there is a castling.
-    pub fn least(&self, board: &Board, way: Option<Wing>) -> [u8; MOST] {
-        let mut least = [UNREACHABLE; MOST];
+    pub fn least(&self, board: &Board, way: Option<Wing>) -> [u8; MOST_MEN] {
+        let mut least = [UNREACHABLE; MOST_MEN];
         let mut there = SquareSet::full();
         if let Some(wing) = way {
             let ((king, king_to), (rook, rook_to)) = castled(self.color, wing);
@@ -351,7 +351,7 @@ impl Rows {
     /// How many files the colour's pawns on a board, in the order of their squares, have to change to
     /// the targets that are pawns.
     pub fn pawns(&self, board: &Board) -> Costs {
-        let mut costs = [[UNREACHABLE; MOST]; MOST];
+        let mut costs = [[UNREACHABLE; MOST_MEN]; MOST_MEN];
         let men = board.squares_of(Man::new(self.color, Kind::Pawn));
         put_men(&mut costs, &self.pawns, 0, men, men);
         costs

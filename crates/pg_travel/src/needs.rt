@@ -20,6 +20,7 @@ use pg_captures::plies_left;
 use pg_fen::Diagram;
 use pg_position::{Position, Wing};
 
+// Whether two colours are one. A call, since `==` would stand in the goals of what follows.
 pub(crate) fn same_side(a: Color, b: Color) -> bool
     ensures { result ≡ color_eq a b }
 {
@@ -114,13 +115,13 @@ fn beyond_sure(sure: SquareSet, t: Square, n: u8) -> u8
 }
 
 // No way costs more: its charge is 1 at most, and a man on each square 63 at most.
-const MOST: u16 = 1 + 64 * 63;
+const MOST_VALUE: u16 = 1 + 64 * 63;
 
 // The charge of a way and what all men of the diagram cost; none where one has no man to come.
 fn total(board: &Board, goal: &Board, color: Color, way: Option<Wing>) -> Option<u16>
     ensures { SumIs board.now goal.now color way result }
 {
-    total_within(board, goal, color, way, MOST)
+    total_within(board, goal, color, way, MOST_VALUE)
 }
 
 // The charge of a way and what all men of the diagram cost; none where that is above the limit, or

@@ -149,7 +149,7 @@ fn stood_fits(
     }
 }
 
-// The same, with the least that any of the colour's men pays.
+// The same. A target that pays no more than the least source does fits at once.
 fn target_fits(
     board: &Board,
     goal: &Board,

@@ -13,7 +13,7 @@ use Rattle.pg_board.specs.SquareSets.{IsSetOf}
 use Rattle.pg_position.specs.Step.{IsEnemy}
 use Rattle.pg_position.specs.Squares.{home_rank}
 use Rattle.pg_moves.specs.Targets.{IsFree, IsOrdinary}
-use Rattle.pg_moves.specs.declared.pawns.PawnWays.{PawnWays}
+use Rattle.pg_moves.specs.declared.pawns.PawnMoves.{PawnMoves}
 
 -- how far the index of a square grows from one rank to the next, and over two
 abbrev pub one_rank : ℕ
@@ -53,12 +53,12 @@ abbrev pub AreInside : Color → ℕ → Type 0
 AreInside c pawns = (q : ℕ) → q < 64 → has pawns q ≡ true → IsInside c two_ranks q
 
 -- from which squares of the set a pawn goes one square forward, goes two, captures towards the a-file, captures towards the h-file
-pub record AreWays (b : Placement) (c : Color) (pawns : ℕ) (w : PawnWays) : Type 0 where
+pub record AreWays (b : Placement) (c : Color) (pawns : ℕ) (w : PawnMoves) : Type 0 where
   pub once : IsSetOf w.once (λ q. (has pawns q ≡ true) × IsVacant b (forward c one_rank q))
   pub twice : IsSetOf w.twice (λ q. (has pawns q ≡ true) × IsVacant b (forward c one_rank q) × (rank q ≡ home_rank c) × IsVacant b (forward c two_ranks q))
   pub west : IsSetOf w.west (λ q. (has pawns q ≡ true) × (file q ≢ 1) × IsEnemy b c (forward c (to_west c) q))
   pub east : IsSetOf w.east (λ q. (has pawns q ≡ true) × (file q ≢ 8) × IsEnemy b c (forward c (to_east c) q))
 
 -- how many of the moves go from q
-unfoldable pub moves_from : PawnWays → ℕ → ℕ
+unfoldable pub moves_from : PawnMoves → ℕ → ℕ
 moves_from w q = (one (has w.once q) + one (has w.twice q)) + (one (has w.west q) + one (has w.east q))

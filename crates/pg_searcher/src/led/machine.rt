@@ -32,7 +32,7 @@ impl Question<'_> {
 
 // Which moves of a node come next: the one that leads, those that are familiar, or the foreign ones.
 #[derive(Clone, Copy, Debug, PartialEq, Eq)]
-pub(crate) enum Pass {
+pub(crate) enum Phase {
     Lead,
     Familiar,
     Foreign,
@@ -45,7 +45,7 @@ pub(crate) enum Pass {
 #[derive(Drop)]
 pub(crate) struct Open {
     pub(crate) moves: LegalMoves,
-    pub(crate) pass: Pass,
+    pub(crate) phase: Phase,
     pub(crate) lead: Option<Move>,
     pub(crate) played: Option<Move>,
     pub(crate) sides: Sides,
@@ -60,7 +60,7 @@ impl Open {
     pub(crate) fn new(position: &Position, sides: &Sides, key: u64, foreign: u8) -> Open {
         Open {
             moves: LegalMoves::new(position),
-            pass: Pass::Lead,
+            phase: Phase::Lead,
             lead: None,
             played: None,
             sides: *sides,

@@ -3,7 +3,7 @@ ghost use Rattle.std.specs.Prelude.{◌≡◌, IfSome};
 ghost use Rattle.pg_position.specs.Step.{IsLegal};
 
 use crate::led::familiar::Familiar;
-use crate::led::machine::{Open, Pass, Question};
+use crate::led::machine::{Open, Phase, Question};
 use pg_board::Board;
 use pg_moves::LegalMoves;
 use pg_position::{Move, Position};
@@ -28,10 +28,7 @@ fn lead_of(question: &Question, position: &Position, ply: usize) -> Option<Move>
     {
         return None;
     }
-    match position.play(m) {
-        Ok(_) => Some(m),
-        Err(_) => None,
-    }
+    if position.is_legal(&m) { Some(m) } else { None }
 }
 
 // The next move that is familiar, or that is not, and is not this one.
@@ -70,9 +67,9 @@ pub(crate) fn next_due(
     ensures legal { IfSome result (λ due. IsLegal position.now due.m) }
     ensures same { top.new.moves.position ≡ position.now }
 {
-    if top.pass == Pass::Lead {
+    if top.phase == Phase::Lead {
         let lead = lead_of(question, position, ply);
-        top.pass = Pass::Familiar;
+        top.phase = Phase::Familiar;
         if let Some(m) = &lead {
             top.lead = Some(*m);
             return Some(Due {
@@ -81,7 +78,7 @@ pub(crate) fn next_due(
             });
         }
     }
-    if top.pass == Pass::Familiar {
+    if top.phase == Phase::Familiar {
         let lead = top.lead;
         if let Some(m) = next_of(question.familiar, &mut top.moves, position, true, &lead) {
             return Some(Due {
@@ -89,7 +86,7 @@ pub(crate) fn next_due(
                 is_foreign: false,
             });
         }
-        top.pass = Pass::Foreign;
+        top.phase = Phase::Foreign;
         top.moves = LegalMoves::new(position);
     }
     if top.refused && top.foreign == 0 {

@@ -21,9 +21,9 @@ impl Numbers {
 
 // Costs of so many targets and sources, from 0 to 10 or none; the others are none.
 fn random_costs(numbers: &mut Numbers, targets: usize, sources: usize, most: u64) -> Costs {
-    let mut costs = [[255u8; MOST]; MOST];
-    for t in 0..MOST {
-        for s in 0..MOST {
+    let mut costs = [[255u8; MOST_MEN]; MOST_MEN];
+    for t in 0..MOST_MEN {
+        for s in 0..MOST_MEN {
             if t < targets && s < sources && numbers.below(5) != 0 {
                 costs[t][s] = (numbers.below(most) % 256) as u8;
             }
@@ -39,11 +39,11 @@ fn sum_of(costs: &Costs, targets: usize, sources: usize, dummy: u8, number: u32)
     let mut number = number as usize;
     let mut used = 0u32;
     let mut sum = 0u16;
-    for t in 0..MOST {
+    for t in 0..MOST_MEN {
         if t < targets {
             let s = number % base;
             number /= base;
-            if s < sources && s < MOST {
+            if s < sources && s < MOST_MEN {
                 if used >> s & 1 == 1 {
                     return None;
                 }
@@ -77,14 +77,14 @@ fn least_sum(costs: &Costs, targets: usize, sources: usize, dummy: u8) -> u16 {
 fn is_priced(costs: &Costs, targets: usize, dummy: u8, answer: &Assignment) -> bool {
     let mut gained = 0u16;
     let mut spent = 0u16;
-    for t in 0..MOST {
+    for t in 0..MOST_MEN {
         let price = answer.targets[t];
         gained = gained.saturating_add(u16::from(price));
         spent = spent.saturating_add(u16::from(answer.sources[t]));
         if price > dummy || answer.sources[t] > dummy || (t >= targets && price > 0) {
             return false;
         }
-        for s in 0..MOST {
+        for s in 0..MOST_MEN {
             if price > costs[t][s].saturating_add(answer.sources[s]) {
                 return false;
             }

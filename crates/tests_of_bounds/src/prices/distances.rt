@@ -86,7 +86,7 @@ fn rows_agree(rows: &Rows, diagram: &Diagram, position: &Position) -> bool {
         None => 200,
     };
     let shift = shift_need(color, diagram, position).min(250) as u8;
-    let need = need(rows, position);
+    let need = need_by_rows(rows, position);
     let needs = first_needs(rows, diagram, position);
     (need == least || (need >= 200 && least >= 200))
         && (needs.need == NEVER || (needs.need == need && needs.shift == shift))
@@ -121,7 +121,7 @@ fn a_board_is_priced(rt: HostRuntime) {
     let rows = Rows::new(rt.alloc(), Color::White, &diagram).expect(&rt, "memory");
     let array = Position::array();
     assert!(rt; rows.targets() == 16 && rows.pawn_targets() == 8);
-    assert!(rt; need(&rows, &array) == 2 && travel_lists(&rows, &array).0 == 2);
+    assert!(rt; need_by_rows(&rows, &array) == 2 && travel_lists(&rows, &array).0 == 2);
     assert!(rt; pawn_lists(&rows, &array).0 == 0);
 }
 
@@ -149,7 +149,7 @@ fn agreeing_moves(rt: &impl Abort, alloc: Global, rows: &Rows, position: &Positi
     for m in &legal_moves(alloc, position).expect(rt, "memory") {
         let after = position.play(*m).unwrap_or(*position);
         if is_plain(position, &after, m) {
-            if need_by_leasts(rows, &leasts, position, m) != need(rows, &after) {
+            if need_by_leasts(rows, &leasts, position, m) != need_by_rows(rows, &after) {
                 return None;
             }
             count = count.saturating_add(1);
@@ -176,5 +176,5 @@ fn least_distances_give_the_need_after_a_move(rt: HostRuntime) {
         }
     }
     assert!(rt; moves > 1000, "{moves}");
-    assert!(rt; Rest::none().need([1; MOST]) == 0);
+    assert!(rt; Rest::none().need([1; MOST_MEN]) == 0);
 }
