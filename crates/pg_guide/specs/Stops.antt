@@ -17,7 +17,8 @@ HasSolution d n = (game : List Move) × IsSolution d n game
 
 -- a list of different solutions stays one
 abbrev pub Finds : Question → List (List Move) → List (List Move) → Type 0
-Finds question old new = AreSolutions question.diagram.now question.plies old → AreSolutions question.diagram.now question.plies new
+Finds question old new =
+    AreSolutions question.diagram.now question.plies old → AreSolutions question.diagram.now question.plies new
 
 -- a walk that wants memory has found a solution, and one that says that reading failed is over a source that has failed
 abbrev pub StopsTruly : Question → Bool → Stop → Type 0
@@ -33,4 +34,6 @@ EndsTruly d n walked cited Refused = ⊥
 
 -- the same as a refusal
 abbrev pub IsStopFault : Placement → ℕ → Bool → Bool → WhyFault → Type 0
-IsStopFault d n walked cited e = ((e ≡ Run (Check MemoryFault)) × HasSolution d n) ⊎ ((e ≡ Run (Check ReadFault)) × ((walked ≡ true) ⊎ (cited ≡ true)))
+IsStopFault d n walked cited e =
+    ((e ≡ Run (Check MemoryFault)) × HasSolution d n)
+    ⊎ ((e ≡ Run (Check ReadFault)) × ((walked ≡ true) ⊎ (cited ≡ true)))

@@ -1,5 +1,5 @@
 -- What an explanation says of the certificate, and what its refusals say.
-use Rattle.std.specs.Prelude.{◌≡◌, ◌≢◌, ◌⊎◌, ℕ, Bool, true, List, Option, Ok, Err, length as length_of_list}
+use Rattle.std.specs.Prelude.{◌≡◌, ◌≢◌, ◌⊎◌, ℕ, Bool, true, List, Ok, Err, length as length_of_list}
 use Rattle.arrayvec.specs.ArrayVec.{ArrayVec}
 use Rattle.pg_board.specs.Placement.{Placement}
 use Rattle.pg_position.specs.declared.moves.Move.{Move}
@@ -12,7 +12,7 @@ use Rattle.pg_checker.specs.declared.fault.Fault.{Fault}
 use Rattle.pg_checker.specs.declared.fault.Fault.TheVariants.{Memory, Read, Unlisted}
 use Rattle.pg_san.specs.Listing.{IsListing, IsTextFault}
 use Rattle.pg_checker.specs.ProblemText.{IsProblemFault}
-use Rattle.pg_checker.specs.Cuts.{CheckRules}
+use Rattle.pg_checker.specs.Terms.{Terms}
 use Rattle.pg_checker.specs.declared.certify.Proved.{Proved}
 use Rattle.pg_checker.specs.declared.fault.RunFault.TheVariants.{Diagram, Length, Games, Check, Write}
 use Rattle.pg_guide.specs.Stops.{HasSolution}
@@ -20,29 +20,28 @@ use Rattle.pg_guide.specs.declared.explaining.Asked.{Asked}
 use Rattle.pg_guide.specs.declared.fault.WhyFault.{WhyFault}
 use Rattle.pg_guide.specs.declared.fault.WhyFault.TheVariants.{Moves, TooMany, Run}
 
--- What the check goes by: the rules, the limits, and the bytes that its source gives, where it tells them.
-pub record Terms : Type 0 where
-  pub rules : Placement → ℕ → List (List Move) → CheckRules
-  pub max_records : ℕ
-  pub max_named : ℕ
-  pub known : Option (List ℕ)
-
--- Which of them have failed: the sources of the two walks, that of the check, and the sink.
-pub record Failures : Type 0 where
+-- which have failed: the sources of the two walks, that of the check, and the sink
+pub record ReadingFailures : Type 0 where
   pub walked : Bool
   pub cited : Bool
   pub checked : Bool
   pub sink : Bool
 
+-- these, one after the other
+abbrev pub reading_failures : Bool → Bool → Bool → Bool → ReadingFailures
+reading_failures walked cited checked sink = record { walked = walked; cited = cited; checked = checked; sink = sink }
+
 -- the texts spell a diagram d and a length of n plies
 abbrev pub Spells : Asked → Placement → ℕ → Type 0
 Spells asked d n = (diagram_of (fields asked.diagram.now) ≡ Ok d) × (length_of asked.length.now ≡ Ok n)
 
--- the texts spell a diagram d and a length of n plies, a list of games is the exact answer to them, and by the rules the known bytes are a certificate of that within the limits
+-- the texts spell a diagram d and a length of n plies, a list of games is the exact answer
+-- to them, and by the rules the known bytes are a certificate of that within the limits
 abbrev pub IsProved : Asked → Terms → Type 0
 IsProved asked t =
-    (d : Placement) × (n : ℕ) × (list : List (List Move)) × (diagram_of (fields asked.diagram.now) ≡ Ok d) × (length_of asked.length.now ≡ Ok n) × IsExactAnswer d n list
-    × ((proved : Proved) × Accepts (t.rules d n list) d list t.max_records t.max_named t.known (Ok proved))
+    (d : Placement) × (n : ℕ) × (list : List (List Move)) × (diagram_of (fields asked.diagram.now) ≡ Ok d)
+    × (length_of asked.length.now ≡ Ok n) × IsExactAnswer d n list
+    × ((proved : Proved) × Accepts t d n list (Ok proved))
 
 -- the texts spell a diagram and a length
 abbrev pub IsProblem : Asked → Type 0
@@ -59,32 +58,34 @@ IsOneLineFault text TooMany = ⊥
 IsOneLineFault text (Run (Games fault)) = IsTextFault text fault
 IsOneLineFault text (Run fault) = ⊥
 
--- why the certificate is refused, for a diagram d and n plies: memory was, where a solution was found; or reading, where the
--- source of one of the two walks has failed; or, by the rules, the known bytes are no certificate within the limits that
--- some solutions, each listed once, are the exact answer
-abbrev pub IsCertificateFault : Placement → ℕ → Terms → Failures → Fault → Type 0
+-- why the certificate is refused, for a diagram d and n plies: memory was, where a solution was found;
+-- or reading, where the source of one of the two walks has failed; or, by the rules, the known bytes
+-- are no certificate within the limits that some solutions, each listed once, are the exact answer
+abbrev pub IsCertificateFault : Placement → ℕ → Terms → ReadingFailures → Fault → Type 0
 IsCertificateFault d n t failed fault =
     ((fault ≡ Memory) × HasSolution d n) ⊎ (((fault ≡ Read) × ((failed.walked ≡ true) ⊎ (failed.cited ≡ true)))
     ⊎ ((list : List (List Move)) × AreSolutions d n list
-    × Accepts (t.rules d n list) d list t.max_records t.max_named t.known (Err fault)
-    × Refuses (t.rules d n list) d list t.max_records t.max_named t.known failed.checked (Err fault)))
+    × Accepts t d n list (Err fault) × Refuses t d n list failed.checked (Err fault)))
 
--- the fault of a check with a full list, or one with room, as a refusal: a full list of which the check tells one more game is too long
+-- the fault of a check with a full list, or one with room, as a refusal:
+-- a full list of which the check tells one more game is too long
 abbrev pub IsRefusal : Bool → Fault → WhyFault → Type 0
-IsRefusal full fault e = ((e ≡ TooMany) × (full ≡ true) × ((game : ArrayVec Move) × (fault ≡ Unlisted game))) ⊎ (e ≡ Run (Check fault))
+IsRefusal full fault e =
+    ((e ≡ TooMany) × (full ≡ true) × ((game : ArrayVec Move) × (fault ≡ Unlisted game))) ⊎ (e ≡ Run (Check fault))
 
--- more than 4,096 games of n plies end on d: so many different ones are known, and by the rules a check of the known bytes with
--- these listed tells one more
+-- more than 4,096 games of n plies end on d: so many different ones are known,
+-- and by the rules a check of the known bytes with these listed tells one more
 abbrev pub AreTooMany : Placement → ℕ → Terms → Bool → Type 0
-AreTooMany d n t failed = (list : List (List Move)) × (game : ArrayVec Move) × AreSolutions d n list × (length_of_list list ≡ 4096)
-    × Accepts (t.rules d n list) d list t.max_records t.max_named t.known (Err (Unlisted game))
-    × Refuses (t.rules d n list) d list t.max_records t.max_named t.known failed (Err (Unlisted game))
+AreTooMany d n t failed =
+    (list : List (List Move)) × (game : ArrayVec Move) × AreSolutions d n list × (length_of_list list ≡ 4096)
+    × Accepts t d n list (Err (Unlisted game)) × Refuses t d n list failed (Err (Unlisted game))
 
--- why a line is not explained by a certificate that is right: a text is refused, the diagram first, then the length, then
--- the moves; or none of them is, and the certificate is refused, or the sink has failed
-abbrev pub IsWhyFault : Asked → Terms → Failures → WhyFault → Type 0
+-- why a line is not explained by a certificate that is right: a text is refused, the diagram first, then
+-- the length, then the moves; or none of them is, and the certificate is refused, or the sink has failed
+abbrev pub IsWhyFault : Asked → Terms → ReadingFailures → WhyFault → Type 0
 IsWhyFault asked t failed Moves = IsProblem asked × IsOneLineFault asked.moves.now Moves
-IsWhyFault asked t failed TooMany = IsOneLine asked.moves.now × ((d : Placement) × (n : ℕ) × Spells asked d n × AreTooMany d n t failed.checked)
+IsWhyFault asked t failed TooMany =
+    IsOneLine asked.moves.now × ((d : Placement) × (n : ℕ) × Spells asked d n × AreTooMany d n t failed.checked)
 IsWhyFault asked t failed (Run (Diagram fault)) = IsProblemFault asked.diagram.now asked.length.now (Diagram fault)
 IsWhyFault asked t failed (Run (Length fault)) = IsProblemFault asked.diagram.now asked.length.now (Length fault)
 IsWhyFault asked t failed (Run (Games fault)) = IsProblem asked × IsTextFault asked.moves.now fault
@@ -92,12 +93,13 @@ IsWhyFault asked t failed (Run (Check fault)) =
     IsOneLine asked.moves.now × ((d : Placement) × (n : ℕ) × Spells asked d n × IsCertificateFault d n t failed fault)
 IsWhyFault asked t failed (Run Write) = IsProblem asked × IsOneLine asked.moves.now × (failed.sink ≡ true)
 
--- the list is the exact answer to the diagram d and n plies, and by the rules the known bytes are a certificate of that within the limits
+-- the list is the exact answer to the diagram d and n plies, and by the
+-- rules the known bytes are a certificate of that within the limits
 abbrev pub IsRight : Placement → ℕ → Terms → List (List Move) → Type 0
-IsRight d n t list = IsExactAnswer d n list × ((proved : Proved) × Accepts (t.rules d n list) d list t.max_records t.max_named t.known (Ok proved))
+IsRight d n t list = IsExactAnswer d n list × ((proved : Proved) × Accepts t d n list (Ok proved))
 
 -- why a certificate is not right with the games that it has: it is refused with these, or has too many
-abbrev pub IsGatheringFault : Placement → ℕ → Terms → Failures → WhyFault → Type 0
+abbrev pub IsGatheringFault : Placement → ℕ → Terms → ReadingFailures → WhyFault → Type 0
 IsGatheringFault d n t failed Moves = ⊥
 IsGatheringFault d n t failed TooMany = AreTooMany d n t failed.checked
 IsGatheringFault d n t failed (Run (Diagram fault)) = ⊥

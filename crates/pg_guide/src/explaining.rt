@@ -2,9 +2,10 @@
 ghost use Rattle.std.specs.Prelude.{◌≡◌, ◌↔◌, ◌⊎◌, ℕ, List, Bool, IsTrue, true, false, length, IfOk, IfErr, OnOk};
 ghost use Rattle.pg_board.specs.Placement.{Placement};
 ghost use Rattle.pg_checker.specs.Cuts.{rules_by};
+ghost use Rattle.pg_checker.specs.Terms.{terms};
 ghost use Rattle.pg_san.specs.Listing.{IsListing};
 ghost use Rattle.pg_guide.specs.Stops.{EndsTruly, Finds, IsStopFault};
-ghost use Rattle.pg_guide.specs.Why.{IsOneLineFault, IsOneLine, IsProved, IsRefusal, IsWhyFault};
+ghost use Rattle.pg_guide.specs.Why.{IsOneLineFault, IsOneLine, IsProved, IsRefusal, IsWhyFault, reading_failures};
 
 use crate::fault::WhyFault;
 use crate::machine::{Along, Question, Stop};
@@ -242,27 +243,13 @@ pub fn why<R: Source, W: Sink>(
     max_named: u32,
 ) -> Result<(), WhyFault>
     ensures right { OnOk result (IsProved asked.now
-        (record {
-          rules = rules_by code_of excluded bounds.now;
-          max_records = max_records;
-          max_named = max_named;
-          known = R.left checked.old;
-        })) }
+        (terms (rules_by code_of excluded bounds.now) max_records max_named (R.left checked.old))) }
     ensures line { OnOk result (IsOneLine asked.now.moves.now) }
     ensures runs { OnOk result (W.has_failed out.new ≡ false) }
     ensures err { IfErr result (IsWhyFault asked.now
-        (record {
-          rules = rules_by code_of excluded bounds.now;
-          max_records = max_records;
-          max_named = max_named;
-          known = R.left checked.old;
-        })
-        (record {
-          walked = R.has_failed walked.new;
-          cited = R.has_failed cited.new;
-          checked = R.has_failed checked.new;
-          sink = W.has_failed out.new;
-        })) }
+        (terms (rules_by code_of excluded bounds.now) max_records max_named (R.left checked.old))
+        (reading_failures (R.has_failed walked.new) (R.has_failed cited.new) (R.has_failed checked.new)
+        (W.has_failed out.new))) }
 {
     let problem = match Problem::read(asked.diagram, asked.length) {
         Ok(problem) => problem,

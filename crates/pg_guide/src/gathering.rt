@@ -1,8 +1,9 @@
 //! The games that a certificate has, and the check with them.
 ghost use Rattle.std.specs.Prelude.{◌≡◌, ℕ, Bool, IfErr, IfOk};
 ghost use Rattle.pg_checker.specs.Cuts.{rules_by};
+ghost use Rattle.pg_checker.specs.Terms.{terms};
 ghost use Rattle.pg_guide.specs.Stops.{EndsTruly, Finds};
-ghost use Rattle.pg_guide.specs.Why.{IsGatheringFault, IsRight};
+ghost use Rattle.pg_guide.specs.Why.{IsGatheringFault, IsRight, reading_failures};
 
 use crate::explaining::{fault_of, is_full, refusal_of};
 use crate::fault::WhyFault;
@@ -66,25 +67,10 @@ pub fn gather<R: Source>(
     max_named: u32,
 ) -> Result<Gathered, WhyFault>
     ensures right { IfOk result (λ found. IsRight problem.now.diagram problem.now.length
-        (record {
-          rules = rules_by code_of excluded bounds.now;
-          max_records = max_records;
-          max_named = max_named;
-          known = R.left checked.old;
-        }) found.games) }
+        (terms (rules_by code_of excluded bounds.now) max_records max_named (R.left checked.old)) found.games) }
     ensures err { (cited sink : Bool) → IfErr result (IsGatheringFault problem.now.diagram problem.now.length
-        (record {
-          rules = rules_by code_of excluded bounds.now;
-          max_records = max_records;
-          max_named = max_named;
-          known = R.left checked.old;
-        })
-        (record {
-          walked = R.has_failed walked.new;
-          cited = cited;
-          checked = R.has_failed checked.new;
-          sink = sink;
-        })) }
+        (terms (rules_by code_of excluded bounds.now) max_records max_named (R.left checked.old))
+        (reading_failures (R.has_failed walked.new) cited (R.has_failed checked.new) sink)) }
 {
     let question = Question {
         diagram: &problem.diagram,

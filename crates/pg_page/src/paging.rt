@@ -1,6 +1,8 @@
 //! A certificate is checked and shown as a page.
 ghost use Rattle.std.specs.Prelude.{◌≡◌, ◌⊎◌, Bool, true, false, IfErr, OnOk};
 ghost use Rattle.pg_checker.specs.Cuts.{rules_by};
+ghost use Rattle.pg_checker.specs.Terms.{terms};
+ghost use Rattle.pg_guide.specs.Why.{reading_failures};
 ghost use Rattle.pg_page.specs.Page.{IsPageFault, IsShown};
 ghost use Rattle.pg_page.specs.Telling.{IsTellingFault, TellsTruly};
 
@@ -91,33 +93,14 @@ pub fn page<R: Source, W: Sink>(
     max_named: u32,
 ) -> Result<(), WhyFault>
     ensures right { OnOk result (IsShown asked.now
-        (record {
-          rules = rules_by code_of excluded bounds.now;
-          max_records = max_records;
-          max_named = max_named;
-          known = R.left checked.old;
-        })) }
+        (terms (rules_by code_of excluded bounds.now) max_records max_named (R.left checked.old))) }
     ensures silent { (W.held out.new ≡ W.held out.old) ⊎ IsShown asked.now
-        (record {
-          rules = rules_by code_of excluded bounds.now;
-          max_records = max_records;
-          max_named = max_named;
-          known = R.left checked.old;
-        }) }
+        (terms (rules_by code_of excluded bounds.now) max_records max_named (R.left checked.old)) }
     ensures runs { OnOk result (W.has_failed out.new ≡ false) }
     ensures err { IfErr result (IsPageFault asked.now
-        (record {
-          rules = rules_by code_of excluded bounds.now;
-          max_records = max_records;
-          max_named = max_named;
-          known = R.left checked.old;
-        })
-        (record {
-          walked = R.has_failed walked.new;
-          cited = R.has_failed told.new;
-          checked = R.has_failed checked.new;
-          sink = W.has_failed out.new;
-        })) }
+        (terms (rules_by code_of excluded bounds.now) max_records max_named (R.left checked.old))
+        (reading_failures (R.has_failed walked.new) (R.has_failed told.new) (R.has_failed checked.new)
+        (W.has_failed out.new))) }
 {
     let problem = match Problem::read(asked.diagram, asked.length) {
         Ok(problem) => problem,
