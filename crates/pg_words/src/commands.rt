@@ -351,7 +351,7 @@ fn command_of<'a>(alloc: Global, entry: &Entry) -> Result<Command<'a>, AllocErro
 // `pg` with no command yet.
 fn top<'a>(alloc: Global) -> Command<'a> {
     Command::new(alloc, "pg")
-        .version("1.0.0")
+        .version("1.1.0")
         .about(ABOUT)
         .after_help(EXAMPLE)
         .subcommand_required(true)
