@@ -146,9 +146,7 @@ fn taken_change(rights: Rights, man: Man, m: &Move) -> Change {
 pub(crate) fn is_special(man: Man, taken: Option<Man>, m: &Move) -> bool {
     match man.kind {
         Kind::King => m.from.file().abs_diff(m.to.file()) == 2,
-        Kind::Pawn => {
-            m.promotion.is_some() || (taken.is_none() && m.from.file() != m.to.file())
-        }
+        Kind::Pawn => { m.promotion.is_some() || (taken.is_none() && m.from.file() != m.to.file()) }
         _ => false,
     }
 }
