@@ -144,8 +144,43 @@ fn stay<W: Sink>(
     }
 }
 
-// A node after a legal move that no cut excludes, as `stay`. Its position is not made where a reference is
-// written.
+// The node after a legal move that no cut excludes, as `stay`.
+#[inline(never)]
+fn stay_there<W: Sink>(
+    output: &mut Output,
+    sink: &mut W,
+    position: &Position,
+    m: &Move,
+    sides: &Sides,
+    left: u8,
+) -> Result<Option<Opened>, SearchFault>
+    requires legal { IsLegal position.now m.now }
+    requires runs { output.old.writer.failed ≡ false }
+    ensures runs { OnOk result (output.new.writer.failed ≡ false) }
+    ensures says { (plies : ℕ) → RefusesTruly plies (W.has_failed sink.new) result }
+{
+    stay(output, sink, &position.after(m), sides, left)
+}
+
+// The node after a legal move is open from now on, as by `open`.
+#[inline(never)]
+fn open_there<W: Sink>(
+    output: &mut Output,
+    sink: &mut W,
+    position: &Position,
+    m: &Move,
+    sides: &Sides,
+    key: u64,
+) -> Result<Option<Opened>, SearchFault>
+    requires legal { IsLegal position.now m.now }
+    requires runs { output.old.writer.failed ≡ false }
+    ensures runs { OnOk result (output.new.writer.failed ≡ false) }
+    ensures says { (plies : ℕ) → RefusesTruly plies (W.has_failed sink.new) result }
+{
+    open(output, sink, &position.after(m), sides, key)
+}
+
+// The node after a legal move that no cut excludes. Its position is not made where a reference is written.
 fn stay_after<W: Sink>(
     output: &mut Output,
     sink: &mut W,
@@ -160,12 +195,12 @@ fn stay_after<W: Sink>(
     ensures says { (plies : ℕ) → RefusesTruly plies (W.has_failed sink.new) result }
 {
     if may_pass(m) {
-        return stay(output, sink, &position.after(m), sides, left);
+        return stay_there(output, sink, position, m, sides, left);
     }
     let key = key_of(sides, position.side().other(), None, left);
     match refer(output, sink, key) {
         Ok(true) => Ok(None),
-        Ok(false) => open(output, sink, &position.after(m), sides, key),
+        Ok(false) => open_there(output, sink, position, m, sides, key),
         Err(fault) => Err(fault),
     }
 }
