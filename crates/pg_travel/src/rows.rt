@@ -100,6 +100,7 @@ fn with_kind(goal: &Board, man: Man, from: Square, kind: Kind, first: u8, row: [
 }
 
 // The row of a pawn, which comes to be of each kind but a king, where nothing is reached at first.
+#[inline(always)]
 fn row_of_pawn(goal: &Board, color: Color, from: Square, first: u8, none: [u8; 16]) -> [u8; 16]
     requires { IsUnreached (men color any_man goal.now - first) none }
     ensures { IsRowFrom goal.now color Pawn from first result }
@@ -113,6 +114,7 @@ fn row_of_pawn(goal: &Board, color: Color, from: Square, first: u8, none: [u8; 1
 }
 
 // The row of a man on a square, for sixteen targets from the first on. Any but a pawn stays of his kind.
+#[inline(always)]
 fn row(goal: &Board, man: Man, from: Square, first: u8) -> [u8; 16]
     ensures { IsRowFrom goal.now man.color man.kind from first result }
 {
@@ -158,15 +160,13 @@ fn row_at(goal: &Board, place: u16) -> [u8; 16]
     }
 }
 
-// All rows.
-fn table(goal: &Board) -> [[u8; 16]; 768]
-    ensures { AreRows goal.now result }
+// Writes all rows.
+fn fill_table(goal: &Board, rows: &mut [[u8; 16]; 768])
+    ensures { AreRows goal.now rows.new }
 {
-    let mut rows = [[0; 16]; 768];
     for place in 0..768u16 {
         rows[place as usize] = row_at(goal, place);
     }
-    rows
 }
 
 // The row of a man from a square to targets of his own kind, for any man but a pawn, and sixteen targets
@@ -246,20 +246,18 @@ fn further_at(goal: &Board, white: u8, black: u8, place: u16) -> [u8; 16]
     [0; 16]
 }
 
-// All rows of the pages past the first.
-fn further(goal: &Board) -> [[u8; 16]; 402]
-    ensures { AreFurther goal.now result }
+// Writes all rows of the pages past the first, if a colour has men there.
+fn fill_further(goal: &Board, rows: &mut [[u8; 16]; 402])
+    ensures { AreFurther goal.now rows.new }
 {
     let white = pages_of(goal, Color::White);
     let black = pages_of(goal, Color::Black);
-    let mut rows = [[0; 16]; 402];
     if white == 1 && black == 1 {
-        return rows;
+        return;
     }
     for place in 0..402u16 {
         rows[place as usize] = further_at(goal, white, black, place);
     }
-    rows
 }
 
 // Where a page past the first begins.
@@ -312,10 +310,14 @@ impl Rows {
         ensures { result ≡ diagram.now }
     {
         let goal = diagram.board();
+        let mut table = [[0; 16]; 768];
+        fill_table(&goal, &mut table);
+        let mut further = [[0; 16]; 402];
+        fill_further(&goal, &mut further);
         Rows {
             goal,
-            table: table(&goal),
-            further: further(&goal),
+            table,
+            further,
         }
     }
 

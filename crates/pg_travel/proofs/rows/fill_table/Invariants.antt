@@ -1,5 +1,5 @@
 use Rattle.pg_travel.specs.inner.DistanceRows.{AreFirstRows}
-use Rattle.pg_travel.proofs.rows.table.Given as goal
+use Rattle.pg_travel.proofs.rows.fill_table.Given as goal
 
 abbrev pub invariant-loop-place : goal.invariant-loop-place
 invariant-loop-place l = AreFirstRows l.goal l.place l.rows

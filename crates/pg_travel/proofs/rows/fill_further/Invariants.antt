@@ -1,5 +1,5 @@
 use Rattle.pg_travel.specs.inner.DistanceRows.{AreFirstFurther}
-use Rattle.pg_travel.proofs.rows.further.Given as goal
+use Rattle.pg_travel.proofs.rows.fill_further.Given as goal
 
 abbrev pub invariant-loop-place : goal.invariant-loop-place
 invariant-loop-place l = AreFirstFurther l.goal l.place l.rows
