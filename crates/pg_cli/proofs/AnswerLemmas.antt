@@ -12,15 +12,15 @@ use Rattle.pg_board.specs.Placement.{Placement}
 use Rattle.pg_position.specs.declared.moves.Move.{Move}
 use Rattle.pg_checker.specs.Answer.{IsExactAnswer}
 use Rattle.pg_texts.specs.Report.{IsVerdict}
-use Rattle.pg_report.specs.Run.{AreSpelled, IsRunFault}
-use Rattle.pg_report.specs.Run as run
+use Rattle.pg_report.specs.Run.{AreSpelled, Failures, IsRunFault}
 use Rattle.pg_report.specs.Statuses.{verdict_status}
 use Rattle.pg_texts.specs.declared.verdict.Verdict.{Verdict}
 use Rattle.pg_checker.specs.Check.{Accepts}
 use Rattle.pg_checker.specs.declared.certify.Proved.{Proved}
 use Rattle.pg_checker.specs.declared.fault.RunFault.{RunFault}
 use Rattle.pg_checker.specs.declared.fault.RunFault.TheVariants.{Write}
-use Rattle.pg_guide.specs.Why.{Terms, Failures, IsProved, IsOneLine}
+use Rattle.pg_checker.specs.Terms.{Terms}
+use Rattle.pg_guide.specs.Why.{ReadingFailures, IsProved, IsOneLine}
 use Rattle.pg_guide.specs.declared.explaining.Asked.{Asked as Line}
 use Rattle.pg_guide.specs.declared.fault.WhyFault.TheVariants.{Run}
 use Rattle.pg_page.specs.Page.{IsShown}
@@ -37,10 +37,10 @@ abbrev pub IsUnwritten : Bool → Result ℕ Refusal → Type 0
 IsUnwritten failed result = IfErr result (λ r. (r ≡ Check Write) × (failed ≡ true))
 
 -- the texts spell a diagram, a length and a list; it is the exact answer, this is its verdict, and by the rules the known bytes are a certificate of it
-abbrev pub AreChecked : run.Terms → List ℕ → List ℕ → List ℕ → (Placement → ℕ → List (List Move) → Type 0) → Verdict → Type 0
+abbrev pub AreChecked : Terms → List ℕ → List ℕ → List ℕ → (Placement → ℕ → List (List Move) → Type 0) → Verdict → Type 0
 AreChecked t diagram length games X v =
     (d : Placement) × (n : ℕ) × (list : List (List Move)) × AreSpelled diagram length games d n list × IsExactAnswer d n list × IsVerdict list v
-    × X d n list × ((proved : Proved) × Accepts (t.rules d n list) d list t.max_records t.max_named t.known (Ok proved))
+    × X d n list × ((proved : Proved) × Accepts t d n list (Ok proved))
 
 pub texts_answered : (diagram length games given : List ℕ) (X Y : Placement → ℕ → List (List Move) → Type 0)
     (v : Verdict) (k : ℕ) (result : Result ℕ Refusal) → games ≡ given
@@ -50,7 +50,7 @@ texts_answered diagram length games given X Y v k (Ok s) e h f g =
     (h.0, h.1, h.2, subst (λ (x : List ℕ). AreSpelled diagram length x h.0 h.1 h.2) e h.3, (h.4, (v, h.5, g ∙ f)))
 texts_answered diagram length games given X Y v k (Err r) e h f g = tt
 
-pub texts_unwritten : (t : run.Terms) (asked : Asked) (games : List ℕ) (failed : run.Failures) (X : Placement → ℕ → List (List Move) → Type 0)
+pub texts_unwritten : (t : Terms) (asked : Asked) (games : List ℕ) (failed : Failures) (X : Placement → ℕ → List (List Move) → Type 0)
     (v : Verdict) (result : Result ℕ Refusal) → games ≡ asked.games.now
     → AreChecked t asked.diagram.now asked.length.now games X v → IsUnwritten failed.sink result
     → IfErr result (λ r. IsCheckRefusal t asked failed r)
@@ -60,7 +60,7 @@ texts_unwritten t asked games failed X v (Err r) e h g =
     (h.0, h.1, h.2, subst (λ (x : List ℕ). AreSpelled asked.diagram.now asked.length.now x h.0 h.1 h.2) e h.3, (h.4, g.1, h.7))
 
 -- the same texts are refused for the same reason
-pub texts_refused : (t : run.Terms) (asked : Asked) (games : List ℕ) (failed : run.Failures) (fault : RunFault) → games ≡ asked.games.now
+pub texts_refused : (t : Terms) (asked : Asked) (games : List ℕ) (failed : Failures) (fault : RunFault) → games ≡ asked.games.now
     → IsRunFault (record { diagram = asked.diagram.now; length = asked.length.now; games = games }) t failed fault
     → IsCheckRefusal t asked failed (Check fault)
 texts_refused t asked games failed fault e h =
@@ -72,19 +72,19 @@ pub games_answered : (d : Placement) (n : ℕ) (list : List (List Move)) (v : Ve
 games_answered d n list v k (Ok s) h i f g = (h, (v, i, g ∙ f))
 games_answered d n list v k (Err r) h i f g = tt
 
-pub games_unwritten : (t : run.Terms) (d : Placement) (n : ℕ) (list : List (List Move)) (failed : run.Failures) (result : Result ℕ Refusal)
-    → IsExactAnswer d n list → (proved : Proved) × Accepts (t.rules d n list) d list t.max_records t.max_named t.known (Ok proved)
+pub games_unwritten : (t : Terms) (d : Placement) (n : ℕ) (list : List (List Move)) (failed : Failures) (result : Result ℕ Refusal)
+    → IsExactAnswer d n list → (proved : Proved) × Accepts t d n list (Ok proved)
     → IsUnwritten failed.sink result → IfErr result (λ r. IsFoundRefusal d n list t failed r)
 games_unwritten t d n list failed (Ok s) h p g = tt
 games_unwritten t d n list failed (Err r) h p g =
     subst (λ (x : Refusal). IsFoundRefusal d n list t failed x) (sym g.0) (h, g.1, p)
 
-pub line_unwritten : (asked : Line) (t : Terms) (f : Failures) (result : Result ℕ Refusal)
+pub line_unwritten : (asked : Line) (t : Terms) (f : ReadingFailures) (result : Result ℕ Refusal)
     → IsProved asked t → IsOneLine asked.moves.now → IsUnwritten f.sink result → IfErr result (λ r. IsWhyRefusal asked t f r)
 line_unwritten asked t f (Ok s) h o g = tt
 line_unwritten asked t f (Err r) h o g = (Run Write, g.0, ((h.0, h.1, (h.3, h.4)), o, g.1))
 
-pub page_unwritten : (asked : Shown) (t : Terms) (f : Failures) (result : Result ℕ Refusal)
+pub page_unwritten : (asked : Shown) (t : Terms) (f : ReadingFailures) (result : Result ℕ Refusal)
     → IsShown asked t → IsUnwritten f.sink result → IfErr result (λ r. IsPageRefusal asked t f r)
 page_unwritten asked t f (Ok s) h g = tt
 page_unwritten asked t f (Err r) h g = (Run Write, g.0, (h, g.1))

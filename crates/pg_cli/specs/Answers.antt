@@ -11,14 +11,19 @@ use Rattle.pg_report.specs.Run.{AreSpelled}
 use Rattle.pg_report.specs.Statuses.{verdict_status}
 use Rattle.pg_texts.specs.declared.verdict.Verdict.{Verdict}
 
--- the list is the exact answer to the diagram and the length, and the status is that of its verdict: 0 where it has one game, else 1
+-- the list is the exact answer to the diagram and the length, and
+-- the status is that of its verdict: 0 where it has one game, else 1
 abbrev pub IsAnswered : Placement → ℕ → List (List Move) → ℕ → Type 0
 IsAnswered d n list status = IsExactAnswer d n list × ((v : Verdict) × IsVerdict list v × (status ≡ verdict_status v))
 
 -- the three texts spell a diagram, a length and a list, and the list is the exact answer, with this status
 abbrev pub AreAnswered : List ℕ → List ℕ → List ℕ → ℕ → Type 0
-AreAnswered diagram length games status = (d : Placement) × (n : ℕ) × (list : List (List Move)) × AreSpelled diagram length games d n list × IsAnswered d n list status
+AreAnswered diagram length games status =
+    (d : Placement) × (n : ℕ) × (list : List (List Move)) × AreSpelled diagram length games d n list
+    × IsAnswered d n list status
 
 -- the two texts spell a diagram and a length, and some list is the exact answer to them
 abbrev pub HasExactAnswer : List ℕ → List ℕ → Type 0
-HasExactAnswer diagram length = (d : Placement) × (n : ℕ) × (list : List (List Move)) × (diagram_of (fields diagram) ≡ Ok d) × (length_of length ≡ Ok n) × IsExactAnswer d n list
+HasExactAnswer diagram length =
+    (d : Placement) × (n : ℕ) × (list : List (List Move)) × (diagram_of (fields diagram) ≡ Ok d)
+    × (length_of length ≡ Ok n) × IsExactAnswer d n list

@@ -17,7 +17,8 @@ use Rattle.pg_cooks.specs.declared.finding.CookAnswer.TheVariants.{Cook, Shorter
 
 -- the two texts spell a diagram and a length, and no list of one game is the exact answer to them
 abbrev pub AreUnsound : List ℕ → List ℕ → Type 0
-AreUnsound diagram length = (d : Placement) × (n : ℕ) × (diagram_of (fields diagram) ≡ Ok d) × (length_of length ≡ Ok n) × IsUnsound d n
+AreUnsound diagram length =
+    (d : Placement) × (n : ℕ) × (diagram_of (fields diagram) ≡ Ok d) × (length_of length ≡ Ok n) × IsUnsound d n
 
 -- 1 where the problem is not sound, else 0
 abbrev pub standing_status : Standing → ℕ
@@ -31,12 +32,18 @@ answer_status (Cook game) = 1
 answer_status (Shorter game) = 1
 answer_status (NotFound foreign nodes) = 0
 
--- the three texts spell a diagram, a length and a list of solutions, and the status is that of what the list shows by itself
+-- the three texts spell a diagram, a length and a list of solutions,
+-- and the status is that of what the list shows by itself
 abbrev pub AreTested : List ℕ → List ℕ → List ℕ → ℕ → Type 0
-AreTested diagram length games status = (d : Placement) × (n : ℕ) × (list : List (List Move)) × AreSpelled diagram length games d n list × AreSolutions d n list
+AreTested diagram length games status =
+    (d : Placement) × (n : ℕ) × (list : List (List Move)) × AreSpelled diagram length games d n list
+    × AreSolutions d n list
     × ((s : Standing) × IsStanding list s × (status ≡ standing_status s))
 
--- the three texts spell a diagram, a length and a list of solutions, and the status is that of what is found beside the list
+-- the three texts spell a diagram, a length and a list of solutions,
+-- and the status is that of what is found beside the list
 abbrev pub AreFollowed : List ℕ → List ℕ → List ℕ → ℕ → Type 0
-AreFollowed diagram length games status = (d : Placement) × (n : ℕ) × (list : List (List Move)) × AreSpelled diagram length games d n list × AreSolutions d n list
+AreFollowed diagram length games status =
+    (d : Placement) × (n : ℕ) × (list : List (List Move)) × AreSpelled diagram length games d n list
+    × AreSolutions d n list
     × ((a : CookAnswer) × IsCookAnswer d n list a × (status ≡ answer_status a))

@@ -3,20 +3,20 @@ use Rattle.std.specs.Prelude.{◌≡◌, ◌⊎◌, ℕ, Bool, true, List, Optio
 use Rattle.pg_board.specs.Placement.{Placement}
 use Rattle.pg_position.specs.declared.moves.Move.{Move}
 use Rattle.pg_searcher.specs.declared.fault.SearchFault.TheVariants.{TooManyGames}
+use Rattle.pg_checker.specs.Terms.{Terms}
 use Rattle.pg_checker.specs.declared.fault.RunFault.{RunFault}
 use Rattle.pg_texts.specs.declared.fault.UpgradeFault.TheVariants.{Write as CopyWrite}
 use Rattle.pg_texts.specs.MovesText.{IsMovesFault}
 use Rattle.pg_texts.specs.CountText.{IsCountRunFault}
 use Rattle.pg_texts.specs.Upgrade.{IsUpgradeFault, upgrade_of}
 use Rattle.pg_report.specs.Showing.{IsShowFault, IsShowWithinFault}
-use Rattle.pg_report.specs.Run.{IsCheckFault, IsRunFault}
-use Rattle.pg_report.specs.Run as run
+use Rattle.pg_report.specs.Run.{Failures, IsCheckFault, IsRunFault}
 use Rattle.pg_cooks.specs.Known.{IsKnownFault}
 use Rattle.pg_cooks.specs.Cooks.{IsCooksRunFault}
 use Rattle.pg_cooks.specs.declared.asked.Asked.{Asked as Texts}
 use Rattle.pg_cooks.specs.declared.fault.CooksRunFault.{CooksRunFault}
 use Rattle.pg_cooks.specs.declared.fault.CooksRunFault.TheVariants as cooking
-use Rattle.pg_guide.specs.Why.{Terms, Failures, IsWhyFault}
+use Rattle.pg_guide.specs.Why.{ReadingFailures, IsWhyFault}
 use Rattle.pg_guide.specs.declared.explaining.Asked.{Asked as Line}
 use Rattle.pg_guide.specs.declared.fault.WhyFault.{WhyFault}
 use Rattle.pg_guide.specs.declared.fault.WhyFault.TheVariants as why
@@ -29,9 +29,12 @@ use Rattle.pg_cli.specs.declared.refusals.Refusal.TheVariants.{NoGame, NotUtf8, 
 -- ---- a list of games
 -- the texts are those that are asked, and the bytes of the list are one of them
 abbrev pub AreTexts : Asked → Texts → Type 0
-AreTexts asked texts = (texts.diagram.now ≡ asked.diagram.now) × (texts.length.now ≡ asked.length.now) × (texts.games.now ≡ asked.games.now)
+AreTexts asked texts =
+    (texts.diagram.now ≡ asked.diagram.now) × (texts.length.now ≡ asked.length.now)
+    × (texts.games.now ≡ asked.games.now)
 
--- the bytes of a list that is to be tested are no text; or one of the texts is refused, a listed game is no solution, or the sink has failed
+-- the bytes of a list that is to be tested are no text; or one of the
+-- texts is refused, a listed game is no solution, or the sink has failed
 abbrev pub IsGamesRefusal : Asked → Bool → Refusal → Type 0
 IsGamesRefusal asked failed NotUtf8 = ¬ IsUtf8 asked.games.now
 IsGamesRefusal asked failed (Check fault) = (texts : Texts) × AreTexts asked texts × IsKnownFault texts failed fault
@@ -46,18 +49,21 @@ cooks_refusal (cooking.Run fault) = Check fault
 -- the bytes of a list that leads a search are no text; or the search of the texts has this fault
 abbrev pub IsCooksRefusal : Asked → Bool → Refusal → Type 0
 IsCooksRefusal asked failed refusal = ((refusal ≡ NotUtf8) × ¬ IsUtf8 asked.games.now)
-    ⊎ ((texts : Texts) × (fault : CooksRunFault) × AreTexts asked texts × (refusal ≡ cooks_refusal fault) × IsCooksRunFault texts failed fault)
+    ⊎ ((texts : Texts) × (fault : CooksRunFault) × AreTexts asked texts × (refusal ≡ cooks_refusal fault)
+    × IsCooksRunFault texts failed fault)
 
 -- ---- a certificate
--- the bytes of the list are no text; or the check has this fault: one of the texts is refused, or the certificate is, or the sink has failed
-abbrev pub IsCheckRefusal : run.Terms → Asked → run.Failures → Refusal → Type 0
+-- the bytes of the list are no text; or the check has this fault: one of
+-- the texts is refused, or the certificate is, or the sink has failed
+abbrev pub IsCheckRefusal : Terms → Asked → Failures → Refusal → Type 0
 IsCheckRefusal t asked failed NotUtf8 = ¬ IsUtf8 asked.games.now
 IsCheckRefusal t asked failed (Check fault) =
-    IsRunFault (record { diagram = asked.diagram.now; length = asked.length.now; games = asked.games.now }) t failed fault
+    IsRunFault (record { diagram = asked.diagram.now; length = asked.length.now; games = asked.games.now })
+    t failed fault
 IsCheckRefusal t asked failed refusal = ⊥
 
 -- the check of a certificate for this list has this fault
-abbrev pub IsFoundRefusal : Placement → ℕ → List (List Move) → run.Terms → run.Failures → Refusal → Type 0
+abbrev pub IsFoundRefusal : Placement → ℕ → List (List Move) → Terms → Failures → Refusal → Type 0
 IsFoundRefusal d n list t failed (Check fault) = IsCheckFault d n list t failed fault
 IsFoundRefusal d n list t failed refusal = ⊥
 
@@ -68,16 +74,19 @@ why_refusal why.TooMany = Search TooManyGames
 why_refusal (why.Run fault) = Check fault
 
 -- the explanation of a line has this fault
-abbrev pub IsWhyRefusal : Line → Terms → Failures → Refusal → Type 0
-IsWhyRefusal asked t failed refusal = (fault : WhyFault) × (refusal ≡ why_refusal fault) × IsWhyFault asked t failed fault
+abbrev pub IsWhyRefusal : Line → Terms → ReadingFailures → Refusal → Type 0
+IsWhyRefusal asked t failed refusal =
+    (fault : WhyFault) × (refusal ≡ why_refusal fault) × IsWhyFault asked t failed fault
 
 -- the page of a certificate has this fault
-abbrev pub IsPageRefusal : Shown → Terms → Failures → Refusal → Type 0
-IsPageRefusal asked t failed refusal = (fault : WhyFault) × (refusal ≡ why_refusal fault) × IsPageFault asked t failed fault
+abbrev pub IsPageRefusal : Shown → Terms → ReadingFailures → Refusal → Type 0
+IsPageRefusal asked t failed refusal =
+    (fault : WhyFault) × (refusal ≡ why_refusal fault) × IsPageFault asked t failed fault
 
 -- copying has this fault, or the number of records is not printed, since that sink has failed
 abbrev pub IsUpgradeRefusal : ℕ → Option (List ℕ) → Bool → Bool → Bool → Refusal → Type 0
-IsUpgradeRefusal most known source sink out (Upgrade fault) = IsUpgradeFault (upgrade_of most) known source sink fault ⊎ ((fault ≡ CopyWrite) × (out ≡ true))
+IsUpgradeRefusal most known source sink out (Upgrade fault) =
+    IsUpgradeFault (upgrade_of most) known source sink fault ⊎ ((fault ≡ CopyWrite) × (out ≡ true))
 IsUpgradeRefusal most known source sink out refusal = ⊥
 
 -- ---- a position or a diagram

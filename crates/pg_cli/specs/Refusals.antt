@@ -6,7 +6,8 @@ use Rattle.pg_report.specs.Statuses.{status_of, search_status_of, show_status_of
 use Rattle.pg_cli.specs.declared.refusals.Refusal.{Refusal}
 use Rattle.pg_cli.specs.declared.refusals.Refusal.TheVariants.{Words, Open, Line, NoGame, NotUtf8, Read, Write, Memory, Show, Moves, Count, Search, GaveUp, Upgrade, Check}
 
--- 1 where a list or a certificate is refused or a search gave up, 2 for bad words and texts, 3 for want of memory, 4 for a file
+-- 1 where a list or a certificate is refused or a search gave up,
+-- 2 for bad words and texts, 3 for want of memory, 4 for a file
 abbrev pub refusal_status : Refusal → ℕ
 refusal_status Words = 2
 refusal_status (Open name obstacle) = 4

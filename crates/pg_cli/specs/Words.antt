@@ -14,22 +14,27 @@ use Rattle.pg_cli.specs.Knowing.{AreUnsound, AreTested, AreFollowed}
 abbrev pub spelled : Text → List Row → List ℕ
 spelled name rows = unwrap_or (first_of name rows) []
 
--- what a status of `pg check` says: the words DIAGRAM and LENGTH and some text of games spell a diagram, a length and a list, and the list is the
--- exact answer, with this status
+-- what a status of `pg check` says: the words DIAGRAM and LENGTH and some text of games
+-- spell a diagram, a length and a list, and the list is the exact answer, with this status
 abbrev pub IsChecked : List Row → ℕ → Type 0
-IsChecked rows status = (games : List ℕ) × AreAnswered (spelled (codes "DIAGRAM") rows) (spelled (codes "LENGTH") rows) games status
+IsChecked rows status =
+    (games : List ℕ) × AreAnswered (spelled (codes "DIAGRAM") rows) (spelled (codes "LENGTH") rows) games status
 
--- what a status of `pg search` says: the words DIAGRAM and LENGTH spell a diagram and a length, and some list is the exact answer, with this status
+-- what a status of `pg search` says: the words DIAGRAM and LENGTH spell a
+-- diagram and a length, and some list is the exact answer, with this status
 abbrev pub IsSearched : List Row → ℕ → Type 0
-IsSearched rows status = (d : Placement) × (n : ℕ) × (list : List (List Move)) × (diagram_of (fields (spelled (codes "DIAGRAM") rows)) ≡ Ok d)
+IsSearched rows status =
+    (d : Placement) × (n : ℕ) × (list : List (List Move))
+    × (diagram_of (fields (spelled (codes "DIAGRAM") rows)) ≡ Ok d)
     × (length_of (spelled (codes "LENGTH") rows) ≡ Ok n) × IsAnswered d n list status
 
--- what a status of `pg why` or `pg page` says: the words DIAGRAM and LENGTH spell a diagram and a length, some list is the exact answer, and the status is 0
+-- what a status of `pg why` or `pg page` says: the words DIAGRAM and LENGTH spell
+-- a diagram and a length, some list is the exact answer, and the status is 0
 abbrev pub IsExplained : List Row → ℕ → Type 0
 IsExplained rows status = HasExactAnswer (spelled (codes "DIAGRAM") rows) (spelled (codes "LENGTH") rows) × (status ≡ 0)
 
--- what a status of `pg games` says: the words DIAGRAM and LENGTH and some text of games spell a diagram, a length and solutions, the status is that of what
--- these show, and 1 only where no list of one game is the exact answer
+-- what a status of `pg games` says: the words DIAGRAM and LENGTH and some text of games spell a diagram, a length
+-- and solutions, the status is that of what these show, and 1 only where no list of one game is the exact answer
 abbrev pub IsTested : List Row → ℕ → Type 0
 IsTested rows status = (status ≡ 1 → AreUnsound (spelled (codes "DIAGRAM") rows) (spelled (codes "LENGTH") rows))
     × ((games : List ℕ) × AreTested (spelled (codes "DIAGRAM") rows) (spelled (codes "LENGTH") rows) games status)
@@ -41,7 +46,8 @@ IsFollowed rows status = (status ≡ 1 → AreUnsound (spelled (codes "DIAGRAM")
 
 -- the command that the words name has this name, and its words are these
 abbrev pub IsSubcommand : ArgMatches → Text → List Row → Type 0
-IsSubcommand words name rows = (subcommand_name_of words ≡ Some name) × (option_map (λ p. p.1) (subcommand_rows_of words) ≡ Some rows)
+IsSubcommand words name rows =
+    (subcommand_name_of words ≡ Some name) × (option_map (λ p. p.1) (subcommand_rows_of words) ≡ Some rows)
 
 -- what a status says of the command with this name, and with these words
 pub record IsMeant (name : Text) (rows : List Row) (status : ℕ) : Type 0 where

@@ -2,8 +2,10 @@
 
 ghost use Rattle.std.specs.Prelude.{◌≡◌, true, IfOk, IfErr};
 ghost use Rattle.pg_checker.specs.Cuts.{rules_by};
+ghost use Rattle.pg_checker.specs.Terms.{terms};
 ghost use Rattle.pg_checker.specs.declared.fault.RunFault.TheVariants.{Write};
 ghost use Rattle.clap.specs.Words.{found_of, rows_of};
+ghost use Rattle.pg_report.specs.Run.{failures};
 ghost use Rattle.pg_cli.specs.Answers.{AreAnswered};
 ghost use Rattle.pg_cli.specs.Reasons.{IsCheckRefusal};
 ghost use Rattle.pg_cli.specs.Words.{IsChecked};
@@ -65,14 +67,9 @@ pub(crate) fn check_from<S: Source, W: Sink>(
     ensures headline { IfOk result (λ status. AreAnswered asked.now.diagram.now asked.now.length.now
         asked.now.games.now status) }
     ensures err { IfErr result (λ refusal. IsCheckRefusal
-        (record {
-          rules = rules_by code_of excluded bounds.now;
-          max_records = records;
-          max_named = MOST_NAMED;
-          known = S.left source.old;
-        })
+        (terms (rules_by code_of excluded bounds.now) records MOST_NAMED (S.left source.old))
         asked.now
-        (record { source = S.has_failed source.new; sink = ⟦<Gathered<W> as Sink>⟧.has_failed out.new }) refusal) }
+        (failures (S.has_failed source.new) (⟦<Gathered<W> as Sink>⟧.has_failed out.new)) refusal) }
 {
     let games = match str::from_utf8(asked.games) {
         Ok(games) => games,

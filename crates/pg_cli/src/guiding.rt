@@ -1,7 +1,9 @@
 //! `pg why`: a certificate explains a line of moves.
 ghost use Rattle.std.specs.Prelude.{◌≡◌, IfOk, IfErr, OnOk};
 ghost use Rattle.pg_checker.specs.Cuts.{rules_by};
+ghost use Rattle.pg_checker.specs.Terms.{terms};
 ghost use Rattle.clap.specs.Words.{found_of, rows_of};
+ghost use Rattle.pg_guide.specs.Why.{reading_failures};
 ghost use Rattle.pg_cli.specs.Answers.{HasExactAnswer};
 ghost use Rattle.pg_cli.specs.Reasons.{IsWhyRefusal, why_refusal};
 ghost use Rattle.pg_cli.specs.Words.{IsExplained};
@@ -110,18 +112,9 @@ pub(crate) fn why_from<S: Source, W: Sink>(
     ensures right { OnOk result (HasExactAnswer asked.now.diagram.now asked.now.length.now) }
     ensures zero { IfOk result (λ status. status ≡ 0) }
     ensures err { IfErr result (λ refusal. IsWhyRefusal asked.now
-        (record {
-          rules = rules_by code_of excluded bounds.now;
-          max_records = records;
-          max_named = MOST_NAMED;
-          known = S.left readings.old.checked;
-        })
-        (record {
-          walked = S.has_failed readings.new.walked;
-          cited = S.has_failed readings.new.again;
-          checked = S.has_failed readings.new.checked;
-          sink = ⟦<Gathered<W> as Sink>⟧.has_failed out.new;
-        }) refusal) }
+        (terms (rules_by code_of excluded bounds.now) records MOST_NAMED (S.left readings.old.checked))
+        (reading_failures (S.has_failed readings.new.walked) (S.has_failed readings.new.again)
+        (S.has_failed readings.new.checked) (⟦<Gathered<W> as Sink>⟧.has_failed out.new)) refusal) }
 {
     match explain(
         alloc,

@@ -2,8 +2,10 @@
 
 ghost use Rattle.std.specs.Prelude.{◌≤◌, List, IfOk, IfErr};
 ghost use Rattle.pg_checker.specs.Cuts.{rules_by};
+ghost use Rattle.pg_checker.specs.Terms.{terms};
 ghost use Rattle.pg_position.specs.declared.moves.Move.{Move};
 ghost use Rattle.clap.specs.Words.{found_of, rows_of};
+ghost use Rattle.pg_report.specs.Run.{failures};
 ghost use Rattle.pg_cli.specs.Answers.{IsAnswered};
 ghost use Rattle.pg_cli.specs.Reasons.{IsFoundRefusal};
 ghost use Rattle.pg_cli.specs.Words.{IsSearched};
@@ -141,13 +143,8 @@ pub(crate) fn check_found<S: Source, W: Sink>(
 ) -> Result<u8, Refusal>
     ensures headline { IfOk result (λ status. IsAnswered problem.now.diagram problem.now.length games.now status) }
     ensures err { IfErr result (λ refusal. IsFoundRefusal problem.now.diagram problem.now.length games.now
-        (record {
-          rules = rules_by code_of excluded bounds.now;
-          max_records = records;
-          max_named = MOST_NAMED;
-          known = S.left source.old;
-        })
-        (record { source = S.has_failed source.new; sink = ⟦<Gathered<W> as Sink>⟧.has_failed out.new }) refusal) }
+        (terms (rules_by code_of excluded bounds.now) records MOST_NAMED (S.left source.old))
+        (failures (S.has_failed source.new) (⟦<Gathered<W> as Sink>⟧.has_failed out.new)) refusal) }
 {
     match run_listed(
         alloc,

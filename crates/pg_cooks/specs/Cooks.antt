@@ -20,7 +20,8 @@ use Rattle.pg_cooks.specs.Standing.{IsKnownText}
 use Rattle.pg_cooks.specs.Unsound.{IsUnsound, HasNoAnswer}
 
 -- ---- the answer
--- another game: a solution that the list does not have; a shorter one: it has fewer plies, and is a solution for so many
+-- another game: a solution that the list does not have; a
+-- shorter one: it has fewer plies, and is a solution for so many
 abbrev pub IsCookAnswer : Placement → ℕ → List (List Move) → CookAnswer → Type 0
 IsCookAnswer d n games (Cook game) = IsSolution d n game.items × ¬ Contains games game.items
 IsCookAnswer d n games (Shorter game) = (length game.items < n) × IsSolution d (length game.items) game.items
@@ -54,17 +55,21 @@ abbrev pub IsFoundText : List ℕ → List Move → List ℕ → Type 0
 IsFoundText what game text = (rest : List ℕ) × IsEndText game rest × (text ≡ what ++ rest)
 
 abbrev pub unfound_text : Option ℕ → List ℕ
-unfound_text (Some foreign) = codes "none with at most " ++ (decimal foreign ++ line_text (codes " moves of other kinds"))
+unfound_text (Some foreign) =
+    codes "none with at most " ++ (decimal foreign ++ line_text (codes " moves of other kinds"))
 unfound_text None = line_text (codes "none found")
 
 -- the lines of an answer
 abbrev pub IsAnswerText : CookAnswer → List ℕ → Type 0
 IsAnswerText (Cook game) text = IsFoundText (line_text (codes "another game")) game.items text
-IsAnswerText (Shorter game) text = IsFoundText (codes "a game of " ++ (decimal (length game.items) ++ line_text (codes " plies"))) game.items text
+IsAnswerText (Shorter game) text =
+    IsFoundText (codes "a game of " ++ (decimal (length game.items) ++ line_text (codes " plies"))) game.items text
 IsAnswerText (NotFound foreign nodes) text = text ≡ unfound_text foreign
 
 -- the report of a diagram, a length in plies, games that are known and what was found beside them
-pub record IsCooksReport (diagram : Placement) (plies : ℕ) (games : List (List Move)) (answer : CookAnswer) (text : List ℕ) : Type 0 where
+pub record IsCooksReport (diagram : Placement) (plies : ℕ) (games : List (List Move)) (answer : CookAnswer)
+    (text : List ℕ)
+    : Type 0 where
   pub front : List ℕ
   pub last : List ℕ
   pub is_front : IsKnownText diagram plies games front
@@ -72,8 +77,10 @@ pub record IsCooksReport (diagram : Placement) (plies : ℕ) (games : List (List
   pub is : text ≡ front ++ last
 
 -- ---- refusals
--- why the texts end without that report: they spell a problem and no game; or a problem and solutions of it, and memory was refused in the search; else as for the report of games alone
+-- why the texts end without that report: they spell a problem and no game; or a problem and
+-- solutions of it, and memory was refused in the search; else as for the report of games alone
 abbrev pub IsCooksRunFault : Asked → Bool → CooksRunFault → Type 0
 IsCooksRunFault asked failed run.NoGame = (d : Placement) × (n : ℕ) × IsKnown asked d n []
-IsCooksRunFault asked failed run.Memory = (d : Placement) × (n : ℕ) × (list : List (List Move)) × IsKnown asked d n list × (list ≢ [])
+IsCooksRunFault asked failed run.Memory =
+    (d : Placement) × (n : ℕ) × (list : List (List Move)) × IsKnown asked d n list × (list ≢ [])
 IsCooksRunFault asked failed (run.Run fault) = IsKnownFault asked failed fault

@@ -22,23 +22,28 @@ IsKnown asked d n list = AreSpelled asked.diagram.now asked.length.now asked.gam
 
 -- the texts spell a diagram and a length
 abbrev pub IsProblem : Asked → Type 0
-IsProblem asked = ((d : Placement) × (diagram_of (fields asked.diagram.now) ≡ Ok d)) × ((n : ℕ) × (length_of asked.length.now ≡ Ok n))
+IsProblem asked =
+    ((d : Placement) × (diagram_of (fields asked.diagram.now) ≡ Ok d)) × ((n : ℕ) × (length_of asked.length.now ≡ Ok n))
 
 -- the fault is that a listed game is no solution
 abbrev pub IsListedFault : Placement → ℕ → List (List Move) → Fault → Type 0
 IsListedFault d n list (Listed fault) = IsListFault d n list fault
 IsListedFault d n list fault = ⊥
 
--- why the texts end without a report: one of them is refused, the diagram first, then the length, then the games; else a listed game is no solution; else the sink has failed
+-- why the texts end without a report: one of them is refused, the diagram first, then the
+-- length, then the games; else a listed game is no solution; else the sink has failed
 abbrev pub IsKnownFault : Asked → Bool → RunFault → Type 0
 IsKnownFault asked failed (Diagram fault) = IsProblemFault asked.diagram.now asked.length.now (Diagram fault)
 IsKnownFault asked failed (Length fault) = IsProblemFault asked.diagram.now asked.length.now (Length fault)
 IsKnownFault asked failed (Games fault) = IsProblem asked × IsTextFault asked.games.now fault
 IsKnownFault asked failed (Check fault) =
-    (d : Placement) × (n : ℕ) × (list : List (List Move)) × AreSpelled asked.diagram.now asked.length.now asked.games.now d n list × IsListedFault d n list fault
-IsKnownFault asked failed Write = ((d : Placement) × (n : ℕ) × (list : List (List Move)) × IsKnown asked d n list) × (failed ≡ true)
+    (d : Placement) × (n : ℕ) × (list : List (List Move))
+    × AreSpelled asked.diagram.now asked.length.now asked.games.now d n list × IsListedFault d n list fault
+IsKnownFault asked failed Write =
+    ((d : Placement) × (n : ℕ) × (list : List (List Move)) × IsKnown asked d n list) × (failed ≡ true)
 
--- why a list of games is not written: the first of them is named that is no solution, or the sink has failed after each was tested
+-- why a list of games is not written: the first of them is named
+-- that is no solution, or the sink has failed after each was tested
 abbrev pub IsListingFault : Placement → ℕ → List (List Move) → Bool → RunFault → Type 0
 IsListingFault d n list failed (Check fault) = IsListedFault d n list fault
 IsListingFault d n list failed Write = AreSolutions d n list × (failed ≡ true)

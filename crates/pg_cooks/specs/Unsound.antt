@@ -19,13 +19,18 @@ HasNoAnswer d n = (games : List (List Move)) → ¬ IsExactAnswer d n games
 abbrev pub TwoAreACook : Type 0
 TwoAreACook = (d : Placement) (n : ℕ) (a b : List Move) → IsSolution d n a → IsSolution d n b → a ≢ b → IsUnsound d n
 
--- where the games of a list are solutions, and what they say is that the problem is not sound, no list of one game is the exact answer
+-- where the games of a list are solutions, and what they say is that
+-- the problem is not sound, no list of one game is the exact answer
 abbrev pub NotSoundIsTrue : Type 0
-NotSoundIsTrue = (d : Placement) (n : ℕ) (games : List (List Move)) → AreSolutions d n games → IsStanding games NotSound → IsUnsound d n
+NotSoundIsTrue =
+    (d : Placement) (n : ℕ) (games : List (List Move)) → AreSolutions d n games → IsStanding games NotSound
+    → IsUnsound d n
 
 -- where a game is a solution and a list does not have it, the list is not the exact answer
 abbrev pub UnlistedIsACook : Type 0
-UnlistedIsACook = (d : Placement) (n : ℕ) (ms : List Move) (games : List (List Move)) → IsSolution d n ms → ¬ Contains games ms → ¬ IsExactAnswer d n games
+UnlistedIsACook =
+    (d : Placement) (n : ℕ) (ms : List Move) (games : List (List Move)) → IsSolution d n ms → ¬ Contains games ms
+    → ¬ IsExactAnswer d n games
 
 -- where a game of fewer plies ends on the diagram, no list is the exact answer
 abbrev pub ShorterIsACook : Type 0

@@ -5,7 +5,8 @@ use Rattle.pg_position.specs.declared.moves.Move.{Move}
 use Rattle.pg_checker.specs.declared.fault.RunFault.{RunFault}
 use Rattle.pg_checker.specs.declared.fault.RunFault.TheVariants.{Diagram, Length, Games, Check, Write}
 use Rattle.pg_checker.specs.ProblemText.{IsProblemFault}
-use Rattle.pg_report.specs.Run.{AreSpelled, Failures, IsCheckFault, IsOfTexts, IsRunFault, Terms, Texts}
+use Rattle.pg_checker.specs.Terms.{Terms}
+use Rattle.pg_report.specs.Run.{AreSpelled, Failures, IsCheckFault, IsOfTexts, IsRunFault, Texts}
 
 pub refused_with : (asked : Texts) (t : Terms) (failed : Failures) (d : Placement) (n : ℕ) (list : List (List Move)) (e : RunFault)
     → AreSpelled asked.diagram asked.length asked.games d n list → IsCheckFault d n list t failed e → IsRunFault asked t failed e

@@ -1,5 +1,5 @@
 -- What a check of texts says: which texts spell what, and why there is no report.
-use Rattle.std.specs.Prelude.{◌≡◌, ℕ, Bool, true, List, Option, Ok, Err}
+use Rattle.std.specs.Prelude.{◌≡◌, ℕ, Bool, true, List, Ok, Err}
 use Rattle.pg_board.specs.Placement.{Placement}
 use Rattle.pg_position.specs.declared.moves.Move.{Move}
 use Rattle.pg_fen.specs.Fields.{fields}
@@ -8,7 +8,7 @@ use Rattle.pg_fen.specs.Lengths.{length_of}
 use Rattle.pg_san.specs.Listing.{IsTextFault}
 use Rattle.pg_checker.specs.Answer.{IsExactAnswer}
 use Rattle.pg_checker.specs.Check.{Accepts, Refuses}
-use Rattle.pg_checker.specs.Cuts.{CheckRules}
+use Rattle.pg_checker.specs.Terms.{Terms}
 use Rattle.pg_checker.specs.declared.certify.Proved.{Proved}
 use Rattle.pg_checker.specs.ProblemText.{IsProblemFault}
 pub use Rattle.pg_texts.specs.Spelled.{AreSpelled}
@@ -21,25 +21,22 @@ pub record Texts : Type 0 where
   pub length : List ℕ
   pub games : List ℕ
 
--- what the check goes by: the rules for what the texts spell, the limits, and the bytes that its source gives, where it tells them
-pub record Terms : Type 0 where
-  pub rules : Placement → ℕ → List (List Move) → CheckRules
-  pub max_records : ℕ
-  pub max_named : ℕ
-  pub known : Option (List ℕ)
-
 -- which have failed: the source of the check, and the sink of the report
 pub record Failures : Type 0 where
   pub source : Bool
   pub sink : Bool
 
--- why a check of a list ends without its report: the check does not say yes, for a cause that it has; or it did, and the sink has failed
+-- these, one after the other
+abbrev pub failures : Bool → Bool → Failures
+failures source sink = record { source = source; sink = sink }
+
+-- why a check of a list ends without its report: the check does not
+-- say yes, for a cause that it has; or it did, and the sink has failed
 abbrev pub IsCheckFault : Placement → ℕ → List (List Move) → Terms → Failures → RunFault → Type 0
 IsCheckFault d n list t failed (Check fault) =
-    Accepts (t.rules d n list) d list t.max_records t.max_named t.known (Err fault)
-    × Refuses (t.rules d n list) d list t.max_records t.max_named t.known failed.source (Err fault)
+    Accepts t d n list (Err fault) × Refuses t d n list failed.source (Err fault)
 IsCheckFault d n list t failed Write =
-    IsExactAnswer d n list × (failed.sink ≡ true) × ((proved : Proved) × Accepts (t.rules d n list) d list t.max_records t.max_named t.known (Ok proved))
+    IsExactAnswer d n list × (failed.sink ≡ true) × ((proved : Proved) × Accepts t d n list (Ok proved))
 IsCheckFault d n list t failed fault = ⊥
 
 -- the cause lies in the texts alone
@@ -48,11 +45,14 @@ IsOfTexts (Check fault) = ⊥
 IsOfTexts Write = ⊥
 IsOfTexts fault = Unit {0}
 
--- why three texts and a certificate end without a report: a text is refused, the diagram first, then the length, then the games; else as the check of what they spell
+-- why three texts and a certificate end without a report: a text is refused, the
+-- diagram first, then the length, then the games; else as the check of what they spell
 abbrev pub IsRunFault : Texts → Terms → Failures → RunFault → Type 0
 IsRunFault asked t failed (Diagram fault) = IsProblemFault asked.diagram asked.length (Diagram fault)
 IsRunFault asked t failed (Length fault) = IsProblemFault asked.diagram asked.length (Length fault)
 IsRunFault asked t failed (Games fault) =
-    ((d : Placement) × (diagram_of (fields asked.diagram) ≡ Ok d)) × ((n : ℕ) × (length_of asked.length ≡ Ok n)) × IsTextFault asked.games fault
+    ((d : Placement) × (diagram_of (fields asked.diagram) ≡ Ok d)) × ((n : ℕ) × (length_of asked.length ≡ Ok n))
+    × IsTextFault asked.games fault
 IsRunFault asked t failed fault =
-    (d : Placement) × (n : ℕ) × (list : List (List Move)) × AreSpelled asked.diagram asked.length asked.games d n list × IsCheckFault d n list t failed fault
+    (d : Placement) × (n : ℕ) × (list : List (List Move)) × AreSpelled asked.diagram asked.length asked.games d n list
+    × IsCheckFault d n list t failed fault

@@ -50,17 +50,22 @@ behind_text n words = codes ", " ++ (decimal n ++ words)
 -- how many of so many plies of its own are left over, or short, for a need of n; nothing where no length is asked
 abbrev pub spare_text : Option ℕ → ℕ → List ℕ
 spare_text None n = codes "\n"
-spare_text (Some own) n = cond (nat_le n own) (behind_text (own - n) (codes " left over\n")) (behind_text (n - own) (codes " short\n"))
+spare_text (Some own) n =
+    cond (nat_le n own) (behind_text (own - n) (codes " left over\n")) (behind_text (n - own) (codes " short\n"))
 
--- what a colour needs, for what reason, and what is left over of its plies of a game of the length that is asked, if one is
+-- what a colour needs, for what reason, and what is left over
+-- of its plies of a game of the length that is asked, if one is
 abbrev pub need_text : Color → Option ℕ → Option Reason → Option ℕ → List ℕ
 need_text c None reason asked = codes "cannot stand so in 64.0 moves or less" ++ (reason_text reason ++ codes "\n")
-need_text c (Some n) reason asked = (codes "needs " ++ (counted_text n (codes " ply") (codes " plies") ++ reason_text reason)) ++ spare_text (option_map (own_plies c) asked) n
+need_text c (Some n) reason asked =
+    (codes "needs " ++ (counted_text n (codes " ply") (codes " plies") ++ reason_text reason))
+    ++ spare_text (option_map (own_plies c) asked) n
 
 -- the line of a colour, by what it needs from the initial array
 abbrev pub IsSideLine : Placement → Color → Option ℕ → List ℕ → Type 0
 IsSideLine d c asked text =
-    (need : Option ℕ) × (reason : Option Reason) × IsSideNeed d c need reason × (text ≡ men_text d c ++ (captured_text d c ++ need_text c need reason asked))
+    (need : Option ℕ) × (reason : Option Reason) × IsSideNeed d c need reason
+    × (text ≡ men_text d c ++ (captured_text d c ++ need_text c need reason asked))
 
 -- the least length, none where no length up to 128 plies is open
 abbrev pub open_line : Option ℕ → List ℕ
@@ -70,7 +75,8 @@ open_line (Some n) = codes "no game is shorter than " ++ (length_text n ++ codes
 -- the board, a line for white and one for black, the least length, and with a length what may be expected of a search
 abbrev pub IsShown : Placement → Option ℕ → Option ℕ → List ℕ → Type 0
 IsShown d asked least text =
-    (white : List ℕ) × (black : List ℕ) × (expected : Option ℕ) × IsSideLine d White asked white × IsSideLine d Black asked black × IsExpected asked expected
+    (white : List ℕ) × (black : List ℕ) × (expected : Option ℕ) × IsSideLine d White asked white
+    × IsSideLine d Black asked black × IsExpected asked expected
     × (text ≡ board_text d ++ (white ++ (black ++ (open_line least ++ expected_text expected))))
 
 -- the texts spell a diagram and a length
@@ -87,6 +93,7 @@ IsShowFault text failed Write = ((d : Placement) × (diagram_of (fields text) �
 -- the same where a length is asked: after the diagram its text may be refused
 abbrev pub IsShowWithinFault : List ℕ → List ℕ → Bool → ShowFault → Type 0
 IsShowWithinFault text length failed (Diagram fault) = diagram_of (fields text) ≡ Err fault
-IsShowWithinFault text length failed (Length fault) = ((d : Placement) × (diagram_of (fields text) ≡ Ok d)) × (length_of length ≡ Err fault)
+IsShowWithinFault text length failed (Length fault) =
+    ((d : Placement) × (diagram_of (fields text) ≡ Ok d)) × (length_of length ≡ Err fault)
 IsShowWithinFault text length failed Memory = IsAsked text length
 IsShowWithinFault text length failed Write = IsAsked text length × (failed ≡ true)

@@ -15,8 +15,9 @@ use Rattle.pg_report.specs.declared.sides.Reason.TheVariants.{Captures, Promotio
 abbrev pub own_plies : Color → ℕ → ℕ
 own_plies c m = plies_left White c m
 
--- for this reason no game of m plies from the initial array ends on d: what c has to capture, the pieces that its pawns have
--- to become, the files that they have to change, by lines or by prices, the moves of the nearest men, or those by prices
+-- for this reason no game of m plies from the initial array ends on d: what c has
+-- to capture, the pieces that its pawns have to become, the files that they have to
+-- change, by lines or by prices, the moves of the nearest men, or those by prices
 abbrev pub Binds : Placement → ℕ → Color → Reason → Type 0
 Binds d m c Captures = CapturesFor d array_state.board White m c
 Binds d m c Promotions = PromotionsFor d array_state.board c
@@ -36,7 +37,8 @@ abbrev pub IsLastReason : Placement → ℕ → Color → Option Reason → Type
 IsLastReason d m c None = m ≡ 0
 IsLastReason d m c (Some reason) = (k : ℕ) × (m ≡ k + 1) × Binds d k c reason
 
--- c needs n plies of its own, where m is the first number of plies that is open for it, and no game of fewer plies ends on d
+-- c needs n plies of its own, where m is the first number of
+-- plies that is open for it, and no game of fewer plies ends on d
 pub record NeedsPlies (d : Placement) (c : Color) (n : ℕ) (reason : Option Reason) : Type 0 where
   pub plies : ℕ
   pub own : n ≡ own_plies c plies

@@ -1,5 +1,6 @@
--- The status with which the program ends: 0 sound, or a command done; 1 another verdict, or a list or a certificate that is
--- refused, or a search that finds no list; 2 bad words or texts; 3 want of memory; 4 a file that is not read or written.
+-- The status with which the program ends: 0 sound, or a command done; 1 another verdict, or a list or a certificate
+-- that is refused, or a search that finds no list; 2 bad words or texts; 3 want of memory; 4 a file that is not
+-- read or written.
 use Rattle.std.specs.Prelude.{ℕ}
 use Rattle.pg_moves.specs.declared.fault.CountFault.{CountFault}
 use Rattle.pg_moves.specs.declared.fault.CountFault.TheVariants as counting

@@ -6,9 +6,10 @@ ghost use Rattle.pg_position.specs.declared.moves.Move.{Move};
 ghost use Rattle.pg_checker.specs.Answer.{IsExactAnswer};
 ghost use Rattle.pg_checker.specs.Check.{Accepts};
 ghost use Rattle.pg_checker.specs.Cuts.{rules_by};
+ghost use Rattle.pg_checker.specs.Terms.{terms};
 ghost use Rattle.pg_checker.specs.declared.certify.Proved.{Proved};
 ghost use Rattle.pg_texts.specs.Report.{IsVerdict, IsReport};
-ghost use Rattle.pg_report.specs.Run.{AreSpelled, IsCheckFault, IsOfTexts, IsRunFault};
+ghost use Rattle.pg_report.specs.Run.{AreSpelled, IsCheckFault, IsOfTexts, IsRunFault, failures};
 
 use pg_captures::Bound;
 use pg_certificate::{Sink, Source};
@@ -41,19 +42,14 @@ pub fn run_listed<R: Source, W: Sink>(
     ensures text { OnOk result ((text : List ℕ)
         × IsReport diagram.now length games.now text × Appends (W.held out.old) (W.held out.new) text) }
     ensures accepted { OnOk result ((proved : Proved)
-        × Accepts (rules_by code_of excluded bounds.now diagram.now length games.now) diagram.now games.now
-        max_records max_named (R.left source.old) (Ok proved)) }
+        × Accepts (terms (rules_by code_of excluded bounds.now) max_records max_named (R.left source.old))
+        diagram.now length games.now (Ok proved)) }
     ensures end { OnOk result (IsAtEnd (R.left source.new)) }
     ensures runs { OnOk result (R.has_failed source.new ≡ false) }
     ensures written { OnOk result (W.has_failed out.new ≡ false) }
     ensures err { IfErr result (IsCheckFault diagram.now length games.now
-        (record {
-          rules = rules_by code_of excluded bounds.now;
-          max_records = max_records;
-          max_named = max_named;
-          known = R.left source.old;
-        })
-        (record { source = R.has_failed source.new; sink = W.has_failed out.new })) }
+        (terms (rules_by code_of excluded bounds.now) max_records max_named (R.left source.old))
+        (failures (R.has_failed source.new) (W.has_failed out.new))) }
     ensures unwritten { IfErr result (λ e. e ≢ RunFault.Write → out.new ≡ out.old) }
 {
     match check(
@@ -100,20 +96,16 @@ pub fn run_check<R: Source, W: Sink>(
     ensures ok { IfOk result (λ v. (d : Placement) × (n : ℕ) × (list : List (List Move))
         × AreSpelled diagram.now length.now games.now d n list × IsExactAnswer d n list × IsVerdict list v
         × ((text : List ℕ) × IsReport d n list text × Appends (W.held out.old) (W.held out.new) text)
-        × ((proved : Proved) × Accepts (rules_by code_of excluded bounds.now d n list) d list max_records max_named
-        (R.left source.old) (Ok proved))) }
+        × ((proved : Proved)
+        × Accepts (terms (rules_by code_of excluded bounds.now) max_records max_named (R.left source.old))
+        d n list (Ok proved))) }
     ensures end { OnOk result (IsAtEnd (R.left source.new)) }
     ensures runs { OnOk result (R.has_failed source.new ≡ false) }
     ensures written { OnOk result (W.has_failed out.new ≡ false) }
     ensures err { IfErr result (IsRunFault
         (record { diagram = diagram.now; length = length.now; games = games.now })
-        (record {
-          rules = rules_by code_of excluded bounds.now;
-          max_records = max_records;
-          max_named = max_named;
-          known = R.left source.old;
-        })
-        (record { source = R.has_failed source.new; sink = W.has_failed out.new })) }
+        (terms (rules_by code_of excluded bounds.now) max_records max_named (R.left source.old))
+        (failures (R.has_failed source.new) (W.has_failed out.new))) }
     ensures unwritten { IfErr result (λ e. e ≢ RunFault.Write → out.new ≡ out.old) }
     ensures unread { IfErr result (λ e. IsOfTexts e → source.new ≡ source.old) }
 {
