@@ -28,7 +28,10 @@ fn lead_of(question: &Question, position: &Position, ply: usize) -> Option<Move>
     {
         return None;
     }
-    if position.is_legal(&m) { Some(m) } else { None }
+    match position.play(m) {
+        Ok(_) => Some(m),
+        Err(_) => None,
+    }
 }
 
 // The next move that is familiar, or that is not, and is not this one.
