@@ -1,7 +1,7 @@
 #!/usr/bin/env bash
 # What the program's work costs in instructions, as valgrind counts them: the same for the same program and input, whatever
-# else the machine is doing. The first rows are whole runs, start of the program included; the others are what one more
-# record costs the checker, from two runs of bench_checks, and what one node costs a search. Last come the counts beside a peer
+# else the machine is doing. The first rows are whole runs, start of the program included, and what one node costs a search; the
+# others are what one more record costs the checker, from two runs of bench_checks. Last come the counts beside a peer
 # (counts.sh).
 set -eu
 top=$(cd "$(dirname "$(readlink -f "$0")")/.." && pwd)
@@ -43,6 +43,11 @@ run 'check of what that wrote, version 2' "$pg" check "$schweig" 4.0 "$work/schw
 run 'check of examples/nine-moves, version 2' "$pg" check "$nine" 9.0 "$top/examples/nine-moves/certificate.pgc" "$top/examples/nine-moves/games"
 run 'check of examples/twelve-moves, version 2' "$pg" check "$twelve" 12.0 "$top/examples/twelve-moves/certificate.pgc" "$top/examples/twelve-moves/games"
 run "search of ${long%%/*}.. 9.5, its check included" "$pg" search "$long" 9.5 "$work/long.pgc" --nodes 2000000
+"$pg" search "$long" 9.5 "$work/long.pgc" --nodes 2000000 | sed '1,3d;$d' >"$work/games"
+both=$(instructions "$pg" search "$long" 9.5 "$work/again.pgc" --nodes 2000000)
+check=$(instructions "$pg" check "$long" 9.5 "$work/long.pgc" "$work/games")
+start=$(instructions "$pg" --version)
+echo "$both $check $start" | awk '{ printf "%-60s %8.0f\n", "a node of that search, its check taken off", ($1 - $2 + $3) / 1131833 }'
 run 'count of the array, 4 plies' "$pg" count "$array" 4
 run "count of ${many%% *}, 3 plies" "$pg" count "$many" 3
 record 'a record 01 on a diagram of 64 men, 2.0' full
