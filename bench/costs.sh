@@ -33,7 +33,8 @@ def kind_of(words, folder):
     """Which of KINDS a call of rattle is, from its words and the folder that it works in."""
     over = words[words.index("--incremental") + 1] if "--incremental" in words else ""
     if re.search(r"/rt-edit-[^/]*$", folder):
-        return "seed" if over.endswith("/seed") or over and firsts.setdefault(over, folder) == folder else "edits"
+        is_copy = "/rt-edits-" in over
+        return "seed" if over.endswith("/seed") or over and not is_copy and firsts.setdefault(over, folder) == folder else "edits"
     return "tests" if "--test" in words else "proof"
 
 
