@@ -8,14 +8,16 @@ ghost use Rattle.pg_guide.specs.Stops.{EndsTruly, Finds, IsStopFault};
 ghost use Rattle.pg_guide.specs.Why.{IsOneLineFault, IsOneLine, IsProved, IsRefusal, IsWhyFault, reading_failures};
 
 use crate::fault::WhyFault;
+use crate::found::{Cited, Found};
 use crate::machine::{Along, Question, Stop};
 use crate::walk::walk;
+use crate::writing::write_found;
 use pg_captures::Bound;
 use pg_certificate::{Record, Refused, Sink, Source};
 use pg_checker::{Fault, Problem, RunFault, check};
 use pg_position::Move;
 use pg_san::{Games, read_games};
-use pg_sentences::{Cited, Ending, Found, write_found};
+use pg_sentences::Ending;
 use std::alloc::Global;
 
 /// What is asked: the texts of a diagram, of a length in moves, and of the moves of one game from the

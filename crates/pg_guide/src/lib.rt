@@ -5,10 +5,12 @@
 
 mod explaining;
 mod fault;
+mod found;
 mod gathering;
 mod machine;
 mod trees;
 mod walk;
+mod writing;
 
 pub use explaining::{Asked, why};
 pub use fault::WhyFault;

@@ -1,12 +1,13 @@
 //! What a walk looks for, and what it finds along a line.
 
+use crate::found::Cited;
 use arrayvec::ArrayVec;
 use pg_captures::{Bound, Captures, Promotions};
 use pg_certificate::Record;
 use pg_fen::Diagram;
 use pg_pawns::PawnFiles;
 use pg_position::{Move, Position};
-use pg_sentences::{Cited, Ending, Tally};
+use pg_sentences::{Ending, Tally};
 use pg_travel::Travel;
 
 // What is looked for: what the tree of the stated length says along a line of moves, or, on a second walk,

@@ -9,13 +9,14 @@ ghost use Rattle.pg_guide.specs.Stops.{Finds, StopsTruly};
 ghost use Rattle.pg_guide.specs.Trees.{BreaksTruly};
 ghost use Rattle.pg_guide.specs.declared.machine.Question.{Question};
 
+use crate::found::Cited;
 use crate::machine::{Along, Question, Stop, count, count_leaf, recount};
 use crate::trees::{Broken, Child, Closed, Leaf, TreeWalk};
 use arrayvec::ArrayVec;
 use pg_certificate::{Record, Source};
 use pg_position::{Move, Position};
 use pg_san::{AddFault, Games};
-use pg_sentences::{Cited, Ending, Tally};
+use pg_sentences::{Ending, Tally};
 
 // Why a walk along a line stops where it breaks off.
 fn stop_of(broken: Broken) -> Stop

@@ -68,8 +68,8 @@ fn last_ply(node: &Node, tally: &Tally) -> Sentence {
     text
 }
 
-// What is said of an expanded node: of its moves, and of the games below.
-pub(crate) fn expanded(node: &Node, tally: &Tally) -> Sentence {
+/// What is said of an expanded node: of its moves, and of the games below. No clause speaks of the words.
+pub fn expanded(node: &Node, tally: &Tally) -> Sentence {
     if tally.moves > 0 && node.left == 1 {
         return last_ply(node, tally);
     }

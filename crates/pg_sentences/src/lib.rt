@@ -3,7 +3,7 @@
 #![tactic(auto)]
 
 mod counts;
-mod found;
+mod ending;
 mod names;
 mod numbers;
 mod pairing;
@@ -11,9 +11,9 @@ mod prices;
 mod sentences;
 mod tally;
 mod travel;
-mod writing;
 
-pub use found::{Cited, Ending, Found};
-pub use sentences::{Grounds, reason_of_bounds, reason_of_cut};
+pub use counts::expanded;
+pub use ending::Ending;
+pub use numbers::Node;
+pub use sentences::{Grounds, Sentence, ended, reason_of_bounds, reason_of_cut};
 pub use tally::Tally;
-pub use writing::write_found;

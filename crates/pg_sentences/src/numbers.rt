@@ -9,12 +9,12 @@ use pg_pawns::shift_need;
 use pg_position::Position;
 use std::fmt::Write;
 
-// A node of a certificate: the diagram to come to, its position, and the plies left.
+/// A node of a certificate: the diagram to come to, its position, and the plies left.
 #[derive(Drop)]
-pub(crate) struct Node<'a> {
-    pub(crate) diagram: &'a Diagram,
-    pub(crate) position: &'a Position,
-    pub(crate) left: u8,
+pub struct Node<'a> {
+    pub diagram: &'a Diagram,
+    pub position: &'a Position,
+    pub left: u8,
 }
 
 // The colour's plies among those that are left.

@@ -1,6 +1,6 @@
 //! What is said of a node that ends.
 
-use crate::found::Ending;
+use crate::ending::Ending;
 use crate::numbers::{Node, captures_of, files_of, promotions_of};
 use crate::prices::reason_of_prices;
 use crate::travel::travel_of;
@@ -22,14 +22,14 @@ const CODES: [u8; 4] = [
     Travel::CODE,
 ];
 
-// What is said of a node. What would be longer is cut off.
-pub(crate) type Sentence = ArrayString<320>;
+/// What is said of a node. What would be longer is cut off.
+pub type Sentence = ArrayString<320>;
 
 /// Why a node is excluded: the code of the bound, and in words what excludes there; no words where that is not seen.
 #[derive(Clone, Copy)]
 pub struct Grounds {
     pub code: u8,
-    pub text: ArrayString<320>,
+    pub text: Sentence,
 }
 
 // Why the bound with this code excludes a colour; none where it does not, or is not known.
@@ -101,8 +101,8 @@ fn said(words: &str) -> Sentence {
     text
 }
 
-// What is said of a node that ends.
-pub(crate) fn ended(node: &Node, ending: &Ending) -> Sentence {
+/// What is said of a node that ends. No clause speaks of the words.
+pub fn ended(node: &Node, ending: &Ending) -> Sentence {
     match ending {
         Ending::Leaf(true) => said("a solution"),
         Ending::Leaf(false) => said("does not end on the diagram"),

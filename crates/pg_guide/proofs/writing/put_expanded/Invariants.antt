@@ -1,5 +1,5 @@
 use Rattle.std.proofs.Common.{◌≡◌}
-use Rattle.pg_sentences.proofs.writing.put_expanded.Given as goal
+use Rattle.pg_guide.proofs.writing.put_expanded.Given as goal
 
 -- the sink is as it was
 abbrev pub invariant-loop-tally : goal.invariant-loop-tally

@@ -1,13 +1,10 @@
 //! The lines that are written.
 ghost use Rattle.std.specs.Prelude.{◌≡◌, true, false, OnOk, OnErr};
 
-use crate::counts::expanded;
-use crate::found::{Cited, Ending, Found};
-use crate::numbers::Node;
-use crate::sentences::{Sentence, ended};
-use crate::tally::Tally;
+use crate::found::{Cited, Found};
 use pg_certificate::{Refused, Sink};
 use pg_position::{Move, Position};
+use pg_sentences::{Ending, Node, Sentence, Tally, ended, expanded};
 use pg_texts::write_movetext;
 use std::fmt::Write;
 
@@ -169,12 +166,12 @@ fn put_expanded<W: Sink>(found: &Found, out: &mut W) -> Result<(), Refused>
     Ok(())
 }
 
-/// Appends what was found along a line of moves: a line of text for each expanded node, from the initial array on, and
-/// one for what ends the line of moves. docs/FORMATS.md has the sentences; no clause speaks of them.
-///
-/// # Errors
-/// `Refused` where the sink has failed.
-pub fn write_found<W: Sink>(found: &Found, out: &mut W) -> Result<(), Refused>
+// Appends what was found along a line of moves: a line of text for each expanded node, from the initial array on, and
+// one for what ends the line of moves. docs/FORMATS.md has the sentences; no clause speaks of them.
+//
+// # Errors
+// `Refused` where the sink has failed.
+pub(crate) fn write_found<W: Sink>(found: &Found, out: &mut W) -> Result<(), Refused>
     ensures runs { OnOk result (W.has_failed out.new ≡ W.has_failed out.old) }
     ensures fault { OnErr result (W.has_failed out.new ≡ true) }
 {
