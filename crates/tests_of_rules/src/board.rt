@@ -2,7 +2,7 @@
 
 mod callers;
 
-use crate::texts::{cells, square};
+use crate::texts::{cells, check_all, check_row, square};
 use pg_board::*;
 use std::process::Abort;
 
@@ -25,7 +25,13 @@ struct Cells {
 
 impl Cells {
     fn count(&self, man: Man) -> usize {
-        self.cells.iter().filter(|cell| **cell == Some(man)).count()
+        let mut count = 0usize;
+        for i in 0..64u8 {
+            if self.cells[i as usize] == Some(man) {
+                count = count.saturating_add(1);
+            }
+        }
+        count
     }
 
     fn king(&self, color: Color) -> Option<Square> {
@@ -37,29 +43,39 @@ impl Cells {
         }
         None
     }
+
+    // Puts a man on a square, or none, and answers what stood there.
+    fn replace(&mut self, square: Square, man: Option<Man>) -> Option<Man> {
+        let i = square.index() as usize;
+        let stood = self.cells[i];
+        self.cells[i] = man;
+        stood
+    }
+}
+
+// Whether a square is to be of a set.
+fn check_set(rt: &impl Abort, set: SquareSet, i: u8, wanted: bool) {
+    if i < 64 {
+        assert!(rt; set.contains(Square::at(i)) == wanted, "square {i}");
+    }
 }
 
 // That each call that reads answers alike for the board and for the cells.
 fn compare(rt: &impl Abort, board: &Board, cells: &Cells) {
     for i in 0..64u8 {
         let man = cells.cells[i as usize];
-        assert_eq!(rt; board.get(Square::at(i)), man, "square {i}");
-        assert_eq!(rt;
-            board.occupied().contains(Square::at(i)),
-            man.is_some(),
-            "square {i}"
-        );
+        assert!(rt; board.get(Square::at(i)) == man, "square {i}");
+        check_set(rt, board.occupied(), i, man.is_some());
         for color in COLORS {
-            let own = man.is_some_and(|man| man.color == color);
-            assert_eq!(rt;
-                board.squares_of_color(color).contains(Square::at(i)),
-                own,
-                "square {i}"
-            );
+            let own = match man {
+                Some(man) => man.color == color,
+                None => false,
+            };
+            check_set(rt, board.squares_of_color(color), i, own);
         }
     }
     for color in COLORS {
-        assert_eq!(rt; board.king(color), cells.king(color));
+        assert!(rt; board.king(color) == cells.king(color));
         for kind in KINDS {
             compare_man(rt, board, cells, Man::new(color, kind));
         }
@@ -67,13 +83,13 @@ fn compare(rt: &impl Abort, board: &Board, cells: &Cells) {
 }
 
 fn compare_man(rt: &impl Abort, board: &Board, cells: &Cells, man: Man) {
-    assert_eq!(rt; board.count(man) as usize, cells.count(man), "{man:?}");
+    assert!(rt; board.count(man) as usize == cells.count(man));
     for i in 0..64u8 {
-        let here = cells.cells[i as usize] == Some(man);
-        assert_eq!(rt;
-            board.squares_of(man).contains(Square::at(i)),
-            here,
-            "{man:?} on {i}"
+        check_set(
+            rt,
+            board.squares_of(man),
+            i,
+            cells.cells[i as usize] == Some(man),
         );
     }
 }
@@ -81,12 +97,10 @@ fn compare_man(rt: &impl Abort, board: &Board, cells: &Cells, man: Man) {
 // Puts the man on the square, and takes away what stands some squares on.
 fn change(rt: &impl Abort, board: &mut Board, cells: &mut Cells, square: Square, man: Man) {
     board.put(square, man);
-    cells.cells[square.index() as usize] = Some(man);
+    cells.replace(square, Some(man));
     compare(rt, board, cells);
-    let far = (square.index() + 29) % 64;
-    let taken = board.take(Square::at(far));
-    assert_eq!(rt; taken, cells.cells[far as usize], "take {far}");
-    cells.cells[far as usize] = None;
+    let far = Square::at((square.index() + 29) % 64);
+    assert!(rt; board.take(far) == cells.replace(far, None));
     compare(rt, board, cells);
 }
 
@@ -165,11 +179,11 @@ fn check_square(rt: &impl Abort, row: &str) {
     let (file, rank) = (number(rt, file), number(rt, rank));
     match Square::new(file, rank) {
         Some(square) => {
-            assert!(rt; wanted.parse::<u8>() == Ok(square.index()), "{row}");
-            assert!(rt; square.file() == file && square.rank() == rank, "{row}");
-            assert!(rt; Square::from_index(square.index()) == Some(square), "{row}");
+            check_row(rt, row, wanted.parse::<u8>() == Ok(square.index()));
+            check_row(rt, row, square.file() == file && square.rank() == rank);
+            check_row(rt, row, Square::from_index(square.index()) == Some(square));
         }
-        None => assert!(rt; wanted == "none", "{row}"),
+        None => check_row(rt, row, wanted == "none"),
     }
 }
 
@@ -186,21 +200,35 @@ fn set(rt: &impl Abort, names: &str) -> SquareSet {
 fn sets_of_squares(rt: HostRuntime) {
     let ends = set(&rt, "h8 a1");
     let three = set(&rt, "h8 a1 e4");
-    assert!(rt; three == ends | SquareSet::single(Square::at(28)));
-    assert!(rt; three - ends == SquareSet::single(Square::at(28)));
-    assert!(rt; SquareSet::full() & ends == ends && SquareSet::of_bits(ends.bits()) == ends);
-    assert!(rt; three.meets(ends) && !ends.contains(Square::at(28)));
-    assert!(rt; (ends - three).is_empty());
+    let e4 = Square::at(28);
+    check_all(
+        &rt,
+        &[
+            three == ends | SquareSet::single(e4),
+            three - ends == SquareSet::single(e4),
+            SquareSet::full() & ends == ends,
+            SquareSet::of_bits(ends.bits()) == ends,
+            three.meets(ends),
+            !ends.contains(e4),
+            (ends - three).is_empty(),
+        ],
+    );
 }
 
 #[test]
 fn squares_of_sets(rt: HostRuntime) {
     let ends = set(&rt, "h8 a1");
     let three = set(&rt, "h8 a1 e4");
-    assert!(rt; three.len() == 3 && three.first() == Some(Square::at(0)));
-    assert!(rt; three.last() == Some(Square::at(63)));
-    assert!(rt; three.first_from(29) == Some(Square::at(63)));
-    assert!(rt; ends.first_from(64).is_none());
+    check_all(
+        &rt,
+        &[
+            three.len() == 3,
+            three.first() == Some(Square::at(0)),
+            three.last() == Some(Square::at(63)),
+            three.first_from(29) == Some(Square::at(63)),
+            ends.first_from(64).is_none(),
+        ],
+    );
 }
 
 #[test]
@@ -215,10 +243,19 @@ fn squares_in_order(rt: HostRuntime) {
             "{index}"
         );
     }
-    assert!(rt; squares.next().is_none() && left.pop_first().is_none());
-    assert!(rt; left == SquareSet::empty());
+    let last = squares.next();
     let end = squares;
-    assert!(rt; squares.next().is_none() && squares == end && squares != start);
+    check_all(
+        &rt,
+        &[
+            last.is_none(),
+            squares.next().is_none(),
+            squares == end,
+            squares != start,
+            left.pop_first().is_none(),
+            left == SquareSet::empty(),
+        ],
+    );
 }
 
 #[test]
@@ -236,7 +273,15 @@ fn orders(rt: HostRuntime) {
 fn shades(rt: HostRuntime) {
     let (a1, h1) = (square(&rt, "a1"), square(&rt, "h1"));
     let (light, dark) = (SquareSet::light(), SquareSet::dark());
-    assert!(rt; light.contains(h1) && !light.contains(a1));
-    assert!(rt; dark.contains(a1) && !dark.contains(h1));
-    assert!(rt; light.len() == 32 && dark.len() == 32);
+    check_all(
+        &rt,
+        &[
+            light.contains(h1),
+            !light.contains(a1),
+            dark.contains(a1),
+            !dark.contains(h1),
+            light.len() == 32,
+            dark.len() == 32,
+        ],
+    );
 }

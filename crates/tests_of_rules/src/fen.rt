@@ -3,7 +3,7 @@
 mod callers;
 mod positions;
 
-use crate::texts::{check_case, check_shown, halves};
+use crate::texts::{check_all, check_case, check_shown, check_text, halves};
 use pg_fen::text::digits;
 use pg_fen::*;
 use pg_position::BadPosition;
@@ -16,17 +16,17 @@ const KINGS: &str = "4k3/8/8/8/8/8/8/4K3";
 // That a text is read as a length of so many plies that is written so, or refused by a fault that is shown so.
 fn check_length(rt: &impl Abort, text: &str, wanted: &str) {
     match Length::read(text) {
-        Ok(length) => {
-            let (plies, written) = wanted.split_once(' ').expect(rt, text);
-            assert_eq!(rt; digits(length.plies() as usize).as_str(), plies, "{text}");
-            assert_eq!(rt; length.write().as_str(), written, "{text}");
-            assert!(rt;
-                Length::from_plies(length.plies()) == Some(length),
-                "{text}"
-            );
-        }
+        Ok(length) => check_plies(rt, text, length, wanted),
         Err(fault) => check_case(rt, text, &fault, wanted),
     }
+}
+
+// That a length has so many plies, and is written so.
+fn check_plies(rt: &impl Abort, text: &str, length: Length, wanted: &str) {
+    let (plies, written) = wanted.split_once(' ').expect(rt, text);
+    check_text(rt, text, digits(length.plies() as usize).as_str(), plies);
+    check_text(rt, text, length.write().as_str(), written);
+    assert!(rt; Length::from_plies(length.plies()) == Some(length));
 }
 
 // The same of each row of a table.
@@ -81,9 +81,9 @@ fn diagram(rt: &impl Abort, text: &str) -> Diagram {
 fn check_diagram(rt: &impl Abort, text: &str, wanted: &str) {
     match Diagram::read(text) {
         Ok(read) => {
-            assert_eq!(rt; read.write().as_str(), wanted, "{text}");
+            check_text(rt, text, read.write().as_str(), wanted);
             let again = diagram(rt, wanted);
-            assert!(rt; again == read && again.packed() == read.packed(), "{text}");
+            check_all(rt, &[again == read, again.packed() == read.packed()]);
         }
         Err(fault) => check_case(rt, text, &fault, wanted),
     }

@@ -3,7 +3,9 @@
 mod counts;
 mod lists;
 
-use crate::texts::{cells, check_shown, halves, move_of, position};
+use crate::texts::{
+    cells, check_all, check_moves, check_row, check_shown, check_text, halves, move_of, position,
+};
 use pg_position::{Move, Position};
 use std::process::Abort;
 

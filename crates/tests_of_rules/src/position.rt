@@ -3,7 +3,7 @@
 mod games;
 mod positions;
 
-use crate::texts::{cells, check_shown, is_yes, move_of, position, square};
+use crate::texts::{cells, check_all, check_row, check_shown, is_yes, move_of, position, square};
 use pg_board::{Board, Color, Kind, Square};
 use pg_fen::man_of;
 use pg_position::{BadPosition, Illegal, Move, Position, Rights, is_enemy, is_vacant, stands};
@@ -56,16 +56,18 @@ fn leads(here: &Position, m: &Move, next: &Position) -> bool {
     here.is_legal(m) && here.after(m) == *next
 }
 
-// The position after a game, which must be legal: moves with blanks between them, or nothing.
+// The position after a game, which must be legal: moves with blanks between them.
 fn after(rt: &impl Abort, start: &str, game: &str) -> Position {
     let mut reached = position(rt, start);
     for text in game.split(' ') {
-        if !text.is_empty() {
-            let m = move_of(rt, text);
-            let next = reached.play(m).expect(rt, text);
-            assert!(rt; leads(&reached, &m, &next), "{text}");
-            reached = next;
-        }
+        reached = played(rt, &reached, &move_of(rt, text));
     }
     reached
+}
+
+// The position after a move, which must be legal.
+fn played(rt: &impl Abort, here: &Position, m: &Move) -> Position {
+    let next = here.play(*m).expect(rt, "a legal move");
+    assert!(rt; leads(here, m, &next));
+    next
 }

@@ -4,6 +4,8 @@ mod lists;
 mod reads;
 mod writes;
 
-use crate::texts::{cells, check_case, check_shown, halves, move_of, position};
+use crate::texts::{
+    cells, check_case, check_moves, check_row, check_shown, check_text, halves, move_of, position,
+};
 use pg_position::{Move, Position};
 use std::process::Abort;

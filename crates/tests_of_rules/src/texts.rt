@@ -1,7 +1,7 @@
 //! Positions, squares and moves as their texts give them, the cells of a table's row, and what a value shows.
 
 use arrayvec::ArrayString;
-use pg_board::Square;
+use pg_board::{Kind, Square};
 use pg_fen::{man_of, read_position};
 use pg_position::{Move, Position};
 use std::fmt::{Display, Write};
@@ -47,21 +47,60 @@ pub(crate) fn move_of(rt: &impl Abort, text: &str) -> Move {
     Move {
         from: square_of(rt, &bytes[..2]),
         to: square_of(rt, &bytes[2..4]),
-        promotion: bytes
-            .get(4)
-            .and_then(|letter| man_of(*letter))
-            .map(|man| man.kind),
+        promotion: promotion_of(bytes),
     }
+}
+
+// The kind that the fifth letter of a move's text names.
+fn promotion_of(bytes: &[u8]) -> Option<Kind> {
+    let Some(letter) = bytes.get(4) else {
+        return None;
+    };
+    match man_of(*letter) {
+        Some(man) => Some(man.kind),
+        None => None,
+    }
+}
+
+// That moves are those of a text, with blanks between them, in its order.
+pub(crate) fn check_moves(rt: &impl Abort, moves: &[Move], wanted: &str) {
+    let mut count = 0usize;
+    for text in wanted.split(' ') {
+        if !text.is_empty() {
+            check_row(rt, wanted, moves.get(count) == Some(&move_of(rt, text)));
+            count = count.saturating_add(1);
+        }
+    }
+    check_row(rt, wanted, moves.len() == count);
 }
 
 // That a value is shown by a text, and else the case of a table that gave it.
 pub(crate) fn check_case<T: Display>(rt: &impl Abort, case: &str, value: &T, wanted: &str) {
     let mut text = ArrayString::<128>::new();
-    assert!(rt; write!(text, "{value}").is_ok(), "{case}");
-    assert_eq!(rt; text.as_str(), wanted, "{case}");
+    assert!(rt; write!(text, "{value}").is_ok());
+    check_text(rt, case, text.as_str(), wanted);
+}
+
+// That a text is the one that is wanted, and else the case of a table that gave it.
+pub(crate) fn check_text(rt: &impl Abort, case: &str, found: &str, wanted: &str) {
+    assert!(rt; found == wanted, "{found}, and not {wanted}: {case}");
 }
 
 // That a value is shown by a text.
 pub(crate) fn check_shown<T: Display>(rt: &impl Abort, value: &T, wanted: &str) {
     check_case(rt, wanted, value, wanted);
+}
+
+// That what is wanted of a row holds.
+pub(crate) fn check_row(rt: &impl Abort, row: &str, holds: bool) {
+    assert!(rt; holds, "{row}");
+}
+
+// That each of some facts holds.
+pub(crate) fn check_all(rt: &impl Abort, facts: &[bool]) {
+    let mut number = 1u8;
+    for holds in facts {
+        assert!(rt; *holds, "fact {number}");
+        number = number.saturating_add(1);
+    }
 }

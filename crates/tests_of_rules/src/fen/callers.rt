@@ -38,9 +38,14 @@ fn same_bytes(a: &Diagram, b: &Diagram) -> bool
 #[test]
 fn calls(rt: HostRuntime) {
     let length = Length::read("18.5").expect(&rt, "18.5");
-    assert!(rt; read_back(length) == Ok(length));
-    assert_eq!(rt; longer(length).map(|l| l.plies()), Some(38));
     let diagram = super::diagram(&rt, super::KINGS);
-    assert!(rt; read_diagram_back(&diagram) == Ok(diagram));
-    assert!(rt; same_bytes(&diagram, &diagram));
+    super::check_all(
+        &rt,
+        &[
+            read_back(length) == Ok(length),
+            longer(length) == Length::from_plies(38),
+            read_diagram_back(&diagram) == Ok(diagram),
+            same_bytes(&diagram, &diagram),
+        ],
+    );
 }

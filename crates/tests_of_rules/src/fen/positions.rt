@@ -7,7 +7,7 @@ use pg_position::{Move, Position};
 // That a text of six fields is read as a position that is written so, or refused by a fault that is shown so.
 fn check_position(rt: &impl Abort, text: &str, wanted: &str) {
     match read_position(text) {
-        Ok(game) => assert_eq!(rt; write_position(&game).as_str(), wanted, "{text}"),
+        Ok(game) => check_text(rt, text, write_position(&game).as_str(), wanted),
         Err(fault) => check_case(rt, text, &fault, wanted),
     }
 }
@@ -72,10 +72,15 @@ fn after_e4(rt: HostRuntime) {
         full: 1,
     };
     let text = "rnbqkbnr/pppppppp/8/8/4P3/8/PPPP1PPP/RNBQKBNR b KQkq e3 0 1";
-    assert_eq!(rt; write_position(&game).as_str(), text);
-    let diagram = Diagram::read("rnbqkbnr/pppppppp/8/8/4P3/8/PPPP1PPP/RNBQKBNR").expect(&rt, text);
-    assert!(rt; diagram.matches(&position));
-    assert!(rt; Diagram::of(&position) == diagram);
-    assert!(rt; !diagram.matches(&Position::array()));
-    assert_eq!(rt; position.side(), Color::Black);
+    check_text(&rt, "e4", write_position(&game).as_str(), text);
+    let wanted = diagram(&rt, "rnbqkbnr/pppppppp/8/8/4P3/8/PPPP1PPP/RNBQKBNR");
+    check_all(
+        &rt,
+        &[
+            wanted.matches(&position),
+            Diagram::of(&position) == wanted,
+            !wanted.matches(&Position::array()),
+            position.side() == Color::Black,
+        ],
+    );
 }

@@ -18,11 +18,7 @@ fn check_counts(rt: &impl Abort, alloc: Global, row: &str) {
     let mut plies = 0u8;
     for games in wanted.split(' ') {
         let found = count(alloc, &start, plies).expect(rt, row);
-        assert_eq!(rt;
-            digits(found as usize).as_str(),
-            games,
-            "{plies} plies: {row}"
-        );
+        check_text(rt, row, digits(found as usize).as_str(), games);
         plies = plies.saturating_add(1);
     }
 }
@@ -88,12 +84,20 @@ fn promotions(rt: HostRuntime) {
     check(&rt, rt.alloc(), PROMOTIONS);
 }
 
+// Whether games of so many plies are refused as too deep.
+fn is_too_deep(alloc: Global, start: &Position, plies: u8) -> bool {
+    count(alloc, start, plies) == Err(CountFault::TooDeep)
+}
+
 #[test]
 fn too_deep(rt: HostRuntime) {
-    let array = Position::array();
-    assert_eq!(rt; count(rt.alloc(), &array, 9), Err(CountFault::TooDeep));
-    let mated = position(&rt, MATED);
-    assert_eq!(rt; count(rt.alloc(), &mated, 255), Err(CountFault::TooDeep));
+    check_all(
+        &rt,
+        &[
+            is_too_deep(rt.alloc(), &Position::array(), 9),
+            is_too_deep(rt.alloc(), &position(&rt, MATED), 255),
+        ],
+    );
 }
 
 #[test]
@@ -103,23 +107,31 @@ fn texts(rt: HostRuntime) {
     check_shown(&rt, &CountFault::Memory, "out of memory");
 }
 
+// That these are the legal moves of the array.
+fn check_first_moves(rt: &impl Abort, moves: &[Move]) {
+    check_all(
+        rt,
+        &[
+            moves.len() == 20,
+            moves.first() == Some(&move_of(rt, "b1a3")),
+            moves.last() == Some(&move_of(rt, "h2h4")),
+        ],
+    );
+}
+
 // How many of two calls, one for the legal moves of the array and one for its games of 3 plies, are
 // refused memory; a call that is not answers rightly.
 fn refusals(rt: &impl Abort, alloc: Global) -> u8 {
     let array = Position::array();
     let mut refused = 0u8;
     match legal_moves(alloc, &array) {
-        Ok(moves) => {
-            assert_eq!(rt; moves.len(), 20);
-            assert_eq!(rt; moves.as_slice().first(), Some(&move_of(rt, "b1a3")));
-            assert_eq!(rt; moves.as_slice().last(), Some(&move_of(rt, "h2h4")));
-        }
-        Err(AllocError) => refused = refused.saturating_add(1),
+        Ok(moves) => check_first_moves(rt, moves.as_slice()),
+        Err(AllocError) => refused = 1,
     }
     match count(alloc, &array, 3) {
-        Ok(games) => assert_eq!(rt; games, 8902),
+        Ok(games) => assert!(rt; games == 8902),
         Err(fault) => {
-            assert_eq!(rt; fault, CountFault::Memory);
+            assert!(rt; fault == CountFault::Memory);
             refused = refused.saturating_add(1);
         }
     }

@@ -7,13 +7,19 @@ use std::alloc::Global;
 // Walks all legal moves by the next one, and compares them with the list.
 fn walk(rt: &impl Abort, alloc: Global, position: &Position, expected: usize) {
     let moves = legal_moves(alloc, position).expect(rt, "memory");
-    assert_eq!(rt; moves.len(), expected);
+    assert!(rt; moves.len() == expected);
+    check_walk(rt, position, moves.as_slice());
+}
+
+// That these are the moves of a position, by the next one after each.
+fn check_walk(rt: &impl Abort, position: &Position, moves: &[Move]) {
     let mut last = None;
-    for m in &moves {
-        assert_eq!(rt; next_legal(position, last), Some(*m));
-        last = Some(*m);
+    for m in moves {
+        let next = next_legal(position, last);
+        assert!(rt; next == Some(*m));
+        last = next;
     }
-    assert_eq!(rt; next_legal(position, last), None);
+    assert!(rt; next_legal(position, last).is_none());
 }
 
 #[test]
@@ -31,11 +37,15 @@ fn check_next(rt: &impl Abort, table: &str) {
     for row in table.lines() {
         let (start, text, wanted) = cells(rt, row);
         let found = next_legal(&position(rt, start), Some(move_of(rt, text)));
-        let wanted = match wanted {
-            "none" => None,
-            then => Some(move_of(rt, then)),
-        };
-        assert_eq!(rt; found, wanted, "{row}");
+        check_row(rt, row, found == next_of(rt, wanted));
+    }
+}
+
+// The move that is wanted of a row, or none.
+fn next_of(rt: &impl Abort, wanted: &str) -> Option<Move> {
+    match wanted {
+        "none" => None,
+        text => Some(move_of(rt, text)),
     }
 }
 
@@ -86,8 +96,5 @@ fn promotions_in_order(rt: HostRuntime) {
     let start = position(&rt, "3r3k/4P3/8/8/8/8/8/K7 w - - 0 1");
     let expected = "a1b1 a1a2 a1b2 e7d8n e7d8b e7d8r e7d8q e7e8n e7e8b e7e8r e7e8q";
     let moves = legal_moves(rt.alloc(), &start).expect(&rt, "memory");
-    assert_eq!(rt; moves.len(), 11);
-    for (m, text) in moves.iter().zip(expected.split(' ')) {
-        assert_eq!(rt; *m, move_of(&rt, text), "{text}");
-    }
+    check_moves(&rt, moves.as_slice(), expected);
 }

@@ -18,19 +18,31 @@ fn illegal(rt: &impl Abort, wanted: &str) -> Option<Illegal> {
 fn check_last(rt: &impl Abort, table: &str) {
     for row in table.lines() {
         let (start, game, wanted) = cells(rt, row);
-        let (before, last) = game.rsplit_once(' ').unwrap_or(("", game));
-        let here = after(rt, start, before);
-        let m = move_of(rt, last);
-        assert_eq!(rt; here.play(m).err(), illegal(rt, wanted), "{row}");
-        assert_eq!(rt; here.is_legal(&m), wanted == "legal", "{row}");
+        let (here, m) = before_last(rt, start, game);
+        let is_refused_so = here.play(m).err() == illegal(rt, wanted);
+        let is_legal_so = here.is_legal(&m) == (wanted == "legal");
+        check_row(rt, row, is_refused_so && is_legal_so);
     }
+}
+
+// The position before the last move of a game, and that move.
+fn before_last(rt: &impl Abort, start: &str, game: &str) -> (Position, Move) {
+    let mut here = position(rt, start);
+    let mut last = None;
+    for text in game.split(' ') {
+        if let Some(m) = &last {
+            here = played(rt, &here, m);
+        }
+        last = Some(move_of(rt, text));
+    }
+    (here, last.expect(rt, game))
 }
 
 // That each row's game from its position leads to a position.
 fn check_games(rt: &impl Abort, table: &str) {
     for row in table.lines() {
         let (start, game, wanted) = cells(rt, row);
-        assert!(rt; after(rt, start, game) == position(rt, wanted), "{row}");
+        check_row(rt, row, after(rt, start, game) == position(rt, wanted));
     }
 }
 

@@ -31,7 +31,7 @@ fn refused_parts(rt: HostRuntime) {
         let (placement, rest, wanted) = cells(&rt, row);
         let (castling, passed) = rest.split_once(' ').expect(&rt, row);
         let found = parts(&rt, placement, Color::White, castling, passed).err();
-        assert_eq!(rt; found, Some(bad(&rt, wanted)), "{row}");
+        check_row(&rt, row, found == Some(bad(&rt, wanted)));
     }
 }
 
@@ -39,16 +39,23 @@ fn refused_parts(rt: HostRuntime) {
 fn parts_are_read_back(rt: HostRuntime) {
     let placement = "r3k2r/8/8/3pP3/8/8/8/R3K2R";
     let position = parts(&rt, placement, Color::White, "Kq", "d6").expect(&rt, placement);
-    assert!(rt; position.board() == board(placement));
-    assert_eq!(rt; position.side(), Color::White);
-    assert_eq!(rt; position.rights(), rights("Kq"));
-    assert_eq!(rt; position.passed(), Some(square(&rt, "d6")));
     let other = parts(&rt, placement, Color::White, "Kq", "-").expect(&rt, placement);
-    assert!(rt; position == position && position != other);
     let packed = position.packed();
     let kept = packed;
-    assert!(rt; kept == position.packed() && packed != other.packed());
-    assert!(rt; packed.position() == position);
+    check_all(
+        &rt,
+        &[
+            position.board() == board(placement),
+            position.side() == Color::White,
+            position.rights() == rights("Kq"),
+            position.passed() == Some(square(&rt, "d6")),
+            position == position,
+            position != other,
+            kept == position.packed(),
+            packed != other.packed(),
+            packed.position() == position,
+        ],
+    );
 }
 
 #[test]
@@ -73,14 +80,14 @@ fn attack_by_each_kind(rt: HostRuntime) {
     for row in ATTACKS.lines() {
         let (start, rest, wanted) = cells(&rt, row);
         let (color, names) = rest.split_once(' ').expect(&rt, row);
+        let by = if color == "White" {
+            Color::White
+        } else {
+            Color::Black
+        };
         for name in names.split(' ') {
-            let by = if color == "White" {
-                Color::White
-            } else {
-                Color::Black
-            };
             let hit = position(&rt, start).attacked(square(&rt, name), by);
-            assert_eq!(rt; hit, is_yes(&rt, wanted), "{name} of {row}");
+            assert!(rt; hit == is_yes(&rt, wanted), "{name} of {row}");
         }
     }
 }
@@ -96,8 +103,9 @@ fn same_futures(rt: HostRuntime) {
         let (with, without, wanted) = cells(&rt, row);
         let passed = position(&rt, with);
         let idle = position(&rt, without);
-        assert_eq!(rt; passed.same_future(&idle), is_yes(&rt, wanted), "{row}");
-        assert_eq!(rt; idle.same_future(&passed), is_yes(&rt, wanted), "{row}");
+        let is_same = is_yes(&rt, wanted);
+        let is_so = passed.same_future(&idle) == is_same;
+        check_row(&rt, row, is_so && idle.same_future(&passed) == is_same);
     }
 }
 
@@ -117,24 +125,25 @@ fn texts(rt: HostRuntime) {
 fn men_on_squares(rt: HostRuntime) {
     let board = Position::array().board();
     let (e1, e4, e7) = (square(&rt, "e1"), square(&rt, "e4"), square(&rt, "e7"));
-    assert!(rt; stands(&board, Color::White, Kind::King, e1));
-    assert!(rt; !stands(&board, Color::Black, Kind::King, e1));
-    assert!(rt; is_enemy(&board, Color::White, e7) && !is_enemy(&board, Color::Black, e7));
-    assert!(rt; is_vacant(&board, e4) && !is_enemy(&board, Color::White, e4));
+    check_all(
+        &rt,
+        &[
+            stands(&board, Color::White, Kind::King, e1),
+            !stands(&board, Color::Black, Kind::King, e1),
+            is_enemy(&board, Color::White, e7),
+            !is_enemy(&board, Color::Black, e7),
+            is_vacant(&board, e4),
+            !is_enemy(&board, Color::White, e4),
+        ],
+    );
 }
 
 #[test]
 fn order_of_moves(rt: HostRuntime) {
-    let plain = move_of(&rt, "b7b8");
-    let mut last = plain;
-    for letter in *b"pnbrqk" {
-        let next = Move {
-            from: plain.from,
-            to: plain.to,
-            promotion: man_of(letter).map(|man| man.kind),
-        };
-        assert!(rt; last < next);
+    let mut last = move_of(&rt, "b7b8");
+    for text in "b7b8p b7b8n b7b8b b7b8r b7b8q b7b8k b7c8 c7a1".split(' ') {
+        let next = move_of(&rt, text);
+        check_row(&rt, text, last < next);
         last = next;
     }
-    assert!(rt; last < move_of(&rt, "b7c8") && move_of(&rt, "b7c8") < move_of(&rt, "c7a1"));
 }

@@ -66,35 +66,16 @@ fn many_lines<R: Abort + AllocGlobal>(rt: &R, count: usize) -> String {
     text
 }
 
-fn push_square(rt: &impl Abort, text: &mut String, square: Square) {
-    assert!(rt; text.push(char::from(square.file() + 96)).is_ok());
-    assert!(rt; text.push(char::from(square.rank() + 48)).is_ok());
-}
-
-// A game by the squares that its men leave and come to.
-fn by_squares<R: Abort + AllocGlobal>(rt: &R, game: &[Move]) -> String {
-    let mut text = String::new(rt.alloc());
-    for m in game {
-        if !text.is_empty() {
-            push(rt, &mut text, " ");
-        }
-        push_square(rt, &mut text, m.from);
-        push_square(rt, &mut text, m.to);
-    }
-    text
-}
-
 // That the list holds these games in this order, a line each, and no more.
 fn check_games<R: Abort + AllocGlobal>(rt: &R, games: &Games, wanted: &str) {
     let mut count = 0usize;
     for squares in wanted.lines() {
         let game = games.game(count).expect(rt, squares);
-        assert_eq!(rt; by_squares(rt, game).as_str(), squares);
-        assert!(rt; games.contains(game), "{squares}");
+        check_moves(rt, game, squares);
+        assert!(rt; games.contains(game));
         count = count.saturating_add(1);
     }
-    assert_eq!(rt; games.len(), count);
-    assert!(rt; games.game(count).is_none());
+    assert!(rt; games.len() == count && games.game(count).is_none());
 }
 
 // The games of a text.
@@ -205,14 +186,14 @@ fn too_many(rt: HostRuntime) {
     check_fault(&rt, more.as_str(), "line 4097: more than 4096 games");
     let mut most = many_lines(&rt, 4096);
     push(&rt, &mut most, " \n\n");
-    assert_eq!(rt; list(&rt, most.as_str()).len(), 4096);
+    assert!(rt; list(&rt, most.as_str()).len() == 4096);
     push(&rt, &mut most, "?");
     check_fault(&rt, most.as_str(), "line 4099: more than 4096 games");
 }
 
 // That a game is added, or why it is not.
 fn check_add(rt: &impl Abort, games: &mut Games, game: &[Move], wanted: Result<(), AddFault>) {
-    assert_eq!(rt; games.add(game), wanted);
+    assert!(rt; games.add(game) == wanted);
 }
 
 // The same, of the one game of a text.
@@ -223,7 +204,7 @@ fn check_add_text<R: Abort + AllocGlobal>(
     wanted: Result<(), AddFault>,
 ) {
     let list = list(rt, text);
-    assert_eq!(rt; list.len(), 1, "{text}");
+    assert!(rt; list.len() == 1);
     check_add(rt, games, list.game(0).expect(rt, text), wanted);
 }
 
@@ -261,16 +242,16 @@ fn adds_in_any_order(rt: HostRuntime) {
 fn adds_up_to_4096(rt: HostRuntime) {
     let mut games = Games::new(rt.alloc());
     let text = many_lines(&rt, 4097);
-    for (i, words) in text.as_str().lines().enumerate() {
-        let full = if i < 4096 {
+    for words in text.as_str().lines() {
+        let wanted = if games.len() < 4096 {
             Ok(())
         } else {
             Err(AddFault::TooMany)
         };
-        check_add_text(&rt, &mut games, words, full);
+        check_add_text(&rt, &mut games, words, wanted);
     }
     check_add_text(&rt, &mut games, "a3 Na6 b3", Err(AddFault::TooMany));
-    assert_eq!(rt; games.len(), 4096);
+    assert!(rt; games.len() == 4096);
 }
 
 // Where a growth is refused the list stays as it was, and the next try adds the game.
@@ -280,8 +261,7 @@ fn add_at_last<R: Abort + AllocGlobal>(rt: &R, games: &mut Games, game: &[Move])
         match games.add(game) {
             Ok(()) => return,
             Err(fault) => {
-                assert_eq!(rt; fault, AddFault::Memory);
-                assert_eq!(rt; games.len(), held);
+                assert!(rt; fault == AddFault::Memory && games.len() == held);
                 assert!(rt; !games.contains(game));
             }
         }
@@ -294,16 +274,19 @@ fn refused_growths(rt: HostRuntime) {
     let text = "1. e4 d6 2. e5 a6 3. exd6\n1. e4 a6 2. e5 d6 3. exd6\n1.e4 d5 2. exd5 a6 3. d6\n-";
     for _ in 0..9 {
         match read_games(rt.alloc(), text) {
-            Ok(games) => {
-                let mut again = Games::new(rt.alloc());
-                for i in [2, 0, 3, 1] {
-                    add_at_last(&rt, &mut again, games.game(i).expect(&rt, "four games"));
-                }
-                assert_eq!(rt; again.len(), 4);
-            }
-            Err(fault) => assert_eq!(rt; fault, GamesFault::Memory),
+            Ok(games) => add_four(&rt, &games),
+            Err(fault) => assert!(rt; fault == GamesFault::Memory),
         }
     }
+}
+
+// Adds four games to an empty list, in another order.
+fn add_four<R: Abort + AllocGlobal>(rt: &R, games: &Games) {
+    let mut again = Games::new(rt.alloc());
+    for i in [2, 0, 3, 1] {
+        add_at_last(rt, &mut again, games.game(i).expect(rt, "four games"));
+    }
+    assert!(rt; again.len() == 4);
 }
 
 // A word that is not read is told, and not want of memory: passes too where
@@ -317,7 +300,7 @@ fn bad_words_behind_refused_growths(rt: HostRuntime) {
             ply: 7,
             cause: SanFault::NoSuchMove,
         };
-        assert_eq!(rt; fault, Some(wanted));
+        assert!(rt; fault == Some(wanted));
     }
 }
 

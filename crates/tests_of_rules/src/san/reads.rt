@@ -18,7 +18,7 @@ fn check(rt: &impl Abort, table: &str) {
     for row in table.lines() {
         let (start, text, wanted) = cells(rt, row);
         let found = read(&position(rt, start), text);
-        assert_eq!(rt; found, wanted_of(rt, wanted), "{row}");
+        check_row(rt, row, found == wanted_of(rt, wanted));
     }
 }
 

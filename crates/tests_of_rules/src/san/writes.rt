@@ -9,8 +9,8 @@ use pg_san::{San, read, write};
 fn check_both(rt: &impl Abort, row: &str, position: &Position, m: &Move, wanted: &str)
     requires { IsLegal position.now m.now }
 {
-    assert_eq!(rt; write(position, *m).as_str(), wanted, "{row}");
-    assert_eq!(rt; read(position, wanted), Ok(*m), "{wanted} of {row}");
+    check_text(rt, row, write(position, *m).as_str(), wanted);
+    assert!(rt; read(position, wanted) == Ok(*m), "{wanted} of {row}");
 }
 
 // Writes each legal move of a row's position in canonical order, and reads each text again.
@@ -25,33 +25,24 @@ fn check_all(rt: &impl Abort, row: &str) {
         check_both(rt, row, &position, &m, wanted);
         last = Some(m);
     }
-    assert_eq!(rt; next_legal(&position, last), None, "{row}");
+    check_row(rt, row, next_legal(&position, last).is_none());
 }
 
-// The text of a move such as `e2e4`, which is to be legal.
-fn text_of(rt: &impl Abort, position: &Position, text: &str) -> San {
-    let wanted = move_of(rt, text);
-    let mut last = None;
-    for _ in 0..300u16 {
-        match next_legal(position, last) {
-            Some(m) => {
-                if m == wanted {
-                    return write(position, m);
-                }
-                last = Some(m);
-            }
-            None => break,
-        }
+// The text of a move; none where it is not legal.
+fn written(position: &Position, m: &Move) -> Option<San> {
+    if position.is_legal(m) {
+        Some(write(position, *m))
+    } else {
+        None
     }
-    panic!(rt; "{text} is not legal")
 }
 
 // That each row's move is written so.
 fn check(rt: &impl Abort, table: &str) {
     for row in table.lines() {
         let (start, text, wanted) = cells(rt, row);
-        let found = text_of(rt, &position(rt, start), text);
-        assert_eq!(rt; found.as_str(), wanted, "{row}");
+        let found = written(&position(rt, start), &move_of(rt, text)).expect(rt, row);
+        check_text(rt, row, found.as_str(), wanted);
     }
 }
 
