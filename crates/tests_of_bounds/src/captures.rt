@@ -1,6 +1,8 @@
 //! The bounds by captures and by promotions: worked examples.
 
-use crate::texts::{check_after, check_bound, color, diagram, position, row_of};
+use crate::texts::{
+    check_after, check_all, check_bound, check_line, color, diagram, position, row_of,
+};
 use pg_board::Color;
 use pg_captures::*;
 use pg_position::Position;
@@ -20,7 +22,7 @@ fn captures_owed(rt: HostRuntime) {
         let row = row_of(&rt, line);
         let by = color(&rt, row.asked);
         let found = owed(by, &diagram(&rt, row.diagram), &position(&rt, row.position));
-        assert_eq!(rt; Ok(found), row.wanted.parse::<i16>(), "{line}");
+        check_line(&rt, line, row.wanted.parse::<i16>() == Ok(found));
     }
 }
 
@@ -35,7 +37,7 @@ rnbqkbnr/pppppppp/8/8/8/3P4/PPPP1PPP/RNBQKBNR | rnbqkbnr/pppppppp/8/8/8/8/PPPPPP
 #[test]
 fn captures(rt: HostRuntime) {
     check_bound(&rt, &Captures, CAPTURES);
-    assert_eq!(rt; Captures.code(), 1);
+    assert!(rt; Captures.code() == 1);
 }
 
 const PROMOTIONS: &str =
@@ -47,7 +49,7 @@ rnbqkbnr/pppppppp/8/8/8/3P4/PPPP1PPP/RNBQKBNR | rnbqkbnr/pppppppp/8/8/8/8/PPPPPP
 #[test]
 fn promotions(rt: HostRuntime) {
     check_bound(&rt, &Promotions, PROMOTIONS);
-    assert_eq!(rt; Promotions.code(), 2);
+    assert!(rt; Promotions.code() == 2);
 }
 
 // A diagram with 16 black men or with 15, the position before 1. exd6 en passant, 1. e6 or 1. exd5, and the plies
@@ -75,9 +77,14 @@ fn after_a_move(rt: HostRuntime) {
 
 #[test]
 fn plies_of_a_color(rt: HostRuntime) {
-    assert!(rt; plies_left(Color::White, Color::White, 5) == 3);
-    assert!(rt; plies_left(Color::White, Color::Black, 5) == 2);
-    assert!(rt; plies_left(Color::Black, Color::White, 4) == 2);
+    check_all(
+        &rt,
+        &[
+            plies_left(Color::White, Color::White, 5) == 3,
+            plies_left(Color::White, Color::Black, 5) == 2,
+            plies_left(Color::Black, Color::White, 4) == 2,
+        ],
+    );
 }
 
 fn boxed<R: Abort + AllocGlobal, B>(rt: &R, bound: B) -> Box<B> {
@@ -97,8 +104,13 @@ fn the_first_bound_of_a_code(rt: HostRuntime) {
     add(&rt, &mut bounds, boxed(&rt, Never::new(7)));
     add(&rt, &mut bounds, boxed(&rt, Captures));
     let recaptured = diagram(&rt, "rnb1kbnr/ppp1pppp/8/3q4/8/8/PPPP1PPP/RNBQKBNR");
-    for (code, wanted) in [(1, Some(true)), (7, Some(false)), (2, None)] {
-        let found = first_excludes(&bounds, code, &recaptured, &Position::array(), 1);
-        assert!(rt; found == wanted, "{code}");
-    }
+    let array = Position::array();
+    check_all(
+        &rt,
+        &[
+            first_excludes(&bounds, 1, &recaptured, &array, 1) == Some(true),
+            first_excludes(&bounds, 7, &recaptured, &array, 1) == Some(false),
+            first_excludes(&bounds, 2, &recaptured, &array, 1).is_none(),
+        ],
+    );
 }

@@ -1,7 +1,7 @@
 //! The bound by pawn files, and its prices: worked examples.
 
 use crate::texts::{
-    NumberList, Row, check_bound, color, diagram, is_yes, numbers, position, row_of,
+    NumberList, Row, check_bound, check_line, color, diagram, is_yes, numbers, position, row_of,
 };
 use pg_board::Color;
 use pg_captures::Bound;
@@ -23,7 +23,7 @@ fn shifts(rt: HostRuntime) {
         let row = row_of(&rt, line);
         let by = color(&rt, row.asked);
         let found = shift_need(by, &diagram(&rt, row.diagram), &position(&rt, row.position));
-        assert_eq!(rt; Ok(found), row.wanted.parse::<u16>(), "{line}");
+        check_line(&rt, line, row.wanted.parse::<u16>() == Ok(found));
     }
 }
 
@@ -37,7 +37,7 @@ rnbqkbnr/pppp1ppp/8/8/8/2P5/PPPP1PPP/RNBQKBNR | rnbqkbnr/pppppppp/8/8/8/8/PPPPPP
 #[test]
 fn pawn_files(rt: HostRuntime) {
     check_bound(&rt, &PawnFiles, FILES);
-    assert_eq!(rt; PawnFiles.code(), 3);
+    assert!(rt; PawnFiles.code() == 3);
 }
 
 // That in each row the prices of a colour, those of its pawns and those of their targets, exclude the
@@ -54,7 +54,7 @@ fn check_prices(rt: &impl Abort, table: &str) {
             &numbers(rt, pawns),
             &numbers(rt, targets),
         );
-        assert_eq!(rt; found, is_yes(rt, row.wanted), "{line}");
+        check_line(rt, line, found == is_yes(rt, row.wanted));
     }
 }
 

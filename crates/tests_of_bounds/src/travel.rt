@@ -1,7 +1,8 @@
 //! Distances, the bound by travel, and its prices: worked examples.
 
 use crate::texts::{
-    NumberList, Row, check_bound, color, diagram, is_yes, numbers, position, row_of,
+    NumberList, Row, check_all, check_bound, check_line, color, diagram, is_yes, numbers, position,
+    row_of,
 };
 use pg_board::{Color, Kind, Man, Square};
 use pg_captures::Bound;
@@ -24,7 +25,7 @@ fn needs(rt: HostRuntime) {
         let row = row_of(&rt, line);
         let by = color(&rt, row.asked);
         let found = need(by, &diagram(&rt, row.diagram), &position(&rt, row.position));
-        assert_eq!(rt; found, row.wanted.parse::<u16>().ok(), "{line}");
+        check_line(&rt, line, found == row.wanted.parse::<u16>().ok());
     }
 }
 
@@ -40,7 +41,7 @@ rnbqkbnr/pppppppp/8/8/8/3B4/PPPPPPPP/RN1QKBNR | rnbqkbnr/pppppppp/8/8/8/8/PPPPPP
 #[test]
 fn travel(rt: HostRuntime) {
     check_bound(&rt, &Travel, TRAVEL);
-    assert_eq!(rt; Travel.code(), 4);
+    assert!(rt; Travel.code() == 4);
 }
 
 // By the rows of one of the diagrams: the others are asked as without rows.
@@ -49,16 +50,25 @@ fn travel_by_rows(rt: HostRuntime) {
     let rows = Rows::new(&diagram(&rt, "4k3/8/8/8/8/8/8/R4RK1"));
     let bound = TravelByRows { rows };
     check_bound(&rt, &bound, TRAVEL);
-    assert_eq!(rt; bound.code(), 4);
+    assert!(rt; bound.code() == 4);
 }
 
 // The man and the square of a text such as `Pe2`, a white pawn, or `pe7`, a black one.
 fn placed(rt: &impl Abort, text: &str) -> (Man, Square) {
     let bytes = text.as_bytes();
-    assert_eq!(rt; bytes.len(), 3, "{text}");
+    assert!(rt; bytes.len() == 3);
     let man = man_of(bytes[0]).expect(rt, text);
     let (file, rank) = (bytes[1].wrapping_sub(b'`'), bytes[2].wrapping_sub(b'0'));
     (man, Square::new(file, rank).expect(rt, text))
+}
+
+// A number of moves, or none for `never`.
+fn moves_of(rt: &impl Abort, wanted: &str) -> Option<u8> {
+    if wanted == "never" {
+        None
+    } else {
+        Some(wanted.parse::<u8>().expect(rt, wanted))
+    }
 }
 
 // That each row's man comes to its square as such a man by so many moves, or never.
@@ -68,9 +78,8 @@ fn check_distances(rt: &impl Abort, table: &str) {
         let (from, to) = case.split_once(' ').expect(rt, line);
         let (man, from) = placed(rt, from);
         let (other, to) = placed(rt, to);
-        assert!(rt; wanted == "never" || wanted.parse::<u8>().is_ok(), "{line}");
         let found = distance(man, from, other.kind, to);
-        assert_eq!(rt; found, wanted.parse::<u8>().ok(), "{line}");
+        check_line(rt, line, found == moves_of(rt, wanted));
     }
 }
 
@@ -125,7 +134,7 @@ fn knights_from_the_corner(rt: HostRuntime) {
     };
     for i in 0..64u8 {
         let found = distance(knight, corner, Kind::Knight, Square::at(i));
-        assert_eq!(rt; found, Some(FROM_CORNER[i as usize]), "square {i}");
+        assert!(rt; found == Some(FROM_CORNER[i as usize]), "square {i}");
     }
 }
 
@@ -152,11 +161,11 @@ fn prices_of(rt: &impl Abort, text: &str) -> Prices {
     let mut ways = 1usize;
     for list in more.split(", ") {
         if !list.is_empty() {
-            assert!(rt; adds(rt, &mut prices, list), "{text}");
+            check_line(rt, text, adds(rt, &mut prices, list));
             ways = ways.saturating_add(1);
         }
     }
-    assert!(rt; prices.ways() == ways, "{text}");
+    check_line(rt, text, prices.ways() == ways);
     prices
 }
 
@@ -168,7 +177,7 @@ fn check_prices(rt: &impl Abort, table: &str) {
         let (plies, prices) = rest.split_once(" | ").expect(rt, line);
         let plies = plies.parse::<u8>().expect(rt, line);
         let found = is_cut(rt, &row, plies, color(rt, by), &prices_of(rt, prices));
-        assert_eq!(rt; found, is_yes(rt, row.wanted), "{line}");
+        check_line(rt, line, found == is_yes(rt, row.wanted));
     }
 }
 
@@ -178,7 +187,7 @@ fn is_cut(rt: &impl Abort, row: &Row<'_>, plies: u8, by: Color, prices: &Prices)
     let found = prices_exclude(&wanted, &start, plies, by, prices);
     let rows = Rows::new(&wanted);
     let by_rows = prices_exclude_by(&rows, &wanted, &start, plies, by, prices);
-    assert_eq!(rt; by_rows, found);
+    assert!(rt; by_rows == found);
     found
 }
 
@@ -292,18 +301,19 @@ fn prices_of_other_castlings(rt: HostRuntime) {
 // That the list of a way is this one.
 fn check_list(rt: &impl Abort, prices: &Prices, way: usize, text: &str) {
     let (u, v) = list_of(rt, text);
-    assert!(rt;
-        prices.u(way) == u.as_slice() && prices.v(way) == v.as_slice(),
-        "{text}"
-    );
+    let is_so = prices.u(way) == u.as_slice();
+    check_line(rt, text, is_so && prices.v(way) == v.as_slice());
 }
 
 fn check_sizes(rt: &impl Abort, text: &str, sources: usize, targets: usize) {
     let prices = prices_of(rt, text);
-    assert!(rt; prices.ways() == 1, "{text}");
-    assert!(rt;
-        prices.sources() == sources && prices.targets() == targets,
-        "{text}"
+    check_all(
+        rt,
+        &[
+            prices.ways() == 1,
+            prices.sources() == sources,
+            prices.targets() == targets,
+        ],
     );
     check_list(rt, &prices, 0, text);
 }
@@ -321,13 +331,20 @@ fn lists_of_prices(rt: HostRuntime) {
 fn three_lists_of_prices(rt: HostRuntime) {
     let mut prices = prices_of(&rt, "1 2 : 3");
     let copied = prices;
-    for text in ["1 : 3", "1 2 : 0*0", "1 2 3 : 3"] {
-        assert!(rt; !adds(&rt, &mut prices, text), "{text}");
-    }
-    assert!(rt; prices.ways() == 1);
-    assert!(rt; adds(&rt, &mut prices, "4 5 : 6") && adds(&rt, &mut prices, "7 8 : 9"));
-    assert!(rt; !adds(&rt, &mut prices, "10 11 : 12"));
-    assert!(rt; prices.ways() == 3 && copied.ways() == 1);
+    check_all(
+        &rt,
+        &[
+            !adds(&rt, &mut prices, "1 : 3"),
+            !adds(&rt, &mut prices, "1 2 : 0*0"),
+            !adds(&rt, &mut prices, "1 2 3 : 3"),
+            prices.ways() == 1,
+            adds(&rt, &mut prices, "4 5 : 6"),
+            adds(&rt, &mut prices, "7 8 : 9"),
+            !adds(&rt, &mut prices, "10 11 : 12"),
+            prices.ways() == 3,
+            copied.ways() == 1,
+        ],
+    );
     check_list(&rt, &prices, 0, "1 2 : 3");
     check_list(&rt, &prices, 1, "4 5 : 6");
     check_list(&rt, &prices, 2, "7 8 : 9");

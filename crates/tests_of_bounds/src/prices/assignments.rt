@@ -106,7 +106,7 @@ fn every_small_matrix_has_the_least_sum(rt: HostRuntime) {
                 let costs = random_costs(&mut numbers, targets, sources, most);
                 let answer = assign(&costs, targets, dummy);
                 let least = least_sum(&costs, targets, sources, dummy);
-                assert_eq!(rt; answer.value, least, "{round} {targets} {sources}");
+                assert!(rt; answer.value == least, "{round} {targets} {sources}");
                 assert!(rt; is_priced(&costs, targets, dummy, &answer));
             }
         }

@@ -1,7 +1,7 @@
 //! Needs and price lists, held against the bounds after random games.
 
 use super::*;
-use crate::texts::diagram;
+use crate::texts::{check_all, diagram};
 use pg_captures::{Bound, Promotions};
 use pg_moves::legal_moves;
 use pg_pawns::shift_need;
@@ -120,9 +120,16 @@ fn a_board_is_priced(rt: HostRuntime) {
     let diagram = diagram(&rt, "rnbqkbnr/pppp1ppp/8/4p3/4P3/5N2/PPPP1PPP/RNBQKB1R");
     let rows = Rows::new(rt.alloc(), Color::White, &diagram).expect(&rt, "memory");
     let array = Position::array();
-    assert!(rt; rows.targets() == 16 && rows.pawn_targets() == 8);
-    assert!(rt; need_by_rows(&rows, &array) == 2 && travel_lists(&rows, &array).0 == 2);
-    assert!(rt; pawn_lists(&rows, &array).0 == 0);
+    check_all(
+        &rt,
+        &[
+            rows.targets() == 16,
+            rows.pawn_targets() == 8,
+            need_by_rows(&rows, &array) == 2,
+            travel_lists(&rows, &array).0 == 2,
+            pawn_lists(&rows, &array).0 == 0,
+        ],
+    );
 }
 
 // Whether a legal move takes nothing, and is neither castling nor a promotion.

@@ -1,6 +1,7 @@
 //! Memories, closed nodes and keys.
 
 use super::*;
+use crate::texts::check_all;
 use pg_position::Rights;
 
 // The key with this number: all differ, and none is 0.
@@ -67,10 +68,9 @@ fn closed_nodes_are_found(rt: HostRuntime) {
         closed.insert(key(number), number).expect(&rt, "memory");
     }
     for number in 0..60_000u32 {
-        assert_eq!(rt; closed.find(key(number)), Some(number), "{number}");
+        assert!(rt; closed.find(key(number)) == Some(number), "{number}");
     }
-    assert!(rt; closed.find(key(60_000)).is_none());
-    assert_eq!(rt; closed.len(), 60_000);
+    assert!(rt; closed.find(key(60_000)).is_none() && closed.len() == 60_000);
 }
 
 // The key of a colour's men in the array, with these rights.
@@ -86,17 +86,19 @@ fn keys_differ(rt: HostRuntime) {
     let black = array_key(Color::Black, rights);
     let mut fewer = rights;
     fewer.white_queen = false;
-    assert!(rt; white != black && array_key(Color::White, fewer) != white);
-    assert!(rt; array_key(Color::Black, fewer) == black);
     let node = node_key(white, black, Color::White, None, 3);
-    for other in [
-        node_key(black, white, Color::White, None, 3),
-        node_key(white, black, Color::Black, None, 3),
-        node_key(white, black, Color::White, None, 4),
-        node_key(white, black, Color::White, Some(Square::at(40)), 3),
-    ] {
-        assert!(rt; node != other);
-    }
+    check_all(
+        &rt,
+        &[
+            white != black,
+            array_key(Color::White, fewer) != white,
+            array_key(Color::Black, fewer) == black,
+            node != node_key(black, white, Color::White, None, 3),
+            node != node_key(white, black, Color::Black, None, 3),
+            node != node_key(white, black, Color::White, None, 4),
+            node != node_key(white, black, Color::White, Some(Square::at(40)), 3),
+        ],
+    );
 }
 
 // Keeps these bytes with a key.
@@ -109,9 +111,14 @@ fn keep(rt: &impl Abort, memory: &mut Memory, number: u32, bytes: &[u8]) {
 // Whether the lists that are kept with a key begin so.
 fn keeps(memory: &Memory, number: u32, bytes: &[u8]) -> bool {
     match memory.get(key(number)) {
-        Some(known) => memory
-            .lists(&known)
-            .is_some_and(|lists| lists.starts_with(bytes)),
+        Some(known) => begin(memory.lists(&known), bytes),
+        None => false,
+    }
+}
+
+fn begin(lists: Option<&[u8]>, bytes: &[u8]) -> bool {
+    match lists {
+        Some(lists) => lists.starts_with(bytes),
         None => false,
     }
 }
@@ -144,5 +151,8 @@ fn a_memory_full_of_lists_forgets_all(rt: HostRuntime) {
     assert!(rt; memory.len() == 33);
     keep(&rt, &mut memory, 33, &bytes);
     assert!(rt; memory.len() == 1);
-    assert!(rt; memory.get(key(33)).is_some_and(|known| known.lists == 1));
+    match memory.get(key(33)) {
+        Some(known) => assert!(rt; known.lists == 1),
+        None => panic!(rt; "the last lists are known"),
+    }
 }
