@@ -4,36 +4,14 @@ mod found;
 mod growths;
 mod limits;
 
-use arrayvec::ArrayString;
+use crate::shared::{Said, field, games_of, goal_of, halves, number, words};
 use pg_fen::{Diagram, Length};
 use pg_moves::Unwatched;
 use pg_position::{Move, Position};
 use pg_san::{Games, read_games};
 use pg_searcher::*;
 use std::alloc::Global;
-use std::fmt::{Display, Write};
 use std::process::Abort;
-
-// What is answered, in words.
-type Said = ArrayString<128>;
-
-// The field of a row with this number from 0, between bars; empty where the row has fewer.
-fn field<'a>(row: &'a str, number: usize) -> &'a str {
-    row.split(" | ").nth(number).unwrap_or("")
-}
-
-// What a value says, or the arguments of a format.
-fn words(text: &impl Display) -> Said {
-    let mut said = Said::new();
-    let _ = write!(said, "{text}");
-    said
-}
-
-// The games that a text gives, of which a slash parts the lines.
-fn games_of<R: Abort + AllocGlobal>(rt: &R, text: &str) -> Games {
-    let text = text.replace(rt.alloc(), '/', "\n").expect(rt, text);
-    read_games(rt.alloc(), text.as_str()).expect(rt, text.as_str())
-}
 
 // Where a game ends, if it is one.
 fn end_of(game: &[Move]) -> Option<Position> {
@@ -77,23 +55,6 @@ fn limits_of(nodes: u64, foreign: &str) -> LedLimits {
     }
 }
 
-// What a search answers.
-fn searched<P: LedProgress>(
-    alloc: Global,
-    asked: &Asked,
-    limits: LedLimits,
-    watch: &mut P,
-) -> Result<Led, LedFault> {
-    search_led(
-        alloc,
-        &asked.diagram,
-        asked.length,
-        &asked.games,
-        limits,
-        watch,
-    )
-}
-
 // A game that is found is legal, ends on the diagram, has no more plies than asked, and is not listed.
 fn is_another(asked: &Asked, game: &[Move]) -> bool {
     let Some(end) = end_of(game) else {
@@ -122,14 +83,34 @@ fn told(rt: &impl Abort, asked: &Asked, answer: &Result<Led, LedFault>) -> Said 
     }
 }
 
+// What a search answers.
+fn answer<P: LedProgress>(
+    rt: &impl Abort,
+    alloc: Global,
+    asked: &Asked,
+    limits: LedLimits,
+    watch: &mut P,
+) -> Said {
+    let (diagram, length) = (&asked.diagram, asked.length);
+    let answer = search_led(alloc, diagram, length, &asked.games, limits, watch);
+    told(rt, asked, &answer)
+}
+
+// What is answered to games that lead, with so many nodes and foreign moves.
+fn answered<R: Abort + AllocGlobal>(rt: &R, games: &str, nodes: u64, foreign: &str) -> Said {
+    let asked = asked_by(rt, games);
+    let limits = limits_of(nodes, foreign);
+    answer(rt, rt.alloc(), &asked, limits, &mut Unwatched)
+}
+
 // A row of games, how many nodes and foreign moves are allowed, and what is answered.
 fn check_row<R: Abort + AllocGlobal>(rt: &R, row: &str) {
-    let (left, wanted) = row.split_once(" => ").expect(rt, row);
-    let asked = asked_by(rt, field(left, 0));
-    let nodes = field(left, 1).parse().expect(rt, row);
-    let limits = limits_of(nodes, field(left, 2));
-    let answer = searched(rt.alloc(), &asked, limits, &mut Unwatched);
-    assert_eq!(rt; told(rt, &asked, &answer).as_str(), wanted, "{row}");
+    let (left, wanted) = halves(rt, row, " => ");
+    let games = field(left, 0);
+    let nodes = field(left, 1);
+    let foreign = field(left, 2);
+    let said = answered(rt, games, number(rt, nodes), foreign);
+    assert_eq!(rt; said.as_str(), wanted, "{row}");
 }
 
 fn check_table<R: Abort + AllocGlobal>(rt: &R, table: &str) {

@@ -9,4 +9,6 @@ mod led;
 #[cfg(test)]
 mod searcher;
 #[cfg(test)]
+mod shared;
+#[cfg(test)]
 mod sides;

@@ -6,7 +6,7 @@ mod met;
 mod nodes;
 mod refused_writes;
 
-use arrayvec::ArrayString;
+use crate::shared::{Goal, Said, field, games_of, goal_of, halves, number, words};
 use pg_captures::{Bound, Captures, Promotions};
 use pg_certificate::format::MOST_NAMED;
 use pg_certificate::{FromRead, Sink, ToWrite};
@@ -18,75 +18,17 @@ use pg_position::Position;
 use pg_san::Games;
 use pg_searcher::*;
 use pg_travel::Travel;
-use std::alloc::{AllocError, Global};
-use std::fmt::{Display, Write};
+use std::alloc::Global;
 use std::process::Abort;
 
 // How many nodes are visited at most where a test does not say otherwise.
 const NODES: u64 = 1_000_000;
-
-// What is answered, in words.
-type Said = ArrayString<128>;
-
-// A diagram and a length, whose games are searched.
-#[derive(Clone, Copy)]
-struct Goal {
-    diagram: Diagram,
-    length: Length,
-}
 
 // How many games were found, and how many records the certificate has.
 #[derive(Clone, Copy)]
 struct Found {
     games: usize,
     records: u64,
-}
-
-// Diagrams by their names.
-const NAMES: &str = "array rnbqkbnr/pppppppp/8/8/8/8/PPPPPPPP/RNBQKBNR
-after-e4 rnbqkbnr/pppppppp/8/8/4P3/8/PPPP1PPP/RNBQKBNR
-after-e4-e5 rnbqkbnr/pppp1ppp/8/4p3/4P3/8/PPPP1PPP/RNBQKBNR
-four-knights-gone rnbqkb1r/ppp2ppp/8/8/8/8/PPPPPPPP/RNBQKB1R";
-
-// The diagram that has this name; what has none stands for itself.
-fn named<'a>(text: &'a str) -> &'a str {
-    for line in NAMES.lines() {
-        if let Some((name, fen)) = line.split_once(' ') {
-            if name == text {
-                return fen;
-            }
-        }
-    }
-    text
-}
-
-fn length_of(rt: &impl Abort, text: &str) -> Length {
-    Length::read(text).expect(rt, text)
-}
-
-// The goal that a diagram and a length are.
-fn goal_of(rt: &impl Abort, diagram: &str, length: &str) -> Goal {
-    Goal {
-        diagram: Diagram::read(named(diagram)).expect(rt, diagram),
-        length: length_of(rt, length),
-    }
-}
-
-// What stands before a mark, and what behind it.
-fn halves<'a>(rt: &impl Abort, text: &'a str, mark: &str) -> (&'a str, &'a str) {
-    text.split_once(mark).expect(rt, text)
-}
-
-// The field of a case with this number from 0, between bars; empty where the case has fewer.
-fn field<'a>(case: &'a str, number: usize) -> &'a str {
-    case.split(" | ").nth(number).unwrap_or("")
-}
-
-// What a value says, or the arguments of a format.
-fn words(text: &impl Display) -> Said {
-    let mut said = Said::new();
-    let _ = write!(said, "{text}");
-    said
 }
 
 // How many games and records there are, or the fault.
@@ -97,22 +39,35 @@ fn told(answer: &Result<Found, SearchFault>) -> Said {
     }
 }
 
-// The bounds by captures, promotions, pawn files and travel.
-fn four_bounds(alloc: Global) -> Result<Vec<Box<dyn Bound>>, AllocError> {
+fn add(bounds: &mut Vec<Box<dyn Bound>>, bound: Box<dyn Bound>) {
+    let _ = bounds.push(bound);
+}
+
+// The bounds by captures, promotions, pawn files and travel; fewer where memory is refused.
+fn four_bounds(alloc: Global) -> Vec<Box<dyn Bound>> {
     let mut bounds: Vec<Box<dyn Bound>> = Vec::new(alloc);
-    bounds.push(Box::new(alloc, Captures)?)?;
-    bounds.push(Box::new(alloc, Promotions)?)?;
-    bounds.push(Box::new(alloc, PawnFiles)?)?;
-    bounds.push(Box::new(alloc, Travel)?)?;
-    Ok(bounds)
+    if let Ok(bound) = Box::new(alloc, Captures) {
+        add(&mut bounds, bound);
+    }
+    if let Ok(bound) = Box::new(alloc, Promotions) {
+        add(&mut bounds, bound);
+    }
+    if let Ok(bound) = Box::new(alloc, PawnFiles) {
+        add(&mut bounds, bound);
+    }
+    if let Ok(bound) = Box::new(alloc, Travel) {
+        add(&mut bounds, bound);
+    }
+    bounds
 }
 
 // What a check of the certificate says, with the games that were found and the four bounds: how many records it
 // has, or the fault.
 fn checked(alloc: Global, goal: &Goal, games: &Games, bytes: &[u8]) -> Said {
-    let Ok(bounds) = four_bounds(alloc) else {
+    let bounds = four_bounds(alloc);
+    if bounds.len() < 4 {
         return words(&"Memory");
-    };
+    }
     let mut source = FromRead::new(bytes);
     let (diagram, length) = (&goal.diagram, goal.length);
     match check(
@@ -144,6 +99,26 @@ fn searched<W: Sink>(
     sink: &mut W,
 ) -> Result<Games, SearchFault> {
     search(alloc, &goal.diagram, goal.length, nodes, sink)
+}
+
+// How many games a search found, or the fault.
+fn count_of(answer: &Result<Games, SearchFault>) -> Said {
+    match answer {
+        Ok(games) => words(&games.len()),
+        Err(fault) => words(&format_args!("{fault:?}")),
+    }
+}
+
+// How many games a search of so many nodes finds that tells of itself, or the fault.
+fn watched<R: Abort + AllocGlobal, P: SearchProgress>(
+    rt: &R,
+    goal: &Goal,
+    nodes: u64,
+    watch: &mut P,
+) -> Said {
+    let mut sink = ToWrite::new(Vec::new(rt.alloc()));
+    let (diagram, length) = (&goal.diagram, goal.length);
+    count_of(&search_watched(rt.alloc(), diagram, length, nodes, &mut sink, watch))
 }
 
 // The games and the certificate, which has been checked, or the fault of a search of so many nodes.

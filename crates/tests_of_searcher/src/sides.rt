@@ -1,13 +1,27 @@
 //! What a move changes of either colour, held against both made anew.
 
+use crate::shared::{halves, words};
 use pg_fen::read_position;
 use pg_moves::legal_moves;
 use pg_position::{Move, Position};
-use pg_searcher::{Side, Sides, changes_of, sides_of};
+use pg_searcher::{Change, Side, Sides, changes_of, sides_of};
 use std::process::Abort;
+
+// The position of a text.
+fn position_of(rt: &impl Abort, text: &str) -> Position {
+    read_position(text).expect(rt, text).position
+}
 
 fn are_same(a: &Side, b: &Side) -> bool {
     a.key == b.key && a.men == b.men && a.pawns == b.pawns && a.ways == b.ways
+}
+
+// A colour that a move changes, or not.
+fn changed(change: &Option<Change>, side: &Side) -> Side {
+    match change {
+        Some(change) => change.applied(side, side.needs),
+        None => *side,
+    }
 }
 
 // Both colours after a move, by what it changes; none where that is not told.
@@ -16,12 +30,9 @@ fn after(position: &Position, sides: &Sides, m: &Move) -> Option<(Side, Side)> {
         return None;
     };
     let color = position.side();
-    let (own, other) = (sides.of(color), sides.of(color.other()));
-    let other = match &changes.other {
-        Some(change) => change.applied(other, other.needs),
-        None => *other,
-    };
-    Some((changes.own.applied(own, own.needs), other))
+    let own = sides.of(color);
+    let own = changes.own.applied(own, own.needs);
+    Some((own, changed(&changes.other, sides.of(color.other()))))
 }
 
 // Whether a legal move is told. What it changes leads to what the next position has.
@@ -60,28 +71,23 @@ rnbqkbnr/ppppp1pp/8/5pP1/8/8/PPPPPP1P/RNBQKBNR w KQkq f6 0 3 => 1
 #[test]
 fn moves_change_what_they_say(rt: HostRuntime) {
     for row in POSITIONS.lines() {
-        let (text, wanted) = row.split_once(" => ").expect(&rt, row);
-        let position = read_position(text).expect(&rt, row).position;
-        assert_eq!(rt;
-            Some(special_moves(&rt, &position)),
-            wanted.parse().ok(),
-            "{row}"
-        );
+        let (text, wanted) = halves(&rt, row, " => ");
+        let special = special_moves(&rt, &position_of(&rt, text));
+        assert_eq!(rt; words(&special).as_str(), wanted, "{row}");
     }
 }
 
 // A rook that is taken at home takes a right with it.
 #[test]
 fn a_lost_rook_is_a_lost_way(rt: HostRuntime) {
-    let text = "r3k2r/8/8/8/8/8/8/R3K2R w KQkq - 0 1";
-    let position = read_position(text).expect(&rt, text).position;
+    let position = position_of(&rt, "r3k2r/8/8/8/8/8/8/R3K2R w KQkq - 0 1");
     let sides = sides_of(&position);
-    assert_eq!(rt; (sides.white.ways, sides.black.ways), (3, 3));
+    assert!(rt; sides.white.ways == 3 && sides.black.ways == 3);
     let mut count = 0u32;
     for m in &legal_moves(rt.alloc(), &position).expect(&rt, "memory") {
         if m.from.index() == 0 && m.to.index() == 56 {
             let (white, black) = after(&position, &sides, m).expect(&rt, "told");
-            assert_eq!(rt; (white.ways, black.ways, black.men), (2, 2, 2));
+            assert!(rt; white.ways == 2 && black.ways == 2 && black.men == 2);
             count = count.saturating_add(1);
         }
     }

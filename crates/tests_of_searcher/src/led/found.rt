@@ -52,10 +52,8 @@ const SOUND: &str = "1. e4 g6 2. Ba6 Nxa6 3. Nf3 Nb8 4. O-O
 // Whether a search of so many nodes goes through all games with three foreign moves at most, or through all games
 // before that, and meets none.
 fn meets_none<R: Abort + AllocGlobal>(rt: &R, game: &str, nodes: u64) -> bool {
-    let asked = asked_by(rt, game);
-    let answer = searched(rt.alloc(), &asked, limits_of(nodes, "3"), &mut Unwatched);
     matches!(
-        told(rt, &asked, &answer).as_str(),
+        answered(rt, game, nodes, "3").as_str(),
         "none with 0" | "none with 1" | "none with 2" | "none with 3"
     )
 }

@@ -25,21 +25,16 @@ const LISTS: &str = "1. f3 e5 2. g4 Qh4#/1. g4 e5 2. f3 Qh4#
 
 // Whether another game is found with these in the list.
 fn finds<R: Abort + AllocGlobal>(rt: &R, text: &str) -> bool {
-    let asked = asked_by(rt, text);
-    let answer = searched(
-        rt.alloc(),
-        &asked,
-        limits_of(1_000_000, "3"),
-        &mut Unwatched,
-    );
-    told(rt, &asked, &answer).as_str().ends_with("plies")
+    answered(rt, text, 1_000_000, "3")
+        .as_str()
+        .ends_with("plies")
 }
 
 #[test]
 fn listed_games_are_passed_over(rt: HostRuntime) {
     for games in LISTS.lines() {
         assert!(rt; !finds(&rt, games), "{games}");
-        let (_, others) = games.split_once('/').expect(&rt, games);
+        let (_, others) = halves(&rt, games, "/");
         assert!(rt; finds(&rt, others), "{others}");
     }
 }
@@ -76,8 +71,8 @@ fn a_led_search_is_watched(rt: HostRuntime) {
         in_order: true,
         times: 0,
     };
-    let answer = searched(rt.alloc(), &asked, limits_of(100_000, "1"), &mut watch);
-    assert_eq!(rt; told(&rt, &asked, &answer).as_str(), "none with 1");
+    let said = answer(&rt, rt.alloc(), &asked, limits_of(100_000, "1"), &mut watch);
+    assert_eq!(rt; said.as_str(), "none with 1");
     assert!(rt; watch.in_order && watch.foreign == 1 && watch.times > 2);
 }
 

@@ -1,7 +1,6 @@
 //! The games that searches find, each with its certificate checked.
 
 use super::*;
-use pg_san::read_games;
 
 // A diagram, a length, and all games, of which a slash parts the lines.
 const CASES: &str = "array | 0 | -
@@ -31,12 +30,6 @@ fn found<R: Abort + AllocGlobal>(rt: &R, goal: &Goal) -> Games {
     games
 }
 
-// The games that a text gives.
-fn games_of<R: Abort + AllocGlobal>(rt: &R, text: &str) -> Games {
-    let text = text.replace(rt.alloc(), '/', "\n").expect(rt, text);
-    read_games(rt.alloc(), text.as_str()).expect(rt, text.as_str())
-}
-
 // The games of a row are found.
 fn check_games<R: Abort + AllocGlobal>(rt: &R, row: &str) {
     let diagram = field(row, 0);
@@ -50,6 +43,14 @@ fn check_games<R: Abort + AllocGlobal>(rt: &R, row: &str) {
 fn all_games_are_found(rt: HostRuntime) {
     for row in CASES.lines() {
         check_games(&rt, row);
+    }
+}
+
+// A diagram, and a length of so many plies.
+fn goal_at(rt: &impl Abort, diagram: &Diagram, plies: u8) -> Goal {
+    Goal {
+        diagram: *diagram,
+        length: Length::from_plies(plies).expect(rt, "a length"),
     }
 }
 
@@ -67,10 +68,7 @@ fn after<R: Abort + AllocGlobal>(rt: &R, position: &Position) -> Vec<Position> {
 fn one_game_after<R: Abort + AllocGlobal>(rt: &R, first: &Position) -> usize {
     let seconds = after(rt, first);
     for second in &seconds {
-        let goal = Goal {
-            diagram: Diagram::of(second),
-            length: length_of(rt, "1.0"),
-        };
+        let goal = goal_at(rt, &Diagram::of(second), 2);
         assert!(rt; matches!(settled(rt, &goal, NODES), Ok(Found { games: 1, .. })));
     }
     seconds.len()
@@ -85,21 +83,29 @@ fn one_game_leads_to_each_placement_after_two_plies(rt: HostRuntime) {
     assert_eq!(rt; count, 400);
 }
 
+// The next number by chance.
+fn next_random(last: u64) -> u64 {
+    let mut state = last;
+    state ^= state << 13;
+    state ^= state >> 7;
+    state ^= state << 17;
+    state
+}
+
+// The position after the legal move that a number picks; the same where none is legal.
+fn step<R: Abort + AllocGlobal>(rt: &R, position: &Position, number: u64) -> Position {
+    let all = after(rt, position);
+    let pick = (number >> 20) % (all.len() as u64).max(1);
+    *all.get(pick as usize).unwrap_or(position)
+}
+
 // The position after so many moves by chance.
 fn wander<R: Abort + AllocGlobal>(rt: &R, plies: u8, seed: u64) -> Position {
     let mut position = Position::array();
     let mut state = seed;
     for _ in 0..plies {
-        let moves = legal_moves(rt.alloc(), &position).expect(rt, "memory");
-        state ^= state << 13;
-        state ^= state >> 7;
-        state ^= state << 17;
-        let pick = (state >> 20) % (moves.len() as u64).max(1);
-        if let Some(m) = moves.get(pick as usize) {
-            if let Ok(next) = position.play(*m) {
-                position = next;
-            }
-        }
+        state = next_random(state);
+        position = step(rt, &position, state);
     }
     position
 }
@@ -108,15 +114,11 @@ fn wander<R: Abort + AllocGlobal>(rt: &R, plies: u8, seed: u64) -> Position {
 // has been checked. The answer is how many games there are at the length where the search ended, and whether that is
 // the first one.
 fn count_games<R: Abort + AllocGlobal>(rt: &R, diagram: &Diagram, plies: u8) -> (usize, bool) {
-    let goal = |plies| Goal {
-        diagram: *diagram,
-        length: Length::from_plies(plies).expect(rt, "a length"),
-    };
-    match settled(rt, &goal(plies), NODES) {
+    match settled(rt, &goal_at(rt, diagram, plies), NODES) {
         Ok(found) => (found.games, true),
         Err(SearchFault::Shorter(fewer)) => {
             assert!(rt; fewer < plies);
-            match settled(rt, &goal(fewer), NODES) {
+            match settled(rt, &goal_at(rt, diagram, fewer), NODES) {
                 Ok(found) => (found.games, false),
                 Err(fault) => panic!(rt; "{fault}"),
             }

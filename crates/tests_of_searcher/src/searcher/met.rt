@@ -31,32 +31,27 @@ fn told_of<R: Abort + AllocGlobal>(rt: &R, goal: &Goal, nodes: u64) -> Said {
         last: Game::new(),
         in_order: true,
     };
-    let mut sink = ToWrite::new(Vec::new(rt.alloc()));
-    let (diagram, length) = (&goal.diagram, goal.length);
-    let answer = search_watched(rt.alloc(), diagram, length, nodes, &mut sink, &mut watch);
+    let said = watched(rt, goal, nodes, &mut watch);
     assert!(rt; watch.in_order);
-    match answer {
-        Ok(games) => words(&format_args!("{} of {}", watch.games, games.len())),
-        Err(fault) => words(&format_args!("{} and {fault:?}", watch.games)),
-    }
+    words(&format_args!("{} met, {said}", watch.games))
 }
 
 // A diagram, a length and how many nodes are allowed: how many games are told, and how many there are or why the search
 // has no answer.
-const MET: &str = "array | 0 | 0 => 1 of 1
-after-e4 | 0.5 | 100 => 1 of 1
-rnbqkbnr/1pp1pppp/p2P4/8/8/8/PPPP1PPP/RNBQKBNR | 2.5 | 100000 => 4 of 4
-rnb1kb1r/ppppqppp/8/8/8/5P2/PPPP1KPP/RNB2BNn | 5.0 | 100000 => 3 of 3
-rnbqkbnr/p1pppppp/8/8/8/3QP3/PPP2PPP/RNB1K1NR | 3.5 | 8312 => 2 and Budget
-after-e4 | 2.0 | 100000 => 0 and Shorter(1)
-rnbqkbnr/5ppp/ppppp3/8/8/PPPPP3/5PPP/RNBQKBNR | 5.0 | 1000000 => 4096 and TooManyGames";
+const MET: &str = "array | 0 | 0 => 1 met, 1
+after-e4 | 0.5 | 100 => 1 met, 1
+rnbqkbnr/1pp1pppp/p2P4/8/8/8/PPPP1PPP/RNBQKBNR | 2.5 | 100000 => 4 met, 4
+rnb1kb1r/ppppqppp/8/8/8/5P2/PPPP1KPP/RNB2BNn | 5.0 | 100000 => 3 met, 3
+rnbqkbnr/p1pppppp/8/8/8/3QP3/PPP2PPP/RNB1K1NR | 3.5 | 8312 => 2 met, Budget
+after-e4 | 2.0 | 100000 => 0 met, Shorter(1)
+rnbqkbnr/5ppp/ppppp3/8/8/PPPPP3/5PPP/RNBQKBNR | 5.0 | 1000000 => 4096 met, TooManyGames";
 
 #[test]
 fn games_are_told_as_they_are_met(rt: HostRuntime) {
     for row in MET.lines() {
         let (asked, wanted) = halves(&rt, row, " => ");
         let goal = goal_of(&rt, field(asked, 0), field(asked, 1));
-        let nodes = field(asked, 2).parse().expect(&rt, row);
-        assert_eq!(rt; told_of(&rt, &goal, nodes).as_str(), wanted, "{row}");
+        let said = told_of(&rt, &goal, number(&rt, field(asked, 2)));
+        assert_eq!(rt; said.as_str(), wanted, "{row}");
     }
 }

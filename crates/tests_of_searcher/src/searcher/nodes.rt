@@ -2,6 +2,7 @@
 
 use super::*;
 use pg_certificate::{Record, RecordReader};
+use std::fmt::Write;
 
 // Problems of three and a half to nine moves: a diagram, a length, how many nodes are allowed; how many games there
 // are, and how many nodes a search visits, or that a node less is too few. A node that a cut excludes is cut, and
@@ -53,17 +54,18 @@ r1bqnNnr/pppkpp1p/7R/3p4/8/8/PPPPPPP1/RNBQKBN1 | 5.5 | 1 | 428
 #[test]
 fn prices_cut(rt: HostRuntime) {
     for row in PRICED.lines() {
-        let diagram = field(row, 0);
-        let length = field(row, 1);
-        let least = field(row, 2);
-        let most = field(row, 3);
-        let bytes = certificate(&rt, &goal_of(&rt, diagram, length));
-        let count = Some(count_priced(bytes.as_slice()));
-        assert!(rt;
-            least.parse().ok() <= count && count <= most.parse().ok(),
-            "{row}"
-        );
+        let least = number(&rt, field(row, 2));
+        let most = number(&rt, field(row, 3));
+        let bytes = certificate(&rt, &goal_of(&rt, field(row, 0), field(row, 1)));
+        let count = count_priced(bytes.as_slice());
+        assert!(rt; least <= count && count <= most, "{row}");
     }
+}
+
+// A search that gives up with some fault, whatever is asked, finds no game here.
+#[test]
+fn search_gives_up(rt: HostRuntime) {
+    check_row(&rt, "after-e4-e5 | 1.0 => 1 22");
 }
 
 const LIMITS: &str = "after-e4-e5 | 1.0 | 0 => Budget
@@ -97,15 +99,16 @@ const TEXTS: &str = "node limit reached
 a game of 3 plies reaches the diagram
 more than 4096 games
 write fault
-out of memory";
+out of memory
+";
 
 #[test]
 fn faults_have_their_texts(rt: HostRuntime) {
-    let mut lines = TEXTS.lines();
+    let mut said = Said::new();
     for fault in &FAULTS {
-        assert_eq!(rt; Some(words(fault).as_str()), lines.next());
+        let _ = writeln!(said, "{fault}");
     }
-    assert_eq!(rt; lines.next(), None);
+    assert_eq!(rt; said.as_str(), TEXTS);
 }
 
 // What is told of a search: the last tree, and whether the trees came in order and the nodes that are
@@ -127,14 +130,6 @@ impl SearchProgress for Told {
     }
 }
 
-// How many games a search of so many nodes finds, that tells of itself.
-fn watched<R: Abort + AllocGlobal>(rt: &R, goal: &Goal, nodes: u64, told: &mut Told) -> usize {
-    let mut sink = ToWrite::new(Vec::new(rt.alloc()));
-    let (diagram, length) = (&goal.diagram, goal.length);
-    let answer = search_watched(rt.alloc(), diagram, length, nodes, &mut sink, told);
-    answer.expect(rt, "found").len()
-}
-
 // The watch is told of the longest tree last, and of all nodes.
 #[test]
 fn a_search_is_watched(rt: HostRuntime) {
@@ -145,7 +140,6 @@ fn a_search_is_watched(rt: HostRuntime) {
         in_order: true,
         times: 0,
     };
-    assert_eq!(rt; watched(&rt, &goal, 428, &mut told), 1);
-    assert_eq!(rt; (told.tree, told.left, told.in_order), (11, 0, true));
-    assert!(rt; told.times > 1);
+    assert_eq!(rt; watched(&rt, &goal, 428, &mut told).as_str(), "1");
+    assert!(rt; told.tree == 11 && told.left == 0 && told.in_order && told.times > 1);
 }
