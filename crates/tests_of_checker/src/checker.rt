@@ -210,15 +210,27 @@ fn bytes_of<R: Abort + AllocGlobal>(rt: &R, asked: &str) -> Vec<u8> {
     let length = field(asked, 7);
     let bytes = certificate(rt, header, records);
     if !length.is_empty() {
-        assert_eq!(rt; length.parse().ok(), Some(bytes.len()), "{asked}");
+        assert_eq!(rt; words(&bytes.len()).as_str(), length, "{asked}");
     }
     bytes
+}
+
+// This is answered to a row with these bounds.
+fn check_judged<R: Abort + AllocGlobal>(
+    rt: &R,
+    asked: &str,
+    bounds: &[Box<dyn Bound>],
+    wanted: &str,
+) {
+    let bytes = bytes_of(rt, asked);
+    let said = answer(rt, asked, bounds, bytes.as_slice());
+    assert_eq!(rt; said.as_str(), wanted, "{asked}");
 }
 
 // A row of a table: what is asked, and behind an arrow what is answered.
 fn check_row<R: Abort + AllocGlobal>(rt: &R, row: &str) {
     let (asked, wanted) = halves(rt, row, " => ");
-    check_bytes(rt, asked, bytes_of(rt, asked).as_slice(), wanted);
+    check_judged(rt, asked, &four_bounds(rt), wanted);
 }
 
 fn check_table<R: Abort + AllocGlobal>(rt: &R, table: &str) {

@@ -33,21 +33,6 @@ fn cuts_that_do_not(rt: HostRuntime) {
     check_table(&rt, DO_NOT);
 }
 
-// This is answered with bounds of the test's own.
-fn check_judged<R: Abort + AllocGlobal>(
-    rt: &R,
-    asked: &str,
-    bounds: &[Box<dyn Bound>],
-    wanted: &str,
-) {
-    let bytes = bytes_of(rt, asked);
-    assert_eq!(rt;
-        answer(rt, asked, bounds, bytes.as_slice()).as_str(),
-        wanted,
-        "{asked}"
-    );
-}
-
 // The array with a pawn more, and what as many men as in the array say.
 #[test]
 fn a_bound_of_ones_own(rt: HostRuntime) {

@@ -1,8 +1,7 @@
 //! Certificates that are right, or lack a game.
 
+use super::references::write_tree;
 use super::*;
-use pg_moves::legal_moves;
-use pg_position::Position;
 
 // No ply; one ply; two by cuts of travel, by expansions, and by named ones.
 const OPEN_GAMES: &str = "array | 0 | - |  | 0 | 1 array 0 |  | 37 => 0 0
@@ -17,6 +16,15 @@ after-e4-e5 | 1.0 | 1. e4 e5 | 22 | 21 | 1 after-e4-e5 1.0 | 05*22 => TooManyNam
 #[test]
 fn games_of_two_plies_or_fewer(rt: HostRuntime) {
     check_table(&rt, OPEN_GAMES);
+}
+
+// A check that answers that memory is refused, whatever is asked, does not say yes here.
+#[test]
+fn always_out_of_memory(rt: HostRuntime) {
+    check_row(
+        &rt,
+        "after-e4 | 0.5 | e4 |  | 0 | 1 after-e4 0.5 | 01 => 1 0",
+    );
 }
 
 // Two games in either order, with one of them left out, and by expansions.
@@ -51,29 +59,6 @@ fn a_shorter_game(rt: HostRuntime) {
     check_table(&rt, SHORTER);
 }
 
-// Writes the tree below a position: cut by travel where it excludes, else expanded.
-fn grow<R: Abort + AllocGlobal>(
-    rt: &R,
-    bytes: &mut Vec<u8>,
-    diagram: &Diagram,
-    position: &Position,
-    left: u8,
-) {
-    if left == 0 {
-        return;
-    }
-    if Travel.excludes(diagram, position, left) {
-        return append(rt, bytes, "0204");
-    }
-    append(rt, bytes, "01");
-    let moves = legal_moves(rt.alloc(), position).expect(rt, "memory");
-    for m in moves.as_slice() {
-        if let Ok(next) = position.play(*m) {
-            grow(rt, bytes, diagram, &next, left - 1);
-        }
-    }
-}
-
 // What is answered to a list of games, by this certificate.
 fn answer_to<R: Abort + AllocGlobal>(rt: &R, games: &str, bytes: &[u8]) -> Said {
     let asked = words(&format_args!("pawn-on-d6 | 2.5 | {games} |  | 0"));
@@ -87,8 +72,7 @@ fn four_games(rt: HostRuntime) {
         "1. e4 a6 2. e5 d5 3. exd6/1. e4 a6 2. e5 d6 3. exd6/1. e4 d5 2. exd5 a6 3. d6/1. e4 d6 2. e5 a6 3. exd6/";
     assert_eq!(rt; games_of(&rt, all).len(), 4);
     let mut bytes = certificate(&rt, "1 pawn-on-d6 2.5", "0204*4");
-    let diagram = diagram_of(&rt, "pawn-on-d6");
-    grow(&rt, &mut bytes, &diagram, &Position::array(), 5);
+    write_tree(&rt, &mut bytes, &diagram_of(&rt, "pawn-on-d6"), 5);
     let said = answer_to(&rt, all, bytes.as_slice());
     assert!(rt; is_yes(&said), "{said}");
     let three = "1. e4 a6 2. e5 d6 3. exd6/1. e4 d5 2. exd5 a6 3. d6/1. e4 d6 2. e5 a6 3. exd6";

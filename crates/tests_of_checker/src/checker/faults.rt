@@ -87,7 +87,8 @@ fn put(bytes: &mut [u8], place: usize, byte: u8) {
 }
 
 // How many of the other bytes at this place are accepted.
-fn accepted_at<R: Abort + AllocGlobal>(rt: &R, bytes: &mut [u8], place: usize, kept: u8) -> u32 {
+fn accepted_at<R: Abort + AllocGlobal>(rt: &R, bytes: &mut [u8], place: usize) -> u32 {
+    let kept = bytes.get(place).copied().unwrap_or(0);
     let mut accepted = 0u32;
     for change in 1..=255u8 {
         put(bytes, place, kept ^ change);
@@ -101,14 +102,12 @@ fn accepted_at<R: Abort + AllocGlobal>(rt: &R, bytes: &mut [u8], place: usize, k
 
 #[test]
 fn each_change_of_a_byte(rt: HostRuntime) {
-    let bytes = bytes_of(&rt, OPEN_GAME);
-    let mut changed = bytes_of(&rt, OPEN_GAME);
+    let mut bytes = bytes_of(&rt, OPEN_GAME);
     let mut accepted = 0u32;
-    for (place, kept) in bytes.iter().enumerate() {
-        let more = accepted_at(&rt, &mut changed, place, *kept);
-        accepted = accepted.saturating_add(more);
+    for place in 0..79usize {
+        accepted = accepted.saturating_add(accepted_at(&rt, &mut bytes, place));
     }
-    assert_eq!(rt; (bytes.len(), accepted), (79, 3));
+    assert!(rt; bytes.len() == 79 && accepted == 3);
 }
 
 // The answer to a header, and then one byte for ever.
@@ -123,6 +122,15 @@ fn check_endless<R: Abort + AllocGlobal>(rt: &R, asked: &str, byte: u8, wanted: 
 fn endless_certificates(rt: HostRuntime) {
     check_endless(&rt, "pawn-on-d3 | 64.0 |  | 1000 | 0", 1, "Budget");
     check_endless(&rt, "pawn-on-d3 | 64.0 |  |  | 10", 5, "TooManyNamed");
+}
+
+// A source over a reader that refuses each byte, whatever the reader has, does not give these.
+#[test]
+fn std_reader_always_fails(rt: HostRuntime) {
+    let mut source = FromRead::new(b"bytes".as_slice());
+    let mut buffer = [0u8; 5];
+    let pulled = source.pull(&mut buffer).unwrap_or(0);
+    assert!(rt; pulled == 5 && buffer.as_slice() == b"bytes".as_slice());
 }
 
 #[test]
@@ -169,15 +177,16 @@ reference to a node with a game
 too many named nodes
 out of memory
 a game of 3 plies reaches the diagram
-bytes after the certificate";
+bytes after the certificate
+";
 
 #[test]
 fn faults_have_their_texts(rt: HostRuntime) {
-    let mut lines = TEXTS.lines();
+    let mut said = ArrayString::<1024>::new();
     for fault in &FAULTS {
-        assert_eq!(rt; Some(words(fault).as_str()), lines.next());
+        let _ = writeln!(said, "{fault}");
     }
-    assert_eq!(rt; lines.next(), None);
+    assert_eq!(rt; said.as_str(), TEXTS);
     let unlisted = Fault::Unlisted(ArrayVec::new());
     assert_eq!(rt; words(&unlisted).as_str(), "unlisted game: ");
 }

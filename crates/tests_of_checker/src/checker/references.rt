@@ -53,37 +53,39 @@ fn led<R: Abort + AllocGlobal>(rt: &R, row: &str) -> Vec<u8> {
     let last = field(row, 3);
     let header = words(&format_args!("1 pawn-on-d3 {length}"));
     let mut bytes = certificate(rt, header.as_str(), first);
-    let games = games_of(rt, game);
-    let behind = along(rt, &mut bytes, games.game(0).expect(rt, game));
+    let behind = along_text(rt, &mut bytes, game);
     append(rt, &mut bytes, last);
-    append(
-        rt,
-        &mut bytes,
-        words(&format_args!("0203*{behind}")).as_str(),
-    );
+    let cuts = words(&format_args!("0203*{behind}"));
+    append(rt, &mut bytes, cuts.as_str());
     bytes
 }
 
+// The same along the game of a text.
+fn along_text<R: Abort + AllocGlobal>(rt: &R, bytes: &mut Vec<u8>, text: &str) -> usize {
+    let games = games_of(rt, text);
+    along(rt, bytes, games.game(0).expect(rt, text))
+}
+
 // How many named nodes there are where the answer is yes, or the fault.
-pub(super) fn names(said: &Said) -> &str {
+fn names(said: &Said) -> &str {
     match said.as_str().split_once(' ') {
         Some((_, named)) => named,
         None => said.as_str(),
     }
 }
 
-// The certificate of a row has so many named nodes, or is refused so.
+// The certificate has so many named nodes, or is refused so.
+fn check_named<R: Abort + AllocGlobal>(rt: &R, asked: &str, bytes: &[u8], wanted: &str) {
+    let said = answer(rt, asked, &four_bounds(rt), bytes);
+    assert_eq!(rt; names(&said), wanted, "{asked}");
+}
+
+// So has the certificate of a row.
 fn check_led<R: Abort + AllocGlobal>(rt: &R, row: &str) {
     let (row, wanted) = halves(rt, row, " => ");
     let length = field(row, 0);
     let asked = words(&format_args!("pawn-on-d3 | {length} |  |  | 9"));
-    let said = answer(
-        rt,
-        asked.as_str(),
-        &four_bounds(rt),
-        led(rt, row).as_slice(),
-    );
-    assert_eq!(rt; names(&said), wanted, "{row}");
+    check_named(rt, asked.as_str(), led(rt, row).as_slice(), wanted);
 }
 
 // A length, the records before the game, the game, and those behind it. The rooks that went out and back have
@@ -193,19 +195,43 @@ fn grow_marked<R: Abort + AllocGlobal>(
     plies: u8,
     marks: &Marks<'_>,
 ) {
+    for left in 1..plies {
+        write_tree(rt, bytes, diagram, left);
+    }
+    let mut game = Vec::new(rt.alloc());
+    mark(
+        rt,
+        bytes,
+        diagram,
+        marks,
+        &mut game,
+        &Position::array(),
+        plies,
+    );
+}
+
+// Writes the tree of so many plies where no node is named, and none refers to another.
+pub(super) fn write_tree<R: Abort + AllocGlobal>(
+    rt: &R,
+    bytes: &mut Vec<u8>,
+    diagram: &Diagram,
+    left: u8,
+) {
     let nowhere = [Move::default()];
-    let unmarked = Marks {
+    let marks = Marks {
         named: &nowhere,
         refers: &nowhere,
     };
     let mut game = Vec::new(rt.alloc());
-    let array = Position::array();
-    for left in 1..plies {
-        mark(rt, bytes, diagram, &unmarked, &mut game, &array, left);
-    }
-    if plies > 0 {
-        mark(rt, bytes, diagram, marks, &mut game, &array, plies);
-    }
+    mark(
+        rt,
+        bytes,
+        diagram,
+        &marks,
+        &mut game,
+        &Position::array(),
+        left,
+    );
 }
 
 // A row of a diagram, a length, games, a version, the game whose node is named, and the game whose node refers to it:
@@ -221,8 +247,7 @@ pub(super) fn check_marked<R: Abort + AllocGlobal>(rt: &R, row: &str) {
     let header = words(&format_args!("{version} {diagram} {length}"));
     let bytes = marked(rt, header.as_str(), named, refers);
     let asked = words(&format_args!("{diagram} | {length} | {games} |  | 9"));
-    let said = answer(rt, asked.as_str(), &four_bounds(rt), bytes.as_slice());
-    assert_eq!(rt; names(&said), wanted, "{row}");
+    check_named(rt, asked.as_str(), bytes.as_slice(), wanted);
 }
 
 // A node with a game below is fertile. Passed squares tell positions apart.
@@ -242,30 +267,28 @@ fn nodes_with_a_game_and_passed_squares(rt: HostRuntime) {
 // How many of three checks of a certificate that names each of its 22 nodes are refused memory.
 fn refusals<R: Abort + AllocGlobal>(rt: &R, diagram: &Diagram, games: &Games, bytes: &[u8]) -> u8 {
     let none: Vec<Box<dyn Bound>> = Vec::new(rt.alloc());
+    let length = length_of(rt, "1.0");
     let mut refused = 0u8;
     for _ in 0..3u8 {
-        let said = check(
-            rt.alloc(),
-            diagram,
-            length_of(rt, "1.0"),
-            games,
-            &none,
-            &mut FromRead::new(bytes),
-            22,
-            22,
-        );
-        if said == Err(Fault::Memory) {
-            refused = refused.saturating_add(1);
-        } else {
-            assert!(rt;
-                said == Ok(Proved {
-                    records: 22,
-                    named: 22
-                })
-            );
-        }
+        let mut source = FromRead::new(bytes);
+        let alloc = rt.alloc();
+        let said = told(&check(alloc, diagram, length, games, &none, &mut source, 22, 22));
+        let is_refused = said.as_str() == "Memory";
+        assert!(rt; is_refused || said.as_str() == "22 22", "{said}");
+        refused = refused.saturating_add(u8::from(is_refused));
     }
     refused
+}
+
+// The same where the list may be refused memory too.
+fn refusals_of_list<R: Abort + AllocGlobal>(rt: &R, diagram: &Diagram, bytes: &[u8]) -> u8 {
+    match read_games(rt.alloc(), "1. e4 e5") {
+        Ok(games) => refusals(rt, diagram, &games, bytes),
+        Err(fault) => {
+            assert_eq!(rt; fault, GamesFault::Memory);
+            1
+        }
+    }
 }
 
 // Passes too where `rt try --test --fail-alloc N` refuses the N-th growth: then one check of all
@@ -276,15 +299,7 @@ fn refused_growths(rt: HostRuntime) {
     let bytes = named_expansions(&diagram);
     let mut refused = 0u8;
     for _ in 0..3u8 {
-        match read_games(rt.alloc(), "1. e4 e5") {
-            Ok(games) => {
-                refused = refused.saturating_add(refusals(&rt, &diagram, &games, &bytes));
-            }
-            Err(fault) => {
-                assert_eq!(rt; fault, GamesFault::Memory);
-                refused = refused.saturating_add(1);
-            }
-        }
+        refused = refused.saturating_add(refusals_of_list(&rt, &diagram, &bytes));
     }
     assert!(rt; refused <= 1);
 }

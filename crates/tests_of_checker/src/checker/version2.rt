@@ -24,8 +24,7 @@ fn prices_of_pawn_files(rt: HostRuntime) {
     let row = PAWN_FILES.lines().next().expect(&rt, "four cuts");
     let (asked, wanted) = halves(&rt, row, " => ");
     let none: Vec<Box<dyn Bound>> = Vec::new(rt.alloc());
-    let said = answer(&rt, asked, &none, bytes_of(&rt, asked).as_slice());
-    assert_eq!(rt; said.as_str(), wanted);
+    check_judged(&rt, asked, &none, wanted);
 }
 
 // The open game, where the first cut is by three price lists, by one and by two: Black owes the move of a pawn
