@@ -1,16 +1,17 @@
 -- From the answer of a run to the status that the program gives.
-use Rattle.std.proofs.Common.{◌≡◌, ◌∙◌, ℕ, List, [], subst, sym, ap, codes, arith, slice_index}
-use Rattle.std.specs.Prelude.{Bool, true, Option, Some, None, Result, Ok, Err, IfOk, IfErr, OnOk, option_map, unwrap_or}
-use Rattle.clap.specs.Words.{Row, Text, first_value, rows_of, subcommand_name_of, subcommand_rows_of}
+use Rattle.std.proofs.Common.{◌≡◌, ◌∙◌, ℕ, List, [], subst, sym, ap, codes}
+use Rattle.std.specs.Prelude.{Bool, true, Option, Some, None, IfSome, Result, Ok, Err, IfOk, IfErr, OnOk, unwrap_or}
+use Rattle.clap.specs.Words.{Row, Text, first_of, first_value, rows_of}
 use Rattle.clap.specs.declared.parser.matches.Found.{Found}
-use Rattle.clap.specs.declared.parser.matches.ArgMatches.{ArgMatches}
 use Rattle.clap.proofs.WalkLemmas.{first_value-rows}
 use Rattle.pg_fen.specs.Fields.{fields}
 use Rattle.pg_fen.specs.DiagramText.{diagram_of}
 use Rattle.pg_fen.specs.Lengths.{length_of}
 use Rattle.pg_board.specs.Placement.{Placement}
 use Rattle.pg_position.specs.declared.moves.Move.{Move}
+use Rattle.pg_position.specs.declared.state.State.{State}
 use Rattle.pg_checker.specs.Answer.{IsExactAnswer}
+use Rattle.pg_texts.specs.MovesText.{SpellsPosition}
 use Rattle.pg_texts.specs.Report.{IsVerdict}
 use Rattle.pg_report.specs.Run.{AreSpelled, Failures, IsRunFault}
 use Rattle.pg_report.specs.Statuses.{verdict_status}
@@ -30,7 +31,7 @@ use Rattle.pg_cli.specs.declared.refusals.Refusal.{Refusal}
 use Rattle.pg_cli.specs.declared.refusals.Refusal.TheVariants.{Check}
 use Rattle.pg_cli.specs.Reasons.{IsCheckRefusal, IsFoundRefusal, IsWhyRefusal, IsPageRefusal}
 use Rattle.pg_cli.specs.Answers.{IsAnswered, AreAnswered, HasExactAnswer}
-use Rattle.pg_cli.specs.Words.{spelled, IsTested, IsFollowed, IsChecked, IsSearched, IsExplained, IsSubcommand, IsMeant}
+use Rattle.pg_cli.specs.Words.{spelled, IsChecked, IsSearched, IsExplained, HasPosition, HasDiagram}
 
 -- why a report has no status: the sink has failed
 abbrev pub IsUnwritten : Bool → Result ℕ Refusal → Type 0
@@ -127,91 +128,37 @@ why_means rows diagram length (Ok s) e f h z =
     (subst (λ (x : List ℕ). HasExactAnswer x (spelled (codes "LENGTH") rows)) e (subst (λ (y : List ℕ). HasExactAnswer diagram y) f h), z)
 why_means rows diagram length (Err r) e f h z = tt
 
--- what is said of the command that was taken out is said of the one that the words name
-pub carried : (words : ArgMatches) (name : Text) (rows : List Row) (P : Text → List Row → ℕ → Type 0) (result : Result ℕ Refusal)
-    → Some name ≡ subcommand_name_of words → Some rows ≡ option_map (λ p. p.1) (subcommand_rows_of words)
-    → IfOk result (λ s. P name rows s) → IfOk result (λ s. (n : Text) (r : List Row) → IsSubcommand words n r → P n r s)
-carried words name rows P (Ok s) e f h = λ n r k.
-    let en : name ≡ n = ap (λ (o : Option Text). unwrap_or o name) (e ∙ k.0) in
-    let er : rows ≡ r = ap (λ (o : Option (List Row)). unwrap_or o rows) (f ∙ k.1) in
-    subst (λ (x : Text). P x r s) en (subst (λ (y : List Row). P name y s) er h)
-carried words name rows P (Err x) e f h = tt
+-- a text that spells a position, by what else is said of it
+pub position_means : (rows : List Row) (text : List ℕ) (P : Type 0) (result : Result ℕ Refusal)
+    → text ≡ spelled (codes "FEN") rows → OnOk result P → (P → (p : State) × SpellsPosition text p) → IfOk result (λ s. s ≡ 0)
+    → IfOk result (λ s. HasPosition rows s)
+position_means rows text P (Ok s) e h f z = let p = f h in ((p.0, subst (λ (x : List ℕ). SpellsPosition x p.0) e p.1), z)
+position_means rows text P (Err r) e h f z = tt
 
--- what is said of a command's status is what its name asks for
-pub check_is_meant : (name : Text) (rows : List Row) (result : Result ℕ Refusal) → name ≡ codes "check"
-    → IfOk result (λ s. IsChecked rows s) → IfOk result (λ s. IsMeant name rows s)
-check_is_meant name rows (Ok s) n h = record {
-  games = λ e. let bad : 99 ≡ 103 = ap (λ (t : Text). slice_index t 0) (sym n ∙ e) in absurd (omega arith);
-  cooks = λ e. let bad : 104 ≡ 111 = ap (λ (t : Text). slice_index t 1) (sym n ∙ e) in absurd (omega arith);
-  check = λ _. h;
-  search = λ e. let bad : 99 ≡ 115 = ap (λ (t : Text). slice_index t 0) (sym n ∙ e) in absurd (omega arith);
-  why = λ e. let bad : 99 ≡ 119 = ap (λ (t : Text). slice_index t 0) (sym n ∙ e) in absurd (omega arith);
-  page = λ e. let bad : 99 ≡ 112 = ap (λ (t : Text). slice_index t 0) (sym n ∙ e) in absurd (omega arith);
-  upgrade = λ e. let bad : 99 ≡ 117 = ap (λ (t : Text). slice_index t 0) (sym n ∙ e) in absurd (omega arith);
-}
-check_is_meant name rows (Err x) n h = tt
+-- the text of a word that may be missing, from what `clap` gives for its name
+pub word_or_none : (f : Found) (name : Text) (text : Option (List ℕ)) → text ≡ first_value f name → text ≡ first_of name (rows_of f)
+word_or_none f name text e = e ∙ first_value-rows f name
 
-pub search_is_meant : (name : Text) (rows : List Row) (result : Result ℕ Refusal) → name ≡ codes "search"
-    → IfOk result (λ s. IsSearched rows s) → IfOk result (λ s. IsMeant name rows s)
-search_is_meant name rows (Ok s) n h = record {
-  games = λ e. let bad : 115 ≡ 103 = ap (λ (t : Text). slice_index t 0) (sym n ∙ e) in absurd (omega arith);
-  cooks = λ e. let bad : 115 ≡ 99 = ap (λ (t : Text). slice_index t 0) (sym n ∙ e) in absurd (omega arith);
-  check = λ e. let bad : 115 ≡ 99 = ap (λ (t : Text). slice_index t 0) (sym n ∙ e) in absurd (omega arith);
-  search = λ _. h;
-  why = λ e. let bad : 115 ≡ 119 = ap (λ (t : Text). slice_index t 0) (sym n ∙ e) in absurd (omega arith);
-  page = λ e. let bad : 115 ≡ 112 = ap (λ (t : Text). slice_index t 0) (sym n ∙ e) in absurd (omega arith);
-  upgrade = λ e. let bad : 115 ≡ 117 = ap (λ (t : Text). slice_index t 0) (sym n ∙ e) in absurd (omega arith);
-}
-search_is_meant name rows (Err x) n h = tt
+-- a text that spells a diagram, where no length is given
+pub diagram_means : (rows : List Row) (text : List ℕ) (X : Placement → Type 0) (result : Result ℕ Refusal)
+    → text ≡ spelled (codes "DIAGRAM") rows → None ≡ first_of (codes "LENGTH") rows
+    → OnOk result ((d : Placement) × (diagram_of (fields text) ≡ Ok d) × X d) → IfOk result (λ s. s ≡ 0)
+    → IfOk result (λ s. HasDiagram rows s)
+diagram_means rows text X (Ok s) e f h z = (
+  (h.0, ap (λ (x : List ℕ). diagram_of (fields x)) (sym e) ∙ h.1),
+  subst (λ (o : Option (List ℕ)). IfSome o (λ length. (n : ℕ) × (length_of length ≡ Ok n))) f tt,
+  z,
+)
+diagram_means rows text X (Err r) e f h z = tt
 
-pub why_is_meant : (name : Text) (rows : List Row) (result : Result ℕ Refusal) → name ≡ codes "why"
-    → IfOk result (λ s. IsExplained rows s) → IfOk result (λ s. IsMeant name rows s)
-why_is_meant name rows (Ok s) n h = record {
-  games = λ e. let bad : 119 ≡ 103 = ap (λ (t : Text). slice_index t 0) (sym n ∙ e) in absurd (omega arith);
-  cooks = λ e. let bad : 119 ≡ 99 = ap (λ (t : Text). slice_index t 0) (sym n ∙ e) in absurd (omega arith);
-  check = λ e. let bad : 119 ≡ 99 = ap (λ (t : Text). slice_index t 0) (sym n ∙ e) in absurd (omega arith);
-  search = λ e. let bad : 119 ≡ 115 = ap (λ (t : Text). slice_index t 0) (sym n ∙ e) in absurd (omega arith);
-  why = λ _. h;
-  page = λ e. let bad : 119 ≡ 112 = ap (λ (t : Text). slice_index t 0) (sym n ∙ e) in absurd (omega arith);
-  upgrade = λ e. let bad : 119 ≡ 117 = ap (λ (t : Text). slice_index t 0) (sym n ∙ e) in absurd (omega arith);
-}
-why_is_meant name rows (Err x) n h = tt
-
-pub games_is_meant : (name : Text) (rows : List Row) (result : Result ℕ Refusal) → name ≡ codes "games"
-    → IfOk result (λ s. IsTested rows s) → IfOk result (λ s. IsMeant name rows s)
-games_is_meant name rows (Ok s) n h = record {
-  games = λ _. h;
-  cooks = λ e. let bad : 103 ≡ 99 = ap (λ (t : Text). slice_index t 0) (sym n ∙ e) in absurd (omega arith);
-  check = λ e. let bad : 103 ≡ 99 = ap (λ (t : Text). slice_index t 0) (sym n ∙ e) in absurd (omega arith);
-  search = λ e. let bad : 103 ≡ 115 = ap (λ (t : Text). slice_index t 0) (sym n ∙ e) in absurd (omega arith);
-  why = λ e. let bad : 103 ≡ 119 = ap (λ (t : Text). slice_index t 0) (sym n ∙ e) in absurd (omega arith);
-  page = λ e. let bad : 103 ≡ 112 = ap (λ (t : Text). slice_index t 0) (sym n ∙ e) in absurd (omega arith);
-  upgrade = λ e. let bad : 103 ≡ 117 = ap (λ (t : Text). slice_index t 0) (sym n ∙ e) in absurd (omega arith);
-}
-games_is_meant name rows (Err x) n h = tt
-
-pub cooks_is_meant : (name : Text) (rows : List Row) (result : Result ℕ Refusal) → name ≡ codes "cooks"
-    → IfOk result (λ s. IsFollowed rows s) → IfOk result (λ s. IsMeant name rows s)
-cooks_is_meant name rows (Ok s) n h = record {
-  games = λ e. let bad : 99 ≡ 103 = ap (λ (t : Text). slice_index t 0) (sym n ∙ e) in absurd (omega arith);
-  cooks = λ _. h;
-  check = λ e. let bad : 111 ≡ 104 = ap (λ (t : Text). slice_index t 1) (sym n ∙ e) in absurd (omega arith);
-  search = λ e. let bad : 99 ≡ 115 = ap (λ (t : Text). slice_index t 0) (sym n ∙ e) in absurd (omega arith);
-  why = λ e. let bad : 99 ≡ 119 = ap (λ (t : Text). slice_index t 0) (sym n ∙ e) in absurd (omega arith);
-  page = λ e. let bad : 99 ≡ 112 = ap (λ (t : Text). slice_index t 0) (sym n ∙ e) in absurd (omega arith);
-  upgrade = λ e. let bad : 99 ≡ 117 = ap (λ (t : Text). slice_index t 0) (sym n ∙ e) in absurd (omega arith);
-}
-cooks_is_meant name rows (Err x) n h = tt
-
-pub page_is_meant : (name : Text) (rows : List Row) (result : Result ℕ Refusal) → name ≡ codes "page"
-    → IfOk result (λ s. IsExplained rows s) → IfOk result (λ s. IsMeant name rows s)
-page_is_meant name rows (Ok s) n h = record {
-  games = λ e. let bad : 112 ≡ 103 = ap (λ (t : Text). slice_index t 0) (sym n ∙ e) in absurd (omega arith);
-  cooks = λ e. let bad : 112 ≡ 99 = ap (λ (t : Text). slice_index t 0) (sym n ∙ e) in absurd (omega arith);
-  check = λ e. let bad : 112 ≡ 99 = ap (λ (t : Text). slice_index t 0) (sym n ∙ e) in absurd (omega arith);
-  search = λ e. let bad : 112 ≡ 115 = ap (λ (t : Text). slice_index t 0) (sym n ∙ e) in absurd (omega arith);
-  why = λ e. let bad : 112 ≡ 119 = ap (λ (t : Text). slice_index t 0) (sym n ∙ e) in absurd (omega arith);
-  page = λ _. h;
-  upgrade = λ e. let bad : 112 ≡ 117 = ap (λ (t : Text). slice_index t 0) (sym n ∙ e) in absurd (omega arith);
-}
-page_is_meant name rows (Err x) n h = tt
+-- and where one is
+pub within_means : (rows : List Row) (text length : List ℕ) (X : Placement → ℕ → Type 0) (result : Result ℕ Refusal)
+    → text ≡ spelled (codes "DIAGRAM") rows → Some length ≡ first_of (codes "LENGTH") rows
+    → OnOk result ((d : Placement) × (n : ℕ) × (diagram_of (fields text) ≡ Ok d) × (length_of length ≡ Ok n) × X d n)
+    → IfOk result (λ s. s ≡ 0) → IfOk result (λ s. HasDiagram rows s)
+within_means rows text length X (Ok s) e f h z = (
+  (h.0, ap (λ (x : List ℕ). diagram_of (fields x)) (sym e) ∙ h.2),
+  subst (λ (o : Option (List ℕ)). IfSome o (λ (t : List ℕ). (n : ℕ) × (length_of t ≡ Ok n))) f (h.1, h.3),
+  z,
+)
+within_means rows text length X (Err r) e f h z = tt

@@ -1,3 +1,5 @@
 pub mod AnswerLemmas
+pub mod CommandLemmas
 pub mod KnowingLemmas
 pub mod ShowLemmas
+pub mod WrittenLemmas

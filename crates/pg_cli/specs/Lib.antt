@@ -3,3 +3,4 @@ pub mod Knowing
 pub mod Reasons
 pub mod Refusals
 pub mod Words
+pub mod Written

@@ -4,7 +4,6 @@ use Rattle.pg_board.specs.Placement.{Placement}
 use Rattle.pg_position.specs.declared.moves.Move.{Move}
 use Rattle.pg_searcher.specs.declared.fault.SearchFault.TheVariants.{TooManyGames}
 use Rattle.pg_checker.specs.Terms.{Terms}
-use Rattle.pg_checker.specs.declared.fault.RunFault.{RunFault}
 use Rattle.pg_texts.specs.declared.fault.UpgradeFault.TheVariants.{Write as CopyWrite}
 use Rattle.pg_texts.specs.MovesText.{IsMovesFault}
 use Rattle.pg_texts.specs.CountText.{IsCountRunFault}

@@ -1,14 +1,18 @@
 //! `pg check`: a certificate is checked for a diagram, a length and a list of games.
 
-ghost use Rattle.std.specs.Prelude.{◌≡◌, true, IfOk, IfErr};
+ghost use Rattle.std.specs.Prelude.{◌≡◌, true, IfOk, IfErr, OnOk};
+ghost use Rattle.std.specs.Io.KnownBytes.{Keeps};
 ghost use Rattle.pg_checker.specs.Cuts.{rules_by};
 ghost use Rattle.pg_checker.specs.Terms.{terms};
 ghost use Rattle.pg_checker.specs.declared.fault.RunFault.TheVariants.{Write};
 ghost use Rattle.clap.specs.Words.{found_of, rows_of};
 ghost use Rattle.pg_report.specs.Run.{failures};
+ghost use Rattle.pg_streams.specs.Buffer.{IsHandedOn, sink_of};
+ghost use Rattle.pg_texts.specs.Report.{IsReport};
 ghost use Rattle.pg_cli.specs.Answers.{AreAnswered};
 ghost use Rattle.pg_cli.specs.Reasons.{IsCheckRefusal};
 ghost use Rattle.pg_cli.specs.Words.{IsChecked};
+ghost use Rattle.pg_cli.specs.Written.{AddsOf};
 
 use crate::refusals::{Named, Refusal};
 use crate::screen::Screen;
@@ -35,12 +39,14 @@ pub(crate) struct Asked<'a> {
     pub(crate) games: &'a [u8],
 }
 
-// The status that a report has, once the report is wholly written.
+// The status that a report has, once the report is wholly handed on.
 //
 // # Errors
 // `Check` with `Write` where the rest of the report is refused.
 pub(crate) fn finished<W: Sink>(status: u8, out: &mut Gathered<W>) -> Result<u8, Refusal>
     ensures ok { IfOk result (λ s. s ≡ status) }
+    ensures handed { OnOk result (Keeps (⟦<Gathered<W> as Sink>⟧.held out.old) (W.held (sink_of out.new))) }
+    ensures all { OnOk result (IsHandedOn out.new) }
     ensures err { IfErr result (λ refusal. (refusal ≡ Refusal.Check Write)
         × (⟦<Gathered<W> as Sink>⟧.has_failed out.new ≡ true)) }
 {
@@ -52,7 +58,7 @@ pub(crate) fn finished<W: Sink>(status: u8, out: &mut Gathered<W>) -> Result<u8,
 
 // Checks the certificate that a source gives, and writes the report; the status of its verdict. A status
 // means that the texts spell a diagram, a length and a list, that the list is the exact answer, and 0 that
-// it has just one game.
+// it has just one game; the report is handed on then.
 //
 // # Errors
 // `NotUtf8` where the list is not UTF-8, else `Check` with the fault of the check.
@@ -66,6 +72,8 @@ pub(crate) fn check_from<S: Source, W: Sink>(
 ) -> Result<u8, Refusal>
     ensures headline { IfOk result (λ status. AreAnswered asked.now.diagram.now asked.now.length.now
         asked.now.games.now status) }
+    ensures report { OnOk result (AddsOf IsReport asked.now
+        (⟦<Gathered<W> as Sink>⟧.held out.old) (W.held (sink_of out.new))) }
     ensures err { IfErr result (λ refusal. IsCheckRefusal
         (terms (rules_by code_of excluded bounds.now) records MOST_NAMED (S.left source.old))
         asked.now

@@ -4,6 +4,7 @@ ghost use Rattle.pg_checker.specs.Cuts.{rules_by};
 ghost use Rattle.pg_checker.specs.Terms.{terms};
 ghost use Rattle.clap.specs.Words.{found_of, rows_of};
 ghost use Rattle.pg_guide.specs.Why.{reading_failures};
+ghost use Rattle.pg_streams.specs.Buffer.{IsHandedOn};
 ghost use Rattle.pg_cli.specs.Answers.{HasExactAnswer};
 ghost use Rattle.pg_cli.specs.Reasons.{IsWhyRefusal, why_refusal};
 ghost use Rattle.pg_cli.specs.Words.{IsExplained};
@@ -96,7 +97,7 @@ fn end<W: Sink>(answer: &Result<u8, Refusal>, screen: Screen, out: &mut Gathered
 
 // Explains a line by a certificate that is read three times, and writes what it says. A status
 // means that a list of games is the exact answer to the diagram and the length: the check of the
-// certificate has said yes.
+// certificate has said yes. All that is written is handed on then.
 //
 // # Errors
 // `Line` where the moves are not one game, `Search` with `TooManyGames` where the certificate has more games than a list,
@@ -111,6 +112,7 @@ pub(crate) fn why_from<S: Source, W: Sink>(
 ) -> Result<u8, Refusal>
     ensures right { OnOk result (HasExactAnswer asked.now.diagram.now asked.now.length.now) }
     ensures zero { IfOk result (λ status. status ≡ 0) }
+    ensures handed { OnOk result (IsHandedOn out.new) }
     ensures err { IfErr result (λ refusal. IsWhyRefusal asked.now
         (terms (rules_by code_of excluded bounds.now) records MOST_NAMED (S.left readings.old.checked))
         (reading_failures (S.has_failed readings.new.walked) (S.has_failed readings.new.again)

@@ -1,9 +1,12 @@
 //! `pg games` and `pg cooks`: what a list of games shows by itself, and what is found beside it.
-ghost use Rattle.std.specs.Prelude.{◌≡◌, IfOk, IfErr};
+ghost use Rattle.std.specs.Prelude.{◌≡◌, IfOk, IfErr, OnOk};
 ghost use Rattle.clap.specs.Words.{found_of, rows_of};
+ghost use Rattle.pg_cooks.specs.Standing.{IsGamesReport};
+ghost use Rattle.pg_streams.specs.Buffer.{sink_of};
 ghost use Rattle.pg_cli.specs.Knowing.{AreFollowed, AreTested, AreUnsound, answer_status, standing_status};
 ghost use Rattle.pg_cli.specs.Reasons.{IsCooksRefusal, IsGamesRefusal, cooks_refusal};
 ghost use Rattle.pg_cli.specs.Words.{IsFollowed, IsTested};
+ghost use Rattle.pg_cli.specs.Written.{AddsOf, HasCooksReport};
 
 use crate::checking::{Asked, finished, games_of};
 use crate::refusals::Refusal;
@@ -47,7 +50,7 @@ fn answer_status(answer: &CookAnswer) -> u8
 }
 
 // Tests a list of games, and writes what it shows by itself. The texts spell a diagram, a length and solutions, and the
-// status is that of what they show: 1 only where no list of one game is the exact answer.
+// status is that of what they show: 1 only where no list of one game is the exact answer. The report is handed on then.
 //
 // # Errors
 // `NotUtf8` where the list is not UTF-8, else `Check` with the fault of the run.
@@ -59,6 +62,8 @@ pub(crate) fn games_from<W: Sink>(
     ensures headline { IfOk result (λ status. status ≡ 1 → AreUnsound asked.now.diagram.now asked.now.length.now) }
     ensures status { IfOk result (λ status. AreTested asked.now.diagram.now asked.now.length.now asked.now.games.now
         status) }
+    ensures report { OnOk result (AddsOf IsGamesReport asked.now
+        (⟦<Gathered<W> as Sink>⟧.held out.old) (W.held (sink_of out.new))) }
     ensures err { IfErr result (λ refusal. IsGamesRefusal asked.now
         (⟦<Gathered<W> as Sink>⟧.has_failed out.new) refusal) }
 {
@@ -89,7 +94,7 @@ fn refusal_of(fault: CooksRunFault) -> Refusal
 }
 
 // Looks for a game beside those of a list, and writes what is found. The texts spell a diagram, a length and solutions, and the
-// status is that of what is found: 1 only where no list of one game is the exact answer.
+// status is that of what is found: 1 only where no list of one game is the exact answer. The report is handed on then.
 //
 // # Errors
 // `NotUtf8` where the list is not UTF-8, `NoGame` where it is empty, `Memory`, else `Check` with the fault
@@ -104,6 +109,8 @@ pub(crate) fn cooks_from<P: LedProgress, W: Sink>(
     ensures headline { IfOk result (λ status. status ≡ 1 → AreUnsound asked.now.diagram.now asked.now.length.now) }
     ensures status { IfOk result (λ status. AreFollowed asked.now.diagram.now asked.now.length.now asked.now.games.now
         status) }
+    ensures report { IfOk result (λ status. AddsOf (HasCooksReport status) asked.now
+        (⟦<Gathered<W> as Sink>⟧.held out.old) (W.held (sink_of out.new))) }
     ensures err { IfErr result (λ refusal. IsCooksRefusal asked.now
         (⟦<Gathered<W> as Sink>⟧.has_failed out.new) refusal) }
 {

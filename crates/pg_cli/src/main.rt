@@ -5,11 +5,12 @@
 //! `pg upgrade OLD NEW [--records N]`.
 #![tactic(auto)]
 
-ghost use Rattle.std.specs.Prelude.{List, IfOk};
-ghost use Rattle.clap.specs.Words.{Row, Text};
-ghost use Rattle.pg_cli.specs.Words.{IsMeant, IsSubcommand};
+ghost use Rattle.std.specs.Prelude.{◌≡◌, IfOk, IfSome};
+ghost use Rattle.clap.specs.Words.{found_of, rows_of};
+ghost use Rattle.pg_cli.specs.Words.{IsStatus, says};
 
 mod checking;
+mod commands;
 mod guiding;
 mod hints;
 mod knowing;
@@ -21,6 +22,7 @@ mod searching;
 mod spelling;
 mod upgrading;
 
+use crate::commands::Command;
 use crate::hints::{advise, advise_words};
 use crate::refusals::{BAD_INPUT, DONE, NO_FILE, Refusal, refuse};
 use crate::screen::Screen;
@@ -38,46 +40,46 @@ use std::process::ExitCode;
 use std::rt::Runtime;
 use std::{env, io};
 
-// Does what the words of a command say that judges no game, with these bounds.
-fn carry_out_other<R: Runtime + AllocGlobal>(
+// Does a command with its words and these bounds. A status of `check`, `search`, `why` or `page` means that a list is the exact
+// answer to the diagram and the length which the words spell, and 1 of `games` or `cooks` that no list of one game is.
+fn perform<R: Runtime + AllocGlobal>(
     rt: &R,
-    name: &str,
+    command: Command,
     words: &ArgMatches<'_>,
     bounds: &[Box<dyn Bound>],
     screen: Screen,
-) -> Result<u8, Refusal> {
-    match name {
-        "show" => positions::show(rt, words, bounds),
-        "moves" => positions::moves(rt, words),
-        "count" => positions::count(rt, words, screen.errors),
-        _ => Ok(BAD_INPUT),
+) -> Result<u8, Refusal>
+    ensures headline { IfOk result (λ status. says command (rows_of (found_of words.now)) status) }
+{
+    match command {
+        Command::Show => positions::show(rt, words, bounds),
+        Command::Moves => positions::moves(rt, words),
+        Command::Count => positions::count(rt, words, screen.errors),
+        Command::Games => knowing::games(rt, words, screen),
+        Command::Cooks => knowing::cooks(rt, words, screen),
+        Command::Check => checking::check(rt, words, bounds, screen),
+        Command::Search => searching::search(rt, words, bounds, screen.errors),
+        Command::Why => guiding::why(rt, words, bounds, screen),
+        Command::Page => paging::page(rt, words, bounds, screen.errors),
+        Command::Upgrade => upgrading::upgrade(rt, words, screen.errors),
     }
 }
 
-// Does what the words of a command say, with these bounds. A status of `check`, `search`, `why` or `page`
-// means that a list is the exact answer to the diagram and the length which the words spell, and 1 of `games` or
-// `cooks` that no list of one game is.
+// Does the command that the words name, with these bounds. A status says of it what `says` has.
 fn carry_out<R: Runtime + AllocGlobal>(
     rt: &R,
     words: &ArgMatches<'_>,
     bounds: &[Box<dyn Bound>],
     screen: Screen,
 ) -> Result<u8, Refusal>
-    ensures headline { IfOk result (λ status. (name : Text) (rows : List Row) → IsSubcommand words.now name rows
-        → IsMeant name rows status) }
+    ensures headline { IfOk result (λ status. IsStatus words.now status) }
 {
     let Some((name, inner)) = words.subcommand() else {
         return Ok(BAD_INPUT);
     };
-    match name {
-        "games" => knowing::games(rt, inner, screen),
-        "cooks" => knowing::cooks(rt, inner, screen),
-        "check" => checking::check(rt, inner, bounds, screen),
-        "search" => searching::search(rt, inner, bounds, screen.errors),
-        "why" => guiding::why(rt, inner, bounds, screen),
-        "page" => paging::page(rt, inner, bounds, screen.errors),
-        "upgrade" => upgrading::upgrade(rt, inner, screen.errors),
-        _ => carry_out_other(rt, name, inner, bounds, screen),
+    match Command::named(name) {
+        Some(command) => perform(rt, command, inner, bounds, screen),
+        None => Ok(BAD_INPUT),
     }
 }
 
@@ -92,13 +94,15 @@ fn file_of<'a>(words: &ArgMatches<'a>, refusal: &Refusal) -> FileName<'a> {
     }
 }
 
-// Does what the words of a command say, with these bounds, and gives the status.
+// Does what the words of a command say, with these bounds, and gives the status; 0 only where that is what the command ended with.
 fn lend<R: Runtime + AllocGlobal>(
     rt: &R,
     words: &ArgMatches<'_>,
     bounds: Vec<Box<dyn Bound>>,
     screen: Screen,
-) -> u8 {
+) -> u8
+    ensures done { result ≡ 0 → IsStatus words.now 0 }
+{
     match carry_out(rt, words, bounds.as_slice(), screen) {
         Ok(status) => status,
         Err(refusal) => {
@@ -124,7 +128,9 @@ fn rows_of(words: &ArgMatches<'_>) -> Option<Rows> {
 
 // Does what the words of a command say, with the four bounds in the order of their codes, and gives
 // the status; None where a growth was refused before.
-fn run<R: Runtime + AllocGlobal>(rt: &R, words: &ArgMatches<'_>, screen: Screen) -> Option<u8> {
+fn run<R: Runtime + AllocGlobal>(rt: &R, words: &ArgMatches<'_>, screen: Screen) -> Option<u8>
+    ensures done { IfSome result (λ status. status ≡ 0 → IsStatus words.now 0) }
+{
     let Ok(captures) = Box::new(rt.alloc(), Captures) else {
         return None;
     };

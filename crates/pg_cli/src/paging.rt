@@ -4,6 +4,7 @@ ghost use Rattle.pg_checker.specs.Cuts.{rules_by};
 ghost use Rattle.pg_checker.specs.Terms.{terms};
 ghost use Rattle.clap.specs.Words.{found_of, rows_of};
 ghost use Rattle.pg_guide.specs.Why.{reading_failures};
+ghost use Rattle.pg_streams.specs.Buffer.{IsHandedOn};
 ghost use Rattle.pg_cli.specs.Answers.{HasExactAnswer};
 ghost use Rattle.pg_cli.specs.Reasons.{IsPageRefusal};
 ghost use Rattle.pg_cli.specs.Words.{IsExplained};
@@ -25,7 +26,8 @@ use std::rt::Runtime;
 const NODES: u64 = 20_000;
 
 // Checks a certificate that is read three times, and writes the page that shows it; nothing before the check
-// has said yes. A status means that a list of games is the exact answer to the diagram and the length.
+// has said yes. A status means that a list of games is the exact answer to the diagram and the length, and that all of the page is
+// handed on.
 //
 // # Errors
 // `Search` with `TooManyGames` where the certificate has more games than a list, else `Check` with the fault of the texts,
@@ -40,6 +42,7 @@ pub(crate) fn page_from<S: Source, W: Sink>(
 ) -> Result<u8, Refusal>
     ensures right { OnOk result (HasExactAnswer asked.now.diagram.now asked.now.length.now) }
     ensures zero { IfOk result (λ status. status ≡ 0) }
+    ensures handed { OnOk result (IsHandedOn out.new) }
     ensures err { IfErr result (λ refusal. IsPageRefusal asked.now
         (terms (rules_by code_of excluded bounds.now) records MOST_NAMED (S.left readings.old.checked))
         (reading_failures (S.has_failed readings.new.walked) (S.has_failed readings.new.again)

@@ -1,6 +1,14 @@
 //! The commands on one position: its legal moves, the number of games from it, and a diagram shown.
-ghost use Rattle.std.specs.Prelude.{◌≡◌, true, IfOk, IfErr};
+ghost use Rattle.std.specs.Prelude.{◌≡◌, true, IfOk, IfErr, OnOk};
+ghost use Rattle.std.specs.Io.KnownBytes.{Keeps};
+ghost use Rattle.std.specs.List.{list_any};
+ghost use Rattle.clap.specs.Words.{found_of, rows_of};
+ghost use Rattle.pg_position.specs.Array.{array_state};
+ghost use Rattle.pg_streams.specs.Buffer.{sink_of};
+ghost use Rattle.pg_texts.specs.CountText.{IsCounted};
 ghost use Rattle.pg_cli.specs.Reasons.{IsCountRefusal, IsMovesRefusal, IsShowRefusal, IsShowWithinRefusal};
+ghost use Rattle.pg_cli.specs.Words.{HasPosition, HasDiagram};
+ghost use Rattle.pg_cli.specs.Written.{AddsMoves, AddsShown, AddsShownWithin};
 
 use crate::refusals::{DONE, Refusal};
 use crate::spelling::text_of;
@@ -14,7 +22,7 @@ use std::alloc::Global;
 use std::io;
 use std::rt::Runtime;
 
-// Writes the legal moves of a position.
+// Writes the legal moves of a position, and hands all of it on.
 //
 // # Errors
 // `Moves` with the fault of the run, or with `Write` where the rest is refused.
@@ -23,6 +31,7 @@ pub(crate) fn moves_from<W: Sink>(
     fen: &str,
     out: &mut Gathered<W>,
 ) -> Result<u8, Refusal>
+    ensures ok { OnOk result (AddsMoves fen.now (⟦<Gathered<W> as Sink>⟧.held out.old) (W.held (sink_of out.new))) }
     ensures zero { IfOk result (λ status. status ≡ 0) }
     ensures err { IfErr result (λ refusal. IsMovesRefusal fen.now
         (⟦<Gathered<W> as Sink>⟧.has_failed out.new) refusal) }
@@ -36,16 +45,15 @@ pub(crate) fn moves_from<W: Sink>(
     }
 }
 
-// `pg moves FEN`: the legal moves, on standard output.
-pub(crate) fn moves<R: Runtime + AllocGlobal>(
-    rt: &R,
-    words: &ArgMatches<'_>,
-) -> Result<u8, Refusal> {
+// `pg moves FEN`: the legal moves, on standard output. A status means that FEN spells a position.
+pub(crate) fn moves<R: Runtime + AllocGlobal>(rt: &R, words: &ArgMatches<'_>) -> Result<u8, Refusal>
+    ensures spelled { IfOk result (λ status. HasPosition (rows_of (found_of words.now)) status) }
+{
     let mut out = Gathered::new(ToWrite::new(io::writer(rt)));
     moves_from(rt.alloc(), text_of(words, "FEN"), &mut out)
 }
 
-// Writes the number of games of so many plies from a position.
+// Writes the number of games of so many plies from a position, and hands all of it on.
 //
 // # Errors
 // `Count` with the fault of the run, or with `Write` where the rest is refused.
@@ -56,6 +64,7 @@ pub(crate) fn count_from<P: CountProgress, W: Sink>(
     watch: &mut P,
     out: &mut Gathered<W>,
 ) -> Result<u8, Refusal>
+    ensures ok { OnOk result (IsCounted fen.now plies (⟦<Gathered<W> as Sink>⟧.held out.old) (W.held (sink_of out.new))) }
     ensures zero { IfOk result (λ status. status ≡ 0) }
     ensures err { IfErr result (λ refusal. IsCountRefusal fen.now plies
         (⟦<Gathered<W> as Sink>⟧.has_failed out.new) refusal) }
@@ -69,12 +78,14 @@ pub(crate) fn count_from<P: CountProgress, W: Sink>(
     }
 }
 
-// `pg count FEN PLIES`: the number of games, on standard output.
+// `pg count FEN PLIES`: the number of games, on standard output. A status means that FEN spells a position.
 pub(crate) fn count<R: Runtime + AllocGlobal>(
     rt: &R,
     words: &ArgMatches<'_>,
     screen: bool,
-) -> Result<u8, Refusal> {
+) -> Result<u8, Refusal>
+    ensures spelled { IfOk result (λ status. HasPosition (rows_of (found_of words.now)) status) }
+{
     let fen = text_of(words, "FEN");
     let plies = words.get_one::<u8>("PLIES").unwrap_or(u8::MAX);
     let terminal = Terminal::new(screen);
@@ -85,11 +96,12 @@ pub(crate) fn count<R: Runtime + AllocGlobal>(
     answer
 }
 
-// The status once a diagram is wholly shown.
+// The status once a diagram is wholly shown, and all of it is handed on.
 //
 // # Errors
 // `Show` with `Write` where the rest is refused.
 fn shown<W: Sink>(out: &mut Gathered<W>) -> Result<u8, Refusal>
+    ensures handed { OnOk result (Keeps (⟦<Gathered<W> as Sink>⟧.held out.old) (W.held (sink_of out.new))) }
     ensures zero { IfOk result (λ status. status ≡ 0) }
     ensures err { IfErr result (λ refusal. (refusal ≡ Refusal.Show ShowFault.Write)
         × (⟦<Gathered<W> as Sink>⟧.has_failed out.new ≡ true)) }
@@ -110,6 +122,8 @@ pub(crate) fn show_from<W: Sink>(
     bounds: &[Box<dyn Bound>],
     out: &mut Gathered<W>,
 ) -> Result<u8, Refusal>
+    ensures ok { OnOk result (AddsShown (λ d m. list_any (λ b. excluded b d array_state m) bounds.now) diagram.now
+        (⟦<Gathered<W> as Sink>⟧.held out.old) (W.held (sink_of out.new))) }
     ensures zero { IfOk result (λ status. status ≡ 0) }
     ensures err { IfErr result (λ refusal. IsShowRefusal diagram.now
         (⟦<Gathered<W> as Sink>⟧.has_failed out.new) refusal) }
@@ -131,6 +145,8 @@ pub(crate) fn show_within_from<W: Sink>(
     bounds: &[Box<dyn Bound>],
     out: &mut Gathered<W>,
 ) -> Result<u8, Refusal>
+    ensures ok { OnOk result (AddsShownWithin (λ d m. list_any (λ b. excluded b d array_state m) bounds.now)
+        diagram.now length.now (⟦<Gathered<W> as Sink>⟧.held out.old) (W.held (sink_of out.new))) }
     ensures zero { IfOk result (λ status. status ≡ 0) }
     ensures err { IfErr result (λ refusal. IsShowWithinRefusal diagram.now length.now
         (⟦<Gathered<W> as Sink>⟧.has_failed out.new) refusal) }
@@ -141,12 +157,15 @@ pub(crate) fn show_within_from<W: Sink>(
     }
 }
 
-// `pg show DIAGRAM [LENGTH]`: the board and what is known at once, on standard output.
+// `pg show DIAGRAM [LENGTH]`: the board and what is known at once, on standard output. A status means that DIAGRAM spells a
+// diagram, and LENGTH, where it stands, a length.
 pub(crate) fn show<R: Runtime + AllocGlobal>(
     rt: &R,
     words: &ArgMatches<'_>,
     bounds: &[Box<dyn Bound>],
-) -> Result<u8, Refusal> {
+) -> Result<u8, Refusal>
+    ensures spelled { IfOk result (λ status. HasDiagram (rows_of (found_of words.now)) status) }
+{
     let diagram = text_of(words, "DIAGRAM");
     let mut out = Gathered::new(ToWrite::new(io::writer(rt)));
     match words.get_str("LENGTH") {

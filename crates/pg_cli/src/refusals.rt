@@ -1,5 +1,5 @@
 //! Why a command ends without its answer, what the program says then, and its status.
-ghost use Rattle.std.specs.Prelude.{◌≡◌, false, true};
+ghost use Rattle.std.specs.Prelude.{◌≡◌, ◌<◌, false, true};
 ghost use Rattle.pg_cli.specs.Refusals.{refusal_status, file_status};
 
 use pg_files::{FileFault, FileName, Obstacle};
@@ -132,7 +132,8 @@ impl Refusal {
     // The status of the program then: 1 where a list or a certificate is refused or a search gave up,
     // 2 for bad words and texts, 3 for want of memory, 4 for a file that is not opened, created, read or written.
     pub(crate) fn status(&self) -> u8
-        ensures { result ≡ refusal_status self.now }
+        ensures value { result ≡ refusal_status self.now }
+        ensures fails { 0 < result }
     {
         match self {
             Refusal::Open(_, _) | Refusal::Read | Refusal::Write => FILES,
@@ -215,7 +216,8 @@ fn print_refusal<R: Eprint>(rt: &R, refusal: &Refusal, file: FileName<'_>) -> Re
 
 // Says on standard error why there is no answer, of a file of this name or of none, and gives the status.
 pub(crate) fn refuse<R: Eprint>(rt: &R, refusal: &Refusal, file: FileName<'_>) -> u8
-    ensures { result ≡ refusal_status refusal.now }
+    ensures value { result ≡ refusal_status refusal.now }
+    ensures fails { 0 < result }
 {
     let _ = print_refusal(rt, refusal, file);
     refusal.status()

@@ -1,9 +1,12 @@
 //! `pg search`: a certificate is searched for and written, and then checked.
 
-ghost use Rattle.std.specs.Prelude.{◌≤◌, List, IfOk, IfErr};
+ghost use Rattle.std.specs.Prelude.{◌≤◌, List, IfOk, IfErr, OnOk};
 ghost use Rattle.pg_checker.specs.Cuts.{rules_by};
 ghost use Rattle.pg_checker.specs.Terms.{terms};
 ghost use Rattle.pg_position.specs.declared.moves.Move.{Move};
+ghost use Rattle.pg_certificate.specs.Pushing.{AddsSome};
+ghost use Rattle.pg_streams.specs.Buffer.{sink_of};
+ghost use Rattle.pg_texts.specs.Report.{IsReport};
 ghost use Rattle.clap.specs.Words.{found_of, rows_of};
 ghost use Rattle.pg_report.specs.Run.{failures};
 ghost use Rattle.pg_cli.specs.Answers.{IsAnswered};
@@ -128,7 +131,8 @@ fn records_for(nodes: u64) -> u64
 }
 
 // Checks the certificate that a source gives with the games that were found, and writes the report;
-// the status of its verdict. A status means that these games are the exact answer, and 0 that it is one.
+// the status of its verdict. A status means that these games are the exact answer, and 0 that it is one; the report is handed
+// on then.
 //
 // # Errors
 // `Check` with the fault of the check.
@@ -142,6 +146,8 @@ pub(crate) fn check_found<S: Source, W: Sink>(
     records: u64,
 ) -> Result<u8, Refusal>
     ensures headline { IfOk result (λ status. IsAnswered problem.now.diagram problem.now.length games.now status) }
+    ensures report { OnOk result (AddsSome (IsReport problem.now.diagram problem.now.length games.now)
+        (⟦<Gathered<W> as Sink>⟧.held out.old) (W.held (sink_of out.new))) }
     ensures err { IfErr result (λ refusal. IsFoundRefusal problem.now.diagram problem.now.length games.now
         (terms (rules_by code_of excluded bounds.now) records MOST_NAMED (S.left source.old))
         (failures (S.has_failed source.new) (⟦<Gathered<W> as Sink>⟧.has_failed out.new)) refusal) }
@@ -185,7 +191,9 @@ where
     F: Read + Write + Seek,
     W: Sink,
     ensures headline { IfOk result (λ status. (games : List (List Move))
-        × IsAnswered problem.now.diagram problem.now.length games status) }
+        × IsAnswered problem.now.diagram problem.now.length games status
+        × AddsSome (IsReport problem.now.diagram problem.now.length games)
+        (⟦<Gathered<W> as Sink>⟧.held out.old) (W.held (sink_of out.new))) }
 {
     let Searched { found, met, known } = search_to(
         rt,

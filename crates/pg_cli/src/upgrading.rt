@@ -1,6 +1,10 @@
 //! `pg upgrade`: a certificate of version 1 is copied as one of version 2.
-ghost use Rattle.std.specs.Prelude.{◌≡◌, ◌≤◌, IfOk, IfErr, OnErr, true};
+ghost use Rattle.std.specs.Prelude.{◌≡◌, ◌≤◌, ℕ, List, IfOk, IfErr, OnOk, OnErr, true};
+ghost use Rattle.std.specs.Io.KnownBytes.{Appends, Consumes, IsAtEnd};
+ghost use Rattle.pg_streams.specs.Buffer.{sink_of};
+ghost use Rattle.pg_texts.specs.Upgrade.{IsUpgraded};
 ghost use Rattle.pg_cli.specs.Reasons.{IsUpgradeRefusal};
+ghost use Rattle.pg_cli.specs.Written.{copied_text};
 
 use crate::checking::RECORDS;
 use crate::refusals::{DONE, Named, Refusal};
@@ -14,8 +18,9 @@ use std::io;
 use std::io::Write;
 use std::rt::Runtime;
 
-// Writes how many records there are.
+// Writes how many records there are, and hands it on.
 fn write_count<W: Sink>(count: u64, out: &mut Gathered<W>) -> Result<(), Refused>
+    ensures text { OnOk result (Appends (⟦<Gathered<W> as Sink>⟧.held out.old) (W.held (sink_of out.new)) (copied_text count)) }
     ensures fault { OnErr result (⟦<Gathered<W> as Sink>⟧.has_failed out.new ≡ true) }
 {
     out.push(b"records ")?;
@@ -25,7 +30,7 @@ fn write_count<W: Sink>(count: u64, out: &mut Gathered<W>) -> Result<(), Refused
 }
 
 // Copies the certificate that a source gives to a sink, and prints how many records it has: no more
-// than `records`, which is the answer. The sink has the whole copy then.
+// than `records`, which is the answer. The sink has the whole copy then, and the number is handed on.
 //
 // # Errors
 // `Upgrade` with the fault of the copying, or with `Write` where the number is not printed.
@@ -35,7 +40,12 @@ pub(crate) fn upgrade_to<S: Source, W: Sink, O: Sink>(
     out: &mut Gathered<O>,
     records: u64,
 ) -> Result<u64, Refusal>
+    ensures copied { IfOk result (λ n. (text : List ℕ) × (copy : List ℕ) × IsUpgraded text copy n
+        × Consumes (S.left source.old) (S.left source.new) text × Appends (W.held new.old) (W.held new.new) copy) }
+    ensures end { OnOk result (IsAtEnd (S.left source.new)) }
     ensures few { IfOk result (λ n. n ≤ records) }
+    ensures told { IfOk result (λ n. Appends (⟦<Gathered<O> as Sink>⟧.held out.old) (O.held (sink_of out.new))
+        (copied_text n)) }
     ensures err { IfErr result (λ refusal. IsUpgradeRefusal records (S.left source.old) (S.has_failed source.new)
         (W.has_failed new.new) (⟦<Gathered<O> as Sink>⟧.has_failed out.new) refusal) }
 {

@@ -1,5 +1,5 @@
-//! The status with which the program ends.
-ghost use Rattle.std.specs.Prelude.{◌≡◌};
+//! The status with which the program ends. That of a fault is never 0.
+ghost use Rattle.std.specs.Prelude.{◌≡◌, ◌<◌};
 ghost use Rattle.pg_report.specs.Statuses.{verdict_status, games_status, check_status, status_of, search_status_of};
 ghost use Rattle.pg_report.specs.Statuses.{moves_status_of, count_status_of, show_status_of, upgrade_status_of};
 
@@ -22,7 +22,8 @@ pub fn verdict_status(verdict: Verdict) -> u8
 
 // The status of a refused list of games.
 fn games_status(fault: &GamesFault) -> u8
-    ensures { result ≡ games_status fault.now }
+    ensures value { result ≡ games_status fault.now }
+    ensures fails { 0 < result }
 {
     match fault {
         GamesFault::Memory => 3,
@@ -32,7 +33,8 @@ fn games_status(fault: &GamesFault) -> u8
 
 // The status of a check that does not say yes.
 fn check_status(fault: &Fault) -> u8
-    ensures { result ≡ check_status fault.now }
+    ensures value { result ≡ check_status fault.now }
+    ensures fails { 0 < result }
 {
     match fault {
         Fault::Memory => 3,
@@ -45,7 +47,8 @@ fn check_status(fault: &Fault) -> u8
 /// the check does not say yes, 4 for a write fault; but 3 for want of memory and 4 for a read fault,
 /// wherever it stands.
 pub fn status(fault: &RunFault) -> u8
-    ensures { result ≡ status_of fault.now }
+    ensures value { result ≡ status_of fault.now }
+    ensures fails { 0 < result }
 {
     match fault {
         RunFault::Diagram(_) | RunFault::Length(_) => 2,
@@ -58,7 +61,8 @@ pub fn status(fault: &RunFault) -> u8
 /// The status after a search without its certificate: 1 where the limit of nodes was reached, or a
 /// shorter game or too many games were found, 3 for want of memory, 4 for a write fault.
 pub fn search_status(fault: &SearchFault) -> u8
-    ensures { result ≡ search_status_of fault.now }
+    ensures value { result ≡ search_status_of fault.now }
+    ensures fails { 0 < result }
 {
     match fault {
         SearchFault::Budget | SearchFault::Shorter(_) | SearchFault::TooManyGames => 1,
@@ -70,7 +74,8 @@ pub fn search_status(fault: &SearchFault) -> u8
 /// The status where no moves are written: 2 for a bad position, 3 for want of memory, 4 for a write
 /// fault.
 pub fn moves_status(fault: &MovesFault) -> u8
-    ensures { result ≡ moves_status_of fault.now }
+    ensures value { result ≡ moves_status_of fault.now }
+    ensures fails { 0 < result }
 {
     match fault {
         MovesFault::Position(_) => 2,
@@ -82,7 +87,8 @@ pub fn moves_status(fault: &MovesFault) -> u8
 /// The status where no number is written: 2 for a bad position and for a count too large, 3 for want
 /// of memory, 4 for a write fault.
 pub fn count_status(fault: &CountRunFault) -> u8
-    ensures { result ≡ count_status_of fault.now }
+    ensures value { result ≡ count_status_of fault.now }
+    ensures fails { 0 < result }
 {
     match fault {
         CountRunFault::Position(_) => 2,
@@ -95,7 +101,8 @@ pub fn count_status(fault: &CountRunFault) -> u8
 /// The status where a diagram is not shown: 2 for a bad diagram or length, 3 for want of memory, 4 for a write
 /// fault.
 pub fn show_status(fault: &ShowFault) -> u8
-    ensures { result ≡ show_status_of fault.now }
+    ensures value { result ≡ show_status_of fault.now }
+    ensures fails { 0 < result }
 {
     match fault {
         ShowFault::Diagram(_) | ShowFault::Length(_) => 2,
@@ -107,7 +114,8 @@ pub fn show_status(fault: &ShowFault) -> u8
 /// The status where a certificate is not copied as one of version 2: 1 where it is refused, 4 for a
 /// read or a write fault.
 pub fn upgrade_status(fault: &UpgradeFault) -> u8
-    ensures { result ≡ upgrade_status_of fault.now }
+    ensures value { result ≡ upgrade_status_of fault.now }
+    ensures fails { 0 < result }
 {
     match fault {
         UpgradeFault::Truncated

@@ -1,7 +1,7 @@
 //! A sink that gathers bytes before it hands them on.
 ghost use Rattle.std.specs.Prelude.{◌≡◌, [], true, false, IfOk, OnOk, OnErr};
 ghost use Rattle.std.specs.Io.KnownBytes.{Keeps, append_known};
-ghost use Rattle.pg_streams.specs.Buffer.{sink_of};
+ghost use Rattle.pg_streams.specs.Buffer.{IsHandedOn, sink_of};
 
 use arrayvec::ArrayVec;
 use pg_certificate::{Refused, Sink};
@@ -54,6 +54,7 @@ impl<W: Sink> Gathered<W> {
     /// `Refused` where the sink refuses them, which has failed then.
     pub fn flush(&mut self) -> Result<(), Refused>
         ensures handed { OnOk result (Keeps (⟦<Gathered<W> as Sink>⟧.held self.old) (W.held (sink_of self.new))) }
+        ensures all { OnOk result (IsHandedOn self.new) }
         ensures runs { OnOk result ((⟦<Gathered<W> as Sink>⟧.has_failed self.old ≡ false)
             × (⟦<Gathered<W> as Sink>⟧.has_failed self.new ≡ false)) }
         ensures fault { OnErr result (⟦<Gathered<W> as Sink>⟧.has_failed self.new ≡ true) }

@@ -1,6 +1,6 @@
 -- Records copied one after the other, and what reading the bytes says of them. Leads to the contract of `upgrade`.
 use Rattle.std.proofs.Common.{◌≡◌, ℕ, zero, suc, ◌+◌, ◌*◌, ◌-◌, ◌<◌, ◌≤◌, Bool, true, false, List, [], ◌∷◌, ◌++◌, length, Option, Some, None, IfSome, Result, Ok, Err, refl, sym, ap, subst, ◌∙◌, append_assoc, append-nil, arith, All}
-use Rattle.std.proofs.KnownBytes.{Appends-trans, Consumes-trans, Consumes-kept}
+use Rattle.std.proofs.KnownBytes.{Appends-kept, Appends-trans, Consumes-trans, Consumes-kept}
 use Rattle.std.proofs.lemmas.Grind.{flat_map-append}
 use Rattle.std.proofs.lemmas.List.{length-append}
 use Rattle.std.proofs.lemmas.List.Elements.{All-nil, All-cons, All-head, All-tail, All-append}
@@ -229,12 +229,6 @@ all_consumed None held left text taken ends = tt
 all_consumed (Some bytes) held None text taken ends = absurd taken
 all_consumed (Some bytes) held (Some rest) text taken ends = taken ∙ ap (λ (l : List ℕ). text ++ l) (ends ∙ sym (no_bytes held rest ends))
 
-appends_kept : (a b c : Known) (text : List ℕ) → Appends a b text → Keeps b c → Appends a c text
-appends_kept None b c text grown same = tt
-appends_kept (Some x) None c text grown same = absurd grown
-appends_kept (Some x) (Some y) None text grown same = absurd same
-appends_kept (Some x) (Some y) (Some z) text grown same = same ∙ grown
-
 -- the header of version 2 that stands for this one
 abbrev pub second : Header → Header
 second h = record { version = 2; plies = h.plies; diagram = h.diagram }
@@ -252,5 +246,5 @@ upgraded n h before first left start one two done held is is_first taken grown c
       with_digit_2 (certificate_bytes certificate),
       record { certificate = certificate; many = copied.many; old_is = refl; new_is = refl },
       all_consumed before held left (header_spelling h ++ text) (Consumes-trans before first (prepend_known held left) (header_spelling h) text taken copied.taken) ends,
-      appends_kept start two done (header_spelling (second h) ++ text) (Appends-trans start one two (header_spelling (second h)) text grown copied.written) same,
+      Appends-kept start two done (header_spelling (second h) ++ text) (Appends-trans start one two (header_spelling (second h)) text grown copied.written) same,
     )

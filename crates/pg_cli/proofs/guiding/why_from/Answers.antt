@@ -8,6 +8,7 @@ returns-in-Ok g c =
     record {
       right = said_of c.finished.result (HasExactAnswer c.args.asked.now.diagram.now c.args.asked.now.length.now) (h.0, h.1, h.2, h.3, h.4, h.5);
       zero = c.finished.ensures.ok;
+      handed = c.finished.ensures.all;
       err = line_unwritten c.args.asked.now _ _ c.finished.result h c.in-Ok.ensures.line c.finished.ensures.err;
     }
 

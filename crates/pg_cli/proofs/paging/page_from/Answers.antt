@@ -8,6 +8,7 @@ returns-in-Ok g c =
     record {
       right = said_of c.finished.result (HasExactAnswer c.args.asked.now.diagram.now c.args.asked.now.length.now) (h.0, h.1, h.2, h.3.0, h.3.1, h.4.0);
       zero = c.finished.ensures.ok;
+      handed = c.finished.ensures.all;
       err = page_unwritten c.args.asked.now _ _ c.finished.result h c.finished.ensures.err;
     }
 
