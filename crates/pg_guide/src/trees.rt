@@ -1,8 +1,11 @@
 //! A walk over the trees of a certificate, with a stack of open nodes.
-ghost use Rattle.std.specs.Prelude.{◌≡◌, ◌↔◌, Bool, IsTrue, IfErr, IfNone, IfOk, IfSome};
+ghost use Rattle.std.specs.Prelude.{◌≡◌, ◌↔◌, Bool, [], true, length, IsTrue, IfErr, IfNone, IfOk, IfSome, OnErr, OnOk, MatchOption};
 ghost use Rattle.pg_checker.specs.Passing.{LeadsTo};
+ghost use Rattle.pg_moves.specs.Moves.{IsLast};
 ghost use Rattle.pg_position.specs.Step.{IsLegal};
-ghost use Rattle.pg_guide.specs.Trees.{BreaksTruly};
+ghost use Rattle.pg_guide.specs.Trees.{BreaksTruly, broken_of, HasNoHeader, IsBegun, HasNoRecord, IsStuck, IsTaken, IsEntered, IsRooted, IsCounted};
+ghost use Rattle.pg_guide.specs.Trees.{OnTop, OnTopIfAny, HasNoChild, Plays, IsNextChild, Closes, number_taken, next_number, games_with};
+ghost use Rattle.pg_guide.specs.Trees.{HasNoMove, HasNoLeaf, IsLeafOf, TakesLeaf};
 
 use arrayvec::ArrayVec;
 use pg_certificate::{ReadFault, Record, RecordReader, Source};
@@ -82,20 +85,144 @@ pub struct TreeWalk {
     closed: u32,
 }
 
-// The next leaf below a position with these moves left: by any move, or only by one that leads to the diagram.
-fn leaf_of(diagram: &Diagram, all: bool, moves: &mut LegalMoves) -> Option<Leaf>
+// A child of an open node before its record is read: the position before the move, the move, the position after it, and
+// the plies left there.
+#[derive(Clone, Copy)]
+struct Played {
+    before: Position,
+    m: Move,
+    position: Position,
+    left: u8,
+}
+
+// The leaf by the next of these moves.
+fn next_of(diagram: &Diagram, moves: &mut LegalMoves) -> Option<Leaf>
+    ensures next { MatchOption result
+        (IsLast moves.old.position moves.old.last × (moves.new ≡ moves.old))
+        (λ leaf. IsLeafOf diagram.now true moves.old moves.new leaf) }
     ensures legal { IfSome result (λ leaf. IsLegal leaf.before leaf.m) }
     ensures hit { IfSome result (λ leaf. IsTrue leaf.hit ↔ LeadsTo diagram.now leaf.before leaf.m) }
 {
-    if !all && !skip_to_solution(diagram, moves) {
+    let before = moves.position();
+    match moves.next() {
+        None => None,
+        Some(m) => {
+            let hit = diagram.matches(&before.after(&m));
+            Some(Leaf { before, m, hit })
+        }
+    }
+}
+
+// The next leaf below a position with these moves left: by any move, or only by one that leads to the diagram.
+fn leaf_of(diagram: &Diagram, all: bool, moves: &mut LegalMoves) -> Option<Leaf>
+    ensures next { MatchOption result
+        (HasNoMove diagram.now all moves.old × (moves.new.position ≡ moves.old.position))
+        (λ leaf. IsLeafOf diagram.now all moves.old moves.new leaf) }
+    ensures legal { IfSome result (λ leaf. IsLegal leaf.before leaf.m) }
+    ensures hit { IfSome result (λ leaf. IsTrue leaf.hit ↔ LeadsTo diagram.now leaf.before leaf.m) }
+{
+    if all {
+        return next_of(diagram, moves);
+    }
+    if skip_to_solution(diagram, moves) {
+        next_of(diagram, moves)
+    } else {
+        None
+    }
+}
+
+// One node more is expanded with so many plies left.
+fn count_expanded(expanded: &mut [u64; 129], left: u8)
+    ensures { IsCounted left expanded.old expanded.new }
+{
+    let at = usize::from(left);
+    if at < 129 {
+        expanded[at] = expanded[at].saturating_add(1);
+    }
+}
+
+// Why a walk breaks off where no record is read.
+fn broken_of(fault: ReadFault) -> Broken
+    ensures { result ≡ broken_of fault }
+{
+    match fault {
+        ReadFault::Read => Broken::Read,
+        _ => Broken::Refused,
+    }
+}
+
+impl Frame {
+    // Plays the next move, where the node has more than one ply left.
+    fn play(&mut self) -> Option<Played>
+        ensures { MatchOption result (HasNoChild self.old self.new)
+            (λ child. Plays child.before child.m child.position child.left self.old self.new) }
+    {
+        if self.left <= 1 {
+            return None;
+        }
+        let before = self.moves.position();
+        match self.moves.next() {
+            None => None,
+            Some(m) => {
+                let position = before.after(&m);
+                Some(Played {
+                    before,
+                    m,
+                    position,
+                    left: self.left - 1,
+                })
+            }
+        }
+    }
+
+    // The next leaf below the node, where it has one ply left.
+    fn next_leaf(&mut self, diagram: &Diagram, all: bool) -> Option<Leaf>
+        ensures next { MatchOption result (HasNoLeaf diagram.now all self.old self.new)
+            (λ leaf. TakesLeaf diagram.now all leaf self.old self.new) }
+        ensures legal { IfSome result (λ leaf. IsLegal leaf.before leaf.m) }
+        ensures hit { IfSome result (λ leaf. IsTrue leaf.hit ↔ LeadsTo diagram.now leaf.before leaf.m) }
+    {
+        if self.left > 1 {
+            return None;
+        }
+        match leaf_of(diagram, all, &mut self.moves) {
+            None => None,
+            Some(leaf) => {
+                if leaf.hit {
+                    self.games = self.games.saturating_add(1);
+                }
+                Some(leaf)
+            }
+        }
+    }
+}
+
+// Plays the next move of the topmost open node, where it has more than one ply left.
+fn play_top(frames: &mut ArrayVec<Frame, 128>) -> Option<Played>
+    ensures { MatchOption result (OnTopIfAny HasNoChild frames.old.items frames.new.items)
+        (λ child. OnTop (Plays child.before child.m child.position child.left) frames.old.items frames.new.items) }
+{
+    if frames.is_empty() {
         return None;
     }
-    let before = moves.position();
-    let Some(m) = moves.next() else {
-        return None;
-    };
-    let hit = diagram.matches(&before.after(&m));
-    Some(Leaf { before, m, hit })
+    let last = frames.len() - 1;
+    match frames.get_mut(last) {
+        Some(top) => top.play(),
+        None => None,
+    }
+}
+
+// The topmost open node has so many games more below it.
+fn add_games(frames: &mut ArrayVec<Frame, 128>, games: u64)
+    ensures { OnTopIfAny (λ f g. g ≡ record f { games = games_with f.games games }) frames.old.items frames.new.items }
+{
+    if frames.is_empty() {
+        return;
+    }
+    let last = frames.len() - 1;
+    if let Some(top) = frames.get_mut(last) {
+        top.games = top.games.saturating_add(games);
+    }
 }
 
 impl TreeWalk {
@@ -110,6 +237,9 @@ impl TreeWalk {
         source: &mut S,
         records: u64,
     ) -> Result<TreeWalk, Broken>
+        ensures begun { IfOk result (λ walk. IsBegun diagram.now plies records (S.left source.old) (S.left source.new) walk) }
+        ensures refused { IfErr result (λ broken. broken ≡ Broken.Refused
+            → IfSome (S.left source.old) (λ bytes. HasNoHeader diagram.now plies bytes)) }
         ensures says { IfErr result (BreaksTruly (S.has_failed source.new)) }
     {
         let mut reader = RecordReader::new();
@@ -119,8 +249,7 @@ impl TreeWalk {
                     return Err(Broken::Refused);
                 }
             }
-            Err(ReadFault::Read) => return Err(Broken::Read),
-            Err(_) => return Err(Broken::Refused),
+            Err(fault) => return Err(broken_of(fault)),
         }
         Ok(TreeWalk {
             tree: 0,
@@ -134,6 +263,8 @@ impl TreeWalk {
 
     // The next record.
     fn next_record<S: Source>(&mut self, source: &mut S) -> Result<Record, Broken>
+        ensures taken { IfOk result (λ taken. IsTaken self.old self.new (S.left source.old) (S.left source.new) taken) }
+        ensures none { IfErr result (λ broken. broken ≡ Broken.Refused → HasNoRecord self.old (S.left source.old)) }
         ensures says { IfErr result (BreaksTruly (S.has_failed source.new)) }
         ensures tree { self.new.tree ≡ self.old.tree }
     {
@@ -143,22 +274,21 @@ impl TreeWalk {
         self.records -= 1;
         match self.reader.next_record(source) {
             Ok(record) => Ok(record),
-            Err(ReadFault::Read) => Err(Broken::Read),
-            Err(_) => Err(Broken::Refused),
+            Err(fault) => Err(broken_of(fault)),
         }
     }
 
     // A node with so many plies left opens, if its record says so.
-    fn open(&mut self, position: &Position, left: u8, record: &Record) -> Result<(), Broken>
+    fn open(&mut self, position: &Position, left: u8, said: &Record) -> Result<(), Broken>
+        ensures entered { OnOk result (IsEntered position.now left said.now self.old self.new) }
+        ensures full { OnErr result (length self.old.frames.items ≡ 128) }
         ensures says { (failed : Bool) → IfErr result (BreaksTruly failed) }
         ensures tree { self.new.tree ≡ self.old.tree }
     {
-        let Record::Expand { named } = record else {
+        let Record::Expand { named } = said else {
             return Ok(());
         };
-        if let Some(count) = self.expanded.get_mut(usize::from(left)) {
-            *count = count.saturating_add(1);
-        }
+        count_expanded(&mut self.expanded, left);
         let frame = Frame {
             moves: LegalMoves::new(position),
             left,
@@ -177,6 +307,8 @@ impl TreeWalk {
     /// # Errors
     /// `Read` where the source has failed; `Refused` where no record comes, or none may come any more.
     pub fn root<S: Source>(&mut self, tree: u8, source: &mut S) -> Result<Record, Broken>
+        ensures root { IfOk result (λ root. IsRooted tree self.old self.new (S.left source.old) (S.left source.new) root) }
+        ensures refused { IfErr result (λ broken. broken ≡ Broken.Refused → IsStuck self.old (S.left source.old)) }
         ensures says { IfErr result (BreaksTruly (S.has_failed source.new)) }
         ensures tree { self.new.tree ≡ tree }
     {
@@ -198,22 +330,25 @@ impl TreeWalk {
     /// # Errors
     /// As `root`.
     pub fn child<S: Source>(&mut self, source: &mut S) -> Result<Option<Child>, Broken>
+        ensures next { IfOk result (λ next. MatchOption next
+            (OnTopIfAny HasNoChild self.old.frames.items self.new.frames.items
+            × (self.new ≡ record self.old { frames = self.new.frames }))
+            (λ child. IsNextChild self.old self.new (S.left source.old) (S.left source.new) child)) }
+        ensures refused { IfErr result (λ broken. broken ≡ Broken.Refused → IsStuck self.old (S.left source.old)) }
         ensures says { IfErr result (BreaksTruly (S.has_failed source.new)) }
         ensures legal { IfOk result (λ next. IfSome next (λ child. IsLegal child.before child.m)) }
         ensures tree { self.new.tree ≡ self.old.tree }
     {
-        let Some(top) = self.frames.last_mut() else {
-            return Ok(None);
+        let played = match play_top(&mut self.frames) {
+            Some(played) => played,
+            None => return Ok(None),
         };
-        if top.left <= 1 {
-            return Ok(None);
-        }
-        let before = top.moves.position();
-        let left = top.left - 1;
-        let Some(m) = top.moves.next() else {
-            return Ok(None);
-        };
-        let position = before.after(&m);
+        let Played {
+            before,
+            m,
+            position,
+            left,
+        } = played;
         let record = match self.next_record(source) {
             Ok(record) => record,
             Err(broken) => return Err(broken),
@@ -233,54 +368,57 @@ impl TreeWalk {
     /// The next leaf below the topmost open node, if one ply is left there: by any move, or only by one that leads to
     /// the diagram.
     pub fn next_leaf(&mut self, diagram: &Diagram, all: bool) -> Option<Leaf>
+        ensures next { MatchOption result
+            (OnTopIfAny (HasNoLeaf diagram.now all) self.old.frames.items self.new.frames.items)
+            (λ leaf. OnTop (TakesLeaf diagram.now all leaf) self.old.frames.items self.new.frames.items) }
+        ensures rest { self.new ≡ record self.old { frames = self.new.frames } }
         ensures legal { IfSome result (λ leaf. IsLegal leaf.before leaf.m) }
         ensures hit { IfSome result (λ leaf. IsTrue leaf.hit ↔ LeadsTo diagram.now leaf.before leaf.m) }
         ensures tree { self.new.tree ≡ self.old.tree }
     {
-        let Some(top) = self.frames.last_mut() else {
-            return None;
-        };
-        if top.left > 1 {
+        if self.frames.is_empty() {
             return None;
         }
-        let Some(leaf) = leaf_of(diagram, all, &mut top.moves) else {
-            return None;
-        };
-        top.games = top.games.saturating_add(u64::from(leaf.hit));
-        Some(leaf)
+        let last = self.frames.len() - 1;
+        match self.frames.get_mut(last) {
+            Some(top) => top.next_leaf(diagram, all),
+            None => None,
+        }
     }
 
-    // The number of the named node that closes next; the one after it takes the next number.
-    fn take_number(&mut self) -> u32
-        ensures tree { self.new.tree ≡ self.old.tree }
+    // The number of the node that closes, where it is named; the named one after it takes the next number.
+    fn take_number(&mut self, named: bool) -> Option<u32>
+        ensures number { result ≡ number_taken named self.old.closed }
+        ensures next { self.new ≡ record self.old { closed = next_number named self.old.closed } }
     {
+        if !named {
+            return None;
+        }
         let number = self.closed;
         self.closed = number.saturating_add(1);
-        number
+        Some(number)
     }
 
     /// Closes the topmost open node. None where no node is open: then the tree is over.
     pub fn close(&mut self) -> Option<Closed>
         ensures none { IfNone result (self.new ≡ self.old) }
+        ensures over { IfNone result (self.old.frames.items ≡ []) }
+        ensures closes { IfSome result (λ closed. Closes self.old self.new closed) }
         ensures tree { self.new.tree ≡ self.old.tree }
     {
-        let Some(top) = self.frames.pop() else {
-            return None;
-        };
-        if let Some(parent) = self.frames.last_mut() {
-            parent.games = parent.games.saturating_add(top.games);
+        match self.frames.pop() {
+            None => None,
+            Some(top) => {
+                add_games(&mut self.frames, top.games);
+                let number = self.take_number(top.named);
+                Some(Closed {
+                    position: top.moves.position(),
+                    left: top.left,
+                    number,
+                    games: top.games,
+                })
+            }
         }
-        let number = if top.named {
-            Some(self.take_number())
-        } else {
-            None
-        };
-        Some(Closed {
-            position: top.moves.position(),
-            left: top.left,
-            number,
-            games: top.games,
-        })
     }
 
     // The game along the open nodes, by the move that was played last at each.
