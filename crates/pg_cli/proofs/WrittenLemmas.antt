@@ -12,7 +12,7 @@ use Rattle.pg_texts.specs.CountText.{IsCounted}
 use Rattle.pg_texts.specs.MovesText.{IsMovesText}
 use Rattle.pg_texts.specs.Spelled.{AreSpelled}
 use Rattle.pg_report.specs.Showing.{IsShown}
-use Rattle.pg_cooks.specs.Cooks.{IsCooksReport}
+use Rattle.pg_cooks.specs.Cooks.{IsCookAnswer, IsCooksReport}
 use Rattle.pg_cooks.specs.declared.finding.CookAnswer.{CookAnswer}
 use Rattle.pg_cli.specs.Knowing.{answer_status}
 use Rattle.pg_cli.specs.Written.{AddsOf, AddsMoves, AddsShown, AddsShownWithin, HasCooksReport}
@@ -78,15 +78,15 @@ module _ {W : Type 0} (held : W → Option (List ℕ)) (old mid new : Gathered W
   pub cooks_handed : (asked : Asked) (games : List ℕ) (result : Result ℕ Refusal) (d : Placement) (n : ℕ)
       (list : List (List Move)) (answer : CookAnswer) (status : ℕ) → games ≡ asked.games.now
       → AreSpelled asked.diagram.now asked.length.now games d n list
-      → AddsSome (IsCooksReport d n list answer) (held_by held old) (held_by held mid)
+      → IsCookAnswer d n list answer → AddsSome (IsCooksReport d n list answer) (held_by held old) (held_by held mid)
       → status ≡ answer_status answer → IfOk result (λ s. s ≡ status) → OnOk result IsHanded
       → IfOk result (λ s. AddsOf (HasCooksReport s) asked (held_by held old) (held (sink_of new)))
-  cooks_handed asked games (Ok s) d n list answer status e h t f g k =
+  cooks_handed asked games (Ok s) d n list answer status e h is t f g k =
       let all = some_handed (IsCooksReport d n list answer) t k in (
         d,
         n,
         list,
         subst (λ (x : List ℕ). AreSpelled asked.diagram.now asked.length.now x d n list) e h,
-        (all.0, (answer, g ∙ f, all.1), all.2),
+        (all.0, (answer, is, g ∙ f, all.1), all.2),
       )
-  cooks_handed asked games (Err r) d n list answer status e h t f g k = tt
+  cooks_handed asked games (Err r) d n list answer status e h is t f g k = tt

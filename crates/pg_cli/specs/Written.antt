@@ -13,7 +13,7 @@ use Rattle.pg_texts.specs.Report.{line_text}
 use Rattle.pg_texts.specs.Spelled.{AreSpelled}
 use Rattle.pg_report.specs.Shortest.{IsLeastLength, NoneBelow}
 use Rattle.pg_report.specs.Showing.{IsShown}
-use Rattle.pg_cooks.specs.Cooks.{IsCooksReport}
+use Rattle.pg_cooks.specs.Cooks.{IsCookAnswer, IsCooksReport}
 use Rattle.pg_cooks.specs.declared.finding.CookAnswer.{CookAnswer}
 use Rattle.pg_cli.specs.Knowing.{answer_status}
 use Rattle.pg_cli.specs.declared.checking.Asked.{Asked}
@@ -25,9 +25,10 @@ AddsOf Is asked before after =
     (d : Placement) × (n : ℕ) × (list : List (List Move))
     × AreSpelled asked.diagram.now asked.length.now asked.games.now d n list × AddsSome (Is d n list) before after
 
--- the report of what is found beside a list, of an answer that has this status
+-- the report of what is found beside a list: of an answer that is true of it and has this status
 abbrev pub HasCooksReport : ℕ → Placement → ℕ → List (List Move) → List ℕ → Type 0
-HasCooksReport status d n list text = (a : CookAnswer) × (status ≡ answer_status a) × IsCooksReport d n list a text
+HasCooksReport status d n list text =
+    (a : CookAnswer) × IsCookAnswer d n list a × (status ≡ answer_status a) × IsCooksReport d n list a text
 
 -- how many records were copied, as a line
 abbrev pub copied_text : ℕ → List ℕ

@@ -14,7 +14,7 @@ returns-in-Ok-run_cooks g c =
     record {
       headline = search_shows texts _ c.in-Ok-run_cooks.answer c.answer_status.result c.finished.result c.in-Ok-run_cooks.ensures.ok c.answer_status.ensures c.finished.ensures.ok;
       status = list_followed texts c.args.asked.now.games.now _ c.in-Ok-run_cooks.answer c.answer_status.result c.finished.result c.in-Ok.ensures.cases.0 c.in-Ok-run_cooks.ensures.ok c.answer_status.ensures c.finished.ensures.ok;
-      report = cooks_handed g.W.Sink.held c.args.out.now c.run_cooks.new.out c.finished.new.out c.args.asked.now c.in-Ok.games.now c.finished.result h.0 h.1 h.2 c.in-Ok-run_cooks.answer c.answer_status.result c.in-Ok.ensures.cases.0 h.3.0 h.6 c.answer_status.ensures c.finished.ensures.ok c.finished.ensures.handed;
+      report = cooks_handed g.W.Sink.held c.args.out.now c.run_cooks.new.out c.finished.new.out c.args.asked.now c.in-Ok.games.now c.finished.result h.0 h.1 h.2 c.in-Ok-run_cooks.answer c.answer_status.result c.in-Ok.ensures.cases.0 h.3.0 h.4 h.6 c.answer_status.ensures c.finished.ensures.ok c.finished.ensures.handed;
       err = search_unwritten c.args.asked.now texts _ _ c.in-Ok-run_cooks.answer c.finished.result (refl, refl, c.in-Ok.ensures.cases.0) c.in-Ok-run_cooks.ensures.ok c.finished.ensures.err;
     }
 
