@@ -20,7 +20,8 @@ use Rattle.pg_cli.specs.declared.checking.Asked.{Asked}
 
 -- ---- reports
 -- what is asked spells a diagram, a length and a list, and some text of this kind is appended
-abbrev pub AddsOf : (Placement → ℕ → List (List Move) → List ℕ → Type 0) → Asked → Option (List ℕ) → Option (List ℕ) → Type 0
+abbrev pub AddsOf : (Placement → ℕ → List (List Move) → List ℕ → Type 0) → Asked
+    → Option (List ℕ) → Option (List ℕ) → Type 0
 AddsOf Is asked before after =
     (d : Placement) × (n : ℕ) × (list : List (List Move))
     × AreSpelled asked.diagram.now asked.length.now asked.games.now d n list × AddsSome (Is d n list) before after

@@ -64,7 +64,8 @@ pub(crate) fn count_from<P: CountProgress, W: Sink>(
     watch: &mut P,
     out: &mut Gathered<W>,
 ) -> Result<u8, Refusal>
-    ensures ok { OnOk result (IsCounted fen.now plies (⟦<Gathered<W> as Sink>⟧.held out.old) (W.held (sink_of out.new))) }
+    ensures ok { OnOk result (IsCounted fen.now plies
+        (⟦<Gathered<W> as Sink>⟧.held out.old) (W.held (sink_of out.new))) }
     ensures zero { IfOk result (λ status. status ≡ 0) }
     ensures err { IfErr result (λ refusal. IsCountRefusal fen.now plies
         (⟦<Gathered<W> as Sink>⟧.has_failed out.new) refusal) }

@@ -20,7 +20,8 @@ use std::rt::Runtime;
 
 // Writes how many records there are, and hands it on.
 fn write_count<W: Sink>(count: u64, out: &mut Gathered<W>) -> Result<(), Refused>
-    ensures text { OnOk result (Appends (⟦<Gathered<W> as Sink>⟧.held out.old) (W.held (sink_of out.new)) (copied_text count)) }
+    ensures text { OnOk result (Appends (⟦<Gathered<W> as Sink>⟧.held out.old) (W.held (sink_of out.new))
+        (copied_text count)) }
     ensures fault { OnErr result (⟦<Gathered<W> as Sink>⟧.has_failed out.new ≡ true) }
 {
     out.push(b"records ")?;

@@ -237,7 +237,8 @@ impl TreeWalk {
         source: &mut S,
         records: u64,
     ) -> Result<TreeWalk, Broken>
-        ensures begun { IfOk result (λ walk. IsBegun diagram.now plies records (S.left source.old) (S.left source.new) walk) }
+        ensures begun { IfOk result (λ walk. IsBegun diagram.now plies records
+            (S.left source.old) (S.left source.new) walk) }
         ensures refused { IfErr result (λ broken. broken ≡ Broken.Refused
             → IfSome (S.left source.old) (λ bytes. HasNoHeader diagram.now plies bytes)) }
         ensures says { IfErr result (BreaksTruly (S.has_failed source.new)) }
@@ -307,7 +308,8 @@ impl TreeWalk {
     /// # Errors
     /// `Read` where the source has failed; `Refused` where no record comes, or none may come any more.
     pub fn root<S: Source>(&mut self, tree: u8, source: &mut S) -> Result<Record, Broken>
-        ensures root { IfOk result (λ root. IsRooted tree self.old self.new (S.left source.old) (S.left source.new) root) }
+        ensures root { IfOk result (λ root. IsRooted tree self.old self.new
+            (S.left source.old) (S.left source.new) root) }
         ensures refused { IfErr result (λ broken. broken ≡ Broken.Refused → IsStuck self.old (S.left source.old)) }
         ensures says { IfErr result (BreaksTruly (S.has_failed source.new)) }
         ensures tree { self.new.tree ≡ tree }
