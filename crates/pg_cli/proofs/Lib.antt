@@ -1,4 +1,5 @@
 pub mod AnswerLemmas
+pub mod CauseLemmas
 pub mod CommandLemmas
 pub mod KnowingLemmas
 pub mod ShowLemmas

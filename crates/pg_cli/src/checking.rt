@@ -1,6 +1,6 @@
 //! `pg check`: a certificate is checked for a diagram, a length and a list of games.
 
-ghost use Rattle.std.specs.Prelude.{◌≡◌, true, IfOk, IfErr, OnOk};
+ghost use Rattle.std.specs.Prelude.{◌≡◌, ◌⊎◌, true, IfOk, IfErr, OnOk};
 ghost use Rattle.std.specs.Io.KnownBytes.{Keeps};
 ghost use Rattle.pg_checker.specs.Cuts.{rules_by};
 ghost use Rattle.pg_checker.specs.Terms.{terms};
@@ -10,6 +10,7 @@ ghost use Rattle.pg_report.specs.Run.{failures};
 ghost use Rattle.pg_streams.specs.Buffer.{IsHandedOn, sink_of};
 ghost use Rattle.pg_texts.specs.Report.{IsReport};
 ghost use Rattle.pg_cli.specs.Answers.{AreAnswered};
+ghost use Rattle.pg_cli.specs.Causes.{IsCheckCause, IsListCause, IsOfFile, IsOfProblem};
 ghost use Rattle.pg_cli.specs.Reasons.{IsCheckRefusal};
 ghost use Rattle.pg_cli.specs.Words.{IsChecked};
 ghost use Rattle.pg_cli.specs.Written.{AddsOf};
@@ -100,11 +101,14 @@ pub(crate) fn check_from<S: Source, W: Sink>(
 }
 
 // Says that the games are to be typed. A bad diagram or length is told before.
-fn ask_for_games<R: Runtime + AllocGlobal>(rt: &R, words: &ArgMatches<'_>) -> Result<(), Refusal> {
+fn ask_for_games<R: Runtime + AllocGlobal>(rt: &R, words: &ArgMatches<'_>) -> Result<(), Refusal>
+    ensures err { IfErr result (λ refusal. IsOfProblem (rows_of (found_of words.now)) refusal) }
+{
     let diagram = text_of(words, "DIAGRAM");
     let length = text_of(words, "LENGTH");
-    if let Err(fault) = Problem::read(diagram, length) {
-        return Err(Refusal::Check(fault));
+    match Problem::read(diagram, length) {
+        Ok(_) => {}
+        Err(fault) => return Err(Refusal::Check(fault)),
     }
     let _ = eprintln!(rt; "pg: type the games, one a line; end with Ctrl-D on a line of its own");
     Ok(())
@@ -116,7 +120,9 @@ pub(crate) fn games_of<R: Runtime + AllocGlobal>(
     rt: &R,
     words: &ArgMatches<'_>,
     screen: Screen,
-) -> Result<Vec<u8>, Refusal> {
+) -> Result<Vec<u8>, Refusal>
+    ensures err { IfErr result (λ refusal. IsListCause (rows_of (found_of words.now)) refusal) }
+{
     let path = words.get_str("GAMES");
     if path.is_none() && screen.input {
         match ask_for_games(rt, words) {
@@ -135,7 +141,10 @@ fn other_games_of<R: Runtime + AllocGlobal>(
     rt: &R,
     words: &ArgMatches<'_>,
     screen: Screen,
-) -> Result<Vec<u8>, Refusal> {
+) -> Result<Vec<u8>, Refusal>
+    ensures err { IfErr result (λ refusal. IsOfFile Named.Certificate refusal
+        ⊎ IsListCause (rows_of (found_of words.now)) refusal) }
+{
     if let Some(path) = words.get_str("GAMES") {
         if lead_to_one(rt, text_of(words, "CERT"), path) {
             return Err(Refusal::Open(Named::Certificate, Obstacle::NamedTwice));
@@ -154,6 +163,8 @@ pub(crate) fn check<R: Runtime + AllocGlobal>(
     screen: Screen,
 ) -> Result<u8, Refusal>
     ensures headline { IfOk result (λ status. IsChecked (rows_of (found_of words.now)) status) }
+    ensures err { IfErr result (λ refusal. IsCheckCause (rules_by code_of excluded bounds.now)
+        (rows_of (found_of words.now)) refusal) }
 {
     let certificate = match open(rt, text_of(words, "CERT")) {
         Ok(certificate) => certificate,

@@ -6,6 +6,7 @@ ghost use Rattle.clap.specs.Words.{found_of, rows_of};
 ghost use Rattle.pg_guide.specs.Why.{reading_failures};
 ghost use Rattle.pg_streams.specs.Buffer.{IsHandedOn};
 ghost use Rattle.pg_cli.specs.Answers.{HasExactAnswer};
+ghost use Rattle.pg_cli.specs.Causes.{IsWhyCause};
 ghost use Rattle.pg_cli.specs.Reasons.{IsWhyRefusal, why_refusal};
 ghost use Rattle.pg_cli.specs.Words.{IsExplained};
 
@@ -143,6 +144,8 @@ pub(crate) fn why<R: Runtime + AllocGlobal>(
     screen: Screen,
 ) -> Result<u8, Refusal>
     ensures headline { IfOk result (λ status. IsExplained (rows_of (found_of words.now)) status) }
+    ensures err { IfErr result (λ refusal. IsWhyCause (rules_by code_of excluded bounds.now)
+        (rows_of (found_of words.now)) refusal) }
 {
     let records = words.get_one::<u64>("records").unwrap_or(RECORDS);
     let terminal = Terminal::new(screen.errors);

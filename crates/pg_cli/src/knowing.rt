@@ -3,6 +3,7 @@ ghost use Rattle.std.specs.Prelude.{◌≡◌, IfOk, IfErr, OnOk};
 ghost use Rattle.clap.specs.Words.{found_of, rows_of};
 ghost use Rattle.pg_cooks.specs.Standing.{IsGamesReport};
 ghost use Rattle.pg_streams.specs.Buffer.{sink_of};
+ghost use Rattle.pg_cli.specs.Causes.{IsCooksCause, IsGamesCause};
 ghost use Rattle.pg_cli.specs.Knowing.{AreFollowed, AreTested, AreUnsound, answer_status, standing_status};
 ghost use Rattle.pg_cli.specs.Reasons.{IsCooksRefusal, IsGamesRefusal, cooks_refusal};
 ghost use Rattle.pg_cli.specs.Words.{IsFollowed, IsTested};
@@ -137,6 +138,7 @@ pub(crate) fn games<R: Runtime + AllocGlobal>(
     screen: Screen,
 ) -> Result<u8, Refusal>
     ensures headline { IfOk result (λ status. IsTested (rows_of (found_of words.now)) status) }
+    ensures err { IfErr result (λ refusal. IsGamesCause (rows_of (found_of words.now)) refusal) }
 {
     let games = match games_of(rt, words, screen) {
         Ok(games) => games,
@@ -161,6 +163,7 @@ pub(crate) fn cooks<R: Runtime + AllocGlobal>(
     screen: Screen,
 ) -> Result<u8, Refusal>
     ensures headline { IfOk result (λ status. IsFollowed (rows_of (found_of words.now)) status) }
+    ensures err { IfErr result (λ refusal. IsCooksCause (rows_of (found_of words.now)) refusal) }
 {
     let games = match games_of(rt, words, screen) {
         Ok(games) => games,

@@ -5,8 +5,10 @@
 //! `pg upgrade OLD NEW [--records N]`.
 #![tactic(auto)]
 
-ghost use Rattle.std.specs.Prelude.{◌≡◌, IfOk, IfSome};
+ghost use Rattle.std.specs.Prelude.{◌≡◌, IfOk, IfErr};
 ghost use Rattle.clap.specs.Words.{found_of, rows_of};
+ghost use Rattle.pg_checker.specs.Cuts.{rules_by};
+ghost use Rattle.pg_cli.specs.Causes.{Ends, IsCause, Rules, causes};
 ghost use Rattle.pg_cli.specs.Words.{IsStatus, says};
 
 mod checking;
@@ -34,6 +36,7 @@ use pg_files::FileName;
 use pg_report::{Bound, Captures, PawnFiles, Promotions, Travel};
 use pg_travel::{Rows, TravelByRows};
 use pg_words::pg;
+use std::alloc::AllocError;
 use std::fs::File;
 use std::io::IsTerminal;
 use std::process::ExitCode;
@@ -50,6 +53,8 @@ fn perform<R: Runtime + AllocGlobal>(
     screen: Screen,
 ) -> Result<u8, Refusal>
     ensures headline { IfOk result (λ status. says command (rows_of (found_of words.now)) status) }
+    ensures err { IfErr result (λ refusal. causes (rules_by code_of excluded bounds.now) command
+        (rows_of (found_of words.now)) refusal) }
 {
     match command {
         Command::Show => positions::show(rt, words, bounds),
@@ -73,6 +78,7 @@ fn carry_out<R: Runtime + AllocGlobal>(
     screen: Screen,
 ) -> Result<u8, Refusal>
     ensures headline { IfOk result (λ status. IsStatus words.now status) }
+    ensures err { IfErr result (λ refusal. IsCause (rules_by code_of excluded bounds.now) words.now refusal) }
 {
     let Some((name, inner)) = words.subcommand() else {
         return Ok(BAD_INPUT);
@@ -94,16 +100,18 @@ fn file_of<'a>(words: &ArgMatches<'a>, refusal: &Refusal) -> FileName<'a> {
     }
 }
 
-// Does what the words of a command say, with these bounds, and gives the status; 0 only where that is what the command ended with.
+// Does what the words of a command say, with these bounds, and gives the status: what the command ended with, or that of its
+// refusal, which is not 0.
 fn lend<R: Runtime + AllocGlobal>(
     rt: &R,
     words: &ArgMatches<'_>,
-    bounds: Vec<Box<dyn Bound>>,
+    bounds: &[Box<dyn Bound>],
     screen: Screen,
 ) -> u8
     ensures done { result ≡ 0 → IsStatus words.now 0 }
+    ensures ends { Ends (rules_by code_of excluded bounds.now) words.now result }
 {
-    match carry_out(rt, words, bounds.as_slice(), screen) {
+    match carry_out(rt, words, bounds, screen) {
         Ok(status) => status,
         Err(refusal) => {
             let status = refuse(rt, &refusal, file_of(words, &refusal));
@@ -127,34 +135,28 @@ fn rows_of(words: &ArgMatches<'_>) -> Option<Rows> {
 }
 
 // Does what the words of a command say, with the four bounds in the order of their codes, and gives
-// the status; None where a growth was refused before.
-fn run<R: Runtime + AllocGlobal>(rt: &R, words: &ArgMatches<'_>, screen: Screen) -> Option<u8>
-    ensures done { IfSome result (λ status. status ≡ 0 → IsStatus words.now 0) }
+// the status.
+//
+// # Errors
+// `AllocError` where a growth was refused before.
+fn run<R: Runtime + AllocGlobal>(
+    rt: &R,
+    words: &ArgMatches<'_>,
+    screen: Screen,
+) -> Result<u8, AllocError>
+    ensures done { IfOk result (λ status. status ≡ 0 → IsStatus words.now 0) }
+    ensures ends { IfOk result (λ status. (rules : Rules) × Ends rules words.now status) }
 {
-    let Ok(captures) = Box::new(rt.alloc(), Captures) else {
-        return None;
-    };
-    let Ok(promotions) = Box::new(rt.alloc(), Promotions) else {
-        return None;
-    };
-    let Ok(pawn_files) = Box::new(rt.alloc(), PawnFiles) else {
-        return None;
-    };
+    let captures = Box::new(rt.alloc(), Captures)?;
+    let promotions = Box::new(rt.alloc(), Promotions)?;
+    let pawn_files = Box::new(rt.alloc(), PawnFiles)?;
     let travel: Box<dyn Bound> = match rows_of(words) {
-        Some(rows) => match Box::new(rt.alloc(), TravelByRows { rows }) {
-            Ok(travel) => travel,
-            Err(_) => return None,
-        },
-        None => match Box::new(rt.alloc(), Travel) {
-            Ok(travel) => travel,
-            Err(_) => return None,
-        },
+        Some(rows) => Box::new(rt.alloc(), TravelByRows { rows })?,
+        None => Box::new(rt.alloc(), Travel)?,
     };
     let four: [Box<dyn Bound>; 4] = [captures, promotions, pawn_files, travel];
-    match Vec::from_array(rt.alloc(), four) {
-        Ok(bounds) => Some(lend(rt, words, bounds, screen)),
-        Err(_) => None,
-    }
+    let bounds = Vec::from_array(rt.alloc(), four)?;
+    Ok(lend(rt, words, bounds.as_slice(), screen))
 }
 
 // Says why the words are no command, or the help that they ask for, and gives the status.
@@ -179,8 +181,8 @@ fn obey<R: Runtime + AllocGlobal>(rt: &R, words: &[String], screen: Screen) -> u
     };
     match command.try_get_matches_from(words) {
         Ok(matches) => match run(rt, &matches, screen) {
-            Some(status) => status,
-            None => refuse(rt, &Refusal::Memory, NO_FILE),
+            Ok(status) => status,
+            Err(AllocError) => refuse(rt, &Refusal::Memory, NO_FILE),
         },
         Err(error) => {
             let status = explain(rt, &error);

@@ -6,6 +6,7 @@ ghost use Rattle.clap.specs.Words.{found_of, rows_of};
 ghost use Rattle.pg_guide.specs.Why.{reading_failures};
 ghost use Rattle.pg_streams.specs.Buffer.{IsHandedOn};
 ghost use Rattle.pg_cli.specs.Answers.{HasExactAnswer};
+ghost use Rattle.pg_cli.specs.Causes.{IsPageCause};
 ghost use Rattle.pg_cli.specs.Reasons.{IsPageRefusal};
 ghost use Rattle.pg_cli.specs.Words.{IsExplained};
 
@@ -73,6 +74,8 @@ pub(crate) fn page<R: Runtime + AllocGlobal>(
     screen: bool,
 ) -> Result<u8, Refusal>
     ensures headline { IfOk result (λ status. IsExplained (rows_of (found_of words.now)) status) }
+    ensures err { IfErr result (λ refusal. IsPageCause (rules_by code_of excluded bounds.now)
+        (rows_of (found_of words.now)) refusal) }
 {
     let records = words.get_one::<u64>("records").unwrap_or(RECORDS);
     let terminal = Terminal::new(screen);

@@ -6,6 +6,7 @@ ghost use Rattle.clap.specs.Words.{found_of, rows_of};
 ghost use Rattle.pg_position.specs.Array.{array_state};
 ghost use Rattle.pg_streams.specs.Buffer.{sink_of};
 ghost use Rattle.pg_texts.specs.CountText.{IsCounted};
+ghost use Rattle.pg_cli.specs.Causes.{IsCountCause, IsMovesCause, IsShowCause};
 ghost use Rattle.pg_cli.specs.Reasons.{IsCountRefusal, IsMovesRefusal, IsShowRefusal, IsShowWithinRefusal};
 ghost use Rattle.pg_cli.specs.Words.{HasPosition, HasDiagram};
 ghost use Rattle.pg_cli.specs.Written.{AddsMoves, AddsShown, AddsShownWithin};
@@ -48,6 +49,7 @@ pub(crate) fn moves_from<W: Sink>(
 // `pg moves FEN`: the legal moves, on standard output. A status means that FEN spells a position.
 pub(crate) fn moves<R: Runtime + AllocGlobal>(rt: &R, words: &ArgMatches<'_>) -> Result<u8, Refusal>
     ensures spelled { IfOk result (λ status. HasPosition (rows_of (found_of words.now)) status) }
+    ensures err { IfErr result (λ refusal. IsMovesCause (rows_of (found_of words.now)) refusal) }
 {
     let mut out = Gathered::new(ToWrite::new(io::writer(rt)));
     moves_from(rt.alloc(), text_of(words, "FEN"), &mut out)
@@ -86,6 +88,7 @@ pub(crate) fn count<R: Runtime + AllocGlobal>(
     screen: bool,
 ) -> Result<u8, Refusal>
     ensures spelled { IfOk result (λ status. HasPosition (rows_of (found_of words.now)) status) }
+    ensures err { IfErr result (λ refusal. IsCountCause (rows_of (found_of words.now)) refusal) }
 {
     let fen = text_of(words, "FEN");
     let plies = words.get_one::<u8>("PLIES").unwrap_or(u8::MAX);
@@ -166,6 +169,7 @@ pub(crate) fn show<R: Runtime + AllocGlobal>(
     bounds: &[Box<dyn Bound>],
 ) -> Result<u8, Refusal>
     ensures spelled { IfOk result (λ status. HasDiagram (rows_of (found_of words.now)) status) }
+    ensures err { IfErr result (λ refusal. IsShowCause (rows_of (found_of words.now)) refusal) }
 {
     let diagram = text_of(words, "DIAGRAM");
     let mut out = Gathered::new(ToWrite::new(io::writer(rt)));

@@ -1,5 +1,6 @@
 //! Why a command ends without its answer, what the program says then, and its status.
 ghost use Rattle.std.specs.Prelude.{◌≡◌, ◌<◌, false, true};
+ghost use Rattle.pg_cli.specs.Causes.{IsOfFile, file_refusal};
 ghost use Rattle.pg_cli.specs.Refusals.{refusal_status, file_status};
 
 use pg_files::{FileFault, FileName, Obstacle};
@@ -119,7 +120,9 @@ pub(crate) enum Refusal {
 impl Refusal {
     // Why the file that a word names is not read or written.
     pub(crate) fn of_file(fault: FileFault, named: Named) -> Refusal
-        ensures { refusal_status result ≡ file_status fault }
+        ensures value { result ≡ file_refusal fault named }
+        ensures file { IsOfFile named result }
+        ensures status { refusal_status result ≡ file_status fault }
     {
         match fault {
             FileFault::Open(obstacle) => Refusal::Open(named, obstacle),

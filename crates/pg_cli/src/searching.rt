@@ -1,6 +1,6 @@
 //! `pg search`: a certificate is searched for and written, and then checked.
 
-ghost use Rattle.std.specs.Prelude.{◌≤◌, List, IfOk, IfErr, OnOk};
+ghost use Rattle.std.specs.Prelude.{◌≡◌, ◌≤◌, ◌⊎◌, List, IfOk, IfErr, OnOk};
 ghost use Rattle.pg_checker.specs.Cuts.{rules_by};
 ghost use Rattle.pg_checker.specs.Terms.{terms};
 ghost use Rattle.pg_position.specs.declared.moves.Move.{Move};
@@ -10,6 +10,7 @@ ghost use Rattle.pg_texts.specs.Report.{IsReport};
 ghost use Rattle.clap.specs.Words.{found_of, rows_of};
 ghost use Rattle.pg_report.specs.Run.{failures};
 ghost use Rattle.pg_cli.specs.Answers.{IsAnswered};
+ghost use Rattle.pg_cli.specs.Causes.{IsGivenUp, IsOfDrafts, IsOfFile, IsSearchCause, IsSearchRefusal, Rules, search_refusal};
 ghost use Rattle.pg_cli.specs.Reasons.{IsFoundRefusal};
 ghost use Rattle.pg_cli.specs.Words.{IsSearched};
 
@@ -52,7 +53,11 @@ pub(crate) fn search_to<R: Runtime + AllocGlobal, W: Write + Drop>(
     certificate: W,
     nodes: u64,
     terminal: &Terminal,
-) -> Result<Searched, Refusal> {
+) -> Result<Searched, Refusal>
+    ensures found { IfOk result (λ searched. IfErr searched.found (λ fault. IsGivenUp problem.now.length fault)) }
+    ensures err { (rules : Rules) → IfErr result (λ refusal.
+        IsSearchRefusal rules problem.now.diagram problem.now.length refusal) }
+{
     let mut sink = ToWrite::new(certificate);
     let line = SearchLine::new(rt, terminal, nodes);
     let mut kept = Kept::new(rt.alloc(), line, nodes);
@@ -93,7 +98,9 @@ pub(crate) fn search_to<R: Runtime + AllocGlobal, W: Write + Drop>(
 }
 
 // Why a search has no certificate, with what is known then.
-fn gave_up(fault: SearchFault, known: Known) -> Refusal {
+fn gave_up(fault: SearchFault, known: Known) -> Refusal
+    ensures { result ≡ search_refusal fault known }
+{
     match fault {
         SearchFault::Budget | SearchFault::Shorter(_) | SearchFault::TooManyGames => {
             Refusal::GaveUp(fault, known)
@@ -107,7 +114,10 @@ fn write_list<F: Write>(
     problem: &Problem,
     games: &Games,
     list: &mut Option<Draft<F>>,
-) -> Result<(), Refusal> {
+) -> Result<(), Refusal>
+    ensures err { (rules : Rules) → IfErr result (λ refusal.
+        IsSearchRefusal rules problem.now.diagram problem.now.length refusal) }
+{
     let Some(list) = list else {
         return Ok(());
     };
@@ -194,15 +204,18 @@ where
         × IsAnswered problem.now.diagram problem.now.length games status
         × AddsSome (IsReport problem.now.diagram problem.now.length games)
         (⟦<Gathered<W> as Sink>⟧.held out.old) (W.held (sink_of out.new))) }
+    ensures err { IfErr result (λ refusal. IsSearchRefusal (rules_by code_of excluded bounds.now)
+        problem.now.diagram problem.now.length refusal) }
 {
-    let Searched { found, met, known } = search_to(
-        rt,
-        problem,
-        &mut drafts.certificate.file,
-        nodes,
-        terminal,
-    )?;
-    write_list(problem, &met, &mut drafts.list)?;
+    let searched = match search_to(rt, problem, &mut drafts.certificate.file, nodes, terminal) {
+        Ok(searched) => searched,
+        Err(refusal) => return Err(refusal),
+    };
+    let Searched { found, met, known } = searched;
+    match write_list(problem, &met, &mut drafts.list) {
+        Ok(()) => {}
+        Err(refusal) => return Err(refusal),
+    }
     let games = match found {
         Ok(games) => games,
         Err(fault) => return Err(gave_up(fault, known)),
@@ -229,7 +242,9 @@ where
 fn begin_list<R: Runtime + AllocGlobal>(
     rt: &R,
     words: &ArgMatches<'_>,
-) -> Result<Option<Draft<R::File>>, Refusal> {
+) -> Result<Option<Draft<R::File>>, Refusal>
+    ensures err { IfErr result (λ refusal. IsOfFile Named.Kept refusal) }
+{
     let Some(path) = words.get_str("games") else {
         return Ok(None);
     };
@@ -246,7 +261,9 @@ fn begin_list<R: Runtime + AllocGlobal>(
 fn begin_both<R: Runtime + AllocGlobal>(
     rt: &R,
     words: &ArgMatches<'_>,
-) -> Result<Drafts<R::File>, Refusal> {
+) -> Result<Drafts<R::File>, Refusal>
+    ensures err { IfErr result (λ refusal. IsOfDrafts refusal) }
+{
     let certificate = match begin(rt, text_of(words, "CERT")) {
         Ok(draft) => draft,
         Err(fault) => return Err(Refusal::of_file(fault, Named::Certificate)),
@@ -261,7 +278,9 @@ fn begin_both<R: Runtime + AllocGlobal>(
 }
 
 // Puts the list in its place, where one is wanted.
-fn put_list<R: Runtime + AllocGlobal>(rt: &R, list: Option<Draft<R::File>>) -> Result<(), Refusal> {
+fn put_list<R: Runtime + AllocGlobal>(rt: &R, list: Option<Draft<R::File>>) -> Result<(), Refusal>
+    ensures err { IfErr result (λ refusal. IsOfFile Named.Kept refusal) }
+{
     let Some(list) = list else {
         return Ok(());
     };
@@ -272,7 +291,9 @@ fn put_list<R: Runtime + AllocGlobal>(rt: &R, list: Option<Draft<R::File>>) -> R
 }
 
 // Puts both files in their places, after a report.
-fn put_both<R: Runtime + AllocGlobal>(rt: &R, drafts: Drafts<R::File>) -> Result<(), Refusal> {
+fn put_both<R: Runtime + AllocGlobal>(rt: &R, drafts: Drafts<R::File>) -> Result<(), Refusal>
+    ensures err { IfErr result (λ refusal. IsOfDrafts refusal) }
+{
     let Drafts { certificate, list } = drafts;
     match certificate.put(rt) {
         Ok(()) => put_list(rt, list),
@@ -286,11 +307,9 @@ fn put_both<R: Runtime + AllocGlobal>(rt: &R, drafts: Drafts<R::File>) -> Result
 }
 
 // Ends a search that has no report: the certificate is taken away, and the list put in its place where the search gave up.
-fn end_both<R: Runtime + AllocGlobal>(
-    rt: &R,
-    drafts: Drafts<R::File>,
-    refusal: Refusal,
-) -> Refusal {
+fn end_both<R: Runtime + AllocGlobal>(rt: &R, drafts: Drafts<R::File>, refusal: Refusal) -> Refusal
+    ensures { (result ≡ refusal) ⊎ IsOfFile Named.Kept result }
+{
     let Drafts { certificate, list } = drafts;
     certificate.discard(rt);
     if matches!(&refusal, Refusal::GaveUp(_, _)) {
@@ -317,6 +336,8 @@ fn search_for<R: Runtime + AllocGlobal>(
 ) -> Result<u8, Refusal>
     ensures headline { IfOk result (λ status. (games : List (List Move))
         × IsAnswered problem.now.diagram problem.now.length games status) }
+    ensures err { IfErr result (λ refusal. IsOfDrafts refusal ⊎ IsSearchRefusal (rules_by code_of excluded bounds.now)
+        problem.now.diagram problem.now.length refusal) }
 {
     let nodes = words.get_one::<u64>("nodes").unwrap_or(NODES);
     let mut drafts = match begin_both(rt, words) {
@@ -343,6 +364,8 @@ pub(crate) fn search<R: Runtime + AllocGlobal>(
     screen: bool,
 ) -> Result<u8, Refusal>
     ensures headline { IfOk result (λ status. IsSearched (rows_of (found_of words.now)) status) }
+    ensures err { IfErr result (λ refusal. IsSearchCause (rules_by code_of excluded bounds.now)
+        (rows_of (found_of words.now)) refusal) }
 {
     let diagram = text_of(words, "DIAGRAM");
     let length = text_of(words, "LENGTH");

@@ -1,8 +1,9 @@
 //! `pg upgrade`: a certificate of version 1 is copied as one of version 2.
-ghost use Rattle.std.specs.Prelude.{◌≡◌, ◌≤◌, ℕ, List, IfOk, IfErr, OnOk, OnErr, true};
+ghost use Rattle.std.specs.Prelude.{◌≡◌, ◌≤◌, ℕ, List, Bool, IfOk, IfErr, OnOk, OnErr, true};
 ghost use Rattle.std.specs.Io.KnownBytes.{Appends, Consumes, IsAtEnd};
 ghost use Rattle.pg_streams.specs.Buffer.{sink_of};
 ghost use Rattle.pg_texts.specs.Upgrade.{IsUpgraded};
+ghost use Rattle.pg_cli.specs.Causes.{IsUpgradeCause};
 ghost use Rattle.pg_cli.specs.Reasons.{IsUpgradeRefusal};
 ghost use Rattle.pg_cli.specs.Written.{copied_text};
 
@@ -66,7 +67,10 @@ fn upgrade_file<S: Source, F: Write + Drop, O: Sink>(
     file: F,
     out: &mut Gathered<O>,
     records: u64,
-) -> Result<u64, Refusal> {
+) -> Result<u64, Refusal>
+    ensures err { IfErr result (λ refusal. (failed : Bool) × IsUpgradeRefusal records (S.left source.old)
+        (S.has_failed source.new) failed (⟦<Gathered<O> as Sink>⟧.has_failed out.new) refusal) }
+{
     let mut new = ToWrite::new(file);
     upgrade_to(source, &mut new, out, records)
 }
@@ -79,6 +83,7 @@ pub(crate) fn upgrade<R: Runtime + AllocGlobal>(
     screen: bool,
 ) -> Result<u8, Refusal>
     ensures zero { IfOk result (λ status. status ≡ 0) }
+    ensures err { IfErr result (λ refusal. IsUpgradeCause refusal) }
 {
     let old = text_of(words, "OLD");
     let new = text_of(words, "NEW");

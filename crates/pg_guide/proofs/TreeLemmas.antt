@@ -1,15 +1,24 @@
 -- What is done at the topmost open node of a walk, and how the next leaf below it is found.
-use Rattle.std.proofs.Common.{◌≡◌, ℕ, zero, suc, ◌<◌, ◌≤◌, Bool, true, false, List, [], ◌∷◌, ◌++◌, length, take, get_or, set, refl, sym, ◌∙◌, ap, subst, arith, inr}
+use Rattle.std.proofs.Common.{◌≡◌, ℕ, zero, suc, ◌<◌, ◌≤◌, Bool, true, false, List, [], ◌∷◌, ◌++◌, ◌+◌, length, take, get_or, set, refl, sym, ◌∙◌, ap, subst, arith, inr}
 use Rattle.std.specs.Prelude.{◌↔◌, IsTrue, Option, Some, None, IfSome, MatchOption}
+use Rattle.std.specs.Prelude.{◌≢◌, Result, Ok, Err, IsOk, OnOk}
 use Rattle.std.specs.Bool.{◌==◌}
+use Rattle.std.specs.Io.KnownBytes.{IsAtEnd}
+use Rattle.std.specs.List.{cons_option}
+use Rattle.std.proofs.lemmas.List.{take_more, length-take-le}
+use Rattle.std.proofs.lemmas.List.Elements.{filter_map-append}
 use Rattle.pg_board.specs.Placement.{Placement}
 use Rattle.pg_position.specs.declared.state.State.{State}
 use Rattle.pg_position.specs.declared.moves.Move.{Move}
 use Rattle.pg_moves.specs.Left.{MovesLeft}
 use Rattle.pg_moves.specs.Moves.{IsNext, IsLast}
+use Rattle.pg_certificate.specs.Reader.{Leaves}
+use Rattle.pg_certificate.specs.Reading.{end_at}
+use Rattle.pg_certificate.specs.declared.fault.ReadFault.{ReadFault}
+use Rattle.pg_certificate.specs.declared.fault.ReadFault.TheVariants.{Trailing}
 use Rattle.pg_checker.proofs.Left.{left_next}
 use Rattle.pg_checker.specs.Passing.{LeadsTo, NextLeads, PassesOver}
-use Rattle.pg_guide.specs.Trees.{OnTop, OnTopIfAny, HasNoMove, IsLeafOf, TakesLeaf, games_after}
+use Rattle.pg_guide.specs.Trees.{OnTop, OnTopIfAny, HasNoMove, IsLeafOf, TakesLeaf, games_after, line_of}
 use Rattle.pg_guide.specs.declared.trees.Frame.{Frame}
 use Rattle.pg_guide.specs.declared.trees.Leaf.{Leaf}
 
@@ -74,3 +83,40 @@ pub leaf_taken : (d : Placement) (all : Bool) (leaf : Leaf) (old new : Frame) (m
     → new ≡ record { moves = moves; left = old.left; named = old.named; games = games } → TakesLeaf d all leaf old new
 leaf_taken d all leaf old new moves games few h counted e =
     subst (λ (f : Frame). TakesLeaf d all leaf old f) (sym e) (record { one_ply = few; is_leaf = h; counted = counted; rest = refl })
+
+-- ---- the line and the end
+one_more : (o : Option Move) (ms : List Move) (n : ℕ) → length ms ≤ n → length (cons_option o ms) ≤ suc n
+one_more None ms n h = omega arith
+one_more (Some m) ms n h = omega arith
+
+few : (fs : List Frame) → length (line_of fs) ≤ length fs
+few [] = omega arith
+few (f ∷ fs) = one_more f.moves.last (line_of fs) (length fs) (few fs)
+
+-- before the end of the open nodes the line has room for a move more
+pub has_room : (fs : List Frame) (i : ℕ) → i < length fs → length (line_of (take i fs)) < length fs
+has_room fs i low = let less = few (take i fs) in let long = length-take-le i fs (omega arith) in omega arith
+
+-- the line goes on by the move of one node more, if it has one
+pub line_more : (fs : List Frame) (i : ℕ) (f : Frame) (last : Option Move) (old new : List Move) → i < length fs → f ≡ get_or fs i f → last ≡ f.moves.last
+    → old ≡ line_of (take i fs) → new ≡ old ++ cons_option last [] → new ≡ line_of (take (i + 1) fs)
+line_more fs i f last old new low is same before after =
+    after ∙ (λ k. before k ++ cons_option (same k) []) ∙ ap (λ (g : Frame). line_of (take i fs) ++ line_of (g ∷ [])) is
+    ∙ sym (ap (λ (v : List Frame). line_of v) (take_more fs i f low) ∙ filter_map-append (λ (g : Frame). g.moves.last) (take i fs) (get_or fs i f ∷ []))
+
+-- a push that has room was made
+pub pushed : {A E : Type 0} (r : Result A E) (P : Type 0) → IsOk r → OnOk r P → P
+pushed (Ok x) P ok h = h
+pushed (Err e) P ok h = absurd (let bad : false ≡ true = ok in cc)
+
+-- what `end` of a reader answers, by the bytes that were to come
+pub is_over : (before after : Option (List ℕ)) → Leaves end_at before after tt → IsAtEnd before
+is_over None after h = tt
+is_over (Some []) after h = refl
+is_over (Some (b ∷ rest)) None h = absurd h
+is_over (Some (b ∷ rest)) (Some left) h = absurd (let bad : Err Trailing ≡ Ok (tt, left) = h in cc)
+
+pub has_more : (before : Option (List ℕ)) (e : ReadFault) → IfSome before (λ bytes. end_at bytes ≡ Err e) → IfSome before (λ bytes. bytes ≢ [])
+has_more None e h = tt
+has_more (Some []) e h = absurd (let bad : Ok (tt, []) ≡ Err e = h in cc)
+has_more (Some (b ∷ rest)) e h = λ is. cc

@@ -1,5 +1,6 @@
 -- A walk over the trees of a certificate: what each call of it takes from the bytes and does to the open nodes, and why it breaks off.
 use Rattle.std.specs.Prelude.{◌≡◌, ◌≢◌, ◌⊎◌, ℕ, ◌+◌, ◌-◌, ◌^◌, ◌<◌, ◌≤◌, min, Bool, true, false, List, [], ◌∷◌, ◌++◌, length, Option, Some, None, IfSome, Ok, Err, slice_index, slice_set, replicate}
+use Rattle.std.specs.List.{filter_map}
 use Rattle.pg_board.specs.Placement.{Placement}
 use Rattle.pg_position.specs.declared.state.State.{State}
 use Rattle.pg_position.specs.declared.moves.Move.{Move}
@@ -194,3 +195,12 @@ pub record Closes (old new : TreeWalk) (closed : Closed) : Type 0 where
   pub next : new.closed ≡ next_number top.named old.closed
   pub counted : OnTopIfAny (λ f g. g ≡ record f { games = games_with f.games top.games }) below new.frames.items
   pub rest : new ≡ record old { frames = new.frames; closed = new.closed }
+
+-- ---- the line and the end
+-- the moves that were played last at the open nodes, from the root on; a node at which none was played has none
+abbrev pub line_of : List Frame → List Move
+line_of frames = filter_map (λ f. f.moves.last) frames
+
+-- the reader has refused before, or a byte is to come
+abbrev pub HasMore : TreeWalk → Option (List ℕ) → Type 0
+HasMore walk before = (walk.reader.failed ≡ true) ⊎ IfSome (to_come walk.reader before) (λ bytes. bytes ≢ [])

@@ -1,11 +1,13 @@
 //! A walk over the trees of a certificate, with a stack of open nodes.
 ghost use Rattle.std.specs.Prelude.{◌≡◌, ◌↔◌, Bool, [], true, length, IsTrue, IfErr, IfNone, IfOk, IfSome, OnErr, OnOk, MatchOption};
+ghost use Rattle.std.specs.Io.KnownBytes.{IsAtEnd};
+ghost use Rattle.pg_certificate.specs.Reader.{to_come};
 ghost use Rattle.pg_checker.specs.Passing.{LeadsTo};
 ghost use Rattle.pg_moves.specs.Moves.{IsLast};
 ghost use Rattle.pg_position.specs.Step.{IsLegal};
 ghost use Rattle.pg_guide.specs.Trees.{BreaksTruly, broken_of, HasNoHeader, IsBegun, HasNoRecord, IsStuck, IsTaken, IsEntered, IsRooted, IsCounted};
 ghost use Rattle.pg_guide.specs.Trees.{OnTop, OnTopIfAny, HasNoChild, Plays, IsNextChild, Closes, number_taken, next_number, games_with};
-ghost use Rattle.pg_guide.specs.Trees.{HasNoMove, HasNoLeaf, IsLeafOf, TakesLeaf};
+ghost use Rattle.pg_guide.specs.Trees.{HasNoMove, HasNoLeaf, IsLeafOf, TakesLeaf, HasMore, line_of};
 
 use arrayvec::ArrayVec;
 use pg_certificate::{ReadFault, Record, RecordReader, Source};
@@ -424,9 +426,12 @@ impl TreeWalk {
     }
 
     // The game along the open nodes, by the move that was played last at each.
-    pub(crate) fn line(&self) -> ArrayVec<Move, 128> {
+    pub(crate) fn line(&self) -> ArrayVec<Move, 128>
+        ensures { result.items ≡ line_of self.now.frames.items }
+    {
         let mut game = ArrayVec::new();
-        for frame in self.frames.as_slice() {
+        let frames = self.frames.as_slice();
+        for frame in frames {
             if let Some(m) = frame.moves.last() {
                 let _ = game.try_push(m);
             }
@@ -434,15 +439,19 @@ impl TreeWalk {
         game
     }
 
-    // The end, with no byte behind it.
+    // The end of the certificate: no byte is to come.
+    //
+    // # Errors
+    // `Read` where the source has failed; `Refused` where a byte is to come.
     pub(crate) fn finish<S: Source>(&mut self, source: &mut S) -> Result<(), Broken>
+        ensures over { OnOk result (IsAtEnd (to_come self.old.reader (S.left source.old))) }
+        ensures refused { IfErr result (λ broken. broken ≡ Broken.Refused → HasMore self.old (S.left source.old)) }
         ensures says { IfErr result (BreaksTruly (S.has_failed source.new)) }
+        ensures rest { self.new ≡ record self.old { reader = self.new.reader } }
     {
-        match self.reader.more(source) {
-            Ok(false) => Ok(()),
-            Ok(true) => Err(Broken::Refused),
-            Err(ReadFault::Read) => Err(Broken::Read),
-            Err(_) => Err(Broken::Refused),
+        match self.reader.end(source) {
+            Ok(()) => Ok(()),
+            Err(fault) => Err(broken_of(fault)),
         }
     }
 }

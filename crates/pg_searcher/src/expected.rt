@@ -1,6 +1,6 @@
 //! What a search may cost: the slack of either colour, a rule of thumb for the nodes, and an estimate of the next
 //! tree from those before it.
-ghost use Rattle.std.specs.Prelude.{◌≡◌, ◌+◌, ◌-◌, ◌*◌, ◌/◌, ◌^◌, min, MatchOption};
+ghost use Rattle.std.specs.Prelude.{◌≡◌, ◌<◌, ◌+◌, ◌-◌, ◌*◌, ◌/◌, ◌^◌, min, MatchOption};
 
 use pg_board::Color;
 use pg_captures::plies_left;
@@ -57,7 +57,8 @@ pub fn forecast(white_slack: u8, black_slack: u8, plies: u8) -> u32
 /// last two multiplied, divided by the one before them, at most 2^64 - 1. It was 1.2 to 1.8 times too high on nine
 /// problems of nine. None where the first had no node.
 pub fn next_tree(first: u64, second: u64, third: u64) -> Option<u64>
-    ensures { MatchOption result (first ≡ 0) (λ nodes. nodes ≡ min (second * third / first) (2 ^ 64 - 1)) }
+    ensures { MatchOption result (first ≡ 0)
+        (λ nodes. (0 < first) × (nodes ≡ min (second * third / first) (2 ^ 64 - 1))) }
 {
     if first == 0 {
         return None;

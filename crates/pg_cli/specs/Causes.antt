@@ -1,0 +1,198 @@
+-- Why a command has no status, as far as its words tell: which of them is refused, which file, or so it is for some bytes of it.
+use Rattle.std.specs.Prelude.{◌≡◌, ◌⊎◌, ℕ, ◌<◌, Bool, List, Option, Some, None, Ok, codes}
+use Rattle.clap.specs.Words.{Row, Text, first_of}
+use Rattle.clap.specs.declared.parser.matches.ArgMatches.{ArgMatches}
+use Rattle.pg_board.specs.Placement.{Placement}
+use Rattle.pg_position.specs.declared.moves.Move.{Move}
+use Rattle.pg_fen.specs.Fields.{fields}
+use Rattle.pg_fen.specs.DiagramText.{diagram_of}
+use Rattle.pg_fen.specs.Lengths.{length_of}
+use Rattle.pg_searcher.specs.declared.fault.SearchFault.{SearchFault}
+use Rattle.pg_searcher.specs.declared.fault.SearchFault.TheVariants as search
+use Rattle.pg_checker.specs.Cuts.{CheckRules}
+use Rattle.pg_checker.specs.ProblemText.{IsProblemFault}
+use Rattle.pg_checker.specs.Terms.{Terms}
+use Rattle.pg_report.specs.Run.{Failures}
+use Rattle.pg_cooks.specs.Known.{IsListingFault}
+use Rattle.pg_guide.specs.Why.{ReadingFailures}
+use Rattle.pg_guide.specs.declared.explaining.Asked.{Asked as Line}
+use Rattle.pg_page.specs.declared.paging.Asked.{Asked as Shown}
+use Rattle.pg_files.specs.declared.faults.FileFault.{FileFault}
+use Rattle.pg_files.specs.declared.faults.FileFault.TheVariants as file
+use Rattle.pg_cli.specs.Reasons.{IsShowRefusal, IsShowWithinRefusal, IsMovesRefusal, IsCountRefusal, IsGamesRefusal, IsCooksRefusal, IsCheckRefusal, IsFoundRefusal, IsWhyRefusal, IsPageRefusal, IsUpgradeRefusal}
+use Rattle.pg_cli.specs.Refusals.{refusal_status}
+use Rattle.pg_cli.specs.Words.{spelled, name_of, IsStatus, IsSubcommand}
+use Rattle.pg_cli.specs.declared.checking.Asked.{Asked}
+use Rattle.pg_cli.specs.declared.commands.Command.{Command}
+use Rattle.pg_cli.specs.declared.commands.Command.TheVariants as command
+use Rattle.pg_cli.specs.declared.refusals.Known.{Known}
+use Rattle.pg_cli.specs.declared.refusals.Named.{Named}
+use Rattle.pg_cli.specs.declared.refusals.Named.TheVariants as named
+use Rattle.pg_cli.specs.declared.refusals.Refusal.{Refusal}
+use Rattle.pg_cli.specs.declared.refusals.Refusal.TheVariants.{Open, Read, Write, Memory, Search, GaveUp, Check}
+
+-- ---- files and words
+-- the refusal that a fault of the file is which this word names
+abbrev pub file_refusal : FileFault → Named → Refusal
+file_refusal (file.Open obstacle) name = Open name obstacle
+file_refusal file.Read name = Read
+file_refusal file.Write name = Write
+file_refusal file.Memory name = Memory
+
+-- the file that this word names is not opened, read or written, or memory was refused
+abbrev pub IsOfFile : Named → Refusal → Type 0
+IsOfFile name (Open other obstacle) = other ≡ name
+IsOfFile name Read = Unit {0}
+IsOfFile name Write = Unit {0}
+IsOfFile name Memory = Unit {0}
+IsOfFile name refusal = ⊥
+
+-- the words DIAGRAM and LENGTH are no problem
+abbrev pub IsOfProblem : List Row → Refusal → Type 0
+IsOfProblem rows (Check fault) = IsProblemFault (spelled (codes "DIAGRAM") rows) (spelled (codes "LENGTH") rows) fault
+IsOfProblem rows refusal = ⊥
+
+-- these texts are the words DIAGRAM and LENGTH
+abbrev pub AreWords : List Row → List ℕ → List ℕ → Type 0
+AreWords rows diagram length =
+    (diagram ≡ spelled (codes "DIAGRAM") rows) × (length ≡ spelled (codes "LENGTH") rows)
+
+-- by which rules certificates are checked
+abbrev pub Rules : Type 0
+Rules = Placement → ℕ → List (List Move) → CheckRules
+
+-- ---- a position or a diagram
+-- why `pg moves` has no status: that of the text FEN, or standard output has failed
+abbrev pub IsMovesCause : List Row → Refusal → Type 0
+IsMovesCause rows refusal = (failed : Bool) × IsMovesRefusal (spelled (codes "FEN") rows) failed refusal
+
+-- why `pg count` has none: the same, for so many plies
+abbrev pub IsCountCause : List Row → Refusal → Type 0
+IsCountCause rows refusal =
+    (plies : ℕ) × (failed : Bool) × IsCountRefusal (spelled (codes "FEN") rows) plies failed refusal
+
+-- why a diagram is not shown, with a length or without
+abbrev pub IsBoardRefusal : List ℕ → Option (List ℕ) → Bool → Refusal → Type 0
+IsBoardRefusal diagram None failed refusal = IsShowRefusal diagram failed refusal
+IsBoardRefusal diagram (Some length) failed refusal = IsShowWithinRefusal diagram length failed refusal
+
+-- why `pg show` has no status: that of DIAGRAM and LENGTH, or standard output has failed
+abbrev pub IsShowCause : List Row → Refusal → Type 0
+IsShowCause rows refusal = (failed : Bool)
+    × IsBoardRefusal (spelled (codes "DIAGRAM") rows) (first_of (codes "LENGTH") rows) failed refusal
+
+-- ---- a list of games
+-- why there is no list: its file is not read; or, where somebody is to type it, the words are no problem
+abbrev pub IsListCause : List Row → Refusal → Type 0
+IsListCause rows refusal = IsOfFile named.Games refusal ⊎ IsOfProblem rows refusal
+
+-- why `pg games` has no status: there is no list; or so it is for some list and the words
+abbrev pub IsGamesCause : List Row → Refusal → Type 0
+IsGamesCause rows refusal = IsListCause rows refusal
+    ⊎ ((asked : Asked) × (failed : Bool) × AreWords rows asked.diagram.now asked.length.now
+    × IsGamesRefusal asked failed refusal)
+
+-- the same of `pg cooks`
+abbrev pub IsCooksCause : List Row → Refusal → Type 0
+IsCooksCause rows refusal = IsListCause rows refusal
+    ⊎ ((asked : Asked) × (failed : Bool) × AreWords rows asked.diagram.now asked.length.now
+    × IsCooksRefusal asked failed refusal)
+
+-- ---- a certificate
+-- why `pg check` has no status: the certificate is not opened; there is no
+-- list; or so it is for some list, some bytes of a certificate and the words
+abbrev pub IsCheckCause : Rules → List Row → Refusal → Type 0
+IsCheckCause rules rows refusal = (IsOfFile named.Certificate refusal ⊎ IsListCause rows refusal)
+    ⊎ ((asked : Asked) × (t : Terms) × (failed : Failures) × AreWords rows asked.diagram.now asked.length.now
+    × (t.rules ≡ rules) × IsCheckRefusal t asked failed refusal)
+
+-- why `pg why` has none: the certificate is not opened, or so it is for some bytes of one and the words
+abbrev pub IsWhyCause : Rules → List Row → Refusal → Type 0
+IsWhyCause rules rows refusal = IsOfFile named.Certificate refusal
+    ⊎ ((asked : Line) × (t : Terms) × (failed : ReadingFailures) × AreWords rows asked.diagram.now asked.length.now
+    × (asked.moves.now ≡ spelled (codes "MOVES") rows) × (t.rules ≡ rules) × IsWhyRefusal asked t failed refusal)
+
+-- the same of `pg page`
+abbrev pub IsPageCause : Rules → List Row → Refusal → Type 0
+IsPageCause rules rows refusal = IsOfFile named.Certificate refusal
+    ⊎ ((asked : Shown) × (t : Terms) × (failed : ReadingFailures) × AreWords rows asked.diagram.now asked.length.now
+    × (t.rules ≡ rules) × IsPageRefusal asked t failed refusal)
+
+-- why `pg upgrade` has none: a file is not opened or put in its place, or so it is for some bytes
+abbrev pub IsUpgradeCause : Refusal → Type 0
+IsUpgradeCause refusal = (IsOfFile named.Old refusal ⊎ IsOfFile named.New refusal)
+    ⊎ ((most : ℕ) × (known : Option (List ℕ)) × (source : Bool) × (sink : Bool) × (out : Bool)
+    × IsUpgradeRefusal most known source sink out refusal)
+
+-- ---- a search
+-- the refusal that a fault of a search is, with what is known then
+abbrev pub search_refusal : SearchFault → Known → Refusal
+search_refusal search.Write known = Search search.Write
+search_refusal search.Memory known = Search search.Memory
+search_refusal fault known = GaveUp fault known
+
+-- a search for games of n plies may give up at will, but where it says that it met a shorter one, of fewer
+abbrev pub IsGivenUp : ℕ → SearchFault → Type 0
+IsGivenUp n (search.Shorter fewer) = fewer < n
+IsGivenUp n fault = Unit {0}
+
+-- a search for games of n plies gave up, or memory or a file was refused
+abbrev pub IsStopped : ℕ → Refusal → Type 0
+IsStopped n (Search search.Write) = Unit {0}
+IsStopped n (Search search.Memory) = Unit {0}
+IsStopped n (GaveUp fault known) = IsGivenUp n fault
+IsStopped n Read = Unit {0}
+IsStopped n Write = Unit {0}
+IsStopped n Memory = Unit {0}
+IsStopped n refusal = ⊥
+
+-- some games are not listed as solutions
+abbrev pub IsUnlisted : Placement → ℕ → Refusal → Type 0
+IsUnlisted d n (Check fault) = (list : List (List Move)) × (failed : Bool) × IsListingFault d n list failed fault
+IsUnlisted d n refusal = ⊥
+
+-- why a search for games of n plies that end on d has no status: it was stopped; or the games that it
+-- found are not listed as solutions; or the check of some bytes with such games does not say yes
+abbrev pub IsSearchRefusal : Rules → Placement → ℕ → Refusal → Type 0
+IsSearchRefusal rules d n refusal = IsStopped n refusal ⊎ (IsUnlisted d n refusal
+    ⊎ ((list : List (List Move)) × (t : Terms) × (failed : Failures) × (t.rules ≡ rules)
+    × IsFoundRefusal d n list t failed refusal))
+
+-- a file that a search writes is not begun or put in its place
+abbrev pub IsOfDrafts : Refusal → Type 0
+IsOfDrafts refusal = IsOfFile named.Certificate refusal ⊎ IsOfFile named.Kept refusal
+
+-- why `pg search` has no status: a file that it writes is not begun or put in its
+-- place; the words are no problem; or so it is for the problem that they spell
+abbrev pub IsSearchCause : Rules → List Row → Refusal → Type 0
+IsSearchCause rules rows refusal = IsOfDrafts refusal ⊎ (IsOfProblem rows refusal
+    ⊎ ((d : Placement) × (n : ℕ) × (diagram_of (fields (spelled (codes "DIAGRAM") rows)) ≡ Ok d)
+    × (length_of (spelled (codes "LENGTH") rows) ≡ Ok n) × IsSearchRefusal rules d n refusal))
+
+-- ---- the program
+-- why a command with these words has no status
+abbrev pub causes : Rules → Command → List Row → Refusal → Type 0
+causes rules command.Show rows refusal = IsShowCause rows refusal
+causes rules command.Moves rows refusal = IsMovesCause rows refusal
+causes rules command.Count rows refusal = IsCountCause rows refusal
+causes rules command.Games rows refusal = IsGamesCause rows refusal
+causes rules command.Cooks rows refusal = IsCooksCause rows refusal
+causes rules command.Check rows refusal = IsCheckCause rules rows refusal
+causes rules command.Search rows refusal = IsSearchCause rules rows refusal
+causes rules command.Why rows refusal = IsWhyCause rules rows refusal
+causes rules command.Page rows refusal = IsPageCause rules rows refusal
+causes rules command.Upgrade rows refusal = IsUpgradeCause refusal
+
+-- the same of the command with this name
+abbrev pub IsCaused : Rules → Text → List Row → Refusal → Type 0
+IsCaused rules name rows refusal = (command : Command) → name ≡ name_of command → causes rules command rows refusal
+
+-- the same of the command that the words name
+abbrev pub IsCause : Rules → ArgMatches → Refusal → Type 0
+IsCause rules words refusal =
+    (name : Text) (rows : List Row) → IsSubcommand words name rows → IsCaused rules name rows refusal
+
+-- the status with which the command ends that the words name: its own, or that of a refusal for such a cause
+abbrev pub Ends : Rules → ArgMatches → ℕ → Type 0
+Ends rules words status =
+    IsStatus words status ⊎ ((refusal : Refusal) × IsCause rules words refusal × (status ≡ refusal_status refusal))
