@@ -17,7 +17,7 @@ use Rattle.pg_report.specs.Run.{Failures}
 use Rattle.pg_guide.specs.Why.{ReadingFailures}
 use Rattle.pg_guide.specs.declared.explaining.Asked.{Asked as Line}
 use Rattle.pg_page.specs.declared.paging.Asked.{Asked as Shown}
-use Rattle.pg_cli.specs.Causes.{Rules, AreWords, IsOfFile, IsOfDrafts, IsMovesCause, IsCountCause, IsBoardRefusal, IsShowCause, IsGamesCause, IsCooksCause, IsCheckCause, IsWhyCause, IsPageCause, IsUpgradeCause, IsSearchCause, IsGivenUp, IsSearchRefusal, search_refusal, causes, IsCaused}
+use Rattle.pg_cli.specs.Causes.{Rules, AreWords, IsSpelled, IsOfFile, IsOfDrafts, IsMovesCause, IsCountCause, IsBoardRefusal, IsShowCause, IsGamesCause, IsCooksCause, IsCheckCause, IsWhyCause, IsPageCause, IsUpgradeCause, IsSearchCause, IsGivenUp, IsSearchRefusal, search_refusal, causes, IsCaused}
 use Rattle.pg_cli.specs.Reasons.{IsShowRefusal, IsShowWithinRefusal, IsMovesRefusal, IsCountRefusal, IsGamesRefusal, IsCooksRefusal, IsCheckRefusal, IsFoundRefusal, IsWhyRefusal, IsPageRefusal, IsUpgradeRefusal}
 use Rattle.pg_cli.specs.Words.{spelled, name_of, IsSubcommand}
 use Rattle.pg_cli.specs.declared.checking.Asked.{Asked}
@@ -33,6 +33,10 @@ pub no_problem : (rows : List Row) (diagram length : List ℕ) (fault : RunFault
     → IsProblemFault (spelled (codes "DIAGRAM") rows) (spelled (codes "LENGTH") rows) fault
 no_problem rows diagram length fault e f h =
     subst (λ (x : List ℕ). IsProblemFault x (spelled (codes "LENGTH") rows) fault) e (subst (λ (y : List ℕ). IsProblemFault diagram y fault) f h)
+
+pub is_spelled : (rows : List Row) (diagram length : List ℕ) (d : Placement) (n : ℕ) → diagram ≡ spelled (codes "DIAGRAM") rows
+    → length ≡ spelled (codes "LENGTH") rows → diagram_of (fields diagram) ≡ Ok d → length_of length ≡ Ok n → IsSpelled rows d n
+is_spelled rows diagram length d n e f g h = (ap (λ (x : List ℕ). diagram_of (fields x)) (sym e) ∙ g, ap (λ (x : List ℕ). length_of x) (sym f) ∙ h)
 
 pub moves_caused : (rows : List Row) (fen : List ℕ) (failed : Bool) (result : Result ℕ Refusal) → fen ≡ spelled (codes "FEN") rows
     → IfErr result (λ r. IsMovesRefusal fen failed r) → IfErr result (λ r. IsMovesCause rows r)
@@ -115,7 +119,7 @@ pub search_caused : (rules : Rules) (rows : List Row) (diagram length : List ℕ
 search_caused rules rows diagram length d n (Ok s) e f g h k = tt
 search_caused rules rows diagram length d n (Err r) e f g h (inl k) = inl k
 search_caused rules rows diagram length d n (Err r) e f g h (inr k) =
-    inr (inr (d, n, ap (λ (x : List ℕ). diagram_of (fields x)) (sym e) ∙ g, ap (λ (x : List ℕ). length_of x) (sym f) ∙ h, k))
+    inr (inr (d, n, is_spelled rows diagram length d n e f g h, k))
 
 -- ---- copying
 pub upgrade_caused : (most : ℕ) (known : Option (List ℕ)) (source out : Bool) (r : Refusal)

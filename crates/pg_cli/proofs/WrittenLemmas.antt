@@ -90,3 +90,8 @@ module _ {W : Type 0} (held : W → Option (List ℕ)) (old mid new : Gathered W
         (all.0, (answer, is, g ∙ f, all.1), all.2),
       )
   cooks_handed asked games (Err r) d n list answer status e h is t f g k = tt
+
+-- what an answer says tells what else is said of it
+pub tells : (result : Result ℕ Refusal) (P Q : ℕ → Type 0) → ((n : ℕ) → P n → Q n) → IfOk result P → IfOk result Q
+tells (Ok n) P Q f h = f n h
+tells (Err r) P Q f h = tt

@@ -18,6 +18,7 @@ use Rattle.pg_guide.specs.Why.{ReadingFailures}
 use Rattle.pg_guide.specs.declared.explaining.Asked.{Asked as Line}
 use Rattle.pg_page.specs.declared.paging.Asked.{Asked as Shown}
 use Rattle.pg_files.specs.declared.faults.FileFault.{FileFault}
+use Rattle.pg_files.specs.declared.faults.Obstacle.TheVariants as obstacle
 use Rattle.pg_files.specs.declared.faults.FileFault.TheVariants as file
 use Rattle.pg_cli.specs.Reasons.{IsShowRefusal, IsShowWithinRefusal, IsMovesRefusal, IsCountRefusal, IsGamesRefusal, IsCooksRefusal, IsCheckRefusal, IsFoundRefusal, IsWhyRefusal, IsPageRefusal, IsUpgradeRefusal}
 use Rattle.pg_cli.specs.Refusals.{refusal_status}
@@ -52,6 +53,15 @@ abbrev pub IsOfProblem : List Row → Refusal → Type 0
 IsOfProblem rows (Check fault) = IsProblemFault (spelled (codes "DIAGRAM") rows) (spelled (codes "LENGTH") rows) fault
 IsOfProblem rows refusal = ⊥
 
+-- the words DIAGRAM and LENGTH spell the diagram d and a length of n plies
+abbrev pub IsSpelled : List Row → Placement → ℕ → Type 0
+IsSpelled rows d n = (diagram_of (fields (spelled (codes "DIAGRAM") rows)) ≡ Ok d)
+    × (length_of (spelled (codes "LENGTH") rows) ≡ Ok n)
+
+-- some word has this name
+abbrev pub HasWord : Text → List Row → Type 0
+HasWord name rows = (text : List ℕ) × (first_of name rows ≡ Some text)
+
 -- these texts are the words DIAGRAM and LENGTH
 abbrev pub AreWords : List Row → List ℕ → List ℕ → Type 0
 AreWords rows diagram length =
@@ -82,9 +92,17 @@ IsShowCause rows refusal = (failed : Bool)
     × IsBoardRefusal (spelled (codes "DIAGRAM") rows) (first_of (codes "LENGTH") rows) failed refusal
 
 -- ---- a list of games
+-- the list would stand in the file of the certificate, which the word GAMES names too
+abbrev pub IsNamedTwice : List Row → Refusal → Type 0
+IsNamedTwice rows refusal = (refusal ≡ Open named.Certificate obstacle.NamedTwice) × HasWord (codes "GAMES") rows
+
 -- why there is no list: its file is not read; or, where somebody is to type it, the words are no problem
 abbrev pub IsListCause : List Row → Refusal → Type 0
 IsListCause rows refusal = IsOfFile named.Games refusal ⊎ IsOfProblem rows refusal
+
+-- the same beside a certificate, whose file is another one
+abbrev pub IsOtherListCause : List Row → Refusal → Type 0
+IsOtherListCause rows refusal = IsNamedTwice rows refusal ⊎ IsListCause rows refusal
 
 -- why `pg games` has no status: there is no list; or so it is for some list and the words
 abbrev pub IsGamesCause : List Row → Refusal → Type 0
@@ -102,7 +120,7 @@ IsCooksCause rows refusal = IsListCause rows refusal
 -- why `pg check` has no status: the certificate is not opened; there is no
 -- list; or so it is for some list, some bytes of a certificate and the words
 abbrev pub IsCheckCause : Rules → List Row → Refusal → Type 0
-IsCheckCause rules rows refusal = (IsOfFile named.Certificate refusal ⊎ IsListCause rows refusal)
+IsCheckCause rules rows refusal = (IsOfFile named.Certificate refusal ⊎ IsOtherListCause rows refusal)
     ⊎ ((asked : Asked) × (t : Terms) × (failed : Failures) × AreWords rows asked.diagram.now asked.length.now
     × (t.rules ≡ rules) × IsCheckRefusal t asked failed refusal)
 
@@ -158,6 +176,13 @@ IsSearchRefusal rules d n refusal = IsStopped n refusal ⊎ (IsUnlisted d n refu
     ⊎ ((list : List (List Move)) × (t : Terms) × (failed : Failures) × (t.rules ≡ rules)
     × IsFoundRefusal d n list t failed refusal))
 
+-- a search is asked for the list of the games that it meets, or not
+abbrev pub WantsList : List Row → Type 0
+WantsList rows = HasWord (codes "games") rows
+
+abbrev pub WantsNoList : List Row → Type 0
+WantsNoList rows = first_of (codes "games") rows ≡ None
+
 -- a file that a search writes is not begun or put in its place
 abbrev pub IsOfDrafts : Refusal → Type 0
 IsOfDrafts refusal = IsOfFile named.Certificate refusal ⊎ IsOfFile named.Kept refusal
@@ -166,8 +191,7 @@ IsOfDrafts refusal = IsOfFile named.Certificate refusal ⊎ IsOfFile named.Kept 
 -- place; the words are no problem; or so it is for the problem that they spell
 abbrev pub IsSearchCause : Rules → List Row → Refusal → Type 0
 IsSearchCause rules rows refusal = IsOfDrafts refusal ⊎ (IsOfProblem rows refusal
-    ⊎ ((d : Placement) × (n : ℕ) × (diagram_of (fields (spelled (codes "DIAGRAM") rows)) ≡ Ok d)
-    × (length_of (spelled (codes "LENGTH") rows) ≡ Ok n) × IsSearchRefusal rules d n refusal))
+    ⊎ ((d : Placement) × (n : ℕ) × IsSpelled rows d n × IsSearchRefusal rules d n refusal))
 
 -- ---- the program
 -- why a command with these words has no status

@@ -1,7 +1,8 @@
 //! `pg check`: a certificate is checked for a diagram, a length and a list of games.
 
-ghost use Rattle.std.specs.Prelude.{◌≡◌, ◌⊎◌, true, IfOk, IfErr, OnOk};
+ghost use Rattle.std.specs.Prelude.{◌≡◌, ℕ, true, IfOk, IfErr, OnOk};
 ghost use Rattle.std.specs.Io.KnownBytes.{Keeps};
+ghost use Rattle.pg_board.specs.Placement.{Placement};
 ghost use Rattle.pg_checker.specs.Cuts.{rules_by};
 ghost use Rattle.pg_checker.specs.Terms.{terms};
 ghost use Rattle.pg_checker.specs.declared.fault.RunFault.TheVariants.{Write};
@@ -10,7 +11,7 @@ ghost use Rattle.pg_report.specs.Run.{failures};
 ghost use Rattle.pg_streams.specs.Buffer.{IsHandedOn, sink_of};
 ghost use Rattle.pg_texts.specs.Report.{IsReport};
 ghost use Rattle.pg_cli.specs.Answers.{AreAnswered};
-ghost use Rattle.pg_cli.specs.Causes.{IsCheckCause, IsListCause, IsOfFile, IsOfProblem};
+ghost use Rattle.pg_cli.specs.Causes.{IsCheckCause, IsListCause, IsOfProblem, IsOtherListCause, IsSpelled};
 ghost use Rattle.pg_cli.specs.Reasons.{IsCheckRefusal};
 ghost use Rattle.pg_cli.specs.Words.{IsChecked};
 ghost use Rattle.pg_cli.specs.Written.{AddsOf};
@@ -102,6 +103,7 @@ pub(crate) fn check_from<S: Source, W: Sink>(
 
 // Says that the games are to be typed. A bad diagram or length is told before.
 fn ask_for_games<R: Runtime + AllocGlobal>(rt: &R, words: &ArgMatches<'_>) -> Result<(), Refusal>
+    ensures spelled { OnOk result ((d : Placement) × (n : ℕ) × IsSpelled (rows_of (found_of words.now)) d n) }
     ensures err { IfErr result (λ refusal. IsOfProblem (rows_of (found_of words.now)) refusal) }
 {
     let diagram = text_of(words, "DIAGRAM");
@@ -142,8 +144,7 @@ fn other_games_of<R: Runtime + AllocGlobal>(
     words: &ArgMatches<'_>,
     screen: Screen,
 ) -> Result<Vec<u8>, Refusal>
-    ensures err { IfErr result (λ refusal. IsOfFile Named.Certificate refusal
-        ⊎ IsListCause (rows_of (found_of words.now)) refusal) }
+    ensures err { IfErr result (λ refusal. IsOtherListCause (rows_of (found_of words.now)) refusal) }
 {
     if let Some(path) = words.get_str("GAMES") {
         if lead_to_one(rt, text_of(words, "CERT"), path) {

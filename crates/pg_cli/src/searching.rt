@@ -1,6 +1,6 @@
 //! `pg search`: a certificate is searched for and written, and then checked.
 
-ghost use Rattle.std.specs.Prelude.{◌≡◌, ◌≤◌, ◌⊎◌, List, IfOk, IfErr, OnOk};
+ghost use Rattle.std.specs.Prelude.{◌≡◌, ◌≤◌, ◌⊎◌, List, IfNone, IfOk, IfErr, OnOk};
 ghost use Rattle.pg_checker.specs.Cuts.{rules_by};
 ghost use Rattle.pg_checker.specs.Terms.{terms};
 ghost use Rattle.pg_position.specs.declared.moves.Move.{Move};
@@ -10,7 +10,8 @@ ghost use Rattle.pg_texts.specs.Report.{IsReport};
 ghost use Rattle.clap.specs.Words.{found_of, rows_of};
 ghost use Rattle.pg_report.specs.Run.{failures};
 ghost use Rattle.pg_cli.specs.Answers.{IsAnswered};
-ghost use Rattle.pg_cli.specs.Causes.{IsGivenUp, IsOfDrafts, IsOfFile, IsSearchCause, IsSearchRefusal, Rules, search_refusal};
+ghost use Rattle.pg_cli.specs.Causes.{IsGivenUp, IsOfDrafts, IsOfFile, IsSearchCause, IsSearchRefusal, Rules};
+ghost use Rattle.pg_cli.specs.Causes.{WantsList, WantsNoList, search_refusal};
 ghost use Rattle.pg_cli.specs.Reasons.{IsFoundRefusal};
 ghost use Rattle.pg_cli.specs.Words.{IsSearched};
 
@@ -243,10 +244,12 @@ fn begin_list<R: Runtime + AllocGlobal>(
     rt: &R,
     words: &ArgMatches<'_>,
 ) -> Result<Option<Draft<R::File>>, Refusal>
-    ensures err { IfErr result (λ refusal. IsOfFile Named.Kept refusal) }
+    ensures begun { IfOk result (λ list. IfNone list (WantsNoList (rows_of (found_of words.now)))) }
+    ensures err { IfErr result (λ refusal. IsOfFile Named.Kept refusal × WantsList (rows_of (found_of words.now))) }
 {
-    let Some(path) = words.get_str("games") else {
-        return Ok(None);
+    let path = match words.get_str("games") {
+        Some(path) => path,
+        None => return Ok(None),
     };
     if stand_at_one(rt, text_of(words, "CERT"), path) {
         return Err(Refusal::Open(Named::Kept, Obstacle::NamedTwice));

@@ -61,13 +61,19 @@ pub(crate) fn upgrade_to<S: Source, W: Sink, O: Sink>(
     }
 }
 
-// The same with a file as the sink.
+// The same with a file as the sink; what that holds then is not said.
 fn upgrade_file<S: Source, F: Write + Drop, O: Sink>(
     source: &mut S,
     file: F,
     out: &mut Gathered<O>,
     records: u64,
 ) -> Result<u64, Refusal>
+    ensures copied { IfOk result (λ n. (text : List ℕ) × (copy : List ℕ) × IsUpgraded text copy n
+        × Consumes (S.left source.old) (S.left source.new) text) }
+    ensures end { OnOk result (IsAtEnd (S.left source.new)) }
+    ensures few { IfOk result (λ n. n ≤ records) }
+    ensures told { IfOk result (λ n. Appends (⟦<Gathered<O> as Sink>⟧.held out.old) (O.held (sink_of out.new))
+        (copied_text n)) }
     ensures err { IfErr result (λ refusal. (failed : Bool) × IsUpgradeRefusal records (S.left source.old)
         (S.has_failed source.new) failed (⟦<Gathered<O> as Sink>⟧.has_failed out.new) refusal) }
 {
