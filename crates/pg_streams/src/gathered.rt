@@ -1,6 +1,6 @@
 //! A sink that gathers bytes before it hands them on.
 ghost use Rattle.std.specs.Prelude.{◌≡◌, [], true, false, IfOk, OnOk, OnErr};
-ghost use Rattle.std.specs.Io.KnownBytes.{Keeps, append_known};
+ghost use Rattle.std.specs.Io.KnownBytes.{Appends, Keeps, append_known};
 ghost use Rattle.pg_streams.specs.Buffer.{IsHandedOn, sink_of};
 
 use arrayvec::ArrayVec;
@@ -109,6 +109,9 @@ impl<W: Sink> Sink for Gathered<W> {
 }
 
 impl<W: Sink> fmt::Write for Gathered<W> {
+    ghost write_str_gives = { λ old text new.
+        Appends (⟦<Gathered<W> as Sink>⟧.held old) (⟦<Gathered<W> as Sink>⟧.held new) text };
+
     fn write_str(&mut self, text: &str) -> fmt::Result {
         match self.push(text.as_bytes()) {
             Ok(()) => Ok(()),
