@@ -152,7 +152,7 @@ homes : (b : Placement) (r : Rights) (c : Color) (w : Wing) → RightsClause b r
 unfolding RightsClause IsHome
 homes b r c w clause h = clause c w h
 
-own_castling : (p : State) (m : Move) (k : Kind) (v : Wing) → IsPosition p → IsOnBoard m → IsCastling p k m v → Castled p (after p m (Castling v)) p.side v
+pub own_castling : (p : State) (m : Move) (k : Kind) (v : Wing) → IsPosition p → IsOnBoard m → IsCastling p k m v → Castled p (after p m (Castling v)) p.side v
 own_castling p m k v pos (lf, lt) way =
     let h : Stands p.board p.side King (king_home p.side) × Stands p.board p.side Rook (rook_home p.side v) = homes p.board p.rights p.side v pos.homes way.right in
     let q : CastleSquares p.side v m.from m.to = castle_squares p.side v m.from m.to way.home way.target in
@@ -176,7 +176,7 @@ own_castling p m k v pos (lf, lt) way =
           ((λ e. s2.0 (e ∙ sym way.home)), s1.0, s2.1));
     }
 
-own_relocation : (p n : State) (m : Move) (k : Kind) → IsOnBoard m → Stands p.board p.side k m.from → n.board ≡ relocated p.board m.from m.to → n.rights ≡ rights_after p.rights m → FreeStep p.side k m.from k m.to → OneStep p n p.side k m.from m.to
+pub own_relocation : (p n : State) (m : Move) (k : Kind) → IsOnBoard m → Stands p.board p.side k m.from → n.board ≡ relocated p.board m.from m.to → n.rights ≡ rights_after p.rights m → FreeStep p.side k m.from k m.to → OneStep p n p.side k m.from m.to
 own_relocation p n m k (lf, lt) stood eb er free =
     record {
       from_low = lf;
@@ -187,7 +187,7 @@ own_relocation p n m k (lf, lt) stood eb er free =
       rights = λ w h. kept_right p m p.side w (rw er at h);
     }
 
-own_passing : (p : State) (m : Move) (k : Kind) → IsPosition p → IsOnBoard m → Stands p.board p.side k m.from → IsEnPassant p k m → OneStep p (after p m EnPassant) p.side k m.from m.to
+pub own_passing : (p : State) (m : Move) (k : Kind) → IsPosition p → IsOnBoard m → Stands p.board p.side k m.from → IsEnPassant p k m → OneStep p (after p m EnPassant) p.side k m.from m.to
 unfolding IsPassed
 own_passing p m k pos (lf, lt) stood way =
     let r : rank m.to ≡ passed_rank p.side = (pos.passing m.to way.passed).0 in
@@ -205,7 +205,7 @@ own_passing p m k pos (lf, lt) stood way =
 promotion_steps : (p : State) (m : Move) (k : Kind) (x : Kind) → IsPromotion p k m x → StepsTo p.side k m.from m.to
 promotion_steps p m k x way = elim way.moves [ inl h ↦ by_going p.board p.side k m.from m.to h.1 | inr h ↦ by_pattern p.side k m.from m.to h.1.0 ]
 
-own_promotion : (p : State) (m : Move) (k : Kind) (x : Kind) → IsOnBoard m → Stands p.board p.side k m.from → IsPromotion p k m x → OneStep p (after p m (Promotion x)) p.side k m.from m.to
+pub own_promotion : (p : State) (m : Move) (k : Kind) (x : Kind) → IsOnBoard m → Stands p.board p.side k m.from → IsPromotion p k m x → OneStep p (after p m (Promotion x)) p.side k m.from m.to
 own_promotion p m k x (lf, lt) stood way =
     let becomes : Becomes p.side k m.to x = subst (λ (y : Kind). Becomes p.side y m.to x) (sym way.must.0) (pawn_becomes p.side m.to x way.piece way.must.1) in
     let free : FreeStep p.side k m.from x m.to = (lf, lt, promotion_steps p m k x way, becomes) in

@@ -76,7 +76,7 @@ unfolding Takes
 passing_takes p k m stands h = inr (en_passant_takes p k m stands h)
 
 -- it takes a man just where one stands on the square that loses it
-takes_man : (p : State) (k : Kind) (m : Move) (w : StepKind) (j : Kind) → Stands p.board p.side k m.from → IsWay p k m w → get p.board (taken_at p m w) ≡ Some (man (other p.side) j) → Takes p m
+pub takes_man : (p : State) (k : Kind) (m : Move) (w : StepKind) (j : Kind) → Stands p.board p.side k m.from → IsWay p k m w → get p.board (taken_at p m w) ≡ Some (man (other p.side) j) → Takes p m
 unfolding IsEnemy
 takes_man p k m Plain j stands way there = enemy_takes p m (j, there)
 takes_man p k m Capture j stands way there = enemy_takes p m (j, there)
@@ -85,7 +85,7 @@ takes_man p k m EnPassant j stands way there = passing_takes p k m stands way
 takes_man p k m (Promotion x) j stands way there = enemy_takes p m (j, there)
 takes_man p k m (Castling v) j stands way there = enemy_takes p m (j, there)
 
-takes_none : (p : State) (k : Kind) (m : Move) (w : StepKind) → IsPosition p → Stands p.board p.side k m.from → IsWay p k m w → get p.board (taken_at p m w) ≡ None → ¬ Takes p m
+pub takes_none : (p : State) (k : Kind) (m : Move) (w : StepKind) → IsPosition p → Stands p.board p.side k m.from → IsWay p k m w → get p.board (taken_at p m w) ≡ None → ¬ Takes p m
 unfolding IsPassed
 takes_none p k m Plain valid stands way none = vacant_takes p k m Plain valid stands way none (λ e. cc)
 takes_none p k m Capture valid stands way none = vacant_takes p k m Capture valid stands way none (λ e. cc)

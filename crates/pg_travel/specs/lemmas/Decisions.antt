@@ -16,7 +16,7 @@ dec_forward : (c : Color) (n r s : ℕ) → Dec (IsForward c n r s)
 dec_forward White n r s = dec_equal (rank s) (rank r + n)
 dec_forward Black n r s = dec_equal (rank r) (rank s + n)
 
-dec_line : (r s : ℕ) → Dec (OnOneLine r s)
+pub dec_line : (r s : ℕ) → Dec (OnOneLine r s)
 dec_line r s = dec_or (dec_equal (file r) (file s)) (dec_equal (rank r) (rank s))
 
 dec_and3 : {A B C : Type 0} → Dec A → Dec B → Dec C → Dec (A × B × C)
@@ -49,7 +49,7 @@ dec_becomes c Rook s j = dec_kind j Rook
 dec_becomes c Queen s j = dec_kind j Queen
 dec_becomes c King s j = dec_kind j King
 
-dec_free : (c : Color) (k : Kind) (r : ℕ) (j : Kind) (s : ℕ) → Dec (FreeStep c k r j s)
+pub dec_free : (c : Color) (k : Kind) (r : ℕ) (j : Kind) (s : ℕ) → Dec (FreeStep c k r j s)
 dec_free c k r j s = dec_along (λ h. (h.0, h.1.0, h.1.1.0, h.1.1.1)) (λ h. (h.0, (h.1, (h.2, h.3)))) (dec_and (dec_at_most (suc r) 64) (dec_and (dec_at_most (suc s) 64) (dec_and (dec_steps c k r s) (dec_becomes c k s j))))
 
 pub dec_walk : (c : Color) (k : Kind) (r n : ℕ) (j : Kind) (s : ℕ) → Dec (Walk c k r n j s)

@@ -235,19 +235,19 @@ uncastle_other : (c : Color) (v : Wing) (x : ℕ) → x ≢ king_target c v → 
 unfolding uncastle
 uncastle_other c v x a b = elim (eqb_tells x (king_target c v)) [ inl u ↦ absurd (a u.1) | inr u ↦ elim (eqb_tells x (king_crossed c v)) [ inl z ↦ absurd (b z.1) | inr z ↦ rw (u.0, z.0) refl ] ]
 
-counted_king : (c : Color) (v : Wing) → (counted c (Some v) (king_home c) ≡ king_target c v) × (king_home c < 64)
+pub counted_king : (c : Color) (v : Wing) → (counted c (Some v) (king_home c) ≡ king_target c v) × (king_home c < 64)
 counted_king White KingSide = (refl, omega arith)
 counted_king White QueenSide = (refl, omega arith)
 counted_king Black KingSide = (refl, omega arith)
 counted_king Black QueenSide = (refl, omega arith)
 
-counted_rook : (c : Color) (v : Wing) → (counted c (Some v) (rook_home c v) ≡ king_crossed c v) × (rook_home c v < 64)
+pub counted_rook : (c : Color) (v : Wing) → (counted c (Some v) (rook_home c v) ≡ king_crossed c v) × (rook_home c v < 64)
 counted_rook White KingSide = (refl, omega arith)
 counted_rook White QueenSide = (refl, omega arith)
 counted_rook Black KingSide = (refl, omega arith)
 counted_rook Black QueenSide = (refl, omega arith)
 
-counted_other : (c : Color) (w : Wing) (x : ℕ) → x ≢ king_home c → x ≢ rook_home c w → counted c (Some w) x ≡ x
+pub counted_other : (c : Color) (w : Wing) (x : ℕ) → x ≢ king_home c → x ≢ rook_home c w → counted c (Some w) x ≡ x
 counted_other c w x a b = elim (eqb_tells x (king_home c)) [ inl u ↦ absurd (a u.1) | inr u ↦ elim (eqb_tells x (rook_home c w)) [ inl z ↦ absurd (b z.1) | inr z ↦ rw (u.0, z.0) refl ] ]
 
 -- a man of c after castling: where it stood before, and where that is counted
@@ -297,7 +297,7 @@ back_by_castling p n d c v N st (Some w, held, (o, bound)) = absurd (st.lost w h
 reached_more : (p : State) (d : Placement) (c : Color) (a b : ℕ) → a ≤ b → ReachedIn d p c a → ReachedIn d p c b
 reached_more p d c a b more (v, held, (o, bound)) = (v, held, (o, omega arith))
 
-side_cases : (c d : Color) → (c ≡ d) ⊎ (c ≡ other d)
+pub side_cases : (c d : Color) → (c ≡ d) ⊎ (c ≡ other d)
 side_cases White White = inl refl
 side_cases Black Black = inl refl
 side_cases White Black = inr refl
@@ -311,15 +311,15 @@ own_back p n m d N pos step h =
 other_back : (p n : State) (m : Move) (d : Placement) (N : ℕ) → IsPosition p → Step p m n → ReachedIn d n (other p.side) N → ReachedIn d p (other p.side) N
 other_back p n m d N pos step h = back_by_other p n d (other p.side) N (spared_step p n m pos step) h
 
-left_own : (c : Color) (k : ℕ) → suc (plies_left (other c) c k) ≤ plies_left c c (suc k)
+pub left_own : (c : Color) (k : ℕ) → suc (plies_left (other c) c k) ≤ plies_left c c (suc k)
 left_own White k = omega arith
 left_own Black k = omega arith
 
-left_other : (c : Color) (k : ℕ) → plies_left (other c) (other c) k ≤ plies_left c (other c) (suc k)
+pub left_other : (c : Color) (k : ℕ) → plies_left (other c) (other c) k ≤ plies_left c (other c) (suc k)
 left_other White k = omega arith
 left_other Black k = omega arith
 
-kind_of : Option Man → Kind
+pub kind_of : Option Man → Kind
 kind_of None = Pawn
 kind_of (Some m) = m.kind
 
