@@ -1,0 +1,5 @@
+pub mod Assignments
+pub mod Search
+pub mod Dual
+pub mod Pinned
+pub mod Handing
