@@ -50,11 +50,11 @@ lengths_by k us vs to owner keys lengths slacks x t few p s z r c f = record {
         (g.0, g.1.0, e, omega arith)
 
 -- ---- a row of totals
-told_none : (x : ℕ) → x ≡ 65535 → told x ≡ None
+pub told_none : (x : ℕ) → x ≡ 65535 → told x ≡ None
 unfolding told
 told_none x e = elim (eqb_tells x 65535) [ inl w ↦ rw w.0 refl | inr w ↦ absurd (w.1 e) ]
 
-told_some : (x : ℕ) → x ≢ 65535 → told x ≡ Some x
+pub told_some : (x : ℕ) → x ≢ 65535 → told x ≡ Some x
 unfolding told
 told_some x e = elim (eqb_tells x 65535) [ inl w ↦ absurd (e w.1) | inr w ↦ rw w.0 refl ]
 

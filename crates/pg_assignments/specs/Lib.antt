@@ -3,3 +3,4 @@ pub mod Search
 pub mod Dual
 pub mod Pinned
 pub mod Handing
+pub mod Totals

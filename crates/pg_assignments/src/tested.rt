@@ -70,7 +70,7 @@ pub(crate) fn value(costs: &Costs, to: &[u8; 16]) -> Option<u16>
 }
 
 // The least total, by the proposal where it passes.
-fn judged(costs: &Costs, proposal: &Proposal) -> Option<u16>
+pub(crate) fn judged(costs: &Costs, proposal: &Proposal) -> Option<u16>
     requires { costs.now.size ≤ 16 }
     ensures { IsLeastTotal costs.now result }
 {

@@ -304,12 +304,20 @@ fn tried(costs: &Costs, proposal: &Proposal) -> Option<[Row; 16]>
     requires { costs.now.size ≤ 16 }
     ensures { IfSome result (λ out. AreLeastWith costs.now out costs.now.size) }
 {
-    if shows_none(costs, proposal) {
-        return Some(none_all(costs));
-    }
     match proved(costs, proposal) {
         None => None,
         Some(x) => all_by(costs, proposal, x),
+    }
+}
+
+// The least totals of all pairs, by the proposal where it passes.
+pub(crate) fn all_pairs(costs: &Costs, proposal: &Proposal) -> [Row; 16]
+    requires { costs.now.size ≤ 16 }
+    ensures { AreLeastWith costs.now result costs.now.size }
+{
+    match tried(costs, proposal) {
+        None => plain_all(costs),
+        Some(out) => out,
     }
 }
 
@@ -323,8 +331,10 @@ pub fn least_with_all(costs: &Costs) -> [[u16; 16]; 16]
     requires { costs.now.size ≤ 16 }
     ensures { AreLeastWith costs.now result costs.now.size }
 {
-    match tried(costs, &propose(costs)) {
-        None => plain_all(costs),
-        Some(out) => out,
+    let proposal = propose(costs);
+    if shows_none(costs, &proposal) {
+        none_all(costs)
+    } else {
+        all_pairs(costs, &proposal)
     }
 }
