@@ -1,4 +1,4 @@
--- Prices that no pair pays more for than its cost.
+-- Prices of rows and columns: no row's price is above a column's and the cost of the pair.
 use Rattle.std.specs.Prelude.{◌≡◌, ℕ, ◌+◌, ◌<◌, ◌≤◌, List}
 use Rattle.pg_assignments.specs.declared.costs.Costs.{Costs}
 use Rattle.pg_assignments.specs.Assignments.{cost, Below, IsAssignment, sum_of, nth}

@@ -6,8 +6,8 @@ ghost use Rattle.pg_assignments.specs.Assignments.{cost};
 pub const NONE: u8 = 255;
 
 /// What each of the first `size` rows costs at each of the first `size` columns, at most 16: `rows[i][j]` is the cost of
-/// row i at column j, from 0 to 254, or 255 (`NONE`) where the row may not go there. What stands beyond them is not read
-/// as a cost.
+/// row i at column j, from 0 to 254, or 255 (`NONE`) where the row may not go there. What stands beyond them should be 255
+/// too: other numbers there change no answer, but with them it may be the slow search that finds it.
 #[derive(Clone, Copy, Debug, PartialEq, Eq)]
 pub struct Costs {
     pub size: usize,

@@ -64,7 +64,7 @@ fn proved(costs: &Costs, proposal: &Proposal) -> Option<u16>
     }
 }
 
-// What a row pays less than its costs.
+// By how much a row's price is below each column's and the cost: its slacks.
 #[inline(always)]
 fn slack_row(costs: &[u8; 16], price: u16, columns: &Row) -> Row
     requires fits { RowFits costs.now price columns.now 16 }
@@ -98,7 +98,7 @@ fn slacks(costs: &Costs, rows: &Row, columns: &Row) -> [Row; 16]
     slacks
 }
 
-// Whether a length is at most each other and what a row pays less there.
+// Whether a length is at most each other one and the slack there.
 #[inline(always)]
 fn row_closes(length: u16, slack: &Row, lengths: &Row) -> bool
     ensures { IsTrue result → RowCloses length slack.now lengths.now 16 }
@@ -136,7 +136,7 @@ fn steps_on(size: usize, slack: &Row, key: u16, keys: &Row, next: u16) -> bool
     p < size && 16 * u32::from(slack[p]) + u32::from(keys[p]) + 1 <= u32::from(key)
 }
 
-// Whether each length is one of a way.
+// Whether each length that counts is one of a way.
 #[inline(never)]
 fn reaches(
     size: usize,
