@@ -98,7 +98,7 @@ pub(crate) fn judged(costs: &Costs, proposal: &Proposal) -> Option<u16>
 /// most 4064, or none where there is no assignment.
 ///
 /// A proposal by the Hungarian method is tested by its prices. Where it passes, no other assignment costs less; else all
-/// are tried, in a time that doubles with each row and more.
+/// are tried, and that takes far longer with each further row.
 pub fn least_total(costs: &Costs) -> Option<u16>
     requires { costs.now.size ≤ 16 }
     ensures { IsLeastTotal costs.now result }
