@@ -1,7 +1,9 @@
-//! Tests of what no contract of `pg_captures`, `pg_pawns`, `pg_travel` and `pg_prices` says. They stand apart, since a crate
-//! that has tests is proved twice, without them and with them.
+//! Tests of what no contract of `pg_assignments`, `pg_captures`, `pg_pawns`, `pg_travel` and `pg_prices` says. They stand apart,
+//! since a crate that has tests is proved twice, without them and with them.
 #![tactic(auto)]
 
+#[cfg(test)]
+mod assignments;
 #[cfg(test)]
 mod captures;
 #[cfg(test)]

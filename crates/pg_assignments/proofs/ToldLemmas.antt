@@ -1,0 +1,158 @@
+-- What the tests of ways show. Leads to the contracts of with_all.
+use Rattle.std.proofs.Common.{◌≡◌, ◌≢◌, ℕ, zero, suc, ◌+◌, ◌*◌, ◌<◌, ◌≤◌, ◌⊎◌, inl, inr, true, false, leb, Option, Some, None, List, [], ◌∷◌, length, get_or, set, refl, sym, ap, subst, arith, ◌∙◌}
+use Rattle.std.proofs.lemmas.Bool.Decides.{eqb_tells, leb_tells}
+use Rattle.std.proofs.lemmas.List.{get_or-set_same, get_or-set_other}
+use Rattle.pg_assignments.specs.declared.costs.Costs.{Costs}
+use Rattle.pg_assignments.specs.Assignments.{cost, IsTotal, IsLeastTotal, IsLeastWith, IsTotalWith, Below, nth, at2, told, RowLeast, AreLeastWith}
+use Rattle.pg_assignments.specs.Dual.{Fits, RowFits}
+use Rattle.pg_assignments.specs.Handing.{IsShown, AreLengths, IsSlackRow, IsSlack, Closes, StepsOn, Reaches, IsRounded, IsTold, IsProved}
+use Rattle.pg_assignments.proofs.HandingLemmas.{shown_some, shown_none}
+use Rattle.pg_assignments.proofs.LeastLemmas.{least_none, some_holds, none_holds}
+use Rattle.pg_assignments.proofs.SearchLemmas.{total_low}
+
+-- ---- slack
+pub row_fits_at : (k : Costs) (us vs : List ℕ) (i n : ℕ) → i < n → Fits (cost k) (nth us) (nth vs) n 16 → RowFits (get_or k.rows i []) (get_or us i 0) vs 16
+unfolding cost
+row_fits_at k us vs i n l f = λ j h x. f i j l h x
+
+pub slacks_next : (k : Costs) (us vs slack : List ℕ) (slacks : List (List ℕ)) (i m : ℕ) → m ≡ i + 1 → i < length slacks → IsSlackRow (get_or k.rows i []) (get_or us i 0) vs slack 16 → IsSlack (cost k) (nth us) (nth vs) slacks i → IsSlack (cost k) (nth us) (nth vs) (set slacks i slack) m
+unfolding cost
+slacks_next k us vs slack slacks i m e low row before = λ a q l h. elim (eqb_tells a i) [
+  | inl w ↦ subst (λ (b : ℕ). (cost k b q < 255 → at2 (set slacks i slack) b q + nth us b ≡ nth vs q + cost k b q) × (at2 (set slacks i slack) b q < 65535 → cost k b q < 255)) (sym w.1)
+      (subst (λ (x : List ℕ). (cost k i q < 255 → nth x q + nth us i ≡ nth vs q + cost k i q) × (nth x q < 65535 → cost k i q < 255)) (sym (get_or-set_same slacks i slack [] low)) (row q h))
+  | inr w ↦ (let ne : a ≢ i = w.1 in
+      subst (λ (x : List ℕ). (cost k a q < 255 → nth x q + nth us a ≡ nth vs q + cost k a q) × (nth x q < 65535 → cost k a q < 255)) (sym (get_or-set_other slacks i a slack [] ne)) (before a q (omega arith) h))
+]
+
+-- ---- lengths
+pub shown_by : (k : Costs) (us vs to owner : List ℕ) (x : ℕ) → k.size ≤ 16 → IsProved k us vs to owner x → IsShown (cost k) (nth us) (nth vs) (nth to) (nth owner) k.size
+shown_by k us vs to owner x few p = record { fits = λ a q l h. p.fits a q l (omega arith); is = p.value.0; owned = λ q l. (p.owned q l).0; owners = λ q l. (p.owned q l).1 }
+
+pub lengths_by : (k : Costs) (us vs to owner keys lengths : List ℕ) (slacks : List (List ℕ)) (x t : ℕ) → k.size ≤ 16 → IsProved k us vs to owner x → IsSlack (cost k) (nth us) (nth vs) slacks k.size → nth lengths t ≡ 0 → IsRounded keys lengths 16 → Closes slacks to lengths k.size → Reaches slacks owner keys k.size t k.size → AreLengths (cost k) (nth us) (nth vs) (nth to) (nth owner) (nth keys) (nth lengths) k.size t
+lengths_by k us vs to owner keys lengths slacks x t few p s z r c f = record {
+  none = z;
+  lower = λ a q l h e.
+      let g : nth lengths (nth to a) ≤ nth lengths q + at2 slacks a q = c a q l (omega arith) in
+      let d : at2 slacks a q + nth us a ≡ nth vs q + cost k a q = (s a q l (omega arith)).0 e in
+      omega arith;
+  upper = λ q l ne small. step q l small (f q l ne small);
+  rounded = λ q l. r q (omega arith);
+}
+  where
+    step : (q : ℕ) → q < k.size → nth keys q ≤ 65039 → ((p : ℕ) × StepsOn k.size (get_or slacks (nth owner q) []) (nth keys q) keys p) → (b : ℕ) × (b < k.size) × (cost k (nth owner q) b < 255) × (16 * (nth vs b + cost k (nth owner q) b) + nth keys b + 1 ≤ nth keys q + 16 * nth us (nth owner q))
+    step q l small g =
+        let h : 16 * at2 slacks (nth owner q) g.0 + nth keys g.0 + 1 ≤ nth keys q = g.1.1 in
+        let o : nth owner q < k.size = (p.owned q l).0 in
+        let b : g.0 < k.size = g.1.0 in
+        let d : (cost k (nth owner q) g.0 < 255 → at2 slacks (nth owner q) g.0 + nth us (nth owner q) ≡ nth vs g.0 + cost k (nth owner q) g.0) × (at2 slacks (nth owner q) g.0 < 65535 → cost k (nth owner q) g.0 < 255) = s (nth owner q) g.0 o (omega arith) in
+        let e : cost k (nth owner q) g.0 < 255 = d.1 (omega arith) in
+        let v : at2 slacks (nth owner q) g.0 + nth us (nth owner q) ≡ nth vs g.0 + cost k (nth owner q) g.0 = d.0 e in
+        (g.0, g.1.0, e, omega arith)
+
+-- ---- a row of totals
+pub told_none : (x : ℕ) → x ≡ 65535 → told x ≡ None
+unfolding told
+told_none x e = elim (eqb_tells x 65535) [ inl w ↦ rw w.0 refl | inr w ↦ absurd (w.1 e) ]
+
+pub told_some : (x : ℕ) → x ≢ 65535 → told x ≡ Some x
+unfolding told
+told_some x e = elim (eqb_tells x 65535) [ inl w ↦ absurd (e w.1) | inr w ↦ rw w.0 refl ]
+
+pub least_told : (k : Costs) (us vs to owner keys lengths : List ℕ) (slacks : List (List ℕ)) (x i j r : ℕ) → k.size ≤ 16 → i < k.size → j < k.size → IsProved k us vs to owner x → IsSlack (cost k) (nth us) (nth vs) slacks k.size → AreLengths (cost k) (nth us) (nth vs) (nth to) (nth owner) (nth keys) (nth lengths) k.size (nth to i) → IsTold (x + at2 slacks i j + nth lengths j) r → IsLeastWith k i j (told r)
+least_told k us vs to owner keys lengths slacks x i j r few li lj p s h is = elim (leb_tells 255 (cost k i j)) [
+  | inl w ↦ subst (λ o. IsLeastWith k i j o) (sym (told_none r (is.1 (far w.1)))) (least_none (IsTotalWith k i j) (λ y t. (let m : cost k i (t.0 i) < 255 = t.1.exists i li in let z : cost k i (t.0 i) ≡ cost k i j = ap (cost k i) t.2 in let n : 255 ≤ cost k i j = w.1 in omega arith)))
+  | inr w ↦ there w.1 (leb_tells (x + at2 slacks i j + nth lengths j) 4064)
+]
+  where
+    sh : IsShown (cost k) (nth us) (nth vs) (nth to) (nth owner) k.size
+    sh = shown_by k us vs to owner x few p
+
+    far : 255 ≤ cost k i j → 4064 < x + at2 slacks i j + nth lengths j
+    far n = elim (leb_tells 65535 (at2 slacks i j)) [
+      | inl w ↦ (let m : 65535 ≤ at2 slacks i j = w.1 in omega arith)
+      | inr w ↦ absurd (let e : cost k i j < 255 = (s i j li (omega arith)).1 w.1 in omega arith)
+    ]
+
+    there : cost k i j < 255 → ((leb (x + at2 slacks i j + nth lengths j) 4064 ≡ true) × (x + at2 slacks i j + nth lengths j ≤ 4064)) ⊎ ((leb (x + at2 slacks i j + nth lengths j) 4064 ≡ false) × (4064 < x + at2 slacks i j + nth lengths j)) → IsLeastWith k i j (told r)
+    there e (inl w) =
+        let d : at2 slacks i j + nth us i ≡ nth vs j + cost k i j = (s i j li (omega arith)).0 e in
+        let small : x + at2 slacks i j + nth lengths j ≤ 4064 = w.1 in
+        let z : r ≡ x + at2 slacks i j + nth lengths j = is.0 small in
+        subst (λ o. IsLeastWith k i j o) (sym (told_some r (λ y. omega arith))) (shown_some (cost k) (nth us) (nth vs) (nth to) (nth owner) (nth keys) (nth lengths) k.size i j x r li lj e p.value.1 p.paid (omega arith) (omega arith) sh h)
+    there e (inr w) =
+        let d : at2 slacks i j + nth us i ≡ nth vs j + cost k i j = (s i j li (omega arith)).0 e in
+        let big : 4064 < x + at2 slacks i j + nth lengths j = w.1 in
+        subst (λ o. IsLeastWith k i j o) (sym (told_none r (is.1 big))) (shown_none (cost k) (nth us) (nth vs) (nth to) (nth owner) (nth keys) (nth lengths) k.size i j x few li lj p.paid (omega arith) sh h)
+
+-- ---- all rows
+pub rows_next : (k : Costs) (out : List (List ℕ)) (row : List ℕ) (i m : ℕ) → m ≡ i + 1 → i < length out → ((j : ℕ) → j < k.size → IsLeastWith k i j (told (nth row j))) → AreLeastWith k out i → AreLeastWith k (set out i row) m
+rows_next k out row i m e low here before = λ a j l h. elim (eqb_tells a i) [
+  | inl w ↦ subst (λ (b : ℕ). IsLeastWith k b j (told (at2 (set out i row) b j))) (sym w.1) (subst (λ (x : List ℕ). IsLeastWith k i j (told (nth x j))) (sym (get_or-set_same out i row [] low)) (here j h))
+  | inr w ↦ (let ne : a ≢ i = w.1 in subst (λ (x : List ℕ). IsLeastWith k a j (told (nth x j))) (sym (get_or-set_other out i a row [] ne)) (before a j (omega arith) h))
+]
+
+-- each pair by itself
+pub number_none : (k : Costs) (i j : ℕ) (o : Option ℕ) → o ≡ None → IsLeastWith k i j o → IsLeastWith k i j (told 65535)
+number_none k i j o e h = subst (λ p. IsLeastWith k i j p) (e ∙ sym (told_none 65535 refl)) h
+
+pub number_some : (k : Costs) (i j x : ℕ) (o : Option ℕ) → k.size ≤ 16 → o ≡ Some x → IsLeastWith k i j o → IsLeastWith k i j (told x)
+number_some k i j x o few e h =
+    let t : IsTotalWith k i j x = some_holds (IsTotalWith k i j) x (subst (λ p. IsLeastWith k i j p) e h) in
+    let l : x ≤ 254 * k.size = total_low (cost k) (Below k.size) k.size x (t.0, t.1, t.3) in
+    subst (λ p. IsLeastWith k i j p) (e ∙ sym (told_some x (λ z. omega arith))) h
+
+pub row_next : (k : Costs) (i : ℕ) (out : List ℕ) (j m x : ℕ) → m ≡ j + 1 → j < length out → IsLeastWith k i j (told x) → RowLeast k i out j → RowLeast k i (set out j x) m
+row_next k i out j m x e low here before = λ q l. elim (eqb_tells q j) [
+  | inl w ↦ subst (λ (b : ℕ). IsLeastWith k i b (told (nth (set out j x) b))) (sym w.1) (subst (λ (y : ℕ). IsLeastWith k i j (told y)) (sym (get_or-set_same out j x 0 low)) here)
+  | inr w ↦ (let ne : q ≢ j = w.1 in subst (λ (y : ℕ). IsLeastWith k i q (told y)) (sym (get_or-set_other out j q x 0 ne)) (before q (omega arith)))
+]
+
+-- ---- no assignment at all
+abbrev pub none_row : List ℕ
+none_row = 65535 ∷ 65535 ∷ 65535 ∷ 65535 ∷ 65535 ∷ 65535 ∷ 65535 ∷ 65535 ∷ 65535 ∷ 65535 ∷ 65535 ∷ 65535 ∷ 65535 ∷ 65535 ∷ 65535 ∷ 65535 ∷ []
+
+none_row_at : (j : ℕ) → j < 16 → get_or none_row j 0 ≡ 65535
+none_row_at zero l = refl
+none_row_at (suc zero) l = refl
+none_row_at (suc (suc zero)) l = refl
+none_row_at (suc (suc (suc zero))) l = refl
+none_row_at (suc (suc (suc (suc zero)))) l = refl
+none_row_at (suc (suc (suc (suc (suc zero))))) l = refl
+none_row_at (suc (suc (suc (suc (suc (suc zero)))))) l = refl
+none_row_at (suc (suc (suc (suc (suc (suc (suc zero))))))) l = refl
+none_row_at (suc (suc (suc (suc (suc (suc (suc (suc zero)))))))) l = refl
+none_row_at (suc (suc (suc (suc (suc (suc (suc (suc (suc zero))))))))) l = refl
+none_row_at (suc (suc (suc (suc (suc (suc (suc (suc (suc (suc zero)))))))))) l = refl
+none_row_at (suc (suc (suc (suc (suc (suc (suc (suc (suc (suc (suc zero))))))))))) l = refl
+none_row_at (suc (suc (suc (suc (suc (suc (suc (suc (suc (suc (suc (suc zero)))))))))))) l = refl
+none_row_at (suc (suc (suc (suc (suc (suc (suc (suc (suc (suc (suc (suc (suc zero))))))))))))) l = refl
+none_row_at (suc (suc (suc (suc (suc (suc (suc (suc (suc (suc (suc (suc (suc (suc zero)))))))))))))) l = refl
+none_row_at (suc (suc (suc (suc (suc (suc (suc (suc (suc (suc (suc (suc (suc (suc (suc zero))))))))))))))) l = refl
+none_row_at (suc (suc (suc (suc (suc (suc (suc (suc (suc (suc (suc (suc (suc (suc (suc (suc n)))))))))))))))) l = absurd (omega arith)
+
+abbrev pub none_rows : List (List ℕ)
+none_rows = none_row ∷ none_row ∷ none_row ∷ none_row ∷ none_row ∷ none_row ∷ none_row ∷ none_row ∷ none_row ∷ none_row ∷ none_row ∷ none_row ∷ none_row ∷ none_row ∷ none_row ∷ none_row ∷ []
+
+none_rows_at : (i : ℕ) → i < 16 → get_or none_rows i [] ≡ none_row
+none_rows_at zero l = refl
+none_rows_at (suc zero) l = refl
+none_rows_at (suc (suc zero)) l = refl
+none_rows_at (suc (suc (suc zero))) l = refl
+none_rows_at (suc (suc (suc (suc zero)))) l = refl
+none_rows_at (suc (suc (suc (suc (suc zero))))) l = refl
+none_rows_at (suc (suc (suc (suc (suc (suc zero)))))) l = refl
+none_rows_at (suc (suc (suc (suc (suc (suc (suc zero))))))) l = refl
+none_rows_at (suc (suc (suc (suc (suc (suc (suc (suc zero)))))))) l = refl
+none_rows_at (suc (suc (suc (suc (suc (suc (suc (suc (suc zero))))))))) l = refl
+none_rows_at (suc (suc (suc (suc (suc (suc (suc (suc (suc (suc zero)))))))))) l = refl
+none_rows_at (suc (suc (suc (suc (suc (suc (suc (suc (suc (suc (suc zero))))))))))) l = refl
+none_rows_at (suc (suc (suc (suc (suc (suc (suc (suc (suc (suc (suc (suc zero)))))))))))) l = refl
+none_rows_at (suc (suc (suc (suc (suc (suc (suc (suc (suc (suc (suc (suc (suc zero))))))))))))) l = refl
+none_rows_at (suc (suc (suc (suc (suc (suc (suc (suc (suc (suc (suc (suc (suc (suc zero)))))))))))))) l = refl
+none_rows_at (suc (suc (suc (suc (suc (suc (suc (suc (suc (suc (suc (suc (suc (suc (suc zero))))))))))))))) l = refl
+none_rows_at (suc (suc (suc (suc (suc (suc (suc (suc (suc (suc (suc (suc (suc (suc (suc (suc n)))))))))))))))) l = absurd (omega arith)
+
+pub none_with : (k : Costs) → k.size ≤ 16 → IsLeastTotal k None → AreLeastWith k none_rows k.size
+none_with k few h = λ i j l m.
+    let e : at2 none_rows i j ≡ 65535 = ap (λ r. get_or r j 0) (none_rows_at i (omega arith)) ∙ none_row_at j (omega arith) in
+    subst (λ o. IsLeastWith k i j o) (sym (told_none (at2 none_rows i j) e)) (least_none (IsTotalWith k i j) (λ y t. none_holds (IsTotal (cost k) (Below k.size) k.size) h y (t.0, t.1, t.3)))

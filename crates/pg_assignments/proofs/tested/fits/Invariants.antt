@@ -1,0 +1,6 @@
+use Rattle.pg_assignments.specs.Assignments.{cost, nth}
+use Rattle.pg_assignments.specs.Dual.{Fits}
+use Rattle.pg_assignments.proofs.tested.fits.Given as goal
+
+abbrev pub invariant-loop-i : goal.invariant-loop-i
+invariant-loop-i l = Fits (cost l.costs) (nth l.rows) (nth l.columns) l.i 16

@@ -1,0 +1,13 @@
+use Rattle.std.proofs.Common.{sym, arith}
+use Rattle.pg_assignments.specs.Assignments.{nth}
+use Rattle.pg_board.specs.lemmas.Sums.{total-none, total-more}
+use Rattle.pg_assignments.proofs.tested.sum.Goals as goal
+
+pub loop-i-init : goal.loop-i-init
+loop-i-init c = record { is = sym (total-none (nth c.args.row.now)); low = omega arith }
+
+pub loop-i-preserved : goal.loop-i-preserved
+loop-i-preserved c = record {
+  is = omega (arith, c.loop-i.invariant.is, c.from-sum.ensures, total-more (nth c.args.row.now) c.loop-i.i);
+  low = omega (arith, c.loop-i.invariant.low, c.from-sum.ensures, c.type_inv.row);
+}

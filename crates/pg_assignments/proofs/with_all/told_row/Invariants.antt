@@ -1,0 +1,6 @@
+use Rattle.std.proofs.Common.{◌≡◌, length}
+use Rattle.pg_assignments.specs.Handing.{AreTold}
+use Rattle.pg_assignments.proofs.with_all.told_row.Given as goal
+
+abbrev pub invariant-loop-q : goal.invariant-loop-q
+invariant-loop-q l = record { long : length l.out ≡ 16; is : AreTold l.x l.slack l.lengths l.out l.q }

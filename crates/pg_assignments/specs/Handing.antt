@@ -1,0 +1,87 @@
+-- What shows the least totals of assignments that have a row at a column. Where row i leaves its column t for a column q, the owner
+-- of q takes another one, and so on, until t is taken: a way of handing columns on, with a length for each q and t.
+use Rattle.std.specs.Prelude.{◌≡◌, ◌≢◌, ℕ, ◌+◌, ◌*◌, ◌<◌, ◌≤◌, List, [], get_or}
+use Rattle.pg_assignments.specs.declared.costs.Costs.{Costs}
+use Rattle.pg_assignments.specs.declared.propose.Proposal.{Proposal}
+use Rattle.pg_board.specs.Tally.{total}
+use Rattle.pg_assignments.specs.Assignments.{cost, Below, IsAssignment, nth, at2}
+use Rattle.pg_assignments.specs.Dual.{Fits, IsValue}
+
+-- what shows that the assignment `to` is a least one: prices u of rows and v of columns that fit, and who owns each column
+pub record IsShown (c : ℕ → ℕ → ℕ) (u v to owner : ℕ → ℕ) (n : ℕ) : Type 0 where
+  pub fits : (a q : ℕ) → a < n → q < n → c a q < 255 → u a ≤ v q + c a q
+  pub is : IsAssignment c (Below n) n to
+  pub owned : (q : ℕ) → q < n → owner q < n
+  pub owners : (q : ℕ) → q < n → to (owner q) ≡ q
+
+-- the first n numbers are below m
+abbrev pub AreWithin : List ℕ → ℕ → ℕ → Type 0
+AreWithin xs n m = (q : ℕ) → q < n → nth xs q < m
+
+-- H q is the least length of a way from q to t: no step leads to a shorter one, and each length up to 4064 has a first step p that
+-- leads on. K q is sixteen times the length and one more for each step, so that each step leads nearer also where it costs nothing
+pub record AreLengths (c : ℕ → ℕ → ℕ) (u v to owner K H : ℕ → ℕ) (n t : ℕ) : Type 0 where
+  pub none : H t ≡ 0
+  pub lower : (a q : ℕ) → a < n → q < n → c a q < 255 → u a + H (to a) ≤ v q + H q + c a q
+  pub upper : (q : ℕ) → q < n → q ≢ t → K q ≤ 65039 → (p : ℕ) × (p < n) × (c (owner q) p < 255) × (16 * (v p + c (owner q) p) + K p + 1 ≤ K q + 16 * u (owner q))
+  pub rounded : (q : ℕ) → q < n → (16 * H q ≤ K q) × (K q < 16 * H q + 16)
+
+-- the slack: by how much a row's price is below a column's price and the cost of the pair; 65535 where there is no cost
+abbrev pub IsSlackRow : List ℕ → ℕ → List ℕ → List ℕ → ℕ → Type 0
+IsSlackRow costs price columns slack m = (q : ℕ) → q < m → (nth costs q < 255 → nth slack q + price ≡ nth columns q + nth costs q) × (nth slack q < 65535 → nth costs q < 255)
+
+-- the same for the first n rows
+abbrev pub IsSlack : (ℕ → ℕ → ℕ) → (ℕ → ℕ) → (ℕ → ℕ) → List (List ℕ) → ℕ → Type 0
+IsSlack c u v slacks n = (a q : ℕ) → a < n → q < 16 → (c a q < 255 → at2 slacks a q + u a ≡ v q + c a q) × (at2 slacks a q < 65535 → c a q < 255)
+
+-- a length is at most each other one and the slack of a step there
+abbrev pub RowCloses : ℕ → List ℕ → List ℕ → ℕ → Type 0
+RowCloses length slack lengths m = (q : ℕ) → q < m → length ≤ nth lengths q + nth slack q
+
+-- the same for each row's own column
+abbrev pub Closes : List (List ℕ) → List ℕ → List ℕ → ℕ → Type 0
+Closes slacks to lengths n = (a q : ℕ) → a < n → q < 16 → nth lengths (nth to a) ≤ nth lengths q + at2 slacks a q
+
+-- p is a column below n that leads on
+abbrev pub StepsOn : ℕ → List ℕ → ℕ → List ℕ → ℕ → Type 0
+StepsOn n slack key keys p = (p < n) × (16 * nth slack p + nth keys p + 1 ≤ key)
+
+-- each column below m but t, where its key tells a length up to 4064, has such a column
+abbrev pub Reaches : List (List ℕ) → List ℕ → List ℕ → ℕ → ℕ → ℕ → Type 0
+Reaches slacks owner keys n t m = (q : ℕ) → q < m → q ≢ t → nth keys q ≤ 65039 → (p : ℕ) × StepsOn n (get_or slacks (nth owner q) []) (nth keys q) keys p
+
+-- the sixteenth part of each number
+abbrev pub IsRounded : List ℕ → List ℕ → ℕ → Type 0
+IsRounded keys lengths m = (q : ℕ) → q < m → (16 * nth lengths q ≤ nth keys q) × (nth keys q < 16 * nth lengths q + 16)
+
+-- the owner of each column below m, a row below n, goes there
+abbrev pub IsOwned : List ℕ → List ℕ → ℕ → ℕ → Type 0
+IsOwned to owner n m = (q : ℕ) → q < m → (nth owner q < n) × (nth to (nth owner q) ≡ q)
+
+-- a sum up to 4064, and 65535 where it is more
+abbrev pub IsTold : ℕ → ℕ → Type 0
+IsTold sum x = (sum ≤ 4064 → x ≡ sum) × (4064 < sum → x ≡ 65535)
+
+-- the totals of a row's pairs
+abbrev pub AreTold : ℕ → List ℕ → List ℕ → List ℕ → ℕ → Type 0
+AreTold x slack lengths out m = (q : ℕ) → q < m → IsTold (x + nth slack q + nth lengths q) (nth out q)
+
+-- what is proved of a proposal whose assignment has the sum x
+pub record IsProved (k : Costs) (rows columns to owner : List ℕ) (x : ℕ) : Type 0 where
+  pub fits : Fits (cost k) (nth rows) (nth columns) k.size 16
+  pub low : AreWithin columns 16 32768
+  pub value : IsValue k to x
+  pub paid : x + total (nth columns) k.size ≤ total (nth rows) k.size
+  pub owned : IsOwned to owner k.size k.size
+
+-- the same of a proposal as it stands
+abbrev pub IsProvedOf : Costs → Proposal → ℕ → Type 0
+IsProvedOf k p x = IsProved k p.rows p.columns p.to p.holder x
+
+-- the slacks by the prices of a proposal
+abbrev pub IsSlackOf : Costs → Proposal → List (List ℕ) → Type 0
+IsSlackOf k p slacks = IsSlack (cost k) (nth p.rows) (nth p.columns) slacks k.size
+
+-- the lengths of the ways to column t by a proposal
+abbrev pub AreLengthsOf : Costs → Proposal → List ℕ → List ℕ → ℕ → Type 0
+AreLengthsOf k p keys lengths t = AreLengths (cost k) (nth p.rows) (nth p.columns) (nth p.to) (nth p.holder) (nth keys) (nth lengths) k.size t

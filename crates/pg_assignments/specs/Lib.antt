@@ -1,0 +1,6 @@
+pub mod Assignments
+pub mod Search
+pub mod Dual
+pub mod Pinned
+pub mod Handing
+pub mod Totals

@@ -1,0 +1,15 @@
+//! Least totals of assignments, exactly: each row gets a column of its own.
+#![tactic(auto)]
+
+mod costs;
+mod exact;
+mod propose;
+mod tested;
+mod totals;
+mod with;
+mod with_all;
+
+pub use costs::{Costs, NONE};
+pub use tested::least_total;
+pub use totals::{LeastTotals, least_totals};
+pub use with_all::least_with_all;
