@@ -369,17 +369,16 @@ def edits_of(name, after_ci):
 
 
 def wanted(words, crates, after_ci):
-    """The edits that the words name, by their crates' names, or None where a word names none."""
-    found = {}
-    for word in words or [it.name for it in crates]:
+    """The edits that the words name, by their crates' names, or None where a word names no crate and no edit."""
+    found, names = {}, [it.name for it in crates]
+    for word in words or names:
         at = os.path.abspath(word)
         is_edit = word.endswith(".edit") and os.path.isfile(at)
         name = os.path.basename(os.path.dirname(at.replace("/must-fail/", "/"))) if is_edit else word
-        files = [at] if is_edit else edits_of(name, after_ci)
-        if words and (not files or name not in [it.name for it in crates]):
-            print(f"try-edits: {word} is no crate with edits and no edit", file=sys.stderr)
+        if name not in names:
+            print(f"try-edits: {word} is no crate and no edit of one", file=sys.stderr)
             return None
-        found.setdefault(name, []).extend(files)
+        found.setdefault(name, []).extend([at] if is_edit else edits_of(name, after_ci))
     return {name: files for name, files in found.items() if files}
 
 
@@ -412,7 +411,7 @@ def main(words):
     rtlib.guarded()
     crates = sorted(rtlib.crates_below(os.getcwd()), key=lambda it: len(it.below()))
     files = wanted(words, crates, after_ci)
-    if not files:
+    if files is None:
         return 2
     given = rt.in_lanes(tasks_of(crates, files, after_ci))
     failed = sorted(name for name, what in given if what == "edits" and not given[name, what])
