@@ -236,7 +236,7 @@ class Tries:
     """The tries of a crate's edits, in a room of their own."""
 
     def __init__(self, crate, files, room):
-        self.crate, self.kept, self.has_kept = copy.copy(crate), f"{room}/rt-edits-kept", False
+        self.crate, self.kept = copy.copy(crate), f"{room}/rt-edits-kept"
         self.crate.folder = f"{room}/crate"
         for part in rtlib.PARTS:
             if os.path.isdir(f"{crate.folder}/{part}"):
@@ -254,7 +254,6 @@ class Tries:
                  for path, source in self.sources.items() if any(file == path for file, _ in bodies)}
         flags = [word for path in sorted(only) for word in ("--only", path)]
         self.checks += 1
-        self.has_kept = True
         return Said(self.crate, rt.checked(self.crate, texts, ONE_JOB + flags, self.kept), texts)
 
     def in_company(self, company):
@@ -292,12 +291,12 @@ class Tries:
         self.refused_names |= {name for (name,) in names}
 
     def alone(self, edit):
-        """Tries an edit as `rt must-fail` does."""
+        """Tries an edit as `rt must-fail` does. Returns whether it was refused."""
+        refused, text = rt.must_fail(self.crate, edit.file, ONE_JOB, self.kept)
         self.checks += 1
-        refused, text = rt.must_fail(self.crate, edit.file, ONE_JOB, self.kept if self.has_kept else None)
-        if not refused and self.has_kept:
-            self.checks += 1
+        if not refused:
             refused, text = rt.must_fail(self.crate, edit.file, ONE_JOB)
+            self.checks += 1
         text = text.partition(f"{edit.name}: ")[2]
         self.told[edit] = f"refused alone ({edit.why}): {text.partition('it must be')[2].lstrip(': ')}" if refused else text
         return refused
@@ -308,9 +307,9 @@ class Tries:
             self.in_company(company)
         alone = [edit for edit in self.edits if edit not in self.told]
         failed = sum(not self.alone(edit) for edit in alone)
-        # (what was tried alone began with what the others' checks kept, so the whole crate has to be proved over that)
+        # (what was tried alone began with what the checks before it kept, so the whole crate has to be proved over that)
         is_trusted = is_proved and not alone and not self.lacks_controls
-        if self.has_kept and not is_trusted and self.check({}, () if alone else self.refused_names).status:
+        if not is_trusted and self.check({}, () if alone else self.refused_names).status:
             self.told = {edit: "NOT TRIED: the crate is not proved without edits" for edit in self.edits}
             return len(self.edits)
         return failed
