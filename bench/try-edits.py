@@ -1,6 +1,6 @@
 #!/usr/bin/env python3
 """Tries the wrong edits of crates, many at a time: edits of different functions stand in company in one copy of their crate, and one
-check tells of each. At the top of the repository:
+check tells of each.
 
   bench/try-edits.py [CRATE | EDIT] ..   the edits of these crates, those of crates/CRATE/must-fail and of more-edits/CRATE, or
                                          these files; with none given, all edits of all crates
@@ -35,6 +35,7 @@ import os
 import re
 import resource
 import shutil
+import signal
 import subprocess
 import sys
 import tempfile
@@ -330,6 +331,14 @@ def companies(edits):
 # ------------------------------------------------------------------------------------------------ the repository
 
 
+def take_room():
+    """Makes a folder for temporary files, those of the kit's `rt` too. A shell removes it once this process ends, however it ends."""
+    tempfile.tempdir = tempfile.mkdtemp(prefix="try-edits-")
+    words = ["sh", "-c", 'read _; sleep 1; rm -rf "$0"', tempfile.tempdir]
+    subprocess.Popen(words, stdin=os.pipe()[0], stdout=subprocess.DEVNULL, stderr=subprocess.DEVNULL, start_new_session=True)
+    signal.signal(signal.SIGINT, signal.SIG_DFL)
+
+
 def try_crate(crate, files, is_proved):
     """Tries these edits of a crate and prints what came of each. Returns whether all were refused."""
     began = time.time()
@@ -371,51 +380,54 @@ def wanted(words, crates, after_ci):
     """The edits that the words name, by their crates' names, or None where a word names no crate and no edit."""
     found, names = {}, [it.name for it in crates]
     for word in words or names:
-        at = os.path.abspath(word)
-        is_edit = word.endswith(".edit") and os.path.isfile(at)
-        name = os.path.basename(os.path.dirname(at.replace("/must-fail/", "/"))) if is_edit else word
+        is_edit = word.endswith(".edit") and os.path.isfile(word)
+        name = os.path.basename(os.path.dirname(word.replace("/must-fail/", "/"))) if is_edit else word
         if name not in names:
             print(f"try-edits: {word} is no crate and no edit of one", file=sys.stderr)
             return None
-        found.setdefault(name, []).extend([at] if is_edit else edits_of(name, after_ci))
+        found.setdefault(name, []).extend([word] if is_edit else edits_of(name, after_ci))
     return {name: files for name, files in found.items() if files}
 
 
 def tasks_of(crates, files, after_ci):
     """What is to be done, as the kit's `rt` does it side by side: the libraries that have to be built, and each crate's tries."""
     tried = [crate for crate in crates if crate.name in files]
-    below = {it.name: it for crate in tried for it in crate.below()}
-    built = after_ci and all(is_of_ci(it) for it in below.values())
+    below = {it.name for crate in tried for it in crate.below()}
+    is_of_run = after_ci and all(is_of_ci(it) for it in crates if it.name in below)
     tasks = {}
-    for it in crates:
-        waits = [] if built else [(dep.name, "library") for dep in it.below()]
-        lines, needs = it.count(rb"\n"), rt.need(it)
-        if it.name in below and not built:
-            tasks[it.name, "library"] = waits, lines, needs, lambda given, jobs, it=it: all(
-                given[dep.name, "library"] for dep in it.below()) and build(it, jobs)
-        if it in tried:
-            tasks[it.name, "edits"] = waits, lines, needs, lambda given, jobs, it=it, waits=waits: all(
-                given[key] for key in waits) and try_crate(it, files[it.name], after_ci)
+
+    def add(crate, what, work):
+        waits = [] if is_of_run else [(dep.name, "library") for dep in crate.below()]
+        call = lambda given, jobs: all(given[key] for key in waits) and work(jobs)
+        tasks[crate.name, what] = waits, crate.count(rb"\n"), rt.need(crate), call
+
+    for crate in crates:
+        if crate.name in below and not is_of_run:
+            add(crate, "library", lambda jobs, crate=crate: build(crate, jobs))
+        if crate in tried:
+            add(crate, "edits", lambda jobs, crate=crate: try_crate(crate, files[crate.name], after_ci))
     return tasks
 
 
 def main(words):
     after_ci, began = words == ["--after-ci"], time.time()
+    words = [os.path.abspath(word) if word.endswith(".edit") else word for word in words if not after_ci]
+    os.chdir(os.path.dirname(os.path.dirname(os.path.realpath(__file__))))
     if words == ["--test"]:
         return test()
-    words = [] if after_ci else words
     if any(word.startswith("-") for word in words):
         print(__doc__, file=sys.stderr)
         return 2
-    rtlib.guarded()
     crates = sorted(rtlib.crates_below(os.getcwd()), key=lambda it: len(it.below()))
     files = wanted(words, crates, after_ci)
     if files is None:
         return 2
+    take_room()
+    rtlib.guarded()
     given = rt.in_lanes(tasks_of(crates, files, after_ci))
     failed = sorted(name for name, what in given if what == "edits" and not given[name, what])
     used = resource.getrusage(resource.RUSAGE_CHILDREN)
-    print(f"{sum(map(len, files.values()))} edits of {len(files)} crates, {'all refused' if not failed else 'NOT ALL REFUSED: ' + ' '.join(failed)}; "
+    print(f"{sum(map(len, files.values()))} edits of {len(files)} crates, {'FAILED: ' + ' '.join(failed) if failed else 'all refused'}; "
           f"{(used.ru_utime + used.ru_stime) / 60:.1f} minutes of a core, in {(time.time() - began) / 60:.1f} minutes")
     return 1 if failed else 0
 
@@ -438,17 +450,19 @@ CONTROLS = (
 
 def test():
     """Tries the controls in a copy of their crate. Returns 0 where each comes out as it must."""
+    take_room()
     name = "pg_price_lists"
     with tempfile.TemporaryDirectory(prefix="try-edits-test-") as top:
         shutil.copytree(f"crates/{name}", f"{top}/crates/{name}", ignore=shutil.ignore_patterns("out", "must-fail"))
-        os.makedirs(f"{top}/more-edits/{name}")
-        os.mkdir(f"{top}/.git")
+        for folder in (f"more-edits/{name}", "bench", ".git"):
+            os.makedirs(f"{top}/{folder}")
+        shutil.copy(os.path.realpath(__file__), f"{top}/bench/try-edits.py")
         with open(f"{top}/crates.txt", "w") as it:
             it.write(f"{name}:\n")
         for edit, old, new, _ in CONTROLS:
             with open(f"{top}/more-edits/{name}/{edit}.edit", "w") as it:
                 it.write(f"file: {SOURCE}\nold: {old}\nnew: {new}\n")
-        ran = subprocess.run([sys.executable, os.path.realpath(__file__)], cwd=top, capture_output=True, text=True)
+        ran = subprocess.run([sys.executable, f"{top}/bench/try-edits.py"], capture_output=True, text=True)
     wrong = [edit for edit, _, _, wanted in CONTROLS if f"\n{name}/{edit}.edit: {wanted}" not in f"\n{ran.stdout}"]
     if wrong or ran.returncode != 1:
         print(f"{ran.stdout}{ran.stderr}try-edits: not as it should be: {' '.join(wrong) or ran.returncode}", file=sys.stderr)
