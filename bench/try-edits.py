@@ -434,17 +434,17 @@ def main(words):
 
 # ------------------------------------------------------------------------------------------------ the test
 
-# Edits of pg_price_lists, and how what is said of each begins: one of the same meaning, which calls a wrong one, three that cannot be read,
-# one of a contract, and two wrong bodies.
+# Edits of pg_price_lists in the order of their names, and how what is said of each begins: a body of the same meaning, which calls a wrong
+# one beside it, two wrong ones, a contract, and three that cannot be read, which are not in the first half.
 SOURCE = "src/prices.rt"
 CONTROLS = (
-    ("same_meaning", "            ways: 1,", "            ways: 2 - 1,", "NOT REFUSED: "),
-    ("type_error", "self.targets = v.len();", "self.targets = v;", "BAD EDIT: "),
-    ("unknown_field", "            self.ways = 3;", "            self.paths = 3;", "BAD EDIT: "),
-    ("syntax_error", "&self.second.u[..self.sources]", "&self.second.u[..self.sources", "BAD EDIT: "),
+    ("body_of_the_same_meaning", "            ways: 1,", "            ways: 2 - 1,", "NOT REFUSED: "),
+    ("body_that_is_called", "fill(&mut row, u, v);", "fill(&mut row, u, u);", "refused in company: prices::filled: "),
+    ("body_that_is_wrong", "&self.second.v[..self.targets]", "&self.first.v[..self.targets]", "refused in company: prices::Prices::v: "),
     ("contract", "(0 < result) × (result ≤ 3)", "(0 < result) × (result ≤ 2)", "refused alone (it changes more than bodies): "),
-    ("wrong_below", "fill(&mut row, u, v);", "fill(&mut row, u, u);", "refused in company: prices::filled: "),
-    ("wrong", "&self.second.v[..self.targets]", "&self.first.v[..self.targets]", "refused in company: prices::Prices::v: "),
+    ("field", "            self.ways = 3;", "            self.paths = 3;", "BAD EDIT: "),
+    ("syntax", "&self.second.u[..self.sources]", "&self.second.u[..self.sources", "BAD EDIT: "),
+    ("type", "self.targets = v.len();", "self.targets = v;", "BAD EDIT: "),
 )
 
 
