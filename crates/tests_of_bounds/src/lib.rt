@@ -1,4 +1,4 @@
-//! Tests of what no contract of `pg_assignments`, `pg_captures`, `pg_pawns`, `pg_travel` and `pg_prices` says. They stand apart,
+//! Tests of what no contract of `pg_assignments`, `pg_captures`, `pg_pawns`, `pg_travel`, `pg_journeys` and `pg_prices` says. They stand apart,
 //! since a crate that has tests is proved twice, without them and with them.
 #![tactic(auto)]
 
@@ -6,6 +6,8 @@
 mod assignments;
 #[cfg(test)]
 mod captures;
+#[cfg(test)]
+mod journeys;
 #[cfg(test)]
 mod pawns;
 #[cfg(test)]

@@ -1,0 +1,120 @@
+-- A search backwards from goals: who steps to a man, and the counts of paths that it ends with.
+use Rattle.std.proofs.Common.{◌≡◌, ◌≢◌, ℕ, ◌+◌, ◌<◌, ◌≤◌, ◌⊎◌, inl, inr, Bool, true, false, not, ◌&&◌, cond, List, [], ◌∷◌, replicate, refl, sym, ap, subst, arith, ◌∙◌}
+use Rattle.pg_board.specs.Bits.{has}
+use Rattle.pg_board.specs.declared.man.Color.{Color}
+use Rattle.pg_board.specs.declared.man.Kind.{Kind}
+use Rattle.pg_board.specs.declared.man.Kind.TheVariants.{Pawn}
+use Rattle.pg_board.specs.SquareSets.{IsSetOf}
+use Rattle.pg_captures.specs.FreeSteps.{Becomes}
+use Rattle.pg_journeys.specs.Facts.{Facts}
+use Rattle.pg_journeys.specs.Journeys.{Leg, IsLeg, IsPath}
+use Rattle.pg_journeys.specs.lemmas.DecidingPaths.{weigh}
+use Rattle.pg_journeys.specs.lemmas.Turns.{leg}
+use Rattle.pg_journeys.specs.inner.Grounds.{Pushes, Captures}
+use Rattle.pg_journeys.specs.inner.Counts.{of_kind, count_at}
+use Rattle.pg_journeys.specs.inner.Counting.{counts, AreCountsTo}
+use Rattle.pg_journeys.specs.inner.Fronts.{OnSet, IsMeeting, is_met, HasAdvanced, NoneDue}
+use Rattle.pg_journeys.specs.inner.Levels.{IsOpen, IsBackLevel, IsBackStage, IsWhole, BackStart, BackStep, BackWithin}
+use Rattle.pg_journeys.specs.declared.distances.Front.{Front}
+use Rattle.pg_journeys.proofs.FrontLemmas.{kind_or, moved, none_at, meeting_none, meeting_as, meeting_then}
+use Rattle.pg_journeys.proofs.LevelLemmas.{stage_first, stage_open, stage_level, level_end, whole_idle, whole_end}
+use Rattle.pg_journeys.proofs.StepLemmas.{leg_turn, stays_kind, leg_into, light_step, piece_counts, push_takes_not, capture_takes, quiet_counts, taking_flips, files_or}
+
+module _ (f : Facts) (c : Color) (quiet : Bool) where
+  -- ---- who steps to a man
+  from_piece : (k j : Kind) (s t w : ℕ) → k ≢ Pawn → j ≡ k → IsLeg f c (leg k s k t) → w ≡ cond (not (quiet && f.lands c s)) 1 0 → (j ≢ Pawn) × BackStep f c quiet k s j t w
+  from_piece k j s t w ne e is count = subst (λ (i : Kind). (i ≢ Pawn) × BackStep f c quiet k s i t w) (sym e) (ne, (leg_turn f c k s t ne is, count ∙ piece_counts f c quiet k k t s ne))
+
+  to_piece : (k j : Kind) (s t w : ℕ) → k ≢ Pawn → j ≡ k → BackStep f c quiet k s j t w → IsLeg f c (leg k s k t) × (w ≡ cond (not (quiet && f.lands c s)) 1 0)
+  to_piece k j s t w ne e is =
+      let mine : BackStep f c quiet k s k t w = subst (λ (i : Kind). BackStep f c quiet k s i t w) e is in
+      (leg_turn f c k t s ne mine.0, mine.1 ∙ sym (piece_counts f c quiet k k t s ne))
+
+  pub pieces_back : (k : Kind) (s set : ℕ) (b : Bool) (old new : Front) → k ≢ Pawn → IsSetOf set (λ t. IsLeg f c (leg k s k t)) → b ≡ not (quiet && f.lands c s) →
+      IsMeeting (OnSet k set b) old new → IsMeeting (λ j t w. (j ≢ Pawn) × BackStep f c quiet k s j t w) old new
+  pieces_back k s set b old new ne is flag m = meeting_as (OnSet k set b) (λ j t w. (j ≢ Pawn) × BackStep f c quiet k s j t w) old new
+      (λ j t w l (e, on, count). from_piece k j s t w ne e ((is t l).0 on) (count ∙ ap (λ (x : Bool). cond x 1 0) flag))
+      (λ j t w l (nj, step).
+      (let same : k ≡ j = stays_kind c j k s nj step.0.free.3 in
+      let back = to_piece k j s t w ne (sym same) step in
+      (sym same, (is t l).1 back.0, back.1 ∙ ap (λ (x : Bool). cond x 1 0) (sym flag))))
+      m
+
+  pub no_pieces_back : (k : Kind) (s : ℕ) (old : Front) → k ≡ Pawn → IsMeeting (λ j t w. (j ≢ Pawn) × BackStep f c quiet k s j t w) old old
+  no_pieces_back k s old e = meeting_none (λ j t w. (j ≢ Pawn) × BackStep f c quiet k s j t w) old (λ j t w l (nj, step). nj (sym (stays_kind c j k s nj step.0.free.3) ∙ e))
+
+  pub pawns_back : (k : Kind) (s pushed captured : ℕ) (old mid new : Front) → Becomes c Pawn s k → IsSetOf pushed (λ r. Pushes f c r s) → IsSetOf captured (λ r. Captures f c r s) →
+      IsMeeting (OnSet Pawn pushed true) old mid → IsMeeting (OnSet Pawn captured (not quiet)) mid new → IsMeeting (λ j t w. (j ≡ Pawn) × BackStep f c quiet k s j t w) old new
+  pawns_back k s pushed captured old mid new becomes push capture m n =
+      meeting_as (λ j t w. OnSet Pawn pushed true j t w ⊎ OnSet Pawn captured (not quiet) j t w) (λ j t w. (j ≡ Pawn) × BackStep f c quiet k s j t w) old new
+      (λ j t w l h. elim h [
+        | inl (e, on, count) ↦
+            (let p = (push t l).0 on in
+            (e, subst (λ (i : Kind). BackStep f c quiet k s i t w) (sym e) (leg_into f c Pawn p.0 k t s becomes p.1.0, count ∙ quiet_counts f c quiet (leg Pawn t k s) (push_takes_not f c k t s p.1.1))))
+        | inr (e, on, count) ↦
+            (let p = (capture t l).0 on in
+            (e, subst (λ (i : Kind). BackStep f c quiet k s i t w) (sym e) (leg_into f c Pawn p.0 k t s becomes p.1.0, count ∙ taking_flips f c quiet (leg Pawn t k s) (capture_takes f c k t s p.1.1))))
+      ])
+      (λ j t w l (e, step).
+      (let mine : BackStep f c quiet k s Pawn t w = subst (λ (i : Kind). BackStep f c quiet k s i t w) e step in
+      elim (files_or t s) [
+        | inl u ↦ inl (e, (push t l).1 (k, (mine.0, u)), mine.1 ∙ sym (quiet_counts f c quiet (leg Pawn t k s) (push_takes_not f c k t s u)))
+        | inr u ↦ inr (e, (capture t l).1 (k, (mine.0, u)), mine.1 ∙ sym (taking_flips f c quiet (leg Pawn t k s) (capture_takes f c k t s u)))
+      ]))
+      (meeting_then (OnSet Pawn pushed true) (OnSet Pawn captured (not quiet)) old mid new m n)
+
+  pub no_pawns_back : (k : Kind) (s : ℕ) (old : Front) → (Becomes c Pawn s k → ⊥) → IsMeeting (λ j t w. (j ≡ Pawn) × BackStep f c quiet k s j t w) old old
+  no_pawns_back k s old none = meeting_none (λ j t w. (j ≡ Pawn) × BackStep f c quiet k s j t w) old
+      (λ j t w l (e, step). none (subst (λ (i : Kind). Becomes c i s k) e step.0.free.3))
+
+  pub all_back : (k : Kind) (s : ℕ) (old mid new : Front) → IsMeeting (λ j t w. (j ≢ Pawn) × BackStep f c quiet k s j t w) old mid →
+      IsMeeting (λ j t w. (j ≡ Pawn) × BackStep f c quiet k s j t w) mid new → IsMeeting (BackStep f c quiet k s) old new
+  all_back k s old mid new m n = meeting_as (λ j t w. ((j ≢ Pawn) × BackStep f c quiet k s j t w) ⊎ ((j ≡ Pawn) × BackStep f c quiet k s j t w)) (BackStep f c quiet k s) old new
+      (λ j t w l h. elim h [ inl u ↦ u.1 | inr u ↦ u.1 ])
+      (λ j t w l h. elim (kind_or j Pawn) [ inl e ↦ inr (e, h) | inr e ↦ inl (e, h) ])
+      (meeting_then (λ j t w. (j ≢ Pawn) × BackStep f c quiet k s j t w) (λ j t w. (j ≡ Pawn) × BackStep f c quiet k s j t w) old mid new m n)
+
+  -- ---- what such steps keep
+  pub back_light : (k : Kind) (s : ℕ) (j : Kind) (t w : ℕ) → BackStep f c quiet k s j t w → (w ≡ 0) ⊎ (w ≡ 1)
+  back_light k s j t w h = light_step f c quiet (leg j t k s) w h.1
+
+  pub back_go : (goals : List ℕ) (n : ℕ) (k : Kind) (s : ℕ) (j : Kind) (t w : ℕ) → BackWithin f c quiet goals n k s → BackStep f c quiet k s j t w → BackWithin f c quiet goals (n + w) j t
+  back_go goals n k s j t w (i, x, ls, low, on, path, small) (is, count) = (i, x, leg j t k s ∷ ls, low, on, (refl, refl, is, path), omega arith)
+
+  -- ---- the counts that the search ends with
+  module _ (goals : List ℕ) (most : ℕ) (xs : List ℕ) (low : most < 200) (whole : IsWhole (BackStart goals) (BackStep f c quiet) (BackWithin f c quiet goals) most xs) where
+    back_least : (ls : List Leg) (k : Kind) (s : ℕ) (j : Kind) (t : ℕ) → s < 64 → t < 64 → has (of_kind goals j) t ≡ true → IsPath f c k s ls j t →
+        weigh (counts f c quiet) ls ≤ most → count_at xs k s ≤ weigh (counts f c quiet) ls
+    back_least [] k s j t ls lt on (e, d) small = moved (λ x y. count_at xs x y ≤ 0) k j s t e d (whole.started j t lt on)
+    back_least (l ∷ ls) k s j t low_s lt on (e, d, is, rest) small =
+        let after : count_at xs l.into l.to ≤ weigh (counts f c quiet) ls = back_least ls l.into l.to j t is.free.1 lt on rest (omega arith) in
+        let here : count_at xs l.kind l.from ≤ count_at xs l.into l.to + counts f c quiet l = whole.stepped l.into l.to l.kind l.from (counts f c quiet l) is.free.1 is.free.0 (omega arith) (is, refl) (omega arith) in
+        moved (λ x y. count_at xs x y ≤ counts f c quiet l + weigh (counts f c quiet) ls) k l.kind s l.from (sym e) (sym d) (omega arith)
+
+    pub back_counts : AreCountsTo f c quiet goals most xs
+    back_counts = record {
+      small = whole.low;
+      met = λ k s l h. whole.known k s l h;
+      least = λ k s j t ls l m on path small. back_least ls k s j t l m on path small;
+    }
+
+  -- ---- the search's beginning and ends
+  pub back_first : (goals : List ℕ) (front : Front) → front.next ≡ goals → ((j : Kind) (t : ℕ) → is_met front j t ≡ false) → IsBackStage f c quiet goals 0 (replicate 384 255) front
+  back_first goals front same none = stage_first (BackStart goals) (BackStep f c quiet) (BackWithin f c quiet goals) (replicate 384 255) front none_at none
+      (λ j t l h. ap (λ (x : List ℕ). has (of_kind x j) t) same ∙ h)
+      (λ j t l h. (j, t, [], l, ap (λ (x : List ℕ). has (of_kind x j) t) (sym same) ∙ h, (refl, refl), omega arith))
+
+  pub back_idle : (goals : List ℕ) (most n : ℕ) (xs : List ℕ) (a b : Front) → most < 200 → n ≤ most → IsBackStage f c quiet goals n xs a → HasAdvanced a b → NoneDue b → AreCountsTo f c quiet goals most xs
+  back_idle goals most n xs a b low le stage next none = back_counts goals most xs low (whole_idle (BackStart goals) (BackStep f c quiet) (BackWithin f c quiet goals) n xs a b stage next most le none)
+
+  pub back_end : (goals : List ℕ) (most n : ℕ) (xs : List ℕ) (a : Front) → most < 200 → n ≡ most + 1 → IsBackStage f c quiet goals n xs a → AreCountsTo f c quiet goals most xs
+  back_end goals most n xs a low e stage = back_counts goals most xs low (whole_end (BackStart goals) (BackStep f c quiet) (BackWithin f c quiet goals) most n xs a e stage)
+
+  pub back_begins : (goals : List ℕ) (n : ℕ) (xs : List ℕ) (a b : Front) → IsBackStage f c quiet goals n xs a → HasAdvanced a b → IsOpen xs b
+  back_begins goals n xs a b stage next = stage_open (BackStart goals) (BackStep f c quiet) (BackWithin f c quiet goals) n xs a b stage next
+
+  pub back_level : (goals : List ℕ) (n : ℕ) (xs : List ℕ) (a b : Front) → IsBackStage f c quiet goals n xs a → HasAdvanced a b → IsBackLevel f c quiet goals n xs b
+  back_level goals n xs a b stage next = stage_level (BackStart goals) (BackStep f c quiet) (BackWithin f c quiet goals) n xs a b stage next
+
+  pub back_ended : (goals : List ℕ) (n : ℕ) (xs : List ℕ) (a b : Front) → b ≡ a → IsOpen xs a → NoneDue a → IsBackLevel f c quiet goals n xs a → IsBackStage f c quiet goals (n + 1) xs b
+  back_ended goals n xs a b e ready none level = subst (λ (x : Front). IsBackStage f c quiet goals (n + 1) xs x) (sym e) (level_end (BackStart goals) (BackStep f c quiet) (BackWithin f c quiet goals) n xs a ready none level)

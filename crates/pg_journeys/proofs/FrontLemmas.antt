@@ -1,0 +1,328 @@
+-- Fronts and numbers by kind: what is written, joined and met. Leads to the contracts of a search's steps.
+use Rattle.std.proofs.Common.{◌≡◌, ◌≢◌, ℕ, ◌+◌, ◌*◌, ◌<◌, ◌≤◌, ◌⊎◌, inl, inr, leb, le-leb, Bool, true, false, not, ◌&&◌, ◌||◌, cond, eqb, List, length, replicate, set, get_or, refl, sym, ap, subst, arith, ◌∙◌}
+use Rattle.std.proofs.lemmas.Bool.Decides.{eqb_tells, leb_tells}
+use Rattle.std.proofs.lemmas.List.{get_or-set_same, get_or-set_other, get_or_default, get_or-replicate}
+use Rattle.pg_board.specs.Bits.{has}
+use Rattle.pg_board.specs.Tally.{one, total}
+use Rattle.pg_board.specs.lemmas.Sums.{total_changed}
+use Rattle.pg_board.specs.lemmas.Codes.{kind_of_number, kind_back}
+use Rattle.pg_board.specs.declared.man.Kind.{Kind}
+use Rattle.pg_board.specs.declared.man.Kind.TheVariants.{Pawn, Knight, Bishop, Rook, Queen, King}
+use Rattle.pg_board.specs.Men.{number_of_kind, kind_eq}
+use Rattle.pg_board.specs.SquareSets.{IsFirstFrom, HasNoneFrom}
+use Rattle.pg_journeys.specs.inner.Counts.{of_kind, count_at}
+use Rattle.pg_journeys.specs.inner.Fronts.{unlooked, IsNoted, AreNoted, IsJoined, is_met, is_due, is_next, OnSet, IsMeeting, IsTakenDue, NoneDue, IsAdvanced, HasAdvanced, IsUnchanged}
+use Rattle.pg_journeys.specs.declared.distances.Front.{Front}
+
+-- ---- tests
+pub on_or_off : (b : Bool) → (b ≡ true) ⊎ (b ≡ false)
+on_or_off true = inl refl
+on_or_off false = inr refl
+
+pub not_both : (b : Bool) → b ≡ true → b ≡ false → ⊥
+not_both true e f = cc
+not_both false e f = cc
+
+pub or_left : (a b : Bool) → a ≡ true → a || b ≡ true
+or_left a b e = ap (λ (x : Bool). x || b) e
+
+pub or_right : (a b : Bool) → b ≡ true → a || b ≡ true
+or_right true b e = refl
+or_right false b e = e
+
+pub or_either : (a b : Bool) → a || b ≡ true → (a ≡ true) ⊎ (b ≡ true)
+or_either true b e = inl refl
+or_either false b e = inr e
+
+pub and_first : (a b : Bool) → a && b ≡ true → a ≡ true
+and_first true b e = refl
+and_first false b e = e
+
+pub and_second : (a b : Bool) → a && b ≡ true → b ≡ true
+and_second true b e = e
+and_second false b e = absurd (cc)
+
+pub and_both : (a b : Bool) → a ≡ true → b ≡ true → a && b ≡ true
+and_both a b e f = cc
+
+pub not_true : (a : Bool) → not a ≡ true → a ≡ false
+not_true true e = absurd (cc)
+not_true false e = refl
+
+pub not_false : (a : Bool) → a ≡ false → not a ≡ true
+not_false a e = ap not e
+
+pub below_or : (n : ℕ) → (n < 255) ⊎ (255 ≤ n)
+below_or n = elim (leb_tells 255 n) [ inl w ↦ inr w.1 | inr w ↦ inl (omega (arith, w.1)) ]
+
+-- ---- kinds
+pub same_kind : (j k : Kind) → number_of_kind j ≡ number_of_kind k → j ≡ k
+same_kind j k e = sym (kind_back j) ∙ ap kind_of_number e ∙ kind_back k
+
+pub kind_is : (j k : Kind) → kind_eq j k ≡ true → j ≡ k
+kind_is j k e = elim (eqb_tells (number_of_kind j) (number_of_kind k)) [ inl w ↦ same_kind j k w.1 | inr w ↦ absurd (let f : kind_eq j k ≡ false = w.0 in not_both (kind_eq j k) e f) ]
+
+pub is_kind : (j k : Kind) → j ≡ k → kind_eq j k ≡ true
+is_kind j k e = elim (eqb_tells (number_of_kind j) (number_of_kind k)) [ inl w ↦ w.0 | inr w ↦ absurd (w.1 (ap number_of_kind e)) ]
+
+pub kind_or : (j k : Kind) → (j ≡ k) ⊎ (j ≢ k)
+kind_or j k = elim (eqb_tells (number_of_kind j) (number_of_kind k)) [ inl w ↦ inl (same_kind j k w.1) | inr w ↦ inr (λ e. w.1 (ap number_of_kind e)) ]
+
+pub low_kind : (k : Kind) → number_of_kind k < 6
+low_kind Pawn = omega arith
+low_kind Knight = omega arith
+low_kind Bishop = omega arith
+low_kind Rook = omega arith
+low_kind Queen = omega arith
+low_kind King = omega arith
+
+-- what holds of a man holds of one who is the same
+pub moved : (P : Kind → ℕ → Type 0) (j k : Kind) (t s : ℕ) → j ≡ k → t ≡ s → P k s → P j t
+moved P j k t s e f p = subst (λ (x : Kind). P x t) (sym e) (subst (λ (x : ℕ). P k x) (sym f) p)
+
+-- ---- a number written
+apart_places : (j k t s : ℕ) → t < 64 → s < 64 → j * 64 + t ≡ k * 64 + s → (j ≡ k) × (t ≡ s)
+apart_places j k t s lt ls e = (omega arith, omega arith)
+
+fewer_open : (xs : List ℕ) (i v : ℕ) → i < 384 → i < length xs → 255 ≤ get_or xs i 0 → v < 255 → unlooked (set xs i v) < unlooked xs
+fewer_open xs i v low inside ready small =
+    let g : ℕ → ℕ = λ k. one (leb 255 (get_or xs k 0)) in
+    let h : ℕ → ℕ = λ k. one (leb 255 (get_or (set xs i v) k 0)) in
+    let a : total h 384 + g i ≡ total g 384 + h i = total_changed (λ k. one (leb 255 (get_or xs k 0))) (λ k. one (leb 255 (get_or (set xs i v) k 0))) 384 i low (λ t l ne. ap (λ (x : ℕ). one (leb 255 x)) (get_or-set_other xs i t v 0 ne)) in
+    let b : one (leb 255 (get_or xs i 0)) ≡ 1 = ap one (le-leb 255 (get_or xs i 0) ready) in
+    let d : one (leb 255 (get_or (set xs i v) i 0)) ≡ 0 = ap (λ (x : ℕ). one (leb 255 x)) (get_or-set_same xs i v 0 inside) ∙ small_off v small in
+    omega arith
+  where
+    small_off : (v : ℕ) → v < 255 → one (leb 255 v) ≡ 0
+    small_off v l = elim (leb_tells 255 v) [ inl w ↦ absurd (omega (arith, w.1)) | inr w ↦ ap one w.0 ]
+
+pub noted : (k : Kind) (s n : ℕ) (xs ys : List ℕ) (i : ℕ) → s < 64 → length xs ≡ 384 → i ≡ number_of_kind k * 64 + s → ys ≡ set xs i n → IsNoted k s n xs ys
+noted k s n xs ys i low long at is =
+    let small : number_of_kind k * 64 + s < 384 = omega (arith, low_kind k) in
+    let inside : number_of_kind k * 64 + s < length xs = omega arith in
+    let whole : ys ≡ set xs (number_of_kind k * 64 + s) n = is ∙ ap (λ (x : ℕ). set xs x n) at in
+    subst (λ (zs : List ℕ). IsNoted k s n xs zs) (sym whole) (record {
+      here = get_or-set_same xs (number_of_kind k * 64 + s) n 0 inside;
+      each = λ j t l. elim (eqb_tells (number_of_kind j * 64 + t) (number_of_kind k * 64 + s)) [
+        | inl w ↦
+            (let parts = apart_places (number_of_kind j) (number_of_kind k) t s l low w.1 in
+            inl (same_kind j k parts.0, parts.1, ap (λ (x : ℕ). get_or (set xs (number_of_kind k * 64 + s) n) x 0) w.1 ∙ get_or-set_same xs (number_of_kind k * 64 + s) n 0 inside))
+        | inr w ↦ inr (get_or-set_other xs (number_of_kind k * 64 + s) (number_of_kind j * 64 + t) n 0 w.1)
+      ];
+      fewer = λ ready l. fewer_open xs (number_of_kind k * 64 + s) n small inside ready l;
+    })
+
+-- ---- no number
+pub none_at : (j : Kind) (t : ℕ) → t < 64 → count_at (replicate 384 255) j t ≡ 255
+none_at j t l = get_or-replicate 384 (number_of_kind j * 64 + t) 255 0 (omega (arith, low_kind j))
+
+-- ---- numbers written for a set
+pub record AreBeingNoted (k : Kind) (all left n : ℕ) (old new : List ℕ) : Type 0 where
+  pub within : (t : ℕ) → t < 64 → has left t ≡ true → has all t ≡ true
+  pub on : (t : ℕ) → t < 64 → has all t ≡ true → (has left t ≡ true) ⊎ (count_at new k t ≡ n)
+  pub each : (j : Kind) (t : ℕ) → t < 64 → ((j ≡ k) × (has all t ≡ true)) ⊎ (count_at new j t ≡ count_at old j t)
+
+pub noting_first : (k : Kind) (all n : ℕ) (xs : List ℕ) → AreBeingNoted k all all n xs xs
+noting_first k all n xs = record { within = λ t l h. h; on = λ t l h. inl h; each = λ j t l. inr refl }
+
+pub noting_next : (k : Kind) (all left rest s n : ℕ) (xs ys zs : List ℕ) → AreBeingNoted k all left n xs ys → IsFirstFrom left 0 s →
+    ((q : ℕ) → q < 64 → has rest q ≡ cond (eqb q s) false (has left q)) → IsNoted k s n ys zs → AreBeingNoted k all rest n xs zs
+noting_next k all left rest s n xs ys zs going first out wrote =
+    let kept : (t : ℕ) → t < 64 → t ≢ s → has rest t ≡ has left t = λ t l ne. elim (eqb_tells t s) [ inl w ↦ absurd (ne w.1) | inr w ↦ out t l ∙ ap (λ (x : Bool). cond x false (has left t)) w.0 ] in
+    let gone : (t : ℕ) → t < 64 → t ≡ s → has rest t ≡ false = λ t l e. elim (eqb_tells t s) [ inl w ↦ out t l ∙ ap (λ (x : Bool). cond x false (has left t)) w.0 | inr w ↦ absurd (w.1 e) ] in
+    record {
+      within = λ t l h. elim (eqb_tells t s) [ inl w ↦ absurd (not_both (has rest t) h (gone t l w.1)) | inr w ↦ going.within t l (sym (kept t l w.1) ∙ h) ];
+      on = λ t l h. elim (eqb_tells t s) [
+        | inl w ↦ inr (subst (λ (x : ℕ). count_at zs k x ≡ n) (sym w.1) wrote.here)
+        | inr w ↦ elim (going.on t l h) [
+          | inl u ↦ inl (kept t l w.1 ∙ u)
+          | inr u ↦ elim (wrote.each k t l) [ inl (_, e, _) ↦ absurd (w.1 e) | inr e ↦ inr (e ∙ u) ]
+        ]
+      ];
+      each = λ j t l. elim (wrote.each j t l) [
+        | inl (e, f, _) ↦ inl (e, subst (λ (x : ℕ). has all x ≡ true) (sym f) (going.within s first.on_board first.member))
+        | inr e ↦ elim (going.each j t l) [ inl u ↦ inl u | inr u ↦ inr (e ∙ u) ]
+      ];
+    }
+
+pub noting_all : (k : Kind) (all left n : ℕ) (xs ys : List ℕ) → AreBeingNoted k all left n xs ys → HasNoneFrom left 0 → AreNoted k all n xs ys
+noting_all k all left n xs ys going none = record {
+  on = λ t l h. elim (going.on t l h) [ inl u ↦ absurd (not_both (has left t) u (none t (omega arith) l)) | inr u ↦ u ];
+  each = going.each;
+}
+
+-- ---- meetings
+pub meeting_none : (S : Kind → ℕ → ℕ → Type 0) (a : Front) → ((j : Kind) (t w : ℕ) → t < 64 → S j t w → ⊥) → IsMeeting S a a
+meeting_none S a none = record {
+  met = λ j t l h. h;
+  due = λ j t l h. h;
+  next = λ j t l h. h;
+  free = λ j t l h. absurd (none j t 0 l h);
+  counted = λ j t l h. absurd (none j t 1 l h);
+  new_met = λ j t l h. inl h;
+  new_due = λ j t l h. inl h;
+  new_next = λ j t l h. inl h;
+}
+
+pub meeting_as : (S T : Kind → ℕ → ℕ → Type 0) (a b : Front) → ((j : Kind) (t w : ℕ) → t < 64 → S j t w → T j t w) → ((j : Kind) (t w : ℕ) → t < 64 → T j t w → S j t w) → IsMeeting S a b → IsMeeting T a b
+meeting_as S T a b f g m = record {
+  met = m.met;
+  due = m.due;
+  next = m.next;
+  free = λ j t l h. m.free j t l (g j t 0 l h);
+  counted = λ j t l h. m.counted j t l (g j t 1 l h);
+  new_met = m.new_met;
+  new_due = λ j t l h. elim (m.new_due j t l h) [ inl u ↦ inl u | inr (u, v) ↦ inr (u, f j t 0 l v) ];
+  new_next = λ j t l h. elim (m.new_next j t l h) [ inl u ↦ inl u | inr u ↦ inr (f j t 1 l u) ];
+}
+
+pub meeting_then : (S T : Kind → ℕ → ℕ → Type 0) (a b d : Front) → IsMeeting S a b → IsMeeting T b d → IsMeeting (λ j t w. S j t w ⊎ T j t w) a d
+meeting_then S T a b d m n = record {
+  met = λ j t l h. n.met j t l (m.met j t l h);
+  due = λ j t l h. n.due j t l (m.due j t l h);
+  next = λ j t l h. n.next j t l (m.next j t l h);
+  free = λ j t l h. elim h [ inl u ↦ n.met j t l (m.free j t l u) | inr u ↦ n.free j t l u ];
+  counted = λ j t l h. elim h [ inl u ↦ n.next j t l (m.counted j t l u) | inr u ↦ n.counted j t l u ];
+  new_met = λ j t l h. elim (n.new_met j t l h) [
+    | inl u ↦ elim (m.new_met j t l u) [ inl v ↦ inl v | inr v ↦ inr (n.due j t l v) ]
+    | inr u ↦ inr u
+  ];
+  new_due = λ j t l h. elim (n.new_due j t l h) [
+    | inl u ↦ elim (m.new_due j t l u) [ inl v ↦ inl v | inr (v, x) ↦ inr (v, inl x) ]
+    | inr (u, v) ↦ elim (on_or_off (is_met a j t)) [ inl y ↦ absurd (not_both (is_met b j t) (m.met j t l y) u) | inr y ↦ inr (y, inr v) ]
+  ];
+  new_next = λ j t l h. elim (n.new_next j t l h) [
+    | inl u ↦ elim (m.new_next j t l u) [ inl v ↦ inl v | inr v ↦ inr (inl v) ]
+    | inr u ↦ inr (inr u)
+  ];
+}
+
+-- ---- a set met
+pub joined_old : (k : Kind) (x : ℕ) (a b : List ℕ) → IsJoined k x a b → (j : Kind) (t : ℕ) → has (of_kind a j) t ≡ true → has (of_kind b j) t ≡ true
+joined_old k x a b e j t h = e j t ∙ or_left (has (of_kind a j) t) (kind_eq j k && has x t) h
+
+pub joined_new : (k : Kind) (x : ℕ) (a b : List ℕ) → IsJoined k x a b → (j : Kind) (t : ℕ) → j ≡ k → has x t ≡ true → has (of_kind b j) t ≡ true
+joined_new k x a b e j t f h = e j t ∙ or_right (has (of_kind a j) t) (kind_eq j k && has x t) (and_both (kind_eq j k) (has x t) (is_kind j k f) h)
+
+pub joined_from : (k : Kind) (x : ℕ) (a b : List ℕ) → IsJoined k x a b → (j : Kind) (t : ℕ) → has (of_kind b j) t ≡ true → (has (of_kind a j) t ≡ true) ⊎ ((j ≡ k) × (has x t ≡ true))
+joined_from k x a b e j t h = elim (or_either (has (of_kind a j) t) (kind_eq j k && has x t) (sym (e j t) ∙ h)) [
+  | inl u ↦ inl u
+  | inr u ↦ inr (kind_is j k (and_first (kind_eq j k) (has x t) u), and_second (kind_eq j k) (has x t) u)
+]
+
+pub meets_now : (k : Kind) (i x y e : ℕ) (b : Bool) (old new : Front) → b ≡ false → new.next ≡ old.next →
+    length old.met ≡ 6 → i ≡ number_of_kind k → ((q : ℕ) → q < 64 → has y q ≡ (has x q && not (has (get_or old.met i e) q))) →
+    IsJoined k y old.met new.met → IsJoined k y old.due new.due → IsMeeting (OnSet k x b) old new
+meets_now k i x y d b old new is same_next long at parted joined_met joined_due =
+    let whole : get_or old.met i d ≡ of_kind old.met k = get_or_default old.met i d 0 (omega (arith, low_kind k)) ∙ ap (λ (v : ℕ). get_or old.met v 0) at in
+    let part : (q : ℕ) → q < 64 → has y q ≡ (has x q && not (has (of_kind old.met k) q)) = λ q l. parted q l ∙ ap (λ (v : ℕ). has x q && not (has v q)) whole in
+    let next : (j : Kind) (t : ℕ) → is_next new j t ≡ is_next old j t = λ j t. ap (λ (z : List ℕ). has (of_kind z j) t) same_next in
+    let none : cond b 1 0 ≡ 0 = ap (λ (z : Bool). cond z 1 0) is in
+    record {
+      met = λ j t l h. joined_old k y old.met new.met joined_met j t h;
+      due = λ j t l h. joined_old k y old.due new.due joined_due j t h;
+      next = λ j t l h. next j t ∙ h;
+      free = λ j t l h. elim (on_or_off (is_met old j t)) [
+        | inl u ↦ joined_old k y old.met new.met joined_met j t u
+        | inr u ↦
+            (let off : has (of_kind old.met k) t ≡ false = subst (λ (z : Kind). is_met old z t ≡ false) h.0 u in
+            let on : has y t ≡ true = part t l ∙ and_both (has x t) (not (has (of_kind old.met k) t)) h.1 (not_false (has (of_kind old.met k) t) off) in
+            joined_new k y old.met new.met joined_met j t h.0 on)
+      ];
+      counted = λ j t l h. absurd (let e : 1 ≡ cond b 1 0 = h.2 in omega (arith, e, none));
+      new_met = λ j t l h. elim (joined_from k y old.met new.met joined_met j t h) [ inl u ↦ inl u | inr (u, v) ↦ inr (joined_new k y old.due new.due joined_due j t u v) ];
+      new_due = λ j t l h. elim (joined_from k y old.due new.due joined_due j t h) [
+        | inl u ↦ inl u
+        | inr (u, v) ↦
+            (let parts : has x t && not (has (of_kind old.met k) t) ≡ true = sym (part t l) ∙ v in
+            let off : has (of_kind old.met k) t ≡ false = not_true (has (of_kind old.met k) t) (and_second (has x t) (not (has (of_kind old.met k) t)) parts) in
+            inr (subst (λ (z : Kind). is_met old z t ≡ false) (sym u) off, (u, and_first (has x t) (not (has (of_kind old.met k) t)) parts, sym none)))
+      ];
+      new_next = λ j t l h. inl (sym (next j t) ∙ h);
+    }
+
+-- ---- a man who was due is taken
+pub taken_due : (k : Kind) (i s d rest : ℕ) (old new : Front) → number_of_kind k ≡ i → length old.due ≡ 6 → IsFirstFrom (get_or old.due i d) 0 s →
+    ((q : ℕ) → q < 64 → has rest q ≡ cond (eqb q s) false (has (get_or old.due i d) q)) → new.due ≡ set old.due i rest → IsTakenDue k s old new
+taken_due k i s d rest old new number long first out wrote =
+    let x : ℕ = get_or old.due i d in
+    let inside : i < length old.due = omega (arith, low_kind k) in
+    let mine : of_kind new.due k ≡ rest = ap (λ (y : ℕ). get_or new.due y 0) number ∙ ap (λ (y : List ℕ). get_or y i 0) wrote ∙ get_or-set_same old.due i rest 0 inside in
+    let before : of_kind old.due k ≡ get_or old.due i d = ap (λ (y : ℕ). get_or old.due y 0) number ∙ get_or_default old.due i 0 d inside in
+    let others : (j : Kind) → number_of_kind j ≢ i → of_kind new.due j ≡ of_kind old.due j = λ j ne. ap (λ (y : List ℕ). get_or y (number_of_kind j) 0) wrote ∙ get_or-set_other old.due i (number_of_kind j) rest 0 ne in
+    let kept : (t : ℕ) → t < 64 → t ≢ s → has rest t ≡ has x t = λ t l ne. elim (eqb_tells t s) [ inl w ↦ absurd (ne w.1) | inr w ↦ out t l ∙ ap (λ (y : Bool). cond y false (has x t)) w.0 ] in
+    let gone : (t : ℕ) → t < 64 → t ≡ s → has rest t ≡ false = λ t l e. elim (eqb_tells t s) [ inl w ↦ out t l ∙ ap (λ (y : Bool). cond y false (has x t)) w.0 | inr w ↦ absurd (w.1 e) ] in
+    record {
+      low = first.on_board;
+      was = ap (λ (y : ℕ). has y s) before ∙ first.member;
+      gone = ap (λ (y : ℕ). has y s) mine ∙ gone s first.on_board refl;
+      rest = λ j t l h. elim (eqb_tells (number_of_kind j) i) [
+        | inl w ↦
+            (let same : j ≡ k = same_kind j k (w.1 ∙ sym number) in
+            let on : has rest t ≡ true = ap (λ (y : ℕ). has y t) (sym mine) ∙ subst (λ (z : Kind). is_due new z t ≡ true) same h in
+            let was : is_due old k t ≡ true = elim (eqb_tells t s) [ inl v ↦ absurd (not_both (has rest t) on (gone t l v.1)) | inr v ↦ ap (λ (y : ℕ). has y t) before ∙ sym (kept t l v.1) ∙ on ] in
+            subst (λ (z : Kind). is_due old z t ≡ true) (sym same) was)
+        | inr w ↦ ap (λ (y : ℕ). has y t) (sym (others j w.1)) ∙ h
+      ];
+      each = λ j t l h. elim (eqb_tells (number_of_kind j) i) [
+        | inl w ↦
+            (let same : j ≡ k = same_kind j k (w.1 ∙ sym number) in
+            elim (eqb_tells t s) [
+              | inl v ↦ inl (same, v.1)
+              | inr v ↦
+                  (let on : has x t ≡ true = ap (λ (y : ℕ). has y t) (sym before) ∙ subst (λ (z : Kind). is_due old z t ≡ true) same h in
+                  let now : is_due new k t ≡ true = ap (λ (y : ℕ). has y t) mine ∙ kept t l v.1 ∙ on in
+                  inr (subst (λ (z : Kind). is_due new z t ≡ true) (sym same) now))
+            ])
+        | inr w ↦ inr (ap (λ (y : ℕ). has y t) (others j w.1) ∙ h)
+      ];
+    }
+
+-- ---- advancing kind by kind
+pub record AreAdvancedBelow (i : ℕ) (any : Bool) (old new : Front) : Type 0 where
+  pub done : (j : Kind) (t : ℕ) → number_of_kind j < i → t < 64 → IsAdvanced old new j t
+  pub left : (j : Kind) (t : ℕ) → i ≤ number_of_kind j → IsUnchanged old new j t
+  pub idle : any ≡ false → (j : Kind) (t : ℕ) → number_of_kind j < i → t < 64 → is_due new j t ≡ false
+
+pub advance_first : (a : Front) → AreAdvancedBelow 0 false a a
+advance_first a = record {
+  done = λ j t l _. absurd (omega arith);
+  left = λ j t _. record { met = refl; due = refl; next = refl };
+  idle = λ _ j t l _. absurd (omega arith);
+}
+
+advanced_as : (a b d : Front) (j : Kind) (t : ℕ) → IsUnchanged a b j t → IsAdvanced b d j t → IsAdvanced a d j t
+advanced_as a b d j t u v = record {
+  met = v.met ∙ (rw (u.met, u.next) refl);
+  due = v.due ∙ (rw (u.met, u.next) refl);
+  next = v.next;
+}
+
+unchanged_as : (a b d : Front) (j : Kind) (t : ℕ) → IsAdvanced a b j t → IsUnchanged b d j t → IsAdvanced a d j t
+unchanged_as a b d j t u v = record { met = v.met ∙ u.met; due = v.due ∙ u.due; next = v.next ∙ u.next }
+
+pub advance_next : (i : ℕ) (any some now : Bool) (a b d : Front) → AreAdvancedBelow i any a b →
+    ((j : Kind) (t : ℕ) → number_of_kind j ≡ i → t < 64 → IsAdvanced b d j t) →
+    ((j : Kind) (t : ℕ) → number_of_kind j ≢ i → IsUnchanged b d j t) →
+    (some ≡ false → (j : Kind) (t : ℕ) → number_of_kind j ≡ i → t < 64 → is_due d j t ≡ false) →
+    (now ≡ false → (any ≡ false) × (some ≡ false)) → AreAdvancedBelow (i + 1) now a d
+advance_next i any some now a b d before here others idle both = record {
+  done = λ j t l low. elim (eqb_tells (number_of_kind j) i) [
+    | inl w ↦ advanced_as a b d j t (before.left j t (omega (arith, w.1))) (here j t w.1 low)
+    | inr w ↦ unchanged_as a b d j t (before.done j t (let ne : number_of_kind j ≢ i = w.1 in omega arith) low) (others j t w.1)
+  ];
+  left = λ j t l.
+      let u = before.left j t (omega arith) in
+      let v = others j t (omega arith) in
+      record { met = v.met ∙ u.met; due = v.due ∙ u.due; next = v.next ∙ u.next };
+  idle = λ off j t l low. elim (eqb_tells (number_of_kind j) i) [
+    | inl w ↦ idle (both off).1 j t w.1 low
+    | inr w ↦ (others j t w.1).due ∙ before.idle (both off).0 j t (let ne : number_of_kind j ≢ i = w.1 in omega arith) low
+  ];
+}
+
+pub advance_all : (i : ℕ) (any : Bool) (a b : Front) → 6 ≤ i → AreAdvancedBelow i any a b → HasAdvanced a b
+advance_all i any a b l whole j t low = whole.done j t (omega (arith, low_kind j)) low
+
+pub advance_idle : (i : ℕ) (any : Bool) (a b : Front) → 6 ≤ i → AreAdvancedBelow i any a b → any ≡ false → NoneDue b
+advance_idle i any a b l whole off j t low = whole.idle off j t (omega (arith, low_kind j)) low

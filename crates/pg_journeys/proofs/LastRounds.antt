@@ -1,0 +1,109 @@
+-- Round by round: where a colour has no way alive the test holds, and after the fourth round, or where facts stay the same, it
+-- does not. Leads to the contracts of `last_facts` and `facts`.
+use Rattle.std.proofs.Common.{◌≡◌, ℕ, zero, suc, ◌+◌, ◌<◌, ◌≤◌, ◌↔◌, inl, inr, Option, Some, None, Bool, true, false, refl, sym, subst, arith, eqb, eqb-true, ◌&&◌, ◌∙◌, IsTrue, IfSome, IfNone}
+use Rattle.pg_board.specs.declared.man.Color.{Color}
+use Rattle.pg_board.specs.Placement.{Placement}
+use Rattle.pg_board.specs.lemmas.Decisions.{dec_less}
+use Rattle.pg_board.proofs.SetLemmas.{and_true}
+use Rattle.pg_position.specs.declared.rights.Wing.{Wing}
+use Rattle.pg_position.specs.declared.state.State.{State}
+use Rattle.pg_position.specs.Position.{IsPosition}
+use Rattle.pg_journeys.specs.Facts.{Facts, FactsHold}
+use Rattle.pg_journeys.specs.FirstFacts.{AreFirst, HasWalls}
+use Rattle.pg_journeys.specs.Known.{known}
+use Rattle.pg_journeys.specs.Plans.{IsAlive}
+use Rattle.pg_journeys.specs.Rounds.{AreFacts, HasDeadColor, JourneysHold}
+use Rattle.pg_journeys.specs.lemmas.AgreeingFacts.{facts_agree, alive_along}
+use Rattle.pg_journeys.specs.lemmas.RoundLemmas.{facts_hold}
+use Rattle.pg_journeys.specs.inner.Showing.{IsDead}
+use Rattle.pg_journeys.specs.inner.Walking.{HasFewer, HasFew, IsNext, IsRound, AreOfSomeRound}
+use Rattle.pg_journeys.specs.declared.facts.Facts.{Facts as FactSets}
+
+-- ---- the rounds
+pub next_round : (d : Placement) (p : State) (k i : ℕ) (f e : Facts) → IsRound d p k i f → IsNext f e d p k → IsRound d p k (i + 1) e
+next_round d p k i f e round next = record { facts = (let same : suc i ≡ i + 1 = omega arith in subst (λ (n : ℕ). AreFacts d p k n e) same after); alive = alive }
+  where
+    after : AreFacts d p k (suc i) e
+    after = (f, round.facts, next.narrows)
+
+    here : (g : Facts) → AreFacts d p k i g → (c : Color) → (way : Option Wing) × IsAlive g d p k c way
+    here g are c =
+        let h : (way : Option Wing) × IsAlive f d p k c way = next.alive c in
+        (h.0, alive_along f g (facts_agree d p k i f g round.facts are) d p c h.0 k h.1)
+
+    alive : (j : ℕ) (g : Facts) → j < i + 1 → AreFacts d p k j g → (c : Color) → (way : Option Wing) × IsAlive g d p k c way
+    alive j g low are c = elim (dec_less j i) [
+      | yes l ↦ round.alive j g l are c
+      | no off ↦ (let same : j ≡ i = omega arith in here g (subst (λ (n : ℕ). AreFacts d p k n g) same are) c)
+    ]
+
+-- a colour has no way alive
+pub round_dead : (d : Placement) (p : State) (k i : ℕ) (f : Facts) → i < 4 → IsRound d p k i f → (c : Color) × IsDead f d p k c → HasDeadColor d p k
+round_dead d p k i f low round (c, dead) = (i, f, c, low, round.facts, dead)
+
+-- the fourth round is passed
+pub rounds_passed : (d : Placement) (p : State) (k i : ℕ) (f : Facts) → 4 ≤ i → IsRound d p k i f → ¬ HasDeadColor d p k
+rounds_passed d p k i f four round (j, e, c, low, facts, dead) = (let h : (way : Option Wing) × IsAlive e d p k c way = round.alive j e (omega arith) facts c in dead h.0 h.1)
+
+-- sets that are equal
+abbrev the_sets : ℕ → ℕ → ℕ → FactSets
+the_sets a b c = record { still = a; white = b; black = c }
+
+alike : (a b c x y z : ℕ) → a ≡ x → b ≡ y → c ≡ z → the_sets a b c ≡ the_sets x y z
+alike a b c x y z e g h = rw (e, g, h) refl
+
+pub same_sets : (e f : FactSets) (r : Bool) → r ≡ (eqb e.still f.still && (eqb e.white f.white && eqb e.black f.black)) → r ≡ true → e ≡ f
+same_sets e f r is on =
+    let x : (eqb e.still f.still ≡ true) × ((eqb e.white f.white && eqb e.black f.black) ≡ true) = and_true (eqb e.still f.still) (eqb e.white f.white && eqb e.black f.black) (sym is ∙ on) in
+    let y : (eqb e.white f.white ≡ true) × (eqb e.black f.black ≡ true) = and_true (eqb e.white f.white) (eqb e.black f.black) x.1 in
+    alike e.still e.white e.black f.still f.white f.black (eqb-true e.still f.still x.0) (eqb-true e.white f.white y.0) (eqb-true e.black f.black y.1)
+
+-- facts that stay the same stay so
+same_rounds : (d : Placement) (p : State) (k i : ℕ) (f : Facts) → IsRound d p k i f → IsNext f f d p k → (n : ℕ) → IsRound d p k (n + i) f
+same_rounds d p k i f round next zero = subst (λ (m : ℕ). IsRound d p k m f) (omega arith) round
+same_rounds d p k i f round next (suc n) = subst (λ (m : ℕ). IsRound d p k m f) (omega arith) (next_round d p k (n + i) f f (same_rounds d p k i f round next n) next)
+
+pub rounds_same : (d : Placement) (p : State) (k i : ℕ) (f e : FactSets) → IsRound d p k i (known f) → IsNext (known f) (known e) d p k → e ≡ f → ¬ HasDeadColor d p k
+rounds_same d p k i f e round next same =
+    rounds_passed d p k (4 + i) (known f) (omega arith) (same_rounds d p k i (known f) round (subst (λ (z : FactSets). IsNext (known f) (known z) d p k) same next) 4)
+
+-- ---- the test
+pub lost_wall : (d : Placement) (p : State) (k : ℕ) (r : Bool) → IsTrue r ↔ HasWalls d p → r ≡ false → JourneysHold d p k
+unfolding JourneysHold
+lost_wall d p k r is off = inl (λ h. (let on : r ≡ true = is.1 h in let no : true ≡ false = sym on ∙ off in cc))
+
+pub lacks_men : (d : Placement) (p : State) (k : ℕ) → HasFewer d p → JourneysHold d p k
+unfolding JourneysHold
+lacks_men d p k less = inr (inl less)
+
+pub is_dead : (d : Placement) (p : State) (k : ℕ) → HasFew p → HasDeadColor d p k → JourneysHold d p k
+unfolding JourneysHold
+is_dead d p k few dead = inr (inr (few, dead))
+
+not_all : (d : Placement) (p : State) (k : ℕ) → HasWalls d p → ¬ HasFewer d p → ¬ (HasFew p × HasDeadColor d p k) → ¬ JourneysHold d p k
+unfolding JourneysHold
+not_all d p k walls enough none (inl lost) = lost walls
+not_all d p k walls enough none (inr (inl less)) = enough less
+not_all d p k walls enough none (inr (inr h)) = none h
+
+is_not : {A : Type 0} (r : Bool) → IsTrue r ↔ A → r ≡ false → ¬ A
+is_not r is off h = let on : r ≡ true = is.1 h in cc
+
+pub crowded : (d : Placement) (p : State) (k : ℕ) (w l f : Bool) → IsTrue w ↔ HasWalls d p → w ≡ true → IsTrue l ↔ HasFewer d p → l ≡ false → IsTrue f ↔ HasFew p → f ≡ false → ¬ JourneysHold d p k
+crowded d p k w l f ws on ls off fs none = not_all d p k (ws.0 on) (is_not l ls off) (λ h. is_not f fs none h.0)
+
+pub first_hold : (d : Placement) (p : State) (k : ℕ) (f : Facts) (w : Bool) → IsPosition p → IsTrue w ↔ HasWalls d p → w ≡ true → AreFirst f d p → FactsHold f d p k
+first_hold d p k f w pos ws on first = facts_hold d p k 0 f pos (ws.0 on) first
+
+-- what the walk over the rounds gives
+pub walk_hold : (d : Placement) (p : State) (k : ℕ) (o : Option FactSets) (w : Bool) → IsPosition p → IsTrue w ↔ HasWalls d p → w ≡ true → IfSome o (λ f. AreOfSomeRound d p k (known f)) → IfSome o (λ f. FactsHold (known f) d p k)
+walk_hold d p k None w pos ws on h = tt
+walk_hold d p k (Some f) w pos ws on h = facts_hold d p k h.0 (known f) pos (ws.0 on) h.1
+
+pub walk_some : (d : Placement) (p : State) (k : ℕ) (o : Option FactSets) (w l : Bool) → IsTrue w ↔ HasWalls d p → w ≡ true → IsTrue l ↔ HasFewer d p → l ≡ false → IfSome o (λ f. ¬ HasDeadColor d p k) → IfSome o (λ f. ¬ JourneysHold d p k)
+walk_some d p k None w l ws on ls off h = tt
+walk_some d p k (Some f) w l ws on ls off h = not_all d p k (ws.0 on) (is_not l ls off) (λ x. h x.1)
+
+pub walk_none : (d : Placement) (p : State) (k : ℕ) (o : Option FactSets) (f : Bool) → IsTrue f ↔ HasFew p → f ≡ true → IfNone o (HasDeadColor d p k) → IfNone o (JourneysHold d p k)
+walk_none d p k None f fs on h = is_dead d p k (fs.0 on) h
+walk_none d p k (Some e) f fs on h = tt

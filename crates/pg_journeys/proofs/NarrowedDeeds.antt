@@ -1,0 +1,82 @@
+-- What the loop over the men keeps: what the plans have of the men so far.
+use Rattle.std.proofs.Common.{◌≡◌, ◌≢◌, ℕ, ◌+◌, ◌<◌, ◌≤◌, ◌⊎◌, inl, inr, ◌↔◌, Option, Bool, true, false, get_or, sym, subst, arith, List, [], length}
+use Rattle.std.proofs.Math.ListN.{set}
+use Rattle.std.proofs.lemmas.Bool.{cases_lt}
+use Rattle.std.proofs.lemmas.List.{get_or-set_same, get_or-set_other}
+use Rattle.pg_board.specs.Bits.{has}
+use Rattle.pg_board.specs.Placement.{Placement}
+use Rattle.pg_board.specs.SquareSets.{IsSetOf, HasNoneFrom}
+use Rattle.pg_position.specs.declared.rights.Wing.{Wing}
+use Rattle.pg_journeys.specs.declared.distances.Reach.{Reach}
+use Rattle.pg_journeys.specs.declared.plans.Side.{Side}
+use Rattle.pg_journeys.specs.declared.narrowing.Walker.{Walker}
+use Rattle.pg_journeys.specs.inner.Counting.{IsReach}
+use Rattle.pg_journeys.specs.inner.Sides.{facts_of, IsSide, AreAims, AreRooms}
+use Rattle.pg_journeys.specs.inner.Deeds.{Lands, FallsOn, Changes}
+use Rattle.pg_journeys.specs.inner.Narrowed.{TakesToSome, FallsBy, ChangesBy, walker_of}
+use Rattle.pg_journeys.proofs.SiftedSets.{IsJoined, join_next}
+use Rattle.pg_journeys.proofs.NarrowedPlans.{LandsOf, FallsOf, IsAsked, lands_found, lands_back, falls_found, falls_back, changes_found, changes_back}
+
+-- the widest room is low, as each room is
+pub wide_low : (d : Placement) (x : Side) (quiet : Bool) (way : Option Wing) (most : ℕ) (rooms : List (List ℕ)) (i wide : ℕ) → AreRooms d x quiet way most rooms → i < x.men.count → most < 200 → ((n : ℕ) → ((e : ℕ) → e < 17 → get_or (get_or rooms i []) e 0 < 255 → get_or (get_or rooms i []) e 0 ≤ n) → wide ≤ n) → wide < 200
+wide_low d x quiet way most rooms i wide roomed low small widest = let h : wide ≤ most = widest most (λ e le some. roomed.small i e low le some) in omega arith
+
+-- what is asked of a man, by the functions' contracts
+pub asked_of : (d : Placement) (x : Side) (quiet : Bool) (way : Option Wing) (most : ℕ) (aims rooms : List (List ℕ)) (i : ℕ) (reach : Reach) (wide : ℕ) (man : Walker) → IsSide d x → AreAims x quiet most aims → AreRooms d x quiet way most rooms → most < 200 → i < x.men.count → man ≡ walker_of x quiet way i → IsReach (facts_of x) x.ground.color quiet man.kind man.from wide reach → ((e : ℕ) → e < 17 → get_or (get_or rooms i []) e 0 < 255 → get_or (get_or rooms i []) e 0 ≤ wide) → IsAsked d x quiet way most aims rooms i reach wide
+asked_of d x quiet way most aims rooms i reach wide man side aimed roomed small low is reached wider = record {
+  side = side;
+  aimed = aimed;
+  roomed = roomed;
+  small = small;
+  low = low;
+  reached = subst (λ (m : Walker). IsReach (facts_of x) x.ground.color quiet m.kind m.from wide reach) is reached;
+  wider = wider;
+}
+
+module _ (d : Placement) (x : Side) (quiet : Bool) (way : Option Wing) (most : ℕ) (aims rooms : List (List ℕ)) (i : ℕ) (reach : Reach) (wide : ℕ) (asked : IsAsked d x quiet way most aims rooms i reach wide) (man : Walker) (is : man ≡ walker_of x quiet way i) where
+  pub lands_next : (old all more : ℕ) → IsSetOf more (λ q. (has all q ≡ true) ⊎ TakesToSome reach aims (get_or rooms i []) q) → IsJoined (LandsOf d x quiet way most) old i all → IsJoined (LandsOf d x quiet way most) old (i + 1) more
+  lands_next old all more made h =
+      join_next (LandsOf d x quiet way most) (TakesToSome reach aims (get_or rooms i [])) old i all more made
+      (lands_back d x quiet way most aims rooms i reach wide asked) (lands_found d x quiet way most aims rooms i reach wide asked) h
+
+  pub falls_next : (old all more : ℕ) → IsSetOf more (λ q. (has all q ≡ true) ⊎ FallsBy x man.square reach (get_or (get_or rooms i []) 16 0) q) → IsJoined (FallsOf d x quiet way most) old i all → IsJoined (FallsOf d x quiet way most) old (i + 1) more
+  falls_next old all more made h =
+      join_next (FallsOf d x quiet way most) (λ q. FallsBy x man.square reach (get_or (get_or rooms i []) 16 0) q) old i all more made
+      (λ q l t. falls_back d x quiet way most aims rooms i reach wide asked q l (subst (λ (m : Walker). FallsBy x m.square reach (get_or (get_or rooms i []) 16 0) q) is t))
+      (λ q l t. subst (λ (m : Walker). FallsBy x m.square reach (get_or (get_or rooms i []) 16 0) q) (sym is) (falls_found d x quiet way most aims rooms i reach wide asked q l t)) h
+
+  changes_is : (v : ℕ) → ((e : ℕ) → e < 17 → (has v e ≡ true) ↔ ((get_or (get_or rooms i []) e 0 < 255) × ChangesBy x man e (get_or aims e []) (get_or (get_or rooms i []) e 0))) → (e : ℕ) → e < 17 → (has v e ≡ true) ↔ Changes d x quiet way most i e
+  changes_is v made e le = (
+    λ t. changes_back d x quiet way most aims rooms i reach wide asked e le (subst (λ (m : Walker). (get_or (get_or rooms i []) e 0 < 255) × ChangesBy x m e (get_or aims e []) (get_or (get_or rooms i []) e 0)) is ((made e le).0 t)),
+    λ t. (made e le).1 (subst (λ (m : Walker). (get_or (get_or rooms i []) e 0 < 255) × ChangesBy x m e (get_or aims e []) (get_or (get_or rooms i []) e 0)) (sym is) (changes_found d x quiet way most aims rooms i reach wide asked e le t)),
+  )
+
+  pub ends_next : (ends : List ℕ) (v : ℕ) → i < length ends → ((e : ℕ) → e < 17 → (has v e ≡ true) ↔ ((get_or (get_or rooms i []) e 0 < 255) × ChangesBy x man e (get_or aims e []) (get_or (get_or rooms i []) e 0))) → ((j e : ℕ) → j < i → e < 17 → (has (get_or ends j 0) e ≡ true) ↔ Changes d x quiet way most j e) → (j e : ℕ) → j < i + 1 → e < 17 → (has (get_or (set ends i v) j 0) e ≡ true) ↔ Changes d x quiet way most j e
+  ends_next ends v low made before j e lj le = elim (cases_lt j i) [
+    | inl less ↦
+        (let ne : j ≢ i = omega arith in
+        subst (λ (n : ℕ). (has n e ≡ true) ↔ Changes d x quiet way most j e) (sym (get_or-set_other ends i j v 0 ne)) (before j e less le))
+    | inr over ↦
+        (let same : i ≡ j = omega arith in
+        subst (λ (k : ℕ). (has (get_or (set ends i v) k 0) e ≡ true) ↔ Changes d x quiet way most k e) same
+        (subst (λ (n : ℕ). (has n e ≡ true) ↔ Changes d x quiet way most i e) (sym (get_or-set_same ends i v 0 low)) (changes_is v made e le)))
+  ]
+
+-- ---- when all men were looked at
+pub all_lands : (d : Placement) (x : Side) (quiet : Bool) (way : Option Wing) (most old n all : ℕ) → HasNoneFrom old 0 → n ≤ x.men.count → x.men.count ≤ n → IsJoined (LandsOf d x quiet way most) old n all → IsSetOf all (Lands d x quiet way most)
+all_lands d x quiet way most old n all none lo hi h q l = (
+  λ t. elim ((h q l).0 t) [
+    | inl a ↦ absurd (let off : has old q ≡ false = none q (omega arith) l in cc)
+    | inr w ↦ (let g : LandsOf d x quiet way most w.0 q = w.2 in let low : w.0 < n = w.1 in (g.0, g.1, (w.0, omega arith, g.2)))
+  ],
+  λ t. (h q l).1 (inr (t.2.0, (let low : t.2.0 < x.men.count = t.2.1 in omega arith), (t.0, t.1, t.2.2))),
+)
+
+pub all_falls : (d : Placement) (x : Side) (quiet : Bool) (way : Option Wing) (most old n all : ℕ) → HasNoneFrom old 0 → n ≤ x.men.count → x.men.count ≤ n → IsJoined (FallsOf d x quiet way most) old n all → IsSetOf all (FallsOn d x quiet way most)
+all_falls d x quiet way most old n all none lo hi h q l = (
+  λ t. elim ((h q l).0 t) [
+    | inl a ↦ absurd (let off : has old q ≡ false = none q (omega arith) l in cc)
+    | inr w ↦ (let g : FallsOf d x quiet way most w.0 q = w.2 in let low : w.0 < n = w.1 in (g.0, g.1, (w.0, omega arith, g.2)))
+  ],
+  λ t. (h q l).1 (inr (t.2.0, (let low : t.2.0 < x.men.count = t.2.1 in omega arith), (t.0, t.1, t.2.2))),
+)

@@ -1,0 +1,126 @@
+-- Ranks and walls as sets of squares. Leads to the contracts of `rank_set`, `walls` and `ahead_of`.
+use Rattle.std.proofs.Common.{arith, ◌≡◌, ◌↔◌, ℕ, zero, suc, ◌+◌, ◌-◌, ◌*◌, ◌/◌, ◌%◌, ◌^◌, ◌<◌, ◌≤◌, ◌⊎◌, inl, inr, IsTrue, Bool, true, false, ◌&&◌, ◌||◌, eqb, pow-suc, refl, sym, ap, subst, ◌∙◌}
+use Rattle.std.specs.Int.{bit_at}
+use Rattle.std.proofs.lemmas.Nat.{shr-shr}
+use Rattle.std.proofs.lemmas.Nat.Bits.{bit_at_cat_low, bit_at_cat_high, bit_at_above}
+use Rattle.std.proofs.lemmas.Bool.Decides.{Decides-at, Decides-eqb, leb_tells}
+use Rattle.pg_board.specs.declared.man.Color.{Color}
+use Rattle.pg_board.specs.declared.man.Color.TheVariants.{White, Black}
+use Rattle.pg_board.specs.declared.man.Kind.TheVariants.{Pawn}
+use Rattle.pg_board.specs.declared.man.Man.{Man}
+use Rattle.pg_board.specs.Bits.{has, bits_below, has-bits_below, has-none}
+use Rattle.pg_board.specs.Men.{man, is_man}
+use Rattle.pg_board.specs.Placement.{Placement, get}
+use Rattle.pg_board.specs.Squares.{file, rank}
+use Rattle.pg_board.specs.SquareSets.{IsSetOf}
+use Rattle.pg_board.specs.lemmas.Equalities.{is_man_decides}
+use Rattle.pg_board.proofs.SetLemmas.{and_true, set_like, set_of_both, set_of_union}
+use Rattle.pg_position.specs.Position.{Stands}
+use Rattle.pg_journeys.specs.Walls.{IsWall}
+use Rattle.pg_journeys.specs.FirstFacts.{IsWallOf}
+use Rattle.pg_journeys.specs.inner.Makings.{IsNext, IsAheadOf}
+
+-- ---- ranks
+rank_bits : (r : ℕ) → 1 ≤ r → r ≤ 8 → bits_below (λ s. eqb (rank s) r) 64 ≡ 255 * 2 ^ (8 * (r - 1)) % 2 ^ 64
+unfolding bits_below
+rank_bits zero l h = absurd (omega arith)
+rank_bits (suc zero) l h = refl
+rank_bits (suc (suc zero)) l h = refl
+rank_bits (suc (suc (suc zero))) l h = refl
+rank_bits (suc (suc (suc (suc zero)))) l h = refl
+rank_bits (suc (suc (suc (suc (suc zero))))) l h = refl
+rank_bits (suc (suc (suc (suc (suc (suc zero)))))) l h = refl
+rank_bits (suc (suc (suc (suc (suc (suc (suc zero))))))) l h = refl
+rank_bits (suc (suc (suc (suc (suc (suc (suc (suc zero)))))))) l h = refl
+rank_bits (suc (suc (suc (suc (suc (suc (suc (suc (suc r))))))))) l h = absurd (omega arith)
+
+pub rank_squares : (r n : ℕ) → 1 ≤ r → r ≤ 8 → n ≡ 255 * 2 ^ (8 * (r - 1)) % 2 ^ 64 → IsSetOf n (λ s. rank s ≡ r)
+rank_squares r n low high e q l = Decides-at _ _ (ap (λ (x : ℕ). has x q) (e ∙ sym (rank_bits r low high)) ∙ has-bits_below (λ s. eqb (rank s) r) 64 q l) (Decides-eqb (rank q) r)
+
+-- ---- walls
+pawns_at : (b : Placement) (m : Man) (c : Color) (n : ℕ) → m ≡ man c Pawn → ((q : ℕ) → q < 64 → has n q ≡ is_man m (get b q)) → IsSetOf n (λ q. Stands b c Pawn q)
+pawns_at b m c n e h q l = Decides-at _ _ (h q l ∙ ap (λ (x : Man). is_man x (get b q)) e) (is_man_decides (man c Pawn) (get b q))
+
+pub walls_set : (b : Placement) (wm bm : Man) (wp wr ww bp br bw n : ℕ) → wm ≡ man White Pawn → bm ≡ man Black Pawn →
+    ((q : ℕ) → q < 64 → has wp q ≡ is_man wm (get b q)) → IsSetOf wr (λ s. rank s ≡ 2) → ((q : ℕ) → has ww q ≡ has wp q && has wr q) →
+    ((q : ℕ) → q < 64 → has bp q ≡ is_man bm (get b q)) → IsSetOf br (λ s. rank s ≡ 7) → ((q : ℕ) → has bw q ≡ has bp q && has br q) →
+    ((q : ℕ) → has n q ≡ has ww q || has bw q) → IsSetOf n (IsWallOf b)
+walls_set b wm bm wp wr ww bp br bw n we be wps wrs wws bps brs bws ns =
+    let w : IsSetOf ww (λ q. Stands b White Pawn q × (rank q ≡ 2)) = set_of_both ww wp wr wws (pawns_at b wm White wp we wps) wrs in
+    let k : IsSetOf bw (λ q. Stands b Black Pawn q × (rank q ≡ 7)) = set_of_both bw bp br bws (pawns_at b bm Black bp be bps) brs in
+    set_like n
+    (λ q _ h. elim h [ inl x ↦ (White, (x.1, x.0)) | inr x ↦ (Black, (x.1, x.0)) ])
+    (λ q _ h. by_color q h.0 h.1)
+    (set_of_union n ww bw ns w k)
+  where
+    by_color : (q : ℕ) (c : Color) → IsWall b c q → (Stands b White Pawn q × (rank q ≡ 2)) ⊎ (Stands b Black Pawn q × (rank q ≡ 7))
+    by_color q White h = inl (h.1, h.0)
+    by_color q Black h = inr (h.1, h.0)
+
+-- ---- shifts
+has_down : (n k q : ℕ) → has (n / 2 ^ k) q ≡ has n (q + k)
+has_down n k q = let e : k + q ≡ q + k = omega arith in ap (λ x. eqb (x % 2) 1) (shr-shr n k q) ∙ ap (has n) e
+
+power : (j : ℕ) → 0 < 2 ^ j
+power zero = omega arith
+power (suc j) = omega (arith, power j, pow-suc 2 j)
+
+kept_bits : (x q : ℕ) → q < 64 → bit_at x q ≡ bit_at (x % 2 ^ 64) q
+kept_bits x q low =
+    let split : x ≡ x / 2 ^ 64 * 2 ^ 64 + x % 2 ^ 64 = omega arith in
+    ap (λ y. bit_at y q) split ∙ bit_at_cat_low (x / 2 ^ 64) 64 (x % 2 ^ 64) q low
+
+has_up : (n k q : ℕ) → k ≤ q → q < 64 → has (n * 2 ^ k % 2 ^ 64) q ≡ has n (q - k)
+has_up n k q from low =
+    let plain : n * 2 ^ k ≡ n * 2 ^ k + 0 = omega arith in
+    let moved : bit_at (n * 2 ^ k) q ≡ bit_at n (q - k) = ap (λ y. bit_at y q) plain ∙ bit_at_cat_high n k 0 q (power k) from in
+    ap (λ y. eqb y 1) (sym (kept_bits (n * 2 ^ k) q low) ∙ moved)
+
+-- none comes below
+none_up : (n k q : ℕ) → q < k → q < 64 → has (n * 2 ^ k % 2 ^ 64) q ≡ has 0 q
+none_up n k q below low =
+    let plain : n * 2 ^ k ≡ n * 2 ^ k + 0 = omega arith in
+    let moved : bit_at (n * 2 ^ k) q ≡ bit_at 0 q = ap (λ y. bit_at y q) plain ∙ bit_at_cat_low n k 0 q below in
+    ap (λ y. eqb y 1) (sym (kept_bits (n * 2 ^ k) q low) ∙ moved)
+
+pub apart : (x : Bool) → x ≡ true → x ≡ false → ⊥
+apart x e f = cc
+
+pub both_true : (x y : Bool) → x ≡ true → y ≡ true → x && y ≡ true
+both_true x y e f = cc
+
+next_white : (x q : ℕ) → IsNext White x q → (8 ≤ q) × (q - 8 ≡ x)
+next_white x q h = let f : file x ≡ file q = h.0 in let r : rank q ≡ rank x + 1 = h.1 in (omega arith, omega arith)
+
+white_next : (q : ℕ) → 8 ≤ q → IsNext White (q - 8) q
+white_next q l = (omega arith, omega arith)
+
+next_black : (x q : ℕ) → IsNext Black x q → q + 8 ≡ x
+next_black x q h = let f : file x ≡ file q = h.0 in let r : rank x ≡ rank q + 1 = h.1 in omega arith
+
+black_next : (q : ℕ) → IsNext Black (q + 8) q
+black_next q = (omega arith, omega arith)
+
+-- the free squares of a set shifted by a rank
+pub shifted_up : (c : Color) (set bits free moved n : ℕ) → c ≡ White → bits ≡ set → moved ≡ bits * 2 ^ 8 % 2 ^ 64 → ((p : ℕ) → has n p ≡ has moved p && has free p) → IsSetOf n (IsAheadOf c set free)
+shifted_up c set bits free moved n white same e is q l = subst (λ (d : Color). IsTrue (has n q) ↔ IsAheadOf d set free q) (sym white) (subst (λ (y : ℕ). IsTrue (has n q) ↔ IsAheadOf White y free q) same (
+  λ t. (let x : (has moved q ≡ true) × (has free q ≡ true) = and_true (has moved q) (has free q) (sym (is q) ∙ t) in
+      let m : has (bits * 2 ^ 8 % 2 ^ 64) q ≡ true = ap (λ (y : ℕ). has y q) (sym e) ∙ x.0 in
+      elim (leb_tells 8 q) [
+        | inl w ↦ (let low : q - 8 < 64 = omega (arith, l) in ((q - 8, low, sym (has_up bits 8 q w.1 l) ∙ m, white_next q w.1), x.1))
+        | inr w ↦ absurd (apart (has 0 q) (sym (none_up bits 8 q w.1 l) ∙ m) (has-none q))
+      ]),
+  λ ((x, low, on, next), vacant). (let far : (8 ≤ q) × (q - 8 ≡ x) = next_white x q next in
+      is q ∙ both_true (has moved q) (has free q) (ap (λ (y : ℕ). has y q) e ∙ has_up bits 8 q far.0 l ∙ ap (has bits) far.1 ∙ on) vacant),
+))
+
+pub shifted_down : (c : Color) (set bits free moved n : ℕ) → c ≡ Black → bits ≡ set → bits < 2 ^ 64 → moved ≡ bits / 2 ^ 8 → ((p : ℕ) → has n p ≡ has moved p && has free p) → IsSetOf n (IsAheadOf c set free)
+shifted_down c set bits free moved n black same fits e is q l = subst (λ (d : Color). IsTrue (has n q) ↔ IsAheadOf d set free q) (sym black) (subst (λ (y : ℕ). IsTrue (has n q) ↔ IsAheadOf Black y free q) same (
+  λ t. (let x : (has moved q ≡ true) × (has free q ≡ true) = and_true (has moved q) (has free q) (sym (is q) ∙ t) in
+      let m : has bits (q + 8) ≡ true = sym (has_down bits 8 q) ∙ ap (λ (y : ℕ). has y q) (sym e) ∙ x.0 in
+      elim (leb_tells 64 (q + 8)) [
+        | inl w ↦ absurd (apart (has bits (q + 8)) m (ap (λ (y : ℕ). eqb y 1) (bit_at_above bits 64 (q + 8) fits w.1)))
+        | inr w ↦ ((q + 8, w.1, m, black_next q), x.1)
+      ]),
+  λ ((x, low, on, next), vacant). is q ∙ both_true (has moved q) (has free q) (ap (λ (y : ℕ). has y q) e ∙ has_down bits 8 q ∙ ap (has bits) (next_black x q next) ∙ on) vacant,
+))

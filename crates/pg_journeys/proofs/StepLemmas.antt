@@ -1,0 +1,141 @@
+-- Single steps under facts: turned round, to be another man, and what they count.
+use Rattle.std.proofs.Common.{◌≡◌, ◌≢◌, ℕ, ◌<◌, ◌⊎◌, inl, inr, Bool, true, false, not, ◌&&◌, cond, eqb, nat_eq, refl, sym, ap, arith, ◌∙◌, ◌↔◌, IsTrue}
+use Rattle.std.proofs.lemmas.Bool.Decides.{eqb_tells}
+use Rattle.pg_board.specs.declared.man.Color.{Color}
+use Rattle.pg_board.specs.declared.man.Kind.{Kind}
+use Rattle.pg_board.specs.declared.man.Kind.TheVariants.{Pawn, Knight, Bishop, Rook, Queen, King}
+use Rattle.pg_board.specs.Men.{kind_eq}
+use Rattle.pg_board.specs.Squares.{file, rank}
+use Rattle.pg_position.specs.Geometry.{OnOneLine, InPattern}
+use Rattle.pg_position.specs.Squares.{last_rank}
+use Rattle.pg_position.proofs.ReachLemmas.{between_turn}
+use Rattle.pg_captures.specs.FreeSteps.{StepsTo, Becomes, FreeStep}
+use Rattle.pg_journeys.specs.Facts.{Facts}
+use Rattle.pg_journeys.specs.Journeys.{Leg, IsLeg, may_take}
+use Rattle.pg_journeys.specs.lemmas.Turns.{leg}
+use Rattle.pg_journeys.specs.inner.Counting.{counts}
+use Rattle.pg_journeys.proofs.FrontLemmas.{kind_is, not_both, on_or_off}
+
+-- ---- turned round
+line_turn : (r s : ℕ) → OnOneLine r s → OnOneLine s r
+line_turn r s e = elim e [ inl x ↦ inl (sym x) | inr x ↦ inr (sym x) ]
+
+pattern_turn : (c : Color) (k : Kind) (r s : ℕ) → k ≢ Pawn → InPattern c k r s → InPattern c k s r
+unfolding InPattern
+pattern_turn c Pawn r s ne e = absurd (ne refl)
+pattern_turn c Knight r s ne e = elim e [ inl (x, y) ↦ inl (omega arith, omega arith) | inr (x, y) ↦ inr (omega arith, omega arith) ]
+pattern_turn c Bishop r s ne (n, e) = (omega arith, omega arith)
+pattern_turn c Rook r s ne (n, e) = (omega arith, line_turn r s e)
+pattern_turn c Queen r s ne (n, e) = (omega arith, elim e [ inl x ↦ inl (line_turn r s x) | inr x ↦ inr (omega arith) ])
+pattern_turn c King r s ne (n, x, y) = (omega arith, omega arith, omega arith)
+
+free_turn : (c : Color) (k : Kind) (r s : ℕ) → k ≢ Pawn → FreeStep c k r k s → FreeStep c k s k r
+unfolding StepsTo Becomes
+free_turn c Pawn r s ne e = absurd (ne refl)
+free_turn c Knight r s ne (x, y, z, b) = (y, x, pattern_turn c Knight r s ne z, refl)
+free_turn c Bishop r s ne (x, y, z, b) = (y, x, pattern_turn c Bishop r s ne z, refl)
+free_turn c Rook r s ne (x, y, z, b) = (y, x, pattern_turn c Rook r s ne z, refl)
+free_turn c Queen r s ne (x, y, z, b) = (y, x, pattern_turn c Queen r s ne z, refl)
+free_turn c King r s ne (x, y, z, b) = (y, x, pattern_turn c King r s ne z, refl)
+
+pub leg_turn : (f : Facts) (c : Color) (k : Kind) (r s : ℕ) → k ≢ Pawn → IsLeg f c (leg k r k s) → IsLeg f c (leg k s k r)
+leg_turn f c k r s ne is = record {
+  free = free_turn c k r s ne is.free;
+  leaves = is.comes;
+  comes = is.leaves;
+  between = λ t l b. is.between t l (between_turn s t r b);
+  lands = λ e _. absurd (ne e);
+}
+
+-- ---- what a man becomes
+pub stays_kind : (c : Color) (j k : Kind) (s : ℕ) → j ≢ Pawn → Becomes c j s k → k ≡ j
+unfolding Becomes
+stays_kind c Pawn k s ne e = absurd (ne refl)
+stays_kind c Knight k s ne e = e
+stays_kind c Bishop k s ne e = e
+stays_kind c Rook k s ne e = e
+stays_kind c Queen k s ne e = e
+stays_kind c King k s ne e = e
+
+-- a pawn's step leads him to be any man that he may become there
+pub leg_into : (f : Facts) (c : Color) (j i k : Kind) (r s : ℕ) → Becomes c j s k → IsLeg f c (leg j r i s) → IsLeg f c (leg j r k s)
+leg_into f c j i k r s b is = record {
+  free = (is.free.0, is.free.1, is.free.2, b);
+  leaves = is.leaves;
+  comes = is.comes;
+  between = is.between;
+  lands = is.lands;
+}
+
+pub leg_low : (f : Facts) (c : Color) (l : Leg) → IsLeg f c l → (l.from < 64) × (l.to < 64)
+leg_low f c l is = (is.free.0, is.free.1)
+
+-- whether a pawn becomes a man there, where it is on the last rank or not
+pub pawn_becomes : (c : Color) (k : Kind) (s x y : ℕ) → k ≡ Pawn → x ≡ rank s → y ≡ last_rank c → IsTrue (not (eqb x y)) ↔ Becomes c Pawn s k
+unfolding Becomes
+pawn_becomes c k s x y is ex ey = elim (eqb_tells x y) [
+  | inl w ↦
+      (let off : not (eqb x y) ≡ false = ap not w.0 in
+      (λ t. absurd (not_both (not (eqb x y)) t off), λ b. absurd (elim b [ inl (_, (n, _)) ↦ n is | inr (n, _) ↦ n (sym ex ∙ w.1 ∙ ey) ])))
+  | inr w ↦ (λ _. inr ((λ r. w.1 (ex ∙ r ∙ sym ey)), is), λ _. ap not w.0)
+]
+
+pub king_becomes : (c : Color) (k : Kind) (s : ℕ) → k ≡ King → IsTrue false ↔ Becomes c Pawn s k
+unfolding Becomes
+king_becomes c k s is = (λ t. absurd (not_both false t refl), λ b. absurd (elim b [ inl (_, (_, n)) ↦ n is | inr (_, e) ↦ apart_kinds (sym is ∙ e) ]))
+  where
+    apart_kinds : King ≡ Pawn → ⊥
+    apart_kinds e = cc
+
+pub piece_becomes : (c : Color) (k : Kind) (s x y : ℕ) → k ≢ Pawn → k ≢ King → x ≡ rank s → y ≡ last_rank c → IsTrue (eqb x y) ↔ Becomes c Pawn s k
+unfolding Becomes
+piece_becomes c k s x y np nk ex ey = elim (eqb_tells x y) [
+  | inl w ↦ (λ _. inl (sym ex ∙ w.1 ∙ ey, (np, nk)), λ _. w.0)
+  | inr w ↦ (λ t. absurd (not_both (eqb x y) t w.0), λ b. absurd (elim b [ inl (r, _) ↦ w.1 (ex ∙ r ∙ sym ey) | inr (_, e) ↦ np e ]))
+]
+
+-- ---- what a step counts
+pub light_step : (f : Facts) (c : Color) (quiet : Bool) (l : Leg) (w : ℕ) → w ≡ counts f c quiet l → (w ≡ 0) ⊎ (w ≡ 1)
+light_step f c quiet l w e = elim (on_or_off (quiet && may_take f c l)) [
+  | inl u ↦ inl (e ∙ ap (λ (x : Bool). cond x 0 1) u)
+  | inr u ↦ inr (e ∙ ap (λ (x : Bool). cond x 0 1) u)
+]
+
+turned : (b : Bool) → ◌≡◌ {A = ℕ} (cond (not b) 1 0) (cond b 0 1)
+turned true = refl
+turned false = refl
+
+and_true : (b : Bool) → b && true ≡ b
+and_true true = refl
+and_true false = refl
+
+and_false : (b : Bool) → b && false ≡ false
+and_false true = refl
+and_false false = refl
+
+off_kind : (k : Kind) → k ≢ Pawn → kind_eq k Pawn ≡ false
+off_kind k ne = elim (on_or_off (kind_eq k Pawn)) [ inl u ↦ absurd (ne (kind_is k Pawn u)) | inr u ↦ u ]
+
+pub piece_takes : (f : Facts) (c : Color) (k i : Kind) (r s : ℕ) → k ≢ Pawn → may_take f c (leg k r i s) ≡ f.lands c s
+piece_takes f c k i r s ne = ap (λ (x : Bool). cond x (not (nat_eq (file r) (file s))) (f.lands c s)) (off_kind k ne)
+
+pub piece_counts : (f : Facts) (c : Color) (quiet : Bool) (k i : Kind) (r s : ℕ) → k ≢ Pawn → ◌≡◌ {A = ℕ} (cond (not (quiet && f.lands c s)) 1 0) (counts f c quiet (leg k r i s))
+piece_counts f c quiet k i r s ne = turned (quiet && f.lands c s) ∙ ap (λ (x : Bool). cond (quiet && x) 0 1) (sym (piece_takes f c k i r s ne))
+
+pub push_takes_not : (f : Facts) (c : Color) (i : Kind) (r s : ℕ) → file r ≡ file s → may_take f c (leg Pawn r i s) ≡ false
+push_takes_not f c i r s e = elim (eqb_tells (file r) (file s)) [ inl w ↦ ap not w.0 | inr w ↦ absurd (w.1 e) ]
+
+pub capture_takes : (f : Facts) (c : Color) (i : Kind) (r s : ℕ) → file r ≢ file s → may_take f c (leg Pawn r i s) ≡ true
+capture_takes f c i r s ne = elim (eqb_tells (file r) (file s)) [ inl w ↦ absurd (ne w.1) | inr w ↦ ap not w.0 ]
+
+pub quiet_counts : (f : Facts) (c : Color) (quiet : Bool) (l : Leg) → may_take f c l ≡ false → ◌≡◌ {A = ℕ} 1 (counts f c quiet l)
+quiet_counts f c quiet l e = sym (ap (λ (x : Bool). cond (quiet && x) 0 1) e ∙ ap (λ (x : Bool). cond x 0 1) (and_false quiet))
+
+pub taking_counts : (f : Facts) (c : Color) (quiet : Bool) (l : Leg) → may_take f c l ≡ true → ◌≡◌ {A = ℕ} (cond quiet 0 1) (counts f c quiet l)
+taking_counts f c quiet l e = sym (ap (λ (x : Bool). cond (quiet && x) 0 1) e ∙ ap (λ (x : Bool). cond x 0 1) (and_true quiet))
+
+pub taking_flips : (f : Facts) (c : Color) (quiet : Bool) (l : Leg) → may_take f c l ≡ true → ◌≡◌ {A = ℕ} (cond (not quiet) 1 0) (counts f c quiet l)
+taking_flips f c quiet l e = turned quiet ∙ taking_counts f c quiet l e
+
+pub files_or : (r s : ℕ) → (file r ≡ file s) ⊎ (file r ≢ file s)
+files_or r s = elim (eqb_tells (file r) (file s)) [ inl w ↦ inl w.1 | inr w ↦ inr w.1 ]

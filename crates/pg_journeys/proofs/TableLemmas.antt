@@ -1,0 +1,258 @@
+-- Boards with a man on each still square, and tables of the steps that go by them. Leads to the contract of `steps_table`.
+use Rattle.std.proofs.Common.{arith, ◌≡◌, ◌≢◌, ◌↔◌, ℕ, ◌+◌, ◌*◌, ◌<◌, inl, inr, IsTrue, Bool, true, false, not, ◌&&◌, ◌||◌, Option, Some, None, List, length, get_or, set, replicate, refl, sym, ap, subst, ◌∙◌}
+use Rattle.std.proofs.lemmas.Bool.Decides.{eqb_tells, leb_tells}
+use Rattle.std.proofs.lemmas.List.{get_or-set_same, get_or-set_other, get_or-replicate, get_or_past, length-replicate}
+use Rattle.pg_board.specs.declared.man.Color.{Color}
+use Rattle.pg_board.specs.declared.man.Color.TheVariants.{White}
+use Rattle.pg_board.specs.declared.man.Kind.{Kind}
+use Rattle.pg_board.specs.declared.man.Kind.TheVariants.{Pawn, Knight, Bishop, Rook, Queen, King}
+use Rattle.pg_board.specs.declared.man.Man.{Man}
+use Rattle.pg_board.specs.Bits.{has, has-none}
+use Rattle.pg_board.specs.Men.{is_held, number_of_kind, kind_eq, man}
+use Rattle.pg_board.specs.Placement.{Placement, get, put, empty}
+use Rattle.pg_board.specs.SquareSets.{IsSetOf, HasNoneFrom, IsFirstFrom}
+use Rattle.pg_board.specs.lemmas.Placements.{get-empty, get-put_same, get-put_other}
+use Rattle.pg_board.proofs.SetLemmas.{and_true, set_like}
+use Rattle.pg_position.specs.Attack.{IsClear, Reaches}
+use Rattle.pg_position.specs.Geometry.{InPattern}
+use Rattle.pg_captures.specs.FreeSteps.{StepsTo, Becomes, FreeStep}
+use Rattle.pg_travel.proofs.RowTables.{kind_low, same_kind}
+use Rattle.pg_travel.proofs.TakenSets.{IsWithout, other_than, taken_itself}
+use Rattle.pg_journeys.proofs.SquareLemmas.{apart, both_true}
+use Rattle.pg_journeys.specs.Facts.{Facts}
+use Rattle.pg_journeys.specs.Journeys.{IsLeg}
+use Rattle.pg_journeys.specs.lemmas.Turns.{leg}
+use Rattle.pg_journeys.specs.inner.Grounds.{IsTable}
+use Rattle.pg_journeys.specs.inner.Makings.{GoesOn, IsFilled}
+
+-- ---- the board
+-- a man stands on each square of the set that is not left
+pub record IsBlocking (set left : ℕ) (b : Placement) : Type 0 where
+  pub part : (s : ℕ) → s < 64 → has left s ≡ true → has set s ≡ true
+  pub held : (s : ℕ) → s < 64 → is_held (get b s) ≡ (has set s && not (has left s))
+
+pub blocking_first : (set : ℕ) → IsBlocking set set empty
+blocking_first set = record {
+  part = λ s l t. t;
+  held = λ s l. ap is_held (get-empty s) ∙ neither (has set s);
+}
+  where
+    neither : (x : Bool) → false ≡ (x && not x)
+    neither true = refl
+    neither false = refl
+
+pub blocking_next : (set old new o : ℕ) (b : Placement) (m : Man) → IsBlocking set old b → IsFirstFrom old 0 o → IsWithout old new o → IsBlocking set new (put b o m)
+blocking_next set old new o b m h is rest = record {
+  part = λ s l t. elim (eqb_tells s o) [
+    | inl w ↦ absurd (apart (has new s) t (taken_itself old new o s rest l w.1))
+    | inr w ↦ h.part s l (sym (other_than old new o s rest l w.1) ∙ t)
+  ];
+  held = λ s l. elim (eqb_tells s o) [
+    | inl w ↦
+        (let here : is_held (get (put b o m) s) ≡ true = ap (λ (x : ℕ). is_held (get (put b o m) x)) w.1 ∙ ap is_held (get-put_same b o m is.on_board) in
+        let off : has new s ≡ false = taken_itself old new o s rest l w.1 in
+        let on : has set s ≡ true = ap (has set) w.1 ∙ h.part o is.on_board is.member in
+        here ∙ sym (yes (has set s) (has new s) on off))
+    | inr w ↦ ap is_held (get-put_other b o m s w.1) ∙ h.held s l ∙ ap (λ (x : Bool). has set s && not x) (sym (other_than old new o s rest l w.1))
+  ];
+}
+  where
+    yes : (x y : Bool) → x ≡ true → y ≡ false → (x && not y) ≡ true
+    yes x y e f = cc
+
+-- just the squares of a set have men
+abbrev pub HasMenOn : ℕ → Placement → Type 0
+HasMenOn set b = (s : ℕ) → s < 64 → (get b s ≡ None) ↔ (has set s ≡ false)
+
+pub blocking_all : (set left : ℕ) (b : Placement) → IsBlocking set left b → HasNoneFrom left 0 → HasMenOn set b
+blocking_all set left b h none s l = by_cell (get b s) (has set s) (h.held s l ∙ ap (λ (x : Bool). has set s && not x) (none s (omega arith) l) ∙ plain (has set s))
+  where
+    plain : (x : Bool) → (x && not false) ≡ x
+    plain true = refl
+    plain false = refl
+
+    by_cell : (o : Option Man) (x : Bool) → is_held o ≡ x → (o ≡ None) ↔ (x ≡ false)
+    by_cell None x e = (λ _. sym e, λ _. refl)
+    by_cell (Some m) x e = (λ f. absurd (cc), λ f. absurd (apart x (sym e) f))
+
+-- ---- the table
+-- the squares that are left are free, and the steps from the other free squares are written
+pub record IsFilling (b : Placement) (free : ℕ) (k : Kind) (left : ℕ) (old new : List ℕ) : Type 0 where
+  pub part : (r : ℕ) → r < 64 → has left r ≡ true → has free r ≡ true
+  pub filled : (r : ℕ) → r < 64 → has free r ≡ true → has left r ≡ false → IsSetOf (get_or new (number_of_kind k * 64 + r) 0) (GoesOn b free k r)
+  pub kept : (i : ℕ) → ((r : ℕ) → r < 64 → has free r ≡ true → i ≢ number_of_kind k * 64 + r) → get_or new i 0 ≡ get_or old i 0
+
+pub filling_first : (b : Placement) (free : ℕ) (k : Kind) (t : List ℕ) → IsFilling b free k free t t
+filling_first b free k t = record {
+  part = λ r l e. e;
+  filled = λ r l e f. absurd (apart (has free r) e f);
+  kept = λ i ne. refl;
+}
+
+-- what a man on a free square may step to
+pub steps_from : (b : Placement) (free : ℕ) (k : Kind) (m : Man) (r attacked n : ℕ) → m ≡ man White k → has free r ≡ true → IsSetOf attacked (Reaches b m.color m.kind r) → ((q : ℕ) → has n q ≡ has attacked q && has free q) → IsSetOf n (GoesOn b free k r)
+steps_from b free k m r attacked n e vacant is both q l =
+    let reach : IsTrue (has attacked q) ↔ Reaches b White k r q = subst (λ (x : Man). IsTrue (has attacked q) ↔ Reaches b x.color x.kind r q) e (is q l) in (
+      λ t. (let x : (has attacked q ≡ true) × (has free q ≡ true) = and_true (has attacked q) (has free q) (sym (both q) ∙ t) in (vacant, x.1, reach.0 x.0)),
+      λ h. both q ∙ both_true (has attacked q) (has free q) (reach.1 h.2) h.1,
+    )
+
+pub filling_next : (b : Placement) (free : ℕ) (k : Kind) (old new o place n : ℕ) (first now : List ℕ) → length now ≡ 384 → IsFilling b free k old first now → IsFirstFrom old 0 o → IsWithout old new o → place ≡ number_of_kind k * 64 + o → IsSetOf n (GoesOn b free k o) → IsFilling b free k new first (set now place n)
+filling_next b free k old new o place n first now long h is rest e steps = record {
+  part = λ r l t. elim (eqb_tells r o) [
+    | inl w ↦ absurd (apart (has new r) t (taken_itself old new o r rest l w.1))
+    | inr w ↦ h.part r l (sym (other_than old new o r rest l w.1) ∙ t)
+  ];
+  filled = λ r l vacant off. elim (eqb_tells r o) [
+    | inl w ↦
+        (let low : place < length now = omega (arith, e, long, kind_low k, is.on_board) in
+        let at : number_of_kind k * 64 + r ≡ place = ap (λ (x : ℕ). number_of_kind k * 64 + x) w.1 ∙ sym e in
+        let here : get_or (set now place n) (number_of_kind k * 64 + r) 0 ≡ n = ap (λ (x : ℕ). get_or (set now place n) x 0) at ∙ get_or-set_same now place n 0 low in
+        subst (λ (x : ℕ). IsSetOf x (GoesOn b free k r)) (sym here) (subst (λ (x : ℕ). IsSetOf n (GoesOn b free k x)) (sym w.1) steps))
+    | inr w ↦
+        (let ne : r ≢ o = w.1 in
+        let away : number_of_kind k * 64 + r ≢ place = λ f. (let g : number_of_kind k * 64 + r ≡ number_of_kind k * 64 + o = f ∙ e in let z : r ≡ o = omega (arith, g) in ne z) in
+        subst (λ (x : ℕ). IsSetOf x (GoesOn b free k r)) (sym (get_or-set_other now place (number_of_kind k * 64 + r) n 0 away)) (h.filled r l vacant (sym (other_than old new o r rest l ne) ∙ off)))
+  ];
+  kept = λ i ne. get_or-set_other now place i n 0 (λ f. ne o is.on_board (h.part o is.on_board is.member) (f ∙ e)) ∙ h.kept i ne;
+}
+
+pub filling_all : (b : Placement) (free : ℕ) (k : Kind) (left : ℕ) (old new : List ℕ) → IsFilling b free k left old new → HasNoneFrom left 0 → IsFilled b free k old new
+filling_all b free k left old new h none = record {
+  filled = λ r l vacant. h.filled r l vacant (none r (omega arith) l);
+  kept = h.kept;
+}
+
+-- the steps of the kinds that pass a test are written, and nothing is of the others
+pub record HasKinds (b : Placement) (free : ℕ) (ks : Kind → Bool) (t : List ℕ) : Type 0 where
+  pub done : (j : Kind) (r : ℕ) → r < 64 → ks j ≡ true → IsSetOf (get_or t (number_of_kind j * 64 + r) 0) (GoesOn b free j r)
+  pub none : (j : Kind) (r : ℕ) → r < 64 → ks j ≡ false → get_or t (number_of_kind j * 64 + r) 0 ≡ 0
+
+nothing : (b : Placement) (free : ℕ) (k : Kind) (r : ℕ) → has free r ≡ false → IsSetOf 0 (GoesOn b free k r)
+nothing b free k r off q l = (λ t. absurd (apart (has 0 q) t (has-none q)), λ h. absurd (apart (has free r) h.0 off))
+
+with_it : (x y : Bool) → x ≡ false → (x || y) ≡ y
+with_it x y e = ap (λ (z : Bool). z || y) e
+
+pub kinds_next : (b : Placement) (free : ℕ) (k : Kind) (ks : Kind → Bool) (old new : List ℕ) → ks k ≡ false → HasKinds b free ks old → IsFilled b free k old new → HasKinds b free (λ j. kind_eq j k || ks j) new
+kinds_next b free k ks old new first h f = record {
+  done = λ j r l e. elim (eqb_tells (number_of_kind j) (number_of_kind k)) [
+    | inl w ↦ subst (λ (x : Kind). IsSetOf (get_or new (number_of_kind x * 64 + r) 0) (GoesOn b free x r)) (same_kind k j (sym w.1)) (itself r l (has free r) refl)
+    | inr w ↦ subst (λ (x : ℕ). IsSetOf x (GoesOn b free j r)) (sym (elsewhere j r l w.1)) (h.done j r l (sym (with_it (kind_eq j k) (ks j) w.0) ∙ e))
+  ];
+  none = λ j r l e. elim (eqb_tells (number_of_kind j) (number_of_kind k)) [
+    | inl w ↦ absurd (apart (kind_eq j k || ks j) (ap (λ (z : Bool). z || ks j) w.0) e)
+    | inr w ↦ elsewhere j r l w.1 ∙ h.none j r l (sym (with_it (kind_eq j k) (ks j) w.0) ∙ e)
+  ];
+}
+  where
+    elsewhere : (j : Kind) (r : ℕ) → r < 64 → number_of_kind j ≢ number_of_kind k → get_or new (number_of_kind j * 64 + r) 0 ≡ get_or old (number_of_kind j * 64 + r) 0
+    elsewhere j r l ne = f.kept (number_of_kind j * 64 + r) (λ q low vacant e. (let z : number_of_kind j ≡ number_of_kind k = omega (arith, e, l, low) in ne z))
+
+    itself : (r : ℕ) → r < 64 → (x : Bool) → has free r ≡ x → IsSetOf (get_or new (number_of_kind k * 64 + r) 0) (GoesOn b free k r)
+    itself r l true vacant = f.filled r l vacant
+    itself r l false off =
+        let away : (q : ℕ) → q < 64 → has free q ≡ true → number_of_kind k * 64 + r ≢ number_of_kind k * 64 + q = λ q low vacant e. (let z : r ≡ q = omega (arith, e) in apart (has free r) (ap (has free) z ∙ vacant) off) in
+        let is : get_or new (number_of_kind k * 64 + r) 0 ≡ 0 = f.kept (number_of_kind k * 64 + r) away ∙ h.none k r l first in
+        subst (λ (x : ℕ). IsSetOf x (GoesOn b free k r)) (sym is) (nothing b free k r off)
+
+kinds_first : (b : Placement) (free : ℕ) (t : List ℕ) → ((i : ℕ) → get_or t i 0 ≡ 0) → HasKinds b free (λ _. false) t
+kinds_first b free t zeros = record {
+  done = λ j r l e. absurd (apart false e refl);
+  none = λ j r l e. zeros (number_of_kind j * 64 + r);
+}
+
+-- all but the pawn
+pub all_kinds : (b : Placement) (free : ℕ) (t u v w x y : List ℕ) → ((i : ℕ) → get_or t i 0 ≡ 0) →
+    IsFilled b free Knight t u → IsFilled b free Bishop u v → IsFilled b free Rook v w → IsFilled b free Queen w x → IsFilled b free King x y →
+    (k : Kind) (r : ℕ) → k ≢ Pawn → r < 64 → IsSetOf (get_or y (number_of_kind k * 64 + r) 0) (GoesOn b free k r)
+all_kinds b free t u v w x y zeros n p q o m = by_kind
+  where
+    a : HasKinds b free (λ j. kind_eq j Knight || false) u
+    a = kinds_next b free Knight (λ _. false) t u refl (kinds_first b free t zeros) n
+
+    d : HasKinds b free (λ j. kind_eq j Bishop || (kind_eq j Knight || false)) v
+    d = kinds_next b free Bishop _ u v refl a p
+
+    e : HasKinds b free (λ j. kind_eq j Rook || (kind_eq j Bishop || (kind_eq j Knight || false))) w
+    e = kinds_next b free Rook _ v w refl d q
+
+    f : HasKinds b free (λ j. kind_eq j Queen || (kind_eq j Rook || (kind_eq j Bishop || (kind_eq j Knight || false)))) x
+    f = kinds_next b free Queen _ w x refl e o
+
+    g : HasKinds b free (λ j. kind_eq j King || (kind_eq j Queen || (kind_eq j Rook || (kind_eq j Bishop || (kind_eq j Knight || false))))) y
+    g = kinds_next b free King _ x y refl f m
+
+    by_kind : (k : Kind) (r : ℕ) → k ≢ Pawn → r < 64 → IsSetOf (get_or y (number_of_kind k * 64 + r) 0) (GoesOn b free k r)
+    by_kind Pawn r ne l = absurd (ne refl)
+    by_kind Knight r ne l = g.done Knight r l refl
+    by_kind Bishop r ne l = g.done Bishop r l refl
+    by_kind Rook r ne l = g.done Rook r l refl
+    by_kind Queen r ne l = g.done Queen r l refl
+    by_kind King r ne l = g.done King r l refl
+
+-- ---- the steps
+-- the free squares are those of the set that is not still
+pub free_is : (full still free : ℕ) → ((q : ℕ) → q < 64 → has full q ≡ true) → ((q : ℕ) → q < 64 → has free q ≡ has full q && not (has still q)) → (s : ℕ) → s < 64 → (has free s ≡ true) ↔ (has still s ≡ false)
+free_is full still free all rest s l = turned (has full s) (has still s) (has free s) (all s l) (rest s l)
+  where
+    turned : (x y z : Bool) → x ≡ true → z ≡ x && not y → (z ≡ true) ↔ (y ≡ false)
+    turned x true z e f = (λ t. absurd (cc), λ t. absurd (cc))
+    turned x false z e f = (λ t. refl, λ t. cc)
+
+pattern_as : (c d : Color) (k : Kind) (r s : ℕ) → k ≢ Pawn → InPattern c k r s → InPattern d k r s
+unfolding InPattern
+pattern_as c d Pawn r s ne h = absurd (ne refl)
+pattern_as c d Knight r s ne h = h
+pattern_as c d Bishop r s ne h = h
+pattern_as c d Rook r s ne h = h
+pattern_as c d Queen r s ne h = h
+pattern_as c d King r s ne h = h
+
+free_from : (c d : Color) (k : Kind) (r s : ℕ) → k ≢ Pawn → r < 64 → s < 64 → InPattern d k r s → FreeStep c k r k s
+unfolding StepsTo Becomes
+free_from c d Pawn r s ne lr ls h = absurd (ne refl)
+free_from c d Knight r s ne lr ls h = (lr, ls, pattern_as d c Knight r s ne h, refl)
+free_from c d Bishop r s ne lr ls h = (lr, ls, pattern_as d c Bishop r s ne h, refl)
+free_from c d Rook r s ne lr ls h = (lr, ls, pattern_as d c Rook r s ne h, refl)
+free_from c d Queen r s ne lr ls h = (lr, ls, pattern_as d c Queen r s ne h, refl)
+free_from c d King r s ne lr ls h = (lr, ls, pattern_as d c King r s ne h, refl)
+
+pattern_from : (c d : Color) (k : Kind) (r s : ℕ) → k ≢ Pawn → StepsTo c k r s → InPattern d k r s
+unfolding StepsTo
+pattern_from c d Pawn r s ne h = absurd (ne refl)
+pattern_from c d Knight r s ne h = pattern_as c d Knight r s ne h
+pattern_from c d Bishop r s ne h = pattern_as c d Bishop r s ne h
+pattern_from c d Rook r s ne h = pattern_as c d Rook r s ne h
+pattern_from c d Queen r s ne h = pattern_as c d Queen r s ne h
+pattern_from c d King r s ne h = pattern_as c d King r s ne h
+
+-- free squares and the board tell the same of what is still
+module _ (f : Facts) (c : Color) (b : Placement) (still free : ℕ) (same : (s : ℕ) → s < 64 → f.still s ≡ has still s) (vacant : (s : ℕ) → s < 64 → (has free s ≡ true) ↔ (has still s ≡ false)) (men : HasMenOn still b) where
+  to_leg : (k : Kind) (r s : ℕ) → k ≢ Pawn → r < 64 → s < 64 → GoesOn b free k r s → IsLeg f c (leg k r k s)
+  unfolding IsClear
+  to_leg k r s ne lr ls h = record {
+    free = free_from c White k r s ne lr ls h.2.0;
+    leaves = same r lr ∙ (vacant r lr).0 h.0;
+    comes = same s ls ∙ (vacant s ls).0 h.1;
+    between = λ t l z. same t l ∙ (men t l).0 (h.2.1 t l z);
+    lands = λ e. absurd (ne e);
+  }
+
+  from_leg : (k : Kind) (r s : ℕ) → k ≢ Pawn → r < 64 → s < 64 → IsLeg f c (leg k r k s) → GoesOn b free k r s
+  unfolding IsClear
+  from_leg k r s ne lr ls h = (
+    (vacant r lr).1 (sym (same r lr) ∙ h.leaves),
+    (vacant s ls).1 (sym (same s ls) ∙ h.comes),
+    (pattern_from c White k r s ne h.free.2, λ t l z. (men t l).1 (sym (same t l) ∙ h.between t l z)),
+  )
+
+  pub table_is : (t : List ℕ) → ((k : Kind) (r : ℕ) → k ≢ Pawn → r < 64 → IsSetOf (get_or t (number_of_kind k * 64 + r) 0) (GoesOn b free k r)) → IsTable f c t
+  table_is t all k r ne l = set_like _ (λ s ls h. to_leg k r s ne l ls h) (λ s ls h. from_leg k r s ne l ls h) (all k r ne l)
+
+-- ---- at first
+pub all_zeros : (n x i : ℕ) → x ≡ 0 → get_or (replicate n x) i 0 ≡ 0
+all_zeros n x i e = elim (leb_tells n i) [
+  | inl w ↦ get_or_past (replicate n x) i 0 (omega (arith, w.1, length-replicate n x))
+  | inr w ↦ get_or-replicate n i x 0 w.1 ∙ e
+]

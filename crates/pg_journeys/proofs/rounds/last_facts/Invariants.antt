@@ -1,0 +1,6 @@
+use Rattle.pg_journeys.specs.Known.{known}
+use Rattle.pg_journeys.specs.inner.Walking.{IsRound}
+use Rattle.pg_journeys.proofs.rounds.last_facts.Given as goal
+
+abbrev pub invariant-loop : goal.invariant-loop
+invariant-loop l = IsRound l.fn.diagram l.fn.position l.fn.left l.counter (known l.facts)

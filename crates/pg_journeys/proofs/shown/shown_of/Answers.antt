@@ -1,0 +1,13 @@
+use Rattle.std.proofs.Common.{refl}
+use Rattle.pg_journeys.specs.Known.{known}
+use Rattle.pg_journeys.proofs.Budgets.{owes_too_much, budgets_of, shown_here}
+use Rattle.pg_journeys.proofs.shown.shown_of.Goals as goal
+
+pub returns-in_default-budget : goal.returns-in_default-budget
+returns-in_default-budget c = owes_too_much (known c.args.facts.now) c.args.diagram.now c.args.position.now c.args.left c.args.color c.in_default-budget.ensures.none
+
+pub returns : goal.returns
+returns c =
+    shown_here c.args.diagram.now c.side_of-side.result c.args.left c.args.facts.now c.args.position.now c.args.color c.ways_shown.result c.side_of-side.ensures.position c.side_of-side.ensures.facts c.side_of-side.ensures.color
+    (c.ways_shown.ensures c.args.diagram.now c.args.left c.side_of-side.ensures.side
+    (budgets_of c.args.diagram.now c.side_of-side.result c.args.left c.args.position.now c.args.color c.counts_by-moves.result.most c.counts_by-quiet.result.most c.in-Some.most c.in-Some-budget.fewest c.side_of-side.ensures.position c.side_of-side.ensures.color c.counts_by-moves.ensures.most c.counts_by-quiet.ensures.most (c.in-Some.ensures.moves refl) (c.in-Some-budget.ensures.quiet refl)))

@@ -1,0 +1,8 @@
+use Rattle.std.proofs.Common.{Some, None, [], ◌∷◌}
+use Rattle.pg_position.specs.declared.rights.Wing.TheVariants.{KingSide}
+use Rattle.pg_journeys.specs.inner.Sides.{facts_of}
+use Rattle.pg_journeys.proofs.ShownWays.{all_ways}
+use Rattle.pg_journeys.proofs.shown.ways_shown.Goals as goal
+
+pub returns : goal.returns
+returns c = λ d k side budgets. all_ways (facts_of c.args.side.now) d c.args.side.now.position k c.args.side.now.ground.color c.add_way.result (c.add_way.ensures d k (Some KingSide ∷ (None ∷ [])) side budgets (c.add_way-short.ensures d k (None ∷ []) side budgets (c.add_way-none.ensures d k [] side budgets (λ v h. absurd h))))

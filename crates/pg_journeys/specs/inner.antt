@@ -1,0 +1,13 @@
+pub mod Grounds
+pub mod Counts
+pub mod Counting
+pub mod Fronts
+pub mod Levels
+pub mod Reaches
+pub mod Sides
+pub mod Deeds
+pub mod Makings
+pub mod Costing
+pub mod Narrowed
+pub mod Showing
+pub mod Walking

@@ -1,0 +1,36 @@
+-- What the plans of a way have by a measure.
+use Rattle.std.specs.Prelude.{◌≡◌, ℕ, ◌<◌, ◌↔◌, ◌⊎◌, Bool, true, Option, get_or, []}
+use Rattle.pg_board.specs.Bits.{has}
+use Rattle.pg_board.specs.declared.man.Kind.{Kind}
+use Rattle.pg_board.specs.SquareSets.{IsSetOf}
+use Rattle.pg_board.specs.Placement.{Placement}
+use Rattle.pg_position.specs.declared.rights.Wing.{Wing}
+use Rattle.pg_position.specs.Position.{Stands}
+use Rattle.pg_journeys.specs.Journeys.{Fate, Arrives, Falls, HasTake}
+use Rattle.pg_journeys.specs.inner.Sides.{facts_of, square_at, InEnd, JourneysOf, IsPaidBy}
+use Rattle.pg_journeys.specs.declared.plans.Side.{Side}
+use Rattle.pg_journeys.specs.declared.narrowing.Deeds.{Deeds}
+
+-- some plan has a step to q that may be a capture
+abbrev pub Lands : Placement → Side → Bool → Option Wing → ℕ → ℕ → Type 0
+Lands d x quiet way most q =
+    (g : JourneysOf d x way) × IsPaidBy d x quiet way most g
+    × ((i : ℕ) × (i < x.men.count) × HasTake (facts_of x) x.ground.color q (g.path (square_at x.men i)))
+
+-- some plan has a man captured on q
+abbrev pub FallsOn : Placement → Side → Bool → Option Wing → ℕ → ℕ → Type 0
+FallsOn d x quiet way most q =
+    (g : JourneysOf d x way) × IsPaidBy d x quiet way most g
+    × ((i : ℕ) × (i < x.men.count) × (g.fate (square_at x.men i) ≡ Falls q))
+
+-- some plan has the man i at an end, and he does not stay
+abbrev pub Changes : Placement → Side → Bool → Option Wing → ℕ → ℕ → ℕ → Type 0
+Changes d x quiet way most i e =
+    (g : JourneysOf d x way) × IsPaidBy d x quiet way most g × InEnd x.goals e (g.fate (square_at x.men i))
+    × ¬ ((g.fate (square_at x.men i) ≡ Arrives (square_at x.men i)) × (g.path (square_at x.men i) ≡ []))
+
+-- what is told of a way
+pub record AreDeeds (d : Placement) (x : Side) (quiet : Bool) (way : Option Wing) (most : ℕ) (a : Deeds) : Type 0 where
+  pub lands : IsSetOf a.lands (Lands d x quiet way most)
+  pub falls : IsSetOf a.falls (FallsOn d x quiet way most)
+  pub ends : (i e : ℕ) → i < x.men.count → e < 17 → (has (get_or a.ends i 0) e ≡ true) ↔ Changes d x quiet way most i e

@@ -1,0 +1,90 @@
+-- Men met by a search, by kind: those met so far, those still to be looked at, and those that one count more meets.
+use Rattle.std.specs.Prelude.{◌≡◌, ℕ, ◌<◌, ◌≤◌, ◌⊎◌, ◌&&◌, ◌||◌, Bool, true, false, not, cond, leb, List, get_or}
+use Rattle.pg_board.specs.Bits.{has}
+use Rattle.pg_board.specs.Tally.{count_below}
+use Rattle.pg_board.specs.declared.man.Kind.{Kind}
+use Rattle.pg_board.specs.declared.man.Kind.TheVariants.{Pawn}
+use Rattle.pg_board.specs.declared.man.Color.{Color}
+use Rattle.pg_captures.specs.FreeSteps.{Becomes}
+use Rattle.pg_board.specs.Men.{kind_eq}
+use Rattle.pg_journeys.specs.inner.Counts.{of_kind, count_at}
+use Rattle.pg_journeys.specs.declared.distances.Front.{Front}
+
+-- ---- numbers and sets by kind
+-- how many men on squares have no number yet
+abbrev pub unlooked : List ℕ → ℕ
+unlooked xs = count_below (λ i. leb 255 (get_or xs i 0)) 384
+
+-- n was written for the man of kind k on s
+pub record IsNoted (k : Kind) (s n : ℕ) (old new : List ℕ) : Type 0 where
+  pub here : count_at new k s ≡ n
+  pub each : (j : Kind) (t : ℕ) → t < 64 →
+      ((j ≡ k) × (t ≡ s) × (count_at new j t ≡ n)) ⊎ (count_at new j t ≡ count_at old j t)
+  pub fewer : 255 ≤ count_at old k s → n < 255 → unlooked new < unlooked old
+
+-- n was written for each man of kind k on the set
+pub record AreNoted (k : Kind) (set n : ℕ) (old new : List ℕ) : Type 0 where
+  pub on : (t : ℕ) → t < 64 → has set t ≡ true → count_at new k t ≡ n
+  pub each : (j : Kind) (t : ℕ) → t < 64 → ((j ≡ k) × (has set t ≡ true)) ⊎ (count_at new j t ≡ count_at old j t)
+
+-- a set was joined to the set of a kind
+abbrev pub IsJoined : Kind → ℕ → List ℕ → List ℕ → Type 0
+IsJoined k set old new =
+    (j : Kind) (t : ℕ) → has (of_kind new j) t ≡ (has (of_kind old j) t || (kind_eq j k && has set t))
+
+-- ---- fronts
+abbrev pub is_met : Front → Kind → ℕ → Bool
+is_met f k s = has (of_kind f.met k) s
+
+abbrev pub is_due : Front → Kind → ℕ → Bool
+is_due f k s = has (of_kind f.due k) s
+
+abbrev pub is_next : Front → Kind → ℕ → Bool
+is_next f k s = has (of_kind f.next k) s
+
+-- those of a kind on a set of squares, by a count of 1 or of 0
+abbrev pub OnSet : Kind → ℕ → Bool → Kind → ℕ → ℕ → Type 0
+OnSet k set b j t w = (j ≡ k) × (has set t ≡ true) × (w ≡ cond b 1 0)
+
+-- pawns on a set of squares, as what they are there, by a count of 1 or of 0
+abbrev pub PawnsOn : Color → ℕ → Bool → Kind → ℕ → ℕ → Type 0
+PawnsOn c set b j t w = (has set t ≡ true) × Becomes c Pawn t j × (w ≡ cond b 1 0)
+
+-- whom S meets by a count of 0 is met now, and due where he was not met before; whom it meets by a count of 1 is next
+pub record IsMeeting (S : Kind → ℕ → ℕ → Type 0) (old new : Front) : Type 0 where
+  pub met : (j : Kind) (t : ℕ) → t < 64 → is_met old j t ≡ true → is_met new j t ≡ true
+  pub due : (j : Kind) (t : ℕ) → t < 64 → is_due old j t ≡ true → is_due new j t ≡ true
+  pub next : (j : Kind) (t : ℕ) → t < 64 → is_next old j t ≡ true → is_next new j t ≡ true
+  pub free : (j : Kind) (t : ℕ) → t < 64 → S j t 0 → is_met new j t ≡ true
+  pub counted : (j : Kind) (t : ℕ) → t < 64 → S j t 1 → is_next new j t ≡ true
+  pub new_met : (j : Kind) (t : ℕ) → t < 64 → is_met new j t ≡ true → (is_met old j t ≡ true) ⊎ (is_due new j t ≡ true)
+  pub new_due : (j : Kind) (t : ℕ) → t < 64 → is_due new j t ≡ true →
+      (is_due old j t ≡ true) ⊎ ((is_met old j t ≡ false) × S j t 0)
+  pub new_next : (j : Kind) (t : ℕ) → t < 64 → is_next new j t ≡ true → (is_next old j t ≡ true) ⊎ S j t 1
+
+-- the man of kind k on s was due and is no longer
+pub record IsTakenDue (k : Kind) (s : ℕ) (old new : Front) : Type 0 where
+  pub low : s < 64
+  pub was : is_due old k s ≡ true
+  pub gone : is_due new k s ≡ false
+  pub rest : (j : Kind) (t : ℕ) → t < 64 → is_due new j t ≡ true → is_due old j t ≡ true
+  pub each : (j : Kind) (t : ℕ) → t < 64 → is_due old j t ≡ true → ((j ≡ k) × (t ≡ s)) ⊎ (is_due new j t ≡ true)
+
+-- nobody is due
+abbrev pub NoneDue : Front → Type 0
+NoneDue f = (j : Kind) (t : ℕ) → t < 64 → is_due f j t ≡ false
+
+-- who was next is met now, and due where he was not met before; nobody is next
+pub record IsAdvanced (old new : Front) (j : Kind) (t : ℕ) : Type 0 where
+  pub met : is_met new j t ≡ (is_met old j t || is_next old j t)
+  pub due : is_due new j t ≡ (is_next old j t && not (is_met old j t))
+  pub next : is_next new j t ≡ false
+
+-- those of a kind are as they were
+pub record IsUnchanged (old new : Front) (j : Kind) (t : ℕ) : Type 0 where
+  pub met : is_met new j t ≡ is_met old j t
+  pub due : is_due new j t ≡ is_due old j t
+  pub next : is_next new j t ≡ is_next old j t
+
+abbrev pub HasAdvanced : Front → Front → Type 0
+HasAdvanced old new = (j : Kind) (t : ℕ) → t < 64 → IsAdvanced old new j t

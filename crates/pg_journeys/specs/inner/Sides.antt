@@ -1,0 +1,93 @@
+-- The men of a colour in a position and in a diagram, what their fates count, and which of them plans have.
+use Rattle.std.specs.Prelude.{◌≡◌, ◌≢◌, ℕ, ◌+◌, ◌<◌, ◌≤◌, ◌↔◌, ◌⊎◌, Bool, true, Option, List, [], get_or}
+use Rattle.pg_board.specs.Bits.{has}
+use Rattle.pg_board.specs.declared.man.Color.{Color}
+use Rattle.pg_board.specs.declared.man.Kind.{Kind}
+use Rattle.pg_board.specs.declared.man.Kind.TheVariants.{Pawn}
+use Rattle.pg_board.specs.Men.{other}
+use Rattle.pg_board.specs.Tally.{total}
+use Rattle.pg_board.specs.Placement.{Placement}
+use Rattle.pg_position.specs.declared.rights.Wing.{Wing}
+use Rattle.pg_position.specs.Position.{Stands, IsPosition}
+use Rattle.pg_travel.specs.Origins.{charge, counted}
+use Rattle.pg_journeys.specs.Facts.{Facts}
+use Rattle.pg_journeys.specs.Journeys.{Leg, Fate, Arrives, Falls, IsPath, Meets, Journeys, HasTake}
+use Rattle.pg_journeys.specs.Known.{known}
+use Rattle.pg_journeys.specs.PlanCosts.{IsListing}
+use Rattle.pg_journeys.specs.lemmas.DecidingPaths.{weigh}
+use Rattle.pg_journeys.specs.inner.Counting.{counts, count_at}
+use Rattle.pg_journeys.specs.inner.Grounds.{IsGround}
+use Rattle.pg_journeys.specs.declared.men.Men.{Men}
+use Rattle.pg_journeys.specs.declared.plans.Side.{Side}
+
+-- the squares and kinds of the men in their order
+abbrev pub square_at : Men → ℕ → ℕ
+square_at m i = get_or m.squares i 0
+
+abbrev pub kind_at : Men → ℕ → Kind
+kind_at m i = get_or m.kinds i Pawn
+
+-- they are all men of c on b, sixteen at most
+pub record AreMen (b : Placement) (c : Color) (m : Men) : Type 0 where
+  pub few : m.count ≤ 16
+  pub listing : IsListing b c (square_at m) m.count
+  pub kinds : (i : ℕ) → i < m.count → Stands b c (kind_at m i) (square_at m i)
+
+-- the facts, and the colour, of a side
+abbrev pub facts_of : Side → Facts
+facts_of x = known x.ground.facts
+
+-- a side of a position for the diagram d: its men, those of d that they become, and the ground of their steps
+pub record IsSide (d : Placement) (x : Side) : Type 0 where
+  pub valid : IsPosition x.position
+  pub ground : IsGround x.ground
+  pub men : AreMen x.position.board x.ground.color x.men
+  pub goals : AreMen d x.ground.color x.goals
+  pub room : x.goals.count ≤ x.men.count
+
+-- for each man of d, and last for being captured, the least that paths to it count
+pub record AreAims (x : Side) (quiet : Bool) (most : ℕ) (aims : List (List ℕ)) : Type 0 where
+  pub small : (e : ℕ) (k : Kind) (s : ℕ) → e < 17 → s < 64 → count_at (get_or aims e []) k s < 255 → count_at (get_or aims e []) k s ≤ most
+  pub comes : (e : ℕ) (k : Kind) (s : ℕ) → e < x.goals.count → s < 64 → count_at (get_or aims e []) k s < 255 →
+      (ls : List Leg) × IsPath (facts_of x) x.ground.color k s ls (kind_at x.goals e) (square_at x.goals e)
+      × (weigh (counts (facts_of x) x.ground.color quiet) ls ≤ count_at (get_or aims e []) k s)
+  pub least : (e : ℕ) (k : Kind) (s : ℕ) (ls : List Leg) → e < x.goals.count → s < 64 →
+      IsPath (facts_of x) x.ground.color k s ls (kind_at x.goals e) (square_at x.goals e) → weigh (counts (facts_of x) x.ground.color quiet) ls ≤ most →
+      count_at (get_or aims e []) k s ≤ weigh (counts (facts_of x) x.ground.color quiet) ls
+  pub falls : (k : Kind) (s : ℕ) → s < 64 → count_at (get_or aims 16 []) k s < 255 →
+      (j : Kind) × (t : ℕ) × (ls : List Leg) × (t < 64) × ((facts_of x).lands (other x.ground.color) t ≡ true)
+      × IsPath (facts_of x) x.ground.color k s ls j t × (weigh (counts (facts_of x) x.ground.color quiet) ls ≤ count_at (get_or aims 16 []) k s)
+  pub least_fall : (k : Kind) (s : ℕ) (j : Kind) (t : ℕ) (ls : List Leg) → s < 64 → t < 64 → x.goals.count < x.men.count →
+      (facts_of x).lands (other x.ground.color) t ≡ true → IsPath (facts_of x) x.ground.color k s ls j t →
+      weigh (counts (facts_of x) x.ground.color quiet) ls ≤ most → count_at (get_or aims 16 []) k s ≤ weigh (counts (facts_of x) x.ground.color quiet) ls
+
+-- the journeys of a side in a way
+abbrev pub JourneysOf : Placement → Side → Option Wing → Type 0
+JourneysOf d x way = Journeys (facts_of x) d x.position x.ground.color way
+
+-- so many counts pay for them and for the way
+abbrev pub IsPaidBy : (d : Placement) (x : Side) (quiet : Bool) (way : Option Wing) (most : ℕ) → JourneysOf d x way → Type 0
+IsPaidBy d x quiet way most g = charge way + total (λ s. weigh (counts (facts_of x) x.ground.color quiet) (g.path s)) 64 ≤ most
+
+-- what a fate of the man i is met by in a way
+abbrev pub MeetsAt : Placement → Side → Option Wing → ℕ → List Leg → Fate → Type 0
+MeetsAt d x way i ls o =
+    Meets (facts_of x) d x.position x.ground.color (kind_at x.men i) (square_at x.men i) (counted x.ground.color way (square_at x.men i)) ls o
+
+-- the end of a fate: each man of d, and the end 16 for being captured
+abbrev pub InEnd : Men → ℕ → Fate → Type 0
+InEnd goals e (Arrives t) = (e < goals.count) × (square_at goals e ≡ t)
+InEnd goals e (Falls u) = e ≡ 16
+
+-- the room of each man at each end: by a path to a fate of that end some plan goes just where the path counts at most as much
+pub record AreRooms (d : Placement) (x : Side) (quiet : Bool) (way : Option Wing) (most : ℕ) (rooms : List (List ℕ)) : Type 0 where
+  pub small : (i e : ℕ) → i < x.men.count → e < 17 → get_or (get_or rooms i []) e 0 < 255 → get_or (get_or rooms i []) e 0 ≤ most
+  pub some : (i e : ℕ) → i < x.men.count → e < 17 → get_or (get_or rooms i []) e 0 < 255 →
+      (o : Fate) × (ls : List Leg) × InEnd x.goals e o × MeetsAt d x way i ls o
+      × (weigh (counts (facts_of x) x.ground.color quiet) ls ≤ get_or (get_or rooms i []) e 0)
+  pub fits : (i e : ℕ) (o : Fate) (ls : List Leg) → i < x.men.count → e < 17 → InEnd x.goals e o → MeetsAt d x way i ls o →
+      get_or (get_or rooms i []) e 0 < 255 → weigh (counts (facts_of x) x.ground.color quiet) ls ≤ get_or (get_or rooms i []) e 0 →
+      (g : JourneysOf d x way) × IsPaidBy d x quiet way most g × (g.fate (square_at x.men i) ≡ o) × (g.path (square_at x.men i) ≡ ls)
+  pub least : (i e : ℕ) (g : JourneysOf d x way) → i < x.men.count → e < 17 → IsPaidBy d x quiet way most g → InEnd x.goals e (g.fate (square_at x.men i)) →
+      (get_or (get_or rooms i []) e 0 < 255)
+      × (weigh (counts (facts_of x) x.ground.color quiet) (g.path (square_at x.men i)) ≤ get_or (get_or rooms i []) e 0)

@@ -1,0 +1,428 @@
+//! Least counts of paths under facts: to a fate from each kind of man on each square, and from a man.
+ghost use Rattle.std.specs.Prelude.{◌≡◌, ◌≢◌, ℕ, ◌+◌, ◌*◌, ◌<◌, ◌↔◌, ◌&&◌, List, cond, IsTrue, true, false, not};
+ghost use Rattle.std.specs.Prelude.{MatchOption, IfNone};
+ghost use Rattle.pg_board.specs.Bits.{has};
+ghost use Rattle.pg_board.specs.declared.man.Kind.{Kind as KindOfMan};
+ghost use Rattle.pg_board.specs.declared.man.Kind.TheVariants.{Pawn};
+ghost use Rattle.pg_board.specs.Men.{number_of_kind};
+ghost use Rattle.pg_captures.specs.FreeSteps.{Becomes};
+ghost use Rattle.pg_journeys.specs.Known.{known};
+ghost use Rattle.pg_journeys.specs.inner.Grounds.{IsGround};
+ghost use Rattle.pg_journeys.specs.inner.Counts.{of_kind, count_at};
+ghost use Rattle.pg_journeys.specs.inner.Counting.{AreCountsTo, IsReach};
+ghost use Rattle.pg_journeys.specs.inner.Fronts.{IsNoted, AreNoted, IsJoined, OnSet, PawnsOn, IsMeeting, IsTakenDue};
+ghost use Rattle.pg_journeys.specs.inner.Fronts.{NoneDue, HasAdvanced, IsAdvanced, IsUnchanged, is_met, is_due};
+ghost use Rattle.pg_journeys.specs.inner.Levels.{IsOpen, IsBackLevel, IsBackStage, BackStep};
+ghost use Rattle.pg_journeys.specs.inner.Levels.{IsAheadLevel, IsAheadStage, AheadStep};
+ghost use Rattle.pg_journeys.specs.inner.Reaches.{IsTaking, TakeStep, IsStood, AreTaken};
+
+use crate::facts::rank_set;
+use crate::ground::Ground;
+use pg_board::{Color, Kind, Square, SquareSet};
+use pg_position::last_rank;
+
+// A number for each kind of man on each square: 64 times the number of the kind, and the square. 255 is none.
+pub(crate) type Counts = [u8; 384];
+
+// Where a number for a kind on a square stands.
+pub(crate) fn place(kind: Kind, square: Square) -> usize
+    ensures value { result ≡ number_of_kind kind * 64 + square }
+    ensures low { result < 384 }
+    ensures square { square < 64 }
+{
+    usize::from(kind.number()) * 64 + usize::from(square.index())
+}
+
+// The kinds of men in the order of their numbers.
+pub(crate) const KINDS: [Kind; 6] = [
+    Kind::Pawn,
+    Kind::Knight,
+    Kind::Bishop,
+    Kind::Rook,
+    Kind::Queen,
+    Kind::King,
+];
+
+// The kind with a number.
+pub(crate) fn kind_with(number: usize) -> Kind
+    requires { number < 6 }
+    ensures { number_of_kind result ≡ number }
+{
+    KINDS[number]
+}
+
+// Writes the number for a man on a square.
+fn note(counts: &mut Counts, kind: Kind, square: Square, count: u8)
+    ensures { IsNoted kind square count counts.old counts.new }
+{
+    counts[place(kind, square)] = count;
+}
+
+// Writes a number for each man of a kind on these squares.
+fn note_all(counts: &mut Counts, kind: Kind, set: SquareSet, count: u8)
+    ensures { AreNoted kind set count counts.old counts.new }
+{
+    let mut left = set;
+    while let Some(square) = left.pop_first() {
+        note(counts, kind, square, count);
+    }
+}
+
+// Joins a set to the set of a kind.
+fn join(sets: &mut [SquareSet; 6], kind: Kind, set: SquareSet)
+    ensures { IsJoined kind set sets.old sets.new }
+{
+    let k = usize::from(kind.number());
+    sets[k] = sets[k] | set;
+}
+
+// A man of a kind on a square.
+#[derive(Clone, Copy)]
+struct Standing {
+    kind: Kind,
+    square: Square,
+}
+
+// Men that were met, by kind: those met so far, those of them still to be looked at, and those that one count more meets.
+#[derive(Drop)]
+pub(crate) struct Front {
+    pub(crate) met: [SquareSet; 6],
+    pub(crate) due: [SquareSet; 6],
+    pub(crate) next: [SquareSet; 6],
+}
+
+impl Front {
+    // None is met; these are to be by no count.
+    fn at(start: [SquareSet; 6]) -> Front
+        ensures next { result.next ≡ start }
+        ensures none { (k : KindOfMan) (s : ℕ) → is_met result k s ≡ false }
+    {
+        Front {
+            met: [SquareSet::empty(); 6],
+            due: [SquareSet::empty(); 6],
+            next: start,
+        }
+    }
+
+    // Meets men of a kind by this count, or by one more.
+    fn meet(&mut self, kind: Kind, set: SquareSet, counts: bool)
+        ensures { IsMeeting (OnSet kind set counts) self.old self.new }
+    {
+        if counts {
+            join(&mut self.next, kind, set);
+        } else {
+            let new = set - self.met[usize::from(kind.number())];
+            join(&mut self.met, kind, new);
+            join(&mut self.due, kind, new);
+        }
+    }
+
+    // Meets those of a kind whom one count more meets. False where that is nobody new.
+    fn advance_kind(&mut self, k: usize) -> bool
+        requires { k < 6 }
+        ensures here { (j : KindOfMan) (s : ℕ) → number_of_kind j ≡ k → s < 64
+            → IsAdvanced self.old self.new j s }
+        ensures others { (j : KindOfMan) (s : ℕ) → number_of_kind j ≢ k → IsUnchanged self.old self.new j s }
+        ensures idle { result ≡ false → (j : KindOfMan) (s : ℕ) → number_of_kind j ≡ k → s < 64
+            → is_due self.new j s ≡ false }
+    {
+        let new = self.next[k] - self.met[k];
+        self.met[k] = self.met[k] | new;
+        self.due[k] = new;
+        self.next[k] = SquareSet::empty();
+        !new.is_empty()
+    }
+
+    // Meets what one count more meets. False where that is nobody new.
+    fn advance(&mut self) -> bool
+        ensures all { HasAdvanced self.old self.new }
+        ensures idle { result ≡ false → NoneDue self.new }
+    {
+        let mut any = false;
+        for k in 0..6usize {
+            let some = self.advance_kind(k);
+            any = any || some;
+        }
+        any
+    }
+
+    // Takes one of the men who are due.
+    fn take_due(&mut self) -> Option<Standing>
+        ensures taken { MatchOption result (NoneDue self.old) (λ m. IsTakenDue m.kind m.square self.old self.new) }
+        ensures met { self.new.met ≡ self.old.met }
+        ensures next { self.new.next ≡ self.old.next }
+        ensures none { IfNone result (self.new ≡ self.old) }
+    {
+        for k in 0..6usize {
+            let mut set = self.due[k];
+            if let Some(square) = set.pop_first() {
+                self.due[k] = set;
+                return Some(Standing {
+                    kind: kind_with(k),
+                    square,
+                });
+            }
+        }
+        None
+    }
+}
+
+// Men of one kind on these squares.
+pub(crate) fn only(kind: Kind, set: SquareSet) -> [SquareSet; 6]
+    ensures here { of_kind result kind ≡ set }
+    ensures others { (k : KindOfMan) → k ≢ kind → of_kind result k ≡ 0 }
+{
+    let mut men = [SquareSet::empty(); 6];
+    men[usize::from(kind.number())] = set;
+    men
+}
+
+// Whether a pawn that comes to a square may be of this kind there.
+fn becomes(color: Color, kind: Kind, square: Square) -> bool
+    ensures { IsTrue result ↔ Becomes color Pawn square kind }
+{
+    let last = square.rank() == last_rank(color);
+    match kind {
+        Kind::Pawn => !last,
+        Kind::King => false,
+        _ => last,
+    }
+}
+
+// Whether a step of a man who is no pawn counts.
+fn counts_to_square(is_quiet: bool, lands: SquareSet, square: Square) -> bool
+    ensures { result ≡ not (is_quiet && has lands square) }
+{
+    !(is_quiet && lands.contains(square))
+}
+
+// Meets whoever of his own kind comes by one step to be this man on this square.
+fn meet_pieces_before(
+    ground: &Ground,
+    is_quiet: bool,
+    kind: Kind,
+    square: Square,
+    front: &mut Front,
+)
+    requires { IsGround ground.now }
+    ensures { IsMeeting
+        (λ j t w. (j ≢ Pawn) × BackStep (known ground.now.facts) ground.now.color is_quiet kind square j t w)
+        front.old front.new }
+{
+    match kind {
+        Kind::Pawn => {}
+        _ => {
+            let counts = counts_to_square(is_quiet, ground.lands(), square);
+            front.meet(kind, ground.steps(kind, square), counts);
+        }
+    }
+}
+
+// Meets the pawns that come by one step to be this man on this square.
+fn meet_pawns_before(ground: &Ground, is_quiet: bool, kind: Kind, square: Square, front: &mut Front)
+    requires { IsGround ground.now }
+    ensures { IsMeeting
+        (λ j t w. (j ≡ Pawn) × BackStep (known ground.now.facts) ground.now.color is_quiet kind square j t w)
+        front.old front.new }
+{
+    if becomes(ground.color, kind, square) {
+        front.meet(Kind::Pawn, ground.pushed_from(square), true);
+        front.meet(Kind::Pawn, ground.captured_from(square), !is_quiet);
+    }
+}
+
+// Meets whoever comes by one step to be this man on this square.
+fn meet_before(ground: &Ground, is_quiet: bool, kind: Kind, square: Square, front: &mut Front)
+    requires { IsGround ground.now }
+    ensures { IsMeeting (BackStep (known ground.now.facts) ground.now.color is_quiet kind square) front.old front.new }
+{
+    meet_pieces_before(ground, is_quiet, kind, square, front);
+    meet_pawns_before(ground, is_quiet, kind, square, front);
+}
+
+// Looks at all who are due, by this count.
+fn look_back(ground: &Ground, is_quiet: bool, count: u8, front: &mut Front, counts: &mut Counts)
+    requires sound { IsGround ground.now }
+    requires low { count < 200 }
+    requires ready { IsOpen counts.old front.old }
+    ensures { (goals : List ℕ)
+        → IsBackLevel (known ground.now.facts) ground.now.color is_quiet goals count counts.old front.old
+        → IsBackStage (known ground.now.facts) ground.now.color is_quiet goals (count + 1) counts.new front.new }
+{
+    while let Some(man) = front.take_due() {
+        note(counts, man.kind, man.square, count);
+        meet_before(ground, is_quiet, man.kind, man.square, front);
+    }
+}
+
+// The least count from each man on each square to one of these, up to so many; 255 for none.
+pub(crate) fn counts_to(ground: &Ground, is_quiet: bool, goals: [SquareSet; 6], most: u8) -> Counts
+    requires sound { IsGround ground.now }
+    requires low { most < 200 }
+    ensures { AreCountsTo (known ground.now.facts) ground.now.color is_quiet goals most result }
+{
+    let mut front = Front::at(goals);
+    let mut counts = [255u8; 384];
+    for count in 0..=most {
+        if !front.advance() {
+            break;
+        }
+        look_back(ground, is_quiet, count, &mut front, &mut counts);
+    }
+    counts
+}
+
+// What is reached from a man by steps: by what count he stands where, and by what count his last step was one that may be
+// a capture; and by kind the squares where either is so.
+#[derive(Drop)]
+pub(crate) struct Reach {
+    pub(crate) stands: Counts,
+    pub(crate) takes: Counts,
+    pub(crate) stood: [SquareSet; 6],
+    pub(crate) taken: [SquareSet; 6],
+}
+
+impl Reach {
+    // Nothing is reached.
+    fn none() -> Reach
+        ensures stands { (k : KindOfMan) (s : ℕ) → s < 64 → count_at result.stands k s ≡ 255 }
+        ensures takes { (k : KindOfMan) (s : ℕ) → s < 64 → count_at result.takes k s ≡ 255 }
+        ensures stood { (k : KindOfMan) (s : ℕ) → has (of_kind result.stood k) s ≡ false }
+        ensures taken { (k : KindOfMan) (s : ℕ) → has (of_kind result.taken k) s ≡ false }
+    {
+        Reach {
+            stands: [255u8; 384],
+            takes: [255u8; 384],
+            stood: [SquareSet::empty(); 6],
+            taken: [SquareSet::empty(); 6],
+        }
+    }
+
+    // Notes that a man of a kind stands on a square by this count.
+    fn stand(&mut self, kind: Kind, square: Square, count: u8)
+        ensures stands { IsNoted kind square count self.old.stands self.new.stands }
+        ensures stood { IsStood kind square self.old.stood self.new.stood }
+        ensures takes { self.new.takes ≡ self.old.takes }
+        ensures taken { self.new.taken ≡ self.old.taken }
+    {
+        note(&mut self.stands, kind, square, count);
+        join(&mut self.stood, kind, SquareSet::single(square));
+    }
+
+    // Notes that steps which may be captures lead a man of a kind to these squares by this count, where none did
+    // before.
+    fn take(&mut self, kind: Kind, set: SquareSet, count: u8)
+        ensures { IsTaking (λ j t. (j ≡ kind) × (has set t ≡ true)) count self.old self.new }
+    {
+        let new = set - self.taken[usize::from(kind.number())];
+        join(&mut self.taken, kind, new);
+        note_all(&mut self.takes, kind, new, count);
+    }
+}
+
+// Meets a pawn on squares of no last rank, and each that he may become on the last one.
+fn meet_pawns(ground: &Ground, set: SquareSet, counts: bool, front: &mut Front)
+    ensures { IsMeeting (PawnsOn ground.now.color set counts) front.old front.new }
+{
+    let last = rank_set(last_rank(ground.color));
+    let promoted = set & last;
+    front.meet(Kind::Pawn, set - last, counts);
+    front.meet(Kind::Knight, promoted, counts);
+    front.meet(Kind::Bishop, promoted, counts);
+    front.meet(Kind::Rook, promoted, counts);
+    front.meet(Kind::Queen, promoted, counts);
+}
+
+// Notes the captures of a pawn, as what he becomes by them.
+fn take_by_pawn(ground: &Ground, set: SquareSet, count: u8, reach: &mut Reach)
+    ensures { IsTaking (λ j t. (has set t ≡ true) × Becomes ground.now.color Pawn t j) count reach.old reach.new }
+{
+    let last = rank_set(last_rank(ground.color));
+    let promoted = set & last;
+    reach.take(Kind::Pawn, set - last, count);
+    reach.take(Kind::Knight, promoted, count);
+    reach.take(Kind::Bishop, promoted, count);
+    reach.take(Kind::Rook, promoted, count);
+    reach.take(Kind::Queen, promoted, count);
+}
+
+// Meets whom a step makes of this man on this square.
+fn meet_after(ground: &Ground, is_quiet: bool, kind: Kind, square: Square, front: &mut Front)
+    requires { IsGround ground.now }
+    ensures { IsMeeting (AheadStep (known ground.now.facts) ground.now.color is_quiet kind square) front.old front.new }
+{
+    match kind {
+        Kind::Pawn => {
+            meet_pawns(ground, ground.pushes(square), true, front);
+            meet_pawns(ground, ground.captures(square), !is_quiet, front);
+        }
+        _ => {
+            let steps = ground.steps(kind, square);
+            let captures = steps & ground.lands();
+            front.meet(kind, captures, !is_quiet);
+            front.meet(kind, steps - captures, true);
+        }
+    }
+}
+
+// Notes where steps of this man on this square that may be captures lead, by this count.
+fn take_after(ground: &Ground, kind: Kind, square: Square, count: u8, reach: &mut Reach)
+    requires { IsGround ground.now }
+    ensures { IsTaking (TakeStep (known ground.now.facts) ground.now.color kind square) count reach.old reach.new }
+{
+    match kind {
+        Kind::Pawn => take_by_pawn(ground, ground.captures(square), count, reach),
+        _ => reach.take(kind, ground.steps(kind, square) & ground.lands(), count),
+    }
+}
+
+// The count of a step that may be a capture, from a man with this count.
+fn paid_by_taking(is_quiet: bool, count: u8) -> u8
+    requires { count < 200 }
+    ensures { result ≡ count + cond is_quiet 0 1 }
+{
+    if is_quiet { count } else { count + 1 }
+}
+
+// Looks at all who are due, by this count.
+fn look_ahead(ground: &Ground, is_quiet: bool, count: u8, front: &mut Front, reach: &mut Reach)
+    requires sound { IsGround ground.now }
+    requires low { count < 200 }
+    requires ready { IsOpen reach.old.stands front.old }
+    ensures { (k : KindOfMan) (s : ℕ) → s < 64
+        → IsAheadLevel (known ground.now.facts) ground.now.color is_quiet k s count reach.old.stands front.old
+        → AreTaken (known ground.now.facts) ground.now.color is_quiet k s count reach.old
+        → IsAheadStage (known ground.now.facts) ground.now.color is_quiet k s (count + 1) reach.new.stands front.new
+        × AreTaken (known ground.now.facts) ground.now.color is_quiet k s count reach.new }
+{
+    let paid = paid_by_taking(is_quiet, count);
+    while let Some(man) = front.take_due() {
+        reach.stand(man.kind, man.square, count);
+        take_after(ground, man.kind, man.square, paid, reach);
+        meet_after(ground, is_quiet, man.kind, man.square, front);
+    }
+}
+
+// What is reached from a man on a square, up to so many counts.
+pub(crate) fn reach_of(
+    ground: &Ground,
+    is_quiet: bool,
+    kind: Kind,
+    square: Square,
+    most: u8,
+) -> Reach
+    requires sound { IsGround ground.now }
+    requires low { most < 200 }
+    ensures { IsReach (known ground.now.facts) ground.now.color is_quiet kind square most result }
+{
+    square.index();
+    let mut front = Front::at(only(kind, SquareSet::single(square)));
+    let mut reach = Reach::none();
+    for count in 0..=most {
+        if !front.advance() {
+            break;
+        }
+        look_ahead(ground, is_quiet, count, &mut front, &mut reach);
+    }
+    reach
+}

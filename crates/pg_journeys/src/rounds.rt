@@ -1,0 +1,192 @@
+//! The four rounds.
+ghost use Rattle.std.specs.Prelude.{◌≡◌, ℕ, ◌<◌, ◌⊎◌, ◌↔◌, IsTrue, IfSome, IfNone, MatchOption, true};
+ghost use Rattle.pg_board.specs.Bits.{has};
+ghost use Rattle.pg_board.specs.SquareSets.{IsSetOf};
+ghost use Rattle.pg_board.specs.declared.man.Color.{Color as AnyColor};
+ghost use Rattle.pg_board.specs.declared.man.Color.TheVariants.{White, Black};
+ghost use Rattle.pg_captures.specs.Owed.{victims};
+ghost use Rattle.pg_journeys.specs.Facts.{FactsHold};
+ghost use Rattle.pg_journeys.specs.FirstFacts.{AreFirst, HasWalls, IsWallOf};
+ghost use Rattle.pg_journeys.specs.Known.{known};
+ghost use Rattle.pg_journeys.specs.Rounds.{HasDeadColor, JourneysHold};
+ghost use Rattle.pg_journeys.specs.inner.Showing.{IsDead, Shows};
+ghost use Rattle.pg_journeys.specs.inner.Walking.{HasFewer, HasFew, IsKept, MayLand, IsNext, AreOfSomeRound};
+
+use crate::facts::{Facts, walls};
+use crate::shown::{Shown, shown_of};
+use pg_board::{Board, Color, SquareSet};
+use pg_captures::{all_men, victims_of};
+use pg_fen::Diagram;
+use pg_position::Position;
+
+// Where captures of a colour may land at first: nowhere where it owes none.
+fn first_landing(goal: &Board, board: &Board, color: Color, walls: SquareSet) -> SquareSet
+    requires { IsSetOf walls (IsWallOf goal.now) }
+    ensures { IsSetOf result (λ s. (victims color goal.now < victims color board.now) × ¬ IsWallOf goal.now s) }
+{
+    if victims_of(goal, color) < victims_of(board, color) {
+        SquareSet::full() - walls
+    } else {
+        SquareSet::empty()
+    }
+}
+
+// The first facts.
+pub(crate) fn first_facts(diagram: &Diagram, position: &Position) -> Facts
+    ensures { AreFirst (known result) diagram.now position.now }
+{
+    let goal = diagram.board();
+    let board = position.board();
+    let walls = walls(&goal);
+    Facts {
+        still: walls,
+        white: first_landing(&goal, &board, Color::White, walls),
+        black: first_landing(&goal, &board, Color::Black, walls),
+    }
+}
+
+// The men of a colour who stand as in the diagram and do not change.
+fn stays(diagram: &Diagram, position: &Position, color: Color, shown: &Shown) -> SquareSet
+    ensures { IsSetOf result (IsKept diagram.now position.now.board color shown.now.changed) }
+{
+    let board = position.board();
+    (board.squares_of_color(color) - board.differing(&diagram.board())) - shown.changed
+}
+
+// The squares that are still after a round.
+fn still_after(
+    diagram: &Diagram,
+    position: &Position,
+    still: SquareSet,
+    white: &Shown,
+    black: &Shown,
+) -> SquareSet
+    ensures { IsSetOf result (λ s. (has still s ≡ true)
+        ⊎ ((IsKept diagram.now position.now.board White white.now.changed s)
+        ⊎ (IsKept diagram.now position.now.board Black black.now.changed s))) }
+{
+    still
+        | (stays(diagram, position, Color::White, white)
+            | stays(diagram, position, Color::Black, black))
+}
+
+// Where captures of a colour may land after a round.
+fn landing_after(before: SquareSet, still: SquareSet, own: &Shown, theirs: &Shown) -> SquareSet
+    ensures { IsSetOf result (MayLand before still own.now theirs.now) }
+{
+    (before & (own.lands & own.quiet_lands & theirs.falls & theirs.quiet_falls)) - still
+}
+
+// The facts that follow from what the plans show.
+fn narrowed(
+    diagram: &Diagram,
+    position: &Position,
+    facts: &Facts,
+    white: &Shown,
+    black: &Shown,
+) -> Facts
+    ensures { (k : ℕ) → Shows (known facts.now) diagram.now position.now k White white.now →
+        Shows (known facts.now) diagram.now position.now k Black black.now →
+        IsNext (known facts.now) (known result) diagram.now position.now k }
+{
+    let still = still_after(diagram, position, facts.still, white, black);
+    Facts {
+        still,
+        white: landing_after(facts.white, still, white, black),
+        black: landing_after(facts.black, still, black, white),
+    }
+}
+
+// The facts that follow; none where a colour has no way alive.
+fn next_facts(diagram: &Diagram, position: &Position, left: u8, facts: &Facts) -> Option<Facts>
+    requires few { HasFew position.now }
+    requires enough { ¬ HasFewer diagram.now position.now }
+    ensures { MatchOption result ((c : AnyColor) × IsDead (known facts.now) diagram.now position.now left c)
+        (λ e. IsNext (known facts.now) (known e) diagram.now position.now left) }
+{
+    match shown_of(diagram, position, left, facts, Color::White) {
+        None => None,
+        Some(white) => match shown_of(diagram, position, left, facts, Color::Black) {
+            None => None,
+            Some(black) => Some(narrowed(diagram, position, facts, &white, &black)),
+        },
+    }
+}
+
+// The facts of the last round, or of one that changes nothing more; none where in a round a colour has no way alive.
+fn last_facts(diagram: &Diagram, position: &Position, left: u8) -> Option<Facts>
+    requires few { HasFew position.now }
+    requires enough { ¬ HasFewer diagram.now position.now }
+    ensures dead { IfNone result (HasDeadColor diagram.now position.now left) }
+    ensures alive { IfSome result (λ f. ¬ HasDeadColor diagram.now position.now left) }
+    ensures facts { IfSome result (λ f. AreOfSomeRound diagram.now position.now left (known f)) }
+{
+    let mut facts = first_facts(diagram, position);
+    for _ in 0..4u8 {
+        match next_facts(diagram, position, left, &facts) {
+            None => return None,
+            Some(next) => {
+                if next == facts {
+                    return Some(facts);
+                }
+                facts = next;
+            }
+        }
+    }
+    Some(facts)
+}
+
+// Whether each wall of the diagram has its pawn.
+fn has_walls(diagram: &Diagram, position: &Position) -> bool
+    ensures { IsTrue result ↔ HasWalls diagram.now position.now }
+{
+    let goal = diagram.board();
+    !walls(&goal).meets(position.board().differing(&goal))
+}
+
+// Whether the position has fewer men of a colour than the diagram.
+fn has_fewer(diagram: &Diagram, position: &Position) -> bool
+    ensures { IsTrue result ↔ HasFewer diagram.now position.now }
+{
+    let goal = diagram.board();
+    let board = position.board();
+    all_men(&board, Color::White) < all_men(&goal, Color::White)
+        || all_men(&board, Color::Black) < all_men(&goal, Color::Black)
+}
+
+// Whether the position has at most sixteen men of each colour.
+fn has_few(position: &Position) -> bool
+    ensures { IsTrue result ↔ HasFew position.now }
+{
+    let board = position.board();
+    all_men(&board, Color::White) <= 16 && all_men(&board, Color::Black) <= 16
+}
+
+/// Facts that hold for the games of `left` plies from the position to the diagram: the squares whose men stay where
+/// they are, and for each colour those where its captures may land. They are the facts of the last round, and the
+/// first ones where a colour has more than sixteen men. None where the bound by journeys excludes, and only there.
+pub fn facts_for(diagram: &Diagram, position: &Position, left: u8) -> Option<Facts>
+    ensures holds { IfSome result (λ f. FactsHold (known f) diagram.now position.now left) }
+    ensures some { IfSome result (λ f. ¬ JourneysHold diagram.now position.now left) }
+    ensures none { IfNone result (JourneysHold diagram.now position.now left) }
+{
+    // A fact for the proof: what is handed in is a position.
+    position.side();
+    if !has_walls(diagram, position) {
+        return None;
+    }
+    if has_fewer(diagram, position) {
+        return None;
+    }
+    if !has_few(position) {
+        return Some(first_facts(diagram, position));
+    }
+    last_facts(diagram, position, left)
+}
+
+/// Whether the bound by journeys excludes every game of `left` plies from the position to the diagram.
+pub fn journeys_hold(diagram: &Diagram, position: &Position, left: u8) -> bool
+    ensures { IsTrue result ↔ JourneysHold diagram.now position.now left }
+{
+    facts_for(diagram, position, left).is_none()
+}

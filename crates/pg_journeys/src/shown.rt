@@ -1,0 +1,219 @@
+//! What the plans of a colour show under facts: who may change, where captures land and where men are captured.
+ghost use Rattle.std.specs.Prelude.{◌≡◌, ℕ, ◌<◌, ◌≤◌, ◌↔◌, IsTrue, MatchOption, Option, List, ◌∷◌, true, false};
+ghost use Rattle.pg_board.specs.SquareSets.{IsSetOf};
+ghost use Rattle.pg_board.specs.Placement.{Placement};
+ghost use Rattle.pg_position.specs.declared.rights.Wing.{Wing as AnyWing};
+ghost use Rattle.pg_captures.specs.Counting.{men, any_man};
+ghost use Rattle.pg_travel.specs.Origins.{charge as charge_of};
+ghost use Rattle.pg_journeys.specs.Known.{known};
+ghost use Rattle.pg_journeys.specs.Plans.{IsAlive};
+ghost use Rattle.pg_journeys.specs.inner.Sides.{facts_of, square_at, IsSide};
+ghost use Rattle.pg_journeys.specs.inner.Showing.{MayChange, IsMeasured, AreBudgets, ShowsWay, IsJoined, ShowsAmong, IsDead, Shows};
+
+use crate::facts::Facts;
+use crate::ground::ground_of;
+use crate::men::{Men, men_of};
+use crate::narrowing::{Deeds, deeds_of};
+use crate::plans::{Aims, Side, aims_of, budget, counted, is_paid, is_way};
+use pg_board::{Color, SquareSet};
+use pg_fen::Diagram;
+use pg_position::{Position, Wing};
+
+// What the plans of a colour show: who changes in one, and by each measure where captures land and men are captured.
+#[derive(Clone, Copy)]
+pub(crate) struct Shown {
+    pub(crate) changed: SquareSet,
+    pub(crate) lands: SquareSet,
+    pub(crate) quiet_lands: SquareSet,
+    pub(crate) falls: SquareSet,
+    pub(crate) quiet_falls: SquareSet,
+}
+
+// The counts of paths by a measure, and what they may count.
+#[derive(Drop)]
+pub(crate) struct Measured {
+    pub(crate) aims: Aims,
+    pub(crate) most: u8,
+}
+
+// Whether a man may change: he starts elsewhere, or by both measures he changes by some one end.
+fn may_change(
+    color: Color,
+    own: &Men,
+    way: Option<Wing>,
+    moves: &Deeds,
+    quiet: &Deeds,
+    i: usize,
+) -> bool
+    requires { i < 16 }
+    ensures { IsTrue result ↔ MayChange color own.now way moves.now quiet.now i }
+{
+    let square = own.squares[i];
+    counted(color, way, square) != square || (moves.ends[i] & quiet.ends[i]) & 0x0001_ffff != 0
+}
+
+// The men who may change.
+fn changed_in(color: Color, own: &Men, way: Option<Wing>, moves: &Deeds, quiet: &Deeds) -> SquareSet
+    requires { own.now.count ≤ 16 }
+    ensures { IsSetOf result (λ s. (i : ℕ) × (i < own.now.count) × (square_at own.now i ≡ s)
+        × MayChange color own.now way moves.now quiet.now i) }
+{
+    let mut changed = SquareSet::empty();
+    for i in 0..own.count {
+        if may_change(color, own, way, moves, quiet, i) {
+            changed = changed | SquareSet::single(own.squares[i]);
+        }
+    }
+    changed
+}
+
+// Whether a way has a plan by each measure.
+fn is_alive(side: &Side, moves: &Measured, quiet: &Measured, way: Option<Wing>) -> bool
+    requires side { (d : Placement) × IsSide d side.now }
+    requires moves { IsMeasured side.now false moves.now }
+    requires quiet { IsMeasured side.now true quiet.now }
+    ensures tells { (d : Placement) (k : ℕ) → IsSide d side.now →
+        AreBudgets d side.now k moves.now.most quiet.now.most →
+        IsTrue result ↔ IsAlive (facts_of side.now) d side.now.position k side.now.ground.color way }
+    ensures charged { IsTrue result → charge_of way ≤ moves.now.most }
+    ensures quietly { IsTrue result → charge_of way ≤ quiet.now.most }
+{
+    if !is_way(&side.position, &side.ground.facts, side.ground.color, way) {
+        return false;
+    }
+    if !is_paid(side, &moves.aims, way, moves.most) {
+        return false;
+    }
+    is_paid(side, &quiet.aims, way, quiet.most)
+}
+
+// What the plans of a way show.
+fn way_shown(side: &Side, moves: &Measured, quiet: &Measured, way: Option<Wing>) -> Shown
+    requires side { (d : Placement) × IsSide d side.now }
+    requires moves { IsMeasured side.now false moves.now }
+    requires quiet { IsMeasured side.now true quiet.now }
+    requires charged { charge_of way ≤ moves.now.most }
+    requires quietly { charge_of way ≤ quiet.now.most }
+    ensures { (d : Placement) (k : ℕ) → IsSide d side.now →
+        AreBudgets d side.now k moves.now.most quiet.now.most →
+        ShowsWay (facts_of side.now) d side.now.position k side.now.ground.color way result }
+{
+    let all = deeds_of(side, false, &moves.aims, way, moves.most);
+    let calm = deeds_of(side, true, &quiet.aims, way, quiet.most);
+    Shown {
+        changed: changed_in(side.ground.color, &side.men, way, &all, &calm),
+        lands: all.lands,
+        quiet_lands: calm.lands,
+        falls: all.falls,
+        quiet_falls: calm.falls,
+    }
+}
+
+// What either shows.
+fn joined(one: &Shown, other: &Shown) -> Shown
+    ensures { IsJoined one.now other.now result }
+{
+    Shown {
+        changed: one.changed | other.changed,
+        lands: one.lands | other.lands,
+        quiet_lands: one.quiet_lands | other.quiet_lands,
+        falls: one.falls | other.falls,
+        quiet_falls: one.quiet_falls | other.quiet_falls,
+    }
+}
+
+// With what the plans of a way show; the same where it is not alive.
+fn add_way(
+    side: &Side,
+    moves: &Measured,
+    quiet: &Measured,
+    way: Option<Wing>,
+    before: Option<Shown>,
+) -> Option<Shown>
+    requires side { (d : Placement) × IsSide d side.now }
+    requires moves { IsMeasured side.now false moves.now }
+    requires quiet { IsMeasured side.now true quiet.now }
+    ensures { (d : Placement) (k : ℕ) (ways : List (Option AnyWing)) → IsSide d side.now →
+        AreBudgets d side.now k moves.now.most quiet.now.most →
+        ShowsAmong (facts_of side.now) d side.now.position k side.now.ground.color ways before →
+        ShowsAmong (facts_of side.now) d side.now.position k side.now.ground.color (way ∷ ways) result }
+{
+    if !is_alive(side, moves, quiet, way) {
+        return before;
+    }
+    let shown = way_shown(side, moves, quiet, way);
+    match before {
+        None => Some(shown),
+        Some(others) => Some(joined(&others, &shown)),
+    }
+}
+
+// What the plans of all ways show; none where no way is alive.
+fn ways_shown(side: &Side, moves: &Measured, quiet: &Measured) -> Option<Shown>
+    requires side { (d : Placement) × IsSide d side.now }
+    requires moves { IsMeasured side.now false moves.now }
+    requires quiet { IsMeasured side.now true quiet.now }
+    ensures { (d : Placement) (k : ℕ) → IsSide d side.now →
+        AreBudgets d side.now k moves.now.most quiet.now.most →
+        MatchOption result (IsDead (facts_of side.now) d side.now.position k side.now.ground.color)
+        (λ a. Shows (facts_of side.now) d side.now.position k side.now.ground.color a) }
+{
+    let none = add_way(side, moves, quiet, None, None);
+    let short = add_way(side, moves, quiet, Some(Wing::KingSide), none);
+    add_way(side, moves, quiet, Some(Wing::QueenSide), short)
+}
+
+// The men of a colour here and in the diagram, and the ground of their steps.
+fn side_of(diagram: &Diagram, position: &Position, facts: &Facts, color: Color) -> Side
+    requires few { men color any_man position.now.board ≤ 16 }
+    requires room { men color any_man diagram.now ≤ men color any_man position.now.board }
+    ensures side { IsSide diagram.now result }
+    ensures position { result.position ≡ position.now }
+    ensures facts { result.ground.facts ≡ facts.now }
+    ensures color { result.ground.color ≡ color }
+{
+    Side {
+        position: *position,
+        ground: ground_of(facts, color),
+        men: men_of(&position.board(), color),
+        goals: men_of(&diagram.board(), color),
+    }
+}
+
+// The counts of paths of a side by a measure.
+fn counts_by(side: &Side, is_quiet: bool, most: u8) -> Measured
+    requires side { (d : Placement) × IsSide d side.now }
+    requires low { most < 200 }
+    ensures all { IsMeasured side.now is_quiet result }
+    ensures most { result.most ≡ most }
+{
+    Measured {
+        aims: aims_of(side, is_quiet, most),
+        most,
+    }
+}
+
+// What the plans of a colour show under facts; none where no way is alive.
+pub(crate) fn shown_of(
+    diagram: &Diagram,
+    position: &Position,
+    left: u8,
+    facts: &Facts,
+    color: Color,
+) -> Option<Shown>
+    requires few { men color any_man position.now.board ≤ 16 }
+    requires room { men color any_man diagram.now ≤ men color any_man position.now.board }
+    ensures { MatchOption result (IsDead (known facts.now) diagram.now position.now left color)
+        (λ a. Shows (known facts.now) diagram.now position.now left color a) }
+{
+    let Some(most) = budget(diagram, position, color, left, false) else {
+        return None;
+    };
+    let Some(fewest) = budget(diagram, position, color, left, true) else {
+        return None;
+    };
+    let side = side_of(diagram, position, facts, color);
+    let moves = counts_by(&side, false, most);
+    let quiet = counts_by(&side, true, fewest);
+    ways_shown(&side, &moves, &quiet)
+}

@@ -1,0 +1,10 @@
+//! Why a trial ends.
+use thiserror::Error;
+
+#[derive(Debug, Drop, Error)]
+pub(crate) enum Refusal {
+    #[error("trial_by_games GAMES PLIES")]
+    Usage,
+    #[error("game {0} is excluded with {1} plies left")]
+    Excluded(u64, u8),
+}
