@@ -1,5 +1,5 @@
 -- Round by round: where a colour has no way alive the test holds, and after the fourth round, or where facts stay the same, it
--- does not. Leads to the contracts of `last_facts` and `facts`.
+-- does not. Leads to the contracts of `last_facts` and `facts_for`.
 use Rattle.std.proofs.Common.{◌≡◌, ℕ, zero, suc, ◌+◌, ◌<◌, ◌≤◌, ◌↔◌, inl, inr, Option, Some, None, Bool, true, false, refl, sym, subst, arith, eqb, eqb-true, ◌&&◌, ◌∙◌, IsTrue, IfSome, IfNone}
 use Rattle.pg_board.specs.declared.man.Color.{Color}
 use Rattle.pg_board.specs.Placement.{Placement}
@@ -12,11 +12,11 @@ use Rattle.pg_journeys.specs.Facts.{Facts, FactsHold}
 use Rattle.pg_journeys.specs.FirstFacts.{AreFirst, HasWalls}
 use Rattle.pg_journeys.specs.Known.{known}
 use Rattle.pg_journeys.specs.Plans.{IsAlive}
-use Rattle.pg_journeys.specs.Rounds.{AreFacts, HasDeadColor, JourneysHold}
+use Rattle.pg_journeys.specs.Rounds.{HasFew, AreFacts, HasDeadColor, JourneysHold}
 use Rattle.pg_journeys.specs.lemmas.AgreeingFacts.{facts_agree, alive_along}
 use Rattle.pg_journeys.specs.lemmas.RoundLemmas.{facts_hold}
 use Rattle.pg_journeys.specs.inner.Showing.{IsDead}
-use Rattle.pg_journeys.specs.inner.Walking.{HasFewer, HasFew, IsNext, IsRound, AreOfSomeRound}
+use Rattle.pg_journeys.specs.inner.Walking.{HasFewer, IsNext, IsRound}
 use Rattle.pg_journeys.specs.declared.facts.Facts.{Facts as FactSets}
 
 -- ---- the rounds
@@ -41,9 +41,18 @@ next_round d p k i f e round next = record { facts = (let same : suc i ≡ i + 1
 pub round_dead : (d : Placement) (p : State) (k i : ℕ) (f : Facts) → i < 4 → IsRound d p k i f → (c : Color) × IsDead f d p k c → HasDeadColor d p k
 round_dead d p k i f low round (c, dead) = (i, f, c, low, round.facts, dead)
 
--- the fourth round is passed
-pub rounds_passed : (d : Placement) (p : State) (k i : ℕ) (f : Facts) → 4 ≤ i → IsRound d p k i f → ¬ HasDeadColor d p k
-rounds_passed d p k i f four round (j, e, c, low, facts, dead) = (let h : (way : Option Wing) × IsAlive e d p k c way = round.alive j e (omega arith) facts c in dead h.0 h.1)
+-- no colour has no way alive by the facts of the last round, and none had by those before
+pub last_alive : (d : Placement) (p : State) (k : ℕ) (f : Facts) → IsRound d p k 3 f → ¬ ((c : Color) × IsDead f d p k c) → ¬ HasDeadColor d p k
+last_alive d p k f round living (j, e, c, low, facts, dead) = elim (dec_less j 3) [
+  | yes l ↦ (let h : (way : Option Wing) × IsAlive e d p k c way = round.alive j e l facts c in dead h.0 h.1)
+  | no off ↦ (let same : j ≡ 3 = omega arith in
+      let are : AreFacts d p k 3 e = subst (λ (n : ℕ). AreFacts d p k n e) same facts in
+      living (c, λ way alive. dead way (alive_along f e (facts_agree d p k 3 f e round.facts are) d p c way k alive)))
+]
+
+-- the counter of a walk that is over
+pub at_last : (d : Placement) (p : State) (k i : ℕ) (f : Facts) → i ≤ 3 → 3 ≤ i → IsRound d p k i f → IsRound d p k 3 f
+at_last d p k i f low over round = (let same : i ≡ 3 = omega arith in subst (λ (n : ℕ). IsRound d p k n f) same round)
 
 -- sets that are equal
 abbrev the_sets : ℕ → ℕ → ℕ → FactSets
@@ -58,14 +67,26 @@ same_sets e f r is on =
     let y : (eqb e.white f.white ≡ true) × (eqb e.black f.black ≡ true) = and_true (eqb e.white f.white) (eqb e.black f.black) x.1 in
     alike e.still e.white e.black f.still f.white f.black (eqb-true e.still f.still x.0) (eqb-true e.white f.white y.0) (eqb-true e.black f.black y.1)
 
--- facts that stay the same stay so
-same_rounds : (d : Placement) (p : State) (k i : ℕ) (f : Facts) → IsRound d p k i f → IsNext f f d p k → (n : ℕ) → IsRound d p k (n + i) f
-same_rounds d p k i f round next zero = subst (λ (m : ℕ). IsRound d p k m f) (omega arith) round
-same_rounds d p k i f round next (suc n) = subst (λ (m : ℕ). IsRound d p k m f) (omega arith) (next_round d p k (n + i) f f (same_rounds d p k i f round next n) next)
+-- facts that stay the same are those of each later round
+same_rounds : (d : Placement) (p : State) (k i : ℕ) (f : Facts) → IsRound d p k i f → IsNext f f d p k → (n : ℕ) → i ≤ n → IsRound d p k n f
+same_rounds d p k i f round next zero low = (let same : i ≡ 0 = omega arith in subst (λ (m : ℕ). IsRound d p k m f) same round)
+same_rounds d p k i f round next (suc n) low = elim (dec_less n i) [
+  | yes l ↦ (let same : i ≡ suc n = omega arith in subst (λ (m : ℕ). IsRound d p k m f) same round)
+  | no off ↦ (let same : n + 1 ≡ suc n = omega arith in
+      subst (λ (m : ℕ). IsRound d p k m f) same (next_round d p k n f f (same_rounds d p k i f round next n (omega arith)) next))
+]
 
-pub rounds_same : (d : Placement) (p : State) (k i : ℕ) (f e : FactSets) → IsRound d p k i (known f) → IsNext (known f) (known e) d p k → e ≡ f → ¬ HasDeadColor d p k
-rounds_same d p k i f e round next same =
-    rounds_passed d p k (4 + i) (known f) (omega arith) (same_rounds d p k i (known f) round (subst (λ (z : FactSets). IsNext (known f) (known z) d p k) same next) 4)
+pub rounds_same : (d : Placement) (p : State) (k i : ℕ) (f e : FactSets) → IsRound d p k i (known f) → IsNext (known f) (known e) d p k → e ≡ f → (n : ℕ) → i ≤ n → IsRound d p k n (known f)
+rounds_same d p k i f e round next same n low =
+    same_rounds d p k i (known f) round (subst (λ (z : FactSets). IsNext (known f) (known z) d p k) same next) n low
+
+pub same_alive : (d : Placement) (p : State) (k i : ℕ) (f e : FactSets) → i ≤ 3 → IsRound d p k i (known f) → IsNext (known f) (known e) d p k → e ≡ f → ¬ HasDeadColor d p k
+same_alive d p k i f e low round next same (j, g, c, below, facts, dead) =
+    let four : IsRound d p k 4 (known f) = rounds_same d p k i f e round next same 4 (omega arith) in
+    let h : (way : Option Wing) × IsAlive g d p k c way = four.alive j g below facts c in dead h.0 h.1
+
+pub same_facts : (d : Placement) (p : State) (k i : ℕ) (f e : FactSets) → i ≤ 3 → IsRound d p k i (known f) → IsNext (known f) (known e) d p k → e ≡ f → AreFacts d p k 3 (known f)
+same_facts d p k i f e low round next same = (rounds_same d p k i f e round next same 3 low).facts
 
 -- ---- the test
 pub lost_wall : (d : Placement) (p : State) (k : ℕ) (r : Bool) → IsTrue r ↔ HasWalls d p → r ≡ false → JourneysHold d p k
@@ -86,19 +107,30 @@ not_all d p k walls enough none (inl lost) = lost walls
 not_all d p k walls enough none (inr (inl less)) = enough less
 not_all d p k walls enough none (inr (inr h)) = none h
 
-is_not : {A : Type 0} (r : Bool) → IsTrue r ↔ A → r ≡ false → ¬ A
+pub is_not : {A : Type 0} (r : Bool) → IsTrue r ↔ A → r ≡ false → ¬ A
 is_not r is off h = let on : r ≡ true = is.1 h in cc
 
 pub crowded : (d : Placement) (p : State) (k : ℕ) (w l f : Bool) → IsTrue w ↔ HasWalls d p → w ≡ true → IsTrue l ↔ HasFewer d p → l ≡ false → IsTrue f ↔ HasFew p → f ≡ false → ¬ JourneysHold d p k
 crowded d p k w l f ws on ls off fs none = not_all d p k (ws.0 on) (is_not l ls off) (λ h. is_not f fs none h.0)
 
+pub not_few : {A : Type 0} (p : State) (r : Bool) → IsTrue r ↔ HasFew p → r ≡ false → HasFew p → A
+not_few p r few off h = absurd (is_not r few off h)
+
 pub first_hold : (d : Placement) (p : State) (k : ℕ) (f : Facts) (w : Bool) → IsPosition p → IsTrue w ↔ HasWalls d p → w ≡ true → AreFirst f d p → FactsHold f d p k
 first_hold d p k f w pos ws on first = facts_hold d p k 0 f pos (ws.0 on) first
 
 -- what the walk over the rounds gives
-pub walk_hold : (d : Placement) (p : State) (k : ℕ) (o : Option FactSets) (w : Bool) → IsPosition p → IsTrue w ↔ HasWalls d p → w ≡ true → IfSome o (λ f. AreOfSomeRound d p k (known f)) → IfSome o (λ f. FactsHold (known f) d p k)
+pub walk_hold : (d : Placement) (p : State) (k : ℕ) (o : Option FactSets) (w : Bool) → IsPosition p → IsTrue w ↔ HasWalls d p → w ≡ true → IfSome o (λ f. AreFacts d p k 3 (known f)) → IfSome o (λ f. FactsHold (known f) d p k)
 walk_hold d p k None w pos ws on h = tt
-walk_hold d p k (Some f) w pos ws on h = facts_hold d p k h.0 (known f) pos (ws.0 on) h.1
+walk_hold d p k (Some f) w pos ws on h = facts_hold d p k 3 (known f) pos (ws.0 on) h
+
+pub walk_last : (d : Placement) (p : State) (k : ℕ) (o : Option FactSets) → IfSome o (λ f. AreFacts d p k 3 (known f)) → IfSome o (λ f. HasFew p → AreFacts d p k 3 (known f))
+walk_last d p k None h = tt
+walk_last d p k (Some f) h = λ few. h
+
+pub walk_first : (d : Placement) (p : State) (o : Option FactSets) (r : Bool) → IsTrue r ↔ HasFew p → r ≡ true → IfSome o (λ f. ¬ HasFew p → AreFirst (known f) d p)
+walk_first d p None r few on = tt
+walk_first d p (Some f) r few on = λ many. absurd (many (few.0 on))
 
 pub walk_some : (d : Placement) (p : State) (k : ℕ) (o : Option FactSets) (w l : Bool) → IsTrue w ↔ HasWalls d p → w ≡ true → IsTrue l ↔ HasFewer d p → l ≡ false → IfSome o (λ f. ¬ HasDeadColor d p k) → IfSome o (λ f. ¬ JourneysHold d p k)
 walk_some d p k None w l ws on ls off h = tt

@@ -16,6 +16,7 @@ mod ShownWays
 mod Masks
 mod Budgets
 mod NextRounds
+mod DeadColors
 mod LastRounds
 mod FrontLemmas
 mod LevelLemmas

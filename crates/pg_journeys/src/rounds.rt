@@ -8,12 +8,12 @@ ghost use Rattle.pg_captures.specs.Owed.{victims};
 ghost use Rattle.pg_journeys.specs.Facts.{FactsHold};
 ghost use Rattle.pg_journeys.specs.FirstFacts.{AreFirst, HasWalls, IsWallOf};
 ghost use Rattle.pg_journeys.specs.Known.{known};
-ghost use Rattle.pg_journeys.specs.Rounds.{HasDeadColor, JourneysHold};
+ghost use Rattle.pg_journeys.specs.Rounds.{HasFew, AreFacts, HasDeadColor, JourneysHold};
 ghost use Rattle.pg_journeys.specs.inner.Showing.{IsDead, Shows};
-ghost use Rattle.pg_journeys.specs.inner.Walking.{HasFewer, HasFew, IsKept, MayLand, IsNext, AreOfSomeRound};
+ghost use Rattle.pg_journeys.specs.inner.Walking.{HasFewer, IsKept, MayLand, IsNext};
 
 use crate::facts::{Facts, walls};
-use crate::shown::{Shown, shown_of};
+use crate::shown::{Shown, is_dead, shown_of};
 use pg_board::{Board, Color, SquareSet};
 use pg_captures::{all_men, victims_of};
 use pg_fen::Diagram;
@@ -113,16 +113,27 @@ fn next_facts(diagram: &Diagram, position: &Position, left: u8, facts: &Facts) -
     }
 }
 
-// The facts of the last round, or of one that changes nothing more; none where in a round a colour has no way alive.
+// Whether by these facts a colour has no way alive.
+fn any_dead(diagram: &Diagram, position: &Position, left: u8, facts: &Facts) -> bool
+    requires few { HasFew position.now }
+    requires enough { ¬ HasFewer diagram.now position.now }
+    ensures { IsTrue result ↔ ((c : AnyColor) × IsDead (known facts.now) diagram.now position.now left c) }
+{
+    is_dead(diagram, position, left, facts, Color::White)
+        || is_dead(diagram, position, left, facts, Color::Black)
+}
+
+// The facts of the last round; none where in a round a colour has no way alive. Facts that stay the same are those
+// of each later round too, and the facts of the last round are not narrowed.
 fn last_facts(diagram: &Diagram, position: &Position, left: u8) -> Option<Facts>
     requires few { HasFew position.now }
     requires enough { ¬ HasFewer diagram.now position.now }
     ensures dead { IfNone result (HasDeadColor diagram.now position.now left) }
     ensures alive { IfSome result (λ f. ¬ HasDeadColor diagram.now position.now left) }
-    ensures facts { IfSome result (λ f. AreOfSomeRound diagram.now position.now left (known f)) }
+    ensures facts { IfSome result (λ f. AreFacts diagram.now position.now left 3 (known f)) }
 {
     let mut facts = first_facts(diagram, position);
-    for _ in 0..4u8 {
+    for _ in 0..3u8 {
         match next_facts(diagram, position, left, &facts) {
             None => return None,
             Some(next) => {
@@ -132,6 +143,9 @@ fn last_facts(diagram: &Diagram, position: &Position, left: u8) -> Option<Facts>
                 facts = next;
             }
         }
+    }
+    if any_dead(diagram, position, left, &facts) {
+        return None;
     }
     Some(facts)
 }
@@ -167,6 +181,8 @@ fn has_few(position: &Position) -> bool
 /// first ones where a colour has more than sixteen men. None where the bound by journeys excludes, and only there.
 pub fn facts_for(diagram: &Diagram, position: &Position, left: u8) -> Option<Facts>
     ensures holds { IfSome result (λ f. FactsHold (known f) diagram.now position.now left) }
+    ensures last { IfSome result (λ f. HasFew position.now → AreFacts diagram.now position.now left 3 (known f)) }
+    ensures first { IfSome result (λ f. ¬ HasFew position.now → AreFirst (known f) diagram.now position.now) }
     ensures some { IfSome result (λ f. ¬ JourneysHold diagram.now position.now left) }
     ensures none { IfNone result (JourneysHold diagram.now position.now left) }
 {

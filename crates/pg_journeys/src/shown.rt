@@ -217,3 +217,46 @@ pub(crate) fn shown_of(
     let quiet = counts_by(&side, true, fewest);
     ways_shown(&side, &moves, &quiet)
 }
+
+// Whether some way is alive.
+fn some_alive(side: &Side, moves: &Measured, quiet: &Measured) -> bool
+    requires side { (d : Placement) × IsSide d side.now }
+    requires moves { IsMeasured side.now false moves.now }
+    requires quiet { IsMeasured side.now true quiet.now }
+    ensures { (d : Placement) (k : ℕ) → IsSide d side.now →
+        AreBudgets d side.now k moves.now.most quiet.now.most →
+        IsTrue result ↔ ((way : Option AnyWing)
+        × IsAlive (facts_of side.now) d side.now.position k side.now.ground.color way) }
+{
+    if is_alive(side, moves, quiet, None) {
+        return true;
+    }
+    if is_alive(side, moves, quiet, Some(Wing::KingSide)) {
+        return true;
+    }
+    is_alive(side, moves, quiet, Some(Wing::QueenSide))
+}
+
+// Whether a colour has no way alive by facts.
+pub(crate) fn is_dead(
+    diagram: &Diagram,
+    position: &Position,
+    left: u8,
+    facts: &Facts,
+    color: Color,
+) -> bool
+    requires few { men color any_man position.now.board ≤ 16 }
+    requires room { men color any_man diagram.now ≤ men color any_man position.now.board }
+    ensures { IsTrue result ↔ IsDead (known facts.now) diagram.now position.now left color }
+{
+    let Some(most) = budget(diagram, position, color, left, false) else {
+        return true;
+    };
+    let Some(fewest) = budget(diagram, position, color, left, true) else {
+        return true;
+    };
+    let side = side_of(diagram, position, facts, color);
+    let moves = counts_by(&side, false, most);
+    let quiet = counts_by(&side, true, fewest);
+    !some_alive(&side, &moves, &quiet)
+}

@@ -1,5 +1,5 @@
 -- From the facts of a round to those of the next.
-use Rattle.std.specs.Prelude.{◌≡◌, ℕ, ◌<◌, ◌≤◌, true, false, Option}
+use Rattle.std.specs.Prelude.{◌≡◌, ℕ, ◌<◌, true, false, Option}
 use Rattle.pg_board.specs.Bits.{has}
 use Rattle.pg_board.specs.declared.man.Color.{Color}
 use Rattle.pg_board.specs.declared.man.Kind.{Kind}
@@ -18,10 +18,6 @@ use Rattle.pg_journeys.specs.declared.shown.Shown.{Shown}
 -- p has fewer men of a colour than d
 abbrev pub HasFewer : Placement → State → Type 0
 HasFewer d p = (c : Color) × (men c any_man p.board < men c any_man d)
-
--- p has at most sixteen men of each colour
-abbrev pub HasFew : State → Type 0
-HasFew p = (c : Color) → men c any_man p.board ≤ 16
 
 -- b and d have the same man of c on s, and he is none of those who change
 abbrev pub IsKept : Placement → Placement → Color → ℕ → ℕ → Type 0
@@ -42,7 +38,3 @@ pub record IsNext (f e : Facts) (d : Placement) (p : State) (k : ℕ) : Type 0 w
 pub record IsRound (d : Placement) (p : State) (k i : ℕ) (f : Facts) : Type 0 where
   pub facts : AreFacts d p k i f
   pub alive : (j : ℕ) (e : Facts) → j < i → AreFacts d p k j e → (c : Color) → (way : Option Wing) × IsAlive e d p k c way
-
--- facts of some round
-abbrev pub AreOfSomeRound : Placement → State → ℕ → Facts → Type 0
-AreOfSomeRound d p k f = (i : ℕ) × AreFacts d p k i f

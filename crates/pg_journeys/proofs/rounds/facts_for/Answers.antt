@@ -1,5 +1,5 @@
 use Rattle.pg_journeys.specs.Known.{known}
-use Rattle.pg_journeys.proofs.LastRounds.{lost_wall, lacks_men, crowded, first_hold, walk_hold, walk_some, walk_none}
+use Rattle.pg_journeys.proofs.LastRounds.{lost_wall, lacks_men, crowded, not_few, first_hold, walk_hold, walk_last, walk_first, walk_some, walk_none}
 use Rattle.pg_journeys.proofs.rounds.facts_for.Goals as goal
 
 pub returns-then-not-has_walls-clause-none : goal.returns-then-not-has_walls-clause-none
@@ -22,3 +22,12 @@ returns-clause-some c = walk_some c.args.diagram.now c.args.position.now c.args.
 
 pub returns-clause-none : goal.returns-clause-none
 returns-clause-none c = walk_none c.args.diagram.now c.args.position.now c.args.left c.last_facts.result c.has_few.result c.has_few.ensures c.if-not-has_few.false c.last_facts.ensures.dead
+
+pub returns-then-not-has_few-clause-last : goal.returns-then-not-has_few-clause-last
+returns-then-not-has_few-clause-last c = not_few c.args.position.now c.has_few.result c.has_few.ensures c.if-not-has_few.true
+
+pub returns-clause-last : goal.returns-clause-last
+returns-clause-last c = walk_last c.args.diagram.now c.args.position.now c.args.left c.last_facts.result c.last_facts.ensures.facts
+
+pub returns-clause-first : goal.returns-clause-first
+returns-clause-first c = walk_first c.args.diagram.now c.args.position.now c.last_facts.result c.has_few.result c.has_few.ensures c.if-not-has_few.false

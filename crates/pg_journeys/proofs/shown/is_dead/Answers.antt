@@ -1,0 +1,14 @@
+use Rattle.std.proofs.Common.{refl}
+use Rattle.pg_journeys.specs.Known.{known}
+use Rattle.pg_journeys.proofs.Budgets.{owes_too_much, budgets_of}
+use Rattle.pg_journeys.proofs.DeadColors.{dead_here}
+use Rattle.pg_journeys.proofs.shown.is_dead.Goals as goal
+
+pub returns-in_default-budget : goal.returns-in_default-budget
+returns-in_default-budget c = (λ h. owes_too_much (known c.args.facts.now) c.args.diagram.now c.args.position.now c.args.left c.args.color c.in_default-budget.ensures.none, λ h. refl)
+
+pub returns : goal.returns
+returns c =
+    dead_here c.args.diagram.now c.side_of-side.result c.args.left c.args.facts.now c.args.position.now c.args.color c.some_alive.result c.side_of-side.ensures.position c.side_of-side.ensures.facts c.side_of-side.ensures.color
+    (c.some_alive.ensures c.args.diagram.now c.args.left c.side_of-side.ensures.side
+    (budgets_of c.args.diagram.now c.side_of-side.result c.args.left c.args.position.now c.args.color c.counts_by-moves.result.most c.counts_by-quiet.result.most c.in-Some.most c.in-Some-budget.fewest c.side_of-side.ensures.position c.side_of-side.ensures.color c.counts_by-moves.ensures.most c.counts_by-quiet.ensures.most (c.in-Some.ensures.moves refl) (c.in-Some-budget.ensures.quiet refl)))
