@@ -34,7 +34,11 @@ rnbqkbnr/pppppppp/8/8/8/8/PPPPPPPP/RN1QKBNR | rnbqkbnr/pppppppp/8/8/8/8/PPPPPPPP
 rnbqkbnr/pppppppp/8/8/8/4B3/PPPPPPPP/RN1QKBNR | rnbqkbnr/pppppppp/8/8/8/8/PPPPPPPP/RNBQKBNR w KQkq - 0 1 | 20 => yes
 r1bqkbnr/ppp2ppp/3p4/8/8/8/PPPPPPPP/R1BQKBNR | rnbqkbnr/pppppppp/8/8/8/8/PPPPPPPP/RNBQKBNR w KQkq - 0 1 | 8 => no
 r1bqkbnr/ppp2ppp/3p4/8/8/8/PPPPPPPP/R1BQKBNR | rnbqkbnr/pppppppp/8/8/8/8/PPPPPPPP/RNBQKBNR w KQkq - 0 1 | 7 => no
-r1bqkbnr/ppp2ppp/3p4/8/8/8/PPPPPPPP/R1BQKBNR | rnbqkbnr/pppppppp/8/8/8/8/PPPPPPPP/RNBQKBNR w KQkq - 0 1 | 6 => yes";
+r1bqkbnr/ppp2ppp/3p4/8/8/8/PPPPPPPP/R1BQKBNR | rnbqkbnr/pppppppp/8/8/8/8/PPPPPPPP/RNBQKBNR w KQkq - 0 1 | 6 => yes
+k7/8/8/8/8/8/8/K7 | 8/Pk6/8/8/8/8/8/K7 w - - 0 1 | 2 => no
+k7/8/8/8/8/8/8/K7 | 8/Pk6/8/8/8/8/8/K7 w - - 0 1 | 1 => yes
+k7/8/8/8/8/8/8/K7 | 8/P7/1k6/8/8/8/8/K7 w - - 0 1 | 2 => yes
+8/k7/8/8/8/8/8/K7 | 8/P7/1k6/8/8/8/8/K7 w - - 0 1 | 2 => no";
 
 #[test]
 fn single_cases(rt: HostRuntime) {
