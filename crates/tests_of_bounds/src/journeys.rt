@@ -2,7 +2,7 @@
 
 use crate::texts::{check_bound, check_line, diagram, position, row_of};
 use pg_captures::Bound;
-use pg_journeys::{Journeys, facts};
+use pg_journeys::{Journeys, facts_for};
 
 // Castling both ways in both colours, with the right and without; a capture en passant alone; promotion to wait for, of a man that
 // captures and of one that is captured; a wall that is missing; more than sixteen men; no ply left and 255.
@@ -47,7 +47,8 @@ fn single_cases(rt: HostRuntime) {
 }
 
 // Positions of random games and of problems, by the answers of the model.
-const POSITIONS: &str = "rnb1kbnr/ppp4p/3p2p1/4Pq2/8/N7/PPPPP1BP/R1BQK1NR | rnbqkbnr/pppppppp/8/8/8/8/PPPPPPPP/RNBQKBNR w KQkq - 0 1 | 12 => no
+const POSITIONS: &str =
+    "rnb1kbnr/ppp4p/3p2p1/4Pq2/8/N7/PPPPP1BP/R1BQK1NR | rnbqkbnr/pppppppp/8/8/8/8/PPPPPPPP/RNBQKBNR w KQkq - 0 1 | 12 => no
 rnb1kbnr/ppp4p/3p2p1/4Pq2/8/N7/PPPPP1BP/R1BQK1NR | rnb1kbnr/ppp4p/3p2p1/4Pq2/8/N7/PPPPP2P/R1BQKBNR b KQkq - 0 1 | 1 => yes
 rnb1kbnr/ppp4p/3p2p1/4Pq2/8/N7/PPPPP1BP/R1BQK1NR | rnbqkbnr/pppppppp/8/8/5P2/8/PPPPP1PP/RNBQKBNR b KQkq f3 0 1 | 9 => yes
 rnbqk1nr/2ppp1b1/6pp/p4Q2/5P2/2P1P3/PP1P2PP/RNB1KBNR | rnbqkbnr/pppppppp/8/8/8/8/PPPPPPPP/RNBQKBNR w KQkq - 0 1 | 9 => yes
@@ -204,7 +205,8 @@ fn positions(rt: HostRuntime) {
 }
 
 // The still squares and where captures of White and of Black may land, as numbers, by the model.
-const FACTS: &str = "rnb1kbnr/ppp4p/3p2p1/4Pq2/8/N7/PPPPP1BP/R1BQK1NR | rnbqkbnr/pppppppp/8/8/8/8/PPPPPPPP/RNBQKBNR w KQkq - 0 1 | 12 => 17836224849224179677 206158430208 137438953472
+const FACTS: &str =
+    "rnb1kbnr/ppp4p/3p2p1/4Pq2/8/N7/PPPPP1BP/R1BQK1NR | rnbqkbnr/pppppppp/8/8/8/8/PPPPPPPP/RNBQKBNR w KQkq - 0 1 | 12 => 17836224849224179677 206158430208 137438953472
 rn1qkb1r/pb1ppp1p/2p4p/1p6/8/NP1P1P1P/P1P1P1P1/1R1QKBNR | rnbqkbnr/pp1ppppp/2p5/8/8/1P1P4/P1P1PPPP/RNBQKBNR b KQkq - 0 1 | 10 => 13526847353831183864 140737488355328 140737488355328
 1nbqk1nr/rppppp2/8/6N1/p3P3/7P/PPPb2P1/RNBK1B1R | rnbqkbnr/1ppppp1p/6p1/p6Q/4P3/8/PPPP1PPP/RNB1KBNR w KQkq a6 0 1 | 15 => 305681824707790592 36240869366956032 18141062249001756884
 rnbqkbnr/pp1pppp1/2p5/7p/3P4/3Q4/PPP1PPPP/RNB1KBNR | rnbqkbnr/pp1ppppp/2p5/8/3P4/3Q4/PPP1PPPP/RNB1KBNR b KQkq - 0 1 | 1 => 18409312299988350967 0 0
@@ -222,7 +224,11 @@ fn facts_of_positions(rt: HostRuntime) {
     for line in FACTS.lines() {
         let row = row_of(&rt, line);
         let plies = row.asked.parse::<u8>().unwrap_or(0);
-        let found = facts(&diagram(&rt, row.diagram), &position(&rt, row.position), plies);
+        let found = facts_for(
+            &diagram(&rt, row.diagram),
+            &position(&rt, row.position),
+            plies,
+        );
         let mut wanted = row.wanted.split(' ').map(|text| text.parse::<u64>().ok());
         let still = found.map(|it| it.still.bits());
         let white = found.map(|it| it.white.bits());
@@ -239,7 +245,11 @@ fn no_facts_where_it_excludes(rt: HostRuntime) {
     for line in CASES.lines() {
         let row = row_of(&rt, line);
         let plies = row.asked.parse::<u8>().unwrap_or(0);
-        let found = facts(&diagram(&rt, row.diagram), &position(&rt, row.position), plies);
+        let found = facts_for(
+            &diagram(&rt, row.diagram),
+            &position(&rt, row.position),
+            plies,
+        );
         check_line(&rt, line, found.is_none() == (row.wanted == "yes"));
     }
 }
