@@ -8,7 +8,6 @@ use Rattle.pg_board.specs.declared.man.Kind.TheVariants.{Pawn, Knight, Bishop, R
 use Rattle.pg_board.specs.declared.man.Man.{Man}
 use Rattle.pg_board.specs.declared.sets.Sets.{Sets}
 use Rattle.pg_board.specs.Men.{man, other, color_eq, kind_eq, is_of, is_man, is_kind, king_of}
-use Rattle.pg_board.specs.lemmas.Equalities.{color_decides}
 use Rattle.pg_board.specs.Bits.{has}
 use Rattle.pg_board.specs.Placement.{Placement, get, without, IsFirst}
 use Rattle.pg_board.specs.lemmas.Placements.{get_on, get-write_same, get-write_other}
@@ -19,6 +18,7 @@ use Rattle.pg_board.specs.SquareSets.{IsSetOf}
 use Rattle.pg_position.specs.Attack.{IsClear, AttacksFrom, Attacks}
 use Rattle.pg_position.specs.Position.{Stands, IsPosition, IsOnlyKing}
 use Rattle.pg_moves.specs.Targets.{IsOwn, FreeOff, only}
+use Rattle.pg_moves.proofs.OnlyLemmas.{only_kept, only_other}
 use Rattle.pg_moves.proofs.LeafLemmas.{free_lifted, the_king}
 
 -- ---- a board of one colour's men
@@ -57,13 +57,6 @@ module _ (b : Placement) (f : Color) (s : Sets)
   get_only r is q l = is q l ∙ shown s q _ (shows_only q l)
 
 -- ---- no shelter
-only_kept : (f : Color) (m : Man) → m.color ≡ f → only f (Some m) ≡ Some m
-only_kept f m e = ap (λ v. cond v (Some m) None) ((color_decides m.color f).1 e)
-
-only_other : (c : Color) (k : Kind) → only (other c) (Some (man c k)) ≡ None
-only_other White k = refl
-only_other Black k = refl
-
 -- men of its own only shelter the square
 pub bare_lifted : (b e : Placement) (c : Color) (h : ℕ) → ((q : ℕ) → q < 64 → get e q ≡ only (other c) (get b q)) → ¬ Attacks e (other c) h → (r : ℕ) → IsOwn b c r → ¬ Attacks (without b r) (other c) h
 unfolding Attacks AttacksFrom IsClear IsOwn

@@ -1,5 +1,5 @@
 -- How many legal moves there are, square by square.
-use Rattle.std.proofs.Common.{◌≡◌, ◌≢◌, ℕ, zero, suc, ◌+◌, ◌*◌, ◌<◌, ◌≤◌, ◌⊎◌, inl, inr, Bool, true, false, None, eqb, List, [], ◌∷◌, ◌++◌, length, length-append, ◌||◌, refl, sym, ap, subst, arith, ◌∙◌}
+use Rattle.std.proofs.Common.{◌≡◌, ◌≢◌, ℕ, zero, suc, ◌+◌, ◌*◌, ◌<◌, ◌≤◌, ◌⊎◌, inl, inr, Bool, true, false, None, eqb, List, [], ◌∷◌, ◌++◌, length, length-append, ◌||◌, refl, sym, ap, subst, arith, ◌∙◌, Some}
 use Rattle.std.specs.List.{sum_by}
 use Rattle.std.proofs.lemmas.Bool.{eqb-false}
 use Rattle.std.proofs.lemmas.Bool.Decides.{eqb_tells, leb_tells}
@@ -7,34 +7,35 @@ use Rattle.std.proofs.lemmas.List.Sums.{sum_by-cons}
 use Rattle.pg_board.specs.declared.man.Color.{Color}
 use Rattle.pg_board.specs.declared.man.Color.TheVariants.{White, Black}
 use Rattle.pg_board.specs.declared.man.Kind.{Kind}
-use Rattle.pg_board.specs.declared.man.Kind.TheVariants.{Pawn, Queen, King}
+use Rattle.pg_board.specs.declared.man.Kind.TheVariants.{Pawn, Bishop, Rook, King}
 use Rattle.pg_board.specs.Squares.{rank}
 use Rattle.pg_board.specs.Tally.{one, count_below}
 use Rattle.pg_board.specs.lemmas.Sums.{total-none, total-suc}
 use Rattle.pg_board.specs.Bits.{has}
 use Rattle.pg_board.specs.Men.{king_of, other}
-use Rattle.pg_board.specs.Placement.{Placement, without, IsFirst}
+use Rattle.pg_board.specs.Placement.{Placement, get, without, IsFirst}
 use Rattle.pg_board.specs.lemmas.Placements.{get_on}
 use Rattle.pg_position.specs.declared.state.State.{State}
 use Rattle.pg_position.specs.declared.moves.Move.{Move}
 use Rattle.pg_position.specs.Geometry.{IsForward, InPattern}
-use Rattle.pg_position.specs.Attack.{Reaches, Attacks}
+use Rattle.pg_position.specs.Attack.{Attacks}
 use Rattle.pg_board.specs.SquareSets.{IsSetOf, HasNoneFrom, IsFirstFrom}
 use Rattle.pg_position.specs.Position.{Stands, IsOnlyKing, HasOneKing, InCheck, IsPosition}
 use Rattle.pg_position.specs.Step.{IsLegal, Goes, IsOnBoard}
 use Rattle.pg_position.specs.Squares.{home_rank, last_rank}
 use Rattle.pg_position.proofs.StepLemmas.{same_kind}
-use Rattle.pg_board.proofs.SetLemmas.{set_of_union}
 use Rattle.pg_moves.specs.Moves.{promotion_number}
 use Rattle.pg_moves.specs.inner.Places.{place, place_of, NoneFrom, IsFirstMove, IsCountBelow, Adds}
 use Rattle.pg_moves.specs.inner.Sources.{IsExact}
-use Rattle.pg_moves.specs.Targets.{plain_move, Strides, Leaps, Advances, CapturesEnPassant, IsFree, FreeOff, IsOrdinary}
+use Rattle.pg_moves.specs.Targets.{IsOwn, plain_move, Strides, Leaps, Advances, CapturesEnPassant, IsFree, FreeOff, IsOrdinary}
 use Rattle.pg_moves.specs.Counts.{IsGameCount}
 use Rattle.pg_moves.proofs.PlaceLemmas.{promotion_low}
 use Rattle.pg_moves.proofs.ListLemmas.{on_board, list_start, list_skip, list_push, list_whole, moves_of, move_list_is}
 use Rattle.pg_moves.proofs.TargetLemmas.{Goals, legal_goals}
 use Rattle.pg_moves.proofs.SearchLemmas.{leap_last, none_numbers, promotes}
-use Rattle.pg_moves.proofs.ShelterLemmas.{sure_legal, unseen_lifted}
+use Rattle.pg_moves.specs.inner.Parries.{IsPinnedAlong}
+use Rattle.pg_moves.proofs.PinLemmas.{on_no_line}
+use Rattle.pg_moves.proofs.ShelterLemmas.{sure_legal, unpinned_lifted}
 use Rattle.pg_moves.proofs.PlayLemmas.{play_of}
 use Rattle.pg_moves.proofs.CountLemmas.{games_of, number_of, number_more, number_is}
 
@@ -170,6 +171,13 @@ one_king p pos = go p.side
     go White = pos.kings.0
     go Black = pos.kings.1
 
+-- the side to move has a king
+pub king_found : (p : State) (b : Placement) (c : Color) → IsPosition p → b ≡ p.board → c ≡ p.side → ((q : ℕ) → get b q ≡ Some (king_of c) → ⊥) → ⊥
+unfolding HasOneKing IsOnlyKing
+king_found p b c pos eb ec none =
+    let (h, king) = one_king p pos in
+    none h (subst (λ (d : Placement). get d h ≡ Some (king_of c)) (sym eb) (subst (λ (d : Color). get p.board h ≡ Some (king_of d)) (sym ec) king.1))
+
 module _ (p : State) (b : Placement) (c : Color) (h : ℕ) (pos : IsPosition p) (eb : b ≡ p.board) (ec : c ≡ p.side) (first : IsFirst b (king_of c) h) where
   -- the king of the side to move
   pub the_king : IsOnlyKing p.board p.side h
@@ -181,15 +189,22 @@ module _ (p : State) (b : Placement) (c : Color) (h : ℕ) (pos : IsPosition p) 
       let there : ¬ Attacks (without p.board r) (other p.side) h = (λ a. lifted (subst (λ (d : Placement). Attacks (without d r) (other c) h) (sym eb) (subst (λ (d : Color). Attacks (without p.board r) (other d) h) (sym ec) a))) in
       (no_king, λ s on a stays. sure_legal p k r h low here the_king no_king there s on a stays)
 
-  pub free_seen : (x y n : ℕ) → IsSetOf x (Reaches b c Queen h) → IsSetOf y (λ q. q ≡ h) → ((q : ℕ) → has n q ≡ has x q || has y q) → ¬ InCheck p.board p.side → FreeOff p n
-  unfolding FreeOff IsOnlyKing InCheck
-  free_seen x y n sees at either safe k r low here off =
+  -- off the men between the king and a man that would attack him, all are free
+  pub free_lines : (x y z u n : ℕ) → ((r : ℕ) → r < 64 → IsOwn b c r → has x r ≡ false → ¬ IsPinnedAlong b c Rook h r) → ((r : ℕ) → r < 64 → IsOwn b c r → has y r ≡ false → ¬ IsPinnedAlong b c Bishop h r) → IsSetOf z (λ q. q ≡ h) → ((q : ℕ) → has u q ≡ has x q || has y q) → ((q : ℕ) → has n q ≡ has u q || has z q) → ¬ InCheck p.board p.side → FreeOff p n
+  unfolding FreeOff IsOnlyKing InCheck IsOwn
+  free_lines x y z u n straight diagonal at lines either safe k r low here off =
       let king : IsOnlyKing p.board p.side h = the_king in
-      let none : Reaches b c Queen h r ⊎ (r ≡ h) → ⊥ = (λ z. let is : has n r ≡ true = (set_of_union n x y either sees at r low).1 z in cc) in
-      let no_king : k ≢ King = (λ e. none (inr (king.2 r low (subst (λ (j : Kind). Stands p.board p.side j r) e here)))) in
-      let unseen : ¬ Reaches b c Queen h r = (λ z. none (inl z)) in
+      let (off_u, off_z) = neither (has u r) (has z r) (sym (either r) ∙ off) in
+      let (off_x, off_y) = neither (has x r) (has y r) (sym (lines r) ∙ off_u) in
+      let not_h : r ≢ h = (λ e. let is : has z r ≡ true = (at r low).1 e in cc) in
+      let no_king : k ≢ King = (λ e. not_h (king.2 r low (subst (λ (j : Kind). Stands p.board p.side j r) e here))) in
+      let own : Stands b c k r = subst (λ (d : Placement). Stands d c k r) (sym eb) (subst (λ (d : Color). Stands p.board d k r) (sym ec) here) in
       let calm : ¬ Attacks b (other c) h = (λ a. safe (h, king.0, king.1, subst (λ (d : Placement). Attacks d (other p.side) h) eb (subst (λ (d : Color). Attacks b (other d) h) ec a))) in
-      free_lifted k r low here no_king (unseen_lifted b c r h low unseen calm)
+      free_lifted k r low here no_king (unpinned_lifted b c r h low (on_no_line b c h r (straight r low (k, own) off_x) (diagonal r low (k, own) off_y)) calm)
+    where
+      neither : (v w : Bool) → v || w ≡ false → (v ≡ false) × (w ≡ false)
+      neither true w e = absurd (cc)
+      neither false w e = (refl, e)
 
 pub piece_ordinary : (p : State) (k : Kind) (r : ℕ) → k ≢ Pawn → IsOrdinary p k r
 unfolding IsOrdinary

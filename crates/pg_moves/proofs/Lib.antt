@@ -10,6 +10,10 @@ pub mod PlayLemmas
 pub mod LineLemmas
 pub mod ShelterLemmas
 pub mod ParryLemmas
+pub mod WayLemmas
+pub mod ExactLemmas
+pub mod OnlyLemmas
+pub mod PinLemmas
 pub mod LeafLemmas
 pub mod PairLemmas
 pub mod GameLemmas

@@ -10,10 +10,10 @@ use Rattle.pg_position.specs.Geometry.{apart, OnOneDiagonal, InPattern, IsWithin
 within_more : (x r h t : ℕ) → IsWithin x r h → IsWithin h t r → IsWithin x t h
 within_more x r h t a b = omega arith
 
-within_same : (x r h : ℕ) → IsWithin x r h → x ≡ h → r ≡ x
+pub within_same : (x r h : ℕ) → IsWithin x r h → x ≡ h → r ≡ x
 within_same x r h a e = omega arith
 
-same_square : (r s : ℕ) → file r ≡ file s → rank r ≡ rank s → r ≡ s
+pub same_square : (r s : ℕ) → file r ≡ file s → rank r ≡ rank s → r ≡ s
 same_square r s f g = omega arith
 
 near_end : (x r h : ℕ) → IsWithin x r h → IsWithin h x r → r ≡ x

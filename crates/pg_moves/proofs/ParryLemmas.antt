@@ -1,100 +1,28 @@
 -- Moves off the squares where a check is parried leave their king attacked.
-use Rattle.std.proofs.Common.{◌≡◌, ◌≢◌, ℕ, ◌<◌, ◌⊎◌, inl, inr, Bool, true, false, ◌&&◌, ◌||◌, Option, Some, None, refl, sym, ap, subst, ◌∙◌, arith}
-use Rattle.std.proofs.lemmas.Bool.Decides.{Decides-at}
+use Rattle.std.proofs.Common.{◌≡◌, ◌≢◌, ℕ, ◌<◌, ◌⊎◌, inl, inr, Bool, true, false, ◌&&◌, ◌||◌, Option, Some, None, refl, sym, ap, subst, ◌∙◌}
 use Rattle.pg_board.specs.declared.man.Color.{Color}
 use Rattle.pg_board.specs.declared.man.Kind.{Kind}
-use Rattle.pg_board.specs.declared.man.Kind.TheVariants.{Pawn, Knight, Bishop, Rook, Queen, King}
+use Rattle.pg_board.specs.declared.man.Kind.TheVariants.{Pawn, King}
 use Rattle.pg_board.specs.declared.man.Man.{Man}
 use Rattle.pg_board.specs.Bits.{has}
-use Rattle.pg_board.specs.Men.{man, other, is_man}
-use Rattle.pg_board.specs.lemmas.Equalities.{is_man_decides}
+use Rattle.pg_board.specs.Men.{man, other}
 use Rattle.pg_board.specs.Placement.{Placement, get, write, without}
 use Rattle.pg_board.specs.lemmas.Placements.{get-write_other}
-use Rattle.pg_board.specs.SquareSets.{IsSetOf, Meet}
+use Rattle.pg_board.specs.SquareSets.{IsSetOf}
 use Rattle.pg_board.proofs.SetLemmas.{second, set_of_union, set_of_both}
 use Rattle.pg_position.specs.declared.state.State.{State}
 use Rattle.pg_position.specs.declared.moves.Move.{Move}
 use Rattle.pg_position.specs.declared.moves.StepKind.{StepKind}
 use Rattle.pg_position.specs.declared.moves.StepKind.TheVariants.{Plain, Capture, DoubleAdvance, EnPassant, Promotion, Castling}
-use Rattle.pg_position.specs.Geometry.{InPattern, IsBetween}
-use Rattle.pg_position.specs.Attack.{IsClear, Reaches, AttacksFrom, Attacks}
+use Rattle.pg_position.specs.Geometry.{IsBetween}
+use Rattle.pg_position.specs.Attack.{IsClear, AttacksFrom, Attacks}
 use Rattle.pg_position.specs.Position.{Stands, IsOnlyKing, InCheck}
 use Rattle.pg_position.specs.Step.{IsLegal, IsWay, board_after, Step}
 use Rattle.pg_position.proofs.StepLemmas.{same_kind}
-use Rattle.pg_position.proofs.LineLemmas.{knight_near}
-use Rattle.pg_position.proofs.ReachLemmas.{between_turn}
 use Rattle.pg_moves.specs.Targets.{Strides, Leaps, Advances, CapturesEnPassant, Covers}
-use Rattle.pg_moves.specs.inner.Parries.{StaysAttacked, IsInVain}
-use Rattle.pg_moves.proofs.LineLemmas.{rook_within, bishop_within, between_more}
+use Rattle.pg_moves.specs.inner.Parries.{StaysAttacked, IsInVain, IsParried, IsInShelter}
 use Rattle.pg_moves.proofs.ShelterLemmas.{advance_off}
 use Rattle.pg_moves.proofs.ShiftLemmas.{itself}
-
--- ---- an attack that stays
-module _ (b : Placement) (f : Color) (k : Kind) (h seen : ℕ) (sees : IsSetOf seen (Reaches b f k h)) where
-  -- a man of kind j is seen from h, and would see back: off what is seen his attack stays
-  stays : (j : Kind) (x s : ℕ) → x < 64 → s < 64 → get b x ≡ Some (man f j) → (InPattern f k h x → InPattern f j x h) → (InPattern f k h x → IsBetween x s h → InPattern f k h s) → has seen x ≡ true → has seen s ≡ false → StaysAttacked b f h s
-  unfolding StaysAttacked AttacksFrom IsClear
-  stays j x s low on at turn within visible off =
-      let r : Reaches b f k h x = (sees x low).0 visible in
-      let clear : (t : ℕ) → t < 64 → IsBetween x t h → get b t ≡ None = (λ t l bet. r.1 t l (between_turn x t h bet)) in (
-        x,
-        low,
-        (j, at, (turn r.0, clear)),
-        λ e. (let same : has seen x ≡ has seen s = ap (has seen) e in cc),
-        λ bet. (let there : has seen s ≡ true = (sees s on).1 (within r.0 bet, λ t l near. clear t l (between_more x s h t bet near)) in cc),
-      )
-
-  men_are : (j : Kind) (men : ℕ) → ((q : ℕ) → q < 64 → has men q ≡ is_man (man f j) (get b q)) → IsSetOf men (λ q. get b q ≡ Some (man f j))
-  men_are j men are q l = Decides-at _ _ (are q l) (is_man_decides (man f j) (get b q))
-
-  -- a line and its men, and the queens
-  module _ (slides : (k ≡ Rook) ⊎ (k ≡ Bishop)) where
-    turned : (x : ℕ) → InPattern f k h x → InPattern f k x h
-    unfolding InPattern
-    turned x p = elim slides [
-      | inl e ↦ subst (λ (j : Kind). InPattern f j x h) (sym e) (rook_turned x (subst (λ (j : Kind). InPattern f j h x) e p))
-      | inr e ↦ subst (λ (j : Kind). InPattern f j x h) (sym e) (bishop_turned x (subst (λ (j : Kind). InPattern f j h x) e p))
-    ]
-      where
-        rook_turned : (x : ℕ) → InPattern f Rook h x → InPattern f Rook x h
-        rook_turned x (n, l) = (λ e. n (sym e), elim l [ inl e ↦ inl (sym e) | inr e ↦ inr (sym e) ])
-
-        bishop_turned : (x : ℕ) → InPattern f Bishop h x → InPattern f Bishop x h
-        bishop_turned x (n, l) = (λ e. n (sym e), omega arith)
-
-    as_queen : (x : ℕ) → InPattern f k x h → InPattern f Queen x h
-    unfolding InPattern
-    as_queen x p = elim slides [
-      | inl e ↦ of_rook x (subst (λ (j : Kind). InPattern f j x h) e p)
-      | inr e ↦ of_bishop x (subst (λ (j : Kind). InPattern f j x h) e p)
-    ]
-      where
-        of_rook : (x : ℕ) → InPattern f Rook x h → InPattern f Queen x h
-        of_rook x (n, l) = (n, inl l)
-
-        of_bishop : (x : ℕ) → InPattern f Bishop x h → InPattern f Queen x h
-        of_bishop x (n, l) = (n, inr l)
-
-    inside : (x s : ℕ) → InPattern f k h x → IsBetween x s h → InPattern f k h s
-    inside x s p bet = elim slides [
-      | inl e ↦ subst (λ (j : Kind). InPattern f j h s) (sym e) (rook_within f x s h (subst (λ (j : Kind). InPattern f j h x) e p) bet)
-      | inr e ↦ subst (λ (j : Kind). InPattern f j h s) (sym e) (bishop_within f x s h (subst (λ (j : Kind). InPattern f j h x) e p) bet)
-    ]
-
-    pub line_stays : (own queens men : ℕ) → ((q : ℕ) → q < 64 → has own q ≡ is_man (man f k) (get b q)) → ((q : ℕ) → q < 64 → has queens q ≡ is_man (man f Queen) (get b q)) → ((q : ℕ) → has men q ≡ has own q || has queens q) → (s : ℕ) → s < 64 → (has seen s ≡ false) × Meet seen men → StaysAttacked b f h s
-    line_stays own queens men are reign either s on (off, (x, low, visible, there)) = elim ((set_of_union men own queens either (men_are k own are) (men_are Queen queens reign) x low).0 there) [
-      | inl at ↦ stays k x s low on at (turned x) (inside x s) visible off
-      | inr at ↦ stays Queen x s low on at (λ p. as_queen x (turned x p)) (inside x s) visible off
-    ]
-
--- a knight
-pub leap_stays : (b : Placement) (f : Color) (h seen men : ℕ) → IsSetOf seen (Reaches b f Knight h) → ((q : ℕ) → q < 64 → has men q ≡ is_man (man f Knight) (get b q)) → (s : ℕ) → s < 64 → (has seen s ≡ false) × Meet seen men → StaysAttacked b f h s
-unfolding InPattern
-leap_stays b f h seen men sees are s on (off, (x, low, visible, there)) =
-    stays b f Knight h seen sees Knight x s low on ((men_are b f Knight h seen sees Knight men are x low).0 there) (back x) (λ p bet. absurd (knight_near f x s h (back x p) bet)) visible off
-  where
-    back : (x : ℕ) → InPattern f Knight h x → InPattern f Knight x h
-    back x p = elim p [ inl (a, c) ↦ inl (omega arith, omega arith) | inr (a, c) ↦ inr (omega arith, omega arith) ]
 
 -- what is off two sets' common squares is off one of them
 pub off_both : {P : Type 0} (x y : Bool) → (x ≡ false → P) → (y ≡ false → P) → x && y ≡ false → P
@@ -105,6 +33,18 @@ off_both false y p q e = p refl
 pub in_vain : (p : State) (b : Placement) (c : Color) (r h s : ℕ) → b ≡ p.board → c ≡ p.side → IsOnlyKing p.board p.side h → StaysAttacked (without b r) (other c) h s → IsInVain p r s
 unfolding IsInVain
 in_vain p b c r h s eb ec king stay = (h, king, subst (λ (d : Placement). StaysAttacked (without d r) (other p.side) h s) eb (subst (λ (f : Color). StaysAttacked (without b r) (other f) h s) ec stay))
+
+pub in_shelter : (p : State) (b : Placement) (c : Color) (r h s : ℕ) → b ≡ p.board → c ≡ p.side → IsOnlyKing p.board p.side h → ((x : ℕ) → x < 64 → AttacksFrom (without b r) (other c) x h → (x ≡ s) ⊎ IsBetween x s h) → IsInShelter p r s
+unfolding IsInShelter IsParried
+in_shelter p b c r h s eb ec king safe = (h, king, subst (λ (d : Placement). IsParried (without d r) (other p.side) h s) eb (subst (λ (f : Color). IsParried (without b r) (other f) h s) ec safe))
+
+-- the king has not been lifted with a man that is none
+pub king_held : (p : State) (b : Placement) (k : Kind) (r h : ℕ) → b ≡ p.board → Stands p.board p.side k r → k ≢ King → IsOnlyKing p.board p.side h → get (without b r) h ≢ None
+unfolding IsOnlyKing
+king_held p b k r h eb here no_king king none =
+    let nr : h ≢ r = (λ e. no_king (same_kind here (subst (λ x. Stands p.board p.side King x) e king.1))) in
+    let there : get (without b r) h ≡ Some (man p.side King) = get-write_other b r None h nr ∙ ap (λ d. get d h) eb ∙ king.1 in
+    cc
 
 stays_check : (b : Placement) (c : Color) (r s h : ℕ) (o : Option Man) → IsOnlyKing b c h → h ≢ r → h ≢ s → StaysAttacked (without b r) (other c) h s → InCheck (write (without b r) s o) c
 unfolding StaysAttacked IsOnlyKing InCheck Attacks AttacksFrom IsClear
@@ -141,7 +81,7 @@ module _ (p : State) (k : Kind) (r : ℕ) (here : Stands p.board p.side k r) (no
       let board : board_after p m w ≡ write (without p.board r) m.to l.there = l.board ∙ ap (λ x. write (without p.board x) m.to l.there) f in
       subst (λ (b : Placement). InCheck b p.side) (sym board) (stays_check p.board p.side r m.to h l.there king nr ns stay)
 
-  parried : (m : Move) → IsLegal p m → m.from ≡ r → (m.to < 64) × ((Advances p.board p.side k r m.to × (has z m.to ≡ true)) ⊎ ((k ≡ Pawn) × CapturesEnPassant p r m.to))
+  pub parried : (m : Move) → IsLegal p m → m.from ≡ r → (m.to < 64) × ((Advances p.board p.side k r m.to × (has z m.to ≡ true)) ⊎ ((k ≡ Pawn) × CapturesEnPassant p r m.to))
   unfolding Step
   parried m (q, ((j, w, on, stands, way, e), safe)) f =
       let there : Stands p.board p.side j r = subst (λ (s : ℕ). Stands p.board p.side j s) f stands in

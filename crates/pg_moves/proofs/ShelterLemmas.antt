@@ -3,7 +3,7 @@ use Rattle.std.proofs.Common.{◌≡◌, ◌≢◌, ℕ, ◌<◌, inl, inr, Some
 use Rattle.std.proofs.lemmas.Bool.Decides.{eqb_tells}
 use Rattle.pg_board.specs.declared.man.Color.{Color}
 use Rattle.pg_board.specs.declared.man.Kind.{Kind}
-use Rattle.pg_board.specs.declared.man.Kind.TheVariants.{Queen, King}
+use Rattle.pg_board.specs.declared.man.Kind.TheVariants.{King}
 use Rattle.pg_board.specs.declared.man.Man.{Man}
 use Rattle.pg_board.specs.Men.{man, other}
 use Rattle.pg_board.specs.Placement.{Placement, get, without}
@@ -12,16 +12,12 @@ use Rattle.pg_position.specs.declared.state.State.{State}
 use Rattle.pg_position.specs.declared.moves.StepKind.{StepKind}
 use Rattle.pg_position.specs.declared.moves.StepKind.TheVariants.{Plain, Capture, DoubleAdvance}
 use Rattle.pg_position.specs.Geometry.{IsBetween}
-use Rattle.pg_position.specs.Attack.{IsClear, Reaches, AttacksFrom, Attacks}
+use Rattle.pg_position.specs.Attack.{IsClear, AttacksFrom, Attacks}
 use Rattle.pg_position.specs.Position.{Stands, IsOnlyKing, InCheck}
 use Rattle.pg_position.specs.Step.{IsLegal, IsEnemy, MustPromote, IsWay, relocated, after, Step}
 use Rattle.pg_position.proofs.StepLemmas.{same_kind, same_side, not_other}
 use Rattle.pg_moves.specs.Targets.{plain_move, Strides, Leaps, Advances}
-use Rattle.pg_moves.proofs.LineLemmas.{seen_back, between_more}
-
-not_end : (h u r : ℕ) → IsBetween h u r → u ≢ r
-unfolding IsBetween
-not_end h u r bet = bet.1
+use Rattle.pg_moves.specs.inner.Parries.{IsParried}
 
 -- the placement e is b after a man of the colour, no king, has gone from r to s
 record HasGone (b e : Placement) (c : Color) (k : Kind) (r s : ℕ) : Type 0 where
@@ -39,10 +35,10 @@ module _ (b e : Placement) (c : Color) (k : Kind) (r s h : ℕ) (on : r < 64) (g
       let before : Stands b c King t = sym (gone.rest t not_r not_s) ∙ here in
       (king.2 t low before, not_r, not_s)
 
-  module _ (lifted : ¬ Attacks (without b r) (other c) h) where
-    -- an attack on the king would be there with the man taken off the board
+  module _ (to : s < 64) (parried : IsParried (without b r) (other c) h s) where
+    -- an attack on the king would be there with the man taken off the board, and not parried
     no_attack : ¬ Attacks e (other c) h
-    unfolding Attacks AttacksFrom IsClear
+    unfolding Attacks AttacksFrom IsClear IsParried
     no_attack (x, low, (j, at, (pattern, clear))) =
         let their : Man = man (other c) j in
         let not_s : x ≢ s = (λ f. let there : get e s ≡ Some their = subst (λ y. get e y ≡ Some their) f at in not_other c (same_side gone.arrived there)) in
@@ -54,25 +50,22 @@ module _ (b e : Placement) (c : Color) (k : Kind) (r s h : ℕ) (on : r < 64) (g
           | inl w ↦ subst (λ y. get (without b r) y ≡ None) (sym w.1) (get-write_same b r None on)
           | inr w ↦ get-write_other b r None t w.1 ∙ sym (gone.rest t w.1 (taken t l bet)) ∙ clear t l bet
         ]) in
-        lifted (x, low, (j, before, (pattern, open_line)))
+        elim (parried x low (j, before, (pattern, open_line))) [ inl f ↦ not_s f | inr bet ↦ taken s to bet refl ]
 
     no_check : ¬ InCheck e c
     unfolding InCheck
     no_check (t, low, here, attacked) = let f : (t ≡ h) × (t ≢ r) × (t ≢ s) = same_king t low here in no_attack (subst (λ x. Attacks e (other c) x) f.0 attacked)
 
--- a man that the king does not see, as a queen sees, covers him from no attack
-pub unseen_lifted : (b : Placement) (c : Color) (r h : ℕ) → r < 64 → ¬ Reaches b c Queen h r → ¬ Attacks b (other c) h → ¬ Attacks (without b r) (other c) h
+-- a man that is between the king and no man that would attack him covers him from no attack
+pub unpinned_lifted : (b : Placement) (c : Color) (r h : ℕ) → r < 64 → ((x : ℕ) → x < 64 → AttacksFrom (without b r) (other c) x h → ¬ IsBetween x r h) → ¬ Attacks b (other c) h → ¬ Attacks (without b r) (other c) h
 unfolding Attacks AttacksFrom IsClear
-unseen_lifted b c r h on unseen safe (x, low, (j, at, (pattern, clear))) =
+unpinned_lifted b c r h on apart safe (x, low, (j, at, (pattern, clear))) =
     let m : Man = man (other c) j in
     let not_r : x ≢ r = (λ f. let there : get (without b r) r ≡ Some m = subst (λ y. get (without b r) y ≡ Some m) f at in let none : get (without b r) r ≡ None = get-write_same b r None on in cc) in
     let before : get b x ≡ Some m = sym (get-write_other b r None x not_r) ∙ at in
-    let still : (t : ℕ) → t < 64 → IsBetween x t h → t ≢ r → get b t ≡ None = (λ t l bet ne. sym (get-write_other b r None t ne) ∙ clear t l bet) in
     let open_line : (t : ℕ) → t < 64 → IsBetween x t h → get b t ≡ None = (λ t l bet. elim (eqb_tells t r) [
-      | inl w ↦ absurd (unseen (
-          let mid : IsBetween x r h = subst (λ y. IsBetween x y h) w.1 bet in
-          (seen_back c x r h mid, λ u v near. still u v (between_more x r h u mid near) (let apart_r : u ≢ r = not_end h u r near in apart_r))))
-      | inr w ↦ still t l bet w.1
+      | inl w ↦ absurd (apart x low (j, at, (pattern, clear)) (subst (λ y. IsBetween x y h) w.1 bet))
+      | inr w ↦ sym (get-write_other b r None t w.1) ∙ clear t l bet
     ]) in
     safe (x, low, (j, before, (pattern, open_line)))
 
@@ -101,12 +94,17 @@ advance_way p k r s (inl (inl h)) stays = (Plain, record { unpromoted = refl; st
 advance_way p k r s (inl (inr h)) stays = (Capture, record { unpromoted = refl; stays = stays; enemy = h.0; reaches = h.1 }, refl)
 advance_way p k r s (inr (e, h)) stays = (DoubleAdvance, record { unpromoted = refl; pawn = e; home = h.0; two = h.1; crossed = h.2; vacant = h.3 }, refl)
 
-module _ (p : State) (k : Kind) (r h : ℕ) (low : r < 64) (here : Stands p.board p.side k r) (king : IsOnlyKing p.board p.side h) (no_king : k ≢ King) (lifted : ¬ Attacks (without p.board r) (other p.side) h) where
-  -- each of its advances is legal
-  pub sure_legal : (s : ℕ) → s < 64 → Advances p.board p.side k r s → ¬ MustPromote k p.side s → IsLegal p (plain_move r s)
+module _ (p : State) (k : Kind) (r h : ℕ) (low : r < 64) (here : Stands p.board p.side k r) (king : IsOnlyKing p.board p.side h) (no_king : k ≢ King) where
+  -- an advance that parries each attack is legal
+  pub parry_legal : (s : ℕ) → s < 64 → IsParried (without p.board r) (other p.side) h s → Advances p.board p.side k r s → ¬ MustPromote k p.side s → IsLegal p (plain_move r s)
   unfolding Step
-  sure_legal s to a stays =
+  parry_legal s to parried a stays =
       let w : (w : StepKind) × IsWay p k (plain_move r s) w × ((after p (plain_move r s) w).board ≡ relocated p.board r s) = advance_way p k r s a stays in
       let ne : r ≢ s = not_here p.board p.side k r s here (advance_off p.board p.side k r s a) in
-      let clean : ¬ InCheck (relocated p.board r s) p.side = no_check p.board (relocated p.board r s) p.side k r s h low (gone_plain p.board p.side k r s low to ne here) no_king king lifted in
+      let clean : ¬ InCheck (relocated p.board r s) p.side = no_check p.board (relocated p.board r s) p.side k r s h low (gone_plain p.board p.side k r s low to ne here) no_king king to parried in
       (after p (plain_move r s) w.0, ((k, w.0, (low, to), here, w.1, refl), subst (λ (b : Placement). ¬ InCheck b p.side) (sym w.2) clean))
+
+  -- where nothing attacks with the man taken off the board each of its advances is legal
+  pub sure_legal : ¬ Attacks (without p.board r) (other p.side) h → (s : ℕ) → s < 64 → Advances p.board p.side k r s → ¬ MustPromote k p.side s → IsLegal p (plain_move r s)
+  unfolding Attacks IsParried
+  sure_legal lifted s to a stays = parry_legal s to (λ x l hit. absurd (lifted (x, l, hit))) a stays

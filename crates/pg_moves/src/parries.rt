@@ -1,63 +1,77 @@
 //! Where a man has to go whose king would be attacked without him.
-ghost use Rattle.std.specs.Prelude.{◌≡◌, ◌⊎◌, ℕ, ◌<◌, false};
+ghost use Rattle.std.specs.Prelude.{◌≡◌, ◌≢◌, ℕ, ◌<◌, true, false, None};
 ghost use Rattle.pg_board.specs.Bits.{has};
-ghost use Rattle.pg_board.specs.SquareSets.{Meet};
-ghost use Rattle.pg_moves.specs.inner.Parries.{StaysAttacked, IsInVain};
+ghost use Rattle.pg_board.specs.Placement.{get};
+ghost use Rattle.pg_position.specs.Attack.{AttacksFrom};
+ghost use Rattle.pg_position.specs.Position.{Stands};
+ghost use Rattle.pg_moves.specs.Targets.{IsOrdinary};
+ghost use Rattle.pg_moves.specs.inner.Sources.{IsExact};
+ghost use Rattle.pg_moves.specs.inner.Parries.{IsInVain, IsInShelter, IsLineKind, IsStepKind, IsLineAttacker, IsStepAttacker, AreParries};
 
+use crate::targets::advances;
 use pg_board::{Board, Color, Kind, Man, Square, SquareSet};
 use pg_position::{Position, attacks_from};
 
-// The squares that are seen, where one of the men stands there, else all.
-fn seen_if_met(seen: SquareSet, men: SquareSet) -> SquareSet
-    ensures { (s : ℕ) → s < 64 → has result s ≡ false → (has seen s ≡ false) × Meet seen men }
-{
-    if seen.meets(men) {
-        seen
-    } else {
-        SquareSet::full()
-    }
-}
-
-// The squares of the lines along which rooks move, or bishops, where such a man or a queen attacks the
-// square along one of them, else all: off them that attack stays.
+// Where a man may come against men of the colour that are of the kind, or queens, and attack the square
+// along the kind's lines: to the square of the only one, or between him and the square.
 fn line_parries(board: &Board, square: Square, by: Color, kind: Kind) -> SquareSet
-    requires { (kind ≡ Kind.Rook) ⊎ (kind ≡ Kind.Bishop) }
-    ensures { (s : ℕ) → s < 64 → has result s ≡ false → StaysAttacked board.now by square s }
+    requires kind { IsLineKind kind }
+    requires held { get board.now square ≢ None }
+    ensures { AreParries board.now by square (IsLineAttacker board.now by kind square) result }
 {
+    // A fact for the proof: the square is on the board.
+    square.index();
     let man = Man::new(by, kind);
     let queens = board.squares_of(Man::new(by, Kind::Queen));
-    seen_if_met(
-        attacks_from(board, man, square),
-        board.squares_of(man) | queens,
-    )
+    let seen = attacks_from(board, man, square);
+    let attackers = seen & (board.squares_of(man) | queens);
+    let mut kept = SquareSet::full();
+    let mut at = 0;
+    while let Some(attacker) = attackers.first_from(at) {
+        let between = seen & attacks_from(board, man, attacker);
+        kept = kept & (between | SquareSet::single(attacker));
+        at = attacker.index() + 1;
+    }
+    kept
 }
 
-// The squares a knight's leap away where a knight attacks the square, else all: off them that attack
-// stays.
-fn leap_parries(board: &Board, square: Square, by: Color) -> SquareSet
-    ensures { (s : ℕ) → s < 64 → has result s ≡ false → StaysAttacked board.now by square s }
+// Where a man may come against men of the colour and kind that attack the square by one step: to the square
+// of the only one.
+fn step_parries(board: &Board, square: Square, by: Color, kind: Kind) -> SquareSet
+    requires { IsStepKind kind }
+    ensures { AreParries board.now by square (IsStepAttacker board.now by kind square) result }
 {
-    let knight = Man::new(by, Kind::Knight);
-    seen_if_met(
-        attacks_from(board, knight, square),
-        board.squares_of(knight),
-    )
+    let men = board.squares_of(Man::new(by, kind));
+    let attackers = attacks_from(board, Man::new(by.other(), kind), square) & men;
+    let mut kept = SquareSet::full();
+    let mut at = 0;
+    while let Some(attacker) = attackers.first_from(at) {
+        kept = kept & SquareSet::single(attacker);
+        at = attacker.index() + 1;
+    }
+    kept
 }
 
-// Each square to which a man may come so that the colour attacks the square no more, and maybe others:
-// he takes the man that attacks, or stands in between.
+// Each square to which a man may come so that the colour attacks the square no more: he takes the man
+// that attacks, or stands in between.
 fn all_parries(board: &Board, square: Square, by: Color) -> SquareSet
-    ensures { (s : ℕ) → s < 64 → has result s ≡ false → StaysAttacked board.now by square s }
+    requires { get board.now square ≢ None }
+    ensures { AreParries board.now by square (λ x. AttacksFrom board.now by x square) result }
 {
     line_parries(board, square, by, Kind::Rook)
         & line_parries(board, square, by, Kind::Bishop)
-        & leap_parries(board, square, by)
+        & step_parries(board, square, by, Kind::Knight)
+        & step_parries(board, square, by, Kind::Pawn)
+        & step_parries(board, square, by, Kind::King)
 }
 
-// Each square to which the man on `from` may go, en passant apart, so that his king is not attacked, and
-// maybe others.
-pub(crate) fn parries(position: &Position, from: Square) -> SquareSet
-    ensures { (s : ℕ) → s < 64 → has result s ≡ false → IsInVain position.now from s }
+// Each square to which the man on `from`, no king, may go, en passant apart, so that his king is not
+// attacked.
+pub(crate) fn parries(position: &Position, kind: Kind, from: Square) -> SquareSet
+    requires stands { Stands position.now.board position.now.side kind from }
+    requires king { kind ≢ Kind.King }
+    ensures vain { (s : ℕ) → s < 64 → has result s ≡ false → IsInVain position.now from s }
+    ensures safe { (s : ℕ) → s < 64 → has result s ≡ true → IsInShelter position.now from s }
 {
     let side = position.side();
     let board = position.board();
@@ -67,6 +81,21 @@ pub(crate) fn parries(position: &Position, from: Square) -> SquareSet
             rest.take(from);
             all_parries(&rest, king, side.other())
         }
-        None => SquareSet::full(),
+        None => unreachable!(),
     }
+}
+
+// The squares to which the legal moves of a man go that may be pinned, if he neither promotes nor captures
+// en passant: not inlined, since few men may be pinned.
+#[inline(never)]
+pub(crate) fn parrying(position: &Position, kind: Kind, from: Square) -> SquareSet
+    requires stands { Stands position.now.board position.now.side kind from }
+    requires king { kind ≢ Kind.King }
+    requires ordinary { IsOrdinary position.now kind from }
+    ensures { IsExact position.now from result }
+{
+    // A fact for the proof: the square is on the board.
+    from.index();
+    let board = position.board();
+    advances(&board, position.side(), kind, from) & parries(position, kind, from)
 }

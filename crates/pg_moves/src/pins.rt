@@ -1,11 +1,11 @@
-//! Which men's moves are to be tried, since they may leave their king attacked.
-ghost use Rattle.std.specs.Prelude.{◌≡◌, ◌↔◌, ℕ, ◌<◌, IsTrue, IsFalse};
+//! Which men may be pinned, so that some of their moves may leave their king attacked.
+ghost use Rattle.std.specs.Prelude.{◌≡◌, ◌↔◌, ℕ, ◌<◌, IsTrue, IsFalse, false};
 ghost use Rattle.pg_board.specs.Bits.{has};
 ghost use Rattle.pg_board.specs.Men.{is_man, is_of, man, other};
 ghost use Rattle.pg_board.specs.Placement.{get, without};
 ghost use Rattle.pg_position.specs.Attack.{Attacks};
-ghost use Rattle.pg_position.specs.Position.{Stands};
-ghost use Rattle.pg_moves.specs.Targets.{FreeOff, IsFree, IsOrdinary, IsOwn, only};
+ghost use Rattle.pg_moves.specs.inner.Parries.{IsLineKind, IsPinnedAlong};
+ghost use Rattle.pg_moves.specs.Targets.{FreeOff, IsOrdinary, IsOwn, only};
 
 use crate::targets::en_passant_targets;
 use pg_board::{Board, Color, Kind, Man, Sets, Square, SquareSet};
@@ -66,15 +66,32 @@ fn attacked_alone(board: &Board, square: Square, color: Color) -> bool
     attacked(&men_of(board, color.other()), square, color.other())
 }
 
-// The squares of the men that may be pinned, so that their moves are to be tried: the king's alone
-// where he would not be attacked with none of his men on the board. Else all in check, and else the
-// king's and those that a queen would see from there.
+// The squares that are seen from the square along the lines of the kind, if a man of the other colour would
+// attack it along them with none of the colour's men on the board; else none, for no man is pinned there.
+fn seen_if_pinned(board: &Board, square: Square, color: Color, kind: Kind) -> SquareSet
+    requires { IsLineKind kind }
+    ensures { (r : ℕ) → r < 64 → IsOwn board.now color r → has result r ≡ false
+        → ¬ IsPinnedAlong board.now color kind square r }
+{
+    let by = color.other();
+    let man = Man::new(by, kind);
+    let queens = board.squares_of(Man::new(by, Kind::Queen));
+    let sliders = board.squares_of(man) | queens;
+    if attacks_from(&men_of(board, by), man, square).meets(sliders) {
+        attacks_from(board, man, square)
+    } else {
+        SquareSet::empty()
+    }
+}
+
+// The squares of the men that may be pinned: the king's alone where he would not be attacked with none of
+// his men on the board. Else all in check, and else the king's and those that are seen from there along the
+// lines of rooks, or of bishops, by which he would be attacked then.
 pub(crate) fn maybe_pinned(position: &Position, board: &Board) -> SquareSet
     requires { board.now ≡ position.now.board }
     ensures { FreeOff position.now result }
 {
     let side = position.side();
-    let queen = Man::new(side, Kind::Queen);
     match board.king(side) {
         Some(king) => {
             if !attacked_alone(board, king, side) {
@@ -82,7 +99,9 @@ pub(crate) fn maybe_pinned(position: &Position, board: &Board) -> SquareSet
             } else if position.in_check() {
                 SquareSet::full()
             } else {
-                attacks_from(board, queen, king) | SquareSet::single(king)
+                let straight = seen_if_pinned(board, king, side, Kind::Rook);
+                let diagonal = seen_if_pinned(board, king, side, Kind::Bishop);
+                straight | diagonal | SquareSet::single(king)
             }
         }
         None => SquareSet::full(),
@@ -91,7 +110,7 @@ pub(crate) fn maybe_pinned(position: &Position, board: &Board) -> SquareSet
 
 // Whether the man is a pawn that may promote or capture en passant.
 #[inline(always)]
-fn is_special(position: &Position, color: Color, kind: Kind, from: Square) -> bool
+pub(crate) fn is_special(position: &Position, color: Color, kind: Kind, from: Square) -> bool
     requires { color ≡ position.now.side }
     ensures { IsFalse result → IsOrdinary position.now kind from }
 {
@@ -104,57 +123,5 @@ fn is_special(position: &Position, color: Color, kind: Kind, from: Square) -> bo
             }
         }
         _ => false,
-    }
-}
-
-// Whether the king would be attacked with the man taken off the board.
-#[inline(never)]
-fn is_pinned(position: &Position, kind: Kind, from: Square) -> bool
-    requires { Stands position.now.board position.now.side kind from }
-    ensures { IsFalse result → IsFree position.now kind from }
-{
-    // A fact for the proof: the square is on the board.
-    from.index();
-    let side = position.side();
-    let board = position.board();
-    match kind {
-        Kind::King => true,
-        _ => match board.king(side) {
-            Some(king) => attacked_without(&board, from, king, side.other()),
-            None => true,
-        },
-    }
-}
-
-// Whether the colour would attack `square` with the man on `from` taken off the board.
-pub(crate) fn attacked_without(board: &Board, from: Square, square: Square, by: Color) -> bool
-    ensures { IsTrue result ↔ Attacks (without board.now from) by square }
-{
-    let mut rest = *board;
-    rest.take(from);
-    attacked(&rest, square, by)
-}
-
-// Whether the moves of the man are to be tried: it may leave its king attacked, promote or capture en
-// passant.
-#[inline(always)]
-pub(crate) fn must_try(
-    position: &Position,
-    maybe_pinned: SquareSet,
-    color: Color,
-    kind: Kind,
-    from: Square,
-) -> bool
-    requires color { color ≡ position.now.side }
-    requires free { FreeOff position.now maybe_pinned }
-    requires stands { Stands position.now.board position.now.side kind from }
-    ensures { IsFalse result → (IsFree position.now kind from × IsOrdinary position.now kind from) }
-{
-    if is_special(position, color, kind, from) {
-        true
-    } else if maybe_pinned.contains(from) {
-        is_pinned(position, kind, from)
-    } else {
-        false
     }
 }

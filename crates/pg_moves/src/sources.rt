@@ -6,7 +6,8 @@ ghost use Rattle.pg_moves.specs.inner.Sources.{IsSource};
 ghost use Rattle.pg_moves.specs.Targets.{IsOwn, FreeOff};
 
 use crate::kings::king_targets;
-use crate::pins::must_try;
+use crate::parries::parrying;
+use crate::pins::is_special;
 use crate::search::{first_of_exact, first_of_man};
 use crate::targets::{advances, targets};
 use pg_board::{Board, Color, Kind, Man, Square, SquareSet};
@@ -21,8 +22,9 @@ pub(crate) struct Source {
     pub(crate) exact: bool,
 }
 
-// The man of the side to move, of this colour and kind, on a square: the king with his legal moves, one
-// whose moves are to be tried with all squares to which they may go, any other with his advances.
+// The man of the side to move, of this colour and kind, on a square: the king with his legal moves, a pawn
+// that may promote or capture en passant with all squares to which it may go, one that may be pinned with
+// those of his advances that leave his king unattacked, any other with his advances.
 #[inline(always)]
 #[tactic(auto, unfolding(crate::specs::inner::Sources::IsSource))]
 fn source_of_kind(
@@ -47,11 +49,17 @@ fn source_of_kind(
             set: king_targets(position, board, from),
             exact: true,
         }
-    } else if must_try(position, maybe_pinned, color, kind, from) {
+    } else if is_special(position, color, kind, from) {
         Source {
             kind,
             set: targets(position, kind, from),
             exact: false,
+        }
+    } else if maybe_pinned.contains(from) {
+        Source {
+            kind,
+            set: parrying(position, kind, from),
+            exact: true,
         }
     } else {
         Source {

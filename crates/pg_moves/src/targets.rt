@@ -95,7 +95,7 @@ pub(crate) fn targets(position: &Position, kind: Kind, from: Square) -> SquareSe
 {
     let board = position.board();
     let side = position.side();
-    let steps = advances(&board, side, kind, from) & parries(position, from);
+    let steps = advances(&board, side, kind, from) & parries(position, kind, from);
     match kind {
         Kind::Pawn => steps | en_passant_targets(position, from),
         _ => steps,

@@ -1,11 +1,13 @@
 use Rattle.pg_moves.specs.inner.Sources.{IsSource}
-use Rattle.pg_moves.proofs.LeafLemmas.{exact_free}
+use Rattle.pg_moves.proofs.LeafLemmas.{exact_free, free_there}
 use Rattle.pg_moves.proofs.sources.source_of_kind.Goals as goal
 
-pub returns-else-must_try : goal.returns-else-must_try
+pub returns-else-contains : goal.returns-else-contains
 unfolding IsSource
-returns-else-must_try c = (
+returns-else-contains c = (
   c.requires.stands,
-  λ _. (let h = c.must_try.ensures c.if-must_try.false in exact_free c.args.position.now c.args.kind c.args.from c.advances.result c.args.board.now c.args.color c.requires.same c.requires.color c.index.ensures.bound c.requires.stands h.0 h.1 c.advances.ensures),
+  λ _. exact_free c.args.position.now c.args.kind c.args.from c.advances.result c.args.board.now c.args.color c.requires.same c.requires.color c.index.ensures.bound c.requires.stands
+      (free_there c.args.position.now c.args.kind c.args.from c.args.maybe_pinned c.contains.ensures.bound c.requires.stands c.requires.free (rw c.contains.ensures.value at c.if-contains.false))
+      (c.is_special.ensures c.if-is_special.false) c.advances.ensures,
   λ e. absurd (cc),
 )

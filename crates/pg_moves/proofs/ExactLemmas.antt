@@ -1,0 +1,52 @@
+-- A man that may be pinned: his legal moves are his advances to where each attack on his king is parried.
+use Rattle.std.proofs.Common.{◌≡◌, ◌≢◌, ℕ, ◌<◌, ◌⊎◌, inl, inr, true, false, ◌&&◌, None, sym, subst}
+use Rattle.pg_board.specs.declared.man.Kind.{Kind}
+use Rattle.pg_board.specs.declared.man.Kind.TheVariants.{Pawn, King}
+use Rattle.pg_board.specs.Bits.{has}
+use Rattle.pg_board.specs.SquareSets.{IsSetOf}
+use Rattle.pg_board.proofs.SetLemmas.{set_of_both}
+use Rattle.pg_position.specs.declared.state.State.{State}
+use Rattle.pg_position.specs.declared.moves.Move.{Move}
+use Rattle.pg_position.specs.Position.{Stands}
+use Rattle.pg_position.specs.Step.{IsLegal}
+use Rattle.pg_position.proofs.StepLemmas.{same_kind}
+use Rattle.pg_moves.specs.Targets.{plain_move, Advances, CapturesEnPassant, IsOrdinary}
+use Rattle.pg_moves.specs.inner.Sources.{IsExact}
+use Rattle.pg_moves.specs.inner.Parries.{IsInVain, IsInShelter}
+use Rattle.pg_moves.proofs.SearchLemmas.{promotes}
+use Rattle.pg_moves.proofs.ShelterLemmas.{parry_legal}
+use Rattle.pg_moves.proofs.ParryLemmas.{parried}
+use Rattle.pg_moves.proofs.ShiftLemmas.{itself}
+
+module _ (p : State) (k : Kind) (r x z set : ℕ) (low : r < 64) (here : Stands p.board p.side k r) (no_king : k ≢ King) (plain : IsOrdinary p k r) (is : IsSetOf x (Advances p.board p.side k r)) (both : (q : ℕ) → has set q ≡ has x q && has z q) (vain : (s : ℕ) → s < 64 → has z s ≡ false → IsInVain p r s) (safe : (s : ℕ) → s < 64 → has z s ≡ true → IsInShelter p r s) where
+  goes_there : (m : Move) → IsLegal p m → m.from ≡ r → (m.to < 64) × Advances p.board p.side k r m.to × (has z m.to ≡ true)
+  unfolding IsOrdinary
+  goes_there m l f = let g : (m.to < 64) × ((Advances p.board p.side k r m.to × (has z m.to ≡ true)) ⊎ ((k ≡ Pawn) × CapturesEnPassant p r m.to)) = parried p k r here no_king z vain m l f in
+      elim g.1 [
+        | inl a ↦ (g.0, a.0, a.1)
+        | inr e ↦ absurd ((plain m.to g.0).1 e.0 e.1)
+      ]
+
+  unpromoted : (m : Move) → IsLegal p m → m.from ≡ r → m.promotion ≡ None
+  unfolding IsOrdinary
+  unpromoted m l f = elim (promotes p m l) [
+    | inl e ↦ e
+    | inr g ↦ absurd (
+        let a : (m.to < 64) × Advances p.board p.side k r m.to × (has z m.to ≡ true) = goes_there m l f in
+        let there : Stands p.board p.side Pawn r = subst (λ (y : ℕ). Stands p.board p.side Pawn y) f g.0 in
+        (plain m.to a.0).0 a.1 (same_kind here there, g.1))
+  ]
+
+  legal_there : (s : ℕ) → s < 64 → has set s ≡ true → IsLegal p (plain_move r s)
+  unfolding IsOrdinary IsInShelter
+  legal_there s on h =
+      let g : Advances p.board p.side k r s × (has z s ≡ true) = (set_of_both set x z both is (itself z) s on).0 h in
+      let (k', king, shelter) = safe s on g.1 in
+      parry_legal p k r k' low here king no_king s on shelter g.0 ((plain s on).0 g.0)
+
+  pub parry_exact : IsExact p r set
+  unfolding IsExact
+  parry_exact m f = (
+    λ l. (let g : (m.to < 64) × Advances p.board p.side k r m.to × (has z m.to ≡ true) = goes_there m l f in (unpromoted m l f, g.0, (set_of_both set x z both is (itself z) m.to g.0).1 (g.1, g.2))),
+    λ (e, on, h). subst (λ (y : Move). IsLegal p y) (sym (λ i. record { from = f i; to = m.to; promotion = e i })) (legal_there m.to on h),
+  )

@@ -1,0 +1,103 @@
+-- A man that shelters his king from an attack along a line: he is seen from the king's square, and with none of the king's
+-- men on the board the king is attacked along a line of that kind.
+use Rattle.std.proofs.Common.{◌≡◌, ◌≢◌, ℕ, ◌<◌, ◌⊎◌, inl, inr, ◌||◌, ◌↔◌, IsTrue, Bool, true, false, Some, None, refl, sym, ap, subst, ◌∙◌, arith}
+use Rattle.std.proofs.lemmas.Bool.Decides.{eqb_tells}
+use Rattle.pg_board.specs.declared.man.Color.{Color}
+use Rattle.pg_board.specs.declared.man.Kind.{Kind}
+use Rattle.pg_board.specs.declared.man.Kind.TheVariants.{Pawn, Knight, Bishop, Rook, Queen, King}
+use Rattle.pg_board.specs.declared.man.Man.{Man}
+use Rattle.pg_board.specs.Squares.{file, rank}
+use Rattle.pg_board.specs.Bits.{has}
+use Rattle.pg_board.specs.Men.{man, other, is_man}
+use Rattle.pg_board.specs.Placement.{Placement, get, without}
+use Rattle.pg_board.specs.lemmas.Placements.{get-write_same, get-write_other}
+use Rattle.pg_board.specs.SquareSets.{IsSetOf, Meet}
+use Rattle.pg_board.proofs.SetLemmas.{set_of_union}
+use Rattle.pg_position.specs.Geometry.{apart, OnOneLine, OnOneDiagonal, InPattern, IsBetween}
+use Rattle.pg_position.specs.Attack.{IsClear, Reaches, AttacksFrom}
+use Rattle.pg_position.proofs.LineLemmas.{pawn_near, knight_near, king_near}
+use Rattle.pg_moves.specs.Targets.{IsOwn, only}
+use Rattle.pg_moves.specs.inner.Parries.{IsLineKind, IsPinnedAlong}
+use Rattle.pg_moves.proofs.LineLemmas.{same_square, within_same}
+use Rattle.pg_moves.proofs.WayLemmas.{men_are, clear_turn, between_met}
+use Rattle.pg_moves.proofs.OnlyLemmas.{only_other}
+
+apart_ends : (x r h : ℕ) → IsBetween x r h → x ≢ h
+unfolding IsBetween
+apart_ends x r h (n, m, wf, wr, z) e = n (same_square r x (within_same (file x) (file r) (file h) wf (ap file e)) (within_same (rank x) (rank r) (rank h) wr (ap rank e)))
+
+-- who is between two is on a line of rooks or of bishops
+pub on_no_line : (b : Placement) (c : Color) (h r : ℕ) → ¬ IsPinnedAlong b c Rook h r → ¬ IsPinnedAlong b c Bishop h r → (x : ℕ) → x < 64 → AttacksFrom (without b r) (other c) x h → ¬ IsBetween x r h
+unfolding IsPinnedAlong IsBetween InPattern
+on_no_line b c h r straight diagonal x low hit bet =
+    let ne : h ≢ x = (λ e. apart_ends x r h bet (sym e)) in
+    elim bet.4 [
+      | inl o ↦ straight (x, low, hit, bet, (ne, elim o [ inl e ↦ inl (sym e) | inr e ↦ inr (sym e) ]))
+      | inr d ↦ diagonal (x, low, hit, bet, (ne, turn_diagonal d.1))
+    ]
+  where
+    turn_diagonal : OnOneDiagonal x h → OnOneDiagonal h x
+    turn_diagonal e = omega arith
+
+mixed : (x h : ℕ) → x ≢ h → OnOneLine x h → OnOneDiagonal x h → ⊥
+mixed x h n l d = elim l [
+  | inl e ↦ n (same_square x h e (flat (file x) (file h) (rank x) (rank h) d e))
+  | inr e ↦ n (same_square x h (flat (rank x) (rank h) (file x) (file h) (sym d) e) e)
+]
+  where
+    flat : (a b c d : ℕ) → apart a b ≡ apart c d → a ≡ b → c ≡ d
+    flat a b c d e f = omega arith
+
+-- a man that attacks along a line of the kind past a square is of the kind, or a queen
+slider : (f : Color) (k : Kind) → IsLineKind k → (j : Kind) (x r h : ℕ) → InPattern f j x h → IsBetween x r h → InPattern f k h x → (j ≡ k) ⊎ (j ≡ Queen)
+unfolding InPattern
+slider f k slides Pawn x r h p bet along = absurd (pawn_near f x r h p bet)
+slider f k slides Knight x r h p bet along = absurd (knight_near f x r h p bet)
+slider f k slides King x r h p bet along = absurd (king_near f x r h p bet)
+slider f k slides Queen x r h p bet along = inr refl
+slider f k slides Rook x r h p bet along = elim slides [
+  | inl e ↦ inl (sym e)
+  | inr e ↦ absurd (let q : InPattern f Bishop h x = subst (λ (y : Kind). InPattern f y h x) e along in mixed x h p.0 p.1 (turn_diagonal h x q.1))
+]
+  where
+    turn_diagonal : (h x : ℕ) → OnOneDiagonal h x → OnOneDiagonal x h
+    turn_diagonal h x e = omega arith
+slider f k slides Bishop x r h p bet along = elim slides [
+  | inl e ↦ absurd (let q : InPattern f Rook h x = subst (λ (y : Kind). InPattern f y h x) e along in mixed x h p.0 (elim q.1 [ inl e ↦ inl (sym e) | inr e ↦ inr (sym e) ]) p.1)
+  | inr e ↦ inl (sym e)
+]
+
+module _ (b e : Placement) (c : Color) (k : Kind) (slides : IsLineKind k) (h : ℕ) (bare : (q : ℕ) → q < 64 → get e q ≡ only (other c) (get b q)) (own queens men : ℕ) (are : (q : ℕ) → q < 64 → has own q ≡ is_man (man (other c) k) (get b q)) (reign : (q : ℕ) → q < 64 → has queens q ≡ is_man (man (other c) Queen) (get b q)) (either : (q : ℕ) → has men q ≡ has own q || has queens q) where
+  is_slider : (j : Kind) (x : ℕ) → x < 64 → get b x ≡ Some (man (other c) j) → (j ≡ k) ⊎ (j ≡ Queen) → has men x ≡ true
+  is_slider j x low at z = (set_of_union men own queens either (men_are b (other c) k own are) (men_are b (other c) Queen queens reign) x low).1 (elim z [
+    | inl e ↦ inl (at ∙ ap (λ (y : Kind). Some (man (other c) y)) e)
+    | inr e ↦ inr (at ∙ ap (λ (y : Kind). Some (man (other c) y)) e)
+  ])
+
+  -- the attack is there with none of the colour's men on the board, and the man is seen
+  pinned : (r : ℕ) → r < 64 → IsOwn b c r → IsPinnedAlong b c k h r → ((x : ℕ) × (x < 64) × Reaches e (other c) k h x × (has men x ≡ true)) × Reaches b (other c) k h r
+  unfolding IsOwn IsPinnedAlong AttacksFrom IsClear IsBetween
+  pinned r on (i, here) (x, low, (j, at, (pattern, clear)), bet, along) =
+      let m : Man = man (other c) j in
+      let not_r : x ≢ r = (λ f. let there : get (without b r) r ≡ Some m = subst (λ y. get (without b r) y ≡ Some m) f at in let none : get (without b r) r ≡ None = get-write_same b r None on in cc) in
+      let before : get b x ≡ Some m = sym (get-write_other b r None x not_r) ∙ at in
+      let open_line : (t : ℕ) → t < 64 → IsBetween x t h → get e t ≡ None = (λ t l mid. elim (eqb_tells t r) [
+        | inl w ↦ bare t l ∙ ap (only (other c)) (ap (get b) w.1 ∙ here) ∙ only_other c i
+        | inr w ↦ bare t l ∙ ap (only (other c)) (sym (get-write_other b r None t w.1) ∙ clear t l mid)
+      ]) in
+      let lifted : Reaches (without b r) (other c) k h r = (between_met (without b r) (other c) k slides h x r (along, clear_turn (without b r) x h clear) bet).0 in
+      let seen : (t : ℕ) → t < 64 → IsBetween h t r → get b t ≡ None = (λ t l mid. sym (get-write_other b r None t (not_end h t r mid)) ∙ lifted.1 t l mid) in
+      ((x, low, (along, clear_turn e x h open_line), is_slider j x low before (slider (other c) k slides j x r h pattern bet along)), (lifted.0, seen))
+    where
+      not_end : (h u r : ℕ) → IsBetween h u r → u ≢ r
+      not_end h u r bet = bet.1
+
+  module _ (alone : ℕ) (met : Bool) (reach : IsSetOf alone (Reaches e (other c) k h)) (tells : IsTrue met ↔ Meet alone men) where
+    -- no man shelters him where none attacks then
+    pub none_pinned : met ≡ false → (r : ℕ) → r < 64 → IsOwn b c r → ¬ IsPinnedAlong b c k h r
+    none_pinned off r on own pin = let w = (pinned r on own pin).0 in
+        let yes : met ≡ true = tells.1 (w.0, w.1, (reach w.0 w.1).1 w.2, w.3) in cc
+
+    -- and none that is not seen
+    pub none_unseen : (seen : ℕ) → IsSetOf seen (Reaches b (other c) k h) → (r : ℕ) → r < 64 → IsOwn b c r → has seen r ≡ false → ¬ IsPinnedAlong b c k h r
+    none_unseen seen sees r on own off pin = let yes : has seen r ≡ true = (sees r on).1 (pinned r on own pin).1 in cc
