@@ -1,11 +1,13 @@
 -- Sets of squares: when two meet, their first and last members, their unions and differences. Leads to the contracts of a `SquareSet`.
-use Rattle.std.proofs.Common.{◌⊎◌, bit_or, cond, ◌||◌, ◌≡◌, ◌≢◌, ℕ, ◌-◌, ◌*◌, ◌%◌, ◌^◌, ◌<◌, ◌≤◌, Bool, true, false, eqb, refl, sym, ap, ◌∙◌, subst, arith, bit_and, w64, not, ltb, ltb-true, ltb-false, lt_of_le_of_lt, ◌&&◌}
-use Rattle.std.proofs.lemmas.Nat.{and_le_l}
-use Rattle.std.proofs.lemmas.Nat.Bits.{ones_shl, bit_at_mask_inside, bit_at_mask_below, bit_at_not, bit_at_ones}
+use Rattle.std.proofs.Common.{◌⊎◌, inl, inr, zero, suc, ◌+◌, ◌/◌, bit_or, cond, ◌||◌, ◌≡◌, ◌≢◌, ℕ, ◌-◌, ◌*◌, ◌%◌, ◌^◌, ◌<◌, ◌≤◌, Bool, true, false, eqb, refl, sym, ap, ◌∙◌, subst, arith, bit_and, w64, not, ltb, ltb-true, ltb-false, lt_of_le_of_lt, ◌&&◌}
+use Rattle.std.proofs.lemmas.Nat.{and_le_l, le_or_r, or_lt, leading_top}
+use Rattle.std.proofs.lemmas.Bool.{cases_lt}
+use Rattle.std.specs.Int.Bits.{bit_xor}
+use Rattle.std.proofs.lemmas.Nat.Bits.{ones_shl, bit_at_mask_inside, bit_at_mask_below, bit_at_not, bit_at_ones, bit_at-suc, bit_at_lowest}
 use Rattle.std.proofs.lemmas.Bool.Decides.{Decides-eqb, Decides-at, Decides-or, Decides-and, Decides-not, Decides-like}
 use Rattle.std.specs.Bool.{Decides}
 use Rattle.std.specs.Int.{trailing_zeros, leading_zeros, bit_not}
-use Rattle.pg_board.specs.Bits.{has, bit_has, has-first, has-last, has-none, has-and, has-or, has-set, same_sets}
+use Rattle.pg_board.specs.Bits.{has, bit_has, xor_out, has-first, has-last, has-none, has-and, has-or, has-set, same_sets}
 use Rattle.pg_board.specs.SquareSets.{IsSetOf, Meet, HasNoneFrom, IsFirstFrom, IsLastIn}
 
 pub and_true : (x y : Bool) → x && y ≡ true → (x ≡ true) × (y ≡ true)
@@ -129,6 +131,112 @@ last_in n x fits some e =
 
 pub has-all : (q : ℕ) → q < 64 → has (2 ^ 64 - 1) q ≡ true
 has-all q l = ap (λ b. eqb b 1) (bit_at_ones 64 q l)
+
+-- ---- up to the first, and from the last on
+shifted : (n q : ℕ) → has n (suc q) ≡ has (n / 2) q
+shifted n q = ap (λ b. eqb b 1) (bit_at-suc n q)
+
+lowest : (n : ℕ) → has n 0 ≡ eqb (n % 2) 1
+lowest n = ap (λ b. eqb b 1) (bit_at_lowest n)
+
+odd_if : (n : ℕ) → has n 0 ≡ true → n % 2 ≡ 1
+odd_if n e = (Decides-eqb (n % 2) 1).0 (sym (lowest n) ∙ e)
+
+even_if : (n : ℕ) → has n 0 ≡ false → n % 2 ≡ 0
+even_if n e = let no : n % 2 ≢ 1 = (λ o. let yes : has n 0 ≡ true = lowest n ∙ (Decides-eqb (n % 2) 1).1 o in cc) in omega arith
+
+lowest_unlike : (n : ℕ) → 0 < n → has n 0 ≢ has (n - 1) 0
+lowest_unlike n pos e = elim (has n 0) as (λ v. has n 0 ≡ v → ⊥) [
+  | true ↦ λ t. (let a : n % 2 ≡ 1 = odd_if n t in let b : (n - 1) % 2 ≡ 1 = odd_if (n - 1) (sym e ∙ t) in omega arith)
+  | false ↦ λ t. (let a : n % 2 ≡ 0 = even_if n t in let b : (n - 1) % 2 ≡ 0 = even_if (n - 1) (sym e ∙ t) in omega arith)
+] refl
+
+before_even : (n q : ℕ) → 0 < n → n % 2 ≡ 0 → has (n - 1) (suc q) ≡ has (n / 2 - 1) q
+before_even n q pos even = let same : (n - 1) / 2 ≡ n / 2 - 1 = omega arith in shifted (n - 1) q ∙ ap (λ x. has x q) same
+
+before_odd : (n q : ℕ) → n % 2 ≡ 1 → has (n - 1) (suc q) ≡ has (n / 2) q
+before_odd n q odd = let same : (n - 1) / 2 ≡ n / 2 = omega arith in shifted (n - 1) q ∙ ap (λ x. has x q) same
+
+-- up to its first bit a number is unlike the one before
+unlike_to : (q n : ℕ) → 0 < n → ((t : ℕ) → t < q → has n t ≡ false) → has n q ≢ has (n - 1) q
+unlike_to zero n pos none = lowest_unlike n pos
+unlike_to (suc q) n pos none =
+    let even : n % 2 ≡ 0 = even_if n (none 0 (omega arith)) in
+    let half : 0 < n / 2 = omega arith in
+    λ e. unlike_to q (n / 2) half (λ t l. sym (shifted n t) ∙ none (suc t) (omega arith)) (sym (shifted n q) ∙ e ∙ before_even n q pos even)
+
+-- and beyond it alike
+alike_past : (q n t : ℕ) → 0 < n → t < q → has n t ≡ true → has n q ≡ has (n - 1) q
+alike_past zero n t pos l on = absurd (omega arith)
+alike_past (suc q) n zero pos l on = shifted n q ∙ sym (before_odd n q (odd_if n on))
+alike_past (suc q) n (suc t) pos l on = elim (has n 0) as (λ v. has n 0 ≡ v → has n (suc q) ≡ has (n - 1) (suc q)) [
+  | true ↦ λ o. shifted n q ∙ sym (before_odd n q (odd_if n o))
+  | false ↦ λ o. (
+      let even : n % 2 ≡ 0 = even_if n o in
+      let half : 0 < n / 2 = omega arith in
+      shifted n q ∙ alike_past q (n / 2) t half (omega arith) (sym (shifted n t) ∙ on) ∙ sym (before_even n q pos even))
+] refl
+
+pub first_and_before : (n m : ℕ) → n < 2 ^ 64 → m ≡ (n + (2 ^ 64 - 1)) % 2 ^ 64 → IsSetOf (bit_xor n m) (λ q. (t : ℕ) → t < q → has n t ≡ false)
+first_and_before n m fits is q low = elim (cases_lt 0 n) [
+  | inl pos ↦ (
+      let before : m ≡ n - 1 = omega arith in
+      let at : (x : ℕ) → has m x ≡ has (n - 1) x = λ x. ap (λ y. has y x) before in (
+        λ on t l. elim (has n t) as (λ v. has n t ≡ v → has n t ≡ false) [
+          | true ↦ λ h. absurd (let off : has (bit_xor n m) q ≡ false = (xor_out n m q).1 (alike_past q n t pos l h ∙ sym (at q)) in let is_on : has (bit_xor n m) q ≡ true = on in cc)
+          | false ↦ λ h. h
+        ] refl,
+        λ none. elim (has (bit_xor n m) q) as (λ v. has (bit_xor n m) q ≡ v → has (bit_xor n m) q ≡ true) [
+          | true ↦ λ h. h
+          | false ↦ λ h. absurd (unlike_to q n pos none ((xor_out n m q).0 h ∙ at q))
+        ] refl,
+      ))
+  | inr nought ↦ (
+      let zero_is : n ≡ 0 = omega arith in
+      let off : (t : ℕ) → has n t ≡ false = λ t. ap (λ x. has x t) zero_is ∙ has-none t in
+      let all : m ≡ 2 ^ 64 - 1 = omega arith in
+      let on : has m q ≡ true = ap (λ x. has x q) all ∙ has-all q low in (
+        λ _ t _. off t,
+        λ _. elim (has (bit_xor n m) q) as (λ v. has (bit_xor n m) q ≡ v → has (bit_xor n m) q ≡ true) [
+          | true ↦ λ h. h
+          | false ↦ λ h. absurd (let same : has n q ≡ has m q = (xor_out n m q).0 h in let none : has n q ≡ false = off q in cc)
+        ] refl,
+      ))
+]
+
+one_alone : (t : ℕ) → 0 < t → has 1 t ≡ false
+one_alone zero l = absurd (omega arith)
+one_alone (suc t) l = shifted 1 t ∙ has-none t
+
+or_one_pos : (n : ℕ) → 0 < bit_or n 1
+or_one_pos n = omega (arith, le_or_r n 1)
+
+or_one_fits : (n : ℕ) → n < 2 ^ 64 → bit_or n 1 < 2 ^ 64
+or_one_fits n fits = or_lt 64 n 1 fits (omega arith)
+
+pub or_one_led : (n : ℕ) → n < 2 ^ 64 → leading_zeros w64 (bit_or n 1) ≤ 63
+or_one_led n fits = let (j, e, low, high) = leading_top 64 (bit_or n 1) (or_one_pos n) (or_one_fits n fits) in omega arith
+
+pub last_and_on : (n k : ℕ) → n < 2 ^ 64 → k ≡ 63 - leading_zeros w64 (bit_or n 1) → IsSetOf ((2 ^ 64 - 1) * 2 ^ k % 2 ^ 64) (λ q. (t : ℕ) → q < t → t < 64 → has n t ≡ false)
+last_and_on n k fits is q low =
+    let x : ℕ = bit_or n 1 in
+    let pos : 0 < x = or_one_pos n in
+    let (under, top, above) = has-last x k pos (or_one_fits n fits) is in
+    let with_one : (t : ℕ) → 0 < t → has x t ≡ has n t = λ t l. has-or n 1 t ∙ ap (λ v. has n t || v) (one_alone t l) ∙ or_no (has n t) in
+    let mask : ℕ = (2 ^ 64 - 1) * 2 ^ k % 2 ^ 64 in (
+      λ on t l far. sym (with_one t (omega arith)) ∙ above t (elim (cases_lt q k) [
+        | inl w ↦ absurd (let off : has mask q ≡ false = ap (λ y. has y q) (ones_shl 64 k (omega arith)) ∙ ap (λ b. eqb b 1) (bit_at_mask_below k 64 q w) in let is_on : has mask q ≡ true = on in cc)
+        | inr w ↦ omega arith
+      ]),
+      λ none. elim (cases_lt q k) [
+        | inl w ↦ absurd (let off : has n k ≡ false = none k w under in let is_on : has n k ≡ true = sym (with_one k (omega arith)) ∙ top in cc)
+        | inr w ↦ ap (λ y. has y q) (ones_shl 64 k (omega arith)) ∙ ap (λ b. eqb b 1) (bit_at_mask_inside k 64 q w low)
+      ],
+    )
+  where
+    or_no : (v : Bool) → v || false ≡ v
+    or_no true = refl
+    or_no false = refl
 
 -- ---- unions and differences
 flipped : (b : Bool) → eqb (1 - cond b 1 0) 1 ≡ not b

@@ -184,6 +184,29 @@ impl SquareSet {
         }
     }
 
+    /// The squares up to the first of the set, that one too; all where the set is empty.
+    #[inline(always)]
+    pub fn up_to_first(self) -> SquareSet
+        ensures { IsSetOf result (λ q. (t : ℕ) → t < q → has self t ≡ false) }
+    {
+        // Up to its first bit, and no further, a number has each bit unlike the number before it.
+        SquareSet {
+            bits: self.bits ^ self.bits.wrapping_sub(1),
+        }
+    }
+
+    /// The squares from the last of the set on, that one too; all where the set is empty.
+    #[inline(always)]
+    pub fn from_last(self) -> SquareSet
+        ensures { IsSetOf result (λ q. (t : ℕ) → q < t → t < 64 → has self t ≡ false) }
+    {
+        // With a1 in the set it has a last square, and the squares from that one on stay the same.
+        let last = 63 - (self.bits | 1).leading_zeros();
+        SquareSet {
+            bits: u64::MAX << last,
+        }
+    }
+
     /// The squares of the set in ascending order.
     #[inline(always)]
     pub fn squares(self) -> Squares

@@ -68,7 +68,7 @@ module _ (b : Placement) (c : Color) (s mask men : ℕ) (r : Bool) where
   pawn_attacked m o e f masks mens d = leap b (man c Pawn) s mask men r (InPattern (other c) Pawn s) (subst (λ (x : Color). IsSetOf mask (InPattern x Pawn s)) f masks) (λ q l. mens q l ∙ ap (λ x. is_man x (get b q)) e) (λ q p. pawn_back c q s p) (λ q p. pawn_turn c q s p) (λ q t p. pawn_near c q t s p) d
 
 -- ---- the first man on a ray
-held_none : (o : Option Man) → is_held o ≡ false → o ≡ None
+pub held_none : (o : Option Man) → is_held o ≡ false → o ≡ None
 held_none None e = refl
 held_none (Some m) e = absurd (cc)
 

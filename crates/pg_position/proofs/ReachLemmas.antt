@@ -9,13 +9,14 @@ use Rattle.pg_board.specs.lemmas.Placements.{get-empty}
 use Rattle.pg_position.specs.declared.direction.Direction.{Direction}
 use Rattle.pg_position.specs.declared.direction.Direction.TheVariants.{North, NorthEast, East, SouthEast, South, SouthWest, West, NorthWest}
 use Rattle.pg_position.specs.Geometry.{OnOneLine, InPattern, IsBetween}
-use Rattle.pg_position.specs.inner.Rays.{OnRay, Before, IsIn, ascends, slides, is_straight}
+use Rattle.pg_position.specs.inner.Rays.{OnRay, IsIn, ascends, slides, is_straight}
 use Rattle.pg_board.specs.SquareSets.{IsSetOf}
-use Rattle.pg_board.proofs.SetLemmas.{set_like, set_of_rest}
+use Rattle.pg_board.specs.Men.{is_held}
+use Rattle.pg_board.proofs.SetLemmas.{set_like, set_of_both, second}
 use Rattle.pg_position.specs.Attack.{IsClear, Reaches}
-use Rattle.pg_position.specs.inner.Lines.{IsBlocked, IsFree, ReachesAlong, ReachesStraight, ReachesDiagonal}
+use Rattle.pg_position.specs.inner.Lines.{IsFree, ReachesAlong, ReachesStraight, ReachesDiagonal}
 use Rattle.pg_position.proofs.LineLemmas.{between_forth, between_back, slide_pattern, bishop_ray, rook_ray, queen_ray, pawn_near, knight_near, king_near}
-use Rattle.pg_position.proofs.AttackLemmas.{not_held, held_on}
+use Rattle.pg_position.proofs.AttackLemmas.{held_none}
 
 -- ---- turned round
 unnot : (b : Bool) → not b ≡ true → b ≡ false
@@ -50,45 +51,46 @@ queen_turn : (c : Color) (r s : ℕ) → InPattern c Queen r s → InPattern c Q
 unfolding InPattern
 queen_turn c r s (n, e) = (omega arith, elim e [ inl x ↦ inl (line_turn r s x) | inr x ↦ inr (omega arith) ])
 
--- ---- on one ray
-pub beyond_forth : (d : Direction) (s x t : ℕ) → OnRay d s x → OnRay d x t → OnRay d s t × Before d x t
-unfolding OnRay
-beyond_forth North s x t (a, b) (e, f) = ((omega arith, omega arith), omega arith)
-beyond_forth NorthEast s x t (a, b) (e, f) = ((omega arith, omega arith), omega arith)
-beyond_forth East s x t (a, b) (e, f) = ((omega arith, omega arith), omega arith)
-beyond_forth SouthEast s x t (a, b) (e, f) = ((omega arith, omega arith), omega arith)
-beyond_forth South s x t (a, b) (e, f) = ((omega arith, omega arith), omega arith)
-beyond_forth SouthWest s x t (a, b) (e, f) = ((omega arith, omega arith), omega arith)
-beyond_forth West s x t (a, b) (e, f) = ((omega arith, omega arith), omega arith)
-beyond_forth NorthWest s x t (a, b) (e, f) = ((omega arith, omega arith), omega arith)
+and_no : (v : Bool) → v && false ≡ false
+and_no true = refl
+and_no false = refl
 
-pub beyond_back : (d : Direction) (s x t : ℕ) → OnRay d s x → OnRay d s t → Before d x t → OnRay d x t
-unfolding OnRay
-beyond_back North s x t (a, b) (e, f) l = (omega arith, omega arith)
-beyond_back NorthEast s x t (a, b) (e, f) l = (omega arith, omega arith)
-beyond_back East s x t (a, b) (e, f) l = (omega arith, omega arith)
-beyond_back SouthEast s x t (a, b) (e, f) l = (omega arith, omega arith)
-beyond_back South s x t (a, b) (e, f) l = (omega arith, omega arith)
-beyond_back SouthWest s x t (a, b) (e, f) l = (omega arith, omega arith)
-beyond_back West s x t (a, b) (e, f) l = (omega arith, omega arith)
-beyond_back NorthWest s x t (a, b) (e, f) l = (omega arith, omega arith)
+-- the squares of a ray up to its first man: those of n, of which men tells what stands on the ray
+module _ (b : Placement) (d : Direction) (s line occ men part n : ℕ) (rays : IsSetOf line (OnRay d s)) (held : (q : ℕ) → q < 64 → has occ q ≡ is_held (get b q)) (both : (q : ℕ) → has men q ≡ has line q && has occ q) (cut : (q : ℕ) → has n q ≡ has line q && has part q) where
+  man_off : (t : ℕ) → t < 64 → OnRay d s t → (has men t ≡ false → get b t ≡ None) × (get b t ≡ None → has men t ≡ false)
+  man_off t l o =
+      let on : has line t ≡ true = (rays t l).1 o in
+      let here : has occ t ≡ is_held (get b t) = held t l in (
+        λ e. held_none (get b t) (sym here ∙ second (has line t) (has occ t) on (sym (both t) ∙ e)),
+        λ e. both t ∙ ap (λ v. has line t && v) (here ∙ ap is_held e) ∙ and_no (has line t),
+      )
 
-after : (u : Bool) (a b c : ℕ) → IsIn u a b → ¬ IsIn u c b → IsIn u a c
-after true a b c l h = let f : ¬ (c < b) = h in omega arith
-after false a b c l h = let f : ¬ (b < c) = h in omega arith
+  off_line : (t : ℕ) → t < 64 → ¬ OnRay d s t → has men t ≡ false
+  off_line t l away = both t ∙ elim (has line t) as (λ v. has line t ≡ v → v && has occ t ≡ false) [
+    | true ↦ λ e. absurd (away ((rays t l).0 e))
+    | false ↦ λ _. refl
+  ] refl
 
--- the squares of a ray up to its first man
-module _ (b : Placement) (d : Direction) (s line : ℕ) (rays : IsSetOf line (OnRay d s)) where
-  pub reach_open : ((t : ℕ) → t < 64 → OnRay d s t → get b t ≡ None) → IsSetOf line (ReachesAlong b d s)
+  on_or_off : (t : ℕ) → t < 64 → (OnRay d s t → get b t ≡ None) → has men t ≡ false
+  on_or_off t l free = elim (has line t) as (λ v. has line t ≡ v → has men t ≡ false) [
+    | true ↦ λ e. (let o : OnRay d s t = (rays t l).0 e in (man_off t l o).1 (free o))
+    | false ↦ λ e. off_line t l (λ o. let on : has line t ≡ true = (rays t l).1 o in cc)
+  ] refl
+
+  cut_to : (P : ℕ → Type 0) → IsSetOf part P → ((q : ℕ) → q < 64 → OnRay d s q → P q → IsFree b d s q) → ((q : ℕ) → q < 64 → OnRay d s q → IsFree b d s q → P q) → IsSetOf n (ReachesAlong b d s)
+  cut_to P parts forth back = set_like n (λ q l (o, z). (o, forth q l o z)) (λ q l (o, z). (o, back q l o z)) (set_of_both n line part cut rays parts)
+
+  pub reach_up : ascends d ≡ true → IsSetOf part (λ q. (t : ℕ) → t < q → has men t ≡ false) → IsSetOf n (ReachesAlong b d s)
   unfolding IsFree
-  reach_open h = set_like line (λ q l o. (o, λ t k p _. h t k p)) (λ q l r. r.0) rays
+  reach_up up parts = cut_to _ parts
+      (λ q l o none t k p bef. let lt : t < q = subst (λ (v : Bool). IsIn v t q) up bef in (man_off t k p).0 (none t lt))
+      (λ q l o free t lt. let k : t < 64 = omega arith in on_or_off t k (λ p. free t k p (subst (λ (v : Bool). IsIn v t q) (sym up) lt)))
 
-  pub reach_blocked : (x past n : ℕ) → IsBlocked b d s x → IsSetOf past (OnRay d x) → ((q : ℕ) → q < 64 → has n q ≡ has line q && not (has past q)) → IsSetOf n (ReachesAlong b d s)
+  pub reach_down : ascends d ≡ false → IsSetOf part (λ q. (t : ℕ) → q < t → t < 64 → has men t ≡ false) → IsSetOf n (ReachesAlong b d s)
   unfolding IsFree
-  reach_blocked x past n h beyond rest = let l : x < 64 = held_on b x h.held in set_like n
-      (λ q k (o, far). (o, λ t j p bef. h.free t j p (after (ascends d) t q x bef (λ lt. far (beyond_back d s x q h.on o lt)))))
-      (λ q k (o, free). (o, λ p. not_held (get b x) h.held (free x l h.on (beyond_forth d s x q h.on p).1)))
-      (set_of_rest n line past rest rays beyond)
+  reach_down up parts = cut_to _ parts
+      (λ q l o none t k p bef. let lt : q < t = subst (λ (v : Bool). IsIn v t q) up bef in (man_off t k p).0 (none t lt k))
+      (λ q l o free t lt k. on_or_off t k (λ p. free t k p (subst (λ (v : Bool). IsIn v t q) (sym up) lt)))
 
 -- ---- all rays of a man
 along_pattern : (b : Placement) (c : Color) (k : Kind) (d : Direction) (s t : ℕ) → (InPattern c k t s → InPattern c k s t) → slides d k ≡ true → ReachesAlong b d s t → Reaches b c k s t

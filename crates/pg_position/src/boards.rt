@@ -15,17 +15,14 @@ use pg_board::{Board, Color, Kind, Man, Square};
 pub fn stands(board: &Board, color: Color, kind: Kind, square: Square) -> bool
     ensures { IsTrue result ↔ Stands board.now color kind square }
 {
-    match board.get(square) {
-        Some(man) => man.color == color && man.kind == kind,
-        None => false,
-    }
+    board.squares_of(Man::new(color, kind)).contains(square)
 }
 
 /// Whether no man stands on the square.
 pub fn is_vacant(board: &Board, square: Square) -> bool
     ensures { IsTrue result ↔ IsVacant board.now square }
 {
-    board.get(square).is_none()
+    !board.occupied().contains(square)
 }
 
 /// Whether a man of the other colour stands on the square.
@@ -33,10 +30,7 @@ pub fn is_vacant(board: &Board, square: Square) -> bool
 pub fn is_enemy(board: &Board, color: Color, square: Square) -> bool
     ensures { IsTrue result ↔ IsEnemy board.now color square }
 {
-    match board.get(square) {
-        Some(man) => man.color == color.other(),
-        None => false,
-    }
+    board.squares_of_color(color.other()).contains(square)
 }
 
 // Whether `to` is so many ranks forward.

@@ -4,19 +4,21 @@ ghost use Rattle.pg_board.specs.SquareSets.{IsSetOf};
 ghost use Rattle.pg_position.specs.Attack.{IsClear, Reaches};
 ghost use Rattle.pg_position.specs.inner.Lines.{ReachesAlong, ReachesStraight, ReachesDiagonal};
 
-use crate::attack::blocker;
 use crate::direction::Direction;
 use crate::masks::{king_mask, knight_mask, pawn_mask, ray};
 use pg_board::{Board, Color, Kind, Man, Square, SquareSet};
 
-// The squares of a ray up to its first man, and that man's.
+// The squares of a ray up to its first man, and that man's: with no branch on whether there is one.
+#[inline(always)]
 fn reach_along(board: &Board, direction: Direction, from: Square) -> SquareSet
     ensures { IsSetOf result (ReachesAlong board.now direction from) }
 {
     let line = ray(direction, from);
-    match blocker(board, direction, from) {
-        Some(first) => line - ray(direction, first),
-        None => line,
+    let men = line & board.occupied();
+    if direction.ascends() {
+        line & men.up_to_first()
+    } else {
+        line & men.from_last()
     }
 }
 

@@ -1,8 +1,9 @@
-use Rattle.pg_position.proofs.ReachLemmas.{reach_open, reach_blocked}
+use Rattle.std.proofs.Common.{sym, ◌∙◌}
+use Rattle.pg_position.proofs.ReachLemmas.{reach_up, reach_down}
 use Rattle.pg_position.proofs.reaching.reach_along.Goals as goal
 
-pub returns-in-Some : goal.returns-in-Some
-returns-in-Some c = reach_blocked _ _ _ _ c.ray-line.ensures _ _ _ c.in-Some.ensures c.ray.ensures c.sub.ensures.members
+pub returns-then-ascends : goal.returns-then-ascends
+returns-then-ascends c = reach_up _ _ _ _ _ _ _ _ c.ray-line.ensures c.occupied.ensures c.bitand-men.ensures.members c.bitand.ensures.members (sym c.ascends.ensures ∙ c.if-ascends.true) c.up_to_first.ensures
 
-pub returns-in-None : goal.returns-in-None
-returns-in-None c = reach_open _ _ _ _ c.ray-line.ensures c.in-None.ensures
+pub returns-else-ascends : goal.returns-else-ascends
+returns-else-ascends c = reach_down _ _ _ _ _ _ _ _ c.ray-line.ensures c.occupied.ensures c.bitand-men.ensures.members c.bitand-else-ascends.ensures.members (sym c.ascends.ensures ∙ c.if-ascends.false) c.from_last.ensures
