@@ -1,4 +1,5 @@
 pub mod MoveLemmas
+pub mod SourceLemmas
 pub mod WalkLemmas
 pub mod RivalLemmas
 pub mod PlainTexts

@@ -1,84 +1,108 @@
--- The walk over the legal moves that looks for those that are as a text says.
-use Rattle.std.proofs.Common.{◌≡◌, ◌≢◌, ℕ, ◌-◌, ◌<◌, Option, Some, None, List, refl, sym, subst, arith, ◌∙◌, inl, inr}
-use Rattle.std.specs.Option.{ForSome}
-use Rattle.std.specs.declared.cmp.Ordering.TheVariants.{Less, Equal}
-use Rattle.std.proofs.lemmas.Cmp.{tied_itself}
+-- The walk from square to square of those that the move which a text names may leave.
+use Rattle.std.proofs.Common.{◌≡◌, ◌≢◌, ℕ, ◌+◌, ◌<◌, ◌≤◌, Some, List, true, false, sym, ap, subst, arith, ◌∙◌, inl, inr}
+use Rattle.std.specs.Prelude.{Result, Ok, Err}
+use Rattle.std.proofs.lemmas.Bool.{cases_lt}
+use Rattle.pg_board.specs.Bits.{has}
+use Rattle.pg_board.specs.SquareSets.{HasNoneFrom, IsFirstFrom}
 use Rattle.pg_position.specs.declared.state.State.{State}
 use Rattle.pg_position.specs.declared.moves.Move.{Move}
 use Rattle.pg_position.specs.Step.{IsLegal}
-use Rattle.pg_moves.specs.Moves.{move_cmp, IsBefore, IsPast, IsNext, IsLast}
-use Rattle.pg_moves.specs.inner.Places.{place, start_after}
 use Rattle.pg_moves.proofs.ListLemmas.{on_board}
-use Rattle.pg_moves.proofs.PlaceLemmas.{move_cmp_total, place_low}
-use Rattle.pg_moves.proofs.SearchLemmas.{less_place}
+use Rattle.pg_san.specs.declared.fault.SanFault.{SanFault}
+use Rattle.pg_san.specs.declared.fault.SanFault.TheVariants.{Shape, NoSuchMove, Ambiguous}
+use Rattle.pg_san.specs.declared.reading.Found.{Found}
 use Rattle.pg_san.specs.declared.said.Said.{Said}
 use Rattle.pg_san.specs.Said.{said_of}
-use Rattle.pg_san.specs.Grammar.{IsSaidText}
 use Rattle.pg_san.specs.Matching.{Fits, Matches}
-use Rattle.pg_san.specs.inner.Walk.{NoneFits, IsFirstFit, WalkedTo}
+use Rattle.pg_san.specs.inner.Walk.{HoldsSources, NoneLeaves, IsFoundAt, NoneFits, IsFirstFit, IsSaidReading, IsTextReading}
 use Rattle.pg_san.proofs.EndLemmas.{said_again}
 use Rattle.pg_san.proofs.TextFoundLemmas.{said_found}
 
 -- ---- a step of the walk
-past_later : (last : Option Move) (m n : Move) → IsPast last m → IsBefore m n → IsPast last n
-past_later None m n h k = tt
-past_later (Some a) m n h k = move_cmp_total.trans a m n h k
+-- each legal move from the square start on that is as the text says leaves a square from at on
+pub record WalkedTo (p : State) (said : Said) (start at : ℕ) : Type 0 where
+  pub reached : start ≤ at
+  pub left : (n : Move) → IsLegal p n → start ≤ n.from → Fits p said n → at ≤ n.from
 
-pub walk_on : (p : State) (said : Said) (after last : Option Move) (m : Move) → WalkedTo p said after last → IsNext p last m → (Fits p said m → ⊥) → WalkedTo p said after (Some m)
-walk_on p said after last m w next off = record {
-  later = λ n h. w.later n (past_later last m n next.past h);
-  passed_over = λ n l past fits. elim (next.first n l (w.passed_over n l past fits)) [
-    | inl e ↦ absurd (off (subst (Fits p said) (sym e) fits))
-    | inr h ↦ h
-  ];
+pub walk_start : (p : State) (said : Said) (start : ℕ) → WalkedTo p said start start
+walk_start p said start = record { reached = omega arith; left = λ n l reached fits. reached }
+
+-- it leaves the first square of the set from there on, or a later one
+no_earlier : (p : State) (said : Said) (set start at from : ℕ) (n : Move) → HoldsSources p said set → WalkedTo p said start at → IsFirstFrom set at from → IsLegal p n → start ≤ n.from → Fits p said n → from ≤ n.from
+unfolding HoldsSources
+no_earlier p said set start at from n holds w first l reached fits = elim (cases_lt n.from from) [
+  | inl low ↦
+      (let on : has set n.from ≡ true = holds n (on_board p n l).0 fits in
+      let off : has set n.from ≡ false = first.before n.from (w.left n l reached fits) low in
+      absurd (cc))
+  | inr high ↦ high
+]
+
+pub walk_on : (p : State) (said : Said) (set start at from next : ℕ) → HoldsSources p said set → WalkedTo p said start at → IsFirstFrom set at from → NoneLeaves p said from → next ≡ from + 1 → WalkedTo p said start next
+unfolding NoneLeaves
+walk_on p said set start at from next holds w first none e = record {
+  reached = omega (arith, w.reached, first.reached);
+  left = λ n l reached fits. (
+      let high : from ≤ n.from = no_earlier p said set start at from n holds w first l reached fits in
+      let other : n.from ≢ from = λ same. none n l same fits in
+      omega arith);
 }
 
-pub walk_end : (p : State) (said : Said) (after last : Option Move) → WalkedTo p said after last → IsLast p last → NoneFits p said after
-unfolding NoneFits
-walk_end p said after last w end = λ n l past fits. end n l (w.passed_over n l past fits)
+pub walk_found : (p : State) (said : Said) (set start at from : ℕ) (f : Found) → HoldsSources p said set → WalkedTo p said start at → IsFirstFrom set at from → IsFoundAt p said from f → IsFirstFit p said start f
+walk_found p said set start at from f holds w first found =
+    let here : f.m.from ≡ from = found.only.from_is in
+    record {
+      legal = found.legal;
+      reached = omega (arith, w.reached, first.reached);
+      fits = found.fits;
+      first = λ n l reached fits. (
+          let high : from ≤ n.from = no_earlier p said set start at from n holds w first l reached fits in
+          elim (cases_lt from n.from) [
+            | inl later ↦ inr (omega arith)
+            | inr low ↦ inl (found.only.only n (omega arith) fits)
+          ]);
+    }
 
-pub walk_less : (p : State) (last : Option Move) (m : Move) → ForSome last (λ a. IsLegal p a) → IsNext p last m → 28672 - start_after (Some m) < 28672 - start_after last
-walk_less p None m h next = let low : place m < 28672 = place_low m (on_board p m next.legal) in omega arith
-walk_less p (Some a) m h next =
-    let low : place m < 28672 = place_low m (on_board p m next.legal) in
-    let up : place a < place m = less_place a m (on_board p a (h a refl)) (on_board p m next.legal) next.past in
-    omega arith
+pub walk_end : (p : State) (said : Said) (set start at : ℕ) → HoldsSources p said set → WalkedTo p said start at → HasNoneFrom set at → NoneFits p said start
+unfolding NoneFits HoldsSources
+walk_end p said set start at holds w none = λ n l reached fits.
+    (let low : n.from < 64 = (on_board p n l).0 in
+    let on : has set n.from ≡ true = holds n low fits in
+    let off : has set n.from ≡ false = none n.from (w.left n l reached fits) low in
+    absurd (cc))
+
+-- ---- what the walk concludes
+pub said_none : (p : State) (said : Said) → NoneFits p said 0 → IsSaidReading p said (Err NoSuchMove)
+unfolding NoneFits
+said_none p said none = λ n l fits. none n l (omega arith) fits
+
+pub said_two : (p : State) (said : Said) (f g : Found) → IsFirstFit p said 0 f → IsFirstFit p said (f.m.from + 1) g → IsSaidReading p said (Err Ambiguous)
+said_two p said f g a b =
+    let differ : f.m ≢ g.m = λ same. (let here : f.m.from ≡ g.m.from = ap (λ (x : Move). x.from) same in let high : f.m.from + 1 ≤ g.m.from = b.reached in omega arith) in
+    (f.m, g.m, differ, ((f.next, a.legal), a.fits), ((g.next, b.legal), b.fits))
+
+pub said_one : (p : State) (said : Said) (f : Found) → IsFirstFit p said 0 f → NoneFits p said (f.m.from + 1) → IsSaidReading p said (Ok f)
+unfolding NoneFits
+said_one p said f a none = (
+  a.legal,
+  a.fits,
+  λ n l h. elim (a.first n l (omega arith) h) [
+    | inl same ↦ same
+    | inr later ↦ absurd (none n l (omega (arith, later)) h)
+  ],
+)
 
 -- ---- what reading concludes
-pub fits_of : (p : State) (text : List ℕ) (said : Said) (n : Move) → said_of text ≡ Some said → Matches p text n → Fits p said n
+fits_of : (p : State) (text : List ℕ) (said : Said) (n : Move) → said_of text ≡ Some said → Matches p text n → Fits p said n
 unfolding Matches
 fits_of p text said n e (other, f, h) = let same : Some other ≡ Some said = sym (said_again text other f) ∙ e in let s : other ≡ said = cc in subst (λ (x : Said). Fits p x n) s h
 
-pub matches_of : (p : State) (text : List ℕ) (said : Said) (n : Move) → said_of text ≡ Some said → Fits p said n → Matches p text n
+matches_of : (p : State) (text : List ℕ) (said : Said) (n : Move) → said_of text ≡ Some said → Fits p said n → Matches p text n
 unfolding Matches
 matches_of p text said n e h = (said, said_found text said e, h)
 
-pub some_said : (text : List ℕ) (said : Said) → said_of text ≡ Some said → (s : Said) × IsSaidText text s
-some_said text said e = (said, said_found text said e)
-
-pub none_matches : (p : State) (text : List ℕ) (said : Said) → said_of text ≡ Some said → NoneFits p said None → (n : Move) → IsLegal p n → Matches p text n → ⊥
-unfolding NoneFits
-none_matches p text said e none n l y = none n l tt (fits_of p text said n e y)
-
-not_before : (m : Move) → IsBefore m m → ⊥
-not_before m h = let e : move_cmp m m ≡ Equal = tied_itself move_cmp_total m in let g : Less ≡ Equal = sym h ∙ e in cc
-
-pub two_match : (p : State) (text : List ℕ) (said : Said) (m n : Move) → said_of text ≡ Some said → IsFirstFit p said None m → IsFirstFit p said (Some m) n
-    → (m : Move) × (n : Move) × (m ≢ n) × (IsLegal p m × Matches p text m) × (IsLegal p n × Matches p text n)
-two_match p text said m n e a b =
-    (m, n, (λ same. not_before m (subst (λ (x : Move). IsBefore m x) (sym same) b.past)), (a.legal, matches_of p text said m e a.fits), (b.legal, matches_of p text said n e b.fits))
-
-pub one_matches : (p : State) (text : List ℕ) (said : Said) (m : Move) → said_of text ≡ Some said → IsFirstFit p said None m → NoneFits p said (Some m)
-    → IsLegal p m × Matches p text m × ((n : Move) → IsLegal p n → Matches p text n → n ≡ m)
-unfolding NoneFits
-one_matches p text said m e a none = (
-  a.legal,
-  matches_of p text said m e a.fits,
-  λ n l y. (let f = fits_of p text said n e y in elim (a.first n l tt f) [
-    | inl same ↦ sym same
-    | inr later ↦ absurd (none n l later f)
-  ]),
-)
-
-pub legal_some : (p : State) (m : Move) → IsLegal p m → ForSome (Some m) (λ n. IsLegal p n)
-legal_some p m l n e = let same : m ≡ n = cc in subst (IsLegal p) same l
+pub read_so : (p : State) (text : List ℕ) (said : Said) (result : Result Found SanFault) → said_of text ≡ Some said → IsSaidReading p said result → IsTextReading p text result
+read_so p text said (Ok f) e h = (((f.next, h.0), matches_of p text said f.m e h.1, λ n l y. h.2 n l (fits_of p text said n e y)), h.0)
+read_so p text said (Err Shape) e h = absurd h
+read_so p text said (Err NoSuchMove) e h = ((said, said_found text said e), λ n l y. h n l (fits_of p text said n e y))
+read_so p text said (Err Ambiguous) e (m, n, differ, a, b) = (m, n, differ, (a.0, matches_of p text said m e a.1), (b.0, matches_of p text said n e b.1))

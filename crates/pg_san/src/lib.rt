@@ -16,6 +16,7 @@ mod matching;
 mod reading;
 mod rivals;
 mod said;
+mod sources;
 mod spelling;
 mod words;
 mod writing;

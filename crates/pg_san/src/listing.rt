@@ -9,7 +9,7 @@ use crate::fault::SanFault;
 use crate::games::{Games, MOST_GAMES};
 use crate::lines::next_line;
 use crate::listing_fault::GamesFault;
-use crate::reading::read_bytes;
+use crate::reading::read_step;
 use crate::words::{next_word, without_move_number};
 use pg_position::{Move, Position};
 use std::alloc::Global;
@@ -43,13 +43,13 @@ fn read_words(alloc: Global, line: &[u8]) -> Result<Vec<Move>, LineFault>
         rest = after;
         let text = without_move_number(word);
         if !text.is_empty() {
-            let m = match read_bytes(&here, text) {
-                Ok(m) => m,
+            let found = match read_step(&here, text) {
+                Ok(found) => found,
                 Err(cause) => return Err(LineFault::Word(plies + 1, cause)),
             };
-            here = here.after(&m);
+            here = found.next;
             plies += 1;
-            kept = keep(&mut game, kept, m);
+            kept = keep(&mut game, kept, found.m);
         }
     }
     if kept {

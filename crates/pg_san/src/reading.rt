@@ -1,57 +1,115 @@
 //! Reading a move.
-ghost use Rattle.std.specs.Prelude.{MatchOption, Some};
+ghost use Rattle.std.specs.Prelude.{◌+◌, MatchOption};
 ghost use Rattle.std.specs.Bool.{OnTrue, OnFalse};
-ghost use Rattle.std.specs.Option.{ForSome};
-ghost use Rattle.pg_position.specs.declared.moves.Move.{Move};
-ghost use Rattle.pg_position.specs.Step.{IsLegal};
+ghost use Rattle.pg_san.specs.declared.reading.Found.{Found};
 ghost use Rattle.pg_san.specs.Matching.{IsReading};
-ghost use Rattle.pg_san.specs.inner.Walk.{NoneFits, IsFirstFit};
+ghost use Rattle.pg_san.specs.inner.Walk.{HoldsSources, IsOnlyFrom, NoneLeaves, IsFoundAt, NoneFits, IsFirstFit, IsSaidReading, IsTextReading};
 
 use crate::fault::SanFault;
 use crate::matching::fits;
-use crate::said::{Said, said_of};
-use pg_moves::next_legal;
-use pg_position::{Move, Position};
+use crate::said::{Form, Said, said_of};
+use crate::sources::sources_of;
+use pg_board::{Square, SquareSet};
+use pg_position::{Move, Position, king_target};
 
-// The first legal move that is as the text says, of those after the legal move handed in, or of all.
-fn next_fit(position: &Position, said: &Said, after: Option<Move>) -> Option<Move>
-    requires { ForSome after (λ m. IsLegal position.now m) }
-    ensures { MatchOption result (NoneFits position.now said.now after)
-        (λ m. IsFirstFit position.now said.now after m) }
+/// A legal move that was found, and the position that it leads to.
+#[derive(Clone, Copy)]
+pub(crate) struct Found {
+    pub(crate) m: Move,
+    pub(crate) next: Position,
+}
+
+// The only move that leaves this square and may be as the text says: but for that square the text says
+// all of it.
+fn move_from(position: &Position, said: &Said, from: Square) -> Move
+    ensures { IsOnlyFrom position.now said.now from result }
 {
-    let mut last = after;
-    while let Some(m) = next_legal(position, last) {
-        if fits(position, said, &m) {
-            return Some(m);
+    match said.form {
+        Form::Castles(wing) => Move {
+            from,
+            to: king_target(position.side(), wing),
+            promotion: None,
+        },
+        Form::Moves(core) => Move {
+            from,
+            to: core.target,
+            promotion: core.promotion,
+        },
+    }
+}
+
+// The legal move that leaves this square and is as the text says.
+fn fit_from(position: &Position, said: &Said, from: Square) -> Option<Found>
+    ensures { MatchOption result (NoneLeaves position.now said.now from)
+        (λ f. IsFoundAt position.now said.now from f) }
+{
+    let m = move_from(position, said, from);
+    match position.play(m) {
+        Ok(next) => {
+            if fits(position, said, &m) {
+                Some(Found { m, next })
+            } else {
+                None
+            }
         }
-        last = Some(m);
+        Err(_) => None,
+    }
+}
+
+// The first legal move that is as the text says, of those that leave a square from this index on.
+fn next_fit(position: &Position, said: &Said, sources: SquareSet, start: u8) -> Option<Found>
+    requires { HoldsSources position.now said.now sources }
+    ensures { MatchOption result (NoneFits position.now said.now start)
+        (λ f. IsFirstFit position.now said.now start f) }
+{
+    let mut at = start;
+    while let Some(from) = sources.first_from(at) {
+        if let Some(found) = fit_from(position, said, from) {
+            return Some(found);
+        }
+        at = from.index() + 1;
     }
     None
 }
 
-// Whether a legal move after this one is as the text says.
-fn fits_later(position: &Position, said: &Said, first: &Move) -> bool
-    requires { IsLegal position.now first.now }
-    ensures yes { OnTrue result ((m : Move) × IsFirstFit position.now said.now (Some first.now) m) }
-    ensures no { OnFalse result (NoneFits position.now said.now (Some first.now)) }
+// Whether a legal move that leaves a later square is as the text says, too.
+fn fits_later(position: &Position, said: &Said, sources: SquareSet, first: &Move) -> bool
+    requires { HoldsSources position.now said.now sources }
+    ensures yes { OnTrue result ((f : Found) × IsFirstFit position.now said.now (first.now.from + 1) f) }
+    ensures no { OnFalse result (NoneFits position.now said.now (first.now.from + 1)) }
 {
-    next_fit(position, said, Some(*first)).is_some()
+    match next_fit(position, said, sources, first.from.index() + 1) {
+        Some(_) => true,
+        None => false,
+    }
 }
 
-/// The one legal move that the bytes of a text name, as `read` has it.
-pub fn read_bytes(position: &Position, text: &[u8]) -> Result<Move, SanFault>
-    ensures { IsReading position.now text.now result }
+// The one legal move that is as the text says, and where it leads.
+fn read_said(position: &Position, said: &Said) -> Result<Found, SanFault>
+    ensures { IsSaidReading position.now said.now result }
 {
-    let Some(said) = said_of(text) else {
-        return Err(SanFault::Shape);
-    };
-    let Some(first) = next_fit(position, &said, None) else {
-        return Err(SanFault::NoSuchMove);
-    };
-    if fits_later(position, &said, &first) {
-        Err(SanFault::Ambiguous)
-    } else {
-        Ok(first)
+    let sources = sources_of(position, said);
+    match next_fit(position, said, sources, 0) {
+        Some(found) => {
+            if fits_later(position, said, sources, &found.m) {
+                Err(SanFault::Ambiguous)
+            } else {
+                Ok(found)
+            }
+        }
+        None => Err(SanFault::NoSuchMove),
+    }
+}
+
+/// The one legal move that the bytes of a text name, as `read` has it, and the position that it leads
+/// to. The text says all of a move but the square that it leaves, so only the men that it may mean are
+/// tried.
+pub(crate) fn read_step(position: &Position, text: &[u8]) -> Result<Found, SanFault>
+    ensures { IsTextReading position.now text.now result }
+{
+    match said_of(text) {
+        Some(said) => read_said(position, &said),
+        None => Err(SanFault::Shape),
     }
 }
 
@@ -78,5 +136,8 @@ pub fn read_bytes(position: &Position, text: &[u8]) -> Result<Move, SanFault>
 pub fn read(position: &Position, text: &str) -> Result<Move, SanFault>
     ensures { IsReading position.now text.now result }
 {
-    read_bytes(position, text.as_bytes())
+    match read_step(position, text.as_bytes()) {
+        Ok(found) => Ok(found.m),
+        Err(fault) => Err(fault),
+    }
 }

@@ -21,7 +21,7 @@ loop-word-preserved-then-not-is_empty c =
     let l : 0 < length c.without_move_number-text.result.now = grind (arith, nat_tests) in
     record {
       few = omega (arith, c.loop-word.invariant.few, c.in-Some.ensures.1);
-      spelled = so_move (words c.args.line.now) (words c.loop-word.rest.now) (words c.in-Some.after.now) c.in-Some.word.now c.without_move_number-text.result.now c.loop-word.plies c.loop-word.kept c.keep-kept.result c.loop-word.game.items c.keep-kept.new.game.items c.in-Ok.m c.loop-word.here c.after-here.result c.loop-word.invariant.spelled c.in-Some.ensures.0 c.without_move_number-text.ensures l c.in-Ok.ensures c.after-here.ensures.legal c.keep-kept.ensures;
+      spelled = so_move (words c.args.line.now) (words c.loop-word.rest.now) (words c.in-Some.after.now) c.in-Some.word.now c.without_move_number-text.result.now c.loop-word.plies c.loop-word.kept c.keep-kept.result c.loop-word.game.items c.keep-kept.new.game.items c.in-Ok.found.m c.loop-word.here c.in-Ok.found.next c.loop-word.invariant.spelled c.in-Some.ensures.0 c.without_move_number-text.ensures l c.in-Ok.ensures.0 c.in-Ok.ensures.1 c.keep-kept.ensures;
     }
 
 pub loop-word-preserved : goal.loop-word-preserved

@@ -1,5 +1,4 @@
-use Rattle.pg_san.proofs.WalkLemmas.{legal_some}
 use Rattle.pg_san.proofs.reading.fits_later.Goals as goal
 
-pub next_fit-requires : goal.next_fit-requires
-next_fit-requires c = legal_some c.args.position.now c.args.first.now c.requires
+pub returns-in-Some-clause-yes : goal.returns-in-Some-clause-yes
+returns-in-Some-clause-yes c = (c.in-Some.field-0, rw (← c.index.ensures.value) c.in-Some.ensures)

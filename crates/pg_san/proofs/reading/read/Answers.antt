@@ -1,0 +1,7 @@
+use Rattle.std.proofs.Common.{subst}
+use Rattle.std.specs.Prelude.{ℕ, List, Err}
+use Rattle.pg_san.specs.Matching.{IsReading}
+use Rattle.pg_san.proofs.reading.read.Goals as goal
+
+pub returns-in-Err : goal.returns-in-Err
+returns-in-Err c = subst (λ (x : List ℕ). IsReading c.args.position.now x (Err c.in-Err.fault)) c.as_bytes.ensures.value c.in-Err.ensures
