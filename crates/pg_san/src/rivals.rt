@@ -3,10 +3,11 @@ ghost use Rattle.std.specs.Prelude.{◌≡◌, ◌≢◌, ◌↔◌, IsTrue};
 ghost use Rattle.pg_position.specs.Position.{Stands};
 ghost use Rattle.pg_position.specs.Step.{IsLegal};
 ghost use Rattle.pg_moves.specs.Targets.{plain_move};
-ghost use Rattle.pg_san.specs.Writing.{HasRival, IsHint, Counts, IsRivalOn};
+ghost use Rattle.pg_board.specs.SquareSets.{IsSetOf};
+ghost use Rattle.pg_san.specs.Writing.{HasRival, IsHint, Counts};
 
-use pg_board::{Kind, Square};
-use pg_position::{Move, Position, stands};
+use pg_board::{Kind, Man, Square, SquareSet};
+use pg_position::{Move, Position};
 
 /// Which squares count.
 #[derive(Clone, Copy, Debug, PartialEq, Eq)]
@@ -47,31 +48,33 @@ fn may_go(position: &Position, from: Square, to: Square) -> bool
     position.is_legal(&m)
 }
 
-// Whether another man of this kind stands on the square, and the square counts.
-fn is_other(position: &Position, kind: Kind, m: &Move, among: Among, square: Square) -> bool
-    ensures { IsTrue result ↔ (Counts among square m.now.from × (square ≢ m.now.from)
-        × Stands position.now.board position.now.side kind square) }
+// The squares of the other men of this kind.
+fn others(position: &Position, kind: Kind, m: &Move) -> SquareSet
+    ensures { IsSetOf result (λ q. Stands position.now.board position.now.side kind q × (q ≢ m.now.from)) }
 {
-    among.counts(square, m.from)
-        && square != m.from
-        && stands(&position.board(), position.side(), kind, square)
+    position.board().squares_of(Man::new(position.side(), kind)) - SquareSet::single(m.from)
 }
 
-fn is_rival(position: &Position, kind: Kind, m: &Move, among: Among, square: Square) -> bool
-    ensures { IsTrue result ↔ IsRivalOn position.now kind m.now among square }
+// Whether the square counts, and a man there has a legal move to the same target.
+fn is_rival(position: &Position, m: &Move, among: Among, square: Square) -> bool
+    ensures { IsTrue result ↔ (Counts among square m.now.from × IsLegal position.now (plain_move square m.now.to)) }
 {
-    is_other(position, kind, m, among, square) && may_go(position, square, m.to)
+    among.counts(square, m.from) && may_go(position, square, m.to)
 }
 
-// Whether another man of this kind, on a square that counts, has a legal move to the same target.
+// Whether another man of this kind, on a square that counts, has a legal move to the same target. Only
+// the squares of such men are gone over.
 fn has_rival(position: &Position, kind: Kind, m: &Move, among: Among) -> bool
     requires { kind ≢ Kind.Pawn }
     ensures { IsTrue result ↔ HasRival position.now kind m.now among }
 {
-    for i in 0..64u8 {
-        if is_rival(position, kind, m, among, Square::at(i)) {
+    let men = others(position, kind, m);
+    let mut at = 0;
+    while let Some(square) = men.first_from(at) {
+        if is_rival(position, m, among, square) {
             return true;
         }
+        at = square.index() + 1;
     }
     false
 }

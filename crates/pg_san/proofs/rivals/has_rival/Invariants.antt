@@ -1,6 +1,9 @@
-use Rattle.std.proofs.Common.{ℕ, ◌<◌}
+use Rattle.std.proofs.Common.{ℕ, ◌-◌, ◌<◌}
 use Rattle.pg_san.specs.Writing.{IsRivalOn}
 use Rattle.pg_san.proofs.rivals.has_rival.Given as goal
 
-abbrev pub invariant-loop-i : goal.invariant-loop-i
-invariant-loop-i l = (s : ℕ) → s < l.i → ¬ IsRivalOn l.position l.kind l.m l.among s
+abbrev pub invariant-loop-square : goal.invariant-loop-square
+invariant-loop-square l = (s : ℕ) → s < l.at → ¬ IsRivalOn l.position l.fn.kind l.m l.among s
+
+abbrev pub decreases-loop-square : goal.decreases-loop-square
+decreases-loop-square l = 64 - l.at
