@@ -12,6 +12,7 @@ pub mod TextFoundLemmas
 pub mod OneTextLemmas
 pub mod GameLemmas
 pub mod OrderLemmas
+pub mod CompareLemmas
 pub mod PlaceLemmas
 pub mod LineLemmas
 pub mod WordReadingLemmas

@@ -1,18 +1,14 @@
 -- The canonical order of games: a total order, in which games that tie are one.
-use Rattle.std.proofs.Common.{◌≡◌, ◌↔◌, ℕ, zero, suc, ◌<◌, Option, Some, None, List, [], ◌∷◌, length, get_or, refl, sym, ap, arith, ◌∙◌}
+use Rattle.std.proofs.Common.{◌≡◌, ◌↔◌, ℕ, zero, suc, ◌<◌, List, [], ◌∷◌, length, get_or, refl, sym, ap, arith, ◌∙◌}
 use Rattle.std.specs.declared.cmp.Ordering.{Ordering}
 use Rattle.std.specs.declared.cmp.Ordering.TheVariants.{Less, Equal, Greater}
 use Rattle.std.specs.Ordering.{ordering_then, ordering_reverse, nat_cmp}
 use Rattle.std.specs.Cmp.{IsTotalOrder}
-use Rattle.std.specs.Cmp.Lexicographic.{slice_cmp}
 use Rattle.std.proofs.lemmas.Cmp.{lists_total, ranked, tied_itself}
 use Rattle.std.proofs.lemmas.List.Elements.{Contains-get_or}
 use Rattle.std.specs.List.{Contains}
 use Rattle.std.specs.List.Sorted.{IsStrictlySortedBy}
 use Rattle.pg_position.specs.declared.moves.Move.{Move}
-use Rattle.pg_position.specs.contracts.moves.MoveOrd.TheImpl.{cmp-value}
-use Rattle.pg_board.specs.declared.man.Kind.{Kind}
-use Rattle.pg_board.specs.declared.man.Kind.TheVariants.{Pawn, Knight, Bishop, Rook, Queen, King}
 use Rattle.pg_moves.specs.Moves.{move_cmp, promotion_number}
 use Rattle.pg_moves.proofs.PlaceLemmas.{move_cmp_total, same_parts}
 use Rattle.pg_moves.proofs.SortLemmas.{sorted_none, sorted_below, sorted_rest, sorted_same, Contains-none}
@@ -24,31 +20,6 @@ game_cmp_total = lists_total move_cmp_total
 
 pub no_games : IsGames []
 no_games = record { ascends = sorted_none game_cmp; legal = λ g h. absurd (Contains-none g h); few = omega arith }
-
--- what the derived order of moves computes to: promotions by their kinds, none first
-move_at : ℕ → ℕ → Option Kind → Move
-move_at r s o = record { from = r; to = s; promotion = o }
-
-derived_at : (r s t u : ℕ) (o p : Option Kind) → cmp-value.it (move_at r s o) (move_at t u p) ≡ move_cmp (move_at r s o) (move_at t u p)
-unfolding move_at
-derived_at r s t u None (Some Pawn) = refl
-derived_at r s t u (Some Pawn) (Some Pawn) = refl
-derived_at r s t u (Some Knight) (Some Pawn) = refl
-derived_at r s t u (Some Bishop) (Some Pawn) = refl
-derived_at r s t u (Some Rook) (Some Pawn) = refl
-derived_at r s t u (Some Queen) (Some Pawn) = refl
-derived_at r s t u (Some King) (Some Pawn) = refl
-derived_at r s t u _ _ = refl
-
-alike : (R S : Move → Move → Ordering) → ((a b : Move) → R a b ≡ S a b) → (xs ys : List Move) → slice_cmp R xs ys ≡ slice_cmp S xs ys
-alike R S e [] [] = refl
-alike R S e [] (y ∷ ys) = refl
-alike R S e (x ∷ xs) [] = refl
-alike R S e (x ∷ xs) (y ∷ ys) = λ i. ordering_then (e x y i) (alike R S e xs ys i)
-
-pub derived_cmp : (a b : List Move) → slice_cmp cmp-value.it a b ≡ game_cmp a b
-unfolding move_at
-derived_cmp a b = alike cmp-value.it move_cmp (λ m n. derived_at m.from m.to n.from n.to m.promotion n.promotion) a b
 
 -- ---- games that tie are one
 then_equal : (a b : Ordering) → ordering_then a b ≡ Equal → (a ≡ Equal) × (b ≡ Equal)

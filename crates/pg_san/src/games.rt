@@ -6,7 +6,7 @@ ghost use Rattle.pg_san.specs.Games.{game_cmp, IsFromArray, IsGames, IsPlace};
 ghost use Rattle.pg_san.specs.Adding.{IsIllegalAt, IsAdded, IsAddFault, IsNew, IsAdmitFault};
 
 use crate::adding::AddFault;
-use pg_position::{Move, Position};
+use pg_position::{Move, Position, move_order};
 use std::alloc::{AllocError, Global};
 use std::cmp::Ordering;
 use std::marker::Model;
@@ -34,11 +34,26 @@ impl Model for Games {
     ghost invariant = { λ g. IsGames (map (λ v. v.items) g.games.items) };
 }
 
-// How two games stand in the canonical order.
+// How two games stand in the canonical order: as the first moves do that differ, in a plain loop, since a
+// list that grows asks for it often.
 fn compare(a: &[Move], b: &[Move]) -> Ordering
     ensures { result ≡ game_cmp a.now b.now }
 {
-    a.cmp(b)
+    for i in 0..a.len() {
+        if i >= b.len() {
+            return Ordering::Greater;
+        }
+        match move_order(&a[i], &b[i]) {
+            Ordering::Equal => {}
+            Ordering::Less => return Ordering::Less,
+            Ordering::Greater => return Ordering::Greater,
+        }
+    }
+    if a.len() < b.len() {
+        Ordering::Less
+    } else {
+        Ordering::Equal
+    }
 }
 
 // The first ply, counted from 1, whose move is not legal.
