@@ -31,4 +31,4 @@ pub use list_laws::{games_stand_once, one_answer_to_a_text, one_list_of_games};
 pub use listing::read_games;
 pub use listing_fault::GamesFault;
 pub use reading::read;
-pub use writing::{San, write};
+pub use writing::{San, write, write_with};

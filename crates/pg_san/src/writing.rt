@@ -1,7 +1,7 @@
 //! Writing a legal move.
 ghost use Rattle.std.specs.Prelude.{◌≡◌, ◌≢◌};
 ghost use Rattle.pg_position.specs.Position.{Stands};
-ghost use Rattle.pg_position.specs.Step.{IsLegal};
+ghost use Rattle.pg_position.specs.Step.{Legal, IsLegal};
 ghost use Rattle.pg_san.specs.Writing.{IsCore, IsForm, IsHint, IsPawnHint, IsSignOf, IsSan};
 
 use crate::castling::castles;
@@ -74,14 +74,13 @@ fn sign_after(next: &Position) -> &'static str
     }
 }
 
-fn write_move(position: &Position, m: &Move) -> San
-    requires { IsLegal position.now m.now }
+fn write_move(position: &Position, m: &Move, next: &Position) -> San
+    requires { Legal position.now m.now next.now }
     ensures { IsSan position.now m.now result.bytes }
 {
-    let next = position.after(m);
     let kind = mover(position, m);
     let form = form_for(position, kind, m);
-    write_form(kind, &form, sign_after(&next))
+    write_form(kind, &form, sign_after(next))
 }
 
 /// The text of a legal move (the PGN standard, section 8.2.3). Castling is `O-O` towards the h-file
@@ -96,5 +95,14 @@ pub fn write(position: &Position, m: Move) -> San
     requires { IsLegal position.now m }
     ensures { IsSan position.now m result.bytes }
 {
-    write_move(position, &m)
+    write_move(position, &m, &position.after(&m))
+}
+
+/// The text of a legal move, as `write` has it, for a caller who has the position that the move leads
+/// to. Takes no memory.
+pub fn write_with(position: &Position, m: Move, next: &Position) -> San
+    requires { Legal position.now m next.now }
+    ensures { IsSan position.now m result.bytes }
+{
+    write_move(position, &m, next)
 }

@@ -11,13 +11,13 @@ use Rattle.pg_position.specs.declared.moves.Move.{Move}
 use Rattle.pg_position.specs.Array.{array_state}
 use Rattle.pg_position.specs.Game.{IsGame}
 use Rattle.pg_position.specs.Position.{IsPosition}
-use Rattle.pg_position.specs.Step.{Legal}
+use Rattle.pg_position.specs.Step.{Legal, IsLegal}
 use Rattle.pg_position.proofs.ArrayLemmas.{array_position}
 use Rattle.pg_position.proofs.FutureLemmas.{one_result, legal_position}
 use Rattle.pg_san.specs.Games.{IsFromArray}
 use Rattle.pg_san.specs.Writing.{IsSan}
 use Rattle.pg_texts.specs.Movetext.{AddsLongest, space_text, number_text, ArePlies, IsMovetext, IsLongestGame}
-use Rattle.pg_texts.specs.inner.Plies.{AddsPlies, AddsPly, Stops, IsPlayedOut}
+use Rattle.pg_texts.specs.inner.Plies.{AddsPlies, AddsAllPlies, AddsPly, Stops, IsPlayedOut}
 
 -- ---- one ply
 around : (front number san rest more : List ℕ) → (front ++ (number ++ (san ++ rest))) ++ more ≡ front ++ (number ++ (san ++ (rest ++ more)))
@@ -164,11 +164,25 @@ no_moves ms n a b c zero_is out dash =
     let long : IsLongestGame ms [] = subst (λ (x : List Move). IsLongestGame ms x) e (longest_game ms n out.end out.within (plies_game 0 array_state (take n ms) out.end text plies) out.stops) in
     ([], long, (codes "-", dash_for_none, nothing_appended a b c text (codes "-") none grows dash))
 
--- the longest game of a game is that game
-pub whole_game : (ms : List Move) (a b : Option (List ℕ)) → IsFromArray ms → AddsLongest ms a b → AddsSome (IsMovetext ms) a b
-whole_game ms a b legal (game, long, (text, is, grows)) =
-    let l : length ms ≤ length game = long.longest ms [] (sym (append-nil ms)) legal in
-    let k : length ms ≡ length game + length long.rest = ap (λ (x : List Move). length x) long.is ∙ length-append game long.rest in
-    let none : long.rest ≡ [] = nil_from_length long.rest (omega arith) in
-    let same : game ≡ ms = sym (long.is ∙ ap (λ (x : List Move). game ++ x) none ∙ append-nil game) in
-    (text, subst (λ (x : List Move). IsMovetext x text) same is, grows)
+-- ---- a game that is known to be one
+-- what comes behind the first moves of a game is legal there
+legal_behind : (p : State) (game : List Move) (q : State) (m : Move) (rest : List Move) (r : State) → IsPosition p → IsGame p game q → IsGame p (game ++ m ∷ rest) r → IsLegal q m
+legal_behind p [] q m rest r pos played (s, step, other) = (s, subst (λ (x : State). Legal x m s) played step)
+legal_behind p (g ∷ gs) q m rest r pos (n, first, played) (s, step, other) =
+    let one : s ≡ n = one_result p g s n pos step first in
+    legal_behind n gs q m rest r (legal_position p g n pos first) played (subst (λ (x : State). IsGame x (gs ++ m ∷ rest) r) one other)
+
+pub legal_next : (ms : List Move) (n : ℕ) (m : Move) (p : State) (a b : Option (List ℕ)) → n < length ms → m ≡ get_or ms n m → IsFromArray ms → AddsPlies ms n p a b → IsLegal p m
+unfolding IsFromArray
+legal_next ms n m p a b low at (r, game) (text, plies, grows) =
+    let whole : ms ≡ take n ms ++ m ∷ drop (n + 1) ms = sym (take-append-drop n ms) ∙ ap (λ (x : List Move). take n ms ++ x) (next_at ms n m low at) in
+    legal_behind array_state (take n ms) p m (drop (n + 1) ms) r array_position (plies_game 0 array_state (take n ms) p text plies) (subst (λ (x : List Move). IsGame array_state x r) whole game)
+
+pub all_plies : (ms : List Move) (n : ℕ) (p : State) (a b : Option (List ℕ)) → length ms ≤ n → AddsPlies ms n p a b → AddsAllPlies ms a b
+all_plies ms n p a b high (text, plies, grows) = (p, (text, subst (λ (x : List Move). ArePlies 0 array_state x p text) (take_all n ms high ∙ sym (take_all (length ms) ms (omega arith))) plies, grows))
+
+pub game_of_moves : (ms : List Move) (a b : Option (List ℕ)) → 0 < length ms → AddsAllPlies ms a b → AddsSome (IsMovetext ms) a b
+game_of_moves ms a b some (p, (text, plies, grows)) = (text, movetext_of ms p text some (subst (λ (x : List Move). ArePlies 0 array_state x p text) (take_all (length ms) ms (omega arith)) plies), grows)
+
+pub game_of_none : (ms : List Move) (a b : Option (List ℕ)) → length ms ≡ 0 → Appends a b (codes "-") → AddsSome (IsMovetext ms) a b
+game_of_none ms a b none grows = (codes "-", subst (λ (x : List Move). IsMovetext x (codes "-")) (sym (nil_from_length ms none)) dash_for_none, grows)

@@ -10,15 +10,14 @@ use Rattle.pg_certificate.specs.Pushing.{AddsSome}
 use Rattle.pg_board.specs.Placement.{Placement}
 use Rattle.pg_position.specs.declared.moves.Move.{Move}
 use Rattle.pg_san.specs.Games.{IsFromArray, IsGames}
-use Rattle.pg_texts.specs.Movetext.{AddsLongest, IsMovetext}
+use Rattle.pg_texts.specs.Movetext.{IsMovetext}
 use Rattle.pg_fen.specs.PlacementText.{placement_text}
 use Rattle.pg_fen.specs.Lengths.{length_text}
 use Rattle.pg_texts.specs.Report.{AddsLine, IsVerdict, IsReport, AreGameLines, line_text, labelled_text, verdict_text, head_text}
 use Rattle.pg_texts.specs.declared.verdict.Verdict.{Verdict}
-use Rattle.pg_texts.proofs.PlyLemmas.{whole_game}
 
-pub game_line : (game : List Move) (a b c : Option (List ℕ)) → IsFromArray game → AddsLongest game a b → Appends b c (10 ∷ []) → AddsLine (IsMovetext game) a c
-game_line game a b c legal grows feed = let (text, is, more) = whole_game game a b legal grows in (text, is, Appends-trans a b c text (10 ∷ []) more feed)
+pub game_line : (game : List Move) (a b c : Option (List ℕ)) → AddsSome (IsMovetext game) a b → Appends b c (10 ∷ []) → AddsLine (IsMovetext game) a c
+game_line game a b c (text, is, more) feed = (text, is, Appends-trans a b c text (10 ∷ []) more feed)
 
 lines_more : (games : List (List Move)) (g : List Move) (text line : List ℕ) → AreGameLines games text → IsMovetext g line → AreGameLines (games ++ g ∷ []) (text ++ (line ++ 10 ∷ []))
 unfolding AreGameLines

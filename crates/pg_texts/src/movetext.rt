@@ -1,14 +1,15 @@
 //! Games as text.
-ghost use Rattle.std.specs.Prelude.{◌≡◌, ◌<◌, true, false, IfOk, IfErr, OnErr};
-ghost use Rattle.pg_certificate.specs.Pushing.{Adds, MayPush, Pushes};
-ghost use Rattle.pg_position.specs.Step.{IsLegal};
-ghost use Rattle.pg_texts.specs.Movetext.{AddsLongest, number_text, space_text};
-ghost use Rattle.pg_texts.specs.inner.Plies.{AddsPly, IsPlayedOut};
+ghost use Rattle.std.specs.Prelude.{◌≡◌, ◌<◌, true, false, length, IfOk, IfErr, OnOk, OnErr};
+ghost use Rattle.pg_certificate.specs.Pushing.{Adds, AddsSome, MayPush, Pushes};
+ghost use Rattle.pg_position.specs.Step.{Legal};
+ghost use Rattle.pg_san.specs.Games.{IsFromArray};
+ghost use Rattle.pg_texts.specs.Movetext.{AddsLongest, IsMovetext, number_text, space_text};
+ghost use Rattle.pg_texts.specs.inner.Plies.{AddsPly, AddsAllPlies, IsPlayedOut};
 
 use pg_certificate::{Refused, Sink, WriteFault};
 use pg_fen::text::digits;
 use pg_position::{Move, Position};
-use pg_san::write;
+use pg_san::write_with;
 
 // Appends the space before a ply, but for the first.
 fn write_space<W: Sink>(ply: usize, out: &mut W) -> Result<(), Refused>
@@ -31,14 +32,21 @@ fn write_number<W: Sink>(ply: usize, out: &mut W) -> Result<(), Refused>
     out.push(b". ")
 }
 
-// Appends a legal move, the ply with this number from 0, with what stands before it.
-fn write_ply<W: Sink>(ply: usize, position: &Position, m: &Move, out: &mut W) -> Result<(), Refused>
-    requires { IsLegal position.now m.now }
+// Appends a legal move, the ply with this number from 0, with what stands before it. It leads to the
+// position `next`.
+fn write_ply<W: Sink>(
+    ply: usize,
+    position: &Position,
+    m: &Move,
+    next: &Position,
+    out: &mut W,
+) -> Result<(), Refused>
+    requires { Legal position.now m.now next.now }
     ensures { Pushes W.held W.has_failed (AddsPly ply position.now m.now) out.old out.new result }
 {
     write_space(ply, out)?;
     write_number(ply, out)?;
-    out.push(write(position, *m).as_bytes())
+    out.push(write_with(position, *m, next).as_bytes())
 }
 
 // Appends the moves up to the first that is not legal; how many they are.
@@ -52,7 +60,7 @@ fn write_plies<W: Sink>(moves: &[Move], out: &mut W) -> Result<usize, Refused>
     for (ply, m) in moves.iter().enumerate() {
         match position.play(*m) {
             Ok(next) => {
-                write_ply(ply, &position, m, out)?;
+                write_ply(ply, &position, m, &next, out)?;
                 position = next;
             }
             Err(_) => return Ok(ply),
@@ -69,6 +77,35 @@ pub(crate) fn append_movetext<W: Sink>(moves: &[Move], out: &mut W) -> Result<()
         return out.push(b"-");
     }
     Ok(())
+}
+
+// Appends the moves of a game from the initial array: none of them is tested.
+fn write_game_plies<W: Sink>(game: &[Move], out: &mut W) -> Result<(), Refused>
+    requires { IsFromArray game.now }
+    ensures plies { OnOk result (AddsAllPlies game.now (W.held out.old) (W.held out.new)) }
+    ensures runs { OnOk result ((W.has_failed out.new ≡ W.has_failed out.old)
+        × (0 < length game.now → W.has_failed out.new ≡ false)) }
+    ensures fault { OnErr result (W.has_failed out.new ≡ true) }
+{
+    let mut position = Position::array();
+    for (ply, m) in game.iter().enumerate() {
+        let next = position.after(m);
+        write_ply(ply, &position, m, &next, out)?;
+        position = next;
+    }
+    Ok(())
+}
+
+// Appends the movetext of a game from the initial array.
+pub(crate) fn append_game<W: Sink>(game: &[Move], out: &mut W) -> Result<(), Refused>
+    requires { IsFromArray game.now }
+    ensures { Pushes W.held W.has_failed (AddsSome (IsMovetext game.now)) out.old out.new result }
+{
+    if !game.is_empty() {
+        write_game_plies(game, out)?;
+        return Ok(());
+    }
+    out.push(b"-")
 }
 
 /// Writes the movetext of the longest front of the moves that is a game from the initial array, as

@@ -5,7 +5,7 @@ ghost use Rattle.pg_san.specs.Games.{IsFromArray};
 ghost use Rattle.pg_texts.specs.Movetext.{IsMovetext};
 ghost use Rattle.pg_texts.specs.Report.{AddsLine, AreGameLines, IsReport, IsVerdict, head_text, labelled_text, line_text};
 
-use crate::movetext::append_movetext;
+use crate::movetext::append_game;
 use crate::verdict::{Verdict, verdict_on, words};
 use pg_certificate::{Refused, Sink, WriteFault};
 use pg_fen::text::digits;
@@ -58,7 +58,7 @@ pub fn write_game<W: Sink>(game: &[Move], out: &mut W) -> Result<(), Refused>
     requires { IsFromArray game.now }
     ensures { Pushes W.held W.has_failed (AddsLine (IsMovetext game.now)) out.old out.new result }
 {
-    append_movetext(game, out)?;
+    append_game(game, out)?;
     out.push(b"\n")
 }
 

@@ -17,6 +17,10 @@ AddsPly ply p m old new = (san : List ℕ) × IsSan p m san × Appends old new (
 abbrev pub AddsPlies : List Move → ℕ → State → Option (List ℕ) → Option (List ℕ) → Type 0
 AddsPlies ms n p old new = AddsSome (ArePlies 0 array_state (take n ms) p) old new
 
+-- all moves lead from the initial array somewhere, and their text is appended
+abbrev pub AddsAllPlies : List Move → Option (List ℕ) → Option (List ℕ) → Type 0
+AddsAllPlies ms old new = (p : State) × AddsPlies ms (length ms) p old new
+
 -- there is no move after the first n, or it is not legal in p
 abbrev pub Stops : List Move → ℕ → State → Type 0
 Stops ms n p = (length ms ≤ n) ⊎ ((m : Move) × (rest : List Move) × (drop n ms ≡ m ∷ rest) × ((q : State) → ¬ Legal p m q))

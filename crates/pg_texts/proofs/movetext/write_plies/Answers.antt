@@ -12,7 +12,7 @@ loop-ply-init g c = record {
 }
 
 pub write_ply-requires : goal.write_ply-requires
-write_ply-requires g c = (c.in-Ok.next, (c.in-Ok.ensures.ok c.in-Ok.next).0 refl)
+write_ply-requires g c = (c.in-Ok.ensures.ok c.in-Ok.next).0 refl
 
 pub loop-ply-preserved : goal.loop-ply-preserved
 loop-ply-preserved g c = record {

@@ -9,8 +9,8 @@ use Rattle.pg_texts.proofs.report.write_game.Goals as goal
 pub returns : goal.returns
 returns g c = record {
   text =
-      on_ok c.push.result (Appends (g.W.Sink.held c.append_movetext.new.out) (g.W.Sink.held c.push.new.self) (10 ∷ [])) (AddsLine (IsMovetext c.args.game.now) (g.W.Sink.held c.args.out.now) (g.W.Sink.held c.push.new.self))
-      (game_line c.args.game.now (g.W.Sink.held c.args.out.now) (g.W.Sink.held c.append_movetext.new.out) (g.W.Sink.held c.push.new.self) c.requires c.in_ok-append_movetext.ensures.text)
+      on_ok c.push.result (Appends (g.W.Sink.held c.append_game.new.out) (g.W.Sink.held c.push.new.self) (10 ∷ [])) (AddsLine (IsMovetext c.args.game.now) (g.W.Sink.held c.args.out.now) (g.W.Sink.held c.push.new.self))
+      (game_line c.args.game.now (g.W.Sink.held c.args.out.now) (g.W.Sink.held c.append_game.new.out) (g.W.Sink.held c.push.new.self) c.in_ok-append_game.ensures.text)
       c.push.ensures.bytes;
   runs = search rules;
   fault = search rules;
