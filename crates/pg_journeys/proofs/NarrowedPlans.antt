@@ -7,7 +7,7 @@ use Rattle.pg_board.specs.declared.man.Color.TheVariants.{White, Black}
 use Rattle.pg_board.specs.declared.man.Kind.{Kind}
 use Rattle.pg_board.specs.declared.man.Kind.TheVariants.{Pawn, Knight, Bishop, Rook, Queen, King}
 use Rattle.pg_board.specs.Men.{other, number_of_kind}
-use Rattle.pg_board.specs.Squares.{rank}
+use Rattle.pg_board.specs.Squares.{file, rank}
 use Rattle.pg_board.specs.Placement.{Placement}
 use Rattle.pg_board.specs.lemmas.Decisions.{dec_kind}
 use Rattle.pg_position.specs.declared.rights.Wing.{Wing}
@@ -22,6 +22,7 @@ use Rattle.pg_journeys.specs.Journeys.{Leg, IsLeg, IsPath, may_take, Fate, Arriv
 use Rattle.pg_journeys.specs.Known.{landing}
 use Rattle.pg_journeys.specs.PlanCosts.{InColumn}
 use Rattle.pg_journeys.specs.lemmas.Turns.{leg}
+use Rattle.pg_journeys.specs.lemmas.Takings.{ahead_may_not}
 use Rattle.pg_journeys.specs.lemmas.DecidingPaths.{weigh}
 use Rattle.pg_journeys.specs.lemmas.ColumnsOfPlans.{HasColumns, columns_of_plan}
 use Rattle.pg_journeys.specs.declared.distances.Reach.{Reach}
@@ -30,6 +31,7 @@ use Rattle.pg_journeys.specs.inner.Counting.{counts, count_at, ComesTaking, IsRe
 use Rattle.pg_journeys.specs.inner.Sides.{facts_of, square_at, kind_at, IsSide, AreAims, AreRooms, JourneysOf, IsPaidBy, MeetsAt, InEnd}
 use Rattle.pg_journeys.specs.inner.Deeds.{Changes}
 use Rattle.pg_journeys.specs.inner.Narrowed.{TakesTo, TakesToSome, StandsBy, PassedBy, FallsBy, ComesBack, ChangesBy, walker_of}
+use Rattle.pg_journeys.proofs.FrontLemmas.{not_both}
 use Rattle.pg_journeys.proofs.PathsInTwo.{InTwo, path_in_two, InOne, path_in_one, no_pawn_back, stays_piece}
 
 -- ---- kinds by their numbers
@@ -110,17 +112,36 @@ abbrev pub FallsOf : Placement → Side → Bool → Option Wing → ℕ → ℕ
 FallsOf d x quiet way most i q =
     (g : JourneysOf d x way) × IsPaidBy d x quiet way most g × (g.fate (square_at x.men i) ≡ Falls q)
 
--- ---- the man i of a side in the plans of a way, by his rooms and by what is reached from him
-pub record IsAsked (d : Placement) (x : Side) (quiet : Bool) (way : Option Wing) (most : ℕ) (aims rooms : List (List ℕ)) (i : ℕ) (reach : Reach) (wide : ℕ) : Type 0 where
+-- ---- the man i of a side in the plans of a way, by his rooms
+pub record IsAsked (d : Placement) (x : Side) (quiet : Bool) (way : Option Wing) (most : ℕ) (aims rooms : List (List ℕ)) (i : ℕ) : Type 0 where
   pub side : IsSide d x
   pub aimed : AreAims x quiet most aims
   pub roomed : AreRooms d x quiet way most rooms
   pub small : most < 200
   pub low : i < x.men.count
+
+-- what is reached from him, as far as his widest room
+pub record IsReached (x : Side) (quiet : Bool) (way : Option Wing) (rooms : List (List ℕ)) (i : ℕ) (reach : Reach) (wide : ℕ) : Type 0 where
   pub reached : IsReach (facts_of x) x.ground.color quiet (kind_at x.men i) (counted x.ground.color way (square_at x.men i)) wide reach
   pub wider : (e : ℕ) → e < 17 → get_or (get_or rooms i []) e 0 < 255 → get_or (get_or rooms i []) e 0 ≤ wide
 
-module _ (d : Placement) (x : Side) (quiet : Bool) (way : Option Wing) (most : ℕ) (aims rooms : List (List ℕ)) (i : ℕ) (reach : Reach) (wide : ℕ) (asked : IsAsked d x quiet way most aims rooms i reach wide) where
+-- a path takes only where captures may land
+take_lands : (f : Facts) (c : Color) (q : ℕ) (l : Leg) → IsLeg f c l → l.to ≡ q → may_take f c l ≡ true → f.lands c q ≡ true
+take_lands f c q l is to take = subst (λ (u : ℕ). f.lands c u ≡ true) to (elim (dec_kind l.kind Pawn) [
+  | yes pawn ↦ is.lands pawn (takes_aside f c l.kind l.from l.into l.to pawn take)
+  | no piece ↦ sym (piece_takes f c l.kind l.from l.into l.to piece) ∙ take
+])
+  where
+    takes_aside : (f : Facts) (c : Color) (k : Kind) (r : ℕ) (j : Kind) (t : ℕ) → k ≡ Pawn → may_take f c (leg k r j t) ≡ true → file r ≢ file t
+    takes_aside f c k r j t e h same = not_both (may_take f c (leg k r j t)) h (ahead_may_not f c k r j t e same)
+
+takes_land : (f : Facts) (c : Color) (quiet : Bool) (q : ℕ) (ls : List Leg) (k : Kind) (r : ℕ) (j : Kind) (s : ℕ) → IsPath f c k r ls j s → HasTake f c q ls → f.lands c q ≡ true
+takes_land f c quiet q ls k r j s path take =
+    let w : InTwo f c quiet k r j s q (weigh (counts f c quiet) ls) = path_in_two f c quiet q ls k r j s path take in
+    let t : ComesTaking f c quiet k r w.0 q w.1 = w.3 in
+    take_lands f c q t.1 t.3 t.6 t.4
+
+module _ (d : Placement) (x : Side) (quiet : Bool) (way : Option Wing) (most : ℕ) (aims rooms : List (List ℕ)) (i : ℕ) (asked : IsAsked d x quiet way most aims rooms i) where
   abbrev room : ℕ → ℕ
   room e = get_or (get_or rooms i []) e 0
 
@@ -157,78 +178,9 @@ module _ (d : Placement) (x : Side) (quiet : Bool) (way : Option Wing) (most : �
       let same : j ≡ kind_at x.goals e = same_kind here (asked.side.goals.kinds e low) in
       subst (λ (y : Kind). IsPath (facts_of x) x.ground.color k s ls y (square_at x.goals e)) same (subst (λ (y : ℕ). IsPath (facts_of x) x.ground.color k s ls j y) (sym at) path)
 
-  -- ---- where he takes
-  takes_to : (e : ℕ) (k : Kind) (q n : ℕ) (rest : List Leg) → e < 17 → q < 64 → room e < 255 → ComesTaking (facts_of x) x.ground.color quiet (kind_at x.men i) (counted x.ground.color way square) k q n → count_at (get_or aims e []) k q ≤ weight rest → n + weight rest ≤ room e → TakesTo reach aims (get_or rooms i []) e q
-  takes_to e k q n rest le lq some comes aim fits =
-      let wide_enough : room e ≤ wide = asked.wider e le some in
-      let taken : count_at reach.takes k q ≤ n = asked.reached.least_taking k q n lq comes (omega arith) in
-      (some, (number_of_kind k, number_low k, ((asked.reached.taken k q lq).1 (omega arith), add_le (count_at reach.takes k q) (count_at (get_or aims e []) k q) n (weight rest) (room e) taken aim fits)))
-
-  takes_by : (o : Fate) (ls : List Leg) (e q : ℕ) → ((u : ℕ) → o ≡ Falls u → x.goals.count < x.men.count) → q < 64 → e < 17 → room e < 255 → weight ls ≤ room e → InEnd x.goals e o → MeetsAt d x way i ls o → HasTake (facts_of x) x.ground.color q ls → TakesTo reach aims (get_or rooms i []) e q
-  takes_by (Arrives t) ls e q more lq le some fits end (j, low, st, path) take =
-      let w : InTwo (facts_of x) x.ground.color quiet (kind_at x.men i) (counted x.ground.color way square) (kind_at x.goals e) (square_at x.goals e) q (weight ls) = path_in_two (facts_of x) x.ground.color quiet q ls (kind_at x.men i) (counted x.ground.color way square) (kind_at x.goals e) (square_at x.goals e) (to_goal e t j ls (kind_at x.men i) (counted x.ground.color way square) end.0 end.1 st path) take in
-      let sum : w.1 + weight w.2 ≡ weight ls = w.5 in
-      let small : room e ≤ most = asked.roomed.small i e asked.low le some in
-      let aim : count_at (get_or aims e []) w.0 q ≤ weight w.2 = asked.aimed.least e w.0 q w.2 end.0 lq w.4 (omega arith) in
-      takes_to e w.0 q w.1 w.2 le lq some w.3 aim (omega arith)
-  takes_by (Falls u) ls e q more lq le some fits end (ne, low, lands, inl (j, path)) take =
-      let w : InTwo (facts_of x) x.ground.color quiet (kind_at x.men i) (counted x.ground.color way square) j u q (weight ls) = path_in_two (facts_of x) x.ground.color quiet q ls (kind_at x.men i) (counted x.ground.color way square) j u path take in
-      let sum : w.1 + weight w.2 ≡ weight ls = w.5 in
-      let small : room e ≤ most = asked.roomed.small i e asked.low le some in
-      let aim : count_at (get_or aims 16 []) w.0 q ≤ weight w.2 = asked.aimed.least_fall w.0 q j u w.2 lq low (more u refl) lands w.4 (omega arith) in
-      takes_to e w.0 q w.1 w.2 le lq some w.3 (subst (λ (n : ℕ). count_at (get_or aims n []) w.0 q ≤ weight w.2) (sym end) aim) (omega arith)
-  takes_by (Falls u) ls e q more lq le some fits end (ne, low, lands, inr (has_passed, none)) take =
-      absurd (let z : false ≡ true = subst (λ (y : List Leg). HasTake (facts_of x) x.ground.color q y) none take in cc)
-
-  pub lands_found : (q : ℕ) → q < 64 → LandsOf d x quiet way most i q → TakesToSome reach aims (get_or rooms i []) q
-  lands_found q lq (g, paid, take) =
-      let w : (e : ℕ) × (e < 17) × InEnd x.goals e (g.fate square) = end_of (g.fate square) (g.path square) (meets_at g) in
-      let r : (room w.0 < 255) × (weight (g.path square) ≤ room w.0) = asked.roomed.least i w.0 g asked.low w.1 paid w.2 in
-      (w.0, w.1, takes_by (g.fate square) (g.path square) w.0 q (more_men g) lq w.1 r.0 r.1 w.2 (meets_at g) take)
-
   -- and back: a plan for a path to a fate within its room
   with_path : (e : ℕ) (o : Fate) (ls : List Leg) → e < 17 → InEnd x.goals e o → MeetsAt d x way i ls o → room e < 255 → weight ls ≤ room e → (g : JourneysOf d x way) × IsPaidBy d x quiet way most g × (g.fate square ≡ o) × (g.path square ≡ ls)
   with_path e o ls le end meets some fits = asked.roomed.fits i e o ls asked.low le end meets some fits
-
-  lands_by : (o : Fate) (ls : List Leg) (e q : ℕ) (k : Kind) → q < 64 → e < 17 → room e < 255 → InEnd x.goals e o → MeetsAt d x way i ls o → count_at reach.takes k q + count_at (get_or aims e []) k q ≤ room e → LandsOf d x quiet way most i q
-  lands_by (Arrives t) ls e q k lq le some end (j, low, st, path) fits =
-      let a : (n : ℕ) × ComesTaking (facts_of x) x.ground.color quiet (kind_at x.men i) (counted x.ground.color way square) k q n × (n ≤ count_at reach.takes k q) = asked.reached.takes k q lq (omega arith) in
-      let b : (ms : List Leg) × IsPath (facts_of x) x.ground.color k q ms (kind_at x.goals e) (square_at x.goals e) × (weight ms ≤ count_at (get_or aims e []) k q) = asked.aimed.comes e k q end.0 lq (omega arith) in
-      let w : InOne (facts_of x) x.ground.color quiet (kind_at x.men i) (counted x.ground.color way square) (kind_at x.goals e) (square_at x.goals e) q (a.0 + weight b.0) = path_in_one (facts_of x) x.ground.color quiet q (kind_at x.men i) (counted x.ground.color way square) k a.0 b.0 (kind_at x.goals e) (square_at x.goals e) a.1 b.1 in
-      let sum : weight w.0 ≡ a.0 + weight b.0 = w.3 in
-      let n_low : a.0 ≤ count_at reach.takes k q = a.2 in
-      let m_low : weight b.0 ≤ count_at (get_or aims e []) k q = b.2 in
-      let p : (g : JourneysOf d x way) × IsPaidBy d x quiet way most g × (g.fate square ≡ Arrives (square_at x.goals e)) × (g.path square ≡ w.0) = with_path e (Arrives (square_at x.goals e)) w.0 le (end.0, refl) (kind_at x.goals e, asked.side.goals.listing.low e end.0, asked.side.goals.kinds e end.0, w.1) some (omega arith) in
-      (p.0, p.1, subst (λ (y : List Leg). HasTake (facts_of x) x.ground.color q y) (sym p.3) w.2)
-  lands_by (Falls u) ls e q k lq le some end (ne, low, lands, how) fits =
-      let fits_last : count_at reach.takes k q + count_at (get_or aims 16 []) k q ≤ room e = subst (λ (n : ℕ). count_at reach.takes k q + count_at (get_or aims n []) k q ≤ room e) end fits in
-      let a : (n : ℕ) × ComesTaking (facts_of x) x.ground.color quiet (kind_at x.men i) (counted x.ground.color way square) k q n × (n ≤ count_at reach.takes k q) = asked.reached.takes k q lq (omega arith) in
-      let b : (j : Kind) × (t : ℕ) × (ms : List Leg) × (t < 64) × ((facts_of x).lands (other x.ground.color) t ≡ true) × IsPath (facts_of x) x.ground.color k q ms j t × (weight ms ≤ count_at (get_or aims 16 []) k q) = asked.aimed.falls k q lq (omega arith) in
-      let w : InOne (facts_of x) x.ground.color quiet (kind_at x.men i) (counted x.ground.color way square) b.0 b.1 q (a.0 + weight b.2) = path_in_one (facts_of x) x.ground.color quiet q (kind_at x.men i) (counted x.ground.color way square) k a.0 b.2 b.0 b.1 a.1 b.5 in
-      let sum : weight w.0 ≡ a.0 + weight b.2 = w.3 in
-      let n_low : a.0 ≤ count_at reach.takes k q = a.2 in
-      let m_low : weight b.2 ≤ count_at (get_or aims 16 []) k q = b.6 in
-      let p : (g : JourneysOf d x way) × IsPaidBy d x quiet way most g × (g.fate square ≡ Falls b.1) × (g.path square ≡ w.0) = with_path e (Falls b.1) w.0 le end (ne, b.3, b.4, inl (b.0, w.1)) some (omega arith) in
-      (p.0, p.1, subst (λ (y : List Leg). HasTake (facts_of x) x.ground.color q y) (sym p.3) w.2)
-
-  pub lands_back : (q : ℕ) → q < 64 → TakesToSome reach aims (get_or rooms i []) q → LandsOf d x quiet way most i q
-  lands_back q lq (e, le, (some, (k, lk, (on, fits)))) =
-      let j : (j : Kind) × (number_of_kind j ≡ k) = kind_with k lk in
-      let s : (o : Fate) × (ls : List Leg) × InEnd x.goals e o × MeetsAt d x way i ls o × (weight ls ≤ room e) = asked.roomed.some i e asked.low le some in
-      lands_by s.0 s.1 e q j.0 lq le some s.2 s.3 (subst (λ (n : ℕ). get_or reach.takes (n * 64 + q) 0 + get_or (get_or aims e []) (n * 64 + q) 0 ≤ room e) (sym j.1) fits)
-
-  -- ---- where he is captured
-  pub falls_found : (q : ℕ) → q < 64 → FallsOf d x quiet way most i q → FallsBy x square reach (room 16) q
-  falls_found q lq (g, paid, e) =
-      let r : (room 16 < 255) × (weight (g.path square) ≤ room 16) = asked.roomed.least i 16 g asked.low (omega arith) paid (subst (λ (o : Fate). InEnd x.goals 16 o) (sym e) refl) in
-      (r.0, told (g.path square) r.0 r.1 (subst (λ (o : Fate). MeetsAt d x way i (g.path square) o) e (meets_at g)))
-    where
-      told : (ls : List Leg) → room 16 < 255 → weight ls ≤ room 16 → MeetsAt d x way i ls (Falls q) → StandsBy reach (landing x.ground.facts (other x.ground.color)) (room 16) q ⊎ PassedBy x square q
-      told ls some fits (ne, low, lands, inl (j, path)) =
-          let wide_enough : room 16 ≤ wide = asked.wider 16 (omega arith) some in
-          let stands : count_at reach.stands j q ≤ weight ls = asked.reached.least j q ls lq path (omega arith) in
-          inl (number_of_kind j, number_low j, (((asked.reached.stood j q lq).1 (omega arith), lands), omega arith))
-      told ls some fits (ne, low, lands, inr (has_passed, none)) = inr (has_passed, low, lands)
 
   no_king : room 16 < 255 → kind_at x.men i ≢ King
   no_king some =
@@ -239,17 +191,102 @@ module _ (d : Placement) (x : Side) (quiet : Bool) (way : Option Wing) (most : �
       of_fate (Arrives t) ls end h = absurd (let few : x.goals.count ≤ 16 = asked.side.goals.few in let low : 16 < x.goals.count = end.0 in omega arith)
       of_fate (Falls u) ls end h = h.0
 
-  pub falls_back : (q : ℕ) → q < 64 → FallsBy x square reach (room 16) q → FallsOf d x quiet way most i q
-  falls_back q lq (some, inl (k, lk, ((on, lands), fits))) =
-      let j : (j : Kind) × (number_of_kind j ≡ k) = kind_with k lk in
-      let within : count_at reach.stands j.0 q ≤ room 16 = subst (λ (n : ℕ). get_or reach.stands (n * 64 + q) 0 ≤ room 16) (sym j.1) fits in
-      let s : (ls : List Leg) × IsPath (facts_of x) x.ground.color (kind_at x.men i) (counted x.ground.color way square) ls j.0 q × (weight ls ≤ count_at reach.stands j.0 q) = asked.reached.stands j.0 q lq (omega arith) in
-      let less : weight s.0 ≤ count_at reach.stands j.0 q = s.2 in
-      let p : (g : JourneysOf d x way) × IsPaidBy d x quiet way most g × (g.fate square ≡ Falls q) × (g.path square ≡ s.0) = with_path 16 (Falls q) s.0 (omega arith) refl (no_king some, lq, lands, inl (j.0, s.1)) some (omega arith) in
-      (p.0, p.1, p.2)
-  falls_back q lq (some, inr (has_passed, low, lands)) =
-      let p : (g : JourneysOf d x way) × IsPaidBy d x quiet way most g × (g.fate square ≡ Falls q) × (g.path square ≡ []) = with_path 16 (Falls q) [] (omega arith) refl (no_king some, lq, lands, inr (has_passed, refl)) some (omega arith) in
-      (p.0, p.1, p.2)
+  -- ---- where he takes, and is captured, no other squares are than where captures may land
+  pub lands_known : (q : ℕ) → q < 64 → LandsOf d x quiet way most i q → has (landing x.ground.facts x.ground.color) q ≡ true
+  lands_known q lq (g, paid, take) = along (g.fate square) (g.path square) (meets_at g) take
+    where
+      along : (o : Fate) (ls : List Leg) → MeetsAt d x way i ls o → HasTake (facts_of x) x.ground.color q ls → has (landing x.ground.facts x.ground.color) q ≡ true
+      along (Arrives t) ls (j, low, st, path) take = takes_land (facts_of x) x.ground.color quiet q ls (kind_at x.men i) (counted x.ground.color way square) j t path take
+      along (Falls u) ls (ne, low, lands, inl (j, path)) take = takes_land (facts_of x) x.ground.color quiet q ls (kind_at x.men i) (counted x.ground.color way square) j u path take
+      along (Falls u) ls (ne, low, lands, inr (has_passed, none)) take = absurd (let z : false ≡ true = subst (λ (y : List Leg). HasTake (facts_of x) x.ground.color q y) none take in cc)
+
+  pub falls_known : (q : ℕ) → q < 64 → FallsOf d x quiet way most i q → (room 16 < 255) × (has (landing x.ground.facts (other x.ground.color)) q ≡ true)
+  falls_known q lq (g, paid, e) =
+      let r : (room 16 < 255) × (weight (g.path square) ≤ room 16) = asked.roomed.least i 16 g asked.low (omega arith) paid (subst (λ (o : Fate). InEnd x.goals 16 o) (sym e) refl) in
+      let m : MeetsAt d x way i (g.path square) (Falls q) = subst (λ (o : Fate). MeetsAt d x way i (g.path square) o) e (meets_at g) in
+      (r.0, m.2)
+
+  module _ (reach : Reach) (wide : ℕ) (far : IsReached x quiet way rooms i reach wide) where
+    -- ---- where he takes
+    takes_to : (e : ℕ) (k : Kind) (q n : ℕ) (rest : List Leg) → e < 17 → q < 64 → room e < 255 → ComesTaking (facts_of x) x.ground.color quiet (kind_at x.men i) (counted x.ground.color way square) k q n → count_at (get_or aims e []) k q ≤ weight rest → n + weight rest ≤ room e → TakesTo reach aims (get_or rooms i []) e q
+    takes_to e k q n rest le lq some comes aim fits =
+        let wide_enough : room e ≤ wide = far.wider e le some in
+        let taken : count_at reach.takes k q ≤ n = far.reached.least_taking k q n lq comes (omega arith) in
+        (some, (number_of_kind k, number_low k, ((far.reached.taken k q lq).1 (omega arith), add_le (count_at reach.takes k q) (count_at (get_or aims e []) k q) n (weight rest) (room e) taken aim fits)))
+
+    takes_by : (o : Fate) (ls : List Leg) (e q : ℕ) → ((u : ℕ) → o ≡ Falls u → x.goals.count < x.men.count) → q < 64 → e < 17 → room e < 255 → weight ls ≤ room e → InEnd x.goals e o → MeetsAt d x way i ls o → HasTake (facts_of x) x.ground.color q ls → TakesTo reach aims (get_or rooms i []) e q
+    takes_by (Arrives t) ls e q more lq le some fits end (j, low, st, path) take =
+        let w : InTwo (facts_of x) x.ground.color quiet (kind_at x.men i) (counted x.ground.color way square) (kind_at x.goals e) (square_at x.goals e) q (weight ls) = path_in_two (facts_of x) x.ground.color quiet q ls (kind_at x.men i) (counted x.ground.color way square) (kind_at x.goals e) (square_at x.goals e) (to_goal e t j ls (kind_at x.men i) (counted x.ground.color way square) end.0 end.1 st path) take in
+        let sum : w.1 + weight w.2 ≡ weight ls = w.5 in
+        let small : room e ≤ most = asked.roomed.small i e asked.low le some in
+        let aim : count_at (get_or aims e []) w.0 q ≤ weight w.2 = asked.aimed.least e w.0 q w.2 end.0 lq w.4 (omega arith) in
+        takes_to e w.0 q w.1 w.2 le lq some w.3 aim (omega arith)
+    takes_by (Falls u) ls e q more lq le some fits end (ne, low, lands, inl (j, path)) take =
+        let w : InTwo (facts_of x) x.ground.color quiet (kind_at x.men i) (counted x.ground.color way square) j u q (weight ls) = path_in_two (facts_of x) x.ground.color quiet q ls (kind_at x.men i) (counted x.ground.color way square) j u path take in
+        let sum : w.1 + weight w.2 ≡ weight ls = w.5 in
+        let small : room e ≤ most = asked.roomed.small i e asked.low le some in
+        let aim : count_at (get_or aims 16 []) w.0 q ≤ weight w.2 = asked.aimed.least_fall w.0 q j u w.2 lq low (more u refl) lands w.4 (omega arith) in
+        takes_to e w.0 q w.1 w.2 le lq some w.3 (subst (λ (n : ℕ). count_at (get_or aims n []) w.0 q ≤ weight w.2) (sym end) aim) (omega arith)
+    takes_by (Falls u) ls e q more lq le some fits end (ne, low, lands, inr (has_passed, none)) take =
+        absurd (let z : false ≡ true = subst (λ (y : List Leg). HasTake (facts_of x) x.ground.color q y) none take in cc)
+
+    pub lands_found : (q : ℕ) → q < 64 → LandsOf d x quiet way most i q → TakesToSome reach aims (get_or rooms i []) q
+    lands_found q lq (g, paid, take) =
+        let w : (e : ℕ) × (e < 17) × InEnd x.goals e (g.fate square) = end_of (g.fate square) (g.path square) (meets_at g) in
+        let r : (room w.0 < 255) × (weight (g.path square) ≤ room w.0) = asked.roomed.least i w.0 g asked.low w.1 paid w.2 in
+        (w.0, w.1, takes_by (g.fate square) (g.path square) w.0 q (more_men g) lq w.1 r.0 r.1 w.2 (meets_at g) take)
+
+    lands_by : (o : Fate) (ls : List Leg) (e q : ℕ) (k : Kind) → q < 64 → e < 17 → room e < 255 → InEnd x.goals e o → MeetsAt d x way i ls o → count_at reach.takes k q + count_at (get_or aims e []) k q ≤ room e → LandsOf d x quiet way most i q
+    lands_by (Arrives t) ls e q k lq le some end (j, low, st, path) fits =
+        let a : (n : ℕ) × ComesTaking (facts_of x) x.ground.color quiet (kind_at x.men i) (counted x.ground.color way square) k q n × (n ≤ count_at reach.takes k q) = far.reached.takes k q lq (omega arith) in
+        let b : (ms : List Leg) × IsPath (facts_of x) x.ground.color k q ms (kind_at x.goals e) (square_at x.goals e) × (weight ms ≤ count_at (get_or aims e []) k q) = asked.aimed.comes e k q end.0 lq (omega arith) in
+        let w : InOne (facts_of x) x.ground.color quiet (kind_at x.men i) (counted x.ground.color way square) (kind_at x.goals e) (square_at x.goals e) q (a.0 + weight b.0) = path_in_one (facts_of x) x.ground.color quiet q (kind_at x.men i) (counted x.ground.color way square) k a.0 b.0 (kind_at x.goals e) (square_at x.goals e) a.1 b.1 in
+        let sum : weight w.0 ≡ a.0 + weight b.0 = w.3 in
+        let n_low : a.0 ≤ count_at reach.takes k q = a.2 in
+        let m_low : weight b.0 ≤ count_at (get_or aims e []) k q = b.2 in
+        let p : (g : JourneysOf d x way) × IsPaidBy d x quiet way most g × (g.fate square ≡ Arrives (square_at x.goals e)) × (g.path square ≡ w.0) = with_path e (Arrives (square_at x.goals e)) w.0 le (end.0, refl) (kind_at x.goals e, asked.side.goals.listing.low e end.0, asked.side.goals.kinds e end.0, w.1) some (omega arith) in
+        (p.0, p.1, subst (λ (y : List Leg). HasTake (facts_of x) x.ground.color q y) (sym p.3) w.2)
+    lands_by (Falls u) ls e q k lq le some end (ne, low, lands, how) fits =
+        let fits_last : count_at reach.takes k q + count_at (get_or aims 16 []) k q ≤ room e = subst (λ (n : ℕ). count_at reach.takes k q + count_at (get_or aims n []) k q ≤ room e) end fits in
+        let a : (n : ℕ) × ComesTaking (facts_of x) x.ground.color quiet (kind_at x.men i) (counted x.ground.color way square) k q n × (n ≤ count_at reach.takes k q) = far.reached.takes k q lq (omega arith) in
+        let b : (j : Kind) × (t : ℕ) × (ms : List Leg) × (t < 64) × ((facts_of x).lands (other x.ground.color) t ≡ true) × IsPath (facts_of x) x.ground.color k q ms j t × (weight ms ≤ count_at (get_or aims 16 []) k q) = asked.aimed.falls k q lq (omega arith) in
+        let w : InOne (facts_of x) x.ground.color quiet (kind_at x.men i) (counted x.ground.color way square) b.0 b.1 q (a.0 + weight b.2) = path_in_one (facts_of x) x.ground.color quiet q (kind_at x.men i) (counted x.ground.color way square) k a.0 b.2 b.0 b.1 a.1 b.5 in
+        let sum : weight w.0 ≡ a.0 + weight b.2 = w.3 in
+        let n_low : a.0 ≤ count_at reach.takes k q = a.2 in
+        let m_low : weight b.2 ≤ count_at (get_or aims 16 []) k q = b.6 in
+        let p : (g : JourneysOf d x way) × IsPaidBy d x quiet way most g × (g.fate square ≡ Falls b.1) × (g.path square ≡ w.0) = with_path e (Falls b.1) w.0 le end (ne, b.3, b.4, inl (b.0, w.1)) some (omega arith) in
+        (p.0, p.1, subst (λ (y : List Leg). HasTake (facts_of x) x.ground.color q y) (sym p.3) w.2)
+
+    pub lands_back : (q : ℕ) → q < 64 → TakesToSome reach aims (get_or rooms i []) q → LandsOf d x quiet way most i q
+    lands_back q lq (e, le, (some, (k, lk, (on, fits)))) =
+        let j : (j : Kind) × (number_of_kind j ≡ k) = kind_with k lk in
+        let s : (o : Fate) × (ls : List Leg) × InEnd x.goals e o × MeetsAt d x way i ls o × (weight ls ≤ room e) = asked.roomed.some i e asked.low le some in
+        lands_by s.0 s.1 e q j.0 lq le some s.2 s.3 (subst (λ (n : ℕ). get_or reach.takes (n * 64 + q) 0 + get_or (get_or aims e []) (n * 64 + q) 0 ≤ room e) (sym j.1) fits)
+
+    -- ---- where he is captured
+    pub falls_found : (q : ℕ) → q < 64 → FallsOf d x quiet way most i q → FallsBy x square reach (room 16) q
+    falls_found q lq (g, paid, e) =
+        let r : (room 16 < 255) × (weight (g.path square) ≤ room 16) = asked.roomed.least i 16 g asked.low (omega arith) paid (subst (λ (o : Fate). InEnd x.goals 16 o) (sym e) refl) in
+        (r.0, told (g.path square) r.0 r.1 (subst (λ (o : Fate). MeetsAt d x way i (g.path square) o) e (meets_at g)))
+      where
+        told : (ls : List Leg) → room 16 < 255 → weight ls ≤ room 16 → MeetsAt d x way i ls (Falls q) → StandsBy reach (landing x.ground.facts (other x.ground.color)) (room 16) q ⊎ PassedBy x square q
+        told ls some fits (ne, low, lands, inl (j, path)) =
+            let wide_enough : room 16 ≤ wide = far.wider 16 (omega arith) some in
+            let stands : count_at reach.stands j q ≤ weight ls = far.reached.least j q ls lq path (omega arith) in
+            inl (number_of_kind j, number_low j, (((far.reached.stood j q lq).1 (omega arith), lands), omega arith))
+        told ls some fits (ne, low, lands, inr (has_passed, none)) = inr (has_passed, low, lands)
+
+    pub falls_back : (q : ℕ) → q < 64 → FallsBy x square reach (room 16) q → FallsOf d x quiet way most i q
+    falls_back q lq (some, inl (k, lk, ((on, lands), fits))) =
+        let j : (j : Kind) × (number_of_kind j ≡ k) = kind_with k lk in
+        let within : count_at reach.stands j.0 q ≤ room 16 = subst (λ (n : ℕ). get_or reach.stands (n * 64 + q) 0 ≤ room 16) (sym j.1) fits in
+        let s : (ls : List Leg) × IsPath (facts_of x) x.ground.color (kind_at x.men i) (counted x.ground.color way square) ls j.0 q × (weight ls ≤ count_at reach.stands j.0 q) = far.reached.stands j.0 q lq (omega arith) in
+        let less : weight s.0 ≤ count_at reach.stands j.0 q = s.2 in
+        let p : (g : JourneysOf d x way) × IsPaidBy d x quiet way most g × (g.fate square ≡ Falls q) × (g.path square ≡ s.0) = with_path 16 (Falls q) s.0 (omega arith) refl (no_king some, lq, lands, inl (j.0, s.1)) some (omega arith) in
+        (p.0, p.1, p.2)
+    falls_back q lq (some, inr (has_passed, low, lands)) =
+        let p : (g : JourneysOf d x way) × IsPaidBy d x quiet way most g × (g.fate square ≡ Falls q) × (g.path square ≡ []) = with_path 16 (Falls q) [] (omega arith) refl (no_king some, lq, lands, inr (has_passed, refl)) some (omega arith) in
+        (p.0, p.1, p.2)
 
   -- ---- where he changes
   abbrev start : ℕ

@@ -98,6 +98,19 @@ join_none P old n all off h q l = (
   ],
 )
 
+-- those with P for n are all there
+pub join_full : (P : ℕ → ℕ → Type 0) (old n all : ℕ) → ((q : ℕ) → q < 64 → P n q → has all q ≡ true) → IsJoined P old n all → IsJoined P old (n + 1) all
+join_full P old n all full h q l = (
+  λ t. elim ((h q l).0 t) [ inl b ↦ inl b | inr w ↦ inr (w.0, (let z : w.0 < n = w.1 in omega arith), w.2) ],
+  λ t. elim t [
+    | inl b ↦ (h q l).1 (inl b)
+    | inr w ↦ elim (cases_lt w.0 n) [
+      | inl less ↦ (h q l).1 (inr (w.0, less, w.2))
+      | inr over ↦ (let z : w.0 < n + 1 = w.1 in let e : w.0 ≡ n = omega arith in full q l (subst (λ (x : ℕ). P x q) e w.2))
+    ]
+  ],
+)
+
 -- a set was looked at but for what is in all already, and what was found is added
 pub found_more : (Q : ℕ → Type 0) (set all rest found more : ℕ) → ((q : ℕ) → q < 64 → has rest q ≡ (has set q && not (has all q))) → IsSetOf found (λ q. (has rest q ≡ true) × Q q) → ((q : ℕ) → has more q ≡ (has all q || has found q)) → IsSetOf more (λ q. (has all q ≡ true) ⊎ ((has set q ≡ true) × Q q))
 found_more Q set all rest found more is_rest is_found is_more q l = (

@@ -1,14 +1,16 @@
 //! What follows from the plans of a way by a measure: where captures may land, where men may be captured, and who may change.
-ghost use Rattle.std.specs.Prelude.{◌≡◌, ℕ, ◌<◌, ◌≤◌, ◌↔◌, ◌⊎◌, IsTrue, true, [], cond, ◌&&◌, get_or, ◌≢◌, ◌+◌, ◌*◌};
+ghost use Rattle.std.specs.Prelude.{◌≡◌, ℕ, ◌<◌, ◌≤◌, ◌↔◌, ◌⊎◌, IsTrue, true, false, [], cond, ◌&&◌, get_or, ◌≢◌, ◌+◌, ◌*◌};
 ghost use Rattle.pg_board.specs.Bits.{has};
+ghost use Rattle.pg_board.specs.Men.{other};
 ghost use Rattle.pg_board.specs.declared.man.Kind.TheVariants.{Pawn};
 ghost use Rattle.pg_board.specs.Placement.{Placement};
 ghost use Rattle.pg_board.specs.SquareSets.{IsSetOf};
 ghost use Rattle.pg_travel.specs.Origins.{charge as charge_of};
+ghost use Rattle.pg_journeys.specs.Known.{landing};
 ghost use Rattle.pg_journeys.specs.inner.Grounds.{IsGround};
 ghost use Rattle.pg_journeys.specs.inner.Sides.{IsSide, AreAims};
 ghost use Rattle.pg_journeys.specs.inner.Deeds.{AreDeeds};
-ghost use Rattle.pg_journeys.specs.inner.Narrowed.{TakesOn, TakesBy, TakesToSome, StandsBy, FallsBy, ComesBack, ChangesBy, walker_of};
+ghost use Rattle.pg_journeys.specs.inner.Narrowed.{TakesOn, TakesBy, TakesToSome, StandsBy, FallsBy, ComesBack, ChangesBy, IsFull, walker_of};
 
 use crate::distances::{Counts, Reach, reach_of};
 use crate::plans::{Aims, Side, counted, passed_square};
@@ -235,6 +237,17 @@ fn man_of(side: &Side, is_quiet: bool, way: Option<Wing>, i: usize) -> Walker
     }
 }
 
+// Whether a man may capture, or be captured within a room, on a square that was not found yet. Where not, his paths tell nothing new.
+fn may_find(side: &Side, room: u8, lands: SquareSet, falls: SquareSet) -> bool
+    ensures lands { result ≡ false → IsFull (landing side.now.ground.facts side.now.ground.color) lands }
+    ensures falls { result ≡ false → room < 255 →
+        IsFull (landing side.now.ground.facts (other side.now.ground.color)) falls }
+{
+    let new_lands = side.ground.lands() - lands;
+    let new_falls = side.ground.theirs() - falls;
+    !new_lands.is_empty() || (room < 255 && !new_falls.is_empty())
+}
+
 // What the plans of a way have by a measure.
 pub(crate) fn deeds_of(
     side: &Side,
@@ -255,11 +268,13 @@ pub(crate) fn deeds_of(
     let rooms: Rooms = rooms_of(side, aims, way, most);
     for i in 0..side.men.count {
         let man = man_of(side, is_quiet, way, i);
-        let wide = widest(&rooms[i]);
-        let reach = reach_of(&side.ground, is_quiet, man.kind, man.from, wide);
-        lands = lands_of(&reach, aims, &rooms[i], lands);
-        falls = falls_of(side, man.square, &reach, rooms[i][16], falls);
         ends[i] = ends_of(side, &man, aims, &rooms[i]);
+        if may_find(side, rooms[i][16], lands, falls) {
+            let wide = widest(&rooms[i]);
+            let reach = reach_of(&side.ground, is_quiet, man.kind, man.from, wide);
+            lands = lands_of(&reach, aims, &rooms[i], lands);
+            falls = falls_of(side, man.square, &reach, rooms[i][16], falls);
+        }
     }
     Deeds { lands, falls, ends }
 }

@@ -68,3 +68,7 @@ ComesBack x m aim room =
 abbrev pub ChangesBy : Side → Walker → ℕ → List ℕ → ℕ → Type 0
 ChangesBy x m e aim room =
     (e ≡ 16) ⊎ ((square_at x.goals e ≢ m.square) ⊎ ((kind_at x.goals e ≢ m.kind) ⊎ ((m.kind ≢ Pawn) × ComesBack x m aim room)))
+
+-- each square of the one set is in the other
+abbrev pub IsFull : ℕ → ℕ → Type 0
+IsFull set all = (q : ℕ) → q < 64 → has set q ≡ true → has all q ≡ true
