@@ -10,15 +10,15 @@ use Rattle.pg_journeys.specs.Facts.{Facts}
 use Rattle.pg_journeys.specs.Journeys.{Leg, IsLeg, IsPath, may_take}
 use Rattle.pg_journeys.specs.lemmas.DecidingPaths.{weigh}
 use Rattle.pg_journeys.specs.lemmas.Turns.{leg}
-use Rattle.pg_journeys.specs.inner.Grounds.{Pushes, Captures}
+use Rattle.pg_journeys.specs.inner.Grounds.{LedTo, Pushes, Captures}
 use Rattle.pg_journeys.specs.inner.Counts.{of_kind, count_at}
 use Rattle.pg_journeys.specs.inner.Counting.{counts, ComesTaking, IsReach}
-use Rattle.pg_journeys.specs.inner.Fronts.{OnSet, PawnsOn, IsMeeting, IsNoted, is_met, HasAdvanced, NoneDue}
-use Rattle.pg_journeys.specs.inner.Levels.{IsOpen, IsAheadLevel, IsAheadStage, IsWhole, AheadStart, AheadStep, AheadWithin}
-use Rattle.pg_journeys.specs.inner.Reaches.{IsTaking, TakeStep, IsStood, AreTaken}
+use Rattle.pg_journeys.specs.inner.Fronts.{OnSet, PawnsOn, IsMeeting, AreNoted, IsJoined, is_met, HasAdvanced, NoneDue}
+use Rattle.pg_journeys.specs.inner.Levels.{IsOpen, IsAheadLevel, IsAheadStage, IsWhole, AheadStart, AheadStep, AheadWithin, FromSome}
+use Rattle.pg_journeys.specs.inner.Reaches.{IsTaking, TakeStep, TakesOf, AreTaken}
 use Rattle.pg_journeys.specs.declared.distances.Front.{Front}
 use Rattle.pg_journeys.specs.declared.distances.Reach.{Reach}
-use Rattle.pg_journeys.proofs.FrontLemmas.{on_or_off, not_both, and_first, and_second, and_both, not_true, not_false, kind_or, moved, meeting_as, meeting_then}
+use Rattle.pg_journeys.proofs.FrontLemmas.{on_or_off, not_both, and_first, and_second, and_both, not_true, not_false, kind_or, moved, meeting_as, meeting_then, joined_old, joined_new, joined_from}
 use Rattle.pg_journeys.proofs.LevelLemmas.{stage_first, stage_open, stage_level, level_end, whole_idle, whole_end}
 use Rattle.pg_journeys.proofs.TakingLemmas.{taking_as}
 use Rattle.pg_journeys.proofs.StepLemmas.{stays_kind, leg_into, light_step, piece_takes, push_takes_not, capture_takes, quiet_counts, taking_counts, taking_flips, files_or}
@@ -31,68 +31,73 @@ module _ (f : Facts) (c : Color) (quiet : Bool) where
   capture_step : (s t : ℕ) (j : Kind) (w : ℕ) → Captures f c s t → Becomes c Pawn t j → w ≡ cond (not quiet) 1 0 → AheadStep f c quiet Pawn s j t w
   capture_step s t j w (i, (is, ne)) becomes count = (leg_into f c Pawn i j s t becomes is, count ∙ taking_flips f c quiet (leg Pawn s j t) (capture_takes f c j s t ne))
 
-  pub pawns_ahead : (k : Kind) (s pushed captured : ℕ) (old mid new : Front) → k ≡ Pawn → IsSetOf pushed (Pushes f c s) → IsSetOf captured (Captures f c s) →
-      IsMeeting (PawnsOn c pushed true) old mid → IsMeeting (PawnsOn c captured (not quiet)) mid new → IsMeeting (AheadStep f c quiet k s) old new
-  pawns_ahead k s pushed captured old mid new is push capture m n = subst (λ (i : Kind). IsMeeting (AheadStep f c quiet i s) old new) (sym is)
-      (meeting_as (λ j t w. PawnsOn c pushed true j t w ⊎ PawnsOn c captured (not quiet) j t w) (AheadStep f c quiet Pawn s) old new
+  pub pawns_ahead : (k : Kind) (set pushed captured : ℕ) (old mid new : Front) → k ≡ Pawn → IsSetOf pushed (LedTo (Pushes f c) set) → IsSetOf captured (LedTo (Captures f c) set) →
+      IsMeeting (PawnsOn c pushed true) old mid → IsMeeting (PawnsOn c captured (not quiet)) mid new → IsMeeting (FromSome (AheadStep f c quiet k) set) old new
+  pawns_ahead k set pushed captured old mid new is push capture m n = subst (λ (i : Kind). IsMeeting (FromSome (AheadStep f c quiet i) set) old new) (sym is)
+      (meeting_as (λ j t w. PawnsOn c pushed true j t w ⊎ PawnsOn c captured (not quiet) j t w) (FromSome (AheadStep f c quiet Pawn) set) old new
       (λ j t w l h. elim h [
-        | inl (on, becomes, count) ↦ push_step s t j w true refl ((push t l).0 on) becomes count
-        | inr (on, becomes, count) ↦ capture_step s t j w ((capture t l).0 on) becomes count
+        | inl (on, becomes, count) ↦ (let p : LedTo (Pushes f c) set t = (push t l).0 on in (p.0, p.1, p.2, push_step p.0 t j w true refl p.3 becomes count))
+        | inr (on, becomes, count) ↦ (let p : LedTo (Captures f c) set t = (capture t l).0 on in (p.0, p.1, p.2, capture_step p.0 t j w p.3 becomes count))
       ])
-      (λ j t w l (step, count). elim (files_or s t) [
-        | inl e ↦ inl ((push t l).1 (j, (step, e)), step.free.3, count ∙ sym (quiet_counts f c quiet (leg Pawn s j t) (push_takes_not f c j s t e)))
-        | inr e ↦ inr ((capture t l).1 (j, (step, e)), step.free.3, count ∙ sym (taking_flips f c quiet (leg Pawn s j t) (capture_takes f c j s t e)))
+      (λ j t w l (s, ls, there, (step, count)). elim (files_or s t) [
+        | inl e ↦ inl ((push t l).1 (s, ls, there, (j, (step, e))), step.free.3, count ∙ sym (quiet_counts f c quiet (leg Pawn s j t) (push_takes_not f c j s t e)))
+        | inr e ↦ inr ((capture t l).1 (s, ls, there, (j, (step, e))), step.free.3, count ∙ sym (taking_flips f c quiet (leg Pawn s j t) (capture_takes f c j s t e)))
       ])
       (meeting_then (PawnsOn c pushed true) (PawnsOn c captured (not quiet)) old mid new m n))
 
-  module _ (k : Kind) (s steps lands captures : ℕ) (ne : k ≢ Pawn) (is : IsSetOf steps (λ t. IsLeg f c (leg k s k t))) (land : (t : ℕ) → f.lands c t ≡ has lands t) (both : (q : ℕ) → has captures q ≡ (has steps q && has lands q)) where
-    may : (j : Kind) (t : ℕ) → may_take f c (leg k s j t) ≡ has lands t
-    may j t = piece_takes f c k j s t ne ∙ land t
+  module _ (k : Kind) (set steps lands captures : ℕ) (ne : k ≢ Pawn) (is : IsSetOf steps (LedTo (λ s t. IsLeg f c (leg k s k t)) set)) (land : (t : ℕ) → f.lands c t ≡ has lands t) (both : (q : ℕ) → has captures q ≡ (has steps q && has lands q)) where
+    may : (s : ℕ) (j : Kind) (t : ℕ) → may_take f c (leg k s j t) ≡ has lands t
+    may s j t = piece_takes f c k j s t ne ∙ land t
 
     captured : (t : ℕ) → has captures t ≡ true → (has steps t ≡ true) × (has lands t ≡ true)
     captured t h = (and_first (has steps t) (has lands t) (sym (both t) ∙ h), and_second (has steps t) (has lands t) (sym (both t) ∙ h))
 
     pub pieces_ahead : (rest : ℕ) (old mid new : Front) → ((q : ℕ) → q < 64 → has rest q ≡ (has steps q && not (has captures q))) →
-        IsMeeting (OnSet k captures (not quiet)) old mid → IsMeeting (OnSet k rest true) mid new → IsMeeting (AheadStep f c quiet k s) old new
+        IsMeeting (OnSet k captures (not quiet)) old mid → IsMeeting (OnSet k rest true) mid new → IsMeeting (FromSome (AheadStep f c quiet k) set) old new
     pieces_ahead rest old mid new other m n =
-        meeting_as (λ j t w. OnSet k captures (not quiet) j t w ⊎ OnSet k rest true j t w) (AheadStep f c quiet k s) old new
+        meeting_as (λ j t w. OnSet k captures (not quiet) j t w ⊎ OnSet k rest true j t w) (FromSome (AheadStep f c quiet k) set) old new
         (λ j t w l h. elim h [
           | inl (e, on, count) ↦
               (let parts = captured t on in
-              subst (λ (i : Kind). AheadStep f c quiet k s i t w) (sym e) ((is t l).0 parts.0, count ∙ taking_flips f c quiet (leg k s k t) (may k t ∙ parts.1)))
+              let p : LedTo (λ s t. IsLeg f c (leg k s k t)) set t = (is t l).0 parts.0 in
+              (p.0, p.1, p.2, subst (λ (i : Kind). AheadStep f c quiet k p.0 i t w) (sym e) (p.3, count ∙ taking_flips f c quiet (leg k p.0 k t) (may p.0 k t ∙ parts.1))))
           | inr (e, on, count) ↦
               (let parts : has steps t && not (has captures t) ≡ true = sym (other t l) ∙ on in
               let stepped : has steps t ≡ true = and_first (has steps t) (not (has captures t)) parts in
               let free : has captures t ≡ false = not_true (has captures t) (and_second (has steps t) (not (has captures t)) parts) in
               let quietly : has lands t ≡ false = elim (on_or_off (has lands t)) [ inl u ↦ absurd (not_both (has captures t) (both t ∙ and_both (has steps t) (has lands t) stepped u) free) | inr u ↦ u ] in
-              subst (λ (i : Kind). AheadStep f c quiet k s i t w) (sym e) ((is t l).0 stepped, count ∙ quiet_counts f c quiet (leg k s k t) (may k t ∙ quietly)))
+              let p : LedTo (λ s t. IsLeg f c (leg k s k t)) set t = (is t l).0 stepped in
+              (p.0, p.1, p.2, subst (λ (i : Kind). AheadStep f c quiet k p.0 i t w) (sym e) (p.3, count ∙ quiet_counts f c quiet (leg k p.0 k t) (may p.0 k t ∙ quietly))))
         ])
-        (λ j t w l (step, count).
+        (λ j t w l (s, ls, there, (step, count)).
         (let same : j ≡ k = stays_kind c k j t ne step.free.3 in
-        let stepped : has steps t ≡ true = (is t l).1 (subst (λ (i : Kind). IsLeg f c (leg k s i t)) same step) in
+        let stepped : has steps t ≡ true = (is t l).1 (s, ls, there, subst (λ (i : Kind). IsLeg f c (leg k s i t)) same step) in
         elim (on_or_off (has lands t)) [
-          | inl u ↦ inl (same, both t ∙ and_both (has steps t) (has lands t) stepped u, count ∙ sym (taking_flips f c quiet (leg k s j t) (may j t ∙ u)))
+          | inl u ↦ inl (same, both t ∙ and_both (has steps t) (has lands t) stepped u, count ∙ sym (taking_flips f c quiet (leg k s j t) (may s j t ∙ u)))
           | inr u ↦
               (let free : has captures t ≡ false = elim (on_or_off (has captures t)) [ inl v ↦ absurd (not_both (has lands t) (captured t v).1 u) | inr v ↦ v ] in
-              inr (same, other t l ∙ and_both (has steps t) (not (has captures t)) stepped (not_false (has captures t) free), count ∙ sym (quiet_counts f c quiet (leg k s j t) (may j t ∙ u))))
+              inr (same, other t l ∙ and_both (has steps t) (not (has captures t)) stepped (not_false (has captures t) free), count ∙ sym (quiet_counts f c quiet (leg k s j t) (may s j t ∙ u))))
         ]))
         (meeting_then (OnSet k captures (not quiet)) (OnSet k rest true) old mid new m n)
 
-    pub pieces_take : (n : ℕ) (old new : Reach) → IsTaking (λ j t. (j ≡ k) × (has captures t ≡ true)) n old new → IsTaking (TakeStep f c k s) n old new
-    pieces_take n old new m = taking_as (λ j t. (j ≡ k) × (has captures t ≡ true)) (TakeStep f c k s) n old new
-        (λ j t l (e, on). (let parts = captured t on in subst (λ (i : Kind). TakeStep f c k s i t) (sym e) ((is t l).0 parts.0, may k t ∙ parts.1)))
-        (λ j t l (step, take).
+    pub pieces_take : (n : ℕ) (old new : Reach) → IsTaking (λ j t. (j ≡ k) × (has captures t ≡ true)) n old new → IsTaking (TakesOf (TakeStep f c k) set) n old new
+    pieces_take n old new m = taking_as (λ j t. (j ≡ k) × (has captures t ≡ true)) (TakesOf (TakeStep f c k) set) n old new
+        (λ j t l (e, on).
+        (let parts = captured t on in
+        let p : LedTo (λ s t. IsLeg f c (leg k s k t)) set t = (is t l).0 parts.0 in
+        (p.0, p.1, p.2, subst (λ (i : Kind). TakeStep f c k p.0 i t) (sym e) (p.3, may p.0 k t ∙ parts.1))))
+        (λ j t l (s, ls, there, (step, take)).
         (let same : j ≡ k = stays_kind c k j t ne step.free.3 in
-        (same, both t ∙ and_both (has steps t) (has lands t) ((is t l).1 (subst (λ (i : Kind). IsLeg f c (leg k s i t)) same step)) (sym (may j t) ∙ take))))
+        (same, both t ∙ and_both (has steps t) (has lands t) ((is t l).1 (s, ls, there, subst (λ (i : Kind). IsLeg f c (leg k s i t)) same step)) (sym (may s j t) ∙ take))))
         m
 
-  pub pawns_take_ahead : (k : Kind) (s captured n : ℕ) (old new : Reach) → k ≡ Pawn → IsSetOf captured (Captures f c s) → IsTaking (λ j t. (has captured t ≡ true) × Becomes c Pawn t j) n old new → IsTaking (TakeStep f c k s) n old new
-  pawns_take_ahead k s captured n old new is capture m = subst (λ (i : Kind). IsTaking (TakeStep f c i s) n old new) (sym is)
-      (taking_as (λ j t. (has captured t ≡ true) × Becomes c Pawn t j) (TakeStep f c Pawn s) n old new
-      (λ j t l (on, becomes). (let p = (capture t l).0 on in (leg_into f c Pawn p.0 j s t becomes p.1.0, capture_takes f c j s t p.1.1)))
-      (λ j t l (step, take). elim (files_or s t) [
+  pub pawns_take_ahead : (k : Kind) (set captured n : ℕ) (old new : Reach) → k ≡ Pawn → IsSetOf captured (LedTo (Captures f c) set) → IsTaking (λ j t. (has captured t ≡ true) × Becomes c Pawn t j) n old new → IsTaking (TakesOf (TakeStep f c k) set) n old new
+  pawns_take_ahead k set captured n old new is capture m = subst (λ (i : Kind). IsTaking (TakesOf (TakeStep f c i) set) n old new) (sym is)
+      (taking_as (λ j t. (has captured t ≡ true) × Becomes c Pawn t j) (TakesOf (TakeStep f c Pawn) set) n old new
+      (λ j t l (on, becomes). (let p : LedTo (Captures f c) set t = (capture t l).0 on in (p.0, p.1, p.2, (leg_into f c Pawn p.3.0 j p.0 t becomes p.3.1.0, capture_takes f c j p.0 t p.3.1.1))))
+      (λ j t l (s, ls, there, (step, take)). elim (files_or s t) [
         | inl e ↦ absurd (not_both (may_take f c (leg Pawn s j t)) take (push_takes_not f c j s t e))
-        | inr e ↦ ((capture t l).1 (j, (step, e)), step.free.3)
+        | inr e ↦ ((capture t l).1 (s, ls, there, (j, (step, e))), step.free.3)
       ])
       m)
 
@@ -114,8 +119,8 @@ module _ (f : Facts) (c : Color) (quiet : Bool) where
         let e : weigh (counts f c quiet) (ls ++ (leg i x j t ∷ [])) ≡ weigh (counts f c quiet) ls + counts f c quiet (leg i x j t) = weigh_snoc (counts f c quiet) ls (leg i x j t) in
         (ls ++ (leg i x j t ∷ []), path_snoc ls k s (leg i x j t) path is, omega arith)
 
-    -- ---- one turn: what is noted of a man, and of his steps that may be captures
-    module _ (n paid : ℕ) (i : Kind) (x : ℕ) (front : Front) (r0 r1 r2 : Reach) (low : n < 200) (price : paid ≡ n + cond quiet 0 1) (lx : x < 64) (level : IsAheadLevel f c quiet k s n r0.stands front) (here : AheadWithin f c quiet k s n i x) (wrote : IsNoted i x n r0.stands r1.stands) (stood : IsStood i x r0.stood r1.stood) (same_takes : r1.takes ≡ r0.takes) (same_taken : r1.taken ≡ r0.taken) (take : IsTaking (TakeStep f c i x) paid r1 r2) (old : AreTaken f c quiet k s n r0) where
+    -- ---- one turn: what is noted of men of a kind, and of their steps that may be captures
+    module _ (n paid : ℕ) (i : Kind) (set : ℕ) (front : Front) (r0 r1 r2 : Reach) (low : n < 200) (price : paid ≡ n + cond quiet 0 1) (level : IsAheadLevel f c quiet k s n r0.stands front) (here : (x : ℕ) → x < 64 → has set x ≡ true → AheadWithin f c quiet k s n i x) (wrote : AreNoted i set n r0.stands r1.stands) (stood : IsJoined i set r0.stood r1.stood) (same_takes : r1.takes ≡ r0.takes) (same_taken : r1.taken ≡ r0.taken) (take : IsTaking (TakesOf (TakeStep f c i) set) paid r1 r2) (old : AreTaken f c quiet k s n r0) where
       pay_low : (b : Bool) → ◌≤◌ (cond b 0 1) 1
       pay_low true = omega arith
       pay_low false = omega arith
@@ -139,7 +144,7 @@ module _ (f : Facts) (c : Color) (quiet : Bool) where
       stays : (j : Kind) (t : ℕ) → t < 64 → has (of_kind r0.taken j) t ≡ true → count_at r2.takes j t ≡ count_at r0.takes j t
       stays j t l h = take.kept j t l (taken_at j t ∙ h) ∙ takes_at j t
 
-      was_or_is : (j : Kind) (t : ℕ) → t < 64 → has (of_kind r2.taken j) t ≡ true → (has (of_kind r0.taken j) t ≡ true) ⊎ (TakeStep f c i x j t × (count_at r2.takes j t ≡ paid))
+      was_or_is : (j : Kind) (t : ℕ) → t < 64 → has (of_kind r2.taken j) t ≡ true → (has (of_kind r0.taken j) t ≡ true) ⊎ (TakesOf (TakeStep f c i) set j t × (count_at r2.takes j t ≡ paid))
       was_or_is j t l h = elim (take.taken j t l h) [ inl u ↦ inl (sym (taken_at j t) ∙ u) | inr u ↦ inr u ]
 
       taken_low : (j : Kind) (t : ℕ) → t < 64 → has (of_kind r2.taken j) t ≡ true → count_at r2.takes j t ≤ n + cond quiet 0 1
@@ -157,26 +162,31 @@ module _ (f : Facts) (c : Color) (quiet : Bool) where
             take.grown j t l (taken_at j t ∙ on))
       ]
 
-      comes : (j : Kind) (t : ℕ) → TakeStep f c i x j t → (m : ℕ) × ComesTaking f c quiet k s j t m × (m ≤ paid)
-      comes j t (is, may) =
+      comes : (j : Kind) (t : ℕ) → TakesOf (TakeStep f c i) set j t → (m : ℕ) × ComesTaking f c quiet k s j t m × (m ≤ paid)
+      comes j t (x, lx, on, (is, may)) =
+          let path : AheadWithin f c quiet k s n i x = here x lx on in
           let price_is : ◌≡◌ {A = ℕ} (cond quiet 0 1) (counts f c quiet (leg i x j t)) = taking_counts f c quiet (leg i x j t) may in
-          let small : weigh (counts f c quiet) here.0 ≤ n = here.2 in
-          (weigh (counts f c quiet) here.0 + counts f c quiet (leg i x j t), (here.0, leg i x j t, here.1, is, may, refl, refl, refl), omega (arith, price_is))
+          let small : weigh (counts f c quiet) path.0 ≤ n = path.2 in
+          (weigh (counts f c quiet) path.0 + counts f c quiet (leg i x j t), (path.0, leg i x j t, path.1, is, may, refl, refl, refl), omega (arith, price_is))
+
+      -- the number of one of them
+      numbered : (j : Kind) (t : ℕ) → t < 64 → j ≡ i → has set t ≡ true → count_at r1.stands j t ≡ n
+      numbered j t l e on = subst (λ (y : Kind). count_at r1.stands y t ≡ n) (sym e) (wrote.on t l on)
 
       pub taken_turn : AreTaken f c quiet k s n r2
       taken_turn = record {
         stood = λ j t l. (
-          λ h. elim ((stood j t l).0 (sym (stood_at j t) ∙ h)) [
+          λ h. elim (joined_from i set r0.stood r1.stood stood j t (sym (stood_at j t) ∙ h)) [
             | inl u ↦ elim (wrote.each j t l) [
-              | inl (_, _, g) ↦ omega (arith, g, stands_at j t)
+              | inl (e, on) ↦ omega (arith, numbered j t l e on, stands_at j t)
               | inr e ↦ (let o : count_at r0.stands j t < 255 = (old.stood j t l).0 u in omega (arith, e, stands_at j t))
             ]
-            | inr (e, g) ↦ (let o : count_at r1.stands j t ≡ n = moved (λ a b. count_at r1.stands a b ≡ n) j i t x e g wrote.here in omega (arith, stands_at j t))
+            | inr (e, on) ↦ omega (arith, numbered j t l e on, stands_at j t)
           ],
-          λ h. stood_at j t ∙ (stood j t l).1 (elim (wrote.each j t l) [
-            | inl (e, g, _) ↦ inr (e, g)
-            | inr e ↦ inl ((old.stood j t l).1 (omega (arith, e, stands_at j t)))
-          ]),
+          λ h. stood_at j t ∙ elim (wrote.each j t l) [
+            | inl (e, on) ↦ joined_new i set r0.stood r1.stood stood j t e on
+            | inr e ↦ joined_old i set r0.stood r1.stood stood j t ((old.stood j t l).1 (omega (arith, e, stands_at j t)))
+          ],
         );
         taken = λ j t l. (
           λ h. (let o : count_at r2.takes j t ≤ n + cond quiet 0 1 = taken_low j t l h in omega (arith, pay_low quiet)),
@@ -195,10 +205,10 @@ module _ (f : Facts) (c : Color) (quiet : Bool) where
               (p.0, p.1, omega arith))
         ];
         least = λ a b j t lb lt h step. elim (wrote.each a b lb) [
-          | inl (e, g, d) ↦
-              (let mine : TakeStep f c i x j t = moved (λ y z. TakeStep f c y z j t) i a x b (sym e) (sym g) step in
-              let o : count_at r2.takes j t ≤ n + cond quiet 0 1 = taken_low j t lt (take.all j t lt mine) in
-              omega (arith, d, stands_at a b))
+          | inl (e, on) ↦
+              (let mine : TakeStep f c i b j t = subst (λ (y : Kind). TakeStep f c y b j t) e step in
+              let o : count_at r2.takes j t ≤ n + cond quiet 0 1 = taken_low j t lt (take.all j t lt (b, lb, on, mine)) in
+              omega (arith, numbered a b lb e on, stands_at a b))
           | inr e ↦
               (let was : count_at r0.stands a b < 255 = omega (arith, e, stands_at a b) in
               let small : count_at r0.stands a b ≤ n = level.low a b lb was in

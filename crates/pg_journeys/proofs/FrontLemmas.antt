@@ -11,7 +11,7 @@ use Rattle.pg_board.specs.declared.man.Kind.TheVariants.{Pawn, Knight, Bishop, R
 use Rattle.pg_board.specs.Men.{number_of_kind, kind_eq}
 use Rattle.pg_board.specs.SquareSets.{IsFirstFrom, HasNoneFrom}
 use Rattle.pg_journeys.specs.inner.Counts.{of_kind, count_at}
-use Rattle.pg_journeys.specs.inner.Fronts.{unlooked, IsNoted, AreNoted, IsJoined, is_met, is_due, is_next, OnSet, IsMeeting, IsTakenDue, NoneDue, IsAdvanced, HasAdvanced, IsUnchanged}
+use Rattle.pg_journeys.specs.inner.Fronts.{unlooked, IsNoted, AreNoted, IsJoined, is_met, is_due, is_next, OnSet, IsMeeting, AreTakenDue, NoneDue, IsAdvanced, HasAdvanced, IsUnchanged}
 use Rattle.pg_journeys.specs.declared.distances.Front.{Front}
 
 -- ---- tests
@@ -121,9 +121,12 @@ pub record AreBeingNoted (k : Kind) (all left n : ℕ) (old new : List ℕ) : Ty
   pub within : (t : ℕ) → t < 64 → has left t ≡ true → has all t ≡ true
   pub on : (t : ℕ) → t < 64 → has all t ≡ true → (has left t ≡ true) ⊎ (count_at new k t ≡ n)
   pub each : (j : Kind) (t : ℕ) → t < 64 → ((j ≡ k) × (has all t ≡ true)) ⊎ (count_at new j t ≡ count_at old j t)
+  pub kept : (t : ℕ) → t < 64 → has left t ≡ true → count_at new k t ≡ count_at old k t
+  pub fewer : ((t : ℕ) → t < 64 → has all t ≡ true → 255 ≤ count_at old k t) → n < 255 →
+      (unlooked new ≤ unlooked old) × ((t : ℕ) → t < 64 → has all t ≡ true → (has left t ≡ true) ⊎ (unlooked new < unlooked old))
 
 pub noting_first : (k : Kind) (all n : ℕ) (xs : List ℕ) → AreBeingNoted k all all n xs xs
-noting_first k all n xs = record { within = λ t l h. h; on = λ t l h. inl h; each = λ j t l. inr refl }
+noting_first k all n xs = record { within = λ t l h. h; on = λ t l h. inl h; each = λ j t l. inr refl; kept = λ t l h. refl; fewer = λ ready small. (omega arith, λ t l h. inl h) }
 
 pub noting_next : (k : Kind) (all left rest s n : ℕ) (xs ys zs : List ℕ) → AreBeingNoted k all left n xs ys → IsFirstFrom left 0 s →
     ((q : ℕ) → q < 64 → has rest q ≡ cond (eqb q s) false (has left q)) → IsNoted k s n ys zs → AreBeingNoted k all rest n xs zs
@@ -143,12 +146,24 @@ noting_next k all left rest s n xs ys zs going first out wrote =
         | inl (e, f, _) ↦ inl (e, subst (λ (x : ℕ). has all x ≡ true) (sym f) (going.within s first.on_board first.member))
         | inr e ↦ elim (going.each j t l) [ inl u ↦ inl u | inr u ↦ inr (e ∙ u) ]
       ];
+      kept = λ t l h. elim (eqb_tells t s) [
+        | inl w ↦ absurd (not_both (has rest t) h (gone t l w.1))
+        | inr w ↦ elim (wrote.each k t l) [ inl (_, e, _) ↦ absurd (w.1 e) | inr e ↦ e ∙ going.kept t l (sym (kept t l w.1) ∙ h) ]
+      ];
+      fewer = λ ready small.
+          (let before = going.fewer ready small in
+          let was : count_at ys k s ≡ count_at xs k s = going.kept s first.on_board first.member in
+          let empty : 255 ≤ count_at xs k s = ready s first.on_board (going.within s first.on_board first.member) in
+          let less : unlooked zs < unlooked ys = wrote.fewer (omega arith) small in
+          let most : unlooked ys ≤ unlooked xs = before.0 in
+          (omega arith, λ t l h. inr (omega arith)));
     }
 
 pub noting_all : (k : Kind) (all left n : ℕ) (xs ys : List ℕ) → AreBeingNoted k all left n xs ys → HasNoneFrom left 0 → AreNoted k all n xs ys
 noting_all k all left n xs ys going none = record {
   on = λ t l h. elim (going.on t l h) [ inl u ↦ absurd (not_both (has left t) u (none t (omega arith) l)) | inr u ↦ u ];
   each = going.each;
+  fewer = λ s l h ready small. elim ((going.fewer ready small).1 s l h) [ inl u ↦ absurd (not_both (has left s) u (none s (omega arith) l)) | inr u ↦ u ];
 }
 
 -- ---- meetings
@@ -241,39 +256,29 @@ meets_now k i x y d b old new is same_next long at parted joined_met joined_due 
       new_next = λ j t l h. inl (sym (next j t) ∙ h);
     }
 
--- ---- a man who was due is taken
+-- ---- the men of a kind who were due are taken
 pub taken_due : (k : Kind) (i s d rest : ℕ) (old new : Front) → number_of_kind k ≡ i → length old.due ≡ 6 → IsFirstFrom (get_or old.due i d) 0 s →
-    ((q : ℕ) → q < 64 → has rest q ≡ cond (eqb q s) false (has (get_or old.due i d) q)) → new.due ≡ set old.due i rest → IsTakenDue k s old new
-taken_due k i s d rest old new number long first out wrote =
-    let x : ℕ = get_or old.due i d in
+    HasNoneFrom rest 0 → new.due ≡ set old.due i rest → AreTakenDue k (get_or old.due i d) old new
+taken_due k i s d rest old new number long first none wrote =
     let inside : i < length old.due = omega (arith, low_kind k) in
     let mine : of_kind new.due k ≡ rest = ap (λ (y : ℕ). get_or new.due y 0) number ∙ ap (λ (y : List ℕ). get_or y i 0) wrote ∙ get_or-set_same old.due i rest 0 inside in
     let before : of_kind old.due k ≡ get_or old.due i d = ap (λ (y : ℕ). get_or old.due y 0) number ∙ get_or_default old.due i 0 d inside in
     let others : (j : Kind) → number_of_kind j ≢ i → of_kind new.due j ≡ of_kind old.due j = λ j ne. ap (λ (y : List ℕ). get_or y (number_of_kind j) 0) wrote ∙ get_or-set_other old.due i (number_of_kind j) rest 0 ne in
-    let kept : (t : ℕ) → t < 64 → t ≢ s → has rest t ≡ has x t = λ t l ne. elim (eqb_tells t s) [ inl w ↦ absurd (ne w.1) | inr w ↦ out t l ∙ ap (λ (y : Bool). cond y false (has x t)) w.0 ] in
-    let gone : (t : ℕ) → t < 64 → t ≡ s → has rest t ≡ false = λ t l e. elim (eqb_tells t s) [ inl w ↦ out t l ∙ ap (λ (y : Bool). cond y false (has x t)) w.0 | inr w ↦ absurd (w.1 e) ] in
     record {
-      low = first.on_board;
-      was = ap (λ (y : ℕ). has y s) before ∙ first.member;
-      gone = ap (λ (y : ℕ). has y s) mine ∙ gone s first.on_board refl;
+      some = (s, first.on_board, first.member);
+      was = λ t l h. ap (λ (y : ℕ). has y t) before ∙ h;
+      gone = λ t l h. ap (λ (y : ℕ). has y t) mine ∙ none t (omega arith) l;
       rest = λ j t l h. elim (eqb_tells (number_of_kind j) i) [
         | inl w ↦
             (let same : j ≡ k = same_kind j k (w.1 ∙ sym number) in
             let on : has rest t ≡ true = ap (λ (y : ℕ). has y t) (sym mine) ∙ subst (λ (z : Kind). is_due new z t ≡ true) same h in
-            let was : is_due old k t ≡ true = elim (eqb_tells t s) [ inl v ↦ absurd (not_both (has rest t) on (gone t l v.1)) | inr v ↦ ap (λ (y : ℕ). has y t) before ∙ sym (kept t l v.1) ∙ on ] in
-            subst (λ (z : Kind). is_due old z t ≡ true) (sym same) was)
+            absurd (not_both (has rest t) on (none t (omega arith) l)))
         | inr w ↦ ap (λ (y : ℕ). has y t) (sym (others j w.1)) ∙ h
       ];
       each = λ j t l h. elim (eqb_tells (number_of_kind j) i) [
         | inl w ↦
             (let same : j ≡ k = same_kind j k (w.1 ∙ sym number) in
-            elim (eqb_tells t s) [
-              | inl v ↦ inl (same, v.1)
-              | inr v ↦
-                  (let on : has x t ≡ true = ap (λ (y : ℕ). has y t) (sym before) ∙ subst (λ (z : Kind). is_due old z t ≡ true) same h in
-                  let now : is_due new k t ≡ true = ap (λ (y : ℕ). has y t) mine ∙ kept t l v.1 ∙ on in
-                  inr (subst (λ (z : Kind). is_due new z t ≡ true) (sym same) now))
-            ])
+            inl (same, ap (λ (y : ℕ). has y t) (sym before) ∙ subst (λ (z : Kind). is_due old z t ≡ true) same h))
         | inr w ↦ inr (ap (λ (y : ℕ). has y t) (others j w.1) ∙ h)
       ];
     }

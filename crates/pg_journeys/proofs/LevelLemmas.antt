@@ -3,18 +3,19 @@ use Rattle.std.proofs.Common.{◌≡◌, ℕ, ◌+◌, ◌<◌, ◌≤◌, ◌�
 use Rattle.pg_board.specs.Bits.{has}
 use Rattle.pg_board.specs.declared.man.Kind.{Kind}
 use Rattle.pg_journeys.specs.inner.Counts.{of_kind, count_at}
-use Rattle.pg_journeys.specs.inner.Fronts.{IsNoted, is_met, is_due, is_next, IsMeeting, IsTakenDue, NoneDue, HasAdvanced}
-use Rattle.pg_journeys.specs.inner.Levels.{Men, Steps, Within, IsOpen, Labelled, IsLevel, IsStage, IsWhole}
+use Rattle.pg_journeys.specs.inner.Fronts.{AreNoted, is_met, is_due, is_next, IsMeeting, AreTakenDue, NoneDue, HasAdvanced}
+use Rattle.pg_journeys.specs.inner.Levels.{Men, Steps, Within, FromSome, IsOpen, Labelled, IsLevel, IsStage, IsWhole}
 use Rattle.pg_journeys.specs.declared.distances.Front.{Front}
-use Rattle.pg_journeys.proofs.FrontLemmas.{on_or_off, not_both, or_left, or_right, or_either, and_first, and_second, and_both, not_true, not_false, below_or, moved}
+use Rattle.pg_journeys.proofs.FrontLemmas.{on_or_off, not_both, or_left, or_right, or_either, and_first, and_second, and_both, not_true, not_false, below_or}
 
--- ---- one turn: a man who is due gets his number, and those whom his steps lead to are met
-module _ (S : Kind → ℕ → ℕ → Type 0) (n : ℕ) (k : Kind) (s : ℕ) (xs ys : List ℕ) (a b d : Front) (small : n < 255) (same : b.met ≡ a.met) (ready : IsOpen xs a) (taken : IsTakenDue k s a b) (wrote : IsNoted k s n xs ys) (meets : IsMeeting S b d) where
+-- ---- one turn: the men of a kind who are due get their number, and those whom their steps lead to are met
+module _ (S : Kind → ℕ → ℕ → Type 0) (n : ℕ) (k : Kind) (set : ℕ) (xs ys : List ℕ) (a b d : Front) (small : n < 255) (same : b.met ≡ a.met) (ready : IsOpen xs a) (taken : AreTakenDue k set a b) (wrote : AreNoted k set n xs ys) (meets : IsMeeting S b d) where
   as_met : (j : Kind) (t : ℕ) → is_met b j t ≡ is_met a j t
   as_met j t = ap (λ (y : List ℕ). has (of_kind y j) t) same
 
-  he_was_met : is_met a k s ≡ true
-  he_was_met = ready.due_met k s taken.low taken.was
+  -- one of them was met
+  was_met : (j : Kind) (t : ℕ) → t < 64 → j ≡ k → has set t ≡ true → is_met a j t ≡ true
+  was_met j t l e on = subst (λ (i : Kind). is_met a i t ≡ true) (sym e) (ready.due_met k t l (taken.was t l on))
 
   stays_met : (j : Kind) (t : ℕ) → t < 64 → is_met a j t ≡ true → is_met d j t ≡ true
   stays_met j t l h = meets.met j t l (as_met j t ∙ h)
@@ -22,7 +23,7 @@ module _ (S : Kind → ℕ → ℕ → Type 0) (n : ℕ) (k : Kind) (s : ℕ) (x
   pub open_turn : IsOpen ys d
   open_turn = record {
     looked = λ j t l h. elim (wrote.each j t l) [
-      | inl (e, f, _) ↦ stays_met j t l (moved (λ x y. is_met a x y ≡ true) j k t s e f he_was_met)
+      | inl (e, on) ↦ stays_met j t l (was_met j t l e on)
       | inr e ↦ stays_met j t l (ready.looked j t l (omega (arith, e)))
     ];
     due_met = λ j t l h. elim (meets.new_due j t l h) [
@@ -31,11 +32,11 @@ module _ (S : Kind → ℕ → ℕ → Type 0) (n : ℕ) (k : Kind) (s : ℕ) (x
     ];
     due_open = λ j t l h. elim (meets.new_due j t l h) [
       | inl u ↦ elim (wrote.each j t l) [
-        | inl (e, f, _) ↦ absurd (not_both (is_due b j t) u (moved (λ x y. is_due b x y ≡ false) j k t s e f taken.gone))
+        | inl (e, on) ↦ absurd (not_both (is_due b j t) u (subst (λ (i : Kind). is_due b i t ≡ false) (sym e) (taken.gone t l on)))
         | inr e ↦ omega (arith, e, ready.due_open j t l (taken.rest j t l u))
       ]
       | inr (u, v) ↦ elim (wrote.each j t l) [
-        | inl (e, f, _) ↦ absurd (not_both (is_met b j t) (as_met j t ∙ moved (λ x y. is_met a x y ≡ true) j k t s e f he_was_met) u)
+        | inl (e, on) ↦ absurd (not_both (is_met b j t) (as_met j t ∙ was_met j t l e on) u)
         | inr e ↦ elim (below_or (count_at xs j t)) [
           | inl w ↦ absurd (not_both (is_met b j t) (as_met j t ∙ ready.looked j t l w) u)
           | inr w ↦ omega (arith, e, w)
@@ -45,22 +46,26 @@ module _ (S : Kind → ℕ → ℕ → Type 0) (n : ℕ) (k : Kind) (s : ℕ) (x
   }
 
 module _ (start : Men) (step : Steps) (within : Within) where
-  module _ (n : ℕ) (k : Kind) (s : ℕ) (xs ys : List ℕ) (a b d : Front) (small : n < 255) (same : b.met ≡ a.met) (same_next : b.next ≡ a.next) (light : (j : Kind) (t w : ℕ) → step k s j t w → (w ≡ 0) ⊎ (w ≡ 1)) (go : (j : Kind) (t w : ℕ) → t < 64 → within n k s → step k s j t w → within (n + w) j t) (ready : IsOpen xs a) (taken : IsTakenDue k s a b) (wrote : IsNoted k s n xs ys) (meets : IsMeeting (step k s) b d) (level : IsLevel start step within n xs a) where
+  module _ (n : ℕ) (k : Kind) (set : ℕ) (xs ys : List ℕ) (a b d : Front) (small : n < 255) (same : b.met ≡ a.met) (same_next : b.next ≡ a.next) (light : (s : ℕ) (j : Kind) (t w : ℕ) → step k s j t w → (w ≡ 0) ⊎ (w ≡ 1)) (go : (s : ℕ) (j : Kind) (t w : ℕ) → within n k s → step k s j t w → within (n + w) j t) (ready : IsOpen xs a) (taken : AreTakenDue k set a b) (wrote : AreNoted k set n xs ys) (meets : IsMeeting (FromSome (step k) set) b d) (level : IsLevel start step within n xs a) where
     as_next : (j : Kind) (t : ℕ) → is_next b j t ≡ is_next a j t
     as_next j t = ap (λ (y : List ℕ). has (of_kind y j) t) same_next
 
     also_met : (j : Kind) (t : ℕ) → is_met b j t ≡ is_met a j t
     also_met j t = ap (λ (y : List ℕ). has (of_kind y j) t) same
 
-    he_within : within n k s
-    he_within = level.due k s taken.low taken.was
+    they_within : (s : ℕ) → s < 64 → has set s ≡ true → within n k s
+    they_within s l on = level.due k s l (taken.was s l on)
+
+    -- the number of one of them
+    numbered : (j : Kind) (t : ℕ) → t < 64 → j ≡ k → has set t ≡ true → count_at ys j t ≡ n
+    numbered j t l e on = subst (λ (i : Kind). count_at ys i t ≡ n) (sym e) (wrote.on t l on)
 
     -- whoever has a low number keeps it
     keeps : (j : Kind) (t m : ℕ) → t < 64 → n ≤ m ⊎ (count_at xs j t < 255) → count_at xs j t ≤ m → count_at ys j t ≤ m
     keeps j t m l why h = elim (wrote.each j t l) [
-      | inl (e, f, g) ↦ elim why [
-        | inl u ↦ omega (arith, g)
-        | inr u ↦ absurd (let o : 255 ≤ count_at xs j t = moved (λ x y. 255 ≤ count_at xs x y) j k t s e f (ready.due_open k s taken.low taken.was) in omega arith)
+      | inl (e, on) ↦ elim why [
+        | inl u ↦ omega (arith, numbered j t l e on)
+        | inr u ↦ absurd (let o : 255 ≤ count_at xs j t = subst (λ (i : Kind). 255 ≤ count_at xs i t) (sym e) (ready.due_open k t l (taken.was t l on)) in omega arith)
       ]
       | inr e ↦ omega (arith, e)
     ]
@@ -74,59 +79,59 @@ module _ (start : Men) (step : Steps) (within : Within) where
     relabel : (m : ℕ) (j : Kind) (t : ℕ) → t < 64 → Labelled n xs a m j t → Labelled n ys d m j t
     relabel m j t l (inl h) = inl (lasts j t m l h)
     relabel m j t l (inr (inl (u, v))) = elim (taken.each j t l u) [
-      | inl (e, f) ↦ inl (let g : count_at ys j t ≡ n = moved (λ x y. count_at ys x y ≡ n) j k t s e f wrote.here in omega arith)
+      | inl (e, on) ↦ inl (let g : count_at ys j t ≡ n = numbered j t l e on in omega arith)
       | inr e ↦ inr (inl (meets.due j t l e, v))
     ]
     relabel m j t l (inr (inr (u, v))) = inr (inr (meets.next j t l (as_next j t ∙ u), v))
 
     low_turn : (j : Kind) (t : ℕ) → t < 64 → count_at ys j t < 255 → count_at ys j t ≤ n
     low_turn j t l h = elim (wrote.each j t l) [
-      | inl (_, _, g) ↦ omega (arith, g)
+      | inl (e, on) ↦ omega (arith, numbered j t l e on)
       | inr e ↦ (let o : count_at xs j t ≤ n = level.low j t l (omega (arith, e)) in omega arith)
     ]
 
     met_turn : (j : Kind) (t : ℕ) → t < 64 → is_met d j t ≡ true → (count_at ys j t < 255) ⊎ (is_due d j t ≡ true)
     met_turn j t l h = elim (meets.new_met j t l h) [
       | inl u ↦ elim (level.met j t l (sym (also_met j t) ∙ u)) [
-        | inl v ↦ elim (wrote.each j t l) [ inl (_, _, g) ↦ inl (omega (arith, g)) | inr e ↦ inl (omega (arith, e)) ]
+        | inl v ↦ elim (wrote.each j t l) [ inl (e, on) ↦ inl (omega (arith, numbered j t l e on)) | inr e ↦ inl (omega (arith, e)) ]
         | inr v ↦ elim (taken.each j t l v) [
-          | inl (e, f) ↦ inl (let g : count_at ys j t ≡ n = moved (λ x y. count_at ys x y ≡ n) j k t s e f wrote.here in omega arith)
+          | inl (e, on) ↦ inl (omega (arith, numbered j t l e on))
           | inr e ↦ inr (meets.due j t l e)
         ]
       ]
       | inr u ↦ inr u
     ]
 
-    -- a step of the man himself
-    first_steps : (j : Kind) (t w : ℕ) → t < 64 → step k s j t w → Labelled n ys d (n + w) j t
-    first_steps j t w l h = elim (light j t w h) [
-      | inl e ↦ elim (met_turn j t l (meets.free j t l (subst (λ (x : ℕ). step k s j t x) e h))) [
+    -- a step of one of them
+    first_steps : (s : ℕ) (j : Kind) (t w : ℕ) → s < 64 → has set s ≡ true → t < 64 → step k s j t w → Labelled n ys d (n + w) j t
+    first_steps s j t w ls on l h = elim (light s j t w h) [
+      | inl e ↦ elim (met_turn j t l (meets.free j t l (s, ls, on, subst (λ (x : ℕ). step k s j t x) e h))) [
         | inl u ↦ inl (let o : count_at ys j t ≤ n = low_turn j t l u in omega arith)
         | inr u ↦ inr (inl (u, omega arith))
       ]
-      | inr e ↦ inr (inr (meets.counted j t l (subst (λ (x : ℕ). step k s j t x) e h), omega arith))
+      | inr e ↦ inr (inr (meets.counted j t l (s, ls, on, subst (λ (x : ℕ). step k s j t x) e h), omega arith))
     ]
 
     pub level_turn : IsLevel start step within n ys d
     level_turn = record {
       low = low_turn;
       known = λ j t l h. elim (wrote.each j t l) [
-        | inl (e, f, g) ↦ subst (λ (x : ℕ). within x j t) (sym g) (moved (λ x y. within n x y) j k t s e f he_within)
+        | inl (e, on) ↦ subst (λ (x : ℕ). within x j t) (sym (numbered j t l e on)) (subst (λ (i : Kind). within n i t) (sym e) (they_within t l on))
         | inr e ↦ subst (λ (x : ℕ). within x j t) (sym e) (level.known j t l (omega (arith, e)))
       ];
       due = λ j t l h. elim (meets.new_due j t l h) [
         | inl u ↦ level.due j t l (taken.rest j t l u)
-        | inr (u, v) ↦ subst (λ (x : ℕ). within x j t) (let z : n + 0 ≡ n = omega arith in z) (go j t 0 l he_within v)
+        | inr (u, (s, ls, on, v)) ↦ subst (λ (x : ℕ). within x j t) (let z : n + 0 ≡ n = omega arith in z) (go s j t 0 (they_within s ls on) v)
       ];
       next = λ j t l h. elim (meets.new_next j t l h) [
         | inl u ↦ level.next j t l (sym (as_next j t) ∙ u)
-        | inr u ↦ go j t 1 l he_within u
+        | inr (s, ls, on, v) ↦ go s j t 1 (they_within s ls on) v
       ];
       met = met_turn;
       stepped = λ i x j t w lx lt h is. elim (wrote.each i x lx) [
-        | inl (e, f, g) ↦
-            (let mine : step k s j t w = subst (λ (y : Kind). step y s j t w) e (subst (λ (y : ℕ). step i y j t w) f is) in
-            subst (λ (y : ℕ). Labelled n ys d (y + w) j t) (sym g) (first_steps j t w lt mine))
+        | inl (e, on) ↦
+            (let mine : step k x j t w = subst (λ (y : Kind). step y x j t w) e is in
+            subst (λ (y : ℕ). Labelled n ys d (y + w) j t) (sym (numbered i x lx e on)) (first_steps x j t w lx on lt mine))
         | inr e ↦ subst (λ (y : ℕ). Labelled n ys d (y + w) j t) (sym e) (relabel (count_at xs i x + w) j t lt (level.stepped i x j t w lx lt (omega (arith, e)) is))
       ];
       started = λ j t l is. relabel 0 j t l (level.started j t l is);

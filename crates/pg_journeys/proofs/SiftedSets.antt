@@ -4,6 +4,7 @@ use Rattle.std.proofs.lemmas.Bool.{or_left, or_right, or_cases, and_from, eq-eqb
 use Rattle.pg_board.specs.Bits.{has}
 use Rattle.pg_board.specs.SquareSets.{IsSetOf, HasNoneFrom, IsFirstFrom}
 use Rattle.pg_travel.proofs.TakenSets.{IsWithout, other_than}
+use Rattle.pg_journeys.specs.inner.Grounds.{LedTo}
 
 -- of a set, those left are still to be looked at, and those found are the ones with P among the others
 pub record IsSifted (P : ℕ → Type 0) (set left found : ℕ) : Type 0 where
@@ -58,6 +59,44 @@ sift_all P set left found none h q l = (
   h.good q l,
   λ t. elim (h.all q l t.0 t.1) [
     | inl a ↦ absurd (let off : has left q ≡ false = none q (omega arith) l in cc)
+    | inr a ↦ a
+  ],
+)
+
+-- ---- what the squares of a set lead to, gathered square by square: from those left nothing was gathered yet
+pub record IsGathered (P : ℕ → ℕ → Type 0) (set left found : ℕ) : Type 0 where
+  pub part : (q : ℕ) → q < 64 → has left q ≡ true → has set q ≡ true
+  pub good : (t : ℕ) → t < 64 → has found t ≡ true → LedTo P set t
+  pub all : (q t : ℕ) → q < 64 → t < 64 → has set q ≡ true → P q t → (has left q ≡ true) ⊎ (has found t ≡ true)
+
+pub gather_first : (P : ℕ → ℕ → Type 0) (set found : ℕ) → HasNoneFrom found 0 → IsGathered P set set found
+gather_first P set found none = record {
+  part = λ q l h. h;
+  good = λ t l h. absurd (let off : has found t ≡ false = none t (omega arith) l in cc);
+  all = λ q t lq lt h p. inl h;
+}
+
+pub gather_next : (P : ℕ → ℕ → Type 0) (set old new o found one more : ℕ) → IsFirstFrom old 0 o → IsWithout old new o → IsSetOf one (P o) → ((q : ℕ) → has more q ≡ (has found q || has one q)) → IsGathered P set old found → IsGathered P set new more
+gather_next P set old new o found one more first rest leads joined h = record {
+  part = λ q l t. h.part q l (was_left old new o q rest l t);
+  good = λ t l on. elim (or_cases (has found t) (has one t) (sym (joined t) ∙ on)) [
+    | inl a ↦ h.good t l a
+    | inr a ↦ (o, first.on_board, h.part o first.on_board first.member, (leads t l).0 a)
+  ];
+  all = λ q t lq lt on p. elim (h.all q t lq lt on p) [
+    | inl a ↦ elim (cases_eq q o) [
+      | inl e ↦ inr (joined t ∙ or_right (has found t) (has one t) ((leads t lt).1 (subst (λ (x : ℕ). P x t) e p)))
+      | inr ne ↦ inl (other_than old new o q rest lq ne ∙ a)
+    ]
+    | inr a ↦ inr (joined t ∙ or_left (has found t) (has one t) a)
+  ];
+}
+
+pub gather_all : (P : ℕ → ℕ → Type 0) (set left found : ℕ) → HasNoneFrom left 0 → IsGathered P set left found → IsSetOf found (LedTo P set)
+gather_all P set left found none h t l = (
+  h.good t l,
+  λ w. elim (h.all w.0 t w.1 l w.2 w.3) [
+    | inl a ↦ absurd (let off : has left w.0 ≡ false = none w.0 (omega arith) w.1 in cc)
     | inr a ↦ a
   ],
 )

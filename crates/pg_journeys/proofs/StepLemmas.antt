@@ -1,11 +1,13 @@
 -- Single steps under facts: turned round, to be another man, and what they count.
-use Rattle.std.proofs.Common.{◌≡◌, ◌≢◌, ℕ, ◌<◌, ◌⊎◌, inl, inr, Bool, true, false, not, ◌&&◌, cond, eqb, nat_eq, refl, sym, ap, arith, ◌∙◌, ◌↔◌, IsTrue}
+use Rattle.std.proofs.Common.{◌≡◌, ◌≢◌, ℕ, ◌<◌, ◌⊎◌, inl, inr, Bool, true, false, not, ◌&&◌, cond, nat_eq, refl, sym, ap, arith, ◌∙◌}
 use Rattle.std.proofs.lemmas.Bool.Decides.{eqb_tells}
 use Rattle.pg_board.specs.declared.man.Color.{Color}
 use Rattle.pg_board.specs.declared.man.Kind.{Kind}
 use Rattle.pg_board.specs.declared.man.Kind.TheVariants.{Pawn, Knight, Bishop, Rook, Queen, King}
 use Rattle.pg_board.specs.Men.{kind_eq}
+use Rattle.pg_board.specs.Bits.{has}
 use Rattle.pg_board.specs.Squares.{file, rank}
+use Rattle.pg_board.specs.SquareSets.{IsSetOf, HasNoneFrom}
 use Rattle.pg_position.specs.Geometry.{OnOneLine, InPattern}
 use Rattle.pg_position.specs.Squares.{last_rank}
 use Rattle.pg_position.proofs.ReachLemmas.{between_turn}
@@ -14,7 +16,7 @@ use Rattle.pg_journeys.specs.Facts.{Facts}
 use Rattle.pg_journeys.specs.Journeys.{Leg, IsLeg, may_take}
 use Rattle.pg_journeys.specs.lemmas.Turns.{leg}
 use Rattle.pg_journeys.specs.inner.Counting.{counts}
-use Rattle.pg_journeys.proofs.FrontLemmas.{kind_is, not_both, on_or_off}
+use Rattle.pg_journeys.proofs.FrontLemmas.{kind_is, not_both, on_or_off, and_first, and_second, and_both, not_true, not_false}
 
 -- ---- turned round
 line_turn : (r s : ℕ) → OnOneLine r s → OnOneLine s r
@@ -70,29 +72,38 @@ leg_into f c j i k r s b is = record {
 pub leg_low : (f : Facts) (c : Color) (l : Leg) → IsLeg f c l → (l.from < 64) × (l.to < 64)
 leg_low f c l is = (is.free.0, is.free.1)
 
--- whether a pawn becomes a man there, where it is on the last rank or not
-pub pawn_becomes : (c : Color) (k : Kind) (s x y : ℕ) → k ≡ Pawn → x ≡ rank s → y ≡ last_rank c → IsTrue (not (eqb x y)) ↔ Becomes c Pawn s k
-unfolding Becomes
-pawn_becomes c k s x y is ex ey = elim (eqb_tells x y) [
-  | inl w ↦
-      (let off : not (eqb x y) ≡ false = ap not w.0 in
-      (λ t. absurd (not_both (not (eqb x y)) t off), λ b. absurd (elim b [ inl (_, (n, _)) ↦ n is | inr (n, _) ↦ n (sym ex ∙ w.1 ∙ ey) ])))
-  | inr w ↦ (λ _. inr ((λ r. w.1 (ex ∙ r ∙ sym ey)), is), λ _. ap not w.0)
-]
+-- the squares of a set where a pawn becomes a man: off the last rank a pawn, and on it what is no pawn and no king
+module _ (c : Color) (k : Kind) (set last r found : ℕ) (is : r ≡ last_rank c) (row : IsSetOf last (λ s. rank s ≡ r)) where
+  pub pawns_become : k ≡ Pawn → ((q : ℕ) → q < 64 → has found q ≡ (has set q && not (has last q))) → IsSetOf found (λ s. (has set s ≡ true) × Becomes c Pawn s k)
+  unfolding Becomes
+  pawns_become e parted s l = (
+    λ h.
+        (let both : has set s && not (has last s) ≡ true = sym (parted s l) ∙ h in
+        (and_first (has set s) (not (has last s)) both, inr ((λ on. not_both (has last s) ((row s l).1 (on ∙ sym is)) (not_true (has last s) (and_second (has set s) (not (has last s)) both))), e))),
+    λ (on, b). parted s l ∙ and_both (has set s) (not (has last s)) on (not_false (has last s) (elim (on_or_off (has last s)) [
+      | inl u ↦ absurd (elim b [ inl (_, (n, _)) ↦ n e | inr (n, _) ↦ n ((row s l).0 u ∙ is) ])
+      | inr u ↦ u
+    ])),
+  )
 
-pub king_becomes : (c : Color) (k : Kind) (s : ℕ) → k ≡ King → IsTrue false ↔ Becomes c Pawn s k
-unfolding Becomes
-king_becomes c k s is = (λ t. absurd (not_both false t refl), λ b. absurd (elim b [ inl (_, (_, n)) ↦ n is | inr (_, e) ↦ apart_kinds (sym is ∙ e) ]))
-  where
-    apart_kinds : King ≡ Pawn → ⊥
-    apart_kinds e = cc
+  pub kings_become : k ≡ King → HasNoneFrom found 0 → IsSetOf found (λ s. (has set s ≡ true) × Becomes c Pawn s k)
+  unfolding Becomes
+  kings_become e none s l = (
+    λ h. absurd (not_both (has found s) h (none s (omega arith) l)),
+    λ (on, b). absurd (elim b [ inl (_, (_, n)) ↦ n e | inr (_, p) ↦ apart_kinds (sym e ∙ p) ]),
+  )
+    where
+      apart_kinds : King ≡ Pawn → ⊥
+      apart_kinds e = cc
 
-pub piece_becomes : (c : Color) (k : Kind) (s x y : ℕ) → k ≢ Pawn → k ≢ King → x ≡ rank s → y ≡ last_rank c → IsTrue (eqb x y) ↔ Becomes c Pawn s k
-unfolding Becomes
-piece_becomes c k s x y np nk ex ey = elim (eqb_tells x y) [
-  | inl w ↦ (λ _. inl (sym ex ∙ w.1 ∙ ey, (np, nk)), λ _. w.0)
-  | inr w ↦ (λ t. absurd (not_both (eqb x y) t w.0), λ b. absurd (elim b [ inl (r, _) ↦ w.1 (ex ∙ r ∙ sym ey) | inr (_, e) ↦ np e ]))
-]
+  pub pieces_become : k ≢ Pawn → k ≢ King → ((q : ℕ) → has found q ≡ (has set q && has last q)) → IsSetOf found (λ s. (has set s ≡ true) × Becomes c Pawn s k)
+  unfolding Becomes
+  pieces_become np nk parted s l = (
+    λ h.
+        (let both : has set s && has last s ≡ true = sym (parted s) ∙ h in
+        (and_first (has set s) (has last s) both, inl ((row s l).0 (and_second (has set s) (has last s) both) ∙ is, (np, nk)))),
+    λ (on, b). elim b [ inl (r, _) ↦ parted s ∙ and_both (has set s) (has last s) on ((row s l).1 (r ∙ sym is)) | inr (_, e) ↦ absurd (np e) ],
+  )
 
 -- ---- what a step counts
 pub light_step : (f : Facts) (c : Color) (quiet : Bool) (l : Leg) (w : ℕ) → w ≡ counts f c quiet l → (w ≡ 0) ⊎ (w ≡ 1)
@@ -121,6 +132,15 @@ piece_takes f c k i r s ne = ap (λ (x : Bool). cond x (not (nat_eq (file r) (fi
 
 pub piece_counts : (f : Facts) (c : Color) (quiet : Bool) (k i : Kind) (r s : ℕ) → k ≢ Pawn → ◌≡◌ {A = ℕ} (cond (not (quiet && f.lands c s)) 1 0) (counts f c quiet (leg k r i s))
 piece_counts f c quiet k i r s ne = turned (quiet && f.lands c s) ∙ ap (λ (x : Bool). cond (quiet && x) 0 1) (sym (piece_takes f c k i r s ne))
+
+-- a step to where captures may land, or not, counts so in quiet moves
+pub lands_count : (quiet b : Bool) → b ≡ true → ◌≡◌ {A = ℕ} (cond (not quiet) 1 0) (cond (not (quiet && b)) 1 0)
+lands_count true b e = ap (λ (x : Bool). cond (not x) 1 0) (sym e)
+lands_count false b e = refl
+
+pub other_count : (quiet b : Bool) → b ≡ false → ◌≡◌ {A = ℕ} 1 (cond (not (quiet && b)) 1 0)
+other_count true b e = ap (λ (x : Bool). cond (not x) 1 0) (sym e)
+other_count false b e = refl
 
 pub push_takes_not : (f : Facts) (c : Color) (i : Kind) (r s : ℕ) → file r ≡ file s → may_take f c (leg Pawn r i s) ≡ false
 push_takes_not f c i r s e = elim (eqb_tells (file r) (file s)) [ inl w ↦ ap not w.0 | inr w ↦ absurd (w.1 e) ]

@@ -10,11 +10,12 @@ ghost use Rattle.pg_journeys.specs.Known.{known};
 ghost use Rattle.pg_journeys.specs.inner.Grounds.{IsGround};
 ghost use Rattle.pg_journeys.specs.inner.Counts.{of_kind, count_at};
 ghost use Rattle.pg_journeys.specs.inner.Counting.{AreCountsTo, IsReach};
-ghost use Rattle.pg_journeys.specs.inner.Fronts.{IsNoted, AreNoted, IsJoined, OnSet, PawnsOn, IsMeeting, IsTakenDue};
+ghost use Rattle.pg_board.specs.SquareSets.{IsSetOf};
+ghost use Rattle.pg_journeys.specs.inner.Fronts.{IsNoted, AreNoted, IsJoined, OnSet, PawnsOn, IsMeeting, AreTakenDue};
 ghost use Rattle.pg_journeys.specs.inner.Fronts.{NoneDue, HasAdvanced, IsAdvanced, IsUnchanged, is_met, is_due};
-ghost use Rattle.pg_journeys.specs.inner.Levels.{IsOpen, IsBackLevel, IsBackStage, BackStep};
+ghost use Rattle.pg_journeys.specs.inner.Levels.{IsOpen, IsBackLevel, IsBackStage, BackStep, FromSome};
 ghost use Rattle.pg_journeys.specs.inner.Levels.{IsAheadLevel, IsAheadStage, AheadStep};
-ghost use Rattle.pg_journeys.specs.inner.Reaches.{IsTaking, TakeStep, IsStood, AreTaken};
+ghost use Rattle.pg_journeys.specs.inner.Reaches.{IsTaking, TakeStep, TakesOf, AreTaken};
 
 use crate::facts::rank_set;
 use crate::ground::Ground;
@@ -76,11 +77,11 @@ fn join(sets: &mut [SquareSet; 6], kind: Kind, set: SquareSet)
     sets[k] = sets[k] | set;
 }
 
-// A man of a kind on a square.
+// Men of a kind on squares.
 #[derive(Clone, Copy)]
 struct Standing {
     kind: Kind,
-    square: Square,
+    set: SquareSet,
 }
 
 // Men that were met, by kind: those met so far, those of them still to be looked at, and those that one count more meets.
@@ -146,20 +147,20 @@ impl Front {
         any
     }
 
-    // Takes one of the men who are due.
+    // Takes the men of one kind who are due.
     fn take_due(&mut self) -> Option<Standing>
-        ensures taken { MatchOption result (NoneDue self.old) (λ m. IsTakenDue m.kind m.square self.old self.new) }
+        ensures taken { MatchOption result (NoneDue self.old) (λ m. AreTakenDue m.kind m.set self.old self.new) }
         ensures met { self.new.met ≡ self.old.met }
         ensures next { self.new.next ≡ self.old.next }
         ensures none { IfNone result (self.new ≡ self.old) }
     {
         for k in 0..6usize {
-            let mut set = self.due[k];
-            if let Some(square) = set.pop_first() {
-                self.due[k] = set;
+            let set = self.due[k];
+            if let Some(_first) = set.first() {
+                self.due[k] = SquareSet::empty();
                 return Some(Standing {
                     kind: kind_with(k),
-                    square,
+                    set,
                 });
             }
         }
@@ -177,67 +178,64 @@ pub(crate) fn only(kind: Kind, set: SquareSet) -> [SquareSet; 6]
     men
 }
 
-// Whether a pawn that comes to a square may be of this kind there.
-fn becomes(color: Color, kind: Kind, square: Square) -> bool
-    ensures { IsTrue result ↔ Becomes color Pawn square kind }
+// The squares of a set where a pawn that comes there may be of this kind.
+fn becoming(color: Color, kind: Kind, set: SquareSet) -> SquareSet
+    ensures { IsSetOf result (λ s. (has set s ≡ true) × Becomes color Pawn s kind) }
 {
-    let last = square.rank() == last_rank(color);
+    let last = rank_set(last_rank(color));
     match kind {
-        Kind::Pawn => !last,
-        Kind::King => false,
-        _ => last,
+        Kind::Pawn => set - last,
+        Kind::King => SquareSet::empty(),
+        _ => set & last,
     }
 }
 
-// Whether a step of a man who is no pawn counts.
-fn counts_to_square(is_quiet: bool, lands: SquareSet, square: Square) -> bool
-    ensures { result ≡ not (is_quiet && has lands square) }
-{
-    !(is_quiet && lands.contains(square))
-}
-
-// Meets whoever of his own kind comes by one step to be this man on this square.
+// Meets whoever of their own kind comes by one step to be one of these men.
 fn meet_pieces_before(
     ground: &Ground,
     is_quiet: bool,
     kind: Kind,
-    square: Square,
+    set: SquareSet,
     front: &mut Front,
 )
     requires { IsGround ground.now }
     ensures { IsMeeting
-        (λ j t w. (j ≢ Pawn) × BackStep (known ground.now.facts) ground.now.color is_quiet kind square j t w)
+        (λ j t w. (j ≢ Pawn) × FromSome (BackStep (known ground.now.facts) ground.now.color is_quiet kind) set j t w)
         front.old front.new }
 {
     match kind {
         Kind::Pawn => {}
         _ => {
-            let counts = counts_to_square(is_quiet, ground.lands(), square);
-            front.meet(kind, ground.steps(kind, square), counts);
+            let captured = set & ground.lands();
+            let rest = set - captured;
+            front.meet(kind, ground.steps_of(kind, captured), !is_quiet);
+            front.meet(kind, ground.steps_of(kind, rest), true);
         }
     }
 }
 
-// Meets the pawns that come by one step to be this man on this square.
-fn meet_pawns_before(ground: &Ground, is_quiet: bool, kind: Kind, square: Square, front: &mut Front)
+// Meets the pawns that come by one step to be one of these men.
+fn meet_pawns_before(ground: &Ground, is_quiet: bool, kind: Kind, set: SquareSet, front: &mut Front)
     requires { IsGround ground.now }
     ensures { IsMeeting
-        (λ j t w. (j ≡ Pawn) × BackStep (known ground.now.facts) ground.now.color is_quiet kind square j t w)
+        (λ j t w. (j ≡ Pawn) × FromSome (BackStep (known ground.now.facts) ground.now.color is_quiet kind) set j t w)
         front.old front.new }
 {
-    if becomes(ground.color, kind, square) {
-        front.meet(Kind::Pawn, ground.pushed_from(square), true);
-        front.meet(Kind::Pawn, ground.captured_from(square), !is_quiet);
+    let to = becoming(ground.color, kind, set);
+    if !to.is_empty() {
+        front.meet(Kind::Pawn, ground.pushed_to(to), true);
+        front.meet(Kind::Pawn, ground.captured_to(to), !is_quiet);
     }
 }
 
-// Meets whoever comes by one step to be this man on this square.
-fn meet_before(ground: &Ground, is_quiet: bool, kind: Kind, square: Square, front: &mut Front)
+// Meets whoever comes by one step to be one of these men.
+fn meet_before(ground: &Ground, is_quiet: bool, kind: Kind, set: SquareSet, front: &mut Front)
     requires { IsGround ground.now }
-    ensures { IsMeeting (BackStep (known ground.now.facts) ground.now.color is_quiet kind square) front.old front.new }
+    ensures { IsMeeting (FromSome (BackStep (known ground.now.facts) ground.now.color is_quiet kind) set)
+        front.old front.new }
 {
-    meet_pieces_before(ground, is_quiet, kind, square, front);
-    meet_pawns_before(ground, is_quiet, kind, square, front);
+    meet_pieces_before(ground, is_quiet, kind, set, front);
+    meet_pawns_before(ground, is_quiet, kind, set, front);
 }
 
 // Looks at all who are due, by this count.
@@ -249,9 +247,9 @@ fn look_back(ground: &Ground, is_quiet: bool, count: u8, front: &mut Front, coun
         → IsBackLevel (known ground.now.facts) ground.now.color is_quiet goals count counts.old front.old
         → IsBackStage (known ground.now.facts) ground.now.color is_quiet goals (count + 1) counts.new front.new }
 {
-    while let Some(man) = front.take_due() {
-        note(counts, man.kind, man.square, count);
-        meet_before(ground, is_quiet, man.kind, man.square, front);
+    while let Some(men) = front.take_due() {
+        note_all(counts, men.kind, men.set, count);
+        meet_before(ground, is_quiet, men.kind, men.set, front);
     }
 }
 
@@ -298,15 +296,15 @@ impl Reach {
         }
     }
 
-    // Notes that a man of a kind stands on a square by this count.
-    fn stand(&mut self, kind: Kind, square: Square, count: u8)
-        ensures stands { IsNoted kind square count self.old.stands self.new.stands }
-        ensures stood { IsStood kind square self.old.stood self.new.stood }
+    // Notes that a man of a kind stands on these squares by this count.
+    fn stand(&mut self, kind: Kind, set: SquareSet, count: u8)
+        ensures stands { AreNoted kind set count self.old.stands self.new.stands }
+        ensures stood { IsJoined kind set self.old.stood self.new.stood }
         ensures takes { self.new.takes ≡ self.old.takes }
         ensures taken { self.new.taken ≡ self.old.taken }
     {
-        note(&mut self.stands, kind, square, count);
-        join(&mut self.stood, kind, SquareSet::single(square));
+        note_all(&mut self.stands, kind, set, count);
+        join(&mut self.stood, kind, set);
     }
 
     // Notes that steps which may be captures lead a man of a kind to these squares by this count, where none did
@@ -346,33 +344,35 @@ fn take_by_pawn(ground: &Ground, set: SquareSet, count: u8, reach: &mut Reach)
     reach.take(Kind::Queen, promoted, count);
 }
 
-// Meets whom a step makes of this man on this square.
-fn meet_after(ground: &Ground, is_quiet: bool, kind: Kind, square: Square, front: &mut Front)
+// Meets whom a step makes of one of these men, and notes where steps of theirs that may be captures lead, by a count.
+fn step_ahead(
+    ground: &Ground,
+    is_quiet: bool,
+    men: Standing,
+    paid: u8,
+    front: &mut Front,
+    reach: &mut Reach,
+)
     requires { IsGround ground.now }
-    ensures { IsMeeting (AheadStep (known ground.now.facts) ground.now.color is_quiet kind square) front.old front.new }
+    ensures met { IsMeeting (FromSome (AheadStep (known ground.now.facts) ground.now.color is_quiet men.kind) men.set)
+        front.old front.new }
+    ensures taken { IsTaking (TakesOf (TakeStep (known ground.now.facts) ground.now.color men.kind) men.set) paid
+        reach.old reach.new }
 {
-    match kind {
+    match men.kind {
         Kind::Pawn => {
-            meet_pawns(ground, ground.pushes(square), true, front);
-            meet_pawns(ground, ground.captures(square), !is_quiet, front);
+            let captures = ground.captures_of(men.set);
+            take_by_pawn(ground, captures, paid, reach);
+            meet_pawns(ground, ground.pushes_of(men.set), true, front);
+            meet_pawns(ground, captures, !is_quiet, front);
         }
         _ => {
-            let steps = ground.steps(kind, square);
+            let steps = ground.steps_of(men.kind, men.set);
             let captures = steps & ground.lands();
-            front.meet(kind, captures, !is_quiet);
-            front.meet(kind, steps - captures, true);
+            reach.take(men.kind, captures, paid);
+            front.meet(men.kind, captures, !is_quiet);
+            front.meet(men.kind, steps - captures, true);
         }
-    }
-}
-
-// Notes where steps of this man on this square that may be captures lead, by this count.
-fn take_after(ground: &Ground, kind: Kind, square: Square, count: u8, reach: &mut Reach)
-    requires { IsGround ground.now }
-    ensures { IsTaking (TakeStep (known ground.now.facts) ground.now.color kind square) count reach.old reach.new }
-{
-    match kind {
-        Kind::Pawn => take_by_pawn(ground, ground.captures(square), count, reach),
-        _ => reach.take(kind, ground.steps(kind, square) & ground.lands(), count),
     }
 }
 
@@ -396,10 +396,9 @@ fn look_ahead(ground: &Ground, is_quiet: bool, count: u8, front: &mut Front, rea
         × AreTaken (known ground.now.facts) ground.now.color is_quiet k s count reach.new }
 {
     let paid = paid_by_taking(is_quiet, count);
-    while let Some(man) = front.take_due() {
-        reach.stand(man.kind, man.square, count);
-        take_after(ground, man.kind, man.square, paid, reach);
-        meet_after(ground, is_quiet, man.kind, man.square, front);
+    while let Some(men) = front.take_due() {
+        reach.stand(men.kind, men.set, count);
+        step_ahead(ground, is_quiet, men, paid, front, reach);
     }
 }
 

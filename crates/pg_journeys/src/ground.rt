@@ -9,7 +9,7 @@ ghost use Rattle.pg_journeys.specs.Facts.{Facts as KnownFacts};
 ghost use Rattle.pg_journeys.specs.Journeys.{IsLeg};
 ghost use Rattle.pg_journeys.specs.Known.{known, landing};
 ghost use Rattle.pg_journeys.specs.lemmas.Turns.{leg};
-ghost use Rattle.pg_journeys.specs.inner.Grounds.{IsTable, IsGround, Pushes, Captures};
+ghost use Rattle.pg_journeys.specs.inner.Grounds.{IsTable, IsGround, LedTo, Pushes, Captures};
 ghost use Rattle.pg_journeys.specs.inner.Makings.{IsFilled, IsAheadOf};
 
 use crate::facts::{Facts, rank_set};
@@ -111,6 +111,20 @@ impl Ground {
         self.table[usize::from(kind.number()) * 64 + usize::from(square.index())]
     }
 
+    // Where men of this kind, no pawns, may step from the squares of a set.
+    pub(crate) fn steps_of(&self, kind: Kind, set: SquareSet) -> SquareSet
+        requires sound { IsGround self.now }
+        requires piece { kind ≢ Pawn }
+        ensures { IsSetOf result (LedTo (λ r s. IsLeg (known self.now.facts) self.now.color (leg kind r kind s)) set) }
+    {
+        let mut left = set;
+        let mut steps = SquareSet::empty();
+        while let Some(square) = left.pop_first() {
+            steps = steps | self.steps(kind, square);
+        }
+        steps
+    }
+
     // Where a pawn on a square may step straight ahead.
     pub(crate) fn pushes(&self, square: Square) -> SquareSet
         requires { IsGround self.now }
@@ -127,6 +141,19 @@ impl Ground {
         }
     }
 
+    // Where pawns on the squares of a set may step straight ahead.
+    pub(crate) fn pushes_of(&self, set: SquareSet) -> SquareSet
+        requires { IsGround self.now }
+        ensures { IsSetOf result (LedTo (Pushes (known self.now.facts) self.now.color) set) }
+    {
+        let mut left = set;
+        let mut found = SquareSet::empty();
+        while let Some(square) = left.pop_first() {
+            found = found | self.pushes(square);
+        }
+        found
+    }
+
     // Where a pawn on a square may step by a capture.
     pub(crate) fn captures(&self, square: Square) -> SquareSet
         requires { IsGround self.now }
@@ -138,6 +165,19 @@ impl Ground {
         } else {
             SquareSet::empty()
         }
+    }
+
+    // Where pawns on the squares of a set may step by a capture.
+    pub(crate) fn captures_of(&self, set: SquareSet) -> SquareSet
+        requires { IsGround self.now }
+        ensures { IsSetOf result (LedTo (Captures (known self.now.facts) self.now.color) set) }
+    {
+        let mut left = set;
+        let mut found = SquareSet::empty();
+        while let Some(square) = left.pop_first() {
+            found = found | self.captures(square);
+        }
+        found
     }
 
     // From where a pawn may step straight ahead to a square.
@@ -154,6 +194,19 @@ impl Ground {
         once | (twice & rank_set(home_rank(self.color)))
     }
 
+    // From where a pawn may step straight ahead to some square of a set.
+    pub(crate) fn pushed_to(&self, set: SquareSet) -> SquareSet
+        requires { IsGround self.now }
+        ensures { IsSetOf result (LedTo (λ s r. Pushes (known self.now.facts) self.now.color r s) set) }
+    {
+        let mut left = set;
+        let mut found = SquareSet::empty();
+        while let Some(square) = left.pop_first() {
+            found = found | self.pushed_from(square);
+        }
+        found
+    }
+
     // From where a pawn may step to a square by a capture.
     pub(crate) fn captured_from(&self, square: Square) -> SquareSet
         requires { IsGround self.now }
@@ -165,5 +218,18 @@ impl Ground {
         } else {
             SquareSet::empty()
         }
+    }
+
+    // From where a pawn may step by a capture to some square of a set.
+    pub(crate) fn captured_to(&self, set: SquareSet) -> SquareSet
+        requires { IsGround self.now }
+        ensures { IsSetOf result (LedTo (λ s r. Captures (known self.now.facts) self.now.color r s) set) }
+    {
+        let mut left = set;
+        let mut found = SquareSet::empty();
+        while let Some(square) = left.pop_first() {
+            found = found | self.captured_from(square);
+        }
+        found
     }
 }

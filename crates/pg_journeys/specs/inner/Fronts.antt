@@ -26,6 +26,8 @@ pub record IsNoted (k : Kind) (s n : ℕ) (old new : List ℕ) : Type 0 where
 pub record AreNoted (k : Kind) (set n : ℕ) (old new : List ℕ) : Type 0 where
   pub on : (t : ℕ) → t < 64 → has set t ≡ true → count_at new k t ≡ n
   pub each : (j : Kind) (t : ℕ) → t < 64 → ((j ≡ k) × (has set t ≡ true)) ⊎ (count_at new j t ≡ count_at old j t)
+  pub fewer : (s : ℕ) → s < 64 → has set s ≡ true → ((t : ℕ) → t < 64 → has set t ≡ true → 255 ≤ count_at old k t) → n < 255 →
+      unlooked new < unlooked old
 
 -- a set was joined to the set of a kind
 abbrev pub IsJoined : Kind → ℕ → List ℕ → List ℕ → Type 0
@@ -62,13 +64,13 @@ pub record IsMeeting (S : Kind → ℕ → ℕ → Type 0) (old new : Front) : T
       (is_due old j t ≡ true) ⊎ ((is_met old j t ≡ false) × S j t 0)
   pub new_next : (j : Kind) (t : ℕ) → t < 64 → is_next new j t ≡ true → (is_next old j t ≡ true) ⊎ S j t 1
 
--- the man of kind k on s was due and is no longer
-pub record IsTakenDue (k : Kind) (s : ℕ) (old new : Front) : Type 0 where
-  pub low : s < 64
-  pub was : is_due old k s ≡ true
-  pub gone : is_due new k s ≡ false
+-- the men of kind k on the set, one or more, were due and are no longer
+pub record AreTakenDue (k : Kind) (set : ℕ) (old new : Front) : Type 0 where
+  pub some : (s : ℕ) × (s < 64) × (has set s ≡ true)
+  pub was : (t : ℕ) → t < 64 → has set t ≡ true → is_due old k t ≡ true
+  pub gone : (t : ℕ) → t < 64 → has set t ≡ true → is_due new k t ≡ false
   pub rest : (j : Kind) (t : ℕ) → t < 64 → is_due new j t ≡ true → is_due old j t ≡ true
-  pub each : (j : Kind) (t : ℕ) → t < 64 → is_due old j t ≡ true → ((j ≡ k) × (t ≡ s)) ⊎ (is_due new j t ≡ true)
+  pub each : (j : Kind) (t : ℕ) → t < 64 → is_due old j t ≡ true → ((j ≡ k) × (has set t ≡ true)) ⊎ (is_due new j t ≡ true)
 
 -- nobody is due
 abbrev pub NoneDue : Front → Type 0

@@ -8,7 +8,7 @@ use Rattle.pg_board.specs.Men.{number_of_kind}
 use Rattle.pg_board.specs.Squares.{file}
 use Rattle.pg_board.specs.SquareSets.{IsSetOf}
 use Rattle.pg_journeys.specs.Facts.{Facts}
-use Rattle.pg_journeys.specs.Journeys.{Leg, IsLeg}
+use Rattle.pg_journeys.specs.Journeys.{IsLeg}
 use Rattle.pg_journeys.specs.Known.{known}
 use Rattle.pg_journeys.specs.lemmas.Turns.{leg}
 use Rattle.pg_journeys.specs.declared.ground.Ground.{Ground}
@@ -22,6 +22,10 @@ IsTable f c table =
 pub record IsGround (g : Ground) : Type 0 where
   pub free : (s : ℕ) → s < 64 → (has g.free s ≡ true) ↔ (has g.facts.still s ≡ false)
   pub steps : IsTable (known g.facts) g.color g.table
+
+-- some square of the set has P with t
+abbrev pub LedTo : (ℕ → ℕ → Type 0) → ℕ → ℕ → Type 0
+LedTo P set t = (s : ℕ) × (s < 64) × (has set s ≡ true) × P s t
 
 -- a pawn may step straight ahead from r to s
 abbrev pub Pushes : Facts → Color → ℕ → ℕ → Type 0

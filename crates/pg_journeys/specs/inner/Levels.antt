@@ -23,6 +23,10 @@ Steps = Kind → ℕ → Kind → ℕ → ℕ → Type 0
 abbrev pub Within : Type 1
 Within = ℕ → Kind → ℕ → Type 0
 
+-- one of the men on a set steps so
+abbrev pub FromSome : (ℕ → Kind → ℕ → ℕ → Type 0) → ℕ → Kind → ℕ → ℕ → Type 0
+FromSome step set j t w = (s : ℕ) × (s < 64) × (has set s ≡ true) × step s j t w
+
 -- a man with a number was met; who is due was met and has none
 pub record IsOpen (xs : List ℕ) (front : Front) : Type 0 where
   pub looked : (k : Kind) (s : ℕ) → s < 64 → count_at xs k s < 255 → is_met front k s ≡ true

@@ -1,5 +1,5 @@
 -- Where steps that may be captures lead, by the least count.
-use Rattle.std.specs.Prelude.{◌≡◌, ℕ, ◌+◌, ◌<◌, ◌≤◌, ◌⊎◌, ◌↔◌, Bool, true, false, cond, List}
+use Rattle.std.specs.Prelude.{◌≡◌, ℕ, ◌+◌, ◌<◌, ◌≤◌, ◌⊎◌, ◌↔◌, Bool, true, false, cond}
 use Rattle.pg_board.specs.Bits.{has}
 use Rattle.pg_board.specs.declared.man.Color.{Color}
 use Rattle.pg_board.specs.declared.man.Kind.{Kind}
@@ -10,15 +10,13 @@ use Rattle.pg_journeys.specs.inner.Counts.{of_kind, count_at}
 use Rattle.pg_journeys.specs.inner.Counting.{ComesTaking}
 use Rattle.pg_journeys.specs.declared.distances.Reach.{Reach}
 
--- the man of kind k on s was joined to sets by kind
-abbrev pub IsStood : Kind → ℕ → List ℕ → List ℕ → Type 0
-IsStood k s old new =
-    (j : Kind) (t : ℕ) → t < 64 →
-    (has (of_kind new j) t ≡ true) ↔ ((has (of_kind old j) t ≡ true) ⊎ ((j ≡ k) × (t ≡ s)))
-
 -- a step that may be a capture leads from the man of kind k on s to be the man of kind j on t
 abbrev pub TakeStep : Facts → Color → Kind → ℕ → Kind → ℕ → Type 0
 TakeStep f c k s j t = IsLeg f c (leg k s j t) × (may_take f c (leg k s j t) ≡ true)
+
+-- one of the men on a set steps so
+abbrev pub TakesOf : (ℕ → Kind → ℕ → Type 0) → ℕ → Kind → ℕ → Type 0
+TakesOf step set j t = (s : ℕ) × (s < 64) × (has set s ≡ true) × step s j t
 
 -- whom S names was taken already, or is now, by the count n; all else is as it was
 pub record IsTaking (S : Kind → ℕ → Type 0) (n : ℕ) (old new : Reach) : Type 0 where

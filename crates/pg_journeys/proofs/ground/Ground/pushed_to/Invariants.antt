@@ -1,0 +1,12 @@
+use Rattle.pg_board.specs.Bits.{has}
+use Rattle.pg_board.specs.Tally.{count_below}
+use Rattle.pg_journeys.specs.Known.{known}
+use Rattle.pg_journeys.specs.inner.Grounds.{Pushes}
+use Rattle.pg_journeys.proofs.SiftedSets.{IsGathered}
+use Rattle.pg_journeys.proofs.ground.Ground.pushed_to.Given as goal
+
+abbrev pub invariant-loop-square : goal.invariant-loop-square
+invariant-loop-square l = IsGathered (λ s r. Pushes (known l.self.facts) l.self.color r s) l.fn.set l.left l.found
+
+abbrev pub decreases-loop-square : goal.decreases-loop-square
+decreases-loop-square l = count_below (has l.left) 64
