@@ -268,18 +268,17 @@ fn first_columns(before: Row, after: Row, next: Row, first: Row) -> Row {
     columns
 }
 
-// Ways of one step to a column.
+// What steps from a row's column cost.
 #[inline(always)]
-fn begin_ways(slacks: &[Row; 16], holder: &[u8; 16], t: usize, keys: &mut Row, next: &mut Row) {
-    for q in 0..16usize {
-        let slack = slacks[usize::from(holder[q]) % 16][t % 16];
-        keys[q] = key(slack);
-        next[q] = (t % 16) as u16;
+fn steps_from(slack: Row) -> Row {
+    let mut keys = slack;
+    for t in 0..16usize {
+        keys[t] = key(keys[t]);
     }
-    keys[t % 16] = 0;
+    keys
 }
 
-// Ways of one step to each column.
+// Ways of one step to each column. What is beyond the size leads nowhere that counts.
 #[inline(always)]
 fn begin_all(
     size: usize,
@@ -288,24 +287,34 @@ fn begin_all(
     keys: &mut [Row; 16],
     next: &mut [Row; 16],
 ) {
+    for q in 0..16usize {
+        let steps = steps_from(slacks[usize::from(holder[q]) % 16]);
+        for t in 0..16usize {
+            keys[t][q] = steps[t];
+        }
+    }
     for t in 0..16usize {
         if t < size {
-            begin_ways(slacks, holder, t, &mut keys[t], &mut next[t]);
+            next[t] = [t as u16; 16];
+            keys[t][t] = 0;
         }
     }
 }
 
-// Ways by one more column, to each column.
+// Ways by one more column, to each column that it has ways to: where it has none, nothing is shorter by it.
 #[inline(always)]
 fn go_by(m: usize, keys: &mut [Row; 16], next: &mut [Row; 16]) {
     let middle = keys[m % 16];
     let first = next[m % 16];
     for t in 0..16usize {
-        let before = keys[t];
-        let after = nearer(before, middle, before[m % 16]);
-        keys[t] = after;
-        let columns = first_columns(before, after, next[t], first);
-        next[t] = columns;
+        let rest = keys[t][m % 16];
+        if rest < u16::MAX {
+            let before = keys[t];
+            let after = nearer(before, middle, rest);
+            keys[t] = after;
+            let columns = first_columns(before, after, next[t], first);
+            next[t] = columns;
+        }
     }
 }
 
