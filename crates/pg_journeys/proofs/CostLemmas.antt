@@ -1,6 +1,6 @@
 -- What fates cost: the rows of costs, what they say of plans, and when a plan is paid for. Leads to the contracts of `row`,
 -- `costs_of`, `pays` and `is_paid`.
-use Rattle.std.proofs.Common.{◌≡◌, ◌≢◌, ◌↔◌, ℕ, ◌+◌, ◌-◌, ◌*◌, ◌<◌, ◌≤◌, ◌⊎◌, inl, inr, IsTrue, Option, Some, None, Bool, true, false, List, [], length, get_or, set, leb, refl, sym, ap, subst, ◌∙◌, arith}
+use Rattle.std.proofs.Common.{◌≡◌, ◌≢◌, ◌↔◌, ℕ, ◌+◌, ◌*◌, ◌<◌, ◌≤◌, inl, inr, IsTrue, Option, Some, None, Bool, true, false, List, [], length, get_or, set, leb, refl, sym, ap, subst, ◌∙◌, arith}
 use Rattle.std.proofs.lemmas.Bool.{cases_lt}
 use Rattle.std.proofs.lemmas.Bool.Decides.{eqb_tells, leb_tells}
 use Rattle.std.proofs.lemmas.List.{get_or-set_same, get_or-set_other, get_or_default}
@@ -17,7 +17,9 @@ use Rattle.pg_captures.specs.lemmas.BoardLemmas.{same_kind}
 use Rattle.pg_travel.specs.Origins.{charge, counted}
 use Rattle.pg_travel.specs.lemmas.Values.{counted_low}
 use Rattle.pg_assignments.specs.declared.costs.Costs.{Costs}
-use Rattle.pg_assignments.specs.Assignments.{cost, Below, sum_of, IsAssignment, IsTotal, IsLeastTotal}
+use Rattle.pg_assignments.specs.declared.totals.LeastTotals.{LeastTotals}
+use Rattle.pg_assignments.specs.Totals.{IsBeyond, AreTotals}
+use Rattle.pg_assignments.specs.Assignments.{cost, Below, sum_of, IsTotal, IsLeastTotal}
 use Rattle.pg_assignments.proofs.LeastLemmas.{none_holds, some_holds, some_least}
 use Rattle.pg_journeys.specs.Facts.{Facts}
 use Rattle.pg_journeys.specs.Journeys.{Leg, Fate, Arrives, Falls, IsPath, Meets}
@@ -26,7 +28,7 @@ use Rattle.pg_journeys.specs.lemmas.DecidingPaths.{weigh}
 use Rattle.pg_journeys.specs.lemmas.PlanTotals.{plans_are_totals}
 use Rattle.pg_journeys.specs.inner.Counting.{counts}
 use Rattle.pg_journeys.specs.inner.Sides.{facts_of, square_at, kind_at, IsSide, AreAims, JourneysOf, IsPaidBy}
-use Rattle.pg_journeys.specs.inner.Costing.{count_of, HasJustPassed, AreTheirs, IsFall, IsColumnCost, IsCostRow, AreCostRows, AreCostsOf, HasTotalTo}
+use Rattle.pg_journeys.specs.inner.Costing.{count_of, IsFall, IsColumnCost, IsCostRow, AreCostRows, AreCostsOf, HasTotalTo}
 use Rattle.pg_journeys.specs.declared.plans.Side.{Side}
 
 -- ---- rows
@@ -198,3 +200,22 @@ paid_by d x quiet way most paid k r e costs is =
       λ t. (let g = both.1 (is.0 t) in let l : total (λ s. weigh (counts (facts_of x) x.ground.color quiet) (g.0.path s)) 64 ≤ paid = g.1 in (g.0, omega arith)),
       λ g. (let l : charge way + total (λ s. weigh (counts (facts_of x) x.ground.color quiet) (g.0.path s)) 64 ≤ most = g.1 in is.1 (both.0 (g.0, omega arith))),
     )
+
+-- ---- least totals within a budget
+pub none_paid : (d : Placement) (x : Side) (quiet : Bool) (way : Option Wing) (most paid : ℕ) (k : Costs) → paid + charge way ≡ most → AreCostsOf d x quiet way most k →
+    IsBeyond k paid → ((g : JourneysOf d x way) × IsPaidBy d x quiet way most g) → ⊥
+none_paid d x quiet way most paid k e costs beyond g =
+    let h : false ≡ true = (paid_by d x quiet way most paid k false e costs (
+      λ z. absurd (cc),
+      λ t. absurd (
+          let far : paid < sum_of (cost k) t.0 k.size = beyond (sum_of (cost k) t.0 k.size) (t.0, t.1, refl) in
+          let near : sum_of (cost k) t.0 k.size ≤ paid = t.2 in
+          omega arith),
+    )).1 g in
+    cc
+
+pub some_paid : (d : Placement) (x : Side) (quiet : Bool) (way : Option Wing) (most paid : ℕ) (k : Costs) (totals : LeastTotals) → paid + charge way ≡ most → AreCostsOf d x quiet way most k →
+    AreTotals k paid totals → (g : JourneysOf d x way) × IsPaidBy d x quiet way most g
+some_paid d x quiet way most paid k totals e costs are =
+    let t : IsTotal (cost k) (Below k.size) k.size totals.least = some_holds (IsTotal (cost k) (Below k.size) k.size) totals.least are.least in
+    (paid_by d x quiet way most paid k true e costs (λ z. (t.0, t.1, (let s : totals.least ≡ sum_of (cost k) t.0 k.size = t.2 in let l : totals.least ≤ paid = are.within in omega arith)), λ y. refl)).0 refl

@@ -73,10 +73,6 @@ module _ (d : Placement) (x : Side) (k : ℕ) (way : Option Wing) where
   pub paid_of : (u : Measure) (n : ℕ) → IsBudget d p k c u n → HasPlan u → HasPaid (is_quiet u) n
   paid_of u n is h = (h.0, paid_by_counts u n is h.0 h.1)
 
-  -- where a plan is paid for, the way's charge is
-  pub charge_paid : (q : Bool) (n : ℕ) → HasPaid q n → charge way ≤ n
-  charge_paid q n h = let paid : charge way + total (λ s. weigh (counts (facts_of x) c q) (h.0.path s)) 64 ≤ n = h.1 in omega arith
-
   -- a way is alive just where each measure has a plan within its counts
   pub alive_of : (n m : ℕ) → IsBudget d p k c Moves n → IsBudget d p k c QuietMoves m → IsWayUnder (facts_of x) p c way → HasPaid false n → HasPaid true m → IsAlive (facts_of x) d p k c way
   alive_of n m all few way_is a b = (way_is, plans)

@@ -5,16 +5,17 @@ ghost use Rattle.pg_board.specs.Men.{other};
 ghost use Rattle.pg_board.specs.declared.man.Kind.TheVariants.{Pawn};
 ghost use Rattle.pg_board.specs.Placement.{Placement};
 ghost use Rattle.pg_board.specs.SquareSets.{IsSetOf};
-ghost use Rattle.pg_travel.specs.Origins.{charge as charge_of};
 ghost use Rattle.pg_journeys.specs.Known.{landing};
 ghost use Rattle.pg_journeys.specs.inner.Grounds.{IsGround};
-ghost use Rattle.pg_journeys.specs.inner.Sides.{IsSide, AreAims};
+ghost use Rattle.pg_journeys.specs.inner.Showing.{IsMeasured};
+ghost use Rattle.pg_journeys.specs.inner.Sides.{IsSide, AreRooms};
 ghost use Rattle.pg_journeys.specs.inner.Deeds.{AreDeeds};
 ghost use Rattle.pg_journeys.specs.inner.Narrowed.{TakesOn, TakesBy, TakesToSome, StandsBy, FallsBy, ComesBack, ChangesBy, IsFull, walker_of};
 
 use crate::distances::{Counts, Reach, reach_of};
 use crate::plans::{Aims, Side, counted, passed_square};
-use crate::rooms::{Rooms, rooms_of};
+use crate::rooms::Rooms;
+use crate::shown::Measured;
 use pg_board::{Kind, Square, SquareSet};
 use pg_position::Wing;
 
@@ -252,20 +253,20 @@ fn may_find(side: &Side, room: u8, lands: SquareSet, falls: SquareSet) -> bool
 pub(crate) fn deeds_of(
     side: &Side,
     is_quiet: bool,
-    aims: &Aims,
+    measured: &Measured,
     way: Option<Wing>,
-    most: u8,
+    rooms: &Rooms,
 ) -> Deeds
-    requires low { most < 200 }
-    requires charged { charge_of way ≤ most }
     requires side { (d : Placement) × IsSide d side.now }
-    requires aims { AreAims side.now is_quiet most aims.now }
-    ensures { (d : Placement) → IsSide d side.now → AreDeeds d side.now is_quiet way most result }
+    requires measured { IsMeasured side.now is_quiet measured.now }
+    requires rooms { (d : Placement) → IsSide d side.now →
+        AreRooms d side.now is_quiet way measured.now.most rooms.now }
+    ensures { (d : Placement) → IsSide d side.now → AreDeeds d side.now is_quiet way measured.now.most result }
 {
     let mut lands = SquareSet::empty();
     let mut falls = SquareSet::empty();
     let mut ends = [0u32; 16];
-    let rooms: Rooms = rooms_of(side, aims, way, most);
+    let aims = &measured.aims;
     for i in 0..side.men.count {
         let man = man_of(side, is_quiet, way, i);
         ends[i] = ends_of(side, &man, aims, &rooms[i]);

@@ -1,13 +1,12 @@
 //! How much a path of a man to a fate may count in a plan.
-ghost use Rattle.std.specs.Prelude.{◌≡◌, ℕ, Bool, ◌<◌, ◌≤◌};
+ghost use Rattle.std.specs.Prelude.{◌≡◌, ℕ, Bool, ◌<◌, ◌≤◌, IfSome, IfNone};
 ghost use Rattle.pg_board.specs.Placement.{Placement};
-ghost use Rattle.pg_travel.specs.Origins.{charge as charge_of};
 ghost use Rattle.pg_assignments.specs.Assignments.{AreLeastWith};
 ghost use Rattle.pg_journeys.specs.inner.Costing.{IsRoom, IsWider, EndsAt, IsRoomRow, AreRoomRows};
-ghost use Rattle.pg_journeys.specs.inner.Sides.{IsSide, AreAims, AreRooms};
+ghost use Rattle.pg_journeys.specs.inner.Sides.{IsSide, AreAims, AreRooms, JourneysOf, IsPaidBy};
 
 use crate::plans::{Aims, Side, charge, costs_of};
-use pg_assignments::{Costs, least_with_all};
+use pg_assignments::{Costs, least_totals};
 use pg_position::Wing;
 
 // For each man and each end the most that a path of his to it may count in a plan: 255 where no plan has that. The ends are the
@@ -83,16 +82,25 @@ fn rows(costs: &Costs, goals: usize, least: &[[u16; 16]; 16], paid: u16) -> Room
     rooms
 }
 
-// The rooms of all men by a way, where so many counts pay for all paths and the way.
-pub(crate) fn rooms_of(side: &Side, aims: &Aims, way: Option<Wing>, most: u8) -> Rooms
+// The rooms of all men by a way, where so many counts pay for all paths and the way; none where they pay for no plan. One
+// assignment tells both.
+pub(crate) fn rooms_of(side: &Side, aims: &Aims, way: Option<Wing>, most: u8) -> Option<Rooms>
     requires side { (d : Placement) × IsSide d side.now }
     requires low { most < 200 }
-    requires charged { charge_of way ≤ most }
-    ensures { (d : Placement) (quiet : Bool) → IsSide d side.now → AreAims side.now quiet most aims.now →
-        AreRooms d side.now quiet way most result }
+    ensures none { IfNone result ((d : Placement) (quiet : Bool) → IsSide d side.now → AreAims side.now quiet most aims.now →
+        (g : JourneysOf d side.now way) → IsPaidBy d side.now quiet way most g → ⊥) }
+    ensures some { IfSome result (λ rooms. (d : Placement) (quiet : Bool) → IsSide d side.now →
+        AreAims side.now quiet most aims.now → AreRooms d side.now quiet way most rooms
+        × ((g : JourneysOf d side.now way) × IsPaidBy d side.now quiet way most g)) }
 {
+    let charge = charge(way);
+    if charge > most {
+        return None;
+    }
+    let paid = u16::from(most - charge);
     let costs = costs_of(side, aims, way);
-    let least = least_with_all(&costs);
-    let paid = u16::from(most.saturating_sub(charge(way)));
-    rows(&costs, side.goals.count, &least, paid)
+    match least_totals(&costs, paid) {
+        None => None,
+        Some(totals) => Some(rows(&costs, side.goals.count, &totals.pairs, paid)),
+    }
 }

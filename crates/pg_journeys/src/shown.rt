@@ -1,10 +1,9 @@
 //! What the plans of a colour show under facts: who may change, where captures land and where men are captured.
-ghost use Rattle.std.specs.Prelude.{◌≡◌, ℕ, ◌<◌, ◌≤◌, ◌↔◌, IsTrue, MatchOption, Option, List, ◌∷◌, true, false};
+ghost use Rattle.std.specs.Prelude.{◌≡◌, ℕ, ◌<◌, ◌≤◌, ◌↔◌, IsTrue, IfSome, IfNone, MatchOption, Option, List, ◌∷◌, true, false};
 ghost use Rattle.pg_board.specs.SquareSets.{IsSetOf};
 ghost use Rattle.pg_board.specs.Placement.{Placement};
 ghost use Rattle.pg_position.specs.declared.rights.Wing.{Wing as AnyWing};
 ghost use Rattle.pg_captures.specs.Counting.{men, any_man};
-ghost use Rattle.pg_travel.specs.Origins.{charge as charge_of};
 ghost use Rattle.pg_journeys.specs.Known.{known};
 ghost use Rattle.pg_journeys.specs.Plans.{IsAlive};
 ghost use Rattle.pg_journeys.specs.inner.Sides.{facts_of, square_at, IsSide};
@@ -15,6 +14,7 @@ use crate::ground::ground_of;
 use crate::men::{Men, men_of};
 use crate::narrowing::{Deeds, deeds_of};
 use crate::plans::{Aims, Side, aims_of, budget, counted, is_paid, is_way};
+use crate::rooms::rooms_of;
 use pg_board::{Color, SquareSet};
 use pg_fen::Diagram;
 use pg_position::{Position, Wing};
@@ -75,8 +75,6 @@ fn is_alive(side: &Side, moves: &Measured, quiet: &Measured, way: Option<Wing>) 
     ensures tells { (d : Placement) (k : ℕ) → IsSide d side.now →
         AreBudgets d side.now k moves.now.most quiet.now.most →
         IsTrue result ↔ IsAlive (facts_of side.now) d side.now.position k side.now.ground.color way }
-    ensures charged { IsTrue result → charge_of way ≤ moves.now.most }
-    ensures quietly { IsTrue result → charge_of way ≤ quiet.now.most }
 {
     if !is_way(&side.position, &side.ground.facts, side.ground.color, way) {
         return false;
@@ -87,26 +85,37 @@ fn is_alive(side: &Side, moves: &Measured, quiet: &Measured, way: Option<Wing>) 
     is_paid(side, &quiet.aims, way, quiet.most)
 }
 
-// What the plans of a way show.
-fn way_shown(side: &Side, moves: &Measured, quiet: &Measured, way: Option<Wing>) -> Shown
+// What the plans of a way show; none where it is not alive.
+fn way_shown(side: &Side, moves: &Measured, quiet: &Measured, way: Option<Wing>) -> Option<Shown>
     requires side { (d : Placement) × IsSide d side.now }
     requires moves { IsMeasured side.now false moves.now }
     requires quiet { IsMeasured side.now true quiet.now }
-    requires charged { charge_of way ≤ moves.now.most }
-    requires quietly { charge_of way ≤ quiet.now.most }
-    ensures { (d : Placement) (k : ℕ) → IsSide d side.now →
+    ensures none { IfNone result ((d : Placement) (k : ℕ) → IsSide d side.now →
         AreBudgets d side.now k moves.now.most quiet.now.most →
-        ShowsWay (facts_of side.now) d side.now.position k side.now.ground.color way result }
+        ¬ IsAlive (facts_of side.now) d side.now.position k side.now.ground.color way) }
+    ensures some { IfSome result (λ a. (d : Placement) (k : ℕ) → IsSide d side.now →
+        AreBudgets d side.now k moves.now.most quiet.now.most →
+        IsAlive (facts_of side.now) d side.now.position k side.now.ground.color way
+        × ShowsWay (facts_of side.now) d side.now.position k side.now.ground.color way a) }
 {
-    let all = deeds_of(side, false, &moves.aims, way, moves.most);
-    let calm = deeds_of(side, true, &quiet.aims, way, quiet.most);
-    Shown {
+    if !is_way(&side.position, &side.ground.facts, side.ground.color, way) {
+        return None;
+    }
+    let Some(rooms) = rooms_of(side, &moves.aims, way, moves.most) else {
+        return None;
+    };
+    let Some(quiet_rooms) = rooms_of(side, &quiet.aims, way, quiet.most) else {
+        return None;
+    };
+    let all = deeds_of(side, false, moves, way, &rooms);
+    let calm = deeds_of(side, true, quiet, way, &quiet_rooms);
+    Some(Shown {
         changed: changed_in(side.ground.color, &side.men, way, &all, &calm),
         lands: all.lands,
         quiet_lands: calm.lands,
         falls: all.falls,
         quiet_falls: calm.falls,
-    }
+    })
 }
 
 // What either shows.
@@ -138,13 +147,12 @@ fn add_way(
         ShowsAmong (facts_of side.now) d side.now.position k side.now.ground.color ways before →
         ShowsAmong (facts_of side.now) d side.now.position k side.now.ground.color (way ∷ ways) result }
 {
-    if !is_alive(side, moves, quiet, way) {
-        return before;
-    }
-    let shown = way_shown(side, moves, quiet, way);
-    match before {
-        None => Some(shown),
-        Some(others) => Some(joined(&others, &shown)),
+    match way_shown(side, moves, quiet, way) {
+        None => before,
+        Some(shown) => match before {
+            None => Some(shown),
+            Some(others) => Some(joined(&others, &shown)),
+        },
     }
 }
 

@@ -1,5 +1,27 @@
+use Rattle.std.proofs.Common.{true, false}
+use Rattle.pg_journeys.specs.Plans.{Moves, QuietMoves}
 use Rattle.pg_journeys.proofs.Changing.{way_shows}
+use Rattle.pg_journeys.proofs.Masks.{not_so}
+use Rattle.pg_journeys.proofs.Paying.{alive_of, paid_of}
 use Rattle.pg_journeys.proofs.shown.way_shown.Goals as goal
 
-pub returns : goal.returns
-returns c = λ d k side budgets. way_shows d c.args.side.now k side c.args.way c.args.moves.now.most c.args.quiet.now.most budgets c.deeds_of-all.result c.deeds_of-calm.result (c.deeds_of-all.ensures d side) (c.deeds_of-calm.ensures d side) c.changed_in.result c.changed_in.ensures
+pub deeds_of-all-requires-clause-rooms : goal.deeds_of-all-requires-clause-rooms
+deeds_of-all-requires-clause-rooms c = λ d side. (c.in-Some.ensures.some d false side c.requires.moves.aims).0
+
+pub deeds_of-calm-requires-clause-rooms : goal.deeds_of-calm-requires-clause-rooms
+deeds_of-calm-requires-clause-rooms c = λ d side. (c.in-Some-rooms_of.ensures.some d true side c.requires.quiet.aims).0
+
+pub returns-then-not-is_way-clause-none : goal.returns-then-not-is_way-clause-none
+returns-then-not-is_way-clause-none c = λ d k side budgets alive. not_so c.is_way.result c.is_way.ensures c.if-not-is_way.true alive.0
+
+pub returns-in_default-clause-none : goal.returns-in_default-clause-none
+returns-in_default-clause-none c = λ d k side budgets alive. (let g = paid_of d c.args.side.now k c.args.way Moves c.args.moves.now.most budgets.all (alive.1 Moves) in c.in_default.ensures.none d false side c.requires.moves.aims g.0 g.1)
+
+pub returns-in_default-rooms_of-clause-none : goal.returns-in_default-rooms_of-clause-none
+returns-in_default-rooms_of-clause-none c = λ d k side budgets alive. (let g = paid_of d c.args.side.now k c.args.way QuietMoves c.args.quiet.now.most budgets.few (alive.1 QuietMoves) in c.in_default-rooms_of.ensures.none d true side c.requires.quiet.aims g.0 g.1)
+
+pub returns-clause-some : goal.returns-clause-some
+returns-clause-some c = λ d k side budgets. (
+  alive_of d c.args.side.now k c.args.way c.args.moves.now.most c.args.quiet.now.most budgets.all budgets.few (c.is_way.ensures.0 c.if-not-is_way.false) (c.in-Some.ensures.some d false side c.requires.moves.aims).1 (c.in-Some-rooms_of.ensures.some d true side c.requires.quiet.aims).1,
+  way_shows d c.args.side.now k side c.args.way c.args.moves.now.most c.args.quiet.now.most budgets c.deeds_of-all.result c.deeds_of-calm.result (c.deeds_of-all.ensures d side) (c.deeds_of-calm.ensures d side) c.changed_in.result c.changed_in.ensures,
+)
