@@ -21,9 +21,10 @@ use Rattle.pg_travel.specs.inner.Formulas.{distance_of, least_of}
 use Rattle.pg_travel.specs.inner.Costs.{reach_of, nearest, cost, SumIs}
 use Rattle.pg_travel.specs.inner.Within.{CastledIs}
 use Rattle.pg_travel.specs.inner.DistanceRows.{stored}
-use Rattle.pg_travel.specs.inner.LeastRows.{at_target, AreLesser, IsFree, IsCastled, row_cost}
+use Rattle.pg_travel.specs.inner.LeastRows.{at_target, AreLesser, IsFree, IsBelow, IsCastled, row_cost}
 use Rattle.pg_travel.proofs.Skips.{sum_skip}
 use Rattle.pg_travel.proofs.SourceLemmas.{row_has, below_all, of_there, of_man, number_next}
+use Rattle.pg_travel.specs.inner.Within.{PaysIs}
 use Rattle.pg_travel.proofs.Within.{pays_not, castled_by}
 use Rattle.pg_travel.proofs.LeastRows.{same_kind, stored_is, reach_own, reach_cases, Number}
 
@@ -46,7 +47,7 @@ parts d c w free row is i l =
     (omega arith, omega arith, omega arith)
 
 -- by castling no man is nearer
-castled_below : (p : State) (d : Placement) (c : Color) (w : Wing) (free row : List ℕ) → IsHome p.board c w → IsFree d p.board c free → IsCastled d c w free row → (j : Kind) (t : ℕ) → t < 64 → Stands d c j t → number_among c any_man d t < 16 → at_target d c row t ≤ stored (nearest p.board c (Some w) j t)
+castled_below : (p : State) (d : Placement) (c : Color) (w : Wing) (free row : List ℕ) → IsHome p.board c w → IsBelow d p.board c free → IsCastled d c w free row → (j : Kind) (t : ℕ) → t < 64 → Stands d c j t → number_among c any_man d t < 16 → at_target d c row t ≤ stored (nearest p.board c (Some w) j t)
 unfolding nearest IsHome
 castled_below p d c w free row home least is j t lt there small = elim (stored_is N) [ inl z ↦ omega (arith, z.1, low, unreached) | inr z ↦ near z.0 (least_reached F 64) ]
   where
@@ -63,7 +64,7 @@ castled_below p d c w free row home least is j t lt there small = elim (stored_i
     low = parts d c w free row is I small
 
     unreached : get_or free I 0 ≤ 255
-    unreached = omega (arith, least.lowered.kept I small, least.unreached.none I (below_all d c t lt (of_there d c j t there)) small)
+    unreached = least.top j t lt there small
 
     at_least : (k : Kind) (o : ℕ) → o < 64 → get p.board o ≡ Some (man c k) → get_or row I 0 ≤ stored (distance_of c j k (counted c (Some w) o) t)
     at_least k o lo stands = elim (counted_cases c w o) [
@@ -80,7 +81,7 @@ castled_below p d c w free row home least is j t lt there small = elim (stored_i
             omega (arith, e, has_it, low.2))
         | inr a ↦
             (let e : stored (distance_of c j k (counted c (Some w) o) t) ≡ stored (distance_of c j k o t) = ap (λ (r : ℕ). stored (distance_of c j k r t)) a in
-            let below : get_or free I 0 ≤ stored (distance_of c j k o t) = least.lowered.below j k t o lt there small lo lo stands in
+            let below : get_or free I 0 ≤ stored (distance_of c j k o t) = least.below j k t o lt there small lo stands in
             omega (arith, e, below, low.0))
       ]
     ]
@@ -121,11 +122,11 @@ sums_below d b c way row is few low (suc n) l = go (is_of c (get d n)) refl (sum
         let s : total (Number row) (number_among c any_man d (suc n)) ≡ total (Number row) (number_among c any_man d n + 1) = ap (total (Number row)) (number_next d c n true e) in
         omega (arith, s, more, one_more, here, before)
 
-rest_below : (p : State) (d : Placement) (c : Color) (w : Wing) (free row : List ℕ) → IsFree d p.board c free → IsCastled d c w free row → (i : ℕ) → men c any_man d ≤ i → i < 16 → get_or row i 0 ≡ 0
-rest_below p d c w free row least is i m l = omega (arith, (parts d c w free row is i l).0, least.lowered.kept i l, least.unreached.rest i m l)
+rest_below : (p : State) (d : Placement) (c : Color) (w : Wing) (free row : List ℕ) → IsBelow d p.board c free → IsCastled d c w free row → (i : ℕ) → men c any_man d ≤ i → i < 16 → get_or row i 0 ≡ 0
+rest_below p d c w free row least is i m l = omega (arith, (parts d c w free row is i l).0, least.rest i m l)
 
 -- where castling costs more by such a row, it is not paid for
-pub castled_over : (p : State) (d : Placement) (c : Color) (w : Wing) (free row : List ℕ) (limit x : ℕ) → IsPosition p → holds p.rights c w ≡ true → IsFree d p.board c free → IsCastled d c w free row → men c any_man d ≤ 16 → x ≡ row_cost (Some w) row → limit < x → CastledIs p d c w limit false
+pub castled_over : (p : State) (d : Placement) (c : Color) (w : Wing) (free row : List ℕ) (limit x : ℕ) → IsPosition p → holds p.rights c w ≡ true → IsBelow d p.board c free → IsCastled d c w free row → men c any_man d ≤ 16 → x ≡ row_cost (Some w) row → limit < x → CastledIs p d c w limit false
 unfolding RightsClause
 castled_over p d c w free row limit x good held least is few e over = castled_by p d c w limit false held (pays_not p d c (Some w) limit None above (λ v f. absurd (cc)))
   where
@@ -134,3 +135,40 @@ castled_over p d c w free row limit x good held least is few e over = castled_by
         let all : total (Number row) (number_among c any_man d 64) ≡ total (Number row) 16 = ap (total (Number row)) (tally_below-all (of_color c any_man) d 64 refl) ∙ sym (sum_skip (Number row) (men c any_man d) 16 few (λ i m l. rest_below p d c w free row least is i m l)) in
         let below : total (Number row) (number_among c any_man d 64) ≤ total (cost p.board d c (Some w)) 64 = sums_below d p.board c (Some w) row (castled_below p d c w free row (good.homes c w held) least is) few s.0 64 (omega arith) in
         omega (arith, all, below, s.1, e, over)
+
+-- the same by the way without castling
+free_below : (p : State) (d : Placement) (c : Color) (row : List ℕ) → IsBelow d p.board c row → (j : Kind) (t : ℕ) → t < 64 → Stands d c j t → number_among c any_man d t < 16 → at_target d c row t ≤ stored (nearest p.board c None j t)
+unfolding nearest
+free_below p d c row least j t lt there small = elim (stored_is N) [ inl z ↦ omega (arith, z.1, least.top j t lt there small) | inr z ↦ near z.0 (least_reached F 64) ]
+  where
+    F : ℕ → ℕ
+    F = λ o. reach_of c None j t o (get p.board o)
+
+    N : ℕ
+    N = least_of F 64
+
+    near : N ≢ 64 → (N ≡ 64) ⊎ ((o : ℕ) × (o < 64) × (N ≡ F o)) → at_target d c row t ≤ stored N
+    near ne (inl e) = absurd (ne e)
+    near ne (inr (o, lo, e)) = elim (reach_cases c None j t o (get p.board o)) [
+      | inl z ↦ absurd (ne (e ∙ z))
+      | inr h ↦
+          (let q : stored N ≡ stored (distance_of c j h.0 o t) = ap stored (e ∙ reach_own p.board c None j h.0 t o h.1) in
+          omega (arith, q, least.below j h.0 t o lt there small lo h.1))
+    ]
+
+pub free_over : (p : State) (d : Placement) (c : Color) (row : List ℕ) (limit x : ℕ) → IsBelow d p.board c row → men c any_man d ≤ 16 → x ≡ row_cost None row → limit < x → PaysIs p d c None limit false
+free_over p d c row limit x least few e over = pays_not p d c None limit None above (λ v f. absurd (cc))
+  where
+    above : (v : ℕ) → SumIs p.board d c None (Some v) → limit < v
+    above v s =
+        let all : total (Number row) (number_among c any_man d 64) ≡ total (Number row) 16 = ap (total (Number row)) (tally_below-all (of_color c any_man) d 64 refl) ∙ sym (sum_skip (Number row) (men c any_man d) 16 few (λ i m l. least.rest i m l)) in
+        let below : total (Number row) (number_among c any_man d 64) ≤ total (cost p.board d c None) 64 = sums_below d p.board c None row (free_below p d c row least) few s.0 64 (omega arith) in
+        omega (arith, all, below, s.1, e, over)
+
+-- least distances are such a row
+pub free_is_below : (d b : Placement) (c : Color) (row : List ℕ) → IsFree d b c row → IsBelow d b c row
+free_is_below d b c row least = record {
+  below = λ j k t o lt there small lo stands. least.lowered.below j k t o lt there small lo lo stands;
+  top = λ j t lt there small. omega (arith, least.lowered.kept (number_among c any_man d t) small, least.unreached.none (number_among c any_man d t) (below_all d c t lt (of_there d c j t there)) small);
+  rest = λ i m l. omega (arith, least.lowered.kept i l, least.unreached.rest i m l);
+}

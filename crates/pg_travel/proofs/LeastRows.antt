@@ -159,17 +159,14 @@ OfKind b c off k q = StandsOff b (man c k) off q
 pub of_kind : (d b : Placement) (c : Color) (off : ℕ) (k : Kind) (m : Man) (x y : List ℕ) → m ≡ man c k → IsLowered d b m.color None (StandsOff b m off) x y → IsLowered d b c None (OfKind b c off k) x y
 of_kind d b c off k m x y e h = subst (λ (z : Man). IsLowered d b z.color None (StandsOff b z off) x y) e h
 
-pub off_all : (d b : Placement) (c : Color) (off : ℕ) (none pawns knights bishops rooks queens kings : List ℕ) → IsUnreached (men c any_man d) none → IsLowered d b c None (OfKind b c off Pawn) none pawns → IsLowered d b c None (OfKind b c off Knight) pawns knights → IsLowered d b c None (OfKind b c off Bishop) knights bishops → IsLowered d b c None (OfKind b c off Rook) bishops rooks → IsLowered d b c None (OfKind b c off Queen) rooks queens → IsLowered d b c None (OfKind b c off King) queens kings → IsLeastFrom d b c (IsOff off) kings
-off_all d b c off none pawns knights bishops rooks queens kings free p n s r q k = record {
-  none = none;
-  unreached = free;
-  lowered = lowered_as d b c None Six (IsOff off) none kings to back
-      (lowered_then d b c None Five (OfKind b c off King) none queens kings
-      (lowered_then d b c None Four (OfKind b c off Queen) none rooks queens
-      (lowered_then d b c None Three (OfKind b c off Rook) none bishops rooks
-      (lowered_then d b c None Two (OfKind b c off Bishop) none knights bishops
-      (lowered_then d b c None (OfKind b c off Pawn) (OfKind b c off Knight) none pawns knights p n) s) r) q) k);
-}
+pub off_lowered : (d b : Placement) (c : Color) (off : ℕ) (none pawns knights bishops rooks queens kings : List ℕ) → IsLowered d b c None (OfKind b c off Pawn) none pawns → IsLowered d b c None (OfKind b c off Knight) pawns knights → IsLowered d b c None (OfKind b c off Bishop) knights bishops → IsLowered d b c None (OfKind b c off Rook) bishops rooks → IsLowered d b c None (OfKind b c off Queen) rooks queens → IsLowered d b c None (OfKind b c off King) queens kings → IsLowered d b c None (IsOff off) none kings
+off_lowered d b c off none pawns knights bishops rooks queens kings p n s r q k =
+    lowered_as d b c None Six (IsOff off) none kings to back
+    (lowered_then d b c None Five (OfKind b c off King) none queens kings
+    (lowered_then d b c None Four (OfKind b c off Queen) none rooks queens
+    (lowered_then d b c None Three (OfKind b c off Rook) none bishops rooks
+    (lowered_then d b c None Two (OfKind b c off Bishop) none knights bishops
+    (lowered_then d b c None (OfKind b c off Pawn) (OfKind b c off Knight) none pawns knights p n) s) r) q) k)
   where
     Two : ℕ → Type 0
     Two = λ q. OfKind b c off Pawn q ⊎ OfKind b c off Knight q
@@ -202,6 +199,9 @@ off_all d b c off none pawns knights bishops rooks queens kings free p n s r q k
     back q l (inl (inr h)) = h.1
     back q l (inr h) = h.1
 
+pub off_all : (d b : Placement) (c : Color) (off : ℕ) (none pawns knights bishops rooks queens kings : List ℕ) → IsUnreached (men c any_man d) none → IsLowered d b c None (OfKind b c off Pawn) none pawns → IsLowered d b c None (OfKind b c off Knight) pawns knights → IsLowered d b c None (OfKind b c off Bishop) knights bishops → IsLowered d b c None (OfKind b c off Rook) bishops rooks → IsLowered d b c None (OfKind b c off Queen) rooks queens → IsLowered d b c None (OfKind b c off King) queens kings → IsLeastFrom d b c (IsOff off) kings
+off_all d b c off none pawns knights bishops rooks queens kings free p n s r q k = record { none = none; unreached = free; lowered = off_lowered d b c off none pawns knights bishops rooks queens kings p n s r q k }
+
 -- off no square are all men, and off the homes those that no way moves
 pub free_is : (d b : Placement) (c : Color) (off : ℕ) (row : List ℕ) → HasNoneFrom off 0 → IsLeastFrom d b c (IsOff off) row → IsFree d b c row
 free_is d b c off row none h = record { none = h.none; unreached = h.unreached; lowered = lowered_as d b c None (IsOff off) (λ q. q < 64) h.none row (λ q k l stands p on. (let f : has off q ≡ false = none q (omega arith) l in let g : has off q ≡ true = on in cc)) (λ q l p. l) h.lowered }
@@ -210,7 +210,7 @@ pub away_is : (d b : Placement) (c : Color) (off : ℕ) (row : List ℕ) → IsS
 away_is d b c off row homes h = record { none = h.none; unreached = h.unreached; lowered = lowered_as d b c None (IsOff off) (λ q. ¬ IsHomeOf c q) h.none row (λ q k l stands p on. p ((homes q l).0 on)) (λ q l p home. p ((homes q l).1 home)) h.lowered }
 
 -- ---- the least of all
-distance_low : (c : Color) (j k : Kind) (r t : ℕ) → r < 64 → t < 64 → distance_of c j k r t ≤ 64
+pub distance_low : (c : Color) (j k : Kind) (r t : ℕ) → r < 64 → t < 64 → distance_of c j k r t ≤ 64
 distance_low c j k r t lr lt = elim (eqb_tells (distance_of c j k r t) 64) [
   | inl w ↦ omega (arith, w.1)
   | inr w ↦ (let b : (distance_of c j k r t ≤ distance_of c j k r t) × (distance_of c j k r t < 64) = walk_bounds c k r j t (distance_of c j k r t) lr lt (some_by_steps c k r j t (distance_of c j k r t) lr lt refl w.1).0 in omega (arith, b.1))

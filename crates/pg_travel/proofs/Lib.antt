@@ -12,3 +12,4 @@ pub mod MakingRows
 pub mod FurtherRows
 pub mod Sides
 pub mod CastledRows
+pub mod AfterMove

@@ -95,6 +95,10 @@ row_from d c k j r t n i row is lt there e small = is.at t i lt (of_there d c j 
 pub row_has : (d : Placement) (c : Color) (k j : Kind) (r t : ℕ) (row : List ℕ) → IsRow d c k r row → t < 64 → number_among c any_man d t < 16 → Stands d c j t → get_or row (number_among c any_man d t) 0 ≡ stored (distance_of c j k r t)
 row_has d c k j r t row is lt small there = row_from d c k j r t 0 (number_among c any_man d t) row is lt there (omega arith) small
 
+pub row_rest : (d : Placement) (c : Color) (k : Kind) (r : ℕ) (row : List ℕ) → IsRow d c k r row → (i : ℕ) → men c any_man d ≤ i → i < 16 → get_or row i 0 ≡ 0
+unfolding IsRowFrom
+row_rest d c k r row is i past small = is.rest i (omega arith) small
+
 pub page_is : (d : Placement) (c : Color) (k : Kind) (r u p : ℕ) (v row : List ℕ) (b : Bool) → r < 64 → ((i : ℕ) → i < 16 → men c any_man d ≤ 16 * p + i → get_or v i 0 ≡ 0) → (IsReached d c p → IsRowFrom d c k r (16 * p) row) → IsTrue b ↔ RowFits v u row → IsTrue b ↔ PageFits d c k r u p v
 unfolding RowFits PageFits
 page_is d c k r u p v row b lr zeros isrow tells = ((λ y. forth (tells.0 y)), (λ y. tells.1 (back y)))

@@ -37,7 +37,7 @@ use Rattle.pg_travel.proofs.Skips.{IsOwn, cost_off, sum_skip}
 abbrev pub Differ : Placement → Placement → ℕ → Type 0
 Differ b d moved = (q : ℕ) → q < 64 → (has moved q ≡ false) ↔ (get b q ≡ get d q)
 
-and_true : (a b : Bool) → (a && b) ≡ true → (a ≡ true) × (b ≡ true)
+pub and_true : (a b : Bool) → (a && b) ≡ true → (a ≡ true) × (b ≡ true)
 and_true true b h = (refl, h)
 and_true false b h = absurd (cc)
 
@@ -53,7 +53,7 @@ color_same : (c : Color) → color_eq c c ≡ true
 color_same White = refl
 color_same Black = refl
 
-man_of : (c : Color) (o : Option Man) → is_of c o ≡ true → (k : Kind) × (o ≡ Some (man c k))
+pub man_of : (c : Color) (o : Option Man) → is_of c o ≡ true → (k : Kind) × (o ≡ Some (man c k))
 man_of c None e = absurd (cc)
 man_of c (Some m) e = (m.kind, ap (λ (x : Color). Some (man x m.kind)) ((color_decides m.color c).0 e))
 
@@ -97,7 +97,7 @@ walk_home : (m : Man) (j : Kind) (r t : ℕ) → r < 64 → t < 64 → distance_
 walk_home m j r t lr lt e = (some_by_steps m.color m.kind r j t 0 lr lt (sym e) (λ f. cc)).0
 
 -- a man that has to come to a square where no such man stands, and where castling brings none
-cost_moved : (b d : Placement) (c : Color) (way : Option Wing) (j : Kind) (t : ℕ) → t < 64 → get d t ≡ Some (man c j) → get b t ≢ get d t → ((o : ℕ) → counted c way o ≡ t → o ≡ t) → 1 ≤ cost b d c way t
+pub cost_moved : (b d : Placement) (c : Color) (way : Option Wing) (j : Kind) (t : ℕ) → t < 64 → get d t ≡ Some (man c j) → get b t ≢ get d t → ((o : ℕ) → counted c way o ≡ t → o ≡ t) → 1 ≤ cost b d c way t
 unfolding nearest
 cost_moved b d c way j t lt there other back =
     let e : cost b d c way t ≡ nearest b c way j t = cost_man b d c way j t there in
@@ -129,7 +129,7 @@ pub sure_free : (b d : Placement) (c : Color) (own moved n : ℕ) → IsOwn d c 
 unfolding CostsEach
 sure_free b d c own moved n is differ both q l h = cost_differs b d c None own moved q is differ l (sym (both q) ∙ h) (λ o e. e)
 
-uncounted : (x y : Bool) (t u o q : ℕ) → q ≢ t → q ≢ u → cond x t (cond y u o) ≡ q → o ≡ q
+pub uncounted : (x y : Bool) (t u o q : ℕ) → q ≢ t → q ≢ u → cond x t (cond y u o) ≡ q → o ≡ q
 uncounted true y t u o q a b e = absurd (a (sym e))
 uncounted false true t u o q a b e = absurd (b (sym e))
 uncounted false false t u o q a b e = e

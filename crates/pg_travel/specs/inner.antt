@@ -5,3 +5,4 @@ pub mod Within
 pub mod PriceTests
 pub mod DistanceRows
 pub mod LeastRows
+pub mod AfterMove

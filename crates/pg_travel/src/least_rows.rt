@@ -19,7 +19,7 @@ use pg_position::{Position, Wing, king_crossed, king_home, king_target, rook_hom
 
 // The lesser of each two numbers.
 #[inline(always)]
-fn lesser(least: [u8; 16], row: [u8; 16]) -> [u8; 16]
+pub(crate) fn lesser(least: [u8; 16], row: [u8; 16]) -> [u8; 16]
     ensures { AreLesser least row result }
 {
     let mut lowered = least;
@@ -53,7 +53,13 @@ fn homes(color: Color) -> SquareSet
 
 // Lowered by the rows of each such man that stands off these squares.
 #[inline(always)]
-fn lowered_by(rows: &Rows, board: &Board, man: Man, off: SquareSet, least: [u8; 16]) -> [u8; 16]
+pub(crate) fn lowered_by(
+    rows: &Rows,
+    board: &Board,
+    man: Man,
+    off: SquareSet,
+    least: [u8; 16],
+) -> [u8; 16]
     ensures { IsLowered rows.now board.now man.color None (StandsOff board.now man off) least result }
 {
     let mut own = board.squares_of(man) - off;
@@ -146,7 +152,7 @@ fn least(rows: &Rows, board: &Board, color: Color, way: Option<Wing>, away: [u8;
 
 // What a way costs by a row of least distances.
 #[inline(always)]
-fn cost_by(way: Option<Wing>, row: [u8; 16]) -> u16
+pub(crate) fn cost_by(way: Option<Wing>, row: [u8; 16]) -> u16
     ensures { result ≡ row_cost way row }
 {
     charge(way) + sum(row)
@@ -193,7 +199,7 @@ fn too_many_castled(rows: &Rows, position: &Position, color: Color, right: Wing,
 // Lowered by the rows of king and rook where castling brings them. It moves no other man, so by that
 // way none is nearer than this row has it.
 #[inline(always)]
-fn castled(rows: &Rows, color: Color, wing: Wing, free: [u8; 16]) -> [u8; 16]
+pub(crate) fn castled(rows: &Rows, color: Color, wing: Wing, free: [u8; 16]) -> [u8; 16]
     ensures { IsCastled rows.now color wing free result }
 {
     let king = lesser(free, rows.of(color, Kind::King, king_target(color, wing)));

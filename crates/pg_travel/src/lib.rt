@@ -2,6 +2,7 @@
 //! colour can come to their squares of a diagram.
 #![tactic(auto)]
 
+mod after_move;
 mod bands;
 mod castling;
 mod distances;

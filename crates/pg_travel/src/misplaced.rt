@@ -29,7 +29,7 @@ fn target_and_crossed(color: Color, wing: Wing) -> SquareSet
 
 // The squares that castling brings king and rook to. Each case stands apart, so that the sets are
 // four constants to choose from.
-fn castled_squares(color: Color, wing: Wing) -> SquareSet
+pub(crate) fn castled_squares(color: Color, wing: Wing) -> SquareSet
     ensures { IsSetOf result (λ q. (q ≡ king_target color wing) ⊎ (q ≡ king_crossed color wing)) }
 {
     match color {

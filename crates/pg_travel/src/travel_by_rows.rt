@@ -1,7 +1,10 @@
 //! The bound by travel for one diagram, by rows.
 ghost use Rattle.std.specs.Prelude.{◌≡◌, ℕ, ◌↔◌, IsTrue};
+ghost use Rattle.pg_position.specs.declared.state.State.{State};
+ghost use Rattle.pg_position.specs.Step.{IsLegal, Legal};
 ghost use Rattle.pg_travel.specs.Needs.{TravelTest, TravelHolds};
 
+use crate::after_move::mover_excludes;
 use crate::least_rows::excludes_by;
 use crate::needs::excludes_for;
 use crate::rows::Rows;
@@ -52,6 +55,43 @@ fn travel_holds_by(rows: &Rows, diagram: &Diagram, position: &Position, left: u8
     }
 }
 
+// Whether the test of either colour holds after a legal move. The colour that has just moved is tried last:
+// it was told from the position before the move not to exclude.
+#[inline(never)]
+fn either_excludes_after(
+    rows: &Rows,
+    diagram: &Diagram,
+    position: &Position,
+    m: &Move,
+    left: u8,
+) -> bool
+    requires rows { rows.now ≡ diagram.now }
+    requires legal { IsLegal position.now m.now }
+    ensures { (q : State) → Legal position.now m.now q → IsTrue result ↔ TravelHolds diagram.now q left }
+{
+    let there = position.after(m);
+    let side = there.side();
+    color_excludes(rows, side, diagram, &there, left)
+        || color_excludes(rows, side.other(), diagram, &there, left)
+}
+
+// The same, by the colour that moves where it excludes, and so mostly from the position before the move.
+#[inline(always)]
+fn excludes_after_by(
+    rows: &Rows,
+    diagram: &Diagram,
+    position: &Position,
+    m: &Move,
+    left: u8,
+) -> bool
+    requires rows { rows.now ≡ diagram.now }
+    requires legal { IsLegal position.now m.now }
+    ensures { (q : State) → Legal position.now m.now q → IsTrue result ↔ TravelHolds diagram.now q left }
+{
+    mover_excludes(rows, position, m, left)
+        || either_excludes_after(rows, diagram, position, m, left)
+}
+
 /// The bound by travel, code 4, for many positions and one diagram: it excludes what `Travel` does, for
 /// any diagram, and is several times as fast for the one that its rows are made of.
 #[derive(Drop)]
@@ -84,6 +124,10 @@ impl Bound for TravelByRows {
     }
 
     fn excludes_after(&self, diagram: &Diagram, position: &Position, m: &Move, left: u8) -> bool {
-        travel_holds_by(&self.rows, diagram, &position.after(m), left)
+        if self.rows.is_of(diagram) {
+            excludes_after_by(&self.rows, diagram, position, m, left)
+        } else {
+            travel_holds(diagram, &position.after(m), left)
+        }
     }
 }

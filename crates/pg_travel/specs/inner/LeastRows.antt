@@ -73,6 +73,12 @@ pub record IsLeastRow (d b : Placement) (c : Color) (way : Option Wing) (row : L
   pub at : (j : Kind) (t : ℕ) → t < 64 → Stands d c j t → number_among c any_man d t < 16 → at_target d c row t ≡ stored (nearest b c way j t)
   pub rest : (i : ℕ) → men c any_man d ≤ i → i < 16 → get_or row i 0 ≡ 0
 
+-- none of c's men on b is nearer to one of the first sixteen of c's men of d than the row has it, and zeros after the last
+pub record IsBelow (d b : Placement) (c : Color) (row : List ℕ) : Type 0 where
+  pub below : (j k : Kind) (t o : ℕ) → t < 64 → Stands d c j t → number_among c any_man d t < 16 → o < 64 → Stands b c k o → at_target d c row t ≤ steps_of c None k o j t
+  pub top : (j : Kind) (t : ℕ) → t < 64 → Stands d c j t → number_among c any_man d t < 16 → at_target d c row t ≤ 255
+  pub rest : (i : ℕ) → men c any_man d ≤ i → i < 16 → get_or row i 0 ≡ 0
+
 -- row is the least of free and of the rows of king and rook on the squares that castling brings them to
 pub record IsCastled (d : Placement) (c : Color) (w : Wing) (free row : List ℕ) : Type 0 where
   pub king : List ℕ

@@ -1,0 +1,193 @@
+//! What a move leaves of its own side's travel, told from the position before it, by rows. Nearly every
+//! move that travel excludes is of no use to its own side, so no position need be made for it.
+ghost use Rattle.std.specs.Prelude.{◌≡◌, ◌≢◌, ℕ, ◌<◌, ◌≤◌, ◌↔◌, IsTrue, true, false, None};
+ghost use Rattle.pg_board.specs.Bits.{has};
+ghost use Rattle.pg_board.specs.declared.man.Color.{Color as AColor};
+ghost use Rattle.pg_board.specs.declared.man.Kind.{Kind as AKind};
+ghost use Rattle.pg_board.specs.Placement.{Placement, get};
+ghost use Rattle.pg_captures.specs.Counting.{men, any_man};
+ghost use Rattle.pg_position.specs.declared.state.State.{State};
+ghost use Rattle.pg_position.specs.Position.{Stands, IsPosition};
+ghost use Rattle.pg_position.specs.Step.{Legal};
+ghost use Rattle.pg_travel.specs.Needs.{TravelTest};
+ghost use Rattle.pg_travel.specs.inner.AfterMove.{MayCastle, AreMoved, KeepsRights, IsMoved, AreToCome, NonePays};
+ghost use Rattle.pg_travel.specs.inner.LeastRows.{IsBelow};
+ghost use Rattle.pg_travel.specs.inner.Within.{PaysIs, CastledIs, CostsEach};
+
+use crate::castling::charge;
+use crate::least_rows::{castled, cost_by, lowered_by};
+use crate::misplaced::castled_squares;
+use crate::rows::Rows;
+use pg_board::{Board, Color, Kind, Man, SquareSet};
+use pg_captures::plies_left;
+use pg_position::{Move, Position, Wing, king_home, king_target};
+
+// Whether a move of the colour may be castling, as far as its squares tell.
+fn may_castle(color: Color, m: &Move) -> bool
+    ensures { IsTrue result ↔ MayCastle color m.now }
+{
+    m.from == king_home(color)
+        && (m.to == king_target(color, Wing::KingSide)
+            || m.to == king_target(color, Wing::QueenSide))
+}
+
+// Whether another man than the one that moves is to stand where it goes, if any is.
+#[inline(always)]
+fn differs_there(board: &Board, goal: &Board, m: &Move) -> bool
+    ensures { IsTrue result → get board.now m.now.from ≢ get goal.now m.now.to }
+{
+    match board.get(m.from) {
+        None => false,
+        Some(man) => !goal.squares_of(man).contains(m.to),
+    }
+}
+
+// Squares to which men of the colour are to come after a move that is no castling: where none of them
+// stands, the one that the move leaves, and the one that it comes to if another man is to stand there.
+#[inline(always)]
+fn to_come_after(rows: &Rows, board: &Board, color: Color, m: &Move) -> SquareSet
+    ensures { (a : Placement) → AreMoved board.now a color m.now.from m.now.to → AreToCome a rows.now color result }
+{
+    let own = rows.goal().squares_of_color(color);
+    let moved = board.differing(rows.goal()) | SquareSet::single(m.from);
+    let there = SquareSet::single(m.to);
+    let elsewhere = (own & moved) - there;
+    if own.contains(m.to) && differs_there(board, rows.goal(), m) {
+        elsewhere | there
+    } else {
+        elsewhere
+    }
+}
+
+// Of squares to which men are to come, those where each of them costs something by a way.
+#[inline(always)]
+fn sure_of(come: SquareSet, color: Color, way: Option<Wing>) -> SquareSet
+    ensures { (b d : Placement) → AreToCome b d color come → CostsEach b d color way result }
+{
+    match way {
+        None => come,
+        Some(wing) => come - castled_squares(color, wing),
+    }
+}
+
+// Whether a way costs more than so many plies by the men that are to come, a ply for each.
+#[inline(always)]
+fn too_many(come: SquareSet, color: Color, way: Option<Wing>, plies: u16) -> bool
+    ensures { IsTrue result → (q : State) (d : Placement) → AreToCome q.board d color come
+        → PaysIs q d color way plies false }
+{
+    let sure = sure_of(come, color, way);
+    charge(way) + u16::from(sure.len()) > plies
+}
+
+// The same of castling by a right, and whether that is not held.
+#[inline(always)]
+fn too_many_castled(
+    position: &Position,
+    come: SquareSet,
+    color: Color,
+    right: Wing,
+    plies: u16,
+) -> bool
+    ensures { IsTrue result → (q : State) (d : Placement) → KeepsRights position.now q color
+        → AreToCome q.board d color come → CastledIs q d color right plies false }
+{
+    if position.rights().holds(color, right) {
+        too_many(come, color, Some(right), plies)
+    } else {
+        true
+    }
+}
+
+// Whether so many plies pay for no way after the move, by the men that are to come: no row is read.
+#[inline(always)]
+fn far_off(rows: &Rows, position: &Position, color: Color, m: &Move, plies: u16) -> bool
+    ensures { IsTrue result → (q : State) → IsMoved position.now q color m.now → NonePays q rows.now color plies }
+{
+    let come = to_come_after(rows, &position.board(), color, m);
+    too_many(come, color, None, plies)
+        && too_many_castled(position, come, color, Wing::KingSide, plies)
+        && too_many_castled(position, come, color, Wing::QueenSide, plies)
+}
+
+// Distances that none of the colour's men is nearer than after the move, which brings a man of this kind
+// to its square: the row of that man, lowered by those of all others.
+#[inline(always)]
+fn row_after(rows: &Rows, board: &Board, color: Color, kind: Kind, m: &Move) -> [u8; 16]
+    ensures { Stands board.now color kind m.now.from → (a : Placement)
+        → AreMoved board.now a color m.now.from m.now.to → IsBelow rows.now a color result }
+{
+    // A fact for the proof: the square is on the board.
+    m.to.index();
+    let off = SquareSet::single(m.from);
+    let arrived = rows.of(color, kind, m.to);
+    let pawns = lowered_by(rows, board, Man::new(color, Kind::Pawn), off, arrived);
+    let knights = lowered_by(rows, board, Man::new(color, Kind::Knight), off, pawns);
+    let bishops = lowered_by(rows, board, Man::new(color, Kind::Bishop), off, knights);
+    let rooks = lowered_by(rows, board, Man::new(color, Kind::Rook), off, bishops);
+    let queens = lowered_by(rows, board, Man::new(color, Kind::Queen), off, rooks);
+    lowered_by(rows, board, Man::new(color, Kind::King), off, queens)
+}
+
+// Whether castling by a right is not paid for, by such distances, or the right is not held.
+#[inline(always)]
+fn castled_above(
+    rows: &Rows,
+    position: &Position,
+    color: Color,
+    right: Wing,
+    row: [u8; 16],
+    plies: u16,
+) -> bool
+    requires { men color any_man rows.now ≤ 16 }
+    ensures { IsTrue result → (q : State) → IsPosition q → KeepsRights position.now q color
+        → IsBelow rows.now q.board color row → CastledIs q rows.now color right plies false }
+{
+    if position.rights().holds(color, right) {
+        cost_by(Some(right), castled(rows, color, right, row)) > plies
+    } else {
+        true
+    }
+}
+
+// Whether so many plies pay for no way after the move, by rows. A function of its own, since the men that
+// are to come are mostly too many.
+#[inline(never)]
+fn rows_above(rows: &Rows, position: &Position, color: Color, m: &Move, plies: u16) -> bool
+    requires { men color any_man rows.now ≤ 16 }
+    ensures { IsTrue result → (q : State) → IsMoved position.now q color m.now → NonePays q rows.now color plies }
+{
+    let board = position.board();
+    let Some(man) = board.get(m.from) else {
+        return false;
+    };
+    let row = row_after(rows, &board, color, man.kind, m);
+    if cost_by(None, row) <= plies {
+        return false;
+    }
+    if !castled_above(rows, position, color, Wing::KingSide, row, plies) {
+        return false;
+    }
+    castled_above(rows, position, color, Wing::QueenSide, row, plies)
+}
+
+// Whether the side that makes a legal move is sure to exclude after it. A no says nothing: promotions are not
+// told from here, nor castling.
+#[inline(always)]
+pub(crate) fn mover_excludes(rows: &Rows, position: &Position, m: &Move, left: u8) -> bool
+    ensures { IsTrue result → (q : State) → Legal position.now m.now q
+        → TravelTest rows.now q left position.now.side }
+{
+    let color = position.side();
+    if m.promotion.is_some() {
+        return false;
+    }
+    if may_castle(color, m) {
+        return false;
+    }
+    if rows.men(color) > 16 {
+        return false;
+    }
+    let plies = u16::from(plies_left(color.other(), color, left));
+    far_off(rows, position, color, m, plies) || rows_above(rows, position, color, m, plies)
+}
