@@ -1,5 +1,5 @@
 -- Sums that stop at a limit. Leads to the contracts of `total_within`, `pays` and `excludes_for`.
-use Rattle.std.proofs.Common.{◌≡◌, ◌≢◌, ℕ, zero, suc, ◌+◌, ◌*◌, ◌<◌, ◌≤◌, ◌⊎◌, ◌&&◌, inl, inr, not, nat_eq, Bool, true, false, cond, Option, Some, None, count_ones, refl, sym, ap, subst, arith, ◌∙◌, IsTrue, ◌↔◌, leb, ◌||◌}
+use Rattle.std.proofs.Common.{◌≡◌, ◌≢◌, ℕ, zero, suc, ◌+◌, ◌*◌, ◌<◌, ◌≤◌, ◌⊎◌, ◌&&◌, inl, inr, not, nat_eq, Bool, true, false, cond, Option, Some, None, count_ones, refl, sym, ap, subst, arith, ◌∙◌, IsTrue, ◌↔◌, leb, ◌||◌, min}
 use Rattle.std.proofs.lemmas.Bool.Decides.{eqb_tells, leb_tells}
 use Rattle.std.proofs.lemmas.Bool.{ne_eqb}
 use Rattle.pg_board.specs.declared.man.Color.{Color}
@@ -23,7 +23,7 @@ use Rattle.pg_travel.specs.Origins.{charge, counted}
 use Rattle.pg_travel.specs.inner.Formulas.{distance_of}
 use Rattle.pg_travel.specs.Needs.{NeedIs, TravelTest}
 use Rattle.pg_travel.specs.lemmas.NeedLemmas.{test_fails}
-use Rattle.pg_travel.specs.inner.Costs.{reach_of, nearest, cost, SumIs, lesser}
+use Rattle.pg_travel.specs.inner.Costs.{reach_of, nearest, cost, ValueIs, SumIs, HeldBeside, most_of, lesser}
 use Rattle.pg_travel.specs.lemmas.Pawns.{some_by_steps}
 use Rattle.pg_travel.specs.lemmas.Values.{sum_is_value, cost_home, cost_man, counted_low}
 use Rattle.pg_travel.specs.Decided.{sum_of}
@@ -316,3 +316,35 @@ all_within b d c way limit None e h = go (sum_of b d c way).0 (sum_of b d c way)
         let few : charge way ≤ 1 = charge_low way in
         let is : v ≡ charge way + total (cost b d c way) 64 = s.1 in
         omega arith)
+
+-- ---- values beside the best so far
+both_sums : (b d : Placement) (c : Color) (way : Option Wing) (r o : Option ℕ) → SumIs b d c way r → SumIs b d c way o → r ≡ o
+both_sums b d c way None None h s = refl
+both_sums b d c way None (Some w) h s = absurd (omega (arith, s.0 h.0 h.1, h.2))
+both_sums b d c way (Some v) None h s = absurd (omega (arith, h.0 s.0 s.1, s.2))
+both_sums b d c way (Some v) (Some w) h s = ap Some (h.1 ∙ sym s.1)
+
+as_good : (b d : Placement) (c : Color) (way : Option Wing) (best r o : Option ℕ) → SumWithin b d c way (most_of best) r → SumIs b d c way o → lesser best r ≡ lesser best o
+as_good b d c way best (Some v) o h s = ap (lesser best) (both_sums b d c way (Some v) o h s)
+as_good b d c way best None None h s = refl
+as_good b d c way (Some x) None (Some v) h s = (let over : x < v = h v s in let e : x ≡ min x v = omega arith in ap Some e)
+as_good b d c way None None (Some v) h s = absurd (let n : SumIs b d c way None = all_within b d c way 4033 None refl h in omega (arith, s.0 n.0 n.1, n.2))
+
+pub held_beside : (p : State) (d : Placement) (c : Color) (w : Wing) (best r : Option ℕ) (limit : ℕ) → limit ≡ most_of best → holds p.rights c w ≡ true → SumWithin p.board d c (Some w) limit r → HeldBeside d p c w best r
+held_beside p d c w best r limit e held h =
+    let s : (o : Option ℕ) × SumIs p.board d c (Some w) o = sum_of p.board d c (Some w) in
+    (s.0, held_by_value p d c w s.0 held (sum_is_value p d c (Some w) s.0 s.1), as_good p.board d c (Some w) best r s.0 (subst (λ (n : ℕ). SumWithin p.board d c (Some w) n r) e h) s.1)
+
+pub none_beside : (p : State) (d : Placement) (c : Color) (w : Wing) (best : Option ℕ) → holds p.rights c w ≡ false → HeldBeside d p c w best None
+none_beside p d c w best e = (None, (λ v held value. (let h : holds p.rights c w ≡ true = held in let both : true ≡ false = sym h ∙ e in cc)), refl)
+
+lesser_along : (a b c : Option ℕ) → lesser (lesser a b) c ≡ lesser a (lesser b c)
+lesser_along None b c = refl
+lesser_along (Some x) None c = refl
+lesser_along (Some x) (Some y) None = refl
+lesser_along (Some x) (Some y) (Some z) = (let e : min (min x y) z ≡ min x (min y z) = omega arith in ap Some e)
+
+pub need_beside : (p : State) (d : Placement) (c : Color) (free short long : Option ℕ) → ValueIs d p c None free → HeldBeside d p c KingSide free short → HeldBeside d p c QueenSide (lesser free short) long → NeedIs d p c (lesser (lesser free short) long)
+need_beside p d c free short long f s l =
+    let e : lesser (lesser free short) long ≡ lesser free (lesser s.0 l.0) = l.2 ∙ ap (λ (x : Option ℕ). lesser x l.0) s.2 ∙ lesser_along free s.0 l.0 in
+    subst (λ (o : Option ℕ). NeedIs d p c o) (sym e) (need_is p d c free s.0 l.0 f s.1 l.1)

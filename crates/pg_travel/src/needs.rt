@@ -7,7 +7,7 @@ ghost use Rattle.pg_board.specs.Men.{color_eq};
 ghost use Rattle.pg_captures.specs.Owed.{plies_left};
 ghost use Rattle.pg_travel.specs.Origins.{counted, charge};
 ghost use Rattle.pg_travel.specs.inner.Formulas.{least_of};
-ghost use Rattle.pg_travel.specs.inner.Costs.{BeyondFar, nearest_man, nearest, cost_of, cost, ValueIs, SumIs, HeldIs, lesser};
+ghost use Rattle.pg_travel.specs.inner.Costs.{BeyondFar, nearest_man, nearest, cost_of, cost, ValueIs, SumIs, HeldBeside, most_of, lesser};
 ghost use Rattle.pg_travel.specs.Needs.{NeedIs, TravelTest};
 ghost use Rattle.pg_travel.specs.inner.Within.{SumWithin, PaysIs, CastledIs};
 
@@ -165,12 +165,30 @@ fn value(position: &Position, diagram: &Diagram, color: Color, way: Option<Wing>
     total(&position.board(), &diagram.board(), color, way)
 }
 
-// The value of a castling way, none where the right is not held too.
-fn castled_value(position: &Position, diagram: &Diagram, color: Color, wing: Wing) -> Option<u16>
-    ensures { HeldIs diagram.now position.now color (Some wing) result }
+// The most that a value may be which is no greater than the best so far.
+fn most_of(best: Option<u16>) -> u16
+    ensures { result ≡ most_of best }
+{
+    match best {
+        None => MOST_VALUE,
+        Some(n) => n,
+    }
+}
+
+// The value of a castling way beside the best of the others: none where it is greater, where it is none, or
+// where the right is not held. Most sums are soon greater, so they stop there.
+fn castled_value(
+    position: &Position,
+    diagram: &Diagram,
+    color: Color,
+    wing: Wing,
+    best: Option<u16>,
+) -> Option<u16>
+    ensures { HeldBeside diagram.now position.now color wing best result }
 {
     if position.rights().holds(color, wing) {
-        value(position, diagram, color, Some(wing))
+        let most = most_of(best);
+        total_within(&position.board(), &diagram.board(), color, Some(wing), most)
     } else {
         None
     }
@@ -188,17 +206,6 @@ fn lesser(a: Option<u16>, b: Option<u16>) -> Option<u16>
     }
 }
 
-// The need, where the value of the way without castling is known.
-fn need_by(color: Color, diagram: &Diagram, position: &Position, free: Option<u16>) -> Option<u16>
-    requires { ValueIs diagram.now position.now color None free }
-    ensures { NeedIs diagram.now position.now color result }
-{
-    let short = castled_value(position, diagram, color, Wing::KingSide);
-    let long = castled_value(position, diagram, color, Wing::QueenSide);
-    let castled = lesser(short, long);
-    lesser(free, castled)
-}
-
 /// The need of a colour: how many plies of its own it needs at least, by distances, to bring its men
 /// from the position onto the squares of the diagram. It is the least value of its ways, none where
 /// no way has one. A way is no castling, or castling by a right that the position holds; its value
@@ -208,7 +215,10 @@ pub fn need(color: Color, diagram: &Diagram, position: &Position) -> Option<u16>
     ensures { NeedIs diagram.now position.now color result }
 {
     let free = value(position, diagram, color, None);
-    need_by(color, diagram, position, free)
+    let short = castled_value(position, diagram, color, Wing::KingSide, free);
+    let better = lesser(free, short);
+    let long = castled_value(position, diagram, color, Wing::QueenSide, better);
+    lesser(better, long)
 }
 
 // Whether so many plies pay for a way.

@@ -61,3 +61,12 @@ abbrev pub lesser : Option ℕ → Option ℕ → Option ℕ
 lesser None b = b
 lesser (Some x) None = Some x
 lesser (Some x) (Some y) = Some (min x y)
+
+-- the most that a value may be beside the best so far: no value is above 64 walks of 63 steps and a charge
+abbrev pub most_of : Option ℕ → ℕ
+most_of None = 4033
+most_of (Some n) = n
+
+-- r is as good beside the best so far as the value of a way of c in p, if it is one
+abbrev pub HeldBeside : Placement → State → Color → Wing → Option ℕ → Option ℕ → Type 0
+HeldBeside d p c w best r = (o : Option ℕ) × HeldIs d p c (Some w) o × (lesser best r ≡ lesser best o)
