@@ -1,5 +1,6 @@
 //! The five clauses of a position, as tests.
-ghost use Rattle.std.specs.Prelude.{◌≡◌, ◌≢◌, ℕ, ◌<◌, ◌↔◌, IsTrue, true};
+ghost use Rattle.std.specs.Prelude.{◌≡◌, ℕ, ◌<◌, ◌⊎◌, ◌↔◌, IsTrue, true};
+ghost use Rattle.pg_board.specs.SquareSets.{IsSetOf};
 ghost use Rattle.pg_board.specs.Squares.{rank};
 ghost use Rattle.pg_position.specs.Position.{Stands, HasOneKing, holds, KingsClause, PawnsClause, IsHome, RightsClause, IsPassed, PassedClause};
 
@@ -7,18 +8,14 @@ use crate::boards::{is_vacant, stands};
 use crate::rights::{Rights, Wing};
 use crate::squares::{ahead, king_home, passed_rank, rook_home};
 use crate::state::State;
-use pg_board::{Board, Color, Kind, Man, Square};
+use pg_board::{Board, Color, Kind, Man, Square, SquareSet};
 
 // Whether each king of the colour is on this square.
 pub(crate) fn has_no_king_but(board: &Board, color: Color, king: Square) -> bool
     ensures { IsTrue result ↔ ((t : ℕ) → t < 64 → Stands board.now color Kind.King t → t ≡ king) }
 {
-    for i in 0..64u8 {
-        if i != king.index() && stands(board, color, Kind::King, Square::at(i)) {
-            return false;
-        }
-    }
-    true
+    let kings = board.squares_of(Man::new(color, Kind::King));
+    (kings - SquareSet::single(king)).is_empty()
 }
 
 #[tactic(auto, unfolding(crate::specs::Position::HasOneKing, crate::specs::Position::IsOnlyKing))]
@@ -37,35 +34,20 @@ pub(crate) fn has_good_kings(board: &Board) -> bool
     has_one_king(board, Color::White) && has_one_king(board, Color::Black)
 }
 
-pub(crate) fn is_inner(square: Square) -> bool
-    ensures { IsTrue result ↔ ((rank square ≢ 1) × (rank square ≢ 8)) }
+// The squares of the ranks 1 and 8.
+fn ends() -> SquareSet
+    ensures { IsSetOf result (λ q. (rank q ≡ 1) ⊎ (rank q ≡ 8)) }
 {
-    square.rank() != 1 && square.rank() != 8
-}
-
-pub(crate) fn has_no_pawn_at_end(board: &Board, square: Square) -> bool
-    ensures { IsTrue result ↔ ((c : Color) → Stands board.now c Kind.Pawn square
-        → (rank square ≢ 1) × (rank square ≢ 8)) }
-{
-    match board.get(square) {
-        Some(man) => match man.kind {
-            Kind::Pawn => is_inner(square),
-            _ => true,
-        },
-        None => true,
-    }
+    SquareSet::of_bits(0xff00_0000_0000_00ff)
 }
 
 #[tactic(auto, unfolding(crate::specs::Position::PawnsClause))]
 pub(crate) fn has_good_pawns(board: &Board) -> bool
     ensures { IsTrue result ↔ PawnsClause board.now }
 {
-    for i in 0..64u8 {
-        if !has_no_pawn_at_end(board, Square::at(i)) {
-            return false;
-        }
-    }
-    true
+    let white = board.squares_of(Man::new(Color::White, Kind::Pawn));
+    let black = board.squares_of(Man::new(Color::Black, Kind::Pawn));
+    !(white | black).meets(ends())
 }
 
 #[tactic(auto, unfolding(crate::specs::Position::IsHome))]
