@@ -208,8 +208,9 @@ impl LegalMoves {
         }
     }
 
-    // The next legal move, once the man that moved last has none left.
-    #[inline(always)]
+    // The next legal move, once the man that moved last has none left: a function of its own, since `next` is inlined where it is
+    // called, and most moves are further ones of the same man.
+    #[inline(never)]
     fn next_beyond(&mut self) -> Option<Move>
         requires { IsManDone self.old.position self.old.last }
         ensures answer { MatchOption result
@@ -244,6 +245,7 @@ impl LegalMoves {
     }
 
     /// The next legal move.
+    #[inline(always)]
     pub fn next(&mut self) -> Option<Move>
         ensures answer { MatchOption result
             (IsLast self.old.position self.old.last)
