@@ -24,7 +24,7 @@ step_game g n m q r l at h legal =
     let e : take (n + 1) g ≡ take n g ++ m ∷ [] = take_more g n m l ∙ ap (λ (x : Move). take n g ++ x ∷ []) (sym at) in
     subst (λ (x : List Move). IsGame array_state x r) (sym e) (game_more array_state (take n g) m q r h legal)
 
-front_at : (g : List Move) (n : ℕ) (m : Move) → n < length g → m ≡ get_or g n m → drop n g ≡ m ∷ drop (n + 1) g
+pub front_at : (g : List Move) (n : ℕ) (m : Move) → n < length g → m ≡ get_or g n m → drop n g ≡ m ∷ drop (n + 1) g
 front_at g n m l at =
     let k : n + 1 ≡ suc n = omega arith in
     rw k (drop-cons g n m l ∙ ap (λ (x : Move). x ∷ drop (suc n) g) (sym at))

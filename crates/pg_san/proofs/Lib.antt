@@ -11,6 +11,7 @@ pub mod FoundLemmas
 pub mod TextFoundLemmas
 pub mod OneTextLemmas
 pub mod GameLemmas
+mod SharedLemmas
 pub mod OrderLemmas
 pub mod CompareLemmas
 pub mod PlaceLemmas

@@ -1,5 +1,5 @@
 //! Lists of different games in canonical order.
-ghost use Rattle.std.specs.Prelude.{◌≡◌, ◌<◌, ◌≤◌, ◌↔◌, IsTrue, [], length, MatchOption, IfErr, OnOk, OnErr, Some, slice_get, map};
+ghost use Rattle.std.specs.Prelude.{◌≡◌, ◌<◌, ◌≤◌, ◌↔◌, IsTrue, [], length, take, MatchOption, IfErr, OnOk, OnErr, Some, slice_get, map};
 ghost use Rattle.std.specs.List.{Contains};
 ghost use Rattle.std.specs.List.Sorted.{IsStrictlySortedBy};
 ghost use Rattle.pg_san.specs.Games.{game_cmp, IsFromArray, IsGames, IsPlace};
@@ -56,12 +56,32 @@ fn compare(a: &[Move], b: &[Move]) -> Ordering
     }
 }
 
-// The first ply, counted from 1, whose move is not legal.
-fn first_illegal(game: &[Move]) -> Option<usize>
+// How many moves two games have alike before the first that differs.
+fn shared(game: &[Move], known: &[Move]) -> usize
+    ensures same { take result game.now ≡ take result known.now }
+    ensures within { result ≤ length known.now }
+{
+    for i in 0..game.len() {
+        if i >= known.len() || game[i] != known[i] {
+            return i;
+        }
+    }
+    game.len()
+}
+
+// The first ply, counted from 1, whose move is not legal. The moves at its beginning that it shares with a game from the initial
+// array are legal, so they are made and not tried: a list is mostly added to in canonical order, where neighbours begin alike.
+fn first_illegal(game: &[Move], known: &[Move]) -> Option<usize>
+    requires { IsFromArray known.now }
     ensures { MatchOption result (IsFromArray game.now) (λ ply. IsIllegalAt game.now ply) }
 {
+    let shared = shared(game, known);
     let mut position = Position::array();
     for (i, m) in game.iter().enumerate() {
+        if i < shared {
+            position = position.after(m);
+            continue;
+        }
         match position.play(*m) {
             Ok(next) => position = next,
             Err(_) => return Some(i + 1),
@@ -117,6 +137,16 @@ impl Games {
         place(&self.games, game).is_none()
     }
 
+    // The last game; that of no move where it holds none.
+    fn last(&self) -> &[Move]
+        ensures { IsFromArray result.now }
+    {
+        match self.games.as_slice().last() {
+            Some(game) => game.as_slice(),
+            None => &[],
+        }
+    }
+
     // Puts a game of its own at its place.
     fn put(&mut self, i: usize, game: Vec<Move>) -> Result<(), AllocError>
         requires fresh { IsNew self.old game.items }
@@ -141,7 +171,7 @@ impl Games {
         ensures err { IfErr result (λ e. IsAddFault self.old game.now e) }
         ensures unchanged { OnErr result (self.new ≡ self.old) }
     {
-        if let Some(ply) = first_illegal(game) {
+        if let Some(ply) = first_illegal(game, self.last()) {
             return Err(AddFault::IllegalMove(ply));
         }
         if self.len() >= MOST_GAMES {
