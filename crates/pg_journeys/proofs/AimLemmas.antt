@@ -76,11 +76,11 @@ last_none x quiet most xs full none = record {
 }
 
 -- ---- all ends
-none_made : (e : ℕ) → e < 17 → AreNone (get_or (replicate 17 (replicate 384 255)) e [])
+pub none_made : (e : ℕ) → e < 17 → AreNone (get_or (replicate 17 (replicate 384 255)) e [])
 none_made e l = subst (λ (y : List ℕ). AreNone y) (sym (get_or-replicate 17 e (replicate 384 255) [] l)) (λ q m. get_or-replicate 384 q 255 0 m)
 
-pub aims_first : (x : Side) (quiet : Bool) (most : ℕ) → AreAimsTo x quiet most (replicate 17 (replicate 384 255)) 0
-aims_first x quiet most = record { made = λ e l. absurd (omega arith); none = λ e _ l. none_made e l }
+pub aims_first : (x : Side) (quiet : Bool) (most : ℕ) (aims : List (List ℕ)) → ((e : ℕ) → e < 17 → AreNone (get_or aims e [])) → AreAimsTo x quiet most aims 0
+aims_first x quiet most aims none = record { made = λ e l. absurd (omega arith); none = λ e _ l. none e l }
 
 pub aims_next : (x : Side) (quiet : Bool) (most : ℕ) (aims : List (List ℕ)) (xs : List ℕ) (n m : ℕ) → m ≡ n + 1 → n < length aims → IsAim x quiet most n xs →
     AreAimsTo x quiet most aims n → AreAimsTo x quiet most (set aims n xs) m

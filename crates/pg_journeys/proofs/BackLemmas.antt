@@ -1,9 +1,10 @@
 -- A search backwards from goals: who steps to a man, and the counts of paths that it ends with.
-use Rattle.std.proofs.Common.{◌≡◌, ◌≢◌, ℕ, ◌+◌, ◌<◌, ◌≤◌, ◌⊎◌, inl, inr, Bool, true, false, not, ◌&&◌, cond, List, [], ◌∷◌, replicate, refl, sym, ap, subst, arith, ◌∙◌}
+use Rattle.std.proofs.Common.{◌≡◌, ◌≢◌, ℕ, ◌+◌, ◌*◌, ◌<◌, ◌≤◌, ◌⊎◌, inl, inr, Bool, true, false, not, ◌&&◌, cond, List, [], ◌∷◌, refl, sym, ap, subst, arith, ◌∙◌}
 use Rattle.pg_board.specs.Bits.{has}
 use Rattle.pg_board.specs.declared.man.Color.{Color}
 use Rattle.pg_board.specs.declared.man.Kind.{Kind}
 use Rattle.pg_board.specs.declared.man.Kind.TheVariants.{Pawn}
+use Rattle.pg_board.specs.Men.{number_of_kind}
 use Rattle.pg_board.specs.SquareSets.{IsSetOf, HasNoneFrom}
 use Rattle.pg_captures.specs.FreeSteps.{Becomes}
 use Rattle.pg_journeys.specs.Facts.{Facts}
@@ -11,12 +12,12 @@ use Rattle.pg_journeys.specs.Journeys.{Leg, IsLeg, IsPath}
 use Rattle.pg_journeys.specs.lemmas.DecidingPaths.{weigh}
 use Rattle.pg_journeys.specs.lemmas.Turns.{leg}
 use Rattle.pg_journeys.specs.inner.Grounds.{LedTo, Pushes, Captures}
-use Rattle.pg_journeys.specs.inner.Counts.{of_kind, count_at}
+use Rattle.pg_journeys.specs.inner.Counts.{of_kind, count_at, AreNone}
 use Rattle.pg_journeys.specs.inner.Counting.{counts, AreCountsTo}
 use Rattle.pg_journeys.specs.inner.Fronts.{OnSet, IsMeeting, is_met, HasAdvanced, NoneDue}
 use Rattle.pg_journeys.specs.inner.Levels.{IsOpen, IsBackLevel, IsBackStage, IsWhole, BackStart, BackStep, BackWithin, FromSome}
 use Rattle.pg_journeys.specs.declared.distances.Front.{Front}
-use Rattle.pg_journeys.proofs.FrontLemmas.{on_or_off, not_both, and_first, and_second, and_both, not_true, not_false, kind_or, moved, none_at, meeting_none, meeting_as, meeting_then}
+use Rattle.pg_journeys.proofs.FrontLemmas.{on_or_off, not_both, and_first, and_second, and_both, not_true, not_false, kind_or, moved, low_kind, meeting_none, meeting_as, meeting_then}
 use Rattle.pg_journeys.proofs.LevelLemmas.{stage_first, stage_open, stage_level, level_end, whole_idle, whole_end}
 use Rattle.pg_journeys.proofs.StepLemmas.{leg_turn, stays_kind, leg_into, light_step, piece_counts, push_takes_not, capture_takes, quiet_counts, taking_flips, files_or, lands_count, other_count}
 
@@ -128,8 +129,8 @@ module _ (f : Facts) (c : Color) (quiet : Bool) where
     }
 
   -- ---- the search's beginning and ends
-  pub back_first : (goals : List ℕ) (front : Front) → front.next ≡ goals → ((j : Kind) (t : ℕ) → is_met front j t ≡ false) → IsBackStage f c quiet goals 0 (replicate 384 255) front
-  back_first goals front same none = stage_first (BackStart goals) (BackStep f c quiet) (BackWithin f c quiet goals) (replicate 384 255) front none_at none
+  pub back_first : (goals xs : List ℕ) (front : Front) → AreNone xs → front.next ≡ goals → ((j : Kind) (t : ℕ) → is_met front j t ≡ false) → IsBackStage f c quiet goals 0 xs front
+  back_first goals xs front empty same none = stage_first (BackStart goals) (BackStep f c quiet) (BackWithin f c quiet goals) xs front (λ j t l. empty (number_of_kind j * 64 + t) (omega (arith, low_kind j))) none
       (λ j t l h. ap (λ (x : List ℕ). has (of_kind x j) t) same ∙ h)
       (λ j t l h. (j, t, [], l, ap (λ (x : List ℕ). has (of_kind x j) t) (sym same) ∙ h, (refl, refl), omega arith))
 

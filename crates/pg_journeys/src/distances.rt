@@ -8,7 +8,7 @@ ghost use Rattle.pg_board.specs.Men.{number_of_kind};
 ghost use Rattle.pg_captures.specs.FreeSteps.{Becomes};
 ghost use Rattle.pg_journeys.specs.Known.{known};
 ghost use Rattle.pg_journeys.specs.inner.Grounds.{IsGround};
-ghost use Rattle.pg_journeys.specs.inner.Counts.{of_kind, count_at};
+ghost use Rattle.pg_journeys.specs.inner.Counts.{of_kind, count_at, AreNone};
 ghost use Rattle.pg_journeys.specs.inner.Counting.{AreCountsTo, IsReach};
 ghost use Rattle.pg_board.specs.SquareSets.{IsSetOf};
 ghost use Rattle.pg_journeys.specs.inner.Fronts.{IsNoted, AreNoted, IsJoined, OnSet, PawnsOn, IsMeeting, AreTakenDue};
@@ -253,21 +253,27 @@ fn look_back(ground: &Ground, is_quiet: bool, count: u8, front: &mut Front, coun
     }
 }
 
-// The least count from each man on each square to one of these, up to so many; 255 for none.
-pub(crate) fn counts_to(ground: &Ground, is_quiet: bool, goals: [SquareSet; 6], most: u8) -> Counts
+// The least count from each man on each square to one of these, up to so many; 255 for none. They are written where no number is
+// one yet: a table that is handed out would be copied.
+pub(crate) fn counts_to(
+    ground: &Ground,
+    is_quiet: bool,
+    goals: [SquareSet; 6],
+    most: u8,
+    counts: &mut Counts,
+)
     requires sound { IsGround ground.now }
     requires low { most < 200 }
-    ensures { AreCountsTo (known ground.now.facts) ground.now.color is_quiet goals most result }
+    requires none { AreNone counts.old }
+    ensures { AreCountsTo (known ground.now.facts) ground.now.color is_quiet goals most counts.new }
 {
     let mut front = Front::at(goals);
-    let mut counts = [255u8; 384];
     for count in 0..=most {
         if !front.advance() {
             break;
         }
-        look_back(ground, is_quiet, count, &mut front, &mut counts);
+        look_back(ground, is_quiet, count, &mut front, counts);
     }
-    counts
 }
 
 // What is reached from a man by steps: by what count he stands where, and by what count his last step was one that may be

@@ -8,7 +8,7 @@ ghost use Rattle.pg_captures.specs.Owed.{plies_left, victims};
 ghost use Rattle.pg_travel.specs.Origins.{charge as charge_of, counted as counted_on};
 ghost use Rattle.pg_journeys.specs.Journeys.{HasPassed, IsWayUnder};
 ghost use Rattle.pg_journeys.specs.Known.{known, landing};
-ghost use Rattle.pg_journeys.specs.inner.Costing.{IsOnSpan, IsAim, IsLastAim, IsFall, IsCostRow, AreCostsOf, HasTotalTo};
+ghost use Rattle.pg_journeys.specs.inner.Costing.{IsOnSpan, AreNone, IsAim, IsLastAim, IsFall, IsCostRow, AreCostsOf, HasTotalTo};
 ghost use Rattle.pg_journeys.specs.inner.Sides.{IsSide, AreAims, JourneysOf, IsPaidBy};
 
 use crate::distances::{Counts, counts_to, only, place};
@@ -33,43 +33,48 @@ pub(crate) struct Side {
 // By each measure the least counts of paths to each man of the diagram, and last to where a man may be captured.
 pub(crate) type Aims = [Counts; 17];
 
-// The counts to a man of the diagram, up to so many.
-fn aim(side: &Side, is_quiet: bool, most: u8, j: usize) -> Counts
+// Writes the counts to a man of the diagram, up to so many.
+fn aim(side: &Side, is_quiet: bool, most: u8, j: usize, counts: &mut Counts)
     requires side { (d : Placement) × IsSide d side.now }
     requires low { most < 200 }
     requires goal { j < side.now.goals.count }
-    ensures { IsAim side.now is_quiet most j result }
+    requires none { AreNone counts.old }
+    ensures { IsAim side.now is_quiet most j counts.new }
 {
     let square = side.goals.squares[j];
     let goal = only(side.goals.kinds[j], SquareSet::single(square));
-    counts_to(&side.ground, is_quiet, goal, most)
+    counts_to(&side.ground, is_quiet, goal, most, counts);
 }
 
-// The counts to where men may be captured, if there are more men than goals.
-fn last_aim(side: &Side, is_quiet: bool, most: u8) -> Counts
+// Writes the counts to where men may be captured, if there are more men than goals.
+fn last_aim(side: &Side, is_quiet: bool, most: u8, counts: &mut Counts)
     requires side { (d : Placement) × IsSide d side.now }
     requires low { most < 200 }
-    ensures { IsLastAim side.now is_quiet most result }
+    requires none { AreNone counts.old }
+    ensures { IsLastAim side.now is_quiet most counts.new }
 {
     if side.goals.count < side.men.count {
-        counts_to(&side.ground, is_quiet, [side.ground.theirs(); 6], most)
-    } else {
-        [255u8; 384]
+        counts_to(
+            &side.ground,
+            is_quiet,
+            [side.ground.theirs(); 6],
+            most,
+            counts,
+        );
     }
 }
 
-// The counts to each end, up to so many.
-pub(crate) fn aims_of(side: &Side, is_quiet: bool, most: u8) -> Aims
+// Writes the counts to each end, up to so many, where no number is one yet.
+pub(crate) fn fill_aims(side: &Side, is_quiet: bool, most: u8, aims: &mut Aims)
     requires side { (d : Placement) × IsSide d side.now }
     requires low { most < 200 }
-    ensures { AreAims side.now is_quiet most result }
+    requires none { (e : ℕ) → e < 17 → AreNone (get_or aims.old e []) }
+    ensures { AreAims side.now is_quiet most aims.new }
 {
-    let mut aims = [[255u8; 384]; 17];
     for j in 0..side.goals.count {
-        aims[j] = aim(side, is_quiet, most, j);
+        aim(side, is_quiet, most, j, &mut aims[j]);
     }
-    aims[16] = last_aim(side, is_quiet, most);
-    aims
+    last_aim(side, is_quiet, most, &mut aims[16]);
 }
 
 // Where a way counts the man on a square.

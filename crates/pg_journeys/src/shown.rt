@@ -1,11 +1,12 @@
 //! What the plans of a colour show under facts: who may change, where captures land and where men are captured.
-ghost use Rattle.std.specs.Prelude.{◌≡◌, ℕ, ◌<◌, ◌≤◌, ◌↔◌, IsTrue, IfSome, IfNone, MatchOption, Option, List, ◌∷◌, true, false};
+ghost use Rattle.std.specs.Prelude.{◌≡◌, ℕ, ◌<◌, ◌≤◌, ◌↔◌, IsTrue, IfSome, IfNone, MatchOption, Option, List, [], ◌∷◌, get_or, true, false};
 ghost use Rattle.pg_board.specs.SquareSets.{IsSetOf};
 ghost use Rattle.pg_board.specs.Placement.{Placement};
 ghost use Rattle.pg_position.specs.declared.rights.Wing.{Wing as AnyWing};
 ghost use Rattle.pg_captures.specs.Counting.{men, any_man};
 ghost use Rattle.pg_journeys.specs.Known.{known};
 ghost use Rattle.pg_journeys.specs.Plans.{IsAlive};
+ghost use Rattle.pg_journeys.specs.inner.Counts.{AreNone};
 ghost use Rattle.pg_journeys.specs.inner.Sides.{facts_of, square_at, IsSide};
 ghost use Rattle.pg_journeys.specs.inner.Showing.{MayChange, IsMeasured, AreBudgets, ShowsWay, IsJoined, ShowsAmong, IsDead, Shows};
 
@@ -13,7 +14,7 @@ use crate::facts::Facts;
 use crate::ground::ground_of;
 use crate::men::{Men, men_of};
 use crate::narrowing::{Deeds, deeds_of};
-use crate::plans::{Aims, Side, aims_of, budget, counted, is_paid, is_way};
+use crate::plans::{Aims, Side, budget, counted, fill_aims, is_paid, is_way};
 use crate::rooms::rooms_of;
 use pg_board::{Color, SquareSet};
 use pg_fen::Diagram;
@@ -188,17 +189,15 @@ fn side_of(diagram: &Diagram, position: &Position, facts: &Facts, color: Color) 
     }
 }
 
-// The counts of paths of a side by a measure.
-fn counts_by(side: &Side, is_quiet: bool, most: u8) -> Measured
+// Counts the paths of a side by a measure, where no number is a count yet.
+fn measure(side: &Side, is_quiet: bool, measured: &mut Measured)
     requires side { (d : Placement) × IsSide d side.now }
-    requires low { most < 200 }
-    ensures all { IsMeasured side.now is_quiet result }
-    ensures most { result.most ≡ most }
+    requires low { measured.old.most < 200 }
+    requires none { (e : ℕ) → e < 17 → AreNone (get_or measured.old.aims e []) }
+    ensures all { IsMeasured side.now is_quiet measured.new }
+    ensures most { measured.new.most ≡ measured.old.most }
 {
-    Measured {
-        aims: aims_of(side, is_quiet, most),
-        most,
-    }
+    fill_aims(side, is_quiet, measured.most, &mut measured.aims);
 }
 
 // What the plans of a colour show under facts; none where no way is alive.
@@ -221,8 +220,16 @@ pub(crate) fn shown_of(
         return None;
     };
     let side = side_of(diagram, position, facts, color);
-    let moves = counts_by(&side, false, most);
-    let quiet = counts_by(&side, true, fewest);
+    let mut moves = Measured {
+        aims: [[255u8; 384]; 17],
+        most,
+    };
+    measure(&side, false, &mut moves);
+    let mut quiet = Measured {
+        aims: [[255u8; 384]; 17],
+        most: fewest,
+    };
+    measure(&side, true, &mut quiet);
     ways_shown(&side, &moves, &quiet)
 }
 
@@ -264,7 +271,15 @@ pub(crate) fn is_dead(
         return true;
     };
     let side = side_of(diagram, position, facts, color);
-    let moves = counts_by(&side, false, most);
-    let quiet = counts_by(&side, true, fewest);
+    let mut moves = Measured {
+        aims: [[255u8; 384]; 17],
+        most,
+    };
+    measure(&side, false, &mut moves);
+    let mut quiet = Measured {
+        aims: [[255u8; 384]; 17],
+        most: fewest,
+    };
+    measure(&side, true, &mut quiet);
     !some_alive(&side, &moves, &quiet)
 }

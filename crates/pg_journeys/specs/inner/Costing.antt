@@ -17,6 +17,7 @@ use Rattle.pg_journeys.specs.PlanCosts.{AreCosts}
 use Rattle.pg_journeys.specs.Known.{landing}
 use Rattle.pg_journeys.specs.lemmas.DecidingPaths.{weigh}
 use Rattle.pg_journeys.specs.inner.Counting.{counts, count_at}
+pub use Rattle.pg_journeys.specs.inner.Counts.{AreNone}
 use Rattle.pg_journeys.specs.inner.Sides.{square_at, kind_at, facts_of}
 use Rattle.pg_journeys.specs.declared.plans.Side.{Side}
 
@@ -43,10 +44,6 @@ pub record IsLastAim (x : Side) (quiet : Bool) (most : ℕ) (xs : List ℕ) : Ty
   pub least : (k : Kind) (s : ℕ) (j : Kind) (t : ℕ) (ls : List Leg) → s < 64 → t < 64 → x.goals.count < x.men.count →
       (facts_of x).lands (other x.ground.color) t ≡ true → IsPath (facts_of x) x.ground.color k s ls j t →
       weigh (counts (facts_of x) x.ground.color quiet) ls ≤ most → count_at xs k s ≤ weigh (counts (facts_of x) x.ground.color quiet) ls
-
--- no number is a count
-abbrev pub AreNone : List ℕ → Type 0
-AreNone xs = (q : ℕ) → q < 384 → get_or xs q 0 ≡ 255
 
 -- the first n aims are made, and the others are none
 pub record AreAimsTo (x : Side) (quiet : Bool) (most : ℕ) (aims : List (List ℕ)) (n : ℕ) : Type 0 where

@@ -4,7 +4,7 @@ use Rattle.pg_journeys.proofs.BackLemmas.{back_first, back_begins, back_level, b
 use Rattle.pg_journeys.proofs.distances.counts_to.Goals as goal
 
 pub loop-count-init : goal.loop-count-init
-loop-count-init c = back_first (known c.args.ground.now.facts) c.args.ground.now.color c.args.is_quiet c.args.goals c.at-front.result c.at-front.ensures.next c.at-front.ensures.none
+loop-count-init c = back_first (known c.args.ground.now.facts) c.args.ground.now.color c.args.is_quiet c.args.goals c.args.counts.now c.at-front.result c.requires.none c.at-front.ensures.next c.at-front.ensures.none
 
 pub look_back-requires-clause-ready : goal.look_back-requires-clause-ready
 look_back-requires-clause-ready c = back_begins (known c.args.ground.now.facts) c.args.ground.now.color c.args.is_quiet c.args.goals c.loop-count.count c.loop-count.counts c.loop-count.front c.advance.new.self c.loop-count.invariant c.advance.ensures.all
