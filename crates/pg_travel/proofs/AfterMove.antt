@@ -1,5 +1,5 @@
 -- What a move leaves of its own side's travel. Leads to the contracts of after_move.
-use Rattle.std.proofs.Common.{◌≡◌, ◌≢◌, ℕ, ◌<◌, ◌≤◌, ◌⊎◌, ◌&&◌, ◌||◌, not, nat_eq, inl, inr, Bool, true, false, Option, Some, None, is_some, IsTrue, ◌↔◌, List, get_or, refl, sym, ap, subst, arith, ◌∙◌}
+use Rattle.std.proofs.Common.{zero, suc, ◌+◌, ◌-◌, min, count_ones, ◌≡◌, ◌≢◌, ℕ, ◌<◌, ◌≤◌, ◌⊎◌, ◌&&◌, ◌||◌, not, nat_eq, inl, inr, Bool, true, false, Option, Some, None, is_some, IsTrue, ◌↔◌, List, get_or, refl, sym, ap, subst, arith, ◌∙◌}
 use Rattle.std.proofs.lemmas.Bool.Decides.{eqb_tells}
 use Rattle.pg_board.specs.declared.man.Color.{Color}
 use Rattle.pg_board.specs.declared.man.Kind.{Kind}
@@ -8,6 +8,8 @@ use Rattle.pg_board.specs.declared.man.Man.{Man}
 use Rattle.pg_board.specs.Men.{man, is_man, other}
 use Rattle.pg_board.specs.lemmas.Equalities.{is_man_decides}
 use Rattle.pg_board.specs.Placement.{Placement, get}
+use Rattle.pg_board.specs.Tally.{one, count_below, total}
+use Rattle.pg_board.specs.lemmas.Sums.{total-suc, count_below-le}
 use Rattle.pg_board.specs.SquareSets.{IsSetOf}
 use Rattle.pg_position.specs.declared.rights.Wing.{Wing}
 use Rattle.pg_position.specs.declared.rights.Wing.TheVariants.{KingSide, QueenSide}
@@ -30,11 +32,12 @@ use Rattle.pg_travel.specs.inner.Formulas.{distance_of}
 use Rattle.pg_travel.specs.inner.AfterMove.{MayCastle, AreMoved, KeepsRights, IsMoved, IsToCome, AreToCome, NonePays}
 use Rattle.pg_travel.specs.inner.DistanceRows.{stored, IsRow}
 use Rattle.pg_travel.specs.inner.LeastRows.{at_target, steps_of, IsLowered, IsOff, IsBelow}
+use Rattle.pg_travel.specs.inner.Costs.{cost, SumIs}
 use Rattle.pg_travel.specs.inner.Within.{CostsEach, PaysIs, CastledIs}
 use Rattle.pg_travel.proofs.Skips.{IsOwn}
 use Rattle.pg_travel.proofs.SourceLemmas.{row_has, row_rest}
 use Rattle.pg_travel.proofs.LeastRows.{same_kind, stored_is, distance_low}
-use Rattle.pg_travel.proofs.Within.{Differ, and_true, man_of, cost_moved, uncounted, castled_by, castled_none, all_above}
+use Rattle.pg_travel.proofs.Within.{Differ, and_true, man_of, cost_moved, uncounted, castled_by, castled_none, all_above, pays_not, surely_unpaid}
 
 -- ---- what a legal move leaves
 module _ (p : State) (m : Move) (none : m.promotion ≡ None) (plain : ¬ MayCastle p.side m) where
@@ -75,7 +78,7 @@ true_or : (a b : Bool) → (a || b) ≡ true → (a ≡ true) ⊎ (b ≡ true)
 true_or true b h = inl refl
 true_or false b h = inr h
 
-not_true : (a : Bool) → not a ≡ true → a ≡ false
+pub not_true : (a : Bool) → not a ≡ true → a ≡ false
 not_true true h = absurd (cc)
 not_true false h = refl
 
@@ -131,6 +134,61 @@ each_castled b d c w n castled rest at is come t l on =
     let h : IsToCome b d c t = come t l left.0 in
     cost_moved b d c (Some w) h.0 t l h.1 h.2 (λ o e. uncounted (nat_eq o (king_home c)) (nat_eq o (rook_home c w)) (king_target c w) (king_crossed c w) o t (λ f. off (inl f)) (λ f. off (inr f)) e)
 
+-- ---- a right that may be gone
+pub if_held : (q : State) (d : Placement) (c : Color) (w : Wing) (limit : ℕ) → (holds q.rights c w ≡ true → CastledIs q d c w limit false) → CastledIs q d c w limit false
+if_held q d c w limit f = go (holds q.rights c w) refl
+  where
+    go : (x : Bool) → holds q.rights c w ≡ x → CastledIs q d c w limit false
+    go true e = f e
+    go false e = castled_none q d c w limit e
+
+pub if_held_pays : (q : State) (d : Placement) (c : Color) (w : Wing) (limit : ℕ) → PaysIs q d c (Some w) limit false → CastledIs q d c w limit false
+if_held_pays q d c w limit h = if_held q d c w limit (λ held. castled_by q d c w limit false held h)
+
+-- where two more than the plies are to come, castling is not paid for: it brings two of them
+costs_but_two : (f : ℕ → ℕ) (set t u n : ℕ) → ((q : ℕ) → q < n → has set q ≡ true → q ≢ t → q ≢ u → 1 ≤ f q) → count_below (has set) n ≤ total f n + min 1 (n - t) + min 1 (n - u)
+costs_but_two f set t u zero each = omega (arith, count_below-le (has set) 0)
+costs_but_two f set t u (suc n) each = go (has set n) refl (costs_but_two f set t u n (λ q l. each q (omega arith)))
+  where
+    more : count_below (has set) (suc n) ≡ count_below (has set) n + one (has set n)
+    more = total-suc (λ k. one (has set k)) n
+
+    all : total f (suc n) ≡ total f n + f n
+    all = total-suc f n
+
+    go : (x : Bool) → has set n ≡ x → count_below (has set) n ≤ total f n + min 1 (n - t) + min 1 (n - u) → count_below (has set) (suc n) ≤ total f (suc n) + min 1 (suc n - t) + min 1 (suc n - u)
+    go false e before = let z : one (has set n) ≡ 0 = ap one e in omega (arith, more, all, before)
+    go true e before =
+        let z : one (has set n) ≡ 1 = ap one e in
+        elim (eqb_tells n t) [
+          | inl w ↦ (let at : n ≡ t = w.1 in omega (arith, more, all, before))
+          | inr w ↦ elim (eqb_tells n u) [
+            | inl v ↦ (let at : n ≡ u = v.1 in omega (arith, more, all, before))
+            | inr v ↦ (let cost : 1 ≤ f n = each n (omega arith) e w.1 v.1 in omega (arith, more, all, before))
+          ]
+        ]
+
+castled_far : (q : State) (d : Placement) (c : Color) (w : Wing) (limit come : ℕ) → AreToCome q.board d c come → limit + 1 < count_below (has come) 64 → CastledIs q d c w limit false
+castled_far q d c w limit come men far = if_held_pays q d c w limit (pays_not q d c (Some w) limit None above (λ v f. absurd (cc)))
+  where
+    each : (t : ℕ) → t < 64 → has come t ≡ true → t ≢ king_target c w → t ≢ king_crossed c w → 1 ≤ cost q.board d c (Some w) t
+    each t l on a b = let h : IsToCome q.board d c t = men t l on in cost_moved q.board d c (Some w) h.0 t l h.1 h.2 (λ o e. uncounted (nat_eq o (king_home c)) (nat_eq o (rook_home c w)) (king_target c w) (king_crossed c w) o t a b e)
+
+    above : (v : ℕ) → SumIs q.board d c (Some w) (Some v) → limit < v
+    above v s =
+        let few : count_below (has come) 64 ≤ total (cost q.board d c (Some w)) 64 + min 1 (64 - king_target c w) + min 1 (64 - king_crossed c w) = costs_but_two (cost q.board d c (Some w)) come (king_target c w) (king_crossed c w) 64 each in
+        let e : v ≡ 1 + total (cost q.board d c (Some w)) 64 = s.1 in
+        omega arith
+
+free_far : (q : State) (d : Placement) (c : Color) (limit come : ℕ) → count_ones come ≡ count_below (has come) 64 → AreToCome q.board d c come → limit < count_ones come → PaysIs q d c None limit false
+free_far q d c limit come ones men far = surely_unpaid q d c None limit come ones (each_free q.board d c come men) (omega arith)
+
+pub all_far : (q : State) (d : Placement) (c : Color) (limit come : ℕ) → count_ones come ≡ count_below (has come) 64 → AreToCome q.board d c come → limit + 1 < count_ones come → NonePays q d c limit
+all_far q d c limit come ones men far = (free_far q d c limit come ones men (omega arith), castled_far q d c KingSide limit come men (omega (arith, ones)), castled_far q d c QueenSide limit come men (omega (arith, ones)))
+
+pub each_far : (q : State) (d : Placement) (c : Color) (limit come : ℕ) → count_ones come ≡ count_below (has come) 64 → AreToCome q.board d c come → limit < count_ones come → CastledIs q d c KingSide limit false → CastledIs q d c QueenSide limit false → NonePays q d c limit
+each_far q d c limit come ones men far short long = (free_far q d c limit come ones men far, short, long)
+
 -- ---- rows
 pub below_moved : (d b a : Placement) (c : Color) (k : Kind) (r s off : ℕ) (first row : List ℕ) → s < 64 → Stands b c k r → IsSetOf off (λ q. q ≡ r) → IsRow d c k s first → IsLowered d b c None (IsOff off) first row → AreMoved b a c r s → IsBelow d a c row
 below_moved d b a c k r s off first row ls stands at isrow low who = record {
@@ -157,17 +215,6 @@ below_moved d b a c k r s off first row ls stands at isrow low who = record {
     near j i t o lt there small lo here (inr w) =
         let before : (o ≢ r) × Stands b c i o = who.others i o lo w.1 here in
         low.below j i t o lt there small lo (λ x. before.0 ((at o lo).0 x)) before.1
-
--- ---- a right that may be gone
-pub if_held : (q : State) (d : Placement) (c : Color) (w : Wing) (limit : ℕ) → (holds q.rights c w ≡ true → CastledIs q d c w limit false) → CastledIs q d c w limit false
-if_held q d c w limit f = go (holds q.rights c w) refl
-  where
-    go : (x : Bool) → holds q.rights c w ≡ x → CastledIs q d c w limit false
-    go true e = f e
-    go false e = castled_none q d c w limit e
-
-pub if_held_pays : (q : State) (d : Placement) (c : Color) (w : Wing) (limit : ℕ) → PaysIs q d c (Some w) limit false → CastledIs q d c w limit false
-if_held_pays q d c w limit h = if_held q d c w limit (λ held. castled_by q d c w limit false held h)
 
 -- the kind of the man that moves
 pub kind_there : (b there : Placement) (c : Color) (k : Kind) (r : ℕ) (m : Man) → there ≡ b → get there r ≡ Some m → Stands b c k r → Stands there c m.kind r

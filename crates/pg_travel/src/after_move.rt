@@ -1,6 +1,6 @@
 //! What a move leaves of its own side's travel, told from the position before it, by rows. Nearly every
 //! move that travel excludes is of no use to its own side, so no position need be made for it.
-ghost use Rattle.std.specs.Prelude.{◌≡◌, ◌≢◌, ℕ, ◌<◌, ◌≤◌, ◌↔◌, IsTrue, true, false, None};
+ghost use Rattle.std.specs.Prelude.{◌≡◌, ◌≢◌, ℕ, ◌<◌, ◌≤◌, ◌↔◌, IsTrue, true, false, None, Some};
 ghost use Rattle.pg_board.specs.Bits.{has};
 ghost use Rattle.pg_board.specs.declared.man.Color.{Color as AColor};
 ghost use Rattle.pg_board.specs.declared.man.Kind.{Kind as AKind};
@@ -20,6 +20,7 @@ use crate::misplaced::castled_squares;
 use crate::rows::Rows;
 use pg_board::{Board, Color, Kind, Man, SquareSet};
 use pg_captures::plies_left;
+use pg_fen::Diagram;
 use pg_position::{Move, Position, Wing, king_home, king_target};
 
 // Whether a move of the colour may be castling, as far as its squares tell.
@@ -45,39 +46,29 @@ fn differs_there(board: &Board, goal: &Board, m: &Move) -> bool
 // Squares to which men of the colour are to come after a move that is no castling: where none of them
 // stands, the one that the move leaves, and the one that it comes to if another man is to stand there.
 #[inline(always)]
-fn to_come_after(rows: &Rows, board: &Board, color: Color, m: &Move) -> SquareSet
-    ensures { (a : Placement) → AreMoved board.now a color m.now.from m.now.to → AreToCome a rows.now color result }
+fn to_come_after(goal: &Board, board: &Board, color: Color, m: &Move) -> SquareSet
+    ensures { (a : Placement) → AreMoved board.now a color m.now.from m.now.to → AreToCome a goal.now color result }
 {
-    let own = rows.goal().squares_of_color(color);
-    let moved = board.differing(rows.goal()) | SquareSet::single(m.from);
+    let own = goal.squares_of_color(color);
+    let moved = board.differing(goal) | SquareSet::single(m.from);
     let there = SquareSet::single(m.to);
     let elsewhere = (own & moved) - there;
-    if own.contains(m.to) && differs_there(board, rows.goal(), m) {
+    if own.contains(m.to) && differs_there(board, goal, m) {
         elsewhere | there
     } else {
         elsewhere
     }
 }
 
-// Of squares to which men are to come, those where each of them costs something by a way.
+// Whether castling costs more than so many plies by the men that are to come: a ply for each but those whom
+// castling may bring.
 #[inline(always)]
-fn sure_of(come: SquareSet, color: Color, way: Option<Wing>) -> SquareSet
-    ensures { (b d : Placement) → AreToCome b d color come → CostsEach b d color way result }
-{
-    match way {
-        None => come,
-        Some(wing) => come - castled_squares(color, wing),
-    }
-}
-
-// Whether a way costs more than so many plies by the men that are to come, a ply for each.
-#[inline(always)]
-fn too_many(come: SquareSet, color: Color, way: Option<Wing>, plies: u16) -> bool
+fn too_many(come: SquareSet, color: Color, right: Wing, plies: u16) -> bool
     ensures { IsTrue result → (q : State) (d : Placement) → AreToCome q.board d color come
-        → PaysIs q d color way plies false }
+        → PaysIs q d color (Some right) plies false }
 {
-    let sure = sure_of(come, color, way);
-    charge(way) + u16::from(sure.len()) > plies
+    let sure = come - castled_squares(color, right);
+    charge(Some(right)) + u16::from(sure.len()) > plies
 }
 
 // The same of castling by a right, and whether that is not held.
@@ -93,21 +84,31 @@ fn too_many_castled(
         → AreToCome q.board d color come → CastledIs q d color right plies false }
 {
     if position.rights().holds(color, right) {
-        too_many(come, color, Some(right), plies)
+        too_many(come, color, right, plies)
     } else {
         true
     }
 }
 
-// Whether so many plies pay for no way after the move, by the men that are to come: no row is read.
+// Whether so many plies pay for no way after the move, by the men that are to come: no row is read. Castling
+// brings two men at most that are to come, and costs a ply, so it need not be told where they are so many
+// more.
 #[inline(always)]
-fn far_off(rows: &Rows, position: &Position, color: Color, m: &Move, plies: u16) -> bool
-    ensures { IsTrue result → (q : State) → IsMoved position.now q color m.now → NonePays q rows.now color plies }
+fn too_many_to_come(goal: &Board, position: &Position, color: Color, m: &Move, plies: u16) -> bool
+    ensures { IsTrue result → (q : State) → IsMoved position.now q color m.now → NonePays q goal.now color plies }
 {
-    let come = to_come_after(rows, &position.board(), color, m);
-    too_many(come, color, None, plies)
-        && too_many_castled(position, come, color, Wing::KingSide, plies)
-        && too_many_castled(position, come, color, Wing::QueenSide, plies)
+    let come = to_come_after(goal, &position.board(), color, m);
+    let count = u16::from(come.len());
+    if count <= plies {
+        return false;
+    }
+    if count - plies > 1 {
+        return true;
+    }
+    if !too_many_castled(position, come, color, Wing::KingSide, plies) {
+        return false;
+    }
+    too_many_castled(position, come, color, Wing::QueenSide, plies)
 }
 
 // Distances that none of the colour's men is nearer than after the move, which brings a man of this kind
@@ -150,9 +151,8 @@ fn castled_above(
     }
 }
 
-// Whether so many plies pay for no way after the move, by rows. A function of its own, since the men that
-// are to come are mostly too many.
-#[inline(never)]
+// Whether so many plies pay for no way after the move, by rows.
+#[inline(always)]
 fn rows_above(rows: &Rows, position: &Position, color: Color, m: &Move, plies: u16) -> bool
     requires { men color any_man rows.now ≤ 16 }
     ensures { IsTrue result → (q : State) → IsMoved position.now q color m.now → NonePays q rows.now color plies }
@@ -171,23 +171,45 @@ fn rows_above(rows: &Rows, position: &Position, color: Color, m: &Move, plies: u
     castled_above(rows, position, color, Wing::QueenSide, row, plies)
 }
 
-// Whether the side that makes a legal move is sure to exclude after it. A no says nothing: promotions are not
-// told from here, nor castling.
+// Whether the move is told from the position before it: no promotion, and no castling as far as its squares
+// tell.
 #[inline(always)]
-pub(crate) fn mover_excludes(rows: &Rows, position: &Position, m: &Move, left: u8) -> bool
+fn is_told(color: Color, m: &Move) -> bool
+    ensures { IsTrue result → (m.now.promotion ≡ None) × (MayCastle color m.now → ⊥) }
+{
+    if m.promotion.is_some() {
+        return false;
+    }
+    !may_castle(color, m)
+}
+
+// Whether the side that makes a legal move is sure to exclude after it, by its men that are to come. A no says
+// nothing.
+#[inline(always)]
+pub(crate) fn far_off_after(diagram: &Diagram, position: &Position, m: &Move, left: u8) -> bool
+    ensures { IsTrue result → (q : State) → Legal position.now m.now q
+        → TravelTest diagram.now q left position.now.side }
+{
+    let color = position.side();
+    if !is_told(color, m) {
+        return false;
+    }
+    let plies = u16::from(plies_left(color.other(), color, left));
+    too_many_to_come(&diagram.board(), position, color, m, plies)
+}
+
+// The same by rows.
+pub(crate) fn above_after(rows: &Rows, position: &Position, m: &Move, left: u8) -> bool
     ensures { IsTrue result → (q : State) → Legal position.now m.now q
         → TravelTest rows.now q left position.now.side }
 {
     let color = position.side();
-    if m.promotion.is_some() {
-        return false;
-    }
-    if may_castle(color, m) {
+    if !is_told(color, m) {
         return false;
     }
     if rows.men(color) > 16 {
         return false;
     }
     let plies = u16::from(plies_left(color.other(), color, left));
-    far_off(rows, position, color, m, plies) || rows_above(rows, position, color, m, plies)
+    rows_above(rows, position, color, m, plies)
 }

@@ -328,14 +328,6 @@ impl Rows {
         self.goal == diagram.board()
     }
 
-    // The board of the diagram.
-    #[inline(always)]
-    pub(crate) fn goal(&self) -> &Board
-        ensures { result.now ≡ self.now }
-    {
-        &self.goal
-    }
-
     // How many men of the colour the diagram has.
     pub(crate) fn men(&self, color: Color) -> u8
         ensures { result ≡ men color any_man self.now }

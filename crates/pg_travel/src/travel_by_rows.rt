@@ -4,7 +4,7 @@ ghost use Rattle.pg_position.specs.declared.state.State.{State};
 ghost use Rattle.pg_position.specs.Step.{IsLegal, Legal};
 ghost use Rattle.pg_travel.specs.Needs.{TravelTest, TravelHolds};
 
-use crate::after_move::mover_excludes;
+use crate::after_move::{above_after, far_off_after};
 use crate::least_rows::excludes_by;
 use crate::needs::excludes_for;
 use crate::rows::Rows;
@@ -75,8 +75,9 @@ fn either_excludes_after(
         || color_excludes(rows, side.other(), diagram, &there, left)
 }
 
-// The same, by the colour that moves where it excludes, and so mostly from the position before the move.
-#[inline(always)]
+// The same by rows where they are those of the diagram: from the position before the move, where the colour that
+// moves excludes. A function of its own, since mostly no row is read.
+#[inline(never)]
 fn excludes_after_by(
     rows: &Rows,
     diagram: &Diagram,
@@ -84,12 +85,17 @@ fn excludes_after_by(
     m: &Move,
     left: u8,
 ) -> bool
-    requires rows { rows.now ≡ diagram.now }
-    requires legal { IsLegal position.now m.now }
+    requires { IsLegal position.now m.now }
     ensures { (q : State) → Legal position.now m.now q → IsTrue result ↔ TravelHolds diagram.now q left }
 {
-    mover_excludes(rows, position, m, left)
-        || either_excludes_after(rows, diagram, position, m, left)
+    if rows.is_of(diagram) {
+        if above_after(rows, position, m, left) {
+            return true;
+        }
+        either_excludes_after(rows, diagram, position, m, left)
+    } else {
+        travel_holds(diagram, &position.after(m), left)
+    }
 }
 
 /// The bound by travel, code 4, for many positions and one diagram: it excludes what `Travel` does, for
@@ -124,10 +130,9 @@ impl Bound for TravelByRows {
     }
 
     fn excludes_after(&self, diagram: &Diagram, position: &Position, m: &Move, left: u8) -> bool {
-        if self.rows.is_of(diagram) {
-            excludes_after_by(&self.rows, diagram, position, m, left)
-        } else {
-            travel_holds(diagram, &position.after(m), left)
+        if far_off_after(diagram, position, m, left) {
+            return true;
         }
+        excludes_after_by(&self.rows, diagram, position, m, left)
     }
 }

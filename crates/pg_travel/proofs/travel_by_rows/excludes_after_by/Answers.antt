@@ -1,8 +1,13 @@
-use Rattle.std.proofs.Common.{subst}
+use Rattle.std.proofs.Common.{◌↔◌, IsTrue, refl, subst}
 use Rattle.pg_board.specs.Placement.{Placement}
+use Rattle.pg_position.specs.declared.state.State.{State}
+use Rattle.pg_position.proofs.FutureLemmas.{one_result}
 use Rattle.pg_travel.specs.Needs.{TravelTest, TravelHolds}
 use Rattle.pg_travel.proofs.travel_by_rows.excludes_after_by.Goals as goal
 
-pub returns-then-mover_excludes : goal.returns-then-mover_excludes
+pub returns-then-above_after : goal.returns-then-above_after
 unfolding TravelHolds
-returns-then-mover_excludes c = λ q legal. ((λ t. (c.args.position.now.side, subst (λ (d : Placement). TravelTest d q c.args.left c.args.position.now.side) c.requires.rows (c.mover_excludes.ensures t q legal))), (λ h. c.if-mover_excludes.true))
+returns-then-above_after c = λ q legal. ((λ t. (c.args.position.now.side, subst (λ (d : Placement). TravelTest d q c.args.left c.args.position.now.side) (c.is_of.ensures.0 c.if-is_of.true) (c.above_after.ensures c.if-above_after.true q legal))), (λ h. refl))
+
+pub returns-else-is_of : goal.returns-else-is_of
+returns-else-is_of c = λ q legal. subst (λ (s : State). IsTrue c.travel_holds.result ↔ TravelHolds c.args.diagram.now s c.args.left) (one_result c.args.position.now c.args.m.now c.after.result q c.after.ensures.from c.after.ensures.legal legal) c.travel_holds.ensures
