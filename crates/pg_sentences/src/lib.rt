@@ -3,6 +3,7 @@
 #![tactic(auto)]
 
 mod counts;
+mod distances;
 mod ending;
 mod names;
 mod numbers;
@@ -11,9 +12,14 @@ mod prices;
 mod sentences;
 mod tally;
 mod travel;
+mod words;
 
 pub use counts::expanded;
+pub use distances::Distances;
 pub use ending::Ending;
 pub use numbers::Node;
-pub use sentences::{Grounds, Sentence, ended, reason_of_bounds, reason_of_cut};
+pub use sentences::{
+    Grounds, Sentence, ended, put_reason_of_bounds, put_reason_of_cut, reason_of_bounds,
+    reason_of_cut,
+};
 pub use tally::Tally;

@@ -1,13 +1,10 @@
-//! How many moves a colour has left, and what a cut by captures, promotions or pawn files says.
+//! How many moves a colour has left, and what excludes it by captures, promotions or pawn files.
 
-use crate::names::{Phrase, color_name, many};
-use crate::sentences::Sentence;
 use pg_board::Color;
 use pg_captures::{owed, pawns, plies_left, shortage};
 use pg_fen::Diagram;
 use pg_pawns::shift_need;
 use pg_position::Position;
-use std::fmt::Write;
 
 /// A node of a certificate: the diagram to come to, its position, and the plies left.
 #[derive(Drop)]
@@ -22,39 +19,62 @@ pub(crate) fn own_plies(node: &Node, color: Color) -> u8 {
     plies_left(node.position.side(), color, node.left)
 }
 
-// That a colour has captured more men than the diagram lacks.
-pub(crate) fn too_many(color: Color, owed: i16) -> Sentence {
-    let mut text = Sentence::new();
-    let color = color_name(color);
-    let men = many(u64::from(owed.unsigned_abs()), "man", "men");
-    let men = men.as_str();
-    let _ = write!(text, "{color} has captured {men} too many");
-    text
+// How castling helps to a need, if it does.
+#[derive(Clone, Copy)]
+pub(crate) enum Castling {
+    None,
+    KingSide,
+    QueenSide,
 }
 
-// Why captures exclude a colour: it owes fewer than none, or more than it has moves left; none where
+// What excludes a colour, in numbers, which are found for many colours that are not excluded: the words come after them.
+#[derive(Clone, Copy)]
+pub(crate) enum Excess {
+    // It has captured so many men more than the diagram lacks, less than none as a number of men to capture.
+    TooMany(i16),
+    // It must capture more men than it has moves.
+    Captures {
+        owed: i16,
+        own: u8,
+    },
+    // It needs more pawns, some of them for pieces, than it has.
+    Promotions {
+        needed: u16,
+        pieces: u16,
+        here: u16,
+    },
+    // Its pawns must change file more often than it has men to capture.
+    Files {
+        shift: u16,
+        owed: i16,
+    },
+    // It needs more moves than it has.
+    Travel {
+        need: u16,
+        own: u8,
+        castling: Castling,
+    },
+    // Its men cannot come to their squares.
+    Nowhere,
+}
+
+// What captures exclude a colour by: it owes fewer than none, or more than it has moves left; none where
 // they do not.
-pub(crate) fn captures_of(node: &Node, color: Color) -> Option<Sentence> {
+pub(crate) fn captures_of(node: &Node, color: Color) -> Option<Excess> {
     let owed = owed(color, node.diagram, node.position);
     let own = own_plies(node, color);
     if owed < 0 {
-        return Some(too_many(color, owed));
+        return Some(Excess::TooMany(owed));
     }
     if owed <= i16::from(own) {
         return None;
     }
-    let mut text = Sentence::new();
-    let color = color_name(color);
-    let men = many(u64::from(owed.unsigned_abs()), "man", "men");
-    let moves = many(u64::from(own), "move", "moves");
-    let (men, moves) = (men.as_str(), moves.as_str());
-    let _ = write!(text, "{color} must capture {men} and has {moves} left");
-    Some(text)
+    Some(Excess::Captures { owed, own })
 }
 
-// Why promotions exclude a colour: pawns are short for the pieces that it lacks and the pawns of the
+// What promotions exclude a colour by: pawns are short for the pieces that it lacks and the pawns of the
 // diagram; none where they do not.
-pub(crate) fn promotions_of(node: &Node, color: Color) -> Option<Sentence> {
+pub(crate) fn promotions_of(node: &Node, color: Color) -> Option<Excess> {
     let goal = node.diagram.board();
     let board = node.position.board();
     let pieces = shortage(&goal, &board, color);
@@ -63,44 +83,23 @@ pub(crate) fn promotions_of(node: &Node, color: Color) -> Option<Sentence> {
     if needed <= here {
         return None;
     }
-    let mut text = Sentence::new();
-    let color = color_name(color);
-    let needs = many(u64::from(needed), "pawn", "pawns");
-    let promoted = if pieces > 0 {
-        let mut words = Phrase::new();
-        let _ = write!(words, ", {pieces} of them to promote,");
-        words
-    } else {
-        Phrase::new()
-    };
-    let short = needed.saturating_sub(here);
-    let (needs, promoted) = (needs.as_str(), promoted.as_str());
-    let _ = write!(
-        text,
-        "{color} needs {needs}{promoted} and has {here}: {short} short"
-    );
-    Some(text)
+    Some(Excess::Promotions {
+        needed,
+        pieces,
+        here,
+    })
 }
 
-// Why changes of file exclude a colour, so many as the lines between files show: it owes fewer captures; none where
+// What changes of file exclude a colour by, so many as the lines between files show: it owes fewer captures; none where
 // they do not.
-pub(crate) fn files_of(node: &Node, color: Color) -> Option<Sentence> {
+pub(crate) fn files_of(node: &Node, color: Color) -> Option<Excess> {
     let shift = shift_need(color, node.diagram, node.position);
     let owed = owed(color, node.diagram, node.position);
     if owed < 0 {
-        return Some(too_many(color, owed));
+        return Some(Excess::TooMany(owed));
     }
     if shift <= owed.unsigned_abs() {
         return None;
     }
-    let mut text = Sentence::new();
-    let color = color_name(color);
-    let times = many(u64::from(shift), "time", "times");
-    let men = many(u64::from(owed.unsigned_abs()), "man", "men");
-    let (times, men) = (times.as_str(), men.as_str());
-    let _ = write!(
-        text,
-        "{color}'s pawns must change file {times}, and {color} has {men} to capture"
-    );
-    Some(text)
+    Some(Excess::Files { shift, owed })
 }

@@ -1,9 +1,10 @@
 //! What a cut by prices says: what each man of the diagram costs, in pairs with the men of the position.
 
 use crate::names::{color_name, man_name, many};
-use crate::numbers::{Node, own_plies, too_many};
+use crate::numbers::{Node, own_plies};
 use crate::pairing::{BySquare, Choices, Partners, settle_all};
 use crate::sentences::Sentence;
+use crate::words::write_too_many;
 use pg_board::{Board, Color, Kind, Man, Square, SquareSet};
 use pg_captures::{owed, price_sum};
 use pg_pawns::PawnFiles;
@@ -340,7 +341,9 @@ fn pawn_prices_of(node: &Node, color: Color, prices: &Prices) -> Option<Sentence
     }
     let owed = owed(color, node.diagram, node.position);
     if owed < 0 {
-        return Some(too_many(color, owed));
+        let mut text = Sentence::new();
+        write_too_many(color, owed, &mut text);
+        return Some(text);
     }
     let (here, goal) = (node.position.board(), node.diagram.board());
     let pawn = Man::new(color, Kind::Pawn);

@@ -1,17 +1,19 @@
 //! What is said of a node that ends.
 
+use crate::distances::Distances;
 use crate::ending::Ending;
-use crate::numbers::{Node, captures_of, files_of, promotions_of};
+use crate::numbers::{Excess, Node, captures_of, files_of, promotions_of};
 use crate::prices::reason_of_prices;
 use crate::travel::travel_of;
+use crate::words::write_excess;
 use arrayvec::ArrayString;
 use pg_board::Color;
 use pg_captures::{Captures, Promotions};
-use pg_certificate::Record;
+use pg_certificate::{Bare, Record};
 use pg_fen::Diagram;
 use pg_pawns::PawnFiles;
 use pg_position::Position;
-use pg_travel::Travel;
+use pg_travel::{Prices, Travel};
 use std::fmt::Write;
 
 // The codes of the four bounds, in the order in which they are asked.
@@ -32,22 +34,79 @@ pub struct Grounds {
     pub text: Sentence,
 }
 
-// Why the bound with this code excludes a colour; none where it does not, or is not known.
-fn reason_of(node: &Node, code: u8, color: Color) -> Option<Sentence> {
+// A colour that is excluded, and what by.
+#[derive(Clone, Copy)]
+struct Shown {
+    color: Color,
+    excess: Excess,
+}
+
+// What the bound with this code excludes a colour by; none where it does not, or is not known.
+fn excess_of(
+    distances: &Option<&Distances>,
+    node: &Node,
+    code: u8,
+    color: Color,
+) -> Option<Excess> {
     match code {
         Captures::CODE => captures_of(node, color),
         Promotions::CODE => promotions_of(node, color),
         PawnFiles::CODE => files_of(node, color),
-        Travel::CODE => travel_of(node, color),
+        Travel::CODE => travel_of(distances, node, color),
         _ => None,
     }
 }
 
 // The same for either colour, White first.
+fn first_excess(distances: &Option<&Distances>, node: &Node, code: u8) -> Option<Shown> {
+    if let Some(excess) = excess_of(distances, node, code, Color::White) {
+        return Some(Shown {
+            color: Color::White,
+            excess,
+        });
+    }
+    match excess_of(distances, node, code, Color::Black) {
+        Some(excess) => Some(Shown {
+            color: Color::Black,
+            excess,
+        }),
+        None => None,
+    }
+}
+
+// Writes why the bound with this code excludes a node; whether it is seen to.
+fn write_reason(
+    distances: &Option<&Distances>,
+    node: &Node,
+    code: u8,
+    text: &mut Sentence,
+) -> bool {
+    match first_excess(distances, node, code) {
+        Some(found) => {
+            write_excess(distances, node, found.color, &found.excess, text);
+            true
+        }
+        None => false,
+    }
+}
+
+// Writes why the first bound that excludes a node does, and says which it is; none where no bound is seen to.
+fn write_first(distances: &Option<&Distances>, node: &Node, text: &mut Sentence) -> Option<u8> {
+    for code in CODES {
+        if write_reason(distances, node, code, text) {
+            return Some(code);
+        }
+    }
+    None
+}
+
+// Why the bound with this code excludes a node; none where it is not seen to.
 fn reason(node: &Node, code: u8) -> Option<Sentence> {
-    match reason_of(node, code, Color::White) {
-        Some(text) => Some(text),
-        None => reason_of(node, code, Color::Black),
+    let mut text = Sentence::new();
+    if write_reason(&None, node, code, &mut text) {
+        Some(text)
+    } else {
+        None
     }
 }
 
@@ -61,12 +120,11 @@ pub(crate) fn first_reason(node: &Node) -> Option<Sentence> {
 
 // The same with the code of that bound.
 fn first_of_four(node: &Node) -> Option<Grounds> {
-    for code in CODES {
-        if let Some(text) = reason(node, code) {
-            return Some(Grounds { code, text });
-        }
+    let mut text = Sentence::new();
+    match write_first(&None, node, &mut text) {
+        Some(code) => Some(Grounds { code, text }),
+        None => None,
     }
-    None
 }
 
 // What is said of a cut, with why it excludes.
@@ -145,6 +203,31 @@ pub fn reason_of_cut(
     }
 }
 
+/// Writes what `reason_of_cut` says into a sentence that is empty, for a record whose price lists, where it has any, stand
+/// elsewhere: the same words, several times as fast for a cut by travel. The code of the bound; none where the record is
+/// no cut.
+pub fn put_reason_of_cut(
+    distances: &Distances,
+    node: &Node,
+    said: &Bare,
+    prices: &Prices,
+    text: &mut Sentence,
+) -> Option<u8> {
+    match said {
+        Bare::Cut(code) => {
+            write_reason(&Some(distances), node, *code, text);
+            Some(*code)
+        }
+        Bare::Priced { code, color } => {
+            if let Some(words) = reason_of_prices(node, *code, *color, prices) {
+                *text = words;
+            }
+            Some(*code)
+        }
+        Bare::Ref(_) | Bare::Expand { .. } => None,
+    }
+}
+
 /// Why the first of the four bounds that excludes a position with so many plies left does; none where no bound is seen
 /// to. No clause speaks of the words.
 pub fn reason_of_bounds(diagram: &Diagram, position: &Position, left: u8) -> Option<Grounds> {
@@ -153,4 +236,10 @@ pub fn reason_of_bounds(diagram: &Diagram, position: &Position, left: u8) -> Opt
         position,
         left,
     })
+}
+
+/// Writes what `reason_of_bounds` says into a sentence that is empty: the same words, several times as fast. The code of
+/// the bound; none where no bound is seen to exclude.
+pub fn put_reason_of_bounds(distances: &Distances, node: &Node, text: &mut Sentence) -> Option<u8> {
+    write_first(&Some(distances), node, text)
 }

@@ -1,7 +1,8 @@
 //! What a cut by travel says.
 
-use crate::names::{color_name, man_name, many};
-use crate::numbers::{Node, own_plies};
+use crate::distances::{Distances, Ways};
+use crate::names::{color_name, man_name};
+use crate::numbers::{Castling, Excess, Node, own_plies};
 use crate::sentences::Sentence;
 use pg_board::{Board, Color, Man, Square};
 use pg_position::{Position, Rights};
@@ -44,13 +45,13 @@ fn need_with(node: &Node, color: Color, kept: Rights) -> Option<u16> {
 }
 
 // How castling helps to a need, if it does.
-fn castling(node: &Node, color: Color, need: u16) -> &'static str {
+fn castling_alone(node: &Node, color: Color, need: u16) -> Castling {
     if need_with(node, color, NO_RIGHTS) == Some(need) {
-        ""
+        Castling::None
     } else if need_with(node, color, KING_SIDE) == Some(need) {
-        ", castling king side"
+        Castling::KingSide
     } else {
-        ", castling queen side"
+        Castling::QueenSide
     }
 }
 
@@ -88,11 +89,29 @@ fn unreached(node: &Node, color: Color) -> Option<(Man, Square)> {
     None
 }
 
+// The same by distances where they serve.
+fn first_unreached(
+    distances: &Option<&Distances>,
+    node: &Node,
+    color: Color,
+) -> Option<(Man, Square)> {
+    match distances {
+        Some(distances) if distances.serve(node.diagram, color) => {
+            distances.unreached(node.position, color)
+        }
+        _ => unreached(node, color),
+    }
+}
+
 // That a man of the diagram comes from nowhere.
-fn from_nowhere(node: &Node, color: Color) -> Sentence {
-    let mut text = Sentence::new();
+pub(crate) fn write_nowhere(
+    distances: &Option<&Distances>,
+    node: &Node,
+    color: Color,
+    text: &mut Sentence,
+) {
     let name = color_name(color);
-    let _ = match unreached(node, color) {
+    let _ = match first_unreached(distances, node, color) {
         Some((man, square)) => {
             let man = man_name(man.kind, square);
             let man = man.as_str();
@@ -100,27 +119,64 @@ fn from_nowhere(node: &Node, color: Color) -> Sentence {
         }
         None => write!(text, "{name}'s men cannot come to their squares (travel)"),
     };
-    text
 }
 
-// Why travel excludes a colour: it needs more moves than it has, or no number of moves is enough; none
-// where it does not.
-pub(crate) fn travel_of(node: &Node, color: Color) -> Option<Sentence> {
+// What travel excludes a colour by, without distances: it needs more moves than it has, or no number of moves is enough;
+// none where it does not.
+fn travel_alone(node: &Node, color: Color) -> Option<Excess> {
     let own = own_plies(node, color);
     let Some(need) = need(color, node.diagram, node.position) else {
-        return Some(from_nowhere(node, color));
+        return Some(Excess::Nowhere);
     };
     if need <= u16::from(own) {
         return None;
     }
-    let mut text = Sentence::new();
-    let name = color_name(color);
-    let castling = castling(node, color, need);
-    let moves = many(u64::from(need), "move", "moves");
-    let moves = moves.as_str();
-    let _ = write!(
-        text,
-        "{name} needs {moves} and has {own} (travel{castling})"
-    );
-    Some(text)
+    Some(Excess::Travel {
+        need,
+        own,
+        castling: castling_alone(node, color, need),
+    })
+}
+
+// How castling helps to a need that is the least of these, if it does.
+fn castling_of(ways: &Ways, need: u16) -> Castling {
+    if ways.free == Some(need) {
+        Castling::None
+    } else if ways.short == Some(need) {
+        Castling::KingSide
+    } else {
+        Castling::QueenSide
+    }
+}
+
+// The same by distances that serve for the diagram and the colour: all ways are counted at once, where `travel_alone`
+// makes positions with fewer rights.
+fn travel_by(distances: &Distances, node: &Node, color: Color) -> Option<Excess> {
+    let own = own_plies(node, color);
+    let ways = distances.ways(node.position, color);
+    let Some(need) = ways.need() else {
+        return Some(Excess::Nowhere);
+    };
+    if need <= u16::from(own) {
+        return None;
+    }
+    Some(Excess::Travel {
+        need,
+        own,
+        castling: castling_of(&ways, need),
+    })
+}
+
+// What travel excludes a colour by, by distances where they serve; none where it does not.
+pub(crate) fn travel_of(
+    distances: &Option<&Distances>,
+    node: &Node,
+    color: Color,
+) -> Option<Excess> {
+    match distances {
+        Some(distances) if distances.serve(node.diagram, color) => travel_by(
+            distances, node, color,
+        ),
+        _ => travel_alone(node, color),
+    }
 }

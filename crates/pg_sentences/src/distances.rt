@@ -1,0 +1,239 @@
+//! What the men of a colour need by travel, of many positions and one diagram.
+
+use pg_board::{Board, Color, Kind, Man, Square, SquareSet};
+use pg_fen::Diagram;
+use pg_position::{Position, Wing, king_crossed, king_home, king_target, rook_home};
+use pg_travel::distance;
+
+// No man of a kind comes from a square.
+const NONE: u8 = 255;
+
+// The kinds by their numbers.
+const KINDS: [Kind; 6] = [
+    Kind::Pawn,
+    Kind::Knight,
+    Kind::Bishop,
+    Kind::Rook,
+    Kind::Queen,
+    Kind::King,
+];
+
+// The distances to the colour's first sixteen men of a diagram, in the order of their squares: 255 for none, and 0 where
+// there are not so many men.
+type Row = [u8; 16];
+
+// A row for each kind and each square.
+type Rows = [Row; 384];
+
+/// The distances of each man on each square to the men of its colour in a diagram, for the words of many nodes: 768 rows
+/// of 16 bytes, made once.
+#[derive(Drop)]
+pub struct Distances {
+    goal: Board,
+    white: Rows,
+    black: Rows,
+}
+
+// What a colour needs in each way, in which it can come to its squares: without castling, and by castling as the rights
+// that it holds allow.
+#[derive(Clone, Copy)]
+pub(crate) struct Ways {
+    pub(crate) free: Option<u16>,
+    pub(crate) short: Option<u16>,
+    pub(crate) long: Option<u16>,
+}
+
+// The distance of a man as a row has it.
+fn steps(man: Man, from: Square, goal: &Board, to: Square) -> u8 {
+    let Some(target) = goal.get(to) else {
+        return NONE;
+    };
+    // Only a pawn comes to be of another kind.
+    if man.kind != Kind::Pawn && man.kind != target.kind {
+        return NONE;
+    }
+    match distance(man, from, target.kind, to) {
+        Some(steps) => steps,
+        None => NONE,
+    }
+}
+
+// The row of a man on a square.
+fn row_of(man: Man, from: Square, goal: &Board) -> Row {
+    let mut row = [0; 16];
+    let mut left = goal.squares_of_color(man.color);
+    for i in 0..16usize {
+        let Some(to) = left.pop_first() else {
+            return row;
+        };
+        row[i] = steps(man, from, goal, to);
+    }
+    row
+}
+
+// Writes the rows of a colour.
+fn fill(color: Color, goal: &Board, rows: &mut Rows) {
+    let mut place = 0usize;
+    for kind in KINDS {
+        let mut squares = SquareSet::full();
+        for _ in 0..64u8 {
+            let Some(from) = squares.pop_first() else {
+                break;
+            };
+            if let Some(row) = rows.get_mut(place) {
+                *row = row_of(Man::new(color, kind), from, goal);
+            }
+            place = place.saturating_add(1);
+        }
+    }
+}
+
+// The lesser numbers of two rows.
+#[inline(always)]
+fn lesser(a: Row, b: &Row) -> Row {
+    let mut least = [0; 16];
+    for i in 0..16usize {
+        least[i] = a[i].min(b[i]);
+    }
+    least
+}
+
+// A row with a man more, who comes from a square.
+#[inline(always)]
+fn with_man(rows: &Rows, kind: Kind, from: Square, row: Row) -> Row {
+    match rows.get(64 * usize::from(kind.number()) + usize::from(from.index())) {
+        Some(other) => lesser(row, other),
+        None => row,
+    }
+}
+
+// A row with the men of a kind more.
+#[inline(always)]
+fn with_men(rows: &Rows, kind: Kind, men: SquareSet, row: Row) -> Row {
+    let mut row = row;
+    let mut left = men;
+    for _ in 0..64u8 {
+        let Some(from) = left.pop_first() else {
+            return row;
+        };
+        let next = with_man(rows, kind, from, row);
+        row = next;
+    }
+    row
+}
+
+// A row with the colour's men of a kind more, of those that stand on these squares.
+#[inline(always)]
+fn with_kind(rows: &Rows, board: &Board, man: Man, squares: SquareSet, row: Row) -> Row {
+    with_men(rows, man.kind, board.squares_of(man) & squares, row)
+}
+
+// The least distances from any of the colour's men on these squares.
+fn row_from(rows: &Rows, board: &Board, color: Color, squares: SquareSet) -> Row {
+    let row = [NONE; 16];
+    let row = with_kind(rows, board, Man::new(color, Kind::Pawn), squares, row);
+    let row = with_kind(rows, board, Man::new(color, Kind::Knight), squares, row);
+    let row = with_kind(rows, board, Man::new(color, Kind::Bishop), squares, row);
+    let row = with_kind(rows, board, Man::new(color, Kind::Rook), squares, row);
+    let row = with_kind(rows, board, Man::new(color, Kind::Queen), squares, row);
+    with_kind(rows, board, Man::new(color, Kind::King), squares, row)
+}
+
+// The value of a way, of which these are the least distances, and that castles or does not; none where one is missing.
+fn value(row: &Row, charge: u16) -> Option<u16> {
+    let mut sum = charge;
+    let mut most = 0u8;
+    for i in 0..16usize {
+        most = most.max(row[i]);
+        sum = sum.saturating_add(u16::from(row[i]));
+    }
+    if most == NONE { None } else { Some(sum) }
+}
+
+// The lesser of two numbers that may be missing.
+fn least(a: Option<u16>, b: Option<u16>) -> Option<u16> {
+    match (a, b) {
+        (Some(a), Some(b)) => Some(a.min(b)),
+        (Some(a), None) => Some(a),
+        (None, b) => b,
+    }
+}
+
+impl Ways {
+    // The need: the least value of a way.
+    pub(crate) fn need(&self) -> Option<u16> {
+        least(self.free, least(self.short, self.long))
+    }
+}
+
+impl Distances {
+    /// The distances to the men of a diagram.
+    pub fn new(diagram: &Diagram) -> Distances {
+        let goal = diagram.board();
+        let mut white = [[0; 16]; 384];
+        let mut black = [[0; 16]; 384];
+        fill(Color::White, &goal, &mut white);
+        fill(Color::Black, &goal, &mut black);
+        Distances { goal, white, black }
+    }
+
+    // Whether they serve for a colour and a diagram: they are of this one, and have all men of the colour.
+    pub(crate) fn serve(&self, diagram: &Diagram, color: Color) -> bool {
+        self.goal == diagram.board() && self.goal.squares_of_color(color).len() <= 16
+    }
+
+    // The rows of a colour.
+    fn rows(&self, color: Color) -> &Rows {
+        match color {
+            Color::White => &self.white,
+            Color::Black => &self.black,
+        }
+    }
+
+    // The value of a castling way, where its right is held: king and rook count where castling brings them, and the other
+    // men where they stand. A right is held only with king and rook at home.
+    fn castled(&self, position: &Position, color: Color, wing: Wing) -> Option<u16> {
+        if !position.rights().holds(color, wing) {
+            return None;
+        }
+        let rows = self.rows(color);
+        let moved = SquareSet::single(king_home(color)) | SquareSet::single(rook_home(color, wing));
+        let row = row_from(rows, &position.board(), color, SquareSet::full() - moved);
+        let row = with_man(rows, Kind::King, king_target(color, wing), row);
+        let row = with_man(rows, Kind::Rook, king_crossed(color, wing), row);
+        value(&row, 1)
+    }
+
+    // What a colour needs in each way.
+    pub(crate) fn ways(&self, position: &Position, color: Color) -> Ways {
+        let board = position.board();
+        let row = row_from(self.rows(color), &board, color, SquareSet::full());
+        Ways {
+            free: value(&row, 0),
+            short: self.castled(position, color, Wing::KingSide),
+            long: self.castled(position, color, Wing::QueenSide),
+        }
+    }
+    // The first man of the colour in the diagram, of sixteen, that no man of the position can come to be where it stands.
+    pub(crate) fn unreached(&self, position: &Position, color: Color) -> Option<(Man, Square)> {
+        let row = row_from(
+            self.rows(color),
+            &position.board(),
+            color,
+            SquareSet::full(),
+        );
+        let mut left = self.goal.squares_of_color(color);
+        for i in 0..16usize {
+            let Some(square) = left.pop_first() else {
+                return None;
+            };
+            if row[i] == NONE {
+                return match self.goal.get(square) {
+                    Some(man) => Some((man, square)),
+                    None => None,
+                };
+            }
+        }
+        None
+    }
+}
