@@ -18,6 +18,16 @@ use Rattle.pg_certificate.specs.declared.fault.ReadFault.{ReadFault}
 use Rattle.pg_certificate.specs.declared.fault.ReadFault.TheVariants.{Trailing}
 use Rattle.pg_checker.proofs.Left.{left_next}
 use Rattle.pg_checker.specs.Passing.{LeadsTo, NextLeads, PassesOver}
+use Rattle.pg_position.specs.Step.{Legal}
+use Rattle.pg_price_lists.specs.PriceLists.{PriceList}
+use Rattle.pg_certificate.specs.Spelling.{record_of}
+use Rattle.pg_certificate.specs.declared.record.Bare.{Bare}
+use Rattle.pg_certificate.specs.declared.record.Bare.TheVariants.{Expand}
+use Rattle.pg_certificate.specs.declared.record.Record.{Record}
+use Rattle.pg_certificate.specs.declared.record.Record.TheVariants.{Expand as WholeExpand}
+use Rattle.pg_guide.specs.Trees.{Advances, Plays, IsTaken, IsEntered, IsNextBareChild, IsNextChild}
+use Rattle.pg_guide.specs.declared.trees.BareChild.{BareChild}
+use Rattle.pg_guide.specs.declared.trees.TreeWalk.{TreeWalk}
 use Rattle.pg_guide.specs.Trees.{OnTop, OnTopIfAny, HasNoMove, IsLeafOf, TakesLeaf, games_after, line_of}
 use Rattle.pg_guide.specs.declared.trees.Frame.{Frame}
 use Rattle.pg_guide.specs.declared.trees.Leaf.{Leaf}
@@ -48,6 +58,46 @@ pub each_on_top : {X : Type 0} (r : Option X) (none : Frame → Frame → Type 0
     → MatchOption r (OnTopIfAny none old (set old n y)) (λ v. OnTop (some v) old (set old n y))
 each_on_top None none some old n x y e is h = inr (on_top none old n x y e is h)
 each_on_top (Some v) none some old n x y e is h = on_top (some v) old n x y e is h
+
+-- ---- children whose records stand apart from their price lists
+-- what is said of an answer that is there
+pub some_of : {X : Type 0} (o : Option X) (x : X) (none : Type 0) (some : X → Type 0) → o ≡ Some x → MatchOption o none some → some x
+some_of {X = X} o x none some e h = subst (λ (v : Option X). MatchOption v none some) e h
+
+-- where a move leads its child is entered as it is at the position that was made
+pub entered_there : (prices : List PriceList) (said : Bare) (named : Bool) (q r : State) (left : ℕ) (old new : TreeWalk)
+    → said ≡ Expand named → r ≡ q → IsEntered r left (WholeExpand named) old new → IsEntered q left (record_of prices said) old new
+entered_there prices said named q r left old new is same h =
+    subst (λ (x : Bare). IsEntered q left (record_of prices x) old new) (sym is) (subst (λ (x : State). IsEntered x left (WholeExpand named) old new) same h)
+
+played_to : (p : State) (m : Move) (q : State) (left : ℕ) (old new : Frame) → Legal p m q → Advances p m left old new → Plays p m q left old new
+played_to p m q left old new legal h = record {
+  from = h.from;
+  next = h.next;
+  leads = subst (λ (x : State). Legal x m q) h.from legal;
+  less = h.less;
+  advanced = h.advanced;
+}
+
+-- the same child with its position and its whole record
+pub next_child : (old new : TreeWalk) (before after : Option (List ℕ)) (prices : List PriceList) (child : BareChild) (q : State) (x : Record)
+    → IsNextBareChild old new before after prices child → Legal child.before child.m q → x ≡ record_of prices child.said
+    → IsNextChild old new before after (record { before = child.before; m = child.m; position = q; left = child.left; «record» = x })
+next_child old new before after prices child q x h legal e = record {
+  played = h.played;
+  plays = record {
+    below = h.plays.below;
+    top_before = h.plays.top_before;
+    top_after = h.plays.top_after;
+    was = h.plays.was;
+    is = h.plays.is;
+    happened = played_to child.before child.m q child.left h.plays.top_before h.plays.top_after legal h.plays.happened;
+  };
+  rest = h.rest;
+  read = h.read;
+  taken = subst (λ (v : Record). IsTaken h.played h.read before after v) (sym e) h.taken;
+  entered = subst (λ (v : Record). IsEntered q child.left v h.read new) (sym e) (h.entered q legal);
+}
 
 -- ---- leaves
 head_of : Move → List Move → Move

@@ -11,12 +11,15 @@ use Rattle.pg_moves.specs.Moves.{IsNext, IsLast}
 use Rattle.pg_fen.specs.Packing.{packed_of}
 use Rattle.pg_certificate.specs.Reader.{to_come, Leaves}
 use Rattle.pg_certificate.specs.Reading.{header_at, record_at}
+use Rattle.pg_certificate.specs.Spelling.{record_of}
 use Rattle.pg_certificate.specs.declared.fault.ReadFault.{ReadFault}
 use Rattle.pg_certificate.specs.declared.fault.ReadFault.TheVariants.{Read as Failing}
 use Rattle.pg_certificate.specs.declared.record.Header.{Header}
 use Rattle.pg_certificate.specs.declared.record.Record.{Record}
 use Rattle.pg_certificate.specs.declared.record.Record.TheVariants.{Expand}
+use Rattle.pg_price_lists.specs.PriceLists.{PriceList}
 use Rattle.pg_checker.specs.Passing.{AllElsewhere, PassesOver}
+use Rattle.pg_guide.specs.declared.trees.BareChild.{BareChild}
 use Rattle.pg_guide.specs.declared.trees.Broken.{Broken}
 use Rattle.pg_guide.specs.declared.trees.Broken.TheVariants.{Read, Refused}
 use Rattle.pg_guide.specs.declared.trees.Child.{Child}
@@ -134,6 +137,28 @@ pub record IsNextChild (old new : TreeWalk) (before after : Option (List ℕ)) (
   pub read : TreeWalk
   pub taken : IsTaken played read before after child.record
   pub entered : IsEntered child.position child.left child.record read new
+
+-- the next move of the node is played, with so many plies left where it leads
+pub record Advances (p : State) (m : Move) (left : ℕ) (old new : Frame) : Type 0 where
+  pub from : p ≡ old.moves.position
+  pub next : IsNext old.moves.position old.moves.last m
+  pub less : left + 1 ≡ old.left
+  pub advanced : new ≡ record old { moves = record { position = old.moves.position; last = Some m } }
+
+-- the child is entered where its move leads, with a record that has these price lists if it has any
+abbrev pub IsEnteredBy : List PriceList → BareChild → TreeWalk → TreeWalk → Type 0
+IsEnteredBy prices child old new =
+    (q : State) → Legal child.before child.m q → IsEntered q child.left (record_of prices child.said) old new
+
+-- the next move of the topmost open node is played, the record of the child is taken, its price lists apart, and opens it
+-- where the move leads if it is an expansion
+pub record IsNextBareChild (old new : TreeWalk) (before after : Option (List ℕ)) (prices : List PriceList) (child : BareChild) : Type 0 where
+  pub played : TreeWalk
+  pub plays : OnTop (Advances child.before child.m child.left) old.frames.items played.frames.items
+  pub rest : played ≡ record old { frames = played.frames }
+  pub read : TreeWalk
+  pub taken : IsTaken played read before after (record_of prices child.said)
+  pub entered : IsEnteredBy prices child read new
 
 -- ---- leaves
 -- no move is left, or none that leads to the diagram d where only such are asked for

@@ -15,4 +15,4 @@ mod writing;
 pub use explaining::{Asked, why};
 pub use fault::WhyFault;
 pub use gathering::{Gathered, gather};
-pub use trees::{Broken, Child, Closed, Leaf, TreeWalk};
+pub use trees::{BareChild, Broken, Child, Closed, Leaf, TreeWalk};

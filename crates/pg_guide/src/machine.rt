@@ -3,7 +3,7 @@
 use crate::found::Cited;
 use arrayvec::ArrayVec;
 use pg_captures::{Bound, Captures, Promotions};
-use pg_certificate::Record;
+use pg_certificate::Bare;
 use pg_fen::Diagram;
 use pg_pawns::PawnFiles;
 use pg_position::{Move, Position};
@@ -52,12 +52,12 @@ fn cut_by(tally: &mut Tally, code: u8) -> &mut u16 {
 }
 
 // Counts a move to a node with this record.
-pub(crate) fn count(tally: &mut Tally, record: &Record) {
+pub(crate) fn count(tally: &mut Tally, said: &Bare) {
     tally.moves = tally.moves.saturating_add(1);
-    let kind = match record {
-        Record::Expand { .. } => &mut tally.lead,
-        Record::Cut(code) | Record::Priced { code, .. } => cut_by(tally, *code),
-        Record::Ref(_) => &mut tally.references,
+    let kind = match said {
+        Bare::Expand { .. } => &mut tally.lead,
+        Bare::Cut(code) | Bare::Priced { code, .. } => cut_by(tally, *code),
+        Bare::Ref(_) => &mut tally.references,
     };
     *kind = kind.saturating_add(1);
 }

@@ -1,20 +1,25 @@
 //! A walk over the trees of a certificate, with a stack of open nodes.
-ghost use Rattle.std.specs.Prelude.{◌≡◌, ◌↔◌, Bool, [], true, length, IsTrue, IfErr, IfNone, IfOk, IfSome, OnErr, OnOk, MatchOption};
+ghost use Rattle.std.specs.Prelude.{◌≡◌, ◌↔◌, Bool, [], true, length, IsTrue, List, IfErr, IfNone, IfOk, IfSome, OnErr, OnOk, MatchOption};
 ghost use Rattle.std.specs.Io.KnownBytes.{IsAtEnd};
 ghost use Rattle.pg_certificate.specs.Reader.{to_come};
 ghost use Rattle.pg_checker.specs.Passing.{LeadsTo};
 ghost use Rattle.pg_moves.specs.Moves.{IsLast};
 ghost use Rattle.pg_position.specs.Step.{IsLegal};
 ghost use Rattle.pg_guide.specs.Trees.{BreaksTruly, broken_of, HasNoHeader, IsBegun, HasNoRecord, IsStuck, IsTaken, IsEntered, IsRooted, IsCounted};
-ghost use Rattle.pg_guide.specs.Trees.{OnTop, OnTopIfAny, HasNoChild, Plays, IsNextChild, Closes, number_taken, next_number, games_with};
+ghost use Rattle.pg_guide.specs.Trees.{OnTop, OnTopIfAny, HasNoChild, IsNextChild, Closes, number_taken, next_number, games_with};
+ghost use Rattle.pg_guide.specs.Trees.{Advances, IsEnteredBy, IsNextBareChild};
+ghost use Rattle.pg_certificate.specs.Spelling.{record_of, PricesStay};
+ghost use Rattle.pg_certificate.specs.declared.record.Record.TheVariants as Record;
+ghost use Rattle.pg_price_lists.specs.PriceLists.{PriceList};
 ghost use Rattle.pg_guide.specs.Trees.{HasNoMove, HasNoLeaf, IsLeafOf, TakesLeaf, HasMore, line_of};
 
 use arrayvec::ArrayVec;
-use pg_certificate::{ReadFault, Record, RecordReader, Source};
+use pg_certificate::{Bare, ReadFault, Record, RecordReader, Source};
 use pg_checker::skip_to_solution;
 use pg_fen::Diagram;
 use pg_moves::LegalMoves;
 use pg_position::{Move, Position};
+use pg_price_lists::Prices;
 
 /// Why a walk breaks off: at a source that fails, or at bytes that are no certificate of what is asked, within the
 /// limit of records.
@@ -33,6 +38,16 @@ pub struct Child {
     pub position: Position,
     pub left: u8,
     pub record: Record,
+}
+
+/// A child of an open node as [`Child`] has it, in a few bytes: without the position after the move, and with a record
+/// whose price lists, where it has any, stand elsewhere.
+#[derive(Clone, Copy)]
+pub struct BareChild {
+    pub before: Position,
+    pub m: Move,
+    pub left: u8,
+    pub said: Bare,
 }
 
 /// A leaf: the position before the last move of a game, the move, and whether it leads to the diagram.
@@ -87,13 +102,11 @@ pub struct TreeWalk {
     closed: u32,
 }
 
-// A child of an open node before its record is read: the position before the move, the move, the position after it, and
-// the plies left there.
+// A child of an open node before its record is read: the position before the move, the move, and the plies left there.
 #[derive(Clone, Copy)]
 struct Played {
     before: Position,
     m: Move,
-    position: Position,
     left: u8,
 }
 
@@ -153,11 +166,28 @@ fn broken_of(fault: ReadFault) -> Broken
     }
 }
 
+// A record with its price lists, where it has any.
+pub(crate) fn whole(said: &Bare, prices: &Prices) -> Record
+    ensures { result ≡ record_of prices.now said.now }
+{
+    match said {
+        Bare::Expand { named } => Record::Expand { named: *named },
+        Bare::Cut(code) => Record::Cut(*code),
+        Bare::Ref(number) => Record::Ref(*number),
+        Bare::Priced { code, color } => Record::Priced {
+            code: *code,
+            color: *color,
+            prices: *prices,
+        },
+    }
+}
+
 impl Frame {
     // Plays the next move, where the node has more than one ply left.
     fn play(&mut self) -> Option<Played>
-        ensures { MatchOption result (HasNoChild self.old self.new)
-            (λ child. Plays child.before child.m child.position child.left self.old self.new) }
+        ensures next { MatchOption result (HasNoChild self.old self.new)
+            (λ child. Advances child.before child.m child.left self.old self.new) }
+        ensures legal { IfSome result (λ child. IsLegal child.before child.m) }
     {
         if self.left <= 1 {
             return None;
@@ -165,15 +195,11 @@ impl Frame {
         let before = self.moves.position();
         match self.moves.next() {
             None => None,
-            Some(m) => {
-                let position = before.after(&m);
-                Some(Played {
-                    before,
-                    m,
-                    position,
-                    left: self.left - 1,
-                })
-            }
+            Some(m) => Some(Played {
+                before,
+                m,
+                left: self.left - 1,
+            }),
         }
     }
 
@@ -201,8 +227,9 @@ impl Frame {
 
 // Plays the next move of the topmost open node, where it has more than one ply left.
 fn play_top(frames: &mut ArrayVec<Frame, 128>) -> Option<Played>
-    ensures { MatchOption result (OnTopIfAny HasNoChild frames.old.items frames.new.items)
-        (λ child. OnTop (Plays child.before child.m child.position child.left) frames.old.items frames.new.items) }
+    ensures next { MatchOption result (OnTopIfAny HasNoChild frames.old.items frames.new.items)
+        (λ child. OnTop (Advances child.before child.m child.left) frames.old.items frames.new.items) }
+    ensures legal { IfSome result (λ child. IsLegal child.before child.m) }
 {
     if frames.is_empty() {
         return None;
@@ -264,9 +291,11 @@ impl TreeWalk {
         })
     }
 
-    // The next record.
-    fn next_record<S: Source>(&mut self, source: &mut S) -> Result<Record, Broken>
-        ensures taken { IfOk result (λ taken. IsTaken self.old self.new (S.left source.old) (S.left source.new) taken) }
+    // The next record, its price lists, where it has any, into `prices`.
+    fn next_bare<S: Source>(&mut self, prices: &mut Prices, source: &mut S) -> Result<Bare, Broken>
+        ensures taken { IfOk result (λ said. IsTaken self.old self.new (S.left source.old) (S.left source.new)
+            (record_of prices.new said)) }
+        ensures stay { IfOk result (λ said. PricesStay said prices.old prices.new) }
         ensures none { IfErr result (λ broken. broken ≡ Broken.Refused → HasNoRecord self.old (S.left source.old)) }
         ensures says { IfErr result (BreaksTruly (S.has_failed source.new)) }
         ensures tree { self.new.tree ≡ self.old.tree }
@@ -275,32 +304,79 @@ impl TreeWalk {
             return Err(Broken::Refused);
         }
         self.records -= 1;
-        match self.reader.next_record(source) {
-            Ok(record) => Ok(record),
+        match self.reader.next_bare(prices, source) {
+            Ok(said) => Ok(said),
             Err(fault) => Err(broken_of(fault)),
         }
     }
 
-    // A node with so many plies left opens, if its record says so.
-    fn open(&mut self, position: &Position, left: u8, said: &Record) -> Result<(), Broken>
-        ensures entered { OnOk result (IsEntered position.now left said.now self.old self.new) }
+    // A node with so many plies left opens.
+    fn open(&mut self, position: &Position, left: u8, named: bool) -> Result<(), Broken>
+        ensures entered { OnOk result (IsEntered position.now left (Record.Expand named) self.old self.new) }
         ensures full { OnErr result (length self.old.frames.items ≡ 128) }
         ensures says { (failed : Bool) → IfErr result (BreaksTruly failed) }
         ensures tree { self.new.tree ≡ self.old.tree }
     {
-        let Record::Expand { named } = said else {
-            return Ok(());
-        };
         count_expanded(&mut self.expanded, left);
         let frame = Frame {
             moves: LegalMoves::new(position),
             left,
-            named: *named,
+            named,
             games: 0,
         };
         match self.frames.try_push(frame) {
             Ok(()) => Ok(()),
             Err(_) => Err(Broken::Refused),
+        }
+    }
+
+    // The child opens, if its record says so: only there is its move played.
+    fn open_child(&mut self, child: &BareChild) -> Result<(), Broken>
+        requires { IsLegal child.now.before child.now.m }
+        ensures entered { OnOk result ((prices : List PriceList) → IsEnteredBy prices child.now self.old self.new) }
+        ensures full { OnErr result (length self.old.frames.items ≡ 128) }
+        ensures says { (failed : Bool) → IfErr result (BreaksTruly failed) }
+        ensures tree { self.new.tree ≡ self.old.tree }
+    {
+        let Bare::Expand { named } = &child.said else {
+            return Ok(());
+        };
+        match self.open(&child.before.after(&child.m), child.left, *named) {
+            Ok(()) => Ok(()),
+            Err(broken) => Err(broken),
+        }
+    }
+
+    /// Begins the tree of so many plies as `root` does; the price lists of its root's record, where it has any, come
+    /// into `prices`.
+    ///
+    /// # Errors
+    /// As `root`.
+    pub fn bare_root<S: Source>(
+        &mut self,
+        tree: u8,
+        prices: &mut Prices,
+        source: &mut S,
+    ) -> Result<Bare, Broken>
+        ensures root { IfOk result (λ said. IsRooted tree self.old self.new
+            (S.left source.old) (S.left source.new) (record_of prices.new said)) }
+        ensures stay { IfOk result (λ said. PricesStay said prices.old prices.new) }
+        ensures refused { IfErr result (λ broken. broken ≡ Broken.Refused → IsStuck self.old (S.left source.old)) }
+        ensures says { IfErr result (BreaksTruly (S.has_failed source.new)) }
+        ensures tree { self.new.tree ≡ tree }
+    {
+        self.tree = tree;
+        self.expanded = [0; 129];
+        let said = match self.next_bare(prices, source) {
+            Ok(said) => said,
+            Err(broken) => return Err(broken),
+        };
+        let Bare::Expand { named } = &said else {
+            return Ok(said);
+        };
+        match self.open(&Position::array(), tree, *named) {
+            Ok(()) => Ok(said),
+            Err(broken) => Err(broken),
         }
     }
 
@@ -316,14 +392,51 @@ impl TreeWalk {
         ensures says { IfErr result (BreaksTruly (S.has_failed source.new)) }
         ensures tree { self.new.tree ≡ tree }
     {
-        self.tree = tree;
-        self.expanded = [0; 129];
-        let record = match self.next_record(source) {
-            Ok(record) => record,
+        let mut prices = Prices::new(&[], &[]).unwrap();
+        match self.bare_root(tree, &mut prices, source) {
+            Ok(said) => Ok(whole(&said, &prices)),
+            Err(broken) => Err(broken),
+        }
+    }
+
+    /// The next child of the topmost open node as `child` gives it, in a few bytes: the price lists of its record, where
+    /// it has any, come into `prices`, and its move is played only where the child opens.
+    ///
+    /// # Errors
+    /// As `root`.
+    pub fn bare_child<S: Source>(
+        &mut self,
+        prices: &mut Prices,
+        source: &mut S,
+    ) -> Result<Option<BareChild>, Broken>
+        ensures next { IfOk result (λ next. MatchOption next
+            (OnTopIfAny HasNoChild self.old.frames.items self.new.frames.items
+            × (self.new ≡ record self.old { frames = self.new.frames }))
+            (λ child. IsNextBareChild self.old self.new (S.left source.old) (S.left source.new) prices.new child)) }
+        ensures stay { IfOk result (λ next. MatchOption next (prices.new ≡ prices.old)
+            (λ child. PricesStay child.said prices.old prices.new)) }
+        ensures refused { IfErr result (λ broken. broken ≡ Broken.Refused → IsStuck self.old (S.left source.old)) }
+        ensures says { IfErr result (BreaksTruly (S.has_failed source.new)) }
+        ensures legal { IfOk result (λ next. IfSome next (λ child. IsLegal child.before child.m)) }
+        ensures tree { self.new.tree ≡ self.old.tree }
+    {
+        let played = match play_top(&mut self.frames) {
+            Some(played) => played,
+            None => return Ok(None),
+        };
+        let Played { before, m, left } = played;
+        let said = match self.next_bare(prices, source) {
+            Ok(said) => said,
             Err(broken) => return Err(broken),
         };
-        match self.open(&Position::array(), tree, &record) {
-            Ok(()) => Ok(record),
+        let child = BareChild {
+            before,
+            m,
+            left,
+            said,
+        };
+        match self.open_child(&child) {
+            Ok(()) => Ok(Some(child)),
             Err(broken) => Err(broken),
         }
     }
@@ -343,28 +456,16 @@ impl TreeWalk {
         ensures legal { IfOk result (λ next. IfSome next (λ child. IsLegal child.before child.m)) }
         ensures tree { self.new.tree ≡ self.old.tree }
     {
-        let played = match play_top(&mut self.frames) {
-            Some(played) => played,
-            None => return Ok(None),
-        };
-        let Played {
-            before,
-            m,
-            position,
-            left,
-        } = played;
-        let record = match self.next_record(source) {
-            Ok(record) => record,
-            Err(broken) => return Err(broken),
-        };
-        match self.open(&position, left, &record) {
-            Ok(()) => Ok(Some(Child {
-                before,
-                m,
-                position,
-                left,
-                record,
+        let mut prices = Prices::new(&[], &[]).unwrap();
+        match self.bare_child(&mut prices, source) {
+            Ok(Some(child)) => Ok(Some(Child {
+                before: child.before,
+                m: child.m,
+                position: child.before.after(&child.m),
+                left: child.left,
+                record: whole(&child.said, &prices),
             })),
+            Ok(None) => Ok(None),
             Err(broken) => Err(broken),
         }
     }

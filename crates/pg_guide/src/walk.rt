@@ -11,10 +11,11 @@ ghost use Rattle.pg_guide.specs.declared.machine.Question.{Question};
 
 use crate::found::Cited;
 use crate::machine::{Along, Question, Stop, count, count_leaf, recount};
-use crate::trees::{Broken, Child, Closed, Leaf, TreeWalk};
+use crate::trees::{BareChild, Broken, Closed, Leaf, TreeWalk, whole};
 use arrayvec::ArrayVec;
-use pg_certificate::{Record, Source};
+use pg_certificate::{Bare, Source};
 use pg_position::{Move, Position};
+use pg_price_lists::Prices;
 use pg_san::{AddFault, Games};
 use pg_sentences::{Ending, Tally};
 
@@ -78,15 +79,15 @@ fn ply_of(question: &Question, left: u8) -> usize {
 }
 
 // A node is reached, on the line or not: there it is one more that is open, or ends the line.
-fn enter(along: &mut Along, on_line: bool, record: &Record) {
+fn enter(along: &mut Along, on_line: bool, said: &Bare, prices: &Prices) {
     if !on_line {
         return;
     }
-    match record {
-        Record::Expand { .. } => {
+    match said {
+        Bare::Expand { .. } => {
             let _ = along.open.try_push(Tally::default());
         }
-        _ => along.ending = Some(Ending::Said(*record)),
+        _ => along.ending = Some(Ending::Said(whole(said, prices))),
     }
 }
 
@@ -96,16 +97,16 @@ fn is_of_line(question: &Question, ply: usize, m: &Move) -> bool {
 }
 
 // A child is reached: a node on the line counts it, and the line leads to it or not.
-fn enter_child(question: &Question, along: &mut Along, child: &Child) {
+fn enter_child(question: &Question, along: &mut Along, child: &BareChild, prices: &Prices) {
     let ply = ply_of(question, child.left);
     if along.open.len() != ply {
         return;
     }
     if let Some(tally) = along.open.last_mut() {
-        count(tally, &child.record);
+        count(tally, &child.said);
     }
     let on_line = is_of_line(question, ply, &child.m);
-    enter(along, on_line, &child.record);
+    enter(along, on_line, &child.said, prices);
 }
 
 // A leaf is reached below a node, on the line or not, which counts it there; and it may end the line.
@@ -206,14 +207,15 @@ fn turn<S: Source>(
     along: &mut Along,
     games: &mut Games,
     walk: &mut TreeWalk,
+    prices: &mut Prices,
     source: &mut S,
 ) -> Result<bool, Stop>
     ensures says { IfErr result (StopsTruly question.now (S.has_failed source.new)) }
     ensures finds { Finds question.now games.old games.new }
 {
-    match walk.child(source) {
+    match walk.bare_child(prices, source) {
         Ok(Some(child)) => {
-            enter_child(question, along, &child);
+            enter_child(question, along, &child, prices);
             Ok(true)
         }
         Ok(None) => leave(question, along, games, walk),
@@ -233,12 +235,14 @@ fn tree_of<S: Source>(
     ensures says { IfErr result (StopsTruly question.now (S.has_failed source.new)) }
     ensures finds { Finds question.now games.old games.new }
 {
-    match walk.root(tree, source) {
-        Ok(record) => enter(along, is_root_of_line(question, tree), &record),
+    // Room for the price lists of one record at a time: most records have none.
+    let mut prices = Prices::new(&[], &[]).unwrap();
+    match walk.bare_root(tree, &mut prices, source) {
+        Ok(said) => enter(along, is_root_of_line(question, tree), &said, &prices),
         Err(broken) => return Err(stop_of(broken)),
     }
     for _ in 0..u64::MAX {
-        match turn(question, along, games, walk, source) {
+        match turn(question, along, games, walk, &mut prices, source) {
             Ok(true) => {}
             Ok(false) => return Ok(()),
             Err(stop) => return Err(stop),
