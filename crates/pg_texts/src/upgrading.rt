@@ -3,13 +3,18 @@ ghost use Rattle.std.specs.Prelude.{◌≡◌, ◌+◌, ◌*◌, ◌≤◌, ℕ,
 ghost use Rattle.std.specs.Io.KnownBytes.{Appends, Consumes, IsAtEnd, Keeps};
 ghost use Rattle.pg_certificate.specs.Reader.{to_come};
 ghost use Rattle.pg_certificate.specs.Reading.{more_at};
-ghost use Rattle.pg_certificate.specs.Spelling.{header_length, longest_record};
-ghost use Rattle.pg_certificate.specs.Writer.{written};
+ghost use Rattle.pg_certificate.specs.Spelling.{header_length, longest_record, record_of, spelling};
+ghost use Rattle.pg_certificate.specs.Writer.{written, RefusesOnce};
+ghost use Rattle.pg_certificate.specs.declared.record.Record.TheVariants as Record;
 ghost use Rattle.pg_texts.specs.inner.Copying.{Copies, CopiesOne, IsCopying, one_in};
 ghost use Rattle.pg_texts.specs.Upgrade.{IsUpgraded, IsUpgradeFault, Takes, upgrade_fault_of, records_in, upgrade_of};
 
 use crate::fault::UpgradeFault;
-use pg_certificate::{Header, ReadFault, RecordReader, RecordWriter, Sink, Source};
+use pg_board::Color;
+use pg_certificate::{
+    Bare, Header, ReadFault, Record, RecordReader, RecordWriter, Sink, Source, WriteFault,
+};
+use pg_price_lists::Prices;
 
 // A refusal to read, as one to upgrade.
 fn fault_of(fault: ReadFault) -> UpgradeFault
@@ -23,10 +28,53 @@ fn fault_of(fault: ReadFault) -> UpgradeFault
     }
 }
 
-// Copies the record at the front of the bytes to come.
+// Writes a cut by prices, which no certificate of version 1 has: a function of its own, since its record has some 400 bytes.
+#[inline(never)]
+fn put_priced<W: Sink>(
+    code: u8,
+    color: Color,
+    prices: &Prices,
+    writer: &mut RecordWriter,
+    out: &mut W,
+) -> Result<(), WriteFault>
+    ensures bytes { OnOk result (Appends
+        (written (W.held out.old) writer.old) (written (W.held out.new) writer.new)
+        (spelling (Record.Priced code color prices.now))) }
+    ensures refuses { RefusesOnce writer.old.failed writer.new.failed (W.has_failed out.new) result }
+{
+    let node = Record::Priced {
+        code,
+        color,
+        prices: *prices,
+    };
+    writer.put_record(&node, out)
+}
+
+// Writes a record whose price lists, where it has any, stand elsewhere.
+fn put_bare<W: Sink>(
+    said: &Bare,
+    prices: &Prices,
+    writer: &mut RecordWriter,
+    out: &mut W,
+) -> Result<(), WriteFault>
+    ensures bytes { OnOk result (Appends
+        (written (W.held out.old) writer.old) (written (W.held out.new) writer.new)
+        (spelling (record_of prices.now said.now))) }
+    ensures refuses { RefusesOnce writer.old.failed writer.new.failed (W.has_failed out.new) result }
+{
+    match said {
+        Bare::Expand { named } => writer.put_expansion(*named, out),
+        Bare::Cut(code) => writer.put_cut(*code, out),
+        Bare::Ref(number) => writer.put_reference(*number, out),
+        Bare::Priced { code, color } => put_priced(*code, *color, prices, writer, out),
+    }
+}
+
+// Copies the record at the front of the bytes to come. There is room for its price lists, if it had any.
 fn copy_record<R: Source, W: Sink>(
     reader: &mut RecordReader,
     source: &mut R,
+    prices: &mut Prices,
     writer: &mut RecordWriter,
     out: &mut W,
 ) -> Result<(), UpgradeFault>
@@ -40,11 +88,11 @@ fn copy_record<R: Source, W: Sink>(
         (R.has_failed source.new) (W.has_failed out.new) e) }
     ensures takes { Takes (longest_record + 4096) (to_come reader.old (R.left source.old)) (R.left source.new) result }
 {
-    let record = match reader.next_record(source) {
-        Ok(record) => record,
+    let said = match reader.next_bare(prices, source) {
+        Ok(said) => said,
         Err(fault) => return Err(fault_of(fault)),
     };
-    match writer.put_record(&record, out) {
+    match put_bare(&said, prices, writer, out) {
         Ok(()) => Ok(()),
         Err(_) => Err(UpgradeFault::Write),
     }
@@ -74,6 +122,8 @@ fn copy_records<R: Source, W: Sink>(
     ensures takes { Takes (longest_record * max_records + 4096) (to_come reader.old (R.left source.old))
         (R.left source.new) result }
 {
+    // Room for the price lists of one record, which a record of version 1 does not have.
+    let mut prices = Prices::new(&[], &[]).unwrap();
     let mut count = 0;
     'records: loop {
         match reader.more(source) {
@@ -84,7 +134,7 @@ fn copy_records<R: Source, W: Sink>(
         if count == max_records {
             return Err(UpgradeFault::Budget);
         }
-        match copy_record(reader, source, writer, out) {
+        match copy_record(reader, source, &mut prices, writer, out) {
             Ok(()) => {}
             Err(fault) => return Err(fault),
         }
