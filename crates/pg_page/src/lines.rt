@@ -55,17 +55,30 @@ fn entity(byte: u8) -> &'static str {
     }
 }
 
-// Appends a text, with what has a meaning in HTML written as an entity.
+// Appends bytes, where there are any.
+fn write_run<W: Sink>(run: &[u8], out: &mut W) -> Result<(), Refused>
+    ensures fault { OnErr result (W.has_failed out.new ≡ true) }
+{
+    if run.is_empty() {
+        return Ok(());
+    }
+    out.push(run)
+}
+
+// Appends a text, with what has a meaning in HTML written as an entity. What stands between two of these goes out at
+// once: most texts have none, and a push of one byte costs some ninety instructions.
 pub(crate) fn write_escaped<W: Sink>(text: &str, out: &mut W) -> Result<(), Refused>
     ensures fault { OnErr result (W.has_failed out.new ≡ true) }
 {
-    for byte in text.as_bytes() {
-        let entity = entity(*byte);
-        if entity.is_empty() {
-            out.push(&[*byte])?;
-        } else {
+    let bytes = text.as_bytes();
+    let mut start = 0;
+    for i in 0..bytes.len() {
+        let entity = entity(bytes[i]);
+        if !entity.is_empty() {
+            write_run(bytes.get(start..i).unwrap_or(&[]), out)?;
             out.push(entity.as_bytes())?;
+            start = i + 1;
         }
     }
-    Ok(())
+    write_run(bytes.get(start..).unwrap_or(&[]), out)
 }

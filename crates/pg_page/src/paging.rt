@@ -12,6 +12,7 @@ use pg_captures::Bound;
 use pg_certificate::{Refused, Sink, Source};
 use pg_checker::{Fault, Problem, RunFault};
 use pg_guide::{Gathered, WhyFault, gather};
+use pg_sentences::Distances;
 use std::alloc::Global;
 
 /// What is to be shown: the texts of a diagram and of a length in moves, and at most how many expanded nodes of the
@@ -46,8 +47,10 @@ fn show<R: Source, W: Sink>(
     ensures runs { OnOk result (W.has_failed out.new ≡ false) }
     ensures err { IfErr result (TellsTruly (R.has_failed told.new) (W.has_failed out.new)) }
 {
+    let distances = Distances::new(&problem.diagram);
     let what = Told {
         diagram: &problem.diagram,
+        distances: &distances,
         plies: problem.length.plies(),
         floor: floor_for(&found.expanded, nodes),
     };

@@ -6,11 +6,12 @@ ghost use Rattle.pg_position.specs.Step.{IsLegal};
 ghost use Rattle.pg_page.specs.Telling.{StopsTruly};
 
 use crate::lines::{MoveText, move_text, write_escaped, write_number};
-use pg_certificate::{Record, Refused, Sink, Source};
+use pg_certificate::{Bare, Refused, Sink, Source};
 use pg_fen::Diagram;
-use pg_guide::{Broken, Child, Closed, Leaf, TreeWalk};
+use pg_guide::{BareChild, Broken, Closed, Leaf, TreeWalk};
 use pg_position::Position;
-use pg_sentences::{Grounds, reason_of_bounds, reason_of_cut};
+use pg_price_lists::Prices;
+use pg_sentences::{Distances, Node, Sentence, put_reason_of_bounds, put_reason_of_cut};
 
 // Why the telling stops: at a source or a sink that fails, or at bytes that are no certificate of what is asked, within
 // the limit of records.
@@ -22,23 +23,13 @@ pub(crate) enum Stop {
 }
 
 // What is told: the tree of so many plies, down to the nodes with a number of plies left; of the shorter ones where
-// their expanded nodes stand, which a reference may name.
+// their expanded nodes stand, which a reference may name. The distances are those to the diagram.
 #[derive(Drop)]
 pub(crate) struct Told<'a> {
     pub(crate) diagram: &'a Diagram,
+    pub(crate) distances: &'a Distances,
     pub(crate) plies: u8,
     pub(crate) floor: u8,
-}
-
-// A node of the tree of so many plies: the text of the move that leads to it, its position, the plies left, and what
-// its record says.
-#[derive(Drop)]
-struct Entry<'a> {
-    tree: u8,
-    text: &'a MoveText,
-    position: &'a Position,
-    left: u8,
-    record: &'a Record,
 }
 
 // Why the telling stops where the walk breaks off.
@@ -98,28 +89,36 @@ fn has_end(told: &Told, tree: u8, left: u8) -> bool {
     left == tree || tree == told.plies && may_have_line(told, tree, left)
 }
 
-// Appends a reason: a colon, the code of the bound, and the words; nothing where there is none.
-fn write_reason<W: Sink>(reason: &Option<Grounds>, out: &mut W) -> Result<(), Refused>
+// Appends a reason: a colon, the code of the bound, and the words; nothing where there is no code.
+fn write_reason<W: Sink>(code: Option<u8>, words: &Sentence, out: &mut W) -> Result<(), Refused>
     ensures fault { OnErr result (W.has_failed out.new ≡ true) }
 {
-    let Some(reason) = reason else {
+    let Some(code) = code else {
         return out.push(b":0");
     };
-    write_number(":", u64::from(reason.code), out)?;
-    write_escaped(reason.text.as_str(), out)
+    write_number(":", u64::from(code), out)?;
+    write_escaped(words.as_str(), out)
 }
 
-// Appends what a record says that ends a node.
-fn write_ended<W: Sink>(told: &Told, node: &Entry, out: &mut W) -> Result<(), Refused>
+// Appends why a node is cut by its record, at a position with so many plies left.
+fn write_cut<W: Sink>(
+    told: &Told,
+    position: &Position,
+    left: u8,
+    said: &Bare,
+    prices: &Prices,
+    out: &mut W,
+) -> Result<(), Refused>
     ensures fault { OnErr result (W.has_failed out.new ≡ true) }
 {
-    match node.record {
-        Record::Ref(number) => write_number("@", u64::from(*number), out)?,
-        record => {
-            let reason = reason_of_cut(told.diagram, node.position, node.left, record);
-            write_reason(&reason, out)?;
-        }
-    }
+    let node = Node {
+        diagram: told.diagram,
+        position,
+        left,
+    };
+    let mut words = Sentence::new();
+    let code = put_reason_of_cut(told.distances, &node, said, prices, &mut words);
+    write_reason(code, &words, out)?;
     out.push(b"\n")
 }
 
@@ -131,40 +130,49 @@ fn write_opened<W: Sink>(text: &MoveText, is_told: bool, out: &mut W) -> Result<
     out.push(if is_told { b"(\n" } else { b".\n" })
 }
 
-// Appends the line of a node, if it has one.
-fn write_entry<W: Sink>(told: &Told, node: &Entry, out: &mut W) -> Result<(), Refused>
+// Appends that a node is like the one with this number.
+fn write_reference<W: Sink>(number: u32, out: &mut W) -> Result<(), Refused>
     ensures fault { OnErr result (W.has_failed out.new ≡ true) }
 {
-    if let Record::Expand { named } = node.record {
-        if has_line(told, node.tree, node.left, *named) {
-            write_opened(node.text, is_told(told, node.tree, node.left), out)?;
-        }
-        return Ok(());
-    }
-    if has_end(told, node.tree, node.left) {
-        out.push(node.text.as_str().as_bytes())?;
-        write_ended(told, node, out)?;
-    }
-    Ok(())
+    write_number("@", u64::from(number), out)?;
+    out.push(b"\n")
 }
 
-// Appends the line of a child, if it has one.
-fn write_child<W: Sink>(told: &Told, tree: u8, child: &Child, out: &mut W) -> Result<(), Refused>
+// Whether a node with this record has a line.
+fn is_shown(told: &Told, tree: u8, left: u8, said: &Bare) -> bool {
+    match said {
+        Bare::Expand { named } => has_line(told, tree, left, *named),
+        _ => has_end(told, tree, left),
+    }
+}
+
+// Appends the line of a child, if it has one. Where its move leads is asked only for a cut.
+fn write_child<W: Sink>(
+    told: &Told,
+    tree: u8,
+    child: &BareChild,
+    prices: &Prices,
+    out: &mut W,
+) -> Result<(), Refused>
     requires { IsLegal child.now.before child.now.m }
     ensures fault { OnErr result (W.has_failed out.new ≡ true) }
 {
-    if !may_have_line(told, tree, child.left) {
+    if !is_shown(told, tree, child.left, &child.said) {
         return Ok(());
     }
     let text = move_text(&child.before, &child.m);
-    let node = Entry {
-        tree,
-        text: &text,
-        position: &child.position,
-        left: child.left,
-        record: &child.record,
-    };
-    write_entry(told, &node, out)
+    match &child.said {
+        Bare::Expand { .. } => write_opened(&text, is_told(told, tree, child.left), out),
+        Bare::Ref(number) => {
+            out.push(text.as_str().as_bytes())?;
+            write_reference(*number, out)
+        }
+        said => {
+            out.push(text.as_str().as_bytes())?;
+            let position = child.before.after(&child.m);
+            write_cut(told, &position, child.left, said, prices, out)
+        }
+    }
 }
 
 // Appends how a node closes: its number if it is named, its games if its moves are not told, and with one ply left and
@@ -181,7 +189,14 @@ fn write_close<W: Sink>(told: &Told, tree: u8, closed: &Closed, out: &mut W) -> 
         write_number("*", closed.games, out)?;
     }
     if closed.left == 1 && closed.games == 0 && tree == told.plies {
-        write_reason(&reason_of_bounds(told.diagram, &closed.position, 1), out)?;
+        let node = Node {
+            diagram: told.diagram,
+            position: &closed.position,
+            left: 1,
+        };
+        let mut words = Sentence::new();
+        let code = put_reason_of_bounds(told.distances, &node, &mut words);
+        write_reason(code, &words, out)?;
     }
     out.push(b"\n")
 }
@@ -230,13 +245,14 @@ fn leave<W: Sink>(told: &Told, walk: &mut TreeWalk, out: &mut W) -> Result<bool,
 fn turn<S: Source, W: Sink>(
     told: &Told,
     walk: &mut TreeWalk,
+    prices: &mut Prices,
     source: &mut S,
     out: &mut W,
 ) -> Result<bool, Stop>
     ensures says { IfErr result (StopsTruly (S.has_failed source.new) (W.has_failed out.new)) }
 {
-    match walk.child(source) {
-        Ok(Some(child)) => match write_child(told, walk.tree, &child, out) {
+    match walk.bare_child(prices, source) {
+        Ok(Some(child)) => match write_child(told, walk.tree, &child, prices, out) {
             Ok(()) => Ok(true),
             Err(Refused) => Err(Stop::Write),
         },
@@ -259,18 +275,34 @@ fn write_root_leaf<W: Sink>(told: &Told, out: &mut W) -> Result<(), Stop>
     }
 }
 
+// Appends the line of the root of a tree, which has one.
+fn write_root_line<W: Sink>(
+    told: &Told,
+    tree: u8,
+    said: &Bare,
+    prices: &Prices,
+    out: &mut W,
+) -> Result<(), Refused>
+    ensures fault { OnErr result (W.has_failed out.new ≡ true) }
+{
+    match said {
+        Bare::Expand { .. } => write_opened(&MoveText::new(), is_told(told, tree, tree), out),
+        Bare::Ref(number) => write_reference(*number, out),
+        said => write_cut(told, &Position::array(), tree, said, prices, out),
+    }
+}
+
 // The root of a tree gets its line.
-fn write_root<W: Sink>(told: &Told, tree: u8, record: &Record, out: &mut W) -> Result<(), Stop>
+fn write_root<W: Sink>(
+    told: &Told,
+    tree: u8,
+    said: &Bare,
+    prices: &Prices,
+    out: &mut W,
+) -> Result<(), Stop>
     ensures says { (read : Bool) → IfErr result (StopsTruly read (W.has_failed out.new)) }
 {
-    let node = Entry {
-        tree,
-        text: &MoveText::new(),
-        position: &Position::array(),
-        left: tree,
-        record,
-    };
-    match write_entry(told, &node, out) {
+    match write_root_line(told, tree, said, prices, out) {
         Ok(()) => Ok(()),
         Err(Refused) => Err(Stop::Write),
     }
@@ -289,16 +321,18 @@ fn tree_of<S: Source, W: Sink>(
     if tree == 0 {
         return write_root_leaf(told, out);
     }
-    let record = match walk.root(tree, source) {
-        Ok(record) => record,
+    // Room for the price lists of one record at a time: most records have none.
+    let mut prices = Prices::new(&[], &[]).unwrap();
+    let said = match walk.bare_root(tree, &mut prices, source) {
+        Ok(said) => said,
         Err(broken) => return Err(stop_of(broken)),
     };
-    match write_root(told, tree, &record, out) {
+    match write_root(told, tree, &said, &prices, out) {
         Ok(()) => {}
         Err(stop) => return Err(stop),
     }
     for _ in 0..u64::MAX {
-        match turn(told, walk, source, out) {
+        match turn(told, walk, &mut prices, source, out) {
             Ok(true) => {}
             Ok(false) => return Ok(()),
             Err(stop) => return Err(stop),
