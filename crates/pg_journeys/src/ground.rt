@@ -226,7 +226,8 @@ impl Ground {
         requires { IsGround self.now }
         ensures { IsSetOf result (LedTo (λ s r. Captures (known self.now.facts) self.now.color r s) set) }
     {
-        let mut left = set;
+        // Nowhere else does a capture lead.
+        let mut left = set & self.lands();
         let mut found = SquareSet::empty();
         while let Some(square) = left.pop_first() {
             found = found | self.captured_from(square);
