@@ -184,6 +184,7 @@ pub(crate) fn whole(said: &Bare, prices: &Prices) -> Record
 
 impl Frame {
     // Plays the next move, where the node has more than one ply left.
+    #[inline(always)]
     fn play(&mut self) -> Option<Played>
         ensures next { MatchOption result (HasNoChild self.old self.new)
             (λ child. Advances child.before child.m child.left self.old self.new) }
@@ -226,6 +227,7 @@ impl Frame {
 }
 
 // Plays the next move of the topmost open node, where it has more than one ply left.
+#[inline(always)]
 fn play_top(frames: &mut ArrayVec<Frame, 128>) -> Option<Played>
     ensures next { MatchOption result (OnTopIfAny HasNoChild frames.old.items frames.new.items)
         (λ child. OnTop (Advances child.before child.m child.left) frames.old.items frames.new.items) }
@@ -404,6 +406,8 @@ impl TreeWalk {
     ///
     /// # Errors
     /// As `root`.
+    // Inlined, as what it stands on, so that a caller which does not look at the position before the move has no copy of it.
+    #[inline(always)]
     pub fn bare_child<S: Source>(
         &mut self,
         prices: &mut Prices,
