@@ -1,5 +1,6 @@
 //! Explanations of a line: what the tests share.
 
+mod bare;
 mod cuts;
 mod growths;
 mod lines;

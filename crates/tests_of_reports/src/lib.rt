@@ -1,4 +1,4 @@
-//! Tests of what no contract of `pg_report`, `pg_guide` and `pg_page` says. They stand apart, since a crate that has tests
+//! Tests of what no contract of `pg_report`, `pg_guide`, `pg_page` and `pg_sentences` says. They stand apart, since a crate that has tests
 //! is proved twice, without them and with them.
 #![tactic(auto)]
 
@@ -10,3 +10,5 @@ mod page;
 mod report;
 #[cfg(test)]
 mod shared;
+#[cfg(test)]
+mod words;

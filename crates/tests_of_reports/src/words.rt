@@ -1,0 +1,165 @@
+//! What is said of a cut by distances to a diagram is what is said without them: over games of drawn moves, each position
+//! asked about diagrams of other such games.
+
+use crate::shared::{diagram_of, named};
+use pg_board::Color;
+use pg_certificate::{Bare, Record};
+use pg_fen::{Diagram, read_position};
+use pg_moves::LegalMoves;
+use pg_position::Position;
+use pg_price_lists::Prices;
+use pg_sentences::{
+    Distances, Grounds, Node, Sentence, put_reason_of_bounds, put_reason_of_cut, reason_of_bounds,
+    reason_of_cut,
+};
+use std::process::Abort;
+
+// Where games begin: with all rights to castle, with men that can castle at once, and with pawns near their last ranks.
+const STARTS: [&str; 4] = [
+    "start",
+    "middle-game",
+    "r3k2r/8/8/8/8/8/8/R3K2R w KQkq - 0 1",
+    "4k3/P1P4p/1p4P1/8/8/8/p5pP/4K2R w K - 0 1",
+];
+
+// A number below a bound, drawn by a fixed rule from the last one.
+fn drawn(state: &mut u64, bound: u64) -> u64 {
+    *state = state
+        .wrapping_mul(6_364_136_223_846_793_005)
+        .wrapping_add(1_442_695_040_888_963_407);
+    if bound == 0 {
+        0
+    } else {
+        (*state >> 33) % bound
+    }
+}
+
+// How many moves are legal.
+fn count_of(position: &Position) -> u64 {
+    let mut moves = LegalMoves::new(position);
+    for count in 0..512u64 {
+        if moves.next().is_none() {
+            return count;
+        }
+    }
+    512
+}
+
+// The position after a move that is drawn; the same where none is legal.
+fn moved(state: &mut u64, position: &Position) -> Position {
+    let chosen = drawn(state, count_of(position));
+    let mut moves = LegalMoves::new(position);
+    for _ in 0..chosen {
+        let _ = moves.next();
+    }
+    let Some(m) = moves.next() else {
+        return *position;
+    };
+    match position.play(m) {
+        Ok(next) => next,
+        Err(_) => *position,
+    }
+}
+
+// What is said by distances is what is wanted.
+fn check_same(rt: &impl Abort, code: Option<u8>, words: &Sentence, wanted: &Option<Grounds>) {
+    let same = match wanted {
+        Some(grounds) => code == Some(grounds.code) && words.as_str() == grounds.text.as_str(),
+        None => code.is_none() && words.as_str().is_empty(),
+    };
+    assert!(rt; same, "{words}");
+}
+
+// So it is for a record at a node.
+fn check_record(rt: &impl Abort, distances: &Distances, node: &Node, said: &Bare, record: &Record) {
+    let prices = Prices::new(&[], &[]).expect(rt, "no prices");
+    let mut words = Sentence::new();
+    let code = put_reason_of_cut(distances, node, said, &prices, &mut words);
+    let wanted = reason_of_cut(node.diagram, node.position, node.left, record);
+    check_same(rt, code, &words, &wanted);
+}
+
+// So it is for each of the records, and for what excludes first.
+fn check_node(rt: &impl Abort, distances: &Distances, node: &Node) {
+    for code in 1..=5u8 {
+        check_record(rt, distances, node, &Bare::Cut(code), &Record::Cut(code));
+        let prices = Prices::new(&[], &[]).expect(rt, "no prices");
+        let color = Color::Black;
+        let said = Bare::Priced { code, color };
+        let record = Record::Priced {
+            code,
+            color,
+            prices,
+        };
+        check_record(rt, distances, node, &said, &record);
+    }
+    let named = true;
+    check_record(
+        rt,
+        distances,
+        node,
+        &Bare::Expand { named },
+        &Record::Expand { named },
+    );
+    check_record(rt, distances, node, &Bare::Ref(7), &Record::Ref(7));
+    let mut words = Sentence::new();
+    let code = put_reason_of_bounds(distances, node, &mut words);
+    let wanted = reason_of_bounds(node.diagram, node.position, node.left);
+    check_same(rt, code, &words, &wanted);
+}
+
+// So it is along a game from a start, for one diagram.
+fn check_game(rt: &impl Abort, state: &mut u64, start: &Position, diagram: &Diagram) {
+    let distances = Distances::new(diagram);
+    let mut position = *start;
+    for _ in 0..24 {
+        let left = drawn(state, 14).min(100) as u8;
+        let node = Node {
+            diagram,
+            position: &position,
+            left,
+        };
+        check_node(rt, &distances, &node);
+        let next = moved(state, &position);
+        position = next;
+    }
+}
+
+// The position at the end of a game of drawn moves.
+fn end_of(state: &mut u64, start: &Position, plies: u64) -> Position {
+    let mut position = *start;
+    for _ in 0..plies {
+        let next = moved(state, &position);
+        position = next;
+    }
+    position
+}
+
+#[test]
+fn by_distances_as_without(rt: HostRuntime) {
+    let mut state = 1u64;
+    for text in STARTS {
+        let start = read_position(named(text)).expect(&rt, text).position;
+        for plies in 2..12u64 {
+            let end = end_of(&mut state, &start, 2 * plies);
+            check_game(&rt, &mut state, &start, &Diagram::of(&end));
+        }
+    }
+}
+
+// More than sixteen men of a colour, of whom the distances keep no rows; and distances to another diagram.
+#[test]
+fn where_distances_do_not_serve(rt: HostRuntime) {
+    let mut state = 2u64;
+    let crowd = diagram_of(&rt, "QQQQKQQQ/QQQQQQQQ/Q7/8/8/8/8/4k3");
+    check_game(&rt, &mut state, &Position::array(), &crowd);
+    let other = Distances::new(&crowd);
+    let diagram = diagram_of(&rt, "fools-mate");
+    let position = Position::array();
+    let node = Node {
+        diagram: &diagram,
+        position: &position,
+        left: 2,
+    };
+    check_node(&rt, &other, &node);
+}
