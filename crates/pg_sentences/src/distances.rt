@@ -2,7 +2,9 @@
 
 use pg_board::{Board, Color, Kind, Man, Square, SquareSet};
 use pg_fen::Diagram;
-use pg_position::{Position, Wing, king_crossed, king_home, king_target, rook_home};
+use pg_position::{
+    Position, Wing, castling_homes, king_crossed, king_home, king_target, rook_home,
+};
 use pg_travel::distance;
 
 // No man of a kind comes from a square.
@@ -128,9 +130,8 @@ fn with_kind(rows: &Rows, board: &Board, man: Man, squares: SquareSet, row: Row)
     with_men(rows, man.kind, board.squares_of(man) & squares, row)
 }
 
-// The least distances from any of the colour's men on these squares.
-fn row_from(rows: &Rows, board: &Board, color: Color, squares: SquareSet) -> Row {
-    let row = [NONE; 16];
+// A row with all of the colour's men on these squares more.
+fn with_all(rows: &Rows, board: &Board, color: Color, squares: SquareSet, row: Row) -> Row {
     let row = with_kind(rows, board, Man::new(color, Kind::Pawn), squares, row);
     let row = with_kind(rows, board, Man::new(color, Kind::Knight), squares, row);
     let row = with_kind(rows, board, Man::new(color, Kind::Bishop), squares, row);
@@ -156,6 +157,14 @@ fn least(a: Option<u16>, b: Option<u16>) -> Option<u16> {
         (Some(a), Some(b)) => Some(a.min(b)),
         (Some(a), None) => Some(a),
         (None, b) => b,
+    }
+}
+
+// Whether a need is no more than so many plies.
+fn is_within(need: Option<u16>, plies: u8) -> bool {
+    match need {
+        Some(need) => need <= u16::from(plies),
+        None => false,
     }
 }
 
@@ -191,37 +200,46 @@ impl Distances {
     }
 
     // The value of a castling way, where its right is held: king and rook count where castling brings them, and the other
-    // men where they stand. A right is held only with king and rook at home.
-    fn castled(&self, position: &Position, color: Color, wing: Wing) -> Option<u16> {
+    // men where they stand, of whom those off the castling homes have this row. A right is held only with king and rook
+    // at home.
+    fn castled(&self, position: &Position, color: Color, wing: Wing, rest: Row) -> Option<u16> {
         if !position.rights().holds(color, wing) {
             return None;
         }
         let rows = self.rows(color);
         let moved = SquareSet::single(king_home(color)) | SquareSet::single(rook_home(color, wing));
-        let row = row_from(rows, &position.board(), color, SquareSet::full() - moved);
+        let left = castling_homes() - moved;
+        let row = with_all(rows, &position.board(), color, left, rest);
         let row = with_man(rows, Kind::King, king_target(color, wing), row);
         let row = with_man(rows, Kind::Rook, king_crossed(color, wing), row);
         value(&row, 1)
     }
 
-    // What a colour needs in each way.
-    pub(crate) fn ways(&self, position: &Position, color: Color) -> Ways {
+    // What a colour needs in each way; none where it has so many plies that it needs no castling. The men off the castling
+    // homes count alike in all ways.
+    pub(crate) fn ways_beyond(&self, position: &Position, color: Color, plies: u8) -> Option<Ways> {
+        let rows = self.rows(color);
         let board = position.board();
-        let row = row_from(self.rows(color), &board, color, SquareSet::full());
-        Ways {
-            free: value(&row, 0),
-            short: self.castled(position, color, Wing::KingSide),
-            long: self.castled(position, color, Wing::QueenSide),
+        let homes = castling_homes();
+        let others = SquareSet::full() - homes;
+        let rest = with_all(rows, &board, color, others, [NONE; 16]);
+        let all = with_all(rows, &board, color, homes, rest);
+        let free = value(&all, 0);
+        if is_within(free, plies) {
+            return None;
         }
+        Some(Ways {
+            free,
+            short: self.castled(position, color, Wing::KingSide, rest),
+            long: self.castled(position, color, Wing::QueenSide, rest),
+        })
     }
+
     // The first man of the colour in the diagram, of sixteen, that no man of the position can come to be where it stands.
     pub(crate) fn unreached(&self, position: &Position, color: Color) -> Option<(Man, Square)> {
-        let row = row_from(
-            self.rows(color),
-            &position.board(),
-            color,
-            SquareSet::full(),
-        );
+        let rows = self.rows(color);
+        let board = position.board();
+        let row = with_all(rows, &board, color, SquareSet::full(), [NONE; 16]);
         let mut left = self.goal.squares_of_color(color);
         for i in 0..16usize {
             let Some(square) = left.pop_first() else {

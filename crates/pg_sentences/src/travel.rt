@@ -153,7 +153,9 @@ fn castling_of(ways: &Ways, need: u16) -> Castling {
 // makes positions with fewer rights.
 fn travel_by(distances: &Distances, node: &Node, color: Color) -> Option<Excess> {
     let own = own_plies(node, color);
-    let ways = distances.ways(node.position, color);
+    let Some(ways) = distances.ways_beyond(node.position, color, own) else {
+        return None;
+    };
     let Some(need) = ways.need() else {
         return Some(Excess::Nowhere);
     };
