@@ -127,6 +127,10 @@ impl Front {
         ensures idle { result ≡ false → (j : KindOfMan) (s : ℕ) → number_of_kind j ≡ k → s < 64
             → is_due self.new j s ≡ false }
     {
+        if self.next[k].is_empty() {
+            self.due[k] = SquareSet::empty();
+            return false;
+        }
         let new = self.next[k] - self.met[k];
         self.met[k] = self.met[k] | new;
         self.due[k] = new;
