@@ -238,7 +238,8 @@ fn man_of(side: &Side, is_quiet: bool, way: Option<Wing>, i: usize) -> Walker
     }
 }
 
-// Whether a man may capture, or be captured within a room, on a square that was not found yet. Where not, his paths tell nothing new.
+// Whether a man may capture, or be captured within a room, on a square that was not found yet. Where not, his paths tell
+// nothing new.
 fn may_find(side: &Side, room: u8, lands: SquareSet, falls: SquareSet) -> bool
     ensures lands { result ≡ false → IsFull (landing side.now.ground.facts side.now.ground.color) lands }
     ensures falls { result ≡ false → room < 255 →

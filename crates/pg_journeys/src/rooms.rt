@@ -87,7 +87,8 @@ fn rows(costs: &Costs, goals: usize, least: &[[u16; 16]; 16], paid: u16) -> Room
 pub(crate) fn rooms_of(side: &Side, aims: &Aims, way: Option<Wing>, most: u8) -> Option<Rooms>
     requires side { (d : Placement) × IsSide d side.now }
     requires low { most < 200 }
-    ensures none { IfNone result ((d : Placement) (quiet : Bool) → IsSide d side.now → AreAims side.now quiet most aims.now →
+    ensures none { IfNone result ((d : Placement) (quiet : Bool) → IsSide d side.now →
+        AreAims side.now quiet most aims.now →
         (g : JourneysOf d side.now way) → IsPaidBy d side.now quiet way most g → ⊥) }
     ensures some { IfSome result (λ rooms. (d : Placement) (quiet : Bool) → IsSide d side.now →
         AreAims side.now quiet most aims.now → AreRooms d side.now quiet way most rooms
