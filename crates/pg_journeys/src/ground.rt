@@ -63,9 +63,8 @@ pub(crate) fn steps_table(still: SquareSet) -> [SquareSet; 384]
     table
 }
 
-// The ground of a colour under facts, with the table of steps where their squares are still: it is the same for both colours.
-pub(crate) fn ground_of(facts: &Facts, color: Color, table: &[SquareSet; 384]) -> Ground
-    requires { IsTable (known facts.now) color table.now }
+// The ground of a colour under facts.
+pub(crate) fn ground_of(facts: &Facts, color: Color) -> Ground
     ensures sound { IsGround result }
     ensures facts { result.facts ≡ facts.now }
     ensures color { result.color ≡ color }
@@ -74,7 +73,7 @@ pub(crate) fn ground_of(facts: &Facts, color: Color, table: &[SquareSet; 384]) -
         facts: *facts,
         color,
         free: SquareSet::full() - facts.still,
-        table: *table,
+        table: steps_table(facts.still),
     }
 }
 

@@ -13,7 +13,6 @@ ghost use Rattle.pg_journeys.specs.inner.Showing.{IsDead, Shows};
 ghost use Rattle.pg_journeys.specs.inner.Walking.{HasFewer, IsKept, MayLand, IsNext};
 
 use crate::facts::{Facts, walls};
-use crate::ground::steps_table;
 use crate::shown::{Shown, is_dead, shown_of};
 use pg_board::{Board, Color, SquareSet};
 use pg_captures::{all_men, victims_of};
@@ -105,10 +104,9 @@ fn next_facts(diagram: &Diagram, position: &Position, left: u8, facts: &Facts) -
     ensures { MatchOption result ((c : AnyColor) × IsDead (known facts.now) diagram.now position.now left c)
         (λ e. IsNext (known facts.now) (known e) diagram.now position.now left) }
 {
-    let table = steps_table(facts.still);
-    match shown_of(diagram, position, left, facts, Color::White, &table) {
+    match shown_of(diagram, position, left, facts, Color::White) {
         None => None,
-        Some(white) => match shown_of(diagram, position, left, facts, Color::Black, &table) {
+        Some(white) => match shown_of(diagram, position, left, facts, Color::Black) {
             None => None,
             Some(black) => Some(narrowed(diagram, position, facts, &white, &black)),
         },
@@ -121,9 +119,8 @@ fn any_dead(diagram: &Diagram, position: &Position, left: u8, facts: &Facts) -> 
     requires enough { ¬ HasFewer diagram.now position.now }
     ensures { IsTrue result ↔ ((c : AnyColor) × IsDead (known facts.now) diagram.now position.now left c) }
 {
-    let table = steps_table(facts.still);
-    is_dead(diagram, position, left, facts, Color::White, &table)
-        || is_dead(diagram, position, left, facts, Color::Black, &table)
+    is_dead(diagram, position, left, facts, Color::White)
+        || is_dead(diagram, position, left, facts, Color::Black)
 }
 
 // The facts of the last round; none where in a round a colour has no way alive. Facts that stay the same are those

@@ -7,7 +7,6 @@ ghost use Rattle.pg_captures.specs.Counting.{men, any_man};
 ghost use Rattle.pg_journeys.specs.Known.{known};
 ghost use Rattle.pg_journeys.specs.Plans.{IsAlive};
 ghost use Rattle.pg_journeys.specs.inner.Counts.{AreNone};
-ghost use Rattle.pg_journeys.specs.inner.Grounds.{IsTable};
 ghost use Rattle.pg_journeys.specs.inner.Sides.{facts_of, square_at, IsSide};
 ghost use Rattle.pg_journeys.specs.inner.Showing.{MayChange, IsMeasured, AreBudgets, ShowsWay, IsJoined, ShowsAmong, IsDead, Shows};
 
@@ -174,14 +173,7 @@ fn ways_shown(side: &Side, moves: &Measured, quiet: &Measured) -> Option<Shown>
 }
 
 // The men of a colour here and in the diagram, and the ground of their steps.
-fn side_of(
-    diagram: &Diagram,
-    position: &Position,
-    facts: &Facts,
-    color: Color,
-    table: &[SquareSet; 384],
-) -> Side
-    requires table { IsTable (known facts.now) color table.now }
+fn side_of(diagram: &Diagram, position: &Position, facts: &Facts, color: Color) -> Side
     requires few { men color any_man position.now.board ≤ 16 }
     requires room { men color any_man diagram.now ≤ men color any_man position.now.board }
     ensures side { IsSide diagram.now result }
@@ -191,7 +183,7 @@ fn side_of(
 {
     Side {
         position: *position,
-        ground: ground_of(facts, color, table),
+        ground: ground_of(facts, color),
         men: men_of(&position.board(), color),
         goals: men_of(&diagram.board(), color),
     }
@@ -215,9 +207,7 @@ pub(crate) fn shown_of(
     left: u8,
     facts: &Facts,
     color: Color,
-    table: &[SquareSet; 384],
 ) -> Option<Shown>
-    requires table { IsTable (known facts.now) color table.now }
     requires few { men color any_man position.now.board ≤ 16 }
     requires room { men color any_man diagram.now ≤ men color any_man position.now.board }
     ensures { MatchOption result (IsDead (known facts.now) diagram.now position.now left color)
@@ -229,7 +219,7 @@ pub(crate) fn shown_of(
     let Some(fewest) = budget(diagram, position, color, left, true) else {
         return None;
     };
-    let side = side_of(diagram, position, facts, color, table);
+    let side = side_of(diagram, position, facts, color);
     let mut moves = Measured {
         aims: [[255u8; 384]; 17],
         most,
@@ -269,9 +259,7 @@ pub(crate) fn is_dead(
     left: u8,
     facts: &Facts,
     color: Color,
-    table: &[SquareSet; 384],
 ) -> bool
-    requires table { IsTable (known facts.now) color table.now }
     requires few { men color any_man position.now.board ≤ 16 }
     requires room { men color any_man diagram.now ≤ men color any_man position.now.board }
     ensures { IsTrue result ↔ IsDead (known facts.now) diagram.now position.now left color }
@@ -282,7 +270,7 @@ pub(crate) fn is_dead(
     let Some(fewest) = budget(diagram, position, color, left, true) else {
         return true;
     };
-    let side = side_of(diagram, position, facts, color, table);
+    let side = side_of(diagram, position, facts, color);
     let mut moves = Measured {
         aims: [[255u8; 384]; 17],
         most,

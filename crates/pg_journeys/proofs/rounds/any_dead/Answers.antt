@@ -1,14 +1,6 @@
-use Rattle.std.proofs.Common.{refl}
-use Rattle.pg_board.specs.declared.man.Color.TheVariants.{White, Black}
 use Rattle.pg_journeys.specs.Known.{known}
 use Rattle.pg_journeys.proofs.DeadColors.{other_dead}
 use Rattle.pg_journeys.proofs.rounds.any_dead.Goals as goal
 
 pub returns-else-is_dead : goal.returns-else-is_dead
 returns-else-is_dead c = other_dead (known c.args.facts.now) c.args.diagram.now c.args.position.now c.args.left c.is_dead.result c.is_dead-else-is_dead.result c.is_dead.ensures c.if-is_dead.false c.is_dead-else-is_dead.ensures
-
-pub is_dead-requires-clause-table : goal.is_dead-requires-clause-table
-is_dead-requires-clause-table c = c.steps_table-table.ensures (known c.args.facts.now) White (λ s l. refl)
-
-pub is_dead-requires-else-is_dead-clause-table : goal.is_dead-requires-else-is_dead-clause-table
-is_dead-requires-else-is_dead-clause-table c = c.steps_table-table.ensures (known c.args.facts.now) Black (λ s l. refl)
