@@ -1,6 +1,8 @@
 //! The parts of the lines that the page's script reads.
-ghost use Rattle.std.specs.Prelude.{◌≡◌, true, OnErr, OnOk};
+ghost use Rattle.std.specs.Prelude.{◌≡◌, true, IsTrue, OnErr};
+ghost use Rattle.pg_certificate.specs.Pushing.{Adds, MayPush, Pushes};
 ghost use Rattle.pg_position.specs.Step.{IsLegal};
+ghost use Rattle.pg_page.specs.Escaping.{has_meaning, entity_of, written_as, escaped};
 
 use arrayvec::ArrayString;
 use pg_board::Square;
@@ -44,41 +46,69 @@ pub(crate) fn write_number<W: Sink>(mark: &str, number: u64, out: &mut W) -> Res
     out.push(text.as_str().as_bytes())
 }
 
-// What stands in HTML for a character of a text.
-fn entity(byte: u8) -> &'static str {
-    match byte {
-        b'&' => "&amp;",
-        b'<' => "&lt;",
-        b'>' => "&gt;",
-        b'"' => "&quot;",
-        _ => "",
+// Whether a character of a text has a meaning in HTML.
+fn has_meaning(byte: u8) -> bool
+    ensures { result ≡ has_meaning byte }
+{
+    byte == b'&' || byte == b'<' || byte == b'>' || byte == b'"'
+}
+
+// What is written for a character that has a meaning in HTML.
+fn entity(byte: u8) -> &'static str
+    ensures { result.now ≡ entity_of byte }
+{
+    if byte == b'&' {
+        "&amp;"
+    } else if byte == b'<' {
+        "&lt;"
+    } else if byte == b'>' {
+        "&gt;"
+    } else {
+        "&quot;"
     }
 }
 
-// Appends bytes, where there are any.
-fn write_run<W: Sink>(run: &[u8], out: &mut W) -> Result<(), Refused>
-    ensures fault { OnErr result (W.has_failed out.new ≡ true) }
+// Whether no character of a text has a meaning in HTML.
+fn is_plain(bytes: &[u8]) -> bool
+    ensures { IsTrue result → escaped bytes.now ≡ bytes.now }
 {
-    if run.is_empty() {
-        return Ok(());
-    }
-    out.push(run)
-}
-
-// Appends a text, with what has a meaning in HTML written as an entity. What stands between two of these goes out at
-// once: most texts have none, and a push of one byte costs some ninety instructions.
-pub(crate) fn write_escaped<W: Sink>(text: &str, out: &mut W) -> Result<(), Refused>
-    ensures fault { OnErr result (W.has_failed out.new ≡ true) }
-{
-    let bytes = text.as_bytes();
-    let mut start = 0;
-    for i in 0..bytes.len() {
-        let entity = entity(bytes[i]);
-        if !entity.is_empty() {
-            write_run(bytes.get(start..i).unwrap_or(&[]), out)?;
-            out.push(entity.as_bytes())?;
-            start = i + 1;
+    for byte in bytes {
+        if has_meaning(*byte) {
+            return false;
         }
     }
-    write_run(bytes.get(start..).unwrap_or(&[]), out)
+    true
+}
+
+// Appends a character, or what is written for it.
+fn write_byte<W: Sink>(byte: u8, out: &mut W) -> Result<(), Refused>
+    ensures { Pushes W.held W.has_failed (Adds (written_as byte)) out.old out.new result }
+{
+    if has_meaning(byte) {
+        out.push(entity(byte).as_bytes())
+    } else {
+        out.push(&[byte])
+    }
+}
+
+// Appends the characters of a text one by one.
+fn write_bytes<W: Sink>(bytes: &[u8], out: &mut W) -> Result<(), Refused>
+    ensures { MayPush W.held W.has_failed (Adds (escaped bytes.now)) out.old out.new result }
+{
+    for byte in bytes {
+        write_byte(*byte, out)?;
+    }
+    Ok(())
+}
+
+// Appends a text, with what has a meaning in HTML written as an entity. A text that has none goes out at once: most have
+// none, and a push of one byte costs some thirty instructions.
+pub(crate) fn write_escaped<W: Sink>(text: &str, out: &mut W) -> Result<(), Refused>
+    ensures { MayPush W.held W.has_failed (Adds (escaped text.now)) out.old out.new result }
+{
+    let bytes = text.as_bytes();
+    if bytes.is_empty() || !is_plain(bytes) {
+        return write_bytes(bytes, out);
+    }
+    out.push(bytes)
 }
