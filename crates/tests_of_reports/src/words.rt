@@ -1,17 +1,22 @@
-//! What is said of a cut by distances to a diagram is what is said without them: over games of drawn moves, each position
-//! asked about diagrams of other such games.
+//! What is said of a cut, by distances to a diagram and without them, is what the old form says: over games of drawn moves,
+//! each position asked about diagrams of other such games.
+
+mod start;
 
 use crate::shared::{diagram_of, named};
 use pg_board::Color;
 use pg_certificate::{Bare, Record};
 use pg_fen::{Diagram, read_position};
 use pg_moves::LegalMoves;
+use pg_pawns::PawnFiles;
 use pg_position::Position;
 use pg_price_lists::Prices;
+use pg_prices::{Rows, pawn_lists, prices_of, travel_lists};
 use pg_sentences::{
     Distances, Grounds, Node, Sentence, put_reason_of_bounds, put_reason_of_cut, reason_of_bounds,
     reason_of_cut,
 };
+use pg_travel::Travel;
 use std::process::Abort;
 
 // Where games begin: with all rights to castle, with men that can castle at once, and with pawns near their last ranks.
@@ -70,47 +75,96 @@ fn check_same(rt: &impl Abort, code: Option<u8>, words: &Sentence, wanted: &Opti
     assert!(rt; same, "{words}");
 }
 
-// So it is for a record at a node.
-fn check_record(rt: &impl Abort, distances: &Distances, node: &Node, said: &Bare, record: &Record) {
-    let prices = Prices::new(&[], &[]).expect(rt, "no prices");
-    let mut words = Sentence::new();
-    let code = put_reason_of_cut(distances, node, said, &prices, &mut words);
-    let wanted = reason_of_cut(node.diagram, node.position, node.left, record);
-    check_same(rt, code, &words, &wanted);
+// What is said without distances is what is wanted.
+fn check_grounds(rt: &impl Abort, found: &Option<Grounds>, wanted: &Option<Grounds>) {
+    match found {
+        Some(grounds) => check_same(rt, Some(grounds.code), &grounds.text, wanted),
+        None => check_same(rt, None, &Sentence::new(), wanted),
+    }
 }
 
-// So it is for each of the records, and for what excludes first.
+// So it is for a record at a node, whose price lists stand by themselves too.
+fn check_record(
+    rt: &impl Abort,
+    distances: &Distances,
+    node: &Node,
+    said: &Bare,
+    prices: &Prices,
+    record: &Record,
+) {
+    let mut words = Sentence::new();
+    let code = put_reason_of_cut(distances, node, said, prices, &mut words);
+    let wanted = start::reason_of_cut(node.diagram, node.position, node.left, record);
+    check_same(rt, code, &words, &wanted);
+    let found = reason_of_cut(node.diagram, node.position, node.left, record);
+    check_grounds(rt, &found, &wanted);
+}
+
+// So it is for a record of price lists.
+fn check_priced(
+    rt: &impl Abort,
+    distances: &Distances,
+    node: &Node,
+    code: u8,
+    color: Color,
+    prices: Prices,
+) {
+    let said = Bare::Priced { code, color };
+    let record = Record::Priced {
+        code,
+        color,
+        prices,
+    };
+    check_record(rt, distances, node, &said, &prices, &record);
+}
+
+// So it is for the price lists that a search gives for a colour.
+fn check_lists(rt: &impl Abort, distances: &Distances, node: &Node, rows: &Rows) {
+    let color = rows.color();
+    let lists = pawn_lists(rows, node.position).1;
+    let prices = prices_of(lists.as_slice()).expect(rt, "prices of pawns");
+    check_priced(rt, distances, node, PawnFiles::CODE, color, prices);
+    let lists = travel_lists(rows, node.position).1;
+    let prices = prices_of(lists.as_slice()).expect(rt, "prices of travel");
+    check_priced(rt, distances, node, Travel::CODE, color, prices);
+}
+
+// So it is for each of the other records, and for what excludes first.
 fn check_node(rt: &impl Abort, distances: &Distances, node: &Node) {
+    let prices = Prices::new(&[], &[]).expect(rt, "no prices");
     for code in 1..=5u8 {
-        check_record(rt, distances, node, &Bare::Cut(code), &Record::Cut(code));
-        let prices = Prices::new(&[], &[]).expect(rt, "no prices");
-        let color = Color::Black;
-        let said = Bare::Priced { code, color };
-        let record = Record::Priced {
-            code,
-            color,
-            prices,
-        };
-        check_record(rt, distances, node, &said, &record);
+        let (said, record) = (Bare::Cut(code), Record::Cut(code));
+        check_record(rt, distances, node, &said, &prices, &record);
+        check_priced(rt, distances, node, code, Color::Black, prices);
     }
     let named = true;
-    check_record(
-        rt,
-        distances,
-        node,
-        &Bare::Expand { named },
-        &Record::Expand { named },
-    );
-    check_record(rt, distances, node, &Bare::Ref(7), &Record::Ref(7));
+    let (said, record) = (Bare::Expand { named }, Record::Expand { named });
+    check_record(rt, distances, node, &said, &prices, &record);
+    let (said, record) = (Bare::Ref(7), Record::Ref(7));
+    check_record(rt, distances, node, &said, &prices, &record);
     let mut words = Sentence::new();
     let code = put_reason_of_bounds(distances, node, &mut words);
-    let wanted = reason_of_bounds(node.diagram, node.position, node.left);
+    let wanted = start::reason_of_bounds(node.diagram, node.position, node.left);
     check_same(rt, code, &words, &wanted);
+    let found = reason_of_bounds(node.diagram, node.position, node.left);
+    check_grounds(rt, &found, &wanted);
+}
+
+// What a search reckons a colour's prices by.
+fn rows_of<R: Abort + AllocGlobal>(rt: &R, color: Color, diagram: &Diagram) -> Rows {
+    Rows::new(rt.alloc(), color, diagram).expect(rt, "memory")
 }
 
 // So it is along a game from a start, for one diagram.
-fn check_game(rt: &impl Abort, state: &mut u64, start: &Position, diagram: &Diagram) {
+fn check_game<R: Abort + AllocGlobal>(
+    rt: &R,
+    state: &mut u64,
+    start: &Position,
+    diagram: &Diagram,
+) {
     let distances = Distances::new(diagram);
+    let white = rows_of(rt, Color::White, diagram);
+    let black = rows_of(rt, Color::Black, diagram);
     let mut position = *start;
     for _ in 0..24 {
         let left = drawn(state, 14).min(100) as u8;
@@ -120,6 +174,8 @@ fn check_game(rt: &impl Abort, state: &mut u64, start: &Position, diagram: &Diag
             left,
         };
         check_node(rt, &distances, &node);
+        check_lists(rt, &distances, &node, &white);
+        check_lists(rt, &distances, &node, &black);
         let next = moved(state, &position);
         position = next;
     }
