@@ -24,3 +24,4 @@ pub mod ShiftLemmas
 pub mod QuietLemmas
 pub mod CastleLemmas
 pub mod StepsLemmas
+pub mod RestLemmas

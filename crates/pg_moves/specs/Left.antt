@@ -5,11 +5,12 @@ use Rattle.pg_position.specs.declared.state.State.{State}
 use Rattle.pg_position.specs.declared.moves.Move.{Move}
 use Rattle.pg_position.specs.contracts.state.State.{the_row as state_row}
 use Rattle.pg_position.specs.contracts.moves.Move.{the_row as move_row}
-use Rattle.pg_position.specs.Step.{IsOnBoard}
-use Rattle.pg_moves.specs.Moves.{IsNext}
+use Rattle.pg_board.specs.SquareSets.{IsSetOf}
+use Rattle.pg_position.specs.Step.{IsLegal, IsOnBoard}
+use Rattle.pg_moves.specs.Moves.{IsNext, IsBefore}
 use Rattle.pg_moves.specs.inner.Places.{most_moves, place, place_of, NoneFrom, IsFirstMove}
 use Rattle.pg_moves.specs.inner.Sources.{IsSource}
-use Rattle.pg_moves.specs.Targets.{FreeOff}
+use Rattle.pg_moves.specs.Targets.{FreeOff, plain_move}
 use Rattle.pg_moves.specs.declared.cursor.Peeked.{Peeked}
 use Rattle.pg_moves.specs.declared.sources.Source.{Source}
 
@@ -51,3 +52,18 @@ IsNextOfMan p (Some a) m = IsNext p (Some a) m × (m.from ≡ a.from)
 abbrev pub men_from : Option Move → ℕ
 men_from None = 0
 men_from (Some a) = a.from + 1
+
+-- the set has the squares to which the man that made the move has legal moves past it, and he has no others past it
+pub record IsRestOf (p : State) (a : Move) (rest : ℕ) : Type 0 where
+  pub squares : IsSetOf rest (λ q. IsLegal p (plain_move a.from q) × IsBefore a (plain_move a.from q))
+  pub plain : (m : Move) → IsLegal p m → m.from ≡ a.from → IsBefore a m → m.promotion ≡ None
+
+-- a man moved last, and the set has his further moves
+unfoldable pub IsRest : State → Option Move → ℕ → Type 0
+IsRest p None rest = ⊥
+IsRest p (Some a) rest = IsRestOf p a rest
+
+-- the move of the man that moved last to another square, without promotion
+abbrev pub to_square : Option Move → ℕ → Option Move
+to_square None s = None
+to_square (Some a) s = Some (plain_move a.from s)

@@ -99,6 +99,13 @@ fn count_listed<P: CountProgress>(
     Ok(total)
 }
 
+/// How many legal moves the position has. Takes no memory.
+pub fn count_legal(position: &Position) -> u64
+    ensures { IsGameCount position.now 1 result }
+{
+    count_moves(position)
+}
+
 /// How many games of so many plies go on from the position: 1 for none, and else, over its legal
 /// moves, the sum of the games of one ply less after each.
 ///

@@ -1,6 +1,8 @@
 //! The legal moves of a position, one after the other.
-ghost use Rattle.std.specs.Prelude.{◌≡◌, ◌<◌, ◌≤◌, ◌+◌, None, Some, MatchOption, IfSome, IfNone};
-ghost use Rattle.pg_moves.specs.Left.{IsPeeked, IsFound, IsManDone, IsNextOfMan, men_from};
+ghost use Rattle.std.specs.Prelude.{◌≡◌, ℕ, ◌<◌, ◌≤◌, ◌+◌, true, None, Some, MatchOption, IfSome, IfNone};
+ghost use Rattle.pg_board.specs.Bits.{has};
+ghost use Rattle.pg_board.specs.SquareSets.{IsSetOf, HasNoneFrom, IsLastIn};
+ghost use Rattle.pg_moves.specs.Left.{IsPeeked, IsFound, IsManDone, IsNextOfMan, IsRest, men_from, to_square};
 ghost use Rattle.pg_moves.specs.inner.Sources.{IsSource};
 ghost use Rattle.pg_moves.specs.Moves.{IsNext, IsLast};
 ghost use Rattle.pg_moves.specs.inner.Places.{most_moves, place_of, NoneFrom, IsFirstMove, IsNextWithin};
@@ -9,7 +11,7 @@ ghost use Rattle.pg_moves.specs.Targets.{FreeOff};
 use crate::pins::maybe_pinned;
 use crate::places::promotion_number;
 use crate::sources::{Source, first_of_source, source_at};
-use pg_board::{Kind, SquareSet};
+use pg_board::{Kind, Square, SquareSet};
 use pg_position::{Move, Position};
 use std::marker::Model;
 
@@ -41,6 +43,14 @@ impl Model for LegalMoves {
     ghost view = { λ a. record { position = a.position; last = a.last } };
 
     ghost invariant = { λ a. IsReady a.position a.last a.maybe_pinned a.source };
+}
+
+// The squares of the set past a square.
+#[inline(always)]
+fn past(set: SquareSet, square: Square) -> SquareSet
+    ensures { IsSetOf result (λ q. (has set q ≡ true) × (square < q)) }
+{
+    set - SquareSet::single(square).up_to_first()
 }
 
 // The first legal move of the men from a square on, and its man.
@@ -231,6 +241,52 @@ impl LegalMoves {
                 Some(peeked.m)
             }
             None => None,
+        }
+    }
+
+    /// The squares to which the man that moved last has further legal moves, past the last one: all without
+    /// promotion, and he has no others. None where no move was handed out yet, or where he is a pawn that may
+    /// promote or capture en passant, whose moves have to be handed out one by one.
+    #[inline(always)]
+    #[tactic(auto, unfolding(crate::specs::Left::IsReady))]
+    pub fn rest_of_man(&self) -> Option<SquareSet>
+        ensures { IfSome result (λ rest. IsRest self.now.position self.now.last rest) }
+    {
+        match self.last {
+            None => None,
+            Some(last) => {
+                // A fact for the proof: the square is on the board.
+                last.to.index();
+                if self.source.exact {
+                    Some(past(self.source.set, last.to))
+                } else {
+                    None
+                }
+            }
+        }
+    }
+
+    /// Passes over all further moves of the man that moved last, as if each was handed out: the squares
+    /// are those that `rest_of_man` answered.
+    #[inline(always)]
+    #[tactic(auto, unfolding(crate::specs::Left::IsReady))]
+    pub fn skip_rest(&mut self, rest: SquareSet)
+        requires { IsRest self.old.position self.old.last rest }
+        ensures some { (s : ℕ) → IsLastIn rest s → self.new ≡ record self.old { last = to_square self.old.last s } }
+        ensures none { HasNoneFrom rest 0 → self.new ≡ self.old }
+    {
+        match self.last {
+            None => {}
+            Some(last) => match rest.last() {
+                None => {}
+                Some(to) => {
+                    self.last = Some(Move {
+                        from: last.from,
+                        to,
+                        promotion: None,
+                    });
+                }
+            },
         }
     }
 

@@ -17,7 +17,7 @@ mod search;
 mod sources;
 mod targets;
 
-pub use counting::{count, count_watched};
+pub use counting::{count, count_legal, count_watched};
 pub use cursor::{LegalMoves, Peeked};
 pub use fault::CountFault;
 pub use generate::{legal_moves, next_legal};
