@@ -8,6 +8,7 @@ use Rattle.pg_position.specs.declared.moves.Move.{Move}
 use Rattle.pg_board.specs.SquareSets.{HasNoneFrom, IsFirstFrom}
 use Rattle.pg_moves.specs.Left.{MovesLeft, IsFound, IsPeeked, IsReady, IsManDone, IsNextOfMan, men_from}
 use Rattle.pg_moves.specs.inner.Sources.{IsSource}
+use Rattle.pg_moves.specs.inner.Steps.{AreQuiet}
 use Rattle.pg_moves.specs.Targets.{FreeOff}
 use Rattle.pg_moves.specs.declared.cursor.Peeked.{Peeked}
 use Rattle.pg_moves.specs.Moves.{promotion_number, IsNext, IsLast}
@@ -55,6 +56,14 @@ module _ (p : State) (last : Move) (from : last.from < 64) (to : last.to < 64) (
   pub next_over : NoneFrom p low (place_of (last.from + 1) 0 0) → NoneFrom p next 28672 → IsLast p (Some last)
   next_over none rest = next_none p (Some last) (from, to) (none_then p (place last + 1) next next 28672 (none_then p (place last + 1) (place last + 1) low next (none_yet p _ _ (omega arith)) (subst (λ n. NoneFrom p low n) (sym beyond) none) (omega arith)) rest (omega arith))
 
+  pub past_man : (r : Option Peeked) → NoneFrom p low (place_of (last.from + 1) 0 0) → MatchOption r (NoneFrom p next 28672) (λ a. IsFirstMove p next 28672 a.m × IsPeeked p a) → MatchOption r (IsLast p (Some last)) (λ a. IsNext p (Some last) a.m × IsPeeked p a)
+  past_man None none rest = next_over none rest
+  past_man (Some a) none first = (next_other a.m none first.0, first.1)
+
+pub first_of : (p : State) (r : Option Peeked) → MatchOption r (NoneFrom p 0 28672) (λ a. IsFirstMove p 0 28672 a.m × IsPeeked p a) → MatchOption r (IsLast p None) (λ a. IsNext p None a.m × IsPeeked p a)
+first_of p None none = next_none p None tt none
+first_of p (Some a) first = (next_found p None a.m tt first.0, first.1)
+
 -- ---- the answer, by what is seen of the moves
 ahead_here : (p : State) (l last : Option Move) (r : Option Peeked) → l ≡ last
     → MatchOption r (IsLast p last) (λ a. IsNext p last a.m × IsPeeked p a) → MatchOption r (IsLast p l) (λ a. IsNext p l a.m × IsPeeked p a)
@@ -92,13 +101,13 @@ man_next p None m h = absurd h
 man_next p (Some a) m h = h.0
 
 -- what was found of the man holds past a further move of his
-ready_past : (p : State) (last : Option Move) (m : Move) (maybe_pinned : ℕ) (s : Source) → IsReady p last maybe_pinned s → IsNextOfMan p last m → IsReady p (Some m) maybe_pinned s
+ready_past : (p : State) (last : Option Move) (m : Move) (maybe_pinned quiet : ℕ) (s : Source) → IsReady p last maybe_pinned quiet s → IsNextOfMan p last m → IsReady p (Some m) maybe_pinned quiet s
 unfolding IsReady IsNextOfMan
-ready_past p None m maybe_pinned s h n = absurd n
-ready_past p (Some a) m maybe_pinned s h n = (h.0, subst (λ (x : ℕ). IsSource p x s) (sym n.1) h.1)
+ready_past p None m maybe_pinned quiet s h n = absurd n
+ready_past p (Some a) m maybe_pinned quiet s h n = (h.0, h.1, subst (λ (x : ℕ). IsSource p x s) (sym n.1) h.2)
 
-pub ready_on : (q : MovesLeft) (p : State) (l : Option Move) (m : Move) (maybe_pinned : ℕ) (s : Source) → record { position = p; last = l } ≡ q → IsReady p l maybe_pinned s → IsNextOfMan q.position q.last m → IsReady p (Some m) maybe_pinned s
-ready_on q p l m maybe_pinned s is h next = ready_past p l m maybe_pinned s h (subst (λ (v : MovesLeft). IsNextOfMan v.position v.last m) (sym is) next)
+pub ready_on : (q : MovesLeft) (p : State) (l : Option Move) (m : Move) (maybe_pinned quiet : ℕ) (s : Source) → record { position = p; last = l } ≡ q → IsReady p l maybe_pinned quiet s → IsNextOfMan q.position q.last m → IsReady p (Some m) maybe_pinned quiet s
+ready_on q p l m maybe_pinned quiet s is h next = ready_past p l m maybe_pinned quiet s h (subst (λ (v : MovesLeft). IsNextOfMan v.position v.last m) (sym is) next)
 
 -- the first move of the men beyond is the next one, and none of theirs is none at all
 module _ (p : State) (from : ℕ) (le : from ≤ 64) where
@@ -122,6 +131,7 @@ module _ (q : MovesLeft) (p : State) (l : Option Move) (from : ℕ) (is : record
   pub beyond_over : NoneFrom p (place_of from 0 0) 28672 → IsLast q.position q.last
   beyond_over none = beyond_none q.position from le q.last e done (subst (λ (s : State). NoneFrom s (place_of from 0 0) 28672) at_position none)
 
-pub peeked_there : (q : MovesLeft) (p : State) (l : Option Move) (m : Move) (maybe_pinned : ℕ) (s : Source) → record { position = p; last = l } ≡ q → FreeOff q.position maybe_pinned → IsSource p m.from s → IsPeeked q.position (record { m = m; maybe_pinned = maybe_pinned; source = s })
-unfolding IsPeeked
-peeked_there q p l m maybe_pinned s is free source = (free, subst (λ (v : MovesLeft). IsSource v.position m.from s) is source)
+-- what was found of another man holds past his first move
+pub ready_found : (p : State) (low maybe_pinned quiet : ℕ) (m : Move) (s : Source) → FreeOff p maybe_pinned → AreQuiet p quiet → IsFound p low m s → IsReady p (Some m) maybe_pinned quiet s
+unfolding IsReady
+ready_found p low maybe_pinned quiet m s free calm found = (free, calm, found.source)

@@ -25,3 +25,4 @@ pub mod QuietLemmas
 pub mod CastleLemmas
 pub mod StepsLemmas
 pub mod RestLemmas
+pub mod StepLemmas

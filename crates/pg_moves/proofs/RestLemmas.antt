@@ -59,11 +59,11 @@ module _ (p : State) (a : Move) (set rest : ℕ) (to : a.to < 64) (is : IsExact 
   unfolding IsExact
   rest_is = record { squares = rest_there; plain = λ m l f _. ((is m f).0 l).0 }
 
-rest_ready : (p : State) (l : Option Move) (a : Move) (maybe_pinned rest : ℕ) (s : Source) → l ≡ Some a → a.to < 64 → IsReady p l maybe_pinned s → s.exact ≡ true → IsSetOf rest (λ q. (has s.set q ≡ true) × (a.to < q)) → IsRest p l rest
+rest_ready : (p : State) (l : Option Move) (a : Move) (maybe_pinned quiet rest : ℕ) (s : Source) → l ≡ Some a → a.to < 64 → IsReady p l maybe_pinned quiet s → s.exact ≡ true → IsSetOf rest (λ q. (has s.set q ≡ true) × (a.to < q)) → IsRest p l rest
 unfolding IsReady IsSource IsRest
-rest_ready p l a maybe_pinned rest s e to ready exact past =
-    let here : IsReady p (Some a) maybe_pinned s = subst (λ (x : Option Move). IsReady p x maybe_pinned s) e ready in
-    subst (λ (x : Option Move). IsRest p x rest) (sym e) (rest_is p a s.set rest to (here.1.1 exact) past)
+rest_ready p l a maybe_pinned quiet rest s e to ready exact past =
+    let here : IsReady p (Some a) maybe_pinned quiet s = subst (λ (x : Option Move). IsReady p x maybe_pinned quiet s) e ready in
+    subst (λ (x : Option Move). IsRest p x rest) (sym e) (rest_is p a s.set rest to (here.2.1 exact) past)
 
-pub rest_at : (q : MovesLeft) (p : State) (l : Option Move) (a : Move) (maybe_pinned rest : ℕ) (s : Source) → record { position = p; last = l } ≡ q → l ≡ Some a → a.to < 64 → IsReady p l maybe_pinned s → s.exact ≡ true → IsSetOf rest (λ q. (has s.set q ≡ true) × (a.to < q)) → IsRest q.position q.last rest
-rest_at q p l a maybe_pinned rest s is e to ready exact past = subst (λ (v : MovesLeft). IsRest v.position v.last rest) is (rest_ready p l a maybe_pinned rest s e to ready exact past)
+pub rest_at : (q : MovesLeft) (p : State) (l : Option Move) (a : Move) (maybe_pinned quiet rest : ℕ) (s : Source) → record { position = p; last = l } ≡ q → l ≡ Some a → a.to < 64 → IsReady p l maybe_pinned quiet s → s.exact ≡ true → IsSetOf rest (λ q. (has s.set q ≡ true) × (a.to < q)) → IsRest q.position q.last rest
+rest_at q p l a maybe_pinned quiet rest s is e to ready exact past = subst (λ (v : MovesLeft). IsRest v.position v.last rest) is (rest_ready p l a maybe_pinned quiet rest s e to ready exact past)

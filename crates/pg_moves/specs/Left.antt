@@ -10,6 +10,7 @@ use Rattle.pg_position.specs.Step.{IsLegal, IsOnBoard}
 use Rattle.pg_moves.specs.Moves.{IsNext, IsBefore}
 use Rattle.pg_moves.specs.inner.Places.{most_moves, place, place_of, NoneFrom, IsFirstMove}
 use Rattle.pg_moves.specs.inner.Sources.{IsSource}
+use Rattle.pg_moves.specs.inner.Steps.{AreQuiet}
 use Rattle.pg_moves.specs.Targets.{FreeOff, plain_move}
 use Rattle.pg_moves.specs.declared.cursor.Peeked.{Peeked}
 use Rattle.pg_moves.specs.declared.sources.Source.{Source}
@@ -30,13 +31,13 @@ pub record IsFound (p : State) (low : ℕ) (m : Move) (s : Source) : Type 0 wher
   pub source : IsSource p m.from s
 
 -- past a move what was found holds
-unfoldable pub IsReady : State → Option Move → ℕ → Source → Type 0
-IsReady p None maybe_pinned s = Unit {0}
-IsReady p (Some m) maybe_pinned s = FreeOff p maybe_pinned × IsSource p m.from s
+unfoldable pub IsReady : State → Option Move → ℕ → ℕ → Source → Type 0
+IsReady p None maybe_pinned quiet s = Unit {0}
+IsReady p (Some m) maybe_pinned quiet s = FreeOff p maybe_pinned × AreQuiet p quiet × IsSource p m.from s
 
 -- what was found for a move ahead holds past it
 unfoldable pub IsPeeked : State → Peeked → Type 0
-IsPeeked p a = FreeOff p a.maybe_pinned × IsSource p a.m.from a.source
+IsPeeked p a = FreeOff p a.maybe_pinned × AreQuiet p a.quiet × IsSource p a.m.from a.source
 
 -- the man that moved last, if one did, has no legal move left
 unfoldable pub IsManDone : State → Option Move → Type 0

@@ -4,13 +4,16 @@ ghost use Rattle.pg_board.specs.Bits.{has};
 ghost use Rattle.pg_board.specs.SquareSets.{IsSetOf, HasNoneFrom, IsLastIn};
 ghost use Rattle.pg_moves.specs.Left.{IsPeeked, IsFound, IsManDone, IsNextOfMan, IsRest, men_from, to_square};
 ghost use Rattle.pg_moves.specs.inner.Sources.{IsSource};
+ghost use Rattle.pg_moves.specs.inner.Steps.{AreQuiet};
 ghost use Rattle.pg_moves.specs.Moves.{IsNext, IsLast};
 ghost use Rattle.pg_moves.specs.inner.Places.{most_moves, place_of, NoneFrom, IsFirstMove, IsNextWithin};
 ghost use Rattle.pg_moves.specs.Targets.{FreeOff};
 
+use crate::men::source_near;
+use crate::pawns::quiet_pawns;
 use crate::pins::maybe_pinned;
 use crate::places::promotion_number;
-use crate::sources::{Source, first_of_source, source_at};
+use crate::sources::{Source, first_of_source};
 use pg_board::{Kind, Square, SquareSet};
 use pg_position::{Move, Position};
 use std::marker::Model;
@@ -20,6 +23,7 @@ use std::marker::Model;
 pub struct Peeked {
     pub m: Move,
     maybe_pinned: SquareSet,
+    quiet: SquareSet,
     source: Source,
 }
 
@@ -30,6 +34,7 @@ pub struct LegalMoves {
     position: Position,
     last: Option<Move>,
     maybe_pinned: SquareSet,
+    quiet: SquareSet,
     source: Source,
 }
 
@@ -42,7 +47,16 @@ impl Model for LegalMoves {
 
     ghost view = { λ a. record { position = a.position; last = a.last } };
 
-    ghost invariant = { λ a. IsReady a.position a.last a.maybe_pinned a.source };
+    ghost invariant = { λ a. IsReady a.position a.last a.maybe_pinned a.quiet a.source };
+}
+
+// What is kept of a man before there is one.
+fn no_source() -> Source {
+    Source {
+        kind: Kind::Pawn,
+        set: SquareSet::empty(),
+        exact: false,
+    }
 }
 
 // The squares of the set past a square.
@@ -53,21 +67,33 @@ fn past(set: SquareSet, square: Square) -> SquareSet
     set - SquareSet::single(square).up_to_first()
 }
 
-// The first legal move of the men from a square on, and its man.
-fn first_beyond(position: &Position, maybe_pinned: SquareSet, from: u8) -> Option<(Move, Source)>
+// The first legal move of the men from a square on. Its man is written where the caller wants it: a struct
+// that is handed back beside the move is copied twice.
+#[inline(always)]
+fn first_beyond(
+    position: &Position,
+    maybe_pinned: SquareSet,
+    quiet: SquareSet,
+    from: u8,
+    source: &mut Source,
+) -> Option<Move>
     requires free { FreeOff position.now maybe_pinned }
+    requires quiet { AreQuiet position.now quiet }
     requires source { from ≤ 64 }
     ensures { MatchOption result
-        (NoneFrom position.now (place_of from 0 0) most_moves)
-        (λ r. IsFound position.now (place_of from 0 0) r.0 r.1) }
+        (NoneFrom position.now (place_of from 0 0) most_moves × (source.new ≡ source.old))
+        (λ m. IsFound position.now (place_of from 0 0) m source.new) }
 {
     let board = position.board();
     let own = board.squares_of_color(position.side());
     let mut at = from;
     while let Some(square) = own.first_from(at) {
-        let source = source_at(position, &board, maybe_pinned, square);
-        if let Some(m) = first_of_source(position, square, &source, 0, 0) {
-            return Some((m, source));
+        let near = source_near(position, &board, maybe_pinned, quiet, square);
+        if let Some(m) = first_of_source(position, square, &near, 0, 0) {
+            source.set = near.set;
+            source.kind = near.kind;
+            source.exact = near.exact;
+            return Some(m);
         }
         at = square.index() + 1;
     }
@@ -85,11 +111,8 @@ impl LegalMoves {
             position: *position,
             last: None,
             maybe_pinned: SquareSet::empty(),
-            source: Source {
-                kind: Kind::Pawn,
-                set: SquareSet::empty(),
-                exact: false,
-            },
+            quiet: SquareSet::empty(),
+            source: no_source(),
         }
     }
 
@@ -107,30 +130,52 @@ impl LegalMoves {
         self.last
     }
 
-    // The first legal move.
-    fn first(position: &Position) -> Option<Peeked>
-        ensures { MatchOption result (IsLast position.now None)
-            (λ a. IsNext position.now None a.m × IsPeeked position.now a) }
+    // The first legal move of the men from a square on, with what was found for it.
+    fn of_men(
+        position: &Position,
+        maybe_pinned: SquareSet,
+        quiet: SquareSet,
+        from: u8,
+    ) -> Option<Peeked>
+        requires free { FreeOff position.now maybe_pinned }
+        requires quiet { AreQuiet position.now quiet }
+        requires source { from ≤ 64 }
+        ensures { MatchOption result (NoneFrom position.now (place_of from 0 0) most_moves)
+            (λ a. IsFirstMove position.now (place_of from 0 0) most_moves a.m × IsPeeked position.now a) }
     {
-        let maybe_pinned = maybe_pinned(position, &position.board());
-        match first_beyond(position, maybe_pinned, 0) {
-            Some((m, source)) => Some(Peeked {
+        let mut source = no_source();
+        match first_beyond(position, maybe_pinned, quiet, from, &mut source) {
+            Some(m) => Some(Peeked {
                 m,
                 maybe_pinned,
+                quiet,
                 source,
             }),
             None => None,
         }
     }
 
+    // The first legal move.
+    fn first(position: &Position) -> Option<Peeked>
+        ensures { MatchOption result (IsLast position.now None)
+            (λ a. IsNext position.now None a.m × IsPeeked position.now a) }
+    {
+        let board = position.board();
+        let maybe_pinned = maybe_pinned(position, &board);
+        let quiet = quiet_pawns(position, &board, maybe_pinned);
+        LegalMoves::of_men(position, maybe_pinned, quiet, 0)
+    }
+
     // The legal move after the last one.
     fn following(
         position: &Position,
         maybe_pinned: SquareSet,
+        quiet: SquareSet,
         source: &Source,
         last: &Move,
     ) -> Option<Peeked>
         requires free { FreeOff position.now maybe_pinned }
+        requires quiet { AreQuiet position.now quiet }
         requires source { IsSource position.now last.now.from source.now }
         ensures { MatchOption result (IsLast position.now (Some last.now))
             (λ a. IsNext position.now (Some last.now) a.m × IsPeeked position.now a) }
@@ -142,16 +187,10 @@ impl LegalMoves {
             Some(m) => Some(Peeked {
                 m,
                 maybe_pinned,
+                quiet,
                 source: *source,
             }),
-            None => match first_beyond(position, maybe_pinned, from + 1) {
-                Some((m, source)) => Some(Peeked {
-                    m,
-                    maybe_pinned,
-                    source,
-                }),
-                None => None,
-            },
+            None => LegalMoves::of_men(position, maybe_pinned, quiet, from + 1),
         }
     }
 
@@ -167,6 +206,7 @@ impl LegalMoves {
             Some(last) => LegalMoves::following(
                 &self.position,
                 self.maybe_pinned,
+                self.quiet,
                 &self.source,
                 &last,
             ),
@@ -181,6 +221,7 @@ impl LegalMoves {
     {
         self.last = Some(peeked.m);
         self.maybe_pinned = peeked.maybe_pinned;
+        self.quiet = peeked.quiet;
         self.source = peeked.source;
     }
 
@@ -204,18 +245,42 @@ impl LegalMoves {
     }
 
     // The men of which one moves next, once the man that moved last has no move left: those from a square
-    // on. And those of all that may be pinned.
+    // on. And of all men those that may be pinned, and the quiet pawns.
     #[inline(always)]
     #[tactic(auto, unfolding(crate::specs::Left::IsReady))]
-    fn men_beyond(&self) -> (u8, SquareSet)
+    fn men_beyond(&self) -> (u8, SquareSet, SquareSet)
         ensures from { result.0 ≡ men_from self.now.last }
         ensures bound { result.0 ≤ 64 }
         ensures free { FreeOff self.now.position result.1 }
+        ensures quiet { AreQuiet self.now.position result.2 }
     {
         match self.last {
-            None => (0, maybe_pinned(&self.position, &self.position.board())),
-            Some(last) => (last.from.index() + 1, self.maybe_pinned),
+            None => {
+                let board = self.position.board();
+                let maybe_pinned = maybe_pinned(&self.position, &board);
+                let quiet = quiet_pawns(&self.position, &board, maybe_pinned);
+                (0, maybe_pinned, quiet)
+            }
+            Some(last) => (last.from.index() + 1, self.maybe_pinned, self.quiet),
         }
+    }
+
+    // Hands out a move of another man. His source goes over part by part: whole it is copied with what
+    // lies between its parts.
+    #[inline(always)]
+    #[tactic(auto, unfolding(crate::specs::Left::IsReady))]
+    fn begin(&mut self, m: &Move, maybe_pinned: SquareSet, quiet: SquareSet, source: &Source)
+        requires free { FreeOff self.old.position maybe_pinned }
+        requires quiet { AreQuiet self.old.position quiet }
+        requires source { IsSource self.old.position m.now.from source.now }
+        ensures { self.new ≡ record self.old { last = Some m.now } }
+    {
+        self.last = Some(*m);
+        self.maybe_pinned = maybe_pinned;
+        self.quiet = quiet;
+        self.source.set = source.set;
+        self.source.kind = source.kind;
+        self.source.exact = source.exact;
     }
 
     // The next legal move, once the man that moved last has none left: a function of its own, since `next` is inlined where it is
@@ -229,16 +294,12 @@ impl LegalMoves {
         ensures some { IfSome result (λ m. self.new ≡ record self.old { last = Some m }) }
         ensures none { IfNone result (self.new ≡ self.old) }
     {
-        let (from, maybe_pinned) = self.men_beyond();
-        match first_beyond(&self.position, maybe_pinned, from) {
-            Some((m, source)) => {
-                let peeked = Peeked {
-                    m,
-                    maybe_pinned,
-                    source,
-                };
-                self.advance(&peeked);
-                Some(peeked.m)
+        let (from, maybe_pinned, quiet) = self.men_beyond();
+        let mut source = no_source();
+        match first_beyond(&self.position, maybe_pinned, quiet, from, &mut source) {
+            Some(m) => {
+                self.begin(&m, maybe_pinned, quiet, &source);
+                Some(m)
             }
             None => None,
         }

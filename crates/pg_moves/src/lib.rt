@@ -8,6 +8,7 @@ mod generate;
 mod kings;
 mod laws;
 mod leaves;
+mod men;
 mod parries;
 mod pawns;
 mod pins;
