@@ -269,13 +269,13 @@ impl LegalMoves {
     // lies between its parts.
     #[inline(always)]
     #[tactic(auto, unfolding(crate::specs::Left::IsReady))]
-    fn begin(&mut self, m: &Move, maybe_pinned: SquareSet, quiet: SquareSet, source: &Source)
+    fn begin(&mut self, first: &Move, maybe_pinned: SquareSet, quiet: SquareSet, source: &Source)
         requires free { FreeOff self.old.position maybe_pinned }
         requires quiet { AreQuiet self.old.position quiet }
-        requires source { IsSource self.old.position m.now.from source.now }
-        ensures { self.new ≡ record self.old { last = Some m.now } }
+        requires source { IsSource self.old.position first.now.from source.now }
+        ensures { self.new ≡ record self.old { last = Some first.now } }
     {
-        self.last = Some(*m);
+        self.last = Some(*first);
         self.maybe_pinned = maybe_pinned;
         self.quiet = quiet;
         self.source.set = source.set;

@@ -1,17 +1,20 @@
 //! The men of the side to move one after the other, and where each goes: pawns that need no trial by
 //! sets shifted along the board.
-ghost use Rattle.std.specs.Prelude.{◌≡◌, ℕ, ◌<◌};
+ghost use Rattle.std.specs.Prelude.{◌≡◌, ◌≢◌, ℕ, ◌<◌};
 ghost use Rattle.pg_board.specs.Bits.{has};
 ghost use Rattle.pg_board.specs.Men.{other};
 ghost use Rattle.pg_board.specs.Squares.{rank};
 ghost use Rattle.pg_board.specs.SquareSets.{IsSetOf};
+ghost use Rattle.pg_position.specs.Position.{Stands};
 ghost use Rattle.pg_position.specs.Squares.{HasAhead};
 ghost use Rattle.pg_moves.specs.inner.Pawns.{forward, IsInside, IsQuiet, one_rank, two_ranks};
 ghost use Rattle.pg_moves.specs.inner.Sources.{IsSource};
 ghost use Rattle.pg_moves.specs.inner.Steps.{AreQuiet, StepsTo, leap_rank};
 ghost use Rattle.pg_moves.specs.Targets.{IsOwn, FreeOff, Leaps, Advances};
 
-use crate::sources::{Source, source_to_count};
+use crate::kings::king_targets;
+use crate::parries::parrying;
+use crate::sources::{Source, is_there, source_at};
 use pg_board::{Board, Color, Kind, Man, Square, SquareSet};
 use pg_position::{Position, ahead, attacks_from};
 
@@ -91,7 +94,90 @@ fn quiet_source(position: &Position, board: &Board, from: Square) -> Source
     }
 }
 
-// The man of the side to move on a square. Of those that are no quiet pawns most are pieces.
+// A piece of this kind other than the king: its attack is asked for here, with the kind known, so that it
+// is inlined.
+#[inline(always)]
+fn piece_source(
+    position: &Position,
+    board: &Board,
+    maybe_pinned: SquareSet,
+    kind: Kind,
+    from: Square,
+) -> Source
+    requires same { board.now ≡ position.now.board }
+    requires free { FreeOff position.now maybe_pinned }
+    requires stands { Stands position.now.board position.now.side kind from }
+    requires pawn { kind ≢ Kind.Pawn }
+    requires king { kind ≢ Kind.King }
+    ensures { IsSource position.now from result }
+{
+    let color = position.side();
+    if maybe_pinned.contains(from) {
+        Source {
+            set: parrying(position, kind, from),
+            kind,
+            exact: true,
+        }
+    } else {
+        let reached = attacks_from(board, Man::new(color, kind), from);
+        Source {
+            set: reached - board.squares_of_color(color),
+            kind,
+            exact: true,
+        }
+    }
+}
+
+// The king.
+#[inline(always)]
+fn king_source(position: &Position, board: &Board, from: Square) -> Source
+    requires same { board.now ≡ position.now.board }
+    requires stands { Stands position.now.board position.now.side Kind.King from }
+    ensures { IsSource position.now from result }
+{
+    Source {
+        set: king_targets(position, board, from),
+        kind: Kind::King,
+        exact: true,
+    }
+}
+
+// Any man: not inlined, since few men come here.
+#[inline(never)]
+fn any_source(position: &Position, board: &Board, maybe_pinned: SquareSet, from: Square) -> Source
+    requires same { board.now ≡ position.now.board }
+    requires free { FreeOff position.now maybe_pinned }
+    requires own { IsOwn position.now.board position.now.side from }
+    ensures { IsSource position.now from result }
+{
+    source_at(position, board, maybe_pinned, from)
+}
+
+// The man of the side to move on a square, who is no quiet pawn: mostly a piece.
+#[inline(always)]
+fn other_source(position: &Position, board: &Board, maybe_pinned: SquareSet, from: Square) -> Source
+    requires same { board.now ≡ position.now.board }
+    requires free { FreeOff position.now maybe_pinned }
+    requires own { IsOwn position.now.board position.now.side from }
+    ensures { IsSource position.now from result }
+{
+    let side = position.side();
+    if is_there(board, side, Kind::Knight, from) {
+        piece_source(position, board, maybe_pinned, Kind::Knight, from)
+    } else if is_there(board, side, Kind::Bishop, from) {
+        piece_source(position, board, maybe_pinned, Kind::Bishop, from)
+    } else if is_there(board, side, Kind::Rook, from) {
+        piece_source(position, board, maybe_pinned, Kind::Rook, from)
+    } else if is_there(board, side, Kind::Queen, from) {
+        piece_source(position, board, maybe_pinned, Kind::Queen, from)
+    } else if is_there(board, side, Kind::King, from) {
+        king_source(position, board, from)
+    } else {
+        any_source(position, board, maybe_pinned, from)
+    }
+}
+
+// The man of the side to move on a square.
 #[inline(always)]
 pub(crate) fn source_near(
     position: &Position,
@@ -109,6 +195,6 @@ pub(crate) fn source_near(
     if quiet.contains(from) {
         quiet_source(position, board, from)
     } else {
-        source_to_count(position, board, maybe_pinned, from)
+        other_source(position, board, maybe_pinned, from)
     }
 }

@@ -141,7 +141,7 @@ fn source_of_pawn(
 
 // Whether a man of this colour and kind stands on the square, by the set of these men.
 #[inline(always)]
-fn is_there(board: &Board, color: Color, kind: Kind, from: Square) -> bool
+pub(crate) fn is_there(board: &Board, color: Color, kind: Kind, from: Square) -> bool
     ensures { IsTrue result ↔ Stands board.now color kind from }
 {
     board.squares_of(Man::new(color, kind)).contains(from)
