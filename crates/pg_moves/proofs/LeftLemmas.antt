@@ -6,10 +6,8 @@ use Rattle.pg_board.specs.Placement.{get}
 use Rattle.pg_position.specs.declared.state.State.{State}
 use Rattle.pg_position.specs.declared.moves.Move.{Move}
 use Rattle.pg_board.specs.SquareSets.{HasNoneFrom, IsFirstFrom}
-use Rattle.pg_moves.specs.Left.{MovesLeft, IsFound, IsPeeked, IsReady, IsManDone, IsNextOfMan, men_from}
+use Rattle.pg_moves.specs.Left.{MovesLeft, IsFound, IsPeeked, IsManDone, IsNextOfMan, men_from}
 use Rattle.pg_moves.specs.inner.Sources.{IsSource}
-use Rattle.pg_moves.specs.inner.Steps.{AreQuiet}
-use Rattle.pg_moves.specs.Targets.{FreeOff}
 use Rattle.pg_moves.specs.declared.cursor.Peeked.{Peeked}
 use Rattle.pg_moves.specs.Moves.{promotion_number, IsNext, IsLast}
 use Rattle.pg_moves.specs.inner.Places.{place, place_of, NoneFrom, IsFirstMove}
@@ -19,7 +17,7 @@ use Rattle.pg_moves.proofs.PlaceLemmas.{promotion_low}
 use Rattle.pg_moves.proofs.SearchLemmas.{own_found, own_next, own_end, next_found, next_none, none_then, none_yet, first_block}
 
 -- a move of a man's block is from there
-there : (r to n f t j : ℕ) → n ≤ 7 → t < 64 → j < 7 → place_of r to n ≤ place_of f t j → place_of f t j < place_of (r + 1) 0 0 → f ≡ r
+pub there : (r to n f t j : ℕ) → n ≤ 7 → t < 64 → j < 7 → place_of r to n ≤ place_of f t j → place_of f t j < place_of (r + 1) 0 0 → f ≡ r
 there r to n f t j a b c d e = omega arith
 
 pub found_there : (p : State) (r to n : ℕ) (m : Move) → n ≤ 7 → IsFirstMove p (place_of r to n) (place_of (r + 1) 0 0) m → m.from ≡ r
@@ -100,15 +98,6 @@ unfolding IsNextOfMan
 man_next p None m h = absurd h
 man_next p (Some a) m h = h.0
 
--- what was found of the man holds past a further move of his
-ready_past : (p : State) (last : Option Move) (m : Move) (maybe_pinned quiet : ℕ) (s : Source) → IsReady p last maybe_pinned quiet s → IsNextOfMan p last m → IsReady p (Some m) maybe_pinned quiet s
-unfolding IsReady IsNextOfMan
-ready_past p None m maybe_pinned quiet s h n = absurd n
-ready_past p (Some a) m maybe_pinned quiet s h n = (h.0, h.1, subst (λ (x : ℕ). IsSource p x s) (sym n.1) h.2)
-
-pub ready_on : (q : MovesLeft) (p : State) (l : Option Move) (m : Move) (maybe_pinned quiet : ℕ) (s : Source) → record { position = p; last = l } ≡ q → IsReady p l maybe_pinned quiet s → IsNextOfMan q.position q.last m → IsReady p (Some m) maybe_pinned quiet s
-ready_on q p l m maybe_pinned quiet s is h next = ready_past p l m maybe_pinned quiet s h (subst (λ (v : MovesLeft). IsNextOfMan v.position v.last m) (sym is) next)
-
 -- the first move of the men beyond is the next one, and none of theirs is none at all
 module _ (p : State) (from : ℕ) (le : from ≤ 64) where
   beyond_is : (last : Option Move) (m : Move) → from ≡ men_from last → IsManDone p last → IsFirstMove p (place_of from 0 0) 28672 m → IsNext p last m
@@ -130,8 +119,3 @@ module _ (q : MovesLeft) (p : State) (l : Option Move) (from : ℕ) (is : record
 
   pub beyond_over : NoneFrom p (place_of from 0 0) 28672 → IsLast q.position q.last
   beyond_over none = beyond_none q.position from le q.last e done (subst (λ (s : State). NoneFrom s (place_of from 0 0) 28672) at_position none)
-
--- what was found of another man holds past his first move
-pub ready_found : (p : State) (low maybe_pinned quiet : ℕ) (m : Move) (s : Source) → FreeOff p maybe_pinned → AreQuiet p quiet → IsFound p low m s → IsReady p (Some m) maybe_pinned quiet s
-unfolding IsReady
-ready_found p low maybe_pinned quiet m s free calm found = (free, calm, found.source)

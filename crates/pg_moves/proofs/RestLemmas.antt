@@ -1,22 +1,24 @@
 -- The further moves of the man that moved last, as a set.
-use Rattle.std.proofs.Common.{◌≡◌, ℕ, ◌+◌, ◌<◌, ◌≤◌, inl, inr, true, false, not, ◌&&◌, Option, Some, refl, sym, subst, arith}
+use Rattle.std.proofs.Common.{◌≡◌, ℕ, ◌+◌, ◌<◌, ◌≤◌, inl, inr, true, false, not, ◌&&◌, Option, Some, None, refl, sym, ap, subst, arith, ◌∙◌}
 use Rattle.std.proofs.lemmas.Bool.Decides.{leb_tells}
 use Rattle.pg_board.specs.Bits.{has}
-use Rattle.pg_board.specs.SquareSets.{IsSetOf}
+use Rattle.pg_board.specs.SquareSets.{IsSetOf, HasNoneFrom, IsFirstFrom, IsLastIn}
 use Rattle.pg_board.proofs.SetLemmas.{set_of_rest, set_like}
 use Rattle.pg_position.specs.declared.state.State.{State}
 use Rattle.pg_position.specs.declared.moves.Move.{Move}
 use Rattle.pg_position.specs.Step.{IsLegal, IsOnBoard}
-use Rattle.pg_moves.specs.Left.{MovesLeft, IsReady, IsRest, IsRestOf}
-use Rattle.pg_moves.specs.inner.Places.{place}
+use Rattle.pg_moves.specs.Left.{MovesLeft, IsReady, IsManDone, IsNextOfMan, IsRest, IsRestOf}
+use Rattle.pg_moves.specs.inner.Places.{place, place_of, IsFirstMove}
 use Rattle.pg_moves.specs.inner.Sources.{IsSource, IsExact}
+use Rattle.pg_moves.specs.inner.Steps.{AreQuiet}
 use Rattle.pg_moves.specs.Moves.{promotion_number, IsBefore}
-use Rattle.pg_moves.specs.Targets.{plain_move}
+use Rattle.pg_moves.specs.Targets.{FreeOff, plain_move}
 use Rattle.pg_moves.specs.declared.sources.Source.{Source}
 use Rattle.pg_moves.proofs.ListLemmas.{on_board}
-use Rattle.pg_moves.proofs.PlaceLemmas.{promotion_low, place_less}
+use Rattle.pg_moves.proofs.PlaceLemmas.{move_cmp_total, promotion_low, place_less}
 use Rattle.pg_moves.proofs.SearchLemmas.{less_place}
 use Rattle.pg_moves.proofs.ShiftLemmas.{itself}
+use Rattle.pg_moves.proofs.LeftLemmas.{there, next_same}
 
 -- ---- the squares of a set past a square
 pub past_set : (set one upto n s : ℕ) → IsSetOf one (λ q. q ≡ s) → IsSetOf upto (λ q. (t : ℕ) → t < q → has one t ≡ false) → ((q : ℕ) → q < 64 → has n q ≡ has set q && not (has upto q)) → IsSetOf n (λ q. (has set q ≡ true) × (s < q))
@@ -59,11 +61,115 @@ module _ (p : State) (a : Move) (set rest : ℕ) (to : a.to < 64) (is : IsExact 
   unfolding IsExact
   rest_is = record { squares = rest_there; plain = λ m l f _. ((is m f).0 l).0 }
 
-rest_ready : (p : State) (l : Option Move) (a : Move) (maybe_pinned quiet rest : ℕ) (s : Source) → l ≡ Some a → a.to < 64 → IsReady p l maybe_pinned quiet s → s.exact ≡ true → IsSetOf rest (λ q. (has s.set q ≡ true) × (a.to < q)) → IsRest p l rest
-unfolding IsReady IsSource IsRest
-rest_ready p l a maybe_pinned quiet rest s e to ready exact past =
-    let here : IsReady p (Some a) maybe_pinned quiet s = subst (λ (x : Option Move). IsReady p x maybe_pinned quiet s) e ready in
-    subst (λ (x : Option Move). IsRest p x rest) (sym e) (rest_is p a s.set rest to (here.2.1 exact) past)
+-- what is left of them past one of them
+rest_on : (p : State) (a m : Move) (set rest : ℕ) → IsRestOf p a set → IsLegal p m → IsBefore a m → m.from ≡ a.from → IsSetOf rest (λ q. (has set q ≡ true) × (m.to < q)) → IsRestOf p m rest
+rest_on p a m set rest h legal before f past = record {
+  squares = λ q l. (
+    λ e. (let g : (has set q ≡ true) × (m.to < q) = (past q l).0 e in
+        let far : m.to < q = g.1 in
+        let few : promotion_number m.promotion < 7 = promotion_low m.promotion in
+        let there : IsLegal p (plain_move a.from q) = ((h.squares q l).0 g.0).0 in
+        (subst (λ (x : ℕ). IsLegal p (plain_move x q)) (sym f) there, place_less m (plain_move m.from q) on.1 l (omega arith))),
+    λ (there, later). (past q l).1 (
+      (h.squares q l).1 (subst (λ (x : ℕ). IsLegal p (plain_move x q)) f there, subst (λ (x : ℕ). IsBefore a (plain_move x q)) f (move_cmp_total.trans a m (plain_move m.from q) before later)),
+      (let less : place m < place (plain_move m.from q) = less_place m (plain_move m.from q) on (on_board p (plain_move m.from q) there) later in omega arith),
+    ),
+  );
+  plain = λ n l g later. h.plain n l (g ∙ f) (move_cmp_total.trans a m n before later);
+}
+  where
+    on : IsOnBoard m
+    on = on_board p m legal
 
-pub rest_at : (q : MovesLeft) (p : State) (l : Option Move) (a : Move) (maybe_pinned quiet rest : ℕ) (s : Source) → record { position = p; last = l } ≡ q → l ≡ Some a → a.to < 64 → IsReady p l maybe_pinned quiet s → s.exact ≡ true → IsSetOf rest (λ q. (has s.set q ≡ true) × (a.to < q)) → IsRest q.position q.last rest
-rest_at q p l a maybe_pinned quiet rest s is e to ready exact past = subst (λ (v : MovesLeft). IsRest v.position v.last rest) is (rest_ready p l a maybe_pinned quiet rest s e to ready exact past)
+-- ---- the next of them
+module _ (p : State) (a : Move) (rest : ℕ) (from : a.from < 64) (to : a.to < 64) (h : IsRestOf p a rest) where
+  rest_has : (x : Move) → IsLegal p x → place a + 1 ≤ place x → place x < place_of (a.from + 1) 0 0 → (x.from ≡ a.from) × (promotion_number x.promotion ≡ 0) × (x.to < 64) × (has rest x.to ≡ true)
+  rest_has x l above below =
+      let on : IsOnBoard x = on_board p x l in
+      let far : x.to < 64 = on.1 in
+      let few : promotion_number a.promotion < 7 = promotion_low a.promotion in
+      let small : promotion_number x.promotion < 7 = promotion_low x.promotion in
+      let f : x.from ≡ a.from = there a.from a.to (promotion_number a.promotion + 1) x.from x.to (promotion_number x.promotion) (omega arith) far small (omega arith) below in
+      let before : IsBefore a x = place_less a x to far (omega arith) in
+      let e : x.promotion ≡ None = h.plain x l f before in
+      let same : x ≡ plain_move a.from x.to = (λ i. record { from = f i; to = x.to; promotion = e i }) in
+      (f, ap promotion_number e, far, (h.squares x.to far).1 (subst (λ (y : Move). IsLegal p y) same l, subst (λ (y : Move). IsBefore a y) same before))
+
+  rest_first : (s : ℕ) → IsFirstFrom rest 0 s → IsFirstMove p (place a + 1) (place_of (a.from + 1) 0 0) (plain_move a.from s)
+  rest_first s first =
+      let on : s < 64 = first.on_board in
+      let m : Move = plain_move a.from s in
+      let g : IsLegal p m × IsBefore a m = (h.squares s on).0 first.member in
+      let less : place a < place m = less_place a m (from, to) (on_board p m g.0) g.1 in
+      record {
+        legal = g.0;
+        from_low = omega arith;
+        to_high = omega arith;
+        first = λ x l above. elim (leb_tells (place m) (place x)) [
+          | inl w ↦ w.1
+          | inr w ↦ absurd (
+              let near : place x < place m = w.1 in
+              let k : (x.from ≡ a.from) × (promotion_number x.promotion ≡ 0) × (x.to < 64) × (has rest x.to ≡ true) = rest_has x l above (omega arith) in
+              let f : x.from ≡ a.from = k.0 in
+              let none : promotion_number x.promotion ≡ 0 = k.1 in
+              let off : has rest x.to ≡ false = first.before x.to (omega arith) (omega arith) in
+              let is_there : has rest x.to ≡ true = k.3 in
+              cc)
+        ];
+      }
+
+  pub rest_found : (s : ℕ) → IsFirstFrom rest 0 s → IsNextOfMan p (Some a) (plain_move a.from s)
+  unfolding IsNextOfMan
+  rest_found s first = (next_same p a from to (place a + 1) (place_of (a.from + 1) 0 0) refl refl (plain_move a.from s) (rest_first s first), refl)
+
+  pub rest_done : HasNoneFrom rest 0 → IsManDone p (Some a)
+  unfolding IsManDone
+  rest_done none = (
+    (from, to),
+    λ x l above. elim (leb_tells (place_of (a.from + 1) 0 0) (place x)) [
+      | inl w ↦ w.1
+      | inr w ↦ absurd (
+          let k : (x.from ≡ a.from) × (promotion_number x.promotion ≡ 0) × (x.to < 64) × (has rest x.to ≡ true) = rest_has x l above w.1 in
+          let off : has rest x.to ≡ false = none x.to (omega arith) k.2 in
+          let is_there : has rest x.to ≡ true = k.3 in
+          cc)
+    ],
+  )
+
+-- ---- what is known past a move
+pub ready_found : (q : MovesLeft) (p : State) (l : Option Move) (m : Move) (maybe_pinned quiet rest : ℕ) (s : Source) → record { position = p; last = l } ≡ q
+    → FreeOff q.position maybe_pinned → AreQuiet q.position quiet → IsSource q.position m.from s → m.to < 64 → IsSetOf rest (λ t. (has s.set t ≡ true) × (m.to < t)) → IsReady p (Some m) maybe_pinned quiet rest s
+unfolding IsReady IsSource
+ready_found q p l m maybe_pinned quiet rest s is free calm source to past =
+    subst (λ (v : MovesLeft). IsReady v.position (Some m) maybe_pinned quiet rest s) (sym is)
+    (free, calm, source, λ e. rest_is q.position m s.set rest to (source.1 e) past)
+
+ready_past : (p : State) (last : Option Move) (m : Move) (maybe_pinned quiet old rest : ℕ) (s : Source) → IsReady p last maybe_pinned quiet old s → IsNextOfMan p last m → IsSetOf rest (λ t. (has old t ≡ true) × (m.to < t)) → IsReady p (Some m) maybe_pinned quiet rest s
+unfolding IsReady IsNextOfMan
+ready_past p None m maybe_pinned quiet old rest s h n past = absurd n
+ready_past p (Some a) m maybe_pinned quiet old rest s h n past = (h.0, h.1, subst (λ (x : ℕ). IsSource p x s) (sym n.1) h.2, λ e. rest_on p a m old rest (h.3 e) n.0.legal n.0.past n.1 past)
+
+pub ready_on : (q : MovesLeft) (p : State) (l : Option Move) (m : Move) (maybe_pinned quiet old rest : ℕ) (s : Source) → record { position = p; last = l } ≡ q → IsReady p l maybe_pinned quiet old s → IsNextOfMan q.position q.last m → IsSetOf rest (λ t. (has old t ≡ true) × (m.to < t)) → IsReady p (Some m) maybe_pinned quiet rest s
+ready_on q p l m maybe_pinned quiet old rest s is h next past = ready_past p l m maybe_pinned quiet old rest s h (subst (λ (v : MovesLeft). IsNextOfMan v.position v.last m) (sym is) next) past
+
+-- ---- all further moves of the man
+rest_ready : (p : State) (l : Option Move) (a : Move) (maybe_pinned quiet rest : ℕ) (s : Source) → l ≡ Some a → IsReady p l maybe_pinned quiet rest s → s.exact ≡ true → IsRest p l rest
+unfolding IsReady IsRest
+rest_ready p l a maybe_pinned quiet rest s e ready exact =
+    let here : IsReady p (Some a) maybe_pinned quiet rest s = subst (λ (x : Option Move). IsReady p x maybe_pinned quiet rest s) e ready in
+    subst (λ (x : Option Move). IsRest p x rest) (sym e) (here.3 exact)
+
+pub rest_at : (q : MovesLeft) (p : State) (l : Option Move) (a : Move) (maybe_pinned quiet rest : ℕ) (s : Source) → record { position = p; last = l } ≡ q → l ≡ Some a → IsReady p l maybe_pinned quiet rest s → s.exact ≡ true → IsRest q.position q.last rest
+rest_at q p l a maybe_pinned quiet rest s is e ready exact = subst (λ (v : MovesLeft). IsRest v.position v.last rest) is (rest_ready p l a maybe_pinned quiet rest s e ready exact)
+
+skipped : (p : State) (a : Move) (all to maybe_pinned quiet old rest : ℕ) (s : Source) → IsReady p (Some a) maybe_pinned quiet old s → IsRestOf p a all → IsLastIn all to → IsSetOf rest (λ t. (has old t ≡ true) × (to < t)) → IsReady p (Some (plain_move a.from to)) maybe_pinned quiet rest s
+unfolding IsReady
+skipped p a all to maybe_pinned quiet old rest s h are last past =
+    let g : IsLegal p (plain_move a.from to) × IsBefore a (plain_move a.from to) = (are.squares to last.on_board).0 last.member in
+    (h.0, h.1, h.2, λ e. rest_on p a (plain_move a.from to) old rest (h.3 e) g.0 g.1 refl past)
+
+pub ready_skipped : (q : MovesLeft) (p : State) (l : Option Move) (a : Move) (all to maybe_pinned quiet old rest : ℕ) (s : Source) → record { position = p; last = l } ≡ q → l ≡ Some a → IsReady p l maybe_pinned quiet old s → IsRest q.position q.last all → IsLastIn all to → IsSetOf rest (λ t. (has old t ≡ true) × (to < t)) → IsReady p (Some (plain_move a.from to)) maybe_pinned quiet rest s
+unfolding IsRest
+ready_skipped q p l a all to maybe_pinned quiet old rest s is e ready are last past =
+    let there : IsRest p l all = subst (λ (v : MovesLeft). IsRest v.position v.last all) (sym is) are in
+    skipped p a all to maybe_pinned quiet old rest s (subst (λ (x : Option Move). IsReady p x maybe_pinned quiet old s) e ready) (subst (λ (x : Option Move). IsRest p x all) e there) last past

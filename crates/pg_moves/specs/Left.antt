@@ -1,5 +1,5 @@
 -- The legal moves that are left of a position, and what is known of the man that moved last.
-use Rattle.std.specs.Prelude.{◌≡◌, ℕ, ◌+◌, Option, Some, None, refl}
+use Rattle.std.specs.Prelude.{◌≡◌, ℕ, ◌+◌, true, Option, Some, None, refl}
 use Rattle.std.specs.Coded.{Coded, code_by, coded×, coded_option}
 use Rattle.pg_position.specs.declared.state.State.{State}
 use Rattle.pg_position.specs.declared.moves.Move.{Move}
@@ -30,14 +30,19 @@ pub record IsFound (p : State) (low : ℕ) (m : Move) (s : Source) : Type 0 wher
   pub first : IsFirstMove p low most_moves m
   pub source : IsSource p m.from s
 
--- past a move what was found holds
-unfoldable pub IsReady : State → Option Move → ℕ → ℕ → Source → Type 0
-IsReady p None maybe_pinned quiet s = Unit {0}
-IsReady p (Some m) maybe_pinned quiet s = FreeOff p maybe_pinned × AreQuiet p quiet × IsSource p m.from s
+-- the set has the squares to which the man that made the move has legal moves past it, and he has no others past it
+pub record IsRestOf (p : State) (a : Move) (rest : ℕ) : Type 0 where
+  pub squares : IsSetOf rest (λ q. IsLegal p (plain_move a.from q) × IsBefore a (plain_move a.from q))
+  pub plain : (m : Move) → IsLegal p m → m.from ≡ a.from → IsBefore a m → m.promotion ≡ None
+
+-- past a move what was found holds: where the man that made it goes to just the squares of his set, those of `rest` are left
+unfoldable pub IsReady : State → Option Move → ℕ → ℕ → ℕ → Source → Type 0
+IsReady p None maybe_pinned quiet rest s = Unit {0}
+IsReady p (Some m) maybe_pinned quiet rest s = FreeOff p maybe_pinned × AreQuiet p quiet × IsSource p m.from s × (s.exact ≡ true → IsRestOf p m rest)
 
 -- what was found for a move ahead holds past it
 unfoldable pub IsPeeked : State → Peeked → Type 0
-IsPeeked p a = FreeOff p a.maybe_pinned × AreQuiet p a.quiet × IsSource p a.m.from a.source
+IsPeeked p a = FreeOff p a.maybe_pinned × IsSource p a.m.from a.source
 
 -- the man that moved last, if one did, has no legal move left
 unfoldable pub IsManDone : State → Option Move → Type 0
@@ -53,11 +58,6 @@ IsNextOfMan p (Some a) m = IsNext p (Some a) m × (m.from ≡ a.from)
 abbrev pub men_from : Option Move → ℕ
 men_from None = 0
 men_from (Some a) = a.from + 1
-
--- the set has the squares to which the man that made the move has legal moves past it, and he has no others past it
-pub record IsRestOf (p : State) (a : Move) (rest : ℕ) : Type 0 where
-  pub squares : IsSetOf rest (λ q. IsLegal p (plain_move a.from q) × IsBefore a (plain_move a.from q))
-  pub plain : (m : Move) → IsLegal p m → m.from ≡ a.from → IsBefore a m → m.promotion ≡ None
 
 -- a man moved last, and the set has his further moves
 unfoldable pub IsRest : State → Option Move → ℕ → Type 0

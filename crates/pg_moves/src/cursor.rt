@@ -2,7 +2,7 @@
 ghost use Rattle.std.specs.Prelude.{◌≡◌, ℕ, ◌<◌, ◌≤◌, ◌+◌, true, None, Some, MatchOption, IfSome, IfNone};
 ghost use Rattle.pg_board.specs.Bits.{has};
 ghost use Rattle.pg_board.specs.SquareSets.{IsSetOf, HasNoneFrom, IsLastIn};
-ghost use Rattle.pg_moves.specs.Left.{IsPeeked, IsFound, IsManDone, IsNextOfMan, IsRest, men_from, to_square};
+ghost use Rattle.pg_moves.specs.Left.{IsPeeked, IsFound, IsManDone, IsNextOfMan, IsRest, IsRestOf, men_from, to_square};
 ghost use Rattle.pg_moves.specs.inner.Sources.{IsSource};
 ghost use Rattle.pg_moves.specs.inner.Steps.{AreQuiet};
 ghost use Rattle.pg_moves.specs.Moves.{IsNext, IsLast};
@@ -23,7 +23,6 @@ use std::marker::Model;
 pub struct Peeked {
     pub m: Move,
     maybe_pinned: SquareSet,
-    quiet: SquareSet,
     source: Source,
 }
 
@@ -35,6 +34,7 @@ pub struct LegalMoves {
     last: Option<Move>,
     maybe_pinned: SquareSet,
     quiet: SquareSet,
+    rest: SquareSet,
     source: Source,
 }
 
@@ -47,7 +47,7 @@ impl Model for LegalMoves {
 
     ghost view = { λ a. record { position = a.position; last = a.last } };
 
-    ghost invariant = { λ a. IsReady a.position a.last a.maybe_pinned a.quiet a.source };
+    ghost invariant = { λ a. IsReady a.position a.last a.maybe_pinned a.quiet a.rest a.source };
 }
 
 // What is kept of a man before there is one.
@@ -65,6 +65,39 @@ fn past(set: SquareSet, square: Square) -> SquareSet
     ensures { IsSetOf result (λ q. (has set q ≡ true) × (square < q)) }
 {
     set - SquareSet::single(square).up_to_first()
+}
+
+// The next move of a man that has these further moves.
+#[inline(always)]
+fn first_of_rest(position: &Position, last: &Move, rest: SquareSet) -> Option<Move>
+    requires { IsRestOf position.now last.now rest }
+    ensures { MatchOption result (IsManDone position.now (Some last.now))
+        (λ m. IsNextOfMan position.now (Some last.now) m) }
+{
+    // Facts for the proof: the squares are on the board.
+    last.from.index();
+    last.to.index();
+    match rest.first() {
+        Some(to) => Some(Move {
+            from: last.from,
+            to,
+            promotion: None,
+        }),
+        None => None,
+    }
+}
+
+// The next move of a man whose moves have to be tried.
+fn next_tried(position: &Position, last: &Move, source: &Source) -> Option<Move>
+    requires { IsSource position.now last.now.from source.now }
+    ensures { MatchOption result (IsManDone position.now (Some last.now))
+        (λ m. IsNextOfMan position.now (Some last.now) m) }
+{
+    // A fact for the proof: the square is on the board.
+    last.from.index();
+    let to = last.to.index();
+    let number = promotion_number(last.promotion) + 1;
+    first_of_source(position, last.from, source, to, number)
 }
 
 // The first legal move of the men from a square on. Its man is written where the caller wants it: a struct
@@ -112,6 +145,7 @@ impl LegalMoves {
             last: None,
             maybe_pinned: SquareSet::empty(),
             quiet: SquareSet::empty(),
+            rest: SquareSet::empty(),
             source: no_source(),
         }
     }
@@ -148,7 +182,6 @@ impl LegalMoves {
             Some(m) => Some(Peeked {
                 m,
                 maybe_pinned,
-                quiet,
                 source,
             }),
             None => None,
@@ -187,7 +220,6 @@ impl LegalMoves {
             Some(m) => Some(Peeked {
                 m,
                 maybe_pinned,
-                quiet,
                 source: *source,
             }),
             None => LegalMoves::of_men(position, maybe_pinned, quiet, from + 1),
@@ -213,15 +245,31 @@ impl LegalMoves {
         }
     }
 
+    // The quiet pawns: those that are known, or, where no move was handed out yet, those that may not be pinned.
+    #[tactic(auto, unfolding(crate::specs::Left::IsReady))]
+    fn quiet_by(&self, maybe_pinned: SquareSet) -> SquareSet
+        requires { FreeOff self.now.position maybe_pinned }
+        ensures { AreQuiet self.now.position result }
+    {
+        match self.last {
+            None => quiet_pawns(&self.position, &self.position.board(), maybe_pinned),
+            Some(_) => self.quiet,
+        }
+    }
+
     /// Hands out a move that was peeked at.
     #[tactic(auto, unfolding(crate::specs::Left::IsReady, crate::specs::Left::IsPeeked))]
     pub fn advance(&mut self, peeked: &Peeked)
         requires { IsPeeked self.old.position peeked.now }
         ensures { self.new ≡ record self.old { last = Some peeked.now.m } }
     {
+        // A fact for the proof: the square is on the board.
+        peeked.m.to.index();
+        let quiet = self.quiet_by(peeked.maybe_pinned);
         self.last = Some(peeked.m);
         self.maybe_pinned = peeked.maybe_pinned;
-        self.quiet = peeked.quiet;
+        self.quiet = quiet;
+        self.rest = past(peeked.source.set, peeked.m.to);
         self.source = peeked.source;
     }
 
@@ -235,11 +283,11 @@ impl LegalMoves {
         match self.last {
             None => None,
             Some(last) => {
-                // A fact for the proof: the square is on the board.
-                last.from.index();
-                let to = last.to.index();
-                let number = promotion_number(last.promotion) + 1;
-                first_of_source(&self.position, last.from, &self.source, to, number)
+                if self.source.exact {
+                    first_of_rest(&self.position, &last, self.rest)
+                } else {
+                    next_tried(&self.position, &last, &self.source)
+                }
             }
         }
     }
@@ -275,9 +323,12 @@ impl LegalMoves {
         requires source { IsSource self.old.position first.now.from source.now }
         ensures { self.new ≡ record self.old { last = Some first.now } }
     {
+        // A fact for the proof: the square is on the board.
+        first.to.index();
         self.last = Some(*first);
         self.maybe_pinned = maybe_pinned;
         self.quiet = quiet;
+        self.rest = past(source.set, first.to);
         self.source.set = source.set;
         self.source.kind = source.kind;
         self.source.exact = source.exact;
@@ -316,10 +367,10 @@ impl LegalMoves {
         match self.last {
             None => None,
             Some(last) => {
-                // A fact for the proof: the square is on the board.
-                last.to.index();
+                // A fact for the proof: what is kept is of the man that made this move.
+                last.from.index();
                 if self.source.exact {
-                    Some(past(self.source.set, last.to))
+                    Some(self.rest)
                 } else {
                     None
                 }
@@ -346,6 +397,7 @@ impl LegalMoves {
                         to,
                         promotion: None,
                     });
+                    self.rest = past(self.rest, to);
                 }
             },
         }
@@ -358,7 +410,10 @@ impl LegalMoves {
         requires { IsNextOfMan self.old.position self.old.last m.now }
         ensures { self.new ≡ record self.old { last = Some m.now } }
     {
+        // A fact for the proof: the square is on the board.
+        m.to.index();
         self.last = Some(*m);
+        self.rest = past(self.rest, m.to);
     }
 
     /// The next legal move.

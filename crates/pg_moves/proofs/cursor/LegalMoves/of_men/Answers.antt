@@ -3,4 +3,4 @@ use Rattle.pg_moves.proofs.cursor.LegalMoves.of_men.Goals as goal
 
 pub returns-in-Some : goal.returns-in-Some
 unfolding IsPeeked
-returns-in-Some c = (c.in-Some.ensures.first, (c.requires.free, c.requires.quiet, c.in-Some.ensures.source))
+returns-in-Some c = (c.in-Some.ensures.first, (c.requires.free, c.in-Some.ensures.source))
