@@ -2,7 +2,7 @@
 use Rattle.std.proofs.Common.{◌≡◌, ◌≢◌, ℕ, zero, suc, ◌+◌, ◌*◌, ◌<◌, ◌≤◌, ◌⊎◌, inl, inr, Bool, true, false, None, eqb, List, [], ◌∷◌, ◌++◌, length, length-append, ◌||◌, refl, sym, ap, subst, arith, ◌∙◌, Some}
 use Rattle.std.specs.List.{sum_by}
 use Rattle.std.proofs.lemmas.Bool.{eqb-false}
-use Rattle.std.proofs.lemmas.Bool.Decides.{eqb_tells, leb_tells}
+use Rattle.std.proofs.lemmas.Bool.Decides.{Decides-eqb, eqb_tells, leb_tells}
 use Rattle.std.proofs.lemmas.List.Sums.{sum_by-cons}
 use Rattle.pg_board.specs.declared.man.Color.{Color}
 use Rattle.pg_board.specs.declared.man.Color.TheVariants.{White, Black}
@@ -27,7 +27,7 @@ use Rattle.pg_position.proofs.StepLemmas.{same_kind}
 use Rattle.pg_moves.specs.Moves.{promotion_number}
 use Rattle.pg_moves.specs.inner.Places.{place, place_of, NoneFrom, IsFirstMove, IsCountBelow, Adds}
 use Rattle.pg_moves.specs.inner.Sources.{IsExact}
-use Rattle.pg_moves.specs.Targets.{IsOwn, plain_move, Strides, Leaps, Advances, CapturesEnPassant, IsFree, FreeOff, IsOrdinary}
+use Rattle.pg_moves.specs.Targets.{IsOwn, plain_move, Strides, Leaps, Advances, CapturesEnPassant, IsFree, FreeOff, IsOrdinary, IsTried}
 use Rattle.pg_moves.specs.Counts.{IsGameCount}
 use Rattle.pg_moves.proofs.PlaceLemmas.{promotion_low}
 use Rattle.pg_moves.proofs.ListLemmas.{on_board, list_start, list_skip, list_push, list_whole, moves_of, move_list_is}
@@ -269,6 +269,37 @@ exact_free p k r set b c eb ec low here free plain is = free_exact p k r set low
 -- a home rank of the other side that a test has ruled out
 pub rank_ruled_out : (c d : Color) (r n k : ℕ) → n ≡ rank r → k ≡ home_rank d → d ≡ other c → eqb n k ≡ false → rank r ≢ home_rank (other c)
 rank_ruled_out c d r n k e h same off f = eqb-false n k off (e ∙ f ∙ sym (h ∙ ap home_rank same))
+
+-- a pawn one rank from its last, by a test
+pub tried_home : (p : State) (k : Kind) (r : ℕ) → k ≡ Pawn → Stands p.board p.side k r → (d : Color) (n h : ℕ) → n ≡ rank r → h ≡ home_rank d → d ≡ other p.side → eqb n h ≡ true → IsTried p r
+tried_home p k r e here d n h at home turn same = record {
+  stands = subst (λ (j : Kind). Stands p.board p.side j r) e here;
+  why = inl (sym at ∙ (Decides-eqb n h).0 same ∙ home ∙ ap home_rank turn);
+}
+
+-- a square of a set, or none below n
+some_below : (set n : ℕ) → n ≤ 64 → ((q : ℕ) → q < n → has set q ≡ false) ⊎ ((q : ℕ) × (q < 64) × (has set q ≡ true))
+some_below set zero le = inl (λ q l. absurd (omega arith))
+some_below set (suc n) le = elim (some_below set n (omega arith)) [
+  | inr found ↦ inr found
+  | inl none ↦ elim (has set n) as (λ b. has set n ≡ b → ((q : ℕ) → q < suc n → has set q ≡ false) ⊎ ((q : ℕ) × (q < 64) × (has set q ≡ true))) [
+    | true ↦ λ e. inr (n, omega arith, e)
+    | false ↦ λ e. inl (λ q l. elim (eqb_tells q n) [
+      | inl w ↦ subst (λ x. has set x ≡ false) (sym w.1) e
+      | inr w ↦ none q (let ne : q ≢ n = w.1 in omega arith)
+    ])
+  ] refl
+]
+
+-- a pawn from whose square one captures en passant, by a set that is not empty
+pub tried_passing : (p : State) (k : Kind) (r : ℕ) → k ≡ Pawn → Stands p.board p.side k r → (set : ℕ) → IsSetOf set (CapturesEnPassant p r) → ¬ HasNoneFrom set 0 → IsTried p r
+tried_passing p k r e here set is some = record {
+  stands = subst (λ (j : Kind). Stands p.board p.side j r) e here;
+  why = elim (some_below set 64 (omega arith)) [
+    | inl none ↦ absurd (some (λ q _ l. none q l))
+    | inr found ↦ inr (found.0, found.1, (is found.0 found.1).0 found.2)
+  ];
+}
 
 -- ---- the next move of such a man
 from_there : (r to n f t j : ℕ) → n ≤ 7 → t < 64 → j < 7 → place_of r to n ≤ place_of f t j → place_of f t j < place_of (r + 1) 0 0 → f ≡ r

@@ -7,7 +7,7 @@ use Rattle.pg_board.proofs.SetLemmas.{set_of_rest, set_like}
 use Rattle.pg_position.specs.declared.state.State.{State}
 use Rattle.pg_position.specs.declared.moves.Move.{Move}
 use Rattle.pg_position.specs.Step.{IsLegal, IsOnBoard}
-use Rattle.pg_moves.specs.Left.{MovesLeft, IsReady, IsManDone, IsNextOfMan, IsRest, IsRestOf}
+use Rattle.pg_moves.specs.Left.{MovesLeft, IsReady, IsManDone, IsNextOfMan, IsRest, IsRestOf, IsOneByOne}
 use Rattle.pg_moves.specs.inner.Places.{place, place_of, IsFirstMove}
 use Rattle.pg_moves.specs.inner.Sources.{IsSource, IsExact}
 use Rattle.pg_moves.specs.inner.Steps.{AreQuiet}
@@ -161,6 +161,19 @@ rest_ready p l a maybe_pinned quiet rest s e ready exact =
 
 pub rest_at : (q : MovesLeft) (p : State) (l : Option Move) (a : Move) (maybe_pinned quiet rest : ℕ) (s : Source) → record { position = p; last = l } ≡ q → l ≡ Some a → IsReady p l maybe_pinned quiet rest s → s.exact ≡ true → IsRest q.position q.last rest
 rest_at q p l a maybe_pinned quiet rest s is e ready exact = subst (λ (v : MovesLeft). IsRest v.position v.last rest) is (rest_ready p l a maybe_pinned quiet rest s e ready exact)
+
+tried_ready : (p : State) (l : Option Move) (a : Move) (maybe_pinned quiet rest : ℕ) (s : Source) → l ≡ Some a → IsReady p l maybe_pinned quiet rest s → s.exact ≡ false → IsOneByOne p l
+unfolding IsReady IsSource IsOneByOne
+tried_ready p l a maybe_pinned quiet rest s e ready tried =
+    let here : IsReady p (Some a) maybe_pinned quiet rest s = subst (λ (x : Option Move). IsReady p x maybe_pinned quiet rest s) e ready in
+    subst (λ (x : Option Move). IsOneByOne p x) (sym e) ((here.2.2 tried).1)
+
+pub tried_at : (q : MovesLeft) (p : State) (l : Option Move) (a : Move) (maybe_pinned quiet rest : ℕ) (s : Source) → record { position = p; last = l } ≡ q → l ≡ Some a → IsReady p l maybe_pinned quiet rest s → s.exact ≡ false → IsOneByOne q.position q.last
+tried_at q p l a maybe_pinned quiet rest s is e ready tried = subst (λ (v : MovesLeft). IsOneByOne v.position v.last) is (tried_ready p l a maybe_pinned quiet rest s e ready tried)
+
+pub tried_none : (q : MovesLeft) (p : State) (l : Option Move) → record { position = p; last = l } ≡ q → l ≡ None → IsOneByOne q.position q.last
+unfolding IsOneByOne
+tried_none q p l is e = subst (λ (v : MovesLeft). IsOneByOne v.position v.last) is (subst (λ (x : Option Move). IsOneByOne p x) (sym e) tt)
 
 skipped : (p : State) (a : Move) (all to maybe_pinned quiet old rest : ℕ) (s : Source) → IsReady p (Some a) maybe_pinned quiet old s → IsRestOf p a all → IsLastIn all to → IsSetOf rest (λ t. (has old t ≡ true) × (to < t)) → IsReady p (Some (plain_move a.from to)) maybe_pinned quiet rest s
 unfolding IsReady

@@ -11,7 +11,7 @@ use Rattle.pg_moves.specs.Moves.{IsNext, IsBefore}
 use Rattle.pg_moves.specs.inner.Places.{most_moves, place, place_of, NoneFrom, IsFirstMove}
 use Rattle.pg_moves.specs.inner.Sources.{IsSource}
 use Rattle.pg_moves.specs.inner.Steps.{AreQuiet}
-use Rattle.pg_moves.specs.Targets.{FreeOff, plain_move}
+use Rattle.pg_moves.specs.Targets.{FreeOff, IsTried, plain_move}
 use Rattle.pg_moves.specs.declared.cursor.Peeked.{Peeked}
 use Rattle.pg_moves.specs.declared.sources.Source.{Source}
 
@@ -68,3 +68,8 @@ IsRest p (Some a) rest = IsRestOf p a rest
 abbrev pub to_square : Option Move → ℕ → Option Move
 to_square None s = None
 to_square (Some a) s = Some (plain_move a.from s)
+
+-- a man moved last, if one did, whose moves are tried one by one
+unfoldable pub IsOneByOne : State → Option Move → Type 0
+IsOneByOne p None = Unit {0}
+IsOneByOne p (Some a) = IsTried p a.from

@@ -4,7 +4,7 @@ use Rattle.pg_board.specs.declared.man.Color.{Color}
 use Rattle.pg_board.specs.declared.man.Kind.{Kind}
 use Rattle.pg_board.specs.declared.man.Kind.TheVariants.{Pawn, King}
 use Rattle.pg_board.specs.declared.man.Man.{Man}
-use Rattle.pg_board.specs.Men.{is_of}
+use Rattle.pg_board.specs.Men.{is_of, other}
 use Rattle.pg_board.specs.Squares.{rank}
 use Rattle.pg_board.specs.Bits.{has}
 use Rattle.pg_board.specs.Placement.{Placement}
@@ -64,3 +64,8 @@ unfoldable pub IsOrdinary : State → Kind → ℕ → Type 0
 IsOrdinary p k r =
     (s : ℕ) → s < 64 →
     (Advances p.board p.side k r s → ¬ MustPromote k p.side s) × (k ≡ Pawn → ¬ CapturesEnPassant p r s)
+
+-- a pawn of the side to move one rank from its last, or one from whose square a pawn captures en passant
+pub record IsTried (p : State) (r : ℕ) : Type 0 where
+  pub stands : Stands p.board p.side Pawn r
+  pub why : (rank r ≡ home_rank (other p.side)) ⊎ ((s : ℕ) × (s < 64) × CapturesEnPassant p r s)

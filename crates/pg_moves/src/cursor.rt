@@ -2,7 +2,7 @@
 ghost use Rattle.std.specs.Prelude.{◌≡◌, ℕ, ◌<◌, ◌≤◌, ◌+◌, true, None, Some, MatchOption, IfSome, IfNone};
 ghost use Rattle.pg_board.specs.Bits.{has};
 ghost use Rattle.pg_board.specs.SquareSets.{IsSetOf, HasNoneFrom, IsLastIn};
-ghost use Rattle.pg_moves.specs.Left.{IsPeeked, IsFound, IsManDone, IsNextOfMan, IsRest, IsRestOf, men_from, to_square};
+ghost use Rattle.pg_moves.specs.Left.{IsPeeked, IsFound, IsManDone, IsNextOfMan, IsRest, IsRestOf, IsOneByOne, men_from, to_square};
 ghost use Rattle.pg_moves.specs.inner.Sources.{IsSource};
 ghost use Rattle.pg_moves.specs.inner.Steps.{AreQuiet};
 ghost use Rattle.pg_moves.specs.Moves.{IsNext, IsLast};
@@ -362,7 +362,8 @@ impl LegalMoves {
     #[inline(always)]
     #[tactic(auto, unfolding(crate::specs::Left::IsReady))]
     pub fn rest_of_man(&self) -> Option<SquareSet>
-        ensures { IfSome result (λ rest. IsRest self.now.position self.now.last rest) }
+        ensures some { IfSome result (λ rest. IsRest self.now.position self.now.last rest) }
+        ensures none { IfNone result (IsOneByOne self.now.position self.now.last) }
     {
         match self.last {
             None => None,

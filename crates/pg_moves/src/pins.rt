@@ -4,8 +4,9 @@ ghost use Rattle.pg_board.specs.Bits.{has};
 ghost use Rattle.pg_board.specs.Men.{is_man, is_of, man, other};
 ghost use Rattle.pg_board.specs.Placement.{get, without};
 ghost use Rattle.pg_position.specs.Attack.{Attacks};
+ghost use Rattle.pg_position.specs.Position.{Stands};
 ghost use Rattle.pg_moves.specs.inner.Parries.{IsLineKind, IsPinnedAlong};
-ghost use Rattle.pg_moves.specs.Targets.{FreeOff, IsOrdinary, IsOwn, only};
+ghost use Rattle.pg_moves.specs.Targets.{FreeOff, IsOrdinary, IsOwn, IsTried, only};
 
 use crate::targets::en_passant_targets;
 use pg_board::{Board, Color, Kind, Man, Sets, Square, SquareSet};
@@ -111,8 +112,10 @@ pub(crate) fn maybe_pinned(position: &Position, board: &Board) -> SquareSet
 // Whether the man is a pawn that may promote or capture en passant.
 #[inline(always)]
 pub(crate) fn is_special(position: &Position, color: Color, kind: Kind, from: Square) -> bool
-    requires { color ≡ position.now.side }
-    ensures { IsFalse result → IsOrdinary position.now kind from }
+    requires color { color ≡ position.now.side }
+    requires stands { Stands position.now.board position.now.side kind from }
+    ensures ordinary { IsFalse result → IsOrdinary position.now kind from }
+    ensures tried { IsTrue result → IsTried position.now from }
 {
     match kind {
         Kind::Pawn => {
