@@ -51,12 +51,12 @@ unfolding CapturesEnPassant
 none_passed p r none is q s _ _ h = absurd (let e : None ≡ Some s = sym none ∙ is ∙ h.0 in cc)
 
 -- ---- quiet pawns
-start : (c : Color) (q : ℕ) → q < 64 → rank q ≢ 1 → rank q ≢ 8 → rank q ≢ home_rank (other c) → IsInside c 16 q
+pub start : (c : Color) (q : ℕ) → q < 64 → rank q ≢ 1 → rank q ≢ 8 → rank q ≢ home_rank (other c) → IsInside c 16 q
 start White q l a b h = omega arith
 start Black q l a b h = omega arith
 
 -- what is left of a set once another is taken out
-out_of : (n a b q : ℕ) → ((q : ℕ) → q < 64 → has n q ≡ has a q && not (has b q)) → q < 64 → has n q ≡ true → (has a q ≡ true) × (has b q ≡ false)
+pub out_of : (n a b q : ℕ) → ((q : ℕ) → q < 64 → has n q ≡ has a q && not (has b q)) → q < 64 → has n q ≡ true → (has a q ≡ true) × (has b q ≡ false)
 out_of n a b q rest l e =
     let h = (set_of_rest n a b rest (itself a) (itself b) q l).0 e in
     (h.0, elim (has b q) as (λ v. has b q ≡ v → has b q ≡ false) [ true ↦ λ t. absurd (h.1 t) | false ↦ λ t. t ] refl)

@@ -10,7 +10,7 @@ use Rattle.pg_position.specs.Step.{IsLegal, IsOnBoard}
 use Rattle.pg_moves.specs.Left.{MovesLeft, IsReady, IsManDone, IsNextOfMan, IsRest, IsRestOf, IsOneByOne}
 use Rattle.pg_moves.specs.inner.Places.{place, place_of, IsFirstMove}
 use Rattle.pg_moves.specs.inner.Sources.{IsSource, IsExact}
-use Rattle.pg_moves.specs.inner.Steps.{AreQuiet}
+use Rattle.pg_moves.specs.inner.Steps.{AreFreePawns}
 use Rattle.pg_moves.specs.Moves.{promotion_number, IsBefore}
 use Rattle.pg_moves.specs.Targets.{FreeOff, plain_move}
 use Rattle.pg_moves.specs.declared.sources.Source.{Source}
@@ -138,7 +138,7 @@ module _ (p : State) (a : Move) (rest : ℕ) (from : a.from < 64) (to : a.to < 6
 
 -- ---- what is known past a move
 pub ready_found : (q : MovesLeft) (p : State) (l : Option Move) (m : Move) (maybe_pinned quiet rest : ℕ) (s : Source) → record { position = p; last = l } ≡ q
-    → FreeOff q.position maybe_pinned → AreQuiet q.position quiet → IsSource q.position m.from s → m.to < 64 → IsSetOf rest (λ t. (has s.set t ≡ true) × (m.to < t)) → IsReady p (Some m) maybe_pinned quiet rest s
+    → FreeOff q.position maybe_pinned → AreFreePawns q.position quiet → IsSource q.position m.from s → m.to < 64 → IsSetOf rest (λ t. (has s.set t ≡ true) × (m.to < t)) → IsReady p (Some m) maybe_pinned quiet rest s
 unfolding IsReady IsSource
 ready_found q p l m maybe_pinned quiet rest s is free calm source to past =
     subst (λ (v : MovesLeft). IsReady v.position (Some m) maybe_pinned quiet rest s) (sym is)

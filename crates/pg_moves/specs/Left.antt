@@ -10,7 +10,7 @@ use Rattle.pg_position.specs.Step.{IsLegal, IsOnBoard}
 use Rattle.pg_moves.specs.Moves.{IsNext, IsBefore}
 use Rattle.pg_moves.specs.inner.Places.{most_moves, place, place_of, NoneFrom, IsFirstMove}
 use Rattle.pg_moves.specs.inner.Sources.{IsSource}
-use Rattle.pg_moves.specs.inner.Steps.{AreQuiet}
+use Rattle.pg_moves.specs.inner.Steps.{AreFreePawns}
 use Rattle.pg_moves.specs.Targets.{FreeOff, IsTried, plain_move}
 use Rattle.pg_moves.specs.declared.cursor.Peeked.{Peeked}
 use Rattle.pg_moves.specs.declared.sources.Source.{Source}
@@ -38,7 +38,7 @@ pub record IsRestOf (p : State) (a : Move) (rest : ℕ) : Type 0 where
 -- past a move what was found holds: where the man that made it goes to just the squares of his set, those of `rest` are left
 unfoldable pub IsReady : State → Option Move → ℕ → ℕ → ℕ → Source → Type 0
 IsReady p None maybe_pinned quiet rest s = Unit {0}
-IsReady p (Some m) maybe_pinned quiet rest s = FreeOff p maybe_pinned × AreQuiet p quiet × IsSource p m.from s × (s.exact ≡ true → IsRestOf p m rest)
+IsReady p (Some m) maybe_pinned quiet rest s = FreeOff p maybe_pinned × AreFreePawns p quiet × IsSource p m.from s × (s.exact ≡ true → IsRestOf p m rest)
 
 -- what was found for a move ahead holds past it
 unfoldable pub IsPeeked : State → Peeked → Type 0

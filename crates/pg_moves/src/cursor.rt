@@ -4,13 +4,12 @@ ghost use Rattle.pg_board.specs.Bits.{has};
 ghost use Rattle.pg_board.specs.SquareSets.{IsSetOf, HasNoneFrom, IsLastIn};
 ghost use Rattle.pg_moves.specs.Left.{IsPeeked, IsFound, IsManDone, IsNextOfMan, IsRest, IsRestOf, IsOneByOne, men_from, to_square};
 ghost use Rattle.pg_moves.specs.inner.Sources.{IsSource};
-ghost use Rattle.pg_moves.specs.inner.Steps.{AreQuiet};
+ghost use Rattle.pg_moves.specs.inner.Steps.{AreFreePawns};
 ghost use Rattle.pg_moves.specs.Moves.{IsNext, IsLast};
 ghost use Rattle.pg_moves.specs.inner.Places.{most_moves, place_of, NoneFrom, IsFirstMove, IsNextWithin};
 ghost use Rattle.pg_moves.specs.Targets.{FreeOff};
 
-use crate::men::source_near;
-use crate::pawns::quiet_pawns;
+use crate::men::{free_pawns, source_near};
 use crate::pins::maybe_pinned;
 use crate::places::promotion_number;
 use crate::sources::{Source, first_of_source};
@@ -111,7 +110,7 @@ fn first_beyond(
     source: &mut Source,
 ) -> Option<Move>
     requires free { FreeOff position.now maybe_pinned }
-    requires quiet { AreQuiet position.now quiet }
+    requires quiet { AreFreePawns position.now quiet }
     requires source { from ≤ 64 }
     ensures { MatchOption result
         (NoneFrom position.now (place_of from 0 0) most_moves × (source.new ≡ source.old))
@@ -172,7 +171,7 @@ impl LegalMoves {
         from: u8,
     ) -> Option<Peeked>
         requires free { FreeOff position.now maybe_pinned }
-        requires quiet { AreQuiet position.now quiet }
+        requires quiet { AreFreePawns position.now quiet }
         requires source { from ≤ 64 }
         ensures { MatchOption result (NoneFrom position.now (place_of from 0 0) most_moves)
             (λ a. IsFirstMove position.now (place_of from 0 0) most_moves a.m × IsPeeked position.now a) }
@@ -195,7 +194,7 @@ impl LegalMoves {
     {
         let board = position.board();
         let maybe_pinned = maybe_pinned(position, &board);
-        let quiet = quiet_pawns(position, &board, maybe_pinned);
+        let quiet = free_pawns(position, &board, maybe_pinned);
         LegalMoves::of_men(position, maybe_pinned, quiet, 0)
     }
 
@@ -208,7 +207,7 @@ impl LegalMoves {
         last: &Move,
     ) -> Option<Peeked>
         requires free { FreeOff position.now maybe_pinned }
-        requires quiet { AreQuiet position.now quiet }
+        requires quiet { AreFreePawns position.now quiet }
         requires source { IsSource position.now last.now.from source.now }
         ensures { MatchOption result (IsLast position.now (Some last.now))
             (λ a. IsNext position.now (Some last.now) a.m × IsPeeked position.now a) }
@@ -249,10 +248,10 @@ impl LegalMoves {
     #[tactic(auto, unfolding(crate::specs::Left::IsReady))]
     fn quiet_by(&self, maybe_pinned: SquareSet) -> SquareSet
         requires { FreeOff self.now.position maybe_pinned }
-        ensures { AreQuiet self.now.position result }
+        ensures { AreFreePawns self.now.position result }
     {
         match self.last {
-            None => quiet_pawns(&self.position, &self.position.board(), maybe_pinned),
+            None => free_pawns(&self.position, &self.position.board(), maybe_pinned),
             Some(_) => self.quiet,
         }
     }
@@ -300,13 +299,13 @@ impl LegalMoves {
         ensures from { result.0 ≡ men_from self.now.last }
         ensures bound { result.0 ≤ 64 }
         ensures free { FreeOff self.now.position result.1 }
-        ensures quiet { AreQuiet self.now.position result.2 }
+        ensures quiet { AreFreePawns self.now.position result.2 }
     {
         match self.last {
             None => {
                 let board = self.position.board();
                 let maybe_pinned = maybe_pinned(&self.position, &board);
-                let quiet = quiet_pawns(&self.position, &board, maybe_pinned);
+                let quiet = free_pawns(&self.position, &board, maybe_pinned);
                 (0, maybe_pinned, quiet)
             }
             Some(last) => (last.from.index() + 1, self.maybe_pinned, self.quiet),
@@ -319,7 +318,7 @@ impl LegalMoves {
     #[tactic(auto, unfolding(crate::specs::Left::IsReady))]
     fn begin(&mut self, first: &Move, maybe_pinned: SquareSet, quiet: SquareSet, source: &Source)
         requires free { FreeOff self.old.position maybe_pinned }
-        requires quiet { AreQuiet self.old.position quiet }
+        requires quiet { AreFreePawns self.old.position quiet }
         requires source { IsSource self.old.position first.now.from source.now }
         ensures { self.new ≡ record self.old { last = Some first.now } }
     {

@@ -7,13 +7,14 @@ ghost use Rattle.pg_board.specs.Squares.{rank};
 ghost use Rattle.pg_board.specs.SquareSets.{IsSetOf};
 ghost use Rattle.pg_position.specs.Position.{Stands};
 ghost use Rattle.pg_position.specs.Squares.{HasAhead};
-ghost use Rattle.pg_moves.specs.inner.Pawns.{forward, IsInside, IsQuiet, one_rank, two_ranks};
+ghost use Rattle.pg_moves.specs.inner.Pawns.{forward, IsInside, one_rank, two_ranks};
 ghost use Rattle.pg_moves.specs.inner.Sources.{IsSource};
-ghost use Rattle.pg_moves.specs.inner.Steps.{AreQuiet, StepsTo, leap_rank};
+ghost use Rattle.pg_moves.specs.inner.Steps.{AreFreePawns, IsFreePawn, StepsTo, leap_rank};
 ghost use Rattle.pg_moves.specs.Targets.{IsOwn, FreeOff, Leaps, Advances};
 
 use crate::kings::king_targets;
 use crate::parries::parrying;
+use crate::pawns::{en_passant_sources, home};
 use crate::sources::{Source, is_there, source_at};
 use pg_board::{Board, Color, Kind, Man, Square, SquareSet};
 use pg_position::{Position, ahead, attacks_from};
@@ -82,7 +83,7 @@ fn pawn_advances(board: &Board, color: Color, from: Square) -> SquareSet
 #[inline(always)]
 fn quiet_source(position: &Position, board: &Board, from: Square) -> Source
     requires same { board.now ≡ position.now.board }
-    requires quiet { IsQuiet position.now from }
+    requires quiet { IsFreePawn position.now from }
     ensures { IsSource position.now from result }
 {
     // A fact for the proof: the square is on the board.
@@ -188,7 +189,7 @@ pub(crate) fn source_near(
 ) -> Source
     requires same { board.now ≡ position.now.board }
     requires free { FreeOff position.now maybe_pinned }
-    requires quiet { AreQuiet position.now quiet }
+    requires quiet { AreFreePawns position.now quiet }
     requires own { IsOwn position.now.board position.now.side from }
     ensures { IsSource position.now from result }
 {
@@ -197,4 +198,15 @@ pub(crate) fn source_near(
     } else {
         other_source(position, board, maybe_pinned, from)
     }
+}
+
+// Pawns of the side to move that need no trial, do not promote and do not capture en passant.
+pub(crate) fn free_pawns(position: &Position, board: &Board, maybe_pinned: SquareSet) -> SquareSet
+    requires same { board.now ≡ position.now.board }
+    requires free { FreeOff position.now maybe_pinned }
+    ensures { AreFreePawns position.now result }
+{
+    let side = position.side();
+    let pawns = board.squares_of(Man::new(side, Kind::Pawn));
+    pawns - maybe_pinned - en_passant_sources(position) - home(side.other())
 }

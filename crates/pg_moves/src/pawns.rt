@@ -40,7 +40,7 @@ fn seen_ahead(set: SquareSet, color: Color, by: u8) -> SquareSet
 }
 
 // The squares of the rank where the colour's pawns begin.
-fn home(color: Color) -> SquareSet
+pub(crate) fn home(color: Color) -> SquareSet
     ensures { IsSetOf result (λ q. rank q ≡ home_rank color) }
 {
     match color {
@@ -144,7 +144,7 @@ impl PawnMoves {
 }
 
 // The squares from which a pawn of the side to move captures en passant, each of them and maybe more.
-fn en_passant_sources(position: &Position) -> SquareSet
+pub(crate) fn en_passant_sources(position: &Position) -> SquareSet
     ensures { (q s : ℕ) → q < 64 → s < 64 → CapturesEnPassant position.now q s → has result q ≡ true }
 {
     match position.passed() {

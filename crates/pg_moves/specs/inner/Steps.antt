@@ -2,17 +2,26 @@
 use Rattle.std.specs.Prelude.{◌≡◌, ℕ, ◌<◌, true}
 use Rattle.pg_board.specs.declared.man.Color.{Color}
 use Rattle.pg_board.specs.declared.man.Color.TheVariants.{White, Black}
+use Rattle.pg_board.specs.declared.man.Kind.TheVariants.{Pawn}
 use Rattle.pg_board.specs.Bits.{has}
 use Rattle.pg_board.specs.Placement.{Placement}
 use Rattle.pg_board.specs.Squares.{file}
 use Rattle.pg_position.specs.declared.state.State.{State}
 use Rattle.pg_position.specs.Geometry.{IsForward}
-use Rattle.pg_position.specs.Position.{IsVacant}
-use Rattle.pg_moves.specs.inner.Pawns.{IsQuiet}
+use Rattle.pg_position.specs.Position.{Stands, IsVacant}
+use Rattle.pg_moves.specs.inner.Pawns.{IsInside, two_ranks}
+use Rattle.pg_moves.specs.Targets.{IsFree, IsOrdinary}
 
--- the set has only quiet pawns of the side to move
-abbrev pub AreQuiet : State → ℕ → Type 0
-AreQuiet p set = (q : ℕ) → q < 64 → has set q ≡ true → IsQuiet p q
+-- a pawn of the side to move that is free, neither promotes nor captures en passant, and has two ranks in front
+pub record IsFreePawn (p : State) (q : ℕ) : Type 0 where
+  pub stands : Stands p.board p.side Pawn q
+  pub free : IsFree p Pawn q
+  pub ordinary : IsOrdinary p Pawn q
+  pub inside : IsInside p.side two_ranks q
+
+-- the set has only such pawns
+abbrev pub AreFreePawns : State → ℕ → Type 0
+AreFreePawns p set = (q : ℕ) → q < 64 → has set q ≡ true → IsFreePawn p q
 
 -- the rank to which the colour's pawns go by two squares from home
 abbrev pub leap_rank : Color → ℕ
