@@ -22,5 +22,7 @@ pub mod BareLemmas
 pub mod KingLemmas
 pub mod ShiftLemmas
 pub mod QuietLemmas
+pub mod OffLemmas
+pub mod GuardLemmas
 pub mod CastleLemmas
 pub mod StepsLemmas

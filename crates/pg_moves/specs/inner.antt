@@ -2,3 +2,4 @@ pub mod Places
 pub mod Pawns
 pub mod Sources
 pub mod Parries
+pub mod Guards
