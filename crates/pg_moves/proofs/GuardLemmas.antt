@@ -1,5 +1,5 @@
 -- Men that cannot be pinned: the parries of an attack on their king are the same for each of them.
-use Rattle.std.proofs.Common.{◌≡◌, ◌≢◌, ℕ, ◌<◌, inl, inr, Bool, true, false, ◌||◌, ◌&&◌, not, ap, Some, None, refl, sym, subst, ◌∙◌}
+use Rattle.std.proofs.Common.{◌≡◌, ◌≢◌, ℕ, ◌<◌, inl, inr, Bool, true, false, ◌||◌, ◌&&◌, ap, Some, None, refl, sym, subst, ◌∙◌}
 use Rattle.std.proofs.lemmas.Bool.Decides.{eqb_tells}
 use Rattle.pg_board.specs.declared.man.Color.{Color}
 use Rattle.pg_board.specs.declared.man.Kind.{Kind}
@@ -19,7 +19,7 @@ use Rattle.pg_position.specs.Position.{Stands, IsPosition, IsOnlyKing}
 use Rattle.pg_position.proofs.StepLemmas.{same_side, not_other}
 use Rattle.pg_moves.specs.Targets.{IsOwn}
 use Rattle.pg_moves.specs.inner.Parries.{AreParries, StaysAttacked, IsPinnedAlong}
-use Rattle.pg_moves.specs.inner.Guards.{IsGuardedMan, GuardsOff}
+use Rattle.pg_moves.specs.inner.Guards.{IsGuardedMan, GuardsOff, AreOff}
 use Rattle.pg_moves.proofs.LeafLemmas.{the_king}
 use Rattle.pg_moves.proofs.ParryLemmas.{in_vain, in_shelter}
 use Rattle.pg_moves.proofs.PinLemmas.{on_no_line}
@@ -99,29 +99,11 @@ module _ (p : State) (b : Placement) (c : Color) (h : ℕ) (pos : IsPosition p) 
       neither false w e = (refl, e)
 
 -- ---- the men of a kind, off those that may be pinned
-module _ (pinned left men both set : ℕ) (of_left : (q : ℕ) → has both q ≡ has left q && has men q) (off : (q : ℕ) → q < 64 → has set q ≡ has both q && not (has pinned q)) where
-  parts : (q : ℕ) → q < 64 → has set q ≡ true → (has left q ≡ true) × (has men q ≡ true) × (has pinned q ≡ false)
-  parts q l e =
-      let a = out (has both q) (has pinned q) (sym (off q l) ∙ e) in
-      let b = and_true (has left q) (has men q) (sym (of_left q) ∙ a.0) in
-      (b.0, b.1, a.1)
-    where
-      out : (x y : Bool) → x && not y ≡ true → (x ≡ true) × (y ≡ false)
-      out true true e = absurd (cc)
-      out true false e = (refl, refl)
-      out false y e = absurd (cc)
-
-  pub men_left : (q : ℕ) → q < 64 → has set q ≡ true → has left q ≡ true
-  men_left q l e = (parts q l e).0
-
-  pub men_off : (q : ℕ) → q < 64 → has set q ≡ true → (has men q ≡ true) × (has pinned q ≡ false)
-  men_off q l e = let h = parts q l e in (h.1, h.2)
-
-pub men_guarded : (p : State) (b : Placement) (m : Man) (pinned goals left men both set : ℕ) → b ≡ p.board → m.color ≡ p.side → GuardsOff p pinned goals → ((q : ℕ) → q < 64 → has men q ≡ is_man m (get b q)) → ((q : ℕ) → has both q ≡ has left q && has men q) → ((q : ℕ) → q < 64 → has set q ≡ has both q && not (has pinned q))
+pub men_guarded : (p : State) (b : Placement) (m : Man) (pinned goals left men set : ℕ) → b ≡ p.board → m.color ≡ p.side → GuardsOff p pinned goals → AreOff pinned left → ((q : ℕ) → q < 64 → has men q ≡ is_man m (get b q)) → ((q : ℕ) → has set q ≡ has left q && has men q)
     → (q : ℕ) → q < 64 → has set q ≡ true → IsGuardedMan p m.kind goals q
 unfolding GuardsOff
-men_guarded p b m pinned goals left men both set eb ec guards are of_left off q l e =
-    let h = men_off pinned left men both set of_left off q l e in
-    let there : get b q ≡ Some m = (is_man_decides m (get b q)).0 (sym (are q l) ∙ h.0) in
+men_guarded p b m pinned goals left men set eb ec guards off are of_left q l e =
+    let h = and_true (has left q) (has men q) (sym (of_left q) ∙ e) in
+    let there : get b q ≡ Some m = (is_man_decides m (get b q)).0 (sym (are q l) ∙ h.1) in
     let here : Stands p.board p.side m.kind q = subst (λ (d : Placement). get d q ≡ Some (man p.side m.kind)) eb (there ∙ ap (λ (x : Color). Some (man x m.kind)) ec) in
-    guards m.kind q l here h.1
+    guards m.kind q l here (off q l h.0)

@@ -3,15 +3,16 @@ use Rattle.std.proofs.Common.{arith, ◌≡◌, ◌≢◌, ℕ, zero, suc, ◌+�
 use Rattle.std.proofs.lemmas.Bool.Decides.{eqb_tells}
 use Rattle.pg_board.specs.Men.{is_of}
 use Rattle.pg_board.specs.Placement.{get}
-use Rattle.pg_board.specs.Bits.{has}
+use Rattle.pg_board.specs.Bits.{has, has-none}
 use Rattle.pg_board.specs.Tally.{one, total, count_below}
 use Rattle.pg_board.specs.lemmas.Sums.{total-none, total-suc, total-zero, total_changed}
+use Rattle.pg_board.proofs.SetLemmas.{and_true}
 use Rattle.pg_board.specs.SquareSets.{IsSetOf, IsFirstFrom, HasNoneFrom}
 use Rattle.pg_position.specs.declared.state.State.{State}
 use Rattle.pg_position.specs.Position.{IsPosition}
 use Rattle.pg_moves.specs.Counts.{IsGameCount}
 use Rattle.pg_moves.specs.inner.Places.{place_of, NoneFrom, IsCountBelow, Adds}
-use Rattle.pg_moves.specs.inner.Guards.{CountsOn, CountsOff}
+use Rattle.pg_moves.specs.inner.Guards.{AreOff, CountsOn, CountsOff}
 use Rattle.pg_moves.proofs.ShiftLemmas.{total_add}
 use Rattle.pg_moves.proofs.TargetLemmas.{own_set}
 use Rattle.pg_moves.proofs.SearchLemmas.{own_gap}
@@ -25,6 +26,11 @@ true_of false e = absurd (cc)
 false_of : (b : Bool) → not b ≡ true → b ≡ false
 false_of true e = absurd (cc)
 false_of false e = refl
+
+parts : (x y : Bool) → x && not y ≡ true → (x ≡ true) × (y ≡ false)
+parts true true e = absurd (cc)
+parts true false e = (refl, refl)
+parts false y e = absurd (cc)
 
 -- a square on which no man of the side to move stands adds no move
 adds_none : (p : State) (own : ℕ) → ((q : ℕ) → q < 64 → has own q ≡ is_of p.side (get p.board q)) → (q : ℕ) → q < 64 → has own q ≡ false → Adds p (place_of q 0 0) (place_of (q + 1) 0 0) 0
@@ -172,7 +178,7 @@ counted_one p set s k is on more =
 -- ---- a set of men more
 pub counted_off : (p : State) (left set next n k : ℕ) → CountsOff p left n → CountsOn p (has set) k → ((q : ℕ) → q < 64 → has set q ≡ true → has left q ≡ true) → ((q : ℕ) → q < 64 → has next q ≡ has left q && not (has set q)) → CountsOff p next (n + k)
 counted_off p left set next n k a b inside rest = record {
-  own = λ q l e. a.own q l (fewer (has left q) (has set q) (sym (rest q l) ∙ e)).0;
+  own = λ q l e. a.own q l (parts (has left q) (has set q) (sym (rest q l) ∙ e)).0;
   counts = record {
     each = λ q. a.counts.each q + b.each q;
     adds = λ q l e. elim (has set q) as (λ v. has set q ≡ v → Adds p (place_of q 0 0) (place_of (q + 1) 0 0) (a.counts.each q + b.each q)) [
@@ -187,7 +193,7 @@ counted_off p left set next n k a b inside rest = record {
           subst (λ (x : ℕ). Adds p (place_of q 0 0) (place_of (q + 1) 0 0) x) same (a.counts.adds q l (ap not (left_off (has left q) (has set q) f (sym (rest q l) ∙ off)))))
     ] refl;
     none = λ q l e.
-        (let f : (has left q ≡ true) × (has set q ≡ false) = fewer (has left q) (has set q) (sym (rest q l) ∙ true_of (has next q) e) in
+        (let f : (has left q ≡ true) × (has set q ≡ false) = parts (has left q) (has set q) (sym (rest q l) ∙ true_of (has next q) e) in
         let x : a.counts.each q ≡ 0 = a.counts.none q l (ap not f.0) in
         let y : b.each q ≡ 0 = b.none q l f.1 in
         omega arith);
@@ -205,17 +211,22 @@ counted_off p left set next n k a b inside rest = record {
     left_off true false f e = e
     left_off false y f e = refl
 
--- ---- the men that are left, one by one
-pub counted_step : (p : State) (old new s n k : ℕ) → CountsOff p old n → IsFirstFrom old 0 s → IsWithout old new s → Adds p (place_of s 0 0) (place_of (s + 1) 0 0) k → CountsOff p new (n + k)
-counted_step p old new s n k h first rest more =
-    let on : s < 64 = first.on_board in
-    record {
-      own = λ q l e. elim (eqb_tells q s) [
-        | inl w ↦ absurd (let z : has new q ≡ false = gone old new s q rest l w.1 in cc)
-        | inr w ↦ h.own q l (sym (stays old new s q rest l w.1) ∙ e)
-      ];
-      counts = one_more p (λ q. not (has old q)) (λ q. not (has new q)) n k s h.counts on (ap not first.member) more (ap not (gone old new s s rest on refl)) (λ q l ne. ap not (stays old new s q rest l ne));
-    }
+-- what is left once a set was counted
+pub inside_both : (left other both : ℕ) → ((q : ℕ) → has both q ≡ has left q && has other q) → (q : ℕ) → q < 64 → has both q ≡ true → has left q ≡ true
+inside_both left other both is q l e = (and_true (has left q) (has other q) (sym (is q) ∙ e)).0
+
+pub without_both : (left other both rest : ℕ) → ((q : ℕ) → has both q ≡ has left q && has other q) → ((q : ℕ) → q < 64 → has rest q ≡ has left q && not (has other q)) → (q : ℕ) → q < 64 → has rest q ≡ has left q && not (has both q)
+without_both left other both rest is out q l = out q l ∙ same (has left q) (has other q) ∙ ap (λ (x : Bool). has left q && not x) (sym (is q))
+  where
+    same : (x y : Bool) → x && not y ≡ x && not (x && y)
+    same true y = refl
+    same false y = refl
+
+pub off_rest : (left other rest : ℕ) → ((q : ℕ) → q < 64 → has rest q ≡ has left q && not (has other q)) → AreOff other rest
+off_rest left other rest out q l e = (parts (has left q) (has other q) (sym (out q l) ∙ e)).1
+
+pub off_fewer : (pinned left other rest : ℕ) → AreOff pinned left → ((q : ℕ) → q < 64 → has rest q ≡ has left q && not (has other q)) → AreOff pinned rest
+off_fewer pinned left other rest off out q l e = off q l (parts (has left q) (has other q) (sym (out q l) ∙ e)).0
 
 below : (p : State) (left n : ℕ) (h : CountsOff p left n) → HasNoneFrom left 0 → (d : ℕ) → d ≤ 64 → IsCountBelow p (place_of d 0 0) (total h.counts.each d)
 unfolding Adds
@@ -230,3 +241,11 @@ pub counted_end : (p : State) (left n : ℕ) → IsPosition p → CountsOff p le
 counted_end p left n pos h none =
     let end : place_of 64 0 0 ≡ 28672 = omega arith in
     count_all p n pos (subst (λ (x : ℕ). IsCountBelow p x n) end (subst (λ (k : ℕ). IsCountBelow p (place_of 64 0 0) k) (sym h.counts.sum) (below p left n h none 64 (omega arith))))
+
+-- the last of them
+pub counted_last : (p : State) (left n k : ℕ) → IsPosition p → CountsOff p left n → CountsOn p (has left) k → IsGameCount p 1 (n + k)
+counted_last p left n k pos a b = counted_end p 0 (n + k) pos (counted_off p left left 0 n k a b (λ q l e. e) (λ q l. has-none q ∙ never (has left q))) (λ q from l. has-none q)
+  where
+    never : (x : Bool) → false ≡ x && not x
+    never true = refl
+    never false = refl

@@ -23,7 +23,7 @@ use Rattle.pg_position.specs.Squares.{ahead, home_rank}
 use Rattle.pg_position.proofs.LineLemmas.{pawn_near}
 use Rattle.pg_board.proofs.SetLemmas.{and_true, set_of_rest, set_none}
 use Rattle.pg_moves.specs.inner.Places.{place_of, Adds}
-use Rattle.pg_moves.specs.inner.Guards.{GuardsOff, CountsOn}
+use Rattle.pg_moves.specs.inner.Guards.{GuardsOff, AreOff, CountsOn}
 use Rattle.pg_moves.specs.Targets.{Advances, Strides, Leaps, CapturesEnPassant}
 use Rattle.pg_moves.specs.declared.pawns.PawnMoves.{PawnMoves}
 use Rattle.pg_moves.specs.inner.Pawns.{forward, IsInside, AreWays, IsQuiet, to_west, to_east, moves_from}
@@ -60,22 +60,20 @@ out_of n a b q rest l e =
     let h = (set_of_rest n a b rest (itself a) (itself b) q l).0 e in
     (h.0, elim (has b q) as (λ v. has b q ≡ v → has b q ≡ false) [ true ↦ λ t. absurd (h.1 t) | false ↦ λ t. t ] refl)
 
-pub quiet : (p : State) (b : Placement) (c o : Color) (pawn : Man) (left men pawns pinned goals passing home sure plain quiet_ones : ℕ) → b ≡ p.board → c ≡ p.side → pawn ≡ man c Pawn → o ≡ other c
-    → IsPosition p → GuardsOff p pinned goals
+pub quiet : (p : State) (b : Placement) (c o : Color) (pawn : Man) (left men pawns pinned goals passing home plain quiet_ones : ℕ) → b ≡ p.board → c ≡ p.side → pawn ≡ man c Pawn → o ≡ other c
+    → IsPosition p → GuardsOff p pinned goals → AreOff pinned left
     → ((q : ℕ) → has pawns q ≡ has left q && has men q)
-    → ((q : ℕ) → q < 64 → has sure q ≡ has pawns q && not (has pinned q))
-    → ((q : ℕ) → q < 64 → has plain q ≡ has sure q && not (has passing q))
+    → ((q : ℕ) → q < 64 → has plain q ≡ has pawns q && not (has passing q))
     → ((q : ℕ) → q < 64 → has quiet_ones q ≡ has plain q && not (has home q))
     → ((q : ℕ) → q < 64 → has men q ≡ is_man pawn (get b q))
     → ((q s : ℕ) → q < 64 → s < 64 → CapturesEnPassant p q s → has passing q ≡ true)
     → IsSetOf home (λ q. rank q ≡ home_rank o)
     → (q : ℕ) → q < 64 → has quiet_ones q ≡ true → IsQuiet p goals q × (has left q ≡ true)
 unfolding PawnsClause GuardsOff
-quiet p b c o pawn left men pawns pinned goals passing home sure plain quiet_ones eb ec em eo pos guards both fit fits few are passed at q l e =
+quiet p b c o pawn left men pawns pinned goals passing home plain quiet_ones eb ec em eo pos guards apart both fits few are passed at q l e =
     let far = out_of quiet_ones plain home q few l e in
-    let calm = out_of plain sure passing q fits l far.0 in
-    let off = out_of sure pawns pinned q fit l calm.0 in
-    let mine = and_true (has left q) (has men q) (sym (both q) ∙ off.0) in
+    let calm = out_of plain pawns passing q fits l far.0 in
+    let mine = and_true (has left q) (has men q) (sym (both q) ∙ calm.0) in
     let there : get b q ≡ Some (man c Pawn) = (is_man_decides (man c Pawn) (get b q)).0 (ap (λ (x : Man). is_man x (get b q)) (sym em) ∙ sym (are q l) ∙ mine.1) in
     let here : Stands p.board p.side Pawn q = subst (λ (d : Placement). Stands d p.side Pawn q) eb (subst (λ (d : Color). Stands b d Pawn q) ec there) in
     let not_home : rank q ≢ home_rank (other p.side) = (λ f. (
@@ -89,7 +87,7 @@ quiet p b c o pawn left men pawns pinned goals passing home sure plain quiet_one
     let no : has passing q ≡ false = calm.1 in
     cc)) in (
       record {
-        guarded = guards Pawn q l here off.1;
+        guarded = guards Pawn q l here (apart q l mine.0);
         ordinary = pawn_ordinary p Pawn q 0 none (λ s _ _. has-none s) not_home;
         inside = start p.side q l edge.0 edge.1 not_home;
       },

@@ -4,11 +4,11 @@ ghost use Rattle.pg_board.specs.Bits.{has};
 ghost use Rattle.pg_position.specs.Position.{Stands};
 ghost use Rattle.pg_moves.specs.inner.Places.{most_of_a_man, place_of, Adds};
 ghost use Rattle.pg_moves.specs.Targets.{IsOwn, Covers};
-ghost use Rattle.pg_moves.specs.inner.Guards.{IsGuardedMan, GuardsOff, CountsOn, CountsOff};
+ghost use Rattle.pg_moves.specs.inner.Guards.{IsGuardedMan, GuardsOff, AreOff, CountsOn, CountsOff};
 ghost use Rattle.pg_moves.specs.Counts.{IsGameCount};
 
 use crate::guards::{Guard, find_guard};
-use crate::kings::king_targets;
+use crate::kings::king_targets_of;
 use crate::pawns::{pawn_ways, quiet_pawns};
 use crate::places::promotion_number;
 use crate::search::first_of_man;
@@ -94,6 +94,22 @@ fn count_of_men(
     total
 }
 
+// How many legal moves the men on these squares have, each looked at for himself.
+#[inline(always)]
+fn count_each(position: &Position, board: &Board, men: SquareSet) -> u64
+    requires same { board.now ≡ position.now.board }
+    requires own { (q : ℕ) → q < 64 → has men q ≡ true → IsOwn position.now.board position.now.side q }
+    ensures count { CountsOn position.now (has men) result }
+    ensures bound { result ≤ 28672 }
+{
+    let mut total = 0;
+    let mut left = men;
+    while let Some(from) = left.pop_first() {
+        total += count_of_square(position, board, from);
+    }
+    total
+}
+
 // The men whose moves are still to be counted, and how many the others have.
 #[derive(Clone, Copy)]
 struct Counted {
@@ -101,7 +117,76 @@ struct Counted {
     total: u64,
 }
 
-// Counts the men of a kind, no pawns, that cannot be pinned.
+// Counts the king.
+#[inline(always)]
+fn count_king(
+    position: &Position,
+    board: &Board,
+    color: Color,
+    king: Square,
+    counted: Counted,
+) -> Counted
+    requires same { board.now ≡ position.now.board }
+    requires color { color ≡ position.now.side }
+    requires king { Stands position.now.board position.now.side Kind.King king }
+    requires left { has counted.left king ≡ true }
+    requires counted { CountsOff position.now counted.left counted.total }
+    requires few { counted.total ≤ 1000000 }
+    ensures counted { CountsOff position.now result.left result.total }
+    ensures few { result.total ≤ counted.total + 64 }
+{
+    // A fact for the proof: the square is on the board.
+    king.index();
+    Counted {
+        left: counted.left - SquareSet::single(king),
+        total: counted.total + king_targets_of(position, board, color, king).len() as u64,
+    }
+}
+
+// Counts the men that may be pinned: so no man that is left may be.
+#[inline(always)]
+fn count_pinned(position: &Position, board: &Board, guard: &Guard, counted: Counted) -> Counted
+    requires same { board.now ≡ position.now.board }
+    requires counted { CountsOff position.now counted.left counted.total }
+    requires few { counted.total ≤ 1000000 }
+    ensures counted { CountsOff position.now result.left result.total }
+    ensures few { result.total ≤ counted.total + 28672 }
+    ensures off { AreOff guard.now.pinned result.left }
+{
+    let men = counted.left & guard.pinned;
+    Counted {
+        left: counted.left - guard.pinned,
+        total: counted.total + count_each(position, board, men),
+    }
+}
+
+// Counts the pawns that need no trial, all at once.
+#[inline(always)]
+fn count_pawns(
+    position: &Position,
+    board: &Board,
+    guard: &Guard,
+    color: Color,
+    counted: Counted,
+) -> Counted
+    requires same { board.now ≡ position.now.board }
+    requires color { color ≡ position.now.side }
+    requires guards { GuardsOff position.now guard.now.pinned guard.now.goals }
+    requires off { AreOff guard.now.pinned counted.left }
+    requires counted { CountsOff position.now counted.left counted.total }
+    requires few { counted.total ≤ 1000000 }
+    ensures counted { CountsOff position.now result.left result.total }
+    ensures few { result.total ≤ counted.total + 256 }
+    ensures off { AreOff guard.now.pinned result.left }
+{
+    let pawns = quiet_pawns(position, board, color, guard, counted.left);
+    Counted {
+        left: counted.left - pawns,
+        total: counted.total + pawn_ways(board, color, pawns, guard.goals).count(),
+    }
+}
+
+// Counts the men of a kind, no pawns.
 #[inline(always)]
 fn count_kind(
     position: &Position,
@@ -114,62 +199,21 @@ fn count_kind(
     requires color { man.color ≡ position.now.side }
     requires pawn { man.kind ≢ Kind.Pawn }
     requires guards { GuardsOff position.now guard.now.pinned guard.now.goals }
+    requires off { AreOff guard.now.pinned counted.left }
     requires counted { CountsOff position.now counted.left counted.total }
     requires few { counted.total ≤ 1000000 }
     ensures counted { CountsOff position.now result.left result.total }
     ensures few { result.total ≤ counted.total + 28672 }
+    ensures off { AreOff guard.now.pinned result.left }
 {
-    let men = (counted.left & board.squares_of(man)) - guard.pinned;
+    let men = counted.left & board.squares_of(man);
     Counted {
         left: counted.left - men,
         total: counted.total + count_of_men(position, board, man, men, guard.goals),
     }
 }
 
-// Counts the king.
-#[inline(always)]
-fn count_king(position: &Position, board: &Board, king: Square, counted: Counted) -> Counted
-    requires same { board.now ≡ position.now.board }
-    requires king { Stands position.now.board position.now.side Kind.King king }
-    requires left { has counted.left king ≡ true }
-    requires counted { CountsOff position.now counted.left counted.total }
-    requires few { counted.total ≤ 1000000 }
-    ensures counted { CountsOff position.now result.left result.total }
-    ensures few { result.total ≤ counted.total + 64 }
-{
-    // A fact for the proof: the square is on the board.
-    king.index();
-    Counted {
-        left: counted.left - SquareSet::single(king),
-        total: counted.total + king_targets(position, board, king).len() as u64,
-    }
-}
-
-// Counts the pawns that need no trial and cannot be pinned, all at once.
-#[inline(always)]
-fn count_pawns(
-    position: &Position,
-    board: &Board,
-    guard: &Guard,
-    color: Color,
-    counted: Counted,
-) -> Counted
-    requires same { board.now ≡ position.now.board }
-    requires color { color ≡ position.now.side }
-    requires guards { GuardsOff position.now guard.now.pinned guard.now.goals }
-    requires counted { CountsOff position.now counted.left counted.total }
-    requires few { counted.total ≤ 1000000 }
-    ensures counted { CountsOff position.now result.left result.total }
-    ensures few { result.total ≤ counted.total + 256 }
-{
-    let pawns = quiet_pawns(position, board, color, guard, counted.left);
-    Counted {
-        left: counted.left - pawns,
-        total: counted.total + pawn_ways(board, color, pawns, guard.goals).count(),
-    }
-}
-
-// Counts the men that are left, each for himself.
+// Counts the men that are left: pawns that may promote or capture en passant.
 #[inline(always)]
 fn count_rest(position: &Position, board: &Board, counted: Counted) -> u64
     requires same { board.now ≡ position.now.board }
@@ -179,12 +223,7 @@ fn count_rest(position: &Position, board: &Board, counted: Counted) -> u64
 {
     // A fact for the proof: what is handed in is a position.
     position.side();
-    let mut total = counted.total;
-    let mut left = counted.left;
-    while let Some(from) = left.pop_first() {
-        total += count_of_square(position, board, from);
-    }
-    total
+    counted.total + count_each(position, board, counted.left)
 }
 
 // How many legal moves there are, kind by kind of the men of the side to move, whose colour is handed in: so
@@ -200,8 +239,9 @@ fn count_of_color(position: &Position, color: Color) -> u64
         left: board.squares_of_color(color),
         total: 0,
     };
-    let king = count_king(position, &board, guard.king, own);
-    let pawns = count_pawns(position, &board, &guard, color, king);
+    let king = count_king(position, &board, color, guard.king, own);
+    let pinned = count_pinned(position, &board, &guard, king);
+    let pawns = count_pawns(position, &board, &guard, color, pinned);
     let knights = count_kind(
         position,
         &board,

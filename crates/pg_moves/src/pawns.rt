@@ -11,7 +11,7 @@ ghost use Rattle.pg_position.specs.Step.{IsEnemy};
 ghost use Rattle.pg_position.specs.Squares.{home_rank};
 ghost use Rattle.pg_moves.specs.inner.Pawns.{forward, IsInside, AreInside, AreWays, IsQuiet, moves_from, one_rank, two_ranks, to_west, to_east};
 ghost use Rattle.pg_moves.specs.Targets.{CapturesEnPassant};
-ghost use Rattle.pg_moves.specs.inner.Guards.{GuardsOff};
+ghost use Rattle.pg_moves.specs.inner.Guards.{GuardsOff, AreOff};
 
 use crate::guards::Guard;
 use pg_board::{Board, Color, Kind, Man, SquareSet};
@@ -173,7 +173,7 @@ fn en_passant_sources(position: &Position) -> SquareSet
     }
 }
 
-// Pawns of these that need no trial, neither promote nor capture en passant, and cannot be pinned.
+// Pawns of these, none of which may be pinned, that neither promote nor capture en passant: so they need no trial.
 #[inline(always)]
 pub(crate) fn quiet_pawns(
     position: &Position,
@@ -185,11 +185,12 @@ pub(crate) fn quiet_pawns(
     requires same { board.now ≡ position.now.board }
     requires color { color ≡ position.now.side }
     requires guards { GuardsOff position.now guard.now.pinned guard.now.goals }
+    requires off { AreOff guard.now.pinned left }
     ensures quiet { (q : ℕ) → q < 64 → has result q ≡ true → IsQuiet position.now guard.now.goals q }
     ensures left { (q : ℕ) → q < 64 → has result q ≡ true → has left q ≡ true }
 {
     // A fact for the proof: what is handed in is a position.
     position.side();
     let pawns = left & board.squares_of(Man::new(color, Kind::Pawn));
-    pawns - guard.pinned - en_passant_sources(position) - home(color.other())
+    pawns - en_passant_sources(position) - home(color.other())
 }

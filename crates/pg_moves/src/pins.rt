@@ -35,7 +35,7 @@ fn alone_of(board: &Board, color: Color, side: Color) -> u64
 }
 
 // The men of the colour alone.
-fn men_of(board: &Board, color: Color) -> Board
+pub(crate) fn men_of(board: &Board, color: Color) -> Board
     ensures { (q : ℕ) → q < 64 → get result q ≡ only color (get board.now q) }
 {
     let white = alone_of(board, color, Color::White);
@@ -59,6 +59,7 @@ fn men_of(board: &Board, color: Color) -> Board
 }
 
 // Whether the other colour would attack the square with none of the colour's men on the board.
+#[inline(always)]
 pub(crate) fn attacked_alone(board: &Board, square: Square, color: Color) -> bool
     ensures { IsFalse result → (r : ℕ) → IsOwn board.now color r
         → ¬ Attacks (without board.now r) (other color) square }
@@ -68,7 +69,7 @@ pub(crate) fn attacked_alone(board: &Board, square: Square, color: Color) -> boo
 
 // The squares that are seen from the square along the lines of the kind, if a man of the other colour would
 // attack it along them with none of the colour's men on the board; else none, for no man is pinned there.
-pub(crate) fn seen_if_pinned(board: &Board, square: Square, color: Color, kind: Kind) -> SquareSet
+fn seen_if_pinned(board: &Board, square: Square, color: Color, kind: Kind) -> SquareSet
     requires { IsLineKind kind }
     ensures { (r : ℕ) → r < 64 → IsOwn board.now color r → has result r ≡ false
         → ¬ IsPinnedAlong board.now color kind square r }

@@ -22,6 +22,10 @@ pub record IsGuardedMan (p : State) (k : Kind) (goals : ℕ) (r : ℕ) : Type 0 
 unfoldable pub GuardsOff : State → ℕ → ℕ → Type 0
 GuardsOff p pinned goals = (k : Kind) (r : ℕ) → r < 64 → Stands p.board p.side k r → has pinned r ≡ false → IsGuardedMan p k goals r
 
+-- no square of the second set is in the first
+abbrev pub AreOff : ℕ → ℕ → Type 0
+AreOff pinned left = (q : ℕ) → q < 64 → has left q ≡ true → has pinned q ≡ false
+
 -- there are n legal moves from the squares with t, which are told square by square
 pub record CountsOn (p : State) (t : ℕ → Bool) (n : ℕ) : Type 0 where
   pub each : ℕ → ℕ

@@ -12,7 +12,7 @@ pub returns-else-not-attacked_alone-clause-king : goal.returns-else-not-attacked
 returns-else-not-attacked_alone-clause-king c = king_stands c.args.position.now c.args.board.now c.side-side.result c.in-Some.king c.side-side.ensures.position c.requires c.side-side.ensures.value c.in-Some.ensures
 
 pub returns-else-not-attacked_alone-clause-guards : goal.returns-else-not-attacked_alone-clause-guards
-returns-else-not-attacked_alone-clause-guards c = guards_lines c.args.position.now c.args.board.now c.side-side.result c.in-Some.king c.side-side.ensures.position c.requires c.side-side.ensures.value c.in-Some.ensures c.seen_if_pinned-straight.result c.seen_if_pinned-diagonal.result c.single-else-not-attacked_alone.result c.bitor.result c.bitor-else-not-attacked_alone.result c.all_parries.result c.seen_if_pinned-straight.ensures c.seen_if_pinned-diagonal.ensures c.single-else-not-attacked_alone.ensures c.bitor.ensures.members c.bitor-else-not-attacked_alone.ensures.members
+returns-else-not-attacked_alone-clause-guards c = guards_lines c.args.position.now c.args.board.now c.side-side.result c.in-Some.king c.side-side.ensures.position c.requires c.side-side.ensures.value c.in-Some.ensures c.pinned_along-straight.result c.pinned_along-diagonal.result c.single-else-not-attacked_alone.result c.bitor.result c.bitor-else-not-attacked_alone.result c.all_parries.result c.pinned_along-straight.ensures c.pinned_along-diagonal.ensures c.single-else-not-attacked_alone.ensures c.bitor.ensures.members c.bitor-else-not-attacked_alone.ensures.members
     (rw c.other.ensures at c.all_parries.ensures)
 
 pub unreachable-requires : goal.unreachable-requires
