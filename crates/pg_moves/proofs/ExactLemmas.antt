@@ -13,12 +13,13 @@ use Rattle.pg_position.proofs.StepLemmas.{same_kind}
 use Rattle.pg_moves.specs.Targets.{plain_move, Advances, CapturesEnPassant, IsOrdinary}
 use Rattle.pg_moves.specs.inner.Sources.{IsExact}
 use Rattle.pg_moves.specs.inner.Parries.{IsInVain, IsInShelter}
+use Rattle.pg_moves.specs.inner.Guards.{IsGuardedMan}
 use Rattle.pg_moves.proofs.SearchLemmas.{promotes}
 use Rattle.pg_moves.proofs.ShelterLemmas.{parry_legal}
 use Rattle.pg_moves.proofs.ParryLemmas.{parried}
 use Rattle.pg_moves.proofs.ShiftLemmas.{itself}
 
-module _ (p : State) (k : Kind) (r x z set : ℕ) (low : r < 64) (here : Stands p.board p.side k r) (no_king : k ≢ King) (plain : IsOrdinary p k r) (is : IsSetOf x (Advances p.board p.side k r)) (both : (q : ℕ) → has set q ≡ has x q && has z q) (vain : (s : ℕ) → s < 64 → has z s ≡ false → IsInVain p r s) (safe : (s : ℕ) → s < 64 → has z s ≡ true → IsInShelter p r s) where
+module _ (p : State) (k : Kind) (r z set : ℕ) (low : r < 64) (here : Stands p.board p.side k r) (no_king : k ≢ King) (plain : IsOrdinary p k r) (is : IsSetOf set (λ q. Advances p.board p.side k r q × (has z q ≡ true))) (vain : (s : ℕ) → s < 64 → has z s ≡ false → IsInVain p r s) (safe : (s : ℕ) → s < 64 → has z s ≡ true → IsInShelter p r s) where
   goes_there : (m : Move) → IsLegal p m → m.from ≡ r → (m.to < 64) × Advances p.board p.side k r m.to × (has z m.to ≡ true)
   unfolding IsOrdinary
   goes_there m l f = let g : (m.to < 64) × ((Advances p.board p.side k r m.to × (has z m.to ≡ true)) ⊎ ((k ≡ Pawn) × CapturesEnPassant p r m.to)) = parried p k r here no_king z vain m l f in
@@ -40,13 +41,20 @@ module _ (p : State) (k : Kind) (r x z set : ℕ) (low : r < 64) (here : Stands 
   legal_there : (s : ℕ) → s < 64 → has set s ≡ true → IsLegal p (plain_move r s)
   unfolding IsOrdinary IsInShelter
   legal_there s on h =
-      let g : Advances p.board p.side k r s × (has z s ≡ true) = (set_of_both set x z both is (itself z) s on).0 h in
+      let g : Advances p.board p.side k r s × (has z s ≡ true) = (is s on).0 h in
       let (k', king, shelter) = safe s on g.1 in
       parry_legal p k r k' low here king no_king s on shelter g.0 ((plain s on).0 g.0)
 
-  pub parry_exact : IsExact p r set
+  pub goals_exact : IsExact p r set
   unfolding IsExact
-  parry_exact m f = (
-    λ l. (let g : (m.to < 64) × Advances p.board p.side k r m.to × (has z m.to ≡ true) = goes_there m l f in (unpromoted m l f, g.0, (set_of_both set x z both is (itself z) m.to g.0).1 (g.1, g.2))),
+  goals_exact m f = (
+    λ l. (let g : (m.to < 64) × Advances p.board p.side k r m.to × (has z m.to ≡ true) = goes_there m l f in (unpromoted m l f, g.0, (is m.to g.0).1 (g.1, g.2))),
     λ (e, on, h). subst (λ (y : Move). IsLegal p y) (sym (λ i. record { from = f i; to = m.to; promotion = e i })) (legal_there m.to on h),
   )
+
+pub parry_exact : (p : State) (k : Kind) (r x z set : ℕ) → r < 64 → Stands p.board p.side k r → k ≢ King → IsOrdinary p k r → IsSetOf x (Advances p.board p.side k r) → ((q : ℕ) → has set q ≡ has x q && has z q) → ((s : ℕ) → s < 64 → has z s ≡ false → IsInVain p r s) → ((s : ℕ) → s < 64 → has z s ≡ true → IsInShelter p r s) → IsExact p r set
+parry_exact p k r x z set low here no_king plain is both vain safe = goals_exact p k r z set low here no_king plain (set_of_both set x z both is (itself z)) vain safe
+
+-- a man that cannot be pinned
+pub guarded_exact : (p : State) (k : Kind) (r z set : ℕ) → r < 64 → IsGuardedMan p k z r → IsOrdinary p k r → IsSetOf set (λ q. Advances p.board p.side k r q × (has z q ≡ true)) → IsExact p r set
+guarded_exact p k r z set low h plain is = goals_exact p k r z set low h.stands h.no_king plain is h.vain h.safe

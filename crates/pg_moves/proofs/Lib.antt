@@ -22,6 +22,8 @@ pub mod BareLemmas
 pub mod KingLemmas
 pub mod ShiftLemmas
 pub mod QuietLemmas
+pub mod OffLemmas
+pub mod GuardLemmas
 pub mod CastleLemmas
 pub mod StepsLemmas
 pub mod RestLemmas

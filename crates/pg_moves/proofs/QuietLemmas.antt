@@ -1,5 +1,5 @@
 -- Pawns that are counted all at once: which may be, and that the count is right.
-use Rattle.std.proofs.Common.{arith, ◌≡◌, ◌≢◌, ℕ, zero, suc, ◌+◌, ◌-◌, ◌<◌, ◌≤◌, ◌⊎◌, inl, inr, Bool, true, false, ◌&&◌, ◌||◌, eqb, not, Option, None, Some, refl, sym, ap, ap₂, ◌∙◌, subst}
+use Rattle.std.proofs.Common.{arith, ◌≡◌, ◌≢◌, ℕ, ◌+◌, ◌<◌, ◌⊎◌, inl, inr, Bool, true, false, ◌&&◌, ◌||◌, eqb, not, Option, None, Some, refl, sym, ap, ap₂, ◌∙◌, subst}
 use Rattle.std.specs.Bool.{Decides}
 use Rattle.std.proofs.lemmas.Bool.Decides.{eqb_tells, Decides-at, Decides-or, Decides-and, Decides-eqb, Decides-like}
 use Rattle.pg_board.specs.declared.man.Color.{Color}
@@ -7,30 +7,29 @@ use Rattle.pg_board.specs.declared.man.Color.TheVariants.{White, Black}
 use Rattle.pg_board.specs.declared.man.Kind.TheVariants.{Pawn}
 use Rattle.pg_board.specs.declared.man.Man.{Man}
 use Rattle.pg_board.specs.Squares.{file, rank}
-use Rattle.pg_board.specs.Men.{is_man, is_of, man, other}
+use Rattle.pg_board.specs.Men.{is_man, man, other}
 use Rattle.pg_board.specs.lemmas.Equalities.{is_man_decides}
 use Rattle.pg_board.specs.Placement.{Placement, get}
 use Rattle.pg_board.specs.Bits.{has, bits_below, has-bits_below, has-none}
 use Rattle.pg_board.specs.Tally.{one, total, count_below}
-use Rattle.pg_board.specs.lemmas.Sums.{total-none, total-more, count_below_same, total-zero, total_same, total_changed}
+use Rattle.pg_board.specs.lemmas.Sums.{count_below_same, total-zero, total_same, total_changed}
 use Rattle.pg_position.specs.declared.state.State.{State}
 use Rattle.pg_position.specs.Geometry.{IsForward, InPattern}
 use Rattle.pg_position.specs.Attack.{IsClear, Reaches}
-use Rattle.pg_board.specs.SquareSets.{IsSetOf, IsFirstFrom, HasNoneFrom}
+use Rattle.pg_board.specs.SquareSets.{IsSetOf}
 use Rattle.pg_position.specs.Position.{IsPosition, PawnsClause, Stands, IsVacant}
 use Rattle.pg_position.specs.Step.{IsEnemy, Goes}
 use Rattle.pg_position.specs.Squares.{ahead, home_rank}
 use Rattle.pg_position.proofs.LineLemmas.{pawn_near}
-use Rattle.pg_board.proofs.SetLemmas.{set_of_rest, set_none}
-use Rattle.pg_moves.specs.inner.Places.{place_of, NoneFrom, IsCountBelow, Adds}
-use Rattle.pg_moves.specs.Counts.{IsGameCount}
-use Rattle.pg_moves.specs.Targets.{IsOwn, Advances, Strides, Leaps, CapturesEnPassant, FreeOff}
+use Rattle.pg_board.proofs.SetLemmas.{and_true, set_of_rest, set_none}
+use Rattle.pg_moves.specs.inner.Places.{place_of, Adds}
+use Rattle.pg_moves.specs.inner.Guards.{GuardsOff, AreOff, CountsOn}
+use Rattle.pg_moves.specs.Targets.{Advances, Strides, Leaps, CapturesEnPassant}
 use Rattle.pg_moves.specs.declared.pawns.PawnMoves.{PawnMoves}
 use Rattle.pg_moves.specs.inner.Pawns.{forward, IsInside, AreWays, IsQuiet, to_west, to_east, moves_from}
 use Rattle.pg_moves.proofs.ShiftLemmas.{itself, total_add}
-use Rattle.pg_moves.proofs.TargetLemmas.{own_set}
-use Rattle.pg_moves.proofs.SearchLemmas.{own_gap}
-use Rattle.pg_moves.proofs.LeafLemmas.{free_adds, count_skip, count_all, pawn_ordinary, free_there}
+use Rattle.pg_moves.proofs.LeafLemmas.{exact_adds, pawn_ordinary}
+use Rattle.pg_moves.proofs.ExactLemmas.{guarded_exact}
 
 -- ---- en passant, seen from the passed square
 turn : (c : Color) (r s : ℕ) → InPattern c Pawn r s → InPattern (other c) Pawn s r
@@ -61,21 +60,21 @@ out_of n a b q rest l e =
     let h = (set_of_rest n a b rest (itself a) (itself b) q l).0 e in
     (h.0, elim (has b q) as (λ v. has b q ≡ v → has b q ≡ false) [ true ↦ λ t. absurd (h.1 t) | false ↦ λ t. t ] refl)
 
-pub quiet : (p : State) (b : Placement) (c o : Color) (pawn : Man) (pawns maybe_pinned passing home sure plain quiet_ones : ℕ) → b ≡ p.board → c ≡ p.side → pawn ≡ man c Pawn → o ≡ other c
-    → IsPosition p → FreeOff p maybe_pinned
-    → ((q : ℕ) → q < 64 → has sure q ≡ has pawns q && not (has maybe_pinned q))
-    → ((q : ℕ) → q < 64 → has plain q ≡ has sure q && not (has passing q))
+pub quiet : (p : State) (b : Placement) (c o : Color) (pawn : Man) (left men pawns pinned goals passing home plain quiet_ones : ℕ) → b ≡ p.board → c ≡ p.side → pawn ≡ man c Pawn → o ≡ other c
+    → IsPosition p → GuardsOff p pinned goals → AreOff pinned left
+    → ((q : ℕ) → has pawns q ≡ has left q && has men q)
+    → ((q : ℕ) → q < 64 → has plain q ≡ has pawns q && not (has passing q))
     → ((q : ℕ) → q < 64 → has quiet_ones q ≡ has plain q && not (has home q))
-    → ((q : ℕ) → q < 64 → has pawns q ≡ is_man pawn (get b q))
+    → ((q : ℕ) → q < 64 → has men q ≡ is_man pawn (get b q))
     → ((q s : ℕ) → q < 64 → s < 64 → CapturesEnPassant p q s → has passing q ≡ true)
     → IsSetOf home (λ q. rank q ≡ home_rank o)
-    → (q : ℕ) → q < 64 → has quiet_ones q ≡ true → IsQuiet p q
-unfolding PawnsClause
-quiet p b c o pawn pawns maybe_pinned passing home sure plain quiet_ones eb ec em eo pos free fit fits few are passed at q l e =
+    → (q : ℕ) → q < 64 → has quiet_ones q ≡ true → IsQuiet p goals q × (has left q ≡ true)
+unfolding PawnsClause GuardsOff
+quiet p b c o pawn left men pawns pinned goals passing home plain quiet_ones eb ec em eo pos guards apart both fits few are passed at q l e =
     let far = out_of quiet_ones plain home q few l e in
-    let calm = out_of plain sure passing q fits l far.0 in
-    let off = out_of sure pawns maybe_pinned q fit l calm.0 in
-    let there : get b q ≡ Some (man c Pawn) = (is_man_decides (man c Pawn) (get b q)).0 (ap (λ (x : Man). is_man x (get b q)) (sym em) ∙ sym (are q l) ∙ off.0) in
+    let calm = out_of plain pawns passing q fits l far.0 in
+    let mine = and_true (has left q) (has men q) (sym (both q) ∙ calm.0) in
+    let there : get b q ≡ Some (man c Pawn) = (is_man_decides (man c Pawn) (get b q)).0 (ap (λ (x : Man). is_man x (get b q)) (sym em) ∙ sym (are q l) ∙ mine.1) in
     let here : Stands p.board p.side Pawn q = subst (λ (d : Placement). Stands d p.side Pawn q) eb (subst (λ (d : Color). Stands b d Pawn q) ec there) in
     let not_home : rank q ≢ home_rank (other p.side) = (λ f. (
     let up : rank q ≡ home_rank o = f ∙ ap home_rank (sym (eo ∙ ap other ec)) in
@@ -86,13 +85,14 @@ quiet p b c o pawn pawns maybe_pinned passing home sure plain quiet_ones eb ec e
     let none : IsSetOf 0 (CapturesEnPassant p q) = set_none (λ s k h. (
     let yes : has passing q ≡ true = passed q s l k h in
     let no : has passing q ≡ false = calm.1 in
-    cc)) in
-    record {
-      stands = here;
-      free = free_there p Pawn q maybe_pinned l here free off.1;
-      ordinary = pawn_ordinary p Pawn q 0 none (λ s _ _. has-none s) not_home;
-      inside = start p.side q l edge.0 edge.1 not_home;
-    }
+    cc)) in (
+      record {
+        guarded = guards Pawn q l here (apart q l mine.0);
+        ordinary = pawn_ordinary p Pawn q 0 none (λ s _ _. has-none s) not_home;
+        inside = start p.side q l edge.0 edge.1 not_home;
+      },
+      mine.0,
+    )
 
 -- ---- four squares at most
 pick : ℕ → Bool → ℕ → Bool
@@ -193,39 +193,42 @@ apart : (c : Color) (q : ℕ) → q < 64 → IsInside c 16 q → AreApart (forwa
 apart White q l h = record { on = (omega arith, omega arith, omega arith, omega arith); first = (λ e. omega arith, λ e. omega arith, λ e. omega arith); rest = (λ e. omega arith, λ e. omega arith, λ e. omega arith) }
 apart Black q l h = record { on = (omega arith, omega arith, omega arith, omega arith); first = (λ e. omega arith, λ e. omega arith, λ e. omega arith); rest = (λ e. omega arith, λ e. omega arith, λ e. omega arith) }
 
-module _ (b : Placement) (c : Color) (pawns : ℕ) (w : PawnMoves) (is : AreWays b c pawns w) (q : ℕ) (low : q < 64) (mine : has pawns q ≡ true) (inside : IsInside c 16 q) where
+module _ (b : Placement) (c : Color) (pawns goals : ℕ) (w : PawnMoves) (is : AreWays b c pawns goals w) (q : ℕ) (low : q < 64) (mine : has pawns q ≡ true) (inside : IsInside c 16 q) where
   abbrev goal_of : ℕ → Type 0
   goal_of s = (((s ≡ forward c 8 q) × (has w.once q ≡ true)) ⊎ ((s ≡ forward c 16 q) × (has w.twice q ≡ true))) ⊎ (((s ≡ forward c (to_west c) q) × (has w.west q ≡ true)) ⊎ ((s ≡ forward c (to_east c) q) × (has w.east q ≡ true)))
 
-  advance_forth : (s : ℕ) → s < 64 → Advances b c Pawn q s → goal_of s
+  aim : (s t : ℕ) → s ≡ t → has goals s ≡ true → has goals t ≡ true
+  aim s t e keep = subst (λ (x : ℕ). has goals x ≡ true) e keep
+
+  advance_forth : (s : ℕ) → s < 64 → Advances b c Pawn q s → has goals s ≡ true → goal_of s
   unfolding Advances Strides Leaps Goes
-  advance_forth s l (inl (inl h)) = let at : s ≡ forward c 8 q = in_front c q s l h.1 in inl (inl (at, (is.once q low).1 (mine, subst (IsVacant b) at h.0)))
-  advance_forth s l (inl (inr h)) = elim (beside c q s low l h.1.0) [
-    | inl g ↦ inr (inl (g.1, (is.west q low).1 (mine, g.0, subst (IsEnemy b c) g.1 h.0)))
-    | inr g ↦ inr (inr (g.1, (is.east q low).1 (mine, g.0, subst (IsEnemy b c) g.1 h.0)))
+  advance_forth s l (inl (inl h)) keep = let at : s ≡ forward c 8 q = in_front c q s l h.1 in inl (inl (at, (is.once q low).1 (mine, subst (IsVacant b) at h.0, aim s (forward c 8 q) at keep)))
+  advance_forth s l (inl (inr h)) keep = elim (beside c q s low l h.1.0) [
+    | inl g ↦ inr (inl (g.1, (is.west q low).1 (mine, g.0, subst (IsEnemy b c) g.1 h.0, aim s (forward c (to_west c) q) g.1 keep)))
+    | inr g ↦ inr (inr (g.1, (is.east q low).1 (mine, g.0, subst (IsEnemy b c) g.1 h.0, aim s (forward c (to_east c) q) g.1 keep)))
   ]
-  advance_forth s l (inr (_, h)) = let at : s ≡ forward c 16 q = h.1 ∙ two_ahead c q in inl (inr (at, (is.twice q low).1 (mine, subst (IsVacant b) (one_ahead c q) h.2, h.0, subst (IsVacant b) at h.3)))
+  advance_forth s l (inr (_, h)) keep = let at : s ≡ forward c 16 q = h.1 ∙ two_ahead c q in inl (inr (at, (is.twice q low).1 (mine, subst (IsVacant b) (one_ahead c q) h.2, h.0, subst (IsVacant b) at h.3, aim s (forward c 16 q) at keep)))
 
   captures : (s k : ℕ) → s ≡ forward c k q → InPattern c Pawn q (forward c k q) → IsEnemy b c (forward c k q) → Advances b c Pawn q s
   unfolding Advances Strides IsClear
   captures s k at way enemy = let there : InPattern c Pawn q s = subst (λ (x : ℕ). InPattern c Pawn q x) (sym at) way in inl (inr (subst (IsEnemy b c) (sym at) enemy, (there, λ t _ bet. absurd (pawn_near c q t s there bet))))
 
-  advance_back : (s : ℕ) → goal_of s → Advances b c Pawn q s
+  advance_back : (s : ℕ) → goal_of s → Advances b c Pawn q s × (has goals s ≡ true)
   unfolding Advances Strides Leaps Goes
   advance_back s (inl (inl (at, e))) = (
       let h = (is.once q low).0 e in
-      inl (inl (subst (IsVacant b) (sym at) h.1, subst (λ (x : ℕ). (file q ≡ file x) × IsForward c 1 q x) (sym at) (front_is c q low inside))))
+      (inl (inl (subst (IsVacant b) (sym at) h.1, subst (λ (x : ℕ). (file q ≡ file x) × IsForward c 1 q x) (sym at) (front_is c q low inside))), aim (forward c 8 q) s (sym at) h.2))
   advance_back s (inl (inr (at, e))) = (
       let h = (is.twice q low).0 e in
-      inr (refl, (h.2, at ∙ sym (two_ahead c q), subst (IsVacant b) (sym (one_ahead c q)) h.1, subst (IsVacant b) (sym at) h.3)))
-  advance_back s (inr (inl (at, e))) = let h = (is.west q low).0 e in captures s (to_west c) at (west_is c q low inside h.1) h.2
-  advance_back s (inr (inr (at, e))) = let h = (is.east q low).0 e in captures s (to_east c) at (east_is c q low inside h.1) h.2
+      (inr (refl, (h.2, at ∙ sym (two_ahead c q), subst (IsVacant b) (sym (one_ahead c q)) h.1, subst (IsVacant b) (sym at) h.3)), aim (forward c 16 q) s (sym at) h.4))
+  advance_back s (inr (inl (at, e))) = let h = (is.west q low).0 e in (captures s (to_west c) at (west_is c q low inside h.1) h.2, aim (forward c (to_west c) q) s (sym at) h.3)
+  advance_back s (inr (inr (at, e))) = let h = (is.east q low).0 e in (captures s (to_east c) at (east_is c q low inside h.1) h.2, aim (forward c (to_east c) q) s (sym at) h.3)
 
   abbrev goals_at : ℕ → Bool
   goals_at = four (forward c 8 q) (forward c 16 q) (forward c (to_west c) q) (forward c (to_east c) q) (has w.once q) (has w.twice q) (has w.west q) (has w.east q)
 
-  goals_set : IsSetOf (bits_below goals_at 64) (Advances b c Pawn q)
-  goals_set s l = Decides-at _ _ (has-bits_below goals_at 64 s l) (Decides-like (goals_at s) (advance_back s) (advance_forth s l) (four_is _ _ _ _ _ _ _ _ s))
+  goals_set : IsSetOf (bits_below goals_at 64) (λ s. Advances b c Pawn q s × (has goals s ≡ true))
+  goals_set s l = Decides-at _ _ (has-bits_below goals_at 64 s l) (Decides-like (goals_at s) (advance_back s) (λ h. advance_forth s l h.0 h.1) (four_is _ _ _ _ _ _ _ _ s))
 
   goals_counted : moves_from w q ≡ count_below (has (bits_below goals_at 64)) 64
   unfolding moves_from
@@ -236,19 +239,19 @@ module _ (b : Placement) (c : Color) (pawns : ℕ) (w : PawnMoves) (is : AreWays
       ∙ four_counted _ _ _ _ (has w.once q) (has w.twice q) (has w.west q) (has w.east q) z.on.0 z.on.1 z.on.2 z.on.3 z.first.0 z.first.1 z.first.2 z.rest.0 z.rest.1 z.rest.2
       )
 
-pub pawn_adds : (p : State) (b : Placement) (c : Color) (pawns : ℕ) (w : PawnMoves) → b ≡ p.board → c ≡ p.side → AreWays b c pawns w → ((q : ℕ) → q < 64 → has pawns q ≡ true → IsQuiet p q) → (q : ℕ) → q < 64 → has pawns q ≡ true → Adds p (place_of q 0 0) (place_of (q + 1) 0 0) (moves_from w q)
-pawn_adds p b c pawns w eb ec is quiet q low mine =
-    let here : IsQuiet p q = quiet q low mine in
-    let ways : AreWays p.board p.side pawns w = subst (λ (x : Placement). AreWays x p.side pawns w) eb (subst (λ (d : Color). AreWays b d pawns w) ec is) in
-    free_adds p Pawn q _ low here.stands here.free here.ordinary (goals_set p.board p.side pawns w ways q low mine here.inside) (moves_from w q) (goals_counted p.board p.side pawns w ways q low mine here.inside)
+pub pawn_adds : (p : State) (b : Placement) (c : Color) (pawns goals : ℕ) (w : PawnMoves) → b ≡ p.board → c ≡ p.side → AreWays b c pawns goals w → ((q : ℕ) → q < 64 → has pawns q ≡ true → IsQuiet p goals q) → (q : ℕ) → q < 64 → has pawns q ≡ true → Adds p (place_of q 0 0) (place_of (q + 1) 0 0) (moves_from w q)
+pawn_adds p b c pawns goals w eb ec is quiet q low mine =
+    let here : IsQuiet p goals q = quiet q low mine in
+    let ways : AreWays p.board p.side pawns goals w = subst (λ (x : Placement). AreWays x p.side pawns goals w) eb (subst (λ (d : Color). AreWays b d pawns goals w) ec is) in
+    exact_adds p q _ (guarded_exact p Pawn q goals _ low here.guarded here.ordinary (goals_set p.board p.side pawns goals w ways q low mine here.inside)) (moves_from w q) (goals_counted p.board p.side pawns goals w ways q low mine here.inside)
 
 false_of : (b : Bool) → ¬ (b ≡ true) → b ≡ false
 false_of true h = absurd (h refl)
 false_of false h = refl
 
-pub no_ways : (b : Placement) (c : Color) (pawns : ℕ) (w : PawnMoves) → AreWays b c pawns w → (q : ℕ) → q < 64 → has pawns q ≡ false → moves_from w q ≡ 0
+no_ways : (b : Placement) (c : Color) (pawns goals : ℕ) (w : PawnMoves) → AreWays b c pawns goals w → (q : ℕ) → q < 64 → has pawns q ≡ false → moves_from w q ≡ 0
 unfolding moves_from
-no_ways b c pawns w is q l off =
+no_ways b c pawns goals w is q l off =
     let none : has pawns q ≡ true → ⊥ = (λ e. cc) in
     let x : has w.once q ≡ false = false_of _ (λ e. none ((is.once q l).0 e).0) in
     let y : has w.twice q ≡ false = false_of _ (λ e. none ((is.twice q l).0 e).0) in
@@ -256,63 +259,15 @@ no_ways b c pawns w is q l off =
     let v : has w.east q ≡ false = false_of _ (λ e. none ((is.east q l).0 e).0) in
     omega (arith, ap one x, ap one y, ap one z, ap one v)
 
--- ---- the loop over the other men
-module _ (p : State) (own pawns rest : ℕ) (w : PawnMoves) (is_own : (q : ℕ) → q < 64 → has own q ≡ is_of p.side (get p.board q)) (others : (q : ℕ) → q < 64 → has rest q ≡ has own q && not (has pawns q)) (adds : (q : ℕ) → q < 64 → has pawns q ≡ true → Adds p (place_of q 0 0) (place_of (q + 1) 0 0) (moves_from w q)) (off : (q : ℕ) → q < 64 → has pawns q ≡ false → moves_from w q ≡ 0) where
-  at_rest : (q : ℕ) → q < 64 → has rest q ≡ true → (has own q ≡ true) × (has pawns q ≡ false)
-  at_rest q l e = out_of rest own pawns q others l e
+-- all of their moves
+pub pawns_counted : (p : State) (b : Placement) (c : Color) (pawns goals : ℕ) (w : PawnMoves) (n : ℕ) → b ≡ p.board → c ≡ p.side → AreWays b c pawns goals w → ((q : ℕ) → q < 64 → has pawns q ≡ true → IsQuiet p goals q) → n ≡ total (moves_from w) 64 → CountsOn p (has pawns) n
+pawns_counted p b c pawns goals w n eb ec is quiet e = record {
+  each = moves_from w;
+  adds = pawn_adds p b c pawns goals w eb ec is quiet;
+  none = no_ways b c pawns goals w is;
+  sum = e;
+}
 
-  not_own : (q : ℕ) → q < 64 → has rest q ≡ false → has pawns q ≡ false → has own q ≡ false
-  not_own q l e f = false_of _ (λ g. (
-      let yes : has rest q ≡ true = (set_of_rest rest own pawns others (itself own) (itself pawns) q l).1 (g, λ h. (let t : true ≡ false = sym h ∙ f in cc)) in
-      cc))
-
-  -- the moves of the squares below at: n of men that are no such pawns
-  abbrev pub IsCounted : ℕ → ℕ → Type 0
-  IsCounted at n = IsCountBelow p (place_of at 0 0) (n + total (moves_from w) at)
-
-  pub counted_start : IsCountBelow p 0 0 → IsCounted 0 0
-  counted_start h = let same : 0 ≡ 0 + total (moves_from w) 0 = omega (arith, total-none (moves_from w)) in subst (λ (n : ℕ). IsCountBelow p 0 n) same h
-
-  pass_one : (q n : ℕ) → q < 64 → has rest q ≡ false → IsCounted q n → IsCounted (q + 1) n
-  unfolding Adds
-  pass_one q n l e count = elim (has pawns q) as (λ v. has pawns q ≡ v → IsCounted (q + 1) n) [
-    | true ↦ λ f. (
-        let same : n + total (moves_from w) q + moves_from w q ≡ n + total (moves_from w) (q + 1) = omega (arith, total-more (moves_from w) q) in
-        subst (λ (k : ℕ). IsCountBelow p (place_of (q + 1) 0 0) k) same (adds q l f (n + total (moves_from w) q) count))
-    | false ↦ λ f. (
-        let none : moves_from w q ≡ 0 = off q l f in
-        let same : n + total (moves_from w) q ≡ n + total (moves_from w) (q + 1) = omega (arith, total-more (moves_from w) q) in
-        let gap : NoneFrom p (place_of q 0 0) (place_of (q + 1) 0 0) = own_gap p own q (q + 1) is_own (omega arith) (omega arith) (λ s from to. (let at : q ≡ s = omega arith in subst (λ (x : ℕ). has own x ≡ false) at (not_own q l e f))) in
-        subst (λ (k : ℕ). IsCountBelow p (place_of (q + 1) 0 0) k) same (count_skip p (place_of q 0 0) (place_of (q + 1) 0 0) _ count (omega arith) gap))
-  ] refl
-
-  pass : (d at n : ℕ) → at + d ≤ 64 → ((q : ℕ) → at ≤ q → q < at + d → has rest q ≡ false) → IsCounted at n → IsCounted (at + d) n
-  pass zero at n le none count = let same : at ≡ at + 0 = omega arith in subst (λ (k : ℕ). IsCounted k n) same count
-  pass (suc d) at n le none count =
-      let before : IsCounted (at + d) n = pass d at n (omega arith) (λ q from to. none q from (omega arith)) count in
-      let same : at + d + 1 ≡ at + suc d = omega arith in
-      subst (λ (k : ℕ). IsCounted k n) same (pass_one (at + d) n (omega arith) (none (at + d) (omega arith) (omega arith)) before)
-
-  pub counted_step : (at s t n k : ℕ) → IsCounted at t → IsFirstFrom rest at s → Adds p (place_of s 0 0) (place_of (s + 1) 0 0) n → k ≡ s → IsCounted (k + 1) (t + n)
-  unfolding Adds
-  counted_step at s t n k count first more e =
-      let up : at ≤ s = first.reached in
-      let on : s < 64 = first.on_board in
-      let to : at + (s - at) ≡ s = omega arith in
-      let here : IsCounted s t = subst (λ (x : ℕ). IsCounted x t) to (pass (s - at) at t (omega arith) (λ q from below. first.before q from (omega arith)) count) in
-      let none : moves_from w s ≡ 0 = off s on (at_rest s on first.member).1 in
-      let same : t + total (moves_from w) s + n ≡ (t + n) + total (moves_from w) (s + 1) = omega (arith, total-more (moves_from w) s) in
-      let there : IsCounted (s + 1) (t + n) = subst (λ (x : ℕ). IsCountBelow p (place_of (s + 1) 0 0) x) same (more (t + total (moves_from w) s) here) in
-      let next : s + 1 ≡ k + 1 = omega arith in
-      subst (λ (x : ℕ). IsCounted x (t + n)) next there
-
-  pub counted_end : (at t m : ℕ) → IsPosition p → at ≤ 64 → IsCounted at t → HasNoneFrom rest at → m ≡ total (moves_from w) 64 → IsGameCount p 1 (t + m)
-  counted_end at t m pos le count none e =
-      let to : at + (64 - at) ≡ 64 = omega arith in
-      let all : IsCounted 64 t = subst (λ (x : ℕ). IsCounted x t) to (pass (64 - at) at t (omega arith) (λ q from below. none q from (omega arith)) count) in
-      let same : t + total (moves_from w) 64 ≡ t + m = omega arith in
-      let end : place_of 64 0 0 ≡ 28672 = omega arith in
-      count_all p (t + m) pos (subst (λ (x : ℕ). IsCountBelow p x (t + m)) end (subst (λ (x : ℕ). IsCountBelow p (place_of 64 0 0) x) same all))
-
-  pub rest_own : (at s : ℕ) → IsFirstFrom rest at s → IsOwn p.board p.side s
-  rest_own at s first = (own_set p.board own p.side is_own s first.on_board).0 (at_rest s first.on_board first.member).0
+-- they have two ranks in front
+pub quiet_inside : (p : State) (c : Color) (pawns goals : ℕ) → c ≡ p.side → ((q : ℕ) → q < 64 → has pawns q ≡ true → IsQuiet p goals q) → (q : ℕ) → q < 64 → has pawns q ≡ true → IsInside c 16 q
+quiet_inside p c pawns goals ec quiet q l e = subst (λ (d : Color). IsInside d 16 q) (sym ec) (quiet q l e).inside

@@ -126,18 +126,36 @@ home_and b c once home both n at is h = set_like n
 pub enemies_at : (b : Placement) (c d : Color) (n : ℕ) → d ≡ other c → ((q : ℕ) → q < 64 → has n q ≡ is_of d (get b q)) → IsSetOf n (IsEnemy b c)
 enemies_at b c d n e h = enemy_set b n c (λ q l. h q l ∙ ap (λ (x : Color). is_of x (get b q)) e)
 
-module _ (b : Placement) (c : Color) (pawns : ℕ) where
-  pub twice_set : (once twice : ℕ) → IsSetOf once (λ q. (has pawns q ≡ true) × IsVacant b (forward c 8 q)) → IsSetOf twice (λ q. ((has once q ≡ true) × (rank q ≡ home_rank c)) × IsVacant b (forward c 16 q)) → IsSetOf twice (λ q. (has pawns q ≡ true) × IsVacant b (forward c 8 q) × (rank q ≡ home_rank c) × IsVacant b (forward c 16 q))
-  twice_set once twice is h = set_like _
-      (λ q l g. (let o = (is q l).0 g.0.0 in (o.0, o.1, g.0.1, g.1)))
-      (λ q l g. (((is q l).1 (g.0, g.1), g.2), g.3))
+-- goals where a man stands that may be captured
+pub enemies_among : (b : Placement) (c d : Color) (n goals both : ℕ) → d ≡ other c → ((q : ℕ) → q < 64 → has n q ≡ is_of d (get b q)) → ((q : ℕ) → has both q ≡ has n q && has goals q) → IsSetOf both (λ q. IsEnemy b c q × (has goals q ≡ true))
+enemies_among b c d n goals both e h h2 = set_of_both both n goals h2 (enemies_at b c d n e h) (itself goals)
+
+module _ (b : Placement) (c : Color) (pawns goals : ℕ) where
+  pub once_set : (once all : ℕ) → IsSetOf once (λ q. (has pawns q ≡ true) × IsVacant b (forward c 8 q)) → IsSetOf all (λ q. (has once q ≡ true) × (has goals (forward c 8 q) ≡ true)) → IsSetOf all (λ q. (has pawns q ≡ true) × IsVacant b (forward c 8 q) × (has goals (forward c 8 q) ≡ true))
+  once_set once all is h = set_like _
+      (λ q l g. (let o = (is q l).0 g.0 in (o.0, o.1, g.1)))
+      (λ q l g. ((is q l).1 (g.0, g.1), g.2))
       h
 
-  pub side_set : (k j n m off kept : ℕ) → j ≡ k → IsSetOf off (λ q. file q ≢ m) → ((q : ℕ) → has kept q ≡ has pawns q && has off q) → IsSetOf n (λ q. (has kept q ≡ true) × IsEnemy b c (forward c j q)) → IsSetOf n (λ q. (has pawns q ≡ true) × (file q ≢ m) × IsEnemy b c (forward c k q))
-  side_set k j n m off kept e out both h = set_like n
-      (λ q l g. (let o = (set_of_both kept pawns off both (itself pawns) out q l).0 g.0 in (o.0, o.1, subst (λ (i : ℕ). IsEnemy b c (forward c i q)) e g.1)))
-      (λ q l g. ((set_of_both kept pawns off both (itself pawns) out q l).1 (g.0, g.1), subst (λ (i : ℕ). IsEnemy b c (forward c i q)) (sym e) g.2))
+  pub twice_set : (once twice all : ℕ) → IsSetOf once (λ q. (has pawns q ≡ true) × IsVacant b (forward c 8 q)) → IsSetOf twice (λ q. ((has once q ≡ true) × (rank q ≡ home_rank c)) × IsVacant b (forward c 16 q)) → IsSetOf all (λ q. (has twice q ≡ true) × (has goals (forward c 16 q) ≡ true)) → IsSetOf all (λ q. (has pawns q ≡ true) × IsVacant b (forward c 8 q) × (rank q ≡ home_rank c) × IsVacant b (forward c 16 q) × (has goals (forward c 16 q) ≡ true))
+  twice_set once twice all is two h = set_like _
+      (λ q l g. (let t = (two q l).0 g.0 in let o = (is q l).0 t.0.0 in (o.0, o.1, t.0.1, t.1, g.1)))
+      (λ q l g. ((two q l).1 (((is q l).1 (g.0, g.1), g.2), g.3), g.4))
       h
+
+  pub side_set : (k j n m off kept enemies : ℕ) → j ≡ k → IsSetOf off (λ q. file q ≢ m) → ((q : ℕ) → has kept q ≡ has pawns q && has off q) → IsSetOf enemies (λ q. IsEnemy b c q × (has goals q ≡ true)) → ((q : ℕ) → q < 64 → has pawns q ≡ true → forward c k q < 64) → IsSetOf n (λ q. (has kept q ≡ true) × (has enemies (forward c j q) ≡ true)) → IsSetOf n (λ q. (has pawns q ≡ true) × (file q ≢ m) × IsEnemy b c (forward c k q) × (has goals (forward c k q) ≡ true))
+  side_set k j n m off kept enemies e out both are low h = set_like n
+      (λ q l g. (let o = (set_of_both kept pawns off both (itself pawns) out q l).0 g.0 in
+      let there = (are (forward c k q) (low q l o.0)).0 (subst (λ (i : ℕ). has enemies (forward c i q) ≡ true) e g.1) in
+      (o.0, o.1, there.0, there.1)))
+      (λ q l g. ((set_of_both kept pawns off both (itself pawns) out q l).1 (g.0, g.1), subst (λ (i : ℕ). has enemies (forward c i q) ≡ true) (sym e) ((are (forward c k q) (low q l g.0)).1 (g.2, g.3))))
+      h
+
+  pub inside_there : (k : ℕ) → k ≤ 16 → AreInside c pawns → (q : ℕ) → q < 64 → has pawns q ≡ true → forward c k q < 64
+  inside_there k le inside q l e = inside_low c q k l (nearer c q k le (inside q l e))
+
+  pub twice_inside : (once twice : ℕ) → AreInside c once → IsSetOf twice (λ q. ((has once q ≡ true) × (rank q ≡ home_rank c)) × IsVacant b (forward c 16 q)) → AreInside c twice
+  twice_inside once twice inside two q l e = inside q l ((two q l).0 e).0.0
 
   pub once_inside : (once : ℕ) → IsSetOf once (λ q. (has pawns q ≡ true) × IsVacant b (forward c 8 q)) → AreInside c pawns → AreInside c once
   once_inside once is h q l e = h q l ((is q l).0 e).0

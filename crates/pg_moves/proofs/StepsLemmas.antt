@@ -1,6 +1,6 @@
 -- The king's moves as a set.
-use Rattle.std.proofs.Common.{◌≡◌, ◌≢◌, ◌↔◌, ℕ, ◌+◌, ◌<◌, ◌≤◌, ◌⊎◌, inl, inr, IsTrue, Bool, not, ◌&&◌, ◌||◌, true, false, None, refl, sym, ap, subst, ◌∙◌, arith}
-use Rattle.std.proofs.lemmas.Bool.Decides.{eqb_tells, leb_tells}
+use Rattle.std.proofs.Common.{◌≡◌, ◌↔◌, ℕ, ◌<◌, ◌⊎◌, inl, inr, IsTrue, Bool, not, ◌&&◌, ◌||◌, cond, nat_eq, true, false, None, refl, sym, ap, subst, ◌∙◌, arith}
+use Rattle.std.proofs.lemmas.Bool.Decides.{eqb_tells}
 use Rattle.pg_board.specs.declared.man.Color.{Color}
 use Rattle.pg_board.specs.declared.man.Kind.{Kind}
 use Rattle.pg_board.specs.declared.man.Kind.TheVariants.{Pawn, Rook, King}
@@ -85,48 +85,47 @@ kept_rest set s n left keep is rest e q l =
     (λ h. (let g = out.0 h in (g.0, λ f. absurd (g.1 f))), λ h. out.1 (h.0, λ f. (let k : keep ≡ true = h.1 f in let z : true ≡ false = sym k ∙ e in cc)))
 
 -- ---- the loop over the squares
--- what is kept of the set: of the squares below at those to which a move goes, and all others
-abbrev pub IsKept : State → ℕ → ℕ → ℕ → ℕ → Type 0
-IsKept p r set at kept = (q : ℕ) → q < 64 → IsTrue (has kept q) ↔ ((has set q ≡ true) × (q < at → IsLegal p (plain_move r q)))
+-- a square was taken out of the set
+abbrev IsWithout : ℕ → ℕ → ℕ → Type 0
+IsWithout old new o = (q : ℕ) → q < 64 → has new q ≡ cond (nat_eq q o) false (has old q)
+
+-- what is kept of the set: of the squares that are not left those to which a move goes, and all others
+pub record IsKept (p : State) (r set left result : ℕ) : Type 0 where
+  pub inside : (q : ℕ) → q < 64 → has left q ≡ true → has set q ≡ true
+  pub kept : (q : ℕ) → q < 64 → IsTrue (has result q) ↔ ((has set q ≡ true) × (has left q ≡ false → IsLegal p (plain_move r q)))
 
 module _ (p : State) (r set : ℕ) where
-  pub kept_start : IsKept p r set 0 set
-  kept_start q l = (λ h. (h, λ low. absurd (omega arith)), λ h. h.0)
+  pub kept_start : IsKept p r set set set
+  kept_start = record {
+    inside = λ q l e. e;
+    kept = λ q l. (λ h. (h, λ off. absurd (cc)), λ h. h.0);
+  }
 
-  pub kept_step : (at s k kept next : ℕ) (keep : Bool) → IsKept p r set at kept → IsFirstFrom set at s → ((q : ℕ) → q < 64 → IsTrue (has next q) ↔ ((has kept q ≡ true) × (q ≡ s → keep ≡ true))) → IsTrue keep ↔ IsLegal p (plain_move r s) → k ≡ s → IsKept p r set (k + 1) next
-  kept_step at s k kept next keep was first is legal e q l = (
-    λ h. (let g = (is q l).0 h in
-        let o = (was q l).0 g.0 in (
-          o.0,
-          λ low. elim (eqb_tells q s) [
-            | inl w ↦ subst (λ (x : ℕ). IsLegal p (plain_move r x)) (sym w.1) (legal.0 (g.1 w.1))
-            | inr w ↦ elim (leb_tells at q) [
-              | inl v ↦ absurd (
-                  let ne : q ≢ s = w.1 in
-                  let off : has set q ≡ false = first.before q v.1 (omega arith) in
-                  let on : has set q ≡ true = o.0 in
-                  cc)
-              | inr v ↦ o.1 v.1
-            ]
-          ],
-        )),
-    λ h. (let up : at ≤ s = first.reached in
-        (is q l).1 ((was q l).1 (h.0, λ low. h.1 (omega arith)), λ f. legal.1 (subst (λ (x : ℕ). IsLegal p (plain_move r x)) f (h.1 (omega arith))))),
-  )
+  pub kept_step : (old new s kept next : ℕ) (keep : Bool) → IsKept p r set old kept → IsFirstFrom old 0 s → IsWithout old new s → ((q : ℕ) → q < 64 → IsTrue (has next q) ↔ ((has kept q ≡ true) × (q ≡ s → keep ≡ true))) → IsTrue keep ↔ IsLegal p (plain_move r s) → IsKept p r set new next
+  kept_step old new s kept next keep was first rest is legal = record {
+    inside = λ q l e. elim (eqb_tells q s) [
+      | inl w ↦ absurd (let z : has new q ≡ false = rest q l ∙ ap (λ (x : Bool). cond x false (has old q)) w.0 in cc)
+      | inr w ↦ was.inside q l (sym (rest q l ∙ ap (λ (x : Bool). cond x false (has old q)) w.0) ∙ e)
+    ];
+    kept = λ q l. elim (eqb_tells q s) [
+      | inl w ↦
+          (let there : has old q ≡ true = ap (has old) w.1 ∙ first.member in
+          let gone : has new q ≡ false = rest q l ∙ ap (λ (x : Bool). cond x false (has old q)) w.0 in (
+            λ h. (let g = (is q l).0 h in (((was.kept q l).0 g.0).0, λ off. subst (λ (x : ℕ). IsLegal p (plain_move r x)) (sym w.1) (legal.0 (g.1 w.1)))),
+            λ h. (is q l).1 ((was.kept q l).1 (h.0, λ off. absurd (cc)), λ f. legal.1 (subst (λ (x : ℕ). IsLegal p (plain_move r x)) f (h.1 gone))),
+          ))
+      | inr w ↦
+          (let same : has new q ≡ has old q = rest q l ∙ ap (λ (x : Bool). cond x false (has old q)) w.0 in (
+            λ h. (let o = (was.kept q l).0 ((is q l).0 h).0 in (o.0, λ off. o.1 (sym same ∙ off))),
+            λ h. (is q l).1 ((was.kept q l).1 (h.0, λ off. h.1 (same ∙ off)), λ f. absurd (w.1 f)),
+          ))
+    ];
+  }
 
-  pub kept_end : (at kept : ℕ) → IsKept p r set at kept → HasNoneFrom set at → IsSetOf kept (λ q. (has set q ≡ true) × IsLegal p (plain_move r q))
-  kept_end at kept was none q l = (
-    λ h. (let o = (was q l).0 h in (
-      o.0,
-      elim (leb_tells at q) [
-        | inl v ↦ absurd (
-            let off : has set q ≡ false = none q v.1 l in
-            let on : has set q ≡ true = o.0 in
-            cc)
-        | inr v ↦ o.1 v.1
-      ],
-    )),
-    λ h. (was q l).1 (h.0, λ _. h.1),
+  pub kept_end : (left kept : ℕ) → IsKept p r set left kept → HasNoneFrom left 0 → IsSetOf kept (λ q. (has set q ≡ true) × IsLegal p (plain_move r q))
+  kept_end left kept was none q l = (
+    λ h. (let o = (was.kept q l).0 h in (o.0, o.1 (none q (omega arith) l))),
+    λ h. (was.kept q l).1 (h.0, λ _. h.1),
   )
 
 -- of no square none is kept

@@ -3,3 +3,4 @@ pub mod Pawns
 pub mod Sources
 pub mod Parries
 pub mod Steps
+pub mod Guards

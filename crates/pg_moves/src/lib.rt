@@ -5,6 +5,7 @@ mod counting;
 mod cursor;
 mod fault;
 mod generate;
+mod guards;
 mod kings;
 mod laws;
 mod leaves;

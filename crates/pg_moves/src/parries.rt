@@ -54,7 +54,7 @@ fn step_parries(board: &Board, square: Square, by: Color, kind: Kind) -> SquareS
 
 // Each square to which a man may come so that the colour attacks the square no more: he takes the man
 // that attacks, or stands in between.
-fn all_parries(board: &Board, square: Square, by: Color) -> SquareSet
+pub(crate) fn all_parries(board: &Board, square: Square, by: Color) -> SquareSet
     requires { get board.now square ≢ None }
     ensures { AreParries board.now by square (λ x. AttacksFrom board.now by x square) result }
 {

@@ -10,8 +10,10 @@ ghost use Rattle.pg_board.specs.SquareSets.{IsSetOf};
 ghost use Rattle.pg_position.specs.Step.{IsEnemy};
 ghost use Rattle.pg_position.specs.Squares.{home_rank};
 ghost use Rattle.pg_moves.specs.inner.Pawns.{forward, IsInside, AreInside, AreWays, IsQuiet, moves_from, one_rank, two_ranks, to_west, to_east};
-ghost use Rattle.pg_moves.specs.Targets.{FreeOff, CapturesEnPassant};
+ghost use Rattle.pg_moves.specs.Targets.{CapturesEnPassant};
+ghost use Rattle.pg_moves.specs.inner.Guards.{GuardsOff, AreOff};
 
+use crate::guards::Guard;
 use pg_board::{Board, Color, Kind, Man, SquareSet};
 use pg_position::{Position, attacks_from};
 
@@ -86,13 +88,20 @@ fn going_twice(board: &Board, color: Color, once: SquareSet) -> SquareSet
     (once & home(color)) & seen_ahead(empty_squares(board), color, 2 * RANK)
 }
 
-// From where pawns of these squares capture a man that stands so far forward.
-fn capturing(board: &Board, color: Color, pawns: SquareSet, by: u8) -> SquareSet
+// From where a square of the goals lies so far forward.
+fn aiming(pawns: SquareSet, color: Color, by: u8, goals: SquareSet) -> SquareSet
     requires inside { AreInside color pawns }
     requires near { by ≤ 16 }
-    ensures { IsSetOf result (λ q. (has pawns q ≡ true) × IsEnemy board.now color (forward color by q)) }
+    ensures { IsSetOf result (λ q. (has pawns q ≡ true) × (has goals (forward color by q) ≡ true)) }
 {
-    pawns & seen_ahead(board.squares_of_color(color.other()), color, by)
+    pawns & seen_ahead(goals, color, by)
+}
+
+// The goals where a man stands whom the colour may capture.
+fn enemies_there(board: &Board, color: Color, goals: SquareSet) -> SquareSet
+    ensures { IsSetOf result (λ q. IsEnemy board.now color q × (has goals q ≡ true)) }
+{
+    board.squares_of_color(color.other()) & goals
 }
 
 // How far a capture towards the a-file goes.
@@ -117,17 +126,25 @@ fn to_east(color: Color) -> u8
     }
 }
 
-// The ways of the pawns on these squares.
-pub(crate) fn pawn_ways(board: &Board, color: Color, pawns: SquareSet) -> PawnMoves
+// The ways of the pawns on these squares to the goals.
+#[inline(always)]
+pub(crate) fn pawn_ways(
+    board: &Board,
+    color: Color,
+    pawns: SquareSet,
+    goals: SquareSet,
+) -> PawnMoves
     requires { AreInside color pawns }
-    ensures { AreWays board.now color pawns result }
+    ensures { AreWays board.now color pawns goals result }
 {
     let once = going_once(board, color, pawns);
+    let twice = going_twice(board, color, once);
+    let enemies = enemies_there(board, color, goals);
     PawnMoves {
-        once,
-        twice: going_twice(board, color, once),
-        west: capturing(board, color, pawns & off_a_file(), to_west(color)),
-        east: capturing(board, color, pawns & off_h_file(), to_east(color)),
+        once: aiming(once, color, RANK, goals),
+        twice: aiming(twice, color, 2 * RANK, goals),
+        west: aiming(pawns & off_a_file(), color, to_west(color), enemies),
+        east: aiming(pawns & off_h_file(), color, to_east(color), enemies),
     }
 }
 
@@ -156,13 +173,24 @@ pub(crate) fn en_passant_sources(position: &Position) -> SquareSet
     }
 }
 
-// Pawns of the side to move that need no trial, do not promote and do not capture en passant.
-pub(crate) fn quiet_pawns(position: &Position, board: &Board, maybe_pinned: SquareSet) -> SquareSet
+// Pawns of these, none of which may be pinned, that neither promote nor capture en passant: so they need no trial.
+#[inline(always)]
+pub(crate) fn quiet_pawns(
+    position: &Position,
+    board: &Board,
+    color: Color,
+    guard: &Guard,
+    left: SquareSet,
+) -> SquareSet
     requires same { board.now ≡ position.now.board }
-    requires free { FreeOff position.now maybe_pinned }
-    ensures { (q : ℕ) → q < 64 → has result q ≡ true → IsQuiet position.now q }
+    requires color { color ≡ position.now.side }
+    requires guards { GuardsOff position.now guard.now.pinned guard.now.goals }
+    requires off { AreOff guard.now.pinned left }
+    ensures quiet { (q : ℕ) → q < 64 → has result q ≡ true → IsQuiet position.now guard.now.goals q }
+    ensures left { (q : ℕ) → q < 64 → has result q ≡ true → has left q ≡ true }
 {
-    let side = position.side();
-    let pawns = board.squares_of(Man::new(side, Kind::Pawn));
-    pawns - maybe_pinned - en_passant_sources(position) - home(side.other())
+    // A fact for the proof: what is handed in is a position.
+    position.side();
+    let pawns = left & board.squares_of(Man::new(color, Kind::Pawn));
+    pawns - en_passant_sources(position) - home(color.other())
 }

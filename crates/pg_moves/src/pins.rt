@@ -36,7 +36,7 @@ fn alone_of(board: &Board, color: Color, side: Color) -> u64
 }
 
 // The men of the colour alone.
-fn men_of(board: &Board, color: Color) -> Board
+pub(crate) fn men_of(board: &Board, color: Color) -> Board
     ensures { (q : ℕ) → q < 64 → get result q ≡ only color (get board.now q) }
 {
     let white = alone_of(board, color, Color::White);
@@ -60,7 +60,8 @@ fn men_of(board: &Board, color: Color) -> Board
 }
 
 // Whether the other colour would attack the square with none of the colour's men on the board.
-fn attacked_alone(board: &Board, square: Square, color: Color) -> bool
+#[inline(always)]
+pub(crate) fn attacked_alone(board: &Board, square: Square, color: Color) -> bool
     ensures { IsFalse result → (r : ℕ) → IsOwn board.now color r
         → ¬ Attacks (without board.now r) (other color) square }
 {

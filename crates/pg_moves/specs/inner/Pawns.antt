@@ -8,11 +8,12 @@ use Rattle.pg_board.specs.Placement.{Placement}
 use Rattle.pg_board.specs.Squares.{file, rank}
 use Rattle.pg_board.specs.Tally.{one}
 use Rattle.pg_position.specs.declared.state.State.{State}
-use Rattle.pg_position.specs.Position.{Stands, IsVacant}
+use Rattle.pg_position.specs.Position.{IsVacant}
 use Rattle.pg_board.specs.SquareSets.{IsSetOf}
 use Rattle.pg_position.specs.Step.{IsEnemy}
 use Rattle.pg_position.specs.Squares.{home_rank}
-use Rattle.pg_moves.specs.Targets.{IsFree, IsOrdinary}
+use Rattle.pg_moves.specs.Targets.{IsOrdinary}
+use Rattle.pg_moves.specs.inner.Guards.{IsGuardedMan}
 use Rattle.pg_moves.specs.declared.pawns.PawnMoves.{PawnMoves}
 
 -- how far the index of a square grows from one rank to the next, and over two
@@ -41,10 +42,10 @@ abbrev pub to_east : Color → ℕ
 to_east White = 9
 to_east Black = 7
 
--- a pawn of the side to move that is free, neither promotes nor captures en passant, and has two ranks in front
-pub record IsQuiet (p : State) (q : ℕ) : Type 0 where
-  pub stands : Stands p.board p.side Pawn q
-  pub free : IsFree p Pawn q
+-- a pawn of the side to move that may go just to the goals for his king's sake, neither promotes nor captures en passant, and
+-- has two ranks in front
+pub record IsQuiet (p : State) (goals : ℕ) (q : ℕ) : Type 0 where
+  pub guarded : IsGuardedMan p Pawn goals q
   pub ordinary : IsOrdinary p Pawn q
   pub inside : IsInside p.side two_ranks q
 
@@ -52,12 +53,13 @@ pub record IsQuiet (p : State) (q : ℕ) : Type 0 where
 abbrev pub AreInside : Color → ℕ → Type 0
 AreInside c pawns = (q : ℕ) → q < 64 → has pawns q ≡ true → IsInside c two_ranks q
 
--- from which squares of the set a pawn goes one square forward, goes two, captures towards the a-file, captures towards the h-file
-pub record AreWays (b : Placement) (c : Color) (pawns : ℕ) (w : PawnMoves) : Type 0 where
-  pub once : IsSetOf w.once (λ q. (has pawns q ≡ true) × IsVacant b (forward c one_rank q))
-  pub twice : IsSetOf w.twice (λ q. (has pawns q ≡ true) × IsVacant b (forward c one_rank q) × (rank q ≡ home_rank c) × IsVacant b (forward c two_ranks q))
-  pub west : IsSetOf w.west (λ q. (has pawns q ≡ true) × (file q ≢ 1) × IsEnemy b c (forward c (to_west c) q))
-  pub east : IsSetOf w.east (λ q. (has pawns q ≡ true) × (file q ≢ 8) × IsEnemy b c (forward c (to_east c) q))
+-- from which squares of the set a pawn goes one square forward, goes two, captures towards the a-file, captures towards the h-file,
+-- each time to a goal
+pub record AreWays (b : Placement) (c : Color) (pawns : ℕ) (goals : ℕ) (w : PawnMoves) : Type 0 where
+  pub once : IsSetOf w.once (λ q. (has pawns q ≡ true) × IsVacant b (forward c one_rank q) × (has goals (forward c one_rank q) ≡ true))
+  pub twice : IsSetOf w.twice (λ q. (has pawns q ≡ true) × IsVacant b (forward c one_rank q) × (rank q ≡ home_rank c) × IsVacant b (forward c two_ranks q) × (has goals (forward c two_ranks q) ≡ true))
+  pub west : IsSetOf w.west (λ q. (has pawns q ≡ true) × (file q ≢ 1) × IsEnemy b c (forward c (to_west c) q) × (has goals (forward c (to_west c) q) ≡ true))
+  pub east : IsSetOf w.east (λ q. (has pawns q ≡ true) × (file q ≢ 8) × IsEnemy b c (forward c (to_east c) q) × (has goals (forward c (to_east c) q) ≡ true))
 
 -- how many of the moves go from q
 unfoldable pub moves_from : PawnMoves → ℕ → ℕ

@@ -1,9 +1,10 @@
-use Rattle.std.proofs.Common.{◌≤◌, ◌-◌}
+use Rattle.pg_board.specs.Bits.{has}
+use Rattle.pg_board.specs.Tally.{count_below}
 use Rattle.pg_moves.proofs.StepsLemmas.{IsKept}
 use Rattle.pg_moves.proofs.kings.safe_steps.Given as goal
 
 abbrev pub invariant-loop-square : goal.invariant-loop-square
-invariant-loop-square l = record { within : l.at ≤ 64; kept : IsKept l.position l.fn.from l.steps l.at l.kept }
+invariant-loop-square l = IsKept l.position l.fn.from l.fn.steps l.left l.kept
 
 abbrev pub decreases-loop-square : goal.decreases-loop-square
-decreases-loop-square l = 64 - l.at
+decreases-loop-square l = count_below (has l.left) 64

@@ -1,6 +1,9 @@
 use Rattle.pg_moves.specs.inner.Sources.{IsSource}
-use Rattle.pg_moves.proofs.LeafLemmas.{exact_adds}
+use Rattle.pg_moves.proofs.LeafLemmas.{exact_adds, free_none_off}
 use Rattle.pg_moves.proofs.leaves.count_of_square.Goals as goal
+
+pub source_to_count-source-requires-clause-free : goal.source_to_count-source-requires-clause-free
+source_to_count-source-requires-clause-free c = free_none_off c.args.position.now c.full.result c.full.ensures
 
 pub returns-then-source-clause-count : goal.returns-then-source-clause-count
 unfolding IsSource
