@@ -56,6 +56,7 @@ pub(crate) fn goes(board: &Board, man: &Man, from: Square, to: Square) -> bool
 }
 
 // Whether a king of the colour is attacked.
+#[inline(never)]
 pub(crate) fn in_check(board: &Board, color: Color) -> bool
     ensures { IsTrue result ↔ InCheck board.now color }
 {
