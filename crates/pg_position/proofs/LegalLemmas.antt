@@ -18,7 +18,7 @@ use Rattle.pg_position.specs.declared.moves.StepKind.TheVariants.{Plain, Capture
 use Rattle.pg_position.specs.declared.refusals.Illegal.{Illegal}
 use Rattle.pg_position.specs.declared.refusals.Illegal.TheVariants.{LeavesCheck}
 use Rattle.pg_position.specs.Geometry.{apart, IsForward, InPattern}
-use Rattle.pg_position.specs.Position.{parts, Stands, IsVacant, IsPassed, InCheck, IsPosition}
+use Rattle.pg_position.specs.Position.{parts, Stands, IsVacant, IsPassed, InCheck, holds, IsPosition}
 use Rattle.pg_position.specs.Step.{Goes, IsDoubleAdvance, IsPromotion, IsCastling, IsWay, relocated, passed_after, rights_after, after, IsOnBoard, Step, Legal, IsLegal, IsCause}
 use Rattle.pg_position.specs.Squares.{king_home, ahead, HasAhead, home_rank, king_target}
 use Rattle.pg_position.proofs.StepLemmas.{not_both, same_kind, one_way, one_step, one_target, promoted_not, two_files, cause_refutes}
@@ -174,13 +174,13 @@ played_tells p m (Ok q) b e ok err = (λ _. (q, (ok q).0 refl), λ _. e)
 played_tells p m (Err f) b e ok err = (λ t. (let same : true ≡ false = sym t ∙ e in cc), λ (q, legal). absurd (err.1 q legal))
 
 -- ---- moves that do no more than take a man to a square
--- with no promotion, no home touched and another square than the passed one, the man goes and the rights stay
-pub common_after : (p : State) (k : Kind) (m : Move) (w : StepKind) → m.promotion ≡ None → p.rights ≡ rights_after p.rights m → m.from ≢ king_home p.side → p.passed ≢ Some m.to → IsWay p k m w → parts (relocated p.board m.from m.to) (other p.side) p.rights (passed_after p m w) ≡ after p m w
+-- with no promotion, all rights kept, no king at home who may castle and another square than the passed one, the man goes
+pub common_after : (p : State) (k : Kind) (m : Move) (w : StepKind) → m.promotion ≡ None → p.rights ≡ rights_after p.rights m → ((v : Wing) → holds p.rights p.side v ≡ true → m.from ≢ king_home p.side) → p.passed ≢ Some m.to → IsWay p k m w → parts (relocated p.board m.from m.to) (other p.side) p.rights (passed_after p m w) ≡ after p m w
 common_after p k m Plain n r h e way = ap (λ (x : Rights). parts (relocated p.board m.from m.to) (other p.side) x None) r
 common_after p k m Capture n r h e way = ap (λ (x : Rights). parts (relocated p.board m.from m.to) (other p.side) x None) r
 common_after p k m DoubleAdvance n r h e way = ap (λ (x : Rights). parts (relocated p.board m.from m.to) (other p.side) x (Some (ahead p.side 1 m.from))) r
 common_after p k m EnPassant n r h e way = absurd (e way.passed)
-common_after p k m (Castling v) n r h e way = absurd (h way.home)
+common_after p k m (Castling v) n r h e way = absurd (h v way.right way.home)
 common_after p k m (Promotion x) n r h e way = promoted_not p m x way.promoted n
 
 -- a pawn goes by two ranks from its home alone
@@ -221,7 +221,7 @@ passed_on_board p m (q, ((k, w, on, there, way, e), safe)) pawn t =
     let path : IsWay p Pawn m w = subst (λ (j : Kind). IsWay p j m w) (same_kind there pawn) way in
     two_ahead p.side m.from (two_double p m w t path).1.home
 
-pub common_legal : (p : State) (m : Move) (o : Option ℕ) (r : State) → IsPosition p → IsLegal p m → m.promotion ≡ None → p.rights ≡ rights_after p.rights m → m.from ≢ king_home p.side → p.passed ≢ Some m.to → ((k : Kind) (w : StepKind) → Stands p.board p.side k m.from → IsWay p k m w → o ≡ passed_after p m w) → r ≡ parts (relocated p.board m.from m.to) (other p.side) p.rights o → Legal p m r × IsPosition r
+pub common_legal : (p : State) (m : Move) (o : Option ℕ) (r : State) → IsPosition p → IsLegal p m → m.promotion ≡ None → p.rights ≡ rights_after p.rights m → ((v : Wing) → holds p.rights p.side v ≡ true → m.from ≢ king_home p.side) → p.passed ≢ Some m.to → ((k : Kind) (w : StepKind) → Stands p.board p.side k m.from → IsWay p k m w → o ≡ passed_after p m w) → r ≡ parts (relocated p.board m.from m.to) (other p.side) p.rights o → Legal p m r × IsPosition r
 unfolding Step
 common_legal p m o r pos (q, ((k, w, on, there, way, e), safe)) n a h f passed is =
     let made : r ≡ after p m w = is ∙ ap (parts (relocated p.board m.from m.to) (other p.side) p.rights) (passed k w there way) ∙ common_after p k m w n a h f way in

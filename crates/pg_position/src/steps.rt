@@ -1,7 +1,7 @@
 //! The state that a step leaves.
-ghost use Rattle.std.specs.Prelude.{◌≡◌, ◌≢◌, ℕ, ◌+◌, ◌-◌, ◌<◌, IsTrue, Some, None};
+ghost use Rattle.std.specs.Prelude.{◌≡◌, ◌≢◌, ℕ, ◌+◌, ◌-◌, ◌<◌, IsTrue, Some, None, true, false};
 ghost use Rattle.pg_board.specs.Men.{other};
-ghost use Rattle.pg_position.specs.Position.{parts, IsPosition};
+ghost use Rattle.pg_position.specs.Position.{parts, holds, IsPosition};
 ghost use Rattle.pg_position.specs.Squares.{king_home};
 ghost use Rattle.pg_position.specs.Step.{IsWay, relocated, board_after, passed_after, touches, keeps, rights_after, after};
 
@@ -35,6 +35,15 @@ impl Rights {
     {
         self.holds(color, wing)
             && !(m.touches(king_home(color)) || m.touches(rook_home(color, wing)))
+    }
+
+    // Whether none is held.
+    #[inline(always)]
+    fn is_none(&self) -> bool
+        ensures none { IsTrue result → (c : Color) (w : Wing) → holds self.now c w ≡ false }
+        ensures kept { IsTrue result → (m : Move) → self.now ≡ rights_after self.now m }
+    {
+        !self.white_king && !self.white_queen && !self.black_king && !self.black_queen
     }
 
     // The rights that a move leaves: all, where it touches no home of a king or a rook.
@@ -92,16 +101,19 @@ impl State {
         board
     }
 
-    // Whether the move does no more than take a man to a square: it promotes none, touches no home of a king or a rook,
-    // and does not go to the passed square. Most do no more, and what they leave is made by fewer steps.
+    // Whether the move does no more than take a man to a square: it promotes none, touches no home of a king or a rook
+    // while a right is held, and does not go to the passed square. Most do no more, and what they leave is made by fewer steps.
     #[inline(always)]
     pub(crate) fn is_common(&self, m: &Move) -> bool
         ensures unpromoted { IsTrue result → m.now.promotion ≡ None }
         ensures rights { IsTrue result → self.now.rights ≡ rights_after self.now.rights m.now }
-        ensures home { IsTrue result → m.now.from ≢ king_home self.now.side }
+        ensures home { IsTrue result → (w : Wing) → holds self.now.rights self.now.side w ≡ true →
+            m.now.from ≢ king_home self.now.side }
         ensures passed { IsTrue result → self.now.passed ≢ Some m.now.to }
     {
-        m.promotion.is_none() && m.touches_no_home() && self.passed != Some(m.to)
+        m.promotion.is_none()
+            && (m.touches_no_home() || self.rights.is_none())
+            && self.passed != Some(m.to)
     }
 
     // The state in which the man has gone, with this passed square and the same rights.
@@ -125,7 +137,7 @@ impl State {
     pub(crate) fn after_common(&self, kind: Kind, m: &Move, way: StepKind) -> State
         requires unpromoted { m.now.promotion ≡ None }
         requires rights { self.now.rights ≡ rights_after self.now.rights m.now }
-        requires home { m.now.from ≢ king_home self.now.side }
+        requires home { (w : Wing) → holds self.now.rights self.now.side w ≡ true → m.now.from ≢ king_home self.now.side }
         requires passed { self.now.passed ≢ Some m.now.to }
         requires way { IsWay self.now kind m.now way }
         ensures { result ≡ after self.now m.now way }
