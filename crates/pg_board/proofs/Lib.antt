@@ -1,2 +1,3 @@
 pub mod BoardLemmas
 pub mod SetLemmas
+mod MovedSets

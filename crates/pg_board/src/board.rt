@@ -9,9 +9,7 @@ ghost use Rattle.pg_board.specs.Bits.{has};
 ghost use Rattle.pg_board.specs.inner.Sets.{man_in, IsSound};
 
 use crate::man::{Color, Kind, Man};
-use crate::sets::{
-    Sets, color_set, differing, man_at, man_set, replaced, replaced_from, same_sets,
-};
+use crate::sets::{Sets, color_set, differing, man_at, man_set, relocated, replaced, same_sets};
 use crate::square::Square;
 use crate::square_set::SquareSet;
 use std::marker::Model;
@@ -108,9 +106,7 @@ impl Board {
     pub fn relocate(&mut self, from: Square, to: Square)
         ensures { self.new ≡ write (without self.old from) to (get self.old from) }
     {
-        let from = from.index();
-        let emptied = replaced(&self.sets, from, None);
-        self.sets = replaced_from(&emptied, to.index(), &self.sets, from);
+        self.sets = relocated(&self.sets, from.index(), to.index());
     }
 
     /// How many of this man stand on the board, 0 to 64.

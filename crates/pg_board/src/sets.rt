@@ -1,5 +1,5 @@
 //! The eight sets, a bit for each square.
-ghost use Rattle.std.specs.Prelude.{◌≡◌, ℕ, ◌+◌, ◌<◌, ◌^◌, ◌↔◌, cond, IsTrue, bit_and, eqb};
+ghost use Rattle.std.specs.Prelude.{◌≡◌, ℕ, ◌+◌, ◌<◌, ◌^◌, ◌↔◌, cond, IsTrue, bit_and, eqb, None, true, false};
 ghost use Rattle.pg_board.specs.Men.{is_kind, is_of};
 ghost use Rattle.pg_board.specs.Bits.{has};
 ghost use Rattle.pg_board.specs.inner.Sets.{kind_in, man_in, set_of, set_of_kind, set_of_color, unlike, Replaces, AreWords, IsSound};
@@ -106,24 +106,50 @@ pub fn replaced(sets: &Sets, i: u8, man: Option<Man>) -> Sets
     }
 }
 
-/// The sets after the square got what stands on the square `from` of other sets.
+// The set in which the square `to` is as `from` was, and `from` is no more; `others` are the squares but these two.
+// There is no branch and no choice in it, so that all eight sets are made at once.
 #[inline(always)]
-pub fn replaced_from(sets: &Sets, i: u8, other: &Sets, from: u8) -> Sets
-    requires square { i < 64 }
+fn shifted(set: u64, from: u8, to: u8, others: u64) -> u64
     requires from { from < 64 }
-    requires sound { IsSound other.now }
-    ensures square { Replaces sets.now i (man_in other.now from) result }
-    ensures words { AreWords result }
+    requires to { to < 64 }
+    requires others { (q : ℕ) → q < 64 → has others q ≡ cond (eqb q to) false (cond (eqb q from) false true) }
+    ensures bits { (q : ℕ) → q < 64 →
+        has result q ≡ cond (eqb q to) (has set from) (cond (eqb q from) false (has set q)) }
+    ensures fits { result < 2 ^ 64 }
 {
+    (set & others) | (((set >> from) & 1) << to)
+}
+
+// The squares but these two.
+#[inline(always)]
+fn all_but(from: u8, to: u8) -> u64
+    requires from { from < 64 }
+    requires to { to < 64 }
+    ensures { (q : ℕ) → q < 64 → has result q ≡ cond (eqb q to) false (cond (eqb q from) false true) }
+{
+    adjusted(adjusted(u64::MAX, from, false), to, false)
+}
+
+/// The sets after what stands on the square `from` went to `to`, in the place of what stood there.
+#[inline(always)]
+pub fn relocated(sets: &Sets, from: u8, to: u8) -> Sets
+    requires from { from < 64 }
+    requires to { to < 64 }
+    requires sound { IsSound sets.now }
+    ensures sound { IsSound result }
+    ensures men { (q : ℕ) → q < 64 →
+        man_in result q ≡ cond (eqb q to) (man_in sets.now from) (cond (eqb q from) None (man_in sets.now q)) }
+{
+    let others = all_but(from, to);
     Sets {
-        pawns: adjusted(sets.pawns, i, contains(other.pawns, from)),
-        knights: adjusted(sets.knights, i, contains(other.knights, from)),
-        bishops: adjusted(sets.bishops, i, contains(other.bishops, from)),
-        rooks: adjusted(sets.rooks, i, contains(other.rooks, from)),
-        queens: adjusted(sets.queens, i, contains(other.queens, from)),
-        kings: adjusted(sets.kings, i, contains(other.kings, from)),
-        white: adjusted(sets.white, i, contains(other.white, from)),
-        black: adjusted(sets.black, i, contains(other.black, from)),
+        pawns: shifted(sets.pawns, from, to, others),
+        knights: shifted(sets.knights, from, to, others),
+        bishops: shifted(sets.bishops, from, to, others),
+        rooks: shifted(sets.rooks, from, to, others),
+        queens: shifted(sets.queens, from, to, others),
+        kings: shifted(sets.kings, from, to, others),
+        white: shifted(sets.white, from, to, others),
+        black: shifted(sets.black, from, to, others),
     }
 }
 

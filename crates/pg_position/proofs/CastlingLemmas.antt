@@ -154,6 +154,21 @@ rights_kept r m n a b homes t e is f g h off i =
     rook Black KingSide = home 63 (omega arith) (Black, inr (KingSide, refl))
     rook Black QueenSide = home 56 (omega arith) (Black, inr (QueenSide, refl))
 
+-- and its man is no king at home
+pub king_stays : (m : Move) (n a b homes : ℕ) (t : Bool) → ((q : ℕ) → has n q ≡ has a q || has b q) → IsSetOf homes IsCastlingHome → IsSetOf a (λ q. q ≡ m.from) → IsSetOf b (λ q. q ≡ m.to) → (IsTrue t ↔ Meet n homes) → t ≡ false → (c : Color) → m.from ≢ king_home c
+king_stays m n a b homes t e is f g h off c k =
+    let low : king_home c < 64 = king_home_low c in
+    let met : Meet n homes = (king_home c, low, (set_of_union n a b e f g (king_home c) low).1 (inl (sym k)), (is (king_home c) low).1 (c, inl refl)) in
+    let on : t ≡ true = h.1 met in cc
+  where
+    king_home_low : (c : Color) → king_home c < 64
+    king_home_low White = omega arith
+    king_home_low Black = omega arith
+
+pub not_met : (t : Bool) → not t ≡ true → t ≡ false
+not_met true e = cc
+not_met false e = refl
+
 -- ---- where kings and rooks begin
 abbrev home_test : ℕ → Bool
 home_test q = (nat_eq q 4 || (nat_eq q 7 || nat_eq q 0)) || (nat_eq q 60 || (nat_eq q 63 || nat_eq q 56))

@@ -1,13 +1,14 @@
 -- The case of a legal move, told apart by few tests.
-use Rattle.std.proofs.Common.{refl, Ok, Err, Result, IfOk, IfErr, is_ok, ◌≡◌, ◌≢◌, ℕ, ◌+◌, ◌⊎◌, ◌↔◌, inl, inr, Bool, true, false, IsTrue, Some, None, sym, ap, subst, arith, ◌∙◌}
+use Rattle.std.proofs.Common.{refl, Ok, Err, Result, IfOk, IfErr, is_ok, ◌≡◌, ◌≢◌, ℕ, ◌+◌, ◌⊎◌, ◌↔◌, inl, inr, Bool, true, false, IsTrue, Some, None, sym, ap, subst, arith, ◌∙◌, Option}
 use Rattle.pg_board.specs.declared.man.Color.{Color}
 use Rattle.pg_board.specs.declared.man.Color.TheVariants.{White, Black}
 use Rattle.pg_board.specs.declared.man.Kind.{Kind}
 use Rattle.pg_board.specs.declared.man.Kind.TheVariants.{Pawn, King}
 use Rattle.pg_board.specs.declared.man.Man.{Man}
 use Rattle.pg_board.specs.Squares.{file, rank}
-use Rattle.pg_board.specs.Men.{man}
+use Rattle.pg_board.specs.Men.{man, other}
 use Rattle.pg_board.specs.Placement.{get}
+use Rattle.pg_position.specs.declared.rights.Rights.{Rights}
 use Rattle.pg_position.specs.declared.rights.Wing.{Wing}
 use Rattle.pg_position.specs.declared.rights.Wing.TheVariants.{KingSide, QueenSide}
 use Rattle.pg_position.specs.declared.state.State.{State}
@@ -15,11 +16,12 @@ use Rattle.pg_position.specs.declared.moves.Move.{Move}
 use Rattle.pg_position.specs.declared.moves.StepKind.{StepKind}
 use Rattle.pg_position.specs.declared.moves.StepKind.TheVariants.{Plain, Capture, DoubleAdvance, EnPassant, Promotion, Castling}
 use Rattle.pg_position.specs.declared.refusals.Illegal.{Illegal}
+use Rattle.pg_position.specs.declared.refusals.Illegal.TheVariants.{LeavesCheck}
 use Rattle.pg_position.specs.Geometry.{apart, IsForward, InPattern}
-use Rattle.pg_position.specs.Position.{IsVacant, IsPassed, IsPosition}
-use Rattle.pg_position.specs.Step.{Goes, IsPromotion, IsCastling, IsWay, after, Step, Legal, IsLegal, IsCause}
-use Rattle.pg_position.specs.Squares.{king_home, ahead, home_rank, king_target}
-use Rattle.pg_position.proofs.StepLemmas.{not_both, one_way, one_target, promoted_not, two_files}
+use Rattle.pg_position.specs.Position.{parts, Stands, IsVacant, IsPassed, InCheck, holds, IsPosition}
+use Rattle.pg_position.specs.Step.{Goes, IsDoubleAdvance, IsPromotion, IsCastling, IsWay, relocated, passed_after, rights_after, after, IsOnBoard, Step, Legal, IsLegal, IsCause}
+use Rattle.pg_position.specs.Squares.{king_home, ahead, HasAhead, home_rank, king_target}
+use Rattle.pg_position.proofs.StepLemmas.{not_both, same_kind, one_way, one_step, one_target, promoted_not, two_files, cause_refutes}
 use Rattle.pg_position.proofs.ValidLemmas.{step_valid}
 
 pub not_so : {A : Type 0} (b : Bool) → IsTrue b ↔ A → b ≡ false → ¬ A
@@ -170,3 +172,77 @@ after_is p m x v r pos (q, ((k, w, on, stands, way, e), safe)) there h is =
 pub played_tells : (p : State) (m : Move) (x : Result State Illegal) (b : Bool) → b ≡ is_ok x → IfOk x (λ q. (r : State) → (q ≡ r) ↔ Legal p m r) → IfErr x (λ e. IsCause p m e × ((r : State) → ¬ Legal p m r)) → IsTrue b ↔ IsLegal p m
 played_tells p m (Ok q) b e ok err = (λ _. (q, (ok q).0 refl), λ _. e)
 played_tells p m (Err f) b e ok err = (λ t. (let same : true ≡ false = sym t ∙ e in cc), λ (q, legal). absurd (err.1 q legal))
+
+-- ---- moves that do no more than take a man to a square
+-- with no promotion, all rights kept, no king at home who may castle and another square than the passed one, the man goes
+pub common_after : (p : State) (k : Kind) (m : Move) (w : StepKind) → m.promotion ≡ None → p.rights ≡ rights_after p.rights m → ((v : Wing) → holds p.rights p.side v ≡ true → m.from ≢ king_home p.side) → p.passed ≢ Some m.to → IsWay p k m w → parts (relocated p.board m.from m.to) (other p.side) p.rights (passed_after p m w) ≡ after p m w
+common_after p k m Plain n r h e way = ap (λ (x : Rights). parts (relocated p.board m.from m.to) (other p.side) x None) r
+common_after p k m Capture n r h e way = ap (λ (x : Rights). parts (relocated p.board m.from m.to) (other p.side) x None) r
+common_after p k m DoubleAdvance n r h e way = ap (λ (x : Rights). parts (relocated p.board m.from m.to) (other p.side) x (Some (ahead p.side 1 m.from))) r
+common_after p k m EnPassant n r h e way = absurd (e way.passed)
+common_after p k m (Castling v) n r h e way = absurd (h v way.right way.home)
+common_after p k m (Promotion x) n r h e way = promoted_not p m x way.promoted n
+
+-- a pawn goes by two ranks from its home alone
+pub two_double : (p : State) (m : Move) (w : StepKind) → TwoRanks m → IsWay p Pawn m w → (w ≡ DoubleAdvance) × IsDoubleAdvance p Pawn m
+unfolding Goes InPattern
+two_double p m Plain t h = absurd (one_rank p.side m.from m.to h.goes.1 t)
+two_double p m Capture t h = absurd (one_rank p.side m.from m.to h.reaches.0.1 t)
+two_double p m DoubleAdvance t h = (refl, h)
+two_double p m EnPassant t h = absurd (one_rank p.side m.from m.to h.reaches.1 t)
+two_double p m (Castling v) t h = pawn_king h.king
+two_double p m (Promotion x) t h = elim h.moves [
+  | inl a ↦ absurd (one_rank p.side m.from m.to a.1.1 t)
+  | inr a ↦ absurd (one_rank p.side m.from m.to a.1.0.1 t)
+]
+
+pub passed_two : (p : State) (m : Move) (k : Kind) (w : StepKind) → Stands p.board p.side Pawn m.from → TwoRanks m → Stands p.board p.side k m.from → IsWay p k m w → Some (ahead p.side 1 m.from) ≡ passed_after p m w
+passed_two p m k w pawn t there way =
+    let path : IsWay p Pawn m w = subst (λ (j : Kind). IsWay p j m w) (same_kind there pawn) way in
+    ap (passed_after p m) (sym (two_double p m w t path).0)
+
+-- no other move passes a square
+pub passed_none : (p : State) (m : Move) (k : Kind) (w : StepKind) → (Stands p.board p.side Pawn m.from → TwoRanks m → ⊥) → Stands p.board p.side k m.from → IsWay p k m w → None ≡ passed_after p m w
+passed_none p m k Plain other_way there way = refl
+passed_none p m k Capture other_way there way = refl
+passed_none p m k EnPassant other_way there way = refl
+passed_none p m k (Castling v) other_way there way = refl
+passed_none p m k (Promotion x) other_way there way = refl
+passed_none p m k DoubleAdvance other_way there way = absurd (other_way (subst (λ (j : Kind). Stands p.board p.side j m.from) way.pawn there) (two_ranks p.side m.from m.to way.two way.home))
+
+-- the square that it passes is on the board
+two_ahead : (c : Color) (r : ℕ) → rank r ≡ home_rank c → HasAhead c 1 r
+two_ahead White r h = omega arith
+two_ahead Black r h = omega arith
+
+pub passed_on_board : (p : State) (m : Move) → IsLegal p m → Stands p.board p.side Pawn m.from → TwoRanks m → HasAhead p.side 1 m.from
+unfolding Step
+passed_on_board p m (q, ((k, w, on, there, way, e), safe)) pawn t =
+    let path : IsWay p Pawn m w = subst (λ (j : Kind). IsWay p j m w) (same_kind there pawn) way in
+    two_ahead p.side m.from (two_double p m w t path).1.home
+
+pub common_legal : (p : State) (m : Move) (o : Option ℕ) (r : State) → IsPosition p → IsLegal p m → m.promotion ≡ None → p.rights ≡ rights_after p.rights m → ((v : Wing) → holds p.rights p.side v ≡ true → m.from ≢ king_home p.side) → p.passed ≢ Some m.to → ((k : Kind) (w : StepKind) → Stands p.board p.side k m.from → IsWay p k m w → o ≡ passed_after p m w) → r ≡ parts (relocated p.board m.from m.to) (other p.side) p.rights o → Legal p m r × IsPosition r
+unfolding Step
+common_legal p m o r pos (q, ((k, w, on, there, way, e), safe)) n a h f passed is =
+    let made : r ≡ after p m w = is ∙ ap (parts (relocated p.board m.from m.to) (other p.side) p.rights) (passed k w there way) ∙ common_after p k m w n a h f way in
+    let same : q ≡ r = e ∙ sym made in
+    subst (λ (s : State). Legal p m s × IsPosition s) same (((k, w, on, there, way, e), safe), step_valid p m q pos (k, w, on, there, way, e) safe)
+
+-- ---- a step that is judged by the king's safety
+module _ (p : State) (m : Move) (k : Kind) (w : StepKind) (next : State) (pos : IsPosition p) (on : IsOnBoard m) (there : Stands p.board p.side k m.from) (way : IsWay p k m w) (is : next ≡ after p m w) where
+  step : Step p m next
+  unfolding Step
+  step = (k, w, on, there, way, is)
+
+  pub judged_safe : (b : Bool) → IsTrue b ↔ InCheck next.board p.side → b ≡ false → IsPosition next × ((r : State) → (next ≡ r) ↔ Legal p m r)
+  judged_safe b h e =
+      let safe : InCheck next.board p.side → ⊥ = λ c. (let t : b ≡ true = h.1 c in cc) in
+      let legal : Legal p m next = (step, safe) in (
+        step_valid p m next pos step safe,
+        λ r. ((λ f. subst (λ (x : State). Legal p m x) f legal), (λ l. one_step p m next r pos.passing step l.0)),
+      )
+
+  pub judged_unsafe : (b : Bool) → IsTrue b ↔ InCheck next.board p.side → b ≡ true → IsCause p m LeavesCheck × ((r : State) → ¬ Legal p m r)
+  judged_unsafe b h e =
+      let cause : IsCause p m LeavesCheck = (next, step, h.0 e) in
+      (cause, λ r l. cause_refutes p m LeavesCheck r pos.passing cause l)

@@ -10,3 +10,4 @@ pub mod FutureLemmas
 pub mod ArraySets
 pub mod LegalLemmas
 pub mod CastlingLemmas
+mod SiftedKings

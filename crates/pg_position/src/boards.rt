@@ -56,16 +56,15 @@ pub(crate) fn goes(board: &Board, man: &Man, from: Square, to: Square) -> bool
 }
 
 // Whether a king of the colour is attacked.
+#[inline(never)]
 pub(crate) fn in_check(board: &Board, color: Color) -> bool
     ensures { IsTrue result ↔ InCheck board.now color }
 {
-    let kings = board.squares_of(Man::new(color, Kind::King));
-    let mut from = 0;
-    while let Some(king) = kings.first_from(from) {
+    let mut kings = board.squares_of(Man::new(color, Kind::King));
+    while let Some(king) = kings.pop_first() {
         if attacked(board, king, color.other()) {
             return true;
         }
-        from = king.index() + 1;
     }
     false
 }

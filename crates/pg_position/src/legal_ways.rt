@@ -25,7 +25,7 @@ fn is_same_file(m: &Move) -> bool
     m.from.file() == m.to.file()
 }
 
-fn is_two_ranks(m: &Move) -> bool
+pub(crate) fn is_two_ranks(m: &Move) -> bool
     ensures { IsTrue result ↔ ((rank m.now.from + 2 ≡ rank m.now.to) ⊎ (rank m.now.to + 2 ≡ rank m.now.from)) }
 {
     m.from.rank() + 2 == m.to.rank() || m.to.rank() + 2 == m.from.rank()

@@ -2,15 +2,17 @@
 ghost use Rattle.std.specs.Prelude.{◌≡◌, ℕ, ◌↔◌, MatchResult, IfOk, IfErr};
 ghost use Rattle.pg_position.specs.declared.state.State.{State};
 ghost use Rattle.pg_position.specs.Position.{Stands, IsPosition};
-ghost use Rattle.pg_position.specs.Step.{Step, Legal, IsLegal, IsCause};
+ghost use Rattle.pg_position.specs.Step.{IsWay, passed_after, Step, Legal, IsLegal, IsCause};
 
-use crate::boards::in_check;
+use crate::boards::{in_check, stands};
 use crate::cases::way;
-use crate::legal_ways::legal_way;
-use crate::moves::Move;
+use crate::legal_ways::{is_two_ranks, legal_way};
+use crate::moves::{Move, StepKind};
+use crate::position::Position;
 use crate::refusals::Illegal;
+use crate::squares::ahead;
 use crate::state::State;
-use pg_board::Kind;
+use pg_board::{Kind, Square};
 
 impl State {
     // The kind of the man that moves.
@@ -31,24 +33,8 @@ impl State {
         }
     }
 
-    // The state after a move by the rules, the king's safety apart.
-    fn step(&self, m: &Move) -> Result<State, Illegal>
-        requires { IsPosition self.now }
-        ensures ok { IfOk result (λ q. Step self.now m.now q) }
-        ensures err { IfErr result (λ e. IsCause self.now m.now e) }
-    {
-        // Facts for the proof: both squares are on the board.
-        m.from.index();
-        m.to.index();
-        let kind = self.mover(m)?;
-        match way(self, kind, m) {
-            Some(way) => Ok(self.after(kind, m, way)),
-            None => Err(Illegal::NotAMove),
-        }
-    }
-
-    // The state after a legal move.
-    pub(crate) fn play(&self, m: &Move) -> Result<State, Illegal>
+    // The position after a legal move.
+    pub(crate) fn play(&self, m: &Move) -> Result<Position, Illegal>
         requires { IsPosition self.now }
         ensures ok { IfOk result (λ q. IsPosition q × ((r : State) → (q ≡ r) ↔ Legal self.now m.now r)) }
         ensures err { IfErr result (λ e. IsCause self.now m.now e × ((r : State) → ¬ Legal self.now m.now r)) }
@@ -56,20 +42,77 @@ impl State {
         // Facts for the proof: both squares are on the board.
         m.from.index();
         m.to.index();
-        match self.step(m) {
-            Err(e) => Err(e),
-            Ok(next) => {
-                if in_check(&next.board, self.side) {
-                    Err(Illegal::LeavesCheck)
-                } else {
-                    Ok(next)
-                }
-            }
+        let kind = match self.mover(m) {
+            Ok(kind) => kind,
+            Err(e) => return Err(e),
+        };
+        let way = match way(self, kind, m) {
+            Some(way) => way,
+            None => return Err(Illegal::NotAMove),
+        };
+        if !self.is_common(m) {
+            return self.play_rare(kind, m, way);
+        }
+        let next = self.after_common(kind, m, way);
+        if in_check(&next.board, self.side) {
+            return Err(Illegal::LeavesCheck);
+        }
+        Ok(Position::of_state(next))
+    }
+
+    // The position after a move that is known to be a step, of those that do more than take a man to a square.
+    #[inline(never)]
+    fn play_rare(&self, kind: Kind, m: &Move, way: StepKind) -> Result<Position, Illegal>
+        requires position { IsPosition self.now }
+        requires mover { Stands self.now.board self.now.side kind m.now.from }
+        requires way { IsWay self.now kind m.now way }
+        ensures ok { IfOk result (λ q. IsPosition q × ((r : State) → (q ≡ r) ↔ Legal self.now m.now r)) }
+        ensures err { IfErr result (λ e. IsCause self.now m.now e × ((r : State) → ¬ Legal self.now m.now r)) }
+    {
+        // Facts for the proof: both squares are on the board.
+        m.from.index();
+        m.to.index();
+        let left = self.after(kind, m, way);
+        if in_check(&left.board, self.side) {
+            return Err(Illegal::LeavesCheck);
+        }
+        Ok(Position::of_state(left))
+    }
+
+    // The square that a legal move passes: a pawn's by two ranks.
+    #[inline(always)]
+    fn passed_by(&self, m: &Move) -> Option<Square>
+        requires { IsLegal self.now m.now }
+        ensures { (k : Kind) (w : StepKind) → Stands self.now.board self.now.side k m.now.from → IsWay self.now k m.now w →
+            result ≡ passed_after self.now m.now w }
+    {
+        let pawn = stands(&self.board, self.side, Kind::Pawn, m.from);
+        if pawn && is_two_ranks(m) {
+            Some(ahead(self.side, 1, m.from))
+        } else {
+            None
         }
     }
 
     // The state after a move that is known to be legal.
     pub(crate) fn after_legal(&self, m: &Move) -> State
+        requires position { IsPosition self.now }
+        requires legal { IsLegal self.now m.now }
+        ensures legal { Legal self.now m.now result }
+        ensures position { IsPosition result }
+    {
+        let common = self.is_common(m);
+        let passed = self.passed_by(m);
+        if common {
+            self.carried(m, passed)
+        } else {
+            self.after_rare(m)
+        }
+    }
+
+    // The same for any legal move.
+    #[inline(never)]
+    fn after_rare(&self, m: &Move) -> State
         requires position { IsPosition self.now }
         requires legal { IsLegal self.now m.now }
         ensures legal { Legal self.now m.now result }

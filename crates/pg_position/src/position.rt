@@ -177,10 +177,7 @@ impl Position {
         ensures err { IfErr result (λ e. IsCause self.now m e × ((r : State) → ¬ Legal self.now m r)) }
         ensures position { IfOk result (λ q. IsPosition q) }
     {
-        match self.state.play(&m) {
-            Ok(state) => Ok(Position { state }),
-            Err(e) => Err(e),
-        }
+        self.state.play(&m)
     }
 
     /// Whether the move is legal: whether `play` gives the position that it leads to.

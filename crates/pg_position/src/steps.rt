@@ -1,7 +1,9 @@
 //! The state that a step leaves.
-ghost use Rattle.std.specs.Prelude.{◌≡◌, ℕ, ◌+◌, ◌-◌, ◌<◌};
-ghost use Rattle.pg_position.specs.Position.{IsPosition};
-ghost use Rattle.pg_position.specs.Step.{IsWay, board_after, passed_after, touches, keeps, rights_after, after};
+ghost use Rattle.std.specs.Prelude.{◌≡◌, ◌≢◌, ℕ, ◌+◌, ◌-◌, ◌<◌, IsTrue, Some, None, true, false};
+ghost use Rattle.pg_board.specs.Men.{other};
+ghost use Rattle.pg_position.specs.Position.{parts, holds, IsPosition};
+ghost use Rattle.pg_position.specs.Squares.{king_home};
+ghost use Rattle.pg_position.specs.Step.{IsWay, relocated, board_after, passed_after, touches, keeps, rights_after, after};
 
 use crate::moves::{Move, StepKind};
 use crate::rights::{Rights, Wing};
@@ -15,6 +17,16 @@ impl Move {
     {
         self.from == square || self.to == square
     }
+
+    // Whether it touches no home of a king or a rook: it then takes no right away.
+    #[inline(always)]
+    fn touches_no_home(&self) -> bool
+        ensures rights { IsTrue result → (r : Rights) → r ≡ rights_after r self.now }
+        ensures kings { IsTrue result → (c : Color) → self.now.from ≢ king_home c }
+    {
+        let touched = SquareSet::single(self.from) | SquareSet::single(self.to);
+        !touched.meets(castling_homes())
+    }
 }
 
 impl Rights {
@@ -25,12 +37,20 @@ impl Rights {
             && !(m.touches(king_home(color)) || m.touches(rook_home(color, wing)))
     }
 
+    // Whether none is held.
+    #[inline(always)]
+    fn is_none(&self) -> bool
+        ensures none { IsTrue result → (c : Color) (w : Wing) → holds self.now c w ≡ false }
+        ensures kept { IsTrue result → (m : Move) → self.now ≡ rights_after self.now m }
+    {
+        !self.white_king && !self.white_queen && !self.black_king && !self.black_queen
+    }
+
     // The rights that a move leaves: all, where it touches no home of a king or a rook.
     fn after(&self, m: &Move) -> Rights
         ensures { result ≡ rights_after self.now m.now }
     {
-        let touched = SquareSet::single(m.from) | SquareSet::single(m.to);
-        if !touched.meets(castling_homes()) {
+        if m.touches_no_home() {
             return *self;
         }
         Rights {
@@ -79,6 +99,50 @@ impl State {
             }
         }
         board
+    }
+
+    // Whether the move does no more than take a man to a square: it promotes none, touches no home of a king or a rook
+    // while a right is held, and does not go to the passed square. Most do no more, and what they leave is made by fewer steps.
+    #[inline(always)]
+    pub(crate) fn is_common(&self, m: &Move) -> bool
+        ensures unpromoted { IsTrue result → m.now.promotion ≡ None }
+        ensures rights { IsTrue result → self.now.rights ≡ rights_after self.now.rights m.now }
+        ensures home { IsTrue result → (w : Wing) → holds self.now.rights self.now.side w ≡ true →
+            m.now.from ≢ king_home self.now.side }
+        ensures passed { IsTrue result → self.now.passed ≢ Some m.now.to }
+    {
+        m.promotion.is_none()
+            && (m.touches_no_home() || self.rights.is_none())
+            && self.passed != Some(m.to)
+    }
+
+    // The state in which the man has gone, with this passed square and the same rights.
+    #[inline(always)]
+    pub(crate) fn carried(&self, m: &Move, passed: Option<Square>) -> State
+        ensures { result ≡ parts (relocated self.now.board m.now.from m.now.to) (other self.now.side) self.now.rights passed }
+    {
+        let mut board = self.board;
+        board.relocate(m.from, m.to);
+        State {
+            board,
+            side: self.side.other(),
+            rights: self.rights,
+            passed,
+        }
+    }
+
+    // The state that a common move leaves. Beside the test of the king's safety it is no part of the caller's code: there the
+    // board is made set by set, and not all eight at once.
+    #[inline(never)]
+    pub(crate) fn after_common(&self, kind: Kind, m: &Move, way: StepKind) -> State
+        requires unpromoted { m.now.promotion ≡ None }
+        requires rights { self.now.rights ≡ rights_after self.now.rights m.now }
+        requires home { (w : Wing) → holds self.now.rights self.now.side w ≡ true → m.now.from ≢ king_home self.now.side }
+        requires passed { self.now.passed ≢ Some m.now.to }
+        requires way { IsWay self.now kind m.now way }
+        ensures { result ≡ after self.now m.now way }
+    {
+        self.carried(m, self.passed_after(kind, m, way))
     }
 
     // The state that the move leaves.

@@ -1,13 +1,11 @@
-use Rattle.std.proofs.Common.{ℕ, ◌<◌, ◌-◌}
-use Rattle.pg_board.specs.declared.man.Kind.TheVariants.{King}
-use Rattle.pg_board.specs.Men.{other}
-use Rattle.pg_position.specs.Attack.{Attacks}
-use Rattle.pg_position.specs.Position.{Stands}
+use Rattle.pg_board.specs.Bits.{has}
+use Rattle.pg_board.specs.Tally.{count_below}
+use Rattle.pg_position.proofs.SiftedKings.{AreLeft}
 use Rattle.pg_position.proofs.boards.in_check.Given as goal
 
--- no king on the squares seen so far is attacked
+-- those that are left are kings, and no other king is attacked
 abbrev pub invariant-loop-king : goal.invariant-loop-king
-invariant-loop-king l = (t : ℕ) → t < l.from → Stands l.board l.color King t → Attacks l.board (other l.color) t → ⊥
+invariant-loop-king l = AreLeft l.board l.color l.kings
 
 abbrev pub decreases-loop-king : goal.decreases-loop-king
-decreases-loop-king l = 64 - l.from
+decreases-loop-king l = count_below (has l.kings) 64

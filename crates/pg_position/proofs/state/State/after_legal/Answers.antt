@@ -1,15 +1,8 @@
-use Rattle.std.proofs.Common.{sym, ◌∙◌}
-use Rattle.pg_position.proofs.LegalLemmas.{mover_way, mover_there, after_is}
+use Rattle.pg_position.proofs.LegalLemmas.{common_legal}
 use Rattle.pg_position.proofs.state.State.after_legal.Goals as goal
 
-pub legal_way-way-requires-clause-way : goal.legal_way-way-requires-clause-way
-legal_way-way-requires-clause-way c = mover_way c.args.self.now c.args.m.now c.in-Some.man c.requires.legal (sym c.get.ensures ∙ c.in-Some.is)
+pub returns-then-common-clause-legal : goal.returns-then-common-clause-legal
+returns-then-common-clause-legal c = (common_legal c.args.self.now c.args.m.now c.passed_by-passed.result c.carried.result c.requires.position c.requires.legal (c.is_common-common.ensures.unpromoted c.if-common.true) (c.is_common-common.ensures.rights c.if-common.true) (c.is_common-common.ensures.home c.if-common.true) (c.is_common-common.ensures.passed c.if-common.true) c.passed_by-passed.ensures c.carried.ensures).0
 
-pub returns-clause-legal : goal.returns-clause-legal
-returns-clause-legal c = (after_is c.args.self.now c.args.m.now c.in-Some.man c.legal_way-way.result c.after.result c.requires.position c.requires.legal (sym c.get.ensures ∙ c.in-Some.is) c.legal_way-way.ensures c.after.ensures).0
-
-pub returns-clause-position : goal.returns-clause-position
-returns-clause-position c = (after_is c.args.self.now c.args.m.now c.in-Some.man c.legal_way-way.result c.after.result c.requires.position c.requires.legal (sym c.get.ensures ∙ c.in-Some.is) c.legal_way-way.ensures c.after.ensures).1
-
-pub unreachable-requires : goal.unreachable-requires
-unreachable-requires c = mover_there c.args.self.now c.args.m.now c.requires.legal (sym c.get.ensures ∙ c.in-None.is)
+pub returns-then-common-clause-position : goal.returns-then-common-clause-position
+returns-then-common-clause-position c = (common_legal c.args.self.now c.args.m.now c.passed_by-passed.result c.carried.result c.requires.position c.requires.legal (c.is_common-common.ensures.unpromoted c.if-common.true) (c.is_common-common.ensures.rights c.if-common.true) (c.is_common-common.ensures.home c.if-common.true) (c.is_common-common.ensures.passed c.if-common.true) c.passed_by-passed.ensures c.carried.ensures).1

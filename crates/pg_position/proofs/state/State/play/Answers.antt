@@ -1,25 +1,26 @@
-use Rattle.std.proofs.Common.{◌≡◌, true, false, refl, subst}
+use Rattle.std.proofs.Common.{◌≡◌, ◌↔◌, sym, subst}
 use Rattle.pg_position.specs.declared.state.State.{State}
-use Rattle.pg_position.specs.declared.refusals.Illegal.TheVariants.{LeavesCheck}
-use Rattle.pg_position.specs.Position.{InCheck}
-use Rattle.pg_position.specs.Step.{Step, Legal, IsCause}
-use Rattle.pg_position.proofs.StepLemmas.{one_step, cause_refutes}
-use Rattle.pg_position.proofs.ValidLemmas.{step_valid}
+use Rattle.pg_position.specs.declared.refusals.Illegal.TheVariants.{NotAMove}
+use Rattle.pg_position.specs.Position.{IsPosition}
+use Rattle.pg_position.specs.Step.{Legal, IsCause}
+use Rattle.pg_position.proofs.StepLemmas.{no_step, cause_refutes}
+use Rattle.pg_position.proofs.LegalLemmas.{judged_safe, judged_unsafe}
 use Rattle.pg_position.proofs.state.State.play.Goals as goal
 
 pub returns-in-Err-clause-err : goal.returns-in-Err-clause-err
-returns-in-Err-clause-err c = (c.in-Err.ensures.err, λ r h. cause_refutes c.args.self.now c.args.m.now c.in-Err.e r c.requires.passing c.in-Err.ensures.err h)
+returns-in-Err-clause-err c = (c.in-Err.ensures, λ r h. cause_refutes c.args.self.now c.args.m.now c.in-Err.e r c.requires.passing c.in-Err.ensures h)
+
+pub returns-in-None-clause-err : goal.returns-in-None-clause-err
+returns-in-None-clause-err c =
+    let cause : IsCause c.args.self.now c.args.m.now NotAMove = (c.in-Ok.kind, c.in-Ok.ensures, no_step _ _ _ c.in-Ok.ensures c.in-None.ensures) in
+    (cause, λ r h. cause_refutes c.args.self.now c.args.m.now NotAMove r c.requires.passing cause h)
 
 pub returns-then-in_check-clause-err : goal.returns-then-in_check-clause-err
-returns-then-in_check-clause-err c =
-    let cause : IsCause c.args.self.now c.args.m.now LeavesCheck = (c.in-Ok.next, c.in-Ok.ensures.ok, c.if-in_check.ensures.0 refl) in
-    (cause, λ r h. cause_refutes c.args.self.now c.args.m.now LeavesCheck r c.requires.passing cause h)
+returns-then-in_check-clause-err c = judged_unsafe c.args.self.now c.args.m.now c.in-Ok.kind c.in-Some.way c.after_common-next.result c.requires (c.index.ensures.bound, c.index-2.ensures.bound) c.in-Ok.ensures c.in-Some.ensures c.after_common-next.ensures c.in_check.result c.in_check.ensures c.if-in_check.true
 
-pub returns-else-in_check-clause-ok : goal.returns-else-in_check-clause-ok
-returns-else-in_check-clause-ok c =
-    let step : Step c.args.self.now c.args.m.now c.in-Ok.next = c.in-Ok.ensures.ok in
-    let safe : InCheck c.in-Ok.next.board c.args.self.now.side → ⊥ = λ k. (let e : false ≡ true = c.if-in_check.ensures.1 k in cc) in
-    let legal : Legal c.args.self.now c.args.m.now c.in-Ok.next = (step, safe) in (
-      step_valid c.args.self.now c.args.m.now c.in-Ok.next c.requires step safe,
-      λ r. ((λ e. subst (λ (x : State). Legal c.args.self.now c.args.m.now x) e legal), (λ h. one_step c.args.self.now c.args.m.now c.in-Ok.next r c.requires.passing step h.0)),
-    )
+pub of_state-requires : goal.of_state-requires
+of_state-requires c = (judged_safe c.args.self.now c.args.m.now c.in-Ok.kind c.in-Some.way c.after_common-next.result c.requires (c.index.ensures.bound, c.index-2.ensures.bound) c.in-Ok.ensures c.in-Some.ensures c.after_common-next.ensures c.in_check.result c.in_check.ensures c.if-in_check.false).0
+
+pub returns-clause-ok : goal.returns-clause-ok
+returns-clause-ok c = subst (λ (x : State). IsPosition x × ((r : State) → (x ≡ r) ↔ Legal c.args.self.now c.args.m.now r)) (sym c.of_state.ensures)
+    (judged_safe c.args.self.now c.args.m.now c.in-Ok.kind c.in-Some.way c.after_common-next.result c.requires (c.index.ensures.bound, c.index-2.ensures.bound) c.in-Ok.ensures c.in-Some.ensures c.after_common-next.ensures c.in_check.result c.in_check.ensures c.if-in_check.false)
