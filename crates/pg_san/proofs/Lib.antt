@@ -20,3 +20,4 @@ pub mod WordReadingLemmas
 pub mod ListingLemmas
 pub mod OneAnswerLemmas
 mod KnownLemmas
+mod WrittenLemmas

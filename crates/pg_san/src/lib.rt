@@ -22,6 +22,7 @@ mod sources;
 mod spelling;
 mod words;
 mod writing;
+mod written;
 
 pub use adding::AddFault;
 pub use fault::SanFault;
@@ -34,3 +35,4 @@ pub use listing::read_games;
 pub use listing_fault::GamesFault;
 pub use reading::read;
 pub use writing::{San, write, write_with};
+pub use written::{MOST_WRITTEN, Written, nothing_written, write_known};
