@@ -19,3 +19,5 @@ pub mod LineLemmas
 pub mod WordReadingLemmas
 pub mod ListingLemmas
 pub mod OneAnswerLemmas
+mod KnownLemmas
+mod WrittenLemmas

@@ -8,4 +8,5 @@ pub mod Games
 pub mod Adding
 pub mod GameText
 pub mod Listing
+pub mod KnownTexts
 pub mod inner

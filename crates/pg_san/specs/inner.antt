@@ -1,3 +1,4 @@
 pub mod Walk
 pub mod TextLeft
 pub mod LineReading
+pub mod KnownReadings

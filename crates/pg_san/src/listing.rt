@@ -1,18 +1,23 @@
 //! Texts of games.
 ghost use Rattle.std.specs.Prelude.{◌≡◌, ◌≢◌, ◌↔◌, ◌∷◌, ◌++◌, IsTrue, MatchResult, IfOk, IfErr, OnOk, OnErr, []};
+ghost use Rattle.std.specs.Prelude.{All};
 ghost use Rattle.pg_san.specs.GameText.{words, dash};
 ghost use Rattle.pg_san.specs.Listing.{AreGame, IsGameLine, IsLineFault, IsListing, IsTextFault};
 ghost use Rattle.pg_san.specs.inner.LineReading.{IsWordsFault, IsGameFault, IsLineRead};
+ghost use Rattle.pg_san.specs.inner.KnownReadings.{IsKnown};
 
 use crate::adding::AddFault;
 use crate::fault::SanFault;
 use crate::games::{Games, MOST_GAMES};
+use crate::known::{Known, MOST_KNOWN, nothing, read_known};
 use crate::lines::next_line;
 use crate::listing_fault::GamesFault;
-use crate::reading::read_step;
 use crate::words::{next_word, without_move_number};
 use pg_position::{Move, Position};
 use std::alloc::Global;
+
+// A text of fewer bytes is read with nothing known: its games are too few to pay for the room.
+const SHORT: usize = 2000;
 
 // Why a line is no game that is kept: the word of a ply, counted from 1, is not read; or memory is
 // refused for a line that is a game.
@@ -31,8 +36,10 @@ fn keep(game: &mut Vec<Move>, kept: bool, m: Move) -> bool
 
 // The game that the words of a line are. Where memory is refused, the words behind are read all the
 // same, so that want of memory stands only where there is a game.
-fn read_words(alloc: Global, line: &[u8]) -> Result<Vec<Move>, LineFault>
-    ensures { MatchResult result (λ v. AreGame (words line.now) v.items) (λ e. IsWordsFault (words line.now) e) }
+fn read_words(alloc: Global, line: &[u8], known: &mut [Known]) -> Result<Vec<Move>, LineFault>
+    requires { All IsKnown known.old }
+    ensures known { All IsKnown known.new }
+    ensures read { MatchResult result (λ v. AreGame (words line.now) v.items) (λ e. IsWordsFault (words line.now) e) }
 {
     let mut game = Vec::new(alloc);
     let mut kept = true;
@@ -43,13 +50,12 @@ fn read_words(alloc: Global, line: &[u8]) -> Result<Vec<Move>, LineFault>
         rest = after;
         let text = without_move_number(word);
         if !text.is_empty() {
-            let found = match read_step(&here, text) {
-                Ok(found) => found,
+            let m = match read_known(known, &mut here, text) {
+                Ok(m) => m,
                 Err(cause) => return Err(LineFault::Word(plies + 1, cause)),
             };
-            here = found.next;
             plies += 1;
-            kept = keep(&mut game, kept, found.m);
+            kept = keep(&mut game, kept, m);
         }
     }
     if kept {
@@ -70,26 +76,36 @@ fn is_dash(line: &[u8]) -> bool
 }
 
 // The game of a line that has words.
-fn read_game(alloc: Global, line: &[u8]) -> Result<Vec<Move>, LineFault>
-    requires { words line.now ≢ [] }
-    ensures { MatchResult result (λ v. IsGameLine line.now v.items) (λ e. IsGameFault line.now e) }
+fn read_game(alloc: Global, line: &[u8], known: &mut [Known]) -> Result<Vec<Move>, LineFault>
+    requires some { words line.now ≢ [] }
+    requires known { All IsKnown known.old }
+    ensures known { All IsKnown known.new }
+    ensures read { MatchResult result (λ v. IsGameLine line.now v.items) (λ e. IsGameFault line.now e) }
 {
     if is_dash(line) {
         return Ok(Vec::new(alloc));
     }
-    read_words(alloc, line)
+    read_words(alloc, line, known)
 }
 
 // Adds the game of a line with words to those of the lines before it.
-fn add_line(alloc: Global, games: &mut Games, line: &[u8], number: usize) -> Result<(), GamesFault>
-    requires { words line.now ≢ [] }
+fn add_line(
+    alloc: Global,
+    games: &mut Games,
+    line: &[u8],
+    number: usize,
+    known: &mut [Known],
+) -> Result<(), GamesFault>
+    requires some { words line.now ≢ [] }
+    requires known { All IsKnown known.old }
+    ensures known { All IsKnown known.new }
     ensures ok { OnOk result (IsLineRead line.now games.old games.new) }
     ensures err { IfErr result (λ e. IsLineFault line.now number games.old e) }
 {
     if games.len() >= MOST_GAMES {
         return Err(GamesFault::TooMany { line: number });
     }
-    let game = match read_game(alloc, line) {
+    let game = match read_game(alloc, line, known) {
         Ok(game) => game,
         Err(LineFault::Word(ply, cause)) => {
             return Err(GamesFault::At {
@@ -108,14 +124,54 @@ fn add_line(alloc: Global, games: &mut Games, line: &[u8], number: usize) -> Res
 }
 
 // Reads one line behind those before it: where it has words, the game that they are is added.
-fn read_line(alloc: Global, games: &mut Games, line: &[u8], number: usize) -> Result<(), GamesFault>
+fn read_line(
+    alloc: Global,
+    games: &mut Games,
+    line: &[u8],
+    number: usize,
+    known: &mut [Known],
+) -> Result<(), GamesFault>
+    requires { All IsKnown known.old }
+    ensures known { All IsKnown known.new }
     ensures ok { OnOk result (IsLineRead line.now games.old games.new) }
     ensures err { IfErr result (λ e. IsLineFault line.now number games.old e) }
 {
     match next_word(line) {
-        Some(_) => add_line(alloc, games, line, number),
+        Some(_) => add_line(alloc, games, line, number, known),
         None => Ok(()),
     }
+}
+
+// Reads the lines of a text, one behind another, by what is known.
+fn read_lines(alloc: Global, text: &str, known: &mut [Known]) -> Result<Games, GamesFault>
+    requires { All IsKnown known.old }
+    ensures ok { IfOk result (λ games. IsListing text.now games) }
+    ensures err { IfErr result (λ e. IsTextFault text.now e) }
+{
+    let mut games = Games::new(alloc);
+    let mut number = 0;
+    let mut rest = Some(text.as_bytes());
+    while let Some(left) = rest {
+        let (line, after) = next_line(left);
+        rest = after;
+        number += 1;
+        match read_line(alloc, &mut games, line, number, known) {
+            Ok(()) => {}
+            Err(fault) => return Err(fault),
+        }
+    }
+    Ok(games)
+}
+
+// Reads the lines of a text that may have many games. What is known of them stands in this function's own frame,
+// which a text of few games does not pay for.
+#[inline(never)]
+fn read_many(alloc: Global, text: &str) -> Result<Games, GamesFault>
+    ensures ok { IfOk result (λ games. IsListing text.now games) }
+    ensures err { IfErr result (λ e. IsTextFault text.now e) }
+{
+    let mut known = [nothing(); MOST_KNOWN];
+    read_lines(alloc, text, &mut known)
 }
 
 /// The games of a text: one game a line, its moves in standard algebraic notation (the PGN standard,
@@ -134,17 +190,9 @@ pub fn read_games(alloc: Global, text: &str) -> Result<Games, GamesFault>
     ensures ok { IfOk result (λ games. IsListing text.now games) }
     ensures err { IfErr result (λ e. IsTextFault text.now e) }
 {
-    let mut games = Games::new(alloc);
-    let mut number = 0;
-    let mut rest = Some(text.as_bytes());
-    while let Some(left) = rest {
-        let (line, after) = next_line(left);
-        rest = after;
-        number += 1;
-        match read_line(alloc, &mut games, line, number) {
-            Ok(()) => {}
-            Err(fault) => return Err(fault),
-        }
+    if text.len() < SHORT {
+        read_lines(alloc, text, &mut [])
+    } else {
+        read_many(alloc, text)
     }
-    Ok(games)
 }

@@ -1,35 +1,60 @@
 //! Games as text.
-ghost use Rattle.std.specs.Prelude.{◌≡◌, ◌<◌, true, false, length, IfOk, IfErr, OnOk, OnErr};
-ghost use Rattle.pg_certificate.specs.Pushing.{Adds, AddsSome, MayPush, Pushes};
+ghost use Rattle.std.specs.Prelude.{◌≡◌, ◌<◌, ◌≤◌, ◌++◌, true, false, length, [], All, IfOk, IfErr, OnOk, OnErr};
+ghost use Rattle.pg_certificate.specs.Pushing.{Adds, AddsSome, Pushes};
 ghost use Rattle.pg_position.specs.Step.{Legal};
 ghost use Rattle.pg_san.specs.Games.{IsFromArray};
+ghost use Rattle.pg_san.specs.KnownTexts.{IsWritten};
 ghost use Rattle.pg_texts.specs.Movetext.{AddsLongest, IsMovetext, number_text, space_text};
 ghost use Rattle.pg_texts.specs.inner.Plies.{AddsPly, AddsAllPlies, IsPlayedOut};
 
+use arrayvec::ArrayString;
 use pg_certificate::{Refused, Sink, WriteFault};
 use pg_fen::text::digits;
 use pg_position::{Move, Position};
-use pg_san::write_with;
+use pg_san::{San, Written, write_known, write_with};
 
-// Appends the space before a ply, but for the first.
-fn write_space<W: Sink>(ply: usize, out: &mut W) -> Result<(), Refused>
-    ensures { MayPush W.held W.has_failed (Adds (space_text ply)) out.old out.new result }
+// Puts the space before a ply, but for the first.
+fn put_space(line: &mut ArrayString<32>, ply: usize)
+    requires { line.old.bytes ≡ [] }
+    ensures { line.new.bytes ≡ space_text ply }
 {
     if ply == 0 {
-        return Ok(());
+        return;
     }
-    out.push(b" ")
+    line.push_str(" ");
 }
 
-// Appends the number before a ply of White's.
-fn write_number<W: Sink>(ply: usize, out: &mut W) -> Result<(), Refused>
-    ensures { MayPush W.held W.has_failed (Adds (number_text ply)) out.old out.new result }
+// Puts the number before a ply of White's.
+fn put_number(line: &mut ArrayString<32>, ply: usize)
+    requires { length line.old.bytes ≤ 1 }
+    ensures text { line.new.bytes ≡ line.old.bytes ++ number_text ply }
+    ensures room { length line.new.bytes ≤ 23 }
 {
     if ply % 2 != 0 {
-        return Ok(());
+        return;
     }
-    out.push(digits(ply / 2 + 1).as_bytes())?;
-    out.push(b". ")
+    line.push_str(digits(ply / 2 + 1).as_str());
+    line.push_str(". ");
+}
+
+// The text of a move, the ply with this number from 0, with what stands before it.
+fn ply_text(ply: usize, san: &San) -> ArrayString<32>
+    ensures { result.bytes ≡ space_text ply ++ (number_text ply ++ san.now.bytes) }
+{
+    let mut line = ArrayString::new();
+    put_space(&mut line, ply);
+    put_number(&mut line, ply);
+    line.push_str(san.as_str());
+    line
+}
+
+// Appends the text of a move, the ply with this number from 0, with what stands before it: in one piece, since a piece costs
+// more than its bytes.
+fn write_text<W: Sink>(ply: usize, san: &San, out: &mut W) -> Result<(), Refused>
+    ensures { Pushes W.held W.has_failed
+        (Adds (space_text ply ++ (number_text ply ++ san.now.bytes))) out.old out.new result }
+{
+    out.push(ply_text(ply, san).as_bytes())
 }
 
 // Appends a legal move, the ply with this number from 0, with what stands before it. It leads to the
@@ -44,9 +69,7 @@ fn write_ply<W: Sink>(
     requires { Legal position.now m.now next.now }
     ensures { Pushes W.held W.has_failed (AddsPly ply position.now m.now) out.old out.new result }
 {
-    write_space(ply, out)?;
-    write_number(ply, out)?;
-    out.push(write_with(position, *m, next).as_bytes())
+    write_text(ply, &write_with(position, *m, next), out)
 }
 
 // Appends the moves up to the first that is not legal; how many they are.
@@ -79,9 +102,15 @@ pub(crate) fn append_movetext<W: Sink>(moves: &[Move], out: &mut W) -> Result<()
     Ok(())
 }
 
-// Appends the moves of a game from the initial array: none of them is tested.
-fn write_game_plies<W: Sink>(game: &[Move], out: &mut W) -> Result<(), Refused>
-    requires { IsFromArray game.now }
+// Appends the moves of a game from the initial array, by what is known: none of them is tested.
+fn write_game_plies<W: Sink>(
+    game: &[Move],
+    known: &mut [Written],
+    out: &mut W,
+) -> Result<(), Refused>
+    requires game { IsFromArray game.now }
+    requires known { All IsWritten known.old }
+    ensures known { All IsWritten known.new }
     ensures plies { OnOk result (AddsAllPlies game.now (W.held out.old) (W.held out.new)) }
     ensures runs { OnOk result ((W.has_failed out.new ≡ W.has_failed out.old)
         × (0 < length game.now → W.has_failed out.new ≡ false)) }
@@ -89,20 +118,25 @@ fn write_game_plies<W: Sink>(game: &[Move], out: &mut W) -> Result<(), Refused>
 {
     let mut position = Position::array();
     for (ply, m) in game.iter().enumerate() {
-        let next = position.after(m);
-        write_ply(ply, &position, m, &next, out)?;
-        position = next;
+        let san = write_known(known, &mut position, m);
+        write_text(ply, &san, out)?;
     }
     Ok(())
 }
 
-// Appends the movetext of a game from the initial array.
-pub(crate) fn append_game<W: Sink>(game: &[Move], out: &mut W) -> Result<(), Refused>
-    requires { IsFromArray game.now }
-    ensures { Pushes W.held W.has_failed (AddsSome (IsMovetext game.now)) out.old out.new result }
+// Appends the movetext of a game from the initial array, by what is known.
+pub(crate) fn append_game<W: Sink>(
+    game: &[Move],
+    known: &mut [Written],
+    out: &mut W,
+) -> Result<(), Refused>
+    requires game { IsFromArray game.now }
+    requires known { All IsWritten known.old }
+    ensures known { All IsWritten known.new }
+    ensures push { Pushes W.held W.has_failed (AddsSome (IsMovetext game.now)) out.old out.new result }
 {
     if !game.is_empty() {
-        write_game_plies(game, out)?;
+        write_game_plies(game, known, out)?;
         return Ok(());
     }
     out.push(b"-")

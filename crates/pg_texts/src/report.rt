@@ -1,7 +1,8 @@
 //! The report on a list of games.
-ghost use Rattle.std.specs.Prelude.{◌≡◌, IfOk, IfErr};
+ghost use Rattle.std.specs.Prelude.{◌≡◌, All, IfOk, IfErr};
 ghost use Rattle.pg_certificate.specs.Pushing.{Adds, AddsSome, MayPush, Pushes};
 ghost use Rattle.pg_san.specs.Games.{IsFromArray};
+ghost use Rattle.pg_san.specs.KnownTexts.{IsWritten};
 ghost use Rattle.pg_texts.specs.Movetext.{IsMovetext};
 ghost use Rattle.pg_texts.specs.Report.{AddsLine, AreGameLines, IsReport, IsVerdict, head_text, labelled_text, line_text};
 
@@ -11,7 +12,10 @@ use pg_certificate::{Refused, Sink, WriteFault};
 use pg_fen::text::digits;
 use pg_fen::{Diagram, Length};
 use pg_position::Move;
-use pg_san::Games;
+use pg_san::{Games, MOST_WRITTEN, Written, nothing_written};
+
+// Fewer games than these are written with nothing known: they are too few to pay for the room.
+const FEW: usize = 24;
 
 /// Appends a text and a line feed.
 ///
@@ -50,6 +54,17 @@ pub fn write_head<W: Sink>(
     write_labelled("games ", digits(count).as_str(), out)
 }
 
+// Appends the movetext of a game from the initial array, by what is known, and a line feed.
+fn write_listed<W: Sink>(game: &[Move], known: &mut [Written], out: &mut W) -> Result<(), Refused>
+    requires game { IsFromArray game.now }
+    requires known { All IsWritten known.old }
+    ensures known { All IsWritten known.new }
+    ensures push { Pushes W.held W.has_failed (AddsLine (IsMovetext game.now)) out.old out.new result }
+{
+    append_game(game, known, out)?;
+    out.push(b"\n")
+}
+
 /// Appends the movetext of a game from the initial array, and a line feed.
 ///
 /// # Errors
@@ -58,8 +73,31 @@ pub fn write_game<W: Sink>(game: &[Move], out: &mut W) -> Result<(), Refused>
     requires { IsFromArray game.now }
     ensures { Pushes W.held W.has_failed (AddsLine (IsMovetext game.now)) out.old out.new result }
 {
-    append_game(game, out)?;
-    out.push(b"\n")
+    write_listed(game, &mut [], out)
+}
+
+// Appends the movetext of each game of the list, by what is known, each ended by a line feed.
+fn write_all<W: Sink>(games: &Games, known: &mut [Written], out: &mut W) -> Result<(), Refused>
+    requires { All IsWritten known.old }
+    ensures { MayPush W.held W.has_failed (AddsSome (AreGameLines games.now)) out.old out.new result }
+{
+    for i in 0..games.len() {
+        let Some(game) = games.game(i) else {
+            unreachable!();
+        };
+        write_listed(game, known, out)?;
+    }
+    Ok(())
+}
+
+// The same of many games. What is known of them stands in this function's own frame, which a list of few games does
+// not pay for.
+#[inline(never)]
+fn write_many<W: Sink>(games: &Games, out: &mut W) -> Result<(), Refused>
+    ensures { MayPush W.held W.has_failed (AddsSome (AreGameLines games.now)) out.old out.new result }
+{
+    let mut known = [nothing_written(); MOST_WRITTEN];
+    write_all(games, &mut known, out)
 }
 
 /// Appends the movetext of each game of the list, in canonical order, each ended by a line feed.
@@ -69,13 +107,11 @@ pub fn write_game<W: Sink>(game: &[Move], out: &mut W) -> Result<(), Refused>
 pub fn write_games<W: Sink>(games: &Games, out: &mut W) -> Result<(), Refused>
     ensures { MayPush W.held W.has_failed (AddsSome (AreGameLines games.now)) out.old out.new result }
 {
-    for i in 0..games.len() {
-        let Some(game) = games.game(i) else {
-            unreachable!();
-        };
-        write_game(game, out)?;
+    if games.len() < FEW {
+        write_all(games, &mut [], out)
+    } else {
+        write_many(games, out)
     }
-    Ok(())
 }
 
 // Appends the report; what the verdict is.

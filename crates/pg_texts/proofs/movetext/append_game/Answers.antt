@@ -8,8 +8,8 @@ use Rattle.pg_texts.proofs.OutcomeLemmas.{on_ok}
 use Rattle.pg_texts.proofs.PlyLemmas.{game_of_none, game_of_moves}
 use Rattle.pg_texts.proofs.movetext.append_game.Goals as goal
 
-pub returns : goal.returns
-returns g c =
+pub returns-clause-push : goal.returns-clause-push
+returns-clause-push g c =
     let none : length c.args.game.now ≡ 0 = grind (arith, nat_tests) in
     record {
       text =
@@ -20,8 +20,8 @@ returns g c =
       fault = search rules;
     }
 
-pub returns-then-not-is_empty : goal.returns-then-not-is_empty
-returns-then-not-is_empty g c =
+pub returns-then-not-is_empty-clause-push : goal.returns-then-not-is_empty-clause-push
+returns-then-not-is_empty-clause-push g c =
     let some : 0 < length c.args.game.now = grind (arith, nat_tests) in
     let runs = c.in_ok-write_game_plies.ensures.runs in
     record {

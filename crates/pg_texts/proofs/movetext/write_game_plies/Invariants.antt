@@ -1,4 +1,6 @@
 use Rattle.std.proofs.Common.{◌≡◌, ◌<◌, false}
+use Rattle.std.specs.Prelude.{All}
+use Rattle.pg_san.specs.KnownTexts.{IsWritten}
 use Rattle.pg_texts.specs.inner.Plies.{AddsPlies}
 use Rattle.pg_texts.proofs.movetext.write_game_plies.Given as goal
 
@@ -8,4 +10,5 @@ invariant-loop-ply g l = record {
   grows : AddsPlies l.game l.ply l.position (g.W.Sink.held l.fn.out) (g.W.Sink.held l.out);
   same : g.W.Sink.has_failed l.out ≡ g.W.Sink.has_failed l.fn.out;
   runs : 0 < l.ply → g.W.Sink.has_failed l.out ≡ false;
+  known : All IsWritten l.known;
 }

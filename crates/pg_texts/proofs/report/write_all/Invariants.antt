@@ -1,11 +1,14 @@
 use Rattle.std.proofs.Common.{◌≡◌, take}
+use Rattle.std.specs.Prelude.{All}
+use Rattle.pg_san.specs.KnownTexts.{IsWritten}
 use Rattle.pg_certificate.specs.Pushing.{AddsSome}
 use Rattle.pg_texts.specs.Report.{AreGameLines}
-use Rattle.pg_texts.proofs.report.write_games.Given as goal
+use Rattle.pg_texts.proofs.report.write_all.Given as goal
 
 -- the lines of the games so far were appended
 abbrev pub invariant-loop-i : goal.invariant-loop-i
 invariant-loop-i g l = record {
   lines : AddsSome (AreGameLines (take l.i l.games)) (g.W.Sink.held l.fn.out) (g.W.Sink.held l.out);
   runs : g.W.Sink.has_failed l.out ≡ g.W.Sink.has_failed l.fn.out;
+  known : All IsWritten l.known;
 }

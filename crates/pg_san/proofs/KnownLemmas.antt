@@ -1,0 +1,30 @@
+-- Readings that are kept are true, and give what reading gives.
+use Rattle.std.proofs.Common.{◌≡◌, ℕ, ◌<◌, ◌≤◌, List, ◌++◌, length, take, get_or, Result, Ok, refl, sym, ap, subst, arith, ◌∙◌}
+use Rattle.std.specs.Prelude.{All}
+use Rattle.std.proofs.lemmas.List.{take_at, get_or_default}
+use Rattle.pg_position.specs.declared.state.State.{State}
+use Rattle.pg_position.specs.declared.moves.Move.{Move}
+use Rattle.pg_position.specs.Step.{Legal}
+use Rattle.pg_san.specs.declared.known.Known.{Known}
+use Rattle.pg_san.specs.Matching.{IsReading}
+use Rattle.pg_san.specs.inner.KnownReadings.{IsKnown, IsStepRead}
+
+pub says_nothing : (k : Known) → 8 < k.length → IsKnown k
+unfolding IsKnown
+says_nothing k long short = absurd (omega arith)
+
+pub kept : (p q : State) (text rest : List ℕ) (m : Move) → IsReading p text (Ok m) → Legal p m q → IsKnown (record { position = p; next = q; text = text ++ rest; length = length text; m = m })
+unfolding IsKnown
+kept p q text rest m reading legal short = (subst (λ (t : List ℕ). IsReading p t (Ok m)) (sym (take_at text rest (length text) refl)) reading, legal)
+
+told : (k : Known) (p : State) (text : List ℕ) → IsKnown k → (k.length ≤ 8) × (take k.length k.text ≡ text) × (k.position ≡ p) → IsStepRead p text k.next (Ok k.m)
+unfolding IsKnown
+told k p text h (short, same, here) =
+    let both = h short in (
+      subst (λ (x : State). IsReading x text (Ok k.m)) here (subst (λ (t : List ℕ). IsReading k.position t (Ok k.m)) same both.0),
+      subst (λ (x : State). Legal x k.m k.next) here both.1,
+    )
+
+pub recalled : (ks : List Known) (i : ℕ) (c d e : Known) (p : State) (text : List ℕ) → All IsKnown ks → i < length ks → ((get_or ks i c).length ≤ 8) × (take (get_or ks i c).length (get_or ks i c).text ≡ text) × ((get_or ks i c).position ≡ p) → IsStepRead p text (get_or ks i e).next (Ok (get_or ks i d).m)
+recalled ks i c d e p text all low h =
+    subst (λ (x : Known). IsStepRead p text x.next (Ok (get_or ks i d).m)) (get_or_default ks i c e low) (subst (λ (x : Known). IsStepRead p text (get_or ks i c).next (Ok x.m)) (get_or_default ks i c d low) (told (get_or ks i c) p text (all i c low) h))

@@ -1,0 +1,136 @@
+//! Readings that are known: games of one list come again and again to the same positions, and read the same
+//! texts there.
+ghost use Rattle.std.specs.Prelude.{◌≡◌, ◌≤◌, IsTrue, All, length, take, Ok};
+ghost use Rattle.pg_san.specs.inner.Walk.{IsTextReading};
+ghost use Rattle.pg_san.specs.inner.KnownReadings.{IsKnown, IsStepRead};
+
+use crate::fault::SanFault;
+use crate::numbers::position_number;
+use crate::reading::{Found, read_step};
+use pg_position::{Move, Position};
+
+// The longest text that is kept.
+const LONGEST: usize = 8;
+
+/// How many readings are kept at most.
+pub(crate) const MOST_KNOWN: usize = 512;
+
+/// A text that was read in a position: the move that it names there, and where the move leads. A length above the
+/// longest says nothing.
+#[derive(Clone, Copy)]
+pub(crate) struct Known {
+    pub(crate) position: Position,
+    pub(crate) next: Position,
+    pub(crate) text: [u8; LONGEST],
+    pub(crate) length: usize,
+    pub(crate) m: Move,
+}
+
+/// What says nothing.
+pub(crate) fn nothing() -> Known
+    ensures { IsKnown result }
+{
+    Known {
+        position: Position::array(),
+        next: Position::array(),
+        text: [0; LONGEST],
+        length: LONGEST + 1,
+        m: Move::default(),
+    }
+}
+
+// A number of a text, in which its last eight bytes tell.
+fn text_number(text: &[u8]) -> u64 {
+    let mut number = 0u64;
+    for byte in text {
+        number = (number << 8) ^ u64::from(*byte);
+    }
+    number.wrapping_mul(0xff51_afd7_ed55_8ccd)
+}
+
+// Where the reading of a text in a position is kept, and no other is looked for.
+fn place_of(position: &Position, text: &[u8]) -> usize {
+    let number = position_number(position) ^ text_number(text);
+    (number >> 40) as usize % MOST_KNOWN
+}
+
+// Whether this text was read in this position.
+fn is_known(known: &Known, position: &Position, text: &[u8]) -> bool
+    ensures { IsTrue result → (known.now.length ≤ 8) × (take known.now.length known.now.text ≡ text.now)
+        × (known.now.position ≡ position.now) }
+{
+    known.length == text.len()
+        && known.length <= LONGEST
+        && &known.text[..known.length] == text
+        && known.position == *position
+}
+
+// What is kept of a reading.
+fn known_of(position: &Position, text: &[u8], found: &Found) -> Known
+    requires short { length text.now ≤ 8 }
+    requires reading { IsTextReading position.now text.now (Ok found.now) }
+    ensures { IsKnown result }
+{
+    let mut bytes = [0; LONGEST];
+    bytes[..text.len()].copy_from_slice(text);
+    Known {
+        position: *position,
+        next: found.next,
+        text: bytes,
+        length: text.len(),
+        m: found.m,
+    }
+}
+
+// Keeps a reading at the place, if there is one and the text is short.
+fn remember(known: &mut [Known], place: usize, position: &Position, text: &[u8], found: &Found)
+    requires known { All IsKnown known.old }
+    requires reading { IsTextReading position.now text.now (Ok found.now) }
+    ensures { All IsKnown known.new }
+{
+    if place >= known.len() || text.len() > LONGEST {
+        return;
+    }
+    known[place] = known_of(position, text, found);
+}
+
+// Reads a text, goes on to where its move leads, and keeps the reading.
+fn read_new(
+    known: &mut [Known],
+    place: usize,
+    here: &mut Position,
+    text: &[u8],
+) -> Result<Move, SanFault>
+    requires { All IsKnown known.old }
+    ensures read { IsStepRead here.old text.now here.new result }
+    ensures known { All IsKnown known.new }
+{
+    match read_step(here, text) {
+        Ok(found) => {
+            remember(known, place, here, text, &found);
+            *here = found.next;
+            Ok(found.m)
+        }
+        Err(fault) => Err(fault),
+    }
+}
+
+/// The one legal move that the bytes of a text name, as `read_step` has it, and goes on to where it leads: by what
+/// is known, which grows, or by reading. Room of any length will do, also none.
+pub(crate) fn read_known(
+    known: &mut [Known],
+    here: &mut Position,
+    text: &[u8],
+) -> Result<Move, SanFault>
+    requires { All IsKnown known.old }
+    ensures read { IsStepRead here.old text.now here.new result }
+    ensures known { All IsKnown known.new }
+{
+    let place = place_of(here, text);
+    if place < known.len() && is_known(&known[place], here, text) {
+        let m = known[place].m;
+        *here = known[place].next;
+        return Ok(m);
+    }
+    read_new(known, place, here, text)
+}

@@ -1,0 +1,102 @@
+//! Texts of moves that are known: games of one list come again and again to the same positions, and go on alike there.
+ghost use Rattle.std.specs.Prelude.{◌≡◌, IsTrue, All, true};
+ghost use Rattle.pg_position.specs.Step.{Legal, IsLegal};
+ghost use Rattle.pg_san.specs.Writing.{IsSan};
+ghost use Rattle.pg_san.specs.KnownTexts.{IsWritten};
+
+use crate::numbers::position_number;
+use crate::writing::{San, write_with};
+use pg_position::{Move, Position};
+
+/// How many texts are kept at most.
+pub const MOST_WRITTEN: usize = 512;
+
+/// The text of a legal move of a position, and where the move leads; or nothing.
+#[derive(Clone, Copy)]
+pub struct Written {
+    pub(crate) position: Position,
+    pub(crate) next: Position,
+    pub(crate) text: San,
+    pub(crate) m: Move,
+    pub(crate) told: bool,
+}
+
+/// What says nothing: what room for texts is filled with at first.
+pub fn nothing_written() -> Written
+    ensures { IsWritten result }
+{
+    Written {
+        position: Position::array(),
+        next: Position::array(),
+        text: San::new(),
+        m: Move::default(),
+        told: false,
+    }
+}
+
+// Where the text of a move is kept, and no other is looked for.
+fn place_of(position: &Position, m: &Move) -> usize {
+    let squares = u64::from(m.from.index()) * 64 + u64::from(m.to.index());
+    let number = position_number(position) ^ squares.wrapping_mul(0xff51_afd7_ed55_8ccd);
+    (number >> 40) as usize % MOST_WRITTEN
+}
+
+// Whether it is the text of this move in this position.
+fn is_text_of(written: &Written, position: &Position, m: &Move) -> bool
+    ensures { IsTrue result → (written.now.told ≡ true) × (written.now.m ≡ m.now)
+        × (written.now.position ≡ position.now) }
+{
+    written.told && written.m == *m && written.position == *position
+}
+
+// Keeps a text at the place, if there is one.
+fn remember(known: &mut [Written], place: usize, written: Written)
+    requires known { All IsWritten known.old }
+    requires new { IsWritten written }
+    ensures { All IsWritten known.new }
+{
+    if place >= known.len() {
+        return;
+    }
+    known[place] = written;
+}
+
+// Writes a move, goes on to where it leads, and keeps its text.
+fn write_new(known: &mut [Written], place: usize, here: &mut Position, m: &Move) -> San
+    requires known { All IsWritten known.old }
+    requires legal { IsLegal here.old m.now }
+    ensures text { IsSan here.old m.now result.bytes }
+    ensures next { Legal here.old m.now here.new }
+    ensures known { All IsWritten known.new }
+{
+    let next = here.after(m);
+    let text = write_with(here, *m, &next);
+    let written = Written {
+        position: *here,
+        next,
+        text,
+        m: *m,
+        told: true,
+    };
+    remember(known, place, written);
+    *here = next;
+    text
+}
+
+/// The text of a legal move, as `write` has it, and goes on to where the move leads: by what is known, which grows, or by
+/// writing it. Room of any length will do, also none: a text is kept where its place is within. Takes no memory.
+pub fn write_known(known: &mut [Written], here: &mut Position, m: &Move) -> San
+    requires known { All IsWritten known.old }
+    requires legal { IsLegal here.old m.now }
+    ensures text { IsSan here.old m.now result.bytes }
+    ensures next { Legal here.old m.now here.new }
+    ensures known { All IsWritten known.new }
+{
+    let place = place_of(here, m);
+    if place < known.len() && is_text_of(&known[place], here, m) {
+        let text = known[place].text;
+        *here = known[place].next;
+        return text;
+    }
+    write_new(known, place, here, m)
+}
