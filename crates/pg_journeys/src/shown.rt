@@ -235,6 +235,24 @@ fn shown_by_one(side: &Side, most: u8) -> Option<Shown>
     ways_shown(side, &moves, &moves)
 }
 
+// What the plans of a side show by one measure and by quiet moves, which are counted here.
+#[inline(never)]
+fn shown_with_quiet(side: &Side, moves: &Measured, fewest: u8) -> Option<Shown>
+    requires side { (d : Placement) × IsSide d side.now }
+    requires moves { IsMeasured side.now false moves.now }
+    requires low { fewest < 200 }
+    ensures { (d : Placement) (k : ℕ) → IsSide d side.now → AreBudgets d side.now k moves.now.most fewest →
+        MatchOption result (IsDead (facts_of side.now) d side.now.position k side.now.ground.color)
+        (λ a. Shows (facts_of side.now) d side.now.position k side.now.ground.color a) }
+{
+    let mut quiet = Measured {
+        aims: [[255u8; 384]; 17],
+        most: fewest,
+    };
+    measure(side, true, &mut quiet);
+    ways_shown(side, moves, &quiet)
+}
+
 // What the plans of a side show by two measures.
 #[inline(never)]
 fn shown_by_two(side: &Side, most: u8, fewest: u8) -> Option<Shown>
@@ -250,12 +268,7 @@ fn shown_by_two(side: &Side, most: u8, fewest: u8) -> Option<Shown>
         most,
     };
     measure(side, false, &mut moves);
-    let mut quiet = Measured {
-        aims: [[255u8; 384]; 17],
-        most: fewest,
-    };
-    measure(side, true, &mut quiet);
-    ways_shown(side, &moves, &quiet)
+    shown_with_quiet(side, &moves, fewest)
 }
 
 // What the plans of a colour show under facts; none where no way is alive.

@@ -3,6 +3,3 @@ use Rattle.pg_journeys.proofs.shown.shown_by_two.Goals as goal
 
 pub measure-requires-clause-none : goal.measure-requires-clause-none
 measure-requires-clause-none c = λ e l. none_made e l
-
-pub measure-requires-2-clause-none : goal.measure-requires-2-clause-none
-measure-requires-2-clause-none c = λ e l. none_made e l
