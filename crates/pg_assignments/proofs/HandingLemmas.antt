@@ -27,47 +27,66 @@ with_at_off : (f : ℕ → ℕ) (i x a : ℕ) → a ≢ i → with_at f i x a �
 unfolding with_at
 with_at_off f i x a ne = elim (eqb_tells a i) [ inl w ↦ absurd (ne w.1) | inr w ↦ rw w.0 refl ]
 
--- all lengths are at most those of the columns that are owned
-owned_all : (c : ℕ → ℕ → ℕ) (u v to owner H : ℕ → ℕ) (n : ℕ) → IsShown c u v to owner n → total H n ≤ total (λ a. H (to a)) n
-owned_all c u v to owner H n s =
-    let e : total (λ q. H (to (owner q))) n ≡ total H n = total_same H (λ q. H (to (owner q))) n (λ q l. ap H (s.owners q l)) in
-    let b : total (λ q. H (to (owner q))) n ≤ total (λ a. H (to a)) n = sent_at_most (λ a. H (to a)) owner n n s.owned (λ p q l h same. sym (s.owners p l) ∙ ap to same ∙ s.owners q h) in
+-- all keys are at most those of the columns that are owned
+owned_all : (c : ℕ → ℕ → ℕ) (u v to owner K : ℕ → ℕ) (n : ℕ) → IsShown c u v to owner n → total K n ≤ total (λ a. K (to a)) n
+owned_all c u v to owner K n s =
+    let e : total (λ q. K (to (owner q))) n ≡ total K n = total_same K (λ q. K (to (owner q))) n (λ q l. ap K (s.owners q l)) in
+    let b : total (λ q. K (to (owner q))) n ≤ total (λ a. K (to a)) n = sent_at_most (λ a. K (to a)) owner n n s.owned (λ p q l h same. sym (s.owners p l) ∙ ap to same ∙ s.owners q h) in
     omega arith
 
-pub none_below : (c : ℕ → ℕ → ℕ) (u v to owner K H : ℕ → ℕ) (n i j x : ℕ) → i < n → j < n → x + total v n ≤ total u n → IsShown c u v to owner n → AreLengths c u v to owner K H n (to i) → (y : ℕ) → With c n i j y → x + v j + c i j + H j ≤ y + u i
-none_below c u v to owner K H n i j x li lj paid s h y t =
+-- sixteen times each number, and a key
+total-keys : (f K : ℕ → ℕ) (n : ℕ) → total (λ t. 16 * f t + K t) n ≡ 16 * total f n + total K n
+unfolding total
+total-keys f K zero = refl
+total-keys f K (suc n) = let a : total (λ t. 16 * f t + K t) n ≡ 16 * total f n + total K n = total-keys f K n in omega arith
+
+-- and one for each
+total-steps : (f : ℕ → ℕ) (n : ℕ) → total (λ t. 16 * f t + 1) n ≡ 16 * total f n + n
+unfolding total
+total-steps f zero = refl
+total-steps f (suc n) = let a : total (λ t. 16 * f t + 1) n ≡ 16 * total f n + n = total-steps f n in omega arith
+
+-- each of the other rows steps at most once, so the steps count at most fifteen in all: less than a length of one
+pub none_below : (c : ℕ → ℕ → ℕ) (u v to owner K H : ℕ → ℕ) (n i j x : ℕ) → n ≤ 16 → i < n → j < n → x + total v n ≤ total u n → IsShown c u v to owner n → AreLengths c u v to owner K H n (to i) → (y : ℕ) → With c n i j y → x + v j + c i j + H j ≤ y + u i
+none_below c u v to owner K H n i j x few li lj paid s h y t =
     let e : t.0 i ≡ j = t.2 in
-    let each : (a : ℕ) → a < n → with_at f i top a ≤ V (t.0 a) + c a (t.0 a) = λ a l. at a l in
-    let one : total (with_at f i top) n ≤ total (λ a. V (t.0 a) + c a (t.0 a)) n = total-le (with_at f i top) (λ a. V (t.0 a) + c a (t.0 a)) n each in
-    let two : total (λ a. V (t.0 a) + c a (t.0 a)) n ≡ total (λ a. V (t.0 a)) n + total (λ a. c a (t.0 a)) n = total-sum (λ a. V (t.0 a)) (λ a. c a (t.0 a)) n in
+    let each : (a : ℕ) → a < n → with_at f i top a ≤ V (t.0 a) + C a = λ a l. at a l in
+    let one : total (with_at f i top) n ≤ total (λ a. V (t.0 a) + C a) n = total-le (with_at f i top) (λ a. V (t.0 a) + C a) n each in
+    let two : total (λ a. V (t.0 a) + C a) n ≡ total (λ a. V (t.0 a)) n + total C n = total-sum (λ a. V (t.0 a)) C n in
     let three : total (λ a. V (t.0 a)) n ≤ total V n = sent_at_most V t.0 n n t.1.inside t.1.different in
-    let four : total V n ≡ total v n + total H n = total-sum v H n in
-    let five : total H n ≤ total (λ a. H (to a)) n = owned_all c u v to owner H n s in
-    let six : total f n ≡ total u n + total (λ a. H (to a)) n = total-sum u (λ a. H (to a)) n in
+    let four : total V n ≡ 16 * total v n + total K n = total-keys v K n in
+    let five : total K n ≤ total (λ a. K (to a)) n = owned_all c u v to owner K n s in
+    let six : total f n ≡ 16 * total u n + total (λ a. K (to a)) n = total-keys u (λ a. K (to a)) n in
     let seven : total (with_at f i top) n + f i ≡ total f n + with_at f i top i = total_changed f (with_at f i top) n i li (λ a l ne. with_at_off f i top a ne) in
     let eight : with_at f i top i ≡ top = with_at_it f i top in
-    let nine : H (to i) ≡ 0 = h.none in
+    let nine : K (to i) ≡ 0 = h.none in
     let ten : y ≡ total (λ a. c a (t.0 a)) n = t.3 in
+    let eleven : total C n ≡ 16 * total (λ a. c a (t.0 a)) n + n = total-steps (λ a. c a (t.0 a)) n in
+    let twelve : (16 * H j ≤ K j) × (K j < 16 * H j + 16) = h.rounded j lj in
+    let low : 16 * H j ≤ K j = twelve.0 in
     omega arith
   where
     f : ℕ → ℕ
-    f a = u a + H (to a)
+    f a = 16 * u a + K (to a)
 
     V : ℕ → ℕ
-    V q = v q + H q
+    V q = 16 * v q + K q
+
+    C : ℕ → ℕ
+    C a = 16 * c a (t.0 a) + 1
 
     top : ℕ
-    top = v j + H j + c i j
+    top = 16 * v j + K j + (16 * c i j + 1)
 
-    at : (a : ℕ) → a < n → with_at f i top a ≤ V (t.0 a) + c a (t.0 a)
+    at : (a : ℕ) → a < n → with_at f i top a ≤ V (t.0 a) + C a
     at a l = elim (eqb_tells a i) [
-      | inl w ↦ subst (λ b. with_at f i top b ≤ V (t.0 b) + c b (t.0 b)) (sym w.1) (
+      | inl w ↦ subst (λ b. with_at f i top b ≤ V (t.0 b) + C b) (sym w.1) (
           let z : with_at f i top i ≡ top = with_at_it f i top in
-          let g : V (t.0 i) + c i (t.0 i) ≡ V j + c i j = ap (λ q. V q + c i q) t.2 in
+          let g : V (t.0 i) + C i ≡ V j + (16 * c i j + 1) = ap (λ q. V q + (16 * c i q + 1)) t.2 in
           omega arith)
       | inr w ↦ (
           let z : with_at f i top a ≡ f a = with_at_off f i top a w.1 in
-          let g : u a + H (to a) ≤ v (t.0 a) + H (t.0 a) + c a (t.0 a) = h.lower a (t.0 a) l (t.1.inside a l) (t.1.exists a l) in
+          let g : 16 * u a + K (to a) ≤ 16 * (v (t.0 a) + c a (t.0 a)) + K (t.0 a) + 1 = h.lower a (t.0 a) l (t.1.inside a l) (t.1.exists a l) in
           omega arith)
     ]
 
@@ -213,16 +232,16 @@ some_at_most c u v to owner K H n i j x r li lj there is value small s h =
     ex w m a l = elim (eqb_tells a i) [ inl e ↦ subst (λ y. c y (w y) < 255) (sym e.1) (subst (λ y. c i y < 255) (sym m.here) there) | inr e ↦ m.exists a l e.1 ]
 
 -- ---- together
-pub shown_some : (c : ℕ → ℕ → ℕ) (u v to owner K H : ℕ → ℕ) (n i j x r : ℕ) → i < n → j < n → c i j < 255 → x ≡ sum_of c to n → x + total v n ≤ total u n → r + u i ≡ x + v j + c i j + H j → H j ≤ 4064 → IsShown c u v to owner n → AreLengths c u v to owner K H n (to i) → IsLeast (With c n i j) (Some r)
-shown_some c u v to owner K H n i j x r li lj there is paid value small s h =
+pub shown_some : (c : ℕ → ℕ → ℕ) (u v to owner K H : ℕ → ℕ) (n i j x r : ℕ) → n ≤ 16 → i < n → j < n → c i j < 255 → x ≡ sum_of c to n → x + total v n ≤ total u n → r + u i ≡ x + v j + c i j + H j → H j ≤ 4064 → IsShown c u v to owner n → AreLengths c u v to owner K H n (to i) → IsLeast (With c n i j) (Some r)
+shown_some c u v to owner K H n i j x r few li lj there is paid value small s h =
     let a : (y : ℕ) × With c n i j y × (y ≤ r) = some_at_most c u v to owner K H n i j x r li lj there is value small s h in
-    let low : (y : ℕ) → With c n i j y → r ≤ y = λ y t. (let b : x + v j + c i j + H j ≤ y + u i = none_below c u v to owner K H n i j x li lj paid s h y t in omega arith) in
+    let low : (y : ℕ) → With c n i j y → r ≤ y = λ y t. (let b : x + v j + c i j + H j ≤ y + u i = none_below c u v to owner K H n i j x few li lj paid s h y t in omega arith) in
     let e : a.0 ≡ r = (let p : r ≤ a.0 = low a.0 a.1 in let q : a.0 ≤ r = a.2 in omega arith) in
     least_some (With c n i j) r (subst (λ y. With c n i j y) e a.1) low
 
 pub shown_none : (c : ℕ → ℕ → ℕ) (u v to owner K H : ℕ → ℕ) (n i j x : ℕ) → n ≤ 16 → i < n → j < n → x + total v n ≤ total u n → 4064 + u i < x + v j + c i j + H j → IsShown c u v to owner n → AreLengths c u v to owner K H n (to i) → IsLeast (With c n i j) None
 shown_none c u v to owner K H n i j x few li lj paid far s h = least_none (With c n i j) (λ y t. (
-    let b : x + v j + c i j + H j ≤ y + u i = none_below c u v to owner K H n i j x li lj paid s h y t in
+    let b : x + v j + c i j + H j ≤ y + u i = none_below c u v to owner K H n i j x few li lj paid s h y t in
     let l : y ≤ 254 * n = total_low c (Below n) n y (t.0, t.1, t.3) in
     omega arith))
 

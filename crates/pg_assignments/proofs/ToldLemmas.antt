@@ -5,7 +5,8 @@ use Rattle.std.proofs.lemmas.List.{get_or-set_same, get_or-set_other}
 use Rattle.pg_assignments.specs.declared.costs.Costs.{Costs}
 use Rattle.pg_assignments.specs.Assignments.{cost, IsTotal, IsLeastTotal, IsLeastWith, IsTotalWith, Below, nth, at2, told, RowLeast, AreLeastWith}
 use Rattle.pg_assignments.specs.Dual.{Fits, RowFits}
-use Rattle.pg_assignments.specs.Handing.{IsShown, AreLengths, IsSlackRow, IsSlack, Closes, StepsOn, Reaches, IsRounded, IsTold, IsProved}
+use Rattle.pg_assignments.specs.Handing.{IsShown, AreLengths, IsSlackRow, IsSlack, IsTold, IsProved}
+use Rattle.pg_assignments.specs.Ways.{AreWays, AreSixteenths}
 use Rattle.pg_assignments.proofs.HandingLemmas.{shown_some, shown_none}
 use Rattle.pg_assignments.proofs.LeastLemmas.{least_none, some_holds, none_holds}
 use Rattle.pg_assignments.proofs.SearchLemmas.{total_low}
@@ -28,26 +29,35 @@ slacks_next k us vs slack slacks i m e low row before = λ a q l h. elim (eqb_te
 pub shown_by : (k : Costs) (us vs to owner : List ℕ) (x : ℕ) → k.size ≤ 16 → IsProved k us vs to owner x → IsShown (cost k) (nth us) (nth vs) (nth to) (nth owner) k.size
 shown_by k us vs to owner x few p = record { fits = λ a q l h. p.fits a q l (omega arith); is = p.value.0; owned = λ q l. (p.owned q l).0; owners = λ q l. (p.owned q l).1 }
 
-pub lengths_by : (k : Costs) (us vs to owner keys lengths : List ℕ) (slacks : List (List ℕ)) (x t : ℕ) → k.size ≤ 16 → IsProved k us vs to owner x → IsSlack (cost k) (nth us) (nth vs) slacks k.size → nth lengths t ≡ 0 → IsRounded keys lengths 16 → Closes slacks to lengths k.size → Reaches slacks owner keys k.size t k.size → AreLengths (cost k) (nth us) (nth vs) (nth to) (nth owner) (nth keys) (nth lengths) k.size t
-lengths_by k us vs to owner keys lengths slacks x t few p s z r c f = record {
-  none = z;
-  lower = λ a q l h e.
-      let g : nth lengths (nth to a) ≤ nth lengths q + at2 slacks a q = c a q l (omega arith) in
-      let d : at2 slacks a q + nth us a ≡ nth vs q + cost k a q = (s a q l (omega arith)).0 e in
-      omega arith;
-  upper = λ q l ne small. step q l small (f q l ne small);
+-- the keys of all ways to t, and their sixteenth parts
+pub lengths_by : (k : Costs) (us vs to owner lengths : List ℕ) (slacks keys : List (List ℕ)) (x t : ℕ) → k.size ≤ 16 → t < k.size → IsProved k us vs to owner x → IsSlack (cost k) (nth us) (nth vs) slacks k.size → AreWays slacks owner k.size k.size keys → AreSixteenths keys t lengths 16 → AreLengths (cost k) (nth us) (nth vs) (nth to) (nth owner) (λ q. at2 keys q t) (nth lengths) k.size t
+lengths_by k us vs to owner lengths slacks keys x t few lt p s w r = record {
+  none = w.own t lt;
+  lower = λ a q l h e. closes a q l h e;
+  upper = λ q l ne small. leads q l ne small;
   rounded = λ q l. r q (omega arith);
 }
   where
-    step : (q : ℕ) → q < k.size → nth keys q ≤ 65039 → ((p : ℕ) × StepsOn k.size (get_or slacks (nth owner q) []) (nth keys q) keys p) → (b : ℕ) × (b < k.size) × (cost k (nth owner q) b < 255) × (16 * (nth vs b + cost k (nth owner q) b) + nth keys b + 1 ≤ nth keys q + 16 * nth us (nth owner q))
-    step q l small g =
-        let h : 16 * at2 slacks (nth owner q) g.0 + nth keys g.0 + 1 ≤ nth keys q = g.1.1 in
+    closes : (a q : ℕ) → a < k.size → q < k.size → cost k a q < 255 → 16 * nth us a + at2 keys (nth to a) t ≤ 16 * (nth vs q + cost k a q) + at2 keys q t + 1
+    closes a q l h e =
+        let own : nth to a < k.size = p.value.0.inside a l in
+        let o : (nth owner (nth to a) < k.size) × (nth to (nth owner (nth to a)) ≡ nth to a) = p.owned (nth to a) own in
+        let same : nth owner (nth to a) ≡ a = p.value.0.different (nth owner (nth to a)) a o.0 l o.1 in
+        let first : at2 keys (nth to a) q ≤ 16 * at2 slacks a q + 1 = subst (λ b. at2 keys (nth to a) q ≤ 16 * at2 slacks b q + 1) same (w.step (nth to a) q own h) in
+        let on : at2 keys (nth to a) t ≤ at2 keys (nth to a) q + at2 keys q t = w.via (nth to a) t q own lt h in
+        let d : at2 slacks a q + nth us a ≡ nth vs q + cost k a q = (s a q l (omega arith)).0 e in
+        omega arith
+
+    leads : (q : ℕ) → q < k.size → q ≢ t → at2 keys q t ≤ 65039 → (b : ℕ) × (b < k.size) × (cost k (nth owner q) b < 255) × (16 * (nth vs b + cost k (nth owner q) b) + at2 keys b t + 1 ≤ at2 keys q t + 16 * nth us (nth owner q))
+    leads q l ne small =
+        let g : (b : ℕ) × (b < k.size) × (16 * at2 slacks (nth owner q) b + 1 + at2 keys b t ≤ at2 keys q t) = w.leads q t l lt ne (omega arith) in
+        let h : 16 * at2 slacks (nth owner q) g.0 + 1 + at2 keys g.0 t ≤ at2 keys q t = g.2 in
         let o : nth owner q < k.size = (p.owned q l).0 in
-        let b : g.0 < k.size = g.1.0 in
+        let b : g.0 < k.size = g.1 in
         let d : (cost k (nth owner q) g.0 < 255 → at2 slacks (nth owner q) g.0 + nth us (nth owner q) ≡ nth vs g.0 + cost k (nth owner q) g.0) × (at2 slacks (nth owner q) g.0 < 65535 → cost k (nth owner q) g.0 < 255) = s (nth owner q) g.0 o (omega arith) in
         let e : cost k (nth owner q) g.0 < 255 = d.1 (omega arith) in
         let v : at2 slacks (nth owner q) g.0 + nth us (nth owner q) ≡ nth vs g.0 + cost k (nth owner q) g.0 = d.0 e in
-        (g.0, g.1.0, e, omega arith)
+        (g.0, g.1, e, omega arith)
 
 -- ---- a row of totals
 pub told_none : (x : ℕ) → x ≡ 65535 → told x ≡ None
@@ -58,8 +68,8 @@ pub told_some : (x : ℕ) → x ≢ 65535 → told x ≡ Some x
 unfolding told
 told_some x e = elim (eqb_tells x 65535) [ inl w ↦ absurd (e w.1) | inr w ↦ rw w.0 refl ]
 
-pub least_told : (k : Costs) (us vs to owner keys lengths : List ℕ) (slacks : List (List ℕ)) (x i j r : ℕ) → k.size ≤ 16 → i < k.size → j < k.size → IsProved k us vs to owner x → IsSlack (cost k) (nth us) (nth vs) slacks k.size → AreLengths (cost k) (nth us) (nth vs) (nth to) (nth owner) (nth keys) (nth lengths) k.size (nth to i) → IsTold (x + at2 slacks i j + nth lengths j) r → IsLeastWith k i j (told r)
-least_told k us vs to owner keys lengths slacks x i j r few li lj p s h is = elim (leb_tells 255 (cost k i j)) [
+pub least_told : (k : Costs) (us vs to owner lengths : List ℕ) (slacks : List (List ℕ)) (keys : ℕ → ℕ) (x i j r : ℕ) → k.size ≤ 16 → i < k.size → j < k.size → IsProved k us vs to owner x → IsSlack (cost k) (nth us) (nth vs) slacks k.size → AreLengths (cost k) (nth us) (nth vs) (nth to) (nth owner) keys (nth lengths) k.size (nth to i) → IsTold (x + at2 slacks i j + nth lengths j) r → IsLeastWith k i j (told r)
+least_told k us vs to owner lengths slacks keys x i j r few li lj p s h is = elim (leb_tells 255 (cost k i j)) [
   | inl w ↦ subst (λ o. IsLeastWith k i j o) (sym (told_none r (is.1 (far w.1)))) (least_none (IsTotalWith k i j) (λ y t. (let m : cost k i (t.0 i) < 255 = t.1.exists i li in let z : cost k i (t.0 i) ≡ cost k i j = ap (cost k i) t.2 in let n : 255 ≤ cost k i j = w.1 in omega arith)))
   | inr w ↦ there w.1 (leb_tells (x + at2 slacks i j + nth lengths j) 4064)
 ]
@@ -78,11 +88,16 @@ least_told k us vs to owner keys lengths slacks x i j r few li lj p s h is = eli
         let d : at2 slacks i j + nth us i ≡ nth vs j + cost k i j = (s i j li (omega arith)).0 e in
         let small : x + at2 slacks i j + nth lengths j ≤ 4064 = w.1 in
         let z : r ≡ x + at2 slacks i j + nth lengths j = is.0 small in
-        subst (λ o. IsLeastWith k i j o) (sym (told_some r (λ y. omega arith))) (shown_some (cost k) (nth us) (nth vs) (nth to) (nth owner) (nth keys) (nth lengths) k.size i j x r li lj e p.value.1 p.paid (omega arith) (omega arith) sh h)
+        subst (λ o. IsLeastWith k i j o) (sym (told_some r (λ y. omega arith))) (shown_some (cost k) (nth us) (nth vs) (nth to) (nth owner) keys (nth lengths) k.size i j x r few li lj e p.value.1 p.paid (omega arith) (omega arith) sh h)
     there e (inr w) =
         let d : at2 slacks i j + nth us i ≡ nth vs j + cost k i j = (s i j li (omega arith)).0 e in
         let big : 4064 < x + at2 slacks i j + nth lengths j = w.1 in
-        subst (λ o. IsLeastWith k i j o) (sym (told_none r (is.1 big))) (shown_none (cost k) (nth us) (nth vs) (nth to) (nth owner) (nth keys) (nth lengths) k.size i j x few li lj p.paid (omega arith) sh h)
+        subst (λ o. IsLeastWith k i j o) (sym (told_none r (is.1 big))) (shown_none (cost k) (nth us) (nth vs) (nth to) (nth owner) keys (nth lengths) k.size i j x few li lj p.paid (omega arith) sh h)
+
+-- the same by the keys of all ways
+pub least_by : (k : Costs) (us vs to owner lengths : List ℕ) (slacks keys : List (List ℕ)) (x i j r : ℕ) → k.size ≤ 16 → i < k.size → j < k.size → IsProved k us vs to owner x → IsSlack (cost k) (nth us) (nth vs) slacks k.size → AreWays slacks owner k.size k.size keys → AreSixteenths keys (nth to i) lengths 16 → IsTold (x + at2 slacks i j + nth lengths j) r → IsLeastWith k i j (told r)
+least_by k us vs to owner lengths slacks keys x i j r few li lj p s w h is =
+    least_told k us vs to owner lengths slacks (λ q. at2 keys q (nth to i)) x i j r few li lj p s (lengths_by k us vs to owner lengths slacks keys x (nth to i) few (p.value.0.inside i li) p s w h) is
 
 -- ---- all rows
 pub rows_next : (k : Costs) (out : List (List ℕ)) (row : List ℕ) (i m : ℕ) → m ≡ i + 1 → i < length out → ((j : ℕ) → j < k.size → IsLeastWith k i j (told (nth row j))) → AreLeastWith k out i → AreLeastWith k (set out i row) m

@@ -1,6 +1,6 @@
 -- What shows the least totals of assignments that have a row at a column. Where row i leaves its column t for a column q, the owner
 -- of q takes another one, and so on, until t is taken: a way of handing columns on, with a length for each q and t.
-use Rattle.std.specs.Prelude.{◌≡◌, ◌≢◌, ℕ, ◌+◌, ◌*◌, ◌<◌, ◌≤◌, List, [], get_or}
+use Rattle.std.specs.Prelude.{◌≡◌, ◌≢◌, ℕ, ◌+◌, ◌*◌, ◌<◌, ◌≤◌, List}
 use Rattle.pg_assignments.specs.declared.costs.Costs.{Costs}
 use Rattle.pg_assignments.specs.declared.propose.Proposal.{Proposal}
 use Rattle.pg_board.specs.Tally.{total}
@@ -18,11 +18,12 @@ pub record IsShown (c : ℕ → ℕ → ℕ) (u v to owner : ℕ → ℕ) (n : �
 abbrev pub AreWithin : List ℕ → ℕ → ℕ → Type 0
 AreWithin xs n m = (q : ℕ) → q < n → nth xs q < m
 
--- H q is the least length of a way from q to t: no step leads to a shorter one, and each length up to 4064 has a first step p that
--- leads on. K q is sixteen times the length and one more for each step, so that each step leads nearer also where it costs nothing
+-- K q is sixteen times the least length of a way from q to t and one more for each step, so that each step leads nearer also where it
+-- costs nothing: no step leads to a lower number, and each up to 65039 has a first step p that leads on. H q is the length, since a
+-- way has at most fifteen steps
 pub record AreLengths (c : ℕ → ℕ → ℕ) (u v to owner K H : ℕ → ℕ) (n t : ℕ) : Type 0 where
-  pub none : H t ≡ 0
-  pub lower : (a q : ℕ) → a < n → q < n → c a q < 255 → u a + H (to a) ≤ v q + H q + c a q
+  pub none : K t ≡ 0
+  pub lower : (a q : ℕ) → a < n → q < n → c a q < 255 → 16 * u a + K (to a) ≤ 16 * (v q + c a q) + K q + 1
   pub upper : (q : ℕ) → q < n → q ≢ t → K q ≤ 65039 → (p : ℕ) × (p < n) × (c (owner q) p < 255) × (16 * (v p + c (owner q) p) + K p + 1 ≤ K q + 16 * u (owner q))
   pub rounded : (q : ℕ) → q < n → (16 * H q ≤ K q) × (K q < 16 * H q + 16)
 
@@ -33,26 +34,6 @@ IsSlackRow costs price columns slack m = (q : ℕ) → q < m → (nth costs q < 
 -- the same for the first n rows
 abbrev pub IsSlack : (ℕ → ℕ → ℕ) → (ℕ → ℕ) → (ℕ → ℕ) → List (List ℕ) → ℕ → Type 0
 IsSlack c u v slacks n = (a q : ℕ) → a < n → q < 16 → (c a q < 255 → at2 slacks a q + u a ≡ v q + c a q) × (at2 slacks a q < 65535 → c a q < 255)
-
--- a length is at most each other one and the slack of a step there
-abbrev pub RowCloses : ℕ → List ℕ → List ℕ → ℕ → Type 0
-RowCloses length slack lengths m = (q : ℕ) → q < m → length ≤ nth lengths q + nth slack q
-
--- the same for each row's own column
-abbrev pub Closes : List (List ℕ) → List ℕ → List ℕ → ℕ → Type 0
-Closes slacks to lengths n = (a q : ℕ) → a < n → q < 16 → nth lengths (nth to a) ≤ nth lengths q + at2 slacks a q
-
--- p is a column below n that leads on
-abbrev pub StepsOn : ℕ → List ℕ → ℕ → List ℕ → ℕ → Type 0
-StepsOn n slack key keys p = (p < n) × (16 * nth slack p + nth keys p + 1 ≤ key)
-
--- each column below m but t, where its key tells a length up to 4064, has such a column
-abbrev pub Reaches : List (List ℕ) → List ℕ → List ℕ → ℕ → ℕ → ℕ → Type 0
-Reaches slacks owner keys n t m = (q : ℕ) → q < m → q ≢ t → nth keys q ≤ 65039 → (p : ℕ) × StepsOn n (get_or slacks (nth owner q) []) (nth keys q) keys p
-
--- the sixteenth part of each number
-abbrev pub IsRounded : List ℕ → List ℕ → ℕ → Type 0
-IsRounded keys lengths m = (q : ℕ) → q < m → (16 * nth lengths q ≤ nth keys q) × (nth keys q < 16 * nth lengths q + 16)
 
 -- the owner of each column below m, a row below n, goes there
 abbrev pub IsOwned : List ℕ → List ℕ → ℕ → ℕ → Type 0
@@ -81,7 +62,3 @@ IsProvedOf k p x = IsProved k p.rows p.columns p.to p.holder x
 -- the slacks by the prices of a proposal
 abbrev pub IsSlackOf : Costs → Proposal → List (List ℕ) → Type 0
 IsSlackOf k p slacks = IsSlack (cost k) (nth p.rows) (nth p.columns) slacks k.size
-
--- the lengths of the ways to column t by a proposal
-abbrev pub AreLengthsOf : Costs → Proposal → List ℕ → List ℕ → ℕ → Type 0
-AreLengthsOf k p keys lengths t = AreLengths (cost k) (nth p.rows) (nth p.columns) (nth p.to) (nth p.holder) (nth keys) (nth lengths) k.size t

@@ -4,3 +4,4 @@ pub mod Dual
 pub mod Pinned
 pub mod Handing
 pub mod Totals
+pub mod Ways

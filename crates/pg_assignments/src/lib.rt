@@ -6,6 +6,7 @@ mod exact;
 mod propose;
 mod tested;
 mod totals;
+mod ways;
 mod with;
 mod with_all;
 

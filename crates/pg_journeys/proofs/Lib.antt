@@ -12,6 +12,7 @@ mod NarrowedPlans
 mod NarrowedDeeds
 mod Paying
 mod Changing
+mod OneMeasure
 mod ShownWays
 mod Masks
 mod Budgets

@@ -1,19 +1,15 @@
 -- The steps of pawns as sets of squares. Leads to the contracts of a ground's pushes and captures.
-use Rattle.std.proofs.Common.{arith, ◌≡◌, ◌≢◌, ◌↔◌, ℕ, ◌+◌, ◌<◌, ◌⊎◌, inl, inr, true, false, ◌&&◌, ◌||◌, refl, sym, ap, subst, ◌∙◌}
-use Rattle.std.proofs.lemmas.Bool.Decides.{eqb_tells}
+use Rattle.std.proofs.Common.{arith, ◌≡◌, ◌≢◌, ◌↔◌, ℕ, ◌+◌, ◌-◌, ◌<◌, ◌≤◌, ◌⊎◌, inl, inr, true, false, ◌&&◌, ◌||◌, refl, sym, ap, ◌∙◌}
+use Rattle.std.proofs.lemmas.Bool.Decides.{eqb_tells, leb_tells}
 use Rattle.pg_board.specs.declared.man.Color.{Color}
 use Rattle.pg_board.specs.declared.man.Color.TheVariants.{White, Black}
 use Rattle.pg_board.specs.declared.man.Kind.{Kind}
 use Rattle.pg_board.specs.declared.man.Kind.TheVariants.{Pawn, Queen}
-use Rattle.pg_board.specs.declared.man.Man.{Man}
 use Rattle.pg_board.specs.Bits.{has}
-use Rattle.pg_board.specs.Men.{man, other}
-use Rattle.pg_board.specs.Placement.{empty}
+use Rattle.pg_board.specs.Men.{other}
 use Rattle.pg_board.specs.Squares.{file, rank}
 use Rattle.pg_board.specs.SquareSets.{IsSetOf}
-use Rattle.pg_board.specs.lemmas.Placements.{get-empty}
 use Rattle.pg_board.proofs.SetLemmas.{and_true, set_like, set_of_both, set_of_union}
-use Rattle.pg_position.specs.Attack.{IsClear, Reaches}
 use Rattle.pg_position.specs.Geometry.{InPattern, IsForward, IsBetween}
 use Rattle.pg_position.specs.Squares.{home_rank, last_rank}
 use Rattle.pg_position.proofs.LineLemmas.{pawn_near}
@@ -21,8 +17,8 @@ use Rattle.pg_captures.specs.FreeSteps.{StepsTo, Becomes}
 use Rattle.pg_journeys.proofs.SquareLemmas.{both_true}
 use Rattle.pg_journeys.specs.Facts.{Facts}
 use Rattle.pg_journeys.specs.lemmas.Shifts.{one_near}
-use Rattle.pg_journeys.specs.inner.Grounds.{Pushes, Captures}
-use Rattle.pg_journeys.specs.inner.Makings.{IsNext, IsAheadOf}
+use Rattle.pg_journeys.specs.inner.Grounds.{LedTo, Pushes, Captures}
+use Rattle.pg_journeys.specs.inner.Makings.{IsNext, IsAheadOf, IsEastOf, IsWestOf}
 
 -- ---- squares ahead
 next_back : (c : Color) (r s : ℕ) → IsNext c r s → IsNext (other c) s r
@@ -69,6 +65,17 @@ pawn_becomes c s = elim (eqb_tells (rank s) (last_rank c)) [
   | inl w ↦ (Queen, inl (w.1, (λ e. cc, λ e. cc)))
   | inr w ↦ (Pawn, inr (w.1, refl))
 ]
+
+-- ---- what a pawn captures
+turned : (c : Color) (r s : ℕ) → InPattern c Pawn r s → InPattern (other c) Pawn s r
+unfolding InPattern
+turned White r s h = (let a : ◌≡◌ {A = ℕ} _ 1 = h.0 in omega arith, h.1)
+turned Black r s h = (let a : ◌≡◌ {A = ℕ} _ 1 = h.0 in omega arith, h.1)
+
+turned_back : (c : Color) (r s : ℕ) → InPattern (other c) Pawn s r → InPattern c Pawn r s
+unfolding InPattern
+turned_back White r s h = (let a : ◌≡◌ {A = ℕ} _ 1 = h.0 in omega arith, h.1)
+turned_back Black r s h = (let a : ◌≡◌ {A = ℕ} _ 1 = h.0 in omega arith, h.1)
 
 module _ (f : Facts) (c : Color) (free : ℕ) (vacant : AreFree f free) where
   once_is : (r s : ℕ) → r < 64 → s < 64 → Once c free r s → Pushes f c r s
@@ -156,80 +163,92 @@ module _ (f : Facts) (c : Color) (free : ℕ) (vacant : AreFree f free) where
   )
 
   -- ---- the sets
-  pub once_set : (n : ℕ) (r : ℕ) → r < 64 → rank r ≢ home_rank c → IsSetOf n (Once c free r) → IsSetOf n (Pushes f c r)
-  once_set n r l ne is = set_like n
-      (λ s ls h. once_is r s l ls h)
-      (λ s ls h. elim (pushes_told r s l ls h) [ inl one ↦ one | inr two ↦ absurd (ne two.0) ])
-      is
-
-  pub both_set : (n once twice : ℕ) (r : ℕ) → r < 64 → rank r ≡ home_rank c → IsSetOf once (Once c free r) → IsSetOf twice (Twice c free r) → ((q : ℕ) → has n q ≡ has once q || has twice q) → IsSetOf n (Pushes f c r)
-  both_set n once twice r l home one two is = set_like n
-      (λ s ls h. elim h [ inl x ↦ once_is r s l ls x | inr x ↦ twice_is r s l ls home x ])
-      (λ s ls h. elim (pushes_told r s l ls h) [ inl x ↦ inl x | inr x ↦ inr x.1 ])
+  -- straight ahead from the squares of a set: a square, and two from the home rank
+  pub pushed_ahead : (set from once homes homed crossed twice n : ℕ) → ((q : ℕ) → has from q ≡ has set q && has free q) → IsSetOf once (IsAheadOf c from free) → IsSetOf homes (λ q. rank q ≡ home_rank c) →
+      ((q : ℕ) → has homed q ≡ has from q && has homes q) → IsSetOf crossed (IsAheadOf c homed free) → IsSetOf twice (IsAheadOf c crossed free) → ((q : ℕ) → has n q ≡ has once q || has twice q) →
+      IsSetOf n (LedTo (Pushes f c) set)
+  pushed_ahead set from once homes homed crossed twice n froms one home homeds cross two is = set_like n
+      (λ s ls h. elim h [
+        | inl x ↦ (let e : (has set x.0.0 ≡ true) × (has free x.0.0 ≡ true) = and_true (has set x.0.0) (has free x.0.0) (sym (froms x.0.0) ∙ x.0.2) in
+            (x.0.0, x.0.1, e.0, once_is x.0.0 s x.0.1 ls (e.1, x.1, x.0.3)))
+        | inr y ↦ (let x : ((r : ℕ) × (r < 64) × (has homed r ≡ true) × IsNext c r y.0.0) × (has free y.0.0 ≡ true) = (cross y.0.0 y.0.1).0 y.0.2 in
+            let r : ℕ = x.0.0 in
+            let d : (has from r ≡ true) × (has homes r ≡ true) = and_true (has from r) (has homes r) (sym (homeds r) ∙ x.0.2) in
+            let e : (has set r ≡ true) × (has free r ≡ true) = and_true (has set r) (has free r) (sym (froms r) ∙ d.0) in
+            (r, x.0.1, e.0, twice_is r s x.0.1 ls ((home r x.0.1).0 d.1) (e.1, y.1, (y.0.0, y.0.1, x.1, x.0.3, y.0.3))))
+      ])
+      (λ s ls (r, lr, on, p). elim (pushes_told r s lr ls p) [
+        | inl (fr, fs, next) ↦ inl ((r, lr, froms r ∙ both_true (has set r) (has free r) on fr, next), fs)
+        | inr (at, (fr, fs, (x, lx, fx, first, then))) ↦ inr ((x, lx, (cross x lx).1 ((r, lr, homeds r ∙ both_true (has from r) (has homes r) (froms r ∙ both_true (has set r) (has free r) on fr) ((home r lr).1 at), first), fx), then), fs)
+      ])
       (set_of_union n once twice is one two)
 
-  once_back : (r s : ℕ) → Once (other c) free s r → Once c free r s
-  once_back r s h = (h.1, h.0, next_forth c r s h.2)
+  -- from where to the squares of a set
+  pub pushed_back : (set to once twice homes homed n : ℕ) → ((q : ℕ) → has to q ≡ has set q && has free q) → IsSetOf once (IsAheadOf (other c) to free) → IsSetOf twice (IsAheadOf (other c) once free) →
+      IsSetOf homes (λ q. rank q ≡ home_rank c) → ((q : ℕ) → has homed q ≡ has twice q && has homes q) → ((q : ℕ) → has n q ≡ has once q || has homed q) → IsSetOf n (LedTo (λ s r. Pushes f c r s) set)
+  pushed_back set to once twice homes homed n tos one two home homeds is = set_like n
+      (λ r lr h. elim h [
+        | inl x ↦ (let e : (has set x.0.0 ≡ true) × (has free x.0.0 ≡ true) = and_true (has set x.0.0) (has free x.0.0) (sym (tos x.0.0) ∙ x.0.2) in
+            (x.0.0, x.0.1, e.0, once_is r x.0.0 lr x.0.1 (x.1, e.1, next_forth c r x.0.0 x.0.3)))
+        | inr y ↦ (let x : ((s : ℕ) × (s < 64) × (has to s ≡ true) × IsNext (other c) s y.0.0.0) × (has free y.0.0.0 ≡ true) = (one y.0.0.0 y.0.0.1).0 y.0.0.2 in
+            let s : ℕ = x.0.0 in
+            let e : (has set s ≡ true) × (has free s ≡ true) = and_true (has set s) (has free s) (sym (tos s) ∙ x.0.2) in
+            (s, x.0.1, e.0, twice_is r s lr x.0.1 y.1 (y.0.1, e.1, (y.0.0.0, y.0.0.1, x.1, next_forth c r y.0.0.0 y.0.0.3, next_forth c y.0.0.0 s x.0.3))))
+      ])
+      (λ r lr (s, ls, on, p). elim (pushes_told r s lr ls p) [
+        | inl (fr, fs, next) ↦ inl ((s, ls, tos s ∙ both_true (has set s) (has free s) on fs, next_back c r s next), fr)
+        | inr (at, (fr, fs, (x, lx, fx, first, then))) ↦ inr (((x, lx, (one x lx).1 ((s, ls, tos s ∙ both_true (has set s) (has free s) on fs, next_back c x s then), fx), next_back c r x first), fr), at)
+      ])
+      (set_of_union n once homed is one (set_of_both homed twice homes homeds two home))
 
-  once_forth : (r s : ℕ) → Once c free r s → Once (other c) free s r
-  once_forth r s h = (h.1, h.0, next_back c r s h.2)
+  -- what is struck from the squares of a set, and from where they are struck
+  pub taken_ahead : (set from struck kept lands n : ℕ) → ((q : ℕ) → has from q ≡ has set q && has free q) → IsSetOf struck (LedTo (λ r s. InPattern c Pawn r s) from) →
+      ((q : ℕ) → has kept q ≡ has struck q && has free q) → ((q : ℕ) → f.lands c q ≡ has lands q) → ((q : ℕ) → has n q ≡ has kept q && has lands q) → IsSetOf n (LedTo (Captures f c) set)
+  taken_ahead set from struck kept lands n froms hits keeps land is = set_like n
+      (λ s ls ((h, fs), on). (let e : (has set h.0 ≡ true) × (has free h.0 ≡ true) = and_true (has set h.0) (has free h.0) (sym (froms h.0) ∙ h.2) in
+      (h.0, h.1, e.0, takes_is h.0 s h.1 ls (e.1, fs, land s ∙ on, h.3))))
+      (λ s ls (r, lr, on, p). (let t : Takes r s = captures_told r s lr ls p in (((r, lr, froms r ∙ both_true (has set r) (has free r) on t.0, t.3), t.1), sym (land s) ∙ t.2)))
+      (set_of_both n kept lands is (set_of_both kept struck free keeps hits (λ q _. (λ t. t, λ t. t))) (λ q _. (λ t. t, λ t. t)))
 
-  twice_back : (r s : ℕ) → Twice (other c) free s r → Twice c free r s
-  twice_back r s (to, from, (x, l, over, one, two)) = (from, to, (x, l, over, next_forth c r x two, next_forth c x s one))
+  pub taken_back : (set vacated lands to struck n : ℕ) → ((q : ℕ) → has vacated q ≡ has set q && has free q) → ((q : ℕ) → f.lands c q ≡ has lands q) → ((q : ℕ) → has to q ≡ has vacated q && has lands q) →
+      IsSetOf struck (LedTo (λ s r. InPattern (other c) Pawn s r) to) → ((q : ℕ) → has n q ≡ has struck q && has free q) → IsSetOf n (LedTo (λ s r. Captures f c r s) set)
+  taken_back set vacated lands to struck n frees land tos hits is = set_like n
+      (λ r lr (h, fr). (
+      let d : (has vacated h.0 ≡ true) × (has lands h.0 ≡ true) = and_true (has vacated h.0) (has lands h.0) (sym (tos h.0) ∙ h.2) in
+      let e : (has set h.0 ≡ true) × (has free h.0 ≡ true) = and_true (has set h.0) (has free h.0) (sym (frees h.0) ∙ d.0) in
+      (h.0, h.1, e.0, takes_is r h.0 lr h.1 (fr, e.1, land h.0 ∙ d.1, turned_back c r h.0 h.3))))
+      (λ r lr (s, ls, on, p). (let t : Takes r s = captures_told r s lr ls p in
+      ((s, ls, tos s ∙ both_true (has vacated s) (has lands s) (frees s ∙ both_true (has set s) (has free s) on t.1) (sym (land s) ∙ t.2), turned c r s t.3), t.0)))
+      (set_of_both n struck free is hits (λ q _. (λ t. t, λ t. t)))
 
-  twice_forth : (r s : ℕ) → Twice c free r s → Twice (other c) free s r
-  twice_forth r s (from, to, (x, l, over, one, two)) = (to, from, (x, l, over, next_back c x s two, next_back c r x one))
-
-  pub back_set : (n once twice home kept s : ℕ) → s < 64 → IsSetOf once (Once (other c) free s) → IsSetOf twice (Twice (other c) free s) → IsSetOf home (λ q. rank q ≡ home_rank c) → ((q : ℕ) → has kept q ≡ has twice q && has home q) → ((q : ℕ) → has n q ≡ has once q || has kept q) → IsSetOf n (λ r. Pushes f c r s)
-  back_set n once twice home kept s ls one two homes keeps is = set_like n
-      (λ r lr h. elim h [ inl x ↦ once_is r s lr ls (once_back r s x) | inr x ↦ twice_is r s lr ls x.1 (twice_back r s x.0) ])
-      (λ r lr h. elim (pushes_told r s lr ls h) [ inl x ↦ inl (once_forth r s x) | inr x ↦ inr (twice_forth r s x.1, x.0) ])
-      (set_of_union n once kept is one (set_of_both kept twice home keeps two homes))
-
--- ---- what is ahead of one square
-one_of : (free r single from x : ℕ) → x < 64 → IsSetOf single (λ q. q ≡ r) → ((q : ℕ) → has from q ≡ has single q && has free q) → (has from x ≡ true) ↔ ((x ≡ r) × (has free x ≡ true))
-one_of free r single from x l one is = (
-  λ t. (let h : (has single x ≡ true) × (has free x ≡ true) = and_true (has single x) (has free x) (sym (is x) ∙ t) in ((one x l).0 h.0, h.1)),
-  λ h. is x ∙ both_true (has single x) (has free x) ((one x l).1 h.0) h.1,
-)
-
-pub once_ahead : (c : Color) (free r single from once : ℕ) → r < 64 → IsSetOf single (λ q. q ≡ r) → ((q : ℕ) → has from q ≡ has single q && has free q) → IsSetOf once (IsAheadOf c from free) → IsSetOf once (Once c free r)
-once_ahead c free r single from once l one is ahead = set_like once
-    (λ s ls h. (let e : (h.0.0 ≡ r) × (has free h.0.0 ≡ true) = (one_of free r single from h.0.0 h.0.1 one is).0 h.0.2 in
-    (ap (has free) (sym e.0) ∙ e.1, h.1, subst (λ (x : ℕ). IsNext c x s) e.0 h.0.3)))
-    (λ s ls h. ((r, l, (one_of free r single from r l one is).1 (refl, h.0), h.2), h.1))
-    ahead
-
-pub twice_ahead : (c : Color) (free r once twice : ℕ) → IsSetOf once (Once c free r) → IsSetOf twice (IsAheadOf c once free) → IsSetOf twice (Twice c free r)
-twice_ahead c free r once twice one ahead = set_like twice
-    (λ s ls ((x, l, on, next), to). (let h : Once c free r x = (one x l).0 on in (h.0, to, (x, l, h.1, h.2, next))))
-    (λ s ls (from, to, (x, l, over, next, two)). ((x, l, (one x l).1 (from, over, next), two), to))
-    ahead
-
--- ---- what a pawn captures
-turned : (c : Color) (r s : ℕ) → InPattern c Pawn r s → InPattern (other c) Pawn s r
+-- ---- what is struck
+beside_next : (c : Color) (x y s : ℕ) → x < 64 → y < 64 → s < 64 → IsNext c x y → rank y ≡ rank s → (s ≡ y + 1) ⊎ (y ≡ s + 1) → InPattern c Pawn x s
 unfolding InPattern
-turned White r s h = (let a : ◌≡◌ {A = ℕ} _ 1 = h.0 in omega arith, h.1)
-turned Black r s h = (let a : ◌≡◌ {A = ℕ} _ 1 = h.0 in omega arith, h.1)
+beside_next White x y s lx ly ls (f, r) row (inl e) = (omega arith, omega arith)
+beside_next White x y s lx ly ls (f, r) row (inr e) = (omega arith, omega arith)
+beside_next Black x y s lx ly ls (f, r) row (inl e) = (omega arith, omega arith)
+beside_next Black x y s lx ly ls (f, r) row (inr e) = (omega arith, omega arith)
 
-turned_back : (c : Color) (r s : ℕ) → InPattern (other c) Pawn s r → InPattern c Pawn r s
+next_beside : (c : Color) (x s : ℕ) → x < 64 → s < 64 → InPattern c Pawn x s → (y : ℕ) × (y < 64) × IsNext c x y × (rank y ≡ rank s) × ((s ≡ y + 1) ⊎ (y ≡ s + 1))
 unfolding InPattern
-turned_back White r s h = (let a : ◌≡◌ {A = ℕ} _ 1 = h.0 in omega arith, h.1)
-turned_back Black r s h = (let a : ◌≡◌ {A = ℕ} _ 1 = h.0 in omega arith, h.1)
+next_beside White x s lx ls (near, r) = elim (leb_tells (file x) (file s)) [
+  | inl w ↦ (let l : file x ≤ file s = w.1 in (x + 8, omega arith, (omega arith, omega arith), omega arith, inl (omega arith)))
+  | inr w ↦ (let l : file s < file x = w.1 in (x + 8, omega arith, (omega arith, omega arith), omega arith, inr (omega arith)))
+]
+next_beside Black x s lx ls (near, r) = elim (leb_tells (file x) (file s)) [
+  | inl w ↦ (let l : file x ≤ file s = w.1 in (x - 8, omega arith, (omega arith, omega arith), omega arith, inl (omega arith)))
+  | inr w ↦ (let l : file s < file x = w.1 in (x - 8, omega arith, (omega arith, omega arith), omega arith, inr (omega arith)))
+]
 
-pub clear_empty : (r s : ℕ) → IsClear empty r s
-unfolding IsClear
-clear_empty r s t l z = get-empty t
-
-module _ (f : Facts) (c : Color) (free : ℕ) (vacant : AreFree f free) where
-  pub taken_set : (m : Man) (r attacked kept lands n : ℕ) → r < 64 → has free r ≡ true → m ≡ man c Pawn → IsSetOf attacked (Reaches empty m.color m.kind r) → ((q : ℕ) → has kept q ≡ has attacked q && has free q) → ((q : ℕ) → f.lands c q ≡ has lands q) → ((q : ℕ) → has n q ≡ has kept q && has lands q) → IsSetOf n (Captures f c r)
-  taken_set m r attacked kept lands n l from e reach keeps land is = set_like n
-      (λ s ls h. takes_is f c free vacant r s l ls (from, h.0.1, land s ∙ h.1, h.0.0.0))
-      (λ s ls h. (let t : Takes f c free vacant r s = captures_told f c free vacant r s l ls h in (((t.3, clear_empty r s), t.1), sym (land s) ∙ t.2)))
-      (set_of_both n kept lands is (set_of_both kept attacked free keeps (subst (λ (x : Man). IsSetOf attacked (Reaches empty x.color x.kind r)) e reach) (λ q _. (λ t. t, λ t. t))) (λ q _. (λ t. t, λ t. t)))
-
-  pub taking_set : (m : Man) (s attacked n : ℕ) → s < 64 → has free s ≡ true → f.lands c s ≡ true → m ≡ man (other c) Pawn → IsSetOf attacked (Reaches empty m.color m.kind s) → ((q : ℕ) → has n q ≡ has attacked q && has free q) → IsSetOf n (λ r. Captures f c r s)
-  taking_set m s attacked n ls to lands e reach is = set_like n
-      (λ r lr h. takes_is f c free vacant r s lr ls (h.1, to, lands, turned_back c r s h.0.0))
-      (λ r lr h. (let t : Takes f c free vacant r s = captures_told f c free vacant r s lr ls h in ((turned c r s t.3, clear_empty s r), t.0)))
-      (set_of_both n attacked free is (subst (λ (x : Man). IsSetOf attacked (Reaches empty x.color x.kind s)) e reach) (λ q _. (λ t. t, λ t. t)))
+pub struck_set : (c : Color) (set full ahead east west n : ℕ) → ((q : ℕ) → q < 64 → has full q ≡ true) → IsSetOf ahead (IsAheadOf c set full) → IsSetOf east (IsEastOf ahead) → IsSetOf west (IsWestOf ahead) →
+    ((q : ℕ) → has n q ≡ has east q || has west q) → IsSetOf n (LedTo (λ r s. InPattern c Pawn r s) set)
+struck_set c set full ahead east west n all forth right left is = set_like n
+    (λ s ls h. elim h [
+      | inl (y, ly, on, e, row) ↦ (let x : ((x : ℕ) × (x < 64) × (has set x ≡ true) × IsNext c x y) × (has full y ≡ true) = (forth y ly).0 on in (x.0.0, x.0.1, x.0.2, beside_next c x.0.0 y s x.0.1 ly ls x.0.3 row (inl e)))
+      | inr (y, ly, on, e, row) ↦ (let x : ((x : ℕ) × (x < 64) × (has set x ≡ true) × IsNext c x y) × (has full y ≡ true) = (forth y ly).0 on in (x.0.0, x.0.1, x.0.2, beside_next c x.0.0 y s x.0.1 ly ls x.0.3 row (inr e)))
+    ])
+    (λ s ls (x, lx, on, p). (
+    let y : (y : ℕ) × (y < 64) × IsNext c x y × (rank y ≡ rank s) × ((s ≡ y + 1) ⊎ (y ≡ s + 1)) = next_beside c x s lx ls p in
+    let there : has ahead y.0 ≡ true = (forth y.0 y.1).1 ((x, lx, on, y.2), all y.0 y.1) in
+    elim y.4 [ inl e ↦ inl (y.0, y.1, there, e, y.3) | inr e ↦ inr (y.0, y.1, there, e, y.3) ]))
+    (set_of_union n east west is right left)

@@ -15,7 +15,6 @@ use Rattle.pg_captures.specs.FreeSteps.{StepsTo, Becomes, FreeStep}
 use Rattle.pg_journeys.specs.Facts.{Facts}
 use Rattle.pg_journeys.specs.Journeys.{Leg, IsLeg, may_take}
 use Rattle.pg_journeys.specs.lemmas.Turns.{leg}
-use Rattle.pg_journeys.specs.inner.Grounds.{LedTo, Captures}
 use Rattle.pg_journeys.specs.inner.Counting.{counts}
 use Rattle.pg_journeys.proofs.FrontLemmas.{kind_is, not_both, on_or_off, and_first, and_second, and_both, not_true, not_false}
 
@@ -105,15 +104,6 @@ module _ (c : Color) (k : Kind) (set last r found : ℕ) (is : r ≡ last_rank c
         (and_first (has set s) (has last s) both, inl ((row s l).0 (and_second (has set s) (has last s) both) ∙ is, (np, nk)))),
     λ (on, b). elim b [ inl (r, _) ↦ parted s ∙ and_both (has set s) (has last s) on ((row s l).1 (r ∙ sym is)) | inr (_, e) ↦ absurd (np e) ],
   )
-
--- ---- where captures land
--- from where pawns capture on some square of a set, they do so on one of those where captures may land
-pub captured_lands : (f : Facts) (c : Color) (set lands part found : ℕ) → ((t : ℕ) → f.lands c t ≡ has lands t) → ((q : ℕ) → has part q ≡ (has set q && has lands q)) →
-    IsSetOf found (LedTo (λ s r. Captures f c r s) part) → IsSetOf found (LedTo (λ s r. Captures f c r s) set)
-captured_lands f c set lands part found land both is t l = (
-  λ h. (let p : LedTo (λ s r. Captures f c r s) part t = (is t l).0 h in (p.0, p.1, and_first (has set p.0) (has lands p.0) (sym (both p.0) ∙ p.2), p.3)),
-  λ (s, ls, on, take). (is t l).1 (s, ls, both s ∙ and_both (has set s) (has lands s) on (sym (land s) ∙ take.1.0.lands refl take.1.1), take),
-)
 
 -- ---- what a step counts
 pub light_step : (f : Facts) (c : Color) (quiet : Bool) (l : Leg) (w : ℕ) → w ≡ counts f c quiet l → (w ≡ 0) ⊎ (w ≡ 1)

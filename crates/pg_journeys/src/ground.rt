@@ -2,7 +2,9 @@
 ghost use Rattle.std.specs.Prelude.{◌≡◌, ◌≢◌, ℕ, ◌<◌, ◌↔◌, true, false, Some, None};
 ghost use Rattle.pg_board.specs.Bits.{has};
 ghost use Rattle.pg_board.specs.Placement.{get};
+ghost use Rattle.pg_board.specs.Squares.{file};
 ghost use Rattle.pg_board.specs.SquareSets.{IsSetOf};
+ghost use Rattle.pg_position.specs.Geometry.{InPattern};
 ghost use Rattle.pg_board.specs.Men.{other};
 ghost use Rattle.pg_board.specs.declared.man.Kind.TheVariants.{Pawn};
 ghost use Rattle.pg_journeys.specs.Facts.{Facts as KnownFacts};
@@ -10,7 +12,7 @@ ghost use Rattle.pg_journeys.specs.Journeys.{IsLeg};
 ghost use Rattle.pg_journeys.specs.Known.{known, landing};
 ghost use Rattle.pg_journeys.specs.lemmas.Turns.{leg};
 ghost use Rattle.pg_journeys.specs.inner.Grounds.{IsTable, IsGround, LedTo, Pushes, Captures};
-ghost use Rattle.pg_journeys.specs.inner.Makings.{IsFilled, IsAheadOf};
+ghost use Rattle.pg_journeys.specs.inner.Makings.{IsFilled, IsAheadOf, IsEastOf, IsWestOf};
 
 use crate::facts::{Facts, rank_set};
 use pg_board::{Board, Color, Kind, Man, Square, SquareSet};
@@ -87,6 +89,44 @@ fn ahead_of(color: Color, set: SquareSet, free: SquareSet) -> SquareSet
     }
 }
 
+// The squares of the a-file.
+fn first_file() -> SquareSet
+    ensures { IsSetOf result (λ s. file s ≡ 1) }
+{
+    SquareSet::of_bits(0x0101_0101_0101_0101)
+}
+
+// The squares of the h-file.
+fn last_file() -> SquareSet
+    ensures { IsSetOf result (λ s. file s ≡ 8) }
+{
+    SquareSet::of_bits(0x8080_8080_8080_8080)
+}
+
+// The squares next to those of a set, towards the h-file.
+fn east_of(set: SquareSet) -> SquareSet
+    ensures { IsSetOf result (IsEastOf set) }
+{
+    let moved = SquareSet::of_bits(set.bits() << 1);
+    moved - first_file()
+}
+
+// The squares next to those of a set, towards the a-file.
+fn west_of(set: SquareSet) -> SquareSet
+    ensures { IsSetOf result (IsWestOf set) }
+{
+    let moved = SquareSet::of_bits(set.bits() >> 1);
+    moved - last_file()
+}
+
+// The squares that pawns of a colour on the squares of a set strike.
+fn struck_by(color: Color, set: SquareSet) -> SquareSet
+    ensures { IsSetOf result (LedTo (λ r s. InPattern color Pawn r s) set) }
+{
+    let ahead = ahead_of(color, set, SquareSet::full());
+    east_of(ahead) | west_of(ahead)
+}
+
 impl Ground {
     // Where captures of the colour may land.
     pub(crate) fn lands(&self) -> SquareSet
@@ -125,46 +165,17 @@ impl Ground {
         steps
     }
 
-    // Where a pawn on a square may step straight ahead.
-    pub(crate) fn pushes(&self, square: Square) -> SquareSet
-        requires { IsGround self.now }
-        ensures { IsSetOf result (Pushes (known self.now.facts) self.now.color square) }
-    {
-        // A fact for the proof: the square is on the board.
-        square.index();
-        let from = SquareSet::single(square) & self.free;
-        let once = ahead_of(self.color, from, self.free);
-        if square.rank() == home_rank(self.color) {
-            once | ahead_of(self.color, once, self.free)
-        } else {
-            once
-        }
-    }
-
     // Where pawns on the squares of a set may step straight ahead.
     pub(crate) fn pushes_of(&self, set: SquareSet) -> SquareSet
         requires { IsGround self.now }
         ensures { IsSetOf result (LedTo (Pushes (known self.now.facts) self.now.color) set) }
     {
-        let mut left = set;
-        let mut found = SquareSet::empty();
-        while let Some(square) = left.pop_first() {
-            found = found | self.pushes(square);
-        }
-        found
-    }
-
-    // Where a pawn on a square may step by a capture.
-    pub(crate) fn captures(&self, square: Square) -> SquareSet
-        requires { IsGround self.now }
-        ensures { IsSetOf result (Captures (known self.now.facts) self.now.color square) }
-    {
-        if self.free.contains(square) {
-            let pawn = Man::new(self.color, Kind::Pawn);
-            attacks_from(&Board::empty(), pawn, square) & self.free & self.lands()
-        } else {
-            SquareSet::empty()
-        }
+        let from = set & self.free;
+        let once = ahead_of(self.color, from, self.free);
+        let homed = from & rank_set(home_rank(self.color));
+        let crossed = ahead_of(self.color, homed, self.free);
+        let twice = ahead_of(self.color, crossed, self.free);
+        once | twice
     }
 
     // Where pawns on the squares of a set may step by a capture.
@@ -172,26 +183,10 @@ impl Ground {
         requires { IsGround self.now }
         ensures { IsSetOf result (LedTo (Captures (known self.now.facts) self.now.color) set) }
     {
-        let mut left = set;
-        let mut found = SquareSet::empty();
-        while let Some(square) = left.pop_first() {
-            found = found | self.captures(square);
-        }
-        found
-    }
-
-    // From where a pawn may step straight ahead to a square.
-    pub(crate) fn pushed_from(&self, square: Square) -> SquareSet
-        requires { IsGround self.now }
-        ensures { IsSetOf result (λ r. Pushes (known self.now.facts) self.now.color r square) }
-    {
-        // A fact for the proof: the square is on the board.
-        square.index();
-        let to = SquareSet::single(square) & self.free;
-        let back = self.color.other();
-        let once = ahead_of(back, to, self.free);
-        let twice = ahead_of(back, once, self.free);
-        once | (twice & rank_set(home_rank(self.color)))
+        let from = set & self.free;
+        let struck = struck_by(self.color, from);
+        let kept = struck & self.free;
+        kept & self.lands()
     }
 
     // From where a pawn may step straight ahead to some square of a set.
@@ -199,25 +194,12 @@ impl Ground {
         requires { IsGround self.now }
         ensures { IsSetOf result (LedTo (λ s r. Pushes (known self.now.facts) self.now.color r s) set) }
     {
-        let mut left = set;
-        let mut found = SquareSet::empty();
-        while let Some(square) = left.pop_first() {
-            found = found | self.pushed_from(square);
-        }
-        found
-    }
-
-    // From where a pawn may step to a square by a capture.
-    pub(crate) fn captured_from(&self, square: Square) -> SquareSet
-        requires { IsGround self.now }
-        ensures { IsSetOf result (λ r. Captures (known self.now.facts) self.now.color r square) }
-    {
-        if self.free.contains(square) && self.lands().contains(square) {
-            let pawn = Man::new(self.color.other(), Kind::Pawn);
-            attacks_from(&Board::empty(), pawn, square) & self.free
-        } else {
-            SquareSet::empty()
-        }
+        let back = self.color.other();
+        let to = set & self.free;
+        let once = ahead_of(back, to, self.free);
+        let twice = ahead_of(back, once, self.free);
+        let homed = twice & rank_set(home_rank(self.color));
+        once | homed
     }
 
     // From where a pawn may step by a capture to some square of a set.
@@ -225,12 +207,9 @@ impl Ground {
         requires { IsGround self.now }
         ensures { IsSetOf result (LedTo (λ s r. Captures (known self.now.facts) self.now.color r s) set) }
     {
-        // Nowhere else does a capture lead.
-        let mut left = set & self.lands();
-        let mut found = SquareSet::empty();
-        while let Some(square) = left.pop_first() {
-            found = found | self.captured_from(square);
-        }
-        found
+        let free = set & self.free;
+        let to = free & self.lands();
+        let struck = struck_by(self.color.other(), to);
+        struck & self.free
     }
 }

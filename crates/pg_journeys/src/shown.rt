@@ -8,7 +8,7 @@ ghost use Rattle.pg_journeys.specs.Known.{known};
 ghost use Rattle.pg_journeys.specs.Plans.{IsAlive};
 ghost use Rattle.pg_journeys.specs.inner.Counts.{AreNone};
 ghost use Rattle.pg_journeys.specs.inner.Sides.{facts_of, square_at, IsSide};
-ghost use Rattle.pg_journeys.specs.inner.Showing.{MayChange, IsMeasured, AreBudgets, ShowsWay, IsJoined, ShowsAmong, IsDead, Shows};
+ghost use Rattle.pg_journeys.specs.inner.Showing.{MayChange, IsMeasured, IsOneMeasure, AreBudgets, ShowsWay, IsJoined, ShowsAmong, IsDead, Shows};
 
 use crate::facts::Facts;
 use crate::ground::ground_of;
@@ -86,7 +86,14 @@ fn is_alive(side: &Side, moves: &Measured, quiet: &Measured, way: Option<Wing>) 
     is_paid(side, &quiet.aims, way, quiet.most)
 }
 
-// What the plans of a way show; none where it is not alive.
+// Whether both measures are one: they may count as much, and since no capture may land each step is a quiet move.
+fn is_one_measure(side: &Side, most: u8, fewest: u8) -> bool
+    ensures { IsTrue result → IsOneMeasure side.now most fewest }
+{
+    most == fewest && side.ground.lands().is_empty()
+}
+
+// What the plans of a way show; none where it is not alive. Where both measures are one, one tells both.
 fn way_shown(side: &Side, moves: &Measured, quiet: &Measured, way: Option<Wing>) -> Option<Shown>
     requires side { (d : Placement) × IsSide d side.now }
     requires moves { IsMeasured side.now false moves.now }
@@ -105,6 +112,16 @@ fn way_shown(side: &Side, moves: &Measured, quiet: &Measured, way: Option<Wing>)
     let Some(rooms) = rooms_of(side, &moves.aims, way, moves.most) else {
         return None;
     };
+    if is_one_measure(side, moves.most, quiet.most) {
+        let both = deeds_of(side, false, moves, way, &rooms);
+        return Some(Shown {
+            changed: changed_in(side.ground.color, &side.men, way, &both, &both),
+            lands: both.lands,
+            quiet_lands: both.lands,
+            falls: both.falls,
+            quiet_falls: both.falls,
+        });
+    }
     let Some(quiet_rooms) = rooms_of(side, &quiet.aims, way, quiet.most) else {
         return None;
     };
@@ -200,6 +217,60 @@ fn measure(side: &Side, is_quiet: bool, measured: &mut Measured)
     fill_aims(side, is_quiet, measured.most, &mut measured.aims);
 }
 
+// What the plans of a side show by one measure that is both. A table of its own, since it is cleared where a function begins.
+#[inline(never)]
+fn shown_by_one(side: &Side, most: u8) -> Option<Shown>
+    requires side { (d : Placement) × IsSide d side.now }
+    requires low { most < 200 }
+    requires one { IsOneMeasure side.now most most }
+    ensures { (d : Placement) (k : ℕ) → IsSide d side.now → AreBudgets d side.now k most most →
+        MatchOption result (IsDead (facts_of side.now) d side.now.position k side.now.ground.color)
+        (λ a. Shows (facts_of side.now) d side.now.position k side.now.ground.color a) }
+{
+    let mut moves = Measured {
+        aims: [[255u8; 384]; 17],
+        most,
+    };
+    measure(side, false, &mut moves);
+    ways_shown(side, &moves, &moves)
+}
+
+// What the plans of a side show by one measure and by quiet moves, which are counted here.
+#[inline(never)]
+fn shown_with_quiet(side: &Side, moves: &Measured, fewest: u8) -> Option<Shown>
+    requires side { (d : Placement) × IsSide d side.now }
+    requires moves { IsMeasured side.now false moves.now }
+    requires low { fewest < 200 }
+    ensures { (d : Placement) (k : ℕ) → IsSide d side.now → AreBudgets d side.now k moves.now.most fewest →
+        MatchOption result (IsDead (facts_of side.now) d side.now.position k side.now.ground.color)
+        (λ a. Shows (facts_of side.now) d side.now.position k side.now.ground.color a) }
+{
+    let mut quiet = Measured {
+        aims: [[255u8; 384]; 17],
+        most: fewest,
+    };
+    measure(side, true, &mut quiet);
+    ways_shown(side, moves, &quiet)
+}
+
+// What the plans of a side show by two measures.
+#[inline(never)]
+fn shown_by_two(side: &Side, most: u8, fewest: u8) -> Option<Shown>
+    requires side { (d : Placement) × IsSide d side.now }
+    requires low { most < 200 }
+    requires lower { fewest < 200 }
+    ensures { (d : Placement) (k : ℕ) → IsSide d side.now → AreBudgets d side.now k most fewest →
+        MatchOption result (IsDead (facts_of side.now) d side.now.position k side.now.ground.color)
+        (λ a. Shows (facts_of side.now) d side.now.position k side.now.ground.color a) }
+{
+    let mut moves = Measured {
+        aims: [[255u8; 384]; 17],
+        most,
+    };
+    measure(side, false, &mut moves);
+    shown_with_quiet(side, &moves, fewest)
+}
+
 // What the plans of a colour show under facts; none where no way is alive.
 pub(crate) fn shown_of(
     diagram: &Diagram,
@@ -220,17 +291,11 @@ pub(crate) fn shown_of(
         return None;
     };
     let side = side_of(diagram, position, facts, color);
-    let mut moves = Measured {
-        aims: [[255u8; 384]; 17],
-        most,
-    };
-    measure(&side, false, &mut moves);
-    let mut quiet = Measured {
-        aims: [[255u8; 384]; 17],
-        most: fewest,
-    };
-    measure(&side, true, &mut quiet);
-    ways_shown(&side, &moves, &quiet)
+    if is_one_measure(&side, most, fewest) {
+        shown_by_one(&side, most)
+    } else {
+        shown_by_two(&side, most, fewest)
+    }
 }
 
 // Whether some way is alive.

@@ -6,7 +6,7 @@ use Rattle.pg_board.specs.declared.man.Color.TheVariants.{White}
 use Rattle.pg_board.specs.declared.man.Kind.{Kind}
 use Rattle.pg_board.specs.Men.{number_of_kind}
 use Rattle.pg_board.specs.Placement.{Placement}
-use Rattle.pg_board.specs.Squares.{file}
+use Rattle.pg_board.specs.Squares.{file, rank}
 use Rattle.pg_board.specs.SquareSets.{IsSetOf}
 use Rattle.pg_position.specs.Attack.{Reaches}
 use Rattle.pg_position.specs.Geometry.{IsForward}
@@ -37,3 +37,11 @@ IsNext c r s = (file r ≡ file s) × IsForward c 1 r s
 -- s is free, and the square ahead of one of the set
 abbrev pub IsAheadOf : Color → ℕ → ℕ → ℕ → Type 0
 IsAheadOf c set free s = ((x : ℕ) × (x < 64) × (has set x ≡ true) × IsNext c x s) × (has free s ≡ true)
+
+-- s is next to a square of the set on its rank, towards the h-file
+abbrev pub IsEastOf : ℕ → ℕ → Type 0
+IsEastOf set s = (x : ℕ) × (x < 64) × (has set x ≡ true) × (s ≡ x + 1) × (rank x ≡ rank s)
+
+-- and towards the a-file
+abbrev pub IsWestOf : ℕ → ℕ → Type 0
+IsWestOf set s = (x : ℕ) × (x < 64) × (has set x ≡ true) × (x ≡ s + 1) × (rank x ≡ rank s)

@@ -4,13 +4,14 @@ use Rattle.pg_board.specs.Bits.{has}
 use Rattle.pg_board.specs.declared.man.Color.{Color}
 use Rattle.pg_board.specs.declared.man.Kind.{Kind}
 use Rattle.pg_board.specs.Placement.{Placement}
-use Rattle.pg_board.specs.SquareSets.{IsSetOf}
+use Rattle.pg_board.specs.SquareSets.{IsSetOf, HasNoneFrom}
 use Rattle.pg_position.specs.declared.rights.Wing.{Wing}
 use Rattle.pg_position.specs.declared.state.State.{State}
 use Rattle.pg_position.specs.Position.{Stands}
 use Rattle.pg_captures.specs.Owed.{plies_left, victims}
 use Rattle.pg_travel.specs.Origins.{counted}
 use Rattle.pg_journeys.specs.Facts.{Facts}
+use Rattle.pg_journeys.specs.Known.{landing}
 use Rattle.pg_journeys.specs.Journeys.{Falls, Journeys, HasTake}
 use Rattle.pg_journeys.specs.Plans.{Measure, Moves, QuietMoves, IsPaid, IsAlive}
 use Rattle.pg_journeys.specs.Narrowing.{StaysIn, PlansToTake, PlansToFall}
@@ -40,6 +41,11 @@ pub record IsMeasured (x : Side) (quiet : Bool) (m : Measured) : Type 0 where
 pub record AreBudgets (d : Placement) (x : Side) (k : ℕ) (moves quiet : ℕ) : Type 0 where
   pub all : IsBudget d x.position k x.ground.color Moves moves
   pub few : IsBudget d x.position k x.ground.color QuietMoves quiet
+
+-- both measures may count as much, and no capture may land: each step is a quiet move
+pub record IsOneMeasure (x : Side) (most fewest : ℕ) : Type 0 where
+  pub same : most ≡ fewest
+  pub none : HasNoneFrom (landing x.ground.facts x.ground.color) 0
 
 -- the man i does not start where he stands, or by both measures he changes by some one end
 abbrev pub MayChange : Color → Men → Option Wing → Deeds → Deeds → ℕ → Type 0

@@ -1,6 +1,8 @@
-use Rattle.std.proofs.Common.{true, false}
+use Rattle.std.proofs.Common.{ℕ, true, false, sym, subst}
 use Rattle.pg_journeys.specs.Plans.{Moves, QuietMoves}
+use Rattle.pg_journeys.specs.inner.Showing.{IsBudget, AreBudgets, IsOneMeasure}
 use Rattle.pg_journeys.proofs.Changing.{way_shows}
+use Rattle.pg_journeys.proofs.OneMeasure.{same_aims, same_deeds}
 use Rattle.pg_journeys.proofs.Masks.{not_so}
 use Rattle.pg_journeys.proofs.Paying.{alive_of, paid_of}
 use Rattle.pg_journeys.proofs.shown.way_shown.Goals as goal
@@ -23,5 +25,21 @@ returns-in_default-rooms_of-clause-none c = λ d k side budgets alive. (let g = 
 pub returns-clause-some : goal.returns-clause-some
 returns-clause-some c = λ d k side budgets. (
   alive_of d c.args.side.now k c.args.way c.args.moves.now.most c.args.quiet.now.most budgets.all budgets.few (c.is_way.ensures.0 c.if-not-is_way.false) (c.in-Some.ensures.some d false side c.requires.moves.aims).1 (c.in-Some-rooms_of.ensures.some d true side c.requires.quiet.aims).1,
-  way_shows d c.args.side.now k side c.args.way c.args.moves.now.most c.args.quiet.now.most budgets c.deeds_of-all.result c.deeds_of-calm.result (c.deeds_of-all.ensures d side) (c.deeds_of-calm.ensures d side) c.changed_in.result c.changed_in.ensures,
+  way_shows d c.args.side.now k side c.args.way c.args.moves.now.most c.args.quiet.now.most budgets c.deeds_of-all.result c.deeds_of-calm.result (c.deeds_of-all.ensures d side) (c.deeds_of-calm.ensures d side) c.changed_in-2.result c.changed_in-2.ensures,
 )
+
+pub deeds_of-both-requires-clause-rooms : goal.deeds_of-both-requires-clause-rooms
+deeds_of-both-requires-clause-rooms c = λ d side. (c.in-Some.ensures.some d false side c.requires.moves.aims).0
+
+pub returns-then-is_one_measure-clause-some : goal.returns-then-is_one_measure-clause-some
+returns-then-is_one_measure-clause-some c = λ d k side budgets.
+    let x = c.args.side.now in
+    let most : ℕ = c.args.moves.now.most in
+    let one : IsOneMeasure x most c.args.quiet.now.most = c.is_one_measure.ensures c.if-is_one_measure.true in
+    let both : AreBudgets d x k most most = record { all = budgets.all; few = subst (λ (n : ℕ). IsBudget d x.position k x.ground.color QuietMoves n) (sym one.same) budgets.few } in
+    let moves = c.in-Some.ensures.some d false side c.requires.moves.aims in
+    let quiet = c.in-Some.ensures.some d true side (same_aims x one.none false true most c.args.moves.now.aims c.requires.moves.aims) in
+    let deeds = c.deeds_of-both.ensures d side in (
+      alive_of d x k c.args.way most most both.all both.few (c.is_way.ensures.0 c.if-not-is_way.false) moves.1 quiet.1,
+      way_shows d x k side c.args.way most most both c.deeds_of-both.result c.deeds_of-both.result deeds (same_deeds x one.none d c.args.way side most c.in-Some.rooms false true c.deeds_of-both.result moves.0 quiet.0 deeds) c.changed_in.result c.changed_in.ensures,
+    )

@@ -1,17 +1,8 @@
-use Rattle.pg_travel.proofs.TakenSets.{fewer}
+use Rattle.std.proofs.Common.{ℕ, sym, ap}
+use Rattle.pg_board.specs.Bits.{has}
 use Rattle.pg_journeys.specs.Known.{known}
-use Rattle.pg_journeys.specs.inner.Grounds.{Captures}
-use Rattle.pg_journeys.proofs.SiftedSets.{gather_first, gather_next, gather_all}
+use Rattle.pg_journeys.proofs.PawnLemmas.{taken_ahead}
 use Rattle.pg_journeys.proofs.ground.Ground.captures_of.Goals as goal
 
-pub loop-square-init : goal.loop-square-init
-loop-square-init c = gather_first (Captures (known c.args.self.now.facts) c.args.self.now.color) c.args.set c.empty-found.result c.empty-found.ensures.none
-
-pub loop-square-smaller : goal.loop-square-smaller
-loop-square-smaller c = fewer c.loop-square.left c.pop_first.new.self c.in-Some.square c.in-Some.ensures.taken c.in-Some.ensures.rest
-
-pub loop-square-preserved : goal.loop-square-preserved
-loop-square-preserved c = gather_next (Captures (known c.args.self.now.facts) c.args.self.now.color) c.args.set c.loop-square.left c.pop_first.new.self c.in-Some.square c.loop-square.found c.captures-2.result c.bitor-found.result c.in-Some.ensures.taken c.in-Some.ensures.rest c.captures-2.ensures c.bitor-found.ensures.members c.loop-square.invariant
-
 pub returns : goal.returns
-returns c = gather_all (Captures (known c.args.self.now.facts) c.args.self.now.color) c.args.set c.loop-square.left c.loop-square.found c.in_default.ensures.taken c.loop-square.invariant
+returns c = (let g = c.args.self.now in taken_ahead (known g.facts) g.color g.free c.requires.free c.args.set c.bitand-from.result c.struck_by-struck.result c.bitand-kept.result c.lands.result c.bitand.result c.bitand-from.ensures.members c.struck_by-struck.ensures c.bitand-kept.ensures.members (λ q. ap (λ (x : ℕ). has x q) (sym c.lands.ensures)) c.bitand.ensures.members)

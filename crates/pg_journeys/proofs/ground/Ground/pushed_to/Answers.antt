@@ -1,17 +1,16 @@
-use Rattle.pg_travel.proofs.TakenSets.{fewer}
+use Rattle.std.proofs.Common.{◌≡◌, ℕ, subst}
+use Rattle.pg_board.specs.declared.man.Color.{Color}
+use Rattle.pg_board.specs.Men.{other}
+use Rattle.pg_board.specs.Squares.{rank}
+use Rattle.pg_board.specs.SquareSets.{IsSetOf}
 use Rattle.pg_journeys.specs.Known.{known}
-use Rattle.pg_journeys.specs.inner.Grounds.{Pushes}
-use Rattle.pg_journeys.proofs.SiftedSets.{gather_first, gather_next, gather_all}
+use Rattle.pg_journeys.specs.inner.Makings.{IsAheadOf}
+use Rattle.pg_journeys.proofs.PawnLemmas.{pushed_back}
 use Rattle.pg_journeys.proofs.ground.Ground.pushed_to.Goals as goal
 
-pub loop-square-init : goal.loop-square-init
-loop-square-init c = gather_first (λ s r. Pushes (known c.args.self.now.facts) c.args.self.now.color r s) c.args.set c.empty-found.result c.empty-found.ensures.none
-
-pub loop-square-smaller : goal.loop-square-smaller
-loop-square-smaller c = fewer c.loop-square.left c.pop_first.new.self c.in-Some.square c.in-Some.ensures.taken c.in-Some.ensures.rest
-
-pub loop-square-preserved : goal.loop-square-preserved
-loop-square-preserved c = gather_next (λ s r. Pushes (known c.args.self.now.facts) c.args.self.now.color r s) c.args.set c.loop-square.left c.pop_first.new.self c.in-Some.square c.loop-square.found c.pushed_from.result c.bitor-found.result c.in-Some.ensures.taken c.in-Some.ensures.rest c.pushed_from.ensures c.bitor-found.ensures.members c.loop-square.invariant
-
 pub returns : goal.returns
-returns c = gather_all (λ s r. Pushes (known c.args.self.now.facts) c.args.self.now.color r s) c.args.set c.loop-square.left c.loop-square.found c.in_default.ensures.taken c.loop-square.invariant
+returns c =
+    let g = c.args.self.now in
+    let first : IsSetOf c.ahead_of-once.result (IsAheadOf (other g.color) c.bitand-to.result g.free) = subst (λ (x : Color). IsSetOf c.ahead_of-once.result (IsAheadOf x c.bitand-to.result g.free)) c.other-back.ensures c.ahead_of-once.ensures in
+    let next : IsSetOf c.ahead_of-twice.result (IsAheadOf (other g.color) c.ahead_of-once.result g.free) = subst (λ (x : Color). IsSetOf c.ahead_of-twice.result (IsAheadOf x c.ahead_of-once.result g.free)) c.other-back.ensures c.ahead_of-twice.ensures in
+    pushed_back (known g.facts) g.color g.free c.requires.free c.args.set c.bitand-to.result c.ahead_of-once.result c.ahead_of-twice.result c.rank_set.result c.bitand-homed.result c.bitor.result c.bitand-to.ensures.members first next (subst (λ (r : ℕ). IsSetOf c.rank_set.result (λ q. rank q ≡ r)) c.home_rank.ensures.value c.rank_set.ensures) c.bitand-homed.ensures.members c.bitor.ensures.members

@@ -1,0 +1,5 @@
+use Rattle.pg_journeys.proofs.AimLemmas.{none_made}
+use Rattle.pg_journeys.proofs.shown.shown_by_two.Goals as goal
+
+pub measure-requires-clause-none : goal.measure-requires-clause-none
+measure-requires-clause-none c = λ e l. none_made e l
