@@ -3,7 +3,7 @@ use Rattle.std.proofs.Common.{◌≡◌, ℕ, ◌+◌, ◌<◌, ◌≤◌, inl, 
 use Rattle.std.proofs.lemmas.Bool.Decides.{leb_tells}
 use Rattle.pg_board.specs.Bits.{has}
 use Rattle.pg_board.specs.SquareSets.{IsSetOf, HasNoneFrom, IsFirstFrom, IsLastIn}
-use Rattle.pg_board.proofs.SetLemmas.{set_of_rest, set_like}
+use Rattle.pg_board.proofs.SetLemmas.{set_none, set_of_rest, set_like}
 use Rattle.pg_position.specs.declared.state.State.{State}
 use Rattle.pg_position.specs.declared.moves.Move.{Move}
 use Rattle.pg_position.specs.Step.{IsLegal, IsOnBoard}
@@ -175,14 +175,22 @@ pub tried_none : (q : MovesLeft) (p : State) (l : Option Move) → record { posi
 unfolding IsOneByOne
 tried_none q p l is e = subst (λ (v : MovesLeft). IsOneByOne v.position v.last) is (subst (λ (x : Option Move). IsOneByOne p x) (sym e) tt)
 
-skipped : (p : State) (a : Move) (all to maybe_pinned quiet old rest : ℕ) (s : Source) → IsReady p (Some a) maybe_pinned quiet old s → IsRestOf p a all → IsLastIn all to → IsSetOf rest (λ t. (has old t ≡ true) × (to < t)) → IsReady p (Some (plain_move a.from to)) maybe_pinned quiet rest s
-unfolding IsReady
-skipped p a all to maybe_pinned quiet old rest s h are last past =
-    let g : IsLegal p (plain_move a.from to) × IsBefore a (plain_move a.from to) = (are.squares to last.on_board).0 last.member in
-    (h.0, h.1, h.2, λ e. rest_on p a (plain_move a.from to) old rest (h.3 e) g.0 g.1 refl past)
+-- past the last of them none is left
+over : (p : State) (a : Move) (old all to : ℕ) → IsRestOf p a old → IsRestOf p a all → IsLastIn all to → IsSetOf 0 (λ t. (has old t ≡ true) × (to < t))
+over p a old all to h are last = set_none (λ q l g.
+    let yes_there : has all q ≡ true = (are.squares q l).1 ((h.squares q l).0 g.0) in
+    let off : has all q ≡ false = last.after q g.1 in
+    cc)
 
-pub ready_skipped : (q : MovesLeft) (p : State) (l : Option Move) (a : Move) (all to maybe_pinned quiet old rest : ℕ) (s : Source) → record { position = p; last = l } ≡ q → l ≡ Some a → IsReady p l maybe_pinned quiet old s → IsRest q.position q.last all → IsLastIn all to → IsSetOf rest (λ t. (has old t ≡ true) × (to < t)) → IsReady p (Some (plain_move a.from to)) maybe_pinned quiet rest s
+skipped : (p : State) (a : Move) (all to maybe_pinned quiet old : ℕ) (s : Source) → IsReady p (Some a) maybe_pinned quiet old s → IsRestOf p a all → IsLastIn all to → IsReady p (Some (plain_move a.from to)) maybe_pinned quiet 0 s
+unfolding IsReady
+skipped p a all to maybe_pinned quiet old s h are last =
+    let g : IsLegal p (plain_move a.from to) × IsBefore a (plain_move a.from to) = (are.squares to last.on_board).0 last.member in
+    (h.0, h.1, h.2, λ e. rest_on p a (plain_move a.from to) old 0 (h.3 e) g.0 g.1 refl (over p a old all to (h.3 e) are last))
+
+pub ready_skipped : (q : MovesLeft) (p : State) (l : Option Move) (a : Move) (all to maybe_pinned quiet old rest : ℕ) (s : Source) → record { position = p; last = l } ≡ q → l ≡ Some a → IsReady p l maybe_pinned quiet old s → IsRest q.position q.last all → IsLastIn all to → rest ≡ 0 → IsReady p (Some (plain_move a.from to)) maybe_pinned quiet rest s
 unfolding IsRest
-ready_skipped q p l a all to maybe_pinned quiet old rest s is e ready are last past =
+ready_skipped q p l a all to maybe_pinned quiet old rest s is e ready are last none =
     let there : IsRest p l all = subst (λ (v : MovesLeft). IsRest v.position v.last all) (sym is) are in
-    skipped p a all to maybe_pinned quiet old rest s (subst (λ (x : Option Move). IsReady p x maybe_pinned quiet old s) e ready) (subst (λ (x : Option Move). IsRest p x all) e there) last past
+    let done : IsReady p (Some (plain_move a.from to)) maybe_pinned quiet 0 s = skipped p a all to maybe_pinned quiet old s (subst (λ (x : Option Move). IsReady p x maybe_pinned quiet old s) e ready) (subst (λ (x : Option Move). IsRest p x all) e there) last in
+    subst (λ (x : ℕ). IsReady p (Some (plain_move a.from to)) maybe_pinned quiet x s) (sym none) done

@@ -384,7 +384,8 @@ impl LegalMoves {
     #[tactic(auto, unfolding(crate::specs::Left::IsReady))]
     pub fn skip_rest(&mut self, rest: SquareSet)
         requires { IsRest self.old.position self.old.last rest }
-        ensures some { (s : ℕ) → IsLastIn rest s → self.new ≡ record self.old { last = to_square self.old.last s } }
+        ensures some { (s : ℕ) → IsLastIn rest s
+            → self.new ≡ record self.old { last = to_square self.old.last s } }
         ensures none { HasNoneFrom rest 0 → self.new ≡ self.old }
     {
         match self.last {
@@ -397,7 +398,7 @@ impl LegalMoves {
                         to,
                         promotion: None,
                     });
-                    self.rest = past(self.rest, to);
+                    self.rest = SquareSet::empty();
                 }
             },
         }

@@ -2,7 +2,7 @@
 
 use super::*;
 use pg_fen::text::digits;
-use pg_moves::{CountFault, count, legal_moves};
+use pg_moves::{CountFault, LegalMoves, count, count_legal, legal_moves};
 use std::alloc::{AllocError, Global};
 
 // That each row's position has so many games of 0 plies, 1 ply and so on.
@@ -147,4 +147,41 @@ fn refused_growths_of_moves_and_counts(rt: HostRuntime) {
         refused = refused.saturating_add(refusals(&rt, rt.alloc()));
     }
     assert!(rt; refused <= 1);
+}
+
+// How many legal moves there are: a man's first is handed out, and his further ones are counted as a set
+// where he has one.
+fn moves_by_men(position: &Position) -> u64 {
+    let mut total = 0u64;
+    let mut left = LegalMoves::new(position);
+    for _ in 0..u16::MAX {
+        match left.next() {
+            Some(_) => total = total.saturating_add(1),
+            None => return total,
+        }
+        if let Some(rest) = left.rest_of_man() {
+            total = total.saturating_add(rest.len() as u64);
+            left.skip_rest(rest);
+        }
+    }
+    total
+}
+
+fn check_men(rt: &impl Abort, table: &str) {
+    for row in table.lines() {
+        let (start, _) = halves(rt, row);
+        let start = position(rt, start);
+        check_row(rt, row, moves_by_men(&start) == count_legal(&start));
+    }
+}
+
+#[test]
+fn man_by_man(rt: HostRuntime) {
+    check_men(&rt, ARRAY);
+    check_men(&rt, MANY_GAMES);
+    check_men(&rt, FEW_GAMES);
+    check_men(&rt, MATED_GAMES);
+    check_men(&rt, CASTLING);
+    check_men(&rt, EN_PASSANT);
+    check_men(&rt, PROMOTIONS);
 }
