@@ -64,7 +64,22 @@ impl State {
         }
     }
 
-    // The squares to which the king castles.
+    // The squares to which the king castles towards wings whose ways are open: not inlined, since most kings have
+    // none.
+    #[inline(never)]
+    fn targets_from_home(&self, short: bool, long: bool) -> SquareSet
+        requires short { IsTrue short ↔ IsOpen self.now Wing.KingSide }
+        requires long { IsTrue long ↔ IsOpen self.now Wing.QueenSide }
+        ensures { IsSetOf result (CastlesTo self.now) }
+    {
+        if attacked(&self.board, king_home(self.side), self.side.other()) {
+            return SquareSet::empty();
+        }
+        self.target_if_safe(short, Wing::KingSide) | self.target_if_safe(long, Wing::QueenSide)
+    }
+
+    // The squares to which the king castles. That he can at all is asked where he stands, inlined.
+    #[inline(always)]
     pub(crate) fn castling_targets(&self) -> SquareSet
         ensures { IsSetOf result (CastlesTo self.now) }
     {
@@ -73,9 +88,6 @@ impl State {
         if !short && !long {
             return SquareSet::empty();
         }
-        if attacked(&self.board, king_home(self.side), self.side.other()) {
-            return SquareSet::empty();
-        }
-        self.target_if_safe(short, Wing::KingSide) | self.target_if_safe(long, Wing::QueenSide)
+        self.targets_from_home(short, long)
     }
 }

@@ -201,6 +201,7 @@ impl Position {
     /// The squares to which the king castles: the right is held, no man stands between king and rook, and
     /// the king's square, the one that he crosses and the one that he comes to are not attacked (FIDE
     /// article 3.8.2).
+    #[inline(always)]
     pub fn castling_targets(&self) -> SquareSet
         ensures { IsSetOf result (CastlesTo self.now) }
     {
