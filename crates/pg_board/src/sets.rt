@@ -106,8 +106,8 @@ pub fn replaced(sets: &Sets, i: u8, man: Option<Man>) -> Sets
     }
 }
 
-// The set in which the square `to` is as `from` was, and `from` is no more; `others` are the squares but these two.
-// There is no branch and no choice in it, so that all eight sets are made at once.
+// The set in which the square `to` is as `from` was, and `from` is no more; `others` are the squares
+// but these two. There is no branch and no choice in it, so that all eight sets are made at once.
 #[inline(always)]
 fn shifted(set: u64, from: u8, to: u8, others: u64) -> u64
     requires from { from < 64 }

@@ -15,6 +15,7 @@ use crate::squares::{ahead, home_rank, king_home, king_target, must_promote};
 use crate::state::State;
 use pg_board::{Color, Kind, Man};
 
+#[inline(always)]
 pub(crate) fn is_plain(state: &State, kind: Kind, m: &Move) -> bool
     ensures { IsTrue result ↔ IsPlain state.now kind m.now }
 {
@@ -24,6 +25,7 @@ pub(crate) fn is_plain(state: &State, kind: Kind, m: &Move) -> bool
         && goes(&state.board, &Man::new(state.side, kind), m.from, m.to)
 }
 
+#[inline(always)]
 pub(crate) fn is_capture(state: &State, kind: Kind, m: &Move) -> bool
     ensures { IsTrue result ↔ IsCapture state.now kind m.now }
 {
@@ -34,6 +36,7 @@ pub(crate) fn is_capture(state: &State, kind: Kind, m: &Move) -> bool
 }
 
 // Whether a pawn on its home rank goes two forward over an empty square to an empty square.
+#[inline(always)]
 pub(crate) fn is_double_advance(state: &State, kind: Kind, m: &Move) -> bool
     ensures { IsTrue result ↔ IsDoubleAdvance state.now kind m.now }
 {
@@ -45,6 +48,7 @@ pub(crate) fn is_double_advance(state: &State, kind: Kind, m: &Move) -> bool
         && is_vacant(&state.board, m.to)
 }
 
+#[inline(always)]
 pub(crate) fn is_en_passant(state: &State, kind: Kind, m: &Move) -> bool
     ensures { IsTrue result ↔ IsEnPassant state.now kind m.now }
 {
@@ -81,31 +85,82 @@ pub(crate) fn is_castling(state: &State, kind: Kind, m: &Move, wing: Wing) -> bo
         && state.is_castling_safe(wing)
 }
 
-// The case that a move without promotion is, if it is one.
-fn quiet_way(state: &State, kind: Kind, m: &Move) -> Option<StepKind>
+// The case that a pawn's move without promotion is, if it is one.
+#[inline(always)]
+fn pawn_case(state: &State, m: &Move) -> Option<StepKind>
     requires { m.now.promotion ≡ None }
-    ensures { MatchOption result ((w : StepKind) → ¬ IsWay state.now kind m.now w) (λ w. IsWay state.now kind m.now w) }
+    ensures { MatchOption result ((w : StepKind) → ¬ IsWay state.now Kind.Pawn m.now w)
+        (λ w. IsWay state.now Kind.Pawn m.now w) }
 {
-    if is_plain(state, kind, m) {
+    if is_plain(state, Kind::Pawn, m) {
         Some(StepKind::Plain)
-    } else if is_capture(state, kind, m) {
-        Some(StepKind::Capture)
-    } else if is_double_advance(state, kind, m) {
+    } else if is_double_advance(state, Kind::Pawn, m) {
         Some(StepKind::DoubleAdvance)
-    } else if is_en_passant(state, kind, m) {
+    } else if is_capture(state, Kind::Pawn, m) {
+        Some(StepKind::Capture)
+    } else if is_en_passant(state, Kind::Pawn, m) {
         Some(StepKind::EnPassant)
-    } else if is_castling(state, kind, m, Wing::KingSide) {
+    } else {
+        None
+    }
+}
+
+// The case that a king's move is, if it is one. It is no part of the caller's code, since castling asks after many squares.
+#[inline(never)]
+fn king_case(state: &State, m: &Move) -> Option<StepKind>
+    requires { m.now.promotion ≡ None }
+    ensures { MatchOption result ((w : StepKind) → ¬ IsWay state.now Kind.King m.now w)
+        (λ w. IsWay state.now Kind.King m.now w) }
+{
+    if is_plain(state, Kind::King, m) {
+        Some(StepKind::Plain)
+    } else if is_capture(state, Kind::King, m) {
+        Some(StepKind::Capture)
+    } else if is_castling(state, Kind::King, m, Wing::KingSide) {
         Some(StepKind::Castling(Wing::KingSide))
-    } else if is_castling(state, kind, m, Wing::QueenSide) {
+    } else if is_castling(state, Kind::King, m, Wing::QueenSide) {
         Some(StepKind::Castling(Wing::QueenSide))
     } else {
         None
     }
 }
 
+// The case that another man's move is, if it is one.
+#[inline(always)]
+fn piece_case(state: &State, kind: Kind, m: &Move) -> Option<StepKind>
+    requires pawn { kind ≢ Kind.Pawn }
+    requires king { kind ≢ Kind.King }
+    requires unpromoted { m.now.promotion ≡ None }
+    ensures { MatchOption result ((w : StepKind) → ¬ IsWay state.now kind m.now w)
+        (λ w. IsWay state.now kind m.now w) }
+{
+    if is_plain(state, kind, m) {
+        Some(StepKind::Plain)
+    } else if is_capture(state, kind, m) {
+        Some(StepKind::Capture)
+    } else {
+        None
+    }
+}
+
+// The case that a move without promotion is, if it is one.
+#[inline(always)]
+fn quiet_way(state: &State, kind: Kind, m: &Move) -> Option<StepKind>
+    requires { m.now.promotion ≡ None }
+    ensures { MatchOption result ((w : StepKind) → ¬ IsWay state.now kind m.now w)
+        (λ w. IsWay state.now kind m.now w) }
+{
+    match kind {
+        Kind::Pawn => pawn_case(state, m),
+        Kind::King => king_case(state, m),
+        _ => piece_case(state, kind, m),
+    }
+}
+
 // The case that the move is, if it is one.
 pub(crate) fn way(state: &State, kind: Kind, m: &Move) -> Option<StepKind>
-    ensures { MatchOption result ((w : StepKind) → ¬ IsWay state.now kind m.now w) (λ w. IsWay state.now kind m.now w) }
+    ensures { MatchOption result ((w : StepKind) → ¬ IsWay state.now kind m.now w)
+        (λ w. IsWay state.now kind m.now w) }
 {
     match m.promotion {
         Some(piece) => {

@@ -60,7 +60,8 @@ impl State {
         Ok(Position::of_state(next))
     }
 
-    // The position after a move that is known to be a step, of those that do more than take a man to a square.
+    // The position after a move that is known to be a step, for those that do more than take a man to a
+    // square.
     #[inline(never)]
     fn play_rare(&self, kind: Kind, m: &Move, way: StepKind) -> Result<Position, Illegal>
         requires position { IsPosition self.now }
@@ -83,8 +84,8 @@ impl State {
     #[inline(always)]
     fn passed_by(&self, m: &Move) -> Option<Square>
         requires { IsLegal self.now m.now }
-        ensures { (k : Kind) (w : StepKind) → Stands self.now.board self.now.side k m.now.from → IsWay self.now k m.now w →
-            result ≡ passed_after self.now m.now w }
+        ensures { (k : Kind) (w : StepKind) → Stands self.now.board self.now.side k m.now.from →
+            IsWay self.now k m.now w → result ≡ passed_after self.now m.now w }
     {
         let pawn = stands(&self.board, self.side, Kind::Pawn, m.from);
         if pawn && is_two_ranks(m) {

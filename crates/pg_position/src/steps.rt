@@ -101,8 +101,9 @@ impl State {
         board
     }
 
-    // Whether the move does no more than take a man to a square: it promotes none, touches no home of a king or a rook
-    // while a right is held, and does not go to the passed square. Most do no more, and what they leave is made by fewer steps.
+    // Whether the move does no more than take a man to a square: it promotes none, touches no home of
+    // a king or a rook while a right is held, and does not go to the passed square. Most do no more, and
+    // what they leave is made by fewer steps.
     #[inline(always)]
     pub(crate) fn is_common(&self, m: &Move) -> bool
         ensures unpromoted { IsTrue result → m.now.promotion ≡ None }
@@ -119,7 +120,8 @@ impl State {
     // The state in which the man has gone, with this passed square and the same rights.
     #[inline(always)]
     pub(crate) fn carried(&self, m: &Move, passed: Option<Square>) -> State
-        ensures { result ≡ parts (relocated self.now.board m.now.from m.now.to) (other self.now.side) self.now.rights passed }
+        ensures { result ≡ parts (relocated self.now.board m.now.from m.now.to) (other self.now.side)
+            self.now.rights passed }
     {
         let mut board = self.board;
         board.relocate(m.from, m.to);
@@ -131,13 +133,14 @@ impl State {
         }
     }
 
-    // The state that a common move leaves. Beside the test of the king's safety it is no part of the caller's code: there the
-    // board is made set by set, and not all eight at once.
+    // The state that a common move leaves. It is no part of the code that then tests the king's safety:
+    // there the board is made set by set, and not all eight at once.
     #[inline(never)]
     pub(crate) fn after_common(&self, kind: Kind, m: &Move, way: StepKind) -> State
         requires unpromoted { m.now.promotion ≡ None }
         requires rights { self.now.rights ≡ rights_after self.now.rights m.now }
-        requires home { (w : Wing) → holds self.now.rights self.now.side w ≡ true → m.now.from ≢ king_home self.now.side }
+        requires home { (w : Wing) → holds self.now.rights self.now.side w ≡ true →
+            m.now.from ≢ king_home self.now.side }
         requires passed { self.now.passed ≢ Some m.now.to }
         requires way { IsWay self.now kind m.now way }
         ensures { result ≡ after self.now m.now way }
