@@ -16,8 +16,9 @@ use crate::words::{next_word, without_move_number};
 use pg_position::{Move, Position};
 use std::alloc::Global;
 
-// A text of fewer bytes is read with nothing known: its games are too few to pay for the room.
-const SHORT: usize = 2000;
+// A text of fewer bytes is read with nothing known: its games are too few to pay for the room, which is some 80 KB
+// that are filled at first.
+const SHORT: usize = 8000;
 
 // Why a line is no game that is kept: the word of a ply, counted from 1, is not read; or memory is
 // refused for a line that is a game.

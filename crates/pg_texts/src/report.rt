@@ -14,8 +14,9 @@ use pg_fen::{Diagram, Length};
 use pg_position::Move;
 use pg_san::{Games, MOST_WRITTEN, Written, nothing_written};
 
-// Fewer games than these are written with nothing known: they are too few to pay for the room.
-const FEW: usize = 24;
+// Fewer games than these are written with nothing known: they are too few to pay for the room, which is some 85 KB
+// that are filled at first.
+const FEW: usize = 128;
 
 /// Appends a text and a line feed.
 ///
