@@ -11,7 +11,7 @@ ghost use Rattle.pg_journeys.specs.Facts.{Facts as KnownFacts};
 ghost use Rattle.pg_journeys.specs.Journeys.{IsLeg};
 ghost use Rattle.pg_journeys.specs.Known.{known, landing};
 ghost use Rattle.pg_journeys.specs.lemmas.Turns.{leg};
-ghost use Rattle.pg_journeys.specs.inner.Grounds.{IsTable, IsGround, LedTo, Pushes, Captures};
+ghost use Rattle.pg_journeys.specs.inner.Grounds.{IsTable, HasSteps, IsGround, LedTo, Pushes, Captures};
 ghost use Rattle.pg_journeys.specs.inner.Makings.{IsFilled, IsAheadOf, IsEastOf, IsWestOf};
 
 use crate::facts::{Facts, rank_set};
@@ -65,8 +65,9 @@ pub(crate) fn steps_table(still: SquareSet) -> [SquareSet; 384]
     table
 }
 
-// The ground of a colour under facts.
-pub(crate) fn ground_of(facts: &Facts, color: Color) -> Ground
+// The ground of a colour under facts, with the table of steps there, which is the same for both colours.
+pub(crate) fn ground_of(facts: &Facts, color: Color, table: &[SquareSet; 384]) -> Ground
+    requires { HasSteps facts.now.still table.now }
     ensures sound { IsGround result }
     ensures facts { result.facts ≡ facts.now }
     ensures color { result.color ≡ color }
@@ -75,7 +76,7 @@ pub(crate) fn ground_of(facts: &Facts, color: Color) -> Ground
         facts: *facts,
         color,
         free: SquareSet::full() - facts.still,
-        table: steps_table(facts.still),
+        table: *table,
     }
 }
 

@@ -5,14 +5,17 @@ ghost use Rattle.pg_board.specs.SquareSets.{IsSetOf};
 ghost use Rattle.pg_board.specs.declared.man.Color.{Color as AnyColor};
 ghost use Rattle.pg_board.specs.declared.man.Color.TheVariants.{White, Black};
 ghost use Rattle.pg_captures.specs.Owed.{victims};
-ghost use Rattle.pg_journeys.specs.Facts.{FactsHold};
+ghost use Rattle.pg_journeys.specs.Facts.{Facts as GameFacts, FactsHold};
 ghost use Rattle.pg_journeys.specs.FirstFacts.{AreFirst, HasWalls, IsWallOf};
 ghost use Rattle.pg_journeys.specs.Known.{known};
 ghost use Rattle.pg_journeys.specs.Rounds.{HasFew, AreFacts, HasDeadColor, JourneysHold};
+ghost use Rattle.pg_journeys.specs.inner.Grounds.{HasSteps};
 ghost use Rattle.pg_journeys.specs.inner.Showing.{IsDead, Shows};
 ghost use Rattle.pg_journeys.specs.inner.Walking.{HasFewer, IsKept, MayLand, IsNext};
 
 use crate::facts::{Facts, walls};
+use crate::ground::steps_table;
+use crate::plans::budget;
 use crate::shown::{Shown, is_dead, shown_of};
 use pg_board::{Board, Color, SquareSet};
 use pg_captures::{all_men, victims_of};
@@ -97,20 +100,92 @@ fn narrowed(
     }
 }
 
-// The facts that follow; none where a colour has no way alive.
+// Whether a colour owes more captures than it has plies: by no facts has it a way alive.
+fn owes_more(diagram: &Diagram, position: &Position, left: u8, color: Color) -> bool
+    ensures { (f : GameFacts) → IsTrue result → IsDead f diagram.now position.now left color }
+{
+    match budget(diagram, position, color, left, true) {
+        None => true,
+        Some(_) => false,
+    }
+}
+
+// The facts that follow; none where a colour has no way alive. White is asked first.
+fn facts_by_white(
+    diagram: &Diagram,
+    position: &Position,
+    left: u8,
+    facts: &Facts,
+    steps: &[SquareSet; 384],
+) -> Option<Facts>
+    requires steps { HasSteps facts.now.still steps.now }
+    requires few { HasFew position.now }
+    requires enough { ¬ HasFewer diagram.now position.now }
+    ensures { MatchOption result ((c : AnyColor) × IsDead (known facts.now) diagram.now position.now left c)
+        (λ e. IsNext (known facts.now) (known e) diagram.now position.now left) }
+{
+    match shown_of(diagram, position, left, facts, Color::White, steps) {
+        None => None,
+        Some(white) => match shown_of(diagram, position, left, facts, Color::Black, steps) {
+            None => None,
+            Some(black) => Some(narrowed(diagram, position, facts, &white, &black)),
+        },
+    }
+}
+
+// The same, and Black is asked first.
+fn facts_by_black(
+    diagram: &Diagram,
+    position: &Position,
+    left: u8,
+    facts: &Facts,
+    steps: &[SquareSet; 384],
+) -> Option<Facts>
+    requires steps { HasSteps facts.now.still steps.now }
+    requires few { HasFew position.now }
+    requires enough { ¬ HasFewer diagram.now position.now }
+    ensures { MatchOption result ((c : AnyColor) × IsDead (known facts.now) diagram.now position.now left c)
+        (λ e. IsNext (known facts.now) (known e) diagram.now position.now left) }
+{
+    match shown_of(diagram, position, left, facts, Color::Black, steps) {
+        None => None,
+        Some(black) => match shown_of(diagram, position, left, facts, Color::White, steps) {
+            None => None,
+            Some(white) => Some(narrowed(diagram, position, facts, &white, &black)),
+        },
+    }
+}
+
+// The facts that follow; none where a colour has no way alive. One table has the steps of both colours. Who has just moved
+// is asked first: a move that cannot be is more often one too many of his own.
+#[inline(never)]
+fn facts_by_plans(diagram: &Diagram, position: &Position, left: u8, facts: &Facts) -> Option<Facts>
+    requires few { HasFew position.now }
+    requires enough { ¬ HasFewer diagram.now position.now }
+    ensures { MatchOption result ((c : AnyColor) × IsDead (known facts.now) diagram.now position.now left c)
+        (λ e. IsNext (known facts.now) (known e) diagram.now position.now left) }
+{
+    let steps = steps_table(facts.still);
+    match position.side() {
+        Color::White => facts_by_black(diagram, position, left, facts, &steps),
+        Color::Black => facts_by_white(diagram, position, left, facts, &steps),
+    }
+}
+
+// The facts that follow; none where a colour has no way alive. What both may spend is asked before any table is made.
 fn next_facts(diagram: &Diagram, position: &Position, left: u8, facts: &Facts) -> Option<Facts>
     requires few { HasFew position.now }
     requires enough { ¬ HasFewer diagram.now position.now }
     ensures { MatchOption result ((c : AnyColor) × IsDead (known facts.now) diagram.now position.now left c)
         (λ e. IsNext (known facts.now) (known e) diagram.now position.now left) }
 {
-    match shown_of(diagram, position, left, facts, Color::White) {
-        None => None,
-        Some(white) => match shown_of(diagram, position, left, facts, Color::Black) {
-            None => None,
-            Some(black) => Some(narrowed(diagram, position, facts, &white, &black)),
-        },
+    if owes_more(diagram, position, left, Color::White) {
+        return None;
     }
+    if owes_more(diagram, position, left, Color::Black) {
+        return None;
+    }
+    facts_by_plans(diagram, position, left, facts)
 }
 
 // Whether by these facts a colour has no way alive.

@@ -7,11 +7,12 @@ ghost use Rattle.pg_captures.specs.Counting.{men, any_man};
 ghost use Rattle.pg_journeys.specs.Known.{known};
 ghost use Rattle.pg_journeys.specs.Plans.{IsAlive};
 ghost use Rattle.pg_journeys.specs.inner.Counts.{AreNone};
+ghost use Rattle.pg_journeys.specs.inner.Grounds.{HasSteps};
 ghost use Rattle.pg_journeys.specs.inner.Sides.{facts_of, square_at, IsSide};
 ghost use Rattle.pg_journeys.specs.inner.Showing.{MayChange, IsMeasured, IsOneMeasure, AreBudgets, ShowsWay, IsJoined, ShowsAmong, IsDead, Shows};
 
 use crate::facts::Facts;
-use crate::ground::ground_of;
+use crate::ground::{ground_of, steps_table};
 use crate::men::{Men, men_of};
 use crate::narrowing::{Deeds, deeds_of};
 use crate::plans::{Aims, Side, budget, counted, fill_aims, is_paid, is_way};
@@ -190,7 +191,14 @@ fn ways_shown(side: &Side, moves: &Measured, quiet: &Measured) -> Option<Shown>
 }
 
 // The men of a colour here and in the diagram, and the ground of their steps.
-fn side_of(diagram: &Diagram, position: &Position, facts: &Facts, color: Color) -> Side
+fn side_of(
+    diagram: &Diagram,
+    position: &Position,
+    facts: &Facts,
+    color: Color,
+    table: &[SquareSet; 384],
+) -> Side
+    requires steps { HasSteps facts.now.still table.now }
     requires few { men color any_man position.now.board ≤ 16 }
     requires room { men color any_man diagram.now ≤ men color any_man position.now.board }
     ensures side { IsSide diagram.now result }
@@ -200,7 +208,7 @@ fn side_of(diagram: &Diagram, position: &Position, facts: &Facts, color: Color) 
 {
     Side {
         position: *position,
-        ground: ground_of(facts, color),
+        ground: ground_of(facts, color, table),
         men: men_of(&position.board(), color),
         goals: men_of(&diagram.board(), color),
     }
@@ -278,7 +286,9 @@ pub(crate) fn shown_of(
     left: u8,
     facts: &Facts,
     color: Color,
+    table: &[SquareSet; 384],
 ) -> Option<Shown>
+    requires steps { HasSteps facts.now.still table.now }
     requires few { men color any_man position.now.board ≤ 16 }
     requires room { men color any_man diagram.now ≤ men color any_man position.now.board }
     ensures { MatchOption result (IsDead (known facts.now) diagram.now position.now left color)
@@ -290,7 +300,7 @@ pub(crate) fn shown_of(
     let Some(fewest) = budget(diagram, position, color, left, true) else {
         return None;
     };
-    let side = side_of(diagram, position, facts, color);
+    let side = side_of(diagram, position, facts, color, table);
     if is_one_measure(&side, most, fewest) {
         shown_by_one(&side, most)
     } else {
@@ -335,7 +345,8 @@ pub(crate) fn is_dead(
     let Some(fewest) = budget(diagram, position, color, left, true) else {
         return true;
     };
-    let side = side_of(diagram, position, facts, color);
+    let table = steps_table(facts.still);
+    let side = side_of(diagram, position, facts, color, &table);
     let mut moves = Measured {
         aims: [[255u8; 384]; 17],
         most,

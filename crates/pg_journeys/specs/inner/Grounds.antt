@@ -18,6 +18,10 @@ abbrev pub IsTable : Facts → Color → List ℕ → Type 0
 IsTable f c table =
     (k : Kind) (r : ℕ) → k ≢ Pawn → r < 64 → IsSetOf (get_or table (number_of_kind k * 64 + r) 0) (λ s. IsLeg f c (leg k r k s))
 
+-- so it has for each colour, where these squares are still
+abbrev pub HasSteps : ℕ → List ℕ → Type 0
+HasSteps still table = (f : Facts) (c : Color) → ((s : ℕ) → s < 64 → f.still s ≡ has still s) → IsTable f c table
+
 -- the ground holds the squares that are not still, and the steps
 pub record IsGround (g : Ground) : Type 0 where
   pub free : (s : ℕ) → s < 64 → (has g.free s ≡ true) ↔ (has g.facts.still s ≡ false)

@@ -1,4 +1,6 @@
+use Rattle.pg_board.specs.declared.man.Color.TheVariants.{White}
+use Rattle.pg_journeys.specs.Known.{known}
 use Rattle.pg_journeys.proofs.rounds.next_facts.Goals as goal
 
-pub returns-in-Some-shown_of : goal.returns-in-Some-shown_of
-returns-in-Some-shown_of c = c.narrowed.ensures c.args.left c.in-Some.ensures c.in-Some-shown_of.ensures
+pub returns-then-owes_more : goal.returns-then-owes_more
+returns-then-owes_more c = (White, c.owes_more.ensures (known c.args.facts.now) c.if-owes_more.true)

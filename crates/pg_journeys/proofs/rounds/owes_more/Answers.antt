@@ -1,0 +1,5 @@
+use Rattle.pg_journeys.proofs.Budgets.{owes_too_much}
+use Rattle.pg_journeys.proofs.rounds.owes_more.Goals as goal
+
+pub returns-in-None : goal.returns-in-None
+returns-in-None c = λ f t. owes_too_much f c.args.diagram.now c.args.position.now c.args.left c.args.color c.in-None.ensures.none
