@@ -69,9 +69,9 @@ no_own p k m (Promotion x) valid way = elim way.moves [ inl v ↦ vacant_no_own 
 no_own p k m (Castling w) valid way = vacant_no_own p.board p.side m.to (ap (get p.board) way.target ∙ (castle_vacant p.board p.side w way.clear).target)
 
 -- where it leaves is empty then, and its man stands where it goes
-record Moved (b : Placement) (c : Color) (m : Move) : Type 0 where
-  left : get b m.from ≡ None
-  came : (k : Kind) × (get b m.to ≡ Some (man c k))
+pub record Moved (b : Placement) (c : Color) (m : Move) : Type 0 where
+  pub left : get b m.from ≡ None
+  pub came : (k : Kind) × (get b m.to ≡ Some (man c k))
 
 went : (p : State) (k : Kind) (m : Move) → m.from < 64 → m.to < 64 → Stands p.board p.side k m.from → m.from ≢ m.to → Moved (relocated p.board m.from m.to) p.side m
 went p k m from to stands ne = record {
@@ -129,6 +129,13 @@ changes p q m valid legal =
       from_changes = λ e. none_some (sym b.left ∙ sym e ∙ stands);
       to_changes = λ e. none b.came.0 (e ∙ b.came.1);
     }
+
+pub after_move : (p q : State) (m : Move) → IsPosition p → Legal p m q → Moved q.board p.side m
+unfolding Step
+after_move p q m valid legal =
+    let (k, w, low, stands, way, is) : Step p m q = legal.0 in
+    let none : NoOwn p.board p.side m.to = no_own p k m w valid way in
+    subst (λ (v : State). Moved v.board p.side m) (sym is) (moved p k m w valid low.0 low.1 stands way (λ e. none k (ap (get p.board) (sym e) ∙ stands)))
 
 -- ---- squares of the set
 module _ (p : State) (d : Placement) (n : ℕ) (set : Differ p.board d n) where

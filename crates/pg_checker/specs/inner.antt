@@ -7,3 +7,4 @@ pub mod Judging
 pub mod Checking
 pub mod Spots
 pub mod Squares
+pub mod Leading

@@ -22,5 +22,5 @@ pub use chess_laws::{
 };
 pub use fault::{Fault, ListFault, RunFault};
 pub use listed::check_listed;
-pub use nearness::skip_to_solution;
+pub use nearness::{leads_to, skip_to_solution};
 pub use problem::Problem;

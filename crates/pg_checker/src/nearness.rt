@@ -1,9 +1,10 @@
 //! Whether a diagram may be one move away.
-ghost use Rattle.std.specs.Prelude.{◌≡◌, ◌↔◌, IsTrue, true, false};
+ghost use Rattle.std.specs.Prelude.{◌≡◌, ◌↔◌, IsTrue, Some, true, false};
 ghost use Rattle.pg_position.specs.declared.moves.Move.{Move};
 ghost use Rattle.pg_position.specs.Position.{IsPosition};
 ghost use Rattle.pg_position.specs.Step.{IsLegal};
 ghost use Rattle.pg_checker.specs.Differing.{Differ};
+ghost use Rattle.pg_checker.specs.inner.Leading.{LeadsOn, HoldsSources, HoldsTargets};
 ghost use Rattle.pg_checker.specs.inner.Squares.{HasTwoToFour};
 ghost use Rattle.pg_checker.specs.Passing.{AllElsewhere, LeadsElsewhere, LeadsTo, NextLeads, PassesOver};
 
@@ -30,10 +31,23 @@ fn may_reach(squares: SquareSet) -> bool
     2 <= count && count <= 4
 }
 
-// Whether the move is legal and leads to the diagram.
-fn plays_to(diagram: &Diagram, position: &Position, m: &Move) -> bool
-    ensures { IsTrue result ↔ LeadsTo diagram.now position.now m.now }
+// Whether the move is the one that was handed out last.
+fn is_last(last: &Option<Move>, m: &Move) -> bool
+    ensures { IsTrue result ↔ (last.now ≡ Some m.now) }
 {
+    match last {
+        Some(last) => *last == *m,
+        None => false,
+    }
+}
+
+// Whether the move is legal and leads to the diagram, and is not the one that was handed out last.
+fn plays_to(diagram: &Diagram, position: &Position, last: &Option<Move>, m: &Move) -> bool
+    ensures { IsTrue result ↔ LeadsOn diagram.now position.now last.now m.now }
+{
+    if is_last(last, m) {
+        return false;
+    }
     match position.play(*m) {
         Ok(next) => diagram.matches(&next),
         Err(_) => false,
@@ -42,21 +56,28 @@ fn plays_to(diagram: &Diagram, position: &Position, m: &Move) -> bool
 
 // Whether a move from one square to another leads to the diagram. Where it promotes, what it becomes
 // stands there on the diagram.
-fn leads_between(diagram: &Diagram, position: &Position, from: Square, to: Square) -> bool
-    ensures { IsTrue result ↔ ((m : Move) × (m.from ≡ from) × (m.to ≡ to) × LeadsTo diagram.now position.now m) }
+fn leads_between(
+    diagram: &Diagram,
+    position: &Position,
+    last: &Option<Move>,
+    from: Square,
+    to: Square,
+) -> bool
+    ensures { IsTrue result ↔ ((m : Move) × (m.from ≡ from) × (m.to ≡ to) × LeadsOn diagram.now position.now last.now m) }
 {
     let plain = Move {
         from,
         to,
         promotion: None,
     };
-    if plays_to(diagram, position, &plain) {
+    if plays_to(diagram, position, last, &plain) {
         return true;
     }
     match diagram.board().get(to) {
         Some(man) => plays_to(
             diagram,
             position,
+            last,
             &Move {
                 from,
                 to,
@@ -67,16 +88,20 @@ fn leads_between(diagram: &Diagram, position: &Position, from: Square, to: Squar
     }
 }
 
-// Whether a move from a square leads to the diagram: it goes to one of the squares that differ.
-fn leads_from(diagram: &Diagram, squares: SquareSet, position: &Position, from: Square) -> bool
-    requires squares { Differ position.now.board diagram.now squares }
-    ensures { IsTrue result ↔ ((m : Move) × (m.from ≡ from) × LeadsTo diagram.now position.now m) }
+// Whether a move from a square leads to the diagram, to one of these squares.
+fn leads_from(
+    diagram: &Diagram,
+    targets: SquareSet,
+    position: &Position,
+    last: &Option<Move>,
+    from: Square,
+) -> bool
+    requires targets { HoldsTargets diagram.now position.now targets }
+    ensures { IsTrue result ↔ ((m : Move) × (m.from ≡ from) × LeadsOn diagram.now position.now last.now m) }
 {
-    // A fact for the proof: what is handed in is a position.
-    position.side();
     let mut at = 0;
-    while let Some(to) = squares.first_from(at) {
-        if leads_between(diagram, position, from, to) {
+    while let Some(to) = targets.first_from(at) {
+        if leads_between(diagram, position, last, from, to) {
             return true;
         }
         at = to.index() + 1;
@@ -84,15 +109,41 @@ fn leads_from(diagram: &Diagram, squares: SquareSet, position: &Position, from: 
     false
 }
 
-// Whether a legal move leads to the diagram: it leaves one of the squares that differ.
-fn has_leading(diagram: &Diagram, squares: SquareSet, position: &Position) -> bool
+// Squares that a move which leads to the diagram leaves: of those that differ, the ones with a man of the mover's
+// where the diagram has none.
+fn sources(diagram: &Diagram, squares: SquareSet, position: &Position) -> SquareSet
     requires squares { Differ position.now.board diagram.now squares }
-    ensures { IsTrue result ↔ ((m : Move) × LeadsTo diagram.now position.now m) }
+    ensures { HoldsSources diagram.now position.now result }
 {
     let own = squares & position.board().squares_of_color(position.side());
+    own - diagram.board().occupied()
+}
+
+// Squares that such a move comes to: of those that differ, the ones where the diagram has a man of the mover's.
+fn targets(diagram: &Diagram, squares: SquareSet, position: &Position) -> SquareSet
+    requires squares { Differ position.now.board diagram.now squares }
+    ensures { HoldsTargets diagram.now position.now result }
+{
+    squares & diagram.board().squares_of_color(position.side())
+}
+
+// Whether a legal move leads to the diagram, apart from the one that was handed out last: mostly one does, and once it
+// is handed out no further one is to be looked for. A move is tried only from a square that such a move may leave to one
+// that it may come to: a trial costs more than both sets.
+fn has_leading(
+    diagram: &Diagram,
+    squares: SquareSet,
+    position: &Position,
+    last: &Option<Move>,
+) -> bool
+    requires squares { Differ position.now.board diagram.now squares }
+    ensures { IsTrue result ↔ ((m : Move) × LeadsOn diagram.now position.now last.now m) }
+{
+    let sources = sources(diagram, squares, position);
+    let targets = targets(diagram, squares, position);
     let mut at = 0;
-    while let Some(from) = own.first_from(at) {
-        if leads_from(diagram, squares, position, from) {
+    while let Some(from) = sources.first_from(at) {
+        if leads_from(diagram, targets, position, last, from) {
             return true;
         }
         at = from.index() + 1;
@@ -115,6 +166,20 @@ fn leads(diagram: &Diagram, squares: SquareSet, position: &Position, m: &Move) -
     diagram.matches(&position.after(m))
 }
 
+/// Whether a legal move leads to the diagram. The position behind it is made only where the squares that differ leave
+/// that open.
+pub fn leads_to(diagram: &Diagram, position: &Position, m: &Move) -> bool
+    requires { IsLegal position.now m.now }
+    ensures { IsTrue result ↔ LeadsTo diagram.now position.now m.now }
+{
+    let squares = differing(diagram, position);
+    if may_reach(squares) {
+        leads(diagram, squares, position, m)
+    } else {
+        false
+    }
+}
+
 /// Passes over legal moves that do not lead to the diagram, up to the first that does, and answers
 /// whether there is one. It is then the next of the moves.
 pub fn skip_to_solution(diagram: &Diagram, moves: &mut LegalMoves) -> bool
@@ -128,7 +193,8 @@ pub fn skip_to_solution(diagram: &Diagram, moves: &mut LegalMoves) -> bool
     if !may_reach(squares) {
         return false;
     }
-    if !has_leading(diagram, squares, &position) {
+    let last = moves.last();
+    if !has_leading(diagram, squares, &position, &last) {
         return false;
     }
     while let Some(peeked) = moves.peek() {

@@ -1,1 +1,2 @@
+mod LetterLemmas
 mod PageLemmas

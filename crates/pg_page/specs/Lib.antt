@@ -1,3 +1,4 @@
 pub mod Escaping
+pub mod Lines
 pub mod Page
 pub mod Telling

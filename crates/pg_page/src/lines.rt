@@ -1,39 +1,47 @@
 //! The parts of the lines that the page's script reads.
-ghost use Rattle.std.specs.Prelude.{◌≡◌, true, IsTrue, OnErr};
+ghost use Rattle.std.specs.Prelude.{◌≡◌, ◌<◌, ◌≤◌, length, true, IsTrue, OnErr};
 ghost use Rattle.pg_certificate.specs.Pushing.{Adds, MayPush, Pushes};
 ghost use Rattle.pg_position.specs.Step.{IsLegal};
+ghost use Rattle.pg_page.specs.Lines.{letter_at, IsMoveText};
 ghost use Rattle.pg_page.specs.Escaping.{has_meaning, entity_of, written_as, escaped};
 
 use arrayvec::ArrayString;
 use pg_board::Square;
 use pg_certificate::{Refused, Sink};
+use pg_fen::text::put;
 use pg_position::{Move, Position};
 use pg_san::write;
 use std::fmt::Write;
 
 // A letter for each square, from a1 on.
-const LETTERS: [u8; 64] = *b"ABCDEFGHIJKLMNOPQRSTUVWXYZabcdefghijklmnopqrstuvwxyz0123456789-_";
+static LETTERS: [u8; 64] = *b"ABCDEFGHIJKLMNOPQRSTUVWXYZabcdefghijklmnopqrstuvwxyz0123456789-_";
 
 // A move: the letters of its squares, and its text.
 pub(crate) type MoveText = ArrayString<12>;
 
 // The letter of a square.
-fn letter_of(square: Square) -> char {
-    match LETTERS.get(usize::from(square.index())) {
-        Some(letter) => char::from(*letter),
-        None => '?',
-    }
+#[tactic(auto, using(crate::proofs::LetterLemmas::letter_is, crate::proofs::LetterLemmas::letter_is_ascii))]
+fn letter_of(square: Square) -> u8
+    ensures letter { result ≡ letter_at square }
+    ensures ascii { result < 128 }
+{
+    LETTERS[usize::from(square.index())]
 }
 
-// A legal move: the letters of its squares, and its text.
+// A legal move: the letters of its squares, and its text. Byte by byte, since a formatted write costs some fifty
+// instructions for each part, and a page has a line for most moves.
 pub(crate) fn move_text(position: &Position, m: &Move) -> MoveText
     requires { IsLegal position.now m.now }
+    ensures text { IsMoveText position.now m.now result.bytes }
+    ensures short { length result.bytes ≤ 10 }
 {
-    let mut text = MoveText::new();
-    let (from, to) = (letter_of(m.from), letter_of(m.to));
     let san = write(position, *m);
-    let san = san.as_str();
-    let _ = write!(text, "{from}{to}{san}");
+    // A fact for the proof: it has at most eight characters.
+    san.len();
+    let mut text = MoveText::new();
+    put(&mut text, letter_of(m.from));
+    put(&mut text, letter_of(m.to));
+    text.push_str(san.as_str());
     text
 }
 

@@ -228,6 +228,15 @@ impl Distances {
         if is_within(free, plies) {
             return None;
         }
+        // A king and a rook come to each square from any other. So where a man cannot come to be, castling, which moves no
+        // other men, changes nothing.
+        if free.is_none() {
+            return Some(Ways {
+                free,
+                short: None,
+                long: None,
+            });
+        }
         Some(Ways {
             free,
             short: self.castled(position, color, Wing::KingSide, rest),

@@ -1,13 +1,12 @@
 //! What a cut by travel says.
 
 use crate::distances::{Distances, Ways};
-use crate::names::{color_name, man_name};
+use crate::names::{color_name, man_name, put_all};
 use crate::numbers::{Castling, Excess, Node, own_plies};
 use crate::sentences::Sentence;
 use pg_board::{Board, Color, Man, Square};
 use pg_position::{Position, Rights};
 use pg_travel::{distance, need};
-use std::fmt::Write;
 
 const NO_RIGHTS: Rights = Rights {
     white_king: false,
@@ -111,14 +110,25 @@ pub(crate) fn write_nowhere(
     text: &mut Sentence,
 ) {
     let name = color_name(color);
-    let _ = match first_unreached(distances, node, color) {
+    match first_unreached(distances, node, color) {
         Some((man, square)) => {
             let man = man_name(man.kind, square);
-            let man = man.as_str();
-            write!(text, "no man of {name}'s can come to be {man} (travel)")
+            put_all(
+                text,
+                &[
+                    "no man of ",
+                    name,
+                    "'s can come to be ",
+                    man.as_str(),
+                    " (travel)",
+                ],
+            );
         }
-        None => write!(text, "{name}'s men cannot come to their squares (travel)"),
-    };
+        None => put_all(
+            text,
+            &[name, "'s men cannot come to their squares (travel)"],
+        ),
+    }
 }
 
 // What travel excludes a colour by, without distances: it needs more moves than it has, or no number of moves is enough;

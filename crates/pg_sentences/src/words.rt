@@ -1,19 +1,17 @@
 //! What excludes a colour, in words.
 
 use crate::distances::Distances;
-use crate::names::{Phrase, color_name, many};
+use crate::names::{Phrase, color_name, many, number_name, put_all};
 use crate::numbers::{Castling, Excess, Node};
 use crate::sentences::Sentence;
 use crate::travel::write_nowhere;
 use pg_board::Color;
-use std::fmt::Write;
 
 // That a colour has captured more men than the diagram lacks.
 pub(crate) fn write_too_many(color: Color, owed: i16, text: &mut Sentence) {
     let color = color_name(color);
     let men = many(u64::from(owed.unsigned_abs()), "man", "men");
-    let men = men.as_str();
-    let _ = write!(text, "{color} has captured {men} too many");
+    put_all(text, &[color, " has captured ", men.as_str(), " too many"]);
 }
 
 // That a colour must capture more men than it has moves.
@@ -22,25 +20,44 @@ fn write_captures(color: Color, owed: i16, own: u8, text: &mut Sentence) {
     let men = many(u64::from(owed.unsigned_abs()), "man", "men");
     let moves = many(u64::from(own), "move", "moves");
     let (men, moves) = (men.as_str(), moves.as_str());
-    let _ = write!(text, "{color} must capture {men} and has {moves} left");
+    put_all(
+        text,
+        &[color, " must capture ", men, " and has ", moves, " left"],
+    );
+}
+
+// How many pawns are for pieces, if any are.
+fn promoted_words(pieces: u16) -> Phrase {
+    let mut words = Phrase::new();
+    if pieces > 0 {
+        let pieces = number_name(u64::from(pieces));
+        put_all(&mut words, &[", ", pieces.as_str(), " of them to promote,"]);
+    }
+    words
 }
 
 // That a colour needs more pawns, some of them for pieces, than it has.
 fn write_promotions(color: Color, needed: u16, pieces: u16, here: u16, text: &mut Sentence) {
     let color = color_name(color);
     let needs = many(u64::from(needed), "pawn", "pawns");
-    let promoted = if pieces > 0 {
-        let mut words = Phrase::new();
-        let _ = write!(words, ", {pieces} of them to promote,");
-        words
-    } else {
-        Phrase::new()
-    };
-    let short = needed.saturating_sub(here);
+    let promoted = promoted_words(pieces);
+    let here_name = number_name(u64::from(here));
+    let short = number_name(u64::from(needed.saturating_sub(here)));
     let (needs, promoted) = (needs.as_str(), promoted.as_str());
-    let _ = write!(
+    let (here, short) = (here_name.as_str(), short.as_str());
+    put_all(
         text,
-        "{color} needs {needs}{promoted} and has {here}: {short} short"
+        &[
+            color,
+            " needs ",
+            needs,
+            promoted,
+            " and has ",
+            here,
+            ": ",
+            short,
+            " short",
+        ],
     );
 }
 
@@ -50,9 +67,18 @@ fn write_files(color: Color, shift: u16, owed: i16, text: &mut Sentence) {
     let times = many(u64::from(shift), "time", "times");
     let men = many(u64::from(owed.unsigned_abs()), "man", "men");
     let (times, men) = (times.as_str(), men.as_str());
-    let _ = write!(
+    put_all(
         text,
-        "{color}'s pawns must change file {times}, and {color} has {men} to capture"
+        &[
+            color,
+            "'s pawns must change file ",
+            times,
+            ", and ",
+            color,
+            " has ",
+            men,
+            " to capture",
+        ],
     );
 }
 
@@ -68,11 +94,20 @@ fn castling_name(castling: Castling) -> &'static str {
 fn write_travel(color: Color, need: u16, own: u8, castling: Castling, text: &mut Sentence) {
     let name = color_name(color);
     let moves = many(u64::from(need), "move", "moves");
-    let moves = moves.as_str();
-    let castling = castling_name(castling);
-    let _ = write!(
+    let own = number_name(u64::from(own));
+    let (moves, own, castling) = (moves.as_str(), own.as_str(), castling_name(castling));
+    put_all(
         text,
-        "{name} needs {moves} and has {own} (travel{castling})"
+        &[
+            name,
+            " needs ",
+            moves,
+            " and has ",
+            own,
+            " (travel",
+            castling,
+            ")",
+        ],
     );
 }
 

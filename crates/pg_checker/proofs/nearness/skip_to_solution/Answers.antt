@@ -29,7 +29,7 @@ pub returns-clause-none : goal.returns-clause-none
 returns-clause-none c = λ e. none_elsewhere c.args.diagram.now c.loop-peeked.moves c.in_default.ensures
 
 pub returns-then-not-has_leading-clause-none : goal.returns-then-not-has_leading-clause-none
-returns-then-not-has_leading-clause-none c = λ _. none_leads c.args.diagram.now c.args.moves.now c.position-position.result c.has_leading.result c.position-position.ensures c.has_leading.ensures c.if-not-has_leading.true
+returns-then-not-has_leading-clause-none c = λ _. none_leads c.args.diagram.now c.args.moves.now c.position-position.result c.last-last.result c.has_leading.result c.position-position.ensures c.last-last.ensures c.has_leading.ensures c.if-not-has_leading.true
 
 pub returns-then-leads-clause-some : goal.returns-then-leads-clause-some
 returns-then-leads-clause-some c = λ e. (c.in-Some.peeked.m, c.in-Some.ensures.0, subst (λ (p : State). LeadsTo c.args.diagram.now p c.in-Some.peeked.m) (c.position-position.ensures ∙ sym c.loop-peeked.invariant.position) (c.leads.ensures.there c.if-leads.true))
