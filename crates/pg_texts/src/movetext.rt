@@ -1,60 +1,46 @@
 //! Games as text.
-ghost use Rattle.std.specs.Prelude.{◌≡◌, ◌<◌, ◌≤◌, ◌++◌, true, false, length, [], All, IfOk, IfErr, OnOk, OnErr};
-ghost use Rattle.pg_certificate.specs.Pushing.{Adds, AddsSome, Pushes};
+ghost use Rattle.std.specs.Prelude.{◌≡◌, ◌<◌, ◌++◌, true, false, length, All, IfOk, IfErr, OnOk, OnErr};
+ghost use Rattle.pg_certificate.specs.Pushing.{Adds, AddsSome, MayPush, Pushes};
 ghost use Rattle.pg_position.specs.Step.{Legal};
 ghost use Rattle.pg_san.specs.Games.{IsFromArray};
 ghost use Rattle.pg_san.specs.KnownTexts.{IsWritten};
 ghost use Rattle.pg_texts.specs.Movetext.{AddsLongest, IsMovetext, number_text, space_text};
 ghost use Rattle.pg_texts.specs.inner.Plies.{AddsPly, AddsAllPlies, IsPlayedOut};
 
-use arrayvec::ArrayString;
 use pg_certificate::{Refused, Sink, WriteFault};
 use pg_fen::text::digits;
 use pg_position::{Move, Position};
 use pg_san::{San, Written, write_known, write_with};
 
-// Puts the space before a ply, but for the first.
-fn put_space(line: &mut ArrayString<32>, ply: usize)
-    requires { line.old.bytes ≡ [] }
-    ensures { line.new.bytes ≡ space_text ply }
+// Appends the space before a ply, but for the first.
+fn write_space<W: Sink>(ply: usize, out: &mut W) -> Result<(), Refused>
+    ensures { MayPush W.held W.has_failed (Adds (space_text ply)) out.old out.new result }
 {
     if ply == 0 {
-        return;
+        return Ok(());
     }
-    line.push_str(" ");
+    out.push(b" ")
 }
 
-// Puts the number before a ply of White's.
-fn put_number(line: &mut ArrayString<32>, ply: usize)
-    requires { length line.old.bytes ≤ 1 }
-    ensures text { line.new.bytes ≡ line.old.bytes ++ number_text ply }
-    ensures room { length line.new.bytes ≤ 23 }
+// Appends the number before a ply of White's.
+fn write_number<W: Sink>(ply: usize, out: &mut W) -> Result<(), Refused>
+    ensures { MayPush W.held W.has_failed (Adds (number_text ply)) out.old out.new result }
 {
     if ply % 2 != 0 {
-        return;
+        return Ok(());
     }
-    line.push_str(digits(ply / 2 + 1).as_str());
-    line.push_str(". ");
+    out.push(digits(ply / 2 + 1).as_bytes())?;
+    out.push(b". ")
 }
 
-// The text of a move, the ply with this number from 0, with what stands before it.
-fn ply_text(ply: usize, san: &San) -> ArrayString<32>
-    ensures { result.bytes ≡ space_text ply ++ (number_text ply ++ san.now.bytes) }
-{
-    let mut line = ArrayString::new();
-    put_space(&mut line, ply);
-    put_number(&mut line, ply);
-    line.push_str(san.as_str());
-    line
-}
-
-// Appends the text of a move, the ply with this number from 0, with what stands before it: in one piece, since a piece costs
-// more than its bytes.
+// Appends the text of a move, the ply with this number from 0, with what stands before it.
 fn write_text<W: Sink>(ply: usize, san: &San, out: &mut W) -> Result<(), Refused>
     ensures { Pushes W.held W.has_failed
         (Adds (space_text ply ++ (number_text ply ++ san.now.bytes))) out.old out.new result }
 {
-    out.push(ply_text(ply, san).as_bytes())
+    write_space(ply, out)?;
+    write_number(ply, out)?;
+    out.push(san.as_bytes())
 }
 
 // Appends a legal move, the ply with this number from 0, with what stands before it. It leads to the
