@@ -226,6 +226,36 @@ fn count_rest(position: &Position, board: &Board, counted: Counted) -> u64
     counted.total + count_each(position, board, counted.left)
 }
 
+// Counts the men of each kind, the pawns apart, none of whom may be pinned.
+#[inline(always)]
+fn count_pieces(
+    position: &Position,
+    board: &Board,
+    guard: &Guard,
+    color: Color,
+    pawns: Counted,
+) -> Counted
+    requires same { board.now ≡ position.now.board }
+    requires color { color ≡ position.now.side }
+    requires guards { GuardsOff position.now guard.now.pinned guard.now.goals }
+    requires off { AreOff guard.now.pinned pawns.left }
+    requires counted { CountsOff position.now pawns.left pawns.total }
+    requires few { pawns.total ≤ 100000 }
+    ensures counted { CountsOff position.now result.left result.total }
+    ensures few { result.total ≤ 1000000 }
+{
+    let knights = count_kind(position, board, guard, Man::new(color, Kind::Knight), pawns);
+    let bishops = count_kind(
+        position,
+        board,
+        guard,
+        Man::new(color, Kind::Bishop),
+        knights,
+    );
+    let rooks = count_kind(position, board, guard, Man::new(color, Kind::Rook), bishops);
+    count_kind(position, board, guard, Man::new(color, Kind::Queen), rooks)
+}
+
 // How many legal moves there are, kind by kind of the men of the side to move, whose colour is handed in: so
 // each colour has code of its own.
 #[inline(always)]
@@ -242,35 +272,8 @@ fn count_of_color(position: &Position, color: Color) -> u64
     let king = count_king(position, &board, color, guard.king, own);
     let pinned = count_pinned(position, &board, &guard, king);
     let pawns = count_pawns(position, &board, &guard, color, pinned);
-    let knights = count_kind(
-        position,
-        &board,
-        &guard,
-        Man::new(color, Kind::Knight),
-        pawns,
-    );
-    let bishops = count_kind(
-        position,
-        &board,
-        &guard,
-        Man::new(color, Kind::Bishop),
-        knights,
-    );
-    let rooks = count_kind(
-        position,
-        &board,
-        &guard,
-        Man::new(color, Kind::Rook),
-        bishops,
-    );
-    let queens = count_kind(
-        position,
-        &board,
-        &guard,
-        Man::new(color, Kind::Queen),
-        rooks,
-    );
-    count_rest(position, &board, queens)
+    let pieces = count_pieces(position, &board, &guard, color, pawns);
+    count_rest(position, &board, pieces)
 }
 
 // How many legal moves there are.
