@@ -15,7 +15,7 @@ ghost use Rattle.pg_guide.specs.Trees.{HasNoMove, HasNoLeaf, IsLeafOf, TakesLeaf
 
 use arrayvec::ArrayVec;
 use pg_certificate::{Bare, ReadFault, Record, RecordReader, Source};
-use pg_checker::skip_to_solution;
+use pg_checker::{leads_to, skip_to_solution};
 use pg_fen::Diagram;
 use pg_moves::LegalMoves;
 use pg_position::{Move, Position};
@@ -122,7 +122,7 @@ fn next_of(diagram: &Diagram, moves: &mut LegalMoves) -> Option<Leaf>
     match moves.next() {
         None => None,
         Some(m) => {
-            let hit = diagram.matches(&before.after(&m));
+            let hit = leads_to(diagram, &before, &m);
             Some(Leaf { before, m, hit })
         }
     }
