@@ -24,14 +24,12 @@ fn entered(two: Two, row: [u8; MOST_MEN]) -> Two {
 }
 
 // The least distances without the man that has these.
-fn without(two: &Two, row: [u8; MOST_MEN]) -> [u8; MOST_MEN] {
+#[inline(always)]
+fn without(two: Two, row: [u8; MOST_MEN]) -> [u8; MOST_MEN] {
     let mut least = [0; MOST_MEN];
     for t in 0..MOST_MEN {
-        least[t] = if row[t] == two.first[t] {
-            two.second[t]
-        } else {
-            two.first[t]
-        };
+        let (first, second) = (two.first[t], two.second[t]);
+        least[t] = if row[t] == first { second } else { first };
     }
     least
 }
@@ -150,9 +148,21 @@ fn castled_without(
     row: [u8; MOST_MEN],
 ) -> Option<[u8; MOST_MEN]> {
     match way {
-        Some(castled) if !castled.homes.contains(square) => Some(without(&castled.least, row)),
+        Some(castled) if !castled.homes.contains(square) => Some(without(castled.least, row)),
         _ => None,
     }
+}
+
+// The sum of the least distances once the man that has these has moved, at the least: no move brings him nearer to
+// a target than by one.
+#[inline(always)]
+fn least_once_moved(two: Two, row: [u8; MOST_MEN]) -> u16 {
+    let others = without(two, row);
+    let mut sum = 0u16;
+    for t in 0..MOST_MEN {
+        sum = sum.wrapping_add(u16::from(others[t].min(row[t].saturating_sub(1))));
+    }
+    sum
 }
 
 impl Leasts {
@@ -180,11 +190,29 @@ impl Leasts {
         }
     }
 
+    /// A number that the need of travel is not below once the man of this kind on a square has made any move of his pattern,
+    /// which brings him nearer to no target than by one; at most 250.
+    pub fn need_once_moved(&self, rows: &Rows, kind: Kind, square: Square) -> u8 {
+        let row = rows.distances(kind, square);
+        let mut need = least_once_moved(self.free, row);
+        if let Some(castled) = &self.king_side {
+            if !castled.homes.contains(square) {
+                need = need.min(least_once_moved(castled.least, row).saturating_add(1));
+            }
+        }
+        if let Some(castled) = &self.queen_side {
+            if !castled.homes.contains(square) {
+                need = need.min(least_once_moved(castled.least, row).saturating_add(1));
+            }
+        }
+        need.min(250) as u8
+    }
+
     /// The least distances without the man of this kind on a square.
     pub fn without(&self, rows: &Rows, kind: Kind, square: Square) -> Rest {
         let row = rows.distances(kind, square);
         Rest {
-            free: without(&self.free, row),
+            free: without(self.free, row),
             king_side: castled_without(&self.king_side, square, row),
             queen_side: castled_without(&self.queen_side, square, row),
         }

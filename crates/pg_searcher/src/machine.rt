@@ -137,6 +137,17 @@ impl Output {
         true
     }
 
+    // Counts so many nodes, and answers whether all of them may be visited; else none is counted.
+    pub(crate) fn visit_all(&mut self, count: u64) -> bool
+        ensures writer { self.new.writer ≡ self.old.writer }
+    {
+        if self.nodes < count {
+            return false;
+        }
+        self.nodes -= count;
+        true
+    }
+
     // Writes a record.
     pub(crate) fn put<W: Sink>(&mut self, node: &Record, sink: &mut W) -> Result<(), SearchFault>
         requires runs { self.old.writer.failed ≡ false }
@@ -161,6 +172,21 @@ impl Output {
         }
     }
 
+    // Writes so many expansions without a name.
+    pub(crate) fn expansions<W: Sink>(&mut self, count: u64, sink: &mut W) -> Result<(), SearchFault>
+        requires runs { self.old.writer.failed ≡ false }
+        ensures runs { OnOk result (self.new.writer.failed ≡ false) }
+        ensures says { (plies : ℕ) → RefusesTruly plies (W.has_failed sink.new) result }
+    {
+        for _ in 0..count {
+            match self.expand(false, sink) {
+                Ok(()) => {}
+                Err(fault) => return Err(fault),
+            }
+        }
+        Ok(())
+    }
+
     // Writes a cut by a bound.
     #[inline(always)]
     pub(crate) fn cut<W: Sink>(&mut self, bound: CutBy, sink: &mut W) -> Result<(), SearchFault>
@@ -172,6 +198,21 @@ impl Output {
             Ok(()) => Ok(()),
             Err(_) => Err(SearchFault::Write),
         }
+    }
+
+    // Writes so many cuts by a bound.
+    pub(crate) fn cuts<W: Sink>(&mut self, bound: CutBy, count: u8, sink: &mut W) -> Result<(), SearchFault>
+        requires runs { self.old.writer.failed ≡ false }
+        ensures runs { OnOk result (self.new.writer.failed ≡ false) }
+        ensures says { (plies : ℕ) → RefusesTruly plies (W.has_failed sink.new) result }
+    {
+        for _ in 0..count {
+            match self.cut(bound, sink) {
+                Ok(()) => {}
+                Err(fault) => return Err(fault),
+            }
+        }
+        Ok(())
     }
 
     // Writes a reference to a closed node by its number.

@@ -20,12 +20,13 @@ pub(crate) struct Outlook {
 }
 
 // The man of a node whose moves are judged, and the least distances of the others; at first none, on the
-// square 64.
+// square 64. Where a bound excludes after each plain move of his, it is known, and the distances are not.
 #[derive(Clone, Copy)]
 pub(crate) struct Mover {
     rest: Rest,
     from: u8,
     man: Man,
+    cut: Option<CutBy>,
 }
 
 // A plain move, which takes no man and is no castling, capture en passant or promotion: the man that moves, and
@@ -51,15 +52,16 @@ impl Mover {
             rest: Rest::none(),
             from: 64,
             man: Man::new(Color::White, Kind::Pawn),
+            cut: None,
         }
     }
 
-    // The man on a square is judged from now on.
-    fn turn_to(&mut self, rows: &Rows, leasts: &Leasts, position: &Position, from: Square) {
-        if let Some(man) = position.board().get(from) {
-            self.man = man;
-            self.from = from.index();
-            self.rest = leasts.without(rows, man.kind, from);
+    // Whether no man moves to a set of squares but by plain moves that a bound excludes, which is the answer.
+    pub(crate) fn cut_on(&self, outlook: &Outlook, set: SquareSet) -> Option<CutBy> {
+        if self.man.kind == Kind::King || set.meets(outlook.occupied) {
+            None
+        } else {
+            self.cut
         }
     }
 }
@@ -97,6 +99,29 @@ impl Outlook {
         }
     }
 
+    // The man on a square is judged from now on.
+    fn turn(&self, mover: &mut Mover, rows: &Rows, position: &Position, from: Square) {
+        if let Some(man) = position.board().get(from) {
+            mover.man = man;
+            mover.from = from.index();
+            mover.cut = self.cut_of(rows, man.kind, from);
+            if mover.cut.is_none() {
+                mover.rest = self.leasts.without(rows, man.kind, from);
+            }
+        }
+    }
+
+    // The bound that excludes after each plain move of the man on a square, whatever the move.
+    fn cut_of(&self, rows: &Rows, kind: Kind, from: Square) -> Option<CutBy> {
+        if self.is_owing {
+            Some(CutBy::Captures)
+        } else if self.leasts.need_once_moved(rows, kind, from) > self.means.plies {
+            Some(CutBy::Travel)
+        } else {
+            None
+        }
+    }
+
     // What is known of a legal move. After one that is plain what either colour owes by captures,
     // promotions and pawn files is as before, and so is the need of the other colour.
     pub(crate) fn plain(
@@ -110,13 +135,13 @@ impl Outlook {
             return Plain::No;
         }
         if mover.from != m.from.index() {
-            mover.turn_to(rows, &self.leasts, position, m.from);
+            self.turn(mover, rows, position, m.from);
         }
         if is_special(mover.man, None, m) {
             return Plain::No;
         }
-        if self.is_owing {
-            return Plain::Cut(CutBy::Captures);
+        if let Some(bound) = mover.cut {
+            return Plain::Cut(bound);
         }
         let man = mover.man;
         let need = mover.rest.need(rows.distances(man.kind, m.to));

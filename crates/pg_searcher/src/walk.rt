@@ -3,17 +3,18 @@ ghost use Rattle.std.specs.Prelude.{◌≡◌, ℕ, ◌+◌, ◌<◌, ◌≤◌,
 ghost use Rattle.pg_position.specs.Step.{IsLegal};
 ghost use Rattle.pg_searcher.specs.Refusals.{RefusesTruly};
 
-use crate::ends::{end, is_near, last_node, leaves};
+use crate::ends::{end, last_node, leaves};
 use crate::fault::SearchFault;
 use crate::judge::Judge;
 use crate::machine::{Findings, Frame, Machine, Names, Output, Question, Recorder};
+use crate::nearing::{may_be_near, may_lead};
 use crate::node::{Opened, Uncut, child, enter};
 use crate::outlook::{Mover, Outlook, Plain};
 use crate::progress::SearchProgress;
-use crate::sides::is_special;
-use pg_board::{Board, SquareSet};
+use pg_board::SquareSet;
 use pg_certificate::Sink;
-use pg_moves::LegalMoves;
+use pg_fen::Diagram;
+use pg_moves::{LegalMoves, count_legal};
 use pg_position::{Move, Position};
 use pg_san::Games;
 use std::mem;
@@ -46,30 +47,112 @@ fn close(top: &Frame, names: &mut Names, findings: &mut Findings) -> Result<(), 
     }
 }
 
-// Whether a move may lead to a position one move away from a board, from which the position differs on
-// these squares.
-pub(crate) fn may_be_near(goal: &Board, position: &Position, squares: SquareSet, m: &Move) -> bool {
-    let board = position.board();
-    let Some(man) = board.get(m.from) else {
-        return false;
-    };
-    if is_special(man, board.get(m.to), m) {
-        return true;
+// The nodes after the further moves of the man that moved last, with one ply left, are visited all at once, where he stood
+// off these squares.
+fn expand_rest<W: Sink>(
+    squares: SquareSet,
+    moves: &mut LegalMoves,
+    m: &Move,
+    output: &mut Output,
+    sink: &mut W,
+) -> Result<(), SearchFault>
+    requires runs { output.old.writer.failed ≡ false }
+    ensures runs { OnOk result (output.new.writer.failed ≡ false) }
+    ensures same { moves.new.position ≡ moves.old.position }
+    ensures says { (plies : ℕ) → RefusesTruly plies (W.has_failed sink.new) result }
+{
+    if squares.contains(m.from) {
+        return Ok(());
     }
-    let from = SquareSet::single(m.from);
-    let to = SquareSet::single(m.to);
-    let none = SquareSet::empty();
-    let left = if goal.get(m.from).is_some() {
-        from
-    } else {
-        none
+    let Some(rest) = moves.rest_of_man() else {
+        return Ok(());
     };
-    let reached = if goal.get(m.to) == Some(man) {
-        none
+    let count = u64::from(rest.len());
+    if !output.visit_all(count) {
+        return Ok(());
+    }
+    moves.skip_rest(rest);
+    output.expansions(count, sink)
+}
+
+// The nodes after all moves of a node with two plies left are visited at once, where no game ends on the diagram below it
+// and so many may be visited; whether they were is the answer.
+fn expand_all<W: Sink>(
+    diagram: &Diagram,
+    position: &Position,
+    output: &mut Output,
+    sink: &mut W,
+) -> Result<bool, SearchFault>
+    requires runs { output.old.writer.failed ≡ false }
+    ensures runs { OnOk result (output.new.writer.failed ≡ false) }
+    ensures says { (plies : ℕ) → RefusesTruly plies (W.has_failed sink.new) result }
+{
+    if may_lead(diagram, position) {
+        return Ok(false);
+    }
+    let count = count_legal(position);
+    if !output.visit_all(count) {
+        return Ok(false);
+    }
+    match output.expansions(count, sink) {
+        Ok(()) => Ok(true),
+        Err(fault) => Err(fault),
+    }
+}
+
+// The leaf on the diagram below the node after a move of a man on one of these squares, with one ply left.
+fn end_after(
+    question: &Question,
+    frames: &[Frame],
+    findings: &mut Findings,
+    position: &Position,
+    squares: SquareSet,
+    m: &Move,
+) -> Result<(), SearchFault>
+    requires legal { IsLegal position.now m.now }
+    ensures { (failed : Bool) → RefusesTruly question.now.plies failed result }
+{
+    if squares.contains(m.from) && may_be_near(question.diagram, position, m) {
+        leaves(question, frames, findings, &Some(*m), &position.after(m))
     } else {
-        to
-    };
-    is_near(squares - from - to | left | reached)
+        Ok(())
+    }
+}
+
+// The moves of a node with two plies left are played one by one. After a move of a man on a square where the placements
+// agree no further one leads to the diagram (`may_lead`).
+fn play_each<W: Sink>(
+    question: &Question,
+    top: &mut Frame,
+    frames: &[Frame],
+    findings: &mut Findings,
+    output: &mut Output,
+    sink: &mut W,
+) -> Result<(), SearchFault>
+    requires runs { output.old.writer.failed ≡ false }
+    ensures runs { OnOk result (output.new.writer.failed ≡ false) }
+    ensures says { RefusesTruly question.now.plies (W.has_failed sink.new) result }
+{
+    let position = top.moves.position();
+    let squares = position.board().differing(&question.diagram.board());
+    for _ in 0..u16::MAX {
+        let Some(m) = top.moves.next() else {
+            return Ok(());
+        };
+        match last_node(output, sink) {
+            Ok(()) => {}
+            Err(fault) => return Err(fault),
+        }
+        match end_after(question, frames, findings, &position, squares, &m) {
+            Ok(()) => {}
+            Err(fault) => return Err(fault),
+        }
+        match expand_rest(squares, &mut top.moves, &m, output, sink) {
+            Ok(()) => {}
+            Err(fault) => return Err(fault),
+        }
+    }
+    Err(SearchFault::Budget)
 }
 
 // The moves of a node with two plies left are played, and the node closes.
@@ -85,26 +168,41 @@ fn play_last_two<W: Sink>(
     ensures runs { OnOk result (output.new.writer.failed ≡ false) }
     ensures says { RefusesTruly question.now.plies (W.has_failed sink.new) result }
 {
-    let position = top.moves.position();
-    let goal = question.diagram.board();
-    let squares = position.board().differing(&goal);
-    for _ in 0..u16::MAX {
-        let Some(m) = top.moves.next() else {
-            return close(top, &mut output.names, findings);
-        };
-        match last_node(output, sink) {
+    match expand_all(question.diagram, &top.moves.position(), output, sink) {
+        Ok(true) => {}
+        Ok(false) => match play_each(question, top, frames, findings, output, sink) {
             Ok(()) => {}
             Err(fault) => return Err(fault),
-        }
-        if may_be_near(&goal, &position, squares, &m) {
-            let next = position.after(&m);
-            match leaves(question, frames, findings, &Some(m), &next) {
-                Ok(()) => {}
-                Err(fault) => return Err(fault),
-            }
-        }
+        },
+        Err(fault) => return Err(fault),
     }
-    Err(SearchFault::Budget)
+    close(top, &mut output.names, findings)
+}
+
+// The further moves of the man that moved last are all cut at once, where a bound is known to exclude after each of them.
+fn cut_rest<W: Sink>(
+    moves: &mut LegalMoves,
+    outlook: &Outlook,
+    mover: &Mover,
+    output: &mut Output,
+    sink: &mut W,
+) -> Result<(), SearchFault>
+    requires runs { output.old.writer.failed ≡ false }
+    ensures runs { OnOk result (output.new.writer.failed ≡ false) }
+    ensures same { moves.new.position ≡ moves.old.position }
+    ensures says { (plies : ℕ) → RefusesTruly plies (W.has_failed sink.new) result }
+{
+    let Some(rest) = moves.rest_of_man() else {
+        return Ok(());
+    };
+    let Some(bound) = mover.cut_on(outlook, rest) else {
+        return Ok(());
+    };
+    if !output.visit_all(u64::from(rest.len())) {
+        return Ok(());
+    }
+    moves.skip_rest(rest);
+    output.cuts(bound, rest.len(), sink)
 }
 
 // The moves of a node are played up to the first that no bound excludes by what is known of the node, which is the
@@ -133,10 +231,16 @@ fn next_uncut<W: Sink>(
             return Err(SearchFault::Budget);
         }
         match outlook.plain(rows, &position, mover, &m) {
-            Plain::Cut(bound) => match output.cut(bound, sink) {
-                Ok(()) => {}
-                Err(fault) => return Err(fault),
-            },
+            Plain::Cut(bound) => {
+                match output.cut(bound, sink) {
+                    Ok(()) => {}
+                    Err(fault) => return Err(fault),
+                }
+                match cut_rest(moves, outlook, mover, output, sink) {
+                    Ok(()) => {}
+                    Err(fault) => return Err(fault),
+                }
+            }
             Plain::Stays(plain) => {
                 return Ok(Some(Uncut {
                     m,

@@ -7,6 +7,8 @@ mod expected;
 #[cfg(test)]
 mod led;
 #[cfg(test)]
+mod nearing;
+#[cfg(test)]
 mod searcher;
 #[cfg(test)]
 mod shared;

@@ -115,6 +115,15 @@ impl Sieve {
         self.nodes -= 1;
         true
     }
+
+    // Counts so many nodes, and answers whether all of them may be visited; else none is counted.
+    pub(crate) fn visit_all(&mut self, count: u64) -> bool {
+        if self.nodes < count {
+            return false;
+        }
+        self.nodes -= count;
+        true
+    }
 }
 
 // What tells whether nodes are gone into, the open nodes, whether a foreign move was refused in this round,

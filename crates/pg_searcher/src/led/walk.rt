@@ -7,8 +7,9 @@ use crate::led::barren::ANY;
 use crate::led::machine::{Halt, Machine, Open, Question, Sieve};
 use crate::led::node::{Entry, Means, child, enter};
 use crate::led::order::next_due;
-use crate::walk::may_be_near;
+use crate::nearing::{may_be_near, may_lead};
 use arrayvec::ArrayVec;
+use pg_moves::count_legal;
 use pg_position::{Move, Position};
 
 // Each loop has a bound, and halts as at the end of the budget where it comes to it. None does: no position has
@@ -69,8 +70,11 @@ fn play_last_two(
     found: &mut Game,
 ) -> Result<(), Halt> {
     let position = top.moves.position();
-    let goal = question.diagram.board();
-    let squares = position.board().differing(&goal);
+    let diagram = question.diagram;
+    if !may_lead(diagram, &position) && sieve.visit_all(count_legal(&position)) {
+        return Ok(());
+    }
+    let squares = position.board().differing(&diagram.board());
     for _ in 0..u16::MAX {
         let Some(m) = top.moves.next() else {
             return Ok(());
@@ -78,9 +82,8 @@ fn play_last_two(
         if !sieve.visit() {
             return Err(Halt::Budget);
         }
-        if may_be_near(&goal, &position, squares, &m) {
-            let next = position.after(&m);
-            let last = leaf(question.diagram, &next);
+        if squares.contains(m.from) && may_be_near(diagram, &position, &m) {
+            let last = leaf(diagram, &position.after(&m));
             if last.is_some() {
                 end(question, frames, found, &Some(m), &last)?;
                 top.fertile = true;

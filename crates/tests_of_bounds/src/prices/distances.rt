@@ -149,6 +149,14 @@ fn need_by_leasts(rows: &Rows, leasts: &Leasts, position: &Position, m: &Move) -
     }
 }
 
+// What the need is not below once the man of a move has moved, whatever his move.
+fn need_once_moved(rows: &Rows, leasts: &Leasts, position: &Position, m: &Move) -> u8 {
+    match position.board().get(m.from) {
+        Some(man) => leasts.need_once_moved(rows, man.kind, m.from),
+        None => NEVER,
+    }
+}
+
 // How many plain moves a position has; none where least distances give another need after one of them.
 fn agreeing_moves(rt: &impl Abort, alloc: Global, rows: &Rows, position: &Position) -> Option<u32> {
     let leasts = Leasts::new(rows, &position.board(), position.rights());
@@ -156,7 +164,8 @@ fn agreeing_moves(rt: &impl Abort, alloc: Global, rows: &Rows, position: &Positi
     for m in &legal_moves(alloc, position).expect(rt, "memory") {
         let after = position.play(*m).unwrap_or(*position);
         if is_plain(position, &after, m) {
-            if need_by_leasts(rows, &leasts, position, m) != need_by_rows(rows, &after) {
+            let need = need_by_leasts(rows, &leasts, position, m);
+            if need != need_by_rows(rows, &after) || need_once_moved(rows, &leasts, position, m) > need {
                 return None;
             }
             count = count.saturating_add(1);
