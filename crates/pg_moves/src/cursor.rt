@@ -384,6 +384,7 @@ impl LegalMoves {
     #[tactic(auto, unfolding(crate::specs::Left::IsReady))]
     pub fn skip_rest(&mut self, rest: SquareSet)
         requires { IsRest self.old.position self.old.last rest }
+        ensures position { self.new.position ≡ self.old.position }
         ensures some { (s : ℕ) → IsLastIn rest s
             → self.new ≡ record self.old { last = to_square self.old.last s } }
         ensures none { HasNoneFrom rest 0 → self.new ≡ self.old }

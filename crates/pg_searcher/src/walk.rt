@@ -11,6 +11,7 @@ use crate::nearing::{may_be_near, may_lead};
 use crate::node::{Opened, Uncut, child, enter};
 use crate::outlook::{Mover, Outlook, Plain};
 use crate::progress::SearchProgress;
+use pg_board::SquareSet;
 use pg_certificate::Sink;
 use pg_fen::Diagram;
 use pg_moves::{LegalMoves, count_legal};
@@ -46,9 +47,12 @@ fn close(top: &Frame, names: &mut Names, findings: &mut Findings) -> Result<(), 
     }
 }
 
-// The nodes after the further moves of the man that moved last, with one ply left, are visited all at once.
+// The nodes after the further moves of the man that moved last, with one ply left, are visited all at once, where he stood
+// off these squares.
 fn expand_rest<W: Sink>(
+    squares: SquareSet,
     moves: &mut LegalMoves,
+    m: &Move,
     output: &mut Output,
     sink: &mut W,
 ) -> Result<(), SearchFault>
@@ -57,6 +61,9 @@ fn expand_rest<W: Sink>(
     ensures same { moves.new.position ≡ moves.old.position }
     ensures says { (plies : ℕ) → RefusesTruly plies (W.has_failed sink.new) result }
 {
+    if squares.contains(m.from) {
+        return Ok(());
+    }
     let Some(rest) = moves.rest_of_man() else {
         return Ok(());
     };
@@ -93,26 +100,27 @@ fn expand_all<W: Sink>(
     }
 }
 
-// What becomes of a move of a node with two plies left, whose node is visited: the leaf on the diagram below that.
+// The leaf on the diagram below the node after a move of a man on one of these squares, with one ply left.
 fn end_after(
     question: &Question,
     frames: &[Frame],
     findings: &mut Findings,
     position: &Position,
+    squares: SquareSet,
     m: &Move,
 ) -> Result<(), SearchFault>
     requires legal { IsLegal position.now m.now }
     ensures { (failed : Bool) → RefusesTruly question.now.plies failed result }
 {
-    if may_be_near(question.diagram, position, m) {
+    if squares.contains(m.from) && may_be_near(question.diagram, position, m) {
         leaves(question, frames, findings, &Some(*m), &position.after(m))
     } else {
         Ok(())
     }
 }
 
-// The moves of a node with two plies left are played one by one. A man on a square where the boards agree is none
-// after whose move a further one leads to the diagram.
+// The moves of a node with two plies left are played one by one. After a move of a man on a square where the placements
+// agree no further one leads to the diagram (`may_lead`).
 fn play_each<W: Sink>(
     question: &Question,
     top: &mut Frame,
@@ -135,12 +143,11 @@ fn play_each<W: Sink>(
             Ok(()) => {}
             Err(fault) => return Err(fault),
         }
-        let ended = if squares.contains(m.from) {
-            end_after(question, frames, findings, &position, &m)
-        } else {
-            expand_rest(&mut top.moves, output, sink)
-        };
-        match ended {
+        match end_after(question, frames, findings, &position, squares, &m) {
+            Ok(()) => {}
+            Err(fault) => return Err(fault),
+        }
+        match expand_rest(squares, &mut top.moves, &m, output, sink) {
             Ok(()) => {}
             Err(fault) => return Err(fault),
         }

@@ -1,5 +1,5 @@
 use Rattle.std.proofs.Common.{◌≡◌, false}
-use Rattle.pg_searcher.proofs.walk.play_last_two.Given as goal
+use Rattle.pg_searcher.proofs.walk.play_each.Given as goal
 
 -- the node stays the same, and the writer has not refused
 abbrev pub invariant-loop : goal.invariant-loop
