@@ -205,7 +205,7 @@ impl Leasts {
                 need = need.min(least_once_moved(castled.least, row).saturating_add(1));
             }
         }
-        need.min(250) as u8
+        need.min(250u16) as u8
     }
 
     /// The least distances without the man of this kind on a square.
