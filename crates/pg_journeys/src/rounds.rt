@@ -9,7 +9,6 @@ ghost use Rattle.pg_journeys.specs.Facts.{Facts as GameFacts, FactsHold};
 ghost use Rattle.pg_journeys.specs.FirstFacts.{AreFirst, HasWalls, IsWallOf};
 ghost use Rattle.pg_journeys.specs.Known.{known};
 ghost use Rattle.pg_journeys.specs.Rounds.{HasFew, AreFacts, HasDeadColor, JourneysHold};
-ghost use Rattle.pg_journeys.specs.inner.Grounds.{HasSteps};
 ghost use Rattle.pg_journeys.specs.inner.Showing.{IsDead, Shows};
 ghost use Rattle.pg_journeys.specs.inner.Walking.{HasFewer, IsKept, MayLand, IsNext};
 
@@ -110,54 +109,7 @@ fn owes_more(diagram: &Diagram, position: &Position, left: u8, color: Color) -> 
     }
 }
 
-// The facts that follow; none where a colour has no way alive. White is asked first.
-fn facts_by_white(
-    diagram: &Diagram,
-    position: &Position,
-    left: u8,
-    facts: &Facts,
-    steps: &[SquareSet; 384],
-) -> Option<Facts>
-    requires steps { HasSteps facts.now.still steps.now }
-    requires few { HasFew position.now }
-    requires enough { ¬ HasFewer diagram.now position.now }
-    ensures { MatchOption result ((c : AnyColor) × IsDead (known facts.now) diagram.now position.now left c)
-        (λ e. IsNext (known facts.now) (known e) diagram.now position.now left) }
-{
-    match shown_of(diagram, position, left, facts, Color::White, steps) {
-        None => None,
-        Some(white) => match shown_of(diagram, position, left, facts, Color::Black, steps) {
-            None => None,
-            Some(black) => Some(narrowed(diagram, position, facts, &white, &black)),
-        },
-    }
-}
-
-// The same, and Black is asked first.
-fn facts_by_black(
-    diagram: &Diagram,
-    position: &Position,
-    left: u8,
-    facts: &Facts,
-    steps: &[SquareSet; 384],
-) -> Option<Facts>
-    requires steps { HasSteps facts.now.still steps.now }
-    requires few { HasFew position.now }
-    requires enough { ¬ HasFewer diagram.now position.now }
-    ensures { MatchOption result ((c : AnyColor) × IsDead (known facts.now) diagram.now position.now left c)
-        (λ e. IsNext (known facts.now) (known e) diagram.now position.now left) }
-{
-    match shown_of(diagram, position, left, facts, Color::Black, steps) {
-        None => None,
-        Some(black) => match shown_of(diagram, position, left, facts, Color::White, steps) {
-            None => None,
-            Some(white) => Some(narrowed(diagram, position, facts, &white, &black)),
-        },
-    }
-}
-
-// The facts that follow; none where a colour has no way alive. One table has the steps of both colours. Who has just moved
-// is asked first: a move that cannot be is more often one too many of his own.
+// The facts that follow; none where a colour has no way alive. One table has the steps of both colours.
 #[inline(never)]
 fn facts_by_plans(diagram: &Diagram, position: &Position, left: u8, facts: &Facts) -> Option<Facts>
     requires few { HasFew position.now }
@@ -165,10 +117,13 @@ fn facts_by_plans(diagram: &Diagram, position: &Position, left: u8, facts: &Fact
     ensures { MatchOption result ((c : AnyColor) × IsDead (known facts.now) diagram.now position.now left c)
         (λ e. IsNext (known facts.now) (known e) diagram.now position.now left) }
 {
-    let steps = steps_table(facts.still);
-    match position.side() {
-        Color::White => facts_by_black(diagram, position, left, facts, &steps),
-        Color::Black => facts_by_white(diagram, position, left, facts, &steps),
+    let table = steps_table(facts.still);
+    match shown_of(diagram, position, left, facts, Color::White, &table) {
+        None => None,
+        Some(white) => match shown_of(diagram, position, left, facts, Color::Black, &table) {
+            None => None,
+            Some(black) => Some(narrowed(diagram, position, facts, &white, &black)),
+        },
     }
 }
 
