@@ -1,5 +1,5 @@
 -- The legal moves past the last one.
-use Rattle.std.proofs.Common.{◌≡◌, ℕ, ◌+◌, ◌<◌, ◌≤◌, inl, inr, Option, Some, None, MatchOption, refl, sym, ap, subst, arith}
+use Rattle.std.proofs.Common.{◌≡◌, ℕ, ◌+◌, ◌<◌, ◌≤◌, ◌∙◌, inl, inr, true, false, Option, Some, None, MatchOption, refl, sym, ap, subst, arith}
 use Rattle.pg_board.specs.Bits.{has}
 use Rattle.pg_board.specs.Men.{is_of}
 use Rattle.pg_board.specs.Placement.{get}
@@ -7,10 +7,11 @@ use Rattle.pg_position.specs.declared.state.State.{State}
 use Rattle.pg_position.specs.declared.moves.Move.{Move}
 use Rattle.pg_board.specs.SquareSets.{HasNoneFrom, IsFirstFrom}
 use Rattle.pg_moves.specs.Left.{MovesLeft, IsFound, IsPeeked, IsManDone, IsNextOfMan, men_from}
-use Rattle.pg_moves.specs.inner.Sources.{IsSource}
+use Rattle.pg_moves.specs.inner.Sources.{IsSource, IsToldSource}
 use Rattle.pg_moves.specs.declared.cursor.Peeked.{Peeked}
 use Rattle.pg_moves.specs.Moves.{promotion_number, IsNext, IsLast}
 use Rattle.pg_moves.specs.inner.Places.{place, place_of, NoneFrom, IsFirstMove}
+use Rattle.pg_moves.specs.Targets.{IsOwn}
 use Rattle.pg_moves.specs.declared.sources.Source.{Source}
 use Rattle.pg_moves.proofs.ListLemmas.{on_board}
 use Rattle.pg_moves.proofs.PlaceLemmas.{promotion_low}
@@ -23,12 +24,25 @@ there r to n f t j a b c d e = omega arith
 pub found_there : (p : State) (r to n : ℕ) (m : Move) → n ≤ 7 → IsFirstMove p (place_of r to n) (place_of (r + 1) 0 0) m → m.from ≡ r
 found_there p r to n m few f = there r to n m.from m.to (promotion_number m.promotion) few (on_board p m f.legal).1 (promotion_low m.promotion) f.from_low f.to_high
 
-pub source_there : (p : State) (r to n : ℕ) (m : Move) (s : Source) → n ≤ 7 → IsFirstMove p (place_of r to n) (place_of (r + 1) 0 0) m → IsSource p r s → IsSource p m.from s
-source_there p r to n m s few f h = subst (λ (x : ℕ). IsSource p x s) (sym (found_there p r to n m few f)) h
+pub source_there : (p : State) (r to n : ℕ) (m : Move) (s : Source) → n ≤ 7 → IsFirstMove p (place_of r to n) (place_of (r + 1) 0 0) m → IsToldSource p r s → IsToldSource p m.from s
+source_there p r to n m s few f h = subst (λ (x : ℕ). IsToldSource p x s) (sym (found_there p r to n m few f)) h
+
+-- a peek tells less of a man than is kept of him; where his set is exact it tells all
+pub untold : (p : State) (r : ℕ) (s : Source) → IsToldSource p r s → IsSource p r s
+unfolding IsSource IsToldSource
+untold p r s h = (h.0, h.1, λ e. (h.2 e).0)
+
+pub told : (p : State) (r : ℕ) (s : Source) → IsSource p r s → s.exact ≡ true → IsToldSource p r s
+unfolding IsSource IsToldSource
+told p r s h e = (h.0, h.1, λ no. absurd (let never : true ≡ false = sym e ∙ no in cc))
+
+pub own_there : (p : State) (r : ℕ) (s : Source) → IsSource p r s → IsOwn p.board p.side r
+unfolding IsSource IsOwn
+own_there p r s h = (s.kind, h.0)
 
 -- ---- the men from a square on
 module _ (p : State) (set from : ℕ) (own : (q : ℕ) → q < 64 → has set q ≡ is_of p.side (get p.board q)) (at s : ℕ) (le : from ≤ at) (none : NoneFrom p (place_of from 0 0) (place_of at 0 0)) where
-  pub beyond_found : (m : Move) (source : Source) → IsFirstFrom set at s → IsFirstMove p (place_of s 0 0) (place_of (s + 1) 0 0) m → IsSource p s source → IsFound p (place_of from 0 0) m source
+  pub beyond_found : (m : Move) (source : Source) → IsFirstFrom set at s → IsFirstMove p (place_of s 0 0) (place_of (s + 1) 0 0) m → IsToldSource p s source → IsFound p (place_of from 0 0) m source
   beyond_found m source first found is = record {
     first = own_found p set from 0 0 own at s 0 0 m le none first (λ _. refl) (λ _. refl) (λ _. refl) (λ _. refl) (omega arith) (omega arith) found;
     source = source_there p s 0 0 m source (omega arith) found is;

@@ -9,7 +9,7 @@ use Rattle.pg_position.specs.declared.moves.Move.{Move}
 use Rattle.pg_position.specs.Step.{IsLegal, IsOnBoard}
 use Rattle.pg_moves.specs.Left.{MovesLeft, IsReady, IsManDone, IsNextOfMan, IsRest, IsRestOf, IsOneByOne}
 use Rattle.pg_moves.specs.inner.Places.{place, place_of, IsFirstMove}
-use Rattle.pg_moves.specs.inner.Sources.{IsSource, IsExact}
+use Rattle.pg_moves.specs.inner.Sources.{IsToldSource, IsExact}
 use Rattle.pg_moves.specs.inner.Steps.{AreFreePawns}
 use Rattle.pg_moves.specs.Moves.{promotion_number, IsBefore}
 use Rattle.pg_moves.specs.Targets.{FreeOff, plain_move}
@@ -138,8 +138,8 @@ module _ (p : State) (a : Move) (rest : ℕ) (from : a.from < 64) (to : a.to < 6
 
 -- ---- what is known past a move
 pub ready_found : (q : MovesLeft) (p : State) (l : Option Move) (m : Move) (maybe_pinned quiet rest : ℕ) (s : Source) → record { position = p; last = l } ≡ q
-    → FreeOff q.position maybe_pinned → AreFreePawns q.position quiet → IsSource q.position m.from s → m.to < 64 → IsSetOf rest (λ t. (has s.set t ≡ true) × (m.to < t)) → IsReady p (Some m) maybe_pinned quiet rest s
-unfolding IsReady IsSource
+    → FreeOff q.position maybe_pinned → AreFreePawns q.position quiet → IsToldSource q.position m.from s → m.to < 64 → IsSetOf rest (λ t. (has s.set t ≡ true) × (m.to < t)) → IsReady p (Some m) maybe_pinned quiet rest s
+unfolding IsReady IsToldSource
 ready_found q p l m maybe_pinned quiet rest s is free calm source to past =
     subst (λ (v : MovesLeft). IsReady v.position (Some m) maybe_pinned quiet rest s) (sym is)
     (free, calm, source, λ e. rest_is q.position m s.set rest to (source.1 e) past)
@@ -147,7 +147,7 @@ ready_found q p l m maybe_pinned quiet rest s is free calm source to past =
 ready_past : (p : State) (last : Option Move) (m : Move) (maybe_pinned quiet old rest : ℕ) (s : Source) → IsReady p last maybe_pinned quiet old s → IsNextOfMan p last m → IsSetOf rest (λ t. (has old t ≡ true) × (m.to < t)) → IsReady p (Some m) maybe_pinned quiet rest s
 unfolding IsReady IsNextOfMan
 ready_past p None m maybe_pinned quiet old rest s h n past = absurd n
-ready_past p (Some a) m maybe_pinned quiet old rest s h n past = (h.0, h.1, subst (λ (x : ℕ). IsSource p x s) (sym n.1) h.2, λ e. rest_on p a m old rest (h.3 e) n.0.legal n.0.past n.1 past)
+ready_past p (Some a) m maybe_pinned quiet old rest s h n past = (h.0, h.1, subst (λ (x : ℕ). IsToldSource p x s) (sym n.1) h.2, λ e. rest_on p a m old rest (h.3 e) n.0.legal n.0.past n.1 past)
 
 pub ready_on : (q : MovesLeft) (p : State) (l : Option Move) (m : Move) (maybe_pinned quiet old rest : ℕ) (s : Source) → record { position = p; last = l } ≡ q → IsReady p l maybe_pinned quiet old s → IsNextOfMan q.position q.last m → IsSetOf rest (λ t. (has old t ≡ true) × (m.to < t)) → IsReady p (Some m) maybe_pinned quiet rest s
 ready_on q p l m maybe_pinned quiet old rest s is h next past = ready_past p l m maybe_pinned quiet old rest s h (subst (λ (v : MovesLeft). IsNextOfMan v.position v.last m) (sym is) next) past
@@ -163,7 +163,7 @@ pub rest_at : (q : MovesLeft) (p : State) (l : Option Move) (a : Move) (maybe_pi
 rest_at q p l a maybe_pinned quiet rest s is e ready exact = subst (λ (v : MovesLeft). IsRest v.position v.last rest) is (rest_ready p l a maybe_pinned quiet rest s e ready exact)
 
 tried_ready : (p : State) (l : Option Move) (a : Move) (maybe_pinned quiet rest : ℕ) (s : Source) → l ≡ Some a → IsReady p l maybe_pinned quiet rest s → s.exact ≡ false → IsOneByOne p l
-unfolding IsReady IsSource IsOneByOne
+unfolding IsReady IsToldSource IsOneByOne
 tried_ready p l a maybe_pinned quiet rest s e ready tried =
     let here : IsReady p (Some a) maybe_pinned quiet rest s = subst (λ (x : Option Move). IsReady p x maybe_pinned quiet rest s) e ready in
     subst (λ (x : Option Move). IsOneByOne p x) (sym e) ((here.2.2 tried).1)

@@ -9,7 +9,7 @@ use Rattle.pg_board.specs.SquareSets.{IsSetOf}
 use Rattle.pg_position.specs.Step.{IsLegal, IsOnBoard}
 use Rattle.pg_moves.specs.Moves.{IsNext, IsBefore}
 use Rattle.pg_moves.specs.inner.Places.{most_moves, place, place_of, NoneFrom, IsFirstMove}
-use Rattle.pg_moves.specs.inner.Sources.{IsSource}
+use Rattle.pg_moves.specs.inner.Sources.{IsSource, IsToldSource}
 use Rattle.pg_moves.specs.inner.Steps.{AreFreePawns}
 use Rattle.pg_moves.specs.Targets.{FreeOff, IsTried, plain_move}
 use Rattle.pg_moves.specs.declared.cursor.Peeked.{Peeked}
@@ -28,7 +28,7 @@ moves_left_code =
 -- the first legal move from a place on, and its man
 pub record IsFound (p : State) (low : ℕ) (m : Move) (s : Source) : Type 0 where
   pub first : IsFirstMove p low most_moves m
-  pub source : IsSource p m.from s
+  pub source : IsToldSource p m.from s
 
 -- the set has the squares to which the man that made the move has legal moves past it, and he has no others past it
 pub record IsRestOf (p : State) (a : Move) (rest : ℕ) : Type 0 where
@@ -38,7 +38,8 @@ pub record IsRestOf (p : State) (a : Move) (rest : ℕ) : Type 0 where
 -- past a move what was found holds: where the man that made it goes to just the squares of his set, those of `rest` are left
 unfoldable pub IsReady : State → Option Move → ℕ → ℕ → ℕ → Source → Type 0
 IsReady p None maybe_pinned quiet rest s = Unit {0}
-IsReady p (Some m) maybe_pinned quiet rest s = FreeOff p maybe_pinned × AreFreePawns p quiet × IsSource p m.from s × (s.exact ≡ true → IsRestOf p m rest)
+IsReady p (Some m) maybe_pinned quiet rest s =
+    FreeOff p maybe_pinned × AreFreePawns p quiet × IsToldSource p m.from s × (s.exact ≡ true → IsRestOf p m rest)
 
 -- what was found for a move ahead holds past it
 unfoldable pub IsPeeked : State → Peeked → Type 0

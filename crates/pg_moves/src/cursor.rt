@@ -3,7 +3,7 @@ ghost use Rattle.std.specs.Prelude.{◌≡◌, ℕ, ◌<◌, ◌≤◌, ◌+◌,
 ghost use Rattle.pg_board.specs.Bits.{has};
 ghost use Rattle.pg_board.specs.SquareSets.{IsSetOf, HasNoneFrom, IsLastIn};
 ghost use Rattle.pg_moves.specs.Left.{IsPeeked, IsFound, IsManDone, IsNextOfMan, IsRest, IsRestOf, IsOneByOne, men_from, to_square};
-ghost use Rattle.pg_moves.specs.inner.Sources.{IsSource};
+ghost use Rattle.pg_moves.specs.inner.Sources.{IsToldSource};
 ghost use Rattle.pg_moves.specs.inner.Steps.{AreFreePawns};
 ghost use Rattle.pg_moves.specs.Moves.{IsNext, IsLast};
 ghost use Rattle.pg_moves.specs.inner.Places.{most_moves, place_of, NoneFrom, IsFirstMove, IsNextWithin};
@@ -12,7 +12,7 @@ ghost use Rattle.pg_moves.specs.Targets.{FreeOff};
 use crate::men::{free_pawns, source_near};
 use crate::pins::maybe_pinned;
 use crate::places::promotion_number;
-use crate::sources::{Source, first_of_source};
+use crate::sources::{Source, first_of_source, source_at};
 use pg_board::{Kind, Square, SquareSet};
 use pg_position::{Move, Position};
 use std::marker::Model;
@@ -58,6 +58,20 @@ fn no_source() -> Source {
     }
 }
 
+// The man of a move that was peeked at. Where his moves are tried one by one he is looked up once more, since what was
+// peeked at does not tell why.
+fn source_of_peeked(position: &Position, peeked: &Peeked) -> Source
+    requires { IsPeeked position.now peeked.now }
+    ensures { IsToldSource position.now peeked.now.m.from result }
+{
+    // A fact for the proof: the square is on the board.
+    peeked.m.from.index();
+    if peeked.source.exact {
+        return peeked.source;
+    }
+    source_at(position, &position.board(), peeked.maybe_pinned, peeked.m.from)
+}
+
 // The squares of the set past a square.
 #[inline(always)]
 fn past(set: SquareSet, square: Square) -> SquareSet
@@ -88,7 +102,7 @@ fn first_of_rest(position: &Position, last: &Move, rest: SquareSet) -> Option<Mo
 
 // The next move of a man whose moves have to be tried.
 fn next_tried(position: &Position, last: &Move, source: &Source) -> Option<Move>
-    requires { IsSource position.now last.now.from source.now }
+    requires { IsToldSource position.now last.now.from source.now }
     ensures { MatchOption result (IsManDone position.now (Some last.now))
         (λ m. IsNextOfMan position.now (Some last.now) m) }
 {
@@ -208,7 +222,7 @@ impl LegalMoves {
     ) -> Option<Peeked>
         requires free { FreeOff position.now maybe_pinned }
         requires quiet { AreFreePawns position.now quiet }
-        requires source { IsSource position.now last.now.from source.now }
+        requires source { IsToldSource position.now last.now.from source.now }
         ensures { MatchOption result (IsLast position.now (Some last.now))
             (λ a. IsNext position.now (Some last.now) a.m × IsPeeked position.now a) }
     {
@@ -265,11 +279,12 @@ impl LegalMoves {
         // A fact for the proof: the square is on the board.
         peeked.m.to.index();
         let quiet = self.quiet_by(peeked.maybe_pinned);
+        let source = source_of_peeked(&self.position, peeked);
         self.last = Some(peeked.m);
         self.maybe_pinned = peeked.maybe_pinned;
         self.quiet = quiet;
-        self.rest = past(peeked.source.set, peeked.m.to);
-        self.source = peeked.source;
+        self.rest = past(source.set, peeked.m.to);
+        self.source = source;
     }
 
     // The legal move after the last one that the same man has.
@@ -319,7 +334,7 @@ impl LegalMoves {
     fn begin(&mut self, first: &Move, maybe_pinned: SquareSet, quiet: SquareSet, source: &Source)
         requires free { FreeOff self.old.position maybe_pinned }
         requires quiet { AreFreePawns self.old.position quiet }
-        requires source { IsSource self.old.position first.now.from source.now }
+        requires source { IsToldSource self.old.position first.now.from source.now }
         ensures { self.new ≡ record self.old { last = Some first.now } }
     {
         // A fact for the proof: the square is on the board.

@@ -40,7 +40,7 @@ fn walked(position: &Position, kind: Kind, from: Square, set: SquareSet) -> u64
 // How many legal moves the man of the side to move on a square has, who may be pinned, or a pawn that may
 // promote or capture en passant: not inlined, since there are few.
 #[inline(never)]
-#[tactic(auto, unfolding(crate::specs::inner::Sources::IsSource))]
+#[tactic(auto, unfolding(crate::specs::inner::Sources::IsToldSource))]
 fn count_of_square(position: &Position, board: &Board, from: Square) -> u64
     requires same { board.now ≡ position.now.board }
     requires own { IsOwn position.now.board position.now.side from }

@@ -8,7 +8,7 @@ ghost use Rattle.pg_board.specs.SquareSets.{IsSetOf};
 ghost use Rattle.pg_position.specs.Position.{Stands};
 ghost use Rattle.pg_position.specs.Squares.{HasAhead};
 ghost use Rattle.pg_moves.specs.inner.Pawns.{forward, IsInside, one_rank, two_ranks};
-ghost use Rattle.pg_moves.specs.inner.Sources.{IsSource};
+ghost use Rattle.pg_moves.specs.inner.Sources.{IsToldSource};
 ghost use Rattle.pg_moves.specs.inner.Steps.{AreFreePawns, IsFreePawn, StepsTo, leap_rank};
 ghost use Rattle.pg_moves.specs.Targets.{IsOwn, FreeOff, Leaps, Advances};
 
@@ -84,7 +84,7 @@ fn pawn_advances(board: &Board, color: Color, from: Square) -> SquareSet
 fn quiet_source(position: &Position, board: &Board, from: Square) -> Source
     requires same { board.now ≡ position.now.board }
     requires quiet { IsFreePawn position.now from }
-    ensures { IsSource position.now from result }
+    ensures { IsToldSource position.now from result }
 {
     // A fact for the proof: the square is on the board.
     from.index();
@@ -110,7 +110,7 @@ fn piece_source(
     requires stands { Stands position.now.board position.now.side kind from }
     requires pawn { kind ≢ Kind.Pawn }
     requires king { kind ≢ Kind.King }
-    ensures { IsSource position.now from result }
+    ensures { IsToldSource position.now from result }
 {
     let color = position.side();
     if maybe_pinned.contains(from) {
@@ -134,7 +134,7 @@ fn piece_source(
 fn king_source(position: &Position, board: &Board, from: Square) -> Source
     requires same { board.now ≡ position.now.board }
     requires stands { Stands position.now.board position.now.side Kind.King from }
-    ensures { IsSource position.now from result }
+    ensures { IsToldSource position.now from result }
 {
     Source {
         set: king_targets(position, board, from),
@@ -149,7 +149,7 @@ fn any_source(position: &Position, board: &Board, maybe_pinned: SquareSet, from:
     requires same { board.now ≡ position.now.board }
     requires free { FreeOff position.now maybe_pinned }
     requires own { IsOwn position.now.board position.now.side from }
-    ensures { IsSource position.now from result }
+    ensures { IsToldSource position.now from result }
 {
     source_at(position, board, maybe_pinned, from)
 }
@@ -160,7 +160,7 @@ fn other_source(position: &Position, board: &Board, maybe_pinned: SquareSet, fro
     requires same { board.now ≡ position.now.board }
     requires free { FreeOff position.now maybe_pinned }
     requires own { IsOwn position.now.board position.now.side from }
-    ensures { IsSource position.now from result }
+    ensures { IsToldSource position.now from result }
 {
     let side = position.side();
     if is_there(board, side, Kind::Knight, from) {
@@ -191,7 +191,7 @@ pub(crate) fn source_near(
     requires free { FreeOff position.now maybe_pinned }
     requires quiet { AreFreePawns position.now quiet }
     requires own { IsOwn position.now.board position.now.side from }
-    ensures { IsSource position.now from result }
+    ensures { IsToldSource position.now from result }
 {
     if quiet.contains(from) {
         quiet_source(position, board, from)

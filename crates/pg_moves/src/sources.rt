@@ -2,7 +2,7 @@
 ghost use Rattle.std.specs.Prelude.{◌≡◌, ◌<◌, ◌≤◌, ◌+◌, ◌↔◌, IsTrue};
 ghost use Rattle.pg_position.specs.Position.{Stands};
 ghost use Rattle.pg_moves.specs.inner.Places.{place_of, IsNextWithin};
-ghost use Rattle.pg_moves.specs.inner.Sources.{IsSource};
+ghost use Rattle.pg_moves.specs.inner.Sources.{IsToldSource};
 ghost use Rattle.pg_moves.specs.Targets.{IsOwn, FreeOff};
 
 use crate::kings::king_targets;
@@ -26,7 +26,7 @@ pub(crate) struct Source {
 // that may promote or capture en passant with all squares to which it may go, one that may be pinned with
 // those of his advances that leave his king unattacked, any other with his advances.
 #[inline(always)]
-#[tactic(auto, unfolding(crate::specs::inner::Sources::IsSource))]
+#[tactic(auto, unfolding(crate::specs::inner::Sources::IsToldSource))]
 fn source_of_kind(
     position: &Position,
     board: &Board,
@@ -39,7 +39,7 @@ fn source_of_kind(
     requires free { FreeOff position.now maybe_pinned }
     requires color { color ≡ position.now.side }
     requires stands { Stands position.now.board position.now.side kind from }
-    ensures { IsSource position.now from result }
+    ensures { IsToldSource position.now from result }
 {
     // A fact for the proof: the square is on the board.
     from.index();
@@ -84,7 +84,7 @@ fn source_of(
     requires free { FreeOff position.now maybe_pinned }
     requires color { color ≡ position.now.side }
     requires stands { Stands position.now.board position.now.side kind from }
-    ensures { IsSource position.now from result }
+    ensures { IsToldSource position.now from result }
 {
     match kind {
         Kind::Pawn => source_of_kind(position, board, maybe_pinned, color, Kind::Pawn, from),
@@ -108,7 +108,7 @@ pub(crate) fn source_at(
     requires same { board.now ≡ position.now.board }
     requires free { FreeOff position.now maybe_pinned }
     requires own { IsOwn position.now.board position.now.side from }
-    ensures { IsSource position.now from result }
+    ensures { IsToldSource position.now from result }
 {
     match board.get(from) {
         Some(man) => source_of(position, board, maybe_pinned, man.color, man.kind, from),
@@ -127,7 +127,7 @@ fn source_of_pawn(
     requires same { board.now ≡ position.now.board }
     requires free { FreeOff position.now maybe_pinned }
     requires stands { Stands position.now.board position.now.side Kind.Pawn from }
-    ensures { IsSource position.now from result }
+    ensures { IsToldSource position.now from result }
 {
     source_of_kind(
         position,
@@ -179,7 +179,7 @@ pub(crate) fn source_to_count(
     requires same { board.now ≡ position.now.board }
     requires free { FreeOff position.now maybe_pinned }
     requires own { IsOwn position.now.board position.now.side from }
-    ensures { IsSource position.now from result }
+    ensures { IsToldSource position.now from result }
 {
     let side = position.side();
     match kind_of(board, side, from) {
@@ -190,7 +190,7 @@ pub(crate) fn source_to_count(
 
 // The first legal move of a man, from this target and promotion on.
 #[inline(always)]
-#[tactic(auto, unfolding(crate::specs::inner::Sources::IsSource))]
+#[tactic(auto, unfolding(crate::specs::inner::Sources::IsToldSource))]
 pub(crate) fn first_of_source(
     position: &Position,
     from: Square,
@@ -198,7 +198,7 @@ pub(crate) fn first_of_source(
     to: u8,
     number: u8,
 ) -> Option<Move>
-    requires source { IsSource position.now from source.now }
+    requires source { IsToldSource position.now from source.now }
     requires target { to < 64 }
     requires place { number ≤ 7 }
     ensures { IsNextWithin position.now (place_of from to number) (place_of (from + 1) 0 0) result }

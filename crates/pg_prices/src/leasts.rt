@@ -23,7 +23,8 @@ fn entered(two: Two, row: [u8; MOST_MEN]) -> Two {
     two
 }
 
-// The least distances without the man that has these.
+// The least distances without the man that has these. Both rows are chosen from by value: behind a reference each choice loads
+// from an address of its own, and nothing vectorizes.
 #[inline(always)]
 fn without(two: Two, row: [u8; MOST_MEN]) -> [u8; MOST_MEN] {
     let mut least = [0; MOST_MEN];

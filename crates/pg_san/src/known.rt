@@ -48,10 +48,10 @@ fn text_number(text: &[u8]) -> u64 {
     number.wrapping_mul(0xff51_afd7_ed55_8ccd)
 }
 
-// Where the reading of a text in a position is kept, and no other is looked for.
+// Where the reading of a text in a position is kept, and no other is looked for: by the highest bits, in which all squares tell.
 fn place_of(position: &Position, text: &[u8]) -> usize {
     let number = position_number(position) ^ text_number(text);
-    (number >> 40) as usize % MOST_KNOWN
+    (number >> 55) as usize % MOST_KNOWN
 }
 
 // Whether this text was read in this position.
@@ -126,6 +126,9 @@ pub(crate) fn read_known(
     ensures read { IsStepRead here.old text.now here.new result }
     ensures known { All IsKnown known.new }
 {
+    if known.is_empty() || text.len() > LONGEST {
+        return read_new(known, 0, here, text);
+    }
     let place = place_of(here, text);
     if place < known.len() && is_known(&known[place], here, text) {
         let m = known[place].m;

@@ -34,11 +34,11 @@ pub fn nothing_written() -> Written
     }
 }
 
-// Where the text of a move is kept, and no other is looked for.
+// Where the text of a move is kept, and no other is looked for: by the highest bits, in which all squares tell.
 fn place_of(position: &Position, m: &Move) -> usize {
     let squares = u64::from(m.from.index()) * 64 + u64::from(m.to.index());
     let number = position_number(position) ^ squares.wrapping_mul(0xff51_afd7_ed55_8ccd);
-    (number >> 40) as usize % MOST_WRITTEN
+    (number >> 55) as usize % MOST_WRITTEN
 }
 
 // Whether it is the text of this move in this position.
@@ -92,6 +92,9 @@ pub fn write_known(known: &mut [Written], here: &mut Position, m: &Move) -> San
     ensures next { Legal here.old m.now here.new }
     ensures known { All IsWritten known.new }
 {
+    if known.is_empty() {
+        return write_new(known, 0, here, m);
+    }
     let place = place_of(here, m);
     if place < known.len() && is_text_of(&known[place], here, m) {
         let text = known[place].text;

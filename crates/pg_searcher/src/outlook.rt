@@ -56,7 +56,8 @@ impl Mover {
         }
     }
 
-    // Whether no man moves to a set of squares but by plain moves that a bound excludes, which is the answer.
+    // The bound that excludes after each move of the man to these squares, where all of them are plain. They are those of a man
+    // whose moves are not tried one by one, so none is a promotion or a capture en passant.
     pub(crate) fn cut_on(&self, outlook: &Outlook, set: SquareSet) -> Option<CutBy> {
         if self.man.kind == Kind::King || set.meets(outlook.occupied) {
             None

@@ -5,7 +5,7 @@ ghost use Rattle.pg_searcher.specs.Refusals.{RefusesTruly};
 
 use crate::ends::{end, last_node, leaves};
 use crate::fault::SearchFault;
-use crate::judge::Judge;
+use crate::judge::{CutBy, Judge};
 use crate::machine::{Findings, Frame, Machine, Names, Output, Question, Recorder};
 use crate::nearing::{may_be_near, may_lead};
 use crate::node::{Opened, Uncut, child, enter};
@@ -179,8 +179,10 @@ fn play_last_two<W: Sink>(
     close(top, &mut output.names, findings)
 }
 
-// The further moves of the man that moved last are all cut at once, where a bound is known to exclude after each of them.
-fn cut_rest<W: Sink>(
+// The move that was handed out last is cut by a bound; and with it all further moves of its man at once, where a bound is known
+// to exclude after each of them.
+fn cut_man<W: Sink>(
+    bound: CutBy,
     moves: &mut LegalMoves,
     outlook: &Outlook,
     mover: &Mover,
@@ -192,6 +194,10 @@ fn cut_rest<W: Sink>(
     ensures same { moves.new.position ≡ moves.old.position }
     ensures says { (plies : ℕ) → RefusesTruly plies (W.has_failed sink.new) result }
 {
+    match output.cut(bound, sink) {
+        Ok(()) => {}
+        Err(fault) => return Err(fault),
+    }
     let Some(rest) = moves.rest_of_man() else {
         return Ok(());
     };
@@ -231,16 +237,10 @@ fn next_uncut<W: Sink>(
             return Err(SearchFault::Budget);
         }
         match outlook.plain(rows, &position, mover, &m) {
-            Plain::Cut(bound) => {
-                match output.cut(bound, sink) {
-                    Ok(()) => {}
-                    Err(fault) => return Err(fault),
-                }
-                match cut_rest(moves, outlook, mover, output, sink) {
-                    Ok(()) => {}
-                    Err(fault) => return Err(fault),
-                }
-            }
+            Plain::Cut(bound) => match cut_man(bound, moves, outlook, mover, output, sink) {
+                Ok(()) => {}
+                Err(fault) => return Err(fault),
+            },
             Plain::Stays(plain) => {
                 return Ok(Some(Uncut {
                     m,

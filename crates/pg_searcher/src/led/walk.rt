@@ -61,7 +61,8 @@ fn close(top: &Open, machine: &mut Machine, left: u8) -> Result<(), Halt>
     }
 }
 
-// The moves of a node with two plies left are played, familiar or not.
+// The moves of a node with two plies left are played, familiar or not. After a move of a man on a square where the placements
+// agree no further one leads to the diagram (`may_lead`).
 fn play_last_two(
     question: &Question,
     top: &mut Open,

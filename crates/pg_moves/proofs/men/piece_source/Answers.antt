@@ -1,4 +1,4 @@
-use Rattle.pg_moves.specs.inner.Sources.{IsSource}
+use Rattle.pg_moves.specs.inner.Sources.{IsToldSource}
 use Rattle.pg_moves.proofs.LeafLemmas.{exact_free, free_there, piece_ordinary}
 use Rattle.pg_moves.proofs.TargetLemmas.{piece_set, advance_piece}
 use Rattle.pg_moves.proofs.men.piece_source.Goals as goal
@@ -7,11 +7,11 @@ pub parrying-requires-clause-ordinary : goal.parrying-requires-clause-ordinary
 parrying-requires-clause-ordinary c = piece_ordinary c.args.position.now c.args.kind c.args.from c.requires.pawn
 
 pub returns-then-contains : goal.returns-then-contains
-unfolding IsSource
+unfolding IsToldSource
 returns-then-contains c = (c.requires.stands, λ _. c.parrying.ensures, λ e. absurd (cc))
 
 pub returns-else-contains : goal.returns-else-contains
-unfolding IsSource
+unfolding IsToldSource
 returns-else-contains c = (
   c.requires.stands,
   λ _. exact_free c.args.position.now c.args.kind c.args.from c.sub.result c.args.board.now c.side-color.result c.requires.same c.side-color.ensures.value c.contains.ensures.bound c.requires.stands

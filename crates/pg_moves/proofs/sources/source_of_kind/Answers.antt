@@ -1,9 +1,9 @@
-use Rattle.pg_moves.specs.inner.Sources.{IsSource}
+use Rattle.pg_moves.specs.inner.Sources.{IsToldSource}
 use Rattle.pg_moves.proofs.LeafLemmas.{exact_free, free_there}
 use Rattle.pg_moves.proofs.sources.source_of_kind.Goals as goal
 
 pub returns-else-contains : goal.returns-else-contains
-unfolding IsSource
+unfolding IsToldSource
 returns-else-contains c = (
   c.requires.stands,
   λ _. exact_free c.args.position.now c.args.kind c.args.from c.advances.result c.args.board.now c.args.color c.requires.same c.requires.color c.index.ensures.bound c.requires.stands
