@@ -69,7 +69,12 @@ fn source_of_peeked(position: &Position, peeked: &Peeked) -> Source
     if peeked.source.exact {
         return peeked.source;
     }
-    source_at(position, &position.board(), peeked.maybe_pinned, peeked.m.from)
+    source_at(
+        position,
+        &position.board(),
+        peeked.maybe_pinned,
+        peeked.m.from,
+    )
 }
 
 // The squares of the set past a square.

@@ -173,7 +173,11 @@ impl Output {
     }
 
     // Writes so many expansions without a name.
-    pub(crate) fn expansions<W: Sink>(&mut self, count: u64, sink: &mut W) -> Result<(), SearchFault>
+    pub(crate) fn expansions<W: Sink>(
+        &mut self,
+        count: u64,
+        sink: &mut W,
+    ) -> Result<(), SearchFault>
         requires runs { self.old.writer.failed ≡ false }
         ensures runs { OnOk result (self.new.writer.failed ≡ false) }
         ensures says { (plies : ℕ) → RefusesTruly plies (W.has_failed sink.new) result }
@@ -201,7 +205,12 @@ impl Output {
     }
 
     // Writes so many cuts by a bound.
-    pub(crate) fn cuts<W: Sink>(&mut self, bound: CutBy, count: u8, sink: &mut W) -> Result<(), SearchFault>
+    pub(crate) fn cuts<W: Sink>(
+        &mut self,
+        bound: CutBy,
+        count: u8,
+        sink: &mut W,
+    ) -> Result<(), SearchFault>
         requires runs { self.old.writer.failed ≡ false }
         ensures runs { OnOk result (self.new.writer.failed ≡ false) }
         ensures says { (plies : ℕ) → RefusesTruly plies (W.has_failed sink.new) result }

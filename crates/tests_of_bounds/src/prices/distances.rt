@@ -165,7 +165,9 @@ fn agreeing_moves(rt: &impl Abort, alloc: Global, rows: &Rows, position: &Positi
         let after = position.play(*m).unwrap_or(*position);
         if is_plain(position, &after, m) {
             let need = need_by_leasts(rows, &leasts, position, m);
-            if need != need_by_rows(rows, &after) || need_once_moved(rows, &leasts, position, m) > need {
+            if need != need_by_rows(rows, &after)
+                || need_once_moved(rows, &leasts, position, m) > need
+            {
                 return None;
             }
             count = count.saturating_add(1);
