@@ -132,12 +132,18 @@ fn two_moves_lead_or_not(rt: HostRuntime) {
             check_one(&rt, rt.alloc(), &diagram, &farther, &mut told);
         }
     }
-    assert!(rt; told.led >= 176 && told.denied > 300, "{} {}", told.led, told.denied);
+    assert!(rt;
+        told.led >= 176 && told.denied > 300,
+        "{} {}",
+        told.led,
+        told.denied
+    );
 }
 
 // Positions from which two moves lead to a diagram: a pawn that goes two squares is taken en passant; both castle; a man is
 // taken and avenged, so that its square is as before; a king takes and is not taken.
-const LED: &str = "rnbqkbnr/ppp1pppp/8/8/3p4/8/PPPPPPPP/RNBQKBNR w KQkq - 0 1 | rnbqkbnr/ppp1pppp/8/8/8/2p5/PP1PPPPP/RNBQKBNR
+const LED: &str =
+    "rnbqkbnr/ppp1pppp/8/8/3p4/8/PPPPPPPP/RNBQKBNR w KQkq - 0 1 | rnbqkbnr/ppp1pppp/8/8/8/2p5/PP1PPPPP/RNBQKBNR
 r3k2r/8/8/8/8/8/8/R3K2R w KQkq - 0 1 | 2kr3r/8/8/8/8/8/8/R4RK1
 4k3/8/1n6/3n4/8/4N3/8/4K3 w - - 0 1 | 4k3/8/8/3n4/8/8/8/4K3
 4k3/8/8/8/8/8/3n4/4K3 w - - 0 1 | 8/3k4/8/8/8/8/3K4/8";
