@@ -61,3 +61,50 @@ fn as_many_nodes_are_visited_as_by_a_walk_from_node_to_node(rt: HostRuntime) {
         check_visited(&rt, row);
     }
 }
+
+// Counts how often it is told how far a search is.
+#[derive(Drop)]
+struct Turns {
+    count: u64,
+}
+
+impl LedProgress for Turns {
+    fn reached(&mut self, _foreign: u8, _plies: u8, _left: u64) {
+        self.count = self.count.saturating_add(1);
+    }
+}
+
+// How many turns searches take together, one with each limit from no node up to so many.
+fn turns_up_to<R: Abort + AllocGlobal>(rt: &R, games: &str, nodes: u64, foreign: &str) -> u64 {
+    let asked = asked_by(rt, games);
+    let mut turns = Turns { count: 0 };
+    for limit in 0..=nodes {
+        let _ = answer(
+            rt,
+            rt.alloc(),
+            &asked,
+            limits_of(limit, foreign),
+            &mut turns,
+        );
+    }
+    turns.count
+}
+
+// Games, the greatest limit, how many foreign moves, and the turns of all searches with this limit or a lower one: a
+// turn that a limit cuts off is not counted.
+const TURNS: &str = "1. f3 e5 2. g4 Qh4#/1. g4 e5 2. f3 Qh4# | 152 | 1 | 1673
+1. e3 b5 2. Bc4 bxc4 3. d3 cxd3 4. Qxd3 | 292 | 1 | 8850
+1. Nc3 d6 2. Nd5 Nd7 3. Nxe7 Ndf6 4. Nxg8 Nxg8 | 300 | 1 | 9318";
+
+#[test]
+fn each_limit_cuts_off_the_same_turn(rt: HostRuntime) {
+    for row in TURNS.lines() {
+        let found = turns_up_to(
+            &rt,
+            field(row, 0),
+            number(&rt, field(row, 1)),
+            field(row, 2),
+        );
+        assert!(rt; found == number(&rt, field(row, 3)), "{row}");
+    }
+}
