@@ -3,6 +3,7 @@
 mod found;
 mod growths;
 mod limits;
+mod nodes;
 
 use crate::shared::{Said, field, games_of, goal_of, halves, number, words};
 use pg_fen::{Diagram, Length};

@@ -1,5 +1,6 @@
 //! Searches: what the tests share.
 
+mod bytes;
 mod found_games;
 mod growths;
 mod met;

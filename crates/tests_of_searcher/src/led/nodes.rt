@@ -1,0 +1,110 @@
+//! How many nodes a led search visits until it answers: as many as a walk that goes from node to node.
+
+use super::*;
+
+// What is answered, and how many nodes were visited where no game is found.
+fn visited<R: Abort + AllocGlobal>(rt: &R, games: &str, limits: LedLimits) -> Said {
+    let asked = asked_by(rt, games);
+    let (diagram, length) = (&asked.diagram, asked.length);
+    let answer = search_led(
+        rt.alloc(),
+        diagram,
+        length,
+        &asked.games,
+        limits,
+        &mut Unwatched,
+    );
+    let said = told(rt, &asked, &answer);
+    match answer {
+        Ok(Led::NotFound { nodes, .. }) => words(&format_args!("{} {nodes}", said.as_str())),
+        _ => said,
+    }
+}
+
+// A row of games, how many nodes and foreign moves are allowed; what is answered, and the nodes that were visited.
+fn check_visited<R: Abort + AllocGlobal>(rt: &R, row: &str) {
+    let (asked, wanted) = halves(rt, row, " => ");
+    let limits = limits_of(number(rt, field(asked, 1)), field(asked, 2));
+    assert_eq!(rt;
+        visited(rt, field(asked, 0), limits).as_str(),
+        wanted,
+        "{asked}"
+    );
+}
+
+// With so many nodes a game is found, or a round ends, and with a node less it is not.
+const VISITED: &str =
+    "1. Nc3 d6 2. Nd5 Nd7 3. Nxe7 Ndf6 4. Nxg8 Nxg8 | 20000 | 1 => none with 1 2545
+1. Nc3 d6 2. Nd5 Nd7 3. Nxe7 Ndf6 4. Nxg8 Nxg8 | 2545 | 1 => none with 1 2545
+1. Nc3 d6 2. Nd5 Nd7 3. Nxe7 Ndf6 4. Nxg8 Nxg8 | 2544 | 1 => none with 0 2544
+1. Nc3 d6 2. Nd5 Nd7 3. Nxe7 Ndf6 4. Nxg8 Nxg8 | 185 | 1 => none with 0 185
+1. Nc3 d6 2. Nd5 Nd7 3. Nxe7 Ndf6 4. Nxg8 Nxg8 | 184 | 1 => none met 184
+1. e4 g6 2. Ba6 Nxa6 3. Nf3 Nb8 4. O-O | 1351 | 1 => none with 1 1351
+1. e4 g6 2. Ba6 Nxa6 3. Nf3 Nb8 4. O-O | 1350 | 1 => none with 0 1350
+1. e4 g6 2. Ba6 Nxa6 3. Nf3 Nb8 4. O-O | 173 | 1 => none with 0 173
+1. e4 g6 2. Ba6 Nxa6 3. Nf3 Nb8 4. O-O | 172 | 1 => none met 172
+1. f3 e5 2. g4 Qh4#/1. g4 e5 2. f3 Qh4# | 20000 => none with 1 152
+1. f3 e5 2. g4 Qh4#/1. g4 e5 2. f3 Qh4# | 152 => none with 1 152
+1. f3 e5 2. g4 Qh4#/1. g4 e5 2. f3 Qh4# | 151 => none with 0 151
+1. f3 e5 2. g4 Qh4# | 42 | 0 => 4 plies
+1. f3 e5 2. g4 Qh4# | 41 | 0 => none met 41
+1. e3 b5 2. Bc4 bxc4 3. d3 cxd3 4. Qxd3 | 292 | 1 => 7 plies
+1. e3 b5 2. Bc4 bxc4 3. d3 cxd3 4. Qxd3 | 291 | 1 => none with 0 291
+1. a3 h5 2. b3 h4 3. c3 h3 4. d3 hxg2 5. e3 gxh1=N | 75 | 0 => 10 plies
+1. a3 h5 2. b3 h4 3. c3 h3 4. d3 hxg2 5. e3 gxh1=N | 74 | 0 => none met 74
+1. e4 e6 2. Bb5 Ke7 3. Bxd7 c6 4. Be8 Kxe8 | 92 => 6 plies
+1. e4 e6 2. Bb5 Ke7 3. Bxd7 c6 4. Be8 Kxe8 | 91 => none met 91";
+
+#[test]
+fn as_many_nodes_are_visited_as_by_a_walk_from_node_to_node(rt: HostRuntime) {
+    for row in VISITED.lines() {
+        check_visited(&rt, row);
+    }
+}
+
+// Counts how often it is told how far a search is.
+#[derive(Drop)]
+struct Turns {
+    count: u64,
+}
+
+impl LedProgress for Turns {
+    fn reached(&mut self, _foreign: u8, _plies: u8, _left: u64) {
+        self.count = self.count.saturating_add(1);
+    }
+}
+
+// How many turns searches take together, one with each limit from no node up to so many.
+fn turns_up_to<R: Abort + AllocGlobal>(rt: &R, games: &str, nodes: u64, foreign: &str) -> u64 {
+    let asked = asked_by(rt, games);
+    let mut turns = Turns { count: 0 };
+    for limit in 0..=nodes {
+        let _ = answer(
+            rt,
+            rt.alloc(),
+            &asked,
+            limits_of(limit, foreign),
+            &mut turns,
+        );
+    }
+    turns.count
+}
+
+// Games, the greatest limit, how many foreign moves, and the turns of all searches with this limit or a lower one: a
+// turn that a limit cuts off is not counted.
+const TURNS: &str = "1. f3 e5 2. g4 Qh4#/1. g4 e5 2. f3 Qh4# | 152 | 1 | 1673
+1. e3 b5 2. Bc4 bxc4 3. d3 cxd3 4. Qxd3 | 292 | 1 | 8850
+1. Nc3 d6 2. Nd5 Nd7 3. Nxe7 Ndf6 4. Nxg8 Nxg8 | 300 | 1 | 9318";
+
+#[test]
+fn each_limit_cuts_off_the_same_turn(rt: HostRuntime) {
+    for row in TURNS.lines() {
+        let found = turns_up_to(
+            &rt,
+            field(row, 0),
+            number(&rt, field(row, 1)),
+            field(row, 2),
+        );
+        assert!(rt; found == number(&rt, field(row, 3)), "{row}");
+    }
+}
