@@ -21,7 +21,7 @@ use Rattle.pg_checker.specs.Differing.{Differ}
 use Rattle.pg_checker.specs.Passing.{LeadsTo, LeadsElsewhere, AllElsewhere}
 use Rattle.pg_checker.specs.inner.Leading.{LeadsOn, HoldsSources, HoldsTargets}
 use Rattle.pg_moves.specs.Left.{MovesLeft}
-use Rattle.pg_moves.specs.Moves.{move_cmp, IsPast}
+use Rattle.pg_moves.specs.Moves.{IsPast}
 use Rattle.pg_moves.proofs.PlaceLemmas.{move_cmp_total}
 use Rattle.pg_checker.proofs.Differing.{Changed, Moved, both_in, after_move}
 use Rattle.pg_checker.proofs.Left.{left_are}
@@ -43,6 +43,13 @@ unlike_last last m t is off e = let on : t ≡ true = is.1 e in cc
 
 pub not_again : (d : Placement) (p : State) (last : Option Move) (m : Move) (t : Bool) → (IsTrue t ↔ (last ≡ Some m)) → t ≡ true → IsTrue false ↔ LeadsOn d p last m
 not_again d p last m t is on = (λ z. absurd (let f : false ≡ true = z in cc), λ (l, apart). absurd (apart (is.0 on)))
+
+-- whether the last one leads to the diagram
+pub last_leads : (d : Placement) (p : State) (last : Option Move) (m : Move) (t : Bool) → last ≡ Some m → (IsTrue t ↔ LeadsOn d p None m) → IsTrue t ↔ ((x : Move) × (last ≡ Some x) × LeadsTo d p x)
+last_leads d p last m t is plays = (
+  λ on. (m, is, (plays.0 on).0),
+  λ (x, e, l). let both : Some x ≡ Some m = sym e ∙ is in let same : x ≡ m = cc in plays.1 (subst (λ (y : Move). LeadsTo d p y) same l, λ z. cc),
+)
 
 -- what a move becomes stands on the diagram where it goes
 becomes : (p : State) (d : Placement) (m : Move) → LeadsTo d p m → (m.promotion ≡ None) ⊎ ((x : Kind) × (m.promotion ≡ Some x) × (get d m.to ≡ Some (man p.side x)))

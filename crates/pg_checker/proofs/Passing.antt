@@ -1,7 +1,7 @@
 -- Passing over moves that do not lead to the diagram leaves what the walk answers. Leads to the contracts of `skip_to_solution` and `run`.
 use Rattle.std.proofs.Common.{◌≡◌, ◌≢◌, ℕ, zero, suc, ◌+◌, ◌<◌, ◌≤◌, Bool, true, false, ◌||◌, List, [], ◌∷◌, ◌++◌, length, reverse, Option, Some, Result, IsTrue, ◌↔◌, refl, sym, ◌∙◌, ap, subst, arith, append_assoc}
 use Rattle.std.specs.List.{Contains}
-use Rattle.std.proofs.lemmas.List.{length-append}
+use Rattle.std.proofs.lemmas.List.{append-nil, length-append}
 use Rattle.std.proofs.lemmas.List.Elements.{Contains-append_left, Contains-append_cases}
 use Rattle.std.proofs.Common.{inl, inr}
 use Rattle.pg_board.specs.Placement.{Placement}
@@ -66,6 +66,15 @@ fewer_left now new m next is =
 -- after the last one none is left
 pub none_elsewhere : (d : Placement) (moves : MovesLeft) → IsLast moves.position moves.last → AllElsewhere d moves
 none_elsewhere d moves end m c = absurd (Contains-none m (subst (λ (v : List Move). Contains v m) (left_last moves.position moves.last end) c))
+
+-- where none that is left leads to the diagram, all may be passed over
+pub passes_all : (d : Placement) (old new : MovesLeft) → AllElsewhere d old → new.position ≡ old.position → IsLast new.position new.last → PassesOver d old new
+passes_all d old new off same end = record {
+  position = same;
+  passed = left_after old.position old.last;
+  left = sym (append-nil (left_after old.position old.last)) ∙ ap (λ (v : List Move). left_after old.position old.last ++ v) (sym (left_last old.position new.last (subst (λ (p : State). IsLast p new.last) same end)));
+  elsewhere = off;
+}
 
 -- where no legal move leads to the diagram, none that is left does
 pub far_elsewhere : (d : Placement) (moves : MovesLeft) → ((m : Move) (q : State) → Legal moves.position m q → q.board ≢ d) → AllElsewhere d moves

@@ -3,6 +3,7 @@ ghost use Rattle.std.specs.Prelude.{◌≡◌, ◌↔◌, IsTrue, Some, true, fa
 ghost use Rattle.pg_position.specs.declared.moves.Move.{Move};
 ghost use Rattle.pg_position.specs.Position.{IsPosition};
 ghost use Rattle.pg_position.specs.Step.{IsLegal};
+ghost use Rattle.pg_moves.specs.Moves.{IsLast};
 ghost use Rattle.pg_checker.specs.Differing.{Differ};
 ghost use Rattle.pg_checker.specs.inner.Leading.{LeadsOn, HoldsSources, HoldsTargets};
 ghost use Rattle.pg_checker.specs.inner.Squares.{HasTwoToFour};
@@ -180,6 +181,26 @@ pub fn leads_to(diagram: &Diagram, position: &Position, m: &Move) -> bool
     }
 }
 
+// Whether the move that was handed out last leads to the diagram.
+fn has_led(diagram: &Diagram, position: &Position, last: &Option<Move>) -> bool
+    ensures { IsTrue result ↔ ((m : Move) × (last.now ≡ Some m) × LeadsTo diagram.now position.now m) }
+{
+    match last {
+        Some(m) => plays_to(diagram, position, &None, m),
+        None => false,
+    }
+}
+
+// Passes over all moves that are left.
+fn pass_all(moves: &mut LegalMoves)
+    ensures position { moves.new.position ≡ moves.old.position }
+    ensures end { IsLast moves.new.position moves.new.last }
+{
+    while let Some(peeked) = moves.peek() {
+        moves.advance(&peeked);
+    }
+}
+
 /// Passes over legal moves that do not lead to the diagram, up to the first that does, and answers
 /// whether there is one. It is then the next of the moves.
 pub fn skip_to_solution(diagram: &Diagram, moves: &mut LegalMoves) -> bool
@@ -195,6 +216,10 @@ pub fn skip_to_solution(diagram: &Diagram, moves: &mut LegalMoves) -> bool
     }
     let last = moves.last();
     if !has_leading(diagram, squares, &position, &last) {
+        // Past the move that leads there the search ends behind the last move, though no further one is tried.
+        if has_led(diagram, &position, &last) {
+            pass_all(moves);
+        }
         return false;
     }
     while let Some(peeked) = moves.peek() {

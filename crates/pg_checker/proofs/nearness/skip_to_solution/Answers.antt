@@ -2,7 +2,7 @@ use Rattle.std.proofs.Common.{sym, subst, ◌∙◌}
 use Rattle.pg_position.specs.declared.state.State.{State}
 use Rattle.pg_position.specs.Step.{IsLegal}
 use Rattle.pg_checker.specs.Passing.{LeadsElsewhere, LeadsTo}
-use Rattle.pg_checker.proofs.Passing.{passes_none, passes_more, fewer_left, none_elsewhere}
+use Rattle.pg_checker.proofs.Passing.{passes_none, passes_more, passes_all, fewer_left, none_elsewhere}
 use Rattle.pg_checker.proofs.Differing.{far_elsewhere, two_to_four}
 use Rattle.pg_checker.proofs.Leading.{none_leads}
 use Rattle.pg_checker.proofs.nearness.skip_to_solution.Goals as goal
@@ -28,8 +28,14 @@ returns-clause-passed c = c.loop-peeked.invariant
 pub returns-clause-none : goal.returns-clause-none
 returns-clause-none c = λ e. none_elsewhere c.args.diagram.now c.loop-peeked.moves c.in_default.ensures
 
-pub returns-then-not-has_leading-clause-none : goal.returns-then-not-has_leading-clause-none
-returns-then-not-has_leading-clause-none c = λ _. none_leads c.args.diagram.now c.args.moves.now c.position-position.result c.last-last.result c.has_leading.result c.position-position.ensures c.last-last.ensures c.has_leading.ensures c.if-not-has_leading.true
+pub returns-then-has_led-clause-passed : goal.returns-then-has_led-clause-passed
+returns-then-has_led-clause-passed c = passes_all c.args.diagram.now c.args.moves.now c.pass_all.new.moves (none_leads c.args.diagram.now c.args.moves.now c.position-position.result c.last-last.result c.has_leading.result c.position-position.ensures c.last-last.ensures c.has_leading.ensures c.if-not-has_leading.true) c.pass_all.ensures.position c.pass_all.ensures.end
+
+pub returns-then-has_led-clause-none : goal.returns-then-has_led-clause-none
+returns-then-has_led-clause-none c = λ _. none_elsewhere c.args.diagram.now c.pass_all.new.moves c.pass_all.ensures.end
+
+pub returns-else-has_led-clause-none : goal.returns-else-has_led-clause-none
+returns-else-has_led-clause-none c = λ _. none_leads c.args.diagram.now c.args.moves.now c.position-position.result c.last-last.result c.has_leading.result c.position-position.ensures c.last-last.ensures c.has_leading.ensures c.if-not-has_leading.true
 
 pub returns-then-leads-clause-some : goal.returns-then-leads-clause-some
 returns-then-leads-clause-some c = λ e. (c.in-Some.peeked.m, c.in-Some.ensures.0, subst (λ (p : State). LeadsTo c.args.diagram.now p c.in-Some.peeked.m) (c.position-position.ensures ∙ sym c.loop-peeked.invariant.position) (c.leads.ensures.there c.if-leads.true))
