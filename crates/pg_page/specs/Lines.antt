@@ -1,5 +1,5 @@
 -- The lines that the page's script reads: how a move is written there.
-use Rattle.std.specs.Prelude.{◌≡◌, ℕ, Bool, true, false, List, ◌∷◌, ◌++◌, codes, get_or}
+use Rattle.std.specs.Prelude.{◌≡◌, ℕ, Bool, true, false, List, ◌∷◌, codes, get_or}
 use Rattle.pg_position.specs.declared.state.State.{State}
 use Rattle.pg_position.specs.declared.moves.Move.{Move}
 use Rattle.pg_san.specs.Writing.{IsSan}
@@ -16,7 +16,3 @@ IsMoveText p m text = (san : List ℕ) × IsSan p m san × (text ≡ letter_at m
 abbrev pub leaf_mark : Bool → List ℕ
 leaf_mark true = codes "*\n"
 leaf_mark false = codes ",\n"
-
--- the line of the last move of a game
-abbrev pub IsLeafLine : State → Move → Bool → List ℕ → Type 0
-IsLeafLine p m hit line = (text : List ℕ) × IsMoveText p m text × (line ≡ text ++ leaf_mark hit)

@@ -3,7 +3,7 @@
 ghost use Rattle.std.specs.Prelude.{◌≡◌, Bool, true, IfErr, OnErr};
 ghost use Rattle.pg_guide.specs.Trees.{BreaksTruly};
 ghost use Rattle.pg_position.specs.Step.{IsLegal};
-ghost use Rattle.pg_page.specs.Lines.{IsLeafLine};
+ghost use Rattle.pg_page.specs.Lines.{leaf_mark};
 ghost use Rattle.pg_page.specs.Telling.{StopsTruly};
 
 use crate::lines::{MoveText, move_text, write_escaped, write_number};
@@ -202,27 +202,21 @@ fn write_close<W: Sink>(told: &Told, tree: u8, closed: &Closed, out: &mut W) -> 
     out.push(b"\n")
 }
 
-// The line of a leaf.
-fn leaf_line(leaf: &Leaf) -> MoveText
-    requires { IsLegal leaf.now.before leaf.now.m }
-    ensures { IsLeafLine leaf.now.before leaf.now.m leaf.now.hit result.bytes }
+// What stands behind the move of a leaf: whether it leads to the diagram.
+fn leaf_mark(hit: bool) -> &'static str
+    ensures { result.now ≡ leaf_mark hit }
 {
-    let mut text = move_text(&leaf.before, &leaf.m);
-    if leaf.hit {
-        text.push_str("*\n");
-        return text;
-    }
-    text.push_str(",\n");
-    text
+    if hit { "*\n" } else { ",\n" }
 }
 
-// Appends the line of a leaf, in one piece.
+// Appends the line of a leaf.
 fn write_leaf<W: Sink>(leaf: &Leaf, out: &mut W) -> Result<(), Refused>
     requires { IsLegal leaf.now.before leaf.now.m }
     ensures fault { OnErr result (W.has_failed out.new ≡ true) }
 {
-    let line = leaf_line(leaf);
-    out.push(line.as_str().as_bytes())
+    let text = move_text(&leaf.before, &leaf.m);
+    out.push(text.as_str().as_bytes())?;
+    out.push(leaf_mark(leaf.hit).as_bytes())
 }
 
 // The moves of the topmost node are played if one ply is left there, and told where that is due.
