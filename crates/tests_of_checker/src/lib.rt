@@ -4,3 +4,5 @@
 
 #[cfg(test)]
 mod checker;
+#[cfg(test)]
+mod nearness;
