@@ -1,9 +1,9 @@
 //! Where the cursor stands after `skip_to_solution`, held against a loop that tries one move after the other, as the first form did.
 
-use pg_checker::{leads_to, skip_to_solution};
+use pg_checker::skip_to_solution;
 use pg_fen::{Diagram, read_position};
 use pg_moves::LegalMoves;
-use pg_position::Position;
+use pg_position::{Move, Position};
 use std::process::Abort;
 
 // No position has more moves.
@@ -28,6 +28,14 @@ fn count_of(position: &Position) -> u64 {
     MANY
 }
 
+// Whether a legal move leads to the diagram.
+fn leads(diagram: &Diagram, position: &Position, m: &Move) -> bool {
+    match position.play(*m) {
+        Ok(next) => diagram.matches(&next),
+        Err(_) => false,
+    }
+}
+
 // Whether any legal move leads to the diagram.
 fn any_leads(diagram: &Diagram, position: &Position) -> bool {
     let mut moves = LegalMoves::new(position);
@@ -35,7 +43,7 @@ fn any_leads(diagram: &Diagram, position: &Position) -> bool {
         let Some(m) = moves.next() else {
             return false;
         };
-        if leads_to(diagram, position, &m) {
+        if leads(diagram, position, &m) {
             return true;
         }
     }
@@ -52,10 +60,10 @@ fn pass_one_by_one(diagram: &Diagram, moves: &mut LegalMoves) -> bool {
         let Some(peeked) = moves.peek() else {
             return false;
         };
-        if leads_to(diagram, &position, &peeked.m) {
+        if leads(diagram, &position, &peeked.m) {
             return true;
         }
-        moves.advance(&peeked);
+        let _ = moves.next();
     }
     false
 }

@@ -23,10 +23,15 @@ n1n5/PPPk4/8/8/8/8/4Kppp/5N1N w - - 0 1
 n1n5/PPPk4/8/8/8/8/4Kppp/5N1N b - - 0 1
 4k3/8/3n4/8/R7/8/3N1b2/4K3 w - - 0 1";
 
+// The position after a legal move.
+fn after(position: &Position, m: &Move) -> Position {
+    position.play(*m).unwrap_or(*position)
+}
+
 // Whether a legal move leads to the diagram.
 fn leads(rt: &impl Abort, alloc: Global, diagram: &Diagram, position: &Position) -> bool {
     for m in &legal_moves(alloc, position).expect(rt, "memory") {
-        if diagram.matches(&position.after(m)) {
+        if diagram.matches(&after(position, m)) {
             return true;
         }
     }
@@ -36,7 +41,7 @@ fn leads(rt: &impl Abort, alloc: Global, diagram: &Diagram, position: &Position)
 // Whether a legal move may be followed by one that leads to the diagram.
 fn two_lead(rt: &impl Abort, alloc: Global, diagram: &Diagram, position: &Position) -> bool {
     for m in &legal_moves(alloc, position).expect(rt, "memory") {
-        if leads(rt, alloc, diagram, &position.after(m)) {
+        if leads(rt, alloc, diagram, &after(position, m)) {
             return true;
         }
     }
