@@ -154,16 +154,74 @@ fn castled_without(
     }
 }
 
-// The sum of the least distances once the man that has these has moved, at the least: no move brings him nearer to
-// a target than by one.
-#[inline(always)]
-fn least_once_moved(two: Two, row: [u8; MOST_MEN]) -> u16 {
-    let others = without(two, row);
+// The sum of the least distances to all targets.
+fn sum_of(least: &[u8; MOST_MEN]) -> u16 {
     let mut sum = 0u16;
     for t in 0..MOST_MEN {
-        sum = sum.wrapping_add(u16::from(others[t].min(row[t].saturating_sub(1))));
+        sum = sum.wrapping_add(u16::from(least[t]));
     }
     sum
+}
+
+// The least distances that a move may lower: no man has 255, which stands for those to targets that are reached already.
+fn lowerable(least: &[u8; MOST_MEN]) -> [u8; MOST_MEN] {
+    let mut distances = [0; MOST_MEN];
+    for t in 0..MOST_MEN {
+        distances[t] = if least[t] == 0 { 255 } else { least[t] };
+    }
+    distances
+}
+
+// How many of the least distances are those of a man.
+#[inline(always)]
+fn count_own(least: &[u8; MOST_MEN], row: [u8; MOST_MEN]) -> u8 {
+    let mut count = 0u8;
+    for t in 0..MOST_MEN {
+        count = count.wrapping_add(u8::from(least[t] == row[t]));
+    }
+    count
+}
+
+// The men of a kind of whom fewer than so many of the least distances are.
+#[inline(always)]
+fn of_few(least: &[u8; MOST_MEN], most: u16, rows: &Rows, kind: Kind, men: SquareSet) -> SquareSet {
+    let mut few = SquareSet::empty();
+    let mut men = men;
+    for _ in 0..64u8 {
+        let Some(square) = men.pop_first() else {
+            return few;
+        };
+        if u16::from(count_own(least, rows.distances(kind, square))) < most {
+            few = few | SquareSet::single(square);
+        }
+    }
+    few
+}
+
+// The men of a board after any move of whom the sum of the least distances and so many more is above so many plies. A move brings
+// a man nearer to a target by one at most, which lowers the sum by one only where no man was nearer to it. So all that has to be known of a
+// man is how many of the least distances are his.
+fn cut_off_by(two: &Two, more: u16, plies: u8, rows: &Rows, board: &Board) -> SquareSet {
+    let sum = sum_of(&two.first).saturating_add(more);
+    let above = sum.saturating_sub(u16::from(plies));
+    let mut men = SquareSet::empty();
+    if above == 0 {
+        return men;
+    }
+    let least = lowerable(&two.first);
+    for kind in KINDS {
+        let all = board.squares_of(Man::new(rows.color(), kind));
+        men = men | of_few(&least, above, rows, kind, all);
+    }
+    men
+}
+
+// The same for a way with castling, which takes a ply more and is none for the men that castle.
+fn cut_off_castled(way: &Option<Castled>, plies: u8, rows: &Rows, board: &Board) -> SquareSet {
+    match way {
+        Some(castled) => castled.homes | cut_off_by(&castled.least, 1, plies, rows, board),
+        None => SquareSet::full(),
+    }
 }
 
 impl Leasts {
@@ -191,22 +249,13 @@ impl Leasts {
         }
     }
 
-    /// A number that the need of travel is not below once the man of this kind on a square has made any move of his pattern,
-    /// which brings him nearer to no target than by one; at most 250.
-    pub fn need_once_moved(&self, rows: &Rows, kind: Kind, square: Square) -> u8 {
-        let row = rows.distances(kind, square);
-        let mut need = least_once_moved(self.free, row);
-        if let Some(castled) = &self.king_side {
-            if !castled.homes.contains(square) {
-                need = need.min(least_once_moved(castled.least, row).saturating_add(1));
-            }
-        }
-        if let Some(castled) = &self.queen_side {
-            if !castled.homes.contains(square) {
-                need = need.min(least_once_moved(castled.least, row).saturating_add(1));
-            }
-        }
-        need.min(250u16) as u8
+    /// The men of a board after each move of whom, whatever its square, the need of travel is above so many plies: no move brings a
+    /// man nearer to a target than by one. The board is that of which these distances are.
+    pub fn cut_off(&self, rows: &Rows, board: &Board, plies: u8) -> SquareSet {
+        let men = cut_off_by(&self.free, 0, plies, rows, board);
+        let short = cut_off_castled(&self.king_side, plies, rows, board);
+        let long = cut_off_castled(&self.queen_side, plies, rows, board);
+        men & short & long
     }
 
     /// The least distances without the man of this kind on a square.

@@ -4,14 +4,17 @@ use Rattle.std.specs.Prelude.{Option, Some, None, MatchOption, Result, Ok, Err, 
 use Rattle.std.specs.Result.{result_err}
 use Rattle.std.specs.declared.cmp.Ordering.TheVariants.{Less, Greater}
 use Rattle.std.specs.Ordering.{ordering_index, is_lt}
-use Rattle.std.specs.List.{All, AllWithin, Contains, insert}
+use Rattle.std.specs.List.{All, AllWithin, Contains, insert, slice_get}
 use Rattle.std.specs.List.Sorted.{IsStrictlySortedBy, IsNonDecreasingBy, IsBinarySearchResult, IsSearchInRange}
-use Rattle.std.proofs.lemmas.List.{map-append, get_or-map, get_or-take, get_or-drop, take-map, drop-map, length-map, length-take-le, length-drop, take-append-drop}
+use Rattle.std.proofs.lemmas.Bool.{cases_lt}
+use Rattle.std.proofs.lemmas.List.{map-append, get_or-map, get_or-take, get_or-drop, take-map, drop-map, length-map, length-take-le, length-drop, take-append-drop, take_all, drop_all, get_or_default}
 use Rattle.std.proofs.lemmas.List.Edits.{length-insert}
 use Rattle.std.proofs.lemmas.List.Elements.{All-map, All-contains, recursion_from_All, Contains-get_or, Contains-append_left, Contains-append_right, Contains-append_cases}
 use Rattle.std.proofs.lemmas.List.Sorted.{searchable_from_sorted}
+use Rattle.std.proofs.lemmas.Map.Keys.{Less-from_sorted}
+use Rattle.std.proofs.lemmas.Option.{get_or_from_slice_get, slice_get_within}
 use Rattle.pg_position.specs.declared.moves.Move.{Move}
-use Rattle.pg_moves.proofs.SortLemmas.{Contains-head, Contains-later, Contains-cons, sorted_below, sorted_rest}
+use Rattle.pg_moves.proofs.SortLemmas.{Contains-none, Contains-head, Contains-later, Contains-cons, sorted_below, sorted_rest}
 use Rattle.pg_san.specs.Games.{game_cmp, IsFromArray, IsGames, IsPlace}
 use Rattle.pg_san.specs.Adding.{IsNew, IsAdded}
 use Rattle.pg_san.proofs.OrderLemmas.{game_cmp_total, same_game, not_before_itself, after_before, before_after, next_later}
@@ -57,6 +60,32 @@ module _ {V : Type 0} (f : V → List Move) where
         past = before_place (λ x. game_cmp x g ≡ Less) xs i within p.0;
         short = λ x c. before_after x g (after_place (λ y. game_cmp y g ≡ Greater) xs i within p.1 x c);
       }
+
+-- ---- a game that comes after the last
+behind_each : (gs : List (List Move)) (g last x : List Move) → IsStrictlySortedBy game_cmp gs → get_or gs (length gs - 1) last ≡ last → game_cmp last g ≡ Less → Contains gs x → game_cmp x g ≡ Less
+behind_each gs g last x s e less (k, low, f) =
+    let here : get_or gs k last ≡ x = get_or_default gs k last x low ∙ f in
+    elim (cases_lt (suc k) (length gs)) [
+      | inl h ↦
+        let before : game_cmp (get_or gs k last) (get_or gs (length gs - 1) last) ≡ Less = Less-from_sorted game_cmp gs k (length gs - 1) last s (omega arith) (omega arith) in
+        game_cmp_total.trans x last g (rw (here, e) at before) less
+      | inr h ↦
+        let at : k ≡ length gs - 1 = omega arith in
+        let same : x ≡ last = sym here ∙ ap (λ i. get_or gs i last) at ∙ e in
+        subst (λ y. game_cmp y g ≡ Less) (sym same) less
+    ]
+
+pub behind_all : {V : Type 0} (f : V → List Move) (xs : List V) (g : List Move) (v : V) → IsStrictlySortedBy game_cmp (map f xs) → slice_get xs (length xs - 1) ≡ Some v → game_cmp (f v) g ≡ Less → IsPlace (map f xs) g (length xs)
+behind_all f xs g v s last less =
+    let n : length (map f xs) ≡ length xs = length-map xs f in
+    let low : length xs - 1 < length xs = slice_get_within xs (length xs - 1) v last in
+    let read : get_or (map f xs) (length xs - 1) (f v) ≡ f v = get_or-map f xs (length xs - 1) v (f v) low ∙ ap f (get_or_from_slice_get xs (length xs - 1) v v last) in
+    let read2 : get_or (map f xs) (length (map f xs) - 1) (f v) ≡ f v = ap (λ i. get_or (map f xs) (i - 1) (f v)) n ∙ read in
+    record {
+      within = omega arith;
+      past = λ x c. behind_each (map f xs) g (f v) x s read2 less (subst (λ (ys : List (List Move)). Contains ys x) (take_all (length xs) (map f xs) (omega arith)) c);
+      short = λ x c. absurd (Contains-none x (subst (λ (ys : List (List Move)). Contains ys x) (drop_all (length xs) (map f xs) (omega arith)) c));
+    }
 
 -- the game is not there already
 pub place_is_free : (gs : List (List Move)) (g : List Move) (i : ℕ) → IsPlace gs g i → Contains gs g → ⊥

@@ -90,13 +90,31 @@ fn first_illegal(game: &[Move], known: &[Move]) -> Option<usize>
     None
 }
 
-// The place that the game would take among games in canonical order; none where it is among them.
+// Whether the game comes behind all games in canonical order.
+fn is_behind(games: &[Vec<Move>], game: &[Move]) -> bool
+    requires { IsStrictlySortedBy game_cmp (map (λ v. v.items) games.now) }
+    ensures { IsTrue result → IsPlace (map (λ v. v.items) games.now) game.now (length games.now) }
+{
+    match games.last() {
+        Some(last) => match compare(last.as_slice(), game) {
+            Ordering::Less => true,
+            Ordering::Equal | Ordering::Greater => false,
+        },
+        None => false,
+    }
+}
+
+// The place that the game would take among games in canonical order; none where it is among them. A search finds its games in that
+// order, and most lists are read in it, so the last game is asked first.
 fn place(games: &[Vec<Move>], game: &[Move]) -> Option<usize>
     requires { IsStrictlySortedBy game_cmp (map (λ v. v.items) games.now) }
     ensures { MatchOption result
         (Contains (map (λ v. v.items) games.now) game.now)
         (λ i. IsPlace (map (λ v. v.items) games.now) game.now i) }
 {
+    if is_behind(games, game) {
+        return Some(games.len());
+    }
     games
         .binary_search_by(|held| compare(held.as_slice(), game))
         .err()

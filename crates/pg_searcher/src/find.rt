@@ -4,10 +4,9 @@ ghost use Rattle.pg_searcher.specs.Refusals.{RefusesTruly};
 
 use crate::fault::SearchFault;
 use crate::judge::Judge;
-use crate::machine::{Findings, Machine, Question, Recorder};
+use crate::machine::{Findings, Machine, Question, Recorder, Stack};
 use crate::progress::SearchProgress;
 use crate::walk::tree_of;
-use arrayvec::ArrayVec;
 use pg_certificate::{Header, Sink};
 use pg_fen::{Diagram, Length};
 use pg_moves::Unwatched;
@@ -106,7 +105,7 @@ pub fn search_watched<W: Sink, P: SearchProgress>(
         return Err(SearchFault::Memory);
     };
     let mut machine = Machine {
-        frames: ArrayVec::new(),
+        stack: Stack::new(),
         recorder: Recorder::new(alloc, judge, max_nodes),
         findings: Findings {
             games: Games::new(alloc),

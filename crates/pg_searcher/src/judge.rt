@@ -281,9 +281,10 @@ impl Judge {
         let color = position.side();
         let other = color.other();
         let means = self.means(color, sides.of(other).men, other, left);
-        let rows = self.rows(color);
-        let is_owing = captures_exclude(means);
-        Outlook::new(sides, left, rows, position, means, is_owing)
+        if captures_exclude(means) {
+            return Outlook::owing(sides, left, position, means);
+        }
+        Outlook::new(sides, left, self.rows(color), position, means)
     }
 
     // What becomes of a node of which so much is known, with so many plies left, and both its colours.

@@ -1,5 +1,5 @@
 //! What the search holds.
-ghost use Rattle.std.specs.Prelude.{◌≡◌, ℕ, false, OnOk};
+ghost use Rattle.std.specs.Prelude.{◌≡◌, ℕ, ◌+◌, ◌<◌, ◌≤◌, false, OnOk};
 ghost use Rattle.pg_searcher.specs.Refusals.{RefusesTruly};
 
 use crate::fault::SearchFault;
@@ -37,29 +37,40 @@ pub(crate) struct Frame {
     pub(crate) fertile: bool,
 }
 
+// Both colours where nothing is known.
+fn no_sides() -> Sides {
+    let none = Side {
+        key: 0,
+        needs: MISSING,
+        men: 0,
+        pawns: 0,
+        ways: 0,
+    };
+    Sides {
+        white: none,
+        black: none,
+    }
+}
+
 impl Default for Frame {
     fn default() -> Frame {
-        let none = Side {
-            key: 0,
-            needs: MISSING,
-            men: 0,
-            pawns: 0,
-            ways: 0,
-        };
         Frame {
             moves: LegalMoves::new(&Position::array()),
-            outlook: Outlook::of(
-                &Sides {
-                    white: none,
-                    black: none,
-                },
-                0,
-            ),
+            outlook: Outlook::of(&no_sides(), 0),
             key: 0,
             named: false,
             fertile: false,
         }
     }
+}
+
+// A node that opens: its position, what is known of both colours, its key, and whether it is named.
+#[derive(Clone, Copy)]
+pub(crate) struct Opened {
+    pub(crate) position: Position,
+    pub(crate) sides: Sides,
+    pub(crate) key: u64,
+    pub(crate) named: bool,
 }
 
 // The named nodes: those that have closed with no game below them, how many have a name, and how many of
@@ -105,13 +116,15 @@ impl Names {
     }
 }
 
-// The certificate so far: the writer of its records, the named nodes, which it may refer to, and how many nodes may
-// still be visited.
+// The certificate so far: the writer of its records, the named nodes, which it may refer to, how many nodes may
+// still be visited, and the node that opened last: handed back by each call between the one that opens it and the one that
+// makes its frame, it would be copied at each, also where none has opened.
 #[derive(Drop)]
 pub(crate) struct Output {
     pub(crate) writer: RecordWriter,
     pub(crate) names: Names,
     pub(crate) nodes: u64,
+    pub(crate) opened: Opened,
 }
 
 impl Output {
@@ -123,6 +136,12 @@ impl Output {
             writer: RecordWriter::new(),
             names: Names::new(alloc),
             nodes,
+            opened: Opened {
+                position: Position::array(),
+                sides: no_sides(),
+                key: 0,
+                named: false,
+            },
         }
     }
 
@@ -263,10 +282,82 @@ pub(crate) struct Findings {
     pub(crate) fertile: bool,
 }
 
-// The open nodes above the topmost, what writes the records of nodes, and what was found.
+// The open nodes, the topmost last, of at most 128. A node that has closed keeps its frame, which the next one takes: to take it off
+// the list would move it, and put a frame of nothing there.
+#[derive(Drop)]
+pub(crate) struct Stack {
+    pub(crate) frames: ArrayVec<Frame, 128>,
+    open: u8,
+}
+
+impl Stack {
+    // No open node.
+    pub(crate) fn new() -> Stack {
+        Stack {
+            frames: ArrayVec::new(),
+            open: 0,
+        }
+    }
+
+    // How many nodes are open.
+    pub(crate) fn len(&self) -> u8
+        ensures { result ≡ self.now.open }
+    {
+        self.open
+    }
+
+    // No node is open from now on.
+    pub(crate) fn clear(&mut self)
+        ensures { self.new.open ≡ 0 }
+    {
+        self.open = 0;
+    }
+
+    // A node is open from now on.
+    pub(crate) fn push(&mut self, frame: Frame)
+        requires { self.old.open < 128 }
+        ensures { self.new.open ≡ self.old.open + 1 }
+    {
+        match self.frames.get_mut(usize::from(self.open)) {
+            Some(place) => *place = frame,
+            None => {
+                let _ = self.frames.try_push(frame);
+            }
+        }
+        self.open += 1;
+    }
+
+    // The topmost node closes.
+    pub(crate) fn pop(&mut self)
+        ensures { self.new.open ≤ self.old.open }
+    {
+        self.open = self.open.saturating_sub(1);
+    }
+
+    // The topmost node, if one is open.
+    pub(crate) fn top(&self) -> Option<&Frame> {
+        self.frames.get(usize::from(self.open).saturating_sub(1))
+    }
+
+    // The node that has closed last, until another one opens.
+    pub(crate) fn popped(&self) -> Option<&Frame> {
+        self.frames.get(usize::from(self.open))
+    }
+
+    // The open nodes above the topmost.
+    pub(crate) fn above(&self) -> &[Frame] {
+        let above = usize::from(self.open).saturating_sub(1);
+        match self.frames.get(..above) {
+            Some(frames) => frames,
+            None => &[],
+        }
+    }
+}
+
+// The open nodes, what writes the records of nodes, and what was found.
 #[derive(Drop)]
 pub(crate) struct Machine {
-    pub(crate) frames: ArrayVec<Frame, 128>,
+    pub(crate) stack: Stack,
     pub(crate) recorder: Recorder,
     pub(crate) findings: Findings,
 }

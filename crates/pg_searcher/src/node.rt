@@ -5,7 +5,7 @@ ghost use Rattle.pg_searcher.specs.Refusals.{RefusesTruly};
 
 use crate::fault::SearchFault;
 use crate::judge::{Cutting, Judge};
-use crate::machine::{Output, Question, Recorder};
+use crate::machine::{Opened, Output, Question, Recorder};
 use crate::outlook::{Outlook, PlainMove};
 use crate::sides::{Sides, changes_of, plain_change};
 use pg_board::{Color, Square};
@@ -24,15 +24,6 @@ fn key_of(sides: &Sides, side: Color, passed: Option<Square>, left: u8) -> u64 {
 // Whether a move may be a pawn's advance of two squares.
 fn may_pass(m: &Move) -> bool {
     m.from.index().abs_diff(m.to.index()) == 16
-}
-
-// A node that is open from now on.
-#[derive(Clone, Copy)]
-pub(crate) struct Opened {
-    pub(crate) position: Position,
-    pub(crate) sides: Sides,
-    pub(crate) key: u64,
-    pub(crate) named: bool,
 }
 
 // A cut by prices.
@@ -98,39 +89,40 @@ fn refer<W: Sink>(output: &mut Output, sink: &mut W, key: u64) -> Result<bool, S
     }
 }
 
-// A node is open from now on, with a name where there are names.
+// A node is open from now on, with a name where there are names: it is the one that opened last.
 fn open<W: Sink>(
     output: &mut Output,
     sink: &mut W,
     position: &Position,
     sides: &Sides,
     key: u64,
-) -> Result<Option<Opened>, SearchFault>
+) -> Result<bool, SearchFault>
     requires runs { output.old.writer.failed ≡ false }
     ensures runs { OnOk result (output.new.writer.failed ≡ false) }
     ensures says { (plies : ℕ) → RefusesTruly plies (W.has_failed sink.new) result }
 {
     let named = output.names.open();
+    output.opened = Opened {
+        position: *position,
+        sides: *sides,
+        key,
+        named,
+    };
     match output.expand(named, sink) {
-        Ok(()) => Ok(Some(Opened {
-            position: *position,
-            sides: *sides,
-            key,
-            named,
-        })),
+        Ok(()) => Ok(true),
         Err(fault) => Err(fault),
     }
 }
 
 // A node that no cut excludes, with so many plies left, at least two: a reference where one of the same
-// future has closed barren; otherwise it is open from now on.
+// future has closed barren; otherwise it is open from now on. The answer is whether it is, here and below.
 fn stay<W: Sink>(
     output: &mut Output,
     sink: &mut W,
     position: &Position,
     sides: &Sides,
     left: u8,
-) -> Result<Option<Opened>, SearchFault>
+) -> Result<bool, SearchFault>
     requires runs { output.old.writer.failed ≡ false }
     ensures runs { OnOk result (output.new.writer.failed ≡ false) }
     ensures says { (plies : ℕ) → RefusesTruly plies (W.has_failed sink.new) result }
@@ -138,7 +130,7 @@ fn stay<W: Sink>(
     let passed = position.effective_passed();
     let key = key_of(sides, position.side(), passed, left);
     match refer(output, sink, key) {
-        Ok(true) => Ok(None),
+        Ok(true) => Ok(false),
         Ok(false) => open(output, sink, position, sides, key),
         Err(fault) => Err(fault),
     }
@@ -153,7 +145,7 @@ fn stay_there<W: Sink>(
     m: &Move,
     sides: &Sides,
     left: u8,
-) -> Result<Option<Opened>, SearchFault>
+) -> Result<bool, SearchFault>
     requires legal { IsLegal position.now m.now }
     requires runs { output.old.writer.failed ≡ false }
     ensures runs { OnOk result (output.new.writer.failed ≡ false) }
@@ -171,7 +163,7 @@ fn open_there<W: Sink>(
     m: &Move,
     sides: &Sides,
     key: u64,
-) -> Result<Option<Opened>, SearchFault>
+) -> Result<bool, SearchFault>
     requires legal { IsLegal position.now m.now }
     requires runs { output.old.writer.failed ≡ false }
     ensures runs { OnOk result (output.new.writer.failed ≡ false) }
@@ -188,7 +180,7 @@ fn stay_after<W: Sink>(
     m: &Move,
     sides: &Sides,
     left: u8,
-) -> Result<Option<Opened>, SearchFault>
+) -> Result<bool, SearchFault>
     requires legal { IsLegal position.now m.now }
     requires runs { output.old.writer.failed ≡ false }
     ensures runs { OnOk result (output.new.writer.failed ≡ false) }
@@ -199,7 +191,7 @@ fn stay_after<W: Sink>(
     }
     let key = key_of(sides, position.side().other(), None, left);
     match refer(output, sink, key) {
-        Ok(true) => Ok(None),
+        Ok(true) => Ok(false),
         Ok(false) => open_there(output, sink, position, m, sides, key),
         Err(fault) => Err(fault),
     }
@@ -215,7 +207,7 @@ fn put_priced<W: Sink>(
     sides: &Sides,
     verdict: Cutting,
     left: u8,
-) -> Result<Option<Opened>, SearchFault>
+) -> Result<bool, SearchFault>
     requires runs { recorder.old.output.writer.failed ≡ false }
     ensures runs { OnOk result (recorder.new.output.writer.failed ≡ false) }
     ensures says { (plies : ℕ) → RefusesTruly plies (W.has_failed sink.new) result }
@@ -223,7 +215,7 @@ fn put_priced<W: Sink>(
     match priced_record(&mut recorder.judge, position, sides, verdict) {
         Ok(None) => stay(&mut recorder.output, sink, position, sides, left),
         Ok(Some(record)) => match recorder.output.put(&record, sink) {
-            Ok(()) => Ok(None),
+            Ok(()) => Ok(false),
             Err(fault) => Err(fault),
         },
         Err(_) => Err(SearchFault::Memory),
@@ -238,14 +230,14 @@ fn put_verdict<W: Sink>(
     sides: &Sides,
     verdict: Cutting,
     left: u8,
-) -> Result<Option<Opened>, SearchFault>
+) -> Result<bool, SearchFault>
     requires runs { recorder.old.output.writer.failed ≡ false }
     ensures runs { OnOk result (recorder.new.output.writer.failed ≡ false) }
     ensures says { (plies : ℕ) → RefusesTruly plies (W.has_failed sink.new) result }
 {
     match verdict {
         Cutting::Cut(bound) => match recorder.output.cut(bound, sink) {
-            Ok(()) => Ok(None),
+            Ok(()) => Ok(false),
             Err(fault) => Err(fault),
         },
         Cutting::Pawns(_) => put_priced(recorder, sink, position, sides, verdict, left),
@@ -263,7 +255,7 @@ pub(crate) fn enter<W: Sink>(
     position: &Position,
     known: Option<Sides>,
     left: u8,
-) -> Result<Option<Opened>, SearchFault>
+) -> Result<bool, SearchFault>
     requires runs { recorder.old.output.writer.failed ≡ false }
     ensures runs { OnOk result (recorder.new.output.writer.failed ≡ false) }
     ensures says { (plies : ℕ) → RefusesTruly plies (W.has_failed sink.new) result }
@@ -359,7 +351,7 @@ pub(crate) fn child<W: Sink>(
     position: &Position,
     uncut: &Uncut,
     outlook: &Outlook,
-) -> Result<Option<Opened>, SearchFault>
+) -> Result<bool, SearchFault>
     requires legal { IsLegal position.now uncut.now.m }
     requires runs { recorder.old.output.writer.failed ≡ false }
     ensures runs { OnOk result (recorder.new.output.writer.failed ≡ false) }
@@ -381,7 +373,7 @@ pub(crate) fn child<W: Sink>(
         );
     }
     match put_judged(&recorder.judge, &mut recorder.output, verdict, &sides, sink) {
-        Ok(true) => Ok(None),
+        Ok(true) => Ok(false),
         Ok(false) => {
             let next = position.after(&uncut.m);
             enter(question, recorder, sink, &next, Some(sides), outlook.left)

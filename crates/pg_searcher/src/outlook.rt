@@ -7,26 +7,28 @@ use pg_position::{Move, Position};
 use pg_prices::{Leasts, Rest, Rows};
 
 // What is known of an open node: both colours, how many plies are left after a move, the least distances of
-// the men of the side to move, all men, that side's numbers after a move of its own that takes nothing, and
-// whether captures exclude after such a move.
+// the men of the side to move, all men, and that side's numbers after a move of its own that takes nothing. There are men of that
+// side after each plain move of whom a bound excludes, whatever the move: those men, and the bound. The king, who may castle, is known.
 #[derive(Clone, Copy)]
 pub(crate) struct Outlook {
     pub(crate) sides: Sides,
     pub(crate) left: u8,
     pub(crate) means: Means,
+    pub(crate) bound: CutBy,
     leasts: Leasts,
     occupied: SquareSet,
-    is_owing: bool,
+    cut_off: SquareSet,
+    kings: SquareSet,
 }
 
 // The man of a node whose moves are judged, and the least distances of the others; at first none, on the
-// square 64. Where a bound excludes after each plain move of his, it is known, and the distances are not.
+// square 64. Where a bound excludes after each plain move of his, the distances are not known.
 #[derive(Clone, Copy)]
 pub(crate) struct Mover {
     rest: Rest,
     from: u8,
     man: Man,
-    cut: Option<CutBy>,
+    is_cut_off: bool,
 }
 
 // A plain move, which takes no man and is no castling, capture en passant or promotion: the man that moves, and
@@ -52,17 +54,7 @@ impl Mover {
             rest: Rest::none(),
             from: 64,
             man: Man::new(Color::White, Kind::Pawn),
-            cut: None,
-        }
-    }
-
-    // The bound that excludes after each move of the man to these squares, where all of them are plain. They are those of a man
-    // whose moves are not tried one by one, so none is a promotion or a capture en passant.
-    pub(crate) fn cut_on(&self, outlook: &Outlook, set: SquareSet) -> Option<CutBy> {
-        if self.man.kind == Kind::King || set.meets(outlook.occupied) {
-            None
-        } else {
-            self.cut
+            is_cut_off: false,
         }
     }
 }
@@ -74,9 +66,11 @@ impl Outlook {
             sides: *sides,
             left,
             means: Means { owed: 0, plies: 0 },
+            bound: CutBy::Travel,
             leasts: Leasts::none(),
             occupied: SquareSet::full(),
-            is_owing: false,
+            cut_off: SquareSet::empty(),
+            kings: SquareSet::empty(),
         }
     }
 
@@ -87,17 +81,41 @@ impl Outlook {
         rows: &Rows,
         position: &Position,
         means: Means,
-        is_owing: bool,
     ) -> Outlook {
+        let board = position.board();
+        let leasts = Leasts::new(rows, &board, position.rights());
+        Outlook {
+            sides: *sides,
+            left,
+            means,
+            bound: CutBy::Travel,
+            leasts,
+            occupied: board.occupied(),
+            cut_off: leasts.cut_off(rows, &board, means.plies),
+            kings: board.squares_of(Man::new(position.side(), Kind::King)),
+        }
+    }
+
+    // What is known of a position in which captures exclude after each move of the side to move that takes nothing.
+    pub(crate) fn owing(sides: &Sides, left: u8, position: &Position, means: Means) -> Outlook {
         let board = position.board();
         Outlook {
             sides: *sides,
             left,
             means,
-            leasts: Leasts::new(rows, &board, position.rights()),
+            bound: CutBy::Captures,
+            leasts: Leasts::none(),
             occupied: board.occupied(),
-            is_owing,
+            cut_off: SquareSet::full(),
+            kings: board.squares_of(Man::new(position.side(), Kind::King)),
         }
+    }
+
+    // Whether the bound excludes after each move of the man on a square to a set, which are all without promotion or capture en
+    // passant.
+    #[inline(always)]
+    pub(crate) fn cuts_all(&self, from: Square, targets: SquareSet) -> bool {
+        (self.cut_off - self.kings).contains(from) && !targets.meets(self.occupied)
     }
 
     // The man on a square is judged from now on.
@@ -105,21 +123,10 @@ impl Outlook {
         if let Some(man) = position.board().get(from) {
             mover.man = man;
             mover.from = from.index();
-            mover.cut = self.cut_of(rows, man.kind, from);
-            if mover.cut.is_none() {
+            mover.is_cut_off = self.cut_off.contains(from);
+            if !mover.is_cut_off {
                 mover.rest = self.leasts.without(rows, man.kind, from);
             }
-        }
-    }
-
-    // The bound that excludes after each plain move of the man on a square, whatever the move.
-    fn cut_of(&self, rows: &Rows, kind: Kind, from: Square) -> Option<CutBy> {
-        if self.is_owing {
-            Some(CutBy::Captures)
-        } else if self.leasts.need_once_moved(rows, kind, from) > self.means.plies {
-            Some(CutBy::Travel)
-        } else {
-            None
         }
     }
 
@@ -141,8 +148,8 @@ impl Outlook {
         if is_special(mover.man, None, m) {
             return Plain::No;
         }
-        if let Some(bound) = mover.cut {
-            return Plain::Cut(bound);
+        if mover.is_cut_off {
+            return Plain::Cut(self.bound);
         }
         let man = mover.man;
         let need = mover.rest.need(rows.distances(man.kind, m.to));

@@ -1,14 +1,14 @@
 //! The search through the trees of all lengths, with a stack of open nodes.
-ghost use Rattle.std.specs.Prelude.{◌≡◌, ℕ, ◌+◌, ◌<◌, ◌≤◌, Bool, false, length, OnOk, IfOk, IfSome};
+ghost use Rattle.std.specs.Prelude.{◌≡◌, ℕ, ◌+◌, ◌<◌, ◌≤◌, Bool, false, OnOk, IfOk, IfSome};
 ghost use Rattle.pg_position.specs.Step.{IsLegal};
 ghost use Rattle.pg_searcher.specs.Refusals.{RefusesTruly};
 
 use crate::ends::{end, last_node, leaves};
 use crate::fault::SearchFault;
 use crate::judge::{CutBy, Judge};
-use crate::machine::{Findings, Frame, Machine, Names, Output, Question, Recorder};
+use crate::machine::{Findings, Frame, Machine, Names, Opened, Output, Question, Recorder, Stack};
 use crate::nearing::{may_be_near, may_lead};
-use crate::node::{Opened, Uncut, child, enter};
+use crate::node::{Uncut, child, enter};
 use crate::outlook::{Mover, Outlook, Plain};
 use crate::progress::SearchProgress;
 use pg_board::SquareSet;
@@ -17,7 +17,6 @@ use pg_fen::Diagram;
 use pg_moves::{LegalMoves, count_legal};
 use pg_position::{Move, Position};
 use pg_san::Games;
-use std::mem;
 
 // Each loop has a bound, and refuses the budget where it comes to it. None does: no position has 65,535 moves,
 // and no run takes 2^64 - 1 turns.
@@ -44,6 +43,22 @@ fn close(top: &Frame, names: &mut Names, findings: &mut Findings) -> Result<(), 
     match names.close(top.key, findings.fertile) {
         Ok(()) => Ok(()),
         Err(_) => Err(SearchFault::Memory),
+    }
+}
+
+// The topmost node closes.
+fn close_top(
+    stack: &mut Stack,
+    names: &mut Names,
+    findings: &mut Findings,
+) -> Result<(), SearchFault>
+    ensures open { stack.new.open ≤ stack.old.open }
+    ensures says { (plies : ℕ) (failed : Bool) → RefusesTruly plies failed result }
+{
+    stack.pop();
+    match stack.popped() {
+        Some(top) => close(top, names, findings),
+        None => Ok(()),
     }
 }
 
@@ -123,7 +138,7 @@ fn end_after(
 // agree no further one leads to the diagram (`may_lead`).
 fn play_each<W: Sink>(
     question: &Question,
-    top: &mut Frame,
+    position: &Position,
     frames: &[Frame],
     findings: &mut Findings,
     output: &mut Output,
@@ -133,21 +148,21 @@ fn play_each<W: Sink>(
     ensures runs { OnOk result (output.new.writer.failed ≡ false) }
     ensures says { RefusesTruly question.now.plies (W.has_failed sink.new) result }
 {
-    let position = top.moves.position();
     let squares = position.board().differing(&question.diagram.board());
+    let mut moves = LegalMoves::new(position);
     for _ in 0..u16::MAX {
-        let Some(m) = top.moves.next() else {
+        let Some(m) = moves.next() else {
             return Ok(());
         };
         match last_node(output, sink) {
             Ok(()) => {}
             Err(fault) => return Err(fault),
         }
-        match end_after(question, frames, findings, &position, squares, &m) {
+        match end_after(question, frames, findings, position, squares, &m) {
             Ok(()) => {}
             Err(fault) => return Err(fault),
         }
-        match expand_rest(squares, &mut top.moves, &m, output, sink) {
+        match expand_rest(squares, &mut moves, &m, output, sink) {
             Ok(()) => {}
             Err(fault) => return Err(fault),
         }
@@ -155,11 +170,10 @@ fn play_each<W: Sink>(
     Err(SearchFault::Budget)
 }
 
-// The moves of a node with two plies left are played, and the node closes.
+// The moves of the topmost node, with two plies left, are played, and it is ready to close.
 fn play_last_two<W: Sink>(
     question: &Question,
-    top: &mut Frame,
-    frames: &[Frame],
+    stack: &Stack,
     findings: &mut Findings,
     output: &mut Output,
     sink: &mut W,
@@ -168,47 +182,44 @@ fn play_last_two<W: Sink>(
     ensures runs { OnOk result (output.new.writer.failed ≡ false) }
     ensures says { RefusesTruly question.now.plies (W.has_failed sink.new) result }
 {
-    match expand_all(question.diagram, &top.moves.position(), output, sink) {
-        Ok(true) => {}
-        Ok(false) => match play_each(question, top, frames, findings, output, sink) {
-            Ok(()) => {}
-            Err(fault) => return Err(fault),
-        },
-        Err(fault) => return Err(fault),
+    let Some(top) = stack.top() else {
+        return Ok(());
+    };
+    let position = top.moves.position();
+    match expand_all(question.diagram, &position, output, sink) {
+        Ok(true) => Ok(()),
+        Ok(false) => play_each(question, &position, stack.above(), findings, output, sink),
+        Err(fault) => Err(fault),
     }
-    close(top, &mut output.names, findings)
 }
 
-// The move that was handed out last is cut by a bound; and with it all further moves of its man at once, where a bound is known
-// to exclude after each of them.
+// The move that was handed out last and all further moves of its man are cut at once, where a bound excludes after each of them;
+// whether they were is the answer.
+#[inline(always)]
 fn cut_man<W: Sink>(
-    bound: CutBy,
     moves: &mut LegalMoves,
     outlook: &Outlook,
-    mover: &Mover,
+    m: &Move,
     output: &mut Output,
     sink: &mut W,
-) -> Result<(), SearchFault>
+) -> Result<bool, SearchFault>
     requires runs { output.old.writer.failed ≡ false }
     ensures runs { OnOk result (output.new.writer.failed ≡ false) }
     ensures same { moves.new.position ≡ moves.old.position }
     ensures says { (plies : ℕ) → RefusesTruly plies (W.has_failed sink.new) result }
 {
-    match output.cut(bound, sink) {
-        Ok(()) => {}
-        Err(fault) => return Err(fault),
-    }
     let Some(rest) = moves.rest_of_man() else {
-        return Ok(());
+        return Ok(false);
     };
-    let Some(bound) = mover.cut_on(outlook, rest) else {
-        return Ok(());
-    };
-    if !output.visit_all(u64::from(rest.len())) {
-        return Ok(());
+    let targets = rest | SquareSet::single(m.to);
+    if !outlook.cuts_all(m.from, targets) || !output.visit_all(u64::from(targets.len())) {
+        return Ok(false);
     }
     moves.skip_rest(rest);
-    output.cuts(bound, rest.len(), sink)
+    match output.cuts(outlook.bound, targets.len(), sink) {
+        Ok(()) => Ok(true),
+        Err(fault) => Err(fault),
+    }
 }
 
 // The moves of a node are played up to the first that no bound excludes by what is known of the node, which is the
@@ -233,11 +244,16 @@ fn next_uncut<W: Sink>(
         let Some(m) = moves.next() else {
             return Ok(None);
         };
+        match cut_man(moves, outlook, &m, output, sink) {
+            Ok(true) => continue,
+            Ok(false) => {}
+            Err(fault) => return Err(fault),
+        }
         if !output.visit() {
             return Err(SearchFault::Budget);
         }
         match outlook.plain(rows, &position, mover, &m) {
-            Plain::Cut(bound) => match cut_man(bound, moves, outlook, mover, output, sink) {
+            Plain::Cut(bound) => match output.cut(bound, sink) {
                 Ok(()) => {}
                 Err(fault) => return Err(fault),
             },
@@ -253,14 +269,13 @@ fn next_uncut<W: Sink>(
     Err(SearchFault::Budget)
 }
 
-// The moves of a node are played up to the first that leads to a node that opens, which is the answer; none
-// where there is no such move.
+// The moves of a node are played up to the first that leads to a node that opens. The answer is whether there is one.
 fn next_opened<W: Sink>(
     question: &Question,
     top: &mut Frame,
     recorder: &mut Recorder,
     sink: &mut W,
-) -> Result<Option<Opened>, SearchFault>
+) -> Result<bool, SearchFault>
     requires runs { recorder.old.output.writer.failed ≡ false }
     ensures runs { OnOk result (recorder.new.output.writer.failed ≡ false) }
     ensures says { RefusesTruly question.now.plies (W.has_failed sink.new) result }
@@ -278,46 +293,68 @@ fn next_opened<W: Sink>(
         ) {
             Ok(Some(uncut)) => {
                 match child(question, recorder, sink, &position, &uncut, &top.outlook) {
-                    Ok(None) => {}
-                    Ok(Some(opened)) => return Ok(Some(opened)),
+                    Ok(false) => {}
+                    Ok(true) => return Ok(true),
                     Err(fault) => return Err(fault),
                 }
             }
-            Ok(None) => return Ok(None),
+            Ok(None) => return Ok(false),
             Err(fault) => return Err(fault),
         }
     }
     Err(SearchFault::Budget)
 }
 
-// The moves of a node are played until a node opens, which is the topmost from now on; where none does the
-// node closes. The answer is whether one has opened.
-fn play_until_opened<W: Sink>(
+// The moves of the topmost node are played up to the first that leads to a node that opens. The answer is whether there is one.
+// Whether a game below the child that closed last ends on the diagram is kept with it.
+fn next_opened_of<W: Sink>(
     question: &Question,
-    top: &mut Frame,
-    machine: &mut Machine,
+    stack: &mut Stack,
+    fertile: bool,
+    recorder: &mut Recorder,
     sink: &mut W,
 ) -> Result<bool, SearchFault>
-    requires room { length machine.old.frames.items + 1 ≤ 128 }
+    requires runs { recorder.old.output.writer.failed ≡ false }
+    ensures open { stack.new.open ≡ stack.old.open }
+    ensures runs { OnOk result (recorder.new.output.writer.failed ≡ false) }
+    ensures says { RefusesTruly question.now.plies (W.has_failed sink.new) result }
+{
+    let last = usize::from(stack.len()).saturating_sub(1);
+    match stack.frames.get_mut(last) {
+        Some(top) => {
+            top.fertile = top.fertile || fertile;
+            next_opened(question, top, recorder, sink)
+        }
+        None => Ok(false),
+    }
+}
+
+// The moves of the topmost node are played until a node opens, which is the topmost from now on; where none does it closes.
+fn play_until_opened<W: Sink>(
+    question: &Question,
+    left: u8,
+    machine: &mut Machine,
+    sink: &mut W,
+) -> Result<(), SearchFault>
+    requires room { machine.old.stack.open < 128 }
     requires runs { machine.old.recorder.output.writer.failed ≡ false }
-    ensures depth { OnOk result (length machine.new.frames.items ≤ length machine.old.frames.items + 1) }
+    ensures depth { OnOk result (machine.new.stack.open ≤ machine.old.stack.open + 1) }
     ensures runs { OnOk result (machine.new.recorder.output.writer.failed ≡ false) }
     ensures says { RefusesTruly question.now.plies (W.has_failed sink.new) result }
 {
-    top.fertile = top.fertile || machine.findings.fertile;
+    let fertile = machine.findings.fertile;
     machine.findings.fertile = false;
-    match next_opened(question, top, &mut machine.recorder, sink) {
-        Ok(Some(opened)) => {
-            let opened = frame_of(&machine.recorder.judge, &opened, top.outlook.left);
-            machine.frames.push(mem::replace(top, opened));
-            Ok(true)
+    let recorder = &mut machine.recorder;
+    match next_opened_of(question, &mut machine.stack, fertile, recorder, sink) {
+        Ok(true) => {
+            let opened = &machine.recorder.output.opened;
+            let frame = frame_of(&machine.recorder.judge, opened, left);
+            machine.stack.push(frame);
+            Ok(())
         }
-        Ok(None) => {
+        Ok(false) => {
             let names = &mut machine.recorder.output.names;
-            match close(top, names, &mut machine.findings) {
-                Ok(()) => Ok(false),
-                Err(fault) => Err(fault),
-            }
+            close_top(&mut machine.stack, names, &mut machine.findings)
         }
         Err(fault) => Err(fault),
     }
@@ -363,40 +400,40 @@ fn enter_root<W: Sink>(
     }
     let left = question.tree;
     match enter(question, recorder, sink, &Position::array(), None, left) {
-        Ok(None) => Ok(None),
-        Ok(Some(opened)) => Ok(Some(frame_of(&recorder.judge, &opened, left))),
+        Ok(false) => Ok(None),
+        Ok(true) => Ok(Some(frame_of(&recorder.judge, &recorder.output.opened, left))),
         Err(fault) => Err(fault),
     }
 }
 
-// One turn: moves of the topmost node are played, until a node opens that is the topmost from now on, or it
-// closes. The answer is whether one has opened.
+// One turn: moves of the topmost node are played, until a node opens that is the topmost from now on, or it closes.
 fn turn<W: Sink>(
     question: &Question,
-    top: &mut Frame,
     machine: &mut Machine,
     sink: &mut W,
-) -> Result<bool, SearchFault>
+) -> Result<(), SearchFault>
     requires limit { question.now.tree ≤ 128 }
-    requires depth { length machine.old.frames.items < question.now.tree }
+    requires depth { machine.old.stack.open ≤ question.now.tree }
     requires runs { machine.old.recorder.output.writer.failed ≡ false }
-    ensures depth { OnOk result (length machine.new.frames.items < question.now.tree) }
+    ensures depth { OnOk result (machine.new.stack.open ≤ question.now.tree) }
     ensures runs { OnOk result (machine.new.recorder.output.writer.failed ≡ false) }
     ensures says { RefusesTruly question.now.plies (W.has_failed sink.new) result }
 {
-    let left = question.tree - machine.frames.len() as u8 - 1;
+    let left = question.tree - machine.stack.len();
     if left >= 2 {
-        return play_until_opened(question, top, machine, sink);
+        return play_until_opened(question, left, machine, sink);
     }
     match play_last_two(
         question,
-        top,
-        machine.frames.as_slice(),
+        &machine.stack,
         &mut machine.findings,
         &mut machine.recorder.output,
         sink,
     ) {
-        Ok(()) => Ok(false),
+        Ok(()) => {
+            let names = &mut machine.recorder.output.names;
+            close_top(&mut machine.stack, names, &mut machine.findings)
+        }
         Err(fault) => Err(fault),
     }
 }
@@ -424,7 +461,7 @@ pub(crate) fn tree_of<W: Sink, P: SearchProgress>(
     ensures runs { OnOk result (machine.new.recorder.output.writer.failed ≡ false) }
     ensures says { RefusesTruly question.now.plies (W.has_failed sink.new) result }
 {
-    machine.frames.clear();
+    machine.stack.clear();
     machine.findings.fertile = false;
     let mut known = machine.findings.games.len();
     if question.tree < 2 {
@@ -433,24 +470,21 @@ pub(crate) fn tree_of<W: Sink, P: SearchProgress>(
         tell(&machine.findings.games, known, watch);
         return answer;
     }
-    let mut top = match enter_root(question, &mut machine.recorder, sink) {
-        Ok(Some(top)) => top,
+    match enter_root(question, &mut machine.recorder, sink) {
+        Ok(Some(root)) => machine.stack.push(root),
         Ok(None) => return Ok(()),
         Err(fault) => return Err(fault),
-    };
+    }
     for _ in 0..u64::MAX {
-        let answer = turn(question, &mut top, machine, sink);
+        let answer = turn(question, machine, sink);
         known = tell(&machine.findings.games, known, watch);
-        let has_opened = match answer {
-            Ok(has_opened) => has_opened,
+        match answer {
+            Ok(()) => {}
             Err(fault) => return Err(fault),
-        };
+        }
         watch.reached(question.tree, machine.recorder.output.nodes);
-        if !has_opened {
-            top = match machine.frames.pop() {
-                Some(frame) => frame,
-                None => return Ok(()),
-            };
+        if machine.stack.len() == 0 {
+            return Ok(());
         }
     }
     Err(SearchFault::Budget)

@@ -149,15 +149,33 @@ fn need_by_leasts(rows: &Rows, leasts: &Leasts, position: &Position, m: &Move) -
     }
 }
 
-// What the need is not below once the man of a move has moved, whatever his move.
+// What the need is not below once the man of a move has moved, whatever his move: with each of his distances less by one.
 fn need_once_moved(rows: &Rows, leasts: &Leasts, position: &Position, m: &Move) -> u8 {
-    match position.board().get(m.from) {
-        Some(man) => leasts.need_once_moved(rows, man.kind, m.from),
-        None => NEVER,
+    let Some(man) = position.board().get(m.from) else {
+        return NEVER;
+    };
+    let mut row = rows.distances(man.kind, m.from);
+    for t in 0..MOST_MEN {
+        row[t] = row[t].saturating_sub(1);
     }
+    leasts.without(rows, man.kind, m.from).need(row)
 }
 
-// How many plain moves a position has; none where least distances give another need after one of them.
+// Whether the man of a move is among those that are cut off just where the need is above so many plies whatever his move, for
+// each number of plies up to 60.
+fn is_cut_off_rightly(rows: &Rows, leasts: &Leasts, position: &Position, m: &Move) -> bool {
+    let need = need_once_moved(rows, leasts, position, m);
+    let board = position.board();
+    for plies in 0..=60u8 {
+        if leasts.cut_off(rows, &board, plies).contains(m.from) != (need > plies) {
+            return false;
+        }
+    }
+    true
+}
+
+// How many plain moves a position has; none where least distances give another need after one of them, or tell wrongly of its man that
+// he is cut off.
 fn agreeing_moves(rt: &impl Abort, alloc: Global, rows: &Rows, position: &Position) -> Option<u32> {
     let leasts = Leasts::new(rows, &position.board(), position.rights());
     let mut count = 0u32;
@@ -167,6 +185,7 @@ fn agreeing_moves(rt: &impl Abort, alloc: Global, rows: &Rows, position: &Positi
             let need = need_by_leasts(rows, &leasts, position, m);
             if need != need_by_rows(rows, &after)
                 || need_once_moved(rows, &leasts, position, m) > need
+                || !is_cut_off_rightly(rows, &leasts, position, m)
             {
                 return None;
             }

@@ -3,4 +3,4 @@ use Rattle.pg_searcher.proofs.walk.play_each.Given as goal
 
 -- the node stays the same, and the writer has not refused
 abbrev pub invariant-loop : goal.invariant-loop
-invariant-loop g l = (l.top.moves.position ≡ l.position) × (l.output.writer.failed ≡ false)
+invariant-loop g l = (l.moves.position ≡ l.position) × (l.output.writer.failed ≡ false)

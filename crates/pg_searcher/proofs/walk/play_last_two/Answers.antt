@@ -2,6 +2,3 @@ use Rattle.pg_searcher.proofs.walk.play_last_two.Goals as goal
 
 pub returns-in-Err-clause-says : goal.returns-in-Err-clause-says
 returns-in-Err-clause-says g c = c.in-Err.ensures.says _
-
-pub returns-clause-says : goal.returns-clause-says
-returns-clause-says g c = c.close.ensures _ _

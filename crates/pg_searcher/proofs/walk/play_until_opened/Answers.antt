@@ -1,4 +1,4 @@
 use Rattle.pg_searcher.proofs.walk.play_until_opened.Goals as goal
 
-pub returns-in-Err-close-clause-says : goal.returns-in-Err-close-clause-says
-returns-in-Err-close-clause-says g c = c.in-Err-close.ensures _ _
+pub returns-in-Ok-false-clause-says : goal.returns-in-Ok-false-clause-says
+returns-in-Ok-false-clause-says g c = c.close_top.ensures.says _ _

@@ -1,0 +1,8 @@
+use Rattle.std.proofs.Common.{◌≡◌, sym, subst, ◌∙◌}
+use Rattle.std.specs.declared.cmp.Ordering.TheVariants.{Less}
+use Rattle.pg_san.specs.Games.{game_cmp}
+use Rattle.pg_san.proofs.PlaceLemmas.{behind_all}
+use Rattle.pg_san.proofs.games.is_behind.Goals as goal
+
+pub returns-in-Less : goal.returns-in-Less
+returns-in-Less c = λ h. behind_all (λ v. v.items) c.args.games.now c.args.game.now c.in-Some.last.now c.requires (sym c.in-Some.ensures.value) (subst (λ x. game_cmp x c.args.game.now ≡ Less) c.as_slice.ensures.value (sym c.compare.ensures ∙ c.in-Less.is))
