@@ -4,6 +4,9 @@ use crate::assignment::MOST_MEN;
 use crate::rows::{KINDS, Rows};
 use pg_board::{Board, Color, Kind, Man, Square, SquareSet};
 use pg_position::{Rights, Wing, king_home, rook_home};
+use std::simd::u8x16;
+
+// Rows are gone through as vectors: a loop over the numbers of an array keeps it in memory from one man to the next.
 
 // For each target the least distance of a man to it, and the least one of the others.
 #[derive(Clone, Copy)]
@@ -13,35 +16,32 @@ struct Two {
 }
 
 // With a man more that has these distances.
+#[inline(always)]
 fn entered(two: Two, row: [u8; MOST_MEN]) -> Two {
-    let mut two = two;
-    for t in 0..MOST_MEN {
-        let behind = two.first[t].max(row[t]);
-        two.second[t] = two.second[t].min(behind);
-        two.first[t] = two.first[t].min(row[t]);
+    let row = u8x16::from_array(row);
+    let first = u8x16::from_array(two.first);
+    let second = u8x16::from_array(two.second);
+    let behind = first.simd_max(row);
+    Two {
+        first: first.simd_min(row).to_array(),
+        second: second.simd_min(behind).to_array(),
     }
-    two
 }
 
-// The least distances without the man that has these. Both rows are chosen from by value: behind a reference each choice loads
-// from an address of its own, and nothing vectorizes.
+// The least distances without the man that has these.
 #[inline(always)]
 fn without(two: Two, row: [u8; MOST_MEN]) -> [u8; MOST_MEN] {
-    let mut least = [0; MOST_MEN];
-    for t in 0..MOST_MEN {
-        let (first, second) = (two.first[t], two.second[t]);
-        least[t] = if row[t] == first { second } else { first };
-    }
-    least
+    let first = u8x16::from_array(two.first);
+    let second = u8x16::from_array(two.second);
+    let are_his = first.simd_eq(u8x16::from_array(row));
+    are_his.select(second, first).to_array()
 }
 
 // The sum of the lesser of two distances to each target.
-fn sum_of_least(a: &[u8; MOST_MEN], b: [u8; MOST_MEN]) -> u16 {
-    let mut sum = 0u16;
-    for t in 0..MOST_MEN {
-        sum = sum.wrapping_add(u16::from(a[t].min(b[t])));
-    }
-    sum
+#[inline(always)]
+fn sum_of_least(a: [u8; MOST_MEN], b: [u8; MOST_MEN]) -> u16 {
+    let least = u8x16::from_array(a).simd_min(u8x16::from_array(b));
+    sum_of(least.to_array())
 }
 
 // With these men of a kind more.
@@ -155,7 +155,8 @@ fn castled_without(
 }
 
 // The sum of the least distances to all targets.
-fn sum_of(least: &[u8; MOST_MEN]) -> u16 {
+#[inline(always)]
+fn sum_of(least: [u8; MOST_MEN]) -> u16 {
     let mut sum = 0u16;
     for t in 0..MOST_MEN {
         sum = sum.wrapping_add(u16::from(least[t]));
@@ -164,34 +165,29 @@ fn sum_of(least: &[u8; MOST_MEN]) -> u16 {
 }
 
 // The least distances that a move may lower: no man has 255, which stands for those to targets that are reached already.
-fn lowerable(least: &[u8; MOST_MEN]) -> [u8; MOST_MEN] {
-    let mut distances = [0; MOST_MEN];
-    for t in 0..MOST_MEN {
-        distances[t] = if least[t] == 0 { 255 } else { least[t] };
-    }
-    distances
+fn lowerable(least: [u8; MOST_MEN]) -> [u8; MOST_MEN] {
+    let least = u8x16::from_array(least);
+    let are_reached = least.simd_eq(u8x16::splat(0));
+    are_reached.select(u8x16::splat(255), least).to_array()
 }
 
 // How many of the least distances are those of a man.
 #[inline(always)]
-fn count_own(least: &[u8; MOST_MEN], row: [u8; MOST_MEN]) -> u8 {
-    let mut count = 0u8;
-    for t in 0..MOST_MEN {
-        count = count.wrapping_add(u8::from(least[t] == row[t]));
-    }
-    count
+fn count_own(least: [u8; MOST_MEN], row: [u8; MOST_MEN]) -> u32 {
+    let are_his = u8x16::from_array(least).simd_eq(u8x16::from_array(row));
+    are_his.to_bitmask().count_ones()
 }
 
 // The men of a kind of whom fewer than so many of the least distances are.
 #[inline(always)]
-fn of_few(least: &[u8; MOST_MEN], most: u16, rows: &Rows, kind: Kind, men: SquareSet) -> SquareSet {
+fn of_few(least: [u8; MOST_MEN], most: u32, rows: &Rows, kind: Kind, men: SquareSet) -> SquareSet {
     let mut few = SquareSet::empty();
     let mut men = men;
     for _ in 0..64u8 {
         let Some(square) = men.pop_first() else {
             return few;
         };
-        if u16::from(count_own(least, rows.distances(kind, square))) < most {
+        if count_own(least, rows.distances(kind, square)) < most {
             few = few | SquareSet::single(square);
         }
     }
@@ -202,16 +198,16 @@ fn of_few(least: &[u8; MOST_MEN], most: u16, rows: &Rows, kind: Kind, men: Squar
 // a man nearer to a target by one at most, which lowers the sum by one only where no man was nearer to it. So all that has to be known of a
 // man is how many of the least distances are his.
 fn cut_off_by(two: &Two, more: u16, plies: u8, rows: &Rows, board: &Board) -> SquareSet {
-    let sum = sum_of(&two.first).saturating_add(more);
-    let above = sum.saturating_sub(u16::from(plies));
+    let sum = sum_of(two.first).saturating_add(more);
+    let above = u32::from(sum.saturating_sub(u16::from(plies)));
     let mut men = SquareSet::empty();
     if above == 0 {
         return men;
     }
-    let least = lowerable(&two.first);
+    let least = lowerable(two.first);
     for kind in KINDS {
         let all = board.squares_of(Man::new(rows.color(), kind));
-        men = men | of_few(&least, above, rows, kind, all);
+        men = men | of_few(least, above, rows, kind, all);
     }
     men
 }
@@ -281,12 +277,12 @@ impl Rest {
 
     /// The need of travel where the man that was left out has these distances, at most 250.
     pub fn need(&self, row: [u8; MOST_MEN]) -> u8 {
-        let mut need = sum_of_least(&self.free, row);
+        let mut need = sum_of_least(self.free, row);
         if let Some(least) = &self.king_side {
-            need = need.min(sum_of_least(least, row).saturating_add(1));
+            need = need.min(sum_of_least(*least, row).saturating_add(1));
         }
         if let Some(least) = &self.queen_side {
-            need = need.min(sum_of_least(least, row).saturating_add(1));
+            need = need.min(sum_of_least(*least, row).saturating_add(1));
         }
         need.min(250) as u8
     }
