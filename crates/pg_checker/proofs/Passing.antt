@@ -1,5 +1,5 @@
 -- Passing over moves that do not lead to the diagram leaves what the walk answers. Leads to the contracts of `skip_to_solution` and `run`.
-use Rattle.std.proofs.Common.{◌≡◌, ◌≢◌, ℕ, zero, suc, ◌+◌, ◌<◌, ◌≤◌, Bool, true, false, ◌||◌, List, [], ◌∷◌, ◌++◌, length, reverse, Option, Some, Result, IsTrue, ◌↔◌, refl, sym, ◌∙◌, ap, subst, arith, append_assoc}
+use Rattle.std.proofs.Common.{◌≡◌, ◌≢◌, ℕ, zero, suc, ◌+◌, ◌<◌, ◌≤◌, Bool, true, false, ◌||◌, List, [], ◌∷◌, ◌++◌, length, reverse, Option, Some, None, Result, IsTrue, ◌↔◌, refl, sym, ◌∙◌, ap, subst, arith, append_assoc}
 use Rattle.std.specs.List.{Contains}
 use Rattle.std.proofs.lemmas.List.{append-nil, length-append}
 use Rattle.std.proofs.lemmas.List.Elements.{Contains-append_left, Contains-append_cases}
@@ -10,7 +10,9 @@ use Rattle.pg_position.specs.declared.moves.Move.{Move}
 use Rattle.pg_position.specs.Position.{IsPosition}
 use Rattle.pg_position.specs.Step.{Legal}
 use Rattle.pg_position.proofs.FutureLemmas.{one_result}
-use Rattle.pg_moves.specs.Left.{MovesLeft}
+use Rattle.pg_board.specs.SquareSets.{IsLastIn}
+use Rattle.pg_moves.specs.Left.{MovesLeft, IsRest, to_square}
+use Rattle.pg_moves.specs.Targets.{plain_move}
 use Rattle.pg_moves.specs.Moves.{IsNext, IsLast}
 use Rattle.pg_moves.proofs.SortLemmas.{Contains-none, Contains-cons}
 use Rattle.pg_moves.specs.inner.Places.{most_moves}
@@ -22,10 +24,11 @@ use Rattle.pg_checker.specs.Chess.{Cuts, chess}
 use Rattle.pg_checker.specs.Left.{left_after}
 use Rattle.pg_checker.specs.inner.Machine.{path, frame_of, frames_of, count_named, state_at, work_at}
 use Rattle.pg_checker.specs.Passing.{LeadsElsewhere, AllElsewhere, PassesOver}
+use Rattle.pg_checker.specs.inner.Leading.{PassesMan}
 use Rattle.pg_checker.specs.declared.machine.Frame.{Frame}
 use Rattle.pg_checker.specs.declared.machine.Machine.{Machine}
 use Rattle.pg_checker.proofs.Goings.{goes_as}
-use Rattle.pg_checker.proofs.Left.{left_are, left_next, left_last}
+use Rattle.pg_checker.proofs.Left.{left_are, left_next, left_last, left_between, left_split, between_are, same_man}
 use Rattle.pg_checker.proofs.Running.{Runs, finishes, dry_front, goal_off, frames_popped, kept_popped}
 use Rattle.pg_checker.proofs.FrameViews.{frames_more, count_more}
 use Rattle.pg_checker.proofs.Turning.{with_frames}
@@ -62,6 +65,51 @@ fewer_left now new m next is =
     let a : length (left_after now.position now.last) ≡ suc (length (left_after now.position (Some m))) = ap length (left_next now.position now.last m next) in
     let b : length (left_after new.position new.last) ≡ length (left_after now.position (Some m)) = ap (λ (v : MovesLeft). length (left_after v.position v.last)) is in
     omega (arith, a, b)
+
+-- the man that moved last is passed over: by none of his moves, or up to a further one
+pub man_passed : (old new : MovesLeft) (rest s : ℕ) → IsRest old.position old.last rest → IsLastIn rest s → new ≡ record old { last = to_square old.last s } → PassesMan old new
+unfolding IsRest
+man_passed old new rest s h last is = go old.last refl h is
+  where
+    go : (l : Option Move) → old.last ≡ l → IsRest old.position l rest → new ≡ record old { last = to_square l s } → PassesMan old new
+    go None e none is = absurd none
+    go (Some a) e left is = inr (a, plain_move a.from s, e, is, refl, ((left.squares s last.on_board).0 last.member).1)
+
+-- the moves of a man all of which lead elsewhere are passed over
+pub passes_man : (d : Placement) (old now new : MovesLeft) (r : ℕ) → PassesOver d old now → PassesMan now new → ((a : Move) → now.last ≡ Some a → a.from ≡ r) → ((m : Move) → m.from ≡ r → LeadsElsewhere d old.position m) → PassesOver d old new
+passes_man d old now new r over (inl same) of off = subst (λ (v : MovesLeft). PassesOver d old v) (sym same) over
+passes_man d old now new r over (inr (a, n, last, is, from, past)) of off = record {
+  position = ap (λ (v : MovesLeft). v.position) is ∙ over.position;
+  passed = over.passed ++ left_between old.position a n;
+  left = over.left
+      ∙ ap (λ (l : Option Move). over.passed ++ left_after old.position l) last
+      ∙ ap (λ (v : List Move). over.passed ++ v) (left_split old.position a n past)
+      ∙ sym (append_assoc over.passed (left_between old.position a n) (left_after old.position (Some n)))
+      ∙ ap (λ (v : MovesLeft). (over.passed ++ left_between old.position a n) ++ left_after old.position v.last) (sym is);
+  elsewhere = λ m c. elim (Contains-append_cases over.passed (left_between old.position a n) m c) [
+    | inl g ↦ over.elsewhere m g
+    | inr g ↦ (let k = between_are old.position a n m g in off m (same_man a n m from k.1 k.2 ∙ of a last))
+  ];
+}
+
+-- the move that was handed out last is of its man
+pub last_from : (now new : MovesLeft) (m a : Move) → new ≡ record now { last = Some m } → new.last ≡ Some a → a.from ≡ m.from
+last_from now new m a is last =
+    let both : Some m ≡ Some a = sym (ap (λ (v : MovesLeft). v.last) is) ∙ last in
+    let same : a ≡ m = cc in
+    ap (λ (x : Move). x.from) same
+
+-- no more are left then
+pub man_fewer : (now new : MovesLeft) → PassesMan now new → length (left_after new.position new.last) ≤ length (left_after now.position now.last)
+man_fewer now new (inl same) = let e : length (left_after new.position new.last) ≡ length (left_after now.position now.last) = ap (λ (v : MovesLeft). length (left_after v.position v.last)) same in omega (arith, e)
+man_fewer now new (inr (a, n, last, is, from, past)) =
+    let e : length (left_after now.position now.last) ≡ length (left_between now.position a n) + length (left_after now.position (Some n)) = ap (λ (l : Option Move). length (left_after now.position l)) last ∙ ap length (left_split now.position a n past) ∙ length-append (left_between now.position a n) (left_after now.position (Some n)) in
+    let f : length (left_after new.position new.last) ≡ length (left_after now.position (Some n)) = ap (λ (v : MovesLeft). length (left_after v.position v.last)) is in
+    omega (arith, e, f)
+
+pub man_stays : (now new : MovesLeft) → PassesMan now new → new.position ≡ now.position
+man_stays now new (inl same) = ap (λ (v : MovesLeft). v.position) same
+man_stays now new (inr (a, n, last, is, from, past)) = ap (λ (v : MovesLeft). v.position) is
 
 -- after the last one none is left
 pub none_elsewhere : (d : Placement) (moves : MovesLeft) → IsLast moves.position moves.last → AllElsewhere d moves

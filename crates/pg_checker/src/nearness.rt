@@ -5,7 +5,7 @@ ghost use Rattle.pg_position.specs.Position.{IsPosition};
 ghost use Rattle.pg_position.specs.Step.{IsLegal};
 ghost use Rattle.pg_moves.specs.Moves.{IsLast};
 ghost use Rattle.pg_checker.specs.Differing.{Differ};
-ghost use Rattle.pg_checker.specs.inner.Leading.{LeadsOn, HoldsSources, HoldsTargets};
+ghost use Rattle.pg_checker.specs.inner.Leading.{LeadsOn, HoldsSources, HoldsTargets, PassesMan};
 ghost use Rattle.pg_checker.specs.inner.Squares.{HasTwoToFour};
 ghost use Rattle.pg_checker.specs.Passing.{AllElsewhere, LeadsElsewhere, LeadsTo, NextLeads, PassesOver};
 
@@ -191,13 +191,29 @@ fn has_led(diagram: &Diagram, position: &Position, last: &Option<Move>) -> bool
     }
 }
 
-// Passes over all moves that are left.
+// Passes over the further moves of the man that moved last, as if each was handed out, where he needs no trial: a set has
+// them.
+#[inline(always)]
+fn pass_man(moves: &mut LegalMoves)
+    ensures { PassesMan moves.old moves.new }
+{
+    let Some(rest) = moves.rest_of_man() else {
+        return;
+    };
+    if let Some(to) = rest.last() {
+        // A fact for the proof: the square is on the board.
+        to.index();
+        moves.skip_rest(rest);
+    }
+}
+
+// Passes over all moves that are left, man by man.
 fn pass_all(moves: &mut LegalMoves)
     ensures position { moves.new.position ≡ moves.old.position }
     ensures end { IsLast moves.new.position moves.new.last }
 {
-    while let Some(peeked) = moves.peek() {
-        moves.advance(&peeked);
+    while let Some(_m) = moves.next() {
+        pass_man(moves);
     }
 }
 
@@ -227,6 +243,11 @@ pub fn skip_to_solution(diagram: &Diagram, moves: &mut LegalMoves) -> bool
             return true;
         }
         moves.advance(&peeked);
+        if squares.contains(peeked.m.from) {
+            continue;
+        }
+        // Nor do his further moves lead there, from a square that does not differ.
+        pass_man(moves);
     }
     false
 }

@@ -2,9 +2,7 @@
 
 use pg_board::{Board, Color, Kind, Man, Square, SquareSet};
 use pg_fen::Diagram;
-use pg_position::{
-    Position, Wing, castling_homes, king_crossed, king_home, king_target, rook_home,
-};
+use pg_position::{Position, Wing, king_crossed, king_home, king_target, rook_home};
 use pg_travel::distance;
 
 // No man of a kind comes from a square.
@@ -37,12 +35,21 @@ pub struct Distances {
 }
 
 // What a colour needs in each way, in which it can come to its squares: without castling, and by castling as the rights
-// that it holds allow.
+// that it holds allow, if that is less.
 #[derive(Clone, Copy)]
 pub(crate) struct Ways {
     pub(crate) free: Option<u16>,
     pub(crate) short: Option<u16>,
     pub(crate) long: Option<u16>,
+}
+
+// What a colour needs, beside what it has: no more than that; more than any number, and the first man of the diagram that
+// comes from nowhere; or more in each way.
+#[derive(Clone, Copy)]
+pub(crate) enum Need {
+    Within,
+    Nowhere(Option<(Man, Square)>),
+    Beyond(Ways),
 }
 
 // The distance of a man as a row has it.
@@ -109,17 +116,16 @@ fn with_man(rows: &Rows, kind: Kind, from: Square, row: Row) -> Row {
     }
 }
 
-// A row with the men of a kind more.
+// A row with the men of a kind more. One way out of the loop alone, since with two the row is kept in memory.
 #[inline(always)]
 fn with_men(rows: &Rows, kind: Kind, men: SquareSet, row: Row) -> Row {
     let mut row = row;
     let mut left = men;
-    for _ in 0..64u8 {
-        let Some(from) = left.pop_first() else {
-            return row;
-        };
-        let next = with_man(rows, kind, from, row);
-        row = next;
+    for _ in 0..men.len() {
+        if let Some(from) = left.pop_first() {
+            let next = with_man(rows, kind, from, row);
+            row = next;
+        }
     }
     row
 }
@@ -157,6 +163,15 @@ fn least(a: Option<u16>, b: Option<u16>) -> Option<u16> {
         (Some(a), Some(b)) => Some(a.min(b)),
         (Some(a), None) => Some(a),
         (None, b) => b,
+    }
+}
+
+// Whether a number that may be missing is less than another one, which is more than any where it is missing.
+fn is_less(a: Option<u16>, b: Option<u16>) -> bool {
+    match (a, b) {
+        (Some(a), Some(b)) => a < b,
+        (Some(_), None) => true,
+        (None, _) => false,
     }
 }
 
@@ -199,56 +214,73 @@ impl Distances {
         }
     }
 
-    // The value of a castling way, where its right is held: king and rook count where castling brings them, and the other
-    // men where they stand, of whom those off the castling homes have this row. A right is held only with king and rook
-    // at home.
-    fn castled(&self, position: &Position, color: Color, wing: Wing, rest: Row) -> Option<u16> {
+    // The value of a castling way, where its right is held and it may be less than that of a way without castling, whose
+    // least distances are these: king and rook count where castling brings them, and the other men where they stand. A right
+    // is held only with king and rook at home.
+    fn castled(
+        &self,
+        position: &Position,
+        color: Color,
+        wing: Wing,
+        all: Row,
+        free: Option<u16>,
+    ) -> Option<u16> {
         if !position.rights().holds(color, wing) {
             return None;
         }
-        let rows = self.rows(color);
+        // With all men, also where they stand, no man is farther off than in the way itself.
+        let row = self.with_castled(color, wing, all);
+        if !is_less(value(&row, 1), free) {
+            return None;
+        }
         let moved = SquareSet::single(king_home(color)) | SquareSet::single(rook_home(color, wing));
-        let left = castling_homes() - moved;
-        let row = with_all(rows, &position.board(), color, left, rest);
-        let row = with_man(rows, Kind::King, king_target(color, wing), row);
-        let row = with_man(rows, Kind::Rook, king_crossed(color, wing), row);
-        value(&row, 1)
+        let others = SquareSet::full() - moved;
+        let row = with_all(
+            self.rows(color),
+            &position.board(),
+            color,
+            others,
+            [NONE; 16],
+        );
+        value(&self.with_castled(color, wing, row), 1)
     }
 
-    // What a colour needs in each way; none where it has so many plies that it needs no castling. The men off the castling
-    // homes count alike in all ways.
-    pub(crate) fn ways_beyond(&self, position: &Position, color: Color, plies: u8) -> Option<Ways> {
+    // A row with king and rook more, where castling brings them.
+    fn with_castled(&self, color: Color, wing: Wing, row: Row) -> Row {
         let rows = self.rows(color);
-        let board = position.board();
-        let homes = castling_homes();
-        let others = SquareSet::full() - homes;
-        let rest = with_all(rows, &board, color, others, [NONE; 16]);
-        let all = with_all(rows, &board, color, homes, rest);
+        let row = with_man(rows, Kind::King, king_target(color, wing), row);
+        with_man(rows, Kind::Rook, king_crossed(color, wing), row)
+    }
+
+    // What a colour needs, where it is more than so many plies.
+    pub(crate) fn need_beyond(&self, position: &Position, color: Color, plies: u8) -> Need {
+        let rows = self.rows(color);
+        let all = with_all(
+            rows,
+            &position.board(),
+            color,
+            SquareSet::full(),
+            [NONE; 16],
+        );
         let free = value(&all, 0);
         if is_within(free, plies) {
-            return None;
+            return Need::Within;
         }
         // A king and a rook come to each square from any other. So where a man cannot come to be, castling, which moves no
         // other men, changes nothing.
         if free.is_none() {
-            return Some(Ways {
-                free,
-                short: None,
-                long: None,
-            });
+            return Need::Nowhere(self.unreached(color, &all));
         }
-        Some(Ways {
+        Need::Beyond(Ways {
             free,
-            short: self.castled(position, color, Wing::KingSide, rest),
-            long: self.castled(position, color, Wing::QueenSide, rest),
+            short: self.castled(position, color, Wing::KingSide, all, free),
+            long: self.castled(position, color, Wing::QueenSide, all, free),
         })
     }
 
-    // The first man of the colour in the diagram, of sixteen, that no man of the position can come to be where it stands.
-    pub(crate) fn unreached(&self, position: &Position, color: Color) -> Option<(Man, Square)> {
-        let rows = self.rows(color);
-        let board = position.board();
-        let row = with_all(rows, &board, color, SquareSet::full(), [NONE; 16]);
+    // The first man of the colour in the diagram, of sixteen, that no man comes to be, of whom these are the least
+    // distances.
+    fn unreached(&self, color: Color, row: &Row) -> Option<(Man, Square)> {
         let mut left = self.goal.squares_of_color(color);
         for i in 0..16usize {
             let Some(square) = left.pop_first() else {

@@ -1,5 +1,6 @@
 //! Words for men, squares and numbers.
 
+use crate::sentences::Sentence;
 use arrayvec::ArrayString;
 use pg_board::{Color, Kind, Square};
 use std::fmt::Write;
@@ -35,15 +36,70 @@ pub(crate) fn put_all<const CAP: usize>(text: &mut ArrayString<CAP>, parts: &[&s
     }
 }
 
+// The digit of a number below ten.
+fn digit(number: u64) -> &'static str {
+    match number {
+        0 => "0",
+        1 => "1",
+        2 => "2",
+        3 => "3",
+        4 => "4",
+        5 => "5",
+        6 => "6",
+        7 => "7",
+        8 => "8",
+        _ => "9",
+    }
+}
+
 // A number as a text.
 pub(crate) fn number_name(number: u64) -> Phrase {
     let mut text = Phrase::new();
+    put_number(&mut text, number);
+    text
+}
+
+// Appends a number. Most are of one digit, and a formatted write of those costs twice as much.
+pub(crate) fn put_number<const CAP: usize>(text: &mut ArrayString<CAP>, number: u64) {
     if number < 10 {
-        let _ = text.try_push(char::from(b'0' + number as u8));
+        let _ = text.try_push_str(digit(number));
     } else {
         let _ = write!(text, "{number}");
     }
-    text
+}
+
+// Appends so many things, as `many` names them, with what follows them: the words for none, for one, and for more behind
+// the number. In place, since a phrase of its own is cleared and copied.
+pub(crate) fn put_many(text: &mut Sentence, count: u64, none: &str, one: &str, more: &str) {
+    let words = match count {
+        0 => none,
+        1 => one,
+        _ => {
+            put_number(text, count);
+            more
+        }
+    };
+    let _ = text.try_push_str(words);
+}
+
+// The letter of a square's file.
+fn file_name(square: Square) -> &'static str {
+    match square.file() {
+        1 => "a",
+        2 => "b",
+        3 => "c",
+        4 => "d",
+        5 => "e",
+        6 => "f",
+        7 => "g",
+        _ => "h",
+    }
+}
+
+// Appends a man by its kind and square, as `man_name` names him.
+pub(crate) fn put_man(text: &mut Sentence, kind: Kind, square: Square) {
+    let (file, rank) = (file_name(square), digit(u64::from(square.rank())));
+    put_all(text, &["the ", kind_name(kind), " on ", file, rank]);
 }
 
 // A man by its kind and square, as in `the knight on g8`.

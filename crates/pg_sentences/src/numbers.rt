@@ -1,6 +1,6 @@
 //! How many moves a colour has left, and what excludes it by captures, promotions or pawn files.
 
-use pg_board::Color;
+use pg_board::{Color, Man, Square};
 use pg_captures::{owed, pawns, plies_left, shortage};
 use pg_fen::Diagram;
 use pg_pawns::shift_need;
@@ -54,8 +54,8 @@ pub(crate) enum Excess {
         own: u8,
         castling: Castling,
     },
-    // Its men cannot come to their squares.
-    Nowhere,
+    // Its men cannot come to their squares: the first man of the diagram that comes from nowhere.
+    Nowhere(Option<(Man, Square)>),
 }
 
 // What captures exclude a colour by: it owes fewer than none, or more than it has moves left; none where

@@ -83,7 +83,7 @@ fn write_reason(
 ) -> bool {
     match first_excess(distances, node, code) {
         Some(found) => {
-            write_excess(distances, node, found.color, &found.excess, text);
+            write_excess(found.color, &found.excess, text);
             true
         }
         None => false,

@@ -1,7 +1,7 @@
 //! What a cut by travel says.
 
-use crate::distances::{Distances, Ways};
-use crate::names::{color_name, man_name, put_all};
+use crate::distances::{Distances, Need, Ways};
+use crate::names::{color_name, put_all, put_man};
 use crate::numbers::{Castling, Excess, Node, own_plies};
 use crate::sentences::Sentence;
 use pg_board::{Board, Color, Man, Square};
@@ -88,45 +88,28 @@ fn unreached(node: &Node, color: Color) -> Option<(Man, Square)> {
     None
 }
 
-// The same by distances where they serve.
-fn first_unreached(
-    distances: &Option<&Distances>,
-    node: &Node,
-    color: Color,
-) -> Option<(Man, Square)> {
-    match distances {
-        Some(distances) if distances.serve(node.diagram, color) => {
-            distances.unreached(node.position, color)
-        }
-        _ => unreached(node, color),
+// What the words begin with that no man of a colour comes to a square.
+fn nowhere_name(color: Color) -> &'static str {
+    match color {
+        Color::White => "no man of white's can come to be ",
+        Color::Black => "no man of black's can come to be ",
     }
 }
 
 // That a man of the diagram comes from nowhere.
-pub(crate) fn write_nowhere(
-    distances: &Option<&Distances>,
-    node: &Node,
-    color: Color,
-    text: &mut Sentence,
-) {
-    let name = color_name(color);
-    match first_unreached(distances, node, color) {
+pub(crate) fn write_nowhere(color: Color, missing: &Option<(Man, Square)>, text: &mut Sentence) {
+    match missing {
         Some((man, square)) => {
-            let man = man_name(man.kind, square);
-            put_all(
-                text,
-                &[
-                    "no man of ",
-                    name,
-                    "'s can come to be ",
-                    man.as_str(),
-                    " (travel)",
-                ],
-            );
+            put_all(text, &[nowhere_name(color)]);
+            put_man(text, man.kind, *square);
+            put_all(text, &[" (travel)"]);
         }
         None => put_all(
             text,
-            &[name, "'s men cannot come to their squares (travel)"],
+            &[
+                color_name(color),
+                "'s men cannot come to their squares (travel)",
+            ],
         ),
     }
 }
@@ -136,7 +119,7 @@ pub(crate) fn write_nowhere(
 fn travel_alone(node: &Node, color: Color) -> Option<Excess> {
     let own = own_plies(node, color);
     let Some(need) = need(color, node.diagram, node.position) else {
-        return Some(Excess::Nowhere);
+        return Some(Excess::Nowhere(unreached(node, color)));
     };
     if need <= u16::from(own) {
         return None;
@@ -163,11 +146,13 @@ fn castling_of(ways: &Ways, need: u16) -> Castling {
 // makes positions with fewer rights.
 fn travel_by(distances: &Distances, node: &Node, color: Color) -> Option<Excess> {
     let own = own_plies(node, color);
-    let Some(ways) = distances.ways_beyond(node.position, color, own) else {
-        return None;
+    let ways = match distances.need_beyond(node.position, color, own) {
+        Need::Within => return None,
+        Need::Nowhere(missing) => return Some(Excess::Nowhere(missing)),
+        Need::Beyond(ways) => ways,
     };
     let Some(need) = ways.need() else {
-        return Some(Excess::Nowhere);
+        return None;
     };
     if need <= u16::from(own) {
         return None;

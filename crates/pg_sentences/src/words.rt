@@ -1,8 +1,7 @@
 //! What excludes a colour, in words.
 
-use crate::distances::Distances;
-use crate::names::{Phrase, color_name, many, number_name, put_all};
-use crate::numbers::{Castling, Excess, Node};
+use crate::names::{Phrase, color_name, many, number_name, put_all, put_many, put_number};
+use crate::numbers::{Castling, Excess};
 use crate::sentences::Sentence;
 use crate::travel::write_nowhere;
 use pg_board::Color;
@@ -82,43 +81,40 @@ fn write_files(color: Color, shift: u16, owed: i16, text: &mut Sentence) {
     );
 }
 
-fn castling_name(castling: Castling) -> &'static str {
-    match castling {
-        Castling::None => "",
-        Castling::KingSide => ", castling king side",
-        Castling::QueenSide => ", castling queen side",
+// What a need by travel begins with.
+fn needs_name(color: Color) -> &'static str {
+    match color {
+        Color::White => "white needs ",
+        Color::Black => "black needs ",
     }
 }
 
-// That a colour needs more moves than it has; with the castling that helps to the need, if one does.
+// What a need by travel ends with: the castling that helps to it, if one does.
+fn castling_name(castling: Castling) -> &'static str {
+    match castling {
+        Castling::None => " (travel)",
+        Castling::KingSide => " (travel, castling king side)",
+        Castling::QueenSide => " (travel, castling queen side)",
+    }
+}
+
+// That a colour needs more moves than it has. In few pieces: a page has such words at most of its cuts.
 fn write_travel(color: Color, need: u16, own: u8, castling: Castling, text: &mut Sentence) {
-    let name = color_name(color);
-    let moves = many(u64::from(need), "move", "moves");
-    let own = number_name(u64::from(own));
-    let (moves, own, castling) = (moves.as_str(), own.as_str(), castling_name(castling));
-    put_all(
+    let need = u64::from(need);
+    put_all(text, &[needs_name(color)]);
+    put_many(
         text,
-        &[
-            name,
-            " needs ",
-            moves,
-            " and has ",
-            own,
-            " (travel",
-            castling,
-            ")",
-        ],
+        need,
+        "no move and has ",
+        "1 move and has ",
+        " moves and has ",
     );
+    put_number(text, u64::from(own));
+    put_all(text, &[castling_name(castling)]);
 }
 
 // What excludes a colour.
-pub(crate) fn write_excess(
-    distances: &Option<&Distances>,
-    node: &Node,
-    color: Color,
-    excess: &Excess,
-    text: &mut Sentence,
-) {
+pub(crate) fn write_excess(color: Color, excess: &Excess, text: &mut Sentence) {
     match excess {
         Excess::TooMany(owed) => write_too_many(color, *owed, text),
         Excess::Captures { owed, own } => write_captures(color, *owed, *own, text),
@@ -133,6 +129,6 @@ pub(crate) fn write_excess(
             own,
             castling,
         } => write_travel(color, *need, *own, *castling, text),
-        Excess::Nowhere => write_nowhere(distances, node, color, text),
+        Excess::Nowhere(missing) => write_nowhere(color, missing, text),
     }
 }

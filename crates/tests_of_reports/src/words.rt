@@ -203,6 +203,51 @@ fn by_distances_as_without(rt: HostRuntime) {
     }
 }
 
+// Diagrams of castled kings, on either wing.
+const CASTLED: [&str; 4] = [
+    "r4rk1/8/8/8/8/8/8/2KR3R",
+    "2kr3r/8/8/8/8/8/8/R4RK1",
+    "rnbq1rk1/pppp1ppp/5n2/2b1p3/2B1P3/5N2/PPPP1PPP/RNBQ1RK1",
+    "2kr1bnr/pppqpppp/2n1b3/3p4/3P4/2N1B3/PPPQPPPP/2KR1BNR",
+];
+
+#[test]
+fn castling_by_distances_as_without(rt: HostRuntime) {
+    let mut state = 3u64;
+    for text in CASTLED {
+        let diagram = diagram_of(&rt, text);
+        for text in STARTS {
+            let start = read_position(named(text)).expect(&rt, text).position;
+            check_game(&rt, &mut state, &start, &diagram);
+        }
+    }
+}
+
+// The words for a cut by travel of a position with no ply left.
+fn words_of(diagram: &Diagram, position: &Position) -> Sentence {
+    let distances = Distances::new(diagram);
+    let node = Node {
+        diagram,
+        position,
+        left: 0,
+    };
+    let mut words = Sentence::new();
+    let _ = put_reason_of_bounds(&distances, &node, &mut words);
+    words
+}
+
+// King and rook come to their squares by one move, where without castling they need three.
+#[test]
+fn castling_is_named(rt: HostRuntime) {
+    let start = read_position(STARTS[2]).expect(&rt, "start").position;
+    let words = words_of(&diagram_of(&rt, "r3k2r/8/8/8/8/8/8/2KR3R"), &start);
+    let wanted = "white needs 1 move and has 0 (travel, castling queen side)";
+    assert!(rt; words.as_str() == wanted, "{words}");
+    let words = words_of(&diagram_of(&rt, "r4rk1/8/8/8/8/8/8/R3K2R"), &start);
+    let wanted = "black needs 1 move and has 0 (travel, castling king side)";
+    assert!(rt; words.as_str() == wanted, "{words}");
+}
+
 // More than sixteen men of a colour, of whom the distances keep no rows; and distances to another diagram.
 #[test]
 fn where_distances_do_not_serve(rt: HostRuntime) {

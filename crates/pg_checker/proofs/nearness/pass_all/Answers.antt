@@ -1,10 +1,14 @@
-use Rattle.std.proofs.Common.{ap, ◌∙◌}
+use Rattle.std.proofs.Common.{sym, subst, arith}
 use Rattle.pg_moves.specs.Left.{MovesLeft}
-use Rattle.pg_checker.proofs.Passing.{fewer_left}
+use Rattle.pg_moves.specs.Moves.{IsLast}
+use Rattle.pg_checker.proofs.Passing.{fewer_left, man_fewer}
 use Rattle.pg_checker.proofs.nearness.pass_all.Goals as goal
 
-pub loop-peeked-smaller : goal.loop-peeked-smaller
-loop-peeked-smaller c = fewer_left c.loop-peeked.moves c.advance.new.self c.in-Some.peeked.m c.in-Some.ensures.0 c.advance.ensures
+pub loop-m-smaller : goal.loop-m-smaller
+loop-m-smaller c =
+    let less = fewer_left c.loop-m.moves c.next.new.self c.in-Some._m c.in-Some.ensures.answer c.in-Some.ensures.some in
+    let fewer = man_fewer c.next.new.self c.pass_man.new.moves c.pass_man.ensures in
+    omega (arith, less, fewer)
 
-pub loop-peeked-preserved : goal.loop-peeked-preserved
-loop-peeked-preserved c = ap (λ (v : MovesLeft). v.position) c.advance.ensures ∙ c.loop-peeked.invariant
+pub returns-clause-end : goal.returns-clause-end
+returns-clause-end c = subst (λ (v : MovesLeft). IsLast v.position v.last) (sym c.in_default.ensures.none) c.in_default.ensures.answer

@@ -1,9 +1,10 @@
-use Rattle.std.proofs.Common.{sym, subst, ◌∙◌}
+use Rattle.std.proofs.Common.{◌≡◌, false, sym, subst, ◌∙◌, arith}
+use Rattle.pg_board.specs.Bits.{has}
 use Rattle.pg_position.specs.declared.state.State.{State}
 use Rattle.pg_position.specs.Step.{IsLegal}
 use Rattle.pg_checker.specs.Passing.{LeadsElsewhere, LeadsTo}
-use Rattle.pg_checker.proofs.Passing.{passes_none, passes_more, passes_all, fewer_left, none_elsewhere}
-use Rattle.pg_checker.proofs.Differing.{far_elsewhere, two_to_four}
+use Rattle.pg_checker.proofs.Passing.{passes_none, passes_more, passes_man, passes_all, fewer_left, man_fewer, last_from, none_elsewhere}
+use Rattle.pg_checker.proofs.Differing.{far_elsewhere, from_elsewhere, two_to_four}
 use Rattle.pg_checker.proofs.Leading.{none_leads}
 use Rattle.pg_checker.proofs.nearness.skip_to_solution.Goals as goal
 
@@ -17,10 +18,24 @@ pub returns-then-leads-clause-passed : goal.returns-then-leads-clause-passed
 returns-then-leads-clause-passed c = c.loop-peeked.invariant
 
 pub loop-peeked-smaller : goal.loop-peeked-smaller
-loop-peeked-smaller c = fewer_left c.loop-peeked.moves c.advance.new.self c.in-Some.peeked.m c.in-Some.ensures.0 c.advance.ensures
+loop-peeked-smaller c =
+    let less = fewer_left c.loop-peeked.moves c.advance.new.self c.in-Some.peeked.m c.in-Some.ensures.0 c.advance.ensures in
+    let fewer = man_fewer c.advance.new.self c.pass_man.new.moves c.pass_man.ensures in
+    omega (arith, less, fewer)
+
+pub loop-peeked-smaller-then-contains : goal.loop-peeked-smaller-then-contains
+loop-peeked-smaller-then-contains c = fewer_left c.loop-peeked.moves c.advance.new.self c.in-Some.peeked.m c.in-Some.ensures.0 c.advance.ensures
+
+pub loop-peeked-preserved-then-contains : goal.loop-peeked-preserved-then-contains
+loop-peeked-preserved-then-contains c = passes_more c.args.diagram.now c.args.moves.now c.loop-peeked.moves c.advance.new.self c.in-Some.peeked.m c.loop-peeked.invariant c.in-Some.ensures.0 c.advance.ensures (subst (λ (p : State). LeadsElsewhere c.args.diagram.now p c.in-Some.peeked.m) c.position-position.ensures (c.leads.ensures.away c.if-leads.false))
 
 pub loop-peeked-preserved : goal.loop-peeked-preserved
-loop-peeked-preserved c = passes_more c.args.diagram.now c.args.moves.now c.loop-peeked.moves c.advance.new.self c.in-Some.peeked.m c.loop-peeked.invariant c.in-Some.ensures.0 c.advance.ensures (subst (λ (p : State). LeadsElsewhere c.args.diagram.now p c.in-Some.peeked.m) c.position-position.ensures (c.leads.ensures.away c.if-leads.false))
+loop-peeked-preserved c =
+    let more = passes_more c.args.diagram.now c.args.moves.now c.loop-peeked.moves c.advance.new.self c.in-Some.peeked.m c.loop-peeked.invariant c.in-Some.ensures.0 c.advance.ensures (subst (λ (p : State). LeadsElsewhere c.args.diagram.now p c.in-Some.peeked.m) c.position-position.ensures (c.leads.ensures.away c.if-leads.false)) in
+    passes_man c.args.diagram.now c.args.moves.now c.advance.new.self c.pass_man.new.moves c.in-Some.peeked.m.from more c.pass_man.ensures
+    (λ a last. last_from c.loop-peeked.moves c.advance.new.self c.in-Some.peeked.m a c.advance.ensures last)
+    (λ m from. subst (λ (p : State). LeadsElsewhere c.args.diagram.now p m) c.position-position.ensures
+    (λ q legal. from_elsewhere c.position-position.result c.args.diagram.now c.differing-squares.result c.differing-squares.ensures.differ c.differing-squares.ensures.position m (subst (λ r. has c.differing-squares.result r ≡ false) (sym from) (sym c.contains.ensures.value ∙ c.if-contains.false)) q legal))
 
 pub returns-clause-passed : goal.returns-clause-passed
 returns-clause-passed c = c.loop-peeked.invariant
