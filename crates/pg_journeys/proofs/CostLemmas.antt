@@ -32,27 +32,6 @@ use Rattle.pg_journeys.specs.inner.Costing.{count_of, IsFall, IsColumnCost, IsCo
 use Rattle.pg_journeys.specs.declared.plans.Side.{Side}
 
 -- ---- rows
--- where the number for a kind on the square at i stands
-pub place_read : (c : Color) (way : Option Wing) (k : Kind) (ss : List ℕ) (i at q s : ℕ) → at ≡ number_of_kind k * 64 + q → q ≡ counted c way (get_or ss i s) → i < length ss →
-    at ≡ number_of_kind k * 64 + counted c way (get_or ss i 0)
-place_read c way k ss i at q s e from low =
-    let a : counted c way (get_or ss i s) ≡ counted c way (get_or ss i 0) = ap (counted c way) (get_or_default ss i s 0 low) in
-    omega (arith, e, a, from)
-
-pub cell : (x : Side) (aims : List (List ℕ)) (way : Option Wing) (i j at fall n : ℕ) → at ≡ number_of_kind (kind_at x.men i) * 64 + counted x.ground.color way (square_at x.men i) →
-    IsFall x aims way i fall → (j < x.goals.count → n ≡ get_or (get_or aims j []) at 0) → (x.goals.count ≤ j → n ≡ fall) → IsColumnCost x aims way i j n
-cell x aims way i j at fall n e f comes falls = record {
-  comes = λ l. comes l ∙ ap (λ a. get_or (get_or aims j []) a 0) e;
-  falls = λ l. subst (λ y. IsFall x aims way i y) (sym (falls l)) f;
-}
-
-pub row_next : (x : Side) (aims : List (List ℕ)) (way : Option Wing) (i : ℕ) (row : List ℕ) (j m v : ℕ) → m ≡ j + 1 → j < length row → IsColumnCost x aims way i j v →
-    IsCostRow x aims way i row j → IsCostRow x aims way i (set row j v) m
-row_next x aims way i row j m v e low here before = λ q l. elim (eqb_tells q j) [
-  | inl w ↦ subst (λ b. IsColumnCost x aims way i b (get_or (set row j v) b 0)) (sym w.1) (subst (λ y. IsColumnCost x aims way i j y) (sym (get_or-set_same row j v 0 low)) here)
-  | inr w ↦ (let ne : q ≢ j = w.1 in subst (λ y. IsColumnCost x aims way i q y) (sym (get_or-set_other row j q v 0 ne)) (before q (omega arith)))
-]
-
 pub rows_next : (x : Side) (aims : List (List ℕ)) (way : Option Wing) (rows : List (List ℕ)) (row : List ℕ) (i m : ℕ) → m ≡ i + 1 → i < length rows →
     IsCostRow x aims way i row x.men.count → AreCostRows x aims way rows i → AreCostRows x aims way (set rows i row) m
 rows_next x aims way rows row i m e low here before = λ q l. elim (eqb_tells q i) [

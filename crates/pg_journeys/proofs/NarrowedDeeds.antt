@@ -3,7 +3,7 @@ use Rattle.std.proofs.Common.{◌≡◌, ◌≢◌, ℕ, ◌+◌, ◌<◌, ◌�
 use Rattle.std.proofs.Math.ListN.{set}
 use Rattle.std.proofs.lemmas.Bool.{cases_lt}
 use Rattle.std.proofs.lemmas.List.{get_or-set_same, get_or-set_other}
-use Rattle.pg_board.specs.Bits.{has}
+use Rattle.pg_board.specs.Bits.{has, has-none}
 use Rattle.pg_board.specs.Men.{other}
 use Rattle.pg_board.specs.Placement.{Placement}
 use Rattle.pg_board.specs.SquareSets.{IsSetOf, HasNoneFrom}
@@ -16,8 +16,8 @@ use Rattle.pg_journeys.specs.inner.Counting.{IsReach}
 use Rattle.pg_journeys.specs.inner.Sides.{facts_of, IsSide, AreAims, AreRooms}
 use Rattle.pg_journeys.specs.inner.Deeds.{Lands, FallsOn, Changes}
 use Rattle.pg_journeys.specs.inner.Narrowed.{TakesToSome, FallsBy, ChangesBy, IsFull, walker_of}
-use Rattle.pg_journeys.proofs.SiftedSets.{IsJoined, join_next, join_full}
-use Rattle.pg_journeys.proofs.NarrowedPlans.{LandsOf, FallsOf, IsAsked, IsReached, lands_known, falls_known, lands_found, lands_back, falls_found, falls_back, changes_found, changes_back}
+use Rattle.pg_journeys.proofs.SiftedSets.{IsJoined, join_next, join_none, join_full}
+use Rattle.pg_journeys.proofs.NarrowedPlans.{LandsOf, FallsOf, IsAsked, IsReached, lands_known, falls_known, lands_found, lands_back, falls_found, falls_back, changes_found, changes_back, lands_change, falls_change}
 
 -- the widest room is low, as each room is
 pub wide_low : (d : Placement) (x : Side) (quiet : Bool) (way : Option Wing) (most : ℕ) (rooms : List (List ℕ)) (i wide : ℕ) → AreRooms d x quiet way most rooms → i < x.men.count → most < 200 → ((n : ℕ) → ((e : ℕ) → e < 17 → get_or (get_or rooms i []) e 0 < 255 → get_or (get_or rooms i []) e 0 ≤ n) → wide ≤ n) → wide < 200
@@ -45,18 +45,35 @@ module _ (d : Placement) (x : Side) (quiet : Bool) (way : Option Wing) (most : �
       (λ q l t. falls_back d x quiet way most aims rooms i asked reach wide far q l (subst (λ (m : Walker). FallsBy x m.square reach (get_or (get_or rooms i []) 16 0) q) is t))
       (λ q l t. subst (λ (m : Walker). FallsBy x m.square reach (get_or (get_or rooms i []) 16 0) q) (sym is) (falls_found d x quiet way most aims rooms i asked reach wide far q l t)) h
 
-  -- where nothing new may be found, what was found stays
-  pub lands_stay : (old all : ℕ) → IsFull (landing x.ground.facts x.ground.color) all → IsJoined (LandsOf d x quiet way most) old i all → IsJoined (LandsOf d x quiet way most) old (i + 1) all
-  lands_stay old all full h = join_full (LandsOf d x quiet way most) old i all (λ q l t. full q l (lands_known d x quiet way most aims rooms i asked q l t)) h
-
-  pub falls_stay : (old all : ℕ) → (get_or (get_or rooms i []) 16 0 < 255 → IsFull (landing x.ground.facts (other x.ground.color)) all) → IsJoined (FallsOf d x quiet way most) old i all → IsJoined (FallsOf d x quiet way most) old (i + 1) all
-  falls_stay old all full h = join_full (FallsOf d x quiet way most) old i all (λ q l t. (let w : (get_or (get_or rooms i []) 16 0 < 255) × (has (landing x.ground.facts (other x.ground.color)) q ≡ true) = falls_known d x quiet way most aims rooms i asked q l t in full w.0 q l w.1)) h
-
   changes_is : (v : ℕ) → ((e : ℕ) → e < 17 → (has v e ≡ true) ↔ ((get_or (get_or rooms i []) e 0 < 255) × ChangesBy x man e (get_or aims e []) (get_or (get_or rooms i []) e 0))) → (e : ℕ) → e < 17 → (has v e ≡ true) ↔ Changes d x quiet way most i e
   changes_is v made e le = (
     λ t. changes_back d x quiet way most aims rooms i asked e le (subst (λ (m : Walker). (get_or (get_or rooms i []) e 0 < 255) × ChangesBy x m e (get_or aims e []) (get_or (get_or rooms i []) e 0)) is ((made e le).0 t)),
     λ t. (made e le).1 (subst (λ (m : Walker). (get_or (get_or rooms i []) e 0 < 255) × ChangesBy x m e (get_or aims e []) (get_or (get_or rooms i []) e 0)) (sym is) (changes_found d x quiet way most aims rooms i asked e le t)),
   )
+
+  -- who changes by no end
+  abbrev AreEnds : ℕ → Type 0
+  AreEnds v = (e : ℕ) → e < 17 → (has v e ≡ true) ↔ ((get_or (get_or rooms i []) e 0 < 255) × ChangesBy x man e (get_or aims e []) (get_or (get_or rooms i []) e 0))
+
+  no_change : (v : ℕ) → AreEnds v → v ≡ 0 → (w : (e : ℕ) × (e < 17) × Changes d x quiet way most i e) → ⊥
+  no_change v made none w =
+      let on : has v w.0 ≡ true = (changes_is v made w.0 w.1).1 w.2 in
+      let off : has v w.0 ≡ false = subst (λ (n : ℕ). has n w.0 ≡ false) (sym none) (has-none w.0) in
+      cc
+
+  -- where nothing new may be found, what was found stays
+  pub lands_stay : (v : ℕ) → AreEnds v → (old all : ℕ) → (v ≡ 0) ⊎ IsFull (landing x.ground.facts x.ground.color) all → IsJoined (LandsOf d x quiet way most) old i all → IsJoined (LandsOf d x quiet way most) old (i + 1) all
+  lands_stay v made old all (inl none) h = join_none (LandsOf d x quiet way most) old i all (λ q t. no_change v made none (lands_change d x quiet way most aims rooms i asked q t)) h
+  lands_stay v made old all (inr full) h = join_full (LandsOf d x quiet way most) old i all (λ q l t. full q l (lands_known d x quiet way most aims rooms i asked q l t)) h
+
+  pub falls_stay : (v : ℕ) → AreEnds v → (old all : ℕ) → (get_or (get_or rooms i []) 16 0 < 255 → (v ≡ 0) ⊎ IsFull (landing x.ground.facts (other x.ground.color)) all) → IsJoined (FallsOf d x quiet way most) old i all → IsJoined (FallsOf d x quiet way most) old (i + 1) all
+  falls_stay v made old all full h = join_full (FallsOf d x quiet way most) old i all
+      (λ q l t.
+      let w : (get_or (get_or rooms i []) 16 0 < 255) × (has (landing x.ground.facts (other x.ground.color)) q ≡ true) = falls_known d x quiet way most aims rooms i asked q l t in
+      elim (full w.0) [
+        | inl none ↦ absurd (no_change v made none (falls_change d x quiet way most aims rooms i asked q t))
+        | inr there ↦ there q l w.1
+      ]) h
 
   pub ends_next : (ends : List ℕ) (v : ℕ) → i < length ends → ((e : ℕ) → e < 17 → (has v e ≡ true) ↔ ((get_or (get_or rooms i []) e 0 < 255) × ChangesBy x man e (get_or aims e []) (get_or (get_or rooms i []) e 0))) → ((j e : ℕ) → j < i → e < 17 → (has (get_or ends j 0) e ≡ true) ↔ Changes d x quiet way most j e) → (j e : ℕ) → j < i + 1 → e < 17 → (has (get_or (set ends i v) j 0) e ≡ true) ↔ Changes d x quiet way most j e
   ends_next ends v low made before j e lj le = elim (cases_lt j i) [

@@ -335,6 +335,18 @@ module _ (d : Placement) (x : Side) (quiet : Bool) (way : Option Wing) (most : �
       let r : (room e < 255) × (weight (g.path square) ≤ room e) = asked.roomed.least i e g asked.low le paid end in
       (r.0, changed_by (g.fate square) (g.path square) e le r.0 r.1 end (meets_at g) (λ h. moves h))
 
+  -- who takes, or is captured, changes by some end
+  pub lands_change : (q : ℕ) → LandsOf d x quiet way most i q → (e : ℕ) × (e < 17) × Changes d x quiet way most i e
+  lands_change q (g, paid, take) =
+      let w : (e : ℕ) × (e < 17) × InEnd x.goals e (g.fate square) = end_of (g.fate square) (g.path square) (meets_at g) in
+      (w.0, w.1, (g, paid, w.2, λ h. (let z : false ≡ true = subst (λ (y : List Leg). HasTake (facts_of x) x.ground.color q y) h.1 take in cc)))
+
+  pub falls_change : (q : ℕ) → FallsOf d x quiet way most i q → (e : ℕ) × (e < 17) × Changes d x quiet way most i e
+  falls_change q (g, paid, e) = (16, omega arith, (g, paid, subst (λ (o : Fate). InEnd x.goals 16 o) (sym e) refl, λ h. no_fall (sym h.0 ∙ e)))
+    where
+      no_fall : Arrives square ≡ Falls q → ⊥
+      no_fall a = cc
+
   -- and back
   change_with : (e : ℕ) (o : Fate) (ls : List Leg) → e < 17 → InEnd x.goals e o → MeetsAt d x way i ls o → room e < 255 → weight ls ≤ room e → (o ≡ Arrives square → ls ≡ [] → ⊥) → Changes d x quiet way most i e
   change_with e o ls le end meets some fits moves =

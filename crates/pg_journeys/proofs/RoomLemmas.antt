@@ -1,5 +1,6 @@
 -- How much the paths of each man may count in a plan. Leads to the contracts of `room`, `row`, `rows` and `rooms_of`.
 use Rattle.std.proofs.Common.{◌≡◌, ◌≢◌, ℕ, ◌+◌, ◌-◌, ◌<◌, ◌≤◌, ◌⊎◌, inl, inr, Option, Some, None, Bool, List, [], length, get_or, set, refl, sym, ap, subst, ◌∙◌, arith}
+use Rattle.std.proofs.lemmas.Bool.{cases_lt}
 use Rattle.std.proofs.lemmas.Bool.Decides.{eqb_tells}
 use Rattle.std.proofs.lemmas.List.{get_or-set_same, get_or-set_other}
 use Rattle.pg_board.specs.declared.man.Kind.{Kind}
@@ -150,6 +151,20 @@ row_next k least paid m i row n h e v r next long low few ends is wider before =
   where
     at_e : (q : ℕ) → q ≡ e → get_or (set row e r) q 0 ≡ r
     at_e q y = subst (λ (u : ℕ). get_or (set row e r) u 0 ≡ r) (sym y) (get_or-set_same row e r 0 (omega (arith, long, low)))
+
+-- a column that is not paid for tells nothing
+pub row_past : (k : Costs) (least : List (List ℕ)) (paid m i : ℕ) (row : List ℕ) (n h : ℕ) → h ≡ n + 1 → paid < at2 least i n → IsRoomRow k least paid m i row n → IsRoomRow k least paid m i row h
+row_past k least paid m i row n h next dear before = record {
+  small = before.small;
+  some = λ e l some.
+      let b : (j : ℕ) × (j < n) × EndsAt m j e × (at2 least i j ≤ paid) × (get_or row e 0 + at2 least i j ≡ paid + cost k i j) = before.some e l some in
+      let low : b.0 < n = b.1 in
+      (b.0, omega arith, b.2, b.3, b.4);
+  widest = λ e j l lj at le. elim (cases_lt j n) [
+    | inl less ↦ before.widest e j l less at le
+    | inr over ↦ absurd (let same : j ≡ n = omega arith in let cheap : at2 least i n ≤ paid = subst (λ (y : ℕ). at2 least i y ≤ paid) same le in omega arith)
+  ];
+}
 
 pub rows_next : (k : Costs) (least : List (List ℕ)) (paid m : ℕ) (rooms : List (List ℕ)) (row : List ℕ) (i h : ℕ) → h ≡ i + 1 → i < length rooms →
     IsRoomRow k least paid m i row k.size → AreRoomRows k least paid m rooms i → AreRoomRows k least paid m (set rooms i row) h

@@ -34,22 +34,19 @@ pub(crate) fn place(kind: Kind, square: Square) -> usize
     usize::from(kind.number()) * 64 + usize::from(square.index())
 }
 
-// The kinds of men in the order of their numbers.
-pub(crate) const KINDS: [Kind; 6] = [
-    Kind::Pawn,
-    Kind::Knight,
-    Kind::Bishop,
-    Kind::Rook,
-    Kind::Queen,
-    Kind::King,
-];
-
-// The kind with a number.
+// The kind with a number. By cases: a table of them is laid on the stack at each look.
 pub(crate) fn kind_with(number: usize) -> Kind
     requires { number < 6 }
     ensures { number_of_kind result ≡ number }
 {
-    KINDS[number]
+    match number {
+        0 => Kind::Pawn,
+        1 => Kind::Knight,
+        2 => Kind::Bishop,
+        3 => Kind::Rook,
+        4 => Kind::Queen,
+        _ => Kind::King,
+    }
 }
 
 // Writes the number for a man on a square.

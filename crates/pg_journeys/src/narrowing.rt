@@ -238,13 +238,17 @@ fn man_of(side: &Side, is_quiet: bool, way: Option<Wing>, i: usize) -> Walker
     }
 }
 
-// Whether a man may capture, or be captured within a room, on a square that was not found yet. Where not, his paths tell
-// nothing new.
-fn may_find(side: &Side, room: u8, lands: SquareSet, falls: SquareSet) -> bool
-    ensures lands { result ≡ false → IsFull (landing side.now.ground.facts side.now.ground.color) lands }
+// Whether a man who changes by these ends may capture, or be captured within a room, on a square that was not found yet.
+// Where not, his paths tell nothing new; most men change by no end, so that comes first.
+fn may_find(side: &Side, ends: u32, room: u8, lands: SquareSet, falls: SquareSet) -> bool
+    ensures lands { result ≡ false →
+        (ends ≡ 0) ⊎ IsFull (landing side.now.ground.facts side.now.ground.color) lands }
     ensures falls { result ≡ false → room < 255 →
-        IsFull (landing side.now.ground.facts (other side.now.ground.color)) falls }
+        (ends ≡ 0) ⊎ IsFull (landing side.now.ground.facts (other side.now.ground.color)) falls }
 {
+    if ends == 0 {
+        return false;
+    }
     let new_lands = side.ground.lands() - lands;
     let new_falls = side.ground.theirs() - falls;
     !new_lands.is_empty() || (room < 255 && !new_falls.is_empty())
@@ -270,8 +274,9 @@ pub(crate) fn deeds_of(
     let aims = &measured.aims;
     for i in 0..side.men.count {
         let man = man_of(side, is_quiet, way, i);
-        ends[i] = ends_of(side, &man, aims, &rooms[i]);
-        if may_find(side, rooms[i][16], lands, falls) {
+        let own = ends_of(side, &man, aims, &rooms[i]);
+        ends[i] = own;
+        if may_find(side, own, rooms[i][16], lands, falls) {
             let wide = widest(&rooms[i]);
             let reach = reach_of(&side.ground, is_quiet, man.kind, man.from, wide);
             lands = lands_of(&reach, aims, &rooms[i], lands);

@@ -146,24 +146,12 @@ fn fall(side: &Side, aims: &Aims, way: Option<Wing>, i: usize) -> u8
     }
 }
 
-// What a column counts at least for a man: what stands at his place, or so much for being captured.
-fn column_cost(side: &Side, aims: &Aims, at: usize, j: usize, fall: u8) -> u8
-    requires place { at < 384 }
-    requires column { j < 16 }
-    ensures comes { j < side.now.goals.count → result ≡ get_or (get_or aims.now j []) at 0 }
-    ensures falls { side.now.goals.count ≤ j → result ≡ fall }
-{
-    if j < side.goals.count {
-        aims[j][at]
-    } else {
-        fall
-    }
-}
-
-// What each fate of a man counts at least: to become each man of the diagram, and to be captured.
+// What each fate of a man counts at least: to become each man of the diagram, and then to be captured. Two loops, since a
+// test of each column costs as much as all else.
 fn row(side: &Side, aims: &Aims, way: Option<Wing>, i: usize) -> [u8; 16]
     requires man { i < 16 }
     requires few { side.now.men.count ≤ 16 }
+    requires room { side.now.goals.count ≤ side.now.men.count }
     ensures { IsCostRow side.now aims.now way i result side.now.men.count }
 {
     let at = place(
@@ -172,8 +160,11 @@ fn row(side: &Side, aims: &Aims, way: Option<Wing>, i: usize) -> [u8; 16]
     );
     let fall = fall(side, aims, way, i);
     let mut row = [255u8; 16];
-    for j in 0..side.men.count {
-        row[j] = column_cost(side, aims, at, j, fall);
+    for j in 0..side.goals.count {
+        row[j] = aims[j][at];
+    }
+    for k in side.goals.count..side.men.count {
+        row[k] = fall;
     }
     row
 }

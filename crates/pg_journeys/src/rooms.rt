@@ -62,8 +62,11 @@ fn row(costs: &Costs, goals: usize, least: &[[u16; 16]; 16], paid: u16, i: usize
 {
     let mut rooms = [255u8; 17];
     for j in 0..costs.size {
-        let end = end_of(goals, j);
-        rooms[end] = wider(rooms[end], room(costs, least, paid, i, j));
+        let total = least[i][j];
+        if total <= paid {
+            let end = end_of(goals, j);
+            rooms[end] = wider(rooms[end], room(costs, least, paid, i, j));
+        }
     }
     rooms
 }

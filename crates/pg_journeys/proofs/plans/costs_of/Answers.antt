@@ -9,6 +9,9 @@ row-requires-clause-man c = omega (arith, c.requires.side.1.men.few, c.loop-i-te
 pub row-requires-clause-few : goal.row-requires-clause-few
 row-requires-clause-few c = c.requires.side.1.men.few
 
+pub row-requires-clause-room : goal.row-requires-clause-room
+row-requires-clause-room c = c.requires.side.1.room
+
 pub loop-i-preserved : goal.loop-i-preserved
 loop-i-preserved c = record {
   long = length-set c.loop-i.rows c.loop-i.i c.row.result ∙ c.loop-i.invariant.long;

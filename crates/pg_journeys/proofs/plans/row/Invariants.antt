@@ -4,3 +4,6 @@ use Rattle.pg_journeys.proofs.plans.row.Given as goal
 
 abbrev pub invariant-loop-j : goal.invariant-loop-j
 invariant-loop-j l = record { long : length l.row ≡ 16; is : IsCostRow l.side l.aims l.fn.way l.i l.row l.j }
+
+abbrev pub invariant-loop-k : goal.invariant-loop-k
+invariant-loop-k l = record { long : length l.row ≡ 16; is : IsCostRow l.side l.aims l.fn.way l.i l.row l.k }
