@@ -6,7 +6,7 @@ use Rattle.pg_board.specs.Placement.{get}
 use Rattle.pg_position.specs.declared.state.State.{State}
 use Rattle.pg_position.specs.declared.moves.Move.{Move}
 use Rattle.pg_board.specs.SquareSets.{HasNoneFrom, IsFirstFrom}
-use Rattle.pg_moves.specs.Left.{MovesLeft, IsFound, IsPeeked, IsManDone, IsNextOfMan, men_from}
+use Rattle.pg_moves.specs.Left.{MovesLeft, IsPeeked, IsManDone, IsNextOfMan, men_from}
 use Rattle.pg_moves.specs.inner.Sources.{IsSource, IsToldSource}
 use Rattle.pg_moves.specs.declared.cursor.Peeked.{Peeked}
 use Rattle.pg_moves.specs.Moves.{promotion_number, IsNext, IsLast}
@@ -40,20 +40,6 @@ pub own_there : (p : State) (r : ℕ) (s : Source) → IsSource p r s → IsOwn 
 unfolding IsSource IsOwn
 own_there p r s h = (s.kind, h.0)
 
--- ---- the men from a square on
-module _ (p : State) (set from : ℕ) (own : (q : ℕ) → q < 64 → has set q ≡ is_of p.side (get p.board q)) (at s : ℕ) (le : from ≤ at) (none : NoneFrom p (place_of from 0 0) (place_of at 0 0)) where
-  pub beyond_found : (m : Move) (source : Source) → IsFirstFrom set at s → IsFirstMove p (place_of s 0 0) (place_of (s + 1) 0 0) m → IsToldSource p s source → IsFound p (place_of from 0 0) m source
-  beyond_found m source first found is = record {
-    first = own_found p set from 0 0 own at s 0 0 m le none first (λ _. refl) (λ _. refl) (λ _. refl) (λ _. refl) (omega arith) (omega arith) found;
-    source = source_there p s 0 0 m source (omega arith) found is;
-  }
-
-  pub beyond_next : (k : ℕ) → IsFirstFrom set at s → NoneFrom p (place_of s 0 0) (place_of (s + 1) 0 0) → k ≡ s → NoneFrom p (place_of from 0 0) (place_of (k + 1) 0 0)
-  beyond_next k first rest e = own_next p set from 0 0 own at s 0 0 k le none first (λ _. refl) (λ _. refl) (λ _. refl) (λ _. refl) (omega arith) (omega arith) rest e
-
-pub beyond_end : (p : State) (set from at : ℕ) → ((q : ℕ) → q < 64 → has set q ≡ is_of p.side (get p.board q)) → at ≤ 64 → NoneFrom p (place_of from 0 0) (place_of at 0 0) → HasNoneFrom set at → NoneFrom p (place_of from 0 0) 28672
-beyond_end p set from at own le none rest = own_end p set from 0 0 own at le none rest
-
 -- ---- after a move
 module _ (p : State) (last : Move) (from : last.from < 64) (to : last.to < 64) (low next : ℕ) (at : low ≡ place last + 1) (beyond : next ≡ place_of (last.from + 1) 0 0) where
   ends : promotion_number last.promotion < 7
@@ -67,14 +53,6 @@ module _ (p : State) (last : Move) (from : last.from < 64) (to : last.to < 64) (
 
   pub next_over : NoneFrom p low (place_of (last.from + 1) 0 0) → NoneFrom p next 28672 → IsLast p (Some last)
   next_over none rest = next_none p (Some last) (from, to) (none_then p (place last + 1) next next 28672 (none_then p (place last + 1) (place last + 1) low next (none_yet p _ _ (omega arith)) (subst (λ n. NoneFrom p low n) (sym beyond) none) (omega arith)) rest (omega arith))
-
-  pub past_man : (r : Option Peeked) → NoneFrom p low (place_of (last.from + 1) 0 0) → MatchOption r (NoneFrom p next 28672) (λ a. IsFirstMove p next 28672 a.m × IsPeeked p a) → MatchOption r (IsLast p (Some last)) (λ a. IsNext p (Some last) a.m × IsPeeked p a)
-  past_man None none rest = next_over none rest
-  past_man (Some a) none first = (next_other a.m none first.0, first.1)
-
-pub first_of : (p : State) (r : Option Peeked) → MatchOption r (NoneFrom p 0 28672) (λ a. IsFirstMove p 0 28672 a.m × IsPeeked p a) → MatchOption r (IsLast p None) (λ a. IsNext p None a.m × IsPeeked p a)
-first_of p None none = next_none p None tt none
-first_of p (Some a) first = (next_found p None a.m tt first.0, first.1)
 
 -- ---- the answer, by what is seen of the moves
 ahead_here : (p : State) (l last : Option Move) (r : Option Peeked) → l ≡ last
@@ -113,23 +91,12 @@ man_next p None m h = absurd h
 man_next p (Some a) m h = h.0
 
 -- the first move of the men beyond is the next one, and none of theirs is none at all
-module _ (p : State) (from : ℕ) (le : from ≤ 64) where
-  beyond_is : (last : Option Move) (m : Move) → from ≡ men_from last → IsManDone p last → IsFirstMove p (place_of from 0 0) 28672 m → IsNext p last m
-  unfolding IsManDone
-  beyond_is None m e d f = next_found p None m tt (subst (λ x. IsFirstMove p (place_of x 0 0) 28672 m) e f)
-  beyond_is (Some a) m e d f = next_other p a d.0.0 d.0.1 (place a + 1) (place_of from 0 0) refl (ap (λ x. place_of x 0 0) e) m d.1 f
+pub beyond_is : (p : State) (last : Option Move) (m : Move) → IsManDone p last → IsFirstMove p (place_of (men_from last) 0 0) 28672 m → IsNext p last m
+unfolding IsManDone
+beyond_is p None m d f = next_found p None m tt f
+beyond_is p (Some a) m d f = next_other p a d.0.0 d.0.1 (place a + 1) (place_of (a.from + 1) 0 0) refl refl m d.1 f
 
-  beyond_none : (last : Option Move) → from ≡ men_from last → IsManDone p last → NoneFrom p (place_of from 0 0) 28672 → IsLast p last
-  unfolding IsManDone
-  beyond_none None e d none = next_none p None tt (subst (λ x. NoneFrom p (place_of x 0 0) 28672) e none)
-  beyond_none (Some a) e d none = next_over p a d.0.0 d.0.1 (place a + 1) (place_of from 0 0) refl (ap (λ x. place_of x 0 0) e) d.1 none
-
-module _ (q : MovesLeft) (p : State) (l : Option Move) (from : ℕ) (is : record { position = p; last = l } ≡ q) (le : from ≤ 64) (e : from ≡ men_from q.last) (done : IsManDone q.position q.last) where
-  at_position : p ≡ q.position
-  at_position = ap (λ (v : MovesLeft). v.position) is
-
-  pub beyond_next_is : (m : Move) → IsFirstMove p (place_of from 0 0) 28672 m → IsNext q.position q.last m
-  beyond_next_is m f = beyond_is q.position from le q.last m e done (subst (λ (s : State). IsFirstMove s (place_of from 0 0) 28672 m) at_position f)
-
-  pub beyond_over : NoneFrom p (place_of from 0 0) 28672 → IsLast q.position q.last
-  beyond_over none = beyond_none q.position from le q.last e done (subst (λ (s : State). NoneFrom s (place_of from 0 0) 28672) at_position none)
+pub beyond_none : (p : State) (last : Option Move) → IsManDone p last → NoneFrom p (place_of (men_from last) 0 0) 28672 → IsLast p last
+unfolding IsManDone
+beyond_none p None d none = next_none p None tt none
+beyond_none p (Some a) d none = next_over p a d.0.0 d.0.1 (place a + 1) (place_of (a.from + 1) 0 0) refl refl d.1 none

@@ -28,3 +28,5 @@ pub mod CastleLemmas
 pub mod StepsLemmas
 pub mod RestLemmas
 pub mod StepLemmas
+pub mod TurnLemmas
+pub mod MenLemmas

@@ -89,10 +89,10 @@ one_more p t u n k s c on off more here rest = record {
 abbrev pub IsWithout : ℕ → ℕ → ℕ → Type 0
 IsWithout old new o = (q : ℕ) → q < 64 → has new q ≡ cond (nat_eq q o) false (has old q)
 
-gone : (old new o q : ℕ) → IsWithout old new o → q < 64 → q ≡ o → has new q ≡ false
+pub gone : (old new o q : ℕ) → IsWithout old new o → q < 64 → q ≡ o → has new q ≡ false
 gone old new o q rest l e = elim (eqb_tells q o) [ inl w ↦ rest q l ∙ ap (λ (x : Bool). cond x false (has old q)) w.0 | inr w ↦ absurd (w.1 e) ]
 
-stays : (old new o q : ℕ) → IsWithout old new o → q < 64 → q ≢ o → has new q ≡ has old q
+pub stays : (old new o q : ℕ) → IsWithout old new o → q < 64 → q ≢ o → has new q ≡ has old q
 stays old new o q rest l ne = elim (eqb_tells q o) [ inl w ↦ absurd (ne w.1) | inr w ↦ rest q l ∙ ap (λ (x : Bool). cond x false (has old q)) w.0 ]
 
 -- fewer are left

@@ -7,12 +7,14 @@ use Rattle.pg_board.proofs.SetLemmas.{set_none, set_of_rest, set_like}
 use Rattle.pg_position.specs.declared.state.State.{State}
 use Rattle.pg_position.specs.declared.moves.Move.{Move}
 use Rattle.pg_position.specs.Step.{IsLegal, IsOnBoard}
-use Rattle.pg_moves.specs.Left.{MovesLeft, IsReady, IsManDone, IsNextOfMan, IsRest, IsRestOf, IsOneByOne}
+use Rattle.pg_moves.specs.Left.{MovesLeft, IsReady, IsTurn, IsManDone, IsNextOfMan, IsRest, IsRestOf, IsOneByOne}
 use Rattle.pg_moves.specs.inner.Places.{place, place_of, IsFirstMove}
 use Rattle.pg_moves.specs.inner.Sources.{IsToldSource, IsExact}
-use Rattle.pg_moves.specs.inner.Steps.{AreFreePawns}
+use Rattle.pg_moves.specs.inner.Men.{AreToCome}
+use Rattle.pg_moves.specs.declared.men.Men.{Men}
+use Rattle.pg_moves.specs.declared.turns.Turn.{Turn}
 use Rattle.pg_moves.specs.Moves.{promotion_number, IsBefore}
-use Rattle.pg_moves.specs.Targets.{FreeOff, plain_move}
+use Rattle.pg_moves.specs.Targets.{plain_move}
 use Rattle.pg_moves.specs.declared.sources.Source.{Source}
 use Rattle.pg_moves.proofs.ListLemmas.{on_board}
 use Rattle.pg_moves.proofs.PlaceLemmas.{move_cmp_total, promotion_low, place_less}
@@ -137,39 +139,46 @@ module _ (p : State) (a : Move) (rest : ℕ) (from : a.from < 64) (to : a.to < 6
   )
 
 -- ---- what is known past a move
-pub ready_found : (q : MovesLeft) (p : State) (l : Option Move) (m : Move) (maybe_pinned quiet rest : ℕ) (s : Source) → record { position = p; last = l } ≡ q
-    → FreeOff q.position maybe_pinned → AreFreePawns q.position quiet → IsToldSource q.position m.from s → m.to < 64 → IsSetOf rest (λ t. (has s.set t ≡ true) × (m.to < t)) → IsReady p (Some m) maybe_pinned quiet rest s
-unfolding IsReady IsToldSource
-ready_found q p l m maybe_pinned quiet rest s is free calm source to past =
-    subst (λ (v : MovesLeft). IsReady v.position (Some m) maybe_pinned quiet rest s) (sym is)
-    (free, calm, source, λ e. rest_is q.position m s.set rest to (source.1 e) past)
+pub turn_past : (p : State) (m : Move) (left rest : ℕ) (s : Source) (last : Option Move) → AreToCome p (m.from + 1) left → IsToldSource p m.from s → m.to < 64 → IsSetOf rest (λ t. (has s.set t ≡ true) × (m.to < t))
+    → IsTurn p m (record { left = left; rest = rest; source = s; last = last })
+unfolding IsToldSource
+turn_past p m left rest s last come source to past = record { to_come = come; source = source; rest = λ e. rest_is p m s.set rest to (source.1 e) past }
 
-ready_past : (p : State) (last : Option Move) (m : Move) (maybe_pinned quiet old rest : ℕ) (s : Source) → IsReady p last maybe_pinned quiet old s → IsNextOfMan p last m → IsSetOf rest (λ t. (has old t ≡ true) × (m.to < t)) → IsReady p (Some m) maybe_pinned quiet rest s
+ready_past : (p : State) (last : Option Move) (m : Move) (men : Men) (t : Turn) (rest : ℕ) → IsReady p last men t → IsNextOfMan p last m → IsSetOf rest (λ q. (has t.rest q ≡ true) × (m.to < q))
+    → IsReady p (Some m) men (record { left = t.left; rest = rest; source = t.source; last = Some m })
 unfolding IsReady IsNextOfMan
-ready_past p None m maybe_pinned quiet old rest s h n past = absurd n
-ready_past p (Some a) m maybe_pinned quiet old rest s h n past = (h.0, h.1, subst (λ (x : ℕ). IsToldSource p x s) (sym n.1) h.2, λ e. rest_on p a m old rest (h.3 e) n.0.legal n.0.past n.1 past)
+ready_past p None m men t rest h n past = absurd n
+ready_past p (Some a) m men t rest h n past = (
+  h.0,
+  record {
+    to_come = subst (λ (x : ℕ). AreToCome p (x + 1) t.left) (sym n.1) h.1.to_come;
+    source = subst (λ (x : ℕ). IsToldSource p x t.source) (sym n.1) h.1.source;
+    rest = λ e. rest_on p a m t.rest rest (h.1.rest e) n.0.legal n.0.past n.1 past;
+  },
+)
 
-pub ready_on : (q : MovesLeft) (p : State) (l : Option Move) (m : Move) (maybe_pinned quiet old rest : ℕ) (s : Source) → record { position = p; last = l } ≡ q → IsReady p l maybe_pinned quiet old s → IsNextOfMan q.position q.last m → IsSetOf rest (λ t. (has old t ≡ true) × (m.to < t)) → IsReady p (Some m) maybe_pinned quiet rest s
-ready_on q p l m maybe_pinned quiet old rest s is h next past = ready_past p l m maybe_pinned quiet old rest s h (subst (λ (v : MovesLeft). IsNextOfMan v.position v.last m) (sym is) next) past
+pub ready_on : (q : MovesLeft) (p : State) (l : Option Move) (m : Move) (men : Men) (t : Turn) (rest : ℕ) → record { position = p; last = l } ≡ q → IsReady p l men t → IsNextOfMan q.position q.last m → IsSetOf rest (λ q. (has t.rest q ≡ true) × (m.to < q))
+    → IsReady p (Some m) men (record { left = t.left; rest = rest; source = t.source; last = Some m })
+ready_on q p l m men t rest is h next past = ready_past p l m men t rest h (subst (λ (v : MovesLeft). IsNextOfMan v.position v.last m) (sym is) next) past
 
 -- ---- all further moves of the man
-rest_ready : (p : State) (l : Option Move) (a : Move) (maybe_pinned quiet rest : ℕ) (s : Source) → l ≡ Some a → IsReady p l maybe_pinned quiet rest s → s.exact ≡ true → IsRest p l rest
+rest_ready : (p : State) (l : Option Move) (a : Move) (men : Men) (t : Turn) → l ≡ Some a → IsReady p l men t → t.source.exact ≡ true → IsRest p l t.rest
 unfolding IsReady IsRest
-rest_ready p l a maybe_pinned quiet rest s e ready exact =
-    let here : IsReady p (Some a) maybe_pinned quiet rest s = subst (λ (x : Option Move). IsReady p x maybe_pinned quiet rest s) e ready in
-    subst (λ (x : Option Move). IsRest p x rest) (sym e) (here.3 exact)
+rest_ready p l a men t e ready exact =
+    let here : IsReady p (Some a) men t = subst (λ (x : Option Move). IsReady p x men t) e ready in
+    subst (λ (x : Option Move). IsRest p x t.rest) (sym e) (here.1.rest exact)
 
-pub rest_at : (q : MovesLeft) (p : State) (l : Option Move) (a : Move) (maybe_pinned quiet rest : ℕ) (s : Source) → record { position = p; last = l } ≡ q → l ≡ Some a → IsReady p l maybe_pinned quiet rest s → s.exact ≡ true → IsRest q.position q.last rest
-rest_at q p l a maybe_pinned quiet rest s is e ready exact = subst (λ (v : MovesLeft). IsRest v.position v.last rest) is (rest_ready p l a maybe_pinned quiet rest s e ready exact)
+pub rest_at : (q : MovesLeft) (p : State) (l : Option Move) (a : Move) (men : Men) (t : Turn) → record { position = p; last = l } ≡ q → l ≡ Some a → IsReady p l men t → t.source.exact ≡ true → IsRest q.position q.last t.rest
+rest_at q p l a men t is e ready exact = subst (λ (v : MovesLeft). IsRest v.position v.last t.rest) is (rest_ready p l a men t e ready exact)
 
-tried_ready : (p : State) (l : Option Move) (a : Move) (maybe_pinned quiet rest : ℕ) (s : Source) → l ≡ Some a → IsReady p l maybe_pinned quiet rest s → s.exact ≡ false → IsOneByOne p l
+tried_ready : (p : State) (l : Option Move) (a : Move) (men : Men) (t : Turn) → l ≡ Some a → IsReady p l men t → t.source.exact ≡ false → IsOneByOne p l
 unfolding IsReady IsToldSource IsOneByOne
-tried_ready p l a maybe_pinned quiet rest s e ready tried =
-    let here : IsReady p (Some a) maybe_pinned quiet rest s = subst (λ (x : Option Move). IsReady p x maybe_pinned quiet rest s) e ready in
-    subst (λ (x : Option Move). IsOneByOne p x) (sym e) ((here.2.2 tried).1)
+tried_ready p l a men t e ready tried =
+    let here : IsReady p (Some a) men t = subst (λ (x : Option Move). IsReady p x men t) e ready in
+    subst (λ (x : Option Move). IsOneByOne p x) (sym e) ((here.1.source.2 tried).1)
 
-pub tried_at : (q : MovesLeft) (p : State) (l : Option Move) (a : Move) (maybe_pinned quiet rest : ℕ) (s : Source) → record { position = p; last = l } ≡ q → l ≡ Some a → IsReady p l maybe_pinned quiet rest s → s.exact ≡ false → IsOneByOne q.position q.last
-tried_at q p l a maybe_pinned quiet rest s is e ready tried = subst (λ (v : MovesLeft). IsOneByOne v.position v.last) is (tried_ready p l a maybe_pinned quiet rest s e ready tried)
+pub tried_at : (q : MovesLeft) (p : State) (l : Option Move) (a : Move) (men : Men) (t : Turn) → record { position = p; last = l } ≡ q → l ≡ Some a → IsReady p l men t → t.source.exact ≡ false → IsOneByOne q.position q.last
+tried_at q p l a men t is e ready tried = subst (λ (v : MovesLeft). IsOneByOne v.position v.last) is (tried_ready p l a men t e ready tried)
 
 pub tried_none : (q : MovesLeft) (p : State) (l : Option Move) → record { position = p; last = l } ≡ q → l ≡ None → IsOneByOne q.position q.last
 unfolding IsOneByOne
@@ -182,15 +191,17 @@ over p a old all to h are last = set_none (λ q l g.
     let off : has all q ≡ false = last.after q g.1 in
     cc)
 
-skipped : (p : State) (a : Move) (all to maybe_pinned quiet old : ℕ) (s : Source) → IsReady p (Some a) maybe_pinned quiet old s → IsRestOf p a all → IsLastIn all to → IsReady p (Some (plain_move a.from to)) maybe_pinned quiet 0 s
+skipped : (p : State) (a : Move) (all to : ℕ) (men : Men) (t : Turn) → IsReady p (Some a) men t → IsRestOf p a all → IsLastIn all to
+    → IsReady p (Some (plain_move a.from to)) men (record { left = t.left; rest = 0; source = t.source; last = Some (plain_move a.from to) })
 unfolding IsReady
-skipped p a all to maybe_pinned quiet old s h are last =
+skipped p a all to men t h are last =
     let g : IsLegal p (plain_move a.from to) × IsBefore a (plain_move a.from to) = (are.squares to last.on_board).0 last.member in
-    (h.0, h.1, h.2, λ e. rest_on p a (plain_move a.from to) old 0 (h.3 e) g.0 g.1 refl (over p a old all to (h.3 e) are last))
+    (h.0, record { to_come = h.1.to_come; source = h.1.source; rest = λ e. rest_on p a (plain_move a.from to) t.rest 0 (h.1.rest e) g.0 g.1 refl (over p a t.rest all to (h.1.rest e) are last) })
 
-pub ready_skipped : (q : MovesLeft) (p : State) (l : Option Move) (a : Move) (all to maybe_pinned quiet old rest : ℕ) (s : Source) → record { position = p; last = l } ≡ q → l ≡ Some a → IsReady p l maybe_pinned quiet old s → IsRest q.position q.last all → IsLastIn all to → rest ≡ 0 → IsReady p (Some (plain_move a.from to)) maybe_pinned quiet rest s
+pub ready_skipped : (q : MovesLeft) (p : State) (l : Option Move) (a : Move) (all to rest : ℕ) (men : Men) (t : Turn) → record { position = p; last = l } ≡ q → l ≡ Some a → IsReady p l men t → IsRest q.position q.last all → IsLastIn all to → rest ≡ 0
+    → IsReady p (Some (plain_move a.from to)) men (record { left = t.left; rest = rest; source = t.source; last = Some (plain_move a.from to) })
 unfolding IsRest
-ready_skipped q p l a all to maybe_pinned quiet old rest s is e ready are last none =
+ready_skipped q p l a all to rest men t is e ready are last none =
     let there : IsRest p l all = subst (λ (v : MovesLeft). IsRest v.position v.last all) (sym is) are in
-    let done : IsReady p (Some (plain_move a.from to)) maybe_pinned quiet 0 s = skipped p a all to maybe_pinned quiet old s (subst (λ (x : Option Move). IsReady p x maybe_pinned quiet old s) e ready) (subst (λ (x : Option Move). IsRest p x all) e there) last in
-    subst (λ (x : ℕ). IsReady p (Some (plain_move a.from to)) maybe_pinned quiet x s) (sym none) done
+    let done = skipped p a all to men t (subst (λ (x : Option Move). IsReady p x men t) e ready) (subst (λ (x : Option Move). IsRest p x all) e there) last in
+    subst (λ (x : ℕ). IsReady p (Some (plain_move a.from to)) men (record { left = t.left; rest = x; source = t.source; last = Some (plain_move a.from to) })) (sym none) done

@@ -15,7 +15,7 @@ use Rattle.pg_position.specs.Position.{IsVacant, IsPosition, PawnsClause, Stands
 use Rattle.pg_position.specs.Squares.{HasAhead, ahead, home_rank}
 use Rattle.pg_position.specs.Step.{Goes}
 use Rattle.pg_moves.specs.inner.Pawns.{forward, IsInside}
-use Rattle.pg_moves.specs.inner.Steps.{leap_rank, StepsTo, IsFreePawn}
+use Rattle.pg_moves.specs.inner.Steps.{leap_rank, StepsTo}
 use Rattle.pg_moves.specs.Targets.{Strides, Leaps, Advances, CapturesEnPassant, FreeOff}
 use Rattle.pg_moves.proofs.ShiftLemmas.{itself}
 use Rattle.pg_moves.proofs.TargetLemmas.{enemy_set, held_set, front_set, advance_pawn}
@@ -104,37 +104,3 @@ strides_set b c r reached enemies taken once n x e both is either = set_like n
 
 pub advances_set : (b : Placement) (c : Color) (r reached enemies taken once near twice n : ℕ) → IsSetOf reached (Reaches b c Pawn r) → ((q : ℕ) → q < 64 → has enemies q ≡ is_of (other c) (get b q)) → ((q : ℕ) → has taken q ≡ has reached q && has enemies q) → IsSetOf once (StepsTo b c r) → ((q : ℕ) → has near q ≡ has taken q || has once q) → IsSetOf twice (Leaps b c r) → ((q : ℕ) → has n q ≡ has near q || has twice q) → IsSetOf n (Advances b c Pawn r)
 advances_set b c r reached enemies taken once near twice n x e both is either leaps all = advance_pawn b c Pawn r near twice n refl (strides_set b c r reached enemies taken once near x e both is either) leaps all
-
--- ---- pawns that are free
-pub free_pawn : (p : State) (b : Placement) (c o : Color) (pawn : Man) (pawns maybe_pinned passing home sure plain quiet_ones : ℕ) → b ≡ p.board → c ≡ p.side → pawn ≡ man c Pawn → o ≡ other c
-    → IsPosition p → FreeOff p maybe_pinned
-    → ((q : ℕ) → q < 64 → has sure q ≡ has pawns q && not (has maybe_pinned q))
-    → ((q : ℕ) → q < 64 → has plain q ≡ has sure q && not (has passing q))
-    → ((q : ℕ) → q < 64 → has quiet_ones q ≡ has plain q && not (has home q))
-    → ((q : ℕ) → q < 64 → has pawns q ≡ is_man pawn (get b q))
-    → ((q s : ℕ) → q < 64 → s < 64 → CapturesEnPassant p q s → has passing q ≡ true)
-    → IsSetOf home (λ q. rank q ≡ home_rank o)
-    → (q : ℕ) → q < 64 → has quiet_ones q ≡ true → IsFreePawn p q
-unfolding PawnsClause
-free_pawn p b c o pawn pawns maybe_pinned passing home sure plain quiet_ones eb ec em eo pos free fit fits few are passed at q l e =
-    let far = out_of quiet_ones plain home q few l e in
-    let calm = out_of plain sure passing q fits l far.0 in
-    let off = out_of sure pawns maybe_pinned q fit l calm.0 in
-    let there : get b q ≡ Some (man c Pawn) = (is_man_decides (man c Pawn) (get b q)).0 (ap (λ (x : Man). is_man x (get b q)) (sym em) ∙ sym (are q l) ∙ off.0) in
-    let here : Stands p.board p.side Pawn q = subst (λ (d : Placement). Stands d p.side Pawn q) eb (subst (λ (d : Color). Stands b d Pawn q) ec there) in
-    let not_home : rank q ≢ home_rank (other p.side) = (λ f. (
-    let up : rank q ≡ home_rank o = f ∙ ap home_rank (sym (eo ∙ ap other ec)) in
-    let yes : has home q ≡ true = (at q l).1 up in
-    let no : has home q ≡ false = far.1 in
-    cc)) in
-    let edge : (rank q ≢ 1) × (rank q ≢ 8) = pos.pawns q p.side l here in
-    let none : IsSetOf 0 (CapturesEnPassant p q) = set_none (λ s k h. (
-    let yes : has passing q ≡ true = passed q s l k h in
-    let no : has passing q ≡ false = calm.1 in
-    cc)) in
-    record {
-      stands = here;
-      free = free_there p Pawn q maybe_pinned l here free off.1;
-      ordinary = pawn_ordinary p Pawn q 0 none (λ s _ _. has-none s) not_home;
-      inside = start p.side q l edge.0 edge.1 not_home;
-    }

@@ -1,5 +1,5 @@
 -- The legal moves that are left of a position, and what is known of the man that moved last.
-use Rattle.std.specs.Prelude.{◌≡◌, ℕ, ◌+◌, true, Option, Some, None, refl}
+use Rattle.std.specs.Prelude.{◌≡◌, ℕ, ◌+◌, Bool, true, false, Option, Some, None, refl}
 use Rattle.std.specs.Coded.{Coded, code_by, coded×, coded_option}
 use Rattle.pg_position.specs.declared.state.State.{State}
 use Rattle.pg_position.specs.declared.moves.Move.{Move}
@@ -7,13 +7,15 @@ use Rattle.pg_position.specs.contracts.state.State.{the_row as state_row}
 use Rattle.pg_position.specs.contracts.moves.Move.{the_row as move_row}
 use Rattle.pg_board.specs.SquareSets.{IsSetOf}
 use Rattle.pg_position.specs.Step.{IsLegal, IsOnBoard}
-use Rattle.pg_moves.specs.Moves.{IsNext, IsBefore}
+use Rattle.pg_moves.specs.Moves.{IsNext, IsLast, IsBefore}
 use Rattle.pg_moves.specs.inner.Places.{most_moves, place, place_of, NoneFrom, IsFirstMove}
 use Rattle.pg_moves.specs.inner.Sources.{IsSource, IsToldSource}
-use Rattle.pg_moves.specs.inner.Steps.{AreFreePawns}
+use Rattle.pg_moves.specs.inner.Men.{AreMen, AreToCome}
 use Rattle.pg_moves.specs.Targets.{FreeOff, IsTried, plain_move}
 use Rattle.pg_moves.specs.declared.cursor.Peeked.{Peeked}
+use Rattle.pg_moves.specs.declared.men.Men.{Men}
 use Rattle.pg_moves.specs.declared.sources.Source.{Source}
+use Rattle.pg_moves.specs.declared.turns.Turn.{Turn}
 
 -- a position, and the move that was handed out last
 pub record MovesLeft : Type 0 where
@@ -25,21 +27,35 @@ moves_left_code =
     code_by (State × Option Move) (coded× state_row.coded (coded_option move_row.coded))
     (λ a. (a.position, a.last)) (λ q. record { position = q.0; last = q.1 }) (λ _. refl)
 
--- the first legal move from a place on, and its man
-pub record IsFound (p : State) (low : ℕ) (m : Move) (s : Source) : Type 0 where
-  pub first : IsFirstMove p low most_moves m
-  pub source : IsToldSource p m.from s
-
 -- the set has the squares to which the man that made the move has legal moves past it, and he has no others past it
 pub record IsRestOf (p : State) (a : Move) (rest : ℕ) : Type 0 where
   pub squares : IsSetOf rest (λ q. IsLegal p (plain_move a.from q) × IsBefore a (plain_move a.from q))
   pub plain : (m : Move) → IsLegal p m → m.from ≡ a.from → IsBefore a m → m.promotion ≡ None
 
--- past a move what was found holds: where the man that made it goes to just the squares of his set, those of `rest` are left
-unfoldable pub IsReady : State → Option Move → ℕ → ℕ → ℕ → Source → Type 0
-IsReady p None maybe_pinned quiet rest s = Unit {0}
-IsReady p (Some m) maybe_pinned quiet rest s =
-    FreeOff p maybe_pinned × AreFreePawns p quiet × IsToldSource p m.from s × (s.exact ≡ true → IsRestOf p m rest)
+-- past a move what is kept holds: the men that did not yet move, the man that made it, and where he goes to just the squares of
+-- his set, those of them that are left
+pub record IsTurn (p : State) (m : Move) (t : Turn) : Type 0 where
+  pub to_come : AreToCome p (m.from + 1) t.left
+  pub source : IsToldSource p m.from t.source
+  pub rest : t.source.exact ≡ true → IsRestOf p m t.rest
+
+-- so it does past the move that was handed out last, and then what is kept of all men holds too
+unfoldable pub IsReady : State → Option Move → Men → Turn → Type 0
+IsReady p None men t = Unit {0}
+IsReady p (Some m) men t = AreMen p men × IsTurn p m t
+
+-- the first legal move from one place up to another is kept as the last one
+pub record IsBegun (p : State) (low high : ℕ) (t : Turn) : Type 0 where
+  pub move : Move
+  pub last : t.last ≡ Some move
+  pub first : IsFirstMove p low high move
+  pub source : IsToldSource p move.from t.source
+  pub rest : t.source.exact ≡ true → IsRestOf p move t.rest
+
+-- the man on r begins with his first legal move and these men are to come, or he has none and nothing changes
+unfoldable pub IsFirstOfMan : State → ℕ → ℕ → Turn → Turn → Bool → Type 0
+IsFirstOfMan p r set old new true = IsBegun p (place_of r 0 0) (place_of (r + 1) 0 0) new × (new.left ≡ set)
+IsFirstOfMan p r set old new false = (new ≡ old) × NoneFrom p (place_of r 0 0) (place_of (r + 1) 0 0)
 
 -- what was found for a move ahead holds past it
 unfoldable pub IsPeeked : State → Peeked → Type 0
@@ -74,3 +90,14 @@ to_square (Some a) s = Some (plain_move a.from s)
 unfoldable pub IsOneByOne : State → Option Move → Type 0
 IsOneByOne p None = Unit {0}
 IsOneByOne p (Some a) = IsTried p a.from
+
+-- the first legal move of the men that did not yet move is kept as the last one, with what holds past it; or they have none and nothing
+-- changes
+unfoldable pub IsFirstOfAll : State → Turn → Turn → Bool → Type 0
+IsFirstOfAll p old new true = (m : Move) × (new.last ≡ Some m) × IsFirstMove p (place_of (men_from old.last) 0 0) most_moves m × IsTurn p m new
+IsFirstOfAll p old new false = (new ≡ old) × NoneFrom p (place_of (men_from old.last) 0 0) most_moves
+
+-- the next legal move is handed out, or there is none and nothing changes
+unfoldable pub IsHandedOut : MovesLeft → MovesLeft → Bool → Type 0
+IsHandedOut old new true = (m : Move) × IsNext old.position old.last m × (new ≡ record { position = old.position; last = Some m })
+IsHandedOut old new false = IsLast old.position old.last × (new ≡ old)

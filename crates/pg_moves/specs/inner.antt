@@ -4,3 +4,4 @@ pub mod Sources
 pub mod Parries
 pub mod Steps
 pub mod Guards
+pub mod Men

@@ -1,19 +1,17 @@
 //! The legal moves of a position, one after the other.
-ghost use Rattle.std.specs.Prelude.{◌≡◌, ℕ, ◌<◌, ◌≤◌, ◌+◌, true, None, Some, MatchOption, IfSome, IfNone};
+ghost use Rattle.std.specs.Prelude.{◌≡◌, ℕ, ◌<◌, true, None, Some, MatchOption, IfSome, IfNone};
 ghost use Rattle.pg_board.specs.Bits.{has};
 ghost use Rattle.pg_board.specs.SquareSets.{IsSetOf, HasNoneFrom, IsLastIn};
-ghost use Rattle.pg_moves.specs.Left.{IsPeeked, IsFound, IsManDone, IsNextOfMan, IsRest, IsRestOf, IsOneByOne, men_from, to_square};
+ghost use Rattle.pg_moves.specs.Left.{IsPeeked, IsTurn, IsHandedOut, IsManDone, IsNextOfMan, IsRest, IsRestOf, IsOneByOne, men_from, to_square};
+ghost use Rattle.pg_moves.specs.inner.Men.{AreMen, AreToCome};
 ghost use Rattle.pg_moves.specs.inner.Sources.{IsToldSource};
-ghost use Rattle.pg_moves.specs.inner.Steps.{AreFreePawns};
 ghost use Rattle.pg_moves.specs.Moves.{IsNext, IsLast};
-ghost use Rattle.pg_moves.specs.inner.Places.{most_moves, place_of, NoneFrom, IsFirstMove, IsNextWithin};
-ghost use Rattle.pg_moves.specs.Targets.{FreeOff};
 
-use crate::men::{free_pawns, source_near};
-use crate::pins::maybe_pinned;
+use crate::men::{Men, find_men, no_men, own_men};
 use crate::places::promotion_number;
 use crate::sources::{Source, first_of_source, source_at};
-use pg_board::{Kind, Square, SquareSet};
+use crate::turns::{Turn, begin_next, no_turn};
+use pg_board::{Square, SquareSet};
 use pg_position::{Move, Position};
 use std::marker::Model;
 
@@ -30,11 +28,8 @@ pub struct Peeked {
 #[derive(Drop)]
 pub struct LegalMoves {
     position: Position,
-    last: Option<Move>,
-    maybe_pinned: SquareSet,
-    quiet: SquareSet,
-    rest: SquareSet,
-    source: Source,
+    men: Men,
+    turn: Turn,
 }
 
 impl Model for LegalMoves {
@@ -44,22 +39,14 @@ impl Model for LegalMoves {
 
     ghost coded = { moves_left_code };
 
-    ghost view = { λ a. record { position = a.position; last = a.last } };
+    ghost view = { λ a. record { position = a.position; last = a.turn.last } };
 
-    ghost invariant = { λ a. IsReady a.position a.last a.maybe_pinned a.quiet a.rest a.source };
-}
-
-// What is kept of a man before there is one.
-fn no_source() -> Source {
-    Source {
-        kind: Kind::Pawn,
-        set: SquareSet::empty(),
-        exact: false,
-    }
+    ghost invariant = { λ a. IsReady a.position a.turn.last a.men a.turn };
 }
 
 // The man of a move that was peeked at. Where his moves are tried one by one he is looked up once more, since what was
 // peeked at does not tell why.
+#[inline(always)]
 fn source_of_peeked(position: &Position, peeked: &Peeked) -> Source
     requires { IsPeeked position.now peeked.now }
     ensures { IsToldSource position.now peeked.now.m.from result }
@@ -118,37 +105,48 @@ fn next_tried(position: &Position, last: &Move, source: &Source) -> Option<Move>
     first_of_source(position, last.from, source, to, number)
 }
 
-// The first legal move of the men from a square on. Its man is written where the caller wants it: a struct
-// that is handed back beside the move is copied twice.
+// The first legal move of these men, with what is found for it: they are all past the last move.
 #[inline(always)]
-fn first_beyond(
-    position: &Position,
-    maybe_pinned: SquareSet,
-    quiet: SquareSet,
-    from: u8,
-    source: &mut Source,
-) -> Option<Move>
-    requires free { FreeOff position.now maybe_pinned }
-    requires quiet { AreFreePawns position.now quiet }
-    requires source { from ≤ 64 }
-    ensures { MatchOption result
-        (NoneFrom position.now (place_of from 0 0) most_moves × (source.new ≡ source.old))
-        (λ m. IsFound position.now (place_of from 0 0) m source.new) }
+fn peek_among(position: &Position, men: &Men, all: SquareSet, old: &Turn) -> Option<Peeked>
+    requires men { AreMen position.now men.now }
+    requires to_come { AreToCome position.now (men_from old.now.last) all }
+    requires done { IsManDone position.now old.now.last }
+    ensures { MatchOption result (IsLast position.now old.now.last)
+        (λ a. IsNext position.now old.now.last a.m × IsPeeked position.now a) }
 {
-    let board = position.board();
-    let own = board.squares_of_color(position.side());
-    let mut at = from;
-    while let Some(square) = own.first_from(at) {
-        let near = source_near(position, &board, maybe_pinned, quiet, square);
-        if let Some(m) = first_of_source(position, square, &near, 0, 0) {
-            source.set = near.set;
-            source.kind = near.kind;
-            source.exact = near.exact;
-            return Some(m);
-        }
-        at = square.index() + 1;
+    let mut turn = *old;
+    if !begin_next(position, men, all, &mut turn) {
+        return None;
     }
-    None
+    let last = turn.last;
+    match last {
+        Some(m) => Some(Peeked {
+            m,
+            maybe_pinned: SquareSet::full(),
+            source: turn.source,
+        }),
+        None => unreachable!(),
+    }
+}
+
+// Goes past a move that was peeked at.
+#[inline(always)]
+#[tactic(auto, unfolding(crate::specs::Left::IsPeeked))]
+fn pass(position: &Position, peeked: &Peeked, turn: &mut Turn)
+    requires { IsPeeked position.now peeked.now }
+    ensures last { turn.new.last ≡ Some peeked.now.m }
+    ensures turn { IsTurn position.now peeked.now.m turn.new }
+{
+    // Facts for the proof: the squares are on the board.
+    peeked.m.from.index();
+    peeked.m.to.index();
+    let source = source_of_peeked(position, peeked);
+    turn.last = Some(peeked.m);
+    turn.left = past(own_men(position), peeked.m.from);
+    turn.rest = past(source.set, peeked.m.to);
+    turn.source.set = source.set;
+    turn.source.kind = source.kind;
+    turn.source.exact = source.exact;
 }
 
 impl LegalMoves {
@@ -160,11 +158,8 @@ impl LegalMoves {
     {
         LegalMoves {
             position: *position,
-            last: None,
-            maybe_pinned: SquareSet::empty(),
-            quiet: SquareSet::empty(),
-            rest: SquareSet::empty(),
-            source: no_source(),
+            men: no_men(),
+            turn: no_turn(),
         }
     }
 
@@ -179,68 +174,50 @@ impl LegalMoves {
     pub fn last(&self) -> Option<Move>
         ensures { result ≡ self.now.last }
     {
-        self.last
+        self.turn.last
     }
 
-    // The first legal move of the men from a square on, with what was found for it.
-    fn of_men(
-        position: &Position,
-        maybe_pinned: SquareSet,
-        quiet: SquareSet,
-        from: u8,
-    ) -> Option<Peeked>
-        requires free { FreeOff position.now maybe_pinned }
-        requires quiet { AreFreePawns position.now quiet }
-        requires source { from ≤ 64 }
-        ensures { MatchOption result (NoneFrom position.now (place_of from 0 0) most_moves)
-            (λ a. IsFirstMove position.now (place_of from 0 0) most_moves a.m × IsPeeked position.now a) }
+    // The legal move after the last one that the same man has.
+    #[inline(always)]
+    #[tactic(auto, unfolding(crate::specs::Left::IsReady))]
+    fn next_of_man(&self) -> Option<Move>
+        ensures { MatchOption result (IsManDone self.now.position self.now.last)
+            (λ m. IsNextOfMan self.now.position self.now.last m) }
     {
-        let mut source = no_source();
-        match first_beyond(position, maybe_pinned, quiet, from, &mut source) {
-            Some(m) => Some(Peeked {
-                m,
-                maybe_pinned,
-                source,
-            }),
+        match self.turn.last {
             None => None,
+            Some(last) => {
+                if self.turn.source.exact {
+                    first_of_rest(&self.position, &last, self.turn.rest)
+                } else {
+                    next_tried(&self.position, &last, &self.turn.source)
+                }
+            }
         }
     }
 
-    // The first legal move.
-    fn first(position: &Position) -> Option<Peeked>
-        ensures { MatchOption result (IsLast position.now None)
-            (λ a. IsNext position.now None a.m × IsPeeked position.now a) }
+    // The first legal move of all, with what is found for it.
+    #[inline(never)]
+    fn peek_first(&self) -> Option<Peeked>
+        requires { self.now.last ≡ None }
+        ensures { MatchOption result (IsLast self.now.position self.now.last)
+            (λ a. IsNext self.now.position self.now.last a.m × IsPeeked self.now.position a) }
     {
-        let board = position.board();
-        let maybe_pinned = maybe_pinned(position, &board);
-        let quiet = free_pawns(position, &board, maybe_pinned);
-        LegalMoves::of_men(position, maybe_pinned, quiet, 0)
+        let men = find_men(&self.position);
+        let all = own_men(&self.position);
+        peek_among(&self.position, &men, all, &self.turn)
     }
 
-    // The legal move after the last one.
-    fn following(
-        position: &Position,
-        maybe_pinned: SquareSet,
-        quiet: SquareSet,
-        source: &Source,
-        last: &Move,
-    ) -> Option<Peeked>
-        requires free { FreeOff position.now maybe_pinned }
-        requires quiet { AreFreePawns position.now quiet }
-        requires source { IsToldSource position.now last.now.from source.now }
-        ensures { MatchOption result (IsLast position.now (Some last.now))
-            (λ a. IsNext position.now (Some last.now) a.m × IsPeeked position.now a) }
+    // The next legal move, once the man that moved last has none left, with what is found for it.
+    #[tactic(auto, unfolding(crate::specs::Left::IsReady))]
+    fn peek_beyond(&self) -> Option<Peeked>
+        requires { IsManDone self.now.position self.now.last }
+        ensures { MatchOption result (IsLast self.now.position self.now.last)
+            (λ a. IsNext self.now.position self.now.last a.m × IsPeeked self.now.position a) }
     {
-        let from = last.from.index();
-        let to = last.to.index();
-        let number = promotion_number(last.promotion) + 1;
-        match first_of_source(position, last.from, source, to, number) {
-            Some(m) => Some(Peeked {
-                m,
-                maybe_pinned,
-                source: *source,
-            }),
-            None => LegalMoves::of_men(position, maybe_pinned, quiet, from + 1),
+        match self.turn.last {
+            None => self.peek_first(),
+            Some(_) => peek_among(&self.position, &self.men, self.turn.left, &self.turn),
         }
     }
 
@@ -251,112 +228,64 @@ impl LegalMoves {
             (IsLast self.now.position self.now.last)
             (λ a. IsNext self.now.position self.now.last a.m × IsPeeked self.now.position a) }
     {
-        match self.last {
-            None => LegalMoves::first(&self.position),
-            Some(last) => LegalMoves::following(
-                &self.position,
-                self.maybe_pinned,
-                self.quiet,
-                &self.source,
-                &last,
-            ),
-        }
-    }
-
-    // The quiet pawns: those that are known, or, where no move was handed out yet, those that may not be pinned.
-    #[tactic(auto, unfolding(crate::specs::Left::IsReady))]
-    fn quiet_by(&self, maybe_pinned: SquareSet) -> SquareSet
-        requires { FreeOff self.now.position maybe_pinned }
-        ensures { AreFreePawns self.now.position result }
-    {
-        match self.last {
-            None => free_pawns(&self.position, &self.position.board(), maybe_pinned),
-            Some(_) => self.quiet,
+        match self.next_of_man() {
+            Some(m) => Some(Peeked {
+                m,
+                maybe_pinned: SquareSet::full(),
+                source: self.turn.source,
+            }),
+            None => self.peek_beyond(),
         }
     }
 
     /// Hands out a move that was peeked at.
-    #[tactic(auto, unfolding(crate::specs::Left::IsReady, crate::specs::Left::IsPeeked))]
+    #[tactic(auto, unfolding(crate::specs::Left::IsReady))]
     pub fn advance(&mut self, peeked: &Peeked)
         requires { IsPeeked self.old.position peeked.now }
         ensures { self.new ≡ record self.old { last = Some peeked.now.m } }
     {
-        // A fact for the proof: the square is on the board.
-        peeked.m.to.index();
-        let quiet = self.quiet_by(peeked.maybe_pinned);
-        let source = source_of_peeked(&self.position, peeked);
-        self.last = Some(peeked.m);
-        self.maybe_pinned = peeked.maybe_pinned;
-        self.quiet = quiet;
-        self.rest = past(source.set, peeked.m.to);
-        self.source = source;
-    }
-
-    // The legal move after the last one that the same man has.
-    #[inline(always)]
-    #[tactic(auto, unfolding(crate::specs::Left::IsReady))]
-    fn next_of_man(&self) -> Option<Move>
-        ensures { MatchOption result (IsManDone self.now.position self.now.last)
-            (λ m. IsNextOfMan self.now.position self.now.last m) }
-    {
-        match self.last {
-            None => None,
-            Some(last) => {
-                if self.source.exact {
-                    first_of_rest(&self.position, &last, self.rest)
-                } else {
-                    next_tried(&self.position, &last, &self.source)
-                }
-            }
-        }
-    }
-
-    // The men of which one moves next, once the man that moved last has no move left: those from a square
-    // on. And of all men those that may be pinned, and the quiet pawns.
-    #[inline(always)]
-    #[tactic(auto, unfolding(crate::specs::Left::IsReady))]
-    fn men_beyond(&self) -> (u8, SquareSet, SquareSet)
-        ensures from { result.0 ≡ men_from self.now.last }
-        ensures bound { result.0 ≤ 64 }
-        ensures free { FreeOff self.now.position result.1 }
-        ensures quiet { AreFreePawns self.now.position result.2 }
-    {
-        match self.last {
+        match self.turn.last {
             None => {
-                let board = self.position.board();
-                let maybe_pinned = maybe_pinned(&self.position, &board);
-                let quiet = free_pawns(&self.position, &board, maybe_pinned);
-                (0, maybe_pinned, quiet)
+                self.men = find_men(&self.position);
+                pass(&self.position, peeked, &mut self.turn);
             }
-            Some(last) => (last.from.index() + 1, self.maybe_pinned, self.quiet),
+            Some(_) => pass(&self.position, peeked, &mut self.turn),
         }
     }
 
-    // Hands out a move of another man. His source goes over part by part: whole it is copied with what
-    // lies between its parts.
-    #[inline(always)]
+    // Hands out the first legal move of all.
+    #[inline(never)]
     #[tactic(auto, unfolding(crate::specs::Left::IsReady))]
-    fn begin(&mut self, first: &Move, maybe_pinned: SquareSet, quiet: SquareSet, source: &Source)
-        requires free { FreeOff self.old.position maybe_pinned }
-        requires quiet { AreFreePawns self.old.position quiet }
-        requires source { IsToldSource self.old.position first.now.from source.now }
-        ensures { self.new ≡ record self.old { last = Some first.now } }
+    fn next_first(&mut self) -> bool
+        requires { self.old.last ≡ None }
+        ensures { IsHandedOut self.old self.new result }
     {
-        // A fact for the proof: the square is on the board.
-        first.to.index();
-        self.last = Some(*first);
-        self.maybe_pinned = maybe_pinned;
-        self.quiet = quiet;
-        self.rest = past(source.set, first.to);
-        self.source.set = source.set;
-        self.source.kind = source.kind;
-        self.source.exact = source.exact;
+        self.men = find_men(&self.position);
+        let all = own_men(&self.position);
+        begin_next(&self.position, &self.men, all, &mut self.turn)
     }
 
-    // The next legal move, once the man that moved last has none left: a function of its own, since `next` is inlined where it is
-    // called, and most moves are further ones of the same man.
+    // Hands out the next legal move, once the man that moved last has none left: a function of its own, since `next` is inlined where
+    // it is called, and most moves are further ones of the same man. Whether there is one is told, and not which: the caller
+    // finds it where it is kept.
     #[inline(never)]
-    fn next_beyond(&mut self) -> Option<Move>
+    #[tactic(auto, unfolding(crate::specs::Left::IsReady))]
+    fn next_beyond(&mut self) -> bool
+        requires { IsManDone self.old.position self.old.last }
+        ensures { IsHandedOut self.old self.new result }
+    {
+        match self.turn.last {
+            None => self.next_first(),
+            Some(_) => {
+                let all = self.turn.left;
+                begin_next(&self.position, &self.men, all, &mut self.turn)
+            }
+        }
+    }
+
+    // The next legal move, once the man that moved last has none left.
+    #[inline(always)]
+    fn next_kept(&mut self) -> Option<Move>
         requires { IsManDone self.old.position self.old.last }
         ensures answer { MatchOption result
             (IsLast self.old.position self.old.last)
@@ -364,15 +293,10 @@ impl LegalMoves {
         ensures some { IfSome result (λ m. self.new ≡ record self.old { last = Some m }) }
         ensures none { IfNone result (self.new ≡ self.old) }
     {
-        let (from, maybe_pinned, quiet) = self.men_beyond();
-        let mut source = no_source();
-        match first_beyond(&self.position, maybe_pinned, quiet, from, &mut source) {
-            Some(m) => {
-                self.begin(&m, maybe_pinned, quiet, &source);
-                Some(m)
-            }
-            None => None,
+        if !self.next_beyond() {
+            return None;
         }
+        self.turn.last
     }
 
     /// The squares to which the man that moved last has further legal moves, past the last one: all without
@@ -384,13 +308,13 @@ impl LegalMoves {
         ensures some { IfSome result (λ rest. IsRest self.now.position self.now.last rest) }
         ensures none { IfNone result (IsOneByOne self.now.position self.now.last) }
     {
-        match self.last {
+        match self.turn.last {
             None => None,
             Some(last) => {
                 // A fact for the proof: what is kept is of the man that made this move.
                 last.from.index();
-                if self.source.exact {
-                    Some(self.rest)
+                if self.turn.source.exact {
+                    Some(self.turn.rest)
                 } else {
                     None
                 }
@@ -409,17 +333,17 @@ impl LegalMoves {
             → self.new ≡ record self.old { last = to_square self.old.last s } }
         ensures none { HasNoneFrom rest 0 → self.new ≡ self.old }
     {
-        match self.last {
+        match self.turn.last {
             None => {}
             Some(last) => match rest.last() {
                 None => {}
                 Some(to) => {
-                    self.last = Some(Move {
+                    self.turn.last = Some(Move {
                         from: last.from,
                         to,
                         promotion: None,
                     });
-                    self.rest = SquareSet::empty();
+                    self.turn.rest = SquareSet::empty();
                 }
             },
         }
@@ -434,8 +358,8 @@ impl LegalMoves {
     {
         // A fact for the proof: the square is on the board.
         m.to.index();
-        self.last = Some(*m);
-        self.rest = past(self.rest, m.to);
+        self.turn.last = Some(*m);
+        self.turn.rest = past(self.turn.rest, m.to);
     }
 
     /// The next legal move.
@@ -452,7 +376,7 @@ impl LegalMoves {
                 self.go_on(&m);
                 Some(m)
             }
-            None => self.next_beyond(),
+            None => self.next_kept(),
         }
     }
 }

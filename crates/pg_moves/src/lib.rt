@@ -18,6 +18,7 @@ mod progress;
 mod search;
 mod sources;
 mod targets;
+mod turns;
 
 pub use counting::{count, count_legal, count_watched};
 pub use cursor::{LegalMoves, Peeked};

@@ -1,21 +1,21 @@
 //! The men of the side to move one after the other, and where each goes: pawns that need no trial by
 //! sets shifted along the board.
-ghost use Rattle.std.specs.Prelude.{◌≡◌, ◌≢◌, ℕ, ◌<◌};
+ghost use Rattle.std.specs.Prelude.{◌≡◌, ◌≢◌, ℕ, ◌<◌, IsTrue, true, false};
 ghost use Rattle.pg_board.specs.Bits.{has};
-ghost use Rattle.pg_board.specs.Men.{other};
+ghost use Rattle.pg_board.specs.Men.{is_of, other};
+ghost use Rattle.pg_board.specs.Placement.{get};
 ghost use Rattle.pg_board.specs.Squares.{rank};
 ghost use Rattle.pg_board.specs.SquareSets.{IsSetOf};
 ghost use Rattle.pg_position.specs.Position.{Stands};
 ghost use Rattle.pg_position.specs.Squares.{HasAhead};
-ghost use Rattle.pg_moves.specs.inner.Pawns.{forward, IsInside, one_rank, two_ranks};
-ghost use Rattle.pg_moves.specs.inner.Sources.{IsToldSource};
-ghost use Rattle.pg_moves.specs.inner.Steps.{AreFreePawns, IsFreePawn, StepsTo, leap_rank};
-ghost use Rattle.pg_moves.specs.Targets.{IsOwn, FreeOff, Leaps, Advances};
+ghost use Rattle.pg_moves.specs.inner.Men.{AreMen};
+ghost use Rattle.pg_moves.specs.inner.Pawns.{forward, IsInside, one_rank};
+ghost use Rattle.pg_moves.specs.inner.Sources.{IsExact};
+ghost use Rattle.pg_moves.specs.inner.Steps.{StepsTo, leap_rank};
+ghost use Rattle.pg_moves.specs.Targets.{IsOwn, Leaps, Advances};
 
-use crate::kings::king_targets;
-use crate::parries::parrying;
-use crate::pawns::{en_passant_sources, home};
-use crate::sources::{Source, is_there, source_at};
+use crate::guards::find_guard;
+use crate::pawns::quiet_pawns;
 use pg_board::{Board, Color, Kind, Man, Square, SquareSet};
 use pg_position::{Position, ahead, attacks_from};
 
@@ -79,134 +79,86 @@ fn pawn_advances(board: &Board, color: Color, from: Square) -> SquareSet
     near | second_step(board, color, from, once)
 }
 
-// A quiet pawn.
+// What is known of all men of the side to move: which of them may be pinned, and to which squares the others may go
+// that no man of theirs has; and which of the others are pawns that neither promote nor capture en passant.
+#[derive(Clone, Copy)]
+pub(crate) struct Men {
+    pub(crate) pinned: SquareSet,
+    pub(crate) quiet: SquareSet,
+    pub(crate) allowed: SquareSet,
+}
+
+// What is kept before the men are looked at.
+pub(crate) fn no_men() -> Men {
+    Men {
+        pinned: SquareSet::empty(),
+        quiet: SquareSet::empty(),
+        allowed: SquareSet::empty(),
+    }
+}
+
+// The squares of the men of the side to move.
 #[inline(always)]
-fn quiet_source(position: &Position, board: &Board, from: Square) -> Source
-    requires same { board.now ≡ position.now.board }
-    requires quiet { IsFreePawn position.now from }
-    ensures { IsToldSource position.now from result }
+pub(crate) fn own_men(position: &Position) -> SquareSet
+    ensures { (q : ℕ) → q < 64 → has result q ≡ is_of position.now.side (get position.now.board q) }
+{
+    position.board().squares_of_color(position.side())
+}
+
+// What is known of the men: once for a position, also where its king is attacked. Not inlined, since few calls of the cursor
+// are the first ones.
+#[inline(never)]
+pub(crate) fn find_men(position: &Position) -> Men
+    ensures { AreMen position.now result }
+{
+    let board = position.board();
+    let color = position.side();
+    let guard = find_guard(position, &board);
+    let own = board.squares_of_color(color);
+    let free = own - guard.pinned;
+    Men {
+        pinned: guard.pinned,
+        quiet: quiet_pawns(position, &board, color, &guard, free),
+        allowed: guard.goals - own,
+    }
+}
+
+// Where a quiet pawn goes.
+#[inline(always)]
+pub(crate) fn pawn_set(position: &Position, men: &Men, from: Square) -> SquareSet
+    requires men { AreMen position.now men.now }
+    requires quiet { has men.now.quiet from ≡ true }
+    ensures exact { IsExact position.now from result }
+    ensures stands { Stands position.now.board position.now.side Kind.Pawn from }
 {
     // A fact for the proof: the square is on the board.
     from.index();
-    Source {
-        set: pawn_advances(board, position.side(), from),
-        kind: Kind::Pawn,
-        exact: true,
-    }
+    pawn_advances(&position.board(), position.side(), from) & men.allowed
 }
 
-// A piece of this kind other than the king: its attack is asked for here, with the kind known, so that it
-// is inlined.
+// Where a piece of this kind goes that cannot be pinned, no king: its attack is asked for here, with the kind known, so
+// that it is inlined.
 #[inline(always)]
-fn piece_source(
-    position: &Position,
-    board: &Board,
-    maybe_pinned: SquareSet,
-    kind: Kind,
-    from: Square,
-) -> Source
-    requires same { board.now ≡ position.now.board }
-    requires free { FreeOff position.now maybe_pinned }
+pub(crate) fn piece_set(position: &Position, men: &Men, kind: Kind, from: Square) -> SquareSet
+    requires men { AreMen position.now men.now }
     requires stands { Stands position.now.board position.now.side kind from }
+    requires free { has men.now.pinned from ≡ false }
     requires pawn { kind ≢ Kind.Pawn }
-    requires king { kind ≢ Kind.King }
-    ensures { IsToldSource position.now from result }
+    ensures { IsExact position.now from result }
 {
-    let color = position.side();
-    if maybe_pinned.contains(from) {
-        Source {
-            set: parrying(position, kind, from),
-            kind,
-            exact: true,
-        }
-    } else {
-        let reached = attacks_from(board, Man::new(color, kind), from);
-        Source {
-            set: reached - board.squares_of_color(color),
-            kind,
-            exact: true,
-        }
-    }
+    // A fact for the proof: the square is on the board.
+    from.index();
+    attacks_from(&position.board(), Man::new(position.side(), kind), from) & men.allowed
 }
 
-// The king.
+// Whether the man of the side to move on a square is of this kind: his colour is not looked up.
 #[inline(always)]
-fn king_source(position: &Position, board: &Board, from: Square) -> Source
-    requires same { board.now ≡ position.now.board }
-    requires stands { Stands position.now.board position.now.side Kind.King from }
-    ensures { IsToldSource position.now from result }
+pub(crate) fn is_of_kind(position: &Position, kind: Kind, from: Square) -> bool
+    requires { IsOwn position.now.board position.now.side from }
+    ensures { IsTrue result → Stands position.now.board position.now.side kind from }
 {
-    Source {
-        set: king_targets(position, board, from),
-        kind: Kind::King,
-        exact: true,
-    }
-}
-
-// Any man: not inlined, since few men come here.
-#[inline(never)]
-fn any_source(position: &Position, board: &Board, maybe_pinned: SquareSet, from: Square) -> Source
-    requires same { board.now ≡ position.now.board }
-    requires free { FreeOff position.now maybe_pinned }
-    requires own { IsOwn position.now.board position.now.side from }
-    ensures { IsToldSource position.now from result }
-{
-    source_at(position, board, maybe_pinned, from)
-}
-
-// The man of the side to move on a square, who is no quiet pawn: mostly a piece.
-#[inline(always)]
-fn other_source(position: &Position, board: &Board, maybe_pinned: SquareSet, from: Square) -> Source
-    requires same { board.now ≡ position.now.board }
-    requires free { FreeOff position.now maybe_pinned }
-    requires own { IsOwn position.now.board position.now.side from }
-    ensures { IsToldSource position.now from result }
-{
-    let side = position.side();
-    if is_there(board, side, Kind::Knight, from) {
-        piece_source(position, board, maybe_pinned, Kind::Knight, from)
-    } else if is_there(board, side, Kind::Bishop, from) {
-        piece_source(position, board, maybe_pinned, Kind::Bishop, from)
-    } else if is_there(board, side, Kind::Rook, from) {
-        piece_source(position, board, maybe_pinned, Kind::Rook, from)
-    } else if is_there(board, side, Kind::Queen, from) {
-        piece_source(position, board, maybe_pinned, Kind::Queen, from)
-    } else if is_there(board, side, Kind::King, from) {
-        king_source(position, board, from)
-    } else {
-        any_source(position, board, maybe_pinned, from)
-    }
-}
-
-// The man of the side to move on a square.
-#[inline(always)]
-pub(crate) fn source_near(
-    position: &Position,
-    board: &Board,
-    maybe_pinned: SquareSet,
-    quiet: SquareSet,
-    from: Square,
-) -> Source
-    requires same { board.now ≡ position.now.board }
-    requires free { FreeOff position.now maybe_pinned }
-    requires quiet { AreFreePawns position.now quiet }
-    requires own { IsOwn position.now.board position.now.side from }
-    ensures { IsToldSource position.now from result }
-{
-    if quiet.contains(from) {
-        quiet_source(position, board, from)
-    } else {
-        other_source(position, board, maybe_pinned, from)
-    }
-}
-
-// Pawns of the side to move that need no trial, do not promote and do not capture en passant.
-pub(crate) fn free_pawns(position: &Position, board: &Board, maybe_pinned: SquareSet) -> SquareSet
-    requires same { board.now ≡ position.now.board }
-    requires free { FreeOff position.now maybe_pinned }
-    ensures { AreFreePawns position.now result }
-{
-    let side = position.side();
-    let pawns = board.squares_of(Man::new(side, Kind::Pawn));
-    pawns - maybe_pinned - en_passant_sources(position) - home(side.other())
+    let board = position.board();
+    let white = board.squares_of(Man::new(Color::White, kind));
+    let black = board.squares_of(Man::new(Color::Black, kind));
+    (white | black).contains(from)
 }

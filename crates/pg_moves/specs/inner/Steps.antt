@@ -12,17 +12,6 @@ use Rattle.pg_position.specs.Position.{Stands, IsVacant}
 use Rattle.pg_moves.specs.inner.Pawns.{IsInside, two_ranks}
 use Rattle.pg_moves.specs.Targets.{IsFree, IsOrdinary}
 
--- a pawn of the side to move that is free, neither promotes nor captures en passant, and has two ranks in front
-pub record IsFreePawn (p : State) (q : ℕ) : Type 0 where
-  pub stands : Stands p.board p.side Pawn q
-  pub free : IsFree p Pawn q
-  pub ordinary : IsOrdinary p Pawn q
-  pub inside : IsInside p.side two_ranks q
-
--- the set has only such pawns
-abbrev pub AreFreePawns : State → ℕ → Type 0
-AreFreePawns p set = (q : ℕ) → q < 64 → has set q ≡ true → IsFreePawn p q
-
 -- the rank to which the colour's pawns go by two squares from home
 abbrev pub leap_rank : Color → ℕ
 leap_rank White = 4

@@ -1,8 +1,8 @@
-use Rattle.pg_moves.proofs.LeftLemmas.{beyond_next_is, beyond_over}
+use Rattle.pg_moves.proofs.TurnLemmas.{ready_beyond, handed_beyond}
 use Rattle.pg_moves.proofs.cursor.LegalMoves.next_beyond.Goals as goal
 
-pub returns-in-Some-clause-answer : goal.returns-in-Some-clause-answer
-returns-in-Some-clause-answer c = beyond_next_is c.args.self.now c.self.inside.position c.self.inside.last c.men_beyond-from.result.0 c.self.view_is c.men_beyond-from.ensures.bound c.men_beyond-from.ensures.from c.requires c.in-Some.m c.in-Some.ensures.first
+pub invariant_of-self : goal.invariant_of-self
+invariant_of-self c = ready_beyond c.self.inside.position _ c.self.inside.men c.self.inside.turn c.begin_next.new.turn c.begin_next.result c.in-Some.is c.self.invariant c.begin_next.ensures
 
-pub returns-in-None-clause-answer : goal.returns-in-None-clause-answer
-returns-in-None-clause-answer c = beyond_over c.args.self.now c.self.inside.position c.self.inside.last c.men_beyond-from.result.0 c.self.view_is c.men_beyond-from.ensures.bound c.men_beyond-from.ensures.from c.requires c.in-None.ensures.0
+pub returns-in-Some : goal.returns-in-Some
+returns-in-Some c = handed_beyond c.args.self.now c.self.inside.position c.self.inside.turn c.begin_next.new.turn c.begin_next.result c.self.view_is c.requires c.begin_next.ensures
