@@ -8,6 +8,7 @@ mod familiar;
 mod machine;
 mod node;
 mod order;
+mod plain;
 mod rounds;
 mod walk;
 

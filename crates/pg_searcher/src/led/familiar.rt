@@ -1,6 +1,6 @@
 //! The moves that are familiar: those that men of either colour make in games that are known.
 
-use pg_board::{Board, Color, Kind, Square, SquareSet};
+use pg_board::{Color, Kind, Man, Square, SquareSet};
 use pg_position::{Move, Position};
 use pg_san::Games;
 use std::alloc::{AllocError, Global};
@@ -73,12 +73,24 @@ impl Familiar {
         }
     }
 
-    // Whether a colour's move on a board is one of them.
-    pub(crate) fn has(&self, board: &Board, side: Color, m: &Move) -> bool {
-        let Some(man) = board.get(m.from) else {
-            return false;
+    // Where a man goes from a square by moves that are no promotions.
+    pub(crate) fn row(&self, man: Man, from: Square) -> SquareSet {
+        let rows = match man.color {
+            Color::White => &self.white,
+            Color::Black => &self.black,
         };
-        let rows = match side {
+        let row = usize::from(man.kind.number())
+            .saturating_mul(64)
+            .saturating_add(usize::from(from.index()));
+        match rows.get(row) {
+            Some(set) => *set,
+            None => SquareSet::empty(),
+        }
+    }
+
+    // Whether a move of a man is one of them.
+    pub(crate) fn has(&self, man: Man, m: &Move) -> bool {
+        let rows = match man.color {
             Color::White => &self.white,
             Color::Black => &self.black,
         };

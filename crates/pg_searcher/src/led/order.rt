@@ -4,7 +4,7 @@ ghost use Rattle.pg_position.specs.Step.{IsLegal};
 
 use crate::led::familiar::Familiar;
 use crate::led::machine::{Open, Phase, Question};
-use pg_board::Board;
+use crate::led::plain::{Mover, Scene};
 use pg_moves::LegalMoves;
 use pg_position::{Move, Position};
 
@@ -22,10 +22,10 @@ fn lead_of(question: &Question, position: &Position, ply: usize) -> Option<Move>
     let Some(m) = question.lead(ply) else {
         return None;
     };
-    if !question
-        .familiar
-        .has(&position.board(), position.side(), &m)
-    {
+    let Some(man) = position.board().get(m.from) else {
+        return None;
+    };
+    if !question.familiar.has(man, &m) {
         return None;
     }
     match position.play(m) {
@@ -34,25 +34,25 @@ fn lead_of(question: &Question, position: &Position, ply: usize) -> Option<Move>
     }
 }
 
-// The next move that is familiar, or that is not, and is not this one.
+// The next move that is familiar, or that is not, and is not this one. Its man is judged from then on.
 fn next_of(
     familiar: &Familiar,
     moves: &mut LegalMoves,
-    position: &Position,
+    scene: &Scene,
+    mover: &mut Mover,
     is_familiar: bool,
     but: &Option<Move>,
 ) -> Option<Move>
-    requires { moves.old.position ≡ position.now }
-    ensures legal { IfSome result (λ m. IsLegal position.now m) }
-    ensures same { moves.new.position ≡ position.now }
+    requires { moves.old.position ≡ scene.now.position }
+    ensures legal { IfSome result (λ m. IsLegal scene.now.position m) }
+    ensures same { moves.new.position ≡ scene.now.position }
 {
-    let board = position.board();
-    let side = position.side();
     for _ in 0..u16::MAX {
         let Some(m) = moves.next() else {
             return None;
         };
-        if familiar.has(&board, side, &m) == is_familiar && *but != Some(m) {
+        mover.turn(familiar, &scene.position, m.from);
+        if mover.is_familiar(familiar, &m) == is_familiar && *but != Some(m) {
             return Some(m);
         }
     }
@@ -62,19 +62,21 @@ fn next_of(
 // The next move of an open node.
 pub(crate) fn next_due(
     question: &Question,
+    scene: &Scene,
+    mover: &mut Mover,
     top: &mut Open,
-    position: &Position,
-    ply: usize,
 ) -> Option<Due>
-    requires { top.old.moves.position ≡ position.now }
-    ensures legal { IfSome result (λ due. IsLegal position.now due.m) }
-    ensures same { top.new.moves.position ≡ position.now }
+    requires { top.old.moves.position ≡ scene.now.position }
+    ensures legal { IfSome result (λ due. IsLegal scene.now.position due.m) }
+    ensures same { top.new.moves.position ≡ scene.now.position }
 {
+    let familiar = question.familiar;
     if top.phase == Phase::Lead {
-        let lead = lead_of(question, position, ply);
+        let lead = lead_of(question, &scene.position, scene.ply);
         top.phase = Phase::Familiar;
         if let Some(m) = &lead {
             top.lead = Some(*m);
+            mover.turn(familiar, &scene.position, m.from);
             return Some(Due {
                 m: *m,
                 is_foreign: false,
@@ -83,19 +85,19 @@ pub(crate) fn next_due(
     }
     if top.phase == Phase::Familiar {
         let lead = top.lead;
-        if let Some(m) = next_of(question.familiar, &mut top.moves, position, true, &lead) {
+        if let Some(m) = next_of(familiar, &mut top.moves, scene, mover, true, &lead) {
             return Some(Due {
                 m,
                 is_foreign: false,
             });
         }
         top.phase = Phase::Foreign;
-        top.moves = LegalMoves::new(position);
+        top.moves = LegalMoves::new(&scene.position);
     }
     if top.refused && top.foreign == 0 {
         return None;
     }
-    match next_of(question.familiar, &mut top.moves, position, false, &None) {
+    match next_of(familiar, &mut top.moves, scene, mover, false, &None) {
         Some(m) => Some(Due {
             m,
             is_foreign: true,

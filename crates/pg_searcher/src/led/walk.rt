@@ -1,12 +1,14 @@
 //! The walk through the games of one length, with a stack of open nodes.
-ghost use Rattle.std.specs.Prelude.{◌≡◌, ◌+◌, ◌<◌, ◌≤◌, length, OnOk};
+ghost use Rattle.std.specs.Prelude.{◌≡◌, ◌+◌, ◌<◌, ◌≤◌, length, OnOk, IfOk, IfSome};
+ghost use Rattle.pg_position.specs.Step.{IsLegal};
 
 use crate::ends::{leaf, put_move};
 use crate::led::answer::{Game, LedProgress};
 use crate::led::barren::ANY;
 use crate::led::machine::{Halt, Machine, Open, Question, Sieve};
-use crate::led::node::{Entry, Means, child, enter};
+use crate::led::node::{Entry, Means, Uncut, child, enter};
 use crate::led::order::next_due;
+use crate::led::plain::{Mover, Plain, Scene};
 use crate::nearing::{may_be_near, may_lead};
 use arrayvec::ArrayVec;
 use pg_moves::count_legal;
@@ -94,6 +96,40 @@ fn play_last_two(
     Err(Halt::Budget)
 }
 
+// The moves of a node are played up to the first that no cut is known to exclude by what is known of the node, which
+// is the answer; none where there is no such move. The node after it is visited.
+fn next_uncut(
+    question: &Question,
+    scene: &Scene,
+    mover: &mut Mover,
+    top: &mut Open,
+    sieve: &mut Sieve,
+) -> Result<Option<Uncut>, Halt>
+    requires { top.old.moves.position ≡ scene.now.position }
+    ensures legal { IfOk result (λ uncut. IfSome uncut (λ u. IsLegal scene.now.position u.due.m)) }
+    ensures same { top.new.moves.position ≡ scene.now.position }
+{
+    for _ in 0..u16::MAX {
+        let Some(due) = next_due(question, scene, mover, top) else {
+            return Ok(None);
+        };
+        if !sieve.visit() {
+            return Err(Halt::Budget);
+        }
+        match scene.plain(&sieve.judge, mover, &due.m) {
+            Plain::Cut => {}
+            Plain::Stays(own) => {
+                return Ok(Some(Uncut {
+                    due,
+                    own: Some(own),
+                }));
+            }
+            Plain::No => return Ok(Some(Uncut { due, own: None })),
+        }
+    }
+    Err(Halt::Budget)
+}
+
 // The moves of a node at a ply are played up to the first that leads to a node that opens, with so many plies
 // left, which is the answer; none where there is no such move.
 fn next_opened(
@@ -103,14 +139,16 @@ fn next_opened(
     ply: usize,
     left: u8,
 ) -> Result<Option<Open>, Halt> {
-    let position = top.moves.position();
+    let scene = Scene::new(&sieve.judge, &top.moves.position(), &top.sides, ply, left);
+    let mut mover = Mover::none();
     for _ in 0..u16::MAX {
-        let Some(due) = next_due(question, top, &position, ply) else {
-            return Ok(None);
-        };
-        match child(question, sieve, top, &position, &due, left) {
-            Ok(None) => {}
-            Ok(Some(opened)) => return Ok(Some(opened)),
+        match next_uncut(question, &scene, &mut mover, top, sieve) {
+            Ok(Some(uncut)) => match child(question, sieve, top, &scene, &uncut) {
+                Ok(None) => {}
+                Ok(Some(opened)) => return Ok(Some(opened)),
+                Err(halt) => return Err(halt),
+            },
+            Ok(None) => return Ok(None),
             Err(halt) => return Err(halt),
         }
     }
