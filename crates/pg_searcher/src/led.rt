@@ -10,6 +10,7 @@ mod node;
 mod order;
 mod plain;
 mod rounds;
+mod trials;
 mod walk;
 
 pub use answer::{Game, Led, LedFault, LedLimits, LedProgress};

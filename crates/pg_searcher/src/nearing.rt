@@ -49,15 +49,24 @@ fn in_front(pawn: Man, from: Square) -> SquareSet {
     squares
 }
 
-// Where a man may go by a move after which another one may lead to a board, and maybe more. What he moves to stands there
-// in the end, or a man that takes him: only a pawn that is taken en passant leaves his square empty.
-fn goes(goal: &Board, position: &Position, man: Man, from: Square) -> SquareSet {
+// Where a man may go, if not to fewer squares: a pawn goes forward whatever is in its way.
+pub(crate) fn within(position: &Position, man: Man, from: Square) -> SquareSet {
     let board = position.board();
     let reached = attacks_from(&board, man, from) - board.squares_of_color(man.color);
     match man.kind {
         Kind::Pawn => reached | in_front(man, from),
-        Kind::King => (reached | position.castling_targets()) & goal.occupied(),
-        _ => reached & goal.occupied(),
+        Kind::King => reached | position.castling_targets(),
+        _ => reached,
+    }
+}
+
+// Where a man may go by a move after which another one may lead to a board, and maybe more. What he moves to stands there
+// in the end, or a man that takes him: only a pawn that is taken en passant leaves his square empty.
+fn goes(goal: &Board, position: &Position, man: Man, from: Square) -> SquareSet {
+    let squares = within(position, man, from);
+    match man.kind {
+        Kind::Pawn => squares,
+        _ => squares & goal.occupied(),
     }
 }
 
