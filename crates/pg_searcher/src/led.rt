@@ -5,6 +5,7 @@
 mod answer;
 mod barren;
 mod familiar;
+mod last;
 mod machine;
 mod node;
 mod order;

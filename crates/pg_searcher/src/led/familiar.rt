@@ -18,7 +18,7 @@ const KINDS: [Kind; 6] = [
 ];
 
 // What a pawn may become, in the order of moves.
-const PROMOTED: [Kind; 4] = [Kind::Knight, Kind::Bishop, Kind::Rook, Kind::Queen];
+pub(crate) const PROMOTED: [Kind; 4] = [Kind::Knight, Kind::Bishop, Kind::Rook, Kind::Queen];
 
 // For one colour the squares to which its men go in games, by kind and by the square that they leave;
 // promotions stand apart, by what the pawn becomes. Castling is the king's move. And by kind all squares that

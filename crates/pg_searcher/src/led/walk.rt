@@ -2,47 +2,19 @@
 ghost use Rattle.std.specs.Prelude.{◌≡◌, ◌+◌, ◌<◌, ◌≤◌, length, OnOk, IfOk, IfSome};
 ghost use Rattle.pg_position.specs.Step.{IsLegal};
 
-use crate::ends::{leaf, put_move};
+use crate::ends::leaf;
 use crate::led::answer::{Game, LedProgress};
 use crate::led::barren::ANY;
+use crate::led::last::{end, end_after, end_near};
 use crate::led::machine::{Halt, Machine, Open, Question, Sieve};
 use crate::led::node::{Entry, Means, Uncut, child, enter};
 use crate::led::order::next_due;
 use crate::led::plain::{Mover, Plain, Scene};
-use crate::nearing::{may_be_near, may_lead};
-use arrayvec::ArrayVec;
 use pg_moves::count_legal;
-use pg_position::{Move, Position};
+use pg_position::Position;
 
 // Each loop has a bound, and halts as at the end of the budget where it comes to it. None does: no position has
 // 65,535 moves, and no run takes 2^64 - 1 turns.
-
-// The game that leads along the open nodes and then by these moves.
-fn game_along(frames: &[Open], before: &Option<Move>, last: &Option<Move>) -> Game {
-    let mut game = ArrayVec::new();
-    for frame in frames {
-        put_move(&mut game, &frame.played);
-    }
-    put_move(&mut game, before);
-    put_move(&mut game, last);
-    game
-}
-
-// A game along the open nodes and by these moves ends on the diagram. One that is not listed is found.
-fn end(
-    question: &Question,
-    frames: &[Open],
-    found: &mut Game,
-    before: &Option<Move>,
-    last: &Option<Move>,
-) -> Result<(), Halt> {
-    let game = game_along(frames, before, last);
-    if question.games.contains(game.as_slice()) {
-        return Ok(());
-    }
-    *found = game;
-    Err(Halt::Found)
-}
 
 // A node with so many plies left closes. One below which no listed game lies is entered among the barren ones.
 fn close(top: &Open, machine: &mut Machine, left: u8) -> Result<(), Halt>
@@ -63,8 +35,32 @@ fn close(top: &Open, machine: &mut Machine, left: u8) -> Result<(), Halt>
     }
 }
 
-// The moves of a node with two plies left are played, familiar or not. After a move of a man on a square where the placements
-// agree no further one leads to the diagram (`may_lead`).
+// The moves of a node with two plies left are played one by one, up to the end of the budget.
+fn play_each(
+    question: &Question,
+    top: &mut Open,
+    frames: &[Open],
+    sieve: &mut Sieve,
+    found: &mut Game,
+) -> Result<(), Halt> {
+    let position = top.moves.position();
+    let squares = position.board().differing(&question.diagram.board());
+    for _ in 0..u16::MAX {
+        let Some(m) = top.moves.next() else {
+            return Ok(());
+        };
+        if !sieve.visit() {
+            return Err(Halt::Budget);
+        }
+        if squares.contains(m.from) && end_after(question, frames, found, &position, &m)? {
+            top.fertile = true;
+        }
+    }
+    Err(Halt::Budget)
+}
+
+// The moves of a node with two plies left are played, familiar or not. Where all of them may be visited they are counted, and
+// those few are played after which a further one may lead to the diagram.
 fn play_last_two(
     question: &Question,
     top: &mut Open,
@@ -73,27 +69,13 @@ fn play_last_two(
     found: &mut Game,
 ) -> Result<(), Halt> {
     let position = top.moves.position();
-    let diagram = question.diagram;
-    if !may_lead(diagram, &position) && sieve.visit_all(count_legal(&position)) {
-        return Ok(());
+    if !sieve.visit_all(count_legal(&position)) {
+        return play_each(question, top, frames, sieve, found);
     }
-    let squares = position.board().differing(&diagram.board());
-    for _ in 0..u16::MAX {
-        let Some(m) = top.moves.next() else {
-            return Ok(());
-        };
-        if !sieve.visit() {
-            return Err(Halt::Budget);
-        }
-        if squares.contains(m.from) && may_be_near(diagram, &position, &m) {
-            let last = leaf(diagram, &position.after(&m));
-            if last.is_some() {
-                end(question, frames, found, &Some(m), &last)?;
-                top.fertile = true;
-            }
-        }
+    if end_near(question, frames, found, &position)? {
+        top.fertile = true;
     }
-    Err(Halt::Budget)
+    Ok(())
 }
 
 // The moves of a node are played up to the first that no cut is known to exclude by what is known of the node, which
