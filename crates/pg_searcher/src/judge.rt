@@ -58,6 +58,15 @@ pub(crate) struct Means {
     pub(crate) plies: u8,
 }
 
+// What judges the plain moves of a colour at a node that no cut excludes: the colour, its numbers after such a move,
+// and whether captures exclude then.
+#[derive(Clone, Copy)]
+pub(crate) struct Reply {
+    color: Color,
+    means: Means,
+    is_owing: bool,
+}
+
 // Both colours, from a colour and the other one.
 fn sides_by(color: Color, own: Side, other: Side) -> Sides {
     match color {
@@ -133,6 +142,14 @@ fn travel_length(means: Means, side: &Side, goal: u8) -> Option<u16> {
     } else {
         None
     }
+}
+
+// Whether a bound excludes for a colour, or its prices do, where they are known.
+fn excludes(means: Means, needs: &Needs) -> bool {
+    if bound_for(means, needs).is_some() {
+        return true;
+    }
+    needs.travel != UNKNOWN && (i16::from(needs.pawns) > means.owed || needs.travel > means.plies)
 }
 
 impl Judge {
@@ -240,6 +257,34 @@ impl Judge {
             return Cutting::Unknown;
         }
         self.verdict(sides, color.other(), left)
+    }
+
+    // What judges the plain moves of a colour at a node, after which so many plies are left.
+    pub(crate) fn reply(&self, color: Color, sides: &Sides, left: u8) -> Reply {
+        let other = color.other();
+        let means = self.means(color, sides.of(other).men, other, left);
+        Reply {
+            color,
+            means,
+            is_owing: captures_exclude(means),
+        }
+    }
+
+    // What a colour needs after a plain move to men and rights with this key, by what is known; none where a cut
+    // excludes. That is what `quick` judges: the other colour has the men and the plies that it had before the move,
+    // when no cut excluded it.
+    #[inline(always)]
+    pub(crate) fn needs_after(&self, reply: &Reply, key: u64) -> Option<Needs> {
+        if reply.is_owing {
+            return None;
+        }
+        let Some(needs) = self.known(reply.color).get(key) else {
+            return Some(MISSING);
+        };
+        if needs.need != UNKNOWN && excludes(reply.means, &needs) {
+            return None;
+        }
+        Some(needs)
     }
 
     // What becomes of a node after a plain move of a colour that no bound excludes, after which it has this need

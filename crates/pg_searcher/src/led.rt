@@ -5,10 +5,13 @@
 mod answer;
 mod barren;
 mod familiar;
+mod last;
 mod machine;
 mod node;
 mod order;
+mod plain;
 mod rounds;
+mod trials;
 mod walk;
 
 pub use answer::{Game, Led, LedFault, LedLimits, LedProgress};

@@ -7,7 +7,7 @@ use pg_fen::Diagram;
 use pg_position::{Move, Position, ahead, attacks_from, has_ahead, home_rank, last_rank};
 
 // The most squares on which a position two moves away differs: by castling each changes four.
-const MOST_CHANGED: u8 = 8;
+pub(crate) const MOST_CHANGED: u8 = 8;
 
 // Whether a move may lead to a position one move away from the diagram.
 pub(crate) fn may_be_near(diagram: &Diagram, position: &Position, m: &Move) -> bool {
@@ -49,15 +49,24 @@ fn in_front(pawn: Man, from: Square) -> SquareSet {
     squares
 }
 
-// Where a man may go by a move after which another one may lead to a board, and maybe more. What he moves to stands there
-// in the end, or a man that takes him: only a pawn that is taken en passant leaves his square empty.
-fn goes(goal: &Board, position: &Position, man: Man, from: Square) -> SquareSet {
+// Where a man may go, if not to fewer squares: a pawn goes forward whatever is in its way.
+pub(crate) fn within(position: &Position, man: Man, from: Square) -> SquareSet {
     let board = position.board();
     let reached = attacks_from(&board, man, from) - board.squares_of_color(man.color);
     match man.kind {
         Kind::Pawn => reached | in_front(man, from),
-        Kind::King => (reached | position.castling_targets()) & goal.occupied(),
-        _ => reached & goal.occupied(),
+        Kind::King => reached | position.castling_targets(),
+        _ => reached,
+    }
+}
+
+// Where a man may go by a move after which another one may lead to a board, and maybe more. What he moves to stands there
+// in the end, or a man that takes him: only a pawn that is taken en passant leaves his square empty.
+pub(crate) fn goes(goal: &Board, position: &Position, man: Man, from: Square) -> SquareSet {
+    let squares = within(position, man, from);
+    match man.kind {
+        Kind::Pawn => squares,
+        _ => squares & goal.occupied(),
     }
 }
 

@@ -81,6 +81,16 @@ pub struct Changes {
 }
 
 impl Change {
+    // Nothing.
+    pub(crate) fn none() -> Change {
+        Change {
+            key: 0,
+            men: 0,
+            pawns: 0,
+            ways: 0,
+        }
+    }
+
     /// The colour after the move, with its needs.
     pub fn applied(&self, side: &Side, needs: Needs) -> Side {
         Side {
@@ -95,6 +105,16 @@ impl Change {
     // The colour's key after the move.
     pub(crate) fn key_after(&self, side: &Side) -> u64 {
         side.key ^ self.key
+    }
+
+    // What is changed where the man that was lifted is put on a square.
+    pub(crate) fn with_man(&self, man: Man, square: Square) -> Change {
+        Change {
+            key: self.key ^ man_key(man, square.index() % 64),
+            men: self.men,
+            pawns: self.pawns,
+            ways: self.ways,
+        }
     }
 
     // How many men it has after the move.
@@ -157,6 +177,13 @@ pub(crate) fn plain_change(rights: Rights, man: Man, m: &Move) -> Change {
     let squares = SquareSet::single(m.from) | SquareSet::single(m.to);
     let key = man_key(man, from) ^ man_key(man, to);
     change_of(rights, man, key, squares, false)
+}
+
+// What changes of a man's colour where he is lifted from a square. With him put on another square it is what a plain
+// move of his changes: there is no man, so a right that is held is not lost by him coming there.
+pub(crate) fn lifted(rights: Rights, man: Man, from: Square) -> Change {
+    let key = man_key(man, from.index() % 64);
+    change_of(rights, man, key, SquareSet::single(from), false)
 }
 
 /// What a legal move changes; none where it is castling, a capture en passant or a promotion.

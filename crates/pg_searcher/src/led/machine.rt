@@ -5,6 +5,7 @@ use crate::known::MISSING;
 use crate::led::answer::Game;
 use crate::led::barren::Barren;
 use crate::led::familiar::Familiar;
+use crate::led::trials::Trials;
 use crate::sides::{Side, Sides};
 use arrayvec::ArrayVec;
 use pg_fen::Diagram;
@@ -30,21 +31,23 @@ impl Question<'_> {
     }
 }
 
-// Which moves of a node come next: the one that leads, those that are familiar, or the foreign ones.
+// Which moves of a node come next: the one that leads, those that are familiar, of few men or of more, or the foreign ones.
 #[derive(Clone, Copy, Debug, PartialEq, Eq)]
 pub(crate) enum Phase {
     Lead,
+    Few,
     Familiar,
     Foreign,
 }
 
-// An open node with at least two plies left: its position with the moves that are still to be played, which
-// of them come next, the one that led, the move that is being gone into, what is known of both colours, its key, how many
+// An open node with at least two plies left: its position with the moves that are still to be played, the familiar ones that
+// are still to be tried, which of them come next, the one that led, the move that is being gone into, what is known of both colours, its key, how many
 // foreign moves may still come; whether a listed game lies below, and whether a foreign move was refused
 // there.
 #[derive(Drop)]
 pub(crate) struct Open {
     pub(crate) moves: LegalMoves,
+    pub(crate) trials: Trials,
     pub(crate) phase: Phase,
     pub(crate) lead: Option<Move>,
     pub(crate) played: Option<Move>,
@@ -60,6 +63,7 @@ impl Open {
     pub(crate) fn new(position: &Position, sides: &Sides, key: u64, foreign: u8) -> Open {
         Open {
             moves: LegalMoves::new(position),
+            trials: Trials::none(),
             phase: Phase::Lead,
             lead: None,
             played: None,

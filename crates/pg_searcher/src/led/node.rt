@@ -2,11 +2,12 @@
 ghost use Rattle.std.specs.Prelude.{◌≡◌};
 ghost use Rattle.pg_position.specs.Step.{IsLegal};
 
-use crate::judge::Cutting;
+use crate::judge::{Cutting, Judge};
 use crate::led::barren::{ANY, Barren};
 use crate::led::machine::{Halt, Open, Question, Sieve};
 use crate::led::order::Due;
-use crate::sides::{Sides, changes_of};
+use crate::led::plain::Scene;
+use crate::sides::{Side, Sides, changes_of};
 use pg_position::Position;
 use pg_prices::node_key;
 use std::alloc::AllocError;
@@ -25,6 +26,13 @@ pub(crate) enum Entry {
 pub(crate) struct Means {
     pub(crate) left: u8,
     pub(crate) foreign: u8,
+}
+
+// A legal move that is not known to be cut, and its colour after it, where it is plain.
+#[derive(Clone, Copy)]
+pub(crate) struct Uncut {
+    pub(crate) due: Due,
+    pub(crate) own: Option<Side>,
 }
 
 // Whether a cut excludes a node.
@@ -68,40 +76,51 @@ pub(crate) fn enter(
     }
 }
 
-// Visits the node after a legal move of an open one, with so many plies left, at least two: the node where
-// it opens.
+// What is known of both colours after a move that no cut excludes, or nothing; none where a cut excludes.
+#[inline(always)]
+fn known_after(judge: &Judge, scene: &Scene, top: &Open, uncut: &Uncut) -> Option<Option<Sides>> {
+    let color = scene.position.side();
+    let mut sides = top.sides;
+    if let Some(own) = &uncut.own {
+        sides.set(color, *own);
+        return Some(Some(sides));
+    }
+    let Some(changes) = changes_of(&scene.position, &uncut.due.m) else {
+        return Some(None);
+    };
+    let verdict = judge.quick(color, &mut sides, &changes, scene.left);
+    if is_cut(verdict) {
+        None
+    } else {
+        Some(Some(sides))
+    }
+}
+
+// The node after a legal move of an open one, which was visited: the node where it opens.
 pub(crate) fn child(
     question: &Question,
     sieve: &mut Sieve,
     top: &mut Open,
-    position: &Position,
-    due: &Due,
-    left: u8,
+    scene: &Scene,
+    uncut: &Uncut,
 ) -> Result<Option<Open>, Halt>
-    requires legal { IsLegal position.now due.now.m }
+    requires legal { IsLegal scene.now.position uncut.now.due.m }
     ensures moves { top.new.moves ≡ top.old.moves }
 {
-    if !sieve.visit() {
-        return Err(Halt::Budget);
-    }
-    let mut known = None;
-    if let Some(changes) = changes_of(position, &due.m) {
-        let mut sides = top.sides;
-        let verdict = sieve
-            .judge
-            .quick(position.side(), &mut sides, &changes, left);
-        if is_cut(verdict) {
-            return Ok(None);
-        }
-        known = Some(sides);
-    }
+    let due = uncut.due;
+    let Some(known) = known_after(&sieve.judge, scene, top, uncut) else {
+        return Ok(None);
+    };
     if due.is_foreign && top.foreign == 0 {
         top.refused = true;
         return Ok(None);
     }
-    let foreign = top.foreign.saturating_sub(u8::from(due.is_foreign));
-    let next = position.after(&due.m);
-    match enter(question, sieve, &next, known, Means { left, foreign }) {
+    let means = Means {
+        left: scene.left,
+        foreign: top.foreign.saturating_sub(u8::from(due.is_foreign)),
+    };
+    let next = scene.position.after(&due.m);
+    match enter(question, sieve, &next, known, means) {
         Ok(Entry::Barren) => Ok(None),
         Ok(Entry::Refused) => {
             top.refused = true;

@@ -1,46 +1,20 @@
 //! The walk through the games of one length, with a stack of open nodes.
-ghost use Rattle.std.specs.Prelude.{◌≡◌, ◌+◌, ◌<◌, ◌≤◌, length, OnOk};
+ghost use Rattle.std.specs.Prelude.{◌≡◌, ◌+◌, ◌<◌, ◌≤◌, length, OnOk, IfOk, IfSome};
+ghost use Rattle.pg_position.specs.Step.{IsLegal};
 
-use crate::ends::{leaf, put_move};
+use crate::ends::leaf;
 use crate::led::answer::{Game, LedProgress};
 use crate::led::barren::ANY;
+use crate::led::last::{end, end_after, end_near};
 use crate::led::machine::{Halt, Machine, Open, Question, Sieve};
-use crate::led::node::{Entry, Means, child, enter};
+use crate::led::node::{Entry, Means, Uncut, child, enter};
 use crate::led::order::next_due;
-use crate::nearing::{may_be_near, may_lead};
-use arrayvec::ArrayVec;
+use crate::led::plain::{Mover, Plain, Scene};
 use pg_moves::count_legal;
-use pg_position::{Move, Position};
+use pg_position::Position;
 
 // Each loop has a bound, and halts as at the end of the budget where it comes to it. None does: no position has
 // 65,535 moves, and no run takes 2^64 - 1 turns.
-
-// The game that leads along the open nodes and then by these moves.
-fn game_along(frames: &[Open], before: &Option<Move>, last: &Option<Move>) -> Game {
-    let mut game = ArrayVec::new();
-    for frame in frames {
-        put_move(&mut game, &frame.played);
-    }
-    put_move(&mut game, before);
-    put_move(&mut game, last);
-    game
-}
-
-// A game along the open nodes and by these moves ends on the diagram. One that is not listed is found.
-fn end(
-    question: &Question,
-    frames: &[Open],
-    found: &mut Game,
-    before: &Option<Move>,
-    last: &Option<Move>,
-) -> Result<(), Halt> {
-    let game = game_along(frames, before, last);
-    if question.games.contains(game.as_slice()) {
-        return Ok(());
-    }
-    *found = game;
-    Err(Halt::Found)
-}
 
 // A node with so many plies left closes. One below which no listed game lies is entered among the barren ones.
 fn close(top: &Open, machine: &mut Machine, left: u8) -> Result<(), Halt>
@@ -61,8 +35,32 @@ fn close(top: &Open, machine: &mut Machine, left: u8) -> Result<(), Halt>
     }
 }
 
-// The moves of a node with two plies left are played, familiar or not. After a move of a man on a square where the placements
-// agree no further one leads to the diagram (`may_lead`).
+// The moves of a node with two plies left are played one by one, up to the end of the budget.
+fn play_each(
+    question: &Question,
+    top: &mut Open,
+    frames: &[Open],
+    sieve: &mut Sieve,
+    found: &mut Game,
+) -> Result<(), Halt> {
+    let position = top.moves.position();
+    let squares = position.board().differing(&question.diagram.board());
+    for _ in 0..u16::MAX {
+        let Some(m) = top.moves.next() else {
+            return Ok(());
+        };
+        if !sieve.visit() {
+            return Err(Halt::Budget);
+        }
+        if squares.contains(m.from) && end_after(question, frames, found, &position, &m)? {
+            top.fertile = true;
+        }
+    }
+    Err(Halt::Budget)
+}
+
+// The moves of a node with two plies left are played, familiar or not. Where all of them may be visited they are counted, and
+// those few are played after which a further one may lead to the diagram.
 fn play_last_two(
     question: &Question,
     top: &mut Open,
@@ -71,24 +69,44 @@ fn play_last_two(
     found: &mut Game,
 ) -> Result<(), Halt> {
     let position = top.moves.position();
-    let diagram = question.diagram;
-    if !may_lead(diagram, &position) && sieve.visit_all(count_legal(&position)) {
-        return Ok(());
+    if !sieve.visit_all(count_legal(&position)) {
+        return play_each(question, top, frames, sieve, found);
     }
-    let squares = position.board().differing(&diagram.board());
+    if end_near(question, frames, found, &position)? {
+        top.fertile = true;
+    }
+    Ok(())
+}
+
+// The moves of a node are played up to the first that no cut is known to exclude by what is known of the node, which
+// is the answer; none where there is no such move. The node after it is visited.
+fn next_uncut(
+    question: &Question,
+    scene: &Scene,
+    mover: &mut Mover,
+    top: &mut Open,
+    sieve: &mut Sieve,
+) -> Result<Option<Uncut>, Halt>
+    requires { top.old.moves.position ≡ scene.now.position }
+    ensures legal { IfOk result (λ uncut. IfSome uncut (λ u. IsLegal scene.now.position u.due.m)) }
+    ensures same { top.new.moves.position ≡ scene.now.position }
+{
     for _ in 0..u16::MAX {
-        let Some(m) = top.moves.next() else {
-            return Ok(());
+        let Some(due) = next_due(question, scene, mover, top) else {
+            return Ok(None);
         };
         if !sieve.visit() {
             return Err(Halt::Budget);
         }
-        if squares.contains(m.from) && may_be_near(diagram, &position, &m) {
-            let last = leaf(diagram, &position.after(&m));
-            if last.is_some() {
-                end(question, frames, found, &Some(m), &last)?;
-                top.fertile = true;
+        match scene.plain(&sieve.judge, mover, &due.m) {
+            Plain::Cut => {}
+            Plain::Stays(own) => {
+                return Ok(Some(Uncut {
+                    due,
+                    own: Some(own),
+                }));
             }
+            Plain::No => return Ok(Some(Uncut { due, own: None })),
         }
     }
     Err(Halt::Budget)
@@ -103,14 +121,16 @@ fn next_opened(
     ply: usize,
     left: u8,
 ) -> Result<Option<Open>, Halt> {
-    let position = top.moves.position();
+    let scene = Scene::new(&sieve.judge, &top.moves.position(), &top.sides, ply, left);
+    let mut mover = Mover::none();
     for _ in 0..u16::MAX {
-        let Some(due) = next_due(question, top, &position, ply) else {
-            return Ok(None);
-        };
-        match child(question, sieve, top, &position, &due, left) {
-            Ok(None) => {}
-            Ok(Some(opened)) => return Ok(Some(opened)),
+        match next_uncut(question, &scene, &mut mover, top, sieve) {
+            Ok(Some(uncut)) => match child(question, sieve, top, &scene, &uncut) {
+                Ok(None) => {}
+                Ok(Some(opened)) => return Ok(Some(opened)),
+                Err(halt) => return Err(halt),
+            },
+            Ok(None) => return Ok(None),
             Err(halt) => return Err(halt),
         }
     }

@@ -32,7 +32,9 @@ fn check_visited<R: Abort + AllocGlobal>(rt: &R, row: &str) {
     );
 }
 
-// With so many nodes a game is found, or a round ends, and with a node less it is not.
+// With so many nodes a game is found, or a round ends, and with a node less it is not. Familiar moves are castlings, captures en
+// passant and promotions too, to a knight and a queen on one square. In the last game more men leave their squares at first than are
+// tried one by one.
 const VISITED: &str =
     "1. Nc3 d6 2. Nd5 Nd7 3. Nxe7 Ndf6 4. Nxg8 Nxg8 | 20000 | 1 => none with 1 2545
 1. Nc3 d6 2. Nd5 Nd7 3. Nxe7 Ndf6 4. Nxg8 Nxg8 | 2545 | 1 => none with 1 2545
@@ -53,7 +55,21 @@ const VISITED: &str =
 1. a3 h5 2. b3 h4 3. c3 h3 4. d3 hxg2 5. e3 gxh1=N | 75 | 0 => 10 plies
 1. a3 h5 2. b3 h4 3. c3 h3 4. d3 hxg2 5. e3 gxh1=N | 74 | 0 => none met 74
 1. e4 e6 2. Bb5 Ke7 3. Bxd7 c6 4. Be8 Kxe8 | 92 => 6 plies
-1. e4 e6 2. Bb5 Ke7 3. Bxd7 c6 4. Be8 Kxe8 | 91 => none met 91";
+1. e4 e6 2. Bb5 Ke7 3. Bxd7 c6 4. Be8 Kxe8 | 91 => none met 91
+1. d3 c6 2. Bf4 Qa5+ 3. Nd2 Qxd2+ 4. Qxd2 f6 5. O-O-O | 3167 | 1 => none with 1 3167
+1. d3 c6 2. Bf4 Qa5+ 3. Nd2 Qxd2+ 4. Qxd2 f6 5. O-O-O | 3166 | 1 => none with 0 3166
+1. d3 c6 2. Bf4 Qa5+ 3. Nd2 Qxd2+ 4. Qxd2 f6 5. O-O-O | 196 | 0 => none met 196
+1. e4 d5 2. exd5 Kd7 3. Qg4+ Kd6 4. Qb4+ c5 5. dxc6+ | 1532 | 2 => none with 2 1532
+1. e4 d5 2. exd5 Kd7 3. Qg4+ Kd6 4. Qb4+ c5 5. dxc6+ | 1531 | 2 => none with 1 1531
+1. h4 d5 2. h5 Nd7 3. h6 Ndf6 4. hxg7 Kd7 5. Rh6 Ne8 6. gxf8=N# | 767 | 2 => none with 2 767
+1. h4 d5 2. h5 Nd7 3. h6 Ndf6 4. hxg7 Kd7 5. Rh6 Ne8 6. gxf8=N# | 766 | 2 => none with 1 766
+1. a4 h5 2. a5 h4 3. a6 h3 4. axb7 hxg2 5. bxa8=N gxh1=N 6. Nb6 Ng3 | 693 | 2 => none with 2 693
+1. a4 h5 2. a5 h4 3. a6 h3 4. axb7 hxg2 5. bxa8=N gxh1=N 6. Nb6 Ng3 | 692 | 2 => none with 1 692
+1. a4 h5 2. a5 h4 3. a6 h3 4. axb7 hxg2 5. bxa8=N gxh1=N 6. Nb6 Ng3/1. a4 h5 2. a5 h4 3. a6 h3 4. axb7 hxg2 5. bxa8=Q gxh1=Q 6. Qb7 Qg2 | 695 | 2 => none with 2 695
+1. a4 h5 2. a5 h4 3. a6 h3 4. axb7 hxg2 5. bxa8=N gxh1=N 6. Nb6 Ng3/1. a4 h5 2. a5 h4 3. a6 h3 4. axb7 hxg2 5. bxa8=Q gxh1=Q 6. Qb7 Qg2 | 50 | 0 => none with 0 50
+1. e3 h5 2. Bc4 h4 3. Bxf7+ Kxf7 4. Ne2 Ke6 5. O-O Kd5 6. Nec3+ Kc4 7. d3+ | 4487 | 2 => none with 2 4487
+1. e3 h5 2. Bc4 h4 3. Bxf7+ Kxf7 4. Ne2 Ke6 5. O-O Kd5 6. Nec3+ Kc4 7. d3+ | 4486 | 2 => none with 1 4486
+1. Nf3 Nf6 2. g3 g6 3. Bg2 Bg7 4. O-O O-O 5. d3 d6 6. Nc3 Nc6 7. Bf4 Bf5 8. Qd2 Qd7 | 30000 | 0 => 16 plies";
 
 #[test]
 fn as_many_nodes_are_visited_as_by_a_walk_from_node_to_node(rt: HostRuntime) {

@@ -3,4 +3,4 @@ use Rattle.pg_searcher.proofs.led.order.next_of.Given as goal
 
 -- the node stays the same
 abbrev pub invariant-loop : goal.invariant-loop
-invariant-loop l = l.moves.position ≡ l.position
+invariant-loop l = l.moves.position ≡ l.scene.position
