@@ -106,6 +106,7 @@ man_fewer now new (inr (a, n, last, is, from, past)) =
     let e : length (left_after now.position now.last) ≡ length (left_between now.position a n) + length (left_after now.position (Some n)) = ap (λ (l : Option Move). length (left_after now.position l)) last ∙ ap length (left_split now.position a n past) ∙ length-append (left_between now.position a n) (left_after now.position (Some n)) in
     let f : length (left_after new.position new.last) ≡ length (left_after now.position (Some n)) = ap (λ (v : MovesLeft). length (left_after v.position v.last)) is in
     omega (arith, e, f)
+
 -- after the last one none is left
 pub none_elsewhere : (d : Placement) (moves : MovesLeft) → IsLast moves.position moves.last → AllElsewhere d moves
 none_elsewhere d moves end m c = absurd (Contains-none m (subst (λ (v : List Move). Contains v m) (left_last moves.position moves.last end) c))

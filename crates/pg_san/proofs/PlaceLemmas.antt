@@ -67,12 +67,12 @@ behind_each gs g last x s e less (k, low, f) =
     let here : get_or gs k last ≡ x = get_or_default gs k last x low ∙ f in
     elim (cases_lt (suc k) (length gs)) [
       | inl h ↦
-        let before : game_cmp (get_or gs k last) (get_or gs (length gs - 1) last) ≡ Less = Less-from_sorted game_cmp gs k (length gs - 1) last s (omega arith) (omega arith) in
-        game_cmp_total.trans x last g (rw (here, e) at before) less
+          let before : game_cmp (get_or gs k last) (get_or gs (length gs - 1) last) ≡ Less = Less-from_sorted game_cmp gs k (length gs - 1) last s (omega arith) (omega arith) in
+          game_cmp_total.trans x last g (rw (here, e) at before) less
       | inr h ↦
-        let at : k ≡ length gs - 1 = omega arith in
-        let same : x ≡ last = sym here ∙ ap (λ i. get_or gs i last) at ∙ e in
-        subst (λ y. game_cmp y g ≡ Less) (sym same) less
+          let at : k ≡ length gs - 1 = omega arith in
+          let same : x ≡ last = sym here ∙ ap (λ i. get_or gs i last) at ∙ e in
+          subst (λ y. game_cmp y g ≡ Less) (sym same) less
     ]
 
 pub behind_all : {V : Type 0} (f : V → List Move) (xs : List V) (g : List Move) (v : V) → IsStrictlySortedBy game_cmp (map f xs) → slice_get xs (length xs - 1) ≡ Some v → game_cmp (f v) g ≡ Less → IsPlace (map f xs) g (length xs)
