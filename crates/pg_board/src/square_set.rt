@@ -160,7 +160,9 @@ impl SquareSet {
     {
         match self.first() {
             Some(square) => {
-                self.bits &= !(1u64 << square.index());
+                // What `n & (n - 1)` leaves: the wait for the square's number is not one for the rest of the set.
+                let rest = *self - self.up_to_first();
+                *self = rest;
                 Some(square)
             }
             None => None,
