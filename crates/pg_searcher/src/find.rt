@@ -4,7 +4,7 @@ ghost use Rattle.pg_searcher.specs.Refusals.{RefusesTruly};
 
 use crate::fault::SearchFault;
 use crate::judge::Judge;
-use crate::machine::{Findings, Machine, Question, Recorder, Stack};
+use crate::machine::{Findings, Frames, Machine, Question, Recorder};
 use crate::progress::SearchProgress;
 use crate::walk::tree_of;
 use pg_certificate::{Header, Sink};
@@ -28,6 +28,7 @@ fn header(diagram: &Diagram, plies: u8) -> Header
 fn write<W: Sink, P: SearchProgress>(
     diagram: &Diagram,
     plies: u8,
+    frames: &mut Frames,
     machine: &mut Machine,
     sink: &mut W,
     watch: &mut P,
@@ -47,7 +48,7 @@ fn write<W: Sink, P: SearchProgress>(
             plies,
             tree,
         };
-        match tree_of(&question, machine, sink, watch) {
+        match tree_of(&question, frames, machine, sink, watch) {
             Ok(()) => {}
             Err(fault) => return Err(fault),
         }
@@ -104,15 +105,17 @@ pub fn search_watched<W: Sink, P: SearchProgress>(
     let Ok(judge) = Judge::new(alloc, diagram) else {
         return Err(SearchFault::Memory);
     };
+    let mut frames = Frames::new();
     let mut machine = Machine {
-        stack: Stack::new(),
+        open: 0,
         recorder: Recorder::new(alloc, judge, max_nodes),
         findings: Findings {
             games: Games::new(alloc),
             fertile: false,
         },
     };
-    match write(diagram, length.plies(), &mut machine, sink, watch) {
+    let plies = length.plies();
+    match write(diagram, plies, &mut frames, &mut machine, sink, watch) {
         Ok(()) => {}
         Err(fault) => return Err(fault),
     }

@@ -1,5 +1,5 @@
 //! What the search holds.
-ghost use Rattle.std.specs.Prelude.{◌≡◌, ℕ, ◌+◌, ◌<◌, ◌≤◌, false, OnOk};
+ghost use Rattle.std.specs.Prelude.{◌≡◌, ℕ, false, OnOk};
 ghost use Rattle.pg_searcher.specs.Refusals.{RefusesTruly};
 
 use crate::fault::SearchFault;
@@ -282,82 +282,33 @@ pub(crate) struct Findings {
     pub(crate) fertile: bool,
 }
 
-// The open nodes, the topmost last, of at most 128. A node that has closed keeps its frame, which the next one takes: to take it off
-// the list would move it, and put a frame of nothing there.
-#[derive(Drop)]
-pub(crate) struct Stack {
-    pub(crate) frames: ArrayVec<Frame, 128>,
-    open: u8,
-}
+// The frames of open nodes, the topmost last, and behind them those of nodes that have closed: a frame stays where it is until the
+// next node takes its place, since to take it off the list would move it, and put a frame of nothing there.
+pub(crate) type Frames = ArrayVec<Frame, 128>;
 
-impl Stack {
-    // No open node.
-    pub(crate) fn new() -> Stack {
-        Stack {
-            frames: ArrayVec::new(),
-            open: 0,
-        }
-    }
-
-    // How many nodes are open.
-    pub(crate) fn len(&self) -> u8
-        ensures { result ≡ self.now.open }
-    {
-        self.open
-    }
-
-    // No node is open from now on.
-    pub(crate) fn clear(&mut self)
-        ensures { self.new.open ≡ 0 }
-    {
-        self.open = 0;
-    }
-
-    // A node is open from now on.
-    pub(crate) fn push(&mut self, frame: Frame)
-        requires { self.old.open < 128 }
-        ensures { self.new.open ≡ self.old.open + 1 }
-    {
-        match self.frames.get_mut(usize::from(self.open)) {
-            Some(place) => *place = frame,
-            None => {
-                let _ = self.frames.try_push(frame);
-            }
-        }
-        self.open += 1;
-    }
-
-    // The topmost node closes.
-    pub(crate) fn pop(&mut self)
-        ensures { self.new.open ≤ self.old.open }
-    {
-        self.open = self.open.saturating_sub(1);
-    }
-
-    // The topmost node, if one is open.
-    pub(crate) fn top(&self) -> Option<&Frame> {
-        self.frames.get(usize::from(self.open).saturating_sub(1))
-    }
-
-    // The node that has closed last, until another one opens.
-    pub(crate) fn popped(&self) -> Option<&Frame> {
-        self.frames.get(usize::from(self.open))
-    }
-
-    // The open nodes above the topmost.
-    pub(crate) fn above(&self) -> &[Frame] {
-        let above = usize::from(self.open).saturating_sub(1);
-        match self.frames.get(..above) {
-            Some(frames) => frames,
-            None => &[],
+// Puts the frame of a node in the place behind those of so many open ones.
+pub(crate) fn put_frame(frames: &mut Frames, open: u8, frame: Frame) {
+    match frames.get_mut(usize::from(open)) {
+        Some(place) => *place = frame,
+        None => {
+            let _ = frames.try_push(frame);
         }
     }
 }
 
-// The open nodes, what writes the records of nodes, and what was found.
+// The frames of so many open nodes.
+pub(crate) fn open_frames(frames: &Frames, open: u8) -> &[Frame] {
+    match frames.get(..usize::from(open)) {
+        Some(frames) => frames,
+        None => &[],
+    }
+}
+
+// How many nodes are open, what writes the records of nodes, and what was found. The frames stand apart: here they would be moved
+// with it, and each move of so large a list takes room of its own on the stack.
 #[derive(Drop)]
 pub(crate) struct Machine {
-    pub(crate) stack: Stack,
+    pub(crate) open: u8,
     pub(crate) recorder: Recorder,
     pub(crate) findings: Findings,
 }

@@ -6,7 +6,10 @@ ghost use Rattle.pg_searcher.specs.Refusals.{RefusesTruly};
 use crate::ends::{end, last_node, leaves};
 use crate::fault::SearchFault;
 use crate::judge::{CutBy, Judge};
-use crate::machine::{Findings, Frame, Machine, Names, Opened, Output, Question, Recorder, Stack};
+use crate::machine::{
+    Findings, Frame, Frames, Machine, Names, Opened, Output, Question, Recorder, open_frames,
+    put_frame,
+};
 use crate::nearing::{may_be_near, may_lead};
 use crate::node::{Uncut, child, enter};
 use crate::outlook::{Mover, Outlook, Plain};
@@ -47,17 +50,16 @@ fn close(top: &Frame, names: &mut Names, findings: &mut Findings) -> Result<(), 
 }
 
 // The topmost node closes.
-fn close_top(
-    stack: &mut Stack,
-    names: &mut Names,
-    findings: &mut Findings,
-) -> Result<(), SearchFault>
-    ensures open { stack.new.open ≤ stack.old.open }
+fn close_top(frames: &Frames, machine: &mut Machine) -> Result<(), SearchFault>
+    requires runs { machine.old.recorder.output.writer.failed ≡ false }
+    ensures open { machine.new.open ≤ machine.old.open }
+    ensures runs { machine.new.recorder.output.writer.failed ≡ false }
     ensures says { (plies : ℕ) (failed : Bool) → RefusesTruly plies failed result }
 {
-    stack.pop();
-    match stack.popped() {
-        Some(top) => close(top, names, findings),
+    machine.open = machine.open.saturating_sub(1);
+    let names = &mut machine.recorder.output.names;
+    match frames.get(usize::from(machine.open)) {
+        Some(top) => close(top, names, &mut machine.findings),
         None => Ok(()),
     }
 }
@@ -170,10 +172,10 @@ fn play_each<W: Sink>(
     Err(SearchFault::Budget)
 }
 
-// The moves of the topmost node, with two plies left, are played, and it is ready to close.
+// The moves of the topmost of the open nodes, with two plies left, are played, and it is ready to close.
 fn play_last_two<W: Sink>(
     question: &Question,
-    stack: &Stack,
+    frames: &[Frame],
     findings: &mut Findings,
     output: &mut Output,
     sink: &mut W,
@@ -182,13 +184,13 @@ fn play_last_two<W: Sink>(
     ensures runs { OnOk result (output.new.writer.failed ≡ false) }
     ensures says { RefusesTruly question.now.plies (W.has_failed sink.new) result }
 {
-    let Some(top) = stack.top() else {
+    let Some((top, above)) = frames.split_last() else {
         return Ok(());
     };
     let position = top.moves.position();
     match expand_all(question.diagram, &position, output, sink) {
         Ok(true) => Ok(()),
-        Ok(false) => play_each(question, &position, stack.above(), findings, output, sink),
+        Ok(false) => play_each(question, &position, above, findings, output, sink),
         Err(fault) => Err(fault),
     }
 }
@@ -305,22 +307,21 @@ fn next_opened<W: Sink>(
     Err(SearchFault::Budget)
 }
 
-// The moves of the topmost node are played up to the first that leads to a node that opens. The answer is whether there is one.
+// The moves of the node at a place are played up to the first that leads to a node that opens. The answer is whether there is one.
 // Whether a game below the child that closed last ends on the diagram is kept with it.
-fn next_opened_of<W: Sink>(
+fn next_opened_at<W: Sink>(
     question: &Question,
-    stack: &mut Stack,
+    frames: &mut Frames,
+    at: usize,
     fertile: bool,
     recorder: &mut Recorder,
     sink: &mut W,
 ) -> Result<bool, SearchFault>
     requires runs { recorder.old.output.writer.failed ≡ false }
-    ensures open { stack.new.open ≡ stack.old.open }
     ensures runs { OnOk result (recorder.new.output.writer.failed ≡ false) }
     ensures says { RefusesTruly question.now.plies (W.has_failed sink.new) result }
 {
-    let last = usize::from(stack.len()).saturating_sub(1);
-    match stack.frames.get_mut(last) {
+    match frames.get_mut(at) {
         Some(top) => {
             top.fertile = top.fertile || fertile;
             next_opened(question, top, recorder, sink)
@@ -333,29 +334,28 @@ fn next_opened_of<W: Sink>(
 fn play_until_opened<W: Sink>(
     question: &Question,
     left: u8,
+    frames: &mut Frames,
     machine: &mut Machine,
     sink: &mut W,
 ) -> Result<(), SearchFault>
-    requires room { machine.old.stack.open < 128 }
+    requires room { machine.old.open < 128 }
     requires runs { machine.old.recorder.output.writer.failed ≡ false }
-    ensures depth { OnOk result (machine.new.stack.open ≤ machine.old.stack.open + 1) }
+    ensures depth { OnOk result (machine.new.open ≤ machine.old.open + 1) }
     ensures runs { OnOk result (machine.new.recorder.output.writer.failed ≡ false) }
     ensures says { RefusesTruly question.now.plies (W.has_failed sink.new) result }
 {
+    let at = usize::from(machine.open).saturating_sub(1);
     let fertile = machine.findings.fertile;
     machine.findings.fertile = false;
-    let recorder = &mut machine.recorder;
-    match next_opened_of(question, &mut machine.stack, fertile, recorder, sink) {
+    match next_opened_at(question, frames, at, fertile, &mut machine.recorder, sink) {
         Ok(true) => {
             let opened = &machine.recorder.output.opened;
             let frame = frame_of(&machine.recorder.judge, opened, left);
-            machine.stack.push(frame);
+            put_frame(frames, machine.open, frame);
+            machine.open += 1;
             Ok(())
         }
-        Ok(false) => {
-            let names = &mut machine.recorder.output.names;
-            close_top(&mut machine.stack, names, &mut machine.findings)
-        }
+        Ok(false) => close_top(frames, machine),
         Err(fault) => Err(fault),
     }
 }
@@ -409,31 +409,29 @@ fn enter_root<W: Sink>(
 // One turn: moves of the topmost node are played, until a node opens that is the topmost from now on, or it closes.
 fn turn<W: Sink>(
     question: &Question,
+    frames: &mut Frames,
     machine: &mut Machine,
     sink: &mut W,
 ) -> Result<(), SearchFault>
     requires limit { question.now.tree ≤ 128 }
-    requires depth { machine.old.stack.open ≤ question.now.tree }
+    requires depth { machine.old.open ≤ question.now.tree }
     requires runs { machine.old.recorder.output.writer.failed ≡ false }
-    ensures depth { OnOk result (machine.new.stack.open ≤ question.now.tree) }
+    ensures depth { OnOk result (machine.new.open ≤ question.now.tree) }
     ensures runs { OnOk result (machine.new.recorder.output.writer.failed ≡ false) }
     ensures says { RefusesTruly question.now.plies (W.has_failed sink.new) result }
 {
-    let left = question.tree - machine.stack.len();
+    let left = question.tree - machine.open;
     if left >= 2 {
-        return play_until_opened(question, left, machine, sink);
+        return play_until_opened(question, left, frames, machine, sink);
     }
     match play_last_two(
         question,
-        &machine.stack,
+        open_frames(frames, machine.open),
         &mut machine.findings,
         &mut machine.recorder.output,
         sink,
     ) {
-        Ok(()) => {
-            let names = &mut machine.recorder.output.names;
-            close_top(&mut machine.stack, names, &mut machine.findings)
-        }
+        Ok(()) => close_top(frames, machine),
         Err(fault) => Err(fault),
     }
 }
@@ -452,6 +450,7 @@ fn tell<P: SearchProgress>(games: &Games, known: usize, watch: &mut P) -> usize 
 // The tree of one length.
 pub(crate) fn tree_of<W: Sink, P: SearchProgress>(
     question: &Question,
+    frames: &mut Frames,
     machine: &mut Machine,
     sink: &mut W,
     watch: &mut P,
@@ -461,7 +460,7 @@ pub(crate) fn tree_of<W: Sink, P: SearchProgress>(
     ensures runs { OnOk result (machine.new.recorder.output.writer.failed ≡ false) }
     ensures says { RefusesTruly question.now.plies (W.has_failed sink.new) result }
 {
-    machine.stack.clear();
+    machine.open = 0;
     machine.findings.fertile = false;
     let mut known = machine.findings.games.len();
     if question.tree < 2 {
@@ -471,19 +470,22 @@ pub(crate) fn tree_of<W: Sink, P: SearchProgress>(
         return answer;
     }
     match enter_root(question, &mut machine.recorder, sink) {
-        Ok(Some(root)) => machine.stack.push(root),
+        Ok(Some(root)) => {
+            put_frame(frames, 0, root);
+            machine.open = 1;
+        }
         Ok(None) => return Ok(()),
         Err(fault) => return Err(fault),
     }
     for _ in 0..u64::MAX {
-        let answer = turn(question, machine, sink);
+        let answer = turn(question, frames, machine, sink);
         known = tell(&machine.findings.games, known, watch);
         match answer {
             Ok(()) => {}
             Err(fault) => return Err(fault),
         }
         watch.reached(question.tree, machine.recorder.output.nodes);
-        if machine.stack.len() == 0 {
+        if machine.open == 0 {
             return Ok(());
         }
     }

@@ -41,9 +41,9 @@ pub(crate) enum Phase {
 }
 
 // An open node with at least two plies left: its position with the moves that are still to be played, the familiar ones that
-// are still to be tried, which of them come next, the one that led, the move that is being gone into, what is known of both colours, its key, how many
-// foreign moves may still come; whether a listed game lies below, and whether a foreign move was refused
-// there.
+// are still to be tried, which of them come next, the one that led, the move that is being gone into, what is known of both
+// colours, its key, how many foreign moves may still come; whether a listed game lies below, and whether a foreign move was
+// refused there.
 #[derive(Drop)]
 pub(crate) struct Open {
     pub(crate) moves: LegalMoves,
@@ -130,12 +130,15 @@ impl Sieve {
     }
 }
 
-// What tells whether nodes are gone into, the open nodes, whether a foreign move was refused in this round,
-// and the game that was found.
+// The open nodes, the topmost last.
+pub(crate) type Frames = ArrayVec<Open, 128>;
+
+// What tells whether nodes are gone into, whether a foreign move was refused in this round, and the game that was
+// found. The open nodes stand apart: here they would be moved with it, and each move of so large a list takes room of its
+// own on the stack.
 #[derive(Drop)]
 pub(crate) struct Machine {
     pub(crate) sieve: Sieve,
-    pub(crate) frames: ArrayVec<Open, 128>,
     pub(crate) refused: bool,
     pub(crate) game: Game,
 }

@@ -4,9 +4,8 @@ use crate::judge::Judge;
 use crate::led::answer::{Game, Led, LedFault, LedLimits, LedProgress};
 use crate::led::barren::Barren;
 use crate::led::familiar::Familiar;
-use crate::led::machine::{Halt, Machine, Question, Sieve};
+use crate::led::machine::{Frames, Halt, Machine, Question, Sieve};
 use crate::led::walk::tree;
-use arrayvec::ArrayVec;
 use pg_fen::{Diagram, Length};
 use pg_san::Games;
 use std::alloc::{AllocError, Global};
@@ -14,6 +13,7 @@ use std::alloc::{AllocError, Global};
 // The games with at most so many foreign moves: those of the stated length, then those of fewer plies.
 fn round<P: LedProgress>(
     question: &Question,
+    frames: &mut Frames,
     machine: &mut Machine,
     length: Length,
     foreign: u8,
@@ -21,7 +21,7 @@ fn round<P: LedProgress>(
 ) -> Result<(), Halt> {
     let most = length.plies();
     for fewer in 0..=most {
-        tree(question, machine, most - fewer, foreign, watch)?;
+        tree(question, frames, machine, most - fewer, foreign, watch)?;
     }
     Ok(())
 }
@@ -37,6 +37,7 @@ struct Ran {
 // The rounds with no foreign move, with one, and so on, up to the first in which none was refused.
 fn rounds<P: LedProgress>(
     question: &Question,
+    frames: &mut Frames,
     machine: &mut Machine,
     length: Length,
     most: u8,
@@ -48,7 +49,7 @@ fn rounds<P: LedProgress>(
     };
     for foreign in 0..=most {
         machine.refused = false;
-        match round(question, machine, length, foreign, watch) {
+        match round(question, frames, machine, length, foreign, watch) {
             Ok(()) => ran.foreign = Some(foreign),
             Err(halt) => {
                 ran.halt = Some(halt);
@@ -71,7 +72,6 @@ fn machine_of(alloc: Global, diagram: &Diagram, nodes: u64) -> Result<Machine, A
     };
     Ok(Machine {
         sieve,
-        frames: ArrayVec::new(),
         refused: false,
         game: Game::new(),
     })
@@ -116,7 +116,8 @@ pub fn search_led<P: LedProgress>(
         familiar: &familiar,
     };
     let most = limits.foreign.unwrap_or(length.plies());
-    let ran = rounds(&question, &mut machine, length, most, watch);
+    let mut frames = Frames::new();
+    let ran = rounds(&question, &mut frames, &mut machine, length, most, watch);
     let Machine { sieve, game, .. } = machine;
     match ran.halt {
         Some(Halt::Found) => Ok(Led::Found(game)),

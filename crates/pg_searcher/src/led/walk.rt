@@ -6,7 +6,7 @@ use crate::ends::leaf;
 use crate::led::answer::{Game, LedProgress};
 use crate::led::barren::ANY;
 use crate::led::last::{end, end_after, end_near};
-use crate::led::machine::{Halt, Machine, Open, Question, Sieve};
+use crate::led::machine::{Frames, Halt, Machine, Open, Question, Sieve};
 use crate::led::node::{Entry, Means, Uncut, child, enter};
 use crate::led::order::next_due;
 use crate::led::plain::{Mover, Plain, Scene};
@@ -17,10 +17,10 @@ use pg_position::Position;
 // 65,535 moves, and no run takes 2^64 - 1 turns.
 
 // A node with so many plies left closes. One below which no listed game lies is entered among the barren ones.
-fn close(top: &Open, machine: &mut Machine, left: u8) -> Result<(), Halt>
-    ensures { length machine.new.frames.items ≡ length machine.old.frames.items }
+fn close(top: &Open, frames: &mut Frames, machine: &mut Machine, left: u8) -> Result<(), Halt>
+    ensures { length frames.new.items ≡ length frames.old.items }
 {
-    if let Some(parent) = machine.frames.last_mut() {
+    if let Some(parent) = frames.last_mut() {
         parent.fertile = parent.fertile || top.fertile;
         parent.refused = parent.refused || top.refused;
     }
@@ -140,45 +140,52 @@ fn next_opened(
 // The moves of a node are played until a node opens, with so many plies left; where none does the node closes.
 fn play_until_opened(
     question: &Question,
+    frames: &mut Frames,
     machine: &mut Machine,
     top: Open,
     left: u8,
 ) -> Result<(), Halt>
-    requires { length machine.old.frames.items + 2 ≤ 128 }
-    ensures { OnOk result (length machine.new.frames.items ≤ length machine.old.frames.items + 2) }
+    requires { length frames.old.items + 2 ≤ 128 }
+    ensures { OnOk result (length frames.new.items ≤ length frames.old.items + 2) }
 {
     let mut top = top;
-    let ply = machine.frames.len();
+    let ply = frames.len();
     match next_opened(question, &mut top, &mut machine.sieve, ply, left) {
         Ok(Some(opened)) => {
-            machine.frames.push(top);
-            machine.frames.push(opened);
+            frames.push(top);
+            frames.push(opened);
             Ok(())
         }
-        Ok(None) => close(&top, machine, left.saturating_add(1)),
+        Ok(None) => close(&top, frames, machine, left.saturating_add(1)),
         Err(halt) => Err(halt),
     }
 }
 
 // One turn: moves of the topmost node are played.
-fn turn(question: &Question, machine: &mut Machine, top: Open, plies: u8) -> Result<(), Halt>
+fn turn(
+    question: &Question,
+    frames: &mut Frames,
+    machine: &mut Machine,
+    top: Open,
+    plies: u8,
+) -> Result<(), Halt>
     requires limit { plies ≤ 128 }
-    requires depth { length machine.old.frames.items < plies }
-    ensures { OnOk result (length machine.new.frames.items ≤ plies) }
+    requires depth { length frames.old.items < plies }
+    ensures { OnOk result (length frames.new.items ≤ plies) }
 {
-    let left = plies - machine.frames.len() as u8 - 1;
+    let left = plies - frames.len() as u8 - 1;
     if left >= 2 {
-        return play_until_opened(question, machine, top, left);
+        return play_until_opened(question, frames, machine, top, left);
     }
     let mut top = top;
     match play_last_two(
         question,
         &mut top,
-        machine.frames.as_slice(),
+        frames.as_slice(),
         &mut machine.sieve,
         &mut machine.game,
     ) {
-        Ok(()) => close(&top, machine, 2),
+        Ok(()) => close(&top, frames, machine, 2),
         Err(halt) => Err(halt),
     }
 }
@@ -223,6 +230,7 @@ fn short_tree(question: &Question, found: &mut Game, plies: u8) -> Result<(), Ha
 // All games of so many plies, with at most so many foreign moves.
 pub(crate) fn tree<P: LedProgress>(
     question: &Question,
+    frames: &mut Frames,
     machine: &mut Machine,
     plies: u8,
     foreign: u8,
@@ -230,18 +238,18 @@ pub(crate) fn tree<P: LedProgress>(
 ) -> Result<(), Halt>
     requires { plies ≤ 128 }
 {
-    machine.frames.clear();
+    frames.clear();
     if plies < 2 {
         return short_tree(question, &mut machine.game, plies);
     }
     if let Some(opened) = enter_root(question, &mut machine.sieve, plies, foreign)? {
-        machine.frames.push(opened);
+        frames.push(opened);
     }
     for _ in 0..u64::MAX {
-        let Some(top) = machine.frames.pop() else {
+        let Some(top) = frames.pop() else {
             return Ok(());
         };
-        turn(question, machine, top, plies)?;
+        turn(question, frames, machine, top, plies)?;
         watch.reached(foreign, plies, machine.sieve.nodes);
     }
     Err(Halt::Budget)

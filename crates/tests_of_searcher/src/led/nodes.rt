@@ -33,8 +33,8 @@ fn check_visited<R: Abort + AllocGlobal>(rt: &R, row: &str) {
 }
 
 // With so many nodes a game is found, or a round ends, and with a node less it is not. Familiar moves are castlings, captures en
-// passant and promotions too, to a knight and a queen on one square. In the last game more men leave their squares at first than are
-// tried one by one.
+// passant and promotions too, to a knight and a queen on one square, to a bishop and a rook with more than two plies left and as the move
+// before the last. Six men that leave their squares are tried one by one, seven and more are not. The numbers are those of a walk that went through all moves.
 const VISITED: &str =
     "1. Nc3 d6 2. Nd5 Nd7 3. Nxe7 Ndf6 4. Nxg8 Nxg8 | 20000 | 1 => none with 1 2545
 1. Nc3 d6 2. Nd5 Nd7 3. Nxe7 Ndf6 4. Nxg8 Nxg8 | 2545 | 1 => none with 1 2545
@@ -69,6 +69,30 @@ const VISITED: &str =
 1. a4 h5 2. a5 h4 3. a6 h3 4. axb7 hxg2 5. bxa8=N gxh1=N 6. Nb6 Ng3/1. a4 h5 2. a5 h4 3. a6 h3 4. axb7 hxg2 5. bxa8=Q gxh1=Q 6. Qb7 Qg2 | 50 | 0 => none with 0 50
 1. e3 h5 2. Bc4 h4 3. Bxf7+ Kxf7 4. Ne2 Ke6 5. O-O Kd5 6. Nec3+ Kc4 7. d3+ | 4487 | 2 => none with 2 4487
 1. e3 h5 2. Bc4 h4 3. Bxf7+ Kxf7 4. Ne2 Ke6 5. O-O Kd5 6. Nec3+ Kc4 7. d3+ | 4486 | 2 => none with 1 4486
+1. a4 b5 2. axb5 a6 3. bxa6 c6 4. a7 c5 5. axb8=B d6 | 20000 | 0 => 10 plies
+1. a4 b5 2. axb5 a6 3. bxa6 c6 4. a7 c5 5. axb8=B d6 | 62 | 0 => 10 plies
+1. a4 b5 2. axb5 a6 3. bxa6 c6 4. a7 c5 5. axb8=B d6 | 61 | 0 => none met 61
+1. a4 b5 2. axb5 a6 3. bxa6 c6 4. a7 c5 5. axb8=R d6 | 20000 | 0 => 10 plies
+1. a4 b5 2. axb5 a6 3. bxa6 c6 4. a7 c5 5. axb8=R d6 | 63 | 0 => 10 plies
+1. a4 b5 2. axb5 a6 3. bxa6 c6 4. a7 c5 5. axb8=R d6 | 62 | 0 => none met 62
+1. a4 b5 2. axb5 a6 3. bxa6 c6 4. a7 c5 5. axb8=B d6 6. Bxd6 exd6 | 20000 | 0 => 12 plies
+1. a4 b5 2. axb5 a6 3. bxa6 c6 4. a7 c5 5. axb8=B d6 6. Bxd6 exd6 | 69 | 0 => 12 plies
+1. a4 b5 2. axb5 a6 3. bxa6 c6 4. a7 c5 5. axb8=B d6 6. Bxd6 exd6 | 68 | 0 => none met 68
+1. a4 b5 2. axb5 a6 3. bxa6 c6 4. a7 c5 5. axb8=R d6 6. Rxc8 Qxc8 | 20000 | 0 => 12 plies
+1. a4 b5 2. axb5 a6 3. bxa6 c6 4. a7 c5 5. axb8=R d6 6. Rxc8 Qxc8 | 79 | 0 => 12 plies
+1. a4 b5 2. axb5 a6 3. bxa6 c6 4. a7 c5 5. axb8=R d6 6. Rxc8 Qxc8 | 78 | 0 => none met 78
+1. a3 a6 2. b3 b6 3. c3 c6 4. d3 d6 5. e3 e6 6. f3 f6 | 20000 | 0 => 12 plies
+1. a3 a6 2. b3 b6 3. c3 c6 4. d3 d6 5. e3 e6 6. f3 f6 | 56 | 0 => 12 plies
+1. a3 a6 2. b3 b6 3. c3 c6 4. d3 d6 5. e3 e6 6. f3 f6 | 55 | 0 => none met 55
+1. a3 a6 2. b3 b6 3. c3 c6 4. d3 d6 5. e3 e6 6. f3 f6 7. g3 g6 | 20000 | 0 => 14 plies
+1. a3 a6 2. b3 b6 3. c3 c6 4. d3 d6 5. e3 e6 6. f3 f6 7. g3 g6 | 51 | 0 => 14 plies
+1. a3 a6 2. b3 b6 3. c3 c6 4. d3 d6 5. e3 e6 6. f3 f6 7. g3 g6 | 50 | 0 => none met 50
+1. a4 h5 2. a5 h4 3. a6 h3 4. axb7 hxg2 5. bxa8=N gxh1=N 6. Nb6 Ng3/1. a4 h5 2. a5 h4 3. a6 h3 4. axb7 hxg2 5. bxa8=B gxh1=B 6. Bb7 Bg2 | 20000 | 0 => none with 0 50
+1. a4 h5 2. a5 h4 3. a6 h3 4. axb7 hxg2 5. bxa8=N gxh1=N 6. Nb6 Ng3/1. a4 h5 2. a5 h4 3. a6 h3 4. axb7 hxg2 5. bxa8=B gxh1=B 6. Bb7 Bg2 | 20000 | 1 => none with 1 323
+1. a4 h5 2. a5 h4 3. a6 h3 4. axb7 hxg2 5. bxa8=N gxh1=N 6. Nb6 Ng3/1. a4 h5 2. a5 h4 3. a6 h3 4. axb7 hxg2 5. bxa8=R gxh1=R 6. R8xa7 R1xh2 | 20000 | 0 => none with 0 50
+1. a4 h5 2. a5 h4 3. a6 h3 4. axb7 hxg2 5. bxa8=N gxh1=N 6. Nb6 Ng3/1. a4 h5 2. a5 h4 3. a6 h3 4. axb7 hxg2 5. bxa8=R gxh1=R 6. R8xa7 R1xh2 | 20000 | 1 => none with 1 323
+1. a4 h5 2. a5 h4 3. a6 h3 4. axb7 hxg2 5. bxa8=N gxh1=N 6. Nb6 Ng3/1. a4 h5 2. a5 h4 3. a6 h3 4. axb7 hxg2 5. bxa8=B gxh1=B 6. Bb7 Bg2/1. a4 h5 2. a5 h4 3. a6 h3 4. axb7 hxg2 5. bxa8=R gxh1=R 6. R8xa7 R1xh2 | 20000 | 1 => none with 1 325
+1. a4 h5 2. a5 h4 3. a6 h3 4. axb7 hxg2 5. bxa8=B gxh1=B 6. Bb7 Bg2/1. a4 h5 2. a5 h4 3. a6 h3 4. axb7 hxg2 5. bxa8=R gxh1=R 6. R8xa7 R1xh2 | 20000 | 0 => none with 0 55
 1. Nf3 Nf6 2. g3 g6 3. Bg2 Bg7 4. O-O O-O 5. d3 d6 6. Nc3 Nc6 7. Bf4 Bf5 8. Qd2 Qd7 | 30000 | 0 => 16 plies";
 
 #[test]

@@ -3,4 +3,4 @@ use Rattle.pg_searcher.proofs.led.walk.tree.Given as goal
 
 -- between two turns no more nodes are open than the games have plies
 abbrev pub invariant-loop : goal.invariant-loop
-invariant-loop g l = length l.machine.frames.items ≤ l.plies
+invariant-loop g l = length l.frames.items ≤ l.plies
