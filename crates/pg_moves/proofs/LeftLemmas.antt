@@ -1,21 +1,17 @@
 -- The legal moves past the last one.
-use Rattle.std.proofs.Common.{◌≡◌, ℕ, ◌+◌, ◌<◌, ◌≤◌, ◌∙◌, inl, inr, true, false, Option, Some, None, MatchOption, refl, sym, ap, subst, arith}
-use Rattle.pg_board.specs.Bits.{has}
-use Rattle.pg_board.specs.Men.{is_of}
-use Rattle.pg_board.specs.Placement.{get}
+use Rattle.std.proofs.Common.{◌≡◌, ℕ, ◌+◌, ◌<◌, ◌≤◌, ◌∙◌, inl, inr, true, false, Option, Some, None, MatchOption, refl, sym, subst, arith}
 use Rattle.pg_position.specs.declared.state.State.{State}
 use Rattle.pg_position.specs.declared.moves.Move.{Move}
-use Rattle.pg_board.specs.SquareSets.{HasNoneFrom, IsFirstFrom}
 use Rattle.pg_moves.specs.Left.{MovesLeft, IsPeeked, IsManDone, IsNextOfMan, men_from}
 use Rattle.pg_moves.specs.inner.Sources.{IsSource, IsToldSource}
 use Rattle.pg_moves.specs.declared.cursor.Peeked.{Peeked}
 use Rattle.pg_moves.specs.Moves.{promotion_number, IsNext, IsLast}
 use Rattle.pg_moves.specs.inner.Places.{place, place_of, NoneFrom, IsFirstMove}
-use Rattle.pg_moves.specs.Targets.{IsOwn}
+use Rattle.pg_moves.specs.Targets.{IsOwn, IsTried}
 use Rattle.pg_moves.specs.declared.sources.Source.{Source}
 use Rattle.pg_moves.proofs.ListLemmas.{on_board}
 use Rattle.pg_moves.proofs.PlaceLemmas.{promotion_low}
-use Rattle.pg_moves.proofs.SearchLemmas.{own_found, own_next, own_end, next_found, next_none, none_then, none_yet, first_block}
+use Rattle.pg_moves.proofs.SearchLemmas.{next_found, next_none, none_then, none_yet, first_block}
 
 -- a move of a man's block is from there
 pub there : (r to n f t j : ℕ) → n ≤ 7 → t < 64 → j < 7 → place_of r to n ≤ place_of f t j → place_of f t j < place_of (r + 1) 0 0 → f ≡ r
@@ -35,6 +31,10 @@ untold p r s h = (h.0, h.1, λ e. (h.2 e).0)
 pub told : (p : State) (r : ℕ) (s : Source) → IsSource p r s → s.exact ≡ true → IsToldSource p r s
 unfolding IsSource IsToldSource
 told p r s h e = (h.0, h.1, λ no. absurd (let never : true ≡ false = sym e ∙ no in cc))
+
+pub told_tried : (p : State) (r : ℕ) (s : Source) → IsSource p r s → IsTried p r → IsToldSource p r s
+unfolding IsSource IsToldSource
+told_tried p r s h tried = (h.0, h.1, λ e. (h.2 e, tried))
 
 pub own_there : (p : State) (r : ℕ) (s : Source) → IsSource p r s → IsOwn p.board p.side r
 unfolding IsSource IsOwn

@@ -1,5 +1,5 @@
 -- What is known of all men of the side to move: where those go that cannot be pinned.
-use Rattle.std.proofs.Common.{◌≡◌, ◌≢◌, ℕ, ◌<◌, ◌∙◌, inl, inr, Bool, true, false, not, ◌&&◌, ◌||◌, ◌⊎◌, Option, Some, None, refl, sym, ap, subst}
+use Rattle.std.proofs.Common.{◌≡◌, ◌≢◌, ℕ, ◌<◌, ◌∙◌, inl, inr, Bool, true, false, not, ◌&&◌, ◌||◌, ◌⊎◌, Some, None, refl, sym, ap, subst, eqb}
 use Rattle.pg_board.specs.declared.man.Color.{Color}
 use Rattle.pg_board.specs.declared.man.Color.TheVariants.{White, Black}
 use Rattle.pg_board.specs.declared.man.Kind.{Kind}
@@ -18,7 +18,7 @@ use Rattle.pg_position.proofs.StepLemmas.{same_kind}
 use Rattle.pg_moves.specs.Targets.{IsOwn, Advances, Leaps}
 use Rattle.pg_moves.specs.declared.men.Men.{Men}
 use Rattle.pg_moves.specs.inner.Guards.{GuardsOff}
-use Rattle.pg_moves.specs.inner.Men.{AreMen}
+use Rattle.pg_moves.specs.inner.Men.{AreMen, AreKept}
 use Rattle.pg_moves.specs.inner.Pawns.{IsQuiet}
 use Rattle.pg_moves.specs.inner.Sources.{IsExact}
 use Rattle.pg_moves.proofs.ExactLemmas.{guarded_exact}
@@ -116,3 +116,9 @@ pawn_exact p men b c r steps set h eb ec low is x both =
 pub allowed_goals : (p : State) (b : Placement) (c : Color) (own goals allowed : ℕ) → b ≡ p.board → c ≡ p.side → ((q : ℕ) → q < 64 → has own q ≡ is_of c (get b q)) → ((q : ℕ) → q < 64 → has allowed q ≡ has goals q && not (has own q))
     → (q : ℕ) → q < 64 → has allowed q ≡ has goals q && not (is_of p.side (get p.board q))
 allowed_goals p b c own goals allowed eb ec are sub q l = sub q l ∙ ap (λ (y : Bool). has goals q && not y) (own_of p own b c eb ec are q l)
+
+-- what is kept of the men holds where some may be pinned
+pub kept_known : (p : State) (men : Men) (b : Bool) → AreKept p men → b ≡ eqb men.pinned 0 → b ≡ false → AreMen p men
+unfolding AreKept
+kept_known p men b (inl none) e f = absurd (let is : eqb men.pinned 0 ≡ true = ap (λ (n : ℕ). eqb n 0) none in cc)
+kept_known p men b (inr are) e f = are

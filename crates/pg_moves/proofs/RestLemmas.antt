@@ -144,6 +144,10 @@ pub turn_past : (p : State) (m : Move) (left rest : ℕ) (s : Source) (last : Op
 unfolding IsToldSource
 turn_past p m left rest s last come source to past = record { to_come = come; source = source; rest = λ e. rest_is p m s.set rest to (source.1 e) past }
 
+pub turn_on : (p : State) (a m : Move) (t : Turn) (rest : ℕ) → IsTurn p a t → m.from ≡ a.from → m.to < 64 → IsSetOf rest (λ q. (has t.source.set q ≡ true) × (m.to < q))
+    → IsTurn p m (record { left = t.left; rest = rest; source = t.source; last = Some m })
+turn_on p a m t rest h f to past = turn_past p m t.left rest t.source (Some m) (subst (λ (x : ℕ). AreToCome p (x + 1) t.left) (sym f) h.to_come) (subst (λ (x : ℕ). IsToldSource p x t.source) (sym f) h.source) to past
+
 ready_past : (p : State) (last : Option Move) (m : Move) (men : Men) (t : Turn) (rest : ℕ) → IsReady p last men t → IsNextOfMan p last m → IsSetOf rest (λ q. (has t.rest q ≡ true) × (m.to < q))
     → IsReady p (Some m) men (record { left = t.left; rest = rest; source = t.source; last = Some m })
 unfolding IsReady IsNextOfMan

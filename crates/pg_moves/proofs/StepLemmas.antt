@@ -1,29 +1,24 @@
 -- Where one free pawn goes, by sets shifted along the board.
-use Rattle.std.proofs.Common.{◌≡◌, ◌≢◌, ℕ, ◌+◌, ◌-◌, ◌<◌, inl, inr, true, not, ◌&&◌, ◌||◌, None, Some, refl, sym, subst, arith, ◌∙◌, eqb, false, ap}
+use Rattle.std.proofs.Common.{◌≡◌, ◌≢◌, ℕ, ◌+◌, ◌-◌, ◌<◌, inl, inr, true, not, ◌&&◌, ◌||◌, None, Some, refl, sym, subst, arith, ◌∙◌, eqb}
 use Rattle.std.proofs.lemmas.Bool.Decides.{Decides-at, Decides-eqb}
 use Rattle.pg_board.specs.declared.man.Color.{Color}
 use Rattle.pg_board.specs.declared.man.Color.TheVariants.{White, Black}
 use Rattle.pg_board.specs.declared.man.Kind.TheVariants.{Pawn}
-use Rattle.pg_board.specs.Bits.{has, bits_below, has-bits_below, has-none}
-use Rattle.pg_board.specs.Men.{is_held, is_of, other, is_man, man}
+use Rattle.pg_board.specs.Bits.{has, bits_below, has-bits_below}
+use Rattle.pg_board.specs.Men.{is_held, is_of, other}
 use Rattle.pg_board.specs.Placement.{Placement, get}
 use Rattle.pg_board.specs.Squares.{rank}
 use Rattle.pg_board.specs.SquareSets.{IsSetOf}
-use Rattle.pg_board.proofs.SetLemmas.{set_like, set_of_both, set_of_rest, set_of_union, set_none}
+use Rattle.pg_board.proofs.SetLemmas.{set_like, set_of_both, set_of_rest, set_of_union}
 use Rattle.pg_position.specs.Attack.{Reaches}
-use Rattle.pg_position.specs.Position.{IsVacant, IsPosition, PawnsClause, Stands}
-use Rattle.pg_position.specs.Squares.{HasAhead, ahead, home_rank}
+use Rattle.pg_position.specs.Position.{IsVacant}
+use Rattle.pg_position.specs.Squares.{HasAhead, ahead}
 use Rattle.pg_position.specs.Step.{Goes}
 use Rattle.pg_moves.specs.inner.Pawns.{forward, IsInside}
 use Rattle.pg_moves.specs.inner.Steps.{leap_rank, StepsTo}
-use Rattle.pg_moves.specs.Targets.{Strides, Leaps, Advances, CapturesEnPassant, FreeOff}
+use Rattle.pg_moves.specs.Targets.{Strides, Leaps, Advances}
 use Rattle.pg_moves.proofs.ShiftLemmas.{itself}
 use Rattle.pg_moves.proofs.TargetLemmas.{enemy_set, held_set, front_set, advance_pawn}
-use Rattle.pg_board.specs.declared.man.Man.{Man}
-use Rattle.pg_board.specs.lemmas.Equalities.{is_man_decides}
-use Rattle.pg_position.specs.declared.state.State.{State}
-use Rattle.pg_moves.proofs.LeafLemmas.{free_there, pawn_ordinary}
-use Rattle.pg_moves.proofs.QuietLemmas.{out_of, start}
 
 -- ---- masks
 pub leap_white : (c : Color) → c ≡ White → IsSetOf 4278190080 (λ q. rank q ≡ leap_rank c)

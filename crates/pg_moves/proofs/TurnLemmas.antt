@@ -1,5 +1,5 @@
 -- The men that are still to come, one after the other, and the first of them who has a legal move.
-use Rattle.std.proofs.Common.{◌≡◌, ◌≢◌, ℕ, ◌+◌, ◌<◌, ◌≤◌, ◌∙◌, inl, inr, Bool, true, false, cond, Option, Some, None, MatchOption, IfSome, IfNone, refl, sym, ap, subst, arith}
+use Rattle.std.proofs.Common.{◌≡◌, ◌≢◌, ℕ, ◌+◌, ◌<◌, ◌≤◌, ◌∙◌, inl, inr, Bool, true, false, Option, Some, None, MatchOption, IfSome, IfNone, refl, sym, ap, subst, arith}
 use Rattle.std.proofs.lemmas.Bool.Decides.{eqb_tells, leb_tells}
 use Rattle.pg_board.specs.Bits.{has}
 use Rattle.pg_board.specs.Men.{is_of}
@@ -8,20 +8,20 @@ use Rattle.pg_board.specs.SquareSets.{IsSetOf, HasNoneFrom, IsFirstFrom}
 use Rattle.pg_position.specs.declared.state.State.{State}
 use Rattle.pg_position.specs.declared.moves.Move.{Move}
 use Rattle.pg_position.specs.Position.{Stands}
-use Rattle.pg_position.specs.Step.{IsLegal, IsOnBoard}
+use Rattle.pg_position.specs.Step.{IsOnBoard}
 use Rattle.pg_board.specs.declared.man.Kind.{Kind}
-use Rattle.pg_moves.specs.Left.{MovesLeft, IsTurn, IsBegun, IsFirstOfMan, IsFirstOfAll, IsHandedOut, IsManDone, IsNextOfMan, IsPeeked, IsReady, men_from}
+use Rattle.pg_moves.specs.Left.{MovesLeft, IsTurn, IsFirstOfMan, IsFirstOfAll, IsHandedOut, IsManDone, IsNextOfMan, IsPeeked, IsReady, men_from}
 use Rattle.pg_moves.specs.Moves.{promotion_number, IsNext, IsLast}
 use Rattle.pg_moves.specs.Targets.{IsOwn, plain_move, FreeOff}
 use Rattle.pg_position.proofs.StepLemmas.{some_none}
 use Rattle.pg_moves.specs.declared.men.Men.{Men}
 use Rattle.pg_moves.specs.declared.sources.Source.{Source}
 use Rattle.pg_moves.specs.declared.turns.Turn.{Turn}
-use Rattle.pg_moves.specs.inner.Men.{AreMen, AreToCome}
+use Rattle.pg_moves.specs.inner.Men.{AreMen, AreKept, AreToCome}
 use Rattle.pg_moves.specs.inner.Places.{place, place_of, NoneFrom, IsFirstMove}
 use Rattle.pg_moves.specs.inner.Sources.{IsExact, IsSource, IsToldSource}
 use Rattle.pg_moves.proofs.LeafLemmas.{exact_found, exact_last}
-use Rattle.pg_moves.proofs.LeftLemmas.{found_there, source_there, untold, done_none, beyond_is, beyond_none}
+use Rattle.pg_moves.proofs.LeftLemmas.{found_there, source_there, untold, beyond_is, beyond_none}
 use Rattle.pg_moves.proofs.ListLemmas.{on_board}
 use Rattle.pg_moves.proofs.OffLemmas.{IsWithout, gone, stays}
 use Rattle.pg_moves.proofs.PlaceLemmas.{promotion_low}
@@ -215,36 +215,37 @@ unfolding IsFirstOfAll IsHandedOut
 handed_out p old t true done (m, last, first, turn) = (m, beyond_is p old.last m done first, λ i. record { position = p; last = last i })
 handed_out p old t false done h = (beyond_none p old.last done h.1, λ i. record { position = p; last = (h.0 i).last })
 
-pub ready_after : (p : State) (men : Men) (old t : Turn) (b : Bool) → AreMen p men → IsReady p old.last men old → IsFirstOfAll p old t b → IsReady p t.last men t
-unfolding IsFirstOfAll IsReady
-ready_after p men old t true known ready (m, last, first, turn) = subst (λ (x : Option Move). IsReady p x men t) (sym last) (known, turn)
-ready_after p men old t false known ready h = subst (λ (x : Turn). IsReady p x.last men x) (sym h.0) ready
-
-ready_men : (p : State) (l : Option Move) (a : Move) (men : Men) (t : Turn) → l ≡ Some a → IsReady p l men t → AreMen p men
+-- what is kept holds past the next move too, also once the men were looked at
+pub ready_kept : (p : State) (l : Option Move) (men : Men) (t : Turn) → IsReady p l men t → AreKept p men
 unfolding IsReady
-ready_men p l a men t e h = (subst (λ (x : Option Move). IsReady p x men t) e h).0
+ready_kept p None men t h = h.0
+ready_kept p (Some a) men t h = h.0
 
-pub ready_beyond : (p : State) (a : Move) (men : Men) (old t : Turn) (b : Bool) → old.last ≡ Some a → IsReady p old.last men old → IsFirstOfAll p old t b → IsReady p t.last men t
-ready_beyond p a men old t b e ready h = ready_after p men old t b (ready_men p old.last a men old e ready) ready h
-
-last_none : (q : MovesLeft) (p : State) (l : Option Move) → record { position = p; last = l } ≡ q → q.last ≡ None → l ≡ None
-last_none q p l is e = ap (λ (v : MovesLeft). v.last) is ∙ e
-
-pub ready_first : (q : MovesLeft) (p : State) (men : Men) (old t : Turn) (b : Bool) → record { position = p; last = old.last } ≡ q → q.last ≡ None → AreMen p men → IsFirstOfAll p old t b → IsReady p t.last men t
+pub ready_to_come : (p : State) (l : Option Move) (men : Men) (t : Turn) → IsReady p l men t → AreToCome p (men_from l) t.left
 unfolding IsReady
-ready_first q p men old t b is e known h = ready_after p men old t b known (subst (λ (x : Option Move). IsReady p x men old) (sym (last_none q p old.last is e)) tt) h
+ready_to_come p None men t h = h.1
+ready_to_come p (Some a) men t h = h.1.to_come
 
-pub first_to_come : (q : MovesLeft) (p : State) (l : Option Move) (set : ℕ) → record { position = p; last = l } ≡ q → q.last ≡ None → ((s : ℕ) → s < 64 → has set s ≡ is_of p.side (get p.board s)) → AreToCome p (men_from l) set
-first_to_come q p l set is e own = subst (λ (x : Option Move). AreToCome p (men_from x) set) (sym (last_none q p l is e)) (all_to_come p set own)
+ready_men : (p : State) (l : Option Move) (men known : Men) (t : Turn) → AreMen p known → IsReady p l men t → IsReady p l known t
+unfolding IsReady AreKept
+ready_men p None men known t are h = (inr are, h.1)
+ready_men p (Some a) men known t are h = (inr are, h.1)
 
-pub first_done : (q : MovesLeft) (p : State) (l : Option Move) → record { position = p; last = l } ≡ q → q.last ≡ None → IsManDone p l
-first_done q p l is e = subst (λ (x : Option Move). IsManDone p x) (sym (last_none q p l is e)) (done_none p)
+pub ready_after : (p : State) (men known : Men) (old t : Turn) (b : Bool) → AreMen p known → IsReady p old.last men old → IsFirstOfAll p old t b → IsReady p t.last known t
+unfolding IsFirstOfAll IsReady AreKept
+ready_after p men known old t true are ready (m, last, first, turn) = subst (λ (x : Option Move). IsReady p x known t) (sym last) (inr are, turn)
+ready_after p men known old t false are ready h = subst (λ (x : Turn). IsReady p x.last known x) (sym h.0) (ready_men p old.last men known old are ready)
+
+pub ready_passed : (p : State) (men : Men) (t : Turn) (m : Move) → AreKept p men → t.last ≡ Some m → IsTurn p m t → IsReady p t.last men t
+unfolding IsReady
+ready_passed p men t m kept e turn = subst (λ (x : Option Move). IsReady p x men t) (sym e) (kept, turn)
+
+pub ready_new : (p : State) (men : Men) (t : Turn) (set : ℕ) → men.pinned ≡ 0 → t.last ≡ None → t.left ≡ set → ((q : ℕ) → q < 64 → has set q ≡ is_of p.side (get p.board q)) → IsReady p t.last men t
+unfolding IsReady AreKept
+ready_new p men t set none e left own = subst (λ (x : Option Move). IsReady p x men t) (sym e) (inl none, subst (λ (y : ℕ). AreToCome p 0 y) (sym left) (all_to_come p set own))
 
 pub handed_beyond : (q : MovesLeft) (p : State) (old t : Turn) (b : Bool) → record { position = p; last = old.last } ≡ q → IsManDone q.position q.last → IsFirstOfAll p old t b → IsHandedOut q (record { position = p; last = t.last }) b
 handed_beyond q p old t b is done h = subst (λ (v : MovesLeft). IsHandedOut v (record { position = p; last = t.last }) b) is (handed_out p old t b (subst (λ (v : MovesLeft). IsManDone v.position v.last) (sym is) done) h)
-
-pub handed_first : (q : MovesLeft) (p : State) (old t : Turn) (b : Bool) → record { position = p; last = old.last } ≡ q → q.last ≡ None → IsFirstOfAll p old t b → IsHandedOut q (record { position = p; last = t.last }) b
-handed_first q p old t b is e h = subst (λ (v : MovesLeft). IsHandedOut v (record { position = p; last = t.last }) b) is (handed_out p old t b (first_done q p old.last is e) h)
 
 -- the next move stands where it is kept
 pub kept_next : (q after : MovesLeft) (p : State) (l : Option Move) → record { position = p; last = l } ≡ after → IsHandedOut q after true → MatchOption l (IsLast q.position q.last) (λ m. IsNext q.position q.last m)

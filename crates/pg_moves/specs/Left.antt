@@ -10,11 +10,10 @@ use Rattle.pg_position.specs.Step.{IsLegal, IsOnBoard}
 use Rattle.pg_moves.specs.Moves.{IsNext, IsLast, IsBefore}
 use Rattle.pg_moves.specs.inner.Places.{most_moves, place, place_of, NoneFrom, IsFirstMove}
 use Rattle.pg_moves.specs.inner.Sources.{IsSource, IsToldSource}
-use Rattle.pg_moves.specs.inner.Men.{AreMen, AreToCome}
+use Rattle.pg_moves.specs.inner.Men.{AreKept, AreToCome}
 use Rattle.pg_moves.specs.Targets.{FreeOff, IsTried, plain_move}
 use Rattle.pg_moves.specs.declared.cursor.Peeked.{Peeked}
 use Rattle.pg_moves.specs.declared.men.Men.{Men}
-use Rattle.pg_moves.specs.declared.sources.Source.{Source}
 use Rattle.pg_moves.specs.declared.turns.Turn.{Turn}
 
 -- a position, and the move that was handed out last
@@ -39,10 +38,10 @@ pub record IsTurn (p : State) (m : Move) (t : Turn) : Type 0 where
   pub source : IsToldSource p m.from t.source
   pub rest : t.source.exact ≡ true → IsRestOf p m t.rest
 
--- so it does past the move that was handed out last, and then what is kept of all men holds too
+-- so it does past the move that was handed out last, and before there is one all men are to come; what is kept of them holds
 unfoldable pub IsReady : State → Option Move → Men → Turn → Type 0
-IsReady p None men t = Unit {0}
-IsReady p (Some m) men t = AreMen p men × IsTurn p m t
+IsReady p None men t = AreKept p men × AreToCome p 0 t.left
+IsReady p (Some m) men t = AreKept p men × IsTurn p m t
 
 -- the first legal move from one place up to another is kept as the last one
 pub record IsBegun (p : State) (low high : ℕ) (t : Turn) : Type 0 where
@@ -94,10 +93,12 @@ IsOneByOne p (Some a) = IsTried p a.from
 -- the first legal move of the men that did not yet move is kept as the last one, with what holds past it; or they have none and nothing
 -- changes
 unfoldable pub IsFirstOfAll : State → Turn → Turn → Bool → Type 0
-IsFirstOfAll p old new true = (m : Move) × (new.last ≡ Some m) × IsFirstMove p (place_of (men_from old.last) 0 0) most_moves m × IsTurn p m new
+IsFirstOfAll p old new true =
+    (m : Move) × (new.last ≡ Some m) × IsFirstMove p (place_of (men_from old.last) 0 0) most_moves m × IsTurn p m new
 IsFirstOfAll p old new false = (new ≡ old) × NoneFrom p (place_of (men_from old.last) 0 0) most_moves
 
 -- the next legal move is handed out, or there is none and nothing changes
 unfoldable pub IsHandedOut : MovesLeft → MovesLeft → Bool → Type 0
-IsHandedOut old new true = (m : Move) × IsNext old.position old.last m × (new ≡ record { position = old.position; last = Some m })
+IsHandedOut old new true =
+    (m : Move) × IsNext old.position old.last m × (new ≡ record { position = old.position; last = Some m })
 IsHandedOut old new false = IsLast old.position old.last × (new ≡ old)

@@ -3,11 +3,12 @@ ghost use Rattle.std.specs.Prelude.{◌≡◌, ℕ, ◌<◌, true, None, Some, M
 ghost use Rattle.pg_board.specs.Bits.{has};
 ghost use Rattle.pg_board.specs.SquareSets.{IsSetOf, HasNoneFrom, IsLastIn};
 ghost use Rattle.pg_moves.specs.Left.{IsPeeked, IsTurn, IsHandedOut, IsManDone, IsNextOfMan, IsRest, IsRestOf, IsOneByOne, men_from, to_square};
-ghost use Rattle.pg_moves.specs.inner.Men.{AreMen, AreToCome};
+ghost use Rattle.pg_moves.specs.inner.Men.{AreKept, AreToCome};
 ghost use Rattle.pg_moves.specs.inner.Sources.{IsToldSource};
 ghost use Rattle.pg_moves.specs.Moves.{IsNext, IsLast};
 
-use crate::men::{Men, find_men, no_men, own_men};
+use crate::men::{Men, keep_men, no_men, own_men};
+use crate::pins::is_special;
 use crate::places::promotion_number;
 use crate::sources::{Source, first_of_source, source_at};
 use crate::turns::{Turn, begin_next, no_turn};
@@ -16,6 +17,7 @@ use pg_position::{Move, Position};
 use std::marker::Model;
 
 /// The next legal move of a position, with what was found for it.
+// The cursor finds men by what it keeps of all, so a peek hands out a full set of men that may be pinned.
 #[derive(Clone, Copy)]
 pub struct Peeked {
     pub m: Move,
@@ -44,8 +46,7 @@ impl Model for LegalMoves {
     ghost invariant = { λ a. IsReady a.position a.turn.last a.men a.turn };
 }
 
-// The man of a move that was peeked at. Where his moves are tried one by one he is looked up once more, since what was
-// peeked at does not tell why.
+// The man of a move that was peeked at. What was peeked at does not tell why his moves are tried one by one, so that is asked.
 #[inline(always)]
 fn source_of_peeked(position: &Position, peeked: &Peeked) -> Source
     requires { IsPeeked position.now peeked.now }
@@ -53,8 +54,12 @@ fn source_of_peeked(position: &Position, peeked: &Peeked) -> Source
 {
     // A fact for the proof: the square is on the board.
     peeked.m.from.index();
-    if peeked.source.exact {
-        return peeked.source;
+    let source = peeked.source;
+    if source.exact {
+        return source;
+    }
+    if is_special(position, position.side(), source.kind, peeked.m.from) {
+        return source;
     }
     source_at(
         position,
@@ -105,17 +110,19 @@ fn next_tried(position: &Position, last: &Move, source: &Source) -> Option<Move>
     first_of_source(position, last.from, source, to, number)
 }
 
-// The first legal move of these men, with what is found for it: they are all past the last move.
+// The first legal move of the men that did not yet move, with what is found for it.
 #[inline(always)]
-fn peek_among(position: &Position, men: &Men, all: SquareSet, old: &Turn) -> Option<Peeked>
-    requires men { AreMen position.now men.now }
-    requires to_come { AreToCome position.now (men_from old.now.last) all }
+fn peek_among(position: &Position, kept: &Men, old: &Turn) -> Option<Peeked>
+    requires men { AreKept position.now kept.now }
+    requires to_come { AreToCome position.now (men_from old.now.last) old.now.left }
     requires done { IsManDone position.now old.now.last }
     ensures { MatchOption result (IsLast position.now old.now.last)
         (λ a. IsNext position.now old.now.last a.m × IsPeeked position.now a) }
 {
+    let mut men = *kept;
+    keep_men(position, &mut men);
     let mut turn = *old;
-    if !begin_next(position, men, all, &mut turn) {
+    if !begin_next(position, &men, old.left, &mut turn) {
         return None;
     }
     let last = turn.last;
@@ -149,6 +156,20 @@ fn pass(position: &Position, peeked: &Peeked, turn: &mut Turn)
     turn.source.exact = source.exact;
 }
 
+// Goes past a move that was peeked at, of the man that moved last: he is not looked at again.
+#[inline(always)]
+fn stay(position: &Position, last: &Move, m: &Move, turn: &mut Turn)
+    requires turn { IsTurn position.now last.now turn.old }
+    requires same { m.now.from ≡ last.now.from }
+    ensures last { turn.new.last ≡ Some m.now }
+    ensures turn { IsTurn position.now m.now turn.new }
+{
+    // A fact for the proof: the square is on the board.
+    m.to.index();
+    turn.last = Some(*m);
+    turn.rest = past(turn.source.set, m.to);
+}
+
 impl LegalMoves {
     /// All legal moves of a position.
     #[tactic(auto, unfolding(crate::specs::Left::IsReady))]
@@ -159,7 +180,7 @@ impl LegalMoves {
         LegalMoves {
             position: *position,
             men: no_men(),
-            turn: no_turn(),
+            turn: no_turn(own_men(position)),
         }
     }
 
@@ -196,29 +217,15 @@ impl LegalMoves {
         }
     }
 
-    // The first legal move of all, with what is found for it.
-    #[inline(never)]
-    fn peek_first(&self) -> Option<Peeked>
-        requires { self.now.last ≡ None }
-        ensures { MatchOption result (IsLast self.now.position self.now.last)
-            (λ a. IsNext self.now.position self.now.last a.m × IsPeeked self.now.position a) }
-    {
-        let men = find_men(&self.position);
-        let all = own_men(&self.position);
-        peek_among(&self.position, &men, all, &self.turn)
-    }
-
     // The next legal move, once the man that moved last has none left, with what is found for it.
+    #[inline(never)]
     #[tactic(auto, unfolding(crate::specs::Left::IsReady))]
     fn peek_beyond(&self) -> Option<Peeked>
         requires { IsManDone self.now.position self.now.last }
         ensures { MatchOption result (IsLast self.now.position self.now.last)
             (λ a. IsNext self.now.position self.now.last a.m × IsPeeked self.now.position a) }
     {
-        match self.turn.last {
-            None => self.peek_first(),
-            Some(_) => peek_among(&self.position, &self.men, self.turn.left, &self.turn),
-        }
+        peek_among(&self.position, &self.men, &self.turn)
     }
 
     /// The next legal move. It stays the next one.
@@ -228,14 +235,28 @@ impl LegalMoves {
             (IsLast self.now.position self.now.last)
             (λ a. IsNext self.now.position self.now.last a.m × IsPeeked self.now.position a) }
     {
-        match self.next_of_man() {
-            Some(m) => Some(Peeked {
+        if let Some(m) = self.next_of_man() {
+            return Some(Peeked {
                 m,
                 maybe_pinned: SquareSet::full(),
                 source: self.turn.source,
-            }),
-            None => self.peek_beyond(),
+            });
         }
+        self.peek_beyond()
+    }
+
+    // Hands out a move that was peeked at, of another man than the one that moved last.
+    #[inline(never)]
+    #[tactic(auto, unfolding(crate::specs::Left::IsReady))]
+    fn go_to(&mut self, peeked: &Peeked)
+        requires { IsPeeked self.old.position peeked.now }
+        ensures { self.new ≡ record self.old { last = Some peeked.now.m } }
+    {
+        // Where one man alone moves nothing is found of the others.
+        if self.turn.last.is_some() {
+            keep_men(&self.position, &mut self.men);
+        }
+        pass(&self.position, peeked, &mut self.turn);
     }
 
     /// Hands out a move that was peeked at.
@@ -245,24 +266,15 @@ impl LegalMoves {
         ensures { self.new ≡ record self.old { last = Some peeked.now.m } }
     {
         match self.turn.last {
-            None => {
-                self.men = find_men(&self.position);
-                pass(&self.position, peeked, &mut self.turn);
+            None => self.go_to(peeked),
+            Some(last) => {
+                if last.from == peeked.m.from {
+                    stay(&self.position, &last, &peeked.m, &mut self.turn);
+                } else {
+                    self.go_to(peeked);
+                }
             }
-            Some(_) => pass(&self.position, peeked, &mut self.turn),
         }
-    }
-
-    // Hands out the first legal move of all.
-    #[inline(never)]
-    #[tactic(auto, unfolding(crate::specs::Left::IsReady))]
-    fn next_first(&mut self) -> bool
-        requires { self.old.last ≡ None }
-        ensures { IsHandedOut self.old self.new result }
-    {
-        self.men = find_men(&self.position);
-        let all = own_men(&self.position);
-        begin_next(&self.position, &self.men, all, &mut self.turn)
     }
 
     // Hands out the next legal move, once the man that moved last has none left: a function of its own, since `next` is inlined where
@@ -274,13 +286,9 @@ impl LegalMoves {
         requires { IsManDone self.old.position self.old.last }
         ensures { IsHandedOut self.old self.new result }
     {
-        match self.turn.last {
-            None => self.next_first(),
-            Some(_) => {
-                let all = self.turn.left;
-                begin_next(&self.position, &self.men, all, &mut self.turn)
-            }
-        }
+        keep_men(&self.position, &mut self.men);
+        let all = self.turn.left;
+        begin_next(&self.position, &self.men, all, &mut self.turn)
     }
 
     // The next legal move, once the man that moved last has none left.

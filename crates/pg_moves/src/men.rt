@@ -8,7 +8,7 @@ ghost use Rattle.pg_board.specs.Squares.{rank};
 ghost use Rattle.pg_board.specs.SquareSets.{IsSetOf};
 ghost use Rattle.pg_position.specs.Position.{Stands};
 ghost use Rattle.pg_position.specs.Squares.{HasAhead};
-ghost use Rattle.pg_moves.specs.inner.Men.{AreMen};
+ghost use Rattle.pg_moves.specs.inner.Men.{AreMen, AreKept};
 ghost use Rattle.pg_moves.specs.inner.Pawns.{forward, IsInside, one_rank};
 ghost use Rattle.pg_moves.specs.inner.Sources.{IsExact};
 ghost use Rattle.pg_moves.specs.inner.Steps.{StepsTo, leap_rank};
@@ -89,7 +89,9 @@ pub(crate) struct Men {
 }
 
 // What is kept before the men are looked at.
-pub(crate) fn no_men() -> Men {
+pub(crate) fn no_men() -> Men
+    ensures { result.pinned ≡ 0 }
+{
     Men {
         pinned: SquareSet::empty(),
         quiet: SquareSet::empty(),
@@ -120,6 +122,17 @@ pub(crate) fn find_men(position: &Position) -> Men
         pinned: guard.pinned,
         quiet: quiet_pawns(position, &board, color, &guard, free),
         allowed: guard.goals - own,
+    }
+}
+
+// The men are looked at, unless they were: the king at least may be pinned then.
+#[inline(always)]
+pub(crate) fn keep_men(position: &Position, men: &mut Men)
+    requires { AreKept position.now men.old }
+    ensures { AreMen position.now men.new }
+{
+    if men.pinned.is_empty() {
+        *men = find_men(position);
     }
 }
 

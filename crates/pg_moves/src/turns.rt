@@ -24,12 +24,14 @@ pub(crate) struct Turn {
     pub(crate) last: Option<Move>,
 }
 
-// What is kept before there is a move.
-pub(crate) fn no_turn() -> Turn
-    ensures { result.last ≡ None }
+// What is kept before there is a move, with all men still to come.
+#[inline(always)]
+pub(crate) fn no_turn(left: SquareSet) -> Turn
+    ensures last { result.last ≡ None }
+    ensures left { result.left ≡ left }
 {
     Turn {
-        left: SquareSet::empty(),
+        left,
         rest: SquareSet::empty(),
         source: Source {
             kind: Kind::Pawn,

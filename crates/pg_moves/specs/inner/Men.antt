@@ -1,5 +1,5 @@
 -- The men of the side to move that come next, and where they may go, for the cursor of legal moves.
-use Rattle.std.specs.Prelude.{◌≡◌, ℕ, ◌+◌, ◌<◌, ◌≤◌, ◌&&◌, not, true, false}
+use Rattle.std.specs.Prelude.{◌≡◌, ◌⊎◌, ℕ, ◌+◌, ◌<◌, ◌≤◌, ◌&&◌, not, true, false}
 use Rattle.pg_board.specs.Bits.{has}
 use Rattle.pg_board.specs.Men.{is_of}
 use Rattle.pg_board.specs.Placement.{get}
@@ -17,6 +17,10 @@ pub record AreMen (p : State) (men : Men) : Type 0 where
   pub guards : GuardsOff p men.pinned goals
   pub allowed : (q : ℕ) → q < 64 → has men.allowed q ≡ has goals q && not (is_of p.side (get p.board q))
   pub quiet : (q : ℕ) → q < 64 → has men.quiet q ≡ true → IsQuiet p goals q
+
+-- what is kept of the men, once they were looked at: then the king at least may be pinned
+unfoldable pub AreKept : State → Men → Type 0
+AreKept p men = (men.pinned ≡ 0) ⊎ AreMen p men
 
 -- men of the side to move stand on the set, all from the square `low` on, and no other man from there on has a legal move
 pub record AreToCome (p : State) (low : ℕ) (set : ℕ) : Type 0 where

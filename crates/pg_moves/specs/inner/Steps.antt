@@ -1,16 +1,11 @@
 -- The steps of one pawn, by sets shifted along the board.
-use Rattle.std.specs.Prelude.{◌≡◌, ℕ, ◌<◌, true}
+use Rattle.std.specs.Prelude.{◌≡◌, ℕ}
 use Rattle.pg_board.specs.declared.man.Color.{Color}
 use Rattle.pg_board.specs.declared.man.Color.TheVariants.{White, Black}
-use Rattle.pg_board.specs.declared.man.Kind.TheVariants.{Pawn}
-use Rattle.pg_board.specs.Bits.{has}
 use Rattle.pg_board.specs.Placement.{Placement}
 use Rattle.pg_board.specs.Squares.{file}
-use Rattle.pg_position.specs.declared.state.State.{State}
 use Rattle.pg_position.specs.Geometry.{IsForward}
-use Rattle.pg_position.specs.Position.{Stands, IsVacant}
-use Rattle.pg_moves.specs.inner.Pawns.{IsInside, two_ranks}
-use Rattle.pg_moves.specs.Targets.{IsFree, IsOrdinary}
+use Rattle.pg_position.specs.Position.{IsVacant}
 
 -- the rank to which the colour's pawns go by two squares from home
 abbrev pub leap_rank : Color → ℕ

@@ -1,10 +1,20 @@
+use Rattle.std.proofs.Common.{refl}
 use Rattle.pg_moves.specs.Left.{IsPeeked}
-use Rattle.pg_moves.proofs.LeftLemmas.{own_there, told}
+use Rattle.pg_moves.specs.inner.Sources.{IsSource}
+use Rattle.pg_moves.proofs.LeftLemmas.{own_there, told, told_tried}
 use Rattle.pg_moves.proofs.cursor.source_of_peeked.Goals as goal
 
-pub returns-then-peeked : goal.returns-then-peeked
+pub returns-then-source : goal.returns-then-source
 unfolding IsPeeked
-returns-then-peeked c = told c.args.position.now c.args.peeked.now.m.from c.args.peeked.now.source c.requires.1 c.if-peeked.true
+returns-then-source c = told c.args.position.now c.args.peeked.now.m.from c.args.peeked.now.source c.requires.1 c.if-source.true
+
+pub is_special-requires-clause-stands : goal.is_special-requires-clause-stands
+unfolding IsPeeked IsSource
+is_special-requires-clause-stands c = c.requires.1.0
+
+pub returns-then-is_special : goal.returns-then-is_special
+unfolding IsPeeked
+returns-then-is_special c = told_tried c.args.position.now c.args.peeked.now.m.from c.args.peeked.now.source c.requires.1 (c.if-is_special.ensures.tried refl)
 
 pub source_at-requires : goal.source_at-requires
 unfolding IsPeeked

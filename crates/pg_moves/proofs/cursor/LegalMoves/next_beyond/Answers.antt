@@ -1,8 +1,14 @@
-use Rattle.pg_moves.proofs.TurnLemmas.{ready_beyond, handed_beyond}
+use Rattle.pg_moves.proofs.TurnLemmas.{ready_after, ready_kept, ready_to_come, handed_beyond}
 use Rattle.pg_moves.proofs.cursor.LegalMoves.next_beyond.Goals as goal
 
-pub invariant_of-self : goal.invariant_of-self
-invariant_of-self c = ready_beyond c.self.inside.position _ c.self.inside.men c.self.inside.turn c.begin_next.new.turn c.begin_next.result c.in-Some.is c.self.invariant c.begin_next.ensures
+pub keep_men-requires : goal.keep_men-requires
+keep_men-requires c = ready_kept c.self.inside.position c.self.inside.turn.last c.self.inside.men c.self.inside.turn c.self.invariant
 
-pub returns-in-Some : goal.returns-in-Some
-returns-in-Some c = handed_beyond c.args.self.now c.self.inside.position c.self.inside.turn c.begin_next.new.turn c.begin_next.result c.self.view_is c.requires c.begin_next.ensures
+pub begin_next-requires-clause-to_come : goal.begin_next-requires-clause-to_come
+begin_next-requires-clause-to_come c = ready_to_come c.self.inside.position c.self.inside.turn.last c.self.inside.men c.self.inside.turn c.self.invariant
+
+pub invariant_of-self : goal.invariant_of-self
+invariant_of-self c = ready_after c.self.inside.position c.self.inside.men c.keep_men.new.men c.self.inside.turn c.begin_next.new.turn c.begin_next.result c.keep_men.ensures c.self.invariant c.begin_next.ensures
+
+pub returns : goal.returns
+returns c = handed_beyond c.args.self.now c.self.inside.position c.self.inside.turn c.begin_next.new.turn c.begin_next.result c.self.view_is c.requires c.begin_next.ensures
