@@ -3,6 +3,8 @@
 #![tactic(auto)]
 
 #[cfg(test)]
+mod by_nodes;
+#[cfg(test)]
 mod expected;
 #[cfg(test)]
 mod led;

@@ -1,6 +1,6 @@
 //! Whether two moves may lead to a diagram, held against all pairs of legal moves.
 
-use crate::shared::field;
+use crate::shared::{chosen, field, next};
 use pg_board::{Kind, Man};
 use pg_fen::{Diagram, read_position};
 use pg_moves::legal_moves;
@@ -61,20 +61,6 @@ fn is_before_promotion(position: &Position) -> bool {
         }
     }
     false
-}
-
-// The legal move with this number, counted round; none where there is no move.
-fn chosen(rt: &impl Abort, alloc: Global, position: &Position, number: u64) -> Option<Move> {
-    let moves = legal_moves(alloc, position).expect(rt, "memory");
-    let pick = number.checked_rem(moves.len() as u64).unwrap_or(0);
-    moves.get(pick as usize).copied()
-}
-
-// The next state of a chance.
-fn next(state: u64) -> u64 {
-    state
-        .wrapping_mul(6_364_136_223_846_793_005)
-        .wrapping_add(1_442_695_040_888_963_407)
 }
 
 // The position after so many moves by chance.

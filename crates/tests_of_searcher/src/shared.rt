@@ -1,8 +1,11 @@
-//! What the tests of searches share: a diagram and a length, fields of a row, and what is answered in words.
+//! What the tests of searches share: a diagram and a length, fields of a row, what is answered in words, and moves by chance.
 
 use arrayvec::ArrayString;
 use pg_fen::{Diagram, Length};
+use pg_moves::legal_moves;
+use pg_position::{Move, Position};
 use pg_san::{Games, read_games};
+use std::alloc::Global;
 use std::fmt::{Display, Write};
 use std::process::Abort;
 
@@ -69,4 +72,23 @@ pub(crate) fn words(text: &impl Display) -> Said {
 pub(crate) fn games_of<R: Abort + AllocGlobal>(rt: &R, text: &str) -> Games {
     let text = text.replace(rt.alloc(), '/', "\n").expect(rt, text);
     read_games(rt.alloc(), text.as_str()).expect(rt, text.as_str())
+}
+
+// The legal move with this number, counted round; none where there is no move.
+pub(crate) fn chosen(
+    rt: &impl Abort,
+    alloc: Global,
+    position: &Position,
+    number: u64,
+) -> Option<Move> {
+    let moves = legal_moves(alloc, position).expect(rt, "memory");
+    let pick = number.checked_rem(moves.len() as u64).unwrap_or(0);
+    moves.get(pick as usize).copied()
+}
+
+// The next state of a chance.
+pub(crate) fn next(state: u64) -> u64 {
+    state
+        .wrapping_mul(6_364_136_223_846_793_005)
+        .wrapping_add(1_442_695_040_888_963_407)
 }

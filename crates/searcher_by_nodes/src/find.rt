@@ -1,0 +1,123 @@
+//! The search for a certificate.
+ghost use Rattle.std.specs.Prelude.{◌≡◌, ◌≤◌, false};
+ghost use Rattle.searcher_by_nodes.specs.Refusals.{RefusesTruly};
+
+use crate::fault::SearchFault;
+use crate::judge::Judge;
+use crate::machine::{Findings, Machine, Question, Recorder};
+use crate::progress::SearchProgress;
+use crate::walk::tree_of;
+use arrayvec::ArrayVec;
+use pg_certificate::{Header, Sink};
+use pg_fen::{Diagram, Length};
+use pg_moves::Unwatched;
+use pg_san::Games;
+use std::alloc::Global;
+
+// The header of the certificate.
+fn header(diagram: &Diagram, plies: u8) -> Header
+    ensures { result.version ≡ 2 }
+{
+    Header {
+        version: 2,
+        plies,
+        diagram: diagram.packed(),
+    }
+}
+
+// The header, the trees of all lengths from 0 to the stated one, and the end.
+fn write<W: Sink, P: SearchProgress>(
+    diagram: &Diagram,
+    plies: u8,
+    machine: &mut Machine,
+    sink: &mut W,
+    watch: &mut P,
+) -> Result<(), SearchFault>
+    requires limit { plies ≤ 128 }
+    requires runs { machine.old.recorder.output.writer.failed ≡ false }
+    ensures { RefusesTruly plies (W.has_failed sink.new) result }
+{
+    let header = header(diagram, plies);
+    match machine.recorder.output.writer.header(&header, sink) {
+        Ok(()) => {}
+        Err(_) => return Err(SearchFault::Write),
+    }
+    for tree in 0..=plies {
+        let question = Question {
+            diagram,
+            plies,
+            tree,
+        };
+        match tree_of(&question, machine, sink, watch) {
+            Ok(()) => {}
+            Err(fault) => return Err(fault),
+        }
+    }
+    match machine.recorder.output.writer.finish(sink) {
+        Ok(()) => Ok(()),
+        Err(_) => Err(SearchFault::Write),
+    }
+}
+
+/// Searches for the games of so many plies from the initial array that end on the diagram, and
+/// writes a certificate of version 2 that no others do. The answer is trusted for nothing: a check
+/// of what was written, with the games that were found, says whether it is right.
+///
+/// Legal moves (FIDE article 3) are visited in canonical order, in a tree for each length from 0 to
+/// the stated one. A node is a position that is visited with at least one ply left. With one ply left it
+/// is expanded. With more it is cut where a bound excludes, by captures, promotions, pawn files or the
+/// need of travel; or where prices do, of pawn files or else of travel, of the two colours those with
+/// the fewer bytes. Otherwise it refers to a closed node of as many plies and the same future with no
+/// game below it, if there is one; or it is expanded and named, up to 4,194,304 nodes. What the search
+/// grows by is taken from `alloc`.
+///
+/// # Errors
+/// `Budget` where a node more than `max_nodes` would be visited; `Shorter` with the plies of a game
+/// that is shorter than stated and ends on the diagram; `TooManyGames` at the 4,097th game; `Write`
+/// where the sink has failed; `Memory` where memory is refused. After any of them what was written is
+/// to be thrown away.
+pub fn search<W: Sink>(
+    alloc: Global,
+    diagram: &Diagram,
+    length: Length,
+    max_nodes: u64,
+    sink: &mut W,
+) -> Result<Games, SearchFault>
+    ensures { RefusesTruly length (W.has_failed sink.new) result }
+{
+    search_watched(alloc, diagram, length, max_nodes, sink, &mut Unwatched)
+}
+
+/// As `search`, and tells `watch` how far it is.
+///
+/// # Errors
+/// As for `search`.
+pub fn search_watched<W: Sink, P: SearchProgress>(
+    alloc: Global,
+    diagram: &Diagram,
+    length: Length,
+    max_nodes: u64,
+    sink: &mut W,
+    watch: &mut P,
+) -> Result<Games, SearchFault>
+    ensures { RefusesTruly length (W.has_failed sink.new) result }
+{
+    let Ok(judge) = Judge::new(alloc, diagram) else {
+        return Err(SearchFault::Memory);
+    };
+    let mut machine = Machine {
+        frames: ArrayVec::new(),
+        recorder: Recorder::new(alloc, judge, max_nodes),
+        findings: Findings {
+            games: Games::new(alloc),
+            fertile: false,
+        },
+    };
+    match write(diagram, length.plies(), &mut machine, sink, watch) {
+        Ok(()) => {}
+        Err(fault) => return Err(fault),
+    }
+    let Machine { findings, .. } = machine;
+    let Findings { games, .. } = findings;
+    Ok(games)
+}

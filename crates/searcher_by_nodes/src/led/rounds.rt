@@ -1,0 +1,129 @@
+//! The rounds of a led search.
+
+use crate::judge::Judge;
+use crate::led::answer::{Game, Led, LedFault, LedLimits, LedProgress};
+use crate::led::barren::Barren;
+use crate::led::familiar::Familiar;
+use crate::led::machine::{Halt, Machine, Question, Sieve};
+use crate::led::walk::tree;
+use arrayvec::ArrayVec;
+use pg_fen::{Diagram, Length};
+use pg_san::Games;
+use std::alloc::{AllocError, Global};
+
+// The games with at most so many foreign moves: those of the stated length, then those of fewer plies.
+fn round<P: LedProgress>(
+    question: &Question,
+    machine: &mut Machine,
+    length: Length,
+    foreign: u8,
+    watch: &mut P,
+) -> Result<(), Halt> {
+    let most = length.plies();
+    for fewer in 0..=most {
+        tree(question, machine, most - fewer, foreign, watch)?;
+    }
+    Ok(())
+}
+
+// What the rounds came to: the greatest number of foreign moves whose round was gone through whole, and why
+// they halted before their end.
+#[derive(Clone, Copy)]
+struct Ran {
+    foreign: Option<u8>,
+    halt: Option<Halt>,
+}
+
+// The rounds with no foreign move, with one, and so on, up to the first in which none was refused.
+fn rounds<P: LedProgress>(
+    question: &Question,
+    machine: &mut Machine,
+    length: Length,
+    most: u8,
+    watch: &mut P,
+) -> Ran {
+    let mut ran = Ran {
+        foreign: None,
+        halt: None,
+    };
+    for foreign in 0..=most {
+        machine.refused = false;
+        match round(question, machine, length, foreign, watch) {
+            Ok(()) => ran.foreign = Some(foreign),
+            Err(halt) => {
+                ran.halt = Some(halt);
+                return ran;
+            }
+        }
+        if !machine.refused {
+            return ran;
+        }
+    }
+    ran
+}
+
+// A machine that may visit so many nodes.
+fn machine_of(alloc: Global, diagram: &Diagram, nodes: u64) -> Result<Machine, AllocError> {
+    let sieve = Sieve {
+        judge: Judge::new(alloc, diagram)?,
+        barren: Barren::new(alloc),
+        nodes,
+    };
+    Ok(Machine {
+        sieve,
+        frames: ArrayVec::new(),
+        refused: false,
+        game: Game::new(),
+    })
+}
+
+/// Looks for a game to the diagram beside those of a list: one of so many plies that is not in the list, or
+/// one of fewer plies. The games of the list lead: a move is familiar where a man of that kind and colour
+/// goes from that square to that square, and becomes the same, in one of them; else it is foreign. Games
+/// without foreign moves are looked for first, then those with one at most, and so on; in each round those of
+/// the stated length come first, then those of a ply less, down to none. At a node the first listed game's
+/// move at that ply comes first, then the other familiar moves, then the foreign ones. The last two plies of
+/// a game may be any moves. The rounds end with the first in which no foreign move was refused that is not
+/// known to lead nowhere: it met all games.
+///
+/// A node is a position that is visited with at least one ply left. It is cut where the bounds or the prices
+/// of `search` exclude it, and where a node of the same future and as many plies left was barren with as many
+/// foreign moves; nodes that were barren are kept by key of 64 bits in a table of at most 64 MB. What the
+/// search grows by is taken from `alloc`. `watch` is told how far it is.
+///
+/// The answer is trusted for nothing: a game that is found is to be tested, and that each game with few
+/// foreign moves was met is promised by tests alone.
+///
+/// # Errors
+/// `Memory` where memory is refused.
+pub fn search_led<P: LedProgress>(
+    alloc: Global,
+    diagram: &Diagram,
+    length: Length,
+    games: &Games,
+    limits: LedLimits,
+    watch: &mut P,
+) -> Result<Led, LedFault> {
+    let Ok(familiar) = Familiar::of(alloc, games) else {
+        return Err(LedFault::Memory);
+    };
+    let Ok(mut machine) = machine_of(alloc, diagram, limits.max_nodes) else {
+        return Err(LedFault::Memory);
+    };
+    let question = Question {
+        diagram,
+        games,
+        familiar: &familiar,
+    };
+    let most = limits.foreign.unwrap_or(length.plies());
+    let ran = rounds(&question, &mut machine, length, most, watch);
+    let Machine { sieve, game, .. } = machine;
+    match ran.halt {
+        Some(Halt::Found) => Ok(Led::Found(game)),
+        Some(Halt::Memory) => Err(LedFault::Memory),
+        Some(Halt::Budget) | None => Ok(Led::NotFound {
+            foreign: ran.foreign,
+            nodes: limits.max_nodes.saturating_sub(sieve.nodes),
+        }),
+    }
+}

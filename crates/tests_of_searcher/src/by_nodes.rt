@@ -1,0 +1,144 @@
+//! Searches held against those of the searcher's first form, which goes from node to node (`searcher_by_nodes`): over games by
+//! chance, with limits that suffice and others that do not.
+
+mod led;
+mod searches;
+
+use crate::shared::{Said, chosen, games_of, next, words};
+use pg_position::{Move, Position};
+use pg_san::Games;
+use std::process::Abort;
+
+// Games that others begin with: none; with promotions of either side, castling on either wing, a capture en passant, and
+// king and rooks that have moved, in reach.
+const BEGUN: &str = "
+1. a4 h5 2. a5 h4 3. a6 h3 4. axb7 hxg2
+1. e4 e5 2. Nf3 Nf6 3. Be2 Be7
+1. d4 d5 2. Nc3 Nc6 3. Bf4 Bf5 4. Qd2 Qd7
+1. e4 a6 2. e5 d5
+1. h4 a5 2. Rh3 Ra6 3. Rb3 Rh6";
+
+// What was told, as a digest: FNV-1a with 64 bits, a number at a time.
+#[derive(Drop)]
+struct Heard {
+    state: u64,
+}
+
+impl Heard {
+    fn new() -> Heard {
+        Heard {
+            state: 0xcbf2_9ce4_8422_2325,
+        }
+    }
+
+    fn hear(&mut self, number: u64) {
+        self.state = (self.state ^ number).wrapping_mul(0x0000_0100_0000_01b3);
+    }
+
+    fn hear_bytes(&mut self, bytes: &[u8]) {
+        for byte in bytes {
+            self.hear(u64::from(*byte));
+        }
+    }
+
+    fn hear_game(&mut self, game: &[Move]) {
+        for m in game {
+            self.hear_bytes(words(&format_args!("{m:?}")).as_str().as_bytes());
+        }
+        self.hear(u64::MAX);
+    }
+
+    fn hear_games(&mut self, games: &Games) {
+        for i in 0..games.len() {
+            if let Some(game) = games.game(i) {
+                self.hear_game(game);
+            }
+        }
+    }
+}
+
+impl pg_searcher::SearchProgress for Heard {
+    fn reached(&mut self, plies: u8, left: u64) {
+        self.hear(u64::from(plies));
+        self.hear(left);
+    }
+
+    fn met(&mut self, game: &[Move]) {
+        self.hear_game(game);
+    }
+}
+
+impl searcher_by_nodes::SearchProgress for Heard {
+    fn reached(&mut self, plies: u8, left: u64) {
+        self.hear(u64::from(plies));
+        self.hear(left);
+    }
+
+    fn met(&mut self, game: &[Move]) {
+        self.hear_game(game);
+    }
+}
+
+impl pg_searcher::LedProgress for Heard {
+    fn reached(&mut self, foreign: u8, plies: u8, left: u64) {
+        self.hear(u64::from(foreign));
+        self.hear(u64::from(plies));
+        self.hear(left);
+    }
+}
+
+impl searcher_by_nodes::LedProgress for Heard {
+    fn reached(&mut self, foreign: u8, plies: u8, left: u64) {
+        self.hear(u64::from(foreign));
+        self.hear(u64::from(plies));
+        self.hear(left);
+    }
+}
+
+// A number below a bound by chance.
+fn drawn(state: &mut u64, bound: u64) -> u64 {
+    *state = next(*state);
+    (*state >> 33).checked_rem(bound).unwrap_or(0)
+}
+
+// A game by chance, and where it ends.
+#[derive(Drop)]
+struct Walk {
+    game: Vec<Move>,
+    end: Position,
+}
+
+// The position after the moves of a game, which are added to those that were played.
+fn play_begun(rt: &impl Abort, begun: &[Move], walk: &mut Walk) {
+    for m in begun {
+        walk.end = walk.end.play(*m).expect(rt, "legal");
+        walk.game.push(*m).expect(rt, "memory");
+    }
+}
+
+// A limit by chance: this number of nodes, or fewer.
+fn limit_of(nodes: u64, state: &mut u64) -> u64 {
+    if drawn(state, 2) == 0 {
+        nodes
+    } else {
+        drawn(state, nodes)
+    }
+}
+
+// A game that begins with these moves, and has so many more, or fewer where none is legal.
+fn drawn_game<R: Abort + AllocGlobal>(rt: &R, begun: &str, plies: u64, state: &mut u64) -> Walk {
+    let mut walk = Walk {
+        game: Vec::new(rt.alloc()),
+        end: Position::array(),
+    };
+    if !begun.is_empty() {
+        play_begun(rt, games_of(rt, begun).game(0).expect(rt, begun), &mut walk);
+    }
+    for _ in 0..plies {
+        *state = next(*state);
+        if let Some(m) = chosen(rt, rt.alloc(), &walk.end, *state >> 33) {
+            play_begun(rt, &[m], &mut walk);
+        }
+    }
+    walk
+}

@@ -1,0 +1,195 @@
+//! Led searches: what they answer and tell.
+
+use super::*;
+use pg_fen::{Diagram, Length};
+
+// Games that lead, and limits.
+#[derive(Drop)]
+struct Asked {
+    diagram: Diagram,
+    length: Length,
+    games: Games,
+    nodes: u64,
+    foreign: Option<u8>,
+}
+
+// How many foreign moves the games have at most of which each was met.
+fn most(foreign: Option<u8>) -> Said {
+    match foreign {
+        Some(most) => words(&most),
+        None => words(&"none"),
+    }
+}
+
+// What a led search answers, and the digest of all that it told and found.
+fn said_now<R: Abort + AllocGlobal>(rt: &R, asked: &Asked) -> Said {
+    let mut heard = Heard::new();
+    let limits = pg_searcher::LedLimits {
+        max_nodes: asked.nodes,
+        foreign: asked.foreign,
+    };
+    let (diagram, length) = (&asked.diagram, asked.length);
+    let alloc = rt.alloc();
+    let said = match pg_searcher::search_led(
+        alloc,
+        diagram,
+        length,
+        &asked.games,
+        limits,
+        &mut heard,
+    ) {
+        Ok(pg_searcher::Led::Found(game)) => {
+            heard.hear_game(game.as_slice());
+            words(&"Found")
+        }
+        Ok(pg_searcher::Led::NotFound { foreign, nodes }) => words(&format_args!(
+            "{} {nodes}",
+            most(foreign).as_str()
+        )),
+        Err(fault) => words(&format_args!("{fault:?}")),
+    };
+    words(&format_args!("{} {:016x}", said.as_str(), heard.state))
+}
+
+// The same of the first form.
+fn said_by_nodes<R: Abort + AllocGlobal>(rt: &R, asked: &Asked) -> Said {
+    let mut heard = Heard::new();
+    let limits = searcher_by_nodes::LedLimits {
+        max_nodes: asked.nodes,
+        foreign: asked.foreign,
+    };
+    let (diagram, length) = (&asked.diagram, asked.length);
+    let alloc = rt.alloc();
+    let said = match searcher_by_nodes::search_led(
+        alloc,
+        diagram,
+        length,
+        &asked.games,
+        limits,
+        &mut heard,
+    ) {
+        Ok(searcher_by_nodes::Led::Found(game)) => {
+            heard.hear_game(game.as_slice());
+            words(&"Found")
+        }
+        Ok(searcher_by_nodes::Led::NotFound { foreign, nodes }) => words(&format_args!(
+            "{} {nodes}",
+            most(foreign).as_str()
+        )),
+        Err(fault) => words(&format_args!("{fault:?}")),
+    };
+    words(&format_args!("{} {:016x}", said.as_str(), heard.state))
+}
+
+// Where a game ends, if it is one.
+fn end_of(game: &[Move]) -> Option<Position> {
+    let mut position = Position::array();
+    for m in game {
+        match position.play(*m) {
+            Ok(next) => position = next,
+            Err(_) => return None,
+        }
+    }
+    Some(position)
+}
+
+// Adds a game with two moves of a side in the other order, where that is a game to the same diagram.
+fn add_swapped<R: Abort + AllocGlobal>(rt: &R, asked: &mut Asked, game: &[Move], at: usize) {
+    let mut other: Vec<Move> = Vec::new(rt.alloc());
+    for i in 0..game.len() {
+        let from = if i == at {
+            at.saturating_add(2)
+        } else if i == at.saturating_add(2) {
+            at
+        } else {
+            i
+        };
+        other
+            .push(*game.get(from).expect(rt, "a move"))
+            .expect(rt, "memory");
+    }
+    if let Some(end) = end_of(other.as_slice()) {
+        if asked.diagram.matches(&end) && !asked.games.contains(other.as_slice()) {
+            asked.games.add(other.as_slice()).expect(rt, "a game");
+        }
+    }
+}
+
+// A game by chance leads, and some games with two of its moves in the other order; at its length, or some plies more.
+fn drawn_list<R: Abort + AllocGlobal>(
+    rt: &R,
+    begun: &str,
+    plies: u64,
+    nodes: u64,
+    state: &mut u64,
+) -> Asked {
+    let walk = drawn_game(rt, begun, plies, state);
+    let mut asked = Asked {
+        diagram: Diagram::of(&walk.end),
+        length: Length::from_plies(walk.game.len().min(60) as u8).expect(rt, "length"),
+        games: Games::new(rt.alloc()),
+        nodes: limit_of(nodes, state),
+        foreign: [None, Some(0), Some(1), Some(2)][drawn(state, 4) as usize],
+    };
+    asked.games.add(walk.game.as_slice()).expect(rt, "a game");
+    for at in 2..walk.game.len() {
+        if drawn(state, 2) == 0 {
+            add_swapped(rt, &mut asked, walk.game.as_slice(), at.saturating_sub(2));
+        }
+    }
+    asked
+}
+
+// How many searches found a game, met all with so many foreign moves, and met not even those with none.
+#[derive(Clone, Copy)]
+struct Kinds {
+    found: u32,
+    told: u32,
+    none: u32,
+}
+
+impl Kinds {
+    fn count(&mut self, said: &str) {
+        if said.starts_with("Found") {
+            self.found = self.found.saturating_add(1);
+        } else if said.starts_with("none") {
+            self.none = self.none.saturating_add(1);
+        } else {
+            self.told = self.told.saturating_add(1);
+        }
+    }
+}
+
+// Lists of games that begin so, of so many plies more.
+fn check_begun<R: Abort + AllocGlobal>(
+    rt: &R,
+    begun: &str,
+    plies: u64,
+    state: &mut u64,
+    kinds: &mut Kinds,
+) {
+    for nodes in [60u64, 400, 2_000, 6_000] {
+        let asked = drawn_list(rt, begun, plies, nodes, state);
+        let said = said_now(rt, &asked);
+        assert_eq!(rt; said.as_str(), said_by_nodes(rt, &asked).as_str());
+        kinds.count(said.as_str());
+    }
+}
+
+#[test]
+fn led_searches_are_those_from_node_to_node(rt: HostRuntime) {
+    let mut state = 1;
+    let mut kinds = Kinds {
+        found: 0,
+        told: 0,
+        none: 0,
+    };
+    for begun in BEGUN.split('\n') {
+        for plies in 0..13 {
+            check_begun(&rt, begun, plies, &mut state, &mut kinds);
+        }
+    }
+    assert!(rt; kinds.found > 9, "{}", kinds.found);
+    assert!(rt; kinds.told > 9, "{}", kinds.told);
+    assert!(rt; kinds.none > 9, "{}", kinds.none);
+}
