@@ -64,7 +64,8 @@ fn leads_between(
     from: Square,
     to: Square,
 ) -> bool
-    ensures { IsTrue result ↔ ((m : Move) × (m.from ≡ from) × (m.to ≡ to) × LeadsOn diagram.now position.now last.now m) }
+    ensures { IsTrue result
+        ↔ ((m : Move) × (m.from ≡ from) × (m.to ≡ to) × LeadsOn diagram.now position.now last.now m) }
 {
     let plain = Move {
         from,

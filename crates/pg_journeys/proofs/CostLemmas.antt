@@ -1,13 +1,12 @@
 -- What fates cost: the rows of costs, what they say of plans, and when a plan is paid for. Leads to the contracts of `row`,
 -- `costs_of`, `pays` and `is_paid`.
-use Rattle.std.proofs.Common.{◌≡◌, ◌≢◌, ◌↔◌, ℕ, ◌+◌, ◌*◌, ◌<◌, ◌≤◌, inl, inr, IsTrue, Option, Some, None, Bool, true, false, List, [], length, get_or, set, leb, refl, sym, ap, subst, ◌∙◌, arith}
+use Rattle.std.proofs.Common.{◌≡◌, ◌≢◌, ◌↔◌, ℕ, ◌+◌, ◌<◌, ◌≤◌, inl, inr, IsTrue, Option, Some, None, Bool, true, false, List, [], length, get_or, set, leb, refl, sym, subst, ◌∙◌, arith}
 use Rattle.std.proofs.lemmas.Bool.{cases_lt}
 use Rattle.std.proofs.lemmas.Bool.Decides.{eqb_tells, leb_tells}
-use Rattle.std.proofs.lemmas.List.{get_or-set_same, get_or-set_other, get_or_default}
+use Rattle.std.proofs.lemmas.List.{get_or-set_same, get_or-set_other}
 use Rattle.pg_board.specs.declared.man.Color.{Color}
 use Rattle.pg_board.specs.declared.man.Kind.{Kind}
 use Rattle.pg_board.specs.declared.man.Kind.TheVariants.{King}
-use Rattle.pg_board.specs.Men.{number_of_kind}
 use Rattle.pg_board.specs.Tally.{total}
 use Rattle.pg_board.specs.Placement.{Placement}
 use Rattle.pg_board.specs.lemmas.Decisions.{dec_kind}
@@ -28,7 +27,7 @@ use Rattle.pg_journeys.specs.lemmas.DecidingPaths.{weigh}
 use Rattle.pg_journeys.specs.lemmas.PlanTotals.{plans_are_totals}
 use Rattle.pg_journeys.specs.inner.Counting.{counts}
 use Rattle.pg_journeys.specs.inner.Sides.{facts_of, square_at, kind_at, IsSide, AreAims, JourneysOf, IsPaidBy}
-use Rattle.pg_journeys.specs.inner.Costing.{count_of, IsFall, IsColumnCost, IsCostRow, AreCostRows, AreCostsOf, HasTotalTo}
+use Rattle.pg_journeys.specs.inner.Costing.{count_of, IsFall, IsCostRow, AreCostRows, AreCostsOf, HasTotalTo}
 use Rattle.pg_journeys.specs.declared.plans.Side.{Side}
 
 -- ---- rows

@@ -1,7 +1,6 @@
 -- The squares from the king to the rook before they castle, and the square that a pawn has just passed. Leads to the contracts of
 -- `span`, `is_way` and `passed_square`.
-use Rattle.std.proofs.Common.{◌≡◌, ◌≢◌, ◌↔◌, ℕ, ◌+◌, ◌<◌, ◌⊎◌, inl, inr, IsTrue, Option, Some, Bool, true, false, not, ◌&&◌, ltb, refl, sym, ap, subst, ◌∙◌, arith}
-use Rattle.std.specs.Bool.{Decides}
+use Rattle.std.proofs.Common.{◌≡◌, ◌↔◌, ℕ, ◌+◌, ◌<◌, inl, inr, IsTrue, Option, Some, Bool, true, false, not, ◌&&◌, ltb, refl, sym, ap, subst, ◌∙◌, arith}
 use Rattle.std.proofs.lemmas.Bool.{cases_Bool}
 use Rattle.std.proofs.lemmas.Bool.Decides.{Decides-ltb, Decides-and, Decides-at, Decides-like}
 use Rattle.pg_board.specs.declared.man.Color.{Color}

@@ -173,8 +173,8 @@ fn row(side: &Side, aims: &Aims, way: Option<Wing>, i: usize) -> [u8; 16]
 pub(crate) fn costs_of(side: &Side, aims: &Aims, way: Option<Wing>) -> Costs
     requires side { (d : Placement) × IsSide d side.now }
     ensures size { result.size ≡ side.now.men.count }
-    ensures costs { (d : Placement) (quiet : Bool) (most : ℕ) → IsSide d side.now → AreAims side.now quiet most aims.now →
-        most < 200 → AreCostsOf d side.now quiet way most result }
+    ensures costs { (d : Placement) (quiet : Bool) (most : ℕ) → IsSide d side.now → AreAims side.now quiet most aims.now
+        → most < 200 → AreCostsOf d side.now quiet way most result }
 {
     let mut rows = [[255u8; 16]; 16];
     for i in 0..side.men.count {

@@ -245,8 +245,9 @@ impl Leasts {
         }
     }
 
-    /// The men of a board after each move of whom, whatever its square, the need of travel is above so many plies: no move brings a
-    /// man nearer to a target than by one. The board is that of which these distances are.
+    /// The men of a board after each move of whom, whatever its square, the least distances sum to more than so many plies in each
+    /// way, with or without castling, so that the need of travel is above them: no move brings a man nearer to a target than by
+    /// one. The board is that of which these distances are.
     pub fn cut_off(&self, rows: &Rows, board: &Board, plies: u8) -> SquareSet {
         let men = cut_off_by(&self.free, 0, plies, rows, board);
         let short = cut_off_castled(&self.king_side, plies, rows, board);

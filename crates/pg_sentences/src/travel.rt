@@ -151,6 +151,7 @@ fn travel_by(distances: &Distances, node: &Node, color: Color) -> Option<Excess>
         Need::Nowhere(missing) => return Some(Excess::Nowhere(missing)),
         Need::Beyond(ways) => ways,
     };
+    // One is there: a way without castling has a value here, else it is told that a man comes from nowhere.
     let Some(need) = ways.need() else {
         return None;
     };

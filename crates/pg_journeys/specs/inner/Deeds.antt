@@ -1,12 +1,10 @@
 -- What the plans of a way have by a measure.
-use Rattle.std.specs.Prelude.{◌≡◌, ℕ, ◌<◌, ◌↔◌, ◌⊎◌, Bool, true, Option, get_or, []}
+use Rattle.std.specs.Prelude.{◌≡◌, ℕ, ◌<◌, ◌↔◌, Bool, true, Option, get_or, []}
 use Rattle.pg_board.specs.Bits.{has}
-use Rattle.pg_board.specs.declared.man.Kind.{Kind}
 use Rattle.pg_board.specs.SquareSets.{IsSetOf}
 use Rattle.pg_board.specs.Placement.{Placement}
 use Rattle.pg_position.specs.declared.rights.Wing.{Wing}
-use Rattle.pg_position.specs.Position.{Stands}
-use Rattle.pg_journeys.specs.Journeys.{Fate, Arrives, Falls, HasTake}
+use Rattle.pg_journeys.specs.Journeys.{Arrives, Falls, HasTake}
 use Rattle.pg_journeys.specs.inner.Sides.{facts_of, square_at, InEnd, JourneysOf, IsPaidBy}
 use Rattle.pg_journeys.specs.declared.plans.Side.{Side}
 use Rattle.pg_journeys.specs.declared.narrowing.Deeds.{Deeds}

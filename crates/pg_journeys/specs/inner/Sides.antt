@@ -1,6 +1,5 @@
 -- The men of a colour in a position and in a diagram, what their fates count, and which of them plans have.
-use Rattle.std.specs.Prelude.{◌≡◌, ◌≢◌, ℕ, ◌+◌, ◌<◌, ◌≤◌, ◌↔◌, ◌⊎◌, Bool, true, Option, List, [], get_or}
-use Rattle.pg_board.specs.Bits.{has}
+use Rattle.std.specs.Prelude.{◌≡◌, ℕ, ◌+◌, ◌<◌, ◌≤◌, Bool, true, Option, List, [], get_or}
 use Rattle.pg_board.specs.declared.man.Color.{Color}
 use Rattle.pg_board.specs.declared.man.Kind.{Kind}
 use Rattle.pg_board.specs.declared.man.Kind.TheVariants.{Pawn}
@@ -11,7 +10,7 @@ use Rattle.pg_position.specs.declared.rights.Wing.{Wing}
 use Rattle.pg_position.specs.Position.{Stands, IsPosition}
 use Rattle.pg_travel.specs.Origins.{charge, counted}
 use Rattle.pg_journeys.specs.Facts.{Facts}
-use Rattle.pg_journeys.specs.Journeys.{Leg, Fate, Arrives, Falls, IsPath, Meets, Journeys, HasTake}
+use Rattle.pg_journeys.specs.Journeys.{Leg, Fate, Arrives, Falls, IsPath, Meets, Journeys}
 use Rattle.pg_journeys.specs.Known.{known}
 use Rattle.pg_journeys.specs.PlanCosts.{IsListing}
 use Rattle.pg_journeys.specs.lemmas.DecidingPaths.{weigh}

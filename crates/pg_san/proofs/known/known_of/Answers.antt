@@ -1,6 +1,4 @@
-use Rattle.std.proofs.Common.{ℕ, List, [], ◌∷◌, ◌++◌, drop, length}
-use Rattle.pg_san.specs.declared.known.Known.{Known}
-use Rattle.pg_san.specs.inner.KnownReadings.{IsKnown}
+use Rattle.std.proofs.Common.{[], ◌∷◌, drop, length}
 use Rattle.pg_san.proofs.KnownLemmas.{kept}
 use Rattle.pg_san.proofs.known.known_of.Goals as goal
 
