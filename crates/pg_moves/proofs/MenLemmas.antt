@@ -1,5 +1,5 @@
 -- What is known of all men of the side to move: where those go that cannot be pinned.
-use Rattle.std.proofs.Common.{◌≡◌, ◌≢◌, ℕ, ◌<◌, ◌∙◌, inl, inr, Bool, true, false, not, ◌&&◌, ◌||◌, ◌⊎◌, Some, None, refl, sym, ap, subst, eqb}
+use Rattle.std.proofs.Common.{◌≡◌, ◌≢◌, ℕ, ◌<◌, ◌∙◌, inl, inr, Bool, true, false, not, ◌&&◌, ◌||◌, ◌⊎◌, Some, None, refl, sym, ap, subst}
 use Rattle.pg_board.specs.declared.man.Color.{Color}
 use Rattle.pg_board.specs.declared.man.Color.TheVariants.{White, Black}
 use Rattle.pg_board.specs.declared.man.Kind.{Kind}
@@ -118,7 +118,7 @@ pub allowed_goals : (p : State) (b : Placement) (c : Color) (own goals allowed :
 allowed_goals p b c own goals allowed eb ec are sub q l = sub q l ∙ ap (λ (y : Bool). has goals q && not y) (own_of p own b c eb ec are q l)
 
 -- what is kept of the men holds where some may be pinned
-pub kept_known : (p : State) (men : Men) (b : Bool) → AreKept p men → b ≡ eqb men.pinned 0 → b ≡ false → AreMen p men
+pub kept_there : (p : State) (men : Men) → AreKept p men → men.pinned ≢ 0 → AreMen p men
 unfolding AreKept
-kept_known p men b (inl none) e f = absurd (let is : eqb men.pinned 0 ≡ true = ap (λ (n : ℕ). eqb n 0) none in cc)
-kept_known p men b (inr are) e f = are
+kept_there p men (inl none) some = absurd (some none)
+kept_there p men (inr are) some = are

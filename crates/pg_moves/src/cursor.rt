@@ -3,21 +3,22 @@ ghost use Rattle.std.specs.Prelude.{◌≡◌, ℕ, ◌<◌, true, None, Some, M
 ghost use Rattle.pg_board.specs.Bits.{has};
 ghost use Rattle.pg_board.specs.SquareSets.{IsSetOf, HasNoneFrom, IsLastIn};
 ghost use Rattle.pg_moves.specs.Left.{IsPeeked, IsTurn, IsHandedOut, IsManDone, IsNextOfMan, IsRest, IsRestOf, IsOneByOne, men_from, to_square};
-ghost use Rattle.pg_moves.specs.inner.Men.{AreKept, AreToCome};
+ghost use Rattle.pg_moves.specs.inner.Men.{AreMen, AreToCome};
 ghost use Rattle.pg_moves.specs.inner.Sources.{IsToldSource};
 ghost use Rattle.pg_moves.specs.Moves.{IsNext, IsLast};
+ghost use Rattle.pg_moves.specs.Targets.{FreeOff};
 
-use crate::men::{Men, keep_men, no_men, own_men};
-use crate::pins::is_special;
+use crate::men::{Men, are_few, are_known, find_men, keep_many, keep_men, no_men, own_men};
+use crate::pins::{is_special, maybe_pinned};
 use crate::places::promotion_number;
 use crate::sources::{Source, first_of_source, source_at};
-use crate::turns::{Turn, begin_next, no_turn};
+use crate::turns::{Turn, begin_each, begin_next, no_turn};
 use pg_board::{Square, SquareSet};
 use pg_position::{Move, Position};
 use std::marker::Model;
 
 /// The next legal move of a position, with what was found for it.
-// The cursor finds men by what it keeps of all, so a peek hands out a full set of men that may be pinned.
+// Men off `maybe_pinned` cannot be pinned: it is full where they go by what the cursor keeps of all men.
 #[derive(Clone, Copy)]
 pub struct Peeked {
     pub m: Move,
@@ -30,12 +31,14 @@ pub struct Peeked {
 #[derive(Drop)]
 pub struct LegalMoves {
     position: Position,
+    maybe_pinned: SquareSet,
     men: Men,
     turn: Turn,
 }
 
 impl Model for LegalMoves {
     ghost use Rattle.pg_moves.specs.Left.{MovesLeft, moves_left_code, IsReady};
+    ghost use Rattle.pg_moves.specs.Targets.{FreeOff};
 
     ghost Value = { MovesLeft };
 
@@ -43,7 +46,7 @@ impl Model for LegalMoves {
 
     ghost view = { λ a. record { position = a.position; last = a.turn.last } };
 
-    ghost invariant = { λ a. IsReady a.position a.turn.last a.men a.turn };
+    ghost invariant = { λ a. FreeOff a.position a.maybe_pinned × IsReady a.position a.turn.last a.men a.turn };
 }
 
 // The man of a move that was peeked at. What was peeked at does not tell why his moves are tried one by one, so that is asked.
@@ -110,19 +113,17 @@ fn next_tried(position: &Position, last: &Move, source: &Source) -> Option<Move>
     first_of_source(position, last.from, source, to, number)
 }
 
-// The first legal move of the men that did not yet move, with what is found for it.
+// The first legal move of the men that did not yet move, with what is found for it, by what is kept of all men.
 #[inline(always)]
-fn peek_among(position: &Position, kept: &Men, old: &Turn) -> Option<Peeked>
-    requires men { AreKept position.now kept.now }
+fn peek_known(position: &Position, men: &Men, old: &Turn) -> Option<Peeked>
+    requires men { AreMen position.now men.now }
     requires to_come { AreToCome position.now (men_from old.now.last) old.now.left }
     requires done { IsManDone position.now old.now.last }
     ensures { MatchOption result (IsLast position.now old.now.last)
         (λ a. IsNext position.now old.now.last a.m × IsPeeked position.now a) }
 {
-    let mut men = *kept;
-    keep_men(position, &mut men);
     let mut turn = *old;
-    if !begin_next(position, &men, old.left, &mut turn) {
+    if !begin_next(position, men, old.left, &mut turn) {
         return None;
     }
     let last = turn.last;
@@ -130,6 +131,30 @@ fn peek_among(position: &Position, kept: &Men, old: &Turn) -> Option<Peeked>
         Some(m) => Some(Peeked {
             m,
             maybe_pinned: SquareSet::full(),
+            source: turn.source,
+        }),
+        None => unreachable!(),
+    }
+}
+
+// The same where nothing is kept of them: each is looked at for himself.
+#[inline(always)]
+fn peek_each(position: &Position, maybe_pinned: SquareSet, old: &Turn) -> Option<Peeked>
+    requires free { FreeOff position.now maybe_pinned }
+    requires to_come { AreToCome position.now (men_from old.now.last) old.now.left }
+    requires done { IsManDone position.now old.now.last }
+    ensures { MatchOption result (IsLast position.now old.now.last)
+        (λ a. IsNext position.now old.now.last a.m × IsPeeked position.now a) }
+{
+    let mut turn = *old;
+    if !begin_each(position, maybe_pinned, old.left, &mut turn) {
+        return None;
+    }
+    let last = turn.last;
+    match last {
+        Some(m) => Some(Peeked {
+            m,
+            maybe_pinned,
             source: turn.source,
         }),
         None => unreachable!(),
@@ -179,6 +204,7 @@ impl LegalMoves {
     {
         LegalMoves {
             position: *position,
+            maybe_pinned: SquareSet::full(),
             men: no_men(),
             turn: no_turn(own_men(position)),
         }
@@ -217,15 +243,32 @@ impl LegalMoves {
         }
     }
 
-    // The next legal move, once the man that moved last has none left, with what is found for it.
+    // The men that may be pinned, as they were told with the moves that were peeked at.
+    #[inline(always)]
+    fn men_maybe_pinned(&self) -> SquareSet
+        ensures { FreeOff self.now.position result }
+    {
+        match self.turn.last {
+            None => maybe_pinned(&self.position, &self.position.board()),
+            Some(_) => self.maybe_pinned,
+        }
+    }
+
+    // The next legal move, once the man that moved last has none left, with what is found for it. With few men, of whom nothing
+    // is kept, each is looked at for himself.
     #[inline(never)]
-    #[tactic(auto, unfolding(crate::specs::Left::IsReady))]
     fn peek_beyond(&self) -> Option<Peeked>
         requires { IsManDone self.now.position self.now.last }
         ensures { MatchOption result (IsLast self.now.position self.now.last)
             (λ a. IsNext self.now.position self.now.last a.m × IsPeeked self.now.position a) }
     {
-        peek_among(&self.position, &self.men, &self.turn)
+        if are_known(&self.men) {
+            peek_known(&self.position, &self.men, &self.turn)
+        } else if are_few(&self.position) {
+            peek_each(&self.position, self.men_maybe_pinned(), &self.turn)
+        } else {
+            peek_known(&self.position, &find_men(&self.position), &self.turn)
+        }
     }
 
     /// The next legal move. It stays the next one.
@@ -238,7 +281,7 @@ impl LegalMoves {
         if let Some(m) = self.next_of_man() {
             return Some(Peeked {
                 m,
-                maybe_pinned: SquareSet::full(),
+                maybe_pinned: self.maybe_pinned,
                 source: self.turn.source,
             });
         }
@@ -252,10 +295,8 @@ impl LegalMoves {
         requires { IsPeeked self.old.position peeked.now }
         ensures { self.new ≡ record self.old { last = Some peeked.now.m } }
     {
-        // Where one man alone moves nothing is found of the others.
-        if self.turn.last.is_some() {
-            keep_men(&self.position, &mut self.men);
-        }
+        self.maybe_pinned = peeked.maybe_pinned;
+        keep_many(&self.position, &self.turn.last, &mut self.men);
         pass(&self.position, peeked, &mut self.turn);
     }
 

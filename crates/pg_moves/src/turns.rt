@@ -5,7 +5,7 @@ ghost use Rattle.pg_position.specs.Position.{Stands};
 ghost use Rattle.pg_moves.specs.Left.{IsFirstOfMan, IsFirstOfAll, men_from};
 ghost use Rattle.pg_moves.specs.inner.Men.{AreMen, AreToCome};
 ghost use Rattle.pg_moves.specs.inner.Sources.{IsExact, IsToldSource};
-ghost use Rattle.pg_moves.specs.Targets.{IsOwn};
+ghost use Rattle.pg_moves.specs.Targets.{IsOwn, FreeOff};
 
 use crate::kings::king_targets;
 use crate::men::{Men, is_of_kind, pawn_set, piece_set};
@@ -106,8 +106,15 @@ fn begin_tried(
 // Any man begins who has a legal move: not inlined, since few men come here besides kings.
 #[inline(never)]
 #[tactic(auto, unfolding(crate::specs::inner::Sources::IsToldSource))]
-fn begin_any(position: &Position, from: Square, left: SquareSet, turn: &mut Turn) -> bool
-    requires { IsOwn position.now.board position.now.side from }
+fn begin_any(
+    position: &Position,
+    maybe_pinned: SquareSet,
+    from: Square,
+    left: SquareSet,
+    turn: &mut Turn,
+) -> bool
+    requires free { FreeOff position.now maybe_pinned }
+    requires own { IsOwn position.now.board position.now.side from }
     ensures { IsFirstOfMan position.now from left turn.old turn.new result }
 {
     let board = position.board();
@@ -115,7 +122,7 @@ fn begin_any(position: &Position, from: Square, left: SquareSet, turn: &mut Turn
         let set = king_targets(position, &board, from);
         return begin_exact(position, Kind::King, from, set, left, turn);
     }
-    let source = source_at(position, &board, SquareSet::full(), from);
+    let source = source_at(position, &board, maybe_pinned, from);
     if source.exact {
         begin_exact(position, source.kind, from, source.set, left, turn)
     } else {
@@ -166,7 +173,7 @@ fn begin_other(
     } else if is_of_kind(position, Kind::Queen, from) {
         begin_piece(position, men, Kind::Queen, from, left, turn)
     } else {
-        begin_any(position, from, left, turn)
+        begin_any(position, SquareSet::full(), from, left, turn)
     }
 }
 
@@ -181,7 +188,7 @@ fn begin_man(position: &Position, men: &Men, from: Square, left: SquareSet, turn
         let set = pawn_set(position, men, from);
         begin_exact(position, Kind::Pawn, from, set, left, turn)
     } else if men.pinned.contains(from) {
-        begin_any(position, from, left, turn)
+        begin_any(position, SquareSet::full(), from, left, turn)
     } else {
         begin_other(position, men, from, left, turn)
     }
@@ -198,6 +205,27 @@ pub(crate) fn begin_next(position: &Position, men: &Men, all: SquareSet, turn: &
     let mut left = all;
     while let Some(from) = left.pop_first() {
         if begin_man(position, men, from, left, turn) {
+            return true;
+        }
+    }
+    false
+}
+
+// The same where nothing is kept of the men: each is looked at for himself.
+#[inline(always)]
+pub(crate) fn begin_each(
+    position: &Position,
+    maybe_pinned: SquareSet,
+    all: SquareSet,
+    turn: &mut Turn,
+) -> bool
+    requires free { FreeOff position.now maybe_pinned }
+    requires to_come { AreToCome position.now (men_from turn.old.last) all }
+    ensures { IsFirstOfAll position.now turn.old turn.new result }
+{
+    let mut left = all;
+    while let Some(from) = left.pop_first() {
+        if begin_any(position, maybe_pinned, from, left, turn) {
             return true;
         }
     }

@@ -1,18 +1,15 @@
-use Rattle.std.proofs.Common.{inr, sym, subst}
-use Rattle.pg_moves.specs.inner.Men.{AreKept}
-use Rattle.pg_moves.specs.declared.cursor.LegalMoves.TheInside.{Inside}
+use Rattle.std.proofs.Common.{sym, subst}
+use Rattle.pg_moves.specs.Left.{MovesLeft, IsPeeked}
+use Rattle.pg_moves.specs.Targets.{FreeOff}
 use Rattle.pg_moves.proofs.TurnLemmas.{ready_kept, ready_passed}
-use Rattle.pg_moves.proofs.cursor.LegalMoves.go_to.Goals.{then-is_some, else-is_some}
 use Rattle.pg_moves.proofs.cursor.LegalMoves.go_to.Goals as goal
 
-pub keep_men-requires : goal.keep_men-requires
-keep_men-requires c = ready_kept c.self.inside.position c.self.inside.turn.last c.self.inside.men c.self.inside.turn c.self.invariant
+pub keep_many-requires : goal.keep_many-requires
+keep_many-requires c = ready_kept c.self.inside.position c.self.inside.turn.last c.self.inside.men c.self.inside.turn c.self.invariant.1
 
 pub invariant_of-self : goal.invariant_of-self
-unfolding AreKept
-invariant_of-self c =
-    let kept : AreKept c.if-is_some.self-inside.position c.if-is_some.self-inside.men = elim c.if-is_some.branch [
-      | then-is_some w ↦ subst (λ (x : Inside). AreKept x.position x.men) (sym w.self-inside-is) (inr w.keep_men.ensures)
-      | else-is_some w ↦ subst (λ (x : Inside). AreKept x.position x.men) (sym w.self-inside-is) (ready_kept c.self.inside.position c.self.inside.turn.last c.self.inside.men c.self.inside.turn c.self.invariant)
-    ] in
-    ready_passed c.if-is_some.self-inside.position c.if-is_some.self-inside.men c.pass.new.turn c.args.peeked.now.m kept c.pass.ensures.last c.pass.ensures.turn
+unfolding IsPeeked
+invariant_of-self c = (
+  subst (λ (v : MovesLeft). FreeOff v.position c.args.peeked.now.maybe_pinned) (sym c.self.view_is) c.requires.0,
+  ready_passed c.self.inside.position c.keep_many.new.men c.pass.new.turn c.args.peeked.now.m c.keep_many.ensures c.pass.ensures.last c.pass.ensures.turn,
+)

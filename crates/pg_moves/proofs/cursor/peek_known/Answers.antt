@@ -1,6 +1,6 @@
 use Rattle.pg_moves.proofs.TurnLemmas.{peeked_over, peeked_not, peeked_next}
 use Rattle.pg_moves.proofs.LeafLemmas.{free_none_off}
-use Rattle.pg_moves.proofs.cursor.peek_among.Goals as goal
+use Rattle.pg_moves.proofs.cursor.peek_known.Goals as goal
 
 pub returns-then-not-begin_next : goal.returns-then-not-begin_next
 returns-then-not-begin_next c = peeked_over c.args.position.now c.args.old.now c.begin_next.new.turn c.requires.done c.if-not-begin_next.ensures

@@ -1,0 +1,15 @@
+use Rattle.std.proofs.Common.{◌≡◌}
+use Rattle.pg_board.specs.Bits.{has}
+use Rattle.pg_board.specs.Tally.{count_below}
+use Rattle.pg_moves.specs.Left.{men_from}
+use Rattle.pg_moves.specs.inner.Men.{AreToCome}
+use Rattle.pg_moves.proofs.turns.begin_each.Given as goal
+
+abbrev pub invariant-loop-from : goal.invariant-loop-from
+invariant-loop-from l = record {
+  kept : l.turn ≡ l.fn.turn;
+  to_come : AreToCome l.position (men_from l.fn.turn.last) l.left;
+}
+
+abbrev pub decreases-loop-from : goal.decreases-loop-from
+decreases-loop-from l = count_below (has l.left) 64
