@@ -1,5 +1,5 @@
 -- Least counts to each man of the diagram, and to where men may be captured. Leads to the contracts of `aim`, `last_aim` and
--- `aims_of`.
+-- `fill_aims`.
 use Rattle.std.proofs.Common.{◌≡◌, ◌≢◌, ℕ, ◌+◌, ◌*◌, ◌<◌, ◌≤◌, inl, inr, Bool, true, false, List, [], length, get_or, set, replicate, refl, sym, ap, subst, ◌∙◌, arith}
 use Rattle.std.proofs.lemmas.Bool.{cases_lt}
 use Rattle.std.proofs.lemmas.Bool.Decides.{eqb_tells}

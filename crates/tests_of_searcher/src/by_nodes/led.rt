@@ -124,9 +124,11 @@ fn drawn_list<R: Abort + AllocGlobal>(
     state: &mut u64,
 ) -> Asked {
     let walk = drawn_game(rt, begun, plies, state);
+    let more = [0, 0, 0, 1, 2, 3][drawn(state, 6) as usize];
+    let plies = walk.game.len().min(60) as u8;
     let mut asked = Asked {
         diagram: Diagram::of(&walk.end),
-        length: Length::from_plies(walk.game.len().min(60) as u8).expect(rt, "length"),
+        length: Length::from_plies(plies.saturating_add(more)).expect(rt, "length"),
         games: Games::new(rt.alloc()),
         nodes: limit_of(nodes, state),
         foreign: [None, Some(0), Some(1), Some(2)][drawn(state, 4) as usize],
