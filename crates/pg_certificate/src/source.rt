@@ -50,6 +50,24 @@ pub trait Sink {
         ensures runs { OnOk result ((has_failed self.old ≡ false) × (has_failed self.new ≡ false)) }
         ensures fault { OnErr result (has_failed self.new ≡ true) };
 
+    /// Appends the bytes one by one, as so many pushes of one byte each do: what a refusal leaves and the
+    /// pieces that are handed on are those of such pushes. A sink that can do the same in fewer steps
+    /// writes its own.
+    ///
+    /// # Errors
+    /// `Refused` where one of the pushes is refused. No bytes are never refused.
+    fn push_each(&mut self, bytes: &[u8]) -> Result<(), Refused>
+        ensures bytes { OnOk result (Appends (held self.old) (held self.new) bytes.now) }
+        ensures same { OnOk result (has_failed self.new ≡ has_failed self.old) }
+        ensures runs { OnOk result (0 < length bytes.now → has_failed self.old ≡ false) }
+        ensures fault { OnErr result (has_failed self.new ≡ true) }
+    {
+        for byte in bytes {
+            self.push(&[*byte])?;
+        }
+        Ok(())
+    }
+
     /// Whether the sink has failed.
     fn failed(&self) -> bool
         ensures { result ≡ has_failed self.now };

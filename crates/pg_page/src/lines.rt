@@ -109,14 +109,15 @@ fn write_bytes<W: Sink>(bytes: &[u8], out: &mut W) -> Result<(), Refused>
     Ok(())
 }
 
-// Appends a text, with what has a meaning in HTML written as an entity. A text that has none goes out at once: most have
-// none, and a push of one byte costs some thirty instructions.
+// Appends a text, with what has a meaning in HTML written as an entity. A text that has none, as most, goes out by one
+// call: a push of one byte costs some thirty instructions. The call makes the pieces of such pushes, since what stands
+// in a file after a write that fails is not to hang on what a text is made of.
 pub(crate) fn write_escaped<W: Sink>(text: &str, out: &mut W) -> Result<(), Refused>
     ensures { MayPush W.held W.has_failed (Adds (escaped text.now)) out.old out.new result }
 {
     let bytes = text.as_bytes();
-    if bytes.is_empty() || !is_plain(bytes) {
+    if !is_plain(bytes) {
         return write_bytes(bytes, out);
     }
-    out.push(bytes)
+    out.push_each(bytes)
 }

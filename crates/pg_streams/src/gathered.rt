@@ -1,5 +1,5 @@
 //! A sink that gathers bytes before it hands them on.
-ghost use Rattle.std.specs.Prelude.{◌≡◌, [], true, false, IfOk, OnOk, OnErr};
+ghost use Rattle.std.specs.Prelude.{◌≡◌, ◌≤◌, ◌<◌, [], length, take, true, false, IfOk, OnOk, OnErr};
 ghost use Rattle.std.specs.Io.KnownBytes.{Appends, Keeps, append_known};
 ghost use Rattle.pg_streams.specs.Buffer.{IsHandedOn, sink_of};
 
@@ -45,6 +45,30 @@ impl<W: Sink> Gathered<W> {
                 Ok(())
             }
             Err(Refused) => Err(Refused),
+        }
+    }
+
+    // Takes as many of the bytes as there is room for, and answers their number. Only where there is no room at
+    // all is what is held handed on first, which is when a push of one byte does so.
+    fn fill(&mut self, bytes: &[u8]) -> Result<usize, Refused>
+        requires { 0 < length bytes.now }
+        ensures some { IfOk result (λ n. 0 < n × n ≤ length bytes.now) }
+        ensures bytes { IfOk result (λ n. Appends (⟦<Gathered<W> as Sink>⟧.held self.old)
+            (⟦<Gathered<W> as Sink>⟧.held self.new) (take n bytes.now)) }
+        ensures runs { OnOk result ((⟦<Gathered<W> as Sink>⟧.has_failed self.old ≡ false)
+            × (⟦<Gathered<W> as Sink>⟧.has_failed self.new ≡ false)) }
+        ensures fault { OnErr result (⟦<Gathered<W> as Sink>⟧.has_failed self.new ≡ true) }
+    {
+        if self.inner.failed() {
+            return Err(Refused);
+        }
+        if self.bytes.is_full() {
+            self.hand_on()?;
+        }
+        let count = bytes.len().min(self.bytes.remaining_capacity());
+        match self.bytes.try_extend_from_slice(&bytes[..count]) {
+            Ok(()) => Ok(count),
+            Err(_) => Err(Refused),
         }
     }
 
@@ -101,6 +125,15 @@ impl<W: Sink> Sink for Gathered<W> {
             Ok(()) => Ok(()),
             Err(_) => self.inner.push(bytes),
         }
+    }
+
+    // The bytes go out in the pieces that pushes of one byte each make: of 4,096 bytes, each when the next byte comes.
+    fn push_each(&mut self, bytes: &[u8]) -> Result<(), Refused> {
+        let mut at = 0;
+        while at < bytes.len() {
+            at += self.fill(&bytes[at..])?;
+        }
+        Ok(())
     }
 
     fn failed(&self) -> bool {

@@ -16,3 +16,5 @@ mod lines;
 mod searching;
 #[cfg(test)]
 mod shared;
+#[cfg(test)]
+mod single_bytes;
