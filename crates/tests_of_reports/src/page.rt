@@ -1,5 +1,6 @@
 //! Pages that show a certificate: what the tests share.
 
+mod bytes;
 mod refusals;
 mod trees;
 
