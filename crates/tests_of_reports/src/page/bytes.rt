@@ -27,7 +27,8 @@ shut-in-of-old | shut-in | 2.5 | 1
 fools-mate-of-old | fools-mate | 2.0 | 1
 castled-of-old | rnbqk1nr/ppppppbp/6p1/8/8/5NP1/PPPPPPBP/RNBQ1RK1 | 3.5 | 1
 many-games-of-old | rnbqkbnr/3ppppp/ppp5/8/8/PPP5/3PPPPP/RNBQKBNR | 3.0 | 1
-all-expanded | recaptured | 2.0 | 1 | 01*9766";
+all-expanded | recaptured | 2.0 | 1 | 01*9766
+all-named | two-orders | 1.5 | 2 | 05*443";
 
 // A name and how many nodes are told at most; what is answered, how many bytes the page has, and their digest.
 const PAGES: &str = "knights | 0 => () 23587 969c82e6377c81cf
@@ -124,7 +125,11 @@ many-games-of-old | 1000 => () 186293 208fee2c8a77215a
 all-expanded | 0 => () 23480 44ad9efb83dae89a
 all-expanded | 100 => () 27088 bb9489ac45ef5dc8
 all-expanded | 1000 => () 520340 47b2cce9a929a5ac
-all-expanded | 20000 => () 1772814 6bd8b307b968eece";
+all-expanded | 20000 => () 1772814 6bd8b307b968eece
+all-named | 0 => () 23642 29d0e9765461cc67
+all-named | 1 => () 23865 118fa1e2f262333d
+all-named | 100 => () 49207 d9d2d463c654794b
+all-named | 1000 => () 105651 2f16e9de9a453e53";
 
 // The digest of bytes, FNV-1a with 64 bits.
 fn digest(bytes: &[u8]) -> u64 {
