@@ -79,18 +79,28 @@ fn check_pieces<R: Abort + AllocGlobal>(rt: &R, asked: &Asked<'_>) {
     assert!(rt; each.bytes == single.bytes, "{place:?}");
 }
 
-// Texts about as long as the room, which is 4,096 bytes, and any write that fails.
+// The same where each of the first writes fails, or none does.
+fn check_lengths<R: Abort + AllocGlobal>(rt: &R, text: &[u8], before: usize, count: usize) {
+    let (Some(before), Some(bytes)) = (text.get(..before), text.get(..count)) else {
+        panic!(rt; "a text of {count} bytes behind one of {before}");
+    };
+    for at in 0..5u64 {
+        check_pieces(rt, &Asked { before, bytes, at });
+    }
+}
+
+// The same of texts about as long as the room, which is 4,096 bytes, behind so many bytes.
+fn check_behind<R: Abort + AllocGlobal>(rt: &R, text: &[u8], before: usize) {
+    for count in [0, 1, 2, 4095, 4096, 4097, 8193] {
+        check_lengths(rt, text, before, count);
+    }
+}
+
 #[test]
 fn pieces_of_single_bytes(rt: HostRuntime) {
     let text = repeated(&rt, b'x', 8193);
     for before in [0, 1, 4095, 4096, 4097] {
-        for count in [0, 1, 2, 4095, 4096, 4097, 8193] {
-            for at in 0..5u64 {
-                let before = &text.as_slice()[..before];
-                let bytes = &text.as_slice()[..count];
-                check_pieces(&rt, &Asked { before, bytes, at });
-            }
-        }
+        check_behind(&rt, text.as_slice(), before);
     }
 }
 
