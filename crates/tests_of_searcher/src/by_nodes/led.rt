@@ -115,6 +115,16 @@ fn add_swapped<R: Abort + AllocGlobal>(rt: &R, asked: &mut Asked, game: &[Move],
     }
 }
 
+// No limit of foreign moves, or one up to two.
+fn foreign_by_chance(state: &mut u64) -> Option<u8> {
+    match drawn(state, 4) {
+        0 => None,
+        1 => Some(0),
+        2 => Some(1),
+        _ => Some(2),
+    }
+}
+
 // A game by chance leads, and some games with two of its moves in the other order; at its length, or some plies more.
 fn drawn_list<R: Abort + AllocGlobal>(
     rt: &R,
@@ -124,14 +134,13 @@ fn drawn_list<R: Abort + AllocGlobal>(
     state: &mut u64,
 ) -> Asked {
     let walk = drawn_game(rt, begun, plies, state);
-    let more = [0, 0, 0, 1, 2, 3][drawn(state, 6) as usize];
     let plies = walk.game.len().min(60) as u8;
     let mut asked = Asked {
         diagram: Diagram::of(&walk.end),
-        length: Length::from_plies(plies.saturating_add(more)).expect(rt, "length"),
+        length: Length::from_plies(plies.saturating_add(few_more(state))).expect(rt, "length"),
         games: Games::new(rt.alloc()),
         nodes: limit_of(nodes, state),
-        foreign: [None, Some(0), Some(1), Some(2)][drawn(state, 4) as usize],
+        foreign: foreign_by_chance(state),
     };
     asked.games.add(walk.game.as_slice()).expect(rt, "a game");
     for at in 2..walk.game.len() {

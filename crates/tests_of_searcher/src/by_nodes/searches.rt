@@ -104,11 +104,10 @@ impl Kinds {
 // A problem by chance: where a game ends, at its length or some plies more.
 fn drawn_goal<R: Abort + AllocGlobal>(rt: &R, begun: &str, plies: u64, state: &mut u64) -> Goal {
     let walk = drawn_game(rt, begun, plies, state);
-    let more = [0, 0, 0, 0, 1, 2][drawn(state, 6) as usize];
     let plies = walk.game.len().min(60) as u8;
     Goal {
         diagram: Diagram::of(&walk.end),
-        length: Length::from_plies(plies.saturating_add(more)).expect(rt, "length"),
+        length: Length::from_plies(plies.saturating_add(few_more(state))).expect(rt, "length"),
     }
 }
 
