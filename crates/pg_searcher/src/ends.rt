@@ -110,17 +110,30 @@ pub(crate) fn is_near(squares: SquareSet) -> bool {
     2 <= count && count <= 4
 }
 
+// The men of the side to move of whom one may make a move that changes so many squares: two are the one that he leaves and the one
+// that he reaches, a third is emptied by a capture en passant, and castling changes four.
+fn movers(position: &Position, squares: u8) -> SquareSet {
+    let board = position.board();
+    let side = position.side();
+    match squares {
+        2 => board.squares_of_color(side),
+        3 => board.squares_of(Man::new(side, Kind::Pawn)),
+        4 => board.squares_of(Man::new(side, Kind::King)),
+        _ => SquareSet::empty(),
+    }
+}
+
 // The move that leads from a position to the diagram. There is one at most, since the squares that it
 // changes tell it: it leaves a square that differs, and goes to one where the diagram has a man of its colour.
 pub(crate) fn leaf(diagram: &Diagram, position: &Position) -> Option<Move> {
     let goal = diagram.board();
     let board = position.board();
     let squares = board.differing(&goal);
-    if !is_near(squares) {
+    let mut sources = squares & movers(position, squares.len());
+    if sources.is_empty() {
         return None;
     }
     let targets = squares & goal.squares_of_color(position.side());
-    let mut sources = squares & board.squares_of_color(position.side());
     for _ in 0..64u8 {
         let Some(from) = sources.pop_first() else {
             return None;
