@@ -51,8 +51,8 @@ pub trait Sink {
         ensures fault { OnErr result (has_failed self.new ≡ true) };
 
     /// Appends the bytes one by one, as so many pushes of one byte each do: what a refusal leaves and the
-    /// pieces that are handed on to another sink are those of such pushes. A sink that can do the same in
-    /// fewer steps writes its own; a writer of std is offered all bytes at once.
+    /// pieces that are handed on to another sink or to a writer are those of such pushes. A sink that can do
+    /// the same in fewer steps writes its own.
     ///
     /// # Errors
     /// `Refused` where one of the pushes is refused. No bytes are never refused.

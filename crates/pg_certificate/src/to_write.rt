@@ -59,14 +59,6 @@ impl<W: Write> Sink for ToWrite<W> {
         Ok(())
     }
 
-    // No bytes are no push. The writer is offered all that is left, as for one push, and takes what it will.
-    fn push_each(&mut self, bytes: &[u8]) -> Result<(), Refused> {
-        if bytes.is_empty() {
-            return Ok(());
-        }
-        self.push(bytes)
-    }
-
     fn failed(&self) -> bool {
         self.failed
     }

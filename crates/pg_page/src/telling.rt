@@ -293,10 +293,18 @@ fn write_root_line<W: Sink>(
 ) -> Result<(), Refused>
     ensures fault { OnErr result (W.has_failed out.new ≡ true) }
 {
+    // No move leads here, and its text goes out like any other.
+    let text = MoveText::new();
     match said {
-        Bare::Expand { .. } => write_opened(&MoveText::new(), is_told(told, tree, tree), out),
-        Bare::Ref(number) => write_reference(*number, out),
-        said => write_cut(told, &Position::array(), tree, said, prices, out),
+        Bare::Expand { .. } => write_opened(&text, is_told(told, tree, tree), out),
+        Bare::Ref(number) => {
+            out.push(text.as_str().as_bytes())?;
+            write_reference(*number, out)
+        }
+        said => {
+            out.push(text.as_str().as_bytes())?;
+            write_cut(told, &Position::array(), tree, said, prices, out)
+        }
     }
 }
 

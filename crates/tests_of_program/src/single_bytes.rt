@@ -47,33 +47,47 @@ struct Asked<'a> {
     at: u64,
 }
 
-// What the calls of one try answer.
+// What the pushes of one try answer, and whether nothing was refused to the end.
 type Answers = (Result<(), Refused>, Result<(), Refused>, bool);
 
-// What the calls answer, and the writer after them.
-fn try_of(asked: &Asked<'_>, is_single: bool, pieces: &mut Pieces) -> Answers {
-    let writer = FailsAt::new(pieces, asked.at, ErrorKind::Other);
-    let mut out = Gathered::new(ToWrite::new(writer));
+// What the pushes of one try answer: of the bytes one by one, and of a last text.
+fn pushed<W: Sink>(
+    asked: &Asked<'_>,
+    is_single: bool,
+    out: &mut W,
+) -> (Result<(), Refused>, Result<(), Refused>) {
     let _ = out.push(asked.before);
-    let pushed = if is_single {
-        push_singly(asked.bytes, &mut out)
+    let each = if is_single {
+        push_singly(asked.bytes, out)
     } else {
         out.push_each(asked.bytes)
     };
-    let after = out.push(b"end");
-    (pushed, after, out.finish().is_ok())
+    (each, out.push(b"end"))
+}
+
+// One try, over a sink that gathers or over one that hands each push on as it comes.
+fn try_of(asked: &Asked<'_>, is_gathered: bool, is_single: bool, pieces: &mut Pieces) -> Answers {
+    let mut sink = ToWrite::new(FailsAt::new(pieces, asked.at, ErrorKind::Other));
+    if is_gathered {
+        let mut out = Gathered::new(sink);
+        let (each, after) = pushed(asked, is_single, &mut out);
+        (each, after, out.finish().is_ok())
+    } else {
+        let (each, after) = pushed(asked, is_single, &mut sink);
+        (each, after, !sink.failed())
+    }
 }
 
 // One call answers what pushes of one byte each answer, and writes the same pieces.
-fn check_pieces<R: Abort + AllocGlobal>(rt: &R, asked: &Asked<'_>) {
+fn check_pieces<R: Abort + AllocGlobal>(rt: &R, asked: &Asked<'_>, is_gathered: bool) {
     let mut single = Pieces {
         bytes: Vec::new(rt.alloc()),
     };
     let mut each = Pieces {
         bytes: Vec::new(rt.alloc()),
     };
-    let wanted = try_of(asked, true, &mut single);
-    let answers = try_of(asked, false, &mut each);
+    let wanted = try_of(asked, is_gathered, true, &mut single);
+    let answers = try_of(asked, is_gathered, false, &mut each);
     let place = (asked.before.len(), asked.bytes.len(), asked.at);
     assert!(rt; answers == wanted, "{place:?}");
     assert!(rt; each.bytes == single.bytes, "{place:?}");
@@ -85,7 +99,7 @@ fn check_lengths<R: Abort + AllocGlobal>(rt: &R, text: &[u8], before: usize, cou
         panic!(rt; "a text of {count} bytes behind one of {before}");
     };
     for at in 0..5u64 {
-        check_pieces(rt, &Asked { before, bytes, at });
+        check_pieces(rt, &Asked { before, bytes, at }, true);
     }
 }
 
@@ -104,6 +118,18 @@ fn pieces_of_single_bytes(rt: HostRuntime) {
     }
 }
 
+// Nothing is gathered: each byte is a write of its own, of which each fails once.
+#[test]
+fn pieces_of_a_writer(rt: HostRuntime) {
+    for bytes in [b"".as_slice(), b"a", b"<a>", b"twelve bytes"] {
+        for before in [b"".as_slice(), b"before"] {
+            for at in 0..16u64 {
+                check_pieces(&rt, &Asked { before, bytes, at }, false);
+            }
+        }
+    }
+}
+
 // Two bytes are too many for a room that lacks one: the piece is full all the same.
 #[test]
 fn a_full_piece(rt: HostRuntime) {
@@ -116,7 +142,10 @@ fn a_full_piece(rt: HostRuntime) {
         bytes: b"yz",
         at: 9,
     };
-    assert_eq!(rt; try_of(&asked, false, &mut pieces), (Ok(()), Ok(()), true));
+    assert_eq!(rt;
+        try_of(&asked, true, false, &mut pieces),
+        (Ok(()), Ok(()), true)
+    );
     assert_eq!(rt; pieces.bytes.len(), 4102);
     assert!(rt; pieces.bytes.as_slice().ends_with(b"xxy|zend|"));
 }

@@ -16,7 +16,7 @@ struct Asked {
 // How many foreign moves the games have at most of which each was met.
 fn most(foreign: Option<u8>) -> Said {
     match foreign {
-        Some(most) => words(&most),
+        Some(most) => words(&format_args!("told {most}")),
         None => words(&"none"),
     }
 }
@@ -151,12 +151,13 @@ fn drawn_list<R: Abort + AllocGlobal>(
     asked
 }
 
-// How many searches found a game, met all with so many foreign moves, and met not even those with none.
+// How many searches found a game, met all with so many foreign moves, met not even those with none, and failed.
 #[derive(Clone, Copy)]
 struct Kinds {
     found: u32,
     told: u32,
     none: u32,
+    failed: u32,
 }
 
 impl Kinds {
@@ -165,8 +166,10 @@ impl Kinds {
             self.found = self.found.saturating_add(1);
         } else if said.starts_with("none") {
             self.none = self.none.saturating_add(1);
-        } else {
+        } else if said.starts_with("told") {
             self.told = self.told.saturating_add(1);
+        } else {
+            self.failed = self.failed.saturating_add(1);
         }
     }
 }
@@ -194,6 +197,7 @@ fn led_searches_are_those_from_node_to_node(rt: HostRuntime) {
         found: 0,
         told: 0,
         none: 0,
+        failed: 0,
     };
     for begun in BEGUN.split('\n') {
         for plies in 0..13 {
@@ -203,4 +207,5 @@ fn led_searches_are_those_from_node_to_node(rt: HostRuntime) {
     assert!(rt; kinds.found > 9, "{}", kinds.found);
     assert!(rt; kinds.told > 9, "{}", kinds.told);
     assert!(rt; kinds.none > 9, "{}", kinds.none);
+    assert!(rt; kinds.failed == 0, "{}", kinds.failed);
 }
