@@ -157,6 +157,7 @@ fn other_games_of<R: Runtime + AllocGlobal>(
 // `pg check`: the certificate of a file is checked, and the report stands on standard output. A status means
 // that a list is the exact answer to the diagram and the length which the words spell, and 0 that it has one
 // game; the list is that of the file GAMES or of standard input, of which no contract can say what it gives.
+#[inline(never)]
 pub(crate) fn check<R: Runtime + AllocGlobal>(
     rt: &R,
     words: &ArgMatches<'_>,

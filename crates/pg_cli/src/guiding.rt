@@ -137,6 +137,7 @@ pub(crate) fn why_from<S: Source, W: Sink>(
 
 // `pg why`: the certificate of a plain file explains a line on standard output. A status means that some list
 // is the exact answer to the diagram and the length which the words spell, and it is 0.
+#[inline(never)]
 pub(crate) fn why<R: Runtime + AllocGlobal>(
     rt: &R,
     words: &ArgMatches<'_>,

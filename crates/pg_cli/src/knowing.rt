@@ -132,6 +132,7 @@ pub(crate) fn cooks_from<P: LedProgress, W: Sink>(
 
 // `pg games`: what the list shows stands on standard output. The list is that of the file GAMES or of standard input, of which
 // no contract can say what it gives.
+#[inline(never)]
 pub(crate) fn games<R: Runtime + AllocGlobal>(
     rt: &R,
     words: &ArgMatches<'_>,
@@ -157,6 +158,7 @@ pub(crate) fn games<R: Runtime + AllocGlobal>(
 
 // `pg cooks`: what is found beside the list stands on standard output. The list is that of the file GAMES, of which no contract
 // can say what it gives.
+#[inline(never)]
 pub(crate) fn cooks<R: Runtime + AllocGlobal>(
     rt: &R,
     words: &ArgMatches<'_>,

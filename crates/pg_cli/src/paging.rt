@@ -67,6 +67,7 @@ pub(crate) fn page_from<S: Source, W: Sink>(
 
 // `pg page`: the certificate of a plain file is shown as a page on standard output. A status means that some list is the
 // exact answer to the diagram and the length which the words spell, and it is 0.
+#[inline(never)]
 pub(crate) fn page<R: Runtime + AllocGlobal>(
     rt: &R,
     words: &ArgMatches<'_>,

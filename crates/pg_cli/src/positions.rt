@@ -47,6 +47,7 @@ pub(crate) fn moves_from<W: Sink>(
 }
 
 // `pg moves FEN`: the legal moves, on standard output. A status means that FEN spells a position.
+#[inline(never)]
 pub(crate) fn moves<R: Runtime + AllocGlobal>(rt: &R, words: &ArgMatches<'_>) -> Result<u8, Refusal>
     ensures spelled { IfOk result (λ status. HasPosition (rows_of (found_of words.now)) status) }
     ensures err { IfErr result (λ refusal. IsMovesCause (rows_of (found_of words.now)) refusal) }
@@ -82,6 +83,7 @@ pub(crate) fn count_from<P: CountProgress, W: Sink>(
 }
 
 // `pg count FEN PLIES`: the number of games, on standard output. A status means that FEN spells a position.
+#[inline(never)]
 pub(crate) fn count<R: Runtime + AllocGlobal>(
     rt: &R,
     words: &ArgMatches<'_>,
@@ -163,6 +165,7 @@ pub(crate) fn show_within_from<W: Sink>(
 
 // `pg show DIAGRAM [LENGTH]`: the board and what is known at once, on standard output. A status means that DIAGRAM spells a
 // diagram, and LENGTH, where it stands, a length.
+#[inline(never)]
 pub(crate) fn show<R: Runtime + AllocGlobal>(
     rt: &R,
     words: &ArgMatches<'_>,

@@ -360,6 +360,7 @@ fn search_for<R: Runtime + AllocGlobal>(
 
 // `pg search`: games are searched for, and a certificate is written and checked. A status means that a list is the
 // exact answer to the diagram and the length which the words spell, and 0 that it has one game.
+#[inline(never)]
 pub(crate) fn search<R: Runtime + AllocGlobal>(
     rt: &R,
     words: &ArgMatches<'_>,

@@ -83,6 +83,7 @@ fn upgrade_file<S: Source, F: Write + Drop, O: Sink>(
 
 // `pg upgrade`: the copy is written beside its place, and put there once the number of its records
 // stands on standard output. Else it is taken away, and what stood there is as it was.
+#[inline(never)]
 pub(crate) fn upgrade<R: Runtime + AllocGlobal>(
     rt: &R,
     words: &ArgMatches<'_>,
