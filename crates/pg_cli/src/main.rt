@@ -45,7 +45,7 @@ use std::{env, io};
 
 // Does a command with its words and these bounds. A status of `check`, `search`, `why` or `page` means that a list is the exact
 // answer to the diagram and the length which the words spell, and 1 of `games` or `cooks` that no list of one game is. No command is
-// inlined here: its frame would hold what all the others need, and lie below each of them.
+// inlined here: the frame of this call would hold what each of them needs, and lie below them all.
 fn perform<R: Runtime + AllocGlobal>(
     rt: &R,
     command: Command,

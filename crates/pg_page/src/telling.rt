@@ -293,7 +293,7 @@ fn write_root_line<W: Sink>(
 ) -> Result<(), Refused>
     ensures fault { OnErr result (W.has_failed out.new ≡ true) }
 {
-    // No move leads here, and its text goes out like any other.
+    // No move leads here: an empty text goes out in its place.
     let text = MoveText::new();
     match said {
         Bare::Expand { .. } => write_opened(&text, is_told(told, tree, tree), out),

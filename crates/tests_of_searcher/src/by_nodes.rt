@@ -10,13 +10,14 @@ use pg_san::Games;
 use std::process::Abort;
 
 // Games that others begin with: none; with promotions of either side, castling on either wing, a capture en passant, and
-// king and rooks that have moved, in reach.
+// king and rooks that have moved, in reach; and one that ends by the capture en passant.
 const BEGUN: &str = "
 1. a4 h5 2. a5 h4 3. a6 h3 4. axb7 hxg2
 1. e4 e5 2. Nf3 Nf6 3. Be2 Be7
 1. d4 d5 2. Nc3 Nc6 3. Bf4 Bf5 4. Qd2 Qd7
 1. e4 a6 2. e5 d5
-1. h4 a5 2. Rh3 Ra6 3. Rb3 Rh6";
+1. h4 a5 2. Rh3 Ra6 3. Rb3 Rh6
+1. e4 a6 2. e5 d5 3. exd6";
 
 // What was told, as a digest: FNV-1a with 64 bits, a number at a time.
 #[derive(Drop)]

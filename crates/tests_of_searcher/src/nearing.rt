@@ -132,12 +132,14 @@ fn two_moves_lead_or_not(rt: HostRuntime) {
 }
 
 // Positions from which two moves lead to a diagram: a pawn that goes two squares is taken en passant; both castle; a man is
-// taken and avenged, so that its square is as before; a king takes and is not taken.
+// taken and avenged, so that its square is as before; a king takes and is not taken; a pawn goes two squares and is taken, since to
+// go one leaves its king attacked.
 const LED: &str =
     "rnbqkbnr/ppp1pppp/8/8/3p4/8/PPPPPPPP/RNBQKBNR w KQkq - 0 1 | rnbqkbnr/ppp1pppp/8/8/8/2p5/PP1PPPPP/RNBQKBNR
 r3k2r/8/8/8/8/8/8/R3K2R w KQkq - 0 1 | 2kr3r/8/8/8/8/8/8/R4RK1
 4k3/8/1n6/3n4/8/4N3/8/4K3 w - - 0 1 | 4k3/8/8/3n4/8/8/8/4K3
-4k3/8/8/8/8/8/3n4/4K3 w - - 0 1 | 8/3k4/8/8/8/8/3K4/8";
+4k3/8/8/8/8/8/3n4/4K3 w - - 0 1 | 8/3k4/8/8/8/8/3K4/8
+4k3/8/b7/8/3p4/8/2P5/5K2 w - - 0 1 | 4k3/8/b7/8/8/2p5/8/5K2";
 
 #[test]
 fn two_moves_lead(rt: HostRuntime) {
@@ -146,5 +148,22 @@ fn two_moves_lead(rt: HostRuntime) {
         let diagram = Diagram::read(field(row, 1)).expect(&rt, row);
         assert!(rt; two_lead(&rt, rt.alloc(), &diagram, &start));
         assert!(rt; may_lead(&diagram, &start));
+    }
+}
+
+// Two, three and four squares differ after the first move, and no move changes them so.
+const NOT_LED: &str = "4k3/8/8/8/8/8/7P/4K3 w - - 0 1 | 8/8/8/4k3/8/7P/8/4K3
+rnbqkbnr/ppp1pppp/8/8/2Pp4/8/PP1PPPPP/RNBQKBNR w KQkq - 0 1 | rnbqkbnr/ppp1pppp/8/8/8/2p4P/PP1PPPP1/RNBQKBNR
+4k3/8/8/8/2Pn4/8/7P/4K3 w - - 0 1 | 4k3/8/8/8/8/2n4P/8/4K3
+r3k2r/8/8/8/8/8/7P/4K3 w q - 0 1 | r4rk1/8/8/8/8/7P/8/4K3
+r3k2r/8/8/8/8/8/7P/4K3 w k - 0 1 | 2kr3r/8/8/8/8/7P/8/4K3";
+
+#[test]
+fn two_moves_do_not_lead(rt: HostRuntime) {
+    for row in NOT_LED.lines() {
+        let start = read_position(field(row, 0)).expect(&rt, row).position;
+        let diagram = Diagram::read(field(row, 1)).expect(&rt, row);
+        assert!(rt; !two_lead(&rt, rt.alloc(), &diagram, &start));
+        assert!(rt; !may_lead(&diagram, &start), "{row}");
     }
 }
