@@ -234,7 +234,7 @@ fn problem(
     let Some(length) = game.length() else {
         return Err(Fault::NoAnswer("length"))?;
     };
-    match settle(alloc, &game.diagram(), length, MOST)? {
+    match settle(alloc, &game.diagram(), length, MOST, digest)? {
         Came::Settled { games, bytes } if bytes.len() >= LEAST => {
             let count = bytes.len() as u64;
             let sent = sent_of(alloc, game, &games, bytes)?;

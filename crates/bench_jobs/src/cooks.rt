@@ -17,9 +17,14 @@ const MOST: u64 = 30_000;
 const MOST_LED: u64 = 200_000;
 
 // The games that are known, a line each.
-fn known(alloc: Global, game: &Game, length: Length) -> anyhow::Result<String> {
+fn known(
+    alloc: Global,
+    game: &Game,
+    length: Length,
+    digest: &mut Digest,
+) -> anyhow::Result<String> {
     let mut text = String::new(alloc);
-    match settle(alloc, &game.diagram(), length, MOST)? {
+    match settle(alloc, &game.diagram(), length, MOST, digest)? {
         Came::Settled {
             games,
             bytes: _bytes,
@@ -40,7 +45,7 @@ fn problem(alloc: Global, game: &Game, digest: &mut Digest) -> anyhow::Result<u6
     let Some(length) = game.length() else {
         return Err(Fault::NoAnswer("length"))?;
     };
-    let games = known(alloc, game, length)?;
+    let games = known(alloc, game, length, digest)?;
     let diagram = game.diagram().write();
     let length = length.write();
     let asked = Asked {

@@ -60,9 +60,8 @@ fn tried(
     digest: &mut Digest,
 ) -> anyhow::Result<(u64, bool)> {
     let diagram = game.diagram();
-    match settle(alloc, &diagram, length, limit)? {
+    match settle(alloc, &diagram, length, limit, digest)? {
         Came::Settled { games, bytes } => {
-            digest.text(bytes.as_slice());
             check_found(alloc, &diagram, length, &games, bytes.as_slice(), digest)?;
             Ok((bytes.len() as u64 / 2, false))
         }

@@ -1,4 +1,5 @@
 //! Problems that a search settles.
+use crate::digest::Digest;
 use crate::fault::Fault;
 use pg_report::{Diagram, Games, Length, SearchFault, ToWrite, search};
 use std::alloc::Global;
@@ -17,19 +18,20 @@ pub(crate) enum Came {
     Other(u64),
 }
 
-// A search with so many nodes at most.
+// A search with so many nodes at most. What it has written is taken in, however it ended.
 pub(crate) fn settle(
     alloc: Global,
     diagram: &Diagram,
     length: Length,
     nodes: u64,
+    digest: &mut Digest,
 ) -> Result<Came, Fault> {
     let mut sink = ToWrite::new(Vec::new(alloc));
-    match search(alloc, diagram, length, nodes, &mut sink) {
-        Ok(games) => {
-            let bytes = sink.into_inner();
-            Ok(Came::Settled { games, bytes })
-        }
+    let answer = search(alloc, diagram, length, nodes, &mut sink);
+    let bytes = sink.into_inner();
+    digest.text(bytes.as_slice());
+    match answer {
+        Ok(games) => Ok(Came::Settled { games, bytes }),
         Err(SearchFault::Budget) => Ok(Came::Limit),
         Err(SearchFault::Shorter(plies)) => Ok(Came::Other(u64::from(plies))),
         Err(SearchFault::TooManyGames) => Ok(Came::Other(1_000)),
