@@ -8,7 +8,7 @@ ghost use Rattle.pg_moves.specs.inner.Sources.{IsToldSource};
 ghost use Rattle.pg_moves.specs.Moves.{IsNext, IsLast};
 ghost use Rattle.pg_moves.specs.Targets.{FreeOff};
 
-use crate::men::{Men, are_few, are_known, find_men, keep_many, keep_men, no_men, own_men};
+use crate::men::{Men, are_known, keep_men, no_men, own_men};
 use crate::pins::{is_special, maybe_pinned};
 use crate::places::promotion_number;
 use crate::sources::{Source, first_of_source, source_at};
@@ -254,8 +254,8 @@ impl LegalMoves {
         }
     }
 
-    // The next legal move, once the man that moved last has none left, with what is found for it. With few men, of whom nothing
-    // is kept, each is looked at for himself.
+    // The next legal move, once the man that moved last has none left, with what is found for it. A peek keeps nothing, so it
+    // finds nothing of all men: each is looked at for himself, unless `next` has found them.
     #[inline(never)]
     fn peek_beyond(&self) -> Option<Peeked>
         requires { IsManDone self.now.position self.now.last }
@@ -264,10 +264,8 @@ impl LegalMoves {
     {
         if are_known(&self.men) {
             peek_known(&self.position, &self.men, &self.turn)
-        } else if are_few(&self.position) {
-            peek_each(&self.position, self.men_maybe_pinned(), &self.turn)
         } else {
-            peek_known(&self.position, &find_men(&self.position), &self.turn)
+            peek_each(&self.position, self.men_maybe_pinned(), &self.turn)
         }
     }
 
@@ -296,7 +294,6 @@ impl LegalMoves {
         ensures { self.new ≡ record self.old { last = Some peeked.now.m } }
     {
         self.maybe_pinned = peeked.maybe_pinned;
-        keep_many(&self.position, &self.turn.last, &mut self.men);
         pass(&self.position, peeked, &mut self.turn);
     }
 
