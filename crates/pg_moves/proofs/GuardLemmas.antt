@@ -50,6 +50,11 @@ lifted_too b c k r h x on here (j, at, (pattern, clear)) =
     ]) in
     (j, still, (pattern, open_line))
 
+-- where all may be pinned nothing is said of any
+pub guards_none : (p : State) (pinned goals : ℕ) → ((q : ℕ) → q < 64 → has pinned q ≡ true) → GuardsOff p pinned goals
+unfolding GuardsOff
+guards_none p pinned goals all k r low here off = let there : has pinned r ≡ true = all r low in absurd (cc)
+
 module _ (p : State) (b : Placement) (c : Color) (h : ℕ) (pos : IsPosition p) (eb : b ≡ p.board) (ec : c ≡ p.side) (first : IsFirst b (king_of c) h) where
   king : IsOnlyKing p.board p.side h
   king = the_king p b c h pos eb ec first

@@ -18,7 +18,7 @@ use Rattle.pg_position.specs.Attack.{IsClear, Reaches, AttacksFrom}
 use Rattle.pg_position.proofs.LineLemmas.{pawn_near, knight_near, king_near}
 use Rattle.pg_position.proofs.ReachLemmas.{between_turn}
 use Rattle.pg_moves.specs.Targets.{IsOwn, only}
-use Rattle.pg_moves.specs.inner.Parries.{IsLineKind, IsPinnedAlong}
+use Rattle.pg_moves.specs.inner.Parries.{AreParries, IsLineAttacker, IsLineKind, IsPinnedAlong}
 use Rattle.pg_moves.proofs.LineLemmas.{same_square, within_same}
 use Rattle.pg_moves.proofs.WayLemmas.{men_are, clear_turn, between_met}
 use Rattle.pg_moves.proofs.OnlyLemmas.{only_other}
@@ -131,6 +131,20 @@ module _ (b e : Placement) (c : Color) (k : Kind) (slides : IsLineKind k) (h : �
           let yes : has attackers w.0 ≡ true = attacker w.0 w.1 w.2 w.3 in
           let no : has attackers w.0 ≡ false = none w.0 (omega arith) w.1 in
           cc
+
+      -- and along the lines of the kind none attacks with them either
+      pub none_along : HasNoneFrom attackers 0 → (full : ℕ) → ((q : ℕ) → q < 64 → has full q ≡ true) → AreParries b (other c) h (IsLineAttacker b (other c) k h) full
+      unfolding IsClear
+      none_along none full all = record {
+        vain = λ s l off. absurd (let on : has full s ≡ true = all s l in cc);
+        safe = λ s l on x low (sees, stands). absurd (
+            let open_line : (t : ℕ) → t < 64 → IsBetween h t x → get e t ≡ None = (λ t lt mid. bare t lt ∙ ap (only (other c)) (sees.1 t lt mid)) in
+            let slides_there : has men x ≡ true = elim stands [ inl at ↦ is_slider k x low at (inl refl) | inr at ↦ is_slider Queen x low at (inr refl) ] in
+            let yes : has attackers x ≡ true = attacker x low (sees.0, open_line) slides_there in
+            let no : has attackers x ≡ false = none x (omega arith) low in
+            cc
+            );
+      }
 
       -- nor off the men that a hidden attacker sees, and the square
       pub none_hidden : (seen hidden found : ℕ) → IsSetOf seen (Reaches b (other c) k h) → ((q : ℕ) → q < 64 → has hidden q ≡ has attackers q && not (has seen q)) → ((x r : ℕ) → x < 64 → r < 64 → has hidden x ≡ true → has seen r ≡ true → Reaches b (other c) k x r → has found r ≡ true)

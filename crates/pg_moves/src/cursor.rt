@@ -8,7 +8,7 @@ ghost use Rattle.pg_moves.specs.inner.Sources.{IsToldSource};
 ghost use Rattle.pg_moves.specs.Moves.{IsNext, IsLast};
 ghost use Rattle.pg_moves.specs.Targets.{FreeOff};
 
-use crate::men::{Men, are_few, are_known, find_men, keep_many, keep_men, no_men, own_men};
+use crate::men::{Men, are_known, keep_men, no_men, own_men};
 use crate::pins::{is_special, maybe_pinned};
 use crate::places::promotion_number;
 use crate::sources::{Source, first_of_source, source_at};
@@ -49,18 +49,15 @@ impl Model for LegalMoves {
     ghost invariant = { λ a. FreeOff a.position a.maybe_pinned × IsReady a.position a.turn.last a.men a.turn };
 }
 
-// The man of a move that was peeked at. What was peeked at does not tell why his moves are tried one by one, so that is asked.
-#[inline(always)]
-fn source_of_peeked(position: &Position, peeked: &Peeked) -> Source
+// The man of a move that was peeked at, whose set is not said to be exact: what was peeked at does not
+// tell why his moves are tried one by one, so that is asked.
+fn source_of_tried(position: &Position, peeked: &Peeked) -> Source
     requires { IsPeeked position.now peeked.now }
     ensures { IsToldSource position.now peeked.now.m.from result }
 {
     // A fact for the proof: the square is on the board.
     peeked.m.from.index();
     let source = peeked.source;
-    if source.exact {
-        return source;
-    }
     if is_special(position, position.side(), source.kind, peeked.m.from) {
         return source;
     }
@@ -161,24 +158,49 @@ fn peek_each(position: &Position, maybe_pinned: SquareSet, old: &Turn) -> Option
     }
 }
 
-// Goes past a move that was peeked at.
+// Goes past a move that was peeked at, whose man is told.
 #[inline(always)]
-#[tactic(auto, unfolding(crate::specs::Left::IsPeeked))]
-fn pass(position: &Position, peeked: &Peeked, turn: &mut Turn)
-    requires { IsPeeked position.now peeked.now }
+fn pass_by(position: &Position, peeked: &Peeked, source: &Source, turn: &mut Turn)
+    requires { IsToldSource position.now peeked.now.m.from source.now }
     ensures last { turn.new.last ≡ Some peeked.now.m }
     ensures turn { IsTurn position.now peeked.now.m turn.new }
 {
     // Facts for the proof: the squares are on the board.
     peeked.m.from.index();
     peeked.m.to.index();
-    let source = source_of_peeked(position, peeked);
     turn.last = Some(peeked.m);
     turn.left = past(own_men(position), peeked.m.from);
     turn.rest = past(source.set, peeked.m.to);
     turn.source.set = source.set;
     turn.source.kind = source.kind;
     turn.source.exact = source.exact;
+}
+
+// The same where the set of the man is not said to be exact: not inlined, since it is rare.
+#[inline(never)]
+fn pass_tried(position: &Position, peeked: &Peeked, turn: &mut Turn)
+    requires { IsPeeked position.now peeked.now }
+    ensures last { turn.new.last ≡ Some peeked.now.m }
+    ensures turn { IsTurn position.now peeked.now.m turn.new }
+{
+    let source = source_of_tried(position, peeked);
+    pass_by(position, peeked, &source, turn);
+}
+
+// Goes past a move that was peeked at.
+#[inline(always)]
+fn pass(position: &Position, peeked: &Peeked, turn: &mut Turn)
+    requires { IsPeeked position.now peeked.now }
+    ensures last { turn.new.last ≡ Some peeked.now.m }
+    ensures turn { IsTurn position.now peeked.now.m turn.new }
+{
+    // A fact for the proof: the square is on the board.
+    peeked.m.from.index();
+    if peeked.source.exact {
+        pass_by(position, peeked, &peeked.source, turn);
+    } else {
+        pass_tried(position, peeked, turn);
+    }
 }
 
 // Goes past a move that was peeked at, of the man that moved last: he is not looked at again.
@@ -254,8 +276,8 @@ impl LegalMoves {
         }
     }
 
-    // The next legal move, once the man that moved last has none left, with what is found for it. With few men, of whom nothing
-    // is kept, each is looked at for himself.
+    // The next legal move, once the man that moved last has none left, with what is found for it. A peek keeps nothing, so it
+    // finds nothing of all men: each is looked at for himself, unless `next` has found them.
     #[inline(never)]
     fn peek_beyond(&self) -> Option<Peeked>
         requires { IsManDone self.now.position self.now.last }
@@ -264,10 +286,8 @@ impl LegalMoves {
     {
         if are_known(&self.men) {
             peek_known(&self.position, &self.men, &self.turn)
-        } else if are_few(&self.position) {
-            peek_each(&self.position, self.men_maybe_pinned(), &self.turn)
         } else {
-            peek_known(&self.position, &find_men(&self.position), &self.turn)
+            peek_each(&self.position, self.men_maybe_pinned(), &self.turn)
         }
     }
 
@@ -296,7 +316,6 @@ impl LegalMoves {
         ensures { self.new ≡ record self.old { last = Some peeked.now.m } }
     {
         self.maybe_pinned = peeked.maybe_pinned;
-        keep_many(&self.position, &self.turn.last, &mut self.men);
         pass(&self.position, peeked, &mut self.turn);
     }
 

@@ -17,7 +17,7 @@ ghost use Rattle.pg_moves.specs.Targets.{IsOwn, Leaps, Advances};
 use crate::guards::find_guard;
 use crate::pawns::quiet_pawns;
 use pg_board::{Board, Color, Kind, Man, Square, SquareSet};
-use pg_position::{Move, Position, ahead, attacks_from};
+use pg_position::{Position, ahead, attacks_from};
 
 // The squares one rank ahead of those of the set.
 #[inline(always)]
@@ -107,16 +107,10 @@ pub(crate) fn own_men(position: &Position) -> SquareSet
     position.board().squares_of_color(position.side())
 }
 
-// Whether the side to move has few men: to find what is known of all costs more then than it saves, where they are peeked at.
-#[inline(always)]
-pub(crate) fn are_few(position: &Position) -> bool {
-    own_men(position).len() <= 8
-}
-
 // What is known of the men: once for a position, also where its king is attacked. Not inlined, since few calls of the cursor
 // are the first ones.
 #[inline(never)]
-pub(crate) fn find_men(position: &Position) -> Men
+fn find_men(position: &Position) -> Men
     ensures { AreMen position.now result }
 {
     let board = position.board();
@@ -148,21 +142,6 @@ pub(crate) fn keep_men(position: &Position, men: &mut Men)
     if !are_known(men) {
         *men = find_men(position);
     }
-}
-
-// The men are looked at where a second one moves that was peeked at, unless they are few.
-#[inline(always)]
-pub(crate) fn keep_many(position: &Position, last: &Option<Move>, men: &mut Men)
-    requires { AreKept position.now men.old }
-    ensures { AreKept position.now men.new }
-{
-    if last.is_none() {
-        return;
-    }
-    if are_few(position) {
-        return;
-    }
-    keep_men(position, men);
 }
 
 // Where a quiet pawn goes.

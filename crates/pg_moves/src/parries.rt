@@ -2,7 +2,8 @@
 ghost use Rattle.std.specs.Prelude.{◌≡◌, ◌≢◌, ℕ, ◌<◌, true, false, None};
 ghost use Rattle.pg_board.specs.Bits.{has};
 ghost use Rattle.pg_board.specs.Placement.{get};
-ghost use Rattle.pg_position.specs.Attack.{AttacksFrom};
+ghost use Rattle.pg_board.specs.SquareSets.{IsSetOf};
+ghost use Rattle.pg_position.specs.Attack.{AttacksFrom, Reaches};
 ghost use Rattle.pg_position.specs.Position.{Stands};
 ghost use Rattle.pg_moves.specs.Targets.{IsOrdinary};
 ghost use Rattle.pg_moves.specs.inner.Sources.{IsExact};
@@ -13,17 +14,24 @@ use pg_board::{Board, Color, Kind, Man, Square, SquareSet};
 use pg_position::{Position, attacks_from};
 
 // Where a man may come against men of the colour that are of the kind, or queens, and attack the square
-// along the kind's lines: to the square of the only one, or between him and the square.
-fn line_parries(board: &Board, square: Square, by: Color, kind: Kind) -> SquareSet
+// along the kind's lines: to the square of the only one, or between him and the square. What is seen from there along these
+// lines is handed in.
+pub(crate) fn line_parries(
+    board: &Board,
+    square: Square,
+    by: Color,
+    kind: Kind,
+    seen: SquareSet,
+) -> SquareSet
     requires kind { IsLineKind kind }
     requires held { get board.now square ≢ None }
+    requires seen { IsSetOf seen (Reaches board.now by kind square) }
     ensures { AreParries board.now by square (IsLineAttacker board.now by kind square) result }
 {
     // A fact for the proof: the square is on the board.
     square.index();
     let man = Man::new(by, kind);
     let queens = board.squares_of(Man::new(by, Kind::Queen));
-    let seen = attacks_from(board, man, square);
     let attackers = seen & (board.squares_of(man) | queens);
     let mut kept = SquareSet::full();
     let mut at = 0;
@@ -52,17 +60,44 @@ fn step_parries(board: &Board, square: Square, by: Color, kind: Kind) -> SquareS
     kept
 }
 
+// Where a man may come against men of the colour that attack the square along the lines of the kind.
+fn parries_along(board: &Board, square: Square, by: Color, kind: Kind) -> SquareSet
+    requires kind { IsLineKind kind }
+    requires held { get board.now square ≢ None }
+    ensures { AreParries board.now by square (IsLineAttacker board.now by kind square) result }
+{
+    let seen = attacks_from(board, Man::new(by, kind), square);
+    line_parries(board, square, by, kind, seen)
+}
+
 // Each square to which a man may come so that the colour attacks the square no more: he takes the man
-// that attacks, or stands in between.
-pub(crate) fn all_parries(board: &Board, square: Square, by: Color) -> SquareSet
-    requires { get board.now square ≢ None }
+// that attacks, or stands in between. Where he may come against attacks along lines is handed in.
+pub(crate) fn parries_with(
+    board: &Board,
+    square: Square,
+    by: Color,
+    straight: SquareSet,
+    diagonal: SquareSet,
+) -> SquareSet
+    requires straight { AreParries board.now by square (IsLineAttacker board.now by Kind.Rook square) straight }
+    requires diagonal { AreParries board.now by square (IsLineAttacker board.now by Kind.Bishop square) diagonal }
     ensures { AreParries board.now by square (λ x. AttacksFrom board.now by x square) result }
 {
-    line_parries(board, square, by, Kind::Rook)
-        & line_parries(board, square, by, Kind::Bishop)
+    straight
+        & diagonal
         & step_parries(board, square, by, Kind::Knight)
         & step_parries(board, square, by, Kind::Pawn)
         & step_parries(board, square, by, Kind::King)
+}
+
+// The same where nothing is known of attacks along lines.
+fn all_parries(board: &Board, square: Square, by: Color) -> SquareSet
+    requires { get board.now square ≢ None }
+    ensures { AreParries board.now by square (λ x. AttacksFrom board.now by x square) result }
+{
+    let straight = parries_along(board, square, by, Kind::Rook);
+    let diagonal = parries_along(board, square, by, Kind::Bishop);
+    parries_with(board, square, by, straight, diagonal)
 }
 
 // Each square to which the man on `from`, no king, may go, en passant apart, so that his king is not

@@ -12,6 +12,7 @@ use pg_board::{Board, Color, Kind, Man, Square, SquareSet};
 use pg_position::{Position, ahead, attacks_from, has_ahead, home_rank, is_vacant};
 
 // The square in front: none at the edge.
+#[inline(always)]
 fn in_front(color: Color, from: Square) -> SquareSet
     ensures { IsSetOf result (λ q. (file from ≡ file q) × IsForward color 1 from q) }
 {
@@ -25,6 +26,7 @@ fn in_front(color: Color, from: Square) -> SquareSet
 }
 
 // Where a pawn goes one square forward or captures.
+#[inline(always)]
 fn pawn_strides(board: &Board, color: Color, from: Square) -> SquareSet
     ensures { IsSetOf result (Strides board.now color Kind.Pawn from) }
 {
@@ -42,6 +44,7 @@ fn piece_strides(board: &Board, color: Color, kind: Kind, from: Square) -> Squar
 }
 
 // Whether a pawn stands at home with two empty squares in front of it.
+#[inline(always)]
 fn can_leap(board: &Board, color: Color, from: Square) -> bool
     ensures { IsTrue result ↔
         ((rank from ≡ home_rank color) × IsVacant board.now (ahead color 1 from)
@@ -53,6 +56,7 @@ fn can_leap(board: &Board, color: Color, from: Square) -> bool
 }
 
 // Where a pawn at home goes two squares forward.
+#[inline(always)]
 fn leaps(board: &Board, color: Color, from: Square) -> SquareSet
     ensures { IsSetOf result (Leaps board.now color from) }
 {

@@ -103,8 +103,8 @@ fn begin_tried(
     }
 }
 
-// Any man begins who has a legal move: not inlined, since few men come here besides kings.
-#[inline(never)]
+// Any man begins who has a legal move.
+#[inline(always)]
 #[tactic(auto, unfolding(crate::specs::inner::Sources::IsToldSource))]
 fn begin_any(
     position: &Position,
@@ -118,16 +118,26 @@ fn begin_any(
     ensures { IsFirstOfMan position.now from left turn.old turn.new result }
 {
     let board = position.board();
-    if is_there(&board, position.side(), Kind::King, from) {
-        let set = king_targets(position, &board, from);
-        return begin_exact(position, Kind::King, from, set, left, turn);
-    }
     let source = source_at(position, &board, maybe_pinned, from);
     if source.exact {
         begin_exact(position, source.kind, from, source.set, left, turn)
     } else {
         begin_tried(position, &source, from, left, turn)
     }
+}
+
+// The same where nothing is known of him: not inlined, since few men come here besides kings, who are asked for first.
+#[inline(never)]
+fn begin_rare(position: &Position, from: Square, left: SquareSet, turn: &mut Turn) -> bool
+    requires own { IsOwn position.now.board position.now.side from }
+    ensures { IsFirstOfMan position.now from left turn.old turn.new result }
+{
+    let board = position.board();
+    if is_there(&board, position.side(), Kind::King, from) {
+        let set = king_targets(position, &board, from);
+        return begin_exact(position, Kind::King, from, set, left, turn);
+    }
+    begin_any(position, SquareSet::full(), from, left, turn)
 }
 
 // A piece of this kind begins that cannot be pinned, no king.
@@ -173,7 +183,7 @@ fn begin_other(
     } else if is_of_kind(position, Kind::Queen, from) {
         begin_piece(position, men, Kind::Queen, from, left, turn)
     } else {
-        begin_any(position, SquareSet::full(), from, left, turn)
+        begin_rare(position, from, left, turn)
     }
 }
 
@@ -188,7 +198,7 @@ fn begin_man(position: &Position, men: &Men, from: Square, left: SquareSet, turn
         let set = pawn_set(position, men, from);
         begin_exact(position, Kind::Pawn, from, set, left, turn)
     } else if men.pinned.contains(from) {
-        begin_any(position, SquareSet::full(), from, left, turn)
+        begin_rare(position, from, left, turn)
     } else {
         begin_other(position, men, from, left, turn)
     }

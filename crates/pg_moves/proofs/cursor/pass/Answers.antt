@@ -1,9 +1,7 @@
-use Rattle.std.proofs.Common.{Some}
-use Rattle.pg_moves.proofs.RestLemmas.{turn_past}
-use Rattle.pg_moves.proofs.TurnLemmas.{all_to_come, past_to_come}
+use Rattle.pg_moves.specs.Left.{IsPeeked}
+use Rattle.pg_moves.proofs.LeftLemmas.{told}
 use Rattle.pg_moves.proofs.cursor.pass.Goals as goal
 
-pub returns-clause-turn : goal.returns-clause-turn
-returns-clause-turn c = turn_past c.args.position.now c.args.peeked.now.m c.past-turn.result c.past-turn-2.result c.source_of_peeked-source.result (Some c.args.peeked.now.m)
-    (past_to_come c.args.position.now c.own_men.result c.past-turn.result c.args.peeked.now.m.from (all_to_come c.args.position.now c.own_men.result c.own_men.ensures) c.past-turn.ensures)
-    c.source_of_peeked-source.ensures c.index-2.ensures.bound c.past-turn-2.ensures
+pub pass_by-requires : goal.pass_by-requires
+unfolding IsPeeked
+pass_by-requires c = told c.args.position.now c.args.peeked.now.m.from c.args.peeked.now.source c.requires.1 c.if-peeked.true

@@ -13,14 +13,8 @@ peek_known-requires-clause-to_come c = ready_to_come c.self.inside.position c.se
 pub peek_each-requires-clause-to_come : goal.peek_each-requires-clause-to_come
 peek_each-requires-clause-to_come c = ready_to_come c.self.inside.position c.self.inside.turn.last c.self.inside.men c.self.inside.turn c.self.invariant.1
 
-pub peek_known-requires-else-are_few-clause-to_come : goal.peek_known-requires-else-are_few-clause-to_come
-peek_known-requires-else-are_few-clause-to_come c = ready_to_come c.self.inside.position c.self.inside.turn.last c.self.inside.men c.self.inside.turn c.self.invariant.1
-
 pub returns-then-are_known : goal.returns-then-are_known
 returns-then-are_known c = ahead_of c.args.self.now c.self.inside.position c.self.inside.turn.last c.self.inside.turn.last c.peek_known.result c.self.view_is refl c.peek_known.ensures
 
-pub returns-then-are_few : goal.returns-then-are_few
-returns-then-are_few c = ahead_of c.args.self.now c.self.inside.position c.self.inside.turn.last c.self.inside.turn.last c.peek_each.result c.self.view_is refl c.peek_each.ensures
-
-pub returns-else-are_few : goal.returns-else-are_few
-returns-else-are_few c = ahead_of c.args.self.now c.self.inside.position c.self.inside.turn.last c.self.inside.turn.last c.peek_known-else-are_few.result c.self.view_is refl c.peek_known-else-are_few.ensures
+pub returns-else-are_known : goal.returns-else-are_known
+returns-else-are_known c = ahead_of c.args.self.now c.self.inside.position c.self.inside.turn.last c.self.inside.turn.last c.peek_each.result c.self.view_is refl c.peek_each.ensures

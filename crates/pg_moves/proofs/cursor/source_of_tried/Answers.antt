@@ -1,12 +1,8 @@
 use Rattle.std.proofs.Common.{refl}
 use Rattle.pg_moves.specs.Left.{IsPeeked}
 use Rattle.pg_moves.specs.inner.Sources.{IsSource}
-use Rattle.pg_moves.proofs.LeftLemmas.{own_there, told, told_tried}
-use Rattle.pg_moves.proofs.cursor.source_of_peeked.Goals as goal
-
-pub returns-then-source : goal.returns-then-source
-unfolding IsPeeked
-returns-then-source c = told c.args.position.now c.args.peeked.now.m.from c.args.peeked.now.source c.requires.1 c.if-source.true
+use Rattle.pg_moves.proofs.LeftLemmas.{own_there, told_tried}
+use Rattle.pg_moves.proofs.cursor.source_of_tried.Goals as goal
 
 pub is_special-requires-clause-stands : goal.is_special-requires-clause-stands
 unfolding IsPeeked IsSource
