@@ -58,7 +58,3 @@ pub record IsProved (k : Costs) (rows columns to owner : List ℕ) (x : ℕ) : T
 -- the same of a proposal as it stands
 abbrev pub IsProvedOf : Costs → Proposal → ℕ → Type 0
 IsProvedOf k p x = IsProved k p.rows p.columns p.to p.holder x
-
--- the slacks by the prices of a proposal
-abbrev pub IsSlackOf : Costs → Proposal → List (List ℕ) → Type 0
-IsSlackOf k p slacks = IsSlack (cost k) (nth p.rows) (nth p.columns) slacks k.size

@@ -7,10 +7,11 @@ ghost use Rattle.pg_journeys.specs.Known.{landing};
 
 use pg_board::{Board, Color, Kind, Man, SquareSet};
 
-/// Facts on the games that are left to a diagram: squares whose men stay, and squares where captures may land.
+/// Facts on the games that are left from one position to a diagram: squares whose men stay, and squares where captures
+/// may land. A capture en passant lands where the pawn that takes comes to, and not where the other one stood.
 #[derive(Clone, Copy, Debug, PartialEq, Eq)]
 pub struct Facts {
-    /// The squares whose men stay where they are.
+    /// The squares whose men stay where they stand in that position, in each of these games.
     pub still: SquareSet,
     /// The squares where White's captures may land.
     pub white: SquareSet,

@@ -10,7 +10,7 @@ ghost use Rattle.pg_position.specs.declared.state.State.{State};
 ghost use Rattle.pg_position.specs.Position.{Stands, IsPosition};
 ghost use Rattle.pg_position.specs.Step.{Legal};
 ghost use Rattle.pg_travel.specs.Needs.{TravelTest};
-ghost use Rattle.pg_travel.specs.inner.AfterMove.{MayCastle, AreMoved, KeepsRights, IsMoved, AreToCome, NonePays};
+ghost use Rattle.pg_travel.specs.inner.AfterMove.{MayCastle, IsTold, AreMoved, KeepsRights, IsMoved, AreToCome, NonePays};
 ghost use Rattle.pg_travel.specs.inner.LeastRows.{IsBelow};
 ghost use Rattle.pg_travel.specs.inner.Within.{PaysIs, CastledIs, CostsEach};
 
@@ -175,7 +175,7 @@ fn rows_above(rows: &Rows, position: &Position, color: Color, m: &Move, plies: u
 // tell.
 #[inline(always)]
 fn is_told(color: Color, m: &Move) -> bool
-    ensures { IsTrue result → (m.now.promotion ≡ None) × (MayCastle color m.now → ⊥) }
+    ensures { IsTrue result → IsTold color m.now }
 {
     if m.promotion.is_some() {
         return false;
@@ -198,18 +198,29 @@ pub(crate) fn far_off_after(diagram: &Diagram, position: &Position, m: &Move, le
     too_many_to_come(&diagram.board(), position, color, m, plies)
 }
 
-// The same by rows.
-pub(crate) fn above_after(rows: &Rows, position: &Position, m: &Move, left: u8) -> bool
-    ensures { IsTrue result → (q : State) → Legal position.now m.now q
-        → TravelTest rows.now q left position.now.side }
+// Whether `above_after` may be asked of the side that makes the move: it is told from the position before it, and
+// the rows have each of its men.
+#[inline(always)]
+pub(crate) fn is_told_by(rows: &Rows, position: &Position, m: &Move) -> bool
+    ensures told { IsTrue result → IsTold position.now.side m.now }
+    ensures few { IsTrue result → men position.now.side any_man rows.now ≤ 16 }
 {
     let color = position.side();
     if !is_told(color, m) {
         return false;
     }
-    if rows.men(color) > 16 {
-        return false;
-    }
+    rows.men(color) <= 16
+}
+
+// Whether that side is sure to exclude after a legal move, by rows. A no proves nothing, but comes only where a way
+// seems to be paid for: that of no castling, or one by a right held before the move, at the least that it can cost.
+pub(crate) fn above_after(rows: &Rows, position: &Position, m: &Move, left: u8) -> bool
+    requires told { IsTold position.now.side m.now }
+    requires few { men position.now.side any_man rows.now ≤ 16 }
+    ensures { IsTrue result → (q : State) → Legal position.now m.now q
+        → TravelTest rows.now q left position.now.side }
+{
+    let color = position.side();
     let plies = u16::from(plies_left(color.other(), color, left));
     rows_above(rows, position, color, m, plies)
 }

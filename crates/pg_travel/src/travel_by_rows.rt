@@ -4,7 +4,7 @@ ghost use Rattle.pg_position.specs.declared.state.State.{State};
 ghost use Rattle.pg_position.specs.Step.{IsLegal, Legal};
 ghost use Rattle.pg_travel.specs.Needs.{TravelTest, TravelHolds};
 
-use crate::after_move::{above_after, far_off_after};
+use crate::after_move::{above_after, far_off_after, is_told_by};
 use crate::least_rows::excludes_by;
 use crate::needs::excludes_for;
 use crate::rows::Rows;
@@ -55,8 +55,8 @@ fn travel_holds_by(rows: &Rows, diagram: &Diagram, position: &Position, left: u8
     }
 }
 
-// Whether the test of either colour holds after a legal move. The colour that has just moved is tried last:
-// it was told from the position before the move not to exclude.
+// Whether the test of either colour holds after a legal move, where `above_after` was asked and said no: so the
+// colour that has just moved hardly excludes, and is tried last.
 #[inline(never)]
 fn either_excludes_after(
     rows: &Rows,
@@ -75,8 +75,9 @@ fn either_excludes_after(
         || color_excludes(rows, side.other(), diagram, &there, left)
 }
 
-// The same by rows where they are those of the diagram: from the position before the move, where the colour that
-// moves excludes. A function of its own, since mostly no row is read.
+// The same by rows where they are those of the diagram: from the position before the move, where that tells of the
+// colour that moves. Where it does not, that colour is tried first, as for any position. A function of its own,
+// since mostly no row is read.
 #[inline(never)]
 fn excludes_after_by(
     rows: &Rows,
@@ -89,6 +90,10 @@ fn excludes_after_by(
     ensures { (q : State) → Legal position.now m.now q → IsTrue result ↔ TravelHolds diagram.now q left }
 {
     if rows.is_of(diagram) {
+        if !is_told_by(rows, position, m) {
+            let there = position.after(m);
+            return either_excludes(rows, diagram, &there, left);
+        }
         if above_after(rows, position, m, left) {
             return true;
         }

@@ -4,7 +4,7 @@ mod assignments;
 mod distances;
 mod memories;
 
-use pg_board::{Color, Square};
+use pg_board::{Color, Square, SquareSet};
 use pg_fen::Diagram;
 use pg_position::Position;
 use pg_prices::*;

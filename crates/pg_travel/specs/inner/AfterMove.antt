@@ -16,6 +16,10 @@ use Rattle.pg_travel.specs.inner.Within.{PaysIs, CastledIs}
 abbrev pub MayCastle : Color → Move → Type 0
 MayCastle c m = (m.from ≡ king_home c) × ((m.to ≡ king_target c KingSide) ⊎ (m.to ≡ king_target c QueenSide))
 
+-- the move is told from the position before it
+abbrev pub IsTold : Color → Move → Type 0
+IsTold c m = (m.promotion ≡ None) × (MayCastle c m → ⊥)
+
 -- each of c's men on a stood on b: the one on s stood on r, and any other where it stands
 pub record AreMoved (b a : Placement) (c : Color) (r s : ℕ) : Type 0 where
   pub came : (j : Kind) → Stands a c j s → Stands b c j r
