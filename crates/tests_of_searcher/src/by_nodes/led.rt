@@ -151,6 +151,19 @@ fn drawn_list<R: Abort + AllocGlobal>(
     asked
 }
 
+// A game in which eight men of either side leave their squares.
+const PAWNS: &str = "1. a3 a6 2. b3 b6 3. c3 c6 4. d3 d6 5. e3 e6 6. f3 f6 7. g3 g6 8. h3 h6";
+
+// Adds a game in which so many men of either side leave their squares, wherever it ends.
+fn add_crowd<R: Abort + AllocGlobal>(rt: &R, asked: &mut Asked, men: usize) {
+    let pawns = games_of(rt, PAWNS);
+    let game = pawns.game(0).expect(rt, PAWNS);
+    let moves = game.get(..men.saturating_mul(2)).expect(rt, PAWNS);
+    if !asked.games.contains(moves) {
+        asked.games.add(moves).expect(rt, "a game");
+    }
+}
+
 // How many searches found a game, met all with so many foreign moves, met not even those with none, and failed.
 #[derive(Clone, Copy)]
 struct Kinds {
@@ -161,6 +174,15 @@ struct Kinds {
 }
 
 impl Kinds {
+    fn none() -> Kinds {
+        Kinds {
+            found: 0,
+            told: 0,
+            none: 0,
+            failed: 0,
+        }
+    }
+
     fn count(&mut self, said: &str) {
         if said.starts_with("Found") {
             self.found = self.found.saturating_add(1);
@@ -172,6 +194,20 @@ impl Kinds {
             self.failed = self.failed.saturating_add(1);
         }
     }
+
+    fn check(&self, rt: &impl Abort) {
+        assert!(rt; self.found > 9, "{}", self.found);
+        assert!(rt; self.told > 9, "{}", self.told);
+        assert!(rt; self.none > 9, "{}", self.none);
+        assert!(rt; self.failed == 0, "{}", self.failed);
+    }
+}
+
+// Both searches say the same.
+fn check_asked<R: Abort + AllocGlobal>(rt: &R, asked: &Asked, kinds: &mut Kinds) {
+    let said = said_now(rt, asked);
+    assert_eq!(rt; said.as_str(), said_by_nodes(rt, asked).as_str());
+    kinds.count(said.as_str());
 }
 
 // Lists of games that begin so, of so many plies more.
@@ -184,28 +220,46 @@ fn check_begun<R: Abort + AllocGlobal>(
 ) {
     for nodes in [60u64, 400, 2_000, 6_000] {
         let asked = drawn_list(rt, begun, plies, nodes, state);
-        let said = said_now(rt, &asked);
-        assert_eq!(rt; said.as_str(), said_by_nodes(rt, &asked).as_str());
-        kinds.count(said.as_str());
+        check_asked(rt, &asked, kinds);
     }
 }
 
 #[test]
 fn led_searches_are_those_from_node_to_node(rt: HostRuntime) {
     let mut state = 1;
-    let mut kinds = Kinds {
-        found: 0,
-        told: 0,
-        none: 0,
-        failed: 0,
-    };
+    let mut kinds = Kinds::none();
     for begun in BEGUN.split('\n') {
         for plies in 0..13 {
             check_begun(&rt, begun, plies, &mut state, &mut kinds);
         }
     }
-    assert!(rt; kinds.found > 9, "{}", kinds.found);
-    assert!(rt; kinds.told > 9, "{}", kinds.told);
-    assert!(rt; kinds.none > 9, "{}", kinds.none);
-    assert!(rt; kinds.failed == 0, "{}", kinds.failed);
+    kinds.check(&rt);
+}
+
+// Such lists with a game besides in which five to eight men of either side leave their squares: six are tried one by
+// one, seven and more are not.
+fn check_crowds<R: Abort + AllocGlobal>(
+    rt: &R,
+    begun: &str,
+    plies: u64,
+    state: &mut u64,
+    kinds: &mut Kinds,
+) {
+    for men in 5..9usize {
+        let mut asked = drawn_list(rt, begun, plies, 1_000, state);
+        add_crowd(rt, &mut asked, men);
+        check_asked(rt, &asked, kinds);
+    }
+}
+
+#[test]
+fn led_searches_of_many_men_are_those_from_node_to_node(rt: HostRuntime) {
+    let mut state = 2;
+    let mut kinds = Kinds::none();
+    for begun in BEGUN.split('\n') {
+        for plies in 0..7 {
+            check_crowds(&rt, begun, plies, &mut state, &mut kinds);
+        }
+    }
+    kinds.check(&rt);
 }

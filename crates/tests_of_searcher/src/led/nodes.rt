@@ -3,18 +3,15 @@
 use super::*;
 
 // What is answered, and how many nodes were visited where no game is found.
-fn visited<R: Abort + AllocGlobal>(rt: &R, games: &str, limits: LedLimits) -> Said {
-    let asked = asked_by(rt, games);
+fn visited<R: Abort + AllocGlobal, P: LedProgress>(
+    rt: &R,
+    asked: &Asked,
+    limits: LedLimits,
+    watch: &mut P,
+) -> Said {
     let (diagram, length) = (&asked.diagram, asked.length);
-    let answer = search_led(
-        rt.alloc(),
-        diagram,
-        length,
-        &asked.games,
-        limits,
-        &mut Unwatched,
-    );
-    let said = told(rt, &asked, &answer);
+    let answer = search_led(rt.alloc(), diagram, length, &asked.games, limits, watch);
+    let said = told(rt, asked, &answer);
     match answer {
         Ok(Led::NotFound { nodes, .. }) => words(&format_args!("{} {nodes}", said.as_str())),
         _ => said,
@@ -25,8 +22,9 @@ fn visited<R: Abort + AllocGlobal>(rt: &R, games: &str, limits: LedLimits) -> Sa
 fn check_visited<R: Abort + AllocGlobal>(rt: &R, row: &str) {
     let (asked, wanted) = halves(rt, row, " => ");
     let limits = limits_of(number(rt, field(asked, 1)), field(asked, 2));
+    let games = asked_by(rt, field(asked, 0));
     assert_eq!(rt;
-        visited(rt, field(asked, 0), limits).as_str(),
+        visited(rt, &games, limits, &mut Unwatched).as_str(),
         wanted,
         "{asked}"
     );
@@ -93,7 +91,11 @@ const VISITED: &str =
 1. a4 h5 2. a5 h4 3. a6 h3 4. axb7 hxg2 5. bxa8=N gxh1=N 6. Nb6 Ng3/1. a4 h5 2. a5 h4 3. a6 h3 4. axb7 hxg2 5. bxa8=R gxh1=R 6. R8xa7 R1xh2 | 20000 | 1 => none with 1 323
 1. a4 h5 2. a5 h4 3. a6 h3 4. axb7 hxg2 5. bxa8=N gxh1=N 6. Nb6 Ng3/1. a4 h5 2. a5 h4 3. a6 h3 4. axb7 hxg2 5. bxa8=B gxh1=B 6. Bb7 Bg2/1. a4 h5 2. a5 h4 3. a6 h3 4. axb7 hxg2 5. bxa8=R gxh1=R 6. R8xa7 R1xh2 | 20000 | 1 => none with 1 325
 1. a4 h5 2. a5 h4 3. a6 h3 4. axb7 hxg2 5. bxa8=B gxh1=B 6. Bb7 Bg2/1. a4 h5 2. a5 h4 3. a6 h3 4. axb7 hxg2 5. bxa8=R gxh1=R 6. R8xa7 R1xh2 | 20000 | 0 => none with 0 55
-1. Nf3 Nf6 2. g3 g6 3. Bg2 Bg7 4. O-O O-O 5. d3 d6 6. Nc3 Nc6 7. Bf4 Bf5 8. Qd2 Qd7 | 30000 | 0 => 16 plies";
+1. Nf3 Nf6 2. g3 g6 3. Bg2 Bg7 4. O-O O-O 5. d3 d6 6. Nc3 Nc6 7. Bf4 Bf5 8. Qd2 Qd7 | 30000 | 0 => 16 plies
+1. d4 Nf6 2. Qd2 Nh5 3. Qh6 gxh6 4. b4 Bg7 5. b5 O-O 6. b6 Re8 7. bxa7 b6 8. axb8=N Ra4 9. Nxd7 Rc4 10. Nc5 Bf5 11. e3 Qa8 12. Be2 Qa3 | 7033 | 1 => none with 1 7033
+1. d4 Nf6 2. Qd2 Nh5 3. Qh6 gxh6 4. b4 Bg7 5. b5 O-O 6. b6 Re8 7. bxa7 b6 8. axb8=N Ra4 9. Nxd7 Rc4 10. Nc5 Bf5 11. e3 Qa8 12. Be2 Qa3 | 7032 | 1 => none with 0 7032
+1. a4 h5 2. a5 h4 3. a6 h3 4. axb7 hxg2 5. bxa8=N gxh1=N | 270 | 1 => none with 1 270
+1. a4 h5 2. a5 h4 3. a6 h3 4. axb7 hxg2 5. bxa8=N gxh1=N | 269 | 1 => none with 0 269";
 
 #[test]
 fn as_many_nodes_are_visited_as_by_a_walk_from_node_to_node(rt: HostRuntime) {
@@ -146,5 +148,34 @@ fn each_limit_cuts_off_the_same_turn(rt: HostRuntime) {
             field(row, 2),
         );
         assert!(rt; found == number(&rt, field(row, 3)), "{row}");
+    }
+}
+
+// A row of a game that ends on the diagram, games that lead, how many nodes and foreign moves are allowed; what is
+// answered, the nodes that were visited, and how many turns the search took.
+fn check_astray<R: Abort + AllocGlobal>(rt: &R, row: &str) {
+    let (left, wanted) = halves(rt, row, " => ");
+    let mut asked = asked_by(rt, field(left, 0));
+    asked.games = games_of(rt, field(left, 1));
+    let limits = limits_of(number(rt, field(left, 2)), field(left, 3));
+    let mut turns = Turns { count: 0 };
+    let said = visited(rt, &asked, limits, &mut turns);
+    let said = words(&format_args!("{} {}", said.as_str(), turns.count));
+    assert_eq!(rt; said.as_str(), wanted, "{left}");
+}
+
+// Games that lead elsewhere. A foreign move that no bound cuts is cut where the least assignment of pawns is known to
+// exclude then, and so it is not refused.
+const ASTRAY: &str =
+    "1. h3 g6 2. e4 d5 3. c4 h5 4. cxd5 h4 5. f4 c5 | 1. h3 g5 | 643 | 2 => none with 2 643 202
+1. h3 g6 2. e4 d5 3. c4 h5 4. cxd5 h4 5. f4 c5 | 1. h3 g5 | 642 | 2 => none with 1 642 202
+1. h3 g6 2. e4 d5 3. c4 h5 4. cxd5 h4 5. f4 c5 | 1. h3 g5 | 500 | 2 => none with 1 500 161
+1. g3 b5 2. b4 f6 3. d4 e6 4. Nf3 f5 5. e4 f4 | 1. g3 b5 2. b4 g5/1. g3 b5 2. c3 h6 3. h4 c6 | 511 | 1 => none with 1 511 138
+1. g3 b5 2. b4 f6 3. d4 e6 4. Nf3 f5 5. e4 f4 | 1. g3 b5 2. b4 g5/1. g3 b5 2. c3 h6 3. h4 c6 | 510 | 1 => none with 0 510 138";
+
+#[test]
+fn what_pawns_exclude_is_not_refused(rt: HostRuntime) {
+    for row in ASTRAY.lines() {
+        check_astray(&rt, row);
     }
 }

@@ -50,6 +50,7 @@ rnbqkbnr/pppppppp/8/8/8/8/PPPPPPPP/RNBQKB1R | 3.5 | 6720 => 0 11579 852ae0e0cb8b
 fools-mate | 2.0 | 104 => 2 199 8b72af72f33ee2a5
 rnbqkbnr/3ppppp/ppp5/8/8/PPP5/3PPPPP/RNBQKBNR | 3.0 | 1343 => 36 1947 0db6e9361b487817
 r1bqkb1r/pppp1ppp/2n2n2/4p3/2B1P3/2N2N2/PPPP1PPP/R1BQK2R | 3.5 | 3981 => 72 5882 b8ba18795a4dfc84
+rnb1kbnr/1ppp1ppp/p3p3/8/6Pq/P4P2/1PPPP2P/RNBQKBNR | 3.0 | 100000 => 12 1254 c9f68d7ca3a52594
 four-knights-gone | 4.0 | 6117 => Budget 8192 5bab584c33214b6f
 1nbqkbnr/p1ppppp1/1N6/8/8/6n1/1PPPPP1P/RNBQKBN1 | 6.0 | 372 => Budget 8192 5bec5d52fe6570b9
 rnq2bQr/pppkp1pp/3p4/8/8/8/PPP1PPPP/RNBQKBNR | 4.5 | 653 => Budget 8192 b1473c533a3c31dc
