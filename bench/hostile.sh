@@ -346,6 +346,21 @@ expect 0 '' 'ulimit -s 512; "$pg" search $queen 2.0 good.pgc | cmp - report && "
 expect 0 '' 'ulimit -s 512; "$pg" page $queen 2.0 good.pgc | cmp - <("$pg" page $queen 2.0 good.pgc)'
 expect 0 '' 'ulimit -s 512; "$pg" why $queen 2.0 good.pgc "e4 d5" >/dev/null && "$pg" count "$position" 3 >/dev/null && "$pg" moves "$position" >/dev/null && "$pg" show $queen >/dev/null && "$pg" upgrade old.pgc ../two >/dev/null'
 
+# The same with a long list: the 576 games of four pawn moves of each side in any order, which are 20,736 bytes.
+four=rnbqkbnr/4pppp/pppp4/8/8/PPPP4/4PPPP/RNBQKBNR
+"$pg" search "$four" 4.0 "$work/four.pgc" >"$work/four"
+"$pg" page "$four" 4.0 "$work/four.pgc" >"$work/four.html"
+sed '1,3d;$d' "$work/four" >"$work/four.games"
+[ "$(wc -lc <"$work/four.games" | xargs)" = '576 20736' ] && [ "$(sed -n '3p;$p' "$work/four")" = $'games 576\ncooked' ] &&
+  grep -q '</html>' "$work/four.html" || { echo "not the 576 games of four pawn moves of each side" >&2; wrong=1; }
+report=$(cat "$work/four")
+expect 0 '' 'ulimit -s 512; "$pg" search $four 4.0 ../again --games ../met; [ $? = 1 ] && cmp ../again ../four.pgc && cmp ../met ../four.games' "$report"
+expect 1 '' 'ulimit -s 512; "$pg" check $four 4.0 ../four.pgc ../four.games' "$report"
+expect 1 '' 'ulimit -s 512; "$pg" games $four 4.0 ../four.games' "${report/%cooked/not sound}"
+expect 0 '' 'ulimit -s 512; "$pg" cooks $four 4.0 ../four.games --nodes 0' "${report/%cooked/none found}"
+expect 0 '' 'ulimit -s 512; "$pg" page $four 4.0 ../four.pgc | cmp - ../four.html'
+expect 1 'pg: unlisted game: 1. a3 a6 2. b3 b6 3. c3 c6 4. d3 d6' 'ulimit -s 512; sed 1d ../four.games | "$pg" check $four 4.0 ../four.pgc' ''
+
 # On a terminal: a bad diagram is told before the list is typed, and else how it is typed.
 if command -v script >/dev/null; then
   on_terminal() { script -qec "$1" /dev/null </dev/null | tr -d '\r'; }

@@ -1,7 +1,8 @@
 -- Readings that are kept are true, and give what reading gives.
-use Rattle.std.proofs.Common.{◌≡◌, ℕ, ◌<◌, ◌≤◌, List, ◌++◌, length, take, get_or, Ok, refl, sym, subst, arith}
+use Rattle.std.proofs.Common.{◌≡◌, ℕ, ◌<◌, ◌≤◌, List, ◌++◌, length, take, get_or, set, Ok, refl, sym, subst, ◌∙◌, arith}
 use Rattle.std.specs.Prelude.{All}
 use Rattle.std.proofs.lemmas.List.{take_at, get_or_default}
+use Rattle.std.proofs.lemmas.List.Elements.{All-set}
 use Rattle.pg_position.specs.declared.state.State.{State}
 use Rattle.pg_position.specs.declared.moves.Move.{Move}
 use Rattle.pg_position.specs.Step.{Legal}
@@ -25,6 +26,10 @@ told k p text h (short, same, here) =
       subst (λ (x : State). Legal x k.m k.next) here both.1,
     )
 
-pub recalled : (ks : List Known) (i : ℕ) (c d e : Known) (p : State) (text : List ℕ) → All IsKnown ks → i < length ks → ((get_or ks i c).length ≤ 8) × (take (get_or ks i c).length (get_or ks i c).text ≡ text) × ((get_or ks i c).position ≡ p) → IsStepRead p text (get_or ks i e).next (Ok (get_or ks i d).m)
-recalled ks i c d e p text all low h =
-    subst (λ (x : Known). IsStepRead p text x.next (Ok (get_or ks i d).m)) (get_or_default ks i c e low) (subst (λ (x : Known). IsStepRead p text (get_or ks i c).next (Ok x.m)) (get_or_default ks i c d low) (told (get_or ks i c) p text (all i c low) h))
+-- two reads of one place
+pub recalled : (ks : List Known) (i : ℕ) (c d : Known) (p : State) (text : List ℕ) → All IsKnown ks → i < length ks → c ≡ get_or ks i c → d ≡ get_or ks i d → (c.length ≤ 8) × (take c.length c.text ≡ text) × (c.position ≡ p) → IsStepRead p text d.next (Ok d.m)
+recalled ks i c d p text all low first second h =
+    subst (λ (x : Known). IsStepRead p text x.next (Ok x.m)) (first ∙ get_or_default ks i c d low ∙ sym second) (told c p text (subst IsKnown (sym first) (all i c low)) h)
+
+pub kept_beside : (ks : List Known) (i j : ℕ) (c : Known) → All IsKnown ks → i < length ks → c ≡ get_or ks i c → All IsKnown (set ks j c)
+kept_beside ks i j c all low at = All-set IsKnown ks j c (subst IsKnown (sym at) (all i c low)) all

@@ -1,7 +1,8 @@
 -- Texts that are kept are true, and are what writing gives.
-use Rattle.std.proofs.Common.{◌≡◌, ℕ, ◌<◌, true, false, List, length, get_or, sym, subst, ◌∙◌}
+use Rattle.std.proofs.Common.{◌≡◌, ℕ, ◌<◌, true, false, List, length, get_or, set, sym, subst, ◌∙◌}
 use Rattle.std.specs.Prelude.{All}
 use Rattle.std.proofs.lemmas.List.{get_or_default}
+use Rattle.std.proofs.lemmas.List.Elements.{All-set}
 use Rattle.pg_position.specs.declared.state.State.{State}
 use Rattle.pg_position.specs.declared.moves.Move.{Move}
 use Rattle.pg_position.specs.Step.{Legal}
@@ -25,9 +26,10 @@ told w p m h (yes', same, here) =
       subst (λ (x : State). IsSan x m w.text.bytes) here (subst (λ (x : Move). IsSan w.position x w.text.bytes) same both.1),
     )
 
-pub recalled : (ws : List Written) (i : ℕ) (c d e : Written) (p : State) (m : Move) → All IsWritten ws → i < length ws → ((get_or ws i c).told ≡ true) × ((get_or ws i c).m ≡ m) × ((get_or ws i c).position ≡ p) → Legal p m (get_or ws i e).next × IsSan p m (get_or ws i d).text.bytes
-recalled ws i c d e p m all low h =
-    let both = told (get_or ws i c) p m (all i c low) h in (
-      subst (λ (x : Written). Legal p m x.next) (get_or_default ws i c e low) both.0,
-      subst (λ (x : Written). IsSan p m x.text.bytes) (get_or_default ws i c d low) both.1,
-    )
+-- two reads of one place
+pub recalled : (ws : List Written) (i : ℕ) (c d : Written) (p : State) (m : Move) → All IsWritten ws → i < length ws → c ≡ get_or ws i c → d ≡ get_or ws i d → (c.told ≡ true) × (c.m ≡ m) × (c.position ≡ p) → Legal p m d.next × IsSan p m d.text.bytes
+recalled ws i c d p m all low first second h =
+    subst (λ (x : Written). Legal p m x.next × IsSan p m x.text.bytes) (first ∙ get_or_default ws i c d low ∙ sym second) (told c p m (subst IsWritten (sym first) (all i c low)) h)
+
+pub kept_beside : (ws : List Written) (i j : ℕ) (c : Written) → All IsWritten ws → i < length ws → c ≡ get_or ws i c → All IsWritten (set ws j c)
+kept_beside ws i j c all low at = All-set IsWritten ws j c (subst IsWritten (sym at) (all i c low)) all

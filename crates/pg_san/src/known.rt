@@ -1,6 +1,6 @@
 //! Readings that are known: games of one list come again and again to the same positions, and read the same
 //! texts there.
-ghost use Rattle.std.specs.Prelude.{◌≡◌, ◌≤◌, IsTrue, All, length, take, Ok};
+ghost use Rattle.std.specs.Prelude.{◌≡◌, ◌≤◌, IsTrue, All, IfSome, length, take, Ok};
 ghost use Rattle.pg_san.specs.inner.Walk.{IsTextReading};
 ghost use Rattle.pg_san.specs.inner.KnownReadings.{IsKnown, IsStepRead};
 
@@ -12,8 +12,8 @@ use pg_position::{Move, Position};
 // The longest text that is kept.
 const LONGEST: usize = 8;
 
-/// How many readings are kept at most.
-pub(crate) const MOST_KNOWN: usize = 512;
+/// How many readings are kept at most: two at each place. They are few, since they stand in a frame of the stack.
+pub(crate) const MOST_KNOWN: usize = 64;
 
 /// A text that was read in a position: the move that it names there, and where the move leads. A length above the
 /// longest says nothing.
@@ -48,10 +48,11 @@ fn text_number(text: &[u8]) -> u64 {
     number.wrapping_mul(0xff51_afd7_ed55_8ccd)
 }
 
-// Where the reading of a text in a position is kept, and no other is looked for: by the highest bits, in which all squares tell.
+// The first of the two places where the reading of a text in a position is kept, and no other is looked for: by the
+// highest bits, in which all squares tell.
 fn place_of(position: &Position, text: &[u8]) -> usize {
     let number = position_number(position) ^ text_number(text);
-    (number >> 55) as usize % MOST_KNOWN
+    ((number >> 58) as usize % MOST_KNOWN) & !1
 }
 
 // Whether this text was read in this position.
@@ -63,6 +64,21 @@ fn is_known(known: &Known, position: &Position, text: &[u8]) -> bool
         && known.length <= LONGEST
         && &known.text[..known.length] == text
         && known.position == *position
+}
+
+// What is kept of this text in this position, at the place or beside it.
+fn find<'a>(known: &'a [Known], place: usize, position: &Position, text: &[u8]) -> Option<&'a Known>
+    requires { All IsKnown known.now }
+    ensures { IfSome result (λ k. IsStepRead position.now text.now k.now.next (Ok k.now.m)) }
+{
+    if place < known.len() && is_known(&known[place], position, text) {
+        return Some(&known[place]);
+    }
+    let beside = place | 1;
+    if beside < known.len() && is_known(&known[beside], position, text) {
+        return Some(&known[beside]);
+    }
+    None
 }
 
 // What is kept of a reading.
@@ -82,7 +98,8 @@ fn known_of(position: &Position, text: &[u8], found: &Found) -> Known
     }
 }
 
-// Keeps a reading at the place, if there is one and the text is short.
+// Keeps a reading at the place, if there is one and the text is short. What stood there stands beside it then, in
+// place of an older one.
 fn remember(known: &mut [Known], place: usize, position: &Position, text: &[u8], found: &Found)
     requires known { All IsKnown known.old }
     requires reading { IsTextReading position.now text.now (Ok found.now) }
@@ -90,6 +107,10 @@ fn remember(known: &mut [Known], place: usize, position: &Position, text: &[u8],
 {
     if place >= known.len() || text.len() > LONGEST {
         return;
+    }
+    let beside = place | 1;
+    if beside < known.len() {
+        known[beside] = known[place];
     }
     known[place] = known_of(position, text, found);
 }
@@ -130,10 +151,9 @@ pub(crate) fn read_known(
         return read_new(known, 0, here, text);
     }
     let place = place_of(here, text);
-    if place < known.len() && is_known(&known[place], here, text) {
-        let m = known[place].m;
-        *here = known[place].next;
-        return Ok(m);
+    if let Some(kept) = find(known, place, here, text) {
+        *here = kept.next;
+        return Ok(kept.m);
     }
     read_new(known, place, here, text)
 }

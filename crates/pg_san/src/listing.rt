@@ -16,7 +16,7 @@ use crate::words::{next_word, without_move_number};
 use pg_position::{Move, Position};
 use std::alloc::Global;
 
-// A text of fewer bytes is read with nothing known: its games are too few to pay for the room, which is some 86 KB
+// A text of fewer bytes is read with nothing known: its games are too few to pay for the room, which is some 11 KB
 // that are filled at first.
 const SHORT: usize = 8000;
 

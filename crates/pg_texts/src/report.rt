@@ -14,7 +14,7 @@ use pg_fen::{Diagram, Length};
 use pg_position::Move;
 use pg_san::{Games, MOST_WRITTEN, Written, nothing_written};
 
-// Fewer games than these are written with nothing known: they are too few to pay for the room, which is some 86 KB
+// Fewer games than these are written with nothing known: they are too few to pay for the room, which is some 11 KB
 // that are filled at first.
 const FEW: usize = 128;
 

@@ -7,6 +7,7 @@ mod game_counts;
 mod growths;
 mod known_games;
 mod least_lengths;
+mod long_lists;
 mod move_lists;
 mod refusals;
 mod reports;

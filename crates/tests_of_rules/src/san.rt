@@ -1,6 +1,7 @@
 //! Texts of moves and of games.
 
 mod lists;
+mod long_lists;
 mod reads;
 mod writes;
 

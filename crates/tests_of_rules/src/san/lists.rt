@@ -79,7 +79,7 @@ fn check_games<R: Abort + AllocGlobal>(rt: &R, games: &Games, wanted: &str) {
 }
 
 // The games of a text.
-fn list<R: Abort + AllocGlobal>(rt: &R, text: &str) -> Games {
+pub(super) fn list<R: Abort + AllocGlobal>(rt: &R, text: &str) -> Games {
     let Ok(games) = read_games(rt.alloc(), text) else {
         panic!(rt; "a list of games");
     };
@@ -92,7 +92,7 @@ fn check_list<R: Abort + AllocGlobal>(rt: &R, text: &str, wanted: &str) {
 }
 
 // That a text is no list, by a fault that is shown so.
-fn check_fault<R: Abort + AllocGlobal>(rt: &R, text: &str, wanted: &str) {
+pub(super) fn check_fault<R: Abort + AllocGlobal>(rt: &R, text: &str, wanted: &str) {
     match read_games(rt.alloc(), text) {
         Ok(_) => panic!(rt; "{text}"),
         Err(fault) => check_case(rt, text, &fault, wanted),
