@@ -34,6 +34,18 @@ pub struct Distances {
     black: Rows,
 }
 
+// For each kind the squares whose rows are written.
+type Known = [SquareSet; 6];
+
+/// Distances as [`Distances`] has them, of which the row of a man on a square is written when he is first asked for: a page
+/// with few cuts asks for few of them.
+#[derive(Drop)]
+pub struct GrowingDistances {
+    distances: Distances,
+    white: Known,
+    black: Known,
+}
+
 // What a colour needs in each way, in which it can come to its squares: without castling, and by castling as the rights
 // that it holds allow, if that is less.
 #[derive(Clone, Copy)]
@@ -80,19 +92,60 @@ fn row_of(man: Man, from: Square, goal: &Board) -> Row {
     row
 }
 
+// Where the row of a man of a kind on a square stands.
+#[inline(always)]
+fn place_of(kind: Kind, from: Square) -> usize {
+    64 * usize::from(kind.number()) + usize::from(from.index())
+}
+
+// Writes the rows of a man on these squares. Seldom called: most rows that a cut wants are known.
+#[inline(never)]
+fn fill(man: Man, squares: SquareSet, goal: &Board, rows: &mut Rows) {
+    let mut left = squares;
+    for _ in 0..64u8 {
+        let Some(from) = left.pop_first() else {
+            return;
+        };
+        if let Some(row) = rows.get_mut(place_of(man.kind, from)) {
+            *row = row_of(man, from, goal);
+        }
+    }
+}
+
 // Writes the rows of a colour.
-fn fill(color: Color, goal: &Board, rows: &mut Rows) {
-    let mut place = 0usize;
+fn fill_all(color: Color, goal: &Board, rows: &mut Rows) {
     for kind in KINDS {
-        let mut squares = SquareSet::full();
-        for _ in 0..64u8 {
-            let Some(from) = squares.pop_first() else {
-                break;
-            };
-            if let Some(row) = rows.get_mut(place) {
-                *row = row_of(Man::new(color, kind), from, goal);
+        fill(Man::new(color, kind), SquareSet::full(), goal, rows);
+    }
+}
+
+// The squares from which men like this one count in some way at a position: where they stand, and where castling brings
+// kings and rooks.
+fn wanted(position: &Position, man: Man) -> SquareSet {
+    let here = position.board().squares_of(man);
+    match man.kind {
+        Kind::King => {
+            here | SquareSet::single(king_target(man.color, Wing::KingSide))
+                | SquareSet::single(king_target(man.color, Wing::QueenSide))
+        }
+        Kind::Rook => {
+            here | SquareSet::single(king_crossed(man.color, Wing::KingSide))
+                | SquareSet::single(king_crossed(man.color, Wing::QueenSide))
+        }
+        _ => here,
+    }
+}
+
+// Writes the rows that a colour's men want at a position, but for those that are known.
+fn reckon(color: Color, position: &Position, goal: &Board, rows: &mut Rows, known: &mut Known) {
+    for kind in KINDS {
+        let man = Man::new(color, kind);
+        if let Some(known) = known.get_mut(usize::from(kind.number())) {
+            let missing = wanted(position, man) - *known;
+            if !missing.is_empty() {
+                fill(man, missing, goal, rows);
+                *known = *known | missing;
             }
-            place = place.saturating_add(1);
         }
     }
 }
@@ -110,7 +163,7 @@ fn lesser(a: Row, b: &Row) -> Row {
 // A row with a man more, who comes from a square.
 #[inline(always)]
 fn with_man(rows: &Rows, kind: Kind, from: Square, row: Row) -> Row {
-    match rows.get(64 * usize::from(kind.number()) + usize::from(from.index())) {
+    match rows.get(place_of(kind, from)) {
         Some(other) => lesser(row, other),
         None => row,
     }
@@ -194,11 +247,19 @@ impl Distances {
     /// The distances to the men of a diagram.
     pub fn new(diagram: &Diagram) -> Distances {
         let goal = diagram.board();
-        let mut white = [[0; 16]; 384];
-        let mut black = [[0; 16]; 384];
-        fill(Color::White, &goal, &mut white);
-        fill(Color::Black, &goal, &mut black);
-        Distances { goal, white, black }
+        let mut distances = Distances::unfilled(goal);
+        fill_all(Color::White, &goal, &mut distances.white);
+        fill_all(Color::Black, &goal, &mut distances.black);
+        distances
+    }
+
+    // With rows that are not written yet. They are written where they lie: apart they would take as much of the stack again.
+    fn unfilled(goal: Board) -> Distances {
+        Distances {
+            goal,
+            white: [[0; 16]; 384],
+            black: [[0; 16]; 384],
+        }
     }
 
     // Whether they serve for a colour and a diagram: they are of this one, and have all men of the colour.
@@ -294,5 +355,40 @@ impl Distances {
             }
         }
         None
+    }
+}
+
+impl GrowingDistances {
+    /// The distances to the men of a diagram, none of them written yet.
+    pub fn new(diagram: &Diagram) -> GrowingDistances {
+        GrowingDistances {
+            distances: Distances::unfilled(diagram.board()),
+            white: [SquareSet::empty(); 6],
+            black: [SquareSet::empty(); 6],
+        }
+    }
+
+    // Those of the men of a position are written, where they are not yet.
+    pub(crate) fn meet(&mut self, position: &Position) {
+        let goal = self.distances.goal;
+        reckon(
+            Color::White,
+            position,
+            &goal,
+            &mut self.distances.white,
+            &mut self.white,
+        );
+        reckon(
+            Color::Black,
+            position,
+            &goal,
+            &mut self.distances.black,
+            &mut self.black,
+        );
+    }
+
+    // The distances, of which those of the men of a position that was met are written.
+    pub(crate) fn known(&self) -> &Distances {
+        &self.distances
     }
 }

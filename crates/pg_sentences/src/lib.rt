@@ -15,7 +15,7 @@ mod travel;
 mod words;
 
 pub use counts::expanded;
-pub use distances::Distances;
+pub use distances::{Distances, GrowingDistances};
 pub use ending::Ending;
 pub use numbers::Node;
 pub use sentences::{

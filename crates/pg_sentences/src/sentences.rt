@@ -1,6 +1,6 @@
 //! What is said of a node that ends.
 
-use crate::distances::Distances;
+use crate::distances::{Distances, GrowingDistances};
 use crate::ending::Ending;
 use crate::numbers::{Excess, Node, captures_of, files_of, promotions_of};
 use crate::prices::reason_of_prices;
@@ -242,4 +242,26 @@ pub fn reason_of_bounds(diagram: &Diagram, position: &Position, left: u8) -> Opt
 /// the bound; none where no bound is seen to exclude.
 pub fn put_reason_of_bounds(distances: &Distances, node: &Node, text: &mut Sentence) -> Option<u8> {
     write_first(&Some(distances), node, text)
+}
+
+impl GrowingDistances {
+    /// Writes what `put_reason_of_cut` writes. Only a cut by travel asks for distances.
+    pub fn put_reason_of_cut(
+        &mut self,
+        node: &Node,
+        said: &Bare,
+        prices: &Prices,
+        text: &mut Sentence,
+    ) -> Option<u8> {
+        if matches!(said, Bare::Cut(Travel::CODE)) {
+            self.meet(node.position);
+        }
+        put_reason_of_cut(self.known(), node, said, prices, text)
+    }
+
+    /// Writes what `put_reason_of_bounds` writes.
+    pub fn put_reason_of_bounds(&mut self, node: &Node, text: &mut Sentence) -> Option<u8> {
+        self.meet(node.position);
+        put_reason_of_bounds(self.known(), node, text)
+    }
 }

@@ -13,8 +13,8 @@ use pg_position::Position;
 use pg_price_lists::Prices;
 use pg_prices::{Rows, pawn_lists, prices_of, travel_lists};
 use pg_sentences::{
-    Distances, Grounds, Node, Sentence, put_reason_of_bounds, put_reason_of_cut, reason_of_bounds,
-    reason_of_cut,
+    Distances, Grounds, GrowingDistances, Node, Sentence, put_reason_of_bounds, put_reason_of_cut,
+    reason_of_bounds, reason_of_cut,
 };
 use pg_travel::Travel;
 use std::process::Abort;
@@ -83,18 +83,39 @@ fn check_grounds(rt: &impl Abort, found: &Option<Grounds>, wanted: &Option<Groun
     }
 }
 
+// The distances to a diagram in both forms: all of them, and those that are asked for.
+#[derive(Drop)]
+struct Both {
+    all: Distances,
+    growing: GrowingDistances,
+}
+
+impl Both {
+    fn new(diagram: &Diagram) -> Both {
+        Both {
+            all: Distances::new(diagram),
+            growing: GrowingDistances::new(diagram),
+        }
+    }
+}
+
 // So it is for a record at a node, whose price lists stand by themselves too.
 fn check_record(
     rt: &impl Abort,
-    distances: &Distances,
+    distances: &mut Both,
     node: &Node,
     said: &Bare,
     prices: &Prices,
     record: &Record,
 ) {
     let mut words = Sentence::new();
-    let code = put_reason_of_cut(distances, node, said, prices, &mut words);
+    let code = put_reason_of_cut(&distances.all, node, said, prices, &mut words);
     let wanted = start::reason_of_cut(node.diagram, node.position, node.left, record);
+    check_same(rt, code, &words, &wanted);
+    let mut words = Sentence::new();
+    let code = distances
+        .growing
+        .put_reason_of_cut(node, said, prices, &mut words);
     check_same(rt, code, &words, &wanted);
     let found = reason_of_cut(node.diagram, node.position, node.left, record);
     check_grounds(rt, &found, &wanted);
@@ -103,7 +124,7 @@ fn check_record(
 // So it is for a record of price lists.
 fn check_priced(
     rt: &impl Abort,
-    distances: &Distances,
+    distances: &mut Both,
     node: &Node,
     code: u8,
     color: Color,
@@ -119,7 +140,7 @@ fn check_priced(
 }
 
 // So it is for the price lists that a search gives for a colour.
-fn check_lists(rt: &impl Abort, distances: &Distances, node: &Node, rows: &Rows) {
+fn check_lists(rt: &impl Abort, distances: &mut Both, node: &Node, rows: &Rows) {
     let color = rows.color();
     let lists = pawn_lists(rows, node.position).1;
     let prices = prices_of(lists.as_slice()).expect(rt, "prices of pawns");
@@ -130,7 +151,7 @@ fn check_lists(rt: &impl Abort, distances: &Distances, node: &Node, rows: &Rows)
 }
 
 // So it is for each of the other records, and for what excludes first.
-fn check_node(rt: &impl Abort, distances: &Distances, node: &Node) {
+fn check_node(rt: &impl Abort, distances: &mut Both, node: &Node) {
     let prices = Prices::new(&[], &[]).expect(rt, "no prices");
     for code in 1..=5u8 {
         let (said, record) = (Bare::Cut(code), Record::Cut(code));
@@ -143,8 +164,11 @@ fn check_node(rt: &impl Abort, distances: &Distances, node: &Node) {
     let (said, record) = (Bare::Ref(7), Record::Ref(7));
     check_record(rt, distances, node, &said, &prices, &record);
     let mut words = Sentence::new();
-    let code = put_reason_of_bounds(distances, node, &mut words);
+    let code = put_reason_of_bounds(&distances.all, node, &mut words);
     let wanted = start::reason_of_bounds(node.diagram, node.position, node.left);
+    check_same(rt, code, &words, &wanted);
+    let mut words = Sentence::new();
+    let code = distances.growing.put_reason_of_bounds(node, &mut words);
     check_same(rt, code, &words, &wanted);
     let found = reason_of_bounds(node.diagram, node.position, node.left);
     check_grounds(rt, &found, &wanted);
@@ -155,14 +179,15 @@ fn rows_of<R: Abort + AllocGlobal>(rt: &R, color: Color, diagram: &Diagram) -> R
     Rows::new(rt.alloc(), color, diagram).expect(rt, "memory")
 }
 
-// So it is along a game from a start, for one diagram.
-fn check_game<R: Abort + AllocGlobal>(
+// So it is along a game from a start, for one diagram, by distances to this one or to another.
+fn check_game_by<R: Abort + AllocGlobal>(
     rt: &R,
     state: &mut u64,
     start: &Position,
     diagram: &Diagram,
+    of: &Diagram,
 ) {
-    let distances = Distances::new(diagram);
+    let mut distances = Both::new(of);
     let white = rows_of(rt, Color::White, diagram);
     let black = rows_of(rt, Color::Black, diagram);
     let mut position = *start;
@@ -173,12 +198,22 @@ fn check_game<R: Abort + AllocGlobal>(
             position: &position,
             left,
         };
-        check_node(rt, &distances, &node);
-        check_lists(rt, &distances, &node, &white);
-        check_lists(rt, &distances, &node, &black);
+        check_node(rt, &mut distances, &node);
+        check_lists(rt, &mut distances, &node, &white);
+        check_lists(rt, &mut distances, &node, &black);
         let next = moved(state, &position);
         position = next;
     }
+}
+
+// So it is along a game from a start, by distances to the diagram that is asked about.
+fn check_game<R: Abort + AllocGlobal>(
+    rt: &R,
+    state: &mut u64,
+    start: &Position,
+    diagram: &Diagram,
+) {
+    check_game_by(rt, state, start, diagram, diagram);
 }
 
 // The position at the end of a game of drawn moves.
@@ -248,19 +283,37 @@ fn castling_is_named(rt: HostRuntime) {
     assert!(rt; words.as_str() == wanted, "{words}");
 }
 
-// More than sixteen men of a colour, of whom the distances keep no rows; and distances to another diagram.
+// More than sixteen men of a colour, of whom the distances keep no rows.
 #[test]
 fn where_distances_do_not_serve(rt: HostRuntime) {
     let mut state = 2u64;
     let crowd = diagram_of(&rt, "QQQQKQQQ/QQQQQQQQ/Q7/8/8/8/8/4k3");
+    let fools_mate = diagram_of(&rt, "fools-mate");
     check_game(&rt, &mut state, &Position::array(), &crowd);
-    let other = Distances::new(&crowd);
-    let diagram = diagram_of(&rt, "fools-mate");
-    let position = Position::array();
-    let node = Node {
-        diagram: &diagram,
-        position: &position,
-        left: 2,
-    };
-    check_node(&rt, &other, &node);
+    check_game_by(&rt, &mut state, &Position::array(), &fools_mate, &crowd);
+}
+
+// Diagrams with sixteen men of each colour at most, of which each is asked about by distances to the next.
+const OTHERS: [&str; 6] = [
+    "fools-mate",
+    "array",
+    "2kr3r/8/8/8/8/8/8/R4RK1",
+    "rnbqk1nr/ppppppbp/6p1/8/8/5NP1/PPPPPPBP/RNBQ1RK1",
+    "Rnb1kbnr/p1p1pppp/8/3p4/8/8/1PPPPP2/RNBQ1KNR",
+    "rnbqkbnr/pppppppp/8/8/8/8/PPPPPPPP/RNBQKB1R",
+];
+
+// Distances to another diagram tell nothing, though they have all of its men.
+#[test]
+fn distances_to_another_diagram(rt: HostRuntime) {
+    let mut state = 4u64;
+    let mut of = diagram_of(&rt, OTHERS[0]);
+    for text in OTHERS.iter().rev() {
+        let diagram = diagram_of(&rt, text);
+        for text in STARTS {
+            let start = read_position(named(text)).expect(&rt, text).position;
+            check_game_by(&rt, &mut state, &start, &diagram, &of);
+        }
+        of = diagram;
+    }
 }
