@@ -276,8 +276,8 @@ impl LegalMoves {
         }
     }
 
-    // The next legal move, once the man that moved last has none left, with what is found for it. A peek keeps nothing, so it
-    // finds nothing of all men: each is looked at for himself, unless `next` has found them.
+    // The next legal move, once the man that moved last has none left, with what is found for it. A peek keeps
+    // nothing, so it finds nothing of all men: each is looked at for himself, unless `next` has found them.
     #[inline(never)]
     fn peek_beyond(&self) -> Option<Peeked>
         requires { IsManDone self.now.position self.now.last }

@@ -30,9 +30,9 @@ struct Lines {
     kept: SquareSet,
 }
 
-// The men that a slider of the other colour sees from one side and the square from the other, along the lines of the
-// kind: of the colour's men those that are pinned there, and no others; and the parries along these lines. Where no slider
-// would attack with none of the colour's men on the board, there is nothing to look for.
+// The men that a slider of the other colour sees from one side and the square from the other, along the lines of
+// the kind: of the colour's men those that are pinned there, and no others; and the parries along these lines.
+// Where no slider would attack with none of the colour's men on the board, there is nothing to look for.
 fn pinned_along(board: &Board, square: Square, color: Color, kind: Kind) -> Lines
     requires kind { IsLineKind kind }
     requires held { get board.now square ≢ None }
@@ -64,7 +64,8 @@ fn pinned_along(board: &Board, square: Square, color: Color, kind: Kind) -> Line
     }
 }
 
-// Whether there is none whom to guard serves: besides the king only pawns that promote, whose moves are tried one by one.
+// Whether there is none whom to guard serves: besides the king only pawns that promote, whose moves are tried one
+// by one.
 #[inline(always)]
 fn guards_none(board: &Board, color: Color, king: Square) -> bool {
     let pawns = board.squares_of(Man::new(color, Kind::Pawn)) & home(color.other());

@@ -14,8 +14,8 @@ use pg_board::{Board, Color, Kind, Man, Square, SquareSet};
 use pg_position::{Position, attacks_from};
 
 // Where a man may come against men of the colour that are of the kind, or queens, and attack the square
-// along the kind's lines: to the square of the only one, or between him and the square. What is seen from there along these
-// lines is handed in.
+// along the kind's lines: to the square of the only one, or between him and the square. What is seen from there
+// along these lines is handed in.
 pub(crate) fn line_parries(
     board: &Board,
     square: Square,
