@@ -12,8 +12,8 @@ use pg_position::{Move, Position};
 // The longest text that is kept.
 const LONGEST: usize = 8;
 
-/// How many readings are kept at most: two at each place. They are few, since they stand in a frame of the stack.
-pub(crate) const MOST_KNOWN: usize = 64;
+/// How many readings are kept at most: two at each place.
+pub(crate) const MOST_KNOWN: usize = 256;
 
 /// A text that was read in a position: the move that it names there, and where the move leads. A length above the
 /// longest says nothing.
@@ -52,7 +52,7 @@ fn text_number(text: &[u8]) -> u64 {
 // highest bits, in which all squares tell.
 fn place_of(position: &Position, text: &[u8]) -> usize {
     let number = position_number(position) ^ text_number(text);
-    ((number >> 58) as usize % MOST_KNOWN) & !1
+    ((number >> 56) as usize % MOST_KNOWN) & !1
 }
 
 // Whether this text was read in this position.

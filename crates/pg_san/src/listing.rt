@@ -16,7 +16,7 @@ use crate::words::{next_word, without_move_number};
 use pg_position::{Move, Position};
 use std::alloc::Global;
 
-// A text of fewer bytes is read with nothing known: its games are too few to pay for the room, which is some 11 KB
+// A text of fewer bytes is read with nothing known: its games are too few to pay for the room, which is some 43 KB
 // that are filled at first.
 const SHORT: usize = 8000;
 
@@ -164,15 +164,25 @@ fn read_lines(alloc: Global, text: &str, known: &mut [Known]) -> Result<Games, G
     Ok(games)
 }
 
-// Reads the lines of a text that may have many games. What is known of them stands in this function's own frame,
-// which a text of few games does not pay for.
+// Room for what is known of the games of a long text; none where memory is refused.
+fn room(alloc: Global) -> Vec<Known>
+    ensures { All IsKnown result.items }
+{
+    match Vec::from_elem(alloc, nothing(), MOST_KNOWN) {
+        Ok(known) => known,
+        Err(_) => Vec::new(alloc),
+    }
+}
+
+// Reads the lines of a text that may have many games. What is known of them stands in room of the allocator, since a
+// caller's stack may be small. Where that is refused the text is read all the same, with nothing known.
 #[inline(never)]
 fn read_many(alloc: Global, text: &str) -> Result<Games, GamesFault>
     ensures ok { IfOk result (λ games. IsListing text.now games) }
     ensures err { IfErr result (λ e. IsTextFault text.now e) }
 {
-    let mut known = [nothing(); MOST_KNOWN];
-    read_lines(alloc, text, &mut known)
+    let mut known = room(alloc);
+    read_lines(alloc, text, known.as_mut_slice())
 }
 
 /// The games of a text: one game a line, its moves in standard algebraic notation (the PGN standard,
@@ -180,7 +190,8 @@ fn read_many(alloc: Global, text: &str) -> Result<Games, GamesFault>
 /// line is dropped; spaces and tabs part the words of a line. A line without words is skipped. The one
 /// word `-` is the game of no move. From the front of each word a move number, digits and then dots,
 /// is dropped once; a word of which nothing is left is skipped, so a line of such words alone is the
-/// game of no move too. What the list grows by is taken from `alloc`.
+/// game of no move too. What the list grows by is taken from `alloc`; so is, while a text of 8,000
+/// bytes or more is read, room of some 43 KB, without which it is read all the same.
 ///
 /// # Errors
 /// Line by line, each numbered from 1, the blank ones included: `TooMany` where a line with words
