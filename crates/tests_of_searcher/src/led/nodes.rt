@@ -155,8 +155,12 @@ fn each_limit_cuts_off_the_same_turn(rt: HostRuntime) {
 // answered, the nodes that were visited, and how many turns the search took.
 fn check_astray<R: Abort + AllocGlobal>(rt: &R, row: &str) {
     let (left, wanted) = halves(rt, row, " => ");
-    let mut asked = asked_by(rt, field(left, 0));
-    asked.games = games_of(rt, field(left, 1));
+    let goal = asked_by(rt, field(left, 0));
+    let asked = Asked {
+        diagram: goal.diagram,
+        length: goal.length,
+        games: games_of(rt, field(left, 1)),
+    };
     let limits = limits_of(number(rt, field(left, 2)), field(left, 3));
     let mut turns = Turns { count: 0 };
     let said = visited(rt, &asked, limits, &mut turns);
