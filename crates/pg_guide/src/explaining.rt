@@ -55,7 +55,39 @@ fn line_of(alloc: Global, text: &str) -> Result<Games, WhyFault>
     }
 }
 
-// The node that a line's reference names, found by a second walk; none where the line does not end at one.
+// The node with this number, found by a second walk; none where the certificate is refused before it.
+#[inline(never)]
+fn node_of<R: Source>(
+    alloc: Global,
+    question: &Question,
+    number: u32,
+    source: &mut R,
+    records: u64,
+) -> Result<Option<Cited>, Stop>
+    ensures says { (walked : Bool) → IfErr result (EndsTruly question.now.diagram.now question.now.plies
+        walked (R.has_failed source.new)) }
+{
+    let question = Question {
+        diagram: question.diagram,
+        plies: question.plies,
+        line: &[],
+        wanted: Some(number),
+    };
+    // No game goes into a list where a node is wanted.
+    let mut games = Games::new(alloc);
+    let mut along = Along::new();
+    match walk(&question, &mut along, &mut games, source, records) {
+        Err(Stop::Refused) => Ok(None),
+        Err(Stop::Memory) => Err(Stop::Memory),
+        Err(Stop::Read) => Err(Stop::Read),
+        Ok(()) => {
+            let Along { cited, .. } = along;
+            Ok(cited)
+        }
+    }
+}
+
+// The node that a line's reference names; none where the line does not end at one.
 fn cited_by<R: Source>(
     alloc: Global,
     question: &Question,
@@ -66,30 +98,17 @@ fn cited_by<R: Source>(
     ensures says { (walked : Bool) → IfErr result (EndsTruly question.now.diagram.now question.now.plies
         walked (R.has_failed source.new)) }
 {
-    let Some(Ending::Said(Record::Ref(number))) = &along.ending else {
-        return Ok(None);
-    };
-    let question = Question {
-        diagram: question.diagram,
-        plies: question.plies,
-        line: &[],
-        wanted: Some(*number),
-    };
-    // No game goes into a list where a node is wanted.
-    let mut games = Games::new(alloc);
-    match walk(&question, &mut games, source, records) {
-        (_, Err(Stop::Refused)) => Ok(None),
-        (_, Err(Stop::Memory)) => Err(Stop::Memory),
-        (_, Err(Stop::Read)) => Err(Stop::Read),
-        (along, Ok(())) => {
-            let Along { cited, .. } = along;
-            Ok(cited)
+    match &along.ending {
+        Some(Ending::Said(Record::Ref(number))) => {
+            node_of(alloc, question, *number, source, records)
         }
+        _ => Ok(None),
     }
 }
 
 // What is found along the line by the walks, and the games, which go into the list; what stops them, unless it is
-// the certificate.
+// the certificate. Not inlined: what a walk needs of the stack would lie below the check too.
+#[inline(never)]
 fn found<R: Source>(
     alloc: Global,
     question: &Question,
@@ -102,8 +121,8 @@ fn found<R: Source>(
         (R.has_failed walked.new) (R.has_failed cited.new)) }
     ensures finds { Finds question.now games.old games.new }
 {
-    let (along, answer) = walk(question, games, walked, records);
-    match answer {
+    let mut along = Along::new();
+    match walk(question, &mut along, games, walked, records) {
         Ok(()) => {}
         Err(Stop::Refused) => {
             return Ok(Findings {

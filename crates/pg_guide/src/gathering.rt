@@ -7,7 +7,7 @@ ghost use Rattle.pg_guide.specs.Why.{IsGatheringFault, IsRight, reading_failures
 
 use crate::explaining::{fault_of, is_full, refusal_of};
 use crate::fault::WhyFault;
-use crate::machine::{Question, Stop};
+use crate::machine::{Along, Question, Stop};
 use crate::walk::walk;
 use pg_captures::Bound;
 use pg_certificate::Source;
@@ -25,7 +25,8 @@ pub struct Gathered {
 }
 
 // The games go into the list, and the expanded nodes of the last tree are counted; what stops that, unless it is the
-// certificate.
+// certificate. Not inlined: what a walk needs of the stack would lie below the check too.
+#[inline(never)]
 fn find<R: Source>(
     question: &Question,
     games: &mut Games,
@@ -36,8 +37,8 @@ fn find<R: Source>(
         (R.has_failed source.new) cited) }
     ensures finds { Finds question.now games.old games.new }
 {
-    let (along, answer) = walk(question, games, source, records);
-    match answer {
+    let mut along = Along::new();
+    match walk(question, &mut along, games, source, records) {
         Ok(()) => {}
         Err(Stop::Refused) => {}
         Err(Stop::Memory) => return Err(Stop::Memory),

@@ -31,6 +31,19 @@ pub(crate) struct Along {
     pub(crate) expanded: [u64; 129],
 }
 
+impl Along {
+    // What is found before a walk.
+    pub(crate) fn new() -> Along {
+        Along {
+            open: ArrayVec::new(),
+            tallies: ArrayVec::new(),
+            ending: None,
+            cited: None,
+            expanded: [0; 129],
+        }
+    }
+}
+
 // Why a walk stops: for want of memory, for a source that fails, or at bytes that are no certificate of
 // what is asked, within the limit of records.
 #[derive(Clone, Copy, Debug, PartialEq, Eq)]

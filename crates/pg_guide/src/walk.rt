@@ -12,7 +12,6 @@ ghost use Rattle.pg_guide.specs.declared.machine.Question.{Question};
 use crate::found::Cited;
 use crate::machine::{Along, Question, Stop, count, count_leaf, recount};
 use crate::trees::{BareChild, Broken, Closed, Leaf, TreeWalk, whole};
-use arrayvec::ArrayVec;
 use pg_certificate::{Bare, Source};
 use pg_position::{Move, Position};
 use pg_price_lists::Prices;
@@ -302,30 +301,26 @@ fn all_trees<S: Source>(
     }
 }
 
-// Walks over a certificate of at most so many records; what was found, and how the walk ended. The games of the
-// stated length that end on the diagram go into the list, unless a node is wanted. What is found before the walk
-// stops is kept. What the list grows by is all the memory that is taken.
+// Walks over a certificate of at most so many records, and says how the walk ended; what is found comes into `along`, where
+// nothing is found yet. The games of the stated length that end on the diagram go into the list, unless a node is wanted. What is
+// found before the walk stops is kept. What the list grows by is all the memory that is taken. Not inlined: what it needs of the
+// stack would lie below what comes after it, and two walks in one frame would have room for two.
+#[inline(never)]
 pub(crate) fn walk<S: Source>(
     question: &Question,
+    along: &mut Along,
     games: &mut Games,
     source: &mut S,
     records: u64,
-) -> (Along, Result<(), Stop>)
-    ensures says { IfErr result.1 (StopsTruly question.now (S.has_failed source.new)) }
+) -> Result<(), Stop>
+    ensures says { IfErr result (StopsTruly question.now (S.has_failed source.new)) }
     ensures finds { Finds question.now games.old games.new }
 {
-    let mut along = Along {
-        open: ArrayVec::new(),
-        tallies: ArrayVec::new(),
-        ending: None,
-        cited: None,
-        expanded: [0; 129],
-    };
     let mut walk = match TreeWalk::start(question.diagram, question.plies, source, records) {
         Ok(walk) => walk,
-        Err(broken) => return (along, Err(stop_of(broken))),
+        Err(broken) => return Err(stop_of(broken)),
     };
-    let answer = all_trees(question, &mut along, games, &mut walk, source);
+    let answer = all_trees(question, along, games, &mut walk, source);
     along.expanded = walk.expanded;
-    (along, answer)
+    answer
 }
