@@ -12,7 +12,6 @@ use pg_captures::Bound;
 use pg_certificate::{Refused, Sink, Source};
 use pg_checker::{Fault, Problem, RunFault};
 use pg_guide::{Gathered, WhyFault, gather};
-use pg_sentences::Distances;
 use std::alloc::Global;
 
 /// What is to be shown: the texts of a diagram and of a length in moves, and at most how many expanded nodes of the
@@ -35,7 +34,9 @@ fn fault_of(stop: Stop) -> WhyFault
 }
 
 // Writes the page of a certificate that is right, with what a third reading tells of its trees. Where that reading
-// gives something else than a certificate of the problem, the page says that it stops there.
+// gives something else than a certificate of the problem, the page says that it stops there. Not inlined: what it needs of the
+// stack would lie below the check too.
+#[inline(never)]
 fn show<R: Source, W: Sink>(
     problem: &Problem,
     nodes: u64,
@@ -47,10 +48,8 @@ fn show<R: Source, W: Sink>(
     ensures runs { OnOk result (W.has_failed out.new ≡ false) }
     ensures err { IfErr result (TellsTruly (R.has_failed told.new) (W.has_failed out.new)) }
 {
-    let distances = Distances::new(&problem.diagram);
     let what = Told {
         diagram: &problem.diagram,
-        distances: &distances,
         plies: problem.length.plies(),
         floor: floor_for(&found.expanded, nodes),
     };

@@ -12,7 +12,7 @@ use pg_fen::Diagram;
 use pg_guide::{BareChild, Broken, Closed, Leaf, TreeWalk};
 use pg_position::Position;
 use pg_price_lists::Prices;
-use pg_sentences::{Distances, Node, Sentence, put_reason_of_bounds, put_reason_of_cut};
+use pg_sentences::{GrowingDistances, Node, Sentence};
 
 // Why the telling stops: at a source or a sink that fails, or at bytes that are no certificate of what is asked, within
 // the limit of records.
@@ -24,11 +24,10 @@ pub(crate) enum Stop {
 }
 
 // What is told: the tree of so many plies, down to the nodes with a number of plies left; of the shorter ones where
-// their expanded nodes stand, which a reference may name. The distances are those to the diagram.
+// their expanded nodes stand, which a reference may name.
 #[derive(Drop)]
 pub(crate) struct Told<'a> {
     pub(crate) diagram: &'a Diagram,
-    pub(crate) distances: &'a Distances,
     pub(crate) plies: u8,
     pub(crate) floor: u8,
 }
@@ -101,24 +100,18 @@ fn write_reason<W: Sink>(code: Option<u8>, words: &Sentence, out: &mut W) -> Res
     write_escaped(words.as_str(), out)
 }
 
-// Appends why a node is cut by its record, at a position with so many plies left.
+// Appends why a node is cut by its record.
 fn write_cut<W: Sink>(
-    told: &Told,
-    position: &Position,
-    left: u8,
+    distances: &mut GrowingDistances,
+    node: &Node,
     said: &Bare,
     prices: &Prices,
     out: &mut W,
 ) -> Result<(), Refused>
     ensures fault { OnErr result (W.has_failed out.new ≡ true) }
 {
-    let node = Node {
-        diagram: told.diagram,
-        position,
-        left,
-    };
     let mut words = Sentence::new();
-    let code = put_reason_of_cut(told.distances, &node, said, prices, &mut words);
+    let code = distances.put_reason_of_cut(node, said, prices, &mut words);
     write_reason(code, &words, out)?;
     out.push(b"\n")
 }
@@ -150,6 +143,7 @@ fn is_shown(told: &Told, tree: u8, left: u8, said: &Bare) -> bool {
 // Appends the line of a child, if it has one. Where its move leads is asked only for a cut.
 fn write_child<W: Sink>(
     told: &Told,
+    distances: &mut GrowingDistances,
     tree: u8,
     child: &BareChild,
     prices: &Prices,
@@ -171,14 +165,25 @@ fn write_child<W: Sink>(
         said => {
             out.push(text.as_str().as_bytes())?;
             let position = child.before.after(&child.m);
-            write_cut(told, &position, child.left, said, prices, out)
+            let node = Node {
+                diagram: told.diagram,
+                position: &position,
+                left: child.left,
+            };
+            write_cut(distances, &node, said, prices, out)
         }
     }
 }
 
 // Appends how a node closes: its number if it is named, its games if its moves are not told, and with one ply left and
 // no game the first bound that excludes.
-fn write_close<W: Sink>(told: &Told, tree: u8, closed: &Closed, out: &mut W) -> Result<(), Refused>
+fn write_close<W: Sink>(
+    told: &Told,
+    distances: &mut GrowingDistances,
+    tree: u8,
+    closed: &Closed,
+    out: &mut W,
+) -> Result<(), Refused>
     ensures fault { OnErr result (W.has_failed out.new ≡ true) }
 {
     let is_told = is_told(told, tree, closed.left);
@@ -196,7 +201,7 @@ fn write_close<W: Sink>(told: &Told, tree: u8, closed: &Closed, out: &mut W) -> 
             left: 1,
         };
         let mut words = Sentence::new();
-        let code = put_reason_of_bounds(told.distances, &node, &mut words);
+        let code = distances.put_reason_of_bounds(&node, &mut words);
         write_reason(code, &words, out)?;
     }
     out.push(b"\n")
@@ -236,7 +241,12 @@ fn write_leaves<W: Sink>(told: &Told, walk: &mut TreeWalk, out: &mut W) -> Resul
 }
 
 // The topmost node is left, with its leaves; whether there was one.
-fn leave<W: Sink>(told: &Told, walk: &mut TreeWalk, out: &mut W) -> Result<bool, Refused>
+fn leave<W: Sink>(
+    told: &Told,
+    distances: &mut GrowingDistances,
+    walk: &mut TreeWalk,
+    out: &mut W,
+) -> Result<bool, Refused>
     ensures fault { OnErr result (W.has_failed out.new ≡ true) }
 {
     write_leaves(told, walk, out)?;
@@ -244,7 +254,7 @@ fn leave<W: Sink>(told: &Told, walk: &mut TreeWalk, out: &mut W) -> Result<bool,
         return Ok(false);
     };
     if has_line(told, walk.tree, closed.left, closed.number.is_some()) {
-        write_close(told, walk.tree, &closed, out)?;
+        write_close(told, distances, walk.tree, &closed, out)?;
     }
     Ok(true)
 }
@@ -252,6 +262,7 @@ fn leave<W: Sink>(told: &Told, walk: &mut TreeWalk, out: &mut W) -> Result<bool,
 // A turn of the walk: a child gets its line, or the topmost node is left; whether the tree goes on.
 fn turn<S: Source, W: Sink>(
     told: &Told,
+    distances: &mut GrowingDistances,
     walk: &mut TreeWalk,
     prices: &mut Prices,
     source: &mut S,
@@ -260,11 +271,11 @@ fn turn<S: Source, W: Sink>(
     ensures says { IfErr result (StopsTruly (S.has_failed source.new) (W.has_failed out.new)) }
 {
     match walk.bare_child(prices, source) {
-        Ok(Some(child)) => match write_child(told, walk.tree, &child, prices, out) {
+        Ok(Some(child)) => match write_child(told, distances, walk.tree, &child, prices, out) {
             Ok(()) => Ok(true),
             Err(Refused) => Err(Stop::Write),
         },
-        Ok(None) => match leave(told, walk, out) {
+        Ok(None) => match leave(told, distances, walk, out) {
             Ok(goes_on) => Ok(goes_on),
             Err(Refused) => Err(Stop::Write),
         },
@@ -286,6 +297,7 @@ fn write_root_leaf<W: Sink>(told: &Told, out: &mut W) -> Result<(), Stop>
 // Appends the line of the root of a tree, which has one.
 fn write_root_line<W: Sink>(
     told: &Told,
+    distances: &mut GrowingDistances,
     tree: u8,
     said: &Bare,
     prices: &Prices,
@@ -303,7 +315,13 @@ fn write_root_line<W: Sink>(
         }
         said => {
             out.push(text.as_str().as_bytes())?;
-            write_cut(told, &Position::array(), tree, said, prices, out)
+            let position = Position::array();
+            let node = Node {
+                diagram: told.diagram,
+                position: &position,
+                left: tree,
+            };
+            write_cut(distances, &node, said, prices, out)
         }
     }
 }
@@ -311,6 +329,7 @@ fn write_root_line<W: Sink>(
 // The root of a tree gets its line.
 fn write_root<W: Sink>(
     told: &Told,
+    distances: &mut GrowingDistances,
     tree: u8,
     said: &Bare,
     prices: &Prices,
@@ -318,7 +337,7 @@ fn write_root<W: Sink>(
 ) -> Result<(), Stop>
     ensures says { (read : Bool) → IfErr result (StopsTruly read (W.has_failed out.new)) }
 {
-    match write_root_line(told, tree, said, prices, out) {
+    match write_root_line(told, distances, tree, said, prices, out) {
         Ok(()) => Ok(()),
         Err(Refused) => Err(Stop::Write),
     }
@@ -327,6 +346,7 @@ fn write_root<W: Sink>(
 // The tree of so many plies.
 fn tree_of<S: Source, W: Sink>(
     told: &Told,
+    distances: &mut GrowingDistances,
     tree: u8,
     walk: &mut TreeWalk,
     source: &mut S,
@@ -343,12 +363,12 @@ fn tree_of<S: Source, W: Sink>(
         Ok(said) => said,
         Err(broken) => return Err(stop_of(broken)),
     };
-    match write_root(told, tree, &said, &prices, out) {
+    match write_root(told, distances, tree, &said, &prices, out) {
         Ok(()) => {}
         Err(stop) => return Err(stop),
     }
     for _ in 0..u64::MAX {
-        match turn(told, walk, &mut prices, source, out) {
+        match turn(told, distances, walk, &mut prices, source, out) {
             Ok(true) => {}
             Ok(false) => return Ok(()),
             Err(stop) => return Err(stop),
@@ -385,12 +405,13 @@ pub(crate) fn tell<S: Source, W: Sink>(
         Ok(walk) => walk,
         Err(broken) => return Err(stop_of(broken)),
     };
+    let mut distances = GrowingDistances::new(told.diagram);
     for tree in 0..=told.plies {
         match write_edge("/", u64::from(tree), out) {
             Ok(()) => {}
             Err(stop) => return Err(stop),
         }
-        match tree_of(told, tree, &mut walk, source, out) {
+        match tree_of(told, &mut distances, tree, &mut walk, source, out) {
             Ok(()) => {}
             Err(stop) => return Err(stop),
         }
