@@ -71,12 +71,8 @@ renew() {
 ended() {
   [ "$2" = "$3" ] || fail "$1: status $2 for $3"
   [ -z "$(ls -A "$TMPDIR")" ] || fail "$1: it left $(ls -A "$TMPDIR")"
-  [ -z "$(at_work)" ] || fail "$1: it left processes that work in $(at_work)"
   [ -z "$(find "$crates" -name 'pg_cli.*')" ] || fail "$1: it left $(find "$crates" -name 'pg_cli.*')"
 }
-
-# The folders below that of temporary files in which a process works.
-at_work() { readlink /proc/[0-9]*/cwd 2>/dev/null | grep "^$TMPDIR/"; }
 
 # Two at once, from nothing: each proves or takes what the other proved.
 renew
@@ -101,19 +97,27 @@ rm -f "$work"/out[12] "$work"/err[12]
 ended 'a second run' $? 0
 [ "$(cat "$work/out")" = 40 ] && [ ! -s "$work/err" ] || fail 'a second run: it is not the program alone'
 
-# Signals, as Ctrl-C sends them, to all that stands in the foreground, while a proof is at work.
+# The runs of `rt ci` that the launcher $1 began, each by its group of processes.
+proofs_of() { ps -o pid=,pgid= --ppid "$1" | awk '$1 == $2 { print $1 }'; }
+
+# Signals, as Ctrl-C sends them, to all that stands in the foreground, while a proof is at work, whose group is to be gone then.
 set -m
 for signal in INT TERM HUP; do
   renew
   "$work/top/pg" >"$work/out" 2>"$work/err" &
-  run=$!
+  run=$! proofs=
   for ((wait = 0; wait < 600; wait++)); do
-    ! at_work | grep -q crates/low || break
+    proofs=$(proofs_of "$run")
+    [ -z "$proofs" ] || break
     sleep 0.1
   done
+  [ -n "$proofs" ] || fail "SIG$signal: no proof was at work"
+  sleep 2
+  for proof in $proofs; do kill -0 -- "-$proof" || fail "SIG$signal: the proof had ended before"; done
   kill -"$signal" -- "-$run"
   wait "$run"
   ended "SIG$signal" $? $((128 + $(kill -l "$signal")))
+  for proof in $proofs; do ! kill -0 -- "-$proof" 2>/dev/null || fail "SIG$signal: the group of the proof is still there"; done
   grep -q "^pg: ended by SIG$signal" "$work/err" && ! grep -qv '^pg: ' "$work/err" || fail "SIG$signal: it does not say so, or more than that"
 done
 set +m
