@@ -193,6 +193,14 @@ pictures() {
   done <<<$'schweig|1.Nc3%20d6\nfour-games|1.e4\nroessler|1.h4%20d5%202.h5'
 }
 
+# A page says of how many records a certificate of more than 100,000 is, with a browser and without one: as many as the search, which
+# writes one for each node, says that it visited.
+name='many records' diagram=2bqr1k1/2p1ppbp/1pp4p/7n/r2P3P/8/P1P1PPP1/RNB1KBNR
+"$pg" search "$diagram" 9.5 "$work/many.pgc" --nodes 1131833 >/dev/null || fail "pg search ends with status $?"
+"$pg" page "$diagram" 9.5 "$work/many.pgc" --nodes 0 >"$work/page.html" || fail "pg page ends with status $?"
+grep -q 'What was checked: a certificate of 1131833 records with [0-9][0-9]* named nodes' "$work/page.html" ||
+  fail "the page has another number of records: $(grep -o 'What was checked: .*records' "$work/page.html")"
+
 for browser in ${CHROMIUM-} chromium chromium-browser google-chrome ''; do ! command -v "$browser" >/dev/null || break; done
 [ -n "$browser" ] || not_tried 'there is no Chromium'
 echo '<p>ready</p>' >"$work/ready.html"

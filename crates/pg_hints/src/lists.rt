@@ -1,6 +1,7 @@
 //! The word of a list that is no move, and the legal moves that are most like it.
 
 use crate::Hint;
+use arrayvec::ArrayString;
 use pg_moves::next_legal;
 use pg_position::Position;
 use pg_san::{San, read, write};
@@ -14,6 +15,9 @@ const NAMED: usize = 3;
 
 // So many bytes of a word are shown and compared at most.
 const SHOWN: usize = 24;
+
+// A word as it is shown. Behind it a line has room for the longest moves.
+type Quoted = ArrayString<56>;
 
 // The word without a move number at its front, as a list is read.
 fn without_move_number(word: &str) -> &str {
@@ -92,9 +96,22 @@ fn nearest_to(alloc: Global, position: &Position, word: &str) -> Result<Nearest,
     Ok(found)
 }
 
-// Writes a word, and the moves that are nearest to it.
-fn write_moves(word: &str, nearest: &Nearest, hint: &mut Hint) -> fmt::Result {
-    write!(hint, "the word is {word:?}; ")?;
+// A word in quotes, with escapes for what cannot be shown: as much of it as has room, and two points where that is not all.
+fn quoted(word: &str) -> Quoted {
+    for cut in 0..SHOWN {
+        let shown = &word[..word.floor_char_boundary(SHOWN - cut)];
+        let points = if shown.len() < word.len() { ".." } else { "" };
+        let mut text = Quoted::new();
+        if write!(text, "{shown:?}{points}").is_ok() {
+            return text;
+        }
+    }
+    Quoted::new()
+}
+
+// Writes a word as it is quoted, and the moves that are nearest to it.
+fn write_moves(quoted: &str, nearest: &Nearest, hint: &mut Hint) -> fmt::Result {
+    write!(hint, "the word is {quoted}; ")?;
     let mut before = "legal there: ";
     for place in nearest.moves.iter() {
         if let Some((_, san)) = place {
@@ -110,7 +127,8 @@ fn write_moves(word: &str, nearest: &Nearest, hint: &mut Hint) -> fmt::Result {
 }
 
 /// The word of a list of games that is refused, by its line and its ply in it, both from 1, and up to three legal moves whose texts
-/// are nearest to it. Nothing where there is no such word, or where memory is refused, which is taken from `alloc`.
+/// are nearest to it. Of a word of more than 24 bytes, or of much that wants escapes, the front is shown with two points behind it.
+/// Nothing where there is no such word, or where memory is refused, which is taken from `alloc`.
 pub fn on_move(alloc: Global, list: &str, line: usize, ply: usize) -> Hint {
     let mut hint = Hint::new();
     let Some(line) = list.split('\n').nth(line.saturating_sub(1)) else {
@@ -118,9 +136,9 @@ pub fn on_move(alloc: Global, list: &str, line: usize, ply: usize) -> Hint {
     };
     let line = line.strip_suffix('\r').unwrap_or(line);
     if let Some((position, word)) = word_at(line, ply) {
-        let word = &word[..word.floor_char_boundary(SHOWN)];
-        if let Ok(nearest) = nearest_to(alloc, &position, word) {
-            let _ = write_moves(word, &nearest, &mut hint);
+        let compared = &word[..word.floor_char_boundary(SHOWN)];
+        if let Ok(nearest) = nearest_to(alloc, &position, compared) {
+            let _ = write_moves(quoted(word).as_str(), &nearest, &mut hint);
         }
     }
     hint

@@ -1,4 +1,5 @@
 pub mod Escaping
+pub mod Heading
 pub mod Lines
 pub mod Page
 pub mod Telling

@@ -1,5 +1,8 @@
 //! What stands on the page above and below the trees: the diagram, the verdict and the games.
-ghost use Rattle.std.specs.Prelude.{◌≡◌, true, false, OnErr, OnOk};
+ghost use Rattle.std.specs.Prelude.{◌≡◌, ◌≤◌, ◌++◌, length, true, false, OnErr, OnOk};
+ghost use Rattle.std.specs.Fmt.{decimal};
+ghost use Rattle.pg_certificate.specs.Pushing.{Adds, Pushes};
+ghost use Rattle.pg_page.specs.Heading.{checked_text};
 
 use crate::lines::{move_text, write_escaped, write_number};
 use crate::script::{SCRIPT, VIEWER};
@@ -117,6 +120,42 @@ fn write_verdict_of<W: Sink>(count: usize, out: &mut W) -> Result<(), Refused>
     }
 }
 
+// Appends two numbers, each behind its mark.
+fn write_numbers<W: Sink>(
+    first: &str,
+    number: u64,
+    second: &str,
+    other: u64,
+    out: &mut W,
+) -> Result<(), Refused>
+    requires first { length first.now ≤ 44 }
+    requires second { length second.now ≤ 44 }
+    ensures { Pushes W.held W.has_failed
+        (Adds ((first.now ++ decimal number) ++ (second.now ++ decimal other))) out.old out.new result }
+{
+    write_number(first, number, out)?;
+    write_number(second, other, out)
+}
+
+/// Appends how many records a certificate that was checked has, and how many of its nodes are named: the sentence of a page
+/// up to the words behind these numbers.
+///
+/// # Errors
+/// `Refused` where the sink has failed.
+pub fn write_checked<W: Sink>(records: u64, named: u32, out: &mut W) -> Result<(), Refused>
+    ensures { Pushes W.held W.has_failed (Adds (checked_text records named)) out.old out.new result }
+{
+    // (a cast, of which the proof sees that it changes nothing)
+    let named = named as u64;
+    write_numbers(
+        "What was checked: a certificate of ",
+        records,
+        " records with ",
+        named,
+        out,
+    )
+}
+
 // Appends the verdict in a sentence, and what was checked.
 fn write_verdict<W: Sink>(problem: &Problem, found: &Gathered, out: &mut W) -> Result<(), Refused>
     ensures fault { OnErr result (W.has_failed out.new ≡ true) }
@@ -130,12 +169,7 @@ fn write_verdict<W: Sink>(problem: &Problem, found: &Gathered, out: &mut W) -> R
         out.push(b"s")?;
     }
     out.push(b" on this diagram, and no shorter game does.</p>\n<p>")?;
-    write_number(
-        "What was checked: a certificate of ",
-        found.proved.records,
-        out,
-    )?;
-    write_number(" records with ", u64::from(found.proved.named), out)?;
+    write_checked(found.proved.records, found.proved.named, out)?;
     out.push(CHECKED.as_bytes())
 }
 

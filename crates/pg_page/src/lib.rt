@@ -9,4 +9,5 @@ mod script;
 mod style;
 mod telling;
 
+pub use heading::write_checked;
 pub use paging::{Asked, page};

@@ -1,5 +1,6 @@
 //! The parts of the lines that the page's script reads.
-ghost use Rattle.std.specs.Prelude.{◌≡◌, ◌<◌, ◌≤◌, length, true, IsTrue, OnErr};
+ghost use Rattle.std.specs.Prelude.{◌≡◌, ◌<◌, ◌≤◌, ◌++◌, length, IsTrue};
+ghost use Rattle.std.specs.Fmt.{decimal};
 ghost use Rattle.pg_certificate.specs.Pushing.{Adds, MayPush, Pushes};
 ghost use Rattle.pg_position.specs.Step.{IsLegal};
 ghost use Rattle.pg_page.specs.Lines.{letter_at, IsMoveText};
@@ -8,10 +9,9 @@ ghost use Rattle.pg_page.specs.Escaping.{has_meaning, entity_of, written_as, esc
 use arrayvec::ArrayString;
 use pg_board::Square;
 use pg_certificate::{Refused, Sink};
-use pg_fen::text::put;
+use pg_fen::text::{digits, put};
 use pg_position::{Move, Position};
 use pg_san::write;
-use std::fmt::Write;
 
 // A letter for each square, from a1 on.
 static LETTERS: [u8; 64] = *b"ABCDEFGHIJKLMNOPQRSTUVWXYZabcdefghijklmnopqrstuvwxyz0123456789-_";
@@ -45,12 +45,17 @@ pub(crate) fn move_text(position: &Position, m: &Move) -> MoveText
     text
 }
 
-// Appends a number behind a mark.
+// Appends a number behind a mark, by one push.
 pub(crate) fn write_number<W: Sink>(mark: &str, number: u64, out: &mut W) -> Result<(), Refused>
-    ensures fault { OnErr result (W.has_failed out.new ≡ true) }
+    requires short { length mark.now ≤ 44 }
+    ensures { Pushes W.held W.has_failed (Adds (mark.now ++ decimal number)) out.old out.new result }
 {
-    let mut text: ArrayString<40> = ArrayString::new();
-    let _ = write!(text, "{mark}{number}");
+    let digits = digits(number as usize);
+    // A fact for the proof: they are at most twenty.
+    digits.len();
+    let mut text: ArrayString<64> = ArrayString::new();
+    text.push_str(mark);
+    text.push_str(digits.as_str());
     out.push(text.as_str().as_bytes())
 }
 

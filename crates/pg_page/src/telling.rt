@@ -1,6 +1,6 @@
 //! The trees of a certificate as lines for the page's script, depth first, a line for each node that is told.
 //! docs/FORMATS.md has the lines.
-ghost use Rattle.std.specs.Prelude.{◌≡◌, Bool, true, IfErr, OnErr};
+ghost use Rattle.std.specs.Prelude.{◌≡◌, Bool, true, IfErr, OnErr, ◌≤◌, length};
 ghost use Rattle.pg_guide.specs.Trees.{BreaksTruly};
 ghost use Rattle.pg_position.specs.Step.{IsLegal};
 ghost use Rattle.pg_page.specs.Lines.{leaf_mark};
@@ -379,6 +379,7 @@ fn tree_of<S: Source, W: Sink>(
 
 // Appends the line before a tree or behind it: a mark and a number.
 fn write_edge<W: Sink>(mark: &str, number: u64, out: &mut W) -> Result<(), Stop>
+    requires short { length mark.now ≤ 44 }
     ensures says { (read : Bool) → IfErr result (StopsTruly read (W.has_failed out.new)) }
 {
     match write_number(mark, number, out) {

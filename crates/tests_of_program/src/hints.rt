@@ -13,6 +13,7 @@ rnbqkbnr/pppppppp/8/8/8/8/PPPPPPPPP/RNBQKBNR => rank 2 is 9 squares wide, not 8
 8 => 1 rank; a board has 8
 rnbqkbnr/pppppppp/8/8/8/8/PPPPPPPP/RNBQKBNX => 'X' in rank 1; men are KQRBNP and kqrbnp
 rnbqkbnr/pppppppp/8/3é4/8/8/PPPPPPPP/RNBQKBNR => 'é' in rank 5; men are KQRBNP and kqrbnp
+rnbqkbnr/pppppppp/8/8/8/8/PPPPPPPP/RNBQKBN\u{10ffff} => '\\u{10ffff}' in rank 1; men are KQRBNP and kqrbnp
 rnbqqbnr/pppppppp/8/8/8/8/PPPPPPPP/RNBQKBKR => white has 2, black 0
 8/8/8/8/8/8/8/8 w - - => fields: 4; a diagram has 1, a FEN 6
 4k3/8/8/8/8/8/8/4K3 x - - 0 1 => ";
@@ -42,6 +43,11 @@ e4 d5/1.e4 d5 2.ed5 Dxd5 | 2 | 4 => the word is \"Dxd5\"; legal there: Qxd5, b5,
 h4 g5 hxg5 a6 g6 b6 gxh7 c6 hxg8=K | 1 | 9 => the word is \"hxg8=K\"; legal there: hxg8=N, hxg8=B, hxg8=R
 a3 h5 b3 h4 c3 h3 d3 hxg2 e3 gxh1 | 1 | 10 => the word is \"gxh1\"; legal there: gxh1=N, gxh1=B, gxh1=R
 f3 e5 g4 Qh4# a3 | 1 | 5 => the word is \"a3\"; no move is legal there
+abcdefghijklmnopqrstuvwx | 1 | 1 => the word is \"abcdefghijklmnopqrstuvwx\"; legal there: Nc3, Nf3, Nh3
+abcdefghijklmnopqrstuvwxy | 1 | 1 => the word is \"abcdefghijklmnopqrstuvwx\"..; legal there: Nc3, Nf3, Nh3
+\u{1}\u{1}\u{1}\u{1}\u{1}\u{1}\u{1}\u{1}\u{1}\u{1} | 1 | 1 => the word is \"\\u{1}\\u{1}\\u{1}\\u{1}\\u{1}\\u{1}\\u{1}\\u{1}\\u{1}\\u{1}\"; legal there: Na3, Nc3, Nf3
+\u{1}\u{1}\u{1}\u{1}\u{1}\u{1}\u{1}\u{1}\u{1}\u{1}\u{1} | 1 | 1 => the word is \"\\u{1}\\u{1}\\u{1}\\u{1}\\u{1}\\u{1}\\u{1}\\u{1}\\u{1}\\u{1}\"..; legal there: Na3, Nc3, Nf3
+h4 g5 hxg5 a6 g6 b6 gxh7 c6 \u{e000}\u{e000}\u{e000}\u{e000}\u{e000}\u{e000}\u{e000}\u{e000} | 1 | 9 => the word is \"\\u{e000}\\u{e000}\\u{e000}\\u{e000}\\u{e000}\\u{e000}\"..; legal there: Na3, Nc3, Nf3
 e4 | 2 | 1 => 
 e4 | 1 | 2 => 
 x e4 | 1 | 2 => ";

@@ -1,6 +1,7 @@
 //! Pages that show a certificate: what the tests share.
 
 mod bytes;
+mod numbers;
 mod refusals;
 mod trees;
 

@@ -1,6 +1,7 @@
 //! What is said of a cut, by distances to a diagram and without them, is what the old form says: over games of drawn moves,
 //! each position asked about diagrams of other such games.
 
+mod longest;
 mod start;
 
 use crate::shared::{diagram_of, named};
