@@ -45,9 +45,12 @@ a3 h5 b3 h4 c3 h3 d3 hxg2 e3 gxh1 | 1 | 10 => the word is \"gxh1\"; legal there:
 f3 e5 g4 Qh4# a3 | 1 | 5 => the word is \"a3\"; no move is legal there
 abcdefghijklmnopqrstuvwx | 1 | 1 => the word is \"abcdefghijklmnopqrstuvwx\"; legal there: Nc3, Nf3, Nh3
 abcdefghijklmnopqrstuvwxy | 1 | 1 => the word is \"abcdefghijklmnopqrstuvwx\"..; legal there: Nc3, Nf3, Nh3
-\u{1}\u{1}\u{1}\u{1}\u{1}\u{1}\u{1}\u{1}\u{1}\u{1} | 1 | 1 => the word is \"\\u{1}\\u{1}\\u{1}\\u{1}\\u{1}\\u{1}\\u{1}\\u{1}\\u{1}\\u{1}\"; legal there: Na3, Nc3, Nf3
-\u{1}\u{1}\u{1}\u{1}\u{1}\u{1}\u{1}\u{1}\u{1}\u{1}\u{1} | 1 | 1 => the word is \"\\u{1}\\u{1}\\u{1}\\u{1}\\u{1}\\u{1}\\u{1}\\u{1}\\u{1}\\u{1}\"..; legal there: Na3, Nc3, Nf3
-h4 g5 hxg5 a6 g6 b6 gxh7 c6 \u{e000}\u{e000}\u{e000}\u{e000}\u{e000}\u{e000}\u{e000}\u{e000} | 1 | 9 => the word is \"\\u{e000}\\u{e000}\\u{e000}\\u{e000}\\u{e000}\\u{e000}\"..; legal there: Na3, Nc3, Nf3
+\u{1}\u{1}\u{1}\u{1}\u{1}\u{1}\u{1}\u{1}\u{1}\u{1} | 1 | 1 => \
+the word is \"\\u{1}\\u{1}\\u{1}\\u{1}\\u{1}\\u{1}\\u{1}\\u{1}\\u{1}\\u{1}\"; legal there: Na3, Nc3, Nf3
+\u{1}\u{1}\u{1}\u{1}\u{1}\u{1}\u{1}\u{1}\u{1}\u{1}\u{1} | 1 | 1 => \
+the word is \"\\u{1}\\u{1}\\u{1}\\u{1}\\u{1}\\u{1}\\u{1}\\u{1}\\u{1}\\u{1}\"..; legal there: Na3, Nc3, Nf3
+h4 g5 hxg5 a6 g6 b6 gxh7 c6 \u{e000}\u{e000}\u{e000}\u{e000}\u{e000}\u{e000}\u{e000}\u{e000} | 1 | 9 => \
+the word is \"\\u{e000}\\u{e000}\\u{e000}\\u{e000}\\u{e000}\\u{e000}\"..; legal there: Na3, Nc3, Nf3
 e4 | 2 | 1 => 
 e4 | 1 | 2 => 
 x e4 | 1 | 2 => ";
