@@ -8,6 +8,7 @@ use pg_files::{first_bytes, list};
 use pg_hints::{
     Hint, is_fen_in_words, on_diagram, on_known, on_length, on_limit, on_move, packing_of,
 };
+use pg_journeys::Journeys;
 use pg_report::{
     CountRunFault, Fault, FenFault, GamesFault, MovesFault, RunFault, SearchFault, ShowFault,
     UpgradeFault,
@@ -71,8 +72,8 @@ fn tell_packing<R: Runtime + AllocGlobal>(rt: &R, path: &str) {
     }
 }
 
-// Says what a search that gave up knows, and what to try.
-fn tell_known<R: Eprint>(rt: &R, fault: &SearchFault, known: &Known) {
+// Says what a search with these words that gave up knows, and what to try.
+fn tell_known<R: Eprint>(rt: &R, words: &ArgMatches<'_>, fault: &SearchFault, known: &Known) {
     if let SearchFault::Shorter(plies) = fault {
         tell(rt, &on_length(*plies));
         return;
@@ -80,6 +81,9 @@ fn tell_known<R: Eprint>(rt: &R, fault: &SearchFault, known: &Known) {
     tell(rt, &on_limit(known.nodes, known.tree, known.plies));
     tell(rt, &on_known(known.games));
     if *fault == SearchFault::Budget {
+        if !words.get_flag("journeys") {
+            let _ = eprintln!(rt; "pg: --journeys reaches further");
+        }
         let _ = eprintln!(rt;
             "pg: try `pg cooks` with a game, `pg show DIAGRAM LENGTH` for a forecast, or more --nodes"
         );
@@ -100,6 +104,9 @@ fn tell_check<R: Runtime + AllocGlobal>(rt: &R, words: &ArgMatches<'_>, fault: &
         RunFault::Check(Fault::Magic | Fault::Truncated) => {
             tell_packing(rt, text_of(words, "CERT"))
         }
+        RunFault::Check(Fault::UnknownBound(Journeys::CODE)) => {
+            let _ = eprintln!(rt; "pg: bound 5 is that by journeys: say --journeys");
+        }
         _ => {}
     }
 }
@@ -111,7 +118,7 @@ pub(crate) fn advise<R: Runtime + AllocGlobal>(rt: &R, words: &ArgMatches<'_>, r
     };
     match refusal {
         Refusal::Open(_, obstacle) => tell_value(rt, *obstacle),
-        Refusal::GaveUp(fault, known) => tell_known(rt, fault, known),
+        Refusal::GaveUp(fault, known) => tell_known(rt, words, fault, known),
         Refusal::Check(fault) => tell_check(rt, words, fault),
         Refusal::Show(ShowFault::Diagram(fault))
         | Refusal::Moves(MovesFault::Position(fault))

@@ -2,7 +2,7 @@
 //! `pg games DIAGRAM LENGTH [GAMES]`, `pg cooks DIAGRAM LENGTH GAMES [--nodes N] [--foreign D]`,
 //! `pg check DIAGRAM LENGTH CERT [GAMES] [--records N]`, `pg search DIAGRAM LENGTH CERT [--nodes N] [--games FILE]`,
 //! `pg why DIAGRAM LENGTH CERT MOVES [--records N]`, `pg page DIAGRAM LENGTH CERT [--records N] [--nodes K]` and
-//! `pg upgrade OLD NEW [--records N]`.
+//! `pg upgrade OLD NEW [--records N]`; `--journeys` stands behind `check`, `search`, `why` and `page`.
 #![tactic(auto)]
 
 ghost use Rattle.std.specs.Prelude.{◌≡◌, IfOk, IfErr};
@@ -33,6 +33,7 @@ use clap::ArgMatches;
 use clap::error::ErrorKind;
 use pg_fen::Diagram;
 use pg_files::FileName;
+use pg_journeys::Journeys;
 use pg_report::{Bound, Captures, PawnFiles, Promotions, Travel};
 use pg_travel::{Rows, TravelByRows};
 use pg_words::pg;
@@ -135,8 +136,15 @@ fn rows_of(words: &ArgMatches<'_>) -> Option<Rows> {
     }
 }
 
-// Does what the words of a command say, with the four bounds in the order of their codes, and gives
-// the status.
+// Whether a command goes by the bound by journeys too: `show` always, the others where their words say so.
+fn goes_by_journeys(words: &ArgMatches<'_>) -> bool {
+    match words.subcommand() {
+        Some((name, inner)) => name == "show" || inner.get_flag("journeys"),
+        None => false,
+    }
+}
+
+// Does what the words of a command say, with the bounds in the order of their codes, and gives the status.
 //
 // # Errors
 // `AllocError` where a growth was refused before.
@@ -156,7 +164,10 @@ fn run<R: Runtime + AllocGlobal>(
         None => Box::new(rt.alloc(), Travel)?,
     };
     let four: [Box<dyn Bound>; 4] = [captures, promotions, pawn_files, travel];
-    let bounds = Vec::from_array(rt.alloc(), four)?;
+    let mut bounds = Vec::from_array(rt.alloc(), four)?;
+    if goes_by_journeys(words) {
+        bounds.push(Box::new(rt.alloc(), Journeys)?)?;
+    }
     Ok(lend(rt, words, bounds.as_slice(), screen))
 }
 

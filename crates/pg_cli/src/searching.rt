@@ -22,10 +22,12 @@ use clap::ArgMatches;
 use pg_certificate::format::MOST_NAMED;
 use pg_cooks::{standing_on, write_solutions};
 use pg_files::{Draft, Obstacle, begin, stand_at_one};
+use pg_journeys::Journeys;
 use pg_report::{
-    Bound, Fault, Games, Problem, Refused, RunFault, SearchFault, Sink, Source, ToWrite,
-    run_listed, search_watched, verdict_status,
+    Bound, Fault, Games, Problem, Refused, RunFault, SearchFault, SearchProgress, Sink, Source,
+    ToWrite, run_listed, search_watched, verdict_status,
 };
+use pg_searcher::search_by_journeys;
 use pg_streams::{Cleared, Gathered, Kept, SearchLine, Terminal, watch_records};
 use std::alloc::Global;
 use std::io;
@@ -43,6 +45,35 @@ pub(crate) struct Searched {
     known: Known,
 }
 
+// Whether the bound by journeys is among these.
+fn have_journeys(bounds: &[Box<dyn Bound>]) -> bool {
+    for bound in bounds {
+        if bound.code() == Journeys::CODE {
+            return true;
+        }
+    }
+    false
+}
+
+// Searches, and cuts by journeys where those bounds have it by which the certificate is to be checked.
+fn found_by<W: Sink, P: SearchProgress>(
+    alloc: Global,
+    problem: &Problem,
+    bounds: &[Box<dyn Bound>],
+    nodes: u64,
+    sink: &mut W,
+    watch: &mut P,
+) -> Result<Games, SearchFault>
+    ensures { IfErr result (λ fault. IsGivenUp problem.now.length fault) }
+{
+    let (diagram, length) = (&problem.diagram, problem.length);
+    if have_journeys(bounds) {
+        search_by_journeys(alloc, diagram, length, nodes, sink, watch)
+    } else {
+        search_watched(alloc, diagram, length, nodes, sink, watch)
+    }
+}
+
 // Searches, and writes the certificate to a writer.
 //
 // # Errors
@@ -51,6 +82,7 @@ pub(crate) struct Searched {
 pub(crate) fn search_to<R: Runtime + AllocGlobal, W: Write + Drop>(
     rt: &R,
     problem: &Problem,
+    bounds: &[Box<dyn Bound>],
     certificate: W,
     nodes: u64,
     terminal: &Terminal,
@@ -62,14 +94,7 @@ pub(crate) fn search_to<R: Runtime + AllocGlobal, W: Write + Drop>(
     let mut sink = ToWrite::new(certificate);
     let line = SearchLine::new(rt, terminal, nodes);
     let mut kept = Kept::new(rt.alloc(), line, nodes);
-    let found = search_watched(
-        rt.alloc(),
-        &problem.diagram,
-        problem.length,
-        nodes,
-        &mut sink,
-        &mut kept,
-    );
+    let found = found_by(rt.alloc(), problem, bounds, nodes, &mut sink, &mut kept);
     let Kept {
         mut line,
         games,
@@ -208,7 +233,8 @@ where
     ensures err { IfErr result (λ refusal. IsSearchRefusal (rules_by code_of excluded bounds.now)
         problem.now.diagram problem.now.length refusal) }
 {
-    let searched = match search_to(rt, problem, &mut drafts.certificate.file, nodes, terminal) {
+    let certificate = &mut drafts.certificate.file;
+    let searched = match search_to(rt, problem, bounds, certificate, nodes, terminal) {
         Ok(searched) => searched,
         Err(refusal) => return Err(refusal),
     };

@@ -1,7 +1,7 @@
 //! The words that the program understands.
 
 use clap::builder::ValueParser;
-use clap::{Arg, Command};
+use clap::{Arg, ArgAction, Command};
 use std::alloc::{AllocError, Global};
 
 const ABOUT: &str = "Checks shortest proof games: whether a list holds every game of a length that
@@ -64,7 +64,8 @@ Example, with a certificate that a search writes first:
 const SEARCH_EXAMPLE: &str =
     "What the search finds counts for nothing until the check of its certificate has
 said yes. CERT is written, or replaced, only then. The games that it met are
-solutions whatever ended it; `--games` keeps them as a list.
+solutions whatever ended it; `--games` keeps them as a list. Problems of more
+than ten moves want `--journeys`; then whoever checks CERT says it too.
 
 Example:
   pg search rnbqkbnr/pppp1ppp/8/4p3/4P3/8/PPPP1PPP/RNBQKBNR 1.0 e4e5.pgc";
@@ -111,6 +112,8 @@ enum Kind {
     NumberOrNone(&'static str),
     /// A text behind the name of the word, which may be missing: what it is called.
     Named(&'static str),
+    /// A name that stands there or not.
+    Flag,
 }
 
 // What may stand behind a command: its name, how it is read, and its help.
@@ -227,6 +230,20 @@ const FOREIGN: Word = Word {
     help: "At most so many moves of other kinds; else any number",
 };
 
+// The fifth bound, where a certificate is written.
+const JOURNEYS: Word = Word {
+    name: "journeys",
+    kind: Kind::Flag,
+    help: "Cuts by the bound by journeys too: far fewer nodes",
+};
+
+// The fifth bound, where a certificate is read.
+const JOURNEYS_TAKEN: Word = Word {
+    name: "journeys",
+    kind: Kind::Flag,
+    help: "Takes cuts by the bound by journeys too",
+};
+
 // The file of `pg search` that the games are written to.
 const GAMES_KEPT: Word = Word {
     name: "games",
@@ -277,25 +294,25 @@ const COMMANDS: [Entry; 10] = [
         name: "check",
         about: "Checks a certificate against a list of games, and prints the report",
         below: CHECK_EXAMPLE,
-        words: &[DIAGRAM, LENGTH, CERTIFICATE, GAMES, RECORDS],
+        words: &[DIAGRAM, LENGTH, CERTIFICATE, GAMES, RECORDS, JOURNEYS_TAKEN],
     },
     Entry {
         name: "search",
         about: "Searches for the games, writes a certificate, checks it, and reports",
         below: SEARCH_EXAMPLE,
-        words: &[DIAGRAM, LENGTH, CERTIFICATE_WRITTEN, NODES, GAMES_KEPT],
+        words: &[DIAGRAM, LENGTH, CERTIFICATE_WRITTEN, NODES, GAMES_KEPT, JOURNEYS],
     },
     Entry {
         name: "why",
         about: "Explains a line of moves by a certificate",
         below: WHY_EXAMPLE,
-        words: &[DIAGRAM, LENGTH, CERTIFICATE, MOVES, RECORDS],
+        words: &[DIAGRAM, LENGTH, CERTIFICATE, MOVES, RECORDS, JOURNEYS_TAKEN],
     },
     Entry {
         name: "page",
         about: "Writes a page of HTML that shows a certificate",
         below: PAGE_EXAMPLE,
-        words: &[DIAGRAM, LENGTH, CERTIFICATE, RECORDS, NODES_TOLD],
+        words: &[DIAGRAM, LENGTH, CERTIFICATE, RECORDS, NODES_TOLD, JOURNEYS_TAKEN],
     },
     Entry {
         name: "upgrade",
@@ -325,6 +342,7 @@ fn arg_of<'a>(alloc: Global, word: &Word) -> Arg<'a> {
             .value_name(called)
             .value_parser(ValueParser::unsigned(0, 255)),
         Kind::Named(called) => arg.long(word.name).value_name(called),
+        Kind::Flag => arg.long(word.name).action(ArgAction::SetTrue),
     }
 }
 
