@@ -1,5 +1,5 @@
 -- What the words of a command spell, and what its status says of that.
-use Rattle.std.specs.Prelude.{◌≡◌, ℕ, List, [], Ok, Some, IfSome, codes, option_map, unwrap_or}
+use Rattle.std.specs.Prelude.{◌≡◌, ◌⊎◌, ℕ, List, [], Ok, Some, IfSome, codes, option_map, unwrap_or}
 use Rattle.clap.specs.Words.{Row, Text, first_of, subcommand_name_of, subcommand_rows_of}
 use Rattle.clap.specs.declared.parser.matches.ArgMatches.{ArgMatches}
 use Rattle.pg_board.specs.Placement.{Placement}
@@ -61,6 +61,10 @@ HasDiagram rows status = ((d : Placement) × (diagram_of (fields (spelled (codes
 abbrev pub IsSubcommand : ArgMatches → Text → List Row → Type 0
 IsSubcommand words name rows =
     (subcommand_name_of words ≡ Some name) × (option_map (λ p. p.1) (subcommand_rows_of words) ≡ Some rows)
+
+-- a command with this name and these words goes by the bound by journeys too: `show` always, others where their words say it
+abbrev pub GoesByJourneys : Text → List Row → Type 0
+GoesByJourneys name rows = (name ≡ codes "show") ⊎ (first_of (codes "journeys") rows ≡ Some (codes "true"))
 
 -- the name of a command
 abbrev pub name_of : Command → Text

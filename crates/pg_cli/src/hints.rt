@@ -2,7 +2,7 @@
 //! and what to try. They take no part in any answer.
 
 use crate::refusals::{Known, Refusal};
-use crate::spelling::text_of;
+use crate::spelling::{say_journeys, text_of};
 use clap::ArgMatches;
 use pg_files::{first_bytes, list};
 use pg_hints::{
@@ -81,7 +81,7 @@ fn tell_known<R: Eprint>(rt: &R, words: &ArgMatches<'_>, fault: &SearchFault, kn
     tell(rt, &on_limit(known.nodes, known.tree, known.plies));
     tell(rt, &on_known(known.games));
     if *fault == SearchFault::Budget {
-        if !words.get_flag("journeys") {
+        if !say_journeys(words) {
             let _ = eprintln!(rt; "pg: --journeys reaches further");
         }
         let _ = eprintln!(rt;

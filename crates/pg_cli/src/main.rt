@@ -5,11 +5,11 @@
 //! `pg upgrade OLD NEW [--records N]`; `--journeys` stands behind `check`, `search`, `why` and `page`.
 #![tactic(auto)]
 
-ghost use Rattle.std.specs.Prelude.{◌≡◌, IfOk, IfErr};
-ghost use Rattle.clap.specs.Words.{found_of, rows_of};
+ghost use Rattle.std.specs.Prelude.{◌≡◌, ◌↔◌, List, IsTrue, IfOk, IfErr};
+ghost use Rattle.clap.specs.Words.{Row, Text, found_of, rows_of};
 ghost use Rattle.pg_checker.specs.Cuts.{rules_by};
 ghost use Rattle.pg_cli.specs.Causes.{Ends, IsCause, Rules, causes};
-ghost use Rattle.pg_cli.specs.Words.{IsStatus, says};
+ghost use Rattle.pg_cli.specs.Words.{GoesByJourneys, IsStatus, IsSubcommand, says};
 
 mod checking;
 mod commands;
@@ -28,7 +28,7 @@ use crate::commands::Command;
 use crate::hints::{advise, advise_words};
 use crate::refusals::{BAD_INPUT, DONE, NO_FILE, Refusal, refuse};
 use crate::screen::Screen;
-use crate::spelling::text_of;
+use crate::spelling::{say_journeys, text_of};
 use clap::ArgMatches;
 use clap::error::ErrorKind;
 use pg_fen::Diagram;
@@ -137,9 +137,12 @@ fn rows_of(words: &ArgMatches<'_>) -> Option<Rows> {
 }
 
 // Whether a command goes by the bound by journeys too: `show` always, the others where their words say so.
-fn goes_by_journeys(words: &ArgMatches<'_>) -> bool {
+fn goes_by_journeys(words: &ArgMatches<'_>) -> bool
+    ensures { (name : Text) (rows : List Row) → IsSubcommand words.now name rows →
+        IsTrue result ↔ GoesByJourneys name rows }
+{
     match words.subcommand() {
-        Some((name, inner)) => name == "show" || inner.get_flag("journeys"),
+        Some((name, inner)) => name == "show" || say_journeys(inner),
         None => false,
     }
 }

@@ -1,6 +1,6 @@
 //! What the words of a command spell, as `clap` has read them.
-ghost use Rattle.std.specs.Prelude.{◌≡◌};
-ghost use Rattle.clap.specs.Words.{found_of, rows_of};
+ghost use Rattle.std.specs.Prelude.{◌≡◌, ◌↔◌, IsTrue, Some, codes};
+ghost use Rattle.clap.specs.Words.{first_of, found_of, rows_of};
 ghost use Rattle.pg_cli.specs.Words.{spelled};
 
 use clap::ArgMatches;
@@ -12,5 +12,16 @@ pub(crate) fn text_of<'a>(words: &ArgMatches<'a>, name: &str) -> &'a str
     match words.get_str(name) {
         Some(text) => text,
         None => "",
+    }
+}
+
+// Whether the words say `--journeys`.
+pub(crate) fn say_journeys(words: &ArgMatches<'_>) -> bool
+    ensures { IsTrue result ↔
+        (first_of (codes "journeys") (rows_of (found_of words.now)) ≡ Some (codes "true")) }
+{
+    match words.get_str("journeys") {
+        Some(text) => text == "true",
+        None => false,
     }
 }
