@@ -78,6 +78,8 @@ done <<END
 2 games $array
 2 cooks $array 0
 2 cooks $array 0 list --foreign 256
+2 games $array 0 list --journeys
+2 check $array 0 list list --journeys=yes
 2 cooks $array 0 list --nodes -1
 2 check $array 0
 2 check $array 0 none none --records 0
@@ -341,7 +343,19 @@ expect 1 'pg: not a certificate of version 1' '"$pg" upgrade old.pgc ../two >/de
 { header "$array" 4; ones 2000; } >"$work/old.pgc"
 expect 4 'pg: write fault' 'trap "" XFSZ; ulimit -f 1; "$pg" upgrade ../old.pgc new.pgc'
 
+# Cuts by journeys are written, and taken, where the words say so; without such cuts the word changes nothing.
+echo '1. Nc3 d6 2. Nd5 Nd7 3. Nxe7 Ndf6 4. Nxg8 Nxg8' >"$work/knights"
+expect 0 '' '"$pg" search $schweig 4.0 ../journeys.pgc --journeys | tail -n 1' sound
+expect 0 '' '"$pg" check $schweig 4.0 ../journeys.pgc ../knights --journeys | tail -n 1' sound
+expect 0 '' '"$pg" page $schweig 4.0 ../journeys.pgc --journeys | tail -n 1' '</html>'
+expect 0 '' '"$pg" why $schweig 4.0 ../journeys.pgc - --journeys | tail -n 1' 'the certificate is right'
+expect 1 'pg: unknown bound 5' '"$pg" check $schweig 4.0 ../journeys.pgc ../knights' ''
+expect 1 'pg: unknown bound 5' '"$pg" page $schweig 4.0 ../journeys.pgc' ''
+expect 1 'pg: unknown bound 5' '"$pg" why $schweig 4.0 ../journeys.pgc - >/dev/null'
+expect 0 '' '"$pg" check $queen 2.0 good.pgc games --journeys | cmp - report'
+
 # With the least stack that the README names.
+expect 0 '' 'ulimit -s 512; "$pg" search $schweig 4.0 ../journeys.pgc --journeys | tail -n 1' sound
 expect 0 '' 'ulimit -s 512; "$pg" search $queen 2.0 good.pgc | cmp - report && "$pg" check $queen 2.0 good.pgc games | cmp - report'
 expect 0 '' 'ulimit -s 512; "$pg" page $queen 2.0 good.pgc | cmp - <("$pg" page $queen 2.0 good.pgc)'
 expect 0 '' 'ulimit -s 512; "$pg" why $queen 2.0 good.pgc "e4 d5" >/dev/null && "$pg" count "$position" 3 >/dev/null && "$pg" moves "$position" >/dev/null && "$pg" show $queen >/dev/null && "$pg" upgrade old.pgc ../two >/dev/null'
@@ -394,9 +408,10 @@ if command -v script >/dev/null; then
   says "'$pg' search $queen 2.0 new.pgc --games ./new.pgc" 'pg: cannot open ./new.pgc' 'pg: another word names this file'
   gzip -c good.pgc >../packed
   says "'$pg' check $queen 2.0 ../packed games" 'pg: not a certificate' 'pg: it looks packed by gzip; unpack it, or let `pg check` read it from a pipe'
+  says "'$pg' check $schweig 4.0 ../journeys.pgc ../knights" 'pg: unknown bound 5' 'pg: bound 5 is that by journeys: say --journeys'
   says "'$pg' search $queen 3.0 new.pgc" 'pg: a game of 4 plies reaches the diagram' 'pg: try the length 2.0'
   says "'$pg' search $cooked 3.5 new.pgc --nodes 8312" 'pg: node limit reached' 'pg: 8307 nodes, tree 3.5 of 3.5' 'pg: 2 games known: not sound' \
-    'pg: try `pg cooks` with a game, `pg show DIAGRAM LENGTH` for a forecast, or more --nodes'
+    'pg: --journeys reaches further' 'pg: try `pg cooks` with a game, `pg show DIAGRAM LENGTH` for a forecast, or more --nodes'
 
   # A page of a long certificate that is refused shows how far its check is, takes that away, and prints nothing.
   { cat long.pgc; ones 24000000; } >../many.pgc
