@@ -37,7 +37,8 @@ fn standing_status(standing: Standing) -> u8
     }
 }
 
-// The status after a search beside a list: 1 where a game was found.
+// The status after a search beside a list: 1 where a game was found, or where the list shows by itself that the problem is not
+// sound.
 fn answer_status(answer: &CookAnswer) -> u8
     ensures { result ≡ answer_status answer.now }
 {
@@ -46,7 +47,9 @@ fn answer_status(answer: &CookAnswer) -> u8
         CookAnswer::NotFound {
             foreign: _,
             nodes: _,
-        } => 0,
+            end: _,
+            standing,
+        } => standing_status(*standing),
     }
 }
 
