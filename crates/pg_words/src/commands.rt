@@ -44,9 +44,10 @@ Example:
 
 const COOKS_EXAMPLE: &str =
     "The search keeps near the games of the list: first it plays their kinds of moves
-alone, then one other move, then two, and so on. A game that it finds is tested
-and printed, and `not sound` below it. Else the last line says how many other
-moves the games had that were gone through; that is no proof that there is none.
+alone, then one foreign move, then two, and so on. A move is foreign where no man
+of that kind goes from that square to that one in these games; the last two plies
+may be any moves. A game that is found is tested and printed, and `not sound`
+below it. Else it says how far the search went: no proof that there is none.
 
 Example:
   echo '1. e3 e6 2. d3' >games
@@ -227,7 +228,7 @@ const NODES_TOLD: Word = Word {
 const FOREIGN: Word = Word {
     name: "foreign",
     kind: Kind::NumberOrNone("D"),
-    help: "At most so many moves of other kinds; else any number",
+    help: "At most so many foreign moves, the last two plies apart",
 };
 
 // The fifth bound, where a certificate is written.
