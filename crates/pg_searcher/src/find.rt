@@ -1,5 +1,5 @@
 //! The search for a certificate.
-ghost use Rattle.std.specs.Prelude.{◌≡◌, ◌≤◌, false};
+ghost use Rattle.std.specs.Prelude.{◌≡◌, ◌≤◌, false, IfOk};
 ghost use Rattle.pg_searcher.specs.Refusals.{RefusesTruly};
 
 use crate::fault::SearchFault;
@@ -11,7 +11,7 @@ use pg_certificate::{Header, Sink};
 use pg_fen::{Diagram, Length};
 use pg_moves::Unwatched;
 use pg_san::Games;
-use std::alloc::Global;
+use std::alloc::{AllocError, Global};
 
 // The header of the certificate.
 fn header(diagram: &Diagram, plies: u8) -> Header
@@ -59,6 +59,49 @@ fn write<W: Sink, P: SearchProgress>(
     }
 }
 
+// What a search holds at its beginning. Where a diagram is told, nodes are cut by journeys to it.
+fn machine_of(
+    alloc: Global,
+    diagram: &Diagram,
+    max_nodes: u64,
+    journeys: Option<Diagram>,
+) -> Result<Machine, AllocError>
+    ensures { IfOk result (λ m. m.recorder.output.writer.failed ≡ false) }
+{
+    let judge = Judge::new(alloc, diagram)?;
+    Ok(Machine {
+        open: 0,
+        recorder: Recorder::new(alloc, judge, max_nodes, journeys),
+        findings: Findings {
+            games: Games::new(alloc),
+            fertile: false,
+        },
+    })
+}
+
+// The games that a search finds.
+fn run<W: Sink, P: SearchProgress>(
+    diagram: &Diagram,
+    length: Length,
+    machine: Machine,
+    sink: &mut W,
+    watch: &mut P,
+) -> Result<Games, SearchFault>
+    requires { machine.recorder.output.writer.failed ≡ false }
+    ensures { RefusesTruly length (W.has_failed sink.new) result }
+{
+    let mut frames = Frames::new();
+    let mut machine = machine;
+    let plies = length.plies();
+    match write(diagram, plies, &mut frames, &mut machine, sink, watch) {
+        Ok(()) => {}
+        Err(fault) => return Err(fault),
+    }
+    let Machine { findings, .. } = machine;
+    let Findings { games, .. } = findings;
+    Ok(games)
+}
+
 /// Searches for the games of so many plies from the initial array that end on the diagram, and
 /// writes a certificate of version 2 that no others do. The answer is trusted for nothing: a check
 /// of what was written, with the games that were found, says whether it is right.
@@ -102,24 +145,31 @@ pub fn search_watched<W: Sink, P: SearchProgress>(
 ) -> Result<Games, SearchFault>
     ensures { RefusesTruly length (W.has_failed sink.new) result }
 {
-    let Ok(judge) = Judge::new(alloc, diagram) else {
-        return Err(SearchFault::Memory);
-    };
-    let mut frames = Frames::new();
-    let mut machine = Machine {
-        open: 0,
-        recorder: Recorder::new(alloc, judge, max_nodes),
-        findings: Findings {
-            games: Games::new(alloc),
-            fertile: false,
-        },
-    };
-    let plies = length.plies();
-    match write(diagram, plies, &mut frames, &mut machine, sink, watch) {
-        Ok(()) => {}
-        Err(fault) => return Err(fault),
+    match machine_of(alloc, diagram, max_nodes, None) {
+        Ok(machine) => run(diagram, length, machine, sink, watch),
+        Err(_) => Err(SearchFault::Memory),
     }
-    let Machine { findings, .. } = machine;
-    let Findings { games, .. } = findings;
-    Ok(games)
+}
+
+/// As `search_watched`, and cuts by journeys too: a node with at least two plies left that no other bound and no
+/// prices exclude, and that does not refer to a closed node, is cut where `pg_journeys::Journeys` excludes, and
+/// expanded only where it does not. So a check of what was written wants that bound, of code 5, beside the four of
+/// `search`. A problem of many moves takes far fewer nodes, and each that is expanded more time.
+///
+/// # Errors
+/// As for `search`.
+pub fn search_by_journeys<W: Sink, P: SearchProgress>(
+    alloc: Global,
+    diagram: &Diagram,
+    length: Length,
+    max_nodes: u64,
+    sink: &mut W,
+    watch: &mut P,
+) -> Result<Games, SearchFault>
+    ensures { RefusesTruly length (W.has_failed sink.new) result }
+{
+    match machine_of(alloc, diagram, max_nodes, Some(*diagram)) {
+        Ok(machine) => run(diagram, length, machine, sink, watch),
+        Err(_) => Err(SearchFault::Memory),
+    }
 }

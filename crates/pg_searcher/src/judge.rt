@@ -1,4 +1,6 @@
 //! Which cut excludes a node, by what is remembered of the men and rights of either colour.
+ghost use Rattle.std.specs.Prelude.{◌↔◌, IsTrue};
+ghost use Rattle.pg_journeys.specs.Rounds.{JourneysHold};
 
 use crate::known::{Known, MISSING, after_plain};
 use crate::outlook::Outlook;
@@ -6,6 +8,7 @@ use crate::sides::{Change, Changes, Side, Sides, side_of};
 use pg_board::Color;
 use pg_captures::{Captures, Promotions, plies_left};
 use pg_fen::Diagram;
+use pg_journeys::{Journeys, journeys_hold};
 use pg_pawns::PawnFiles;
 use pg_position::Position;
 use pg_prices::{NEVER, Needs, Rows, UNKNOWN};
@@ -26,6 +29,7 @@ pub(crate) enum CutBy {
     Promotions,
     PawnFiles,
     Travel,
+    Journeys,
 }
 
 impl CutBy {
@@ -36,6 +40,7 @@ impl CutBy {
             CutBy::Promotions => Promotions::CODE,
             CutBy::PawnFiles => PawnFiles::CODE,
             CutBy::Travel => Travel::CODE,
+            CutBy::Journeys => Journeys::CODE,
         }
     }
 }
@@ -150,6 +155,15 @@ fn excludes(means: Means, needs: &Needs) -> bool {
         return true;
     }
     needs.travel != UNKNOWN && (i16::from(needs.pawns) > means.owed || needs.travel > means.plies)
+}
+
+// Whether the bound by journeys excludes a node with so many plies left. It stands out of line: where it is not asked, nothing
+// is to make room for what it needs.
+#[inline(never)]
+pub(crate) fn journeys_exclude(diagram: &Diagram, position: &Position, left: u8) -> bool
+    ensures { IsTrue result ↔ JourneysHold diagram.now position.now left }
+{
+    journeys_hold(diagram, position, left)
 }
 
 impl Judge {

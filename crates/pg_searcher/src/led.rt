@@ -15,4 +15,4 @@ mod trials;
 mod walk;
 
 pub use answer::{Game, Led, LedFault, LedLimits, LedProgress};
-pub use rounds::search_led;
+pub use rounds::{search_led, search_led_without_journeys};

@@ -117,25 +117,29 @@ impl Names {
 }
 
 // The certificate so far: the writer of its records, the named nodes, which it may refer to, how many nodes may
-// still be visited, and the node that opened last: handed back by each call between the one that opens it and the one that
+// still be visited; the diagram to which journeys are asked of each node before it opens, or none where they are not;
+// and the node that opened last: handed back by each call between the one that opens it and the one that
 // makes its frame, it would be copied at each, also where none has opened.
 #[derive(Drop)]
 pub(crate) struct Output {
     pub(crate) writer: RecordWriter,
     pub(crate) names: Names,
     pub(crate) nodes: u64,
+    pub(crate) journeys: Option<Diagram>,
     pub(crate) opened: Opened,
 }
 
 impl Output {
-    // Of a certificate of which nothing is written, with so many nodes that may be visited.
-    pub(crate) fn new(alloc: Global, nodes: u64) -> Output
+    // Of a certificate of which nothing is written, with so many nodes that may be visited. Where a diagram is told, nodes
+    // are cut by journeys to it.
+    pub(crate) fn new(alloc: Global, nodes: u64, journeys: Option<Diagram>) -> Output
         ensures { result.writer.failed ≡ false }
     {
         Output {
             writer: RecordWriter::new(),
             names: Names::new(alloc),
             nodes,
+            journeys,
             opened: Opened {
                 position: Position::array(),
                 sides: no_sides(),
@@ -264,13 +268,19 @@ pub(crate) struct Recorder {
 }
 
 impl Recorder {
-    // Of a certificate of which nothing is written, with so many nodes that may be visited.
-    pub(crate) fn new(alloc: Global, judge: Judge, nodes: u64) -> Recorder
+    // Of a certificate of which nothing is written, with so many nodes that may be visited. Where a diagram is told, nodes
+    // are cut by journeys to it.
+    pub(crate) fn new(
+        alloc: Global,
+        judge: Judge,
+        nodes: u64,
+        journeys: Option<Diagram>,
+    ) -> Recorder
         ensures { result.output.writer.failed ≡ false }
     {
         Recorder {
             judge,
-            output: Output::new(alloc, nodes),
+            output: Output::new(alloc, nodes, journeys),
         }
     }
 }

@@ -1,15 +1,17 @@
 //! The record of a node: chosen, and written.
-ghost use Rattle.std.specs.Prelude.{◌≡◌, ℕ, false, OnOk};
+ghost use Rattle.std.specs.Prelude.{◌≡◌, ◌↔◌, ℕ, IsTrue, MatchOption, false, OnOk};
 ghost use Rattle.pg_position.specs.Step.{IsLegal};
+ghost use Rattle.pg_journeys.specs.Rounds.{JourneysHold};
 ghost use Rattle.pg_searcher.specs.Refusals.{RefusesTruly};
 
 use crate::fault::SearchFault;
-use crate::judge::{Cutting, Judge};
+use crate::judge::{CutBy, Cutting, Judge, journeys_exclude};
 use crate::machine::{Opened, Output, Question, Recorder};
 use crate::outlook::{Outlook, PlainMove};
 use crate::sides::{Sides, changes_of, plain_change};
 use pg_board::{Color, Square};
 use pg_certificate::{Record, Sink};
+use pg_fen::Diagram;
 use pg_pawns::PawnFiles;
 use pg_position::{Move, Position};
 use pg_prices::node_key;
@@ -89,6 +91,26 @@ fn refer<W: Sink>(output: &mut Output, sink: &mut W, key: u64) -> Result<bool, S
     }
 }
 
+// The key of a node, and how many plies are left there.
+#[derive(Clone, Copy)]
+struct Keyed {
+    key: u64,
+    left: u8,
+}
+
+// Whether journeys to a diagram, where one is told, exclude a node with so many plies left. Where none is, that is but one
+// branch.
+#[inline(always)]
+fn is_cut(journeys: &Option<Diagram>, position: &Position, left: u8) -> bool
+    ensures { MatchOption journeys.now (result ≡ false)
+        (λ diagram. IsTrue result ↔ JourneysHold diagram position.now left) }
+{
+    match journeys {
+        Some(diagram) => journeys_exclude(diagram, position, left),
+        None => false,
+    }
+}
+
 // A node is open from now on, with a name where there are names: it is the one that opened last.
 fn open<W: Sink>(
     output: &mut Output,
@@ -114,8 +136,32 @@ fn open<W: Sink>(
     }
 }
 
-// A node that no cut excludes, with so many plies left, at least two: a reference where one of the same
-// future has closed barren; otherwise it is open from now on. The answer is whether it is, here and below.
+// A node to which nothing refers, and that no other cut excludes, is cut by journeys where they are asked and exclude it;
+// otherwise it is open from now on. Journeys are asked of the position and not of the key, which has the passed square only
+// where a capture there is legal.
+fn open_or_cut<W: Sink>(
+    output: &mut Output,
+    sink: &mut W,
+    position: &Position,
+    sides: &Sides,
+    node: Keyed,
+) -> Result<bool, SearchFault>
+    requires runs { output.old.writer.failed ≡ false }
+    ensures runs { OnOk result (output.new.writer.failed ≡ false) }
+    ensures says { (plies : ℕ) → RefusesTruly plies (W.has_failed sink.new) result }
+{
+    if !is_cut(&output.journeys, position, node.left) {
+        return open(output, sink, position, sides, node.key);
+    }
+    match output.cut(CutBy::Journeys, sink) {
+        Ok(()) => Ok(false),
+        Err(fault) => Err(fault),
+    }
+}
+
+// A node that no cut by other bounds or by prices excludes, with so many plies left, at least two: a reference where one of
+// the same future has closed barren; otherwise it is open from now on, unless it is cut by journeys. The answer is whether it
+// is open, here and below.
 fn stay<W: Sink>(
     output: &mut Output,
     sink: &mut W,
@@ -131,12 +177,12 @@ fn stay<W: Sink>(
     let key = key_of(sides, position.side(), passed, left);
     match refer(output, sink, key) {
         Ok(true) => Ok(false),
-        Ok(false) => open(output, sink, position, sides, key),
+        Ok(false) => open_or_cut(output, sink, position, sides, Keyed { key, left }),
         Err(fault) => Err(fault),
     }
 }
 
-// The node after a legal move that no cut excludes, as `stay`.
+// The node after a legal move, as `stay`.
 #[inline(never)]
 fn stay_there<W: Sink>(
     output: &mut Output,
@@ -154,7 +200,7 @@ fn stay_there<W: Sink>(
     stay(output, sink, &position.after(m), sides, left)
 }
 
-// The node after a legal move is open from now on, as by `open`.
+// The node after a legal move to which nothing refers, as `open_or_cut`.
 #[inline(never)]
 fn open_there<W: Sink>(
     output: &mut Output,
@@ -162,17 +208,17 @@ fn open_there<W: Sink>(
     position: &Position,
     m: &Move,
     sides: &Sides,
-    key: u64,
+    node: Keyed,
 ) -> Result<bool, SearchFault>
     requires legal { IsLegal position.now m.now }
     requires runs { output.old.writer.failed ≡ false }
     ensures runs { OnOk result (output.new.writer.failed ≡ false) }
     ensures says { (plies : ℕ) → RefusesTruly plies (W.has_failed sink.new) result }
 {
-    open(output, sink, &position.after(m), sides, key)
+    open_or_cut(output, sink, &position.after(m), sides, node)
 }
 
-// The node after a legal move that no cut excludes. Its position is not made where a reference is written.
+// The node after a legal move, as `stay`. Its position is not made where a reference is written.
 fn stay_after<W: Sink>(
     output: &mut Output,
     sink: &mut W,
@@ -192,7 +238,7 @@ fn stay_after<W: Sink>(
     let key = key_of(sides, position.side().other(), None, left);
     match refer(output, sink, key) {
         Ok(true) => Ok(false),
-        Ok(false) => open_there(output, sink, position, m, sides, key),
+        Ok(false) => open_there(output, sink, position, m, sides, Keyed { key, left }),
         Err(fault) => Err(fault),
     }
 }

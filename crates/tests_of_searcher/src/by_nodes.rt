@@ -1,6 +1,7 @@
 //! Searches held against those of the searcher's first form, which goes from node to node (`searcher_by_nodes`): over games by
 //! chance, with limits that suffice and others that do not.
 
+mod journeys;
 mod led;
 mod searches;
 

@@ -3,6 +3,7 @@
 mod bytes;
 mod found_games;
 mod growths;
+mod journeys;
 mod met;
 mod nodes;
 mod refused_writes;
@@ -69,6 +70,17 @@ fn checked(alloc: Global, goal: &Goal, games: &Games, bytes: &[u8]) -> Said {
     if bounds.len() < 4 {
         return words(&"Memory");
     }
+    checked_by(alloc, goal, games, &bounds, bytes)
+}
+
+// The same with bounds that are told.
+fn checked_by(
+    alloc: Global,
+    goal: &Goal,
+    games: &Games,
+    bounds: &[Box<dyn Bound>],
+    bytes: &[u8],
+) -> Said {
     let mut source = FromRead::new(bytes);
     let (diagram, length) = (&goal.diagram, goal.length);
     match check(
@@ -76,7 +88,7 @@ fn checked(alloc: Global, goal: &Goal, games: &Games, bytes: &[u8]) -> Said {
         diagram,
         length,
         games,
-        &bounds,
+        bounds,
         &mut source,
         NODES,
         MOST_NAMED,

@@ -101,13 +101,14 @@ pub(crate) enum Halt {
     Memory,
 }
 
-// What tells whether a node is gone into: what judges nodes, the barren ones, and how many may still be
-// visited.
+// What tells whether a node is gone into: what judges nodes, the barren ones, how many may still be visited, and
+// whether they are cut by journeys too.
 #[derive(Drop)]
 pub(crate) struct Sieve {
     pub(crate) judge: Judge,
     pub(crate) barren: Barren,
     pub(crate) nodes: u64,
+    pub(crate) by_journeys: bool,
 }
 
 impl Sieve {

@@ -2,8 +2,8 @@
 ghost use Rattle.std.specs.Prelude.{◌≡◌};
 ghost use Rattle.pg_position.specs.Step.{IsLegal};
 
-use crate::judge::{Cutting, Judge};
-use crate::led::barren::{ANY, Barren};
+use crate::judge::{Cutting, Judge, journeys_exclude};
+use crate::led::barren::ANY;
 use crate::led::machine::{Halt, Open, Question, Sieve};
 use crate::led::order::Due;
 use crate::led::plain::Scene;
@@ -43,8 +43,16 @@ fn is_cut(verdict: Cutting) -> bool {
     }
 }
 
-// A node that no cut excludes: barren where one of the same future was, with as many foreign moves.
-fn stay(barren: &Barren, position: &Position, sides: &Sides, means: Means) -> Entry {
+// A node that no cut by other bounds or by prices excludes: barren where one of the same future was, with as many foreign
+// moves, or where journeys exclude, if they are asked. They are asked of the position and not of the key, which has the
+// passed square only where a capture there is legal.
+fn stay(
+    question: &Question,
+    sieve: &Sieve,
+    position: &Position,
+    sides: &Sides,
+    means: Means,
+) -> Entry {
     let key = node_key(
         sides.white.key,
         sides.black.key,
@@ -52,9 +60,12 @@ fn stay(barren: &Barren, position: &Position, sides: &Sides, means: Means) -> En
         position.effective_passed(),
         means.left,
     );
-    match barren.get(key) {
+    match sieve.barren.get(key) {
         Some(ANY) => Entry::Barren,
         Some(foreign) if foreign >= means.foreign => Entry::Refused,
+        _ if sieve.by_journeys && journeys_exclude(question.diagram, position, means.left) => {
+            Entry::Barren
+        }
         _ => Entry::Opens(Open::new(position, sides, key, means.foreign)),
     }
 }
@@ -72,7 +83,7 @@ pub(crate) fn enter(
     if is_cut(verdict) {
         Ok(Entry::Barren)
     } else {
-        Ok(stay(&sieve.barren, position, &sides, means))
+        Ok(stay(question, sieve, position, &sides, means))
     }
 }
 

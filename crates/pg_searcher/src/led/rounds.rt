@@ -63,18 +63,32 @@ fn rounds<P: LedProgress>(
     ran
 }
 
-// A machine that may visit so many nodes.
-fn machine_of(alloc: Global, diagram: &Diagram, nodes: u64) -> Result<Machine, AllocError> {
+// A machine that may visit so many nodes, which are cut by journeys too or not.
+fn machine_of(
+    alloc: Global,
+    diagram: &Diagram,
+    nodes: u64,
+    by_journeys: bool,
+) -> Result<Machine, AllocError> {
     let sieve = Sieve {
         judge: Judge::new(alloc, diagram)?,
         barren: Barren::new(alloc),
         nodes,
+        by_journeys,
     };
     Ok(Machine {
         sieve,
         refused: false,
         game: Game::new(),
     })
+}
+
+// How far a led search goes: to games of so many plies at most, within limits, and whether nodes are cut by journeys too.
+#[derive(Clone, Copy)]
+struct Reach {
+    length: Length,
+    limits: LedLimits,
+    by_journeys: bool,
 }
 
 /// Looks for a game to the diagram beside those of a list: one of so many plies that is not in the list, or
@@ -88,7 +102,8 @@ fn machine_of(alloc: Global, diagram: &Diagram, nodes: u64) -> Result<Machine, A
 ///
 /// A node is a position that is visited with at least one ply left. It is cut where the bounds or the prices
 /// of `search` exclude it, and where a node of the same future and as many plies left was barren with as many
-/// foreign moves; nodes that were barren are kept by key of 64 bits in a table of at most 64 MB. What the
+/// foreign moves; nodes that were barren are kept by key of 64 bits in a table of at most 64 MB. Where nothing
+/// else cuts a node with at least two plies left, it is cut where `pg_journeys::Journeys` excludes. What the
 /// search grows by is taken from `alloc`. `watch` is told how far it is.
 ///
 /// The answer is trusted for nothing: a game that is found is to be tested, and that each game with few
@@ -104,10 +119,49 @@ pub fn search_led<P: LedProgress>(
     limits: LedLimits,
     watch: &mut P,
 ) -> Result<Led, LedFault> {
+    let reach = Reach {
+        length,
+        limits,
+        by_journeys: true,
+    };
+    led(alloc, diagram, games, &reach, watch)
+}
+
+/// As `search_led`, the same but for the cut by journeys, which it does not make: it visits more nodes, and each
+/// takes less time. So it can be held against a search that knows nothing of journeys.
+///
+/// # Errors
+/// As for `search_led`.
+pub fn search_led_without_journeys<P: LedProgress>(
+    alloc: Global,
+    diagram: &Diagram,
+    length: Length,
+    games: &Games,
+    limits: LedLimits,
+    watch: &mut P,
+) -> Result<Led, LedFault> {
+    let reach = Reach {
+        length,
+        limits,
+        by_journeys: false,
+    };
+    led(alloc, diagram, games, &reach, watch)
+}
+
+// What a led search comes to.
+fn led<P: LedProgress>(
+    alloc: Global,
+    diagram: &Diagram,
+    games: &Games,
+    reach: &Reach,
+    watch: &mut P,
+) -> Result<Led, LedFault> {
+    let length = reach.length;
+    let limits = reach.limits;
     let Ok(familiar) = Familiar::of(alloc, games) else {
         return Err(LedFault::Memory);
     };
-    let Ok(mut machine) = machine_of(alloc, diagram, limits.max_nodes) else {
+    let Ok(mut machine) = machine_of(alloc, diagram, limits.max_nodes, reach.by_journeys) else {
         return Err(LedFault::Memory);
     };
     let question = Question {

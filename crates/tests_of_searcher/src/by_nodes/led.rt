@@ -1,4 +1,4 @@
-//! Led searches: what they answer and tell.
+//! Led searches: what they answer and tell without the cut by journeys, and that those with it find the same games.
 
 use super::*;
 use pg_fen::{Diagram, Length};
@@ -21,7 +21,7 @@ fn most(foreign: Option<u8>) -> Said {
     }
 }
 
-// What a led search answers, and the digest of all that it told and found.
+// What a led search without the cut by journeys answers, and the digest of all that it told and found.
 fn said_now<R: Abort + AllocGlobal>(rt: &R, asked: &Asked) -> Said {
     let mut heard = Heard::new();
     let limits = pg_searcher::LedLimits {
@@ -30,7 +30,7 @@ fn said_now<R: Abort + AllocGlobal>(rt: &R, asked: &Asked) -> Said {
     };
     let (diagram, length) = (&asked.diagram, asked.length);
     let alloc = rt.alloc();
-    let said = match pg_searcher::search_led(
+    let said = match pg_searcher::search_led_without_journeys(
         alloc,
         diagram,
         length,
@@ -42,7 +42,7 @@ fn said_now<R: Abort + AllocGlobal>(rt: &R, asked: &Asked) -> Said {
             heard.hear_game(game.as_slice());
             words(&"Found")
         }
-        Ok(pg_searcher::Led::NotFound { foreign, nodes }) => words(&format_args!(
+        Ok(pg_searcher::Led::NotFound { foreign, nodes, .. }) => words(&format_args!(
             "{} {nodes}",
             most(foreign).as_str()
         )),
@@ -262,4 +262,59 @@ fn led_searches_of_many_men_are_those_from_node_to_node(rt: HostRuntime) {
         }
     }
     kinds.check(&rt);
+}
+
+// The game that a led search finds, as a digest, or that it went through all games that it was to go through; none where its
+// nodes came to their end before.
+fn ended(answer: Result<pg_searcher::Led, pg_searcher::LedFault>, nodes: u64) -> Option<Said> {
+    match answer {
+        Ok(pg_searcher::Led::Found(game)) => {
+            let mut heard = Heard::new();
+            heard.hear_game(game.as_slice());
+            Some(words(&format_args!("Found {:016x}", heard.state)))
+        }
+        Ok(pg_searcher::Led::NotFound { nodes: visited, .. }) if visited < nodes => {
+            Some(words(&"none"))
+        }
+        Ok(_) => None,
+        Err(fault) => Some(words(&fault)),
+    }
+}
+
+// A search with the cut by journeys comes to what one without it does, where that comes to its end; whether it does.
+fn check_journeys<R: Abort + AllocGlobal>(rt: &R, asked: &Asked) -> bool {
+    let limits = pg_searcher::LedLimits {
+        max_nodes: asked.nodes,
+        foreign: asked.foreign,
+    };
+    let (diagram, length, games) = (&asked.diagram, asked.length, &asked.games);
+    let mut watch = Heard::new();
+    let answer = pg_searcher::search_led_without_journeys(
+        rt.alloc(),
+        diagram,
+        length,
+        games,
+        limits,
+        &mut watch,
+    );
+    let Some(wanted) = ended(answer, asked.nodes) else {
+        return false;
+    };
+    let answer = pg_searcher::search_led(rt.alloc(), diagram, length, games, limits, &mut watch);
+    let said = ended(answer, asked.nodes).expect(rt, wanted.as_str());
+    assert_eq!(rt; said.as_str(), wanted.as_str());
+    true
+}
+
+#[test]
+fn led_searches_by_journeys_come_to_the_same(rt: HostRuntime) {
+    let mut state = 3;
+    let mut count = 0u32;
+    for begun in BEGUN.split('\n') {
+        for plies in 0..9 {
+            let asked = drawn_list(&rt, begun, plies, 2_000, &mut state);
+            count = count.saturating_add(u32::from(check_journeys(&rt, &asked)));
+        }
+    }
+    assert!(rt; count > 29, "{count}");
 }

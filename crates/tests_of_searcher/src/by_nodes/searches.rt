@@ -102,7 +102,12 @@ impl Kinds {
 }
 
 // A problem by chance: where a game ends, at its length or some plies more.
-fn drawn_goal<R: Abort + AllocGlobal>(rt: &R, begun: &str, plies: u64, state: &mut u64) -> Goal {
+pub(super) fn drawn_goal<R: Abort + AllocGlobal>(
+    rt: &R,
+    begun: &str,
+    plies: u64,
+    state: &mut u64,
+) -> Goal {
     let walk = drawn_game(rt, begun, plies, state);
     let plies = walk.game.len().min(60) as u8;
     Goal {

@@ -1,16 +1,22 @@
-//! How many nodes a led search visits until it answers: as many as a walk that goes from node to node.
+//! How many nodes a led search visits until it answers: without the cut by journeys as many as a walk that goes from node to
+//! node, and with it fewer.
 
 use super::*;
 
-// What is answered, and how many nodes were visited where no game is found.
+// What is answered without the cut by journeys, or with it, and how many nodes were visited where no game is found.
 fn visited<R: Abort + AllocGlobal, P: LedProgress>(
     rt: &R,
     asked: &Asked,
     limits: LedLimits,
+    by_journeys: bool,
     watch: &mut P,
 ) -> Said {
-    let (diagram, length) = (&asked.diagram, asked.length);
-    let answer = search_led(rt.alloc(), diagram, length, &asked.games, limits, watch);
+    let (diagram, length, games) = (&asked.diagram, asked.length, &asked.games);
+    let answer = if by_journeys {
+        search_led(rt.alloc(), diagram, length, games, limits, watch)
+    } else {
+        search_led_without_journeys(rt.alloc(), diagram, length, games, limits, watch)
+    };
     let said = told(rt, asked, &answer);
     match answer {
         Ok(Led::NotFound { nodes, .. }) => words(&format_args!("{} {nodes}", said.as_str())),
@@ -19,12 +25,12 @@ fn visited<R: Abort + AllocGlobal, P: LedProgress>(
 }
 
 // A row of games, how many nodes and foreign moves are allowed; what is answered, and the nodes that were visited.
-fn check_visited<R: Abort + AllocGlobal>(rt: &R, row: &str) {
+fn check_visited<R: Abort + AllocGlobal>(rt: &R, row: &str, by_journeys: bool) {
     let (asked, wanted) = halves(rt, row, " => ");
     let limits = limits_of(number(rt, field(asked, 1)), field(asked, 2));
     let games = asked_by(rt, field(asked, 0));
     assert_eq!(rt;
-        visited(rt, &games, limits, &mut Unwatched).as_str(),
+        visited(rt, &games, limits, by_journeys, &mut Unwatched).as_str(),
         wanted,
         "{asked}"
     );
@@ -100,7 +106,20 @@ const VISITED: &str =
 #[test]
 fn as_many_nodes_are_visited_as_by_a_walk_from_node_to_node(rt: HostRuntime) {
     for row in VISITED.lines() {
-        check_visited(&rt, row);
+        check_visited(&rt, row, false);
+    }
+}
+
+// The same with the cut by journeys, which is asked last: no more nodes, and no other game.
+const VISITED_BY_JOURNEYS: &str =
+    "1. Nc3 d6 2. Nd5 Nd7 3. Nxe7 Ndf6 4. Nxg8 Nxg8 | 20000 | 1 => none with 1 547
+1. Nc3 d6 2. Nd5 Nd7 3. Nxe7 Ndf6 4. Nxg8 Nxg8 | 547 | 1 => none with 1 547
+1. Nc3 d6 2. Nd5 Nd7 3. Nxe7 Ndf6 4. Nxg8 Nxg8 | 546 | 1 => none with 0 546";
+
+#[test]
+fn fewer_nodes_are_visited_by_journeys(rt: HostRuntime) {
+    for row in VISITED_BY_JOURNEYS.lines() {
+        check_visited(&rt, row, true);
     }
 }
 
@@ -121,13 +140,8 @@ fn turns_up_to<R: Abort + AllocGlobal>(rt: &R, games: &str, nodes: u64, foreign:
     let asked = asked_by(rt, games);
     let mut turns = Turns { count: 0 };
     for limit in 0..=nodes {
-        let _ = answer(
-            rt,
-            rt.alloc(),
-            &asked,
-            limits_of(limit, foreign),
-            &mut turns,
-        );
+        let limits = limits_of(limit, foreign);
+        let _ = visited(rt, &asked, limits, false, &mut turns);
     }
     turns.count
 }
@@ -163,7 +177,7 @@ fn check_astray<R: Abort + AllocGlobal>(rt: &R, row: &str) {
     };
     let limits = limits_of(number(rt, field(left, 2)), field(left, 3));
     let mut turns = Turns { count: 0 };
-    let said = visited(rt, &asked, limits, &mut turns);
+    let said = visited(rt, &asked, limits, false, &mut turns);
     let said = words(&format_args!("{} {}", said.as_str(), turns.count));
     assert_eq!(rt; said.as_str(), wanted, "{left}");
 }

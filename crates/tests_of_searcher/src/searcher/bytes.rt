@@ -32,7 +32,7 @@ fn check_written<R: Abort + AllocGlobal>(rt: &R, row: &str) {
 // The problems of the numbers of nodes; castling, captures en passant, promotions, no game, and many games of a few
 // moves in any order. At the end a node less than suffices, or far fewer: what was written until then went out in
 // pieces of 4,096 bytes.
-const WRITTEN: &str = "four-knights-gone | 4.0 | 6118 => 1 10015 8cb02ae2b43eff8e
+pub(super) const WRITTEN: &str = "four-knights-gone | 4.0 | 6118 => 1 10015 8cb02ae2b43eff8e
 rnQ1kbnr/pp1ppppp/8/2p5/2P5/2q5/PP1PPPPP/RNB1KBNR | 3.5 | 920 => 1 1500 530adb8aa99a9b91
 rnbqkbnr/p1pppppp/8/8/8/3QP3/PPP2PPP/RNB1K1NR | 3.5 | 8313 => 2 16319 a6c335a3ebedf1ce
 r1bqnNnr/pppkpp1p/7R/3p4/8/8/PPPPPPP1/RNBQKBN1 | 5.5 | 428 => 1 2330 3f61018b1535ee37

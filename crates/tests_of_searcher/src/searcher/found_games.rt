@@ -12,7 +12,7 @@ rnbqkbnr/1pp1pppp/p2P4/8/8/8/PPPP1PPP/RNBQKBNR | 2.5 | 1. e4 a6 2. e5 d5 3. exd6
 rnb1kbnr/ppp1pppp/8/3q4/8/8/PPPP1PPP/RNBQKBNR | 2.0 | 1. e4 d5 2. exd5 Qxd5
 rnb1kbnr/pppp1ppp/8/4p3/6Pq/5P2/PPPPP2P/RNBQKBNR | 2.0 | 1. f3 e5 2. g4 Qh4#/1. g4 e5 2. f3 Qh4#";
 
-fn are_same(a: &Games, b: &Games) -> bool {
+pub(super) fn are_same(a: &Games, b: &Games) -> bool {
     for i in 0..b.len() {
         if a.game(i) != b.game(i) {
             return false;
