@@ -2,11 +2,15 @@
 //! same at each run; the time or the instructions are taken from outside. The cases are those of `measured`.
 //! `bench_checks cooks GAME NODES [FOREIGN]` looks for another game to the diagram on which a game ends, and prints how long it is,
 //! how many foreign moves it has at most, and how many nodes were visited.
+//! `bench_checks chance SEED MOVES COUNT [SLACK]` prints so many problems, a diagram and a length each, on which games of so many
+//! moves end that are drawn by that seed. With SLACK a move is drawn again where it leaves either colour more plies to spare than that.
 //! `bench_checks search DIAGRAM LENGTH NODES` searches for the games of a problem and prints their number and the certificate's
-//! bytes and records, with `check` behind it once the certificate is checked; `bench_checks table` does both for twelve problems.
+//! bytes and records; `journeys` behind it cuts by journeys too, and `check` has the certificate checked first. `bench_checks table`
+//! does both for twelve problems, and for the last one by journeys too.
 #![tactic(auto)]
 
 mod bounds;
+mod chance;
 mod checking;
 mod cooks;
 mod fault;
@@ -15,8 +19,10 @@ mod records;
 mod searching;
 mod transposed;
 
+use crate::chance::Wanted;
 use crate::fault::Fault;
 use crate::needs::Part;
+use crate::searching::Asked;
 use std::alloc::Global;
 use std::env;
 
@@ -42,7 +48,7 @@ fn measured(alloc: Global, case: &str, number: u32) -> anyhow::Result<u64> {
     })
 }
 
-// The gate's run: cases with a few rounds each, and the table.
+// The gate's run: cases with a few rounds each, the table, and two problems by chance.
 const SMALL: [(&str, u32); 7] = [
     ("travel", 2),
     ("travel-prices", 2),
@@ -58,7 +64,11 @@ fn print_small(rt: &HostRuntime) -> anyhow::Result<()> {
         let counted = measured(rt.alloc(), case, number)?;
         println!(rt; "{case} {number}: {counted}")?;
     }
-    searching::print_table(rt)
+    searching::print_table(rt)?;
+    for slack in [None, Some(1)] {
+        chance::print_problems(rt, 1, Wanted { plies: 16, slack }, 1)?;
+    }
+    Ok(())
 }
 
 fn print_search(rt: &HostRuntime, words: &[String]) -> anyhow::Result<()> {
@@ -69,13 +79,12 @@ fn print_search(rt: &HostRuntime, words: &[String]) -> anyhow::Result<()> {
     let Ok(nodes) = nodes.as_str().parse::<u64>() else {
         return Err(Fault::Usage)?;
     };
-    searching::print_one(
-        rt,
-        diagram.as_str(),
-        length.as_str(),
+    let asked = Asked {
         nodes,
-        words.len() > 5,
-    )
+        by_journeys: words.iter().any(|word| word.as_str() == "journeys"),
+        is_checked: words.iter().any(|word| word.as_str() == "check"),
+    };
+    searching::print_one(rt, diagram.as_str(), length.as_str(), asked)
 }
 
 fn print_cooks(rt: &HostRuntime, words: &[String]) -> anyhow::Result<()> {
@@ -87,6 +96,21 @@ fn print_cooks(rt: &HostRuntime, words: &[String]) -> anyhow::Result<()> {
     };
     let foreign = words.get(4).and_then(|word| word.as_str().parse().ok());
     cooks::print_one(rt, game.as_str(), nodes, foreign)
+}
+
+fn print_chance(rt: &HostRuntime, words: &[String]) -> anyhow::Result<()> {
+    let seed = words.get(2).and_then(|word| word.as_str().parse().ok());
+    let moves = words.get(3).and_then(|word| word.as_str().parse().ok());
+    let count = words.get(4).and_then(|word| word.as_str().parse().ok());
+    let (Some(seed), Some(moves), Some(count)) = (seed, moves, count) else {
+        return Err(Fault::Usage)?;
+    };
+    let moves: u8 = moves;
+    let wanted = Wanted {
+        plies: moves.saturating_mul(2),
+        slack: words.get(5).and_then(|word| word.as_str().parse().ok()),
+    };
+    chance::print_problems(rt, seed, wanted, count)
 }
 
 fn main(rt: HostRuntime) -> anyhow::Result<()> {
@@ -101,6 +125,7 @@ fn main(rt: HostRuntime) -> anyhow::Result<()> {
         "table" => return searching::print_table(&rt),
         "search" => return print_search(&rt, words.as_slice()),
         "cooks" => return print_cooks(&rt, words.as_slice()),
+        "chance" => return print_chance(&rt, words.as_slice()),
         _ => (),
     }
     let number = words.get(2).and_then(|word| word.as_str().parse().ok());

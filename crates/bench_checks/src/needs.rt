@@ -1,17 +1,11 @@
 //! Least assignments, and what both colours need.
 
+use crate::chance::{moved, next};
 use pg_board::Color;
 use pg_fen::Diagram;
-use pg_moves::legal_moves;
 use pg_position::Position;
 use pg_prices::{Costs, MOST_MEN, Rows, assign, first_needs, pawn_lists, travel_lists};
 use std::alloc::{AllocError, Global};
-
-fn next(state: u64) -> u64 {
-    let state = state ^ (state << 13);
-    let state = state ^ (state >> 7);
-    state ^ (state << 17)
-}
 
 // Fills the costs: 2 of 5 are none, the others 0 to 5, and most men stand where one is to stand.
 fn fill(costs: &mut Costs, state: u64) -> u64 {
@@ -49,22 +43,6 @@ pub(crate) fn assignments(count: u64, is_assigned: bool) -> u64 {
     sum
 }
 
-// The position after a random move.
-fn moved(alloc: Global, position: &Position, state: u64) -> Result<Position, AllocError> {
-    let moves = legal_moves(alloc, position)?;
-    if moves.is_empty() {
-        return Ok(*position);
-    }
-    let pick = (state >> 20) % moves.len() as u64;
-    let Some(m) = moves.get(pick as usize) else {
-        return Ok(*position);
-    };
-    match position.play(*m) {
-        Ok(after) => Ok(after),
-        Err(_) => Ok(*position),
-    }
-}
-
 // How much of the needs is found.
 #[derive(Clone, Copy, PartialEq, Eq)]
 pub(crate) enum Part {
@@ -95,7 +73,7 @@ pub(crate) fn needs(alloc: Global, count: u64, part: Part) -> Result<u64, AllocE
     let mut goal = Position::array();
     for _ in 0..24u8 {
         state = next(state);
-        goal = moved(alloc, &goal, state)?;
+        goal = moved(alloc, &goal, state)?.unwrap_or(goal);
     }
     let diagram = Diagram::of(&goal);
     let white = Rows::new(alloc, Color::White, &diagram)?;
@@ -107,7 +85,7 @@ pub(crate) fn needs(alloc: Global, count: u64, part: Part) -> Result<u64, AllocE
         position = if round % 16 == 0 {
             Position::array()
         } else {
-            moved(alloc, &position, state)?
+            moved(alloc, &position, state)?.unwrap_or(position)
         };
         sum = sum.saturating_add(sum_of(&white, &diagram, &position, part));
         sum = sum.saturating_add(sum_of(&black, &diagram, &position, part));

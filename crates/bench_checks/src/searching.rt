@@ -6,14 +6,16 @@ use pg_certificate::format::MOST_NAMED;
 use pg_certificate::{FromRead, Record, RecordReader, ToWrite};
 use pg_checker::check;
 use pg_fen::{Diagram, Length};
+use pg_journeys::Journeys;
+use pg_moves::Unwatched;
 use pg_pawns::PawnFiles;
 use pg_san::Games;
-use pg_searcher::search;
+use pg_searcher::{search, search_by_journeys};
 use pg_travel::Travel;
 use std::alloc::{AllocError, Global};
 
-// Problems of four to twelve moves: diagram and length.
-const TABLE: [(&str, &str); 12] = [
+// Problems of four to nine moves: diagram and length.
+const TABLE: [(&str, &str); 11] = [
     ("r1bqkbnr/ppp2ppp/3p4/8/8/8/PPPPPPPP/R1BQKBNR", "4.0"),
     ("rnbqkb1r/ppp2ppp/8/8/8/8/PPPPPPPP/RNBQKB1R", "4.0"),
     ("rnQ1kbnr/pp1ppppp/8/2p5/2P5/2q5/PP1PPPPP/RNB1KBNR", "3.5"),
@@ -25,14 +27,20 @@ const TABLE: [(&str, &str); 12] = [
     ("rnbq1bnr/ppppp1p1/8/8/2k4p/2NPP3/PPP2PPP/RNBQ1RK1", "6.5"),
     ("4kbnr/3pppp1/8/1bR4p/8/r7/P1PPPPPP/RNBQKBNR", "7.0"),
     ("2bqr1k1/2pNppbp/1p5p/7n/1r1P4/8/P1P1PPPP/RNB1KBNR", "9.0"),
-    (
-        "4r1k1/2p1ppbp/1p5p/2N2b1n/2rP4/q3P3/P1P1BPPP/RNB1K1NR",
-        "12.0",
-    ),
 ];
 
-// How many nodes are visited at most for a problem of the table.
-const MOST: u64 = 100_000;
+// One of twelve moves.
+const LONG: (&str, &str) = (
+    "4r1k1/2p1ppbp/1p5p/2N2b1n/2rP4/q3P3/P1P1BPPP/RNB1K1NR",
+    "12.0",
+);
+
+// What is asked for these: 100,000 nodes at most, and a check.
+const CHECKED: Asked = Asked {
+    nodes: 100_000,
+    by_journeys: false,
+    is_checked: true,
+};
 
 // How many records of each sort.
 #[derive(Debug, Clone, Copy, Drop)]
@@ -80,9 +88,32 @@ struct Found {
     bytes: Vec<u8>,
 }
 
-fn run(alloc: Global, diagram: &Diagram, length: Length, nodes: u64) -> anyhow::Result<Found> {
+// What a search is asked for beside the problem.
+#[derive(Clone, Copy)]
+pub(crate) struct Asked {
+    // How many nodes it may visit.
+    pub(crate) nodes: u64,
+    // Whether it cuts by journeys too.
+    pub(crate) by_journeys: bool,
+    // Whether its certificate is checked.
+    pub(crate) is_checked: bool,
+}
+
+fn run(alloc: Global, diagram: &Diagram, length: Length, asked: Asked) -> anyhow::Result<Found> {
     let mut sink = ToWrite::new(Vec::new(alloc));
-    let games = match search(alloc, diagram, length, nodes, &mut sink) {
+    let found = if asked.by_journeys {
+        search_by_journeys(
+            alloc,
+            diagram,
+            length,
+            asked.nodes,
+            &mut sink,
+            &mut Unwatched,
+        )
+    } else {
+        search(alloc, diagram, length, asked.nodes, &mut sink)
+    };
+    let games = match found {
         Ok(games) => games,
         Err(fault) => Err(Fault::Search(fault))?,
     };
@@ -115,6 +146,7 @@ fn holds(
     bounds.push(Box::new(alloc, Promotions)?)?;
     bounds.push(Box::new(alloc, PawnFiles)?)?;
     bounds.push(Box::new(alloc, Travel)?)?;
+    bounds.push(Box::new(alloc, Journeys)?)?;
     let mut source = FromRead::new(found.bytes.as_slice());
     let answer = check(
         alloc,
@@ -144,30 +176,30 @@ fn print(rt: &HostRuntime, found: &Found) -> anyhow::Result<()> {
     Ok(())
 }
 
-// Settles each problem of the table, checks its certificate and prints the numbers.
+// Settles each problem of the table and the long one, this by journeys too, checks the certificates and prints the numbers.
 pub(crate) fn print_table(rt: &HostRuntime) -> anyhow::Result<()> {
     for (diagram, length) in TABLE {
-        let (diagram, length) = read(diagram, length)?;
-        let found = run(rt.alloc(), &diagram, length, MOST)?;
-        if !holds(rt.alloc(), &diagram, length, &found, MOST)? {
-            return Err(Fault::Refused)?;
-        }
-        print(rt, &found)?;
+        print_one(rt, diagram, length, CHECKED)?;
     }
-    Ok(())
+    let (diagram, length) = LONG;
+    print_one(rt, diagram, length, CHECKED)?;
+    let by_journeys = Asked {
+        by_journeys: true,
+        ..CHECKED
+    };
+    print_one(rt, diagram, length, by_journeys)
 }
 
-// Searches so many nodes for one problem, checks the certificate where that is asked for, and prints the numbers.
+// Searches for one problem as it is asked, and prints the numbers.
 pub(crate) fn print_one(
     rt: &HostRuntime,
     diagram: &str,
     length: &str,
-    nodes: u64,
-    is_checked: bool,
+    asked: Asked,
 ) -> anyhow::Result<()> {
     let (diagram, length) = read(diagram, length)?;
-    let found = run(rt.alloc(), &diagram, length, nodes)?;
-    if is_checked && !holds(rt.alloc(), &diagram, length, &found, nodes)? {
+    let found = run(rt.alloc(), &diagram, length, asked)?;
+    if asked.is_checked && !holds(rt.alloc(), &diagram, length, &found, asked.nodes)? {
         return Err(Fault::Refused)?;
     }
     print(rt, &found)
