@@ -19,6 +19,8 @@ mod Budgets
 mod NextRounds
 mod DeadColors
 mod LastRounds
+mod LeastNeeds
+mod FirstDead
 mod FrontLemmas
 mod LevelLemmas
 mod StepLemmas

@@ -20,10 +20,10 @@ use Rattle.pg_journeys.specs.inner.Showing.{is_quiet, IsBudget, AreBudgets, Take
 use Rattle.pg_journeys.specs.declared.plans.Side.{Side}
 
 -- what paths count is what they cost by the measure
-all_counted : (f : Facts) (c : Color) (paths : ℕ → List Leg) → total (λ s. weigh (counts f c false) (paths s)) 64 ≡ total (λ s. length (paths s)) 64
+pub all_counted : (f : Facts) (c : Color) (paths : ℕ → List Leg) → total (λ s. weigh (counts f c false) (paths s)) 64 ≡ total (λ s. length (paths s)) 64
 all_counted f c paths = total_same (λ s. length (paths s)) (λ s. weigh (counts f c false) (paths s)) 64 (λ s low. weigh_length (paths s))
 
-few_counted : (f : Facts) (c : Color) (paths : ℕ → List Leg) → total (λ s. weigh (counts f c true) (paths s)) 64 ≡ total (λ s. quiet f c (paths s)) 64
+pub few_counted : (f : Facts) (c : Color) (paths : ℕ → List Leg) → total (λ s. weigh (counts f c true) (paths s)) 64 ≡ total (λ s. quiet f c (paths s)) 64
 few_counted f c paths = total_same (λ s. quiet f c (paths s)) (λ s. weigh (counts f c true) (paths s)) 64 (λ s low. weigh_quiet f c (paths s))
 
 module _ (d : Placement) (x : Side) (k : ℕ) (way : Option Wing) where

@@ -11,3 +11,4 @@ pub mod Costing
 pub mod Narrowed
 pub mod Showing
 pub mod Walking
+pub mod Needing

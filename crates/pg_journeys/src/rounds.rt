@@ -128,7 +128,12 @@ fn facts_by_plans(diagram: &Diagram, position: &Position, left: u8, facts: &Fact
 }
 
 // The facts that follow; none where a colour has no way alive. What both may spend is asked before any table is made.
-fn next_facts(diagram: &Diagram, position: &Position, left: u8, facts: &Facts) -> Option<Facts>
+pub(crate) fn next_facts(
+    diagram: &Diagram,
+    position: &Position,
+    left: u8,
+    facts: &Facts,
+) -> Option<Facts>
     requires few { HasFew position.now }
     requires enough { ¬ HasFewer diagram.now position.now }
     ensures { MatchOption result ((c : AnyColor) × IsDead (known facts.now) diagram.now position.now left c)
@@ -181,7 +186,7 @@ fn last_facts(diagram: &Diagram, position: &Position, left: u8) -> Option<Facts>
 }
 
 // Whether each wall of the diagram has its pawn.
-fn has_walls(diagram: &Diagram, position: &Position) -> bool
+pub(crate) fn has_walls(diagram: &Diagram, position: &Position) -> bool
     ensures { IsTrue result ↔ HasWalls diagram.now position.now }
 {
     let goal = diagram.board();
@@ -189,7 +194,7 @@ fn has_walls(diagram: &Diagram, position: &Position) -> bool
 }
 
 // Whether the position has fewer men of a colour than the diagram.
-fn has_fewer(diagram: &Diagram, position: &Position) -> bool
+pub(crate) fn has_fewer(diagram: &Diagram, position: &Position) -> bool
     ensures { IsTrue result ↔ HasFewer diagram.now position.now }
 {
     let goal = diagram.board();
@@ -199,7 +204,7 @@ fn has_fewer(diagram: &Diagram, position: &Position) -> bool
 }
 
 // Whether the position has at most sixteen men of each colour.
-fn has_few(position: &Position) -> bool
+pub(crate) fn has_few(position: &Position) -> bool
     ensures { IsTrue result ↔ HasFew position.now }
 {
     let board = position.board();

@@ -191,7 +191,7 @@ fn ways_shown(side: &Side, moves: &Measured, quiet: &Measured) -> Option<Shown>
 }
 
 // The men of a colour here and in the diagram, and the ground of their steps.
-fn side_of(
+pub(crate) fn side_of(
     diagram: &Diagram,
     position: &Position,
     facts: &Facts,

@@ -1,0 +1,7 @@
+use Rattle.std.proofs.Common.{◌≤◌}
+use Rattle.pg_journeys.specs.Known.{known}
+use Rattle.pg_journeys.specs.inner.Walking.{IsRound}
+use Rattle.pg_journeys.proofs.needs.dead_in_rounds.Given as goal
+
+abbrev pub invariant-loop : goal.invariant-loop
+invariant-loop l = (l.counter ≤ 3) × IsRound l.fn.diagram l.fn.position l.fn.left l.counter (known l.facts)
