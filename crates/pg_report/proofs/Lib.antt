@@ -2,3 +2,4 @@ pub mod RunLemmas
 pub mod ShortestLemmas
 pub mod ShowLemmas
 pub mod SideLemmas
+pub mod WithinLemmas

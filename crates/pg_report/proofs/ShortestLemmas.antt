@@ -7,7 +7,7 @@ use Rattle.pg_position.specs.Game.{Barren}
 use Rattle.pg_checker.specs.Answer.{IsSolution}
 use Rattle.pg_report.specs.Shortest.{IsExcluded, IsLeastLength, NoneBelow}
 
-no_solution : (d : Placement) (n : ℕ) (ms : List Move) → Barren d array_state n → ¬ IsSolution d n ms
+pub no_solution : (d : Placement) (n : ℕ) (ms : List Move) → Barren d array_state n → ¬ IsSolution d n ms
 unfolding Barren
 no_solution d n ms barren solution = barren ms solution.1.0 solution.0 solution.1.1 solution.1.2
 

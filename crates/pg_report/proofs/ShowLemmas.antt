@@ -18,7 +18,9 @@ use Rattle.pg_report.specs.declared.fault.ShowFault.TheVariants.{Memory, Write}
 use Rattle.pg_report.specs.declared.sides.Reason.{Reason}
 use Rattle.pg_report.specs.Sides.{own_plies, IsSideNeed}
 use Rattle.pg_report.specs.Expecting.{IsExpected, digit_text, rounded, unit_text, nodes_text, expected_text}
-use Rattle.pg_report.specs.Showing.{counted_text, name_of, men_text, captured_text, reason_text, spare_text, need_text, open_line, IsSideLine, IsShown, IsShowFault, IsShowWithinFault}
+use Rattle.pg_report.specs.Within.{AreKnown, name_of}
+use Rattle.pg_journeys.specs.declared.facts.Facts.{Facts as FactSets}
+use Rattle.pg_report.specs.Showing.{counted_text, men_text, captured_text, reason_text, spare_text, need_text, open_line, below_text, IsSideLine, IsShown, IsShowFault, IsShowWithinFault}
 
 pub men_grow : (d : Placement) (c : Color) (n : ℕ) (name : List ℕ) (x y z : Option (List ℕ)) → name ≡ name_of c → n ≡ men c any_man d → Appends x y name → Appends y z (counted_text n (codes " man, captured ") (codes " men, captured ")) → Appends x z (men_text d c)
 men_grow d c n name x y z named counted first second = Appends-trans x y z (name_of c) _ (subst (Appends x y) named first) (subst (λ k. Appends y z (counted_text k (codes " man, captured ") (codes " men, captured "))) counted second)
@@ -53,12 +55,12 @@ side_grows d c need reason asked w x y z is first second third = (
   Appends-trans w x z (men_text d c) _ first (Appends-trans x y z (captured_text d c) (need_text c need reason asked) second third),
 )
 
-pub shown : (d : Placement) (asked least expected : Option ℕ) (v w x y z : Option (List ℕ)) → IsExpected asked expected → Appends v w (board_text d) → AddsSome (IsSideLine d White asked) w x
-    → AddsSome (IsSideLine d Black asked) x y → Appends y z (open_line least ++ expected_text expected) → AddsSome (IsShown d asked least) v z
-shown d asked least expected v w x y z is board (white, is_white, second) (black, is_black, third) last = (
-  board_text d ++ (white ++ (black ++ (open_line least ++ expected_text expected))),
-  (white, black, expected, is_white, is_black, is, refl),
-  Appends-trans v w z (board_text d) _ board (Appends-trans w x z white _ second (Appends-trans x y z black (open_line least ++ expected_text expected) third last)),
+pub shown : (d : Placement) (asked least : Option ℕ) (facts : Option FactSets) (expected : Option ℕ) (v w x y z : Option (List ℕ)) → AreKnown d asked facts → IsExpected asked facts least expected → Appends v w (board_text d)
+    → AddsSome (IsSideLine d White asked) w x → AddsSome (IsSideLine d Black asked) x y → Appends y z (below_text asked facts least expected) → AddsSome (IsShown d asked least) v z
+shown d asked least facts expected v w x y z known is board (white, is_white, second) (black, is_black, third) last = (
+  board_text d ++ (white ++ (black ++ below_text asked facts least expected)),
+  (white, black, facts, expected, is_white, is_black, known, is, refl),
+  Appends-trans v w z (board_text d) _ board (Appends-trans w x z white _ second (Appends-trans x y z black (below_text asked facts least expected) third last)),
 )
 
 -- the line of a colour that is this one

@@ -1,12 +1,19 @@
 -- What is said of the nodes that a search may visit: a power of ten, rounded to a digit and zeros.
-use Rattle.std.specs.Prelude.{◌≡◌, ℕ, ◌+◌, ◌-◌, ◌*◌, ◌/◌, ◌%◌, nat_le, cond, List, ◌++◌, Option, Some, None, codes}
+use Rattle.std.specs.Prelude.{◌≡◌, ℕ, ◌+◌, ◌-◌, ◌*◌, ◌/◌, ◌%◌, ◌≤◌, nat_le, cond, List, ◌++◌, Option, Some, None, IsSome, codes}
+use Rattle.pg_journeys.specs.declared.facts.Facts.{Facts as FactSets}
 
--- a rule of thumb, in hundredths of the logarithm to the base 10, of the length that is
--- asked and of some slack of either side, of which nothing is said; it may be missing
-abbrev pub IsExpected : Option ℕ → Option ℕ → Type 0
-IsExpected asked None = Unit {0}
-IsExpected None (Some h) = ⊥
-IsExpected (Some n) (Some h) = (white : ℕ) × (black : ℕ) × (h ≡ 65 * (white + black) + 26 * n - 60)
+-- nothing is known against games of n plies: there are facts about them, and the least length is no longer
+abbrev pub IsOpen : ℕ → Option FactSets → Option ℕ → Type 0
+IsOpen n facts None = ⊥
+IsOpen n facts (Some least) = IsSome facts × (least ≤ n)
+
+-- a rule of thumb, in hundredths of the logarithm to the base 10, of the length that is asked and of some slack of
+-- either side, of which nothing is said; it may be missing, and is where something is known against games of that length
+abbrev pub IsExpected : Option ℕ → Option FactSets → Option ℕ → Option ℕ → Type 0
+IsExpected asked facts least None = Unit {0}
+IsExpected None facts least (Some h) = ⊥
+IsExpected (Some n) facts least (Some h) =
+    IsOpen n facts least × ((white : ℕ) × (black : ℕ) × (h ≡ 65 * (white + black) + 26 * n - 60))
 
 -- so many hundredths of an exponent; those of the next power of ten where
 -- that is nearer than nine times the last one, since 9.5 is 10^0.9777

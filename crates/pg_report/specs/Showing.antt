@@ -17,14 +17,12 @@ use Rattle.pg_report.specs.declared.sides.Reason.{Reason}
 use Rattle.pg_report.specs.declared.sides.Reason.TheVariants.{Captures, Promotions, PawnFiles, Travel, Pairs}
 use Rattle.pg_report.specs.Sides.{own_plies, IsSideNeed}
 use Rattle.pg_report.specs.Expecting.{IsExpected, expected_text}
+use Rattle.pg_report.specs.Within.{AreKnown, name_of, known_text}
+use Rattle.pg_journeys.specs.declared.facts.Facts.{Facts as FactSets}
 
 -- a number, and what is said of one or of another number
 abbrev pub counted_text : ℕ → List ℕ → List ℕ → List ℕ
 counted_text n one many = decimal n ++ cond (eqb n 1) one many
-
-abbrev pub name_of : Color → List ℕ
-name_of White = codes "white "
-name_of Black = codes "black "
 
 -- how many men a colour has
 abbrev pub men_text : Placement → Color → List ℕ
@@ -72,12 +70,18 @@ abbrev pub open_line : Option ℕ → List ℕ
 open_line None = codes "no game of 64.0 moves or less\n"
 open_line (Some n) = codes "no game is shorter than " ++ (length_text n ++ codes "\n")
 
--- the board, a line for white and one for black, the least length, and with a length what may be expected of a search
+-- what stands below the lines of the colours: with a length what is known
+-- of its games, the least length, and what may be expected of a search
+abbrev pub below_text : Option ℕ → Option FactSets → Option ℕ → Option ℕ → List ℕ
+below_text asked facts least expected = known_text asked facts ++ (open_line least ++ expected_text expected)
+
+-- the board, a line for white and one for black, and what stands below them
 abbrev pub IsShown : Placement → Option ℕ → Option ℕ → List ℕ → Type 0
 IsShown d asked least text =
-    (white : List ℕ) × (black : List ℕ) × (expected : Option ℕ) × IsSideLine d White asked white
-    × IsSideLine d Black asked black × IsExpected asked expected
-    × (text ≡ board_text d ++ (white ++ (black ++ (open_line least ++ expected_text expected))))
+    (white : List ℕ) × (black : List ℕ) × (facts : Option FactSets) × (expected : Option ℕ)
+    × IsSideLine d White asked white × IsSideLine d Black asked black × AreKnown d asked facts
+    × IsExpected asked facts least expected
+    × (text ≡ board_text d ++ (white ++ (black ++ below_text asked facts least expected)))
 
 -- the texts spell a diagram and a length
 abbrev pub IsAsked : List ℕ → List ℕ → Type 0

@@ -1,26 +1,40 @@
 //! How many nodes a search may visit, by a rule of thumb.
-ghost use Rattle.std.specs.Prelude.{◌≡◌, ◌/◌, ◌%◌, ℕ, IfOk};
+ghost use Rattle.std.specs.Prelude.{◌≡◌, ◌/◌, ◌%◌, ℕ, IsTrue, IfOk};
 ghost use Rattle.pg_certificate.specs.Pushing.{Adds, Pushes};
-ghost use Rattle.pg_report.specs.Expecting.{IsExpected, digit_text, expected_text, nodes_text, rounded, unit_text};
+ghost use Rattle.pg_report.specs.Expecting.{IsExpected, IsOpen, digit_text, expected_text, nodes_text, rounded, unit_text};
 
+use crate::within::Known;
 use pg_certificate::{Refused, Sink};
 use pg_fen::{Diagram, Length};
 use pg_searcher::{forecast, slacks};
 use std::alloc::{AllocError, Global};
 
+// Whether nothing is known against games of a length.
+fn is_open(length: &Length, known: &Known) -> bool
+    ensures { IsTrue result → IsOpen length.now known.now.facts known.now.least }
+{
+    match known.least {
+        None => false,
+        Some(least) => known.facts.is_some() && least.plies() <= length.plies(),
+    }
+}
+
 // The hundredths of the logarithm to the base 10 of the nodes that a search for games of a length may visit; none where
-// no length is asked, or where a colour has too few plies for its men.
+// no length is asked, where something is known against such games, or where a colour has too few plies for its men.
 pub(crate) fn expected_of(
     alloc: Global,
     diagram: &Diagram,
-    asked: &Option<Length>,
+    known: &Known,
 ) -> Result<Option<u32>, AllocError>
-    ensures { IfOk result (λ o. IsExpected asked.now o) }
+    ensures { IfOk result (λ o. IsExpected known.now.asked known.now.facts known.now.least o) }
 {
-    let Some(length) = asked else {
+    let Some(length) = known.asked else {
         return Ok(None);
     };
-    let leeway = match slacks(alloc, diagram, *length) {
+    if !is_open(&length, known) {
+        return Ok(None);
+    }
+    let leeway = match slacks(alloc, diagram, length) {
         Ok(leeway) => leeway,
         Err(fault) => return Err(fault),
     };

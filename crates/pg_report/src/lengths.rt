@@ -89,7 +89,7 @@ fn any_excludes(bounds: &[Box<dyn Bound>], diagram: &Diagram, plies: u8) -> bool
     false
 }
 
-// Whether a bound excludes the games of so many plies, or prices do.
+// Whether prices exclude the games of so many plies, or a bound does. Bounds are asked last, since one may be dear.
 fn is_excluded(
     bounds: &[Box<dyn Bound>],
     diagram: &Diagram,
@@ -102,9 +102,9 @@ fn is_excluded(
     ensures no { result ≡ false → list_any (λ b. excluded b diagram.now array_state plies) bounds.now ≡ false }
     ensures barren { IsTrue result → Barren diagram.now array_state plies }
 {
-    any_excludes(bounds, diagram, plies)
-        || offers_exclude(diagram, plies, white)
+    offers_exclude(diagram, plies, white)
         || offers_exclude(diagram, plies, black)
+        || any_excludes(bounds, diagram, plies)
 }
 
 // The least number of plies that is not excluded.

@@ -9,6 +9,7 @@ mod run;
 mod showing;
 mod sides;
 mod statuses;
+mod within;
 
 pub use fault::ShowFault;
 pub use lengths::shortest;

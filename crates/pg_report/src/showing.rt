@@ -11,14 +11,16 @@ ghost use Rattle.pg_fen.specs.DiagramText.{diagram_of};
 ghost use Rattle.pg_fen.specs.Lengths.{length_of};
 ghost use Rattle.pg_report.specs.Shortest.{IsLeastLength, NoneBelow};
 ghost use Rattle.pg_report.specs.Sides.{own_plies};
-ghost use Rattle.pg_report.specs.Showing.{counted_text, name_of, men_text, captured_text, reason_text, behind_text, spare_text, need_text, open_line};
+ghost use Rattle.pg_report.specs.Showing.{counted_text, men_text, captured_text, reason_text, behind_text, spare_text, need_text, open_line, below_text};
 ghost use Rattle.pg_report.specs.Showing.{IsSideLine, IsShown, IsShowFault, IsShowWithinFault};
 ghost use Rattle.pg_report.specs.Expecting.{IsExpected, expected_text};
+ghost use Rattle.pg_report.specs.Within.{AreKnown, known_text};
 
 use crate::expecting::{expected_of, write_expected};
 use crate::fault::ShowFault;
 use crate::lengths::{Offers, first_open, offers_of};
 use crate::sides::{Need, Reason, need_of};
+use crate::within::{Known, facts_within, name_of, write_known};
 use pg_board::Color;
 use pg_captures::{Bound, all_men, plies_left, victims_of};
 use pg_certificate::{Refused, Sink};
@@ -34,16 +36,6 @@ fn write_counted<W: Sink>(n: usize, one: &str, many: &str, out: &mut W) -> Resul
     out.push(digits(n).as_bytes())?;
     let rest = if n == 1 { one } else { many };
     out.push(rest.as_bytes())
-}
-
-// The name of a colour, and a space.
-fn name_of(color: Color) -> &'static str
-    ensures { result.now ≡ name_of color }
-{
-    match color {
-        Color::White => "white ",
-        Color::Black => "black ",
-    }
 }
 
 // Appends how many men a colour has.
@@ -185,24 +177,25 @@ fn write_open<W: Sink>(least: Option<Length>, out: &mut W) -> Result<(), Refused
     }
 }
 
-// What is asked, and what is written of it below the lines of the colours.
+// What is known, and what may be expected of a search.
 #[derive(Clone, Copy)]
 struct Below {
-    asked: Option<Length>,
-    least: Option<Length>,
+    known: Known,
     expected: Option<u32>,
 }
 
-// Appends the line of the least length, and that of what may be expected of a search.
+// Appends what is written below the lines of the colours: what is known of the games of the length that is asked, the
+// line of the least length, and that of what may be expected of a search.
 fn write_below<W: Sink>(below: &Below, out: &mut W) -> Result<(), Refused>
-    ensures { Pushes W.held W.has_failed
-        (Adds (open_line below.now.least ++ expected_text below.now.expected)) out.old out.new result }
+    ensures { Pushes W.held W.has_failed (Adds (below_text below.now.known.asked below.now.known.facts
+        below.now.known.least below.now.expected)) out.old out.new result }
 {
-    write_open(below.least, out)?;
+    write_known(&below.known.asked, &below.known.facts, out)?;
+    write_open(below.known.least, out)?;
     write_expected(below.expected, out)
 }
 
-// Appends the board, the lines of the colours, that of the least length, and that of what may be expected of a search.
+// Appends the board, the lines of the colours, and what stands below them.
 fn write_shown<W: Sink>(
     diagram: &Diagram,
     white: &Offers,
@@ -212,16 +205,18 @@ fn write_shown<W: Sink>(
 ) -> Result<(), Refused>
     requires white { white.now.color ≡ White }
     requires black { black.now.color ≡ Black }
-    requires expected { IsExpected below.now.asked below.now.expected }
+    requires known { AreKnown diagram.now below.now.known.asked below.now.known.facts }
+    requires expected { IsExpected below.now.known.asked below.now.known.facts below.now.known.least
+        below.now.expected }
     ensures { Pushes W.held W.has_failed
-        (AddsSome (IsShown diagram.now below.now.asked below.now.least)) out.old out.new result }
+        (AddsSome (IsShown diagram.now below.now.known.asked below.now.known.least)) out.old out.new result }
 {
     match write_board(diagram, out) {
         Ok(()) => {}
         Err(_) => return Err(Refused),
     }
-    write_side(diagram, white, &below.asked, out)?;
-    write_side(diagram, black, &below.asked, out)?;
+    write_side(diagram, white, &below.known.asked, out)?;
+    write_side(diagram, black, &below.known.asked, out)?;
     write_below(below, out)
 }
 
@@ -249,16 +244,16 @@ fn show<W: Sink>(
         Ok(black) => black,
         Err(AllocError) => return Err(ShowFault::Memory),
     };
-    let expected = match expected_of(alloc, diagram, &asked) {
+    let known = Known {
+        asked,
+        facts: facts_within(diagram, &asked),
+        least: first_open(bounds, diagram, &white, &black),
+    };
+    let expected = match expected_of(alloc, diagram, &known) {
         Ok(expected) => expected,
         Err(AllocError) => return Err(ShowFault::Memory),
     };
-    let least = first_open(bounds, diagram, &white, &black);
-    let below = Below {
-        asked,
-        least,
-        expected,
-    };
+    let below = Below { known, expected };
     match write_shown(diagram, &white, &black, &below, out) {
         Ok(()) => Ok(()),
         Err(Refused) => Err(ShowFault::Write),
@@ -301,8 +296,11 @@ pub fn run_show<W: Sink>(
 }
 
 /// The same with a length in moves, 64.0 at most, of which a text says how long it is: behind what a colour needs
-/// stands how many of its plies of a game of that length are left over, or how many are short; and where neither has too
-/// few for its men, a last line says how many nodes `search` may visit, by the rule of thumb of `forecast`.
+/// stands how many of its plies of a game of that length are left over, or how many are short. Below these lines stands
+/// what the bound by journeys knows of the games of that length: a line a colour, with the squares on which its captures
+/// land, where they are eight or fewer, and its men who never move; no line where neither is known. Where the bound
+/// excludes these games, one line says so. Where nothing is known against them and neither colour has too few plies for
+/// its men, a last line says how many nodes `search` may visit, by the rule of thumb of `forecast`.
 ///
 /// # Errors
 /// In this order: `Diagram` and `Length` where that text is refused, with that refusal; `Memory` where a growth was

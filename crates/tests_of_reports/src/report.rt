@@ -16,14 +16,15 @@ mod shown_diagrams;
 mod upgrades;
 
 use crate::shared::{
-    MANY, Said, certificate, diagram_of, field, four_bounds, halves, length_of, lines_of, named,
-    text_of, told, words,
+    MANY, Said, add, boxed, certificate, diagram_of, field, four_bounds, halves, length_of,
+    lines_of, named, text_of, told, words,
 };
 use pg_certificate::format::MOST_NAMED;
 use pg_cooks::{
     Asked, CookAnswer, CooksRunFault, LedLimits, Standing, run_cooks as find_cooks,
     run_games as test_games,
 };
+use pg_journeys::Journeys;
 use pg_position::Move;
 use pg_report::*;
 use pg_san::read_games;
@@ -48,7 +49,7 @@ const SCHWEIG_SHOWN: &str = "8 r . b q k b n r
   a b c d e f g h
 white 15 men, captured 2, needs 2 plies (captures)
 black 14 men, captured 1, needs 1 ply (captures)
-no game is shorter than 1.5
+no game is shorter than 3.5
 ";
 
 // How many bytes of that the board has.
@@ -79,6 +80,13 @@ fn lacking<R: Abort + AllocGlobal>(rt: &R, game: &[Move]) -> Said {
     write_movetext(game, &mut out).expect(rt, "written");
     let text = out.into_inner();
     words(&format_args!("lacks {}", text_of(rt, text.as_slice())))
+}
+
+// The four bounds, and that by journeys.
+fn five_bounds<R: Abort + AllocGlobal>(rt: &R) -> Vec<Box<dyn Bound>> {
+    let mut bounds = four_bounds(rt);
+    add(rt, &mut bounds, boxed(rt, Journeys));
+    bounds
 }
 
 // What is answered with the four bounds.
@@ -165,10 +173,10 @@ fn obey<R: Abort + AllocGlobal, S: Source, W: Sink>(
         "count" => told(&run_count(rt.alloc(), text, plies, out)),
         "games" => games(rt, [text, number, list], out),
         "moves" => told(&run_moves(rt.alloc(), text, out)),
-        "show" => told(&run_show(rt.alloc(), text, &four_bounds(rt), out)),
+        "show" => told(&run_show(rt.alloc(), text, &five_bounds(rt), out)),
         "cooks" => cooks(rt, [text, number, list], limit, out),
         "report" => report(rt, [text, number, list], out),
-        "within" => told(&run_show_within(rt.alloc(), text, number, &four_bounds(rt), out)),
+        "within" => told(&run_show_within(rt.alloc(), text, number, &five_bounds(rt), out)),
         "upgrade" => told(&upgrade(source, out, limit)),
         _ => check(rt, [text, number, list], limit, source, out),
     }
