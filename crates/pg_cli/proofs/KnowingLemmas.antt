@@ -66,7 +66,9 @@ found : (texts : Texts) (X : Placement → ℕ → List (List Move) → Type 0) 
     → Finds texts X a → answer_status a ≡ 1 → AreUnsound texts.diagram.now texts.length.now
 found texts X (Cook game) h e = (h.0, h.1, h.3.0.diagram_is, h.3.0.length_is, h.5)
 found texts X (Shorter game) h e = (h.0, h.1, h.3.0.diagram_is, h.3.0.length_is, λ (g : List Move). h.5 (g ∷ []))
-found texts X (NotFound foreign nodes) h e = absurd (let z : 0 ≡ 1 = e in cc)
+found texts X (NotFound foreign nodes end NotSound) h e = (h.0, h.1, h.3.0.diagram_is, h.3.0.length_is, h.5)
+found texts X (NotFound foreign nodes end AtLeastOne) h e = absurd (let z : 0 ≡ 1 = e in cc)
+found texts X (NotFound foreign nodes end NoneGiven) h e = absurd (let z : 0 ≡ 1 = e in cc)
 
 pub search_shows : (texts : Texts) (X : Placement → ℕ → List (List Move) → Type 0) (a : CookAnswer) (k : ℕ) (result : Result ℕ Refusal)
     → Finds texts X a → k ≡ answer_status a → IfOk result (λ n. n ≡ k)

@@ -26,11 +26,11 @@ standing_status NotSound = 1
 standing_status AtLeastOne = 0
 standing_status NoneGiven = 0
 
--- 1 where a game is found, else 0
+-- 1 where a game is found, else that of what the listed games say by themselves
 abbrev pub answer_status : CookAnswer → ℕ
 answer_status (Cook game) = 1
 answer_status (Shorter game) = 1
-answer_status (NotFound foreign nodes) = 0
+answer_status (NotFound foreign nodes end standing) = standing_status standing
 
 -- the three texts spell a diagram, a length and a list of solutions,
 -- and the status is that of what the list shows by itself

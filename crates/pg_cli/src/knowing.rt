@@ -37,7 +37,7 @@ fn standing_status(standing: Standing) -> u8
     }
 }
 
-// The status after a search beside a list: 1 where a game was found.
+// The status after a search beside a list: 1 where a game was found, else that of the list.
 fn answer_status(answer: &CookAnswer) -> u8
     ensures { result ≡ answer_status answer.now }
 {
@@ -46,7 +46,9 @@ fn answer_status(answer: &CookAnswer) -> u8
         CookAnswer::NotFound {
             foreign: _,
             nodes: _,
-        } => 0,
+            end: _,
+            standing,
+        } => standing_status(*standing),
     }
 }
 

@@ -22,7 +22,7 @@ pub use expected::{Leeway, forecast, next_tree, slacks};
 pub use fault::SearchFault;
 pub use find::{search, search_watched};
 pub use judge::sides_of;
-pub use led::{Game, Led, LedFault, LedLimits, LedProgress, search_led};
+pub use led::{Game, Led, LedEnd, LedFault, LedLimits, LedProgress, search_led};
 pub use nearing::may_lead;
 pub use progress::SearchProgress;
 pub use sides::{Change, Changes, Side, Sides, changes_of};

@@ -42,7 +42,7 @@ fn said_now<R: Abort + AllocGlobal>(rt: &R, asked: &Asked) -> Said {
             heard.hear_game(game.as_slice());
             words(&"Found")
         }
-        Ok(pg_searcher::Led::NotFound { foreign, nodes }) => words(&format_args!(
+        Ok(pg_searcher::Led::NotFound { foreign, nodes, .. }) => words(&format_args!(
             "{} {nodes}",
             most(foreign).as_str()
         )),
