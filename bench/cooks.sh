@@ -1,6 +1,6 @@
 #!/usr/bin/env bash
 # What `pg cooks` finds beside a list, and what it does not. Known games lead it to another game or to a shorter one, and so does the first game
-# of each example that has two or more; beside the game of each sound example it meets none with at most three moves of other kinds.
+# of each example that has two or more; beside the game of each sound example it meets none with at most three foreign moves, and says what stopped it.
 # A game that is found is tested by `pg games`: with those of the list where it has their length, else alone. Limits are of nodes, which are the same on each
 # machine. Quiet where all is so; else prints what was wrong, and ends with status 1. PG may name the program.
 set -u
@@ -10,6 +10,7 @@ trap 'rm -rf "$work"' EXIT
 [ -n "${PG-}" ] || "$top/pg" --help >/dev/null || { echo "the program does not run" >&2; exit 1; } # builds it where that is due
 pg=${PG:-$top/crates/pg_cli/out/pg_cli}
 wrong=0
+none='none@(: the search went through all games| with at most @(1 foreign move|[023] foreign moves): @(node limit reached|no more were allowed))'
 
 # Says what is wrong with the run for the problem $1.
 say() {
@@ -56,7 +57,7 @@ for folder in "$top"/examples/*/; do
   game=$(sed -n 4p "$folder/report")
   case $(tail -n 1 "$folder/report") in
     cooked) look 'another game' "${problem[@]}" "$game" --nodes 100000 ;;
-    sound) look 'none with at most [0-3] moves of other kinds' "${problem[@]}" "$game" --nodes 100000 --foreign 3 ;;
+    sound) look "$none" "${problem[@]}" "$game" --nodes 100000 --foreign 3 ;;
   esac
 done
 exit "$wrong"

@@ -170,7 +170,9 @@ done <<END
 2|games $open 1.0 ../list|\xff|games are not UTF-8|
 4|games $open 1.0 none||cannot open none|
 1|cooks $orders 1.5 ../list|1. e3 e6 2. d3||diagram $orders\nlength 1.5\ngames 1\n1. e3 e6 2. d3\nanother game\n1. d3 e6 2. e3\nnot sound
-0|cooks $orders 1.5 ../list --nodes 0|1. e3 e6 2. d3||diagram $orders\nlength 1.5\ngames 1\n1. e3 e6 2. d3\nnone found
+0|cooks $orders 1.5 ../list --nodes 0|1. e3 e6 2. d3||diagram $orders\nlength 1.5\ngames 1\n1. e3 e6 2. d3\nnone found: node limit reached
+0|cooks $first 0.5 ../list|1. e4||diagram $first\nlength 0.5\ngames 1\n1. e4\nnone: the search went through all games
+1|cooks $orders 1.5 ../list|1. e3 e6 2. d3\n1. d3 e6 2. e3||diagram $orders\nlength 1.5\ngames 2\n1. d3 e6 2. e3\n1. e3 e6 2. d3\nnone: the search went through all games\nnot sound
 1|cooks $open 1.0 ../list|1. e4|game 1 does not have the stated length|
 2|cooks $open 1.0 ../list|\n|no game to go by|
 2|cooks $open 1.0 ../list|1. e4 e4|line 1, ply 2: no such legal move|
@@ -371,7 +373,7 @@ report=$(cat "$work/four")
 expect 0 '' 'ulimit -s 512; "$pg" search $four 4.0 ../again --games ../met; [ $? = 1 ] && cmp ../again ../four.pgc && cmp ../met ../four.games' "$report"
 expect 1 '' 'ulimit -s 512; "$pg" check $four 4.0 ../four.pgc ../four.games' "$report"
 expect 1 '' 'ulimit -s 512; "$pg" games $four 4.0 ../four.games' "${report/%cooked/not sound}"
-expect 0 '' 'ulimit -s 512; "$pg" cooks $four 4.0 ../four.games --nodes 0' "${report/%cooked/none found}"
+expect 1 '' 'ulimit -s 512; "$pg" cooks $four 4.0 ../four.games --nodes 0' "${report/%cooked/none found: node limit reached$'\n'not sound}"
 expect 0 '' 'ulimit -s 512; "$pg" page $four 4.0 ../four.pgc | cmp - ../four.html'
 expect 1 'pg: unlisted game: 1. a3 a6 2. b3 b6 3. c3 c6 4. d3 d6' 'ulimit -s 512; sed 1d ../four.games | "$pg" check $four 4.0 ../four.pgc' ''
 

@@ -69,7 +69,9 @@ pub(crate) fn print_one(
             reached.foreign,
             nodes.saturating_sub(reached.left)
         )?,
-        Ok(Led::NotFound { foreign, nodes }) => println!(rt; "none {foreign:?} nodes {nodes}")?,
+        Ok(Led::NotFound { foreign, nodes, .. }) => {
+            println!(rt; "none {foreign:?} nodes {nodes}")?
+        }
         Err(fault) => return Err(Fault::Led(fault))?,
     }
     Ok(())

@@ -61,7 +61,7 @@ fn problem(alloc: Global, game: &Game, digest: &mut Digest) -> anyhow::Result<u6
     let answer = run_cooks(alloc, &asked, limits, &mut Unwatched, &mut out);
     digest.text(out.into_inner().as_slice());
     match answer {
-        Ok(CookAnswer::NotFound { foreign: _, nodes }) => {
+        Ok(CookAnswer::NotFound { nodes, .. }) => {
             digest.number(nodes);
             Ok(nodes)
         }

@@ -26,7 +26,7 @@ standing_status NotSound = 1
 standing_status AtLeastOne = 0
 standing_status NoneGiven = 0
 
--- 1 where a game is found, or where the list shows by itself that the problem is not sound; else 0
+-- 1 where a game is found, else that of what the listed games say by themselves
 abbrev pub answer_status : CookAnswer → ℕ
 answer_status (Cook game) = 1
 answer_status (Shorter game) = 1

@@ -37,8 +37,7 @@ fn standing_status(standing: Standing) -> u8
     }
 }
 
-// The status after a search beside a list: 1 where a game was found, or where the list shows by itself that the problem is not
-// sound.
+// The status after a search beside a list: 1 where a game was found, else that of the list.
 fn answer_status(answer: &CookAnswer) -> u8
     ensures { result ≡ answer_status answer.now }
 {

@@ -8,8 +8,9 @@ use Rattle.pg_position.specs.Game.{IsOnce}
 use Rattle.pg_moves.proofs.SortLemmas.{Contains-head, Contains-none}
 use Rattle.pg_checker.specs.Answer.{IsSolution, IsExactAnswer, AreSolutions}
 use Rattle.pg_cooks.specs.Standing.{IsStanding}
-use Rattle.pg_cooks.specs.declared.standing.Standing.TheVariants.{NotSound}
-use Rattle.pg_cooks.specs.Unsound.{IsUnsound, HasNoAnswer}
+use Rattle.pg_cooks.specs.declared.standing.Standing.{Standing}
+use Rattle.pg_cooks.specs.declared.standing.Standing.TheVariants.{NotSound, AtLeastOne, NoneGiven}
+use Rattle.pg_cooks.specs.Unsound.{IsUnsound, HasNoAnswer, IsStandingTrue}
 use Rattle.pg_cooks.specs.Cooks.{IsCookAnswer, IsRefuted}
 use Rattle.pg_cooks.specs.declared.finding.CookAnswer.{CookAnswer}
 use Rattle.pg_cooks.specs.declared.finding.CookAnswer.TheVariants.{Cook, Shorter, NotFound}
@@ -35,6 +36,12 @@ not_sound d n (a ∷ []) are many g = absurd (let low : 2 ≤ 1 = many in omega 
 not_sound d n (a ∷ b ∷ rest) are many g =
     two_cook d n a b (are.are a (Contains-head a (b ∷ rest))) (are.are b (second a b rest)) (heads_apart a b rest are.once) g
 
+-- what the games of a list of solutions say is true
+stands : (d : Placement) (n : ℕ) (games : List (List Move)) (s : Standing) → AreSolutions d n games → IsStanding games s → IsStandingTrue d n s
+stands d n games NotSound are h = not_sound d n games are h
+stands d n games AtLeastOne are h = tt
+stands d n games NoneGiven are h = tt
+
 pub unlisted : (d : Placement) (n : ℕ) (ms : List Move) (games : List (List Move)) → IsSolution d n ms → ¬ Contains games ms → ¬ IsExactAnswer d n games
 unlisted d n ms games is out e = out ((e.has ms).1 is)
 
@@ -51,4 +58,4 @@ beside d n (a ∷ rest) ms some are is out g =
 pub refuted : (d : Placement) (n : ℕ) (games : List (List Move)) (answer : CookAnswer) → games ≢ [] → AreSolutions d n games → IsCookAnswer d n games answer → IsRefuted d n answer
 refuted d n games (Cook game) some are h = beside d n games game.items some are h.0 h.1
 refuted d n games (Shorter game) some are h = shorter d n (length game.items) game.items h.0 h.1
-refuted d n games (NotFound foreign nodes) some are h = tt
+refuted d n games (NotFound foreign nodes end standing) some are h = stands d n games standing are h

@@ -29,4 +29,4 @@ from_array d n g (long, (r, is, same)) = (r, is)
 pub told : (d : Placement) (n : ℕ) (games : List (List Move)) (answer : CookAnswer) → IsCookAnswer d n games answer → IsTold answer
 told d n games (Cook game) h = from_array d n game.items h.0
 told d n games (Shorter game) h = from_array d (length game.items) game.items h.1
-told d n games (NotFound foreign nodes) h = tt
+told d n games (NotFound foreign nodes end standing) h = tt

@@ -11,7 +11,7 @@ use Rattle.pg_texts.specs.Report.{AddsLine, AreGameLines, head_text, line_text}
 use Rattle.pg_cooks.specs.Standing.{IsKnownText, IsStanding, IsGamesReport, standing_text}
 use Rattle.pg_cooks.specs.declared.standing.Standing.{Standing}
 use Rattle.pg_cooks.specs.declared.finding.CookAnswer.{CookAnswer}
-use Rattle.pg_cooks.specs.Cooks.{IsAnswerText, IsCooksReport, IsEndText, IsFoundText, unfound_text}
+use Rattle.pg_cooks.specs.Cooks.{IsAnswerText, IsCooksReport, IsEndText, IsFoundText, foreign_text, within_text}
 
 -- the head and the games
 pub known_grows : (d : Placement) (plies count : ℕ) (games : List (List Move)) (a b c : Option (List ℕ)) → count ≡ length games → Appends a b (head_text d plies count) → AddsSome (AreGameLines games) b c → AddsSome (IsKnownText d plies games) a c
@@ -54,11 +54,13 @@ pub found_grows : (what : List ℕ) (game : List Move) (a b c : Option (List ℕ
     → AddsSome (IsFoundText what game) a c
 found_grows what game a b c first (rest, is, grows) = (what ++ rest, (rest, is, refl), Appends-trans a b c what rest first grows)
 
--- the line that no game was found, with how far the search went
-pub unfound_grows : (o : Option ℕ) (k n : ℕ) (a b : Option (List ℕ)) → o ≡ Some k → n ≡ k → Appends a b (codes "none with at most " ++ (decimal n ++ line_text (codes " moves of other kinds"))) → Appends a b (unfound_text o)
-unfound_grows o k n a b is same h =
-    subst (λ (x : Option ℕ). Appends a b (unfound_text x)) (sym is)
-    (subst (λ (x : ℕ). Appends a b (codes "none with at most " ++ (decimal x ++ line_text (codes " moves of other kinds")))) same h)
+-- that no game was found, with how many foreign moves at most
+pub within_grows : (o : Option ℕ) (n : ℕ) (number words : List ℕ) (w x y z : Option (List ℕ)) → o ≡ Some n → number ≡ decimal n → words ≡ foreign_text n → Appends w x (codes "none with at most ") → Appends x y number → Appends y z words
+    → Appends w z (within_text o)
+within_grows o n number words w x y z is same said first second third =
+    subst (λ (m : Option ℕ). Appends w z (within_text m)) (sym is)
+    (Appends-trans w x z (codes "none with at most ") (decimal n ++ foreign_text n) first
+    (Appends-trans x y z (decimal n) (foreign_text n) (subst (λ (t : List ℕ). Appends x y t) same second) (subst (λ (t : List ℕ). Appends y z t) said third)))
 
 -- the lines of a game that was found, as those of an answer
 pub answer_grows : (P : List ℕ → Type 0) (what : List ℕ) (game items : List Move) (a b c : Option (List ℕ)) → game ≡ items → ((x : List ℕ) → IsFoundText what items x → P x) → Appends a b what

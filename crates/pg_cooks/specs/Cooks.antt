@@ -1,11 +1,13 @@
 -- What is found beside a list of games, what that says of the problem, its report, and why there is none.
-use Rattle.std.specs.Prelude.{◌≡◌, ◌≢◌, ℕ, ◌<◌, Bool, Option, Some, None, List, [], ◌++◌, length, codes, decimal}
+use Rattle.std.specs.Prelude.{◌≡◌, ◌≢◌, ℕ, ◌<◌, eqb, cond, Bool, Option, Some, None, List, [], ◌++◌, length, codes, decimal}
 use Rattle.std.specs.List.{Contains}
 use Rattle.pg_board.specs.Placement.{Placement}
 use Rattle.pg_position.specs.declared.moves.Move.{Move}
 use Rattle.pg_san.specs.Games.{IsFromArray}
 use Rattle.pg_texts.specs.Movetext.{IsMovetext}
 use Rattle.pg_texts.specs.Report.{line_text}
+use Rattle.pg_searcher.specs.declared.led.answer.LedEnd.{LedEnd}
+use Rattle.pg_searcher.specs.declared.led.answer.LedEnd.TheVariants.{All, Foreign, Nodes}
 use Rattle.pg_checker.specs.Answer.{IsSolution, AreSolutions}
 use Rattle.pg_checker.specs.Listed.{IsListFault}
 use Rattle.pg_cooks.specs.declared.asked.Asked.{Asked}
@@ -16,22 +18,25 @@ use Rattle.pg_cooks.specs.declared.fault.CooksFault.TheVariants.{NoGame, Listed,
 use Rattle.pg_cooks.specs.declared.fault.CooksRunFault.{CooksRunFault}
 use Rattle.pg_cooks.specs.declared.fault.CooksRunFault.TheVariants as run
 use Rattle.pg_cooks.specs.Known.{IsKnown, IsKnownFault}
-use Rattle.pg_cooks.specs.Standing.{IsKnownText}
-use Rattle.pg_cooks.specs.Unsound.{IsUnsound, HasNoAnswer}
+use Rattle.pg_cooks.specs.declared.standing.Standing.{Standing}
+use Rattle.pg_cooks.specs.declared.standing.Standing.TheVariants.{NotSound, AtLeastOne, NoneGiven}
+use Rattle.pg_cooks.specs.Standing.{IsKnownText, IsStanding}
+use Rattle.pg_cooks.specs.Unsound.{IsUnsound, HasNoAnswer, IsStandingTrue}
 
 -- ---- the answer
--- another game: a solution that the list does not have; a
--- shorter one: it has fewer plies, and is a solution for so many
+-- another game: a solution that the list does not have; a shorter one: it has fewer plies,
+-- and is a solution for so many; else what is told of the listed games is what they say
 abbrev pub IsCookAnswer : Placement → ℕ → List (List Move) → CookAnswer → Type 0
 IsCookAnswer d n games (Cook game) = IsSolution d n game.items × ¬ Contains games game.items
 IsCookAnswer d n games (Shorter game) = (length game.items < n) × IsSolution d (length game.items) game.items
-IsCookAnswer d n games (NotFound foreign nodes) = Unit {0}
+IsCookAnswer d n games (NotFound foreign nodes end standing) = IsStanding games standing
 
--- what it says of the problem: with another game no list of one game is the exact answer; with a shorter one no list is
+-- what it says of the problem: with another game no list of one game is the exact answer;
+-- with a shorter one no list is; else what the listed games say by themselves is true
 abbrev pub IsRefuted : Placement → ℕ → CookAnswer → Type 0
 IsRefuted d n (Cook game) = IsUnsound d n
 IsRefuted d n (Shorter game) = HasNoAnswer d n
-IsRefuted d n (NotFound foreign nodes) = Unit {0}
+IsRefuted d n (NotFound foreign nodes end standing) = IsStandingTrue d n standing
 
 -- why there is no answer: the list is empty; else a listed game is no solution; else memory was refused
 abbrev pub IsCooksFault : Placement → ℕ → List (List Move) → CooksFault → Type 0
@@ -44,7 +49,7 @@ IsCooksFault d n games Memory = (games ≢ []) × AreSolutions d n games
 abbrev pub IsTold : CookAnswer → Type 0
 IsTold (Cook game) = IsFromArray game.items
 IsTold (Shorter game) = IsFromArray game.items
-IsTold (NotFound foreign nodes) = Unit {0}
+IsTold (NotFound foreign nodes end standing) = Unit {0}
 
 -- the movetext of a game that is found, and that the problem is not sound
 abbrev pub IsEndText : List Move → List ℕ → Type 0
@@ -54,17 +59,33 @@ IsEndText game text = (line : List ℕ) × IsMovetext game line × (text ≡ lin
 abbrev pub IsFoundText : List ℕ → List Move → List ℕ → Type 0
 IsFoundText what game text = (rest : List ℕ) × IsEndText game rest × (text ≡ what ++ rest)
 
-abbrev pub unfound_text : Option ℕ → List ℕ
-unfound_text (Some foreign) =
-    codes "none with at most " ++ (decimal foreign ++ line_text (codes " moves of other kinds"))
-unfound_text None = line_text (codes "none found")
+-- the words behind a number of foreign moves
+abbrev pub foreign_text : ℕ → List ℕ
+foreign_text n = cond (eqb n 1) (codes " foreign move") (codes " foreign moves")
+
+-- that no game was found, and with how many foreign moves at most, where the search says it
+abbrev pub within_text : Option ℕ → List ℕ
+within_text (Some n) = codes "none with at most " ++ (decimal n ++ foreign_text n)
+within_text None = codes "none found"
+
+-- the line that says it, and how the search says that it came to its end
+abbrev pub unfound_text : Option ℕ → LedEnd → List ℕ
+unfound_text foreign All = line_text (codes "none: the search went through all games")
+unfound_text foreign Foreign = within_text foreign ++ line_text (codes ": no more were allowed")
+unfound_text foreign Nodes = within_text foreign ++ line_text (codes ": node limit reached")
+
+-- that line, and the one that the problem is not sound where the listed games say it by themselves
+abbrev pub none_text : Option ℕ → LedEnd → Standing → List ℕ
+none_text foreign end NotSound = unfound_text foreign end ++ line_text (codes "not sound")
+none_text foreign end AtLeastOne = unfound_text foreign end
+none_text foreign end NoneGiven = unfound_text foreign end
 
 -- the lines of an answer
 abbrev pub IsAnswerText : CookAnswer → List ℕ → Type 0
 IsAnswerText (Cook game) text = IsFoundText (line_text (codes "another game")) game.items text
 IsAnswerText (Shorter game) text =
     IsFoundText (codes "a game of " ++ (decimal (length game.items) ++ line_text (codes " plies"))) game.items text
-IsAnswerText (NotFound foreign nodes) text = text ≡ unfound_text foreign
+IsAnswerText (NotFound foreign nodes end standing) text = text ≡ none_text foreign end standing
 
 -- the report of a diagram, a length in plies, games that are known and what was found beside them
 pub record IsCooksReport (diagram : Placement) (plies : ℕ) (games : List (List Move)) (answer : CookAnswer)

@@ -5,7 +5,8 @@ use Rattle.pg_board.specs.Placement.{Placement}
 use Rattle.pg_position.specs.declared.moves.Move.{Move}
 use Rattle.pg_checker.specs.Answer.{IsSolution, IsExactAnswer, AreSolutions}
 use Rattle.pg_cooks.specs.Standing.{IsStanding}
-use Rattle.pg_cooks.specs.declared.standing.Standing.TheVariants.{NotSound}
+use Rattle.pg_cooks.specs.declared.standing.Standing.{Standing}
+use Rattle.pg_cooks.specs.declared.standing.Standing.TheVariants.{NotSound, AtLeastOne, NoneGiven}
 
 -- no list of one game is the exact answer to the diagram d and n plies
 abbrev pub IsUnsound : Placement → ℕ → Type 0
@@ -14,6 +15,13 @@ IsUnsound d n = (g : List Move) → ¬ IsExactAnswer d n (g ∷ [])
 -- no list at all is
 abbrev pub HasNoAnswer : Placement → ℕ → Type 0
 HasNoAnswer d n = (games : List (List Move)) → ¬ IsExactAnswer d n games
+
+-- what a list says by itself is true of the problem: that it is not sound means that no list of one game is the exact
+-- answer, and the other words claim nothing
+abbrev pub IsStandingTrue : Placement → ℕ → Standing → Type 0
+IsStandingTrue d n NotSound = IsUnsound d n
+IsStandingTrue d n AtLeastOne = Unit {0}
+IsStandingTrue d n NoneGiven = Unit {0}
 
 -- where two different games are solutions, no list of one game is the exact answer
 abbrev pub TwoAreACook : Type 0

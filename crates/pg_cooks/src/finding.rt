@@ -4,11 +4,12 @@ ghost use Rattle.pg_checker.specs.Answer.{AreSolutions, IsSolution};
 ghost use Rattle.pg_cooks.specs.Cooks.{IsCookAnswer, IsCooksFault, IsRefuted};
 
 use crate::fault::CooksFault;
+use crate::standing::{Standing, standing_of};
 use pg_checker::check_listed;
 use pg_fen::{Diagram, Length};
 use pg_position::Move;
 use pg_san::{AddFault, Games};
-use pg_searcher::{Game, Led, LedFault, LedLimits, LedProgress, search_led};
+use pg_searcher::{Game, Led, LedEnd, LedFault, LedLimits, LedProgress, search_led};
 use std::alloc::{AllocError, Global};
 
 /// What is found beside a list of games.
@@ -18,9 +19,15 @@ pub enum CookAnswer {
     Cook(Game),
     /// A game of fewer plies than stated that ends on the diagram.
     Shorter(Game),
-    /// None was found. The search says that it has met each game with at most `foreign` moves of other kinds
-    /// than those of the listed games, where it came so far; nothing proves that. It visited `nodes` nodes.
-    NotFound { foreign: Option<u8>, nodes: u64 },
+    /// None was found. The search says that it has met each game with at most `foreign` foreign moves, where it
+    /// came so far, and how it came to its end; nothing proves that. It visited `nodes` nodes. The listed games
+    /// by themselves say `standing`, which is proved.
+    NotFound {
+        foreign: Option<u8>,
+        nodes: u64,
+        end: LedEnd,
+        standing: Standing,
+    },
 }
 
 // Whether the moves are a game of the length that ends on the diagram.
@@ -77,7 +84,8 @@ fn shown(
     }
 }
 
-// What a led search finds beside the list; a game that is nothing beside it is not told.
+// What a led search finds beside the list. A game that is nothing beside it is not told: the search stops there as
+// if the nodes had come to their end.
 fn found<P: LedProgress>(
     alloc: Global,
     diagram: &Diagram,
@@ -91,8 +99,19 @@ fn found<P: LedProgress>(
 {
     let game = match search_led(alloc, diagram, length, games, limits, watch) {
         Ok(Led::Found(game)) => game,
-        Ok(Led::NotFound { foreign, nodes }) => {
-            return Ok(CookAnswer::NotFound { foreign, nodes });
+        Ok(
+            Led::NotFound {
+                foreign,
+                nodes,
+                end,
+            },
+        ) => {
+            return Ok(CookAnswer::NotFound {
+                foreign,
+                nodes,
+                end,
+                standing: standing_of(games),
+            });
         }
         Err(LedFault::Memory) => return Err(CooksFault::Memory),
     };
@@ -101,6 +120,8 @@ fn found<P: LedProgress>(
         Ok(None) => Ok(CookAnswer::NotFound {
             foreign: None,
             nodes: 0,
+            end: LedEnd::Nodes,
+            standing: standing_of(games),
         }),
         Err(AllocError) => Err(CooksFault::Memory),
     }
@@ -109,9 +130,10 @@ fn found<P: LedProgress>(
 /// Looks for a game beside a list of solutions, led by it: `Cook` with a game of the stated length that ends on the diagram and
 /// is not listed, so that the problem is not sound; `Shorter` with a game of fewer plies that ends on the diagram, so that no
 /// list is its answer; else `NotFound`. The game is tested, so this holds whatever the search does; a
-/// game that failed the test would not be told. With `NotFound` nothing is claimed of the problem. At most
-/// `max_nodes` nodes are visited, with at most `foreign` moves of other kinds. What the search and the test
-/// grow by is taken from `alloc`; `watch` is told how far the search is.
+/// game that failed the test would not be told. With `NotFound` nothing is claimed of the problem but what the list
+/// shows by itself, as `standing_on` tells it: two games or more, that it is not sound. At most `max_nodes` nodes are
+/// visited, with at most `foreign` foreign moves. What the search and the test grow by is taken from `alloc`; `watch`
+/// is told how far the search is.
 ///
 /// # Errors
 /// In this order: `NoGame` where the list is empty; `Listed` where a listed game is no solution, with the

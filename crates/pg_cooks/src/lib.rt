@@ -18,4 +18,4 @@ pub use run::{run_cooks, run_games, standing_on, write_solutions};
 pub use standing::Standing;
 
 // What a caller needs of the search.
-pub use pg_searcher::{LedLimits, LedProgress};
+pub use pg_searcher::{LedEnd, LedLimits, LedProgress};

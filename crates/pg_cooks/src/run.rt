@@ -119,9 +119,11 @@ fn run_fault(fault: CooksFault) -> CooksRunFault
 /// `cooks` does, and writes what is known then. The lines, each ended by a line feed: `diagram ` and the
 /// placement; `length ` and the length; `games ` and their number; the movetext of each game, in
 /// canonical order; then `another game`, or `a game of `, its number of plies and ` plies`, with the
-/// movetext of that game below and then `not sound`; or `none with at most `, a number and ` moves of
-/// other kinds`; or `none found`. The game that is written is tested, whatever the search did; with the
-/// last two nothing is claimed of the problem. The list and what the search and the test grow by are
+/// movetext of that game below and then `not sound`. Where none is found: `none: the search went through all
+/// games`; or `none with at most `, a number and ` foreign move` or ` foreign moves`, or `none found` where not even
+/// the games without foreign moves were gone through, and then `: no more were allowed` or `: node limit reached`;
+/// and below it `not sound` where two games or more are listed. The game that is written is tested, whatever the
+/// search did; of how far the search went nothing is proved. The list and what the search and the test grow by are
 /// taken from `alloc`; `watch` is told how far the search is; nothing is written before it has ended.
 ///
 /// # Errors

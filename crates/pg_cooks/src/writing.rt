@@ -1,10 +1,11 @@
 //! The reports: of games that are known, and of what was found beside them.
-ghost use Rattle.std.specs.Prelude.{◌++◌, IfOk, decimal};
+ghost use Rattle.std.specs.Prelude.{◌≡◌, ◌++◌, IfOk, decimal};
 ghost use Rattle.pg_certificate.specs.Pushing.{Adds, AddsSome, Pushes};
 ghost use Rattle.pg_san.specs.Games.{IsFromArray};
 ghost use Rattle.pg_texts.specs.Report.{line_text};
 ghost use Rattle.pg_cooks.specs.Standing.{IsKnownText, IsStanding, IsGamesReport};
-ghost use Rattle.pg_cooks.specs.Cooks.{IsAnswerText, IsCooksReport, IsEndText, IsTold, unfound_text};
+ghost use Rattle.pg_cooks.specs.Cooks.{IsAnswerText, IsCooksReport, IsEndText, IsTold};
+ghost use Rattle.pg_cooks.specs.Cooks.{foreign_text, none_text, unfound_text, within_text};
 
 use crate::finding::CookAnswer;
 use crate::standing::{Standing, standing_of, standing_words};
@@ -13,6 +14,7 @@ use pg_fen::text::digits;
 use pg_fen::{Diagram, Length};
 use pg_position::Move;
 use pg_san::Games;
+use pg_searcher::LedEnd;
 use pg_texts::{write_game, write_games, write_head, write_line};
 
 // Appends the lines that say what was asked, and the games that are known.
@@ -55,16 +57,64 @@ fn write_numbered<W: Sink>(before: &str, n: usize, behind: &str, out: &mut W) ->
     write_line(behind, out)
 }
 
-// Appends the line that no game was found, and how far the search says that it went.
-fn write_unfound<W: Sink>(foreign: Option<u8>, out: &mut W) -> Result<(), Refused>
-    ensures { Pushes W.held W.has_failed (Adds (unfound_text foreign)) out.old out.new result }
+// The words behind a number of foreign moves.
+fn foreign_words(n: u8) -> &'static str
+    ensures { result.now ≡ foreign_text n }
+{
+    match n {
+        1 => " foreign move",
+        _ => " foreign moves",
+    }
+}
+
+// Appends that no game was found, and with how many foreign moves at most, where the search says it.
+fn write_within<W: Sink>(foreign: Option<u8>, out: &mut W) -> Result<(), Refused>
+    ensures { Pushes W.held W.has_failed (Adds (within_text foreign)) out.old out.new result }
 {
     match foreign {
-        Some(foreign) => {
-            let foreign = usize::from(foreign);
-            write_numbered("none with at most ", foreign, " moves of other kinds", out)
+        Some(n) => {
+            out.push(b"none with at most ")?;
+            out.push(digits(usize::from(n)).as_bytes())?;
+            out.push(foreign_words(n).as_bytes())
         }
-        None => write_line("none found", out),
+        None => out.push(b"none found"),
+    }
+}
+
+// Appends that, and in the same line why the search came to its end there.
+fn write_because<W: Sink>(foreign: Option<u8>, why: &str, out: &mut W) -> Result<(), Refused>
+    ensures { Pushes W.held W.has_failed (Adds (within_text foreign ++ line_text why.now)) out.old out.new result }
+{
+    write_within(foreign, out)?;
+    write_line(why, out)
+}
+
+// Appends the line that no game was found, and how the search says that it came to its end.
+fn write_unfound<W: Sink>(foreign: Option<u8>, end: LedEnd, out: &mut W) -> Result<(), Refused>
+    ensures { Pushes W.held W.has_failed (Adds (unfound_text foreign end)) out.old out.new result }
+{
+    match end {
+        LedEnd::All => write_line("none: the search went through all games", out),
+        LedEnd::Foreign => write_because(foreign, ": no more were allowed", out),
+        LedEnd::Nodes => write_because(foreign, ": node limit reached", out),
+    }
+}
+
+// Appends that line, and the one that the problem is not sound where the listed games say it by themselves.
+fn write_none<W: Sink>(
+    foreign: Option<u8>,
+    end: LedEnd,
+    standing: Standing,
+    out: &mut W,
+) -> Result<(), Refused>
+    ensures { Pushes W.held W.has_failed (Adds (none_text foreign end standing)) out.old out.new result }
+{
+    match standing {
+        Standing::NotSound => {
+            write_unfound(foreign, end, out)?;
+            write_line("not sound", out)
+        }
+        Standing::AtLeastOne | Standing::NoneGiven => write_unfound(foreign, end, out),
     }
 }
 
@@ -91,7 +141,12 @@ fn write_answer<W: Sink>(answer: &CookAnswer, out: &mut W) -> Result<(), Refused
             write_numbered("a game of ", game.len(), " plies", out)?;
             write_found(game.as_slice(), out)
         }
-        CookAnswer::NotFound { foreign, nodes: _ } => write_unfound(*foreign, out),
+        CookAnswer::NotFound {
+            foreign,
+            nodes: _,
+            end,
+            standing,
+        } => write_none(*foreign, *end, *standing, out),
     }
 }
 

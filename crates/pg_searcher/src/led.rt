@@ -14,5 +14,5 @@ mod rounds;
 mod trials;
 mod walk;
 
-pub use answer::{Game, Led, LedFault, LedLimits, LedProgress};
+pub use answer::{Game, Led, LedEnd, LedFault, LedLimits, LedProgress};
 pub use rounds::{search_led, search_led_without_journeys};

@@ -23,7 +23,7 @@ pub use fault::SearchFault;
 pub use find::{search, search_by_journeys, search_watched};
 pub use judge::sides_of;
 pub use led::{
-    Game, Led, LedFault, LedLimits, LedProgress, search_led, search_led_without_journeys,
+    Game, Led, LedEnd, LedFault, LedLimits, LedProgress, search_led, search_led_without_journeys,
 };
 pub use nearing::may_lead;
 pub use progress::SearchProgress;

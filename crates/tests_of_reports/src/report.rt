@@ -131,7 +131,7 @@ fn games<R: Abort + AllocGlobal, W: Sink>(rt: &R, texts: [&str; 3], out: &mut W)
 fn cooks<R: Abort + AllocGlobal, W: Sink>(
     rt: &R,
     texts: [&str; 3],
-    limit: u64,
+    limits: LedLimits,
     out: &mut W,
 ) -> Said {
     let [diagram, length, games] = texts;
@@ -139,10 +139,6 @@ fn cooks<R: Abort + AllocGlobal, W: Sink>(
         diagram,
         length,
         games,
-    };
-    let limits = LedLimits {
-        max_nodes: limit,
-        foreign: Some(3),
     };
     match find_cooks(rt.alloc(), &asked, limits, &mut Unwatched, out) {
         Ok(CookAnswer::Cook(_)) => words(&"Cook"),
@@ -153,7 +149,15 @@ fn cooks<R: Abort + AllocGlobal, W: Sink>(
     }
 }
 
-// What a command answers: its word stands before its texts and the limit of records.
+// Limits of so many nodes, and so many foreign moves: three where it is not told.
+fn led_limits(nodes: u64, foreign: &str) -> LedLimits {
+    LedLimits {
+        max_nodes: nodes,
+        foreign: Some(foreign.parse().unwrap_or(3)),
+    }
+}
+
+// What a command answers: its word stands before its texts and the limit of records, or of nodes, which foreign moves follow.
 fn obey<R: Abort + AllocGlobal, S: Source, W: Sink>(
     rt: &R,
     asked: &str,
@@ -174,7 +178,12 @@ fn obey<R: Abort + AllocGlobal, S: Source, W: Sink>(
         "games" => games(rt, [text, number, list], out),
         "moves" => told(&run_moves(rt.alloc(), text, out)),
         "show" => told(&run_show(rt.alloc(), text, &five_bounds(rt), out)),
-        "cooks" => cooks(rt, [text, number, list], limit, out),
+        "cooks" => cooks(
+            rt,
+            [text, number, list],
+            led_limits(limit, field(asked, 5)),
+            out,
+        ),
         "report" => report(rt, [text, number, list], out),
         "within" => told(&run_show_within(rt.alloc(), text, number, &five_bounds(rt), out)),
         "upgrade" => told(&upgrade(source, out, limit)),

@@ -15,8 +15,23 @@ pub enum Led {
     Found(Game),
     /// No such game was met. Of the games to the diagram, of the stated length or fewer plies, each that has
     /// at most `foreign` foreign moves was met, where that is told; it is not told where the nodes came to
-    /// their end before. So many nodes were visited.
-    NotFound { foreign: Option<u8>, nodes: u64 },
+    /// their end before. So many nodes were visited, and `end` says why no more were.
+    NotFound {
+        foreign: Option<u8>,
+        nodes: u64,
+        end: LedEnd,
+    },
+}
+
+/// How a led search that found no game came to its end.
+#[derive(Clone, Copy, Debug, PartialEq, Eq)]
+pub enum LedEnd {
+    /// All games were gone through: none with more foreign moves is left.
+    All,
+    /// No more foreign moves were allowed.
+    Foreign,
+    /// The nodes came to their end.
+    Nodes,
 }
 
 /// Why a led search ends without an answer.

@@ -1,7 +1,7 @@
 //! The rounds of a led search.
 
 use crate::judge::Judge;
-use crate::led::answer::{Game, Led, LedFault, LedLimits, LedProgress};
+use crate::led::answer::{Game, Led, LedEnd, LedFault, LedLimits, LedProgress};
 use crate::led::barren::Barren;
 use crate::led::familiar::Familiar;
 use crate::led::machine::{Frames, Halt, Machine, Question, Sieve};
@@ -26,12 +26,12 @@ fn round<P: LedProgress>(
     Ok(())
 }
 
-// What the rounds came to: the greatest number of foreign moves whose round was gone through whole, and why
-// they halted before their end.
+// What the rounds came to: the greatest number of foreign moves whose round was gone through whole, and why no
+// round came after it, or the next one halted.
 #[derive(Clone, Copy)]
 struct Ran {
     foreign: Option<u8>,
-    halt: Option<Halt>,
+    end: Result<LedEnd, Halt>,
 }
 
 // The rounds with no foreign move, with one, and so on, up to the first in which none was refused.
@@ -45,18 +45,19 @@ fn rounds<P: LedProgress>(
 ) -> Ran {
     let mut ran = Ran {
         foreign: None,
-        halt: None,
+        end: Ok(LedEnd::Foreign),
     };
     for foreign in 0..=most {
         machine.refused = false;
         match round(question, frames, machine, length, foreign, watch) {
             Ok(()) => ran.foreign = Some(foreign),
             Err(halt) => {
-                ran.halt = Some(halt);
+                ran.end = Err(halt);
                 return ran;
             }
         }
         if !machine.refused {
+            ran.end = Ok(LedEnd::All);
             return ran;
         }
     }
@@ -98,7 +99,8 @@ struct Reach {
 /// the stated length come first, then those of a ply less, down to none. At a node the first listed game's
 /// move at that ply comes first, then the other familiar moves, then the foreign ones. The last two plies of
 /// a game may be any moves. The rounds end with the first in which no foreign move was refused that is not
-/// known to lead nowhere: it met all games.
+/// known to lead nowhere: it met all games (`LedEnd::All`). Before it they end with the round of as many foreign
+/// moves as `limits` allow, or with the nodes.
 ///
 /// A node is a position that is visited with at least one ply left. It is cut where the bounds or the prices
 /// of `search` exclude it, and where a node of the same future and as many plies left was barren with as many
@@ -173,12 +175,17 @@ fn led<P: LedProgress>(
     let mut frames = Frames::new();
     let ran = rounds(&question, &mut frames, &mut machine, length, most, watch);
     let Machine { sieve, game, .. } = machine;
-    match ran.halt {
-        Some(Halt::Found) => Ok(Led::Found(game)),
-        Some(Halt::Memory) => Err(LedFault::Memory),
-        Some(Halt::Budget) | None => Ok(Led::NotFound {
-            foreign: ran.foreign,
-            nodes: limits.max_nodes.saturating_sub(sieve.nodes),
-        }),
-    }
+    let foreign = ran.foreign;
+    let nodes = limits.max_nodes.saturating_sub(sieve.nodes);
+    let end = match ran.end {
+        Ok(end) => end,
+        Err(Halt::Budget) => LedEnd::Nodes,
+        Err(Halt::Found) => return Ok(Led::Found(game)),
+        Err(Halt::Memory) => return Err(LedFault::Memory),
+    };
+    Ok(Led::NotFound {
+        foreign,
+        nodes,
+        end,
+    })
 }

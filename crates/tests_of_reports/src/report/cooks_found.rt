@@ -34,17 +34,34 @@ fn other_games_of_every_kind(rt: HostRuntime) {
     check_table(&rt, OF_EVERY_KIND);
 }
 
-// The only game of two moves leads to a shorter one that White ends, and that to one that Black ends; none is found with no
-// node; a game that ends elsewhere leads to none.
+// The only game of two moves leads to a shorter one that White ends, and that to one that Black ends; a game that ends
+// elsewhere leads to none.
 const SHORTER: &str =
     "cooks | after-e4-e5 | 2.0 | 1. e3 e6 2. e4 e5 => Shorter => diagram rnbqkbnr/pppp1ppp/8/4p3/4P3/8/PPPP1PPP/RNBQKBNR$length 2.0$games 1$1. e3 e6 2. e4 e5$a game of 3 plies$1. e3 e5 2. e4$not sound$
 cooks | after-e4-e5 | 1.5 | 1. e3 e5 2. e4 => Shorter => diagram rnbqkbnr/pppp1ppp/8/4p3/4P3/8/PPPP1PPP/RNBQKBNR$length 1.5$games 1$1. e3 e5 2. e4$a game of 2 plies$1. e4 e5$not sound$
-cooks | array | 2.0 | 1. Nf3 Nf6 2. Ng1 Ng8$1. Nf3 Nc6 2. Ng1 Nb8 | 0 => NotFound => diagram rnbqkbnr/pppppppp/8/8/8/8/PPPPPPPP/RNBQKBNR$length 2.0$games 2$1. Nf3 Nc6 2. Ng1 Nb8$1. Nf3 Nf6 2. Ng1 Ng8$none found$
 cooks | after-e4 | 1.5 | 1. e3 Nf6 2. e4 => Check(Listed(NotReaching(0))): game 1 does not end on the diagram";
 
 #[test]
 fn shorter_games_or_none(rt: HostRuntime) {
     check_table(&rt, SHORTER);
+}
+
+// None is found: all games were gone through, also of one game and of none of a ply; the nodes came to their end, before a
+// round was gone through and after one; no more foreign moves were allowed, where the other game, with the knight by h3, has
+// two. With two listed games the problem is not sound, whatever the search came to.
+const NONE: &str =
+    "cooks | fools-mate | 2.0 | 1. f3 e5 2. g4 Qh4#$1. g4 e5 2. f3 Qh4# => NotFound => diagram rnb1kbnr/pppp1ppp/8/4p3/6Pq/5P2/PPPPP2P/RNBQKBNR$length 2.0$games 2$1. f3 e5 2. g4 Qh4#$1. g4 e5 2. f3 Qh4#$none: the search went through all games$not sound$
+cooks | after-e4 | 0.5 | 1. e4 | 0 => NotFound => diagram rnbqkbnr/pppppppp/8/8/4P3/8/PPPP1PPP/RNBQKBNR$length 0.5$games 1$1. e4$none: the search went through all games$
+cooks | array | 0.0 | - | 0 => NotFound => diagram rnbqkbnr/pppppppp/8/8/8/8/PPPPPPPP/RNBQKBNR$length 0.0$games 1$-$none: the search went through all games$
+cooks | array | 2.0 | 1. Nf3 Nf6 2. Ng1 Ng8$1. Nf3 Nc6 2. Ng1 Nb8 | 0 => NotFound => diagram rnbqkbnr/pppppppp/8/8/8/8/PPPPPPPP/RNBQKBNR$length 2.0$games 2$1. Nf3 Nc6 2. Ng1 Nb8$1. Nf3 Nf6 2. Ng1 Ng8$none found: node limit reached$not sound$
+cooks | schweig | 4.0 | 1. Nc3 d6 2. Nd5 Nd7 3. Nxe7 Ndf6 4. Nxg8 Nxg8 | 0 => NotFound => diagram r1bqkbnr/ppp2ppp/3p4/8/8/8/PPPPPPPP/R1BQKBNR$length 4.0$games 1$1. Nc3 d6 2. Nd5 Nd7 3. Nxe7 Ndf6 4. Nxg8 Nxg8$none found: node limit reached$
+cooks | schweig | 4.0 | 1. Nc3 d6 2. Nd5 Nd7 3. Nxe7 Ndf6 4. Nxg8 Nxg8 | 190 => NotFound => diagram r1bqkbnr/ppp2ppp/3p4/8/8/8/PPPPPPPP/R1BQKBNR$length 4.0$games 1$1. Nc3 d6 2. Nd5 Nd7 3. Nxe7 Ndf6 4. Nxg8 Nxg8$none with at most 0 foreign moves: node limit reached$
+cooks | rnbq1Nnr/pppp1pp1/4p3/2k5/8/8/PPPPPPPP/RNBQKB1R | 4.0 | 1. Nf3 e6 2. Ng5 Ke7 3. Nxh7 Kd6 4. Nxf8 Kc5 | 9000 | 0 => NotFound => diagram rnbq1Nnr/pppp1pp1/4p3/2k5/8/8/PPPPPPPP/RNBQKB1R$length 4.0$games 1$1. Nf3 e6 2. Ng5 Ke7 3. Nxh7 Kd6 4. Nxf8 Kc5$none with at most 0 foreign moves: no more were allowed$
+cooks | rnbq1Nnr/pppp1pp1/4p3/2k5/8/8/PPPPPPPP/RNBQKB1R | 4.0 | 1. Nf3 e6 2. Ng5 Ke7 3. Nxh7 Kd6 4. Nxf8 Kc5 | 9000 | 1 => NotFound => diagram rnbq1Nnr/pppp1pp1/4p3/2k5/8/8/PPPPPPPP/RNBQKB1R$length 4.0$games 1$1. Nf3 e6 2. Ng5 Ke7 3. Nxh7 Kd6 4. Nxf8 Kc5$none with at most 1 foreign move: no more were allowed$";
+
+#[test]
+fn no_games(rt: HostRuntime) {
+    check_table(&rt, NONE);
 }
 
 // One text is bad, the first is told; a game is no solution; none is given.

@@ -16,6 +16,43 @@ fn limits(rt: HostRuntime) {
     check_table(&rt, LIMITS);
 }
 
+// How a search ends that finds no game.
+fn ended<R: Abort + AllocGlobal>(rt: &R, games: &str, nodes: u64, foreign: &str) -> Said {
+    let asked = asked_by(rt, games);
+    let limits = limits_of(nodes, foreign);
+    let (diagram, length) = (&asked.diagram, asked.length);
+    let alloc = rt.alloc();
+    match search_led(alloc, diagram, length, &asked.games, limits, &mut Unwatched) {
+        Ok(Led::NotFound { end, .. }) => words(&format_args!("{end:?}")),
+        Ok(Led::Found(_)) => words(&"a game"),
+        Err(fault) => words(&fault),
+    }
+}
+
+// Games, how many nodes are allowed, how many foreign moves, and how the search ends. With both games of the diagram all are
+// gone through; with one it has to allow a foreign move. Of two plies or fewer no move is foreign.
+const ENDS: &str =
+    "1. e3 b5 2. Bc4 bxc4 3. d3 cxd3 4. Qxd3/1. e3 b5 2. Bc4 bxc4 3. d4 cxd3 4. Qxd3 | 1000000 => All
+1. e3 b5 2. Bc4 bxc4 3. d3 cxd3 4. Qxd3/1. e3 b5 2. Bc4 bxc4 3. d4 cxd3 4. Qxd3 | 1000000 | 9 => All
+1. e3 b5 2. Bc4 bxc4 3. d3 cxd3 4. Qxd3/1. e3 b5 2. Bc4 bxc4 3. d4 cxd3 4. Qxd3 | 20 => Nodes
+1. e3 b5 2. Bc4 bxc4 3. d3 cxd3 4. Qxd3/1. e3 b5 2. Bc4 bxc4 3. d4 cxd3 4. Qxd3 | 20 | 0 => Nodes
+1. e3 b5 2. Bc4 bxc4 3. d3 cxd3 4. Qxd3 | 1000000 | 0 => Foreign
+1. e3 b5 2. Bc4 bxc4 3. d3 cxd3 4. Qxd3 | 1000000 | 1 => a game
+1. e3 b5 2. Bc4 bxc4 3. d3 cxd3 4. Qxd3 | 0 | 0 => Nodes
+1. e3 e6 | 1000 | 0 => All
+1. e3 | 0 | 0 => All
+- | 0 => All";
+
+#[test]
+fn how_a_led_search_ends(rt: HostRuntime) {
+    for row in ENDS.lines() {
+        let (left, wanted) = halves(&rt, row, " => ");
+        let nodes = number(&rt, field(left, 1));
+        let said = ended(&rt, field(left, 0), nodes, field(left, 2));
+        assert_eq!(rt; said.as_str(), wanted, "{left}");
+    }
+}
+
 // With all games in the list none is found, and without the first of them it is: a diagram's games, of which a slash
 // parts the lines.
 const LISTS: &str = "1. f3 e5 2. g4 Qh4#/1. g4 e5 2. f3 Qh4#
