@@ -301,7 +301,14 @@ const COMMANDS: [Entry; 10] = [
         name: "search",
         about: "Searches for the games, writes a certificate, checks it, and reports",
         below: SEARCH_EXAMPLE,
-        words: &[DIAGRAM, LENGTH, CERTIFICATE_WRITTEN, NODES, GAMES_KEPT, JOURNEYS],
+        words: &[
+            DIAGRAM,
+            LENGTH,
+            CERTIFICATE_WRITTEN,
+            NODES,
+            GAMES_KEPT,
+            JOURNEYS,
+        ],
     },
     Entry {
         name: "why",
@@ -313,7 +320,14 @@ const COMMANDS: [Entry; 10] = [
         name: "page",
         about: "Writes a page of HTML that shows a certificate",
         below: PAGE_EXAMPLE,
-        words: &[DIAGRAM, LENGTH, CERTIFICATE, RECORDS, NODES_TOLD, JOURNEYS_TAKEN],
+        words: &[
+            DIAGRAM,
+            LENGTH,
+            CERTIFICATE,
+            RECORDS,
+            NODES_TOLD,
+            JOURNEYS_TAKEN,
+        ],
     },
     Entry {
         name: "upgrade",
