@@ -21,6 +21,7 @@ mod DeadColors
 mod LastRounds
 mod LeastNeeds
 mod FirstDead
+mod WhoIsReached
 mod FrontLemmas
 mod LevelLemmas
 mod StepLemmas

@@ -1,17 +1,19 @@
--- What a colour needs at least, and the first colour that has no way alive.
+-- What a colour needs at least, to whom of the diagram nobody comes, and the first colour that has no way alive.
 use Rattle.std.specs.Prelude.{◌≡◌, ℕ, ◌+◌, ◌<◌, ◌≤◌, Option, List, length}
 use Rattle.pg_board.specs.declared.man.Color.{Color}
 use Rattle.pg_board.specs.declared.man.Color.TheVariants.{White, Black}
+use Rattle.pg_board.specs.declared.man.Kind.{Kind}
 use Rattle.pg_board.specs.Tally.{total}
 use Rattle.pg_board.specs.Placement.{Placement}
 use Rattle.pg_position.specs.declared.rights.Wing.{Wing}
 use Rattle.pg_position.specs.declared.state.State.{State}
+use Rattle.pg_position.specs.Position.{Stands}
 use Rattle.pg_captures.specs.Counting.{men, any_man}
-use Rattle.pg_travel.specs.Origins.{charge}
+use Rattle.pg_travel.specs.Origins.{charge, counted}
 use Rattle.pg_assignments.specs.Assignments.{IsLeast}
 use Rattle.pg_journeys.specs.Facts.{Facts}
 use Rattle.pg_journeys.specs.FirstFacts.{HasWalls}
-use Rattle.pg_journeys.specs.Journeys.{Leg, quiet, IsWayUnder, Journeys}
+use Rattle.pg_journeys.specs.Journeys.{Leg, IsPath, quiet, IsWayUnder, Journeys}
 use Rattle.pg_journeys.specs.Plans.{Measure, Moves, QuietMoves, IsAlive}
 use Rattle.pg_journeys.specs.Rounds.{HasFew, AreFacts}
 
@@ -30,6 +32,13 @@ AreEnough f d p c u n =
 -- o is the least number of c's moves that is enough by a measure; none where no number up to `most` is
 abbrev pub IsLeastNeed : ℕ → Facts → Placement → State → Color → Measure → Option ℕ → Type 0
 IsLeastNeed most f d p c u o = IsLeast (λ n. (n ≤ most) × AreEnough f d p c u n) o
+
+-- ---- who is reached
+-- in some way a man of c comes to be of kind j on t, by a path of at most so many steps
+abbrev pub IsReached : ℕ → Facts → State → Color → Kind → ℕ → Type 0
+IsReached most f p c j t =
+    (way : Option Wing) × IsWayUnder f p c way × (k : Kind) × (s : ℕ) × (s < 64) × Stands p.board c k s × (ls : List Leg)
+    × IsPath f c k (counted c way s) ls j t × (length ls ≤ most)
 
 -- ---- the first colour that has no way alive
 -- the bound asks for plans: each wall of d has its pawn in p, and p has as many men of each colour as d at least, and at

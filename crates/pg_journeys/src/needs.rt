@@ -1,24 +1,28 @@
-//! What a colour without a way alive needs.
-ghost use Rattle.std.specs.Prelude.{◌≡◌, Bool, ◌<◌, ◌≤◌, ◌⊎◌, IfSome, IfNone, MatchOption};
+//! What a colour without a way alive needs, and whom of the diagram its men cannot become.
+ghost use Rattle.std.specs.Prelude.{◌≡◌, ℕ, Bool, ◌<◌, ◌≤◌, ◌⊎◌, ◌↔◌, false, IfSome, IfNone, IsTrue, MatchOption};
+ghost use Rattle.pg_board.specs.declared.man.Kind.{Kind as AnyKind};
 ghost use Rattle.pg_board.specs.Placement.{Placement};
+ghost use Rattle.pg_position.specs.Position.{Stands};
 ghost use Rattle.pg_captures.specs.Counting.{men, any_man};
 ghost use Rattle.pg_assignments.specs.Assignments.{IsLeast};
 ghost use Rattle.pg_assignments.specs.Search.{lesser_of};
 ghost use Rattle.pg_journeys.specs.Known.{known};
-ghost use Rattle.pg_journeys.specs.Needs.{AsksForPlans, IsFirstDead, IsLeastNeed};
+ghost use Rattle.pg_journeys.specs.Needs.{AsksForPlans, IsFirstDead, IsLeastNeed, IsReached};
 ghost use Rattle.pg_journeys.specs.Plans.{Moves, QuietMoves};
 ghost use Rattle.pg_journeys.specs.Rounds.{HasFew, HasDeadColor};
-ghost use Rattle.pg_journeys.specs.inner.Needing.{AreFirstBy, PayInSome, PayInWay, counted_with};
+ghost use Rattle.pg_journeys.specs.inner.Costing.{count_of};
+ghost use Rattle.pg_journeys.specs.inner.Needing.{AreFirstBy, IsReachedIn, IsReachedOf, IsUnreached, PayInSome, PayInWay, counted_with};
 ghost use Rattle.pg_journeys.specs.inner.Sides.{AreAims, IsSide};
 ghost use Rattle.pg_journeys.specs.inner.Walking.{HasFewer};
 
+use crate::distances::place;
 use crate::facts::Facts;
 use crate::ground::steps_table;
-use crate::plans::{Aims, Side, charge, costs_of, fill_aims, is_way};
+use crate::plans::{Aims, Side, charge, costs_of, counted, fill_aims, is_way};
 use crate::rounds::{first_facts, has_few, has_fewer, has_walls, next_facts};
 use crate::shown::{is_dead, side_of};
 use pg_assignments::least_total;
-use pg_board::Color;
+use pg_board::{Color, Square};
 use pg_captures::all_men;
 use pg_fen::Diagram;
 use pg_position::{Position, Wing};
@@ -134,6 +138,91 @@ pub fn least_counts(
         moves: least_in_all(&side, false),
         quiet_moves: least_in_all(&side, true),
     })
+}
+
+// The count of the paths of the man i to the man e of the diagram, in a way; 255 for none.
+fn count_to(side: &Side, aims: &Aims, way: Option<Wing>, e: usize, i: usize) -> u8
+    requires end { e < 17 }
+    requires man { i < 16 }
+    ensures { result ≡ count_of side.now aims.now way e i }
+{
+    let square = counted(side.ground.color, way, side.men.squares[i]);
+    aims[e][place(side.men.kinds[i], square)]
+}
+
+// Whether in an open way some man comes to be the man e of the diagram.
+fn is_reached_in(side: &Side, aims: &Aims, way: Option<Wing>, e: usize) -> bool
+    requires side { (d : Placement) × IsSide d side.now }
+    requires goal { e < side.now.goals.count }
+    ensures { AreAims side.now false 199 aims.now → IsTrue result ↔ IsReachedIn side.now way e }
+{
+    if !is_way(&side.position, &side.ground.facts, side.ground.color, way) {
+        return false;
+    }
+    for i in 0..side.men.count {
+        if count_to(side, aims, way, e, i) < 255 {
+            return true;
+        }
+    }
+    false
+}
+
+// Whether in some way some man comes to be the man e of the diagram.
+fn is_reached(side: &Side, aims: &Aims, e: usize) -> bool
+    requires side { (d : Placement) × IsSide d side.now }
+    requires goal { e < side.now.goals.count }
+    ensures { AreAims side.now false 199 aims.now → IsTrue result ↔ IsReachedOf side.now e }
+{
+    if is_reached_in(side, aims, None, e) {
+        return true;
+    }
+    if is_reached_in(side, aims, Some(Wing::KingSide), e) {
+        return true;
+    }
+    is_reached_in(side, aims, Some(Wing::QueenSide), e)
+}
+
+// The square of a man of the diagram to whom nobody comes in any way.
+fn unreached_of(side: &Side, aims: &Aims) -> Option<Square>
+    requires side { (d : Placement) × IsSide d side.now }
+    ensures { AreAims side.now false 199 aims.now → IsUnreached side.now result }
+{
+    for e in 0..side.goals.count {
+        if !is_reached(side, aims, e) {
+            return Some(side.goals.squares[e]);
+        }
+    }
+    None
+}
+
+/// The square of a man of the diagram that no man of its colour comes to be under facts, in any way, by at most
+/// `LeastCounts::MOST` steps. None where each is reached, and where the colour has fewer men in the position than in
+/// the diagram, or more than sixteen.
+pub fn unreached(
+    diagram: &Diagram,
+    position: &Position,
+    facts: &Facts,
+    color: Color,
+) -> Option<Square>
+    ensures some { IfSome result (λ t. (t < 64) × (j : AnyKind) × Stands diagram.now color j t
+        × ¬ IsReached 199 (known facts.now) position.now color j t) }
+    ensures none { IfNone result ((men color any_man position.now.board < men color any_man diagram.now)
+        ⊎ ((16 < men color any_man position.now.board)
+        ⊎ ((j : AnyKind) (t : ℕ) → t < 64 → Stands diagram.now color j t →
+        IsReached 199 (known facts.now) position.now color j t))) }
+{
+    let here = all_men(&position.board(), color);
+    if here < all_men(&diagram.board(), color) {
+        return None;
+    }
+    if here > 16 {
+        return None;
+    }
+    let table = steps_table(facts.still);
+    let side = side_of(diagram, position, facts, color, &table);
+    let mut aims = [[255u8; 384]; 17];
+    fill_aims(&side, false, LeastCounts::MOST, &mut aims);
+    unreached_of(&side, &aims)
 }
 
 // The first colour that has no way alive by facts, White first.

@@ -1,0 +1,123 @@
+-- Whom of the diagram some man comes to be. Leads to the contracts of `is_reached_in`, `is_reached`, `unreached_of` and `unreached`.
+use Rattle.std.proofs.Common.{◌≡◌, ℕ, ◌+◌, ◌<◌, ◌≤◌, ◌⊎◌, ◌↔◌, inl, inr, IsTrue, IfSome, IfNone, MatchOption, Option, Some, None, Bool, true, false, List, length, refl, sym, subst, arith}
+use Rattle.std.proofs.lemmas.Bool.{cases_lt}
+use Rattle.pg_board.specs.declared.man.Color.{Color}
+use Rattle.pg_board.specs.declared.man.Kind.{Kind}
+use Rattle.pg_board.specs.Placement.{Placement}
+use Rattle.pg_position.specs.declared.rights.Wing.{Wing}
+use Rattle.pg_position.specs.declared.rights.Wing.TheVariants.{KingSide, QueenSide}
+use Rattle.pg_position.specs.declared.state.State.{State}
+use Rattle.pg_position.specs.Position.{Stands}
+use Rattle.pg_captures.specs.Counting.{men, any_man}
+use Rattle.pg_captures.specs.lemmas.BoardLemmas.{same_kind}
+use Rattle.pg_travel.specs.Origins.{counted}
+use Rattle.pg_travel.specs.lemmas.Values.{counted_low}
+use Rattle.pg_journeys.specs.Facts.{Facts}
+use Rattle.pg_journeys.specs.Journeys.{IsPath, IsWayUnder}
+use Rattle.pg_journeys.specs.Known.{known}
+use Rattle.pg_journeys.specs.Needs.{IsReached}
+use Rattle.pg_journeys.specs.lemmas.DecidingPaths.{weigh}
+use Rattle.pg_journeys.specs.lemmas.Weights.{weigh_length}
+use Rattle.pg_journeys.specs.inner.Counting.{counts}
+use Rattle.pg_journeys.specs.inner.Costing.{count_of}
+use Rattle.pg_journeys.specs.inner.Needing.{IsReachedIn, IsReachedOf, IsUnreached}
+use Rattle.pg_journeys.specs.inner.Sides.{facts_of, square_at, kind_at, IsSide, AreAims}
+use Rattle.pg_journeys.specs.declared.facts.Facts.{Facts as FactSets}
+use Rattle.pg_journeys.specs.declared.plans.Side.{Side}
+use Rattle.pg_journeys.proofs.CostLemmas.{path_as}
+use Rattle.pg_journeys.proofs.LastRounds.{is_not}
+
+-- ---- one way
+module _ (d : Placement) (x : Side) (aims : List (List ℕ)) (way : Option Wing) (e : ℕ) (side : IsSide d x) (are : AreAims x false 199 aims) (goal : e < x.goals.count) where
+  abbrev start : ℕ → ℕ
+  start i = counted x.ground.color way (square_at x.men i)
+
+  start_low : (i : ℕ) → i < x.men.count → start i < 64
+  start_low i li = counted_low x.ground.color way (square_at x.men i) (side.men.listing.low i li)
+
+  -- a count is one of a path
+  pub found_in : (i : ℕ) → i < x.men.count → IsWayUnder (facts_of x) x.position x.ground.color way → count_of x aims way e i < 255 → IsReachedIn x way e
+  found_in i li is_open some =
+      let q = are.comes e (kind_at x.men i) (start i) goal (start_low i li) some in
+      let small : count_of x aims way e i ≤ 199 = are.small e (kind_at x.men i) (start i) (omega (arith, goal, side.room, side.men.few)) (start_low i li) some in
+      let le : weigh (counts (facts_of x) x.ground.color false) q.0 ≤ count_of x aims way e i = q.2 in
+      let same : weigh (counts (facts_of x) x.ground.color false) q.0 ≡ length q.0 = weigh_length q.0 in
+      (is_open, i, li, q.0, q.1, omega arith)
+
+  -- no count, no path
+  pub none_in : ((i : ℕ) → i < x.men.count → 255 ≤ count_of x aims way e i) → ¬ IsReachedIn x way e
+  none_in none (is_open, i, li, ls, path, short) =
+      let same : weigh (counts (facts_of x) x.ground.color false) ls ≡ length ls = weigh_length ls in
+      let le : count_of x aims way e i ≤ weigh (counts (facts_of x) x.ground.color false) ls = are.least e (kind_at x.men i) (start i) ls goal (start_low i li) path (omega arith) in
+      let no : 255 ≤ count_of x aims way e i = none i li in
+      omega arith
+
+pub is_so : {A : Type 0} → A → IsTrue true ↔ A
+is_so a = (λ t. a, λ h. refl)
+
+pub is_not_so : {A : Type 0} → ¬ A → IsTrue false ↔ A
+is_not_so out = (λ t. absurd (cc), λ h. absurd (out h))
+
+pub closed_way : (x : Side) (way : Option Wing) (e : ℕ) (r : Bool) → IsTrue r ↔ IsWayUnder (facts_of x) x.position x.ground.color way → r ≡ false → IsTrue false ↔ IsReachedIn x way e
+closed_way x way e r is off = is_not_so (λ h. is_not r is off h.0)
+
+-- ---- all ways
+pub third_reached : (x : Side) (e : ℕ) (a b c : Bool) → IsTrue a ↔ IsReachedIn x None e → a ≡ false → IsTrue b ↔ IsReachedIn x (Some KingSide) e → b ≡ false → IsTrue c ↔ IsReachedIn x (Some QueenSide) e → IsTrue c ↔ IsReachedOf x e
+third_reached x e a b c is_a off_a is_b off_b is_c = (λ h. (Some QueenSide, is_c.0 h), λ h. back h.0 h.1)
+  where
+    back : (way : Option Wing) → IsReachedIn x way e → IsTrue c
+    back None h = absurd (is_not a is_a off_a h)
+    back (Some KingSide) h = absurd (is_not b is_b off_b h)
+    back (Some QueenSide) h = is_c.1 h
+
+pub next_reached : (x : Side) (e m : ℕ) → m ≡ e + 1 → ((j : ℕ) → j < e → IsReachedOf x j) → IsReachedOf x e → (j : ℕ) → j < m → IsReachedOf x j
+next_reached x e m next before here j low = elim (cases_lt j e) [
+  | inl less ↦ before j less
+  | inr more ↦ (let same : e ≡ j = omega arith in subst (λ (y : ℕ). IsReachedOf x y) same here)
+]
+
+-- ---- of the position and the diagram
+to_reached : (d : Placement) (x : Side) (e : ℕ) → IsSide d x → IsReachedOf x e → IsReached 199 (facts_of x) x.position x.ground.color (kind_at x.goals e) (square_at x.goals e)
+to_reached d x e side (way, (is_open, i, li, ls, path, short)) = (way, is_open, kind_at x.men i, square_at x.men i, side.men.listing.low i li, side.men.kinds i li, ls, path, short)
+
+of_reached : (d : Placement) (x : Side) (e : ℕ) → IsSide d x → IsReached 199 (facts_of x) x.position x.ground.color (kind_at x.goals e) (square_at x.goals e) → IsReachedOf x e
+of_reached d x e side (way, is_open, k, s, low, stands, ls, path, short) =
+    let at : (i : ℕ) × (i < x.men.count) × (square_at x.men i ≡ s) = side.men.listing.listed k s low stands in
+    let here : Stands x.position.board x.ground.color (kind_at x.men at.0) s = subst (λ (y : ℕ). Stands x.position.board x.ground.color (kind_at x.men at.0) y) at.2 (side.men.kinds at.0 at.1) in
+    let same : k ≡ kind_at x.men at.0 = same_kind stands here in
+    let from_here : IsPath (facts_of x) x.ground.color k (counted x.ground.color way (square_at x.men at.0)) ls (kind_at x.goals e) (square_at x.goals e) =
+    subst (λ (y : ℕ). IsPath (facts_of x) x.ground.color k (counted x.ground.color way y) ls (kind_at x.goals e) (square_at x.goals e)) (sym at.2) path in
+    (way, (is_open, at.0, at.1, ls, path_as (facts_of x) x.ground.color k (kind_at x.men at.0) (counted x.ground.color way (square_at x.men at.0)) ls (kind_at x.goals e) (kind_at x.goals e) (square_at x.goals e) (square_at x.goals e) same refl refl from_here, short))
+
+-- a man of the diagram who is not reached, or each is
+abbrev pub Tells : Placement → Facts → State → Color → Option ℕ → Type 0
+Tells d f p c o =
+    MatchOption o ((j : Kind) (t : ℕ) → t < 64 → Stands d c j t → IsReached 199 f p c j t)
+    (λ t. (t < 64) × (j : Kind) × Stands d c j t × ¬ IsReached 199 f p c j t)
+
+of_side : (d : Placement) (x : Side) (o : Option ℕ) → IsSide d x → IsUnreached x o → Tells d (facts_of x) x.position x.ground.color o
+of_side d x None side all = λ j t low stands.
+    let at : (e : ℕ) × (e < x.goals.count) × (square_at x.goals e ≡ t) = side.goals.listing.listed j t low stands in
+    let there : Stands d x.ground.color (kind_at x.goals at.0) t = subst (λ (y : ℕ). Stands d x.ground.color (kind_at x.goals at.0) y) at.2 (side.goals.kinds at.0 at.1) in
+    let same : kind_at x.goals at.0 ≡ j = same_kind there stands in
+    subst (λ (y : Kind). IsReached 199 (facts_of x) x.position x.ground.color y t) same
+    (subst (λ (y : ℕ). IsReached 199 (facts_of x) x.position x.ground.color (kind_at x.goals at.0) y) at.2 (to_reached d x at.0 side (all at.0 at.1)))
+of_side d x (Some t) side (e, low, here, not) = (
+  subst (λ (y : ℕ). y < 64) here (side.goals.listing.low e low),
+  kind_at x.goals e,
+  subst (λ (y : ℕ). Stands d x.ground.color (kind_at x.goals e) y) here (side.goals.kinds e low),
+  λ h. not (of_reached d x e side (subst (λ (y : ℕ). IsReached 199 (facts_of x) x.position x.ground.color (kind_at x.goals e) y) (sym here) h)),
+)
+
+pub tells_here : (d : Placement) (x : Side) (f : FactSets) (p : State) (c : Color) (o : Option ℕ) → x.position ≡ p → x.ground.facts ≡ f → x.ground.color ≡ c → IsSide d x → IsUnreached x o → Tells d (known f) p c o
+tells_here d x f p c o ep ef ec side h =
+    subst (λ (z : Color). Tells d (known f) p z o) ec (subst (λ (z : State). Tells d (known f) z x.ground.color o) ep (subst (λ (z : FactSets). Tells d (known z) x.position x.ground.color o) ef (of_side d x o side h)))
+
+pub tells_some : (d : Placement) (f : Facts) (p : State) (c : Color) (o : Option ℕ) → Tells d f p c o → IfSome o (λ t. (t < 64) × (j : Kind) × Stands d c j t × ¬ IsReached 199 f p c j t)
+tells_some d f p c None h = tt
+tells_some d f p c (Some t) h = h
+
+pub tells_none : (d : Placement) (f : Facts) (p : State) (c : Color) (o : Option ℕ) → Tells d f p c o →
+    IfNone o ((men c any_man p.board < men c any_man d) ⊎ ((16 < men c any_man p.board) ⊎ ((j : Kind) (t : ℕ) → t < 64 → Stands d c j t → IsReached 199 f p c j t)))
+tells_none d f p c None h = inr (inr h)
+tells_none d f p c (Some t) h = tt
