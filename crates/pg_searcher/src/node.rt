@@ -101,7 +101,7 @@ struct Keyed {
 // Whether journeys to a diagram, where one is told, exclude a node with so many plies left. Where none is, that is but one
 // branch.
 #[inline(always)]
-fn is_cut(journeys: &Option<Diagram>, position: &Position, left: u8) -> bool
+fn is_cut_by_journeys(journeys: &Option<Diagram>, position: &Position, left: u8) -> bool
     ensures { MatchOption journeys.now (result ≡ false)
         (λ diagram. IsTrue result ↔ JourneysHold diagram position.now left) }
 {
@@ -150,7 +150,7 @@ fn open_or_cut<W: Sink>(
     ensures runs { OnOk result (output.new.writer.failed ≡ false) }
     ensures says { (plies : ℕ) → RefusesTruly plies (W.has_failed sink.new) result }
 {
-    if !is_cut(&output.journeys, position, node.left) {
+    if !is_cut_by_journeys(&output.journeys, position, node.left) {
         return open(output, sink, position, sides, node.key);
     }
     match output.cut(CutBy::Journeys, sink) {
