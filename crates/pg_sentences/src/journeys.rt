@@ -107,7 +107,7 @@ fn who_is_captured(node: &Node, color: Color, squares: SquareSet) -> Captured {
     }
 }
 
-// The captures that the other colour owes.
+// The captures that a colour owes; none where it has made too many.
 fn owed_men(node: &Node, color: Color) -> u8 {
     let owed = owed(color, node.diagram, node.position);
     if owed > 0 {
@@ -117,8 +117,7 @@ fn owed_men(node: &Node, color: Color) -> u8 {
     }
 }
 
-// What a colour lacks, where so many moves are its own and so many captures are owed by it; none where it has enough by
-// each measure.
+// What a colour needs beyond its own moves, of which so many are captures that it owes; none where each measure has enough.
 fn needed_of(least: &LeastCounts, own: u8, owed: u8) -> Option<Needed> {
     let Some(moves) = least.moves else {
         return Some(Needed::Endless);
