@@ -5,6 +5,7 @@ use arrayvec::ArrayVec;
 use pg_captures::{Bound, Captures, Promotions};
 use pg_certificate::Bare;
 use pg_fen::Diagram;
+use pg_journeys::Journeys;
 use pg_pawns::PawnFiles;
 use pg_position::{Move, Position};
 use pg_sentences::{Ending, Tally};
@@ -60,6 +61,7 @@ fn cut_by(tally: &mut Tally, code: u8) -> &mut u16 {
         Promotions::CODE => &mut tally.promotions,
         PawnFiles::CODE => &mut tally.files,
         Travel::CODE => &mut tally.travel,
+        Journeys::CODE => &mut tally.journeys,
         _ => &mut tally.others,
     }
 }

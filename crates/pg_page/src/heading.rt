@@ -5,7 +5,7 @@ ghost use Rattle.pg_certificate.specs.Pushing.{Adds, Pushes};
 ghost use Rattle.pg_page.specs.Heading.{checked_text};
 
 use crate::lines::{move_text, write_escaped, write_number};
-use crate::script::{SCRIPT, VIEWER};
+use crate::script::{NAMES, NAMES_WITH_JOURNEYS, SCRIPT, VIEWER};
 use crate::style::{BEGIN, MEN};
 use pg_board::{Board, Color, Man, Square};
 use pg_certificate::{Refused, Sink};
@@ -232,13 +232,25 @@ pub(crate) fn write_head<W: Sink>(
     write_all(&[VIEWER, "<pre id=\"trees\" hidden>"], out)
 }
 
+// Appends the script, which names journeys where they are among the bounds.
+fn write_script<W: Sink>(has_journeys: bool, out: &mut W) -> Result<(), Refused>
+    ensures fault { OnErr result (W.has_failed out.new ≡ true) }
+{
+    if has_journeys {
+        if let Some((start, rest)) = SCRIPT.split_once(NAMES) {
+            return write_all(&[start, NAMES_WITH_JOURNEYS, rest], out);
+        }
+    }
+    out.push(SCRIPT.as_bytes())
+}
+
 // Appends what stands behind the trees.
-pub(crate) fn write_end<W: Sink>(end: &str, out: &mut W) -> Result<(), Refused>
+pub(crate) fn write_end<W: Sink>(end: &str, has_journeys: bool, out: &mut W) -> Result<(), Refused>
     ensures runs { OnOk result (W.has_failed out.new ≡ false) }
     ensures fault { OnErr result (W.has_failed out.new ≡ true) }
 {
     out.push(end.as_bytes())?;
     out.push(b"</pre>\n<script>\n")?;
-    out.push(SCRIPT.as_bytes())?;
+    write_script(has_journeys, out)?;
     out.push(b"</script>\n</body>\n</html>\n")
 }

@@ -12,6 +12,7 @@ use pg_captures::Bound;
 use pg_certificate::{Refused, Sink, Source};
 use pg_checker::{Fault, Problem, RunFault};
 use pg_guide::{Gathered, WhyFault, gather};
+use pg_journeys::Journeys;
 use std::alloc::Global;
 
 /// What is to be shown: the texts of a diagram and of a length in moves, and at most how many expanded nodes of the
@@ -33,13 +34,30 @@ fn fault_of(stop: Stop) -> WhyFault
     }
 }
 
+// How a page is made: how many nodes are told at most, and whether journeys are among the bounds.
+#[derive(Clone, Copy)]
+struct Form {
+    nodes: u64,
+    has_journeys: bool,
+}
+
+// Whether journeys are among these bounds.
+fn has_journeys(bounds: &[Box<dyn Bound>]) -> bool {
+    for bound in bounds {
+        if bound.code() == Journeys::CODE {
+            return true;
+        }
+    }
+    false
+}
+
 // Writes the page of a certificate that is right, with what a third reading tells of its trees. Where that reading
 // gives something else than a certificate of the problem, the page says that it stops there. Not inlined: what it needs of the
 // stack would lie below the check too.
 #[inline(never)]
 fn show<R: Source, W: Sink>(
     problem: &Problem,
-    nodes: u64,
+    form: Form,
     found: &Gathered,
     told: &mut R,
     out: &mut W,
@@ -51,15 +69,15 @@ fn show<R: Source, W: Sink>(
     let what = Told {
         diagram: &problem.diagram,
         plies: problem.length.plies(),
-        floor: floor_for(&found.expanded, nodes),
+        floor: floor_for(&found.expanded, form.nodes),
     };
     match write_head(problem, found, out) {
         Ok(()) => {}
         Err(Refused) => return Err(Stop::Write),
     }
     let answer = match tell(&what, told, out, max_records) {
-        Ok(()) => write_end("", out),
-        Err(Stop::Refused) => write_end("?\n", out),
+        Ok(()) => write_end("", form.has_journeys, out),
+        Err(Stop::Refused) => write_end("?\n", form.has_journeys, out),
         Err(Stop::Read) => return Err(Stop::Read),
         Err(Stop::Write) => return Err(Stop::Write),
     };
@@ -120,7 +138,11 @@ pub fn page<R: Source, W: Sink>(
         Ok(found) => found,
         Err(fault) => return Err(fault),
     };
-    match show(&problem, asked.nodes, &found, told, out, max_records) {
+    let form = Form {
+        nodes: asked.nodes,
+        has_journeys: has_journeys(bounds),
+    };
+    match show(&problem, form, &found, told, out, max_records) {
         Ok(()) => Ok(()),
         Err(stop) => Err(fault_of(stop)),
     }

@@ -16,6 +16,13 @@ pub(crate) const VIEWER: &str = "<h2>The proof</h2>
 <p class='small'>The verdict is proved: <code>pg</code> writes a page only where its proved check of the certificate has said yes. The explanations on this page are not proved; they are the words of <code>pg why</code>, from the same certificate. Who wants to be sure runs <code>pg check</code>.</p>
 ";
 
+// How the script names the bounds of cuts, and how where journeys are one of them. A page without them has the same script as ever.
+pub(crate) const NAMES: &str = "4: 'travel' };
+  var KINDS = ['captures', 'promotions', 'pawn files', 'travel', ";
+
+pub(crate) const NAMES_WITH_JOURNEYS: &str = "4: 'travel', 5: 'journeys' };
+  var KINDS = ['captures', 'promotions', 'pawn files', 'travel', 'journeys', ";
+
 // The script. It folds the lines of the trees (docs/FORMATS.md) into nodes, and shows the one at which the reader stands.
 pub(crate) const SCRIPT: &str = "'use strict';
 (function () {

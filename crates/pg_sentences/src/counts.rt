@@ -32,6 +32,7 @@ fn write_cuts(tally: &Tally, text: &mut Sentence) {
         (tally.promotions, "by promotions"),
         (tally.files, "by pawn files"),
         (tally.travel, "by travel"),
+        (tally.journeys, "by journeys"),
         (tally.others, "by other bounds"),
         (tally.references, "by reference"),
     ];

@@ -9,7 +9,7 @@ use pg_travel::distance;
 const NONE: u8 = 255;
 
 // The kinds by their numbers.
-const KINDS: [Kind; 6] = [
+pub(crate) const KINDS: [Kind; 6] = [
     Kind::Pawn,
     Kind::Knight,
     Kind::Bishop,

@@ -5,6 +5,8 @@
 mod counts;
 mod distances;
 mod ending;
+mod journey_words;
+mod journeys;
 mod names;
 mod numbers;
 mod pairing;

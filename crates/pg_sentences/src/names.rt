@@ -15,7 +15,7 @@ pub(crate) fn color_name(color: Color) -> &'static str {
     }
 }
 
-fn kind_name(kind: Kind) -> &'static str {
+pub(crate) fn kind_name(kind: Kind) -> &'static str {
     match kind {
         Kind::Pawn => "pawn",
         Kind::Knight => "knight",
@@ -100,6 +100,11 @@ fn file_name(square: Square) -> &'static str {
 pub(crate) fn put_man(text: &mut Sentence, kind: Kind, square: Square) {
     let (file, rank) = (file_name(square), digit(u64::from(square.rank())));
     put_all(text, &["the ", kind_name(kind), " on ", file, rank]);
+}
+
+// Appends a square by its name.
+pub(crate) fn put_square(text: &mut Sentence, square: Square) {
+    put_all(text, &[file_name(square), digit(u64::from(square.rank()))]);
 }
 
 // A man by its kind and square, as in `the knight on g8`.

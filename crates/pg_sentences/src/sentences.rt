@@ -2,6 +2,7 @@
 
 use crate::distances::{Distances, GrowingDistances};
 use crate::ending::Ending;
+use crate::journey_words::write_journeys;
 use crate::numbers::{Excess, Node, captures_of, files_of, promotions_of};
 use crate::prices::reason_of_prices;
 use crate::travel::travel_of;
@@ -11,12 +12,13 @@ use pg_board::Color;
 use pg_captures::{Captures, Promotions};
 use pg_certificate::{Bare, Record};
 use pg_fen::Diagram;
+use pg_journeys::Journeys;
 use pg_pawns::PawnFiles;
 use pg_position::Position;
 use pg_travel::{Prices, Travel};
 use std::fmt::Write;
 
-// The codes of the four bounds, in the order in which they are asked.
+// The codes of the four bounds that a node is asked about which no record cuts, in the order in which they are asked.
 const CODES: [u8; 4] = [
     Captures::CODE,
     Promotions::CODE,
@@ -81,6 +83,9 @@ fn write_reason(
     code: u8,
     text: &mut Sentence,
 ) -> bool {
+    if code == Journeys::CODE {
+        return write_journeys(node, text);
+    }
     match first_excess(distances, node, code) {
         Some(found) => {
             write_excess(found.color, &found.excess, text);

@@ -12,6 +12,7 @@ pub struct Tally {
     pub promotions: u16,
     pub files: u16,
     pub travel: u16,
+    pub journeys: u16,
     pub others: u16,
     pub references: u16,
     pub played_out: u16,

@@ -89,7 +89,7 @@ fn unreached(node: &Node, color: Color) -> Option<(Man, Square)> {
 }
 
 // What the words begin with that no man of a colour comes to a square.
-fn nowhere_name(color: Color) -> &'static str {
+pub(crate) fn nowhere_name(color: Color) -> &'static str {
     match color {
         Color::White => "no man of white's can come to be ",
         Color::Black => "no man of black's can come to be ",

@@ -1,8 +1,12 @@
-//! The bound by journeys: positions with the answers of a model that was written apart from it, and what it says of facts.
+//! The bound by journeys: positions with the answers of a model that was written apart from it, what it says of facts, and what
+//! a colour needs that it excludes.
 
-use crate::texts::{check_bound, check_line, diagram, position, row_of};
+use crate::texts::{check_bound, check_line, color, diagram, position, row_of};
 use pg_captures::Bound;
-use pg_journeys::{Facts, Journeys, facts_for};
+use pg_fen::Diagram;
+use pg_journeys::{DeadColor, Facts, Journeys, dead_color, facts_for, least_counts, unreached};
+use pg_position::Position;
+use std::process::Abort;
 
 // Castling both ways in both colours, with the right and without; a capture en passant alone; promotion to wait for, of a man that
 // captures and of one that is captured; a wall that is missing; more than sixteen men; no ply left and 255.
@@ -267,5 +271,64 @@ fn no_facts_where_it_excludes(rt: HostRuntime) {
             plies,
         );
         check_line(&rt, line, found.is_none() == (row.wanted == "yes"));
+    }
+}
+
+// The first colour that has no way alive, what it needs at least in moves and in quiet moves, and the square, by its number, of a man
+// of the diagram whom nobody comes to be; a dash for no number. Or none, where the bound does not exclude by plans.
+const NEEDS: &str = "4k3/8/8/8/8/8/8/5RK1 | 4k3/8/8/8/8/8/8/4K2R w - - 0 1 | 1 => White 3 3 -
+4k3/8/8/8/8/8/8/5RK1 | 4k3/8/8/8/3n4/8/8/n3K2R w K - 0 1 | 3 => White 1 0 -
+8/7k/8/8/8/8/8/KQ6 | 8/P6k/8/8/8/8/8/K7 w - - 0 1 | 3 => White 3 3 -
+k7/8/8/8/8/8/8/K7 | 8/P7/1k6/8/8/8/8/K7 w - - 0 1 | 2 => Black 2 0 -
+rnbqkbnr/pppppppp/8/8/8/4B3/PPPPPPPP/RN1QKBNR | rnbqkbnr/pppppppp/8/8/8/8/PPPPPPPP/RNBQKBNR w KQkq - 0 1 | 20 => White - - 20
+rnb1kbnr/pppppppp/8/8/8/8/PPPPPPPP/RNBQKBNR | rnbqkbnr/pppppppp/8/8/8/8/PPPPPPPP/RNBQKBNR w KQkq - 0 1 | 13 => Black - - -
+rnb1kbnr/pppppppp/8/8/8/8/PPPPPPPP/RNBQKBNR | rnbqkbnr/pppppppp/8/8/8/8/PPPPPPPP/RNBQKBNR w KQkq - 0 1 | 15 => none
+r1bqkbnr/ppp2ppp/3p4/8/8/8/PPPPPPPP/R1BQKBNR | rnbqkbnr/pppppppp/8/8/8/8/PPPPPPPP/RNBQKBNR w KQkq - 0 1 | 6 => White 3 2 -
+rnbqkbnr/pppppppp/8/8/8/8/PPPPPPPP/RNBQKBNR | rnbqkbnr/pppppppp/8/8/4P3/8/PPPP1PPP/RNBQKBNR b KQkq e3 0 1 | 255 => none";
+
+// Whether a number is the one of a text.
+fn is_number(found: Option<u8>, wanted: &str) -> bool {
+    match found {
+        Some(found) => wanted != "-" && u64::from(found) == number(wanted),
+        None => wanted == "-",
+    }
+}
+
+// The word of a text with this number from 0.
+fn word<'a>(text: &'a str, number: usize) -> &'a str {
+    text.split(' ').nth(number).unwrap_or("")
+}
+
+// Whether a colour without a way alive needs what a text says.
+fn needs_are_wanted(
+    rt: &impl Abort,
+    diagram: &Diagram,
+    position: &Position,
+    dead: &DeadColor,
+    wanted: &str,
+) -> bool {
+    let least = least_counts(diagram, position, &dead.facts, dead.color).expect(rt, wanted);
+    let square = match unreached(diagram, position, &dead.facts, dead.color) {
+        Some(square) => Some(square.index()),
+        None => None,
+    };
+    dead.color == color(rt, word(wanted, 0))
+        && is_number(least.moves, word(wanted, 1))
+        && is_number(least.quiet_moves, word(wanted, 2))
+        && is_number(square, word(wanted, 3))
+}
+
+#[test]
+fn needs_of_dead_colors(rt: HostRuntime) {
+    for line in NEEDS.lines() {
+        let row = row_of(&rt, line);
+        let plies = row.asked.parse::<u8>().unwrap_or(0);
+        let goal = diagram(&rt, row.diagram);
+        let start = position(&rt, row.position);
+        let is_right = match dead_color(&goal, &start, plies) {
+            Some(dead) => needs_are_wanted(&rt, &goal, &start, &dead, row.wanted),
+            None => row.wanted == "none",
+        };
+        check_line(&rt, line, is_right);
     }
 }

@@ -7,7 +7,7 @@ mod lines;
 mod refusals;
 
 use crate::shared::{
-    MANY, Said, certificate, diagram_of, field, four_bounds, halves, length_of, lines_of, named,
+    MANY, Said, bounds_for, certificate, diagram_of, field, halves, length_of, lines_of, named,
     text_of, told, words,
 };
 use pg_captures::Bound;
@@ -17,7 +17,7 @@ use pg_guide::*;
 use std::alloc::Global;
 use std::process::Abort;
 
-// What is answered with the four bounds, by three readings of the certificate. A diagram, a length and moves
+// What is answered with the four bounds, or with journeys as a fifth where the row ends so, by three readings of the certificate. A diagram, a length and moves
 // are asked.
 fn explain<R: Abort + AllocGlobal, S: Source, W: Sink>(
     rt: &R,
@@ -31,12 +31,12 @@ fn explain<R: Abort + AllocGlobal, S: Source, W: Sink>(
     let length = field(asked, 1);
     let moves = field(asked, 2);
     let diagram = named(diagram);
+    let bounds = bounds_for(rt, field(asked, 5));
     let asked = Asked {
         diagram,
         length,
         moves,
     };
-    let bounds = four_bounds(rt);
     told(&why(
         rt.alloc(),
         &asked,

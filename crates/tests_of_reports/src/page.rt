@@ -6,14 +6,14 @@ mod refusals;
 mod trees;
 
 use crate::shared::{
-    MANY, Said, certificate, field, four_bounds, halves, lines_of, named, text_of, told,
+    MANY, Said, bounds_for, certificate, field, halves, lines_of, named, text_of, told,
 };
 use pg_certificate::format::MOST_NAMED;
 use pg_certificate::{FromRead, Sink, Source, ToWrite};
 use pg_page::*;
 use std::process::Abort;
 
-// What is answered with the four bounds, by three readings of the certificate. A diagram, a length and a number of nodes
+// What is answered with the four bounds, or with journeys as a fifth where the row ends so, by three readings of the certificate. A diagram, a length and a number of nodes
 // are asked.
 fn show<R: Abort + AllocGlobal, S: Source, W: Sink>(
     rt: &R,
@@ -23,12 +23,12 @@ fn show<R: Abort + AllocGlobal, S: Source, W: Sink>(
     read: &mut S,
     out: &mut W,
 ) -> Said {
+    let bounds = bounds_for(rt, field(asked, 5));
     let asked = Asked {
         diagram: named(field(asked, 0)),
         length: field(asked, 1),
         nodes: field(asked, 2).parse::<u64>().expect(rt, asked),
     };
-    let bounds = four_bounds(rt);
     told(&page(
         rt.alloc(),
         &asked,

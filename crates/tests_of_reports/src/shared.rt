@@ -4,6 +4,7 @@
 use arrayvec::ArrayString;
 use pg_captures::{Bound, Captures, Promotions};
 use pg_fen::{Diagram, Length};
+use pg_journeys::Journeys;
 use pg_pawns::PawnFiles;
 use pg_travel::Travel;
 use std::fmt::{Debug, Display, Write};
@@ -138,5 +139,14 @@ pub(crate) fn four_bounds<R: Abort + AllocGlobal>(rt: &R) -> Vec<Box<dyn Bound>>
     add(rt, &mut bounds, boxed(rt, Promotions));
     add(rt, &mut bounds, boxed(rt, PawnFiles));
     add(rt, &mut bounds, boxed(rt, Travel));
+    bounds
+}
+
+// These four, and behind them the bound by journeys if this word asks for it.
+pub(crate) fn bounds_for<R: Abort + AllocGlobal>(rt: &R, word: &str) -> Vec<Box<dyn Bound>> {
+    let mut bounds = four_bounds(rt);
+    if word == "journeys" {
+        add(rt, &mut bounds, boxed(rt, Journeys));
+    }
     bounds
 }

@@ -1,6 +1,7 @@
 //! What is said of a cut, by distances to a diagram and without them, is what the old form says: over games of drawn moves,
 //! each position asked about diagrams of other such games.
 
+mod journeys;
 mod longest;
 mod start;
 
@@ -151,10 +152,11 @@ fn check_lists(rt: &impl Abort, distances: &mut Both, node: &Node, rows: &Rows) 
     check_priced(rt, distances, node, Travel::CODE, color, prices);
 }
 
-// So it is for each of the other records, and for what excludes first.
+// So it is for each of the other records, one of them with a code that no bound has, and for what excludes first. The old form knows
+// no journeys.
 fn check_node(rt: &impl Abort, distances: &mut Both, node: &Node) {
     let prices = Prices::new(&[], &[]).expect(rt, "no prices");
-    for code in 1..=5u8 {
+    for code in [1u8, 2, 3, 4, 6] {
         let (said, record) = (Bare::Cut(code), Record::Cut(code));
         check_record(rt, distances, node, &said, &prices, &record);
         check_priced(rt, distances, node, code, Color::Black, prices);

@@ -41,6 +41,45 @@ fn cuts_in_both_versions(rt: HostRuntime) {
     }
 }
 
+// What the cut at the array says in the tree of the stated length, where each tree is cut there by journeys: a diagram, a length, how
+// many trees there are.
+const JOURNEYS: &str =
+    "rnbqkbnr/pppppppp/n7/8/8/8/PPPPPPPP/RNBQKBNR | 0.5 | 1 | white has captured 1 man too many
+rnbqkbnr/1pppppp1/8/8/8/8/PPPPPPPP/RNBQKBNR | 0.5 | 1 | white must capture 2 men and has 1 move left
+rnbqkbnr/pppppppp/8/8/8/2N2N2/PPPPPPPP/R1BQKB1R | 1.0 | 2 | white has 1 move left and needs 2 (journeys)
+rnbqkbnr/pppppppp/8/8/8/4B3/PPPPPPPP/RN1QKBNR | 1.5 | 3 | no man of white's can come to be the bishop on e3 (journeys)
+r1bqkbnr/pppppppp/8/8/8/8/PPPPPPPP/RNBQKBNR | 2.5 | 5 | black has no plan: a knight must be captured, and white captures nowhere (journeys)
+schweig | 3.0 | 6 | white has 3 moves left, 2 of them captures, and needs 2 quiet moves: a knight must come to one of 8 squares to be captured (journeys)";
+
+#[test]
+fn cuts_by_journeys(rt: HostRuntime) {
+    for row in JOURNEYS.lines() {
+        let diagram = field(row, 0);
+        let length = field(row, 1);
+        let trees = field(row, 2);
+        let said = field(row, 3);
+        let header = words(&format_args!("2 {diagram} {length}"));
+        let records = words(&format_args!("0205*{trees}"));
+        let bytes = certificate(&rt, header.as_str(), records.as_str());
+        let asked = words(&format_args!("{diagram} | {length} | - | - | - | journeys"));
+        let lines = words(&format_args!(
+            "at the start: excluded: {said}\nthe certificate is right\n"
+        ));
+        check(&rt, asked.as_str(), bytes.as_slice(), "()", lines.as_str());
+    }
+}
+
+// Nf3 and e5, where all first moves but Nf3 are cut by journeys; and the lines of three of them.
+const CHILDREN: &str =
+    "rnbqkbnr/pppp1ppp/8/4p3/8/5N2/PPPPPPPP/RNBQKB1R | 1.0 | - | 2 rnbqkbnr/pppp1ppp/8/4p3/8/5N2/PPPPPPPP/RNBQKB1R 1.0 | 0204 01 0205*2 01 0205*17 | journeys => () => at the start: 1 of 20 moves leads on; cut 19 by journeys; 1 game below$the certificate is right$
+rnbqkbnr/pppp1ppp/8/4p3/8/5N2/PPPPPPPP/RNBQKB1R | 1.0 | Na3 | 2 rnbqkbnr/pppp1ppp/8/4p3/8/5N2/PPPPPPPP/RNBQKB1R 1.0 | 0204 01 0205 0204 01 0204*16 0205 | journeys => () => at the start: 1 of 20 moves leads on; cut 17 by travel, 2 by journeys; 1 game below$after 1. Na3: excluded: white has no move left and needs 2 (journeys)$the certificate is right$
+rnbqkbnr/pppp1ppp/8/4p3/8/5N2/PPPPPPPP/RNBQKB1R | 1.0 | e4 e5 | 2 rnbqkbnr/pppp1ppp/8/4p3/8/5N2/PPPPPPPP/RNBQKB1R 1.0 | 0204 01 0205*2 01 0205*17 | journeys => () => at the start: 1 of 20 moves leads on; cut 19 by journeys; 1 game below$after 1. e4: excluded: the pawn on e2 of the diagram has left its square (journeys); the line goes on$the certificate is right$";
+
+#[test]
+fn children_cut_by_journeys(rt: HostRuntime) {
+    check_table(&rt, CHILDREN);
+}
+
 // The cut of a record of prices: a code, white's colour, how many ways, sources and targets, and for each way what
 // these pay. What is said is what each pair costs, so that the sum is the number that excludes. By pawn files, and by travel three times; of four men that are dear the first three are named.
 const PRICES: &str =

@@ -9,6 +9,7 @@ const TREES: &str =
 after-e4 | 0.5 | 0 | 2 after-e4 0.5 | 01 => /0$,$;0$/1$.$=*1$;1$
 after-e4-e5 | 0.5 | 9 | 2 after-e4-e5 0.5 | 0204 => /0$,$;0$/1$:4black needs 1 move and has 0 (travel)$;0$
 rnbqk1nr/ppppppbp/6p1/8/8/5NP1/PPPPPPBP/RNBQ1RK1 | 0.5 | 9 | 2 rnbqk1nr/ppppppbp/6p1/8/8/5NP1/PPPPPPBP/RNBQ1RK1 0.5 | 0204 => /0$,$;0$/1$:4white needs 4 moves and has 1 (travel, castling king side)$;0$
+rnbqkbnr/pppppppp/8/8/8/2N2N2/PPPPPPPP/R1BQKB1R | 0.5 | 9 | 2 rnbqkbnr/pppppppp/8/8/8/2N2N2/PPPPPPPP/R1BQKB1R 0.5 | 0205 | journeys => /0$,$;0$/1$:5white has 1 move left and needs 2 (journeys)$;0$
 two-orders | 0.5 | 0 | 1 two-orders 0.5 | 05 => /0$,$;0$/1$.$=0:4white needs 2 moves and has 1 (travel)$;1$
 array | 0.0 | 9 | 1 array 0.0 |  => /0$*$;0$";
 
@@ -50,6 +51,9 @@ after-e4 | 0.5 | 9 | 2 after-e4 0.5 | 01 => <li><span data-moves=\"Mce4 \">1. e4
 after-e4-e5 | 0.5 | 9 | 2 after-e4-e5 0.5 | 0204 => <strong>No game.</strong> No game of 0.5 moves from the initial array ends on
 two-orders | 1.5 | 9 | 1 two-orders 1.5 | 01*443 => <strong>Cooked.</strong> 2 games of 1.5 moves from the initial array end on
 two-orders | 1.5 | 9 | 1 two-orders 1.5 | 01*443 => <li><span data-moves=\"LTd3 0se6 MUe3 \">1. d3 e6 2. e3</span></li>
+after-e4 | 0.5 | 9 | 2 after-e4 0.5 | 01 => 4: 'travel' };
+rnbqkbnr/pppppppp/8/8/8/2N2N2/PPPPPPPP/R1BQKB1R | 0.5 | 9 | 2 rnbqkbnr/pppppppp/8/8/8/2N2N2/PPPPPPPP/R1BQKB1R 0.5 | 0205 | journeys => 4: 'travel', 5: 'journeys' };
+rnbqkbnr/pppppppp/8/8/8/2N2N2/PPPPPPPP/R1BQKB1R | 0.5 | 9 | 2 rnbqkbnr/pppppppp/8/8/8/2N2N2/PPPPPPPP/R1BQKB1R 0.5 | 0205 | journeys => 'travel', 'journeys', 'other bounds', 'reference'];
 array | 0.0 | 9 | 1 array 0.0 |  => <li><span data-moves=\"\">-</span></li>";
 
 // A page says this.

@@ -65,6 +65,7 @@ fn longest_counts_are_whole(rt: HostRuntime) {
         promotions: u16::MAX,
         files: u16::MAX,
         travel: u16::MAX,
+        journeys: u16::MAX,
         others: u16::MAX,
         references: u16::MAX,
         played_out: u16::MAX,
@@ -74,6 +75,6 @@ fn longest_counts_are_whole(rt: HostRuntime) {
     assert_eq!(rt;
         said.as_str(),
         "65535 of 65535 moves lead on; cut 65535 by captures, 65535 by promotions, 65535 by pawn files, 65535 by travel, \
-         65535 by other bounds, 65535 by reference; 65535 played out; 18446744073709551615 games below"
+         65535 by journeys, 65535 by other bounds, 65535 by reference; 65535 played out; 18446744073709551615 games below"
     );
 }
