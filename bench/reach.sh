@@ -1,9 +1,11 @@
 #!/usr/bin/env bash
 # How far a search reaches, with journeys and without: of problems by chance, 30 of each of five lengths, and of such whose colours have little to
 # spare, 10 of each of three, how many are settled within ten million nodes and a minute, the check included. A problem is where a game
-# ends whose moves are drawn by `bench_checks chance SEED MOVES COUNT [SLACK]`; it is settled where a report comes, or a shorter game to its
-# diagram is found. With SLACK neither colour has ever more plies to spare than that, as in problems that somebody composed. Prints a row for each length, with the
-# words that make its problems. It measures, and holds nothing. `bench/reach.sh MOVES..` does these lengths alone. PG may name the program.
+# ends whose moves are drawn by `bench_checks chance SEED MOVES COUNT [SLACK]`, mostly of men who have moved before; with SLACK neither colour is to
+# have more plies to spare than that. Where a search meets a shorter game, the problem is asked for that length. It is settled where a report
+# comes, or where the search meets more games than a report has room for, so that the problem is not sound: how many were settled so stands
+# behind a plus. Prints a row for each length, with the words that make its problems. It measures, and holds nothing. `bench/reach.sh MOVES..` does
+# these lengths alone. PG may name the program.
 set -u
 top=$(cd "$(dirname "$(readlink -f "$0")")/.." && pwd)
 work=$(mktemp -d) || exit 1
@@ -13,30 +15,36 @@ pg=${PG:-$top/crates/pg_cli/out/pg_cli}
 bench="$top/crates/bench_checks/out/bench_checks"
 (cd "$top/crates/bench_checks" && rt run >/dev/null 2>&1)
 
-# Whether the problem of the diagram $1 and the length $2 is settled, with the words behind it.
-settles() {
-  timeout 60 "$pg" search "$1" "$2" "$work/certificate" --nodes 10000000 "${@:3}" >"$work/report" 2>"$work/error"
-  case $(cat "$work/report" "$work/error" | tail -n 1) in
-    sound | cooked | 'no game' | 'pg: a game of '*' plies reaches the diagram') return 0 ;;
-    *) return 1 ;;
+# What a search says of the problem of the diagram $1 and the length $2, with the words behind it.
+said() { timeout 60 "$pg" search "$1" "$2" "$work/certificate" --nodes 10000000 "${@:3}" 2>&1 | tail -n 1; }
+
+# How the problem is settled, with these words: by a report, by too many games, or not at all.
+settled() {
+  local length=$2 last plies
+  while last=$(said "$1" "$length" "${@:3}") && [[ $last == 'pg: a game of '* ]]; do
+    plies=${last//[^0-9]/}
+    length=$((plies / 2)).$((plies % 2 * 5))
+  done
+  case $last in
+    sound | cooked | 'no game') echo report ;;
+    'pg: more than 4096 games') echo games ;;
+    *) echo open ;;
   esac
 }
 
 # How many of the problems are settled, with these words.
 count_settled() {
-  local diagram length settled=0
-  while read -r diagram length; do
-    settles "$diagram" "$length" "$@" && settled=$((settled + 1))
-  done <"$work/problems"
-  echo "$settled"
+  local diagram length
+  while read -r diagram length; do settled "$diagram" "$length" "$@"; done <"$work/problems" >"$work/answers"
+  echo "$(grep -c report "$work/answers") + $(grep -c games "$work/answers")"
 }
 
-echo '| Problems | settled with journeys | without |'
-echo '|---|---|---|'
+echo '| Problems | with journeys | without | of |'
+echo '|---|---|---|---|'
 while read -r seed moves count slack; do
   [ $# -eq 0 ] || [[ " $* " == *" $moves "* ]] || continue
   "$bench" chance "$seed" "$moves" "$count" $slack >"$work/problems" || exit 1
-  echo "| \`chance $seed $moves $count${slack:+ $slack}\` | $(count_settled --journeys) of $(wc -l <"$work/problems") | $(count_settled) |"
+  echo "| \`chance $seed $moves $count${slack:+ $slack}\` | $(count_settled --journeys) | $(count_settled) | $(wc -l <"$work/problems") |"
 done <<'END'
 8 8 30
 10 10 30

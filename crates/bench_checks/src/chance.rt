@@ -1,14 +1,15 @@
 //! Problems by chance: the diagrams on which games end whose moves are drawn by a fixed rule, the same at each run.
 
 use crate::fault::Fault;
+use pg_board::SquareSet;
 use pg_fen::{Diagram, Length};
 use pg_moves::legal_moves;
-use pg_position::Position;
+use pg_position::{Move, Position};
 use pg_searcher::slacks;
 use std::alloc::{AllocError, Global};
 
-// How often a move is drawn where it is to leave little to spare, before the game is given up.
-const DRAWS: u8 = 16;
+// How many moves are drawn for a ply at most. The last one is taken where none suits.
+const DRAWS: u8 = 40;
 
 // How many games are begun at most for each problem.
 const GAMES: u64 = 10_000;
@@ -18,7 +19,7 @@ const GAMES: u64 = 10_000;
 pub(crate) struct Wanted {
     // How many plies it has.
     pub(crate) plies: u8,
-    // How many of its plies either colour may have to spare at most, from the first move on.
+    // How many of its plies either colour is to have to spare at most, from the first move on.
     pub(crate) slack: Option<u8>,
 }
 
@@ -35,78 +36,126 @@ pub(crate) fn moved(
     position: &Position,
     state: u64,
 ) -> Result<Option<Position>, AllocError> {
-    let moves = legal_moves(alloc, position)?;
-    let pick = (state >> 20).checked_rem(moves.len() as u64).unwrap_or(0);
-    let Some(m) = moves.get(pick as usize) else {
-        return Ok(None);
-    };
-    match position.play(*m) {
-        Ok(after) => Ok(Some(after)),
-        Err(_) => Ok(None),
+    match drawn_move(alloc, position, state)? {
+        Some(m) => Ok(position.play(m).ok()),
+        None => Ok(None),
     }
 }
 
+// The legal move that a state draws; none where no move is legal.
+fn drawn_move(alloc: Global, position: &Position, state: u64) -> Result<Option<Move>, AllocError> {
+    let moves = legal_moves(alloc, position)?;
+    let pick = (state >> 20).checked_rem(moves.len() as u64).unwrap_or(0);
+    Ok(moves.get(pick as usize).copied())
+}
+
 // Whether either colour has so many plies to spare at most, where so many have led to a position.
-fn is_tight(
-    alloc: Global,
-    position: &Position,
-    plies: u8,
-    most: Option<u8>,
-) -> Result<bool, AllocError> {
-    let (Some(most), Some(length)) = (most, Length::from_plies(plies)) else {
+fn is_tight(alloc: Global, position: &Position, plies: u8, most: u8) -> Result<bool, AllocError> {
+    let Some(length) = Length::from_plies(plies) else {
         return Ok(true);
     };
     let leeway = slacks(alloc, &Diagram::of(position), length)?;
     Ok(leeway.white.unwrap_or(0) <= most && leeway.black.unwrap_or(0) <= most)
 }
 
-// A position and the state of the chance that led there.
+// Where a game by chance has come to: the state of the chance, the last move and the position behind it, none where no move was legal,
+// and the squares of the men who have moved.
 #[derive(Clone, Copy)]
 struct Drawn {
     state: u64,
+    last: Option<Move>,
     position: Option<Position>,
+    men: SquareSet,
 }
 
-// The position after a legal move that is drawn, which is the ply with this number; none where no move is legal, or where each
-// that was drawn leaves too much to spare.
-fn draw(
-    alloc: Global,
-    from: &Position,
-    state: u64,
-    ply: u8,
+// Which moves are taken: those that leave either colour at most so many plies to spare, if any number is told; and those of
+// men who stand on these squares, if any are told.
+#[derive(Clone, Copy)]
+struct Rule {
     slack: Option<u8>,
-) -> Result<Drawn, AllocError> {
-    let mut state = state;
-    for _ in 0..DRAWS {
-        state = next(state);
-        let Some(position) = moved(alloc, from, state)? else {
-            break;
-        };
-        if is_tight(alloc, &position, ply, slack)? {
-            return Ok(Drawn {
-                state,
-                position: Some(position),
-            });
+    men: Option<SquareSet>,
+}
+
+// Whether a move that leads to a position, as the ply with this number, is taken.
+fn suits(
+    alloc: Global,
+    m: &Move,
+    next: &Position,
+    ply: u8,
+    rule: Rule,
+) -> Result<bool, AllocError> {
+    if let Some(men) = rule.men {
+        if !men.contains(m.from) {
+            return Ok(false);
         }
     }
+    match rule.slack {
+        None => Ok(true),
+        Some(most) => is_tight(alloc, next, ply, most),
+    }
+}
+
+// Where the move leads that a state draws.
+fn step(alloc: Global, from: &Drawn, position: &Position, state: u64) -> Result<Drawn, AllocError> {
+    let Some(m) = drawn_move(alloc, position, state)? else {
+        return Ok(Drawn {
+            state,
+            last: None,
+            position: None,
+            men: from.men,
+        });
+    };
     Ok(Drawn {
         state,
-        position: None,
+        last: Some(m),
+        position: position.play(m).ok(),
+        men: (from.men - SquareSet::single(m.from)) | SquareSet::single(m.to),
     })
+}
+
+// The position after the first move that is taken of some that are drawn, as the ply with this number, or after the last of them; none
+// where no move is legal. Four times of five a man is to make it who has moved before.
+fn draw(alloc: Global, from: &Drawn, ply: u8, slack: Option<u8>) -> Result<Drawn, AllocError> {
+    let mut to = Drawn {
+        state: next(from.state),
+        last: None,
+        position: None,
+        men: from.men,
+    };
+    let Some(position) = from.position else {
+        return Ok(to);
+    };
+    let goes_on = (to.state >> 20) % 5 > 0;
+    let rule = Rule {
+        slack,
+        men: goes_on.then_some(from.men),
+    };
+    for _ in 0..DRAWS {
+        to = step(alloc, from, &position, next(to.state))?;
+        let (Some(m), Some(after)) = (to.last, to.position) else {
+            return Ok(to);
+        };
+        if suits(alloc, &m, &after, ply, rule)? {
+            return Ok(to);
+        }
+    }
+    Ok(to)
 }
 
 // Where a game ends whose moves are drawn; none where it ends too early.
 fn end_of(alloc: Global, state: u64, wanted: Wanted) -> Result<Drawn, AllocError> {
     let mut end = Drawn {
         state,
+        last: None,
         position: Some(Position::array()),
+        men: SquareSet::empty(),
     };
     for before in 0..wanted.plies {
-        let Some(position) = end.position else {
+        if end.position.is_none() {
             return Ok(end);
-        };
+        }
         let ply = before.saturating_add(1);
-        end = draw(alloc, &position, end.state, ply, wanted.slack)?;
+        end = draw(alloc, &end, ply, wanted.slack)?;
     }
     Ok(end)
 }
