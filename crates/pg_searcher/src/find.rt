@@ -1,5 +1,5 @@
 //! The search for a certificate.
-ghost use Rattle.std.specs.Prelude.{◌≡◌, ◌≤◌, false, IfOk};
+ghost use Rattle.std.specs.Prelude.{◌≡◌, ◌≤◌, false};
 ghost use Rattle.pg_searcher.specs.Refusals.{RefusesTruly};
 
 use crate::fault::SearchFault;
@@ -11,7 +11,7 @@ use pg_certificate::{Header, Sink};
 use pg_fen::{Diagram, Length};
 use pg_moves::Unwatched;
 use pg_san::Games;
-use std::alloc::{AllocError, Global};
+use std::alloc::Global;
 
 // The header of the certificate.
 fn header(diagram: &Diagram, plies: u8) -> Header
@@ -59,40 +59,42 @@ fn write<W: Sink, P: SearchProgress>(
     }
 }
 
-// What a search holds at its beginning. Where a diagram is told, nodes are cut by journeys to it.
-fn machine_of(
+// How far a search goes: to games of so many plies, over so many nodes at most; and whether it cuts by journeys too.
+#[derive(Clone, Copy)]
+struct Reach {
+    length: Length,
+    max_nodes: u64,
+    by_journeys: bool,
+}
+
+// What a search comes to.
+fn searched<W: Sink, P: SearchProgress>(
     alloc: Global,
     diagram: &Diagram,
-    max_nodes: u64,
-    journeys: Option<Diagram>,
-) -> Result<Machine, AllocError>
-    ensures { IfOk result (λ m. m.recorder.output.writer.failed ≡ false) }
+    reach: &Reach,
+    sink: &mut W,
+    watch: &mut P,
+) -> Result<Games, SearchFault>
+    ensures { RefusesTruly reach.now.length (W.has_failed sink.new) result }
 {
-    let judge = Judge::new(alloc, diagram)?;
-    Ok(Machine {
+    let Ok(judge) = Judge::new(alloc, diagram) else {
+        return Err(SearchFault::Memory);
+    };
+    let journeys = if reach.by_journeys {
+        Some(*diagram)
+    } else {
+        None
+    };
+    let mut frames = Frames::new();
+    let mut machine = Machine {
         open: 0,
-        recorder: Recorder::new(alloc, judge, max_nodes, journeys),
+        recorder: Recorder::new(alloc, judge, reach.max_nodes, journeys),
         findings: Findings {
             games: Games::new(alloc),
             fertile: false,
         },
-    })
-}
-
-// The games that a search finds.
-fn run<W: Sink, P: SearchProgress>(
-    diagram: &Diagram,
-    length: Length,
-    machine: Machine,
-    sink: &mut W,
-    watch: &mut P,
-) -> Result<Games, SearchFault>
-    requires { machine.recorder.output.writer.failed ≡ false }
-    ensures { RefusesTruly length (W.has_failed sink.new) result }
-{
-    let mut frames = Frames::new();
-    let mut machine = machine;
-    let plies = length.plies();
+    };
+    let plies = reach.length.plies();
     match write(diagram, plies, &mut frames, &mut machine, sink, watch) {
         Ok(()) => {}
         Err(fault) => return Err(fault),
@@ -145,10 +147,12 @@ pub fn search_watched<W: Sink, P: SearchProgress>(
 ) -> Result<Games, SearchFault>
     ensures { RefusesTruly length (W.has_failed sink.new) result }
 {
-    match machine_of(alloc, diagram, max_nodes, None) {
-        Ok(machine) => run(diagram, length, machine, sink, watch),
-        Err(_) => Err(SearchFault::Memory),
-    }
+    let reach = Reach {
+        length,
+        max_nodes,
+        by_journeys: false,
+    };
+    searched(alloc, diagram, &reach, sink, watch)
 }
 
 /// As `search_watched`, and cuts by journeys too: a node with at least two plies left that no other bound and no
@@ -168,8 +172,10 @@ pub fn search_by_journeys<W: Sink, P: SearchProgress>(
 ) -> Result<Games, SearchFault>
     ensures { RefusesTruly length (W.has_failed sink.new) result }
 {
-    match machine_of(alloc, diagram, max_nodes, Some(*diagram)) {
-        Ok(machine) => run(diagram, length, machine, sink, watch),
-        Err(_) => Err(SearchFault::Memory),
-    }
+    let reach = Reach {
+        length,
+        max_nodes,
+        by_journeys: true,
+    };
+    searched(alloc, diagram, &reach, sink, watch)
 }
