@@ -19,14 +19,14 @@ fn texts_that_are_refused(rt: HostRuntime) {
     check_table(&rt, TEXTS);
 }
 
-// Bounds that do not exclude the one move, one that is not known, and prices.
+// Bounds that do not exclude the one move, journeys that are not handed in, a bound that nobody knows, and prices.
 const CUTS: &str =
     "after-e4 | 0.5 | - | 2 after-e4 0.5 | 0201 => Run(Check(CutFails(1))): cut 1 does not exclude => at the start: cut by bound 1, which is not seen to exclude$
 after-e4 | 0.5 | - | 2 after-e4 0.5 | 0202 => Run(Check(CutFails(2))): cut 2 does not exclude => at the start: cut by bound 2, which is not seen to exclude$
 after-e4 | 0.5 | - | 2 after-e4 0.5 | 0203 => Run(Check(CutFails(3))): cut 3 does not exclude => at the start: cut by bound 3, which is not seen to exclude$
 after-e4 | 0.5 | - | 2 after-e4 0.5 | 0204 => Run(Check(CutFails(4))): cut 4 does not exclude => at the start: cut by bound 4, which is not seen to exclude$
 after-e4 | 0.5 | - | 2 after-e4 0.5 | 0205 | journeys => Run(Check(CutFails(5))): cut 5 does not exclude => at the start: cut by bound 5, which is not seen to exclude$
-array | 0.5 | - | 2 array 0.5 | 0205 => Run(Check(UnknownBound(5))): unknown bound 5 => at the start: cut by bound 5, which is not seen to exclude$
+after-e4 | 0.5 | - | 2 after-e4 0.5 | 0205 => Run(Check(UnknownBound(5))): unknown bound 5 => at the start: cut by bound 5, which is not seen to exclude$
 rnbqkbnr/pppppppp/8/8/8/2N2N2/PPPPPPPP/R1BQKB1R | 0.5 | - | 2 rnbqkbnr/pppppppp/8/8/8/2N2N2/PPPPPPPP/R1BQKB1R 0.5 | 0205 => Run(Check(UnknownBound(5))): unknown bound 5 => at the start: excluded: white has 1 move left and needs 2 (journeys)$
 after-e4 | 0.5 | d4 | 2 after-e4 0.5 | 0209 => Run(Check(UnknownBound(9))): unknown bound 9 => at the start: cut by bound 9, which is not seen to exclude; the line goes on$
 after-e4 | 0.5 | - | 2 after-e4 0.5 | 060400010000 => Run(Check(CutFails(4))): cut 4 does not exclude => at the start: cut by bound 4, which is not seen to exclude$";
