@@ -1,6 +1,6 @@
 #!/usr/bin/env bash
 # How far a search reaches, with journeys and without: of problems by chance, 30 of each of five lengths, and of such whose colours have little to
-# spare, 10 of each of three, how many are settled within ten million nodes and a minute, the check included. A problem is where a game
+# spare, 10 of each of three, how many are settled within ten million nodes and a minute of CPU time, the check included. A problem is where a game
 # ends whose moves are drawn by `bench_checks chance SEED MOVES COUNT [SLACK]`, mostly of men who have moved before; with SLACK neither colour is to
 # have more plies to spare than that. Where a search meets a shorter game, the problem is asked for that length. It is settled where a report
 # comes, or where the search meets more games than a report has room for, so that the problem is not sound: how many were settled so stands
@@ -16,7 +16,7 @@ bench="$top/crates/bench_checks/out/bench_checks"
 (cd "$top/crates/bench_checks" && rt run >/dev/null 2>&1)
 
 # What a search says of the problem of the diagram $1 and the length $2, with the words behind it.
-said() { timeout 60 "$pg" search "$1" "$2" "$work/certificate" --nodes 10000000 "${@:3}" 2>&1 | tail -n 1; }
+said() { (ulimit -t 60 && exec "$pg" search "$1" "$2" "$work/certificate" --nodes 10000000 "${@:3}") 2>&1 | tail -n 1; }
 
 # How the problem is settled, with these words: by a report, by too many games, or not at all.
 settled() {
