@@ -140,15 +140,15 @@ pub word_or_none : (f : Found) (name : Text) (text : Option (List ℕ)) → text
 word_or_none f name text e = e ∙ first_value-rows f name
 
 -- a word that stands there, and whether it is the wanted one
-pub word_told : (f : Found) (name text wanted : Text) (b : Bool) → Some text ≡ first_value f name → (IsTrue b ↔ (text ≡ wanted))
+pub flag_told : (f : Found) (name text wanted : Text) (b : Bool) → Some text ≡ first_value f name → (IsTrue b ↔ (text ≡ wanted))
     → IsTrue b ↔ (first_of name (rows_of f) ≡ Some wanted)
-word_told f name text wanted b e h =
+flag_told f name text wanted b e h =
     let same : Some text ≡ first_of name (rows_of f) = word_or_none f name (Some text) e in
     (λ t. sym same ∙ ap (λ (x : Text). Some x) (h.0 t), λ g. h.1 (let z : Some text ≡ Some wanted = same ∙ g in cc))
 
 -- a word that is missing is not the wanted one
-pub word_missing : (f : Found) (name wanted : Text) → None ≡ first_value f name → IsTrue false ↔ (first_of name (rows_of f) ≡ Some wanted)
-word_missing f name wanted e =
+pub flag_missing : (f : Found) (name wanted : Text) → None ≡ first_value f name → IsTrue false ↔ (first_of name (rows_of f) ≡ Some wanted)
+flag_missing f name wanted e =
     (λ h. absurd (let z : false ≡ true = h in cc), λ g. absurd (let z : None ≡ Some wanted = word_or_none f name None e ∙ g in cc))
 
 -- a text that spells a diagram, where no length is given

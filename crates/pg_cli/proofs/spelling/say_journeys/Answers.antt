@@ -1,10 +1,10 @@
 use Rattle.std.proofs.Common.{codes, rules}
 use Rattle.clap.specs.Words.{found_of}
-use Rattle.pg_cli.proofs.AnswerLemmas.{word_told, word_missing}
+use Rattle.pg_cli.proofs.AnswerLemmas.{flag_told, flag_missing}
 use Rattle.pg_cli.proofs.spelling.say_journeys.Goals as goal
 
 pub returns-in-Some : goal.returns-in-Some
-returns-in-Some c = word_told (found_of c.args.words.now) (codes "journeys") c.in-Some.text.now (codes "true") c.eq.result c.in-Some.ensures (search rules)
+returns-in-Some c = flag_told (found_of c.args.words.now) (codes "journeys") c.in-Some.text.now (codes "true") c.eq.result c.in-Some.ensures (search rules)
 
 pub returns-in-None : goal.returns-in-None
-returns-in-None c = word_missing (found_of c.args.words.now) (codes "journeys") (codes "true") c.in-None.ensures
+returns-in-None c = flag_missing (found_of c.args.words.now) (codes "journeys") (codes "true") c.in-None.ensures
