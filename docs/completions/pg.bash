@@ -14,10 +14,10 @@ _pg() {
     count) options="--help -h" ;;
     games) options="--help -h" file_places=" 3 " ;;
     cooks) options="--nodes --foreign --help -h" valued=" --nodes --foreign " file_places=" 3 " ;;
-    check) options="--records --help -h" valued=" --records " file_places=" 3 4 " ;;
-    search) options="--nodes --games --help -h" valued=" --nodes --games " file_options=" --games " file_places=" 3 " ;;
-    why) options="--records --help -h" valued=" --records " file_places=" 3 " ;;
-    page) options="--records --nodes --help -h" valued=" --records --nodes " file_places=" 3 " ;;
+    check) options="--records --journeys --help -h" valued=" --records " file_places=" 3 4 " ;;
+    search) options="--nodes --games --journeys --help -h" valued=" --nodes --games " file_options=" --games " file_places=" 3 " ;;
+    why) options="--records --journeys --help -h" valued=" --records " file_places=" 3 " ;;
+    page) options="--records --nodes --journeys --help -h" valued=" --records --nodes " file_places=" 3 " ;;
     upgrade) options="--records --help -h" valued=" --records " file_places=" 1 2 " ;;
     help) options=$commands ;;
     *) return ;;

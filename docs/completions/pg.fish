@@ -46,22 +46,26 @@ complete -c pg -n '__pg_is count' -s h -l help -d 'Print help'
 complete -c pg -n '__pg_is games' -s h -l help -d 'Print help'
 complete -c pg -n '__pg_is_at games 3' -F
 complete -c pg -n '__pg_is cooks' -l nodes -x -d 'Gives up where more would be visited [default: 10000000]'
-complete -c pg -n '__pg_is cooks' -l foreign -x -d 'At most so many moves of other kinds; else any number'
+complete -c pg -n '__pg_is cooks' -l foreign -x -d 'At most so many foreign moves, the last two plies apart'
 complete -c pg -n '__pg_is cooks' -s h -l help -d 'Print help'
 complete -c pg -n '__pg_is_at cooks 3 --nodes --foreign' -F
 complete -c pg -n '__pg_is check' -l records -x -d 'Refuses a certificate of more records [default: 100000000]'
+complete -c pg -n '__pg_is check' -l journeys -d 'Takes cuts by the bound by journeys too'
 complete -c pg -n '__pg_is check' -s h -l help -d 'Print help'
 complete -c pg -n '__pg_is_at check 3 --records' -F
 complete -c pg -n '__pg_is_at check 4 --records' -F
 complete -c pg -n '__pg_is search' -l nodes -x -d 'Gives up before more nodes are visited [default: 1000000]'
 complete -c pg -n '__pg_is search' -l games -r -F -d 'Keeps the games that were met, also where it gives up'
+complete -c pg -n '__pg_is search' -l journeys -d 'Cuts by the bound by journeys too: far fewer nodes'
 complete -c pg -n '__pg_is search' -s h -l help -d 'Print help'
 complete -c pg -n '__pg_is_at search 3 --nodes --games' -F
 complete -c pg -n '__pg_is why' -l records -x -d 'Refuses a certificate of more records [default: 100000000]'
+complete -c pg -n '__pg_is why' -l journeys -d 'Takes cuts by the bound by journeys too'
 complete -c pg -n '__pg_is why' -s h -l help -d 'Print help'
 complete -c pg -n '__pg_is_at why 3 --records' -F
 complete -c pg -n '__pg_is page' -l records -x -d 'Refuses a certificate of more records [default: 100000000]'
 complete -c pg -n '__pg_is page' -l nodes -x -d 'Shows at most so many expanded nodes [default: 20000]'
+complete -c pg -n '__pg_is page' -l journeys -d 'Takes cuts by the bound by journeys too'
 complete -c pg -n '__pg_is page' -s h -l help -d 'Print help'
 complete -c pg -n '__pg_is_at page 3 --records --nodes' -F
 complete -c pg -n '__pg_is upgrade' -l records -x -d 'Refuses a certificate of more records [default: 100000000]'
