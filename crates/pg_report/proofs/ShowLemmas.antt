@@ -17,7 +17,8 @@ use Rattle.pg_report.specs.declared.fault.ShowFault.{ShowFault}
 use Rattle.pg_report.specs.declared.fault.ShowFault.TheVariants.{Memory, Write}
 use Rattle.pg_report.specs.declared.sides.Reason.{Reason}
 use Rattle.pg_report.specs.Sides.{own_plies, IsSideNeed}
-use Rattle.pg_report.specs.Expecting.{IsExpected, digit_text, rounded, unit_text, nodes_text, expected_text}
+use Rattle.pg_report.specs.Expecting.{IsExpected, end_text, expected_text, range_text}
+use Rattle.pg_report.specs.declared.expecting.Expected.{Expected}
 use Rattle.pg_report.specs.Within.{AreKnown, name_of}
 use Rattle.pg_journeys.specs.declared.facts.Facts.{Facts as FactSets}
 use Rattle.pg_report.specs.Showing.{counted_text, men_text, captured_text, reason_text, spare_text, need_text, open_line, below_text, IsSideLine, IsShown, IsShowFault, IsShowWithinFault}
@@ -28,14 +29,11 @@ men_grow d c n name x y z named counted first second = Appends-trans x y z (name
 pub open_grows : (least : Option ℕ) (n : ℕ) (text : List ℕ) (w x y z : Option (List ℕ)) → least ≡ Some n → text ≡ length_text n → Appends w x (codes "no game is shorter than ") → Appends x y text → Appends y z (codes "\n") → Appends w z (open_line least)
 open_grows least n text w x y z is said first second third = subst (λ o. Appends w z (open_line o)) (sym is) (Appends-trans w x z (codes "no game is shorter than ") _ first (Appends-trans x y z (length_text n) (codes "\n") (subst (Appends x y) said second) third))
 
-pub expected_grows : (expected : Option ℕ) (h k : ℕ) (digit unit nodes : List ℕ) (v w x y z : Option (List ℕ)) → expected ≡ Some h → k ≡ rounded h
-    → digit ≡ digit_text (k % 100) → unit ≡ unit_text (k / 100) → nodes ≡ nodes_text k
-    → Appends v w (codes "a search may visit about ") → Appends w x digit → Appends x y unit → Appends y z nodes → Appends v z (expected_text expected)
-expected_grows expected h k digit unit nodes v w x y z is near one two three first second third last =
-    subst (λ o. Appends v z (expected_text o)) (sym is)
-    (subst (λ k. Appends v z (codes "a search may visit about " ++ (digit_text (k % 100) ++ (unit_text (k / 100) ++ nodes_text k)))) near
-    (Appends-trans v w z (codes "a search may visit about ") _ first (Appends-trans w x z (digit_text (k % 100)) _ (subst (Appends w x) one second)
-    (Appends-trans x y z (unit_text (k / 100)) (nodes_text k) (subst (Appends x y) two third) (subst (Appends y z) three last)))))
+pub expected_grows : (expected : Option Expected) (e : Expected) (words : List ℕ) (w x y z : Option (List ℕ)) → expected ≡ Some e → words ≡ end_text e.is_longer
+    → Appends w x (codes "a search by journeys may visit ") → Appends x y (range_text e.hundredths) → Appends y z words → Appends w z (expected_text expected)
+expected_grows expected e words w x y z is said first second third =
+    subst (λ o. Appends w z (expected_text o)) (sym is)
+    (Appends-trans w x z (codes "a search by journeys may visit ") _ first (Appends-trans x y z (range_text e.hundredths) (end_text e.is_longer) second (subst (Appends y z) said third)))
 
 pub never_grows : (reason : Option Reason) (words : List ℕ) (w x y z : Option (List ℕ)) → words ≡ reason_text reason → Appends w x (codes "cannot stand so in 64.0 moves or less") → Appends x y words → Appends y z (codes "\n")
     → Appends w z (codes "cannot stand so in 64.0 moves or less" ++ (reason_text reason ++ codes "\n"))
@@ -55,7 +53,7 @@ side_grows d c need reason asked w x y z is first second third = (
   Appends-trans w x z (men_text d c) _ first (Appends-trans x y z (captured_text d c) (need_text c need reason asked) second third),
 )
 
-pub shown : (d : Placement) (asked least : Option ℕ) (facts : Option FactSets) (expected : Option ℕ) (v w x y z : Option (List ℕ)) → AreKnown d asked facts → IsExpected asked facts least expected → Appends v w (board_text d)
+pub shown : (d : Placement) (asked least : Option ℕ) (facts : Option FactSets) (expected : Option Expected) (v w x y z : Option (List ℕ)) → AreKnown d asked facts → IsExpected d asked facts least expected → Appends v w (board_text d)
     → AddsSome (IsSideLine d White asked) w x → AddsSome (IsSideLine d Black asked) x y → Appends y z (below_text asked facts least expected) → AddsSome (IsShown d asked least) v z
 shown d asked least facts expected v w x y z known is board (white, is_white, second) (black, is_black, third) last = (
   board_text d ++ (white ++ (black ++ below_text asked facts least expected)),

@@ -1,19 +1,53 @@
--- What is said of the nodes that a search may visit: a power of ten, rounded to a digit and zeros.
-use Rattle.std.specs.Prelude.{◌≡◌, ℕ, ◌+◌, ◌-◌, ◌*◌, ◌/◌, ◌%◌, ◌≤◌, nat_le, cond, List, ◌++◌, Option, Some, None, IsSome, codes}
+-- What is said of the nodes that a search by journeys may visit: two powers of ten, each rounded to a digit and zeros.
+use Rattle.std.specs.Prelude.{◌≡◌, ℕ, ◌+◌, ◌-◌, ◌*◌, ◌/◌, ◌%◌, ◌≤◌, ◌↔◌, min, nat_le, cond, Bool, IsTrue, List, ◌++◌, Option, Some, None, IsSome, codes}
+use Rattle.std.specs.Option.{option_map}
+use Rattle.pg_board.specs.Bits.{has}
+use Rattle.pg_board.specs.Placement.{Placement}
+use Rattle.pg_board.specs.Tally.{count_below}
+use Rattle.pg_board.specs.declared.man.Color.TheVariants.{White, Black}
+use Rattle.pg_captures.specs.Counting.{men, any_man}
 use Rattle.pg_journeys.specs.declared.facts.Facts.{Facts as FactSets}
+use Rattle.pg_report.specs.declared.expecting.Expected.{Expected}
 
 -- nothing is known against games of n plies: there are facts about them, and the least length is no longer
 abbrev pub IsOpen : ℕ → Option FactSets → Option ℕ → Type 0
 IsOpen n facts None = ⊥
 IsOpen n facts (Some least) = IsSome facts × (least ≤ n)
 
--- a rule of thumb, in hundredths of the logarithm to the base 10, of the length that is asked and of some slack of
--- either side, of which nothing is said; it may be missing, and is where something is known against games of that length
-abbrev pub IsExpected : Option ℕ → Option FactSets → Option ℕ → Option ℕ → Type 0
-IsExpected asked facts least None = Unit {0}
-IsExpected None facts least (Some h) = ⊥
-IsExpected (Some n) facts least (Some h) =
-    IsOpen n facts least × ((white : ℕ) × (black : ℕ) × (h ≡ 65 * (white + black) + 26 * n - 60))
+-- how many men of the initial array may move or be captured in some games, by facts about these
+abbrev pub free_men : FactSets → ℕ
+free_men f = 32 - count_below (has f.still) 64
+
+-- how many men were captured where a game ends on d
+abbrev pub captured_men : Placement → ℕ
+captured_men d = 32 - (men White any_man d + men Black any_man d)
+
+-- on how many squares captures may land in some games, those of either colour counted apart, by facts about these
+abbrev pub landing_squares : FactSets → ℕ
+landing_squares f = count_below (has f.white) 64 + count_below (has f.black) 64
+
+-- what such squares make of a search for games of n plies
+abbrev pub spread : ℕ → ℕ → ℕ
+spread landing n = landing * n / 20
+
+-- a rule of thumb for a search by journeys, in hundredths of the logarithm to the base 10 of its nodes
+abbrev pub by_journeys : ℕ → ℕ → ℕ → ℕ
+by_journeys free captured spread = 88 + 34 * min free 11 + 5 * free + spread - 42 * min captured 4
+
+-- one for a search without them, by plies and the slack of either side
+abbrev pub without_journeys : ℕ → ℕ → ℕ → ℕ
+without_journeys n white black = 65 * (white + black) + 26 * n - 60
+
+-- what the rule of thumb says of the length that is asked, and whether the other one says ten times more for some slack
+-- of either side, of which nothing is said; it may be missing, and is where something is known against games of that length
+abbrev pub IsExpected : Placement → Option ℕ → Option FactSets → Option ℕ → Option Expected → Type 0
+IsExpected d asked facts least None = Unit {0}
+IsExpected d None facts least (Some e) = ⊥
+IsExpected d (Some n) facts least (Some e) =
+    IsOpen n facts least
+    × (Some e.hundredths ≡ option_map
+    (λ f. by_journeys (free_men f) (captured_men d) (spread (landing_squares f) n)) facts)
+    × ((white : ℕ) × (black : ℕ) × (IsTrue e.is_longer ↔ (e.hundredths + 100 ≤ without_journeys n white black)))
 
 -- so many hundredths of an exponent; those of the next power of ten where
 -- that is nearer than nine times the last one, since 9.5 is 10^0.9777
@@ -38,13 +72,20 @@ unit_text z =
     (cond (nat_le z 9) (codes " billion") (cond (nat_le z 10) (codes "0 billion")
     (cond (nat_le z 11) (codes "00 billion") (codes "000 billion or more"))))))))))))
 
--- one node or more, by so many hundredths of the exponent of their number: 1.5 is 10^0.1760
-abbrev pub nodes_text : ℕ → List ℕ
-nodes_text h = cond (nat_le h 17) (codes " node, by a rule of thumb\n") (codes " nodes, by a rule of thumb\n")
+-- a power of ten, by hundredths of its exponent
+abbrev pub power_text : ℕ → List ℕ
+power_text h = digit_text (rounded h % 100) ++ unit_text (rounded h / 100)
+
+-- from a tenth of it, but at least one, to ten times as much
+abbrev pub range_text : ℕ → List ℕ
+range_text h = power_text (h - 100) ++ (codes " to " ++ power_text (h + 100))
+
+-- what stands behind these numbers
+abbrev pub end_text : Bool → List ℕ
+end_text is_longer =
+    cond is_longer (codes " nodes, as a guess; without journeys ten times more, or worse\n") (codes " nodes, as a guess\n")
 
 -- the line of what may be expected; none where nothing is
-abbrev pub expected_text : Option ℕ → List ℕ
+abbrev pub expected_text : Option Expected → List ℕ
 expected_text None = codes ""
-expected_text (Some h) =
-    codes "a search may visit about "
-    ++ (digit_text (rounded h % 100) ++ (unit_text (rounded h / 100) ++ nodes_text (rounded h)))
+expected_text (Some e) = codes "a search by journeys may visit " ++ (range_text e.hundredths ++ end_text e.is_longer)

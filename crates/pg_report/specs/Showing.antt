@@ -17,6 +17,7 @@ use Rattle.pg_report.specs.declared.sides.Reason.{Reason}
 use Rattle.pg_report.specs.declared.sides.Reason.TheVariants.{Captures, Promotions, PawnFiles, Travel, Pairs}
 use Rattle.pg_report.specs.Sides.{own_plies, IsSideNeed}
 use Rattle.pg_report.specs.Expecting.{IsExpected, expected_text}
+use Rattle.pg_report.specs.declared.expecting.Expected.{Expected}
 use Rattle.pg_report.specs.Within.{AreKnown, name_of, known_text}
 use Rattle.pg_journeys.specs.declared.facts.Facts.{Facts as FactSets}
 
@@ -72,15 +73,15 @@ open_line (Some n) = codes "no game is shorter than " ++ (length_text n ++ codes
 
 -- what stands below the lines of the colours: with a length what is known
 -- of its games, the least length, and what may be expected of a search
-abbrev pub below_text : Option ℕ → Option FactSets → Option ℕ → Option ℕ → List ℕ
+abbrev pub below_text : Option ℕ → Option FactSets → Option ℕ → Option Expected → List ℕ
 below_text asked facts least expected = known_text asked facts ++ (open_line least ++ expected_text expected)
 
 -- the board, a line for white and one for black, and what stands below them
 abbrev pub IsShown : Placement → Option ℕ → Option ℕ → List ℕ → Type 0
 IsShown d asked least text =
-    (white : List ℕ) × (black : List ℕ) × (facts : Option FactSets) × (expected : Option ℕ)
+    (white : List ℕ) × (black : List ℕ) × (facts : Option FactSets) × (expected : Option Expected)
     × IsSideLine d White asked white × IsSideLine d Black asked black × AreKnown d asked facts
-    × IsExpected asked facts least expected
+    × IsExpected d asked facts least expected
     × (text ≡ board_text d ++ (white ++ (black ++ below_text asked facts least expected)))
 
 -- the texts spell a diagram and a length

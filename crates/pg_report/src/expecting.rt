@@ -1,13 +1,26 @@
-//! How many nodes a search may visit, by a rule of thumb.
-ghost use Rattle.std.specs.Prelude.{◌≡◌, ◌/◌, ◌%◌, ℕ, IsTrue, IfOk};
+//! How many nodes a search by journeys may visit, by a rule of thumb.
+ghost use Rattle.std.specs.Prelude.{◌≡◌, ◌+◌, ◌≤◌, ◌↔◌, ◌/◌, ◌%◌, ℕ, IsTrue, IfOk};
+ghost use Rattle.std.specs.Option.{option_map};
 ghost use Rattle.pg_certificate.specs.Pushing.{Adds, Pushes};
-ghost use Rattle.pg_report.specs.Expecting.{IsExpected, IsOpen, digit_text, expected_text, nodes_text, rounded, unit_text};
+ghost use Rattle.pg_report.specs.Expecting.{IsExpected, IsOpen, expected_text, end_text, power_text, range_text, rounded, digit_text, unit_text};
+ghost use Rattle.pg_report.specs.Expecting.{by_journeys, captured_men, free_men, landing_squares, spread};
 
 use crate::within::Known;
+use pg_board::Color;
+use pg_captures::all_men;
 use pg_certificate::{Refused, Sink};
 use pg_fen::{Diagram, Length};
+use pg_journeys::Facts;
 use pg_searcher::{forecast, slacks};
 use std::alloc::{AllocError, Global};
+
+// What may be expected of a search for games of a length: the hundredths of the logarithm to the base 10 of the nodes that one by
+// journeys may visit, and whether one without them may visit ten times as many.
+#[derive(Clone, Copy)]
+pub(crate) struct Expected {
+    pub(crate) hundredths: u16,
+    pub(crate) is_longer: bool,
+}
 
 // Whether nothing is known against games of a length.
 fn is_open(length: &Length, known: &Known) -> bool
@@ -19,14 +32,74 @@ fn is_open(length: &Length, known: &Known) -> bool
     }
 }
 
-// The hundredths of the logarithm to the base 10 of the nodes that a search for games of a length may visit; none where
-// no length is asked, where something is known against such games, or where a colour has too few plies for its men.
+// How many men of the initial array may move or be captured in some games, by facts about these.
+fn free_men(facts: &Facts) -> u8
+    ensures { result ≡ free_men facts.now }
+{
+    32u8.saturating_sub(facts.still.len())
+}
+
+// How many men were captured where a game ends on a diagram.
+fn captured_men(diagram: &Diagram) -> u8
+    ensures { result ≡ captured_men diagram.now }
+{
+    let board = diagram.board();
+    32u8.saturating_sub(all_men(&board, Color::White) + all_men(&board, Color::Black))
+}
+
+// On how many squares captures may land in some games, those of either colour counted apart, by facts about these.
+fn landing_squares(facts: &Facts) -> u8
+    ensures { result ≡ landing_squares facts.now }
+{
+    facts.white.len() + facts.black.len()
+}
+
+// What squares where captures may land make of a search for games of so many plies, in hundredths.
+fn spread(landing: u8, plies: u8) -> u16
+    ensures value { result ≡ spread landing plies }
+    ensures bound { result ≤ 3276 }
+{
+    u16::from(landing) * u16::from(plies) / 20
+}
+
+// The rule of thumb, by men who may move or be captured, by men who were captured, and by that.
+fn by_journeys(free: u8, captured: u8, spread: u16) -> u16
+    requires { spread ≤ 3276 }
+    ensures { result ≡ by_journeys free captured spread }
+{
+    let free = u16::from(free);
+    (88 + 34 * free.min(11) + 5 * free + spread).saturating_sub(42 * u16::from(captured.min(4)))
+}
+
+// What the rule says by facts about the games of so many plies.
+fn by_facts(diagram: &Diagram, plies: u8, facts: &Option<Facts>) -> Option<u16>
+    ensures { result ≡ option_map (λ f. by_journeys (free_men f) (captured_men diagram.now)
+        (spread (landing_squares f) plies)) facts.now }
+{
+    match facts {
+        None => None,
+        Some(facts) => {
+            let spread = spread(landing_squares(facts), plies);
+            Some(by_journeys(free_men(facts), captured_men(diagram), spread))
+        }
+    }
+}
+
+// Whether a power of ten, by hundredths of its exponent, is ten times another or more.
+fn is_tenfold(hundredths: u32, other: u16) -> bool
+    ensures { IsTrue result ↔ (other + 100 ≤ hundredths) }
+{
+    u32::from(other) + 100 <= hundredths
+}
+
+// What may be expected of a search for games of a length; nothing where no length is asked, where something is known against
+// such games, or where a colour has too few plies for its men.
 pub(crate) fn expected_of(
     alloc: Global,
     diagram: &Diagram,
     known: &Known,
-) -> Result<Option<u32>, AllocError>
-    ensures { IfOk result (λ o. IsExpected known.now.asked known.now.facts known.now.least o) }
+) -> Result<Option<Expected>, AllocError>
+    ensures { IfOk result (λ o. IsExpected diagram.now known.now.asked known.now.facts known.now.least o) }
 {
     let Some(length) = known.asked else {
         return Ok(None);
@@ -44,7 +117,14 @@ pub(crate) fn expected_of(
     let Some(black) = leeway.black else {
         return Ok(None);
     };
-    Ok(Some(forecast(white, black, length.plies())))
+    let Some(hundredths) = by_facts(diagram, length.plies(), &known.facts) else {
+        return Ok(None);
+    };
+    let is_longer = is_tenfold(forecast(white, black, length.plies()), hundredths);
+    Ok(Some(Expected {
+        hundredths,
+        is_longer,
+    }))
 }
 
 // The hundredths of an exponent, of the next power of ten where that is nearer than nine times the last one.
@@ -96,29 +176,49 @@ fn unit_words(zeros: u32) -> &'static str
     }
 }
 
-// The end of the line, for one node or more.
-fn nodes_words(hundredths: u32) -> &'static str
-    ensures { result.now ≡ nodes_text hundredths }
+// Appends a power of ten, by hundredths of its exponent.
+fn write_power<W: Sink>(hundredths: u32, out: &mut W) -> Result<(), Refused>
+    ensures { Pushes W.held W.has_failed (Adds (power_text hundredths)) out.old out.new result }
 {
-    if hundredths <= 17 {
-        " node, by a rule of thumb\n"
+    let exponent = rounded(hundredths);
+    out.push(digit_words(exponent % 100).as_bytes())?;
+    out.push(unit_words(exponent / 100).as_bytes())
+}
+
+// Appends a tenth of a power of ten, by hundredths of its exponent, but at least one, and ten times it.
+fn write_range<W: Sink>(hundredths: u16, out: &mut W) -> Result<(), Refused>
+    ensures { Pushes W.held W.has_failed (Adds (range_text hundredths)) out.old out.new result }
+{
+    let hundredths = u32::from(hundredths);
+    write_power(hundredths.saturating_sub(100), out)?;
+    out.push(b" to ")?;
+    write_power(hundredths + 100, out)
+}
+
+// The end of the line.
+fn end_words(is_longer: bool) -> &'static str
+    ensures { result.now ≡ end_text is_longer }
+{
+    if is_longer {
+        " nodes, as a guess; without journeys ten times more, or worse\n"
     } else {
-        " nodes, by a rule of thumb\n"
+        " nodes, as a guess\n"
     }
 }
 
 // Appends the line of what may be expected, where anything is.
-pub(crate) fn write_expected<W: Sink>(expected: Option<u32>, out: &mut W) -> Result<(), Refused>
+pub(crate) fn write_expected<W: Sink>(
+    expected: Option<Expected>,
+    out: &mut W,
+) -> Result<(), Refused>
     ensures { Pushes W.held W.has_failed (Adds (expected_text expected)) out.old out.new result }
 {
     match expected {
         None => out.push(b""),
-        Some(exponent) => {
-            let exponent = rounded(exponent);
-            out.push(b"a search may visit about ")?;
-            out.push(digit_words(exponent % 100).as_bytes())?;
-            out.push(unit_words(exponent / 100).as_bytes())?;
-            out.push(nodes_words(exponent).as_bytes())
+        Some(expected) => {
+            out.push(b"a search by journeys may visit ")?;
+            write_range(expected.hundredths, out)?;
+            out.push(end_words(expected.is_longer).as_bytes())
         }
     }
 }

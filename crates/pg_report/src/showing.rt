@@ -16,7 +16,7 @@ ghost use Rattle.pg_report.specs.Showing.{IsSideLine, IsShown, IsShowFault, IsSh
 ghost use Rattle.pg_report.specs.Expecting.{IsExpected, expected_text};
 ghost use Rattle.pg_report.specs.Within.{AreKnown, known_text};
 
-use crate::expecting::{expected_of, write_expected};
+use crate::expecting::{Expected, expected_of, write_expected};
 use crate::fault::ShowFault;
 use crate::lengths::{Offers, first_open, offers_of};
 use crate::sides::{Need, Reason, need_of};
@@ -181,7 +181,7 @@ fn write_open<W: Sink>(least: Option<Length>, out: &mut W) -> Result<(), Refused
 #[derive(Clone, Copy)]
 struct Below {
     known: Known,
-    expected: Option<u32>,
+    expected: Option<Expected>,
 }
 
 // Appends what is written below the lines of the colours: what is known of the games of the length that is asked, the
@@ -206,7 +206,7 @@ fn write_shown<W: Sink>(
     requires white { white.now.color ≡ White }
     requires black { black.now.color ≡ Black }
     requires known { AreKnown diagram.now below.now.known.asked below.now.known.facts }
-    requires expected { IsExpected below.now.known.asked below.now.known.facts below.now.known.least
+    requires expected { IsExpected diagram.now below.now.known.asked below.now.known.facts below.now.known.least
         below.now.expected }
     ensures { Pushes W.held W.has_failed
         (AddsSome (IsShown diagram.now below.now.known.asked below.now.known.least)) out.old out.new result }
@@ -300,7 +300,8 @@ pub fn run_show<W: Sink>(
 /// what the bound by journeys knows of the games of that length: a line a colour, with the squares on which its captures
 /// land, where they are eight or fewer, and its men who never move; no line where neither is known. Where the bound
 /// excludes these games, one line says so. Where nothing is known against them and neither colour has too few plies for
-/// its men, a last line says how many nodes `search` may visit, by the rule of thumb of `forecast`.
+/// its men, a last line says from how many to how many nodes a search by journeys may visit, by a rule of thumb, and where by
+/// `forecast` one without them visits ten times more.
 ///
 /// # Errors
 /// In this order: `Diagram` and `Length` where that text is refused, with that refusal; `Memory` where a growth was
