@@ -13,9 +13,10 @@ wrong=0
 
 # Explains the moves $2 by the certificate $3 of the example $1, whose last line is to say that it is right.
 explain() {
-  local lines
+  local lines words=()
   mapfile -t lines <"$top/examples/$1/problem"
-  "$pg" why "${lines[0]}" "${lines[1]}" "$3" "$2" >"$work/said" 2>&1 &&
+  [ ! -f "$top/examples/$1/words" ] || read -ra words <"$top/examples/$1/words"
+  "$pg" why "${lines[0]}" "${lines[1]}" "$3" "$2" "${words[@]}" >"$work/said" 2>&1 &&
     [ "$(tail -n 1 "$work/said")" = 'the certificate is right' ] && return
   echo "$1, $2:" >&2
   sed 's/^/    /' "$work/said" >&2
@@ -72,6 +73,12 @@ array|-|at the start: a solution
 fools-mate|f3 e5 g4|after 1. f3 e5 2. g4: 1 of 30 moves ends on the diagram
 seven-moves|-|at the start: 2 of 20 moves lead on; cut 18 by travel; 1 game below
 queen-and-bishop|-|at the start: 8 of 20 moves lead on; cut 12 by travel; 2 games below
+two-knights|-|at the start: 4 of 20 moves lead on; cut 8 by travel, 8 by journeys; 1 game below
+two-knights|a3|after 1. a3: excluded: white has 14 moves left and needs 16 (journeys)
+two-knights|h4|after 1. h4: excluded: white's men cannot come to their squares (journeys)
+two-knights|a4 h5 a5 h4 a6 h3 axb7 hxg2 bxa8=N gxh1=N Nb6 Nf6|after 1. a4 h5 2. a5 h4 3. a6 h3 4. axb7 hxg2 5. bxa8=N gxh1=N 6. Nb6 Nf6: excluded: white has no plan: black captures on e2 or h2 alone (journeys)
+bishop-on-d3|e3|after 1. e3: excluded: no man of black's can come to be the pawn on h6 (journeys)
+bishop-on-d3|d4 d5|after 1. d4 d5: excluded: white has 13 moves left, 3 of them captures, and needs 11 quiet moves: black captures on 13 squares alone (journeys)
 END
 
 # Explains the moves $2 by the certificate in $work of the example $1, which is to say $3 of them and then be refused by the fault $4.
