@@ -58,12 +58,11 @@ fn is_tight(alloc: Global, position: &Position, plies: u8, most: u8) -> Result<b
     Ok(leeway.white.unwrap_or(0) <= most && leeway.black.unwrap_or(0) <= most)
 }
 
-// Where a game by chance has come to: the state of the chance, the last move and the position behind it, none where no move was legal,
-// and the squares of the men who have moved.
+// Where a game by chance has come to: the state of the chance, the position, none where no move was legal, and the squares of the men
+// who have moved.
 #[derive(Clone, Copy)]
 struct Drawn {
     state: u64,
-    last: Option<Move>,
     position: Option<Position>,
     men: SquareSet,
 }
@@ -95,46 +94,31 @@ fn suits(
     }
 }
 
-// Where the move leads that a state draws.
-fn step(alloc: Global, from: &Drawn, position: &Position, state: u64) -> Result<Drawn, AllocError> {
-    let Some(m) = drawn_move(alloc, position, state)? else {
-        return Ok(Drawn {
-            state,
-            last: None,
-            position: None,
-            men: from.men,
-        });
-    };
-    Ok(Drawn {
-        state,
-        last: Some(m),
-        position: position.play(m).ok(),
-        men: (from.men - SquareSet::single(m.from)) | SquareSet::single(m.to),
-    })
-}
-
 // The position after the first move that is taken of some that are drawn, as the ply with this number, or after the last of them; none
 // where no move is legal. Four times of five a man is to make it who has moved before.
 fn draw(alloc: Global, from: &Drawn, ply: u8, slack: Option<u8>) -> Result<Drawn, AllocError> {
     let mut to = Drawn {
         state: next(from.state),
-        last: None,
         position: None,
         men: from.men,
     };
     let Some(position) = from.position else {
         return Ok(to);
     };
-    let goes_on = (to.state >> 20) % 5 > 0;
-    let rule = Rule {
-        slack,
-        men: goes_on.then_some(from.men),
-    };
+    let mut rule = Rule { slack, men: None };
+    if (to.state >> 20) % 5 > 0 {
+        rule.men = Some(from.men);
+    }
     for _ in 0..DRAWS {
-        to = step(alloc, from, &position, next(to.state))?;
-        let (Some(m), Some(after)) = (to.last, to.position) else {
-            return Ok(to);
+        to.state = next(to.state);
+        let Some(m) = drawn_move(alloc, &position, to.state)? else {
+            break;
         };
+        let Ok(after) = position.play(m) else {
+            break;
+        };
+        to.position = Some(after);
+        to.men = (from.men - SquareSet::single(m.from)) | SquareSet::single(m.to);
         if suits(alloc, &m, &after, ply, rule)? {
             return Ok(to);
         }
@@ -146,7 +130,6 @@ fn draw(alloc: Global, from: &Drawn, ply: u8, slack: Option<u8>) -> Result<Drawn
 fn end_of(alloc: Global, state: u64, wanted: Wanted) -> Result<Drawn, AllocError> {
     let mut end = Drawn {
         state,
-        last: None,
         position: Some(Position::array()),
         men: SquareSet::empty(),
     };
