@@ -67,26 +67,25 @@ struct Drawn {
     men: SquareSet,
 }
 
-// Which moves are taken: those that leave either colour at most so many plies to spare, if any number is told; and those of
-// men who stand on these squares, if any are told.
+// Which moves are taken: those that leave either colour at most so many plies to spare, if any number is told; and where a man is to
+// go on, those of men who have moved before.
 #[derive(Clone, Copy)]
 struct Rule {
     slack: Option<u8>,
-    men: Option<SquareSet>,
+    goes_on: bool,
 }
 
-// Whether a move that leads to a position, as the ply with this number, is taken.
+// Whether a move that leads to a position, as the ply with this number, is taken where these men have moved before.
 fn suits(
     alloc: Global,
     m: &Move,
     next: &Position,
     ply: u8,
+    men: SquareSet,
     rule: Rule,
 ) -> Result<bool, AllocError> {
-    if let Some(men) = rule.men {
-        if !men.contains(m.from) {
-            return Ok(false);
-        }
+    if rule.goes_on && !men.contains(m.from) {
+        return Ok(false);
     }
     match rule.slack {
         None => Ok(true),
@@ -98,17 +97,18 @@ fn suits(
 // where no move is legal. Four times of five a man is to make it who has moved before.
 fn draw(alloc: Global, from: &Drawn, ply: u8, slack: Option<u8>) -> Result<Drawn, AllocError> {
     let mut to = Drawn {
-        state: next(from.state),
+        state: from.state,
         position: None,
         men: from.men,
     };
     let Some(position) = from.position else {
         return Ok(to);
     };
-    let mut rule = Rule { slack, men: None };
-    if (to.state >> 20) % 5 > 0 {
-        rule.men = Some(from.men);
-    }
+    to.state = next(to.state);
+    let rule = Rule {
+        slack,
+        goes_on: (to.state >> 20) % 5 > 0,
+    };
     for _ in 0..DRAWS {
         to.state = next(to.state);
         let Some(m) = drawn_move(alloc, &position, to.state)? else {
@@ -119,7 +119,7 @@ fn draw(alloc: Global, from: &Drawn, ply: u8, slack: Option<u8>) -> Result<Drawn
         };
         to.position = Some(after);
         to.men = (from.men - SquareSet::single(m.from)) | SquareSet::single(m.to);
-        if suits(alloc, &m, &after, ply, rule)? {
+        if suits(alloc, &m, &after, ply, from.men, rule)? {
             return Ok(to);
         }
     }
