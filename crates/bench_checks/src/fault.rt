@@ -6,7 +6,7 @@ use pg_searcher::{LedFault, SearchFault};
 
 #[derive(Debug, Drop, thiserror::Error)]
 pub(crate) enum Fault {
-    #[error("write a case and a number, table, search, a diagram, a length, a number of nodes and perhaps journeys and check, or cooks, a game, a number of nodes and perhaps one of moves, or chance, a seed, a number of moves and one of problems and perhaps one of plies to spare")]
+    #[error("write CASE NUMBER, table, search D L N [journeys] [check], cooks G N [D] or chance SEED N COUNT [D]")]
     Usage,
     #[error("a text is not read")]
     Text,
