@@ -13,7 +13,7 @@ use Rattle.pg_board.specs.Placement.{Placement}
 use Rattle.pg_board.specs.lemmas.Decisions.{dec_kind}
 use Rattle.pg_journeys.specs.Known.{landing}
 use Rattle.pg_journeys.specs.inner.Counting.{of_kind, count_at, AreCountsTo}
-use Rattle.pg_journeys.specs.inner.Sides.{facts_of, square_at, kind_at, IsSide, AreAims}
+use Rattle.pg_journeys.specs.inner.Sides.{facts_of, square_at, kind_at, IsSide, AreAims, AreAimsPast}
 use Rattle.pg_journeys.specs.inner.Costing.{IsAim, IsLastAim, AreNone, AreAimsTo}
 use Rattle.pg_journeys.specs.declared.plans.Side.{Side}
 use Rattle.pg_journeys.proofs.CostLemmas.{path_as}
@@ -118,3 +118,7 @@ aims_all x quiet most aims last n all few long are is = record {
             λ k s sl some. absurd (let z : count_at (get_or (set aims 16 last) e []) k s ≡ 255 = no_count (get_or (set aims 16 last) e []) k s none sl in omega arith))
       ]
     ]
+
+-- what was made up to a number is past it
+pub past_made : (x : Side) (quiet : Bool) (most : ℕ) (aims : List (List ℕ)) → most < 200 → AreAims x quiet most aims → AreAimsPast x quiet most aims
+past_made x quiet most aims low are = record { limit = most; enough = omega arith; low = low; are = are }

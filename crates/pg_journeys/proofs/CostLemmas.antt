@@ -26,7 +26,7 @@ use Rattle.pg_journeys.specs.PlanCosts.{AreCosts, InColumn}
 use Rattle.pg_journeys.specs.lemmas.DecidingPaths.{weigh}
 use Rattle.pg_journeys.specs.lemmas.PlanTotals.{plans_are_totals}
 use Rattle.pg_journeys.specs.inner.Counting.{counts}
-use Rattle.pg_journeys.specs.inner.Sides.{facts_of, square_at, kind_at, IsSide, AreAims, JourneysOf, IsPaidBy}
+use Rattle.pg_journeys.specs.inner.Sides.{facts_of, square_at, kind_at, IsSide, AreAims, AreAimsPast, JourneysOf, IsPaidBy}
 use Rattle.pg_journeys.specs.inner.Costing.{count_of, IsFall, IsCostRow, AreCostRows, AreCostsOf, HasTotalTo}
 use Rattle.pg_journeys.specs.declared.plans.Side.{Side}
 
@@ -139,6 +139,10 @@ costs_to d x quiet way most paid k le costs = record {
   attained = costs.attained;
   least = λ i j o ls h li lj st in_column meets small. costs.least i j o ls h li lj st in_column meets (omega arith);
 }
+
+-- the costs up to a number, by aims past it
+pub costs_past : (d : Placement) (x : Side) (quiet : Bool) (way : Option Wing) (most : ℕ) (aims : List (List ℕ)) (k : Costs) → ((n : ℕ) → AreAims x quiet n aims → n < 200 → AreCostsOf d x quiet way n k) → AreAimsPast x quiet most aims → AreCostsOf d x quiet way most k
+costs_past d x quiet way most aims k costs past = costs_to d x quiet way past.limit most k past.enough (costs past.limit past.are past.low)
 
 pub none_pays : (k : Costs) (o : Option ℕ) (most : ℕ) → o ≡ None → IsLeastTotal k o → IsTrue false ↔ HasTotalTo k most
 none_pays k o most e h = (

@@ -29,3 +29,7 @@ mod BackLemmas
 mod PawnParts
 mod TakingLemmas
 mod AheadLemmas
+mod RestingLemmas
+mod RestingPlans
+mod RestingShown
+mod Lifting

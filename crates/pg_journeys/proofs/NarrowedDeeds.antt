@@ -13,7 +13,7 @@ use Rattle.pg_journeys.specs.declared.plans.Side.{Side}
 use Rattle.pg_journeys.specs.declared.narrowing.Walker.{Walker}
 use Rattle.pg_journeys.specs.Known.{landing}
 use Rattle.pg_journeys.specs.inner.Counting.{IsReach}
-use Rattle.pg_journeys.specs.inner.Sides.{facts_of, IsSide, AreAims, AreRooms}
+use Rattle.pg_journeys.specs.inner.Sides.{facts_of, IsSide, AreAimsPast, AreRooms}
 use Rattle.pg_journeys.specs.inner.Deeds.{Lands, FallsOn, Changes}
 use Rattle.pg_journeys.specs.inner.Narrowed.{TakesToSome, FallsBy, ChangesBy, IsFull, walker_of}
 use Rattle.pg_journeys.proofs.SiftedSets.{IsJoined, join_next, join_none, join_full}
@@ -24,7 +24,7 @@ pub wide_low : (d : Placement) (x : Side) (quiet : Bool) (way : Option Wing) (mo
 wide_low d x quiet way most rooms i wide roomed low small widest = let h : wide ≤ most = widest most (λ e le some. roomed.small i e low le some) in omega arith
 
 -- what is asked of a man, and what is reached from him, by the functions' contracts
-pub asked_of : (d : Placement) (x : Side) (quiet : Bool) (way : Option Wing) (most : ℕ) (aims rooms : List (List ℕ)) (i : ℕ) → IsSide d x → AreAims x quiet most aims → AreRooms d x quiet way most rooms → most < 200 → i < x.men.count → IsAsked d x quiet way most aims rooms i
+pub asked_of : (d : Placement) (x : Side) (quiet : Bool) (way : Option Wing) (most : ℕ) (aims rooms : List (List ℕ)) (i : ℕ) → IsSide d x → AreAimsPast x quiet most aims → AreRooms d x quiet way most rooms → most < 200 → i < x.men.count → IsAsked d x quiet way most aims rooms i
 asked_of d x quiet way most aims rooms i side aimed roomed small low = record { side = side; aimed = aimed; roomed = roomed; small = small; low = low }
 
 pub reached_of : (x : Side) (quiet : Bool) (way : Option Wing) (rooms : List (List ℕ)) (i : ℕ) (reach : Reach) (wide : ℕ) (man : Walker) → man ≡ walker_of x quiet way i → IsReach (facts_of x) x.ground.color quiet man.kind man.from wide reach → ((e : ℕ) → e < 17 → get_or (get_or rooms i []) e 0 < 255 → get_or (get_or rooms i []) e 0 ≤ wide) → IsReached x quiet way rooms i reach wide

@@ -28,7 +28,7 @@ use Rattle.pg_journeys.specs.lemmas.ColumnsOfPlans.{HasColumns, columns_of_plan}
 use Rattle.pg_journeys.specs.declared.distances.Reach.{Reach}
 use Rattle.pg_journeys.specs.declared.plans.Side.{Side}
 use Rattle.pg_journeys.specs.inner.Counting.{counts, count_at, ComesTaking, IsReach}
-use Rattle.pg_journeys.specs.inner.Sides.{facts_of, square_at, kind_at, IsSide, AreAims, AreRooms, JourneysOf, IsPaidBy, MeetsAt, InEnd}
+use Rattle.pg_journeys.specs.inner.Sides.{facts_of, square_at, kind_at, IsSide, AreAimsPast, AreRooms, JourneysOf, IsPaidBy, MeetsAt, InEnd}
 use Rattle.pg_journeys.specs.inner.Deeds.{Changes}
 use Rattle.pg_journeys.specs.inner.Narrowed.{TakesTo, TakesToSome, StandsBy, PassedBy, FallsBy, ComesBack, ChangesBy, walker_of}
 use Rattle.pg_journeys.proofs.FrontLemmas.{not_both}
@@ -115,7 +115,7 @@ FallsOf d x quiet way most i q =
 -- ---- the man i of a side in the plans of a way, by his rooms
 pub record IsAsked (d : Placement) (x : Side) (quiet : Bool) (way : Option Wing) (most : ℕ) (aims rooms : List (List ℕ)) (i : ℕ) : Type 0 where
   pub side : IsSide d x
-  pub aimed : AreAims x quiet most aims
+  pub aimed : AreAimsPast x quiet most aims
   pub roomed : AreRooms d x quiet way most rooms
   pub small : most < 200
   pub low : i < x.men.count
@@ -219,13 +219,13 @@ module _ (d : Placement) (x : Side) (quiet : Bool) (way : Option Wing) (most : �
         let w : InTwo (facts_of x) x.ground.color quiet (kind_at x.men i) (counted x.ground.color way square) (kind_at x.goals e) (square_at x.goals e) q (weight ls) = path_in_two (facts_of x) x.ground.color quiet q ls (kind_at x.men i) (counted x.ground.color way square) (kind_at x.goals e) (square_at x.goals e) (to_goal e t j ls (kind_at x.men i) (counted x.ground.color way square) end.0 end.1 st path) take in
         let sum : w.1 + weight w.2 ≡ weight ls = w.5 in
         let small : room e ≤ most = asked.roomed.small i e asked.low le some in
-        let aim : count_at (get_or aims e []) w.0 q ≤ weight w.2 = asked.aimed.least e w.0 q w.2 end.0 lq w.4 (omega arith) in
+        let aim : count_at (get_or aims e []) w.0 q ≤ weight w.2 = asked.aimed.are.least e w.0 q w.2 end.0 lq w.4 (omega (arith, asked.aimed.enough)) in
         takes_to e w.0 q w.1 w.2 le lq some w.3 aim (omega arith)
     takes_by (Falls u) ls e q more lq le some fits end (ne, low, lands, inl (j, path)) take =
         let w : InTwo (facts_of x) x.ground.color quiet (kind_at x.men i) (counted x.ground.color way square) j u q (weight ls) = path_in_two (facts_of x) x.ground.color quiet q ls (kind_at x.men i) (counted x.ground.color way square) j u path take in
         let sum : w.1 + weight w.2 ≡ weight ls = w.5 in
         let small : room e ≤ most = asked.roomed.small i e asked.low le some in
-        let aim : count_at (get_or aims 16 []) w.0 q ≤ weight w.2 = asked.aimed.least_fall w.0 q j u w.2 lq low (more u refl) lands w.4 (omega arith) in
+        let aim : count_at (get_or aims 16 []) w.0 q ≤ weight w.2 = asked.aimed.are.least_fall w.0 q j u w.2 lq low (more u refl) lands w.4 (omega (arith, asked.aimed.enough)) in
         takes_to e w.0 q w.1 w.2 le lq some w.3 (subst (λ (n : ℕ). count_at (get_or aims n []) w.0 q ≤ weight w.2) (sym end) aim) (omega arith)
     takes_by (Falls u) ls e q more lq le some fits end (ne, low, lands, inr (has_passed, none)) take =
         absurd (let z : false ≡ true = subst (λ (y : List Leg). HasTake (facts_of x) x.ground.color q y) none take in cc)
@@ -239,7 +239,7 @@ module _ (d : Placement) (x : Side) (quiet : Bool) (way : Option Wing) (most : �
     lands_by : (o : Fate) (ls : List Leg) (e q : ℕ) (k : Kind) → q < 64 → e < 17 → room e < 255 → InEnd x.goals e o → MeetsAt d x way i ls o → count_at reach.takes k q + count_at (get_or aims e []) k q ≤ room e → LandsOf d x quiet way most i q
     lands_by (Arrives t) ls e q k lq le some end (j, low, st, path) fits =
         let a : (n : ℕ) × ComesTaking (facts_of x) x.ground.color quiet (kind_at x.men i) (counted x.ground.color way square) k q n × (n ≤ count_at reach.takes k q) = far.reached.takes k q lq (omega arith) in
-        let b : (ms : List Leg) × IsPath (facts_of x) x.ground.color k q ms (kind_at x.goals e) (square_at x.goals e) × (weight ms ≤ count_at (get_or aims e []) k q) = asked.aimed.comes e k q end.0 lq (omega arith) in
+        let b : (ms : List Leg) × IsPath (facts_of x) x.ground.color k q ms (kind_at x.goals e) (square_at x.goals e) × (weight ms ≤ count_at (get_or aims e []) k q) = asked.aimed.are.comes e k q end.0 lq (omega arith) in
         let w : InOne (facts_of x) x.ground.color quiet (kind_at x.men i) (counted x.ground.color way square) (kind_at x.goals e) (square_at x.goals e) q (a.0 + weight b.0) = path_in_one (facts_of x) x.ground.color quiet q (kind_at x.men i) (counted x.ground.color way square) k a.0 b.0 (kind_at x.goals e) (square_at x.goals e) a.1 b.1 in
         let sum : weight w.0 ≡ a.0 + weight b.0 = w.3 in
         let n_low : a.0 ≤ count_at reach.takes k q = a.2 in
@@ -249,7 +249,7 @@ module _ (d : Placement) (x : Side) (quiet : Bool) (way : Option Wing) (most : �
     lands_by (Falls u) ls e q k lq le some end (ne, low, lands, how) fits =
         let fits_last : count_at reach.takes k q + count_at (get_or aims 16 []) k q ≤ room e = subst (λ (n : ℕ). count_at reach.takes k q + count_at (get_or aims n []) k q ≤ room e) end fits in
         let a : (n : ℕ) × ComesTaking (facts_of x) x.ground.color quiet (kind_at x.men i) (counted x.ground.color way square) k q n × (n ≤ count_at reach.takes k q) = far.reached.takes k q lq (omega arith) in
-        let b : (j : Kind) × (t : ℕ) × (ms : List Leg) × (t < 64) × ((facts_of x).lands (other x.ground.color) t ≡ true) × IsPath (facts_of x) x.ground.color k q ms j t × (weight ms ≤ count_at (get_or aims 16 []) k q) = asked.aimed.falls k q lq (omega arith) in
+        let b : (j : Kind) × (t : ℕ) × (ms : List Leg) × (t < 64) × ((facts_of x).lands (other x.ground.color) t ≡ true) × IsPath (facts_of x) x.ground.color k q ms j t × (weight ms ≤ count_at (get_or aims 16 []) k q) = asked.aimed.are.falls k q lq (omega arith) in
         let w : InOne (facts_of x) x.ground.color quiet (kind_at x.men i) (counted x.ground.color way square) b.0 b.1 q (a.0 + weight b.2) = path_in_one (facts_of x) x.ground.color quiet q (kind_at x.men i) (counted x.ground.color way square) k a.0 b.2 b.0 b.1 a.1 b.5 in
         let sum : weight w.0 ≡ a.0 + weight b.2 = w.3 in
         let n_low : a.0 ≤ count_at reach.takes k q = a.2 in
@@ -295,7 +295,7 @@ module _ (d : Placement) (x : Side) (quiet : Bool) (way : Option Wing) (most : �
   stays_counted : kind_at x.men i ≡ Pawn → start ≡ square
   stays_counted e =
       let st : Stands x.position.board x.ground.color Pawn square = subst (λ (y : Kind). Stands x.position.board x.ground.color y square) e (asked.side.men.kinds i asked.low) in
-      pawn_counted x.position.board x.ground.color way square asked.side.valid.pawns (asked.side.men.listing.low i asked.low) st
+      pawn_counted x.position.board x.ground.color way square asked.side.pawns (asked.side.men.listing.low i asked.low) st
 
   abbrev Changed : ℕ → Type 0
   Changed e = ChangesBy x (walker_of x quiet way i) e (get_or aims e []) (room e)
@@ -310,7 +310,7 @@ module _ (d : Placement) (x : Side) (quiet : Bool) (way : Option Wing) (most : �
       let small : room e ≤ most = asked.roomed.small i e asked.low le some in
       let count : counts (facts_of x) x.ground.color quiet l ≡ cond (quiet && has (landing x.ground.facts x.ground.color) l.to) 0 1 = step_counts (facts_of x) x.ground.color quiet l (kind_at x.men i) start piece a in
       let sum : counts (facts_of x) x.ground.color quiet l + weight ls ≤ room e = fits in
-      let aim : count_at (get_or aims e []) (kind_at x.men i) l.to ≤ weight ls = asked.aimed.least e (kind_at x.men i) l.to ls low is.free.1 on (omega arith) in
+      let aim : count_at (get_or aims e []) (kind_at x.men i) l.to ≤ weight ls = asked.aimed.are.least e (kind_at x.men i) l.to ls low is.free.1 on (omega (arith, asked.aimed.enough)) in
       (l.to, is.free.1, leg_along (facts_of x) x.ground.color l (kind_at x.men i) start a b into is, omega arith)
 
   changed_by : (o : Fate) (ls : List Leg) (e : ℕ) → e < 17 → room e < 255 → weight ls ≤ room e → InEnd x.goals e o → MeetsAt d x way i ls o → ((o ≡ Arrives square) × (ls ≡ []) → ⊥) → Changed e
@@ -366,7 +366,7 @@ module _ (d : Placement) (x : Side) (quiet : Bool) (way : Option Wing) (most : �
       let p : IsPath (facts_of x) x.ground.color (kind_at x.men i) start [] (kind_at x.goals e) (square_at x.goals e) = subst (λ (y : List Leg). IsPath (facts_of x) x.ground.color (kind_at x.men i) start y (kind_at x.goals e) (square_at x.goals e)) b (to_goal e t j ls (kind_at x.men i) start end.0 end.1 st path) in
       ne (sym p.0))
   change_by (Arrives t) ls e le some fits end (j, low, st, path) (inr (inr (inr (piece, (s, ls_low, is, sum))))) =
-      let b : (ms : List Leg) × IsPath (facts_of x) x.ground.color (kind_at x.men i) s ms (kind_at x.goals e) (square_at x.goals e) × (weight ms ≤ count_at (get_or aims e []) (kind_at x.men i) s) = asked.aimed.comes e (kind_at x.men i) s end.0 ls_low (omega arith) in
+      let b : (ms : List Leg) × IsPath (facts_of x) x.ground.color (kind_at x.men i) s ms (kind_at x.goals e) (square_at x.goals e) × (weight ms ≤ count_at (get_or aims e []) (kind_at x.men i) s) = asked.aimed.are.comes e (kind_at x.men i) s end.0 ls_low (omega arith) in
       let count : counts (facts_of x) x.ground.color quiet (leg (kind_at x.men i) start (kind_at x.men i) s) ≡ cond (quiet && has (landing x.ground.facts x.ground.color) s) 0 1 = step_counts (facts_of x) x.ground.color quiet (leg (kind_at x.men i) start (kind_at x.men i) s) (kind_at x.men i) start piece refl in
       let less : weight b.0 ≤ count_at (get_or aims e []) (kind_at x.men i) s = b.2 in
       change_with e (Arrives (square_at x.goals e)) (leg (kind_at x.men i) start (kind_at x.men i) s ∷ b.0) le (end.0, refl) (kind_at x.goals e, asked.side.goals.listing.low e end.0, asked.side.goals.kinds e end.0, (refl, refl, is, b.1)) some (omega arith) (λ a none. cc)

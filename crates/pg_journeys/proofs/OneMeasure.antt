@@ -16,7 +16,7 @@ use Rattle.pg_journeys.specs.Journeys.{Leg, IsLeg, IsPath, may_take, Fate, Arriv
 use Rattle.pg_journeys.specs.lemmas.DecidingPaths.{weigh}
 use Rattle.pg_journeys.specs.lemmas.Turns.{leg}
 use Rattle.pg_journeys.specs.inner.Counting.{counts}
-use Rattle.pg_journeys.specs.inner.Sides.{facts_of, square_at, kind_at, IsSide, AreAims, AreRooms, JourneysOf, IsPaidBy, MeetsAt, InEnd}
+use Rattle.pg_journeys.specs.inner.Sides.{facts_of, square_at, kind_at, IsSide, AreAims, AreAimsPast, AreRooms, JourneysOf, IsPaidBy, MeetsAt, InEnd}
 use Rattle.pg_journeys.specs.inner.Deeds.{Lands, FallsOn, Changes, AreDeeds}
 use Rattle.pg_journeys.specs.inner.Showing.{IsMeasured, IsOneMeasure}
 use Rattle.pg_journeys.specs.declared.plans.Side.{Side}
@@ -129,6 +129,9 @@ module _ (x : Side) (empty : HasNoneFrom (landing x.ground.facts x.ground.color)
       );
     }
 
+pub past_too : (x : Side) (empty : HasNoneFrom (landing x.ground.facts x.ground.color) 0) (q r : Bool) (most : ℕ) (aims : List (List ℕ)) → AreAimsPast x q most aims → AreAimsPast x r most aims
+past_too x empty q r most aims h = record { limit = h.limit; enough = h.enough; low = h.low; are = same_aims x empty q r h.limit aims h.are }
+
 -- what is measured by moves is measured by quiet moves too
 pub measured_too : (x : Side) (m : Measured) (most : ℕ) → IsOneMeasure x most most → IsMeasured x false m → IsMeasured x true m
-measured_too x m most one h = record { low = h.low; aims = same_aims x one.none false true m.most m.aims h.aims }
+measured_too x m most one h = record { low = h.low; aims = past_too x one.none false true m.most m.aims.now h.aims }

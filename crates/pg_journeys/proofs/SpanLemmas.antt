@@ -161,9 +161,9 @@ way_open f p c w way held m span e h t is meets = subst (λ (o : Option Wing). I
 
 -- ---- the passed square
 -- the pawn that has just passed a square stands on the board
-pub passed_ahead : (p : State) (c : Color) (e : ℕ) → IsPosition p → p.passed ≡ Some e → e < 64 → p.side ≡ other c → HasAhead c 1 e
+pub passed_ahead : (p : State) (c : Color) (e : ℕ) → IsPosition p → p.passed ≡ Some e → p.side ≡ other c → HasAhead c 1 e
 unfolding IsPassed
-passed_ahead p c e is at low turn = by c (subst (λ (s : Color). rank e ≡ passed_rank s) turn (is.passing e at).0)
+passed_ahead p c e is at turn = by c (subst (λ (s : Color). rank e ≡ passed_rank s) turn (is.passing e at).0)
   where
     by : (c : Color) → rank e ≡ passed_rank (other c) → HasAhead c 1 e
     by White r = omega arith

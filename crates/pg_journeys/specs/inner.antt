@@ -12,3 +12,4 @@ pub mod Narrowed
 pub mod Showing
 pub mod Walking
 pub mod Needing
+pub mod Resting

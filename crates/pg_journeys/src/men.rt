@@ -3,8 +3,9 @@ ghost use Rattle.std.specs.Prelude.{◌≡◌, ◌<◌, ◌≤◌};
 ghost use Rattle.pg_captures.specs.Counting.{men, any_man};
 ghost use Rattle.pg_journeys.specs.inner.Sides.{AreMen};
 ghost use Rattle.pg_journeys.specs.inner.Makings.{IsAdded};
+ghost use Rattle.pg_journeys.specs.inner.Resting.{lifted};
 
-use pg_board::{Board, Color, Kind, Square};
+use pg_board::{Board, Color, Kind, Square, SquareSet};
 
 // The first sixteen men of a colour, by their squares in ascending order.
 #[derive(Clone, Copy)]
@@ -26,18 +27,18 @@ impl Men {
     }
 }
 
-// The men of a colour on a board.
-pub(crate) fn men_of(board: &Board, color: Color) -> Men
-    requires { men color any_man board.now ≤ 16 }
-    ensures all { AreMen board.now color result }
-    ensures count { result.count ≡ men color any_man board.now }
+// The men of a colour on a board, without those on a set of squares.
+pub(crate) fn men_without(board: &Board, color: Color, resting: SquareSet) -> Men
+    requires { men color any_man (lifted board.now resting) ≤ 16 }
+    ensures all { AreMen (lifted board.now resting) color result }
+    ensures count { result.count ≡ men color any_man (lifted board.now resting) }
 {
     let mut men = Men {
         count: 0,
         kinds: [Kind::Pawn; 16],
         squares: [Square::at(0); 16],
     };
-    let mut left = board.squares_of_color(color);
+    let mut left = board.squares_of_color(color) - resting;
     while let Some(square) = left.pop_first() {
         if let Some(man) = board.get(square) {
             men.add(man.kind, square);

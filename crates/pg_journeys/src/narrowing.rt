@@ -258,7 +258,7 @@ fn may_find(side: &Side, ends: u32, room: u8, lands: SquareSet, falls: SquareSet
 pub(crate) fn deeds_of(
     side: &Side,
     is_quiet: bool,
-    measured: &Measured,
+    measured: &Measured<'_>,
     way: Option<Wing>,
     rooms: &Rooms,
 ) -> Deeds
@@ -271,7 +271,7 @@ pub(crate) fn deeds_of(
     let mut lands = SquareSet::empty();
     let mut falls = SquareSet::empty();
     let mut ends = [0u32; 16];
-    let aims = &measured.aims;
+    let aims = measured.aims;
     for i in 0..side.men.count {
         let man = man_of(side, is_quiet, way, i);
         let own = ends_of(side, &man, aims, &rooms[i]);

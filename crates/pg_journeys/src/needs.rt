@@ -22,7 +22,7 @@ use crate::plans::{Aims, Side, charge, costs_of, counted, fill_aims, is_way};
 use crate::rounds::{first_facts, has_few, has_fewer, has_walls, next_facts};
 use crate::shown::{is_dead, side_of};
 use pg_assignments::least_total;
-use pg_board::{Color, Square};
+use pg_board::{Color, Square, SquareSet};
 use pg_captures::all_men;
 use pg_fen::Diagram;
 use pg_position::{Position, Wing};
@@ -133,7 +133,7 @@ pub fn least_counts(
         return None;
     }
     let table = steps_table(facts.still);
-    let side = side_of(diagram, position, facts, color, &table);
+    let side = side_of(diagram, position, facts, color, SquareSet::empty(), &table);
     Some(LeastCounts {
         moves: least_in_all(&side, false),
         quiet_moves: least_in_all(&side, true),
@@ -219,7 +219,7 @@ pub fn unreached(
         return None;
     }
     let table = steps_table(facts.still);
-    let side = side_of(diagram, position, facts, color, &table);
+    let side = side_of(diagram, position, facts, color, SquareSet::empty(), &table);
     let mut aims = [[255u8; 384]; 17];
     fill_aims(&side, false, LeastCounts::MOST, &mut aims);
     unreached_of(&side, &aims)

@@ -9,12 +9,13 @@ ghost use Rattle.pg_travel.specs.Origins.{charge as charge_of, counted as counte
 ghost use Rattle.pg_journeys.specs.Journeys.{HasPassed, IsWayUnder};
 ghost use Rattle.pg_journeys.specs.Known.{known, landing};
 ghost use Rattle.pg_journeys.specs.inner.Costing.{IsOnSpan, AreNone, IsAim, IsLastAim, IsFall, IsCostRow, AreCostsOf, HasTotalTo};
-ghost use Rattle.pg_journeys.specs.inner.Sides.{IsSide, AreAims, JourneysOf, IsPaidBy};
+ghost use Rattle.pg_journeys.specs.inner.Sides.{IsSide, AreAims, AreAimsPast, JourneysOf, IsPaidBy};
 
 use crate::distances::{Counts, counts_to, only, place};
 use crate::facts::Facts;
 use crate::ground::Ground;
 use crate::men::Men;
+use crate::scene::Scene;
 use pg_assignments::{Costs, least_total};
 use pg_board::{Color, Kind, Square, SquareSet};
 use pg_captures::{plies_left, victims_of};
@@ -24,7 +25,7 @@ use pg_position::{Position, Wing, ahead, king_crossed, king_home, king_target, r
 // The men of a colour in a position and in a diagram, and the ground of their steps under facts.
 #[derive(Drop)]
 pub(crate) struct Side {
-    pub(crate) position: Position,
+    pub(crate) position: Scene,
     pub(crate) ground: Ground,
     pub(crate) men: Men,
     pub(crate) goals: Men,
@@ -199,7 +200,7 @@ fn span(color: Color, wing: Wing) -> SquareSet
 }
 
 // Whether a way is open under facts.
-pub(crate) fn is_way(position: &Position, facts: &Facts, color: Color, way: Option<Wing>) -> bool
+pub(crate) fn is_way(position: &Scene, facts: &Facts, color: Color, way: Option<Wing>) -> bool
     ensures { IsTrue result ↔ IsWayUnder (known facts.now) position.now color way }
 {
     match way {
@@ -248,7 +249,7 @@ fn pays(costs: &Costs, most: u8) -> bool
 pub(crate) fn is_paid(side: &Side, aims: &Aims, way: Option<Wing>, most: u8) -> bool
     requires side { (d : Placement) × IsSide d side.now }
     requires low { most < 200 }
-    ensures { (d : Placement) (quiet : Bool) → IsSide d side.now → AreAims side.now quiet most aims.now →
+    ensures { (d : Placement) (quiet : Bool) → IsSide d side.now → AreAimsPast side.now quiet most aims.now →
         IsTrue result ↔ ((g : JourneysOf d side.now way) × IsPaidBy d side.now quiet way most g) }
 {
     let charge = charge(way);

@@ -3,7 +3,7 @@ ghost use Rattle.std.specs.Prelude.{◌≡◌, ℕ, Bool, ◌<◌, ◌≤◌, If
 ghost use Rattle.pg_board.specs.Placement.{Placement};
 ghost use Rattle.pg_assignments.specs.Assignments.{AreLeastWith};
 ghost use Rattle.pg_journeys.specs.inner.Costing.{IsRoom, IsWider, EndsAt, IsRoomRow, AreRoomRows};
-ghost use Rattle.pg_journeys.specs.inner.Sides.{IsSide, AreAims, AreRooms, JourneysOf, IsPaidBy};
+ghost use Rattle.pg_journeys.specs.inner.Sides.{IsSide, AreAimsPast, AreRooms, JourneysOf, IsPaidBy};
 
 use crate::plans::{Aims, Side, charge, costs_of};
 use pg_assignments::{Costs, least_totals};
@@ -91,10 +91,10 @@ pub(crate) fn rooms_of(side: &Side, aims: &Aims, way: Option<Wing>, most: u8) ->
     requires side { (d : Placement) × IsSide d side.now }
     requires low { most < 200 }
     ensures none { IfNone result ((d : Placement) (quiet : Bool) → IsSide d side.now →
-        AreAims side.now quiet most aims.now →
+        AreAimsPast side.now quiet most aims.now →
         (g : JourneysOf d side.now way) → IsPaidBy d side.now quiet way most g → ⊥) }
     ensures some { IfSome result (λ rooms. (d : Placement) (quiet : Bool) → IsSide d side.now →
-        AreAims side.now quiet most aims.now → AreRooms d side.now quiet way most rooms
+        AreAimsPast side.now quiet most aims.now → AreRooms d side.now quiet way most rooms
         × ((g : JourneysOf d side.now way) × IsPaidBy d side.now quiet way most g)) }
 {
     let charge = charge(way);

@@ -2,24 +2,30 @@
 ghost use Rattle.std.specs.Prelude.{◌≡◌, ℕ, ◌<◌, ◌≤◌, ◌↔◌, IsTrue, IfSome, IfNone, MatchOption, Option, List, [], ◌∷◌, get_or, true, false};
 ghost use Rattle.pg_board.specs.SquareSets.{IsSetOf};
 ghost use Rattle.pg_board.specs.Placement.{Placement};
+ghost use Rattle.pg_board.specs.Bits.{has};
+ghost use Rattle.pg_board.specs.declared.man.Color.{Color as AnyColor};
 ghost use Rattle.pg_position.specs.declared.rights.Wing.{Wing as AnyWing};
+ghost use Rattle.pg_position.specs.declared.state.State.{State};
 ghost use Rattle.pg_captures.specs.Counting.{men, any_man};
+ghost use Rattle.pg_journeys.specs.Facts.{Facts as GameFacts};
+ghost use Rattle.pg_journeys.specs.Journeys.{HasPassed};
 ghost use Rattle.pg_journeys.specs.Known.{known};
 ghost use Rattle.pg_journeys.specs.Plans.{IsAlive};
-ghost use Rattle.pg_journeys.specs.inner.Counts.{AreNone};
 ghost use Rattle.pg_journeys.specs.inner.Grounds.{HasSteps};
+ghost use Rattle.pg_journeys.specs.inner.Resting.{AreResting, lifted, lifted_from};
 ghost use Rattle.pg_journeys.specs.inner.Sides.{facts_of, square_at, IsSide};
 ghost use Rattle.pg_journeys.specs.inner.Showing.{MayChange, IsMeasured, IsOneMeasure, AreBudgets, ShowsWay, IsJoined, ShowsAmong, IsDead, Shows};
 
 use crate::facts::Facts;
 use crate::ground::{ground_of, steps_table};
-use crate::men::{Men, men_of};
+use crate::men::{Men, men_without};
 use crate::narrowing::{Deeds, deeds_of};
 use crate::plans::{Aims, Side, budget, counted, fill_aims, is_paid, is_way};
 use crate::rooms::rooms_of;
+use crate::scene::Scene;
 use pg_board::{Color, SquareSet};
 use pg_fen::Diagram;
-use pg_position::{Position, Wing};
+use pg_position::{Position, Wing, ahead};
 
 // What the plans of a colour show: who changes in one, and by each measure where captures land and men are captured.
 #[derive(Clone, Copy)]
@@ -32,9 +38,9 @@ pub(crate) struct Shown {
 }
 
 // The counts of paths by a measure, and what they may count.
-#[derive(Drop)]
-pub(crate) struct Measured {
-    pub(crate) aims: Aims,
+#[derive(Clone, Copy)]
+pub(crate) struct Measured<'a> {
+    pub(crate) aims: &'a Aims,
     pub(crate) most: u8,
 }
 
@@ -70,7 +76,7 @@ fn changed_in(color: Color, own: &Men, way: Option<Wing>, moves: &Deeds, quiet: 
 }
 
 // Whether a way has a plan by each measure.
-fn is_alive(side: &Side, moves: &Measured, quiet: &Measured, way: Option<Wing>) -> bool
+fn is_alive(side: &Side, moves: &Measured<'_>, quiet: &Measured<'_>, way: Option<Wing>) -> bool
     requires side { (d : Placement) × IsSide d side.now }
     requires moves { IsMeasured side.now false moves.now }
     requires quiet { IsMeasured side.now true quiet.now }
@@ -81,10 +87,10 @@ fn is_alive(side: &Side, moves: &Measured, quiet: &Measured, way: Option<Wing>) 
     if !is_way(&side.position, &side.ground.facts, side.ground.color, way) {
         return false;
     }
-    if !is_paid(side, &moves.aims, way, moves.most) {
+    if !is_paid(side, moves.aims, way, moves.most) {
         return false;
     }
-    is_paid(side, &quiet.aims, way, quiet.most)
+    is_paid(side, quiet.aims, way, quiet.most)
 }
 
 // Whether both measures are one: they may count as much, and since no capture may land each step is a quiet move.
@@ -95,7 +101,12 @@ fn is_one_measure(side: &Side, most: u8, fewest: u8) -> bool
 }
 
 // What the plans of a way show; none where it is not alive. Where both measures are one, one tells both.
-fn way_shown(side: &Side, moves: &Measured, quiet: &Measured, way: Option<Wing>) -> Option<Shown>
+fn way_shown(
+    side: &Side,
+    moves: &Measured<'_>,
+    quiet: &Measured<'_>,
+    way: Option<Wing>,
+) -> Option<Shown>
     requires side { (d : Placement) × IsSide d side.now }
     requires moves { IsMeasured side.now false moves.now }
     requires quiet { IsMeasured side.now true quiet.now }
@@ -110,7 +121,7 @@ fn way_shown(side: &Side, moves: &Measured, quiet: &Measured, way: Option<Wing>)
     if !is_way(&side.position, &side.ground.facts, side.ground.color, way) {
         return None;
     }
-    let Some(rooms) = rooms_of(side, &moves.aims, way, moves.most) else {
+    let Some(rooms) = rooms_of(side, moves.aims, way, moves.most) else {
         return None;
     };
     if is_one_measure(side, moves.most, quiet.most) {
@@ -123,7 +134,7 @@ fn way_shown(side: &Side, moves: &Measured, quiet: &Measured, way: Option<Wing>)
             quiet_falls: both.falls,
         });
     }
-    let Some(quiet_rooms) = rooms_of(side, &quiet.aims, way, quiet.most) else {
+    let Some(quiet_rooms) = rooms_of(side, quiet.aims, way, quiet.most) else {
         return None;
     };
     let all = deeds_of(side, false, moves, way, &rooms);
@@ -153,8 +164,8 @@ fn joined(one: &Shown, other: &Shown) -> Shown
 // With what the plans of a way show; the same where it is not alive.
 fn add_way(
     side: &Side,
-    moves: &Measured,
-    quiet: &Measured,
+    moves: &Measured<'_>,
+    quiet: &Measured<'_>,
     way: Option<Wing>,
     before: Option<Shown>,
 ) -> Option<Shown>
@@ -176,7 +187,7 @@ fn add_way(
 }
 
 // What the plans of all ways show; none where no way is alive.
-fn ways_shown(side: &Side, moves: &Measured, quiet: &Measured) -> Option<Shown>
+fn ways_shown(side: &Side, moves: &Measured<'_>, quiet: &Measured<'_>) -> Option<Shown>
     requires side { (d : Placement) × IsSide d side.now }
     requires moves { IsMeasured side.now false moves.now }
     requires quiet { IsMeasured side.now true quiet.now }
@@ -190,39 +201,51 @@ fn ways_shown(side: &Side, moves: &Measured, quiet: &Measured) -> Option<Shown>
     add_way(side, moves, quiet, Some(Wing::QueenSide), short)
 }
 
-// The men of a colour here and in the diagram, and the ground of their steps.
+// The pawn that has just passed a square.
+fn passing_pawn(position: &Position) -> SquareSet
+    ensures { (c : AnyColor) (s u : ℕ) → HasPassed position.now c s u → s < 64 → has result s ≡ true }
+{
+    match position.passed() {
+        None => SquareSet::empty(),
+        Some(passed) => SquareSet::single(ahead(position.side().other(), 1, passed)),
+    }
+}
+
+// The men who rest under facts: where the diagram has the same man on a still square, no capture lands, and none has just
+// passed a square.
+pub(crate) fn resting_men(diagram: &Diagram, position: &Position, facts: &Facts) -> SquareSet
+    ensures { AreResting (known facts.now) diagram.now position.now result }
+{
+    let same = facts.still - position.board().differing(&diagram.board());
+    let spared = (same - facts.white) - facts.black;
+    spared - passing_pawn(position)
+}
+
+// The men of a colour here and in the diagram, without those who rest, and the ground of their steps.
 pub(crate) fn side_of(
     diagram: &Diagram,
     position: &Position,
     facts: &Facts,
     color: Color,
+    resting: SquareSet,
     table: &[SquareSet; 384],
 ) -> Side
     requires steps { HasSteps facts.now.still table.now }
-    requires few { men color any_man position.now.board ≤ 16 }
-    requires room { men color any_man diagram.now ≤ men color any_man position.now.board }
-    ensures side { IsSide diagram.now result }
-    ensures position { result.position ≡ position.now }
+    requires few { men color any_man (lifted position.now.board resting) ≤ 16 }
+    requires room { men color any_man (lifted diagram.now resting) ≤ men color any_man (lifted position.now.board resting) }
+    ensures side { IsSide (lifted diagram.now resting) result }
+    ensures position { result.position ≡ lifted_from position.now resting }
     ensures facts { result.ground.facts ≡ facts.now }
     ensures color { result.ground.color ≡ color }
 {
+    let scene = Scene::new(position, resting);
+    let men = scene.men(color);
     Side {
-        position: *position,
+        position: scene,
         ground: ground_of(facts, color, table),
-        men: men_of(&position.board(), color),
-        goals: men_of(&diagram.board(), color),
+        men,
+        goals: men_without(&diagram.board(), color, resting),
     }
-}
-
-// Counts the paths of a side by a measure, where no number is a count yet.
-fn measure(side: &Side, is_quiet: bool, measured: &mut Measured)
-    requires side { (d : Placement) × IsSide d side.now }
-    requires low { measured.old.most < 200 }
-    requires none { (e : ℕ) → e < 17 → AreNone (get_or measured.old.aims e []) }
-    ensures all { IsMeasured side.now is_quiet measured.new }
-    ensures most { measured.new.most ≡ measured.old.most }
-{
-    fill_aims(side, is_quiet, measured.most, &mut measured.aims);
 }
 
 // What the plans of a side show by one measure that is both. A table of its own, since it is cleared where a function begins.
@@ -235,17 +258,15 @@ fn shown_by_one(side: &Side, most: u8) -> Option<Shown>
         MatchOption result (IsDead (facts_of side.now) d side.now.position k side.now.ground.color)
         (λ a. Shows (facts_of side.now) d side.now.position k side.now.ground.color a) }
 {
-    let mut moves = Measured {
-        aims: [[255u8; 384]; 17],
-        most,
-    };
-    measure(side, false, &mut moves);
+    let mut aims = [[255u8; 384]; 17];
+    fill_aims(side, false, most, &mut aims);
+    let moves = Measured { aims: &aims, most };
     ways_shown(side, &moves, &moves)
 }
 
 // What the plans of a side show by one measure and by quiet moves, which are counted here.
 #[inline(never)]
-fn shown_with_quiet(side: &Side, moves: &Measured, fewest: u8) -> Option<Shown>
+fn shown_with_quiet(side: &Side, moves: &Measured<'_>, fewest: u8) -> Option<Shown>
     requires side { (d : Placement) × IsSide d side.now }
     requires moves { IsMeasured side.now false moves.now }
     requires low { fewest < 200 }
@@ -253,11 +274,12 @@ fn shown_with_quiet(side: &Side, moves: &Measured, fewest: u8) -> Option<Shown>
         MatchOption result (IsDead (facts_of side.now) d side.now.position k side.now.ground.color)
         (λ a. Shows (facts_of side.now) d side.now.position k side.now.ground.color a) }
 {
-    let mut quiet = Measured {
-        aims: [[255u8; 384]; 17],
+    let mut aims = [[255u8; 384]; 17];
+    fill_aims(side, true, fewest, &mut aims);
+    let quiet = Measured {
+        aims: &aims,
         most: fewest,
     };
-    measure(side, true, &mut quiet);
     ways_shown(side, moves, &quiet)
 }
 
@@ -271,12 +293,26 @@ fn shown_by_two(side: &Side, most: u8, fewest: u8) -> Option<Shown>
         MatchOption result (IsDead (facts_of side.now) d side.now.position k side.now.ground.color)
         (λ a. Shows (facts_of side.now) d side.now.position k side.now.ground.color a) }
 {
-    let mut moves = Measured {
-        aims: [[255u8; 384]; 17],
-        most,
-    };
-    measure(side, false, &mut moves);
+    let mut aims = [[255u8; 384]; 17];
+    fill_aims(side, false, most, &mut aims);
+    let moves = Measured { aims: &aims, most };
     shown_with_quiet(side, &moves, fewest)
+}
+
+// What is shown with the men back who rest, who do not change.
+fn with_resting(shown: Option<Shown>, resting: SquareSet) -> Option<Shown>
+    ensures { (f : GameFacts) (d : Placement) (p : State) (k : ℕ) (c : AnyColor) → AreResting f d p resting →
+        MatchOption shown (IsDead f (lifted d resting) (lifted_from p resting) k c)
+        (λ a. Shows f (lifted d resting) (lifted_from p resting) k c a) →
+        MatchOption result (IsDead f d p k c) (λ a. Shows f d p k c a) }
+{
+    match shown {
+        None => None,
+        Some(shown) => Some(Shown {
+            changed: shown.changed - resting,
+            ..shown
+        }),
+    }
 }
 
 // What the plans of a colour show under facts; none where no way is alive.
@@ -300,16 +336,18 @@ pub(crate) fn shown_of(
     let Some(fewest) = budget(diagram, position, color, left, true) else {
         return None;
     };
-    let side = side_of(diagram, position, facts, color, table);
-    if is_one_measure(&side, most, fewest) {
+    let resting = resting_men(diagram, position, facts);
+    let side = side_of(diagram, position, facts, color, resting, table);
+    let shown = if is_one_measure(&side, most, fewest) {
         shown_by_one(&side, most)
     } else {
         shown_by_two(&side, most, fewest)
-    }
+    };
+    with_resting(shown, resting)
 }
 
 // Whether some way is alive.
-fn some_alive(side: &Side, moves: &Measured, quiet: &Measured) -> bool
+fn some_alive(side: &Side, moves: &Measured<'_>, quiet: &Measured<'_>) -> bool
     requires side { (d : Placement) × IsSide d side.now }
     requires moves { IsMeasured side.now false moves.now }
     requires quiet { IsMeasured side.now true quiet.now }
@@ -346,16 +384,16 @@ pub(crate) fn is_dead(
         return true;
     };
     let table = steps_table(facts.still);
-    let side = side_of(diagram, position, facts, color, &table);
-    let mut moves = Measured {
-        aims: [[255u8; 384]; 17],
-        most,
-    };
-    measure(&side, false, &mut moves);
-    let mut quiet = Measured {
-        aims: [[255u8; 384]; 17],
+    let resting = resting_men(diagram, position, facts);
+    let side = side_of(diagram, position, facts, color, resting, &table);
+    let mut aims = [[255u8; 384]; 17];
+    fill_aims(&side, false, most, &mut aims);
+    let moves = Measured { aims: &aims, most };
+    let mut quiet_aims = [[255u8; 384]; 17];
+    fill_aims(&side, true, fewest, &mut quiet_aims);
+    let quiet = Measured {
+        aims: &quiet_aims,
         most: fewest,
     };
-    measure(&side, true, &mut quiet);
     !some_alive(&side, &moves, &quiet)
 }

@@ -20,7 +20,7 @@ use Rattle.pg_journeys.specs.declared.plans.Side.{Side}
 use Rattle.pg_journeys.specs.declared.narrowing.Deeds.{Deeds}
 use Rattle.pg_journeys.specs.declared.shown.Shown.{Shown}
 use Rattle.pg_journeys.specs.declared.shown.Measured.{Measured}
-use Rattle.pg_journeys.specs.inner.Sides.{square_at, AreAims}
+use Rattle.pg_journeys.specs.inner.Sides.{square_at, AreAimsPast}
 
 -- whether only quiet steps count
 abbrev pub is_quiet : Measure → Bool
@@ -32,10 +32,10 @@ abbrev pub IsBudget : Placement → State → ℕ → Color → Measure → ℕ 
 IsBudget d p k c Moves n = n ≡ plies_left p.side c k
 IsBudget d p k c QuietMoves n = n + victims c p.board ≡ plies_left p.side c k + victims c d
 
--- the counts of paths of a side by a measure, up to what they may count
+-- the counts of paths of a side by a measure, up to what they may count at least
 pub record IsMeasured (x : Side) (quiet : Bool) (m : Measured) : Type 0 where
   pub low : m.most < 200
-  pub aims : AreAims x quiet m.most m.aims
+  pub aims : AreAimsPast x quiet m.most m.aims.now
 
 -- what paths may count by both measures
 pub record AreBudgets (d : Placement) (x : Side) (k : ℕ) (moves quiet : ℕ) : Type 0 where

@@ -7,7 +7,7 @@ use Rattle.pg_board.specs.Men.{other}
 use Rattle.pg_board.specs.Tally.{total}
 use Rattle.pg_board.specs.Placement.{Placement}
 use Rattle.pg_position.specs.declared.rights.Wing.{Wing}
-use Rattle.pg_position.specs.Position.{Stands, IsPosition}
+use Rattle.pg_position.specs.Position.{Stands, PawnsClause}
 use Rattle.pg_travel.specs.Origins.{charge, counted}
 use Rattle.pg_journeys.specs.Facts.{Facts}
 use Rattle.pg_journeys.specs.Journeys.{Leg, Fate, Arrives, Falls, IsPath, Meets, Journeys}
@@ -38,7 +38,7 @@ facts_of x = known x.ground.facts
 
 -- a side of a position for the diagram d: its men, those of d that they become, and the ground of their steps
 pub record IsSide (d : Placement) (x : Side) : Type 0 where
-  pub valid : IsPosition x.position
+  pub pawns : PawnsClause x.position.board
   pub ground : IsGround x.ground
   pub men : AreMen x.position.board x.ground.color x.men
   pub goals : AreMen d x.ground.color x.goals
@@ -59,6 +59,13 @@ pub record AreAims (x : Side) (quiet : Bool) (most : ℕ) (aims : List (List ℕ
   pub least_fall : (k : Kind) (s : ℕ) (j : Kind) (t : ℕ) (ls : List Leg) → s < 64 → t < 64 → x.goals.count < x.men.count →
       (facts_of x).lands (other x.ground.color) t ≡ true → IsPath (facts_of x) x.ground.color k s ls j t →
       weigh (counts (facts_of x) x.ground.color quiet) ls ≤ most → count_at (get_or aims 16 []) k s ≤ weigh (counts (facts_of x) x.ground.color quiet) ls
+
+-- such counts, up to a number that is at least so many
+pub record AreAimsPast (x : Side) (quiet : Bool) (most : ℕ) (aims : List (List ℕ)) : Type 0 where
+  pub limit : ℕ
+  pub enough : most ≤ limit
+  pub low : limit < 200
+  pub are : AreAims x quiet limit aims
 
 -- the journeys of a side in a way
 abbrev pub JourneysOf : Placement → Side → Option Wing → Type 0

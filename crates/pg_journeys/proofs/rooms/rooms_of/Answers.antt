@@ -1,5 +1,5 @@
 use Rattle.std.proofs.Common.{arith}
-use Rattle.pg_journeys.proofs.CostLemmas.{charged, none_paid, some_paid}
+use Rattle.pg_journeys.proofs.CostLemmas.{charged, costs_past, none_paid, some_paid}
 use Rattle.pg_journeys.proofs.RoomLemmas.{rooms_are}
 use Rattle.pg_journeys.proofs.rooms.rooms_of.Goals as goal
 
@@ -14,13 +14,13 @@ returns-then-charge-most-clause-none c = λ d quiet side are g paid. absurd (let
 
 pub returns-in-None-clause-none : goal.returns-in-None-clause-none
 returns-in-None-clause-none c = λ d quiet side are g paid. none_paid d c.args.side.now quiet c.args.way c.args.most c.from-paid.result c.costs_of-costs.result
-    (omega (arith, c.from-paid.ensures, c.charge-charge.ensures.value, c.if-charge-most.false)) (c.costs_of-costs.ensures.costs d quiet c.args.most side are c.requires.low) c.in-None.ensures.none (g, paid)
+    (omega (arith, c.from-paid.ensures, c.charge-charge.ensures.value, c.if-charge-most.false)) (costs_past d c.args.side.now quiet c.args.way c.args.most c.args.aims.now c.costs_of-costs.result (λ n aims low. c.costs_of-costs.ensures.costs d quiet n side aims low) are) c.in-None.ensures.none (g, paid)
 
 pub returns-in-Some-clause-some : goal.returns-in-Some-clause-some
 returns-in-Some-clause-some c = λ d quiet side are. (
   rooms_are d c.args.side.now quiet c.args.way c.args.most c.from-paid.result c.costs_of-costs.result c.in-Some.totals.pairs c.rows.result side
       (omega (arith, c.from-paid.ensures, c.charge-charge.ensures.value, c.if-charge-most.false)) c.costs_of-costs.ensures.size c.requires.low
-      (c.costs_of-costs.ensures.costs d quiet c.args.most side are c.requires.low) c.in-Some.ensures.some.pairs c.rows.ensures,
+      (costs_past d c.args.side.now quiet c.args.way c.args.most c.args.aims.now c.costs_of-costs.result (λ n aims low. c.costs_of-costs.ensures.costs d quiet n side aims low) are) c.in-Some.ensures.some.pairs c.rows.ensures,
   some_paid d c.args.side.now quiet c.args.way c.args.most c.from-paid.result c.costs_of-costs.result c.in-Some.totals
-      (omega (arith, c.from-paid.ensures, c.charge-charge.ensures.value, c.if-charge-most.false)) (c.costs_of-costs.ensures.costs d quiet c.args.most side are c.requires.low) c.in-Some.ensures.some,
+      (omega (arith, c.from-paid.ensures, c.charge-charge.ensures.value, c.if-charge-most.false)) (costs_past d c.args.side.now quiet c.args.way c.args.most c.args.aims.now c.costs_of-costs.result (λ n aims low. c.costs_of-costs.ensures.costs d quiet n side aims low) are) c.in-Some.ensures.some,
 )

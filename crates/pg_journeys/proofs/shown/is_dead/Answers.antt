@@ -1,21 +1,43 @@
 use Rattle.std.proofs.Common.{refl}
 use Rattle.pg_journeys.specs.Known.{known}
-use Rattle.pg_journeys.proofs.AimLemmas.{none_made}
+use Rattle.pg_journeys.proofs.AimLemmas.{none_made, past_made}
 use Rattle.pg_journeys.proofs.Budgets.{owes_too_much, budgets_of}
 use Rattle.pg_journeys.proofs.DeadColors.{dead_here}
+use Rattle.pg_journeys.proofs.Lifting.{quiet_without}
+use Rattle.pg_journeys.proofs.RestingPlans.{dead_same}
+use Rattle.pg_journeys.specs.inner.Resting.{lifted, lifted_from}
+use Rattle.pg_journeys.proofs.RestingLemmas.{lifted_few, lifted_room}
 use Rattle.pg_journeys.proofs.shown.is_dead.Goals as goal
 
 pub returns-in_default-budget : goal.returns-in_default-budget
 returns-in_default-budget c = (λ h. owes_too_much (known c.args.facts.now) c.args.diagram.now c.args.position.now c.args.left c.args.color c.in_default-budget.ensures.none, λ h. refl)
 
+pub side_of-side-requires-clause-few : goal.side_of-side-requires-clause-few
+side_of-side-requires-clause-few c = lifted_few c.args.position.now.board c.resting_men-resting.result 16 c.args.color c.requires.few
+
+pub side_of-side-requires-clause-room : goal.side_of-side-requires-clause-room
+side_of-side-requires-clause-room c = lifted_room (known c.args.facts.now) c.args.diagram.now c.args.position.now c.resting_men-resting.result c.args.color c.resting_men-resting.ensures c.requires.room
+
+pub fill_aims-requires-clause-none : goal.fill_aims-requires-clause-none
+fill_aims-requires-clause-none c = λ e l. none_made e l
+
+pub fill_aims-requires-2-clause-none : goal.fill_aims-requires-2-clause-none
+fill_aims-requires-2-clause-none c = λ e l. none_made e l
+
+pub some_alive-requires-clause-moves : goal.some_alive-requires-clause-moves
+some_alive-requires-clause-moves c = record { low = c.in-Some.ensures.low; aims = past_made c.side_of-side.result _ c.in-Some.most _ c.in-Some.ensures.low c.fill_aims.ensures }
+
+pub some_alive-requires-clause-quiet : goal.some_alive-requires-clause-quiet
+some_alive-requires-clause-quiet c = record { low = c.in-Some-budget.ensures.low; aims = past_made c.side_of-side.result _ c.in-Some-budget.fewest _ c.in-Some-budget.ensures.low c.fill_aims-2.ensures }
+
 pub returns : goal.returns
 returns c =
-    dead_here c.args.diagram.now c.side_of-side.result c.args.left c.args.facts.now c.args.position.now c.args.color c.some_alive.result c.side_of-side.ensures.position c.side_of-side.ensures.facts c.side_of-side.ensures.color
-    (c.some_alive.ensures c.args.diagram.now c.args.left c.side_of-side.ensures.side
-    (budgets_of c.args.diagram.now c.side_of-side.result c.args.left c.args.position.now c.args.color c.measure.new.measured.most c.measure-2.new.measured.most c.in-Some.most c.in-Some-budget.fewest c.side_of-side.ensures.position c.side_of-side.ensures.color c.measure.ensures.most c.measure-2.ensures.most (c.in-Some.ensures.moves refl) (c.in-Some-budget.ensures.quiet refl)))
-
-pub measure-requires-clause-none : goal.measure-requires-clause-none
-measure-requires-clause-none c = λ e l. none_made e l
-
-pub measure-requires-2-clause-none : goal.measure-requires-2-clause-none
-measure-requires-2-clause-none c = λ e l. none_made e l
+    let z = c.resting_men-resting.result in
+    let d = lifted c.args.diagram.now z in
+    let p = lifted_from c.args.position.now z in
+    let same = dead_same (known c.args.facts.now) c.args.diagram.now c.args.position.now z c.resting_men-resting.ensures c.args.color c.args.left in
+    let h = dead_here d c.side_of-side.result c.args.left c.args.facts.now p c.args.color c.some_alive.result c.side_of-side.ensures.position c.side_of-side.ensures.facts c.side_of-side.ensures.color
+    (c.some_alive.ensures d c.args.left c.side_of-side.ensures.side
+    (budgets_of d c.side_of-side.result c.args.left p c.args.color c.in-Some.most c.in-Some-budget.fewest c.in-Some.most c.in-Some-budget.fewest c.side_of-side.ensures.position c.side_of-side.ensures.color refl refl (c.in-Some.ensures.moves refl)
+    (quiet_without (known c.args.facts.now) c.args.diagram.now c.args.position.now z c.args.color _ c.in-Some-budget.fewest c.resting_men-resting.ensures (c.in-Some-budget.ensures.quiet refl)))) in
+    (λ t. same.1 (h.0 t), λ dead. h.1 (same.0 dead))

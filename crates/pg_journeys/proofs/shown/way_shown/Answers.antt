@@ -2,7 +2,7 @@ use Rattle.std.proofs.Common.{ℕ, true, false, sym, subst}
 use Rattle.pg_journeys.specs.Plans.{Moves, QuietMoves}
 use Rattle.pg_journeys.specs.inner.Showing.{IsBudget, AreBudgets, IsOneMeasure}
 use Rattle.pg_journeys.proofs.Changing.{way_shows}
-use Rattle.pg_journeys.proofs.OneMeasure.{same_aims, same_deeds}
+use Rattle.pg_journeys.proofs.OneMeasure.{past_too, same_deeds}
 use Rattle.pg_journeys.proofs.Masks.{not_so}
 use Rattle.pg_journeys.proofs.Paying.{alive_of, paid_of}
 use Rattle.pg_journeys.proofs.shown.way_shown.Goals as goal
@@ -38,7 +38,7 @@ returns-then-is_one_measure-clause-some c = λ d k side budgets.
     let one : IsOneMeasure x most c.args.quiet.now.most = c.is_one_measure.ensures c.if-is_one_measure.true in
     let both : AreBudgets d x k most most = record { all = budgets.all; few = subst (λ (n : ℕ). IsBudget d x.position k x.ground.color QuietMoves n) (sym one.same) budgets.few } in
     let moves = c.in-Some.ensures.some d false side c.requires.moves.aims in
-    let quiet = c.in-Some.ensures.some d true side (same_aims x one.none false true most c.args.moves.now.aims c.requires.moves.aims) in
+    let quiet = c.in-Some.ensures.some d true side (past_too x one.none false true most c.args.moves.now.aims.now c.requires.moves.aims) in
     let deeds = c.deeds_of-both.ensures d side in (
       alive_of d x k c.args.way most most both.all both.few (c.is_way.ensures.0 c.if-not-is_way.false) moves.1 quiet.1,
       way_shows d x k side c.args.way most most both c.deeds_of-both.result c.deeds_of-both.result deeds (same_deeds x one.none d c.args.way side most c.in-Some.rooms false true c.deeds_of-both.result moves.0 quiet.0 deeds) c.changed_in.result c.changed_in.ensures,

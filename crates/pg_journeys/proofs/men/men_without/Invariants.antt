@@ -1,10 +1,11 @@
 use Rattle.pg_board.specs.Bits.{has}
 use Rattle.pg_board.specs.Tally.{count_below}
 use Rattle.pg_journeys.proofs.MenLemmas.{AreFound}
-use Rattle.pg_journeys.proofs.men.men_of.Given as goal
+use Rattle.pg_journeys.specs.inner.Resting.{lifted}
+use Rattle.pg_journeys.proofs.men.men_without.Given as goal
 
 abbrev pub invariant-loop-square : goal.invariant-loop-square
-invariant-loop-square l = AreFound l.board l.fn.color l.left l.men
+invariant-loop-square l = AreFound (lifted l.board l.fn.resting) l.fn.color l.left l.men
 
 abbrev pub decreases-loop-square : goal.decreases-loop-square
 decreases-loop-square l = count_below (has l.left) 64
