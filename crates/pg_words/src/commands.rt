@@ -20,8 +20,9 @@ const SHOW_EXAMPLE: &str =
     "Below the board stand, for each side, its men, how many it captured, and how
 many moves of its own it needs at least, with what shows that; and a length that
 no game which ends on the diagram can be below. With LENGTH stands for each side
-how many of its moves of such a game are left over, and last how many nodes a
-search may visit, by a rule of thumb.
+how many of its moves of such a game are left over, on which squares alone its
+captures land and which of its men never move; and last, as a guess, how many
+nodes a search by journeys may visit.
 
 Example:
   pg show r1bqkbnr/ppp2ppp/3p4/8/8/8/PPPPPPPP/R1BQKBNR 4.0";
