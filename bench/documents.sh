@@ -1,12 +1,11 @@
 #!/usr/bin/env bash
 # Holds the documents to the repository, without a proof: the program's version heads CHANGELOG.md; each link of a document to a
 # file leads to one, and to a heading of it where it names one; each path that a document names in backticks is there; each source
-# file begins with a line `//!` and each definition at the top of a specs/ with a line `--` that says what it is; docs/FILES.md
-# is the list that these lines make; and each crate pg_* stands in ARCHITECTURE and PROVED. Quiet where all is so; else prints what
-# is amiss, and ends with status 1.
+# file begins with a line `//!` and each definition at the top of a specs/ with a line `--` that says what it is; and each crate
+# stands in ARCHITECTURE, and each crate pg_* in PROVED. Quiet where all is so; else prints what is amiss, and ends with status 1.
 #
-#   bench/documents.sh           compares
-#   bench/documents.sh --write   writes docs/FILES.md anew first
+#   bench/documents.sh                    compares
+#   bench/documents.sh --list [CRATE..]   prints what each source file of these crates says that it is; of all where none is named
 set -u
 cd "$(dirname "$(readlink -f "$0")")/.." || exit 1
 exec python3 - "$@" <<'END'
@@ -15,11 +14,6 @@ import os
 import re
 import sys
 
-LIST = "docs/FILES.md"
-HEAD = """# Files
-What each source file says of itself, crate by crate from the lowest up. `bench/documents.sh --write` makes this page. The files
-of `specs/` are the definitions that public contracts cite.
-"""
 wrong = []
 
 
@@ -46,20 +40,14 @@ def rows(folder, kind, mark):
     return {os.path.relpath(path, folder): said(path, mark) for path in paths}
 
 
-def page():
-    text = HEAD
-    for line in read("crates.txt").split("\n"):
-        crate = line.partition(":")[0]
-        if not crate:
-            continue
-        sources = rows(f"crates/{crate}/src", ".rt", "//!")
-        first = "main.rt" if "main.rt" in sources else "lib.rt"
-        text += f"\n## {crate}\n{sources.pop(first, '')}\n"
-        definitions = sorted(path for path in glob.glob(f"crates/{crate}/specs/*.antt") if not is_list(path))
-        sources |= {"specs/" + os.path.basename(path): said(path, "--") for path in definitions}
-        text += "\n| File | What it is |\n|---|---|\n" if sources else ""
-        text += "".join(f"| `{name}` | {what.replace('|', chr(92) + '|')} |\n" for name, what in sources.items())
-    return text
+def listed(crate):
+    """What each source file of a crate says that it is, a line for each."""
+    sources = rows(f"crates/{crate}/src", ".rt", "//!")
+    first = "main.rt" if "main.rt" in sources else "lib.rt"
+    text = f"\n{crate}: {sources.pop(first, '')}\n"
+    definitions = sorted(path for path in glob.glob(f"crates/{crate}/specs/*.antt") if not is_list(path))
+    sources |= {"specs/" + os.path.basename(path): said(path, "--") for path in definitions}
+    return text + "".join(f"    {name}  {what}\n" for name, what in sources.items())
 
 
 def is_list(path):
@@ -89,22 +77,21 @@ def links(path):
             yield f"{path}: there is no {name}"
 
 
-for document in ("docs/ARCHITECTURE.md", "docs/PROVED.md"):
-    for crate in re.findall(r"^(pg_\w+):", read("crates.txt"), re.M):
-        if f"`{crate}`" not in read(document):
-            wrong.append(f"{document} says nothing of {crate}")
+crates = re.findall(r"^(\w+):", read("crates.txt"), re.M)
+for document, pattern in (("docs/ARCHITECTURE.md", ""), ("docs/PROVED.md", "pg_")):
+    wrong += [f"{document} says nothing of {crate}" for crate in crates
+              if crate.startswith(pattern) and f"`{crate}`" not in read(document)]
 version = re.search(r'\.version\("([^"]+)"\)', "".join(map(read, glob.glob("crates/pg_words/src/*.rt"))))
 newest = re.search(r"^## (\d\S*)", read("CHANGELOG.md"), re.M)
 if not version or not newest or version[1] != newest[1]:
     wrong.append(f"CHANGELOG.md begins with version {newest and newest[1]}, and pg --version says {version and version[1]}")
-made = page()
-if sys.argv[1:] == ["--write"]:
-    with open(LIST, "w", encoding="utf-8") as file:
-        file.write(made)
-elif sys.argv[1:]:
-    sys.exit("bench/documents.sh: --write is the only word that it takes")
-if not os.path.exists(LIST) or read(LIST) != made:
-    wrong.append(f"{LIST} is another list than the first lines make: bench/documents.sh --write")
+words = sys.argv[1:]
+if words and (words[0] != "--list" or set(words[1:]) - set(crates)):
+    sys.exit("bench/documents.sh: --list and names of crates are the only words that it takes")
+made = [listed(crate) for crate in words[1:] or crates]
+if words:
+    print("".join(made).lstrip("\n"), end="")
+    sys.exit()
 for document in ["README.md", "CHANGELOG.md", "CONTRIBUTING.md", "examples/README.md", *sorted(glob.glob("docs/*.md"))]:
     wrong += links(document) if os.path.exists(document) else [f"there is no {document}"]
 print(*wrong, sep="\n", end="\n" * bool(wrong), file=sys.stderr)
