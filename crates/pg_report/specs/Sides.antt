@@ -37,8 +37,8 @@ abbrev pub IsLastReason : Placement → ℕ → Color → Option Reason → Type
 IsLastReason d m c None = m ≡ 0
 IsLastReason d m c (Some reason) = (k : ℕ) × (m ≡ k + 1) × Binds d k c reason
 
--- c needs n plies of its own, where m is the first number of
--- plies that is open for it, and no game of fewer plies ends on d
+-- c needs n plies of its own: those of some number of plies that is open
+-- for it, and no game of fewer plies than that number ends on d
 pub record NeedsPlies (d : Placement) (c : Color) (n : ℕ) (reason : Option Reason) : Type 0 where
   pub plies : ℕ
   pub own : n ≡ own_plies c plies
