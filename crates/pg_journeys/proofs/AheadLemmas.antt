@@ -15,12 +15,14 @@ use Rattle.pg_journeys.specs.inner.Counts.{of_kind, count_at}
 use Rattle.pg_journeys.specs.inner.Counting.{counts, ComesTaking, IsReach}
 use Rattle.pg_journeys.specs.inner.Fronts.{OnSet, PawnsOn, IsMeeting, AreNoted, IsJoined, is_met, HasAdvanced, NoneDue}
 use Rattle.pg_journeys.specs.inner.Levels.{IsOpen, IsAheadLevel, IsAheadStage, IsWhole, AheadStart, AheadStep, AheadWithin, FromSome}
-use Rattle.pg_journeys.specs.inner.Reaches.{IsTaking, TakeStep, TakesOf, AreTaken}
+use Rattle.pg_journeys.specs.inner.Reaches.{IsTaking, AreTaken}
+use Rattle.pg_journeys.specs.inner.Reached.{TakeStep, TakesOf, AreGrown}
 use Rattle.pg_journeys.specs.declared.distances.Front.{Front}
 use Rattle.pg_journeys.specs.declared.distances.Reach.{Reach}
 use Rattle.pg_journeys.proofs.FrontLemmas.{on_or_off, not_both, and_first, and_second, and_both, not_true, not_false, kind_or, moved, meeting_as, meeting_then, joined_old, joined_new, joined_from}
 use Rattle.pg_journeys.proofs.LevelLemmas.{stage_first, stage_open, stage_level, level_end, whole_idle, whole_end}
 use Rattle.pg_journeys.proofs.TakingLemmas.{taking_as}
+use Rattle.pg_journeys.proofs.RingLemmas.{grown_as, grown_set}
 use Rattle.pg_journeys.proofs.StepLemmas.{stays_kind, leg_into, light_step, piece_takes, push_takes_not, capture_takes, quiet_counts, taking_counts, taking_flips, files_or}
 
 module _ (f : Facts) (c : Color) (quiet : Bool) where
@@ -90,6 +92,27 @@ module _ (f : Facts) (c : Color) (quiet : Bool) where
         (let same : j ≡ k = stays_kind c k j t ne step.free.3 in
         (same, both t ∙ and_both (has steps t) (has lands t) ((is t l).1 (s, ls, there, subst (λ (i : Kind). IsLeg f c (leg k s i t)) same step)) (sym (may s j t) ∙ take))))
         m
+
+    pub pieces_grow : (old new : List ℕ) → IsJoined k captures old new → AreGrown (TakesOf (TakeStep f c k) set) old new
+    pieces_grow old new m = grown_as (λ j t. (j ≡ k) × (has captures t ≡ true)) (TakesOf (TakeStep f c k) set) old new
+        (λ j t l (e, on).
+        (let parts = captured t on in
+        let p : LedTo (λ s t. IsLeg f c (leg k s k t)) set t = (is t l).0 parts.0 in
+        (p.0, p.1, p.2, subst (λ (i : Kind). TakeStep f c k p.0 i t) (sym e) (p.3, may p.0 k t ∙ parts.1))))
+        (λ j t l (s, ls, there, (step, take)).
+        (let same : j ≡ k = stays_kind c k j t ne step.free.3 in
+        (same, both t ∙ and_both (has steps t) (has lands t) ((is t l).1 (s, ls, there, subst (λ (i : Kind). IsLeg f c (leg k s i t)) same step)) (sym (may s j t) ∙ take))))
+        (grown_set k captures old new m)
+
+  pub pawns_grow_ahead : (k : Kind) (set captured : ℕ) (old new : List ℕ) → k ≡ Pawn → IsSetOf captured (LedTo (Captures f c) set) → AreGrown (λ j t. (has captured t ≡ true) × Becomes c Pawn t j) old new → AreGrown (TakesOf (TakeStep f c k) set) old new
+  pawns_grow_ahead k set captured old new is capture m = subst (λ (i : Kind). AreGrown (TakesOf (TakeStep f c i) set) old new) (sym is)
+      (grown_as (λ j t. (has captured t ≡ true) × Becomes c Pawn t j) (TakesOf (TakeStep f c Pawn) set) old new
+      (λ j t l (on, becomes). (let p : LedTo (Captures f c) set t = (capture t l).0 on in (p.0, p.1, p.2, (leg_into f c Pawn p.3.0 j p.0 t becomes p.3.1.0, capture_takes f c j p.0 t p.3.1.1))))
+      (λ j t l (s, ls, there, (step, take)). elim (files_or s t) [
+        | inl e ↦ absurd (not_both (may_take f c (leg Pawn s j t)) take (push_takes_not f c j s t e))
+        | inr e ↦ ((capture t l).1 (s, ls, there, (j, (step, e))), step.free.3)
+      ])
+      m)
 
   pub pawns_take_ahead : (k : Kind) (set captured n : ℕ) (old new : Reach) → k ≡ Pawn → IsSetOf captured (LedTo (Captures f c) set) → IsTaking (λ j t. (has captured t ≡ true) × Becomes c Pawn t j) n old new → IsTaking (TakesOf (TakeStep f c k) set) n old new
   pawns_take_ahead k set captured n old new is capture m = subst (λ (i : Kind). IsTaking (TakesOf (TakeStep f c i) set) n old new) (sym is)

@@ -14,7 +14,6 @@ use Rattle.pg_position.specs.declared.rights.Wing.{Wing}
 use Rattle.pg_position.specs.Position.{Stands}
 use Rattle.pg_captures.specs.lemmas.BoardLemmas.{same_kind}
 use Rattle.pg_travel.specs.Origins.{charge, counted}
-use Rattle.pg_travel.specs.lemmas.Values.{counted_low}
 use Rattle.pg_assignments.specs.declared.costs.Costs.{Costs}
 use Rattle.pg_assignments.specs.declared.totals.LeastTotals.{LeastTotals}
 use Rattle.pg_assignments.specs.Totals.{IsBeyond, AreTotals}
@@ -26,28 +25,72 @@ use Rattle.pg_journeys.specs.PlanCosts.{AreCosts, InColumn}
 use Rattle.pg_journeys.specs.lemmas.DecidingPaths.{weigh}
 use Rattle.pg_journeys.specs.lemmas.PlanTotals.{plans_are_totals}
 use Rattle.pg_journeys.specs.inner.Counting.{counts}
-use Rattle.pg_journeys.specs.inner.Sides.{facts_of, square_at, kind_at, IsSide, AreAims, AreAimsPast, JourneysOf, IsPaidBy}
-use Rattle.pg_journeys.specs.inner.Costing.{count_of, IsFall, IsCostRow, AreCostRows, AreCostsOf, HasTotalTo}
+use Rattle.pg_journeys.specs.inner.Sides.{facts_of, square_at, kind_at, IsSide, EndWithin, JourneysOf, IsPaidBy}
+use Rattle.pg_journeys.specs.inner.Costing.{IsCount, IsCountTo, IsFall, IsCostRow, AreCostRows, AreCostsOf, HasTotalTo, runner_of, walker_of}
 use Rattle.pg_journeys.specs.declared.plans.Side.{Side}
+use Rattle.pg_journeys.specs.declared.plans.Walker.{Walker}
+use Rattle.pg_journeys.specs.declared.rings.Runner.{Runner}
 
 -- ---- rows
-pub rows_next : (x : Side) (aims : List (List ℕ)) (way : Option Wing) (rows : List (List ℕ)) (row : List ℕ) (i m : ℕ) → m ≡ i + 1 → i < length rows →
-    IsCostRow x aims way i row x.men.count → AreCostRows x aims way rows i → AreCostRows x aims way (set rows i row) m
-rows_next x aims way rows row i m e low here before = λ q l. elim (eqb_tells q i) [
-  | inl w ↦ subst (λ b. IsCostRow x aims way b (get_or (set rows i row) b []) x.men.count) (sym w.1) (subst (λ y. IsCostRow x aims way i y x.men.count) (sym (get_or-set_same rows i row [] low)) here)
-  | inr w ↦ (let ne : q ≢ i = w.1 in subst (λ y. IsCostRow x aims way q y x.men.count) (sym (get_or-set_other rows i q row [] ne)) (before q (omega arith)))
+pub rows_next : (x : Side) (quiet : Bool) (way : Option Wing) (most : ℕ) (rows : List (List ℕ)) (row : List ℕ) (i m : ℕ) → m ≡ i + 1 → i < length rows →
+    IsCostRow x most (walker_of x quiet way i) row x.men.count → AreCostRows x quiet way most rows i → AreCostRows x quiet way most (set rows i row) m
+rows_next x quiet way most rows row i m e low here before = λ q l. elim (eqb_tells q i) [
+  | inl w ↦ subst (λ b. IsCostRow x most (walker_of x quiet way b) (get_or (set rows i row) b []) x.men.count) (sym w.1) (subst (λ y. IsCostRow x most (walker_of x quiet way i) y x.men.count) (sym (get_or-set_same rows i row [] low)) here)
+  | inr w ↦ (let ne : q ≢ i = w.1 in subst (λ y. IsCostRow x most (walker_of x quiet way q) y x.men.count) (sym (get_or-set_other rows i q row [] ne)) (before q (omega arith)))
 ]
+
+-- who does not castle costs what he costs where none does
+pub same_row : (x : Side) (quiet : Bool) (way : Option Wing) (most : ℕ) (rows : List (List ℕ)) (i : ℕ) → i < x.men.count → counted x.ground.color way (square_at x.men i) ≡ square_at x.men i →
+    AreCostRows x quiet None most rows x.men.count → IsCostRow x most (walker_of x quiet way i) (get_or rows i []) x.men.count
+same_row x quiet way most rows i low stays are =
+    subst (λ (s : ℕ). IsCostRow x most (record { square = square_at x.men i; runner = record { is_quiet = quiet; kind = kind_at x.men i; square = s } }) (get_or rows i []) x.men.count) (sym stays) (are i low)
+
+-- a row of the men of the diagram, and one with falls
+abbrev pub AreComes : Side → ℕ → Runner → List ℕ → ℕ → Type 0
+AreComes x most m row n = (j : ℕ) → j < n → IsCountTo x most j m (get_or row j 0)
+
+pub comes_next : (x : Side) (most : ℕ) (m : Runner) (row : List ℕ) (j i v : ℕ) → i ≡ j + 1 → j < length row → IsCountTo x most j m v → AreComes x most m row j → AreComes x most m (set row j v) i
+comes_next x most m row j i v e low here before q l = elim (eqb_tells q j) [
+  | inl w ↦ subst (λ (b : ℕ). IsCountTo x most b m (get_or (set row j v) b 0)) (sym w.1) (subst (λ (y : ℕ). IsCountTo x most j m y) (sym (get_or-set_same row j v 0 low)) here)
+  | inr w ↦ (let ne : q ≢ j = w.1 in subst (λ (y : ℕ). IsCountTo x most q m y) (sym (get_or-set_other row j q v 0 ne)) (before q (omega arith)))
+]
+
+pub row_full : (x : Side) (most : ℕ) (m : Walker) (row : List ℕ) (n : ℕ) → n ≡ x.goals.count → x.men.count ≤ x.goals.count → AreComes x most m.runner row n → IsCostRow x most m row x.men.count
+row_full x most m row n all full are j l = record { comes = λ h. are j (omega (arith, all, h)); falls = λ h. absurd (omega (arith, full, l, h)) }
+
+pub row_falls : (x : Side) (most : ℕ) (m : Walker) (row made : List ℕ) (n fall : ℕ) → n ≡ x.goals.count → AreComes x most m.runner row n → IsFall x most m fall →
+    ((j : ℕ) → j < x.goals.count → get_or made j 0 ≡ get_or row j 0) → ((j : ℕ) → x.goals.count ≤ j → j < x.men.count → get_or made j 0 ≡ fall) → IsCostRow x most m made x.men.count
+row_falls x most m row made n fall all are is kept falls j l = record {
+  comes = λ h. subst (λ (y : ℕ). IsCountTo x most j m.runner y) (sym (kept j h)) (are j (omega (arith, all, h)));
+  falls = λ h. subst (λ (y : ℕ). IsFall x most m y) (sym (falls j h l)) is;
+}
 
 -- ---- what the rows say of fates
 pub path_as : (f : Facts) (c : Color) (k i : Kind) (r : ℕ) (ls : List Leg) (j h : Kind) (t u : ℕ) → k ≡ i → j ≡ h → t ≡ u → IsPath f c k r ls j t → IsPath f c i r ls h u
 path_as f c k i r ls j h t u ek ej et p = subst (λ (y : ℕ). IsPath f c i r ls h y) et (subst (λ (y : Kind). IsPath f c i r ls y t) ej (subst (λ (y : Kind). IsPath f c y r ls j t) ek p))
 
-module _ (d : Placement) (x : Side) (aims : List (List ℕ)) (way : Option Wing) (quiet : Bool) (most : ℕ) (k : Costs) (side : IsSide d x) (are : AreAims x quiet most aims) (low : most < 200) (rows : AreCostRows x aims way k.rows x.men.count) where
+-- what is within n is within more
+pub end_more : (x : Side) (quiet : Bool) (e n m : ℕ) (k : Kind) (s : ℕ) → n ≤ m → EndWithin x quiet e n k s → EndWithin x quiet e m k s
+end_more x quiet e n m k s le (inl (l, (ls, path, w))) = inl (l, (ls, path, omega (arith, le, w)))
+end_more x quiet e n m k s le (inr (l, more, (j, t, ls, low, lands, path, w))) = inr (l, more, (j, t, ls, low, lands, path, omega (arith, le, w)))
+
+-- the least count is that of a path within it, and no path has less
+exact : (W : ℕ → Type 0) (n w : ℕ) → ((m : ℕ) → m < n → W m → ⊥) → W w → w ≤ n → w ≡ n
+exact W n w least is le = elim (cases_lt w n) [ inl l ↦ absurd (least w l is) | inr h ↦ omega arith ]
+
+at_most : (W : ℕ → Type 0) (most n w : ℕ) → IsCount W most n → (W w → W most) → W w → n ≤ w
+at_most W most n w (inl (low, is, least)) more here = elim (cases_lt w n) [ inl l ↦ absurd (least w l here) | inr h ↦ h ]
+at_most W most n w (inr (e, none)) more here = absurd (none (more here))
+
+module _ (d : Placement) (x : Side) (way : Option Wing) (quiet : Bool) (most : ℕ) (k : Costs) (side : IsSide d x) (low : most < 200) (rows : AreCostRows x quiet way most k.rows x.men.count) where
   abbrev start : ℕ → ℕ
   start i = counted x.ground.color way (square_at x.men i)
 
-  start_low : (i : ℕ) → i < x.men.count → start i < 64
-  start_low i li = counted_low x.ground.color way (square_at x.men i) (side.men.listing.low i li)
+  abbrev weight : List Leg → ℕ
+  weight ls = weigh (counts (facts_of x) x.ground.color quiet) ls
+
+  abbrev Ends : ℕ → ℕ → ℕ → Type 0
+  Ends e i n = EndWithin x quiet e n (kind_at x.men i) (start i)
 
   -- what the man i comes to, he comes to as whatever man stands there
   abbrev AnyMeets : ℕ → List Leg → Fate → Type 0
@@ -56,64 +99,63 @@ module _ (d : Placement) (x : Side) (aims : List (List ℕ)) (way : Option Wing)
   as_any : (i : ℕ) (ls : List Leg) (o : Fate) → i < x.men.count → Meets (facts_of x) d x.position x.ground.color (kind_at x.men i) (square_at x.men i) (start i) ls o → AnyMeets i ls o
   as_any i ls o li m h st = subst (λ (y : Kind). Meets (facts_of x) d x.position x.ground.color y (square_at x.men i) (start i) ls o) (same_kind (side.men.kinds i li) st) m
 
-  abbrev Attained : ℕ → ℕ → Type 0
-  Attained i j = (o : Fate) × (ls : List Leg) × InColumn (square_at x.goals) x.goals.count j o × AnyMeets i ls o × (weigh (counts (facts_of x) x.ground.color quiet) ls ≡ cost k i j)
+  abbrev Attains : ℕ → ℕ → ℕ → Type 0
+  Attains i j n = (o : Fate) × (ls : List Leg) × InColumn (square_at x.goals) x.goals.count j o × AnyMeets i ls o × (weight ls ≡ n)
 
-  come : (i j : ℕ) → i < x.men.count → j < x.goals.count → cost k i j ≡ count_of x aims way j i → cost k i j < 255 → Attained i j
-  come i j li l e some =
-      let below : count_of x aims way j i < 255 = omega arith in
-      let q = are.comes j (kind_at x.men i) (start i) l (start_low i li) below in
-      let le : weigh (counts (facts_of x) x.ground.color quiet) q.0 ≤ count_of x aims way j i = q.2 in
-      let small : count_of x aims way j i ≤ most = are.small j (kind_at x.men i) (start i) (omega (arith, l, side.room, side.men.few)) (start_low i li) below in
-      let ge : count_of x aims way j i ≤ weigh (counts (facts_of x) x.ground.color quiet) q.0 = are.least j (kind_at x.men i) (start i) q.0 l (start_low i li) q.1 (omega arith) in
+  come : (i j n : ℕ) → i < x.men.count → j < x.goals.count → Ends j i n → ((m : ℕ) → m < n → Ends j i m → ⊥) → Attains i j n
+  come i j n li l (inl (_, (ls, path, le))) least =
       let t : ℕ = square_at x.goals j in
-      (Arrives t, q.0, (l, refl), as_any i q.0 (Arrives t) li (kind_at x.goals j, side.goals.listing.low j l, side.goals.kinds j l, q.1), omega arith)
+      let same : weight ls ≡ n = exact (Ends j i) n (weight ls) least (inl (l, (ls, path, omega arith))) le in
+      (Arrives t, ls, (l, refl), as_any i ls (Arrives t) li (kind_at x.goals j, side.goals.listing.low j l, side.goals.kinds j l, path), same)
+  come i j n li l (inr (e, _, _)) least = absurd (let few : x.goals.count ≤ 16 = side.goals.few in omega arith)
 
-  fall : (i j : ℕ) → i < x.men.count → j < x.men.count → x.goals.count ≤ j → IsFall x aims way i (cost k i j) → cost k i j < 255 → Attained i j
-  fall i j li lj h f some = elim (dec_kind (kind_at x.men i) King) [
-    | yes e ↦ absurd (let z : cost k i j ≡ 255 = f.king e in omega arith)
+  fall_to : (i j n : ℕ) → i < x.men.count → x.goals.count ≤ j → kind_at x.men i ≢ King → Ends 16 i n → ((m : ℕ) → m < n → Ends 16 i m → ⊥) → Attains i j n
+  fall_to i j n li h ne (inl (l, w)) least = absurd (let few : x.goals.count ≤ 16 = side.goals.few in omega arith)
+  fall_to i j n li h ne (inr (e, more, (g, t, ls, tl, lands, path, le))) least =
+      let same : weight ls ≡ n = exact (Ends 16 i) n (weight ls) least (inr (e, more, (g, t, ls, tl, lands, path, omega arith))) le in
+      (Falls t, ls, h, as_any i ls (Falls t) li (ne, tl, lands, inl (g, path)), same)
+
+  fall : (i j n : ℕ) → i < x.men.count → x.goals.count ≤ j → IsFall x most (walker_of x quiet way i) n → n < 255 → Attains i j n
+  fall i j n li h f some = elim (dec_kind (kind_at x.men i) King) [
+    | yes e ↦ absurd (let z : n ≡ 255 = f.king e in omega arith)
     | no ne ↦ elim (f.other ne) [
       | inl p ↦
-          (let z : cost k i j ≡ 0 = p.1 in
+          (let z : n ≡ 0 = p.1 in
           (Falls p.0.0, [], h, as_any i [] (Falls p.0.0) li (ne, p.0.2, p.0.3, inr (p.0.1, refl)), sym z))
-      | inr p ↦
-          (let e : cost k i j ≡ count_of x aims way 16 i = p.1 in
-          let below : count_of x aims way 16 i < 255 = omega arith in
-          let q = are.falls (kind_at x.men i) (start i) (start_low i li) below in
-          let le : weigh (counts (facts_of x) x.ground.color quiet) q.2 ≤ count_of x aims way 16 i = q.6 in
-          let small : count_of x aims way 16 i ≤ most = are.small 16 (kind_at x.men i) (start i) (omega arith) (start_low i li) below in
-          let ge : count_of x aims way 16 i ≤ weigh (counts (facts_of x) x.ground.color quiet) q.2 = are.least_fall (kind_at x.men i) (start i) q.0 q.1 q.2 (start_low i li) q.3 (omega (arith, h, lj)) q.4 q.5 (omega arith) in
-          (Falls q.1, q.2, h, as_any i q.2 (Falls q.1) li (ne, q.3, q.4, inl (q.0, q.5)), omega arith))
+      | inr p ↦ elim p.1 [
+        | inl w ↦ fall_to i j n li h ne w.1 w.2
+        | inr w ↦ absurd (let z : n ≡ 255 = w.0 in omega arith)
+      ]
     ]
   ]
 
-  attained : (i j : ℕ) → i < x.men.count → j < x.men.count → cost k i j < 255 → Attained i j
+  comes_to : (i j n : ℕ) → i < x.men.count → j < x.goals.count → IsCountTo x most j (runner_of x quiet way i) n → n < 255 → Attains i j n
+  comes_to i j n li l (inl (_, w, least)) some = come i j n li l w least
+  comes_to i j n li l (inr (e, _)) some = absurd (omega arith)
+
+  attained : (i j : ℕ) → i < x.men.count → j < x.men.count → cost k i j < 255 → Attains i j (cost k i j)
   unfolding cost
   attained i j li lj some = elim (cases_lt j x.goals.count) [
-    | inl l ↦ come i j li l ((rows i li j lj).comes l) some
-    | inr h ↦ fall i j li lj h ((rows i li j lj).falls h) some
+    | inl l ↦ comes_to i j _ li l ((rows i li j lj).comes l) some
+    | inr h ↦ fall i j _ li h ((rows i li j lj).falls h) some
   ]
 
   least : (i j : ℕ) (o : Fate) (ls : List Leg) (h : Kind) → i < x.men.count → j < x.men.count → Stands x.position.board x.ground.color h (square_at x.men i) →
       InColumn (square_at x.goals) x.goals.count j o → Meets (facts_of x) d x.position x.ground.color h (square_at x.men i) (start i) ls o →
-      weigh (counts (facts_of x) x.ground.color quiet) ls ≤ most → cost k i j ≤ weigh (counts (facts_of x) x.ground.color quiet) ls
+      weight ls ≤ most → cost k i j ≤ weight ls
   unfolding cost
   least i j (Arrives t) ls h li lj st (l, e) (g, tl, stands, path) small =
       let at_goal : Stands d x.ground.color (kind_at x.goals j) t = subst (λ (y : ℕ). Stands d x.ground.color (kind_at x.goals j) y) e (side.goals.kinds j l) in
       let p : IsPath (facts_of x) x.ground.color (kind_at x.men i) (start i) ls (kind_at x.goals j) (square_at x.goals j) =
       path_as (facts_of x) x.ground.color h (kind_at x.men i) (start i) ls g (kind_at x.goals j) t (square_at x.goals j) (same_kind st (side.men.kinds i li)) (same_kind stands at_goal) (sym e) path in
-      omega (arith, (rows i li j lj).comes l, are.least j (kind_at x.men i) (start i) ls l (start_low i li) p small)
+      at_most (Ends j i) most _ (weight ls) ((rows i li j lj).comes l) (end_more x quiet j (weight ls) most (kind_at x.men i) (start i) small) (inl (l, (ls, p, omega arith)))
   least i j (Falls u) ls h li lj st past (nk, ul, lands, either) small =
       let same : h ≡ kind_at x.men i = same_kind st (side.men.kinds i li) in
       elim (((rows i li j lj).falls past).other (λ e. nk (same ∙ e))) [
         | inl p ↦ omega (arith, p.1)
         | inr p ↦ elim either [
-          | inl w ↦ omega (
-            arith,
-            p.1,
-            are.least_fall (kind_at x.men i) (start i) w.0 u ls (start_low i li) ul (omega (arith, past, lj)) lands
-                (subst (λ (y : Kind). IsPath (facts_of x) x.ground.color y (start i) ls w.0 u) same w.1) small,
-          )
+          | inl w ↦ at_most (Ends 16 i) most _ (weight ls) p.1 (end_more x quiet 16 (weight ls) most (kind_at x.men i) (start i) small)
+              (inr (refl, omega (arith, past, lj), (w.0, u, ls, ul, lands, subst (λ (y : Kind). IsPath (facts_of x) x.ground.color y (start i) ls w.0 u) same w.1, omega arith)))
           | inr w ↦ absurd (p.0 u w.0 lands)
         ]
       ]
@@ -139,10 +181,6 @@ costs_to d x quiet way most paid k le costs = record {
   attained = costs.attained;
   least = λ i j o ls h li lj st in_column meets small. costs.least i j o ls h li lj st in_column meets (omega arith);
 }
-
--- the costs up to a number, by aims past it
-pub costs_past : (d : Placement) (x : Side) (quiet : Bool) (way : Option Wing) (most : ℕ) (aims : List (List ℕ)) (k : Costs) → ((n : ℕ) → AreAims x quiet n aims → n < 200 → AreCostsOf d x quiet way n k) → AreAimsPast x quiet most aims → AreCostsOf d x quiet way most k
-costs_past d x quiet way most aims k costs past = costs_to d x quiet way past.limit most k past.enough (costs past.limit past.are past.low)
 
 pub none_pays : (k : Costs) (o : Option ℕ) (most : ℕ) → o ≡ None → IsLeastTotal k o → IsTrue false ↔ HasTotalTo k most
 none_pays k o most e h = (

@@ -4,10 +4,11 @@ mod TableLemmas
 mod PawnLemmas
 mod SpanLemmas
 mod CostLemmas
-mod AimLemmas
+mod EndLemmas
 mod RoomLemmas
 mod SiftedSets
 mod PathsInTwo
+mod NarrowedSteps
 mod NarrowedPlans
 mod NarrowedDeeds
 mod Paying
@@ -33,3 +34,7 @@ mod RestingLemmas
 mod RestingPlans
 mod RestingShown
 mod Lifting
+mod SearchLemmas
+mod BackSearches
+mod RingLemmas
+mod AheadSearches

@@ -1,15 +1,13 @@
 -- The men of a colour without those who rest, and the pawn that has just passed a square. Leads to the contracts of `men_without`
 -- and `passing_pawn`.
-use Rattle.std.proofs.Common.{◌≡◌, ◌↔◌, ℕ, ◌+◌, ◌<◌, ◌≤◌, arith, inl, inr, Option, Some, None, Bool, true, false, not, ◌&&◌, refl, sym, ap, subst, ◌∙◌}
+use Rattle.std.proofs.Common.{◌≡◌, ◌↔◌, ℕ, ◌+◌, ◌<◌, ◌≤◌, arith, inl, inr, Option, Some, None, true, false, refl, sym, ap, subst, ◌∙◌}
 use Rattle.pg_board.specs.Bits.{has}
 use Rattle.pg_board.specs.declared.man.Color.{Color}
 use Rattle.pg_board.specs.declared.man.Color.TheVariants.{White, Black}
-use Rattle.pg_board.specs.declared.man.Kind.{Kind}
-use Rattle.pg_board.specs.declared.man.Kind.TheVariants.{Pawn}
 use Rattle.pg_board.specs.declared.man.Man.{Man}
-use Rattle.pg_board.specs.Men.{is_of, other}
+use Rattle.pg_board.specs.Men.{other}
 use Rattle.pg_board.specs.Placement.{Placement, get}
-use Rattle.pg_board.specs.SquareSets.{IsSetOf, HasNoneFrom}
+use Rattle.pg_board.specs.SquareSets.{IsSetOf}
 use Rattle.pg_position.specs.declared.state.State.{State}
 use Rattle.pg_position.specs.Position.{IsPosition, PawnsClause}
 use Rattle.pg_position.specs.Squares.{HasAhead, ahead}
@@ -29,7 +27,7 @@ use Rattle.pg_journeys.proofs.FrontLemmas.{on_or_off}
 use Rattle.pg_journeys.proofs.Budgets.{IsShown}
 use Rattle.pg_journeys.proofs.RestingPlans.{dead_same}
 use Rattle.pg_journeys.proofs.RestingShown.{shown_with}
-use Rattle.pg_journeys.proofs.RestingLemmas.{lifted_victims, lifted_off, lifted_left, lifted_none, lifted_from_none, stands_lifted}
+use Rattle.pg_journeys.proofs.RestingLemmas.{lifted_victims, lifted_off, lifted_left, lifted_none, lifted_from_none}
 use Rattle.pg_journeys.proofs.SpanLemmas.{passed_ahead}
 
 -- ---- the men who do not rest

@@ -8,74 +8,71 @@ use Rattle.pg_board.specs.Men.{other}
 use Rattle.pg_board.specs.Placement.{Placement}
 use Rattle.pg_board.specs.SquareSets.{IsSetOf, HasNoneFrom}
 use Rattle.pg_position.specs.declared.rights.Wing.{Wing}
-use Rattle.pg_journeys.specs.declared.distances.Reach.{Reach}
 use Rattle.pg_journeys.specs.declared.plans.Side.{Side}
-use Rattle.pg_journeys.specs.declared.narrowing.Walker.{Walker}
+use Rattle.pg_journeys.specs.declared.plans.Walker.{Walker}
 use Rattle.pg_journeys.specs.Known.{landing}
-use Rattle.pg_journeys.specs.inner.Counting.{IsReach}
-use Rattle.pg_journeys.specs.inner.Sides.{facts_of, IsSide, AreAimsPast, AreRooms}
+use Rattle.pg_journeys.specs.inner.Sides.{IsSide, AreRooms}
 use Rattle.pg_journeys.specs.inner.Deeds.{Lands, FallsOn, Changes}
-use Rattle.pg_journeys.specs.inner.Narrowed.{TakesToSome, FallsBy, ChangesBy, IsFull, walker_of}
+use Rattle.pg_journeys.specs.inner.Narrowed.{AreEnds, TakesToSome, FallsBy, ChangesBy, IsFull}
+use Rattle.pg_journeys.specs.inner.Costing.{walker_of}
 use Rattle.pg_journeys.proofs.SiftedSets.{IsJoined, join_next, join_none, join_full}
-use Rattle.pg_journeys.proofs.NarrowedPlans.{LandsOf, FallsOf, IsAsked, IsReached, lands_known, falls_known, lands_found, lands_back, falls_found, falls_back, changes_found, changes_back, lands_change, falls_change}
+use Rattle.pg_journeys.proofs.NarrowedPlans.{LandsOf, FallsOf, IsAsked, ends_are, lands_known, falls_known, lands_found, lands_back, falls_found, falls_back, changes_found, changes_back, lands_change, falls_change}
 
 -- the widest room is low, as each room is
 pub wide_low : (d : Placement) (x : Side) (quiet : Bool) (way : Option Wing) (most : ℕ) (rooms : List (List ℕ)) (i wide : ℕ) → AreRooms d x quiet way most rooms → i < x.men.count → most < 200 → ((n : ℕ) → ((e : ℕ) → e < 17 → get_or (get_or rooms i []) e 0 < 255 → get_or (get_or rooms i []) e 0 ≤ n) → wide ≤ n) → wide < 200
 wide_low d x quiet way most rooms i wide roomed low small widest = let h : wide ≤ most = widest most (λ e le some. roomed.small i e low le some) in omega arith
 
--- what is asked of a man, and what is reached from him, by the functions' contracts
-pub asked_of : (d : Placement) (x : Side) (quiet : Bool) (way : Option Wing) (most : ℕ) (aims rooms : List (List ℕ)) (i : ℕ) → IsSide d x → AreAimsPast x quiet most aims → AreRooms d x quiet way most rooms → most < 200 → i < x.men.count → IsAsked d x quiet way most aims rooms i
-asked_of d x quiet way most aims rooms i side aimed roomed small low = record { side = side; aimed = aimed; roomed = roomed; small = small; low = low }
+-- what is asked of a man, by the functions' contracts
+pub asked_of : (d : Placement) (x : Side) (quiet : Bool) (way : Option Wing) (most : ℕ) (rooms : List (List ℕ)) (i : ℕ) → IsSide d x → AreRooms d x quiet way most rooms → most < 200 → i < x.men.count → IsAsked d x quiet way most rooms i
+asked_of d x quiet way most rooms i side roomed small low = record { side = side; roomed = roomed; small = small; low = low }
 
-pub reached_of : (x : Side) (quiet : Bool) (way : Option Wing) (rooms : List (List ℕ)) (i : ℕ) (reach : Reach) (wide : ℕ) (man : Walker) → man ≡ walker_of x quiet way i → IsReach (facts_of x) x.ground.color quiet man.kind man.from wide reach → ((e : ℕ) → e < 17 → get_or (get_or rooms i []) e 0 < 255 → get_or (get_or rooms i []) e 0 ≤ wide) → IsReached x quiet way rooms i reach wide
-reached_of x quiet way rooms i reach wide man is reached wider = record {
-  reached = subst (λ (m : Walker). IsReach (facts_of x) x.ground.color quiet m.kind m.from wide reach) is reached;
-  wider = wider;
-}
+pub ends_here : (d : Placement) (x : Side) (quiet : Bool) (way : Option Wing) (most : ℕ) (rooms : List (List ℕ)) (i : ℕ) → IsSide d x → AreRooms d x quiet way most rooms → most < 200 → i < x.men.count → AreEnds x (get_or rooms i [])
+ends_here d x quiet way most rooms i side roomed small low = ends_are d x quiet way most rooms i (asked_of d x quiet way most rooms i side roomed small low)
 
-module _ (d : Placement) (x : Side) (quiet : Bool) (way : Option Wing) (most : ℕ) (aims rooms : List (List ℕ)) (i : ℕ) (asked : IsAsked d x quiet way most aims rooms i) (man : Walker) (is : man ≡ walker_of x quiet way i) where
-  pub lands_next : (reach : Reach) (wide : ℕ) → IsReached x quiet way rooms i reach wide → (old all more : ℕ) → IsSetOf more (λ q. (has all q ≡ true) ⊎ TakesToSome reach aims (get_or rooms i []) q) → IsJoined (LandsOf d x quiet way most) old i all → IsJoined (LandsOf d x quiet way most) old (i + 1) more
-  lands_next reach wide far old all more made h =
-      join_next (LandsOf d x quiet way most) (TakesToSome reach aims (get_or rooms i [])) old i all more made
-      (lands_back d x quiet way most aims rooms i asked reach wide far) (lands_found d x quiet way most aims rooms i asked reach wide far) h
+module _ (d : Placement) (x : Side) (quiet : Bool) (way : Option Wing) (most : ℕ) (rooms : List (List ℕ)) (i : ℕ) (asked : IsAsked d x quiet way most rooms i) (man : Walker) (is : man ≡ walker_of x quiet way i) where
+  pub lands_next : (old all more : ℕ) → IsSetOf more (λ q. (has all q ≡ true) ⊎ TakesToSome x man.runner (get_or rooms i []) q) → IsJoined (LandsOf d x quiet way most) old i all → IsJoined (LandsOf d x quiet way most) old (i + 1) more
+  lands_next old all more made h =
+      join_next (LandsOf d x quiet way most) (TakesToSome x man.runner (get_or rooms i [])) old i all more made
+      (λ q l t. lands_back d x quiet way most rooms i asked q l (subst (λ (m : Walker). TakesToSome x m.runner (get_or rooms i []) q) is t))
+      (λ q l t. subst (λ (m : Walker). TakesToSome x m.runner (get_or rooms i []) q) (sym is) (lands_found d x quiet way most rooms i asked q l t)) h
 
-  pub falls_next : (reach : Reach) (wide : ℕ) → IsReached x quiet way rooms i reach wide → (old all more : ℕ) → IsSetOf more (λ q. (has all q ≡ true) ⊎ FallsBy x man.square reach (get_or (get_or rooms i []) 16 0) q) → IsJoined (FallsOf d x quiet way most) old i all → IsJoined (FallsOf d x quiet way most) old (i + 1) more
-  falls_next reach wide far old all more made h =
-      join_next (FallsOf d x quiet way most) (λ q. FallsBy x man.square reach (get_or (get_or rooms i []) 16 0) q) old i all more made
-      (λ q l t. falls_back d x quiet way most aims rooms i asked reach wide far q l (subst (λ (m : Walker). FallsBy x m.square reach (get_or (get_or rooms i []) 16 0) q) is t))
-      (λ q l t. subst (λ (m : Walker). FallsBy x m.square reach (get_or (get_or rooms i []) 16 0) q) (sym is) (falls_found d x quiet way most aims rooms i asked reach wide far q l t)) h
+  pub falls_next : (old all more : ℕ) → IsSetOf more (λ q. (has all q ≡ true) ⊎ FallsBy x man (get_or (get_or rooms i []) 16 0) q) → IsJoined (FallsOf d x quiet way most) old i all → IsJoined (FallsOf d x quiet way most) old (i + 1) more
+  falls_next old all more made h =
+      join_next (FallsOf d x quiet way most) (λ q. FallsBy x man (get_or (get_or rooms i []) 16 0) q) old i all more made
+      (λ q l t. falls_back d x quiet way most rooms i asked q l (subst (λ (m : Walker). FallsBy x m (get_or (get_or rooms i []) 16 0) q) is t))
+      (λ q l t. subst (λ (m : Walker). FallsBy x m (get_or (get_or rooms i []) 16 0) q) (sym is) (falls_found d x quiet way most rooms i asked q l t)) h
 
-  changes_is : (v : ℕ) → ((e : ℕ) → e < 17 → (has v e ≡ true) ↔ ((get_or (get_or rooms i []) e 0 < 255) × ChangesBy x man e (get_or aims e []) (get_or (get_or rooms i []) e 0))) → (e : ℕ) → e < 17 → (has v e ≡ true) ↔ Changes d x quiet way most i e
+  changes_is : (v : ℕ) → ((e : ℕ) → e < 17 → (has v e ≡ true) ↔ ((get_or (get_or rooms i []) e 0 < 255) × ChangesBy x man e (get_or (get_or rooms i []) e 0))) → (e : ℕ) → e < 17 → (has v e ≡ true) ↔ Changes d x quiet way most i e
   changes_is v made e le = (
-    λ t. changes_back d x quiet way most aims rooms i asked e le (subst (λ (m : Walker). (get_or (get_or rooms i []) e 0 < 255) × ChangesBy x m e (get_or aims e []) (get_or (get_or rooms i []) e 0)) is ((made e le).0 t)),
-    λ t. (made e le).1 (subst (λ (m : Walker). (get_or (get_or rooms i []) e 0 < 255) × ChangesBy x m e (get_or aims e []) (get_or (get_or rooms i []) e 0)) (sym is) (changes_found d x quiet way most aims rooms i asked e le t)),
+    λ t. changes_back d x quiet way most rooms i asked e le (subst (λ (m : Walker). (get_or (get_or rooms i []) e 0 < 255) × ChangesBy x m e (get_or (get_or rooms i []) e 0)) is ((made e le).0 t)),
+    λ t. (made e le).1 (subst (λ (m : Walker). (get_or (get_or rooms i []) e 0 < 255) × ChangesBy x m e (get_or (get_or rooms i []) e 0)) (sym is) (changes_found d x quiet way most rooms i asked e le t)),
   )
 
   -- who changes by no end
-  abbrev AreEnds : ℕ → Type 0
-  AreEnds v = (e : ℕ) → e < 17 → (has v e ≡ true) ↔ ((get_or (get_or rooms i []) e 0 < 255) × ChangesBy x man e (get_or aims e []) (get_or (get_or rooms i []) e 0))
+  abbrev AreChanges : ℕ → Type 0
+  AreChanges v = (e : ℕ) → e < 17 → (has v e ≡ true) ↔ ((get_or (get_or rooms i []) e 0 < 255) × ChangesBy x man e (get_or (get_or rooms i []) e 0))
 
-  no_change : (v : ℕ) → AreEnds v → v ≡ 0 → (w : (e : ℕ) × (e < 17) × Changes d x quiet way most i e) → ⊥
+  no_change : (v : ℕ) → AreChanges v → v ≡ 0 → (w : (e : ℕ) × (e < 17) × Changes d x quiet way most i e) → ⊥
   no_change v made none w =
       let on : has v w.0 ≡ true = (changes_is v made w.0 w.1).1 w.2 in
       let off : has v w.0 ≡ false = subst (λ (n : ℕ). has n w.0 ≡ false) (sym none) (has-none w.0) in
       cc
 
   -- where nothing new may be found, what was found stays
-  pub lands_stay : (v : ℕ) → AreEnds v → (old all : ℕ) → (v ≡ 0) ⊎ IsFull (landing x.ground.facts x.ground.color) all → IsJoined (LandsOf d x quiet way most) old i all → IsJoined (LandsOf d x quiet way most) old (i + 1) all
-  lands_stay v made old all (inl none) h = join_none (LandsOf d x quiet way most) old i all (λ q t. no_change v made none (lands_change d x quiet way most aims rooms i asked q t)) h
-  lands_stay v made old all (inr full) h = join_full (LandsOf d x quiet way most) old i all (λ q l t. full q l (lands_known d x quiet way most aims rooms i asked q l t)) h
+  pub lands_stay : (v : ℕ) → AreChanges v → (old all : ℕ) → (v ≡ 0) ⊎ IsFull (landing x.ground.facts x.ground.color) all → IsJoined (LandsOf d x quiet way most) old i all → IsJoined (LandsOf d x quiet way most) old (i + 1) all
+  lands_stay v made old all (inl none) h = join_none (LandsOf d x quiet way most) old i all (λ q t. no_change v made none (lands_change d x quiet way most rooms i asked q t)) h
+  lands_stay v made old all (inr full) h = join_full (LandsOf d x quiet way most) old i all (λ q l t. full q l (lands_known d x quiet way most rooms i asked q l t)) h
 
-  pub falls_stay : (v : ℕ) → AreEnds v → (old all : ℕ) → (get_or (get_or rooms i []) 16 0 < 255 → (v ≡ 0) ⊎ IsFull (landing x.ground.facts (other x.ground.color)) all) → IsJoined (FallsOf d x quiet way most) old i all → IsJoined (FallsOf d x quiet way most) old (i + 1) all
+  pub falls_stay : (v : ℕ) → AreChanges v → (old all : ℕ) → (get_or (get_or rooms i []) 16 0 < 255 → (v ≡ 0) ⊎ IsFull (landing x.ground.facts (other x.ground.color)) all) → IsJoined (FallsOf d x quiet way most) old i all → IsJoined (FallsOf d x quiet way most) old (i + 1) all
   falls_stay v made old all full h = join_full (FallsOf d x quiet way most) old i all
       (λ q l t.
-      let w : (get_or (get_or rooms i []) 16 0 < 255) × (has (landing x.ground.facts (other x.ground.color)) q ≡ true) = falls_known d x quiet way most aims rooms i asked q l t in
+      let w : (get_or (get_or rooms i []) 16 0 < 255) × (has (landing x.ground.facts (other x.ground.color)) q ≡ true) = falls_known d x quiet way most rooms i asked q l t in
       elim (full w.0) [
-        | inl none ↦ absurd (no_change v made none (falls_change d x quiet way most aims rooms i asked q t))
+        | inl none ↦ absurd (no_change v made none (falls_change d x quiet way most rooms i asked q t))
         | inr there ↦ there q l w.1
       ]) h
 
-  pub ends_next : (ends : List ℕ) (v : ℕ) → i < length ends → ((e : ℕ) → e < 17 → (has v e ≡ true) ↔ ((get_or (get_or rooms i []) e 0 < 255) × ChangesBy x man e (get_or aims e []) (get_or (get_or rooms i []) e 0))) → ((j e : ℕ) → j < i → e < 17 → (has (get_or ends j 0) e ≡ true) ↔ Changes d x quiet way most j e) → (j e : ℕ) → j < i + 1 → e < 17 → (has (get_or (set ends i v) j 0) e ≡ true) ↔ Changes d x quiet way most j e
+  pub ends_next : (ends : List ℕ) (v : ℕ) → i < length ends → ((e : ℕ) → e < 17 → (has v e ≡ true) ↔ ((get_or (get_or rooms i []) e 0 < 255) × ChangesBy x man e (get_or (get_or rooms i []) e 0))) → ((j e : ℕ) → j < i → e < 17 → (has (get_or ends j 0) e ≡ true) ↔ Changes d x quiet way most j e) → (j e : ℕ) → j < i + 1 → e < 17 → (has (get_or (set ends i v) j 0) e ≡ true) ↔ Changes d x quiet way most j e
   ends_next ends v low made before j e lj le = elim (cases_lt j i) [
     | inl less ↦
         (let ne : j ≢ i = omega arith in

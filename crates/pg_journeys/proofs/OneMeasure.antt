@@ -1,5 +1,5 @@
 -- Where no capture may land each step is a quiet move, so that one measure tells both. Leads to the contracts of shown.rt.
-use Rattle.std.proofs.Common.{◌≡◌, ℕ, ◌<◌, ◌≤◌, inl, inr, Option, Bool, true, false, List, [], ◌∷◌, get_or, refl, sym, ap, subst, arith, ◌∙◌}
+use Rattle.std.proofs.Common.{◌≡◌, ℕ, ◌<◌, ◌≤◌, inl, inr, Option, None, Bool, true, false, List, [], ◌∷◌, get_or, refl, sym, ap, subst, arith, ◌∙◌}
 use Rattle.std.proofs.lemmas.Bool.Decides.{eqb_tells}
 use Rattle.pg_board.specs.declared.man.Color.{Color}
 use Rattle.pg_board.specs.declared.man.Kind.{Kind}
@@ -10,18 +10,24 @@ use Rattle.pg_board.specs.SquareSets.{HasNoneFrom}
 use Rattle.pg_board.specs.lemmas.Decisions.{dec_kind}
 use Rattle.pg_board.proofs.SetLemmas.{set_like}
 use Rattle.pg_position.specs.declared.rights.Wing.{Wing}
+use Rattle.pg_travel.specs.Origins.{counted}
+use Rattle.pg_assignments.specs.declared.costs.Costs.{Costs}
+use Rattle.pg_assignments.specs.Assignments.{cost}
 use Rattle.pg_journeys.specs.Facts.{Facts}
 use Rattle.pg_journeys.specs.Known.{landing}
-use Rattle.pg_journeys.specs.Journeys.{Leg, IsLeg, IsPath, may_take, Fate, Arrives, Falls, HasTake}
+use Rattle.pg_journeys.specs.Journeys.{Leg, IsLeg, IsPath, may_take, Fate, Arrives, Falls, Meets, HasTake}
 use Rattle.pg_journeys.specs.lemmas.DecidingPaths.{weigh}
 use Rattle.pg_journeys.specs.lemmas.Turns.{leg}
 use Rattle.pg_journeys.specs.inner.Counting.{counts}
-use Rattle.pg_journeys.specs.inner.Sides.{facts_of, square_at, kind_at, IsSide, AreAims, AreAimsPast, AreRooms, JourneysOf, IsPaidBy, MeetsAt, InEnd}
+use Rattle.pg_journeys.specs.inner.Sides.{facts_of, square_at, kind_at, IsSide, EndWithin, AreAims, aim_at, AreRooms, JourneysOf, IsPaidBy, MeetsAt, InEnd}
 use Rattle.pg_journeys.specs.inner.Deeds.{Lands, FallsOn, Changes, AreDeeds}
-use Rattle.pg_journeys.specs.inner.Showing.{IsMeasured, IsOneMeasure}
+use Rattle.pg_journeys.specs.inner.Showing.{IsMeasured, IsOneMeasure, IsSameBy}
+use Rattle.pg_journeys.specs.inner.Costing.{IsCountTo, AreCostRows, AreCostsOf}
 use Rattle.pg_journeys.specs.declared.plans.Side.{Side}
 use Rattle.pg_journeys.specs.declared.narrowing.Deeds.{Deeds}
 use Rattle.pg_journeys.specs.declared.shown.Measured.{Measured}
+use Rattle.pg_journeys.specs.declared.rings.Rings.{Rings}
+use Rattle.pg_journeys.proofs.EndLemmas.{rings_as}
 use Rattle.pg_journeys.proofs.StepLemmas.{piece_takes, push_takes_not, quiet_counts, leg_low}
 
 -- ---- paths
@@ -54,35 +60,61 @@ module _ (x : Side) (empty : HasNoneFrom (landing x.ground.facts x.ground.color)
   same : (q r : Bool) (ls : List Leg) (k : Kind) (s : ℕ) (j : Kind) (t : ℕ) → IsPath (facts_of x) x.ground.color k s ls j t → weight q ls ≡ weight r ls
   same q r ls k s j t path = same_weight (facts_of x) x.ground.color none_lands q r ls k s j t path
 
-  pub same_aims : (q r : Bool) (most : ℕ) (aims : List (List ℕ)) → AreAims x q most aims → AreAims x r most aims
-  same_aims q r most aims h = record {
+  pub same_end : (q r : Bool) (e n : ℕ) (k : Kind) (s : ℕ) → EndWithin x q e n k s → EndWithin x r e n k s
+  same_end q r e n k s (inl (l, (ls, path, le))) =
+      inl (l, (ls, path, (let a : weight q ls ≡ weight r ls = same q r ls k s (kind_at x.goals e) (square_at x.goals e) path in omega (arith, a, le))))
+  same_end q r e n k s (inr (is, more, (j, t, ls, low, on, path, le))) =
+      inr (is, more, (j, t, ls, low, on, path, (let a : weight q ls ≡ weight r ls = same q r ls k s j t path in omega (arith, a, le))))
+
+  same_aims : (q r : Bool) (aims : List Rings) → AreAims x q aims → AreAims x r aims
+  same_aims q r aims h = record {
+    ends = λ e end. rings_as (EndWithin x q e) (EndWithin x r e) (aim_at aims e) (λ n k s. (same_end q r e n k s, same_end r q e n k s)) (h.ends e end);
+  }
+
+  same_count : (q r : Bool) (most e : ℕ) (k : Kind) (s n : ℕ) → IsCountTo x most e (record { is_quiet = q; kind = k; square = s }) n →
+      IsCountTo x most e (record { is_quiet = r; kind = k; square = s }) n
+  same_count q r most e k s n (inl (low, is, least)) = inl (low, same_end q r e n k s is, λ m l w. least m l (same_end r q e m k s w))
+  same_count q r most e k s n (inr (far, none)) = inr (far, λ w. none (same_end r q e most k s w))
+
+  same_rows : (q r : Bool) (way : Option Wing) (most : ℕ) (rows : List (List ℕ)) (n : ℕ) → AreCostRows x q way most rows n → AreCostRows x r way most rows n
+  same_rows q r way most rows n are i l j lj = record {
+    comes = λ h. same_count q r most j (kind_at x.men i) (counted x.ground.color way (square_at x.men i)) _ ((are i l j lj).comes h);
+    falls = λ h. record {
+      king = ((are i l j lj).falls h).king;
+      other = λ ne. elim (((are i l j lj).falls h).other ne) [
+        | inl w ↦ inl w
+        | inr w ↦ inr (w.0, same_count q r most 16 (kind_at x.men i) (counted x.ground.color way (square_at x.men i)) _ w.1)
+      ];
+    };
+  }
+
+  -- what a man meets his fate by counts as much by both
+  meets_weight : (d : Placement) (q r : Bool) (k : Kind) (s b : ℕ) (ls : List Leg) (o : Fate) → Meets (facts_of x) d x.position x.ground.color k s b ls o → weight q ls ≡ weight r ls
+  meets_weight d q r k s b ls (Arrives t) (j, low, st, path) = same q r ls k b j t path
+  meets_weight d q r k s b ls (Falls u) (king, low, on, inl (j, path)) = same q r ls k b j u path
+  meets_weight d q r k s b ls (Falls u) (king, low, on, inr (passed, e)) = ap (weight q) e ∙ sym (ap (weight r) e)
+
+  same_costs : (d : Placement) (way : Option Wing) (q r : Bool) (most : ℕ) (k : Costs) → IsSide d x → k.size ≡ x.men.count → AreCostsOf d x q way most k → AreCostsOf d x r way most k
+  same_costs d way q r most k side size h = record {
+    rows = h.rows;
+    columns = h.columns;
+    room = h.room;
     small = h.small;
-    comes = λ e k s le l some. (
-        let w = h.comes e k s le l some in
-        let b = w.2 in
-        let a : weight q w.0 ≡ weight r w.0 = same q r w.0 k s (kind_at x.goals e) (square_at x.goals e) w.1 in
-        (w.0, w.1, omega (arith, a, b)));
-    least = λ e k s ls le l path low. (
-        let a : weight q ls ≡ weight r ls = same q r ls k s (kind_at x.goals e) (square_at x.goals e) path in
-        let b = h.least e k s ls le l path (omega (arith, a, low)) in
-        omega (arith, a, b));
-    falls = λ k s l some. (
-        let w = h.falls k s l some in
-        let b = w.6 in
-        let a : weight q w.2 ≡ weight r w.2 = same q r w.2 k s w.0 w.1 w.5 in
-        (w.0, w.1, w.2, w.3, w.4, w.5, omega (arith, a, b)));
-    least_fall = λ k s j t ls l lt more on path low. (
-        let a : weight q ls ≡ weight r ls = same q r ls k s j t path in
-        let b = h.least_fall k s j t ls l lt more on path (omega (arith, a, low)) in
-        omega (arith, a, b));
+    attained = λ i j li lj some. (
+        let w = h.attained i j li lj some in
+        let e : weight q w.1 ≡ weight r w.1 = meets_weight d q r (kind_at x.men i) (square_at x.men i) (counted x.ground.color way (square_at x.men i)) w.1 w.0
+        (w.3 (kind_at x.men i) (side.men.kinds i (omega (arith, li, size)))) in
+        (w.0, w.1, w.2, w.3, sym e ∙ w.4));
+    least = λ i j o ls b li lj st in_column meets low. (
+        let e : weight q ls ≡ weight r ls = meets_weight d q r b (square_at x.men i) (counted x.ground.color way (square_at x.men i)) ls o meets in
+        let l : cost k i j ≤ weight q ls = h.least i j o ls b li lj st in_column meets (omega (arith, e, low)) in
+        omega (arith, e, l));
   }
 
   -- ---- what plans have
   module _ (d : Placement) (way : Option Wing) (side : IsSide d x) where
     meeting_weight : (q r : Bool) (i : ℕ) (ls : List Leg) (o : Fate) → MeetsAt d x way i ls o → weight q ls ≡ weight r ls
-    meeting_weight q r i ls (Arrives t) (j, low, st, path) = same q r ls _ _ j t path
-    meeting_weight q r i ls (Falls u) (king, low, on, inl (j, path)) = same q r ls _ _ j u path
-    meeting_weight q r i ls (Falls u) (king, low, on, inr (passed, e)) = ap (weight q) e ∙ sym (ap (weight r) e)
+    meeting_weight q r i ls o h = meets_weight d q r (kind_at x.men i) (square_at x.men i) (counted x.ground.color way (square_at x.men i)) ls o h
 
     end_of : (i : ℕ) (o : Fate) (ls : List Leg) → MeetsAt d x way i ls o → (e : ℕ) × (e < 17) × InEnd x.goals e o
     end_of i (Arrives t) ls (j, low, st, path) =
@@ -129,9 +161,16 @@ module _ (x : Side) (empty : HasNoneFrom (landing x.ground.facts x.ground.color)
       );
     }
 
-pub past_too : (x : Side) (empty : HasNoneFrom (landing x.ground.facts x.ground.color) 0) (q r : Bool) (most : ℕ) (aims : List (List ℕ)) → AreAimsPast x q most aims → AreAimsPast x r most aims
-past_too x empty q r most aims h = record { limit = h.limit; enough = h.enough; low = h.low; are = same_aims x empty q r h.limit aims h.are }
+-- what fates cost by a measure they cost by the other
+pub costs_too : (d : Placement) (x : Side) (way : Option Wing) (q r : Bool) (most : ℕ) (k : Costs) → IsSide d x → k.size ≡ x.men.count → IsSameBy x q r → AreCostsOf d x q way most k → AreCostsOf d x r way most k
+costs_too d x way q r most k side size (inl e) h = subst (λ (b : Bool). AreCostsOf d x b way most k) e h
+costs_too d x way q r most k side size (inr empty) h = same_costs x empty d way q r most k side size h
 
 -- what is measured by moves is measured by quiet moves too
 pub measured_too : (x : Side) (m : Measured) (most : ℕ) → IsOneMeasure x most most → IsMeasured x false m → IsMeasured x true m
-measured_too x m most one h = record { low = h.low; aims = past_too x one.none false true m.most m.aims.now h.aims }
+measured_too x m most one h = record {
+  low = h.low;
+  aims = same_aims x one.none false true m.aims.now h.aims;
+  size = h.size;
+  rows = same_rows x one.none false true None m.most m.costs.rows x.men.count h.rows;
+}

@@ -1,5 +1,5 @@
 -- Pawns that come to squares, as what they are there: five sets that are met or taken one after another.
-use Rattle.std.proofs.Common.{◌≡◌, ◌≢◌, ℕ, ◌<◌, ◌⊎◌, inl, inr, Bool, true, false, not, ◌&&◌, refl, sym, ◌∙◌}
+use Rattle.std.proofs.Common.{◌≡◌, ◌≢◌, ℕ, ◌<◌, ◌⊎◌, inl, inr, Bool, true, false, not, ◌&&◌, List, refl, sym, ◌∙◌}
 use Rattle.pg_board.specs.Bits.{has}
 use Rattle.pg_board.specs.declared.man.Color.{Color}
 use Rattle.pg_board.specs.declared.man.Kind.{Kind}
@@ -8,12 +8,14 @@ use Rattle.pg_board.specs.Squares.{rank}
 use Rattle.pg_board.specs.SquareSets.{IsSetOf}
 use Rattle.pg_position.specs.Squares.{last_rank}
 use Rattle.pg_captures.specs.FreeSteps.{Becomes}
-use Rattle.pg_journeys.specs.inner.Fronts.{OnSet, PawnsOn, IsMeeting}
+use Rattle.pg_journeys.specs.inner.Fronts.{OnSet, PawnsOn, IsMeeting, IsJoined}
 use Rattle.pg_journeys.specs.inner.Reaches.{IsTaking}
+use Rattle.pg_journeys.specs.inner.Reached.{AreGrown}
 use Rattle.pg_journeys.specs.declared.distances.Front.{Front}
 use Rattle.pg_journeys.specs.declared.distances.Reach.{Reach}
 use Rattle.pg_journeys.proofs.FrontLemmas.{on_or_off, not_both, and_first, and_second, and_both, not_true, not_false, meeting_as, meeting_then}
 use Rattle.pg_journeys.proofs.TakingLemmas.{taking_as, taking_then}
+use Rattle.pg_journeys.proofs.RingLemmas.{grown_as, grown_then, grown_set}
 
 -- a set in two parts: off the last rank, and on it
 module _ (c : Color) (x last rest promoted r : ℕ) (is : r ≡ last_rank c) (row : IsSetOf last (λ s. rank s ≡ r)) (off : (q : ℕ) → q < 64 → has rest q ≡ (has x q && not (has last q))) (on : (q : ℕ) → has promoted q ≡ (has x q && has last q)) where
@@ -133,3 +135,35 @@ module _ (c : Color) (x last rest promoted r : ℕ) (is : r ≡ last_rank c) (ro
       (taking_then (On Pawn rest) (λ j t. On Knight promoted j t ⊎ (On Bishop promoted j t ⊎ (On Rook promoted j t ⊎ On Queen promoted j t))) n f0 f1 f5 m1
       (taking_then (On Knight promoted) (λ j t. On Bishop promoted j t ⊎ (On Rook promoted j t ⊎ On Queen promoted j t)) n f1 f2 f5 m2
       (taking_then (On Bishop promoted) (λ j t. On Rook promoted j t ⊎ On Queen promoted j t) n f2 f3 f5 m3 (taking_then (On Rook promoted) (On Queen promoted) n f3 f4 f5 m4 m5))))
+
+  pub pawns_grow : (x0 x1 x2 x3 x4 x5 : List ℕ) → IsJoined Pawn rest x0 x1 → IsJoined Knight promoted x1 x2 → IsJoined Bishop promoted x2 x3 →
+      IsJoined Rook promoted x3 x4 → IsJoined Queen promoted x4 x5 → AreGrown (λ j t. (has x t ≡ true) × Becomes c Pawn t j) x0 x5
+  pawns_grow x0 x1 x2 x3 x4 x5 m1 m2 m3 m4 m5 =
+      grown_as (λ j t. On Pawn rest j t ⊎ (On Knight promoted j t ⊎ (On Bishop promoted j t ⊎ (On Rook promoted j t ⊎ On Queen promoted j t)))) (λ j t. (has x t ≡ true) × Becomes c Pawn t j) x0 x5
+      (λ j t l h. elim h [
+        | inl (e, u) ↦ pawn_on j t l e u
+        | inr h2 ↦ elim h2 [
+          | inl (e, u) ↦ piece_on j Knight t l e differ_nk.0 differ_nk.1 u
+          | inr h3 ↦ elim h3 [
+            | inl (e, u) ↦ piece_on j Bishop t l e differ_b.0 differ_b.1 u
+            | inr h4 ↦ elim h4 [
+              | inl (e, u) ↦ piece_on j Rook t l e differ_r.0 differ_r.1 u
+              | inr (e, u) ↦ piece_on j Queen t l e differ_q.0 differ_q.1 u
+            ]
+          ]
+        ]
+      ])
+      (λ j t l (h, becomes). elim (parts_of j t l h becomes) [
+        | inl (e, u) ↦ inl (e, u)
+        | inr (u, k) ↦ elim k [
+          | inl e ↦ inr (inl (e, u))
+          | inr k2 ↦ elim k2 [
+            | inl e ↦ inr (inr (inl (e, u)))
+            | inr k3 ↦ elim k3 [ inl e ↦ inr (inr (inr (inl (e, u)))) | inr e ↦ inr (inr (inr (inr (e, u)))) ]
+          ]
+        ]
+      ])
+      (grown_then (On Pawn rest) (λ j t. On Knight promoted j t ⊎ (On Bishop promoted j t ⊎ (On Rook promoted j t ⊎ On Queen promoted j t))) x0 x1 x5 (grown_set Pawn rest x0 x1 m1)
+      (grown_then (On Knight promoted) (λ j t. On Bishop promoted j t ⊎ (On Rook promoted j t ⊎ On Queen promoted j t)) x1 x2 x5 (grown_set Knight promoted x1 x2 m2)
+      (grown_then (On Bishop promoted) (λ j t. On Rook promoted j t ⊎ On Queen promoted j t) x2 x3 x5 (grown_set Bishop promoted x2 x3 m3)
+      (grown_then (On Rook promoted) (On Queen promoted) x3 x4 x5 (grown_set Rook promoted x3 x4 m4) (grown_set Queen promoted x4 x5 m5)))))

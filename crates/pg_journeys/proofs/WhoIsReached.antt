@@ -1,7 +1,8 @@
 -- Whom of the diagram some man comes to be. Leads to the contracts of `is_reached_in`, `is_reached`, `unreached_of` and `unreached`.
-use Rattle.std.proofs.Common.{◌≡◌, ℕ, ◌+◌, ◌<◌, ◌≤◌, ◌⊎◌, ◌↔◌, inl, inr, IsTrue, IfSome, IfNone, MatchOption, Option, Some, None, Bool, true, false, List, length, refl, sym, subst, arith}
+use Rattle.std.proofs.Common.{◌≡◌, ℕ, ◌+◌, ◌<◌, ◌≤◌, ◌⊎◌, ◌↔◌, inl, inr, IsTrue, IfSome, IfNone, MatchOption, Option, Some, None, Bool, true, false, List, length, refl, sym, subst, arith, ◌∙◌}
 use Rattle.std.proofs.lemmas.Bool.{cases_lt}
 use Rattle.pg_board.specs.declared.man.Color.{Color}
+use Rattle.pg_board.specs.Bits.{has}
 use Rattle.pg_board.specs.declared.man.Kind.{Kind}
 use Rattle.pg_board.specs.Placement.{Placement}
 use Rattle.pg_position.specs.declared.rights.Wing.{Wing}
@@ -11,7 +12,6 @@ use Rattle.pg_position.specs.Position.{Stands}
 use Rattle.pg_captures.specs.Counting.{men, any_man}
 use Rattle.pg_captures.specs.lemmas.BoardLemmas.{same_kind}
 use Rattle.pg_travel.specs.Origins.{counted}
-use Rattle.pg_travel.specs.lemmas.Values.{counted_low}
 use Rattle.pg_journeys.specs.Facts.{Facts}
 use Rattle.pg_journeys.specs.Journeys.{IsPath, IsWayUnder}
 use Rattle.pg_journeys.specs.Known.{known}
@@ -19,38 +19,50 @@ use Rattle.pg_journeys.specs.Needs.{IsReached}
 use Rattle.pg_journeys.specs.lemmas.DecidingPaths.{weigh}
 use Rattle.pg_journeys.specs.lemmas.Weights.{weigh_length}
 use Rattle.pg_journeys.specs.inner.Counting.{counts}
-use Rattle.pg_journeys.specs.inner.Costing.{count_of}
+use Rattle.pg_journeys.specs.inner.Counts.{of_kind}
+use Rattle.pg_journeys.specs.inner.Rings.{AreWithin}
 use Rattle.pg_journeys.specs.inner.Needing.{IsReachedIn, IsReachedOf, IsUnreached}
-use Rattle.pg_journeys.specs.inner.Sides.{facts_of, square_at, kind_at, IsSide, AreAims}
+use Rattle.pg_journeys.specs.inner.Sides.{facts_of, square_at, kind_at, IsSide, EndWithin}
 use Rattle.pg_journeys.specs.declared.facts.Facts.{Facts as FactSets}
 use Rattle.pg_journeys.specs.declared.plans.Side.{Side}
 use Rattle.pg_journeys.proofs.CostLemmas.{path_as}
 use Rattle.pg_journeys.proofs.LastRounds.{is_not}
 
 -- ---- one way
-module _ (d : Placement) (x : Side) (aims : List (List ℕ)) (way : Option Wing) (e : ℕ) (side : IsSide d x) (are : AreAims x false 199 aims) (goal : e < x.goals.count) where
-  abbrev start : ℕ → ℕ
-  start i = counted x.ground.color way (square_at x.men i)
+-- the man e of the diagram is among those who come within 199
+to_reached_in : (x : Side) (way : Option Wing) (e i : ℕ) → i < x.men.count → IsWayUnder (facts_of x) x.position x.ground.color way → x.goals.count ≤ 16 → e < x.goals.count →
+    EndWithin x false e 199 (kind_at x.men i) (counted x.ground.color way (square_at x.men i)) → IsReachedIn x way e
+to_reached_in x way e i li is_open few goal (inl (_, (ls, path, short))) =
+    (is_open, i, li, ls, path, (let same : weigh (counts (facts_of x) x.ground.color false) ls ≡ length ls = weigh_length ls in omega (arith, same, short)))
+to_reached_in x way e i li is_open few goal (inr (last, _, _)) = absurd (omega arith)
 
-  start_low : (i : ℕ) → i < x.men.count → start i < 64
-  start_low i li = counted_low x.ground.color way (square_at x.men i) (side.men.listing.low i li)
+pub found_in : (d : Placement) (x : Side) (way : Option Wing) (e i set s : ℕ) (k : Kind) (sets : List ℕ) (b : Bool) → IsSide d x → e < x.goals.count → i < x.men.count → IsWayUnder (facts_of x) x.position x.ground.color way →
+    AreWithin (EndWithin x false e) 199 sets → k ≡ kind_at x.men i → set ≡ of_kind sets k → s ≡ counted x.ground.color way (square_at x.men i) → s < 64 → b ≡ has set s → b ≡ true → IsReachedIn x way e
+found_in d x way e i set s k sets b side goal li is_open within ek es at low is on =
+    to_reached_in x way e i li is_open side.goals.few goal
+    (subst (λ (y : ℕ). EndWithin x false e 199 (kind_at x.men i) y) at (subst (λ (y : Kind). EndWithin x false e 199 y s) ek ((within k s low).0 (subst (λ (y : ℕ). has y s ≡ true) es (sym is ∙ on)))))
 
-  -- a count is one of a path
-  pub found_in : (i : ℕ) → i < x.men.count → IsWayUnder (facts_of x) x.position x.ground.color way → count_of x aims way e i < 255 → IsReachedIn x way e
-  found_in i li is_open some =
-      let q = are.comes e (kind_at x.men i) (start i) goal (start_low i li) some in
-      let small : count_of x aims way e i ≤ 199 = are.small e (kind_at x.men i) (start i) (omega (arith, goal, side.room, side.men.few)) (start_low i li) some in
-      let le : weigh (counts (facts_of x) x.ground.color false) q.0 ≤ count_of x aims way e i = q.2 in
-      let same : weigh (counts (facts_of x) x.ground.color false) q.0 ≡ length q.0 = weigh_length q.0 in
-      (is_open, i, li, q.0, q.1, omega arith)
+-- the man i is not within 199 of it
+abbrev pub IsFar : Side → Option Wing → ℕ → ℕ → Type 0
+IsFar x way e i = EndWithin x false e 199 (kind_at x.men i) (counted x.ground.color way (square_at x.men i)) → ⊥
 
-  -- no count, no path
-  pub none_in : ((i : ℕ) → i < x.men.count → 255 ≤ count_of x aims way e i) → ¬ IsReachedIn x way e
-  none_in none (is_open, i, li, ls, path, short) =
-      let same : weigh (counts (facts_of x) x.ground.color false) ls ≡ length ls = weigh_length ls in
-      let le : count_of x aims way e i ≤ weigh (counts (facts_of x) x.ground.color false) ls = are.least e (kind_at x.men i) (start i) ls goal (start_low i li) path (omega arith) in
-      let no : 255 ≤ count_of x aims way e i = none i li in
-      omega arith
+pub far_next : (x : Side) (way : Option Wing) (e i set s : ℕ) (k : Kind) (sets : List ℕ) (b : Bool) → AreWithin (EndWithin x false e) 199 sets → k ≡ kind_at x.men i → set ≡ of_kind sets k →
+    s ≡ counted x.ground.color way (square_at x.men i) → s < 64 → b ≡ has set s → b ≡ false → ((j : ℕ) → j < i → IsFar x way e j) → (j : ℕ) → j < i + 1 → IsFar x way e j
+far_next x way e i set s k sets b within ek es at low is off before j l w = elim (cases_lt j i) [
+  | inl less ↦ before j less w
+  | inr more ↦
+      (let same : j ≡ i = omega arith in
+      let here : EndWithin x false e 199 k s = subst (λ (y : ℕ). EndWithin x false e 199 k y) (sym at) (subst (λ (y : Kind). EndWithin x false e 199 y (counted x.ground.color way (square_at x.men i))) (sym ek)
+      (subst (λ (y : ℕ). EndWithin x false e 199 (kind_at x.men y) (counted x.ground.color way (square_at x.men y))) same w)) in
+      let on : has (of_kind sets k) s ≡ true = (within k s low).1 here in
+      let out : has (of_kind sets k) s ≡ false = subst (λ (y : ℕ). has y s ≡ false) es (sym is ∙ off) in
+      absurd (cc))
+]
+
+pub none_in : (x : Side) (way : Option Wing) (e : ℕ) → e < x.goals.count → ((i : ℕ) → i < x.men.count → IsFar x way e i) → ¬ IsReachedIn x way e
+none_in x way e goal none (is_open, i, li, ls, path, short) =
+    let same : weigh (counts (facts_of x) x.ground.color false) ls ≡ length ls = weigh_length ls in
+    none i li (inl (goal, (ls, path, omega arith)))
 
 pub is_so : {A : Type 0} → A → IsTrue true ↔ A
 is_so a = (λ t. a, λ h. refl)

@@ -4,6 +4,8 @@ pub mod Counting
 pub mod Fronts
 pub mod Levels
 pub mod Reaches
+pub mod Rings
+pub mod Reached
 pub mod Sides
 pub mod Deeds
 pub mod Makings
@@ -13,3 +15,4 @@ pub mod Showing
 pub mod Walking
 pub mod Needing
 pub mod Resting
+pub mod Searches

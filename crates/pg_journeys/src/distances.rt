@@ -67,7 +67,7 @@ fn note_all(counts: &mut Counts, kind: Kind, set: SquareSet, count: u8)
 }
 
 // Joins a set to the set of a kind.
-fn join(sets: &mut [SquareSet; 6], kind: Kind, set: SquareSet)
+pub(crate) fn join(sets: &mut [SquareSet; 6], kind: Kind, set: SquareSet)
     ensures { IsJoined kind set sets.old sets.new }
 {
     let k = usize::from(kind.number());
@@ -76,9 +76,9 @@ fn join(sets: &mut [SquareSet; 6], kind: Kind, set: SquareSet)
 
 // Men of a kind on squares.
 #[derive(Clone, Copy)]
-struct Standing {
-    kind: Kind,
-    set: SquareSet,
+pub(crate) struct Standing {
+    pub(crate) kind: Kind,
+    pub(crate) set: SquareSet,
 }
 
 // Men that were met, by kind: those met so far, those of them still to be looked at, and those that one count more meets.
@@ -91,7 +91,7 @@ pub(crate) struct Front {
 
 impl Front {
     // None is met; these are to be by no count.
-    fn at(start: [SquareSet; 6]) -> Front
+    pub(crate) fn at(start: [SquareSet; 6]) -> Front
         ensures next { result.next ≡ start }
         ensures none { (k : KindOfMan) (s : ℕ) → is_met result k s ≡ false }
     {
@@ -103,7 +103,7 @@ impl Front {
     }
 
     // Meets men of a kind by this count, or by one more.
-    fn meet(&mut self, kind: Kind, set: SquareSet, counts: bool)
+    pub(crate) fn meet(&mut self, kind: Kind, set: SquareSet, counts: bool)
         ensures { IsMeeting (OnSet kind set counts) self.old self.new }
     {
         if counts {
@@ -124,10 +124,6 @@ impl Front {
         ensures idle { result ≡ false → (j : KindOfMan) (s : ℕ) → number_of_kind j ≡ k → s < 64
             → is_due self.new j s ≡ false }
     {
-        if self.next[k].is_empty() {
-            self.due[k] = SquareSet::empty();
-            return false;
-        }
         let new = self.next[k] - self.met[k];
         self.met[k] = self.met[k] | new;
         self.due[k] = new;
@@ -136,7 +132,7 @@ impl Front {
     }
 
     // Meets what one count more meets. False where that is nobody new.
-    fn advance(&mut self) -> bool
+    pub(crate) fn advance(&mut self) -> bool
         ensures all { HasAdvanced self.old self.new }
         ensures idle { result ≡ false → NoneDue self.new }
     {
@@ -149,7 +145,7 @@ impl Front {
     }
 
     // Takes the men of one kind who are due.
-    fn take_due(&mut self) -> Option<Standing>
+    pub(crate) fn take_due(&mut self) -> Option<Standing>
         ensures taken { MatchOption result (NoneDue self.old) (λ m. AreTakenDue m.kind m.set self.old self.new) }
         ensures met { self.new.met ≡ self.old.met }
         ensures next { self.new.next ≡ self.old.next }
@@ -230,7 +226,13 @@ fn meet_pawns_before(ground: &Ground, is_quiet: bool, kind: Kind, set: SquareSet
 }
 
 // Meets whoever comes by one step to be one of these men.
-fn meet_before(ground: &Ground, is_quiet: bool, kind: Kind, set: SquareSet, front: &mut Front)
+pub(crate) fn meet_before(
+    ground: &Ground,
+    is_quiet: bool,
+    kind: Kind,
+    set: SquareSet,
+    front: &mut Front,
+)
     requires { IsGround ground.now }
     ensures { IsMeeting (FromSome (BackStep (known ground.now.facts) ground.now.color is_quiet kind) set)
         front.old front.new }
@@ -326,7 +328,7 @@ impl Reach {
 }
 
 // Meets a pawn on squares of no last rank, and each that he may become on the last one.
-fn meet_pawns(ground: &Ground, set: SquareSet, counts: bool, front: &mut Front)
+pub(crate) fn meet_pawns(ground: &Ground, set: SquareSet, counts: bool, front: &mut Front)
     ensures { IsMeeting (PawnsOn ground.now.color set counts) front.old front.new }
 {
     let last = rank_set(last_rank(ground.color));

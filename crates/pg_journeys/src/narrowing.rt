@@ -1,5 +1,5 @@
 //! What follows from the plans of a way by a measure: where captures may land, where men may be captured, and who may change.
-ghost use Rattle.std.specs.Prelude.{◌≡◌, ℕ, ◌<◌, ◌≤◌, ◌↔◌, ◌⊎◌, IsTrue, true, false, [], cond, ◌&&◌, get_or, ◌≢◌, ◌+◌, ◌*◌};
+ghost use Rattle.std.specs.Prelude.{◌≡◌, ℕ, ◌<◌, ◌≤◌, ◌↔◌, ◌⊎◌, IsTrue, true, false, get_or, ◌≢◌};
 ghost use Rattle.pg_board.specs.Bits.{has};
 ghost use Rattle.pg_board.specs.Men.{other};
 ghost use Rattle.pg_board.specs.declared.man.Kind.TheVariants.{Pawn};
@@ -7,16 +7,17 @@ ghost use Rattle.pg_board.specs.Placement.{Placement};
 ghost use Rattle.pg_board.specs.SquareSets.{IsSetOf};
 ghost use Rattle.pg_journeys.specs.Known.{landing};
 ghost use Rattle.pg_journeys.specs.inner.Grounds.{IsGround};
+ghost use Rattle.pg_journeys.specs.inner.Reached.{IsReach};
 ghost use Rattle.pg_journeys.specs.inner.Showing.{IsMeasured};
-ghost use Rattle.pg_journeys.specs.inner.Sides.{IsSide, AreRooms};
+ghost use Rattle.pg_journeys.specs.inner.Sides.{facts_of, IsSide, IsEnd, AreAims, AreRooms};
 ghost use Rattle.pg_journeys.specs.inner.Deeds.{AreDeeds};
-ghost use Rattle.pg_journeys.specs.inner.Narrowed.{TakesOn, TakesBy, TakesToSome, StandsBy, FallsBy, ComesBack, ChangesBy, IsFull, walker_of};
+ghost use Rattle.pg_journeys.specs.inner.Narrowed.{IsInBoth, AreEnds, TakesTo, TakesToSome, StandsBy, FallsBy, ComesBy, TakesBack, ComesBack, ChangesBy, IsFull};
 
-use crate::distances::{Counts, Reach, reach_of};
-use crate::plans::{Aims, Side, counted, passed_square};
+use crate::plans::{Aims, Side, Walker, aim_within, man_of, passed_square};
+use crate::rings::{Reach, Runner, reach_of, stands_within, takes_within};
 use crate::rooms::Rooms;
 use crate::shown::Measured;
-use pg_board::{Kind, Square, SquareSet};
+use pg_board::{Kind, SquareSet};
 use pg_position::Wing;
 
 // What the plans of a way have by a measure: the squares where captures of the colour land and where its men are captured, and for
@@ -28,153 +29,159 @@ pub(crate) struct Deeds {
     pub(crate) ends: [u32; 16],
 }
 
-// A man: his kind, his square, the square where a way counts him, and whether quiet moves alone are counted.
-#[derive(Clone, Copy)]
-struct Walker {
-    kind: Kind,
-    square: Square,
-    from: Square,
-    is_quiet: bool,
-}
-
-// The squares of a set where a man of the kind with this number comes by a capture and goes on to an end, within a room.
-fn landed(reach: &Reach, k: usize, aim: &Counts, room: u8, set: SquareSet) -> SquareSet
-    requires { k < 6 }
-    ensures { IsSetOf result (λ q. (has set q ≡ true) × TakesOn reach.now.takes aim.now room k q) }
+// The squares that two sets have as some kind.
+fn in_both(one: &[SquareSet; 6], other: &[SquareSet; 6]) -> SquareSet
+    ensures { IsSetOf result (IsInBoth one.now other.now) }
 {
-    let mut left = set;
-    let mut found = SquareSet::empty();
-    while let Some(square) = left.pop_first() {
-        let at = k * 64 + usize::from(square.index());
-        if u16::from(reach.takes[at]) + u16::from(aim[at]) <= u16::from(room) {
-            found = found | SquareSet::single(square);
-        }
-    }
-    found
-}
-
-// With the squares where captures of a man land on his way to an end, within a room.
-fn add_lands(reach: &Reach, aim: &Counts, room: u8, lands: SquareSet) -> SquareSet
-    ensures { IsSetOf result (λ q. (has lands q ≡ true) ⊎ TakesBy reach.now aim.now room q) }
-{
-    let mut all = lands;
+    let mut all = SquareSet::empty();
     for k in 0..6usize {
-        let rest = reach.taken[k] - all;
-        let found = landed(reach, k, aim, room, rest);
-        all = all | found;
+        all = all | (one[k] & other[k]);
+    }
+    all
+}
+
+// The squares where captures of a man land on his way to an end, within a room.
+fn lands_to(side: &Side, man: &Runner, reach: &Reach, aims: &Aims, e: usize, room: u8) -> SquareSet
+    requires side { (d : Placement) × IsSide d side.now }
+    requires end { IsEnd side.now e }
+    requires low { room < 200 }
+    requires reach { IsReach (facts_of side.now) side.now.ground.color man.now reach.now }
+    requires aims { AreAims side.now man.now.is_quiet aims.now }
+    ensures { IsSetOf result (TakesTo side.now man.now e room) }
+{
+    let mut all = SquareSet::empty();
+    for i in 0..room + 1 {
+        let taken = takes_within(&side.ground, man, reach, i);
+        let rest = aim_within(side, man.is_quiet, aims, e, room - i);
+        all = all | in_both(&taken, &rest);
     }
     all
 }
 
 // With the squares where captures of a man land on his way to any end, within his rooms.
-fn lands_of(reach: &Reach, aims: &Aims, rooms: &[u8; 17], lands: SquareSet) -> SquareSet
-    ensures { IsSetOf result (λ q. (has lands q ≡ true) ⊎ TakesToSome reach.now aims.now rooms.now q) }
+fn lands_of(
+    side: &Side,
+    man: &Runner,
+    reach: &Reach,
+    aims: &Aims,
+    rooms: &[u8; 17],
+    lands: SquareSet,
+) -> SquareSet
+    requires side { (d : Placement) × IsSide d side.now }
+    requires ends { AreEnds side.now rooms.now }
+    requires reach { IsReach (facts_of side.now) side.now.ground.color man.now reach.now }
+    requires aims { AreAims side.now man.now.is_quiet aims.now }
+    ensures { IsSetOf result (λ q. (has lands q ≡ true) ⊎ TakesToSome side.now man.now rooms.now q) }
 {
     let mut all = lands;
     for e in 0..17usize {
         if rooms[e] < 255 {
-            all = add_lands(reach, &aims[e], rooms[e], all);
+            all = all | lands_to(side, man, reach, aims, e, rooms[e]);
         }
     }
     all
 }
 
-// The squares of a set where a man of the kind with this number comes within a room.
-fn stood(reach: &Reach, k: usize, room: u8, set: SquareSet) -> SquareSet
-    requires { k < 6 }
-    ensures { IsSetOf result (λ q. (has set q ≡ true) × (get_or reach.now.stands (k * 64 + q) 0 ≤ room)) }
+// With the squares where a man comes within a room and may be captured.
+fn add_falls(side: &Side, man: &Runner, reach: &Reach, room: u8, falls: SquareSet) -> SquareSet
+    requires ground { IsGround side.now.ground }
+    requires low { room < 200 }
+    requires reach { IsReach (facts_of side.now) side.now.ground.color man.now reach.now }
+    ensures { IsSetOf result (λ q. (has falls q ≡ true) ⊎ StandsBy side.now man.now room q) }
 {
-    let mut left = set;
-    let mut found = SquareSet::empty();
-    while let Some(square) = left.pop_first() {
-        if reach.stands[k * 64 + usize::from(square.index())] <= room {
-            found = found | SquareSet::single(square);
-        }
-    }
-    found
+    let stands = stands_within(&side.ground, man, reach, room);
+    falls | in_both(&stands, &[side.ground.theirs(); 6])
 }
 
-// With the squares of a set where a man comes within a room.
-fn add_falls(set: SquareSet, reach: &Reach, room: u8, falls: SquareSet) -> SquareSet
-    ensures { IsSetOf result (λ q. (has falls q ≡ true) ⊎ StandsBy reach.now set room q) }
-{
-    let mut all = falls;
-    for k in 0..6usize {
-        let both = reach.stood[k] & set;
-        let rest = both - all;
-        let found = stood(reach, k, room, rest);
-        all = all | found;
-    }
-    all
-}
-
-// With the squares where the man on a square may be captured within a room.
-fn falls_of(side: &Side, square: Square, reach: &Reach, room: u8, falls: SquareSet) -> SquareSet
-    ensures { IsSetOf result (λ q. (has falls q ≡ true) ⊎ FallsBy side.now square reach.now room q) }
+// With the squares where a man may be captured within a room.
+fn falls_of(side: &Side, man: &Walker, reach: &Reach, room: u8, falls: SquareSet) -> SquareSet
+    requires ground { IsGround side.now.ground }
+    requires low { room < 255 → room < 200 }
+    requires reach { IsReach (facts_of side.now) side.now.ground.color man.now.runner reach.now }
+    ensures { IsSetOf result (λ q. (has falls q ≡ true) ⊎ FallsBy side.now man.now room q) }
 {
     if room == 255 {
         return falls;
     }
-    let all = add_falls(side.ground.theirs(), reach, room, falls);
-    match passed_square(side, square) {
+    let all = add_falls(side, &man.runner, reach, room, falls);
+    match passed_square(side, man.square) {
         None => all,
         Some(passed) => all | SquareSet::single(passed),
     }
 }
 
-// What a step to a square counts, of a man who is no pawn: 0 for what may be a capture in quiet moves.
-fn count_of(is_quiet: bool, lands: SquareSet, next: Square) -> u16
-    ensures { result ≡ cond (is_quiet && has lands next) 0 1 }
+// Whether a man on some square of a set is within so many counts of an end.
+fn comes_by(side: &Side, man: &Runner, aims: &Aims, e: usize, n: u8, set: SquareSet) -> bool
+    requires side { (d : Placement) × IsSide d side.now }
+    requires end { IsEnd side.now e }
+    requires low { n < 200 }
+    requires aims { AreAims side.now man.now.is_quiet aims.now }
+    ensures { IsTrue result ↔ ComesBy side.now man.now e n set }
 {
-    if is_quiet && lands.contains(next) {
-        0
-    } else {
-        1
+    let within = aim_within(side, man.is_quiet, aims, e, n);
+    within[usize::from(man.kind.number())].meets(set)
+}
+
+// Whether in quiet moves a man's step from among these that may be a capture leads on to an end within a room.
+fn takes_back(side: &Side, man: &Runner, aims: &Aims, e: usize, room: u8, steps: SquareSet) -> bool
+    requires side { (d : Placement) × IsSide d side.now }
+    requires end { IsEnd side.now e }
+    requires low { room < 200 }
+    requires aims { AreAims side.now man.now.is_quiet aims.now }
+    ensures { IsTrue result ↔ TakesBack side.now man.now e room steps }
+{
+    if !man.is_quiet {
+        return false;
     }
+    comes_by(side, man, aims, e, room, steps & side.ground.lands())
 }
 
 // Whether a man, no pawn, may take a step and go on to an end within a room.
-fn comes_back(side: &Side, man: &Walker, aim: &Counts, room: u8) -> bool
-    requires ground { IsGround side.now.ground }
+fn comes_back(side: &Side, man: &Runner, aims: &Aims, e: usize, room: u8) -> bool
+    requires side { (d : Placement) × IsSide d side.now }
     requires piece { man.now.kind ≢ Pawn }
-    ensures { IsTrue result ↔ ComesBack side.now man.now aim.now room }
+    requires end { IsEnd side.now e }
+    requires low { room < 200 }
+    requires aims { AreAims side.now man.now.is_quiet aims.now }
+    ensures { IsTrue result ↔ ComesBack side.now man.now e room }
 {
-    let mut left = side.ground.steps(man.kind, man.from);
-    let lands = side.ground.lands();
-    while let Some(next) = left.pop_first() {
-        let count = count_of(man.is_quiet, lands, next);
-        let at = usize::from(man.kind.number()) * 64 + usize::from(next.index());
-        if count + u16::from(aim[at]) <= u16::from(room) {
-            return true;
-        }
+    let steps = side.ground.steps(man.kind, man.square);
+    if takes_back(side, man, aims, e, room, steps) {
+        return true;
     }
-    false
+    if room == 0 {
+        return false;
+    }
+    comes_by(side, man, aims, e, room - 1, steps)
 }
 
 // Whether a man changes on his way to an end within a room: not where he stays.
-fn changes(side: &Side, man: &Walker, e: usize, aim: &Counts, room: u8) -> bool
-    requires ground { IsGround side.now.ground }
-    requires low { e < 17 }
-    ensures { IsTrue result ↔ ChangesBy side.now man.now e aim.now room }
+fn changes(side: &Side, man: &Walker, aims: &Aims, e: usize, room: u8) -> bool
+    requires side { (d : Placement) × IsSide d side.now }
+    requires end { IsEnd side.now e }
+    requires low { room < 200 }
+    requires aims { AreAims side.now man.now.runner.is_quiet aims.now }
+    ensures { IsTrue result ↔ ChangesBy side.now man.now e room }
 {
     if e == 16 {
         true
-    } else if side.goals.squares[e] != man.square || side.goals.kinds[e] != man.kind {
+    } else if side.goals.squares[e] != man.square || side.goals.kinds[e] != man.runner.kind {
         true
-    } else if man.kind == Kind::Pawn {
+    } else if man.runner.kind == Kind::Pawn {
         false
     } else {
-        comes_back(side, man, aim, room)
+        comes_back(side, &man.runner, aims, e, room)
     }
 }
 
 // Whether there is a room, and a man changes on his way to an end within it.
-fn is_end(side: &Side, man: &Walker, e: usize, aim: &Counts, room: u8) -> bool
-    requires ground { IsGround side.now.ground }
-    requires low { e < 17 }
-    ensures { IsTrue result ↔ ((room < 255) × ChangesBy side.now man.now e aim.now room) }
+fn is_end(side: &Side, man: &Walker, aims: &Aims, e: usize, room: u8) -> bool
+    requires side { (d : Placement) × IsSide d side.now }
+    requires end { room < 255 → (room < 200) × IsEnd side.now e }
+    requires aims { AreAims side.now man.now.runner.is_quiet aims.now }
+    ensures { IsTrue result ↔ ((room < 255) × ChangesBy side.now man.now e room) }
 {
-    room < 255 && changes(side, man, e, aim, room)
+    room < 255 && changes(side, man, aims, e, room)
 }
 
 // With the bit of an end, if it is one.
@@ -187,13 +194,15 @@ fn with_end(ends: u32, e: usize, is_end: bool) -> u32
 
 // The ends by which a man changes within his rooms.
 fn ends_of(side: &Side, man: &Walker, aims: &Aims, rooms: &[u8; 17]) -> u32
-    requires ground { IsGround side.now.ground }
+    requires side { (d : Placement) × IsSide d side.now }
+    requires ends { AreEnds side.now rooms.now }
+    requires aims { AreAims side.now man.now.runner.is_quiet aims.now }
     ensures { (e : ℕ) → e < 17 → (has result e ≡ true) ↔
-        ((get_or rooms.now e 0 < 255) × ChangesBy side.now man.now e (get_or aims.now e []) (get_or rooms.now e 0)) }
+        ((get_or rooms.now e 0 < 255) × ChangesBy side.now man.now e (get_or rooms.now e 0)) }
 {
     let mut ends = 0u32;
     for e in 0..17usize {
-        ends = with_end(ends, e, is_end(side, man, e, &aims[e], rooms[e]));
+        ends = with_end(ends, e, is_end(side, man, aims, e, rooms[e]));
     }
     ends
 }
@@ -222,20 +231,6 @@ fn widest(rooms: &[u8; 17]) -> u8
         most = wider(most, rooms[e]);
     }
     most
-}
-
-// A man of a side by his number, where a way counts him.
-fn man_of(side: &Side, is_quiet: bool, way: Option<Wing>, i: usize) -> Walker
-    requires { i < 16 }
-    ensures { result ≡ walker_of side.now is_quiet way i }
-{
-    let square = side.men.squares[i];
-    Walker {
-        kind: side.men.kinds[i],
-        square,
-        from: counted(side.ground.color, way, square),
-        is_quiet,
-    }
 }
 
 // Whether a man who changes by these ends may capture, or be captured within a room, on a square that was not found yet.
@@ -271,16 +266,16 @@ pub(crate) fn deeds_of(
     let mut lands = SquareSet::empty();
     let mut falls = SquareSet::empty();
     let mut ends = [0u32; 16];
+    let mut reach = Reach::none();
     let aims = measured.aims;
     for i in 0..side.men.count {
         let man = man_of(side, is_quiet, way, i);
         let own = ends_of(side, &man, aims, &rooms[i]);
         ends[i] = own;
         if may_find(side, own, rooms[i][16], lands, falls) {
-            let wide = widest(&rooms[i]);
-            let reach = reach_of(&side.ground, is_quiet, man.kind, man.from, wide);
-            lands = lands_of(&reach, aims, &rooms[i], lands);
-            falls = falls_of(side, man.square, &reach, rooms[i][16], falls);
+            reach_of(&side.ground, &man.runner, widest(&rooms[i]), &mut reach);
+            lands = lands_of(side, &man.runner, &reach, aims, &rooms[i], lands);
+            falls = falls_of(side, &man, &reach, rooms[i][16], falls);
         }
     }
     Deeds { lands, falls, ends }

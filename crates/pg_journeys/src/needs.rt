@@ -1,5 +1,5 @@
 //! What a colour without a way alive needs, and whom of the diagram its men cannot become.
-ghost use Rattle.std.specs.Prelude.{◌≡◌, ℕ, Bool, ◌<◌, ◌≤◌, ◌⊎◌, ◌↔◌, false, IfSome, IfNone, IsTrue, MatchOption};
+ghost use Rattle.std.specs.Prelude.{◌≡◌, ℕ, ◌<◌, ◌≤◌, ◌⊎◌, ◌↔◌, false, IfSome, IfNone, IsTrue, MatchOption};
 ghost use Rattle.pg_board.specs.declared.man.Kind.{Kind as AnyKind};
 ghost use Rattle.pg_board.specs.Placement.{Placement};
 ghost use Rattle.pg_position.specs.Position.{Stands};
@@ -10,17 +10,19 @@ ghost use Rattle.pg_journeys.specs.Known.{known};
 ghost use Rattle.pg_journeys.specs.Needs.{AsksForPlans, IsFirstDead, IsLeastNeed, IsReached};
 ghost use Rattle.pg_journeys.specs.Plans.{Moves, QuietMoves};
 ghost use Rattle.pg_journeys.specs.Rounds.{HasFew, HasDeadColor};
-ghost use Rattle.pg_journeys.specs.inner.Costing.{count_of};
 ghost use Rattle.pg_journeys.specs.inner.Needing.{AreFirstBy, IsReachedIn, IsReachedOf, IsUnreached, PayInSome, PayInWay, counted_with};
+ghost use Rattle.pg_journeys.specs.inner.Showing.{IsMeasured};
 ghost use Rattle.pg_journeys.specs.inner.Sides.{AreAims, IsSide};
 ghost use Rattle.pg_journeys.specs.inner.Walking.{HasFewer};
 
-use crate::distances::place;
 use crate::facts::Facts;
 use crate::ground::steps_table;
-use crate::plans::{Aims, Side, charge, costs_of, counted, fill_aims, is_way};
+use crate::plans::{
+    Aims, Side, aim_within, charge, costs_in, counted, fill_aims, first_costs, is_way,
+};
+use crate::rings::Rings;
 use crate::rounds::{first_facts, has_few, has_fewer, has_walls, next_facts};
-use crate::shown::{is_dead, side_of};
+use crate::shown::{Measured, is_dead, side_of};
 use pg_assignments::least_total;
 use pg_board::{Color, Square, SquareSet};
 use pg_captures::all_men;
@@ -83,15 +85,21 @@ fn total_with(total: Option<u16>, charge: u8) -> Option<u8>
 }
 
 // What the plans of a way count at least.
-fn least_in_way(side: &Side, aims: &Aims, way: Option<Wing>) -> Option<u8>
+fn least_in_way(
+    side: &Side,
+    is_quiet: bool,
+    measured: &Measured<'_>,
+    way: Option<Wing>,
+) -> Option<u8>
     requires side { (d : Placement) × IsSide d side.now }
-    ensures { (d : Placement) (quiet : Bool) → IsSide d side.now → AreAims side.now quiet 199 aims.now →
-        IsLeast (PayInWay d side.now quiet way) result }
+    requires measured { IsMeasured side.now is_quiet measured.now }
+    requires most { measured.now.most ≡ 199 }
+    ensures { (d : Placement) → IsSide d side.now → IsLeast (PayInWay d side.now is_quiet way) result }
 {
     if !is_way(&side.position, &side.ground.facts, side.ground.color, way) {
         return None;
     }
-    let costs = costs_of(side, aims, way);
+    let costs = costs_in(side, is_quiet, measured, way);
     total_with(least_total(&costs), charge(way))
 }
 
@@ -101,11 +109,22 @@ fn least_in_all(side: &Side, is_quiet: bool) -> Option<u8>
     requires side { (d : Placement) × IsSide d side.now }
     ensures { (d : Placement) → IsSide d side.now → IsLeast (PayInSome d side.now is_quiet) result }
 {
-    let mut aims = [[255u8; 384]; 17];
+    let mut aims = [Rings::none(); 17];
     fill_aims(side, is_quiet, LeastCounts::MOST, &mut aims);
-    let none = least_in_way(side, &aims, None);
-    let short = lesser(none, least_in_way(side, &aims, Some(Wing::KingSide)));
-    lesser(short, least_in_way(side, &aims, Some(Wing::QueenSide)))
+    let measured = Measured {
+        aims: &aims,
+        most: LeastCounts::MOST,
+        costs: first_costs(side, is_quiet, &aims, LeastCounts::MOST),
+    };
+    let none = least_in_way(side, is_quiet, &measured, None);
+    let short = lesser(
+        none,
+        least_in_way(side, is_quiet, &measured, Some(Wing::KingSide)),
+    );
+    lesser(
+        short,
+        least_in_way(side, is_quiet, &measured, Some(Wing::QueenSide)),
+    )
 }
 
 /// What a colour needs at least by each of the two measures, under facts. None where it has fewer men in the position
@@ -140,27 +159,20 @@ pub fn least_counts(
     })
 }
 
-// The count of the paths of the man i to the man e of the diagram, in a way; 255 for none.
-fn count_to(side: &Side, aims: &Aims, way: Option<Wing>, e: usize, i: usize) -> u8
-    requires end { e < 17 }
-    requires man { i < 16 }
-    ensures { result ≡ count_of side.now aims.now way e i }
-{
-    let square = counted(side.ground.color, way, side.men.squares[i]);
-    aims[e][place(side.men.kinds[i], square)]
-}
-
 // Whether in an open way some man comes to be the man e of the diagram.
 fn is_reached_in(side: &Side, aims: &Aims, way: Option<Wing>, e: usize) -> bool
     requires side { (d : Placement) × IsSide d side.now }
     requires goal { e < side.now.goals.count }
-    ensures { AreAims side.now false 199 aims.now → IsTrue result ↔ IsReachedIn side.now way e }
+    requires aims { AreAims side.now false aims.now }
+    ensures { IsTrue result ↔ IsReachedIn side.now way e }
 {
     if !is_way(&side.position, &side.ground.facts, side.ground.color, way) {
         return false;
     }
+    let within = aim_within(side, false, aims, e, LeastCounts::MOST);
     for i in 0..side.men.count {
-        if count_to(side, aims, way, e, i) < 255 {
+        let square = counted(side.ground.color, way, side.men.squares[i]);
+        if within[usize::from(side.men.kinds[i].number())].contains(square) {
             return true;
         }
     }
@@ -171,7 +183,8 @@ fn is_reached_in(side: &Side, aims: &Aims, way: Option<Wing>, e: usize) -> bool
 fn is_reached(side: &Side, aims: &Aims, e: usize) -> bool
     requires side { (d : Placement) × IsSide d side.now }
     requires goal { e < side.now.goals.count }
-    ensures { AreAims side.now false 199 aims.now → IsTrue result ↔ IsReachedOf side.now e }
+    requires aims { AreAims side.now false aims.now }
+    ensures { IsTrue result ↔ IsReachedOf side.now e }
 {
     if is_reached_in(side, aims, None, e) {
         return true;
@@ -185,7 +198,8 @@ fn is_reached(side: &Side, aims: &Aims, e: usize) -> bool
 // The square of a man of the diagram to whom nobody comes in any way.
 fn unreached_of(side: &Side, aims: &Aims) -> Option<Square>
     requires side { (d : Placement) × IsSide d side.now }
-    ensures { AreAims side.now false 199 aims.now → IsUnreached side.now result }
+    requires aims { AreAims side.now false aims.now }
+    ensures { IsUnreached side.now result }
 {
     for e in 0..side.goals.count {
         if !is_reached(side, aims, e) {
@@ -220,7 +234,7 @@ pub fn unreached(
     }
     let table = steps_table(facts.still);
     let side = side_of(diagram, position, facts, color, SquareSet::empty(), &table);
-    let mut aims = [[255u8; 384]; 17];
+    let mut aims = [Rings::none(); 17];
     fill_aims(&side, false, LeastCounts::MOST, &mut aims);
     unreached_of(&side, &aims)
 }

@@ -1,6 +1,7 @@
 //! Plans of a colour: what the fates of its men count, and which ways its plies pay for.
-ghost use Rattle.std.specs.Prelude.{◌≡◌, ℕ, Bool, Some, false, ◌+◌, ◌<◌, ◌≤◌, ◌↔◌, ◌⊎◌, IsTrue, IfSome, IfNone, true, get_or, []};
+ghost use Rattle.std.specs.Prelude.{◌≡◌, ℕ, Bool, Some, None, false, ◌+◌, ◌<◌, ◌≤◌, ◌↔◌, IsTrue, IfSome, IfNone, true, get_or};
 ghost use Rattle.pg_board.specs.Bits.{has};
+ghost use Rattle.pg_board.specs.declared.man.Kind.{Kind as KindOfMan};
 ghost use Rattle.pg_board.specs.Men.{other};
 ghost use Rattle.pg_board.specs.SquareSets.{IsSetOf};
 ghost use Rattle.pg_board.specs.Placement.{Placement};
@@ -8,14 +9,19 @@ ghost use Rattle.pg_captures.specs.Owed.{plies_left, victims};
 ghost use Rattle.pg_travel.specs.Origins.{charge as charge_of, counted as counted_on};
 ghost use Rattle.pg_journeys.specs.Journeys.{HasPassed, IsWayUnder};
 ghost use Rattle.pg_journeys.specs.Known.{known, landing};
-ghost use Rattle.pg_journeys.specs.inner.Costing.{IsOnSpan, AreNone, IsAim, IsLastAim, IsFall, IsCostRow, AreCostsOf, HasTotalTo};
-ghost use Rattle.pg_journeys.specs.inner.Sides.{IsSide, AreAims, AreAimsPast, JourneysOf, IsPaidBy};
+ghost use Rattle.pg_journeys.specs.inner.Levels.{BackWithin};
+ghost use Rattle.pg_journeys.specs.inner.Rings.{AreRings, AreWithin};
+ghost use Rattle.pg_journeys.specs.inner.Costing.{IsOnSpan, IsCountTo, IsFall, IsCostRow, AreCostRows, AreCostsOf, HasTotalTo, walker_of};
+ghost use Rattle.pg_journeys.specs.inner.Showing.{IsMeasured};
+ghost use Rattle.pg_journeys.specs.inner.Sides.{facts_of, IsSide, IsEnd, EndWithin, AreAims, JourneysOf, IsPaidBy};
 
-use crate::distances::{Counts, counts_to, only, place};
+use crate::distances::only;
 use crate::facts::Facts;
 use crate::ground::Ground;
 use crate::men::Men;
+use crate::rings::{Rings, Runner, back_within, rings_to};
 use crate::scene::Scene;
+use crate::shown::Measured;
 use pg_assignments::{Costs, least_total};
 use pg_board::{Color, Kind, Square, SquareSet};
 use pg_captures::{plies_left, victims_of};
@@ -31,51 +37,105 @@ pub(crate) struct Side {
     pub(crate) goals: Men,
 }
 
-// By each measure the least counts of paths to each man of the diagram, and last to where a man may be captured.
-pub(crate) type Aims = [Counts; 17];
+// For each man of the diagram, and last for where a man may be captured, the rings of the paths to it.
+pub(crate) type Aims = [Rings; 17];
 
-// Writes the counts to a man of the diagram, up to so many.
-fn aim(side: &Side, is_quiet: bool, most: u8, j: usize, counts: &mut Counts)
-    requires side { (d : Placement) × IsSide d side.now }
-    requires low { most < 200 }
-    requires goal { j < side.now.goals.count }
-    requires none { AreNone counts.old }
-    ensures { IsAim side.now is_quiet most j counts.new }
-{
-    let square = side.goals.squares[j];
-    let goal = only(side.goals.kinds[j], SquareSet::single(square));
-    counts_to(&side.ground, is_quiet, goal, most, counts);
+// A man of a side: where he stands, and as whom a way counts him by a measure.
+#[derive(Clone, Copy)]
+pub(crate) struct Walker {
+    pub(crate) square: Square,
+    pub(crate) runner: Runner,
 }
 
-// Writes the counts to where men may be captured, if there are more men than goals.
-fn last_aim(side: &Side, is_quiet: bool, most: u8, counts: &mut Counts)
+// The men whom the paths to an end lead to be.
+fn end_goals(side: &Side, e: usize) -> [SquareSet; 6]
     requires side { (d : Placement) × IsSide d side.now }
-    requires low { most < 200 }
-    requires none { AreNone counts.old }
-    ensures { IsLastAim side.now is_quiet most counts.new }
+    requires end { IsEnd side.now e }
+    ensures { (quiet : Bool) (n : ℕ) (k : KindOfMan) (s : ℕ) →
+        BackWithin (facts_of side.now) side.now.ground.color quiet result n k s ↔ EndWithin side.now quiet e n k s }
 {
-    if side.goals.count < side.men.count {
-        counts_to(
-            &side.ground,
-            is_quiet,
-            [side.ground.theirs(); 6],
-            most,
-            counts,
-        );
+    if e < side.goals.count {
+        only(
+            side.goals.kinds[e],
+            SquareSet::single(side.goals.squares[e]),
+        )
+    } else {
+        [side.ground.theirs(); 6]
     }
 }
 
-// Writes the counts to each end, up to so many, where no number is one yet.
+// Writes the rings of the paths to an end, as far as `most`.
+fn aim(side: &Side, is_quiet: bool, most: u8, e: usize, rings: &mut Rings)
+    requires side { (d : Placement) × IsSide d side.now }
+    requires low { most < 200 }
+    requires end { IsEnd side.now e }
+    ensures { AreRings (EndWithin side.now is_quiet e) rings.new }
+{
+    rings_to(&side.ground, is_quiet, end_goals(side, e), most, rings);
+}
+
+// Writes the rings of the paths to each end, as far as `most`.
 pub(crate) fn fill_aims(side: &Side, is_quiet: bool, most: u8, aims: &mut Aims)
     requires side { (d : Placement) × IsSide d side.now }
     requires low { most < 200 }
-    requires none { (e : ℕ) → e < 17 → AreNone (get_or aims.old e []) }
-    ensures { AreAims side.now is_quiet most aims.new }
+    ensures { AreAims side.now is_quiet aims.new }
 {
-    for j in 0..side.goals.count {
-        aim(side, is_quiet, most, j, &mut aims[j]);
+    for e in 0..side.goals.count {
+        aim(side, is_quiet, most, e, &mut aims[e]);
     }
-    last_aim(side, is_quiet, most, &mut aims[16]);
+    if side.goals.count < side.men.count {
+        aim(side, is_quiet, most, 16, &mut aims[16]);
+    }
+}
+
+// The men whom a path of at most so many counts leads to an end.
+#[inline(always)]
+pub(crate) fn aim_within(
+    side: &Side,
+    is_quiet: bool,
+    aims: &Aims,
+    e: usize,
+    n: u8,
+) -> [SquareSet; 6]
+    requires side { (d : Placement) × IsSide d side.now }
+    requires end { IsEnd side.now e }
+    requires low { n < 200 }
+    requires aims { AreAims side.now is_quiet aims.now }
+    ensures { AreWithin (EndWithin side.now is_quiet e) n result }
+{
+    let goals = end_goals(side, e);
+    back_within(&side.ground, is_quiet, &goals, &aims[e], n)
+}
+
+// Whether a path of at most so many counts leads a man to an end.
+fn comes_within(side: &Side, aims: &Aims, e: usize, man: &Runner, n: u8) -> bool
+    requires side { (d : Placement) × IsSide d side.now }
+    requires end { IsEnd side.now e }
+    requires low { n < 200 }
+    requires aims { AreAims side.now man.now.is_quiet aims.now }
+    ensures { IsTrue result ↔ EndWithin side.now man.now.is_quiet e n man.now.kind man.now.square }
+{
+    let within = aim_within(side, man.is_quiet, aims, e, n);
+    within[usize::from(man.kind.number())].contains(man.square)
+}
+
+// What a path of a man to an end counts at least, if that is at most `most`; 255 for none.
+fn count_to(side: &Side, aims: &Aims, most: u8, e: usize, man: &Runner) -> u8
+    requires side { (d : Placement) × IsSide d side.now }
+    requires end { IsEnd side.now e }
+    requires low { most < 200 }
+    requires aims { AreAims side.now man.now.is_quiet aims.now }
+    ensures { IsCountTo side.now most e man.now result }
+{
+    if !comes_within(side, aims, e, man, most) {
+        return 255;
+    }
+    for n in 0..most {
+        if comes_within(side, aims, e, man, n) {
+            return n;
+        }
+    }
+    most
 }
 
 // Where a way counts the man on a square.
@@ -130,56 +190,125 @@ pub(crate) fn passed_square(side: &Side, square: Square) -> Option<Square>
     }
 }
 
-// What it counts at least that a man is captured; 255 for none. A king never is, and who has just passed a square takes no
-// step.
-fn fall(side: &Side, aims: &Aims, way: Option<Wing>, i: usize) -> u8
+// A man of a side by his number, as a way counts him.
+pub(crate) fn man_of(side: &Side, is_quiet: bool, way: Option<Wing>, i: usize) -> Walker
     requires { i < 16 }
-    ensures { IsFall side.now aims.now way i result }
+    ensures { result ≡ walker_of side.now is_quiet way i }
 {
-    let kind = side.men.kinds[i];
     let square = side.men.squares[i];
-    if kind == Kind::King {
-        return 255;
-    }
-    match passed_square(side, square) {
-        Some(_) => 0,
-        None => aims[16][place(kind, counted(side.ground.color, way, square))],
+    Walker {
+        square,
+        runner: Runner {
+            is_quiet,
+            kind: side.men.kinds[i],
+            square: counted(side.ground.color, way, square),
+        },
     }
 }
 
-// What each fate of a man counts at least: to become each man of the diagram, and then to be captured. Two loops, since a
-// test of each column costs as much as all else.
-fn row(side: &Side, aims: &Aims, way: Option<Wing>, i: usize) -> [u8; 16]
-    requires man { i < 16 }
-    requires few { side.now.men.count ≤ 16 }
-    requires room { side.now.goals.count ≤ side.now.men.count }
-    ensures { IsCostRow side.now aims.now way i result side.now.men.count }
+// What it counts at least that a man is captured; 255 for none. A king never is, and who has just passed a square takes no
+// step.
+fn fall(side: &Side, aims: &Aims, most: u8, man: &Walker) -> u8
+    requires side { (d : Placement) × IsSide d side.now }
+    requires more { side.now.goals.count < side.now.men.count }
+    requires low { most < 200 }
+    requires aims { AreAims side.now man.now.runner.is_quiet aims.now }
+    ensures { IsFall side.now most man.now result }
 {
-    let at = place(
-        side.men.kinds[i],
-        counted(side.ground.color, way, side.men.squares[i]),
-    );
-    let fall = fall(side, aims, way, i);
+    if man.runner.kind == Kind::King {
+        return 255;
+    }
+    match passed_square(side, man.square) {
+        Some(_) => 0,
+        None => count_to(side, aims, most, 16, &man.runner),
+    }
+}
+
+// A row with this number for each column past the men of the diagram.
+fn with_falls(side: &Side, row: [u8; 16], fall: u8) -> [u8; 16]
+    requires few { side.now.men.count ≤ 16 }
+    ensures kept { (j : ℕ) → j < side.now.goals.count → get_or result j 0 ≡ get_or row j 0 }
+    ensures falls { (j : ℕ) → side.now.goals.count ≤ j → j < side.now.men.count → get_or result j 0 ≡ fall }
+{
+    let mut all = row;
+    for k in side.goals.count..side.men.count {
+        all[k] = fall;
+    }
+    all
+}
+
+// What each fate of a man counts at least: to become each man of the diagram, and then to be captured.
+fn row(side: &Side, aims: &Aims, most: u8, man: &Walker) -> [u8; 16]
+    requires side { (d : Placement) × IsSide d side.now }
+    requires low { most < 200 }
+    requires aims { AreAims side.now man.now.runner.is_quiet aims.now }
+    ensures { IsCostRow side.now most man.now result side.now.men.count }
+{
     let mut row = [255u8; 16];
     for j in 0..side.goals.count {
-        row[j] = aims[j][at];
+        row[j] = count_to(side, aims, most, j, &man.runner);
     }
-    for k in side.goals.count..side.men.count {
-        row[k] = fall;
+    if side.goals.count < side.men.count {
+        let fall = fall(side, aims, most, man);
+        return with_falls(side, row, fall);
     }
     row
 }
 
-// What the fates of all men count.
-pub(crate) fn costs_of(side: &Side, aims: &Aims, way: Option<Wing>) -> Costs
+// What the fates of all men count where none castles.
+pub(crate) fn first_costs(side: &Side, is_quiet: bool, aims: &Aims, most: u8) -> Costs
     requires side { (d : Placement) × IsSide d side.now }
+    requires low { most < 200 }
+    requires aims { AreAims side.now is_quiet aims.now }
     ensures size { result.size ≡ side.now.men.count }
-    ensures costs { (d : Placement) (quiet : Bool) (most : ℕ) → IsSide d side.now → AreAims side.now quiet most aims.now
-        → most < 200 → AreCostsOf d side.now quiet way most result }
+    ensures rows { AreCostRows side.now is_quiet None most result.rows side.now.men.count }
 {
     let mut rows = [[255u8; 16]; 16];
     for i in 0..side.men.count {
-        rows[i] = row(side, aims, way, i);
+        let man = man_of(side, is_quiet, None, i);
+        rows[i] = row(side, aims, most, &man);
+    }
+    Costs {
+        size: side.men.count,
+        rows,
+    }
+}
+
+// What the fates of a man count in a way: as where none castles, if he does not.
+fn row_in(
+    side: &Side,
+    is_quiet: bool,
+    measured: &Measured<'_>,
+    way: Option<Wing>,
+    i: usize,
+) -> [u8; 16]
+    requires side { (d : Placement) × IsSide d side.now }
+    requires measured { IsMeasured side.now is_quiet measured.now }
+    requires man { i < side.now.men.count }
+    ensures { IsCostRow side.now measured.now.most (walker_of side.now is_quiet way i) result side.now.men.count }
+{
+    let man = man_of(side, is_quiet, way, i);
+    if man.runner.square == man.square {
+        return measured.costs.rows[i];
+    }
+    row(side, measured.aims, measured.most, &man)
+}
+
+// What the fates of all men count in a way.
+pub(crate) fn costs_in(
+    side: &Side,
+    is_quiet: bool,
+    measured: &Measured<'_>,
+    way: Option<Wing>,
+) -> Costs
+    requires side { (d : Placement) × IsSide d side.now }
+    requires measured { IsMeasured side.now is_quiet measured.now }
+    ensures size { result.size ≡ side.now.men.count }
+    ensures costs { (d : Placement) → IsSide d side.now → AreCostsOf d side.now is_quiet way measured.now.most result }
+{
+    let mut rows = [[255u8; 16]; 16];
+    for i in 0..side.men.count {
+        rows[i] = row_in(side, is_quiet, measured, way, i);
     }
     Costs {
         size: side.men.count,
@@ -245,17 +374,25 @@ fn pays(costs: &Costs, most: u8) -> bool
     }
 }
 
-// Whether so many counts pay for a plan by this way.
-pub(crate) fn is_paid(side: &Side, aims: &Aims, way: Option<Wing>, most: u8) -> bool
+// Whether what is measured pays for a plan by this way.
+pub(crate) fn is_paid(
+    side: &Side,
+    is_quiet: bool,
+    measured: &Measured<'_>,
+    way: Option<Wing>,
+) -> bool
     requires side { (d : Placement) × IsSide d side.now }
-    requires low { most < 200 }
-    ensures { (d : Placement) (quiet : Bool) → IsSide d side.now → AreAimsPast side.now quiet most aims.now →
-        IsTrue result ↔ ((g : JourneysOf d side.now way) × IsPaidBy d side.now quiet way most g) }
+    requires measured { IsMeasured side.now is_quiet measured.now }
+    ensures { (d : Placement) → IsSide d side.now →
+        IsTrue result ↔ ((g : JourneysOf d side.now way) × IsPaidBy d side.now is_quiet way measured.now.most g) }
 {
     let charge = charge(way);
-    if charge > most {
+    if charge > measured.most {
         false
     } else {
-        pays(&costs_of(side, aims, way), most - charge)
+        pays(
+            &costs_in(side, is_quiet, measured, way),
+            measured.most - charge,
+        )
     }
 }

@@ -3,9 +3,11 @@ ghost use Rattle.std.specs.Prelude.{◌≡◌, ℕ, Bool, ◌<◌, ◌≤◌, If
 ghost use Rattle.pg_board.specs.Placement.{Placement};
 ghost use Rattle.pg_assignments.specs.Assignments.{AreLeastWith};
 ghost use Rattle.pg_journeys.specs.inner.Costing.{IsRoom, IsWider, EndsAt, IsRoomRow, AreRoomRows};
-ghost use Rattle.pg_journeys.specs.inner.Sides.{IsSide, AreAimsPast, AreRooms, JourneysOf, IsPaidBy};
+ghost use Rattle.pg_journeys.specs.inner.Sides.{IsSide, AreRooms, JourneysOf, IsPaidBy};
+ghost use Rattle.pg_journeys.specs.inner.Showing.{IsMeasured, IsSameBy};
 
-use crate::plans::{Aims, Side, charge, costs_of};
+use crate::plans::{Side, charge, costs_in};
+use crate::shown::Measured;
 use pg_assignments::{Costs, least_totals};
 use pg_position::Wing;
 
@@ -85,24 +87,28 @@ fn rows(costs: &Costs, goals: usize, least: &[[u16; 16]; 16], paid: u16) -> Room
     rooms
 }
 
-// The rooms of all men by a way, where so many counts pay for all paths and the way; none where they pay for no plan. One
+// The rooms of all men by a way, where what is measured pays for all paths and the way; none where it pays for no plan. One
 // assignment tells both.
-pub(crate) fn rooms_of(side: &Side, aims: &Aims, way: Option<Wing>, most: u8) -> Option<Rooms>
+pub(crate) fn rooms_of(
+    side: &Side,
+    is_quiet: bool,
+    measured: &Measured<'_>,
+    way: Option<Wing>,
+) -> Option<Rooms>
     requires side { (d : Placement) × IsSide d side.now }
-    requires low { most < 200 }
-    ensures none { IfNone result ((d : Placement) (quiet : Bool) → IsSide d side.now →
-        AreAimsPast side.now quiet most aims.now →
-        (g : JourneysOf d side.now way) → IsPaidBy d side.now quiet way most g → ⊥) }
+    requires measured { IsMeasured side.now is_quiet measured.now }
+    ensures none { IfNone result ((d : Placement) → IsSide d side.now →
+        (g : JourneysOf d side.now way) → IsPaidBy d side.now is_quiet way measured.now.most g → ⊥) }
     ensures some { IfSome result (λ rooms. (d : Placement) (quiet : Bool) → IsSide d side.now →
-        AreAimsPast side.now quiet most aims.now → AreRooms d side.now quiet way most rooms
-        × ((g : JourneysOf d side.now way) × IsPaidBy d side.now quiet way most g)) }
+        IsSameBy side.now is_quiet quiet → AreRooms d side.now quiet way measured.now.most rooms
+        × ((g : JourneysOf d side.now way) × IsPaidBy d side.now quiet way measured.now.most g)) }
 {
     let charge = charge(way);
-    if charge > most {
+    if charge > measured.most {
         return None;
     }
-    let paid = u16::from(most - charge);
-    let costs = costs_of(side, aims, way);
+    let paid = u16::from(measured.most - charge);
+    let costs = costs_in(side, is_quiet, measured, way);
     match least_totals(&costs, paid) {
         None => None,
         Some(totals) => Some(rows(&costs, side.goals.count, &totals.pairs, paid)),

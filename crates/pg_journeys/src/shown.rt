@@ -20,9 +20,11 @@ use crate::facts::Facts;
 use crate::ground::{ground_of, steps_table};
 use crate::men::{Men, men_without};
 use crate::narrowing::{Deeds, deeds_of};
-use crate::plans::{Aims, Side, budget, counted, fill_aims, is_paid, is_way};
+use crate::plans::{Aims, Side, budget, counted, fill_aims, first_costs, is_paid, is_way};
+use crate::rings::Rings;
 use crate::rooms::rooms_of;
 use crate::scene::Scene;
+use pg_assignments::Costs;
 use pg_board::{Color, SquareSet};
 use pg_fen::Diagram;
 use pg_position::{Position, Wing, ahead};
@@ -37,11 +39,12 @@ pub(crate) struct Shown {
     pub(crate) quiet_falls: SquareSet,
 }
 
-// The counts of paths by a measure, and what they may count.
+// The paths to ends by a measure, what they may count, and what fates cost where none castles.
 #[derive(Clone, Copy)]
 pub(crate) struct Measured<'a> {
     pub(crate) aims: &'a Aims,
     pub(crate) most: u8,
+    pub(crate) costs: Costs,
 }
 
 // Whether a man may change: he starts elsewhere, or by both measures he changes by some one end.
@@ -87,10 +90,10 @@ fn is_alive(side: &Side, moves: &Measured<'_>, quiet: &Measured<'_>, way: Option
     if !is_way(&side.position, &side.ground.facts, side.ground.color, way) {
         return false;
     }
-    if !is_paid(side, moves.aims, way, moves.most) {
+    if !is_paid(side, false, moves, way) {
         return false;
     }
-    is_paid(side, quiet.aims, way, quiet.most)
+    is_paid(side, true, quiet, way)
 }
 
 // Whether both measures are one: they may count as much, and since no capture may land each step is a quiet move.
@@ -121,7 +124,7 @@ fn way_shown(
     if !is_way(&side.position, &side.ground.facts, side.ground.color, way) {
         return None;
     }
-    let Some(rooms) = rooms_of(side, moves.aims, way, moves.most) else {
+    let Some(rooms) = rooms_of(side, false, moves, way) else {
         return None;
     };
     if is_one_measure(side, moves.most, quiet.most) {
@@ -134,7 +137,7 @@ fn way_shown(
             quiet_falls: both.falls,
         });
     }
-    let Some(quiet_rooms) = rooms_of(side, quiet.aims, way, quiet.most) else {
+    let Some(quiet_rooms) = rooms_of(side, true, quiet, way) else {
         return None;
     };
     let all = deeds_of(side, false, moves, way, &rooms);
@@ -258,9 +261,13 @@ fn shown_by_one(side: &Side, most: u8) -> Option<Shown>
         MatchOption result (IsDead (facts_of side.now) d side.now.position k side.now.ground.color)
         (λ a. Shows (facts_of side.now) d side.now.position k side.now.ground.color a) }
 {
-    let mut aims = [[255u8; 384]; 17];
+    let mut aims = [Rings::none(); 17];
     fill_aims(side, false, most, &mut aims);
-    let moves = Measured { aims: &aims, most };
+    let moves = Measured {
+        aims: &aims,
+        most,
+        costs: first_costs(side, false, &aims, most),
+    };
     ways_shown(side, &moves, &moves)
 }
 
@@ -274,11 +281,12 @@ fn shown_with_quiet(side: &Side, moves: &Measured<'_>, fewest: u8) -> Option<Sho
         MatchOption result (IsDead (facts_of side.now) d side.now.position k side.now.ground.color)
         (λ a. Shows (facts_of side.now) d side.now.position k side.now.ground.color a) }
 {
-    let mut aims = [[255u8; 384]; 17];
+    let mut aims = [Rings::none(); 17];
     fill_aims(side, true, fewest, &mut aims);
     let quiet = Measured {
         aims: &aims,
         most: fewest,
+        costs: first_costs(side, true, &aims, fewest),
     };
     ways_shown(side, moves, &quiet)
 }
@@ -293,9 +301,13 @@ fn shown_by_two(side: &Side, most: u8, fewest: u8) -> Option<Shown>
         MatchOption result (IsDead (facts_of side.now) d side.now.position k side.now.ground.color)
         (λ a. Shows (facts_of side.now) d side.now.position k side.now.ground.color a) }
 {
-    let mut aims = [[255u8; 384]; 17];
+    let mut aims = [Rings::none(); 17];
     fill_aims(side, false, most, &mut aims);
-    let moves = Measured { aims: &aims, most };
+    let moves = Measured {
+        aims: &aims,
+        most,
+        costs: first_costs(side, false, &aims, most),
+    };
     shown_with_quiet(side, &moves, fewest)
 }
 
@@ -386,14 +398,19 @@ pub(crate) fn is_dead(
     let table = steps_table(facts.still);
     let resting = resting_men(diagram, position, facts);
     let side = side_of(diagram, position, facts, color, resting, &table);
-    let mut aims = [[255u8; 384]; 17];
+    let mut aims = [Rings::none(); 17];
     fill_aims(&side, false, most, &mut aims);
-    let moves = Measured { aims: &aims, most };
-    let mut quiet_aims = [[255u8; 384]; 17];
+    let moves = Measured {
+        aims: &aims,
+        most,
+        costs: first_costs(&side, false, &aims, most),
+    };
+    let mut quiet_aims = [Rings::none(); 17];
     fill_aims(&side, true, fewest, &mut quiet_aims);
     let quiet = Measured {
         aims: &quiet_aims,
         most: fewest,
+        costs: first_costs(&side, true, &quiet_aims, fewest),
     };
     !some_alive(&side, &moves, &quiet)
 }

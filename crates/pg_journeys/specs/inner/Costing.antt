@@ -2,7 +2,6 @@
 use Rattle.std.specs.Prelude.{◌≡◌, ◌≢◌, ℕ, ◌+◌, ◌<◌, ◌≤◌, ◌⊎◌, Bool, true, Option, List, [], get_or}
 use Rattle.pg_board.specs.Bits.{has}
 use Rattle.pg_board.specs.declared.man.Color.{Color}
-use Rattle.pg_board.specs.declared.man.Kind.{Kind}
 use Rattle.pg_board.specs.declared.man.Kind.TheVariants.{King}
 use Rattle.pg_board.specs.Men.{other}
 use Rattle.pg_board.specs.Placement.{Placement}
@@ -12,76 +11,59 @@ use Rattle.pg_position.specs.Squares.{king_home, rook_home}
 use Rattle.pg_travel.specs.Origins.{counted}
 use Rattle.pg_assignments.specs.declared.costs.Costs.{Costs}
 use Rattle.pg_assignments.specs.Assignments.{cost, at2, IsAssignment, Below, sum_of}
-use Rattle.pg_journeys.specs.Journeys.{Leg, IsPath, HasPassed}
+use Rattle.pg_journeys.specs.Journeys.{HasPassed}
 use Rattle.pg_journeys.specs.PlanCosts.{AreCosts}
 use Rattle.pg_journeys.specs.Known.{landing}
-use Rattle.pg_journeys.specs.lemmas.DecidingPaths.{weigh}
-use Rattle.pg_journeys.specs.inner.Counting.{counts, count_at}
-pub use Rattle.pg_journeys.specs.inner.Counts.{AreNone}
-use Rattle.pg_journeys.specs.inner.Sides.{square_at, kind_at, facts_of}
+use Rattle.pg_journeys.specs.inner.Counting.{counts}
+use Rattle.pg_journeys.specs.inner.Sides.{square_at, kind_at, facts_of, EndWithin}
 use Rattle.pg_journeys.specs.declared.plans.Side.{Side}
+use Rattle.pg_journeys.specs.declared.plans.Walker.{Walker}
+use Rattle.pg_journeys.specs.declared.rings.Runner.{Runner}
 
 -- the squares of king and rook before they castle, and all between
 abbrev pub IsOnSpan : Color → Wing → ℕ → Type 0
 IsOnSpan c w q = (q ≡ king_home c) ⊎ ((q ≡ rook_home c w) ⊎ IsBetween (king_home c) q (rook_home c w))
 
 -- ---- counts to the ends
--- the numbers are the least counts of paths to the man e of the diagram
-pub record IsAim (x : Side) (quiet : Bool) (most e : ℕ) (xs : List ℕ) : Type 0 where
-  pub small : (k : Kind) (s : ℕ) → s < 64 → count_at xs k s < 255 → count_at xs k s ≤ most
-  pub comes : (k : Kind) (s : ℕ) → s < 64 → count_at xs k s < 255 →
-      (ls : List Leg) × IsPath (facts_of x) x.ground.color k s ls (kind_at x.goals e) (square_at x.goals e)
-      × (weigh (counts (facts_of x) x.ground.color quiet) ls ≤ count_at xs k s)
-  pub least : (k : Kind) (s : ℕ) (ls : List Leg) → s < 64 → IsPath (facts_of x) x.ground.color k s ls (kind_at x.goals e) (square_at x.goals e) →
-      weigh (counts (facts_of x) x.ground.color quiet) ls ≤ most → count_at xs k s ≤ weigh (counts (facts_of x) x.ground.color quiet) ls
+-- n is the least number, at most `most`, that has W; 255 where none has
+abbrev pub IsCount : (ℕ → Type 0) → ℕ → ℕ → Type 0
+IsCount W most n = ((n ≤ most) × W n × ((m : ℕ) → m < n → W m → ⊥)) ⊎ ((n ≡ 255) × (W most → ⊥))
 
--- they are the least counts of paths to where men may be captured, if men are to be
-pub record IsLastAim (x : Side) (quiet : Bool) (most : ℕ) (xs : List ℕ) : Type 0 where
-  pub small : (k : Kind) (s : ℕ) → s < 64 → count_at xs k s < 255 → count_at xs k s ≤ most
-  pub falls : (k : Kind) (s : ℕ) → s < 64 → count_at xs k s < 255 →
-      (j : Kind) × (t : ℕ) × (ls : List Leg) × (t < 64) × ((facts_of x).lands (other x.ground.color) t ≡ true)
-      × IsPath (facts_of x) x.ground.color k s ls j t × (weigh (counts (facts_of x) x.ground.color quiet) ls ≤ count_at xs k s)
-  pub least : (k : Kind) (s : ℕ) (j : Kind) (t : ℕ) (ls : List Leg) → s < 64 → t < 64 → x.goals.count < x.men.count →
-      (facts_of x).lands (other x.ground.color) t ≡ true → IsPath (facts_of x) x.ground.color k s ls j t →
-      weigh (counts (facts_of x) x.ground.color quiet) ls ≤ most → count_at xs k s ≤ weigh (counts (facts_of x) x.ground.color quiet) ls
+-- n is what a path of the man to an end counts at least
+abbrev pub IsCountTo : Side → ℕ → ℕ → Runner → ℕ → Type 0
+IsCountTo x most e m n = IsCount (λ a. EndWithin x m.is_quiet e a m.kind m.square) most n
 
--- the first n aims are made, and the others are none
-pub record AreAimsTo (x : Side) (quiet : Bool) (most : ℕ) (aims : List (List ℕ)) (n : ℕ) : Type 0 where
-  pub made : (e : ℕ) → e < n → IsAim x quiet most e (get_or aims e [])
-  pub none : (e : ℕ) → n ≤ e → e < 17 → AreNone (get_or aims e [])
+-- the man i of a side, and as whom a way counts him
+abbrev pub runner_of : Side → Bool → Option Wing → ℕ → Runner
+runner_of x quiet way i = record { is_quiet = quiet; kind = kind_at x.men i; square = counted x.ground.color way (square_at x.men i) }
+
+abbrev pub walker_of : Side → Bool → Option Wing → ℕ → Walker
+walker_of x quiet way i = record { square = square_at x.men i; runner = runner_of x quiet way i }
 
 -- ---- costs
--- the number for the man i at an end, counted in a way
-abbrev pub count_of : Side → List (List ℕ) → Option Wing → ℕ → ℕ → ℕ
-count_of x aims way e i = count_at (get_or aims e []) (kind_at x.men i) (counted x.ground.color way (square_at x.men i))
-
--- the man i has just passed the square u
-abbrev pub HasJustPassed : Side → ℕ → ℕ → Type 0
-HasJustPassed x i u = HasPassed x.position x.ground.color (square_at x.men i) u
-
 -- captures of the other colour may land there
 abbrev pub AreTheirs : Side → ℕ → Type 0
 AreTheirs x u = has (landing x.ground.facts (other x.ground.color)) u ≡ true
 
--- n is what it costs that the man i is captured: a king is never, and who has just passed a square takes no step
-pub record IsFall (x : Side) (aims : List (List ℕ)) (way : Option Wing) (i n : ℕ) : Type 0 where
-  pub king : kind_at x.men i ≡ King → n ≡ 255
-  pub other : kind_at x.men i ≢ King →
-      (((u : ℕ) × HasJustPassed x i u × (u < 64) × AreTheirs x u) × (n ≡ 0))
-      ⊎ (((u : ℕ) → HasJustPassed x i u → AreTheirs x u → ⊥) × (n ≡ count_of x aims way 16 i))
+-- n is what it costs that the man is captured: a king is never, and who has just passed a square takes no step
+pub record IsFall (x : Side) (most : ℕ) (m : Walker) (n : ℕ) : Type 0 where
+  pub king : m.runner.kind ≡ King → n ≡ 255
+  pub other : m.runner.kind ≢ King →
+      (((u : ℕ) × HasPassed x.position x.ground.color m.square u × (u < 64) × AreTheirs x u) × (n ≡ 0))
+      ⊎ (((u : ℕ) → HasPassed x.position x.ground.color m.square u → AreTheirs x u → ⊥) × IsCountTo x most 16 m.runner n)
 
--- n is what column j costs the man i: the first are the men of the diagram, the others are to be captured
-pub record IsColumnCost (x : Side) (aims : List (List ℕ)) (way : Option Wing) (i j n : ℕ) : Type 0 where
-  pub comes : j < x.goals.count → n ≡ count_of x aims way j i
-  pub falls : x.goals.count ≤ j → IsFall x aims way i n
+-- n is what column j costs the man: the first are the men of the diagram, the others are to be captured
+pub record IsColumnCost (x : Side) (most : ℕ) (m : Walker) (j n : ℕ) : Type 0 where
+  pub comes : j < x.goals.count → IsCountTo x most j m.runner n
+  pub falls : x.goals.count ≤ j → IsFall x most m n
 
--- the first n columns of the man i
-abbrev pub IsCostRow : Side → List (List ℕ) → Option Wing → ℕ → List ℕ → ℕ → Type 0
-IsCostRow x aims way i row n = (j : ℕ) → j < n → IsColumnCost x aims way i j (get_or row j 0)
+-- the first n columns of the man
+abbrev pub IsCostRow : Side → ℕ → Walker → List ℕ → ℕ → Type 0
+IsCostRow x most m row n = (j : ℕ) → j < n → IsColumnCost x most m j (get_or row j 0)
 
 -- the rows of the first n men
-abbrev pub AreCostRows : Side → List (List ℕ) → Option Wing → List (List ℕ) → ℕ → Type 0
-AreCostRows x aims way rows n = (i : ℕ) → i < n → IsCostRow x aims way i (get_or rows i []) x.men.count
+abbrev pub AreCostRows : Side → Bool → Option Wing → ℕ → List (List ℕ) → ℕ → Type 0
+AreCostRows x quiet way most rows n = (i : ℕ) → i < n → IsCostRow x most (walker_of x quiet way i) (get_or rows i []) x.men.count
 
 -- the costs are those of the fates of the men in a way
 abbrev pub AreCostsOf : Placement → Side → Bool → Option Wing → ℕ → Costs → Type 0

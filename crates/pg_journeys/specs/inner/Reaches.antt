@@ -4,19 +4,10 @@ use Rattle.pg_board.specs.Bits.{has}
 use Rattle.pg_board.specs.declared.man.Color.{Color}
 use Rattle.pg_board.specs.declared.man.Kind.{Kind}
 use Rattle.pg_journeys.specs.Facts.{Facts}
-use Rattle.pg_journeys.specs.Journeys.{IsLeg, may_take}
-use Rattle.pg_journeys.specs.lemmas.Turns.{leg}
 use Rattle.pg_journeys.specs.inner.Counts.{of_kind, count_at}
 use Rattle.pg_journeys.specs.inner.Counting.{ComesTaking}
+pub use Rattle.pg_journeys.specs.inner.Reached.{TakeStep, TakesOf}
 use Rattle.pg_journeys.specs.declared.distances.Reach.{Reach}
-
--- a step that may be a capture leads from the man of kind k on s to be the man of kind j on t
-abbrev pub TakeStep : Facts → Color → Kind → ℕ → Kind → ℕ → Type 0
-TakeStep f c k s j t = IsLeg f c (leg k s j t) × (may_take f c (leg k s j t) ≡ true)
-
--- one of the men on a set steps so
-abbrev pub TakesOf : (ℕ → Kind → ℕ → Type 0) → ℕ → Kind → ℕ → Type 0
-TakesOf step set j t = (s : ℕ) × (s < 64) × (has set s ≡ true) × step s j t
 
 -- whom S names was taken already, or is now, by the count n; all else is as it was
 pub record IsTaking (S : Kind → ℕ → Type 0) (n : ℕ) (old new : Reach) : Type 0 where

@@ -1,5 +1,5 @@
 -- What the plans of a colour show, way by way.
-use Rattle.std.specs.Prelude.{◌≡◌, ◌≢◌, ℕ, ◌+◌, ◌<◌, ◌⊎◌, ◌↔◌, ◌||◌, Bool, true, false, Option, MatchOption, List, [], ◌∷◌, get_or}
+use Rattle.std.specs.Prelude.{◌≡◌, ◌≢◌, ℕ, ◌+◌, ◌<◌, ◌⊎◌, ◌↔◌, ◌||◌, Bool, true, false, Option, None, MatchOption, List, [], ◌∷◌, get_or}
 use Rattle.pg_board.specs.Bits.{has}
 use Rattle.pg_board.specs.declared.man.Color.{Color}
 use Rattle.pg_board.specs.declared.man.Kind.{Kind}
@@ -20,7 +20,8 @@ use Rattle.pg_journeys.specs.declared.plans.Side.{Side}
 use Rattle.pg_journeys.specs.declared.narrowing.Deeds.{Deeds}
 use Rattle.pg_journeys.specs.declared.shown.Shown.{Shown}
 use Rattle.pg_journeys.specs.declared.shown.Measured.{Measured}
-use Rattle.pg_journeys.specs.inner.Sides.{square_at, AreAimsPast}
+use Rattle.pg_journeys.specs.inner.Sides.{square_at, AreAims}
+use Rattle.pg_journeys.specs.inner.Costing.{AreCostRows}
 
 -- whether only quiet steps count
 abbrev pub is_quiet : Measure → Bool
@@ -32,10 +33,16 @@ abbrev pub IsBudget : Placement → State → ℕ → Color → Measure → ℕ 
 IsBudget d p k c Moves n = n ≡ plies_left p.side c k
 IsBudget d p k c QuietMoves n = n + victims c p.board ≡ plies_left p.side c k + victims c d
 
--- the counts of paths of a side by a measure, up to what they may count at least
+-- the paths of a side by a measure, what they may count, and what fates cost where none castles
 pub record IsMeasured (x : Side) (quiet : Bool) (m : Measured) : Type 0 where
   pub low : m.most < 200
-  pub aims : AreAimsPast x quiet m.most m.aims.now
+  pub aims : AreAims x quiet m.aims.now
+  pub size : m.costs.size ≡ x.men.count
+  pub rows : AreCostRows x quiet None m.most m.costs.rows x.men.count
+
+-- one measure tells both: it is the other, or no capture may land
+abbrev pub IsSameBy : Side → Bool → Bool → Type 0
+IsSameBy x q r = (q ≡ r) ⊎ HasNoneFrom (landing x.ground.facts x.ground.color) 0
 
 -- what paths may count by both measures
 pub record AreBudgets (d : Placement) (x : Side) (k : ℕ) (moves quiet : ℕ) : Type 0 where

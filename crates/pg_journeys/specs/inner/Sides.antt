@@ -1,5 +1,5 @@
 -- The men of a colour in a position and in a diagram, what their fates count, and which of them plans have.
-use Rattle.std.specs.Prelude.{◌≡◌, ℕ, ◌+◌, ◌<◌, ◌≤◌, Bool, true, Option, List, [], get_or}
+use Rattle.std.specs.Prelude.{◌≡◌, ℕ, ◌+◌, ◌<◌, ◌≤◌, ◌⊎◌, Bool, true, false, Option, List, [], get_or}
 use Rattle.pg_board.specs.declared.man.Color.{Color}
 use Rattle.pg_board.specs.declared.man.Kind.{Kind}
 use Rattle.pg_board.specs.declared.man.Kind.TheVariants.{Pawn}
@@ -14,10 +14,12 @@ use Rattle.pg_journeys.specs.Journeys.{Leg, Fate, Arrives, Falls, IsPath, Meets,
 use Rattle.pg_journeys.specs.Known.{known}
 use Rattle.pg_journeys.specs.PlanCosts.{IsListing}
 use Rattle.pg_journeys.specs.lemmas.DecidingPaths.{weigh}
-use Rattle.pg_journeys.specs.inner.Counting.{counts, count_at}
+use Rattle.pg_journeys.specs.inner.Counting.{counts}
 use Rattle.pg_journeys.specs.inner.Grounds.{IsGround}
+use Rattle.pg_journeys.specs.inner.Rings.{AreRings}
 use Rattle.pg_journeys.specs.declared.men.Men.{Men}
 use Rattle.pg_journeys.specs.declared.plans.Side.{Side}
+use Rattle.pg_journeys.specs.declared.rings.Rings.{Rings}
 
 -- the squares and kinds of the men in their order
 abbrev pub square_at : Men → ℕ → ℕ
@@ -44,28 +46,33 @@ pub record IsSide (d : Placement) (x : Side) : Type 0 where
   pub goals : AreMen d x.ground.color x.goals
   pub room : x.goals.count ≤ x.men.count
 
--- for each man of d, and last for being captured, the least that paths to it count
-pub record AreAims (x : Side) (quiet : Bool) (most : ℕ) (aims : List (List ℕ)) : Type 0 where
-  pub small : (e : ℕ) (k : Kind) (s : ℕ) → e < 17 → s < 64 → count_at (get_or aims e []) k s < 255 → count_at (get_or aims e []) k s ≤ most
-  pub comes : (e : ℕ) (k : Kind) (s : ℕ) → e < x.goals.count → s < 64 → count_at (get_or aims e []) k s < 255 →
-      (ls : List Leg) × IsPath (facts_of x) x.ground.color k s ls (kind_at x.goals e) (square_at x.goals e)
-      × (weigh (counts (facts_of x) x.ground.color quiet) ls ≤ count_at (get_or aims e []) k s)
-  pub least : (e : ℕ) (k : Kind) (s : ℕ) (ls : List Leg) → e < x.goals.count → s < 64 →
-      IsPath (facts_of x) x.ground.color k s ls (kind_at x.goals e) (square_at x.goals e) → weigh (counts (facts_of x) x.ground.color quiet) ls ≤ most →
-      count_at (get_or aims e []) k s ≤ weigh (counts (facts_of x) x.ground.color quiet) ls
-  pub falls : (k : Kind) (s : ℕ) → s < 64 → count_at (get_or aims 16 []) k s < 255 →
-      (j : Kind) × (t : ℕ) × (ls : List Leg) × (t < 64) × ((facts_of x).lands (other x.ground.color) t ≡ true)
-      × IsPath (facts_of x) x.ground.color k s ls j t × (weigh (counts (facts_of x) x.ground.color quiet) ls ≤ count_at (get_or aims 16 []) k s)
-  pub least_fall : (k : Kind) (s : ℕ) (j : Kind) (t : ℕ) (ls : List Leg) → s < 64 → t < 64 → x.goals.count < x.men.count →
-      (facts_of x).lands (other x.ground.color) t ≡ true → IsPath (facts_of x) x.ground.color k s ls j t →
-      weigh (counts (facts_of x) x.ground.color quiet) ls ≤ most → count_at (get_or aims 16 []) k s ≤ weigh (counts (facts_of x) x.ground.color quiet) ls
+-- a path of the man of kind k on s to be the man e of d counts at most n
+abbrev pub GoalWithin : Side → Bool → ℕ → ℕ → Kind → ℕ → Type 0
+GoalWithin x quiet e n k s =
+    (ls : List Leg) × IsPath (facts_of x) x.ground.color k s ls (kind_at x.goals e) (square_at x.goals e)
+    × (weigh (counts (facts_of x) x.ground.color quiet) ls ≤ n)
 
--- such counts, up to a number that is at least so many
-pub record AreAimsPast (x : Side) (quiet : Bool) (most : ℕ) (aims : List (List ℕ)) : Type 0 where
-  pub limit : ℕ
-  pub enough : most ≤ limit
-  pub low : limit < 200
-  pub are : AreAims x quiet limit aims
+-- so does one, as any kind, to a square where captures of the other colour may land
+abbrev pub FallWithin : Side → Bool → ℕ → Kind → ℕ → Type 0
+FallWithin x quiet n k s =
+    (j : Kind) × (t : ℕ) × (ls : List Leg) × (t < 64) × ((facts_of x).lands (other x.ground.color) t ≡ true)
+    × IsPath (facts_of x) x.ground.color k s ls j t × (weigh (counts (facts_of x) x.ground.color quiet) ls ≤ n)
+
+-- e is an end: a man of d, or the end 16, to be captured, if there are more men than men of d
+abbrev pub IsEnd : Side → ℕ → Type 0
+IsEnd x e = (e < x.goals.count) ⊎ ((e ≡ 16) × (x.goals.count < x.men.count))
+
+-- a path of the man of kind k on s to an end counts at most n
+abbrev pub EndWithin : Side → Bool → ℕ → ℕ → Kind → ℕ → Type 0
+EndWithin x quiet e n k s = ((e < x.goals.count) × GoalWithin x quiet e n k s) ⊎ ((e ≡ 16) × (x.goals.count < x.men.count) × FallWithin x quiet n k s)
+
+-- the rings of an end
+abbrev pub aim_at : List Rings → ℕ → Rings
+aim_at aims e = get_or aims e (record { sets = []; count = 0; is_whole = false })
+
+-- for each end the rings of the paths to it
+pub record AreAims (x : Side) (quiet : Bool) (aims : List Rings) : Type 0 where
+  pub ends : (e : ℕ) → IsEnd x e → AreRings (EndWithin x quiet e) (aim_at aims e)
 
 -- the journeys of a side in a way
 abbrev pub JourneysOf : Placement → Side → Option Wing → Type 0

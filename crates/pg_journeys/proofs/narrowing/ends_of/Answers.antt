@@ -1,4 +1,4 @@
-use Rattle.std.proofs.Common.{◌≡◌, ◌⊎◌, inl, inr, ◌↔◌, ◌+◌, ◌<◌, ℕ, Bool, true, [], get_or, sym, subst, arith}
+use Rattle.std.proofs.Common.{◌≡◌, ◌⊎◌, inl, inr, ◌↔◌, ◌+◌, ◌<◌, ℕ, Bool, true, get_or, sym, subst, arith}
 use Rattle.std.proofs.lemmas.Bool.{cases_lt}
 use Rattle.pg_board.specs.Bits.{has}
 use Rattle.pg_journeys.specs.inner.Narrowed.{ChangesBy}
@@ -18,4 +18,4 @@ next_end P old new e b made is all n = (
 
 pub loop-e-preserved : goal.loop-e-preserved
 loop-e-preserved c =
-    next_end (λ e. (get_or c.args.rooms.now e 0 < 255) × ChangesBy c.args.side.now c.args.man.now e (get_or c.args.aims.now e []) (get_or c.args.rooms.now e 0)) c.loop-e.ends c.with_end-ends.result c.loop-e.e c.is_end.result c.with_end-ends.ensures c.is_end.ensures c.loop-e.invariant
+    next_end (λ e. (get_or c.args.rooms.now e 0 < 255) × ChangesBy c.args.side.now c.args.man.now e (get_or c.args.rooms.now e 0)) c.loop-e.ends c.with_end-ends.result c.loop-e.e c.is_end.result c.with_end-ends.ensures c.is_end.ensures c.loop-e.invariant

@@ -1,6 +1,6 @@
-use Rattle.pg_journeys.specs.inner.Narrowed.{TakesTo}
+use Rattle.pg_journeys.specs.inner.Narrowed.{TakesBy}
 use Rattle.pg_journeys.proofs.SiftedSets.{IsJoined}
 use Rattle.pg_journeys.proofs.narrowing.lands_of.Given as goal
 
 abbrev pub invariant-loop-e : goal.invariant-loop-e
-invariant-loop-e l = IsJoined (TakesTo l.reach l.aims l.rooms) l.fn.lands l.e l.all
+invariant-loop-e l = IsJoined (TakesBy l.side l.man l.rooms) l.fn.lands l.e l.all

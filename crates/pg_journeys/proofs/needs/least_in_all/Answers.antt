@@ -2,14 +2,10 @@ use Rattle.std.proofs.Common.{◌∙◌, ap, sym, subst}
 use Rattle.pg_assignments.specs.Assignments.{IsLeast}
 use Rattle.pg_assignments.specs.Search.{lesser_of}
 use Rattle.pg_journeys.specs.inner.Needing.{PayInSome}
-use Rattle.pg_journeys.proofs.AimLemmas.{none_made}
 use Rattle.pg_journeys.proofs.LeastNeeds.{least_of_ways}
 use Rattle.pg_journeys.proofs.needs.least_in_all.Goals as goal
-
-pub fill_aims-requires-clause-none : goal.fill_aims-requires-clause-none
-fill_aims-requires-clause-none c = λ e l. none_made e l
 
 pub returns : goal.returns
 returns c = λ d side.
     subst (λ o. IsLeast (PayInSome d c.args.side.now c.args.is_quiet) o) (sym (c.lesser.ensures ∙ ap (λ o. lesser_of o c.least_in_way-2.result) c.lesser-short.ensures))
-    (least_of_ways d c.args.side.now c.args.is_quiet c.least_in_way-none.result c.least_in_way.result c.least_in_way-2.result (c.least_in_way-none.ensures d c.args.is_quiet side c.fill_aims.ensures) (c.least_in_way.ensures d c.args.is_quiet side c.fill_aims.ensures) (c.least_in_way-2.ensures d c.args.is_quiet side c.fill_aims.ensures))
+    (least_of_ways d c.args.side.now c.args.is_quiet c.least_in_way-none.result c.least_in_way.result c.least_in_way-2.result (c.least_in_way-none.ensures d side) (c.least_in_way.ensures d side) (c.least_in_way-2.ensures d side))

@@ -1,7 +1,6 @@
-use Rattle.std.proofs.Common.{ℕ, ◌<◌, false}
+use Rattle.std.proofs.Common.{ℕ, ◌<◌}
 use Rattle.pg_journeys.specs.inner.Needing.{IsReachedOf}
-use Rattle.pg_journeys.specs.inner.Sides.{AreAims}
 use Rattle.pg_journeys.proofs.needs.unreached_of.Given as goal
 
 abbrev pub invariant-loop-e : goal.invariant-loop-e
-invariant-loop-e l = AreAims l.side false 199 l.aims → (j : ℕ) → j < l.e → IsReachedOf l.side j
+invariant-loop-e l = (j : ℕ) → j < l.e → IsReachedOf l.side j

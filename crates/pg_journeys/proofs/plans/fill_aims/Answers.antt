@@ -1,17 +1,16 @@
 use Rattle.std.proofs.Common.{◌+◌, refl, arith, ◌∙◌}
 use Rattle.std.proofs.Math.ListN.{length-set}
-use Rattle.pg_journeys.proofs.AimLemmas.{aims_first, aims_next, aims_all}
+use Rattle.pg_journeys.proofs.EndLemmas.{aims_next, aims_full, aims_all}
 use Rattle.pg_journeys.proofs.plans.fill_aims.Goals as goal
 
-pub loop-j-init : goal.loop-j-init
-loop-j-init c = record { long = omega arith; is = aims_first c.args.side.now c.args.is_quiet c.args.most c.args.aims.now c.requires.none }
-
-pub loop-j-preserved : goal.loop-j-preserved
-loop-j-preserved c = record {
-  long = length-set c.loop-j.aims c.loop-j.j c.aim.new.counts ∙ c.loop-j.invariant.long;
-  is = aims_next c.args.side.now c.args.is_quiet c.args.most c.loop-j.aims c.aim.new.counts c.loop-j.j (c.loop-j.j + 1) refl (omega (arith, c.loop-j.invariant.long, c.loop-j-test.true, c.requires.side.1.goals.few)) c.aim.ensures c.loop-j.invariant.is;
+pub loop-e-preserved : goal.loop-e-preserved
+loop-e-preserved c = record {
+  long = length-set c.loop-e.aims c.loop-e.e c.aim.new.rings ∙ c.loop-e.invariant.long;
+  is = aims_next c.args.side.now c.args.is_quiet c.loop-e.aims c.aim.new.rings c.loop-e.e (c.loop-e.e + 1) refl (omega (arith, c.loop-e.invariant.long, c.loop-e-test.true, c.requires.side.1.goals.few)) c.aim.ensures c.loop-e.invariant.is;
 }
 
-pub returns : goal.returns
-returns c = aims_all c.args.side.now c.args.is_quiet c.args.most c.loop-j.aims c.last_aim.new.counts c.loop-j.j (omega (arith, c.loop-j-test.false, c.loop-j.auto.j-end)) c.requires.side.1.goals.few c.loop-j.invariant.long c.loop-j.invariant.is
-    c.last_aim.ensures
+pub returns-then-side : goal.returns-then-side
+returns-then-side c = aims_all c.args.side.now c.args.is_quiet c.loop-e.aims c.aim-then-side.new.rings c.loop-e.e (omega (arith, c.loop-e-test.false, c.loop-e.auto.e-end)) c.requires.side.1.goals.few c.loop-e.invariant.long c.loop-e.invariant.is c.aim-then-side.ensures
+
+pub returns-else-side : goal.returns-else-side
+returns-else-side c = aims_full c.args.side.now c.args.is_quiet c.loop-e.aims c.loop-e.e (omega (arith, c.loop-e-test.false, c.loop-e.auto.e-end)) c.if-side.false c.loop-e.invariant.is

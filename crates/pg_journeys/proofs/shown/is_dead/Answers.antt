@@ -1,6 +1,5 @@
 use Rattle.std.proofs.Common.{refl}
 use Rattle.pg_journeys.specs.Known.{known}
-use Rattle.pg_journeys.proofs.AimLemmas.{none_made, past_made}
 use Rattle.pg_journeys.proofs.Budgets.{owes_too_much, budgets_of}
 use Rattle.pg_journeys.proofs.DeadColors.{dead_here}
 use Rattle.pg_journeys.proofs.Lifting.{quiet_without}
@@ -17,18 +16,6 @@ side_of-side-requires-clause-few c = lifted_few c.args.position.now.board c.rest
 
 pub side_of-side-requires-clause-room : goal.side_of-side-requires-clause-room
 side_of-side-requires-clause-room c = lifted_room (known c.args.facts.now) c.args.diagram.now c.args.position.now c.resting_men-resting.result c.args.color c.resting_men-resting.ensures c.requires.room
-
-pub fill_aims-requires-clause-none : goal.fill_aims-requires-clause-none
-fill_aims-requires-clause-none c = λ e l. none_made e l
-
-pub fill_aims-requires-2-clause-none : goal.fill_aims-requires-2-clause-none
-fill_aims-requires-2-clause-none c = λ e l. none_made e l
-
-pub some_alive-requires-clause-moves : goal.some_alive-requires-clause-moves
-some_alive-requires-clause-moves c = record { low = c.in-Some.ensures.low; aims = past_made c.side_of-side.result _ c.in-Some.most _ c.in-Some.ensures.low c.fill_aims.ensures }
-
-pub some_alive-requires-clause-quiet : goal.some_alive-requires-clause-quiet
-some_alive-requires-clause-quiet c = record { low = c.in-Some-budget.ensures.low; aims = past_made c.side_of-side.result _ c.in-Some-budget.fewest _ c.in-Some-budget.ensures.low c.fill_aims-2.ensures }
 
 pub returns : goal.returns
 returns c =

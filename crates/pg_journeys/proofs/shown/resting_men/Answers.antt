@@ -1,4 +1,3 @@
-use Rattle.std.proofs.Common.{◌∙◌, sym, ap}
 use Rattle.pg_journeys.proofs.Lifting.{differing_here}
 use Rattle.pg_journeys.proofs.RestingShown.{resting_of_sets}
 use Rattle.pg_journeys.proofs.shown.resting_men.Goals as goal

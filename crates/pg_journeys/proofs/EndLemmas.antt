@@ -1,0 +1,143 @@
+-- Within how many counts paths lead to an end. Leads to the contracts of `end_goals`, `fill_aims`, `aim_within`, `comes_within` and
+-- `count_to`.
+use Rattle.std.proofs.Common.{◌≡◌, ◌≢◌, ◌↔◌, ℕ, ◌+◌, ◌-◌, ◌<◌, ◌≤◌, inl, inr, IsTrue, Bool, true, false, List, length, set, replicate, refl, sym, ap, subst, ◌∙◌, arith}
+use Rattle.std.proofs.lemmas.Bool.{cases_lt}
+use Rattle.std.proofs.lemmas.Bool.Decides.{eqb_tells}
+use Rattle.std.proofs.lemmas.List.{get_or-set_same, get_or-set_other}
+use Rattle.pg_board.specs.Bits.{has, has-none}
+use Rattle.pg_board.specs.declared.man.Kind.{Kind}
+use Rattle.pg_board.specs.declared.man.Kind.TheVariants.{Pawn, Knight, Bishop, Rook, Queen, King}
+use Rattle.pg_board.specs.Men.{other}
+use Rattle.pg_board.specs.SquareSets.{IsSetOf}
+use Rattle.pg_board.specs.Placement.{Placement}
+use Rattle.pg_board.specs.lemmas.Decisions.{dec_kind}
+use Rattle.pg_journeys.specs.Known.{landing}
+use Rattle.pg_journeys.specs.inner.Counts.{of_kind}
+use Rattle.pg_journeys.specs.inner.Levels.{BackWithin}
+use Rattle.pg_journeys.specs.inner.Rings.{AreRings, AreWithin}
+use Rattle.pg_journeys.specs.inner.Sides.{facts_of, square_at, kind_at, IsSide, IsEnd, EndWithin, AreAims, aim_at}
+use Rattle.pg_journeys.specs.inner.Costing.{IsCount}
+use Rattle.pg_journeys.specs.declared.plans.Side.{Side}
+use Rattle.pg_journeys.specs.declared.rings.Rings.{Rings}
+use Rattle.pg_journeys.specs.declared.rings.Runner.{Runner}
+use Rattle.pg_journeys.proofs.CostLemmas.{path_as}
+
+-- ---- what rings and sets show, in other words
+pub rings_as : (V W : ℕ → Kind → ℕ → Type 0) (r : Rings) → ((n : ℕ) (k : Kind) (s : ℕ) → V n k s ↔ W n k s) → AreRings V r → AreRings W r
+rings_as V W r same h = record {
+  some = h.some;
+  few = h.few;
+  kept = λ n k s l sl. (λ t. (same n k s).0 ((h.kept n k s l sl).0 t), λ w. (h.kept n k s l sl).1 ((same n k s).1 w));
+  whole = λ e n k s sl w. (same (r.count - 1) k s).0 (h.whole e n k s sl ((same n k s).1 w));
+}
+
+pub rings_back : (V W : ℕ → Kind → ℕ → Type 0) (r : Rings) → ((n : ℕ) (k : Kind) (s : ℕ) → V n k s ↔ W n k s) → AreRings W r → AreRings V r
+rings_back V W r same h = rings_as W V r (λ n k s. ((same n k s).1, (same n k s).0)) h
+
+pub within_as : (V W : ℕ → Kind → ℕ → Type 0) (n : ℕ) (sets : List ℕ) → ((n : ℕ) (k : Kind) (s : ℕ) → V n k s ↔ W n k s) → AreWithin V n sets → AreWithin W n sets
+within_as V W n sets same h k s sl = (λ t. (same n k s).0 ((h k s sl).0 t), λ w. (h k s sl).1 ((same n k s).1 w))
+
+-- ---- the men of an end
+pub goal_is : (d : Placement) (x : Side) (e : ℕ) (goal : List ℕ) (one sq : ℕ) (k : Kind) → IsSide d x → e < x.goals.count → k ≡ kind_at x.goals e →
+    sq ≡ square_at x.goals e → IsSetOf one (λ q. q ≡ sq) → of_kind goal k ≡ one → ((j : Kind) → j ≢ k → of_kind goal j ≡ 0) →
+    (quiet : Bool) (n : ℕ) (h : Kind) (r : ℕ) → BackWithin (facts_of x) x.ground.color quiet goal n h r ↔ EndWithin x quiet e n h r
+goal_is d x e goal one sq k side l ek es is here others quiet n h r = (
+  λ w. inl (
+    l,
+    (let q : (w.0 ≡ k) × (w.1 ≡ square_at x.goals e) = only w.0 w.1 w.3 w.4 in
+        (w.2, path_as (facts_of x) x.ground.color h h r w.2 w.0 (kind_at x.goals e) w.1 (square_at x.goals e) refl (q.0 ∙ ek) q.1 w.5, w.6)),
+  ),
+  λ w. elim w [
+    | inl g ↦ (kind_at x.goals e, square_at x.goals e, g.1.0, side.goals.listing.low e l, there, g.1.1, g.1.2)
+    | inr g ↦ absurd (let z : e ≡ 16 = g.0 in let few : x.goals.count ≤ 16 = side.goals.few in omega arith)
+  ],
+)
+  where
+    only : (j : Kind) (t : ℕ) → t < 64 → has (of_kind goal j) t ≡ true → (j ≡ k) × (t ≡ square_at x.goals e)
+    only j t tl y = elim (dec_kind j k) [
+      | yes same ↦ (same, (is t tl).0 (subst (λ (n : ℕ). has n t ≡ true) (ap (of_kind goal) same ∙ here) y) ∙ es)
+      | no ne ↦ absurd (let z : has (of_kind goal j) t ≡ false = ap (λ (n : ℕ). has n t) (others j ne) ∙ has-none t in cc)
+    ]
+
+    there : has (of_kind goal (kind_at x.goals e)) (square_at x.goals e) ≡ true
+    there = subst (λ (n : ℕ). has n (square_at x.goals e) ≡ true) (sym (ap (of_kind goal) (sym ek) ∙ here)) ((is (square_at x.goals e) (side.goals.listing.low e l)).1 (sym es))
+
+-- the same squares for each kind
+pub each : (t : ℕ) (j : Kind) → of_kind (replicate 6 t) j ≡ t
+each t Pawn = refl
+each t Knight = refl
+each t Bishop = refl
+each t Rook = refl
+each t Queen = refl
+each t King = refl
+
+pub last_is : (x : Side) (e t : ℕ) → x.goals.count ≤ e → IsEnd x e → t ≡ landing x.ground.facts (other x.ground.color) →
+    (quiet : Bool) (n : ℕ) (h : Kind) (r : ℕ) → BackWithin (facts_of x) x.ground.color quiet (replicate 6 t) n h r ↔ EndWithin x quiet e n h r
+last_is x e t past end theirs quiet n h r = (
+  λ w. elim end [
+    | inl l ↦ absurd (omega (arith, l, past))
+    | inr z ↦ inr (z.0, z.1, (w.0, w.1, w.2, w.3, subst (λ (m : ℕ). has m w.1 ≡ true) (each t w.0 ∙ theirs) w.4, w.5, w.6))
+  ],
+  λ w. elim w [
+    | inl g ↦ absurd (let l : e < x.goals.count = g.0 in omega arith)
+    | inr g ↦ (g.2.0, g.2.1, g.2.2, g.2.3, subst (λ (m : ℕ). has m g.2.1 ≡ true) (sym (each t g.2.0 ∙ theirs)) g.2.4, g.2.5, g.2.6)
+  ],
+)
+
+-- ---- all ends
+-- the rings of the first n ends
+abbrev pub AreAimsTo : Side → Bool → List Rings → ℕ → Type 0
+AreAimsTo x quiet aims n = (e : ℕ) → e < n → AreRings (EndWithin x quiet e) (aim_at aims e)
+
+pub aims_next : (x : Side) (quiet : Bool) (aims : List Rings) (r : Rings) (n m : ℕ) → m ≡ n + 1 → n < length aims → AreRings (EndWithin x quiet n) r →
+    AreAimsTo x quiet aims n → AreAimsTo x quiet (set aims n r) m
+aims_next x quiet aims r n m e low here before q l = elim (eqb_tells q n) [
+  | inl w ↦ subst (λ (b : ℕ). AreRings (EndWithin x quiet b) (aim_at (set aims n r) b)) (sym w.1) (subst (λ (y : Rings). AreRings (EndWithin x quiet n) y) (sym (get_or-set_same aims n r _ low)) here)
+  | inr w ↦ (let ne : q ≢ n = w.1 in subst (λ (y : Rings). AreRings (EndWithin x quiet q) y) (sym (get_or-set_other aims n q r _ ne)) (before q (omega arith)))
+]
+
+pub aims_full : (x : Side) (quiet : Bool) (aims : List Rings) (n : ℕ) → n ≡ x.goals.count → x.men.count ≤ x.goals.count → AreAimsTo x quiet aims n → AreAims x quiet aims
+aims_full x quiet aims n all full are = record {
+  ends = λ e end. elim end [ inl l ↦ are e (omega (arith, l, all)) | inr w ↦ absurd (let more : x.goals.count < x.men.count = w.1 in omega arith) ];
+}
+
+pub aims_all : (x : Side) (quiet : Bool) (aims : List Rings) (r : Rings) (n : ℕ) → n ≡ x.goals.count → x.goals.count ≤ 16 → length aims ≡ 17 → AreAimsTo x quiet aims n →
+    AreRings (EndWithin x quiet 16) r → AreAims x quiet (set aims 16 r)
+aims_all x quiet aims r n all few long are last = record {
+  ends = λ e end. elim end [
+    | inl l ↦
+        (let ne : e ≢ 16 = (λ z. omega (arith, few, l)) in
+        subst (λ (y : Rings). AreRings (EndWithin x quiet e) y) (sym (get_or-set_other aims 16 e r _ ne)) (are e (omega (arith, l, all))))
+    | inr w ↦ subst (λ (b : ℕ). AreRings (EndWithin x quiet b) (aim_at (set aims 16 r) b)) (sym w.0)
+        (subst (λ (y : Rings). AreRings (EndWithin x quiet 16) y) (sym (get_or-set_same aims 16 r _ (omega (arith, long)))) last)
+  ];
+}
+
+-- an end is one of seventeen
+pub end_low : (d : Placement) (x : Side) (e : ℕ) → IsSide d x → IsEnd x e → e < 17
+end_low d x e side (inl l) = (let few : x.goals.count ≤ 16 = side.goals.few in omega arith)
+end_low d x e side (inr (is, more)) = omega arith
+
+-- whether a man is among those within a count
+pub comes_in : (x : Side) (m : Runner) (e n set : ℕ) (sets : List ℕ) (b : Bool) → set ≡ of_kind sets m.kind → AreWithin (EndWithin x m.is_quiet e) n sets → m.square < 64 → b ≡ has set m.square →
+    IsTrue b ↔ EndWithin x m.is_quiet e n m.kind m.square
+comes_in x m e n set sets b same within low is = (
+  λ t. (within m.kind m.square low).0 (subst (λ (y : ℕ). has y m.square ≡ true) same (sym is ∙ t)),
+  λ w. is ∙ subst (λ (y : ℕ). has y m.square ≡ true) (sym same) ((within m.kind m.square low).1 w),
+)
+
+-- ---- the least count
+pub count_far : (W : ℕ → Type 0) (most : ℕ) (b : Bool) → IsTrue b ↔ W most → b ≡ false → IsCount W most 255
+count_far W most b is off = inr (refl, λ w. (let on : b ≡ true = is.1 w in cc))
+
+pub count_here : (W : ℕ → Type 0) (most n : ℕ) (b : Bool) → IsTrue b ↔ W n → b ≡ true → n < most → ((m : ℕ) → m < n → W m → ⊥) → IsCount W most n
+count_here W most n b is on low none = inl (omega arith, is.0 on, none)
+
+pub count_last : (W : ℕ → Type 0) (most n : ℕ) (b : Bool) → IsTrue b ↔ W most → b ≡ true → most ≤ n → ((m : ℕ) → m < n → W m → ⊥) → IsCount W most most
+count_last W most n b is on past none = inl (omega arith, is.0 on, λ m l. none m (omega arith))
+
+pub none_next : (W : ℕ → Type 0) (n : ℕ) (b : Bool) → IsTrue b ↔ W n → b ≡ false → ((m : ℕ) → m < n → W m → ⊥) → (m : ℕ) → m < n + 1 → W m → ⊥
+none_next W n b is off none m l w = elim (cases_lt m n) [
+  | inl less ↦ none m less w
+  | inr more ↦ (let same : m ≡ n = omega arith in let on : b ≡ true = is.1 (subst W same w) in absurd (cc))
+]

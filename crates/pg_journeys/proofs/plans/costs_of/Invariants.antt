@@ -1,6 +1,0 @@
-use Rattle.std.proofs.Common.{◌≡◌, length}
-use Rattle.pg_journeys.specs.inner.Costing.{AreCostRows}
-use Rattle.pg_journeys.proofs.plans.costs_of.Given as goal
-
-abbrev pub invariant-loop-i : goal.invariant-loop-i
-invariant-loop-i l = record { long : length l.rows ≡ 16; is : AreCostRows l.side l.aims l.fn.way l.rows l.i }

@@ -1,0 +1,9 @@
+use Rattle.pg_journeys.specs.Known.{known}
+use Rattle.pg_journeys.specs.inner.Searches.{IsAheadBefore, AreTakenBefore}
+use Rattle.pg_journeys.proofs.rings.followed.Given as goal
+
+abbrev pub invariant-loop-m : goal.invariant-loop-m
+invariant-loop-m l = record {
+  before : IsAheadBefore (known l.ground.facts) l.ground.color l.man.is_quiet l.man.kind l.man.square l.m l.front;
+  led : AreTakenBefore (known l.ground.facts) l.ground.color l.man.is_quiet l.man.kind l.man.square l.m l.front l.taken;
+}

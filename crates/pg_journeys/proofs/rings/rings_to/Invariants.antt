@@ -1,0 +1,11 @@
+use Rattle.pg_journeys.specs.Known.{known}
+use Rattle.pg_journeys.specs.inner.Levels.{BackWithin}
+use Rattle.pg_journeys.specs.inner.Searches.{IsBackBefore}
+use Rattle.pg_journeys.proofs.RingLemmas.{AreKept}
+use Rattle.pg_journeys.proofs.rings.rings_to.Given as goal
+
+abbrev pub invariant-loop-n : goal.invariant-loop-n
+invariant-loop-n l = record {
+  before : IsBackBefore (known l.ground.facts) l.ground.color l.is_quiet l.fn.goals l.n l.front;
+  kept : AreKept (BackWithin (known l.ground.facts) l.ground.color l.is_quiet l.fn.goals) l.n l.rings;
+}

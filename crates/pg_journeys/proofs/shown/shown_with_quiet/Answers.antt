@@ -1,8 +1,0 @@
-use Rattle.pg_journeys.proofs.AimLemmas.{none_made, past_made}
-use Rattle.pg_journeys.proofs.shown.shown_with_quiet.Goals as goal
-
-pub fill_aims-requires-clause-none : goal.fill_aims-requires-clause-none
-fill_aims-requires-clause-none c = λ e l. none_made e l
-
-pub ways_shown-requires-clause-quiet : goal.ways_shown-requires-clause-quiet
-ways_shown-requires-clause-quiet c = record { low = c.requires.low; aims = past_made c.args.side.now _ c.args.fewest _ c.requires.low c.fill_aims.ensures }
