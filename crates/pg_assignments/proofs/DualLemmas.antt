@@ -37,6 +37,14 @@ sent_at_most u to (suc n) m low d =
     let c : total (cleared u (to n)) m + u (to n) ≡ total u m = cleared_total u m (to n) (low n (omega arith)) in
     omega arith
 
+-- numbers below n that differ leave out none of them
+pub onto : (to : ℕ → ℕ) (n q : ℕ) → q < n → ((i : ℕ) → i < n → to i < n) → ((i j : ℕ) → i < n → j < n → to i ≡ to j → i ≡ j) → ((i : ℕ) → i < n → to i ≢ q) → ⊥
+onto to n q l low d miss =
+    let a : total (λ i. cleared (λ t. 1) q (to i)) n ≤ total (cleared (λ t. 1) q) n = sent_at_most (cleared (λ t. 1) q) to n n low d in
+    let b : total (λ i. cleared (λ t. 1) q (to i)) n ≡ total (λ t. 1) n = total_same (λ t. 1) (λ i. cleared (λ t. 1) q (to i)) n (λ t h. cleared_off (λ t. 1) q (to t) (miss t h)) in
+    let c : total (cleared (λ t. 1) q) n + 1 ≡ total (λ t. 1) n = cleared_total (λ t. 1) n q l in
+    omega arith
+
 -- the law
 pub weak_duality : (c : ℕ → ℕ → ℕ) (u v : ℕ → ℕ) (k n m x : ℕ) → n ≤ m → Fits c u v k m → IsTotal c (Below n) k x → total u k ≤ total v m + x
 weak_duality c u v k n m x le fits t =

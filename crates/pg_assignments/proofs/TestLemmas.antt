@@ -1,11 +1,11 @@
 -- The test of a proposal. Leads to the contracts of tested.
-use Rattle.std.proofs.Common.{◌≡◌, ◌≢◌, ℕ, ◌+◌, ◌<◌, ◌≤◌, inl, inr, Bool, false, List, [], length, get_or, set, sym, ap, subst, arith, ◌∙◌}
+use Rattle.std.proofs.Common.{◌≡◌, ◌≢◌, ℕ, zero, suc, ◌+◌, ◌<◌, ◌≤◌, ◌⊎◌, inl, inr, List, [], get_or, sym, ap, subst, arith, ◌∙◌}
 use Rattle.std.proofs.lemmas.Bool.Decides.{eqb_tells}
 use Rattle.pg_assignments.specs.declared.costs.Costs.{Costs}
-use Rattle.pg_assignments.specs.Assignments.{cost, IsAssignment, nth}
-use Rattle.pg_assignments.specs.Search.{IsFree}
-use Rattle.pg_assignments.specs.Dual.{Fits, RowFits}
-use Rattle.pg_assignments.proofs.SearchLemmas.{taken_out}
+use Rattle.pg_assignments.specs.Assignments.{cost, Below, IsAssignment, nth}
+use Rattle.pg_assignments.specs.Dual.{Fits, RowFits, AreAtMost, AreBelow}
+use Rattle.pg_assignments.specs.Handing.{AreHeld, IsOwned}
+use Rattle.pg_assignments.proofs.DualLemmas.{onto}
 
 pub fits_next : (k : Costs) (us vs : List ℕ) (i m : ℕ) → m ≡ i + 1 → Fits (cost k) (nth us) (nth vs) i 16 → RowFits (get_or k.rows i []) (get_or us i 0) vs 16 → Fits (cost k) (nth us) (nth vs) m 16
 unfolding cost
@@ -14,35 +14,48 @@ fits_next k us vs i m e before row = λ a j l h x. elim (eqb_tells a i) [
   | inr w ↦ before a j (let ne : a ≢ i = w.1 in omega arith) h x
 ]
 
-pub assigned_none : (c : ℕ → ℕ → ℕ) (P : ℕ → Type 0) (to : ℕ → ℕ) → IsAssignment c P 0 to
-assigned_none c P to = record { inside = λ i l. absurd (omega arith); exists = λ i l. absurd (omega arith); different = λ i j l m e. absurd (omega arith) }
+-- ---- rows that own their columns
+pub held_next : (to owner : List ℕ) (n i m : ℕ) → m ≡ i + 1 → nth to i < n → nth owner (nth to i) ≡ i → AreHeld to owner n i → AreHeld to owner n m
+held_next to owner n i m e here own before = λ a l. elim (eqb_tells a i) [
+  | inl w ↦ subst (λ (b : ℕ). (nth to b < n) × (nth owner (nth to b) ≡ b)) (sym w.1) (here, own)
+  | inr w ↦ before a (let ne : a ≢ i = w.1 in omega arith)
+]
 
-pub assigned_next : (c : ℕ → ℕ → ℕ) (P : ℕ → Type 0) (to : ℕ → ℕ) (i m : ℕ) → m ≡ i + 1 → P (to i) → c i (to i) < 255 → ((q : ℕ) → q < i → to q ≢ to i) → IsAssignment c P i to → IsAssignment c P m to
-assigned_next c P to i m e here there new a = record { inside = λ q l. inside q l; exists = λ q l. exists q l; different = λ q r l h same. different q r l h same }
-  where
-    inside : (q : ℕ) → q < m → P (to q)
-    inside q l = elim (eqb_tells q i) [ inl w ↦ subst (λ r. P (to r)) (sym w.1) here | inr w ↦ a.inside q (let ne : q ≢ i = w.1 in omega arith) ]
+pub exists_next : (c : ℕ → ℕ → ℕ) (to : ℕ → ℕ) (i m : ℕ) → m ≡ i + 1 → c i (to i) < 255 → ((a : ℕ) → a < i → c a (to a) < 255) → (a : ℕ) → a < m → c a (to a) < 255
+exists_next c to i m e here before a l = elim (eqb_tells a i) [
+  | inl w ↦ subst (λ (b : ℕ). c b (to b) < 255) (sym w.1) here
+  | inr w ↦ before a (let ne : a ≢ i = w.1 in omega arith)
+]
 
-    exists : (q : ℕ) → q < m → c q (to q) < 255
-    exists q l = elim (eqb_tells q i) [ inl w ↦ subst (λ r. c r (to r) < 255) (sym w.1) there | inr w ↦ a.exists q (let ne : q ≢ i = w.1 in omega arith) ]
+-- they are an assignment
+pub assigned_held : (c : ℕ → ℕ → ℕ) (to owner : List ℕ) (n : ℕ) → AreHeld to owner n n → ((a : ℕ) → a < n → c a (nth to a) < 255) → IsAssignment c (Below n) n (nth to)
+assigned_held c to owner n h there = record { inside = λ i l. (h i l).0; exists = there; different = λ i j l m e. sym (h i l).1 ∙ ap (nth owner) e ∙ (h j m).1 }
 
-    different : (q r : ℕ) → q < m → r < m → to q ≡ to r → q ≡ r
-    different q r l h same = elim (eqb_tells q i) [
-      | inl w ↦ elim (eqb_tells r i) [
-        | inl x ↦ w.1 ∙ sym x.1
-        | inr x ↦ absurd (new r (let ne : r ≢ i = x.1 in omega arith) (sym same ∙ ap to w.1))
-      ]
-      | inr w ↦ elim (eqb_tells r i) [
-        | inl x ↦ absurd (new q (let ne : q ≢ i = w.1 in omega arith) (same ∙ ap to x.1))
-        | inr x ↦ a.different q r (let ne : q ≢ i = w.1 in omega arith) (let ne : r ≢ i = x.1 in omega arith) same
-      ]
-    ]
+-- some number is q, or none is
+hit : (f : ℕ → ℕ) (q n : ℕ) → ((i : ℕ) × (i < n) × (f i ≡ q)) ⊎ ((i : ℕ) → i < n → f i ≢ q)
+hit f q zero = inr (λ i l e. omega arith)
+hit f q (suc n) = elim (eqb_tells (f n) q) [
+  | inl w ↦ inl (n, omega arith, w.1)
+  | inr w ↦ elim (hit f q n) [
+    | inl v ↦ inl (v.0, (let l : v.0 < n = v.1 in omega arith), v.2)
+    | inr v ↦ inr (λ i l e. elim (eqb_tells i n) [ inl z ↦ w.1 (ap f (sym z.1) ∙ e) | inr z ↦ v i (let ne : i ≢ n = z.1 in omega arith) e ])
+  ]
+]
 
--- which columns are left
-abbrev pub AreLeft : (ℕ → ℕ) → ℕ → ℕ → List Bool → Type 0
-AreLeft to n i free = (j : ℕ) → IsFree free j → (j < n) × ((q : ℕ) → q < i → to q ≢ j)
+-- and no column is left without an owner
+pub owned_held : (to owner : List ℕ) (n : ℕ) → AreHeld to owner n n → IsOwned to owner n n
+owned_held to owner n h = λ q l. elim (hit (nth to) q n) [
+  | inl w ↦ (let own : nth owner q ≡ w.0 = ap (nth owner) (sym w.2) ∙ (h w.0 w.1).1 in (subst (λ (i : ℕ). i < n) (sym own) w.1, ap (nth to) own ∙ w.2))
+  | inr w ↦ absurd (onto (nth to) n q l (λ i m. (h i m).0) (λ i j m r e. sym (h i m).1 ∙ ap (nth owner) e ∙ (h j r).1) w)
+]
 
-pub left_next : (to : ℕ → ℕ) (n i m j : ℕ) (free : List Bool) → m ≡ i + 1 → j ≡ to i → j < length free → AreLeft to n i free → AreLeft to n m (set free j false)
-left_next to n i m j free e is low h = λ q f.
-    let w : IsFree free q × (q ≢ j) = taken_out free j q low f in
-    ((h q w.0).0, λ r l same. elim (eqb_tells r i) [ inl x ↦ w.1 (sym same ∙ ap to x.1 ∙ sym is) | inr x ↦ (h q w.0).1 r (let ne : r ≢ i = x.1 in omega arith) same ])
+-- ---- the least costs of the columns
+pub below_next : (k : Costs) (least next : List ℕ) (i m : ℕ) → m ≡ i + 1 → AreAtMost next least (get_or k.rows i []) 16 → AreBelow (cost k) least i → AreBelow (cost k) next m
+unfolding cost
+below_next k least next i m e both before = record {
+  low = λ j h. (let b : nth next j ≤ nth least j = (both j h).0 in let d : nth least j ≤ 255 = before.low j h in omega arith);
+  below = λ a j l h. elim (eqb_tells a i) [
+    | inl w ↦ subst (λ (b : ℕ). nth next j ≤ cost k b j) (sym w.1) (both j h).1
+    | inr w ↦ (let b : nth least j ≤ cost k a j = before.below a j (let ne : a ≢ i = w.1 in omega arith) h in let d : nth next j ≤ nth least j = (both j h).0 in omega arith)
+  ];
+}

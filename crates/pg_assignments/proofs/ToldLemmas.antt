@@ -2,32 +2,24 @@
 use Rattle.std.proofs.Common.{◌≡◌, ◌≢◌, ℕ, zero, suc, ◌+◌, ◌*◌, ◌<◌, ◌≤◌, ◌⊎◌, inl, inr, true, false, leb, Option, Some, None, List, [], ◌∷◌, length, get_or, set, refl, sym, ap, subst, arith, ◌∙◌}
 use Rattle.std.proofs.lemmas.Bool.Decides.{eqb_tells, leb_tells}
 use Rattle.std.proofs.lemmas.List.{get_or-set_same, get_or-set_other}
+use Rattle.pg_board.specs.Tally.{total}
 use Rattle.pg_assignments.specs.declared.costs.Costs.{Costs}
 use Rattle.pg_assignments.specs.Assignments.{cost, IsTotal, IsLeastTotal, IsLeastWith, IsTotalWith, Below, nth, at2, told, RowLeast, AreLeastWith}
-use Rattle.pg_assignments.specs.Dual.{Fits, RowFits}
-use Rattle.pg_assignments.specs.Handing.{IsShown, AreLengths, IsSlackRow, IsSlack, IsTold, IsProved}
+use Rattle.pg_assignments.specs.Handing.{IsShown, AreLengths, IsSlack, IsTold, IsProved}
 use Rattle.pg_assignments.specs.Ways.{AreWays, AreSixteenths}
 use Rattle.pg_assignments.proofs.HandingLemmas.{shown_some, shown_none}
+use Rattle.pg_assignments.proofs.DualLemmas.{reached}
 use Rattle.pg_assignments.proofs.LeastLemmas.{least_none, some_holds, none_holds}
 use Rattle.pg_assignments.proofs.SearchLemmas.{total_low}
-
--- ---- slack
-pub row_fits_at : (k : Costs) (us vs : List ℕ) (i n : ℕ) → i < n → Fits (cost k) (nth us) (nth vs) n 16 → RowFits (get_or k.rows i []) (get_or us i 0) vs 16
-unfolding cost
-row_fits_at k us vs i n l f = λ j h x. f i j l h x
-
-pub slacks_next : (k : Costs) (us vs slack : List ℕ) (slacks : List (List ℕ)) (i m : ℕ) → m ≡ i + 1 → i < length slacks → IsSlackRow (get_or k.rows i []) (get_or us i 0) vs slack 16 → IsSlack (cost k) (nth us) (nth vs) slacks i → IsSlack (cost k) (nth us) (nth vs) (set slacks i slack) m
-unfolding cost
-slacks_next k us vs slack slacks i m e low row before = λ a q l h. elim (eqb_tells a i) [
-  | inl w ↦ subst (λ (b : ℕ). (cost k b q < 255 → at2 (set slacks i slack) b q + nth us b ≡ nth vs q + cost k b q) × (at2 (set slacks i slack) b q < 65535 → cost k b q < 255)) (sym w.1)
-      (subst (λ (x : List ℕ). (cost k i q < 255 → nth x q + nth us i ≡ nth vs q + cost k i q) × (nth x q < 65535 → cost k i q < 255)) (sym (get_or-set_same slacks i slack [] low)) (row q h))
-  | inr w ↦ (let ne : a ≢ i = w.1 in
-      subst (λ (x : List ℕ). (cost k a q < 255 → nth x q + nth us a ≡ nth vs q + cost k a q) × (nth x q < 65535 → cost k a q < 255)) (sym (get_or-set_other slacks i a slack [] ne)) (before a q (omega arith) h))
-]
 
 -- ---- lengths
 pub shown_by : (k : Costs) (us vs to owner : List ℕ) (x : ℕ) → k.size ≤ 16 → IsProved k us vs to owner x → IsShown (cost k) (nth us) (nth vs) (nth to) (nth owner) k.size
 shown_by k us vs to owner x few p = record { fits = λ a q l h. p.fits a q l (omega arith); is = p.value.0; owned = λ q l. (p.owned q l).0; owners = λ q l. (p.owned q l).1 }
+
+-- the sum of such an assignment is the least
+pub proved_least : (k : Costs) (us vs to owner : List ℕ) (x : ℕ) → k.size ≤ 16 → IsProved k us vs to owner x → IsLeastTotal k (Some x)
+proved_least k us vs to owner x few p =
+    reached (cost k) (nth us) (nth vs) k.size k.size k.size x (total (nth us) k.size) (total (nth vs) k.size) (omega arith) refl refl (λ i j l h e. p.fits i j l (omega arith) e) (nth to, p.value.0, p.value.1) p.paid
 
 -- the keys of all ways to t, and their sixteenth parts
 pub lengths_by : (k : Costs) (us vs to owner lengths : List ℕ) (slacks keys : List (List ℕ)) (x t : ℕ) → k.size ≤ 16 → t < k.size → IsProved k us vs to owner x → IsSlack (cost k) (nth us) (nth vs) slacks k.size → AreWays slacks owner k.size k.size keys → AreSixteenths keys t lengths 16 → AreLengths (cost k) (nth us) (nth vs) (nth to) (nth owner) (λ q. at2 keys q t) (nth lengths) k.size t

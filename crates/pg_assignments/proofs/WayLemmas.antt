@@ -1,9 +1,9 @@
 -- Ways by one more column, after Floyd and Warshall. Leads to the contracts of ways.
-use Rattle.std.proofs.Common.{◌≡◌, ◌≢◌, ℕ, ◌+◌, ◌*◌, ◌<◌, ◌≤◌, ◌⊎◌, inl, inr, List, [], length, get_or, set, refl, sym, ap, subst, arith, ◌∙◌}
-use Rattle.std.proofs.lemmas.Bool.Decides.{eqb_tells}
+use Rattle.std.proofs.Common.{◌≡◌, ◌≢◌, ℕ, ◌+◌, ◌*◌, ◌<◌, ◌≤◌, ◌⊎◌, inl, inr, eqb, true, false, List, [], length, get_or, set, refl, sym, ap, subst, arith, ◌∙◌}
+use Rattle.std.proofs.lemmas.Bool.Decides.{eqb_tells, leb_tells}
 use Rattle.std.proofs.lemmas.List.{get_or-set_same, get_or-set_other}
 use Rattle.pg_assignments.specs.Assignments.{nth, at2}
-use Rattle.pg_assignments.specs.Ways.{AreLow, IsKey, AreKeys, AreFirstKeys, IsNearer, IsNearerRow, AreNearer, AreWays}
+use Rattle.pg_assignments.specs.Ways.{AreLow, IsKey, AreKeys, AreFirstKeys, IsNearer, IsNearerRow, AreNearer, AreNearerFrom, AreWays}
 
 -- ---- ways of one step
 -- all keys but the own column's, which is then written
@@ -71,37 +71,54 @@ lowered_next old middle keys rest n m x e low long near before = record {
 pub same_row : (old middle : List ℕ) (rest : ℕ) → 65535 ≤ rest → AreLow old → IsNearerRow old middle rest old 16
 same_row old middle rest far low = λ t l. (let b : nth old t ≤ 65535 = low t l in (omega arith, omega arith, inl refl))
 
--- ---- all rows by a column
--- the first q rows are read, the others are as they were
-pub record IsGoing (m n : ℕ) (old : List (List ℕ)) (middle : List ℕ) (keys : List (List ℕ)) (q : ℕ) : Type 0 where
-  pub long : length keys ≡ 16
-  pub there : middle ≡ get_or old m []
-  pub done : AreNearer m old keys q
-  pub left : (r : ℕ) → q ≤ r → r < n → get_or keys r [] ≡ get_or old r []
+-- ---- rows by a column
+-- the rows from `first` on and before q are read, the others are as they were
+pub record IsGoing (first m : ℕ) (middle : List ℕ) (old keys : List (List ℕ)) (q : ℕ) : Type 0 where
+  pub from : first ≤ q
+  pub long : length keys ≡ length old
+  pub done : (r : ℕ) → first ≤ r → r < q → IsNearerRow (get_or old r []) middle (at2 old r m) (get_or keys r []) 16
+  pub before : (r : ℕ) → r < first → get_or keys r [] ≡ get_or old r []
+  pub after : (r : ℕ) → q ≤ r → get_or keys r [] ≡ get_or old r []
 
-pub going_next : (m n : ℕ) (old keys : List (List ℕ)) (middle row : List ℕ) (q k rest : ℕ) → k ≡ q + 1 → q < n → n ≤ 16 → length (set keys q row) ≡ length keys → rest ≡ at2 keys q m → IsNearerRow (get_or keys q []) middle rest row 16 → IsGoing m n old middle keys q → IsGoing m n old middle (set keys q row) k
-going_next m n old keys middle row q k rest e low few long er near before = record {
-  long = long ∙ before.long;
-  there = before.there;
-  done = λ r l. elim (eqb_tells r q) [
-    | inl w ↦ subst (λ (b : ℕ). IsNearerRow (get_or old b []) (get_or old m []) (at2 old b m) (get_or (set keys q row) b []) 16) (sym w.1)
-        (subst (λ (y : List ℕ). IsNearerRow (get_or old q []) (get_or old m []) (at2 old q m) y 16) (sym (get_or-set_same keys q row [] inside)) now)
+pub going_next : (first m : ℕ) (middle : List ℕ) (old keys : List (List ℕ)) (row : List ℕ) (q k rest : ℕ) → k ≡ q + 1 → q < length keys → length (set keys q row) ≡ length keys → rest ≡ at2 keys q m → IsNearerRow (get_or keys q []) middle rest row 16 → IsGoing first m middle old keys q → IsGoing first m middle old (set keys q row) k
+going_next first m middle old keys row q k rest e inside long er near b = record {
+  from = omega (arith, b.from);
+  long = long ∙ b.long;
+  done = λ r l h. elim (eqb_tells r q) [
+    | inl w ↦ subst (λ (a : ℕ). IsNearerRow (get_or old a []) middle (at2 old a m) (get_or (set keys q row) a []) 16) (sym w.1)
+        (subst (λ (y : List ℕ). IsNearerRow (get_or old q []) middle (at2 old q m) y 16) (sym (get_or-set_same keys q row [] inside)) now)
     | inr w ↦ (let ne : r ≢ q = w.1 in
-        subst (λ (y : List ℕ). IsNearerRow (get_or old r []) (get_or old m []) (at2 old r m) y 16) (sym (get_or-set_other keys q r row [] ne)) (before.done r (omega arith)))
+        subst (λ (y : List ℕ). IsNearerRow (get_or old r []) middle (at2 old r m) y 16) (sym (get_or-set_other keys q r row [] ne)) (b.done r l (omega arith)))
   ];
-  left = λ r l h. (let ne : r ≢ q = (λ z. omega arith) in get_or-set_other keys q r row [] ne ∙ before.left r (omega arith) h);
+  before = λ r l. (let f : first ≤ q = b.from in let ne : r ≢ q = (λ z. omega arith) in get_or-set_other keys q r row [] ne ∙ b.before r l);
+  after = λ r l. (let ne : r ≢ q = (λ z. omega arith) in get_or-set_other keys q r row [] ne ∙ b.after r (omega arith));
 }
   where
-    inside : q < length keys
-    inside = let z : length keys ≡ 16 = before.long in omega arith
-
     same : get_or keys q [] ≡ get_or old q []
-    same = before.left q (omega arith) low
+    same = b.after q (omega arith)
 
-    now : IsNearerRow (get_or old q []) (get_or old m []) (at2 old q m) row 16
-    now = subst (λ (x : ℕ). IsNearerRow (get_or old q []) (get_or old m []) x row 16) (er ∙ ap (λ (y : List ℕ). nth y m) same)
-        (subst (λ (y : List ℕ). IsNearerRow (get_or old q []) y rest row 16) before.there
-        (subst (λ (y : List ℕ). IsNearerRow y middle rest row 16) same near))
+    now : IsNearerRow (get_or old q []) middle (at2 old q m) row 16
+    now = subst (λ (x : ℕ). IsNearerRow (get_or old q []) middle x row 16) (er ∙ ap (λ (y : List ℕ). nth y m) same)
+        (subst (λ (y : List ℕ). IsNearerRow y middle rest row 16) same near)
+
+-- all rows: those before the column m, and those behind it
+pub nearer_all : (m n k : ℕ) (middle : List ℕ) (old half new : List (List ℕ)) → k ≡ m + 1 → middle ≡ get_or old m [] → AreNearerFrom 0 m m middle old half → AreNearerFrom k n m middle half new → AreNearer m old new n
+nearer_all m n k middle old half new e there a b = λ q l. elim (leb_tells k q) [
+  | inl w ↦ (let h : k ≤ q = w.1 in
+      subst (λ (y : List ℕ). IsNearerRow (get_or old q []) y (at2 old q m) (get_or new q []) 16) there
+      (subst (λ (y : List ℕ). IsNearerRow y middle (nth y m) (get_or new q []) 16) (a.after q (omega arith)) (b.done q h l)))
+  | inr w ↦ (let h : q < k = w.1 in upto q l h (eqb_tells q m))
+]
+  where
+    upto : (q : ℕ) → q < n → q < k → ((eqb q m ≡ true) × (q ≡ m)) ⊎ ((eqb q m ≡ false) × (q ≢ m)) → IsNearerRow (get_or old q []) (get_or old m []) (at2 old q m) (get_or new q []) 16
+    upto q l h (inl w) =
+        let same : get_or new q [] ≡ get_or old q [] = b.before q h ∙ a.after q (let z : q ≡ m = w.1 in omega arith) in
+        subst (λ (y : List ℕ). IsNearerRow (get_or old q []) (get_or old m []) (at2 old q m) y 16) (sym same)
+        (subst (λ (z : ℕ). IsNearerRow (get_or old q []) (get_or old z []) (at2 old q m) (get_or old q []) 16) w.1 (λ t j. (omega arith, omega arith, inl refl)))
+    upto q l h (inr w) =
+        let ne : q ≢ m = w.1 in
+        subst (λ (y : List ℕ). IsNearerRow (get_or old q []) (get_or old m []) (at2 old q m) y 16) (sym (b.before q h))
+        (subst (λ (y : List ℕ). IsNearerRow (get_or old q []) y (at2 old q m) (get_or half q []) 16) there (a.done q (omega arith) (omega arith)))
 
 -- ---- what a column more keeps
 -- a way in two parts is no shorter than the way, where each part may have become one by the new column

@@ -14,3 +14,12 @@ RowFits costs price columns m = (j : ℕ) → j < m → nth costs j < 255 → pr
 -- these columns are an assignment, and x is its sum
 abbrev pub IsValue : Costs → List ℕ → ℕ → Type 0
 IsValue k to x = IsAssignment (cost k) (Below k.size) k.size (nth to) × (x ≡ sum_of (cost k) (nth to) k.size)
+
+-- the first m numbers are at most those of both others
+abbrev pub AreAtMost : List ℕ → List ℕ → List ℕ → ℕ → Type 0
+AreAtMost xs ys zs m = (j : ℕ) → j < m → (nth xs j ≤ nth ys j) × (nth xs j ≤ nth zs j)
+
+-- sixteen numbers up to 255, at most the costs of the first n rows, column by column
+pub record AreBelow (c : ℕ → ℕ → ℕ) (least : List ℕ) (n : ℕ) : Type 0 where
+  pub low : (j : ℕ) → j < 16 → nth least j ≤ 255
+  pub below : (i j : ℕ) → i < n → j < 16 → nth least j ≤ c i j

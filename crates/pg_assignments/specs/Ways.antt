@@ -1,6 +1,6 @@
 -- The shortest ways of handing columns on, as keys: sixteen times the length, and one for each step. By the column that is left and
 -- then by the one that is reached.
-use Rattle.std.specs.Prelude.{◌≡◌, ◌≢◌, ℕ, ◌+◌, ◌*◌, ◌<◌, ◌≤◌, ◌⊎◌, List, [], get_or}
+use Rattle.std.specs.Prelude.{◌≡◌, ◌≢◌, ℕ, ◌+◌, ◌*◌, ◌<◌, ◌≤◌, ◌⊎◌, List, [], get_or, length}
 use Rattle.pg_assignments.specs.Assignments.{nth, at2}
 
 -- the numbers are at most 65535
@@ -31,6 +31,13 @@ IsNearerRow old middle rest new n = (t : ℕ) → t < n → IsNearer (nth old t)
 -- the first n rows by the column m
 abbrev pub AreNearer : ℕ → List (List ℕ) → List (List ℕ) → ℕ → Type 0
 AreNearer m old new n = (q : ℕ) → q < n → IsNearerRow (get_or old q []) (get_or old m []) (at2 old q m) (get_or new q []) 16
+
+-- the rows from `first` on and before `end` by the column m, whose row is `middle`; the others stay
+pub record AreNearerFrom (first end m : ℕ) (middle : List ℕ) (old new : List (List ℕ)) : Type 0 where
+  pub long : length new ≡ length old
+  pub done : (q : ℕ) → first ≤ q → q < end → IsNearerRow (get_or old q []) middle (at2 old q m) (get_or new q []) 16
+  pub before : (q : ℕ) → q < first → get_or new q [] ≡ get_or old q []
+  pub after : (q : ℕ) → end ≤ q → get_or new q [] ≡ get_or old q []
 
 -- the keys of ways by the first m columns: no step and no way by one of them is shorter, and each way has a first step that leads on
 pub record AreWays (slacks : List (List ℕ)) (owner : List ℕ) (n m : ℕ) (keys : List (List ℕ)) : Type 0 where

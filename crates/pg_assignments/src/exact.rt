@@ -56,7 +56,7 @@ fn search(costs: &Costs, free: [bool; 16], rows: usize) -> Option<u16>
 }
 
 // The first so many columns are free.
-pub(crate) fn first(columns: usize) -> [bool; 16]
+fn first(columns: usize) -> [bool; 16]
     requires { columns ≤ 16 }
     ensures is { (j : ℕ) → IsFree result j ↔ (j < columns) }
     ensures long { length result ≡ 16 }

@@ -1,9 +1,11 @@
 //! Least totals of assignments, exactly: each row gets a column of its own.
 #![tactic(auto)]
 
+mod columns;
 mod costs;
 mod exact;
 mod propose;
+mod slacks;
 mod tested;
 mod totals;
 mod ways;

@@ -1,6 +1,7 @@
 //! A proposal of a least assignment, with prices that show it: the Hungarian method. Nothing is proved of it
 //! but that it is safe and ends.
 use crate::costs::{Costs, NONE};
+use std::simd::{u8x16, u16x16};
 
 /// A row of numbers.
 pub(crate) type Row = [u16; 16];
@@ -21,13 +22,13 @@ const MISSING: u16 = 4080;
 // Where a row or a column has no partner.
 const FREE: u8 = 255;
 
-// A shortest path from the row in hand to each column: its length, the row before the column, and
-// 65535 for those whose length is final.
+// Shortest paths from the row in hand to each column, by keys: sixteen times the length, and the row before the column.
+// The columns that are closed, which have their last length, as bits; and the one at the end, which no row holds.
 #[derive(Clone, Copy)]
 struct Paths {
-    length: Row,
-    before: Row,
-    closed: Row,
+    keys: Row,
+    closed: u64,
+    end: u8,
 }
 
 // An index is below 16: the remainder changes nothing, and spares the prover an invariant.
@@ -57,125 +58,143 @@ fn charged(cost: u8) -> u16 {
     }
 }
 
-// The least cost of a row.
+// The columns' numbers.
+const NUMBERS: Row = [0, 1, 2, 3, 4, 5, 6, 7, 8, 9, 10, 11, 12, 13, 14, 15];
+
+// The columns that have this number, as bits.
 #[inline(always)]
-fn least(row: &[u8; 16]) -> u8 {
-    let mut least = NONE;
-    for i in 0..16usize {
-        least = least.min(row[i]);
-    }
-    least
+fn with_number(row: Row, number: u16) -> u64 {
+    u16x16::from_array(row)
+        .simd_eq(u16x16::splat(number))
+        .to_bitmask()
 }
 
-// The columns at which a row has this cost, as bits.
+// 65535 at the columns from `size` on.
 #[inline(always)]
-fn with_cost(row: &[u8; 16], cost: u8) -> u16 {
-    let mut set = 0u16;
-    for i in 0..16usize {
-        set |= u16::from(row[i] == cost) << i;
-    }
-    set
+fn marks_from(size: u16) -> Row {
+    let are_past = u16x16::from_array(NUMBERS).simd_ge(u16x16::splat(size));
+    are_past
+        .select(u16x16::splat(u16::MAX), u16x16::splat(0))
+        .to_array()
 }
 
-// The lengths of the paths that go on from a row.
+// The first prices of columns, of which a column of lower costs has a higher one.
 #[inline(always)]
-fn lengths_on(costs: [u8; 16], columns: Row, price: u16, so_far: u16) -> Row {
-    let mut lengths = columns;
+fn first_prices(least: [u8; 16]) -> Row {
+    let mut prices = [0u16; 16];
     for i in 0..16usize {
-        lengths[i] = so_far
-            .saturating_add(charged(costs[i]))
-            .saturating_add(columns[i])
-            .saturating_sub(price);
+        prices[i] = u16::from(255 - least[i]);
     }
-    lengths
+    prices
+}
+
+// What a row pays at the columns, with their prices.
+#[inline(always)]
+fn paid(costs: [u8; 16], columns: Row) -> Row {
+    let mut paid = columns;
+    for i in 0..16usize {
+        paid[i] = columns[i].saturating_add(charged(costs[i]));
+    }
+    paid
+}
+
+// The keys of paths that go on from a row of this price, of lengths up to 4094, to the columns that are open.
+#[inline(always)]
+fn keys_on(paid: Row, price: u16, so_far: u16, row: u16, closed: Row) -> Row {
+    let lengths = u16x16::from_array(paid).saturating_add(u16x16::splat(so_far));
+    let lengths = lengths.saturating_sub(u16x16::splat(price));
+    let lengths = lengths.simd_min(u16x16::splat(4094));
+    let keys = lengths * u16x16::splat(16) + u16x16::splat(row);
+    (keys | u16x16::from_array(closed)).to_array()
 }
 
 // The lesser of each two numbers.
 #[inline(always)]
 fn lesser(first: Row, second: Row) -> Row {
-    let mut lesser = first;
-    for i in 0..16usize {
-        lesser[i] = lesser[i].min(second[i]);
-    }
-    lesser
+    u16x16::from_array(first)
+        .simd_min(u16x16::from_array(second))
+        .to_array()
 }
 
-// The rows before the columns, where paths by this row have become shorter.
+// The bits of either.
 #[inline(always)]
-fn rows_before(before: Row, after: Row, rows: Row, row: u16) -> Row {
-    let mut names = rows;
-    for i in 0..16usize {
-        names[i] = if after[i] < before[i] { row } else { names[i] };
-    }
-    names
+fn joined(first: Row, second: Row) -> Row {
+    (u16x16::from_array(first) | u16x16::from_array(second)).to_array()
 }
 
-// Lengths up to 4094 and the columns' numbers in one, or 65535 for those that are closed.
+// 65535 at this column alone.
 #[inline(always)]
-fn numbered(lengths: Row, closed: Row) -> Row {
-    let mut numbered = lengths;
-    for i in 0..16usize {
-        numbered[i] = (numbered[i].min(4094) * 16 + i as u16) | closed[i];
-    }
-    numbered
+fn mark(column: u8) -> Row {
+    let is_it = u16x16::from_array(NUMBERS).simd_eq(u16x16::splat(u16::from(column)));
+    is_it
+        .select(u16x16::splat(u16::MAX), u16x16::splat(0))
+        .to_array()
 }
 
 // The least number.
 #[inline(always)]
 fn least_number(row: Row) -> u16 {
-    let mut least = u16::MAX;
-    for i in 0..16usize {
-        least = least.min(row[i]);
-    }
-    least
+    u16x16::from_array(row).reduce_min()
 }
 
-// Finds a shortest path from a row to a column that no row holds: the column and the length.
-fn search(costs: &Costs, partners: &Proposal, start: u8, paths: &mut Paths) -> (u8, u16) {
+// Finds a shortest path from a row to a column that no row holds. A key stays as it is once its column is closed.
+#[inline(always)]
+fn search(costs: &Costs, partners: &Proposal, start: u8) -> Paths {
+    let mut keys = [u16::MAX; 16];
+    let mut marks = marks_from(costs.size.min(16) as u16);
+    let mut closed = 0u64;
     let mut row = start;
     let mut so_far = 0u16;
-    let mut column = 0u8;
+    let mut end = 0u8;
     for _ in 0..16usize {
         let price = at(&partners.rows, row);
-        let here = costs.rows[usize::from(row) % 16];
-        let before = paths.length;
-        let after = lesser(before, lengths_on(here, partners.columns, price, so_far));
-        paths.before = rows_before(before, after, paths.before, u16::from(row));
-        paths.length = after;
-        let best = least_number(numbered(after, paths.closed));
-        let length = best / 16;
-        let next = (best % 16) as u8;
-        column = next;
-        so_far = length;
-        row = name(&partners.holder, column);
+        let here = paid(costs.rows[usize::from(row) % 16], partners.columns);
+        let on = keys_on(here, price, so_far, u16::from(row) % 16, marks);
+        let nearer = lesser(keys, on);
+        keys = nearer;
+        let left = joined(keys, marks);
+        let best = least_number(left);
+        end = with_number(left, best).trailing_zeros() as u8;
+        so_far = best / 16;
+        row = name(&partners.holder, end);
         if row == FREE {
-            return (column, so_far);
+            break;
         }
-        put(&mut paths.closed, column, u16::MAX);
+        closed |= 1 << (end % 16);
+        let more = joined(marks, mark(end));
+        marks = more;
     }
-    (column, so_far)
+    Paths { keys, closed, end }
 }
 
-// Raises the prices along the paths that are shorter than the one that was found.
+// Raises the prices of the closed columns, and those of their rows, by what their paths are shorter than the one to the
+// end.
+#[inline(always)]
 fn raise(partners: &mut Proposal, paths: &Paths, start: u8, length: u16) {
-    for i in 0..16usize {
-        if paths.closed[i] != 0 {
-            let more = length.saturating_sub(paths.length[i]);
-            partners.columns[i] = partners.columns[i].saturating_add(more);
-            let row = partners.holder[i];
-            let price = at(&partners.rows, row).saturating_add(more);
-            put(&mut partners.rows, row, price);
+    let mut closed = paths.closed;
+    for _ in 0..16usize {
+        if closed == 0 {
+            break;
         }
+        let column = closed.trailing_zeros() as u8;
+        closed &= closed.wrapping_sub(1);
+        let more = length.saturating_sub(at(&paths.keys, column) / 16);
+        let price = at(&partners.columns, column).saturating_add(more);
+        put(&mut partners.columns, column, price);
+        let row = name(&partners.holder, column);
+        let price = at(&partners.rows, row).saturating_add(more);
+        put(&mut partners.rows, row, price);
     }
     let price = at(&partners.rows, start).saturating_add(length);
     put(&mut partners.rows, start, price);
 }
 
 // Each row of the path takes the column behind it.
-fn shift(partners: &mut Proposal, paths: &Paths, start: u8, end: u8) {
-    let mut column = end;
+#[inline(always)]
+fn shift(partners: &mut Proposal, paths: &Paths, start: u8) {
+    let mut column = paths.end;
     for _ in 0..16usize {
-        let row = (at(&paths.before, column) % 16) as u8;
+        let row = (at(&paths.keys, column) % 16) as u8;
         let left = name(&partners.to, row);
         rename(&mut partners.to, row, column);
         rename(&mut partners.holder, column, row);
@@ -187,53 +206,82 @@ fn shift(partners: &mut Proposal, paths: &Paths, start: u8, end: u8) {
 }
 
 // Settles a row that has no column.
+#[inline(always)]
 fn settle(costs: &Costs, partners: &mut Proposal, start: u8) {
-    let mut paths = Paths {
-        length: [u16::MAX; 16],
-        before: [0; 16],
-        closed: [0; 16],
-    };
-    let (end, length) = search(costs, partners, start, &mut paths);
+    let paths = search(costs, partners, start);
+    let length = at(&paths.keys, paths.end) / 16;
     raise(partners, &paths, start, length);
-    shift(partners, &paths, start, end);
+    shift(partners, &paths, start);
 }
 
-// Prices each row by its least cost, and gives it a column of that cost that no row holds, if there is one.
+// By how much a row's costs are above the least ones of their columns, or 255 where there is no cost.
+#[inline(always)]
+fn above(costs: [u8; 16], least: [u8; 16]) -> [u8; 16] {
+    let costs = u8x16::from_array(costs);
+    let none = costs.simd_eq(u8x16::splat(NONE));
+    let above = costs.saturating_sub(u8x16::from_array(least));
+    none.select(u8x16::splat(NONE), above).to_array()
+}
+
+// The least cost.
+#[inline(always)]
+fn least_cost(row: [u8; 16]) -> u8 {
+    u8x16::from_array(row).reduce_min()
+}
+
+// The columns that have this cost, as bits.
+#[inline(always)]
+fn with_cost(row: [u8; 16], cost: u8) -> u64 {
+    u8x16::from_array(row)
+        .simd_eq(u8x16::splat(cost))
+        .to_bitmask()
+}
+
+// Prices each row by the least that it pays, and gives it a column of that price that no row holds, if there is one.
 // The rows that are left are answered, as bits.
-fn begin(costs: &Costs, partners: &mut Proposal) -> u16 {
-    let mut free = u16::MAX;
-    let mut left = 0u16;
-    for t in 0..16usize {
-        if t < costs.size {
-            let price = least(&costs.rows[t]);
-            partners.rows[t] = charged(price);
-            let fitting = with_cost(&costs.rows[t], price) & free;
-            if fitting != 0 {
-                let column = fitting.trailing_zeros() as u8;
-                free &= fitting.wrapping_sub(1) | !fitting;
-                partners.to[t] = column;
-                rename(&mut partners.holder, column, t as u8);
-            } else {
-                left |= 1 << t;
-            }
+#[inline(always)]
+fn begin(costs: &Costs, least: [u8; 16], partners: &mut Proposal) -> u64 {
+    let size = costs.size.min(16);
+    let mut free = (1u64 << size) - 1;
+    let mut left = 0u64;
+    for t in 0..size {
+        let above = above(costs.rows[t], least);
+        let cost = least_cost(above);
+        let fitting = with_cost(above, cost) & free;
+        if cost != NONE && fitting != 0 {
+            let column = fitting.trailing_zeros() as u8;
+            free &= fitting.wrapping_sub(1) | !fitting;
+            partners.to[t] = column;
+            rename(&mut partners.holder, column, t as u8);
+        } else {
+            left |= 1 << t;
         }
+        partners.rows[t] = if cost == NONE {
+            MISSING
+        } else {
+            u16::from(cost) + 255
+        };
     }
     left
 }
 
-/// A proposal for the rows of these costs.
-pub(crate) fn propose(costs: &Costs) -> Proposal {
+/// A proposal for the rows of these costs, of which the least ones of each column are handed in.
+#[inline(never)]
+pub(crate) fn propose(costs: &Costs, least: [u8; 16]) -> Proposal {
     let mut partners = Proposal {
         rows: [0; 16],
-        columns: [0; 16],
+        columns: first_prices(least),
         holder: [FREE; 16],
         to: [FREE; 16],
     };
-    let left = begin(costs, &mut partners);
-    for t in 0..16usize {
-        if left >> t & 1 == 1 {
-            settle(costs, &mut partners, t as u8);
+    let mut left = begin(costs, least, &mut partners);
+    for _ in 0..16usize {
+        if left == 0 {
+            break;
         }
+        let row = left.trailing_zeros() as u8;
+        left &= left.wrapping_sub(1);
+        settle(costs, &mut partners, row);
     }
     partners
 }

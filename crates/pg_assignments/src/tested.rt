@@ -3,9 +3,11 @@ ghost use Rattle.std.specs.Prelude.{◌≡◌, ◌≤◌, IsTrue, IfSome};
 ghost use Rattle.pg_board.specs.Tally.{total};
 ghost use Rattle.pg_assignments.specs.Assignments.{cost, IsLeastTotal, nth};
 ghost use Rattle.pg_assignments.specs.Dual.{Fits, RowFits, IsValue};
+ghost use Rattle.pg_assignments.specs.Handing.{IsOwned};
 
+use crate::columns::least_of_columns;
 use crate::costs::{Costs, NONE};
-use crate::exact::{first, search_all};
+use crate::exact::search_all;
 use crate::propose::{Proposal, Row, propose};
 
 // Whether a row's price is at most each column's and the cost of the pair.
@@ -47,23 +49,22 @@ pub(crate) fn sum(row: &Row, count: usize) -> u32
     sum
 }
 
-// What the proposed assignment costs, if it is one.
-pub(crate) fn value(costs: &Costs, to: &[u8; 16]) -> Option<u16>
+// What the proposed assignment costs, if it is one: each row owns the column that it goes to.
+pub(crate) fn value(costs: &Costs, to: &[u8; 16], owner: &[u8; 16]) -> Option<u16>
     requires { costs.now.size ≤ 16 }
-    ensures { IfSome result (λ x. IsValue costs.now to.now x) }
+    ensures value { IfSome result (λ x. IsValue costs.now to.now x) }
+    ensures owned { IfSome result (λ x. IsOwned to.now owner.now costs.now.size costs.now.size) }
 {
-    let mut free = first(costs.size);
     let mut sum = 0u16;
     for i in 0..costs.size {
         let column = usize::from(to[i]);
-        if column >= 16 || !free[column] {
+        if column >= costs.size || usize::from(owner[column]) != i {
             return None;
         }
         let cost = costs.at(i, column);
         if cost == NONE {
             return None;
         }
-        free[column] = false;
         sum += u16::from(cost);
     }
     Some(sum)
@@ -82,7 +83,7 @@ pub(crate) fn judged(costs: &Costs, proposal: &Proposal) -> Option<u16>
     if charged + 4064 < paid {
         return None;
     }
-    match value(costs, &proposal.to) {
+    match value(costs, &proposal.to, &proposal.holder) {
         None => search_all(costs),
         Some(x) => {
             if u32::from(x) + charged <= paid {
@@ -103,5 +104,5 @@ pub fn least_total(costs: &Costs) -> Option<u16>
     requires { costs.now.size ≤ 16 }
     ensures { IsLeastTotal costs.now result }
 {
-    judged(costs, &propose(costs))
+    judged(costs, &propose(costs, least_of_columns(costs)))
 }

@@ -2,7 +2,7 @@
 //! nothing that it finds is tested.
 ghost use Rattle.std.specs.Prelude.{ℕ, ◌<◌, ◌≤◌, get_or, []};
 ghost use Rattle.pg_assignments.specs.Handing.{AreWithin};
-ghost use Rattle.pg_assignments.specs.Ways.{AreLow, IsKey, AreKeys, AreFirstKeys, IsNearer, IsNearerRow, AreNearer, AreWays, AreSixteenths};
+ghost use Rattle.pg_assignments.specs.Ways.{AreLow, IsKey, AreKeys, AreFirstKeys, IsNearer, IsNearerRow, AreNearer, AreNearerFrom, AreWays, AreSixteenths};
 
 use crate::propose::Row;
 
@@ -11,12 +11,15 @@ use crate::propose::Row;
 // where it costs nothing.
 pub(crate) type Keys = [Row; 16];
 
-// What a step costs.
+// What a step costs. Sums vectorize; a product that stops at 65535 does not.
 #[inline(always)]
 fn key(slack: u16) -> u16
     ensures { IsKey slack result }
 {
-    slack.saturating_mul(16).saturating_add(1)
+    let two = slack.saturating_add(slack);
+    let four = two.saturating_add(two);
+    let eight = four.saturating_add(four);
+    eight.saturating_add(eight).saturating_add(1)
 }
 
 // What the steps from a row's column cost.
@@ -31,15 +34,14 @@ fn steps_from(slack: &Row) -> Row
     steps
 }
 
-// The same, and no way from the column to itself.
+// The same, and no way from the column to itself. Keys are written where they stay.
 #[inline(always)]
-fn first_keys(slack: &Row, column: usize) -> Row
+fn first_keys(slack: &Row, column: usize, keys: &mut Row)
     requires { column < 16 }
-    ensures { AreFirstKeys slack.now column result }
+    ensures { AreFirstKeys slack.now column keys.new }
 {
-    let mut keys = steps_from(slack);
+    *keys = steps_from(slack);
     keys[column] = 0;
-    keys
 }
 
 // Ways of one step.
@@ -51,8 +53,7 @@ fn begin(size: usize, slacks: &[Row; 16], owner: &[u8; 16], keys: &mut Keys)
 {
     for q in 0..size {
         let row = usize::from(owner[q]);
-        let first = first_keys(&slacks[row], q);
-        keys[q] = first;
+        first_keys(&slacks[row], q, &mut keys[q]);
     }
 }
 
@@ -86,7 +87,22 @@ fn lower_by(keys: &mut Row, middle: Row, rest: u16)
     }
 }
 
-// Ways by one more column.
+// Ways from some of the columns by one more, whose row is `middle`.
+#[inline(always)]
+fn go_from(first: usize, end: usize, m: usize, middle: Row, keys: &mut Keys)
+    requires first { first ≤ end }
+    requires end { end ≤ 16 }
+    requires middle { m < 16 }
+    requires low { (q : ℕ) → first ≤ q → q < end → AreLow (get_or keys.old q []) }
+    ensures { AreNearerFrom first end m middle keys.old keys.new }
+{
+    for q in first..end {
+        let rest = keys[q][m];
+        lower_by(&mut keys[q], middle, rest);
+    }
+}
+
+// Ways by one more column. Those that start there stay as they are.
 #[inline(always)]
 fn go_by(size: usize, m: usize, keys: &mut Keys)
     requires size { size ≤ 16 }
@@ -95,10 +111,8 @@ fn go_by(size: usize, m: usize, keys: &mut Keys)
     ensures { AreNearer m keys.old keys.new size }
 {
     let middle = keys[m];
-    for q in 0..size {
-        let rest = keys[q][m];
-        lower_by(&mut keys[q], middle, rest);
-    }
+    go_from(0, m, m, middle, keys);
+    go_from(m + 1, size, m, middle, keys);
 }
 
 // Finds the shortest ways of handing columns on.

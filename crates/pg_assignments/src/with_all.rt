@@ -1,101 +1,55 @@
 //! The least totals of all pairs at once, by lengths of ways of handing columns on.
 ghost use Rattle.std.specs.Prelude.{◌<◌, ◌≤◌, IsTrue, IfSome, None};
 ghost use Rattle.pg_assignments.specs.Assignments.{cost, IsLeastTotal, IsLeastWith, nth, told, RowLeast, AreLeastWith};
-ghost use Rattle.pg_assignments.specs.Dual.{Fits, RowFits};
-ghost use Rattle.pg_assignments.specs.Handing.{AreWithin, IsSlackRow, IsSlack, IsOwned, AreTold, IsProvedOf};
+ghost use Rattle.pg_assignments.specs.Dual.{Fits};
+ghost use Rattle.pg_assignments.specs.Handing.{AreWithin, IsSlackBy, AreTold, AreSums, IsProvedOf};
 
-use crate::costs::{Costs, NONE};
+use crate::columns::least_of_columns;
+use crate::costs::Costs;
 use crate::propose::{Proposal, Row, propose};
+use crate::slacks::fitted;
 use crate::tested::{fits, sum, value};
 use crate::ways::{find_ways, lengths_to};
 use crate::with::least_with;
 
-// Whether all are below 32768.
-fn low(row: &Row) -> bool
-    ensures { IsTrue result → AreWithin row.now 16 32768 }
-{
-    let mut low = true;
-    for q in 0..16usize {
-        low &= row[q] < 32768;
-    }
-    low
+/// What the rows of a proposal pay, and what its columns charge.
+#[derive(Clone, Copy)]
+pub(crate) struct Sums {
+    pub(crate) paid: u32,
+    pub(crate) charged: u32,
 }
 
-// Whether each column's owner goes there.
-fn owned(size: usize, to: &[u8; 16], owner: &[u8; 16]) -> bool
-    requires { size ≤ 16 }
-    ensures { IsTrue result → IsOwned to.now owner.now size size }
-{
-    for q in 0..size {
-        let row = usize::from(owner[q]);
-        if row >= size || usize::from(to[row]) != q {
-            return false;
-        }
-    }
-    true
-}
-
-// The value of a proposal, where it passes.
-#[inline(never)]
-fn proved(costs: &Costs, proposal: &Proposal) -> Option<u16>
+/// The sums of a proposal's prices.
+#[inline(always)]
+pub(crate) fn sums_of(costs: &Costs, proposal: &Proposal) -> Sums
     requires { costs.now.size ≤ 16 }
+    ensures { AreSums costs.now proposal.now result }
+{
+    Sums {
+        paid: sum(&proposal.rows, costs.size),
+        charged: sum(&proposal.columns, costs.size),
+    }
+}
+
+/// The value of a proposal whose prices fit, where it passes.
+#[inline(never)]
+pub(crate) fn proved(costs: &Costs, proposal: &Proposal, sums: &Sums) -> Option<u16>
+    requires size { costs.now.size ≤ 16 }
+    requires fits { Fits (cost costs.now) (nth proposal.now.rows) (nth proposal.now.columns) costs.now.size 16 }
+    requires low { AreWithin proposal.now.columns 16 32768 }
+    requires sums { AreSums costs.now proposal.now sums.now }
     ensures { IfSome result (λ x. IsProvedOf costs.now proposal.now x) }
 {
-    if !fits(costs, &proposal.rows, &proposal.columns) {
-        return None;
-    }
-    if !low(&proposal.columns) {
-        return None;
-    }
-    if !owned(costs.size, &proposal.to, &proposal.holder) {
-        return None;
-    }
-    let paid = sum(&proposal.rows, costs.size);
-    let charged = sum(&proposal.columns, costs.size);
-    match value(costs, &proposal.to) {
+    match value(costs, &proposal.to, &proposal.holder) {
         None => None,
         Some(x) => {
-            if u32::from(x) + charged <= paid {
+            if u32::from(x) + sums.charged <= sums.paid {
                 Some(x)
             } else {
                 None
             }
         }
     }
-}
-
-// By how much a row's price is below each column's and the cost: its slacks.
-#[inline(always)]
-fn slack_row(costs: &[u8; 16], price: u16, columns: &Row) -> Row
-    requires fits { RowFits costs.now price columns.now 16 }
-    requires low { AreWithin columns.now 16 32768 }
-    ensures { IsSlackRow costs.now price columns.now result 16 }
-{
-    let mut slack = [u16::MAX; 16];
-    for q in 0..16usize {
-        let sum = columns[q].saturating_add(u16::from(costs[q]));
-        slack[q] = if costs[q] == NONE {
-            u16::MAX
-        } else {
-            sum.saturating_sub(price)
-        };
-    }
-    slack
-}
-
-// The same for each row.
-#[inline(never)]
-fn slacks(costs: &Costs, rows: &Row, columns: &Row) -> [Row; 16]
-    requires size { costs.now.size ≤ 16 }
-    requires fits { Fits (cost costs.now) (nth rows.now) (nth columns.now) costs.now.size 16 }
-    requires low { AreWithin columns.now 16 32768 }
-    ensures { IsSlack (cost costs.now) (nth rows.now) (nth columns.now) result costs.now.size }
-{
-    let mut slacks = [[u16::MAX; 16]; 16];
-    for i in 0..costs.size {
-        slacks[i] = slack_row(&costs.rows[i], rows[i], columns);
-    }
-    slacks
 }
 
 // The totals of a row's pairs.
@@ -111,22 +65,26 @@ fn told_row(x: u16, slack: &Row, lengths: &Row) -> Row
     out
 }
 
-// The least totals by a proposal of this value.
+/// Finds the least totals by a proposal of this value, whose slacks these are. They are written where they stay.
 #[inline(never)]
-fn all_by(costs: &Costs, proposal: &Proposal, x: u16) -> [Row; 16]
+pub(crate) fn all_by(
+    costs: &Costs,
+    proposal: &Proposal,
+    slacks: &[Row; 16],
+    x: u16,
+    out: &mut [Row; 16],
+)
     requires size { costs.now.size ≤ 16 }
     requires proved { IsProvedOf costs.now proposal.now x }
-    ensures { AreLeastWith costs.now result costs.now.size }
+    requires slack { IsSlackBy costs.now proposal.now slacks.now }
+    ensures { AreLeastWith costs.now out.new costs.now.size }
 {
-    let slacks = slacks(costs, &proposal.rows, &proposal.columns);
     let mut keys = [[u16::MAX; 16]; 16];
-    find_ways(costs.size, &slacks, &proposal.holder, &mut keys);
-    let mut out = [[u16::MAX; 16]; 16];
+    find_ways(costs.size, slacks, &proposal.holder, &mut keys);
     for i in 0..costs.size {
         let lengths = lengths_to(&keys, usize::from(proposal.to[i]));
         out[i] = told_row(x, &slacks[i], &lengths);
     }
-    out
 }
 
 // The least total of a pair as a number.
@@ -156,7 +114,7 @@ fn plain_row(costs: &Costs, row: usize) -> Row
 }
 
 // The least totals of all pairs, each by itself.
-fn plain_all(costs: &Costs) -> [Row; 16]
+pub(crate) fn plain_all(costs: &Costs) -> [Row; 16]
     requires { costs.now.size ≤ 16 }
     ensures { AreLeastWith costs.now result costs.now.size }
 {
@@ -192,9 +150,17 @@ fn tried(costs: &Costs, proposal: &Proposal) -> Option<[Row; 16]>
     requires { costs.now.size ≤ 16 }
     ensures { IfSome result (λ out. AreLeastWith costs.now out costs.now.size) }
 {
-    match proved(costs, proposal) {
+    let mut slacks = [[u16::MAX; 16]; 16];
+    if !fitted(costs, proposal, &mut slacks) {
+        return None;
+    }
+    match proved(costs, proposal, &sums_of(costs, proposal)) {
         None => None,
-        Some(x) => Some(all_by(costs, proposal, x)),
+        Some(x) => {
+            let mut out = [[u16::MAX; 16]; 16];
+            all_by(costs, proposal, &slacks, x, &mut out);
+            Some(out)
+        }
     }
 }
 
@@ -219,7 +185,7 @@ pub fn least_with_all(costs: &Costs) -> [[u16; 16]; 16]
     requires { costs.now.size ≤ 16 }
     ensures { AreLeastWith costs.now result costs.now.size }
 {
-    let proposal = propose(costs);
+    let proposal = propose(costs, least_of_columns(costs));
     if shows_none(costs, &proposal) {
         none_all(costs)
     } else {

@@ -1,6 +1,6 @@
 use Rattle.std.proofs.Common.{◌≡◌, length}
 use Rattle.pg_assignments.specs.Handing.{IsSlackRow}
-use Rattle.pg_assignments.proofs.with_all.slack_row.Given as goal
+use Rattle.pg_assignments.proofs.slacks.slack_row.Given as goal
 
 abbrev pub invariant-loop-q : goal.invariant-loop-q
 invariant-loop-q l = record { long : length l.slack ≡ 16; is : IsSlackRow l.costs l.price l.columns l.slack l.q }

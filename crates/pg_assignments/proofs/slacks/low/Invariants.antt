@@ -1,6 +1,6 @@
 use Rattle.std.proofs.Common.{◌≡◌, true}
 use Rattle.pg_assignments.specs.Handing.{AreWithin}
-use Rattle.pg_assignments.proofs.with_all.low.Given as goal
+use Rattle.pg_assignments.proofs.slacks.low.Given as goal
 
 abbrev pub invariant-loop-q : goal.invariant-loop-q
 invariant-loop-q l = l.low ≡ true → AreWithin l.row l.q 32768

@@ -1,0 +1,6 @@
+use Rattle.pg_assignments.specs.Assignments.{cost}
+use Rattle.pg_assignments.specs.Dual.{AreBelow}
+use Rattle.pg_assignments.proofs.columns.least_of_columns.Given as goal
+
+abbrev pub invariant-loop-i : goal.invariant-loop-i
+invariant-loop-i l = AreBelow (cost l.costs) l.least l.i

@@ -1,0 +1,7 @@
+use Rattle.std.proofs.Common.{◌≡◌, ◌*◌, ◌≤◌}
+use Rattle.pg_board.specs.Tally.{total}
+use Rattle.pg_assignments.specs.Assignments.{nth}
+use Rattle.pg_assignments.proofs.columns.sum_of.Given as goal
+
+abbrev pub invariant-loop-j : goal.invariant-loop-j
+invariant-loop-j l = record { is : l.sum ≡ total (nth l.row) l.j; low : l.sum ≤ 255 * l.j }
