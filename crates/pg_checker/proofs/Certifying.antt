@@ -1,5 +1,5 @@
 -- The header, the walk and the answer. Leads to the contracts of `read_header`, `walk` and `check`.
-use Rattle.std.proofs.Common.{◌≡◌, ◌≢◌, ℕ, suc, ◌-◌, Bool, true, false, List, [], ◌∷◌, ◌++◌, map, ◌*◌, Option, Some, None, IfSome, not, nat_eq, Result, Ok, Err, refl, sym, ◌∙◌, ap, subst}
+use Rattle.std.proofs.Common.{◌≡◌, ◌≢◌, ℕ, suc, ◌+◌, ◌-◌, ◌≤◌, length, arith, Bool, true, false, List, [], ◌∷◌, ◌++◌, map, ◌*◌, Option, Some, None, IfSome, not, nat_eq, Result, Ok, Err, refl, sym, ◌∙◌, ap, subst}
 use Rattle.std.specs.Cmp.Lexicographic.{pointwise}
 use Rattle.std.proofs.lemmas.Bool.Decides.{Decides-eqb}
 use Rattle.std.proofs.lemmas.Slice.Eq.{slice_eq-Decides}
@@ -14,13 +14,15 @@ use Rattle.pg_certificate.specs.declared.fault.ReadFault.{ReadFault}
 use Rattle.pg_certificate.specs.declared.fault.ReadFault.TheVariants as reading
 use Rattle.pg_certificate.specs.declared.record.Header.{Header}
 use Rattle.pg_certificate.specs.Reading.{header_at, more_at}
-use Rattle.pg_certificate.specs.Reader.{ReaderState, to_come, Reads}
+use Rattle.pg_certificate.specs.Reader.{PullsAtMost, ReaderState, to_come, Reads}
+use Rattle.pg_checker.specs.declared.certify.Proved.{Proved}
+use Rattle.pg_checker.proofs.Running.{Few}
 use Rattle.pg_checker.specs.Tree as tree
 use Rattle.pg_checker.specs.Tree.{Rules}
 use Rattle.pg_checker.specs.Walk as walk
 use Rattle.pg_checker.specs.Walk.{◌>>=◌}
 use Rattle.pg_checker.specs.Whole.{run, answer, ended}
-use Rattle.pg_checker.specs.Chess.{Cuts, chess}
+use Rattle.pg_checker.specs.Chess.{Cuts, chess_with}
 use Rattle.pg_checker.specs.inner.Judging.{stop_of}
 use Rattle.pg_checker.specs.inner.Machine.{entry_of, state_at}
 use Rattle.pg_checker.specs.inner.Steps.{Answer, Goes, Stops}
@@ -96,29 +98,53 @@ takes_stop before after left most now stop.Memory f = f
 takes_stop before after left most now stop.Read f = tt
 takes_stop before after left most now (stop.Because x) f = f
 
-module _ (d : Placement) (l : ℕ) (games : List (List Move)) (cut : Cuts) where
+-- the look for a byte behind the trees takes one buffer at most
+pulls_all : (before mid left : Option (List ℕ)) (xs : List ℕ) (most now : ℕ) → Consumes before mid xs → Few before mid most now → IfSome mid (λ bytes. IfSome left (λ rest. length bytes ≤ length rest + (4096 + 0))) → IfSome before (λ bytes. IfSome left (λ rest. length bytes ≤ length rest + (4096 + longest_record * most)))
+pulls_all None mid left xs most now taken few pulls = tt
+pulls_all (Some bytes) None left xs most now taken few pulls = absurd taken
+pulls_all (Some bytes) (Some ys) None xs most now taken few pulls = tt
+pulls_all (Some bytes) (Some ys) (Some zs) xs most now taken few pulls = omega arith
+
+pub pulls_end : (proved : Proved) (before mid left : Option (List ℕ)) (xs : List ℕ) (most now : ℕ) → Consumes before mid xs → Few before mid most now → PullsAtMost {A = Bool} 0 mid left (Ok false) → WalkTakes (longest_record * most) before left (Ok proved)
+pulls_end proved before mid left xs most now taken few pulls = pulls_all before mid left xs most now taken few pulls
+
+pub pulls_more : (before mid left : Option (List ℕ)) (xs : List ℕ) (most now : ℕ) → Consumes before mid xs → Few before mid most now → PullsAtMost {A = Bool} 0 mid left (Ok true) → WalkTakes (longest_record * most) before left (Err (stop.Because tree.Trailing))
+pulls_more before mid left xs most now taken few pulls = pulls_all before mid left xs most now taken few pulls
+
+pub pulls_unread : (before mid left : Option (List ℕ)) (xs : List ℕ) (most now : ℕ) (e : ReadFault) (s : Stop) → s ≡ stop_of e → Consumes before mid xs → Few before mid most now → PullsAtMost {A = Bool} 0 mid left (Err e) → WalkTakes (longest_record * most) before left (Err s)
+pulls_unread before mid left xs most now e s is taken few pulls = subst (λ (v : Stop). WalkTakes (longest_record * most) before left (Err v)) (sym is) (go e pulls)
+  where
+    go : (e : ReadFault) → PullsAtMost {A = Bool} 0 mid left (Err e) → WalkTakes (longest_record * most) before left (Err (stop_of e))
+    go reading.Read p = tt
+    go reading.Failed p = tt
+    go reading.Truncated p = pulls_all before mid left xs most now taken few p
+    go reading.Magic p = pulls_all before mid left xs most now taken few p
+    go reading.Trailing p = pulls_all before mid left xs most now taken few p
+    go (reading.UnknownRecord b) p = pulls_all before mid left xs most now taken few p
+
+module _ (d : Placement) (l : ℕ) (listed : List Move → Bool) (cut : Cuts) where
   abbrev answers : ℕ → Answer (ℕ × ℕ)
-  answers records bytes room = answer (chess d l games cut) array_state records room bytes
+  answers records bytes room = answer (chess_with d l listed cut) array_state records room bytes
 
-  fresh : (m : Machine) (records : ℕ) → m.names.table.entries ≡ [] → m.input.records ≡ records → (bytes : List ℕ) (room : ℕ) → answers records bytes room ≡ (runs_all d l games cut array_state m bytes room >>= (λ s. ended (chess d l games cut) records room s.rest s))
-  unfolding chess answer
-  fresh m records none same bytes room = λ i. run (chess d l games cut) (suc l) 0 array_state (record { rest = bytes; entries = map entry_of (sym none i); records = sym same i; room = room }) >>= (λ s. ended (chess d l games cut) records room s.rest s)
+  fresh : (m : Machine) (records : ℕ) → m.names.table.entries ≡ [] → m.input.records ≡ records → (bytes : List ℕ) (room : ℕ) → answers records bytes room ≡ (runs_all d l listed cut array_state m bytes room >>= (λ s. ended (chess_with d l listed cut) records room s.rest s))
+  unfolding chess_with answer
+  fresh m records none same bytes room = λ i. run (chess_with d l listed cut) (suc l) 0 array_state (record { rest = bytes; entries = map entry_of (sym none i); records = sym same i; room = room }) >>= (λ s. ended (chess_with d l listed cut) records room s.rest s)
 
-  pub answers_stop : (known : Option (List ℕ)) (m : Machine) (records : ℕ) (s : Stop) → m.names.table.entries ≡ [] → m.input.records ≡ records → Stops known m.names.left (runs_all d l games cut array_state m) s → Stops known m.names.left (answers records) s
+  pub answers_stop : (known : Option (List ℕ)) (m : Machine) (records : ℕ) (s : Stop) → m.names.table.entries ≡ [] → m.input.records ≡ records → Stops known m.names.left (runs_all d l listed cut array_state m) s → Stops known m.names.left (answers records) s
   answers_stop known m records s none same h =
-      stops_as known m.names.left (λ bytes room. runs_all d l games cut array_state m bytes room >>= (λ t. ended (chess d l games cut) records room t.rest t)) (answers records) s (fresh m records none same)
-      (stops_with known m.names.left (runs_all d l games cut array_state m) (λ room t. ended (chess d l games cut) records room t.rest t) s h)
+      stops_as known m.names.left (λ bytes room. runs_all d l listed cut array_state m bytes room >>= (λ t. ended (chess_with d l listed cut) records room t.rest t)) (answers records) s (fresh m records none same)
+      (stops_with known m.names.left (runs_all d l listed cut array_state m) (λ room t. ended (chess_with d l listed cut) records room t.rest t) s h)
 
   -- where bytes are taken and others are left, the answer is that of the end
-  comes_to : (known after : Option (List ℕ)) (m new : Machine) (records : ℕ) → m.names.table.entries ≡ [] → m.input.records ≡ records → (goes : Goes known after m.names.left new.names.left (runs_all d l games cut array_state m) (λ rest room. Ok (state_at new rest room)))
-      → (rest : List ℕ) → answers records (goes.taken ++ rest) m.names.left ≡ ended (chess d l games cut) records m.names.left rest (state_at new rest new.names.left)
+  comes_to : (known after : Option (List ℕ)) (m new : Machine) (records : ℕ) → m.names.table.entries ≡ [] → m.input.records ≡ records → (goes : Goes known after m.names.left new.names.left (runs_all d l listed cut array_state m) (λ rest room. Ok (state_at new rest room)))
+      → (rest : List ℕ) → answers records (goes.taken ++ rest) m.names.left ≡ ended (chess_with d l listed cut) records m.names.left rest (state_at new rest new.names.left)
   comes_to known after m new records none same goes rest =
       fresh m records none same (goes.taken ++ rest) m.names.left
-      ∙ ap (λ (x : Result (walk.WalkState State) (tree.Cause Move)). x >>= (λ s. ended (chess d l games cut) records m.names.left s.rest s))
-      (ap (λ (room : ℕ). runs_all d l games cut array_state m (goes.taken ++ rest) room) goes.spends ∙ goes.same rest new.names.left)
+      ∙ ap (λ (x : Result (walk.WalkState State) (tree.Cause Move)). x >>= (λ s. ended (chess_with d l listed cut) records m.names.left s.rest s))
+      (ap (λ (room : ℕ). runs_all d l listed cut array_state m (goes.taken ++ rest) room) goes.spends ∙ goes.same rest new.names.left)
 
   -- the bytes end there
-  pub answers_end : (known after later : Option (List ℕ)) (m new : Machine) (records : ℕ) → m.names.table.entries ≡ [] → m.input.records ≡ records → Goes known after m.names.left new.names.left (runs_all d l games cut array_state m) (λ rest room. Ok (state_at new rest room))
+  pub answers_end : (known after later : Option (List ℕ)) (m new : Machine) (records : ℕ) → m.names.table.entries ≡ [] → m.input.records ≡ records → Goes known after m.names.left new.names.left (runs_all d l listed cut array_state m) (λ rest room. Ok (state_at new rest room))
       → (a b : ℕ) → a ≡ records - new.input.records → b ≡ m.names.left - new.names.left → Keeps after later → IsAtEnd later → (bytes : List ℕ) × AreKnown known bytes × (answers records bytes m.names.left ≡ Ok (a, b))
   answers_end known after later m new records none same goes a b ea eb kept end = (goes.taken ++ [], all known after later goes.taken goes.consumes kept end, comes_to known after m new records none same goes [] ∙ (λ i. Ok (sym ea i, sym eb i)))
     where
@@ -129,7 +155,7 @@ module _ (d : Placement) (l : ℕ) (games : List (List Move)) (cut : Cuts) where
       all (Some bytes) (Some ys) (Some zs) xs h k e = h ∙ ap (λ (v : List ℕ). xs ++ v) (sym k ∙ e)
 
   -- bytes are left there
-  pub answers_more : (known after later : Option (List ℕ)) (m new : Machine) (records : ℕ) → m.names.table.entries ≡ [] → m.input.records ≡ records → Goes known after m.names.left new.names.left (runs_all d l games cut array_state m) (λ rest room. Ok (state_at new rest room))
+  pub answers_more : (known after later : Option (List ℕ)) (m new : Machine) (records : ℕ) → m.names.table.entries ≡ [] → m.input.records ≡ records → Goes known after m.names.left new.names.left (runs_all d l listed cut array_state m) (λ rest room. Ok (state_at new rest room))
       → Reads {A = Bool} more_at after later (Ok true) → Stops known m.names.left (answers records) (stop.Because tree.Trailing)
   unfolding Stops
   answers_more None after later m new records none same goes read_ = tt
@@ -137,12 +163,12 @@ module _ (d : Placement) (l : ℕ) (games : List (List Move)) (cut : Cuts) where
   answers_more (Some bytes) (Some ys) None m new records none same goes read_ = absurd read_
   answers_more (Some bytes) (Some ys) (Some zs) m new records none same goes read_ = ap (λ (v : List ℕ). answers records v m.names.left) goes.consumes ∙ comes_to (Some bytes) (Some ys) m new records none same goes ys ∙ trailing ys read_
     where
-      trailing : (ys : List ℕ) → more_at ys ≡ Ok (true, zs) → ended (chess d l games cut) records m.names.left ys (state_at new ys new.names.left) ≡ Err tree.Trailing
+      trailing : (ys : List ℕ) → more_at ys ≡ Ok (true, zs) → ended (chess_with d l listed cut) records m.names.left ys (state_at new ys new.names.left) ≡ Err tree.Trailing
       trailing [] e = absurd (let both : (true, zs) ≡ (false, []) = cc in let t : true ≡ false = ap (λ (v : Bool × List ℕ). v.0) both in cc)
       trailing (y ∷ rest) e = refl
 
   -- the end can not be read
-  pub answers_unread : (known after later : Option (List ℕ)) (m new : Machine) (records : ℕ) (e : ReadFault) (s : Stop) → s ≡ stop_of e → m.names.table.entries ≡ [] → m.input.records ≡ records → Goes known after m.names.left new.names.left (runs_all d l games cut array_state m) (λ rest room. Ok (state_at new rest room))
+  pub answers_unread : (known after later : Option (List ℕ)) (m new : Machine) (records : ℕ) (e : ReadFault) (s : Stop) → s ≡ stop_of e → m.names.table.entries ≡ [] → m.input.records ≡ records → Goes known after m.names.left new.names.left (runs_all d l listed cut array_state m) (λ rest room. Ok (state_at new rest room))
       → Reads {A = Bool} more_at after later (Err e) → Stops known m.names.left (answers records) s
   answers_unread known after later m new records e s is none same goes read_ = subst (Stops known m.names.left (answers records)) (sym is) (go known after e goes.consumes read_)
     where

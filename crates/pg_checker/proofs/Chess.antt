@@ -1,5 +1,5 @@
 -- The walk over chess: its games are those of chess, and a yes proves the exact answer.
-use Rattle.std.proofs.Common.{◌≡◌, ◌≢◌, ℕ, zero, suc, ◌<◌, ◌≤◌, Bool, true, false, cond, eqb, List, [], ◌∷◌, length, Ok, Err, refl, sym, ◌∙◌, ap, subst, inl, inr, ◌⊎◌, arith}
+use Rattle.std.proofs.Common.{◌≡◌, ◌≢◌, ◌↔◌, ℕ, zero, suc, ◌<◌, ◌≤◌, Bool, true, false, cond, eqb, List, [], ◌∷◌, length, Ok, Err, refl, sym, ◌∙◌, ap, subst, inl, inr, ◌⊎◌, arith}
 use Rattle.std.specs.List.{Contains}
 use Rattle.std.specs.Bool.{Decides}
 use Rattle.std.proofs.lemmas.Bool.Decides.{Decides-eqb, eqb_tells}
@@ -27,7 +27,8 @@ use Rattle.pg_checker.specs.Answer.{IsSolution, IsExactAnswer, AreSolutions}
 use Rattle.pg_checker.specs.lemmas.Equalities.{lists_decides}
 use Rattle.pg_checker.specs.Futures.{future_eq}
 use Rattle.pg_checker.specs.lemmas.Futures.{future_decides}
-use Rattle.pg_checker.specs.Chess.{Cuts, IsSoundCut, IsChess, read, stands_for, chess}
+use Rattle.pg_checker.specs.Equality.{lists}
+use Rattle.pg_checker.specs.Chess.{Cuts, IsSoundCut, IsChess, read, stands_for, chess, chess_with}
 use Rattle.pg_checker.proofs.Reading.{record_spelled, spelled_record, read_ok, read_spelled, read_few}
 use Rattle.pg_checker.proofs.Full.{full_accepted}
 use Rattle.pg_checker.proofs.Whole.{sound, full_certificate}
@@ -44,7 +45,7 @@ stands_future version is q p = subst (λ (b : Bool). Decides (cond b (future_eq 
 
 -- the rules are those of chess
 pub chess_is : (d : Placement) (n : ℕ) (games : List (List Move)) (cut : Cuts) → IsChess (chess d n games cut) cut.version d n games
-unfolding chess
+unfolding chess_with
 chess_is d n games cut = record {
   moves = moves_of_is;
   play = play_of_is;
@@ -58,13 +59,25 @@ chess_is d n games cut = record {
 }
 
 -- their reader takes a record exactly where its bytes stand
-pub chess_exact : (d : Placement) (n : ℕ) (games : List (List Move)) (cut : Cuts) → IsExact (chess d n games cut)
-unfolding chess
-chess_exact d n games cut = record {
+pub exact_with : (d : Placement) (n : ℕ) (listed : List Move → Bool) (cut : Cuts) → IsExact (chess_with d n listed cut)
+unfolding chess_with
+exact_with d n listed cut = record {
   read = read_ok cut.version;
   write = λ x rest h. read_spelled cut.version x rest (spelled_record cut.version x h);
   expanded = λ named. refl;
 }
+
+pub chess_exact : (d : Placement) (n : ℕ) (games : List (List Move)) (cut : Cuts) → IsExact (chess d n games cut)
+chess_exact d n games cut = exact_with d n (lists games) cut
+
+-- the diagram and moves are those of chess whatever games are listed
+pub goal_with : (d : Placement) (n : ℕ) (listed : List Move → Bool) (cut : Cuts) (p : State) → ((chess_with d n listed cut).is_goal p ≡ true) ↔ (p.board ≡ d)
+unfolding chess_with
+goal_with d n listed cut p = placement_eq_decides p.board d
+
+pub play_with : (d : Placement) (n : ℕ) (listed : List Move → Bool) (cut : Cuts) (p : State) (m : Move) (q : State) → IsPosition p → Legal p m q → (chess_with d n listed cut).play p m ≡ q
+unfolding chess_with
+play_with d n listed cut = play_of_is
 
 -- a game of k plies from p that ends on d
 Ends : Placement → State → ℕ → List Move → Type 0
@@ -124,12 +137,17 @@ module _ (r : Rules State Move) (d : Placement) (n : ℕ) (games : List (List Mo
       stands k q p there here e barren (inl w) = same_barren k q p there here ((is.future w.1 q p).0 e) barren
       stands k q p there here e barren (inr w) = subst (λ (x : State). tree.Barren r k x) ((is.equal w.1 q p).0 e) barren
 
+  -- a complete list has each solution
+  complete_has : IsComplete r array_state → (ms : List Move) → IsSolution d n ms → Contains games ms
+  unfolding Ends
+  complete_has all ms h = let low : n < suc r.plies = (let e = is.plies in omega arith) in (is.listed ms).0 (all n ms low (game_in n array_state ms array_position h)).1
+
   -- a complete list of solutions is the exact answer
   exact_answer : IsComplete r array_state → AreSolutions d n games → IsExactAnswer d n games
   unfolding Ends
   exact_answer all good = record {
     once = good.once;
-    has = λ ms. (good.are ms, λ h. let low : n < suc r.plies = (let e = is.plies in omega arith) in (is.listed ms).0 (all n ms low (game_in n array_state ms array_position h)).1);
+    has = λ ms. (good.are ms, complete_has all ms);
     none_shorter = λ m ms less h. let low : m < suc r.plies = (let e = is.plies in omega arith) in let e : m ≡ r.plies = (all m ms low (game_in m array_state ms array_position h)).0 in let f = is.plies in absurd (omega arith);
   }
 
@@ -150,16 +168,25 @@ module _ (r : Rules State Move) (d : Placement) (n : ℕ) (games : List (List Mo
 -- a yes proves the exact answer
 pub yes_is_exact : (d : Placement) (n : ℕ) (games : List (List Move)) (cut : Cuts) → IsSoundCut d cut → (a b : ℕ) (bytes : List ℕ) (x : ℕ × ℕ)
     → answer (chess d n games cut) array_state a b bytes ≡ Ok x → AreSolutions d n games → IsExactAnswer d n games
-unfolding chess
+unfolding chess_with
 yes_is_exact d n games cut cuts a b bytes x h good =
     let r : Rules State Move = chess d n games cut in
     let is : IsChess r cut.version d n games = chess_is d n games cut in
     exact_answer r d n games cut.version is (sound r (chess_exact d n games cut) IsPosition (right r d n games cut.version is cut refl refl cuts) array_state array_position a b bytes x h) good
 
+-- a yes proves that the list has each solution
+pub yes_has_all : (d : Placement) (n : ℕ) (games : List (List Move)) (cut : Cuts) → IsSoundCut d cut → (a b : ℕ) (bytes : List ℕ) (x : ℕ × ℕ)
+    → answer (chess d n games cut) array_state a b bytes ≡ Ok x → (ms : List Move) → IsSolution d n ms → Contains games ms
+unfolding chess_with
+yes_has_all d n games cut cuts a b bytes x h =
+    let r : Rules State Move = chess d n games cut in
+    let is : IsChess r cut.version d n games = chess_is d n games cut in
+    complete_has r d n games cut.version is (sound r (chess_exact d n games cut) IsPosition (right r d n games cut.version is cut refl refl cuts) array_state array_position a b bytes x h)
+
 -- each exact answer has a certificate
 pub exact_has_certificate : (d : Placement) (n : ℕ) (games : List (List Move)) (cut : Cuts) → IsExactAnswer d n games
     → IsCertificate (chess d n games cut) array_state (full_from (chess d n games cut) (suc n) 0 array_state)
-unfolding chess
+unfolding chess_with
 exact_has_certificate d n games cut h =
     let r : Rules State Move = chess d n games cut in
     full_certificate r array_state (complete_list r d n games cut.version (chess_is d n games cut) h)
@@ -168,31 +195,40 @@ exact_has_certificate d n games cut h =
 pub exact_is_accepted : (d : Placement) (n : ℕ) (games : List (List Move)) (cut : Cuts) → IsExactAnswer d n games
     → let r : Rules State Move = chess d n games cut in let trees : Trees = full_from r (suc n) 0 array_state in
     (a b : ℕ) → records_all trees ≤ a → answer r array_state a b (spelling_all r trees) ≡ Ok (records_all trees, 0)
-unfolding chess
+unfolding chess_with
 exact_is_accepted d n games cut h a b few =
     let r : Rules State Move = chess d n games cut in
     full_accepted r (chess_exact d n games cut) array_state (complete_list r d n games cut.version (chess_is d n games cut) h) a b few
 
 -- no state has more moves than there are pairs of squares and promotions
+pub few_with : (d : Placement) (n : ℕ) (listed : List Move → Bool) (cut : Cuts) (p : State) → length ((chess_with d n listed cut).moves p) ≤ most_moves
+unfolding chess_with
+few_with d n listed cut p = few_moves p
+
 pub chess_few : (d : Placement) (n : ℕ) (games : List (List Move)) (cut : Cuts) (p : State) → length ((chess d n games cut).moves p) ≤ most_moves
-unfolding chess
-chess_few d n games cut p = few_moves p
+chess_few d n games cut = few_with d n (lists games) cut
 
 pub chess_cut : (d : Placement) (n : ℕ) (games : List (List Move)) (cut : Cuts) → (chess d n games cut).cut ≡ cut.bounds
-unfolding chess
+unfolding chess_with
 chess_cut d n games cut = refl
 
 pub chess_priced : (d : Placement) (n : ℕ) (games : List (List Move)) (cut : Cuts) → (chess d n games cut).priced ≡ cut.prices
-unfolding chess
+unfolding chess_with
 chess_priced d n games cut = refl
 
+pub read_with : (d : Placement) (n : ℕ) (listed : List Move → Bool) (cut : Cuts) → (chess_with d n listed cut).read ≡ read cut.version
+unfolding chess_with
+read_with d n listed cut = refl
+
 pub chess_read : (d : Placement) (n : ℕ) (games : List (List Move)) (cut : Cuts) → (chess d n games cut).read ≡ read cut.version
-unfolding chess
-chess_read d n games cut = refl
+chess_read d n games cut = read_with d n (lists games) cut
 
 -- no refusal to read is one of too many names
+pub plain_with : (d : Placement) (n : ℕ) (listed : List Move → Bool) (cut : Cuts) (bytes : List ℕ) → (chess_with d n listed cut).read bytes ≡ Err TooManyNamed → ⊥
+unfolding chess_with
+plain_with d n listed cut bytes h = read_few cut.version bytes h
+
 pub chess_plain : (d : Placement) (n : ℕ) (games : List (List Move)) (cut : Cuts) (bytes : List ℕ) → (chess d n games cut).read bytes ≡ Err TooManyNamed → ⊥
-unfolding chess
-chess_plain d n games cut bytes h = read_few cut.version bytes h
+chess_plain d n games cut = plain_with d n (lists games) cut
 
 pub ruleset of_chess = (chess_is, chess_cut, chess_priced, chess_read, chess_exact, chess_few)

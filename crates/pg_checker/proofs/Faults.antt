@@ -26,7 +26,7 @@ module _ {P M : Type 0} (r : Rules P M) where
   room_err (suc n) s f h = absurd (cc)
 
   -- a record that is refused, by what it is
-  judge_err : (k : ℕ) (p : P) (got : Record) (s : WalkState P) (f : Cause M) → judge r k p got s ≡ Err f → RefusesRecord r k p s.entries s.room got f
+  pub judge_err : (k : ℕ) (p : P) (got : Record) (s : WalkState P) (f : Cause M) → judge r k p got s ≡ Err f → RefusesRecord r k p s.entries s.room got f
   judge_err k p (Expanded false) s f h = absurd (cc)
   judge_err k p (Expanded true) s f h = let d = room_err s.room s f h in subst (λ (v : Cause M). RefusesRecord r k p s.entries s.room (Expanded true) v) (sym d.1) d.0
   judge_err k p (CutBy code) s f h = cut_err (r.cut code p k) refl h

@@ -1,5 +1,5 @@
 -- Reading the record of a node, and judging it. Leads to the contract of `head`.
-use Rattle.std.proofs.Common.{◌≡◌, ℕ, suc, ◌+◌, ◌*◌, ◌≤◌, List, length, Option, Some, None, IfSome, Result, Ok, Err, refl, sym, ◌∙◌, ap, subst, arith}
+use Rattle.std.proofs.Common.{Bool, ◌≡◌, ℕ, suc, ◌+◌, ◌*◌, ◌≤◌, List, length, Option, Some, None, IfSome, Result, Ok, Err, refl, sym, ◌∙◌, ap, subst, arith}
 use Rattle.std.proofs.lemmas.List.{length-append}
 use Rattle.std.specs.Io.KnownBytes.{Consumes, prepend_known}
 use Rattle.pg_certificate.specs.Spelling.{longest_record}
@@ -17,7 +17,7 @@ use Rattle.pg_certificate.specs.Reader.{Reads, ReadsAs}
 use Rattle.pg_checker.specs.Tree as tree
 use Rattle.pg_checker.specs.Walk as walk
 use Rattle.pg_checker.specs.Walk.{judge, head, ◌>>=◌}
-use Rattle.pg_checker.specs.Chess.{Cuts, chess, read}
+use Rattle.pg_checker.specs.Chess.{Cuts, chess_with, read}
 use Rattle.pg_checker.specs.inner.Judging.{stop_of}
 use Rattle.pg_checker.specs.inner.Machine.{Point, state_of, shape_of}
 use Rattle.pg_checker.specs.inner.Steps.{Answer, Goes, Stops, Says, TakesFew}
@@ -60,17 +60,17 @@ as_record version prices before after (reading.UnknownRecord b) h = h
 as_record version prices before after reading.Read h = tt
 as_record version prices before after reading.Failed h = tt
 
-module _ (d : Placement) (l : ℕ) (games : List (List Move)) (cut : Cuts) (k : ℕ) (p : State) where
+module _ (d : Placement) (l : ℕ) (listed : List Move → Bool) (cut : Cuts) (k : ℕ) (p : State) where
   abbrev heads : Point → Answer (walk.Shape × walk.WalkState State)
-  heads at bytes n = head (chess d l games cut) k p (state_of at bytes n)
+  heads at bytes n = head (chess_with d l listed cut) k p (state_of at bytes n)
 
   -- a record less, and then the record that is read is judged
   abbrev judged : Point → ℕ → Record × List ℕ → Result (walk.Shape × walk.WalkState State) (tree.Cause Move)
-  judged at n got = judge (chess d l games cut) k p got.0 (state_of at got.1 n)
+  judged at n got = judge (chess_with d l listed cut) k p got.0 (state_of at got.1 n)
 
   head_paid : (old : Point) (left : ℕ) → old.records ≡ suc left → (bytes : List ℕ) (n : ℕ) → heads old bytes n ≡ (read cut.version bytes >>= judged (record old { records = left }) n)
-  unfolding chess
-  head_paid old left paid bytes n = ap (λ (r : ℕ). head (chess d l games cut) k p (record (state_of old bytes n) { records = r })) paid
+  unfolding chess_with
+  head_paid old left paid bytes n = ap (λ (r : ℕ). head (chess_with d l listed cut) k p (record (state_of old bytes n) { records = r })) paid
 
   pub head_budget : (old : Point) → old.records ≡ 0 → Stops old.known old.room (heads old) (stop.Because tree.Budget)
   unfolding Stops
@@ -78,7 +78,7 @@ module _ (d : Placement) (l : ℕ) (games : List (List Move)) (cut : Cuts) (k : 
     where
       budget : (known : Option (List ℕ)) → Stops known old.room (heads old) (stop.Because tree.Budget)
       budget None = tt
-      budget (Some bytes) = ap (λ (r : ℕ). head (chess d l games cut) k p (record (state_of old bytes old.room) { records = r })) e
+      budget (Some bytes) = ap (λ (r : ℕ). head (chess_with d l listed cut) k p (record (state_of old bytes old.room) { records = r })) e
 
   pub head_unread : (old : Point) (left : ℕ) (s : Stop) → old.records ≡ suc left → Stops old.known old.room (λ bytes n. read cut.version bytes) s → Stops old.known old.room (heads old) s
   head_unread old left s paid h =

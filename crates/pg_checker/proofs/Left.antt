@@ -18,7 +18,7 @@ use Rattle.pg_moves.specs.Moves.{promotion_number, move_cmp, IsBefore, IsPast, I
 use Rattle.pg_moves.proofs.PlaceLemmas.{move_cmp_total}
 use Rattle.pg_moves.proofs.SortLemmas.{Contains-head, Contains-later, Contains-cons, sorted_below, sorted_rest, sorted_same}
 use Rattle.pg_moves.proofs.ListLemmas.{kept_are, kept_has, moves_of, moves_of_is}
-use Rattle.pg_checker.specs.Chess.{Cuts, chess}
+use Rattle.pg_checker.specs.Chess.{Cuts, chess_with}
 use Rattle.pg_checker.specs.Left.{comes_after, left_after}
 
 less_decides : (o : Ordering) → Decides (is_lt o) (o ≡ Less)
@@ -158,8 +158,8 @@ left_split p a n before =
     to m h false e = Contains-append_left (left_between p a n) (left_after p (Some n)) m (kept_has (up_to n) (left_after p (Some a)) m (ap not e) h)
 
 -- the moves of the rules
-pub rules_start : (d : Placement) (n : ℕ) (games : List (List Move)) (cut : Cuts) (p : State) → (chess d n games cut).moves p ≡ left_after p None
-unfolding chess
-rules_start d n games cut p = sym (left_start p)
+pub rules_start : (d : Placement) (n : ℕ) (listed : List Move → Bool) (cut : Cuts) (p : State) → (chess_with d n listed cut).moves p ≡ left_after p None
+unfolding chess_with
+rules_start d n listed cut p = sym (left_start p)
 
 pub ruleset in_order = (rules_start, left_next, left_last)

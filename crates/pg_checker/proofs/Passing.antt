@@ -20,7 +20,7 @@ use Rattle.pg_checker.specs.Tree as tree
 use Rattle.pg_checker.specs.Walk as walk
 use Rattle.pg_checker.specs.Walk.{visit, each, ◌>>=◌}
 use Rattle.pg_checker.specs.inner.Frames.{resume, effort, Stacked}
-use Rattle.pg_checker.specs.Chess.{Cuts, chess}
+use Rattle.pg_checker.specs.Chess.{Cuts, chess_with}
 use Rattle.pg_checker.specs.Left.{left_after}
 use Rattle.pg_checker.specs.inner.Machine.{path, frame_of, frames_of, count_named, state_at, work_at}
 use Rattle.pg_checker.specs.Passing.{LeadsElsewhere, AllElsewhere, PassesOver}
@@ -31,6 +31,7 @@ use Rattle.pg_checker.proofs.Goings.{goes_as}
 use Rattle.pg_checker.proofs.Left.{left_are, left_next, left_last, left_between, left_split, between_are, same_man}
 use Rattle.pg_checker.proofs.Running.{Runs, finishes, dry_front, goal_off, frames_popped, kept_popped}
 use Rattle.pg_checker.proofs.FrameViews.{frames_more, count_more}
+use Rattle.pg_checker.proofs.Played.{moved_played}
 use Rattle.pg_checker.proofs.Turning.{with_frames}
 
 -- ---- one move
@@ -132,57 +133,58 @@ topped now mid top = with_frames now (record { items = mid.stack.frames.items ++
 same_frame : (top new : Frame) → new ≡ record top { moves = new.moves } → new.moves ≡ top.moves → new ≡ top
 same_frame top new is e = is ∙ ap (λ (v : MovesLeft). record top { moves = v }) e
 
-module _ (d : Placement) (l : ℕ) (games : List (List Move)) (cut : Cuts) (n : ℕ) where
+module _ (d : Placement) (l : ℕ) (listed : List Move → Bool) (cut : Cuts) (n : ℕ) where
   -- leaves that are not on the diagram say nothing
-  passed_off : (p : State) (ms passed : List Move) (last : Option Move) → IsPosition p → left_after p last ≡ passed ++ ms → ((m : Move) → Contains passed m → LeadsElsewhere d p m) → (m : Move) → Contains passed m → (chess d l games cut).is_goal ((chess d l games cut).play p m) ≡ false
+  passed_off : (p : State) (ms passed : List Move) (last : Option Move) → IsPosition p → left_after p last ≡ passed ++ ms → ((m : Move) → Contains passed m → LeadsElsewhere d p m) → (m : Move) → Contains passed m → (chess_with d l listed cut).is_goal ((chess_with d l listed cut).play p m) ≡ false
   passed_off p ms passed last valid is off m c =
-      goal_off d l games cut n p m valid (left_are p last m (subst (λ (v : List Move). Contains v m) (sym is) (Contains-append_left passed ms m c))).0 (off m c)
+      goal_off d l listed cut n p m valid (left_are p last m (subst (λ (v : List Move). Contains v m) (sym is) (Contains-append_left passed ms m c))).0 (off m c)
 
   leaves_over : (now mid : Machine) (top new : Frame) → now.stack.frames.items ≡ mid.stack.frames.items ++ (top ∷ []) → top.plies ≡ 0 → IsPosition top.moves.position → new ≡ record top { moves = new.moves } → PassesOver d top.moves new.moves → (rest : List ℕ) (room : ℕ)
-      → finishes d l games cut n now rest room ≡ finishes d l games cut n (topped now mid new) rest room
+      → finishes d l listed cut n now rest room ≡ finishes d l listed cut n (topped now mid new) rest room
   leaves_over now mid top new items last valid is over rest room =
-      ap (λ v. resume (chess d l games cut) n v (now.stack.fertile, state_at now rest room)) (frames_popped now.stack.frames.items mid.stack.frames.items top items)
+      ap (λ v. resume (chess_with d l listed cut) n v (now.stack.fertile, state_at now rest room)) (frames_popped now.stack.frames.items mid.stack.frames.items top items)
       ∙ ap (λ (k : ℕ). goes_up k (left_after top.moves.position top.moves.last)) last
       ∙ ap (λ (v : List Move). goes_up 0 v) over.left
-      ∙ ap (λ (x : Result (Bool × walk.WalkState State) (tree.Cause Move)). x >>= up) (dry_front d l games cut n top.moves.position (path (reverse mid.stack.frames.items)) over.passed (left_after top.moves.position new.moves.last) (top.fertile || now.stack.fertile) (state_at now rest room) (passed_off top.moves.position (left_after top.moves.position new.moves.last) over.passed top.moves.last valid over.left over.elsewhere))
+      ∙ ap (λ (x : Result (Bool × walk.WalkState State) (tree.Cause Move)). x >>= up) (dry_front d l listed cut n top.moves.position (path (reverse mid.stack.frames.items)) over.passed (left_after top.moves.position new.moves.last) (top.fertile || now.stack.fertile) (state_at now rest room) (passed_off top.moves.position (left_after top.moves.position new.moves.last) over.passed top.moves.last valid over.left over.elsewhere))
       ∙ ap (λ (k : ℕ). goes_up k (left_after top.moves.position new.moves.last)) (sym last)
-      ∙ ap (λ (f : Frame). resume (chess d l games cut) n (frame_of f (reverse mid.stack.frames.items) ∷ frames_of (reverse mid.stack.frames.items)) (now.stack.fertile, state_at now rest room)) (sym (is ∙ ap (λ (p : State). record top { moves = record { position = p; last = new.moves.last } }) over.position))
-      ∙ ap (λ v. resume (chess d l games cut) n v (now.stack.fertile, state_at now rest room)) (sym (frames_popped (mid.stack.frames.items ++ (new ∷ [])) mid.stack.frames.items new refl))
+      ∙ ap (λ (f : Frame). resume (chess_with d l listed cut) n (frame_of f (reverse mid.stack.frames.items) ∷ frames_of (reverse mid.stack.frames.items)) (now.stack.fertile, state_at now rest room)) (sym (is ∙ ap (λ (p : State). record top { moves = record { position = p; last = new.moves.last } }) over.position))
+      ∙ ap (λ v. resume (chess_with d l listed cut) n v (now.stack.fertile, state_at now rest room)) (sym (frames_popped (mid.stack.frames.items ++ (new ∷ [])) mid.stack.frames.items new refl))
     where
       up : Bool × walk.WalkState State → Result (Bool × walk.WalkState State) (tree.Cause Move)
-      up all = walk.close (chess d l games cut) top.named (suc top.plies) top.moves.position all >>= resume (chess d l games cut) n (frames_of (reverse mid.stack.frames.items))
+      up all = walk.close (chess_with d l listed cut) top.named (suc top.plies) top.moves.position all >>= resume (chess_with d l listed cut) n (frames_of (reverse mid.stack.frames.items))
 
       goes_up : ℕ → List Move → Result (Bool × walk.WalkState State) (tree.Cause Move)
-      goes_up k ms = each (chess d l games cut) (visit (chess d l games cut) n k) (path (reverse mid.stack.frames.items)) top.moves.position ms (top.fertile || now.stack.fertile) (state_at now rest room) >>= up
+      goes_up k ms = each (chess_with d l listed cut) (visit (chess_with d l listed cut) n k) (path (reverse mid.stack.frames.items)) top.moves.position ms (top.fertile || now.stack.fertile) (state_at now rest room) >>= up
 
   over_same : (now mid : Machine) (top new : Frame) (k : ℕ) → top.plies ≡ k → now.stack.frames.items ≡ mid.stack.frames.items ++ (top ∷ []) → (k ≡ 0 → IsPosition top.moves.position) → new ≡ record top { moves = new.moves } → PassesOver d top.moves new.moves → (0 < top.plies → new.moves ≡ top.moves) → (rest : List ℕ) (room : ℕ)
-      → finishes d l games cut n now rest room ≡ finishes d l games cut n (topped now mid new) rest room
+      → finishes d l listed cut n now rest room ≡ finishes d l listed cut n (topped now mid new) rest room
   over_same now mid top new zero plies items valid is over same rest room = leaves_over now mid top new items plies (valid refl) is over rest room
   over_same now mid top new (suc k) plies items valid is over same rest room =
-      ap (λ (v : List Frame). finishes d l games cut n (with_frames now (record { items = v })) rest room) (items ∙ ap (λ (f : Frame). mid.stack.frames.items ++ (f ∷ [])) (sym (same_frame top new is (same (omega (arith, plies))))))
+      ap (λ (v : List Frame). finishes d l listed cut n (with_frames now (record { items = v })) rest room) (items ∙ ap (λ (f : Frame). mid.stack.frames.items ++ (f ∷ [])) (sym (same_frame top new is (same (omega (arith, plies))))))
 
   pub frame_plies : (top new : Frame) → new ≡ record top { moves = new.moves } → new.plies ≡ top.plies
   frame_plies top new is = ap (λ (f : Frame). f.plies) is
 
   -- what holds at each turn holds past such moves
-  pub runs_over : {before here : Option (List ℕ)} (old now mid : Machine) (top new : Frame) → Runs d l games cut n before here old now → now.stack.frames.items ≡ mid.stack.frames.items ++ (top ∷ []) → (top.plies ≡ 0 → IsPosition top.moves.position) → new ≡ record top { moves = new.moves } → PassesOver d top.moves new.moves → (0 < top.plies → new.moves ≡ top.moves)
-      → Runs d l games cut n before here old (topped now mid new)
+  pub runs_over : {before here : Option (List ℕ)} (old now mid : Machine) (top new : Frame) → Runs d l listed cut n before here old now → now.stack.frames.items ≡ mid.stack.frames.items ++ (top ∷ []) → (top.plies ≡ 0 → IsPosition top.moves.position) → new ≡ record top { moves = new.moves } → PassesOver d top.moves new.moves → (0 < top.plies → new.moves ≡ top.moves)
+      → Runs d l listed cut n before here old (topped now mid new)
   runs_over {before} {here} old now mid top new run items valid is over same = record {
     stacked = subst (λ v. Stacked n v) (sym (frames_more mid.stack.frames.items new)) (let s : Stacked n (frame_of top (reverse mid.stack.frames.items) ∷ frames_of (reverse mid.stack.frames.items)) = subst (λ v. Stacked n v) (frames_popped now.stack.frames.items mid.stack.frames.items top items) run.stacked in (ap (λ (k : ℕ). k + suc (length (frames_of (reverse mid.stack.frames.items)))) (frame_plies top new is) ∙ s.0, s.1));
     ready = record {
       reader = run.ready.reader;
       kept = kept_popped now.names.table.kept now.stack.frames.items mid.stack.frames.items top items run.ready.kept ∙ ap (λ (f : Frame). tree.one_if f.named + count_named (reverse mid.stack.frames.items)) (sym is) ∙ sym (count_more mid.stack.frames.items new);
+      played = moved_played now.stack.frames.items mid.stack.frames.items (mid.stack.frames.items ++ (new ∷ [])) top new items refl (ap (λ (f : Frame). f.moves.position) is ∙ over.position) run.ready.played;
     };
     few = run.few;
-    goes = goes_as before here old.names.left now.names.left (finishes d l games cut n old) (finishes d l games cut n now) (finishes d l games cut n old) (finishes d l games cut n (topped now mid new)) (λ rest x. refl) (over_same now mid top new top.plies refl items valid is over same) run.goes;
+    goes = goes_as before here old.names.left now.names.left (finishes d l listed cut n old) (finishes d l listed cut n now) (finishes d l listed cut n old) (finishes d l listed cut n (topped now mid new)) (λ rest x. refl) (over_same now mid top new top.plies refl items valid is over same) run.goes;
   }
 
   -- and there is no more to do
   pub over_less : (now mid : Machine) (top new : Frame) → now.stack.frames.items ≡ mid.stack.frames.items ++ (top ∷ []) → new ≡ record top { moves = new.moves } → PassesOver d top.moves new.moves
-      → effort (chess d l games cut) most_moves (work_at (chess d l games cut) (topped now mid new) [] 0) ≤ effort (chess d l games cut) most_moves (work_at (chess d l games cut) now [] 0)
+      → effort (chess_with d l listed cut) most_moves (work_at (chess_with d l listed cut) (topped now mid new) [] 0) ≤ effort (chess_with d l listed cut) most_moves (work_at (chess_with d l listed cut) now [] 0)
   over_less now mid top new items is over =
       let shorter : length (left_after top.moves.position top.moves.last) ≡ length over.passed + length (left_after top.moves.position new.moves.last) = ap length over.left ∙ length-append over.passed (left_after top.moves.position new.moves.last) in
       let as_left : length (left_after new.moves.position new.moves.last) ≡ length (left_after top.moves.position new.moves.last) = ap (λ (p : State). length (left_after p new.moves.last)) over.position in
-      subst (λ v. effort (chess d l games cut) most_moves (record { frames = v; found = now.stack.fertile; state = state_at now [] 0 }) ≤ effort (chess d l games cut) most_moves (work_at (chess d l games cut) now [] 0)) (sym (frames_more mid.stack.frames.items new))
-      (subst (λ v. effort (chess d l games cut) most_moves (record { frames = frame_of new (reverse mid.stack.frames.items) ∷ frames_of (reverse mid.stack.frames.items); found = now.stack.fertile; state = state_at now [] 0 }) ≤ effort (chess d l games cut) most_moves (record { frames = v; found = now.stack.fertile; state = state_at now [] 0 })) (sym (frames_popped now.stack.frames.items mid.stack.frames.items top items))
+      subst (λ v. effort (chess_with d l listed cut) most_moves (record { frames = v; found = now.stack.fertile; state = state_at now [] 0 }) ≤ effort (chess_with d l listed cut) most_moves (work_at (chess_with d l listed cut) now [] 0)) (sym (frames_more mid.stack.frames.items new))
+      (subst (λ v. effort (chess_with d l listed cut) most_moves (record { frames = frame_of new (reverse mid.stack.frames.items) ∷ frames_of (reverse mid.stack.frames.items); found = now.stack.fertile; state = state_at now [] 0 }) ≤ effort (chess_with d l listed cut) most_moves (record { frames = v; found = now.stack.fertile; state = state_at now [] 0 })) (sym (frames_popped now.stack.frames.items mid.stack.frames.items top items))
       (omega (arith, shorter, as_left)))

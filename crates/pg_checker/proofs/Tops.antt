@@ -11,7 +11,7 @@ use Rattle.pg_position.specs.Position.{IsPosition}
 use Rattle.pg_moves.specs.Moves.{IsLast}
 use Rattle.pg_moves.specs.inner.Places.{most_moves}
 use Rattle.pg_checker.specs.Tree.{one_if}
-use Rattle.pg_checker.specs.Chess.{Cuts, chess}
+use Rattle.pg_checker.specs.Chess.{Cuts, chess_with}
 use Rattle.pg_checker.specs.Passing.{AllElsewhere}
 use Rattle.pg_checker.specs.inner.Frames.{enter, effort, Stacked}
 use Rattle.pg_checker.specs.inner.Halting.{Stop}
@@ -78,65 +78,65 @@ closes_kept old new before after cl kept =
     let three : after.kept ≡ count_named (reverse cl.below) = omega arith in
     three ∙ ap (λ (v : ArrayVec Frame). count_named (reverse v.items)) (sym cl.frames)
 
-module _ (d : Placement) (l : ℕ) (games : List (List Move)) (cut : Cuts) (n : ℕ) where
+module _ (d : Placement) (l : ℕ) (listed : List Move → Bool) (cut : Cuts) (n : ℕ) where
   -- ---- one turn
   pub top_plays : (before after : Option (List ℕ)) (m mid new : Machine) (p : State) (plies : ℕ) (res : Result (Unit {0}) Stop) → OnTop (Plays m.stack.fertile p plies) m.stack.frames.items mid.stack.frames.items → mid.names.table ≡ m.names.table → mid.input.records ≡ m.input.records → mid.names.left ≡ m.names.left
-      → Says before after mid.names.left new.names.left (λ rest x. enter (chess d l games cut) n plies (path (reverse mid.stack.frames.items)) p (frames_of (reverse mid.stack.frames.items)) (state_at mid rest x)) (λ _ rest x. work_at (chess d l games cut) new rest x) res
-      → Says before after m.names.left new.names.left (tops d l games cut n m) (λ _ rest x. work_at (chess d l games cut) new rest x) res
+      → Says before after mid.names.left new.names.left (λ rest x. enter (chess_with d l listed cut) n plies (path (reverse mid.stack.frames.items)) p (frames_of (reverse mid.stack.frames.items)) (state_at mid rest x)) (λ _ rest x. work_at (chess_with d l listed cut) new rest x) res
+      → Says before after m.names.left new.names.left (tops d l listed cut n m) (λ _ rest x. work_at (chess_with d l listed cut) new rest x) res
   top_plays before after m mid new p plies res w table records room h =
-      says_tops d l games cut n before after m new w.below w.before res w.was
-      (turn_plays d l games cut n before after w.before w.after (under m w.below) mid new p w.happened.move (w.before.fertile || m.stack.fertile) res w.happened.advanced refl w.happened.next w.happened.position w.happened.leads w.is table records room
-      (subst (λ (k : ℕ). Says before after mid.names.left new.names.left (λ rest x. enter (chess d l games cut) n k (path (reverse mid.stack.frames.items)) p (frames_of (reverse mid.stack.frames.items)) (state_at mid rest x)) (λ _ rest x. work_at (chess d l games cut) new rest x) res) w.happened.below h))
+      says_tops d l listed cut n before after m new w.below w.before res w.was
+      (turn_plays d l listed cut n before after w.before w.after (under m w.below) mid new p w.happened.move (w.before.fertile || m.stack.fertile) res w.happened.advanced refl w.happened.next w.happened.position w.happened.leads w.is table records room
+      (subst (λ (k : ℕ). Says before after mid.names.left new.names.left (λ rest x. enter (chess_with d l listed cut) n k (path (reverse mid.stack.frames.items)) p (frames_of (reverse mid.stack.frames.items)) (state_at mid rest x)) (λ _ rest x. work_at (chess_with d l listed cut) new rest x) res) w.happened.below h))
 
   pub top_closes : (known : Option (List ℕ)) (m : Machine) (fs : ArrayVec Frame) (stack : Stack) (table : TableState) → OnTop HasNone m.stack.frames.items fs.items → Closes (record m.stack { frames = fs }) stack m.names.table table
-      → Says {X = Unit {0}} known known m.names.left m.names.left (tops d l games cut n m) (λ _ rest x. work_at (chess d l games cut) (closed_by m stack table) rest x) (Ok tt)
+      → Says {X = Unit {0}} known known m.names.left m.names.left (tops d l listed cut n m) (λ _ rest x. work_at (chess_with d l listed cut) (closed_by m stack table) rest x) (Ok tt)
   top_closes known m fs stack table w cl =
       let one : w.before ≡ cl.top = sym w.happened.1 ∙ last_is w.below cl.below w.after cl.top (sym w.is ∙ cl.was) in
-      says_tops d l games cut n known known m (closed_by m stack table) cl.below cl.top (Ok tt) (sym (same_items m.stack.frames.items fs.items w) ∙ cl.was)
-      (turn_closes d l games cut n known cl.top (under m cl.below) (closed_by m stack table) (cl.top.fertile || m.stack.fertile) refl (subst (λ (f : Frame). IsLast f.moves.position f.moves.last) one w.happened.0) cl.frames refl refl cl.fertile cl.entries)
+      says_tops d l listed cut n known known m (closed_by m stack table) cl.below cl.top (Ok tt) (sym (same_items m.stack.frames.items fs.items w) ∙ cl.was)
+      (turn_closes d l listed cut n known cl.top (under m cl.below) (closed_by m stack table) (cl.top.fertile || m.stack.fertile) refl (subst (λ (f : Frame). IsLast f.moves.position f.moves.last) one w.happened.0) cl.frames refl refl cl.fertile cl.entries)
 
   -- ---- the loop: past leaves that are not on the diagram
-  pub passed_on : {over : Bool} (before here : Option (List ℕ)) (old now : Machine) (fs : ArrayVec Frame) → Runs d l games cut n before here old now → OnTop (Passed d over) now.stack.frames.items fs.items → Runs d l games cut n before here old (with_frames now fs)
+  pub passed_on : {over : Bool} (before here : Option (List ℕ)) (old now : Machine) (fs : ArrayVec Frame) → Runs d l listed cut n before here old now → OnTop (Passed d over) now.stack.frames.items fs.items → Runs d l listed cut n before here old (with_frames now fs)
   passed_on before here old now fs run w =
-      subst (λ (v : List Frame). Runs d l games cut n before here old (with_frames now (record { items = v }))) (sym w.is)
-      (runs_over d l games cut n old now (under now w.below) w.before w.after run w.was w.happened.position w.happened.frame w.happened.passed w.happened.inner)
+      subst (λ (v : List Frame). Runs d l listed cut n before here old (with_frames now (record { items = v }))) (sym w.is)
+      (runs_over d l listed cut n old now (under now w.below) w.before w.after run w.was w.happened.position w.happened.frame w.happened.passed w.happened.inner)
 
   passed_less : {over : Bool} (now : Machine) (fs : ArrayVec Frame) → OnTop (Passed d over) now.stack.frames.items fs.items
-      → effort (chess d l games cut) most_moves (work_at (chess d l games cut) (with_frames now fs) [] 0) ≤ effort (chess d l games cut) most_moves (work_at (chess d l games cut) now [] 0)
+      → effort (chess_with d l listed cut) most_moves (work_at (chess_with d l listed cut) (with_frames now fs) [] 0) ≤ effort (chess_with d l listed cut) most_moves (work_at (chess_with d l listed cut) now [] 0)
   passed_less now fs w =
-      subst (λ (v : List Frame). effort (chess d l games cut) most_moves (work_at (chess d l games cut) (with_frames now (record { items = v })) [] 0) ≤ effort (chess d l games cut) most_moves (work_at (chess d l games cut) now [] 0)) (sym w.is)
-      (over_less d l games cut n now (under now w.below) w.before w.after w.was w.happened.frame w.happened.passed)
+      subst (λ (v : List Frame). effort (chess_with d l listed cut) most_moves (work_at (chess_with d l listed cut) (with_frames now (record { items = v })) [] 0) ≤ effort (chess_with d l listed cut) most_moves (work_at (chess_with d l listed cut) now [] 0)) (sym w.is)
+      (over_less d l listed cut n now (under now w.below) w.before w.after w.was w.happened.frame w.happened.passed)
 
   -- then a turn
-  pub turn_runs : {over : Bool} (before here after : Option (List ℕ)) (old now new : Machine) (fs : ArrayVec Frame) → Runs d l games cut n before here old now → OnTop (Passed d over) now.stack.frames.items fs.items
-      → Says {X = Unit {0}} here after now.names.left new.names.left (tops d l games cut n (with_frames now fs)) (λ _ rest x. work_at (chess d l games cut) new rest x) (Ok tt)
-      → IsReady cut.version new → Few here after now.input.records new.input.records → Runs d l games cut n before after old new
+  pub turn_runs : {over : Bool} (before here after : Option (List ℕ)) (old now new : Machine) (fs : ArrayVec Frame) → Runs d l listed cut n before here old now → OnTop (Passed d over) now.stack.frames.items fs.items
+      → Says {X = Unit {0}} here after now.names.left new.names.left (tops d l listed cut n (with_frames now fs)) (λ _ rest x. work_at (chess_with d l listed cut) new rest x) (Ok tt)
+      → IsReady cut.version new → Few here after now.input.records new.input.records → Runs d l listed cut n before after old new
   turn_runs before here after old now new fs run w says ready few =
-      runs_on d l games cut n before here after old (with_frames now fs) (under now w.below) new w.after (passed_on before here old now fs run w) w.is refl refl refl refl
-      (tops_say d l games cut n here after (with_frames now fs) new w.below w.after (Ok tt) w.is says) ready few
+      runs_on d l listed cut n before here after old (with_frames now fs) (under now w.below) new w.after (passed_on before here old now fs run w) w.is refl refl refl refl
+      (tops_say d l listed cut n here after (with_frames now fs) new w.below w.after (Ok tt) w.is says) ready few
 
   pub turn_less : {over : Bool} (here after : Option (List ℕ)) (now new : Machine) (fs : ArrayVec Frame) → OnTop (Passed d over) now.stack.frames.items fs.items
-      → Says {X = Unit {0}} here after now.names.left new.names.left (tops d l games cut n (with_frames now fs)) (λ _ rest x. work_at (chess d l games cut) new rest x) (Ok tt)
-      → effort (chess d l games cut) most_moves (work_at (chess d l games cut) new [] 0) < effort (chess d l games cut) most_moves (work_at (chess d l games cut) now [] 0)
+      → Says {X = Unit {0}} here after now.names.left new.names.left (tops d l listed cut n (with_frames now fs)) (λ _ rest x. work_at (chess_with d l listed cut) new rest x) (Ok tt)
+      → effort (chess_with d l listed cut) most_moves (work_at (chess_with d l listed cut) new [] 0) < effort (chess_with d l listed cut) most_moves (work_at (chess_with d l listed cut) now [] 0)
   turn_less here after now new fs w says =
-      lt_of_lt_of_le (runs_less d l games cut n here after (with_frames now fs) (under now w.below) new w.after w.is refl (tops_say d l games cut n here after (with_frames now fs) new w.below w.after (Ok tt) w.is says)) (passed_less now fs w)
+      lt_of_lt_of_le (runs_less d l listed cut n here after (with_frames now fs) (under now w.below) new w.after w.is refl (tops_say d l listed cut n here after (with_frames now fs) new w.below w.after (Ok tt) w.is says)) (passed_less now fs w)
 
-  pub turn_stops : {over : Bool} (before here after : Option (List ℕ)) (old now new : Machine) (fs : ArrayVec Frame) (s : Stop) → Runs d l games cut n before here old now → OnTop (Passed d over) now.stack.frames.items fs.items
-      → Stops here now.names.left (tops d l games cut n (with_frames now fs)) s → Stops before old.names.left (finishes d l games cut n old) s
+  pub turn_stops : {over : Bool} (before here after : Option (List ℕ)) (old now new : Machine) (fs : ArrayVec Frame) (s : Stop) → Runs d l listed cut n before here old now → OnTop (Passed d over) now.stack.frames.items fs.items
+      → Stops here now.names.left (tops d l listed cut n (with_frames now fs)) s → Stops before old.names.left (finishes d l listed cut n old) s
   turn_stops before here after old now new fs s run w says =
-      runs_stop d l games cut n before here old (with_frames now fs) (under now w.below) w.after s (passed_on before here old now fs run w) w.is refl refl refl refl
-      (tops_say d l games cut n here after (with_frames now fs) new w.below w.after (Err s) w.is says)
+      runs_stop d l listed cut n before here old (with_frames now fs) (under now w.below) w.after s (passed_on before here old now fs run w) w.is refl refl refl refl
+      (tops_say d l listed cut n here after (with_frames now fs) new w.below w.after (Err s) w.is says)
 
   -- or the node is over
-  pub close_runs : {over : Bool} (before here : Option (List ℕ)) (old now : Machine) (fs : ArrayVec Frame) (stack : Stack) (table : TableState) → over ≡ true → Runs d l games cut n before here old now → OnTop (Passed d over) now.stack.frames.items fs.items → Closes (record now.stack { frames = fs }) stack now.names.table table → Runs d l games cut n before here old (closed_by now stack table)
+  pub close_runs : {over : Bool} (before here : Option (List ℕ)) (old now : Machine) (fs : ArrayVec Frame) (stack : Stack) (table : TableState) → over ≡ true → Runs d l listed cut n before here old now → OnTop (Passed d over) now.stack.frames.items fs.items → Closes (record now.stack { frames = fs }) stack now.names.table table → Runs d l listed cut n before here old (closed_by now stack table)
   close_runs before here old now fs stack table e run w cl =
       let ends = w.happened.ends e in
-      let last : w.after.plies ≡ 0 = frame_plies d l games cut n w.before w.after w.happened.frame ∙ ends.0 in
+      let last : w.after.plies ≡ 0 = frame_plies d l listed cut n w.before w.after w.happened.frame ∙ ends.0 in
       let valid : IsPosition w.after.moves.position = subst (λ (p : State). IsPosition p) (sym w.happened.passed.position) (w.happened.position ends.0) in
       let one : w.after ≡ cl.top = last_is w.below cl.below w.after cl.top (sym w.is ∙ cl.was) in
       let all : (cl.top.plies ≡ 0) × (IsPosition cl.top.moves.position × AllElsewhere d cl.top.moves) = subst (λ (f : Frame). (f.plies ≡ 0) × (IsPosition f.moves.position × AllElsewhere d f.moves)) one (last, (valid, ends.1)) in
-      runs_skip d l games cut n before here old (with_frames now fs) (under now cl.below) (closed_by now stack table) cl.top (cl.top.fertile || now.stack.fertile) (passed_on before here old now fs run w) cl.was all.0 all.1.0 all.1.1 refl cl.frames refl refl refl cl.fertile cl.kept cl.entries
+      runs_skip d l listed cut n before here old (with_frames now fs) (under now cl.below) (closed_by now stack table) cl.top (cl.top.fertile || now.stack.fertile) (passed_on before here old now fs run w) cl.was all.0 all.1.0 all.1.1 refl cl.frames refl refl refl cl.fertile cl.kept cl.entries
 
   pub close_less : {over : Bool} (now : Machine) (fs : ArrayVec Frame) (stack : Stack) (table : TableState) → OnTop (Passed d over) now.stack.frames.items fs.items → Closes (record now.stack { frames = fs }) stack now.names.table table
-      → effort (chess d l games cut) most_moves (work_at (chess d l games cut) (closed_by now stack table) [] 0) < effort (chess d l games cut) most_moves (work_at (chess d l games cut) now [] 0)
-  close_less now fs stack table w cl = lt_of_lt_of_le (skip_less d l games cut n (with_frames now fs) (under now cl.below) (closed_by now stack table) cl.top cl.was cl.frames refl) (passed_less now fs w)
+      → effort (chess_with d l listed cut) most_moves (work_at (chess_with d l listed cut) (closed_by now stack table) [] 0) < effort (chess_with d l listed cut) most_moves (work_at (chess_with d l listed cut) now [] 0)
+  close_less now fs stack table w cl = lt_of_lt_of_le (skip_less d l listed cut n (with_frames now fs) (under now cl.below) (closed_by now stack table) cl.top cl.was cl.frames refl) (passed_less now fs w)

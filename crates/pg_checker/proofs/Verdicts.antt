@@ -31,7 +31,7 @@ use Rattle.pg_checker.specs.Walk as walk
 use Rattle.pg_checker.specs.Tree.{Rules, spelling_all}
 use Rattle.pg_checker.specs.Answer.{IsSolution, IsExactAnswer, AreSolutions}
 use Rattle.pg_checker.specs.Listed.{IsListFault}
-use Rattle.pg_checker.specs.Chess.{Cuts, IsSoundCut, chess}
+use Rattle.pg_checker.specs.Chess.{Cuts, IsSoundCut, chess, chess_with}
 use Rattle.pg_checker.specs.Cuts.{CheckRules, cuts_by, files_by, prices_by}
 use Rattle.pg_checker.specs.Terms.{Terms, terms}
 use Rattle.pg_checker.specs.Check.{header_for, IsHeaded, IsCertified, Accepts, IsRefused, Refuses, StopsAt}
@@ -46,7 +46,7 @@ use Rattle.pg_checker.specs.declared.fault.ListFault.{ListFault}
 use Rattle.pg_checker.specs.declared.fault.ListFault.TheVariants.{WrongLength, NotReaching}
 use Rattle.pg_checker.specs.inner.Halting.{Stop}
 use Rattle.pg_checker.specs.inner.Halting as stop
-use Rattle.pg_checker.proofs.Chess.{chess_exact, chess_plain, chess_read, yes_is_exact}
+use Rattle.pg_checker.proofs.Chess.{exact_with, plain_with, read_with, yes_is_exact}
 use Rattle.pg_checker.proofs.Reading.{read_no_trailing}
 use Rattle.pg_checker.proofs.Whole.{accepted, accepts, stopped, at_named}
 
@@ -118,24 +118,28 @@ one_header a h k x y e f = ap (λ (v : Header × List ℕ). v.0) (one_ok a (h, x
 no_header : (a : Headers) (f : reading_fault.ReadFault) (k : Header) (y : List ℕ) → a ≡ Err f → a ≡ Ok (k, y) → ⊥
 no_header a f k y e g = one_answer a f (k, y) e g
 
--- chess with a diagram, so many plies and games, cut as said for each diagram and version
-abbrev pub rules_cut : (Placement → ℕ → Cuts) → Placement → ℕ → List (List Move) → CheckRules
-rules_cut all d n games = record { plies = n; of = λ version. chess d n games (all d version) }
+-- chess with a diagram, so many plies and games, of which a test says what is listed, cut as said for each diagram and version
+abbrev pub rules_cut : (List (List Move) → List Move → Bool) → (Placement → ℕ → Cuts) → Placement → ℕ → List (List Move) → CheckRules
+rules_cut test all d n games = record { plies = n; of = λ version. chess_with d n (test games) (all d version) }
 
-module _ (d : Placement) (l : ℕ) (games : List (List Move)) (all_cuts : Placement → ℕ → Cuts) where
+-- a yes of the walk
+pub walk_headline : (d : Placement) (l : ℕ) (games : List (List Move)) (all_cuts : Placement → ℕ → Cuts) (v : ℕ) (left : Option (List ℕ)) (a b : ℕ) (proved : Proved) → IsSoundCut d (all_cuts d v) → AreSolutions d l games → Answers (chess d l games (all_cuts d v)) left a b (Ok proved) → IsExactAnswer d l games
+walk_headline d l games all_cuts v left a b proved sound all h = yes_is_exact d l games (all_cuts d v) sound a b h.0 (proved.records, proved.named) h.2 all
+
+module _ (test : List (List Move) → List Move → Bool) (d : Placement) (l : ℕ) (games : List (List Move)) (all_cuts : Placement → ℕ → Cuts) where
   abbrev pub cuts : ℕ → Cuts
   cuts version = all_cuts d version
 
   -- the rules of each version
   abbrev pub rules : CheckRules
-  rules = rules_cut all_cuts d l games
+  rules = rules_cut test all_cuts d l games
 
   -- with these limits and known bytes
   abbrev pub by : ℕ → ℕ → Option (List ℕ) → Terms
-  by a b known = terms (rules_cut all_cuts) a b known
+  by a b known = terms (rules_cut test all_cuts) a b known
 
   -- what is certified begins with the header of its version
-  certified_header : (a b : ℕ) (bytes : List ℕ) (proved : Proved) → (h : IsCertified rules d a b bytes proved) → IsHeaded h.version d l bytes (spelling_all (chess d l games (cuts h.version)) h.trees)
+  certified_header : (a b : ℕ) (bytes : List ℕ) (proved : Proved) → (h : IsCertified rules d a b bytes proved) → IsHeaded h.version d l bytes (spelling_all (chess_with d l (test games) (cuts h.version)) h.trees)
   certified_header a b bytes proved h = (h.known, h.spelled)
 
   -- two headers of the same bytes are one
@@ -143,18 +147,18 @@ module _ (d : Placement) (l : ℕ) (games : List (List Move)) (all_cuts : Placem
   same_front v w bytes rest more at other = one_ok (header_at bytes) (header_for v d l, rest) (header_for w d l, more) (headed_at v d l bytes rest at) (headed_at w d l bytes more other)
 
   -- and the rest is accepted
-  certified_answer : (v a b : ℕ) (bytes rest : List ℕ) (proved : Proved) → IsHeaded v d l bytes rest → IsCertified rules d a b bytes proved → answer (chess d l games (cuts v)) array_state a b rest ≡ Ok (proved.records, proved.named)
+  certified_answer : (v a b : ℕ) (bytes rest : List ℕ) (proved : Proved) → IsHeaded v d l bytes rest → IsCertified rules d a b bytes proved → answer (chess_with d l (test games) (cuts v)) array_state a b rest ≡ Ok (proved.records, proved.named)
   certified_answer v a b bytes rest proved at h =
-      let one : ◌≡◌ {A = Header × List ℕ} (header_for v d l, rest) (header_for h.version d l, spelling_all (chess d l games (cuts h.version)) h.trees) = same_front v h.version bytes rest (spelling_all (chess d l games (cuts h.version)) h.trees) at (certified_header a b bytes proved h) in
-      let same : rest ≡ spelling_all (chess d l games (cuts h.version)) h.trees = ap (λ (x : Header × List ℕ). x.1) one in
+      let one : ◌≡◌ {A = Header × List ℕ} (header_for v d l, rest) (header_for h.version d l, spelling_all (chess_with d l (test games) (cuts h.version)) h.trees) = same_front v h.version bytes rest (spelling_all (chess_with d l (test games) (cuts h.version)) h.trees) at (certified_header a b bytes proved h) in
+      let same : rest ≡ spelling_all (chess_with d l (test games) (cuts h.version)) h.trees = ap (λ (x : Header × List ℕ). x.1) one in
       let version : v ≡ h.version = ap (λ (x : Header × List ℕ). x.0.version) one in
-      subst (λ (x : ℕ). answer (chess d l games (cuts x)) array_state a b rest ≡ Ok (proved.records, proved.named)) (sym version)
-      (accepts (chess d l games (cuts h.version)) (chess_exact d l games (cuts h.version)) array_state a b rest (proved.records, proved.named)
+      subst (λ (x : ℕ). answer (chess_with d l (test games) (cuts x)) array_state a b rest ≡ Ok (proved.records, proved.named)) (sym version)
+      (accepts (chess_with d l (test games) (cuts h.version)) (exact_with d l (test games) (cuts h.version)) array_state a b rest (proved.records, proved.named)
       (record { trees = h.trees; fits = h.fits; bytes_are = same; records_are = h.records_are; named_are = h.named_are; records_fit = h.records_fit; named_fit = h.named_fit }))
 
-  certified : (v a b : ℕ) (bytes rest : List ℕ) (proved : Proved) → IsHeaded v d l bytes rest → answer (chess d l games (cuts v)) array_state a b rest ≡ Ok (proved.records, proved.named) → IsCertified rules d a b bytes proved
+  certified : (v a b : ℕ) (bytes rest : List ℕ) (proved : Proved) → IsHeaded v d l bytes rest → answer (chess_with d l (test games) (cuts v)) array_state a b rest ≡ Ok (proved.records, proved.named) → IsCertified rules d a b bytes proved
   certified v a b bytes rest proved at h =
-      let k = accepted (chess d l games (cuts v)) (chess_exact d l games (cuts v)) array_state a b rest (proved.records, proved.named) h in
+      let k = accepted (chess_with d l (test games) (cuts v)) (exact_with d l (test games) (cuts v)) array_state a b rest (proved.records, proved.named) h in
       record { version = v; known = at.0; trees = k.trees; fits = k.fits; spelled = at.1 ∙ ap (λ (x : List ℕ). header_spelling (header_for v d l) ++ x) k.bytes_are; records_are = k.records_are; named_are = k.named_are; records_fit = k.records_fit; named_fit = k.named_fit }
 
   -- ---- a listed game is wrong
@@ -167,7 +171,7 @@ module _ (d : Placement) (l : ℕ) (games : List (List Move)) (all_cuts : Placem
   -- ---- the header is refused
   not_certified : (a b : ℕ) (known : Option (List ℕ)) → IfSome known (λ bytes. (version : ℕ) (rest : List ℕ) → ¬ IsHeaded version d l bytes rest) → IfSome known (λ bytes. (proved : Proved) → ¬ IsCertified rules d a b bytes proved)
   not_certified a b None h = tt
-  not_certified a b (Some bytes) h = λ proved k. h k.version (spelling_all (chess d l games (cuts k.version)) k.trees) (certified_header a b bytes proved k)
+  not_certified a b (Some bytes) h = λ proved k. h k.version (spelling_all (chess_with d l (test games) (cuts k.version)) k.trees) (certified_header a b bytes proved k)
 
   refuted : (known : Option (List ℕ)) (failed : Bool) (e : Fault) → HeaderFails d l known failed e → e ≢ fault.Read → IfSome known (λ bytes. (version : ℕ) (rest : List ℕ) → ¬ IsHeaded version d l bytes rest)
   refuted None failed e h ne = tt
@@ -235,50 +239,47 @@ module _ (d : Placement) (l : ℕ) (games : List (List Move)) (all_cuts : Placem
   header_refuses a b known failed fault.Trailing all h = absurd h
 
   -- ---- the walk says yes
-  pub walk_headline : (v : ℕ) (left : Option (List ℕ)) (a b : ℕ) (proved : Proved) → IsSoundCut d (cuts v) → AreSolutions d l games → Answers (chess d l games (cuts v)) left a b (Ok proved) → IsExactAnswer d l games
-  walk_headline v left a b proved sound all h = yes_is_exact d l games (cuts v) sound a b h.0 (proved.records, proved.named) h.2 all
-
-  pub walk_accepts : (v : ℕ) (known left : Option (List ℕ)) (a b : ℕ) (proved : Proved) → AreSolutions d l games → Headed d l known left v → Answers (chess d l games (cuts v)) left a b (Ok proved) → Accepts (by a b known) d l games (Ok proved)
+  pub walk_accepts : (v : ℕ) (known left : Option (List ℕ)) (a b : ℕ) (proved : Proved) → AreSolutions d l games → Headed d l known left v → Answers (chess_with d l (test games) (cuts v)) left a b (Ok proved) → Accepts (by a b known) d l games (Ok proved)
   walk_accepts v known left a b proved all at h = (all, go known left at h.1)
     where
       go : (known left : Option (List ℕ)) → Headed d l known left v → AreKnown left h.0 → IfSome known (λ bytes. IsCertified rules d a b bytes proved)
       go None left at k = tt
       go (Some bytes) None at k = absurd at
-      go (Some bytes) (Some rest) at k = certified v a b bytes rest proved at (ap (answer (chess d l games (cuts v)) array_state a b) k ∙ h.2)
+      go (Some bytes) (Some rest) at k = certified v a b bytes rest proved at (ap (answer (chess_with d l (test games) (cuts v)) array_state a b) k ∙ h.2)
 
   -- ---- the walk stops
   -- no front is stopped by bytes behind the certificate
-  never_trailing : (v : ℕ) (k : ℕ) (p : State) (s : walk.WalkState State) → RecordCause (chess d l games (cuts v)) k p s tree.Trailing → ⊥
+  never_trailing : (v : ℕ) (k : ℕ) (p : State) (s : walk.WalkState State) → RecordCause (chess_with d l (test games) (cuts v)) k p s tree.Trailing → ⊥
   never_trailing v k p s (no_budget e f) = cc
-  never_trailing v k p s (no_record e f) = read_no_trailing (cuts v).version s.rest (sym (ap (λ (read_ : List ℕ → Result (Record × List ℕ) (tree.Cause Move)). read_ s.rest) (chess_read d l games (cuts v))) ∙ f)
+  never_trailing v k p s (no_record e f) = read_no_trailing (cuts v).version s.rest (sym (ap (λ (read_ : List ℕ → Result (Record × List ℕ) (tree.Cause Move)). read_ s.rest) (read_with d l (test games) (cuts v))) ∙ f)
   never_trailing v k p s (refused e (Expand false) rest f g) = g
   never_trailing v k p s (refused e (Expand true) rest f g) = g
   never_trailing v k p s (refused e (Cut code) rest f g) = g
   never_trailing v k p s (refused e (Ref number) rest f g) = g
   never_trailing v k p s (refused e (Priced code color prices) rest f g) = g
 
-  no_trailing : (v : ℕ) (n k : ℕ) (g : List Move) (p : State) (s : walk.WalkState State) → CauseAt (chess d l games (cuts v)) n k g p s tree.Trailing → ⊥
+  no_trailing : (v : ℕ) (n k : ℕ) (g : List Move) (p : State) (s : walk.WalkState State) → CauseAt (chess_with d l (test games) (cuts v)) n k g p s tree.Trailing → ⊥
   no_trailing v n zero g p s c = c
   no_trailing v n (suc k) g p s c = never_trailing v (suc k) p s c
 
-  stopped_for : (v : ℕ) (a b : ℕ) (rest : List ℕ) (f : tree.Cause Move) → f ≢ tree.Trailing → answer (chess d l games (cuts v)) array_state a b rest ≡ Err f → IsStopped (chess d l games (cuts v)) array_state a b rest f
-  stopped_for v a b rest f ne h = elim (stopped (chess d l games (cuts v)) (chess_exact d l games (cuts v)) array_state a b rest f h) [ inl s ↦ s | inr t ↦ absurd (ne t.0) ]
+  stopped_for : (v : ℕ) (a b : ℕ) (rest : List ℕ) (f : tree.Cause Move) → f ≢ tree.Trailing → answer (chess_with d l (test games) (cuts v)) array_state a b rest ≡ Err f → IsStopped (chess_with d l (test games) (cuts v)) array_state a b rest f
+  stopped_for v a b rest f ne h = elim (stopped (chess_with d l (test games) (cuts v)) (exact_with d l (test games) (cuts v)) array_state a b rest f h) [ inl s ↦ s | inr t ↦ absurd (ne t.0) ]
 
-  trailing_for : (v : ℕ) (a b : ℕ) (rest : List ℕ) → answer (chess d l games (cuts v)) array_state a b rest ≡ Err tree.Trailing → HasMore (chess d l games (cuts v)) array_state a b rest
-  trailing_for v a b rest h = elim (stopped (chess d l games (cuts v)) (chess_exact d l games (cuts v)) array_state a b rest tree.Trailing h) [ inl s ↦ absurd (no_trailing v _ s.place.plies s.place.game s.place.position s.state s.cause) | inr t ↦ t.1 ]
+  trailing_for : (v : ℕ) (a b : ℕ) (rest : List ℕ) → answer (chess_with d l (test games) (cuts v)) array_state a b rest ≡ Err tree.Trailing → HasMore (chess_with d l (test games) (cuts v)) array_state a b rest
+  trailing_for v a b rest h = elim (stopped (chess_with d l (test games) (cuts v)) (exact_with d l (test games) (cuts v)) array_state a b rest tree.Trailing h) [ inl s ↦ absurd (no_trailing v _ s.place.plies s.place.game s.place.position s.state s.cause) | inr t ↦ t.1 ]
 
   -- what is refused is not certified
-  not_both : (v : ℕ) (a b : ℕ) (bytes rest : List ℕ) (f : tree.Cause Move) → IsHeaded v d l bytes rest → answer (chess d l games (cuts v)) array_state a b rest ≡ Err f → (proved : Proved) → ¬ IsCertified rules d a b bytes proved
-  not_both v a b bytes rest f at h proved k = one_answer (answer (chess d l games (cuts v)) array_state a b rest) f (proved.records, proved.named) h (certified_answer v a b bytes rest proved at k)
+  not_both : (v : ℕ) (a b : ℕ) (bytes rest : List ℕ) (f : tree.Cause Move) → IsHeaded v d l bytes rest → answer (chess_with d l (test games) (cuts v)) array_state a b rest ≡ Err f → (proved : Proved) → ¬ IsCertified rules d a b bytes proved
+  not_both v a b bytes rest f at h proved k = one_answer (answer (chess_with d l (test games) (cuts v)) array_state a b rest) f (proved.records, proved.named) h (certified_answer v a b bytes rest proved at k)
 
-  because : (v : ℕ) (a b : ℕ) (known left : Option (List ℕ)) (c : (tree.Cause Move)) {Q : List ℕ → Type 0} → Headed d l known left v → Stops left b (λ bytes room. answer (chess d l games (cuts v)) array_state a room bytes) (stop.Because c)
-      → ((bytes rest : List ℕ) → IsHeaded v d l bytes rest → answer (chess d l games (cuts v)) array_state a b rest ≡ Err c → Q bytes) → IfSome known Q
+  because : (v : ℕ) (a b : ℕ) (known left : Option (List ℕ)) (c : (tree.Cause Move)) {Q : List ℕ → Type 0} → Headed d l known left v → Stops left b (λ bytes room. answer (chess_with d l (test games) (cuts v)) array_state a room bytes) (stop.Because c)
+      → ((bytes rest : List ℕ) → IsHeaded v d l bytes rest → answer (chess_with d l (test games) (cuts v)) array_state a b rest ≡ Err c → Q bytes) → IfSome known Q
   unfolding Stops
   because v a b None left c at h f = tt
   because v a b (Some bytes) None c at h f = absurd at
   because v a b (Some bytes) (Some rest) c at h f = f bytes rest at h
 
-  pub stop_accepts : (v : ℕ) (a b : ℕ) (known left : Option (List ℕ)) (s : Stop) → Headed d l known left v → Answers (chess d l games (cuts v)) left a b (Err s) → Accepts (by a b known) d l games (Err (fault_of s))
+  pub stop_accepts : (v : ℕ) (a b : ℕ) (known left : Option (List ℕ)) (s : Stop) → Headed d l known left v → Answers (chess_with d l (test games) (cuts v)) left a b (Err s) → Accepts (by a b known) d l games (Err (fault_of s))
   stop_accepts v a b known left stop.Memory at h = tt
   stop_accepts v a b known left stop.Read at h = tt
   stop_accepts v a b known left (stop.Because tree.Budget) at h = λ all. because v a b known left tree.Budget at h (λ bytes rest. not_both v a b bytes rest tree.Budget)
@@ -294,16 +295,16 @@ module _ (d : Placement) (l : ℕ) (games : List (List Move)) (all_cuts : Placem
   stop_accepts v a b known left (stop.Because (tree.Unlisted x)) at h = λ all. because v a b known left (tree.Unlisted x) at h (λ bytes rest. not_both v a b bytes rest (tree.Unlisted x))
   stop_accepts v a b known left (stop.Because tree.Trailing) at h = λ all. because v a b known left tree.Trailing at h (λ bytes rest. not_both v a b bytes rest tree.Trailing)
 
-  stops_at : (v : ℕ) (a b : ℕ) (f : tree.Cause Move) → f ≢ tree.Trailing → (bytes rest : List ℕ) → IsHeaded v d l bytes rest → answer (chess d l games (cuts v)) array_state a b rest ≡ Err f → StopsAt (by a b None) d l games bytes f
+  stops_at : (v : ℕ) (a b : ℕ) (f : tree.Cause Move) → f ≢ tree.Trailing → (bytes rest : List ℕ) → IsHeaded v d l bytes rest → answer (chess_with d l (test games) (cuts v)) array_state a b rest ≡ Err f → StopsAt (by a b None) d l games bytes f
   stops_at v a b f ne bytes rest at h = (v, rest, at, stopped_for v a b rest f ne h)
 
-  memory_at : (v : ℕ) (a b : ℕ) (known left : Option (List ℕ)) → Headed d l known left v → Stops left b (λ bytes room. answer (chess d l games (cuts v)) array_state a room bytes) stop.Memory → IfSome known (λ bytes. IsRefused (by a b known) d l games bytes fault.Memory)
+  memory_at : (v : ℕ) (a b : ℕ) (known left : Option (List ℕ)) → Headed d l known left v → Stops left b (λ bytes room. answer (chess_with d l (test games) (cuts v)) array_state a room bytes) stop.Memory → IfSome known (λ bytes. IsRefused (by a b known) d l games bytes fault.Memory)
   unfolding Stops
   memory_at v a b None left at h = tt
   memory_at v a b (Some bytes) None at h = absurd at
-  memory_at v a b (Some bytes) (Some rest) at h = (v, rest, at, at_named (chess d l games (cuts v)) (chess_exact d l games (cuts v)) (chess_plain d l games (cuts v)) array_state a b h.0 rest h.1 h.2)
+  memory_at v a b (Some bytes) (Some rest) at h = (v, rest, at, at_named (chess_with d l (test games) (cuts v)) (exact_with d l (test games) (cuts v)) (plain_with d l (test games) (cuts v)) array_state a b h.0 rest h.1 h.2)
 
-  pub stop_refuses : (v : ℕ) (a b : ℕ) (known left : Option (List ℕ)) (failed : Bool) (s : Stop) → AreSolutions d l games → Headed d l known left v → FailsRead {X = Proved} failed (Err s) → Answers (chess d l games (cuts v)) left a b (Err s) → Refuses (by a b known) d l games failed (Err (fault_of s))
+  pub stop_refuses : (v : ℕ) (a b : ℕ) (known left : Option (List ℕ)) (failed : Bool) (s : Stop) → AreSolutions d l games → Headed d l known left v → FailsRead {X = Proved} failed (Err s) → Answers (chess_with d l (test games) (cuts v)) left a b (Err s) → Refuses (by a b known) d l games failed (Err (fault_of s))
   stop_refuses v a b known left failed stop.Memory all at r h = (all, memory_at v a b known left at h)
   stop_refuses v a b known left failed stop.Read all at r h = (all, r)
   stop_refuses v a b known left failed (stop.Because tree.Budget) all at r h = (all, because v a b known left tree.Budget at h (stops_at v a b tree.Budget (λ e. cc)))

@@ -90,14 +90,14 @@ read version bytes = taken version bytes (record_at version bytes)
 abbrev pub stands_for : ℕ → State → State → Bool
 stands_for version q p = if version == 2 then future_eq q p else state_eq q p
 
--- chess, with the diagram d, n plies, the listed games, and the cuts and records of a version
-unfoldable pub chess : Placement → ℕ → List (List Move) → Cuts → Rules State Move
-chess d n games cut = record {
+-- chess, with the diagram d, n plies, a test of which games are listed, and the cuts and records of a version
+unfoldable pub chess_with : Placement → ℕ → (List Move → Bool) → Cuts → Rules State Move
+chess_with d n listed cut = record {
   moves = moves_of;
   play = play_of;
   is_goal = λ p. placement_eq p.board d;
   plies = n;
-  is_listed = λ g. lists games g;
+  is_listed = listed;
   is_same = stands_for cut.version;
   cut = cut.bounds;
   priced = cut.prices;
@@ -105,3 +105,11 @@ chess d n games cut = record {
   is_record = is_spelled cut.version;
   read = read cut.version;
 }
+
+-- the same with the games of a list
+abbrev pub chess : Placement → ℕ → List (List Move) → Cuts → Rules State Move
+chess d n games cut = chess_with d n (lists games) cut
+
+-- every game is listed
+abbrev pub any_game : List Move → Bool
+any_game game = true

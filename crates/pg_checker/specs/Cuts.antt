@@ -13,7 +13,7 @@ use Rattle.std.specs.declared.alloc.Global.{Global}
 use Rattle.std.specs.declared.dyn_box.DynBox.{DynBox}
 use Rattle.pg_checker.specs.declared.machine.Question.{Question}
 use Rattle.pg_checker.specs.Tree.{Rules}
-use Rattle.pg_checker.specs.Chess.{Cuts, chess}
+use Rattle.pg_checker.specs.Chess.{Cuts, any_game, chess, chess_with}
 
 -- pawn files have one price list
 abbrev pub files_by : Placement → State → Color → List PriceList → Bool
@@ -48,6 +48,12 @@ abbrev pub rules_by : {B : Type 0} → (B → ℕ) → (B → Placement → Stat
 rules_by code_of excluded bounds d n games =
     record { plies = n; of = λ version. chess d n games (cuts_by code_of excluded version d bounds) }
 
+-- the same where every game is listed
+abbrev pub any_rules_by : {B : Type 0} → (B → ℕ) → (B → Placement → State → ℕ → Bool) → List B → Placement → ℕ
+    → List (List Move) → CheckRules
+any_rules_by code_of excluded bounds d n games =
+    record { plies = n; of = λ version. chess_with d n any_game (cuts_by code_of excluded version d bounds) }
+
 -- ---- what is asked of a certificate, and its version
 module _ {X : Type 0} {F : X → Type 0} (code_of : DynBox X Global F → ℕ)
     (excluded : DynBox X Global F → Placement → State → ℕ → Bool) where
@@ -55,6 +61,6 @@ module _ {X : Type 0} {F : X → Type 0} (code_of : DynBox X Global F → ℕ)
   abbrev pub cuts_for : Question X F → Cuts
   cuts_for question = cuts_by code_of excluded question.version question.diagram.now question.bounds.now
 
-  -- the rules that its trees must fit
-  abbrev pub rules_for : Question X F → Rules State Move
-  rules_for question = chess question.diagram.now question.plies question.games.now (cuts_for question)
+  -- the rules that its trees must fit, by a test of which games are listed
+  abbrev pub rules_for : Question X F → (List Move → Bool) → Rules State Move
+  rules_for question listed = chess_with question.diagram.now question.plies listed (cuts_for question)

@@ -2,6 +2,8 @@ pub mod Frames
 pub mod Table
 pub mod Machine
 pub mod Halting
+pub mod Telling
+pub mod Finds
 pub mod Steps
 pub mod Judging
 pub mod Checking

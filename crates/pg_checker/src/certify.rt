@@ -1,5 +1,5 @@
 //! The check of a certificate.
-ghost use Rattle.std.specs.Prelude.{◌≡◌, ◌+◌, ◌*◌, ◌≤◌, false, [], OnOk, IfOk, IfErr};
+ghost use Rattle.std.specs.Prelude.{List, Bool, ◌≡◌, ◌+◌, ◌*◌, ◌≤◌, false, [], OnOk, IfOk, IfErr};
 ghost use Rattle.std.specs.Io.KnownBytes.{IsAtEnd};
 ghost use Rattle.pg_certificate.specs.Reader.{to_come};
 ghost use Rattle.pg_certificate.specs.Spelling.{header_length, longest_record};
@@ -7,12 +7,17 @@ ghost use Rattle.pg_checker.specs.Answer.{IsExactAnswer};
 ghost use Rattle.pg_checker.specs.Check.{Accepts, Refuses, Takes};
 ghost use Rattle.pg_checker.specs.inner.Checking.{Answers, Headed, HeaderFails, HeaderTakes, WalkTakes, header_fault};
 ghost use Rattle.pg_checker.specs.Cuts.{rules_by, rules_for};
-ghost use Rattle.pg_checker.specs.inner.Halting.{stops};
+ghost use Rattle.pg_position.specs.declared.moves.Move.{Move};
+ghost use Rattle.pg_checker.specs.inner.Finds.{Finding, Serves, asked};
+ghost use Rattle.pg_checker.specs.inner.Halting.{full, stops};
+ghost use Rattle.pg_checker.specs.inner.Telling.{StopTells};
+ghost use Rattle.pg_checker.specs.Telling.{Tells};
 ghost use Rattle.pg_checker.specs.inner.Machine.{IsReading, IsReady, game_at};
 ghost use Rattle.pg_checker.specs.inner.Steps.{FailsRead};
 ghost use Rattle.pg_checker.specs.Terms.{terms};
 
 use crate::fault::Fault;
+use crate::finds::Finds;
 use crate::halt::{Halt, Reason, fault_of};
 use crate::listed::check_listed;
 use crate::machine::{Input, Machine, Names, Question, Stack};
@@ -34,6 +39,13 @@ pub struct Proved {
     pub named: u32,
 }
 
+/// The games of a certificate, and what proved them.
+#[derive(Drop)]
+pub struct Answer {
+    pub games: Games,
+    pub proved: Proved,
+}
+
 // A refusal to read a header, as a fault.
 fn header_fault(fault: ReadFault) -> Fault
     ensures { result ≡ header_fault fault }
@@ -49,7 +61,7 @@ fn header_fault(fault: ReadFault) -> Fault
 }
 
 // The header, which must be for the diagram and so many plies; its version.
-fn read_header<S: Source>(
+pub(crate) fn read_header<S: Source>(
     diagram: &Diagram,
     plies: u8,
     reader: &mut RecordReader,
@@ -79,7 +91,7 @@ fn read_header<S: Source>(
 }
 
 // The rows of the diagram, where records of the version have price lists.
-fn rows_for(version: u8, diagram: &Diagram) -> Option<Rows> {
+pub(crate) fn rows_for(version: u8, diagram: &Diagram) -> Option<Rows> {
     if version == 2 {
         Some(Rows::new(diagram))
     } else {
@@ -88,7 +100,7 @@ fn rows_for(version: u8, diagram: &Diagram) -> Option<Rows> {
 }
 
 // The trees, and the end behind them.
-fn walk<S: Source>(
+pub(crate) fn walk<S: Source>(
     question: &Question,
     machine: &mut Machine,
     source: &mut S,
@@ -97,14 +109,17 @@ fn walk<S: Source>(
     requires ready { IsReady question.now.version machine.old }
     requires entries { machine.old.names.table.entries ≡ [] }
     requires closed { machine.old.stack.frames.items ≡ [] }
-    ensures says { Answers
-        (rules_for code_of excluded question.now) (to_come machine.old.input.reader (S.left source.old))
+    ensures says { (listed : List Move → Bool) → Serves (asked question.now.games) machine.new.finds listed → Answers
+        (rules_for code_of excluded question.now listed) (to_come machine.old.input.reader (S.left source.old))
         machine.old.input.records machine.old.names.left (stops (game_at machine.new.stack) result) }
     ensures end { OnOk result (IsAtEnd (S.left source.new)) }
     ensures runs { OnOk result (S.has_failed source.new ≡ false) }
     ensures fails { FailsRead (S.has_failed source.new) (stops [] result) }
     ensures pulls { WalkTakes (longest_record * machine.old.input.records)
         (to_come machine.old.input.reader (S.left source.old)) (S.left source.new) (stops [] result) }
+    ensures tells { IfErr result (λ h. StopTells question.now.diagram.now question.now.plies (asked question.now.games)
+        (full (game_at machine.new.stack) h)) }
+    ensures finds { Finding question.now.diagram.now question.now.plies machine.old.finds machine.new.finds }
 {
     let records = machine.input.records;
     let names = machine.names.left;
@@ -134,6 +149,9 @@ fn walk<S: Source>(
 /// `37 + 390 * max_records + 4,096` bytes are taken from a source that has not failed. A refusal
 /// changes no argument but the source.
 ///
+/// `Unlisted` proves that its game is a solution which the list lacks, and `Shorter` that a game of so many
+/// plies, fewer than the stated ones, ends on the diagram: of any source.
+///
 /// # Errors
 /// In the order of testing: `Listed` where a listed game is no solution; at the header `Read` or
 /// `Truncated`, then `Magic`, `OtherLength`, `OtherDiagram`; at each record `Budget` where
@@ -160,6 +178,7 @@ pub fn check<R: Source>(
         (R.left source.old) (R.left source.new) result }
     ensures end { OnOk result (IsAtEnd (R.left source.new)) }
     ensures runs { OnOk result (R.has_failed source.new ≡ false) }
+    ensures tells { Tells diagram.now length games.now result }
 {
     match check_listed(diagram, length, games) {
         Ok(()) => {}
@@ -180,6 +199,7 @@ pub fn check<R: Source>(
             frames: ArrayVec::new(),
             fertile: false,
         },
+        finds: Finds::new(alloc),
     };
     let version = match read_header(diagram, plies, &mut machine.input.reader, source) {
         Ok(version) => version,
@@ -189,7 +209,7 @@ pub fn check<R: Source>(
         diagram,
         plies,
         version,
-        games,
+        games: Some(games),
         bounds,
         rows: rows_for(version, diagram),
     };

@@ -16,6 +16,7 @@ ghost use Rattle.pg_checker.specs.Answer.{IsExactAnswer, AreSolutions};
 ghost use Rattle.pg_checker.specs.Chess.{Cuts, IsSoundCut, IsChess, chess, cause_of, renamed, read};
 ghost use Rattle.pg_checker.specs.Claims.{IsExact, IsCertificate};
 ghost use Rattle.pg_checker.specs.Left.{left_after};
+ghost use Rattle.pg_checker.specs.Telling.{HasShorter, IsMissing};
 ghost use Rattle.pg_checker.specs.Tree.{Rules, Trees, Cause, Truncated, UnknownRecord, TooManyNamed, spelling_all, records_all};
 ghost use Rattle.pg_checker.specs.Whole.{IsAtNamed, full_from, answer, IsAccepted, IsRefusedFor};
 
@@ -99,4 +100,13 @@ pub fn refused_at_the_first_cause()
     ensures memory { (d : Placement) (n : ℕ) (games : List (List Move)) (cut : Cuts) (a b fewer : ℕ) (bytes : List ℕ)
         → fewer < b → answer (chess d n games cut) array_state a fewer bytes ≡ Err TooManyNamed
         → IsAtNamed (chess d n games cut) array_state a b bytes }
+{}
+
+/// With a game that is called unlisted no list of those games is the exact answer, and with a shorter game
+/// no list is.
+pub fn what_refusals_prove()
+    ensures unlisted { (d : Placement) (n : ℕ) (games : List (List Move)) (game : List Move)
+        → IsMissing d n games game → ¬ IsExactAnswer d n games }
+    ensures shorter { (d : Placement) (n m : ℕ) (games : List (List Move))
+        → HasShorter d n m → ¬ IsExactAnswer d n games }
 {}

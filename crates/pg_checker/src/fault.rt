@@ -76,6 +76,20 @@ pub enum Fault {
     Trailing,
 }
 
+/// Why a certificate is not answered with its games, in the order of testing.
+#[derive(Debug, PartialEq, Eq, Drop, Error)]
+pub enum AnswerFault {
+    /// A fault of a check, which is neither of a listed game nor of an unlisted one.
+    #[error("{0}")]
+    Check(Fault),
+    /// More than 4,096 games solve the problem.
+    #[error("more than 4096 games")]
+    TooManyGames,
+    /// A growth of the list of games was refused.
+    #[error("out of memory")]
+    Memory,
+}
+
 /// Why a check ends without its report, the first of these that holds.
 #[derive(Debug, PartialEq, Eq, Drop, Error)]
 pub enum RunFault {

@@ -1,9 +1,11 @@
 //! The checker of certificates: what a certificate proves, and the walk that reads one.
 #![tactic(auto)]
 
+mod answering;
 mod certify;
 mod chess_laws;
 mod fault;
+mod finds;
 mod halt;
 mod laws;
 mod listed;
@@ -15,12 +17,14 @@ mod spot;
 mod table;
 mod walk;
 
-pub use certify::{Proved, check};
+pub use answering::answer;
+pub use certify::{Answer, Proved, check};
 pub use chess_laws::{
     accepted_is_exact, accepted_where_it_fits, exact_has_a_certificate, moves_come_in_order,
     records_are_read_as_spelled, refused_at_the_first_cause, rules_are_those_of_chess,
+    what_refusals_prove,
 };
-pub use fault::{Fault, ListFault, RunFault};
+pub use fault::{AnswerFault, Fault, ListFault, RunFault};
 pub use listed::check_listed;
 pub use nearness::{leads_to, skip_to_solution};
 pub use problem::Problem;

@@ -2,6 +2,7 @@
 ghost use Rattle.std.specs.Prelude.{◌≡◌, ◌≤◌, length, reverse};
 ghost use Rattle.pg_checker.specs.inner.Machine.{path};
 
+use crate::finds::Finds;
 use crate::table::Table;
 use arrayvec::ArrayVec;
 use pg_captures::Bound;
@@ -12,14 +13,14 @@ use pg_position::{Move, Position};
 use pg_san::Games;
 use pg_travel::{Prices, Rows};
 
-// What is asked of a certificate, its version, which its header told, and rows of distances for the tests
+// What is asked of a certificate: with a list of games, or with none, where each game on the diagram is kept; its version, which its header told, and rows of distances for the tests
 // of price lists, where they are at hand.
 #[derive(Drop)]
 pub(crate) struct Question<'a> {
     pub(crate) diagram: &'a Diagram,
     pub(crate) plies: u8,
     pub(crate) version: u8,
-    pub(crate) games: &'a Games,
+    pub(crate) games: Option<&'a Games>,
     pub(crate) bounds: &'a [Box<dyn Bound>],
     pub(crate) rows: Option<Rows>,
 }
@@ -82,6 +83,7 @@ pub(crate) struct Machine {
     pub(crate) input: Input,
     pub(crate) names: Names,
     pub(crate) stack: Stack,
+    pub(crate) finds: Finds,
 }
 
 // The game that leads along the open nodes: the move that was played last at each.

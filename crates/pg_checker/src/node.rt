@@ -1,6 +1,6 @@
 //! The record of a node: read, and judged at the node's position.
 ghost use Rattle.std.specs.Prelude.{◌≡◌, ◌+◌, ◌<◌, ◌⊎◌, Bool, List, [], false, slice_get, map, OnOk, IfOk, IfErr};
-ghost use Rattle.pg_checker.specs.Chess.{stands_for};
+ghost use Rattle.pg_checker.specs.Chess.{any_game, stands_for};
 ghost use Rattle.pg_certificate.specs.Spelling.{record_of};
 ghost use Rattle.pg_checker.specs.Cuts.{rules_for, cuts_for, files_by, prices_by};
 ghost use Rattle.pg_travel.specs.PricesDecided.{travel_prices_test};
@@ -8,6 +8,7 @@ ghost use Rattle.pg_position.specs.declared.moves.Move.{Move};
 ghost use Rattle.pg_checker.specs.inner.Halting.{full, causes, stops};
 ghost use Rattle.pg_checker.specs.inner.Judging.{EndsSo, Judges, SaysRecord, TakesOne, ended_of, refer_answer, stop_of};
 ghost use Rattle.pg_checker.specs.inner.Machine.{IsReading, Walks, WalksOn, entry_of, opened, point_of, shape_of};
+ghost use Rattle.pg_checker.specs.inner.Telling.{NamesNoGame};
 ghost use Rattle.pg_checker.specs.inner.Spots.{IsReached, spot_of};
 ghost use Rattle.pg_checker.specs.inner.Steps.{FailsRead};
 ghost use Rattle.pg_checker.specs.Walk.{judge as judge_of, head as head_of, cut_answer};
@@ -26,7 +27,8 @@ use pg_travel::{Prices, Rows, Travel};
 
 // A refusal to read a record, as a halt. No record is refused as Magic or Trailing.
 pub(crate) fn halt_of(fault: ReadFault) -> Halt
-    ensures { (game : List Move) → full game result ≡ stop_of fault }
+    ensures says { (game : List Move) → full game result ≡ stop_of fault }
+    ensures names { NamesNoGame result }
 {
     match fault {
         ReadFault::UnknownRecord(byte) => Halt::Because(Reason::UnknownRecord(byte)),
@@ -227,7 +229,7 @@ fn judge(
 ) -> Result<Opening, Halt>
     requires { IsReached spot.now }
     ensures says { (game : List Move) → Judges names.old names.new
-        (judge_of (rules_for code_of excluded question.now) left (spot_of spot.now) (record_of prices.now bare))
+        (judge_of (rules_for code_of excluded question.now any_game) left (spot_of spot.now) (record_of prices.now bare))
         (stops game result) }
     ensures kept { IfOk result (λ node. names.new.table.kept ≡ names.old.table.kept + opened node) }
     ensures fails { (failed : Bool) → FailsRead failed (stops [] result) }
@@ -262,6 +264,7 @@ fn next<S: Source>(
     ensures ready { OnOk result (IsReading reader.old.version reader.new) }
     ensures fails { FailsRead (S.has_failed source.new) (stops [] result) }
     ensures few { TakesOne reader.old reader.new (S.left source.old) (S.left source.new) result }
+    ensures names { IfErr result (λ h. NamesNoGame h) }
 {
     match reader.next_bare(prices, source) {
         Ok(bare) => Ok(bare),
@@ -283,7 +286,7 @@ pub(crate) fn judge_next<S: Source>(
     requires ready { IsReading question.now.version input.old.reader }
     ensures says { (game : List Move) → Walks
         (point_of input.old names.old (S.left source.old)) (point_of input.new names.new (S.left source.new))
-        (head_of (rules_for code_of excluded question.now) left (spot_of spot.now))
+        (head_of (rules_for code_of excluded question.now any_game) left (spot_of spot.now))
         (λ node s. (shape_of node, s)) (stops game result) }
     ensures kept { IfOk result (λ node. names.new.table.kept ≡ names.old.table.kept + opened node) }
     ensures ready { OnOk result (IsReading question.now.version input.new.reader) }
@@ -291,6 +294,7 @@ pub(crate) fn judge_next<S: Source>(
     ensures few { WalksOn
         (point_of input.old names.old (S.left source.old)) (point_of input.new names.new (S.left source.new))
         (S.left source.new) (stops [] result) }
+    ensures names { IfErr result (λ h. NamesNoGame h) }
 {
     if input.records == 0 {
         return Err(Halt::Because(Reason::Budget));

@@ -1,16 +1,20 @@
 //! The walk over the trees of a certificate, with a stack of open nodes.
-ghost use Rattle.std.specs.Prelude.{◌≡◌, ◌||◌, ◌+◌, ◌<◌, ◌≤◌, ◌++◌, suc, true, false, [], ◌∷◌, length, map, reverse, IfSome, MatchOption, OnOk};
+ghost use Rattle.std.specs.Prelude.{List, Bool, ◌≡◌, ◌||◌, ◌+◌, ◌<◌, ◌≤◌, ◌++◌, suc, true, false, [], ◌∷◌, length, map, reverse, IfErr, IfSome, MatchOption, OnOk};
 ghost use Rattle.pg_checker.specs.Cuts.{rules_for};
+ghost use Rattle.pg_position.specs.declared.moves.Move.{Move};
+ghost use Rattle.pg_checker.specs.inner.Finds.{Finding, Serves, asked};
 ghost use Rattle.pg_checker.specs.inner.Frames.{enter as enter_of, finish, turn_top, Stacked};
 ghost use Rattle.pg_checker.specs.Whole.{run as run_of};
 ghost use Rattle.pg_position.specs.Array.{array_state};
-ghost use Rattle.pg_checker.specs.inner.Halting.{causes, stops};
+ghost use Rattle.pg_checker.specs.inner.Halting.{Because, cause_with, causes, full, stops};
 ghost use Rattle.pg_checker.specs.inner.Judging.{LeafSays};
-ghost use Rattle.pg_checker.specs.inner.Machine.{Closes, GoesOn, HasNone, IsReady, OnTop, Passed, Plays, Visits, Walks, Works, entered, entry_of, fresh, game_at, named_at, path, point_at, stack_at};
+ghost use Rattle.pg_checker.specs.inner.Machine.{Closes, GoesOn, HasNone, IsReady, LeadTo, OnTop, Passed, Plays, Visits, Walks, Works, entered, entry_of, fresh, game_at, named_at, path, point_at, stack_at};
+ghost use Rattle.pg_checker.specs.inner.Telling.{StopTells};
 ghost use Rattle.pg_checker.specs.inner.Spots.{IsReached, spot_of};
 ghost use Rattle.pg_checker.specs.Tree.{one_if};
 ghost use Rattle.pg_checker.specs.Walk.{leaf as leaf_of, visit};
 
+use crate::finds::{Finds, counts};
 use crate::halt::{Halt, Reason};
 use crate::machine::{Frame, Machine, Opening, Question, Stack, game_along};
 use crate::nearness::skip_to_solution;
@@ -24,17 +28,24 @@ use pg_moves::LegalMoves;
 use pg_position::Position;
 
 // A node with no ply left, in the tree of a length: whether its placement is the diagram. Where it
-// is, the length must be the stated one and the game must be listed.
+// is, the length must be the stated one and the game must be listed, or it is kept.
 fn leaf(
     question: &Question,
     tree: u8,
     frames: &[Frame],
     position: &Position,
+    finds: &mut Finds,
 ) -> Result<bool, Reason>
-    requires { length frames.now ≤ 128 }
-    ensures { LeafSays
+    requires few { length frames.now ≤ 128 }
+    requires depth { length frames.now ≡ tree }
+    requires within { tree ≤ question.now.plies }
+    requires played { LeadTo (reverse frames.now) position.now }
+    ensures says { (listed : List Move → Bool) → Serves (asked question.now.games) finds.new listed → LeafSays
         (causes (path (reverse frames.now)) result)
-        (leaf_of (rules_for code_of excluded question.now) tree (path (reverse frames.now)) position.now) }
+        (leaf_of (rules_for code_of excluded question.now listed) tree (path (reverse frames.now)) position.now) }
+    ensures tells { IfErr result (λ r. StopTells question.now.diagram.now question.now.plies (asked question.now.games)
+        (Because (cause_with (path (reverse frames.now)) r))) }
+    ensures finds { Finding question.now.diagram.now question.now.plies finds.old finds.new }
 {
     if !question.diagram.matches(position) {
         return Ok(false);
@@ -43,7 +54,7 @@ fn leaf(
         return Err(Reason::Shorter(tree));
     }
     let game = game_along(frames);
-    if question.games.contains(game.as_slice()) {
+    if counts(question.games, game.as_slice(), finds) {
         Ok(true)
     } else {
         Err(Reason::Unlisted)
@@ -52,14 +63,26 @@ fn leaf(
 
 // The same of a node: a function of its own, so that a node which ends at once pays for no position.
 #[inline(never)]
-fn leaf_there(question: &Question, tree: u8, frames: &[Frame], spot: &Spot) -> Result<bool, Reason>
+fn leaf_there(
+    question: &Question,
+    tree: u8,
+    frames: &[Frame],
+    spot: &Spot,
+    finds: &mut Finds,
+) -> Result<bool, Reason>
     requires reached { IsReached spot.now }
     requires few { length frames.now ≤ 128 }
-    ensures { LeafSays
+    requires depth { length frames.now ≡ tree }
+    requires within { tree ≤ question.now.plies }
+    requires played { LeadTo (reverse frames.now) (spot_of spot.now) }
+    ensures says { (listed : List Move → Bool) → Serves (asked question.now.games) finds.new listed → LeafSays
         (causes (path (reverse frames.now)) result)
-        (leaf_of (rules_for code_of excluded question.now) tree (path (reverse frames.now)) (spot_of spot.now)) }
+        (leaf_of (rules_for code_of excluded question.now listed) tree (path (reverse frames.now)) (spot_of spot.now)) }
+    ensures tells { IfErr result (λ r. StopTells question.now.diagram.now question.now.plies (asked question.now.games)
+        (Because (cause_with (path (reverse frames.now)) r))) }
+    ensures finds { Finding question.now.diagram.now question.now.plies finds.old finds.new }
 {
-    leaf(question, tree, frames, &spot.position())
+    leaf(question, tree, frames, &spot.position(), finds)
 }
 
 // A node with so many plies left below it opens: all its moves are still to be played.
@@ -96,16 +119,23 @@ fn enter<S: Source>(
 ) -> Result<(), Halt>
     requires reached { IsReached spot.now }
     requires depth { left + length machine.old.stack.frames.items ≡ tree }
+    requires played { LeadTo (reverse machine.old.stack.frames.items) (spot_of spot.now) }
     requires limit { tree ≤ 128 }
+    requires within { tree ≤ question.now.plies }
     requires ready { IsReady question.now.version machine.old }
-    ensures says { Works (rules_for code_of excluded question.now) machine.old machine.new
+    ensures says { (listed : List Move → Bool) → Serves (asked question.now.games) machine.new.finds listed
+        → Works (rules_for code_of excluded question.now listed) machine.old machine.new
         (S.left source.old) (S.left source.new)
         (λ r. enter_of r tree left (game_at machine.old.stack) (spot_of spot.now) (stack_at machine.old.stack)) result }
     ensures keeps { GoesOn question.now.version machine.old machine.new
         (S.left source.old) (S.left source.new) (S.has_failed source.new) result }
+    ensures tells { IfErr result (λ h. StopTells question.now.diagram.now question.now.plies (asked question.now.games)
+        (full (game_at machine.new.stack) h)) }
+    ensures finds { Finding question.now.diagram.now question.now.plies machine.old.finds machine.new.finds }
 {
     if left == 0 {
-        return match leaf_there(question, tree, machine.stack.frames.as_slice(), spot) {
+        let frames = machine.stack.frames.as_slice();
+        return match leaf_there(question, tree, frames, spot, &mut machine.finds) {
             Ok(fertile) => {
                 machine.stack.fertile = fertile;
                 Ok(())
@@ -229,12 +259,17 @@ fn turn<S: Source>(
     requires open { 0 < length machine.old.stack.frames.items }
     requires stacked { Stacked tree (stack_at machine.old.stack) }
     requires limit { tree ≤ 128 }
+    requires within { tree ≤ question.now.plies }
     requires ready { IsReady question.now.version machine.old }
-    ensures says { Works (rules_for code_of excluded question.now) machine.old machine.new
+    ensures says { (listed : List Move → Bool) → Serves (asked question.now.games) machine.new.finds listed
+        → Works (rules_for code_of excluded question.now listed) machine.old machine.new
         (S.left source.old) (S.left source.new)
         (λ r. turn_top r tree (stack_at machine.old.stack) machine.old.stack.fertile) result }
     ensures keeps { GoesOn question.now.version machine.old machine.new
         (S.left source.old) (S.left source.new) (S.has_failed source.new) result }
+    ensures tells { IfErr result (λ h. StopTells question.now.diagram.now question.now.plies (asked question.now.games)
+        (full (game_at machine.new.stack) h)) }
+    ensures finds { Finding question.now.diagram.now question.now.plies machine.old.finds machine.new.finds }
 {
     let fertile = machine.stack.fertile;
     match play_top(&mut machine.stack.frames, fertile) {
@@ -279,13 +314,18 @@ fn run<S: Source>(
 ) -> Result<(), Halt>
     requires stacked { Stacked tree (stack_at machine.old.stack) }
     requires limit { tree ≤ 128 }
+    requires within { tree ≤ question.now.plies }
     requires ready { IsReady question.now.version machine.old }
-    ensures says { Visits machine.old machine.new (S.left source.old) (S.left source.new)
-        (λ s. finish (rules_for code_of excluded question.now) tree
+    ensures says { (listed : List Move → Bool) → Serves (asked question.now.games) machine.new.finds listed
+        → Visits machine.old machine.new (S.left source.old) (S.left source.new)
+        (λ s. finish (rules_for code_of excluded question.now listed) tree
         (record { frames = stack_at machine.old.stack; found = machine.old.stack.fertile; state = s })) result }
     ensures closed { OnOk result (machine.new.stack.frames.items ≡ []) }
     ensures keeps { GoesOn question.now.version machine.old machine.new
         (S.left source.old) (S.left source.new) (S.has_failed source.new) result }
+    ensures tells { IfErr result (λ h. StopTells question.now.diagram.now question.now.plies (asked question.now.games)
+        (full (game_at machine.new.stack) h)) }
+    ensures finds { Finding question.now.diagram.now question.now.plies machine.old.finds machine.new.finds }
 {
     while !machine.stack.frames.is_empty() {
         if is_top_over(question.diagram, &mut machine.stack.frames) {
@@ -308,13 +348,18 @@ fn tree_of<S: Source>(
     source: &mut S,
 ) -> Result<(), Halt>
     requires limit { tree ≤ 128 }
+    requires within { tree ≤ question.now.plies }
     requires closed { machine.old.stack.frames.items ≡ [] }
     requires ready { IsReady question.now.version machine.old }
-    ensures says { Visits machine.old machine.new (S.left source.old) (S.left source.new)
-        (visit (rules_for code_of excluded question.now) tree tree [] array_state) result }
+    ensures says { (listed : List Move → Bool) → Serves (asked question.now.games) machine.new.finds listed
+        → Visits machine.old machine.new (S.left source.old) (S.left source.new)
+        (visit (rules_for code_of excluded question.now listed) tree tree [] array_state) result }
     ensures closed { OnOk result (machine.new.stack.frames.items ≡ []) }
     ensures keeps { GoesOn question.now.version machine.old machine.new
         (S.left source.old) (S.left source.new) (S.has_failed source.new) result }
+    ensures tells { IfErr result (λ h. StopTells question.now.diagram.now question.now.plies (asked question.now.games)
+        (full (game_at machine.new.stack) h)) }
+    ensures finds { Finding question.now.diagram.now question.now.plies machine.old.finds machine.new.finds }
 {
     let root = Spot {
         from: Position::array(),
@@ -335,11 +380,15 @@ pub(crate) fn all_trees<S: Source>(
     requires limit { question.now.plies ≤ 128 }
     requires closed { machine.old.stack.frames.items ≡ [] }
     requires ready { IsReady question.now.version machine.old }
-    ensures says { Walks (point_at machine.old (S.left source.old)) (point_at machine.new (S.left source.new))
-        (run_of (rules_for code_of excluded question.now) (suc question.now.plies) 0 array_state)
+    ensures says { (listed : List Move → Bool) → Serves (asked question.now.games) machine.new.finds listed
+        → Walks (point_at machine.old (S.left source.old)) (point_at machine.new (S.left source.new))
+        (run_of (rules_for code_of excluded question.now listed) (suc question.now.plies) 0 array_state)
         (λ _ s. s) (stops (game_at machine.new.stack) result) }
     ensures keeps { GoesOn question.now.version machine.old machine.new
         (S.left source.old) (S.left source.new) (S.has_failed source.new) result }
+    ensures tells { IfErr result (λ h. StopTells question.now.diagram.now question.now.plies (asked question.now.games)
+        (full (game_at machine.new.stack) h)) }
+    ensures finds { Finding question.now.diagram.now question.now.plies machine.old.finds machine.new.finds }
 {
     let mut tree: u8 = 0;
     loop {

@@ -1,4 +1,3 @@
-mod Wider
 mod ExactUpgrades
 mod UpgradedFits
 mod Nodes

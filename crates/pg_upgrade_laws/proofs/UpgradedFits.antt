@@ -12,14 +12,15 @@ use Rattle.pg_certificate.specs.declared.record.Record.{Record}
 use Rattle.pg_certificate.specs.declared.record.Record.TheVariants.{Expand, Cut, Ref, Priced}
 use Rattle.pg_certificate.specs.Spelling.{header_spelling, IsRecordOf}
 use Rattle.pg_checker.specs.Check.{header_for}
-use Rattle.pg_checker.specs.Chess.{Cuts, chess, is_spelled, read, stands_for}
+use Rattle.pg_checker.specs.Chess.{Cuts, chess, chess_with, is_spelled, read, stands_for}
 use Rattle.pg_checker.specs.Claims.{IsCertificate}
+use Rattle.pg_checker.specs.Equality.{lists}
 use Rattle.pg_checker.specs.Futures.{effective, future_eq}
 use Rattle.pg_checker.specs.Tree.{Rules, spelling_all}
 use Rattle.pg_checker.proofs.Reading.{spelled_record}
 use Rattle.pg_texts.specs.Upgrade.{Certificate1, certificate_bytes, with_digit_2, upgrade_of}
 use Rattle.pg_upgrade_laws.specs.UpgradeLaws.{UpgradedIsCertified, CertifiedIsUpgraded}
-use Rattle.pg_upgrade_laws.proofs.Wider.{all_spelled_same, certificate_wider}
+use Rattle.pg_checker.proofs.Wider.{all_spelled_same, certificate_wider}
 use Rattle.pg_upgrade_laws.proofs.Nodes.{all_nodes, many_all_nodes, all_nodes_spelled, certificate_nodes}
 use Rattle.pg_upgrade_laws.proofs.ExactUpgrades.{certificate_counted}
 
@@ -38,7 +39,7 @@ spelled_on (Ref number) h = h
 spelled_on (Priced code color prices) h = absurd cc
 
 pub upgraded_certified : UpgradedIsCertified
-unfolding chess
+unfolding chess_with
 upgraded_certified d n games bounds prices max_records max_named old new k proved up is =
     let cuts : ℕ → Cuts = λ version. record { version = version; bounds = bounds; prices = prices } in
     let one : is.version ≡ 1 =
@@ -49,8 +50,8 @@ upgraded_certified d n games bounds prices max_records max_named old new k prove
       version = 2;
       known = inr refl;
       trees = is.trees;
-      fits = certificate_wider (chess d n games (cuts 1)) (stands_for 2) (is_spelled 2) (read 2) stands_on spelled_on array_state is.trees fits;
-      spelled = up.new_is ∙ ap with_digit_2 text ∙ ap (λ (l : List ℕ). header_spelling (header_for 2 d n) ++ l) (sym (all_spelled_same (chess d n games (cuts 1)) (stands_for 2) (is_spelled 2) (read 2) is.trees));
+      fits = certificate_wider (chess d n games (cuts 1)) (lists games) (stands_for 2) (is_spelled 2) (read 2) (λ g h. h) stands_on spelled_on array_state is.trees fits;
+      spelled = up.new_is ∙ ap with_digit_2 text ∙ ap (λ (l : List ℕ). header_spelling (header_for 2 d n) ++ l) (sym (all_spelled_same (chess d n games (cuts 1)) (lists games) (stands_for 2) (is_spelled 2) (read 2) is.trees));
       records_are = is.records_are;
       named_are = is.named_are;
       records_fit = is.records_fit;
@@ -65,7 +66,7 @@ plain_spelled : (named : Bool) → is_spelled 1 (Expand named) ≡ true
 plain_spelled named = refl
 
 pub certified_upgraded : CertifiedIsUpgraded
-unfolding chess
+unfolding chess_with
 certified_upgraded d n games bounds prices max_records max_named bytes proved is first =
     let r : Rules State Move = chess d n games (record { version = 1; bounds = bounds; prices = prices }) in
     let fits : IsCertificate r array_state is.trees = subst (λ (v : ℕ). IsCertificate (chess d n games (record { version = v; bounds = bounds; prices = prices })) array_state is.trees) first is.fits in

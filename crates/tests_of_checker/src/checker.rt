@@ -1,5 +1,6 @@
 //! Checks of small certificates: what the tests share.
 
+mod answers;
 mod bounds;
 mod examples;
 mod faults;
@@ -185,7 +186,7 @@ fn checked<R: Abort + AllocGlobal, S: Source>(rt: &R, asked: &str, source: &mut 
 }
 
 // What is answered with these bounds, through a reader of one byte a call and one of many.
-fn answer<R: Abort + AllocGlobal>(
+fn said_to<R: Abort + AllocGlobal>(
     rt: &R,
     asked: &str,
     bounds: &[Box<dyn Bound>],
@@ -199,7 +200,7 @@ fn answer<R: Abort + AllocGlobal>(
 
 // This is answered with the four bounds.
 fn check_bytes<R: Abort + AllocGlobal>(rt: &R, asked: &str, bytes: &[u8], wanted: &str) {
-    let said = answer(rt, asked, &four_bounds(rt), bytes);
+    let said = said_to(rt, asked, &four_bounds(rt), bytes);
     assert_eq!(rt; said.as_str(), wanted, "{asked}");
 }
 
@@ -223,7 +224,7 @@ fn check_judged<R: Abort + AllocGlobal>(
     wanted: &str,
 ) {
     let bytes = bytes_of(rt, asked);
-    let said = answer(rt, asked, bounds, bytes.as_slice());
+    let said = said_to(rt, asked, bounds, bytes.as_slice());
     assert_eq!(rt; said.as_str(), wanted, "{asked}");
 }
 

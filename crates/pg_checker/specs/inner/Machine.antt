@@ -4,6 +4,8 @@ use Rattle.pg_position.specs.declared.state.State.{State}
 use Rattle.pg_position.specs.declared.moves.Move.{Move}
 use Rattle.pg_position.specs.Position.{IsPosition}
 use Rattle.pg_position.specs.Step.{Legal}
+use Rattle.pg_position.specs.Array.{array_state}
+use Rattle.pg_position.specs.Game.{IsGame}
 use Rattle.pg_board.specs.Placement.{Placement}
 use Rattle.pg_moves.specs.Moves.{IsNext, IsLast}
 use Rattle.pg_certificate.specs.Reader.{ReaderState, to_come}
@@ -60,6 +62,16 @@ stack_at s = frames_of (reverse s.frames.items)
 -- how many of them are named
 abbrev pub named_at : Stack → ℕ
 named_at s = count_named (reverse s.frames.items)
+
+-- the moves that were played last, one at each of these nodes, are a game that leads to p
+pub record LeadTo (fs : List Frame) (p : State) : Type 0 where
+  pub game : IsGame array_state (path fs) p
+  pub long : length (path fs) ≡ length fs
+
+-- to each of the open nodes those below it lead
+unfoldable pub ArePlayed : List Frame → Type 0
+ArePlayed [] = Unit {0}
+ArePlayed (f ∷ fs) = LeadTo fs f.moves.position × ArePlayed fs
 
 -- ---- what is done at the topmost frame
 -- the topmost frame is made into another one, and those below it stay
@@ -159,10 +171,12 @@ pub record IsReading (version : ℕ) (reader : ReaderState) : Type 0 where
   pub reads : reader.version ≡ version
   pub held : length reader.held ≤ 4096
 
--- the reader of the machine reads, and a place is kept in the table for each open node that is named
+-- the reader of the machine reads, a place is kept in the table for each open node that is named, and the open nodes
+-- lead from one to the next
 pub record IsReady (version : ℕ) (m : Machine) : Type 0 where
   pub reader : IsReading version m.input.reader
   pub kept : m.names.table.kept ≡ named_at m.stack
+  pub played : ArePlayed (reverse m.stack.frames.items)
 
 -- ---- a piece of the walk done by code, from one point to another
 -- the code answered what the walk answers from the state of the first: a value, seen by got with the state of the second, or a stop

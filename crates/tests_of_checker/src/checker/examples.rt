@@ -62,7 +62,7 @@ fn a_shorter_game(rt: HostRuntime) {
 // What is answered to a list of games, by this certificate.
 fn answer_to<R: Abort + AllocGlobal>(rt: &R, games: &str, bytes: &[u8]) -> Said {
     let asked = words(&format_args!("pawn-on-d6 | 2.5 | {games} |  | 0"));
-    answer(rt, asked.as_str(), &four_bounds(rt), bytes)
+    said_to(rt, asked.as_str(), &four_bounds(rt), bytes)
 }
 
 // Black's pawns on a7 and d7 have moved, and White's pawn stands on d6.

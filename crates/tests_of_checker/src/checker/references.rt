@@ -76,7 +76,7 @@ fn names(said: &Said) -> &str {
 
 // The certificate has so many named nodes, or is refused so.
 fn check_named<R: Abort + AllocGlobal>(rt: &R, asked: &str, bytes: &[u8], wanted: &str) {
-    let said = answer(rt, asked, &four_bounds(rt), bytes);
+    let said = said_to(rt, asked, &four_bounds(rt), bytes);
     assert_eq!(rt; names(&said), wanted, "{asked}");
 }
 

@@ -1,13 +1,13 @@
--- A certificate that fits some rules fits wider ones, that take more records and let an entry stand for more positions. Leads to the law of upgrades.
+-- A certificate that fits some rules fits wider ones, that list more games, take more records and let an entry stand for more positions. Leads to the contract of `answer` and to the law of upgrades.
 use Rattle.std.proofs.Common.{◌≡◌, ℕ, zero, suc, Bool, true, false, ◌||◌, List, [], ◌∷◌, ◌++◌, Result, refl, sym, ap, subst, ◌∙◌}
 use Rattle.pg_certificate.specs.declared.record.Record.{Record}
 use Rattle.pg_certificate.specs.declared.record.Record.TheVariants.{Expand as Expanded, Cut as CutBy, Ref as RefTo, Priced as PricedBy}
 use Rattle.pg_checker.specs.Tree.{Tree, Trees, Leaf, Expand, Cut, Ref, Priced, Empty, First, Cause, Entry, Rules, fertile, any_fertile, entry, closed, closed_all, Fits, FitAll, spelling, spelling_all}
 use Rattle.pg_checker.specs.Claims.{FitFrom, count, IsCertificate}
 
-module _ {P M : Type 0} (r : Rules P M) (same : P → P → Bool) (recorded : Record → Bool) (reading : List ℕ → Result (Record × List ℕ) (Cause M)) where
+module _ {P M : Type 0} (r : Rules P M) (listed : List M → Bool) (same : P → P → Bool) (recorded : Record → Bool) (reading : List ℕ → Result (Record × List ℕ) (Cause M)) where
   abbrev pub wider : Rules P M
-  wider = record { moves = r.moves; play = r.play; is_goal = r.is_goal; plies = r.plies; is_listed = r.is_listed; is_same = same; cut = r.cut; priced = r.priced; write = r.write; is_record = recorded; read = reading }
+  wider = record { moves = r.moves; play = r.play; is_goal = r.is_goal; plies = r.plies; is_listed = listed; is_same = same; cut = r.cut; priced = r.priced; write = r.write; is_record = recorded; read = reading }
 
   mutual
     fertile_same : (p : P) (t : Tree) → fertile wider p t ≡ fertile r p t
@@ -54,10 +54,10 @@ module _ {P M : Type 0} (r : Rules P M) (same : P → P → Bool) (recorded : Re
     all_spelled_same Empty = refl
     all_spelled_same (First t ts) = λ i. spelled_same t i ++ all_spelled_same ts i
 
-  module _ (stands : (q p : P) → r.is_same q p ≡ true → same q p ≡ true) (records : (x : Record) → r.is_record x ≡ true → recorded x ≡ true) where
+  module _ (lists : (g : List M) → r.is_listed g ≡ true → listed g ≡ true) (stands : (q p : P) → r.is_same q p ≡ true → same q p ≡ true) (records : (x : Record) → r.is_record x ≡ true → recorded x ≡ true) where
     mutual
       fits_wider : (n k : ℕ) (g : List M) (p : P) (es : List (Entry P)) (t : Tree) → Fits r n k g p es t → Fits wider n k g p es t
-      fits_wider n zero g p es Leaf fit = fit
+      fits_wider n zero g p es Leaf fit = λ e. let f = fit e in (f.0, lists g f.1)
       fits_wider n zero g p es (Expand named ts) fit = absurd fit
       fits_wider n zero g p es (Cut code) fit = absurd fit
       fits_wider n zero g p es (Priced code color prices) fit = absurd fit

@@ -1,0 +1,112 @@
+//! The games that a certificate proves.
+ghost use Rattle.std.specs.Prelude.{◌≡◌, ◌+◌, ◌*◌, false, None, IfOk, IfErr, OnOk};
+ghost use Rattle.std.specs.Io.KnownBytes.{IsAtEnd};
+ghost use Rattle.pg_certificate.specs.Spelling.{header_length, longest_record};
+ghost use Rattle.pg_san.specs.Games.{IsGames};
+ghost use Rattle.pg_checker.specs.Answer.{IsExactAnswer};
+ghost use Rattle.pg_checker.specs.Answering.{AnswerAccepts, AnswerRefuses, AnswerTakes, AnswerTells};
+ghost use Rattle.pg_checker.specs.Cuts.{any_rules_by, rules_by};
+ghost use Rattle.pg_checker.specs.Terms.{terms};
+ghost use Rattle.pg_checker.specs.inner.Finds.{IsLossFault};
+
+use crate::certify::{Answer, Proved, read_header, rows_for, walk};
+use crate::fault::AnswerFault;
+use crate::finds::{Finds, Loss};
+use crate::halt::fault_of;
+use crate::machine::{Input, Machine, Names, Question, Stack};
+use crate::table::Table;
+use arrayvec::ArrayVec;
+use pg_captures::Bound;
+use pg_certificate::{RecordReader, Source};
+use pg_fen::{Diagram, Length};
+use pg_travel::Prices;
+use std::alloc::Global;
+
+// What was found, where each game was kept.
+fn answered(finds: Finds, proved: Proved) -> Result<Answer, AnswerFault>
+    ensures ok { IfOk result (λ a. (a ≡ record { games = finds.games; proved = proved }) × (finds.loss ≡ None)) }
+    ensures err { IfErr result (λ e. IsLossFault finds.loss e) }
+    ensures games { IsGames finds.games }
+{
+    // A fact for the proof: they are different games.
+    finds.games.len();
+    match finds.loss {
+        Some(Loss::TooMany) => Err(AnswerFault::TooManyGames),
+        Some(Loss::Memory) => Err(AnswerFault::Memory),
+        None => Ok(Answer {
+            games: finds.games,
+            proved,
+        }),
+    }
+}
+
+/// The games that a certificate proves: whatever bytes its source gave, where it answers games these
+/// are the legal games of exactly the stated length from the initial array whose last placement is the
+/// diagram, each once and nothing else, in canonical order, and no legal game of fewer plies ends on
+/// that diagram.
+///
+/// It walks as `check` does, without a list: where `check` asks whether the list has a game, it keeps
+/// the game. At most `37 + 390 * max_records + 4,096` bytes are taken from a source that has not failed.
+/// The list and the named nodes take their room from `alloc`. A refusal changes no argument but the
+/// source.
+///
+/// # Errors
+/// `Check` with the faults of `check`, in its order, but for `Listed` and `Unlisted`; then `TooManyGames`
+/// where more than 4,096 games solve the problem, or `Memory` where a growth of the list was refused.
+pub fn answer<'a, R: Source>(
+    alloc: Global,
+    diagram: &'a Diagram,
+    length: Length,
+    bounds: &'a [Box<dyn Bound>],
+    source: &mut R,
+    max_records: u64,
+    max_named: u32,
+) -> Result<Answer, AnswerFault>
+    ensures headline { IfOk result (λ a. IsExactAnswer diagram.now length a.games) }
+    ensures order { IfOk result (λ a. IsGames a.games) }
+    ensures accepted { AnswerAccepts
+        (terms (rules_by code_of excluded bounds.now) max_records max_named (R.left source.old))
+        diagram.now length result }
+    ensures refused { AnswerRefuses
+        (terms (any_rules_by code_of excluded bounds.now) max_records max_named (R.left source.old))
+        diagram.now length (R.has_failed source.new) result }
+    ensures pulls { AnswerTakes (header_length + longest_record * max_records + 4096)
+        (R.left source.old) (R.left source.new) result }
+    ensures end { OnOk result (IsAtEnd (R.left source.new)) }
+    ensures runs { OnOk result (R.has_failed source.new ≡ false) }
+    ensures tells { AnswerTells diagram.now length result }
+{
+    let plies = length.plies();
+    let mut machine = Machine {
+        input: Input {
+            reader: RecordReader::new(),
+            prices: Prices::new(&[], &[]).unwrap(),
+            records: max_records,
+        },
+        names: Names {
+            table: Table::new(alloc),
+            left: max_named,
+        },
+        stack: Stack {
+            frames: ArrayVec::new(),
+            fertile: false,
+        },
+        finds: Finds::new(alloc),
+    };
+    let version = match read_header(diagram, plies, &mut machine.input.reader, source) {
+        Ok(version) => version,
+        Err(fault) => return Err(AnswerFault::Check(fault)),
+    };
+    let question = Question {
+        diagram,
+        plies,
+        version,
+        games: None,
+        bounds,
+        rows: rows_for(version, diagram),
+    };
+    match walk(&question, &mut machine, source) {
+        Ok(proved) => answered(machine.finds, proved),
+        Err(halt) => Err(AnswerFault::Check(fault_of(halt, machine.stack.frames.as_slice()))),
+    }
+}
