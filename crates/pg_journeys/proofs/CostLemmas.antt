@@ -170,6 +170,12 @@ module _ (d : Placement) (x : Side) (way : Option Wing) (quiet : Bool) (most : �
     least = least;
   }
 
+-- what costs where none castles
+pub costs_known : (d : Placement) (x : Side) (way : Option Wing) (quiet : Bool) (most : ℕ) (k : Costs) → IsSide d x → most < 200 → k.size ≡ x.men.count → AreCostRows x quiet None most k.rows x.men.count → way ≡ None → AreCostsOf d x quiet way most k
+costs_known d x way quiet most k side low size rows none =
+    subst (λ (o : Option Wing). AreCostsOf d x quiet o most k) (sym none)
+    (subst (λ (n : ℕ). AreCosts (facts_of x) d x.position x.ground.color None (counts (facts_of x) x.ground.color quiet) (square_at x.men) (square_at x.goals) n x.goals.count (cost k) most) (sym size) (costs_are d x None quiet most k side low rows))
+
 -- ---- what is paid
 -- the costs up to a lesser number
 pub costs_to : (d : Placement) (x : Side) (quiet : Bool) (way : Option Wing) (most paid : ℕ) (k : Costs) → paid ≤ most → AreCostsOf d x quiet way most k → AreCostsOf d x quiet way paid k

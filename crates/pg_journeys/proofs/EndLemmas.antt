@@ -16,7 +16,7 @@ use Rattle.pg_journeys.specs.inner.Counts.{of_kind}
 use Rattle.pg_journeys.specs.inner.Levels.{BackWithin}
 use Rattle.pg_journeys.specs.inner.Rings.{AreRings, AreWithin}
 use Rattle.pg_journeys.specs.inner.Sides.{facts_of, square_at, kind_at, IsSide, IsEnd, EndWithin, AreAims, aim_at}
-use Rattle.pg_journeys.specs.inner.Costing.{IsCount}
+use Rattle.pg_journeys.specs.inner.Costing.{InRing, IsCount}
 use Rattle.pg_journeys.specs.declared.plans.Side.{Side}
 use Rattle.pg_journeys.specs.declared.rings.Rings.{Rings}
 use Rattle.pg_journeys.specs.declared.rings.Runner.{Runner}
@@ -141,3 +141,24 @@ none_next W n b is off none m l w = elim (cases_lt m n) [
   | inl less ↦ none m less w
   | inr more ↦ (let same : m ≡ n = omega arith in let on : b ≡ true = is.1 (subst W same w) in absurd (cc))
 ]
+
+-- ---- the least count by rings
+module _ (W : ℕ → Kind → ℕ → Type 0) (r : Rings) (m : Runner) (are : AreRings W r) (low : m.square < 64) where
+  abbrev Here : ℕ → Type 0
+  Here n = W n m.kind m.square
+
+  pub ring_out : (most : ℕ) (b : Bool) → (IsTrue b → (r.is_whole ≡ true) × (InRing r m (r.count - 1) → ⊥)) → b ≡ true → IsCount Here most 255
+  ring_out most b out on = inr (
+    refl,
+    λ w. (let some : 1 ≤ r.count = are.some in (out on).1 ((are.kept (r.count - 1) m.kind m.square (omega arith) low).1 (are.whole (out on).0 most m.kind m.square low w))),
+  )
+
+  pub ring_far : (most n : ℕ) → n ≤ r.count → most < n → ((a : ℕ) → a < n → InRing r m a → ⊥) → IsCount Here most 255
+  ring_far most n inside far before = inr (refl, λ w. before most far ((are.kept most m.kind m.square (omega arith) low).1 w))
+
+  pub ring_here : (most n v : ℕ) → v ≡ n → n < r.count → n ≤ most → (n < r.count → InRing r m n) → ((a : ℕ) → a < n → InRing r m a → ⊥) → IsCount Here most v
+  ring_here most n v same inside near here before = subst (λ (y : ℕ). IsCount Here most y) (sym same) (inl (
+    near,
+    (are.kept n m.kind m.square inside low).0 (here inside),
+    λ a l w. before a l ((are.kept a m.kind m.square (omega arith) low).1 w),
+  ))

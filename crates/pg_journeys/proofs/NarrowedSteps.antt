@@ -1,21 +1,27 @@
 -- Where a man comes back to by a step and on from there, and which squares two sets share. Leads to the contracts of `in_both`,
 -- `comes_by`, `takes_back` and `comes_back`.
 use Rattle.std.proofs.Common.{◌≡◌, ◌≢◌, ◌↔◌, ℕ, ◌+◌, ◌-◌, ◌<◌, ◌≤◌, ◌⊎◌, inl, inr, IsTrue, Bool, true, false, cond, ◌&&◌, ◌||◌, List, get_or, refl, sym, subst, ◌∙◌, arith}
-use Rattle.std.proofs.lemmas.Bool.{and_from, or_cases, or_left, or_right, cases_Bool, cases_eq}
+use Rattle.std.proofs.lemmas.Bool.{and_from, or_cases, or_left, or_right, cases_Bool, cases_eq, cases_lt}
 use Rattle.pg_board.specs.Bits.{has}
 use Rattle.pg_board.specs.declared.man.Kind.{Kind}
 use Rattle.pg_board.specs.declared.man.Kind.TheVariants.{Pawn, Knight, Bishop, Rook, Queen, King}
 use Rattle.pg_board.specs.Men.{number_of_kind}
 use Rattle.pg_board.specs.SquareSets.{IsSetOf, HasNoneFrom, Meet}
+use Rattle.pg_board.specs.declared.man.Color.{Color}
+use Rattle.pg_journeys.specs.Facts.{Facts}
 use Rattle.pg_journeys.specs.Journeys.{IsLeg}
 use Rattle.pg_journeys.specs.Known.{landing}
 use Rattle.pg_journeys.specs.lemmas.Turns.{leg}
 use Rattle.pg_journeys.specs.inner.Counts.{of_kind}
-use Rattle.pg_journeys.specs.inner.Rings.{AreWithin}
+use Rattle.pg_journeys.specs.inner.Rings.{AreRings, AreWithin, TakesWithin}
+use Rattle.pg_journeys.specs.inner.Reached.{TakesAfter, IsReach}
 use Rattle.pg_journeys.specs.inner.Sides.{facts_of, EndWithin}
-use Rattle.pg_journeys.specs.inner.Narrowed.{IsInBoth, ComesBy, TakesBack, ComesBack}
+use Rattle.pg_journeys.specs.inner.Narrowed.{IsInBoth, TakesAt, TakesTo, ComesBy, TakesBack, ComesBack}
 use Rattle.pg_journeys.specs.declared.plans.Side.{Side}
 use Rattle.pg_journeys.specs.declared.rings.Runner.{Runner}
+use Rattle.pg_journeys.specs.declared.rings.Rings.{Rings}
+use Rattle.pg_journeys.specs.declared.rings.Reach.{Reach}
+use Rattle.pg_journeys.proofs.RingLemmas.{takes_is}
 use Rattle.pg_journeys.proofs.CostLemmas.{end_more}
 use Rattle.pg_journeys.proofs.PathsInTwo.{and_both}
 use Rattle.pg_journeys.proofs.SiftedSets.{IsJoined}
@@ -85,6 +91,35 @@ all_added P old n m all none same h q l = (
     | inr w ↦ (w.0, (let low : w.0 < n = w.1 in omega arith), w.2)
   ],
   λ w. (h q l).1 (inr (w.0, (let low : w.0 < m = w.1 in omega arith), w.2)),
+)
+
+-- ---- up to the last number that tells something new
+module _ (f : Facts) (c : Color) (k : Kind) (s : ℕ) (r : Rings) where
+  takes_last : (quiet : Bool) → AreRings (TakesAfter f c quiet k s) r → r.is_whole ≡ true → (i : ℕ) (j : Kind) (q : ℕ) → q < 64 → r.count ≤ i → TakesWithin f c quiet k s i j q → TakesWithin f c quiet k s r.count j q
+  takes_last true are all i j q low past takes =
+      let some : 1 ≤ r.count = are.some in
+      let w : TakesWithin f c true k s (r.count - 1) j q = (takes_is f c true k s (r.count - 1) (r.count - 1) j q (omega arith)).0 (are.whole all i j q low ((takes_is f c true k s i i j q (omega arith)).1 takes)) in
+      let le : w.0 ≤ r.count - 1 = w.1 in
+      (w.0, omega arith, w.2)
+  takes_last false are all i j q low past takes =
+      let some : 1 ≤ r.count = are.some in
+      (takes_is f c false k s (r.count - 1) r.count j q (omega arith)).0 (are.whole all (i - 1) j q low ((takes_is f c false k s (i - 1) i j q (omega arith)).1 takes))
+
+-- who takes within a room takes within the last number of it that tells something new
+to_last : (x : Side) (m : Runner) (r : Reach) (e room last i q : ℕ) → IsReach (facts_of x) x.ground.color m r → (last ≡ room) ⊎ ((r.taken.is_whole ≡ true) × (last ≡ r.taken.count)) → q < 64 → i < room + 1 → TakesAt x m e room i q → (a : ℕ) × (a < last + 1) × TakesAt x m e room a q
+to_last x m r e room last i q reach (inl same) low inside takes = (i, omega arith, takes)
+to_last x m r e room last i q reach (inr (all, same)) low inside (j, takes, on) = elim (cases_lt i (last + 1)) [
+  | inl less ↦ (i, less, (j, takes, on))
+  | inr more ↦
+      (let within : TakesWithin (facts_of x) x.ground.color m.is_quiet m.kind m.square r.taken.count j q = takes_last (facts_of x) x.ground.color m.kind m.square r.taken m.is_quiet reach.taken all i j q low (omega arith) takes in
+      (last, omega arith, (j, subst (λ (n : ℕ). TakesWithin (facts_of x) x.ground.color m.is_quiet m.kind m.square n j q) (sym same) within, end_more x m.is_quiet e (room - i) (room - last) j q (omega arith) on)))
+]
+
+pub all_taken : (x : Side) (m : Runner) (r : Reach) (e room last all : ℕ) → IsReach (facts_of x) x.ground.color m r → last ≤ room → (last ≡ room) ⊎ ((r.taken.is_whole ≡ true) × (last ≡ r.taken.count)) →
+    IsSetOf all (λ q. (i : ℕ) × (i < last + 1) × TakesAt x m e room i q) → IsSetOf all (TakesTo x m e room)
+all_taken x m r e room last all reach le is set q l = (
+  λ t. (let w : (i : ℕ) × (i < last + 1) × TakesAt x m e room i q = (set q l).0 t in (w.0, (let low : w.0 < last + 1 = w.1 in omega arith), w.2)),
+  λ w. (set q l).1 (to_last x m r e room last w.0 q reach is l w.1 w.2),
 )
 
 -- ---- coming by a set

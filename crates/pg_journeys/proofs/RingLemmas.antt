@@ -12,7 +12,7 @@ use Rattle.pg_journeys.specs.inner.Fronts.{IsJoined}
 use Rattle.pg_journeys.specs.inner.Counting.{counts}
 use Rattle.pg_journeys.specs.inner.Levels.{BackWithin, AheadWithin}
 use Rattle.pg_journeys.specs.inner.Reached.{AreGrown, TakeStep, TakesAfter}
-use Rattle.pg_journeys.specs.inner.Rings.{AreRings, AreWithin, TakesWithin}
+use Rattle.pg_journeys.specs.inner.Rings.{AreRings, AreWithin, IsRing, TakesWithin}
 use Rattle.pg_journeys.specs.declared.rings.Rings.{Rings}
 use Rattle.pg_journeys.proofs.FrontLemmas.{not_both, moved, joined_old, joined_new, joined_from}
 use Rattle.pg_journeys.proofs.StepLemmas.{taking_counts}
@@ -61,12 +61,17 @@ rings_whole W n old new some few same count before all = record {
 }
 
 -- ---- what is read
-pub read_last : (W : ℕ → Kind → ℕ → Type 0) (r : Rings) (n i : ℕ) (ring : List ℕ) → AreRings W r → r.is_whole ≡ true → r.count ≤ n → i ≡ r.count - 1 → ring ≡ get_or r.sets i [] →
-    ((m m2 : ℕ) (k : Kind) (s : ℕ) → m ≤ m2 → W m k s → W m2 k s) → AreWithin W n ring
-read_last W r n i ring rings all le at e up k s low =
+pub ring_shows : (W : ℕ → Kind → ℕ → Type 0) (r : Rings) (n : ℕ) (ring : List ℕ) → ((m m2 : ℕ) (k : Kind) (s : ℕ) → m ≤ m2 → W m k s → W m2 k s) → AreRings W r → IsRing r n ring → AreWithin W n ring
+ring_shows W r n ring up rings is k s low =
     let some : 1 ≤ r.count = rings.some in
-    let one : (has (of_kind ring k) s ≡ true) ↔ W i k s = subst (λ (x : List ℕ). (has (of_kind x k) s ≡ true) ↔ W i k s) (sym e) (rings.kept i k s (omega arith) low) in
-    (λ h. up i n k s (omega arith) (one.0 h), λ h. one.1 (subst (λ (x : ℕ). W x k s) (sym at) (rings.whole all n k s low h)))
+    let one : (has (of_kind ring k) s ≡ true) ↔ W is.at k s = subst (λ (x : List ℕ). (has (of_kind x k) s ≡ true) ↔ W is.at k s) (sym is.same) (rings.kept is.at k s is.kept low) in
+    elim is.fits [
+      | inl e ↦ subst (λ (x : ℕ). (has (of_kind ring k) s ≡ true) ↔ W x k s) e one
+      | inr (e, le, whole) ↦ (
+        λ h. up is.at n k s (omega arith) (one.0 h),
+        λ h. one.1 (subst (λ (x : ℕ). W x k s) (sym e) (rings.whole whole n k s low h)),
+      )
+    ]
 
 pub back_more : (f : Facts) (c : Color) (quiet : Bool) (goals : List ℕ) (n m : ℕ) (k : Kind) (s : ℕ) → n ≤ m → BackWithin f c quiet goals n k s → BackWithin f c quiet goals m k s
 back_more f c quiet goals n m k s le (j, t, ls, low, on, path, small) = (j, t, ls, low, on, path, omega arith)

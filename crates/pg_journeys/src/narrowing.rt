@@ -40,6 +40,18 @@ fn in_both(one: &[SquareSet; 6], other: &[SquareSet; 6]) -> SquareSet
     all
 }
 
+// A room, or less if by more no step that may be a capture leads a man to other squares.
+fn last_taking(reach: &Reach, room: u8) -> u8
+    requires { reach.now.taken.count ≤ 12 }
+    ensures low { result ≤ room }
+    ensures last { (result ≡ room) ⊎ ((reach.now.taken.is_whole ≡ true) × (result ≡ reach.now.taken.count)) }
+{
+    if reach.taken.is_whole && reach.taken.count < usize::from(room) {
+        return reach.taken.count as u8;
+    }
+    room
+}
+
 // The squares where captures of a man land on his way to an end, within a room.
 fn lands_to(side: &Side, man: &Runner, reach: &Reach, aims: &Aims, e: usize, room: u8) -> SquareSet
     requires side { (d : Placement) × IsSide d side.now }
@@ -50,7 +62,8 @@ fn lands_to(side: &Side, man: &Runner, reach: &Reach, aims: &Aims, e: usize, roo
     ensures { IsSetOf result (TakesTo side.now man.now e room) }
 {
     let mut all = SquareSet::empty();
-    for i in 0..room + 1 {
+    let last = last_taking(reach, room);
+    for i in 0..last + 1 {
         let taken = takes_within(&side.ground, man, reach, i);
         let rest = aim_within(side, man.is_quiet, aims, e, room - i);
         all = all | in_both(&taken, &rest);

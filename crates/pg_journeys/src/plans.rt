@@ -1,5 +1,5 @@
 //! Plans of a colour: what the fates of its men count, and which ways its plies pay for.
-ghost use Rattle.std.specs.Prelude.{◌≡◌, ℕ, Bool, Some, None, false, ◌+◌, ◌<◌, ◌≤◌, ◌↔◌, IsTrue, IfSome, IfNone, true, get_or};
+ghost use Rattle.std.specs.Prelude.{◌≡◌, ℕ, Bool, Some, None, false, ◌+◌, ◌-◌, ◌<◌, ◌≤◌, ◌↔◌, IsTrue, IfSome, IfNone, true, get_or};
 ghost use Rattle.pg_board.specs.Bits.{has};
 ghost use Rattle.pg_board.specs.declared.man.Kind.{Kind as KindOfMan};
 ghost use Rattle.pg_board.specs.Men.{other};
@@ -11,7 +11,7 @@ ghost use Rattle.pg_journeys.specs.Journeys.{HasPassed, IsWayUnder};
 ghost use Rattle.pg_journeys.specs.Known.{known, landing};
 ghost use Rattle.pg_journeys.specs.inner.Levels.{BackWithin};
 ghost use Rattle.pg_journeys.specs.inner.Rings.{AreRings, AreWithin};
-ghost use Rattle.pg_journeys.specs.inner.Costing.{IsOnSpan, IsCountTo, IsFall, IsCostRow, AreCostRows, AreCostsOf, HasTotalTo, walker_of};
+ghost use Rattle.pg_journeys.specs.inner.Costing.{IsOnSpan, InRing, IsCountTo, IsFall, IsCostRow, AreCostRows, AreCostsOf, HasTotalTo, walker_of};
 ghost use Rattle.pg_journeys.specs.inner.Showing.{IsMeasured};
 ghost use Rattle.pg_journeys.specs.inner.Sides.{facts_of, IsSide, IsEnd, EndWithin, AreAims, JourneysOf, IsPaidBy};
 
@@ -119,8 +119,9 @@ fn comes_within(side: &Side, aims: &Aims, e: usize, man: &Runner, n: u8) -> bool
     within[usize::from(man.kind.number())].contains(man.square)
 }
 
-// What a path of a man to an end counts at least, if that is at most `most`; 255 for none.
-fn count_to(side: &Side, aims: &Aims, most: u8, e: usize, man: &Runner) -> u8
+// What a path of a man to an end counts at least, by asking for one count after the other.
+#[inline(never)]
+fn count_by_asking(side: &Side, aims: &Aims, most: u8, e: usize, man: &Runner) -> u8
     requires side { (d : Placement) × IsSide d side.now }
     requires end { IsEnd side.now e }
     requires low { most < 200 }
@@ -136,6 +137,61 @@ fn count_to(side: &Side, aims: &Aims, most: u8, e: usize, man: &Runner) -> u8
         }
     }
     most
+}
+
+// Whether a ring has a man.
+fn has_man(rings: &Rings, man: &Runner, n: usize) -> bool
+    requires { n < 12 }
+    ensures { IsTrue result ↔ InRing rings.now man.now n }
+{
+    rings.sets[n][usize::from(man.kind.number())].contains(man.square)
+}
+
+// Whether no ring has a man, kept or not.
+fn is_out(rings: &Rings, man: &Runner) -> bool
+    requires some { 1 ≤ rings.now.count }
+    requires few { rings.now.count ≤ 12 }
+    ensures { IsTrue result → (rings.now.is_whole ≡ true) × (InRing rings.now man.now (rings.now.count - 1) → ⊥) }
+{
+    rings.is_whole && !has_man(rings, man, rings.count - 1)
+}
+
+// The first ring that is kept and has a man; how many are kept where none has.
+fn first_ring(rings: &Rings, man: &Runner) -> usize
+    requires { rings.now.count ≤ 12 }
+    ensures low { result ≤ rings.now.count }
+    ensures here { result < rings.now.count → InRing rings.now man.now result }
+    ensures before { (n : ℕ) → n < result → InRing rings.now man.now n → ⊥ }
+{
+    for n in 0..rings.count {
+        if has_man(rings, man, n) {
+            return n;
+        }
+    }
+    rings.count
+}
+
+// What a path of a man to an end counts at least, if that is at most `most`; 255 for none.
+fn count_to(side: &Side, aims: &Aims, most: u8, e: usize, man: &Runner) -> u8
+    requires side { (d : Placement) × IsSide d side.now }
+    requires end { IsEnd side.now e }
+    requires low { most < 200 }
+    requires aims { AreAims side.now man.now.is_quiet aims.now }
+    ensures { IsCountTo side.now most e man.now result }
+{
+    man.square.index();
+    let rings = &aims[e];
+    if is_out(rings, man) {
+        return 255;
+    }
+    let first = first_ring(rings, man);
+    if first > usize::from(most) {
+        return 255;
+    }
+    if first >= rings.count {
+        return count_by_asking(side, aims, most, e, man);
+    }
+    first as u8
 }
 
 // Where a way counts the man on a square.
@@ -294,8 +350,8 @@ fn row_in(
     row(side, measured.aims, measured.most, &man)
 }
 
-// What the fates of all men count in a way.
-pub(crate) fn costs_in(
+// What the fates of all men count in a way, man by man.
+fn costs_by_rows(
     side: &Side,
     is_quiet: bool,
     measured: &Measured<'_>,
@@ -313,6 +369,24 @@ pub(crate) fn costs_in(
     Costs {
         size: side.men.count,
         rows,
+    }
+}
+
+// What the fates of all men count in a way.
+pub(crate) fn costs_in(
+    side: &Side,
+    is_quiet: bool,
+    measured: &Measured<'_>,
+    way: Option<Wing>,
+) -> Costs
+    requires side { (d : Placement) × IsSide d side.now }
+    requires measured { IsMeasured side.now is_quiet measured.now }
+    ensures size { result.size ≡ side.now.men.count }
+    ensures costs { (d : Placement) → IsSide d side.now → AreCostsOf d side.now is_quiet way measured.now.most result }
+{
+    match way {
+        None => measured.costs,
+        Some(_) => costs_by_rows(side, is_quiet, measured, way),
     }
 }
 

@@ -1,5 +1,5 @@
 //! Men whom paths reach, ring by ring: those whom no count reaches, those whom one reaches at most, and so on.
-ghost use Rattle.std.specs.Prelude.{◌≡◌, ℕ, ◌+◌, ◌<◌, ◌≤◌, List, [], true, false, get_or};
+ghost use Rattle.std.specs.Prelude.{◌≡◌, ℕ, ◌+◌, ◌<◌, ◌≤◌, List, [], true, false, get_or, IfSome};
 ghost use Rattle.pg_board.specs.Bits.{has};
 ghost use Rattle.pg_board.specs.declared.man.Kind.{Kind as KindOfMan};
 ghost use Rattle.pg_board.specs.declared.man.Kind.TheVariants.{Pawn};
@@ -9,7 +9,7 @@ ghost use Rattle.pg_journeys.specs.inner.Counts.{of_kind};
 ghost use Rattle.pg_journeys.specs.inner.Grounds.{IsGround};
 ghost use Rattle.pg_journeys.specs.inner.Fronts.{IsMeeting, NoneDue, HasAdvanced};
 ghost use Rattle.pg_journeys.specs.inner.Levels.{FromSome, BackWithin, AheadStep, AheadWithin};
-ghost use Rattle.pg_journeys.specs.inner.Rings.{AreRings, AreWithin, TakesWithin};
+ghost use Rattle.pg_journeys.specs.inner.Rings.{AreRings, AreWithin, IsRing, TakesWithin};
 ghost use Rattle.pg_journeys.specs.inner.Reached.{TakeStep, TakesOf, AreGrown, TakesAfter, IsReach};
 ghost use Rattle.pg_journeys.specs.inner.Searches.{AreDueMet, IsBackBefore, IsBackAmid};
 ghost use Rattle.pg_journeys.specs.inner.Searches.{IsAheadBefore, IsAheadAmid, AreTakenBefore, AreTakenAmid};
@@ -49,6 +49,23 @@ impl Rings {
     {
         self.count = 0;
         self.is_whole = false;
+    }
+
+    // The ring that shows who is within a count: the one kept for it, or the last where they are whole.
+    #[inline(always)]
+    pub(crate) fn ring(&self, n: u8) -> Option<&[SquareSet; 6]>
+        requires some { 1 ≤ self.now.count }
+        requires few { self.now.count ≤ 12 }
+        ensures { IfSome result (λ ring. IsRing self.now n ring.now) }
+    {
+        let at = usize::from(n);
+        if at < self.count {
+            return Some(&self.sets[at]);
+        }
+        if self.is_whole {
+            return Some(&self.sets[self.count - 1]);
+        }
+        None
     }
 
     // Keeps one ring more.
@@ -129,7 +146,8 @@ fn look_back(ground: &Ground, is_quiet: bool, front: &mut Front)
     }
 }
 
-// Writes the rings of paths to one of these men, as far as `most`, or twelve. What is asked past these is searched anew.
+// Writes the rings of paths to one of these men, as far as `most`, or twelve. What is asked past these is searched
+// anew.
 pub(crate) fn rings_to(
     ground: &Ground,
     is_quiet: bool,
@@ -155,7 +173,12 @@ pub(crate) fn rings_to(
 
 // The men within a count of one of these, searched anew.
 #[inline(never)]
-fn met_within(ground: &Ground, is_quiet: bool, goals: &[SquareSet; 6], n: u8) -> [SquareSet; 6]
+pub(crate) fn met_within(
+    ground: &Ground,
+    is_quiet: bool,
+    goals: &[SquareSet; 6],
+    n: u8,
+) -> [SquareSet; 6]
     requires sound { IsGround ground.now }
     requires low { n < 200 }
     ensures { AreWithin (BackWithin (known ground.now.facts) ground.now.color is_quiet goals.now) n result }
@@ -170,7 +193,8 @@ fn met_within(ground: &Ground, is_quiet: bool, goals: &[SquareSet; 6], n: u8) ->
     front.met
 }
 
-// The men within a count of one of these: of the ring where it is kept, of the last where they are whole, else searched.
+// The men within a count of one of these: of the ring where it is kept, of the last where they are whole, else
+// searched.
 #[inline(always)]
 pub(crate) fn back_within(
     ground: &Ground,
@@ -184,14 +208,10 @@ pub(crate) fn back_within(
     requires rings { AreRings (BackWithin (known ground.now.facts) ground.now.color is_quiet goals.now) rings.now }
     ensures { AreWithin (BackWithin (known ground.now.facts) ground.now.color is_quiet goals.now) n result }
 {
-    let at = usize::from(n);
-    if at < rings.count {
-        return rings.sets[at];
+    match rings.ring(n) {
+        Some(ring) => *ring,
+        None => met_within(ground, is_quiet, goals, n),
     }
-    if rings.is_whole {
-        return rings.sets[rings.count - 1];
-    }
-    met_within(ground, is_quiet, goals, n)
 }
 
 // Joins the captures of a pawn, as what he becomes by them.
@@ -276,7 +296,8 @@ pub(crate) fn reach_of(ground: &Ground, man: &Runner, most: u8, reach: &mut Reac
     }
 }
 
-// Who the man is within a count, and by `taken` where a step that may be a capture leads him from there, searched anew.
+// Who the man is within a count, and by `taken` where a step that may be a capture leads him from there, searched
+// anew.
 #[inline(never)]
 fn followed(ground: &Ground, man: &Runner, n: u8, taken: &mut [SquareSet; 6]) -> [SquareSet; 6]
     requires sound { IsGround ground.now }
@@ -332,14 +353,10 @@ pub(crate) fn stands_within(ground: &Ground, man: &Runner, reach: &Reach, n: u8)
     ensures { AreWithin (AheadWithin (known ground.now.facts) ground.now.color man.now.is_quiet man.now.kind
         man.now.square) n result }
 {
-    let at = usize::from(n);
-    if at < reach.stands.count {
-        return reach.stands.sets[at];
+    match reach.stands.ring(n) {
+        Some(ring) => *ring,
+        None => stood_within(ground, man, n),
     }
-    if reach.stands.is_whole {
-        return reach.stands.sets[reach.stands.count - 1];
-    }
-    stood_within(ground, man, n)
 }
 
 // Where a step that may be a capture leads the man from where he is within a count, in the same way.
@@ -351,14 +368,10 @@ fn taken_after(ground: &Ground, man: &Runner, reach: &Reach, n: u8) -> [SquareSe
     ensures { AreWithin (TakesAfter (known ground.now.facts) ground.now.color man.now.is_quiet man.now.kind
         man.now.square) n result }
 {
-    let at = usize::from(n);
-    if at < reach.taken.count {
-        return reach.taken.sets[at];
+    match reach.taken.ring(n) {
+        Some(ring) => *ring,
+        None => led_after(ground, man, n),
     }
-    if reach.taken.is_whole {
-        return reach.taken.sets[reach.taken.count - 1];
-    }
-    led_after(ground, man, n)
 }
 
 // Whom a path within a count makes of the man if its last step may be a capture.

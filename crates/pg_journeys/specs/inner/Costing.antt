@@ -14,10 +14,12 @@ use Rattle.pg_assignments.specs.Assignments.{cost, at2, IsAssignment, Below, sum
 use Rattle.pg_journeys.specs.Journeys.{HasPassed}
 use Rattle.pg_journeys.specs.PlanCosts.{AreCosts}
 use Rattle.pg_journeys.specs.Known.{landing}
+use Rattle.pg_journeys.specs.inner.Counts.{of_kind}
 use Rattle.pg_journeys.specs.inner.Counting.{counts}
 use Rattle.pg_journeys.specs.inner.Sides.{square_at, kind_at, facts_of, EndWithin}
 use Rattle.pg_journeys.specs.declared.plans.Side.{Side}
 use Rattle.pg_journeys.specs.declared.plans.Walker.{Walker}
+use Rattle.pg_journeys.specs.declared.rings.Rings.{Rings}
 use Rattle.pg_journeys.specs.declared.rings.Runner.{Runner}
 
 -- the squares of king and rook before they castle, and all between
@@ -28,6 +30,10 @@ IsOnSpan c w q = (q ≡ king_home c) ⊎ ((q ≡ rook_home c w) ⊎ IsBetween (k
 -- n is the least number, at most `most`, that has W; 255 where none has
 abbrev pub IsCount : (ℕ → Type 0) → ℕ → ℕ → Type 0
 IsCount W most n = ((n ≤ most) × W n × ((m : ℕ) → m < n → W m → ⊥)) ⊎ ((n ≡ 255) × (W most → ⊥))
+
+-- the ring n has the man
+abbrev pub InRing : Rings → Runner → ℕ → Type 0
+InRing r m n = has (of_kind (get_or r.sets n []) m.kind) m.square ≡ true
 
 -- n is what a path of the man to an end counts at least
 abbrev pub IsCountTo : Side → ℕ → ℕ → Runner → ℕ → Type 0

@@ -1,14 +1,5 @@
-use Rattle.std.proofs.Common.{◌+◌, refl, arith, ◌∙◌}
-use Rattle.std.proofs.Math.ListN.{length-set}
-use Rattle.pg_journeys.proofs.CostLemmas.{rows_next, costs_are}
+use Rattle.pg_journeys.proofs.CostLemmas.{costs_known}
 use Rattle.pg_journeys.proofs.plans.costs_in.Goals as goal
 
-pub loop-i-preserved : goal.loop-i-preserved
-loop-i-preserved c = record {
-  long = length-set c.loop-i.rows c.loop-i.i c.row_in.result ∙ c.loop-i.invariant.long;
-  is = rows_next c.args.side.now c.args.is_quiet c.args.way c.args.measured.now.most c.loop-i.rows c.row_in.result c.loop-i.i (c.loop-i.i + 1) refl (omega (arith, c.loop-i.invariant.long, c.loop-i-test.true, c.requires.side.1.men.few)) c.row_in.ensures c.loop-i.invariant.is;
-}
-
-pub returns-clause-costs : goal.returns-clause-costs
-returns-clause-costs c = λ d side. costs_are d c.args.side.now c.args.way c.args.is_quiet c.args.measured.now.most (record { size = c.args.side.now.men.count; rows = c.loop-i.rows }) side c.requires.measured.low
-    (λ i l. c.loop-i.invariant.is i (omega (arith, c.loop-i-test.false, l)))
+pub returns-in-None-clause-costs : goal.returns-in-None-clause-costs
+returns-in-None-clause-costs c = λ d side. costs_known d c.args.side.now c.args.way c.args.is_quiet c.args.measured.now.most c.args.measured.now.costs side c.requires.measured.low c.requires.measured.size c.requires.measured.rows c.in-None.is

@@ -1,16 +1,24 @@
-use Rattle.std.proofs.Common.{ℕ}
+use Rattle.std.proofs.Common.{refl, subst, arith}
+use Rattle.std.proofs.lemmas.List.{get_or_default}
+use Rattle.pg_journeys.specs.inner.Rings.{AreRings}
 use Rattle.pg_journeys.specs.inner.Sides.{EndWithin}
-use Rattle.pg_journeys.proofs.EndLemmas.{count_far, count_here, count_last, none_next}
+use Rattle.pg_journeys.proofs.EndLemmas.{end_low, ring_out, ring_far, ring_here}
 use Rattle.pg_journeys.proofs.plans.count_to.Goals as goal
 
-pub returns-then-not-comes_within : goal.returns-then-not-comes_within
-returns-then-not-comes_within c = count_far (λ (n : ℕ). EndWithin c.args.side.now c.args.man.now.is_quiet c.args.e n c.args.man.now.kind c.args.man.now.square) c.args.most c.comes_within.result c.comes_within.ensures c.if-not-comes_within.true
+pub returns-then-is_out : goal.returns-then-is_out
+returns-then-is_out c =
+    ring_out (EndWithin c.args.side.now c.args.man.now.is_quiet c.args.e) _ c.args.man.now
+    (subst (AreRings (EndWithin c.args.side.now c.args.man.now.is_quiet c.args.e)) (get_or_default c.args.aims.now c.args.e _ c.index-aims-e.result (omega (arith, c.well_formed, end_low c.requires.side.0 c.args.side.now c.args.e c.requires.side.1 c.requires.end)))
+    (c.requires.aims.ends c.args.e c.requires.end)) c.index.ensures.bound c.args.most c.is_out.result c.is_out.ensures c.if-is_out.true
 
-pub returns-then-comes_within : goal.returns-then-comes_within
-returns-then-comes_within c = count_here (λ (n : ℕ). EndWithin c.args.side.now c.args.man.now.is_quiet c.args.e n c.args.man.now.kind c.args.man.now.square) c.args.most c.loop-n.n c.comes_within-in-loop-n.result c.comes_within-in-loop-n.ensures c.if-comes_within.true c.loop-n-test.true c.loop-n.invariant
-
-pub loop-n-preserved : goal.loop-n-preserved
-loop-n-preserved c = none_next (λ (n : ℕ). EndWithin c.args.side.now c.args.man.now.is_quiet c.args.e n c.args.man.now.kind c.args.man.now.square) c.loop-n.n c.comes_within-in-loop-n.result c.comes_within-in-loop-n.ensures c.if-comes_within.false c.loop-n.invariant
+pub returns-then-first-from : goal.returns-then-first-from
+returns-then-first-from c =
+    ring_far (EndWithin c.args.side.now c.args.man.now.is_quiet c.args.e) _ c.args.man.now
+    (subst (AreRings (EndWithin c.args.side.now c.args.man.now.is_quiet c.args.e)) (get_or_default c.args.aims.now c.args.e _ c.index-aims-e.result (omega (arith, c.well_formed, end_low c.requires.side.0 c.args.side.now c.args.e c.requires.side.1 c.requires.end)))
+    (c.requires.aims.ends c.args.e c.requires.end)) c.index.ensures.bound c.args.most c.first_ring-first.result c.first_ring-first.ensures.low (omega (arith, c.from.ensures, c.if-first-from.true)) c.first_ring-first.ensures.before
 
 pub returns : goal.returns
-returns c = count_last (λ (n : ℕ). EndWithin c.args.side.now c.args.man.now.is_quiet c.args.e n c.args.man.now.kind c.args.man.now.square) c.args.most c.loop-n.n c.comes_within.result c.comes_within.ensures c.if-not-comes_within.false c.loop-n-test.false c.loop-n.invariant
+returns c =
+    ring_here (EndWithin c.args.side.now c.args.man.now.is_quiet c.args.e) _ c.args.man.now
+    (subst (AreRings (EndWithin c.args.side.now c.args.man.now.is_quiet c.args.e)) (get_or_default c.args.aims.now c.args.e _ c.index-aims-e.result (omega (arith, c.well_formed, end_low c.requires.side.0 c.args.side.now c.args.e c.requires.side.1 c.requires.end)))
+    (c.requires.aims.ends c.args.e c.requires.end)) c.index.ensures.bound c.args.most c.first_ring-first.result _ refl (omega (arith, c.if-first-rings.false)) (omega (arith, c.from.ensures, c.if-first-from.false)) c.first_ring-first.ensures.here c.first_ring-first.ensures.before

@@ -1,0 +1,6 @@
+use Rattle.std.proofs.Common.{ℕ, ◌<◌}
+use Rattle.pg_journeys.specs.inner.Costing.{InRing}
+use Rattle.pg_journeys.proofs.plans.first_ring.Given as goal
+
+abbrev pub invariant-loop-n : goal.invariant-loop-n
+invariant-loop-n l = (m : ℕ) → m < l.n → InRing l.rings l.man m → ⊥
