@@ -14,7 +14,7 @@ use Rattle.pg_journeys.specs.inner.Levels.{AheadStart, AheadStep, AheadWithin, F
 use Rattle.pg_journeys.specs.inner.Reached.{TakeStep, TakesOf, AreGrown, TakesAfter}
 use Rattle.pg_journeys.specs.inner.Searches.{AreDueMet, IsAheadBefore, IsAheadAmid, AreTakenBefore, AreTakenAmid}
 use Rattle.pg_journeys.specs.inner.Rings.{AreWithin}
-use Rattle.pg_journeys.specs.declared.distances.Front.{Front}
+use Rattle.pg_journeys.specs.declared.fronts.Front.{Front}
 use Rattle.pg_journeys.specs.declared.rings.Rings.{Rings}
 use Rattle.pg_journeys.proofs.FrontLemmas.{not_both, kind_or, moved}
 use Rattle.pg_journeys.proofs.SearchLemmas.{first_before, due_advanced, amid_turn, amid_first, amid_last, ring_is, idle_is, idle_within, met_or_due}

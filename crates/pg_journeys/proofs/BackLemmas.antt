@@ -1,24 +1,19 @@
--- A search backwards from goals: who steps to a man, and the counts of paths that it ends with.
-use Rattle.std.proofs.Common.{◌≡◌, ◌≢◌, ℕ, ◌+◌, ◌*◌, ◌<◌, ◌≤◌, ◌⊎◌, inl, inr, Bool, true, false, not, ◌&&◌, cond, List, [], ◌∷◌, refl, sym, ap, subst, arith, ◌∙◌}
+-- A search backwards from goals: who steps to a man.
+use Rattle.std.proofs.Common.{◌≡◌, ◌≢◌, ℕ, ◌+◌, ◌<◌, ◌⊎◌, inl, inr, Bool, true, false, not, ◌&&◌, cond, List, ◌∷◌, refl, sym, subst, arith, ◌∙◌}
 use Rattle.pg_board.specs.Bits.{has}
 use Rattle.pg_board.specs.declared.man.Color.{Color}
 use Rattle.pg_board.specs.declared.man.Kind.{Kind}
 use Rattle.pg_board.specs.declared.man.Kind.TheVariants.{Pawn}
-use Rattle.pg_board.specs.Men.{number_of_kind}
 use Rattle.pg_board.specs.SquareSets.{IsSetOf, HasNoneFrom}
 use Rattle.pg_captures.specs.FreeSteps.{Becomes}
 use Rattle.pg_journeys.specs.Facts.{Facts}
-use Rattle.pg_journeys.specs.Journeys.{Leg, IsLeg, IsPath}
-use Rattle.pg_journeys.specs.lemmas.DecidingPaths.{weigh}
+use Rattle.pg_journeys.specs.Journeys.{IsLeg}
 use Rattle.pg_journeys.specs.lemmas.Turns.{leg}
 use Rattle.pg_journeys.specs.inner.Grounds.{LedTo, Pushes, Captures}
-use Rattle.pg_journeys.specs.inner.Counts.{of_kind, count_at, AreNone}
-use Rattle.pg_journeys.specs.inner.Counting.{counts, AreCountsTo}
-use Rattle.pg_journeys.specs.inner.Fronts.{OnSet, IsMeeting, is_met, HasAdvanced, NoneDue}
-use Rattle.pg_journeys.specs.inner.Levels.{IsOpen, IsBackLevel, IsBackStage, IsWhole, BackStart, BackStep, BackWithin, FromSome}
-use Rattle.pg_journeys.specs.declared.distances.Front.{Front}
-use Rattle.pg_journeys.proofs.FrontLemmas.{on_or_off, not_both, and_first, and_second, and_both, not_true, not_false, kind_or, moved, low_kind, meeting_none, meeting_as, meeting_then}
-use Rattle.pg_journeys.proofs.LevelLemmas.{stage_first, stage_open, stage_level, level_end, whole_idle, whole_end}
+use Rattle.pg_journeys.specs.inner.Fronts.{OnSet, IsMeeting}
+use Rattle.pg_journeys.specs.inner.Levels.{BackStep, BackWithin, FromSome}
+use Rattle.pg_journeys.specs.declared.fronts.Front.{Front}
+use Rattle.pg_journeys.proofs.FrontLemmas.{on_or_off, not_both, and_first, and_second, and_both, not_true, not_false, kind_or, meeting_none, meeting_as, meeting_then}
 use Rattle.pg_journeys.proofs.StepLemmas.{leg_turn, stays_kind, leg_into, light_step, piece_counts, push_takes_not, capture_takes, quiet_counts, taking_flips, files_or, lands_count, other_count}
 
 module _ (f : Facts) (c : Color) (quiet : Bool) where
@@ -110,41 +105,3 @@ module _ (f : Facts) (c : Color) (quiet : Bool) where
 
   pub back_go : (goals : List ℕ) (n : ℕ) (k : Kind) (s : ℕ) (j : Kind) (t w : ℕ) → BackWithin f c quiet goals n k s → BackStep f c quiet k s j t w → BackWithin f c quiet goals (n + w) j t
   back_go goals n k s j t w (i, x, ls, low, on, path, small) (is, count) = (i, x, leg j t k s ∷ ls, low, on, (refl, refl, is, path), omega arith)
-
-  -- ---- the counts that the search ends with
-  module _ (goals : List ℕ) (most : ℕ) (xs : List ℕ) (low : most < 200) (whole : IsWhole (BackStart goals) (BackStep f c quiet) (BackWithin f c quiet goals) most xs) where
-    back_least : (ls : List Leg) (k : Kind) (s : ℕ) (j : Kind) (t : ℕ) → s < 64 → t < 64 → has (of_kind goals j) t ≡ true → IsPath f c k s ls j t →
-        weigh (counts f c quiet) ls ≤ most → count_at xs k s ≤ weigh (counts f c quiet) ls
-    back_least [] k s j t ls lt on (e, d) small = moved (λ x y. count_at xs x y ≤ 0) k j s t e d (whole.started j t lt on)
-    back_least (l ∷ ls) k s j t low_s lt on (e, d, is, rest) small =
-        let after : count_at xs l.into l.to ≤ weigh (counts f c quiet) ls = back_least ls l.into l.to j t is.free.1 lt on rest (omega arith) in
-        let here : count_at xs l.kind l.from ≤ count_at xs l.into l.to + counts f c quiet l = whole.stepped l.into l.to l.kind l.from (counts f c quiet l) is.free.1 is.free.0 (omega arith) (is, refl) (omega arith) in
-        moved (λ x y. count_at xs x y ≤ counts f c quiet l + weigh (counts f c quiet) ls) k l.kind s l.from (sym e) (sym d) (omega arith)
-
-    pub back_counts : AreCountsTo f c quiet goals most xs
-    back_counts = record {
-      small = whole.low;
-      met = λ k s l h. whole.known k s l h;
-      least = λ k s j t ls l m on path small. back_least ls k s j t l m on path small;
-    }
-
-  -- ---- the search's beginning and ends
-  pub back_first : (goals xs : List ℕ) (front : Front) → AreNone xs → front.next ≡ goals → ((j : Kind) (t : ℕ) → is_met front j t ≡ false) → IsBackStage f c quiet goals 0 xs front
-  back_first goals xs front empty same none = stage_first (BackStart goals) (BackStep f c quiet) (BackWithin f c quiet goals) xs front (λ j t l. empty (number_of_kind j * 64 + t) (omega (arith, low_kind j))) none
-      (λ j t l h. ap (λ (x : List ℕ). has (of_kind x j) t) same ∙ h)
-      (λ j t l h. (j, t, [], l, ap (λ (x : List ℕ). has (of_kind x j) t) (sym same) ∙ h, (refl, refl), omega arith))
-
-  pub back_idle : (goals : List ℕ) (most n : ℕ) (xs : List ℕ) (a b : Front) → most < 200 → n ≤ most → IsBackStage f c quiet goals n xs a → HasAdvanced a b → NoneDue b → AreCountsTo f c quiet goals most xs
-  back_idle goals most n xs a b low le stage next none = back_counts goals most xs low (whole_idle (BackStart goals) (BackStep f c quiet) (BackWithin f c quiet goals) n xs a b stage next most le none)
-
-  pub back_end : (goals : List ℕ) (most n : ℕ) (xs : List ℕ) (a : Front) → most < 200 → n ≡ most + 1 → IsBackStage f c quiet goals n xs a → AreCountsTo f c quiet goals most xs
-  back_end goals most n xs a low e stage = back_counts goals most xs low (whole_end (BackStart goals) (BackStep f c quiet) (BackWithin f c quiet goals) most n xs a e stage)
-
-  pub back_begins : (goals : List ℕ) (n : ℕ) (xs : List ℕ) (a b : Front) → IsBackStage f c quiet goals n xs a → HasAdvanced a b → IsOpen xs b
-  back_begins goals n xs a b stage next = stage_open (BackStart goals) (BackStep f c quiet) (BackWithin f c quiet goals) n xs a b stage next
-
-  pub back_level : (goals : List ℕ) (n : ℕ) (xs : List ℕ) (a b : Front) → IsBackStage f c quiet goals n xs a → HasAdvanced a b → IsBackLevel f c quiet goals n xs b
-  back_level goals n xs a b stage next = stage_level (BackStart goals) (BackStep f c quiet) (BackWithin f c quiet goals) n xs a b stage next
-
-  pub back_ended : (goals : List ℕ) (n : ℕ) (xs : List ℕ) (a b : Front) → b ≡ a → IsOpen xs a → NoneDue a → IsBackLevel f c quiet goals n xs a → IsBackStage f c quiet goals (n + 1) xs b
-  back_ended goals n xs a b e ready none level = subst (λ (x : Front). IsBackStage f c quiet goals (n + 1) xs x) (sym e) (level_end (BackStart goals) (BackStep f c quiet) (BackWithin f c quiet goals) n xs a ready none level)

@@ -12,7 +12,7 @@ use Rattle.pg_journeys.specs.inner.Fronts.{is_met, IsMeeting, AreTakenDue, HasAd
 use Rattle.pg_journeys.specs.inner.Levels.{BackStart, BackStep, BackWithin, FromSome}
 use Rattle.pg_journeys.specs.inner.Searches.{AreDueMet, IsBackBefore, IsBackAmid}
 use Rattle.pg_journeys.specs.inner.Rings.{AreWithin}
-use Rattle.pg_journeys.specs.declared.distances.Front.{Front}
+use Rattle.pg_journeys.specs.declared.fronts.Front.{Front}
 use Rattle.pg_journeys.specs.declared.rings.Rings.{Rings}
 use Rattle.pg_journeys.proofs.FrontLemmas.{moved}
 use Rattle.pg_journeys.proofs.SearchLemmas.{first_before, due_advanced, amid_turn, amid_first, amid_last, ring_is, idle_is, idle_within}

@@ -1,18 +1,16 @@
--- Fronts and numbers by kind: what is written, joined and met. Leads to the contracts of a search's steps.
-use Rattle.std.proofs.Common.{◌≡◌, ◌≢◌, ℕ, ◌+◌, ◌*◌, ◌<◌, ◌≤◌, ◌⊎◌, inl, inr, leb, le-leb, Bool, true, false, not, ◌&&◌, ◌||◌, cond, eqb, List, length, replicate, set, get_or, refl, sym, ap, subst, arith, ◌∙◌}
-use Rattle.std.proofs.lemmas.Bool.Decides.{eqb_tells, leb_tells}
-use Rattle.std.proofs.lemmas.List.{get_or-set_same, get_or-set_other, get_or_default, get_or-replicate}
+-- Fronts: what is joined, met and taken. Leads to the contracts of a search's steps.
+use Rattle.std.proofs.Common.{◌≡◌, ◌≢◌, ℕ, ◌+◌, ◌<◌, ◌≤◌, ◌⊎◌, inl, inr, Bool, true, false, not, ◌&&◌, ◌||◌, cond, List, length, set, get_or, refl, sym, ap, subst, arith, ◌∙◌}
+use Rattle.std.proofs.lemmas.Bool.Decides.{eqb_tells}
+use Rattle.std.proofs.lemmas.List.{get_or-set_same, get_or-set_other, get_or_default}
 use Rattle.pg_board.specs.Bits.{has}
-use Rattle.pg_board.specs.Tally.{one, total}
-use Rattle.pg_board.specs.lemmas.Sums.{total_changed}
 use Rattle.pg_board.specs.lemmas.Codes.{kind_of_number, kind_back}
 use Rattle.pg_board.specs.declared.man.Kind.{Kind}
 use Rattle.pg_board.specs.declared.man.Kind.TheVariants.{Pawn, Knight, Bishop, Rook, Queen, King}
 use Rattle.pg_board.specs.Men.{number_of_kind, kind_eq}
 use Rattle.pg_board.specs.SquareSets.{IsFirstFrom, HasNoneFrom}
-use Rattle.pg_journeys.specs.inner.Counts.{of_kind, count_at}
-use Rattle.pg_journeys.specs.inner.Fronts.{unlooked, IsNoted, AreNoted, IsJoined, is_met, is_due, is_next, OnSet, IsMeeting, AreTakenDue, NoneDue, IsAdvanced, HasAdvanced, IsUnchanged}
-use Rattle.pg_journeys.specs.declared.distances.Front.{Front}
+use Rattle.pg_journeys.specs.inner.Counts.{of_kind}
+use Rattle.pg_journeys.specs.inner.Fronts.{IsJoined, is_met, is_due, is_next, OnSet, IsMeeting, AreTakenDue, NoneDue, IsAdvanced, HasAdvanced, IsUnchanged}
+use Rattle.pg_journeys.specs.declared.fronts.Front.{Front}
 
 -- ---- tests
 pub on_or_off : (b : Bool) → (b ≡ true) ⊎ (b ≡ false)
@@ -52,9 +50,6 @@ not_true false e = refl
 pub not_false : (a : Bool) → a ≡ false → not a ≡ true
 not_false a e = ap not e
 
-pub below_or : (n : ℕ) → (n < 255) ⊎ (255 ≤ n)
-below_or n = elim (leb_tells 255 n) [ inl w ↦ inr w.1 | inr w ↦ inl (omega (arith, w.1)) ]
-
 -- ---- kinds
 pub same_kind : (j k : Kind) → number_of_kind j ≡ number_of_kind k → j ≡ k
 same_kind j k e = sym (kind_back j) ∙ ap kind_of_number e ∙ kind_back k
@@ -79,92 +74,6 @@ low_kind King = omega arith
 -- what holds of a man holds of one who is the same
 pub moved : (P : Kind → ℕ → Type 0) (j k : Kind) (t s : ℕ) → j ≡ k → t ≡ s → P k s → P j t
 moved P j k t s e f p = subst (λ (x : Kind). P x t) (sym e) (subst (λ (x : ℕ). P k x) (sym f) p)
-
--- ---- a number written
-apart_places : (j k t s : ℕ) → t < 64 → s < 64 → j * 64 + t ≡ k * 64 + s → (j ≡ k) × (t ≡ s)
-apart_places j k t s lt ls e = (omega arith, omega arith)
-
-fewer_open : (xs : List ℕ) (i v : ℕ) → i < 384 → i < length xs → 255 ≤ get_or xs i 0 → v < 255 → unlooked (set xs i v) < unlooked xs
-fewer_open xs i v low inside ready small =
-    let g : ℕ → ℕ = λ k. one (leb 255 (get_or xs k 0)) in
-    let h : ℕ → ℕ = λ k. one (leb 255 (get_or (set xs i v) k 0)) in
-    let a : total h 384 + g i ≡ total g 384 + h i = total_changed (λ k. one (leb 255 (get_or xs k 0))) (λ k. one (leb 255 (get_or (set xs i v) k 0))) 384 i low (λ t l ne. ap (λ (x : ℕ). one (leb 255 x)) (get_or-set_other xs i t v 0 ne)) in
-    let b : one (leb 255 (get_or xs i 0)) ≡ 1 = ap one (le-leb 255 (get_or xs i 0) ready) in
-    let d : one (leb 255 (get_or (set xs i v) i 0)) ≡ 0 = ap (λ (x : ℕ). one (leb 255 x)) (get_or-set_same xs i v 0 inside) ∙ small_off v small in
-    omega arith
-  where
-    small_off : (v : ℕ) → v < 255 → one (leb 255 v) ≡ 0
-    small_off v l = elim (leb_tells 255 v) [ inl w ↦ absurd (omega (arith, w.1)) | inr w ↦ ap one w.0 ]
-
-pub noted : (k : Kind) (s n : ℕ) (xs ys : List ℕ) (i : ℕ) → s < 64 → length xs ≡ 384 → i ≡ number_of_kind k * 64 + s → ys ≡ set xs i n → IsNoted k s n xs ys
-noted k s n xs ys i low long at is =
-    let small : number_of_kind k * 64 + s < 384 = omega (arith, low_kind k) in
-    let inside : number_of_kind k * 64 + s < length xs = omega arith in
-    let whole : ys ≡ set xs (number_of_kind k * 64 + s) n = is ∙ ap (λ (x : ℕ). set xs x n) at in
-    subst (λ (zs : List ℕ). IsNoted k s n xs zs) (sym whole) (record {
-      here = get_or-set_same xs (number_of_kind k * 64 + s) n 0 inside;
-      each = λ j t l. elim (eqb_tells (number_of_kind j * 64 + t) (number_of_kind k * 64 + s)) [
-        | inl w ↦
-            (let parts = apart_places (number_of_kind j) (number_of_kind k) t s l low w.1 in
-            inl (same_kind j k parts.0, parts.1, ap (λ (x : ℕ). get_or (set xs (number_of_kind k * 64 + s) n) x 0) w.1 ∙ get_or-set_same xs (number_of_kind k * 64 + s) n 0 inside))
-        | inr w ↦ inr (get_or-set_other xs (number_of_kind k * 64 + s) (number_of_kind j * 64 + t) n 0 w.1)
-      ];
-      fewer = λ ready l. fewer_open xs (number_of_kind k * 64 + s) n small inside ready l;
-    })
-
--- ---- no number
-pub none_at : (j : Kind) (t : ℕ) → t < 64 → count_at (replicate 384 255) j t ≡ 255
-none_at j t l = get_or-replicate 384 (number_of_kind j * 64 + t) 255 0 (omega (arith, low_kind j))
-
--- ---- numbers written for a set
-pub record AreBeingNoted (k : Kind) (all left n : ℕ) (old new : List ℕ) : Type 0 where
-  pub within : (t : ℕ) → t < 64 → has left t ≡ true → has all t ≡ true
-  pub on : (t : ℕ) → t < 64 → has all t ≡ true → (has left t ≡ true) ⊎ (count_at new k t ≡ n)
-  pub each : (j : Kind) (t : ℕ) → t < 64 → ((j ≡ k) × (has all t ≡ true)) ⊎ (count_at new j t ≡ count_at old j t)
-  pub kept : (t : ℕ) → t < 64 → has left t ≡ true → count_at new k t ≡ count_at old k t
-  pub fewer : ((t : ℕ) → t < 64 → has all t ≡ true → 255 ≤ count_at old k t) → n < 255 →
-      (unlooked new ≤ unlooked old) × ((t : ℕ) → t < 64 → has all t ≡ true → (has left t ≡ true) ⊎ (unlooked new < unlooked old))
-
-pub noting_first : (k : Kind) (all n : ℕ) (xs : List ℕ) → AreBeingNoted k all all n xs xs
-noting_first k all n xs = record { within = λ t l h. h; on = λ t l h. inl h; each = λ j t l. inr refl; kept = λ t l h. refl; fewer = λ ready small. (omega arith, λ t l h. inl h) }
-
-pub noting_next : (k : Kind) (all left rest s n : ℕ) (xs ys zs : List ℕ) → AreBeingNoted k all left n xs ys → IsFirstFrom left 0 s →
-    ((q : ℕ) → q < 64 → has rest q ≡ cond (eqb q s) false (has left q)) → IsNoted k s n ys zs → AreBeingNoted k all rest n xs zs
-noting_next k all left rest s n xs ys zs going first out wrote =
-    let kept : (t : ℕ) → t < 64 → t ≢ s → has rest t ≡ has left t = λ t l ne. elim (eqb_tells t s) [ inl w ↦ absurd (ne w.1) | inr w ↦ out t l ∙ ap (λ (x : Bool). cond x false (has left t)) w.0 ] in
-    let gone : (t : ℕ) → t < 64 → t ≡ s → has rest t ≡ false = λ t l e. elim (eqb_tells t s) [ inl w ↦ out t l ∙ ap (λ (x : Bool). cond x false (has left t)) w.0 | inr w ↦ absurd (w.1 e) ] in
-    record {
-      within = λ t l h. elim (eqb_tells t s) [ inl w ↦ absurd (not_both (has rest t) h (gone t l w.1)) | inr w ↦ going.within t l (sym (kept t l w.1) ∙ h) ];
-      on = λ t l h. elim (eqb_tells t s) [
-        | inl w ↦ inr (subst (λ (x : ℕ). count_at zs k x ≡ n) (sym w.1) wrote.here)
-        | inr w ↦ elim (going.on t l h) [
-          | inl u ↦ inl (kept t l w.1 ∙ u)
-          | inr u ↦ elim (wrote.each k t l) [ inl (_, e, _) ↦ absurd (w.1 e) | inr e ↦ inr (e ∙ u) ]
-        ]
-      ];
-      each = λ j t l. elim (wrote.each j t l) [
-        | inl (e, f, _) ↦ inl (e, subst (λ (x : ℕ). has all x ≡ true) (sym f) (going.within s first.on_board first.member))
-        | inr e ↦ elim (going.each j t l) [ inl u ↦ inl u | inr u ↦ inr (e ∙ u) ]
-      ];
-      kept = λ t l h. elim (eqb_tells t s) [
-        | inl w ↦ absurd (not_both (has rest t) h (gone t l w.1))
-        | inr w ↦ elim (wrote.each k t l) [ inl (_, e, _) ↦ absurd (w.1 e) | inr e ↦ e ∙ going.kept t l (sym (kept t l w.1) ∙ h) ]
-      ];
-      fewer = λ ready small.
-          (let before = going.fewer ready small in
-          let was : count_at ys k s ≡ count_at xs k s = going.kept s first.on_board first.member in
-          let empty : 255 ≤ count_at xs k s = ready s first.on_board (going.within s first.on_board first.member) in
-          let less : unlooked zs < unlooked ys = wrote.fewer (omega arith) small in
-          let most : unlooked ys ≤ unlooked xs = before.0 in
-          (omega arith, λ t l h. inr (omega arith)));
-    }
-
-pub noting_all : (k : Kind) (all left n : ℕ) (xs ys : List ℕ) → AreBeingNoted k all left n xs ys → HasNoneFrom left 0 → AreNoted k all n xs ys
-noting_all k all left n xs ys going none = record {
-  on = λ t l h. elim (going.on t l h) [ inl u ↦ absurd (not_both (has left t) u (none t (omega arith) l)) | inr u ↦ u ];
-  each = going.each;
-  fewer = λ s l h ready small. elim ((going.fewer ready small).1 s l h) [ inl u ↦ absurd (not_both (has left s) u (none s (omega arith) l)) | inr u ↦ u ];
-}
 
 -- ---- meetings
 pub meeting_none : (S : Kind → ℕ → ℕ → Type 0) (a : Front) → ((j : Kind) (t w : ℕ) → t < 64 → S j t w → ⊥) → IsMeeting S a a

@@ -24,11 +24,9 @@ mod LeastNeeds
 mod FirstDead
 mod WhoIsReached
 mod FrontLemmas
-mod LevelLemmas
 mod StepLemmas
 mod BackLemmas
 mod PawnParts
-mod TakingLemmas
 mod AheadLemmas
 mod RestingLemmas
 mod RestingPlans

@@ -9,12 +9,9 @@ use Rattle.pg_board.specs.SquareSets.{IsSetOf}
 use Rattle.pg_position.specs.Squares.{last_rank}
 use Rattle.pg_captures.specs.FreeSteps.{Becomes}
 use Rattle.pg_journeys.specs.inner.Fronts.{OnSet, PawnsOn, IsMeeting, IsJoined}
-use Rattle.pg_journeys.specs.inner.Reaches.{IsTaking}
 use Rattle.pg_journeys.specs.inner.Reached.{AreGrown}
-use Rattle.pg_journeys.specs.declared.distances.Front.{Front}
-use Rattle.pg_journeys.specs.declared.distances.Reach.{Reach}
+use Rattle.pg_journeys.specs.declared.fronts.Front.{Front}
 use Rattle.pg_journeys.proofs.FrontLemmas.{on_or_off, not_both, and_first, and_second, and_both, not_true, not_false, meeting_as, meeting_then}
-use Rattle.pg_journeys.proofs.TakingLemmas.{taking_as, taking_then}
 use Rattle.pg_journeys.proofs.RingLemmas.{grown_as, grown_then, grown_set}
 
 -- a set in two parts: off the last rank, and on it
@@ -104,37 +101,6 @@ module _ (c : Color) (x last rest promoted r : ℕ) (is : r ≡ last_rank c) (ro
 
   abbrev On : Kind → ℕ → Kind → ℕ → Type 0
   On k y j t = (j ≡ k) × (has y t ≡ true)
-
-  pub pawns_take : (n : ℕ) (f0 f1 f2 f3 f4 f5 : Reach) → IsTaking (On Pawn rest) n f0 f1 → IsTaking (On Knight promoted) n f1 f2 → IsTaking (On Bishop promoted) n f2 f3 →
-      IsTaking (On Rook promoted) n f3 f4 → IsTaking (On Queen promoted) n f4 f5 → IsTaking (λ j t. (has x t ≡ true) × Becomes c Pawn t j) n f0 f5
-  pawns_take n f0 f1 f2 f3 f4 f5 m1 m2 m3 m4 m5 =
-      taking_as (λ j t. On Pawn rest j t ⊎ (On Knight promoted j t ⊎ (On Bishop promoted j t ⊎ (On Rook promoted j t ⊎ On Queen promoted j t)))) (λ j t. (has x t ≡ true) × Becomes c Pawn t j) n f0 f5
-      (λ j t l h. elim h [
-        | inl (e, u) ↦ pawn_on j t l e u
-        | inr h2 ↦ elim h2 [
-          | inl (e, u) ↦ piece_on j Knight t l e differ_nk.0 differ_nk.1 u
-          | inr h3 ↦ elim h3 [
-            | inl (e, u) ↦ piece_on j Bishop t l e differ_b.0 differ_b.1 u
-            | inr h4 ↦ elim h4 [
-              | inl (e, u) ↦ piece_on j Rook t l e differ_r.0 differ_r.1 u
-              | inr (e, u) ↦ piece_on j Queen t l e differ_q.0 differ_q.1 u
-            ]
-          ]
-        ]
-      ])
-      (λ j t l (h, becomes). elim (parts_of j t l h becomes) [
-        | inl (e, u) ↦ inl (e, u)
-        | inr (u, k) ↦ elim k [
-          | inl e ↦ inr (inl (e, u))
-          | inr k2 ↦ elim k2 [
-            | inl e ↦ inr (inr (inl (e, u)))
-            | inr k3 ↦ elim k3 [ inl e ↦ inr (inr (inr (inl (e, u)))) | inr e ↦ inr (inr (inr (inr (e, u)))) ]
-          ]
-        ]
-      ])
-      (taking_then (On Pawn rest) (λ j t. On Knight promoted j t ⊎ (On Bishop promoted j t ⊎ (On Rook promoted j t ⊎ On Queen promoted j t))) n f0 f1 f5 m1
-      (taking_then (On Knight promoted) (λ j t. On Bishop promoted j t ⊎ (On Rook promoted j t ⊎ On Queen promoted j t)) n f1 f2 f5 m2
-      (taking_then (On Bishop promoted) (λ j t. On Rook promoted j t ⊎ On Queen promoted j t) n f2 f3 f5 m3 (taking_then (On Rook promoted) (On Queen promoted) n f3 f4 f5 m4 m5))))
 
   pub pawns_grow : (x0 x1 x2 x3 x4 x5 : List ℕ) → IsJoined Pawn rest x0 x1 → IsJoined Knight promoted x1 x2 → IsJoined Bishop promoted x2 x3 →
       IsJoined Rook promoted x3 x4 → IsJoined Queen promoted x4 x5 → AreGrown (λ j t. (has x t ≡ true) × Becomes c Pawn t j) x0 x5

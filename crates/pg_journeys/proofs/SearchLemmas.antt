@@ -10,7 +10,7 @@ use Rattle.pg_journeys.specs.inner.Counts.{of_kind}
 use Rattle.pg_journeys.specs.inner.Fronts.{is_met, is_due, is_next, IsMeeting, AreTakenDue, NoneDue, HasAdvanced}
 use Rattle.pg_journeys.specs.inner.Levels.{Men, Steps, Within, FromSome}
 use Rattle.pg_journeys.specs.inner.Searches.{AreDueMet, IsBefore, IsAmid}
-use Rattle.pg_journeys.specs.declared.distances.Front.{Front}
+use Rattle.pg_journeys.specs.declared.fronts.Front.{Front}
 use Rattle.pg_journeys.proofs.FrontLemmas.{on_or_off, not_both, or_left, or_right, or_either, and_first, and_both, not_true, not_false, low_kind}
 
 -- ---- how many men are still to be looked at: those who are due, and those who were not met

@@ -3,7 +3,6 @@ pub mod Counts
 pub mod Counting
 pub mod Fronts
 pub mod Levels
-pub mod Reaches
 pub mod Rings
 pub mod Reached
 pub mod Sides

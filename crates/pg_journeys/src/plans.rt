@@ -15,11 +15,11 @@ ghost use Rattle.pg_journeys.specs.inner.Costing.{IsOnSpan, InRing, IsCountTo, I
 ghost use Rattle.pg_journeys.specs.inner.Showing.{IsMeasured};
 ghost use Rattle.pg_journeys.specs.inner.Sides.{facts_of, IsSide, IsEnd, EndWithin, AreAims, JourneysOf, IsPaidBy};
 
-use crate::distances::only;
 use crate::facts::Facts;
+use crate::fronts::only;
 use crate::ground::Ground;
 use crate::men::Men;
-use crate::rings::{Rings, Runner, back_within, rings_to};
+use crate::rings::{Rings, Runner, met_within, rings_to};
 use crate::scene::Scene;
 use crate::shown::Measured;
 use pg_assignments::{Costs, least_total};
@@ -88,7 +88,19 @@ pub(crate) fn fill_aims(side: &Side, is_quiet: bool, most: u8, aims: &mut Aims)
     }
 }
 
-// The men whom a path of at most so many counts leads to an end.
+// The men whom a path of at most so many counts leads to an end, searched anew.
+#[inline(never)]
+fn aim_anew(side: &Side, is_quiet: bool, e: usize, n: u8) -> [SquareSet; 6]
+    requires side { (d : Placement) × IsSide d side.now }
+    requires end { IsEnd side.now e }
+    requires low { n < 200 }
+    ensures { AreWithin (EndWithin side.now is_quiet e) n result }
+{
+    let goals = end_goals(side, e);
+    met_within(&side.ground, is_quiet, &goals, n)
+}
+
+// The men whom a path of at most so many counts leads to an end: of the ring that shows them, else searched.
 #[inline(always)]
 pub(crate) fn aim_within(
     side: &Side,
@@ -103,8 +115,10 @@ pub(crate) fn aim_within(
     requires aims { AreAims side.now is_quiet aims.now }
     ensures { AreWithin (EndWithin side.now is_quiet e) n result }
 {
-    let goals = end_goals(side, e);
-    back_within(&side.ground, is_quiet, &goals, &aims[e], n)
+    match aims[e].ring(n) {
+        Some(ring) => *ring,
+        None => aim_anew(side, is_quiet, e, n),
+    }
 }
 
 // Whether a path of at most so many counts leads a man to an end.
@@ -351,12 +365,7 @@ fn row_in(
 }
 
 // What the fates of all men count in a way, man by man.
-fn costs_by_rows(
-    side: &Side,
-    is_quiet: bool,
-    measured: &Measured<'_>,
-    way: Option<Wing>,
-) -> Costs
+fn costs_by_rows(side: &Side, is_quiet: bool, measured: &Measured<'_>, way: Option<Wing>) -> Costs
     requires side { (d : Placement) × IsSide d side.now }
     requires measured { IsMeasured side.now is_quiet measured.now }
     ensures size { result.size ≡ side.now.men.count }

@@ -14,8 +14,8 @@ ghost use Rattle.pg_journeys.specs.inner.Reached.{TakeStep, TakesOf, AreGrown, T
 ghost use Rattle.pg_journeys.specs.inner.Searches.{AreDueMet, IsBackBefore, IsBackAmid};
 ghost use Rattle.pg_journeys.specs.inner.Searches.{IsAheadBefore, IsAheadAmid, AreTakenBefore, AreTakenAmid};
 
-use crate::distances::{Front, Standing, join, meet_before, meet_pawns, only};
 use crate::facts::rank_set;
+use crate::fronts::{Front, Standing, join, meet_before, meet_pawns, only};
 use crate::ground::Ground;
 use pg_board::{Kind, Square, SquareSet};
 use pg_position::last_rank;

@@ -1,33 +1,13 @@
 -- Men met by a search, by kind: those met so far, those still to be looked at, and those that one count more meets.
-use Rattle.std.specs.Prelude.{◌≡◌, ℕ, ◌<◌, ◌≤◌, ◌⊎◌, ◌&&◌, ◌||◌, Bool, true, false, not, cond, leb, List, get_or}
+use Rattle.std.specs.Prelude.{◌≡◌, ℕ, ◌<◌, ◌⊎◌, ◌&&◌, ◌||◌, Bool, true, false, not, cond, List}
 use Rattle.pg_board.specs.Bits.{has}
-use Rattle.pg_board.specs.Tally.{count_below}
 use Rattle.pg_board.specs.declared.man.Kind.{Kind}
 use Rattle.pg_board.specs.declared.man.Kind.TheVariants.{Pawn}
 use Rattle.pg_board.specs.declared.man.Color.{Color}
 use Rattle.pg_captures.specs.FreeSteps.{Becomes}
 use Rattle.pg_board.specs.Men.{kind_eq}
-use Rattle.pg_journeys.specs.inner.Counts.{of_kind, count_at}
-use Rattle.pg_journeys.specs.declared.distances.Front.{Front}
-
--- ---- numbers and sets by kind
--- how many men on squares have no number yet
-abbrev pub unlooked : List ℕ → ℕ
-unlooked xs = count_below (λ i. leb 255 (get_or xs i 0)) 384
-
--- n was written for the man of kind k on s
-pub record IsNoted (k : Kind) (s n : ℕ) (old new : List ℕ) : Type 0 where
-  pub here : count_at new k s ≡ n
-  pub each : (j : Kind) (t : ℕ) → t < 64 →
-      ((j ≡ k) × (t ≡ s) × (count_at new j t ≡ n)) ⊎ (count_at new j t ≡ count_at old j t)
-  pub fewer : 255 ≤ count_at old k s → n < 255 → unlooked new < unlooked old
-
--- n was written for each man of kind k on the set
-pub record AreNoted (k : Kind) (set n : ℕ) (old new : List ℕ) : Type 0 where
-  pub on : (t : ℕ) → t < 64 → has set t ≡ true → count_at new k t ≡ n
-  pub each : (j : Kind) (t : ℕ) → t < 64 → ((j ≡ k) × (has set t ≡ true)) ⊎ (count_at new j t ≡ count_at old j t)
-  pub fewer : (s : ℕ) → s < 64 → has set s ≡ true → ((t : ℕ) → t < 64 → has set t ≡ true → 255 ≤ count_at old k t) → n < 255 →
-      unlooked new < unlooked old
+use Rattle.pg_journeys.specs.inner.Counts.{of_kind}
+use Rattle.pg_journeys.specs.declared.fronts.Front.{Front}
 
 -- a set was joined to the set of a kind
 abbrev pub IsJoined : Kind → ℕ → List ℕ → List ℕ → Type 0

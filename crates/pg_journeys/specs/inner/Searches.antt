@@ -8,7 +8,7 @@ use Rattle.pg_journeys.specs.inner.Counts.{of_kind}
 use Rattle.pg_journeys.specs.inner.Fronts.{is_met, is_due, is_next}
 use Rattle.pg_journeys.specs.inner.Levels.{Men, Steps, Within, BackStart, BackStep, BackWithin, AheadStart, AheadStep, AheadWithin}
 use Rattle.pg_journeys.specs.inner.Reached.{TakeStep, TakesAfter}
-use Rattle.pg_journeys.specs.declared.distances.Front.{Front}
+use Rattle.pg_journeys.specs.declared.fronts.Front.{Front}
 
 -- whoever is due was met
 abbrev pub AreDueMet : Front → Type 0
