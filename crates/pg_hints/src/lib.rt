@@ -6,6 +6,7 @@ mod diagrams;
 mod files;
 mod lists;
 mod searches;
+mod strangers;
 mod words;
 
 use arrayvec::ArrayString;

@@ -1,6 +1,7 @@
-//! The word of a list that is no move, and the legal moves that are most like it.
+//! The word of a list that is no move, and what it is, or the legal moves that are most like it.
 
 use crate::Hint;
+use crate::strangers::sentence_on;
 use arrayvec::ArrayString;
 use pg_moves::next_legal;
 use pg_position::Position;
@@ -126,9 +127,24 @@ fn write_moves(quoted: &str, nearest: &Nearest, hint: &mut Hint) -> fmt::Result 
     }
 }
 
-/// The word of a list of games that is refused, by its line and its ply in it, both from 1, and up to three legal moves whose texts
-/// are nearest to it. Of a word of more than 24 bytes, or of much that wants escapes, the front is shown with two points behind it.
-/// Nothing where there is no such word, or where memory is refused, which is taken from `alloc`.
+// Writes a word as it is quoted, and what else it is, or the legal moves of a position that are nearest to it, if memory is not
+// refused.
+fn write_word(alloc: Global, position: &Position, word: &str, hint: &mut Hint) -> fmt::Result {
+    let quoted = quoted(word);
+    if let Some(sentence) = sentence_on(word) {
+        return write!(hint, "the word is {}; {sentence}", quoted.as_str());
+    }
+    let compared = &word[..word.floor_char_boundary(SHOWN)];
+    match nearest_to(alloc, position, compared) {
+        Ok(nearest) => write_moves(quoted.as_str(), &nearest, hint),
+        Err(AllocError) => Ok(()),
+    }
+}
+
+/// The word of a list of games that is refused, by its line and its ply in it, both from 1, and what it is where that is known, as a
+/// result or a comment; else up to three legal moves whose texts are nearest to it. Of a word of more than 24 bytes, or of much that
+/// wants escapes, the front is shown with two points behind it. Nothing where there is no such word, or where memory is refused,
+/// which is taken from `alloc`.
 pub fn on_move(alloc: Global, list: &str, line: usize, ply: usize) -> Hint {
     let mut hint = Hint::new();
     let Some(line) = list.split('\n').nth(line.saturating_sub(1)) else {
@@ -136,10 +152,7 @@ pub fn on_move(alloc: Global, list: &str, line: usize, ply: usize) -> Hint {
     };
     let line = line.strip_suffix('\r').unwrap_or(line);
     if let Some((position, word)) = word_at(line, ply) {
-        let compared = &word[..word.floor_char_boundary(SHOWN)];
-        if let Ok(nearest) = nearest_to(alloc, &position, compared) {
-            let _ = write_moves(quoted(word).as_str(), &nearest, &mut hint);
-        }
+        let _ = write_word(alloc, &position, word, &mut hint);
     }
     hint
 }

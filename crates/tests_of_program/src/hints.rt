@@ -34,10 +34,24 @@ fn hints_on_diagrams(rt: HostRuntime) {
     }
 }
 
-// A list, of which a slash parts the lines, the line and the ply of a word, and what is said of it: castling, promotion and
+// A list, of which a slash before `1.` parts the lines, the line and the ply of a word, and what is said of it: castling, promotion and
 // a capture in passing too, for either side.
 const MOVES: &str = "1. e4 e5 2. Nf9 | 1 | 3 => the word is \"Nf9\"; legal there: Nf3, Nc3, Qf3
-e4 d5/1.e4 d5 2.ed5 Dxd5 | 2 | 4 => the word is \"Dxd5\"; legal there: Qxd5, b5, c5
+e4 d5/1.e4 d5 2.ed5 Dxd5 | 2 | 4 => the word is \"Dxd5\"; men are K, Q, R, B and N, as in English
+e4 d5/1.e4 d5 2.ed5 qxd5 | 2 | 4 => the word is \"qxd5\"; legal there: Qxd5, b5, c5
+e4 e5 Лf3 | 1 | 3 => the word is \"Лf3\"; men are K, Q, R, B and N, as in English
+e4 Pe5 | 1 | 2 => the word is \"Pe5\"; a pawn has no letter
+e4 e5 1-0 | 1 | 3 => the word is \"1-0\"; results are not read; leave it out
+e4 e5 1/2-1/2 | 1 | 3 => the word is \"1/2-1/2\"; results are not read; leave it out
+e4 e5 * | 1 | 3 => the word is \"*\"; results are not read; leave it out
+1 e4 e5 | 1 | 1 => the word is \"1\"; a move number has a dot behind it
+1. e4 {best by test} e5 | 1 | 2 => the word is \"{best\"; comments are not read; leave it out
+1. e4 e5 ; good | 1 | 3 => the word is \";\"; comments are not read; leave it out
+1. e4 (1. d4) e5 | 1 | 2 => the word is \"(1.\"; variations are not read; leave it out
+1. e4 $1 e5 | 1 | 2 => the word is \"$1\"; glyphs are not read; leave it out
+[Event \"?\"] | 1 | 1 => the word is \"[Event\"; tag pairs are not read; leave it out
+♘f3 | 1 | 1 => the word is \"♘f3\"; men are K, Q, R, B and N, not figurines
+\u{feff}e4 | 1 | 1 => the word is \"\\u{feff}e4\"; a byte order mark stands before it
 1. e3 e6 2. Nf3 Nf6 3. Be2 Be7 4. OO | 1 | 7 => the word is \"OO\"; legal there: O-O, a3, a4
 1. e4 a6 2. e5 d5 3. exd6ep.. | 1 | 5 => the word is \"exd6ep..\"; legal there: exd6, Bxa6, e6
 h4 g5 hxg5 a6 g6 b6 gxh7 c6 hxg8=K | 1 | 9 => the word is \"hxg8=K\"; legal there: hxg8=N, hxg8=B, hxg8=R
@@ -59,7 +73,10 @@ x e4 | 1 | 2 => ";
 fn check_move<R: Abort + AllocGlobal>(rt: &R, row: &str) {
     let (asked, wanted) = row.split_once(" => ").expect(rt, row);
     let mut fields = asked.split(" | ");
-    let list = fields.next().unwrap_or("").replace(rt.alloc(), '/', "\n");
+    let list = fields
+        .next()
+        .unwrap_or("")
+        .replace(rt.alloc(), "/1.", "\n1.");
     let list = list.expect(rt, row);
     let line = fields.next().unwrap_or("").parse().expect(rt, row);
     let ply = fields.next().unwrap_or("").parse().expect(rt, row);
