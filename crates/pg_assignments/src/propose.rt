@@ -6,8 +6,8 @@ use std::simd::{u8x16, u16x16};
 /// A row of numbers.
 pub(crate) type Row = [u16; 16];
 
-/// Rows with their columns, and prices of both: `to` of a row and `holder` of a column, or 255 (`FREE`) for none. Each pair
-/// of partners is at the difference of its prices.
+/// Rows with their columns, and prices of both: `to` of a row and `holder` of a column, or 255 (`FREE`) for none. Each
+/// pair of partners is at the difference of its prices.
 #[derive(Clone, Copy)]
 pub(crate) struct Proposal {
     pub(crate) rows: Row,

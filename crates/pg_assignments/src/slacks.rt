@@ -86,8 +86,8 @@ fn are_none(row: &Row) -> bool
     none
 }
 
-// Finds the slacks of all rows, and says whether no row's price is above. All is read before a row is written, since what
-// stands behind a reference is read anew after each write.
+// Finds the slacks of all rows, and says whether no row's price is above. All is read before a row is written, since
+// what stands behind a reference is read anew after each write.
 #[inline(never)]
 fn find_slacks(costs: &Costs, rows: &Row, columns: &Row, slacks: &mut [Row; 16]) -> bool
     requires size { costs.now.size ≤ 16 }

@@ -95,11 +95,11 @@ pub(crate) fn judged(costs: &Costs, proposal: &Proposal) -> Option<u16>
     }
 }
 
-/// The least total of an assignment, which gives each row a column of its own that it may go to: the sum of its costs, at
-/// most 4064, or none where there is no assignment.
+/// The least total of an assignment, which gives each row a column of its own that it may go to: the sum of its costs,
+/// at most 4064, or none where there is no assignment.
 ///
-/// A proposal by the Hungarian method is tested by its prices. Where it passes, no other assignment costs less; else all
-/// are tried, and that takes far longer with each further row.
+/// A proposal by the Hungarian method is tested by its prices. Where it passes, no other assignment costs less; else
+/// all are tried, and that takes far longer with each further row.
 pub fn least_total(costs: &Costs) -> Option<u16>
     requires { costs.now.size ≤ 16 }
     ensures { IsLeastTotal costs.now result }

@@ -9,9 +9,9 @@ use crate::slacks::fitted;
 use crate::tested::judged;
 use crate::with_all::{all_by, plain_all, proved, sums_of};
 
-/// The least total of all assignments, at most 4064, and for each row i and column j below the costs' `size` the least total
-/// of an assignment that has row i at column j: `pairs[i][j]`, as [`crate::least_with_all`] answers it, with 65535 where
-/// there is none.
+/// The least total of all assignments, at most 4064, and for each row i and column j below the costs' `size` the least
+/// total of an assignment that has row i at column j: `pairs[i][j]`, as [`crate::least_with_all`] answers it, with
+/// 65535 where there is none.
 #[derive(Clone, Copy, Debug, PartialEq, Eq)]
 pub struct LeastTotals {
     pub least: u16,
@@ -41,8 +41,8 @@ fn by_searches(costs: &Costs, proposal: &Proposal, most: u16, totals: &mut Least
     }
 }
 
-// Finds them by a proposal, for which the least costs of the columns are handed in, and says whether the least is within
-// `most`.
+// Finds them by a proposal, for which the least costs of the columns are handed in, and says whether the least is
+// within `most`.
 #[inline(always)]
 fn found(costs: &Costs, least: [u8; 16], most: u16, totals: &mut LeastTotals) -> bool
     requires { costs.now.size ≤ 16 }
@@ -88,8 +88,8 @@ fn by_prices(costs: &Costs, least: [u8; 16], most: u16) -> Option<LeastTotals>
 
 /// The least totals, or none where there is no assignment whose sum is at most `most`.
 ///
-/// Where there are none, mostly the least costs of the columns tell it, and no pair is reckoned. Else all numbers come of
-/// one proposal, which is tested once.
+/// Where there are none, mostly the least costs of the columns tell it, and no pair is reckoned. Else all numbers come
+/// of one proposal, which is tested once.
 pub fn least_totals(costs: &Costs, most: u16) -> Option<LeastTotals>
     requires { costs.now.size ≤ 16 }
     ensures none { IfNone result (IsBeyond costs.now most) }

@@ -175,12 +175,12 @@ pub(crate) fn all_pairs(costs: &Costs, proposal: &Proposal) -> [Row; 16]
     }
 }
 
-/// For each row i and column j below `size` the least total of an assignment that has row i at column j, a sum of costs of
-/// at most 4064; 65535 where there is none. The answer is by rows and then by columns; what stands beyond `size` means
-/// nothing.
+/// For each row i and column j below `size` the least total of an assignment that has row i at column j, a sum of costs
+/// of at most 4064; 65535 where there is none. The answer is by rows and then by columns; what stands beyond `size`
+/// means nothing.
 ///
-/// All come of one proposal by the Hungarian method, which is tested, and of the shortest ways of handing columns on from
-/// row to row. Where the test fails each pair is reckoned by itself, which takes longer.
+/// All come of one proposal by the Hungarian method, which is tested, and of the shortest ways of handing columns on
+/// from row to row. Where the test fails each pair is reckoned by itself, which takes longer.
 pub fn least_with_all(costs: &Costs) -> [[u16; 16]; 16]
     requires { costs.now.size ≤ 16 }
     ensures { AreLeastWith costs.now result costs.now.size }

@@ -13,8 +13,8 @@ use pg_position::{Move, Position};
 use pg_san::Games;
 use pg_travel::{Prices, Rows};
 
-// What is asked of a certificate: with a list of games, or with none, where each game on the diagram is kept; its version, which its header told, and rows of distances for the tests
-// of price lists, where they are at hand.
+// What is asked of a certificate: with a list of games, or with none, where each game on the diagram is kept; its
+// version, which its header told, and rows of distances for the tests of price lists, where they are at hand.
 #[derive(Drop)]
 pub(crate) struct Question<'a> {
     pub(crate) diagram: &'a Diagram,

@@ -130,8 +130,8 @@ fn targets(diagram: &Diagram, squares: SquareSet, position: &Position) -> Square
 }
 
 // Whether a legal move leads to the diagram, apart from the one that was handed out last: mostly one does, and once it
-// is handed out no further one is to be looked for. A move is tried only from a square that such a move may leave to one
-// that it may come to: a trial costs more than both sets.
+// is handed out no further one is to be looked for. A move is tried only from a square that such a move may leave to
+// one that it may come to: a trial costs more than both sets.
 fn has_leading(
     diagram: &Diagram,
     squares: SquareSet,
@@ -192,8 +192,8 @@ fn has_led(diagram: &Diagram, position: &Position, last: &Option<Move>) -> bool
     }
 }
 
-// Passes over the further moves of the man that moved last, as if each was handed out, where he needs no trial: a set has
-// them.
+// Passes over the further moves of the man that moved last, as if each was handed out, where he needs no trial: a set
+// has them.
 #[inline(always)]
 fn pass_man(moves: &mut LegalMoves)
     ensures { PassesMan moves.old moves.new }

@@ -83,8 +83,8 @@ fn is_of_certificate(refusal: &Refusal) -> bool {
     }
 }
 
-// Ends an explanation with why the certificate is refused, if it is, which is said on standard error too: so not where both are
-// the same terminal.
+// Ends an explanation with why the certificate is refused, if it is, which is said on standard error too: so not where
+// both are the same terminal.
 fn end<W: Sink>(answer: &Result<u8, Refusal>, screen: Screen, out: &mut Gathered<W>) {
     let Err(refusal) = answer else {
         return;
@@ -100,9 +100,8 @@ fn end<W: Sink>(answer: &Result<u8, Refusal>, screen: Screen, out: &mut Gathered
 // means that a list of games is the exact answer to the diagram and the length: the check of the
 // certificate has said yes. All that is written is handed on then.
 //
-// # Errors
-// `Line` where the moves are not one game, `Search` with `TooManyGames` where the certificate has more games than a list,
-// else `Check` with the fault of the texts, of the certificate or of the writer.
+// # Errors `Line` where the moves are not one game, `Search` with `TooManyGames` where the certificate has more games
+// than a list, else `Check` with the fault of the texts, of the certificate or of the writer.
 pub(crate) fn why_from<S: Source, W: Sink>(
     alloc: Global,
     asked: &Asked<'_>,

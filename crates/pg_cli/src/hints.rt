@@ -1,5 +1,5 @@
-//! Second lines, on a terminal alone, behind the line that says why a command has no answer: what is wrong in a text or a file,
-//! and what to try. They take no part in any answer.
+//! Second lines, on a terminal alone, behind the line that says why a command has no answer: what is wrong in a text or
+//! a file, and what to try. They take no part in any answer.
 
 use crate::refusals::{Known, Refusal};
 use crate::spelling::{say_journeys, text_of};

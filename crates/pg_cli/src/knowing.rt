@@ -96,8 +96,9 @@ fn refusal_of(fault: CooksRunFault) -> Refusal
     }
 }
 
-// Looks for a game beside those of a list, and writes what is found. The texts spell a diagram, a length and solutions, and the
-// status is that of what is found: 1 only where no list of one game is the exact answer. The report is handed on then.
+// Looks for a game beside those of a list, and writes what is found. The texts spell a diagram, a length and solutions,
+// and the status is that of what is found: 1 only where no list of one game is the exact answer. The report is handed
+// on then.
 //
 // # Errors
 // `NotUtf8` where the list is not UTF-8, `NoGame` where it is empty, `Memory`, else `Check` with the fault
@@ -132,8 +133,8 @@ pub(crate) fn cooks_from<P: LedProgress, W: Sink>(
     }
 }
 
-// `pg games`: what the list shows stands on standard output. The list is that of the file GAMES or of standard input, of which
-// no contract can say what it gives.
+// `pg games`: what the list shows stands on standard output. The list is that of the file GAMES or of standard input,
+// of which no contract can say what it gives.
 #[inline(never)]
 pub(crate) fn games<R: Runtime + AllocGlobal>(
     rt: &R,
@@ -158,8 +159,8 @@ pub(crate) fn games<R: Runtime + AllocGlobal>(
     games_from(rt.alloc(), &asked, &mut out)
 }
 
-// `pg cooks`: what is found beside the list stands on standard output. The list is that of the file GAMES, of which no contract
-// can say what it gives.
+// `pg cooks`: what is found beside the list stands on standard output. The list is that of the file GAMES, of which no
+// contract can say what it gives.
 #[inline(never)]
 pub(crate) fn cooks<R: Runtime + AllocGlobal>(
     rt: &R,

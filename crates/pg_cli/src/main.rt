@@ -1,8 +1,8 @@
-//! The program `pg`, the checker of shortest proof games: `pg show DIAGRAM [LENGTH]`, `pg moves FEN`, `pg count FEN PLIES`,
-//! `pg games DIAGRAM LENGTH [GAMES]`, `pg cooks DIAGRAM LENGTH GAMES [--nodes N] [--foreign D]`,
-//! `pg check DIAGRAM LENGTH CERT [GAMES] [--records N]`, `pg search DIAGRAM LENGTH CERT [--nodes N] [--games FILE]`,
-//! `pg why DIAGRAM LENGTH CERT MOVES [--records N]`, `pg page DIAGRAM LENGTH CERT [--records N] [--nodes K]` and
-//! `pg upgrade OLD NEW [--records N]`; `--journeys` stands behind `check`, `search`, `why` and `page`.
+//! The program `pg`, the checker of shortest proof games: `pg show DIAGRAM [LENGTH]`, `pg moves FEN`, `pg count FEN
+//! PLIES`, `pg games DIAGRAM LENGTH [GAMES]`, `pg cooks DIAGRAM LENGTH GAMES [--nodes N] [--foreign D]`, `pg check
+//! DIAGRAM LENGTH CERT [GAMES] [--records N]`, `pg search DIAGRAM LENGTH CERT [--nodes N] [--games FILE]`, `pg why
+//! DIAGRAM LENGTH CERT MOVES [--records N]`, `pg page DIAGRAM LENGTH CERT [--records N] [--nodes K]` and `pg upgrade
+//! OLD NEW [--records N]`; `--journeys` stands behind `check`, `search`, `why` and `page`.
 #![tactic(auto)]
 
 ghost use Rattle.std.specs.Prelude.{◌≡◌, ◌↔◌, List, IsTrue, IfOk, IfErr};
@@ -44,9 +44,10 @@ use std::process::ExitCode;
 use std::rt::Runtime;
 use std::{env, io};
 
-// Does a command with its words and these bounds. A status of `check`, `search`, `why` or `page` means that a list is the exact
-// answer to the diagram and the length which the words spell, and 1 of `games` or `cooks` that no list of one game is. No command is
-// inlined here: the frame of this call would hold what each of them needs, and lie below them all.
+// Does a command with its words and these bounds. A status of `check`, `search`, `why` or `page` means that a list is
+// the exact answer to the diagram and the length which the words spell, and 1 of `games` or `cooks` that no list of one
+// game is. No command is inlined here: the frame of this call would hold what each of them needs, and lie below them
+// all.
 fn perform<R: Runtime + AllocGlobal>(
     rt: &R,
     command: Command,
@@ -102,8 +103,8 @@ fn file_of<'a>(words: &ArgMatches<'a>, refusal: &Refusal) -> FileName<'a> {
     }
 }
 
-// Does what the words of a command say, with these bounds, and gives the status: what the command ended with, or that of its
-// refusal, which is not 0.
+// Does what the words of a command say, with these bounds, and gives the status: what the command ended with, or that
+// of its refusal, which is not 0.
 fn lend<R: Runtime + AllocGlobal>(
     rt: &R,
     words: &ArgMatches<'_>,

@@ -26,13 +26,12 @@ use std::rt::Runtime;
 // So many expanded nodes are told at most, where the words do not say it.
 const NODES: u64 = 20_000;
 
-// Checks a certificate that is read three times, and writes the page that shows it; nothing before the check
-// has said yes. A status means that a list of games is the exact answer to the diagram and the length, and that all of the page is
-// handed on.
+// Checks a certificate that is read three times, and writes the page that shows it; nothing before the check has said
+// yes. A status means that a list of games is the exact answer to the diagram and the length, and that all of the page
+// is handed on.
 //
-// # Errors
-// `Search` with `TooManyGames` where the certificate has more games than a list, else `Check` with the fault of the texts,
-// of the certificate or of the writer.
+// # Errors `Search` with `TooManyGames` where the certificate has more games than a list, else `Check` with the fault
+// of the texts, of the certificate or of the writer.
 pub(crate) fn page_from<S: Source, W: Sink>(
     alloc: Global,
     asked: &Asked<'_>,
@@ -65,8 +64,8 @@ pub(crate) fn page_from<S: Source, W: Sink>(
     }
 }
 
-// `pg page`: the certificate of a plain file is shown as a page on standard output. A status means that some list is the
-// exact answer to the diagram and the length which the words spell, and it is 0.
+// `pg page`: the certificate of a plain file is shown as a page on standard output. A status means that some list is
+// the exact answer to the diagram and the length which the words spell, and it is 0.
 #[inline(never)]
 pub(crate) fn page<R: Runtime + AllocGlobal>(
     rt: &R,

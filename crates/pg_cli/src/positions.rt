@@ -163,8 +163,8 @@ pub(crate) fn show_within_from<W: Sink>(
     }
 }
 
-// `pg show DIAGRAM [LENGTH]`: the board and what is known at once, on standard output. A status means that DIAGRAM spells a
-// diagram, and LENGTH, where it stands, a length.
+// `pg show DIAGRAM [LENGTH]`: the board and what is known at once, on standard output. A status means that DIAGRAM
+// spells a diagram, and LENGTH, where it stands, a length.
 #[inline(never)]
 pub(crate) fn show<R: Runtime + AllocGlobal>(
     rt: &R,

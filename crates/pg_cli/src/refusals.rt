@@ -25,8 +25,8 @@ const MEMORY: u8 = 3;
 
 const FILES: u8 = 4;
 
-// How far a search came that gave up: the games that it met, each tested; the nodes that it visited; and the plies of the
-// tree at work and of the game that is asked.
+// How far a search came that gave up: the games that it met, each tested; the nodes that it visited; and the plies of
+// the tree at work and of the game that is asked.
 #[derive(Clone, Copy, Debug, PartialEq, Eq)]
 pub(crate) struct Known {
     pub(crate) games: usize,

@@ -37,7 +37,8 @@ use std::rt::Runtime;
 // So many nodes are visited at most, where the words do not say it.
 const NODES: u64 = 1_000_000;
 
-// What a search came to: the games that it found, or why it has none; those that it met, each tested; and how far it came.
+// What a search came to: the games that it found, or why it has none; those that it met, each tested; and how far it
+// came.
 #[derive(Drop)]
 pub(crate) struct Searched {
     found: Result<Games, SearchFault>,
@@ -76,9 +77,8 @@ fn found_by<W: Sink, P: SearchProgress>(
 
 // Searches, and writes the certificate to a writer.
 //
-// # Errors
-// `Memory` where a growth was refused for a game that was met; `Check` with `Listed` where such a game is no solution, which
-// should not be.
+// # Errors `Memory` where a growth was refused for a game that was met; `Check` with `Listed` where such a game is no
+// solution, which should not be.
 pub(crate) fn search_to<R: Runtime + AllocGlobal, W: Write + Drop>(
     rt: &R,
     problem: &Problem,
@@ -166,9 +166,8 @@ fn records_for(nodes: u64) -> u64
     nodes.max(RECORDS)
 }
 
-// Checks the certificate that a source gives with the games that were found, and writes the report;
-// the status of its verdict. A status means that these games are the exact answer, and 0 that it is one; the report is handed
-// on then.
+// Checks the certificate that a source gives with the games that were found, and writes the report; the status of its
+// verdict. A status means that these games are the exact answer, and 0 that it is one; the report is handed on then.
 //
 // # Errors
 // `Check` with the fault of the check.
@@ -211,8 +210,8 @@ pub(crate) struct Drafts<F> {
     list: Option<Draft<F>>,
 }
 
-// Searches, writes the certificate to its new file and the games that were met to the list's, if one is wanted; reads the
-// certificate again from there and checks it, and writes the report; the status of its verdict.
+// Searches, writes the certificate to its new file and the games that were met to the list's, if one is wanted; reads
+// the certificate again from there and checks it, and writes the report; the status of its verdict.
 pub(crate) fn search_in<R, F, W>(
     rt: &R,
     problem: &Problem,
@@ -335,7 +334,8 @@ fn put_both<R: Runtime + AllocGlobal>(rt: &R, drafts: Drafts<R::File>) -> Result
     }
 }
 
-// Ends a search that has no report: the certificate is taken away, and the list put in its place where the search gave up.
+// Ends a search that has no report: the certificate is taken away, and the list put in its place where the search gave
+// up.
 fn end_both<R: Runtime + AllocGlobal>(rt: &R, drafts: Drafts<R::File>, refusal: Refusal) -> Refusal
     ensures { (result ≡ refusal) ⊎ IsOfFile Named.Kept result }
 {
@@ -353,8 +353,8 @@ fn end_both<R: Runtime + AllocGlobal>(rt: &R, drafts: Drafts<R::File>, refusal: 
     refusal
 }
 
-// Searches for the games of a problem: the certificate is written beside its place, checked from there and put in
-// its place once the report stands on standard output. Else it is taken away, and what stood there is as it was. So is the
+// Searches for the games of a problem: the certificate is written beside its place, checked from there and put in its
+// place once the report stands on standard output. Else it is taken away, and what stood there is as it was. So is the
 // list that the words may want, but a search that gives up puts it there too.
 fn search_for<R: Runtime + AllocGlobal>(
     rt: &R,

@@ -127,10 +127,10 @@ fn found<P: LedProgress>(
     }
 }
 
-/// Looks for a game beside a list of solutions, led by it: `Cook` with a game of the stated length that ends on the diagram and
-/// is not listed, so that the problem is not sound; `Shorter` with a game of fewer plies that ends on the diagram, so that no
-/// list is its answer; else `NotFound`. The game is tested, so this holds whatever the search does; a
-/// game that failed the test would not be told. With `NotFound` nothing is claimed of the problem but what the list
+/// Looks for a game beside a list of solutions, led by it: `Cook` with a game of the stated length that ends on the
+/// diagram and is not listed, so that the problem is not sound; `Shorter` with a game of fewer plies that ends on the
+/// diagram, so that no list is its answer; else `NotFound`. The game is tested, so this holds whatever the search does;
+/// a game that failed the test would not be told. With `NotFound` nothing is claimed of the problem but what the list
 /// shows by itself, as `standing_on` tells it: two games or more, that it is not sound. At most `max_nodes` nodes are
 /// visited, with at most `foreign` foreign moves. What the search and the test grow by is taken from `alloc`; `watch`
 /// is told how far the search is.

@@ -25,14 +25,13 @@ use pg_searcher::{LedLimits, LedProgress};
 use pg_texts::write_games;
 use std::alloc::Global;
 
-/// Reads a diagram (the placement field of FEN, or all six fields; the PGN standard, section 16.1), a
-/// length in moves such as `18.5`, and a list of games, one a line; tests that each game has the length
-/// and ends on the diagram; and writes what they say by themselves. The lines, each ended by a line
-/// feed: `diagram ` and the placement; `length ` and the length; `games ` and their number; the movetext
-/// of each game, in canonical order; then `not sound` where there are two games or more, `at least one
-/// game` where there is one, `no game given` where there is none. Nothing is claimed of other games: but
-/// with `not sound` no single game is the answer (`not_sound_is_true`). The list is taken from `alloc`; nothing is written
-/// before the games were tested.
+/// Reads a diagram (the placement field of FEN, or all six fields; the PGN standard, section 16.1), a length in moves
+/// such as `18.5`, and a list of games, one a line; tests that each game has the length and ends on the diagram; and
+/// writes what they say by themselves. The lines, each ended by a line feed: `diagram ` and the placement; `length `
+/// and the length; `games ` and their number; the movetext of each game, in canonical order; then `not sound` where
+/// there are two games or more, `at least one game` where there is one, `no game given` where there is none. Nothing is
+/// claimed of other games: but with `not sound` no single game is the answer (`not_sound_is_true`). The list is taken
+/// from `alloc`; nothing is written before the games were tested.
 ///
 /// # Errors
 /// In this order: `Diagram`, `Length` and `Games` where that text is refused, with its refusal; `Check`

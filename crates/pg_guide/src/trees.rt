@@ -401,12 +401,13 @@ impl TreeWalk {
         }
     }
 
-    /// The next child of the topmost open node as `child` gives it, in a few bytes: the price lists of its record, where
-    /// it has any, come into `prices`, and its move is played only where the child opens.
+    /// The next child of the topmost open node as `child` gives it, in a few bytes: the price lists of its record,
+    /// where it has any, come into `prices`, and its move is played only where the child opens.
     ///
     /// # Errors
     /// As `root`.
-    // Inlined, as what it stands on, so that a caller which does not look at the position before the move has no copy of it.
+    // Inlined, as what it stands on, so that a caller which does not look at the position before the move has no copy
+    // of it.
     #[inline(always)]
     pub fn bare_child<S: Source>(
         &mut self,

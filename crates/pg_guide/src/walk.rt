@@ -301,10 +301,11 @@ fn all_trees<S: Source>(
     }
 }
 
-// Walks over a certificate of at most so many records, and says how the walk ended; what is found comes into `along`, where
-// nothing is found yet. The games of the stated length that end on the diagram go into the list, unless a node is wanted. What is
-// found before the walk stops is kept. What the list grows by is all the memory that is taken. Not inlined: what it needs of the
-// stack would lie below what comes after it, and two walks in one frame would have room for two.
+// Walks over a certificate of at most so many records, and says how the walk ended; what is found comes into `along`,
+// where nothing is found yet. The games of the stated length that end on the diagram go into the list, unless a node is
+// wanted. What is found before the walk stops is kept. What the list grows by is all the memory that is taken. Not
+// inlined: what it needs of the stack would lie below what comes after it, and two walks in one frame would have room
+// for two.
 #[inline(never)]
 pub(crate) fn walk<S: Source>(
     question: &Question,

@@ -1,5 +1,5 @@
-//! What may help where a command has no answer: second lines for a terminal, which point to what is wrong. No contract speaks of
-//! their words, and no answer depends on them.
+//! What may help where a command has no answer: second lines for a terminal, which point to what is wrong. No contract
+//! speaks of their words, and no answer depends on them.
 #![tactic(auto)]
 
 mod diagrams;

@@ -97,7 +97,8 @@ fn nearest_to(alloc: Global, position: &Position, word: &str) -> Result<Nearest,
     Ok(found)
 }
 
-// A word in quotes, with escapes for what cannot be shown: as much of it as has room, and two points where that is not all.
+// A word in quotes, with escapes for what cannot be shown: as much of it as has room, and two points where that is not
+// all.
 fn quoted(word: &str) -> Quoted {
     for cut in 0..SHOWN {
         let shown = &word[..word.floor_char_boundary(SHOWN - cut)];
@@ -127,8 +128,8 @@ fn write_moves(quoted: &str, nearest: &Nearest, hint: &mut Hint) -> fmt::Result 
     }
 }
 
-// Writes a word as it is quoted, and what else it is, or the legal moves of a position that are nearest to it, if memory is not
-// refused.
+// Writes a word as it is quoted, and what else it is, or the legal moves of a position that are nearest to it, if
+// memory is not refused.
 fn write_word(alloc: Global, position: &Position, word: &str, hint: &mut Hint) -> fmt::Result {
     let quoted = quoted(word);
     if let Some(sentence) = sentence_on(word) {
@@ -141,10 +142,10 @@ fn write_word(alloc: Global, position: &Position, word: &str, hint: &mut Hint) -
     }
 }
 
-/// The word of a list of games that is refused, by its line and its ply in it, both from 1, and what it is where that is known, as a
-/// result or a comment; else up to three legal moves whose texts are nearest to it. Of a word of more than 24 bytes, or of much that
-/// wants escapes, the front is shown with two points behind it. Nothing where there is no such word, or where memory is refused,
-/// which is taken from `alloc`.
+/// The word of a list of games that is refused, by its line and its ply in it, both from 1, and what it is where that
+/// is known, as a result or a comment; else up to three legal moves whose texts are nearest to it. Of a word of more
+/// than 24 bytes, or of much that wants escapes, the front is shown with two points behind it. Nothing where there is
+/// no such word, or where memory is refused, which is taken from `alloc`.
 pub fn on_move(alloc: Global, list: &str, line: usize, ply: usize) -> Hint {
     let mut hint = Hint::new();
     let Some(line) = list.split('\n').nth(line.saturating_sub(1)) else {

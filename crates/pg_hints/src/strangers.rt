@@ -13,8 +13,8 @@ fn is_number(word: &str) -> bool {
     word.bytes().all(|byte| byte.is_ascii_digit())
 }
 
-// Whether a word that begins with this letter may name a man as another language does, or a pawn: a capital letter, and a
-// rank somewhere behind it.
+// Whether a word that begins with this letter may name a man as another language does, or a pawn: a capital letter, and
+// a rank somewhere behind it.
 fn is_of_man(first: char, word: &str) -> bool {
     let is_capital = first.is_ascii_uppercase() || !first.is_ascii() && first.is_alphabetic();
     is_capital && !LETTERS.contains(first) && word.contains(|c: char| matches!(c, '1'..='8'))
@@ -33,8 +33,8 @@ fn sentence_on_front(first: char) -> Option<&'static str> {
     }
 }
 
-// What is said of a word that is no move of any kind, where it is known what else it is: a result, a number without a dot, a
-// comment and the like, a figurine, or a move in another language's letters.
+// What is said of a word that is no move of any kind, where it is known what else it is: a result, a number without a
+// dot, a comment and the like, a figurine, or a move in another language's letters.
 pub(crate) fn sentence_on(word: &str) -> Option<&'static str> {
     if is_result(word) {
         return Some("results are not read; leave it out");

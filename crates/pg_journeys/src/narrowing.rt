@@ -1,4 +1,5 @@
-//! What follows from the plans of a way by a measure: where captures may land, where men may be captured, and who may change.
+//! What follows from the plans of a way by a measure: where captures may land, where men may be captured, and who may
+//! change.
 ghost use Rattle.std.specs.Prelude.{◌≡◌, ℕ, ◌<◌, ◌≤◌, ◌↔◌, ◌⊎◌, IsTrue, true, false, get_or, ◌≢◌};
 ghost use Rattle.pg_board.specs.Bits.{has};
 ghost use Rattle.pg_board.specs.Men.{other};
@@ -20,8 +21,9 @@ use crate::shown::Measured;
 use pg_board::{Kind, SquareSet};
 use pg_position::Wing;
 
-// What the plans of a way have by a measure: the squares where captures of the colour land and where its men are captured, and for
-// each man the ends by which he changes, a bit for each man of the diagram and the seventeenth for being captured.
+// What the plans of a way have by a measure: the squares where captures of the colour land and where its men are
+// captured, and for each man the ends by which he changes, a bit for each man of the diagram and the seventeenth for
+// being captured.
 #[derive(Clone, Copy)]
 pub(crate) struct Deeds {
     pub(crate) lands: SquareSet,
@@ -246,8 +248,8 @@ fn widest(rooms: &[u8; 17]) -> u8
     most
 }
 
-// Whether a man who changes by these ends may capture, or be captured within a room, on a square that was not found yet.
-// Where not, his paths tell nothing new; most men change by no end, so that comes first.
+// Whether a man who changes by these ends may capture, or be captured within a room, on a square that was not found
+// yet. Where not, his paths tell nothing new; most men change by no end, so that comes first.
 fn may_find(side: &Side, ends: u32, room: u8, lands: SquareSet, falls: SquareSet) -> bool
     ensures lands { result ≡ false →
         (ends ≡ 0) ⊎ IsFull (landing side.now.ground.facts side.now.ground.color) lands }

@@ -103,7 +103,8 @@ fn least_in_way(
     total_with(least_total(&costs), charge(way))
 }
 
-// What the plans of all ways count at least by a measure. A table of its own, since it is cleared where a function begins.
+// What the plans of all ways count at least by a measure. A table of its own, since it is cleared where a function
+// begins.
 #[inline(never)]
 fn least_in_all(side: &Side, is_quiet: bool) -> Option<u8>
     requires side { (d : Placement) × IsSide d side.now }

@@ -276,8 +276,8 @@ pub(crate) fn man_of(side: &Side, is_quiet: bool, way: Option<Wing>, i: usize) -
     }
 }
 
-// What it counts at least that a man is captured; 255 for none. A king never is, and who has just passed a square takes no
-// step.
+// What it counts at least that a man is captured; 255 for none. A king never is, and who has just passed a square takes
+// no step.
 fn fall(side: &Side, aims: &Aims, most: u8, man: &Walker) -> u8
     requires side { (d : Placement) × IsSide d side.now }
     requires more { side.now.goals.count < side.now.men.count }
@@ -421,7 +421,8 @@ pub(crate) fn is_way(position: &Scene, facts: &Facts, color: Color, way: Option<
     }
 }
 
-// What paths may count: the plies of a colour, in quiet moves less the captures that it owes; none where that is below 0.
+// What paths may count: the plies of a colour, in quiet moves less the captures that it owes; none where that is below
+// 0.
 pub(crate) fn budget(
     diagram: &Diagram,
     position: &Position,

@@ -193,27 +193,6 @@ pub(crate) fn met_within(
     front.met
 }
 
-// The men within a count of one of these: of the ring where it is kept, of the last where they are whole, else
-// searched.
-#[inline(always)]
-pub(crate) fn back_within(
-    ground: &Ground,
-    is_quiet: bool,
-    goals: &[SquareSet; 6],
-    rings: &Rings,
-    n: u8,
-) -> [SquareSet; 6]
-    requires sound { IsGround ground.now }
-    requires low { n < 200 }
-    requires rings { AreRings (BackWithin (known ground.now.facts) ground.now.color is_quiet goals.now) rings.now }
-    ensures { AreWithin (BackWithin (known ground.now.facts) ground.now.color is_quiet goals.now) n result }
-{
-    match rings.ring(n) {
-        Some(ring) => *ring,
-        None => met_within(ground, is_quiet, goals, n),
-    }
-}
-
 // Joins the captures of a pawn, as what he becomes by them.
 fn take_by_pawn(ground: &Ground, set: SquareSet, taken: &mut [SquareSet; 6])
     ensures { AreGrown (λ j t. (has set t ≡ true) × Becomes ground.now.color Pawn t j) taken.old taken.new }

@@ -11,8 +11,8 @@ use crate::shown::Measured;
 use pg_assignments::{Costs, least_totals};
 use pg_position::Wing;
 
-// For each man and each end the most that a path of his to it may count in a plan: 255 where no plan has that. The ends are the
-// men of the diagram, and last to be captured.
+// For each man and each end the most that a path of his to it may count in a plan: 255 where no plan has that. The ends
+// are the men of the diagram, and last to be captured.
 pub(crate) type Rooms = [[u8; 17]; 16];
 
 // The room of a man at a column; 255 for none. So many counts pay for all paths.
@@ -87,8 +87,8 @@ fn rows(costs: &Costs, goals: usize, least: &[[u16; 16]; 16], paid: u16) -> Room
     rooms
 }
 
-// The rooms of all men by a way, where what is measured pays for all paths and the way; none where it pays for no plan. One
-// assignment tells both.
+// The rooms of all men by a way, where what is measured pays for all paths and the way; none where it pays for no plan.
+// One assignment tells both.
 pub(crate) fn rooms_of(
     side: &Side,
     is_quiet: bool,

@@ -214,8 +214,8 @@ fn passing_pawn(position: &Position) -> SquareSet
     }
 }
 
-// The men who rest under facts: where the diagram has the same man on a still square, no capture lands, and none has just
-// passed a square.
+// The men who rest under facts: where the diagram has the same man on a still square, no capture lands, and none has
+// just passed a square.
 pub(crate) fn resting_men(diagram: &Diagram, position: &Position, facts: &Facts) -> SquareSet
     ensures { AreResting (known facts.now) diagram.now position.now result }
 {
@@ -251,7 +251,8 @@ pub(crate) fn side_of(
     }
 }
 
-// What the plans of a side show by one measure that is both. A table of its own, since it is cleared where a function begins.
+// What the plans of a side show by one measure that is both. A table of its own, since it is cleared where a function
+// begins.
 #[inline(never)]
 fn shown_by_one(side: &Side, most: u8) -> Option<Shown>
     requires side { (d : Placement) × IsSide d side.now }

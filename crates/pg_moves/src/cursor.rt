@@ -337,9 +337,9 @@ impl LegalMoves {
         }
     }
 
-    // Hands out the next legal move, once the man that moved last has none left: a function of its own, since `next` is inlined where
-    // it is called, and most moves are further ones of the same man. Whether there is one is told, and not which: the caller
-    // finds it where it is kept.
+    // Hands out the next legal move, once the man that moved last has none left: a function of its own, since `next` is
+    // inlined where it is called, and most moves are further ones of the same man. Whether there is one is told, and
+    // not which: the caller finds it where it is kept.
     #[inline(never)]
     #[tactic(auto, unfolding(crate::specs::Left::IsReady))]
     fn next_beyond(&mut self) -> bool

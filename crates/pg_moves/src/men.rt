@@ -107,8 +107,8 @@ pub(crate) fn own_men(position: &Position) -> SquareSet
     position.board().squares_of_color(position.side())
 }
 
-// What is known of the men: once for a position, also where its king is attacked. Not inlined, since few calls of the cursor
-// are the first ones.
+// What is known of the men: once for a position, also where its king is attacked. Not inlined, since few calls of the
+// cursor are the first ones.
 #[inline(never)]
 fn find_men(position: &Position) -> Men
     ensures { AreMen position.now result }

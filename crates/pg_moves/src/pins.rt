@@ -86,10 +86,9 @@ fn seen_if_pinned(board: &Board, square: Square, color: Color, kind: Kind) -> Sq
     }
 }
 
-// The squares of the men that may be pinned: the king's alone where he would not be attacked with none of
-// his men on the board. Else all in check, and else the king's and those that are seen from there along the
-// lines of rooks, or of bishops, by which he would be attacked then. Not inlined: else `next_legal`, which asks, spills its
-// registers.
+// The squares of the men that may be pinned: the king's alone where he would not be attacked with none of his men on
+// the board. Else all in check, and else the king's and those that are seen from there along the lines of rooks, or of
+// bishops, by which he would be attacked then. Not inlined: else `next_legal`, which asks, spills its registers.
 #[inline(never)]
 pub(crate) fn maybe_pinned(position: &Position, board: &Board) -> SquareSet
     requires { board.now ≡ position.now.board }

@@ -42,8 +42,8 @@ pub(crate) fn no_turn(left: SquareSet) -> Turn
     }
 }
 
-// A man begins who has legal moves to just these squares, if there are any. What is kept of him is written part by part: whole it
-// is copied with what lies between its parts.
+// A man begins who has legal moves to just these squares, if there are any. What is kept of him is written part by
+// part: whole it is copied with what lies between its parts.
 #[inline(always)]
 fn begin_exact(
     position: &Position,

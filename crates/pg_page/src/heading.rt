@@ -137,8 +137,8 @@ fn write_numbers<W: Sink>(
     write_number(second, other, out)
 }
 
-/// Appends how many records a certificate that was checked has, and how many of its nodes are named: the sentence of a page
-/// up to the words behind these numbers.
+/// Appends how many records a certificate that was checked has, and how many of its nodes are named: the sentence of a
+/// page up to the words behind these numbers.
 ///
 /// # Errors
 /// `Refused` where the sink has failed.

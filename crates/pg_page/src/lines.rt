@@ -115,8 +115,8 @@ fn write_bytes<W: Sink>(bytes: &[u8], out: &mut W) -> Result<(), Refused>
 }
 
 // Appends a text, with what has a meaning in HTML written as an entity. A text that has none, as most, goes out by one
-// call: a push of one byte costs some thirty instructions, and a sink that gathers can spare them. The call makes the pieces
-// of such pushes, since what stands in a file after a write that fails is not to hang on what a text is made of.
+// call: a push of one byte costs some thirty instructions, and a sink that gathers can spare them. The call makes the
+// pieces of such pushes, since what stands in a file after a write that fails is not to hang on what a text is made of.
 pub(crate) fn write_escaped<W: Sink>(text: &str, out: &mut W) -> Result<(), Refused>
     ensures { MayPush W.held W.has_failed (Adds (escaped text.now)) out.old out.new result }
 {

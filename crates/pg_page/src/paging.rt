@@ -52,8 +52,8 @@ fn has_journeys(bounds: &[Box<dyn Bound>]) -> bool {
 }
 
 // Writes the page of a certificate that is right, with what a third reading tells of its trees. Where that reading
-// gives something else than a certificate of the problem, the page says that it stops there. Not inlined: what it needs of the
-// stack would lie below the check too.
+// gives something else than a certificate of the problem, the page says that it stops there. Not inlined: what it needs
+// of the stack would lie below the check too.
 #[inline(never)]
 fn show<R: Source, W: Sink>(
     problem: &Problem,

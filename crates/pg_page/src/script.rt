@@ -3,27 +3,35 @@
 
 // What the script fills.
 pub(crate) const VIEWER: &str = "<h2>The proof</h2>
-<p class='hint'>Choose a move to go on. The arrow keys do the same: left is back, right goes on along the chosen game, or else by the first move that leads on. The address of this page keeps the moves so far, so a line can be sent to somebody.</p>
+<p class='hint'>Choose a move to go on. The arrow keys do the same: left is back, right goes on along the chosen \
+game, or else by the first move that leads on. The address of this page keeps the moves so far, so a line can be \
+sent to somebody.</p>
 <section id='viewer' hidden>
 <div id='left'><div id='board'></div>
-<div id='bar'><button id='first' title='to the start'>&#171;</button> <button id='back' title='one move back (left arrow)'>&#8249;</button> <button id='next' title='one move on (right arrow)'>&#8250;</button> <button id='last' title='to the end of the game'>&#187;</button></div>
+<div id='bar'><button id='first' title='to the start'>&#171;</button> <button id='back' title='one move back (left \
+arrow)'>&#8249;</button> <button id='next' title='one move on (right arrow)'>&#8250;</button> <button id='last' \
+title='to the end of the game'>&#187;</button></div>
 <p id='line'></p></div>
 <div id='right'><p id='words' aria-live='polite'></p><div id='moves'></div></div>
 </section>
 <noscript><p>The proof is shown by a script, which is part of this page.</p></noscript>
 <h2>Shorter games</h2>
 <ul id='shorter'></ul>
-<p class='small'>The verdict is proved: <code>pg</code> writes a page only where its proved check of the certificate has said yes. The explanations on this page are not proved; they are the words of <code>pg why</code>, from the same certificate. Who wants to be sure runs <code>pg check</code>.</p>
+<p class='small'>The verdict is proved: <code>pg</code> writes a page only where its proved check of the certificate \
+has said yes. The explanations on this page are not proved; they are the words of <code>pg why</code>, from the same \
+certificate. Who wants to be sure runs <code>pg check</code>.</p>
 ";
 
-// How the script names the bounds of cuts, and how where journeys are one of them. A page without them has the same script as ever.
+// How the script names the bounds of cuts, and how where journeys are one of them. A page without them has the same
+// script as ever.
 pub(crate) const NAMES: &str = "4: 'travel' };
   var KINDS = ['captures', 'promotions', 'pawn files', 'travel', ";
 
 pub(crate) const NAMES_WITH_JOURNEYS: &str = "4: 'travel', 5: 'journeys' };
   var KINDS = ['captures', 'promotions', 'pawn files', 'travel', 'journeys', ";
 
-// The script. It folds the lines of the trees (docs/FORMATS.md) into nodes, and shows the one at which the reader stands.
+// The script. It folds the lines of the trees (docs/FORMATS.md) into nodes, and shows the one at which the reader
+// stands.
 pub(crate) const SCRIPT: &str = "'use strict';
 (function () {
   var LETTERS = 'ABCDEFGHIJKLMNOPQRSTUVWXYZabcdefghijklmnopqrstuvwxyz0123456789-_';
@@ -117,7 +125,8 @@ pub(crate) const SCRIPT: &str = "'use strict';
   function many(count, one, more) { return count === 0 ? 'no ' + one : count === 1 ? '1 ' + one : count + ' ' + more; }
 
   function share(count, all, one, more) {
-    return (count === 0 ? 'none' : count) + ' of ' + all + (all === 1 ? ' move ' : ' moves ') + (count > 1 ? more : one);
+    return (count === 0 ? 'none' : count) + ' of ' + all + (all === 1 ? ' move ' : ' moves ') + (count > 1 ? more : \
+        one);
   }
 
   // How a child counts at a node with so many plies left.
@@ -185,7 +194,8 @@ pub(crate) const SCRIPT: &str = "'use strict';
     return board;
   }
 
-  // Plays a legal move: castling moves the rook too, a capture en passant takes the pawn beside, and a pawn may promote.
+  // Plays a legal move: castling moves the rook too, a capture en passant takes the pawn beside, and a pawn may \
+  promote.
   function play(board, move) {
     var man = board[move.from], promoted = /=(.)/.exec(move.san), rank = move.from - move.from % 8;
     var isPawn = man.toUpperCase() === 'P', isSide = move.from % 8 !== move.to % 8;
@@ -208,10 +218,12 @@ pub(crate) const SCRIPT: &str = "'use strict';
   function drawing(board) {
     var men = board.map(function (man, i) {
       var kind = man.toUpperCase(), color = man === kind ? 'w' : 'b';
-      return man === '.' ? '' : '<use class=\"' + color + '\" href=\"#m' + kind + '\" x=\"' + i % 8 + '\" y=\"' + (7 - Math.floor(i / 8)) +
+      return man === '.' ? '' : '<use class=\"' + color + '\" href=\"#m' + kind + '\" x=\"' + i % 8 + '\" y=\"' + \
+          (7 - Math.floor(i / 8)) +
         '\" width=\"1\" height=\"1\"/>';
     });
-    return '<svg class=\"board\" viewBox=\"-.5 0 8.5 8.5\" role=\"img\" aria-label=\"' + placementOf(board) + '\"><use href=\"#squares\"/>' +
+    return '<svg class=\"board\" viewBox=\"-.5 0 8.5 8.5\" role=\"img\" aria-label=\"' + placementOf(board) + \
+        '\"><use href=\"#squares\"/>' +
       men.join('') + '</svg>';
   }
 
@@ -276,7 +288,8 @@ pub(crate) const SCRIPT: &str = "'use strict';
   // ---- What is shown.
 
   function question() {
-    return 'pg why ' + problem.diagram + ' ' + problem.length + \" CERT '\" + (path.length ? movetext(sansOf(path), ' ') : '-') + \"'\";
+    return 'pg why ' + problem.diagram + ' ' + problem.length + \" CERT '\" + (path.length ? \
+        movetext(sansOf(path), ' ') : '-') + \"'\";
   }
 
   function showLine() {
@@ -321,8 +334,10 @@ pub(crate) const SCRIPT: &str = "'use strict';
     KINDS.slice(0, 5).forEach(function (kind) {
       if (kinds[kind]) showFolded(kinds[kind].length + ' excluded by ' + kind, kinds[kind], left, moves);
     });
-    if (kinds.reference) showFolded(kinds.reference.length + ' the same as after other moves', kinds.reference, left, moves);
-    if (kinds['played out']) showFolded(kinds['played out'].length + ' played out without a game', kinds['played out'], left, moves);
+    if (kinds.reference) showFolded(kinds.reference.length + ' the same as after other moves', \
+        kinds.reference, left, moves);
+    if (kinds['played out']) showFolded(kinds['played out'].length + ' played out without a game', \
+        kinds['played out'], left, moves);
     if (kinds.off) showFolded(many(kinds.off.length, 'move', 'moves') + ' not on the diagram', kinds.off, left, moves);
   }
 
@@ -330,7 +345,8 @@ pub(crate) const SCRIPT: &str = "'use strict';
     var board = boardAfter(path), left = plies - path.length, entry = entryOf(path);
     element('board').innerHTML = drawing(board);
     element('viewer').dataset.placement = placementOf(board);
-    element('words').textContent = after(sansOf(path)) + ': ' + (entry ? wordsOf(entry, left) : 'not told on this page') +
+    element('words').textContent = after(sansOf(path)) + ': ' + (entry ? wordsOf(entry, left) : \
+        'not told on this page') +
       (note ? ' (' + note + ')' : '');
     element('first').disabled = element('back').disabled = !path.length;
     element('next').disabled = !nextMove();
@@ -344,7 +360,8 @@ pub(crate) const SCRIPT: &str = "'use strict';
     var tree, root, list = element('shorter'), said;
     for (tree = 0; tree < plies && roots[tree] !== undefined; tree++) {
       root = entryAt(roots[tree], true);
-      said = root.node ? many(counts[tree] || 0, 'expanded node', 'expanded nodes') + ', below which no game ends on the diagram' :
+      said = root.node ? many(counts[tree] || 0, 'expanded node', 'expanded nodes') + ', \
+          below which no game ends on the diagram' :
         wordsOf(root, tree);
       make('li', Math.floor(tree / 2) + (tree % 2 ? '.5' : '.0') + ' moves: ' + said, list);
     }
@@ -365,7 +382,8 @@ pub(crate) const SCRIPT: &str = "'use strict';
   // How much of the tree is told.
   function showExtent() {
     var told = Object.keys(nodes).filter(function (i) { return nodes[i].isTold; }).length, all = counts[plies] || 0;
-    var text = told < all ? 'Of the tree of ' + problem.length + ' moves this page has ' + told + ' of ' + many(all, 'expanded node', 'expanded nodes') +
+    var text = told < all ? 'Of the tree of ' + problem.length + ' moves this page has ' + told + ' of ' + \
+        many(all, 'expanded node', 'expanded nodes') +
       '; where it stops, it says what to ask.' : '';
     if (isBroken) text += ' The certificate changed while this page was written, so the page is not whole.';
     if (text) element('viewer').insertAdjacentElement('beforebegin', make('p', text, document.body));

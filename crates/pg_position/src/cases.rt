@@ -105,7 +105,8 @@ fn pawn_case(state: &State, m: &Move) -> Option<StepKind>
     }
 }
 
-// The case that a king's move is, if it is one. It is no part of the caller's code, since castling asks after many squares.
+// The case that a king's move is, if it is one. It is no part of the caller's code, since castling asks after many
+// squares.
 #[inline(never)]
 fn king_case(state: &State, m: &Move) -> Option<StepKind>
     requires { m.now.promotion ≡ None }

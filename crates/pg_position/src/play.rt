@@ -95,8 +95,9 @@ impl State {
         }
     }
 
-    // The state after a move that is known to be legal. What a rare move leaves has a name of its own: were it written where the
-    // answer stands, that would be memory, and a common move's parts would be stored there and copied. Inlined for the same reason.
+    // The state after a move that is known to be legal. What a rare move leaves has a name of its own: were it written
+    // where the answer stands, that would be memory, and a common move's parts would be stored there and copied.
+    // Inlined for the same reason.
     #[inline(always)]
     pub(crate) fn after_legal(&self, m: &Move) -> State
         requires position { IsPosition self.now }

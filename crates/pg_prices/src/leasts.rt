@@ -96,8 +96,8 @@ struct Castled {
     least: Two,
 }
 
-// The way of a wing, by the least distances of the men that cannot castle; none where it never takes fewer plies than the
-// way without castling.
+// The way of a wing, by the least distances of the men that cannot castle; none where it never takes fewer plies than
+// the way without castling.
 fn way_of(two: Two, rows: &Rows, rights: Rights, wing: Wing, other: Wing) -> Option<Castled> {
     let color = rows.color();
     if !rights.holds(color, wing) || !rows.may_pay(wing) {
@@ -164,7 +164,8 @@ fn sum_of(least: [u8; MOST_MEN]) -> u16 {
     sum
 }
 
-// The least distances that a move may lower: no man has 255, which stands for those to targets that are reached already.
+// The least distances that a move may lower: no man has 255, which stands for those to targets that are reached
+// already.
 fn lowerable(least: [u8; MOST_MEN]) -> [u8; MOST_MEN] {
     let least = u8x16::from_array(least);
     let are_reached = least.simd_eq(u8x16::splat(0));
@@ -194,9 +195,9 @@ fn of_few(least: [u8; MOST_MEN], most: u32, rows: &Rows, kind: Kind, men: Square
     few
 }
 
-// The men of a board after any move of whom the sum of the least distances and so many more is above so many plies. A move brings
-// a man nearer to a target by one at most, which lowers the sum by one only where no man was nearer to it. So all that has to be known of a
-// man is how many of the least distances are his.
+// The men of a board after any move of whom the sum of the least distances and so many more is above so many plies. A
+// move brings a man nearer to a target by one at most, which lowers the sum by one only where no man was nearer to it.
+// So all that has to be known of a man is how many of the least distances are his.
 fn cut_off_by(two: &Two, more: u16, plies: u8, rows: &Rows, board: &Board) -> SquareSet {
     let sum = sum_of(two.first).saturating_add(more);
     let above = u32::from(sum.saturating_sub(u16::from(plies)));
@@ -245,9 +246,9 @@ impl Leasts {
         }
     }
 
-    /// The men of a board after each move of whom, whatever its square, the least distances sum to more than so many plies in each
-    /// way, with or without castling, so that the need of travel is above them: no move brings a man nearer to a target than by
-    /// one. The board is that of which these distances are.
+    /// The men of a board after each move of whom, whatever its square, the least distances sum to more than so many
+    /// plies in each way, with or without castling, so that the need of travel is above them: no move brings a man
+    /// nearer to a target than by one. The board is that of which these distances are.
     pub fn cut_off(&self, rows: &Rows, board: &Board, plies: u8) -> SquareSet {
         let men = cut_off_by(&self.free, 0, plies, rows, board);
         let short = cut_off_castled(&self.king_side, plies, rows, board);

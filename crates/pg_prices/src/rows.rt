@@ -206,8 +206,8 @@ fn castled(color: Color, wing: Wing) -> ((u8, u8), (u8, u8)) {
     (king, rook)
 }
 
-// Whether king or rook, when they have castled, is nearer to a target than both are at home. Else no need of travel is less
-// with the castling than without.
+// Whether king or rook, when they have castled, is nearer to a target than both are at home. Else no need of travel is
+// less with the castling than without.
 fn may_pay(rows: &Vec<[u8; MOST_MEN]>, color: Color, wing: Wing) -> bool {
     let ((king, king_to), (rook, rook_to)) = castled(color, wing);
     let mut home = row_at(rows, place(Kind::King, king));

@@ -14,8 +14,8 @@ use pg_journeys::Facts;
 use pg_searcher::{forecast, slacks};
 use std::alloc::{AllocError, Global};
 
-// What may be expected of a search for games of a length: the hundredths of the logarithm to the base 10 of the nodes that one by
-// journeys may visit, and whether one without them may visit ten times as many.
+// What may be expected of a search for games of a length: the hundredths of the logarithm to the base 10 of the nodes
+// that one by journeys may visit, and whether one without them may visit ten times as many.
 #[derive(Clone, Copy)]
 pub(crate) struct Expected {
     pub(crate) hundredths: u16,
@@ -92,8 +92,8 @@ fn is_tenfold(hundredths: u32, other: u16) -> bool
     u32::from(other) + 100 <= hundredths
 }
 
-// What may be expected of a search for games of a length; nothing where no length is asked, where something is known against
-// such games, or where a colour has too few plies for its men.
+// What may be expected of a search for games of a length; nothing where no length is asked, where something is known
+// against such games, or where a colour has too few plies for its men.
 pub(crate) fn expected_of(
     alloc: Global,
     diagram: &Diagram,

@@ -297,11 +297,11 @@ pub fn run_show<W: Sink>(
 
 /// The same with a length in moves, 64.0 at most, of which a text says how long it is: behind what a colour needs
 /// stands how many of its plies of a game of that length are left over, or how many are short. Below these lines stands
-/// what the bound by journeys knows of the games of that length: a line a colour, with the squares on which its captures
-/// land, where they are eight or fewer, and its men who never move; no line where neither is known. Where the bound
-/// excludes these games, one line says so. Where nothing is known against them and neither colour has too few plies for
-/// its men, a last line says from how many to how many nodes a search by journeys may visit, by a rule of thumb, and where by
-/// `forecast` one without them visits ten times more.
+/// what the bound by journeys knows of the games of that length: a line a colour, with the squares on which its
+/// captures land, where they are eight or fewer, and its men who never move; no line where neither is known. Where the
+/// bound excludes these games, one line says so. Where nothing is known against them and neither colour has too few
+/// plies for its men, a last line says from how many to how many nodes a search by journeys may visit, by a rule of
+/// thumb, and where by `forecast` one without them visits ten times more.
 ///
 /// # Errors
 /// In this order: `Diagram` and `Length` where that text is refused, with that refusal; `Memory` where a growth was

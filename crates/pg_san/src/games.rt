@@ -69,8 +69,9 @@ fn shared(game: &[Move], known: &[Move]) -> usize
     game.len()
 }
 
-// The first ply, counted from 1, whose move is not legal. The moves at its beginning that it shares with a game from the initial
-// array are legal, so they are made and not tried: a list is mostly added to in canonical order, where neighbours begin alike.
+// The first ply, counted from 1, whose move is not legal. The moves at its beginning that it shares with a game from
+// the initial array are legal, so they are made and not tried: a list is mostly added to in canonical order, where
+// neighbours begin alike.
 fn first_illegal(game: &[Move], known: &[Move]) -> Option<usize>
     requires { IsFromArray known.now }
     ensures { MatchOption result (IsFromArray game.now) (λ ply. IsIllegalAt game.now ply) }
@@ -104,8 +105,8 @@ fn is_behind(games: &[Vec<Move>], game: &[Move]) -> bool
     }
 }
 
-// The place that the game would take among games in canonical order; none where it is among them. A search finds its games in that
-// order, and most lists are read in it, so the last game is asked first.
+// The place that the game would take among games in canonical order; none where it is among them. A search finds its
+// games in that order, and most lists are read in it, so the last game is asked first.
 fn place(games: &[Vec<Move>], game: &[Move]) -> Option<usize>
     requires { IsStrictlySortedBy game_cmp (map (λ v. v.items) games.now) }
     ensures { MatchOption result

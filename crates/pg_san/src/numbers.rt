@@ -11,8 +11,8 @@ fn square_number(square: Option<Square>) -> u64 {
     }
 }
 
-// A number in which the squares of either colour's men tell, those of pawns, knights and rooks, and the passed square. What else a
-// position has does not: few positions of one list differ in that alone.
+// A number in which the squares of either colour's men tell, those of pawns, knights and rooks, and the passed square.
+// What else a position has does not: few positions of one list differ in that alone.
 pub(crate) fn position_number(position: &Position) -> u64 {
     let board = position.board();
     let sets = board.sets();

@@ -108,8 +108,8 @@ fn write_new(known: &mut [Written], place: usize, here: &mut Position, m: &Move)
     text
 }
 
-/// The text of a legal move, as `write` has it, and goes on to where the move leads: by what is known, which grows, or by
-/// writing it. Room of any length will do, also none: a text is kept where its place is within. Takes no memory.
+/// The text of a legal move, as `write` has it, and goes on to where the move leads: by what is known, which grows, or
+/// by writing it. Room of any length will do, also none: a text is kept where its place is within. Takes no memory.
 pub fn write_known(known: &mut [Written], here: &mut Position, m: &Move) -> San
     requires known { All IsWritten known.old }
     requires legal { IsLegal here.old m.now }

@@ -157,8 +157,8 @@ fn excludes(means: Means, needs: &Needs) -> bool {
     needs.travel != UNKNOWN && (i16::from(needs.pawns) > means.owed || needs.travel > means.plies)
 }
 
-// Whether the bound by journeys excludes a node with so many plies left. It stands out of line: where it is not asked, nothing
-// is to make room for what it needs.
+// Whether the bound by journeys excludes a node with so many plies left. It stands out of line: where it is not asked,
+// nothing is to make room for what it needs.
 #[inline(never)]
 pub(crate) fn journeys_exclude(diagram: &Diagram, position: &Position, left: u8) -> bool
     ensures { IsTrue result ↔ JourneysHold diagram.now position.now left }

@@ -130,8 +130,8 @@ pub(crate) struct Output {
 }
 
 impl Output {
-    // Of a certificate of which nothing is written, with so many nodes that may be visited. Where a diagram is told, nodes
-    // are cut by journeys to it.
+    // Of a certificate of which nothing is written, with so many nodes that may be visited. Where a diagram is told,
+    // nodes are cut by journeys to it.
     pub(crate) fn new(alloc: Global, nodes: u64, journeys: Option<Diagram>) -> Output
         ensures { result.writer.failed ≡ false }
     {
@@ -268,8 +268,8 @@ pub(crate) struct Recorder {
 }
 
 impl Recorder {
-    // Of a certificate of which nothing is written, with so many nodes that may be visited. Where a diagram is told, nodes
-    // are cut by journeys to it.
+    // Of a certificate of which nothing is written, with so many nodes that may be visited. Where a diagram is told,
+    // nodes are cut by journeys to it.
     pub(crate) fn new(
         alloc: Global,
         judge: Judge,
@@ -292,8 +292,9 @@ pub(crate) struct Findings {
     pub(crate) fertile: bool,
 }
 
-// The frames of open nodes, the topmost last, and behind them those of nodes that have closed: a frame stays where it is until the
-// next node takes its place, since to take it off the list would move it, and put a frame of nothing there.
+// The frames of open nodes, the topmost last, and behind them those of nodes that have closed: a frame stays where it
+// is until the next node takes its place, since to take it off the list would move it, and put a frame of nothing
+// there.
 pub(crate) type Frames = ArrayVec<Frame, 128>;
 
 // Puts the frame of a node in the place behind those of so many open ones.
@@ -314,8 +315,8 @@ pub(crate) fn open_frames(frames: &Frames, open: u8) -> &[Frame] {
     }
 }
 
-// How many nodes are open, what writes the records of nodes, and what was found. The frames stand apart: here they would be moved
-// with it, and each move of so large a list takes room of its own on the stack.
+// How many nodes are open, what writes the records of nodes, and what was found. The frames stand apart: here they
+// would be moved with it, and each move of so large a list takes room of its own on the stack.
 #[derive(Drop)]
 pub(crate) struct Machine {
     pub(crate) open: u8,

@@ -60,8 +60,8 @@ pub(crate) fn within(position: &Position, man: Man, from: Square) -> SquareSet {
     }
 }
 
-// Where a man may go by a move after which another one may lead to a board, and maybe more. What he moves to stands there
-// in the end, or a man that takes him: only a pawn that is taken en passant leaves his square empty.
+// Where a man may go by a move after which another one may lead to a board, and maybe more. What he moves to stands
+// there in the end, or a man that takes him: only a pawn that is taken en passant leaves his square empty.
 pub(crate) fn goes(goal: &Board, position: &Position, man: Man, from: Square) -> SquareSet {
     let squares = within(position, man, from);
     match man.kind {

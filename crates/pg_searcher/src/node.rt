@@ -98,8 +98,8 @@ struct Keyed {
     left: u8,
 }
 
-// Whether journeys to a diagram, where one is told, exclude a node with so many plies left. Where none is, that is but one
-// branch.
+// Whether journeys to a diagram, where one is told, exclude a node with so many plies left. Where none is, that is but
+// one branch.
 #[inline(always)]
 fn is_cut_by_journeys(journeys: &Option<Diagram>, position: &Position, left: u8) -> bool
     ensures { MatchOption journeys.now (result ≡ false)
@@ -136,9 +136,9 @@ fn open<W: Sink>(
     }
 }
 
-// A node to which nothing refers, and that no other cut excludes, is cut by journeys where they are asked and exclude it;
-// otherwise it is open from now on. Journeys are asked of the position and not of the key, which has the passed square only
-// where a capture there is legal.
+// A node to which nothing refers, and that no other cut excludes, is cut by journeys where they are asked and exclude
+// it; otherwise it is open from now on. Journeys are asked of the position and not of the key, which has the passed
+// square only where a capture there is legal.
 fn open_or_cut<W: Sink>(
     output: &mut Output,
     sink: &mut W,
@@ -159,9 +159,9 @@ fn open_or_cut<W: Sink>(
     }
 }
 
-// A node that no cut by other bounds or by prices excludes, with so many plies left, at least two: a reference where one of
-// the same future has closed barren; otherwise it is open from now on, unless it is cut by journeys. The answer is whether it
-// is open, here and below.
+// A node that no cut by other bounds or by prices excludes, with so many plies left, at least two: a reference where
+// one of the same future has closed barren; otherwise it is open from now on, unless it is cut by journeys. The answer
+// is whether it is open, here and below.
 fn stay<W: Sink>(
     output: &mut Output,
     sink: &mut W,

@@ -6,9 +6,10 @@ use pg_board::{Color, Kind, Man, Square, SquareSet};
 use pg_position::{Move, Position};
 use pg_prices::{Leasts, Rest, Rows};
 
-// What is known of an open node: both colours, how many plies are left after a move, the least distances of
-// the men of the side to move, all men, and that side's numbers after a move of its own that takes nothing. There are men of that
-// side after each plain move of whom a bound excludes, whatever the move: those men, and the bound. The king, who may castle, is known.
+// What is known of an open node: both colours, how many plies are left after a move, the least distances of the men of
+// the side to move, all men, and that side's numbers after a move of its own that takes nothing. There are men of that
+// side after each plain move of whom a bound excludes, whatever the move: those men, and the bound. The king, who may
+// castle, is known.
 #[derive(Clone, Copy)]
 pub(crate) struct Outlook {
     pub(crate) sides: Sides,
@@ -111,8 +112,8 @@ impl Outlook {
         }
     }
 
-    // Whether the bound excludes after each move of the man on a square to a set, which are all without promotion or capture en
-    // passant.
+    // Whether the bound excludes after each move of the man on a square to a set, which are all without promotion or
+    // capture en passant.
     #[inline(always)]
     pub(crate) fn cuts_all(&self, from: Square, targets: SquareSet) -> bool {
         (self.cut_off - self.kings).contains(from) && !targets.meets(self.occupied)

@@ -64,8 +64,8 @@ fn close_top(frames: &Frames, machine: &mut Machine) -> Result<(), SearchFault>
     }
 }
 
-// The nodes after the further moves of the man that moved last, with one ply left, are visited all at once, where he stood
-// off these squares.
+// The nodes after the further moves of the man that moved last, with one ply left, are visited all at once, where he
+// stood off these squares.
 fn expand_rest<W: Sink>(
     squares: SquareSet,
     moves: &mut LegalMoves,
@@ -92,8 +92,8 @@ fn expand_rest<W: Sink>(
     output.expansions(count, sink)
 }
 
-// The nodes after all moves of a node with two plies left are visited at once, where no game ends on the diagram below it
-// and so many may be visited; whether they were is the answer.
+// The nodes after all moves of a node with two plies left are visited at once, where no game ends on the diagram below
+// it and so many may be visited; whether they were is the answer.
 fn expand_all<W: Sink>(
     diagram: &Diagram,
     position: &Position,
@@ -195,8 +195,8 @@ fn play_last_two<W: Sink>(
     }
 }
 
-// The move that was handed out last and all further moves of its man are cut at once, where a bound excludes after each of them;
-// whether they were is the answer.
+// The move that was handed out last and all further moves of its man are cut at once, where a bound excludes after each
+// of them; whether they were is the answer.
 #[inline(always)]
 fn cut_man<W: Sink>(
     moves: &mut LegalMoves,
@@ -307,8 +307,8 @@ fn next_opened<W: Sink>(
     Err(SearchFault::Budget)
 }
 
-// The moves of the node at a place are played up to the first that leads to a node that opens. The answer is whether there is one.
-// Whether a game below the child that closed last ends on the diagram is kept with it.
+// The moves of the node at a place are played up to the first that leads to a node that opens. The answer is whether
+// there is one. Whether a game below the child that closed last ends on the diagram is kept with it.
 fn next_opened_at<W: Sink>(
     question: &Question,
     frames: &mut Frames,
@@ -330,7 +330,8 @@ fn next_opened_at<W: Sink>(
     }
 }
 
-// The moves of the topmost node are played until a node opens, which is the topmost from now on; where none does it closes.
+// The moves of the topmost node are played until a node opens, which is the topmost from now on; where none does it
+// closes.
 fn play_until_opened<W: Sink>(
     question: &Question,
     left: u8,

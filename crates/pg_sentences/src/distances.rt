@@ -18,15 +18,15 @@ pub(crate) const KINDS: [Kind; 6] = [
     Kind::King,
 ];
 
-// The distances to the colour's first sixteen men of a diagram, in the order of their squares: 255 for none, and 0 where
-// there are not so many men.
+// The distances to the colour's first sixteen men of a diagram, in the order of their squares: 255 for none, and 0
+// where there are not so many men.
 type Row = [u8; 16];
 
 // A row for each kind and each square.
 type Rows = [Row; 384];
 
-/// The distances of each man on each square to the men of its colour in a diagram, for the words of many nodes: 768 rows
-/// of 16 bytes, made once.
+/// The distances of each man on each square to the men of its colour in a diagram, for the words of many nodes: 768
+/// rows of 16 bytes, made once.
 #[derive(Drop)]
 pub struct Distances {
     goal: Board,
@@ -37,8 +37,8 @@ pub struct Distances {
 // For each kind the squares whose rows are written.
 type Known = [SquareSet; 6];
 
-/// Distances as [`Distances`] has them, of which the row of a man on a square is written when he is first asked for: a page
-/// with few cuts asks for few of them.
+/// Distances as [`Distances`] has them, of which the row of a man on a square is written when he is first asked for: a
+/// page with few cuts asks for few of them.
 #[derive(Drop)]
 pub struct GrowingDistances {
     distances: Distances,
@@ -55,8 +55,8 @@ pub(crate) struct Ways {
     pub(crate) long: Option<u16>,
 }
 
-// What a colour needs, beside what it has: no more than that; more than any number, and the first man of the diagram that
-// comes from nowhere; or more in each way.
+// What a colour needs, beside what it has: no more than that; more than any number, and the first man of the diagram
+// that comes from nowhere; or more in each way.
 #[derive(Clone, Copy)]
 pub(crate) enum Need {
     Within,
@@ -253,7 +253,8 @@ impl Distances {
         distances
     }
 
-    // With rows that are not written yet. They are written where they lie: apart they would take as much of the stack again.
+    // With rows that are not written yet. They are written where they lie: apart they would take as much of the stack
+    // again.
     fn unfilled(goal: Board) -> Distances {
         Distances {
             goal,
@@ -275,9 +276,9 @@ impl Distances {
         }
     }
 
-    // The value of a castling way, where its right is held and it may be less than that of a way without castling, whose
-    // least distances are these: king and rook count where castling brings them, and the other men where they stand. A right
-    // is held only with king and rook at home.
+    // The value of a castling way, where its right is held and it may be less than that of a way without castling,
+    // whose least distances are these: king and rook count where castling brings them, and the other men where they
+    // stand. A right is held only with king and rook at home.
     fn castled(
         &self,
         position: &Position,
@@ -327,8 +328,8 @@ impl Distances {
         if is_within(free, plies) {
             return Need::Within;
         }
-        // A king and a rook come to each square from any other. So where a man cannot come to be, castling, which moves no
-        // other men, changes nothing.
+        // A king and a rook come to each square from any other. So where a man cannot come to be, castling, which moves
+        // no other men, changes nothing.
         if free.is_none() {
             return Need::Nowhere(self.unreached(color, &all));
         }

@@ -17,8 +17,8 @@ pub(crate) enum Obstacle {
     Plans(Lack),
 }
 
-// What a colour without a plan lacks: the moves that it has, what it needs, and the captures that make it so much, if it
-// would have a plan with its men captured where they stand.
+// What a colour without a plan lacks: the moves that it has, what it needs, and the captures that make it so much, if
+// it would have a plan with its men captured where they stand.
 #[derive(Clone, Copy)]
 pub(crate) struct Lack {
     pub(crate) color: Color,
@@ -117,7 +117,8 @@ fn owed_men(node: &Node, color: Color) -> u8 {
     }
 }
 
-// What a colour needs beyond its own moves, of which so many are captures that it owes; none where each measure has enough.
+// What a colour needs beyond its own moves, of which so many are captures that it owes; none where each measure has
+// enough.
 fn needed_of(least: &LeastCounts, own: u8, owed: u8) -> Option<Needed> {
     let Some(moves) = least.moves else {
         return Some(Needed::Endless);

@@ -26,8 +26,8 @@ pub(crate) fn kind_name(kind: Kind) -> &'static str {
     }
 }
 
-// Appends texts one after the other, up to the first that has no room. By hand, since a formatted write, which ends there
-// too, costs some fifty instructions more for each of them, and a page has such words at each cut.
+// Appends texts one after the other, up to the first that has no room. By hand, since a formatted write, which ends
+// there too, costs some fifty instructions more for each of them, and a page has such words at each cut.
 pub(crate) fn put_all<const CAP: usize>(text: &mut ArrayString<CAP>, parts: &[&str]) {
     for part in parts {
         if text.try_push_str(part).is_err() {
@@ -68,8 +68,8 @@ pub(crate) fn put_number<const CAP: usize>(text: &mut ArrayString<CAP>, number: 
     }
 }
 
-// Appends so many things, as `many` names them, with what follows them: the words for none, for one, and for more behind
-// the number. In place, since a phrase of its own is cleared and copied.
+// Appends so many things, as `many` names them, with what follows them: the words for none, for one, and for more
+// behind the number. In place, since a phrase of its own is cleared and copied.
 pub(crate) fn put_many(text: &mut Sentence, count: u64, none: &str, one: &str, more: &str) {
     let words = match count {
         0 => none,

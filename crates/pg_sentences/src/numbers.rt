@@ -27,7 +27,8 @@ pub(crate) enum Castling {
     QueenSide,
 }
 
-// What excludes a colour, in numbers, which are found for many colours that are not excluded: the words come after them.
+// What excludes a colour, in numbers, which are found for many colours that are not excluded: the words come after
+// them.
 #[derive(Clone, Copy)]
 pub(crate) enum Excess {
     // It has captured so many men more than the diagram lacks, less than none as a number of men to capture.

@@ -208,9 +208,9 @@ pub fn reason_of_cut(
     }
 }
 
-/// Writes what `reason_of_cut` says into a sentence that is empty, for a record whose price lists, where it has any, stand
-/// elsewhere: the same words, several times as fast for a cut by travel. The code of the bound; none where the record is
-/// no cut.
+/// Writes what `reason_of_cut` says into a sentence that is empty, for a record whose price lists, where it has any,
+/// stand elsewhere: the same words, several times as fast for a cut by travel. The code of the bound; none where the
+/// record is no cut.
 pub fn put_reason_of_cut(
     distances: &Distances,
     node: &Node,
@@ -243,8 +243,8 @@ pub fn reason_of_bounds(diagram: &Diagram, position: &Position, left: u8) -> Opt
     })
 }
 
-/// Writes what `reason_of_bounds` says into a sentence that is empty: the same words, several times as fast. The code of
-/// the bound; none where no bound is seen to exclude.
+/// Writes what `reason_of_bounds` says into a sentence that is empty: the same words, several times as fast. The code
+/// of the bound; none where no bound is seen to exclude.
 pub fn put_reason_of_bounds(distances: &Distances, node: &Node, text: &mut Sentence) -> Option<u8> {
     write_first(&Some(distances), node, text)
 }

@@ -114,8 +114,8 @@ pub(crate) fn write_nowhere(color: Color, missing: &Option<(Man, Square)>, text:
     }
 }
 
-// What travel excludes a colour by, without distances: it needs more moves than it has, or no number of moves is enough;
-// none where it does not.
+// What travel excludes a colour by, without distances: it needs more moves than it has, or no number of moves is
+// enough; none where it does not.
 fn travel_alone(node: &Node, color: Color) -> Option<Excess> {
     let own = own_plies(node, color);
     let Some(need) = need(color, node.diagram, node.position) else {

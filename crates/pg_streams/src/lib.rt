@@ -1,5 +1,5 @@
-//! What the program's streams go through: a buffer over a sink, sources whose records are counted, the line on the terminal
-//! that says how far a run is, and the games that a search meets.
+//! What the program's streams go through: a buffer over a sink, sources whose records are counted, the line on the
+//! terminal that says how far a run is, and the games that a search meets.
 #![tactic(auto)]
 
 mod gathered;

@@ -2,8 +2,8 @@
 
 use pg_searcher::next_tree;
 
-// The trees of a search: the plies of the one at work, the nodes that stood before it and that stand now, and the nodes of
-// the three trees before it, the longest last; 0 where there was none.
+// The trees of a search: the plies of the one at work, the nodes that stood before it and that stand now, and the nodes
+// of the three trees before it, the longest last; 0 where there was none.
 #[derive(Clone, Copy)]
 pub(crate) struct Trees {
     plies: u8,
@@ -29,8 +29,8 @@ impl Trees {
         self.last = [second, third, nodes];
     }
 
-    // The tree of so many plies is at work, and so many nodes were visited in all. A tree that nobody told of was cut at
-    // its root, which tells nothing of the next.
+    // The tree of so many plies is at work, and so many nodes were visited in all. A tree that nobody told of was cut
+    // at its root, which tells nothing of the next.
     pub(crate) fn reach(&mut self, plies: u8, nodes: u64) {
         if plies != self.plies {
             self.end_tree(self.now.saturating_sub(self.before));

@@ -28,7 +28,8 @@ fn fault_of(fault: ReadFault) -> UpgradeFault
     }
 }
 
-// Writes a cut by prices, which no certificate of version 1 has: a function of its own, since its record has some 400 bytes.
+// Writes a cut by prices, which no certificate of version 1 has: a function of its own, since its record has some 400
+// bytes.
 #[inline(never)]
 fn put_priced<W: Sink>(
     code: u8,

@@ -108,7 +108,8 @@ enum Kind {
     Line,
     /// A number that must be given, 255 at most.
     Number,
-    /// A number behind the name of the word, from the least one up: what it is called, the one that is usual, and the least.
+    /// A number behind the name of the word, from the least one up: what it is called, the one that is usual, and the
+    /// least.
     Limit(&'static str, &'static str, u64),
     /// A number behind the name of the word, 255 at most, which may be missing: what it is called.
     NumberOrNone(&'static str),

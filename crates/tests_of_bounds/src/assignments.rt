@@ -68,7 +68,8 @@ fn has_totals(found: Option<LeastTotals>, least: u16, pairs: &Table, size: usize
     }
 }
 
-// Whether all that is asked of these costs answers the least total and the pairs' totals, and nothing in a budget below.
+// Whether all that is asked of these costs answers the least total and the pairs' totals, and nothing in a budget
+// below.
 fn says(costs: &Costs, least: u16, pairs: &Table) -> bool {
     costs.size <= 16
         && least_total(costs).unwrap_or(u16::MAX) == least

@@ -9,7 +9,8 @@ use pg_position::Position;
 use pg_trial::Never;
 use std::process::Abort;
 
-// A diagram, a position and a colour, and the captures that the colour owes. In the last two it is after 1. e4 d5 2. exd5.
+// A diagram, a position and a colour, and the captures that the colour owes. In the last two it is after 1. e4 d5 2.
+// exd5.
 const OWED: &str =
     "rnb1kbnr/ppp1pppp/8/3q4/8/8/PPPP1PPP/RNBQKBNR | rnbqkbnr/pppppppp/8/8/8/8/PPPPPPPP/RNBQKBNR w KQkq - 0 1 | Black => 1
 rnb1kbnr/ppp1pppp/8/3q4/8/8/PPPP1PPP/RNBQKBNR | rnbqkbnr/pppppppp/8/8/8/8/PPPPPPPP/RNBQKBNR w KQkq - 0 1 | White => 1

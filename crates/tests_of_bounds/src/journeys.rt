@@ -1,5 +1,5 @@
-//! The bound by journeys: positions with the answers of a model that was written apart from it, what it says of facts, and what
-//! a colour needs that it excludes.
+//! The bound by journeys: positions with the answers of a model that was written apart from it, what it says of facts,
+//! and what a colour needs that it excludes.
 
 use crate::texts::{check_bound, check_line, color, diagram, position, row_of};
 use pg_captures::Bound;
@@ -8,8 +8,8 @@ use pg_journeys::{DeadColor, Facts, Journeys, dead_color, facts_for, least_count
 use pg_position::Position;
 use std::process::Abort;
 
-// Castling both ways in both colours, with the right and without; a capture en passant alone; promotion to wait for, of a man that
-// captures and of one that is captured; a wall that is missing; more than sixteen men; no ply left and 255.
+// Castling both ways in both colours, with the right and without; a capture en passant alone; promotion to wait for, of
+// a man that captures and of one that is captured; a wall that is missing; more than sixteen men; no ply left and 255.
 const CASES: &str = "4k3/8/8/8/8/8/8/5RK1 | 4k3/8/8/8/8/8/8/4K2R w K - 0 1 | 1 => no
 4k3/8/8/8/8/8/8/5RK1 | 4k3/8/8/8/8/8/8/4K2R w K - 0 1 | 2 => no
 4k3/8/8/8/8/8/8/5RK1 | 4k3/8/8/8/8/8/8/4K2R w - - 0 1 | 1 => yes
@@ -274,8 +274,9 @@ fn no_facts_where_it_excludes(rt: HostRuntime) {
     }
 }
 
-// The first colour that has no way alive, what it needs at least in moves and in quiet moves, and the square, by its number, of a man
-// of the diagram whom nobody comes to be; a dash for no number. Or none, where the bound does not exclude by plans.
+// The first colour that has no way alive, what it needs at least in moves and in quiet moves, and the square, by its
+// number, of a man of the diagram whom nobody comes to be; a dash for no number. Or none, where the bound does not
+// exclude by plans.
 const NEEDS: &str = "4k3/8/8/8/8/8/8/5RK1 | 4k3/8/8/8/8/8/8/4K2R w - - 0 1 | 1 => White 3 3 -
 4k3/8/8/8/8/8/8/5RK1 | 4k3/8/8/8/3n4/8/8/n3K2R w K - 0 1 | 3 => White 1 0 -
 8/7k/8/8/8/8/8/KQ6 | 8/P6k/8/8/8/8/8/K7 w - - 0 1 | 3 => White 3 3 -

@@ -1,4 +1,5 @@
-//! Where the cursor stands after `skip_to_solution`, held against a loop that tries one move after the other, as the first form did.
+//! Where the cursor stands after `skip_to_solution`, held against a loop that tries one move after the other, as the
+//! first form did.
 
 use pg_checker::skip_to_solution;
 use pg_fen::{Diagram, read_position};

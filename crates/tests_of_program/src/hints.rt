@@ -34,8 +34,8 @@ fn hints_on_diagrams(rt: HostRuntime) {
     }
 }
 
-// A list, of which a slash before `1.` parts the lines, the line and the ply of a word, and what is said of it: castling, promotion and
-// a capture in passing too, for either side.
+// A list, of which a slash before `1.` parts the lines, the line and the ply of a word, and what is said of it:
+// castling, promotion and a capture in passing too, for either side.
 const MOVES: &str = "1. e4 e5 2. Nf9 | 1 | 3 => the word is \"Nf9\"; legal there: Nf3, Nc3, Qf3
 e4 d5/1.e4 d5 2.ed5 Dxd5 | 2 | 4 => the word is \"Dxd5\"; men are K, Q, R, B and N, as in English
 e4 d5/1.e4 d5 2.ed5 qxd5 | 2 | 4 => the word is \"qxd5\"; legal there: Qxd5, b5, c5

@@ -1,5 +1,5 @@
-//! Tests of what no contract of `pg_files`, `pg_streams` and `pg_hints` says. They stand apart, since a crate that has tests is
-//! proved twice, without them and with them. What the commands say is tried on the built program, by scripts.
+//! Tests of what no contract of `pg_files`, `pg_streams` and `pg_hints` says. They stand apart, since a crate that has
+//! tests is proved twice, without them and with them. What the commands say is tried on the built program, by scripts.
 #![tactic(auto)]
 
 #[cfg(test)]

@@ -17,8 +17,8 @@ use pg_guide::*;
 use std::alloc::Global;
 use std::process::Abort;
 
-// What is answered with the four bounds, or with journeys as a fifth where the row ends so, by three readings of the certificate. A diagram, a length and moves
-// are asked.
+// What is answered with the four bounds, or with journeys as a fifth where the row ends so, by three readings of the
+// certificate. A diagram, a length and moves are asked.
 fn explain<R: Abort + AllocGlobal, S: Source, W: Sink>(
     rt: &R,
     asked: &str,

@@ -13,8 +13,8 @@ use pg_certificate::{FromRead, Sink, Source, ToWrite};
 use pg_page::*;
 use std::process::Abort;
 
-// What is answered with the four bounds, or with journeys as a fifth where the row ends so, by three readings of the certificate. A diagram, a length and a number of nodes
-// are asked.
+// What is answered with the four bounds, or with journeys as a fifth where the row ends so, by three readings of the
+// certificate. A diagram, a length and a number of nodes are asked.
 fn show<R: Abort + AllocGlobal, S: Source, W: Sink>(
     rt: &R,
     asked: &str,

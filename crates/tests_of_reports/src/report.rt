@@ -157,7 +157,8 @@ fn led_limits(nodes: u64, foreign: &str) -> LedLimits {
     }
 }
 
-// What a command answers: its word stands before its texts and the limit of records, or of nodes, which foreign moves follow.
+// What a command answers: its word stands before its texts and the limit of records, or of nodes, which foreign moves
+// follow.
 fn obey<R: Abort + AllocGlobal, S: Source, W: Sink>(
     rt: &R,
     asked: &str,

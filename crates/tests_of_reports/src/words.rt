@@ -1,5 +1,5 @@
-//! What is said of a cut, by distances to a diagram and without them, is what the old form says: over games of drawn moves,
-//! each position asked about diagrams of other such games.
+//! What is said of a cut, by distances to a diagram and without them, is what the old form says: over games of drawn
+//! moves, each position asked about diagrams of other such games.
 
 mod journeys;
 mod longest;
@@ -152,8 +152,8 @@ fn check_lists(rt: &impl Abort, distances: &mut Both, node: &Node, rows: &Rows) 
     check_priced(rt, distances, node, Travel::CODE, color, prices);
 }
 
-// So it is for each of the other records, one of them with a code that no bound has, and for what excludes first. The old form knows
-// no journeys.
+// So it is for each of the other records, one of them with a code that no bound has, and for what excludes first. The
+// old form knows no journeys.
 fn check_node(rt: &impl Abort, distances: &mut Both, node: &Node) {
     let prices = Prices::new(&[], &[]).expect(rt, "no prices");
     for code in [1u8, 2, 3, 4, 6] {

@@ -1,5 +1,5 @@
-//! Searches held against those of the searcher's first form, which goes from node to node (`searcher_by_nodes`): over games by
-//! chance, with limits that suffice and others that do not.
+//! Searches held against those of the searcher's first form, which goes from node to node (`searcher_by_nodes`): over
+//! games by chance, with limits that suffice and others that do not.
 
 mod journeys;
 mod led;
@@ -10,8 +10,8 @@ use pg_position::{Move, Position};
 use pg_san::Games;
 use std::process::Abort;
 
-// Games that others begin with: none; with promotions of either side, castling on either wing, a capture en passant, and
-// king and rooks that have moved, in reach; and one that ends by the capture en passant.
+// Games that others begin with: none; with promotions of either side, castling on either wing, a capture en passant,
+// and king and rooks that have moved, in reach; and one that ends by the capture en passant.
 const BEGUN: &str = "
 1. a4 h5 2. a5 h4 3. a6 h3 4. axb7 hxg2
 1. e4 e5 2. Nf3 Nf6 3. Be2 Be7

@@ -88,7 +88,8 @@ struct Told {
     denied: u32,
 }
 
-// What is told of a position and a diagram is right: where no pawn is about to promote, it is whether two moves lead there.
+// What is told of a position and a diagram is right: where no pawn is about to promote, it is whether two moves lead
+// there.
 fn check_one(
     rt: &impl Abort,
     alloc: Global,
@@ -106,7 +107,8 @@ fn check_one(
     told.denied = told.denied.saturating_add(u32::from(!said));
 }
 
-// Of a position, and of those that come of it by two moves and by four, diagrams that are two moves away from the first.
+// Of a position, and of those that come of it by two moves and by four, diagrams that are two moves away from the
+// first.
 #[test]
 fn two_moves_lead_or_not(rt: HostRuntime) {
     let mut told = Told { led: 0, denied: 0 };
@@ -131,9 +133,9 @@ fn two_moves_lead_or_not(rt: HostRuntime) {
     );
 }
 
-// Positions from which two moves lead to a diagram: a pawn that goes two squares is taken en passant; both castle; a man is
-// taken and avenged, so that its square is as before; a king takes and is not taken; a pawn goes two squares and is taken, since to
-// go one leaves its king attacked.
+// Positions from which two moves lead to a diagram: a pawn that goes two squares is taken en passant; both castle; a
+// man is taken and avenged, so that its square is as before; a king takes and is not taken; a pawn goes two squares and
+// is taken, since to go one leaves its king attacked.
 const LED: &str =
     "rnbqkbnr/ppp1pppp/8/8/3p4/8/PPPPPPPP/RNBQKBNR w KQkq - 0 1 | rnbqkbnr/ppp1pppp/8/8/8/2p5/PP1PPPPP/RNBQKBNR
 r3k2r/8/8/8/8/8/8/R3K2R w KQkq - 0 1 | 2kr3r/8/8/8/8/8/8/R4RK1

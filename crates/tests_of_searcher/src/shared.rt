@@ -1,4 +1,5 @@
-//! What the tests of searches share: a diagram and a length, fields of a row, what is answered in words, and moves by chance.
+//! What the tests of searches share: a diagram and a length, fields of a row, what is answered in words, and moves by
+//! chance.
 
 use arrayvec::ArrayString;
 use pg_fen::{Diagram, Length};

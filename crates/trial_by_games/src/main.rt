@@ -1,7 +1,8 @@
-//! Tries the bound by journeys with games: `trial_by_games GAMES PLIES` plays so many games of up to so many plies from the
-//! initial array, each move drawn by a fixed rule, and asks the bound of each position of a game with the plies that are left of it
-//! and the diagram of its end. None may be excluded. Captures, promotions and castling are drawn more often than other moves.
-//! Prints how many positions were asked, the same at each run. Anything else ends with a line on standard error and status 1.
+//! Tries the bound by journeys with games: `trial_by_games GAMES PLIES` plays so many games of up to so many plies from
+//! the initial array, each move drawn by a fixed rule, and asks the bound of each position of a game with the plies
+//! that are left of it and the diagram of its end. None may be excluded. Captures, promotions and castling are drawn
+//! more often than other moves. Prints how many positions were asked, the same at each run. Anything else ends with a
+//! line on standard error and status 1.
 #![tactic(auto)]
 
 mod dice;

@@ -36,7 +36,8 @@ pub(crate) fn end(
     Err(Halt::Found)
 }
 
-// The games are ended that go along the open nodes and by this move of a node with two plies left; whether there is one.
+// The games are ended that go along the open nodes and by this move of a node with two plies left; whether there is
+// one.
 fn end_behind(
     question: &Question,
     frames: &[Open],
@@ -120,7 +121,8 @@ fn end_of_man(
     Ok(is_met)
 }
 
-// So too for each move of the node. The man that moves first leaves a square on which the placements differ (`may_lead`).
+// So too for each move of the node. The man that moves first leaves a square on which the placements differ
+// (`may_lead`).
 pub(crate) fn end_near(
     question: &Question,
     frames: &[Open],

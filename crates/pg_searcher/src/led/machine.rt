@@ -31,7 +31,8 @@ impl Question<'_> {
     }
 }
 
-// Which moves of a node come next: the one that leads, those that are familiar, of few men or of more, or the foreign ones.
+// Which moves of a node come next: the one that leads, those that are familiar, of few men or of more, or the foreign
+// ones.
 #[derive(Clone, Copy, Debug, PartialEq, Eq)]
 pub(crate) enum Phase {
     Lead,
@@ -40,10 +41,10 @@ pub(crate) enum Phase {
     Foreign,
 }
 
-// An open node with at least two plies left: its position with the moves that are still to be played, the familiar ones that
-// are still to be tried, which of them come next, the one that led, the move that is being gone into, what is known of both
-// colours, its key, how many foreign moves may still come; whether a listed game lies below, and whether a foreign move was
-// refused there.
+// An open node with at least two plies left: its position with the moves that are still to be played, the familiar ones
+// that are still to be tried, which of them come next, the one that led, the move that is being gone into, what is
+// known of both colours, its key, how many foreign moves may still come; whether a listed game lies below, and whether
+// a foreign move was refused there.
 #[derive(Drop)]
 pub(crate) struct Open {
     pub(crate) moves: LegalMoves,
@@ -135,8 +136,8 @@ impl Sieve {
 pub(crate) type Frames = ArrayVec<Open, 128>;
 
 // What tells whether nodes are gone into, whether a foreign move was refused in this round, and the game that was
-// found. The open nodes stand apart: here they would be moved with it, and each move of so large a list takes room of its
-// own on the stack.
+// found. The open nodes stand apart: here they would be moved with it, and each move of so large a list takes room of
+// its own on the stack.
 #[derive(Drop)]
 pub(crate) struct Machine {
     pub(crate) sieve: Sieve,

@@ -43,9 +43,9 @@ fn is_cut(verdict: Cutting) -> bool {
     }
 }
 
-// A node that no cut by other bounds or by prices excludes: barren where one of the same future was, with as many foreign
-// moves, or where journeys exclude, if they are asked. They are asked of the position and not of the key, which has the
-// passed square only where a capture there is legal.
+// A node that no cut by other bounds or by prices excludes: barren where one of the same future was, with as many
+// foreign moves, or where journeys exclude, if they are asked. They are asked of the position and not of the key, which
+// has the passed square only where a capture there is legal.
 fn stay(
     question: &Question,
     sieve: &Sieve,

@@ -61,8 +61,8 @@ fn next_of(
     None
 }
 
-// The next familiar move of an open node that is not the one that leads. Where few men leave their squares in games these
-// few are tried, else all moves are gone through.
+// The next familiar move of an open node that is not the one that leads. Where few men leave their squares in games
+// these few are tried, else all moves are gone through.
 fn next_familiar(
     question: &Question,
     scene: &Scene,

@@ -84,7 +84,8 @@ fn machine_of(
     })
 }
 
-// How far a led search goes: to games of so many plies at most, within limits, and whether nodes are cut by journeys too.
+// How far a led search goes: to games of so many plies at most, within limits, and whether nodes are cut by journeys
+// too.
 #[derive(Clone, Copy)]
 struct Reach {
     length: Length,

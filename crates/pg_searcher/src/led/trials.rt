@@ -123,8 +123,8 @@ impl Trials {
     }
 }
 
-// Whether a move that is tried is familiar: each is, but for promotions, of which those to a square are tried where one of
-// them is.
+// Whether a move that is tried is familiar: each is, but for promotions, of which those to a square are tried where one
+// of them is.
 fn is_familiar(familiar: &Familiar, position: &Position, m: &Move) -> bool {
     if m.promotion.is_none() {
         return true;

@@ -59,8 +59,8 @@ fn play_each(
     Err(Halt::Budget)
 }
 
-// The moves of a node with two plies left are played, familiar or not. Where all of them may be visited they are counted, and
-// those few are played after which a further one may lead to the diagram.
+// The moves of a node with two plies left are played, familiar or not. Where all of them may be visited they are
+// counted, and those few are played after which a further one may lead to the diagram.
 fn play_last_two(
     question: &Question,
     top: &mut Open,

@@ -149,7 +149,8 @@ fn need_by_leasts(rows: &Rows, leasts: &Leasts, position: &Position, m: &Move) -
     }
 }
 
-// What the need is not below once the man of a move has moved, whatever his move: with each of his distances less by one.
+// What the need is not below once the man of a move has moved, whatever his move: with each of his distances less by
+// one.
 fn need_once_moved(rows: &Rows, leasts: &Leasts, position: &Position, m: &Move) -> u8 {
     let Some(man) = position.board().get(m.from) else {
         return NEVER;
@@ -171,7 +172,8 @@ fn cut_off_sets(rows: &Rows, leasts: &Leasts, position: &Position) -> [SquareSet
     sets
 }
 
-// Whether the man of a move is among those that are cut off just where the need is above so many plies whatever his move.
+// Whether the man of a move is among those that are cut off just where the need is above so many plies whatever his
+// move.
 fn is_cut_off_rightly(sets: &[SquareSet; 61], from: Square, need: u8) -> bool {
     for plies in 0..61u8 {
         if sets[usize::from(plies)].contains(from) != (need > plies) {
@@ -181,8 +183,8 @@ fn is_cut_off_rightly(sets: &[SquareSet; 61], from: Square, need: u8) -> bool {
     true
 }
 
-// How many plain moves a position has; none where least distances give another need after one of them, or tell wrongly of its man that
-// he is cut off.
+// How many plain moves a position has; none where least distances give another need after one of them, or tell wrongly
+// of its man that he is cut off.
 fn agreeing_moves(rt: &impl Abort, alloc: Global, rows: &Rows, position: &Position) -> Option<u32> {
     let leasts = Leasts::new(rows, &position.board(), position.rights());
     let sets = cut_off_sets(rows, &leasts, position);

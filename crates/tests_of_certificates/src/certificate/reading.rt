@@ -31,8 +31,9 @@ fn header_words<R: Abort + AllocGlobal>(rt: &R, header: &Header, name: &str) -> 
     words(rt, &format_args!("{} {}", header.version, header.plies))
 }
 
-// What a call answers: `header`, `diagram` (a header with all it has), `record`, `bare` (a record apart from its prices, and then the first way's prices for
-// the sources and the last way's for the targets), `more` or `end`. An exclamation mark stands before a refusal.
+// What a call answers: `header`, `diagram` (a header with all it has), `record`, `bare` (a record apart from its
+// prices, and then the first way's prices for the sources and the last way's for the targets), `more` or `end`. An
+// exclamation mark stands before a refusal.
 fn call<R: Abort + AllocGlobal, S: Source>(
     rt: &R,
     reader: &mut RecordReader,

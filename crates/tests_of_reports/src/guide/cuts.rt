@@ -41,8 +41,8 @@ fn cuts_in_both_versions(rt: HostRuntime) {
     }
 }
 
-// What the cut at the array says in the tree of the stated length, where each tree is cut there by journeys: a diagram, a length, how
-// many trees there are.
+// What the cut at the array says in the tree of the stated length, where each tree is cut there by journeys: a diagram,
+// a length, how many trees there are.
 const JOURNEYS: &str =
     "rnbqkbnr/pppppppp/n7/8/8/8/PPPPPPPP/RNBQKBNR | 0.5 | 1 | white has captured 1 man too many
 rnbqkbnr/1pppppp1/8/8/8/8/PPPPPPPP/RNBQKBNR | 0.5 | 1 | white must capture 2 men and has 1 move left
@@ -81,7 +81,8 @@ fn children_cut_by_journeys(rt: HostRuntime) {
 }
 
 // The cut of a record of prices: a code, white's colour, how many ways, sources and targets, and for each way what
-// these pay. What is said is what each pair costs, so that the sum is the number that excludes. By pawn files, and by travel three times; of four men that are dear the first three are named.
+// these pay. What is said is what each pair costs, so that the sum is the number that excludes. By pawn files, and by
+// travel three times; of four men that are dear the first three are named.
 const PRICES: &str =
     "rnbqkbnr/pppppppp/8/8/8/3P4/PPPP1PPP/RNBQKBNR | 0.5 | - | 2 rnbqkbnr/pppppppp/8/8/8/3P4/PPPP1PPP/RNBQKBNR 0.5 | 060300010808 00*3 01 00*7 01 00*3 01 => () => at the start: excluded: white has no man to capture, and white's pawns must change file 1 time at least, counted pair by pair: the pawn on d3 1$the certificate is right$
 rnbqkbnr/pppppppp/8/8/8/2N2N2/PPPPPPPP/R1BQKB1R | 0.5 | - | 2 rnbqkbnr/pppppppp/8/8/8/2N2N2/PPPPPPPP/R1BQKB1R 0.5 | 060400031010 00*30 01*2 00*30 01*2 00*30 01*2 => () => at the start: excluded: white has 1 move left, and white's men need 2 moves at least, counted pair by pair: the knight on c3 1, the knight on f3 1$the certificate is right$

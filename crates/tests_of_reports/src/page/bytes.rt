@@ -1,13 +1,14 @@
-//! Pages, byte for byte and push for push as they were told by the form that went from record to record, each with the position
-//! that it stands at. No clause says which nodes have a line, what a line says, and in what pieces it goes out.
+//! Pages, byte for byte and push for push as they were told by the form that went from record to record, each with the
+//! position that it stands at. No clause says which nodes have a line, what a line says, and in what pieces it goes
+//! out.
 
 use super::*;
 use crate::shared::{diagram_of, length_of, words};
 use pg_certificate::Refused;
 use pg_report::search;
 
-// Problems by their names: a diagram, a length, and the certificate's version and records. Where no records stand a search
-// makes it.
+// Problems by their names: a diagram, a length, and the certificate's version and records. Where no records stand a
+// search makes it.
 const PROBLEMS: &str = "knights | rnbqkb1r/ppp2ppp/8/8/8/8/PPPPPPPP/RNBQKB1R | 4.0 | 2
 queen-recaptured | rnQ1kbnr/pp1ppppp/8/2p5/2P5/2q5/PP1PPPPP/RNB1KBNR | 3.5 | 2
 cooked | rnbqkbnr/p1pppppp/8/8/8/3QP3/PPP2PPP/RNB1K1NR | 3.5 | 2
@@ -31,7 +32,8 @@ many-games-of-old | rnbqkbnr/3ppppp/ppp5/8/8/PPP5/3PPPPP/RNBQKBNR | 3.0 | 1
 all-expanded | recaptured | 2.0 | 1 | 01*9766
 all-named | two-orders | 1.5 | 2 | 05*443";
 
-// A name and how many nodes are told at most; what is answered, how many bytes the page has, their digest, and the pushes.
+// A name and how many nodes are told at most; what is answered, how many bytes the page has, their digest, and the
+// pushes.
 const PAGES: &str = "knights | 0 => () 23587 969c82e6377c81cf 559
 knights | 1 => () 24642 ff0e0a499edb9648 1523
 knights | 10 => () 28070 d6358be2b99d5dbd 4535
@@ -195,8 +197,8 @@ fn certificate_of<R: Abort + AllocGlobal>(rt: &R, problem: &str) -> Vec<u8> {
     certificate(rt, header.as_str(), records)
 }
 
-// What is answered where so many nodes are told at most, how many bytes the page has, their digest, and in how many pushes they
-// go out.
+// What is answered where so many nodes are told at most, how many bytes the page has, their digest, and in how many
+// pushes they go out.
 fn shown<R: Abort + AllocGlobal>(rt: &R, problem: &str, nodes: &str, bytes: &[u8]) -> Said {
     let (diagram, length) = (field(problem, 1), field(problem, 2));
     let asked = words(&format_args!("{diagram} | {length} | {nodes}"));

@@ -46,9 +46,9 @@ fn shorter_games_or_none(rt: HostRuntime) {
     check_table(&rt, SHORTER);
 }
 
-// None is found: all games were gone through, also of one game and of none of a ply; the nodes came to their end, before a
-// round was gone through and after one; no more foreign moves were allowed, where the other game, with the knight by h3, has
-// two. With two listed games the problem is not sound, whatever the search came to.
+// None is found: all games were gone through, also of one game and of none of a ply; the nodes came to their end,
+// before a round was gone through and after one; no more foreign moves were allowed, where the other game, with the
+// knight by h3, has two. With two listed games the problem is not sound, whatever the search came to.
 const NONE: &str =
     "cooks | fools-mate | 2.0 | 1. f3 e5 2. g4 Qh4#$1. g4 e5 2. f3 Qh4# => NotFound => diagram rnb1kbnr/pppp1ppp/8/4p3/6Pq/5P2/PPPPP2P/RNBQKBNR$length 2.0$games 2$1. f3 e5 2. g4 Qh4#$1. g4 e5 2. f3 Qh4#$none: the search went through all games$not sound$
 cooks | after-e4 | 0.5 | 1. e4 | 0 => NotFound => diagram rnbqkbnr/pppppppp/8/8/4P3/8/PPPP1PPP/RNBQKBNR$length 0.5$games 1$1. e4$none: the search went through all games$
@@ -128,8 +128,8 @@ fn beside_one_order(alloc: Global) -> (Result<CookAnswer, CooksRunFault>, usize)
     (answer, out.into_inner().bytes())
 }
 
-// The report on a game that is found is written whole, or want of memory is told and nothing is written. Passes too where
-// `rt try --test --fail-alloc N` refuses the N-th growth.
+// The report on a game that is found is written whole, or want of memory is told and nothing is written. Passes too
+// where `rt try --test --fail-alloc N` refuses the N-th growth.
 #[test]
 fn refused_growths_of_a_game_that_is_found(rt: HostRuntime) {
     for _ in 0..9u8 {

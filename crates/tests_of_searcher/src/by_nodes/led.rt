@@ -264,8 +264,8 @@ fn led_searches_of_many_men_are_those_from_node_to_node(rt: HostRuntime) {
     kinds.check(&rt);
 }
 
-// The game that a led search finds, as a digest, or that it went through all games that it was to go through; none where its
-// nodes came to their end before.
+// The game that a led search finds, as a digest, or that it went through all games that it was to go through; none
+// where its nodes came to their end before.
 fn ended(answer: Result<pg_searcher::Led, pg_searcher::LedFault>, nodes: u64) -> Option<Said> {
     match answer {
         Ok(pg_searcher::Led::Found(game)) => {

@@ -4,8 +4,8 @@ use super::*;
 
 // Games that lead to another one within so many nodes, with so many foreign moves at most, and how many plies that one
 // has: known games of ten to eighteen moves; men of either colour who move in another order; castling to either side,
-// promotions of either colour, captures en passant; a first move that is foreign; a pawn's two squares in place of one, Black's and White's, so
-// that the first foreign move is theirs; and a game that is shorter.
+// promotions of either colour, captures en passant; a first move that is foreign; a pawn's two squares in place of one,
+// Black's and White's, so that the first foreign move is theirs; and a game that is shorter.
 const LEADS: &str =
     "1. e3 a5 2. Qh5 Ra6 3. Qxa5 h5 4. h4 Rah6 5. Qxc7 f6 6. Qxd7+ Kf7 7. Qxb7 Qd3 8. Qxb8 Qh7 9. Qxc8 Kg6 10. Qe6 | 1000 | 0 => 19 plies
 1. c4 d5 2. Qb3 Bh3 3. gxh3 f5 4. Qxb7 Kf7 5. Qxa7 Kg6 6. f3 c5 7. Qxe7 Rxa2 8. Kf2 Rxb2 9. Qxg7+ Kh5 10. Qxg8 Rxb1 11. Rxb1 Kh4 12. Qxh8 h5 13. Qh6 Bxh6 14. Rxb8 Be3+ 15. dxe3 Qxb8+ 16. Kg2 Qf4 17. exf4 d4 18. Be3 dxe3 | 1000 | 0 => 36 plies

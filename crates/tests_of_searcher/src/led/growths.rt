@@ -20,8 +20,8 @@ fn refusals(rt: &impl Abort, alloc: Global, text: &str, wanted: &str) -> u8 {
     u8::from(is_refused)
 }
 
-// Passes too where `rt try --test --fail-alloc N` refuses the N-th growth: then one search or one list of all answers that
-// memory was refused.
+// Passes too where `rt try --test --fail-alloc N` refuses the N-th growth: then one search or one list of all answers
+// that memory was refused.
 #[test]
 fn refused_growths_of_led_searches(rt: HostRuntime) {
     let first = "1. f3 e5 2. g4 Qh4#";

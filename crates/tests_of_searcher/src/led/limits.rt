@@ -29,8 +29,8 @@ fn ended<R: Abort + AllocGlobal>(rt: &R, games: &str, nodes: u64, foreign: &str)
     }
 }
 
-// Games, how many nodes are allowed, how many foreign moves, and how the search ends. With both games of the diagram all are
-// gone through; with one it has to allow a foreign move. Of two plies or fewer no move is foreign.
+// Games, how many nodes are allowed, how many foreign moves, and how the search ends. With both games of the diagram
+// all are gone through; with one it has to allow a foreign move. Of two plies or fewer no move is foreign.
 const ENDS: &str =
     "1. e3 b5 2. Bc4 bxc4 3. d3 cxd3 4. Qxd3/1. e3 b5 2. Bc4 bxc4 3. d4 cxd3 4. Qxd3 | 1000000 => All
 1. e3 b5 2. Bc4 bxc4 3. d3 cxd3 4. Qxd3/1. e3 b5 2. Bc4 bxc4 3. d4 cxd3 4. Qxd3 | 1000000 | 9 => All

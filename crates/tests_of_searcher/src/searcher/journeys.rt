@@ -32,8 +32,8 @@ fn searched_by_journeys<W: Sink>(
     )
 }
 
-// The games that a search by journeys of so many nodes finds, and how many records its certificate has, by a check with five
-// bounds.
+// The games that a search by journeys of so many nodes finds, and how many records its certificate has, by a check with
+// five bounds.
 #[derive(Drop)]
 struct Settled {
     games: Games,
@@ -66,8 +66,8 @@ fn said_by_journeys<R: Abort + AllocGlobal>(rt: &R, goal: &Goal, nodes: u64) -> 
     }
 }
 
-// Problems of four to twelve moves: a diagram and a length; how many games there are, and how many nodes a search by journeys
-// visits, of which each is a record of its certificate.
+// Problems of four to twelve moves: a diagram and a length; how many games there are, and how many nodes a search by
+// journeys visits, of which each is a record of its certificate.
 const PROBLEMS: &str = "r1bqkbnr/ppp2ppp/3p4/8/8/8/PPPPPPPP/R1BQKBNR | 4.0 => 1 3033
 four-knights-gone | 4.0 => 1 1731
 rnb1kb1r/ppppqppp/8/8/8/5P2/PPPP1KPP/RNB2BNn | 5.0 => 3 533

@@ -1,5 +1,5 @@
-//! How many moves a colour has left, and what a cut by captures, promotions or pawn files says, in the form that the faster
-//! one is compared with.
+//! How many moves a colour has left, and what a cut by captures, promotions or pawn files says, in the form that the
+//! faster one is compared with.
 
 use crate::words::start::names::{Phrase, color_name, many};
 use pg_board::Color;
