@@ -1,4 +1,6 @@
 //! What is wrong with a text that is no diagram.
+ghost use Rattle.std.specs.Prelude.{◌≡◌, []};
+ghost use Rattle.pg_hints.specs.Diagrams.{SaysAll};
 
 use crate::Hint;
 use pg_board::{Color, Kind, Man};
@@ -81,7 +83,9 @@ fn write_kings(placement: &str, hint: &mut Hint) -> fmt::Result {
 
 /// What is wrong with a text that is refused as a diagram or a position with this fault: the rank and its width, the
 /// letter, the numbers of fields and of kings; nothing where the fault says all.
-pub fn on_diagram(text: &str, fault: FenFault) -> Hint {
+pub fn on_diagram(text: &str, fault: FenFault) -> Hint
+    ensures { SaysAll fault → result.bytes ≡ [] }
+{
     let mut hint = Hint::new();
     let placement = placement_of(text);
     let _ = match fault {

@@ -1,13 +1,22 @@
 //! Files that are packed.
+ghost use Rattle.std.specs.Prelude.{◌≡◌, MatchOption, Some, None};
+ghost use Rattle.pg_hints.specs.Files.{packing};
 
 /// The name of the packing that begins with these bytes, if they are those of a kind that is known.
-pub fn packing_of(bytes: &[u8; 6]) -> Option<&'static str> {
-    match bytes {
-        [0xfd, b'7', b'z', b'X', b'Z', 0] => Some("xz"),
-        [0x1f, 0x8b, ..] => Some("gzip"),
-        [0x28, 0xb5, 0x2f, 0xfd, ..] => Some("zstd"),
-        [b'B', b'Z', b'h', ..] => Some("bzip2"),
-        [b'P', b'K', 3, 4, ..] => Some("zip"),
-        _ => None,
+pub fn packing_of(bytes: &[u8; 6]) -> Option<&'static str>
+    ensures { MatchOption result (packing bytes.now ≡ None) (λ name. packing bytes.now ≡ Some name.now) }
+{
+    if bytes.starts_with(b"\xfd7zXZ\0") {
+        Some("xz")
+    } else if bytes.starts_with(b"\x1f\x8b") {
+        Some("gzip")
+    } else if bytes.starts_with(b"\x28\xb5\x2f\xfd") {
+        Some("zstd")
+    } else if bytes.starts_with(b"BZh") {
+        Some("bzip2")
+    } else if bytes.starts_with(b"PK\x03\x04") {
+        Some("zip")
+    } else {
+        None
     }
 }

@@ -1,5 +1,6 @@
-//! What may help where a command has no answer: second lines for a terminal, which point to what is wrong. No contract
-//! speaks of their words, and no answer depends on them.
+//! What may help where a command has no answer: second lines for a terminal, which point to what is wrong. No answer
+//! depends on them. What is said of a search, of a packed file and of a FEN in several words is a clause; what is said
+//! of a diagram and of a move is tested.
 #![tactic(auto)]
 
 mod diagrams;

@@ -1,0 +1,4 @@
+pub mod Diagrams
+pub mod Files
+pub mod Searches
+pub mod Words
