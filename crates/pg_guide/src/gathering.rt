@@ -15,24 +15,32 @@ use pg_checker::{Problem, Proved, check};
 use pg_san::Games;
 use std::alloc::Global;
 
-/// What a certificate that is right has: the games, what its check counted, and how many nodes of the tree of the
-/// stated length are expanded with each number of plies left.
+/// What a certificate that is right has: the games, what its check counted, and how many nodes are expanded with each
+/// number of plies left, of the tree of the stated length, and of the shorter ones together.
 #[derive(Drop)]
 pub struct Gathered {
     pub games: Games,
     pub proved: Proved,
     pub expanded: [u64; 129],
+    pub shorter: [u64; 129],
 }
 
-// The games go into the list, and the expanded nodes of the last tree are counted; what stops that, unless it is the
-// certificate. Not inlined: what a walk needs of the stack would lie below the check too.
+// How many nodes are expanded with each number of plies left: of the last tree, and of those before it.
+#[derive(Drop)]
+struct Expanded {
+    last: [u64; 129],
+    shorter: [u64; 129],
+}
+
+// The games go into the list, and the expanded nodes are counted; what stops that, unless it is the certificate. Not
+// inlined: what a walk needs of the stack would lie below the check too.
 #[inline(never)]
 fn find<R: Source>(
     question: &Question,
     games: &mut Games,
     source: &mut R,
     records: u64,
-) -> Result<[u64; 129], Stop>
+) -> Result<Expanded, Stop>
     ensures says { (cited : Bool) → IfErr result (EndsTruly question.now.diagram.now question.now.plies
         (R.has_failed source.new) cited) }
     ensures finds { Finds question.now games.old games.new }
@@ -44,7 +52,10 @@ fn find<R: Source>(
         Err(Stop::Memory) => return Err(Stop::Memory),
         Err(Stop::Read) => return Err(Stop::Read),
     }
-    Ok(along.expanded)
+    Ok(Expanded {
+        last: along.expanded,
+        shorter: along.shorter,
+    })
 }
 
 /// Gathers the games of the stated length that a certificate has, and checks it with them. Ok means that the check said
@@ -97,7 +108,8 @@ pub fn gather<R: Source>(
         Ok(proved) => Ok(Gathered {
             games,
             proved,
-            expanded,
+            expanded: expanded.last,
+            shorter: expanded.shorter,
         }),
         Err(fault) => Err(refusal_of(fault, is_full(&games))),
     }

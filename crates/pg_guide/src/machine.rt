@@ -22,7 +22,8 @@ pub(crate) struct Question<'a> {
 }
 
 // What a walk finds along the line: what the children are of the nodes on it that are open, the root first, and of
-// those that have closed, the last one first; what ends the line, if something does; and the node that was wanted.
+// those that have closed, the last one first; what ends the line, if something does; the node that was wanted; and how
+// many nodes are expanded with each number of plies left, of the last tree and of all before it.
 #[derive(Drop)]
 pub(crate) struct Along {
     pub(crate) open: ArrayVec<Tally, 128>,
@@ -30,6 +31,7 @@ pub(crate) struct Along {
     pub(crate) ending: Option<Ending>,
     pub(crate) cited: Option<Cited>,
     pub(crate) expanded: [u64; 129],
+    pub(crate) shorter: [u64; 129],
 }
 
 impl Along {
@@ -41,6 +43,7 @@ impl Along {
             ending: None,
             cited: None,
             expanded: [0; 129],
+            shorter: [0; 129],
         }
     }
 }

@@ -271,6 +271,13 @@ fn root_leaf(question: &Question, along: &mut Along, games: &mut Games) -> Resul
     }
 }
 
+// The numbers are added to those with the same plies left.
+fn add_to(sums: &mut [u64; 129], numbers: &[u64; 129]) {
+    for (sum, number) in sums.iter_mut().zip(numbers) {
+        *sum = sum.saturating_add(*number);
+    }
+}
+
 // The trees of all lengths, and the end. A second walk is over at the node that is wanted.
 fn all_trees<S: Source>(
     question: &Question,
@@ -293,6 +300,9 @@ fn all_trees<S: Source>(
         }
         if along.cited.is_some() {
             return Ok(());
+        }
+        if tree < question.plies {
+            add_to(&mut along.shorter, &walk.expanded);
         }
     }
     match walk.finish(source) {

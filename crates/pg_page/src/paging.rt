@@ -16,7 +16,7 @@ use pg_journeys::Journeys;
 use std::alloc::Global;
 
 /// What is to be shown: the texts of a diagram and of a length in moves, and at most how many expanded nodes of the
-/// tree of the stated length.
+/// tree of the stated length, and of the shorter ones together.
 #[derive(Clone, Copy)]
 pub struct Asked<'a> {
     pub diagram: &'a str,
@@ -70,6 +70,7 @@ fn show<R: Source, W: Sink>(
         diagram: &problem.diagram,
         plies: problem.length.plies(),
         floor: floor_for(&found.expanded, form.nodes),
+        shorter_floor: floor_for(&found.shorter, form.nodes),
     };
     match write_head(problem, found, out) {
         Ok(()) => {}

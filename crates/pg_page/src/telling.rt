@@ -24,12 +24,13 @@ pub(crate) enum Stop {
 }
 
 // What is told: the tree of so many plies, down to the nodes with a number of plies left; of the shorter ones where
-// their expanded nodes stand, which a reference may name.
+// their expanded nodes stand, which a reference may name, down to a number of plies left of their own.
 #[derive(Drop)]
 pub(crate) struct Told<'a> {
     pub(crate) diagram: &'a Diagram,
     pub(crate) plies: u8,
     pub(crate) floor: u8,
+    pub(crate) shorter_floor: u8,
 }
 
 // Why the telling stops where the walk breaks off.
@@ -74,9 +75,11 @@ fn is_told(told: &Told, tree: u8, left: u8) -> bool {
     tree == told.plies && left >= told.floor
 }
 
-// Whether a node with so many plies left may have a line: a root, and what a node above the floor leads to.
+// Whether a node with so many plies left may have a line: a root, and what a node above the floor leads to, but of the
+// shorter trees none below their own floor.
 fn may_have_line(told: &Told, tree: u8, left: u8) -> bool {
-    left == tree || left.saturating_add(1) >= told.floor
+    let is_above = tree == told.plies || left >= told.shorter_floor;
+    left == tree || is_above && left.saturating_add(1) >= told.floor
 }
 
 // Whether an expanded node has a line: of the shorter trees none that no reference is likely to name.

@@ -30,7 +30,8 @@ fools-mate-of-old | fools-mate | 2.0 | 1
 castled-of-old | rnbqk1nr/ppppppbp/6p1/8/8/5NP1/PPPPPPBP/RNBQ1RK1 | 3.5 | 1
 many-games-of-old | rnbqkbnr/3ppppp/ppp5/8/8/PPP5/3PPPPP/RNBQKBNR | 3.0 | 1
 all-expanded | recaptured | 2.0 | 1 | 01*9766
-all-named | two-orders | 1.5 | 2 | 05*443";
+all-named | two-orders | 1.5 | 2 | 05*443
+all-expanded-but-the-last | rnbqkbnr/pppppppp/8/8/8/3P4/PPPP1PPP/RNBQKBNR | 2.0 | 1 | 01*443 0203";
 
 // A name and how many nodes are told at most; what is answered, how many bytes the page has, their digest, and the
 // pushes.
@@ -132,7 +133,11 @@ all-expanded | 20000 => () 1772814 6bd8b307b968eece 842420
 all-named | 0 => () 23642 29d0e9765461cc67 419
 all-named | 1 => () 23865 118fa1e2f262333d 520
 all-named | 100 => () 49207 d9d2d463c654794b 22964
-all-named | 1000 => () 105651 2f16e9de9a453e53 40766";
+all-named | 1000 => () 105651 2f16e9de9a453e53 40766
+all-expanded-but-the-last | 0 => () 23577 44c1913dfae0be47 452
+all-expanded-but-the-last | 1 => () 23577 44c1913dfae0be47 452
+all-expanded-but-the-last | 21 => () 23577 44c1913dfae0be47 452
+all-expanded-but-the-last | 22 => () 23741 90a630f87bbe84d1 532";
 
 // Keeps what is pushed, and counts the pushes, those of no bytes too.
 #[derive(Drop)]
