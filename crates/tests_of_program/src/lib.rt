@@ -3,6 +3,8 @@
 #![tactic(auto)]
 
 #[cfg(test)]
+mod deadlines;
+#[cfg(test)]
 mod drafts;
 #[cfg(test)]
 mod gathering;
