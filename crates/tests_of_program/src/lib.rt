@@ -3,8 +3,6 @@
 #![tactic(auto)]
 
 #[cfg(test)]
-mod deadlines;
-#[cfg(test)]
 mod drafts;
 #[cfg(test)]
 mod gathering;
