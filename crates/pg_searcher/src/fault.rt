@@ -5,7 +5,7 @@ use thiserror::Error;
 /// Why a search ends without a certificate. What was written so far is to be thrown away.
 #[derive(Clone, Copy, Debug, PartialEq, Eq, Error)]
 pub enum SearchFault {
-    /// A position more has to be visited than the limit allows.
+    /// A position more has to be visited than the limit allows, or who watches the search ends it.
     #[error("node limit reached")]
     Budget,
     /// A game of fewer plies, so many, ends on the diagram.

@@ -136,7 +136,7 @@ pub fn search<W: Sink>(
 /// As `search`, and tells `watch` how far it is.
 ///
 /// # Errors
-/// As for `search`.
+/// As for `search`; and `Budget` where `watch` ends the search.
 pub fn search_watched<W: Sink, P: SearchProgress>(
     alloc: Global,
     diagram: &Diagram,
@@ -161,7 +161,7 @@ pub fn search_watched<W: Sink, P: SearchProgress>(
 /// `search`. A problem of many moves takes far fewer nodes, and each that is expanded more time.
 ///
 /// # Errors
-/// As for `search`.
+/// As for `search_watched`.
 pub fn search_by_journeys<W: Sink, P: SearchProgress>(
     alloc: Global,
     diagram: &Diagram,

@@ -489,6 +489,9 @@ pub(crate) fn tree_of<W: Sink, P: SearchProgress>(
         if machine.open == 0 {
             return Ok(());
         }
+        if !watch.goes_on() {
+            return Err(SearchFault::Budget);
+        }
     }
     Err(SearchFault::Budget)
 }

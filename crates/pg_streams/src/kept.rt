@@ -46,4 +46,8 @@ impl<P: SearchProgress> SearchProgress for Kept<P> {
         }
         self.line.met(game);
     }
+
+    fn goes_on(&mut self) -> bool {
+        self.line.goes_on()
+    }
 }

@@ -30,7 +30,7 @@ pub enum LedEnd {
     All,
     /// No more foreign moves were allowed.
     Foreign,
-    /// The nodes came to their end.
+    /// The nodes came to their end, or who watches the search ended it.
     Nodes,
 }
 
@@ -51,11 +51,17 @@ pub struct LedLimits {
     pub foreign: Option<u8>,
 }
 
-/// Is told how far a led search is. Nothing that it does changes what is found.
+/// Is told how far a led search is, and may end it. Nothing else that it does changes what is found.
 pub trait LedProgress {
     /// Games with at most so many foreign moves are looked for, of so many plies, and so many nodes more may
     /// be visited.
     fn reached(&mut self, foreign: u8, plies: u8, left: u64);
+
+    /// Whether the search goes on. It is asked each time after `reached`; where it does not the search ends as at the
+    /// end of its nodes.
+    fn goes_on(&mut self) -> bool {
+        true
+    }
 }
 
 impl LedProgress for Unwatched {

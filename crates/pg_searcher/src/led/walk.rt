@@ -251,6 +251,9 @@ pub(crate) fn tree<P: LedProgress>(
         };
         turn(question, frames, machine, top, plies)?;
         watch.reached(foreign, plies, machine.sieve.nodes);
+        if !watch.goes_on() {
+            return Err(Halt::Budget);
+        }
     }
     Err(Halt::Budget)
 }

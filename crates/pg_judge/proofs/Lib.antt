@@ -1,0 +1,3 @@
+mod GameLemmas
+mod RowLemmas
+mod EntryLemmas

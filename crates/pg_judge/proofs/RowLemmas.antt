@@ -1,0 +1,121 @@
+-- The parts of a row. Leads to the contract of `write_row`.
+use Rattle.std.proofs.Common.{◌≡◌, ℕ, ◌+◌, ◌≤◌, List, [], ◌∷◌, ◌++◌, Bool, Option, Some, length, refl, sym, ap, subst, arith, ◌∙◌}
+use Rattle.std.specs.Prelude.{codes, decimal, slice_get, unwrap_or}
+use Rattle.std.specs.Io.KnownBytes.{Appends}
+use Rattle.std.proofs.KnownBytes.{Appends-trans}
+use Rattle.std.proofs.lemmas.List.{length-append, append-nil, nil_from_length, append_assoc}
+use Rattle.pg_board.specs.Placement.{Placement}
+use Rattle.pg_position.specs.declared.moves.Move.{Move}
+use Rattle.pg_certificate.specs.Pushing.{AddsSome}
+use Rattle.pg_san.specs.Games.{IsFromArray}
+use Rattle.pg_checker.specs.Answer.{IsSolution}
+use Rattle.pg_fen.specs.Lengths.{length_text}
+use Rattle.pg_cooks.specs.Cooks.{foreign_text}
+use Rattle.pg_texts.specs.Movetext.{AddsLongest, IsLongestGame, IsMovetext}
+use Rattle.pg_judge.specs.Ruling.{IsFinding, IsGiven}
+use Rattle.pg_judge.specs.Rows.{ArePair, AreShown, IsDetail, IsEvidenceText, IsNth, IsRowOf, IsTold, IsWritable, IsWritten, below_text, cooks_text, head_text}
+use Rattle.pg_judge.specs.declared.entry.Entry.{Entry}
+use Rattle.pg_judge.specs.declared.given.Given.{Given}
+use Rattle.pg_judge.specs.declared.ruling.Evidence.{Evidence}
+use Rattle.pg_judge.specs.declared.ruling.Evidence.TheVariants.{Several, Another, Shorter}
+use Rattle.pg_judge.specs.declared.ruling.Finding.{Finding}
+use Rattle.pg_judge.specs.declared.ruling.Finding.TheVariants.{Settled, NotSound, NotSettled}
+use Rattle.pg_judge.specs.declared.ruling.Ruling.{Ruling}
+
+-- ---- games
+-- the longest game at the front of a game is that game
+longest_is : (ms game : List Move) → IsLongestGame ms game → IsFromArray ms → game ≡ ms
+longest_is ms game l h =
+    let low : length ms ≤ length game = l.longest ms [] (sym (append-nil ms)) h in
+    let e : length ms ≡ length game + length l.rest = ap (λ (x : List Move). length x) l.is ∙ length-append game l.rest in
+    let none : l.rest ≡ [] = nil_from_length l.rest (omega (arith, low, e)) in
+    sym (l.is ∙ ap (λ (x : List Move). game ++ x) none ∙ append-nil game)
+
+pub whole : (ms : List Move) (a b : Option (List ℕ)) → IsFromArray ms → AddsLongest ms a b → AddsSome (IsMovetext ms) a b
+whole ms a b h (game, long, adds) = subst (λ (x : List Move). AddsSome (IsMovetext x) a b) (longest_is ms game long h) adds
+
+pub nth : (games : List (List Move)) (i : ℕ) (g : List Move) (a b : Option (List ℕ)) → slice_get games i ≡ Some g → AddsSome (IsMovetext g) a b
+    → AddsSome (IsNth games i) a b
+nth games i g a b at (text, is, grows) = (text, (g, at, is), grows)
+
+pub pair : (games : List (List Move)) (a b c e : Option (List ℕ)) → AddsSome (IsNth games 0) a b → Appends b c (codes "; ") → AddsSome (IsNth games 1) c e
+    → AddsSome (ArePair games) a e
+pair games a b c e (x, is, first) mark (y, has, second) = (
+  x ++ (codes "; " ++ y),
+  (x, y, is, has, refl),
+  Appends-trans a b e x (codes "; " ++ y) first (Appends-trans b c e (codes "; ") y mark second),
+)
+
+-- ---- lists
+pub none_shown : (words : List ℕ) (games : List (List Move)) (a b : Option (List ℕ)) → length games ≡ 0 → Appends a b (codes "-") → AddsSome (AreShown words games) a b
+none_shown words [] a b e grows = (codes "-", refl, grows)
+none_shown words (g ∷ games) a b e grows = absurd (omega (arith, e))
+
+pub one_shown : (words : List ℕ) (games : List (List Move)) (a b : Option (List ℕ)) → length games ≡ 1 → AddsSome (IsNth games 0) a b → AddsSome (AreShown words games) a b
+one_shown words [] a b e h = absurd (omega (arith, e))
+one_shown words (g ∷ []) a b e (text, (h, at, is), grows) =
+    let same : h ≡ g = ap (λ (o : Option (List Move)). unwrap_or o g) (sym at) in
+    (text, subst (λ (x : List Move). IsMovetext x text) same is, grows)
+one_shown words (x ∷ y ∷ more) a b e h = absurd (omega (arith, e))
+
+pub more_shown : (words : List ℕ) (games : List (List Move)) (n : ℕ) (a b c : Option (List ℕ)) → n ≡ length games → 2 ≤ length games
+    → Appends a b (decimal n ++ words) → AddsSome (ArePair games) b c → AddsSome (AreShown words games) a c
+more_shown words [] n a b c is many first h = absurd (omega (arith, many))
+more_shown words (g ∷ []) n a b c is many first h = absurd (omega (arith, many))
+more_shown words (x ∷ y ∷ more) n a b c is many first (both, are, second) =
+    let k : Appends a b (decimal (length (x ∷ y ∷ more)) ++ words) = subst (λ (m : ℕ). Appends a b (decimal m ++ words)) is first in
+    let all : Appends a c ((decimal (length (x ∷ y ∷ more)) ++ words) ++ both) = Appends-trans a b c (decimal (length (x ∷ y ∷ more)) ++ words) both k second in (
+      decimal (length (x ∷ y ∷ more)) ++ (words ++ both),
+      (both, are, refl),
+      subst (λ (t : List ℕ). Appends a c t) (append_assoc (decimal (length (x ∷ y ∷ more))) words both) all,
+    )
+
+-- ---- evidence
+pub told : (label : List ℕ) (game : List Move) (a b c : Option (List ℕ)) → Appends a b label → AddsSome (IsMovetext game) b c → AddsSome (IsTold label game) a c
+told label game a b c first (moves, is, second) = (label ++ moves, (moves, is, refl), Appends-trans a b c label moves first second)
+
+pub games_text : (e : Evidence) (list : List (List Move)) (a b : Option (List ℕ)) → e ≡ Several list → AddsSome (AreShown (codes " games met: ") list) a b
+    → AddsSome (IsEvidenceText e) a b
+games_text e list a b is h = subst (λ (x : Evidence). AddsSome (IsEvidenceText x) a b) (sym is) h
+
+-- ---- what may be written
+from_array : (d : Placement) (n : ℕ) (g : List Move) → IsSolution d n g → IsFromArray g
+unfolding IsFromArray
+from_array d n g (long, (r, is, same)) = (r, is)
+
+evidence_written : (d : Placement) (n : ℕ) (e : Evidence) → IsFinding d n (NotSound e) → IsWritable e
+evidence_written d n (Several games) h = tt
+evidence_written d n (Another game) h = from_array d n game.items h.1
+evidence_written d n (Shorter game) h = from_array d (length game.items) game.items h.1.1
+
+-- what is found is of games from the array
+pub written : (d : Placement) (n : ℕ) (f : Finding) → IsFinding d n f → IsWritten f
+written d n (Settled verdict games) h = tt
+written d n (NotSound e) h = evidence_written d n e h
+written d n (NotSettled known) h = tt
+
+-- ---- a row
+pub row : (entry : Entry) (ruling : Ruling) (refused : Bool) (given : Given) (a b c e : Option (List ℕ))
+    → IsGiven entry.problem.diagram entry.problem.length entry.games given
+    → Appends a b (head_text entry.name.now entry.problem.length given ruling refused) → AddsSome (IsDetail ruling.finding) b c
+    → Appends c e (codes "\n") → AddsSome (IsRowOf entry ruling refused) a e
+row entry ruling refused given a b c e is first (detail, tells, second) last =
+    let head = head_text entry.name.now entry.problem.length given ruling refused in (
+      head ++ (detail ++ codes "\n"),
+      (given, is, record { detail = detail; is_detail = tells; is = refl }),
+      Appends-trans a b e head (detail ++ codes "\n") first (Appends-trans b c e detail (codes "\n") second last),
+    )
+
+-- ---- what is known
+pub below_grows : (o : Option ℕ) (n : ℕ) (t : List ℕ) (a b c : Option (List ℕ)) → o ≡ Some n → t ≡ length_text n → Appends a b (codes "; none below ") → Appends b c t
+    → Appends a c (below_text o)
+below_grows o n t a b c is same first second =
+    subst (λ (m : Option ℕ). Appends a c (below_text m)) (sym is)
+    (Appends-trans a b c (codes "; none below ") (length_text n) first (subst (λ (x : List ℕ). Appends b c x) same second))
+
+pub cooks_grow : (o : Option ℕ) (n m : ℕ) (said : List ℕ) (a b : Option (List ℕ)) → o ≡ Some n → m ≡ n → said ≡ foreign_text n
+    → Appends a b (codes "; no cook with at most " ++ (decimal m ++ said)) → Appends a b (cooks_text o)
+cooks_grow o n m said a b is same words h =
+    subst (λ (x : Option ℕ). Appends a b (cooks_text x)) (sym is)
+    (subst (λ (t : List ℕ). Appends a b (codes "; no cook with at most " ++ (decimal n ++ t))) words
+    (subst (λ (k : ℕ). Appends a b (codes "; no cook with at most " ++ (decimal k ++ said))) same h))

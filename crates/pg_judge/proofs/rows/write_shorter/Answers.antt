@@ -1,0 +1,19 @@
+use Rattle.std.proofs.Common.{◌++◌, length, codes, decimal, rules}
+use Rattle.pg_certificate.specs.Pushing.{AddsSome}
+use Rattle.pg_texts.proofs.OutcomeLemmas.{on_ok}
+use Rattle.pg_texts.specs.Movetext.{IsMovetext}
+use Rattle.pg_judge.specs.Rows.{IsTold}
+use Rattle.pg_judge.proofs.RowLemmas.{told}
+use Rattle.pg_judge.proofs.rows.write_shorter.Goals as goal
+
+pub returns : goal.returns
+returns g c =
+    let label = codes "a game of " ++ (decimal (length c.args.game.now) ++ codes " plies: ") in
+    record {
+      text =
+          on_ok c.write_moves.result (AddsSome (IsMovetext c.args.game.now) (g.W.Sink.held c.write_number.new.out) (g.W.Sink.held c.write_moves.new.out)) (AddsSome (IsTold label c.args.game.now) (g.W.Sink.held c.args.out.now) (g.W.Sink.held c.write_moves.new.out))
+          (told label c.args.game.now (g.W.Sink.held c.args.out.now) (g.W.Sink.held c.write_number.new.out) (g.W.Sink.held c.write_moves.new.out) c.in_ok-write_number.ensures.text)
+          c.write_moves.ensures.text;
+      runs = search rules;
+      fault = search rules;
+    }

@@ -1,0 +1,16 @@
+use Rattle.std.proofs.Common.{◌<◌, length, ℕ, take, drop, ap, ◌∙◌, arith}
+use Rattle.pg_fen.proofs.Cutting.{no_part, first_part}
+use Rattle.pg_san.specs.GameText.{is_gap, words}
+use Rattle.pg_judge.proofs.words.next_word.Goals as goal
+
+pub returns-then-is_empty : goal.returns-then-is_empty
+unfolding words
+returns-then-is_empty c = no_part is_gap c.args.text.now c.split_at.result.1.now (c.split_at.ensures.back ∙ ap (λ (n : ℕ). drop n c.args.text.now) c.gap_len.ensures.value) (grind arith)
+
+pub returns : goal.returns
+unfolding words
+returns c =
+    let rest = c.split_at.result.1.now in
+    let some : 0 < length rest = grind arith in
+    (first_part is_gap c.args.text.now rest c.split_at-2.result.0.now c.split_at-2.result.1.now (c.split_at.ensures.back ∙ ap (λ (n : ℕ). drop n c.args.text.now) c.gap_len.ensures.value) some
+    (c.split_at-2.ensures.front ∙ ap (λ (n : ℕ). take n rest) c.word_len.ensures.value) (c.split_at-2.ensures.back ∙ ap (λ (n : ℕ). drop n rest) c.word_len.ensures.value)).0

@@ -1,0 +1,74 @@
+-- A line of a file of problems: a name, a diagram, a length, and behind them, if wanted, the author's game.
+use Rattle.std.specs.Prelude.{◌≡◌, ◌≢◌, ◌⊎◌, ◌<◌, ℕ, Bool, true, ◌||◌, ◌==◌, List, [], ◌∷◌, length, slice_get, Some, Err}
+use Rattle.std.specs.List.{list_all}
+use Rattle.std.specs.Char.{is_ascii_alphanumeric}
+use Rattle.std.specs.Str.{IsUtf8}
+use Prim.Native.Char.{code}
+use Rattle.pg_fen.specs.Fields.{fields}
+use Rattle.pg_fen.specs.DiagramText.{diagram_of}
+use Rattle.pg_fen.specs.Lengths.{length_of}
+use Rattle.pg_san.specs.GameText.{words}
+use Rattle.pg_san.specs.Listing.{IsTextFault}
+use Rattle.pg_texts.specs.Spelled.{AreSpelled}
+use Rattle.pg_judge.specs.declared.entry.Entry.{Entry}
+use Rattle.pg_judge.specs.declared.entry_fault.EntryFault.{EntryFault}
+use Rattle.pg_judge.specs.declared.entry_fault.EntryFault.TheVariants.{Name, Short, NotUtf8, Diagram, Length, Games}
+
+-- ---- names
+-- a letter or a digit of ASCII, a hyphen, an underscore or a dot
+abbrev pub is_name_byte : ℕ → Bool
+is_name_byte b = is_ascii_alphanumeric b || (b == code "-") || (b == code "_") || (b == code ".")
+
+-- the word is of such bytes, and begins with no dot
+abbrev pub IsName : List ℕ → Type 0
+IsName word = (list_all is_name_byte word ≡ true) × (slice_get word 0 ≢ Some (code "."))
+
+-- ---- lines
+-- the word begins a comment
+abbrev pub IsHash : List ℕ → Type 0
+IsHash word = slice_get word 0 ≡ Some (code "#")
+
+-- the line has no words, or is a comment
+abbrev pub IsSkipped : List ℕ → Type 0
+IsSkipped line = (words line ≡ []) ⊎ ((word : List ℕ) × (more : List (List ℕ)) × (words line ≡ word ∷ more) × IsHash word)
+
+-- the first word of the line is this one, no comment, and behind it stands the rest
+abbrev pub Begins : List ℕ → List ℕ → List ℕ → Type 0
+Begins line name rest = (words line ≡ name ∷ words rest) × ¬ IsHash name
+
+-- the line spells a problem: a name, a diagram, a length, and the games of what stands behind them
+pub record IsEntry (line : List ℕ) (entry : Entry) : Type 0 where
+  pub diagram : List ℕ
+  pub length : List ℕ
+  pub games : List ℕ
+  pub words_are : words line ≡ entry.name.now ∷ diagram ∷ length ∷ words games
+  pub is_no_comment : ¬ IsHash entry.name.now
+  pub is_name : IsName entry.name.now
+  pub are_spelled : AreSpelled diagram length games entry.problem.diagram entry.problem.length entry.games
+
+-- ---- faults
+-- the line has a name and two more words, and then the text of games
+abbrev pub AreParts : List ℕ → List ℕ → List ℕ → List ℕ → List ℕ → Type 0
+AreParts line name diagram length games =
+    (words line ≡ name ∷ diagram ∷ length ∷ words games) × ¬ IsHash name × IsName name
+
+-- why two words are no problem: one is not UTF-8; the diagram is refused, or else the length
+abbrev pub IsProblemFault : List ℕ → List ℕ → EntryFault → Type 0
+IsProblemFault diagram length NotUtf8 = ¬ IsUtf8 diagram ⊎ ¬ IsUtf8 length
+IsProblemFault diagram length (Diagram fault) = diagram_of (fields diagram) ≡ Err fault
+IsProblemFault diagram length (Length fault) = length_of length ≡ Err fault
+IsProblemFault diagram length fault = ⊥
+
+-- why a text is no games: it is not UTF-8, or is refused
+abbrev pub IsGamesFault : List ℕ → EntryFault → Type 0
+IsGamesFault text NotUtf8 = ¬ IsUtf8 text
+IsGamesFault text (Games fault) = IsTextFault text fault
+IsGamesFault text fault = ⊥
+
+-- why a line that has words and is no comment spells no problem: its first word is no name; or it is, and the line has
+-- fewer than three words; or it has three, and the second and the third are no problem, or what stands behind no games
+abbrev pub IsEntryFault : List ℕ → EntryFault → Type 0
+IsEntryFault line Name = (name : List ℕ) × (rest : List ℕ) × Begins line name rest × (IsUtf8 name → ¬ IsName name)
+IsEntryFault line Short = (name : List ℕ) × (rest : List ℕ) × Begins line name rest × IsName name × (length (words line) < 3)
+IsEntryFault line fault = (name : List ℕ) × (diagram : List ℕ) × (length : List ℕ) × (games : List ℕ)
+    × AreParts line name diagram length games × (IsProblemFault diagram length fault ⊎ IsGamesFault games fault)

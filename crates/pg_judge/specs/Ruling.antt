@@ -1,0 +1,53 @@
+-- What a ruling on a problem says of it, and what its games are.
+use Rattle.std.specs.Prelude.{◌≡◌, ◌≢◌, ◌⊎◌, ℕ, ◌<◌, ◌≤◌, List, [], ◌∷◌, length}
+use Rattle.pg_board.specs.Placement.{Placement}
+use Rattle.pg_position.specs.declared.moves.Move.{Move}
+use Rattle.pg_texts.specs.Report.{IsVerdict}
+use Rattle.pg_texts.specs.declared.verdict.Verdict.TheVariants.{Sound}
+use Rattle.pg_checker.specs.Answer.{IsSolution, IsExactAnswer, AreSolutions}
+use Rattle.pg_checker.specs.Listed.{IsListFault}
+use Rattle.pg_checker.specs.declared.fault.ListFault.{ListFault}
+use Rattle.pg_cooks.specs.Unsound.{IsUnsound}
+use Rattle.pg_judge.specs.declared.ruling.Evidence.{Evidence}
+use Rattle.pg_judge.specs.declared.ruling.Evidence.TheVariants.{Several, Another, Shorter}
+use Rattle.pg_judge.specs.Entries.{IsEntry, IsSkipped}
+use Rattle.pg_judge.specs.declared.entry.Entry.{Entry}
+use Rattle.pg_judge.specs.declared.given.Given.{Given}
+use Rattle.pg_judge.specs.declared.given.Given.TheVariants.{NoGame, Solves, Fails}
+use Rattle.pg_judge.specs.declared.ruling.Finding.{Finding}
+use Rattle.pg_judge.specs.declared.ruling.Finding.TheVariants.{Settled, NotSound, NotSettled}
+
+-- what shows that a problem is not sound: two solutions or more, or one beside the author's, or a shorter game
+abbrev pub IsEvidence : Placement → ℕ → Evidence → Type 0
+IsEvidence d n (Several games) = AreSolutions d n games × (2 ≤ length games)
+IsEvidence d n (Another game) = IsSolution d n game.items
+IsEvidence d n (Shorter game) = (length game.items < n) × IsSolution d (length game.items) game.items
+
+-- What is found of the diagram d and n plies. `sound`, `cooked` and `no game`: the games are the exact answer, one, two
+-- or more, or none. `not sound`: no list of one game is the exact answer, and that is shown. `not settled` claims nothing.
+abbrev pub IsFinding : Placement → ℕ → Finding → Type 0
+IsFinding d n (Settled verdict games) = IsExactAnswer d n games × IsVerdict games verdict
+IsFinding d n (NotSound evidence) = IsUnsound d n × IsEvidence d n evidence
+IsFinding d n (NotSettled known) = Unit {0}
+
+-- it is said that the problem is sound
+abbrev pub IsSaidSound : Finding → Type 0
+IsSaidSound (Settled verdict games) = verdict ≡ Sound
+IsSaidSound (NotSound evidence) = ⊥
+IsSaidSound (NotSettled known) = ⊥
+
+-- a list of one game is the exact answer to the diagram d and n plies
+abbrev pub IsSound : Placement → ℕ → Type 0
+IsSound d n = (g : List Move) × IsExactAnswer d n (g ∷ [])
+
+-- the line is blank or a comment, or spells a problem that is sound
+abbrev pub IsSoundLine : List ℕ → Type 0
+IsSoundLine line = IsSkipped line
+    ⊎ ((entry : Entry) × IsEntry line entry × IsSound entry.problem.diagram entry.problem.length)
+
+-- ---- the author's game
+-- what the author's games are: none is given; or each is a solution; or one is not
+abbrev pub IsGiven : Placement → ℕ → List (List Move) → Given → Type 0
+IsGiven d n games NoGame = games ≡ []
+IsGiven d n games Solves = (games ≢ []) × AreSolutions d n games
+IsGiven d n games Fails = (games ≢ []) × ((fault : ListFault) × IsListFault d n games fault)

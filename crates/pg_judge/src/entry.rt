@@ -1,0 +1,195 @@
+//! A line of a file of problems.
+ghost use Rattle.std.specs.Prelude.{◌≡◌, ◌↔◌, ◌<◌, ℕ, List, ◌∷◌, length, IsTrue, IfOk, IfErr, IfSome, IfNone, MatchOption, Ok, Some, slice_get};
+ghost use Rattle.std.specs.List.{list_all};
+ghost use Rattle.pg_fen.specs.Fields.{fields};
+ghost use Rattle.pg_fen.specs.DiagramText.{diagram_of};
+ghost use Rattle.pg_fen.specs.Lengths.{length_of};
+ghost use Rattle.pg_san.specs.GameText.{words};
+ghost use Rattle.pg_san.specs.Listing.{IsListing};
+ghost use Rattle.pg_judge.specs.Entries.{Begins, IsEntry, IsEntryFault, IsGamesFault, IsHash, IsName, IsProblemFault};
+ghost use Rattle.pg_judge.specs.Entries.{IsSkipped, is_name_byte};
+
+use crate::entry_fault::EntryFault;
+use crate::words::next_word;
+use pg_checker::Problem;
+use pg_fen::{Diagram, Length};
+use pg_san::{Games, read_games};
+use std::alloc::Global;
+use std::str;
+
+/// A problem: its name, what it asks, and the author's game, if he gives one.
+#[derive(Drop)]
+pub struct Entry<'a> {
+    pub name: &'a str,
+    pub problem: Problem,
+    pub games: Games,
+}
+
+fn is_name_byte(byte: u8) -> bool
+    ensures { result ≡ is_name_byte byte }
+{
+    byte.is_ascii_alphanumeric() || matches!(byte, b'-' | b'_' | b'.')
+}
+
+fn begins_with(word: &[u8], byte: u8) -> bool
+    ensures { IsTrue result ↔ (slice_get word.now 0 ≡ Some byte) }
+{
+    match word.first() {
+        Some(first) => *first == byte,
+        None => false,
+    }
+}
+
+fn are_name_bytes(word: &[u8]) -> bool
+    ensures { result ≡ list_all is_name_byte word.now }
+{
+    word.iter().all(|b| is_name_byte(*b))
+}
+
+// Whether a word is fit for the name of a file.
+fn is_name(word: &[u8]) -> bool
+    ensures { IsTrue result ↔ IsName word.now }
+{
+    are_name_bytes(word) && !begins_with(word, b'.')
+}
+
+// Whether a word begins a comment.
+fn is_hash(word: &[u8]) -> bool
+    ensures { IsTrue result ↔ IsHash word.now }
+{
+    begins_with(word, b'#')
+}
+
+// The name with which a line begins, and what follows it; none where the line has no words or is a comment.
+fn name_of(line: &[u8]) -> Option<(&[u8], &[u8])>
+    ensures { MatchOption result (IsSkipped line.now) (λ r. Begins line.now r.0.now r.1.now) }
+{
+    match next_word(line) {
+        Some((word, rest)) => {
+            if is_hash(word) {
+                None
+            } else {
+                Some((word, rest))
+            }
+        }
+        None => None,
+    }
+}
+
+// The texts of a diagram and of a length with which a text begins, and that of games which follows them.
+#[derive(Clone, Copy)]
+struct Parts<'a> {
+    diagram: &'a [u8],
+    length: &'a [u8],
+    games: &'a [u8],
+}
+
+// The parts of what stands behind a name; none where two words are wanting.
+fn parts_of(text: &[u8]) -> Option<Parts<'_>>
+    ensures { MatchOption result (length (words text.now) < 2)
+        (λ p. words text.now ≡ p.diagram.now ∷ p.length.now ∷ words p.games.now) }
+{
+    let Some((diagram, rest)) = next_word(text) else {
+        return None;
+    };
+    match next_word(rest) {
+        Some((length, games)) => Some(Parts {
+            diagram,
+            length,
+            games,
+        }),
+        None => None,
+    }
+}
+
+// The problem that the texts of a diagram and a length spell.
+fn read_problem(diagram: &[u8], length: &[u8]) -> Result<Problem, EntryFault>
+    ensures ok { IfOk result (λ p. (diagram_of (fields diagram.now) ≡ Ok p.diagram)
+        × (length_of length.now ≡ Ok p.length)) }
+    ensures err { IfErr result (λ e. IsProblemFault diagram.now length.now e) }
+{
+    let diagram = match str::from_utf8(diagram) {
+        Ok(diagram) => diagram,
+        Err(_) => return Err(EntryFault::NotUtf8),
+    };
+    let length = match str::from_utf8(length) {
+        Ok(length) => length,
+        Err(_) => return Err(EntryFault::NotUtf8),
+    };
+    let diagram = match Diagram::read(diagram) {
+        Ok(diagram) => diagram,
+        Err(fault) => return Err(EntryFault::Diagram(fault)),
+    };
+    match Length::read(length) {
+        Ok(length) => Ok(Problem { diagram, length }),
+        Err(fault) => Err(EntryFault::Length(fault)),
+    }
+}
+
+// The games that a text spells.
+fn read_author(alloc: Global, text: &[u8]) -> Result<Games, EntryFault>
+    ensures ok { IfOk result (λ games. IsListing text.now games) }
+    ensures err { IfErr result (λ e. IsGamesFault text.now e) }
+{
+    let text = match str::from_utf8(text) {
+        Ok(text) => text,
+        Err(_) => return Err(EntryFault::NotUtf8),
+    };
+    match read_games(alloc, text) {
+        Ok(games) => Ok(games),
+        Err(fault) => Err(EntryFault::Games(fault)),
+    }
+}
+
+// The problem of a line that begins with this name.
+fn read_named<'a>(alloc: Global, name: &'a [u8], rest: &[u8]) -> Result<Entry<'a>, EntryFault>
+    ensures ok { (line : List ℕ) → Begins line name.now rest.now → IfOk result (λ e. IsEntry line e) }
+    ensures err { (line : List ℕ) → Begins line name.now rest.now → IfErr result (λ e. IsEntryFault line e) }
+{
+    if !is_name(name) {
+        return Err(EntryFault::Name);
+    }
+    let name = match str::from_utf8(name) {
+        Ok(name) => name,
+        Err(_) => return Err(EntryFault::Name),
+    };
+    let Some(parts) = parts_of(rest) else {
+        return Err(EntryFault::Short);
+    };
+    let problem = match read_problem(parts.diagram, parts.length) {
+        Ok(problem) => problem,
+        Err(fault) => return Err(fault),
+    };
+    match read_author(alloc, parts.games) {
+        Ok(games) => Ok(Entry {
+            name,
+            problem,
+            games,
+        }),
+        Err(fault) => Err(fault),
+    }
+}
+
+/// The problem that a line spells: words parted by spaces and tabs, of which the first is its name, the second a
+/// diagram (the placement field of FEN; the PGN standard, section 16.1), and the third a length in moves such as
+/// `18.5`; what stands behind them is the author's game, as `read_games` reads a line, or nothing. The name has letters
+/// and digits of ASCII, hyphens, underscores and dots, and begins with no dot, so that it is fit for the name of a file.
+/// None where the line has no words, or where its first word begins with `#`. The games are taken from `alloc`.
+///
+/// # Errors
+/// In this order: `Name` where the first word is no name; `Short` where there are fewer than three words; `NotUtf8`
+/// where the second or the third is not UTF-8, then `Diagram` and `Length` where that one is refused; `NotUtf8` where
+/// what stands behind them is not UTF-8; `Games` where it is refused, or where memory is refused for it.
+pub fn read_entry<'a>(alloc: Global, line: &'a [u8]) -> Result<Option<Entry<'a>>, EntryFault>
+    ensures skipped { IfOk result (λ o. IfNone o (IsSkipped line.now)) }
+    ensures ok { IfOk result (λ o. IfSome o (λ e. IsEntry line.now e)) }
+    ensures err { IfErr result (λ e. IsEntryFault line.now e) }
+{
+    let Some((name, rest)) = name_of(line) else {
+        return Ok(None);
+    };
+    match read_named(alloc, name, rest) {
+        Ok(entry) => Ok(Some(entry)),
+        Err(fault) => Err(fault),
+    }
+}

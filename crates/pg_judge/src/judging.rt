@@ -1,0 +1,181 @@
+//! A problem is judged.
+ghost use Rattle.std.specs.Prelude.{◌≤◌, IsTrue, IfOk, length};
+ghost use Rattle.pg_checker.specs.Answer.{AreSolutions};
+ghost use Rattle.pg_judge.specs.Ruling.{IsFinding};
+
+use crate::entry::Entry;
+use crate::given::{Given, given_to};
+use crate::leading::lead;
+use crate::limits::{FIRST, Limits, MOST, next_limit};
+use crate::progress::{Effort, JudgeProgress};
+use crate::ruling::{Evidence, Finding, Known, Reason, Ruling};
+use crate::scratch::Scratch;
+use crate::searching::{Attempt, Question, Stop, attempt_once};
+use pg_captures::Bound;
+use pg_checker::Problem;
+use pg_cooks::{Standing, standing_on};
+use pg_san::Games;
+use std::alloc::Global;
+
+// The author's games, where they solve the problem; those for which there is no room are left out.
+fn author_of(alloc: Global, entry: &Entry<'_>) -> Games {
+    let mut games = Games::new(alloc);
+    if given_to(entry) != Given::Solves {
+        return games;
+    }
+    for i in 0..entry.games.len() {
+        if let Some(game) = entry.games.game(i) {
+            let _ = games.add(game);
+        }
+    }
+    games
+}
+
+// One search, and where it gives up another that cuts by journeys too, if that is wanted.
+fn search_once<S: Scratch, P: JudgeProgress>(
+    alloc: Global,
+    question: &Question<'_>,
+    limits: Limits,
+    scratch: &mut S,
+    games: &mut Games,
+    watch: &mut P,
+) -> Result<Ruling, Stop>
+    ensures { IfOk result (λ r. IsFinding question.now.problem.now.diagram question.now.problem.now.length r.finding) }
+{
+    let limit = limits.max_nodes;
+    let first = Attempt {
+        effort: Effort::Search,
+        limit,
+    };
+    match attempt_once(alloc, question, first, scratch, games, watch) {
+        Ok(ruling) => return Ok(ruling),
+        Err(stop) => {
+            if !limits.by_journeys || games.len() >= 2 || stop.known.reason != Reason::Nodes {
+                return Err(stop);
+            }
+        }
+    }
+    let second = Attempt {
+        effort: Effort::Journeys,
+        limit,
+    };
+    attempt_once(alloc, question, second, scratch, games, watch)
+}
+
+// Whether a search with a greater limit may follow one that gave up: not where two games are known.
+fn may_go_on<P: JudgeProgress>(
+    now: Limits,
+    limits: Limits,
+    games: &Games,
+    stop: &Stop,
+    watch: &mut P,
+) -> bool {
+    let is_last = now.max_nodes >= limits.max_nodes || games.len() >= 2;
+    !is_last && stop.known.reason == Reason::Nodes && watch.goes_on()
+}
+
+// Searches with limits that grow, up to the last one, or till two games are known.
+fn search_on<S: Scratch, P: JudgeProgress>(
+    alloc: Global,
+    question: &Question<'_>,
+    limits: Limits,
+    scratch: &mut S,
+    games: &mut Games,
+    watch: &mut P,
+) -> Result<Ruling, Stop>
+    ensures { IfOk result (λ r. IsFinding question.now.problem.now.diagram question.now.problem.now.length r.finding) }
+{
+    let mut now = Limits {
+        max_nodes: FIRST.min(limits.max_nodes),
+        by_journeys: limits.by_journeys,
+    };
+    for _ in 0..MOST {
+        match search_once(alloc, question, now, scratch, games, watch) {
+            Ok(ruling) => return Ok(ruling),
+            Err(stop) => {
+                if !may_go_on(now, limits, games, &stop, watch) {
+                    return Err(stop);
+                }
+            }
+        }
+        now.max_nodes = next_limit(now.max_nodes, limits.max_nodes);
+    }
+    search_once(alloc, question, now, scratch, games, watch)
+}
+
+// Whether the games are two solutions or more.
+fn are_a_cook(problem: &Problem, games: &Games) -> bool
+    ensures { IsTrue result → AreSolutions problem.now.diagram problem.now.length games.now × 2 ≤ length games.now }
+{
+    match standing_on(&problem.diagram, problem.length, games) {
+        Ok(Standing::NotSound) => true,
+        _ => false,
+    }
+}
+
+// What is found where no search settled a problem: that it is not sound, where two games are known.
+fn found_at_last(problem: &Problem, games: Games, known: Known) -> Finding
+    ensures { IsFinding problem.now.diagram problem.now.length result }
+{
+    if are_a_cook(problem, &games) {
+        Finding::NotSound(Evidence::Several(games))
+    } else {
+        Finding::NotSettled(known)
+    }
+}
+
+// The same, with how far the search for cooks came, and the search that came last.
+fn ended(problem: &Problem, games: Games, stop: Stop, foreign: Option<u8>) -> Ruling
+    ensures { IsFinding problem.now.diagram problem.now.length result.finding }
+{
+    let Stop { known, means } = stop;
+    let Known {
+        games: met,
+        below,
+        foreign: _,
+        reason,
+    } = known;
+    let known = Known {
+        games: met,
+        below,
+        foreign,
+        reason,
+    };
+    Ruling {
+        finding: found_at_last(problem, games, known),
+        means,
+    }
+}
+
+/// Judges a problem. First, where the author's game solves it, a search led by it looks for another game or a shorter
+/// one, over at most a million nodes; where it finds one the problem is `NotSound`. Else searches of all games follow,
+/// of a million nodes, of ten times as many, and so on up to `limits`, each where the one before gave up, and each
+/// followed by one with cuts by journeys where `limits` say so and it gave up; what one has written to `scratch` is
+/// checked by these bounds, with the games that it found. With `Settled` those games are all that solve the problem,
+/// and no game of fewer plies ends on its diagram; what was checked stands in `scratch` then. With `NotSound` no list
+/// of one game is the answer: the search found a shorter game, which was found again and tested, or two games at least
+/// are known and tested. No search is trusted for anything. With `NotSettled` nothing is claimed; there is no refusal,
+/// since want of memory and a scratch that refuses are among its reasons. What the searches grow by is taken from
+/// `alloc`; `watch` is told how far they are.
+pub fn judge<S: Scratch, P: JudgeProgress>(
+    alloc: Global,
+    entry: &Entry<'_>,
+    bounds: &[Box<dyn Bound>],
+    limits: Limits,
+    scratch: &mut S,
+    watch: &mut P,
+) -> Ruling
+    ensures headline { IsFinding entry.now.problem.diagram entry.now.problem.length result.finding }
+{
+    let problem = &entry.problem;
+    let mut games = author_of(alloc, entry);
+    let foreign = match lead(alloc, problem, &games, limits.max_nodes, watch) {
+        Ok(ruling) => return ruling,
+        Err(foreign) => foreign,
+    };
+    let question = Question { problem, bounds };
+    match search_on(alloc, &question, limits, scratch, &mut games, watch) {
+        Ok(ruling) => ruling,
+        Err(stop) => ended(problem, games, stop, foreign),
+    }
+}

@@ -1,0 +1,31 @@
+//! The problems of a tourney, one after the other: a line is read, the problem is judged, and a row says what was found.
+#![tactic(auto)]
+
+mod entry;
+mod entry_fault;
+mod given;
+mod judging;
+mod leading;
+mod limits;
+mod lines;
+mod met;
+mod progress;
+mod rechecking;
+mod rows;
+mod ruling;
+mod scratch;
+mod searching;
+mod shorter;
+mod words;
+
+pub use entry::{Entry, read_entry};
+pub use entry_fault::EntryFault;
+pub use given::{Given, given_to};
+pub use judging::judge;
+pub use limits::Limits;
+pub use lines::next_line;
+pub use progress::{Effort, JudgeProgress};
+pub use rechecking::recheck;
+pub use rows::write_row;
+pub use ruling::{Evidence, Finding, Known, Means, Reason, Ruling, is_sound};
+pub use scratch::Scratch;

@@ -1,0 +1,45 @@
+//! A certificate that stands there already.
+ghost use Rattle.std.specs.Prelude.{IfOk};
+ghost use Rattle.pg_judge.specs.Ruling.{IsFinding};
+
+use crate::ruling::{Finding, Means, Ruling};
+use crate::searching::verdict_on;
+use pg_captures::Bound;
+use pg_certificate::Source;
+use pg_certificate::format::MOST_NAMED;
+use pg_checker::{Answer, AnswerFault, Problem, answer};
+use std::alloc::Global;
+
+/// What a certificate of a problem proves, by these bounds: its games are all that solve the problem, and no game of
+/// fewer plies ends on the diagram. The list and the named nodes are taken from `alloc`.
+///
+/// # Errors
+/// As for `answer`: where the certificate is refused, or is of another problem.
+pub fn recheck<R: Source>(
+    alloc: Global,
+    problem: &Problem,
+    bounds: &[Box<dyn Bound>],
+    source: &mut R,
+    max_records: u64,
+) -> Result<Ruling, AnswerFault>
+    ensures headline { IfOk result (λ r. IsFinding problem.now.diagram problem.now.length r.finding) }
+{
+    match answer(
+        alloc,
+        &problem.diagram,
+        problem.length,
+        bounds,
+        source,
+        max_records,
+        MOST_NAMED,
+    ) {
+        Ok(answer) => {
+            let Answer { games, proved } = answer;
+            Ok(Ruling {
+                finding: Finding::Settled(verdict_on(&games), games),
+                means: Means::Certificate(proved.records),
+            })
+        }
+        Err(fault) => Err(fault),
+    }
+}

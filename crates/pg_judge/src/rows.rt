@@ -1,0 +1,344 @@
+//! The row of a problem.
+ghost use Rattle.std.specs.Prelude.{◌≡◌, ◌<◌, ◌++◌, ◌≤◌, cond, eqb, length as length_of, codes, decimal, IfErr};
+ghost use Rattle.pg_certificate.specs.Pushing.{Adds, AddsSome, MayPush, Pushes};
+ghost use Rattle.pg_san.specs.Games.{IsFromArray};
+ghost use Rattle.pg_texts.specs.Movetext.{IsMovetext};
+ghost use Rattle.pg_texts.specs.Report.{verdict_text};
+ghost use Rattle.pg_cooks.specs.Cooks.{foreign_text};
+ghost use Rattle.pg_judge.specs.Ruling.{IsFinding};
+ghost use Rattle.pg_judge.specs.Rows.{ArePair, AreShown, IsDetail, IsEvidenceText, IsNth, IsRowOf, IsTold, IsWritable};
+ghost use Rattle.pg_judge.specs.Rows.{IsWritten, below_text, cooks_text, effort_text, finding_text, given_text};
+ghost use Rattle.pg_judge.specs.Rows.{head_text, known_text, means_text, reason_text, refused_text};
+
+use crate::entry::Entry;
+use crate::given::{Given, given_to};
+use crate::progress::Effort;
+use crate::ruling::{Evidence, Finding, Known, Means, Reason, Ruling};
+use pg_certificate::{Refused, Sink, WriteFault};
+use pg_fen::Length;
+use pg_fen::text::digits;
+use pg_position::Move;
+use pg_san::Games;
+use pg_texts::{Verdict, write_movetext};
+
+// The words for a verdict.
+fn verdict_words(verdict: Verdict) -> &'static str
+    ensures { result.now ≡ verdict_text verdict }
+{
+    match verdict {
+        Verdict::Sound => "sound",
+        Verdict::Cooked => "cooked",
+        Verdict::NoGame => "no game",
+    }
+}
+
+// The words for what is found.
+fn finding_words(finding: &Finding) -> &'static str
+    ensures { result.now ≡ finding_text finding.now }
+{
+    match finding {
+        Finding::Settled(verdict, _) => verdict_words(*verdict),
+        Finding::NotSound(_) => "not sound",
+        Finding::NotSettled(_) => "not settled",
+    }
+}
+
+// The words for what the author's game is.
+fn given_words(given: Given) -> &'static str
+    ensures { result.now ≡ given_text given }
+{
+    match given {
+        Given::NoGame => "-",
+        Given::Solves => "solves",
+        Given::Fails => "fails",
+    }
+}
+
+// The words for a search.
+fn effort_words(effort: Effort) -> &'static str
+    ensures { result.now ≡ effort_text effort }
+{
+    match effort {
+        Effort::Cooks => "cooks, ",
+        Effort::Search => "search, ",
+        Effort::Journeys => "journeys, ",
+    }
+}
+
+// The words for why nothing is settled.
+fn reason_words(reason: Reason) -> &'static str
+    ensures { result.now ≡ reason_text reason }
+{
+    match reason {
+        Reason::Nodes => "limit reached",
+        Reason::Memory => "out of memory",
+        Reason::Scratch => "certificate not written",
+        Reason::Refused => "certificate refused",
+    }
+}
+
+// The words behind a number of games that were met.
+fn met_words(n: usize) -> &'static str
+    ensures { result.now ≡ cond (eqb n 1) (codes " game met") (codes " games met") }
+{
+    match n {
+        1 => " game met",
+        _ => " games met",
+    }
+}
+
+// The words behind a number of foreign moves.
+fn foreign_words(n: u8) -> &'static str
+    ensures { result.now ≡ foreign_text n }
+{
+    match n {
+        1 => " foreign move",
+        _ => " foreign moves",
+    }
+}
+
+// The words for a certificate that was refused, if one was.
+fn refused_words(refused: bool) -> &'static str
+    ensures { result.now ≡ refused_text refused }
+{
+    if refused {
+        ", old certificate refused"
+    } else {
+        ""
+    }
+}
+
+// Appends a text, a number and a text.
+fn write_number<W: Sink>(before: &str, n: usize, behind: &str, out: &mut W) -> Result<(), Refused>
+    ensures { Pushes W.held W.has_failed
+        (Adds (before.now ++ (decimal n ++ behind.now))) out.old out.new result }
+{
+    out.push(before.as_bytes())?;
+    out.push(digits(n).as_bytes())?;
+    out.push(behind.as_bytes())
+}
+
+// Appends by what something was found.
+fn write_means<W: Sink>(means: Means, out: &mut W) -> Result<(), Refused>
+    ensures { Pushes W.held W.has_failed (Adds (means_text means)) out.old out.new result }
+{
+    match means {
+        Means::Certificate(records) => {
+            write_number("certificate, ", records as usize, " records", out)
+        }
+        Means::Search(effort, nodes) => {
+            write_number(effort_words(effort), nodes as usize, " nodes", out)
+        }
+    }
+}
+
+// Appends two texts, with a tab behind each.
+fn write_columns<W: Sink>(first: &str, second: &str, out: &mut W) -> Result<(), Refused>
+    ensures { Pushes W.held W.has_failed
+        (Adds (first.now ++ (codes "\t" ++ (second.now ++ codes "\t")))) out.old out.new result }
+{
+    out.push(first.as_bytes())?;
+    out.push(b"\t")?;
+    out.push(second.as_bytes())?;
+    out.push(b"\t")
+}
+
+// Appends by what something was found, with a tab behind it.
+fn write_how<W: Sink>(means: Means, refused: bool, out: &mut W) -> Result<(), Refused>
+    ensures { Pushes W.held W.has_failed
+        (Adds (means_text means ++ (refused_text refused ++ codes "\t"))) out.old out.new result }
+{
+    write_means(means, out)?;
+    out.push(refused_words(refused).as_bytes())?;
+    out.push(b"\t")
+}
+
+// Appends the columns before the last.
+fn write_head<W: Sink>(
+    name: &str,
+    length: Length,
+    given: Given,
+    ruling: &Ruling,
+    refused: bool,
+    out: &mut W,
+) -> Result<(), Refused>
+    ensures { Pushes W.held W.has_failed
+        (Adds (head_text name.now length given ruling.now refused)) out.old out.new result }
+{
+    write_columns(name, length.write().as_str(), out)?;
+    write_columns(finding_words(&ruling.finding), given_words(given), out)?;
+    write_how(ruling.means, refused, out)
+}
+
+// Appends the movetext of a game from the initial array.
+fn write_moves<W: Sink>(game: &[Move], out: &mut W) -> Result<(), Refused>
+    requires { IsFromArray game.now }
+    ensures { Pushes W.held W.has_failed (AddsSome (IsMovetext game.now)) out.old out.new result }
+{
+    match write_movetext(game, out) {
+        Ok(()) => Ok(()),
+        Err(_) => Err(Refused),
+    }
+}
+
+// Appends the movetext of the game of a list with this index.
+fn write_nth<W: Sink>(games: &Games, i: usize, out: &mut W) -> Result<(), Refused>
+    requires { i < length_of games.now }
+    ensures { Pushes W.held W.has_failed (AddsSome (IsNth games.now i)) out.old out.new result }
+{
+    // A fact for the proof: they are games from the initial array.
+    games.len();
+    let Some(game) = games.game(i) else {
+        unreachable!();
+    };
+    write_moves(game, out)
+}
+
+// Appends the movetexts of the first two games of a list.
+fn write_pair<W: Sink>(games: &Games, out: &mut W) -> Result<(), Refused>
+    requires { 2 ≤ length_of games.now }
+    ensures { Pushes W.held W.has_failed (AddsSome (ArePair games.now)) out.old out.new result }
+{
+    write_nth(games, 0, out)?;
+    out.push(b"; ")?;
+    write_nth(games, 1, out)
+}
+
+// Appends the games of a list: none, one, or how many there are and the first two.
+fn write_list<W: Sink>(label: &str, games: &Games, out: &mut W) -> Result<(), Refused>
+    ensures { Pushes W.held W.has_failed (AddsSome (AreShown label.now games.now)) out.old out.new result }
+{
+    match games.len() {
+        0 => out.push(b"-"),
+        1 => write_nth(games, 0, out),
+        n => {
+            write_number("", n, label, out)?;
+            write_pair(games, out)
+        }
+    }
+}
+
+// Appends a text, and the movetext of a game behind it.
+fn write_told<W: Sink>(label: &str, game: &[Move], out: &mut W) -> Result<(), Refused>
+    requires { IsFromArray game.now }
+    ensures { Pushes W.held W.has_failed (AddsSome (IsTold label.now game.now)) out.old out.new result }
+{
+    out.push(label.as_bytes())?;
+    write_moves(game, out)
+}
+
+// Appends the movetext of a shorter game, behind the number of its plies.
+fn write_shorter<W: Sink>(game: &[Move], out: &mut W) -> Result<(), Refused>
+    requires { IsFromArray game.now }
+    ensures { Pushes W.held W.has_failed (AddsSome (IsTold
+        (codes "a game of " ++ (decimal (length_of game.now) ++ codes " plies: ")) game.now)) out.old out.new result }
+{
+    write_number("a game of ", game.len(), " plies: ", out)?;
+    write_moves(game, out)
+}
+
+// Appends what shows that a problem is not sound.
+fn write_evidence<W: Sink>(evidence: &Evidence, out: &mut W) -> Result<(), Refused>
+    requires { IsWritable evidence.now }
+    ensures { Pushes W.held W.has_failed (AddsSome (IsEvidenceText evidence.now)) out.old out.new result }
+{
+    match evidence {
+        Evidence::Several(games) => write_list(" games met: ", games, out),
+        Evidence::Another(game) => write_told("another game: ", game.as_slice(), out),
+        Evidence::Shorter(game) => write_shorter(game.as_slice(), out),
+    }
+}
+
+// Appends below which length no game was met, where that is known.
+fn write_below<W: Sink>(below: &Option<Length>, out: &mut W) -> Result<(), Refused>
+    ensures { MayPush W.held W.has_failed (Adds (below_text below.now)) out.old out.new result }
+{
+    match below {
+        Some(length) => {
+            out.push(b"; none below ")?;
+            out.push(length.write().as_bytes())
+        }
+        None => Ok(()),
+    }
+}
+
+// Appends how far the search for cooks came.
+fn write_cooks<W: Sink>(foreign: Option<u8>, out: &mut W) -> Result<(), Refused>
+    ensures { MayPush W.held W.has_failed (Adds (cooks_text foreign)) out.old out.new result }
+{
+    match foreign {
+        Some(n) => write_number(
+            "; no cook with at most ",
+            usize::from(n),
+            foreign_words(n),
+            out,
+        ),
+        None => Ok(()),
+    }
+}
+
+// Appends what is known where nothing is settled.
+fn write_known<W: Sink>(known: &Known, out: &mut W) -> Result<(), Refused>
+    ensures { Pushes W.held W.has_failed (Adds (known_text known.now)) out.old out.new result }
+{
+    write_number("", known.games, met_words(known.games), out)?;
+    write_below(&known.below, out)?;
+    write_cooks(known.foreign, out)?;
+    out.push(b"; ")?;
+    out.push(reason_words(known.reason).as_bytes())
+}
+
+// Appends the last column.
+fn write_detail<W: Sink>(finding: &Finding, out: &mut W) -> Result<(), Refused>
+    requires { IsWritten finding.now }
+    ensures { Pushes W.held W.has_failed (AddsSome (IsDetail finding.now)) out.old out.new result }
+{
+    match finding {
+        Finding::Settled(_, games) => write_list(" games: ", games, out),
+        Finding::NotSound(evidence) => write_evidence(evidence, out),
+        Finding::NotSettled(known) => write_known(known, out),
+    }
+}
+
+// Appends a row.
+fn append_row<W: Sink>(
+    entry: &Entry<'_>,
+    ruling: &Ruling,
+    refused: bool,
+    out: &mut W,
+) -> Result<(), Refused>
+    requires { IsFinding entry.now.problem.diagram entry.now.problem.length ruling.now.finding }
+    ensures { Pushes W.held W.has_failed
+        (AddsSome (IsRowOf entry.now ruling.now refused)) out.old out.new result }
+{
+    let length = entry.problem.length;
+    write_head(entry.name, length, given_to(entry), ruling, refused, out)?;
+    write_detail(&ruling.finding, out)?;
+    out.push(b"\n")
+}
+
+/// Writes the row of a problem, of what is found of it and by what, and of whether a certificate that stood there was
+/// refused. The columns, with a tab between two of them: the name; the length; `sound`, `cooked`, `no game`, `not sound`
+/// or `not settled`; `-` where no game is given, `solves` where the author's game does, `fails` where it does not; by
+/// what it was found, as `search, 67036 nodes`, `journeys, 3033 nodes`, `cooks, 211 nodes` or `certificate, 67037
+/// records`, and `, old certificate refused`; and last the game, of more than one their number and the first two, the
+/// other game, the shorter one, or what is known where nothing is settled. Takes no memory.
+///
+/// # Errors
+/// `Write` where the sink has failed.
+pub fn write_row<W: Sink>(
+    entry: &Entry<'_>,
+    ruling: &Ruling,
+    refused: bool,
+    out: &mut W,
+) -> Result<(), WriteFault>
+    requires { IsFinding entry.now.problem.diagram entry.now.problem.length ruling.now.finding }
+    ensures row { Pushes W.held W.has_failed
+        (AddsSome (IsRowOf entry.now ruling.now refused)) out.old out.new result }
+    ensures fault { IfErr result (λ e. e ≡ WriteFault.Write) }
+{
+    match append_row(entry, ruling, refused, out) {
+        Ok(()) => Ok(()),
+        Err(Refused) => Err(WriteFault::Write),
+    }
+}

@@ -1,0 +1,194 @@
+//! One search for the games of a problem, and the check of what it wrote.
+ghost use Rattle.std.specs.Prelude.{◌≡◌, ℕ, ◌<◌, length, IfOk, IfSome};
+ghost use Rattle.pg_texts.specs.Report.{IsVerdict};
+ghost use Rattle.pg_judge.specs.Ruling.{IsFinding};
+
+use crate::met::Met;
+use crate::progress::{Effort, JudgeProgress};
+use crate::ruling::{Finding, Known, Means, Reason, Ruling};
+use crate::scratch::Scratch;
+use crate::shorter::refuted;
+use pg_captures::Bound;
+use pg_certificate::format::MOST_NAMED;
+use pg_certificate::{FromRead, ToWrite};
+use pg_checker::{Problem, check};
+use pg_fen::Length;
+use pg_san::Games;
+use pg_searcher::{SearchFault, search_by_journeys, search_watched};
+use pg_texts::Verdict;
+use std::alloc::Global;
+
+// A problem, and the bounds by which certificates of it are checked.
+#[derive(Clone, Copy)]
+pub(crate) struct Question<'a> {
+    pub(crate) problem: &'a Problem,
+    pub(crate) bounds: &'a [Box<dyn Bound>],
+}
+
+// One search, and how many nodes it visits at most.
+#[derive(Clone, Copy)]
+pub(crate) struct Attempt {
+    pub(crate) effort: Effort,
+    pub(crate) limit: u64,
+}
+
+// What a search came to: the games that it found, or why it has none; how many nodes it visited, as far as it told;
+// and the plies of the tree at work.
+#[derive(Drop)]
+pub(crate) struct Searched {
+    found: Result<Games, SearchFault>,
+    nodes: u64,
+    tree: u8,
+}
+
+// What a search came to that did not settle the problem, and which search that was.
+#[derive(Clone, Copy)]
+pub(crate) struct Stop {
+    pub(crate) known: Known,
+    pub(crate) means: Means,
+}
+
+// Empties the scratch, searches, writes the certificate there, and adds the games that are met to those that are known.
+pub(crate) fn search_for<S: Scratch, P: JudgeProgress>(
+    alloc: Global,
+    problem: &Problem,
+    attempt: Attempt,
+    scratch: &mut S,
+    games: &mut Games,
+    watch: &mut P,
+) -> Searched {
+    let Attempt { effort, limit } = attempt;
+    if scratch.clear().is_err() {
+        return Searched {
+            found: Err(SearchFault::Write),
+            nodes: 0,
+            tree: 0,
+        };
+    }
+    watch.begins(effort, limit);
+    let mut met = Met::new(watch, games, limit);
+    let mut sink = ToWrite::new(scratch);
+    let (diagram, length) = (&problem.diagram, problem.length);
+    let found = match effort {
+        Effort::Journeys => {
+            search_by_journeys(alloc, diagram, length, limit, &mut sink, &mut met)
+        }
+        Effort::Search | Effort::Cooks => {
+            search_watched(alloc, diagram, length, limit, &mut sink, &mut met)
+        }
+    };
+    Searched {
+        found,
+        nodes: limit.saturating_sub(met.left),
+        tree: met.tree,
+    }
+}
+
+// The verdict on a list of games.
+pub(crate) fn verdict_on(games: &Games) -> Verdict
+    ensures { IsVerdict games.now result }
+{
+    match games.len() {
+        0 => Verdict::NoGame,
+        1 => Verdict::Sound,
+        _ => Verdict::Cooked,
+    }
+}
+
+// Checks the certificate that was written, with the games that were found. A search writes at most one record for each
+// node, so the check needs no limit of its own.
+fn confirmed<S: Scratch>(
+    alloc: Global,
+    question: &Question<'_>,
+    games: Games,
+    scratch: &mut S,
+) -> Result<Finding, Reason>
+    ensures { IfOk result (λ f. IsFinding question.now.problem.now.diagram question.now.problem.now.length f) }
+{
+    if scratch.rewind().is_err() {
+        return Err(Reason::Scratch);
+    }
+    let Question { problem, bounds } = *question;
+    let mut source = FromRead::new(scratch);
+    match check(
+        alloc,
+        &problem.diagram,
+        problem.length,
+        &games,
+        bounds,
+        &mut source,
+        u64::MAX,
+        MOST_NAMED,
+    ) {
+        Ok(_) => Ok(Finding::Settled(verdict_on(&games), games)),
+        Err(_) => Err(Reason::Refused),
+    }
+}
+
+// Why a search that ended so settled nothing.
+fn reason_of<S: Scratch>(fault: SearchFault, scratch: &S) -> Reason {
+    match fault {
+        SearchFault::Budget | SearchFault::Shorter(_) | SearchFault::TooManyGames => Reason::Nodes,
+        SearchFault::Write if !scratch.is_memory() => Reason::Scratch,
+        SearchFault::Write | SearchFault::Memory => Reason::Memory,
+    }
+}
+
+// What a search found, once it is checked or tested; or why it settled nothing.
+fn settled<S: Scratch, P: JudgeProgress>(
+    alloc: Global,
+    question: &Question<'_>,
+    attempt: Attempt,
+    found: Result<Games, SearchFault>,
+    scratch: &mut S,
+    watch: &mut P,
+) -> Result<Finding, Reason>
+    ensures { IfOk result (λ f. IsFinding question.now.problem.now.diagram question.now.problem.now.length f) }
+{
+    match found {
+        Ok(games) => confirmed(alloc, question, games, scratch),
+        Err(SearchFault::Shorter(plies)) => {
+            refuted(alloc, question.problem, plies, attempt, scratch, watch)
+        }
+        Err(fault) => Err(reason_of(fault, scratch)),
+    }
+}
+
+// The length of the tree at work, below which no game was met; none where that is the first one.
+fn below(tree: u8) -> Option<Length> {
+    if tree == 0 {
+        return None;
+    }
+    Length::from_plies(tree)
+}
+
+// Searches once, and checks what was written; the games that are met are added to those that are known.
+//
+// # Errors
+// Where that settles nothing, what is known then.
+pub(crate) fn attempt_once<S: Scratch, P: JudgeProgress>(
+    alloc: Global,
+    question: &Question<'_>,
+    attempt: Attempt,
+    scratch: &mut S,
+    games: &mut Games,
+    watch: &mut P,
+) -> Result<Ruling, Stop>
+    ensures { IfOk result (λ r. IsFinding question.now.problem.now.diagram question.now.problem.now.length r.finding) }
+{
+    let searched = search_for(alloc, question.problem, attempt, scratch, games, watch);
+    let Searched { found, nodes, tree } = searched;
+    let means = Means::Search(attempt.effort, nodes);
+    match settled(alloc, question, attempt, found, scratch, watch) {
+        Ok(finding) => Ok(Ruling { finding, means }),
+        Err(reason) => {
+            let known = Known {
+                games: games.len(),
+                below: below(tree),
+                foreign: None,
+                reason,
+            };
+            Err(Stop { known, means })
+        }
+    }
+}

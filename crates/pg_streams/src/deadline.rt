@@ -1,0 +1,127 @@
+//! A run that ends when its time is over.
+
+use pg_position::Move;
+use pg_searcher::{LedProgress, SearchProgress};
+use std::time::{Clock, Instant};
+
+// The clock is asked once in so many turns of a search.
+const TURNS: u32 = 1024;
+
+// So many digits of a part of a minute count.
+const PLACES: usize = 6;
+
+/// The milliseconds that a text of minutes says: decimal digits, and maybe a dot and digits behind it, of which the
+/// first six count, as in `5` and `0.5`. None for any other text, and for more than 2^64 - 1.
+pub fn milliseconds_of(minutes: &str) -> Option<u64> {
+    let (whole, part) = match minutes.split_once('.') {
+        Some((whole, part)) => (whole, part),
+        None => (minutes, "0"),
+    };
+    if !are_digits(whole) || !are_digits(part) {
+        return None;
+    }
+    let whole = whole.parse::<u64>().ok()?;
+    whole.checked_mul(60_000)?.checked_add(part_of(part))
+}
+
+fn are_digits(text: &str) -> bool {
+    !text.is_empty() && text.bytes().all(|byte| byte.is_ascii_digit())
+}
+
+// The milliseconds of a part of a minute, by the digits behind the dot.
+fn part_of(digits: &str) -> u64 {
+    let mut millionths = 0u64;
+    let mut place = 100_000u64;
+    for byte in digits.bytes().take(PLACES) {
+        let digit = u64::from(byte.saturating_sub(b'0'));
+        millionths = millionths.saturating_add(digit.saturating_mul(place));
+        place /= 10;
+    }
+    millionths.saturating_mul(60) / 1000
+}
+
+/// When the time of a run is over, if ever. A clock that cannot be read gives no end.
+#[derive(Drop)]
+pub struct Deadline<'a, R> {
+    rt: &'a R,
+    began: Option<Instant>,
+    milliseconds: u64,
+    turns: u32,
+    is_over: bool,
+}
+
+impl<'a, R: Clock> Deadline<'a, R> {
+    /// Of a run that begins now and has so many milliseconds, or any number of them.
+    pub fn new(rt: &'a R, milliseconds: Option<u64>) -> Deadline<'a, R> {
+        Deadline {
+            rt,
+            began: match milliseconds {
+                Some(_) => Instant::now(rt).ok(),
+                None => None,
+            },
+            milliseconds: milliseconds.unwrap_or(u64::MAX),
+            turns: 0,
+            is_over: false,
+        }
+    }
+
+    // Whether the time is over now, by the clock.
+    fn has_passed(&self) -> bool {
+        let Some(began) = self.began else {
+            return false;
+        };
+        match began.elapsed(self.rt) {
+            Ok(passed) => passed.as_millis() >= u128::from(self.milliseconds),
+            Err(_) => false,
+        }
+    }
+
+    /// Whether the time is over, by the clock at the first turn and at each 1,024th from then on. Once it is over it
+    /// stays so.
+    pub fn is_over(&mut self) -> bool {
+        if !self.is_over && self.began.is_some() && self.turns % TURNS == 0 {
+            self.is_over = self.has_passed();
+        }
+        self.turns = self.turns.wrapping_add(1);
+        self.is_over
+    }
+}
+
+/// A search that ends when its time is over; who is told how far it is, is told too.
+#[derive(Drop)]
+pub struct Timed<'a, P, R> {
+    /// Who is told.
+    pub line: P,
+    deadline: Deadline<'a, R>,
+}
+
+impl<'a, P, R> Timed<'a, P, R> {
+    /// Of a search that has this deadline.
+    pub fn new(line: P, deadline: Deadline<'a, R>) -> Timed<'a, P, R> {
+        Timed { line, deadline }
+    }
+}
+
+impl<P: SearchProgress, R: Clock> SearchProgress for Timed<'_, P, R> {
+    fn reached(&mut self, plies: u8, left: u64) {
+        self.line.reached(plies, left);
+    }
+
+    fn met(&mut self, game: &[Move]) {
+        self.line.met(game);
+    }
+
+    fn goes_on(&mut self) -> bool {
+        !self.deadline.is_over() && self.line.goes_on()
+    }
+}
+
+impl<P: LedProgress, R: Clock> LedProgress for Timed<'_, P, R> {
+    fn reached(&mut self, foreign: u8, plies: u8, left: u64) {
+        self.line.reached(foreign, plies, left);
+    }
+
+    fn goes_on(&mut self) -> bool {
+        !self.deadline.is_over() && self.line.goes_on()
+    }
+}

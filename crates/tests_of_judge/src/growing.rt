@@ -1,0 +1,66 @@
+//! The limits of searches that follow one another.
+
+use crate::shared::ruled;
+use arrayvec::ArrayString;
+use pg_judge::*;
+use std::fmt::Write;
+use std::io::Cursor;
+use std::process::Abort;
+
+// Writes down each search that begins, and ends it at the first node that it tells of; so the next one follows.
+#[derive(Drop)]
+struct Hasty {
+    said: ArrayString<256>,
+    is_told: bool,
+}
+
+impl JudgeProgress for Hasty {
+    fn begins(&mut self, effort: Effort, limit: u64) {
+        let _ = write!(self.said, "{effort:?} {limit}, ");
+    }
+
+    fn reached(&mut self, _plies: u8, _left: u64) {
+        self.is_told = true;
+    }
+
+    fn goes_on(&mut self) -> bool {
+        let is_told = self.is_told;
+        self.is_told = false;
+        !is_told
+    }
+}
+
+const SCHWEIG: &str =
+    "schweig r1bqkbnr/ppp2ppp/3p4/8/8/8/PPPPPPPP/R1BQKBNR 4.0 1. Nc3 d6 2. Nd5 Nd7 3. Nxe7 Ndf6 4. Nxg8 Nxg8";
+
+// Which searches are made within limits, where each is ended at once.
+fn check_searches<R: Abort + AllocGlobal>(rt: &R, max_nodes: u64, by_journeys: bool, wanted: &str) {
+    let limits = Limits {
+        max_nodes,
+        by_journeys,
+    };
+    let mut watch = Hasty {
+        said: ArrayString::new(),
+        is_told: false,
+    };
+    let mut scratch = Cursor::new(Vec::new(rt.alloc()));
+    ruled(rt, SCHWEIG, limits, &mut scratch, &mut watch);
+    assert_eq!(rt; watch.said.as_str(), wanted);
+}
+
+#[test]
+fn limits_grow(rt: HostRuntime) {
+    check_searches(&rt, 500, false, "Cooks 500, Search 500, ");
+    check_searches(
+        &rt,
+        25_000_000,
+        false,
+        "Cooks 1000000, Search 1000000, Search 10000000, Search 25000000, ",
+    );
+    check_searches(
+        &rt,
+        10_000_000,
+        true,
+        "Cooks 1000000, Search 1000000, Journeys 1000000, Search 10000000, Journeys 10000000, ",
+    );
+}

@@ -1,0 +1,90 @@
+//! Certificates that stand there already.
+
+use crate::shared::{entry_of, five_bounds, row_of, ruled};
+use pg_certificate::FromRead;
+use pg_judge::*;
+use pg_moves::Unwatched;
+use std::io::Cursor;
+use std::process::Abort;
+
+const LIMITS: Limits = Limits {
+    max_nodes: 1000,
+    by_journeys: false,
+};
+
+const ORDERS: &str = "orders rnbqkbnr/pppp1ppp/4p3/8/8/3PP3/PPP2PPP/RNBQKBNR 1.5";
+
+const LONGER: &str = "longer rnbqkbnr/pppp1ppp/4p3/8/8/3PP3/PPP2PPP/RNBQKBNR 2.0";
+
+// The certificate that judging a problem leaves.
+fn certificate<R: Abort + AllocGlobal>(rt: &R, line: &str) -> Vec<u8> {
+    let mut scratch = Cursor::new(Vec::new(rt.alloc()));
+    ruled(rt, line, LIMITS, &mut scratch, &mut Unwatched);
+    scratch.into_inner()
+}
+
+// What bytes prove of a problem: the row, or why they prove nothing.
+fn check_standing<R: Abort + AllocGlobal>(rt: &R, line: &str, bytes: &[u8], wanted: &str) {
+    let entry = entry_of(rt, line);
+    let bounds = five_bounds(rt);
+    let mut source = FromRead::new(bytes);
+    let found = match recheck(
+        rt.alloc(),
+        &entry.problem,
+        bounds.as_slice(),
+        &mut source,
+        1000,
+    ) {
+        Ok(ruling) => row_of(rt, &entry, &ruling, false),
+        Err(fault) => format!(in rt.alloc(); "{fault}").expect(rt, "memory"),
+    };
+    assert_eq!(rt; found.as_str(), wanted);
+}
+
+#[test]
+fn standing_certificates(rt: HostRuntime) {
+    let bytes = certificate(&rt, ORDERS);
+    check_standing(
+        &rt,
+        ORDERS,
+        bytes.as_slice(),
+        "orders|1.5|cooked|-|certificate, 63 records|2 games: 1. d3 e6 2. e3; 1. e3 e6 2. d3\n",
+    );
+    check_standing(
+        &rt,
+        LONGER,
+        bytes.as_slice(),
+        "certificate for another length",
+    );
+    check_standing(
+        &rt,
+        ORDERS,
+        bytes.as_slice().get(..60).unwrap_or(b""),
+        "truncated certificate",
+    );
+    check_standing(&rt, ORDERS, b"", "truncated certificate");
+}
+
+// A row tells that a certificate was refused.
+#[test]
+fn refused_certificates_are_told(rt: HostRuntime) {
+    let entry = entry_of(&rt, ORDERS);
+    let bytes = certificate(&rt, ORDERS);
+    let bounds = five_bounds(&rt);
+    let mut source = FromRead::new(bytes.as_slice());
+    match recheck(
+        rt.alloc(),
+        &entry.problem,
+        bounds.as_slice(),
+        &mut source,
+        1000,
+    ) {
+        Ok(ruling) => {
+            let row = row_of(&rt, &entry, &ruling, true);
+            let wanted =
+                "orders|1.5|cooked|-|certificate, 63 records, old certificate refused|2 games: 1. d3 e6 2. e3; 1. e3 e6 2. d3\n";
+            assert_eq!(rt; row.as_str(), wanted);
+        }
+        Err(fault) => panic!(rt; "{fault}"),
+    }
+}
