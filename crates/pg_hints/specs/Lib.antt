@@ -1,0 +1,4 @@
+pub mod Meant
+pub mod Men
+pub mod Misfits
+pub mod Places
