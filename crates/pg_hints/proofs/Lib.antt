@@ -1,1 +1,2 @@
 pub mod FenLemmas
+mod PlaceLemmas

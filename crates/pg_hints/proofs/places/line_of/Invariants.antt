@@ -1,0 +1,13 @@
+use Rattle.std.proofs.Common.{◌≤◌, ◌+◌, length}
+use Rattle.pg_hints.specs.Places.{pieces_left, length_left}
+use Rattle.pg_hints.proofs.PlaceLemmas.{AreTaken}
+use Rattle.pg_hints.proofs.places.line_of.Given as goal
+
+abbrev pub invariant-loop-rest : goal.invariant-loop-rest
+invariant-loop-rest l = record {
+  few : l.number + length_left l.rest ≤ length l.fn.list + 1;
+  taken : AreTaken l.fn.list (pieces_left l.rest) l.number;
+}
+
+abbrev pub decreases-loop-rest : goal.decreases-loop-rest
+decreases-loop-rest l = length_left l.rest
