@@ -1,13 +1,15 @@
 //! Plans of a colour: what the fates of its men count, and which ways its plies pay for.
-ghost use Rattle.std.specs.Prelude.{◌≡◌, ℕ, Bool, Some, None, false, ◌+◌, ◌-◌, ◌<◌, ◌≤◌, ◌↔◌, IsTrue, IfSome, IfNone, true, get_or};
+ghost use Rattle.std.specs.Prelude.{◌≡◌, ℕ, Bool, Some, None, false, ◌+◌, ◌-◌, ◌<◌, ◌≤◌, ◌↔◌, IsTrue, IfSome, IfNone, true, get_or, List};
 ghost use Rattle.pg_board.specs.Bits.{has};
+ghost use Rattle.pg_board.specs.declared.man.Color.{Color as AnyColor};
 ghost use Rattle.pg_board.specs.declared.man.Kind.{Kind as KindOfMan};
 ghost use Rattle.pg_board.specs.Men.{other};
 ghost use Rattle.pg_board.specs.SquareSets.{IsSetOf};
 ghost use Rattle.pg_board.specs.Placement.{Placement};
 ghost use Rattle.pg_captures.specs.Owed.{plies_left, victims};
 ghost use Rattle.pg_travel.specs.Origins.{charge as charge_of, counted as counted_on};
-ghost use Rattle.pg_journeys.specs.Journeys.{HasPassed, IsWayUnder};
+ghost use Rattle.pg_journeys.specs.Facts.{Facts as GameFacts};
+ghost use Rattle.pg_journeys.specs.Journeys.{HasPassed, IsPath, IsWayUnder, Leg};
 ghost use Rattle.pg_journeys.specs.Known.{known, landing};
 ghost use Rattle.pg_journeys.specs.inner.Levels.{BackWithin};
 ghost use Rattle.pg_journeys.specs.inner.Rings.{AreRings, AreWithin};
@@ -276,6 +278,35 @@ pub(crate) fn man_of(side: &Side, is_quiet: bool, way: Option<Wing>, i: usize) -
     }
 }
 
+// Whether a man of a kind may come to be of another: a pawn of any but a king, any other man of none.
+fn may_become(kind: Kind, goal: Kind) -> bool
+    ensures { (f : GameFacts) (c : AnyColor) (r s : ℕ) (ls : List Leg) → IsPath f c kind r ls goal s → IsTrue result }
+{
+    match kind {
+        Kind::Pawn => match goal {
+            Kind::King => false,
+            _ => true,
+        },
+        _ => kind.number() == goal.number(),
+    }
+}
+
+// What a path of a man to be a man of the diagram counts at least, if that is at most `most`; 255 for none. Most pairs
+// are of kinds that tell it.
+fn arrival(side: &Side, aims: &Aims, most: u8, e: usize, man: &Runner) -> u8
+    requires side { (d : Placement) × IsSide d side.now }
+    requires goal { e < side.now.goals.count }
+    requires low { most < 200 }
+    requires aims { AreAims side.now man.now.is_quiet aims.now }
+    ensures { IsCountTo side.now most e man.now result }
+{
+    let goal = side.goals.kinds[e];
+    if !may_become(man.kind, goal) {
+        return 255;
+    }
+    count_to(side, aims, most, e, man)
+}
+
 // What it counts at least that a man is captured; 255 for none. A king never is, and who has just passed a square takes
 // no step.
 fn fall(side: &Side, aims: &Aims, most: u8, man: &Walker) -> u8
@@ -316,7 +347,7 @@ fn row(side: &Side, aims: &Aims, most: u8, man: &Walker) -> [u8; 16]
 {
     let mut row = [255u8; 16];
     for j in 0..side.goals.count {
-        row[j] = count_to(side, aims, most, j, &man.runner);
+        row[j] = arrival(side, aims, most, j, &man.runner);
     }
     if side.goals.count < side.men.count {
         let fall = fall(side, aims, most, man);
