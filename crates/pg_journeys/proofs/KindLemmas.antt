@@ -1,5 +1,5 @@
 -- What paths make of a man by his kind. Leads to the contracts of `may_become` and `arrival`.
-use Rattle.std.proofs.Common.{◌≡◌, ◌≢◌, ◌↔◌, ℕ, ◌<◌, ◌≤◌, ◌⊎◌, inl, inr, IsTrue, Bool, true, false, List, [], ◌∷◌, nat_eq, refl, sym, ap, subst, ◌∙◌, arith}
+use Rattle.std.proofs.Common.{◌≡◌, ◌≢◌, ℕ, ◌<◌, ◌≤◌, ◌⊎◌, inl, inr, IsTrue, Bool, true, false, List, [], ◌∷◌, nat_eq, refl, sym, ap, subst, ◌∙◌, arith}
 use Rattle.std.proofs.lemmas.Bool.{eq-eqb}
 use Rattle.pg_board.specs.declared.man.Color.{Color}
 use Rattle.pg_board.specs.declared.man.Kind.{Kind}
@@ -54,7 +54,10 @@ same_number k j m n ne is too f c r s ls p = elim (by_path f c k r ls j s p) [
 -- no path counts anything where the kinds forbid it
 pub no_arrival : (d : Placement) (x : Side) (most e : ℕ) (m : Runner) (goal : Kind) (may : Bool) → IsSide d x → e < x.goals.count → goal ≡ kind_at x.goals e →
     ((f : Facts) (c : Color) (r s : ℕ) (ls : List Leg) → IsPath f c m.kind r ls goal s → IsTrue may) → may ≡ false → IsCountTo x most e m 255
-no_arrival d x most e m goal may side low same tells off = inr (refl, λ w. elim w [
-  | inl g ↦ (let on : may ≡ true = tells (facts_of x) x.ground.color m.square (square_at x.goals e) g.1.0 (subst (λ (k : Kind). IsPath (facts_of x) x.ground.color m.kind m.square g.1.0 k (square_at x.goals e)) (sym same) g.1.1) in cc)
-  | inr g ↦ (let z : e ≡ 16 = g.0 in let few : x.goals.count ≤ 16 = side.goals.few in omega arith)
-])
+no_arrival d x most e m goal may side low same tells off = inr (
+  refl,
+  λ w. elim w [
+    | inl g ↦ (let on : may ≡ true = tells (facts_of x) x.ground.color m.square (square_at x.goals e) g.1.0 (subst (λ (k : Kind). IsPath (facts_of x) x.ground.color m.kind m.square g.1.0 k (square_at x.goals e)) (sym same) g.1.1) in cc)
+    | inr g ↦ (let z : e ≡ 16 = g.0 in let few : x.goals.count ≤ 16 = side.goals.few in omega arith)
+  ],
+)

@@ -24,6 +24,7 @@ mod LeastNeeds
 mod FirstDead
 mod WhoIsReached
 mod FrontLemmas
+mod KnownLemmas
 mod KindLemmas
 mod StepLemmas
 mod BackLemmas

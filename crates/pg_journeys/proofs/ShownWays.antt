@@ -157,3 +157,9 @@ module _ (f : Facts) (d : Placement) (p : State) (k : ℕ) (c : Color) where
   pub all_ways : (o : Option Shown) → ShowsAmong f d p k c every o → MatchOption o (IsDead f d p k c) (λ a. Shows f d p k c a)
   all_ways None none = λ v. none v (is_one v)
   all_ways (Some a) shows = shows_all a shows
+
+-- what each of the three ways has, all have
+pub each_way : (P : Option Wing → Type 0) → P None → P (Some KingSide) → P (Some QueenSide) → (way : Option Wing) → P way
+each_way P n s l None = n
+each_way P n s l (Some KingSide) = s
+each_way P n s l (Some QueenSide) = l

@@ -71,6 +71,7 @@ pub(crate) fn ground_of(facts: &Facts, color: Color, table: &[SquareSet; 384]) -
     ensures sound { IsGround result }
     ensures facts { result.facts ≡ facts.now }
     ensures color { result.color ≡ color }
+    ensures table { result.table ≡ table.now }
 {
     Ground {
         facts: *facts,

@@ -11,11 +11,13 @@ ghost use Rattle.pg_travel.specs.Origins.{charge as charge_of, counted as counte
 ghost use Rattle.pg_journeys.specs.Facts.{Facts as GameFacts};
 ghost use Rattle.pg_journeys.specs.Journeys.{HasPassed, IsPath, IsWayUnder, Leg};
 ghost use Rattle.pg_journeys.specs.Known.{known, landing};
+ghost use Rattle.pg_journeys.specs.inner.Grounds.{IsGround};
 ghost use Rattle.pg_journeys.specs.inner.Levels.{BackWithin};
 ghost use Rattle.pg_journeys.specs.inner.Rings.{AreRings, AreWithin};
 ghost use Rattle.pg_journeys.specs.inner.Costing.{IsOnSpan, InRing, IsCountTo, IsFall, IsCostRow, AreCostRows, AreCostsOf, HasTotalTo, walker_of};
+ghost use Rattle.pg_journeys.specs.declared.plans.Side.{Side as SideOf};
 ghost use Rattle.pg_journeys.specs.inner.Showing.{IsMeasured};
-ghost use Rattle.pg_journeys.specs.inner.Sides.{facts_of, IsSide, IsEnd, EndWithin, AreAims, JourneysOf, IsPaidBy};
+ghost use Rattle.pg_journeys.specs.inner.Sides.{facts_of, AreMen, IsSide, IsLike, IsEnd, EndWithin, AreAims, JourneysOf, IsPaidBy};
 
 use crate::facts::Facts;
 use crate::fronts::only;
@@ -49,45 +51,60 @@ pub(crate) struct Walker {
     pub(crate) runner: Runner,
 }
 
-// The men whom the paths to an end lead to be.
-fn end_goals(side: &Side, e: usize) -> [SquareSet; 6]
-    requires side { (d : Placement) × IsSide d side.now }
-    requires end { IsEnd side.now e }
-    ensures { (quiet : Bool) (n : ℕ) (k : KindOfMan) (s : ℕ) →
-        BackWithin (facts_of side.now) side.now.ground.color quiet result n k s ↔ EndWithin side.now quiet e n k s }
+// The men whom the paths to an end lead to be, for each side of this ground and these men of the diagram.
+fn end_goals(ground: &Ground, goals: &Men, e: usize) -> [SquareSet; 6]
+    requires { (b : Placement) × AreMen b ground.now.color goals.now }
+    ensures { (x : SideOf) → IsLike x ground.now goals.now → IsEnd x e → (quiet : Bool) (n : ℕ) (k : KindOfMan) (s : ℕ) →
+        BackWithin (known ground.now.facts) ground.now.color quiet result n k s ↔ EndWithin x quiet e n k s }
 {
-    if e < side.goals.count {
-        only(
-            side.goals.kinds[e],
-            SquareSet::single(side.goals.squares[e]),
-        )
+    if e < goals.count {
+        only(goals.kinds[e], SquareSet::single(goals.squares[e]))
     } else {
-        [side.ground.theirs(); 6]
+        [ground.theirs(); 6]
     }
 }
 
 // Writes the rings of the paths to an end, as far as `most`.
-fn aim(side: &Side, is_quiet: bool, most: u8, e: usize, rings: &mut Rings)
-    requires side { (d : Placement) × IsSide d side.now }
+fn aim(ground: &Ground, goals: &Men, is_quiet: bool, most: u8, e: usize, rings: &mut Rings)
+    requires sound { IsGround ground.now }
+    requires goals { (b : Placement) × AreMen b ground.now.color goals.now }
     requires low { most < 200 }
-    requires end { IsEnd side.now e }
-    ensures { AreRings (EndWithin side.now is_quiet e) rings.new }
+    ensures { (x : SideOf) → IsLike x ground.now goals.now → IsEnd x e → AreRings (EndWithin x is_quiet e) rings.new }
 {
-    rings_to(&side.ground, is_quiet, end_goals(side, e), most, rings);
+    rings_to(ground, is_quiet, end_goals(ground, goals, e), most, rings);
 }
 
-// Writes the rings of the paths to each end, as far as `most`.
+// Writes the rings of the paths to each of these men, and to being captured if that is asked, as far as `most`.
+pub(crate) fn fill_ends(
+    ground: &Ground,
+    goals: &Men,
+    with_fall: bool,
+    is_quiet: bool,
+    most: u8,
+    aims: &mut Aims,
+)
+    requires sound { IsGround ground.now }
+    requires goals { (b : Placement) × AreMen b ground.now.color goals.now }
+    requires low { most < 200 }
+    ensures { (x : SideOf) → IsLike x ground.now goals.now → (x.goals.count < x.men.count → with_fall ≡ true) →
+        AreAims x is_quiet aims.new }
+{
+    for e in 0..goals.count {
+        aim(ground, goals, is_quiet, most, e, &mut aims[e]);
+    }
+    if with_fall {
+        aim(ground, goals, is_quiet, most, 16, &mut aims[16]);
+    }
+}
+
+// Writes the rings of the paths to each end of a side, as far as `most`.
 pub(crate) fn fill_aims(side: &Side, is_quiet: bool, most: u8, aims: &mut Aims)
     requires side { (d : Placement) × IsSide d side.now }
     requires low { most < 200 }
     ensures { AreAims side.now is_quiet aims.new }
 {
-    for e in 0..side.goals.count {
-        aim(side, is_quiet, most, e, &mut aims[e]);
-    }
-    if side.goals.count < side.men.count {
-        aim(side, is_quiet, most, 16, &mut aims[16]);
-    }
+    let with_fall = side.goals.count < side.men.count;
+    fill_ends(&side.ground, &side.goals, with_fall, is_quiet, most, aims);
 }
 
 // The men whom a path of at most so many counts leads to an end, searched anew.
@@ -98,7 +115,7 @@ fn aim_anew(side: &Side, is_quiet: bool, e: usize, n: u8) -> [SquareSet; 6]
     requires low { n < 200 }
     ensures { AreWithin (EndWithin side.now is_quiet e) n result }
 {
-    let goals = end_goals(side, e);
+    let goals = end_goals(&side.ground, &side.goals, e);
     met_within(&side.ground, is_quiet, &goals, n)
 }
 

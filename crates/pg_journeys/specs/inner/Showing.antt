@@ -20,7 +20,7 @@ use Rattle.pg_journeys.specs.declared.plans.Side.{Side}
 use Rattle.pg_journeys.specs.declared.narrowing.Deeds.{Deeds}
 use Rattle.pg_journeys.specs.declared.shown.Shown.{Shown}
 use Rattle.pg_journeys.specs.declared.shown.Measured.{Measured}
-use Rattle.pg_journeys.specs.inner.Sides.{square_at, AreAims}
+use Rattle.pg_journeys.specs.inner.Sides.{facts_of, square_at, AreAims, IsSide}
 use Rattle.pg_journeys.specs.inner.Costing.{AreCostRows}
 
 -- whether only quiet steps count
@@ -130,3 +130,9 @@ pub record Shows (f : Facts) (d : Placement) (p : State) (k : ℕ) (c : Color) (
   pub falls : (u : Measure) → IsSetOf (falls_by a u) (PlansToFall f d p k c u)
   pub stays : (j : Kind) (s : ℕ) → s < 64 → Stands p.board c j s →
       (has a.changed s ≡ false) ↔ ((way : Option Wing) → IsAlive f d p k c way → StaysIn f d p k c way s)
+
+-- what the plans of a side show, whatever the diagram, where both measures may count so much: none where no way is alive
+abbrev pub IsShownBy : Side → ℕ → ℕ → Option Shown → Type 0
+IsShownBy x most fewest o =
+    (d : Placement) (k : ℕ) → IsSide d x → AreBudgets d x k most fewest →
+    MatchOption o (IsDead (facts_of x) d x.position k x.ground.color) (λ a. Shows (facts_of x) d x.position k x.ground.color a)
