@@ -1,5 +1,5 @@
 //! What the plans of a colour show under facts: who may change, where captures land and where men are captured.
-ghost use Rattle.std.specs.Prelude.{◌≡◌, ℕ, ◌<◌, ◌≤◌, ◌↔◌, IsTrue, IfSome, IfNone, MatchOption, Option, List, [], ◌∷◌, get_or, true, false, All};
+ghost use Rattle.std.specs.Prelude.{◌≡◌, ℕ, ◌<◌, ◌≤◌, ◌↔◌, IsTrue, IfSome, IfNone, MatchOption, Option, Some, List, [], ◌∷◌, get_or, true, false, All};
 ghost use Rattle.pg_board.specs.SquareSets.{IsSetOf};
 ghost use Rattle.pg_board.specs.Placement.{Placement};
 ghost use Rattle.pg_board.specs.Bits.{has};
@@ -15,13 +15,13 @@ ghost use Rattle.pg_journeys.specs.inner.Grounds.{HasSteps};
 ghost use Rattle.pg_journeys.specs.inner.Knowing.{IsKnown};
 ghost use Rattle.pg_journeys.specs.inner.Resting.{AreResting, lifted, lifted_from};
 ghost use Rattle.pg_journeys.specs.inner.Sides.{facts_of, square_at, AreAims, IsSide};
-ghost use Rattle.pg_journeys.specs.inner.Showing.{MayChange, IsMeasured, IsOneMeasure, IsBudget, AreBudgets, IsShownBy, ShowsWay, IsJoined, ShowsAmong, IsDead, Shows};
+ghost use Rattle.pg_journeys.specs.inner.Showing.{MayChange, IsMeasured, IsOneMeasure, IsBudget, AreBudgets, IsShownBy, ShowsNone, ShowsWay, IsJoined, ShowsAmong, IsDead, Shows};
 
 use crate::facts::Facts;
 use crate::ground::{ground_of, steps_table};
 use crate::known::{Given, Known, known_for};
 use crate::men::{Men, men_without};
-use crate::narrowing::{Deeds, deeds_of};
+use crate::narrowing::{Deeds, Found, deeds_of};
 use crate::plans::{Aims, Side, budget, counted, fill_aims, first_costs, is_paid, is_way};
 use crate::rings::Rings;
 use crate::rooms::rooms_of;
@@ -39,6 +39,22 @@ pub(crate) struct Shown {
     pub(crate) quiet_lands: SquareSet,
     pub(crate) falls: SquareSet,
     pub(crate) quiet_falls: SquareSet,
+}
+
+impl Shown {
+    // Nobody, and no square.
+    fn none() -> Shown
+        ensures { ShowsNone result }
+    {
+        let none = SquareSet::empty();
+        Shown {
+            changed: none,
+            lands: none,
+            quiet_lands: none,
+            falls: none,
+            quiet_falls: none,
+        }
+    }
 }
 
 // The paths to ends by a measure, what they may count, and what fates cost where none castles.
@@ -105,12 +121,14 @@ fn is_one_measure(side: &Side, most: u8, fewest: u8) -> bool
     most == fewest && side.ground.lands().is_empty()
 }
 
-// What the plans of a way show; none where it is not alive. Where both measures are one, one tells both.
+// What the plans of a way show; none where it is not alive. Where both measures are one, one tells both. Squares that
+// were found before are not looked for.
 fn way_shown(
     side: &Side,
     moves: &Measured<'_>,
     quiet: &Measured<'_>,
     way: Option<Wing>,
+    found: &Shown,
 ) -> Option<Shown>
     requires side { (d : Placement) × IsSide d side.now }
     requires moves { IsMeasured side.now false moves.now }
@@ -121,7 +139,7 @@ fn way_shown(
     ensures some { IfSome result (λ a. (d : Placement) (k : ℕ) → IsSide d side.now →
         AreBudgets d side.now k moves.now.most quiet.now.most →
         IsAlive (facts_of side.now) d side.now.position k side.now.ground.color way
-        × ShowsWay (facts_of side.now) d side.now.position k side.now.ground.color way a) }
+        × ShowsWay (facts_of side.now) d side.now.position k side.now.ground.color way found.now a) }
 {
     if !is_way(&side.position, &side.ground.facts, side.ground.color, way) {
         return None;
@@ -130,7 +148,7 @@ fn way_shown(
         return None;
     };
     if is_one_measure(side, moves.most, quiet.most) {
-        let both = deeds_of(side, false, moves, way, &rooms);
+        let both = deeds_of(side, false, moves, way, &rooms, Found::none());
         return Some(Shown {
             changed: changed_in(side.ground.color, &side.men, way, &both, &both),
             lands: both.lands,
@@ -142,8 +160,16 @@ fn way_shown(
     let Some(quiet_rooms) = rooms_of(side, true, quiet, way) else {
         return None;
     };
-    let all = deeds_of(side, false, moves, way, &rooms);
-    let calm = deeds_of(side, true, quiet, way, &quiet_rooms);
+    let by_moves = Found {
+        lands: found.lands,
+        falls: found.falls,
+    };
+    let all = deeds_of(side, false, moves, way, &rooms, by_moves);
+    let by_quiet = Found {
+        lands: found.quiet_lands,
+        falls: found.quiet_falls,
+    };
+    let calm = deeds_of(side, true, quiet, way, &quiet_rooms, by_quiet);
     Some(Shown {
         changed: changed_in(side.ground.color, &side.men, way, &all, &calm),
         lands: all.lands,
@@ -166,6 +192,28 @@ fn joined(one: &Shown, other: &Shown) -> Shown
     }
 }
 
+// What others show, with what the plans of a way show if it is alive.
+fn with_way(
+    side: &Side,
+    moves: &Measured<'_>,
+    quiet: &Measured<'_>,
+    way: Option<Wing>,
+    others: Shown,
+) -> Option<Shown>
+    requires side { (d : Placement) × IsSide d side.now }
+    requires moves { IsMeasured side.now false moves.now }
+    requires quiet { IsMeasured side.now true quiet.now }
+    ensures { (d : Placement) (k : ℕ) (ways : List (Option AnyWing)) → IsSide d side.now →
+        AreBudgets d side.now k moves.now.most quiet.now.most →
+        ShowsAmong (facts_of side.now) d side.now.position k side.now.ground.color ways (Some others) →
+        ShowsAmong (facts_of side.now) d side.now.position k side.now.ground.color (way ∷ ways) result }
+{
+    match way_shown(side, moves, quiet, way, &others) {
+        None => Some(others),
+        Some(shown) => Some(joined(&others, &shown)),
+    }
+}
+
 // With what the plans of a way show; the same where it is not alive.
 fn add_way(
     side: &Side,
@@ -182,12 +230,9 @@ fn add_way(
         ShowsAmong (facts_of side.now) d side.now.position k side.now.ground.color ways before →
         ShowsAmong (facts_of side.now) d side.now.position k side.now.ground.color (way ∷ ways) result }
 {
-    match way_shown(side, moves, quiet, way) {
-        None => before,
-        Some(shown) => match before {
-            None => Some(shown),
-            Some(others) => Some(joined(&others, &shown)),
-        },
+    match before {
+        None => way_shown(side, moves, quiet, way, &Shown::none()),
+        Some(others) => with_way(side, moves, quiet, way, others),
     }
 }
 
