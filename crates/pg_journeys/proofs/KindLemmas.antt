@@ -1,16 +1,16 @@
--- What paths make of a man by his kind. Leads to the contracts of `may_become` and `arrival`.
-use Rattle.std.proofs.Common.{◌≡◌, ◌≢◌, ℕ, ◌<◌, ◌≤◌, ◌⊎◌, inl, inr, IsTrue, Bool, true, false, List, [], ◌∷◌, nat_eq, refl, sym, ap, subst, ◌∙◌, arith}
-use Rattle.std.proofs.lemmas.Bool.{eq-eqb}
+-- What paths make of a man by his kind. Leads to the contracts of `kinds_of` and `arrival`.
+use Rattle.std.proofs.Common.{◌≡◌, ◌≢◌, ℕ, ◌<◌, ◌≤◌, ◌⊎◌, inl, inr, Bool, true, false, List, [], ◌∷◌, refl, sym, subst, ◌∙◌, arith}
 use Rattle.pg_board.specs.declared.man.Color.{Color}
 use Rattle.pg_board.specs.declared.man.Kind.{Kind}
 use Rattle.pg_board.specs.declared.man.Kind.TheVariants.{Pawn, Knight, Bishop, Rook, Queen, King}
+use Rattle.pg_board.specs.Bits.{has}
 use Rattle.pg_board.specs.Men.{number_of_kind}
 use Rattle.pg_board.specs.Placement.{Placement}
 use Rattle.pg_captures.specs.FreeSteps.{Becomes}
 use Rattle.pg_journeys.specs.Facts.{Facts}
 use Rattle.pg_journeys.specs.Journeys.{Leg, IsPath}
 use Rattle.pg_journeys.specs.inner.Sides.{facts_of, square_at, kind_at, IsSide}
-use Rattle.pg_journeys.specs.inner.Costing.{IsCountTo}
+use Rattle.pg_journeys.specs.inner.Costing.{IsCountTo, MayBeIn}
 use Rattle.pg_journeys.specs.declared.plans.Side.{Side}
 use Rattle.pg_journeys.specs.declared.rings.Runner.{Runner}
 
@@ -37,27 +37,37 @@ by_path : (f : Facts) (c : Color) (k : Kind) (r : ℕ) (ls : List Leg) (j : Kind
 by_path f c k r [] j s p = inl p.0
 by_path f c k r (l ∷ ls) j s p = by_both k l.into j (by_step c k l.into l.to (subst (λ (x : Kind). Becomes c x l.to l.into) p.0 p.2.free.3)) (by_path f c l.into l.to ls j s p.3)
 
--- a test of kinds says yes where a path leads from one to the other
-pub no_king : (k j : Kind) → k ≡ Pawn → j ≡ King → (f : Facts) (c : Color) (r s : ℕ) (ls : List Leg) → IsPath f c k r ls j s → IsTrue false
-no_king k j e z f c r s ls p = absurd (elim (by_path f c k r ls j s p) [ inl same ↦ apart (sym e ∙ same ∙ z) | inr w ↦ w.1 z ])
+-- the bits of the kinds that a man may come to be
+pub of_piece : (k o : Kind) (kinds : ℕ) → k ≡ o → o ≢ Pawn → has kinds (number_of_kind o) ≡ true → MayBeIn k kinds
+of_piece k o kinds is ne own f c r s ls j p = elim (by_path f c k r ls j s p) [
+  | inl e ↦ subst (λ (x : Kind). has kinds (number_of_kind x) ≡ true) (sym is ∙ e) own
+  | inr w ↦ absurd (ne (sym is ∙ w.0))
+]
+
+pub of_pawn : (k : Kind) (kinds : ℕ) → k ≡ Pawn → ((j : Kind) → j ≢ King → has kinds (number_of_kind j) ≡ true) → MayBeIn k kinds
+of_pawn k kinds is all f c r s ls j p = elim (by_path f c k r ls j s p) [
+  | inl e ↦ all j (λ z. apart (sym is ∙ e ∙ z))
+  | inr w ↦ all j w.1
+]
   where
     apart : Pawn ≡ King → ⊥
     apart h = cc
 
-pub same_number : (k j : Kind) (m n : ℕ) → k ≢ Pawn → m ≡ number_of_kind k → n ≡ number_of_kind j →
-    (f : Facts) (c : Color) (r s : ℕ) (ls : List Leg) → IsPath f c k r ls j s → IsTrue (nat_eq m n)
-same_number k j m n ne is too f c r s ls p = elim (by_path f c k r ls j s p) [
-  | inl e ↦ eq-eqb m n (is ∙ ap number_of_kind e ∙ sym too)
-  | inr w ↦ absurd (ne w.0)
-]
+pub all_but_kings : (j : Kind) → j ≢ King → has 31 (number_of_kind j) ≡ true
+all_but_kings Pawn ne = refl
+all_but_kings Knight ne = refl
+all_but_kings Bishop ne = refl
+all_but_kings Rook ne = refl
+all_but_kings Queen ne = refl
+all_but_kings King ne = absurd (ne refl)
 
 -- no path counts anything where the kinds forbid it
-pub no_arrival : (d : Placement) (x : Side) (most e : ℕ) (m : Runner) (goal : Kind) (may : Bool) → IsSide d x → e < x.goals.count → goal ≡ kind_at x.goals e →
-    ((f : Facts) (c : Color) (r s : ℕ) (ls : List Leg) → IsPath f c m.kind r ls goal s → IsTrue may) → may ≡ false → IsCountTo x most e m 255
-no_arrival d x most e m goal may side low same tells off = inr (
+pub no_arrival : (d : Placement) (x : Side) (most e kinds : ℕ) (m : Runner) (may : Bool) → IsSide d x → e < x.goals.count → MayBeIn m.kind kinds →
+    may ≡ has kinds (number_of_kind (kind_at x.goals e)) → may ≡ false → IsCountTo x most e m 255
+no_arrival d x most e kinds m may side low tells is off = inr (
   refl,
   λ w. elim w [
-    | inl g ↦ (let on : may ≡ true = tells (facts_of x) x.ground.color m.square (square_at x.goals e) g.1.0 (subst (λ (k : Kind). IsPath (facts_of x) x.ground.color m.kind m.square g.1.0 k (square_at x.goals e)) (sym same) g.1.1) in cc)
+    | inl g ↦ (let on : has kinds (number_of_kind (kind_at x.goals e)) ≡ true = tells (facts_of x) x.ground.color m.square (square_at x.goals e) g.1.0 (kind_at x.goals e) g.1.1 in cc)
     | inr g ↦ (let z : e ≡ 16 = g.0 in let few : x.goals.count ≤ 16 = side.goals.few in omega arith)
   ],
 )

@@ -216,10 +216,10 @@ fn ends_of(side: &Side, man: &Walker, aims: &Aims, rooms: &[u8; 17]) -> u32
         ((get_or rooms.now e 0 < 255) × ChangesBy side.now man.now e (get_or rooms.now e 0)) }
 {
     let mut ends = 0u32;
-    for e in 0..17usize {
+    for e in 0..side.goals.count {
         ends = with_end(ends, e, is_end(side, man, aims, e, rooms[e]));
     }
-    ends
+    with_end(ends, 16, is_end(side, man, aims, 16, rooms[16]))
 }
 
 // The greater of a room and what is no room, 255, or one.

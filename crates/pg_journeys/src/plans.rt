@@ -1,20 +1,18 @@
 //! Plans of a colour: what the fates of its men count, and which ways its plies pay for.
-ghost use Rattle.std.specs.Prelude.{◌≡◌, ℕ, Bool, Some, None, false, ◌+◌, ◌-◌, ◌<◌, ◌≤◌, ◌↔◌, IsTrue, IfSome, IfNone, true, get_or, List};
+ghost use Rattle.std.specs.Prelude.{◌≡◌, ℕ, Bool, Some, None, false, ◌+◌, ◌-◌, ◌<◌, ◌≤◌, ◌↔◌, IsTrue, IfSome, IfNone, true, get_or};
 ghost use Rattle.pg_board.specs.Bits.{has};
-ghost use Rattle.pg_board.specs.declared.man.Color.{Color as AnyColor};
 ghost use Rattle.pg_board.specs.declared.man.Kind.{Kind as KindOfMan};
-ghost use Rattle.pg_board.specs.Men.{other};
+ghost use Rattle.pg_board.specs.Men.{number_of_kind, other};
 ghost use Rattle.pg_board.specs.SquareSets.{IsSetOf};
 ghost use Rattle.pg_board.specs.Placement.{Placement};
 ghost use Rattle.pg_captures.specs.Owed.{plies_left, victims};
 ghost use Rattle.pg_travel.specs.Origins.{charge as charge_of, counted as counted_on};
-ghost use Rattle.pg_journeys.specs.Facts.{Facts as GameFacts};
-ghost use Rattle.pg_journeys.specs.Journeys.{HasPassed, IsPath, IsWayUnder, Leg};
+ghost use Rattle.pg_journeys.specs.Journeys.{HasPassed, IsWayUnder};
 ghost use Rattle.pg_journeys.specs.Known.{known, landing};
 ghost use Rattle.pg_journeys.specs.inner.Grounds.{IsGround};
 ghost use Rattle.pg_journeys.specs.inner.Levels.{BackWithin};
 ghost use Rattle.pg_journeys.specs.inner.Rings.{AreRings, AreWithin};
-ghost use Rattle.pg_journeys.specs.inner.Costing.{IsOnSpan, InRing, IsCountTo, IsFall, IsCostRow, AreCostRows, AreCostsOf, HasTotalTo, walker_of};
+ghost use Rattle.pg_journeys.specs.inner.Costing.{IsOnSpan, InRing, IsCountTo, IsFall, IsCostRow, AreCostRows, AreCostsOf, HasTotalTo, walker_of, MayBeIn};
 ghost use Rattle.pg_journeys.specs.declared.plans.Side.{Side as SideOf};
 ghost use Rattle.pg_journeys.specs.inner.Showing.{IsMeasured};
 ghost use Rattle.pg_journeys.specs.inner.Sides.{facts_of, AreMen, IsSide, IsLike, IsEnd, EndWithin, AreAims, JourneysOf, IsPaidBy};
@@ -295,30 +293,39 @@ pub(crate) fn man_of(side: &Side, is_quiet: bool, way: Option<Wing>, i: usize) -
     }
 }
 
-// Whether a man of a kind may come to be of another: a pawn of any but a king, any other man of none.
-fn may_become(kind: Kind, goal: Kind) -> bool
-    ensures { (f : GameFacts) (c : AnyColor) (r s : ℕ) (ls : List Leg) → IsPath f c kind r ls goal s → IsTrue result }
+// The kinds that a man of a kind may come to be, a bit for each number: a pawn any but a king, any other man his own.
+fn kinds_of(kind: Kind) -> u64
+    ensures { MayBeIn kind result }
 {
     match kind {
-        Kind::Pawn => match goal {
-            Kind::King => false,
-            _ => true,
-        },
-        _ => kind.number() == goal.number(),
+        Kind::Pawn => 0b01_1111,
+        Kind::Knight => 0b00_0010,
+        Kind::Bishop => 0b00_0100,
+        Kind::Rook => 0b00_1000,
+        Kind::Queen => 0b01_0000,
+        Kind::King => 0b10_0000,
     }
+}
+
+// Whether a kind is among these.
+fn is_among(kinds: u64, kind: Kind) -> bool
+    ensures { result ≡ has kinds (number_of_kind kind) }
+{
+    (kinds >> kind.number()) & 1 == 1
 }
 
 // What a path of a man to be a man of the diagram counts at least, if that is at most `most`; 255 for none. Most pairs
 // are of kinds that tell it.
-fn arrival(side: &Side, aims: &Aims, most: u8, e: usize, man: &Runner) -> u8
+fn arrival(side: &Side, aims: &Aims, most: u8, e: usize, man: &Runner, kinds: u64) -> u8
     requires side { (d : Placement) × IsSide d side.now }
     requires goal { e < side.now.goals.count }
     requires low { most < 200 }
     requires aims { AreAims side.now man.now.is_quiet aims.now }
+    requires kinds { MayBeIn man.now.kind kinds }
     ensures { IsCountTo side.now most e man.now result }
 {
     let goal = side.goals.kinds[e];
-    if !may_become(man.kind, goal) {
+    if !is_among(kinds, goal) {
         return 255;
     }
     count_to(side, aims, most, e, man)
@@ -363,8 +370,9 @@ fn row(side: &Side, aims: &Aims, most: u8, man: &Walker) -> [u8; 16]
     ensures { IsCostRow side.now most man.now result side.now.men.count }
 {
     let mut row = [255u8; 16];
+    let kinds = kinds_of(man.runner.kind);
     for j in 0..side.goals.count {
-        row[j] = arrival(side, aims, most, j, &man.runner);
+        row[j] = arrival(side, aims, most, j, &man.runner, kinds);
     }
     if side.goals.count < side.men.count {
         let fall = fall(side, aims, most, man);
