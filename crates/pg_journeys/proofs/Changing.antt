@@ -13,10 +13,12 @@ use Rattle.pg_journeys.specs.Plans.{Measure, Moves, QuietMoves}
 use Rattle.pg_journeys.specs.Narrowing.{RestsOn, NeverFalls, StaysIn}
 use Rattle.pg_journeys.specs.inner.Sides.{facts_of, square_at, kind_at, IsSide, InEnd}
 use Rattle.pg_journeys.specs.inner.Deeds.{Changes, AreDeeds}
-use Rattle.pg_journeys.specs.inner.Showing.{is_quiet, IsBudget, AreBudgets, MayChange, TakesIn, FallsIn, ShowsWay}
+use Rattle.pg_journeys.specs.inner.Showing.{is_quiet, IsBudget, AreBudgets, MayChange, TakesIn, FallsIn, IsWithFound, ShowsWay, lands_by, falls_by}
 use Rattle.pg_journeys.specs.declared.men.Men.{Men}
 use Rattle.pg_journeys.specs.declared.plans.Side.{Side}
 use Rattle.pg_journeys.specs.declared.narrowing.Deeds.{Deeds}
+use Rattle.pg_journeys.specs.declared.narrowing.Found.{Found}
+use Rattle.pg_journeys.specs.declared.shown.Shown.{Shown}
 use Rattle.pg_journeys.proofs.Paying.{paid_by_plies, paid_by_counts, takes_of, lands_of, falls_of, falls_on}
 
 dec_none : (ls : List Leg) → Dec (ls ≡ [])
@@ -166,7 +168,11 @@ false_not : (b : Bool) → b ≡ false → ¬ (b ≡ true)
 false_not true e h = cc
 false_not false e h = cc
 
-module _ (d : Placement) (x : Side) (k : ℕ) (side : IsSide d x) (way : Option Wing) (a b : ℕ) (budgets : AreBudgets d x k a b) (moves quiet : Deeds) (all : AreDeeds d x false way a moves) (few : AreDeeds d x true way b quiet) where
+-- what is not so has any consequence
+pub none_more : (b r : Bool) → b ≡ false → b ≡ true → r ≡ true
+none_more b r off on = cc
+
+module _ (d : Placement) (x : Side) (k : ℕ) (side : IsSide d x) (way : Option Wing) (a b : ℕ) (budgets : AreBudgets d x k a b) (one two : Found) (moves quiet : Deeds) (all : AreDeeds d x false way a one.lands one.falls moves) (few : AreDeeds d x true way b two.lands two.falls quiet) where
   decided : (i : ℕ) → i < x.men.count → (u : Measure) (e : ℕ) → e < 17 → Dec (Changes d x (is_quiet u) way (limit a b u) i e)
   unfolding limit
   decided i low Moves e le = dec_like (has (get_or moves.ends i 0) e) (Changes d x false way a i e) (all.ends i e low le)
@@ -195,16 +201,36 @@ module _ (d : Placement) (x : Side) (k : ℕ) (side : IsSide d x) (way : Option 
   not_changed s stays (i, low, e, may) =
       not_moved d x k side way (limit a b) (limits d x k a b budgets) i low (decided i low) (subst (λ (y : ℕ). StaysIn (facts_of x) d x.position k x.ground.color way y) (sym e) stays) (moved_of i low may)
 
-  pub way_shows : (changed : ℕ) → IsSetOf changed Changed → ShowsWay (facts_of x) d x.position k x.ground.color way (record { changed = changed; lands = moves.lands; quiet_lands = quiet.lands; falls = moves.falls; quiet_falls = quiet.falls })
-  way_shows changed set = record { lands = lands; falls = falls; stays = stays }
-    where
-      lands : (u : Measure) → IsSetOf (elim u [ Moves ↦ moves.lands | QuietMoves ↦ quiet.lands ]) (TakesIn (facts_of x) d x.position k x.ground.color way u)
-      lands Moves q l = (λ h. takes_of d x k way Moves a q side budgets.all ((all.lands q l).0 h), λ h. (all.lands q l).1 (lands_of d x k way Moves a q side budgets.all h))
-      lands QuietMoves q l = (λ h. takes_of d x k way QuietMoves b q side budgets.few ((few.lands q l).0 h), λ h. (few.lands q l).1 (lands_of d x k way QuietMoves b q side budgets.few h))
+  -- what was found before is shown too
+  pub record AreFound (found : Shown) : Type 0 where
+    pub lands : (q : ℕ) → has one.lands q ≡ true → has found.lands q ≡ true
+    pub falls : (q : ℕ) → has one.falls q ≡ true → has found.falls q ≡ true
+    pub quiet_lands : (q : ℕ) → has two.lands q ≡ true → has found.quiet_lands q ≡ true
+    pub quiet_falls : (q : ℕ) → has two.falls q ≡ true → has found.quiet_falls q ≡ true
 
-      falls : (u : Measure) → IsSetOf (elim u [ Moves ↦ moves.falls | QuietMoves ↦ quiet.falls ]) (FallsIn (facts_of x) d x.position k x.ground.color way u)
-      falls Moves q l = (λ h. falls_of d x k way Moves a q side budgets.all ((all.falls q l).0 h), λ h. (all.falls q l).1 (falls_on d x k way Moves a q side budgets.all h))
-      falls QuietMoves q l = (λ h. falls_of d x k way QuietMoves b q side budgets.few ((few.falls q l).0 h), λ h. (few.falls q l).1 (falls_on d x k way QuietMoves b q side budgets.few h))
+  pub way_shows : (found : Shown) → AreFound found → (changed : ℕ) → IsSetOf changed Changed →
+      ShowsWay (facts_of x) d x.position k x.ground.color way found (record { changed = changed; lands = moves.lands; quiet_lands = quiet.lands; falls = moves.falls; quiet_falls = quiet.falls })
+  way_shows found are changed set = record { lands = lands; falls = falls; stays = stays }
+    where
+      lands : (u : Measure) → IsWithFound (TakesIn (facts_of x) d x.position k x.ground.color way u) (lands_by found u) (elim u [ Moves ↦ moves.lands | QuietMoves ↦ quiet.lands ])
+      lands Moves q l = (
+        λ h. (all.lands q l).1 (inr (lands_of d x k way Moves a q side budgets.all h)),
+        λ h. elim ((all.lands q l).0 h) [ inl y ↦ inl (are.lands q y) | inr y ↦ inr (takes_of d x k way Moves a q side budgets.all y) ],
+      )
+      lands QuietMoves q l = (
+        λ h. (few.lands q l).1 (inr (lands_of d x k way QuietMoves b q side budgets.few h)),
+        λ h. elim ((few.lands q l).0 h) [ inl y ↦ inl (are.quiet_lands q y) | inr y ↦ inr (takes_of d x k way QuietMoves b q side budgets.few y) ],
+      )
+
+      falls : (u : Measure) → IsWithFound (FallsIn (facts_of x) d x.position k x.ground.color way u) (falls_by found u) (elim u [ Moves ↦ moves.falls | QuietMoves ↦ quiet.falls ])
+      falls Moves q l = (
+        λ h. (all.falls q l).1 (inr (falls_on d x k way Moves a q side budgets.all h)),
+        λ h. elim ((all.falls q l).0 h) [ inl y ↦ inl (are.falls q y) | inr y ↦ inr (falls_of d x k way Moves a q side budgets.all y) ],
+      )
+      falls QuietMoves q l = (
+        λ h. (few.falls q l).1 (inr (falls_on d x k way QuietMoves b q side budgets.few h)),
+        λ h. elim ((few.falls q l).0 h) [ inl y ↦ inl (are.quiet_falls q y) | inr y ↦ inr (falls_of d x k way QuietMoves b q side budgets.few y) ],
+      )
 
       stays : (j : Kind) (s : ℕ) → s < 64 → Stands x.position.board x.ground.color j s → (has changed s ≡ false) ↔ StaysIn (facts_of x) d x.position k x.ground.color way s
       stays j s l st = (

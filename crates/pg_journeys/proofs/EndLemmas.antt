@@ -5,22 +5,34 @@ use Rattle.std.proofs.lemmas.Bool.{cases_lt}
 use Rattle.std.proofs.lemmas.Bool.Decides.{eqb_tells}
 use Rattle.std.proofs.lemmas.List.{get_or-set_same, get_or-set_other}
 use Rattle.pg_board.specs.Bits.{has, has-none}
+use Rattle.pg_board.specs.declared.man.Color.{Color}
 use Rattle.pg_board.specs.declared.man.Kind.{Kind}
 use Rattle.pg_board.specs.declared.man.Kind.TheVariants.{Pawn, Knight, Bishop, Rook, Queen, King}
 use Rattle.pg_board.specs.Men.{other}
 use Rattle.pg_board.specs.SquareSets.{IsSetOf}
 use Rattle.pg_board.specs.Placement.{Placement}
-use Rattle.pg_board.specs.lemmas.Decisions.{dec_kind}
-use Rattle.pg_journeys.specs.Known.{landing}
+use Rattle.pg_board.specs.lemmas.Decisions.{dec_kind, dec_less}
+use Rattle.pg_journeys.specs.Known.{known, landing}
 use Rattle.pg_journeys.specs.inner.Counts.{of_kind}
 use Rattle.pg_journeys.specs.inner.Levels.{BackWithin}
 use Rattle.pg_journeys.specs.inner.Rings.{AreRings, AreWithin}
-use Rattle.pg_journeys.specs.inner.Sides.{facts_of, square_at, kind_at, IsSide, IsEnd, EndWithin, AreAims, aim_at}
+use Rattle.pg_journeys.specs.inner.Sides.{facts_of, square_at, kind_at, IsSide, IsLike, IsEnd, EndWithin, AreAims, aim_at}
 use Rattle.pg_journeys.specs.inner.Costing.{InRing, IsCount}
+use Rattle.pg_journeys.specs.declared.facts.Facts.{Facts as FactSets}
+use Rattle.pg_journeys.specs.declared.ground.Ground.{Ground}
+use Rattle.pg_journeys.specs.declared.men.Men.{Men}
 use Rattle.pg_journeys.specs.declared.plans.Side.{Side}
 use Rattle.pg_journeys.specs.declared.rings.Rings.{Rings}
 use Rattle.pg_journeys.specs.declared.rings.Runner.{Runner}
 use Rattle.pg_journeys.proofs.CostLemmas.{path_as}
+
+-- a side goes by its own ground and its own men
+pub like_itself : (x : Side) → IsLike x x.ground x.goals
+like_itself x = record {
+  facts = refl;
+  color = refl;
+  goals = record { count = refl; squares = λ i l. refl; kinds = λ i l. refl };
+}
 
 -- ---- what rings and sets show, in other words
 pub rings_as : (V W : ℕ → Kind → ℕ → Type 0) (r : Rings) → ((n : ℕ) (k : Kind) (s : ℕ) → V n k s ↔ W n k s) → AreRings V r → AreRings W r
@@ -38,29 +50,45 @@ pub within_as : (V W : ℕ → Kind → ℕ → Type 0) (n : ℕ) (sets : List �
 within_as V W n sets same h k s sl = (λ t. (same n k s).0 ((h k s sl).0 t), λ w. (h k s sl).1 ((same n k s).1 w))
 
 -- ---- the men of an end
-pub goal_is : (d : Placement) (x : Side) (e : ℕ) (goal : List ℕ) (one sq : ℕ) (k : Kind) → IsSide d x → e < x.goals.count → k ≡ kind_at x.goals e →
-    sq ≡ square_at x.goals e → IsSetOf one (λ q. q ≡ sq) → of_kind goal k ≡ one → ((j : Kind) → j ≢ k → of_kind goal j ≡ 0) →
-    (quiet : Bool) (n : ℕ) (h : Kind) (r : ℕ) → BackWithin (facts_of x) x.ground.color quiet goal n h r ↔ EndWithin x quiet e n h r
-goal_is d x e goal one sq k side l ek es is here others quiet n h r = (
-  λ w. inl (
-    l,
-    (let q : (w.0 ≡ k) × (w.1 ≡ square_at x.goals e) = only w.0 w.1 w.3 w.4 in
-        (w.2, path_as (facts_of x) x.ground.color h h r w.2 w.0 (kind_at x.goals e) w.1 (square_at x.goals e) refl (q.0 ∙ ek) q.1 w.5, w.6)),
-  ),
-  λ w. elim w [
-    | inl g ↦ (kind_at x.goals e, square_at x.goals e, g.1.0, side.goals.listing.low e l, there, g.1.1, g.1.2)
-    | inr g ↦ absurd (let z : e ≡ 16 = g.0 in let few : x.goals.count ≤ 16 = side.goals.few in omega arith)
-  ],
-)
-  where
-    only : (j : Kind) (t : ℕ) → t < 64 → has (of_kind goal j) t ≡ true → (j ≡ k) × (t ≡ square_at x.goals e)
-    only j t tl y = elim (dec_kind j k) [
-      | yes same ↦ (same, (is t tl).0 (subst (λ (n : ℕ). has n t ≡ true) (ap (of_kind goal) same ∙ here) y) ∙ es)
-      | no ne ↦ absurd (let z : has (of_kind goal j) t ≡ false = ap (λ (n : ℕ). has n t) (others j ne) ∙ has-none t in cc)
-    ]
+module _ (x : Side) (e : ℕ) (goal : List ℕ) (one sq : ℕ) (k : Kind) (few : x.goals.count ≤ 16) (low : square_at x.goals e < 64) (l : e < x.goals.count)
+    (ek : k ≡ kind_at x.goals e) (es : sq ≡ square_at x.goals e) (is : IsSetOf one (λ q. q ≡ sq)) (here : of_kind goal k ≡ one) (others : (j : Kind) → j ≢ k → of_kind goal j ≡ 0) where
+  only : (j : Kind) (t : ℕ) → t < 64 → has (of_kind goal j) t ≡ true → (j ≡ k) × (t ≡ square_at x.goals e)
+  only j t tl y = elim (dec_kind j k) [
+    | yes same ↦ (same, (is t tl).0 (subst (λ (n : ℕ). has n t ≡ true) (ap (of_kind goal) same ∙ here) y) ∙ es)
+    | no ne ↦ absurd (let z : has (of_kind goal j) t ≡ false = ap (λ (n : ℕ). has n t) (others j ne) ∙ has-none t in cc)
+  ]
 
-    there : has (of_kind goal (kind_at x.goals e)) (square_at x.goals e) ≡ true
-    there = subst (λ (n : ℕ). has n (square_at x.goals e) ≡ true) (sym (ap (of_kind goal) (sym ek) ∙ here)) ((is (square_at x.goals e) (side.goals.listing.low e l)).1 (sym es))
+  there : has (of_kind goal (kind_at x.goals e)) (square_at x.goals e) ≡ true
+  there = subst (λ (n : ℕ). has n (square_at x.goals e) ≡ true) (sym (ap (of_kind goal) (sym ek) ∙ here)) ((is (square_at x.goals e) low).1 (sym es))
+
+  goal_is : (quiet : Bool) (n : ℕ) (h : Kind) (r : ℕ) → BackWithin (facts_of x) x.ground.color quiet goal n h r ↔ EndWithin x quiet e n h r
+  goal_is quiet n h r = (
+    λ w. inl (
+      l,
+      (let q : (w.0 ≡ k) × (w.1 ≡ square_at x.goals e) = only w.0 w.1 w.3 w.4 in
+          (w.2, path_as (facts_of x) x.ground.color h h r w.2 w.0 (kind_at x.goals e) w.1 (square_at x.goals e) refl (q.0 ∙ ek) q.1 w.5, w.6)),
+    ),
+    λ w. elim w [
+      | inl g ↦ (kind_at x.goals e, square_at x.goals e, g.1.0, low, there, g.1.1, g.1.2)
+      | inr g ↦ absurd (let z : e ≡ 16 = g.0 in omega arith)
+    ],
+  )
+
+-- a search under the facts and the colour of a side
+abbrev SearchesTo : Side → ℕ → List ℕ → FactSets → Color → Type 0
+SearchesTo x e goal f c = (quiet : Bool) (n : ℕ) (h : Kind) (r : ℕ) → BackWithin (known f) c quiet goal n h r ↔ EndWithin x quiet e n h r
+
+searches_like : (x : Side) (e : ℕ) (goal : List ℕ) (f : FactSets) (c : Color) → x.ground.facts ≡ f → x.ground.color ≡ c → SearchesTo x e goal x.ground.facts x.ground.color → SearchesTo x e goal f c
+searches_like x e goal f c ef ec h = subst (λ (y : FactSets). SearchesTo x e goal y c) ef (subst (λ (y : Color). SearchesTo x e goal x.ground.facts y) ec h)
+
+pub goal_like : (x : Side) (g : Ground) (goals : Men) (e : ℕ) (goal : List ℕ) (one sq : ℕ) (k : Kind) → IsLike x g goals → goals.count ≤ 16 → square_at goals e < 64 → e < goals.count →
+    k ≡ kind_at goals e → sq ≡ square_at goals e → IsSetOf one (λ q. q ≡ sq) → of_kind goal k ≡ one → ((j : Kind) → j ≢ k → of_kind goal j ≡ 0) →
+    SearchesTo x e goal g.facts g.color
+goal_like x g goals e goal one sq k like few low l ek es is here others =
+    let count : x.goals.count ≡ goals.count = like.goals.count in
+    let square : square_at x.goals e ≡ square_at goals e = like.goals.squares e l in
+    searches_like x e goal g.facts g.color like.facts like.color
+    (goal_is x e goal one sq k (omega arith) (omega (arith, square)) (omega arith) (ek ∙ sym (like.goals.kinds e l)) (es ∙ sym square) is here others)
 
 -- the same squares for each kind
 pub each : (t : ℕ) (j : Kind) → of_kind (replicate 6 t) j ≡ t
@@ -71,7 +99,7 @@ each t Rook = refl
 each t Queen = refl
 each t King = refl
 
-pub last_is : (x : Side) (e t : ℕ) → x.goals.count ≤ e → IsEnd x e → t ≡ landing x.ground.facts (other x.ground.color) →
+last_is : (x : Side) (e t : ℕ) → x.goals.count ≤ e → IsEnd x e → t ≡ landing x.ground.facts (other x.ground.color) →
     (quiet : Bool) (n : ℕ) (h : Kind) (r : ℕ) → BackWithin (facts_of x) x.ground.color quiet (replicate 6 t) n h r ↔ EndWithin x quiet e n h r
 last_is x e t past end theirs quiet n h r = (
   λ w. elim end [
@@ -83,6 +111,12 @@ last_is x e t past end theirs quiet n h r = (
     | inr g ↦ (g.2.0, g.2.1, g.2.2, g.2.3, subst (λ (m : ℕ). has m g.2.1 ≡ true) (sym (each t g.2.0 ∙ theirs)) g.2.4, g.2.5, g.2.6)
   ],
 )
+
+pub last_like : (x : Side) (g : Ground) (goals : Men) (e t : ℕ) → IsLike x g goals → goals.count ≤ e → IsEnd x e → t ≡ landing g.facts (other g.color) → SearchesTo x e (replicate 6 t) g.facts g.color
+last_like x g goals e t like past end theirs =
+    let count : x.goals.count ≡ goals.count = like.goals.count in
+    searches_like x e (replicate 6 t) g.facts g.color like.facts like.color
+    (last_is x e t (omega arith) end (theirs ∙ sym (ap (λ (f : FactSets). landing f (other g.color)) like.facts) ∙ sym (ap (λ (c : Color). landing x.ground.facts (other c)) like.color)))
 
 -- ---- all ends
 -- the rings of the first n ends
@@ -112,6 +146,38 @@ aims_all x quiet aims r n all few long are last = record {
         (subst (λ (y : Rings). AreRings (EndWithin x quiet 16) y) (sym (get_or-set_same aims 16 r _ (omega (arith, long)))) last)
   ];
 }
+
+-- so for each side of a ground and these men
+abbrev pub AreLikeAimsTo : Ground → Men → Bool → List Rings → ℕ → Type 0
+AreLikeAimsTo g goals quiet aims n = (x : Side) → IsLike x g goals → AreAimsTo x quiet aims n
+
+pub like_next : (g : Ground) (goals : Men) (quiet : Bool) (aims : List Rings) (r : Rings) (n m : ℕ) → m ≡ n + 1 → n < length aims → n < goals.count →
+    ((x : Side) → IsLike x g goals → IsEnd x n → AreRings (EndWithin x quiet n) r) → AreLikeAimsTo g goals quiet aims n → AreLikeAimsTo g goals quiet (set aims n r) m
+like_next g goals quiet aims r n m e low inside here before x like = aims_next x quiet aims r n m e low (here x like (inl (let count : x.goals.count ≡ goals.count = like.goals.count in omega arith))) (before x like)
+
+pub like_all : (g : Ground) (goals : Men) (quiet : Bool) (aims : List Rings) (r : Rings) (n : ℕ) (fall : Bool) → n ≡ goals.count → goals.count ≤ 16 → length aims ≡ 17 →
+    ((x : Side) → IsLike x g goals → IsEnd x 16 → AreRings (EndWithin x quiet 16) r) → AreLikeAimsTo g goals quiet aims n →
+    (x : Side) → IsLike x g goals → (x.goals.count < x.men.count → fall ≡ true) → AreAims x quiet (set aims 16 r)
+like_all g goals quiet aims r n fall all few long last are x like asked =
+    let count : x.goals.count ≡ goals.count = like.goals.count in
+    elim (dec_less x.goals.count x.men.count) [
+      | yes more ↦ aims_all x quiet aims r n (omega arith) (omega arith) long (are x like) (last x like (inr (refl, more)))
+      | no full ↦ record {
+        ends = λ e end. elim end [
+          | inl l ↦ (let ne : e ≢ 16 = (λ z. omega arith) in subst (λ (y : Rings). AreRings (EndWithin x quiet e) y) (sym (get_or-set_other aims 16 e r _ ne)) (are x like e (omega (arith, l))))
+          | inr w ↦ absurd (full w.1)
+        ];
+      }
+    ]
+
+pub like_full : (g : Ground) (goals : Men) (quiet : Bool) (aims : List Rings) (n : ℕ) (fall : Bool) → n ≡ goals.count → fall ≡ false → AreLikeAimsTo g goals quiet aims n →
+    (x : Side) → IsLike x g goals → (x.goals.count < x.men.count → fall ≡ true) → AreAims x quiet aims
+like_full g goals quiet aims n fall all off are x like asked =
+    let count : x.goals.count ≡ goals.count = like.goals.count in
+    elim (dec_less x.goals.count x.men.count) [
+      | yes more ↦ absurd (let on : fall ≡ true = asked more in cc)
+      | no full ↦ aims_full x quiet aims n (omega arith) (omega (arith, full)) (are x like)
+    ]
 
 -- an end is one of seventeen
 pub end_low : (d : Placement) (x : Side) (e : ℕ) → IsSide d x → IsEnd x e → e < 17

@@ -24,6 +24,8 @@ mod LeastNeeds
 mod FirstDead
 mod WhoIsReached
 mod FrontLemmas
+mod KnownLemmas
+mod KindLemmas
 mod StepLemmas
 mod BackLemmas
 mod PawnParts

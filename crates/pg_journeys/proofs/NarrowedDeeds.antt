@@ -6,7 +6,7 @@ use Rattle.std.proofs.lemmas.List.{get_or-set_same, get_or-set_other}
 use Rattle.pg_board.specs.Bits.{has, has-none}
 use Rattle.pg_board.specs.Men.{other}
 use Rattle.pg_board.specs.Placement.{Placement}
-use Rattle.pg_board.specs.SquareSets.{IsSetOf, HasNoneFrom}
+use Rattle.pg_board.specs.SquareSets.{IsSetOf}
 use Rattle.pg_position.specs.declared.rights.Wing.{Wing}
 use Rattle.pg_journeys.specs.declared.plans.Side.{Side}
 use Rattle.pg_journeys.specs.declared.plans.Walker.{Walker}
@@ -84,20 +84,26 @@ module _ (d : Placement) (x : Side) (quiet : Bool) (way : Option Wing) (most : �
   ]
 
 -- ---- when all men were looked at
-pub all_lands : (d : Placement) (x : Side) (quiet : Bool) (way : Option Wing) (most old n all : ℕ) → HasNoneFrom old 0 → n ≤ x.men.count → x.men.count ≤ n → IsJoined (LandsOf d x quiet way most) old n all → IsSetOf all (Lands d x quiet way most)
-all_lands d x quiet way most old n all none lo hi h q l = (
+pub all_lands : (d : Placement) (x : Side) (quiet : Bool) (way : Option Wing) (most old n all : ℕ) → n ≤ x.men.count → x.men.count ≤ n → IsJoined (LandsOf d x quiet way most) old n all → IsSetOf all (λ q. (has old q ≡ true) ⊎ Lands d x quiet way most q)
+all_lands d x quiet way most old n all lo hi h q l = (
   λ t. elim ((h q l).0 t) [
-    | inl a ↦ absurd (let off : has old q ≡ false = none q (omega arith) l in cc)
-    | inr w ↦ (let g : LandsOf d x quiet way most w.0 q = w.2 in let low : w.0 < n = w.1 in (g.0, g.1, (w.0, omega arith, g.2)))
+    | inl a ↦ inl a
+    | inr w ↦ (let g : LandsOf d x quiet way most w.0 q = w.2 in let low : w.0 < n = w.1 in inr (g.0, g.1, (w.0, omega arith, g.2)))
   ],
-  λ t. (h q l).1 (inr (t.2.0, (let low : t.2.0 < x.men.count = t.2.1 in omega arith), (t.0, t.1, t.2.2))),
+  λ s. elim s [
+    | inl a ↦ (h q l).1 (inl a)
+    | inr t ↦ (h q l).1 (inr (t.2.0, (let low : t.2.0 < x.men.count = t.2.1 in omega arith), (t.0, t.1, t.2.2)))
+  ],
 )
 
-pub all_falls : (d : Placement) (x : Side) (quiet : Bool) (way : Option Wing) (most old n all : ℕ) → HasNoneFrom old 0 → n ≤ x.men.count → x.men.count ≤ n → IsJoined (FallsOf d x quiet way most) old n all → IsSetOf all (FallsOn d x quiet way most)
-all_falls d x quiet way most old n all none lo hi h q l = (
+pub all_falls : (d : Placement) (x : Side) (quiet : Bool) (way : Option Wing) (most old n all : ℕ) → n ≤ x.men.count → x.men.count ≤ n → IsJoined (FallsOf d x quiet way most) old n all → IsSetOf all (λ q. (has old q ≡ true) ⊎ FallsOn d x quiet way most q)
+all_falls d x quiet way most old n all lo hi h q l = (
   λ t. elim ((h q l).0 t) [
-    | inl a ↦ absurd (let off : has old q ≡ false = none q (omega arith) l in cc)
-    | inr w ↦ (let g : FallsOf d x quiet way most w.0 q = w.2 in let low : w.0 < n = w.1 in (g.0, g.1, (w.0, omega arith, g.2)))
+    | inl a ↦ inl a
+    | inr w ↦ (let g : FallsOf d x quiet way most w.0 q = w.2 in let low : w.0 < n = w.1 in inr (g.0, g.1, (w.0, omega arith, g.2)))
   ],
-  λ t. (h q l).1 (inr (t.2.0, (let low : t.2.0 < x.men.count = t.2.1 in omega arith), (t.0, t.1, t.2.2))),
+  λ s. elim s [
+    | inl a ↦ (h q l).1 (inl a)
+    | inr t ↦ (h q l).1 (inr (t.2.0, (let low : t.2.0 < x.men.count = t.2.1 in omega arith), (t.0, t.1, t.2.2)))
+  ],
 )

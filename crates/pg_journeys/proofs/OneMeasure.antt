@@ -1,5 +1,5 @@
 -- Where no capture may land each step is a quiet move, so that one measure tells both. Leads to the contracts of shown.rt.
-use Rattle.std.proofs.Common.{◌≡◌, ℕ, ◌<◌, ◌≤◌, inl, inr, Option, None, Bool, true, false, List, [], ◌∷◌, get_or, refl, sym, ap, subst, arith, ◌∙◌}
+use Rattle.std.proofs.Common.{◌≡◌, ℕ, ◌<◌, ◌≤◌, ◌⊎◌, inl, inr, Option, None, Bool, true, false, List, [], ◌∷◌, get_or, refl, sym, ap, subst, arith, ◌∙◌}
 use Rattle.std.proofs.lemmas.Bool.Decides.{eqb_tells}
 use Rattle.pg_board.specs.declared.man.Color.{Color}
 use Rattle.pg_board.specs.declared.man.Kind.{Kind}
@@ -31,6 +31,10 @@ use Rattle.pg_journeys.proofs.EndLemmas.{rings_as}
 use Rattle.pg_journeys.proofs.StepLemmas.{piece_takes, push_takes_not, quiet_counts, leg_low}
 
 -- ---- paths
+map_right : {A B C : Type 0} → (B → C) → A ⊎ B → A ⊎ C
+map_right f (inl a) = inl a
+map_right f (inr b) = inr (f b)
+
 module _ (f : Facts) (c : Color) (none : (t : ℕ) → t < 64 → f.lands c t ≡ false) where
   takes_not : (l : Leg) → IsLeg f c l → may_take f c l ≡ false
   takes_not l is = elim (dec_kind l.kind Pawn) [
@@ -151,10 +155,10 @@ module _ (x : Side) (empty : HasNoneFrom (landing x.ground.facts x.ground.color)
           let g = another i low h.0 h.1 in
           (g.0, g.1, subst (λ (o : Fate). InEnd x.goals e o) (sym g.2) h.2, λ z. h.3 (sym g.2 ∙ z.0, sym g.3 ∙ z.1))
 
-    pub same_deeds : (most : ℕ) (rooms : List (List ℕ)) (q r : Bool) (a : Deeds) → AreRooms d x q way most rooms → AreRooms d x r way most rooms → AreDeeds d x q way most a → AreDeeds d x r way most a
-    same_deeds most rooms q r a from to h = record {
-      lands = set_like a.lands (λ t _ w. lands_other most rooms q r from to t w) (λ t _ w. lands_other most rooms r q to from t w) h.lands;
-      falls = set_like a.falls (λ t _ w. falls_other most rooms q r from to t w) (λ t _ w. falls_other most rooms r q to from t w) h.falls;
+    pub same_deeds : (most lands falls : ℕ) (rooms : List (List ℕ)) (q r : Bool) (a : Deeds) → AreRooms d x q way most rooms → AreRooms d x r way most rooms → AreDeeds d x q way most lands falls a → AreDeeds d x r way most lands falls a
+    same_deeds most lands falls rooms q r a from to h = record {
+      lands = set_like a.lands (λ t _ w. map_right (lands_other most rooms q r from to t) w) (λ t _ w. map_right (lands_other most rooms r q to from t) w) h.lands;
+      falls = set_like a.falls (λ t _ w. map_right (falls_other most rooms q r from to t) w) (λ t _ w. map_right (falls_other most rooms r q to from t) w) h.falls;
       ends = λ i e l le. (
         λ t. changes_other most rooms q r from to i e l ((h.ends i e l le).0 t),
         λ w. (h.ends i e l le).1 (changes_other most rooms r q to from i e l w),

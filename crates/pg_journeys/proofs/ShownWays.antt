@@ -1,5 +1,5 @@
 -- What the plans of ways show, taken together way by way. Leads to the contract of `ways_shown`.
-use Rattle.std.proofs.Common.{◌≡◌, ℕ, ◌⊎◌, ◌||◌, inl, inr, Option, Some, None, Bool, true, false, refl, sym, subst, ◌∙◌, List, [], ◌∷◌, MatchOption}
+use Rattle.std.proofs.Common.{◌≡◌, ℕ, ◌⊎◌, ◌||◌, inl, inr, Option, Some, None, Bool, true, false, refl, sym, subst, ◌∙◌, List, [], ◌∷◌, MatchOption, IfNone, IfSome}
 use Rattle.pg_board.specs.Bits.{has}
 use Rattle.pg_board.specs.declared.man.Color.{Color}
 use Rattle.pg_board.specs.Placement.{Placement}
@@ -10,7 +10,7 @@ use Rattle.pg_position.specs.declared.state.State.{State}
 use Rattle.pg_journeys.specs.Facts.{Facts}
 use Rattle.pg_journeys.specs.Plans.{Measure, Moves, QuietMoves, IsAlive}
 use Rattle.pg_journeys.specs.Narrowing.{StaysIn}
-use Rattle.pg_journeys.specs.inner.Showing.{TakesIn, FallsIn, ShowsWay, IsJoined, IsOneOf, ShowsWays, NoneAlive, ShowsAmong, IsDead, Shows, lands_by, falls_by}
+use Rattle.pg_journeys.specs.inner.Showing.{TakesIn, FallsIn, ShowsNone, IsWithFound, ShowsWay, IsJoined, IsOneOf, ShowsWays, NoneAlive, ShowsAmong, IsDead, Shows, lands_by, falls_by}
 use Rattle.pg_journeys.specs.declared.shown.Shown.{Shown}
 
 -- ---- two sets that become one
@@ -42,22 +42,29 @@ module _ (f : Facts) (d : Placement) (p : State) (k : ℕ) (c : Color) (ways : L
   abbrev Some_way : (Option Wing → ℕ → Type 0) → List (Option Wing) → ℕ → Type 0
   Some_way P vs q = (v : Option Wing) × IsOneOf v vs × IsAlive f d p k c v × P v q
 
-  first_set : (P : Option Wing → ℕ → Type 0) (a : ℕ) → NoneAlive f d p k c ways → Alive way → IsSetOf a (P way) → IsSetOf a (Some_way P (way ∷ ways))
-  first_set P a none alive set q l = (λ h. (way, inl refl, alive, (set q l).0 h), back)
+  first_set : (P : Option Wing → ℕ → Type 0) (found a : ℕ) → ((q : ℕ) → has found q ≡ false) → NoneAlive f d p k c ways → Alive way → IsWithFound (P way) found a → IsSetOf a (Some_way P (way ∷ ways))
+  first_set P found a nothing none alive set q l = (λ h. forth ((set q l).1 h), back)
     where
+      forth : (has found q ≡ true) ⊎ P way q → Some_way P (way ∷ ways) q
+      forth (inl h) = absurd (let off : has found q ≡ false = nothing q in cc)
+      forth (inr h) = (way, inl refl, alive, h)
+
       back : Some_way P (way ∷ ways) q → has a q ≡ true
-      back (v, inl e, live, h) = (set q l).1 (subst (λ (w : Option Wing). P w q) e h)
+      back (v, inl e, live, h) = (set q l).0 (subst (λ (w : Option Wing). P w q) e h)
       back (v, inr here, live, h) = absurd (none v here live)
 
-  next_set : (P : Option Wing → ℕ → Type 0) (a b r : ℕ) → ((q : ℕ) → has r q ≡ (has a q || has b q)) → Alive way → IsSetOf a (Some_way P ways) → IsSetOf b (P way) → IsSetOf r (Some_way P (way ∷ ways))
+  next_set : (P : Option Wing → ℕ → Type 0) (a b r : ℕ) → ((q : ℕ) → has r q ≡ (has a q || has b q)) → Alive way → IsSetOf a (Some_way P ways) → IsWithFound (P way) a b → IsSetOf r (Some_way P (way ∷ ways))
   next_set P a b r join alive old new q l = (λ h. forth (either (has a q) (has b q) (has r q) (join q) h), back)
     where
+      before : has a q ≡ true → Some_way P (way ∷ ways) q
+      before h = let y : Some_way P ways q = (old q l).0 h in (y.0, inr y.1, y.2, y.3)
+
       forth : (has a q ≡ true) ⊎ (has b q ≡ true) → Some_way P (way ∷ ways) q
-      forth (inl h) = let y : Some_way P ways q = (old q l).0 h in (y.0, inr y.1, y.2, y.3)
-      forth (inr h) = (way, inl refl, alive, (new q l).0 h)
+      forth (inl h) = before h
+      forth (inr h) = elim ((new q l).1 h) [ inl y ↦ before y | inr y ↦ (way, inl refl, alive, y) ]
 
       back : Some_way P (way ∷ ways) q → has r q ≡ true
-      back (v, inl e, live, h) = of_other (has a q) (has b q) (has r q) (join q) ((new q l).1 (subst (λ (w : Option Wing). P w q) e h))
+      back (v, inl e, live, h) = of_other (has a q) (has b q) (has r q) (join q) ((new q l).0 (subst (λ (w : Option Wing). P w q) e h))
       back (v, inr here, live, h) = of_one (has a q) (has b q) (has r q) (join q) ((old q l).1 (v, here, live, h))
 
   dead_set : (P : Option Wing → ℕ → Type 0) (a : ℕ) → ¬ Alive way → IsSetOf a (Some_way P ways) → IsSetOf a (Some_way P (way ∷ ways))
@@ -76,11 +83,11 @@ module _ (f : Facts) (d : Placement) (p : State) (k : ℕ) (c : Color) (ways : L
   more_stays s new old v (inr here) live = old v here live
 
   -- the first way alive
-  pub first_way : (a : Shown) → NoneAlive f d p k c ways → Alive way → ShowsWay f d p k c way a → ShowsWays f d p k c (way ∷ ways) a
-  first_way a none alive shows = record {
+  pub first_way : (found a : Shown) → ShowsNone found → NoneAlive f d p k c ways → Alive way → ShowsWay f d p k c way found a → ShowsWays f d p k c (way ∷ ways) a
+  first_way found a nothing none alive shows = record {
     alive = (way, inl refl, alive);
-    lands = λ u. first_set (λ v. TakesIn f d p k c v u) (lands_by a u) none alive (shows.lands u);
-    falls = λ u. first_set (λ v. FallsIn f d p k c v u) (falls_by a u) none alive (shows.falls u);
+    lands = λ u. first_set (λ v. TakesIn f d p k c v u) (lands_by found u) (lands_by a u) (nothing.lands u) none alive (shows.lands u);
+    falls = λ u. first_set (λ v. FallsIn f d p k c v u) (falls_by found u) (falls_by a u) (nothing.falls u) none alive (shows.falls u);
     stays = λ j s l st. (
       λ h. more_stays s (λ _. (shows.stays j s l st).0 h) (λ v here live. absurd (none v here live)),
       λ h. (shows.stays j s l st).1 (h way (inl refl) alive),
@@ -88,7 +95,7 @@ module _ (f : Facts) (d : Placement) (p : State) (k : ℕ) (c : Color) (ways : L
   }
 
   -- a further way alive
-  pub next_way : (a b r : Shown) → IsJoined a b r → ShowsWays f d p k c ways a → Alive way → ShowsWay f d p k c way b → ShowsWays f d p k c (way ∷ ways) r
+  pub next_way : (a b r : Shown) → IsJoined a b r → ShowsWays f d p k c ways a → Alive way → ShowsWay f d p k c way a b → ShowsWays f d p k c (way ∷ ways) r
   next_way a b r join old alive shows = record {
     alive = (way, inl refl, alive);
     lands = lands;
@@ -129,10 +136,12 @@ module _ (f : Facts) (d : Placement) (p : State) (k : ℕ) (c : Color) (ways : L
   dead_way None dead old = none_more dead old
   dead_way (Some a) dead old = dead_shows a dead old
 
-  pub add_first : (o : Option Shown) (a : Shown) → o ≡ None → ShowsAmong f d p k c ways o → IsAlive f d p k c way → ShowsWay f d p k c way a → ShowsAmong f d p k c (way ∷ ways) (Some a)
-  add_first o a e old alive shows = first_way a (subst (λ (x : Option Shown). ShowsAmong f d p k c ways x) e old) alive shows
+  pub add_first : (o r : Option Shown) (found : Shown) → o ≡ None → ShowsNone found → ShowsAmong f d p k c ways o →
+      IfNone r (¬ IsAlive f d p k c way) → IfSome r (λ a. IsAlive f d p k c way × ShowsWay f d p k c way found a) → ShowsAmong f d p k c (way ∷ ways) r
+  add_first o None found e nothing old dead shows = dead_way None dead (subst (λ (x : Option Shown). ShowsAmong f d p k c ways x) e old)
+  add_first o (Some a) found e nothing old dead shows = first_way found a nothing (subst (λ (x : Option Shown). ShowsAmong f d p k c ways x) e old) shows.0 shows.1
 
-  pub add_next : (o : Option Shown) (b a r : Shown) → o ≡ Some b → IsJoined b a r → ShowsAmong f d p k c ways o → IsAlive f d p k c way → ShowsWay f d p k c way a → ShowsAmong f d p k c (way ∷ ways) (Some r)
+  pub add_next : (o : Option Shown) (b a r : Shown) → o ≡ Some b → IsJoined b a r → ShowsAmong f d p k c ways o → IsAlive f d p k c way → ShowsWay f d p k c way b a → ShowsAmong f d p k c (way ∷ ways) (Some r)
   add_next o b a r e join old alive shows = next_way b a r join (subst (λ (x : Option Shown). ShowsAmong f d p k c ways x) e old) alive shows
 
 -- ---- all ways
@@ -157,3 +166,18 @@ module _ (f : Facts) (d : Placement) (p : State) (k : ℕ) (c : Color) where
   pub all_ways : (o : Option Shown) → ShowsAmong f d p k c every o → MatchOption o (IsDead f d p k c) (λ a. Shows f d p k c a)
   all_ways None none = λ v. none v (is_one v)
   all_ways (Some a) shows = shows_all a shows
+
+-- what each of the three ways has, all have
+pub each_way : (P : Option Wing → Type 0) → P None → P (Some KingSide) → P (Some QueenSide) → (way : Option Wing) → P way
+each_way P n s l None = n
+each_way P n s l (Some KingSide) = s
+each_way P n s l (Some QueenSide) = l
+
+-- what holds of an answer under a premise, where the premise holds
+pub if_none : {P Q : Type 0} (r : Option Shown) → (P → Q) → IfNone r P → IfNone r Q
+if_none None f h = f h
+if_none (Some a) f h = h
+
+pub if_some : {P Q : Shown → Type 0} (r : Option Shown) → ((a : Shown) → P a → Q a) → IfSome r P → IfSome r Q
+if_some None f h = h
+if_some (Some a) f h = f a h

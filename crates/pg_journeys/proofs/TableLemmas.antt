@@ -1,5 +1,5 @@
 -- Boards with a man on each still square, and tables of the steps that go by them. Leads to the contract of `steps_table`.
-use Rattle.std.proofs.Common.{arith, ◌≡◌, ◌≢◌, ◌↔◌, ℕ, ◌+◌, ◌*◌, ◌<◌, inl, inr, IsTrue, Bool, true, false, not, ◌&&◌, ◌||◌, Option, Some, None, List, length, get_or, set, replicate, refl, sym, ap, subst, ◌∙◌}
+use Rattle.std.proofs.Common.{arith, ◌≡◌, ◌≢◌, ◌↔◌, ℕ, ◌+◌, ◌*◌, ◌<◌, ◌≤◌, ◌⊎◌, inl, inr, IsTrue, Bool, true, false, not, ◌&&◌, ◌||◌, Option, Some, None, List, length, get_or, set, replicate, refl, sym, ap, subst, ◌∙◌}
 use Rattle.std.proofs.lemmas.Bool.Decides.{eqb_tells, leb_tells}
 use Rattle.std.proofs.lemmas.List.{get_or-set_same, get_or-set_other, get_or-replicate, get_or_past, length-replicate}
 use Rattle.pg_board.specs.declared.man.Color.{Color}
@@ -12,7 +12,7 @@ use Rattle.pg_board.specs.Men.{is_held, number_of_kind, kind_eq, man}
 use Rattle.pg_board.specs.Placement.{Placement, get, put, empty}
 use Rattle.pg_board.specs.SquareSets.{IsSetOf, HasNoneFrom, IsFirstFrom}
 use Rattle.pg_board.specs.lemmas.Placements.{get-empty, get-put_same, get-put_other}
-use Rattle.pg_board.proofs.SetLemmas.{and_true, set_like}
+use Rattle.pg_board.proofs.SetLemmas.{and_true, set_like, set_of_union}
 use Rattle.pg_position.specs.Attack.{IsClear, Reaches}
 use Rattle.pg_position.specs.Geometry.{InPattern}
 use Rattle.pg_captures.specs.FreeSteps.{StepsTo, Becomes, FreeStep}
@@ -23,7 +23,7 @@ use Rattle.pg_journeys.specs.Facts.{Facts}
 use Rattle.pg_journeys.specs.Journeys.{IsLeg}
 use Rattle.pg_journeys.specs.lemmas.Turns.{leg}
 use Rattle.pg_journeys.specs.inner.Grounds.{IsTable}
-use Rattle.pg_journeys.specs.inner.Makings.{GoesOn, IsFilled}
+use Rattle.pg_journeys.specs.inner.Makings.{GoesOn, IsFilled, AreQueens}
 
 -- ---- the board
 -- a man stands on each square of the set that is not left
@@ -162,9 +162,71 @@ kinds_first b free t zeros = record {
   none = λ j r l e. zeros (number_of_kind j * 64 + r);
 }
 
+-- ---- queens
+-- the steps of the queens on the first n squares are written
+pub record AreQueensTo (old : List ℕ) (n : ℕ) (now : List ℕ) : Type 0 where
+  pub both : (r q : ℕ) → r < n → has (get_or now (256 + r) 0) q ≡ (has (get_or old (128 + r) 0) q || has (get_or old (192 + r) 0) q)
+  pub kept : (i : ℕ) → (i < 256) ⊎ (256 + n ≤ i) → get_or now i 0 ≡ get_or old i 0
+
+pub queens_next : (old now : List ℕ) (n m a b v : ℕ) → m ≡ n + 1 → n < 64 → length now ≡ 384 → a ≡ get_or now (128 + n) 0 → b ≡ get_or now (192 + n) 0 →
+    ((q : ℕ) → has v q ≡ (has a q || has b q)) → AreQueensTo old n now → AreQueensTo old m (set now (256 + n) v)
+queens_next old now n m a b v e low long ea eb join h = record {
+  both = λ r q l. elim (eqb_tells r n) [
+    | inl w ↦
+        (let here : get_or (set now (256 + n) v) (256 + r) 0 ≡ v = ap (λ (x : ℕ). get_or (set now (256 + n) v) (256 + x) 0) w.1 ∙ get_or-set_same now (256 + n) v 0 (omega arith) in
+        ap (λ (x : ℕ). has x q) here ∙ join q
+        ∙ ap (λ (x : ℕ). has x q || has b q) (ea ∙ h.kept (128 + n) (inl (omega arith)) ∙ ap (λ (x : ℕ). get_or old (128 + x) 0) (sym w.1))
+        ∙ ap (λ (x : ℕ). has (get_or old (128 + r) 0) q || has x q) (eb ∙ h.kept (192 + n) (inl (omega arith)) ∙ ap (λ (x : ℕ). get_or old (192 + x) 0) (sym w.1)))
+    | inr w ↦
+        (let ne : r ≢ n = w.1 in
+        let away : 256 + r ≢ 256 + n = λ f. ne (omega (arith, f)) in
+        ap (λ (x : ℕ). has x q) (get_or-set_other now (256 + n) (256 + r) v 0 away) ∙ h.both r q (omega arith))
+  ];
+  kept = λ i out.
+      (let away : i ≢ 256 + n = λ f. elim out [ inl x ↦ omega (arith, f, x) | inr y ↦ omega (arith, f, y, e) ] in
+      get_or-set_other now (256 + n) i v 0 away ∙ h.kept i (elim out [ inl x ↦ inl x | inr y ↦ inr (omega (arith, y, e)) ]));
+}
+
+pub queens_all : (old new : List ℕ) (n : ℕ) → 64 ≤ n → n ≤ 64 → AreQueensTo old n new → AreQueens old new
+queens_all old new n hi lo h = record { both = λ r q l. h.both r q (omega arith); kept = λ i out. h.kept i (elim out [ inl x ↦ inl x | inr y ↦ inr (omega (arith, y, lo)) ]) }
+
+-- a queen goes as a bishop or as a rook
+queen_goes : (b : Placement) (free r s : ℕ) → GoesOn b free Bishop r s ⊎ GoesOn b free Rook r s → GoesOn b free Queen r s
+unfolding InPattern
+queen_goes b free r s (inl (x, y, ((ne, on), clear))) = (x, y, ((ne, inr on), clear))
+queen_goes b free r s (inr (x, y, ((ne, on), clear))) = (x, y, ((ne, inl on), clear))
+
+goes_so : (b : Placement) (free r s : ℕ) → GoesOn b free Queen r s → GoesOn b free Bishop r s ⊎ GoesOn b free Rook r s
+unfolding InPattern
+goes_so b free r s (x, y, ((ne, inl on), clear)) = inr (x, y, ((ne, on), clear))
+goes_so b free r s (x, y, ((ne, inr on), clear)) = inl (x, y, ((ne, on), clear))
+
+abbrev sliders : Kind → Bool
+sliders j = kind_eq j Rook || (kind_eq j Bishop || (kind_eq j Knight || false))
+
+kinds_queens : (b : Placement) (free : ℕ) (old new : List ℕ) → HasKinds b free sliders old → AreQueens old new → HasKinds b free (λ j. kind_eq j Queen || sliders j) new
+kinds_queens b free old new h made = record { done = done; none = none }
+  where
+    done : (j : Kind) (r : ℕ) → r < 64 → (kind_eq j Queen || sliders j) ≡ true → IsSetOf (get_or new (number_of_kind j * 64 + r) 0) (GoesOn b free j r)
+    done Pawn r l e = absurd (apart false e refl)
+    done Knight r l e = subst (λ (x : ℕ). IsSetOf x (GoesOn b free Knight r)) (sym (made.kept (64 + r) (inl (omega arith)))) (h.done Knight r l refl)
+    done Bishop r l e = subst (λ (x : ℕ). IsSetOf x (GoesOn b free Bishop r)) (sym (made.kept (128 + r) (inl (omega arith)))) (h.done Bishop r l refl)
+    done Rook r l e = subst (λ (x : ℕ). IsSetOf x (GoesOn b free Rook r)) (sym (made.kept (192 + r) (inl (omega arith)))) (h.done Rook r l refl)
+    done Queen r l e = set_like _ (λ q _ w. queen_goes b free r q w) (λ q _ w. goes_so b free r q w)
+        (set_of_union _ (get_or old (128 + r) 0) (get_or old (192 + r) 0) (λ q. made.both r q l) (h.done Bishop r l refl) (h.done Rook r l refl))
+    done King r l e = absurd (apart false e refl)
+
+    none : (j : Kind) (r : ℕ) → r < 64 → (kind_eq j Queen || sliders j) ≡ false → get_or new (number_of_kind j * 64 + r) 0 ≡ 0
+    none Pawn r l e = made.kept (0 + r) (inl (omega arith)) ∙ h.none Pawn r l refl
+    none Knight r l e = absurd (apart true refl e)
+    none Bishop r l e = absurd (apart true refl e)
+    none Rook r l e = absurd (apart true refl e)
+    none Queen r l e = absurd (apart true refl e)
+    none King r l e = made.kept (320 + r) (inr (omega arith)) ∙ h.none King r l refl
+
 -- all but the pawn
 pub all_kinds : (b : Placement) (free : ℕ) (t u v w x y : List ℕ) → ((i : ℕ) → get_or t i 0 ≡ 0) →
-    IsFilled b free Knight t u → IsFilled b free Bishop u v → IsFilled b free Rook v w → IsFilled b free Queen w x → IsFilled b free King x y →
+    IsFilled b free Knight t u → IsFilled b free Bishop u v → IsFilled b free Rook v w → AreQueens w x → IsFilled b free King x y →
     (k : Kind) (r : ℕ) → k ≢ Pawn → r < 64 → IsSetOf (get_or y (number_of_kind k * 64 + r) 0) (GoesOn b free k r)
 all_kinds b free t u v w x y zeros n p q o m = by_kind
   where
@@ -178,7 +240,7 @@ all_kinds b free t u v w x y zeros n p q o m = by_kind
     e = kinds_next b free Rook _ v w refl d q
 
     f : HasKinds b free (λ j. kind_eq j Queen || (kind_eq j Rook || (kind_eq j Bishop || (kind_eq j Knight || false)))) x
-    f = kinds_next b free Queen _ w x refl e o
+    f = kinds_queens b free w x e o
 
     g : HasKinds b free (λ j. kind_eq j King || (kind_eq j Queen || (kind_eq j Rook || (kind_eq j Bishop || (kind_eq j Knight || false))))) y
     g = kinds_next b free King _ x y refl f m

@@ -6,6 +6,7 @@ pub mod Levels
 pub mod Rings
 pub mod Reached
 pub mod Sides
+pub mod Knowing
 pub mod Deeds
 pub mod Makings
 pub mod Costing

@@ -12,7 +12,7 @@ ghost use Rattle.pg_journeys.specs.Journeys.{IsLeg};
 ghost use Rattle.pg_journeys.specs.Known.{known, landing};
 ghost use Rattle.pg_journeys.specs.lemmas.Turns.{leg};
 ghost use Rattle.pg_journeys.specs.inner.Grounds.{IsTable, HasSteps, IsGround, LedTo, Pushes, Captures};
-ghost use Rattle.pg_journeys.specs.inner.Makings.{IsFilled, IsAheadOf, IsEastOf, IsWestOf};
+ghost use Rattle.pg_journeys.specs.inner.Makings.{AreQueens, IsFilled, IsAheadOf, IsEastOf, IsWestOf};
 
 use crate::facts::{Facts, rank_set};
 use pg_board::{Board, Color, Kind, Man, Square, SquareSet};
@@ -50,6 +50,15 @@ fn fill_kind(table: &mut [SquareSet; 384], blocks: &Board, free: SquareSet, kind
     }
 }
 
+// Writes the steps of queens: those of bishops and of rooks.
+fn fill_queens(table: &mut [SquareSet; 384])
+    ensures { AreQueens table.old table.new }
+{
+    for at in 0..64usize {
+        table[256 + at] = table[128 + at] | table[192 + at];
+    }
+}
+
 // The steps of each kind but a pawn from each square, where these squares are still.
 pub(crate) fn steps_table(still: SquareSet) -> [SquareSet; 384]
     ensures { (f : KnownFacts) (c : Color) → ((s : ℕ) → s < 64 → f.still s ≡ has still s) → IsTable f c result }
@@ -60,7 +69,7 @@ pub(crate) fn steps_table(still: SquareSet) -> [SquareSet; 384]
     fill_kind(&mut table, &blocks, free, Kind::Knight);
     fill_kind(&mut table, &blocks, free, Kind::Bishop);
     fill_kind(&mut table, &blocks, free, Kind::Rook);
-    fill_kind(&mut table, &blocks, free, Kind::Queen);
+    fill_queens(&mut table);
     fill_kind(&mut table, &blocks, free, Kind::King);
     table
 }
@@ -71,6 +80,7 @@ pub(crate) fn ground_of(facts: &Facts, color: Color, table: &[SquareSet; 384]) -
     ensures sound { IsGround result }
     ensures facts { result.facts ≡ facts.now }
     ensures color { result.color ≡ color }
+    ensures table { result.table ≡ table.now }
 {
     Ground {
         facts: *facts,

@@ -216,10 +216,10 @@ fn ends_of(side: &Side, man: &Walker, aims: &Aims, rooms: &[u8; 17]) -> u32
         ((get_or rooms.now e 0 < 255) × ChangesBy side.now man.now e (get_or rooms.now e 0)) }
 {
     let mut ends = 0u32;
-    for e in 0..17usize {
+    for e in 0..side.goals.count {
         ends = with_end(ends, e, is_end(side, man, aims, e, rooms[e]));
     }
-    ends
+    with_end(ends, 16, is_end(side, man, aims, 16, rooms[16]))
 }
 
 // The greater of a room and what is no room, 255, or one.
@@ -264,22 +264,44 @@ fn may_find(side: &Side, ends: u32, room: u8, lands: SquareSet, falls: SquareSet
     !new_lands.is_empty() || (room < 255 && !new_falls.is_empty())
 }
 
-// What the plans of a way have by a measure.
+// Squares where captures of a colour land and where its men are captured.
+#[derive(Clone, Copy)]
+pub(crate) struct Found {
+    pub(crate) lands: SquareSet,
+    pub(crate) falls: SquareSet,
+}
+
+impl Found {
+    // No squares.
+    pub(crate) fn none() -> Found
+        ensures lands { (q : ℕ) → has result.lands q ≡ false }
+        ensures falls { (q : ℕ) → has result.falls q ≡ false }
+    {
+        Found {
+            lands: SquareSet::empty(),
+            falls: SquareSet::empty(),
+        }
+    }
+}
+
+// What the plans of a way have by a measure, and what was found before.
 pub(crate) fn deeds_of(
     side: &Side,
     is_quiet: bool,
     measured: &Measured<'_>,
     way: Option<Wing>,
     rooms: &Rooms,
+    found: Found,
 ) -> Deeds
     requires side { (d : Placement) × IsSide d side.now }
     requires measured { IsMeasured side.now is_quiet measured.now }
     requires rooms { (d : Placement) → IsSide d side.now →
         AreRooms d side.now is_quiet way measured.now.most rooms.now }
-    ensures { (d : Placement) → IsSide d side.now → AreDeeds d side.now is_quiet way measured.now.most result }
+    ensures { (d : Placement) → IsSide d side.now →
+        AreDeeds d side.now is_quiet way measured.now.most found.lands found.falls result }
 {
-    let mut lands = SquareSet::empty();
-    let mut falls = SquareSet::empty();
+    let mut lands = found.lands;
+    let mut falls = found.falls;
     let mut ends = [0u32; 16];
     let mut reach = Reach::none();
     let aims = measured.aims;

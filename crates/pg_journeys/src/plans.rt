@@ -2,18 +2,20 @@
 ghost use Rattle.std.specs.Prelude.{◌≡◌, ℕ, Bool, Some, None, false, ◌+◌, ◌-◌, ◌<◌, ◌≤◌, ◌↔◌, IsTrue, IfSome, IfNone, true, get_or};
 ghost use Rattle.pg_board.specs.Bits.{has};
 ghost use Rattle.pg_board.specs.declared.man.Kind.{Kind as KindOfMan};
-ghost use Rattle.pg_board.specs.Men.{other};
+ghost use Rattle.pg_board.specs.Men.{number_of_kind, other};
 ghost use Rattle.pg_board.specs.SquareSets.{IsSetOf};
 ghost use Rattle.pg_board.specs.Placement.{Placement};
 ghost use Rattle.pg_captures.specs.Owed.{plies_left, victims};
 ghost use Rattle.pg_travel.specs.Origins.{charge as charge_of, counted as counted_on};
 ghost use Rattle.pg_journeys.specs.Journeys.{HasPassed, IsWayUnder};
 ghost use Rattle.pg_journeys.specs.Known.{known, landing};
+ghost use Rattle.pg_journeys.specs.inner.Grounds.{IsGround};
 ghost use Rattle.pg_journeys.specs.inner.Levels.{BackWithin};
 ghost use Rattle.pg_journeys.specs.inner.Rings.{AreRings, AreWithin};
-ghost use Rattle.pg_journeys.specs.inner.Costing.{IsOnSpan, InRing, IsCountTo, IsFall, IsCostRow, AreCostRows, AreCostsOf, HasTotalTo, walker_of};
+ghost use Rattle.pg_journeys.specs.inner.Costing.{IsOnSpan, InRing, IsCountTo, IsFall, IsCostRow, AreCostRows, AreCostsOf, HasTotalTo, walker_of, MayBeIn};
+ghost use Rattle.pg_journeys.specs.declared.plans.Side.{Side as SideOf};
 ghost use Rattle.pg_journeys.specs.inner.Showing.{IsMeasured};
-ghost use Rattle.pg_journeys.specs.inner.Sides.{facts_of, IsSide, IsEnd, EndWithin, AreAims, JourneysOf, IsPaidBy};
+ghost use Rattle.pg_journeys.specs.inner.Sides.{facts_of, AreMen, IsSide, IsLike, IsEnd, EndWithin, AreAims, JourneysOf, IsPaidBy};
 
 use crate::facts::Facts;
 use crate::fronts::only;
@@ -47,45 +49,61 @@ pub(crate) struct Walker {
     pub(crate) runner: Runner,
 }
 
-// The men whom the paths to an end lead to be.
-fn end_goals(side: &Side, e: usize) -> [SquareSet; 6]
-    requires side { (d : Placement) × IsSide d side.now }
-    requires end { IsEnd side.now e }
-    ensures { (quiet : Bool) (n : ℕ) (k : KindOfMan) (s : ℕ) →
-        BackWithin (facts_of side.now) side.now.ground.color quiet result n k s ↔ EndWithin side.now quiet e n k s }
+// The men whom the paths to an end lead to be, for each side of this ground and these men of the diagram.
+fn end_goals(ground: &Ground, goals: &Men, e: usize) -> [SquareSet; 6]
+    requires { (b : Placement) × AreMen b ground.now.color goals.now }
+    ensures { (x : SideOf) → IsLike x ground.now goals.now → IsEnd x e →
+        (quiet : Bool) (n : ℕ) (k : KindOfMan) (s : ℕ) →
+        BackWithin (known ground.now.facts) ground.now.color quiet result n k s ↔ EndWithin x quiet e n k s }
 {
-    if e < side.goals.count {
-        only(
-            side.goals.kinds[e],
-            SquareSet::single(side.goals.squares[e]),
-        )
+    if e < goals.count {
+        only(goals.kinds[e], SquareSet::single(goals.squares[e]))
     } else {
-        [side.ground.theirs(); 6]
+        [ground.theirs(); 6]
     }
 }
 
 // Writes the rings of the paths to an end, as far as `most`.
-fn aim(side: &Side, is_quiet: bool, most: u8, e: usize, rings: &mut Rings)
-    requires side { (d : Placement) × IsSide d side.now }
+fn aim(ground: &Ground, goals: &Men, is_quiet: bool, most: u8, e: usize, rings: &mut Rings)
+    requires sound { IsGround ground.now }
+    requires goals { (b : Placement) × AreMen b ground.now.color goals.now }
     requires low { most < 200 }
-    requires end { IsEnd side.now e }
-    ensures { AreRings (EndWithin side.now is_quiet e) rings.new }
+    ensures { (x : SideOf) → IsLike x ground.now goals.now → IsEnd x e → AreRings (EndWithin x is_quiet e) rings.new }
 {
-    rings_to(&side.ground, is_quiet, end_goals(side, e), most, rings);
+    rings_to(ground, is_quiet, end_goals(ground, goals, e), most, rings);
 }
 
-// Writes the rings of the paths to each end, as far as `most`.
+// Writes the rings of the paths to each of these men, and to being captured if that is asked, as far as `most`.
+pub(crate) fn fill_ends(
+    ground: &Ground,
+    goals: &Men,
+    with_fall: bool,
+    is_quiet: bool,
+    most: u8,
+    aims: &mut Aims,
+)
+    requires sound { IsGround ground.now }
+    requires goals { (b : Placement) × AreMen b ground.now.color goals.now }
+    requires low { most < 200 }
+    ensures { (x : SideOf) → IsLike x ground.now goals.now → (x.goals.count < x.men.count → with_fall ≡ true) →
+        AreAims x is_quiet aims.new }
+{
+    for e in 0..goals.count {
+        aim(ground, goals, is_quiet, most, e, &mut aims[e]);
+    }
+    if with_fall {
+        aim(ground, goals, is_quiet, most, 16, &mut aims[16]);
+    }
+}
+
+// Writes the rings of the paths to each end of a side, as far as `most`.
 pub(crate) fn fill_aims(side: &Side, is_quiet: bool, most: u8, aims: &mut Aims)
     requires side { (d : Placement) × IsSide d side.now }
     requires low { most < 200 }
     ensures { AreAims side.now is_quiet aims.new }
 {
-    for e in 0..side.goals.count {
-        aim(side, is_quiet, most, e, &mut aims[e]);
-    }
-    if side.goals.count < side.men.count {
-        aim(side, is_quiet, most, 16, &mut aims[16]);
-    }
+    let with_fall = side.goals.count < side.men.count;
+    fill_ends(&side.ground, &side.goals, with_fall, is_quiet, most, aims);
 }
 
 // The men whom a path of at most so many counts leads to an end, searched anew.
@@ -96,7 +114,7 @@ fn aim_anew(side: &Side, is_quiet: bool, e: usize, n: u8) -> [SquareSet; 6]
     requires low { n < 200 }
     ensures { AreWithin (EndWithin side.now is_quiet e) n result }
 {
-    let goals = end_goals(side, e);
+    let goals = end_goals(&side.ground, &side.goals, e);
     met_within(&side.ground, is_quiet, &goals, n)
 }
 
@@ -276,6 +294,44 @@ pub(crate) fn man_of(side: &Side, is_quiet: bool, way: Option<Wing>, i: usize) -
     }
 }
 
+// The kinds that a man of a kind may come to be, a bit for each number: a pawn any but a king, any other man his own.
+fn kinds_of(kind: Kind) -> u64
+    ensures { MayBeIn kind result }
+{
+    match kind {
+        Kind::Pawn => 0b01_1111,
+        Kind::Knight => 0b00_0010,
+        Kind::Bishop => 0b00_0100,
+        Kind::Rook => 0b00_1000,
+        Kind::Queen => 0b01_0000,
+        Kind::King => 0b10_0000,
+    }
+}
+
+// Whether a kind is among these.
+fn is_among(kinds: u64, kind: Kind) -> bool
+    ensures { result ≡ has kinds (number_of_kind kind) }
+{
+    (kinds >> kind.number()) & 1 == 1
+}
+
+// What a path of a man to be a man of the diagram counts at least, if that is at most `most`; 255 for none. Most pairs
+// are of kinds that tell it.
+fn arrival(side: &Side, aims: &Aims, most: u8, e: usize, man: &Runner, kinds: u64) -> u8
+    requires side { (d : Placement) × IsSide d side.now }
+    requires goal { e < side.now.goals.count }
+    requires low { most < 200 }
+    requires aims { AreAims side.now man.now.is_quiet aims.now }
+    requires kinds { MayBeIn man.now.kind kinds }
+    ensures { IsCountTo side.now most e man.now result }
+{
+    let goal = side.goals.kinds[e];
+    if !is_among(kinds, goal) {
+        return 255;
+    }
+    count_to(side, aims, most, e, man)
+}
+
 // What it counts at least that a man is captured; 255 for none. A king never is, and who has just passed a square takes
 // no step.
 fn fall(side: &Side, aims: &Aims, most: u8, man: &Walker) -> u8
@@ -315,8 +371,9 @@ fn row(side: &Side, aims: &Aims, most: u8, man: &Walker) -> [u8; 16]
     ensures { IsCostRow side.now most man.now result side.now.men.count }
 {
     let mut row = [255u8; 16];
+    let kinds = kinds_of(man.runner.kind);
     for j in 0..side.goals.count {
-        row[j] = count_to(side, aims, most, j, &man.runner);
+        row[j] = arrival(side, aims, most, j, &man.runner, kinds);
     }
     if side.goals.count < side.men.count {
         let fall = fall(side, aims, most, man);

@@ -1,5 +1,5 @@
 //! The four rounds.
-ghost use Rattle.std.specs.Prelude.{◌≡◌, ℕ, ◌<◌, ◌⊎◌, ◌↔◌, IsTrue, IfSome, IfNone, MatchOption, true};
+ghost use Rattle.std.specs.Prelude.{◌≡◌, ℕ, ◌<◌, ◌⊎◌, ◌↔◌, IsTrue, IfSome, IfNone, MatchOption, true, All};
 ghost use Rattle.pg_board.specs.Bits.{has};
 ghost use Rattle.pg_board.specs.SquareSets.{IsSetOf};
 ghost use Rattle.pg_board.specs.declared.man.Color.{Color as AnyColor};
@@ -9,11 +9,14 @@ ghost use Rattle.pg_journeys.specs.Facts.{Facts as GameFacts, FactsHold};
 ghost use Rattle.pg_journeys.specs.FirstFacts.{AreFirst, HasWalls, IsWallOf};
 ghost use Rattle.pg_journeys.specs.Known.{known};
 ghost use Rattle.pg_journeys.specs.Rounds.{HasFew, AreFacts, HasDeadColor, JourneysHold};
+ghost use Rattle.pg_journeys.specs.inner.Grounds.{HasSteps};
+ghost use Rattle.pg_journeys.specs.inner.Knowing.{IsKnown};
 ghost use Rattle.pg_journeys.specs.inner.Showing.{IsDead, Shows};
 ghost use Rattle.pg_journeys.specs.inner.Walking.{HasFewer, IsKept, MayLand, IsNext};
 
 use crate::facts::{Facts, walls};
 use crate::ground::steps_table;
+use crate::known::{FirstAims, Given, Known, known_steps};
 use crate::plans::budget;
 use crate::shown::{Shown, is_dead, shown_of};
 use pg_board::{Board, Color, SquareSet};
@@ -110,32 +113,57 @@ fn owes_more(diagram: &Diagram, position: &Position, left: u8, color: Color) -> 
 }
 
 // The facts that follow; none where a colour has no way alive. One table has the steps of both colours.
-#[inline(never)]
-fn facts_by_plans(diagram: &Diagram, position: &Position, left: u8, facts: &Facts) -> Option<Facts>
+fn facts_by_plans(
+    diagram: &Diagram,
+    position: &Position,
+    left: u8,
+    facts: &Facts,
+    given: &Given<'_>,
+) -> Option<Facts>
+    requires steps { HasSteps facts.now.still given.now.table.now }
+    requires known { All IsKnown given.now.known.now }
     requires few { HasFew position.now }
     requires enough { ¬ HasFewer diagram.now position.now }
     ensures { MatchOption result ((c : AnyColor) × IsDead (known facts.now) diagram.now position.now left c)
         (λ e. IsNext (known facts.now) (known e) diagram.now position.now left) }
 {
-    let table = steps_table(facts.still);
-    match shown_of(diagram, position, left, facts, Color::White, &table) {
+    match shown_of(diagram, position, left, facts, Color::White, given) {
         None => None,
-        Some(white) => match shown_of(diagram, position, left, facts, Color::Black, &table) {
+        Some(white) => match shown_of(diagram, position, left, facts, Color::Black, given) {
             None => None,
             Some(black) => Some(narrowed(diagram, position, facts, &white, &black)),
         },
     }
 }
 
-// The facts that follow; none where a colour has no way alive. What both may spend is asked before any table is made.
+// The same, by a table that is made here.
+#[inline(never)]
+fn facts_anew(diagram: &Diagram, position: &Position, left: u8, facts: &Facts) -> Option<Facts>
+    requires few { HasFew position.now }
+    requires enough { ¬ HasFewer diagram.now position.now }
+    ensures { MatchOption result ((c : AnyColor) × IsDead (known facts.now) diagram.now position.now left c)
+        (λ e. IsNext (known facts.now) (known e) diagram.now position.now left) }
+{
+    let table = steps_table(facts.still);
+    let given = Given {
+        table: &table,
+        known: &[],
+    };
+    facts_by_plans(diagram, position, left, facts, &given)
+}
+
+// The facts that follow; none where a colour has no way alive. What both may spend is asked before any table is made,
+// and what is known beforehand is used where these squares are still.
 pub(crate) fn next_facts(
     diagram: &Diagram,
     position: &Position,
     left: u8,
     facts: &Facts,
+    beforehand: &[Known],
 ) -> Option<Facts>
     requires few { HasFew position.now }
     requires enough { ¬ HasFewer diagram.now position.now }
+    requires known { All IsKnown beforehand.now }
     ensures { MatchOption result ((c : AnyColor) × IsDead (known facts.now) diagram.now position.now left c)
         (λ e. IsNext (known facts.now) (known e) diagram.now position.now left) }
 {
@@ -145,7 +173,16 @@ pub(crate) fn next_facts(
     if owes_more(diagram, position, left, Color::Black) {
         return None;
     }
-    facts_by_plans(diagram, position, left, facts)
+    match known_steps(beforehand, facts.still) {
+        Some(table) => {
+            let given = Given {
+                table,
+                known: beforehand,
+            };
+            facts_by_plans(diagram, position, left, facts, &given)
+        }
+        None => facts_anew(diagram, position, left, facts),
+    }
 }
 
 // Whether by these facts a colour has no way alive.
@@ -160,16 +197,22 @@ fn any_dead(diagram: &Diagram, position: &Position, left: u8, facts: &Facts) -> 
 
 // The facts of the last round; none where in a round a colour has no way alive. Facts that stay the same are those
 // of each later round too, and the facts of the last round are not narrowed.
-fn last_facts(diagram: &Diagram, position: &Position, left: u8) -> Option<Facts>
+fn last_facts(
+    diagram: &Diagram,
+    position: &Position,
+    left: u8,
+    beforehand: &[Known],
+) -> Option<Facts>
     requires few { HasFew position.now }
     requires enough { ¬ HasFewer diagram.now position.now }
+    requires known { All IsKnown beforehand.now }
     ensures dead { IfNone result (HasDeadColor diagram.now position.now left) }
     ensures alive { IfSome result (λ f. ¬ HasDeadColor diagram.now position.now left) }
     ensures facts { IfSome result (λ f. AreFacts diagram.now position.now left 3 (known f)) }
 {
     let mut facts = first_facts(diagram, position);
     for _ in 0..3u8 {
-        match next_facts(diagram, position, left, &facts) {
+        match next_facts(diagram, position, left, &facts, beforehand) {
             None => return None,
             Some(next) => {
                 if next == facts {
@@ -211,10 +254,10 @@ pub(crate) fn has_few(position: &Position) -> bool
     all_men(&board, Color::White) <= 16 && all_men(&board, Color::Black) <= 16
 }
 
-/// Facts that hold for the games of `left` plies from the position to the diagram: the squares whose men stay where
-/// they are, and for each colour those where its captures may land. They are the facts of the last round, and the
-/// first ones where a colour has more than sixteen men. None where the bound by journeys excludes, and only there.
-pub fn facts_for(diagram: &Diagram, position: &Position, left: u8) -> Option<Facts>
+// The facts of the last round, and the first ones where a colour has more than sixteen men; none where the bound by
+// journeys excludes. What is known beforehand makes them sooner.
+fn facts_by(diagram: &Diagram, position: &Position, left: u8, beforehand: &[Known]) -> Option<Facts>
+    requires { All IsKnown beforehand.now }
     ensures holds { IfSome result (λ f. FactsHold (known f) diagram.now position.now left) }
     ensures last { IfSome result (λ f. HasFew position.now → AreFacts diagram.now position.now left 3 (known f)) }
     ensures first { IfSome result (λ f. ¬ HasFew position.now → AreFirst (known f) diagram.now position.now) }
@@ -232,7 +275,20 @@ pub fn facts_for(diagram: &Diagram, position: &Position, left: u8) -> Option<Fac
     if !has_few(position) {
         return Some(first_facts(diagram, position));
     }
-    last_facts(diagram, position, left)
+    last_facts(diagram, position, left, beforehand)
+}
+
+/// Facts that hold for the games of `left` plies from the position to the diagram: the squares whose men stay where
+/// they are, and for each colour those where its captures may land. They are the facts of the last round, and the
+/// first ones where a colour has more than sixteen men. None where the bound by journeys excludes, and only there.
+pub fn facts_for(diagram: &Diagram, position: &Position, left: u8) -> Option<Facts>
+    ensures holds { IfSome result (λ f. FactsHold (known f) diagram.now position.now left) }
+    ensures last { IfSome result (λ f. HasFew position.now → AreFacts diagram.now position.now left 3 (known f)) }
+    ensures first { IfSome result (λ f. ¬ HasFew position.now → AreFirst (known f) diagram.now position.now) }
+    ensures some { IfSome result (λ f. ¬ JourneysHold diagram.now position.now left) }
+    ensures none { IfNone result (JourneysHold diagram.now position.now left) }
+{
+    facts_by(diagram, position, left, &[])
 }
 
 /// Whether the bound by journeys excludes every game of `left` plies from the position to the diagram.
@@ -240,4 +296,11 @@ pub fn journeys_hold(diagram: &Diagram, position: &Position, left: u8) -> bool
     ensures { IsTrue result ↔ JourneysHold diagram.now position.now left }
 {
     facts_for(diagram, position, left).is_none()
+}
+
+/// The same, sooner where `aims` are those of the diagram; they change no answer.
+pub fn journeys_hold_by(aims: &FirstAims, diagram: &Diagram, position: &Position, left: u8) -> bool
+    ensures { IsTrue result ↔ JourneysHold diagram.now position.now left }
+{
+    facts_by(diagram, position, left, aims.known()).is_none()
 }

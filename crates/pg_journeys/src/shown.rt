@@ -1,5 +1,5 @@
 //! What the plans of a colour show under facts: who may change, where captures land and where men are captured.
-ghost use Rattle.std.specs.Prelude.{◌≡◌, ℕ, ◌<◌, ◌≤◌, ◌↔◌, IsTrue, IfSome, IfNone, MatchOption, Option, List, [], ◌∷◌, get_or, true, false};
+ghost use Rattle.std.specs.Prelude.{◌≡◌, ℕ, ◌<◌, ◌≤◌, ◌↔◌, IsTrue, IfSome, IfNone, MatchOption, Option, Some, List, [], ◌∷◌, get_or, true, false, All};
 ghost use Rattle.pg_board.specs.SquareSets.{IsSetOf};
 ghost use Rattle.pg_board.specs.Placement.{Placement};
 ghost use Rattle.pg_board.specs.Bits.{has};
@@ -10,16 +10,18 @@ ghost use Rattle.pg_captures.specs.Counting.{men, any_man};
 ghost use Rattle.pg_journeys.specs.Facts.{Facts as GameFacts};
 ghost use Rattle.pg_journeys.specs.Journeys.{HasPassed};
 ghost use Rattle.pg_journeys.specs.Known.{known};
-ghost use Rattle.pg_journeys.specs.Plans.{IsAlive};
+ghost use Rattle.pg_journeys.specs.Plans.{IsAlive, QuietMoves};
 ghost use Rattle.pg_journeys.specs.inner.Grounds.{HasSteps};
+ghost use Rattle.pg_journeys.specs.inner.Knowing.{IsKnown};
 ghost use Rattle.pg_journeys.specs.inner.Resting.{AreResting, lifted, lifted_from};
-ghost use Rattle.pg_journeys.specs.inner.Sides.{facts_of, square_at, IsSide};
-ghost use Rattle.pg_journeys.specs.inner.Showing.{MayChange, IsMeasured, IsOneMeasure, AreBudgets, ShowsWay, IsJoined, ShowsAmong, IsDead, Shows};
+ghost use Rattle.pg_journeys.specs.inner.Sides.{facts_of, square_at, AreAims, IsSide};
+ghost use Rattle.pg_journeys.specs.inner.Showing.{MayChange, IsMeasured, IsOneMeasure, IsBudget, AreBudgets, IsShownBy, ShowsNone, ShowsWay, IsJoined, ShowsAmong, IsDead, Shows};
 
 use crate::facts::Facts;
 use crate::ground::{ground_of, steps_table};
+use crate::known::{Given, Known, known_for};
 use crate::men::{Men, men_without};
-use crate::narrowing::{Deeds, deeds_of};
+use crate::narrowing::{Deeds, Found, deeds_of};
 use crate::plans::{Aims, Side, budget, counted, fill_aims, first_costs, is_paid, is_way};
 use crate::rings::Rings;
 use crate::rooms::rooms_of;
@@ -37,6 +39,22 @@ pub(crate) struct Shown {
     pub(crate) quiet_lands: SquareSet,
     pub(crate) falls: SquareSet,
     pub(crate) quiet_falls: SquareSet,
+}
+
+impl Shown {
+    // Nobody, and no square.
+    fn none() -> Shown
+        ensures { ShowsNone result }
+    {
+        let none = SquareSet::empty();
+        Shown {
+            changed: none,
+            lands: none,
+            quiet_lands: none,
+            falls: none,
+            quiet_falls: none,
+        }
+    }
 }
 
 // The paths to ends by a measure, what they may count, and what fates cost where none castles.
@@ -103,12 +121,14 @@ fn is_one_measure(side: &Side, most: u8, fewest: u8) -> bool
     most == fewest && side.ground.lands().is_empty()
 }
 
-// What the plans of a way show; none where it is not alive. Where both measures are one, one tells both.
+// What the plans of a way show; none where it is not alive. Where both measures are one, one tells both. Squares that
+// were found before are not looked for.
 fn way_shown(
     side: &Side,
     moves: &Measured<'_>,
     quiet: &Measured<'_>,
     way: Option<Wing>,
+    found: &Shown,
 ) -> Option<Shown>
     requires side { (d : Placement) × IsSide d side.now }
     requires moves { IsMeasured side.now false moves.now }
@@ -119,7 +139,7 @@ fn way_shown(
     ensures some { IfSome result (λ a. (d : Placement) (k : ℕ) → IsSide d side.now →
         AreBudgets d side.now k moves.now.most quiet.now.most →
         IsAlive (facts_of side.now) d side.now.position k side.now.ground.color way
-        × ShowsWay (facts_of side.now) d side.now.position k side.now.ground.color way a) }
+        × ShowsWay (facts_of side.now) d side.now.position k side.now.ground.color way found.now a) }
 {
     if !is_way(&side.position, &side.ground.facts, side.ground.color, way) {
         return None;
@@ -128,7 +148,7 @@ fn way_shown(
         return None;
     };
     if is_one_measure(side, moves.most, quiet.most) {
-        let both = deeds_of(side, false, moves, way, &rooms);
+        let both = deeds_of(side, false, moves, way, &rooms, Found::none());
         return Some(Shown {
             changed: changed_in(side.ground.color, &side.men, way, &both, &both),
             lands: both.lands,
@@ -140,8 +160,16 @@ fn way_shown(
     let Some(quiet_rooms) = rooms_of(side, true, quiet, way) else {
         return None;
     };
-    let all = deeds_of(side, false, moves, way, &rooms);
-    let calm = deeds_of(side, true, quiet, way, &quiet_rooms);
+    let by_moves = Found {
+        lands: found.lands,
+        falls: found.falls,
+    };
+    let all = deeds_of(side, false, moves, way, &rooms, by_moves);
+    let by_quiet = Found {
+        lands: found.quiet_lands,
+        falls: found.quiet_falls,
+    };
+    let calm = deeds_of(side, true, quiet, way, &quiet_rooms, by_quiet);
     Some(Shown {
         changed: changed_in(side.ground.color, &side.men, way, &all, &calm),
         lands: all.lands,
@@ -164,6 +192,28 @@ fn joined(one: &Shown, other: &Shown) -> Shown
     }
 }
 
+// What others show, with what the plans of a way show if it is alive.
+fn with_way(
+    side: &Side,
+    moves: &Measured<'_>,
+    quiet: &Measured<'_>,
+    way: Option<Wing>,
+    others: Shown,
+) -> Option<Shown>
+    requires side { (d : Placement) × IsSide d side.now }
+    requires moves { IsMeasured side.now false moves.now }
+    requires quiet { IsMeasured side.now true quiet.now }
+    ensures { (d : Placement) (k : ℕ) (ways : List (Option AnyWing)) → IsSide d side.now →
+        AreBudgets d side.now k moves.now.most quiet.now.most →
+        ShowsAmong (facts_of side.now) d side.now.position k side.now.ground.color ways (Some others) →
+        ShowsAmong (facts_of side.now) d side.now.position k side.now.ground.color (way ∷ ways) result }
+{
+    match way_shown(side, moves, quiet, way, &others) {
+        None => Some(others),
+        Some(shown) => Some(joined(&others, &shown)),
+    }
+}
+
 // With what the plans of a way show; the same where it is not alive.
 fn add_way(
     side: &Side,
@@ -180,12 +230,9 @@ fn add_way(
         ShowsAmong (facts_of side.now) d side.now.position k side.now.ground.color ways before →
         ShowsAmong (facts_of side.now) d side.now.position k side.now.ground.color (way ∷ ways) result }
 {
-    match way_shown(side, moves, quiet, way) {
-        None => before,
-        Some(shown) => match before {
-            None => Some(shown),
-            Some(others) => Some(joined(&others, &shown)),
-        },
+    match before {
+        None => way_shown(side, moves, quiet, way, &Shown::none()),
+        Some(others) => with_way(side, moves, quiet, way, others),
     }
 }
 
@@ -194,10 +241,7 @@ fn ways_shown(side: &Side, moves: &Measured<'_>, quiet: &Measured<'_>) -> Option
     requires side { (d : Placement) × IsSide d side.now }
     requires moves { IsMeasured side.now false moves.now }
     requires quiet { IsMeasured side.now true quiet.now }
-    ensures { (d : Placement) (k : ℕ) → IsSide d side.now →
-        AreBudgets d side.now k moves.now.most quiet.now.most →
-        MatchOption result (IsDead (facts_of side.now) d side.now.position k side.now.ground.color)
-        (λ a. Shows (facts_of side.now) d side.now.position k side.now.ground.color a) }
+    ensures { IsShownBy side.now moves.now.most quiet.now.most result }
 {
     let none = add_way(side, moves, quiet, None, None);
     let short = add_way(side, moves, quiet, Some(Wing::KingSide), none);
@@ -251,6 +295,21 @@ pub(crate) fn side_of(
     }
 }
 
+// What paths to ends count by a measure, where these are their rings.
+fn by_measure<'a>(side: &Side, is_quiet: bool, most: u8, aims: &'a Aims) -> Measured<'a>
+    requires side { (d : Placement) × IsSide d side.now }
+    requires low { most < 200 }
+    requires aims { AreAims side.now is_quiet aims.now }
+    ensures measured { IsMeasured side.now is_quiet result }
+    ensures most { result.most ≡ most }
+{
+    Measured {
+        aims,
+        most,
+        costs: first_costs(side, is_quiet, aims, most),
+    }
+}
+
 // What the plans of a side show by one measure that is both. A table of its own, since it is cleared where a function
 // begins.
 #[inline(never)]
@@ -258,58 +317,117 @@ fn shown_by_one(side: &Side, most: u8) -> Option<Shown>
     requires side { (d : Placement) × IsSide d side.now }
     requires low { most < 200 }
     requires one { IsOneMeasure side.now most most }
-    ensures { (d : Placement) (k : ℕ) → IsSide d side.now → AreBudgets d side.now k most most →
-        MatchOption result (IsDead (facts_of side.now) d side.now.position k side.now.ground.color)
-        (λ a. Shows (facts_of side.now) d side.now.position k side.now.ground.color a) }
+    ensures { IsShownBy side.now most most result }
 {
     let mut aims = [Rings::none(); 17];
     fill_aims(side, false, most, &mut aims);
-    let moves = Measured {
-        aims: &aims,
-        most,
-        costs: first_costs(side, false, &aims, most),
-    };
+    let moves = by_measure(side, false, most, &aims);
     ways_shown(side, &moves, &moves)
 }
 
-// What the plans of a side show by one measure and by quiet moves, which are counted here.
+// What the plans of a side show by quiet moves and by moves, whose rings are made here.
 #[inline(never)]
-fn shown_with_quiet(side: &Side, moves: &Measured<'_>, fewest: u8) -> Option<Shown>
+fn shown_with_moves(side: &Side, most: u8, quiet: &Measured<'_>) -> Option<Shown>
     requires side { (d : Placement) × IsSide d side.now }
-    requires moves { IsMeasured side.now false moves.now }
-    requires low { fewest < 200 }
-    ensures { (d : Placement) (k : ℕ) → IsSide d side.now → AreBudgets d side.now k moves.now.most fewest →
-        MatchOption result (IsDead (facts_of side.now) d side.now.position k side.now.ground.color)
-        (λ a. Shows (facts_of side.now) d side.now.position k side.now.ground.color a) }
+    requires low { most < 200 }
+    requires quiet { IsMeasured side.now true quiet.now }
+    ensures { IsShownBy side.now most quiet.now.most result }
 {
     let mut aims = [Rings::none(); 17];
-    fill_aims(side, true, fewest, &mut aims);
-    let quiet = Measured {
-        aims: &aims,
-        most: fewest,
-        costs: first_costs(side, true, &aims, fewest),
-    };
-    ways_shown(side, moves, &quiet)
+    fill_aims(side, false, most, &mut aims);
+    ways_shown(side, &by_measure(side, false, most, &aims), quiet)
 }
 
-// What the plans of a side show by two measures.
+// Whether quiet moves pay for a way that is open.
+fn is_quietly_paid(side: &Side, calm: &Measured<'_>, way: Option<Wing>) -> bool
+    requires side { (d : Placement) × IsSide d side.now }
+    requires calm { IsMeasured side.now true calm.now }
+    ensures { result ≡ false → (d : Placement) (k : ℕ) → IsSide d side.now →
+        IsBudget d side.now.position k side.now.ground.color QuietMoves calm.now.most →
+        ¬ IsAlive (facts_of side.now) d side.now.position k side.now.ground.color way }
+{
+    if !is_way(&side.position, &side.ground.facts, side.ground.color, way) {
+        return false;
+    }
+    is_paid(side, true, calm, way)
+}
+
+// Whether quiet moves pay for some way that is open.
+fn some_quietly_paid(side: &Side, quiet: &Measured<'_>) -> bool
+    requires side { (d : Placement) × IsSide d side.now }
+    requires quiet { IsMeasured side.now true quiet.now }
+    ensures { result ≡ false → (d : Placement) (k : ℕ) → IsSide d side.now →
+        IsBudget d side.now.position k side.now.ground.color QuietMoves quiet.now.most →
+        IsDead (facts_of side.now) d side.now.position k side.now.ground.color }
+{
+    if is_quietly_paid(side, quiet, None) {
+        return true;
+    }
+    if is_quietly_paid(side, quiet, Some(Wing::KingSide)) {
+        return true;
+    }
+    is_quietly_paid(side, quiet, Some(Wing::QueenSide))
+}
+
+// What the plans of a side show by two measures. Where a side has no way alive it is mostly quiet moves that tell it,
+// so they come first.
 #[inline(never)]
 fn shown_by_two(side: &Side, most: u8, fewest: u8) -> Option<Shown>
     requires side { (d : Placement) × IsSide d side.now }
     requires low { most < 200 }
     requires lower { fewest < 200 }
-    ensures { (d : Placement) (k : ℕ) → IsSide d side.now → AreBudgets d side.now k most fewest →
-        MatchOption result (IsDead (facts_of side.now) d side.now.position k side.now.ground.color)
-        (λ a. Shows (facts_of side.now) d side.now.position k side.now.ground.color a) }
+    ensures { IsShownBy side.now most fewest result }
 {
     let mut aims = [Rings::none(); 17];
-    fill_aims(side, false, most, &mut aims);
-    let moves = Measured {
-        aims: &aims,
-        most,
-        costs: first_costs(side, false, &aims, most),
-    };
-    shown_with_quiet(side, &moves, fewest)
+    fill_aims(side, true, fewest, &mut aims);
+    let quiet = by_measure(side, true, fewest, &aims);
+    if !some_quietly_paid(side, &quiet) {
+        return None;
+    }
+    shown_with_moves(side, most, &quiet)
+}
+
+// What the plans of a side show, by rings that are made here.
+fn shown_anew(side: &Side, most: u8, fewest: u8) -> Option<Shown>
+    requires side { (d : Placement) × IsSide d side.now }
+    requires low { most < 200 }
+    requires lower { fewest < 200 }
+    ensures { IsShownBy side.now most fewest result }
+{
+    if is_one_measure(side, most, fewest) {
+        return shown_by_one(side, most);
+    }
+    shown_by_two(side, most, fewest)
+}
+
+// What the plans of a side show, by rings that are known.
+fn shown_by_known(side: &Side, most: u8, fewest: u8, one: &Known) -> Option<Shown>
+    requires side { (d : Placement) × IsSide d side.now }
+    requires low { most < 200 }
+    requires lower { fewest < 200 }
+    requires moves { AreAims side.now false one.now.moves }
+    requires quiet { AreAims side.now true one.now.quiet }
+    ensures { IsShownBy side.now most fewest result }
+{
+    let moves = by_measure(side, false, most, &one.moves);
+    if is_one_measure(side, most, fewest) {
+        return ways_shown(side, &moves, &moves);
+    }
+    ways_shown(side, &moves, &by_measure(side, true, fewest, &one.quiet))
+}
+
+// What the plans of a side show, by what is known of it if there is any.
+fn shown_by(side: &Side, most: u8, fewest: u8, beforehand: &[Known]) -> Option<Shown>
+    requires side { (d : Placement) × IsSide d side.now }
+    requires low { most < 200 }
+    requires lower { fewest < 200 }
+    requires known { All IsKnown beforehand.now }
+    ensures { IsShownBy side.now most fewest result }
+{
+    match known_for(beforehand, side) {
+        Some(one) => shown_by_known(side, most, fewest, one),
+        None => shown_anew(side, most, fewest),
+    }
 }
 
 // What is shown with the men back who rest, who do not change.
@@ -335,9 +453,10 @@ pub(crate) fn shown_of(
     left: u8,
     facts: &Facts,
     color: Color,
-    table: &[SquareSet; 384],
+    given: &Given<'_>,
 ) -> Option<Shown>
-    requires steps { HasSteps facts.now.still table.now }
+    requires steps { HasSteps facts.now.still given.now.table.now }
+    requires known { All IsKnown given.now.known.now }
     requires few { men color any_man position.now.board ≤ 16 }
     requires room { men color any_man diagram.now ≤ men color any_man position.now.board }
     ensures { MatchOption result (IsDead (known facts.now) diagram.now position.now left color)
@@ -350,13 +469,8 @@ pub(crate) fn shown_of(
         return None;
     };
     let resting = resting_men(diagram, position, facts);
-    let side = side_of(diagram, position, facts, color, resting, table);
-    let shown = if is_one_measure(&side, most, fewest) {
-        shown_by_one(&side, most)
-    } else {
-        shown_by_two(&side, most, fewest)
-    };
-    with_resting(shown, resting)
+    let side = side_of(diagram, position, facts, color, resting, given.table);
+    with_resting(shown_by(&side, most, fewest, given.known), resting)
 }
 
 // Whether some way is alive.
@@ -401,17 +515,9 @@ pub(crate) fn is_dead(
     let side = side_of(diagram, position, facts, color, resting, &table);
     let mut aims = [Rings::none(); 17];
     fill_aims(&side, false, most, &mut aims);
-    let moves = Measured {
-        aims: &aims,
-        most,
-        costs: first_costs(&side, false, &aims, most),
-    };
+    let moves = by_measure(&side, false, most, &aims);
     let mut quiet_aims = [Rings::none(); 17];
     fill_aims(&side, true, fewest, &mut quiet_aims);
-    let quiet = Measured {
-        aims: &quiet_aims,
-        most: fewest,
-        costs: first_costs(&side, true, &quiet_aims, fewest),
-    };
+    let quiet = by_measure(&side, true, fewest, &quiet_aims);
     !some_alive(&side, &moves, &quiet)
 }

@@ -3,7 +3,7 @@ ghost use Rattle.std.specs.Prelude.{◌≡◌, ◌≤◌, false};
 ghost use Rattle.pg_searcher.specs.Refusals.{RefusesTruly};
 
 use crate::fault::SearchFault;
-use crate::judge::Judge;
+use crate::judge::{AskedJourneys, Judge};
 use crate::machine::{Findings, Frames, Machine, Question, Recorder};
 use crate::progress::SearchProgress;
 use crate::walk::tree_of;
@@ -80,10 +80,8 @@ fn searched<W: Sink, P: SearchProgress>(
     let Ok(judge) = Judge::new(alloc, diagram) else {
         return Err(SearchFault::Memory);
     };
-    let journeys = if reach.by_journeys {
-        Some(*diagram)
-    } else {
-        None
+    let Ok(journeys) = AskedJourneys::new(alloc, diagram, reach.by_journeys) else {
+        return Err(SearchFault::Memory);
     };
     let mut frames = Frames::new();
     let mut machine = Machine {

@@ -1,5 +1,5 @@
 //! Which cut excludes a node, by what is remembered of the men and rights of either colour.
-ghost use Rattle.std.specs.Prelude.{◌↔◌, IsTrue};
+ghost use Rattle.std.specs.Prelude.{◌≡◌, ◌↔◌, IsTrue, MatchOption, false};
 ghost use Rattle.pg_journeys.specs.Rounds.{JourneysHold};
 
 use crate::known::{Known, MISSING, after_plain};
@@ -8,7 +8,7 @@ use crate::sides::{Change, Changes, Side, Sides, side_of};
 use pg_board::Color;
 use pg_captures::{Captures, Promotions, plies_left};
 use pg_fen::Diagram;
-use pg_journeys::{Journeys, journeys_hold};
+use pg_journeys::{FirstAims, Journeys, journeys_hold_by};
 use pg_pawns::PawnFiles;
 use pg_position::Position;
 use pg_prices::{NEVER, Needs, Rows, UNKNOWN};
@@ -157,13 +157,54 @@ fn excludes(means: Means, needs: &Needs) -> bool {
     needs.travel != UNKNOWN && (i16::from(needs.pawns) > means.owed || needs.travel > means.plies)
 }
 
-// Whether the bound by journeys excludes a node with so many plies left. It stands out of line: where it is not asked,
-// nothing is to make room for what it needs.
-#[inline(never)]
-pub(crate) fn journeys_exclude(diagram: &Diagram, position: &Position, left: u8) -> bool
-    ensures { IsTrue result ↔ JourneysHold diagram.now position.now left }
+// The bound by journeys to a diagram, as a search asks it.
+#[derive(Drop)]
+pub(crate) struct AskedJourneys {
+    diagram: Diagram,
+    aims: FirstAims,
+}
+
+impl AskedJourneys {
+    // That bound, if it is asked. What it knows of the diagram is taken from `alloc`.
+    pub(crate) fn new(
+        alloc: Global,
+        diagram: &Diagram,
+        is_asked: bool,
+    ) -> Result<Option<AskedJourneys>, AllocError> {
+        if !is_asked {
+            return Ok(None);
+        }
+        Ok(Some(AskedJourneys {
+            diagram: *diagram,
+            aims: FirstAims::new(alloc, diagram)?,
+        }))
+    }
+
+    // Whether it excludes a node with so many plies left. It stands out of line: where it is not asked, nothing is to
+    // make room for what it needs.
+    #[inline(never)]
+    fn exclude(&self, position: &Position, left: u8) -> bool
+        ensures { IsTrue result ↔ JourneysHold self.now.diagram position.now left }
+    {
+        journeys_hold_by(&self.aims, &self.diagram, position, left)
+    }
+}
+
+// Whether journeys, where they are asked, exclude a node with so many plies left. Where they are not, that is but one
+// branch.
+#[inline(always)]
+pub(crate) fn is_cut_by_journeys(
+    journeys: &Option<AskedJourneys>,
+    position: &Position,
+    left: u8,
+) -> bool
+    ensures { MatchOption journeys.now (result ≡ false)
+        (λ asked. IsTrue result ↔ JourneysHold asked.diagram position.now left) }
 {
-    journeys_hold(diagram, position, left)
+    match journeys {
+        Some(asked) => asked.exclude(position, left),
+        None => false,
+    }
 }
 
 impl Judge {

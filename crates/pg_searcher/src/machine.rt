@@ -3,7 +3,7 @@ ghost use Rattle.std.specs.Prelude.{◌≡◌, ℕ, false, OnOk};
 ghost use Rattle.pg_searcher.specs.Refusals.{RefusesTruly};
 
 use crate::fault::SearchFault;
-use crate::judge::{CutBy, Judge};
+use crate::judge::{AskedJourneys, CutBy, Judge};
 use crate::known::MISSING;
 use crate::outlook::Outlook;
 use crate::sides::{Side, Sides};
@@ -117,7 +117,7 @@ impl Names {
 }
 
 // The certificate so far: the writer of its records, the named nodes, which it may refer to, how many nodes may
-// still be visited; the diagram to which journeys are asked of each node before it opens, or none where they are not;
+// still be visited; the bound by journeys, where it is asked of each node before it opens;
 // and the node that opened last: handed back by each call between the one that opens it and the one that
 // makes its frame, it would be copied at each, also where none has opened.
 #[derive(Drop)]
@@ -125,14 +125,14 @@ pub(crate) struct Output {
     pub(crate) writer: RecordWriter,
     pub(crate) names: Names,
     pub(crate) nodes: u64,
-    pub(crate) journeys: Option<Diagram>,
+    pub(crate) journeys: Option<AskedJourneys>,
     pub(crate) opened: Opened,
 }
 
 impl Output {
-    // Of a certificate of which nothing is written, with so many nodes that may be visited. Where a diagram is told,
-    // nodes are cut by journeys to it.
-    pub(crate) fn new(alloc: Global, nodes: u64, journeys: Option<Diagram>) -> Output
+    // Of a certificate of which nothing is written, with so many nodes that may be visited. Where journeys are handed
+    // in, nodes are cut by them.
+    pub(crate) fn new(alloc: Global, nodes: u64, journeys: Option<AskedJourneys>) -> Output
         ensures { result.writer.failed ≡ false }
     {
         Output {
@@ -268,13 +268,13 @@ pub(crate) struct Recorder {
 }
 
 impl Recorder {
-    // Of a certificate of which nothing is written, with so many nodes that may be visited. Where a diagram is told,
-    // nodes are cut by journeys to it.
+    // Of a certificate of which nothing is written, with so many nodes that may be visited. Where journeys are handed
+    // in, nodes are cut by them.
     pub(crate) fn new(
         alloc: Global,
         judge: Judge,
         nodes: u64,
-        journeys: Option<Diagram>,
+        journeys: Option<AskedJourneys>,
     ) -> Recorder
         ensures { result.output.writer.failed ≡ false }
     {

@@ -1,11 +1,10 @@
 //! The record of a node: chosen, and written.
-ghost use Rattle.std.specs.Prelude.{◌≡◌, ◌↔◌, ℕ, IsTrue, MatchOption, false, OnOk};
+ghost use Rattle.std.specs.Prelude.{◌≡◌, ℕ, false, OnOk};
 ghost use Rattle.pg_position.specs.Step.{IsLegal};
-ghost use Rattle.pg_journeys.specs.Rounds.{JourneysHold};
 ghost use Rattle.pg_searcher.specs.Refusals.{RefusesTruly};
 
 use crate::fault::SearchFault;
-use crate::judge::{CutBy, Cutting, Judge, journeys_exclude};
+use crate::judge::{CutBy, Cutting, Judge, is_cut_by_journeys};
 use crate::machine::{Opened, Output, Question, Recorder};
 use crate::outlook::{Outlook, PlainMove};
 use crate::sides::{Sides, changes_of, plain_change};
@@ -96,19 +95,6 @@ fn refer<W: Sink>(output: &mut Output, sink: &mut W, key: u64) -> Result<bool, S
 struct Keyed {
     key: u64,
     left: u8,
-}
-
-// Whether journeys to a diagram, where one is told, exclude a node with so many plies left. Where none is, that is but
-// one branch.
-#[inline(always)]
-fn is_cut_by_journeys(journeys: &Option<Diagram>, position: &Position, left: u8) -> bool
-    ensures { MatchOption journeys.now (result ≡ false)
-        (λ diagram. IsTrue result ↔ JourneysHold diagram position.now left) }
-{
-    match journeys {
-        Some(diagram) => journeys_exclude(diagram, position, left),
-        None => false,
-    }
 }
 
 // A node is open from now on, with a name where there are names: it is the one that opened last.

@@ -4,7 +4,10 @@
 use crate::texts::{check_bound, check_line, color, diagram, position, row_of};
 use pg_captures::Bound;
 use pg_fen::Diagram;
-use pg_journeys::{DeadColor, Facts, Journeys, dead_color, facts_for, least_counts, unreached};
+use pg_journeys::{
+    DeadColor, Facts, FirstAims, Journeys, JourneysByAims, dead_color, facts_for, least_counts,
+    unreached,
+};
 use pg_position::Position;
 use std::process::Abort;
 
@@ -206,6 +209,19 @@ rnbqk1nr/1ppp1p1p/p3p1p1/8/1b2P1P1/2P4N/PP1PQP1P/RNBK1B1R | rnbqkbnr/pppp1ppp/4p
 #[test]
 fn positions(rt: HostRuntime) {
     check_bound(&rt, &Journeys, POSITIONS);
+}
+
+// By what is known beforehand of one of the diagrams: the others are asked as without it.
+#[test]
+fn by_aims(rt: HostRuntime) {
+    let known = diagram(
+        &rt,
+        "rn1q1knr/p1p1p2p/3p1p1b/1p4N1/2P5/N2P3P/PP1KPP2/R1BQ1B1R",
+    );
+    let aims = FirstAims::new(rt.alloc(), &known).expect(&rt, "memory");
+    let bound = JourneysByAims { aims };
+    check_bound(&rt, &bound, POSITIONS);
+    assert!(rt; bound.code() == 5);
 }
 
 // The still squares and where captures of White and of Black may land, as numbers, by the model.

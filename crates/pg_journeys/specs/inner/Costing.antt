@@ -2,8 +2,9 @@
 use Rattle.std.specs.Prelude.{◌≡◌, ◌≢◌, ℕ, ◌+◌, ◌<◌, ◌≤◌, ◌⊎◌, Bool, true, Option, List, [], get_or}
 use Rattle.pg_board.specs.Bits.{has}
 use Rattle.pg_board.specs.declared.man.Color.{Color}
+use Rattle.pg_board.specs.declared.man.Kind.{Kind}
 use Rattle.pg_board.specs.declared.man.Kind.TheVariants.{King}
-use Rattle.pg_board.specs.Men.{other}
+use Rattle.pg_board.specs.Men.{number_of_kind, other}
 use Rattle.pg_board.specs.Placement.{Placement}
 use Rattle.pg_position.specs.declared.rights.Wing.{Wing}
 use Rattle.pg_position.specs.Geometry.{IsBetween}
@@ -11,7 +12,8 @@ use Rattle.pg_position.specs.Squares.{king_home, rook_home}
 use Rattle.pg_travel.specs.Origins.{counted}
 use Rattle.pg_assignments.specs.declared.costs.Costs.{Costs}
 use Rattle.pg_assignments.specs.Assignments.{cost, at2, IsAssignment, Below, sum_of}
-use Rattle.pg_journeys.specs.Journeys.{HasPassed}
+use Rattle.pg_journeys.specs.Facts.{Facts}
+use Rattle.pg_journeys.specs.Journeys.{HasPassed, IsPath, Leg}
 use Rattle.pg_journeys.specs.PlanCosts.{AreCosts}
 use Rattle.pg_journeys.specs.Known.{landing}
 use Rattle.pg_journeys.specs.inner.Counts.{of_kind}
@@ -25,6 +27,10 @@ use Rattle.pg_journeys.specs.declared.rings.Runner.{Runner}
 -- the squares of king and rook before they castle, and all between
 abbrev pub IsOnSpan : Color → Wing → ℕ → Type 0
 IsOnSpan c w q = (q ≡ king_home c) ⊎ ((q ≡ rook_home c w) ⊎ IsBetween (king_home c) q (rook_home c w))
+
+-- a set of numbers has the kind of each man that a path makes of a man of kind k
+abbrev pub MayBeIn : Kind → ℕ → Type 0
+MayBeIn k kinds = (f : Facts) (c : Color) (r s : ℕ) (ls : List Leg) (j : Kind) → IsPath f c k r ls j s → has kinds (number_of_kind j) ≡ true
 
 -- ---- counts to the ends
 -- n is the least number, at most `most`, that has W; 255 where none has

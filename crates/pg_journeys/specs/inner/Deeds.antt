@@ -1,5 +1,5 @@
 -- What the plans of a way have by a measure.
-use Rattle.std.specs.Prelude.{◌≡◌, ℕ, ◌<◌, ◌↔◌, Bool, true, Option, get_or, []}
+use Rattle.std.specs.Prelude.{◌≡◌, ℕ, ◌<◌, ◌⊎◌, ◌↔◌, Bool, true, Option, get_or, []}
 use Rattle.pg_board.specs.Bits.{has}
 use Rattle.pg_board.specs.SquareSets.{IsSetOf}
 use Rattle.pg_board.specs.Placement.{Placement}
@@ -27,8 +27,8 @@ Changes d x quiet way most i e =
     (g : JourneysOf d x way) × IsPaidBy d x quiet way most g × InEnd x.goals e (g.fate (square_at x.men i))
     × ¬ ((g.fate (square_at x.men i) ≡ Arrives (square_at x.men i)) × (g.path (square_at x.men i) ≡ []))
 
--- what is told of a way
-pub record AreDeeds (d : Placement) (x : Side) (quiet : Bool) (way : Option Wing) (most : ℕ) (a : Deeds) : Type 0 where
-  pub lands : IsSetOf a.lands (Lands d x quiet way most)
-  pub falls : IsSetOf a.falls (FallsOn d x quiet way most)
+-- what is told of a way, beside squares where captures land and men fall that were found before
+pub record AreDeeds (d : Placement) (x : Side) (quiet : Bool) (way : Option Wing) (most landed fallen : ℕ) (a : Deeds) : Type 0 where
+  pub lands : IsSetOf a.lands (λ q. (has landed q ≡ true) ⊎ Lands d x quiet way most q)
+  pub falls : IsSetOf a.falls (λ q. (has fallen q ≡ true) ⊎ FallsOn d x quiet way most q)
   pub ends : (i e : ℕ) → i < x.men.count → e < 17 → (has (get_or a.ends i 0) e ≡ true) ↔ Changes d x quiet way most i e

@@ -1,5 +1,5 @@
 -- How men are listed, and how the tables and sets of a ground are made.
-use Rattle.std.specs.Prelude.{◌≡◌, ◌≢◌, ℕ, ◌+◌, ◌*◌, ◌<◌, true, List, get_or}
+use Rattle.std.specs.Prelude.{◌≡◌, ◌≢◌, ℕ, ◌+◌, ◌*◌, ◌<◌, ◌≤◌, ◌⊎◌, ◌||◌, true, List, get_or}
 use Rattle.pg_board.specs.Bits.{has}
 use Rattle.pg_board.specs.declared.man.Color.{Color}
 use Rattle.pg_board.specs.declared.man.Color.TheVariants.{White}
@@ -29,6 +29,11 @@ GoesOn b free k r s = (has free r ≡ true) × (has free s ≡ true) × Reaches 
 pub record IsFilled (b : Placement) (free : ℕ) (k : Kind) (old new : List ℕ) : Type 0 where
   pub filled : (r : ℕ) → r < 64 → has free r ≡ true → IsSetOf (get_or new (number_of_kind k * 64 + r) 0) (GoesOn b free k r)
   pub kept : (i : ℕ) → ((r : ℕ) → r < 64 → has free r ≡ true → i ≢ number_of_kind k * 64 + r) → get_or new i 0 ≡ get_or old i 0
+
+-- the steps of queens were written into a table: those of bishops and of rooks
+pub record AreQueens (old new : List ℕ) : Type 0 where
+  pub both : (r q : ℕ) → r < 64 → has (get_or new (256 + r) 0) q ≡ (has (get_or old (128 + r) 0) q || has (get_or old (192 + r) 0) q)
+  pub kept : (i : ℕ) → (i < 256) ⊎ (320 ≤ i) → get_or new i 0 ≡ get_or old i 0
 
 -- s is the square ahead of r, as a colour sees it
 abbrev pub IsNext : Color → ℕ → ℕ → Type 0

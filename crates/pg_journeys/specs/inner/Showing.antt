@@ -20,7 +20,7 @@ use Rattle.pg_journeys.specs.declared.plans.Side.{Side}
 use Rattle.pg_journeys.specs.declared.narrowing.Deeds.{Deeds}
 use Rattle.pg_journeys.specs.declared.shown.Shown.{Shown}
 use Rattle.pg_journeys.specs.declared.shown.Measured.{Measured}
-use Rattle.pg_journeys.specs.inner.Sides.{square_at, AreAims}
+use Rattle.pg_journeys.specs.inner.Sides.{facts_of, square_at, AreAims, IsSide}
 use Rattle.pg_journeys.specs.inner.Costing.{AreCostRows}
 
 -- whether only quiet steps count
@@ -82,10 +82,19 @@ abbrev pub falls_by : Shown → Measure → ℕ
 falls_by a Moves = a.falls
 falls_by a QuietMoves = a.quiet_falls
 
--- what the plans of a way show
-pub record ShowsWay (f : Facts) (d : Placement) (p : State) (k : ℕ) (c : Color) (way : Option Wing) (a : Shown) : Type 0 where
-  pub lands : (u : Measure) → IsSetOf (lands_by a u) (TakesIn f d p k c way u)
-  pub falls : (u : Measure) → IsSetOf (falls_by a u) (FallsIn f d p k c way u)
+-- no square of a capture is shown
+pub record ShowsNone (a : Shown) : Type 0 where
+  pub lands : (u : Measure) (q : ℕ) → has (lands_by a u) q ≡ false
+  pub falls : (u : Measure) (q : ℕ) → has (falls_by a u) q ≡ false
+
+-- the set n has each square of P, and no other that the set found has not
+abbrev pub IsWithFound : (ℕ → Type 0) → ℕ → ℕ → Type 0
+IsWithFound P found n = (q : ℕ) → q < 64 → (P q → has n q ≡ true) × (has n q ≡ true → (has found q ≡ true) ⊎ P q)
+
+-- what the plans of a way show, maybe with squares of captures that were found before
+pub record ShowsWay (f : Facts) (d : Placement) (p : State) (k : ℕ) (c : Color) (way : Option Wing) (found a : Shown) : Type 0 where
+  pub lands : (u : Measure) → IsWithFound (TakesIn f d p k c way u) (lands_by found u) (lands_by a u)
+  pub falls : (u : Measure) → IsWithFound (FallsIn f d p k c way u) (falls_by found u) (falls_by a u)
   pub stays : (j : Kind) (s : ℕ) → s < 64 → Stands p.board c j s → (has a.changed s ≡ false) ↔ StaysIn f d p k c way s
 
 -- what either shows
@@ -130,3 +139,9 @@ pub record Shows (f : Facts) (d : Placement) (p : State) (k : ℕ) (c : Color) (
   pub falls : (u : Measure) → IsSetOf (falls_by a u) (PlansToFall f d p k c u)
   pub stays : (j : Kind) (s : ℕ) → s < 64 → Stands p.board c j s →
       (has a.changed s ≡ false) ↔ ((way : Option Wing) → IsAlive f d p k c way → StaysIn f d p k c way s)
+
+-- what the plans of a side show, whatever the diagram, where both measures may count so much: none where no way is alive
+abbrev pub IsShownBy : Side → ℕ → ℕ → Option Shown → Type 0
+IsShownBy x most fewest o =
+    (d : Placement) (k : ℕ) → IsSide d x → AreBudgets d x k most fewest →
+    MatchOption o (IsDead (facts_of x) d x.position k x.ground.color) (λ a. Shows (facts_of x) d x.position k x.ground.color a)

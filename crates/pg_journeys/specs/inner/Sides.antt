@@ -17,6 +17,7 @@ use Rattle.pg_journeys.specs.lemmas.DecidingPaths.{weigh}
 use Rattle.pg_journeys.specs.inner.Counting.{counts}
 use Rattle.pg_journeys.specs.inner.Grounds.{IsGround}
 use Rattle.pg_journeys.specs.inner.Rings.{AreRings}
+use Rattle.pg_journeys.specs.declared.ground.Ground.{Ground}
 use Rattle.pg_journeys.specs.declared.men.Men.{Men}
 use Rattle.pg_journeys.specs.declared.plans.Side.{Side}
 use Rattle.pg_journeys.specs.declared.rings.Rings.{Rings}
@@ -45,6 +46,18 @@ pub record IsSide (d : Placement) (x : Side) : Type 0 where
   pub men : AreMen x.position.board x.ground.color x.men
   pub goals : AreMen d x.ground.color x.goals
   pub room : x.goals.count ≤ x.men.count
+
+-- the same men, in the same order
+pub record AreSameMen (a b : Men) : Type 0 where
+  pub count : a.count ≡ b.count
+  pub squares : (i : ℕ) → i < b.count → square_at a i ≡ square_at b i
+  pub kinds : (i : ℕ) → i < b.count → kind_at a i ≡ kind_at b i
+
+-- a side goes by the facts and the colour of this ground, and its men of the diagram are these
+pub record IsLike (x : Side) (g : Ground) (men : Men) : Type 0 where
+  pub facts : x.ground.facts ≡ g.facts
+  pub color : x.ground.color ≡ g.color
+  pub goals : AreSameMen x.goals men
 
 -- a path of the man of kind k on s to be the man e of d counts at most n
 abbrev pub GoalWithin : Side → Bool → ℕ → ℕ → Kind → ℕ → Type 0

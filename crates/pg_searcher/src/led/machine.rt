@@ -1,6 +1,6 @@
 //! What a led search holds.
 
-use crate::judge::Judge;
+use crate::judge::{AskedJourneys, Judge};
 use crate::known::MISSING;
 use crate::led::answer::Game;
 use crate::led::barren::Barren;
@@ -103,13 +103,13 @@ pub(crate) enum Halt {
 }
 
 // What tells whether a node is gone into: what judges nodes, the barren ones, how many may still be visited, and
-// whether they are cut by journeys too.
+// the bound by journeys, where it is asked too.
 #[derive(Drop)]
 pub(crate) struct Sieve {
     pub(crate) judge: Judge,
     pub(crate) barren: Barren,
     pub(crate) nodes: u64,
-    pub(crate) by_journeys: bool,
+    pub(crate) journeys: Option<AskedJourneys>,
 }
 
 impl Sieve {

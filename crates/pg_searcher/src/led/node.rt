@@ -2,7 +2,7 @@
 ghost use Rattle.std.specs.Prelude.{◌≡◌};
 ghost use Rattle.pg_position.specs.Step.{IsLegal};
 
-use crate::judge::{Cutting, Judge, journeys_exclude};
+use crate::judge::{Cutting, Judge, is_cut_by_journeys};
 use crate::led::barren::ANY;
 use crate::led::machine::{Halt, Open, Question, Sieve};
 use crate::led::order::Due;
@@ -46,13 +46,7 @@ fn is_cut(verdict: Cutting) -> bool {
 // A node that no cut by other bounds or by prices excludes: barren where one of the same future was, with as many
 // foreign moves, or where journeys exclude, if they are asked. They are asked of the position and not of the key, which
 // has the passed square only where a capture there is legal.
-fn stay(
-    question: &Question,
-    sieve: &Sieve,
-    position: &Position,
-    sides: &Sides,
-    means: Means,
-) -> Entry {
+fn stay(sieve: &Sieve, position: &Position, sides: &Sides, means: Means) -> Entry {
     let key = node_key(
         sides.white.key,
         sides.black.key,
@@ -63,9 +57,7 @@ fn stay(
     match sieve.barren.get(key) {
         Some(ANY) => Entry::Barren,
         Some(foreign) if foreign >= means.foreign => Entry::Refused,
-        _ if sieve.by_journeys && journeys_exclude(question.diagram, position, means.left) => {
-            Entry::Barren
-        }
+        _ if is_cut_by_journeys(&sieve.journeys, position, means.left) => Entry::Barren,
         _ => Entry::Opens(Open::new(position, sides, key, means.foreign)),
     }
 }
@@ -83,7 +75,7 @@ pub(crate) fn enter(
     if is_cut(verdict) {
         Ok(Entry::Barren)
     } else {
-        Ok(stay(question, sieve, position, &sides, means))
+        Ok(stay(sieve, position, &sides, means))
     }
 }
 

@@ -1,6 +1,6 @@
 //! The rounds of a led search.
 
-use crate::judge::Judge;
+use crate::judge::{AskedJourneys, Judge};
 use crate::led::answer::{Game, Led, LedEnd, LedFault, LedLimits, LedProgress};
 use crate::led::barren::Barren;
 use crate::led::familiar::Familiar;
@@ -75,7 +75,7 @@ fn machine_of(
         judge: Judge::new(alloc, diagram)?,
         barren: Barren::new(alloc),
         nodes,
-        by_journeys,
+        journeys: AskedJourneys::new(alloc, diagram, by_journeys)?,
     };
     Ok(Machine {
         sieve,

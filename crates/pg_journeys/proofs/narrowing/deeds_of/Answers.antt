@@ -24,19 +24,19 @@ pub loop-i-preserved : goal.loop-i-preserved
 loop-i-preserved c = record {
   long = length-set c.loop-i.ends c.loop-i.i c.ends_of-own.result ∙ c.loop-i.invariant.long;
   lands = λ d side. elim c.if-may_find.branch [
-    | then-may_find w ↦ subst (IsJoined (LandsOf d c.args.side.now c.args.is_quiet c.args.way c.args.measured.now.most) c.empty-lands.result (c.loop-i.i + 1)) (sym w.lands-is) (lands_next d c.args.side.now c.args.is_quiet c.args.way c.args.measured.now.most c.args.rooms.now c.loop-i.i (asked_in c d side) c.man_of-man.result c.man_of-man.ensures c.empty-lands.result c.loop-i.lands w.lands_of-lands.result w.lands_of-lands.ensures (c.loop-i.invariant.lands d side))
-    | else-may_find w ↦ subst (IsJoined (LandsOf d c.args.side.now c.args.is_quiet c.args.way c.args.measured.now.most) c.empty-lands.result (c.loop-i.i + 1)) (sym w.lands-is) (lands_stay d c.args.side.now c.args.is_quiet c.args.way c.args.measured.now.most c.args.rooms.now c.loop-i.i (asked_in c d side) c.man_of-man.result c.man_of-man.ensures c.ends_of-own.result c.ends_of-own.ensures c.empty-lands.result c.loop-i.lands (c.may_find.ensures.lands w.if-may_find.false) (c.loop-i.invariant.lands d side))
+    | then-may_find w ↦ subst (IsJoined (LandsOf d c.args.side.now c.args.is_quiet c.args.way c.args.measured.now.most) c.args.found.lands (c.loop-i.i + 1)) (sym w.lands-is) (lands_next d c.args.side.now c.args.is_quiet c.args.way c.args.measured.now.most c.args.rooms.now c.loop-i.i (asked_in c d side) c.man_of-man.result c.man_of-man.ensures c.args.found.lands c.loop-i.lands w.lands_of-lands.result w.lands_of-lands.ensures (c.loop-i.invariant.lands d side))
+    | else-may_find w ↦ subst (IsJoined (LandsOf d c.args.side.now c.args.is_quiet c.args.way c.args.measured.now.most) c.args.found.lands (c.loop-i.i + 1)) (sym w.lands-is) (lands_stay d c.args.side.now c.args.is_quiet c.args.way c.args.measured.now.most c.args.rooms.now c.loop-i.i (asked_in c d side) c.man_of-man.result c.man_of-man.ensures c.ends_of-own.result c.ends_of-own.ensures c.args.found.lands c.loop-i.lands (c.may_find.ensures.lands w.if-may_find.false) (c.loop-i.invariant.lands d side))
   ];
   falls = λ d side. elim c.if-may_find.branch [
-    | then-may_find w ↦ subst (IsJoined (FallsOf d c.args.side.now c.args.is_quiet c.args.way c.args.measured.now.most) c.empty-falls.result (c.loop-i.i + 1)) (sym w.falls-is) (falls_next d c.args.side.now c.args.is_quiet c.args.way c.args.measured.now.most c.args.rooms.now c.loop-i.i (asked_in c d side) c.man_of-man.result c.man_of-man.ensures c.empty-falls.result c.loop-i.falls w.falls_of-falls.result w.falls_of-falls.ensures (c.loop-i.invariant.falls d side))
-    | else-may_find w ↦ subst (IsJoined (FallsOf d c.args.side.now c.args.is_quiet c.args.way c.args.measured.now.most) c.empty-falls.result (c.loop-i.i + 1)) (sym w.falls-is) (falls_stay d c.args.side.now c.args.is_quiet c.args.way c.args.measured.now.most c.args.rooms.now c.loop-i.i (asked_in c d side) c.man_of-man.result c.man_of-man.ensures c.ends_of-own.result c.ends_of-own.ensures c.empty-falls.result c.loop-i.falls (c.may_find.ensures.falls w.if-may_find.false) (c.loop-i.invariant.falls d side))
+    | then-may_find w ↦ subst (IsJoined (FallsOf d c.args.side.now c.args.is_quiet c.args.way c.args.measured.now.most) c.args.found.falls (c.loop-i.i + 1)) (sym w.falls-is) (falls_next d c.args.side.now c.args.is_quiet c.args.way c.args.measured.now.most c.args.rooms.now c.loop-i.i (asked_in c d side) c.man_of-man.result c.man_of-man.ensures c.args.found.falls c.loop-i.falls w.falls_of-falls.result w.falls_of-falls.ensures (c.loop-i.invariant.falls d side))
+    | else-may_find w ↦ subst (IsJoined (FallsOf d c.args.side.now c.args.is_quiet c.args.way c.args.measured.now.most) c.args.found.falls (c.loop-i.i + 1)) (sym w.falls-is) (falls_stay d c.args.side.now c.args.is_quiet c.args.way c.args.measured.now.most c.args.rooms.now c.loop-i.i (asked_in c d side) c.man_of-man.result c.man_of-man.ensures c.ends_of-own.result c.ends_of-own.ensures c.args.found.falls c.loop-i.falls (c.may_find.ensures.falls w.if-may_find.false) (c.loop-i.invariant.falls d side))
   ];
   ends = λ d side. ends_next d c.args.side.now c.args.is_quiet c.args.way c.args.measured.now.most c.args.rooms.now c.loop-i.i (asked_in c d side) c.man_of-man.result c.man_of-man.ensures c.loop-i.ends c.ends_of-own.result (let few : c.args.side.now.men.count ≤ 16 = side.men.few in let long : length c.loop-i.ends ≡ 16 = c.loop-i.invariant.long in omega arith) c.ends_of-own.ensures (c.loop-i.invariant.ends d side);
 }
 
 pub returns : goal.returns
 returns c = λ d side. record {
-  lands = all_lands d c.args.side.now c.args.is_quiet c.args.way c.args.measured.now.most c.empty-lands.result c.loop-i.i c.loop-i.lands c.empty-lands.ensures.none c.loop-i.auto.i-end c.loop-i-test.false (c.loop-i.invariant.lands d side);
-  falls = all_falls d c.args.side.now c.args.is_quiet c.args.way c.args.measured.now.most c.empty-falls.result c.loop-i.i c.loop-i.falls c.empty-falls.ensures.none c.loop-i.auto.i-end c.loop-i-test.false (c.loop-i.invariant.falls d side);
+  lands = all_lands d c.args.side.now c.args.is_quiet c.args.way c.args.measured.now.most c.args.found.lands c.loop-i.i c.loop-i.lands c.loop-i.auto.i-end c.loop-i-test.false (c.loop-i.invariant.lands d side);
+  falls = all_falls d c.args.side.now c.args.is_quiet c.args.way c.args.measured.now.most c.args.found.falls c.loop-i.i c.loop-i.falls c.loop-i.auto.i-end c.loop-i-test.false (c.loop-i.invariant.falls d side);
   ends = λ i e low le. c.loop-i.invariant.ends d side i e (omega arith) le;
 }

@@ -1,4 +1,4 @@
-use Rattle.std.proofs.Common.{◌≡◌, ◌⊎◌, inl, inr, ◌↔◌, ◌+◌, ◌<◌, ℕ, Bool, true, get_or, sym, subst, arith}
+use Rattle.std.proofs.Common.{◌≡◌, ◌⊎◌, inl, inr, ◌↔◌, ◌+◌, ◌<◌, ◌≤◌, ℕ, Bool, true, get_or, sym, subst, arith}
 use Rattle.std.proofs.lemmas.Bool.{cases_lt}
 use Rattle.pg_board.specs.Bits.{has}
 use Rattle.pg_journeys.specs.inner.Narrowed.{ChangesBy}
@@ -19,3 +19,15 @@ next_end P old new e b made is all n = (
 pub loop-e-preserved : goal.loop-e-preserved
 loop-e-preserved c =
     next_end (λ e. (get_or c.args.rooms.now e 0 < 255) × ChangesBy c.args.side.now c.args.man.now e (get_or c.args.rooms.now e 0)) c.loop-e.ends c.with_end-ends.result c.loop-e.e c.is_end.result c.with_end-ends.ensures c.is_end.ensures c.loop-e.invariant
+
+last_end : (P : ℕ → Type 0) (old new count n : ℕ) (b : Bool) → ((m : ℕ) → (has new m ≡ true) ↔ ((has old m ≡ true) ⊎ ((m ≡ 16) × (b ≡ true)))) → (b ≡ true) ↔ P 16 → count ≤ n → ((m : ℕ) → (has old m ≡ true) ↔ ((m < n) × P m)) →
+    ((e : ℕ) → e < 17 → P e → (e < count) ⊎ (e ≡ 16)) → (e : ℕ) → e < 17 → (has new e ≡ true) ↔ P e
+last_end P old new count n b made is full all ends e low = (
+  λ t. elim ((made e).0 t) [ inl a ↦ ((all e).0 a).1 | inr w ↦ subst P (sym w.0) (is.0 w.1) ],
+  λ p. (made e).1 (elim (ends e low p) [ inl l ↦ inl ((all e).1 (omega (arith, l, full), p)) | inr z ↦ inr (z, is.1 (subst P z p)) ]),
+)
+
+pub returns : goal.returns
+returns c =
+    last_end (λ e. (get_or c.args.rooms.now e 0 < 255) × ChangesBy c.args.side.now c.args.man.now e (get_or c.args.rooms.now e 0)) c.loop-e.ends c.with_end.result c.args.side.now.goals.count c.loop-e.e c.is_end-2.result c.with_end.ensures c.is_end-2.ensures
+    c.loop-e-test.false c.loop-e.invariant (λ e low p. elim (c.requires.ends e low p.0).1 [ inl l ↦ inl l | inr w ↦ inr w.0 ])

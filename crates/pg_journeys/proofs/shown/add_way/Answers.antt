@@ -1,12 +1,13 @@
+use Rattle.std.proofs.Common.{Option, subst}
 use Rattle.pg_journeys.specs.inner.Sides.{facts_of}
-use Rattle.pg_journeys.proofs.ShownWays.{dead_way, add_first, add_next}
+use Rattle.pg_journeys.specs.inner.Showing.{ShowsAmong}
+use Rattle.pg_journeys.specs.declared.shown.Shown.{Shown}
+use Rattle.pg_journeys.proofs.ShownWays.{add_first, if_none, if_some}
 use Rattle.pg_journeys.proofs.shown.add_way.Goals as goal
 
 pub returns-in-None : goal.returns-in-None
-returns-in-None c = λ d k ways side budgets old. dead_way (facts_of c.args.side.now) d c.args.side.now.position k c.args.side.now.ground.color ways c.args.way c.args.before (c.in-None.ensures.none d k side budgets) old
+returns-in-None c = λ d k ways side budgets old. add_first (facts_of c.args.side.now) d c.args.side.now.position k c.args.side.now.ground.color ways c.args.way c.args.before c.way_shown.result c.none.result c.in-None.is c.none.ensures old
+    (if_none c.way_shown.result (λ h. h d k side budgets) c.way_shown.ensures.none) (if_some c.way_shown.result (λ a h. h d k side budgets) c.way_shown.ensures.some)
 
-pub returns-in-None-before : goal.returns-in-None-before
-returns-in-None-before c = λ d k ways side budgets old. (let h = c.in-Some.ensures.some d k side budgets in add_first (facts_of c.args.side.now) d c.args.side.now.position k c.args.side.now.ground.color ways c.args.way c.args.before _ c.in-None-before.is old h.0 h.1)
-
-pub returns-in-Some-before : goal.returns-in-Some-before
-returns-in-Some-before c = λ d k ways side budgets old. (let h = c.in-Some.ensures.some d k side budgets in add_next (facts_of c.args.side.now) d c.args.side.now.position k c.args.side.now.ground.color ways c.args.way c.args.before _ _ _ c.in-Some-before.is c.joined.ensures old h.0 h.1)
+pub returns-in-Some : goal.returns-in-Some
+returns-in-Some c = λ d k ways side budgets old. c.with_way.ensures d k ways side budgets (subst (λ (o : Option Shown). ShowsAmong (facts_of c.args.side.now) d c.args.side.now.position k c.args.side.now.ground.color ways o) c.in-Some.is old)

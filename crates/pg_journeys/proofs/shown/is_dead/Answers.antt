@@ -25,6 +25,6 @@ returns c =
     let same = dead_same (known c.args.facts.now) c.args.diagram.now c.args.position.now z c.resting_men-resting.ensures c.args.color c.args.left in
     let h = dead_here d c.side_of-side.result c.args.left c.args.facts.now p c.args.color c.some_alive.result c.side_of-side.ensures.position c.side_of-side.ensures.facts c.side_of-side.ensures.color
     (c.some_alive.ensures d c.args.left c.side_of-side.ensures.side
-    (budgets_of d c.side_of-side.result c.args.left p c.args.color c.in-Some.most c.in-Some-budget.fewest c.in-Some.most c.in-Some-budget.fewest c.side_of-side.ensures.position c.side_of-side.ensures.color refl refl (c.in-Some.ensures.moves refl)
+    (budgets_of d c.side_of-side.result c.args.left p c.args.color c.by_measure-moves.result.most c.by_measure-quiet.result.most c.in-Some.most c.in-Some-budget.fewest c.side_of-side.ensures.position c.side_of-side.ensures.color c.by_measure-moves.ensures.most c.by_measure-quiet.ensures.most (c.in-Some.ensures.moves refl)
     (quiet_without (known c.args.facts.now) c.args.diagram.now c.args.position.now z c.args.color _ c.in-Some-budget.fewest c.resting_men-resting.ensures (c.in-Some-budget.ensures.quiet refl)))) in
     (λ t. same.1 (h.0 t), λ dead. h.1 (same.0 dead))

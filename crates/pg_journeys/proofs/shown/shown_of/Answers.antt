@@ -1,12 +1,10 @@
-use Rattle.std.proofs.Common.{refl, sym, subst, Option}
+use Rattle.std.proofs.Common.{refl}
 use Rattle.pg_journeys.specs.Known.{known}
-use Rattle.pg_journeys.proofs.Budgets.{owes_too_much, budgets_of, shown_here, IsShown}
+use Rattle.pg_journeys.proofs.Budgets.{owes_too_much, budgets_of, shown_here}
 use Rattle.pg_journeys.proofs.Lifting.{quiet_without}
 use Rattle.pg_journeys.proofs.RestingLemmas.{lifted_few, lifted_room}
 use Rattle.pg_journeys.specs.inner.Resting.{lifted, lifted_from}
-use Rattle.pg_journeys.specs.declared.shown.Shown.{Shown}
 use Rattle.pg_journeys.proofs.shown.shown_of.Goals as goal
-use Rattle.pg_journeys.proofs.shown.shown_of.Goals.{then-is_one_measure, else-is_one_measure}
 
 pub returns-in_default-budget : goal.returns-in_default-budget
 returns-in_default-budget c = owes_too_much (known c.args.facts.now) c.args.diagram.now c.args.position.now c.args.left c.args.color c.in_default-budget.ensures.none
@@ -24,13 +22,7 @@ returns c =
     let d = lifted c.args.diagram.now z in
     let p = lifted_from c.args.position.now z in
     let few = quiet_without (known c.args.facts.now) c.args.diagram.now c.args.position.now z c.args.color _ c.in-Some-budget.fewest c.resting_men-resting.ensures (c.in-Some-budget.ensures.quiet refl) in
-    c.with_resting.ensures (known c.args.facts.now) c.args.diagram.now c.args.position.now c.args.left c.args.color c.resting_men-resting.ensures (elim c.if-is_one_measure.branch [
-      | then-is_one_measure w ↦ subst (λ (o : Option Shown). IsShown (known c.args.facts.now) d p c.args.left c.args.color o) (sym w.shown-is)
-          (shown_here d side c.args.left c.args.facts.now p c.args.color w.shown_by_one-shown.result c.side_of-side.ensures.position c.side_of-side.ensures.facts c.side_of-side.ensures.color
-          (w.shown_by_one-shown.ensures d c.args.left c.side_of-side.ensures.side
-          (budgets_of d side c.args.left p c.args.color c.in-Some.most c.in-Some.most c.in-Some.most c.in-Some-budget.fewest c.side_of-side.ensures.position c.side_of-side.ensures.color refl (c.is_one_measure.ensures w.if-is_one_measure.true).same (c.in-Some.ensures.moves refl) few)))
-      | else-is_one_measure w ↦ subst (λ (o : Option Shown). IsShown (known c.args.facts.now) d p c.args.left c.args.color o) (sym w.shown-is)
-          (shown_here d side c.args.left c.args.facts.now p c.args.color w.shown_by_two-shown.result c.side_of-side.ensures.position c.side_of-side.ensures.facts c.side_of-side.ensures.color
-          (w.shown_by_two-shown.ensures d c.args.left c.side_of-side.ensures.side
-          (budgets_of d side c.args.left p c.args.color c.in-Some.most c.in-Some-budget.fewest c.in-Some.most c.in-Some-budget.fewest c.side_of-side.ensures.position c.side_of-side.ensures.color refl refl (c.in-Some.ensures.moves refl) few)))
-    ])
+    c.with_resting.ensures (known c.args.facts.now) c.args.diagram.now c.args.position.now c.args.left c.args.color c.resting_men-resting.ensures
+    (shown_here d side c.args.left c.args.facts.now p c.args.color c.shown_by.result c.side_of-side.ensures.position c.side_of-side.ensures.facts c.side_of-side.ensures.color
+    (c.shown_by.ensures d c.args.left c.side_of-side.ensures.side
+    (budgets_of d side c.args.left p c.args.color c.in-Some.most c.in-Some-budget.fewest c.in-Some.most c.in-Some-budget.fewest c.side_of-side.ensures.position c.side_of-side.ensures.color refl refl (c.in-Some.ensures.moves refl) few)))

@@ -1,7 +1,7 @@
 use Rattle.std.proofs.Common.{ℕ, true, false, inl, inr, refl, sym, subst}
 use Rattle.pg_journeys.specs.Plans.{Moves, QuietMoves}
 use Rattle.pg_journeys.specs.inner.Showing.{IsBudget, AreBudgets, IsOneMeasure}
-use Rattle.pg_journeys.proofs.Changing.{way_shows}
+use Rattle.pg_journeys.proofs.Changing.{way_shows, none_more}
 use Rattle.pg_journeys.proofs.OneMeasure.{same_deeds}
 use Rattle.pg_journeys.proofs.Masks.{not_so}
 use Rattle.pg_journeys.proofs.Paying.{alive_of, paid_of}
@@ -25,7 +25,8 @@ returns-in_default-rooms_of-clause-none c = λ d k side budgets alive. (let g = 
 pub returns-clause-some : goal.returns-clause-some
 returns-clause-some c = λ d k side budgets. (
   alive_of d c.args.side.now k c.args.way c.args.moves.now.most c.args.quiet.now.most budgets.all budgets.few (c.is_way.ensures.0 c.if-not-is_way.false) (c.in-Some.ensures.some d false side (inl refl)).1 (c.in-Some-rooms_of.ensures.some d true side (inl refl)).1,
-  way_shows d c.args.side.now k side c.args.way c.args.moves.now.most c.args.quiet.now.most budgets c.deeds_of-all.result c.deeds_of-calm.result (c.deeds_of-all.ensures d side) (c.deeds_of-calm.ensures d side) c.changed_in-2.result c.changed_in-2.ensures,
+  way_shows d c.args.side.now k side c.args.way c.args.moves.now.most c.args.quiet.now.most budgets _ _ c.deeds_of-all.result c.deeds_of-calm.result (c.deeds_of-all.ensures d side) (c.deeds_of-calm.ensures d side)
+      c.args.found.now (record { lands = λ q h. h; falls = λ q h. h; quiet_lands = λ q h. h; quiet_falls = λ q h. h }) c.changed_in-2.result c.changed_in-2.ensures,
 )
 
 pub deeds_of-both-requires-clause-rooms : goal.deeds_of-both-requires-clause-rooms
@@ -41,5 +42,8 @@ returns-then-is_one_measure-clause-some c = λ d k side budgets.
     let quiet = c.in-Some.ensures.some d true side (inr one.none) in
     let deeds = c.deeds_of-both.ensures d side in (
       alive_of d x k c.args.way most most both.all both.few (c.is_way.ensures.0 c.if-not-is_way.false) moves.1 quiet.1,
-      way_shows d x k side c.args.way most most both c.deeds_of-both.result c.deeds_of-both.result deeds (same_deeds x one.none d c.args.way side most c.in-Some.rooms false true c.deeds_of-both.result moves.0 quiet.0 deeds) c.changed_in.result c.changed_in.ensures,
+      way_shows d x k side c.args.way most most both c.none.result c.none.result c.deeds_of-both.result c.deeds_of-both.result deeds
+          (same_deeds x one.none d c.args.way side most c.none.result.lands c.none.result.falls c.in-Some.rooms false true c.deeds_of-both.result moves.0 quiet.0 deeds)
+          c.args.found.now (record { lands = λ q h. none_more _ _ (c.none.ensures.lands q) h; falls = λ q h. none_more _ _ (c.none.ensures.falls q) h; quiet_lands = λ q h. none_more _ _ (c.none.ensures.lands q) h; quiet_falls = λ q h. none_more _ _ (c.none.ensures.falls q) h })
+          c.changed_in.result c.changed_in.ensures,
     )

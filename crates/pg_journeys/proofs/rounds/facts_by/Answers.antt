@@ -1,6 +1,6 @@
 use Rattle.pg_journeys.specs.Known.{known}
 use Rattle.pg_journeys.proofs.LastRounds.{lost_wall, lacks_men, crowded, not_few, first_hold, walk_hold, walk_last, walk_first, walk_some, walk_none}
-use Rattle.pg_journeys.proofs.rounds.facts_for.Goals as goal
+use Rattle.pg_journeys.proofs.rounds.facts_by.Goals as goal
 
 pub returns-then-not-has_walls-clause-none : goal.returns-then-not-has_walls-clause-none
 returns-then-not-has_walls-clause-none c = lost_wall c.args.diagram.now c.args.position.now c.args.left c.has_walls.result c.has_walls.ensures c.if-not-has_walls.true

@@ -1,6 +1,0 @@
-use Rattle.std.proofs.Common.{◌≡◌, length}
-use Rattle.pg_journeys.proofs.EndLemmas.{AreAimsTo}
-use Rattle.pg_journeys.proofs.plans.fill_aims.Given as goal
-
-abbrev pub invariant-loop-e : goal.invariant-loop-e
-invariant-loop-e l = record { long : length l.aims ≡ 17; is : AreAimsTo l.side l.is_quiet l.aims l.e }
