@@ -33,11 +33,11 @@ use clap::ArgMatches;
 use clap::error::ErrorKind;
 use pg_fen::Diagram;
 use pg_files::FileName;
-use pg_journeys::Journeys;
+use pg_journeys::{FirstAims, Journeys, JourneysByAims};
 use pg_report::{Bound, Captures, PawnFiles, Promotions, Travel};
 use pg_travel::{Rows, TravelByRows};
 use pg_words::pg;
-use std::alloc::AllocError;
+use std::alloc::{AllocError, Global};
 use std::fs::File;
 use std::io::IsTerminal;
 use std::process::ExitCode;
@@ -126,15 +126,21 @@ fn lend<R: Runtime + AllocGlobal>(
     }
 }
 
-// The rows of the diagram that the words of a command spell, where it also names a certificate: the
-// bound by travel is asked often then, and is faster by them.
-fn rows_of(words: &ArgMatches<'_>) -> Option<Rows> {
+// The diagram that the words of a command spell, where they also name a certificate: the bounds are asked often then.
+fn diagram_of(words: &ArgMatches<'_>) -> Option<Diagram> {
     let (_, inner) = words.subcommand()?;
     inner.get_str("CERT")?;
-    match Diagram::read(inner.get_str("DIAGRAM")?) {
-        Ok(diagram) => Some(Rows::new(&diagram)),
-        Err(_) => None,
+    Diagram::read(inner.get_str("DIAGRAM")?).ok()
+}
+
+// The bound by journeys, which is faster by what it knows beforehand of a diagram that it is asked about often.
+fn journeys_for(alloc: Global, diagram: &Option<Diagram>) -> Result<Box<dyn Bound>, AllocError> {
+    if let Some(diagram) = diagram {
+        if let Ok(aims) = FirstAims::new(alloc, diagram) {
+            return Ok(Box::new(alloc, JourneysByAims { aims })?);
+        }
     }
+    Ok(Box::new(alloc, Journeys)?)
 }
 
 // Whether a command goes by the bound by journeys too: `show` always, the others where their words say so.
@@ -163,14 +169,20 @@ fn run<R: Runtime + AllocGlobal>(
     let captures = Box::new(rt.alloc(), Captures)?;
     let promotions = Box::new(rt.alloc(), Promotions)?;
     let pawn_files = Box::new(rt.alloc(), PawnFiles)?;
-    let travel: Box<dyn Bound> = match rows_of(words) {
-        Some(rows) => Box::new(rt.alloc(), TravelByRows { rows })?,
+    let diagram = diagram_of(words);
+    let travel: Box<dyn Bound> = match &diagram {
+        Some(diagram) => Box::new(
+            rt.alloc(),
+            TravelByRows {
+                rows: Rows::new(diagram),
+            },
+        )?,
         None => Box::new(rt.alloc(), Travel)?,
     };
     let four: [Box<dyn Bound>; 4] = [captures, promotions, pawn_files, travel];
     let mut bounds = Vec::from_array(rt.alloc(), four)?;
     if goes_by_journeys(words) {
-        bounds.push(Box::new(rt.alloc(), Journeys)?)?;
+        bounds.push(journeys_for(rt.alloc(), &diagram)?)?;
     }
     Ok(lend(rt, words, bounds.as_slice(), screen))
 }

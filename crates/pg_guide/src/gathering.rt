@@ -95,6 +95,8 @@ pub fn gather<R: Source>(
         Ok(expanded) => expanded,
         Err(stop) => return Err(fault_of(stop)),
     };
+    let last = expanded.last;
+    let shorter = expanded.shorter;
     match check(
         alloc,
         &problem.diagram,
@@ -108,8 +110,8 @@ pub fn gather<R: Source>(
         Ok(proved) => Ok(Gathered {
             games,
             proved,
-            expanded: expanded.last,
-            shorter: expanded.shorter,
+            expanded: last,
+            shorter,
         }),
         Err(fault) => Err(refusal_of(fault, is_full(&games))),
     }

@@ -52,8 +52,7 @@ pub(crate) struct Walker {
 // The men whom the paths to an end lead to be, for each side of this ground and these men of the diagram.
 fn end_goals(ground: &Ground, goals: &Men, e: usize) -> [SquareSet; 6]
     requires { (b : Placement) × AreMen b ground.now.color goals.now }
-    ensures { (x : SideOf) → IsLike x ground.now goals.now → IsEnd x e →
-        (quiet : Bool) (n : ℕ) (k : KindOfMan) (s : ℕ) →
+    ensures { (x : SideOf) → IsLike x ground.now goals.now → IsEnd x e → (quiet : Bool) (n : ℕ) (k : KindOfMan) (s : ℕ) →
         BackWithin (known ground.now.facts) ground.now.color quiet result n k s ↔ EndWithin x quiet e n k s }
 {
     if e < goals.count {

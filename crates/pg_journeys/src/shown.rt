@@ -369,8 +369,8 @@ fn some_quietly_paid(side: &Side, quiet: &Measured<'_>) -> bool
     is_quietly_paid(side, quiet, Some(Wing::QueenSide))
 }
 
-// What the plans of a side show by two measures. Where a side has no way alive it is mostly quiet moves that tell it,
-// so they come first.
+// What the plans of a side show by two measures. Where a side has no way alive it is mostly quiet moves that tell it, so
+// they come first.
 #[inline(never)]
 fn shown_by_two(side: &Side, most: u8, fewest: u8) -> Option<Shown>
     requires side { (d : Placement) × IsSide d side.now }

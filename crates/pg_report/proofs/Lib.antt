@@ -1,5 +1,7 @@
+pub mod NamingLemmas
 pub mod RunLemmas
 pub mod ShortestLemmas
 pub mod ShowLemmas
 pub mod SideLemmas
+pub mod SymbolLemmas
 pub mod WithinLemmas

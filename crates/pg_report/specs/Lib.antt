@@ -5,3 +5,6 @@ pub mod Sides
 pub mod Within
 pub mod Showing
 pub mod Expecting
+pub mod Naming
+pub mod Answering
+pub mod inner

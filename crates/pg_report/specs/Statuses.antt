@@ -16,6 +16,9 @@ use Rattle.pg_texts.specs.declared.fault.CountRunFault.{CountRunFault}
 use Rattle.pg_texts.specs.declared.fault.CountRunFault.TheVariants as numbering
 use Rattle.pg_checker.specs.declared.fault.RunFault.{RunFault}
 use Rattle.pg_checker.specs.declared.fault.RunFault.TheVariants as running
+use Rattle.pg_checker.specs.declared.fault.AnswerFault.TheVariants as answer
+use Rattle.pg_report.specs.declared.fault.AnswerRunFault.{AnswerRunFault}
+use Rattle.pg_report.specs.declared.fault.AnswerRunFault.TheVariants as answering
 use Rattle.pg_report.specs.declared.fault.ShowFault.{ShowFault}
 use Rattle.pg_report.specs.declared.fault.ShowFault.TheVariants as showing
 use Rattle.pg_texts.specs.declared.fault.UpgradeFault.{UpgradeFault}
@@ -43,6 +46,13 @@ status_of (running.Length fault) = 2
 status_of (running.Games fault) = games_status fault
 status_of (running.Check fault) = check_status fault
 status_of running.Write = 4
+
+abbrev pub answer_status_of : AnswerRunFault → ℕ
+answer_status_of answering.NoProblem = 1
+answer_status_of (answering.Answer (answer.Check fault)) = check_status fault
+answer_status_of (answering.Answer answer.TooManyGames) = 1
+answer_status_of (answering.Answer answer.Memory) = 3
+answer_status_of answering.Write = 4
 
 abbrev pub search_status_of : SearchFault → ℕ
 search_status_of searching.Budget = 1

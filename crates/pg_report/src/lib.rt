@@ -1,28 +1,34 @@
-//! What the program does with what it is asked: a check of a certificate and its report, what is said at
-//! once of a diagram, and the status of each fault; and all that the program uses of the crates below.
+//! What the program does with what it is asked: a check of a certificate and its report, the report of the games that a
+//! certificate proves, what is said at once of a diagram, and the status of each fault; and all that the program uses of
+//! the crates below.
 #![tactic(auto)]
 
+mod answering;
 mod expecting;
 mod fault;
 mod lengths;
+mod naming;
 mod run;
 mod showing;
 mod sides;
 mod statuses;
 mod within;
 
-pub use fault::ShowFault;
+pub use answering::run_answer;
+pub use fault::{AnswerRunFault, ShowFault};
 pub use lengths::shortest;
+pub use naming::{problem_of, read_problem};
 pub use run::{run_check, run_listed};
 pub use showing::{run_show, run_show_within};
 pub use statuses::{
-    count_status, moves_status, search_status, show_status, status, upgrade_status, verdict_status,
+    answer_status, count_status, moves_status, search_status, show_status, status, upgrade_status,
+    verdict_status,
 };
 
 // What the program uses of the crates below.
 pub use pg_captures::{Bound, Captures, Promotions};
 pub use pg_certificate::{FromRead, Refused, Sink, Source, ToWrite, WriteFault};
-pub use pg_checker::{Fault, Problem, RunFault, check};
+pub use pg_checker::{AnswerFault, Fault, Problem, RunFault, check};
 pub use pg_fen::{Diagram, FenFault, Length, LengthFault};
 pub use pg_moves::{CountFault, CountProgress, Unwatched};
 pub use pg_pawns::PawnFiles;

@@ -1,5 +1,6 @@
 //! Reports, counts, moves and shown diagrams: what the tests share.
 
+mod answers;
 mod cooks_found;
 mod drawings;
 mod faults;
@@ -116,6 +117,41 @@ fn check<R: Abort + AllocGlobal, S: Source, W: Sink>(
     told(&answer)
 }
 
+// The problem of a row, or that of its certificate's header where the command is `answer`.
+fn problem_for<R: Abort + AllocGlobal>(rt: &R, asked: &str) -> Result<Problem, AnswerRunFault> {
+    if field(asked, 0) == "answer" {
+        return read_problem(&mut FromRead::new(bytes_of(rt, asked).as_slice()));
+    }
+    Ok(Problem {
+        diagram: diagram_of(rt, field(asked, 1)),
+        length: length_of(rt, field(asked, 2)),
+    })
+}
+
+// What is answered to a certificate without a list.
+fn answer<R: Abort + AllocGlobal, S: Source, W: Sink>(
+    rt: &R,
+    asked: &str,
+    limit: u64,
+    source: &mut S,
+    out: &mut W,
+) -> Said {
+    let problem = match problem_for(rt, asked) {
+        Ok(problem) => problem,
+        Err(fault) => return words(&format_args!("{fault:?}: {fault}")),
+    };
+    let bounds = four_bounds(rt);
+    told(&run_answer(
+        rt.alloc(),
+        &problem,
+        &bounds,
+        source,
+        out,
+        limit,
+        MOST_NAMED,
+    ))
+}
+
 // What is answered to a list of games by itself.
 fn games<R: Abort + AllocGlobal, W: Sink>(rt: &R, texts: [&str; 3], out: &mut W) -> Said {
     let [diagram, length, games] = texts;
@@ -174,6 +210,7 @@ fn obey<R: Abort + AllocGlobal, S: Source, W: Sink>(
     let plies = number.parse().unwrap_or(0);
     let limit = limit.parse().unwrap_or(MANY);
     match command {
+        "answer" | "answer-to" => answer(rt, asked, limit, source, out),
         "board" => told(&write_board(&diagram_of(rt, text), out)),
         "count" => told(&run_count(rt.alloc(), text, plies, out)),
         "games" => games(rt, [text, number, list], out),

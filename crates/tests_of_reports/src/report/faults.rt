@@ -98,6 +98,25 @@ const RUN_TEXTS: &str = "2 bad length
 1 game 4096 does not end on the diagram
 4 write fault";
 
+// Why a certificate has no report of its games.
+const ANSWER_FAULTS: [AnswerRunFault; 7] = [
+    AnswerRunFault::NoProblem,
+    AnswerRunFault::Answer(AnswerFault::Check(Fault::Magic)),
+    AnswerRunFault::Answer(AnswerFault::Check(Fault::Read)),
+    AnswerRunFault::Answer(AnswerFault::Check(Fault::Memory)),
+    AnswerRunFault::Answer(AnswerFault::TooManyGames),
+    AnswerRunFault::Answer(AnswerFault::Memory),
+    AnswerRunFault::Write,
+];
+
+const ANSWER_TEXTS: &str = "1 certificate for no problem
+1 not a certificate
+4 read fault
+3 out of memory
+1 more than 4096 games
+3 out of memory
+4 write fault";
+
 // Why games are not counted.
 static COUNT_FAULTS: [CountRunFault; 4] = [
     CountRunFault::Count(CountFault::TooDeep),
@@ -190,6 +209,15 @@ fn faults_of_counts(rt: HostRuntime) {
     let mut lines = COUNT_TEXTS.lines();
     for fault in &COUNT_FAULTS {
         check_told(&rt, count_status(fault), fault, lines.next());
+    }
+    assert_eq!(rt; lines.next(), None);
+}
+
+#[test]
+fn faults_of_answers(rt: HostRuntime) {
+    let mut lines = ANSWER_TEXTS.lines();
+    for fault in &ANSWER_FAULTS {
+        check_told(&rt, answer_status(fault), fault, lines.next());
     }
     assert_eq!(rt; lines.next(), None);
 }

@@ -64,6 +64,34 @@ fn refused_growths_of_a_check(rt: HostRuntime) {
     }
 }
 
+// The answer to the same certificate without a list.
+fn named_answer(rt: &impl Abort, alloc: Global) -> (Result<Verdict, AnswerRunFault>, usize) {
+    let bytes = named_expansions(&diagram_of(rt, AFTER_E4_E5));
+    let problem = read_problem(&mut FromRead::new(bytes.as_slice())).expect(rt, "a problem");
+    let bounds: Vec<Box<dyn Bound>> = Vec::new(alloc);
+    let mut source = FromRead::new(bytes.as_slice());
+    let mut out = ToWrite::new(Counted::new());
+    let answer = run_answer(alloc, &problem, &bounds, &mut source, &mut out, MANY, 22);
+    (answer, out.into_inner().bytes())
+}
+
+// Passes too where `rt try --test --fail-alloc N` refuses the N-th growth.
+#[test]
+fn refused_growths_of_an_answer(rt: HostRuntime) {
+    for _ in 0..9u8 {
+        let (answer, bytes) = named_answer(&rt, rt.alloc());
+        match answer {
+            Ok(verdict) => {
+                assert_eq!(rt; (verdict, bytes), (Verdict::Sound, REPORT));
+            }
+            Err(fault) => {
+                assert_eq!(rt; answer_status(&fault), 3);
+                assert_eq!(rt; bytes, 0);
+            }
+        }
+    }
+}
+
 // Passes too where `rt try --test --fail-alloc N` refuses the N-th growth.
 #[test]
 fn refused_growths_of_a_count(rt: HostRuntime) {

@@ -35,7 +35,7 @@ fn games_that_are_no_solutions(rt: HostRuntime) {
 }
 
 // A shorter game reaches the diagram: in no ply, whether or not longer games are listed; in one ply.
-const SHORTER: &str =
+pub(super) const SHORTER: &str =
     "check | array | 2.0 |  |  | 1 array 2.0 |  => Check(Shorter(0)): a game of 0 plies reaches the diagram
 check | array | 2.0 | 1. Nf3 Nf6 2. Ng1 Ng8 |  | 1 array 2.0 |  => Check(Shorter(0)): a game of 0 plies reaches the diagram
 check | after-e4 | 2.0 |  |  | 1 after-e4 2.0 | 01 => Check(Shorter(1)): a game of 1 plies reaches the diagram";
@@ -47,7 +47,7 @@ fn shorter_games(rt: HostRuntime) {
 
 // The last byte is missing; so is that of a header. A byte too many; a record too many; another first byte. A cut
 // that does not hold; a bound and a record that are unknown; a reference without its number.
-const WRONG: &str =
+pub(super) const WRONG: &str =
     "check | after-e4-e5 | 1.0 | 1. e4 e5 | 22 | 1 after-e4-e5 1.0 | 0204 01 0204*13 01 0204*5 02 => Check(Truncated): truncated certificate
 check | after-e4-e5 | 1.0 | 1. e4 e5 | 22 |  | 50474331 02 24533642 11111011 00*6 01 00*3 09 00*5 9999 9099 acdbbe => Check(Truncated): truncated certificate
 check | after-e4-e5 | 1.0 | 1. e4 e5 | 22 | 1 after-e4-e5 1.0 | 0204 01 0204*13 01 0204*6 00 => Check(Trailing): bytes after the certificate

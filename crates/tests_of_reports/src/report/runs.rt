@@ -24,7 +24,7 @@ fn runs(rt: HostRuntime) {
 const EN_PASSANT: &str =
     "check | en-passant | 2.5 | 1. e4 d6 2. e5 a6 3. exd6$1. e4 a6 2. e5 d6 3. exd6$1. e4 d5 2. exd5 a6 3. d6$1. e4 a6 2. e5 d5 3. exd6ep";
 
-const EN_PASSANT_REPORT: &str = "diagram rnbqkbnr/1pp1pppp/p2P4/8/8/8/PPPP1PPP/RNBQKBNR
+pub(super) const EN_PASSANT_REPORT: &str = "diagram rnbqkbnr/1pp1pppp/p2P4/8/8/8/PPPP1PPP/RNBQKBNR
 length 2.5
 games 4
 1. e4 a6 2. e5 d5 3. exd6
@@ -35,7 +35,12 @@ cooked
 ";
 
 // The certificate that the searcher writes, of so many games.
-fn searched<R: Abort + AllocGlobal>(rt: &R, diagram: &str, length: &str, count: usize) -> Vec<u8> {
+pub(super) fn searched<R: Abort + AllocGlobal>(
+    rt: &R,
+    diagram: &str,
+    length: &str,
+    count: usize,
+) -> Vec<u8> {
     let goal = diagram_of(rt, diagram);
     let plies = length_of(rt, length);
     let mut sink = ToWrite::new(Vec::new(rt.alloc()));
