@@ -133,14 +133,12 @@ fn diagram_of(words: &ArgMatches<'_>) -> Option<Diagram> {
     Diagram::read(inner.get_str("DIAGRAM")?).ok()
 }
 
-// The bound by journeys, which is faster by what it knows beforehand of a diagram that it is asked about often.
-fn journeys_for(alloc: Global, diagram: &Option<Diagram>) -> Result<Box<dyn Bound>, AllocError> {
-    if let Some(diagram) = diagram {
-        if let Ok(aims) = FirstAims::new(alloc, diagram) {
-            return Ok(Box::new(alloc, JourneysByAims { aims })?);
-        }
+// What the bound by journeys knows beforehand of a diagram, if it is asked often; none where memory is refused.
+fn aims_of(alloc: Global, diagram: &Option<Diagram>) -> Option<FirstAims> {
+    match diagram {
+        Some(diagram) => FirstAims::new(alloc, diagram).ok(),
+        None => None,
     }
-    Ok(Box::new(alloc, Journeys)?)
 }
 
 // Whether a command goes by the bound by journeys too: `show` always, the others where their words say so.
@@ -182,7 +180,11 @@ fn run<R: Runtime + AllocGlobal>(
     let four: [Box<dyn Bound>; 4] = [captures, promotions, pawn_files, travel];
     let mut bounds = Vec::from_array(rt.alloc(), four)?;
     if goes_by_journeys(words) {
-        bounds.push(journeys_for(rt.alloc(), &diagram)?)?;
+        let journeys: Box<dyn Bound> = match aims_of(rt.alloc(), &diagram) {
+            Some(aims) => Box::new(rt.alloc(), JourneysByAims { aims })?,
+            None => Box::new(rt.alloc(), Journeys)?,
+        };
+        bounds.push(journeys)?;
     }
     Ok(lend(rt, words, bounds.as_slice(), screen))
 }
