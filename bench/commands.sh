@@ -2,7 +2,7 @@
 # Runs each command that README.md, docs/GUIDE.md and the helps of the program show, and compares what it prints, on both
 # streams, with what the page shows after it; a command with nothing after it is to end with status 0. All is done in a
 # scratch folder that has what the top has, so no file is left. Each line of a help is to fit 80 columns. Commands of the
-# tool `rt`, and the gate itself, are passed over. Code that docs/ARCHITECTURE.md shows is to stand in the file that it names. Quiet where all is as shown; else prints each difference and ends with status 1.
+# tool `rt`, and the gate itself, are passed over. Six of the examples are judged by `pg judge`. Code that docs/ARCHITECTURE.md shows is to stand in the file that it names. Quiet where all is as shown; else prints each difference and ends with status 1.
 set -u
 top=$(cd "$(dirname "$(readlink -f "$0")")/.." && pwd)
 work=$(mktemp -d) || exit 1
@@ -91,7 +91,26 @@ compare_excerpts() {
   [ "$count" -ge "$2" ] || fail "$1: only $count pieces of code are found"
 }
 
+# Judges six of the examples, which is to say of each what its report says; and once more where one certificate is gone, as
+# after an interrupt: that problem alone is searched.
+judge_examples() {
+  local name diagram length
+  for name in array fools-mate queen-recaptures four-games no-game schweig; do
+    { read -r diagram && read -r length; } <"$top/examples/$name/problem"
+    echo "$name $diagram $length" >>"$work/problems"
+    printf '%s\t%s\t%s\n' "$name" "$length" "$(tail -n 1 "$top/examples/$name/report")" >>"$work/wanted"
+  done
+  mkdir "$work/proofs"
+  pg judge "$work/problems" --certificates "$work/proofs" | cut -f 1-3 >"$work/got"
+  diff "$work/wanted" "$work/got" >"$work/difference" || fail 'pg judge: the examples have other verdicts' "$work/difference"
+  rm "$work/proofs/four-games.pgc"
+  pg judge "$work/problems" --certificates "$work/proofs" >"$work/got"
+  [ "$(cut -f 5 "$work/got" | cut -d , -f 1 | tr '\n' ' ')" = 'certificate certificate certificate search certificate certificate ' ] ||
+    fail 'pg judge: a run is not gone on with where it was' "$work/got"
+}
+
 compare_excerpts docs/ARCHITECTURE.md 2
+judge_examples
 run_page README.md 3
 run_page docs/GUIDE.md 3
 run_help ''

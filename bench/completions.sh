@@ -8,7 +8,7 @@
 #                                     is empty is `-`, and the program's own options have the command `-`
 #
 # A word, or the value of an option, is completed as a file where its name is one of these; else nothing is proposed for it.
-files='CERT GAMES OLD NEW FILE'
+files='CERT GAMES OLD NEW FILE PROBLEMS FOLDER'
 set -u
 top=$(cd "$(dirname "$(readlink -f "$0")")/.." && pwd)
 pg=${PG:-$top/pg}

@@ -81,9 +81,16 @@ done <<END
 2 games $array 0 list --journeys
 2 check $array 0 list list --journeys=yes
 2 cooks $array 0 list --nodes -1
+2 judge
+2 judge list more
+2 judge list --nodes -1
+2 judge list --certificates
 2 check $array 0
 2 check $array 0 none none --records 0
 2 check $array 0 none none more
+2 answer
+2 answer $array 0 none
+2 answer none --records 0
 2 search $array 0 none --nodes 18446744073709551616
 2 search 8/8 0 none
 2 search $array 64.5 none
@@ -94,13 +101,16 @@ done <<END
 2 page $array 0 none --nodes -1
 4 check $array 0 none none --records=18446744073709551615
 4 check 8/8 64.5 none
+4 answer none --records=18446744073709551615 --journeys
 4 why 8/8 64.5 none -
 4 page 8/8 64.5 none --nodes=18446744073709551615
 4 search $array 0 none/none --nodes=0
 4 search $array 0 none/
 0 --help
 0 check --help
+0 answer --help
 0 cooks --help
+0 judge --help
 0 games --help
 0 why --help
 0 page --help
@@ -152,10 +162,83 @@ done <<END
 2|$array 0 ../none.pgc|e4 \xc3|games are not UTF-8|
 2|$array 0 ../none.pgc|\xed\xa0\x80|games are not UTF-8|
 END
+
+# The same of certificates by themselves. A header may name no problem: a number that is no man's, no king, more than 64.0 moves.
+{ header "$array" 0 | head -c 21; printf '\7'; header "$array" 0 | tail -c 15; } >"$work/nobody.pgc"
+header "${array/K/Q}" 0 >"$work/kingless.pgc"
+header "$array" 129 >"$work/longer.pgc"
+while IFS='|' read -r status words said printed; do
+  expect "$status" "${said:+pg: $said}" "\"\$pg\" answer $words" "${reports[${printed:-nothing}]}"
+done <<END
+0|../open.pgc --records 22||sound
+0|../none.pgc||array
+1|../orders.pgc||cooked
+1|../short.pgc||none
+1|../open.pgc --records 21|record limit reached|
+1|../long.pgc|bytes after the certificate|
+1|../cut.pgc|truncated certificate|
+1|empty|truncated certificate|
+1|report|not a certificate|
+1|long.pgc|truncated certificate|
+1|../nobody.pgc|certificate for no problem|
+1|../kingless.pgc|certificate for no problem|
+1|../longer.pgc|certificate for no problem|
+END
 many() { head -c "$1" /dev/zero | tr '\0' "$2"; }
 expect 2 'pg: line 2: repeated game' 'yes e4 | head -n 4097 | "$pg" check $array 0 ../none.pgc'
 expect 2 'pg: line 1, ply 1: not a move' '(many 1000000 1; echo e4) | "$pg" check $array 0 ../none.pgc'
 expect 1 'pg: game 1 does not have the stated length' '(many 1000000 1; many 1000000 .; echo e4) | "$pg" check $array 0 ../none.pgc'
+
+# Problems of a file that are judged: bad lines are told and skipped.
+row() { printf '%s\t' "${@:1:5}"; echo "$6"; }
+orders_row=$(row orders 1.5 cooked - 'search, 63 nodes' '2 games: 1. d3 e6 2. e3; 1. e3 e6 2. d3')
+array_row=$(row array 0.0 sound solves 'search, 0 nodes' -)
+while IFS='|' read -r status list said printed; do
+  printf -- "$list" >"$work/list"
+  expect "$status" "${said:+pg: $said}" '"$pg" judge ../list' "$printed"
+  expect "$status" "${said:+pg: $said}" '"$pg" judge - <../list' "$printed"
+done <<END
+0|||
+0|# nothing\n\n \t\n||
+0|array $array 0 -||$array_row
+0|\tarray  $array\t0 -\r\n||$array_row
+1|orders $orders 1.5\n||$orders_row
+2|.array $array 0\n|line 1: bad name|
+2|a/b $array 0\n|line 1: bad name|
+2|array\n|line 1: a name, a diagram and a length are wanted|
+2|array 8/8 0\n|line 1: bad rank|
+2|array $array 0,5\n|line 1: bad length|
+2|array $array 0 \xff\n|line 1: not UTF-8|
+2|array $array 1 1. e4 e4\n|line 1: ply 2: no such legal move|
+2|array $array 0 -\narray $array 0 -\n|line 2: this name stands above|$array_row
+END
+printf 'orders %s 1.5\n' $orders >"$work/list"
+expect 1 '' '"$pg" judge ../list --nodes 0' "$(row orders 1.5 'not settled' - 'search, 0 nodes' '0 games met; limit reached')"
+expect 4 'pg: cannot open none' '"$pg" judge none' ''
+expect 4 'pg: cannot open none' '"$pg" judge ../list --certificates none' ''
+expect 4 'pg: cannot open .' '"$pg" judge .' ''
+expect 4 'pg: read fault' '"$pg" judge - <&-' ''
+expect 4 'pg: write fault' '"$pg" judge ../list >/dev/full' ''
+for minutes in '' x 1. .5 1,5 -1 1e3; do expect 2 'pg: bad number of minutes' '"$pg" judge ../list --minutes='"'$minutes'" ''; done
+expect 2 'pg: bad number of minutes' '"$pg" search $array 0 new.pgc --minutes=x' ''
+expect 1 'pg: node limit reached' '"$pg" search $schweig 4.0 new.pgc --minutes 0' ''
+expect 0 '' '"$pg" search $array 0 new.pgc --minutes 0.5 --nodes 1 >/dev/null; rm new.pgc' ''
+
+# Certificates in a folder: one is put there, checked in place of a search, told where it is refused, and replaced.
+mkdir "$work/proofs"
+standing_row=$(row orders 1.5 cooked - 'certificate, 63 records' '2 games: 1. d3 e6 2. e3; 1. e3 e6 2. d3')
+replaced_row=$(row orders 1.5 cooked - 'search, 63 nodes, old certificate refused' '2 games: 1. d3 e6 2. e3; 1. e3 e6 2. d3')
+expect 1 '' '"$pg" judge ../list --certificates ../proofs' "$orders_row"
+expect 1 '' '"$pg" judge ../list --certificates ../proofs --nodes 0' "$standing_row"
+for wrong_one in good.pgc empty report; do
+  cp "$wrong_one" "$work/proofs/orders.pgc"
+  expect 1 '' '"$pg" judge ../list --certificates ../proofs --nodes 0' \
+    "$(row orders 1.5 'not settled' - 'search, 0 nodes, old certificate refused' '0 games met; limit reached')"
+  cmp -s "$wrong_one" "$work/proofs/orders.pgc" || { echo "a certificate that was not replaced has changed" >&2; wrong=1; }
+  expect 1 '' '"$pg" judge ../list --certificates ../proofs' "$replaced_row"
+  expect 1 '' '"$pg" judge ../list --certificates ../proofs' "$standing_row"
+done
+[ "$(ls -A "$work/proofs")" = orders.pgc ] || { echo "drafts are left" >&2; wrong=1; }
 
 # What lists show by themselves, and what is found beside them.
 while IFS='|' read -r status words list said printed; do
@@ -195,12 +278,13 @@ expect 2 'pg: not one line of moves' '"$pg" why $open 1.0 ../open.pgc "" --recor
 expect 2 'pg: line 1, ply 1: no such legal move' '"$pg" why $open 1.0 ../open.pgc e5 --records 22' ''
 expect 2 'pg: line 1, ply 1: not a move' '"$pg" why $open 1.0 ../open.pgc "- e4" --records 22' ''
 
-# More games than a list holds, of five pawn moves of each side in any order.
+# More games than a list holds, of five pawn moves of each side in any order. `answer` judges what stands behind them too, where a cut is wrong.
 five=rnbqkbnr/5ppp/ppppp3/8/8/PPPPP3/5PPP/RNBQKBNR
 { header "$five" 10; python3 "$top/bench/many-games.py"; } >"$work/five.pgc"
 expect 1 'pg: more than 4096 games' '"$pg" why $five 5.0 ../five.pgc -' \
   $'at the start: 2 of 20 moves lead on; cut 18 by travel; 4200 games below\nmore than 4096 games'
 expect 1 'pg: more than 4096 games' '"$pg" page $five 5.0 ../five.pgc' ''
+expect 1 'pg: cut 4 does not exclude' '"$pg" answer ../five.pgc' ''
 expect 1 'pg: unlisted game: 1. a3 a6 2. b3 b6 3. c3 c6 4. d3 d6 5. e3 e6' '"$pg" check $five 5.0 ../five.pgc /dev/null' ''
 
 # Pages of such certificates: whole, or not begun.
@@ -263,16 +347,20 @@ END
 expect 4 'pg: read fault' '"$pg" check $queen 2.0 games <&-'
 expect 4 'pg: read fault' '"$pg" check $queen 2.0 good.pgc <&-'
 expect 4 'pg: read fault' '"$pg" check $queen 2.0 good.pgc <.'
-expect 4 'pg: read fault' '"$pg" check $queen 2.0 . games'
+for folder in 'check $queen 2.0 . games' 'check $queen 2.0 good.pgc .' 'games $queen 2.0 .' 'cooks $queen 2.0 .' 'upgrade . new.pgc'; do
+  expect 4 'pg: cannot open .' "\"\$pg\" $folder"
+done
+expect 4 'pg: cannot open .' '"$pg" answer .'
+expect 4 'pg: cannot open /dev/stdin' 'cat good.pgc | "$pg" answer /dev/stdin'
 expect 4 'pg: cannot open .' '"$pg" why $queen 2.0 . -'
 expect 4 'pg: cannot open /dev/stdin' 'cat good.pgc | "$pg" why $queen 2.0 /dev/stdin -'
 expect 4 'pg: cannot open .' '"$pg" page $queen 2.0 .'
 expect 4 'pg: cannot open /dev/stdin' 'cat good.pgc | "$pg" page $queen 2.0 /dev/stdin'
-expect 4 'pg: read fault' '"$pg" upgrade . new.pgc'
 for full in '>&-' '>/dev/full'; do
   expect 4 'pg: write fault' '"$pg" moves "$position" '"$full"
   expect 4 'pg: write fault' '"$pg" count "$position" 2 '"$full"
   expect 4 'pg: write fault' '"$pg" check $queen 2.0 good.pgc games '"$full"
+  expect 4 'pg: write fault' '"$pg" answer good.pgc '"$full"
   expect 4 'pg: write fault' '"$pg" search $queen 2.0 good.pgc '"$full"
   expect 4 'pg: write fault' '"$pg" why $queen 2.0 good.pgc - '"$full"
   expect 4 'pg: write fault' '"$pg" page $queen 2.0 good.pgc '"$full"
@@ -282,7 +370,25 @@ done
 expect 1 '' '"$pg" search $queen 2.0 good.pgc --nodes 3 2>&-'
 expect 1 '' '"$pg" search $queen 2.0 new.pgc --nodes 3 <&- >&- 2>&-'
 expect 0 '' '"$pg" check $queen 2.0 good.pgc games <&- 2>&- | cmp - report'
+expect 0 '' '"$pg" answer good.pgc <&- 2>&- | cmp - report'
 expect 0 '' '"$pg" page $queen 2.0 good.pgc <&- 2>&- | cmp - <("$pg" page $queen 2.0 good.pgc)'
+
+# Standard input by its name.
+expect 0 '' 'cat games | "$pg" check $queen 2.0 good.pgc - | cmp - report'
+expect 0 '' 'cat good.pgc | "$pg" check $queen 2.0 - games | cmp - report'
+expect 0 '' '"$pg" check $queen 2.0 - games <good.pgc | cmp - report'
+expect 0 '' 'cat games | "$pg" games $queen 2.0 - | tail -n 1' 'at least one game'
+expect 0 '' '"$pg" cooks $queen 2.0 - --nodes 0 <games | tail -n 1' 'none found: node limit reached'
+expect 0 '' 'cat old.pgc | "$pg" upgrade - ../two' 'records 0'
+expect 0 '' '"$pg" why $queen 2.0 - - <good.pgc | tail -n 1' 'the certificate is right'
+for both in 'check $queen 2.0 - - <good.pgc' 'check $queen 2.0 - <good.pgc' 'check $queen 2.0 - games <games' 'check $queen 2.0 games - <games'; do
+  said=-
+  [ "${both#*0 games}" = "$both" ] || said=games
+  expect 4 "pg: cannot open $said" "\"\$pg\" $both"
+done
+expect 4 'pg: cannot open -' 'cat good.pgc | "$pg" why $queen 2.0 - -'
+expect 4 'pg: cannot open -' '"$pg" search $queen 2.0 new.pgc --games -' ''
+expect 4 'pg: read fault' '"$pg" check $queen 2.0 good.pgc - <&-'
 
 # Pipes that never end. A certificate is a header, and then bytes for ever.
 expect 4 'pg: read fault' 'yes "" | "$pg" check $queen 2.0 good.pgc'
@@ -302,7 +408,7 @@ expect 1 'pg: record limit reached' '"$pg" upgrade <(endless old.pgc "\1") new.p
 # Files that are not to be written, and one that is two at once.
 mkfifo "$work/fifo"
 ln -s nothing "$work/dead"
-for name in /dev/stdout /dev/null /dev/full . / "$work/fifo" "$work/dead" none/new.pgc none/ "''"; do
+for name in - /dev/stdout /dev/null /dev/full . / "$work/fifo" "$work/dead" none/new.pgc none/ "''"; do
   expect 4 "pg: cannot open ${name#"''"}" '"$pg" search $queen 2.0 '"$name"
   expect 4 "pg: cannot open ${name#"''"}" '"$pg" upgrade old.pgc '"$name"
 done
@@ -314,6 +420,8 @@ expect 4 'pg: cannot open none' '"$pg" check $queen 2.0 none games'
 expect 4 'pg: cannot open none' '"$pg" check $queen 2.0 good.pgc none'
 expect 4 'pg: cannot open none' '"$pg" upgrade none new.pgc'
 expect 4 'pg: cannot open none' '"$pg" upgrade none old.pgc'
+expect 4 'pg: cannot open none' '"$pg" answer none'
+expect 4 "pg: cannot open $work/fifo" '"$pg" answer "$work/fifo"'
 expect 4 'pg: cannot open none' '"$pg" why $queen 2.0 none -'
 expect 4 "pg: cannot open $work/fifo" '"$pg" why $queen 2.0 "$work/fifo" -'
 expect 4 'pg: cannot open none' '"$pg" page $queen 2.0 none'
@@ -337,6 +445,13 @@ expect 1 'pg: node limit reached' '"$pg" search $cooked 3.5 new.pgc --nodes 8312
 expect 1 '' '"$pg" games $cooked 3.5 ../met | tail -n 1; exit "${PIPESTATUS[0]}"' 'not sound'
 expect 0 '' '"$pg" search $queen 2.0 ../new.pgc --games ../kept | cmp - report && cmp ../kept games' ''
 expect 4 'pg: write fault' '"$pg" search $queen 2.0 new.pgc --games games >/dev/full' ''
+# A list stays where no game was met, with no draft beside it; and neither draft stands at the place of the other file.
+mkdir "$work/apart" && echo mine >"$work/apart/mine"
+expect 1 'pg: node limit reached' '"$pg" search $queen 2.0 ../apart/c --games ../apart/mine --nodes 3' ''
+expect 0 '' 'cat ../apart/mine; ls -A ../apart' $'mine\nmine'
+expect 0 '' '"$pg" search $queen 2.0 ../apart/.G.pg-part-0 --games ../apart/G | cmp - report && cmp ../apart/G games' ''
+expect 0 '' '"$pg" search $queen 2.0 ../apart/G --games ../apart/.G.pg-part-0 | cmp - report && cmp ../apart/G good.pgc' ''
+expect 0 '' 'cmp ../apart/.G.pg-part-0 games; ls -A ../apart' $'.G.pg-part-0\nG\nmine'
 expect 4 'pg: cannot open new.pgc' '"$pg" search $queen 2.0 new.pgc --games new.pgc' ''
 expect 4 'pg: cannot open no/list' '"$pg" search $queen 2.0 new.pgc --games no/list' ''
 expect 4 'pg: write fault' 'trap "" XFSZ; ulimit -f 1; "$pg" search $schweig 4.0 good.pgc'
@@ -349,16 +464,19 @@ expect 4 'pg: write fault' 'trap "" XFSZ; ulimit -f 1; "$pg" upgrade ../old.pgc 
 echo '1. Nc3 d6 2. Nd5 Nd7 3. Nxe7 Ndf6 4. Nxg8 Nxg8' >"$work/knights"
 expect 0 '' '"$pg" search $schweig 4.0 ../journeys.pgc --journeys | tail -n 1' sound
 expect 0 '' '"$pg" check $schweig 4.0 ../journeys.pgc ../knights --journeys | tail -n 1' sound
+expect 0 '' '"$pg" answer ../journeys.pgc --journeys | tail -n 1' sound
 expect 0 '' '"$pg" page $schweig 4.0 ../journeys.pgc --journeys | tail -n 1' '</html>'
 expect 0 '' '"$pg" why $schweig 4.0 ../journeys.pgc - --journeys | tail -n 1' 'the certificate is right'
 expect 1 'pg: unknown bound 5' '"$pg" check $schweig 4.0 ../journeys.pgc ../knights' ''
+expect 1 'pg: unknown bound 5' '"$pg" answer ../journeys.pgc' ''
 expect 1 'pg: unknown bound 5' '"$pg" page $schweig 4.0 ../journeys.pgc' ''
 expect 1 'pg: unknown bound 5' '"$pg" why $schweig 4.0 ../journeys.pgc - >/dev/null'
 expect 0 '' '"$pg" check $queen 2.0 good.pgc games --journeys | cmp - report'
+expect 0 '' '"$pg" answer good.pgc --journeys | cmp - report'
 
 # With the least stack that the README names.
 expect 0 '' 'ulimit -s 512; "$pg" search $schweig 4.0 ../journeys.pgc --journeys | tail -n 1' sound
-expect 0 '' 'ulimit -s 512; "$pg" search $queen 2.0 good.pgc | cmp - report && "$pg" check $queen 2.0 good.pgc games | cmp - report'
+expect 0 '' 'ulimit -s 512; "$pg" search $queen 2.0 good.pgc | cmp - report && "$pg" check $queen 2.0 good.pgc games | cmp - report && "$pg" answer good.pgc | cmp - report'
 expect 0 '' 'ulimit -s 512; "$pg" page $queen 2.0 good.pgc | cmp - <("$pg" page $queen 2.0 good.pgc)'
 expect 0 '' 'ulimit -s 512; "$pg" why $queen 2.0 good.pgc "e4 d5" >/dev/null && "$pg" count "$position" 3 >/dev/null && "$pg" moves "$position" >/dev/null && "$pg" show $queen >/dev/null && "$pg" upgrade old.pgc ../two >/dev/null'
 
@@ -372,6 +490,7 @@ sed '1,3d;$d' "$work/four" >"$work/four.games"
 report=$(cat "$work/four")
 expect 0 '' 'ulimit -s 512; "$pg" search $four 4.0 ../again --games ../met; [ $? = 1 ] && cmp ../again ../four.pgc && cmp ../met ../four.games' "$report"
 expect 1 '' 'ulimit -s 512; "$pg" check $four 4.0 ../four.pgc ../four.games' "$report"
+expect 1 '' 'ulimit -s 512; "$pg" answer ../four.pgc' "$report"
 expect 1 '' 'ulimit -s 512; "$pg" games $four 4.0 ../four.games' "${report/%cooked/not sound}"
 expect 1 '' 'ulimit -s 512; "$pg" cooks $four 4.0 ../four.games --nodes 0' "${report/%cooked/none found: node limit reached$'\n'not sound}"
 expect 0 '' 'ulimit -s 512; "$pg" page $four 4.0 ../four.pgc | cmp - ../four.html'
@@ -405,11 +524,35 @@ if command -v script >/dev/null; then
   says "'$pg' games $open 2.0 ../misspelt" 'pg: line 1, ply 3: not a move' 'pg: the word is "Nf9"; legal there: Nf3, Nc3, Qf3'
   says "cat ../misspelt | '$pg' games $open 2.0" 'pg: line 1, ply 3: not a move'
   says "'$pg' why $queen 2.0 good.pgc 'e4 Qd6'" 'pg: line 1, ply 2: no such legal move' 'pg: the word is "Qd6"; legal there: d6, b6, c6'
+  says "'$pg' check $queen 2.0 . games" 'pg: cannot open .' 'pg: it is no plain file'
+  says "'$pg' search $queen 2.0 -" 'pg: cannot open -' 'pg: it is standard input, which is not written'
+  printf 'e4 e5\n\ne4 e6\n' >../misfit
+  says "'$pg' games $open 1.0 ../misfit" 'pg: game 2 does not end on the diagram' \
+    'pg: line 3: it ends on rnbqkbnr/pppp1ppp/4p3/8/4P3/8/PPPP1PPP/RNBQKBNR' \
+    'pg: e5: empty there, black pawn on the diagram' 'pg: e6: black pawn there, empty on the diagram'
+  says "'$pg' cooks $queen 1.0 ../misfit" 'pg: game 1 does not end on the diagram' \
+    'pg: line 1: it ends on rnbqkbnr/pppp1ppp/8/4p3/4P3/8/PPPP1PPP/RNBQKBNR' 'pg: e4: white pawn there, empty on the diagram' \
+    'pg: d5: empty there, black queen on the diagram' 'pg: e5: black pawn there, empty on the diagram' \
+    'pg: d7: black pawn there, empty on the diagram' 'pg: squares that differ too: 2'
+  says "'$pg' check $open 7.5 good.pgc ../misfit" 'pg: game 1 does not have the stated length' \
+    'pg: line 1: it has 1.0 moves, 7.5 are wanted'
+  says "cat ../misfit | '$pg' games $open 1.0" 'pg: game 2 does not end on the diagram'
+  printf '1. e4 e5\nd4\ne2-e4 e7e5\n' >../twice
+  says "'$pg' games $open 1.0 - <../twice" 'pg: line 3: repeated game' 'pg: line 1 is the same game'
+  printf 'e4 e5\nNf3 \351' >../latin
+  says "'$pg' games $open 1.0 ../latin" 'pg: games are not UTF-8' 'pg: the first bad byte is byte 5 of line 2'
+  says "'$pg' games $open 2,0 ../misfit" 'pg: bad length' 'pg: a length is in moves, as 2.0 or 2.5' 'pg: try the length 2.0'
+  says "'$pg' show $open '8 plies'" 'pg: bad length' 'pg: a length is in moves, as 2.0 or 2.5' 'pg: try the length 4.0'
+  says "'$pg' search $open 4... new.pgc" 'pg: bad length' 'pg: a length is in moves, as 2.0 or 2.5' 'pg: try the length 4.0'
+  says "'$pg' search $open soon new.pgc" 'pg: bad length' 'pg: a length is in moves, as 2.0 or 2.5'
   says "'$pg' check $queen 2.0 nothing games" 'pg: cannot open nothing' 'pg: No such file or directory (os error 2)'
   says "'$pg' check $queen 2.0 games games" 'pg: cannot open games' 'pg: another word names this file'
   says "'$pg' search $queen 2.0 new.pgc --games ./new.pgc" 'pg: cannot open ./new.pgc' 'pg: another word names this file'
   gzip -c good.pgc >../packed
   says "'$pg' check $queen 2.0 ../packed games" 'pg: not a certificate' 'pg: it looks packed by gzip; unpack it, or let `pg check` read it from a pipe'
+  says "'$pg' answer ../packed" 'pg: not a certificate' 'pg: it looks packed by gzip; unpack it, or let `pg check` read it from a pipe'
+  says "'$pg' answer nothing" 'pg: cannot open nothing' 'pg: No such file or directory (os error 2)'
+  says "'$pg' answer ../journeys.pgc" 'pg: unknown bound 5' 'pg: bound 5 is that by journeys: say --journeys'
   says "'$pg' check $schweig 4.0 ../journeys.pgc ../knights" 'pg: unknown bound 5' 'pg: bound 5 is that by journeys: say --journeys'
   says "'$pg' search $queen 3.0 new.pgc" 'pg: a game of 4 plies reaches the diagram' 'pg: try the length 2.0'
   says "'$pg' search $cooked 3.5 new.pgc --nodes 8312" 'pg: node limit reached' 'pg: 8307 nodes, tree 3.5 of 3.5' 'pg: 2 games known: not sound' \
@@ -423,8 +566,16 @@ if command -v script >/dev/null; then
 
   # A long search on 10 columns: what it shows does not wrap, has the tree, the share and the nodes to expect, and is taken away.
   script -qec "stty cols 10; '$pg' search $stalemate 9.5 new.pgc --nodes 30000000" /dev/null </dev/null >"$work/said"
-  wraps=$'\e\\[?7h' cuts=$'\e\\[?7l' clears=$'\r\e\\[K'
+  wraps=$'\e\\[?7h' cuts=$'\e\\[?7l' up=$'\e\\[A' clears=$'\r\e\\[K'
   grep -q "${clears}${cuts}[0-9.]* [0-9]*k [0-9]*% of limit\(, tree ~[0-9]*[kMG]\)\?${wraps}" "$work/said" || { echo "a long search does not show how far it is" >&2; wrong=1; }
-  grep -q "${wraps}${clears}pg: node limit reached" "$work/said" || { echo "the line of a search is not taken away" >&2; wrong=1; }
+  tr -d '\n' <"$work/said" | grep -q "$wraps"$'\r'"$up${clears}pg: node limit reached" || { echo "the line of a search is not taken away" >&2; wrong=1; }
+  on_terminal "TERM=dumb '$pg' search $stalemate 9.5 new.pgc --nodes 30000000" >"$work/said"
+  grep -q $'\e' "$work/said" && { echo "a dumb terminal gets escape sequences" >&2; wrong=1; }
+
+  # A long search that is interrupted leaves a whole line, and the cursor below it.
+  for seconds in 1.2 1.6 2.1; do
+    script -qec "timeout --foreground -s INT $seconds '$pg' search $stalemate 9.5 ../interrupted --nodes 3000000000" /dev/null </dev/null >"$work/said"
+    [ "$(tail -c 7 "$work/said"; echo .)" = $'\e[?7h\r\n.' ] || { echo "an interrupted search does not leave a whole line" >&2; wrong=1; }
+  done
 fi
 exit "$wrong"

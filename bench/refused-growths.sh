@@ -83,6 +83,7 @@ refuse 40 moves 'no position'
 refuse 40 count "$array w KQkq - 0 1" 4
 refuse 40 check "$open" 1.0 good.pgc games
 refuse 40 check "$open" 1.0 good.pgc empty
+refuse 40 answer good.pgc
 refuse 40 games "$open" 1.0 games
 refuse 40 games "$open" 1.0 empty
 refuse 40 cooks "$open" 1.0 games

@@ -2,7 +2,7 @@
 _pg() {
   local cur=${COMP_WORDS[COMP_CWORD]} before=${COMP_WORDS[COMP_CWORD - 1]} place=1 at
   local commands options valued=" " file_options=" " file_places=" "
-  commands="show moves count games cooks check search why page upgrade help"
+  commands="show moves count games cooks check answer search judge why page upgrade help"
   COMPREPLY=()
   if [ "$COMP_CWORD" = 1 ]; then
     mapfile -t COMPREPLY < <(compgen -W "$commands --help -h --version -V" -- "$cur")
@@ -13,9 +13,11 @@ _pg() {
     moves) options="--help -h" ;;
     count) options="--help -h" ;;
     games) options="--help -h" file_places=" 3 " ;;
-    cooks) options="--nodes --foreign --help -h" valued=" --nodes --foreign " file_places=" 3 " ;;
+    cooks) options="--nodes --minutes --foreign --help -h" valued=" --nodes --minutes --foreign " file_places=" 3 " ;;
     check) options="--records --journeys --help -h" valued=" --records " file_places=" 3 4 " ;;
-    search) options="--nodes --games --journeys --help -h" valued=" --nodes --games " file_options=" --games " file_places=" 3 " ;;
+    answer) options="--records --journeys --help -h" valued=" --records " file_places=" 1 " ;;
+    search) options="--nodes --minutes --games --journeys --help -h" valued=" --nodes --minutes --games " file_options=" --games " file_places=" 3 " ;;
+    judge) options="--certificates --nodes --minutes --journeys --help -h" valued=" --certificates --nodes --minutes " file_options=" --certificates " file_places=" 1 " ;;
     why) options="--records --journeys --help -h" valued=" --records " file_places=" 3 " ;;
     page) options="--records --nodes --journeys --help -h" valued=" --records --nodes " file_places=" 3 " ;;
     upgrade) options="--records --help -h" valued=" --records " file_places=" 1 2 " ;;

@@ -35,7 +35,9 @@ complete -c pg -n __fish_use_subcommand -a count -d 'Prints the number of games 
 complete -c pg -n __fish_use_subcommand -a games -d 'Prints what a list of games shows by itself'
 complete -c pg -n __fish_use_subcommand -a cooks -d 'Looks for another game, or a shorter one, near the games of a list'
 complete -c pg -n __fish_use_subcommand -a check -d 'Checks a certificate against a list of games, and prints the report'
+complete -c pg -n __fish_use_subcommand -a answer -d 'Checks a certificate by itself, and prints the report of its games'
 complete -c pg -n __fish_use_subcommand -a search -d 'Searches for the games, writes a certificate, checks it, and reports'
+complete -c pg -n __fish_use_subcommand -a judge -d 'Judges the problems of a file, one after the other, a row for each'
 complete -c pg -n __fish_use_subcommand -a why -d 'Explains a line of moves by a certificate'
 complete -c pg -n __fish_use_subcommand -a page -d 'Writes a page of HTML that shows a certificate'
 complete -c pg -n __fish_use_subcommand -a upgrade -d 'Copies a certificate of version 1 as one of version 2'
@@ -46,19 +48,31 @@ complete -c pg -n '__pg_is count' -s h -l help -d 'Print help'
 complete -c pg -n '__pg_is games' -s h -l help -d 'Print help'
 complete -c pg -n '__pg_is_at games 3' -F
 complete -c pg -n '__pg_is cooks' -l nodes -x -d 'Gives up where more would be visited [default: 10000000]'
+complete -c pg -n '__pg_is cooks' -l minutes -x -d 'Gives up after so many minutes, as 5 or 0.5'
 complete -c pg -n '__pg_is cooks' -l foreign -x -d 'At most so many foreign moves, the last two plies apart'
 complete -c pg -n '__pg_is cooks' -s h -l help -d 'Print help'
-complete -c pg -n '__pg_is_at cooks 3 --nodes --foreign' -F
+complete -c pg -n '__pg_is_at cooks 3 --nodes --minutes --foreign' -F
 complete -c pg -n '__pg_is check' -l records -x -d 'Refuses a certificate of more records [default: 100000000]'
 complete -c pg -n '__pg_is check' -l journeys -d 'Takes cuts by the bound by journeys too'
 complete -c pg -n '__pg_is check' -s h -l help -d 'Print help'
 complete -c pg -n '__pg_is_at check 3 --records' -F
 complete -c pg -n '__pg_is_at check 4 --records' -F
+complete -c pg -n '__pg_is answer' -l records -x -d 'Refuses a certificate of more records [default: 100000000]'
+complete -c pg -n '__pg_is answer' -l journeys -d 'Takes cuts by the bound by journeys too'
+complete -c pg -n '__pg_is answer' -s h -l help -d 'Print help'
+complete -c pg -n '__pg_is_at answer 1 --records' -F
 complete -c pg -n '__pg_is search' -l nodes -x -d 'Gives up before more nodes are visited [default: 1000000]'
-complete -c pg -n '__pg_is search' -l games -r -F -d 'Keeps the games that were met, also where it gives up'
+complete -c pg -n '__pg_is search' -l minutes -x -d 'Gives up after so many minutes, as 5 or 0.5'
+complete -c pg -n '__pg_is search' -l games -r -F -d 'Keeps the games that it met, if any, also if it gives up'
 complete -c pg -n '__pg_is search' -l journeys -d 'Cuts by the bound by journeys too: far fewer nodes'
 complete -c pg -n '__pg_is search' -s h -l help -d 'Print help'
-complete -c pg -n '__pg_is_at search 3 --nodes --games' -F
+complete -c pg -n '__pg_is_at search 3 --nodes --minutes --games' -F
+complete -c pg -n '__pg_is judge' -l certificates -r -F -d 'Keeps each certificate as FOLDER/NAME.pgc'
+complete -c pg -n '__pg_is judge' -l nodes -x -d 'The last limit of a search [default: 100000000]'
+complete -c pg -n '__pg_is judge' -l minutes -x -d 'Gives up a problem after M, as 5 or 0.5'
+complete -c pg -n '__pg_is judge' -l journeys -d 'Cuts by journeys too, where a search gives up'
+complete -c pg -n '__pg_is judge' -s h -l help -d 'Print help'
+complete -c pg -n '__pg_is_at judge 1 --certificates --nodes --minutes' -F
 complete -c pg -n '__pg_is why' -l records -x -d 'Refuses a certificate of more records [default: 100000000]'
 complete -c pg -n '__pg_is why' -l journeys -d 'Takes cuts by the bound by journeys too'
 complete -c pg -n '__pg_is why' -s h -l help -d 'Print help'
@@ -78,7 +92,9 @@ complete -c pg -n '__pg_is_at help 1' -a count -d 'Prints the number of games of
 complete -c pg -n '__pg_is_at help 1' -a games -d 'Prints what a list of games shows by itself'
 complete -c pg -n '__pg_is_at help 1' -a cooks -d 'Looks for another game, or a shorter one, near the games of a list'
 complete -c pg -n '__pg_is_at help 1' -a check -d 'Checks a certificate against a list of games, and prints the report'
+complete -c pg -n '__pg_is_at help 1' -a answer -d 'Checks a certificate by itself, and prints the report of its games'
 complete -c pg -n '__pg_is_at help 1' -a search -d 'Searches for the games, writes a certificate, checks it, and reports'
+complete -c pg -n '__pg_is_at help 1' -a judge -d 'Judges the problems of a file, one after the other, a row for each'
 complete -c pg -n '__pg_is_at help 1' -a why -d 'Explains a line of moves by a certificate'
 complete -c pg -n '__pg_is_at help 1' -a page -d 'Writes a page of HTML that shows a certificate'
 complete -c pg -n '__pg_is_at help 1' -a upgrade -d 'Copies a certificate of version 1 as one of version 2'

@@ -1,6 +1,7 @@
 //! By how much the prices of rows are below those of columns and the costs, and whether they are.
 ghost use Rattle.std.specs.Prelude.{◌≤◌, ◌<◌, IsTrue};
-ghost use Rattle.pg_assignments.specs.Handing.{AreWithin, IsNone, IsSlackOf, IsSlackRow, IsOver, IsOverRow, AreNone, IsFitted, IsFittedBy};
+ghost use Rattle.pg_assignments.specs.Handing.{AreWithin, IsNone, IsSlackOf, IsSlackRow, IsOver, IsOverRow, AreNone};
+ghost use Rattle.pg_assignments.specs.Handing.{IsFitted, IsFittedBy};
 
 use crate::costs::Costs;
 use crate::propose::{Proposal, Row};

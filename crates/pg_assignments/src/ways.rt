@@ -2,7 +2,8 @@
 //! nothing that it finds is tested.
 ghost use Rattle.std.specs.Prelude.{ℕ, ◌<◌, ◌≤◌, get_or, []};
 ghost use Rattle.pg_assignments.specs.Handing.{AreWithin};
-ghost use Rattle.pg_assignments.specs.Ways.{AreLow, IsKey, AreKeys, AreFirstKeys, IsNearer, IsNearerRow, AreNearer, AreNearerFrom, AreWays, AreSixteenths};
+ghost use Rattle.pg_assignments.specs.Ways.{AreLow, IsKey, AreKeys, AreFirstKeys, IsNearer, IsNearerRow, AreNearer};
+ghost use Rattle.pg_assignments.specs.Ways.{AreNearerFrom, AreWays, AreSixteenths};
 
 use crate::propose::Row;
 

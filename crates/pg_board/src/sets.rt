@@ -2,7 +2,8 @@
 ghost use Rattle.std.specs.Prelude.{◌≡◌, ℕ, ◌+◌, ◌<◌, ◌^◌, ◌↔◌, cond, IsTrue, bit_and, eqb, None, true, false};
 ghost use Rattle.pg_board.specs.Men.{is_kind, is_of};
 ghost use Rattle.pg_board.specs.Bits.{has};
-ghost use Rattle.pg_board.specs.inner.Sets.{kind_in, man_in, set_of, set_of_kind, set_of_color, unlike, Replaces, AreWords, IsSound};
+ghost use Rattle.pg_board.specs.inner.Sets.{kind_in, man_in, set_of, set_of_kind, set_of_color, unlike, Replaces};
+ghost use Rattle.pg_board.specs.inner.Sets.{AreWords, IsSound};
 
 use crate::man::{Color, Kind, Man};
 

@@ -1,5 +1,6 @@
 //! Sets of squares.
-ghost use Rattle.std.specs.Prelude.{◌≡◌, ℕ, ◌+◌, ◌<◌, ◌≤◌, ◌^◌, ◌↔◌, ◌&&◌, ◌||◌, not, eqb, IsTrue, IfSome, IfNone, MatchOption, cond, true, false, bit_and, bit_or, count_ones};
+ghost use Rattle.std.specs.Prelude.{◌≡◌, ℕ, ◌+◌, ◌<◌, ◌≤◌, ◌^◌, ◌↔◌, ◌&&◌, ◌||◌, not, eqb, IsTrue, IfSome, IfNone};
+ghost use Rattle.std.specs.Prelude.{MatchOption, cond, true, false, bit_and, bit_or, count_ones};
 ghost use Rattle.std.specs.Int.{bit_not, w64};
 ghost use Rattle.pg_board.specs.Bits.{has};
 ghost use Rattle.pg_board.specs.Squares.{is_dark, is_light};

@@ -3,7 +3,8 @@
 ghost use Rattle.std.specs.Prelude.{◌≡◌, List, ℕ};
 ghost use Rattle.pg_certificate.specs.declared.format.TheConstants.{LONGEST_RECORD};
 ghost use Rattle.pg_certificate.specs.Spelling.{longest_record};
-ghost use Rattle.pg_certificate.specs.Laws.{RecordsAreReadAgain, WhatIsReadIsSpelled, NoSpellingBeginsAnother, NoSpellingIsLonger};
+ghost use Rattle.pg_certificate.specs.Laws.{RecordsAreReadAgain, WhatIsReadIsSpelled, NoSpellingBeginsAnother};
+ghost use Rattle.pg_certificate.specs.Laws.{NoSpellingIsLonger};
 ghost use Rattle.pg_certificate.specs.Laws.{TruncatedWhereCutShort, UnknownWhereNoneGoesOn};
 ghost use Rattle.pg_certificate.specs.Laws.{HeadersAreReadAgain, WhatIsReadIsAHeader, RefusesWhatIsNoHeader};
 ghost use Rattle.pg_certificate.specs.Counting.{EachRecordIsCounted};

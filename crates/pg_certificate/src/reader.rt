@@ -3,8 +3,10 @@ ghost use Rattle.std.specs.Prelude.{◌≡◌, ◌↔◌, ◌<◌, ◌≤◌, �
 ghost use Rattle.std.specs.Prelude.{true, false, IfOk, OnOk, OnErr, IsTrue};
 ghost use Rattle.std.specs.Io.KnownBytes.{Keeps, Consumes, IsAtEnd};
 ghost use Rattle.std.specs.Int.{w32, to_be_bytes};
-ghost use Rattle.pg_certificate.specs.Spelling.{record_of, spelling, header_length, header_spelling, longest_record, IsHeader, IsRecord, IsRecordOf, PricesStay};
-ghost use Rattle.pg_certificate.specs.Reading.{more_at, byte_at, byte_from, exactly, number_at, outline_at, lists_at, priced_at, header_at, record_at, end_at};
+ghost use Rattle.pg_certificate.specs.Spelling.{record_of, spelling, header_length, header_spelling, longest_record};
+ghost use Rattle.pg_certificate.specs.Spelling.{IsHeader, IsRecord, IsRecordOf, PricesStay};
+ghost use Rattle.pg_certificate.specs.Reading.{more_at, byte_at, byte_from, exactly, number_at, outline_at, lists_at};
+ghost use Rattle.pg_certificate.specs.Reading.{priced_at, header_at, record_at, end_at};
 ghost use Rattle.pg_certificate.specs.inner.Outlines.{IsOutline, AreListsOf, outline_spelling, lists_spelling};
 ghost use Rattle.pg_certificate.specs.Reader.{to_come, Reads, ReadsAs, IsCall, PullsAtMost};
 

@@ -1,6 +1,7 @@
 //! Laws of the walk over chess, each the contract of a function that does nothing. Lengths are in
 //! plies.
-ghost use Rattle.std.specs.Prelude.{◌≡◌, ◌≢◌, ◌↔◌, ◌∷◌, ◌++◌, ◌≤◌, ◌<◌, ℕ, suc, List, [], Option, Some, None, length, Ok, Err};
+ghost use Rattle.std.specs.Prelude.{◌≡◌, ◌≢◌, ◌↔◌, ◌∷◌, ◌++◌, ◌≤◌, ◌<◌, ℕ, suc, List, [], Option, Some, None, length};
+ghost use Rattle.std.specs.Prelude.{Ok, Err};
 ghost use Rattle.pg_board.specs.Placement.{Placement};
 ghost use Rattle.pg_position.specs.declared.state.State.{State};
 ghost use Rattle.pg_position.specs.declared.moves.Move.{Move};
@@ -17,7 +18,8 @@ ghost use Rattle.pg_checker.specs.Chess.{Cuts, IsSoundCut, IsChess, chess, cause
 ghost use Rattle.pg_checker.specs.Claims.{IsExact, IsCertificate};
 ghost use Rattle.pg_checker.specs.Left.{left_after};
 ghost use Rattle.pg_checker.specs.Telling.{HasShorter, IsMissing};
-ghost use Rattle.pg_checker.specs.Tree.{Rules, Trees, Cause, Truncated, UnknownRecord, TooManyNamed, spelling_all, records_all};
+ghost use Rattle.pg_checker.specs.Tree.{Rules, Trees, Cause, Truncated, UnknownRecord, TooManyNamed, spelling_all};
+ghost use Rattle.pg_checker.specs.Tree.{records_all};
 ghost use Rattle.pg_checker.specs.Whole.{IsAtNamed, full_from, answer, IsAccepted, IsRefusedFor};
 
 /// The rules by which the walk goes are those of chess, with the cuts handed in and the records of

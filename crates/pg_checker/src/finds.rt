@@ -67,7 +67,8 @@ fn keep(game: &[Move], finds: &mut Finds)
 // Whether a solution counts as listed: where a list is asked, it is in that list; where none is, it is
 // kept.
 pub(crate) fn counts(games: Option<&Games>, game: &[Move], finds: &mut Finds) -> bool
-    ensures listed { (listed : List Move → Bool) → Serves (asked games.entry) finds.new listed → listed game.now ≡ result }
+    ensures listed { (listed : List Move → Bool) → Serves (asked games.entry) finds.new listed
+        → listed game.now ≡ result }
     ensures lacks { result ≡ false → IsLacking (asked games.entry) game.now }
     ensures finding { (d : Placement) (n : ℕ) → IsSolution d n game.now → Finding d n finds.old finds.new }
 {

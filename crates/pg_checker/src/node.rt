@@ -229,7 +229,8 @@ fn judge(
 ) -> Result<Opening, Halt>
     requires { IsReached spot.now }
     ensures says { (game : List Move) → Judges names.old names.new
-        (judge_of (rules_for code_of excluded question.now any_game) left (spot_of spot.now) (record_of prices.now bare))
+        (judge_of (rules_for code_of excluded question.now any_game) left (spot_of spot.now)
+        (record_of prices.now bare))
         (stops game result) }
     ensures kept { IfOk result (λ node. names.new.table.kept ≡ names.old.table.kept + opened node) }
     ensures fails { (failed : Bool) → FailsRead failed (stops [] result) }

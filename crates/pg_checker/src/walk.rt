@@ -1,5 +1,6 @@
 //! The walk over the trees of a certificate, with a stack of open nodes.
-ghost use Rattle.std.specs.Prelude.{List, Bool, ◌≡◌, ◌||◌, ◌+◌, ◌<◌, ◌≤◌, ◌++◌, suc, true, false, [], ◌∷◌, length, map, reverse, IfErr, IfSome, MatchOption, OnOk};
+ghost use Rattle.std.specs.Prelude.{List, Bool, ◌≡◌, ◌||◌, ◌+◌, ◌<◌, ◌≤◌, ◌++◌, suc, true, false, [], ◌∷◌, length, map};
+ghost use Rattle.std.specs.Prelude.{reverse, IfErr, IfSome, MatchOption, OnOk};
 ghost use Rattle.pg_checker.specs.Cuts.{rules_for};
 ghost use Rattle.pg_position.specs.declared.moves.Move.{Move};
 ghost use Rattle.pg_checker.specs.inner.Finds.{Finding, Serves, asked};
@@ -8,7 +9,9 @@ ghost use Rattle.pg_checker.specs.Whole.{run as run_of};
 ghost use Rattle.pg_position.specs.Array.{array_state};
 ghost use Rattle.pg_checker.specs.inner.Halting.{Because, cause_with, causes, full, stops};
 ghost use Rattle.pg_checker.specs.inner.Judging.{LeafSays};
-ghost use Rattle.pg_checker.specs.inner.Machine.{Closes, GoesOn, HasNone, IsReady, LeadTo, OnTop, Passed, Plays, Visits, Walks, Works, entered, entry_of, fresh, game_at, named_at, path, point_at, stack_at};
+ghost use Rattle.pg_checker.specs.inner.Machine.{Closes, GoesOn, HasNone, IsReady, LeadTo, OnTop, Passed, Plays};
+ghost use Rattle.pg_checker.specs.inner.Machine.{Visits, Walks, Works, entered, entry_of, fresh, game_at, named_at};
+ghost use Rattle.pg_checker.specs.inner.Machine.{path, point_at, stack_at};
 ghost use Rattle.pg_checker.specs.inner.Telling.{StopTells};
 ghost use Rattle.pg_checker.specs.inner.Spots.{IsReached, spot_of};
 ghost use Rattle.pg_checker.specs.Tree.{one_if};

@@ -13,10 +13,12 @@ use Rattle.pg_position.specs.declared.state.State.{State}
 use Rattle.pg_checker.specs.Answer.{IsExactAnswer}
 use Rattle.pg_texts.specs.MovesText.{SpellsPosition}
 use Rattle.pg_texts.specs.Report.{IsVerdict}
+use Rattle.pg_report.specs.Answering.{IsProvedAnswer, IsReported}
 use Rattle.pg_report.specs.Run.{AreSpelled, Failures, IsRunFault}
 use Rattle.pg_report.specs.Statuses.{verdict_status}
 use Rattle.pg_texts.specs.declared.verdict.Verdict.{Verdict}
 use Rattle.pg_checker.specs.Check.{Accepts}
+use Rattle.pg_checker.specs.declared.certify.Answer.{Answer as Answered}
 use Rattle.pg_checker.specs.declared.certify.Proved.{Proved}
 use Rattle.pg_checker.specs.declared.fault.RunFault.{RunFault}
 use Rattle.pg_checker.specs.declared.fault.RunFault.TheVariants.{Write}
@@ -29,8 +31,8 @@ use Rattle.pg_page.specs.declared.paging.Asked.{Asked as Shown}
 use Rattle.pg_cli.specs.declared.checking.Asked.{Asked}
 use Rattle.pg_cli.specs.declared.refusals.Refusal.{Refusal}
 use Rattle.pg_cli.specs.declared.refusals.Refusal.TheVariants.{Check}
-use Rattle.pg_cli.specs.Reasons.{IsCheckRefusal, IsFoundRefusal, IsWhyRefusal, IsPageRefusal}
-use Rattle.pg_cli.specs.Answers.{IsAnswered, AreAnswered, HasExactAnswer}
+use Rattle.pg_cli.specs.Reasons.{IsAnswerRefusal, IsCheckRefusal, IsFoundRefusal, IsWhyRefusal, IsPageRefusal}
+use Rattle.pg_cli.specs.Answers.{IsAnswered, IsAnsweredBySome, IsHandedAnswer, AreAnswered, HasAnswer, HasExactAnswer}
 use Rattle.pg_cli.specs.Words.{spelled, IsChecked, IsSearched, IsExplained, HasPosition, HasDiagram}
 
 -- why a report has no status: the sink has failed
@@ -90,6 +92,29 @@ pub page_unwritten : (asked : Shown) (t : Terms) (f : ReadingFailures) (result :
 page_unwritten asked t f (Ok s) h g = tt
 page_unwritten asked t f (Err r) h g = (Run Write, g.0, (h, g.1))
 
+-- the report of a certificate's games, where the buffer is handed on and where it is not
+pub report_answered : (t : Terms) (d : Placement) (n : ℕ) (before after : Option (List ℕ)) (v : Verdict) (k : ℕ) (result : Result ℕ Refusal)
+    → OnOk result (IsReported t d n before after v) → k ≡ verdict_status v → IfOk result (λ s. s ≡ k)
+    → IfOk result (λ s. IsHandedAnswer t d n before after s)
+report_answered t d n before after v k (Ok s) h e g = (v, g ∙ e, h)
+report_answered t d n before after v k (Err r) h e g = tt
+
+pub report_unwritten : (t any : Terms) (d : Placement) (n : ℕ) (failed : Failures) (a : Answered) (result : Result ℕ Refusal)
+    → IsProvedAnswer t d n a → IsUnwritten failed.sink result → IfErr result (λ r. IsAnswerRefusal t any d n failed r)
+report_unwritten t any d n failed a (Ok s) h g = tt
+report_unwritten t any d n failed a (Err r) h g = subst (λ (x : Refusal). IsAnswerRefusal t any d n failed x) (sym g.0) (g.1, (a, h))
+
+-- what such a report says, and what it says where nobody knows the problem
+pub report_means : (t : Terms) (d : Placement) (n : ℕ) (before after : Option (List ℕ)) (result : Result ℕ Refusal)
+    → IfOk result (λ s. IsHandedAnswer t d n before after s) → IfOk result (λ s. HasAnswer d n s)
+report_means t d n before after (Ok s) h = let a = h.2 in (a.0.games, (a.1.0, (h.0, a.2, h.1)))
+report_means t d n before after (Err r) h = tt
+
+pub answer_means : (d : Placement) (n : ℕ) (result : Result ℕ Refusal)
+    → IfOk result (λ s. HasAnswer d n s) → IfOk result (λ s. IsAnsweredBySome s)
+answer_means d n (Ok s) h = (d, n, h)
+answer_means d n (Err r) h = tt
+
 -- what holds is said of an answer too
 pub said_of : {A E : Type 0} (result : Result A E) (P : Type 0) → P → OnOk result P
 said_of (Ok a) P h = h
@@ -108,10 +133,6 @@ pub check_means : (rows : List Row) (diagram length games : List ℕ) (result : 
 check_means rows diagram length games (Ok s) e f h =
     (games, subst (λ (x : List ℕ). AreAnswered x (spelled (codes "LENGTH") rows) games s) e (subst (λ (y : List ℕ). AreAnswered diagram y games s) f h))
 check_means rows diagram length games (Err r) e f h = tt
-
--- some list is the exact answer to a diagram and a length, with this status
-abbrev pub HasAnswer : Placement → ℕ → ℕ → Type 0
-HasAnswer d n status = (games : List (List Move)) × IsAnswered d n games status
 
 pub search_means : (rows : List Row) (diagram length : List ℕ) (d : Placement) (n : ℕ) (result : Result ℕ Refusal)
     → diagram ≡ spelled (codes "DIAGRAM") rows → length ≡ spelled (codes "LENGTH") rows

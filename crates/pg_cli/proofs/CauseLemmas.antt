@@ -17,8 +17,8 @@ use Rattle.pg_report.specs.Run.{Failures}
 use Rattle.pg_guide.specs.Why.{ReadingFailures}
 use Rattle.pg_guide.specs.declared.explaining.Asked.{Asked as Line}
 use Rattle.pg_page.specs.declared.paging.Asked.{Asked as Shown}
-use Rattle.pg_cli.specs.Causes.{Rules, AreWords, IsSpelled, IsOfFile, IsOfDrafts, IsMovesCause, IsCountCause, IsBoardRefusal, IsShowCause, IsGamesCause, IsCooksCause, IsCheckCause, IsWhyCause, IsPageCause, IsUpgradeCause, IsSearchCause, IsGivenUp, IsSearchRefusal, search_refusal, causes, IsCaused}
-use Rattle.pg_cli.specs.Reasons.{IsShowRefusal, IsShowWithinRefusal, IsMovesRefusal, IsCountRefusal, IsGamesRefusal, IsCooksRefusal, IsCheckRefusal, IsFoundRefusal, IsWhyRefusal, IsPageRefusal, IsUpgradeRefusal}
+use Rattle.pg_cli.specs.Causes.{Rules, AreWords, IsSpelled, IsOfFile, IsOfDrafts, IsMovesCause, IsCountCause, IsBoardRefusal, IsShowCause, IsGamesCause, IsCooksCause, IsCheckCause, IsAnswerCause, IsWhyCause, IsPageCause, IsUpgradeCause, IsSearchCause, IsGivenUp, AreMet, IsSearchRefusal, search_refusal, causes, IsCaused}
+use Rattle.pg_cli.specs.Reasons.{IsShowRefusal, IsShowWithinRefusal, IsMovesRefusal, IsCountRefusal, IsGamesRefusal, IsCooksRefusal, IsCheckRefusal, IsAnswerRefusal, IsFoundRefusal, IsWhyRefusal, IsPageRefusal, IsUpgradeRefusal}
 use Rattle.pg_cli.specs.Words.{spelled, name_of, IsSubcommand}
 use Rattle.pg_cli.specs.declared.checking.Asked.{Asked}
 use Rattle.pg_cli.specs.declared.commands.Command.{Command}
@@ -78,6 +78,11 @@ pub check_caused : (rows : List Row) (asked : Asked) (t : Terms) (failed : Failu
 check_caused rows asked t failed (Ok s) w h = tt
 check_caused rows asked t failed (Err r) w h = inr (asked, t, failed, w, refl, h)
 
+pub answer_caused : (d : Placement) (n : ℕ) (t any : Terms) (failed : Failures) (result : Result ℕ Refusal)
+    → IfErr result (λ r. IsAnswerRefusal t any d n failed r) → IfErr result (λ r. IsAnswerCause t.rules r)
+answer_caused d n t any failed (Ok s) h = tt
+answer_caused d n t any failed (Err r) h = inr (d, n, t, any, failed, refl, h)
+
 pub why_caused : (rows : List Row) (asked : Line) (t : Terms) (failed : ReadingFailures) (result : Result ℕ Refusal)
     → AreWords rows asked.diagram.now asked.length.now → asked.moves.now ≡ spelled (codes "MOVES") rows
     → IfErr result (λ r. IsWhyRefusal asked t failed r) → IfErr result (λ r. IsWhyCause t.rules rows r)
@@ -93,12 +98,12 @@ page_caused rows asked t failed (Err r) w h = inr (asked, t, failed, w, refl, h)
 -- ---- a search
 -- a search that gives up has a cause
 pub given_up : (rules : Rules) (d : Placement) (n : ℕ) (fault : SearchFault) (known : Known) → IsGivenUp n fault
-    → IsSearchRefusal rules d n (search_refusal fault known)
-given_up rules d n search.Budget known h = inl tt
-given_up rules d n (search.Shorter fewer) known h = inl h
-given_up rules d n search.TooManyGames known h = inl tt
-given_up rules d n search.Write known h = inl tt
-given_up rules d n search.Memory known h = inl tt
+    → AreMet d n known → IsSearchRefusal rules d n (search_refusal fault known)
+given_up rules d n search.Budget known h k = inl (tt, k)
+given_up rules d n (search.Shorter fewer) known h k = inl (h, k)
+given_up rules d n search.TooManyGames known h k = inl (tt, k)
+given_up rules d n search.Write known h k = inl tt
+given_up rules d n search.Memory known h k = inl tt
 
 -- the games that were found are no answer
 pub unanswered : (d : Placement) (n : ℕ) (list : List (List Move)) (t : Terms) (failed : Failures) (result : Result ℕ Refusal)

@@ -5,7 +5,7 @@ use Rattle.clap.specs.Words.{Row, Text, subcommand_name_of, subcommand_rows_of}
 use Rattle.clap.specs.declared.parser.matches.ArgMatches.{ArgMatches}
 use Rattle.pg_cli.specs.Words.{name_of, says, IsMeant, IsSubcommand}
 use Rattle.pg_cli.specs.declared.commands.Command.{Command}
-use Rattle.pg_cli.specs.declared.commands.Command.TheVariants.{Show, Moves, Count, Games, Cooks, Check, Search, Why, Page, Upgrade}
+use Rattle.pg_cli.specs.declared.commands.Command.TheVariants.{Show, Moves, Count, Games, Cooks, Check, Answer, Search, Judge, Why, Page, Upgrade}
 use Rattle.pg_cli.specs.declared.refusals.Refusal.{Refusal}
 
 -- the second and third letters of a name tell the command
@@ -13,7 +13,7 @@ key : Text → ℕ
 key t = slice_index t 1 * 256 + slice_index t 2
 
 of_key : ℕ → Command
-of_key n = cond (eqb n 26735) Show (cond (eqb n 28534) Moves (cond (eqb n 28533) Count (cond (eqb n 24941) Games (cond (eqb n 28527) Cooks (cond (eqb n 26725) Check (cond (eqb n 25953) Search (cond (eqb n 26745) Why (cond (eqb n 24935) Page Upgrade))))))))
+of_key n = cond (eqb n 26735) Show (cond (eqb n 28534) Moves (cond (eqb n 28533) Count (cond (eqb n 24941) Games (cond (eqb n 28527) Cooks (cond (eqb n 26725) Check (cond (eqb n 28275) Answer (cond (eqb n 25953) Search (cond (eqb n 30052) Judge (cond (eqb n 26745) Why (cond (eqb n 24935) Page Upgrade))))))))))
 
 told_back : (k : Command) → of_key (key (name_of k)) ≡ k
 unfolding of_key key
@@ -23,7 +23,9 @@ told_back Count = refl
 told_back Games = refl
 told_back Cooks = refl
 told_back Check = refl
+told_back Answer = refl
 told_back Search = refl
+told_back Judge = refl
 told_back Why = refl
 told_back Page = refl
 told_back Upgrade = refl

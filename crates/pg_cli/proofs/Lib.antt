@@ -4,3 +4,4 @@ pub mod CommandLemmas
 pub mod KnowingLemmas
 pub mod ShowLemmas
 pub mod WrittenLemmas
+mod JudgeLemmas

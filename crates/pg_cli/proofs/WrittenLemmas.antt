@@ -10,7 +10,11 @@ use Rattle.pg_streams.specs.Buffer.{sink_of}
 use Rattle.pg_streams.specs.declared.gathered.Gathered.{Gathered}
 use Rattle.pg_texts.specs.CountText.{IsCounted}
 use Rattle.pg_texts.specs.MovesText.{IsMovesText}
+use Rattle.pg_texts.specs.Report.{IsReport}
 use Rattle.pg_texts.specs.Spelled.{AreSpelled}
+use Rattle.pg_texts.specs.declared.verdict.Verdict.{Verdict}
+use Rattle.pg_checker.specs.Terms.{Terms}
+use Rattle.pg_report.specs.Answering.{IsReported}
 use Rattle.pg_report.specs.Showing.{IsShown}
 use Rattle.pg_cooks.specs.Cooks.{IsCookAnswer, IsCooksReport}
 use Rattle.pg_cooks.specs.declared.finding.CookAnswer.{CookAnswer}
@@ -38,6 +42,13 @@ module _ {W : Type 0} (held : W → Option (List ℕ)) (old mid new : Gathered W
       → OnOk result IsHanded → OnOk result (AddsSome Is (held_by held old) (held (sink_of new)))
   text_handed Is (Ok s) h k = some_handed Is h k
   text_handed Is (Err r) h k = tt
+
+  -- the report of the games that a certificate proves
+  pub answer_handed : (t : Terms) (d : Placement) (n : ℕ) (v : Verdict) (result : Result ℕ Refusal)
+      → IsReported t d n (held_by held old) (held_by held mid) v → OnOk result IsHanded
+      → OnOk result (IsReported t d n (held_by held old) (held (sink_of new)) v)
+  answer_handed t d n v (Ok s) h k = (h.0, h.1, h.2, some_handed (IsReport d n h.0.games) h.3 k)
+  answer_handed t d n v (Err r) h k = tt
 
   -- the legal moves of a position, and the number of games from it
   pub moves_handed : (text : List ℕ) → AddsMoves text (held_by held old) (held_by held mid) → IsHanded

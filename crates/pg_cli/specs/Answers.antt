@@ -1,12 +1,14 @@
 -- What the status of a check or a search says, where it comes with a report.
-use Rattle.std.specs.Prelude.{◌≡◌, ℕ, List, Ok}
+use Rattle.std.specs.Prelude.{◌≡◌, ℕ, List, Option, Ok}
 use Rattle.pg_board.specs.Placement.{Placement}
 use Rattle.pg_position.specs.declared.moves.Move.{Move}
 use Rattle.pg_fen.specs.Fields.{fields}
 use Rattle.pg_fen.specs.DiagramText.{diagram_of}
 use Rattle.pg_fen.specs.Lengths.{length_of}
 use Rattle.pg_checker.specs.Answer.{IsExactAnswer}
+use Rattle.pg_checker.specs.Terms.{Terms}
 use Rattle.pg_texts.specs.Report.{IsVerdict}
+use Rattle.pg_report.specs.Answering.{IsReported}
 use Rattle.pg_report.specs.Run.{AreSpelled}
 use Rattle.pg_report.specs.Statuses.{verdict_status}
 use Rattle.pg_texts.specs.declared.verdict.Verdict.{Verdict}
@@ -27,3 +29,16 @@ abbrev pub HasExactAnswer : List ℕ → List ℕ → Type 0
 HasExactAnswer diagram length =
     (d : Placement) × (n : ℕ) × (list : List (List Move)) × (diagram_of (fields diagram) ≡ Ok d)
     × (length_of length ≡ Ok n) × IsExactAnswer d n list
+
+-- games for which the known bytes are a certificate are the exact answer, their report
+-- is appended, and the status is that of their verdict
+abbrev pub IsHandedAnswer : Terms → Placement → ℕ → Option (List ℕ) → Option (List ℕ) → ℕ → Type 0
+IsHandedAnswer t d n before after status = (v : Verdict) × (status ≡ verdict_status v) × IsReported t d n before after v
+
+-- some list is the exact answer to a diagram and a length, with this status
+abbrev pub HasAnswer : Placement → ℕ → ℕ → Type 0
+HasAnswer d n status = (list : List (List Move)) × IsAnswered d n list status
+
+-- so it is for some diagram and some length
+abbrev pub IsAnsweredBySome : ℕ → Type 0
+IsAnsweredBySome status = (d : Placement) × (n : ℕ) × HasAnswer d n status

@@ -1,5 +1,5 @@
 -- Why a command has no status, as far as its words tell: which of them is refused, which file, or so it is for some bytes of it.
-use Rattle.std.specs.Prelude.{◌≡◌, ◌⊎◌, ℕ, ◌<◌, Bool, List, Option, Some, None, Ok, codes}
+use Rattle.std.specs.Prelude.{◌≡◌, ◌⊎◌, ℕ, ◌<◌, Bool, List, Option, Some, None, Ok, codes, length as length_of_list}
 use Rattle.clap.specs.Words.{Row, Text, first_of}
 use Rattle.clap.specs.declared.parser.matches.ArgMatches.{ArgMatches}
 use Rattle.pg_board.specs.Placement.{Placement}
@@ -9,6 +9,7 @@ use Rattle.pg_fen.specs.DiagramText.{diagram_of}
 use Rattle.pg_fen.specs.Lengths.{length_of}
 use Rattle.pg_searcher.specs.declared.fault.SearchFault.{SearchFault}
 use Rattle.pg_searcher.specs.declared.fault.SearchFault.TheVariants as search
+use Rattle.pg_checker.specs.Answer.{AreSolutions}
 use Rattle.pg_checker.specs.Cuts.{CheckRules}
 use Rattle.pg_checker.specs.ProblemText.{IsProblemFault}
 use Rattle.pg_checker.specs.Terms.{Terms}
@@ -20,7 +21,7 @@ use Rattle.pg_page.specs.declared.paging.Asked.{Asked as Shown}
 use Rattle.pg_files.specs.declared.faults.FileFault.{FileFault}
 use Rattle.pg_files.specs.declared.faults.Obstacle.TheVariants as obstacle
 use Rattle.pg_files.specs.declared.faults.FileFault.TheVariants as file
-use Rattle.pg_cli.specs.Reasons.{IsShowRefusal, IsShowWithinRefusal, IsMovesRefusal, IsCountRefusal, IsGamesRefusal, IsCooksRefusal, IsCheckRefusal, IsFoundRefusal, IsWhyRefusal, IsPageRefusal, IsUpgradeRefusal}
+use Rattle.pg_cli.specs.Reasons.{IsShowRefusal, IsShowWithinRefusal, IsMovesRefusal, IsCountRefusal, IsGamesRefusal, IsCooksRefusal, IsCheckRefusal, IsHeaderRefusal, IsAnswerRefusal, IsFoundRefusal, IsWhyRefusal, IsPageRefusal, IsUpgradeRefusal}
 use Rattle.pg_cli.specs.Refusals.{refusal_status}
 use Rattle.pg_cli.specs.Words.{spelled, name_of, IsStatus, IsSubcommand}
 use Rattle.pg_cli.specs.declared.checking.Asked.{Asked}
@@ -92,9 +93,11 @@ IsShowCause rows refusal = (failed : Bool)
     × IsBoardRefusal (spelled (codes "DIAGRAM") rows) (first_of (codes "LENGTH") rows) failed refusal
 
 -- ---- a list of games
--- the list would stand in the file of the certificate, which the word GAMES names too
+-- the list would stand in the file of the certificate: the word
+-- GAMES names it too, or the certificate is read from standard input
 abbrev pub IsNamedTwice : List Row → Refusal → Type 0
-IsNamedTwice rows refusal = (refusal ≡ Open named.Certificate obstacle.NamedTwice) × HasWord (codes "GAMES") rows
+IsNamedTwice rows refusal = (refusal ≡ Open named.Certificate obstacle.NamedTwice)
+    × (HasWord (codes "GAMES") rows ⊎ (spelled (codes "CERT") rows ≡ codes "-"))
 
 -- why there is no list: its file is not read; or, where somebody is to type it, the words are no problem
 abbrev pub IsListCause : List Row → Refusal → Type 0
@@ -123,6 +126,13 @@ abbrev pub IsCheckCause : Rules → List Row → Refusal → Type 0
 IsCheckCause rules rows refusal = (IsOfFile named.Certificate refusal ⊎ IsOtherListCause rows refusal)
     ⊎ ((asked : Asked) × (t : Terms) × (failed : Failures) × AreWords rows asked.diagram.now asked.length.now
     × (t.rules ≡ rules) × IsCheckRefusal t asked failed refusal)
+
+-- why `pg answer` has none: the certificate is not opened; its header names no
+-- problem; or so it is for the problem of a header and some bytes of a certificate
+abbrev pub IsAnswerCause : Rules → Refusal → Type 0
+IsAnswerCause rules refusal = (IsOfFile named.Certificate refusal ⊎ IsHeaderRefusal refusal)
+    ⊎ ((d : Placement) × (n : ℕ) × (t : Terms) × (any : Terms) × (failed : Failures) × (t.rules ≡ rules)
+    × IsAnswerRefusal t any d n failed refusal)
 
 -- why `pg why` has none: the certificate is not opened, or so it is for some bytes of one and the words
 abbrev pub IsWhyCause : Rules → List Row → Refusal → Type 0
@@ -154,15 +164,20 @@ abbrev pub IsGivenUp : ℕ → SearchFault → Type 0
 IsGivenUp n (search.Shorter fewer) = fewer < n
 IsGivenUp n fault = Unit {0}
 
--- a search for games of n plies gave up, or memory or a file was refused
-abbrev pub IsStopped : ℕ → Refusal → Type 0
-IsStopped n (Search search.Write) = Unit {0}
-IsStopped n (Search search.Memory) = Unit {0}
-IsStopped n (GaveUp fault known) = IsGivenUp n fault
-IsStopped n Read = Unit {0}
-IsStopped n Write = Unit {0}
-IsStopped n Memory = Unit {0}
-IsStopped n refusal = ⊥
+-- so many different games were met, each of n plies and ending on d
+abbrev pub AreMet : Placement → ℕ → Known → Type 0
+AreMet d n known = (list : List (List Move)) × AreSolutions d n list × (length_of_list list ≡ known.games)
+
+-- a search for games of n plies that end on d gave up, with games
+-- that it met, or memory or a file was refused
+abbrev pub IsStopped : Placement → ℕ → Refusal → Type 0
+IsStopped d n (Search search.Write) = Unit {0}
+IsStopped d n (Search search.Memory) = Unit {0}
+IsStopped d n (GaveUp fault known) = IsGivenUp n fault × AreMet d n known
+IsStopped d n Read = Unit {0}
+IsStopped d n Write = Unit {0}
+IsStopped d n Memory = Unit {0}
+IsStopped d n refusal = ⊥
 
 -- some games are not listed as solutions
 abbrev pub IsUnlisted : Placement → ℕ → Refusal → Type 0
@@ -172,7 +187,7 @@ IsUnlisted d n refusal = ⊥
 -- why a search for games of n plies that end on d has no status: it was stopped; or the games that it
 -- found are not listed as solutions; or the check of some bytes with such games does not say yes
 abbrev pub IsSearchRefusal : Rules → Placement → ℕ → Refusal → Type 0
-IsSearchRefusal rules d n refusal = IsStopped n refusal ⊎ (IsUnlisted d n refusal
+IsSearchRefusal rules d n refusal = IsStopped d n refusal ⊎ (IsUnlisted d n refusal
     ⊎ ((list : List (List Move)) × (t : Terms) × (failed : Failures) × (t.rules ≡ rules)
     × IsFoundRefusal d n list t failed refusal))
 
@@ -193,6 +208,12 @@ abbrev pub IsSearchCause : Rules → List Row → Refusal → Type 0
 IsSearchCause rules rows refusal = IsOfDrafts refusal ⊎ (IsOfProblem rows refusal
     ⊎ ((d : Placement) × (n : ℕ) × IsSpelled rows d n × IsSearchRefusal rules d n refusal))
 
+-- ---- a list of problems
+-- why `pg judge` has no status: the list is not read, a certificate is
+-- not begun or put in its place, or a row is not written
+abbrev pub IsJudgeCause : Refusal → Type 0
+IsJudgeCause refusal = IsOfFile named.Problems refusal ⊎ IsOfFile named.Folder refusal
+
 -- ---- the program
 -- why a command with these words has no status
 abbrev pub causes : Rules → Command → List Row → Refusal → Type 0
@@ -202,7 +223,9 @@ causes rules command.Count rows refusal = IsCountCause rows refusal
 causes rules command.Games rows refusal = IsGamesCause rows refusal
 causes rules command.Cooks rows refusal = IsCooksCause rows refusal
 causes rules command.Check rows refusal = IsCheckCause rules rows refusal
+causes rules command.Answer rows refusal = IsAnswerCause rules refusal
 causes rules command.Search rows refusal = IsSearchCause rules rows refusal
+causes rules command.Judge rows refusal = IsJudgeCause refusal
 causes rules command.Why rows refusal = IsWhyCause rules rows refusal
 causes rules command.Page rows refusal = IsPageCause rules rows refusal
 causes rules command.Upgrade rows refusal = IsUpgradeCause refusal

@@ -4,12 +4,16 @@ use Rattle.pg_board.specs.Placement.{Placement}
 use Rattle.pg_position.specs.declared.moves.Move.{Move}
 use Rattle.pg_searcher.specs.declared.fault.SearchFault.TheVariants.{TooManyGames}
 use Rattle.pg_checker.specs.Terms.{Terms}
+use Rattle.pg_checker.specs.declared.fault.RunFault.TheVariants.{Write as CheckWrite}
 use Rattle.pg_texts.specs.declared.fault.UpgradeFault.TheVariants.{Write as CopyWrite}
 use Rattle.pg_texts.specs.MovesText.{IsMovesFault}
 use Rattle.pg_texts.specs.CountText.{IsCountRunFault}
 use Rattle.pg_texts.specs.Upgrade.{IsUpgradeFault, upgrade_of}
 use Rattle.pg_report.specs.Showing.{IsShowFault, IsShowWithinFault}
+use Rattle.pg_report.specs.Answering.{IsUnreported}
+use Rattle.pg_report.specs.Naming.{IsUnnamed}
 use Rattle.pg_report.specs.Run.{Failures, IsCheckFault, IsRunFault}
+use Rattle.pg_report.specs.declared.fault.AnswerRunFault.TheVariants.{Write as ReportWrite}
 use Rattle.pg_cooks.specs.Known.{IsKnownFault}
 use Rattle.pg_cooks.specs.Cooks.{IsCooksRunFault}
 use Rattle.pg_cooks.specs.declared.asked.Asked.{Asked as Texts}
@@ -23,7 +27,7 @@ use Rattle.pg_page.specs.Page.{IsPageFault}
 use Rattle.pg_page.specs.declared.paging.Asked.{Asked as Shown}
 use Rattle.pg_cli.specs.declared.checking.Asked.{Asked}
 use Rattle.pg_cli.specs.declared.refusals.Refusal.{Refusal}
-use Rattle.pg_cli.specs.declared.refusals.Refusal.TheVariants.{NoGame, NotUtf8, Memory, Line as NoLine, Show, Moves, Count, Search, Upgrade, Check}
+use Rattle.pg_cli.specs.declared.refusals.Refusal.TheVariants.{NoGame, NotUtf8, Read, Memory, Line as NoLine, Show, Moves, Count, Search, Upgrade, Check, Answer}
 
 -- ---- a list of games
 -- the texts are those that are asked, and the bytes of the list are one of them
@@ -65,6 +69,18 @@ IsCheckRefusal t asked failed refusal = ⊥
 abbrev pub IsFoundRefusal : Placement → ℕ → List (List Move) → Terms → Failures → Refusal → Type 0
 IsFoundRefusal d n list t failed (Check fault) = IsCheckFault d n list t failed fault
 IsFoundRefusal d n list t failed refusal = ⊥
+
+-- for some bytes of a certificate its header names no problem, or its file is not read from its start again
+abbrev pub IsHeaderRefusal : Refusal → Type 0
+IsHeaderRefusal (Answer fault) = (known : Option (List ℕ)) × (failed : Bool) × IsUnnamed known failed fault
+IsHeaderRefusal Read = Unit {0}
+IsHeaderRefusal refusal = ⊥
+
+-- the certificate has no report of its games for this fault; or the rest of the report is refused
+abbrev pub IsAnswerRefusal : Terms → Terms → Placement → ℕ → Failures → Refusal → Type 0
+IsAnswerRefusal t any d n failed (Answer fault) = IsUnreported t any d n failed fault
+IsAnswerRefusal t any d n failed (Check CheckWrite) = IsUnreported t any d n failed ReportWrite
+IsAnswerRefusal t any d n failed refusal = ⊥
 
 -- the refusal that a fault of an explanation or of a page is
 abbrev pub why_refusal : WhyFault → Refusal

@@ -1,5 +1,5 @@
 -- What the words of a command spell, and what its status says of that.
-use Rattle.std.specs.Prelude.{◌≡◌, ◌⊎◌, ℕ, List, [], Ok, Some, IfSome, codes, option_map, unwrap_or}
+use Rattle.std.specs.Prelude.{◌≡◌, ◌⊎◌, ℕ, ◌<◌, List, [], Ok, Some, IfSome, codes, option_map, unwrap_or}
 use Rattle.clap.specs.Words.{Row, Text, first_of, subcommand_name_of, subcommand_rows_of}
 use Rattle.clap.specs.declared.parser.matches.ArgMatches.{ArgMatches}
 use Rattle.pg_board.specs.Placement.{Placement}
@@ -10,8 +10,8 @@ use Rattle.pg_fen.specs.DiagramText.{diagram_of}
 use Rattle.pg_fen.specs.Lengths.{length_of}
 use Rattle.pg_texts.specs.MovesText.{SpellsPosition}
 use Rattle.pg_cli.specs.declared.commands.Command.{Command}
-use Rattle.pg_cli.specs.declared.commands.Command.TheVariants.{Show, Moves, Count, Games, Cooks, Check, Search, Why, Page, Upgrade}
-use Rattle.pg_cli.specs.Answers.{IsAnswered, AreAnswered, HasExactAnswer}
+use Rattle.pg_cli.specs.declared.commands.Command.TheVariants.{Show, Moves, Count, Games, Cooks, Check, Answer, Search, Judge, Why, Page, Upgrade}
+use Rattle.pg_cli.specs.Answers.{IsAnswered, IsAnsweredBySome, AreAnswered, HasExactAnswer}
 use Rattle.pg_cli.specs.Knowing.{AreUnsound, AreTested, AreFollowed}
 
 -- the text of the word with this name; no text where there is none
@@ -74,7 +74,9 @@ name_of Count = codes "count"
 name_of Games = codes "games"
 name_of Cooks = codes "cooks"
 name_of Check = codes "check"
+name_of Answer = codes "answer"
 name_of Search = codes "search"
+name_of Judge = codes "judge"
 name_of Why = codes "why"
 name_of Page = codes "page"
 name_of Upgrade = codes "upgrade"
@@ -87,7 +89,9 @@ says Count rows status = HasPosition rows status
 says Games rows status = IsTested rows status
 says Cooks rows status = IsFollowed rows status
 says Check rows status = IsChecked rows status
+says Answer rows status = IsAnsweredBySome status
 says Search rows status = IsSearched rows status
+says Judge rows status = status < 3
 says Why rows status = IsExplained rows status
 says Page rows status = IsExplained rows status
 says Upgrade rows status = status ≡ 0

@@ -21,7 +21,7 @@ use crate::screen::Screen;
 use crate::spelling::text_of;
 use clap::ArgMatches;
 use pg_certificate::format::MOST_NAMED;
-use pg_files::{Obstacle, lead_to_one, list, open};
+use pg_files::{INPUT, Obstacle, is_input, lead_to_one, list, open};
 use pg_report::{
     Bound, Problem, Refused, RunFault, Sink, Source, ToWrite, run_check, verdict_status,
 };
@@ -116,8 +116,8 @@ fn ask_for_games<R: Runtime + AllocGlobal>(rt: &R, words: &ArgMatches<'_>) -> Re
     Ok(())
 }
 
-// The list of games, from a file or else from standard input. Where somebody is to type it, a bad diagram or
-// length is told before.
+// The list of games, from a file, or from standard input where its word is missing or `-`. Where somebody is to type it,
+// a bad diagram or length is told before.
 pub(crate) fn games_of<R: Runtime + AllocGlobal>(
     rt: &R,
     words: &ArgMatches<'_>,
@@ -125,20 +125,21 @@ pub(crate) fn games_of<R: Runtime + AllocGlobal>(
 ) -> Result<Vec<u8>, Refusal>
     ensures err { IfErr result (λ refusal. IsListCause (rows_of (found_of words.now)) refusal) }
 {
-    let path = words.get_str("GAMES");
-    if path.is_none() && screen.input {
+    let name = words.get_str("GAMES").unwrap_or(INPUT);
+    if is_input(name) && screen.input {
         match ask_for_games(rt, words) {
             Ok(()) => {}
             Err(refusal) => return Err(refusal),
         }
     }
-    match list(rt, path) {
+    match list(rt, name) {
         Ok(games) => Ok(games),
         Err(fault) => Err(Refusal::of_file(fault, Named::Games)),
     }
 }
 
-// The list of games, from a file that is not the certificate's, or else from standard input.
+// The list of games, from a file that is not the certificate's, or from standard input where the certificate is not read
+// from there.
 fn other_games_of<R: Runtime + AllocGlobal>(
     rt: &R,
     words: &ArgMatches<'_>,
@@ -146,10 +147,14 @@ fn other_games_of<R: Runtime + AllocGlobal>(
 ) -> Result<Vec<u8>, Refusal>
     ensures err { IfErr result (λ refusal. IsOtherListCause (rows_of (found_of words.now)) refusal) }
 {
-    if let Some(path) = words.get_str("GAMES") {
-        if lead_to_one(rt, text_of(words, "CERT"), path) {
+    let certificate = text_of(words, "CERT");
+    if let Some(name) = words.get_str("GAMES") {
+        if lead_to_one(rt, certificate, name) {
             return Err(Refusal::Open(Named::Certificate, Obstacle::NamedTwice));
         }
+    }
+    if is_input(certificate) && is_input(words.get_str("GAMES").unwrap_or(INPUT)) {
+        return Err(Refusal::Open(Named::Certificate, Obstacle::NamedTwice));
     }
     games_of(rt, words, screen)
 }
@@ -184,7 +189,7 @@ pub(crate) fn check<R: Runtime + AllocGlobal>(
         games: games.as_slice(),
     };
     let records = words.get_one::<u64>("records").unwrap_or(RECORDS);
-    let terminal = Terminal::new(screen.errors);
+    let terminal = Terminal::new(screen.lines);
     let mut source = watch_records(rt, &terminal, certificate, records);
     let mut out = Gathered::new(Cleared::new(ToWrite::new(io::writer(rt)), rt, &terminal));
     let answer = check_from(rt.alloc(), &asked, bounds, &mut source, &mut out, records);

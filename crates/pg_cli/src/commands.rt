@@ -17,8 +17,12 @@ pub(crate) enum Command {
     Cooks,
     /// A certificate is checked.
     Check,
+    /// A certificate gives its games.
+    Answer,
     /// A certificate is searched for, written and checked.
     Search,
+    /// The problems of a file are judged.
+    Judge,
     /// A certificate explains a line of moves.
     Why,
     /// A certificate is shown as a page.
@@ -39,7 +43,9 @@ impl Command {
             "games" => Some(Command::Games),
             "cooks" => Some(Command::Cooks),
             "check" => Some(Command::Check),
+            "answer" => Some(Command::Answer),
             "search" => Some(Command::Search),
+            "judge" => Some(Command::Judge),
             "why" => Some(Command::Why),
             "page" => Some(Command::Page),
             "upgrade" => Some(Command::Upgrade),

@@ -148,7 +148,7 @@ pub(crate) fn why<R: Runtime + AllocGlobal>(
         (rows_of (found_of words.now)) refusal) }
 {
     let records = words.get_one::<u64>("records").unwrap_or(RECORDS);
-    let terminal = Terminal::new(screen.errors);
+    let terminal = Terminal::new(screen.lines);
     let mut readings = match read_thrice(rt, &terminal, text_of(words, "CERT"), records) {
         Ok(readings) => readings,
         Err(fault) => return Err(Refusal::of_file(fault, Named::Certificate)),

@@ -1,25 +1,23 @@
 //! Second lines, on a terminal alone, behind the line that says why a command has no answer: what is wrong in a text or
 //! a file, and what to try. They take no part in any answer.
 
+use crate::lists::{tell_byte, tell_list, tell_misfit};
 use crate::refusals::{Known, Refusal};
 use crate::spelling::{say_journeys, text_of};
 use clap::ArgMatches;
-use pg_files::{first_bytes, list};
+use pg_fen::LengthFault;
+use pg_files::first_bytes;
 use pg_hints::{
-    Hint, is_fen_in_words, on_diagram, on_known, on_length, on_limit, on_move, packing_of,
+    Hint, is_fen_in_words, meant_by, on_diagram, on_known, on_length, on_limit, packing_of,
 };
 use pg_journeys::Journeys;
 use pg_report::{
-    CountRunFault, Fault, FenFault, GamesFault, MovesFault, RunFault, SearchFault, ShowFault,
-    UpgradeFault,
+    AnswerFault, AnswerRunFault, CountRunFault, Fault, FenFault, MovesFault, RunFault, SearchFault,
+    ShowFault, UpgradeFault,
 };
 use std::fmt::Display;
 use std::io::Eprint;
 use std::rt::Runtime;
-use std::{fs, str};
-
-// The file through which standard input may be read once more, where it is a plain one.
-const INPUT: &str = "/dev/stdin";
 
 // Says a line, where there is one.
 fn tell<R: Eprint>(rt: &R, hint: &Hint) {
@@ -42,24 +40,11 @@ fn tell_diagram<R: Runtime + AllocGlobal>(rt: &R, words: &ArgMatches<'_>, fault:
     tell(rt, &on_diagram(text, fault));
 }
 
-// Points to the word of a list, where that can be read again: MOVES, or a plain file.
-fn tell_move<R: Runtime + AllocGlobal>(rt: &R, words: &ArgMatches<'_>, line: usize, ply: usize) {
-    if let Some(moves) = words.get_str("MOVES") {
-        tell(rt, &on_move(rt.alloc(), moves, line, ply));
-        return;
-    }
-    let path = words.get_str("GAMES").unwrap_or(INPUT);
-    let is_plain = match fs::metadata(rt, path) {
-        Ok(found) => found.is_file(),
-        Err(_) => false,
-    };
-    if !is_plain {
-        return;
-    }
-    if let Ok(games) = list(rt, Some(path)) {
-        if let Ok(games) = str::from_utf8(games.as_slice()) {
-            tell(rt, &on_move(rt.alloc(), games, line, ply));
-        }
+// Says what a length is, and which one is meant where that is known.
+fn tell_length<R: Eprint>(rt: &R, words: &ArgMatches<'_>) {
+    let _ = eprintln!(rt; "pg: a length is in moves, as 2.0 or 2.5");
+    if let Some(length) = meant_by(text_of(words, "LENGTH")) {
+        tell(rt, &on_length(length.plies()));
     }
 }
 
@@ -90,23 +75,25 @@ fn tell_known<R: Eprint>(rt: &R, words: &ArgMatches<'_>, fault: &SearchFault, kn
     }
 }
 
+// Says what may be wrong with a certificate.
+fn tell_certificate<R: Runtime + AllocGlobal>(rt: &R, words: &ArgMatches<'_>, fault: &Fault) {
+    match fault {
+        Fault::Magic | Fault::Truncated => tell_packing(rt, text_of(words, "CERT")),
+        Fault::UnknownBound(Journeys::CODE) => {
+            let _ = eprintln!(rt; "pg: bound 5 is that by journeys: say --journeys");
+        }
+        _ => {}
+    }
+}
+
 // Points to what is wrong in a text of a check.
 fn tell_check<R: Runtime + AllocGlobal>(rt: &R, words: &ArgMatches<'_>, fault: &RunFault) {
     match fault {
         RunFault::Diagram(fault) => tell_diagram(rt, words, *fault),
-        RunFault::Games(
-            GamesFault::At {
-                line,
-                ply,
-                cause: _,
-            },
-        ) => tell_move(rt, words, *line, *ply),
-        RunFault::Check(Fault::Magic | Fault::Truncated) => {
-            tell_packing(rt, text_of(words, "CERT"))
-        }
-        RunFault::Check(Fault::UnknownBound(Journeys::CODE)) => {
-            let _ = eprintln!(rt; "pg: bound 5 is that by journeys: say --journeys");
-        }
+        RunFault::Length(LengthFault::Shape) => tell_length(rt, words),
+        RunFault::Games(fault) => tell_list(rt, words, fault),
+        RunFault::Check(Fault::Listed(fault)) => tell_misfit(rt, words, fault),
+        RunFault::Check(fault) => tell_certificate(rt, words, fault),
         _ => {}
     }
 }
@@ -119,7 +106,12 @@ pub(crate) fn advise<R: Runtime + AllocGlobal>(rt: &R, words: &ArgMatches<'_>, r
     match refusal {
         Refusal::Open(_, obstacle) => tell_value(rt, *obstacle),
         Refusal::GaveUp(fault, known) => tell_known(rt, words, fault, known),
+        Refusal::NotUtf8 => tell_byte(rt, words),
         Refusal::Check(fault) => tell_check(rt, words, fault),
+        Refusal::Answer(AnswerRunFault::Answer(AnswerFault::Check(fault))) => {
+            tell_certificate(rt, words, fault)
+        }
+        Refusal::Show(ShowFault::Length(LengthFault::Shape)) => tell_length(rt, words),
         Refusal::Show(ShowFault::Diagram(fault))
         | Refusal::Moves(MovesFault::Position(fault))
         | Refusal::Count(CountRunFault::Position(fault)) => tell_diagram(rt, words, *fault),

@@ -10,6 +10,7 @@ ghost use Rattle.pg_cli.specs.Words.{IsFollowed, IsTested};
 ghost use Rattle.pg_cli.specs.Written.{AddsOf, HasCooksReport};
 
 use crate::checking::{Asked, finished, games_of};
+use crate::limits::reach_of;
 use crate::refusals::Refusal;
 use crate::screen::Screen;
 use crate::spelling::text_of;
@@ -19,7 +20,7 @@ use pg_cooks::{
     run_games,
 };
 use pg_report::{Sink, ToWrite};
-use pg_streams::{Cleared, Gathered, LedLine, Terminal};
+use pg_streams::{Cleared, Deadline, Gathered, LedLine, Terminal, Timed};
 use std::alloc::Global;
 use std::rt::Runtime;
 use std::{io, str};
@@ -181,16 +182,18 @@ pub(crate) fn cooks<R: Runtime + AllocGlobal>(
         length,
         games: games.as_slice(),
     };
+    let reach = reach_of(words, NODES);
     let limits = LedLimits {
-        max_nodes: words.get_one::<u64>("nodes").unwrap_or(NODES),
+        max_nodes: reach.nodes,
         foreign: words
             .get_one::<u64>("foreign")
             .and_then(|d| u8::try_from(d).ok()),
     };
-    let terminal = Terminal::new(screen.errors);
-    let mut line = LedLine::new(rt, &terminal, limits.max_nodes);
+    let terminal = Terminal::new(screen.lines);
+    let line = LedLine::new(rt, &terminal, limits.max_nodes);
+    let mut timed = Timed::new(line, Deadline::new(rt, reach.milliseconds));
     let mut out = Gathered::new(Cleared::new(ToWrite::new(io::writer(rt)), rt, &terminal));
-    let answer = cooks_from(rt.alloc(), &asked, limits, &mut line, &mut out);
-    line.end();
+    let answer = cooks_from(rt.alloc(), &asked, limits, &mut timed, &mut out);
+    timed.line.end();
     answer
 }

@@ -1,8 +1,10 @@
 //! The program `pg`, the checker of shortest proof games: `pg show DIAGRAM [LENGTH]`, `pg moves FEN`, `pg count FEN
 //! PLIES`, `pg games DIAGRAM LENGTH [GAMES]`, `pg cooks DIAGRAM LENGTH GAMES [--nodes N] [--foreign D]`, `pg check
-//! DIAGRAM LENGTH CERT [GAMES] [--records N]`, `pg search DIAGRAM LENGTH CERT [--nodes N] [--games FILE]`, `pg why
-//! DIAGRAM LENGTH CERT MOVES [--records N]`, `pg page DIAGRAM LENGTH CERT [--records N] [--nodes K]` and `pg upgrade
-//! OLD NEW [--records N]`; `--journeys` stands behind `check`, `search`, `why` and `page`.
+//! DIAGRAM LENGTH CERT [GAMES] [--records N]`, `pg answer CERT [--records N]`, `pg search DIAGRAM LENGTH CERT [--nodes N]
+//! [--games FILE]`, `pg judge PROBLEMS [--certificates FOLDER] [--nodes N]`, `pg why DIAGRAM LENGTH CERT MOVES
+//! [--records N]`, `pg page DIAGRAM LENGTH CERT [--records N] [--nodes K]` and `pg upgrade OLD NEW [--records N]`;
+//! `--journeys` stands behind `check`, `answer`, `search`, `judge`, `why` and `page`, `--minutes M` behind `cooks`,
+//! `search` and `judge`.
 #![tactic(auto)]
 
 ghost use Rattle.std.specs.Prelude.{◌≡◌, ◌↔◌, List, IsTrue, IfOk, IfErr};
@@ -11,11 +13,15 @@ ghost use Rattle.pg_checker.specs.Cuts.{rules_by};
 ghost use Rattle.pg_cli.specs.Causes.{Ends, IsCause, Rules, causes};
 ghost use Rattle.pg_cli.specs.Words.{GoesByJourneys, IsStatus, IsSubcommand, says};
 
+mod answering;
 mod checking;
 mod commands;
 mod guiding;
 mod hints;
+mod judging;
 mod knowing;
+mod limits;
+mod lists;
 mod paging;
 mod positions;
 mod refusals;
@@ -24,10 +30,12 @@ mod searching;
 mod spelling;
 mod upgrading;
 
+use crate::answering::diagram_in;
 use crate::commands::Command;
 use crate::hints::{advise, advise_words};
+use crate::limits::are_minutes;
 use crate::refusals::{BAD_INPUT, DONE, NO_FILE, Refusal, refuse};
-use crate::screen::Screen;
+use crate::screen::{Screen, is_dumb};
 use crate::spelling::{say_journeys, text_of};
 use clap::ArgMatches;
 use clap::error::ErrorKind;
@@ -45,7 +53,7 @@ use std::rt::Runtime;
 use std::{env, io};
 
 // Does a command with its words and these bounds. A status of `check`, `search`, `why` or `page` means that a list is
-// the exact answer to the diagram and the length which the words spell, and 1 of `games` or `cooks` that no list of one
+// the exact answer to the diagram and the length which the words spell, one of `answer` that it is for some, and 1 of `games` or `cooks` that no list of one
 // game is. No command is inlined here: the frame of this call would hold what each of them needs, and lie below them
 // all.
 fn perform<R: Runtime + AllocGlobal>(
@@ -62,14 +70,16 @@ fn perform<R: Runtime + AllocGlobal>(
     match command {
         Command::Show => positions::show(rt, words, bounds),
         Command::Moves => positions::moves(rt, words),
-        Command::Count => positions::count(rt, words, screen.errors),
+        Command::Count => positions::count(rt, words, screen.lines),
         Command::Games => knowing::games(rt, words, screen),
         Command::Cooks => knowing::cooks(rt, words, screen),
         Command::Check => checking::check(rt, words, bounds, screen),
-        Command::Search => searching::search(rt, words, bounds, screen.errors),
+        Command::Answer => answering::answer(rt, words, bounds, screen.lines),
+        Command::Search => searching::search(rt, words, bounds, screen.lines),
+        Command::Judge => judging::judge(rt, words, screen),
         Command::Why => guiding::why(rt, words, bounds, screen),
-        Command::Page => paging::page(rt, words, bounds, screen.errors),
-        Command::Upgrade => upgrading::upgrade(rt, words, screen.errors),
+        Command::Page => paging::page(rt, words, bounds, screen.lines),
+        Command::Upgrade => upgrading::upgrade(rt, words, screen.lines),
     }
 }
 
@@ -126,11 +136,19 @@ fn lend<R: Runtime + AllocGlobal>(
     }
 }
 
-// The diagram that the words of a command spell, where they also name a certificate: the bounds are asked often then.
-fn diagram_of(words: &ArgMatches<'_>) -> Option<Diagram> {
+// The diagram of the words of a command that name a certificate: that which they spell, or else that of the header.
+fn diagram_for<R: Runtime + AllocGlobal>(rt: &R, words: &ArgMatches<'_>) -> Option<Diagram> {
+    let certificate = words.get_str("CERT")?;
+    match words.get_str("DIAGRAM") {
+        Some(text) => Diagram::read(text).ok(),
+        None => diagram_in(rt, certificate),
+    }
+}
+
+// The diagram about which the bounds are asked often, if the words have one.
+fn diagram_of<R: Runtime + AllocGlobal>(rt: &R, words: &ArgMatches<'_>) -> Option<Diagram> {
     let (_, inner) = words.subcommand()?;
-    inner.get_str("CERT")?;
-    Diagram::read(inner.get_str("DIAGRAM")?).ok()
+    diagram_for(rt, inner)
 }
 
 // What the bound by journeys knows beforehand of a diagram, if it is asked often; none where memory is refused.
@@ -167,7 +185,7 @@ fn run<R: Runtime + AllocGlobal>(
     let captures = Box::new(rt.alloc(), Captures)?;
     let promotions = Box::new(rt.alloc(), Promotions)?;
     let pawn_files = Box::new(rt.alloc(), PawnFiles)?;
-    let diagram = diagram_of(words);
+    let diagram = diagram_of(rt, words);
     let travel: Box<dyn Bound> = match &diagram {
         Some(diagram) => Box::new(
             rt.alloc(),
@@ -187,6 +205,21 @@ fn run<R: Runtime + AllocGlobal>(
         bounds.push(journeys)?;
     }
     Ok(lend(rt, words, bounds.as_slice(), screen))
+}
+
+// Does what the words of a command say, where a number of minutes among them is one, and gives the status.
+fn tried<R: Runtime + AllocGlobal>(
+    rt: &R,
+    words: &ArgMatches<'_>,
+    screen: Screen,
+) -> Result<u8, Refusal> {
+    if !are_minutes(words) {
+        return Err(Refusal::Minutes);
+    }
+    match run(rt, words, screen) {
+        Ok(status) => Ok(status),
+        Err(AllocError) => Err(Refusal::Memory),
+    }
 }
 
 // Says why the words are no command, or the help that they ask for, and gives the status.
@@ -210,9 +243,9 @@ fn obey<R: Runtime + AllocGlobal>(rt: &R, words: &[String], screen: Screen) -> u
         return refuse(rt, &Refusal::Memory, NO_FILE);
     };
     match command.try_get_matches_from(words) {
-        Ok(matches) => match run(rt, &matches, screen) {
+        Ok(matches) => match tried(rt, &matches, screen) {
             Ok(status) => status,
-            Err(AllocError) => refuse(rt, &Refusal::Memory, NO_FILE),
+            Err(refusal) => refuse(rt, &refusal, NO_FILE),
         },
         Err(error) => {
             let status = explain(rt, &error);
@@ -253,10 +286,12 @@ fn program<R: Runtime + AllocGlobal>(rt: &R, screen: Screen) -> u8 {
 }
 
 fn main(rt: HostRuntime) -> ExitCode {
+    let errors = rt.stderr().is_terminal();
     let screen = Screen {
         input: rt.stdin().is_terminal(),
         output: rt.stdout().is_terminal(),
-        errors: rt.stderr().is_terminal(),
+        errors,
+        lines: errors && !is_dumb(&rt),
     };
     ExitCode::from(program(&rt, screen))
 }

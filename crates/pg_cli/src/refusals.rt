@@ -5,9 +5,9 @@ ghost use Rattle.pg_cli.specs.Refusals.{refusal_status, file_status};
 
 use pg_files::{FileFault, FileName, Obstacle};
 use pg_report::{
-    CountRunFault, Fault, MovesFault, Refused, RunFault, SearchFault, ShowFault, Sink,
-    UpgradeFault, count_status, moves_status, search_status, show_status, status, upgrade_status,
-    write_movetext,
+    AnswerRunFault, CountRunFault, Fault, MovesFault, Refused, RunFault, SearchFault, ShowFault,
+    Sink, UpgradeFault, answer_status, count_status, moves_status, search_status, show_status,
+    status, upgrade_status, write_movetext,
 };
 use pg_streams::Gathered;
 use std::fmt::Write;
@@ -48,6 +48,10 @@ pub(crate) enum Named {
     Old,
     /// The copy.
     New,
+    /// The list of problems that are judged.
+    Problems,
+    /// The folder in which certificates stand.
+    Folder,
 }
 
 impl Named {
@@ -59,6 +63,8 @@ impl Named {
             Named::Kept => "games",
             Named::Old => "OLD",
             Named::New => "NEW",
+            Named::Problems => "PROBLEMS",
+            Named::Folder => "certificates",
         }
     }
 }
@@ -72,6 +78,9 @@ pub(crate) enum Refusal {
     /// A word of the command line is not UTF-8.
     #[error("a word of the command line is not UTF-8")]
     Words,
+    /// A number of minutes is none.
+    #[error("bad number of minutes")]
+    Minutes,
     /// A file cannot be opened, created or put in its place, or must not be written: which word names it, and what
     /// stands in the way. Its name stands behind the text.
     #[error("cannot open ")]
@@ -115,6 +124,9 @@ pub(crate) enum Refusal {
     /// The check has no report.
     #[error("{0}")]
     Check(RunFault),
+    /// A certificate has no report of its games.
+    #[error("{0}")]
+    Answer(AnswerRunFault),
 }
 
 impl Refusal {
@@ -141,6 +153,7 @@ impl Refusal {
         match self {
             Refusal::Open(_, _) | Refusal::Read | Refusal::Write => FILES,
             Refusal::Words | Refusal::Line | Refusal::NoGame | Refusal::NotUtf8 => BAD_INPUT,
+            Refusal::Minutes => BAD_INPUT,
             Refusal::Memory => MEMORY,
             Refusal::Show(fault) => show_status(fault),
             Refusal::Moves(fault) => moves_status(fault),
@@ -148,6 +161,7 @@ impl Refusal {
             Refusal::Search(fault) | Refusal::GaveUp(fault, _) => search_status(fault),
             Refusal::Upgrade(fault) => upgrade_status(fault),
             Refusal::Check(fault) => status(fault),
+            Refusal::Answer(fault) => answer_status(fault),
         }
     }
 }

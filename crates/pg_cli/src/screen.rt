@@ -1,9 +1,22 @@
 //! Which of the standard streams are terminals.
 
+use std::env;
+use std::rt::Runtime;
+
 // Whether the standard streams are terminals: somebody types the first and reads the others.
 #[derive(Clone, Copy)]
 pub(crate) struct Screen {
     pub(crate) input: bool,
     pub(crate) output: bool,
     pub(crate) errors: bool,
+    /// Whether that of errors understands escape sequences, so that a line on it can be taken away.
+    pub(crate) lines: bool,
+}
+
+// Whether the terminal is said to understand no escape sequences.
+pub(crate) fn is_dumb<R: Runtime + AllocGlobal>(rt: &R) -> bool {
+    match env::var(rt, "TERM") {
+        Ok(name) => name.as_str() == "dumb",
+        Err(_) => false,
+    }
 }

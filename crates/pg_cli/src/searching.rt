@@ -10,25 +10,26 @@ ghost use Rattle.pg_texts.specs.Report.{IsReport};
 ghost use Rattle.clap.specs.Words.{found_of, rows_of};
 ghost use Rattle.pg_report.specs.Run.{failures};
 ghost use Rattle.pg_cli.specs.Answers.{IsAnswered};
-ghost use Rattle.pg_cli.specs.Causes.{IsGivenUp, IsOfDrafts, IsOfFile, IsSearchCause, IsSearchRefusal, Rules};
+ghost use Rattle.pg_cli.specs.Causes.{AreMet, IsGivenUp, IsOfDrafts, IsOfFile, IsSearchCause, IsSearchRefusal, Rules};
 ghost use Rattle.pg_cli.specs.Causes.{WantsList, WantsNoList, search_refusal};
 ghost use Rattle.pg_cli.specs.Reasons.{IsFoundRefusal};
 ghost use Rattle.pg_cli.specs.Words.{IsSearched};
 
 use crate::checking::{RECORDS, finished};
+use crate::limits::{Reach, reach_of};
 use crate::refusals::{Known, Named, Refusal};
 use crate::spelling::text_of;
 use clap::ArgMatches;
 use pg_certificate::format::MOST_NAMED;
 use pg_cooks::{standing_on, write_solutions};
-use pg_files::{Draft, Obstacle, begin, stand_at_one};
+use pg_files::{Draft, Obstacle, begin, begin_apart, stand_at_one};
 use pg_journeys::Journeys;
 use pg_report::{
     Bound, Fault, Games, Problem, Refused, RunFault, SearchFault, SearchProgress, Sink, Source,
     ToWrite, run_listed, search_watched, verdict_status,
 };
 use pg_searcher::search_by_journeys;
-use pg_streams::{Cleared, Gathered, Kept, SearchLine, Terminal, watch_records};
+use pg_streams::{Cleared, Deadline, Gathered, Kept, SearchLine, Terminal, Timed, watch_records};
 use std::alloc::Global;
 use std::io;
 use std::io::{Read, Seek, SeekFrom, Write};
@@ -84,25 +85,28 @@ pub(crate) fn search_to<R: Runtime + AllocGlobal, W: Write + Drop>(
     problem: &Problem,
     bounds: &[Box<dyn Bound>],
     certificate: W,
-    nodes: u64,
+    reach: Reach,
     terminal: &Terminal,
 ) -> Result<Searched, Refusal>
     ensures found { IfOk result (λ searched. IfErr searched.found (λ fault. IsGivenUp problem.now.length fault)) }
+    ensures met { IfOk result (λ searched. AreMet problem.now.diagram problem.now.length searched.known) }
     ensures err { (rules : Rules) → IfErr result (λ refusal.
         IsSearchRefusal rules problem.now.diagram problem.now.length refusal) }
 {
     let mut sink = ToWrite::new(certificate);
+    let nodes = reach.nodes;
     let line = SearchLine::new(rt, terminal, nodes);
-    let mut kept = Kept::new(rt.alloc(), line, nodes);
+    let timed = Timed::new(line, Deadline::new(rt, reach.milliseconds));
+    let mut kept = Kept::new(rt.alloc(), timed, nodes);
     let found = found_by(rt.alloc(), problem, bounds, nodes, &mut sink, &mut kept);
     let Kept {
-        mut line,
+        line: mut timed,
         games,
         is_short,
         tree,
         left,
     } = kept;
-    line.end();
+    timed.line.end();
     if is_short {
         return Err(Refusal::Memory);
     }
@@ -219,7 +223,7 @@ pub(crate) fn search_in<R, F, W>(
     drafts: &mut Drafts<F>,
     terminal: &Terminal,
     out: &mut Gathered<W>,
-    nodes: u64,
+    reach: Reach,
 ) -> Result<u8, Refusal>
 where
     R: Runtime + AllocGlobal,
@@ -233,7 +237,7 @@ where
         problem.now.diagram problem.now.length refusal) }
 {
     let certificate = &mut drafts.certificate.file;
-    let searched = match search_to(rt, problem, bounds, certificate, nodes, terminal) {
+    let searched = match search_to(rt, problem, bounds, certificate, reach, terminal) {
         Ok(searched) => searched,
         Err(refusal) => return Err(refusal),
     };
@@ -249,7 +253,7 @@ where
     if drafts.certificate.file.seek(SeekFrom::Start(0)).is_err() {
         return Err(Refusal::Read);
     }
-    let records = records_for(nodes);
+    let records = records_for(reach.nodes);
     let mut source = watch_records(rt, terminal, &mut drafts.certificate.file, records);
     let answer = check_found(
         rt.alloc(),
@@ -264,6 +268,24 @@ where
     answer
 }
 
+// Begins the file of the certificate, whose draft is not where the list is to stand, if the words want one.
+fn begin_certificate<R: Runtime + AllocGlobal>(
+    rt: &R,
+    words: &ArgMatches<'_>,
+) -> Result<Draft<R::File>, Refusal>
+    ensures err { IfErr result (λ refusal. IsOfFile Named.Certificate refusal) }
+{
+    let name = text_of(words, "CERT");
+    let begun = match words.get_str("games") {
+        Some(list) => begin_apart(rt, name, list),
+        None => begin(rt, name),
+    };
+    match begun {
+        Ok(draft) => Ok(draft),
+        Err(fault) => Err(Refusal::of_file(fault, Named::Certificate)),
+    }
+}
+
 // Begins the file of the list that the words want, if they want one, whose place is not that of the certificate.
 fn begin_list<R: Runtime + AllocGlobal>(
     rt: &R,
@@ -276,10 +298,11 @@ fn begin_list<R: Runtime + AllocGlobal>(
         Some(path) => path,
         None => return Ok(None),
     };
-    if stand_at_one(rt, text_of(words, "CERT"), path) {
+    let certificate = text_of(words, "CERT");
+    if stand_at_one(rt, certificate, path) {
         return Err(Refusal::Open(Named::Kept, Obstacle::NamedTwice));
     }
-    match begin(rt, path) {
+    match begin_apart(rt, path, certificate) {
         Ok(draft) => Ok(Some(draft)),
         Err(fault) => Err(Refusal::of_file(fault, Named::Kept)),
     }
@@ -292,9 +315,9 @@ fn begin_both<R: Runtime + AllocGlobal>(
 ) -> Result<Drafts<R::File>, Refusal>
     ensures err { IfErr result (λ refusal. IsOfDrafts refusal) }
 {
-    let certificate = match begin(rt, text_of(words, "CERT")) {
+    let certificate = match begin_certificate(rt, words) {
         Ok(draft) => draft,
-        Err(fault) => return Err(Refusal::of_file(fault, Named::Certificate)),
+        Err(refusal) => return Err(refusal),
     };
     match begin_list(rt, words) {
         Ok(list) => Ok(Drafts { certificate, list }),
@@ -334,14 +357,22 @@ fn put_both<R: Runtime + AllocGlobal>(rt: &R, drafts: Drafts<R::File>) -> Result
     }
 }
 
+// Whether a search gave up and had met games.
+fn has_games(refusal: &Refusal) -> bool {
+    match refusal {
+        Refusal::GaveUp(_, known) => known.games > 0,
+        _ => false,
+    }
+}
+
 // Ends a search that has no report: the certificate is taken away, and the list put in its place where the search gave
-// up.
+// up and has games for it.
 fn end_both<R: Runtime + AllocGlobal>(rt: &R, drafts: Drafts<R::File>, refusal: Refusal) -> Refusal
     ensures { (result ≡ refusal) ⊎ IsOfFile Named.Kept result }
 {
     let Drafts { certificate, list } = drafts;
     certificate.discard(rt);
-    if matches!(&refusal, Refusal::GaveUp(_, _)) {
+    if has_games(&refusal) {
         return match put_list(rt, list) {
             Ok(()) => refusal,
             Err(other) => other,
@@ -355,7 +386,7 @@ fn end_both<R: Runtime + AllocGlobal>(rt: &R, drafts: Drafts<R::File>, refusal: 
 
 // Searches for the games of a problem: the certificate is written beside its place, checked from there and put in its
 // place once the report stands on standard output. Else it is taken away, and what stood there is as it was. So is the
-// list that the words may want, but a search that gives up puts it there too.
+// list that the words may want, but a search that gives up puts it there too, if it met a game.
 fn search_for<R: Runtime + AllocGlobal>(
     rt: &R,
     words: &ArgMatches<'_>,
@@ -368,14 +399,14 @@ fn search_for<R: Runtime + AllocGlobal>(
     ensures err { IfErr result (λ refusal. IsOfDrafts refusal ⊎ IsSearchRefusal (rules_by code_of excluded bounds.now)
         problem.now.diagram problem.now.length refusal) }
 {
-    let nodes = words.get_one::<u64>("nodes").unwrap_or(NODES);
+    let reach = reach_of(words, NODES);
     let mut drafts = match begin_both(rt, words) {
         Ok(drafts) => drafts,
         Err(refusal) => return Err(refusal),
     };
     let terminal = Terminal::new(screen);
     let mut out = Gathered::new(Cleared::new(ToWrite::new(io::writer(rt)), rt, &terminal));
-    match search_in(rt, problem, bounds, &mut drafts, &terminal, &mut out, nodes) {
+    match search_in(rt, problem, bounds, &mut drafts, &terminal, &mut out, reach) {
         Ok(status) => match put_both(rt, drafts) {
             Ok(()) => Ok(status),
             Err(refusal) => Err(refusal),

@@ -4,7 +4,8 @@ ghost use Rattle.std.specs.Prelude.{◌≡◌, ◌≤◌, IsTrue};
 ghost use Rattle.std.specs.List.{list_all};
 ghost use Rattle.std.specs.Str.{all_ascii_digits};
 ghost use Rattle.std.specs.Char.{is_ascii_digit};
-ghost use Rattle.pg_fen.specs.DetailText.{side_of, is_right, count_letter, no_letter_twice, are_rights, rights_in, rights_of, passed_of, is_number, number_of, details_of};
+ghost use Rattle.pg_fen.specs.DetailText.{side_of, is_right, count_letter, no_letter_twice, are_rights, rights_in};
+ghost use Rattle.pg_fen.specs.DetailText.{rights_of, passed_of, is_number, number_of, details_of};
 
 use crate::fault::FenFault;
 use crate::fields::DetailFields;

@@ -1,7 +1,8 @@
 //! Writing the five fields behind the placement, each after a space.
 ghost use Rattle.std.specs.Prelude.{◌≡◌, ◌+◌, ◌++◌, ◌<◌, ◌≤◌, ◌^◌, length};
 ghost use Rattle.std.specs.Fmt.{decimal};
-ghost use Rattle.pg_fen.specs.PositionWriting.{side_text, right_text, right_letters, rights_text, passed_text, spaced, details_text};
+ghost use Rattle.pg_fen.specs.PositionWriting.{side_text, right_text, right_letters, rights_text, passed_text, spaced};
+ghost use Rattle.pg_fen.specs.PositionWriting.{details_text};
 
 use crate::details::Details;
 use crate::text::{digits, put};

@@ -3,8 +3,10 @@ ghost use Rattle.std.specs.Prelude.{◌≡◌, ◌+◌, ◌++◌, ◌<◌, ◌�
 ghost use Rattle.std.specs.List.{slice_split, list_all, count_by};
 ghost use Rattle.pg_board.specs.Men.{king_of};
 ghost use Rattle.pg_board.specs.Tally.{count_of, tally};
-ghost use Rattle.pg_fen.specs.PlacementText.{is_run, width_of, is_eight_wide, ranks_fit, is_slash, is_letter, letters_fit, seen_at};
-ghost use Rattle.pg_fen.specs.PlacementText.{placed, has_kings, is_edge, is_edge_pawn, has_no_edge_pawn, read_placement};
+ghost use Rattle.pg_fen.specs.PlacementText.{is_run, width_of, is_eight_wide, ranks_fit, is_slash, is_letter};
+ghost use Rattle.pg_fen.specs.PlacementText.{letters_fit, seen_at};
+ghost use Rattle.pg_fen.specs.PlacementText.{placed, has_kings, is_edge, is_edge_pawn, has_no_edge_pawn};
+ghost use Rattle.pg_fen.specs.PlacementText.{read_placement};
 
 use crate::fault::FenFault;
 use crate::letters::man_of;

@@ -15,6 +15,8 @@ pub enum Obstacle {
     NoName,
     /// It is no plain file: a folder, a pipe, a socket or a device.
     NotPlain,
+    /// It is `-`, standard input, where a file is to be written.
+    Input,
     /// The program prints to it.
     PrintedTo,
     /// Another word of the same command names this file.
@@ -40,6 +42,7 @@ impl Display for Obstacle {
             Obstacle::Unknown => f.write_str("the system gives no reason"),
             Obstacle::NoName => f.write_str("it is no name of a file"),
             Obstacle::NotPlain => f.write_str("it is no plain file"),
+            Obstacle::Input => f.write_str("it is standard input, which is not written"),
             Obstacle::PrintedTo => f.write_str("the program prints to it"),
             Obstacle::NamedTwice => f.write_str("another word names this file"),
             Obstacle::Drafts => f.write_str("1000 drafts that runs have left stand beside it"),

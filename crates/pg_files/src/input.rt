@@ -1,6 +1,8 @@
 //! Files that are read, and lists of games, read whole.
 
 use crate::faults::{FileFault, Obstacle};
+use crate::names::{is_input, path_of};
+use either::{Either, Left, Right};
 use std::alloc::Global;
 use std::fs;
 use std::fs::File;
@@ -10,33 +12,48 @@ use std::rt::Files;
 /// The longest list that is read: 16,777,216 bytes.
 pub const MOST_BYTES: usize = 16_777_216;
 
-/// The file of this name, to be read.
-///
-/// # Errors
-/// `Open` where it cannot be opened.
-pub fn open<R: Files + AllocGlobal>(rt: &R, path: &str) -> Result<R::File, FileFault> {
+// The file of this path, to be read.
+fn open_path<R: Files>(rt: &R, path: &str) -> Result<R::File, FileFault> {
     match File::open(rt, path) {
         Ok(file) => Ok(file),
         Err(fault) => Err(FileFault::Open(Obstacle::of(&fault))),
     }
 }
 
-/// The plain file of this name, to be read, also more than once.
+/// The file of this name, to be read, or standard input where the name is `-`.
+///
+/// # Errors
+/// `Open` where it cannot be opened, or is a folder.
+pub fn open<R: Files + Input + AllocGlobal>(
+    rt: &R,
+    name: &str,
+) -> Result<Either<R::File, R::Reader>, FileFault> {
+    if is_input(name) {
+        return Ok(Right(rt.reader()));
+    }
+    match fs::metadata(rt, name) {
+        Ok(found) if found.is_dir() => Err(FileFault::Open(Obstacle::NotPlain)),
+        _ => Ok(Left(open_path(rt, name)?)),
+    }
+}
+
+/// The plain file of this name, to be read, also more than once; or that of standard input where the name is `-`.
 ///
 /// # Errors
 /// `Open` where it cannot be opened, or where it is no plain file: a folder, a pipe, a socket or a device.
-pub fn open_plain<R: Files + AllocGlobal>(rt: &R, path: &str) -> Result<R::File, FileFault> {
+pub fn open_plain<R: Files + AllocGlobal>(rt: &R, name: &str) -> Result<R::File, FileFault> {
+    let path = path_of(name);
     match fs::metadata(rt, path) {
-        Ok(found) if found.is_file() => open(rt, path),
+        Ok(found) if found.is_file() => open_path(rt, path),
         Ok(_) => Err(FileFault::Open(Obstacle::NotPlain)),
         Err(fault) => Err(FileFault::Open(Obstacle::of(&fault))),
     }
 }
 
 /// The first six bytes of a plain file, where it can be read; bytes that it lacks are 0.
-pub fn first_bytes<R: Files + AllocGlobal>(rt: &R, path: &str) -> [u8; 6] {
+pub fn first_bytes<R: Files + AllocGlobal>(rt: &R, name: &str) -> [u8; 6] {
     let mut bytes = [0u8; 6];
-    if let Ok(mut file) = open_plain(rt, path) {
+    if let Ok(mut file) = open_plain(rt, name) {
         let _ = file.read(&mut bytes);
     }
     bytes
@@ -73,13 +90,10 @@ pub fn read_all<R: Read>(alloc: Global, reader: &mut R) -> Result<Vec<u8>, FileF
     Err(FileFault::Read)
 }
 
-/// The bytes of a list of games, from a file or else from standard input.
-pub fn list<R: Files + Input + AllocGlobal>(
-    rt: &R,
-    path: Option<&str>,
-) -> Result<Vec<u8>, FileFault> {
-    match path {
-        Some(path) => read_all(rt.alloc(), &mut open(rt, path)?),
-        None => read_all(rt.alloc(), &mut rt.reader()),
-    }
+/// The bytes of a list of games, from the file of this name, or from standard input where the name is `-`.
+///
+/// # Errors
+/// Those of `open` and of `read_all`.
+pub fn list<R: Files + Input + AllocGlobal>(rt: &R, name: &str) -> Result<Vec<u8>, FileFault> {
+    read_all(rt.alloc(), &mut open(rt, name)?)
 }

@@ -8,5 +8,5 @@ mod writing;
 
 pub use faults::{FileFault, Obstacle};
 pub use input::{MOST_BYTES, first_bytes, list, open, open_plain, read_all};
-pub use names::FileName;
-pub use writing::{Draft, begin, lead_to_one, stand_at_one};
+pub use names::{FileName, INPUT, is_input};
+pub use writing::{Draft, begin, begin_apart, lead_to_one, stand_at_one};

@@ -1,8 +1,10 @@
 //! Files that are written beside their place, and put there when they are whole.
-ghost use Rattle.std.specs.Prelude.{◌≤◌, length};
+ghost use Rattle.std.specs.Prelude.{◌≢◌, ◌≤◌, IfOk, length};
 ghost use Rattle.std.specs.Io.{StartsWith};
+ghost use Rattle.pg_files.specs.Drafts.{name_of_draft};
 
 use crate::faults::{FileFault, Obstacle};
+use crate::names::{is_input, path_of};
 use std::alloc::Global;
 use std::fs;
 use std::fs::{File, Metadata, OpenFile, Permissions};
@@ -25,9 +27,12 @@ fn is_same(one: &Metadata, other: &Metadata) -> bool {
     one.dev() == other.dev() && one.ino() == other.ino()
 }
 
-/// Whether two names lead to one plain file.
+/// Whether two names lead to one plain file. The name `-` leads to standard input.
 pub fn lead_to_one<R: Files>(rt: &R, one: &str, other: &str) -> bool {
-    match (fs::metadata(rt, one), fs::metadata(rt, other)) {
+    match (
+        fs::metadata(rt, path_of(one)),
+        fs::metadata(rt, path_of(other)),
+    ) {
         (Ok(one), Ok(other)) => one.is_file() && is_same(&one, &other),
         _ => false,
     }
@@ -94,6 +99,9 @@ fn place_of_old<R: Files + AllocGlobal>(rt: &R, name: &str) -> Result<Place, Fil
 
 // The place of a file with this name.
 fn place_of<R: Files + AllocGlobal>(rt: &R, name: &str) -> Result<Place, FileFault> {
+    if is_input(name) {
+        return Err(FileFault::Open(Obstacle::Input));
+    }
     match fs::symlink_metadata(rt, name) {
         Ok(_) => place_of_old(rt, name),
         Err(fault) if fault.kind() == ErrorKind::NotFound => {
@@ -172,14 +180,23 @@ pub struct Draft<F> {
     path: String,
 }
 
-// Makes a new file in the folder of a place.
-fn make_beside<R: Files + AllocGlobal>(rt: &R, place: Place) -> Result<Draft<R::File>, FileFault> {
+// Makes a new file in the folder of a place, which does not stand where a file of the other name would.
+fn make_beside<R: Files + AllocGlobal>(
+    rt: &R,
+    place: Place,
+    other: &str,
+) -> Result<Draft<R::File>, FileFault>
+    ensures apart { IfOk result (λ draft. name_of_draft draft ≢ other.now) }
+{
     let folder = folder_of(place.path.as_str());
     let name = front_of(name_of(place.path.as_str()));
     for number in 0..NAMES {
         let Ok(path) = format!(in rt.alloc(); "{folder}.{name}.pg-part-{number}") else {
             return Err(FileFault::Memory);
         };
+        if path.as_str() == other || stand_at_one(rt, path.as_str(), other) {
+            continue;
+        }
         match File::create_new(rt, path.as_str()) {
             Ok(file) => {
                 return Ok(Draft { file, place, path });
@@ -198,8 +215,23 @@ fn make_beside<R: Files + AllocGlobal>(rt: &R, place: Place) -> Result<Draft<R::
 /// that file, where it must not be written, where its folder takes no file, or where 1,000 drafts of it stand
 /// there, which runs have left; `Memory` where a growth is refused.
 pub fn begin<R: Files + AllocGlobal>(rt: &R, name: &str) -> Result<Draft<R::File>, FileFault> {
+    begin_apart(rt, name, "")
+}
+
+/// Begins a file of this name likewise, but not where a file of the other name stands or would be put: the next number
+/// is taken then.
+///
+/// # Errors
+/// Those of `begin`.
+pub fn begin_apart<R: Files + AllocGlobal>(
+    rt: &R,
+    name: &str,
+    other: &str,
+) -> Result<Draft<R::File>, FileFault>
+    ensures apart { IfOk result (λ draft. name_of_draft draft ≢ other.now) }
+{
     let place = place_of(rt, name)?;
-    make_beside(rt, place)
+    make_beside(rt, place, other)
 }
 
 impl<F: OpenFile + Drop> Draft<F> {

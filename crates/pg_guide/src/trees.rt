@@ -1,12 +1,15 @@
 //! A walk over the trees of a certificate, with a stack of open nodes.
-ghost use Rattle.std.specs.Prelude.{◌≡◌, ◌↔◌, Bool, [], true, length, IsTrue, List, IfErr, IfNone, IfOk, IfSome, OnErr, OnOk, MatchOption};
+ghost use Rattle.std.specs.Prelude.{◌≡◌, ◌↔◌, Bool, [], true, length, IsTrue, List, IfErr, IfNone, IfOk, IfSome, OnErr};
+ghost use Rattle.std.specs.Prelude.{OnOk, MatchOption};
 ghost use Rattle.std.specs.Io.KnownBytes.{IsAtEnd};
 ghost use Rattle.pg_certificate.specs.Reader.{to_come};
 ghost use Rattle.pg_checker.specs.Passing.{LeadsTo};
 ghost use Rattle.pg_moves.specs.Moves.{IsLast};
 ghost use Rattle.pg_position.specs.Step.{IsLegal};
-ghost use Rattle.pg_guide.specs.Trees.{BreaksTruly, broken_of, HasNoHeader, IsBegun, HasNoRecord, IsStuck, IsTaken, IsEntered, IsRooted, IsCounted};
-ghost use Rattle.pg_guide.specs.Trees.{OnTop, OnTopIfAny, HasNoChild, IsNextChild, Closes, number_taken, next_number, games_with};
+ghost use Rattle.pg_guide.specs.Trees.{BreaksTruly, broken_of, HasNoHeader, IsBegun, HasNoRecord, IsStuck, IsTaken};
+ghost use Rattle.pg_guide.specs.Trees.{IsEntered, IsRooted, IsCounted};
+ghost use Rattle.pg_guide.specs.Trees.{OnTop, OnTopIfAny, HasNoChild, IsNextChild, Closes, number_taken, next_number};
+ghost use Rattle.pg_guide.specs.Trees.{games_with};
 ghost use Rattle.pg_guide.specs.Trees.{Advances, IsEnteredBy, IsNextBareChild};
 ghost use Rattle.pg_certificate.specs.Spelling.{record_of, PricesStay};
 ghost use Rattle.pg_certificate.specs.declared.record.Record.TheVariants as Record;

@@ -1,2 +1,4 @@
 pub mod FenLemmas
+mod LineLemmas
+mod MeantLemmas
 mod PlaceLemmas

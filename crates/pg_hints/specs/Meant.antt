@@ -1,5 +1,5 @@
 -- What is meant by a text that is no length.
-use Rattle.std.specs.Prelude.{◌≡◌, ◌⊎◌, ℕ, List, ◌++◌, Ok, codes}
+use Rattle.std.specs.Prelude.{◌≡◌, ◌≤◌, ◌⊎◌, ℕ, List, ◌++◌, Ok, codes}
 use Rattle.std.specs.Str.Parse.{IsNumeral, digits_value, without_leading_plus}
 use Rattle.pg_fen.specs.Lengths.{length_of}
 
@@ -13,9 +13,9 @@ HasComma text n =
 abbrev pub IsNumber : List ℕ → ℕ → Type 0
 IsNumber digits n = IsNumeral 10 (without_leading_plus digits) × (digits_value 10 (without_leading_plus digits) ≡ n)
 
--- n plies are counted
+-- n plies are counted, no more than the longest length has
 abbrev pub CountsPlies : List ℕ → ℕ → Type 0
-CountsPlies text n = (number : List ℕ) × (text ≡ number ++ codes " plies") × IsNumber number n
+CountsPlies text n = (number : List ℕ) × (text ≡ number ++ codes " plies") × IsNumber number n × (n ≤ 128)
 
 -- dots stand behind a length of n plies
 abbrev pub HasDots : List ℕ → ℕ → Type 0

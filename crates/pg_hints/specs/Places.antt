@@ -1,5 +1,5 @@
 -- Where something stands in a list of games: a game by its line, a byte by its line and its place there.
-use Rattle.std.specs.Prelude.{◌≡◌, ℕ, ◌+◌, List, [], ◌∷◌, ◌++◌, length, take, Option, Some, None, if◌then◌else◌}
+use Rattle.std.specs.Prelude.{◌≡◌, ℕ, ◌+◌, ◌<◌, List, [], ◌∷◌, ◌++◌, length, take, Option, Some, None, if◌then◌else◌}
 use Rattle.std.specs.Borrow.{Bor}
 use Rattle.std.specs.List.{slice_split, fold}
 use Rattle.std.specs.Str.{IsValidUpTo}
@@ -33,9 +33,18 @@ pub record IsLine (text : List ℕ) (number : ℕ) (line : List ℕ) : Type 0 wh
 abbrev pub IsGameAt : List ℕ → ℕ → List Move → Type 0
 IsGameAt text number game = (line : List ℕ) × IsLine text number line × IsListing line (game ∷ [])
 
--- two lines are one game
-abbrev pub AreAlike : List ℕ → ℕ → ℕ → Type 0
-AreAlike text one other = (game : List Move) × IsGameAt text one game × IsGameAt text other game
+-- the line with this number is the first that is this game
+pub record IsFirstAt (text : List ℕ) (number : ℕ) (game : List Move) : Type 0 where
+  pub is : IsGameAt text number game
+  pub first : (n : ℕ) → n < number → ¬ IsGameAt text n game
+
+-- one line is a game, and another is the first that is this game
+abbrev pub IsFirstLike : List ℕ → ℕ → ℕ → Type 0
+IsFirstLike text one first = (game : List Move) × IsGameAt text one game × IsFirstAt text first game
+
+-- some line is a game
+abbrev pub HasGame : List ℕ → Type 0
+HasGame text = (number : ℕ) × (game : List Move) × IsGameAt text number game
 
 -- ---- bytes
 -- the place behind one more byte: a line feed ends a line

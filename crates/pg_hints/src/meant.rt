@@ -1,36 +1,40 @@
 //! What is meant by a text that is no length.
-ghost use Rattle.std.specs.Prelude.{◌≡◌, ◌++◌, IfSome, Ok, codes};
+ghost use Rattle.std.specs.Prelude.{◌≡◌, ◌≤◌, ◌++◌, ◌↔◌, ℕ, Ok, Some, codes};
 ghost use Rattle.pg_fen.specs.Lengths.{length_of};
 ghost use Rattle.pg_hints.specs.Meant.{IsMeant, IsNumber};
 
-use arrayvec::ArrayString;
+use crate::strangers::is_digits;
 use pg_fen::Length;
 
 // The length of so many moves with a dot behind them, and this behind the dot.
 fn with_dot(moves: &str, half: &str) -> Option<Length>
-    ensures { IfSome result (λ plies. length_of (moves.now ++ codes "." ++ half.now) ≡ Ok plies) }
+    ensures { (n : ℕ) → (result ≡ Some n) ↔ (length_of (moves.now ++ codes "." ++ half.now) ≡ Ok n) }
 {
-    let mut text = ArrayString::<16>::new();
-    text.try_push_str(moves).ok()?;
-    text.try_push_str(".").ok()?;
-    text.try_push_str(half).ok()?;
-    Length::read(text.as_str()).ok()
-}
-
-// The length of so many plies.
-fn of_plies(number: &str) -> Option<Length>
-    ensures { IfSome result (λ plies. IsNumber number.now plies) }
-{
-    let Ok(plies) = number.parse::<u8>() else {
+    if !is_digits(moves) {
         return None;
-    };
-    Length::from_plies(plies)
+    }
+    let whole = Length::read(moves).ok()?;
+    match half {
+        "0" => Some(whole),
+        "5" => Length::from_plies(whole.plies() + 1),
+        _ => None,
+    }
 }
 
-/// The length that is meant by a text that is none: a comma stands for the dot, as in `2,0`; the plies are counted, as
-/// in `8 plies`; or dots stand behind the moves, as in `4...`. None where it is not known what is meant.
+// The length of so many plies; none of more than 128.
+fn of_plies(number: &str) -> Option<Length>
+    ensures { (n : ℕ) → (result ≡ Some n) ↔ IsNumber number.now n × (n ≤ 128) }
+{
+    match number.parse::<u8>() {
+        Ok(plies) => Length::from_plies(plies),
+        Err(_) => None,
+    }
+}
+
+/// The one length that is meant by a text that is none: a comma stands for the dot, as in `2,0`; the plies are counted,
+/// as in `8 plies`; or dots stand behind the moves, as in `4...`. None where no length is meant so.
 pub fn meant_by(text: &str) -> Option<Length>
-    ensures { IfSome result (λ plies. IsMeant text.now plies) }
+    ensures { (n : ℕ) → (result ≡ Some n) ↔ IsMeant text.now n }
 {
     if let Some((moves, half)) = text.split_once(',') {
         return with_dot(moves, half);

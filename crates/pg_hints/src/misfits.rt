@@ -1,14 +1,17 @@
 //! A game of a list that is no solution: on which line it stands, how long it is, and where it ends.
-ghost use Rattle.std.specs.Prelude.{IfSome};
+ghost use Rattle.std.specs.Prelude.{◌≤◌, IfOk, List, MatchOption, OnErr, length};
+ghost use Rattle.pg_position.specs.declared.moves.Move.{Move};
 ghost use Rattle.pg_position.specs.Array.{array_state};
 ghost use Rattle.pg_position.specs.Game.{IsGame};
+ghost use Rattle.pg_san.specs.Games.{IsFromArray};
+ghost use Rattle.pg_san.specs.Listing.{IsListing};
 ghost use Rattle.pg_hints.specs.Misfits.{IsMisfit};
+ghost use Rattle.pg_hints.specs.Places.{HasGame};
 
-use crate::places::line_of;
+use crate::places::{games_of, line_of};
 use pg_fen::Diagram;
 use pg_position::{Move, Position};
-use pg_san::read_games;
-use std::alloc::Global;
+use std::alloc::{AllocError, Global};
 
 /// A game of a list: the number of its line, from 1, its plies, and the diagram on which it ends.
 #[derive(Clone, Copy, Debug)]
@@ -18,33 +21,43 @@ pub struct Misfit {
     pub end: Diagram,
 }
 
-// The last position of a game from the initial array; none where a move is not legal.
-fn end_of(game: &[Move]) -> Option<Position>
-    ensures { IfSome result (λ end. IsGame array_state game.now end) }
+// The last position of a game from the initial array.
+fn end_of(game: &[Move]) -> Position
+    requires { IsFromArray game.now }
+    ensures { IsGame array_state game.now result }
 {
     let mut position = Position::array();
     for m in game {
-        match position.play(*m) {
-            Ok(next) => position = next,
-            Err(_) => return None,
-        }
+        position = position.after(m);
     }
-    Some(position)
+    position
 }
 
-/// The game of a list with this index, counted from 0 in canonical order. None where the list is refused or has no such
-/// game, or where memory is refused, which is taken from `alloc`.
-pub fn misfit_of(alloc: Global, list: &str, at: usize) -> Option<Misfit>
-    ensures { IfSome result (λ found. IsMisfit list.now at found) }
+/// The game of a list with this index, counted from 0 in canonical order; none where the list is refused or has no more
+/// games than that.
+///
+/// # Errors
+/// Memory is refused, which is taken from `alloc`, for a line that is a game.
+pub fn misfit_of(alloc: Global, list: &str, at: usize) -> Result<Option<Misfit>, AllocError>
+    ensures ok { IfOk result (λ found. MatchOption found
+        ((games : List (List Move)) → IsListing list.now games → length games ≤ at)
+        (λ found. IsMisfit list.now at found)) }
+    ensures err { OnErr result (HasGame list.now) }
 {
-    let Ok(games) = read_games(alloc, list) else {
-        return None;
+    let Some(games) = games_of(alloc, list)? else {
+        return Ok(None);
     };
-    let game = games.game(at)?;
-    let end = end_of(game)?;
-    Some(Misfit {
-        line: line_of(alloc, list, game)?,
-        plies: game.len(),
-        end: Diagram::of(&end),
-    })
+    // A fact for the proof: its games are games from the initial array.
+    games.len();
+    let Some(game) = games.game(at) else {
+        return Ok(None);
+    };
+    match line_of(alloc, list, game)? {
+        Some(line) => Ok(Some(Misfit {
+            line,
+            plies: game.len(),
+            end: Diagram::of(&end_of(game)),
+        })),
+        None => Ok(None),
+    }
 }

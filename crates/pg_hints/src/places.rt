@@ -1,13 +1,16 @@
 //! Where something stands in a list: a game by its line, a byte that is no text by its line and its place there.
-ghost use Rattle.std.specs.Prelude.{◌≡◌, ◌≤◌, ◌<◌, ◌+◌, ◌^◌, ◌∷◌, IfSome, IsTrue, MatchOption, [], length};
+ghost use Rattle.std.specs.Prelude.{◌≡◌, ◌≤◌, ◌<◌, ◌+◌, ◌^◌, ◌∷◌, ◌↔◌, ℕ, List, [], length};
+ghost use Rattle.std.specs.Prelude.{IfOk, IsTrue, MatchOption, OnErr};
 ghost use Rattle.std.specs.Str.{IsUtf8};
-ghost use Rattle.pg_san.specs.Listing.{IsListing};
-ghost use Rattle.pg_hints.specs.Places.{AreAlike, IsBadAt, IsGameAt, IsLine, length_left, next_place, pieces, pieces_left};
-ghost use Rattle.pg_hints.specs.Places.{place_behind};
+ghost use Rattle.pg_position.specs.declared.moves.Move.{Move};
+ghost use Rattle.pg_san.specs.Listing.{IsListing, IsTextFault};
+ghost use Rattle.pg_san.specs.declared.listing_fault.GamesFault.{GamesFault};
+ghost use Rattle.pg_hints.specs.Places.{HasGame, IsBadAt, IsFirstAt, IsFirstLike, IsGameAt, IsLine};
+ghost use Rattle.pg_hints.specs.Places.{length_left, next_place, pieces, pieces_left, place_behind};
 
 use pg_position::Move;
-use pg_san::read_games;
-use std::alloc::Global;
+use pg_san::{Games, GamesFault, read_games};
+use std::alloc::{AllocError, Global};
 use std::str;
 
 /// A place in a text: the line, and the byte in it, counted from 1.
@@ -28,9 +31,11 @@ fn first_line(text: &str) -> (&str, Option<&str>)
     }
 }
 
-// The line with this number, counted from 1; none where the text has fewer.
-fn line_at(text: &str, number: usize) -> Option<&str>
-    ensures { IfSome result (λ line. IsLine text.now number line.now) }
+// The line with this number, counted from 1; none where there is none.
+pub(crate) fn line_at(text: &str, number: usize) -> Option<&str>
+    ensures { MatchOption result
+        ((line : List ℕ) → ¬ IsLine text.now number line)
+        (λ line. IsLine text.now number line.now) }
 {
     let mut at = 0usize;
     let mut rest = Some(text);
@@ -45,47 +50,83 @@ fn line_at(text: &str, number: usize) -> Option<&str>
     None
 }
 
-// Whether a line that is read by itself is this game.
-fn is_game(alloc: Global, line: &str, game: &[Move]) -> bool
-    ensures { IsTrue result → IsListing line.now (game.now ∷ []) }
+// The games of a text; none where it lists none. Memory is refused only for a line that is a game.
+pub(crate) fn games_of(alloc: Global, text: &str) -> Result<Option<Games>, AllocError>
+    ensures ok { IfOk result (λ found. MatchOption found
+        ((games : List (List Move)) → ¬ IsListing text.now games)
+        (λ games. IsListing text.now games)) }
+    ensures err { OnErr result (HasGame text.now) }
 {
-    match read_games(alloc, line) {
-        Ok(games) => games.len() == 1 && games.contains(game),
-        Err(_) => false,
+    match read_games(alloc, text) {
+        Ok(games) => Ok(Some(games)),
+        Err(fault) => match fault {
+            GamesFault::Memory => Err(AllocError),
+            _ => Ok(None),
+        },
     }
 }
 
-/// The number, from 1, of the first line of a list that is this game, where one is. None too where memory is refused,
-/// which is taken from `alloc`.
-pub fn line_of(alloc: Global, list: &str, game: &[Move]) -> Option<usize>
-    ensures { IfSome result (λ line. IsGameAt list.now line game.now) }
+// Whether a line that is read by itself is this game.
+fn is_game(alloc: Global, line: &str, game: &[Move]) -> Result<bool, AllocError>
+    ensures ok { IfOk result (λ is. IsTrue is ↔ IsListing line.now (game.now ∷ [])) }
+    ensures err { OnErr result (HasGame line.now) }
+{
+    let Some(games) = games_of(alloc, line)? else {
+        return Ok(false);
+    };
+    if games.len() != 1 {
+        return Ok(false);
+    }
+    Ok(games.contains(game))
+}
+
+/// The number, from 1, of the first line of a list that is this game; none where no line is.
+///
+/// # Errors
+/// Memory is refused, which is taken from `alloc`, for a line that is a game.
+pub fn line_of(alloc: Global, list: &str, game: &[Move]) -> Result<Option<usize>, AllocError>
+    ensures ok { IfOk result (λ found. MatchOption found
+        ((n : ℕ) → ¬ IsGameAt list.now n game.now)
+        (λ line. IsFirstAt list.now line game.now)) }
+    ensures err { OnErr result (HasGame list.now) }
 {
     let mut number = 0usize;
     let mut rest = Some(list);
     while let Some(left) = rest {
         let (line, more) = first_line(left);
         number += 1;
-        if is_game(alloc, line, game) {
-            return Some(number);
+        if is_game(alloc, line, game)? {
+            return Ok(Some(number));
         }
         rest = more;
     }
-    None
+    Ok(None)
 }
 
-/// The number, from 1, of the first line of a list that is the game of the line with this number. None where that is no
-/// game, or where memory is refused, which is taken from `alloc`.
-pub fn line_like(alloc: Global, list: &str, line: usize) -> Option<usize>
-    ensures { IfSome result (λ first. AreAlike list.now line first) }
+/// The number, from 1, of the first line of a list that is the game of the line with this number; none where that is no
+/// game.
+///
+/// # Errors
+/// Memory is refused, which is taken from `alloc`, for a line that is a game.
+pub fn line_like(alloc: Global, list: &str, line: usize) -> Result<Option<usize>, AllocError>
+    ensures ok { IfOk result (λ found. MatchOption found
+        ((game : List Move) → ¬ IsGameAt list.now line game)
+        (λ first. IsFirstLike list.now line first)) }
+    ensures err { OnErr result (HasGame list.now) }
 {
-    let text = line_at(list, line)?;
-    let Ok(games) = read_games(alloc, text) else {
-        return None;
+    let Some(text) = line_at(list, line) else {
+        return Ok(None);
+    };
+    let Some(games) = games_of(alloc, text)? else {
+        return Ok(None);
     };
     if games.len() != 1 {
-        return None;
+        return Ok(None);
     }
-    line_of(alloc, list, games.game(0)?)
+    let Some(game) = games.game(0) else {
+        return Ok(None);
+    };
+    line_of(alloc, list, game)
 }
 
 // The place behind one more byte. Lines and bytes are counted from 0.

@@ -1,4 +1,7 @@
 //! Words that stand beside moves elsewhere, and are none here.
+ghost use Rattle.std.specs.Prelude.{◌≡◌};
+ghost use Rattle.std.specs.Char.{is_ascii_digit};
+ghost use Rattle.std.specs.List.{list_all};
 
 // What moves begin with that name a man, and castling.
 const LETTERS: &str = "KQRBNSO";
@@ -9,8 +12,10 @@ fn is_result(word: &str) -> bool {
 }
 
 // Whether a word is digits alone.
-fn is_number(word: &str) -> bool {
-    word.bytes().all(|byte| byte.is_ascii_digit())
+pub(crate) fn is_digits(word: &str) -> bool
+    ensures { result ≡ list_all is_ascii_digit word.now }
+{
+    word.as_bytes().iter().all(|byte| byte.is_ascii_digit())
 }
 
 // Whether a word that begins with this letter may name a man as another language does, or a pawn: a capital letter, and
@@ -39,7 +44,7 @@ pub(crate) fn sentence_on(word: &str) -> Option<&'static str> {
     if is_result(word) {
         return Some("results are not read; leave it out");
     }
-    if is_number(word) {
+    if is_digits(word) {
         return Some("a move number has a dot behind it");
     }
     match word.chars().next() {

@@ -9,8 +9,8 @@ use pg_captures::Bound;
 use pg_fen::Diagram;
 use pg_position::Position;
 
-/// The bound by journeys, code 5, for many positions and one diagram: it excludes what `Journeys` does, for any diagram,
-/// and is sooner for the one that its paths are made of.
+/// The bound by journeys, code 5, for many positions and one diagram: it excludes what `Journeys` does, for any
+/// diagram, and is sooner for the one that its paths are made of.
 #[derive(Drop)]
 pub struct JourneysByAims {
     pub aims: FirstAims,

@@ -12,7 +12,8 @@ ghost use Rattle.pg_journeys.specs.inner.Reached.{IsReach};
 ghost use Rattle.pg_journeys.specs.inner.Showing.{IsMeasured};
 ghost use Rattle.pg_journeys.specs.inner.Sides.{facts_of, IsSide, IsEnd, AreAims, AreRooms};
 ghost use Rattle.pg_journeys.specs.inner.Deeds.{AreDeeds};
-ghost use Rattle.pg_journeys.specs.inner.Narrowed.{IsInBoth, AreEnds, TakesTo, TakesToSome, StandsBy, FallsBy, ComesBy, TakesBack, ComesBack, ChangesBy, IsFull};
+ghost use Rattle.pg_journeys.specs.inner.Narrowed.{IsInBoth, AreEnds, TakesTo, TakesToSome, StandsBy, FallsBy, ComesBy};
+ghost use Rattle.pg_journeys.specs.inner.Narrowed.{TakesBack, ComesBack, ChangesBy, IsFull};
 
 use crate::plans::{Aims, Side, Walker, aim_within, man_of, passed_square};
 use crate::rings::{Reach, Runner, reach_of, stands_within, takes_within};

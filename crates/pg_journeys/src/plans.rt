@@ -1,5 +1,6 @@
 //! Plans of a colour: what the fates of its men count, and which ways its plies pay for.
-ghost use Rattle.std.specs.Prelude.{◌≡◌, ℕ, Bool, Some, None, false, ◌+◌, ◌-◌, ◌<◌, ◌≤◌, ◌↔◌, IsTrue, IfSome, IfNone, true, get_or};
+ghost use Rattle.std.specs.Prelude.{◌≡◌, ℕ, Bool, Some, None, false, ◌+◌, ◌-◌, ◌<◌, ◌≤◌, ◌↔◌, IsTrue, IfSome, IfNone};
+ghost use Rattle.std.specs.Prelude.{true, get_or};
 ghost use Rattle.pg_board.specs.Bits.{has};
 ghost use Rattle.pg_board.specs.declared.man.Kind.{Kind as KindOfMan};
 ghost use Rattle.pg_board.specs.Men.{number_of_kind, other};
@@ -12,10 +13,12 @@ ghost use Rattle.pg_journeys.specs.Known.{known, landing};
 ghost use Rattle.pg_journeys.specs.inner.Grounds.{IsGround};
 ghost use Rattle.pg_journeys.specs.inner.Levels.{BackWithin};
 ghost use Rattle.pg_journeys.specs.inner.Rings.{AreRings, AreWithin};
-ghost use Rattle.pg_journeys.specs.inner.Costing.{IsOnSpan, InRing, IsCountTo, IsFall, IsCostRow, AreCostRows, AreCostsOf, HasTotalTo, walker_of, MayBeIn};
+ghost use Rattle.pg_journeys.specs.inner.Costing.{IsOnSpan, InRing, IsCountTo, IsFall, IsCostRow, AreCostRows};
+ghost use Rattle.pg_journeys.specs.inner.Costing.{AreCostsOf, HasTotalTo, walker_of, MayBeIn};
 ghost use Rattle.pg_journeys.specs.declared.plans.Side.{Side as SideOf};
 ghost use Rattle.pg_journeys.specs.inner.Showing.{IsMeasured};
-ghost use Rattle.pg_journeys.specs.inner.Sides.{facts_of, AreMen, IsSide, IsLike, IsEnd, EndWithin, AreAims, JourneysOf, IsPaidBy};
+ghost use Rattle.pg_journeys.specs.inner.Sides.{facts_of, AreMen, IsSide, IsLike, IsEnd, EndWithin, AreAims};
+ghost use Rattle.pg_journeys.specs.inner.Sides.{JourneysOf, IsPaidBy};
 
 use crate::facts::Facts;
 use crate::fronts::only;
@@ -52,7 +55,8 @@ pub(crate) struct Walker {
 // The men whom the paths to an end lead to be, for each side of this ground and these men of the diagram.
 fn end_goals(ground: &Ground, goals: &Men, e: usize) -> [SquareSet; 6]
     requires { (b : Placement) × AreMen b ground.now.color goals.now }
-    ensures { (x : SideOf) → IsLike x ground.now goals.now → IsEnd x e → (quiet : Bool) (n : ℕ) (k : KindOfMan) (s : ℕ) →
+    ensures { (x : SideOf) → IsLike x ground.now goals.now → IsEnd x e →
+        (quiet : Bool) (n : ℕ) (k : KindOfMan) (s : ℕ) →
         BackWithin (known ground.now.facts) ground.now.color quiet result n k s ↔ EndWithin x quiet e n k s }
 {
     if e < goals.count {

@@ -1,5 +1,6 @@
 //! What the plans of a colour show under facts: who may change, where captures land and where men are captured.
-ghost use Rattle.std.specs.Prelude.{◌≡◌, ℕ, ◌<◌, ◌≤◌, ◌↔◌, IsTrue, IfSome, IfNone, MatchOption, Option, Some, List, [], ◌∷◌, get_or, true, false, All};
+ghost use Rattle.std.specs.Prelude.{◌≡◌, ℕ, ◌<◌, ◌≤◌, ◌↔◌, IsTrue, IfSome, IfNone, MatchOption, Option, Some, List, []};
+ghost use Rattle.std.specs.Prelude.{◌∷◌, get_or, true, false, All};
 ghost use Rattle.pg_board.specs.SquareSets.{IsSetOf};
 ghost use Rattle.pg_board.specs.Placement.{Placement};
 ghost use Rattle.pg_board.specs.Bits.{has};
@@ -15,7 +16,8 @@ ghost use Rattle.pg_journeys.specs.inner.Grounds.{HasSteps};
 ghost use Rattle.pg_journeys.specs.inner.Knowing.{IsKnown};
 ghost use Rattle.pg_journeys.specs.inner.Resting.{AreResting, lifted, lifted_from};
 ghost use Rattle.pg_journeys.specs.inner.Sides.{facts_of, square_at, AreAims, IsSide};
-ghost use Rattle.pg_journeys.specs.inner.Showing.{MayChange, IsMeasured, IsOneMeasure, IsBudget, AreBudgets, IsShownBy, ShowsNone, ShowsWay, IsJoined, ShowsAmong, IsDead, Shows};
+ghost use Rattle.pg_journeys.specs.inner.Showing.{MayChange, IsMeasured, IsOneMeasure, IsBudget, AreBudgets, IsShownBy};
+ghost use Rattle.pg_journeys.specs.inner.Showing.{ShowsNone, ShowsWay, IsJoined, ShowsAmong, IsDead, Shows};
 
 use crate::facts::Facts;
 use crate::ground::{ground_of, steps_table};
@@ -279,7 +281,8 @@ pub(crate) fn side_of(
 ) -> Side
     requires steps { HasSteps facts.now.still table.now }
     requires few { men color any_man (lifted position.now.board resting) ≤ 16 }
-    requires room { men color any_man (lifted diagram.now resting) ≤ men color any_man (lifted position.now.board resting) }
+    requires room { men color any_man (lifted diagram.now resting)
+        ≤ men color any_man (lifted position.now.board resting) }
     ensures side { IsSide (lifted diagram.now resting) result }
     ensures position { result.position ≡ lifted_from position.now resting }
     ensures facts { result.ground.facts ≡ facts.now }
@@ -369,8 +372,8 @@ fn some_quietly_paid(side: &Side, quiet: &Measured<'_>) -> bool
     is_quietly_paid(side, quiet, Some(Wing::QueenSide))
 }
 
-// What the plans of a side show by two measures. Where a side has no way alive it is mostly quiet moves that tell it, so
-// they come first.
+// What the plans of a side show by two measures. Where a side has no way alive it is mostly quiet moves that tell it,
+// so they come first.
 #[inline(never)]
 fn shown_by_two(side: &Side, most: u8, fewest: u8) -> Option<Shown>
     requires side { (d : Placement) × IsSide d side.now }

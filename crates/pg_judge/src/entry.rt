@@ -1,5 +1,6 @@
 //! A line of a file of problems.
-ghost use Rattle.std.specs.Prelude.{◌≡◌, ◌↔◌, ◌<◌, ℕ, List, ◌∷◌, length, IsTrue, IfOk, IfErr, IfSome, IfNone, MatchOption, Ok, Some, slice_get};
+ghost use Rattle.std.specs.Prelude.{◌≡◌, ◌↔◌, ◌<◌, ℕ, List, ◌∷◌, length, IsTrue, IfOk, IfErr, IfSome, IfNone};
+ghost use Rattle.std.specs.Prelude.{MatchOption, Ok, Some, slice_get};
 ghost use Rattle.std.specs.List.{list_all};
 ghost use Rattle.pg_fen.specs.Fields.{fields};
 ghost use Rattle.pg_fen.specs.DiagramText.{diagram_of};
@@ -10,10 +11,9 @@ ghost use Rattle.pg_judge.specs.Entries.{Begins, IsEntry, IsEntryFault, IsGamesF
 ghost use Rattle.pg_judge.specs.Entries.{IsSkipped, is_name_byte};
 
 use crate::entry_fault::EntryFault;
-use crate::words::next_word;
 use pg_checker::Problem;
 use pg_fen::{Diagram, Length};
-use pg_san::{Games, read_games};
+use pg_san::{Games, next_word, read_games};
 use std::alloc::Global;
 use std::str;
 
@@ -173,8 +173,8 @@ fn read_named<'a>(alloc: Global, name: &'a [u8], rest: &[u8]) -> Result<Entry<'a
 /// The problem that a line spells: words parted by spaces and tabs, of which the first is its name, the second a
 /// diagram (the placement field of FEN; the PGN standard, section 16.1), and the third a length in moves such as
 /// `18.5`; what stands behind them is the author's game, as `read_games` reads a line, or nothing. The name has letters
-/// and digits of ASCII, hyphens, underscores and dots, and begins with no dot, so that it is fit for the name of a file.
-/// None where the line has no words, or where its first word begins with `#`. The games are taken from `alloc`.
+/// and digits of ASCII, hyphens, underscores and dots, and begins with no dot, so that it is fit for the name of a
+/// file. None where the line has no words, or where its first word begins with `#`. The games are taken from `alloc`.
 ///
 /// # Errors
 /// In this order: `Name` where the first word is no name; `Short` where there are fewer than three words; `NotUtf8`

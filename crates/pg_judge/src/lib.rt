@@ -1,4 +1,5 @@
-//! The problems of a tourney, one after the other: a line is read, the problem is judged, and a row says what was found.
+//! The problems of a tourney, one after the other: a line is read, the problem is judged, and a row says what was
+//! found.
 #![tactic(auto)]
 
 mod entry;
@@ -7,7 +8,6 @@ mod given;
 mod judging;
 mod leading;
 mod limits;
-mod lines;
 mod met;
 mod progress;
 mod rechecking;
@@ -16,14 +16,12 @@ mod ruling;
 mod scratch;
 mod searching;
 mod shorter;
-mod words;
 
 pub use entry::{Entry, read_entry};
 pub use entry_fault::EntryFault;
 pub use given::{Given, given_to};
 pub use judging::judge;
 pub use limits::Limits;
-pub use lines::next_line;
 pub use progress::{Effort, JudgeProgress};
 pub use rechecking::recheck;
 pub use rows::write_row;

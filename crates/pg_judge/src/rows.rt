@@ -318,11 +318,11 @@ fn append_row<W: Sink>(
 }
 
 /// Writes the row of a problem, of what is found of it and by what, and of whether a certificate that stood there was
-/// refused. The columns, with a tab between two of them: the name; the length; `sound`, `cooked`, `no game`, `not sound`
-/// or `not settled`; `-` where no game is given, `solves` where the author's game does, `fails` where it does not; by
-/// what it was found, as `search, 67036 nodes`, `journeys, 3033 nodes`, `cooks, 211 nodes` or `certificate, 67037
-/// records`, and `, old certificate refused`; and last the game, of more than one their number and the first two, the
-/// other game, the shorter one, or what is known where nothing is settled. Takes no memory.
+/// refused. The columns, with a tab between two of them: the name; the length; `sound`, `cooked`, `no game`, `not
+/// sound` or `not settled`; `-` where no game is given, `solves` where the author's game does, `fails` where it does
+/// not; by what it was found, as `search, 67036 nodes`, `journeys, 3033 nodes`, `cooks, 211 nodes` or `certificate,
+/// 67037 records`, and `, old certificate refused`; and last the game, of more than one their number and the first two,
+/// the other game, the shorter one, or what is known where nothing is settled. Takes no memory.
 ///
 /// # Errors
 /// `Write` where the sink has failed.

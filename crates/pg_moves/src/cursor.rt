@@ -2,7 +2,8 @@
 ghost use Rattle.std.specs.Prelude.{◌≡◌, ℕ, ◌<◌, true, None, Some, MatchOption, IfSome, IfNone};
 ghost use Rattle.pg_board.specs.Bits.{has};
 ghost use Rattle.pg_board.specs.SquareSets.{IsSetOf, HasNoneFrom, IsLastIn};
-ghost use Rattle.pg_moves.specs.Left.{IsPeeked, IsTurn, IsHandedOut, IsManDone, IsNextOfMan, IsRest, IsRestOf, IsOneByOne, men_from, to_square};
+ghost use Rattle.pg_moves.specs.Left.{IsPeeked, IsTurn, IsHandedOut, IsManDone, IsNextOfMan, IsRest, IsRestOf};
+ghost use Rattle.pg_moves.specs.Left.{IsOneByOne, men_from, to_square};
 ghost use Rattle.pg_moves.specs.inner.Men.{AreMen, AreToCome};
 ghost use Rattle.pg_moves.specs.inner.Sources.{IsToldSource};
 ghost use Rattle.pg_moves.specs.Moves.{IsNext, IsLast};

@@ -7,7 +7,8 @@ ghost use Rattle.pg_position.specs.Attack.{AttacksFrom, Reaches};
 ghost use Rattle.pg_position.specs.Position.{Stands};
 ghost use Rattle.pg_moves.specs.Targets.{IsOrdinary};
 ghost use Rattle.pg_moves.specs.inner.Sources.{IsExact};
-ghost use Rattle.pg_moves.specs.inner.Parries.{IsInVain, IsInShelter, IsLineKind, IsStepKind, IsLineAttacker, IsStepAttacker, AreParries};
+ghost use Rattle.pg_moves.specs.inner.Parries.{IsInVain, IsInShelter, IsLineKind, IsStepKind, IsLineAttacker};
+ghost use Rattle.pg_moves.specs.inner.Parries.{IsStepAttacker, AreParries};
 
 use crate::targets::advances;
 use pg_board::{Board, Color, Kind, Man, Square, SquareSet};

@@ -9,7 +9,8 @@ ghost use Rattle.pg_position.specs.Position.{IsVacant};
 ghost use Rattle.pg_board.specs.SquareSets.{IsSetOf};
 ghost use Rattle.pg_position.specs.Step.{IsEnemy};
 ghost use Rattle.pg_position.specs.Squares.{home_rank};
-ghost use Rattle.pg_moves.specs.inner.Pawns.{forward, IsInside, AreInside, AreWays, IsQuiet, moves_from, one_rank, two_ranks, to_west, to_east};
+ghost use Rattle.pg_moves.specs.inner.Pawns.{forward, IsInside, AreInside, AreWays, IsQuiet, moves_from, one_rank};
+ghost use Rattle.pg_moves.specs.inner.Pawns.{two_ranks, to_west, to_east};
 ghost use Rattle.pg_moves.specs.Targets.{CapturesEnPassant};
 ghost use Rattle.pg_moves.specs.inner.Guards.{GuardsOff, AreOff};
 

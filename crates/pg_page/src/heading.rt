@@ -69,7 +69,8 @@ fn write_diagram<W: Sink>(problem: &Problem, out: &mut W) -> Result<(), Refused>
 {
     let placement = problem.diagram.write();
     out.push(
-        b"<figure><svg class=\"board\" viewBox=\"-.5 0 8.5 8.5\" role=\"img\" aria-label=\"The diagram\"><use href=\"#squares\"/>",
+        b"<figure><svg class=\"board\" viewBox=\"-.5 0 8.5 8.5\" role=\"img\" \
+aria-label=\"The diagram\"><use href=\"#squares\"/>",
     )?;
     write_men(&problem.diagram.board(), out)?;
     out.push(b"</svg><figcaption><code>")?;

@@ -1,8 +1,10 @@
 //! The six cases of a step, as tests.
-ghost use Rattle.std.specs.Prelude.{◌≡◌, ◌≢◌, ℕ, ◌+◌, ◌-◌, ◌*◌, ◌<◌, ◌≤◌, ◌↔◌, ◌⊎◌, IsTrue, MatchOption, Some, None, true};
+ghost use Rattle.std.specs.Prelude.{◌≡◌, ◌≢◌, ℕ, ◌+◌, ◌-◌, ◌*◌, ◌<◌, ◌≤◌, ◌↔◌, ◌⊎◌, IsTrue, MatchOption, Some, None};
+ghost use Rattle.std.specs.Prelude.{true};
 ghost use Rattle.pg_board.specs.Men.{other, man};
 ghost use Rattle.pg_position.specs.Geometry.{InPattern};
-ghost use Rattle.pg_position.specs.Step.{IsPlain, IsCapture, IsDoubleAdvance, IsEnPassant, IsPromotion, IsCastling, IsWay, MustPromote, IsEnemy};
+ghost use Rattle.pg_position.specs.Step.{IsPlain, IsCapture, IsDoubleAdvance, IsEnPassant, IsPromotion, IsCastling};
+ghost use Rattle.pg_position.specs.Step.{IsWay, MustPromote, IsEnemy};
 ghost use Rattle.pg_position.specs.Position.{IsVacant};
 
 use crate::attack::attacked;

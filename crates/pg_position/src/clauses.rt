@@ -2,7 +2,8 @@
 ghost use Rattle.std.specs.Prelude.{◌≡◌, ℕ, ◌<◌, ◌⊎◌, ◌↔◌, IsTrue, true};
 ghost use Rattle.pg_board.specs.SquareSets.{IsSetOf};
 ghost use Rattle.pg_board.specs.Squares.{rank};
-ghost use Rattle.pg_position.specs.Position.{Stands, HasOneKing, holds, KingsClause, PawnsClause, IsHome, RightsClause, IsPassed, PassedClause};
+ghost use Rattle.pg_position.specs.Position.{Stands, HasOneKing, holds, KingsClause, PawnsClause, IsHome, RightsClause};
+ghost use Rattle.pg_position.specs.Position.{IsPassed, PassedClause};
 
 use crate::boards::{is_vacant, stands};
 use crate::rights::{Rights, Wing};

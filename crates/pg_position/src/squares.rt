@@ -2,7 +2,8 @@
 ghost use Rattle.std.specs.Prelude.{◌≡◌, ◌↔◌, ◌<◌, ◌≤◌, IsTrue};
 ghost use Rattle.pg_position.specs.Step.{MustPromote};
 ghost use Rattle.pg_board.specs.SquareSets.{IsSetOf};
-ghost use Rattle.pg_position.specs.Squares.{ahead, HasAhead, king_home, rook_home, IsCastlingHome, passed_rank, home_rank, last_rank, king_crossed, king_target};
+ghost use Rattle.pg_position.specs.Squares.{ahead, HasAhead, king_home, rook_home, IsCastlingHome, passed_rank};
+ghost use Rattle.pg_position.specs.Squares.{home_rank, last_rank, king_crossed, king_target};
 
 use crate::rights::Wing;
 use pg_board::{Color, Kind, Square, SquareSet};

@@ -3,7 +3,8 @@ ghost use Rattle.std.specs.Prelude.{◌≡◌, ◌≢◌, ℕ, ◌+◌, ◌-◌,
 ghost use Rattle.pg_board.specs.Men.{other};
 ghost use Rattle.pg_position.specs.Position.{parts, holds, IsPosition};
 ghost use Rattle.pg_position.specs.Squares.{king_home};
-ghost use Rattle.pg_position.specs.Step.{IsWay, relocated, board_after, passed_after, touches, keeps, rights_after, after};
+ghost use Rattle.pg_position.specs.Step.{IsWay, relocated, board_after, passed_after, touches, keeps, rights_after};
+ghost use Rattle.pg_position.specs.Step.{after};
 
 use crate::moves::{Move, StepKind};
 use crate::rights::{Rights, Wing};

@@ -3,7 +3,8 @@ ghost use Rattle.std.proofs.Common.{sym};
 ghost use Rattle.std.specs.Prelude.{◌≡◌, ℕ, ◌↔◌, ◌<◌, ◌≤◌, IsTrue, cond, List, [], ◌∷◌, ◌++◌, length, take};
 ghost use Rattle.pg_price_lists.specs.PriceLists.{PriceList, list_of};
 ghost use Rattle.pg_price_lists.specs.PriceRecords.{list_at, sources, targets, u_at, v_at, NewIs, CanAdd};
-ghost use Rattle.pg_price_lists.specs.inner.Rows.{row_list, rows, AreRows, padded, row_of, sources_of, targets_of, ways_of, source_number, target_number};
+ghost use Rattle.pg_price_lists.specs.inner.Rows.{row_list, rows, AreRows, padded, row_of, sources_of, targets_of};
+ghost use Rattle.pg_price_lists.specs.inner.Rows.{ways_of, source_number, target_number};
 
 use std::marker::Model;
 

@@ -2,7 +2,8 @@
 ghost use Rattle.std.specs.Prelude.{◌≡◌, ◌+◌, ◌≤◌, ◌↔◌, ◌/◌, ◌%◌, ℕ, IsTrue, IfOk};
 ghost use Rattle.std.specs.Option.{option_map};
 ghost use Rattle.pg_certificate.specs.Pushing.{Adds, Pushes};
-ghost use Rattle.pg_report.specs.Expecting.{IsExpected, IsOpen, expected_text, end_text, power_text, range_text, rounded, digit_text, unit_text};
+ghost use Rattle.pg_report.specs.Expecting.{IsExpected, IsOpen, expected_text, end_text, power_text, range_text};
+ghost use Rattle.pg_report.specs.Expecting.{rounded, digit_text, unit_text};
 ghost use Rattle.pg_report.specs.Expecting.{by_journeys, captured_men, free_men, landing_squares, spread};
 
 use crate::within::Known;

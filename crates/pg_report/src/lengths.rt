@@ -3,7 +3,8 @@ ghost use Rattle.std.specs.Prelude.{◌≡◌, IsTrue, IfOk, false};
 ghost use Rattle.std.specs.List.{list_any};
 ghost use Rattle.pg_position.specs.Array.{array_state};
 ghost use Rattle.pg_position.specs.Game.{Barren};
-ghost use Rattle.pg_report.specs.Shortest.{ArePriced, HasPawnPrices, HasTravelPrices, IsExcluded, IsLeastLength, NoneBelow};
+ghost use Rattle.pg_report.specs.Shortest.{ArePriced, HasPawnPrices, HasTravelPrices, IsExcluded, IsLeastLength};
+ghost use Rattle.pg_report.specs.Shortest.{NoneBelow};
 
 use pg_board::Color;
 use pg_captures::{Bound, ask};

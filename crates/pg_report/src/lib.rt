@@ -1,6 +1,6 @@
 //! What the program does with what it is asked: a check of a certificate and its report, the report of the games that a
-//! certificate proves, what is said at once of a diagram, and the status of each fault; and all that the program uses of
-//! the crates below.
+//! certificate proves, what is said at once of a diagram, and the status of each fault; and all that the program uses
+//! of the crates below.
 #![tactic(auto)]
 
 mod answering;

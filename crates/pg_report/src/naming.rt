@@ -107,8 +107,8 @@ fn header_fault(fault: ReadFault) -> Fault
 /// source at a time, so bytes behind the header may be gone then.
 ///
 /// # Errors
-/// `Answer` with `Read`, `Truncated` or `Magic` of a check, where that stands at the header; `NoProblem` where the header
-/// names no problem.
+/// `Answer` with `Read`, `Truncated` or `Magic` of a check, where that stands at the header; `NoProblem` where the
+/// header names no problem.
 pub fn read_problem<S: Source>(source: &mut S) -> Result<Problem, AnswerRunFault>
     ensures named { IfOk result (λ p. IfSome (S.left source.old) (Begins (λ h. IsNamed h p.diagram p.length))) }
     ensures err { IfErr result (λ e. IsUnnamed (S.left source.old) (S.has_failed source.new) e) }

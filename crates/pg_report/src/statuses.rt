@@ -1,7 +1,8 @@
 //! The status with which the program ends. That of a fault is never 0.
 ghost use Rattle.std.specs.Prelude.{◌≡◌, ◌<◌};
 ghost use Rattle.pg_report.specs.Statuses.{verdict_status, games_status, check_status, status_of, search_status_of};
-ghost use Rattle.pg_report.specs.Statuses.{answer_status_of, moves_status_of, count_status_of, show_status_of, upgrade_status_of};
+ghost use Rattle.pg_report.specs.Statuses.{answer_status_of, moves_status_of, count_status_of, show_status_of};
+ghost use Rattle.pg_report.specs.Statuses.{upgrade_status_of};
 
 use crate::fault::{AnswerRunFault, ShowFault};
 use pg_checker::{AnswerFault, Fault, RunFault};
@@ -58,8 +59,8 @@ pub fn status(fault: &RunFault) -> u8
     }
 }
 
-/// The status after a certificate without a report of its games: 1 where its header names no problem, where it is refused,
-/// or where it has more than 4,096 games, 3 for want of memory, 4 for a read or a write fault.
+/// The status after a certificate without a report of its games: 1 where its header names no problem, where it is
+/// refused, or where it has more than 4,096 games, 3 for want of memory, 4 for a read or a write fault.
 pub fn answer_status(fault: &AnswerRunFault) -> u8
     ensures value { result ≡ answer_status_of fault.now }
     ensures fails { 0 < result }

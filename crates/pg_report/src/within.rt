@@ -3,10 +3,12 @@ ghost use Rattle.std.specs.Prelude.{◌≡◌, ℕ, ◌+◌, ◌<◌, ◌++◌, 
 ghost use Rattle.pg_certificate.specs.Pushing.{Adds, MayPush, Pushes};
 ghost use Rattle.pg_board.specs.Bits.{has};
 ghost use Rattle.pg_board.specs.Tally.{one};
-ghost use Rattle.pg_report.specs.Within.{AreKnown, name_of, square_text, piece_text, item_text, last_mark, mark_text, place_text, list_text};
+ghost use Rattle.pg_report.specs.Within.{AreKnown, name_of, square_text, piece_text, item_text, last_mark, mark_text};
+ghost use Rattle.pg_report.specs.Within.{place_text, list_text};
 ghost use Rattle.pg_fen.specs.Lengths.{length_text};
 ghost use Rattle.pg_report.specs.declared.within.Naming.TheVariants.{Squares};
-ghost use Rattle.pg_report.specs.Within.{are_few, are_some, captures_text, unmoved_text, said_text, known_line, stays, facts_text, known_text};
+ghost use Rattle.pg_report.specs.Within.{are_few, are_some, captures_text, unmoved_text, said_text, known_line, stays};
+ghost use Rattle.pg_report.specs.Within.{facts_text, known_text};
 
 use pg_board::{Color, Kind, Man, Square, SquareSet};
 use pg_certificate::{Refused, Sink};

@@ -7,6 +7,7 @@ pub mod Grammar
 pub mod Games
 pub mod Adding
 pub mod GameText
+pub mod TextLeft
 pub mod Listing
 pub mod KnownTexts
 pub mod inner

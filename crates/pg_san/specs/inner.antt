@@ -1,4 +1,3 @@
 pub mod Walk
-pub mod TextLeft
 pub mod LineReading
 pub mod KnownReadings

@@ -1,5 +1,6 @@
 //! Lists of different games in canonical order.
-ghost use Rattle.std.specs.Prelude.{◌≡◌, ◌<◌, ◌≤◌, ◌↔◌, IsTrue, [], length, take, MatchOption, IfErr, OnOk, OnErr, Some, slice_get, map};
+ghost use Rattle.std.specs.Prelude.{◌≡◌, ◌<◌, ◌≤◌, ◌↔◌, IsTrue, [], length, take, MatchOption, IfErr, OnOk, OnErr};
+ghost use Rattle.std.specs.Prelude.{Some, slice_get, map};
 ghost use Rattle.std.specs.List.{Contains};
 ghost use Rattle.std.specs.List.Sorted.{IsStrictlySortedBy};
 ghost use Rattle.pg_san.specs.Games.{game_cmp, IsFromArray, IsGames, IsPlace};

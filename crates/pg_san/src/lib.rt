@@ -30,9 +30,11 @@ pub use games::Games;
 pub use laws::{
     one_text, text_grammar, texts_differ, written_text_is_matched, written_text_is_read,
 };
+pub use lines::next_line;
 pub use list_laws::{games_stand_once, one_answer_to_a_text, one_list_of_games};
 pub use listing::read_games;
 pub use listing_fault::GamesFault;
 pub use reading::read;
+pub use words::next_word;
 pub use writing::{San, write, write_with};
 pub use written::{MOST_WRITTEN, Written, nothing_written, write_known};

@@ -2,7 +2,7 @@
 ghost use Rattle.std.specs.Prelude.{◌≡◌, ◌+◌, ◌<◌, ◌∷◌, length};
 ghost use Rattle.std.specs.Str.Lines.{strip_carriage_return};
 ghost use Rattle.pg_san.specs.GameText.{lines};
-ghost use Rattle.pg_san.specs.inner.TextLeft.{lines_left, length_left};
+ghost use Rattle.pg_san.specs.TextLeft.{lines_left, length_left};
 
 use memchr::memchr;
 
@@ -17,8 +17,8 @@ fn without_return(line: &[u8]) -> &[u8]
     }
 }
 
-// The first line, and what follows its line feed, if it has one.
-pub(crate) fn next_line(text: &[u8]) -> (&[u8], Option<&[u8]>)
+/// The first line of a text, without the one carriage return at its end, and what follows its line feed, if it has one.
+pub fn next_line(text: &[u8]) -> (&[u8], Option<&[u8]>)
     ensures cut { lines text.now ≡ result.0.now ∷ lines_left result.1 }
     ensures less { length_left result.1 < length text.now + 1 }
 {

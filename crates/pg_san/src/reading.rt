@@ -3,7 +3,8 @@ ghost use Rattle.std.specs.Prelude.{◌+◌, MatchOption};
 ghost use Rattle.std.specs.Bool.{OnTrue, OnFalse};
 ghost use Rattle.pg_san.specs.declared.reading.Found.{Found};
 ghost use Rattle.pg_san.specs.Matching.{IsReading};
-ghost use Rattle.pg_san.specs.inner.Walk.{HoldsSources, IsOnlyFrom, NoneLeaves, IsFoundAt, NoneFits, IsFirstFit, IsSaidReading, IsTextReading};
+ghost use Rattle.pg_san.specs.inner.Walk.{HoldsSources, IsOnlyFrom, NoneLeaves, IsFoundAt, NoneFits, IsFirstFit};
+ghost use Rattle.pg_san.specs.inner.Walk.{IsSaidReading, IsTextReading};
 
 use crate::fault::SanFault;
 use crate::matching::fits;

@@ -1,6 +1,7 @@
 //! What a whole text says: castling or a core, and the ends behind it.
 ghost use Rattle.std.specs.Prelude.{◌≡◌, reverse, MatchOption, Some, None};
-ghost use Rattle.pg_san.specs.Said.{castling_of, form_of, is_mark, without_mark, without_plus, without_check, byte_in, ep_in, dots_in, passing_in, said_of};
+ghost use Rattle.pg_san.specs.Said.{castling_of, form_of, is_mark, without_mark, without_plus, without_check, byte_in};
+ghost use Rattle.pg_san.specs.Said.{ep_in, dots_in, passing_in, said_of};
 
 use crate::cores::{Core, core_of, last_off};
 use pg_position::Wing;

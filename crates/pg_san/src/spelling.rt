@@ -1,7 +1,8 @@
 //! The text of what is said of a move.
 ghost use Rattle.std.specs.Prelude.{◌≡◌, ◌++◌, ◌+◌, ◌≤◌, length};
 ghost use Rattle.pg_san.specs.Spelling.{IsOfBoard, file_text, rank_text, square_text, letter_text, cross_text};
-ghost use Rattle.pg_san.specs.Spelling.{promotion_text, castling_text, written_file, core_text, form_text, IsWritable, IsFormWritable};
+ghost use Rattle.pg_san.specs.Spelling.{promotion_text, castling_text, written_file, core_text, form_text, IsWritable};
+ghost use Rattle.pg_san.specs.Spelling.{IsFormWritable};
 
 use crate::cores::Core;
 use crate::said::Form;

@@ -23,8 +23,8 @@ fn word_len(text: &[u8]) -> usize
     text.iter().take_while(|b| !is_gap(**b)).count()
 }
 
-// The first word, and what follows it.
-pub(crate) fn next_word(text: &[u8]) -> Option<(&[u8], &[u8])>
+/// The first word of a line, and what follows it; none where the line has no word. Spaces and tabs stand between words.
+pub fn next_word(text: &[u8]) -> Option<(&[u8], &[u8])>
     ensures { MatchOption result
         (words text.now ≡ [])
         (λ r. (words text.now ≡ r.0.now ∷ words r.1.now) × (length r.1.now < length text.now)) }

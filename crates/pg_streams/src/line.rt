@@ -12,20 +12,26 @@ const FIRST: u128 = 1000;
 // So many milliseconds stand between two lines.
 const BETWEEN: u128 = 500;
 
+// Goes up a line (`ESC [ A`, ECMA-48).
+const UP: &str = "\x1b[A";
+
+// Goes to the front of the line, and takes away what stands there (`ESC [ K`).
+const CLEAR: &str = "\r\x1b[K";
+
 // A line has so many characters at most.
 pub(crate) const WIDTH: usize = 48;
 
-/// The line of a terminal on which runs say how far they are, as all see it that write there.
+/// The line of a terminal on which runs say how far they are, as all see it that write there. The cursor stands below it.
 #[derive(Drop)]
 pub struct Terminal {
-    /// Whether somebody looks at it.
+    /// Whether somebody looks at it, and it can take a line away.
     screen: bool,
     /// Whether a text stands on the line.
     shown: Cell<bool>,
 }
 
 impl Terminal {
-    /// A line with no text, on a screen or on none.
+    /// A line with no text, on a screen that understands escape sequences, or on none.
     pub fn new(screen: bool) -> Terminal {
         Terminal {
             screen,
@@ -33,17 +39,18 @@ impl Terminal {
         }
     }
 
-    // Shows a text in the place of the last one. A terminal that is narrower cuts it off: it is told not to
-    // wrap (`ESC [ ? 7 l`, ECMA-48 and DEC), so one line is all that has to be taken away.
+    // Shows a text in the place of the last one, and goes below it. A terminal that is narrower cuts it off: it is told
+    // not to wrap (`ESC [ ? 7 l`, ECMA-48 and DEC), so one line is all that has to be taken away. All of that is printed
+    // at once, so that a run which is interrupted leaves a whole line and the cursor below it.
     fn show<R: Eprint>(&self, rt: &R, text: &str) {
-        let _ = eprint!(rt; "\r\x1b[K\x1b[?7l{text}\x1b[?7h");
-        self.shown.set(true);
+        let up = if self.shown.replace(true) { UP } else { "" };
+        let _ = eprint!(rt; "{up}{CLEAR}\x1b[?7l{text}\x1b[?7h\n");
     }
 
     // Takes the text away, where one is shown.
     fn clear<R: Eprint>(&self, rt: &R) {
         if self.shown.replace(false) {
-            let _ = eprint!(rt; "\r\x1b[K");
+            let _ = eprint!(rt; "{UP}{CLEAR}");
         }
     }
 }

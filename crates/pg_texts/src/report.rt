@@ -4,7 +4,8 @@ ghost use Rattle.pg_certificate.specs.Pushing.{Adds, AddsSome, MayPush, Pushes};
 ghost use Rattle.pg_san.specs.Games.{IsFromArray};
 ghost use Rattle.pg_san.specs.KnownTexts.{IsWritten};
 ghost use Rattle.pg_texts.specs.Movetext.{IsMovetext};
-ghost use Rattle.pg_texts.specs.Report.{AddsLine, AreGameLines, IsReport, IsVerdict, head_text, labelled_text, line_text};
+ghost use Rattle.pg_texts.specs.Report.{AddsLine, AreGameLines, IsReport, IsVerdict, head_text, labelled_text};
+ghost use Rattle.pg_texts.specs.Report.{line_text};
 
 use crate::movetext::append_game;
 use crate::verdict::{Verdict, verdict_on, words};

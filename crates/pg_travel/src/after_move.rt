@@ -10,7 +10,8 @@ ghost use Rattle.pg_position.specs.declared.state.State.{State};
 ghost use Rattle.pg_position.specs.Position.{Stands, IsPosition};
 ghost use Rattle.pg_position.specs.Step.{Legal};
 ghost use Rattle.pg_travel.specs.Needs.{TravelTest};
-ghost use Rattle.pg_travel.specs.inner.AfterMove.{MayCastle, IsTold, AreMoved, KeepsRights, IsMoved, AreToCome, NonePays};
+ghost use Rattle.pg_travel.specs.inner.AfterMove.{MayCastle, IsTold, AreMoved, KeepsRights, IsMoved, AreToCome};
+ghost use Rattle.pg_travel.specs.inner.AfterMove.{NonePays};
 ghost use Rattle.pg_travel.specs.inner.LeastRows.{IsBelow};
 ghost use Rattle.pg_travel.specs.inner.Within.{PaysIs, CastledIs, CostsEach};
 

@@ -1,8 +1,11 @@
 //! Distances: the least number of steps of a man that is alone on the board. 64 stands for none.
-ghost use Rattle.std.specs.Prelude.{◌≡◌, ◌≢◌, ℕ, ◌+◌, ◌-◌, ◌*◌, ◌/◌, ◌%◌, ◌<◌, ◌≤◌, ◌&&◌, ◌||◌, cond, eqb, min, max, IsTrue};
+ghost use Rattle.std.specs.Prelude.{◌≡◌, ◌≢◌, ℕ, ◌+◌, ◌-◌, ◌*◌, ◌/◌, ◌%◌, ◌<◌, ◌≤◌, ◌&&◌, ◌||◌, cond, eqb, min, max};
+ghost use Rattle.std.specs.Prelude.{IsTrue};
 ghost use Rattle.pg_travel.specs.Walks.{DistanceIs};
-ghost use Rattle.pg_travel.specs.inner.Formulas.{files, ranks, king, rook, bishop, queen, knight, is_corner, long_way, knight_by, piece, rank_for};
-ghost use Rattle.pg_travel.specs.inner.Formulas.{mirrored, pawn, soonest, is_promoted, least_steps, from_pawn, distance_of};
+ghost use Rattle.pg_travel.specs.inner.Formulas.{files, ranks, king, rook, bishop, queen, knight, is_corner, long_way};
+ghost use Rattle.pg_travel.specs.inner.Formulas.{knight_by, piece, rank_for};
+ghost use Rattle.pg_travel.specs.inner.Formulas.{mirrored, pawn, soonest, is_promoted, least_steps, from_pawn};
+ghost use Rattle.pg_travel.specs.inner.Formulas.{distance_of};
 ghost use Rattle.pg_travel.specs.inner.Promoted.{told, ArePromoted};
 
 use crate::pawn_table::WHITE_PAWN;

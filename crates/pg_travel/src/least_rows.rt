@@ -7,7 +7,8 @@ ghost use Rattle.pg_captures.specs.Counting.{men, any_man};
 ghost use Rattle.pg_position.specs.declared.rights.Wing.TheVariants.{KingSide, QueenSide};
 ghost use Rattle.pg_position.specs.declared.state.State.{State};
 ghost use Rattle.pg_travel.specs.Needs.{TravelTest};
-ghost use Rattle.pg_travel.specs.inner.LeastRows.{AreLesser, IsLowered, IsHomeOf, IsOff, StandsOff, IsLeastFrom, IsFree, IsAway, IsLeastRow, IsCastled, row_cost};
+ghost use Rattle.pg_travel.specs.inner.LeastRows.{AreLesser, IsLowered, IsHomeOf, IsOff, StandsOff, IsLeastFrom};
+ghost use Rattle.pg_travel.specs.inner.LeastRows.{IsFree, IsAway, IsLeastRow, IsCastled, row_cost};
 ghost use Rattle.pg_travel.specs.inner.Within.{PaysIs, CastledIs};
 
 use crate::castling::{charge, counted};

@@ -7,7 +7,8 @@ ghost use Rattle.pg_board.specs.Men.{color_eq};
 ghost use Rattle.pg_captures.specs.Owed.{plies_left};
 ghost use Rattle.pg_travel.specs.Origins.{counted, charge};
 ghost use Rattle.pg_travel.specs.inner.Formulas.{least_of};
-ghost use Rattle.pg_travel.specs.inner.Costs.{BeyondFar, nearest_man, nearest, cost_of, cost, ValueIs, SumIs, HeldBeside, most_of, lesser};
+ghost use Rattle.pg_travel.specs.inner.Costs.{BeyondFar, nearest_man, nearest, cost_of, cost, ValueIs, SumIs};
+ghost use Rattle.pg_travel.specs.inner.Costs.{HeldBeside, most_of, lesser};
 ghost use Rattle.pg_travel.specs.Needs.{NeedIs, TravelTest};
 ghost use Rattle.pg_travel.specs.inner.Within.{SumWithin, PaysIs, CastledIs};
 

@@ -2,7 +2,10 @@
 ghost use Rattle.std.specs.Prelude.{◌≡◌, ◌≢◌, ℕ, ◌+◌, ◌-◌, ◌*◌, ◌/◌, ◌<◌, ◌≤◌, ◌↔◌, IsTrue};
 ghost use Rattle.pg_board.specs.Men.{number_of_kind};
 ghost use Rattle.pg_captures.specs.Counting.{men, any_man};
-ghost use Rattle.pg_travel.specs.inner.DistanceRows.{stored, IsRow, IsRowFrom, IsWithKind, IsWritten, row_place, IsRowAt, AreRows, AreFirstRows, IsReached, IsPieceRow, IsMask, IsUnmasked, page_start, IsFurtherIn, IsFurtherAt, AreFurther, RowFits};
+ghost use Rattle.pg_travel.specs.inner.DistanceRows.{stored, IsRow, IsRowFrom, IsWithKind, IsWritten, row_place};
+ghost use Rattle.pg_travel.specs.inner.DistanceRows.{IsRowAt, AreRows, AreFirstRows, IsReached, IsPieceRow, IsMask};
+ghost use Rattle.pg_travel.specs.inner.DistanceRows.{IsUnmasked, page_start, IsFurtherIn, IsFurtherAt, AreFurther};
+ghost use Rattle.pg_travel.specs.inner.DistanceRows.{RowFits};
 ghost use Rattle.pg_travel.specs.inner.Formulas.{distance_of};
 ghost use Rattle.pg_board.specs.declared.man.Color.TheVariants.{White, Black};
 ghost use Rattle.pg_board.specs.declared.man.Kind.TheVariants.{Pawn};

@@ -5,7 +5,8 @@ ghost use Rattle.std.specs.Prelude.{◌≡◌, ℕ, ◌+◌, ◌<◌, ◌≤◌,
 ghost use Rattle.pg_board.specs.Placement.{get};
 ghost use Rattle.pg_captures.specs.Counting.{any_man};
 ghost use Rattle.pg_captures.specs.PriceLists.{IsPriced};
-ghost use Rattle.pg_travel.specs.inner.PriceTests.{PairFits, IsBySquare, IsLeastPrice, IsLow, BeyondFits, ManFits, KindFits, StoodFits, TargetFits, AllFit};
+ghost use Rattle.pg_travel.specs.inner.PriceTests.{PairFits, IsBySquare, IsLeastPrice, IsLow, BeyondFits, ManFits};
+ghost use Rattle.pg_travel.specs.inner.PriceTests.{KindFits, StoodFits, TargetFits, AllFit};
 
 use crate::bands::{Band, promoting, whole_board};
 use crate::castling::counted;

@@ -1,7 +1,8 @@
 //! What an upgrade of a certificate keeps. Each law is a function that does nothing: its contract is the law.
 #![tactic(auto)]
 
-ghost use Rattle.pg_upgrade_laws.specs.UpgradeLaws.{CertifiedIsUpgraded, RefusesExactly, UpgradedIsCertified, UpgradesExactly};
+ghost use Rattle.pg_upgrade_laws.specs.UpgradeLaws.{CertifiedIsUpgraded, RefusesExactly, UpgradedIsCertified};
+ghost use Rattle.pg_upgrade_laws.specs.UpgradeLaws.{UpgradesExactly};
 
 /// Bytes are upgraded exactly where they are a header of version 1 and then at most so many records of
 /// version 1, and the answer is the number of these.

@@ -8,9 +8,8 @@ const ABOUT: &str = "Checks shortest proof games: whether a list holds every gam
 ends on a diagram, and no shorter game does";
 
 const EXAMPLE: &str = "Example, a problem by Schweig (1938):
-  pg search r1bqkbnr/ppp2ppp/3p4/8/8/8/PPPPPPPP/R1BQKBNR 4.0 s.pgc >report
-  tail -n +4 report | head -n -1 >games
-  pg check r1bqkbnr/ppp2ppp/3p4/8/8/8/PPPPPPPP/R1BQKBNR 4.0 s.pgc games
+  pg search r1bqkbnr/ppp2ppp/3p4/8/8/8/PPPPPPPP/R1BQKBNR 4.0 s.pgc
+  pg answer s.pgc
 
 Statuses: 0 sound, or a command done; 1 cooked, no game, not sound, a list or
 certificate refused, or a search that gave up; 2 bad words or texts; 3 out of
@@ -54,20 +53,41 @@ Example:
   echo '1. e3 e6 2. d3' >games
   pg cooks rnbqkbnr/pppp1ppp/4p3/8/8/3PP3/PPP2PPP/RNBQKBNR 1.5 games || true";
 
+const JUDGE_EXAMPLE: &str =
+    "A line of PROBLEMS is a name, a diagram, a length and, if wanted, the author's
+game; `#` begins a comment. Each problem has a row, with tabs between its
+columns: name, length, verdict, what the author's game is, by what, the games.
+With `--certificates` each proof goes to FOLDER/NAME.pgc, and one that stands
+there is checked in place of a search, so that a run can be gone on with.
+
+Example:
+  echo 'two rnbqkbnr/pppp1ppp/4p3/8/8/3PP3/PPP2PPP/RNBQKBNR 1.5' >problems
+  pg judge problems || true";
+
 const CHECK_EXAMPLE: &str =
     "The report goes to standard output: the diagram, the length, the games, and
-`sound`, `cooked` or `no game`.
+`sound`, `cooked` or `no game`. CERT may be standard input too, as `-`.
 
 Example, with a certificate that a search writes first:
   pg search rnbqkbnr/pppp1ppp/8/4p3/4P3/8/PPPP1PPP/RNBQKBNR 1.0 e4e5.pgc
   echo '1. e4 e5' >games
   pg check rnbqkbnr/pppp1ppp/8/4p3/4P3/8/PPPP1PPP/RNBQKBNR 1.0 e4e5.pgc games";
 
+const ANSWER_EXAMPLE: &str =
+    "The certificate says which diagram and length it is for, and proves which games
+there are. The report of these goes to standard output, as after `pg check`:
+hold its diagram and its length against the problem.
+
+Example, with a certificate that a search writes first:
+  pg search rnbqkbnr/pppp1ppp/8/4p3/4P3/8/PPPP1PPP/RNBQKBNR 1.0 e4e5.pgc
+  pg answer e4e5.pgc";
+
 const SEARCH_EXAMPLE: &str =
     "What the search finds counts for nothing until the check of its certificate has
 said yes. CERT is written, or replaced, only then. The games that it met are
-solutions whatever ended it; `--games` keeps them as a list. Problems of more
-than ten moves want `--journeys`; then whoever checks CERT says it too.
+solutions whatever ended it; `--games` keeps them as a list. Where it gave up
+and met none, FILE stays as it is. Problems of more than ten moves want
+`--journeys`; then whoever checks CERT says it too.
 
 Example:
   pg search rnbqkbnr/pppp1ppp/8/4p3/4P3/8/PPPP1PPP/RNBQKBNR 1.0 e4e5.pgc";
@@ -173,14 +193,14 @@ const CERTIFICATE_WRITTEN: Word = Word {
 const GAMES: Word = Word {
     name: "GAMES",
     kind: Kind::TextOrNone,
-    help: "A file with one game a line; standard input where it is missing",
+    help: "A file with one game a line; - or none: standard input",
 };
 
 // The games of `pg cooks`, which must be given.
 const GAMES_KNOWN: Word = Word {
     name: "GAMES",
     kind: Kind::Text,
-    help: "A file with one game a line, at least one",
+    help: "A file with one game a line, at least one; -: standard input",
 };
 
 const MOVES: Word = Word {
@@ -227,6 +247,38 @@ const NODES_TOLD: Word = Word {
     help: "Shows at most so many expanded nodes",
 };
 
+// The nodes of `pg judge`.
+const NODES_JUDGED: Word = Word {
+    name: "nodes",
+    kind: Kind::Limit("N", "100000000", 0),
+    help: "The last limit of a search",
+};
+
+const MINUTES: Word = Word {
+    name: "minutes",
+    kind: Kind::Named("M"),
+    help: "Gives up after so many minutes, as 5 or 0.5",
+};
+
+// The minutes of `pg judge`.
+const MINUTES_JUDGED: Word = Word {
+    name: "minutes",
+    kind: Kind::Named("M"),
+    help: "Gives up a problem after M, as 5 or 0.5",
+};
+
+const PROBLEMS: Word = Word {
+    name: "PROBLEMS",
+    kind: Kind::Line,
+    help: "A file with one problem a line; - for standard input",
+};
+
+const FOLDER: Word = Word {
+    name: "certificates",
+    kind: Kind::Named("FOLDER"),
+    help: "Keeps each certificate as FOLDER/NAME.pgc",
+};
+
 const FOREIGN: Word = Word {
     name: "foreign",
     kind: Kind::NumberOrNone("D"),
@@ -247,11 +299,18 @@ const JOURNEYS_TAKEN: Word = Word {
     help: "Takes cuts by the bound by journeys too",
 };
 
+// The fifth bound, where problems are judged.
+const JOURNEYS_JUDGED: Word = Word {
+    name: "journeys",
+    kind: Kind::Flag,
+    help: "Cuts by journeys too, where a search gives up",
+};
+
 // The file of `pg search` that the games are written to.
 const GAMES_KEPT: Word = Word {
     name: "games",
     kind: Kind::Named("FILE"),
-    help: "Keeps the games that were met, also where it gives up",
+    help: "Keeps the games that it met, if any, also if it gives up",
 };
 
 // A command: its name, what it does, what stands below its help, and its words in their order.
@@ -262,7 +321,7 @@ struct Entry {
     words: &'static [Word],
 }
 
-const COMMANDS: [Entry; 10] = [
+const COMMANDS: [Entry; 12] = [
     Entry {
         name: "show",
         about: "Prints the board of a diagram, and what is known of it at once",
@@ -291,13 +350,19 @@ const COMMANDS: [Entry; 10] = [
         name: "cooks",
         about: "Looks for another game, or a shorter one, near the games of a list",
         below: COOKS_EXAMPLE,
-        words: &[DIAGRAM, LENGTH, GAMES_KNOWN, NODES_LED, FOREIGN],
+        words: &[DIAGRAM, LENGTH, GAMES_KNOWN, NODES_LED, MINUTES, FOREIGN],
     },
     Entry {
         name: "check",
         about: "Checks a certificate against a list of games, and prints the report",
         below: CHECK_EXAMPLE,
         words: &[DIAGRAM, LENGTH, CERTIFICATE, GAMES, RECORDS, JOURNEYS_TAKEN],
+    },
+    Entry {
+        name: "answer",
+        about: "Checks a certificate by itself, and prints the report of its games",
+        below: ANSWER_EXAMPLE,
+        words: &[CERTIFICATE, RECORDS, JOURNEYS_TAKEN],
     },
     Entry {
         name: "search",
@@ -308,8 +373,21 @@ const COMMANDS: [Entry; 10] = [
             LENGTH,
             CERTIFICATE_WRITTEN,
             NODES,
+            MINUTES,
             GAMES_KEPT,
             JOURNEYS,
+        ],
+    },
+    Entry {
+        name: "judge",
+        about: "Judges the problems of a file, one after the other, a row for each",
+        below: JUDGE_EXAMPLE,
+        words: &[
+            PROBLEMS,
+            FOLDER,
+            NODES_JUDGED,
+            MINUTES_JUDGED,
+            JOURNEYS_JUDGED,
         ],
     },
     Entry {

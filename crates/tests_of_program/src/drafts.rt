@@ -1,6 +1,6 @@
 //! Files that are written beside their place, and put there when they are whole.
 
-use pg_files::{FileFault, begin, lead_to_one};
+use pg_files::{FileFault, begin, begin_apart, lead_to_one, stand_at_one};
 use std::io::Write;
 use std::os::unix::fs::{PermissionsExt, symlink};
 use std::process::Abort;
@@ -130,6 +130,7 @@ fn files_that_are_not_written(rt: HostRuntime) {
         inner.as_str(),
         "/dev/null",
         "/dev/full",
+        "-",
         "",
     ] {
         check_not_opened(&rt, name);
@@ -164,5 +165,32 @@ fn links_stay(rt: HostRuntime) {
     assert!(rt; !lead_to_one(&rt, file.as_str(), "/dev/null"));
     assert!(rt; !lead_to_one(&rt, "/dev/null", "/dev/null"));
     check_link(&rt, file.as_str(), name.as_str());
+    remove(&rt, folder.as_str());
+}
+
+// That a draft of the first name that is put leaves the second name free.
+fn check_apart<R: Runtime + Abort + AllocGlobal>(rt: &R, name: &str, other: &str) {
+    let Ok(mut draft) = begin_apart(rt, name, other) else {
+        panic!(rt; "a draft");
+    };
+    assert!(rt; draft.file.write_all(b"new").is_ok());
+    assert!(rt; fs::symlink_metadata(rt, other).is_err());
+    assert!(rt; draft.put(rt).is_ok());
+    check_file(rt, name, b"new");
+    assert!(rt; !stand_at_one(rt, name, other));
+}
+
+// A draft does not take the name of another file that is to be written, however its folder is named.
+#[test]
+fn drafts_stand_apart(rt: HostRuntime) {
+    let folder = folder(&rt, process::id(rt.process()), "apart");
+    let inner = path_in(&rt, folder.as_str(), "inner");
+    link(&rt, ".", inner.as_str());
+    let path = path_in(&rt, folder.as_str(), "list");
+    let other = path_in(&rt, folder.as_str(), ".list.pg-part-0");
+    check_apart(&rt, path.as_str(), other.as_str());
+    let other = path_in(&rt, inner.as_str(), ".list.pg-part-0");
+    check_apart(&rt, path.as_str(), other.as_str());
+    check_count(&rt, folder.as_str(), 2);
     remove(&rt, folder.as_str());
 }

@@ -31,8 +31,10 @@ fn to_text<R: Abort + AllocGlobal>(rt: &R, obstacle: Obstacle) -> String {
 
 #[test]
 fn lists_that_are_not_read(rt: HostRuntime) {
-    let missing = list(&rt, Some("no/such/file"));
+    let missing = list(&rt, "no/such/file");
     assert!(rt; matches!(&missing, Err(FileFault::Open(Obstacle::System(2)))));
+    let folder = list(&rt, "/");
+    assert!(rt; matches!(&folder, Err(FileFault::Open(Obstacle::NotPlain))));
     check_unread(&rt, &mut Endless::new(b'\n'));
 }
 

@@ -3,6 +3,8 @@
 #![tactic(auto)]
 
 #[cfg(test)]
+mod deadlines;
+#[cfg(test)]
 mod drafts;
 #[cfg(test)]
 mod gathering;
@@ -12,6 +14,8 @@ mod hints;
 mod inputs;
 #[cfg(test)]
 mod lines;
+#[cfg(test)]
+mod mistakes;
 #[cfg(test)]
 mod searching;
 #[cfg(test)]

@@ -1,4 +1,4 @@
-use Rattle.std.proofs.Common.{inl, refl, sym}
+use Rattle.std.proofs.Common.{◌∙◌, inl, inr, refl, sym}
 use Rattle.std.specs.Prelude.{Some, codes}
 use Rattle.clap.specs.Words.{found_of}
 use Rattle.pg_cli.proofs.AnswerLemmas.{word_or_none}
@@ -6,5 +6,5 @@ use Rattle.pg_cli.proofs.checking.other_games_of.Goals as goal
 
 pub returns-then-lead_to_one : goal.returns-then-lead_to_one
 returns-then-lead_to_one g c = record {
-  err = inl (refl, (c.in-Some.path.now, sym (word_or_none (found_of c.args.words.now) (codes "GAMES") (Some c.in-Some.path.now) c.in-Some.ensures)));
+  err = inl (refl, inl (c.in-Some.name.now, sym (word_or_none (found_of c.args.words.now) (codes "GAMES") (Some c.in-Some.name.now) c.in-Some.ensures)));
 }

@@ -2,7 +2,7 @@ use Rattle.std.proofs.Common.{◌≤◌, ◌+◌, length}
 use Rattle.std.specs.Prelude.{All}
 use Rattle.pg_san.specs.inner.KnownReadings.{IsKnown}
 use Rattle.pg_san.specs.GameText.{lines}
-use Rattle.pg_san.specs.inner.TextLeft.{lines_left, length_left}
+use Rattle.pg_san.specs.TextLeft.{lines_left, length_left}
 use Rattle.pg_san.proofs.ListingLemmas.{IsReadTo}
 use Rattle.pg_san.proofs.listing.read_lines.Given as goal
 

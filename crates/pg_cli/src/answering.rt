@@ -1,0 +1,122 @@
+//! `pg answer`: the games that a certificate proves are reported, without a list.
+
+ghost use Rattle.std.specs.Prelude.{◌≡◌, IfOk, IfErr};
+ghost use Rattle.pg_checker.specs.Cuts.{any_rules_by, rules_by};
+ghost use Rattle.pg_checker.specs.Terms.{terms};
+ghost use Rattle.pg_report.specs.Run.{failures};
+ghost use Rattle.pg_streams.specs.Buffer.{sink_of};
+ghost use Rattle.pg_cli.specs.Answers.{HasAnswer, IsAnsweredBySome, IsHandedAnswer};
+ghost use Rattle.pg_cli.specs.Causes.{IsAnswerCause};
+ghost use Rattle.pg_cli.specs.Reasons.{IsAnswerRefusal, IsHeaderRefusal};
+
+use crate::checking::{RECORDS, finished};
+use crate::refusals::{Named, Refusal};
+use crate::spelling::text_of;
+use clap::ArgMatches;
+use pg_certificate::format::MOST_NAMED;
+use pg_files::open_plain;
+use pg_report::{
+    Bound, Diagram, FromRead, Problem, Sink, Source, ToWrite, read_problem, run_answer,
+    verdict_status,
+};
+use pg_streams::{Cleared, Gathered, Terminal, watch_records};
+use std::alloc::Global;
+use std::io;
+use std::io::{Read, Seek, SeekFrom};
+use std::rt::Runtime;
+
+// Reads the certificate that a source gives for a problem, and writes the report of the games that it proves; the
+// status of their verdict. A status means that these games are the exact answer to the problem; the report is handed
+// on then.
+//
+// # Errors
+// `Answer` with the fault of the run, or `Check` with `Write` where the rest of the report is refused.
+pub(crate) fn answer_from<S: Source, W: Sink>(
+    alloc: Global,
+    problem: &Problem,
+    bounds: &[Box<dyn Bound>],
+    source: &mut S,
+    out: &mut Gathered<W>,
+    records: u64,
+) -> Result<u8, Refusal>
+    ensures headline { IfOk result (λ status. HasAnswer problem.now.diagram problem.now.length status) }
+    ensures report { IfOk result (λ status. IsHandedAnswer
+        (terms (rules_by code_of excluded bounds.now) records MOST_NAMED (S.left source.old))
+        problem.now.diagram problem.now.length
+        (⟦<Gathered<W> as Sink>⟧.held out.old) (W.held (sink_of out.new)) status) }
+    ensures err { IfErr result (λ refusal. IsAnswerRefusal
+        (terms (rules_by code_of excluded bounds.now) records MOST_NAMED (S.left source.old))
+        (terms (any_rules_by code_of excluded bounds.now) records MOST_NAMED (S.left source.old))
+        problem.now.diagram problem.now.length
+        (failures (S.has_failed source.new) (⟦<Gathered<W> as Sink>⟧.has_failed out.new)) refusal) }
+{
+    match run_answer(alloc, problem, bounds, source, out, records, MOST_NAMED) {
+        Ok(verdict) => finished(verdict_status(verdict), out),
+        Err(fault) => Err(Refusal::Answer(fault)),
+    }
+}
+
+// The problem that the header at the front of a source names.
+fn problem_from<S: Source>(source: &mut S) -> Result<Problem, Refusal>
+    ensures err { IfErr result (λ refusal. IsHeaderRefusal refusal) }
+{
+    match read_problem(source) {
+        Ok(problem) => Ok(problem),
+        Err(fault) => return Err(Refusal::Answer(fault)),
+    }
+}
+
+// The problem that the header of a file names. The file is at its start then.
+fn problem_in<F: Read + Seek>(file: &mut F) -> Result<Problem, Refusal>
+    ensures err { IfErr result (λ refusal. IsHeaderRefusal refusal) }
+{
+    let mut source = FromRead::new(&mut *file);
+    let problem = match problem_from(&mut source) {
+        Ok(problem) => problem,
+        Err(refusal) => return Err(refusal),
+    };
+    match file.seek(SeekFrom::Start(0)) {
+        Ok(_) => Ok(problem),
+        Err(_) => Err(Refusal::Read),
+    }
+}
+
+// The diagram that the header of a file names, where there is one.
+pub(crate) fn diagram_in<R: Runtime + AllocGlobal>(rt: &R, path: &str) -> Option<Diagram> {
+    let Ok(mut file) = open_plain(rt, path) else {
+        return None;
+    };
+    match problem_in(&mut file) {
+        Ok(problem) => Some(problem.diagram),
+        Err(_) => None,
+    }
+}
+
+// `pg answer`: the certificate of a plain file is read, and the report of its games stands on standard output. A status
+// means that for some diagram and some length a list is the exact answer, and 0 that it has one game.
+#[inline(never)]
+pub(crate) fn answer<R: Runtime + AllocGlobal>(
+    rt: &R,
+    words: &ArgMatches<'_>,
+    bounds: &[Box<dyn Bound>],
+    screen: bool,
+) -> Result<u8, Refusal>
+    ensures headline { IfOk result (λ status. IsAnsweredBySome status) }
+    ensures err { IfErr result (λ refusal. IsAnswerCause (rules_by code_of excluded bounds.now) refusal) }
+{
+    let mut certificate = match open_plain(rt, text_of(words, "CERT")) {
+        Ok(certificate) => certificate,
+        Err(fault) => return Err(Refusal::of_file(fault, Named::Certificate)),
+    };
+    let problem = match problem_in(&mut certificate) {
+        Ok(problem) => problem,
+        Err(refusal) => return Err(refusal),
+    };
+    let records = words.get_one::<u64>("records").unwrap_or(RECORDS);
+    let terminal = Terminal::new(screen);
+    let mut source = watch_records(rt, &terminal, certificate, records);
+    let mut out = Gathered::new(Cleared::new(ToWrite::new(io::writer(rt)), rt, &terminal));
+    let answer = answer_from(rt.alloc(), &problem, bounds, &mut source, &mut out, records);
+    source.end();
+    answer
+}

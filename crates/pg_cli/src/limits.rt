@@ -1,0 +1,43 @@
+//! How far a search goes, as the words of a command say it.
+
+use clap::ArgMatches;
+use clap::parser::ValueSource;
+use pg_streams::milliseconds_of;
+
+// How far a search goes: so many nodes, and so many milliseconds, or any number of them.
+#[derive(Clone, Copy)]
+pub(crate) struct Reach {
+    pub(crate) nodes: u64,
+    pub(crate) milliseconds: Option<u64>,
+}
+
+// The milliseconds that the words say, if they do.
+fn milliseconds(words: &ArgMatches<'_>) -> Option<u64> {
+    milliseconds_of(words.get_str("minutes")?)
+}
+
+// How far the words let a search go: with minutes and no number of nodes, so far as the time reaches.
+pub(crate) fn reach_of(words: &ArgMatches<'_>, usual: u64) -> Reach {
+    let milliseconds = milliseconds(words);
+    let nodes = words.get_one::<u64>("nodes").unwrap_or(usual);
+    let is_said = words.value_source("nodes") == Some(ValueSource::CommandLine);
+    Reach {
+        nodes: if milliseconds.is_some() && !is_said {
+            u64::MAX
+        } else {
+            nodes
+        },
+        milliseconds,
+    }
+}
+
+// Whether the number of minutes that a command's words may say is one.
+pub(crate) fn are_minutes(words: &ArgMatches<'_>) -> bool {
+    let Some((_, inner)) = words.subcommand() else {
+        return true;
+    };
+    match inner.get_str("minutes") {
+        Some(minutes) => milliseconds_of(minutes).is_some(),
+        None => true,
+    }
+}

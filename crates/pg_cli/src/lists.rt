@@ -1,0 +1,138 @@
+//! Second lines, on a terminal alone, on a list of games that is refused, where it can be read again.
+
+use crate::spelling::text_of;
+use clap::ArgMatches;
+use pg_board::{Board, Square};
+use pg_checker::ListFault;
+use pg_fen::{Diagram, Length};
+use pg_files::{INPUT, open_plain, read_all};
+use pg_hints::{Misfit, bad_byte, line_like, misfit_of, name_of, on_move};
+use pg_report::GamesFault;
+use std::io::Eprint;
+use std::rt::Runtime;
+use std::str;
+
+// So many squares are told at most on which a game ends otherwise.
+const SQUARES: u8 = 4;
+
+// The bytes of a list that the words name, where they can be read again: MOVES, or a plain file.
+fn list_again<R: Runtime + AllocGlobal>(rt: &R, words: &ArgMatches<'_>) -> Option<Vec<u8>> {
+    if let Some(moves) = words.get_str("MOVES") {
+        return Vec::from_slice(rt.alloc(), moves.as_bytes()).ok();
+    }
+    let name = words.get_str("GAMES").unwrap_or(INPUT);
+    let mut file = open_plain(rt, name).ok()?;
+    read_all(rt.alloc(), &mut file).ok()
+}
+
+// Says where a list is no text.
+pub(crate) fn tell_byte<R: Runtime + AllocGlobal>(rt: &R, words: &ArgMatches<'_>) {
+    let Some(list) = list_again(rt, words) else {
+        return;
+    };
+    if let Some(place) = bad_byte(list.as_slice()) {
+        let (line, byte) = (place.line, place.byte);
+        let _ = eprintln!(rt; "pg: the first bad byte is byte {byte} of line {line}");
+    }
+}
+
+// Points to the word or the line by which a list is refused.
+pub(crate) fn tell_list<R: Runtime + AllocGlobal>(
+    rt: &R,
+    words: &ArgMatches<'_>,
+    fault: &GamesFault,
+) {
+    let Some(list) = list_again(rt, words) else {
+        return;
+    };
+    let Ok(list) = str::from_utf8(list.as_slice()) else {
+        return;
+    };
+    match *fault {
+        GamesFault::At {
+            line,
+            ply,
+            cause: _,
+        } => {
+            let hint = on_move(rt.alloc(), list, line, ply);
+            if !hint.is_empty() {
+                let _ = eprintln!(rt; "pg: {}", hint.as_str());
+            }
+        }
+        GamesFault::Repeated { line } => {
+            if let Ok(Some(first)) = line_like(rt.alloc(), list, line) {
+                let _ = eprintln!(rt; "pg: line {first} is the same game");
+            }
+        }
+        GamesFault::TooMany { line: _ } | GamesFault::Memory => {}
+    }
+}
+
+// Says what stands on a square at the end of a game, and what on the diagram.
+fn tell_square<R: Eprint>(rt: &R, square: Square, end: &Board, wanted: &Board) {
+    let file = char::from(b'a' - 1 + square.file());
+    let rank = square.rank();
+    let (there, other) = (name_of(end.get(square)), name_of(wanted.get(square)));
+    let _ = eprintln!(rt; "pg: {file}{rank}: {there} there, {other} on the diagram");
+}
+
+// Says on which squares a game ends otherwise, four at most.
+fn tell_squares<R: Eprint>(rt: &R, end: &Board, wanted: &Board) {
+    let differing = end.differing(wanted);
+    let mut squares = differing.squares();
+    for _ in 0..SQUARES {
+        let Some(square) = squares.next() else {
+            return;
+        };
+        tell_square(rt, square, end, wanted);
+    }
+    let more = differing.len().saturating_sub(SQUARES);
+    if more > 0 {
+        let _ = eprintln!(rt; "pg: squares that differ too: {more}");
+    }
+}
+
+// Says how many moves a game has, and how many are wanted.
+fn tell_moves<R: Eprint>(rt: &R, words: &ArgMatches<'_>, game: &Misfit) {
+    let Ok(wanted) = Length::read(text_of(words, "LENGTH")) else {
+        return;
+    };
+    let (line, wanted) = (game.line, wanted.write());
+    let (moves, half) = (game.plies / 2, game.plies % 2 * 5);
+    let wanted = wanted.as_str();
+    let _ = eprintln!(rt; "pg: line {line}: it has {moves}.{half} moves, {wanted} are wanted");
+}
+
+// Says where a game ends, and on which squares that is not the diagram.
+fn tell_end<R: Eprint>(rt: &R, words: &ArgMatches<'_>, game: &Misfit) {
+    let Ok(wanted) = Diagram::read(text_of(words, "DIAGRAM")) else {
+        return;
+    };
+    let (line, end) = (game.line, game.end.write());
+    let _ = eprintln!(rt; "pg: line {line}: it ends on {}", end.as_str());
+    tell_squares(rt, &game.end.board(), &wanted.board());
+}
+
+// Says which line of a list is the game that does not fit, and how long it is or where it ends.
+pub(crate) fn tell_misfit<R: Runtime + AllocGlobal>(
+    rt: &R,
+    words: &ArgMatches<'_>,
+    fault: &ListFault,
+) {
+    let Some(list) = list_again(rt, words) else {
+        return;
+    };
+    let Ok(list) = str::from_utf8(list.as_slice()) else {
+        return;
+    };
+    let at = match fault {
+        ListFault::WrongLength(at) | ListFault::NotReaching(at) => *at,
+    };
+    let Ok(Some(game)) = misfit_of(rt.alloc(), list, at) else {
+        return;
+    };
+    match fault {
+        ListFault::WrongLength(_) => tell_moves(rt, words, &game),
+        ListFault::NotReaching(_) => tell_end(rt, words, &game),
+    }
+}
