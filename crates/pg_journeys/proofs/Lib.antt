@@ -25,6 +25,8 @@ mod FirstDead
 mod WhoIsReached
 mod FrontLemmas
 mod KnownLemmas
+mod AlikeCases
+mod MemoryLemmas
 mod KindLemmas
 mod StepLemmas
 mod BackLemmas

@@ -16,3 +16,4 @@ pub mod Walking
 pub mod Needing
 pub mod Resting
 pub mod Searches
+pub mod Remembering

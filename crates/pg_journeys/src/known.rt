@@ -131,7 +131,7 @@ fn same_men(one: &Men, other: &Men) -> bool
 }
 
 // Whether both are the same colour.
-fn same_color(one: Color, other: Color) -> bool
+pub(crate) fn same_color(one: Color, other: Color) -> bool
     ensures { IsTrue result → one ≡ other }
 {
     match one {

@@ -271,7 +271,7 @@ fn dead_in_rounds(diagram: &Diagram, position: &Position, left: u8) -> Option<De
 {
     let mut facts = first_facts(diagram, position);
     for _ in 0..3u8 {
-        match next_facts(diagram, position, left, &facts, &[]) {
+        match next_facts(diagram, position, left, &facts) {
             None => return first_dead(diagram, position, left, &facts),
             Some(next) => {
                 if next == facts {

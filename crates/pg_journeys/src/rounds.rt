@@ -11,14 +11,16 @@ ghost use Rattle.pg_journeys.specs.Known.{known};
 ghost use Rattle.pg_journeys.specs.Rounds.{HasFew, AreFacts, HasDeadColor, JourneysHold};
 ghost use Rattle.pg_journeys.specs.inner.Grounds.{HasSteps};
 ghost use Rattle.pg_journeys.specs.inner.Knowing.{IsKnown};
+ghost use Rattle.pg_journeys.specs.inner.Remembering.{AreSteps, IsRemembered};
 ghost use Rattle.pg_journeys.specs.inner.Showing.{IsDead, Shows};
 ghost use Rattle.pg_journeys.specs.inner.Walking.{HasFewer, IsKept, MayLand, IsNext};
 
 use crate::facts::{Facts, walls};
 use crate::ground::steps_table;
 use crate::known::{FirstAims, Given, Known, known_steps};
+use crate::memory::{Case, Memory, Remembered, Steps, shown_in, steps_in};
 use crate::plans::budget;
-use crate::shown::{Shown, is_dead, shown_of};
+use crate::shown::{Shown, is_dead};
 use pg_board::{Board, Color, SquareSet};
 use pg_captures::{all_men, victims_of};
 use pg_fen::Diagram;
@@ -119,26 +121,73 @@ fn facts_by_plans(
     left: u8,
     facts: &Facts,
     given: &Given<'_>,
+    shown: &mut [Remembered],
 ) -> Option<Facts>
     requires steps { HasSteps facts.now.still given.now.table.now }
     requires known { All IsKnown given.now.known.now }
     requires few { HasFew position.now }
     requires enough { ¬ HasFewer diagram.now position.now }
-    ensures { MatchOption result ((c : AnyColor) × IsDead (known facts.now) diagram.now position.now left c)
+    requires remembered { All (IsRemembered diagram.now) shown.old }
+    ensures next { MatchOption result ((c : AnyColor) × IsDead (known facts.now) diagram.now position.now left c)
         (λ e. IsNext (known facts.now) (known e) diagram.now position.now left) }
+    ensures remembered { All (IsRemembered diagram.now) shown.new }
 {
-    match shown_of(diagram, position, left, facts, Color::White, given) {
+    let case = Case {
+        position: *position,
+        left,
+        facts: *facts,
+        color: Color::White,
+    };
+    match shown_in(shown, diagram, &case, given) {
         None => None,
-        Some(white) => match shown_of(diagram, position, left, facts, Color::Black, given) {
-            None => None,
-            Some(black) => Some(narrowed(diagram, position, facts, &white, &black)),
-        },
+        Some(white) => {
+            let case = Case {
+                color: Color::Black,
+                ..case
+            };
+            match shown_in(shown, diagram, &case, given) {
+                None => None,
+                Some(black) => Some(narrowed(diagram, position, facts, &white, &black)),
+            }
+        }
     }
 }
 
-// The same, by a table that is made here.
-#[inline(never)]
-fn facts_anew(diagram: &Diagram, position: &Position, left: u8, facts: &Facts) -> Option<Facts>
+// The facts that follow; none where a colour has no way alive. What both may spend is asked before any plan is looked
+// for.
+fn next_by(
+    diagram: &Diagram,
+    position: &Position,
+    left: u8,
+    facts: &Facts,
+    given: &Given<'_>,
+    shown: &mut [Remembered],
+) -> Option<Facts>
+    requires steps { HasSteps facts.now.still given.now.table.now }
+    requires known { All IsKnown given.now.known.now }
+    requires few { HasFew position.now }
+    requires enough { ¬ HasFewer diagram.now position.now }
+    requires remembered { All (IsRemembered diagram.now) shown.old }
+    ensures next { MatchOption result ((c : AnyColor) × IsDead (known facts.now) diagram.now position.now left c)
+        (λ e. IsNext (known facts.now) (known e) diagram.now position.now left) }
+    ensures remembered { All (IsRemembered diagram.now) shown.new }
+{
+    if owes_more(diagram, position, left, Color::White) {
+        return None;
+    }
+    if owes_more(diagram, position, left, Color::Black) {
+        return None;
+    }
+    facts_by_plans(diagram, position, left, facts, given, shown)
+}
+
+// The same, by a table of steps that is made here and nothing that is remembered.
+pub(crate) fn next_facts(
+    diagram: &Diagram,
+    position: &Position,
+    left: u8,
+    facts: &Facts,
+) -> Option<Facts>
     requires few { HasFew position.now }
     requires enough { ¬ HasFewer diagram.now position.now }
     ensures { MatchOption result ((c : AnyColor) × IsDead (known facts.now) diagram.now position.now left c)
@@ -149,39 +198,19 @@ fn facts_anew(diagram: &Diagram, position: &Position, left: u8, facts: &Facts) -
         table: &table,
         known: &[],
     };
-    facts_by_plans(diagram, position, left, facts, &given)
+    next_by(diagram, position, left, facts, &given, &mut [])
 }
 
-// The facts that follow; none where a colour has no way alive. What both may spend is asked before any table is made,
-// and what is known beforehand is used where these squares are still.
-pub(crate) fn next_facts(
-    diagram: &Diagram,
-    position: &Position,
-    left: u8,
-    facts: &Facts,
-    beforehand: &[Known],
-) -> Option<Facts>
-    requires few { HasFew position.now }
-    requires enough { ¬ HasFewer diagram.now position.now }
+// The table of steps where these squares are still, as it is known beforehand, or remembered.
+fn table_by(beforehand: &[Known], steps: &mut [Steps], still: SquareSet) -> [SquareSet; 384]
     requires known { All IsKnown beforehand.now }
-    ensures { MatchOption result ((c : AnyColor) × IsDead (known facts.now) diagram.now position.now left c)
-        (λ e. IsNext (known facts.now) (known e) diagram.now position.now left) }
+    requires remembered { All AreSteps steps.old }
+    ensures steps { HasSteps still result }
+    ensures remembered { All AreSteps steps.new }
 {
-    if owes_more(diagram, position, left, Color::White) {
-        return None;
-    }
-    if owes_more(diagram, position, left, Color::Black) {
-        return None;
-    }
-    match known_steps(beforehand, facts.still) {
-        Some(table) => {
-            let given = Given {
-                table,
-                known: beforehand,
-            };
-            facts_by_plans(diagram, position, left, facts, &given)
-        }
-        None => facts_anew(diagram, position, left, facts),
+    match known_steps(beforehand, still) {
+        Some(table) => *table,
+        None => steps_in(steps, still),
     }
 }
 
@@ -202,17 +231,28 @@ fn last_facts(
     position: &Position,
     left: u8,
     beforehand: &[Known],
+    shown: &mut [Remembered],
+    steps: &mut [Steps],
 ) -> Option<Facts>
     requires few { HasFew position.now }
     requires enough { ¬ HasFewer diagram.now position.now }
     requires known { All IsKnown beforehand.now }
+    requires shown { All (IsRemembered diagram.now) shown.old }
+    requires steps { All AreSteps steps.old }
     ensures dead { IfNone result (HasDeadColor diagram.now position.now left) }
     ensures alive { IfSome result (λ f. ¬ HasDeadColor diagram.now position.now left) }
     ensures facts { IfSome result (λ f. AreFacts diagram.now position.now left 3 (known f)) }
+    ensures shown { All (IsRemembered diagram.now) shown.new }
+    ensures steps { All AreSteps steps.new }
 {
     let mut facts = first_facts(diagram, position);
     for _ in 0..3u8 {
-        match next_facts(diagram, position, left, &facts, beforehand) {
+        let table = table_by(beforehand, steps, facts.still);
+        let given = Given {
+            table: &table,
+            known: beforehand,
+        };
+        match next_by(diagram, position, left, &facts, &given, shown) {
             None => return None,
             Some(next) => {
                 if next == facts {
@@ -256,13 +296,24 @@ pub(crate) fn has_few(position: &Position) -> bool
 
 // The facts of the last round, and the first ones where a colour has more than sixteen men; none where the bound by
 // journeys excludes. What is known beforehand makes them sooner.
-fn facts_by(diagram: &Diagram, position: &Position, left: u8, beforehand: &[Known]) -> Option<Facts>
-    requires { All IsKnown beforehand.now }
+pub(crate) fn facts_by(
+    diagram: &Diagram,
+    position: &Position,
+    left: u8,
+    beforehand: &[Known],
+    shown: &mut [Remembered],
+    steps: &mut [Steps],
+) -> Option<Facts>
+    requires known { All IsKnown beforehand.now }
+    requires shown { All (IsRemembered diagram.now) shown.old }
+    requires steps { All AreSteps steps.old }
     ensures holds { IfSome result (λ f. FactsHold (known f) diagram.now position.now left) }
     ensures last { IfSome result (λ f. HasFew position.now → AreFacts diagram.now position.now left 3 (known f)) }
     ensures first { IfSome result (λ f. ¬ HasFew position.now → AreFirst (known f) diagram.now position.now) }
     ensures some { IfSome result (λ f. ¬ JourneysHold diagram.now position.now left) }
     ensures none { IfNone result (JourneysHold diagram.now position.now left) }
+    ensures shown { All (IsRemembered diagram.now) shown.new }
+    ensures steps { All AreSteps steps.new }
 {
     // A fact for the proof: what is handed in is a position.
     position.side();
@@ -275,7 +326,7 @@ fn facts_by(diagram: &Diagram, position: &Position, left: u8, beforehand: &[Know
     if !has_few(position) {
         return Some(first_facts(diagram, position));
     }
-    last_facts(diagram, position, left, beforehand)
+    last_facts(diagram, position, left, beforehand, shown, steps)
 }
 
 /// Facts that hold for the games of `left` plies from the position to the diagram: the squares whose men stay where
@@ -288,7 +339,7 @@ pub fn facts_for(diagram: &Diagram, position: &Position, left: u8) -> Option<Fac
     ensures some { IfSome result (λ f. ¬ JourneysHold diagram.now position.now left) }
     ensures none { IfNone result (JourneysHold diagram.now position.now left) }
 {
-    facts_by(diagram, position, left, &[])
+    facts_by(diagram, position, left, &[], &mut [], &mut [])
 }
 
 /// Whether the bound by journeys excludes every game of `left` plies from the position to the diagram.
@@ -302,5 +353,19 @@ pub fn journeys_hold(diagram: &Diagram, position: &Position, left: u8) -> bool
 pub fn journeys_hold_by(aims: &FirstAims, diagram: &Diagram, position: &Position, left: u8) -> bool
     ensures { IsTrue result ↔ JourneysHold diagram.now position.now left }
 {
-    facts_by(diagram, position, left, aims.known()).is_none()
+    facts_by(diagram, position, left, aims.known(), &mut [], &mut []).is_none()
+}
+
+/// The same, sooner where `memory` is of the diagram: what was shown in a position before is remembered for the next
+/// ones. What it holds changes no answer.
+pub fn journeys_hold_with(
+    memory: &mut Memory,
+    aims: &FirstAims,
+    diagram: &Diagram,
+    position: &Position,
+    left: u8,
+) -> bool
+    ensures { IsTrue result ↔ JourneysHold diagram.now position.now left }
+{
+    memory.facts(aims, diagram, position, left).is_none()
 }

@@ -8,7 +8,7 @@ use crate::sides::{Change, Changes, Side, Sides, side_of};
 use pg_board::Color;
 use pg_captures::{Captures, Promotions, plies_left};
 use pg_fen::Diagram;
-use pg_journeys::{FirstAims, Journeys, journeys_hold_by};
+use pg_journeys::{FirstAims, Journeys, Memory, journeys_hold_with};
 use pg_pawns::PawnFiles;
 use pg_position::Position;
 use pg_prices::{NEVER, Needs, Rows, UNKNOWN};
@@ -157,11 +157,12 @@ fn excludes(means: Means, needs: &Needs) -> bool {
     needs.travel != UNKNOWN && (i16::from(needs.pawns) > means.owed || needs.travel > means.plies)
 }
 
-// The bound by journeys to a diagram, as a search asks it.
+// The bound by journeys to a diagram, as a search asks it, and what it remembers from one node to the next.
 #[derive(Drop)]
 pub(crate) struct AskedJourneys {
     diagram: Diagram,
     aims: FirstAims,
+    memory: Memory,
 }
 
 impl AskedJourneys {
@@ -177,16 +178,17 @@ impl AskedJourneys {
         Ok(Some(AskedJourneys {
             diagram: *diagram,
             aims: FirstAims::new(alloc, diagram)?,
+            memory: Memory::new(alloc, diagram)?,
         }))
     }
 
     // Whether it excludes a node with so many plies left. It stands out of line: where it is not asked, nothing is to
     // make room for what it needs.
     #[inline(never)]
-    fn exclude(&self, position: &Position, left: u8) -> bool
-        ensures { IsTrue result ↔ JourneysHold self.now.diagram position.now left }
+    fn exclude(&mut self, position: &Position, left: u8) -> bool
+        ensures { IsTrue result ↔ JourneysHold self.old.diagram position.now left }
     {
-        journeys_hold_by(&self.aims, &self.diagram, position, left)
+        journeys_hold_with(&mut self.memory, &self.aims, &self.diagram, position, left)
     }
 }
 
@@ -194,11 +196,11 @@ impl AskedJourneys {
 // branch.
 #[inline(always)]
 pub(crate) fn is_cut_by_journeys(
-    journeys: &Option<AskedJourneys>,
+    journeys: &mut Option<AskedJourneys>,
     position: &Position,
     left: u8,
 ) -> bool
-    ensures { MatchOption journeys.now (result ≡ false)
+    ensures { MatchOption journeys.old (result ≡ false)
         (λ asked. IsTrue result ↔ JourneysHold asked.diagram position.now left) }
 {
     match journeys {

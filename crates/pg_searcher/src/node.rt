@@ -136,7 +136,7 @@ fn open_or_cut<W: Sink>(
     ensures runs { OnOk result (output.new.writer.failed ≡ false) }
     ensures says { (plies : ℕ) → RefusesTruly plies (W.has_failed sink.new) result }
 {
-    if !is_cut_by_journeys(&output.journeys, position, node.left) {
+    if !is_cut_by_journeys(&mut output.journeys, position, node.left) {
         return open(output, sink, position, sides, node.key);
     }
     match output.cut(CutBy::Journeys, sink) {

@@ -46,7 +46,7 @@ fn is_cut(verdict: Cutting) -> bool {
 // A node that no cut by other bounds or by prices excludes: barren where one of the same future was, with as many
 // foreign moves, or where journeys exclude, if they are asked. They are asked of the position and not of the key, which
 // has the passed square only where a capture there is legal.
-fn stay(sieve: &Sieve, position: &Position, sides: &Sides, means: Means) -> Entry {
+fn stay(sieve: &mut Sieve, position: &Position, sides: &Sides, means: Means) -> Entry {
     let key = node_key(
         sides.white.key,
         sides.black.key,
@@ -55,11 +55,14 @@ fn stay(sieve: &Sieve, position: &Position, sides: &Sides, means: Means) -> Entr
         means.left,
     );
     match sieve.barren.get(key) {
-        Some(ANY) => Entry::Barren,
-        Some(foreign) if foreign >= means.foreign => Entry::Refused,
-        _ if is_cut_by_journeys(&sieve.journeys, position, means.left) => Entry::Barren,
-        _ => Entry::Opens(Open::new(position, sides, key, means.foreign)),
+        Some(ANY) => return Entry::Barren,
+        Some(foreign) if foreign >= means.foreign => return Entry::Refused,
+        _ => {}
     }
+    if is_cut_by_journeys(&mut sieve.journeys, position, means.left) {
+        return Entry::Barren;
+    }
+    Entry::Opens(Open::new(position, sides, key, means.foreign))
 }
 
 // Judges a node with at least two plies left, of which so much is known.
