@@ -22,6 +22,9 @@ const MISSING: u16 = 4080;
 // Where a row or a column has no partner.
 const FREE: u8 = 255;
 
+/// What the price of a column begins with where its least cost counts as 0.
+pub(crate) const START: u16 = 255;
+
 // Shortest paths from the row in hand to each column, by keys: sixteen times the length, and the row before the column.
 // The columns that are closed, which have their last length, as bits; and the one at the end, which no row holds.
 #[derive(Clone, Copy)]
@@ -237,14 +240,14 @@ fn with_cost(row: [u8; 16], cost: u8) -> u64 {
         .to_bitmask()
 }
 
-// Prices each row by the least that it pays, and gives it a column of that price that no row holds, if there is one.
-// The rows that are left are answered, as bits.
+// Prices each of the first so many rows by the least that it pays, and gives it a column of that price that no row
+// holds, if there is one. The rows that are left are answered, as bits.
 #[inline(always)]
-fn begin(costs: &Costs, least: [u8; 16], partners: &mut Proposal) -> u64 {
+fn begin(costs: &Costs, rows: usize, least: [u8; 16], partners: &mut Proposal) -> u64 {
     let size = costs.size.min(16);
     let mut free = (1u64 << size) - 1;
     let mut left = 0u64;
-    for t in 0..size {
+    for t in 0..rows.min(16) {
         let above = above(costs.rows[t], least);
         let cost = least_cost(above);
         let fitting = with_cost(above, cost) & free;
@@ -259,22 +262,23 @@ fn begin(costs: &Costs, least: [u8; 16], partners: &mut Proposal) -> u64 {
         partners.rows[t] = if cost == NONE {
             MISSING
         } else {
-            u16::from(cost) + 255
+            u16::from(cost) + START
         };
     }
     left
 }
 
-/// A proposal for the rows of these costs, of which the least ones of each column are handed in.
+/// A proposal for the first so many rows of these costs, by numbers that no cost of a column is below: the least costs
+/// of the columns, which leave fewer rows to be settled, or zeros, with which all columns have the same first price.
 #[inline(never)]
-pub(crate) fn propose(costs: &Costs, least: [u8; 16]) -> Proposal {
+pub(crate) fn propose(costs: &Costs, rows: usize, least: [u8; 16]) -> Proposal {
     let mut partners = Proposal {
         rows: [0; 16],
         columns: first_prices(least),
         holder: [FREE; 16],
         to: [FREE; 16],
     };
-    let mut left = begin(costs, least, &mut partners);
+    let mut left = begin(costs, rows, least, &mut partners);
     for _ in 0..16usize {
         if left == 0 {
             break;

@@ -104,5 +104,5 @@ pub fn least_total(costs: &Costs) -> Option<u16>
     requires { costs.now.size ≤ 16 }
     ensures { IsLeastTotal costs.now result }
 {
-    judged(costs, &propose(costs, least_of_columns(costs)))
+    judged(costs, &propose(costs, costs.size, least_of_columns(costs)))
 }

@@ -49,7 +49,7 @@ fn found(costs: &Costs, least: [u8; 16], most: u16, totals: &mut LeastTotals) ->
     ensures none { result ≡ false → IsBeyond costs.now most }
     ensures some { IsTrue result → AreTotals costs.now most totals.new }
 {
-    let proposal = propose(costs, least);
+    let proposal = propose(costs, costs.size, least);
     let mut slacks = [[u16::MAX; 16]; 16];
     if !fitted(costs, &proposal, &mut slacks) {
         return by_searches(costs, &proposal, most, totals);

@@ -185,7 +185,7 @@ pub fn least_with_all(costs: &Costs) -> [[u16; 16]; 16]
     requires { costs.now.size ≤ 16 }
     ensures { AreLeastWith costs.now result costs.now.size }
 {
-    let proposal = propose(costs, least_of_columns(costs));
+    let proposal = propose(costs, costs.size, least_of_columns(costs));
     if shows_none(costs, &proposal) {
         none_all(costs)
     } else {
