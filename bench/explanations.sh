@@ -1,8 +1,7 @@
 #!/usr/bin/env bash
 # What `pg why` says of the certificates of examples/: a line of each kind, as it is written here; of each certificate, that it is
 # right; and in the other version, where it may stand in that, the same. Then of copies with a few bytes changed, in both versions where both may have
-# such a record: what it says of the record that is wrong, and last the fault. Quiet where all is so; else prints each
-# difference, and ends with status 1. PG may name the program.
+# such a record: the fault alone. Quiet where all is so; else prints each difference, and ends with status 1. PG may name the program.
 set -u
 top=$(cd "$(dirname "$(readlink -f "$0")")/.." && pwd)
 work=$(mktemp -d) || exit 1
@@ -13,10 +12,9 @@ wrong=0
 
 # Explains the moves $2 by the certificate $3 of the example $1, whose last line is to say that it is right.
 explain() {
-  local lines words=()
-  mapfile -t lines <"$top/examples/$1/problem"
+  local words=()
   [ ! -f "$top/examples/$1/words" ] || read -ra words <"$top/examples/$1/words"
-  "$pg" why "${lines[0]}" "${lines[1]}" "$3" "$2" "${words[@]}" >"$work/said" 2>&1 &&
+  "$pg" why "$3" "$2" "${words[@]}" >"$work/said" 2>&1 &&
     [ "$(tail -n 1 "$work/said")" = 'the certificate is right' ] && return
   echo "$1, $2:" >&2
   sed 's/^/    /' "$work/said" >&2
@@ -29,8 +27,7 @@ other_version() {
     PGC1) "$pg" upgrade "$1" "$work/other.pgc" >/dev/null ;;
     PGC2)
       { printf PGC1; tail -c +5 "$1"; } >"$work/other.pgc"
-      mapfile -t lines <"$(dirname "$1")/problem"
-      "$pg" why "${lines[0]}" "${lines[1]}" "$work/other.pgc" - >/dev/null 2>&1
+      "$pg" why "$work/other.pgc" - >/dev/null 2>&1
       ;;
   esac
 }
@@ -81,13 +78,11 @@ bishop-on-d3|e3|after 1. e3: excluded: no man of black's can come to be the pawn
 bishop-on-d3|d4 d5|after 1. d4 d5: excluded: white has 13 moves left, 3 of them captures, and needs 11 quiet moves: black captures on 13 squares alone (journeys)
 END
 
-# Explains the moves $2 by the certificate in $work of the example $1, which is to say $3 of them and then be refused by the fault $4.
+# Explains the start by the certificate in $work of the example $1, which is to be refused by the fault $2, with nothing said before.
 refuse() {
-  local lines
-  mapfile -t lines <"$top/examples/$1/problem"
-  "$pg" why "${lines[0]}" "${lines[1]}" "$work/changed.pgc" "$2" >"$work/said" 2>/dev/null
-  [ $? = 1 ] && [ "$(tail -n 2 "$work/said")" = "$3"$'\n'"$4" ] && return
-  printf '%s, %s:\n    wanted: %s; %s\n' "$1" "$2" "$3" "$4" >&2
+  "$pg" why "$work/changed.pgc" - >"$work/said" 2>&1
+  [ $? = 1 ] && [ "$(cat "$work/said")" = "pg: $2" ] && return
+  printf '%s:\n    wanted: pg: %s\n' "$1" "$2" >&2
   sed 's/^/    /' "$work/said" >&2
   wrong=1
 }
@@ -118,18 +113,18 @@ change() {
   done
 }
 
-while IFS='|' read -r name changes moves wanted fault; do
+while IFS='|' read -r name changes fault; do
   change "$name" "$changes"
-  refuse "$name" "$moves" "$wanted" "$fault"
+  refuse "$name" "$fault"
 done <<'END'
-after-the-mate|46:04=01|Na3|after 1. Na3: cut by bound 1, which is not seen to exclude|cut 1 does not exclude
-after-the-mate|46:04=01 3:32=31|Na3|after 1. Na3: cut by bound 1, which is not seen to exclude|cut 1 does not exclude
-after-the-mate|239:00=63|f3 e6 a3|after 1. f3 e6 2. a3: a reference to no closed node|reference to no closed node
-after-the-mate|239:00=63 3:32=31|f3 e6 a3|after 1. f3 e6 2. a3: a reference to no closed node|reference to no closed node
-after-the-mate|239:00=01|f3 e6 a3|after 1. f3 e6 2. a3: as after 1. a3 e6 2. g4, which is another position, below which no game ends on the diagram|reference to another position
-after-the-mate|239:00=01 3:32=31|f3 e6 a3|after 1. f3 e6 2. a3: as after 1. a3 e6 2. g4, which is another position, below which no game ends on the diagram|reference to another position
-four-games|358:01=0300000000 159:01=05|e4 d6 e5 a6|after 1. e4 d6 2. e5 a6: as after 1. e4 a6 2. e5 d6, below which a game ends on the diagram|reference to a node with a game
-four-games|358:01=0300000000 159:01=05 72:060301010807001000000000000011100000000000=01,29x0204,01,20x0204 3:32=31|e4 d6 e5 a6|after 1. e4 d6 2. e5 a6: as after 1. e4 a6 2. e5 d6, below which a game ends on the diagram|reference to a node with a game
+after-the-mate|46:04=01|cut 1 does not exclude
+after-the-mate|46:04=01 3:32=31|cut 1 does not exclude
+after-the-mate|239:00=63|reference to no closed node
+after-the-mate|239:00=63 3:32=31|reference to no closed node
+after-the-mate|239:00=01|reference to another position
+after-the-mate|239:00=01 3:32=31|reference to another position
+four-games|358:01=0300000000 159:01=05|reference to a node with a game
+four-games|358:01=0300000000 159:01=05 72:060301010807001000000000000011100000000000=01,29x0204,01,20x0204 3:32=31|reference to a node with a game
 END
 
 for problem in "$top"/examples/*/problem; do

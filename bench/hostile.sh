@@ -94,16 +94,16 @@ done <<END
 2 search $array 0 none --nodes 18446744073709551616
 2 search 8/8 0 none
 2 search $array 64.5 none
-2 why $array 0 none
-2 page $array 0
-2 page $array 0 none more
-2 page $array 0 none --records 0
-2 page $array 0 none --nodes -1
+2 why none
+2 page
+2 page none more
+2 page none --records 0
+2 page none --nodes -1
 4 check $array 0 none none --records=18446744073709551615
 4 check 8/8 64.5 none
 4 answer none --records=18446744073709551615 --journeys
-4 why 8/8 64.5 none -
-4 page 8/8 64.5 none --nodes=18446744073709551615
+4 why none -
+4 page none --nodes=18446744073709551615
 4 search $array 0 none/none --nodes=0
 4 search $array 0 none/
 0 --help
@@ -269,39 +269,33 @@ END
 open_line='at the start: 1 of 20 moves leads on; cut 19 by travel; 1 game below
 after 1. e4: 1 of 20 moves ends on the diagram
 the certificate is right'
-expect 0 '' '"$pg" why $open 1.0 ../open.pgc "1. e4" --records 22' "$open_line"
-expect 1 'pg: reference to no closed node' '"$pg" why $open 1.0 ../reference.pgc - --records 22' \
-  $'at the start: a reference to no closed node\nreference to no closed node'
-expect 1 'pg: truncated certificate' '"$pg" why $open 1.0 ../cut.pgc - --records 22' 'truncated certificate'
-expect 1 'pg: bytes after the certificate' '"$pg" why $open 1.0 ../long.pgc - --records 22' 'bytes after the certificate'
-expect 2 'pg: not one line of moves' '"$pg" why $open 1.0 ../open.pgc "" --records 22' ''
-expect 2 'pg: line 1, ply 1: no such legal move' '"$pg" why $open 1.0 ../open.pgc e5 --records 22' ''
-expect 2 'pg: line 1, ply 1: not a move' '"$pg" why $open 1.0 ../open.pgc "- e4" --records 22' ''
+expect 0 '' '"$pg" why ../open.pgc "1. e4" --records 22' "$open_line"
+expect 1 'pg: reference to no closed node' '"$pg" why ../reference.pgc - --records 22' ''
+expect 1 'pg: truncated certificate' '"$pg" why ../cut.pgc - --records 22' ''
+expect 1 'pg: bytes after the certificate' '"$pg" why ../long.pgc - --records 22' ''
+expect 2 'pg: not one line of moves' '"$pg" why ../open.pgc "" --records 22' ''
+expect 2 'pg: line 1, ply 1: no such legal move' '"$pg" why ../open.pgc e5 --records 22' ''
+expect 2 'pg: line 1, ply 1: not a move' '"$pg" why ../open.pgc "- e4" --records 22' ''
 
-# More games than a list holds, of five pawn moves of each side in any order. `answer` judges what stands behind them too, where a cut is wrong.
+# More games than a list holds, of five pawn moves of each side in any order. What stands behind them is judged too, where a cut is wrong.
 five=rnbqkbnr/5ppp/ppppp3/8/8/PPPPP3/5PPP/RNBQKBNR
 { header "$five" 10; python3 "$top/bench/many-games.py"; } >"$work/five.pgc"
-expect 1 'pg: more than 4096 games' '"$pg" why $five 5.0 ../five.pgc -' \
-  $'at the start: 2 of 20 moves lead on; cut 18 by travel; 4200 games below\nmore than 4096 games'
-expect 1 'pg: more than 4096 games' '"$pg" page $five 5.0 ../five.pgc' ''
-expect 1 'pg: cut 4 does not exclude' '"$pg" answer ../five.pgc' ''
+for command in 'why ../five.pgc -' 'page ../five.pgc' 'answer ../five.pgc'; do
+  expect 1 'pg: cut 4 does not exclude' "\"\$pg\" $command" ''
+done
 expect 1 'pg: unlisted game: 1. a3 a6 2. b3 b6 3. c3 c6 4. d3 d6 5. e3 e6' '"$pg" check $five 5.0 ../five.pgc /dev/null' ''
 
 # Pages of such certificates: whole, or not begun.
 whole=$'<!DOCTYPE html>\n</html>'
-expect 0 '' '"$pg" page $open 1.0 ../open.pgc --records 22 | sed -n "1p;\$p"' "$whole"
-expect 0 '' '"$pg" page $open 1.0 ../open.pgc --nodes 0 | sed -n "1p;\$p"' "$whole"
-expect 0 '' '"$pg" page $open 0.5 ../short.pgc | grep -c "No game.</strong> No game of 0.5 moves"' 1
-expect 1 'pg: record limit reached' '"$pg" page $open 1.0 ../open.pgc --records 21' ''
-expect 1 'pg: reference to no closed node' '"$pg" page $open 1.0 ../reference.pgc' ''
-expect 1 'pg: truncated certificate' '"$pg" page $open 1.0 ../cut.pgc' ''
-expect 1 'pg: truncated certificate' '"$pg" page $open 1.0 empty' ''
-expect 1 'pg: not a certificate' '"$pg" page $queen 2.0 report' ''
-expect 1 'pg: bytes after the certificate' '"$pg" page $open 1.0 ../long.pgc' ''
-expect 1 'pg: certificate for another length' '"$pg" page $open 1.5 ../open.pgc' ''
-expect 1 'pg: certificate for another diagram' '"$pg" page $queen 1.0 ../open.pgc' ''
-expect 2 'pg: bad rank' '"$pg" page 8/8 1. ../open.pgc' ''
-expect 2 'pg: bad length' '"$pg" page $open 1. ../open.pgc' ''
+expect 0 '' '"$pg" page ../open.pgc --records 22 | sed -n "1p;\$p"' "$whole"
+expect 0 '' '"$pg" page ../open.pgc --nodes 0 | sed -n "1p;\$p"' "$whole"
+expect 0 '' '"$pg" page ../short.pgc | grep -c "No game.</strong> No game of 0.5 moves"' 1
+expect 1 'pg: record limit reached' '"$pg" page ../open.pgc --records 21' ''
+expect 1 'pg: reference to no closed node' '"$pg" page ../reference.pgc' ''
+expect 1 'pg: truncated certificate' '"$pg" page ../cut.pgc' ''
+expect 1 'pg: truncated certificate' '"$pg" page empty' ''
+expect 1 'pg: not a certificate' '"$pg" page report' ''
+expect 1 'pg: bytes after the certificate' '"$pg" page ../long.pgc' ''
 
 # What is known of a diagram at once.
 expect 2 'pg: bad length' '"$pg" show $array 1.2' ''
@@ -352,18 +346,18 @@ for folder in 'check $queen 2.0 . games' 'check $queen 2.0 good.pgc .' 'games $q
 done
 expect 4 'pg: cannot open .' '"$pg" answer .'
 expect 4 'pg: cannot open /dev/stdin' 'cat good.pgc | "$pg" answer /dev/stdin'
-expect 4 'pg: cannot open .' '"$pg" why $queen 2.0 . -'
-expect 4 'pg: cannot open /dev/stdin' 'cat good.pgc | "$pg" why $queen 2.0 /dev/stdin -'
-expect 4 'pg: cannot open .' '"$pg" page $queen 2.0 .'
-expect 4 'pg: cannot open /dev/stdin' 'cat good.pgc | "$pg" page $queen 2.0 /dev/stdin'
+expect 4 'pg: cannot open .' '"$pg" why . -'
+expect 4 'pg: cannot open /dev/stdin' 'cat good.pgc | "$pg" why /dev/stdin -'
+expect 4 'pg: cannot open .' '"$pg" page .'
+expect 4 'pg: cannot open /dev/stdin' 'cat good.pgc | "$pg" page /dev/stdin'
 for full in '>&-' '>/dev/full'; do
   expect 4 'pg: write fault' '"$pg" moves "$position" '"$full"
   expect 4 'pg: write fault' '"$pg" count "$position" 2 '"$full"
   expect 4 'pg: write fault' '"$pg" check $queen 2.0 good.pgc games '"$full"
   expect 4 'pg: write fault' '"$pg" answer good.pgc '"$full"
   expect 4 'pg: write fault' '"$pg" search $queen 2.0 good.pgc '"$full"
-  expect 4 'pg: write fault' '"$pg" why $queen 2.0 good.pgc - '"$full"
-  expect 4 'pg: write fault' '"$pg" page $queen 2.0 good.pgc '"$full"
+  expect 4 'pg: write fault' '"$pg" why good.pgc - '"$full"
+  expect 4 'pg: write fault' '"$pg" page good.pgc '"$full"
   expect 4 'pg: write fault' '"$pg" upgrade old.pgc new.pgc '"$full"
   expect 4 'pg: write fault' '"$pg" --help '"$full"
 done
@@ -371,7 +365,7 @@ expect 1 '' '"$pg" search $queen 2.0 good.pgc --nodes 3 2>&-'
 expect 1 '' '"$pg" search $queen 2.0 new.pgc --nodes 3 <&- >&- 2>&-'
 expect 0 '' '"$pg" check $queen 2.0 good.pgc games <&- 2>&- | cmp - report'
 expect 0 '' '"$pg" answer good.pgc <&- 2>&- | cmp - report'
-expect 0 '' '"$pg" page $queen 2.0 good.pgc <&- 2>&- | cmp - <("$pg" page $queen 2.0 good.pgc)'
+expect 0 '' '"$pg" page good.pgc <&- 2>&- | cmp - <("$pg" page good.pgc)'
 
 # Standard input by its name.
 expect 0 '' 'cat games | "$pg" check $queen 2.0 good.pgc - | cmp - report'
@@ -380,13 +374,13 @@ expect 0 '' '"$pg" check $queen 2.0 - games <good.pgc | cmp - report'
 expect 0 '' 'cat games | "$pg" games $queen 2.0 - | tail -n 1' 'at least one game'
 expect 0 '' '"$pg" cooks $queen 2.0 - --nodes 0 <games | tail -n 1' 'none found: node limit reached'
 expect 0 '' 'cat old.pgc | "$pg" upgrade - ../two' 'records 0'
-expect 0 '' '"$pg" why $queen 2.0 - - <good.pgc | tail -n 1' 'the certificate is right'
+expect 0 '' '"$pg" why - - <good.pgc | tail -n 1' 'the certificate is right'
 for both in 'check $queen 2.0 - - <good.pgc' 'check $queen 2.0 - <good.pgc' 'check $queen 2.0 - games <games' 'check $queen 2.0 games - <games'; do
   said=-
   [ "${both#*0 games}" = "$both" ] || said=games
   expect 4 "pg: cannot open $said" "\"\$pg\" $both"
 done
-expect 4 'pg: cannot open -' 'cat good.pgc | "$pg" why $queen 2.0 - -'
+expect 4 'pg: cannot open -' 'cat good.pgc | "$pg" why - -'
 expect 4 'pg: cannot open -' '"$pg" search $queen 2.0 new.pgc --games -' ''
 expect 4 'pg: read fault' '"$pg" check $queen 2.0 good.pgc - <&-'
 
@@ -422,10 +416,10 @@ expect 4 'pg: cannot open none' '"$pg" upgrade none new.pgc'
 expect 4 'pg: cannot open none' '"$pg" upgrade none old.pgc'
 expect 4 'pg: cannot open none' '"$pg" answer none'
 expect 4 "pg: cannot open $work/fifo" '"$pg" answer "$work/fifo"'
-expect 4 'pg: cannot open none' '"$pg" why $queen 2.0 none -'
-expect 4 "pg: cannot open $work/fifo" '"$pg" why $queen 2.0 "$work/fifo" -'
-expect 4 'pg: cannot open none' '"$pg" page $queen 2.0 none'
-expect 4 "pg: cannot open $work/fifo" '"$pg" page $queen 2.0 "$work/fifo"'
+expect 4 'pg: cannot open none' '"$pg" why none -'
+expect 4 "pg: cannot open $work/fifo" '"$pg" why "$work/fifo" -'
+expect 4 'pg: cannot open none' '"$pg" page none'
+expect 4 "pg: cannot open $work/fifo" '"$pg" page "$work/fifo"'
 
 # Drafts that killed runs have left: the next number is taken, and with a thousand of them there is no search. Rights are kept, and no
 # setuid or setgid bit. A name of 255 bytes has a draft too.
@@ -455,7 +449,7 @@ expect 0 '' 'cmp ../apart/.G.pg-part-0 games; ls -A ../apart' $'.G.pg-part-0\nG\
 expect 4 'pg: cannot open new.pgc' '"$pg" search $queen 2.0 new.pgc --games new.pgc' ''
 expect 4 'pg: cannot open no/list' '"$pg" search $queen 2.0 new.pgc --games no/list' ''
 expect 4 'pg: write fault' 'trap "" XFSZ; ulimit -f 1; "$pg" search $schweig 4.0 good.pgc'
-expect 4 'pg: write fault' 'trap "" XFSZ; ulimit -f 1; "$pg" page $queen 2.0 good.pgc >../page.html'
+expect 4 'pg: write fault' 'trap "" XFSZ; ulimit -f 1; "$pg" page good.pgc >../page.html'
 expect 1 'pg: not a certificate of version 1' '"$pg" upgrade old.pgc ../two >/dev/null; "$pg" upgrade ../two good.pgc'
 { header "$array" 4; ones 2000; } >"$work/old.pgc"
 expect 4 'pg: write fault' 'trap "" XFSZ; ulimit -f 1; "$pg" upgrade ../old.pgc new.pgc'
@@ -465,25 +459,25 @@ echo '1. Nc3 d6 2. Nd5 Nd7 3. Nxe7 Ndf6 4. Nxg8 Nxg8' >"$work/knights"
 expect 0 '' '"$pg" search $schweig 4.0 ../journeys.pgc --journeys | tail -n 1' sound
 expect 0 '' '"$pg" check $schweig 4.0 ../journeys.pgc ../knights --journeys | tail -n 1' sound
 expect 0 '' '"$pg" answer ../journeys.pgc --journeys | tail -n 1' sound
-expect 0 '' '"$pg" page $schweig 4.0 ../journeys.pgc --journeys | tail -n 1' '</html>'
-expect 0 '' '"$pg" why $schweig 4.0 ../journeys.pgc - --journeys | tail -n 1' 'the certificate is right'
+expect 0 '' '"$pg" page ../journeys.pgc --journeys | tail -n 1' '</html>'
+expect 0 '' '"$pg" why ../journeys.pgc - --journeys | tail -n 1' 'the certificate is right'
 expect 1 'pg: unknown bound 5' '"$pg" check $schweig 4.0 ../journeys.pgc ../knights' ''
 expect 1 'pg: unknown bound 5' '"$pg" answer ../journeys.pgc' ''
-expect 1 'pg: unknown bound 5' '"$pg" page $schweig 4.0 ../journeys.pgc' ''
-expect 1 'pg: unknown bound 5' '"$pg" why $schweig 4.0 ../journeys.pgc - >/dev/null'
+expect 1 'pg: unknown bound 5' '"$pg" page ../journeys.pgc' ''
+expect 1 'pg: unknown bound 5' '"$pg" why ../journeys.pgc - >/dev/null'
 expect 0 '' '"$pg" check $queen 2.0 good.pgc games --journeys | cmp - report'
 expect 0 '' '"$pg" answer good.pgc --journeys | cmp - report'
 
 # With the least stack that the README names.
 expect 0 '' 'ulimit -s 512; "$pg" search $schweig 4.0 ../journeys.pgc --journeys | tail -n 1' sound
 expect 0 '' 'ulimit -s 512; "$pg" search $queen 2.0 good.pgc | cmp - report && "$pg" check $queen 2.0 good.pgc games | cmp - report && "$pg" answer good.pgc | cmp - report'
-expect 0 '' 'ulimit -s 512; "$pg" page $queen 2.0 good.pgc | cmp - <("$pg" page $queen 2.0 good.pgc)'
-expect 0 '' 'ulimit -s 512; "$pg" why $queen 2.0 good.pgc "e4 d5" >/dev/null && "$pg" count "$position" 3 >/dev/null && "$pg" moves "$position" >/dev/null && "$pg" show $queen >/dev/null && "$pg" upgrade old.pgc ../two >/dev/null'
+expect 0 '' 'ulimit -s 512; "$pg" page good.pgc | cmp - <("$pg" page good.pgc)'
+expect 0 '' 'ulimit -s 512; "$pg" why good.pgc "e4 d5" >/dev/null && "$pg" count "$position" 3 >/dev/null && "$pg" moves "$position" >/dev/null && "$pg" show $queen >/dev/null && "$pg" upgrade old.pgc ../two >/dev/null'
 
 # The same with a long list: the 576 games of four pawn moves of each side in any order, which are 20,736 bytes.
 four=rnbqkbnr/4pppp/pppp4/8/8/PPPP4/4PPPP/RNBQKBNR
 "$pg" search "$four" 4.0 "$work/four.pgc" >"$work/four"
-"$pg" page "$four" 4.0 "$work/four.pgc" >"$work/four.html"
+"$pg" page "$work/four.pgc" >"$work/four.html"
 sed '1,3d;$d' "$work/four" >"$work/four.games"
 [ "$(wc -lc <"$work/four.games" | xargs)" = '576 20736' ] && [ "$(sed -n '3p;$p' "$work/four")" = $'games 576\ncooked' ] &&
   grep -q '</html>' "$work/four.html" || { echo "not the 576 games of four pawn moves of each side" >&2; wrong=1; }
@@ -493,7 +487,7 @@ expect 1 '' 'ulimit -s 512; "$pg" check $four 4.0 ../four.pgc ../four.games' "$r
 expect 1 '' 'ulimit -s 512; "$pg" answer ../four.pgc' "$report"
 expect 1 '' 'ulimit -s 512; "$pg" games $four 4.0 ../four.games' "${report/%cooked/not sound}"
 expect 1 '' 'ulimit -s 512; "$pg" cooks $four 4.0 ../four.games --nodes 0' "${report/%cooked/none found: node limit reached$'\n'not sound}"
-expect 0 '' 'ulimit -s 512; "$pg" page $four 4.0 ../four.pgc | cmp - ../four.html'
+expect 0 '' 'ulimit -s 512; "$pg" page ../four.pgc | cmp - ../four.html'
 expect 1 'pg: unlisted game: 1. a3 a6 2. b3 b6 3. c3 c6 4. d3 d6' 'ulimit -s 512; sed 1d ../four.games | "$pg" check $four 4.0 ../four.pgc' ''
 
 # On a terminal: a bad diagram is told before the list is typed, and else how it is typed.
@@ -501,7 +495,7 @@ if command -v script >/dev/null; then
   on_terminal() { script -qec "$1" /dev/null </dev/null | tr -d '\r'; }
   on_terminal "'$pg' check 8/8 2.0 good.pgc" >"$work/said"
   grep -qx 'pg: bad rank' "$work/said" || { echo "a bad diagram is not told before the list" >&2; wrong=1; }
-  on_terminal "'$pg' why $open 1.0 ../reference.pgc -" >"$work/said"
+  on_terminal "'$pg' why ../reference.pgc -" >"$work/said"
   [ "$(grep -cx '\(pg: \)\?reference to no closed node' "$work/said")" = 1 ] || { echo "a refused explanation does not tell its fault once" >&2; wrong=1; }
   on_terminal "'$pg' check $open 2.0 good.pgc" >"$work/said"
   grep -q 'pg: type the games, one a line; end with Ctrl-D' "$work/said" || { echo "not told how to type a list" >&2; wrong=1; }
@@ -523,7 +517,7 @@ if command -v script >/dev/null; then
   says "'$pg' check $open 2.0 good.pgc ../misspelt" 'pg: line 1, ply 3: not a move' 'pg: the word is "Nf9"; legal there: Nf3, Nc3, Qf3'
   says "'$pg' games $open 2.0 ../misspelt" 'pg: line 1, ply 3: not a move' 'pg: the word is "Nf9"; legal there: Nf3, Nc3, Qf3'
   says "cat ../misspelt | '$pg' games $open 2.0" 'pg: line 1, ply 3: not a move'
-  says "'$pg' why $queen 2.0 good.pgc 'e4 Qd6'" 'pg: line 1, ply 2: no such legal move' 'pg: the word is "Qd6"; legal there: d6, b6, c6'
+  says "'$pg' why good.pgc 'e4 Qd6'" 'pg: line 1, ply 2: no such legal move' 'pg: the word is "Qd6"; legal there: d6, b6, c6'
   says "'$pg' check $queen 2.0 . games" 'pg: cannot open .' 'pg: it is no plain file'
   says "'$pg' search $queen 2.0 -" 'pg: cannot open -' 'pg: it is standard input, which is not written'
   printf 'e4 e5\n\ne4 e6\n' >../misfit
@@ -560,8 +554,8 @@ if command -v script >/dev/null; then
 
   # A page of a long certificate that is refused shows how far its check is, takes that away, and prints nothing.
   { cat long.pgc; ones 24000000; } >../many.pgc
-  script -qec "'$pg' page $unreachable 64.0 ../many.pgc >../page.html" /dev/null </dev/null | tr -d '\n' | tr '\r' '\n' >"$work/said"
-  grep -q 'records [0-9]*% of limit' "$work/said" || { echo "a long page does not show how far it is" >&2; wrong=1; }
+  script -qec "'$pg' page ../many.pgc >../page.html" /dev/null </dev/null | tr -d '\n' | tr '\r' '\n' >"$work/said"
+  grep -q 'bytes [0-9]*% of file' "$work/said" || { echo "a long page does not show how far it is" >&2; wrong=1; }
   [ "$(tail -n 1 "$work/said")" = $'\e[Kpg: truncated certificate' ] && [ ! -s ../page.html ] || { echo "a refused page leaves something" >&2; wrong=1; }
 
   # A long search on 10 columns: what it shows does not wrap, has the tree, the share and the nodes to expect, and is taken away.

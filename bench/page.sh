@@ -111,7 +111,7 @@ read_page() {
 plies() { sed 's/[0-9]*\.//g' <<<"$1" | wc -w; }
 
 # What `pg why` says at the end of the moves $1.
-why() { "$pg" why "$diagram" "$length" "$certificate" "${1:--}" | tail -n 2 | head -n 1; }
+why() { "$pg" why "$certificate" "${1:--}" | tail -n 2 | head -n 1; }
 
 # Compares the place after the moves $1, where the board is $2 and the words are $3.
 compare_place() {
@@ -180,7 +180,7 @@ take() {
   local lines
   mapfile -t lines <"$top/examples/$1/problem"
   name=$1 diagram=${lines[0]} length=${lines[1]} certificate=$top/examples/$1/certificate.pgc
-  "$pg" page "$diagram" "$length" "$certificate" --nodes "$2" >"$work/page.html" || fail "pg page ends with status $?"
+  "$pg" page "$certificate" --nodes "$2" >"$work/page.html" || fail "pg page ends with status $?"
   ! grep -Eiq "https?:|@import|src *=|url\((['\"]?)[^#'\"]|href *= *['\"]?[^#'\" ]" "$work/page.html" || fail "the page loads something"
 }
 
@@ -197,7 +197,7 @@ pictures() {
 # writes one for each node, says that it visited.
 name='many records' diagram=2bqr1k1/2p1ppbp/1pp4p/7n/r2P3P/8/P1P1PPP1/RNB1KBNR
 "$pg" search "$diagram" 9.5 "$work/many.pgc" --nodes 1131833 >/dev/null || fail "pg search ends with status $?"
-"$pg" page "$diagram" 9.5 "$work/many.pgc" --nodes 0 >"$work/page.html" || fail "pg page ends with status $?"
+"$pg" page "$work/many.pgc" --nodes 0 >"$work/page.html" || fail "pg page ends with status $?"
 grep -q 'What was checked: a certificate of 1131833 records with [0-9][0-9]* named nodes' "$work/page.html" ||
   fail "the page has another number of records: $(grep -o 'What was checked: .*records' "$work/page.html")"
 

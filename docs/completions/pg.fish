@@ -76,12 +76,12 @@ complete -c pg -n '__pg_is_at judge 1 --certificates --nodes --minutes' -F
 complete -c pg -n '__pg_is why' -l records -x -d 'Refuses a certificate of more records [default: 100000000]'
 complete -c pg -n '__pg_is why' -l journeys -d 'Takes cuts by the bound by journeys too'
 complete -c pg -n '__pg_is why' -s h -l help -d 'Print help'
-complete -c pg -n '__pg_is_at why 3 --records' -F
+complete -c pg -n '__pg_is_at why 1 --records' -F
 complete -c pg -n '__pg_is page' -l records -x -d 'Refuses a certificate of more records [default: 100000000]'
 complete -c pg -n '__pg_is page' -l nodes -x -d 'Shows at most so many expanded nodes [default: 20000]'
 complete -c pg -n '__pg_is page' -l journeys -d 'Takes cuts by the bound by journeys too'
 complete -c pg -n '__pg_is page' -s h -l help -d 'Print help'
-complete -c pg -n '__pg_is_at page 3 --records --nodes' -F
+complete -c pg -n '__pg_is_at page 1 --records --nodes' -F
 complete -c pg -n '__pg_is upgrade' -l records -x -d 'Refuses a certificate of more records [default: 100000000]'
 complete -c pg -n '__pg_is upgrade' -s h -l help -d 'Print help'
 complete -c pg -n '__pg_is_at upgrade 1 --records' -F

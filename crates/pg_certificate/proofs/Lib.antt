@@ -10,4 +10,3 @@ pub mod RecordLaws
 pub mod PricedLemmas
 pub mod HeaderLemmas
 pub mod HeaderLaws
-pub mod Counts

@@ -4,6 +4,5 @@ pub mod Reader
 pub mod Writer
 pub mod Stream
 pub mod Pushing
-pub mod Counting
 pub mod Laws
 pub mod inner

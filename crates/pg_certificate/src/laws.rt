@@ -7,7 +7,6 @@ ghost use Rattle.pg_certificate.specs.Laws.{RecordsAreReadAgain, WhatIsReadIsSpe
 ghost use Rattle.pg_certificate.specs.Laws.{NoSpellingIsLonger};
 ghost use Rattle.pg_certificate.specs.Laws.{TruncatedWhereCutShort, UnknownWhereNoneGoesOn};
 ghost use Rattle.pg_certificate.specs.Laws.{HeadersAreReadAgain, WhatIsReadIsAHeader, RefusesWhatIsNoHeader};
-ghost use Rattle.pg_certificate.specs.Counting.{EachRecordIsCounted};
 
 /// Bytes that begin with the spelling of a record of a version are read as that record by that
 /// version, and what follows is left.
@@ -60,10 +59,4 @@ pub fn what_is_read_is_a_header()
 /// more that begin with no header's spelling.
 pub fn refuses_what_is_no_header()
     ensures { (bytes : List ℕ) → RefusesWhatIsNoHeader bytes }
-{}
-
-/// A count of records that a header and records pass by, in whatever parts, is the number of those
-/// records, and counts the next one from its first byte on.
-pub fn each_record_is_counted()
-    ensures { EachRecordIsCounted }
 {}

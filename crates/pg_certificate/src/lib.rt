@@ -2,7 +2,6 @@
 //! any sink. docs/FORMATS.md has the format.
 #![tactic(auto)]
 
-mod count;
 mod fault;
 pub mod format;
 mod from_read;
@@ -15,14 +14,12 @@ mod source;
 mod to_write;
 mod writer;
 
-pub use count::RecordCount;
 pub use fault::{ReadFault, WriteFault};
 pub use from_read::FromRead;
 pub use laws::{
-    each_record_is_counted, headers_are_read_again, no_spelling_begins_another,
-    no_spelling_is_longer, records_are_read_again, refuses_what_is_no_header,
-    truncated_where_cut_short, unknown_where_none_goes_on, what_is_read_is_a_header,
-    what_is_read_is_spelled,
+    headers_are_read_again, no_spelling_begins_another, no_spelling_is_longer,
+    records_are_read_again, refuses_what_is_no_header, truncated_where_cut_short,
+    unknown_where_none_goes_on, what_is_read_is_a_header, what_is_read_is_spelled,
 };
 pub use reader::RecordReader;
 pub use record::{Bare, Header, Record};

@@ -8,7 +8,7 @@ use Rattle.pg_moves.specs.Left.{MovesLeft}
 use Rattle.pg_moves.specs.Moves.{IsNext}
 use Rattle.pg_moves.proofs.PlayLemmas.{play_of, play_of_legal, play_of_is}
 use Rattle.pg_checker.specs.inner.Machine.{Plays}
-use Rattle.pg_checker.specs.inner.Spots.{played_from}
+use Rattle.pg_checker.specs.Spots.{played_from}
 use Rattle.pg_checker.specs.declared.machine.Frame.{Frame}
 
 -- the move leads there

@@ -3,7 +3,7 @@ use Rattle.std.specs.Prelude.{◌≡◌, ℕ, ◌+◌, ◌<◌, ◌≤◌, Bool,
 use Rattle.std.specs.List.{Contains}
 use Rattle.pg_board.specs.Placement.{Placement}
 use Rattle.pg_position.specs.declared.moves.Move.{Move}
-use Rattle.pg_checker.specs.Answer.{IsSolution, AreSolutions}
+use Rattle.pg_checker.specs.Answer.{IsSolution, IsExactAnswer, AreSolutions}
 use Rattle.pg_checker.specs.Check.{Certifies, Refuses}
 use Rattle.pg_checker.specs.Telling.{HasShorter}
 use Rattle.pg_checker.specs.Terms.{Terms}
@@ -16,6 +16,10 @@ use Rattle.pg_checker.specs.declared.fault.Fault.TheVariants as fault
 -- the known bytes are a certificate for the games of the answer, on these terms
 abbrev pub IsProvedBy : Terms → Placement → ℕ → Answer → Type 0
 IsProvedBy t d n answer = IfSome t.known (λ bytes. Certifies t d n answer.games bytes answer.proved)
+
+-- some games are the exact answer to the diagram d and n plies, and the known bytes are a certificate for them
+abbrev pub HasAnswer : Terms → Placement → ℕ → Type 0
+HasAnswer t d n = (a : Answer) × IsExactAnswer d n a.games × IsProvedBy t d n a
 
 -- of no list of games the known bytes are a certificate
 abbrev pub FitsNoList : Terms → Placement → ℕ → Type 0
@@ -56,6 +60,21 @@ AnswerTells d n (Err (answer_fault.Check (fault.Shorter m))) = HasShorter d n m
 AnswerTells d n (Err (answer_fault.Check (fault.Unlisted game))) = ⊥
 AnswerTells d n (Err answer_fault.TooManyGames) = HasTooMany d n
 AnswerTells d n _ = Unit {0}
+
+-- why a certificate has no answer: a cause that it has by these rules or, where it stands, by those for which each game
+-- is listed
+abbrev pub IsUnanswered : Terms → Terms → Placement → ℕ → Bool → AnswerFault → Type 0
+IsUnanswered t any d n failed e =
+    AnswerAccepts t d n (Err e) × AnswerRefuses any d n failed (Err e) × AnswerTells d n (Err e)
+
+-- which have failed where a certificate was read and something was to be written: the source and the sink
+pub record Failures : Type 0 where
+  pub source : Bool
+  pub sink : Bool
+
+-- these, one after the other
+abbrev pub failures : Bool → Bool → Failures
+failures source sink = record { source = source; sink = sink }
 
 -- at most so many of the known bytes are no longer left in the source; a source that has failed does not tell
 abbrev pub AnswerTakes : ℕ → Option (List ℕ) → Option (List ℕ) → Result Answer AnswerFault → Type 0

@@ -7,6 +7,5 @@ pub mod Finds
 pub mod Steps
 pub mod Judging
 pub mod Checking
-pub mod Spots
 pub mod Squares
 pub mod Leading

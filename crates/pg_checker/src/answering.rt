@@ -15,10 +15,12 @@ use crate::finds::{Finds, Loss};
 use crate::halt::fault_of;
 use crate::machine::{Input, Machine, Names, Question, Stack};
 use crate::table::Table;
+use crate::watch::CheckWatch;
 use arrayvec::ArrayVec;
 use pg_captures::Bound;
 use pg_certificate::{RecordReader, Source};
 use pg_fen::{Diagram, Length};
+use pg_moves::Unwatched;
 use pg_travel::Prices;
 use std::alloc::Global;
 
@@ -76,6 +78,46 @@ pub fn answer<'a, R: Source>(
     ensures runs { OnOk result (R.has_failed source.new ≡ false) }
     ensures tells { AnswerTells diagram.now length result }
 {
+    answer_watched(
+        alloc,
+        diagram,
+        length,
+        bounds,
+        source,
+        &mut Unwatched,
+        max_records,
+        max_named,
+    )
+}
+
+/// As `answer`, and tells `watch` of what it meets.
+///
+/// # Errors
+/// As for `answer`.
+pub fn answer_watched<'a, R: Source, W: CheckWatch>(
+    alloc: Global,
+    diagram: &'a Diagram,
+    length: Length,
+    bounds: &'a [Box<dyn Bound>],
+    source: &mut R,
+    watch: &mut W,
+    max_records: u64,
+    max_named: u32,
+) -> Result<Answer, AnswerFault>
+    ensures headline { IfOk result (λ a. IsExactAnswer diagram.now length a.games) }
+    ensures order { IfOk result (λ a. IsGames a.games) }
+    ensures accepted { AnswerAccepts
+        (terms (rules_by code_of excluded bounds.now) max_records max_named (R.left source.old))
+        diagram.now length result }
+    ensures refused { AnswerRefuses
+        (terms (any_rules_by code_of excluded bounds.now) max_records max_named (R.left source.old))
+        diagram.now length (R.has_failed source.new) result }
+    ensures pulls { AnswerTakes (header_length + longest_record * max_records + 4096)
+        (R.left source.old) (R.left source.new) result }
+    ensures end { OnOk result (IsAtEnd (R.left source.new)) }
+    ensures runs { OnOk result (R.has_failed source.new ≡ false) }
+    ensures tells { AnswerTells diagram.now length result }
+{
     let plies = length.plies();
     let mut machine = Machine {
         input: Input {
@@ -105,7 +147,7 @@ pub fn answer<'a, R: Source>(
         bounds,
         rows: rows_for(version, diagram),
     };
-    match walk(&question, &mut machine, source) {
+    match walk(&question, &mut machine, source, watch) {
         Ok(proved) => answered(machine.finds, proved),
         Err(halt) => Err(AnswerFault::Check(fault_of(halt, machine.stack.frames.as_slice()))),
     }

@@ -24,10 +24,12 @@ use crate::machine::{Input, Machine, Names, Question, Stack};
 use crate::node::halt_of;
 use crate::table::Table;
 use crate::walk::all_trees;
+use crate::watch::CheckWatch;
 use arrayvec::ArrayVec;
 use pg_captures::Bound;
 use pg_certificate::{ReadFault, RecordReader, Source};
 use pg_fen::{Diagram, Length};
+use pg_moves::Unwatched;
 use pg_san::Games;
 use pg_travel::{Prices, Rows};
 use std::alloc::Global;
@@ -100,10 +102,11 @@ pub(crate) fn rows_for(version: u8, diagram: &Diagram) -> Option<Rows> {
 }
 
 // The trees, and the end behind them.
-pub(crate) fn walk<S: Source>(
+pub(crate) fn walk<S: Source, W: CheckWatch>(
     question: &Question,
     machine: &mut Machine,
     source: &mut S,
+    watch: &mut W,
 ) -> Result<Proved, Halt>
     requires limit { question.now.plies ≤ 128 }
     requires ready { IsReady question.now.version machine.old }
@@ -123,7 +126,7 @@ pub(crate) fn walk<S: Source>(
 {
     let records = machine.input.records;
     let names = machine.names.left;
-    match all_trees(question, machine, source) {
+    match all_trees(question, machine, source, watch) {
         Ok(()) => {}
         Err(halt) => return Err(halt),
     }
@@ -180,6 +183,45 @@ pub fn check<R: Source>(
     ensures runs { OnOk result (R.has_failed source.new ≡ false) }
     ensures tells { Tells diagram.now length games.now result }
 {
+    check_watched(
+        alloc,
+        diagram,
+        length,
+        games,
+        bounds,
+        source,
+        &mut Unwatched,
+        max_records,
+        max_named,
+    )
+}
+
+/// As `check`, and tells `watch` of what it meets.
+///
+/// # Errors
+/// As for `check`.
+pub fn check_watched<R: Source, W: CheckWatch>(
+    alloc: Global,
+    diagram: &Diagram,
+    length: Length,
+    games: &Games,
+    bounds: &[Box<dyn Bound>],
+    source: &mut R,
+    watch: &mut W,
+    max_records: u64,
+    max_named: u32,
+) -> Result<Proved, Fault>
+    ensures headline { OnOk result (IsExactAnswer diagram.now length games.now) }
+    ensures accepted { Accepts (terms (rules_by code_of excluded bounds.now) max_records max_named (R.left source.old))
+        diagram.now length games.now result }
+    ensures refused { Refuses (terms (rules_by code_of excluded bounds.now) max_records max_named (R.left source.old))
+        diagram.now length games.now (R.has_failed source.new) result }
+    ensures pulls { Takes (header_length + longest_record * max_records + 4096)
+        (R.left source.old) (R.left source.new) result }
+    ensures end { OnOk result (IsAtEnd (R.left source.new)) }
+    ensures runs { OnOk result (R.has_failed source.new ≡ false) }
+    ensures tells { Tells diagram.now length games.now result }
+{
     match check_listed(diagram, length, games) {
         Ok(()) => {}
         Err(fault) => return Err(Fault::Listed(fault)),
@@ -213,7 +255,7 @@ pub fn check<R: Source>(
         bounds,
         rows: rows_for(version, diagram),
     };
-    match walk(&question, &mut machine, source) {
+    match walk(&question, &mut machine, source, watch) {
         Ok(proved) => Ok(proved),
         Err(halt) => Err(fault_of(halt, machine.stack.frames.as_slice())),
     }

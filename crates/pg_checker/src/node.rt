@@ -9,14 +9,15 @@ ghost use Rattle.pg_checker.specs.inner.Halting.{full, causes, stops};
 ghost use Rattle.pg_checker.specs.inner.Judging.{EndsSo, Judges, SaysRecord, TakesOne, ended_of, refer_answer, stop_of};
 ghost use Rattle.pg_checker.specs.inner.Machine.{IsReading, Walks, WalksOn, entry_of, opened, point_of, shape_of};
 ghost use Rattle.pg_checker.specs.inner.Telling.{NamesNoGame};
-ghost use Rattle.pg_checker.specs.inner.Spots.{IsReached, spot_of};
+ghost use Rattle.pg_checker.specs.Spots.{IsReached, spot_of};
 ghost use Rattle.pg_checker.specs.inner.Steps.{FailsRead};
 ghost use Rattle.pg_checker.specs.Walk.{judge as judge_of, head as head_of, cut_answer};
 
 use crate::halt::{Halt, Reason};
 use crate::machine::{Input, Names, Opening, Question};
-use crate::spot::Spot;
+use crate::spot::{Child, Spot};
 use crate::table::Table;
+use crate::watch::CheckWatch;
 use pg_board::Color;
 use pg_captures::{first_excludes, first_excludes_after};
 use pg_certificate::{Bare, ReadFault, RecordReader, Source};
@@ -273,21 +274,21 @@ fn next<S: Source>(
     }
 }
 
-// The record of a node with so many plies left.
+// The record of a node, of which the watch is told.
 #[inline(always)]
-pub(crate) fn judge_next<S: Source>(
+pub(crate) fn judge_next<S: Source, W: CheckWatch>(
     question: &Question,
     input: &mut Input,
     names: &mut Names,
     source: &mut S,
-    spot: &Spot,
-    left: u8,
+    child: &Child,
+    watch: &mut W,
 ) -> Result<Opening, Halt>
-    requires reached { IsReached spot.now }
+    requires reached { IsReached child.now.spot }
     requires ready { IsReading question.now.version input.old.reader }
     ensures says { (game : List Move) → Walks
         (point_of input.old names.old (S.left source.old)) (point_of input.new names.new (S.left source.new))
-        (head_of (rules_for code_of excluded question.now any_game) left (spot_of spot.now))
+        (head_of (rules_for code_of excluded question.now any_game) child.now.plies (spot_of child.now.spot))
         (λ node s. (shape_of node, s)) (stops game result) }
     ensures kept { IfOk result (λ node. names.new.table.kept ≡ names.old.table.kept + opened node) }
     ensures ready { OnOk result (IsReading question.now.version input.new.reader) }
@@ -302,7 +303,17 @@ pub(crate) fn judge_next<S: Source>(
     }
     input.records -= 1;
     match next(&mut input.reader, &mut input.prices, source) {
-        Ok(bare) => judge(question, names, spot, left, bare, &input.prices),
+        Ok(bare) => {
+            watch.met(&child.spot, child.plies, &bare, &input.prices);
+            judge(
+                question,
+                names,
+                &child.spot,
+                child.plies,
+                bare,
+                &input.prices,
+            )
+        }
         Err(halt) => Err(halt),
     }
 }

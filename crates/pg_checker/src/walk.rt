@@ -13,7 +13,7 @@ ghost use Rattle.pg_checker.specs.inner.Machine.{Closes, GoesOn, HasNone, IsRead
 ghost use Rattle.pg_checker.specs.inner.Machine.{Visits, Walks, Works, entered, entry_of, fresh, game_at, named_at};
 ghost use Rattle.pg_checker.specs.inner.Machine.{path, point_at, stack_at};
 ghost use Rattle.pg_checker.specs.inner.Telling.{StopTells};
-ghost use Rattle.pg_checker.specs.inner.Spots.{IsReached, spot_of};
+ghost use Rattle.pg_checker.specs.Spots.{IsReached, spot_of};
 ghost use Rattle.pg_checker.specs.Tree.{one_if};
 ghost use Rattle.pg_checker.specs.Walk.{leaf as leaf_of, visit};
 
@@ -22,8 +22,9 @@ use crate::halt::{Halt, Reason};
 use crate::machine::{Frame, Machine, Opening, Question, Stack, game_along};
 use crate::nearness::skip_to_solution;
 use crate::node::judge_next;
-use crate::spot::Spot;
+use crate::spot::{Child, Spot};
 use crate::table::{Entry, Table};
+use crate::watch::CheckWatch;
 use arrayvec::ArrayVec;
 use pg_certificate::Source;
 use pg_fen::Diagram;
@@ -111,35 +112,45 @@ fn open_node(spot: &Spot, plies: u8, named: bool, frames: &mut ArrayVec<Frame, 1
     open_at(&spot.position(), plies, named, frames);
 }
 
+// A leaf on the diagram is told of.
+fn tell_leaf<W: CheckWatch>(fertile: bool, spot: &Spot, watch: &mut W)
+    requires { IsReached spot.now }
+{
+    if fertile {
+        watch.ended(spot);
+    }
+}
+
 // A node is entered: it ends at once, or it is open from now on.
-fn enter<S: Source>(
+fn enter<S: Source, W: CheckWatch>(
     question: &Question,
     tree: u8,
-    left: u8,
-    spot: &Spot,
+    child: &Child,
     machine: &mut Machine,
     source: &mut S,
+    watch: &mut W,
 ) -> Result<(), Halt>
-    requires reached { IsReached spot.now }
-    requires depth { left + length machine.old.stack.frames.items ≡ tree }
-    requires played { LeadTo (reverse machine.old.stack.frames.items) (spot_of spot.now) }
+    requires reached { IsReached child.now.spot }
+    requires depth { child.now.plies + length machine.old.stack.frames.items ≡ tree }
+    requires played { LeadTo (reverse machine.old.stack.frames.items) (spot_of child.now.spot) }
     requires limit { tree ≤ 128 }
     requires within { tree ≤ question.now.plies }
     requires ready { IsReady question.now.version machine.old }
     ensures says { (listed : List Move → Bool) → Serves (asked question.now.games) machine.new.finds listed
         → Works (rules_for code_of excluded question.now listed) machine.old machine.new
         (S.left source.old) (S.left source.new)
-        (λ r. enter_of r tree left (game_at machine.old.stack) (spot_of spot.now) (stack_at machine.old.stack)) result }
+        (λ r. enter_of r tree child.now.plies (game_at machine.old.stack) (spot_of child.now.spot) (stack_at machine.old.stack)) result }
     ensures keeps { GoesOn question.now.version machine.old machine.new
         (S.left source.old) (S.left source.new) (S.has_failed source.new) result }
     ensures tells { IfErr result (λ h. StopTells question.now.diagram.now question.now.plies (asked question.now.games)
         (full (game_at machine.new.stack) h)) }
     ensures finds { Finding question.now.diagram.now question.now.plies machine.old.finds machine.new.finds }
 {
-    if left == 0 {
+    if child.plies == 0 {
         let frames = machine.stack.frames.as_slice();
-        return match leaf_there(question, tree, frames, spot, &mut machine.finds) {
+        return match leaf_there(question, tree, frames, &child.spot, &mut machine.finds) {
             Ok(fertile) => {
+                tell_leaf(fertile, &child.spot, watch);
                 machine.stack.fertile = fertile;
                 Ok(())
             }
@@ -151,8 +162,8 @@ fn enter<S: Source>(
         &mut machine.input,
         &mut machine.names,
         source,
-        spot,
-        left,
+        child,
+        watch,
     ) {
         Ok(Opening::Done) => {
             machine.stack.fertile = false;
@@ -160,7 +171,12 @@ fn enter<S: Source>(
         }
         Ok(Opening::Opened(named)) => {
             machine.stack.fertile = false;
-            open_node(spot, left - 1, named, &mut machine.stack.frames);
+            open_node(
+                &child.spot,
+                child.plies - 1,
+                named,
+                &mut machine.stack.frames,
+            );
             Ok(())
         }
         Err(halt) => Err(halt),
@@ -194,7 +210,7 @@ fn either(a: bool, b: bool) -> bool
 
 // The topmost node closes.
 #[inline(never)]
-fn close_top(tree: u8, stack: &mut Stack, table: &mut Table)
+fn close_top<W: CheckWatch>(tree: u8, stack: &mut Stack, table: &mut Table, watch: &mut W)
     requires open { 0 < length stack.old.frames.items }
     requires stacked { Stacked tree (stack_at stack.old) }
     requires limit { tree ≤ 128 }
@@ -204,16 +220,10 @@ fn close_top(tree: u8, stack: &mut Stack, table: &mut Table)
     if let Some(top) = stack.frames.pop() {
         let fertile = either(top.fertile, stack.fertile);
         let position = top.moves.position();
+        watch.closed(&position, top.plies.saturating_add(1), top.named);
         close(&position, top.plies, top.named, fertile, table);
         stack.fertile = fertile;
     }
-}
-
-// A child of an open node: where it stands, and the plies left at it.
-#[derive(Drop)]
-struct Child {
-    spot: Spot,
-    plies: u8,
 }
 
 // The next move of an open node is played, and what its last child said is kept with it. None where
@@ -253,11 +263,12 @@ fn play_top(frames: &mut ArrayVec<Frame, 128>, fertile: bool) -> Option<Child>
 }
 
 // One turn: the next move of the topmost node is played, or the node closes.
-fn turn<S: Source>(
+fn turn<S: Source, W: CheckWatch>(
     question: &Question,
     tree: u8,
     machine: &mut Machine,
     source: &mut S,
+    watch: &mut W,
 ) -> Result<(), Halt>
     requires open { 0 < length machine.old.stack.frames.items }
     requires stacked { Stacked tree (stack_at machine.old.stack) }
@@ -276,9 +287,9 @@ fn turn<S: Source>(
 {
     let fertile = machine.stack.fertile;
     match play_top(&mut machine.stack.frames, fertile) {
-        Some(child) => enter(question, tree, child.plies, &child.spot, machine, source),
+        Some(child) => enter(question, tree, &child, machine, source, watch),
         None => {
-            close_top(tree, &mut machine.stack, &mut machine.names.table);
+            close_top(tree, &mut machine.stack, &mut machine.names.table, watch);
             Ok(())
         }
     }
@@ -309,11 +320,12 @@ fn is_top_over(diagram: &Diagram, frames: &mut ArrayVec<Frame, 128>) -> bool
 }
 
 // Turns until no node is open. Leaves that are not on the diagram are passed over.
-fn run<S: Source>(
+fn run<S: Source, W: CheckWatch>(
     question: &Question,
     tree: u8,
     machine: &mut Machine,
     source: &mut S,
+    watch: &mut W,
 ) -> Result<(), Halt>
     requires stacked { Stacked tree (stack_at machine.old.stack) }
     requires limit { tree ≤ 128 }
@@ -332,10 +344,10 @@ fn run<S: Source>(
 {
     while !machine.stack.frames.is_empty() {
         if is_top_over(question.diagram, &mut machine.stack.frames) {
-            close_top(tree, &mut machine.stack, &mut machine.names.table);
+            close_top(tree, &mut machine.stack, &mut machine.names.table, watch);
             continue;
         }
-        match turn(question, tree, machine, source) {
+        match turn(question, tree, machine, source, watch) {
             Ok(()) => {}
             Err(halt) => return Err(halt),
         }
@@ -344,11 +356,12 @@ fn run<S: Source>(
 }
 
 // The tree of one length.
-fn tree_of<S: Source>(
+fn tree_of<S: Source, W: CheckWatch>(
     question: &Question,
     tree: u8,
     machine: &mut Machine,
     source: &mut S,
+    watch: &mut W,
 ) -> Result<(), Halt>
     requires limit { tree ≤ 128 }
     requires within { tree ≤ question.now.plies }
@@ -364,21 +377,26 @@ fn tree_of<S: Source>(
         (full (game_at machine.new.stack) h)) }
     ensures finds { Finding question.now.diagram.now question.now.plies machine.old.finds machine.new.finds }
 {
-    let root = Spot {
-        from: Position::array(),
-        m: None,
+    let root = Child {
+        spot: Spot {
+            from: Position::array(),
+            m: None,
+        },
+        plies: tree,
     };
-    match enter(question, tree, tree, &root, machine, source) {
-        Ok(()) => run(question, tree, machine, source),
+    watch.began(tree);
+    match enter(question, tree, &root, machine, source, watch) {
+        Ok(()) => run(question, tree, machine, source, watch),
         Err(halt) => Err(halt),
     }
 }
 
 // The trees of all lengths from 0 to the stated one.
-pub(crate) fn all_trees<S: Source>(
+pub(crate) fn all_trees<S: Source, W: CheckWatch>(
     question: &Question,
     machine: &mut Machine,
     source: &mut S,
+    watch: &mut W,
 ) -> Result<(), Halt>
     requires limit { question.now.plies ≤ 128 }
     requires closed { machine.old.stack.frames.items ≡ [] }
@@ -395,7 +413,7 @@ pub(crate) fn all_trees<S: Source>(
 {
     let mut tree: u8 = 0;
     loop {
-        match tree_of(question, tree, machine, source) {
+        match tree_of(question, tree, machine, source, watch) {
             Ok(()) => {}
             Err(halt) => return Err(halt),
         }

@@ -23,16 +23,15 @@ use Rattle.pg_checker.specs.declared.certify.Proved.{Proved}
 use Rattle.pg_checker.specs.declared.fault.RunFault.{RunFault}
 use Rattle.pg_checker.specs.declared.fault.RunFault.TheVariants.{Write}
 use Rattle.pg_checker.specs.Terms.{Terms}
-use Rattle.pg_guide.specs.Why.{ReadingFailures, IsProved, IsOneLine}
-use Rattle.pg_guide.specs.declared.explaining.Asked.{Asked as Line}
-use Rattle.pg_guide.specs.declared.fault.WhyFault.TheVariants.{Run}
-use Rattle.pg_page.specs.Page.{IsShown}
-use Rattle.pg_page.specs.declared.paging.Asked.{Asked as Shown}
+use Rattle.pg_guide.specs.Why.{HasAnswer as IsAnsweredLine, IsOneLine}
+use Rattle.pg_guide.specs.declared.fault.WhyFault.TheVariants.{Write as NoLineWrite}
+use Rattle.pg_page.specs.Page.{HasAnswer as IsAnsweredPage}
+use Rattle.pg_page.specs.declared.fault.PageFault.TheVariants.{Write as NoPageWrite}
 use Rattle.pg_cli.specs.declared.checking.Asked.{Asked}
 use Rattle.pg_cli.specs.declared.refusals.Refusal.{Refusal}
 use Rattle.pg_cli.specs.declared.refusals.Refusal.TheVariants.{Check}
 use Rattle.pg_cli.specs.Reasons.{IsAnswerRefusal, IsCheckRefusal, IsFoundRefusal, IsWhyRefusal, IsPageRefusal}
-use Rattle.pg_cli.specs.Answers.{IsAnswered, IsAnsweredBySome, IsHandedAnswer, AreAnswered, HasAnswer, HasExactAnswer}
+use Rattle.pg_cli.specs.Answers.{IsAnswered, IsAnsweredBySome, IsHandedAnswer, AreAnswered, HasAnswer, HasList}
 use Rattle.pg_cli.specs.Words.{spelled, IsChecked, IsSearched, IsExplained, HasPosition, HasDiagram}
 
 -- why a report has no status: the sink has failed
@@ -82,15 +81,15 @@ games_unwritten t d n list failed (Ok s) h p g = tt
 games_unwritten t d n list failed (Err r) h p g =
     subst (λ (x : Refusal). IsFoundRefusal d n list t failed x) (sym g.0) (h, g.1, p)
 
-pub line_unwritten : (asked : Line) (t : Terms) (f : ReadingFailures) (result : Result ℕ Refusal)
-    → IsProved asked t → IsOneLine asked.moves.now → IsUnwritten f.sink result → IfErr result (λ r. IsWhyRefusal asked t f r)
-line_unwritten asked t f (Ok s) h o g = tt
-line_unwritten asked t f (Err r) h o g = (Run Write, g.0, ((h.0, h.1, (h.3, h.4)), o, g.1))
+pub line_unwritten : (moves : List ℕ) (t any : Terms) (d : Placement) (n : ℕ) (f : Failures) (result : Result ℕ Refusal)
+    → IsAnsweredLine t d n → IsOneLine moves → IsUnwritten f.sink result → IfErr result (λ r. IsWhyRefusal moves t any d n f r)
+line_unwritten moves t any d n f (Ok s) h o g = tt
+line_unwritten moves t any d n f (Err r) h o g = (NoLineWrite, g.0, (o, h, g.1))
 
-pub page_unwritten : (asked : Shown) (t : Terms) (f : ReadingFailures) (result : Result ℕ Refusal)
-    → IsShown asked t → IsUnwritten f.sink result → IfErr result (λ r. IsPageRefusal asked t f r)
-page_unwritten asked t f (Ok s) h g = tt
-page_unwritten asked t f (Err r) h g = (Run Write, g.0, (h, g.1))
+pub page_unwritten : (t any : Terms) (d : Placement) (n : ℕ) (f : Failures) (result : Result ℕ Refusal)
+    → IsAnsweredPage t d n → IsUnwritten f.sink result → IfErr result (λ r. IsPageRefusal t any d n f r)
+page_unwritten t any d n f (Ok s) h g = tt
+page_unwritten t any d n f (Err r) h g = (NoPageWrite, g.0, (h, g.1))
 
 -- the report of a certificate's games, where the buffer is handed on and where it is not
 pub report_answered : (t : Terms) (d : Placement) (n : ℕ) (before after : Option (List ℕ)) (v : Verdict) (k : ℕ) (result : Result ℕ Refusal)
@@ -142,12 +141,10 @@ search_means rows diagram length d n (Ok s) e f g h k =
     (d, n, k.0, ap (λ (x : List ℕ). diagram_of (fields x)) (sym e) ∙ g, ap (λ (x : List ℕ). length_of x) (sym f) ∙ h, k.1)
 search_means rows diagram length d n (Err r) e f g h k = tt
 
-pub why_means : (rows : List Row) (diagram length : List ℕ) (result : Result ℕ Refusal)
-    → diagram ≡ spelled (codes "DIAGRAM") rows → length ≡ spelled (codes "LENGTH") rows
-    → OnOk result (HasExactAnswer diagram length) → IfOk result (λ status. status ≡ 0) → IfOk result (λ status. IsExplained rows status)
-why_means rows diagram length (Ok s) e f h z =
-    (subst (λ (x : List ℕ). HasExactAnswer x (spelled (codes "LENGTH") rows)) e (subst (λ (y : List ℕ). HasExactAnswer diagram y) f h), z)
-why_means rows diagram length (Err r) e f h z = tt
+pub why_means : (d : Placement) (n : ℕ) (result : Result ℕ Refusal)
+    → OnOk result (HasList d n) → IfOk result (λ status. status ≡ 0) → IfOk result (λ status. IsExplained status)
+why_means d n (Ok s) h z = ((d, n, h), z)
+why_means d n (Err r) h z = tt
 
 -- a text that spells a position, by what else is said of it
 pub position_means : (rows : List Row) (text : List ℕ) (P : Type 0) (result : Result ℕ Refusal)

@@ -14,9 +14,6 @@ use Rattle.pg_checker.specs.ProblemText.{IsProblemFault}
 use Rattle.pg_checker.specs.Terms.{Terms}
 use Rattle.pg_checker.specs.declared.fault.RunFault.{RunFault}
 use Rattle.pg_report.specs.Run.{Failures}
-use Rattle.pg_guide.specs.Why.{ReadingFailures}
-use Rattle.pg_guide.specs.declared.explaining.Asked.{Asked as Line}
-use Rattle.pg_page.specs.declared.paging.Asked.{Asked as Shown}
 use Rattle.pg_cli.specs.Causes.{Rules, AreWords, IsSpelled, IsOfFile, IsOfDrafts, IsMovesCause, IsCountCause, IsBoardRefusal, IsShowCause, IsGamesCause, IsCooksCause, IsCheckCause, IsAnswerCause, IsWhyCause, IsPageCause, IsUpgradeCause, IsSearchCause, IsGivenUp, AreMet, IsSearchRefusal, search_refusal, causes, IsCaused}
 use Rattle.pg_cli.specs.Reasons.{IsShowRefusal, IsShowWithinRefusal, IsMovesRefusal, IsCountRefusal, IsGamesRefusal, IsCooksRefusal, IsCheckRefusal, IsAnswerRefusal, IsFoundRefusal, IsWhyRefusal, IsPageRefusal, IsUpgradeRefusal}
 use Rattle.pg_cli.specs.Words.{spelled, name_of, IsSubcommand}
@@ -83,17 +80,17 @@ pub answer_caused : (d : Placement) (n : ℕ) (t any : Terms) (failed : Failures
 answer_caused d n t any failed (Ok s) h = tt
 answer_caused d n t any failed (Err r) h = inr (d, n, t, any, failed, refl, h)
 
-pub why_caused : (rows : List Row) (asked : Line) (t : Terms) (failed : ReadingFailures) (result : Result ℕ Refusal)
-    → AreWords rows asked.diagram.now asked.length.now → asked.moves.now ≡ spelled (codes "MOVES") rows
-    → IfErr result (λ r. IsWhyRefusal asked t failed r) → IfErr result (λ r. IsWhyCause t.rules rows r)
-why_caused rows asked t failed (Ok s) w m h = tt
-why_caused rows asked t failed (Err r) w m h = inr (asked, t, failed, w, m, refl, h)
+pub why_caused : (rows : List Row) (moves : List ℕ) (d : Placement) (n : ℕ) (t any : Terms) (failed : Failures)
+    (result : Result ℕ Refusal) → moves ≡ spelled (codes "MOVES") rows
+    → IfErr result (λ r. IsWhyRefusal moves t any d n failed r) → IfErr result (λ r. IsWhyCause t.rules rows r)
+why_caused rows moves d n t any failed (Ok s) m h = tt
+why_caused rows moves d n t any failed (Err r) m h =
+    inr (d, n, t, any, failed, refl, subst (λ (x : List ℕ). IsWhyRefusal x t any d n failed r) m h)
 
-pub page_caused : (rows : List Row) (asked : Shown) (t : Terms) (failed : ReadingFailures) (result : Result ℕ Refusal)
-    → AreWords rows asked.diagram.now asked.length.now → IfErr result (λ r. IsPageRefusal asked t failed r)
-    → IfErr result (λ r. IsPageCause t.rules rows r)
-page_caused rows asked t failed (Ok s) w h = tt
-page_caused rows asked t failed (Err r) w h = inr (asked, t, failed, w, refl, h)
+pub page_caused : (d : Placement) (n : ℕ) (t any : Terms) (failed : Failures) (result : Result ℕ Refusal)
+    → IfErr result (λ r. IsPageRefusal t any d n failed r) → IfErr result (λ r. IsPageCause t.rules r)
+page_caused d n t any failed (Ok s) h = tt
+page_caused d n t any failed (Err r) h = inr (d, n, t, any, failed, refl, h)
 
 -- ---- a search
 -- a search that gives up has a cause

@@ -1,10 +1,7 @@
 -- What the status of a check or a search says, where it comes with a report.
-use Rattle.std.specs.Prelude.{◌≡◌, ℕ, List, Option, Ok}
+use Rattle.std.specs.Prelude.{◌≡◌, ℕ, List, Option}
 use Rattle.pg_board.specs.Placement.{Placement}
 use Rattle.pg_position.specs.declared.moves.Move.{Move}
-use Rattle.pg_fen.specs.Fields.{fields}
-use Rattle.pg_fen.specs.DiagramText.{diagram_of}
-use Rattle.pg_fen.specs.Lengths.{length_of}
 use Rattle.pg_checker.specs.Answer.{IsExactAnswer}
 use Rattle.pg_checker.specs.Terms.{Terms}
 use Rattle.pg_texts.specs.Report.{IsVerdict}
@@ -24,11 +21,9 @@ AreAnswered diagram length games status =
     (d : Placement) × (n : ℕ) × (list : List (List Move)) × AreSpelled diagram length games d n list
     × IsAnswered d n list status
 
--- the two texts spell a diagram and a length, and some list is the exact answer to them
-abbrev pub HasExactAnswer : List ℕ → List ℕ → Type 0
-HasExactAnswer diagram length =
-    (d : Placement) × (n : ℕ) × (list : List (List Move)) × (diagram_of (fields diagram) ≡ Ok d)
-    × (length_of length ≡ Ok n) × IsExactAnswer d n list
+-- some list is the exact answer to a diagram and a length
+abbrev pub HasList : Placement → ℕ → Type 0
+HasList d n = (list : List (List Move)) × IsExactAnswer d n list
 
 -- games for which the known bytes are a certificate are the exact answer, their report
 -- is appended, and the status is that of their verdict

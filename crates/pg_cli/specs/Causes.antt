@@ -15,9 +15,6 @@ use Rattle.pg_checker.specs.ProblemText.{IsProblemFault}
 use Rattle.pg_checker.specs.Terms.{Terms}
 use Rattle.pg_report.specs.Run.{Failures}
 use Rattle.pg_cooks.specs.Known.{IsListingFault}
-use Rattle.pg_guide.specs.Why.{ReadingFailures}
-use Rattle.pg_guide.specs.declared.explaining.Asked.{Asked as Line}
-use Rattle.pg_page.specs.declared.paging.Asked.{Asked as Shown}
 use Rattle.pg_files.specs.declared.faults.FileFault.{FileFault}
 use Rattle.pg_files.specs.declared.faults.Obstacle.TheVariants as obstacle
 use Rattle.pg_files.specs.declared.faults.FileFault.TheVariants as file
@@ -134,17 +131,18 @@ IsAnswerCause rules refusal = (IsOfFile named.Certificate refusal ⊎ IsHeaderRe
     ⊎ ((d : Placement) × (n : ℕ) × (t : Terms) × (any : Terms) × (failed : Failures) × (t.rules ≡ rules)
     × IsAnswerRefusal t any d n failed refusal)
 
--- why `pg why` has none: the certificate is not opened, or so it is for some bytes of one and the words
+-- why `pg why` has none: the certificate is not opened; its header names no problem;
+-- or so it is for the problem of a header, some bytes of a certificate and the word MOVES
 abbrev pub IsWhyCause : Rules → List Row → Refusal → Type 0
-IsWhyCause rules rows refusal = IsOfFile named.Certificate refusal
-    ⊎ ((asked : Line) × (t : Terms) × (failed : ReadingFailures) × AreWords rows asked.diagram.now asked.length.now
-    × (asked.moves.now ≡ spelled (codes "MOVES") rows) × (t.rules ≡ rules) × IsWhyRefusal asked t failed refusal)
+IsWhyCause rules rows refusal = (IsOfFile named.Certificate refusal ⊎ IsHeaderRefusal refusal)
+    ⊎ ((d : Placement) × (n : ℕ) × (t : Terms) × (any : Terms) × (failed : Failures) × (t.rules ≡ rules)
+    × IsWhyRefusal (spelled (codes "MOVES") rows) t any d n failed refusal)
 
 -- the same of `pg page`
-abbrev pub IsPageCause : Rules → List Row → Refusal → Type 0
-IsPageCause rules rows refusal = IsOfFile named.Certificate refusal
-    ⊎ ((asked : Shown) × (t : Terms) × (failed : ReadingFailures) × AreWords rows asked.diagram.now asked.length.now
-    × (t.rules ≡ rules) × IsPageRefusal asked t failed refusal)
+abbrev pub IsPageCause : Rules → Refusal → Type 0
+IsPageCause rules refusal = (IsOfFile named.Certificate refusal ⊎ IsHeaderRefusal refusal)
+    ⊎ ((d : Placement) × (n : ℕ) × (t : Terms) × (any : Terms) × (failed : Failures) × (t.rules ≡ rules)
+    × IsPageRefusal t any d n failed refusal)
 
 -- why `pg upgrade` has none: a file is not opened or put in its place, or so it is for some bytes
 abbrev pub IsUpgradeCause : Refusal → Type 0
@@ -227,7 +225,7 @@ causes rules command.Answer rows refusal = IsAnswerCause rules refusal
 causes rules command.Search rows refusal = IsSearchCause rules rows refusal
 causes rules command.Judge rows refusal = IsJudgeCause refusal
 causes rules command.Why rows refusal = IsWhyCause rules rows refusal
-causes rules command.Page rows refusal = IsPageCause rules rows refusal
+causes rules command.Page rows refusal = IsPageCause rules refusal
 causes rules command.Upgrade rows refusal = IsUpgradeCause refusal
 
 -- the same of the command with this name

@@ -2,9 +2,8 @@
 use Rattle.std.specs.Prelude.{◌≡◌, ◌⊎◌, ℕ, Bool, true, List, Option, IsUtf8}
 use Rattle.pg_board.specs.Placement.{Placement}
 use Rattle.pg_position.specs.declared.moves.Move.{Move}
-use Rattle.pg_searcher.specs.declared.fault.SearchFault.TheVariants.{TooManyGames}
 use Rattle.pg_checker.specs.Terms.{Terms}
-use Rattle.pg_checker.specs.declared.fault.RunFault.TheVariants.{Write as CheckWrite}
+use Rattle.pg_checker.specs.declared.fault.RunFault.TheVariants.{Games as CheckGames, Write as CheckWrite}
 use Rattle.pg_texts.specs.declared.fault.UpgradeFault.TheVariants.{Write as CopyWrite}
 use Rattle.pg_texts.specs.MovesText.{IsMovesFault}
 use Rattle.pg_texts.specs.CountText.{IsCountRunFault}
@@ -13,21 +12,21 @@ use Rattle.pg_report.specs.Showing.{IsShowFault, IsShowWithinFault}
 use Rattle.pg_report.specs.Answering.{IsUnreported}
 use Rattle.pg_report.specs.Naming.{IsUnnamed}
 use Rattle.pg_report.specs.Run.{Failures, IsCheckFault, IsRunFault}
-use Rattle.pg_report.specs.declared.fault.AnswerRunFault.TheVariants.{Write as ReportWrite}
+use Rattle.pg_report.specs.declared.fault.AnswerRunFault.TheVariants.{Answer as Unanswered, Write as ReportWrite}
 use Rattle.pg_cooks.specs.Known.{IsKnownFault}
 use Rattle.pg_cooks.specs.Cooks.{IsCooksRunFault}
 use Rattle.pg_cooks.specs.declared.asked.Asked.{Asked as Texts}
 use Rattle.pg_cooks.specs.declared.fault.CooksRunFault.{CooksRunFault}
 use Rattle.pg_cooks.specs.declared.fault.CooksRunFault.TheVariants as cooking
-use Rattle.pg_guide.specs.Why.{ReadingFailures, IsWhyFault}
-use Rattle.pg_guide.specs.declared.explaining.Asked.{Asked as Line}
+use Rattle.pg_guide.specs.Why.{IsWhyFault}
 use Rattle.pg_guide.specs.declared.fault.WhyFault.{WhyFault}
 use Rattle.pg_guide.specs.declared.fault.WhyFault.TheVariants as why
 use Rattle.pg_page.specs.Page.{IsPageFault}
-use Rattle.pg_page.specs.declared.paging.Asked.{Asked as Shown}
+use Rattle.pg_page.specs.declared.fault.PageFault.{PageFault}
+use Rattle.pg_page.specs.declared.fault.PageFault.TheVariants as page
 use Rattle.pg_cli.specs.declared.checking.Asked.{Asked}
 use Rattle.pg_cli.specs.declared.refusals.Refusal.{Refusal}
-use Rattle.pg_cli.specs.declared.refusals.Refusal.TheVariants.{NoGame, NotUtf8, Read, Memory, Line as NoLine, Show, Moves, Count, Search, Upgrade, Check, Answer}
+use Rattle.pg_cli.specs.declared.refusals.Refusal.TheVariants.{NoGame, NotUtf8, Read, Memory, Line as NoLine, Show, Moves, Count, Upgrade, Check, Answer}
 
 -- ---- a list of games
 -- the texts are those that are asked, and the bytes of the list are one of them
@@ -82,21 +81,29 @@ IsAnswerRefusal t any d n failed (Answer fault) = IsUnreported t any d n failed 
 IsAnswerRefusal t any d n failed (Check CheckWrite) = IsUnreported t any d n failed ReportWrite
 IsAnswerRefusal t any d n failed refusal = ⊥
 
--- the refusal that a fault of an explanation or of a page is
+-- the refusal that a fault of an explanation is
 abbrev pub why_refusal : WhyFault → Refusal
+why_refusal (why.Games fault) = Check (CheckGames fault)
 why_refusal why.Moves = NoLine
-why_refusal why.TooMany = Search TooManyGames
-why_refusal (why.Run fault) = Check fault
+why_refusal (why.Answer fault) = Answer (Unanswered fault)
+why_refusal why.Memory = Memory
+why_refusal why.Write = Check CheckWrite
 
 -- the explanation of a line has this fault
-abbrev pub IsWhyRefusal : Line → Terms → ReadingFailures → Refusal → Type 0
-IsWhyRefusal asked t failed refusal =
-    (fault : WhyFault) × (refusal ≡ why_refusal fault) × IsWhyFault asked t failed fault
+abbrev pub IsWhyRefusal : List ℕ → Terms → Terms → Placement → ℕ → Failures → Refusal → Type 0
+IsWhyRefusal moves t any d n failed refusal =
+    (fault : WhyFault) × (refusal ≡ why_refusal fault) × IsWhyFault moves t any d n failed fault
+
+-- the refusal that a fault of a page is
+abbrev pub page_refusal : PageFault → Refusal
+page_refusal (page.Answer fault) = Answer (Unanswered fault)
+page_refusal page.Memory = Memory
+page_refusal page.Write = Check CheckWrite
 
 -- the page of a certificate has this fault
-abbrev pub IsPageRefusal : Shown → Terms → ReadingFailures → Refusal → Type 0
-IsPageRefusal asked t failed refusal =
-    (fault : WhyFault) × (refusal ≡ why_refusal fault) × IsPageFault asked t failed fault
+abbrev pub IsPageRefusal : Terms → Terms → Placement → ℕ → Failures → Refusal → Type 0
+IsPageRefusal t any d n failed refusal =
+    (fault : PageFault) × (refusal ≡ page_refusal fault) × IsPageFault t any d n failed fault
 
 -- copying has this fault, or the number of records is not printed, since that sink has failed
 abbrev pub IsUpgradeRefusal : ℕ → Option (List ℕ) → Bool → Bool → Bool → Refusal → Type 0

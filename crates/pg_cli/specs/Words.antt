@@ -11,7 +11,7 @@ use Rattle.pg_fen.specs.Lengths.{length_of}
 use Rattle.pg_texts.specs.MovesText.{SpellsPosition}
 use Rattle.pg_cli.specs.declared.commands.Command.{Command}
 use Rattle.pg_cli.specs.declared.commands.Command.TheVariants.{Show, Moves, Count, Games, Cooks, Check, Answer, Search, Judge, Why, Page, Upgrade}
-use Rattle.pg_cli.specs.Answers.{IsAnswered, IsAnsweredBySome, AreAnswered, HasExactAnswer}
+use Rattle.pg_cli.specs.Answers.{IsAnswered, IsAnsweredBySome, AreAnswered, HasList}
 use Rattle.pg_cli.specs.Knowing.{AreUnsound, AreTested, AreFollowed}
 
 -- the text of the word with this name; no text where there is none
@@ -32,10 +32,10 @@ IsSearched rows status =
     × (diagram_of (fields (spelled (codes "DIAGRAM") rows)) ≡ Ok d)
     × (length_of (spelled (codes "LENGTH") rows) ≡ Ok n) × IsAnswered d n list status
 
--- what a status of `pg why` or `pg page` says: the words DIAGRAM and LENGTH spell
--- a diagram and a length, some list is the exact answer, and the status is 0
-abbrev pub IsExplained : List Row → ℕ → Type 0
-IsExplained rows status = HasExactAnswer (spelled (codes "DIAGRAM") rows) (spelled (codes "LENGTH") rows) × (status ≡ 0)
+-- what a status of `pg why` or `pg page` says: to some diagram and some length a list is the exact answer, and the
+-- status is 0
+abbrev pub IsExplained : ℕ → Type 0
+IsExplained status = ((d : Placement) × (n : ℕ) × HasList d n) × (status ≡ 0)
 
 -- what a status of `pg games` says: the words DIAGRAM and LENGTH and some text of games spell a diagram, a length
 -- and solutions, the status is that of what these show, and 1 only where no list of one game is the exact answer
@@ -92,8 +92,8 @@ says Check rows status = IsChecked rows status
 says Answer rows status = IsAnsweredBySome status
 says Search rows status = IsSearched rows status
 says Judge rows status = status < 3
-says Why rows status = IsExplained rows status
-says Page rows status = IsExplained rows status
+says Why rows status = IsExplained status
+says Page rows status = IsExplained status
 says Upgrade rows status = status ≡ 0
 
 -- what a status says of the command with this name, and with these words

@@ -14,12 +14,12 @@ use crate::refusals::{Named, Refusal};
 use crate::spelling::text_of;
 use clap::ArgMatches;
 use pg_certificate::format::MOST_NAMED;
-use pg_files::open_plain;
+use pg_files::{open_plain, size_of};
 use pg_report::{
     Bound, Diagram, FromRead, Problem, Sink, Source, ToWrite, read_problem, run_answer,
     verdict_status,
 };
-use pg_streams::{Cleared, Gathered, Terminal, watch_records};
+use pg_streams::{Cleared, Gathered, Passing, Terminal};
 use std::alloc::Global;
 use std::io;
 use std::io::{Read, Seek, SeekFrom};
@@ -67,7 +67,7 @@ fn problem_from<S: Source>(source: &mut S) -> Result<Problem, Refusal>
 }
 
 // The problem that the header of a file names. The file is at its start then.
-fn problem_in<F: Read + Seek>(file: &mut F) -> Result<Problem, Refusal>
+pub(crate) fn problem_in<F: Read + Seek>(file: &mut F) -> Result<Problem, Refusal>
     ensures err { IfErr result (λ refusal. IsHeaderRefusal refusal) }
 {
     let mut source = FromRead::new(&mut *file);
@@ -104,7 +104,8 @@ pub(crate) fn answer<R: Runtime + AllocGlobal>(
     ensures headline { IfOk result (λ status. IsAnsweredBySome status) }
     ensures err { IfErr result (λ refusal. IsAnswerCause (rules_by code_of excluded bounds.now) refusal) }
 {
-    let mut certificate = match open_plain(rt, text_of(words, "CERT")) {
+    let name = text_of(words, "CERT");
+    let mut certificate = match open_plain(rt, name) {
         Ok(certificate) => certificate,
         Err(fault) => return Err(Refusal::of_file(fault, Named::Certificate)),
     };
@@ -114,7 +115,7 @@ pub(crate) fn answer<R: Runtime + AllocGlobal>(
     };
     let records = words.get_one::<u64>("records").unwrap_or(RECORDS);
     let terminal = Terminal::new(screen);
-    let mut source = watch_records(rt, &terminal, certificate, records);
+    let mut source = Passing::new(rt, &terminal, certificate, size_of(rt, name));
     let mut out = Gathered::new(Cleared::new(ToWrite::new(io::writer(rt)), rt, &terminal));
     let answer = answer_from(rt.alloc(), &problem, bounds, &mut source, &mut out, records);
     source.end();

@@ -21,11 +21,11 @@ use crate::screen::Screen;
 use crate::spelling::text_of;
 use clap::ArgMatches;
 use pg_certificate::format::MOST_NAMED;
-use pg_files::{INPUT, Obstacle, is_input, lead_to_one, list, open};
+use pg_files::{INPUT, Obstacle, is_input, lead_to_one, list, open, size_of};
 use pg_report::{
     Bound, Problem, Refused, RunFault, Sink, Source, ToWrite, run_check, verdict_status,
 };
-use pg_streams::{Cleared, Gathered, Terminal, watch_records};
+use pg_streams::{Cleared, Gathered, Passing, Terminal};
 use std::alloc::Global;
 use std::rt::Runtime;
 use std::{io, str};
@@ -173,7 +173,8 @@ pub(crate) fn check<R: Runtime + AllocGlobal>(
     ensures err { IfErr result (λ refusal. IsCheckCause (rules_by code_of excluded bounds.now)
         (rows_of (found_of words.now)) refusal) }
 {
-    let certificate = match open(rt, text_of(words, "CERT")) {
+    let name = text_of(words, "CERT");
+    let certificate = match open(rt, name) {
         Ok(certificate) => certificate,
         Err(fault) => return Err(Refusal::of_file(fault, Named::Certificate)),
     };
@@ -190,7 +191,7 @@ pub(crate) fn check<R: Runtime + AllocGlobal>(
     };
     let records = words.get_one::<u64>("records").unwrap_or(RECORDS);
     let terminal = Terminal::new(screen.lines);
-    let mut source = watch_records(rt, &terminal, certificate, records);
+    let mut source = Passing::new(rt, &terminal, certificate, size_of(rt, name));
     let mut out = Gathered::new(Cleared::new(ToWrite::new(io::writer(rt)), rt, &terminal));
     let answer = check_from(rt.alloc(), &asked, bounds, &mut source, &mut out, records);
     source.end();

@@ -15,7 +15,7 @@ use pg_captures::{Bound, Captures, Promotions};
 use pg_certificate::{FromRead, Refused, Sink, ToWrite};
 use pg_checker::Problem;
 use pg_files::{Draft, begin, list, open_plain};
-use pg_journeys::Journeys;
+use pg_journeys::JourneysByMemory;
 use pg_judge::{
     Effort, Entry, EntryFault, Finding, JudgeProgress, Limits, Ruling, Scratch, is_sound,
     judge as judge_problem, read_entry, recheck, write_row,
@@ -184,7 +184,8 @@ fn judge_by<R: Runtime + AllocGlobal, P: JudgeProgress>(
     asked: &Asked<'_>,
     watch: &mut P,
 ) -> Result<Judged, Refusal>
-    ensures headline { IfOk result (λ j. IsFinding entry.now.problem.diagram entry.now.problem.length j.ruling.finding) }
+    ensures headline { IfOk result (λ j. IsFinding entry.now.problem.diagram entry.now.problem.length
+        j.ruling.finding) }
     ensures err { IfErr result (λ refusal. IsOfFile Named.Folder refusal) }
 {
     let limits = Limits {
@@ -236,7 +237,8 @@ fn judge_entry<R: Runtime + AllocGlobal, P: JudgeProgress>(
     let pawn_files = Box::new(rt.alloc(), PawnFiles)?;
     let rows = Rows::new(&entry.problem.diagram);
     let travel = Box::new(rt.alloc(), TravelByRows { rows })?;
-    let journeys = Box::new(rt.alloc(), Journeys)?;
+    let remembering = JourneysByMemory::new(rt.alloc(), &entry.problem.diagram)?;
+    let journeys = Box::new(rt.alloc(), remembering)?;
     let bounds: [Box<dyn Bound>; 5] = [captures, promotions, pawn_files, travel, journeys];
     Ok(judge_by(rt, entry, &bounds, asked, watch))
 }

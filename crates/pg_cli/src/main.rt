@@ -1,10 +1,9 @@
 //! The program `pg`, the checker of shortest proof games: `pg show DIAGRAM [LENGTH]`, `pg moves FEN`, `pg count FEN
 //! PLIES`, `pg games DIAGRAM LENGTH [GAMES]`, `pg cooks DIAGRAM LENGTH GAMES [--nodes N] [--foreign D]`, `pg check
-//! DIAGRAM LENGTH CERT [GAMES] [--records N]`, `pg answer CERT [--records N]`, `pg search DIAGRAM LENGTH CERT [--nodes N]
-//! [--games FILE]`, `pg judge PROBLEMS [--certificates FOLDER] [--nodes N]`, `pg why DIAGRAM LENGTH CERT MOVES
-//! [--records N]`, `pg page DIAGRAM LENGTH CERT [--records N] [--nodes K]` and `pg upgrade OLD NEW [--records N]`;
-//! `--journeys` stands behind `check`, `answer`, `search`, `judge`, `why` and `page`, `--minutes M` behind `cooks`,
-//! `search` and `judge`.
+//! DIAGRAM LENGTH CERT [GAMES] [--records N]`, `pg answer CERT [--records N]`, `pg search DIAGRAM LENGTH CERT
+//! [--nodes N] [--games FILE]`, `pg judge PROBLEMS [--certificates FOLDER] [--nodes N]`, `pg why CERT MOVES
+//! [--records N]`, `pg page CERT [--records N] [--nodes K]` and `pg upgrade OLD NEW [--records N]`; `--journeys` stands
+//! behind `check`, `answer`, `search`, `judge`, `why` and `page`, `--minutes M` behind `cooks`, `search` and `judge`.
 #![tactic(auto)]
 
 ghost use Rattle.std.specs.Prelude.{◌≡◌, ◌↔◌, List, IsTrue, IfOk, IfErr};
@@ -41,21 +40,21 @@ use clap::ArgMatches;
 use clap::error::ErrorKind;
 use pg_fen::Diagram;
 use pg_files::FileName;
-use pg_journeys::{FirstAims, Journeys, JourneysByAims};
+use pg_journeys::{Journeys, JourneysByMemory};
 use pg_report::{Bound, Captures, PawnFiles, Promotions, Travel};
 use pg_travel::{Rows, TravelByRows};
 use pg_words::pg;
-use std::alloc::{AllocError, Global};
+use std::alloc::AllocError;
 use std::fs::File;
 use std::io::IsTerminal;
 use std::process::ExitCode;
 use std::rt::Runtime;
 use std::{env, io};
 
-// Does a command with its words and these bounds. A status of `check`, `search`, `why` or `page` means that a list is
-// the exact answer to the diagram and the length which the words spell, one of `answer` that it is for some, and 1 of `games` or `cooks` that no list of one
-// game is. No command is inlined here: the frame of this call would hold what each of them needs, and lie below them
-// all.
+// Does a command with its words and these bounds. A status of `check` or `search` means that a list is the exact answer
+// to the diagram and the length which the words spell, one of `answer`, `why` or `page` that it is for some, and 1 of
+// `games` or `cooks` that no list of one game is. No command is inlined here: the frame of this call would hold what
+// each of them needs, and lie below them all.
 fn perform<R: Runtime + AllocGlobal>(
     rt: &R,
     command: Command,
@@ -77,7 +76,7 @@ fn perform<R: Runtime + AllocGlobal>(
         Command::Answer => answering::answer(rt, words, bounds, screen.lines),
         Command::Search => searching::search(rt, words, bounds, screen.lines),
         Command::Judge => judging::judge(rt, words, screen),
-        Command::Why => guiding::why(rt, words, bounds, screen),
+        Command::Why => guiding::why(rt, words, bounds, screen.lines),
         Command::Page => paging::page(rt, words, bounds, screen.lines),
         Command::Upgrade => upgrading::upgrade(rt, words, screen.lines),
     }
@@ -151,14 +150,6 @@ fn diagram_of<R: Runtime + AllocGlobal>(rt: &R, words: &ArgMatches<'_>) -> Optio
     diagram_for(rt, inner)
 }
 
-// What the bound by journeys knows beforehand of a diagram, if it is asked often; none where memory is refused.
-fn aims_of(alloc: Global, diagram: &Option<Diagram>) -> Option<FirstAims> {
-    match diagram {
-        Some(diagram) => FirstAims::new(alloc, diagram).ok(),
-        None => None,
-    }
-}
-
 // Whether a command goes by the bound by journeys too: `show` always, the others where their words say so.
 fn goes_by_journeys(words: &ArgMatches<'_>) -> bool
     ensures { (name : Text) (rows : List Row) → IsSubcommand words.now name rows →
@@ -187,19 +178,20 @@ fn run<R: Runtime + AllocGlobal>(
     let pawn_files = Box::new(rt.alloc(), PawnFiles)?;
     let diagram = diagram_of(rt, words);
     let travel: Box<dyn Bound> = match &diagram {
-        Some(diagram) => Box::new(
-            rt.alloc(),
-            TravelByRows {
-                rows: Rows::new(diagram),
-            },
-        )?,
+        Some(diagram) => {
+            let rows = Rows::new(diagram);
+            Box::new(rt.alloc(), TravelByRows { rows })?
+        }
         None => Box::new(rt.alloc(), Travel)?,
     };
     let four: [Box<dyn Bound>; 4] = [captures, promotions, pawn_files, travel];
     let mut bounds = Vec::from_array(rt.alloc(), four)?;
     if goes_by_journeys(words) {
-        let journeys: Box<dyn Bound> = match aims_of(rt.alloc(), &diagram) {
-            Some(aims) => Box::new(rt.alloc(), JourneysByAims { aims })?,
+        let journeys: Box<dyn Bound> = match &diagram {
+            Some(diagram) => {
+                let remembering = JourneysByMemory::new(rt.alloc(), diagram)?;
+                Box::new(rt.alloc(), remembering)?
+            }
             None => Box::new(rt.alloc(), Journeys)?,
         };
         bounds.push(journeys)?;

@@ -29,7 +29,7 @@ use pg_report::{
     ToWrite, run_listed, search_watched, verdict_status,
 };
 use pg_searcher::search_by_journeys;
-use pg_streams::{Cleared, Deadline, Gathered, Kept, SearchLine, Terminal, Timed, watch_records};
+use pg_streams::{Cleared, Deadline, Gathered, Kept, Passing, SearchLine, Terminal, Timed};
 use std::alloc::Global;
 use std::io;
 use std::io::{Read, Seek, SeekFrom, Write};
@@ -250,11 +250,12 @@ where
         Ok(games) => games,
         Err(fault) => return Err(gave_up(fault, known)),
     };
+    let size = drafts.certificate.file.seek(SeekFrom::End(0)).ok();
     if drafts.certificate.file.seek(SeekFrom::Start(0)).is_err() {
         return Err(Refusal::Read);
     }
     let records = records_for(reach.nodes);
-    let mut source = watch_records(rt, terminal, &mut drafts.certificate.file, records);
+    let mut source = Passing::new(rt, terminal, &mut drafts.certificate.file, size);
     let answer = check_found(
         rt.alloc(),
         problem,

@@ -12,9 +12,9 @@ use crate::refusals::{DONE, Named, Refusal};
 use crate::spelling::text_of;
 use clap::ArgMatches;
 use pg_fen::text::digits;
-use pg_files::{Obstacle, begin, lead_to_one, open};
+use pg_files::{Obstacle, begin, lead_to_one, open, size_of};
 use pg_report::{Refused, Sink, Source, ToWrite, UpgradeFault, upgrade as upgrade_from};
-use pg_streams::{Cleared, Gathered, Terminal, watch_records};
+use pg_streams::{Cleared, Gathered, Passing, Terminal};
 use std::io;
 use std::io::Write;
 use std::rt::Runtime;
@@ -107,7 +107,7 @@ pub(crate) fn upgrade<R: Runtime + AllocGlobal>(
         Err(fault) => return Err(Refusal::of_file(fault, Named::New)),
     };
     let terminal = Terminal::new(screen);
-    let mut source = watch_records(rt, &terminal, source, records);
+    let mut source = Passing::new(rt, &terminal, source, size_of(rt, old));
     let mut out = Gathered::new(Cleared::new(ToWrite::new(io::writer(rt)), rt, &terminal));
     let answer = upgrade_file(&mut source, &mut draft.file, &mut out, records);
     source.end();

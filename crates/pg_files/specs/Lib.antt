@@ -1,1 +1,4 @@
 pub mod Drafts
+pub mod Faults
+pub mod Inputs
+pub mod Paths

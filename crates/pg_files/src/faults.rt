@@ -1,4 +1,7 @@
 //! Why a file is not read or written.
+ghost use Rattle.std.specs.Prelude.{◌≡◌};
+ghost use Rattle.std.specs.IoError.{raw_os_error};
+ghost use Rattle.pg_files.specs.Faults.{obstacle_of};
 
 use std::fmt;
 use std::fmt::{Display, Formatter};
@@ -27,7 +30,9 @@ pub enum Obstacle {
 
 impl Obstacle {
     // What the system says.
-    pub(crate) fn of(fault: &Error) -> Obstacle {
+    pub(crate) fn of(fault: &Error) -> Obstacle
+        ensures { result ≡ obstacle_of (raw_os_error fault.now) }
+    {
         match fault.raw_os_error() {
             Some(number) => Obstacle::System(number),
             None => Obstacle::Unknown,

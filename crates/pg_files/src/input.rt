@@ -1,4 +1,11 @@
-//! Files that are read, and lists of games, read whole.
+//! Files that are read, and lists of games, read whole. Of what a file holds, and of what stands in a folder, std says
+//! nothing: it says what a reader gives from here on, where that is known.
+ghost use Rattle.std.specs.Prelude.{◌≡◌, ◌≤◌, ◌<◌, ◌⊎◌, ◌++◌, ◌↔◌, ℕ, List, length, codes};
+ghost use Rattle.std.specs.Prelude.{IfErr, IfOk, IfSome, IsFalse, IsOk, OnOk};
+ghost use Rattle.std.specs.Io.KnownBytes.{Consumes, IsAtEnd};
+ghost use Rattle.either.specs.Either.{either, is_left};
+ghost use Rattle.pg_files.specs.Faults.{IsNotOpened, IsNotRead, IsOfOpening};
+ghost use Rattle.pg_files.specs.Inputs.{IsAll, IsFront, no_bytes};
 
 use crate::faults::{FileFault, Obstacle};
 use crate::names::{is_input, path_of};
@@ -13,7 +20,9 @@ use std::rt::Files;
 pub const MOST_BYTES: usize = 16_777_216;
 
 // The file of this path, to be read.
-fn open_path<R: Files>(rt: &R, path: &str) -> Result<R::File, FileFault> {
+fn open_path<R: Files>(rt: &R, path: &str) -> Result<R::File, FileFault>
+    ensures { IfErr result IsOfOpening }
+{
     match File::open(rt, path) {
         Ok(file) => Ok(file),
         Err(fault) => Err(FileFault::Open(Obstacle::of(&fault))),
@@ -27,7 +36,11 @@ fn open_path<R: Files>(rt: &R, path: &str) -> Result<R::File, FileFault> {
 pub fn open<R: Files + Input + AllocGlobal>(
     rt: &R,
     name: &str,
-) -> Result<Either<R::File, R::Reader>, FileFault> {
+) -> Result<Either<R::File, R::Reader>, FileFault>
+    ensures input { name.now ≡ codes "-" → IsOk result }
+    ensures side { IfOk result (λ source. IsFalse (is_left source) ↔ (name.now ≡ codes "-")) }
+    ensures fault { IfErr result IsNotOpened }
+{
     if is_input(name) {
         return Ok(Right(rt.reader()));
     }
@@ -41,7 +54,9 @@ pub fn open<R: Files + Input + AllocGlobal>(
 ///
 /// # Errors
 /// `Open` where it cannot be opened, or where it is no plain file: a folder, a pipe, a socket or a device.
-pub fn open_plain<R: Files + AllocGlobal>(rt: &R, name: &str) -> Result<R::File, FileFault> {
+pub fn open_plain<R: Files + AllocGlobal>(rt: &R, name: &str) -> Result<R::File, FileFault>
+    ensures { IfErr result IsNotOpened }
+{
     let path = path_of(name);
     match fs::metadata(rt, path) {
         Ok(found) if found.is_file() => open_path(rt, path),
@@ -50,13 +65,38 @@ pub fn open_plain<R: Files + AllocGlobal>(rt: &R, name: &str) -> Result<R::File,
     }
 }
 
-/// The first six bytes of a plain file, where it can be read; bytes that it lacks are 0.
-pub fn first_bytes<R: Files + AllocGlobal>(rt: &R, name: &str) -> [u8; 6] {
-    let mut bytes = [0u8; 6];
-    if let Ok(mut file) = open_plain(rt, name) {
-        let _ = file.read(&mut bytes);
+/// How many bytes the plain file of this name has, or that of standard input where the name is `-`; none where it is no
+/// plain file.
+pub fn size_of<R: Files>(rt: &R, name: &str) -> Option<u64> {
+    match fs::metadata(rt, path_of(name)) {
+        Ok(found) if found.is_file() => Some(found.len()),
+        _ => None,
     }
-    bytes
+}
+
+// The first six bytes of a reader; bytes that it lacks are 0. None where a read has failed.
+fn six_of<R: Read + Drop>(reader: R) -> Option<[u8; 6]>
+    ensures { IfSome result (IsFront (R.remaining reader)) }
+{
+    let lacking = [0u8; 6];
+    let mut bytes = [0u8; 6];
+    match reader.chain(lacking.as_slice()).read_exact(&mut bytes) {
+        Ok(()) => Some(bytes),
+        Err(_) => None,
+    }
+}
+
+/// The first six bytes of a plain file; bytes that it lacks are 0, and all six where it cannot be read.
+pub fn first_bytes<R: Files + AllocGlobal>(rt: &R, name: &str) -> [u8; 6]
+    ensures { (result ≡ no_bytes) ⊎ ((file : R.File) × IsFront (R.File.remaining file) result) }
+{
+    match open_plain(rt, name) {
+        Ok(file) => match six_of(file) {
+            Some(front) => front,
+            None => [0; 6],
+        },
+        Err(_) => [0; 6],
+    }
 }
 
 // Reads once, and appends what came; how much that was.
@@ -64,7 +104,13 @@ fn read_more<R: Read>(
     bytes: &mut Vec<u8>,
     reader: &mut R,
     buffer: &mut [u8],
-) -> Result<usize, FileFault> {
+) -> Result<usize, FileFault>
+    ensures came { OnOk result ((more : List ℕ) × (bytes.new.items ≡ bytes.old.items ++ more)
+        × Consumes (R.remaining reader.old) (R.remaining reader.new) more) }
+    ensures end { IfOk result (λ n. n ≡ 0 → 0 < length buffer.old → IsAtEnd (R.remaining reader.new)) }
+    ensures limit { OnOk result (length bytes.new.items ≤ 16777216) }
+    ensures fault { IfErr result IsNotRead }
+{
     let Ok(count) = reader.read(buffer) else {
         return Err(FileFault::Read);
     };
@@ -79,7 +125,13 @@ fn read_more<R: Read>(
 
 /// All the bytes of a reader, 16,777,216 at most. A longer reader, and one that fails, is `Read`; a
 /// fault is not tried again. `Memory` where a growth is refused.
-pub fn read_all<R: Read>(alloc: Global, reader: &mut R) -> Result<Vec<u8>, FileFault> {
+#[tactic(auto, using(crate::proofs::Whole::no_read, crate::proofs::Whole::read_on, crate::proofs::Whole::all_read))]
+pub fn read_all<R: Read>(alloc: Global, reader: &mut R) -> Result<Vec<u8>, FileFault>
+    ensures bytes { IfOk result (λ bytes. IsAll (R.remaining reader.old) bytes.items) }
+    ensures end { OnOk result (IsAtEnd (R.remaining reader.new)) }
+    ensures limit { IfOk result (λ bytes. length bytes.items ≤ 16777216) }
+    ensures fault { IfErr result IsNotRead }
+{
     let mut bytes = Vec::new(alloc);
     let mut buffer = [0u8; 4096];
     for _ in 0..u64::MAX {
@@ -94,6 +146,13 @@ pub fn read_all<R: Read>(alloc: Global, reader: &mut R) -> Result<Vec<u8>, FileF
 ///
 /// # Errors
 /// Those of `open` and of `read_all`.
-pub fn list<R: Files + Input + AllocGlobal>(rt: &R, name: &str) -> Result<Vec<u8>, FileFault> {
-    read_all(rt.alloc(), &mut open(rt, name)?)
+pub fn list<R: Files + Input + AllocGlobal>(rt: &R, name: &str) -> Result<Vec<u8>, FileFault>
+    ensures bytes { IfOk result (λ bytes. (source : Either R.File R.Reader)
+        × (IsFalse (is_left source) ↔ (name.now ≡ codes "-"))
+        × IsAll (either R.File.remaining R.Reader.remaining source) bytes.items) }
+    ensures limit { IfOk result (λ bytes. length bytes.items ≤ 16777216) }
+    ensures fault { IfErr result (λ fault. IsNotOpened fault ⊎ IsNotRead fault) }
+{
+    let mut source = open(rt, name)?;
+    read_all(rt.alloc(), &mut source)
 }

@@ -7,6 +7,6 @@ mod names;
 mod writing;
 
 pub use faults::{FileFault, Obstacle};
-pub use input::{MOST_BYTES, first_bytes, list, open, open_plain, read_all};
+pub use input::{MOST_BYTES, first_bytes, list, open, open_plain, read_all, size_of};
 pub use names::{FileName, INPUT, is_input};
 pub use writing::{Draft, begin, begin_apart, lead_to_one, stand_at_one};

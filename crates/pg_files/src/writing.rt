@@ -1,7 +1,12 @@
-//! Files that are written beside their place, and put there when they are whole.
-ghost use Rattle.std.specs.Prelude.{◌≢◌, ◌≤◌, IfOk, length};
+//! Files that are written beside their place, and put there when they are whole. Of the files of the system std says
+//! nothing, so no clause says which there are before a call and after it.
+ghost use Rattle.std.specs.Prelude.{◌≡◌, ◌≢◌, ◌≤◌, ◌<◌, ◌++◌, codes, length, string_bytes};
+ghost use Rattle.std.specs.Prelude.{IfErr, IfOk, IfSome, IsErrAnd, IsNone, IsSome};
+ghost use Rattle.std.specs.Fs.{permissions_mode};
 ghost use Rattle.std.specs.Io.{StartsWith};
-ghost use Rattle.pg_files.specs.Drafts.{name_of_draft};
+ghost use Rattle.pg_files.specs.Drafts.{HasPlainRights, IsNew, name_of_draft, place_of_draft};
+ghost use Rattle.pg_files.specs.Paths.{HasNoSlash, IsDraftPath, IsFolder};
+ghost use Rattle.pg_files.specs.Faults.{IsNotBegun, IsNotPut};
 
 use crate::faults::{FileFault, Obstacle};
 use crate::names::{is_input, path_of};
@@ -27,7 +32,8 @@ fn is_same(one: &Metadata, other: &Metadata) -> bool {
     one.dev() == other.dev() && one.ino() == other.ino()
 }
 
-/// Whether two names lead to one plain file. The name `-` leads to standard input.
+/// Whether two names lead to one plain file. The name `-` leads to standard input. No clause can say so: std says
+/// nothing of what a name leads to.
 pub fn lead_to_one<R: Files>(rt: &R, one: &str, other: &str) -> bool {
     match (
         fs::metadata(rt, path_of(one)),
@@ -59,7 +65,10 @@ struct Place {
 }
 
 // A text of one's own.
-fn copied(alloc: Global, text: &str) -> Result<String, FileFault> {
+fn copied(alloc: Global, text: &str) -> Result<String, FileFault>
+    ensures copy { IfOk result (λ copy. string_bytes copy ≡ text.now) }
+    ensures fault { IfErr result (λ fault. fault ≡ FileFault.Memory) }
+{
     match String::from_str(alloc, text) {
         Ok(copy) => Ok(copy),
         Err(_) => Err(FileFault::Memory),
@@ -67,13 +76,19 @@ fn copied(alloc: Global, text: &str) -> Result<String, FileFault> {
 }
 
 // Who may read, write and run a file.
-fn rights_of(file: &Metadata) -> Permissions {
+fn rights_of(file: &Metadata) -> Permissions
+    ensures { permissions_mode result ≤ 0o777 }
+{
     Permissions::from_mode(file.permissions().mode() & RIGHTS)
 }
 
 // The place of a file that is there already: the plain file to which the name leads, if it may be
 // written and is not where the program prints.
-fn place_of_old<R: Files + AllocGlobal>(rt: &R, name: &str) -> Result<Place, FileFault> {
+fn place_of_old<R: Files + AllocGlobal>(rt: &R, name: &str) -> Result<Place, FileFault>
+    ensures old { IfOk result (λ place. IfSome place.permissions (λ rights. permissions_mode rights ≤ 0o777)) }
+    ensures there { IfOk result (λ place. IsSome place.permissions) }
+    ensures fault { IfErr result IsNotBegun }
+{
     let old = match fs::metadata(rt, name) {
         Ok(old) => old,
         Err(fault) => return Err(FileFault::Open(Obstacle::of(&fault))),
@@ -98,7 +113,12 @@ fn place_of_old<R: Files + AllocGlobal>(rt: &R, name: &str) -> Result<Place, Fil
 }
 
 // The place of a file with this name.
-fn place_of<R: Files + AllocGlobal>(rt: &R, name: &str) -> Result<Place, FileFault> {
+fn place_of<R: Files + AllocGlobal>(rt: &R, name: &str) -> Result<Place, FileFault>
+    ensures new { IfOk result (λ place. IsNone place.permissions → string_bytes place.path ≡ name.now) }
+    ensures rights { IfOk result (λ place. IfSome place.permissions (λ rights. permissions_mode rights ≤ 0o777)) }
+    ensures input { name.now ≡ codes "-" → IsErrAnd result (λ fault. fault ≡ FileFault.Open Obstacle.Input) }
+    ensures fault { IfErr result IsNotBegun }
+{
     if is_input(name) {
         return Err(FileFault::Open(Obstacle::Input));
     }
@@ -117,39 +137,33 @@ fn place_of<R: Files + AllocGlobal>(rt: &R, name: &str) -> Result<Place, FileFau
     }
 }
 
-// The folder of a path, with its last `/`; nothing where the path has none.
-fn folder_of(path: &str) -> &str
-    ensures front { StartsWith path.now result.now }
+// The folder of a path, with its last `/`, and the name behind that. Where the path has no `/`, the folder is nothing.
+fn parted(path: &str) -> (&str, &str)
+    ensures whole { path.now ≡ result.0.now ++ result.1.now }
+    ensures folder { IsFolder result.0.now }
+    ensures name { HasNoSlash result.1.now }
 {
     match path.rfind('/') {
-        Some(at) => &path[..=at],
-        None => "",
-    }
-}
-
-// The name of a path, behind its last `/`.
-fn name_of(path: &str) -> &str {
-    match path.rsplit_once('/') {
-        Some((_, name)) => name,
-        None => path,
+        Some(at) => path.split_at(at + 1),
+        None => ("", path),
     }
 }
 
 // The folder of a path, as a name that can be asked about.
 fn folder_name(path: &str) -> &str {
-    match folder_of(path) {
+    match parted(path).0 {
         "" => ".",
         folder => folder,
     }
 }
 
 /// Whether two names stand at one place, so that files written under both would be one: they lead to one plain file,
-/// or they are one name in one folder.
+/// or they are one name in one folder. No clause can say so, since none says what a name leads to.
 pub fn stand_at_one<R: Files>(rt: &R, one: &str, other: &str) -> bool {
     if lead_to_one(rt, one, other) {
         return true;
     }
-    if name_of(one) != name_of(other) {
+    if parted(one).1 != parted(other).1 {
         return false;
     }
     match (
@@ -165,8 +179,23 @@ pub fn stand_at_one<R: Files>(rt: &R, one: &str, other: &str) -> bool {
 fn front_of(name: &str) -> &str
     ensures front { StartsWith name.now result.now }
     ensures short { length result.now ≤ 242 }
+    ensures whole { length name.now ≤ 242 → result.now ≡ name.now }
 {
     &name[..name.floor_char_boundary(MOST_OF_NAME)]
+}
+
+// The path of the draft of this number, for a file of this path.
+fn draft_path(alloc: Global, path: &str, number: u32) -> Result<String, FileFault>
+    requires { number < 1000 }
+    ensures name { IfOk result (λ draft. IsDraftPath path.now (string_bytes draft)) }
+    ensures fault { IfErr result (λ fault. fault ≡ FileFault.Memory) }
+{
+    let (folder, name) = parted(path);
+    let front = front_of(name);
+    match format!(in alloc; "{folder}.{front}.pg-part-{number}") {
+        Ok(draft) => Ok(draft),
+        Err(_) => Err(FileFault::Memory),
+    }
 }
 
 /// A file that is written beside its place, in the same folder, as `.NAME.pg-part-N`: N is the least number below
@@ -187,13 +216,12 @@ fn make_beside<R: Files + AllocGlobal>(
     other: &str,
 ) -> Result<Draft<R::File>, FileFault>
     ensures apart { IfOk result (λ draft. name_of_draft draft ≢ other.now) }
+    ensures name { IfOk result (λ draft. IsDraftPath (place_of_draft draft) (name_of_draft draft)) }
+    ensures place { IfOk result (λ draft. draft.place ≡ place) }
+    ensures fault { IfErr result IsNotBegun }
 {
-    let folder = folder_of(place.path.as_str());
-    let name = front_of(name_of(place.path.as_str()));
     for number in 0..NAMES {
-        let Ok(path) = format!(in rt.alloc(); "{folder}.{name}.pg-part-{number}") else {
-            return Err(FileFault::Memory);
-        };
+        let path = draft_path(rt.alloc(), place.path.as_str(), number)?;
         if path.as_str() == other || stand_at_one(rt, path.as_str(), other) {
             continue;
         }
@@ -214,7 +242,13 @@ fn make_beside<R: Files + AllocGlobal>(
 /// `Open` where the name leads to a folder, a pipe, a device or to nothing, where the program prints to
 /// that file, where it must not be written, where its folder takes no file, or where 1,000 drafts of it stand
 /// there, which runs have left; `Memory` where a growth is refused.
-pub fn begin<R: Files + AllocGlobal>(rt: &R, name: &str) -> Result<Draft<R::File>, FileFault> {
+pub fn begin<R: Files + AllocGlobal>(rt: &R, name: &str) -> Result<Draft<R::File>, FileFault>
+    ensures name { IfOk result (λ draft. IsDraftPath (place_of_draft draft) (name_of_draft draft)) }
+    ensures new { IfOk result (λ draft. IsNew draft → place_of_draft draft ≡ name.now) }
+    ensures rights { IfOk result HasPlainRights }
+    ensures input { name.now ≡ codes "-" → IsErrAnd result (λ fault. fault ≡ FileFault.Open Obstacle.Input) }
+    ensures fault { IfErr result IsNotBegun }
+{
     begin_apart(rt, name, "")
 }
 
@@ -229,6 +263,11 @@ pub fn begin_apart<R: Files + AllocGlobal>(
     other: &str,
 ) -> Result<Draft<R::File>, FileFault>
     ensures apart { IfOk result (λ draft. name_of_draft draft ≢ other.now) }
+    ensures name { IfOk result (λ draft. IsDraftPath (place_of_draft draft) (name_of_draft draft)) }
+    ensures new { IfOk result (λ draft. IsNew draft → place_of_draft draft ≡ name.now) }
+    ensures rights { IfOk result HasPlainRights }
+    ensures input { name.now ≡ codes "-" → IsErrAnd result (λ fault. fault ≡ FileFault.Open Obstacle.Input) }
+    ensures fault { IfErr result IsNotBegun }
 {
     let place = place_of(rt, name)?;
     make_beside(rt, place, other)
@@ -241,7 +280,9 @@ impl<F: OpenFile + Drop> Draft<F> {
     /// # Errors
     /// `Write` where the system does not have the whole file, `Open` where it cannot be put there. The
     /// file is gone then, and its place is as it was.
-    pub fn put<R: Files>(self, rt: &R) -> Result<(), FileFault> {
+    pub fn put<R: Files>(self, rt: &R) -> Result<(), FileFault>
+        ensures { IfErr result IsNotPut }
+    {
         let Draft { file, place, path } = self;
         if let Some(permissions) = place.permissions {
             let _ = file.set_permissions(permissions);
@@ -257,7 +298,7 @@ impl<F: OpenFile + Drop> Draft<F> {
         Ok(())
     }
 
-    /// Takes the file away. Its place is as it was.
+    /// Takes the file away. Its place is as it was. No clause can say so: std says nothing of which files there are.
     pub fn discard<R: Files>(self, rt: &R) {
         let _ = fs::remove_file(rt, self.path.as_str());
     }

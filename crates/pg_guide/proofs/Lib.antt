@@ -1,3 +1,1 @@
-pub mod FindLemmas
-pub mod TreeLemmas
-pub mod WhyLemmas
+mod WhyLemmas

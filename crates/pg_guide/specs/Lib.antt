@@ -1,3 +1,1 @@
-pub mod Stops
-pub mod Trees
 pub mod Why

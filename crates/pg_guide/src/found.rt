@@ -1,17 +1,15 @@
-//! What a walk over a certificate finds along a line of moves.
+//! What a check meets along a line of moves, as it is told.
 
 use arrayvec::ArrayVec;
 use pg_fen::Diagram;
 use pg_position::Move;
 use pg_sentences::{Ending, Tally};
 
-// A named node that a reference cites: the line that leads there, the plies left there, and how many games below it
-// end on the diagram.
+// A named node that a reference may cite: its number, and the line that leads there.
 #[derive(Drop)]
 pub(crate) struct Cited {
+    pub(crate) number: u32,
     pub(crate) line: ArrayVec<Move, 128>,
-    pub(crate) left: u8,
-    pub(crate) games: u64,
 }
 
 // What stands along a line: the problem's diagram and plies, the moves from the initial array, the expanded nodes
@@ -24,5 +22,5 @@ pub(crate) struct Found<'a> {
     pub(crate) line: &'a [Move],
     pub(crate) tallies: &'a [Tally],
     pub(crate) ending: &'a Option<Ending>,
-    pub(crate) cited: &'a Option<Cited>,
+    pub(crate) cited: Option<&'a Cited>,
 }

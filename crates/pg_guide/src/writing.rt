@@ -1,12 +1,41 @@
 //! The lines that are written.
-ghost use Rattle.std.specs.Prelude.{◌≡◌, true, false, OnOk, OnErr};
+ghost use Rattle.pg_certificate.specs.Pushing.{MayPush};
+ghost use Rattle.pg_guide.specs.Why.{Grows};
 
 use crate::found::{Cited, Found};
+use arrayvec::ArrayVec;
 use pg_certificate::{Refused, Sink};
 use pg_position::{Move, Position};
-use pg_sentences::{Ending, Node, Sentence, Tally, ended, expanded};
+use pg_sentences::phrases::{AFTER, AS, AT_THE_START, BARREN};
+use pg_sentences::{Node, Sentence, Tally, ended, expanded};
 use pg_texts::write_movetext;
-use std::fmt::Write;
+
+// A line, with room for the movetext of two games of 128 plies and for what is said.
+#[derive(Drop)]
+struct Line {
+    text: ArrayVec<u8, 4096>,
+    is_full: bool,
+}
+
+impl Sink for Line {
+    ghost use Rattle.std.specs.Prelude.{None};
+
+    ghost held = { λ _. None };
+
+    ghost has_failed = { λ line. line.is_full };
+
+    fn push(&mut self, bytes: &[u8]) -> Result<(), Refused> {
+        if self.is_full || self.text.try_extend_from_slice(bytes).is_err() {
+            self.is_full = true;
+            return Err(Refused);
+        }
+        Ok(())
+    }
+
+    fn failed(&self) -> bool {
+        self.is_full
+    }
+}
 
 // The position after moves from the initial array, up to the first that is not legal.
 fn position_after(moves: &[Move]) -> Position {
@@ -28,84 +57,25 @@ fn front(line: &[Move], plies: usize) -> &[Move] {
     }
 }
 
-// Appends movetext.
-fn put_moves<W: Sink>(moves: &[Move], out: &mut W) -> Result<(), Refused>
-    ensures runs { OnOk result ((W.has_failed out.old ≡ false) × (W.has_failed out.new ≡ false)) }
-    ensures fault { OnErr result (W.has_failed out.new ≡ true) }
-{
-    match write_movetext(moves, out) {
-        Ok(()) => Ok(()),
-        Err(_) => Err(Refused),
-    }
+// Puts a text on a line.
+fn put(text: &str, line: &mut Line) {
+    let _ = line.push(text.as_bytes());
 }
 
-// Appends where a line says something: after some moves, or before the first.
-fn put_place<W: Sink>(moves: &[Move], out: &mut W) -> Result<(), Refused>
-    ensures runs { OnOk result ((W.has_failed out.old ≡ false) × (W.has_failed out.new ≡ false)) }
-    ensures fault { OnErr result (W.has_failed out.new ≡ true) }
-{
+// Puts on a line where it says something: after some moves, or before the first.
+fn put_place(moves: &[Move], line: &mut Line) {
     if moves.is_empty() {
-        return out.push(b"at the start");
+        return put(AT_THE_START, line);
     }
-    out.push(b"after ")?;
-    put_moves(moves, out)
+    put(AFTER, line);
+    let _ = write_movetext(moves, line);
 }
 
-// Appends a line: what is said after some moves.
-fn put_line<W: Sink>(moves: &[Move], said: &Sentence, out: &mut W) -> Result<(), Refused>
-    ensures runs { OnOk result ((W.has_failed out.old ≡ false) × (W.has_failed out.new ≡ false)) }
-    ensures fault { OnErr result (W.has_failed out.new ≡ true) }
-{
-    put_place(moves, out)?;
-    out.push(b": ")?;
-    out.push(said.as_str().as_bytes())?;
-    out.push(b"\n")
-}
-
-// What is said of the node that a reference names: how many games are below, and whether it is no node of
-// the same future and plies.
-fn cited_words(here: &Position, left: u8, cited: &Cited) -> Sentence {
-    let mut text = Sentence::new();
-    let there = position_after(cited.line.as_slice());
-    if cited.left != left || !there.same_future(here) {
-        let _ = write!(text, ", which is another position");
-    }
-    let (games, ends) = match cited.games {
-        0 => ("no game", "ends"),
-        1 => ("a game", "ends"),
-        _ => ("games", "end"),
-    };
-    let _ = write!(text, ", below which {games} {ends} on the diagram");
-    text
-}
-
-// Appends the line of a reference: where its node stands.
-fn put_reference<W: Sink>(
-    moves: &[Move],
-    left: u8,
-    cited: &Cited,
-    more: &str,
-    out: &mut W,
-) -> Result<(), Refused>
-    ensures runs { OnOk result ((W.has_failed out.old ≡ false) × (W.has_failed out.new ≡ false)) }
-    ensures fault { OnErr result (W.has_failed out.new ≡ true) }
-{
-    let words = cited_words(&position_after(moves), left, cited);
-    put_place(moves, out)?;
-    out.push(b": as ")?;
-    put_place(cited.line.as_slice(), out)?;
-    out.push(words.as_str().as_bytes())?;
-    out.push(more.as_bytes())?;
-    out.push(b"\n")
-}
-
-// Whether the line goes on after so many plies, in words.
-fn more_words(found: &Found, plies: usize) -> &'static str {
-    if plies < found.line.len() {
-        "; the line goes on"
-    } else {
-        ""
-    }
+// Puts on a line where the node of a reference stands.
+fn put_cited(cited: &Cited, line: &mut Line) {
+    put(AS, line);
+    put_place(cited.line.as_slice(), line);
+    put(BARREN, line);
 }
 
 // The plies that are left after so many.
@@ -114,56 +84,61 @@ fn plies_after(found: &Found, plies: usize) -> u8 {
     found.plies.saturating_sub(gone)
 }
 
-// Appends the line of what ends the line of moves, after so many plies.
-fn put_ending<W: Sink>(
-    found: &Found,
-    plies: usize,
-    ending: &Ending,
-    out: &mut W,
-) -> Result<(), Refused>
-    ensures runs { OnOk result ((W.has_failed out.old ≡ false) × (W.has_failed out.new ≡ false)) }
-    ensures fault { OnErr result (W.has_failed out.new ≡ true) }
-{
-    let moves = front(found.line, plies);
-    let more = more_words(found, plies);
-    let left = plies_after(found, plies);
-    if let Some(cited) = found.cited {
-        return put_reference(moves, left, cited, more, out);
+// What the children of the node after so many plies are, where it is expanded.
+fn tally_after<'a>(found: &Found<'a>, plies: usize) -> Option<&'a Tally> {
+    match found.tallies.len().checked_sub(plies.saturating_add(1)) {
+        Some(at) => found.tallies.get(at),
+        None => None,
     }
-    let position = position_after(moves);
-    let node = Node {
-        diagram: found.diagram,
-        position: &position,
-        left,
-    };
-    let mut said = ended(&node, ending);
-    let _ = write!(said, "{more}");
-    put_line(moves, &said, out)
 }
 
-// What is said of an expanded node on the line, after so many plies.
-fn expanded_after(found: &Found, plies: usize, tally: &Tally) -> Sentence {
+// What is said of the node after so many plies: an expanded one, or what ends the line of moves.
+fn said_after(found: &Found, plies: usize) -> Sentence {
     let position = position_after(front(found.line, plies));
     let node = Node {
         diagram: found.diagram,
         position: &position,
         left: plies_after(found, plies),
     };
-    expanded(&node, tally)
+    if let Some(tally) = tally_after(found, plies) {
+        return expanded(&node, tally);
+    }
+    match found.ending {
+        Some(ending) => ended(&node, ending),
+        None => Sentence::new(),
+    }
 }
 
-// Appends a line for each expanded node on the line, from the array on.
-fn put_expanded<W: Sink>(found: &Found, out: &mut W) -> Result<(), Refused>
-    ensures runs { OnOk result (W.has_failed out.new ≡ W.has_failed out.old) }
-    ensures fault { OnErr result (W.has_failed out.new ≡ true) }
-{
-    let mut plies = 0usize;
-    for tally in found.tallies.iter().rev() {
-        let said = expanded_after(found, plies, tally);
-        put_line(front(found.line, plies), &said, out)?;
-        plies = plies.saturating_add(1);
+// Puts on a line what ends the line of moves after so many plies, and whether that goes on.
+fn put_ending(found: &Found, plies: usize, line: &mut Line) {
+    match found.cited {
+        Some(cited) => put_cited(cited, line),
+        None => put(said_after(found, plies).as_str(), line),
     }
-    Ok(())
+    if plies < found.line.len() {
+        put("; the line goes on", line);
+    }
+}
+
+// Puts on a line what is said after so many plies.
+fn put_line(found: &Found, plies: usize, line: &mut Line) {
+    put_place(front(found.line, plies), line);
+    put(": ", line);
+    if plies < found.tallies.len() {
+        put(said_after(found, plies).as_str(), line);
+    } else {
+        put_ending(found, plies, line);
+    }
+    put("\n", line);
+}
+
+// How many lines there are.
+fn count_lines(found: &Found) -> usize {
+    let count = found.tallies.len();
+    match found.ending {
+        Some(_) => count.saturating_add(1),
+        None => count,
+    }
 }
 
 // Appends what was found along a line of moves: a line of text for each expanded node, from the initial array on, and
@@ -172,12 +147,16 @@ fn put_expanded<W: Sink>(found: &Found, out: &mut W) -> Result<(), Refused>
 // # Errors
 // `Refused` where the sink has failed.
 pub(crate) fn write_found<W: Sink>(found: &Found, out: &mut W) -> Result<(), Refused>
-    ensures runs { OnOk result (W.has_failed out.new ≡ W.has_failed out.old) }
-    ensures fault { OnErr result (W.has_failed out.new ≡ true) }
+    ensures { MayPush W.held W.has_failed Grows out.old out.new result }
 {
-    put_expanded(found, out)?;
-    match found.ending {
-        Some(ending) => put_ending(found, found.tallies.len(), ending, out),
-        None => Ok(()),
+    let mut line = Line {
+        text: ArrayVec::new(),
+        is_full: false,
+    };
+    for plies in 0..count_lines(found) {
+        line.text.clear();
+        put_line(found, plies, &mut line);
+        out.push(line.text.as_slice())?;
     }
+    Ok(())
 }

@@ -1,4 +1,5 @@
 pub mod FenLemmas
+mod FieldLemmas
 mod LineLemmas
 mod MeantLemmas
 mod PlaceLemmas

@@ -1,14 +1,135 @@
 //! What is wrong with a text that is no diagram.
-ghost use Rattle.std.specs.Prelude.{◌≡◌, []};
-ghost use Rattle.pg_hints.specs.Diagrams.{SaysAll};
+ghost use Rattle.std.specs.Prelude.{◌≡◌, ◌≢◌, ◌≤◌, ◌<◌, ◌+◌, ◌++◌, ◌∷◌, [], length, IfSome, MatchOption};
+ghost use Rattle.std.specs.Fmt.{decimal};
+ghost use Rattle.std.specs.List.{prefix_len};
+ghost use Rattle.pg_fen.specs.Fields.{fields, is_field_byte, is_field_gap};
+ghost use Rattle.pg_hints.specs.Diagrams.{SaysAll, fields_hint, first_field, kings_hint, ranks, ranks_hint, times};
 
 use crate::Hint;
-use pg_board::{Color, Kind, Man};
-use pg_fen::{FenFault, letter_of, man_of};
+use pg_fen::text::digits;
+use pg_fen::{FenFault, man_of};
 use std::fmt;
 use std::fmt::Write;
 
-// The first field of a text.
+// Whether a byte parts two fields.
+fn is_gap(byte: u8) -> bool
+    ensures { result ≡ is_field_gap byte }
+{
+    matches!(byte, b' ' | b'\t' | b'\n' | b'\r')
+}
+
+// How many gaps a text begins with.
+fn gap_len(text: &[u8]) -> usize
+    ensures value { result ≡ prefix_len is_field_gap text.now }
+    ensures fits { result ≤ length text.now }
+{
+    text.iter().take_while(|byte| is_gap(**byte)).count()
+}
+
+// How many bytes of a field a text begins with.
+fn field_len(text: &[u8]) -> usize
+    ensures value { result ≡ prefix_len is_field_byte text.now }
+    ensures fits { result ≤ length text.now }
+{
+    text.iter().take_while(|byte| !is_gap(**byte)).count()
+}
+
+// The first field, and what follows it.
+fn next_field(text: &[u8]) -> Option<(&[u8], &[u8])>
+    ensures cut { MatchOption result (fields text.now ≡ []) (λ r. fields text.now ≡ r.0.now ∷ fields r.1.now) }
+    ensures less { IfSome result (λ r. length r.1.now < length text.now) }
+{
+    let (_, rest) = text.split_at(gap_len(text));
+    if rest.is_empty() {
+        return None;
+    }
+    Some(rest.split_at(field_len(rest)))
+}
+
+// The first field of a text; nothing where it has none.
+#[tactic(auto, using(crate::proofs::FieldLemmas::first_is, crate::proofs::FieldLemmas::first_of_none))]
+fn first_field(text: &[u8]) -> &[u8]
+    ensures { result.now ≡ first_field text.now }
+{
+    match next_field(text) {
+        Some((field, _)) => field,
+        None => &[],
+    }
+}
+
+// How many fields a text has.
+#[tactic(auto, using(crate::proofs::FieldLemmas::one_more, crate::proofs::FieldLemmas::no_more))]
+fn count_fields(text: &[u8]) -> usize
+    ensures { result ≡ length (fields text.now) }
+{
+    let mut count = 0;
+    let mut rest = text;
+    'cut: while let Some((_, more)) = next_field(rest) {
+        count += 1;
+        rest = more;
+    }
+    count
+}
+
+// How often a text has this byte.
+fn times(byte: u8, text: &[u8]) -> usize
+    ensures value { result ≡ times byte text.now }
+    ensures fits { result ≤ length text.now }
+{
+    text.iter().filter(|b| **b == byte).count()
+}
+
+// Appends a number.
+fn push_number(number: usize, hint: &mut Hint)
+    requires room { length hint.old.bytes ≤ 100 }
+    ensures text { hint.new.bytes ≡ hint.old.bytes ++ decimal number }
+    ensures short { length hint.new.bytes ≤ length hint.old.bytes + 20 }
+{
+    let digits = digits(number);
+    // A fact for the proof: they are at most twenty.
+    digits.len();
+    hint.push_str(digits.as_str());
+}
+
+// Says how many fields a text has.
+fn on_fields(text: &[u8]) -> Hint
+    ensures { result.bytes ≡ fields_hint text.now }
+{
+    let mut hint = Hint::new();
+    hint.push_str("fields: ");
+    push_number(count_fields(text), &mut hint);
+    hint.push_str("; a diagram has 1, a FEN 6");
+    hint
+}
+
+// Says how many ranks there are.
+fn on_ranks(count: usize) -> Hint
+    ensures { result.bytes ≡ ranks_hint count }
+{
+    let mut hint = Hint::new();
+    push_number(count, &mut hint);
+    if count == 1 {
+        hint.push_str(" rank");
+    } else {
+        hint.push_str(" ranks");
+    }
+    hint.push_str("; a board has 8");
+    hint
+}
+
+// Says how many kings each side has.
+fn on_kings(placement: &[u8]) -> Hint
+    ensures { result.bytes ≡ kings_hint placement.now }
+{
+    let mut hint = Hint::new();
+    hint.push_str("white has ");
+    push_number(times(b'K', placement), &mut hint);
+    hint.push_str(", black ");
+    push_number(times(b'k', placement), &mut hint);
+    hint
+}
+
+// The first field of a text, cut at form feeds too.
 fn placement_of(text: &str) -> &str {
     text.split_ascii_whitespace().next().unwrap_or("")
 }
@@ -30,13 +151,8 @@ fn rank_width(rank: &str) -> u32 {
     width
 }
 
-// Says which rank is too wide or too narrow, or how many ranks there are.
-fn write_rank(placement: &str, hint: &mut Hint) -> fmt::Result {
-    let count = placement.split('/').count();
-    if count != 8 {
-        let ranks = if count == 1 { "rank" } else { "ranks" };
-        return write!(hint, "{count} {ranks}; a board has 8");
-    }
+// Says which rank is too wide or too narrow.
+fn write_width(placement: &str, hint: &mut Hint) -> fmt::Result {
     let mut number = 8u8;
     for rank in placement.split('/') {
         let width = rank_width(rank);
@@ -47,6 +163,19 @@ fn write_rank(placement: &str, hint: &mut Hint) -> fmt::Result {
         number = number.saturating_sub(1);
     }
     Ok(())
+}
+
+// Says how many ranks there are, or which of them is too wide or too narrow.
+fn on_rank(text: &str) -> Hint
+    ensures { ranks (first_field text.now) ≢ 8 → result.bytes ≡ ranks_hint (ranks (first_field text.now)) }
+{
+    let slashes = times(b'/', first_field(text.as_bytes()));
+    if slashes != 7 {
+        return on_ranks(slashes + 1);
+    }
+    let mut hint = Hint::new();
+    let _ = write_width(placement_of(text), &mut hint);
+    hint
 }
 
 // Whether a character may stand in a placement.
@@ -73,30 +202,28 @@ fn write_letter(placement: &str, hint: &mut Hint) -> fmt::Result {
     Ok(())
 }
 
-// Says how many kings each side has.
-fn write_kings(placement: &str, hint: &mut Hint) -> fmt::Result {
-    let letter = |color| char::from(letter_of(Man::new(color, Kind::King)));
-    let white = placement.matches(letter(Color::White)).count();
-    let black = placement.matches(letter(Color::Black)).count();
-    write!(hint, "white has {white}, black {black}")
+// Says which letter is no man's.
+fn on_letter(text: &str) -> Hint {
+    let mut hint = Hint::new();
+    let _ = write_letter(placement_of(text), &mut hint);
+    hint
 }
 
 /// What is wrong with a text that is refused as a diagram or a position with this fault: the rank and its width, the
-/// letter, the numbers of fields and of kings; nothing where the fault says all.
+/// letter, the numbers of fields, ranks and kings; nothing where the fault says all. Which rank is too wide and which
+/// letter is no man's no clause says.
 pub fn on_diagram(text: &str, fault: FenFault) -> Hint
-    ensures { SaysAll fault → result.bytes ≡ [] }
+    ensures silent { SaysAll fault → result.bytes ≡ [] }
+    ensures fields { fault ≡ FenFault.Fields → result.bytes ≡ fields_hint text.now }
+    ensures ranks { fault ≡ FenFault.Rank → ranks (first_field text.now) ≢ 8
+        → result.bytes ≡ ranks_hint (ranks (first_field text.now)) }
+    ensures kings { fault ≡ FenFault.Kings → result.bytes ≡ kings_hint (first_field text.now) }
 {
-    let mut hint = Hint::new();
-    let placement = placement_of(text);
-    let _ = match fault {
-        FenFault::Fields => {
-            let count = text.split_ascii_whitespace().count();
-            write!(hint, "fields: {count}; a diagram has 1, a FEN 6")
-        }
-        FenFault::Rank => write_rank(placement, &mut hint),
-        FenFault::Letter => write_letter(placement, &mut hint),
-        FenFault::Kings => write_kings(placement, &mut hint),
-        _ => Ok(()),
-    };
-    hint
+    match fault {
+        FenFault::Fields => on_fields(text.as_bytes()),
+        FenFault::Rank => on_rank(text),
+        FenFault::Letter => on_letter(text),
+        FenFault::Kings => on_kings(first_field(text.as_bytes())),
+        _ => Hint::new(),
+    }
 }

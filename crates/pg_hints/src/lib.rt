@@ -1,6 +1,7 @@
 //! What may help where a command has no answer: second lines for a terminal, which point to what is wrong. No answer
 //! depends on them. What is said of a search, of a packed file, of a FEN in several words, of a game that does not fit
-//! and of a length is a clause; what is said of a diagram and of a move is tested.
+//! and of a length is a clause. Of a diagram the number of its fields, ranks and kings is one; what is said of a rank's
+//! width, of a letter and of a move is tested.
 #![tactic(auto)]
 
 mod diagrams;

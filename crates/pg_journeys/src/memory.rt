@@ -29,7 +29,7 @@ use std::alloc::{AllocError, Global};
 use std::marker::Model;
 
 // How many cases are remembered at most, and how many tables of steps.
-const MOST_CASES: usize = 4096;
+const MOST_CASES: usize = 16_384;
 
 const MOST_TABLES: usize = 64;
 
@@ -186,7 +186,7 @@ fn place_of(case: &Case) -> usize {
     let number = own.wrapping_mul(0xff51_afd7_ed55_8ccd)
         ^ facts.wrapping_mul(0xc4ce_b9fe_1a85_ec53)
         ^ u64::from(plies).wrapping_mul(0x9e37_79b9_7f4a_7c15);
-    (number >> 52) as usize % MOST_CASES
+    (number >> 50) as usize % MOST_CASES
 }
 
 // What is remembered at the place of a case that is alike.
@@ -290,15 +290,15 @@ pub(crate) fn steps_in(steps: &mut [Steps], still: SquareSet) -> [SquareSet; 384
     table
 }
 
-// Room for cases, of which none is told yet.
+// Room for so many cases, of which none is told yet.
 #[tactic(auto, using(crate::proofs::MemoryLemmas::all_untold))]
-fn room_for_cases(alloc: Global) -> Result<Vec<Remembered>, AllocError>
+fn room_for_cases(alloc: Global, count: usize) -> Result<Vec<Remembered>, AllocError>
     ensures { IfOk result (λ room. (d : Placement) → All (IsRemembered d) room.items) }
 {
     // For the borrow checker, which wants the types told.
     let _none: Option<Shown> = None;
     let _nowhere: Option<Square> = None;
-    let room = Vec::from_elem(alloc, nothing(), MOST_CASES)?;
+    let room = Vec::from_elem(alloc, nothing(), count)?;
     Ok(room)
 }
 
@@ -325,7 +325,7 @@ fn room_for_steps(alloc: Global) -> Result<Vec<Steps>, AllocError>
 }
 
 /// What the plans of colours showed in positions on the way to a diagram, and where men step, for a bound that is asked
-/// of one position after the other: some 900 KB, made once. Contracts see it as the placement of the diagram. What is
+/// of one position after the other: some 3.6 MB, made once. Contracts see it as the placement of the diagram. What is
 /// remembered changes no answer: it is used where a colour has the same men, rights, plies and captures to make, under
 /// the same facts.
 #[derive(Drop)]
@@ -358,7 +358,7 @@ impl Memory {
     pub fn new(alloc: Global, diagram: &Diagram) -> Result<Memory, AllocError>
         ensures { IfOk result (λ memory. memory ≡ diagram.now) }
     {
-        let shown = room_for_cases(alloc)?;
+        let shown = room_for_cases(alloc, MOST_CASES)?;
         let steps = room_for_steps(alloc)?;
         Ok(Memory {
             diagram: *diagram,

@@ -1,2 +1,4 @@
+mod GrowingLemmas
+mod HeadLemmas
 mod LetterLemmas
 mod PageLemmas

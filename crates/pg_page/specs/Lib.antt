@@ -1,5 +1,6 @@
+pub mod Board
 pub mod Escaping
+pub mod Growing
 pub mod Heading
 pub mod Lines
 pub mod Page
-pub mod Telling

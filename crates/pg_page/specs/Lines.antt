@@ -14,5 +14,5 @@ IsMoveText p m text = (san : List ℕ) × IsSan p m san × (text ≡ letter_at m
 
 -- behind the last move of a game stands whether it leads to the diagram
 abbrev pub leaf_mark : Bool → List ℕ
-leaf_mark true = codes "*\n"
-leaf_mark false = codes ",\n"
+leaf_mark true = codes "*"
+leaf_mark false = codes ","

@@ -1,38 +1,34 @@
 -- What a page says of the certificate, and what its refusals say.
-use Rattle.std.specs.Prelude.{◌≡◌, ℕ, true, List, Ok}
+use Rattle.std.specs.Prelude.{◌≡◌, ℕ, Bool, true, List, ◌++◌, Option}
+use Rattle.std.specs.Io.KnownBytes.{Appends}
 use Rattle.pg_board.specs.Placement.{Placement}
-use Rattle.pg_position.specs.declared.moves.Move.{Move}
-use Rattle.pg_fen.specs.Fields.{fields}
-use Rattle.pg_fen.specs.DiagramText.{diagram_of}
-use Rattle.pg_fen.specs.Lengths.{length_of}
-use Rattle.pg_checker.specs.ProblemText.{IsProblemFault}
-use Rattle.pg_checker.specs.declared.fault.RunFault.TheVariants.{Diagram, Length, Games, Check, Write}
-use Rattle.pg_guide.specs.declared.fault.WhyFault.{WhyFault}
-use Rattle.pg_guide.specs.declared.fault.WhyFault.TheVariants.{Moves, TooMany, Run}
+pub use Rattle.pg_checker.specs.Answering.{Failures, HasAnswer, failures}
+use Rattle.pg_checker.specs.Answer.{IsExactAnswer}
+use Rattle.pg_checker.specs.Answering.{IsProvedBy, IsUnanswered}
 use Rattle.pg_checker.specs.Terms.{Terms}
-use Rattle.pg_guide.specs.Why.{ReadingFailures, IsRight, IsGatheringFault}
-use Rattle.pg_page.specs.declared.paging.Asked.{Asked}
+use Rattle.pg_checker.specs.declared.certify.Answer.{Answer as Answered}
+use Rattle.pg_page.specs.Heading.{IsHead}
+use Rattle.pg_page.specs.declared.fault.PageFault.{PageFault}
+use Rattle.pg_page.specs.declared.fault.PageFault.TheVariants.{Answer, Memory, Write}
 
--- the texts spell a diagram d and a length of n plies
-abbrev pub Spells : Asked → Placement → ℕ → Type 0
-Spells asked d n = (diagram_of (fields asked.diagram.now) ≡ Ok d) × (length_of asked.length.now ≡ Ok n)
+-- a text that begins with the head of a page of this answer is appended
+abbrev pub AddsHead : Placement → ℕ → Answered → Option (List ℕ) → Option (List ℕ) → Type 0
+AddsHead d n a before after =
+    (head : List ℕ) × (rest : List ℕ) × IsHead d n a head × Appends before after (head ++ rest)
 
--- the texts spell a diagram and a length, a list of games is the exact answer to
--- them, and by the rules the known bytes are a certificate of that within the limits
-abbrev pub IsShown : Asked → Terms → Type 0
-IsShown asked t = (d : Placement) × (n : ℕ) × (list : List (List Move)) × Spells asked d n × IsRight d n t list
+-- an answer is the exact one, the known bytes are a certificate for it, and its page is appended
+abbrev pub IsShown : Terms → Placement → ℕ → Option (List ℕ) → Option (List ℕ) → Type 0
+IsShown t d n before after = (a : Answered) × IsExactAnswer d n a.games × IsProvedBy t d n a × AddsHead d n a before after
 
--- the texts spell a diagram and a length, of which the certificate is refused with the games that it has
-abbrev pub IsRefused : Asked → Terms → ReadingFailures → WhyFault → Type 0
-IsRefused asked t failed e = (d : Placement) × (n : ℕ) × Spells asked d n × IsGatheringFault d n t failed e
+-- why a page is not written to its end: there was no room for its lines, or the sink has failed
+abbrev pub IsShowingFault : Bool → PageFault → Type 0
+IsShowingFault failed (Answer e) = ⊥
+IsShowingFault failed Memory = Unit {0}
+IsShowingFault failed Write = failed ≡ true
 
--- why there is no page: a text is refused, the diagram first and then the length; or neither is, and the certificate is
--- refused; or it is right, and the sink has failed
-abbrev pub IsPageFault : Asked → Terms → ReadingFailures → WhyFault → Type 0
-IsPageFault asked t failed Moves = ⊥
-IsPageFault asked t failed TooMany = IsRefused asked t failed TooMany
-IsPageFault asked t failed (Run (Diagram fault)) = IsProblemFault asked.diagram.now asked.length.now (Diagram fault)
-IsPageFault asked t failed (Run (Length fault)) = IsProblemFault asked.diagram.now asked.length.now (Length fault)
-IsPageFault asked t failed (Run (Games fault)) = ⊥
-IsPageFault asked t failed (Run (Check fault)) = IsRefused asked t failed (Run (Check fault))
-IsPageFault asked t failed (Run Write) = IsShown asked t × (failed.sink ≡ true)
+-- why there is no page: the certificate has no answer; or it has one, and there was no room for the page, or the sink
+-- has failed
+abbrev pub IsPageFault : Terms → Terms → Placement → ℕ → Failures → PageFault → Type 0
+IsPageFault t any d n failed (Answer e) = IsUnanswered t any d n failed.source e
+IsPageFault t any d n failed Memory = HasAnswer t d n
+IsPageFault t any d n failed Write = HasAnswer t d n × (failed.sink ≡ true)

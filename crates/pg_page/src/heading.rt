@@ -1,17 +1,18 @@
-//! What stands on the page above and below the trees: the diagram, the verdict and the games.
-ghost use Rattle.std.specs.Prelude.{◌≡◌, ◌≤◌, ◌++◌, length, true, false, OnErr, OnOk};
+//! What stands on the page above the trees: the diagram, the verdict and the games.
+ghost use Rattle.std.specs.Prelude.{◌≡◌, ◌≤◌, ◌++◌, length};
 ghost use Rattle.std.specs.Fmt.{decimal};
-ghost use Rattle.pg_certificate.specs.Pushing.{Adds, Pushes};
-ghost use Rattle.pg_page.specs.Heading.{checked_text};
+ghost use Rattle.pg_certificate.specs.Pushing.{Adds, AddsSome, MayPush, Pushes};
+ghost use Rattle.pg_position.specs.Array.{array_state};
+ghost use Rattle.pg_san.specs.Games.{IsFromArray};
+ghost use Rattle.pg_texts.specs.Movetext.{IsMovetext};
+ghost use Rattle.pg_page.specs.Heading.{AreGameItems, AreMoveTexts, IsGameItem, IsGameList, IsHead};
+ghost use Rattle.pg_page.specs.Heading.{answer_text, checked_text, end_words, front_text, verdict_words};
 
-use crate::lines::{move_text, write_escaped, write_number};
-use crate::script::{NAMES, NAMES_WITH_JOURNEYS, SCRIPT, VIEWER};
+use crate::board::write_board;
+use crate::lines::{move_text, write_around, write_escaped, write_number};
 use crate::style::{BEGIN, MEN};
-use pg_board::{Board, Color, Man, Square};
 use pg_certificate::{Refused, Sink};
-use pg_checker::Problem;
-use pg_fen::letter_of;
-use pg_guide::Gathered;
+use pg_checker::{Answer, Problem};
 use pg_position::{Move, Position};
 use pg_san::Games;
 use pg_texts::write_movetext;
@@ -22,102 +23,48 @@ const CHECKED: &str =
 <code>pg</code> has tested each record. Its check is proved: where it says yes, the games below are all there are.</p>
 ";
 
-// Appends texts.
-fn write_all<W: Sink>(texts: &[&str], out: &mut W) -> Result<(), Refused>
-    ensures fault { OnErr result (W.has_failed out.new ≡ true) }
-{
-    for text in texts {
-        out.push(text.as_bytes())?;
-    }
-    Ok(())
-}
-
-// Appends a man at his place on a board that is eight wide and high.
-fn write_man<W: Sink>(man: Man, square: Square, out: &mut W) -> Result<(), Refused>
-    ensures fault { OnErr result (W.has_failed out.new ≡ true) }
-{
-    let class = match man.color {
-        Color::White => "w",
-        Color::Black => "b",
-    };
-    let letter = [letter_of(man).to_ascii_uppercase()];
-    write_all(&["<use class=\"", class, "\" href=\"#m"], out)?;
-    out.push(&letter)?;
-    let across = u64::from(square.file().saturating_sub(1));
-    write_number("\" x=\"", across, out)?;
-    let down = u64::from(8u8.saturating_sub(square.rank()));
-    write_number("\" y=\"", down, out)?;
-    out.push(b"\" width=\"1\" height=\"1\"/>")
-}
-
-// Appends the men of a board.
-fn write_men<W: Sink>(board: &Board, out: &mut W) -> Result<(), Refused>
-    ensures fault { OnErr result (W.has_failed out.new ≡ true) }
-{
-    for index in 0..64u8 {
-        let square = Square::at(index);
-        if let Some(man) = board.get(square) {
-            write_man(man, square, out)?;
-        }
-    }
-    Ok(())
-}
-
-// Appends the diagram as a board, with its placement in letters.
-fn write_diagram<W: Sink>(problem: &Problem, out: &mut W) -> Result<(), Refused>
-    ensures fault { OnErr result (W.has_failed out.new ≡ true) }
+// Appends what stands before the verdict: the same whatever the answer is.
+fn write_front<W: Sink>(problem: &Problem, out: &mut W) -> Result<(), Refused>
+    ensures { Pushes W.held W.has_failed
+        (Adds (front_text problem.now.diagram problem.now.length)) out.old out.new result }
 {
     let placement = problem.diagram.write();
-    out.push(
-        b"<figure><svg class=\"board\" viewBox=\"-.5 0 8.5 8.5\" role=\"img\" \
-aria-label=\"The diagram\"><use href=\"#squares\"/>",
-    )?;
-    write_men(&problem.diagram.board(), out)?;
-    out.push(b"</svg><figcaption><code>")?;
+    let length = problem.length.write();
+    let length = length.as_str();
+    let behind = " moves</title>\n</head>\n<body data-diagram=\"";
+    out.push(BEGIN.as_bytes())?;
+    write_around("<title>A proof game in ", length, behind, out)?;
     write_escaped(placement.as_str(), out)?;
-    out.push(b"</code></figcaption></figure>\n")
+    write_around("\" data-length=\"", length, "\" data-plies=\"", out)?;
+    write_number("", u64::from(problem.length.plies()), out)?;
+    out.push(b"\">\n")?;
+    out.push(MEN.as_bytes())?;
+    write_around("<h1>A proof game in ", length, " moves</h1>\n", out)?;
+    write_board(&problem.diagram, out)
 }
 
-// Appends the title and what stands before the diagram.
-fn write_title<W: Sink>(problem: &Problem, out: &mut W) -> Result<(), Refused>
-    ensures fault { OnErr result (W.has_failed out.new ≡ true) }
+// Appends the verdict on so many games.
+fn write_count<W: Sink>(count: usize, out: &mut W) -> Result<(), Refused>
+    ensures { Pushes W.held W.has_failed (Adds (verdict_words count)) out.old out.new result }
 {
-    let (placement, length) = (problem.diagram.write(), problem.length.write());
-    let (placement, length) = (placement.as_str(), length.as_str());
-    write_all(
-        &[
-            "<title>A proof game in ",
-            length,
-            " moves</title>\n</head>\n<body data-diagram=\"",
-        ],
-        out,
-    )?;
-    write_escaped(placement, out)?;
-    write_all(&["\" data-length=\"", length], out)?;
-    write_number("\" data-plies=\"", u64::from(problem.length.plies()), out)?;
-    write_all(
-        &[
-            "\">\n",
-            MEN,
-            "<h1>A proof game in ",
-            length,
-            " moves</h1>\n",
-        ],
-        out,
-    )
+    if count == 0 {
+        out.push(b"<strong>No game.</strong> No game of ")
+    } else if count == 1 {
+        out.push(b"<strong>Sound.</strong> Just one game of ")
+    } else {
+        write_number("<strong>Cooked.</strong> ", count as u64, out)?;
+        out.push(b" games of ")
+    }
 }
 
-// Appends the verdict on so many games, up to the length.
-fn write_verdict_of<W: Sink>(count: usize, out: &mut W) -> Result<(), Refused>
-    ensures fault { OnErr result (W.has_failed out.new ≡ true) }
+// What so many games do.
+fn end_words(count: usize) -> &'static str
+    ensures { result.now ≡ end_words count }
 {
-    match count {
-        0 => out.push(b"<strong>No game.</strong> No game of "),
-        1 => out.push(b"<strong>Sound.</strong> Just one game of "),
-        _ => {
-            write_number("<strong>Cooked.</strong> ", count as u64, out)?;
-            out.push(b" games of ")
-        }
+    if count <= 1 {
+        " moves from the initial array ends on this diagram, and no shorter game does.</p>\n<p>"
+    } else {
+        " moves from the initial array end on this diagram, and no shorter game does.</p>\n<p>"
     }
 }
 
@@ -157,31 +104,16 @@ pub fn write_checked<W: Sink>(records: u64, named: u32, out: &mut W) -> Result<(
     )
 }
 
-// Appends the verdict in a sentence, and what was checked.
-fn write_verdict<W: Sink>(problem: &Problem, found: &Gathered, out: &mut W) -> Result<(), Refused>
-    ensures fault { OnErr result (W.has_failed out.new ≡ true) }
-{
-    let count = found.games.len();
-    let length = problem.length.write();
-    out.push(b"<p id=\"verdict\">")?;
-    write_verdict_of(count, out)?;
-    write_all(&[length.as_str(), " moves from the initial array end"], out)?;
-    if count <= 1 {
-        out.push(b"s")?;
-    }
-    out.push(b" on this diagram, and no shorter game does.</p>\n<p>")?;
-    write_checked(found.proved.records, found.proved.named, out)?;
-    out.push(CHECKED.as_bytes())
-}
-
-// Appends the game as moves for the script, up to the first that is not legal.
+// Appends a game as moves for the script.
 fn write_moves<W: Sink>(game: &[Move], out: &mut W) -> Result<(), Refused>
-    ensures fault { OnErr result (W.has_failed out.new ≡ true) }
+    requires { IsFromArray game.now }
+    ensures { MayPush W.held W.has_failed (AddsSome (AreMoveTexts array_state game.now)) out.old out.new result }
 {
     let mut position = Position::array();
     for m in game {
-        let Ok(next) = position.play(*m) else {
-            break;
+        let next = match position.play(*m) {
+            Ok(next) => next,
+            Err(_) => unreachable!(),
         };
         out.push(move_text(&position, m).as_str().as_bytes())?;
         out.push(b" ")?;
@@ -190,68 +122,76 @@ fn write_moves<W: Sink>(game: &[Move], out: &mut W) -> Result<(), Refused>
     Ok(())
 }
 
+// Appends the movetext of a game.
+fn write_words<W: Sink>(game: &[Move], out: &mut W) -> Result<(), Refused>
+    requires { IsFromArray game.now }
+    ensures { Pushes W.held W.has_failed (AddsSome (IsMovetext game.now)) out.old out.new result }
+{
+    match write_movetext(game, out) {
+        Ok(()) => Ok(()),
+        Err(_) => Err(Refused),
+    }
+}
+
 // Appends a game as an item of a list, to be played through.
 fn write_game<W: Sink>(game: &[Move], out: &mut W) -> Result<(), Refused>
-    ensures fault { OnErr result (W.has_failed out.new ≡ true) }
+    requires { IsFromArray game.now }
+    ensures { Pushes W.held W.has_failed (AddsSome (IsGameItem game.now)) out.old out.new result }
 {
     out.push(b"<li><span data-moves=\"")?;
     write_moves(game, out)?;
     out.push(b"\">")?;
-    match write_movetext(game, out) {
-        Ok(()) => {}
-        Err(_) => return Err(Refused),
-    }
+    write_words(game, out)?;
     out.push(b"</span></li>\n")
 }
 
-// Appends the games.
+// Appends the games of a list, in their order.
+fn write_all<W: Sink>(games: &Games, out: &mut W) -> Result<(), Refused>
+    ensures { MayPush W.held W.has_failed (AddsSome (AreGameItems games.now)) out.old out.new result }
+{
+    for i in 0..games.len() {
+        let Some(game) = games.game(i) else {
+            unreachable!();
+        };
+        write_game(game, out)?;
+    }
+    Ok(())
+}
+
+// Appends the list of the games.
 fn write_games<W: Sink>(games: &Games, out: &mut W) -> Result<(), Refused>
-    ensures fault { OnErr result (W.has_failed out.new ≡ true) }
+    ensures { Pushes W.held W.has_failed (AddsSome (IsGameList games.now)) out.old out.new result }
 {
     out.push(b"<h2>The games</h2>\n<ol id=\"games\">\n")?;
-    for i in 0..games.len() {
-        if let Some(game) = games.game(i) {
-            write_game(game, out)?;
-        }
-    }
+    write_all(games, out)?;
     out.push(b"</ol>\n")
+}
+
+// Appends the verdict in a sentence, and what was checked.
+fn write_answer<W: Sink>(problem: &Problem, answer: &Answer, out: &mut W) -> Result<(), Refused>
+    ensures { Pushes W.held W.has_failed
+        (Adds (answer_text problem.now.length answer.now)) out.old out.new result }
+{
+    let count = answer.games.len();
+    let length = problem.length.write();
+    out.push(b"<p id=\"verdict\">")?;
+    write_count(count, out)?;
+    out.push(length.as_str().as_bytes())?;
+    out.push(end_words(count).as_bytes())?;
+    write_checked(answer.proved.records, answer.proved.named, out)?;
+    out.push(CHECKED.as_bytes())
 }
 
 // Appends all that stands before the trees.
 pub(crate) fn write_head<W: Sink>(
     problem: &Problem,
-    found: &Gathered,
+    answer: &Answer,
     out: &mut W,
 ) -> Result<(), Refused>
-    ensures fault { OnErr result (W.has_failed out.new ≡ true) }
+    ensures { Pushes W.held W.has_failed
+        (AddsSome (IsHead problem.now.diagram problem.now.length answer.now)) out.old out.new result }
 {
-    out.push(BEGIN.as_bytes())?;
-    write_title(problem, out)?;
-    write_diagram(problem, out)?;
-    write_verdict(problem, found, out)?;
-    write_games(&found.games, out)?;
-    write_all(&[VIEWER, "<pre id=\"trees\" hidden>"], out)
-}
-
-// Appends the script, which names journeys where they are among the bounds.
-fn write_script<W: Sink>(has_journeys: bool, out: &mut W) -> Result<(), Refused>
-    ensures fault { OnErr result (W.has_failed out.new ≡ true) }
-{
-    if has_journeys {
-        if let Some((start, rest)) = SCRIPT.split_once(NAMES) {
-            return write_all(&[start, NAMES_WITH_JOURNEYS, rest], out);
-        }
-    }
-    out.push(SCRIPT.as_bytes())
-}
-
-// Appends what stands behind the trees.
-pub(crate) fn write_end<W: Sink>(end: &str, has_journeys: bool, out: &mut W) -> Result<(), Refused>
-    ensures runs { OnOk result (W.has_failed out.new ≡ false) }
-    ensures fault { OnErr result (W.has_failed out.new ≡ true) }
-{
-    out.push(end.as_bytes())?;
-    out.push(b"</pre>\n<script>\n")?;
-    write_script(has_journeys, out)?;
-    out.push(b"</script>\n</body>\n</html>\n")
+    write_front(problem, out)?;
+    write_answer(problem, answer, out)?;
+    write_games(&answer.games, out)
 }

@@ -126,3 +126,17 @@ pub(crate) fn write_escaped<W: Sink>(text: &str, out: &mut W) -> Result<(), Refu
     }
     out.push_each(bytes)
 }
+
+// Appends a text between two others.
+pub(crate) fn write_around<W: Sink>(
+    before: &str,
+    text: &str,
+    behind: &str,
+    out: &mut W,
+) -> Result<(), Refused>
+    ensures { Pushes W.held W.has_failed (Adds (before.now ++ (text.now ++ behind.now))) out.old out.new result }
+{
+    out.push(before.as_bytes())?;
+    out.push(text.as_bytes())?;
+    out.push(behind.as_bytes())
+}

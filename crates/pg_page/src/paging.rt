@@ -1,150 +1,175 @@
 //! A certificate is checked and shown as a page.
-ghost use Rattle.std.specs.Prelude.{◌≡◌, ◌⊎◌, Bool, true, false, IfErr, OnOk};
-ghost use Rattle.pg_checker.specs.Cuts.{rules_by};
+ghost use Rattle.std.specs.Prelude.{◌≡◌, ◌⊎◌, false, true, IfErr, OnErr, OnOk};
+ghost use Rattle.pg_certificate.specs.Pushing.{MayPush, Pushes};
+ghost use Rattle.pg_checker.specs.Answering.{HasAnswer, failures};
+ghost use Rattle.pg_checker.specs.Cuts.{any_rules_by, rules_by};
 ghost use Rattle.pg_checker.specs.Terms.{terms};
-ghost use Rattle.pg_guide.specs.Why.{reading_failures};
-ghost use Rattle.pg_page.specs.Page.{IsPageFault, IsShown};
-ghost use Rattle.pg_page.specs.Telling.{IsTellingFault, TellsTruly};
+ghost use Rattle.pg_page.specs.Growing.{Grows};
+ghost use Rattle.pg_page.specs.Page.{AddsHead, IsPageFault, IsShowingFault, IsShown};
 
-use crate::heading::{write_end, write_head};
-use crate::telling::{Stop, Told, floor_for, tell};
+use crate::fault::PageFault;
+use crate::heading::write_head;
+use crate::log::Log;
+use crate::script::{SCRIPT, VIEWER};
+use crate::telling::tell;
 use pg_captures::Bound;
 use pg_certificate::{Refused, Sink, Source};
-use pg_checker::{Fault, Problem, RunFault};
-use pg_guide::{Gathered, WhyFault, gather};
-use pg_journeys::Journeys;
+use pg_checker::{Answer, Problem, answer_watched};
+use pg_sentences::phrases::{
+    AFTER, AS, AT_THE_START, BARREN, CUT_BY, ELSEWHERE, EXCLUDED, SOLUTION, UNSEEN,
+};
+use pg_sentences::untold;
 use std::alloc::Global;
 
-/// What is to be shown: the texts of a diagram and of a length in moves, and at most how many expanded nodes of the
-/// tree of the stated length, and of the shorter ones together.
-#[derive(Clone, Copy)]
-pub struct Asked<'a> {
-    pub diagram: &'a str,
-    pub length: &'a str,
-    pub nodes: u64,
-}
-
-// Why a page is not written to its end, as a refusal.
-fn fault_of(stop: Stop) -> WhyFault
-    ensures { (read write : Bool) → TellsTruly read write stop → IsTellingFault read write result }
+// Appends texts.
+fn write_all<W: Sink>(texts: &[&str], out: &mut W) -> Result<(), Refused>
+    ensures { MayPush W.held W.has_failed Grows out.old out.new result }
 {
-    match stop {
-        Stop::Read => WhyFault::Run(RunFault::Check(Fault::Read)),
-        Stop::Write | Stop::Refused => WhyFault::Run(RunFault::Write),
+    for text in texts {
+        out.push(text.as_bytes())?;
     }
+    Ok(())
 }
 
-// How a page is made: how many nodes are told at most, and whether journeys are among the bounds.
-#[derive(Clone, Copy)]
-struct Form {
-    nodes: u64,
-    has_journeys: bool,
+// Appends what stands between the games and the trees, with the words that the script puts beside what these say.
+fn write_viewer<W: Sink>(out: &mut W) -> Result<(), Refused>
+    ensures { MayPush W.held W.has_failed Grows out.old out.new result }
+{
+    let untold = untold(0);
+    write_all(
+        &[
+            VIEWER,
+            "<div id=\"phrases\" hidden data-start=\"",
+            AT_THE_START,
+            "\" data-after=\"",
+            AFTER,
+            "\" data-as=\"",
+            AS,
+            "\" data-barren=\"",
+            BARREN,
+            "\" data-excluded=\"",
+            EXCLUDED,
+            "\" data-cut=\"",
+            CUT_BY,
+            "\" data-unseen=\"",
+            UNSEEN,
+            "\" data-solution=\"",
+            SOLUTION,
+            "\" data-elsewhere=\"",
+            ELSEWHERE,
+            "\" data-untold=\"",
+            untold.as_str(),
+            "\"></div>\n<pre id=\"trees\" hidden>",
+        ],
+        out,
+    )
 }
 
-// Whether journeys are among these bounds.
-fn has_journeys(bounds: &[Box<dyn Bound>]) -> bool {
-    for bound in bounds {
-        if bound.code() == Journeys::CODE {
-            return true;
-        }
-    }
-    false
+// Appends what stands behind the trees.
+fn write_end<W: Sink>(out: &mut W) -> Result<(), Refused>
+    ensures { Pushes W.held W.has_failed Grows out.old out.new result }
+{
+    write_all(&["</pre>\n<script>\n", SCRIPT], out)?;
+    out.push(b"</script>\n</body>\n</html>\n")
 }
 
-// Writes the page of a certificate that is right, with what a third reading tells of its trees. Where that reading
-// gives something else than a certificate of the problem, the page says that it stops there. Not inlined: what it needs
-// of the stack would lie below the check too.
+// Appends what stands below the games.
+fn write_proof<W: Sink>(problem: &Problem, log: &Log, out: &mut W) -> Result<(), Refused>
+    ensures { Pushes W.held W.has_failed Grows out.old out.new result }
+{
+    write_viewer(out)?;
+    tell(&problem.diagram, log, out)?;
+    write_end(out)
+}
+
+// Writes the page of a problem and its answer, with what was met of the trees. Not inlined: what it needs of the stack
+// would lie below the check too.
 #[inline(never)]
-fn show<R: Source, W: Sink>(
-    problem: &Problem,
-    form: Form,
-    found: &Gathered,
-    told: &mut R,
-    out: &mut W,
-    max_records: u64,
-) -> Result<(), Stop>
-    ensures runs { OnOk result (W.has_failed out.new ≡ false) }
-    ensures err { IfErr result (TellsTruly (R.has_failed told.new) (W.has_failed out.new)) }
+fn show<W: Sink>(problem: &Problem, answer: &Answer, log: &Log, out: &mut W) -> Result<(), Refused>
+    ensures { Pushes W.held W.has_failed
+        (AddsHead problem.now.diagram problem.now.length answer.now) out.old out.new result }
 {
-    let what = Told {
-        diagram: &problem.diagram,
-        plies: problem.length.plies(),
-        floor: floor_for(&found.expanded, form.nodes),
-        shorter_floor: floor_for(&found.shorter, form.nodes),
-    };
-    match write_head(problem, found, out) {
-        Ok(()) => {}
-        Err(Refused) => return Err(Stop::Write),
+    write_head(problem, answer, out)?;
+    write_proof(problem, log, out)
+}
+
+// Writes the page of a problem and its answer, with what was met of the trees, where there was room for that.
+fn write_page<W: Sink>(
+    problem: &Problem,
+    answer: &Answer,
+    log: &mut Log,
+    out: &mut W,
+) -> Result<(), PageFault>
+    ensures head { OnOk result (AddsHead problem.now.diagram problem.now.length answer.now
+        (W.held out.old) (W.held out.new)) }
+    ensures runs { OnOk result (W.has_failed out.new ≡ false) }
+    ensures err { IfErr result (IsShowingFault (W.has_failed out.new)) }
+{
+    log.end_tree();
+    if log.is_lost {
+        return Err(PageFault::Memory);
     }
-    let answer = match tell(&what, told, out, max_records) {
-        Ok(()) => write_end("", form.has_journeys, out),
-        Err(Stop::Refused) => write_end("?\n", form.has_journeys, out),
-        Err(Stop::Read) => return Err(Stop::Read),
-        Err(Stop::Write) => return Err(Stop::Write),
-    };
-    match answer {
+    match show(problem, answer, log, out) {
         Ok(()) => Ok(()),
-        Err(Refused) => Err(Stop::Write),
+        Err(Refused) => Err(PageFault::Write),
     }
 }
 
-/// Checks a certificate with the games that it has itself, and writes a page that shows it: one file of HTML, which
-/// needs nothing else. docs/FORMATS.md says what stands there; no clause speaks of it. Ok means that the check said
-/// yes, and nothing is written before it has.
+/// Checks a certificate of a problem, and writes a page that shows it: one file of HTML, which needs nothing else, with
+/// at most so many expanded nodes of the tree of the stated length, and of the shorter ones together. docs/FORMATS.md
+/// says what stands there. Ok means that some list of games is the exact answer to the problem, that the certificate
+/// proves it, and that the page begins with the head of just that answer: the diagram, the verdict, what was checked,
+/// and each game. No clause speaks of what follows. Nothing is written before the check has said yes.
 ///
-/// The certificate is read three times, each time from its start: by `walked` for the games of the stated length that
-/// end on the diagram, by `checked` for the check, as `check` does with these games, and by `told` for the page. Each
-/// reading takes `max_records` records at most, and the check `max_named` named nodes. The games and the named nodes
-/// are taken from `alloc`; nothing else takes memory.
+/// The certificate is read once, as `answer` reads it. The games, the named nodes and the lines of the trees take their
+/// room from `alloc`; nothing else takes memory.
 ///
 /// # Errors
-/// In this order: `Run` with `Diagram` and `Length` where that text is refused; `Run` with `Check` where a reading
-/// fails, where memory is refused for a game that was found, and where the check does not say yes (never `Listed`,
-/// since each game that was found is a solution), but `TooMany` where 4,096 games were found and the check met one
-/// more; `Run` with `Write` where the sink has failed. Never `Moves`, and `Run` never with `Games`.
+/// In this order: `Answer` where the certificate gives no answer, with its cause; and where it does, `Memory` where
+/// there was no room for the lines, and `Write` where the sink has failed.
 pub fn page<R: Source, W: Sink>(
     alloc: Global,
-    asked: &Asked<'_>,
+    problem: &Problem,
+    nodes: u64,
     bounds: &[Box<dyn Bound>],
-    walked: &mut R,
-    checked: &mut R,
-    told: &mut R,
+    source: &mut R,
     out: &mut W,
     max_records: u64,
     max_named: u32,
-) -> Result<(), WhyFault>
-    ensures right { OnOk result (IsShown asked.now
-        (terms (rules_by code_of excluded bounds.now) max_records max_named (R.left checked.old))) }
-    ensures silent { (W.held out.new ≡ W.held out.old) ⊎ IsShown asked.now
-        (terms (rules_by code_of excluded bounds.now) max_records max_named (R.left checked.old)) }
+) -> Result<(), PageFault>
+    ensures right { OnOk result (HasAnswer
+        (terms (rules_by code_of excluded bounds.now) max_records max_named (R.left source.old))
+        problem.now.diagram problem.now.length) }
+    ensures head { OnOk result (IsShown
+        (terms (rules_by code_of excluded bounds.now) max_records max_named (R.left source.old))
+        problem.now.diagram problem.now.length (W.held out.old) (W.held out.new)) }
+    ensures silent { (W.held out.new ≡ W.held out.old) ⊎ HasAnswer
+        (terms (rules_by code_of excluded bounds.now) max_records max_named (R.left source.old))
+        problem.now.diagram problem.now.length }
     ensures runs { OnOk result (W.has_failed out.new ≡ false) }
-    ensures err { IfErr result (IsPageFault asked.now
-        (terms (rules_by code_of excluded bounds.now) max_records max_named (R.left checked.old))
-        (reading_failures (R.has_failed walked.new) (R.has_failed told.new) (R.has_failed checked.new)
-        (W.has_failed out.new))) }
+    ensures err { IfErr result (IsPageFault
+        (terms (rules_by code_of excluded bounds.now) max_records max_named (R.left source.old))
+        (terms (any_rules_by code_of excluded bounds.now) max_records max_named (R.left source.old))
+        problem.now.diagram problem.now.length
+        (failures (R.has_failed source.new) (W.has_failed out.new))) }
 {
-    let problem = match Problem::read(asked.diagram, asked.length) {
-        Ok(problem) => problem,
-        Err(fault) => return Err(WhyFault::Run(fault)),
-    };
-    let found = match gather(
+    let mut log = Log::new(alloc, problem, nodes);
+    match answer_watched(
         alloc,
-        &problem,
+        &problem.diagram,
+        problem.length,
         bounds,
-        walked,
-        checked,
+        source,
+        &mut log,
         max_records,
         max_named,
     ) {
-        Ok(found) => found,
-        Err(fault) => return Err(fault),
-    };
-    let form = Form {
-        nodes: asked.nodes,
-        has_journeys: has_journeys(bounds),
-    };
-    match show(&problem, form, &found, told, out, max_records) {
-        Ok(()) => Ok(()),
-        Err(stop) => Err(fault_of(stop)),
+        Ok(answer) => {
+            match write_page(problem, &answer, &mut log, out) {
+                Ok(()) => Ok(()),
+                Err(fault) => Err(fault),
+            }
+        }
+        Err(fault) => Err(PageFault::Answer(fault)),
     }
 }

@@ -22,24 +22,16 @@ has said yes. The explanations on this page are not proved; they are the words o
 certificate. Who wants to be sure runs <code>pg check</code>.</p>
 ";
 
-// How the script names the bounds of cuts, and how where journeys are one of them. A page without them has the same
-// script as ever.
-pub(crate) const NAMES: &str = "4: 'travel' };
-  var KINDS = ['captures', 'promotions', 'pawn files', 'travel', ";
-
-pub(crate) const NAMES_WITH_JOURNEYS: &str = "4: 'travel', 5: 'journeys' };
-  var KINDS = ['captures', 'promotions', 'pawn files', 'travel', 'journeys', ";
-
 // The script. It folds the lines of the trees (docs/FORMATS.md) into nodes, and shows the one at which the reader
-// stands.
+// stands. What is said of a node it has from these lines and from the element `phrases`.
 pub(crate) const SCRIPT: &str = "'use strict';
 (function () {
   var LETTERS = 'ABCDEFGHIJKLMNOPQRSTUVWXYZabcdefghijklmnopqrstuvwxyz0123456789-_';
-  var BOUNDS = { 1: 'captures', 2: 'promotions', 3: 'pawn files', 4: 'travel' };
-  var KINDS = ['captures', 'promotions', 'pawn files', 'travel', 'other bounds', 'reference'];
+  var BOUNDS = ['', 'captures', 'promotions', 'pawn files', 'travel', 'journeys'];
+  var words = element('phrases').dataset;
   var problem = document.body.dataset, plies = +problem.plies;
   var lines = element('trees').textContent.split('\\n');
-  var nodes = {}, named = {}, roots = {}, counts = {}, isBroken = false;
+  var nodes = {}, named = {}, roots = {}, counts = {};
   var games = [], chosen = 0, path = [];
 
   function element(id) { return document.getElementById(id); }
@@ -59,8 +51,7 @@ pub(crate) const SCRIPT: &str = "'use strict';
       first = lines[i].charAt(0);
       last = lines[i].slice(-1);
       if (first === '/') { tree = +lines[i].slice(1); roots[tree] = i + 1; open = []; }
-      else if (first === ';') { counts[tree] = +lines[i].slice(1); }
-      else if (first === '?') { isBroken = true; }
+      else if (first === ';') { counts[tree] = lines[i].slice(1); }
       else if (first === ')' || first === '=') { close(open, i); }
       else if (last === '(' || last === '.') {
         node = { line: i, end: lines.length, up: open[open.length - 1], isTold: last === '(', games: 0 };
@@ -71,11 +62,11 @@ pub(crate) const SCRIPT: &str = "'use strict';
   }
 
   function close(open, i) {
-    var parts = /^.([0-9]*)(?:[*]([0-9]+))?(?::([0-9]+)(.*))?$/.exec(lines[i]), node = open.pop();
+    var parts = /^.([0-9]*)(?:[*]([0-9]+))?(?::([0-9]+))?(?: (.*))?$/.exec(lines[i]), node = open.pop();
     node.end = i;
     node.games += +(parts[2] || 0);
     node.code = +(parts[3] || 0);
-    node.reason = parts[4] || '';
+    node.words = parts[4] || words.untold;
     if (parts[1]) named[parts[1]] = node;
     if (open.length) open[open.length - 1].games += node.games;
   }
@@ -120,14 +111,7 @@ pub(crate) const SCRIPT: &str = "'use strict';
 
   function sansOf(moves) { return moves.map(function (move) { return move.san; }); }
 
-  function after(sans) { return sans.length ? 'after ' + movetext(sans, ' ') : 'at the start'; }
-
-  function many(count, one, more) { return count === 0 ? 'no ' + one : count === 1 ? '1 ' + one : count + ' ' + more; }
-
-  function share(count, all, one, more) {
-    return (count === 0 ? 'none' : count) + ' of ' + all + (all === 1 ? ' move ' : ' moves ') + (count > 1 ? more : \
-        one);
-  }
+  function after(sans) { return sans.length ? words.after + movetext(sans, ' ') : words.start; }
 
   // How a child counts at a node with so many plies left.
   function kindOf(entry, left) {
@@ -148,42 +132,18 @@ pub(crate) const SCRIPT: &str = "'use strict';
     return kinds;
   }
 
-  function expandedWords(node, left) {
-    var kids = children(node), kinds = kindsOf(kids, left), lead = (kinds.lead || []).length, cuts, text;
-    if (!kids.length) return 'no move is legal';
-    if (left === 1) {
-      text = share(lead, kids.length, 'ends on the diagram', 'end on the diagram');
-      return lead || !node.reason ? text : text + ': ' + node.reason;
-    }
-    cuts = KINDS.filter(function (kind) { return kinds[kind]; })
-      .map(function (kind) { return kinds[kind].length + ' by ' + kind; }).join(', ');
-    return share(lead, kids.length, 'leads on', 'lead on') + (cuts ? '; cut ' + cuts : '') +
-      (kinds['played out'] ? '; ' + kinds['played out'].length + ' played out' : '') +
-      '; ' + many(node.games, 'game', 'games') + ' below';
-  }
-
-  function cutWords(rest) {
-    var parts = /^([0-9]+)(.*)$/.exec(rest);
-    return parts[2] ? 'excluded: ' + parts[2] : 'cut by bound ' + parts[1] + ', which is not seen to exclude';
-  }
-
   // The moves to the node that a reference names.
   function lineOf(node) {
     return node.up ? lineOf(node.up).concat(entryAt(node.line, false).move.san) : [];
   }
 
-  function citedWords(number) {
-    var node = named[number];
-    return 'as ' + (node ? after(lineOf(node)) : 'after moves that this page does not have') +
-      ', below which no game ends on the diagram';
-  }
-
-  function wordsOf(entry, left) {
-    if (entry.mark === '(') return expandedWords(entry.node, left);
-    if (entry.mark === '.') return 'expanded, with ' + many(entry.node.games, 'game', 'games') + ' below';
-    if (entry.mark === ':') return cutWords(entry.rest);
-    if (entry.mark === '@') return citedWords(entry.rest);
-    return entry.mark === '*' ? 'a solution' : 'does not end on the diagram';
+  function wordsOf(entry) {
+    var cut = /^([0-9]*)(.*)$/.exec(entry.rest), cited = named[entry.rest];
+    if (entry.node) return entry.node.words;
+    if (entry.mark === ':') return cut[2] ? words.excluded + cut[2] : words.cut + cut[1] + words.unseen;
+    if (entry.mark === '*') return words.solution;
+    if (entry.mark === ',') return words.elsewhere;
+    return words.as + (cited ? after(lineOf(cited)) : words.after + 'moves that this page does not have') + words.barren;
   }
 
   // ---- The board.
@@ -288,8 +248,7 @@ pub(crate) const SCRIPT: &str = "'use strict';
   // ---- What is shown.
 
   function question() {
-    return 'pg why ' + problem.diagram + ' ' + problem.length + \" CERT '\" + (path.length ? \
-        movetext(sansOf(path), ' ') : '-') + \"'\";
+    return \"pg why CERT '\" + (path.length ? movetext(sansOf(path), ' ') : '-') + \"'\";
   }
 
   function showLine() {
@@ -309,7 +268,7 @@ pub(crate) const SCRIPT: &str = "'use strict';
       var row = make('li', '', rows), button = make('button', kid.move.san, row);
       button.className = 'move';
       button.onclick = function () { go(path.concat(kid.move)); };
-      make('span', wordsOf(kid, left - 1), row);
+      make('span', wordsOf(kid), row);
     });
   }
 
@@ -331,22 +290,21 @@ pub(crate) const SCRIPT: &str = "'use strict';
     if (!entry || !entry.node || !entry.node.isTold) return;
     kinds = kindsOf(children(entry.node), left);
     if (kinds.lead) showRows(kinds.lead, left, moves);
-    KINDS.slice(0, 5).forEach(function (kind) {
+    BOUNDS.concat('other bounds').forEach(function (kind) {
       if (kinds[kind]) showFolded(kinds[kind].length + ' excluded by ' + kind, kinds[kind], left, moves);
     });
     if (kinds.reference) showFolded(kinds.reference.length + ' the same as after other moves', \
         kinds.reference, left, moves);
     if (kinds['played out']) showFolded(kinds['played out'].length + ' played out without a game', \
         kinds['played out'], left, moves);
-    if (kinds.off) showFolded(many(kinds.off.length, 'move', 'moves') + ' not on the diagram', kinds.off, left, moves);
+    if (kinds.off) showFolded(kinds.off.length + ' not on the diagram', kinds.off, left, moves);
   }
 
   function show(note) {
     var board = boardAfter(path), left = plies - path.length, entry = entryOf(path);
     element('board').innerHTML = drawing(board);
     element('viewer').dataset.placement = placementOf(board);
-    element('words').textContent = after(sansOf(path)) + ': ' + (entry ? wordsOf(entry, left) : \
-        'not told on this page') +
+    element('words').textContent = after(sansOf(path)) + ': ' + (entry ? wordsOf(entry) : 'not told on this page') +
       (note ? ' (' + note + ')' : '');
     element('first').disabled = element('back').disabled = !path.length;
     element('next').disabled = !nextMove();
@@ -360,9 +318,7 @@ pub(crate) const SCRIPT: &str = "'use strict';
     var tree, root, list = element('shorter'), said;
     for (tree = 0; tree < plies && roots[tree] !== undefined; tree++) {
       root = entryAt(roots[tree], true);
-      said = root.node ? many(counts[tree] || 0, 'expanded node', 'expanded nodes') + ', \
-          below which no game ends on the diagram' :
-        wordsOf(root, tree);
+      said = root.node ? counts[tree] + words.barren : wordsOf(root);
       make('li', Math.floor(tree / 2) + (tree % 2 ? '.5' : '.0') + ' moves: ' + said, list);
     }
     if (!tree) make('li', 'There are none to look at.', list);
@@ -381,11 +337,9 @@ pub(crate) const SCRIPT: &str = "'use strict';
 
   // How much of the tree is told.
   function showExtent() {
-    var told = Object.keys(nodes).filter(function (i) { return nodes[i].isTold; }).length, all = counts[plies] || 0;
-    var text = told < all ? 'Of the tree of ' + problem.length + ' moves this page has ' + told + ' of ' + \
-        many(all, 'expanded node', 'expanded nodes') +
-      '; where it stops, it says what to ask.' : '';
-    if (isBroken) text += ' The certificate changed while this page was written, so the page is not whole.';
+    var told = Object.keys(nodes).filter(function (i) { return nodes[i].isTold; }).length;
+    var text = told < parseInt(counts[plies], 10) ? 'Of the tree of ' + problem.length + ' moves this page has ' + told + \
+        ' of ' + counts[plies] + '; where it stops, it says what to ask.' : '';
     if (text) element('viewer').insertAdjacentElement('beforebegin', make('p', text, document.body));
   }
 

@@ -1,428 +1,304 @@
 //! The trees of a certificate as lines for the page's script, depth first, a line for each node that is told.
 //! docs/FORMATS.md has the lines.
-ghost use Rattle.std.specs.Prelude.{◌≡◌, Bool, true, IfErr, OnErr, ◌≤◌, length};
-ghost use Rattle.pg_guide.specs.Trees.{BreaksTruly};
-ghost use Rattle.pg_position.specs.Step.{IsLegal};
+ghost use Rattle.std.specs.Prelude.{◌≡◌, ◌++◌, codes};
+ghost use Rattle.pg_certificate.specs.Pushing.{Adds, MayPush, Pushes};
+ghost use Rattle.pg_page.specs.Escaping.{escaped};
+ghost use Rattle.pg_page.specs.Growing.{Grows};
 ghost use Rattle.pg_page.specs.Lines.{leaf_mark};
-ghost use Rattle.pg_page.specs.Telling.{StopsTruly};
 
-use crate::lines::{MoveText, move_text, write_escaped, write_number};
-use pg_certificate::{Bare, Refused, Sink, Source};
+use crate::floors::Tree;
+use crate::lines::{MoveText, move_text, write_escaped};
+use crate::log::{Item, Log, Said, read_lists};
+use arrayvec::{ArrayString, ArrayVec};
+use pg_certificate::{Bare, Refused, Sink};
 use pg_fen::Diagram;
-use pg_guide::{BareChild, Broken, Closed, Leaf, TreeWalk};
-use pg_position::Position;
+use pg_moves::LegalMoves;
+use pg_position::{Move, Position};
 use pg_price_lists::Prices;
-use pg_sentences::{GrowingDistances, Node, Sentence};
+use pg_sentences::{
+    GrowingDistances, Node, Sentence, Tally, put_all, put_expanded, put_number, put_things, untold,
+};
 
-// Why the telling stops: at a source or a sink that fails, or at bytes that are no certificate of what is asked, within
-// the limit of records.
-#[derive(Clone, Copy, Debug, PartialEq, Eq)]
-pub(crate) enum Stop {
-    Read,
-    Write,
-    Refused,
-}
+// The lines that are written at once, up to the words at the end of the last: those of the leaves below a node, of
+// which a position has at most 218, and that with which it closes.
+type Text = ArrayString<3072>;
 
-// What is told: the tree of so many plies, down to the nodes with a number of plies left; of the shorter ones where
-// their expanded nodes stand, which a reference may name, down to a number of plies left of their own.
+// Such lines, and the words.
 #[derive(Drop)]
-pub(crate) struct Told<'a> {
-    pub(crate) diagram: &'a Diagram,
-    pub(crate) plies: u8,
-    pub(crate) floor: u8,
-    pub(crate) shorter_floor: u8,
+struct Lines {
+    text: Text,
+    words: Sentence,
 }
 
-// Why the telling stops where the walk breaks off.
-fn stop_of(broken: Broken) -> Stop
-    ensures { (read write : Bool) → BreaksTruly read broken → StopsTruly read write result }
-{
-    match broken {
-        Broken::Read => Stop::Read,
-        Broken::Refused => Stop::Refused,
-    }
+// What is told: the trees of a diagram, so deep; the tree at work, the positions of its open nodes, the price lists of
+// the last record, and what is known of the diagram's distances.
+#[derive(Drop)]
+struct Told<'a> {
+    diagram: &'a Diagram,
+    tree: Tree,
+    open: ArrayVec<Opened, 129>,
+    prices: Prices,
+    distances: GrowingDistances,
 }
 
-// The least number of plies left down to which a tree has at most so many expanded nodes, of which there are so many
-// with each number of plies left.
-pub(crate) fn floor_for(expanded: &[u64; 129], nodes: u64) -> u8 {
-    let mut sum = 0u64;
-    for above in 0..128u8 {
-        let left = 128 - above;
-        let more = match expanded.get(usize::from(left)) {
-            Some(count) => *count,
-            None => 0,
-        };
-        sum = sum.saturating_add(more);
-        if sum > nodes {
-            return left.saturating_add(1);
+// The position of an open node, and what its children are, so far as they were told.
+#[derive(Clone, Copy)]
+struct Opened {
+    position: Position,
+    tally: Tally,
+}
+
+impl Default for Opened {
+    fn default() -> Opened {
+        Opened {
+            position: Position::array(),
+            tally: Tally::default(),
         }
     }
-    1
 }
 
-// How many nodes of a tree are expanded, of which there are so many with each number of plies left.
-fn sum_of(expanded: &[u64; 129]) -> u64 {
-    let mut sum = 0u64;
-    for count in expanded {
-        sum = sum.saturating_add(*count);
+// A node that is told: the text of the move that leads there, and its position.
+#[derive(Clone, Copy)]
+struct Reached {
+    text: MoveText,
+    position: Position,
+}
+
+// Appends a mark and a number.
+fn put_marked(text: &mut Text, mark: &str, number: u64) {
+    put_all(text, &[mark]);
+    put_number(text, number);
+}
+
+// Appends the code of the bound that excludes a node, 0 where none does.
+fn put_code(text: &mut Text, code: Option<u8>) {
+    put_marked(text, ":", u64::from(code.unwrap_or(0)));
+}
+
+// The node that a move leads to from a position; none where it is not legal.
+fn reached_from(position: &Position, m: &Move) -> Option<Reached> {
+    match position.play(*m) {
+        Ok(next) => Some(Reached {
+            text: move_text(position, m),
+            position: next,
+        }),
+        Err(_) => None,
     }
-    sum
 }
 
-// Whether a node with so many plies left has its moves told, where it is of the tree of the stated length.
-fn is_told(told: &Told, tree: u8, left: u8) -> bool {
-    tree == told.plies && left >= told.floor
-}
-
-// Whether a node with so many plies left may have a line: a root, and what a node above the floor leads to, but of the
-// shorter trees none below their own floor.
-fn may_have_line(told: &Told, tree: u8, left: u8) -> bool {
-    let is_above = tree == told.plies || left >= told.shorter_floor;
-    left == tree || is_above && left.saturating_add(1) >= told.floor
-}
-
-// Whether an expanded node has a line: of the shorter trees none that no reference is likely to name.
-fn has_line(told: &Told, tree: u8, left: u8, named: bool) -> bool {
-    may_have_line(told, tree, left) && (tree == told.plies || left == tree || left >= 2 || named)
-}
-
-// Whether a node that is not expanded has a line: it is a root, or of the tree of the stated length.
-fn has_end(told: &Told, tree: u8, left: u8) -> bool {
-    left == tree || tree == told.plies && may_have_line(told, tree, left)
-}
-
-// Appends a reason: a colon, the code of the bound, and the words; nothing where there is no code.
-fn write_reason<W: Sink>(code: Option<u8>, words: &Sentence, out: &mut W) -> Result<(), Refused>
-    ensures fault { OnErr result (W.has_failed out.new ≡ true) }
-{
-    let Some(code) = code else {
-        return out.push(b":0");
+// The node of a line: no move leads to a root, and an empty text stands in its place.
+fn node_of(told: &Told, m: &Option<Move>) -> Option<Reached> {
+    let Some(m) = m else {
+        return Some(Reached {
+            text: MoveText::new(),
+            position: Position::array(),
+        });
     };
-    write_number(":", u64::from(code), out)?;
-    write_escaped(words.as_str(), out)
-}
-
-// Appends why a node is cut by its record.
-fn write_cut<W: Sink>(
-    distances: &mut GrowingDistances,
-    node: &Node,
-    said: &Bare,
-    prices: &Prices,
-    out: &mut W,
-) -> Result<(), Refused>
-    ensures fault { OnErr result (W.has_failed out.new ≡ true) }
-{
-    let mut words = Sentence::new();
-    let code = distances.put_reason_of_cut(node, said, prices, &mut words);
-    write_reason(code, &words, out)?;
-    out.push(b"\n")
-}
-
-// Appends the line of an expanded node: that it is told, or that it is not.
-fn write_opened<W: Sink>(text: &MoveText, is_told: bool, out: &mut W) -> Result<(), Refused>
-    ensures fault { OnErr result (W.has_failed out.new ≡ true) }
-{
-    out.push(text.as_str().as_bytes())?;
-    out.push(if is_told { b"(\n" } else { b".\n" })
-}
-
-// Appends that a node is like the one with this number.
-fn write_reference<W: Sink>(number: u32, out: &mut W) -> Result<(), Refused>
-    ensures fault { OnErr result (W.has_failed out.new ≡ true) }
-{
-    write_number("@", u64::from(number), out)?;
-    out.push(b"\n")
-}
-
-// Whether a node with this record has a line.
-fn is_shown(told: &Told, tree: u8, left: u8, said: &Bare) -> bool {
-    match said {
-        Bare::Expand { named } => has_line(told, tree, left, *named),
-        _ => has_end(told, tree, left),
+    match told.open.last() {
+        Some(top) => reached_from(&top.position, m),
+        None => None,
     }
 }
 
-// Appends the line of a child, if it has one. Where its move leads is asked only for a cut.
-fn write_child<W: Sink>(
-    told: &Told,
-    distances: &mut GrowingDistances,
-    tree: u8,
-    child: &BareChild,
-    prices: &Prices,
-    out: &mut W,
-) -> Result<(), Refused>
-    requires { IsLegal child.now.before child.now.m }
-    ensures fault { OnErr result (W.has_failed out.new ≡ true) }
-{
-    if !is_shown(told, tree, child.left, &child.said) {
-        return Ok(());
-    }
-    let text = move_text(&child.before, &child.m);
-    match &child.said {
-        Bare::Expand { .. } => write_opened(&text, is_told(told, tree, child.left), out),
-        Bare::Ref(number) => {
-            out.push(text.as_str().as_bytes())?;
-            write_reference(*number, out)
-        }
-        said => {
-            out.push(text.as_str().as_bytes())?;
-            let position = child.before.after(&child.m);
-            let node = Node {
-                diagram: told.diagram,
-                position: &position,
-                left: child.left,
-            };
-            write_cut(distances, &node, said, prices, out)
-        }
-    }
+// Tells of a node that is expanded, and whether its moves are told, and opens it.
+fn put_opened(told: &mut Told, left: u8, node: &Reached, text: &mut Text) {
+    let _ = told.open.try_push(Opened {
+        position: node.position,
+        tally: Tally::default(),
+    });
+    let mark = if told.tree.is_told(left) { "(" } else { "." };
+    put_all(text, &[node.text.as_str(), mark]);
 }
 
-// Appends how a node closes: its number if it is named, its games if its moves are not told, and with one ply left and
-// no game the first bound that excludes.
-fn write_close<W: Sink>(
-    told: &Told,
-    distances: &mut GrowingDistances,
-    tree: u8,
-    closed: &Closed,
-    out: &mut W,
-) -> Result<(), Refused>
-    ensures fault { OnErr result (W.has_failed out.new ≡ true) }
-{
-    let is_told = is_told(told, tree, closed.left);
-    out.push(if is_told { b")" } else { b"=" })?;
-    if let Some(number) = closed.number {
-        write_number("", u64::from(number), out)?;
+// Tells of a node with nothing below it, and why it is cut. Its price lists, where it has any, are those that were read
+// last.
+fn put_ended(told: &mut Told, left: u8, reached: &Reached, said: &Bare, lines: &mut Lines) {
+    put_all(&mut lines.text, &[reached.text.as_str()]);
+    if let Bare::Ref(number) = said {
+        return put_marked(&mut lines.text, "@", u64::from(*number));
     }
-    if !is_told && closed.games > 0 {
-        write_number("*", closed.games, out)?;
+    let node = Node {
+        diagram: told.diagram,
+        position: &reached.position,
+        left,
+    };
+    let words = &mut lines.words;
+    let code = told
+        .distances
+        .put_reason_of_cut(&node, said, &told.prices, words);
+    put_code(&mut lines.text, code);
+}
+
+// A node with this record is a child of the topmost open one, which counts it.
+fn count_child(told: &mut Told, said: &Bare) {
+    if let Some(parent) = told.open.last_mut() {
+        parent.tally.count(said);
     }
-    if closed.left == 1 && closed.games == 0 && tree == told.plies {
-        let node = Node {
-            diagram: told.diagram,
-            position: &closed.position,
-            left: 1,
-        };
-        let mut words = Sentence::new();
-        let code = distances.put_reason_of_bounds(&node, &mut words);
-        write_reason(code, &words, out)?;
-    }
-    out.push(b"\n")
 }
 
 // What stands behind the move of a leaf: whether it leads to the diagram.
 fn leaf_mark(hit: bool) -> &'static str
     ensures { result.now ≡ leaf_mark hit }
 {
-    if hit { "*\n" } else { ",\n" }
+    if hit { "*" } else { "," }
 }
 
-// Appends the line of a leaf.
-fn write_leaf<W: Sink>(leaf: &Leaf, out: &mut W) -> Result<(), Refused>
-    requires { IsLegal leaf.now.before leaf.now.m }
-    ensures fault { OnErr result (W.has_failed out.new ≡ true) }
-{
-    let text = move_text(&leaf.before, &leaf.m);
-    out.push(text.as_str().as_bytes())?;
-    out.push(leaf_mark(leaf.hit).as_bytes())
-}
-
-// The moves of the topmost node are played if one ply is left there, and told where that is due.
-fn write_leaves<W: Sink>(told: &Told, walk: &mut TreeWalk, out: &mut W) -> Result<(), Refused>
-    ensures fault { OnErr result (W.has_failed out.new ≡ true) }
-{
-    let is_told = is_told(told, walk.tree, 1);
+// Tells of the leaves below a node, and counts them.
+fn put_leaves(diagram: &Diagram, node: &mut Opened, text: &mut Text) {
+    let mut moves = LegalMoves::new(&node.position);
     for _ in 0..u16::MAX {
-        let Some(leaf) = walk.next_leaf(told.diagram, is_told) else {
-            return Ok(());
+        let Some(m) = moves.next() else {
+            return;
         };
-        if is_told {
-            write_leaf(&leaf, out)?;
+        if let Some(leaf) = reached_from(&node.position, &m) {
+            let hit = diagram.matches(&leaf.position);
+            node.tally.count_leaf(hit);
+            put_all(text, &[leaf.text.as_str(), leaf_mark(hit), "\n"]);
         }
     }
-    Ok(())
 }
 
-// The topmost node is left, with its leaves; whether there was one.
-fn leave<W: Sink>(
-    told: &Told,
-    distances: &mut GrowingDistances,
-    walk: &mut TreeWalk,
-    out: &mut W,
-) -> Result<bool, Refused>
-    ensures fault { OnErr result (W.has_failed out.new ≡ true) }
-{
-    write_leaves(told, walk, out)?;
-    let Some(closed) = walk.close() else {
-        return Ok(false);
+// Tells of the first of the four bounds that excludes a position with one ply left and no game, where one does, and
+// counts such a child of the topmost node. Why it does, in words.
+fn put_bound(told: &mut Told, position: &Position, text: &mut Text) -> Option<Sentence> {
+    let node = Node {
+        diagram: told.diagram,
+        position,
+        left: 1,
     };
-    if has_line(told, walk.tree, closed.left, closed.number.is_some()) {
-        write_close(told, distances, walk.tree, &closed, out)?;
+    let mut reason = Sentence::new();
+    let code = told.distances.put_reason_of_bounds(&node, &mut reason);
+    put_code(text, code);
+    if let Some(parent) = told.open.last_mut() {
+        parent.tally.recount(code);
     }
-    Ok(true)
+    match code {
+        Some(_) => Some(reason),
+        None => None,
+    }
 }
 
-// A turn of the walk: a child gets its line, or the topmost node is left; whether the tree goes on.
-fn turn<S: Source, W: Sink>(
-    told: &Told,
-    distances: &mut GrowingDistances,
-    walk: &mut TreeWalk,
-    prices: &mut Prices,
-    source: &mut S,
-    out: &mut W,
-) -> Result<bool, Stop>
-    ensures says { IfErr result (StopsTruly (S.has_failed source.new) (W.has_failed out.new)) }
+// Tells what is said of a node that closes: of its moves where they are told, and else of its games, if it has any.
+fn put_words(is_told: bool, left: u8, tally: &Tally, reason: &Option<Sentence>, lines: &mut Lines) {
+    if is_told {
+        put_all(&mut lines.text, &[" "]);
+        put_expanded(left, tally, reason, &mut lines.words);
+    } else if tally.games > 0 {
+        put_all(&mut lines.text, &[" ", untold(tally.games).as_str()]);
+    }
+}
+
+// Tells how a node closes: its number if it is named, its games if its moves are not told, with one ply left and no
+// game the first bound that excludes, and what is said of it.
+fn put_close(told: &mut Told, left: u8, node: &Opened, number: Option<u32>, lines: &mut Lines) {
+    let is_told = told.tree.is_told(left);
+    put_all(&mut lines.text, &[if is_told { ")" } else { "=" }]);
+    if let Some(number) = number {
+        put_number(&mut lines.text, u64::from(number));
+    }
+    if !is_told && node.tally.games > 0 {
+        put_marked(&mut lines.text, "*", node.tally.games);
+    }
+    let reason = if left == 1 && node.tally.games == 0 && told.tree.is_last() {
+        put_bound(told, &node.position, &mut lines.text)
+    } else {
+        None
+    };
+    put_words(is_told, left, &node.tally, &reason, lines);
+}
+
+// Tells of the leaves of the topmost node, where they are told, and how it closes, with so many games below.
+fn put_closed(told: &mut Told, left: u8, number: Option<u32>, games: u64, lines: &mut Lines) {
+    let Some(node) = told.open.pop() else {
+        return;
+    };
+    let mut node = node;
+    node.tally.games = games;
+    if left == 1 && told.tree.is_told(left) {
+        put_leaves(told.diagram, &mut node, &mut lines.text);
+    }
+    put_close(told, left, &node, number, lines);
+}
+
+// Tells that a tree begins; behind the line of the tree without a ply stands its root, which is a leaf.
+fn put_began(told: &mut Told, plies: u8, text: &mut Text) {
+    told.tree.plies = plies;
+    put_marked(text, "/", u64::from(plies));
+    if plies == 0 {
+        put_all(
+            text,
+            &["\n", leaf_mark(told.diagram.matches(&Position::array()))],
+        );
+    }
+}
+
+// Tells that a tree ends, with so many expanded nodes.
+fn put_over(expanded: u64, text: &mut Text) {
+    put_all(text, &[";"]);
+    put_things(text, expanded, "expanded node", "expanded nodes");
+}
+
+// Tells of a node that is reached, and counts it as a child of the topmost one.
+fn put_node(told: &mut Told, lists: &[u8], item: &Item, lines: &mut Lines) {
+    let Some(node) = node_of(told, &item.m) else {
+        return;
+    };
+    let Said::Ended { said, at } = &item.said else {
+        count_child(told, &Bare::Expand { named: false });
+        return put_opened(told, item.left, &node, &mut lines.text);
+    };
+    count_child(told, said);
+    if let Bare::Priced { .. } = said {
+        read_lists(lists, *at, &mut told.prices);
+    }
+    put_ended(told, item.left, &node, said, lines);
+}
+
+// Tells what a line says.
+fn put_item(told: &mut Told, lists: &[u8], item: &Item, lines: &mut Lines) {
+    match &item.said {
+        Said::Began => put_began(told, item.left, &mut lines.text),
+        Said::Over(expanded) => put_over(*expanded, &mut lines.text),
+        Said::Closed { number, games } => put_closed(told, item.left, *number, *games, lines),
+        _ => put_node(told, lists, item, lines),
+    }
+}
+
+// Appends lines, with the words at the end of the last.
+fn write_lines<W: Sink>(lines: &Lines, out: &mut W) -> Result<(), Refused>
+    ensures { Pushes W.held W.has_failed
+        (Adds (lines.now.text.bytes ++ (escaped lines.now.words.bytes ++ codes "\n"))) out.old out.new result }
 {
-    match walk.bare_child(prices, source) {
-        Ok(Some(child)) => match write_child(told, distances, walk.tree, &child, prices, out) {
-            Ok(()) => Ok(true),
-            Err(Refused) => Err(Stop::Write),
+    out.push(lines.text.as_str().as_bytes())?;
+    write_escaped(lines.words.as_str(), out)?;
+    out.push(b"\n")
+}
+
+// Appends the trees that were met, the shorter ones first, each between a line with its plies and one with the number
+// of its expanded nodes. Takes no memory.
+pub(crate) fn tell<W: Sink>(diagram: &Diagram, log: &Log, out: &mut W) -> Result<(), Refused>
+    ensures { MayPush W.held W.has_failed Grows out.old out.new result }
+{
+    let mut told = Told {
+        diagram,
+        tree: Tree {
+            depths: log.depths(),
+            plies: 0,
         },
-        Ok(None) => match leave(told, distances, walk, out) {
-            Ok(goes_on) => Ok(goes_on),
-            Err(Refused) => Err(Stop::Write),
-        },
-        Err(broken) => Err(stop_of(broken)),
-    }
-}
-
-// The root of the tree without a ply, which is a leaf.
-fn write_root_leaf<W: Sink>(told: &Told, out: &mut W) -> Result<(), Stop>
-    ensures says { (read : Bool) → IfErr result (StopsTruly read (W.has_failed out.new)) }
-{
-    let is_hit = told.diagram.matches(&Position::array());
-    match out.push(if is_hit { b"*\n" } else { b",\n" }) {
-        Ok(()) => Ok(()),
-        Err(Refused) => Err(Stop::Write),
-    }
-}
-
-// Appends the line of the root of a tree, which has one.
-fn write_root_line<W: Sink>(
-    told: &Told,
-    distances: &mut GrowingDistances,
-    tree: u8,
-    said: &Bare,
-    prices: &Prices,
-    out: &mut W,
-) -> Result<(), Refused>
-    ensures fault { OnErr result (W.has_failed out.new ≡ true) }
-{
-    // No move leads here: an empty text goes out in its place.
-    let text = MoveText::new();
-    match said {
-        Bare::Expand { .. } => write_opened(&text, is_told(told, tree, tree), out),
-        Bare::Ref(number) => {
-            out.push(text.as_str().as_bytes())?;
-            write_reference(*number, out)
-        }
-        said => {
-            out.push(text.as_str().as_bytes())?;
-            let position = Position::array();
-            let node = Node {
-                diagram: told.diagram,
-                position: &position,
-                left: tree,
-            };
-            write_cut(distances, &node, said, prices, out)
-        }
-    }
-}
-
-// The root of a tree gets its line.
-fn write_root<W: Sink>(
-    told: &Told,
-    distances: &mut GrowingDistances,
-    tree: u8,
-    said: &Bare,
-    prices: &Prices,
-    out: &mut W,
-) -> Result<(), Stop>
-    ensures says { (read : Bool) → IfErr result (StopsTruly read (W.has_failed out.new)) }
-{
-    match write_root_line(told, distances, tree, said, prices, out) {
-        Ok(()) => Ok(()),
-        Err(Refused) => Err(Stop::Write),
-    }
-}
-
-// The tree of so many plies.
-fn tree_of<S: Source, W: Sink>(
-    told: &Told,
-    distances: &mut GrowingDistances,
-    tree: u8,
-    walk: &mut TreeWalk,
-    source: &mut S,
-    out: &mut W,
-) -> Result<(), Stop>
-    ensures says { IfErr result (StopsTruly (S.has_failed source.new) (W.has_failed out.new)) }
-{
-    if tree == 0 {
-        return write_root_leaf(told, out);
-    }
-    // Room for the price lists of one record at a time: most records have none.
-    let mut prices = Prices::new(&[], &[]).unwrap();
-    let said = match walk.bare_root(tree, &mut prices, source) {
-        Ok(said) => said,
-        Err(broken) => return Err(stop_of(broken)),
+        open: ArrayVec::new(),
+        prices: Prices::new(&[], &[]).unwrap(),
+        distances: GrowingDistances::new(diagram),
     };
-    match write_root(told, distances, tree, &said, &prices, out) {
-        Ok(()) => {}
-        Err(stop) => return Err(stop),
-    }
-    for _ in 0..u64::MAX {
-        match turn(told, distances, walk, &mut prices, source, out) {
-            Ok(true) => {}
-            Ok(false) => return Ok(()),
-            Err(stop) => return Err(stop),
-        }
-    }
-    Err(Stop::Refused)
-}
-
-// Appends the line before a tree or behind it: a mark and a number.
-fn write_edge<W: Sink>(mark: &str, number: u64, out: &mut W) -> Result<(), Stop>
-    requires short { length mark.now ≤ 44 }
-    ensures says { (read : Bool) → IfErr result (StopsTruly read (W.has_failed out.new)) }
-{
-    match write_number(mark, number, out) {
-        Ok(()) => {}
-        Err(Refused) => return Err(Stop::Write),
-    }
-    match out.push(b"\n") {
-        Ok(()) => Ok(()),
-        Err(Refused) => Err(Stop::Write),
-    }
-}
-
-// Tells the trees of a certificate of at most so many records, the shorter ones first, each between a line with its
-// plies and one with the number of its expanded nodes. Takes no memory.
-pub(crate) fn tell<S: Source, W: Sink>(
-    told: &Told,
-    source: &mut S,
-    out: &mut W,
-    records: u64,
-) -> Result<(), Stop>
-    ensures says { IfErr result (StopsTruly (S.has_failed source.new) (W.has_failed out.new)) }
-{
-    let mut walk = match TreeWalk::start(told.diagram, told.plies, source, records) {
-        Ok(walk) => walk,
-        Err(broken) => return Err(stop_of(broken)),
+    let mut lines = Lines {
+        text: Text::new(),
+        words: Sentence::new(),
     };
-    let mut distances = GrowingDistances::new(told.diagram);
-    for tree in 0..=told.plies {
-        match write_edge("/", u64::from(tree), out) {
-            Ok(()) => {}
-            Err(stop) => return Err(stop),
-        }
-        match tree_of(told, &mut distances, tree, &mut walk, source, out) {
-            Ok(()) => {}
-            Err(stop) => return Err(stop),
-        }
-        match write_edge(";", sum_of(&walk.expanded), out) {
-            Ok(()) => {}
-            Err(stop) => return Err(stop),
-        }
+    let lists = log.lists.as_slice();
+    for item in log.items.as_slice() {
+        lines.text.clear();
+        lines.words.clear();
+        put_item(&mut told, lists, item, &mut lines);
+        write_lines(&lines, out)?;
     }
     Ok(())
 }

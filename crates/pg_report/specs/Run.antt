@@ -12,6 +12,7 @@ use Rattle.pg_checker.specs.Terms.{Terms}
 use Rattle.pg_checker.specs.declared.certify.Proved.{Proved}
 use Rattle.pg_checker.specs.ProblemText.{IsProblemFault}
 pub use Rattle.pg_texts.specs.Spelled.{AreSpelled}
+pub use Rattle.pg_checker.specs.Answering.{Failures, failures}
 use Rattle.pg_checker.specs.declared.fault.RunFault.{RunFault}
 use Rattle.pg_checker.specs.declared.fault.RunFault.TheVariants.{Diagram, Length, Games, Check, Write}
 
@@ -20,15 +21,6 @@ pub record Texts : Type 0 where
   pub diagram : List ℕ
   pub length : List ℕ
   pub games : List ℕ
-
--- which have failed: the source of the check, and the sink of the report
-pub record Failures : Type 0 where
-  pub source : Bool
-  pub sink : Bool
-
--- these, one after the other
-abbrev pub failures : Bool → Bool → Failures
-failures source sink = record { source = source; sink = sink }
 
 -- why a check of a list ends without its report: the check does not
 -- say yes, for a cause that it has; or it did, and the sink has failed

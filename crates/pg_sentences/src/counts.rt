@@ -1,6 +1,6 @@
 //! What is said of an expanded node.
 
-use crate::names::many;
+use crate::names::{put_all, put_things};
 use crate::numbers::Node;
 use crate::sentences::{Sentence, first_reason};
 use crate::tally::Tally;
@@ -49,38 +49,47 @@ fn write_games(tally: &Tally, text: &mut Sentence) {
         let played_out = tally.played_out;
         let _ = write!(text, "; {played_out} played out");
     }
-    let games = many(tally.games, "game", "games");
-    let games = games.as_str();
-    let _ = write!(text, "; {games} below");
+    put_all(text, &["; "]);
+    put_things(text, tally.games, "game", "games");
+    put_all(text, &[" below"]);
 }
 
-// What is said of an expanded node with one ply left: how many moves end on the diagram, and where none does the
-// bound that excludes there, if one does.
-fn last_ply(node: &Node, tally: &Tally) -> Sentence {
-    let mut text = Sentence::new();
-    let (one, more) = ("ends on the diagram", "end on the diagram");
-    write_share(tally.lead, tally.moves, one, more, &mut text);
-    if tally.lead == 0 {
-        if let Some(reason) = first_reason(node) {
-            let reason = reason.as_str();
-            let _ = write!(text, ": {reason}");
-        }
+/// Writes what is said of an expanded node with so many plies left into a sentence that is empty: of its moves, and of
+/// the games below; with one ply left, where no move ends on the diagram, the reason is written where one is given.
+pub fn put_expanded(left: u8, tally: &Tally, reason: &Option<Sentence>, text: &mut Sentence) {
+    if tally.moves == 0 {
+        return put_all(text, &["no move is legal"]);
     }
+    if left > 1 {
+        write_share(tally.lead, tally.moves, "leads on", "lead on", text);
+        write_cuts(tally, text);
+        return write_games(tally, text);
+    }
+    let (one, more) = ("ends on the diagram", "end on the diagram");
+    write_share(tally.lead, tally.moves, one, more, text);
+    if let Some(reason) = reason {
+        put_all(text, &[": ", reason.as_str()]);
+    }
+}
+
+/// What is said of an expanded node: of its moves, and of the games below; with one ply left, where no move ends on the
+/// diagram, why the first bound excludes that does. No clause speaks of the words.
+pub fn expanded(node: &Node, tally: &Tally) -> Sentence {
+    let mut text = Sentence::new();
+    let reason = if node.left == 1 && tally.lead == 0 {
+        first_reason(node)
+    } else {
+        None
+    };
+    put_expanded(node.left, tally, &reason, &mut text);
     text
 }
 
-/// What is said of an expanded node: of its moves, and of the games below. No clause speaks of the words.
-pub fn expanded(node: &Node, tally: &Tally) -> Sentence {
-    if tally.moves > 0 && node.left == 1 {
-        return last_ply(node, tally);
-    }
+/// What is said of an expanded node whose moves are not told: how many games are below.
+pub fn untold(games: u64) -> Sentence {
     let mut text = Sentence::new();
-    if tally.moves == 0 {
-        let _ = write!(text, "no move is legal");
-        return text;
-    }
-    write_share(tally.lead, tally.moves, "leads on", "lead on", &mut text);
-    write_cuts(tally, &mut text);
-    write_games(tally, &mut text);
+    put_all(&mut text, &["expanded, with "]);
+    put_things(&mut text, games, "game", "games");
+    put_all(&mut text, &[" below"]);
     text
 }

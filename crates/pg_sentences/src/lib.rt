@@ -10,18 +10,20 @@ mod journeys;
 mod names;
 mod numbers;
 mod pairing;
+pub mod phrases;
 mod prices;
 mod sentences;
 mod tally;
 mod travel;
 mod words;
 
-pub use counts::expanded;
+pub use counts::{expanded, put_expanded, untold};
 pub use distances::{Distances, GrowingDistances};
 pub use ending::Ending;
+pub use names::{put_all, put_number, put_things};
 pub use numbers::Node;
 pub use sentences::{
     Grounds, Sentence, ended, put_reason_of_bounds, put_reason_of_cut, reason_of_bounds,
     reason_of_cut,
 };
-pub use tally::Tally;
+pub use tally::{Tally, first_code};

@@ -3,7 +3,7 @@
 use crate::sentences::Sentence;
 use arrayvec::ArrayString;
 use pg_board::{Color, Kind, Square};
-use std::fmt::Write;
+use pg_fen::text::digits;
 
 // A part of a sentence.
 pub(crate) type Phrase = ArrayString<64>;
@@ -26,9 +26,9 @@ pub(crate) fn kind_name(kind: Kind) -> &'static str {
     }
 }
 
-// Appends texts one after the other, up to the first that has no room. By hand, since a formatted write, which ends
-// there too, costs some fifty instructions more for each of them, and a page has such words at each cut.
-pub(crate) fn put_all<const CAP: usize>(text: &mut ArrayString<CAP>, parts: &[&str]) {
+/// Appends texts one after the other, up to the first that has no room. By hand, since a formatted write, which ends
+/// there too, costs some fifty instructions more for each of them, and a page has such words at each cut.
+pub fn put_all<const CAP: usize>(text: &mut ArrayString<CAP>, parts: &[&str]) {
     for part in parts {
         if text.try_push_str(part).is_err() {
             return;
@@ -59,12 +59,12 @@ pub(crate) fn number_name(number: u64) -> Phrase {
     text
 }
 
-// Appends a number. Most are of one digit, and a formatted write of those costs twice as much.
-pub(crate) fn put_number<const CAP: usize>(text: &mut ArrayString<CAP>, number: u64) {
+/// Appends a number. By hand, since a formatted write costs more.
+pub fn put_number<const CAP: usize>(text: &mut ArrayString<CAP>, number: u64) {
     if number < 10 {
-        let _ = text.try_push_str(digit(number));
+        put_all(text, &[digit(number)]);
     } else {
-        let _ = write!(text, "{number}");
+        put_all(text, &[digits(number as usize).as_str()]);
     }
 }
 
@@ -117,16 +117,26 @@ pub(crate) fn man_name(kind: Kind, square: Square) -> Phrase {
     name
 }
 
-// So many things, as in `no move`, `1 move` and `2 moves`.
-pub(crate) fn many(count: u64, one: &str, more: &str) -> Phrase {
-    let mut text = Phrase::new();
+/// Appends so many things, as in `no move`, `1 move` and `2 moves`.
+pub fn put_things<const CAP: usize>(
+    text: &mut ArrayString<CAP>,
+    count: u64,
+    one: &str,
+    more: &str,
+) {
     match count {
-        0 => put_all(&mut text, &["no ", one]),
-        1 => put_all(&mut text, &["1 ", one]),
+        0 => put_all(text, &["no ", one]),
+        1 => put_all(text, &["1 ", one]),
         _ => {
-            let count = number_name(count);
-            put_all(&mut text, &[count.as_str(), " ", more]);
+            put_number(text, count);
+            put_all(text, &[" ", more]);
         }
     }
+}
+
+// The same as a phrase.
+pub(crate) fn many(count: u64, one: &str, more: &str) -> Phrase {
+    let mut text = Phrase::new();
+    put_things(&mut text, count, one, more);
     text
 }

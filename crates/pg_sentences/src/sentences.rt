@@ -3,7 +3,9 @@
 use crate::distances::{Distances, GrowingDistances};
 use crate::ending::Ending;
 use crate::journey_words::write_journeys;
+use crate::names::{number_name, put_all};
 use crate::numbers::{Excess, Node, captures_of, files_of, promotions_of};
+use crate::phrases::{CUT_BY, ELSEWHERE, EXCLUDED, SOLUTION, UNSEEN};
 use crate::prices::reason_of_prices;
 use crate::travel::travel_of;
 use crate::words::write_excess;
@@ -16,7 +18,6 @@ use pg_journeys::Journeys;
 use pg_pawns::PawnFiles;
 use pg_position::Position;
 use pg_travel::{Prices, Travel};
-use std::fmt::Write;
 
 // The codes of the four bounds that a node is asked about which no record cuts, in the order in which they are asked.
 const CODES: [u8; 4] = [
@@ -135,13 +136,13 @@ fn first_of_four(node: &Node) -> Option<Grounds> {
 // What is said of a cut, with why it excludes.
 fn excluded(code: u8, reason: Option<Sentence>) -> Sentence {
     let mut text = Sentence::new();
-    let _ = match reason {
-        Some(reason) => {
-            let reason = reason.as_str();
-            write!(text, "excluded: {reason}")
-        }
-        None => write!(text, "cut by bound {code}, which is not seen to exclude"),
-    };
+    match reason {
+        Some(reason) => put_all(&mut text, &[EXCLUDED, reason.as_str()]),
+        None => put_all(
+            &mut text,
+            &[CUT_BY, number_name(u64::from(code)).as_str(), UNSEEN],
+        ),
+    }
     text
 }
 
@@ -160,15 +161,15 @@ fn recorded(node: &Node, record: &Record) -> Sentence {
 
 fn said(words: &str) -> Sentence {
     let mut text = Sentence::new();
-    let _ = write!(text, "{words}");
+    put_all(&mut text, &[words]);
     text
 }
 
 /// What is said of a node that ends. No clause speaks of the words.
 pub fn ended(node: &Node, ending: &Ending) -> Sentence {
     match ending {
-        Ending::Leaf(true) => said("a solution"),
-        Ending::Leaf(false) => said("does not end on the diagram"),
+        Ending::Leaf(true) => said(SOLUTION),
+        Ending::Leaf(false) => said(ELSEWHERE),
         Ending::Said(record) => recorded(node, record),
     }
 }

@@ -1,4 +1,4 @@
-//! What the program's streams go through: a buffer over a sink, sources whose records are counted, the line on the
+//! What the program's streams go through: a buffer over a sink, the line on the
 //! terminal that says how far a run is, the end of its time, and the games that a search meets.
 #![tactic(auto)]
 
@@ -18,5 +18,5 @@ pub use judged::{JudgeLine, judge_line};
 pub use kept::Kept;
 pub use led::{LedLine, led_line};
 pub use line::{Cleared, Terminal};
-pub use progress::{Watched, line_of, watch_records};
+pub use progress::{Passing, line_of};
 pub use runs::{CountLine, SearchLine, count_line, search_line};

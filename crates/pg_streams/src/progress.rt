@@ -1,9 +1,9 @@
-//! How many records of a certificate have passed by, on the terminal.
-ghost use Rattle.std.specs.Prelude.{◌≡◌, ◌≤◌};
+//! How much of a certificate has passed by, on the terminal.
+ghost use Rattle.std.specs.Prelude.{◌≤◌};
 
 use crate::line::{Line, Terminal, WIDTH};
 use arrayvec::ArrayString;
-use pg_certificate::{FromRead, RecordCount, Refused, Source};
+use pg_certificate::{FromRead, Refused, Source};
 use std::fmt::Write;
 use std::io::{Eprint, Read};
 use std::time::Clock;
@@ -34,85 +34,75 @@ pub(crate) fn scaled(number: u64) -> (u64, &'static str)
     }
 }
 
-/// The line of a check: how many records, and how many hundredths of the limit those are.
-pub fn line_of(count: u64, limit: u64) -> ArrayString<WIDTH> {
+/// The line of a check: how many bytes of a certificate have passed by, and how many hundredths of all those are, where
+/// their number is known.
+pub fn line_of(bytes: u64, size: Option<u64>) -> ArrayString<WIDTH> {
     let mut line = ArrayString::new();
-    let (number, unit) = scaled(count);
-    let share = share(count, limit);
-    let _ = write!(line, "{number}{unit} records {share}% of limit");
+    let (number, unit) = scaled(bytes);
+    let _ = write!(line, "{number}{unit} bytes");
+    if let Some(size) = size {
+        let share = share(bytes, size);
+        let _ = write!(line, " {share}% of file");
+    }
     line
 }
 
-// Shows how many records have passed by.
+// Shows how many bytes have passed by.
 #[derive(Drop)]
-pub(crate) struct Watch<'a, R> {
+struct Watch<'a, R> {
     line: Line<'a, R>,
-    /// So many there may be at most.
-    limit: u64,
-    count: RecordCount,
+    size: Option<u64>,
+    bytes: u64,
 }
 
-impl<'a, R: Clock + Eprint> Watch<'a, R> {
-    // A watch over at most so many records, which says on a terminal how many passed by.
-    pub(crate) fn new(rt: &'a R, terminal: &'a Terminal, limit: u64) -> Watch<'a, R> {
-        Watch {
-            line: Line::new(rt, terminal),
-            limit,
-            count: RecordCount::new(),
-        }
-    }
-
-    // Bytes of the certificate pass by.
-    fn pass(&mut self, bytes: &[u8]) {
-        if !self.line.is_on() {
-            return;
-        }
-        self.count.pass(bytes);
+impl<R: Clock + Eprint> Watch<'_, R> {
+    // So many bytes more have passed by.
+    fn pass(&mut self, count: usize) {
+        self.bytes = self.bytes.saturating_add(count as u64);
         if self.line.is_due() {
-            self.line
-                .show(line_of(self.count.records, self.limit).as_str());
+            self.line.show(line_of(self.bytes, self.size).as_str());
         }
-    }
-
-    // Takes the line away. Nothing is shown from then on.
-    fn end(&mut self) {
-        self.line.end();
     }
 }
 
-/// A source whose bytes are watched.
-pub struct Watched<'a, T, R> {
+/// A certificate that passes by, with a line on the terminal that says how much of it has.
+pub struct Passing<'a, T, R> {
     inner: T,
     watch: Watch<'a, R>,
 }
 
-impl<'a, T: Drop, R: Clock + Eprint> Watched<'a, T, R> {
-    pub(crate) fn new(inner: T, watch: Watch<'a, R>) -> Watched<'a, T, R> {
-        Watched { inner, watch }
+impl<'a, C: Read + Drop, R: Clock + Eprint> Passing<'a, FromRead<C>, R> {
+    /// A certificate that a reader gives, of so many bytes, where that is known.
+    pub fn new(
+        rt: &'a R,
+        terminal: &'a Terminal,
+        certificate: C,
+        size: Option<u64>,
+    ) -> Passing<'a, FromRead<C>, R> {
+        let watch = Watch {
+            line: Line::new(rt, terminal),
+            size,
+            bytes: 0,
+        };
+        Passing {
+            inner: FromRead::new(certificate),
+            watch,
+        }
     }
+}
 
-    /// Takes the line away, and drops what was watched.
+impl<T: Drop, R: Clock + Eprint> Passing<'_, T, R> {
+    /// Takes the line away, and drops what passed by.
     pub fn end(self) {
-        let Watched {
+        let Passing {
             inner: _,
             mut watch,
         } = self;
-        watch.end();
+        watch.line.end();
     }
 }
 
-/// A certificate that a reader gives, at most so many of its records counted on a terminal.
-pub fn watch_records<'a, R: Clock + Eprint, C: Read + Drop>(
-    rt: &'a R,
-    terminal: &'a Terminal,
-    certificate: C,
-    records: u64,
-) -> Watched<'a, FromRead<C>, R> {
-    let watch = Watch::new(rt, terminal, records);
-    Watched::new(FromRead::new(certificate), watch)
-}
-
-impl<T: Source, R: Clock + Eprint> Source for Watched<'_, T, R> {
+impl<T: Source, R: Clock + Eprint> Source for Passing<'_, T, R> {
     ghost left = { λ s. T.left s.inner };
 
     ghost has_failed = { λ s. T.has_failed s.inner };
@@ -121,14 +111,14 @@ impl<T: Source, R: Clock + Eprint> Source for Watched<'_, T, R> {
         match self.inner.pull(buffer) {
             Ok(count) => {
                 if count == 0 {
-                    self.watch.end();
+                    self.watch.line.end();
                 } else {
-                    self.watch.pass(&buffer[..count]);
+                    self.watch.pass(count);
                 }
                 Ok(count)
             }
             Err(Refused) => {
-                self.watch.end();
+                self.watch.line.end();
                 Err(Refused)
             }
         }

@@ -94,11 +94,12 @@ Example:
 
 const WHY_EXAMPLE: &str =
     "One line for each ply says what the certificate has there, up to where it ends
-the line. The last line says whether the certificate is right.
+the line. Nothing is written before the check has said yes, and last that the
+certificate is right.
 
 Example, with a certificate that a search writes first:
   pg search rnbqkbnr/pppp1ppp/8/4p3/4P3/8/PPPP1PPP/RNBQKBNR 1.0 e4e5.pgc
-  pg why rnbqkbnr/pppp1ppp/8/4p3/4P3/8/PPPP1PPP/RNBQKBNR 1.0 e4e5.pgc '1. e4'";
+  pg why e4e5.pgc '1. e4'";
 
 const PAGE_EXAMPLE: &str =
     "The page shows the diagram, the verdict, the games, and what the certificate has
@@ -108,7 +109,7 @@ proved.
 
 Example, with a certificate that a search writes first:
   pg search rnbqkbnr/pppp1ppp/8/4p3/4P3/8/PPPP1PPP/RNBQKBNR 1.0 e4e5.pgc
-  pg page rnbqkbnr/pppp1ppp/8/4p3/4P3/8/PPPP1PPP/RNBQKBNR 1.0 e4e5.pgc >e4.html";
+  pg page e4e5.pgc >e4.html";
 
 const UPGRADE_EXAMPLE: &str =
     "The copy says what the old one says. It is put in its place when it is whole.
@@ -394,20 +395,13 @@ const COMMANDS: [Entry; 12] = [
         name: "why",
         about: "Explains a line of moves by a certificate",
         below: WHY_EXAMPLE,
-        words: &[DIAGRAM, LENGTH, CERTIFICATE, MOVES, RECORDS, JOURNEYS_TAKEN],
+        words: &[CERTIFICATE, MOVES, RECORDS, JOURNEYS_TAKEN],
     },
     Entry {
         name: "page",
         about: "Writes a page of HTML that shows a certificate",
         below: PAGE_EXAMPLE,
-        words: &[
-            DIAGRAM,
-            LENGTH,
-            CERTIFICATE,
-            RECORDS,
-            NODES_TOLD,
-            JOURNEYS_TAKEN,
-        ],
+        words: &[CERTIFICATE, RECORDS, NODES_TOLD, JOURNEYS_TAKEN],
     },
     Entry {
         name: "upgrade",
@@ -464,7 +458,7 @@ fn command_of<'a>(alloc: Global, entry: &Entry) -> Result<Command<'a>, AllocErro
 // `pg` with no command yet.
 fn top<'a>(alloc: Global) -> Command<'a> {
     Command::new(alloc, "pg")
-        .version("1.1.0")
+        .version("2.0.0")
         .about(ABOUT)
         .after_help(EXAMPLE)
         .subcommand_required(true)

@@ -5,8 +5,7 @@ use crate::texts::{check_bound, check_line, color, diagram, position, row_of};
 use pg_captures::Bound;
 use pg_fen::Diagram;
 use pg_journeys::{
-    DeadColor, Facts, FirstAims, Journeys, JourneysByAims, dead_color, facts_for, least_counts,
-    unreached,
+    DeadColor, Facts, Journeys, JourneysByMemory, dead_color, facts_for, least_counts, unreached,
 };
 use pg_position::Position;
 use std::process::Abort;
@@ -211,15 +210,15 @@ fn positions(rt: HostRuntime) {
     check_bound(&rt, &Journeys, POSITIONS);
 }
 
-// By what is known beforehand of one of the diagrams: the others are asked as without it.
+// By what is known of one of the diagrams, and what was shown on the way to it: the others are asked as without it.
 #[test]
-fn by_aims(rt: HostRuntime) {
+fn by_memory(rt: HostRuntime) {
     let known = diagram(
         &rt,
         "rn1q1knr/p1p1p2p/3p1p1b/1p4N1/2P5/N2P3P/PP1KPP2/R1BQ1B1R",
     );
-    let aims = FirstAims::new(rt.alloc(), &known).expect(&rt, "memory");
-    let bound = JourneysByAims { aims };
+    let bound = JourneysByMemory::new(rt.alloc(), &known).expect(&rt, "memory");
+    check_bound(&rt, &bound, POSITIONS);
     check_bound(&rt, &bound, POSITIONS);
     assert!(rt; bound.code() == 5);
 }

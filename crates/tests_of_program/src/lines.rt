@@ -1,12 +1,11 @@
 //! The line on the terminal that says how far a run is.
 
-use crate::shared::{joined, repeated};
-use pg_certificate::{RecordCount, Sink, Source, ToWrite};
+use crate::shared::repeated;
+use pg_certificate::{Sink, Source, ToWrite};
 use pg_moves::CountProgress;
 use pg_searcher::SearchProgress;
 use pg_streams::{
-    Cleared, CountLine, SearchLine, Terminal, count_line, led_line, line_of, search_line,
-    watch_records,
+    Cleared, CountLine, Passing, SearchLine, Terminal, count_line, led_line, line_of, search_line,
 };
 use pg_trial::{FailsAt, OneByte};
 use std::cell::Cell;
@@ -15,10 +14,6 @@ use std::io;
 use std::io::{Eprint, ErrorKind};
 use std::process::Abort;
 use std::time::{Clock, Duration};
-
-// The header of a certificate for the array and four plies.
-const HEADER: &[u8] =
-    b"PGC1\x04\x24\x53\x36\x42\x11\x11\x11\x11\0\0\0\0\0\0\0\0\0\0\0\0\0\0\0\0\x99\x99\x99\x99\xac\xdb\xbe\xca";
 
 // A clock that is set by hand, and a screen that counts what is printed on it.
 #[derive(Drop)]
@@ -62,7 +57,7 @@ fn prints<R: Abort + AllocGlobal>(rt: &R, times: &[u64], screen: bool) -> (u32, 
     };
     let bytes = repeated(rt, 1, times.len());
     let terminal = Terminal::new(screen);
-    let mut source = watch_records(&desk, &terminal, bytes.as_slice(), 100);
+    let mut source = Passing::new(&desk, &terminal, bytes.as_slice(), None);
     for time in times {
         desk.millis.set(time.saturating_add(5000));
         check_pull(rt, &mut source, 1);
@@ -99,47 +94,13 @@ fn watched_reads_that_fail(rt: HostRuntime) {
     let terminal = Terminal::new(false);
     let bytes = repeated(&rt, 1, 8);
     let pieces = FailsAt::new(OneByte::new(bytes.as_slice()), 2, ErrorKind::Other);
-    let mut source = watch_records(&desk, &terminal, pieces, 100);
+    let mut source = Passing::new(&desk, &terminal, pieces, None);
     check_pull(&rt, &mut source, 1);
     check_pull(&rt, &mut source, 1);
     let mut buffer = [0u8; 1];
     assert!(rt; source.pull(&mut buffer).is_err() && source.failed());
     assert!(rt; source.pull(&mut buffer).is_err() && source.failed());
     source.end();
-}
-
-// How many records a certificate has that passes by in two parts.
-fn records_in(front: &[u8], back: &[u8]) -> u64 {
-    let mut count = RecordCount::new();
-    count.pass(front);
-    count.pass(back);
-    count.records
-}
-
-// A cut has two bytes and a reference five; the header is no record, wherever the bytes are parted.
-#[test]
-fn records_that_pass_by(rt: HostRuntime) {
-    let bytes = joined(&rt, &[HEADER, &[1, 5, 2, 1, 3, 1, 1, 1, 1, 2, 4, 1]]);
-    for at in 0..=bytes.len() {
-        let (front, back) = bytes.as_slice().split_at(at);
-        assert_eq!(rt; records_in(front, back), 6);
-    }
-}
-
-// Four records, of which the second is one of prices, with so many lists behind its head.
-fn check_prices<R: Abort + AllocGlobal>(rt: &R, head: &[u8], lists: usize) {
-    let rest = repeated(rt, 6, lists);
-    let bytes = joined(rt, &[HEADER, &[1], head, rest.as_slice(), &[2, 6, 1]]);
-    assert_eq!(rt; records_in(bytes.as_slice(), b""), 4);
-}
-
-// A record of prices is one, however many lists it has and however long they are.
-#[test]
-fn records_of_prices_that_pass_by(rt: HostRuntime) {
-    check_prices(&rt, &[6, 4, 0, 2, 1, 2], 6);
-    check_prices(&rt, &[6, 3, 1, 1, 0, 3], 3);
-    check_prices(&rt, &[6, 3, 1, 1, 0, 0], 0);
-    check_prices(&rt, &[6, 4, 0, 3, 64, 64], 384);
 }
 
 // A number of a table.
@@ -162,15 +123,16 @@ fn row<'a>(rt: &impl Abort, line: &'a str) -> ([u64; 3], &'a str) {
     (found, wanted)
 }
 
-// Records and their limit, and what is shown.
-const CHECKS: &str = "0 0: 0 records 100% of limit
-0 1: 0 records 0% of limit
-99999 100000: 99999 records 99% of limit
-100000 100000: 100k records 100% of limit
-12345678 100000000: 12345k records 12% of limit
-99999999 99999999: 99999k records 100% of limit
-100000000 1000000000: 100M records 10% of limit
-18446744073709551615 18446744073709551615: 18446P records 100% of limit";
+// Bytes and the size of their file, where it is known, and what is shown.
+const CHECKS: &str = "0 -: 0 bytes
+0 0: 0 bytes 100% of file
+0 1: 0 bytes 0% of file
+99999 100000: 99999 bytes 99% of file
+100000 100000: 100k bytes 100% of file
+12345678 100000000: 12345k bytes 12% of file
+99999999 99999999: 99999k bytes 100% of file
+100000000 1000000000: 100M bytes 10% of file
+18446744073709551615 18446744073709551615: 18446P bytes 100% of file";
 
 // Games, and what is shown.
 const COUNTS: &str = "0: 0 games
@@ -197,8 +159,10 @@ fn check_shown(rt: &impl Abort, shown: &str, wanted: &str) {
 #[test]
 fn lines_that_fit(rt: HostRuntime) {
     for line in CHECKS.lines() {
-        let ([count, limit, _], wanted) = row(&rt, line);
-        check_shown(&rt, line_of(count, limit).as_str(), wanted);
+        let (numbers, wanted) = line.split_once(": ").expect(&rt, line);
+        let (bytes, size) = numbers.split_once(' ').expect(&rt, line);
+        let shown = line_of(number(&rt, bytes), size.parse().ok());
+        check_shown(&rt, shown.as_str(), wanted);
     }
 }
 

@@ -1,14 +1,13 @@
 //! Explanations of a line: what the tests share.
 
-mod bare;
 mod cuts;
 mod growths;
 mod lines;
 mod refusals;
 
 use crate::shared::{
-    MANY, Said, bounds_for, certificate, diagram_of, field, halves, length_of, lines_of, named,
-    text_of, told, words,
+    MANY, Said, bounds_for, certificate, diagram_of, field, halves, length_of, lines_of,
+    problem_of, text_of, told, words,
 };
 use pg_captures::Bound;
 use pg_certificate::format::MOST_NAMED;
@@ -17,33 +16,23 @@ use pg_guide::*;
 use std::alloc::Global;
 use std::process::Abort;
 
-// What is answered with the four bounds, or with journeys as a fifth where the row ends so, by three readings of the
+// What is answered with the four bounds, or with journeys as a fifth where the row ends so, by a reading of the
 // certificate. A diagram, a length and moves are asked.
 fn explain<R: Abort + AllocGlobal, S: Source, W: Sink>(
     rt: &R,
     asked: &str,
-    walked: &mut S,
-    checked: &mut S,
-    cited: &mut S,
+    source: &mut S,
     out: &mut W,
 ) -> Said {
-    let diagram = field(asked, 0);
-    let length = field(asked, 1);
-    let moves = field(asked, 2);
-    let diagram = named(diagram);
     let bounds = bounds_for(rt, field(asked, 5));
-    let asked = Asked {
-        diagram,
-        length,
-        moves,
-    };
+    let problem = problem_of(rt, field(asked, 0), field(asked, 1));
+    let moves = field(asked, 2);
     told(&why(
         rt.alloc(),
-        &asked,
+        &problem,
+        moves,
         &bounds,
-        walked,
-        checked,
-        cited,
+        source,
         out,
         MANY,
         MOST_NAMED,
@@ -57,10 +46,7 @@ fn explain_bytes<R: Abort + AllocGlobal, W: Sink>(
     bytes: &[u8],
     out: &mut W,
 ) -> Said {
-    let mut walked = FromRead::new(bytes);
-    let mut checked = FromRead::new(bytes);
-    let mut cited = FromRead::new(bytes);
-    explain(rt, asked, &mut walked, &mut checked, &mut cited, out)
+    explain(rt, asked, &mut FromRead::new(bytes), out)
 }
 
 // This is answered over these bytes; what is written.

@@ -6,36 +6,30 @@ mod refusals;
 mod trees;
 
 use crate::shared::{
-    MANY, Said, bounds_for, certificate, field, halves, lines_of, named, text_of, told,
+    MANY, Said, bounds_for, certificate, field, halves, lines_of, problem_of, text_of, told,
 };
 use pg_certificate::format::MOST_NAMED;
 use pg_certificate::{FromRead, Sink, Source, ToWrite};
 use pg_page::*;
 use std::process::Abort;
 
-// What is answered with the four bounds, or with journeys as a fifth where the row ends so, by three readings of the
+// What is answered with the four bounds, or with journeys as a fifth where the row ends so, by a reading of the
 // certificate. A diagram, a length and a number of nodes are asked.
 fn show<R: Abort + AllocGlobal, S: Source, W: Sink>(
     rt: &R,
     asked: &str,
-    walked: &mut S,
-    checked: &mut S,
-    read: &mut S,
+    source: &mut S,
     out: &mut W,
 ) -> Said {
     let bounds = bounds_for(rt, field(asked, 5));
-    let asked = Asked {
-        diagram: named(field(asked, 0)),
-        length: field(asked, 1),
-        nodes: field(asked, 2).parse::<u64>().expect(rt, asked),
-    };
+    let problem = problem_of(rt, field(asked, 0), field(asked, 1));
+    let nodes = field(asked, 2).parse::<u64>().expect(rt, asked);
     told(&page(
         rt.alloc(),
-        &asked,
+        &problem,
+        nodes,
         &bounds,
-        walked,
-        checked,
-        read,
+        source,
         out,
         MANY,
         MOST_NAMED,
@@ -49,10 +43,7 @@ fn show_bytes<R: Abort + AllocGlobal, W: Sink>(
     bytes: &[u8],
     out: &mut W,
 ) -> Said {
-    let mut walked = FromRead::new(bytes);
-    let mut checked = FromRead::new(bytes);
-    let mut read = FromRead::new(bytes);
-    show(rt, asked, &mut walked, &mut checked, &mut read, out)
+    show(rt, asked, &mut FromRead::new(bytes), out)
 }
 
 // This is answered over these bytes; what is written.

@@ -3,6 +3,7 @@
 
 use arrayvec::ArrayString;
 use pg_captures::{Bound, Captures, Promotions};
+use pg_checker::Problem;
 use pg_fen::{Diagram, Length};
 use pg_journeys::Journeys;
 use pg_pawns::PawnFiles;
@@ -52,6 +53,14 @@ pub(crate) fn diagram_of(rt: &impl Abort, text: &str) -> Diagram {
 // The length that a text gives.
 pub(crate) fn length_of(rt: &impl Abort, text: &str) -> Length {
     Length::read(text).expect(rt, text)
+}
+
+// The problem of a diagram and a length.
+pub(crate) fn problem_of(rt: &impl Abort, diagram: &str, length: &str) -> Problem {
+    Problem {
+        diagram: diagram_of(rt, diagram),
+        length: length_of(rt, length),
+    }
 }
 
 // The bytes as a text.

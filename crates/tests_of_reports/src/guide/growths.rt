@@ -1,8 +1,7 @@
 //! Explanations that are refused memory.
 
 use super::*;
-use pg_checker::Fault;
-use pg_report::RunFault;
+use pg_checker::{AnswerFault, Fault};
 use pg_san::GamesFault;
 use pg_trial::{Counted, named_expansions};
 
@@ -11,19 +10,14 @@ const AFTER_E4_E5: &str = "rnbqkbnr/pppp1ppp/8/4p3/4P3/8/PPPP1PPP/RNBQKBNR";
 // The answer to e4 e5 by a certificate of 22 named expansions, and how many bytes were written.
 fn named_run(rt: &impl Abort, alloc: Global) -> (Result<(), WhyFault>, usize) {
     let bytes = named_expansions(&diagram_of(rt, AFTER_E4_E5));
-    let asked = Asked {
-        diagram: AFTER_E4_E5,
-        length: "1.0",
-        moves: "e4",
-    };
+    let problem = problem_of(rt, AFTER_E4_E5, "1.0");
     let bounds: Vec<Box<dyn Bound>> = Vec::new(alloc);
     let mut out = ToWrite::new(Counted::new());
     let answer = why(
         alloc,
-        &asked,
+        &problem,
+        "e4",
         &bounds,
-        &mut FromRead::new(bytes.as_slice()),
-        &mut FromRead::new(bytes.as_slice()),
         &mut FromRead::new(bytes.as_slice()),
         &mut out,
         MANY,
@@ -43,10 +37,11 @@ fn refused_growths(rt: HostRuntime) {
         let (answer, bytes) = named_run(&rt, rt.alloc());
         match answer {
             Ok(()) => assert_eq!(rt; bytes, BYTES),
-            Err(WhyFault::Moves | WhyFault::TooMany) => assert!(rt; false),
-            Err(WhyFault::Run(fault)) => {
-                let games = fault == RunFault::Games(GamesFault::Memory);
-                assert!(rt; games || fault == RunFault::Check(Fault::Memory));
+            Err(fault) => {
+                let lacks = fault == WhyFault::Games(GamesFault::Memory)
+                    || fault == WhyFault::Answer(AnswerFault::Memory)
+                    || fault == WhyFault::Answer(AnswerFault::Check(Fault::Memory));
+                assert!(rt; lacks);
                 assert_eq!(rt; bytes, 0);
             }
         }

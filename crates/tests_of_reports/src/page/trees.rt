@@ -6,13 +6,13 @@ use super::*;
 // where a node with one ply left is the last one that is told, and where the moves below it are; and the array in no
 // ply.
 const TREES: &str =
-    "after-e4 | 0.5 | 9 | 2 after-e4 0.5 | 01 => /0$,$;0$/1$($BQNa3,$BSNc3,$GVNf3,$GXNh3,$IQa3,$IYa4,$JRb3,$JZb4,$KSc3,$Kac4,$LTd3,$Lbd4,$MUe3,$Mce4*$NVf3,$Ndf4,$OWg3,$Oeg4,$PXh3,$Pfh4,$)$;1$
-after-e4 | 0.5 | 0 | 2 after-e4 0.5 | 01 => /0$,$;0$/1$.$=*1$;1$
-after-e4-e5 | 0.5 | 9 | 2 after-e4-e5 0.5 | 0204 => /0$,$;0$/1$:4black needs 1 move and has 0 (travel)$;0$
-rnbqk1nr/ppppppbp/6p1/8/8/5NP1/PPPPPPBP/RNBQ1RK1 | 0.5 | 9 | 2 rnbqk1nr/ppppppbp/6p1/8/8/5NP1/PPPPPPBP/RNBQ1RK1 0.5 | 0204 => /0$,$;0$/1$:4white needs 4 moves and has 1 (travel, castling king side)$;0$
-rnbqkbnr/pppppppp/8/8/8/2N2N2/PPPPPPPP/R1BQKB1R | 0.5 | 9 | 2 rnbqkbnr/pppppppp/8/8/8/2N2N2/PPPPPPPP/R1BQKB1R 0.5 | 0205 | journeys => /0$,$;0$/1$:5white has 1 move left and needs 2 (journeys)$;0$
-two-orders | 0.5 | 0 | 1 two-orders 0.5 | 05 => /0$,$;0$/1$.$=0:4white needs 2 moves and has 1 (travel)$;1$
-array | 0.0 | 9 | 1 array 0.0 |  => /0$*$;0$";
+    "after-e4 | 0.5 | 9 | 2 after-e4 0.5 | 01 => /0$,$;no expanded node$/1$($BQNa3,$BSNc3,$GVNf3,$GXNh3,$IQa3,$IYa4,$JRb3,$JZb4,$KSc3,$Kac4,$LTd3,$Lbd4,$MUe3,$Mce4*$NVf3,$Ndf4,$OWg3,$Oeg4,$PXh3,$Pfh4,$) 1 of 20 moves ends on the diagram$;1 expanded node$
+after-e4 | 0.5 | 0 | 2 after-e4 0.5 | 01 => /0$,$;no expanded node$/1$.$=*1 expanded, with 1 game below$;1 expanded node$
+after-e4-e5 | 0.5 | 9 | 2 after-e4-e5 0.5 | 0204 => /0$,$;no expanded node$/1$:4black needs 1 move and has 0 (travel)$;no expanded node$
+rnbqk1nr/ppppppbp/6p1/8/8/5NP1/PPPPPPBP/RNBQ1RK1 | 0.5 | 9 | 2 rnbqk1nr/ppppppbp/6p1/8/8/5NP1/PPPPPPBP/RNBQ1RK1 0.5 | 0204 => /0$,$;no expanded node$/1$:4white needs 4 moves and has 1 (travel, castling king side)$;no expanded node$
+rnbqkbnr/pppppppp/8/8/8/2N2N2/PPPPPPPP/R1BQKB1R | 0.5 | 9 | 2 rnbqkbnr/pppppppp/8/8/8/2N2N2/PPPPPPPP/R1BQKB1R 0.5 | 0205 | journeys => /0$,$;no expanded node$/1$:5white has 1 move left and needs 2 (journeys)$;no expanded node$
+two-orders | 0.5 | 0 | 1 two-orders 0.5 | 05 => /0$,$;no expanded node$/1$.$=0:4$;1 expanded node$
+array | 0.0 | 9 | 1 array 0.0 |  => /0$*$;no expanded node$";
 
 // The lines of the trees of a page.
 fn trees_of<'a>(rt: &impl Abort, page: &'a str) -> &'a str {
@@ -52,9 +52,9 @@ after-e4 | 0.5 | 9 | 2 after-e4 0.5 | 01 => <li><span data-moves=\"Mce4 \">1. e4
 after-e4-e5 | 0.5 | 9 | 2 after-e4-e5 0.5 | 0204 => <strong>No game.</strong> No game of 0.5 moves from the initial array ends on
 two-orders | 1.5 | 9 | 1 two-orders 1.5 | 01*443 => <strong>Cooked.</strong> 2 games of 1.5 moves from the initial array end on
 two-orders | 1.5 | 9 | 1 two-orders 1.5 | 01*443 => <li><span data-moves=\"LTd3 0se6 MUe3 \">1. d3 e6 2. e3</span></li>
-after-e4 | 0.5 | 9 | 2 after-e4 0.5 | 01 => 4: 'travel' };
-rnbqkbnr/pppppppp/8/8/8/2N2N2/PPPPPPPP/R1BQKB1R | 0.5 | 9 | 2 rnbqkbnr/pppppppp/8/8/8/2N2N2/PPPPPPPP/R1BQKB1R 0.5 | 0205 | journeys => 4: 'travel', 5: 'journeys' };
-rnbqkbnr/pppppppp/8/8/8/2N2N2/PPPPPPPP/R1BQKB1R | 0.5 | 9 | 2 rnbqkbnr/pppppppp/8/8/8/2N2N2/PPPPPPPP/R1BQKB1R 0.5 | 0205 | journeys => 'travel', 'journeys', 'other bounds', 'reference'];
+after-e4 | 0.5 | 9 | 2 after-e4 0.5 | 01 => data-start=\"at the start\" data-after=\"after \"
+after-e4 | 0.5 | 9 | 2 after-e4 0.5 | 01 => data-excluded=\"excluded: \"
+after-e4 | 0.5 | 9 | 2 after-e4 0.5 | 01 => data-untold=\"expanded, with no game below\"
 array | 0.0 | 9 | 1 array 0.0 |  => <li><span data-moves=\"\">-</span></li>";
 
 // A page says this.

@@ -4,7 +4,7 @@ use Rattle.pg_certificate.specs.Reader.{to_come}
 use Rattle.pg_checker.specs.Cuts.{cuts_for}
 use Rattle.pg_checker.specs.inner.Halting.{stops}
 use Rattle.pg_checker.specs.inner.Machine.{path}
-use Rattle.pg_checker.specs.inner.Spots.{spot_of}
+use Rattle.pg_checker.specs.Spots.{spot_of}
 use Rattle.pg_checker.proofs.Running.{few_none}
 use Rattle.pg_checker.proofs.Played.{closes_played, play_leads, play_played}
 use Rattle.pg_checker.proofs.Found.{finding_none}

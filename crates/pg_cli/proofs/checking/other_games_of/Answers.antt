@@ -1,4 +1,4 @@
-use Rattle.std.proofs.Common.{◌∙◌, inl, inr, refl, sym}
+use Rattle.std.proofs.Common.{◌∙◌, inl, refl, sym}
 use Rattle.std.specs.Prelude.{Some, codes}
 use Rattle.clap.specs.Words.{found_of}
 use Rattle.pg_cli.proofs.AnswerLemmas.{word_or_none}

@@ -1,7 +1,6 @@
 use Rattle.std.proofs.Common.{◌≡◌, ◌<◌, ◌∷◌, ap, sym, subst, ◌∙◌, arith}
 use Rattle.std.specs.Prelude.{All, List, ℕ}
 use Rattle.std.proofs.lemmas.List.Elements.{All-cons, All-nil}
-use Rattle.pg_san.specs.GameText.{lines}
 use Rattle.pg_san.specs.TextLeft.{lines_left}
 use Rattle.pg_judge.specs.Ruling.{IsSoundLine}
 use Rattle.pg_cli.proofs.judging.judge_all.Goals as goal

@@ -1,10 +1,12 @@
+use Rattle.std.proofs.Common.{refl, sym, ◌∙◌}
+use Rattle.pg_page.proofs.GrowingLemmas.{grows_none, grows_more}
 use Rattle.pg_page.proofs.telling.tell.Goals as goal
 
-pub returns-in-Err : goal.returns-in-Err
-returns-in-Err g c = record { says = c.stop_of.ensures _ _ c.in-Err.ensures.says }
+pub loop-item-init : goal.loop-item-init
+loop-item-init g c = record { text = grows_none (g.W.Sink.held c.args.out.now); runs = refl }
 
-pub returns-in-Err-write_edge : goal.returns-in-Err-write_edge
-returns-in-Err-write_edge g c = record { says = c.in-Err-write_edge.ensures.says _ }
-
-pub returns-in-Err-write_edge-2 : goal.returns-in-Err-write_edge-2
-returns-in-Err-write_edge-2 g c = record { says = c.in-Err-write_edge-2.ensures.says _ }
+pub loop-item-preserved : goal.loop-item-preserved
+loop-item-preserved g c = record {
+  text = grows_more _ _ _ _ c.loop-item.invariant.text c.in_ok-write_lines.ensures.text;
+  runs = c.in_ok-write_lines.ensures.runs.1 ∙ sym c.in_ok-write_lines.ensures.runs.0 ∙ c.loop-item.invariant.runs;
+}

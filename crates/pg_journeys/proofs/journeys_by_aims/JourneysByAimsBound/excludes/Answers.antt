@@ -1,8 +1,0 @@
-use Rattle.pg_journeys.specs.lemmas.DecidingRounds.{test_is}
-use Rattle.pg_journeys.proofs.journeys_by_aims.JourneysByAimsBound.excludes.Goals as goal
-
-pub returns : goal.returns
-returns c = record {
-  fixed = test_is c.args.diagram.now c.args.position.now c.args.left c.journeys_hold_by.result c.journeys_hold_by.ensures;
-  exact = c.journeys_hold_by.ensures;
-}

@@ -1,0 +1,11 @@
+use Rattle.std.proofs.Common.{◌≡◌}
+use Rattle.std.specs.Io.KnownBytes.{Appends}
+use Rattle.pg_page.specs.Board.{men_text}
+use Rattle.pg_page.proofs.board.write_men.Given as goal
+
+-- the men on the squares so far were appended
+abbrev pub invariant-loop-index : goal.invariant-loop-index
+invariant-loop-index g l = record {
+  text : Appends (g.W.Sink.held l.fn.out) (g.W.Sink.held l.out) (men_text l.board l.index);
+  runs : g.W.Sink.has_failed l.out ≡ g.W.Sink.has_failed l.fn.out;
+}

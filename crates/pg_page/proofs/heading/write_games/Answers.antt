@@ -1,0 +1,18 @@
+use Rattle.std.proofs.Common.{rules}
+use Rattle.std.specs.Prelude.{codes}
+use Rattle.std.specs.Io.KnownBytes.{Appends}
+use Rattle.pg_certificate.specs.Pushing.{AddsSome}
+use Rattle.pg_texts.proofs.OutcomeLemmas.{on_ok}
+use Rattle.pg_page.specs.Heading.{IsGameList}
+use Rattle.pg_page.proofs.HeadLemmas.{list_grows}
+use Rattle.pg_page.proofs.heading.write_games.Goals as goal
+
+pub returns : goal.returns
+returns g c = record {
+  text =
+      on_ok c.push-2.result (Appends (g.W.Sink.held c.write_all.new.out) (g.W.Sink.held c.push-2.new.self) (codes "</ol>\n")) (AddsSome (IsGameList c.args.games.now) (g.W.Sink.held c.args.out.now) (g.W.Sink.held c.push-2.new.self))
+      (list_grows c.args.games.now _ _ _ _ c.in_ok-push.ensures.bytes c.in_ok-write_all.ensures.text)
+      c.push-2.ensures.bytes;
+  runs = search rules;
+  fault = search rules;
+}
