@@ -11,7 +11,9 @@ use pg_certificate::{FromRead, Header, Record, RecordReader, RecordWriter};
 use pg_guide::why;
 use pg_page::page;
 use pg_position::Move;
-use pg_report::{Bound, Captures, Games, PawnFiles, Promotions, ToWrite, run_check, upgrade};
+use pg_report::{
+    Bound, Captures, Games, PawnFiles, Problem, Promotions, ToWrite, run_check, upgrade,
+};
 use pg_travel::{Rows, TravelByRows};
 use std::alloc::Global;
 
@@ -50,6 +52,14 @@ fn sent_of(alloc: Global, game: &Game, found: &Games, bytes: Vec<u8>) -> anyhow:
     })
 }
 
+// The problem that a stranger's texts spell.
+fn problem_of(sent: &Sent) -> Option<Problem> {
+    match Problem::read(sent.diagram.as_str(), sent.length.as_str()) {
+        Ok(problem) => Some(problem),
+        Err(_) => None,
+    }
+}
+
 fn check_sent(
     alloc: Global,
     sent: &Sent,
@@ -84,18 +94,15 @@ fn explain_sent(
 ) -> anyhow::Result<()> {
     let mut moves = String::new(alloc);
     put_line(alloc, line, &mut moves)?;
-    let asked = pg_guide::Asked {
-        diagram: sent.diagram.as_str(),
-        length: sent.length.as_str(),
-        moves: moves.as_str(),
+    let Some(problem) = problem_of(sent) else {
+        return Err(Fault::NoAnswer("problem"))?;
     };
     let mut out = ToWrite::new(Vec::new(alloc));
     let answer = why(
         alloc,
-        &asked,
+        &problem,
+        moves.as_str(),
         bounds,
-        &mut FromRead::new(sent.bytes.as_slice()),
-        &mut FromRead::new(sent.bytes.as_slice()),
         &mut FromRead::new(sent.bytes.as_slice()),
         &mut out,
         RECORDS,
@@ -114,18 +121,15 @@ fn show_sent(
     bounds: &[Box<dyn Bound>],
     digest: &mut Digest,
 ) -> anyhow::Result<()> {
-    let asked = pg_page::Asked {
-        diagram: sent.diagram.as_str(),
-        length: sent.length.as_str(),
-        nodes: PAGE_NODES,
+    let Some(problem) = problem_of(sent) else {
+        return Err(Fault::NoAnswer("problem"))?;
     };
     let mut out = ToWrite::new(Vec::new(alloc));
     let answer = page(
         alloc,
-        &asked,
+        &problem,
+        PAGE_NODES,
         bounds,
-        &mut FromRead::new(sent.bytes.as_slice()),
-        &mut FromRead::new(sent.bytes.as_slice()),
         &mut FromRead::new(sent.bytes.as_slice()),
         &mut out,
         RECORDS,
