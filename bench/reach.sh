@@ -1,8 +1,8 @@
 #!/usr/bin/env bash
 # How far a search reaches, with journeys and without: of problems by chance, 30 of each of five lengths, and of such whose colours have little to
 # spare, 10 of each of three, how many are settled within ten million nodes and a minute of CPU time, the check included. A problem is where a game
-# ends whose moves are drawn by `bench_checks chance SEED MOVES COUNT [SLACK]`, mostly of men who have moved before; with SLACK neither colour is to
-# have more plies to spare than that. Where a search meets a shorter game, the problem is asked for that length. It is settled where a report
+# ends whose moves are drawn by `bench_checks chance SEED MOVES COUNT [SLACK]`, mostly of men who have moved before; with SLACK the bound by journeys
+# excludes all games to it that are shorter by more plies. Where a search meets a shorter game, the problem is asked for that length. It is settled where a report
 # comes, or where the search meets more games than a report has room for, so that the problem is not sound: how many were settled so stands
 # behind a plus. Prints a row for each length, with the words that make its problems. It measures, and holds nothing. `bench/reach.sh MOVES..` does
 # these lengths alone. PG may name the program.

@@ -1,4 +1,4 @@
-# Completions of pg for bash; made by bench/completions.sh.
+# Completions of pg for bash; made by bench/program/completions.sh.
 _pg() {
   local cur=${COMP_WORDS[COMP_CWORD]} before=${COMP_WORDS[COMP_CWORD - 1]} place=1 at
   local commands options valued=" " file_options=" " file_places=" "

@@ -1,4 +1,4 @@
-# Completions of pg for fish; made by bench/completions.sh.
+# Completions of pg for fish; made by bench/program/completions.sh.
 
 # Whether the command is $argv[1].
 function __pg_is

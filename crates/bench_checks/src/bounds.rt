@@ -6,7 +6,7 @@ use pg_board::Color;
 use pg_captures::Bound;
 use pg_fen::{Diagram, FenFault, read_position};
 use pg_position::Position;
-use pg_travel::{Prices, Travel};
+use pg_travel::{Prices, Rows, Travel, prices_exclude_by};
 use std::alloc::Global;
 
 // What one call is given.
@@ -114,6 +114,7 @@ const RAISED: [u8; 16] = [1, 1, 1, 1, 2, 3, 1, 1, 1, 1, 1, 1, 1, 2, 2, 2];
 // What one call of a test of prices is given.
 #[derive(Drop)]
 struct Priced {
+    rows: Rows,
     diagram: Diagram,
     position: Position,
     left: u8,
@@ -136,6 +137,7 @@ fn priced_case(position: &str, left: u8, prices: Prices) -> anyhow::Result<Price
                 left,
             } = case;
             Ok(Priced {
+                rows: Rows::new(&diagram),
                 diagram,
                 position,
                 left,
@@ -164,12 +166,13 @@ fn count_priced(cases: &[Priced]) -> u64 {
     let mut count = 0u64;
     for case in cases {
         let Priced {
+            rows,
             diagram,
             position,
             left,
             prices,
         } = case;
-        if pg_travel::prices_exclude(diagram, position, *left, Color::White, prices) {
+        if prices_exclude_by(rows, diagram, position, *left, Color::White, prices) {
             count = count.saturating_add(1);
         }
     }

@@ -3,23 +3,30 @@
 use crate::fault::Fault;
 use pg_board::SquareSet;
 use pg_fen::{Diagram, Length};
+use pg_journeys::journeys_hold;
 use pg_moves::legal_moves;
 use pg_position::{Move, Position};
-use pg_searcher::slacks;
 use std::alloc::{AllocError, Global};
 
-// How many moves are drawn for a ply at most. The last one is taken where none suits.
+// How many moves are drawn for a ply at most. Where none suits, the last one is taken, or a game of little slack goes
+// back.
 const DRAWS: u8 = 40;
 
-// How many games are begun at most for each problem.
-const GAMES: u64 = 10_000;
+// By how many plies it goes back.
+const BACK: usize = 4;
+
+// How many plies are drawn at most for each problem.
+const DRAWN: u32 = 40_000;
+
+// How many times that is tried at most for each problem.
+const TRIES: u64 = 100;
 
 // What a game by chance is to be.
 #[derive(Clone, Copy)]
 pub(crate) struct Wanted {
     // How many plies it has.
     pub(crate) plies: u8,
-    // How many of its plies either colour is to have to spare at most, from the first move on.
+    // By how many plies a game to where it has come may be shorter, as far as the bound by journeys knows.
     pub(crate) slack: Option<u8>,
 }
 
@@ -49,17 +56,16 @@ fn drawn_move(alloc: Global, position: &Position, state: u64) -> Result<Option<M
     Ok(moves.get(pick as usize).copied())
 }
 
-// Whether either colour has so many plies to spare at most, where so many have led to a position.
-fn is_tight(alloc: Global, position: &Position, plies: u8, most: u8) -> Result<bool, AllocError> {
-    let Some(length) = Length::from_plies(plies) else {
-        return Ok(true);
-    };
-    let leeway = slacks(alloc, &Diagram::of(position), length)?;
-    Ok(leeway.white.unwrap_or(0) <= most && leeway.black.unwrap_or(0) <= most)
+// Whether no game to a position is shorter by more than so many plies, where so many have led to it.
+fn is_tight(position: &Position, plies: u8, most: u8) -> bool {
+    match plies.saturating_sub(most).checked_sub(1) {
+        Some(fewer) => journeys_hold(&Diagram::of(position), &Position::array(), fewer),
+        None => true,
+    }
 }
 
-// Where a game by chance has come to: the state of the chance, the position, none where no move was legal, and the squares of the men
-// who have moved.
+// Where a game by chance has come to: the state of the chance, the position, none where no move was legal or none
+// suited, and the squares of the men who have moved.
 #[derive(Clone, Copy)]
 struct Drawn {
     state: u64,
@@ -67,7 +73,7 @@ struct Drawn {
     men: SquareSet,
 }
 
-// Which moves are taken: those that leave either colour at most so many plies to spare, if any number is told; and where a man is to
+// Which moves are taken: those that leave at most so many plies to spare, if any number is told; and where a man is to
 // go on, those of men who have moved before.
 #[derive(Clone, Copy)]
 struct Rule {
@@ -76,25 +82,19 @@ struct Rule {
 }
 
 // Whether a move that leads to a position, as the ply with this number, is taken where these men have moved before.
-fn suits(
-    alloc: Global,
-    m: &Move,
-    next: &Position,
-    ply: u8,
-    men: SquareSet,
-    rule: Rule,
-) -> Result<bool, AllocError> {
+fn suits(m: &Move, next: &Position, ply: u8, men: SquareSet, rule: Rule) -> bool {
     if rule.goes_on && !men.contains(m.from) {
-        return Ok(false);
+        return false;
     }
     match rule.slack {
-        None => Ok(true),
-        Some(most) => is_tight(alloc, next, ply, most),
+        None => true,
+        Some(most) => is_tight(next, ply, most),
     }
 }
 
-// The position after the first move that is taken of some that are drawn, as the ply with this number, or after the last of them; none
-// where no move is legal. Four times of five a man is to make it who has moved before.
+// The position after the first move that is taken of some that are drawn, as the ply with this number; after the last of
+// them where none is, or none in a game of little slack; none where no move is legal. Four times of five a man is to
+// make it who has moved before.
 fn draw(alloc: Global, from: &Drawn, ply: u8, slack: Option<u8>) -> Result<Drawn, AllocError> {
     let mut to = Drawn {
         state: from.state,
@@ -119,28 +119,52 @@ fn draw(alloc: Global, from: &Drawn, ply: u8, slack: Option<u8>) -> Result<Drawn
         };
         to.position = Some(after);
         to.men = (from.men - SquareSet::single(m.from)) | SquareSet::single(m.to);
-        if suits(alloc, &m, &after, ply, from.men, rule)? {
+        if suits(&m, &after, ply, from.men, rule) {
             return Ok(to);
         }
+    }
+    if slack.is_some() {
+        to.position = None;
     }
     Ok(to)
 }
 
-// Where a game ends whose moves are drawn; none where it ends too early.
+// How many positions of a game stay where it goes back from the ply with this number: the first one, or with little
+// slack all but some.
+fn kept(ply: usize, slack: Option<u8>) -> usize {
+    match slack {
+        Some(_) => ply.saturating_sub(BACK).max(1),
+        None => 1,
+    }
+}
+
+// Where a game ends whose moves are drawn; none where too many were drawn.
 fn end_of(alloc: Global, state: u64, wanted: Wanted) -> Result<Drawn, AllocError> {
-    let mut end = Drawn {
+    let mut last = Drawn {
         state,
         position: Some(Position::array()),
         men: SquareSet::empty(),
     };
-    for before in 0..wanted.plies {
-        if end.position.is_none() {
-            return Ok(end);
+    let mut line = Vec::new(alloc);
+    line.push(last)?;
+    for _ in 0..DRAWN {
+        let ply = line.len();
+        if ply > usize::from(wanted.plies) {
+            return Ok(last);
         }
-        let ply = before.saturating_add(1);
-        end = draw(alloc, &end, ply, wanted.slack)?;
+        last = draw(alloc, &last, ply as u8, wanted.slack)?;
+        if last.position.is_some() {
+            line.push(last)?;
+        } else {
+            line.truncate(kept(ply, wanted.slack));
+            last = Drawn {
+                state: last.state,
+                ..line.last().copied().unwrap_or(last)
+            };
+        }
     }
-    Ok(end)
+    last.position = None;
+    Ok(last)
 }
 
 // Prints so many problems, a diagram and a length each.
@@ -159,7 +183,7 @@ pub(crate) fn print_problems(
         .wrapping_mul(0x9e37_79b9_7f4a_7c15)
         .max(1);
     let mut printed = 0u64;
-    for _ in 0..count.saturating_mul(GAMES) {
+    for _ in 0..count.saturating_mul(TRIES) {
         if printed >= count {
             return Ok(());
         }

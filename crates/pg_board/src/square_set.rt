@@ -3,7 +3,7 @@ ghost use Rattle.std.specs.Prelude.{◌≡◌, ℕ, ◌+◌, ◌<◌, ◌≤◌,
 ghost use Rattle.std.specs.Prelude.{MatchOption, cond, true, false, bit_and, bit_or, count_ones};
 ghost use Rattle.std.specs.Int.{bit_not, w64};
 ghost use Rattle.pg_board.specs.Bits.{has};
-ghost use Rattle.pg_board.specs.Squares.{is_dark, is_light};
+ghost use Rattle.pg_board.specs.Squares.{file, is_dark, is_light, rank};
 ghost use Rattle.pg_board.specs.SquareSets.{IsSetOf, Meet, HasNoneFrom, IsFirstFrom, IsLastIn};
 ghost use Rattle.pg_board.specs.Tally.{count_below};
 
@@ -63,6 +63,34 @@ impl SquareSet {
     {
         SquareSet {
             bits: 0xaa55_aa55_aa55_aa55,
+        }
+    }
+
+    /// The squares of the rank with this number; none where it is not one of 1 to 8.
+    #[inline(always)]
+    pub fn of_rank(number: u8) -> SquareSet
+        ensures { IsSetOf result (λ q. rank q ≡ number) }
+    {
+        if number >= 1 && number <= 8 {
+            SquareSet {
+                bits: 0xffu64 << (8 * (number - 1)),
+            }
+        } else {
+            SquareSet::empty()
+        }
+    }
+
+    /// The squares of the file with this number, 1 for a to 8 for h; none where it is another.
+    #[inline(always)]
+    pub fn of_file(number: u8) -> SquareSet
+        ensures { IsSetOf result (λ q. file q ≡ number) }
+    {
+        if number >= 1 && number <= 8 {
+            SquareSet {
+                bits: 0x0101_0101_0101_0101u64 << (number - 1),
+            }
+        } else {
+            SquareSet::empty()
         }
     }
 

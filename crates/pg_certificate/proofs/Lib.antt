@@ -10,3 +10,4 @@ pub mod RecordLaws
 pub mod PricedLemmas
 pub mod HeaderLemmas
 pub mod HeaderLaws
+pub mod GrowingLemmas

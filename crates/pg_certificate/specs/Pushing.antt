@@ -10,6 +10,10 @@ Adds text before after = Appends before after text
 abbrev pub AddsSome : (List ℕ → Type 0) → Option (List ℕ) → Option (List ℕ) → Type 0
 AddsSome Is before after = (text : List ℕ) × Is text × Appends before after text
 
+-- some text is appended to what a sink held
+unfoldable pub Grows : Option (List ℕ) → Option (List ℕ) → Type 0
+Grows before after = (text : List ℕ) × Appends before after text
+
 -- what any call says that pushes at least once, by what the sink tells that it holds and
 -- whether it has failed, the sink before and after the call, and what the call answers
 pub record Pushes {W A E : Type 0} (held : W → Option (List ℕ)) (has_failed : W → Bool)

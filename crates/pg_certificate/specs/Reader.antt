@@ -65,3 +65,14 @@ pub record IsCall {S A : Type 0} (has_failed : S → Bool) (old new : ReaderStat
   pub few : length new.held ≤ 4096
   -- a reader that had refused leaves the source as it is
   pub untouched : old.failed ≡ true → source_new ≡ source_old
+
+-- what any call of a reader says that reads the bytes to come so, its answer seen by view, by one version from first
+-- to last, and pulls at most n bytes and one buffer more than it reads
+pub record Pulls {S A B : Type 0} (left : S → Option (List ℕ)) (has_failed : S → Bool) (view : A → B)
+    (reading : List ℕ → Result (B × List ℕ) ReadFault) (n : ℕ) (old new : ReaderState) (source_old source_new : S)
+    (result : Result A ReadFault)
+    : Type 0 where
+  pub bytes : ReadsAs view reading (to_come old (left source_old)) (to_come new (left source_new)) result
+  pub call : IsCall has_failed old new source_old source_new result
+  pub most : PullsAtMost n (to_come old (left source_old)) (left source_new) result
+  pub version : new.version ≡ old.version

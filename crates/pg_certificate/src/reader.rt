@@ -8,7 +8,7 @@ ghost use Rattle.pg_certificate.specs.Spelling.{IsHeader, IsRecord, IsRecordOf, 
 ghost use Rattle.pg_certificate.specs.Reading.{more_at, byte_at, byte_from, exactly, number_at, outline_at, lists_at};
 ghost use Rattle.pg_certificate.specs.Reading.{priced_at, header_at, record_at, end_at};
 ghost use Rattle.pg_certificate.specs.inner.Outlines.{IsOutline, AreListsOf, outline_spelling, lists_spelling};
-ghost use Rattle.pg_certificate.specs.Reader.{to_come, Reads, ReadsAs, IsCall, PullsAtMost};
+ghost use Rattle.pg_certificate.specs.Reader.{to_come, Reads, ReadsAs, IsCall, Pulls, PullsAtMost};
 
 use crate::fault::ReadFault;
 use crate::format::{
@@ -256,16 +256,12 @@ impl RecordReader {
     // Pulls once, where nothing is held, and answers whether a byte came.
     fn fill<S: Source>(&mut self, source: &mut S) -> Result<bool, ReadFault>
         requires { self.old.held ≡ [] }
-        ensures bytes { Reads more_at
-            (to_come self.old (S.left source.old)) (to_come self.new (S.left source.new)) result }
+        ensures reads { Pulls S.left S.has_failed (λ x. x) more_at 0 self.old self.new source.old source.new result }
         ensures kept { OnOk result (Keeps
             (to_come self.old (S.left source.old)) (to_come self.new (S.left source.new))) }
         ensures end { IfOk result (λ more. more ≡ false → IsAtEnd (to_come self.new (S.left source.new))) }
-        ensures call { IsCall S.has_failed self.old self.new source.old source.new result }
         ensures runs { OnOk result (S.has_failed source.new ≡ false) }
-        ensures pulls { PullsAtMost 0 (to_come self.old (S.left source.old)) (S.left source.new) result }
         ensures held { IfOk result (λ more. IsTrue more ↔ 0 < length self.new.held) }
-        ensures version { self.new.version ≡ self.old.version }
     {
         if self.failed {
             return Err(ReadFault::Failed);
@@ -285,14 +281,10 @@ impl RecordReader {
 
     // Reads one byte.
     fn byte<S: Source>(&mut self, source: &mut S) -> Result<u8, ReadFault>
-        ensures bytes { Reads byte_at
-            (to_come self.old (S.left source.old)) (to_come self.new (S.left source.new)) result }
+        ensures reads { Pulls S.left S.has_failed (λ x. x) byte_at 1 self.old self.new source.old source.new result }
         ensures text { IfOk result (λ b. Consumes
             (to_come self.old (S.left source.old)) (to_come self.new (S.left source.new))
             (b ∷ [])) }
-        ensures call { IsCall S.has_failed self.old self.new source.old source.new result }
-        ensures pulls { PullsAtMost 1 (to_come self.old (S.left source.old)) (S.left source.new) result }
-        ensures version { self.new.version ≡ self.old.version }
     {
         if self.start < self.end {
             return Ok(self.pop());
@@ -307,15 +299,11 @@ impl RecordReader {
     // Reads so many bytes.
     fn exact<S: Source>(&mut self, out: &mut [u8], source: &mut S) -> Result<(), ReadFault>
         requires { 0 < length out.old }
-        ensures bytes { ReadsAs (λ _. out.new) (exactly (length out.old))
-            (to_come self.old (S.left source.old)) (to_come self.new (S.left source.new)) result }
+        ensures reads { Pulls S.left S.has_failed (λ _. out.new) (exactly (length out.old)) (length out.old)
+            self.old self.new source.old source.new result }
         ensures text { OnOk result (Consumes
             (to_come self.old (S.left source.old)) (to_come self.new (S.left source.new)) out.new) }
         ensures fits { OnOk result ((k : ℕ) → k < length out.new → slice_index out.new k < 2 ^ 8) }
-        ensures call { IsCall S.has_failed self.old self.new source.old source.new result }
-        ensures pulls { PullsAtMost (length out.old)
-            (to_come self.old (S.left source.old)) (S.left source.new) result }
-        ensures version { self.new.version ≡ self.old.version }
     {
         if out.len() <= self.end - self.start {
             self.take(out);
@@ -329,14 +317,10 @@ impl RecordReader {
 
     // Reads a number of four bytes, most significant byte first.
     fn number<S: Source>(&mut self, source: &mut S) -> Result<u32, ReadFault>
-        ensures bytes { Reads number_at
-            (to_come self.old (S.left source.old)) (to_come self.new (S.left source.new)) result }
+        ensures reads { Pulls S.left S.has_failed (λ x. x) number_at 4 self.old self.new source.old source.new result }
         ensures text { IfOk result (λ n. Consumes
             (to_come self.old (S.left source.old)) (to_come self.new (S.left source.new))
             (to_be_bytes w32 n)) }
-        ensures call { IsCall S.has_failed self.old self.new source.old source.new result }
-        ensures pulls { PullsAtMost 4 (to_come self.old (S.left source.old)) (S.left source.new) result }
-        ensures version { self.new.version ≡ self.old.version }
     {
         let mut bytes = [0; NUMBER_LENGTH];
         self.exact(&mut bytes, source)?;
@@ -346,15 +330,12 @@ impl RecordReader {
     // Reads one byte, from the least to the most that may stand there. UnknownRecord at any other.
     #[inline(always)]
     fn byte_from<S: Source>(&mut self, least: u8, most: u8, source: &mut S) -> Result<u8, ReadFault>
-        ensures bytes { Reads (byte_from least most)
-            (to_come self.old (S.left source.old)) (to_come self.new (S.left source.new)) result }
+        ensures reads { Pulls S.left S.has_failed (λ x. x) (byte_from least most) 1
+            self.old self.new source.old source.new result }
         ensures text { IfOk result (λ b. Consumes
             (to_come self.old (S.left source.old)) (to_come self.new (S.left source.new))
             (b ∷ [])) }
         ensures within { IfOk result (λ b. (least ≤ b) × (b ≤ most)) }
-        ensures call { IsCall S.has_failed self.old self.new source.old source.new result }
-        ensures pulls { PullsAtMost 1 (to_come self.old (S.left source.old)) (S.left source.new) result }
-        ensures version { self.new.version ≡ self.old.version }
     {
         let byte = self.byte(source)?;
         if byte < least || most < byte {
@@ -366,15 +347,11 @@ impl RecordReader {
 
     // Reads what stands before the price lists of a record.
     fn outline<S: Source>(&mut self, source: &mut S) -> Result<Outline, ReadFault>
-        ensures bytes { Reads outline_at
-            (to_come self.old (S.left source.old)) (to_come self.new (S.left source.new)) result }
+        ensures reads { Pulls S.left S.has_failed (λ x. x) outline_at 5 self.old self.new source.old source.new result }
         ensures text { IfOk result (λ o. Consumes
             (to_come self.old (S.left source.old)) (to_come self.new (S.left source.new))
             (outline_spelling o)) }
         ensures fits { IfOk result (λ o. IsOutline o) }
-        ensures call { IsCall S.has_failed self.old self.new source.old source.new result }
-        ensures pulls { PullsAtMost 5 (to_come self.old (S.left source.old)) (S.left source.new) result }
-        ensures version { self.new.version ≡ self.old.version }
     {
         let code = self.byte(source)?;
         let color = self.byte_from(0, 1, source)?;
@@ -444,17 +421,13 @@ impl RecordReader {
     #[inline(never)]
     fn priced<S: Source>(&mut self, prices: &mut Prices, source: &mut S) -> Result<Bare, ReadFault>
         requires { self.old.failed ≡ false }
-        ensures bytes { ReadsAs (record_of prices.new) priced_at
-            (to_come self.old (S.left source.old)) (to_come self.new (S.left source.new)) result }
+        ensures reads { Pulls S.left S.has_failed (record_of prices.new) priced_at (5 + 3 * (64 + 64))
+            self.old self.new source.old source.new result }
         ensures text { IfOk result (λ x. (l : List ℕ) × (spelling (record_of prices.new x) ≡ 6 ∷ l) × Consumes
             (to_come self.old (S.left source.old)) (to_come self.new (S.left source.new)) l) }
         ensures fits { IfOk result (λ x. IsRecord (record_of prices.new x)) }
         ensures stay { IfOk result (λ x. PricesStay x prices.old prices.new) }
         ensures refused { OnErr result (prices.new ≡ prices.old) }
-        ensures call { IsCall S.has_failed self.old self.new source.old source.new result }
-        ensures pulls { PullsAtMost (5 + 3 * (64 + 64)) (to_come self.old (S.left source.old))
-            (S.left source.new) result }
-        ensures version { self.new.version ≡ self.old.version }
     {
         let outline = self.outline(source)?;
         self.lists(&outline, prices, source)?;

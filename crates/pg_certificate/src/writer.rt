@@ -1,8 +1,8 @@
 //! The header and the records of a certificate, written to a sink.
 ghost use Rattle.std.specs.Prelude.{◌≡◌, ◌<◌, [], ◌∷◌, ◌++◌, length, true, false, OnOk};
-ghost use Rattle.std.specs.Io.KnownBytes.{Appends, Keeps};
+ghost use Rattle.std.specs.Io.KnownBytes.{Keeps};
 ghost use Rattle.pg_certificate.specs.Spelling.{spelling, header_spelling, prices_spelling, IsVersion};
-ghost use Rattle.pg_certificate.specs.Writer.{written, RefusesOnce};
+ghost use Rattle.pg_certificate.specs.Writer.{written, RefusesOnce, Writes};
 ghost use Rattle.pg_certificate.specs.declared.record.Record.TheVariants.{Expand, Cut, Ref};
 
 use crate::fault::WriteFault;
@@ -58,11 +58,7 @@ impl RecordWriter {
     /// Write where the sink has failed. Failed after any refusal.
     pub fn header<W: Sink>(&mut self, header: &Header, sink: &mut W) -> Result<(), WriteFault>
         requires { IsVersion header.now.version }
-        ensures bytes { OnOk result (Appends
-            (written (W.held sink.old) self.old) (written (W.held sink.new) self.new)
-            (header_spelling header.now)) }
-        ensures refuses { RefusesOnce self.old.failed self.new.failed (W.has_failed sink.new) result }
-        ensures untouched { self.old.failed ≡ true → sink.new ≡ sink.old }
+        ensures { Writes W.held W.has_failed (header_spelling header.now) self.old self.new sink.old sink.new result }
     {
         self.bytes(b"PGC", sink)?;
         self.byte(b'0' + header.version, sink)?;
@@ -75,11 +71,7 @@ impl RecordWriter {
     /// # Errors
     /// Write where the sink has failed. Failed after any refusal.
     pub fn put_record<W: Sink>(&mut self, node: &Record, sink: &mut W) -> Result<(), WriteFault>
-        ensures bytes { OnOk result (Appends
-            (written (W.held sink.old) self.old) (written (W.held sink.new) self.new)
-            (spelling node.now)) }
-        ensures refuses { RefusesOnce self.old.failed self.new.failed (W.has_failed sink.new) result }
-        ensures untouched { self.old.failed ≡ true → sink.new ≡ sink.old }
+        ensures { Writes W.held W.has_failed (spelling node.now) self.old self.new sink.old sink.new result }
     {
         match node {
             Record::Expand { named } => self.put_expansion(*named, sink),
@@ -103,11 +95,7 @@ impl RecordWriter {
     /// # Errors
     /// As for `put_record`.
     pub fn put_expansion<W: Sink>(&mut self, named: bool, sink: &mut W) -> Result<(), WriteFault>
-        ensures bytes { OnOk result (Appends
-            (written (W.held sink.old) self.old) (written (W.held sink.new) self.new)
-            (spelling (Expand named))) }
-        ensures refuses { RefusesOnce self.old.failed self.new.failed (W.has_failed sink.new) result }
-        ensures untouched { self.old.failed ≡ true → sink.new ≡ sink.old }
+        ensures { Writes W.held W.has_failed (spelling (Expand named)) self.old self.new sink.old sink.new result }
     {
         match named {
             true => self.byte(NAMED, sink),
@@ -121,11 +109,7 @@ impl RecordWriter {
     /// As for `put_record`.
     #[inline(always)]
     pub fn put_cut<W: Sink>(&mut self, code: u8, sink: &mut W) -> Result<(), WriteFault>
-        ensures bytes { OnOk result (Appends
-            (written (W.held sink.old) self.old) (written (W.held sink.new) self.new)
-            (spelling (Cut code))) }
-        ensures refuses { RefusesOnce self.old.failed self.new.failed (W.has_failed sink.new) result }
-        ensures untouched { self.old.failed ≡ true → sink.new ≡ sink.old }
+        ensures { Writes W.held W.has_failed (spelling (Cut code)) self.old self.new sink.old sink.new result }
     {
         self.byte(CUT, sink)?;
         self.byte(code, sink)
@@ -136,11 +120,7 @@ impl RecordWriter {
     /// # Errors
     /// As for `put_record`.
     pub fn put_reference<W: Sink>(&mut self, number: u32, sink: &mut W) -> Result<(), WriteFault>
-        ensures bytes { OnOk result (Appends
-            (written (W.held sink.old) self.old) (written (W.held sink.new) self.new)
-            (spelling (Ref number))) }
-        ensures refuses { RefusesOnce self.old.failed self.new.failed (W.has_failed sink.new) result }
-        ensures untouched { self.old.failed ≡ true → sink.new ≡ sink.old }
+        ensures { Writes W.held W.has_failed (spelling (Ref number)) self.old self.new sink.old sink.new result }
     {
         self.byte(REF, sink)?;
         self.bytes(&number.to_be_bytes(), sink)
@@ -185,11 +165,7 @@ impl RecordWriter {
 
     // Writes one byte.
     fn byte<W: Sink>(&mut self, byte: u8, sink: &mut W) -> Result<(), WriteFault>
-        ensures bytes { OnOk result (Appends
-            (written (W.held sink.old) self.old) (written (W.held sink.new) self.new)
-            (byte ∷ [])) }
-        ensures refuses { RefusesOnce self.old.failed self.new.failed (W.has_failed sink.new) result }
-        ensures untouched { self.old.failed ≡ true → sink.new ≡ sink.old }
+        ensures { Writes W.held W.has_failed (byte ∷ []) self.old self.new sink.old sink.new result }
     {
         if self.end == CAPACITY {
             self.finish(sink)?;
@@ -201,11 +177,7 @@ impl RecordWriter {
     // Writes bytes one after the other.
     fn bytes<W: Sink>(&mut self, bytes: &[u8], sink: &mut W) -> Result<(), WriteFault>
         requires { 0 < length bytes.now }
-        ensures bytes { OnOk result (Appends
-            (written (W.held sink.old) self.old) (written (W.held sink.new) self.new)
-            bytes.now) }
-        ensures refuses { RefusesOnce self.old.failed self.new.failed (W.has_failed sink.new) result }
-        ensures untouched { self.old.failed ≡ true → sink.new ≡ sink.old }
+        ensures { Writes W.held W.has_failed bytes.now self.old self.new sink.old sink.new result }
     {
         for byte in bytes {
             self.byte(*byte, sink)?;
@@ -216,10 +188,7 @@ impl RecordWriter {
     // Writes numbers, of which there may be none.
     fn numbers<W: Sink>(&mut self, numbers: &[u8], sink: &mut W) -> Result<(), WriteFault>
         requires { self.old.failed ≡ false }
-        ensures bytes { OnOk result (Appends
-            (written (W.held sink.old) self.old) (written (W.held sink.new) self.new)
-            numbers.now) }
-        ensures refuses { RefusesOnce self.old.failed self.new.failed (W.has_failed sink.new) result }
+        ensures { Writes W.held W.has_failed numbers.now self.old self.new sink.old sink.new result }
     {
         if numbers.is_empty() {
             return Ok(());
@@ -230,10 +199,7 @@ impl RecordWriter {
     // Writes how many price lists there are, how many sources and targets each has, and the lists.
     fn prices<W: Sink>(&mut self, prices: &Prices, sink: &mut W) -> Result<(), WriteFault>
         requires { self.old.failed ≡ false }
-        ensures bytes { OnOk result (Appends
-            (written (W.held sink.old) self.old) (written (W.held sink.new) self.new)
-            (prices_spelling prices.now)) }
-        ensures refuses { RefusesOnce self.old.failed self.new.failed (W.has_failed sink.new) result }
+        ensures { Writes W.held W.has_failed (prices_spelling prices.now) self.old self.new sink.old sink.new result }
     {
         self.byte(prices.ways() as u8, sink)?;
         self.byte(prices.sources() as u8, sink)?;

@@ -139,7 +139,8 @@ fn enter<S: Source, W: CheckWatch>(
     ensures says { (listed : List Move → Bool) → Serves (asked question.now.games) machine.new.finds listed
         → Works (rules_for code_of excluded question.now listed) machine.old machine.new
         (S.left source.old) (S.left source.new)
-        (λ r. enter_of r tree child.now.plies (game_at machine.old.stack) (spot_of child.now.spot) (stack_at machine.old.stack)) result }
+        (λ r. enter_of r tree child.now.plies (game_at machine.old.stack) (spot_of child.now.spot)
+        (stack_at machine.old.stack)) result }
     ensures keeps { GoesOn question.now.version machine.old machine.new
         (S.left source.old) (S.left source.new) (S.has_failed source.new) result }
     ensures tells { IfErr result (λ h. StopTells question.now.diagram.now question.now.plies (asked question.now.games)

@@ -31,8 +31,9 @@ use Rattle.pg_cli.specs.declared.checking.Asked.{Asked}
 use Rattle.pg_cli.specs.declared.refusals.Refusal.{Refusal}
 use Rattle.pg_cli.specs.declared.refusals.Refusal.TheVariants.{Check}
 use Rattle.pg_cli.specs.Reasons.{IsAnswerRefusal, IsCheckRefusal, IsFoundRefusal, IsWhyRefusal, IsPageRefusal}
+use Rattle.pg_cli.specs.Causes.{IsSpelled}
 use Rattle.pg_cli.specs.Answers.{IsAnswered, IsAnsweredBySome, IsHandedAnswer, AreAnswered, HasAnswer, HasList}
-use Rattle.pg_cli.specs.Words.{spelled, IsChecked, IsSearched, IsExplained, HasPosition, HasDiagram}
+use Rattle.pg_cli.specs.Words.{spelled, IsChecked, IsSearched, IsExplained, HasPosition}
 
 -- why a report has no status: the sink has failed
 abbrev pub IsUnwritten : Bool → Result ℕ Refusal → Type 0
@@ -109,10 +110,10 @@ pub report_means : (t : Terms) (d : Placement) (n : ℕ) (before after : Option 
 report_means t d n before after (Ok s) h = let a = h.2 in (a.0.games, (a.1.0, (h.0, a.2, h.1)))
 report_means t d n before after (Err r) h = tt
 
-pub answer_means : (d : Placement) (n : ℕ) (result : Result ℕ Refusal)
-    → IfOk result (λ s. HasAnswer d n s) → IfOk result (λ s. IsAnsweredBySome s)
-answer_means d n (Ok s) h = (d, n, h)
-answer_means d n (Err r) h = tt
+pub answer_means : (Names : Placement → ℕ → Type 0) (d : Placement) (n : ℕ) (result : Result ℕ Refusal)
+    → Names d n → IfOk result (λ s. HasAnswer d n s) → IfOk result (λ s. IsAnsweredBySome Names s)
+answer_means Names d n (Ok s) named h = (d, n, named, h)
+answer_means Names d n (Err r) named h = tt
 
 -- what holds is said of an answer too
 pub said_of : {A E : Type 0} (result : Result A E) (P : Type 0) → P → OnOk result P
@@ -133,18 +134,15 @@ check_means rows diagram length games (Ok s) e f h =
     (games, subst (λ (x : List ℕ). AreAnswered x (spelled (codes "LENGTH") rows) games s) e (subst (λ (y : List ℕ). AreAnswered diagram y games s) f h))
 check_means rows diagram length games (Err r) e f h = tt
 
-pub search_means : (rows : List Row) (diagram length : List ℕ) (d : Placement) (n : ℕ) (result : Result ℕ Refusal)
-    → diagram ≡ spelled (codes "DIAGRAM") rows → length ≡ spelled (codes "LENGTH") rows
-    → diagram_of (fields diagram) ≡ Ok d → length_of length ≡ Ok n
+pub search_means : (rows : List Row) (d : Placement) (n : ℕ) (result : Result ℕ Refusal) → IsSpelled rows d n
     → IfOk result (λ status. HasAnswer d n status) → IfOk result (λ status. IsSearched rows status)
-search_means rows diagram length d n (Ok s) e f g h k =
-    (d, n, k.0, ap (λ (x : List ℕ). diagram_of (fields x)) (sym e) ∙ g, ap (λ (x : List ℕ). length_of x) (sym f) ∙ h, k.1)
-search_means rows diagram length d n (Err r) e f g h k = tt
+search_means rows d n (Ok s) w k = (d, n, k.0, w.0, w.1, k.1)
+search_means rows d n (Err r) w k = tt
 
-pub why_means : (d : Placement) (n : ℕ) (result : Result ℕ Refusal)
-    → OnOk result (HasList d n) → IfOk result (λ status. status ≡ 0) → IfOk result (λ status. IsExplained status)
-why_means d n (Ok s) h z = ((d, n, h), z)
-why_means d n (Err r) h z = tt
+pub why_means : (Names : Placement → ℕ → Type 0) (d : Placement) (n : ℕ) (result : Result ℕ Refusal) → Names d n
+    → OnOk result (HasList d n) → IfOk result (λ status. status ≡ 0) → IfOk result (λ status. IsExplained Names status)
+why_means Names d n (Ok s) named h z = ((d, n, named, h), z)
+why_means Names d n (Err r) named h z = tt
 
 -- a text that spells a position, by what else is said of it
 pub position_means : (rows : List Row) (text : List ℕ) (P : Type 0) (result : Result ℕ Refusal)
@@ -168,27 +166,3 @@ flag_told f name text wanted b e h =
 pub flag_missing : (f : Found) (name wanted : Text) → None ≡ first_value f name → IsTrue false ↔ (first_of name (rows_of f) ≡ Some wanted)
 flag_missing f name wanted e =
     (λ h. absurd (let z : false ≡ true = h in cc), λ g. absurd (let z : None ≡ Some wanted = word_or_none f name None e ∙ g in cc))
-
--- a text that spells a diagram, where no length is given
-pub diagram_means : (rows : List Row) (text : List ℕ) (X : Placement → Type 0) (result : Result ℕ Refusal)
-    → text ≡ spelled (codes "DIAGRAM") rows → None ≡ first_of (codes "LENGTH") rows
-    → OnOk result ((d : Placement) × (diagram_of (fields text) ≡ Ok d) × X d) → IfOk result (λ s. s ≡ 0)
-    → IfOk result (λ s. HasDiagram rows s)
-diagram_means rows text X (Ok s) e f h z = (
-  (h.0, ap (λ (x : List ℕ). diagram_of (fields x)) (sym e) ∙ h.1),
-  subst (λ (o : Option (List ℕ)). IfSome o (λ length. (n : ℕ) × (length_of length ≡ Ok n))) f tt,
-  z,
-)
-diagram_means rows text X (Err r) e f h z = tt
-
--- and where one is
-pub within_means : (rows : List Row) (text length : List ℕ) (X : Placement → ℕ → Type 0) (result : Result ℕ Refusal)
-    → text ≡ spelled (codes "DIAGRAM") rows → Some length ≡ first_of (codes "LENGTH") rows
-    → OnOk result ((d : Placement) × (n : ℕ) × (diagram_of (fields text) ≡ Ok d) × (length_of length ≡ Ok n) × X d n)
-    → IfOk result (λ s. s ≡ 0) → IfOk result (λ s. HasDiagram rows s)
-within_means rows text length X (Ok s) e f h z = (
-  (h.0, ap (λ (x : List ℕ). diagram_of (fields x)) (sym e) ∙ h.2),
-  subst (λ (o : Option (List ℕ)). IfSome o (λ (t : List ℕ). (n : ℕ) × (length_of t ≡ Ok n))) f (h.1, h.3),
-  z,
-)
-within_means rows text length X (Err r) e f h z = tt

@@ -1,7 +1,7 @@
 -- From why a run has no report to why a command has no status.
 use Rattle.std.proofs.Common.{◌≡◌, ◌∙◌, inl, inr, refl, sym, subst, ap, ℕ, Bool, List, codes}
 use Rattle.std.specs.Prelude.{◌⊎◌, ◌↔◌, Option, Some, None, Result, Ok, Err, IfErr, option_map, unwrap_or}
-use Rattle.clap.specs.Words.{Row, Text, first_of, subcommand_name_of, subcommand_rows_of}
+use Rattle.clap.specs.Words.{Row, Text, subcommand_name_of, subcommand_rows_of}
 use Rattle.clap.specs.declared.parser.matches.ArgMatches.{ArgMatches}
 use Rattle.pg_board.specs.Placement.{Placement}
 use Rattle.pg_position.specs.declared.moves.Move.{Move}
@@ -10,12 +10,13 @@ use Rattle.pg_fen.specs.DiagramText.{diagram_of}
 use Rattle.pg_fen.specs.Lengths.{length_of}
 use Rattle.pg_searcher.specs.declared.fault.SearchFault.{SearchFault}
 use Rattle.pg_searcher.specs.declared.fault.SearchFault.TheVariants as search
+use Rattle.pg_san.specs.Listing.{IsListing}
 use Rattle.pg_checker.specs.ProblemText.{IsProblemFault}
 use Rattle.pg_checker.specs.Terms.{Terms}
 use Rattle.pg_checker.specs.declared.fault.RunFault.{RunFault}
 use Rattle.pg_report.specs.Run.{Failures}
-use Rattle.pg_cli.specs.Causes.{Rules, AreWords, IsSpelled, IsOfFile, IsOfDrafts, IsMovesCause, IsCountCause, IsBoardRefusal, IsShowCause, IsGamesCause, IsCooksCause, IsCheckCause, IsAnswerCause, IsWhyCause, IsPageCause, IsUpgradeCause, IsSearchCause, IsGivenUp, AreMet, IsSearchRefusal, search_refusal, causes, IsCaused}
-use Rattle.pg_cli.specs.Reasons.{IsShowRefusal, IsShowWithinRefusal, IsMovesRefusal, IsCountRefusal, IsGamesRefusal, IsCooksRefusal, IsCheckRefusal, IsAnswerRefusal, IsFoundRefusal, IsWhyRefusal, IsPageRefusal, IsUpgradeRefusal}
+use Rattle.pg_cli.specs.Causes.{Rules, AreWords, IsSpelled, IsOfFile, IsOfDrafts, IsMovesCause, IsCountCause, IsShowCause, AreListed, IsListedCause, IsCheckCause, IsAnswerCause, IsWhyCause, IsPageCause, IsUpgradeCause, IsSearchCause, IsGivenUp, AreMet, IsSearchRefusal, search_refusal, causes, IsCaused}
+use Rattle.pg_cli.specs.Reasons.{IsShowRefusal, IsMovesRefusal, IsCountRefusal, IsCheckRefusal, IsAnswerRefusal, IsFoundRefusal, IsWhyRefusal, IsPageRefusal, IsUpgradeRefusal}
 use Rattle.pg_cli.specs.Words.{spelled, name_of, IsSubcommand}
 use Rattle.pg_cli.specs.declared.checking.Asked.{Asked}
 use Rattle.pg_cli.specs.declared.commands.Command.{Command}
@@ -31,6 +32,10 @@ pub no_problem : (rows : List Row) (diagram length : List ℕ) (fault : RunFault
 no_problem rows diagram length fault e f h =
     subst (λ (x : List ℕ). IsProblemFault x (spelled (codes "LENGTH") rows) fault) e (subst (λ (y : List ℕ). IsProblemFault diagram y fault) f h)
 
+-- what a text is read as, the word that it is, is read as
+pub is_read : {A : Type 0} (read : List ℕ → A) (text word : List ℕ) (r : A) → text ≡ word → r ≡ read text → read word ≡ r
+is_read read text word r e h = ap read (sym e) ∙ sym h
+
 pub is_spelled : (rows : List Row) (diagram length : List ℕ) (d : Placement) (n : ℕ) → diagram ≡ spelled (codes "DIAGRAM") rows
     → length ≡ spelled (codes "LENGTH") rows → diagram_of (fields diagram) ≡ Ok d → length_of length ≡ Ok n → IsSpelled rows d n
 is_spelled rows diagram length d n e f g h = (ap (λ (x : List ℕ). diagram_of (fields x)) (sym e) ∙ g, ap (λ (x : List ℕ). length_of x) (sym f) ∙ h)
@@ -45,29 +50,23 @@ pub count_caused : (rows : List Row) (fen : List ℕ) (plies : ℕ) (failed : Bo
 count_caused rows fen plies failed (Ok s) e h = tt
 count_caused rows fen plies failed (Err r) e h = (plies, failed, subst (λ (x : List ℕ). IsCountRefusal x plies failed r) e h)
 
-pub show_caused : (rows : List Row) (text : List ℕ) (failed : Bool) (result : Result ℕ Refusal) → text ≡ spelled (codes "DIAGRAM") rows
-    → None ≡ first_of (codes "LENGTH") rows → IfErr result (λ r. IsShowRefusal text failed r) → IfErr result (λ r. IsShowCause rows r)
-show_caused rows text failed (Ok s) e f h = tt
-show_caused rows text failed (Err r) e f h =
-    (failed, subst (λ (o : Option (List ℕ)). IsBoardRefusal (spelled (codes "DIAGRAM") rows) o failed r) f (subst (λ (x : List ℕ). IsShowRefusal x failed r) e h))
-
-pub within_caused : (rows : List Row) (text length : List ℕ) (failed : Bool) (result : Result ℕ Refusal) → text ≡ spelled (codes "DIAGRAM") rows
-    → Some length ≡ first_of (codes "LENGTH") rows → IfErr result (λ r. IsShowWithinRefusal text length failed r)
-    → IfErr result (λ r. IsShowCause rows r)
-within_caused rows text length failed (Ok s) e f h = tt
-within_caused rows text length failed (Err r) e f h =
-    (failed, subst (λ (o : Option (List ℕ)). IsBoardRefusal (spelled (codes "DIAGRAM") rows) o failed r) f (subst (λ (x : List ℕ). IsShowWithinRefusal x length failed r) e h))
+pub show_caused : (rows : List Row) (failed : Bool) (result : Result ℕ Refusal)
+    → IfErr result (λ r. IsShowRefusal rows failed r) → IfErr result (λ r. IsShowCause rows r)
+show_caused rows failed (Ok s) h = tt
+show_caused rows failed (Err r) h = (failed, h)
 
 -- ---- lists and certificates
-pub games_caused : (rows : List Row) (asked : Asked) (failed : Bool) (result : Result ℕ Refusal) → AreWords rows asked.diagram.now asked.length.now
-    → IfErr result (λ r. IsGamesRefusal asked failed r) → IfErr result (λ r. IsGamesCause rows r)
-games_caused rows asked failed (Ok s) w h = tt
-games_caused rows asked failed (Err r) w h = inr (asked, failed, w, h)
+-- a text of games, by the bytes that are given
+pub listed : (rows : List Row) (text given : List ℕ) (d : Placement) (n : ℕ) (list : List (List Move)) → text ≡ given
+    → IsSpelled rows d n → IsListing text list → AreListed rows given d n list
+listed rows text given d n list e w h =
+    record { diagram_is = w.0; length_is = w.1; games_are = subst (λ (t : List ℕ). IsListing t list) e h }
 
-pub cooks_caused : (rows : List Row) (asked : Asked) (failed : Bool) (result : Result ℕ Refusal) → AreWords rows asked.diagram.now asked.length.now
-    → IfErr result (λ r. IsCooksRefusal asked failed r) → IfErr result (λ r. IsCooksCause rows r)
-cooks_caused rows asked failed (Ok s) w h = tt
-cooks_caused rows asked failed (Err r) w h = inr (asked, failed, w, h)
+pub listed_caused : (Is : Placement → ℕ → List (List Move) → Bool → Refusal → Type 0) (rows : List Row) (text : List ℕ)
+    (d : Placement) (n : ℕ) (list : List (List Move)) (failed : Bool) (result : Result ℕ Refusal)
+    → AreListed rows text d n list → IfErr result (λ r. Is d n list failed r) → IfErr result (λ r. IsListedCause Is rows r)
+listed_caused Is rows text d n list failed (Ok s) w h = tt
+listed_caused Is rows text d n list failed (Err r) w h = inr (text, inr (d, n, list, failed, w, h))
 
 pub check_caused : (rows : List Row) (asked : Asked) (t : Terms) (failed : Failures) (result : Result ℕ Refusal)
     → AreWords rows asked.diagram.now asked.length.now → IfErr result (λ r. IsCheckRefusal t asked failed r)
@@ -114,14 +113,11 @@ pub ended : (rules : Rules) (d : Placement) (n : ℕ) (before after : Refusal) �
 ended rules d n before after (inl e) h = inr (subst (λ (r : Refusal). IsSearchRefusal rules d n r) (sym e) h)
 ended rules d n before after (inr k) h = inl (inr k)
 
-pub search_caused : (rules : Rules) (rows : List Row) (diagram length : List ℕ) (d : Placement) (n : ℕ) (result : Result ℕ Refusal)
-    → diagram ≡ spelled (codes "DIAGRAM") rows → length ≡ spelled (codes "LENGTH") rows
-    → diagram_of (fields diagram) ≡ Ok d → length_of length ≡ Ok n
-    → IfErr result (λ r. IsOfDrafts r ⊎ IsSearchRefusal rules d n r) → IfErr result (λ r. IsSearchCause rules rows r)
-search_caused rules rows diagram length d n (Ok s) e f g h k = tt
-search_caused rules rows diagram length d n (Err r) e f g h (inl k) = inl k
-search_caused rules rows diagram length d n (Err r) e f g h (inr k) =
-    inr (inr (d, n, is_spelled rows diagram length d n e f g h, k))
+pub search_caused : (rules : Rules) (rows : List Row) (d : Placement) (n : ℕ) (result : Result ℕ Refusal)
+    → IsSpelled rows d n → IfErr result (λ r. IsOfDrafts r ⊎ IsSearchRefusal rules d n r) → IfErr result (λ r. IsSearchCause rules rows r)
+search_caused rules rows d n (Ok s) w k = tt
+search_caused rules rows d n (Err r) w (inl k) = inl k
+search_caused rules rows d n (Err r) w (inr k) = inr (inr (d, n, w, k))
 
 -- ---- copying
 pub upgrade_caused : (most : ℕ) (known : Option (List ℕ)) (source out : Bool) (r : Refusal)

@@ -3,6 +3,7 @@ use Rattle.std.proofs.Common.{◌≡◌, ◌∙◌, ℕ, List, ◌+◌, ◌*◌,
 use Rattle.std.specs.Prelude.{◌↔◌, Option, Some, Result, Ok, Err, IfOk, option_map, unwrap_or}
 use Rattle.clap.specs.Words.{Row, Text, subcommand_name_of, subcommand_rows_of}
 use Rattle.clap.specs.declared.parser.matches.ArgMatches.{ArgMatches}
+use Rattle.pg_board.specs.Placement.{Placement}
 use Rattle.pg_cli.specs.Words.{name_of, says, IsMeant, IsSubcommand}
 use Rattle.pg_cli.specs.declared.commands.Command.{Command}
 use Rattle.pg_cli.specs.declared.commands.Command.TheVariants.{Show, Moves, Count, Games, Cooks, Check, Answer, Search, Judge, Why, Page, Upgrade}
@@ -41,11 +42,11 @@ is_named name k n command = (
 )
 
 -- what is said of the command is said of what its name asks for
-pub is_meant : (name : Text) (rows : List Row) (k : Command) (result : Result ℕ Refusal)
+pub is_meant : (Names : Placement → ℕ → Type 0) (name : Text) (rows : List Row) (k : Command) (result : Result ℕ Refusal)
     → ((command : Command) → (Some k ≡ Some command) ↔ (name ≡ name_of command))
-    → IfOk result (λ s. says k rows s) → IfOk result (λ s. IsMeant name rows s)
-is_meant name rows k (Ok s) f h = λ command e. subst (λ (c : Command). says c rows s) (the_one k command ((f command).1 e)) h
-is_meant name rows k (Err x) f h = tt
+    → IfOk result (λ s. says Names k rows s) → IfOk result (λ s. IsMeant Names name rows s)
+is_meant Names name rows k (Ok s) f h = λ command e. subst (λ (c : Command). says Names c rows s) (the_one k command ((f command).1 e)) h
+is_meant Names name rows k (Err x) f h = tt
 
 -- what is said of the command that was taken out is said of the one that the words name
 pub carried : (words : ArgMatches) (name : Text) (rows : List Row) (P : Text → List Row → ℕ → Type 0) (result : Result ℕ Refusal)

@@ -1,23 +1,35 @@
--- Where a diagram is shown and the rest of the text is refused, the sink has failed.
-use Rattle.std.proofs.Common.{◌≡◌, ℕ, List, Bool, true, subst, sym}
-use Rattle.std.specs.Prelude.{Result, Ok, Err, IfErr}
+-- What the words of `pg show` spell, and why a diagram that was read is not shown.
+use Rattle.std.proofs.Common.{◌≡◌, ◌⊎◌, inl, inr, ap, ℕ, Bool, true, List}
+use Rattle.std.specs.Prelude.{Option, Some, None, IfSome, Result, Ok, Err, IfOk, IfErr, OnOk, codes}
+use Rattle.clap.specs.Words.{Row, Text, first_of}
 use Rattle.pg_board.specs.Placement.{Placement}
-use Rattle.pg_fen.specs.Fields.{fields}
-use Rattle.pg_fen.specs.DiagramText.{diagram_of}
 use Rattle.pg_fen.specs.Lengths.{length_of}
-use Rattle.pg_report.specs.declared.fault.ShowFault.TheVariants.{Write}
-use Rattle.pg_cli.specs.Reasons.{IsShowRefusal, IsShowWithinRefusal}
+use Rattle.pg_report.specs.declared.fault.ShowFault.{ShowFault}
+use Rattle.pg_report.specs.declared.fault.ShowFault.TheVariants.{Memory, Write}
+use Rattle.pg_cli.specs.Reasons.{IsShowRefusal, IsUnshown}
+use Rattle.pg_cli.specs.Words.{HasDiagram, IsAsked, SpellsBoard}
 use Rattle.pg_cli.specs.declared.refusals.Refusal.{Refusal}
 use Rattle.pg_cli.specs.declared.refusals.Refusal.TheVariants.{Show}
 
-pub board_unwritten : (text : List ℕ) (failed : Bool) (X : Placement → Type 0) (result : Result ℕ Refusal)
-    → (d : Placement) × (diagram_of (fields text) ≡ Ok d) × X d → IfErr result (λ r. (r ≡ Show Write) × (failed ≡ true))
-    → IfErr result (λ r. IsShowRefusal text failed r)
-board_unwritten text failed X (Ok n) h g = tt
-board_unwritten text failed X (Err r) h g = subst (λ (x : Refusal). IsShowRefusal text failed x) (sym g.0) ((h.0, h.1), g.1)
+-- the length that is asked is one that the word spells
+length_given : (word : Option Text) (asked : Option ℕ) → IsAsked word asked → IfSome word (λ text. (n : ℕ) × (length_of text ≡ Ok n))
+length_given None None h = tt
+length_given None (Some n) h = tt
+length_given (Some text) None h = absurd h
+length_given (Some text) (Some n) h = (n, h)
 
-pub spare_unwritten : (text length : List ℕ) (failed : Bool) (X : Placement → ℕ → Type 0) (result : Result ℕ Refusal)
-    → (d : Placement) × (n : ℕ) × (diagram_of (fields text) ≡ Ok d) × (length_of length ≡ Ok n) × X d n
-    → IfErr result (λ r. (r ≡ Show Write) × (failed ≡ true)) → IfErr result (λ r. IsShowWithinRefusal text length failed r)
-spare_unwritten text length failed X (Ok n) h g = tt
-spare_unwritten text length failed X (Err r) h g = subst (λ (x : Refusal). IsShowWithinRefusal text length failed x) (sym g.0) ((h.0, h.1, h.2, h.3), g.1)
+pub show_means : (rows : List Row) (X : Placement → Option ℕ → Type 0) (result : Result ℕ Refusal)
+    → OnOk result ((d : Placement) × (asked : Option ℕ) × SpellsBoard rows d asked × X d asked) → IfOk result (λ s. s ≡ 0)
+    → IfOk result (λ s. HasDiagram rows s)
+show_means rows X (Ok s) h z = ((h.0, h.2.0), length_given (first_of (codes "LENGTH") rows) h.1 h.2.1, z)
+show_means rows X (Err r) h z = tt
+
+pub unshown : {P : Type 0} (failed : Bool) (fault : ShowFault) → ((fault ≡ Memory) × P) ⊎ ((fault ≡ Write) × (failed ≡ true))
+    → IsUnshown failed (Show fault)
+unshown failed fault (inl h) = inl (ap (λ (x : ShowFault). Show x) h.0)
+unshown failed fault (inr h) = inr (ap (λ (x : ShowFault). Show x) h.0, h.1)
+
+pub board_unwritten : (rows : List Row) (d : Placement) (asked : Option ℕ) (failed : Bool) (result : Result ℕ Refusal)
+    → SpellsBoard rows d asked → IfErr result (λ r. (r ≡ Show Write) × (failed ≡ true)) → IfErr result (λ r. IsShowRefusal rows failed r)
+board_unwritten rows d asked failed (Ok n) w g = tt
+board_unwritten rows d asked failed (Err r) w g = inr (d, asked, w, inr g)

@@ -1,7 +1,8 @@
 -- What a run appended to a buffer stands in the sink below it, once all of it is handed on.
 use Rattle.std.proofs.Common.{◌≡◌, ◌∙◌, ℕ, Bool, List, subst}
 use Rattle.std.proofs.KnownBytes.{Appends-kept}
-use Rattle.std.specs.Prelude.{Option, Some, None, Result, Ok, Err, IfOk, OnOk}
+use Rattle.std.specs.Prelude.{Option, Result, Ok, Err, IfOk, OnOk}
+use Rattle.clap.specs.Words.{Row}
 use Rattle.std.specs.Io.KnownBytes.{Keeps, append_known}
 use Rattle.pg_board.specs.Placement.{Placement}
 use Rattle.pg_position.specs.declared.moves.Move.{Move}
@@ -19,7 +20,8 @@ use Rattle.pg_report.specs.Showing.{IsShown}
 use Rattle.pg_cooks.specs.Cooks.{IsCookAnswer, IsCooksReport}
 use Rattle.pg_cooks.specs.declared.finding.CookAnswer.{CookAnswer}
 use Rattle.pg_cli.specs.Knowing.{answer_status}
-use Rattle.pg_cli.specs.Written.{AddsOf, AddsMoves, AddsShown, AddsShownWithin, HasCooksReport}
+use Rattle.pg_cli.specs.Words.{SpellsBoard}
+use Rattle.pg_cli.specs.Written.{AddsOf, AddsMoves, AddsBoard, AddsShown, HasCooksReport}
 use Rattle.pg_cli.specs.declared.checking.Asked.{Asked}
 use Rattle.pg_cli.specs.declared.refusals.Refusal.{Refusal}
 
@@ -60,20 +62,14 @@ module _ {W : Type 0} (held : W → Option (List ℕ)) (old mid new : Gathered W
   count_handed text plies h k =
       (h.0, h.1, h.2, (h.3.0, h.3.1, Appends-kept (held_by held old) (held_by held mid) (held (sink_of new)) _ h.3.2 k))
 
-  -- what is known of a diagram, and with a length
-  pub shown_handed : (by_bounds : Placement → ℕ → Bool) (text : List ℕ) (result : Result ℕ Refusal)
-      → AddsShown by_bounds text (held_by held old) (held_by held mid) → OnOk result IsHanded
-      → OnOk result (AddsShown by_bounds text (held_by held old) (held (sink_of new)))
-  shown_handed by_bounds text (Ok s) h k =
-      (h.0, h.1, (h.2.0, h.2.1, h.2.2, some_handed (IsShown h.0 None h.2.0) h.2.3 k))
-  shown_handed by_bounds text (Err r) h k = tt
-
-  pub within_handed : (by_bounds : Placement → ℕ → Bool) (text length : List ℕ) (result : Result ℕ Refusal)
-      → AddsShownWithin by_bounds text length (held_by held old) (held_by held mid) → OnOk result IsHanded
-      → OnOk result (AddsShownWithin by_bounds text length (held_by held old) (held (sink_of new)))
-  within_handed by_bounds text length (Ok s) h k =
-      (h.0, h.1, h.2, h.3, (h.4.0, h.4.1, h.4.2, some_handed (IsShown h.0 (Some h.1) h.4.0) h.4.3 k))
-  within_handed by_bounds text length (Err r) h k = tt
+  -- what is known of the diagram that words spell, and of the length, where they spell one
+  pub shown_handed : (by_bounds : Placement → ℕ → Bool) (rows : List Row) (d : Placement) (asked : Option ℕ)
+      (result : Result ℕ Refusal) → SpellsBoard rows d asked
+      → AddsBoard by_bounds d asked (held_by held old) (held_by held mid) → OnOk result IsHanded
+      → OnOk result (AddsShown by_bounds rows (held_by held old) (held (sink_of new)))
+  shown_handed by_bounds rows d asked (Ok s) w h k =
+      (d, asked, w, (h.0, h.1, h.2, some_handed (IsShown d asked h.0) h.3 k))
+  shown_handed by_bounds rows d asked (Err r) w h k = tt
 
   -- a report of what is asked, whose bytes of a list are these
   pub report_handed : (Is : Placement → ℕ → List (List Move) → List ℕ → Type 0) (asked : Asked) (games : List ℕ)
@@ -86,21 +82,14 @@ module _ {W : Type 0} (held : W → Option (List ℕ)) (old mid new : Gathered W
   report_handed Is asked games (Err r) d n list e h t k = tt
 
   -- the report of what was found beside a list
-  pub cooks_handed : (asked : Asked) (games : List ℕ) (result : Result ℕ Refusal) (d : Placement) (n : ℕ)
-      (list : List (List Move)) (answer : CookAnswer) (status : ℕ) → games ≡ asked.games.now
-      → AreSpelled asked.diagram.now asked.length.now games d n list
-      → IsCookAnswer d n list answer → AddsSome (IsCooksReport d n list answer) (held_by held old) (held_by held mid)
+  pub cooks_handed : (d : Placement) (n : ℕ) (list : List (List Move)) (result : Result ℕ Refusal) (answer : CookAnswer)
+      (status : ℕ) → IsCookAnswer d n list answer
+      → AddsSome (IsCooksReport d n list answer) (held_by held old) (held_by held mid)
       → status ≡ answer_status answer → IfOk result (λ s. s ≡ status) → OnOk result IsHanded
-      → IfOk result (λ s. AddsOf (HasCooksReport s) asked (held_by held old) (held (sink_of new)))
-  cooks_handed asked games (Ok s) d n list answer status e h is t f g k =
-      let all = some_handed (IsCooksReport d n list answer) t k in (
-        d,
-        n,
-        list,
-        subst (λ (x : List ℕ). AreSpelled asked.diagram.now asked.length.now x d n list) e h,
-        (all.0, (answer, is, g ∙ f, all.1), all.2),
-      )
-  cooks_handed asked games (Err r) d n list answer status e h is t f g k = tt
+      → IfOk result (λ s. AddsSome (HasCooksReport s d n list) (held_by held old) (held (sink_of new)))
+  cooks_handed d n list (Ok s) answer status is t f g k =
+      let all = some_handed (IsCooksReport d n list answer) t k in (all.0, (answer, is, g ∙ f, all.1), all.2)
+  cooks_handed d n list (Err r) answer status is t f g k = tt
 
 -- what an answer says tells what else is said of it
 pub tells : (result : Result ℕ Refusal) (P Q : ℕ → Type 0) → ((n : ℕ) → P n → Q n) → IfOk result P → IfOk result Q

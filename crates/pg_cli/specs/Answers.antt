@@ -1,11 +1,12 @@
 -- What the status of a check or a search says, where it comes with a report.
-use Rattle.std.specs.Prelude.{◌≡◌, ℕ, List, Option}
+use Rattle.std.specs.Prelude.{◌≡◌, ℕ, List, Option, IfSome}
 use Rattle.pg_board.specs.Placement.{Placement}
 use Rattle.pg_position.specs.declared.moves.Move.{Move}
 use Rattle.pg_checker.specs.Answer.{IsExactAnswer}
 use Rattle.pg_checker.specs.Terms.{Terms}
 use Rattle.pg_texts.specs.Report.{IsVerdict}
 use Rattle.pg_report.specs.Answering.{IsReported}
+use Rattle.pg_report.specs.Naming.{Begins, IsNamed}
 use Rattle.pg_report.specs.Run.{AreSpelled}
 use Rattle.pg_report.specs.Statuses.{verdict_status}
 use Rattle.pg_texts.specs.declared.verdict.Verdict.{Verdict}
@@ -34,6 +35,10 @@ IsHandedAnswer t d n before after status = (v : Verdict) × (status ≡ verdict_
 abbrev pub HasAnswer : Placement → ℕ → ℕ → Type 0
 HasAnswer d n status = (list : List (List Move)) × IsAnswered d n list status
 
--- so it is for some diagram and some length
-abbrev pub IsAnsweredBySome : ℕ → Type 0
-IsAnsweredBySome status = (d : Placement) × (n : ℕ) × HasAnswer d n status
+-- the bytes of some opened file, where they are known, begin with a header that names this diagram and this length
+abbrev pub IsNamedIn : {F : Type 0} → (F → Option (List ℕ)) → Placement → ℕ → Type 0
+IsNamedIn {F} remaining d n = (file : F) × IfSome (remaining file) (Begins (λ h. IsNamed h d n))
+
+-- so it is for a diagram and a length that are named so
+abbrev pub IsAnsweredBySome : (Placement → ℕ → Type 0) → ℕ → Type 0
+IsAnsweredBySome Names status = (d : Placement) × (n : ℕ) × Names d n × HasAnswer d n status

@@ -1,5 +1,5 @@
 -- Why a command has no status, as far as its words tell: which of them is refused, which file, or so it is for some bytes of it.
-use Rattle.std.specs.Prelude.{◌≡◌, ◌⊎◌, ℕ, ◌<◌, Bool, List, Option, Some, None, Ok, codes, length as length_of_list}
+use Rattle.std.specs.Prelude.{◌≡◌, ◌⊎◌, ℕ, ◌<◌, Bool, List, Option, Some, None, Ok, IsUtf8, codes, length as length_of_list}
 use Rattle.clap.specs.Words.{Row, Text, first_of}
 use Rattle.clap.specs.declared.parser.matches.ArgMatches.{ArgMatches}
 use Rattle.pg_board.specs.Placement.{Placement}
@@ -11,14 +11,18 @@ use Rattle.pg_searcher.specs.declared.fault.SearchFault.{SearchFault}
 use Rattle.pg_searcher.specs.declared.fault.SearchFault.TheVariants as search
 use Rattle.pg_checker.specs.Answer.{AreSolutions}
 use Rattle.pg_checker.specs.Cuts.{CheckRules}
+use Rattle.pg_san.specs.Listing.{IsTextFault}
+use Rattle.pg_san.specs.declared.listing_fault.GamesFault.{GamesFault}
+use Rattle.pg_texts.specs.Spelled.{AreSpelled}
 use Rattle.pg_checker.specs.ProblemText.{IsProblemFault}
+use Rattle.pg_checker.specs.declared.fault.RunFault.TheVariants.{Games}
 use Rattle.pg_checker.specs.Terms.{Terms}
 use Rattle.pg_report.specs.Run.{Failures}
 use Rattle.pg_cooks.specs.Known.{IsListingFault}
 use Rattle.pg_files.specs.declared.faults.FileFault.{FileFault}
 use Rattle.pg_files.specs.declared.faults.Obstacle.TheVariants as obstacle
 use Rattle.pg_files.specs.declared.faults.FileFault.TheVariants as file
-use Rattle.pg_cli.specs.Reasons.{IsShowRefusal, IsShowWithinRefusal, IsMovesRefusal, IsCountRefusal, IsGamesRefusal, IsCooksRefusal, IsCheckRefusal, IsHeaderRefusal, IsAnswerRefusal, IsFoundRefusal, IsWhyRefusal, IsPageRefusal, IsUpgradeRefusal}
+use Rattle.pg_cli.specs.Reasons.{IsShowRefusal, IsMovesRefusal, IsCountRefusal, IsGamesRefusal, IsCooksRefusal, IsCheckRefusal, IsHeaderRefusal, IsAnswerRefusal, IsFoundRefusal, IsWhyRefusal, IsPageRefusal, IsUpgradeRefusal}
 use Rattle.pg_cli.specs.Refusals.{refusal_status}
 use Rattle.pg_cli.specs.Words.{spelled, name_of, IsStatus, IsSubcommand}
 use Rattle.pg_cli.specs.declared.checking.Asked.{Asked}
@@ -28,7 +32,7 @@ use Rattle.pg_cli.specs.declared.refusals.Known.{Known}
 use Rattle.pg_cli.specs.declared.refusals.Named.{Named}
 use Rattle.pg_cli.specs.declared.refusals.Named.TheVariants as named
 use Rattle.pg_cli.specs.declared.refusals.Refusal.{Refusal}
-use Rattle.pg_cli.specs.declared.refusals.Refusal.TheVariants.{Open, Read, Write, Memory, Search, GaveUp, Check}
+use Rattle.pg_cli.specs.declared.refusals.Refusal.TheVariants.{Open, NotUtf8, Read, Write, Memory, Search, GaveUp, Check}
 
 -- ---- files and words
 -- the refusal that a fault of the file is which this word names
@@ -79,15 +83,9 @@ abbrev pub IsCountCause : List Row → Refusal → Type 0
 IsCountCause rows refusal =
     (plies : ℕ) × (failed : Bool) × IsCountRefusal (spelled (codes "FEN") rows) plies failed refusal
 
--- why a diagram is not shown, with a length or without
-abbrev pub IsBoardRefusal : List ℕ → Option (List ℕ) → Bool → Refusal → Type 0
-IsBoardRefusal diagram None failed refusal = IsShowRefusal diagram failed refusal
-IsBoardRefusal diagram (Some length) failed refusal = IsShowWithinRefusal diagram length failed refusal
-
--- why `pg show` has no status: that of DIAGRAM and LENGTH, or standard output has failed
+-- why `pg show` has no status: that of the words, or standard output has failed
 abbrev pub IsShowCause : List Row → Refusal → Type 0
-IsShowCause rows refusal = (failed : Bool)
-    × IsBoardRefusal (spelled (codes "DIAGRAM") rows) (first_of (codes "LENGTH") rows) failed refusal
+IsShowCause rows refusal = (failed : Bool) × IsShowRefusal rows failed refusal
 
 -- ---- a list of games
 -- the list would stand in the file of the certificate: the word
@@ -104,17 +102,32 @@ IsListCause rows refusal = IsOfFile named.Games refusal ⊎ IsOfProblem rows ref
 abbrev pub IsOtherListCause : List Row → Refusal → Type 0
 IsOtherListCause rows refusal = IsNamedTwice rows refusal ⊎ IsListCause rows refusal
 
--- why `pg games` has no status: there is no list; or so it is for some list and the words
-abbrev pub IsGamesCause : List Row → Refusal → Type 0
-IsGamesCause rows refusal = IsListCause rows refusal
-    ⊎ ((asked : Asked) × (failed : Bool) × AreWords rows asked.diagram.now asked.length.now
-    × IsGamesRefusal asked failed refusal)
+-- the words DIAGRAM and LENGTH and this text spell a diagram, a length and a list
+abbrev pub AreListed : List Row → List ℕ → Placement → ℕ → List (List Move) → Type 0
+AreListed rows text d n list =
+    AreSpelled (spelled (codes "DIAGRAM") rows) (spelled (codes "LENGTH") rows) text d n list
 
--- the same of `pg cooks`
+-- these bytes are no text; else the words are no problem; else the text is refused as a list
+abbrev pub IsOfList : List Row → List ℕ → Refusal → Type 0
+IsOfList rows text refusal = ((refusal ≡ NotUtf8) × ¬ IsUtf8 text)
+    ⊎ (IsOfProblem rows refusal
+    ⊎ ((d : Placement) × (n : ℕ) × (fault : GamesFault) × IsSpelled rows d n × (refusal ≡ Check (Games fault))
+    × IsTextFault text fault))
+
+-- why a command on a list has no status: there is none; or for some bytes of it
+-- these or the words are refused; or so it is for the problem and the list that they spell
+abbrev pub IsListedCause : (Placement → ℕ → List (List Move) → Bool → Refusal → Type 0) → List Row → Refusal → Type 0
+IsListedCause Is rows refusal = IsListCause rows refusal
+    ⊎ ((text : List ℕ) × (IsOfList rows text refusal
+    ⊎ ((d : Placement) × (n : ℕ) × (list : List (List Move)) × (failed : Bool) × AreListed rows text d n list
+    × Is d n list failed refusal)))
+
+-- why `pg games` has no status, and `pg cooks`
+abbrev pub IsGamesCause : List Row → Refusal → Type 0
+IsGamesCause rows refusal = IsListedCause IsGamesRefusal rows refusal
+
 abbrev pub IsCooksCause : List Row → Refusal → Type 0
-IsCooksCause rows refusal = IsListCause rows refusal
-    ⊎ ((asked : Asked) × (failed : Bool) × AreWords rows asked.diagram.now asked.length.now
-    × IsCooksRefusal asked failed refusal)
+IsCooksCause rows refusal = IsListedCause IsCooksRefusal rows refusal
 
 -- ---- a certificate
 -- why `pg check` has no status: the certificate is not opened; there is no
@@ -124,23 +137,27 @@ IsCheckCause rules rows refusal = (IsOfFile named.Certificate refusal ⊎ IsOthe
     ⊎ ((asked : Asked) × (t : Terms) × (failed : Failures) × AreWords rows asked.diagram.now asked.length.now
     × (t.rules ≡ rules) × IsCheckRefusal t asked failed refusal)
 
--- why `pg answer` has none: the certificate is not opened; its header names no
--- problem; or so it is for the problem of a header and some bytes of a certificate
+-- why a certificate names no problem: its file is not opened, or its header names none
+abbrev pub IsCertificateCause : Refusal → Type 0
+IsCertificateCause refusal = IsOfFile named.Certificate refusal ⊎ IsHeaderRefusal refusal
+
+-- why `pg answer` has none: the certificate names no problem, or so it is for
+-- the problem of a header and some bytes of a certificate
 abbrev pub IsAnswerCause : Rules → Refusal → Type 0
-IsAnswerCause rules refusal = (IsOfFile named.Certificate refusal ⊎ IsHeaderRefusal refusal)
+IsAnswerCause rules refusal = IsCertificateCause refusal
     ⊎ ((d : Placement) × (n : ℕ) × (t : Terms) × (any : Terms) × (failed : Failures) × (t.rules ≡ rules)
     × IsAnswerRefusal t any d n failed refusal)
 
--- why `pg why` has none: the certificate is not opened; its header names no problem;
--- or so it is for the problem of a header, some bytes of a certificate and the word MOVES
+-- why `pg why` has none: the certificate names no problem, or so it is for
+-- the problem of a header, some bytes of a certificate and the word MOVES
 abbrev pub IsWhyCause : Rules → List Row → Refusal → Type 0
-IsWhyCause rules rows refusal = (IsOfFile named.Certificate refusal ⊎ IsHeaderRefusal refusal)
+IsWhyCause rules rows refusal = IsCertificateCause refusal
     ⊎ ((d : Placement) × (n : ℕ) × (t : Terms) × (any : Terms) × (failed : Failures) × (t.rules ≡ rules)
     × IsWhyRefusal (spelled (codes "MOVES") rows) t any d n failed refusal)
 
 -- the same of `pg page`
 abbrev pub IsPageCause : Rules → Refusal → Type 0
-IsPageCause rules refusal = (IsOfFile named.Certificate refusal ⊎ IsHeaderRefusal refusal)
+IsPageCause rules refusal = IsCertificateCause refusal
     ⊎ ((d : Placement) × (n : ℕ) × (t : Terms) × (any : Terms) × (failed : Failures) × (t.rules ≡ rules)
     × IsPageRefusal t any d n failed refusal)
 
@@ -238,6 +255,6 @@ IsCause rules words refusal =
     (name : Text) (rows : List Row) → IsSubcommand words name rows → IsCaused rules name rows refusal
 
 -- the status with which the command ends that the words name: its own, or that of a refusal for such a cause
-abbrev pub Ends : Rules → ArgMatches → ℕ → Type 0
-Ends rules words status =
-    IsStatus words status ⊎ ((refusal : Refusal) × IsCause rules words refusal × (status ≡ refusal_status refusal))
+abbrev pub Ends : (Placement → ℕ → Type 0) → Rules → ArgMatches → ℕ → Type 0
+Ends Names rules words status =
+    IsStatus Names words status ⊎ ((refusal : Refusal) × IsCause rules words refusal × (status ≡ refusal_status refusal))

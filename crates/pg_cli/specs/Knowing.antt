@@ -32,18 +32,26 @@ answer_status (Cook game) = 1
 answer_status (Shorter game) = 1
 answer_status (NotFound foreign nodes end standing) = standing_status standing
 
+-- the games are solutions, and the status is that of what they show by themselves
+abbrev pub IsTestedWith : Placement → ℕ → List (List Move) → ℕ → Type 0
+IsTestedWith d n list status =
+    AreSolutions d n list × ((s : Standing) × IsStanding list s × (status ≡ standing_status s))
+
+-- the games are solutions, and the status is that of what is found beside them
+abbrev pub IsFollowedWith : Placement → ℕ → List (List Move) → ℕ → Type 0
+IsFollowedWith d n list status =
+    AreSolutions d n list × ((a : CookAnswer) × IsCookAnswer d n list a × (status ≡ answer_status a))
+
 -- the three texts spell a diagram, a length and a list of solutions,
 -- and the status is that of what the list shows by itself
 abbrev pub AreTested : List ℕ → List ℕ → List ℕ → ℕ → Type 0
 AreTested diagram length games status =
     (d : Placement) × (n : ℕ) × (list : List (List Move)) × AreSpelled diagram length games d n list
-    × AreSolutions d n list
-    × ((s : Standing) × IsStanding list s × (status ≡ standing_status s))
+    × IsTestedWith d n list status
 
 -- the three texts spell a diagram, a length and a list of solutions,
 -- and the status is that of what is found beside the list
 abbrev pub AreFollowed : List ℕ → List ℕ → List ℕ → ℕ → Type 0
 AreFollowed diagram length games status =
     (d : Placement) × (n : ℕ) × (list : List (List Move)) × AreSpelled diagram length games d n list
-    × AreSolutions d n list
-    × ((a : CookAnswer) × IsCookAnswer d n list a × (status ≡ answer_status a))
+    × IsFollowedWith d n list status

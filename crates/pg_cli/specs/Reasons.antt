@@ -1,21 +1,26 @@
 -- Why what a command does with bytes has no status: which refusal comes when, as far as the run below says it.
-use Rattle.std.specs.Prelude.{◌≡◌, ◌⊎◌, ℕ, Bool, true, List, Option, IsUtf8}
+use Rattle.std.specs.Prelude.{◌≡◌, ◌⊎◌, ℕ, Bool, true, List, Option, Some, Ok, Err, IsUtf8, codes}
+use Rattle.clap.specs.Words.{Row, first_of}
 use Rattle.pg_board.specs.Placement.{Placement}
 use Rattle.pg_position.specs.declared.moves.Move.{Move}
 use Rattle.pg_checker.specs.Terms.{Terms}
-use Rattle.pg_checker.specs.declared.fault.RunFault.TheVariants.{Games as CheckGames, Write as CheckWrite}
+use Rattle.pg_checker.specs.declared.fault.Fault.TheVariants.{Listed as Unfit}
+use Rattle.pg_checker.specs.declared.fault.RunFault.TheVariants.{Diagram as CheckDiagram, Length as CheckLength, Games as CheckGames, Check as CheckFault, Write as CheckWrite}
+use Rattle.pg_fen.specs.Fields.{fields}
+use Rattle.pg_fen.specs.DiagramText.{diagram_of}
+use Rattle.pg_fen.specs.Lengths.{length_of}
 use Rattle.pg_texts.specs.declared.fault.UpgradeFault.TheVariants.{Write as CopyWrite}
 use Rattle.pg_texts.specs.MovesText.{IsMovesFault}
 use Rattle.pg_texts.specs.CountText.{IsCountRunFault}
 use Rattle.pg_texts.specs.Upgrade.{IsUpgradeFault, upgrade_of}
-use Rattle.pg_report.specs.Showing.{IsShowFault, IsShowWithinFault}
 use Rattle.pg_report.specs.Answering.{IsUnreported}
 use Rattle.pg_report.specs.Naming.{IsUnnamed}
 use Rattle.pg_report.specs.Run.{Failures, IsCheckFault, IsRunFault}
 use Rattle.pg_report.specs.declared.fault.AnswerRunFault.TheVariants.{Answer as Unanswered, Write as ReportWrite}
-use Rattle.pg_cooks.specs.Known.{IsKnownFault}
+use Rattle.pg_report.specs.declared.fault.ShowFault.TheVariants.{Memory as NoMemory, Write as NoWrite}
+use Rattle.pg_cooks.specs.Known.{IsListingFault}
 use Rattle.pg_cooks.specs.Cooks.{IsCooksRunFault}
-use Rattle.pg_cooks.specs.declared.asked.Asked.{Asked as Texts}
+use Rattle.pg_cooks.specs.declared.fault.CooksFault.TheVariants as finding
 use Rattle.pg_cooks.specs.declared.fault.CooksRunFault.{CooksRunFault}
 use Rattle.pg_cooks.specs.declared.fault.CooksRunFault.TheVariants as cooking
 use Rattle.pg_guide.specs.Why.{IsWhyFault}
@@ -24,35 +29,28 @@ use Rattle.pg_guide.specs.declared.fault.WhyFault.TheVariants as why
 use Rattle.pg_page.specs.Page.{IsPageFault}
 use Rattle.pg_page.specs.declared.fault.PageFault.{PageFault}
 use Rattle.pg_page.specs.declared.fault.PageFault.TheVariants as page
+use Rattle.pg_cli.specs.Words.{spelled, SpellsBoard}
 use Rattle.pg_cli.specs.declared.checking.Asked.{Asked}
 use Rattle.pg_cli.specs.declared.refusals.Refusal.{Refusal}
 use Rattle.pg_cli.specs.declared.refusals.Refusal.TheVariants.{NoGame, NotUtf8, Read, Memory, Line as NoLine, Show, Moves, Count, Upgrade, Check, Answer}
 
 -- ---- a list of games
--- the texts are those that are asked, and the bytes of the list are one of them
-abbrev pub AreTexts : Asked → Texts → Type 0
-AreTexts asked texts =
-    (texts.diagram.now ≡ asked.diagram.now) × (texts.length.now ≡ asked.length.now)
-    × (texts.games.now ≡ asked.games.now)
-
--- the bytes of a list that is to be tested are no text; or one of the
--- texts is refused, a listed game is no solution, or the sink has failed
-abbrev pub IsGamesRefusal : Asked → Bool → Refusal → Type 0
-IsGamesRefusal asked failed NotUtf8 = ¬ IsUtf8 asked.games.now
-IsGamesRefusal asked failed (Check fault) = (texts : Texts) × AreTexts asked texts × IsKnownFault texts failed fault
-IsGamesRefusal asked failed refusal = ⊥
+-- a listed game is no solution, or the sink has failed
+abbrev pub IsGamesRefusal : Placement → ℕ → List (List Move) → Bool → Refusal → Type 0
+IsGamesRefusal d n list failed (Check fault) = IsListingFault d n list failed fault
+IsGamesRefusal d n list failed refusal = ⊥
 
 -- the refusal that a fault of a search beside a list is
 abbrev pub cooks_refusal : CooksRunFault → Refusal
-cooks_refusal cooking.NoGame = NoGame
-cooks_refusal cooking.Memory = Memory
-cooks_refusal (cooking.Run fault) = Check fault
+cooks_refusal (cooking.Cooks finding.NoGame) = NoGame
+cooks_refusal (cooking.Cooks finding.Memory) = Memory
+cooks_refusal (cooking.Cooks (finding.Listed fault)) = Check (CheckFault (Unfit fault))
+cooks_refusal cooking.Write = Check CheckWrite
 
--- the bytes of a list that leads a search are no text; or the search of the texts has this fault
-abbrev pub IsCooksRefusal : Asked → Bool → Refusal → Type 0
-IsCooksRefusal asked failed refusal = ((refusal ≡ NotUtf8) × ¬ IsUtf8 asked.games.now)
-    ⊎ ((texts : Texts) × (fault : CooksRunFault) × AreTexts asked texts × (refusal ≡ cooks_refusal fault)
-    × IsCooksRunFault texts failed fault)
+-- the search beside a list has this fault
+abbrev pub IsCooksRefusal : Placement → ℕ → List (List Move) → Bool → Refusal → Type 0
+IsCooksRefusal d n list failed refusal =
+    (fault : CooksRunFault) × (refusal ≡ cooks_refusal fault) × IsCooksRunFault d n list failed fault
 
 -- ---- a certificate
 -- the bytes of the list are no text; or the check has this fault: one of
@@ -122,12 +120,19 @@ abbrev pub IsCountRefusal : List ℕ → ℕ → Bool → Refusal → Type 0
 IsCountRefusal text plies failed (Count fault) = IsCountRunFault text plies failed fault
 IsCountRefusal text plies failed refusal = ⊥
 
--- showing a diagram has this fault
-abbrev pub IsShowRefusal : List ℕ → Bool → Refusal → Type 0
-IsShowRefusal text failed (Show fault) = IsShowFault text failed fault
-IsShowRefusal text failed refusal = ⊥
+-- the word DIAGRAM is refused as a diagram; else LENGTH, which is there, as a length
+abbrev pub IsOfBoard : List Row → Refusal → Type 0
+IsOfBoard rows (Check (CheckDiagram fault)) = diagram_of (fields (spelled (codes "DIAGRAM") rows)) ≡ Err fault
+IsOfBoard rows (Check (CheckLength fault)) =
+    ((d : Placement) × (diagram_of (fields (spelled (codes "DIAGRAM") rows)) ≡ Ok d))
+    × ((text : List ℕ) × (first_of (codes "LENGTH") rows ≡ Some text) × (length_of text ≡ Err fault))
+IsOfBoard rows refusal = ⊥
 
--- showing it with a length has this fault
-abbrev pub IsShowWithinRefusal : List ℕ → List ℕ → Bool → Refusal → Type 0
-IsShowWithinRefusal text length failed (Show fault) = IsShowWithinFault text length failed fault
-IsShowWithinRefusal text length failed refusal = ⊥
+-- memory was refused, or the sink has failed
+abbrev pub IsUnshown : Bool → Refusal → Type 0
+IsUnshown failed refusal = (refusal ≡ Show NoMemory) ⊎ ((refusal ≡ Show NoWrite) × (failed ≡ true))
+
+-- the words are refused; or so it is for what they spell
+abbrev pub IsShowRefusal : List Row → Bool → Refusal → Type 0
+IsShowRefusal rows failed refusal = IsOfBoard rows refusal
+    ⊎ ((d : Placement) × (asked : Option ℕ) × SpellsBoard rows d asked × IsUnshown failed refusal)

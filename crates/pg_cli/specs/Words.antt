@@ -1,5 +1,5 @@
 -- What the words of a command spell, and what its status says of that.
-use Rattle.std.specs.Prelude.{◌≡◌, ◌⊎◌, ℕ, ◌<◌, List, [], Ok, Some, IfSome, codes, option_map, unwrap_or}
+use Rattle.std.specs.Prelude.{◌≡◌, ◌⊎◌, ℕ, ◌<◌, List, [], Ok, Option, Some, None, IfSome, codes, option_map, unwrap_or}
 use Rattle.clap.specs.Words.{Row, Text, first_of, subcommand_name_of, subcommand_rows_of}
 use Rattle.clap.specs.declared.parser.matches.ArgMatches.{ArgMatches}
 use Rattle.pg_board.specs.Placement.{Placement}
@@ -32,10 +32,10 @@ IsSearched rows status =
     × (diagram_of (fields (spelled (codes "DIAGRAM") rows)) ≡ Ok d)
     × (length_of (spelled (codes "LENGTH") rows) ≡ Ok n) × IsAnswered d n list status
 
--- what a status of `pg why` or `pg page` says: to some diagram and some length a list is the exact answer, and the
--- status is 0
-abbrev pub IsExplained : ℕ → Type 0
-IsExplained status = ((d : Placement) × (n : ℕ) × HasList d n) × (status ≡ 0)
+-- what a status of `pg why` or `pg page` says: to a diagram and a length that a header names a list is the exact
+-- answer, and the status is 0
+abbrev pub IsExplained : (Placement → ℕ → Type 0) → ℕ → Type 0
+IsExplained Names status = ((d : Placement) × (n : ℕ) × Names d n × HasList d n) × (status ≡ 0)
 
 -- what a status of `pg games` says: the words DIAGRAM and LENGTH and some text of games spell a diagram, a length
 -- and solutions, the status is that of what these show, and 1 only where no list of one game is the exact answer
@@ -51,6 +51,17 @@ IsFollowed rows status = (status ≡ 1 → AreUnsound (spelled (codes "DIAGRAM")
 -- what a status of `pg moves` or `pg count` says: the word FEN spells a position, and the status is 0
 abbrev pub HasPosition : List Row → ℕ → Type 0
 HasPosition rows status = ((p : State) × SpellsPosition (spelled (codes "FEN") rows) p) × (status ≡ 0)
+
+-- a length is asked where this word is there, and it is the one that the word spells
+abbrev pub IsAsked : Option Text → Option ℕ → Type 0
+IsAsked None None = Unit {0}
+IsAsked (Some text) (Some n) = length_of text ≡ Ok n
+IsAsked word asked = ⊥
+
+-- the word DIAGRAM spells this diagram, and LENGTH, if it is there, the length that is asked
+abbrev pub SpellsBoard : List Row → Placement → Option ℕ → Type 0
+SpellsBoard rows d asked =
+    (diagram_of (fields (spelled (codes "DIAGRAM") rows)) ≡ Ok d) × IsAsked (first_of (codes "LENGTH") rows) asked
 
 -- what a status of `pg show` says: the word DIAGRAM spells a diagram, and LENGTH, if it is there, a length, and the status is 0
 abbrev pub HasDiagram : List Row → ℕ → Type 0
@@ -81,25 +92,26 @@ name_of Why = codes "why"
 name_of Page = codes "page"
 name_of Upgrade = codes "upgrade"
 
--- what a status says of a command with these words
-abbrev pub says : Command → List Row → ℕ → Type 0
-says Show rows status = HasDiagram rows status
-says Moves rows status = HasPosition rows status
-says Count rows status = HasPosition rows status
-says Games rows status = IsTested rows status
-says Cooks rows status = IsFollowed rows status
-says Check rows status = IsChecked rows status
-says Answer rows status = IsAnsweredBySome status
-says Search rows status = IsSearched rows status
-says Judge rows status = status < 3
-says Why rows status = IsExplained status
-says Page rows status = IsExplained status
-says Upgrade rows status = status ≡ 0
+-- what a status says of a command with these words, where `Names` is what the header of a certificate names
+abbrev pub says : (Placement → ℕ → Type 0) → Command → List Row → ℕ → Type 0
+says Names Show rows status = HasDiagram rows status
+says Names Moves rows status = HasPosition rows status
+says Names Count rows status = HasPosition rows status
+says Names Games rows status = IsTested rows status
+says Names Cooks rows status = IsFollowed rows status
+says Names Check rows status = IsChecked rows status
+says Names Answer rows status = IsAnsweredBySome Names status
+says Names Search rows status = IsSearched rows status
+says Names Judge rows status = status < 3
+says Names Why rows status = IsExplained Names status
+says Names Page rows status = IsExplained Names status
+says Names Upgrade rows status = status ≡ 0
 
 -- what a status says of the command with this name, and with these words
-abbrev pub IsMeant : Text → List Row → ℕ → Type 0
-IsMeant name rows status = (command : Command) → name ≡ name_of command → says command rows status
+abbrev pub IsMeant : (Placement → ℕ → Type 0) → Text → List Row → ℕ → Type 0
+IsMeant Names name rows status = (command : Command) → name ≡ name_of command → says Names command rows status
 
 -- what a status says of the command that the words name
-abbrev pub IsStatus : ArgMatches → ℕ → Type 0
-IsStatus words status = (name : Text) (rows : List Row) → IsSubcommand words name rows → IsMeant name rows status
+abbrev pub IsStatus : (Placement → ℕ → Type 0) → ArgMatches → ℕ → Type 0
+IsStatus Names words status =
+    (name : Text) (rows : List Row) → IsSubcommand words name rows → IsMeant Names name rows status

@@ -1,12 +1,10 @@
 -- What a command has written once it has a status: what the sink below its buffer holds, before and after.
-use Rattle.std.specs.Prelude.{◌≡◌, ℕ, Bool, List, ◌++◌, Option, Some, None, Ok, codes}
+use Rattle.std.specs.Prelude.{◌≡◌, ℕ, Bool, List, ◌++◌, Option, codes}
+use Rattle.clap.specs.Words.{Row}
 use Rattle.std.specs.Fmt.{decimal}
 use Rattle.pg_board.specs.Placement.{Placement}
 use Rattle.pg_position.specs.declared.moves.Move.{Move}
 use Rattle.pg_position.specs.declared.state.State.{State}
-use Rattle.pg_fen.specs.Fields.{fields}
-use Rattle.pg_fen.specs.DiagramText.{diagram_of}
-use Rattle.pg_fen.specs.Lengths.{length_of}
 use Rattle.pg_certificate.specs.Pushing.{AddsSome}
 use Rattle.pg_texts.specs.MovesText.{SpellsPosition, IsMovesText}
 use Rattle.pg_texts.specs.Report.{line_text}
@@ -16,6 +14,7 @@ use Rattle.pg_report.specs.Showing.{IsShown}
 use Rattle.pg_cooks.specs.Cooks.{IsCookAnswer, IsCooksReport}
 use Rattle.pg_cooks.specs.declared.finding.CookAnswer.{CookAnswer}
 use Rattle.pg_cli.specs.Knowing.{answer_status}
+use Rattle.pg_cli.specs.Words.{SpellsBoard}
 use Rattle.pg_cli.specs.declared.checking.Asked.{Asked}
 
 -- ---- reports
@@ -47,13 +46,7 @@ AddsBoard by_bounds d asked before after =
     (least : Option ℕ) × NoneBelow d least × IsLeastLength (by_bounds d) d least
     × AddsSome (IsShown d asked least) before after
 
--- the text spells a diagram, and what is known of it is appended
-abbrev pub AddsShown : (Placement → ℕ → Bool) → List ℕ → Option (List ℕ) → Option (List ℕ) → Type 0
-AddsShown by_bounds text before after =
-    (d : Placement) × (diagram_of (fields text) ≡ Ok d) × AddsBoard by_bounds d None before after
-
--- the same of a diagram and a length
-abbrev pub AddsShownWithin : (Placement → ℕ → Bool) → List ℕ → List ℕ → Option (List ℕ) → Option (List ℕ) → Type 0
-AddsShownWithin by_bounds text length before after =
-    (d : Placement) × (n : ℕ) × (diagram_of (fields text) ≡ Ok d) × (length_of length ≡ Ok n)
-    × AddsBoard by_bounds d (Some n) before after
+-- the same of the diagram that the words spell, and of the length, where they spell one
+abbrev pub AddsShown : (Placement → ℕ → Bool) → List Row → Option (List ℕ) → Option (List ℕ) → Type 0
+AddsShown by_bounds rows before after =
+    (d : Placement) × (asked : Option ℕ) × SpellsBoard rows d asked × AddsBoard by_bounds d asked before after

@@ -1,12 +1,13 @@
 //! `pg answer`: the games that a certificate proves are reported, without a list.
 
-ghost use Rattle.std.specs.Prelude.{◌≡◌, IfOk, IfErr};
+ghost use Rattle.std.specs.Prelude.{◌≡◌, IfOk, IfErr, IfSome};
 ghost use Rattle.pg_checker.specs.Cuts.{any_rules_by, rules_by};
 ghost use Rattle.pg_checker.specs.Terms.{terms};
+ghost use Rattle.pg_report.specs.Naming.{Begins, IsNamed};
 ghost use Rattle.pg_report.specs.Run.{failures};
 ghost use Rattle.pg_streams.specs.Buffer.{sink_of};
-ghost use Rattle.pg_cli.specs.Answers.{HasAnswer, IsAnsweredBySome, IsHandedAnswer};
-ghost use Rattle.pg_cli.specs.Causes.{IsAnswerCause};
+ghost use Rattle.pg_cli.specs.Answers.{HasAnswer, IsAnsweredBySome, IsHandedAnswer, IsNamedIn};
+ghost use Rattle.pg_cli.specs.Causes.{IsAnswerCause, IsCertificateCause};
 ghost use Rattle.pg_cli.specs.Reasons.{IsAnswerRefusal, IsHeaderRefusal};
 
 use crate::checking::{RECORDS, finished};
@@ -58,6 +59,7 @@ pub(crate) fn answer_from<S: Source, W: Sink>(
 
 // The problem that the header at the front of a source names.
 fn problem_from<S: Source>(source: &mut S) -> Result<Problem, Refusal>
+    ensures named { IfOk result (λ p. IfSome (S.left source.old) (Begins (λ h. IsNamed h p.diagram p.length))) }
     ensures err { IfErr result (λ refusal. IsHeaderRefusal refusal) }
 {
     match read_problem(source) {
@@ -67,7 +69,8 @@ fn problem_from<S: Source>(source: &mut S) -> Result<Problem, Refusal>
 }
 
 // The problem that the header of a file names. The file is at its start then.
-pub(crate) fn problem_in<F: Read + Seek>(file: &mut F) -> Result<Problem, Refusal>
+fn problem_in<F: Read + Seek>(file: &mut F) -> Result<Problem, Refusal>
+    ensures named { IfOk result (λ p. IfSome (F.remaining file.old) (Begins (λ h. IsNamed h p.diagram p.length))) }
     ensures err { IfErr result (λ refusal. IsHeaderRefusal refusal) }
 {
     let mut source = FromRead::new(&mut *file);
@@ -81,19 +84,39 @@ pub(crate) fn problem_in<F: Read + Seek>(file: &mut F) -> Result<Problem, Refusa
     }
 }
 
-// The diagram that the header of a file names, where there is one.
-pub(crate) fn diagram_in<R: Runtime + AllocGlobal>(rt: &R, path: &str) -> Option<Diagram> {
-    let Ok(mut file) = open_plain(rt, path) else {
-        return None;
+// The certificate of a plain file, at its start, and the problem that its header names.
+//
+// # Errors
+// `Open` where the file is not opened, `Answer` where its header names no problem, and `Read` where it is not brought to
+// its start again.
+pub(crate) fn certificate_of<R: Runtime + AllocGlobal>(
+    rt: &R,
+    name: &str,
+) -> Result<(R::File, Problem), Refusal>
+    ensures named { IfOk result (λ found. IsNamedIn R.File.remaining found.1.diagram found.1.length) }
+    ensures err { IfErr result (λ refusal. IsCertificateCause refusal) }
+{
+    let mut file = match open_plain(rt, name) {
+        Ok(file) => file,
+        Err(fault) => return Err(Refusal::of_file(fault, Named::Certificate)),
     };
     match problem_in(&mut file) {
-        Ok(problem) => Some(problem.diagram),
-        Err(_) => None,
+        Ok(problem) => Ok((file, problem)),
+        Err(refusal) => Err(refusal),
     }
 }
 
+// The diagram that the header of a file names, where there is one.
+pub(crate) fn diagram_in<R: Runtime + AllocGlobal>(rt: &R, path: &str) -> Option<Diagram> {
+    let Ok((_file, problem)) = certificate_of(rt, path) else {
+        return None;
+    };
+    Some(problem.diagram)
+}
+
 // `pg answer`: the certificate of a plain file is read, and the report of its games stands on standard output. A status
-// means that for some diagram and some length a list is the exact answer, and 0 that it has one game.
+// means that to the diagram and the length which its header names a list is the exact answer, and 0 that it has one
+// game.
 #[inline(never)]
 pub(crate) fn answer<R: Runtime + AllocGlobal>(
     rt: &R,
@@ -101,16 +124,12 @@ pub(crate) fn answer<R: Runtime + AllocGlobal>(
     bounds: &[Box<dyn Bound>],
     screen: bool,
 ) -> Result<u8, Refusal>
-    ensures headline { IfOk result (λ status. IsAnsweredBySome status) }
+    ensures headline { IfOk result (λ status. IsAnsweredBySome (IsNamedIn R.File.remaining) status) }
     ensures err { IfErr result (λ refusal. IsAnswerCause (rules_by code_of excluded bounds.now) refusal) }
 {
     let name = text_of(words, "CERT");
-    let mut certificate = match open_plain(rt, name) {
-        Ok(certificate) => certificate,
-        Err(fault) => return Err(Refusal::of_file(fault, Named::Certificate)),
-    };
-    let problem = match problem_in(&mut certificate) {
-        Ok(problem) => problem,
+    let (certificate, problem) = match certificate_of(rt, name) {
+        Ok(found) => found,
         Err(refusal) => return Err(refusal),
     };
     let records = words.get_one::<u64>("records").unwrap_or(RECORDS);

@@ -1,8 +1,7 @@
 //! `pg check`: a certificate is checked for a diagram, a length and a list of games.
 
-ghost use Rattle.std.specs.Prelude.{◌≡◌, ℕ, true, IfOk, IfErr, OnOk};
+ghost use Rattle.std.specs.Prelude.{◌≡◌, true, IfOk, IfErr, OnOk};
 ghost use Rattle.std.specs.Io.KnownBytes.{Keeps};
-ghost use Rattle.pg_board.specs.Placement.{Placement};
 ghost use Rattle.pg_checker.specs.Cuts.{rules_by};
 ghost use Rattle.pg_checker.specs.Terms.{terms};
 ghost use Rattle.pg_checker.specs.declared.fault.RunFault.TheVariants.{Write};
@@ -11,20 +10,18 @@ ghost use Rattle.pg_report.specs.Run.{failures};
 ghost use Rattle.pg_streams.specs.Buffer.{IsHandedOn, sink_of};
 ghost use Rattle.pg_texts.specs.Report.{IsReport};
 ghost use Rattle.pg_cli.specs.Answers.{AreAnswered};
-ghost use Rattle.pg_cli.specs.Causes.{IsCheckCause, IsListCause, IsOfProblem, IsOtherListCause, IsSpelled};
+ghost use Rattle.pg_cli.specs.Causes.{IsCheckCause, IsListCause, IsOtherListCause};
 ghost use Rattle.pg_cli.specs.Reasons.{IsCheckRefusal};
 ghost use Rattle.pg_cli.specs.Words.{IsChecked};
 ghost use Rattle.pg_cli.specs.Written.{AddsOf};
 
 use crate::refusals::{Named, Refusal};
 use crate::screen::Screen;
-use crate::spelling::text_of;
+use crate::spelling::{problem_in, text_of};
 use clap::ArgMatches;
 use pg_certificate::format::MOST_NAMED;
 use pg_files::{INPUT, Obstacle, is_input, lead_to_one, list, open, size_of};
-use pg_report::{
-    Bound, Problem, Refused, RunFault, Sink, Source, ToWrite, run_check, verdict_status,
-};
+use pg_report::{Bound, Refused, RunFault, Sink, Source, ToWrite, run_check, verdict_status};
 use pg_streams::{Cleared, Gathered, Passing, Terminal};
 use std::alloc::Global;
 use std::rt::Runtime;
@@ -101,23 +98,8 @@ pub(crate) fn check_from<S: Source, W: Sink>(
     }
 }
 
-// Says that the games are to be typed. A bad diagram or length is told before.
-fn ask_for_games<R: Runtime + AllocGlobal>(rt: &R, words: &ArgMatches<'_>) -> Result<(), Refusal>
-    ensures spelled { OnOk result ((d : Placement) × (n : ℕ) × IsSpelled (rows_of (found_of words.now)) d n) }
-    ensures err { IfErr result (λ refusal. IsOfProblem (rows_of (found_of words.now)) refusal) }
-{
-    let diagram = text_of(words, "DIAGRAM");
-    let length = text_of(words, "LENGTH");
-    match Problem::read(diagram, length) {
-        Ok(_) => {}
-        Err(fault) => return Err(Refusal::Check(fault)),
-    }
-    let _ = eprintln!(rt; "pg: type the games, one a line; end with Ctrl-D on a line of its own");
-    Ok(())
-}
-
-// The list of games, from a file, or from standard input where its word is missing or `-`. Where somebody is to type it,
-// a bad diagram or length is told before.
+// The list of games, from a file, or from standard input where its word is missing or `-`. Where somebody is to type
+// it, a bad diagram or length is told before.
 pub(crate) fn games_of<R: Runtime + AllocGlobal>(
     rt: &R,
     words: &ArgMatches<'_>,
@@ -127,10 +109,13 @@ pub(crate) fn games_of<R: Runtime + AllocGlobal>(
 {
     let name = words.get_str("GAMES").unwrap_or(INPUT);
     if is_input(name) && screen.input {
-        match ask_for_games(rt, words) {
-            Ok(()) => {}
+        match problem_in(words) {
+            Ok(_) => {}
             Err(refusal) => return Err(refusal),
         }
+        let _ = eprintln!(rt;
+            "pg: type the games, one a line; end with Ctrl-D on a line of its own"
+        );
     }
     match list(rt, name) {
         Ok(games) => Ok(games),
@@ -138,8 +123,8 @@ pub(crate) fn games_of<R: Runtime + AllocGlobal>(
     }
 }
 
-// The list of games, from a file that is not the certificate's, or from standard input where the certificate is not read
-// from there.
+// The list of games, from a file that is not the certificate's, or from standard input where the certificate is not
+// read from there.
 fn other_games_of<R: Runtime + AllocGlobal>(
     rt: &R,
     words: &ArgMatches<'_>,

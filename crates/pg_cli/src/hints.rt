@@ -13,7 +13,7 @@ use pg_hints::{
 use pg_journeys::Journeys;
 use pg_report::{
     AnswerFault, AnswerRunFault, CountRunFault, Fault, FenFault, MovesFault, RunFault, SearchFault,
-    ShowFault, UpgradeFault,
+    UpgradeFault,
 };
 use std::fmt::Display;
 use std::io::Eprint;
@@ -111,9 +111,7 @@ pub(crate) fn advise<R: Runtime + AllocGlobal>(rt: &R, words: &ArgMatches<'_>, r
         Refusal::Answer(AnswerRunFault::Answer(AnswerFault::Check(fault))) => {
             tell_certificate(rt, words, fault)
         }
-        Refusal::Show(ShowFault::Length(LengthFault::Shape)) => tell_length(rt, words),
-        Refusal::Show(ShowFault::Diagram(fault))
-        | Refusal::Moves(MovesFault::Position(fault))
+        Refusal::Moves(MovesFault::Position(fault))
         | Refusal::Count(CountRunFault::Position(fault)) => tell_diagram(rt, words, *fault),
         Refusal::Upgrade(UpgradeFault::NotVersion1 | UpgradeFault::Truncated) => {
             tell_packing(rt, text_of(words, "OLD"))

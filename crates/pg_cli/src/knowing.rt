@@ -1,25 +1,27 @@
 //! `pg games` and `pg cooks`: what a list of games shows by itself, and what is found beside it.
 ghost use Rattle.std.specs.Prelude.{◌≡◌, IfOk, IfErr, OnOk};
 ghost use Rattle.clap.specs.Words.{found_of, rows_of};
+ghost use Rattle.pg_certificate.specs.Pushing.{AddsSome};
 ghost use Rattle.pg_cooks.specs.Standing.{IsGamesReport};
+ghost use Rattle.pg_cooks.specs.Unsound.{IsUnsound};
 ghost use Rattle.pg_streams.specs.Buffer.{sink_of};
-ghost use Rattle.pg_cli.specs.Causes.{IsCooksCause, IsGamesCause};
-ghost use Rattle.pg_cli.specs.Knowing.{AreFollowed, AreTested, AreUnsound, answer_status, standing_status};
+ghost use Rattle.pg_cli.specs.Causes.{AreListed, IsCooksCause, IsGamesCause, IsOfList};
+ghost use Rattle.pg_cli.specs.Knowing.{IsFollowedWith, IsTestedWith, answer_status, standing_status};
 ghost use Rattle.pg_cli.specs.Reasons.{IsCooksRefusal, IsGamesRefusal, cooks_refusal};
 ghost use Rattle.pg_cli.specs.Words.{IsFollowed, IsTested};
-ghost use Rattle.pg_cli.specs.Written.{AddsOf, HasCooksReport};
+ghost use Rattle.pg_cli.specs.Written.{HasCooksReport};
 
-use crate::checking::{Asked, finished, games_of};
+use crate::checking::{finished, games_of};
 use crate::limits::reach_of;
 use crate::refusals::Refusal;
 use crate::screen::Screen;
-use crate::spelling::text_of;
+use crate::spelling::problem_in;
 use clap::ArgMatches;
 use pg_cooks::{
-    Asked as Texts, CookAnswer, CooksRunFault, LedLimits, LedProgress, Standing, run_cooks,
-    run_games,
+    CookAnswer, CooksFault, CooksRunFault, LedLimits, LedProgress, Standing, run_cooks, run_games,
 };
-use pg_report::{Sink, ToWrite};
+use pg_report::{Fault, Games, Problem, RunFault, Sink, ToWrite};
+use pg_san::read_games;
 use pg_streams::{Cleared, Deadline, Gathered, LedLine, Terminal, Timed};
 use std::alloc::Global;
 use std::rt::Runtime;
@@ -53,34 +55,54 @@ fn answer_status(answer: &CookAnswer) -> u8
     }
 }
 
-// Tests a list of games, and writes what it shows by itself. The texts spell a diagram, a length and solutions, and the
-// status is that of what they show: 1 only where no list of one game is the exact answer. The report is handed on then.
+// A problem, and a list of games for it.
+#[derive(Drop)]
+struct Listed {
+    problem: Problem,
+    games: Games,
+}
+
+// The problem that the words spell, and the list that these bytes spell.
 //
 // # Errors
-// `NotUtf8` where the list is not UTF-8, else `Check` with the fault of the run.
-pub(crate) fn games_from<W: Sink>(
-    alloc: Global,
-    asked: &Asked<'_>,
-    out: &mut Gathered<W>,
-) -> Result<u8, Refusal>
-    ensures headline { IfOk result (λ status. status ≡ 1 → AreUnsound asked.now.diagram.now asked.now.length.now) }
-    ensures status { IfOk result (λ status. AreTested asked.now.diagram.now asked.now.length.now asked.now.games.now
-        status) }
-    ensures report { OnOk result (AddsOf IsGamesReport asked.now
-        (⟦<Gathered<W> as Sink>⟧.held out.old) (W.held (sink_of out.new))) }
-    ensures err { IfErr result (λ refusal. IsGamesRefusal asked.now
-        (⟦<Gathered<W> as Sink>⟧.has_failed out.new) refusal) }
+// In this order: `NotUtf8` where the bytes are no text; `Check` with `Diagram`, `Length` and `Games` where that text is
+// refused.
+fn listed_in(alloc: Global, words: &ArgMatches<'_>, list: &[u8]) -> Result<Listed, Refusal>
+    ensures ok { IfOk result (λ l. AreListed (rows_of (found_of words.now)) list.now
+        l.problem.diagram l.problem.length l.games) }
+    ensures err { IfErr result (λ refusal. IsOfList (rows_of (found_of words.now)) list.now refusal) }
 {
-    let games = match str::from_utf8(asked.games) {
-        Ok(games) => games,
+    let text = match str::from_utf8(list) {
+        Ok(text) => text,
         Err(_) => return Err(Refusal::NotUtf8),
     };
-    let texts = Texts {
-        diagram: asked.diagram,
-        length: asked.length,
-        games,
+    let problem = match problem_in(words) {
+        Ok(problem) => problem,
+        Err(refusal) => return Err(refusal),
     };
-    match run_games(alloc, &texts, out) {
+    match read_games(alloc, text) {
+        Ok(games) => Ok(Listed { problem, games }),
+        Err(fault) => Err(Refusal::Check(RunFault::Games(fault))),
+    }
+}
+
+// Tests a list of games, and writes what it shows by itself. They are solutions, and the status is that of what they
+// show; the report is handed on then.
+//
+// # Errors
+// `Check` with the fault of the run.
+pub(crate) fn games_from<W: Sink>(
+    problem: &Problem,
+    games: &Games,
+    out: &mut Gathered<W>,
+) -> Result<u8, Refusal>
+    ensures status { IfOk result (λ status. IsTestedWith problem.now.diagram problem.now.length games.now status) }
+    ensures report { OnOk result (AddsSome (IsGamesReport problem.now.diagram problem.now.length games.now)
+        (⟦<Gathered<W> as Sink>⟧.held out.old) (W.held (sink_of out.new))) }
+    ensures err { IfErr result (λ refusal. IsGamesRefusal problem.now.diagram problem.now.length games.now
+        (⟦<Gathered<W> as Sink>⟧.has_failed out.new) refusal) }
+{
+    match run_games(problem, games, out) {
         Ok(standing) => finished(standing_status(standing), out),
         Err(fault) => Err(Refusal::Check(fault)),
     }
@@ -91,44 +113,37 @@ fn refusal_of(fault: CooksRunFault) -> Refusal
     ensures { result ≡ cooks_refusal fault }
 {
     match fault {
-        CooksRunFault::NoGame => Refusal::NoGame,
-        CooksRunFault::Memory => Refusal::Memory,
-        CooksRunFault::Run(fault) => Refusal::Check(fault),
+        CooksRunFault::Cooks(CooksFault::NoGame) => Refusal::NoGame,
+        CooksRunFault::Cooks(CooksFault::Memory) => Refusal::Memory,
+        CooksRunFault::Cooks(CooksFault::Listed(fault)) => {
+            Refusal::Check(RunFault::Check(Fault::Listed(fault)))
+        }
+        CooksRunFault::Write => Refusal::Check(RunFault::Write),
     }
 }
 
-// Looks for a game beside those of a list, and writes what is found. The texts spell a diagram, a length and solutions,
-// and the status is that of what is found: 1 only where no list of one game is the exact answer. The report is handed
-// on then.
+// Looks for a game beside those of a list, and writes what is found. They are solutions, and the status is that of what
+// is found: 1 only where no list of one game is the exact answer. The report is handed on then.
 //
 // # Errors
-// `NotUtf8` where the list is not UTF-8, `NoGame` where it is empty, `Memory`, else `Check` with the fault
-// of the run.
+// `NoGame` where the list is empty, `Memory`, else `Check` with the fault of the run.
 pub(crate) fn cooks_from<P: LedProgress, W: Sink>(
     alloc: Global,
-    asked: &Asked<'_>,
+    problem: &Problem,
+    games: &Games,
     limits: LedLimits,
     watch: &mut P,
     out: &mut Gathered<W>,
 ) -> Result<u8, Refusal>
-    ensures headline { IfOk result (λ status. status ≡ 1 → AreUnsound asked.now.diagram.now asked.now.length.now) }
-    ensures status { IfOk result (λ status. AreFollowed asked.now.diagram.now asked.now.length.now asked.now.games.now
-        status) }
-    ensures report { IfOk result (λ status. AddsOf (HasCooksReport status) asked.now
+    ensures headline { IfOk result (λ status. status ≡ 1 → IsUnsound problem.now.diagram problem.now.length) }
+    ensures status { IfOk result (λ status. IsFollowedWith problem.now.diagram problem.now.length games.now status) }
+    ensures report { IfOk result (λ status. AddsSome
+        (HasCooksReport status problem.now.diagram problem.now.length games.now)
         (⟦<Gathered<W> as Sink>⟧.held out.old) (W.held (sink_of out.new))) }
-    ensures err { IfErr result (λ refusal. IsCooksRefusal asked.now
+    ensures err { IfErr result (λ refusal. IsCooksRefusal problem.now.diagram problem.now.length games.now
         (⟦<Gathered<W> as Sink>⟧.has_failed out.new) refusal) }
 {
-    let games = match str::from_utf8(asked.games) {
-        Ok(games) => games,
-        Err(_) => return Err(Refusal::NotUtf8),
-    };
-    let texts = Texts {
-        diagram: asked.diagram,
-        length: asked.length,
-        games,
-    };
-    match run_cooks(alloc, &texts, limits, watch, out) {
+    match run_cooks(alloc, problem, games, limits, watch, out) {
         Ok(answer) => finished(answer_status(&answer), out),
         Err(fault) => Err(refusal_of(fault)),
     }
@@ -145,19 +160,16 @@ pub(crate) fn games<R: Runtime + AllocGlobal>(
     ensures headline { IfOk result (λ status. IsTested (rows_of (found_of words.now)) status) }
     ensures err { IfErr result (λ refusal. IsGamesCause (rows_of (found_of words.now)) refusal) }
 {
-    let games = match games_of(rt, words, screen) {
-        Ok(games) => games,
+    let list = match games_of(rt, words, screen) {
+        Ok(list) => list,
         Err(refusal) => return Err(refusal),
     };
-    let diagram = text_of(words, "DIAGRAM");
-    let length = text_of(words, "LENGTH");
-    let asked = Asked {
-        diagram,
-        length,
-        games: games.as_slice(),
+    let listed = match listed_in(rt.alloc(), words, list.as_slice()) {
+        Ok(listed) => listed,
+        Err(refusal) => return Err(refusal),
     };
     let mut out = Gathered::new(ToWrite::new(io::writer(rt)));
-    games_from(rt.alloc(), &asked, &mut out)
+    games_from(&listed.problem, &listed.games, &mut out)
 }
 
 // `pg cooks`: what is found beside the list stands on standard output. The list is that of the file GAMES, of which no
@@ -171,16 +183,13 @@ pub(crate) fn cooks<R: Runtime + AllocGlobal>(
     ensures headline { IfOk result (λ status. IsFollowed (rows_of (found_of words.now)) status) }
     ensures err { IfErr result (λ refusal. IsCooksCause (rows_of (found_of words.now)) refusal) }
 {
-    let games = match games_of(rt, words, screen) {
-        Ok(games) => games,
+    let list = match games_of(rt, words, screen) {
+        Ok(list) => list,
         Err(refusal) => return Err(refusal),
     };
-    let diagram = text_of(words, "DIAGRAM");
-    let length = text_of(words, "LENGTH");
-    let asked = Asked {
-        diagram,
-        length,
-        games: games.as_slice(),
+    let listed = match listed_in(rt.alloc(), words, list.as_slice()) {
+        Ok(listed) => listed,
+        Err(refusal) => return Err(refusal),
     };
     let reach = reach_of(words, NODES);
     let limits = LedLimits {
@@ -193,7 +202,14 @@ pub(crate) fn cooks<R: Runtime + AllocGlobal>(
     let line = LedLine::new(rt, &terminal, limits.max_nodes);
     let mut timed = Timed::new(line, Deadline::new(rt, reach.milliseconds));
     let mut out = Gathered::new(Cleared::new(ToWrite::new(io::writer(rt)), rt, &terminal));
-    let answer = cooks_from(rt.alloc(), &asked, limits, &mut timed, &mut out);
+    let answer = cooks_from(
+        rt.alloc(),
+        &listed.problem,
+        &listed.games,
+        limits,
+        &mut timed,
+        &mut out,
+    );
     timed.line.end();
     answer
 }

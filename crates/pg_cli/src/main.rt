@@ -9,6 +9,7 @@
 ghost use Rattle.std.specs.Prelude.{◌≡◌, ◌↔◌, List, IsTrue, IfOk, IfErr};
 ghost use Rattle.clap.specs.Words.{Row, Text, found_of, rows_of};
 ghost use Rattle.pg_checker.specs.Cuts.{rules_by};
+ghost use Rattle.pg_cli.specs.Answers.{IsNamedIn};
 ghost use Rattle.pg_cli.specs.Causes.{Ends, IsCause, Rules, causes};
 ghost use Rattle.pg_cli.specs.Words.{GoesByJourneys, IsStatus, IsSubcommand, says};
 
@@ -52,9 +53,9 @@ use std::rt::Runtime;
 use std::{env, io};
 
 // Does a command with its words and these bounds. A status of `check` or `search` means that a list is the exact answer
-// to the diagram and the length which the words spell, one of `answer`, `why` or `page` that it is for some, and 1 of
-// `games` or `cooks` that no list of one game is. No command is inlined here: the frame of this call would hold what
-// each of them needs, and lie below them all.
+// to the diagram and the length which the words spell, one of `answer`, `why` or `page` that it is to those of a
+// header, and 1 of `games` or `cooks` that no list of one game is. No command is inlined here: the frame of this call
+// would hold what each of them needs, and lie below them all.
 fn perform<R: Runtime + AllocGlobal>(
     rt: &R,
     command: Command,
@@ -62,7 +63,8 @@ fn perform<R: Runtime + AllocGlobal>(
     bounds: &[Box<dyn Bound>],
     screen: Screen,
 ) -> Result<u8, Refusal>
-    ensures headline { IfOk result (λ status. says command (rows_of (found_of words.now)) status) }
+    ensures headline { IfOk result (λ status.
+        says (IsNamedIn R.File.remaining) command (rows_of (found_of words.now)) status) }
     ensures err { IfErr result (λ refusal. causes (rules_by code_of excluded bounds.now) command
         (rows_of (found_of words.now)) refusal) }
 {
@@ -89,7 +91,7 @@ fn carry_out<R: Runtime + AllocGlobal>(
     bounds: &[Box<dyn Bound>],
     screen: Screen,
 ) -> Result<u8, Refusal>
-    ensures headline { IfOk result (λ status. IsStatus words.now status) }
+    ensures headline { IfOk result (λ status. IsStatus (IsNamedIn R.File.remaining) words.now status) }
     ensures err { IfErr result (λ refusal. IsCause (rules_by code_of excluded bounds.now) words.now refusal) }
 {
     let Some((name, inner)) = words.subcommand() else {
@@ -120,8 +122,8 @@ fn lend<R: Runtime + AllocGlobal>(
     bounds: &[Box<dyn Bound>],
     screen: Screen,
 ) -> u8
-    ensures done { result ≡ 0 → IsStatus words.now 0 }
-    ensures ends { Ends (rules_by code_of excluded bounds.now) words.now result }
+    ensures done { result ≡ 0 → IsStatus (IsNamedIn R.File.remaining) words.now 0 }
+    ensures ends { Ends (IsNamedIn R.File.remaining) (rules_by code_of excluded bounds.now) words.now result }
 {
     match carry_out(rt, words, bounds, screen) {
         Ok(status) => status,
@@ -170,8 +172,8 @@ fn run<R: Runtime + AllocGlobal>(
     words: &ArgMatches<'_>,
     screen: Screen,
 ) -> Result<u8, AllocError>
-    ensures done { IfOk result (λ status. status ≡ 0 → IsStatus words.now 0) }
-    ensures ends { IfOk result (λ status. (rules : Rules) × Ends rules words.now status) }
+    ensures done { IfOk result (λ status. status ≡ 0 → IsStatus (IsNamedIn R.File.remaining) words.now 0) }
+    ensures ends { IfOk result (λ status. (rules : Rules) × Ends (IsNamedIn R.File.remaining) rules words.now status) }
 {
     let captures = Box::new(rt.alloc(), Captures)?;
     let promotions = Box::new(rt.alloc(), Promotions)?;

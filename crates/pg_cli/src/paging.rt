@@ -4,18 +4,18 @@ ghost use Rattle.pg_checker.specs.Cuts.{any_rules_by, rules_by};
 ghost use Rattle.pg_checker.specs.Terms.{terms};
 ghost use Rattle.pg_page.specs.Page.{failures};
 ghost use Rattle.pg_streams.specs.Buffer.{IsHandedOn};
-ghost use Rattle.pg_cli.specs.Answers.{HasList};
+ghost use Rattle.pg_cli.specs.Answers.{HasList, IsNamedIn};
 ghost use Rattle.pg_cli.specs.Causes.{IsPageCause};
 ghost use Rattle.pg_cli.specs.Reasons.{IsPageRefusal, page_refusal};
 ghost use Rattle.pg_cli.specs.Words.{IsExplained};
 
-use crate::answering::problem_in;
+use crate::answering::certificate_of;
 use crate::checking::{RECORDS, finished};
-use crate::refusals::{DONE, Named, Refusal};
+use crate::refusals::{DONE, Refusal};
 use crate::spelling::text_of;
 use clap::ArgMatches;
 use pg_certificate::format::MOST_NAMED;
-use pg_files::{open_plain, size_of};
+use pg_files::size_of;
 use pg_page::{PageFault, page as show};
 use pg_report::{AnswerRunFault, Bound, Problem, RunFault, Sink, Source, ToWrite};
 use pg_streams::{Cleared, Gathered, Passing, Terminal};
@@ -80,7 +80,7 @@ pub(crate) fn page_from<S: Source, W: Sink>(
 }
 
 // `pg page`: the certificate of a plain file is shown as a page on standard output. A status means that some list is
-// the exact answer to some diagram and some length, those of its header, and it is 0.
+// the exact answer to the diagram and the length which its header names, and it is 0.
 #[inline(never)]
 pub(crate) fn page<R: Runtime + AllocGlobal>(
     rt: &R,
@@ -88,16 +88,12 @@ pub(crate) fn page<R: Runtime + AllocGlobal>(
     bounds: &[Box<dyn Bound>],
     screen: bool,
 ) -> Result<u8, Refusal>
-    ensures headline { IfOk result (λ status. IsExplained status) }
+    ensures headline { IfOk result (λ status. IsExplained (IsNamedIn R.File.remaining) status) }
     ensures err { IfErr result (λ refusal. IsPageCause (rules_by code_of excluded bounds.now) refusal) }
 {
     let name = text_of(words, "CERT");
-    let mut certificate = match open_plain(rt, name) {
-        Ok(certificate) => certificate,
-        Err(fault) => return Err(Refusal::of_file(fault, Named::Certificate)),
-    };
-    let problem = match problem_in(&mut certificate) {
-        Ok(problem) => problem,
+    let (certificate, problem) = match certificate_of(rt, name) {
+        Ok(found) => found,
         Err(refusal) => return Err(refusal),
     };
     let records = words.get_one::<u64>("records").unwrap_or(RECORDS);

@@ -7,16 +7,16 @@ ghost use Rattle.pg_position.specs.Array.{array_state};
 ghost use Rattle.pg_streams.specs.Buffer.{sink_of};
 ghost use Rattle.pg_texts.specs.CountText.{IsCounted};
 ghost use Rattle.pg_cli.specs.Causes.{IsCountCause, IsMovesCause, IsShowCause};
-ghost use Rattle.pg_cli.specs.Reasons.{IsCountRefusal, IsMovesRefusal, IsShowRefusal, IsShowWithinRefusal};
-ghost use Rattle.pg_cli.specs.Words.{HasPosition, HasDiagram};
-ghost use Rattle.pg_cli.specs.Written.{AddsMoves, AddsShown, AddsShownWithin};
+ghost use Rattle.pg_cli.specs.Reasons.{IsCountRefusal, IsMovesRefusal, IsOfBoard, IsShowRefusal};
+ghost use Rattle.pg_cli.specs.Words.{HasPosition, HasDiagram, SpellsBoard};
+ghost use Rattle.pg_cli.specs.Written.{AddsMoves, AddsShown};
 
 use crate::refusals::{DONE, Refusal};
 use crate::spelling::text_of;
 use clap::ArgMatches;
 use pg_report::{
-    Bound, CountProgress, CountRunFault, MovesFault, Refused, ShowFault, Sink, ToWrite,
-    run_count_watched, run_moves, run_show, run_show_within,
+    Bound, CountProgress, CountRunFault, Diagram, Length, MovesFault, Refused, RunFault, ShowFault,
+    Sink, ToWrite, run_count_watched, run_moves, run_show,
 };
 use pg_streams::{Cleared, CountLine, Gathered, Terminal};
 use std::alloc::Global;
@@ -118,46 +118,66 @@ fn shown<W: Sink>(out: &mut Gathered<W>) -> Result<u8, Refusal>
     }
 }
 
-// Writes the board of a diagram and what is known at once.
+// A diagram, and the length that is asked, if one is.
+#[derive(Clone, Copy)]
+struct Board {
+    diagram: Diagram,
+    asked: Option<Length>,
+}
+
+// What the words DIAGRAM and LENGTH spell, where the second may be missing.
 //
 // # Errors
-// `Show` with the fault of the run, or with `Write` where the rest is refused.
-pub(crate) fn show_from<W: Sink>(
-    alloc: Global,
-    diagram: &str,
-    bounds: &[Box<dyn Bound>],
-    out: &mut Gathered<W>,
-) -> Result<u8, Refusal>
-    ensures ok { OnOk result (AddsShown (λ d m. list_any (λ b. excluded b d array_state m) bounds.now) diagram.now
-        (⟦<Gathered<W> as Sink>⟧.held out.old) (W.held (sink_of out.new))) }
-    ensures zero { IfOk result (λ status. status ≡ 0) }
-    ensures err { IfErr result (λ refusal. IsShowRefusal diagram.now
-        (⟦<Gathered<W> as Sink>⟧.has_failed out.new) refusal) }
+// `Check` with `Diagram` and then `Length` where that word is refused.
+fn board_in(words: &ArgMatches<'_>) -> Result<Board, Refusal>
+    ensures spelled { IfOk result (λ board. SpellsBoard (rows_of (found_of words.now)) board.diagram board.asked) }
+    ensures err { IfErr result (λ refusal. IsOfBoard (rows_of (found_of words.now)) refusal) }
 {
-    match run_show(alloc, diagram, bounds, out) {
-        Ok(()) => shown(out),
-        Err(fault) => Err(Refusal::Show(fault)),
+    let text = text_of(words, "DIAGRAM");
+    let diagram = match Diagram::read(text) {
+        Ok(diagram) => diagram,
+        Err(fault) => return Err(Refusal::Check(RunFault::Diagram(fault))),
+    };
+    let word = match words.get_str("LENGTH") {
+        Some(word) => word,
+        None => {
+            return Ok(Board {
+                diagram,
+                asked: None,
+            });
+        }
+    };
+    match Length::read(word) {
+        Ok(length) => Ok(Board {
+            diagram,
+            asked: Some(length),
+        }),
+        Err(fault) => Err(Refusal::Check(RunFault::Length(fault))),
     }
 }
 
-// The same with what a game of a length leaves over.
+// Writes the board of the diagram that the words spell and what is known at once, with what a game of a length leaves
+// over where they spell one.
 //
 // # Errors
-// `Show` with the fault of the run, or with `Write` where the rest is refused.
-pub(crate) fn show_within_from<W: Sink>(
+// As `board_in`; else `Show` with the fault of the run, or with `Write` where the rest is refused.
+pub(crate) fn show_from<W: Sink>(
     alloc: Global,
-    diagram: &str,
-    length: &str,
+    words: &ArgMatches<'_>,
     bounds: &[Box<dyn Bound>],
     out: &mut Gathered<W>,
 ) -> Result<u8, Refusal>
-    ensures ok { OnOk result (AddsShownWithin (λ d m. list_any (λ b. excluded b d array_state m) bounds.now)
-        diagram.now length.now (⟦<Gathered<W> as Sink>⟧.held out.old) (W.held (sink_of out.new))) }
+    ensures ok { OnOk result (AddsShown (λ d m. list_any (λ b. excluded b d array_state m) bounds.now)
+        (rows_of (found_of words.now)) (⟦<Gathered<W> as Sink>⟧.held out.old) (W.held (sink_of out.new))) }
     ensures zero { IfOk result (λ status. status ≡ 0) }
-    ensures err { IfErr result (λ refusal. IsShowWithinRefusal diagram.now length.now
+    ensures err { IfErr result (λ refusal. IsShowRefusal (rows_of (found_of words.now))
         (⟦<Gathered<W> as Sink>⟧.has_failed out.new) refusal) }
 {
-    match run_show_within(alloc, diagram, length, bounds, out) {
+    let board = match board_in(words) {
+        Ok(board) => board,
+        Err(refusal) => return Err(refusal),
+    };
+    match run_show(alloc, &board.diagram, board.asked, bounds, out) {
         Ok(()) => shown(out),
         Err(fault) => Err(Refusal::Show(fault)),
     }
@@ -174,10 +194,6 @@ pub(crate) fn show<R: Runtime + AllocGlobal>(
     ensures spelled { IfOk result (λ status. HasDiagram (rows_of (found_of words.now)) status) }
     ensures err { IfErr result (λ refusal. IsShowCause (rows_of (found_of words.now)) refusal) }
 {
-    let diagram = text_of(words, "DIAGRAM");
     let mut out = Gathered::new(ToWrite::new(io::writer(rt)));
-    match words.get_str("LENGTH") {
-        None => show_from(rt.alloc(), diagram, bounds, &mut out),
-        Some(length) => show_within_from(rt.alloc(), diagram, length, bounds, &mut out),
-    }
+    show_from(rt.alloc(), words, bounds, &mut out)
 }

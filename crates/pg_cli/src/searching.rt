@@ -18,7 +18,7 @@ ghost use Rattle.pg_cli.specs.Words.{IsSearched};
 use crate::checking::{RECORDS, finished};
 use crate::limits::{Reach, reach_of};
 use crate::refusals::{Known, Named, Refusal};
-use crate::spelling::text_of;
+use crate::spelling::{problem_in, text_of};
 use clap::ArgMatches;
 use pg_certificate::format::MOST_NAMED;
 use pg_cooks::{standing_on, write_solutions};
@@ -429,10 +429,8 @@ pub(crate) fn search<R: Runtime + AllocGlobal>(
     ensures err { IfErr result (λ refusal. IsSearchCause (rules_by code_of excluded bounds.now)
         (rows_of (found_of words.now)) refusal) }
 {
-    let diagram = text_of(words, "DIAGRAM");
-    let length = text_of(words, "LENGTH");
-    match Problem::read(diagram, length) {
+    match problem_in(words) {
         Ok(problem) => search_for(rt, words, &problem, bounds, screen),
-        Err(fault) => Err(Refusal::Check(fault)),
+        Err(refusal) => Err(refusal),
     }
 }

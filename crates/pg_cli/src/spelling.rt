@@ -1,9 +1,12 @@
 //! What the words of a command spell, as `clap` has read them.
-ghost use Rattle.std.specs.Prelude.{◌≡◌, ◌↔◌, IsTrue, Some, codes};
+ghost use Rattle.std.specs.Prelude.{◌≡◌, ◌↔◌, IsTrue, Some, IfOk, IfErr, codes};
 ghost use Rattle.clap.specs.Words.{first_of, found_of, rows_of};
+ghost use Rattle.pg_cli.specs.Causes.{IsOfProblem, IsSpelled};
 ghost use Rattle.pg_cli.specs.Words.{spelled};
 
+use crate::refusals::Refusal;
 use clap::ArgMatches;
+use pg_report::Problem;
 
 // The text of the word with this name; no text where there is none.
 pub(crate) fn text_of<'a>(words: &ArgMatches<'a>, name: &str) -> &'a str
@@ -12,6 +15,22 @@ pub(crate) fn text_of<'a>(words: &ArgMatches<'a>, name: &str) -> &'a str
     match words.get_str(name) {
         Some(text) => text,
         None => "",
+    }
+}
+
+// The problem that the words DIAGRAM and LENGTH spell.
+//
+// # Errors
+// `Check` with `Diagram` and then `Length` where that word is refused.
+pub(crate) fn problem_in(words: &ArgMatches<'_>) -> Result<Problem, Refusal>
+    ensures spelled { IfOk result (λ problem. IsSpelled (rows_of (found_of words.now)) problem.diagram problem.length) }
+    ensures err { IfErr result (λ refusal. IsOfProblem (rows_of (found_of words.now)) refusal) }
+{
+    let diagram = text_of(words, "DIAGRAM");
+    let length = text_of(words, "LENGTH");
+    match Problem::read(diagram, length) {
+        Ok(problem) => Ok(problem),
+        Err(fault) => Err(Refusal::Check(fault)),
     }
 }
 

@@ -1,25 +1,12 @@
--- The refusals of the texts, and the games that are told. Leads to the contracts of `read_known`, `run_games` and `run_cooks`.
-use Rattle.std.proofs.Common.{ℕ, Bool, List, length}
+-- The games that are told. Leads to the contract of `run_cooks`.
+use Rattle.std.proofs.Common.{ℕ, List, length}
 use Rattle.pg_board.specs.Placement.{Placement}
 use Rattle.pg_position.specs.declared.moves.Move.{Move}
 use Rattle.pg_san.specs.Games.{IsFromArray}
 use Rattle.pg_checker.specs.Answer.{IsSolution}
-use Rattle.pg_checker.specs.ProblemText.{IsProblemFault}
-use Rattle.pg_checker.specs.declared.fault.RunFault.{RunFault}
-use Rattle.pg_checker.specs.declared.fault.RunFault.TheVariants.{Diagram, Length, Games, Check, Write}
-use Rattle.pg_cooks.specs.declared.asked.Asked.{Asked}
 use Rattle.pg_cooks.specs.declared.finding.CookAnswer.{CookAnswer}
 use Rattle.pg_cooks.specs.declared.finding.CookAnswer.TheVariants.{Cook, Shorter, NotFound}
-use Rattle.pg_cooks.specs.Known.{IsKnownFault}
 use Rattle.pg_cooks.specs.Cooks.{IsCookAnswer, IsTold}
-
--- a refusal of the first two texts
-pub no_problem : (asked : Asked) (failed : Bool) (e : RunFault) → IsProblemFault asked.diagram.now asked.length.now e → IsKnownFault asked failed e
-no_problem asked failed (Diagram f) h = h
-no_problem asked failed (Length f) h = h
-no_problem asked failed (Games f) h = absurd h
-no_problem asked failed (Check f) h = absurd h
-no_problem asked failed Write h = absurd h
 
 from_array : (d : Placement) (n : ℕ) (g : List Move) → IsSolution d n g → IsFromArray g
 unfolding IsFromArray

@@ -1,5 +1,5 @@
 -- What is found beside a list of games, what that says of the problem, its report, and why there is none.
-use Rattle.std.specs.Prelude.{◌≡◌, ◌≢◌, ℕ, ◌<◌, eqb, cond, Bool, Option, Some, None, List, [], ◌++◌, length, codes, decimal}
+use Rattle.std.specs.Prelude.{◌≡◌, ◌≢◌, ℕ, ◌<◌, eqb, cond, Bool, true, Option, Some, None, List, [], ◌++◌, length, codes, decimal}
 use Rattle.std.specs.List.{Contains}
 use Rattle.pg_board.specs.Placement.{Placement}
 use Rattle.pg_position.specs.declared.moves.Move.{Move}
@@ -10,14 +10,12 @@ use Rattle.pg_searcher.specs.declared.led.answer.LedEnd.{LedEnd}
 use Rattle.pg_searcher.specs.declared.led.answer.LedEnd.TheVariants.{All, Foreign, Nodes}
 use Rattle.pg_checker.specs.Answer.{IsSolution, AreSolutions}
 use Rattle.pg_checker.specs.Listed.{IsListFault}
-use Rattle.pg_cooks.specs.declared.asked.Asked.{Asked}
 use Rattle.pg_cooks.specs.declared.finding.CookAnswer.{CookAnswer}
 use Rattle.pg_cooks.specs.declared.finding.CookAnswer.TheVariants.{Cook, Shorter, NotFound}
 use Rattle.pg_cooks.specs.declared.fault.CooksFault.{CooksFault}
 use Rattle.pg_cooks.specs.declared.fault.CooksFault.TheVariants.{NoGame, Listed, Memory}
 use Rattle.pg_cooks.specs.declared.fault.CooksRunFault.{CooksRunFault}
 use Rattle.pg_cooks.specs.declared.fault.CooksRunFault.TheVariants as run
-use Rattle.pg_cooks.specs.Known.{IsKnown, IsKnownFault}
 use Rattle.pg_cooks.specs.declared.standing.Standing.{Standing}
 use Rattle.pg_cooks.specs.declared.standing.Standing.TheVariants.{NotSound, AtLeastOne, NoneGiven}
 use Rattle.pg_cooks.specs.Standing.{IsKnownText, IsStanding}
@@ -98,10 +96,7 @@ pub record IsCooksReport (diagram : Placement) (plies : ℕ) (games : List (List
   pub is : text ≡ front ++ last
 
 -- ---- refusals
--- why the texts end without that report: they spell a problem and no game; or a problem and
--- solutions of it, and memory was refused in the search; else as for the report of games alone
-abbrev pub IsCooksRunFault : Asked → Bool → CooksRunFault → Type 0
-IsCooksRunFault asked failed run.NoGame = (d : Placement) × (n : ℕ) × IsKnown asked d n []
-IsCooksRunFault asked failed run.Memory =
-    (d : Placement) × (n : ℕ) × (list : List (List Move)) × IsKnown asked d n list × (list ≢ [])
-IsCooksRunFault asked failed (run.Run fault) = IsKnownFault asked failed fault
+-- why there is no report: that of the answer; else the sink has failed after each listed game was tested
+abbrev pub IsCooksRunFault : Placement → ℕ → List (List Move) → Bool → CooksRunFault → Type 0
+IsCooksRunFault d n games failed (run.Cooks fault) = IsCooksFault d n games fault
+IsCooksRunFault d n games failed run.Write = AreSolutions d n games × (failed ≡ true)

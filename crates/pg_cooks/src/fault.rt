@@ -1,6 +1,6 @@
 //! Why no game is found, and why nothing is written.
 
-use pg_checker::{ListFault, RunFault};
+use pg_checker::ListFault;
 use thiserror::Error;
 
 /// Why no game is looked for beside a list, or the search gives nothing, in the order of testing.
@@ -18,15 +18,12 @@ pub enum CooksFault {
 }
 
 /// Why a run that looks for games beside a list ends without its report.
-#[derive(Debug, PartialEq, Eq, Drop, Error)]
+#[derive(Clone, Copy, Debug, PartialEq, Eq, Error)]
 pub enum CooksRunFault {
-    /// The list has no game that leads the search.
-    #[error("no game to go by")]
-    NoGame,
-    /// A growth was refused in the search.
-    #[error("out of memory")]
-    Memory,
-    /// As for a check: a text is refused, or a listed game is no solution, or the sink has failed.
+    /// There is no answer.
     #[error("{0}")]
-    Run(RunFault),
+    Cooks(CooksFault),
+    /// The sink has failed. How many bytes went out is not known.
+    #[error("write fault")]
+    Write,
 }

@@ -2,7 +2,6 @@
 //! search finds, each tested before it is told.
 #![tactic(auto)]
 
-mod asked;
 mod fault;
 mod finding;
 mod laws;
@@ -10,7 +9,6 @@ mod run;
 mod standing;
 mod writing;
 
-pub use asked::Asked;
 pub use fault::{CooksFault, CooksRunFault};
 pub use finding::{CookAnswer, cooks};
 pub use laws::{not_sound_is_true, shorter_is_a_cook, two_are_a_cook, unlisted_is_a_cook};

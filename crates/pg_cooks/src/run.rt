@@ -1,60 +1,54 @@
-//! From texts to the reports.
-ghost use Rattle.std.specs.Prelude.{◌≡◌, ◌≢◌, ℕ, Bool, List, true, false, IfOk, IfErr, OnOk};
+//! The reports of games that are known, and of what is found beside them.
+ghost use Rattle.std.specs.Prelude.{◌≡◌, ◌≢◌, ℕ, List, true, false, IfOk, IfErr, OnOk};
 ghost use Rattle.std.specs.Io.KnownBytes.{Appends};
-ghost use Rattle.pg_board.specs.Placement.{Placement};
-ghost use Rattle.pg_position.specs.declared.moves.Move.{Move};
-ghost use Rattle.pg_checker.specs.declared.fault.RunFault.TheVariants.{Write};
 ghost use Rattle.pg_texts.specs.Report.{AreGameLines};
 ghost use Rattle.pg_checker.specs.Answer.{AreSolutions};
 ghost use Rattle.pg_checker.specs.Listed.{IsListFault};
-ghost use Rattle.pg_cooks.specs.Known.{IsKnown, IsKnownFault, IsListingFault};
+ghost use Rattle.pg_cooks.specs.Known.{IsListingFault};
 ghost use Rattle.pg_cooks.specs.Standing.{IsStanding, IsGamesReport};
-ghost use Rattle.pg_cooks.specs.Cooks.{IsCookAnswer, IsCooksFault, IsCooksReport, IsCooksRunFault, IsRefuted};
-ghost use Rattle.pg_cooks.specs.declared.asked.Asked.{Asked};
+ghost use Rattle.pg_cooks.specs.Cooks.{IsCookAnswer, IsCooksReport, IsCooksRunFault, IsRefuted};
 
-use crate::asked::{Asked, read_known};
-use crate::fault::{CooksFault, CooksRunFault};
+use crate::fault::CooksRunFault;
 use crate::finding::{CookAnswer, cooks};
 use crate::standing::{Standing, standing_of};
 use crate::writing::{write_cooks, write_standing};
 use pg_certificate::Sink;
-use pg_checker::{Fault, ListFault, RunFault, check_listed};
+use pg_checker::{Fault, ListFault, Problem, RunFault, check_listed};
 use pg_fen::{Diagram, Length};
 use pg_san::Games;
 use pg_searcher::{LedLimits, LedProgress};
 use pg_texts::write_games;
 use std::alloc::Global;
 
-/// Reads a diagram (the placement field of FEN, or all six fields; the PGN standard, section 16.1), a length in moves
-/// such as `18.5`, and a list of games, one a line; tests that each game has the length and ends on the diagram; and
-/// writes what they say by themselves. The lines, each ended by a line feed: `diagram ` and the placement; `length `
-/// and the length; `games ` and their number; the movetext of each game, in canonical order; then `not sound` where
-/// there are two games or more, `at least one game` where there is one, `no game given` where there is none. Nothing is
-/// claimed of other games: but with `not sound` no single game is the answer (`not_sound_is_true`). The list is taken
-/// from `alloc`; nothing is written before the games were tested.
+/// Tests that each game of a list has the length of a problem and ends on its diagram, and writes what they say by
+/// themselves. The lines, each ended by a line feed: `diagram ` and the placement; `length ` and the length; `games `
+/// and their number; the movetext of each game, in canonical order; then `not sound` where there are two games or more,
+/// `at least one game` where there is one, `no game given` where there is none. Nothing is claimed of other games: but
+/// with `not sound` no single game is the answer (`not_sound_is_true`). Takes no memory, and writes nothing before the
+/// games were tested.
 ///
 /// # Errors
-/// In this order: `Diagram`, `Length` and `Games` where that text is refused, with its refusal; `Check`
-/// with `Listed` where a listed game is no solution, with the first of them and why; `Write` where the
-/// sink has failed. With all but the last the sink is as it was.
+/// In this order: `Check` with `Listed` where a listed game is no solution, with the first of them and why, and then
+/// the sink is as it was; `Write` where the sink has failed.
 pub fn run_games<W: Sink>(
-    alloc: Global,
-    asked: &Asked<'_>,
+    problem: &Problem,
+    games: &Games,
     out: &mut W,
 ) -> Result<Standing, RunFault>
-    ensures ok { IfOk result (λ s. (d : Placement) × (n : ℕ) × (list : List (List Move))
-        × IsKnown asked.now d n list × IsStanding list s
-        × ((text : List ℕ) × IsGamesReport d n list text × Appends (W.held out.old) (W.held out.new) text)) }
+    ensures ok { IfOk result (λ s. AreSolutions problem.now.diagram problem.now.length games.now
+        × IsStanding games.now s
+        × ((text : List ℕ) × IsGamesReport problem.now.diagram problem.now.length games.now text
+        × Appends (W.held out.old) (W.held out.new) text)) }
     ensures runs { OnOk result ((W.has_failed out.old ≡ false) × (W.has_failed out.new ≡ false)) }
-    ensures err { IfErr result (λ e. IsKnownFault asked.now (W.has_failed out.new) e) }
+    ensures err { IfErr result (λ e. IsListingFault problem.now.diagram problem.now.length games.now
+        (W.has_failed out.new) e) }
     ensures unwritten { IfErr result (λ e. e ≢ RunFault.Write → out.new ≡ out.old) }
 {
-    let known = match read_known(alloc, asked) {
-        Ok(known) => known,
-        Err(fault) => return Err(fault),
-    };
-    let problem = &known.problem;
-    match write_standing(&problem.diagram, problem.length, &known.games, out) {
+    match check_listed(&problem.diagram, problem.length, games) {
+        Ok(()) => {}
+        Err(fault) => return Err(RunFault::Check(Fault::Listed(fault))),
+    }
+    match write_standing(&problem.diagram, problem.length, games, out) {
         Ok(standing) => Ok(standing),
         Err(_) => Err(RunFault::Write),
     }
@@ -102,67 +96,44 @@ pub fn write_solutions<W: Sink>(
     }
 }
 
-// Why nothing is found beside the games that texts spell.
-fn run_fault(fault: CooksFault) -> CooksRunFault
-    ensures { (asked : Asked) (failed : Bool) (d : Placement) (n : ℕ) (list : List (List Move))
-        → IsKnown asked d n list → IsCooksFault d n list fault → IsCooksRunFault asked failed result }
-{
-    match fault {
-        CooksFault::NoGame => CooksRunFault::NoGame,
-        CooksFault::Memory => CooksRunFault::Memory,
-        CooksFault::Listed(fault) => CooksRunFault::Run(RunFault::Check(Fault::Listed(fault))),
-    }
-}
-
-/// Reads a diagram, a length and a list of games as `run_games` does, looks for a game beside them as
-/// `cooks` does, and writes what is known then. The lines, each ended by a line feed: `diagram ` and the
-/// placement; `length ` and the length; `games ` and their number; the movetext of each game, in
-/// canonical order; then `another game`, or `a game of `, its number of plies and ` plies`, with the
-/// movetext of that game below and then `not sound`. Where none is found: `none: the search went through all
-/// games`; or `none with at most `, a number and ` foreign move` or ` foreign moves`, or `none found` where not even
-/// the games without foreign moves were gone through, and then `: no more were allowed` or `: node limit reached`;
-/// and below it `not sound` where two games or more are listed. The game that is written is tested, whatever the
-/// search did; of how far the search went nothing is proved. The list and what the search and the test grow by are
-/// taken from `alloc`; `watch` is told how far the search is; nothing is written before it has ended.
+/// Looks for a game beside the solutions of a problem that a list has, as `cooks` does, and writes what is known then.
+/// The lines, each ended by a line feed: `diagram ` and the placement; `length ` and the length; `games ` and their
+/// number; the movetext of each game, in canonical order; then `another game`, or `a game of `, its number of plies and
+/// ` plies`, with the movetext of that game below and then `not sound`. Where none is found: `none: the search went
+/// through all games`; or `none with at most `, a number and ` foreign move` or ` foreign moves`, or `none found` where
+/// not even the games without foreign moves were gone through, and then `: no more were allowed` or `: node limit
+/// reached`; and below it `not sound` where two games or more are listed. The game that is written is tested, whatever
+/// the search did; of how far the search went nothing is proved. What the search and the test grow by is taken from
+/// `alloc`; `watch` is told how far the search is; nothing is written before it has ended.
 ///
 /// # Errors
-/// In this order: `Run` with `Diagram`, `Length`, `Games` where that text is refused, with its refusal,
-/// and with `Check` and `Listed` where a listed game is no solution; `NoGame` where the list is empty;
-/// `Memory` where a growth is refused in the search; `Run` with `Write` where the sink has failed. With
-/// all but the last the sink is as it was.
+/// `Cooks` where `cooks` has no answer, with its fault, and then the sink is as it was; `Write` where the sink has
+/// failed.
 pub fn run_cooks<P: LedProgress, W: Sink>(
     alloc: Global,
-    asked: &Asked<'_>,
+    problem: &Problem,
+    games: &Games,
     limits: LedLimits,
     watch: &mut P,
     out: &mut W,
 ) -> Result<CookAnswer, CooksRunFault>
-    ensures ok { IfOk result (λ a. (d : Placement) × (n : ℕ) × (list : List (List Move))
-        × IsKnown asked.now d n list × IsCookAnswer d n list a × IsRefuted d n a
-        × ((text : List ℕ) × IsCooksReport d n list a text × Appends (W.held out.old) (W.held out.new) text)) }
+    ensures ok { IfOk result (λ a. AreSolutions problem.now.diagram problem.now.length games.now
+        × IsCookAnswer problem.now.diagram problem.now.length games.now a
+        × IsRefuted problem.now.diagram problem.now.length a
+        × ((text : List ℕ) × IsCooksReport problem.now.diagram problem.now.length games.now a text
+        × Appends (W.held out.old) (W.held out.new) text)) }
     ensures runs { OnOk result ((W.has_failed out.old ≡ false) × (W.has_failed out.new ≡ false)) }
-    ensures err { IfErr result (λ e. IsCooksRunFault asked.now (W.has_failed out.new) e) }
-    ensures unwritten { IfErr result (λ e. e ≢ CooksRunFault.Run Write → out.new ≡ out.old) }
+    ensures err { IfErr result (λ e. IsCooksRunFault problem.now.diagram problem.now.length games.now
+        (W.has_failed out.new) e) }
+    ensures unwritten { IfErr result (λ e. e ≢ CooksRunFault.Write → out.new ≡ out.old) }
 {
-    let known = match read_known(alloc, asked) {
-        Ok(known) => known,
-        Err(fault) => return Err(CooksRunFault::Run(fault)),
-    };
-    let problem = &known.problem;
-    let games = &known.games;
-    let answer = match cooks(
-        alloc,
-        &problem.diagram,
-        problem.length,
-        games,
-        limits,
-        watch,
-    ) {
+    let (diagram, length) = (&problem.diagram, problem.length);
+    let answer = match cooks(alloc, diagram, length, games, limits, watch) {
         Ok(answer) => answer,
-        Err(fault) => return Err(run_fault(fault)),
+        Err(fault) => return Err(CooksRunFault::Cooks(fault)),
     };
-    match write_cooks(&problem.diagram, problem.length, games, &answer, out) {
+    match write_cooks(diagram, length, games, &answer, out) {
         Ok(()) => Ok(answer),
-        Err(_) => Err(CooksRunFault::Run(RunFault::Write)),
+        Err(_) => Err(CooksRunFault::Write),
     }
 }

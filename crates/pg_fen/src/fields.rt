@@ -1,6 +1,6 @@
 //! The fields of a text.
 
-ghost use Rattle.std.specs.Prelude.{◌≡◌, ◌<◌, ◌≤◌, [], ◌∷◌, length, MatchOption};
+ghost use Rattle.std.specs.Prelude.{◌≡◌, ◌<◌, ◌≤◌, [], ◌∷◌, length, IfSome, MatchOption};
 ghost use Rattle.std.specs.List.{prefix_len};
 ghost use Rattle.pg_fen.specs.Fields.{is_field_gap, is_field_byte, fields, AreFields};
 
@@ -41,9 +41,11 @@ fn word_len(text: &[u8]) -> usize
     text.iter().take_while(|b| !is_gap(**b)).count()
 }
 
-// The first field, and what follows it.
-fn next_field(text: &[u8]) -> Option<(&[u8], &[u8])>
-    ensures { MatchOption result (fields text.now ≡ []) (λ r. fields text.now ≡ r.0.now ∷ fields r.1.now) }
+/// The first field of a text of Forsyth-Edwards notation, a run of bytes that are no space, tab, line feed or carriage
+/// return, and what follows it; None where such gaps are all that the text has.
+pub fn next_field(text: &[u8]) -> Option<(&[u8], &[u8])>
+    ensures cut { MatchOption result (fields text.now ≡ []) (λ r. fields text.now ≡ r.0.now ∷ fields r.1.now) }
+    ensures less { IfSome result (λ r. length r.1.now < length text.now) }
 {
     let (_, text) = text.split_at(gap_len(text));
     if text.is_empty() {

@@ -19,6 +19,7 @@ mod writing;
 
 pub use diagram::Diagram;
 pub use fault::{FenFault, LengthFault};
+pub use fields::next_field;
 pub use games::{FenGame, read_position, write_position};
 pub use length::Length;
 pub use letters::{letter_of, man_of};

@@ -1,21 +1,14 @@
 -- What is written, and what is refused below, handed on. Leads to the contract of `why`.
-use Rattle.std.proofs.Common.{ℕ, List, [], ◌++◌, Option}
+use Rattle.std.proofs.Common.{ℕ, List, ◌++◌, Option}
 use Rattle.std.specs.Prelude.{codes}
-use Rattle.std.proofs.KnownBytes.{Appends-nil, Appends-trans}
+use Rattle.std.proofs.KnownBytes.{Appends-trans}
 use Rattle.std.specs.Io.KnownBytes.{Appends}
 use Rattle.pg_board.specs.Placement.{Placement}
 use Rattle.pg_checker.specs.Terms.{Terms}
+use Rattle.pg_certificate.specs.Pushing.{Grows}
 use Rattle.pg_guide.specs.declared.fault.WhyFault.{WhyFault}
 use Rattle.pg_guide.specs.declared.fault.WhyFault.TheVariants.{Games, Moves, Answer, Memory, Write}
-use Rattle.pg_guide.specs.Why.{AddsRight, Failures, Grows, HasAnswer, IsLineFault, IsOneLine, IsTellingFault, IsWhyFault}
-
-pub grows_none : (a : Option (List ℕ)) → Grows a a
-unfolding Grows
-grows_none a = ([], Appends-nil a)
-
-pub grows_more : (a b c : Option (List ℕ)) (more : List ℕ) → Grows a b → Appends b c more → Grows a c
-unfolding Grows
-grows_more a b c more (text, p) q = (text ++ more, Appends-trans a b c text more p q)
+use Rattle.pg_guide.specs.Why.{AddsRight, Failures, HasAnswer, IsLineFault, IsOneLine, IsTellingFault, IsWhyFault}
 
 pub right_last : (a b c : Option (List ℕ)) → Grows a b → Appends b c (codes "the certificate is right\n") → AddsRight a c
 unfolding Grows AddsRight

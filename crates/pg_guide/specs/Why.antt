@@ -10,10 +10,6 @@ use Rattle.pg_checker.specs.Terms.{Terms}
 use Rattle.pg_guide.specs.declared.fault.WhyFault.{WhyFault}
 use Rattle.pg_guide.specs.declared.fault.WhyFault.TheVariants.{Games, Moves, Answer, Memory, Write}
 
--- some text is appended
-unfoldable pub Grows : Option (List ℕ) → Option (List ℕ) → Type 0
-Grows before after = (text : List ℕ) × Appends before after text
-
 -- lines are appended, of which the last says that the certificate is right
 unfoldable pub AddsRight : Option (List ℕ) → Option (List ℕ) → Type 0
 AddsRight before after = (lines : List ℕ) × Appends before after (lines ++ codes "the certificate is right\n")

@@ -2,9 +2,10 @@
 ghost use Rattle.std.specs.Prelude.{◌≡◌, ◌≢◌, ◌⊎◌, true, false, length, IfOk, IfErr, OnOk};
 ghost use Rattle.pg_checker.specs.Answering.{HasAnswer, failures};
 ghost use Rattle.pg_checker.specs.Cuts.{any_rules_by, rules_by};
+ghost use Rattle.pg_certificate.specs.Pushing.{Grows};
 ghost use Rattle.pg_checker.specs.Terms.{terms};
 ghost use Rattle.pg_san.specs.Listing.{IsListing};
-ghost use Rattle.pg_guide.specs.Why.{AddsRight, Grows, IsLineFault, IsOneLine, IsTellingFault, IsWhyFault};
+ghost use Rattle.pg_guide.specs.Why.{AddsRight, IsLineFault, IsOneLine, IsTellingFault, IsWhyFault};
 
 use crate::along::{Along, cited};
 use crate::fault::WhyFault;

@@ -1,6 +1,5 @@
 //! The lines that are written.
-ghost use Rattle.pg_certificate.specs.Pushing.{MayPush};
-ghost use Rattle.pg_guide.specs.Why.{Grows};
+ghost use Rattle.pg_certificate.specs.Pushing.{Grows, MayPush};
 
 use crate::found::{Cited, Found};
 use arrayvec::ArrayVec;

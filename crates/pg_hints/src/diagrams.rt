@@ -1,50 +1,14 @@
 //! What is wrong with a text that is no diagram.
-ghost use Rattle.std.specs.Prelude.{◌≡◌, ◌≢◌, ◌≤◌, ◌<◌, ◌+◌, ◌++◌, ◌∷◌, [], length, IfSome, MatchOption};
+ghost use Rattle.std.specs.Prelude.{◌≡◌, ◌≢◌, ◌≤◌, ◌+◌, ◌++◌, [], length};
 ghost use Rattle.std.specs.Fmt.{decimal};
-ghost use Rattle.std.specs.List.{prefix_len};
-ghost use Rattle.pg_fen.specs.Fields.{fields, is_field_byte, is_field_gap};
+ghost use Rattle.pg_fen.specs.Fields.{fields};
 ghost use Rattle.pg_hints.specs.Diagrams.{SaysAll, fields_hint, first_field, kings_hint, ranks, ranks_hint, times};
 
 use crate::Hint;
 use pg_fen::text::digits;
-use pg_fen::{FenFault, man_of};
+use pg_fen::{FenFault, man_of, next_field};
 use std::fmt;
 use std::fmt::Write;
-
-// Whether a byte parts two fields.
-fn is_gap(byte: u8) -> bool
-    ensures { result ≡ is_field_gap byte }
-{
-    matches!(byte, b' ' | b'\t' | b'\n' | b'\r')
-}
-
-// How many gaps a text begins with.
-fn gap_len(text: &[u8]) -> usize
-    ensures value { result ≡ prefix_len is_field_gap text.now }
-    ensures fits { result ≤ length text.now }
-{
-    text.iter().take_while(|byte| is_gap(**byte)).count()
-}
-
-// How many bytes of a field a text begins with.
-fn field_len(text: &[u8]) -> usize
-    ensures value { result ≡ prefix_len is_field_byte text.now }
-    ensures fits { result ≤ length text.now }
-{
-    text.iter().take_while(|byte| !is_gap(**byte)).count()
-}
-
-// The first field, and what follows it.
-fn next_field(text: &[u8]) -> Option<(&[u8], &[u8])>
-    ensures cut { MatchOption result (fields text.now ≡ []) (λ r. fields text.now ≡ r.0.now ∷ fields r.1.now) }
-    ensures less { IfSome result (λ r. length r.1.now < length text.now) }
-{
-    let (_, rest) = text.split_at(gap_len(text));
-    if rest.is_empty() {
-        return None;
-    }
-    Some(rest.split_at(field_len(rest)))
-}
 
 // The first field of a text; nothing where it has none.
 #[tactic(auto, using(crate::proofs::FieldLemmas::first_is, crate::proofs::FieldLemmas::first_of_none))]

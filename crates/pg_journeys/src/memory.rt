@@ -325,7 +325,7 @@ fn room_for_steps(alloc: Global) -> Result<Vec<Steps>, AllocError>
 }
 
 /// What the plans of colours showed in positions on the way to a diagram, and where men step, for a bound that is asked
-/// of one position after the other: some 3.6 MB, made once. Contracts see it as the placement of the diagram. What is
+/// of one position after the other: some 3 MB, made once. Contracts see it as the placement of the diagram. What is
 /// remembered changes no answer: it is used where a colour has the same men, rights, plies and captures to make, under
 /// the same facts.
 #[derive(Drop)]

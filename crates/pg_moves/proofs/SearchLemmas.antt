@@ -221,16 +221,6 @@ pub own_some : (b : Placement) (c : Color) (s : ℕ) → IsOwn b c s → get b s
 unfolding IsOwn
 own_some b c s (k, own) e = let o : get b s ≡ Some (man c k) = own in cc
 
--- one that is no piece is a pawn
-pub else_pawn : (b : Placement) (c : Color) (r : ℕ) → IsOwn b c r → ¬ Stands b c Knight r → ¬ Stands b c Bishop r → ¬ Stands b c Rook r → ¬ Stands b c Queen r → ¬ Stands b c King r → Stands b c Pawn r
-unfolding IsOwn
-else_pawn b c r (Pawn, here) n f o q k = here
-else_pawn b c r (Knight, here) n f o q k = absurd (n here)
-else_pawn b c r (Bishop, here) n f o q k = absurd (f here)
-else_pawn b c r (Rook, here) n f o q k = absurd (o here)
-else_pawn b c r (Queen, here) n f o q k = absurd (q here)
-else_pawn b c r (King, here) n f o q k = absurd (k here)
-
 -- no target from one square up to another
 target_gap : (p : State) (r set a b : ℕ) → Covers p r set → a ≤ b → b ≤ 64 → ((q : ℕ) → a ≤ q → q < b → has set q ≡ false) → NoneFrom p (place_of r a 0) (place_of r b 0)
 unfolding Covers

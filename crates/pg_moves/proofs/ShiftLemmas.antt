@@ -1,15 +1,14 @@
 -- Sets shifted along the board, and the squares that pawns go from.
-use Rattle.std.proofs.Common.{arith, ◌≡◌, ◌≢◌, ℕ, zero, suc, ◌+◌, ◌-◌, ◌*◌, ◌/◌, ◌%◌, ◌^◌, ◌<◌, ◌≤◌, true, not, ◌&&◌, eqb, pow-suc, None, Some, refl, sym, ap, ap₂, ◌∙◌, subst}
+use Rattle.std.proofs.Common.{arith, ◌≡◌, ◌≢◌, ℕ, zero, suc, ◌+◌, ◌-◌, ◌*◌, ◌/◌, ◌%◌, ◌^◌, ◌<◌, ◌≤◌, Bool, true, not, ◌&&◌, eqb, pow-suc, None, Some, refl, sym, ap, ap₂, ◌∙◌, subst}
 use Rattle.std.specs.Int.{bit_at}
 use Rattle.std.proofs.lemmas.Nat.{shr-shr}
 use Rattle.std.proofs.lemmas.Nat.Bits.{bit_at_cat_low, bit_at_cat_high}
-use Rattle.std.proofs.lemmas.Bool.Decides.{Decides-at, Decides-not, Decides-eqb}
 use Rattle.pg_board.specs.declared.man.Color.{Color}
 use Rattle.pg_board.specs.declared.man.Color.TheVariants.{White, Black}
 use Rattle.pg_board.specs.Squares.{file, rank}
 use Rattle.pg_board.specs.Men.{is_held, is_of, other}
 use Rattle.pg_board.specs.Placement.{Placement, get}
-use Rattle.pg_board.specs.Bits.{has, bits_below, has-bits_below}
+use Rattle.pg_board.specs.Bits.{has}
 use Rattle.pg_board.specs.Tally.{one, total, count_below}
 use Rattle.pg_board.specs.lemmas.Sums.{total-none, total-suc}
 use Rattle.pg_board.specs.SquareSets.{IsSetOf}
@@ -52,23 +51,6 @@ pub inside_low : (c : Color) (q k : ℕ) → q < 64 → IsInside c k q → forwa
 inside_low White q k l h = h
 inside_low Black q k l h = omega arith
 
--- ---- masks
-pub home_white : (c : Color) → c ≡ White → IsSetOf 65280 (λ q. rank q ≡ home_rank c)
-unfolding bits_below
-home_white c e = subst (λ (d : Color). IsSetOf 65280 (λ q. rank q ≡ home_rank d)) (sym e) (λ q l. Decides-at _ _ (has-bits_below (λ s. eqb (rank s) 2) 64 q l) (Decides-eqb (rank q) 2))
-
-pub home_black : (c : Color) → c ≡ Black → IsSetOf 71776119061217280 (λ q. rank q ≡ home_rank c)
-unfolding bits_below
-home_black c e = subst (λ (d : Color). IsSetOf 71776119061217280 (λ q. rank q ≡ home_rank d)) (sym e) (λ q l. Decides-at _ _ (has-bits_below (λ s. eqb (rank s) 7) 64 q l) (Decides-eqb (rank q) 7))
-
-pub off_a_file : IsSetOf 18374403900871474942 (λ q. file q ≢ 1)
-unfolding bits_below
-off_a_file q l = Decides-at _ _ (has-bits_below (λ s. not (eqb (file s) 1)) 64 q l) (Decides-not _ (Decides-eqb (file q) 1))
-
-pub off_h_file : IsSetOf 9187201950435737471 (λ q. file q ≢ 8)
-unfolding bits_below
-off_h_file q l = Decides-at _ _ (has-bits_below (λ s. not (eqb (file s) 8)) 64 q l) (Decides-not _ (Decides-eqb (file q) 8))
-
 -- ---- sets
 none_held : (b : Placement) (q : ℕ) → ¬ (get b q ≢ None) → IsVacant b q
 none_held b q h = elim (get b q) as (λ o. get b q ≡ o → IsVacant b q) [
@@ -97,8 +79,8 @@ ahead_set c k pawns shifted set n le inside seen is both q l = (
       both q ∙ (let yes : has pawns q && has shifted q ≡ true = cc in yes)),
 )
 
-pub fewer_inside : (c : Color) (a b n : ℕ) → AreInside c a → ((q : ℕ) → has n q ≡ has a q && has b q) → AreInside c n
-fewer_inside c a b n h both q l e = h q l (and_true (has a q) (has b q) (sym (both q) ∙ e)).0
+pub fewer_inside : (c : Color) (a n : ℕ) (f : ℕ → Bool) → AreInside c a → ((q : ℕ) → q < 64 → has n q ≡ has a q && f q) → AreInside c n
+fewer_inside c a n f h both q l e = h q l (and_true (has a q) (f q) (sym (both q l) ∙ e)).0
 
 -- ---- sums
 pub total_add : (f g : ℕ → ℕ) (n : ℕ) → total f n + total g n ≡ total (λ q. f q + g q) n
@@ -143,12 +125,12 @@ module _ (b : Placement) (c : Color) (pawns goals : ℕ) where
       (λ q l g. ((two q l).1 (((is q l).1 (g.0, g.1), g.2), g.3), g.4))
       h
 
-  pub side_set : (k j n m off kept enemies : ℕ) → j ≡ k → IsSetOf off (λ q. file q ≢ m) → ((q : ℕ) → has kept q ≡ has pawns q && has off q) → IsSetOf enemies (λ q. IsEnemy b c q × (has goals q ≡ true)) → ((q : ℕ) → q < 64 → has pawns q ≡ true → forward c k q < 64) → IsSetOf n (λ q. (has kept q ≡ true) × (has enemies (forward c j q) ≡ true)) → IsSetOf n (λ q. (has pawns q ≡ true) × (file q ≢ m) × IsEnemy b c (forward c k q) × (has goals (forward c k q) ≡ true))
-  side_set k j n m off kept enemies e out both are low h = set_like n
-      (λ q l g. (let o = (set_of_both kept pawns off both (itself pawns) out q l).0 g.0 in
+  pub side_set : (k j n m edge kept enemies : ℕ) → j ≡ k → IsSetOf edge (λ q. file q ≡ m) → ((q : ℕ) → q < 64 → has kept q ≡ has pawns q && not (has edge q)) → IsSetOf enemies (λ q. IsEnemy b c q × (has goals q ≡ true)) → ((q : ℕ) → q < 64 → has pawns q ≡ true → forward c k q < 64) → IsSetOf n (λ q. (has kept q ≡ true) × (has enemies (forward c j q) ≡ true)) → IsSetOf n (λ q. (has pawns q ≡ true) × (file q ≢ m) × IsEnemy b c (forward c k q) × (has goals (forward c k q) ≡ true))
+  side_set k j n m edge kept enemies e out rest are low h = set_like n
+      (λ q l g. (let o = (set_of_rest kept pawns edge rest (itself pawns) out q l).0 g.0 in
       let there = (are (forward c k q) (low q l o.0)).0 (subst (λ (i : ℕ). has enemies (forward c i q) ≡ true) e g.1) in
       (o.0, o.1, there.0, there.1)))
-      (λ q l g. ((set_of_both kept pawns off both (itself pawns) out q l).1 (g.0, g.1), subst (λ (i : ℕ). has enemies (forward c i q) ≡ true) (sym e) ((are (forward c k q) (low q l g.0)).1 (g.2, g.3))))
+      (λ q l g. ((set_of_rest kept pawns edge rest (itself pawns) out q l).1 (g.0, g.1), subst (λ (i : ℕ). has enemies (forward c i q) ≡ true) (sym e) ((are (forward c k q) (low q l g.0)).1 (g.2, g.3))))
       h
 
   pub inside_there : (k : ℕ) → k ≤ 16 → AreInside c pawns → (q : ℕ) → q < 64 → has pawns q ≡ true → forward c k q < 64

@@ -1,10 +1,9 @@
 -- Where one free pawn goes, by sets shifted along the board.
-use Rattle.std.proofs.Common.{◌≡◌, ◌≢◌, ℕ, ◌+◌, ◌-◌, ◌<◌, inl, inr, true, not, ◌&&◌, ◌||◌, None, Some, refl, sym, subst, arith, ◌∙◌, eqb}
-use Rattle.std.proofs.lemmas.Bool.Decides.{Decides-at, Decides-eqb}
+use Rattle.std.proofs.Common.{◌≡◌, ◌≢◌, ℕ, ◌+◌, ◌-◌, ◌<◌, inl, inr, true, not, ◌&&◌, ◌||◌, None, Some, refl, sym, subst, arith, ◌∙◌}
 use Rattle.pg_board.specs.declared.man.Color.{Color}
 use Rattle.pg_board.specs.declared.man.Color.TheVariants.{White, Black}
 use Rattle.pg_board.specs.declared.man.Kind.TheVariants.{Pawn}
-use Rattle.pg_board.specs.Bits.{has, bits_below, has-bits_below}
+use Rattle.pg_board.specs.Bits.{has}
 use Rattle.pg_board.specs.Men.{is_held, is_of, other}
 use Rattle.pg_board.specs.Placement.{Placement, get}
 use Rattle.pg_board.specs.Squares.{rank}
@@ -19,15 +18,6 @@ use Rattle.pg_moves.specs.inner.Steps.{leap_rank, StepsTo}
 use Rattle.pg_moves.specs.Targets.{Strides, Leaps, Advances}
 use Rattle.pg_moves.proofs.ShiftLemmas.{itself}
 use Rattle.pg_moves.proofs.TargetLemmas.{enemy_set, held_set, front_set, advance_pawn}
-
--- ---- masks
-pub leap_white : (c : Color) → c ≡ White → IsSetOf 4278190080 (λ q. rank q ≡ leap_rank c)
-unfolding bits_below
-leap_white c e = subst (λ (d : Color). IsSetOf 4278190080 (λ q. rank q ≡ leap_rank d)) (sym e) (λ q l. Decides-at _ _ (has-bits_below (λ s. eqb (rank s) 4) 64 q l) (Decides-eqb (rank q) 4))
-
-pub leap_black : (c : Color) → c ≡ Black → IsSetOf 1095216660480 (λ q. rank q ≡ leap_rank c)
-unfolding bits_below
-leap_black c e = subst (λ (d : Color). IsSetOf 1095216660480 (λ q. rank q ≡ leap_rank d)) (sym e) (λ q l. Decides-at _ _ (has-bits_below (λ s. eqb (rank s) 5) 64 q l) (Decides-eqb (rank q) 5))
 
 -- ---- steps
 none_held : (b : Placement) (q : ℕ) → ¬ (get b q ≢ None) → IsVacant b q

@@ -12,7 +12,7 @@ use crate::kings::king_targets_of;
 use crate::pawns::{pawn_ways, quiet_pawns};
 use crate::places::promotion_number;
 use crate::search::first_of_man;
-use crate::sources::source_to_count;
+use crate::sources::source_at;
 use crate::targets::advances;
 use pg_board::{Board, Color, Kind, Man, Square, SquareSet};
 use pg_position::Position;
@@ -47,7 +47,7 @@ fn count_of_square(position: &Position, board: &Board, from: Square) -> u64
     ensures count { Adds position.now (place_of from 0 0) (place_of (from + 1) 0 0) result }
     ensures bound { result ≤ most_of_a_man }
 {
-    let source = source_to_count(position, board, SquareSet::full(), from);
+    let source = source_at(position, board, SquareSet::full(), from);
     if source.exact {
         source.set.len() as u64
     } else {

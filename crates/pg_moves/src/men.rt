@@ -37,8 +37,8 @@ fn leap_squares(color: Color) -> SquareSet
     ensures { IsSetOf result (λ q. rank q ≡ leap_rank color) }
 {
     match color {
-        Color::White => SquareSet::of_bits(0x0000_0000_ff00_0000),
-        Color::Black => SquareSet::of_bits(0x0000_00ff_0000_0000),
+        Color::White => SquareSet::of_rank(4),
+        Color::Black => SquareSet::of_rank(5),
     }
 }
 

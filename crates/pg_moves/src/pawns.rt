@@ -1,8 +1,8 @@
 //! Pawns counted all at once: the sets of the squares from which they go, by sets shifted along the
 //! board.
-ghost use Rattle.std.specs.Prelude.{◌≡◌, ◌≢◌, ℕ, ◌<◌, ◌≤◌, IsFalse, true};
+ghost use Rattle.std.specs.Prelude.{◌≡◌, ℕ, ◌<◌, ◌≤◌, IsFalse, true};
 ghost use Rattle.pg_board.specs.Bits.{has};
-ghost use Rattle.pg_board.specs.Squares.{file, rank};
+ghost use Rattle.pg_board.specs.Squares.{rank};
 ghost use Rattle.pg_board.specs.Tally.{total};
 ghost use Rattle.pg_board.specs.declared.man.Kind.TheVariants.{Pawn};
 ghost use Rattle.pg_position.specs.Position.{IsVacant};
@@ -16,7 +16,7 @@ ghost use Rattle.pg_moves.specs.inner.Guards.{GuardsOff, AreOff};
 
 use crate::guards::Guard;
 use pg_board::{Board, Color, Kind, Man, SquareSet};
-use pg_position::{Position, attacks_from};
+use pg_position::{Position, attacks_from, home_rank};
 
 // The squares from which pawns go one square forward, go two, capture towards the a-file, and capture
 // towards the h-file.
@@ -46,24 +46,7 @@ fn seen_ahead(set: SquareSet, color: Color, by: u8) -> SquareSet
 pub(crate) fn home(color: Color) -> SquareSet
     ensures { IsSetOf result (λ q. rank q ≡ home_rank color) }
 {
-    match color {
-        Color::White => SquareSet::of_bits(0x0000_0000_0000_ff00),
-        Color::Black => SquareSet::of_bits(0x00ff_0000_0000_0000),
-    }
-}
-
-// The squares off the a-file.
-fn off_a_file() -> SquareSet
-    ensures { IsSetOf result (λ q. file q ≢ 1) }
-{
-    SquareSet::of_bits(0xfefe_fefe_fefe_fefe)
-}
-
-// The squares off the h-file.
-fn off_h_file() -> SquareSet
-    ensures { IsSetOf result (λ q. file q ≢ 8) }
-{
-    SquareSet::of_bits(0x7f7f_7f7f_7f7f_7f7f)
+    SquareSet::of_rank(home_rank(color))
 }
 
 fn empty_squares(board: &Board) -> SquareSet
@@ -141,11 +124,13 @@ pub(crate) fn pawn_ways(
     let once = going_once(board, color, pawns);
     let twice = going_twice(board, color, once);
     let enemies = enemies_there(board, color, goals);
+    let west = pawns - SquareSet::of_file(1);
+    let east = pawns - SquareSet::of_file(8);
     PawnMoves {
         once: aiming(once, color, RANK, goals),
         twice: aiming(twice, color, 2 * RANK, goals),
-        west: aiming(pawns & off_a_file(), color, to_west(color), enemies),
-        east: aiming(pawns & off_h_file(), color, to_east(color), enemies),
+        west: aiming(west, color, to_west(color), enemies),
+        east: aiming(east, color, to_east(color), enemies),
     }
 }
 

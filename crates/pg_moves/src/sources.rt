@@ -116,76 +116,12 @@ pub(crate) fn source_at(
     }
 }
 
-// The pawn of the side to move on a square: not inlined, since the counts meet few pawns one by one.
-#[inline(never)]
-fn source_of_pawn(
-    position: &Position,
-    board: &Board,
-    maybe_pinned: SquareSet,
-    from: Square,
-) -> Source
-    requires same { board.now ≡ position.now.board }
-    requires free { FreeOff position.now maybe_pinned }
-    requires stands { Stands position.now.board position.now.side Kind.Pawn from }
-    ensures { IsToldSource position.now from result }
-{
-    source_of_kind(
-        position,
-        board,
-        maybe_pinned,
-        position.side(),
-        Kind::Pawn,
-        from,
-    )
-}
-
 // Whether a man of this colour and kind stands on the square, by the set of these men.
 #[inline(always)]
 pub(crate) fn is_there(board: &Board, color: Color, kind: Kind, from: Square) -> bool
     ensures { IsTrue result ↔ Stands board.now color kind from }
 {
     board.squares_of(Man::new(color, kind)).contains(from)
-}
-
-// The kind of the colour's man on a square. The counts meet few pawns one by one: so they come last.
-#[inline(always)]
-fn kind_of(board: &Board, color: Color, from: Square) -> Kind
-    requires { IsOwn board.now color from }
-    ensures { Stands board.now color result from }
-{
-    if is_there(board, color, Kind::Knight, from) {
-        Kind::Knight
-    } else if is_there(board, color, Kind::Bishop, from) {
-        Kind::Bishop
-    } else if is_there(board, color, Kind::Rook, from) {
-        Kind::Rook
-    } else if is_there(board, color, Kind::Queen, from) {
-        Kind::Queen
-    } else if is_there(board, color, Kind::King, from) {
-        Kind::King
-    } else {
-        Kind::Pawn
-    }
-}
-
-// The man of the side to move on a square, for the counts: seldom a pawn.
-#[inline(always)]
-pub(crate) fn source_to_count(
-    position: &Position,
-    board: &Board,
-    maybe_pinned: SquareSet,
-    from: Square,
-) -> Source
-    requires same { board.now ≡ position.now.board }
-    requires free { FreeOff position.now maybe_pinned }
-    requires own { IsOwn position.now.board position.now.side from }
-    ensures { IsToldSource position.now from result }
-{
-    let side = position.side();
-    match kind_of(board, side, from) {
-        Kind::Pawn => source_of_pawn(position, board, maybe_pinned, from),
-        kind => source_of(position, board, maybe_pinned, side, kind, from),
-    }
 }
 
 // The first legal move of a man, from this target and promotion on.

@@ -10,7 +10,7 @@ use Rattle.std.specs.Io.KnownBytes.{Appends}
 use Rattle.pg_board.specs.Placement.{Placement, get}
 use Rattle.pg_board.specs.Squares.{file, rank}
 use Rattle.pg_board.specs.declared.man.Man.{Man}
-use Rattle.pg_certificate.specs.Pushing.{AddsSome}
+use Rattle.pg_certificate.specs.Pushing.{AddsSome, Grows}
 use Rattle.pg_checker.specs.declared.certify.Answer.{Answer}
 use Rattle.pg_fen.specs.Lengths.{length_text}
 use Rattle.pg_fen.specs.Letters.{letter_of_kind}
@@ -24,7 +24,6 @@ use Rattle.pg_san.specs.Games.{IsFromArray}
 use Rattle.pg_texts.specs.Movetext.{AddsLongest, IsMovetext}
 use Rattle.pg_page.specs.Board.{board_start, board_text, class_of, man_text, men_text, square_text}
 use Rattle.pg_page.specs.Escaping.{escaped}
-use Rattle.pg_page.specs.Growing.{Grows}
 use Rattle.pg_page.specs.Heading.{AreGameItems, AreMoveTexts, IsGameItem, IsGameList, IsHead}
 use Rattle.pg_page.specs.Heading.{answer_text, asked, checked_text, end_words, front_text, headed, titled, verdict_words}
 use Rattle.pg_page.specs.declared.heading.TheConstants.{CHECKED}

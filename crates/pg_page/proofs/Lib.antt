@@ -1,4 +1,3 @@
-mod GrowingLemmas
 mod HeadLemmas
 mod LetterLemmas
 mod PageLemmas

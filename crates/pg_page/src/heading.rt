@@ -115,7 +115,7 @@ fn write_moves<W: Sink>(game: &[Move], out: &mut W) -> Result<(), Refused>
             Ok(next) => next,
             Err(_) => unreachable!(),
         };
-        out.push(move_text(&position, m).as_str().as_bytes())?;
+        out.push(move_text(&position, m, &next).as_str().as_bytes())?;
         out.push(b" ")?;
         position = next;
     }

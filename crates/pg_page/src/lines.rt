@@ -2,7 +2,7 @@
 ghost use Rattle.std.specs.Prelude.{◌≡◌, ◌<◌, ◌≤◌, ◌++◌, length, IsTrue};
 ghost use Rattle.std.specs.Fmt.{decimal};
 ghost use Rattle.pg_certificate.specs.Pushing.{Adds, MayPush, Pushes};
-ghost use Rattle.pg_position.specs.Step.{IsLegal};
+ghost use Rattle.pg_position.specs.Step.{Legal};
 ghost use Rattle.pg_page.specs.Lines.{letter_at, IsMoveText};
 ghost use Rattle.pg_page.specs.Escaping.{has_meaning, entity_of, written_as, escaped};
 
@@ -11,7 +11,7 @@ use pg_board::Square;
 use pg_certificate::{Refused, Sink};
 use pg_fen::text::{digits, put};
 use pg_position::{Move, Position};
-use pg_san::write;
+use pg_san::write_with;
 
 // A letter for each square, from a1 on.
 static LETTERS: [u8; 64] = *b"ABCDEFGHIJKLMNOPQRSTUVWXYZabcdefghijklmnopqrstuvwxyz0123456789-_";
@@ -28,14 +28,14 @@ fn letter_of(square: Square) -> u8
     LETTERS[usize::from(square.index())]
 }
 
-// A legal move: the letters of its squares, and its text. Byte by byte, since a formatted write costs some fifty
-// instructions for each part, and a page has a line for most moves.
-pub(crate) fn move_text(position: &Position, m: &Move) -> MoveText
-    requires { IsLegal position.now m.now }
+// A legal move, with the position that it leads to: the letters of its squares, and its text. Byte by byte, since a
+// formatted write costs some fifty instructions for each part, and a page has a line for most moves.
+pub(crate) fn move_text(position: &Position, m: &Move, next: &Position) -> MoveText
+    requires { Legal position.now m.now next.now }
     ensures text { IsMoveText position.now m.now result.bytes }
     ensures short { length result.bytes ≤ 10 }
 {
-    let san = write(position, *m);
+    let san = write_with(position, *m, next);
     // A fact for the proof: it has at most eight characters.
     san.len();
     let mut text = MoveText::new();

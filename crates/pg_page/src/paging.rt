@@ -1,10 +1,9 @@
 //! A certificate is checked and shown as a page.
 ghost use Rattle.std.specs.Prelude.{◌≡◌, ◌⊎◌, false, true, IfErr, OnErr, OnOk};
-ghost use Rattle.pg_certificate.specs.Pushing.{MayPush, Pushes};
+ghost use Rattle.pg_certificate.specs.Pushing.{Grows, MayPush, Pushes};
 ghost use Rattle.pg_checker.specs.Answering.{HasAnswer, failures};
 ghost use Rattle.pg_checker.specs.Cuts.{any_rules_by, rules_by};
 ghost use Rattle.pg_checker.specs.Terms.{terms};
-ghost use Rattle.pg_page.specs.Growing.{Grows};
 ghost use Rattle.pg_page.specs.Page.{AddsHead, IsPageFault, IsShowingFault, IsShown};
 
 use crate::fault::PageFault;

@@ -1,10 +1,8 @@
 //! The trees of a certificate as lines for the page's script, depth first, a line for each node that is told.
 //! docs/FORMATS.md has the lines.
 ghost use Rattle.std.specs.Prelude.{◌≡◌, ◌++◌, codes};
-ghost use Rattle.pg_certificate.specs.Pushing.{Adds, MayPush, Pushes};
+ghost use Rattle.pg_certificate.specs.Pushing.{Adds, Grows, MayPush, Pushes};
 ghost use Rattle.pg_page.specs.Escaping.{escaped};
-ghost use Rattle.pg_page.specs.Growing.{Grows};
-ghost use Rattle.pg_page.specs.Lines.{leaf_mark};
 
 use crate::floors::Tree;
 use crate::lines::{MoveText, move_text, write_escaped};
@@ -79,7 +77,7 @@ fn put_code(text: &mut Text, code: Option<u8>) {
 fn reached_from(position: &Position, m: &Move) -> Option<Reached> {
     match position.play(*m) {
         Ok(next) => Some(Reached {
-            text: move_text(position, m),
+            text: move_text(position, m, &next),
             position: next,
         }),
         Err(_) => None,
@@ -137,9 +135,7 @@ fn count_child(told: &mut Told, said: &Bare) {
 }
 
 // What stands behind the move of a leaf: whether it leads to the diagram.
-fn leaf_mark(hit: bool) -> &'static str
-    ensures { result.now ≡ leaf_mark hit }
-{
+fn leaf_mark(hit: bool) -> &'static str {
     if hit { "*" } else { "," }
 }
 

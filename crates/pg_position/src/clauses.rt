@@ -39,7 +39,7 @@ pub(crate) fn has_good_kings(board: &Board) -> bool
 fn ends() -> SquareSet
     ensures { IsSetOf result (λ q. (rank q ≡ 1) ⊎ (rank q ≡ 8)) }
 {
-    SquareSet::of_bits(0xff00_0000_0000_00ff)
+    SquareSet::of_rank(1) | SquareSet::of_rank(8)
 }
 
 #[tactic(auto, unfolding(crate::specs::Position::PawnsClause))]

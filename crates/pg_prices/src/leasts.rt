@@ -28,7 +28,7 @@ fn entered(two: Two, row: [u8; MOST_MEN]) -> Two {
     }
 }
 
-// The least distances without the man that has these.
+// The least distances without the man that has these. Where another is as near to a target, the second is the same.
 #[inline(always)]
 fn without(two: Two, row: [u8; MOST_MEN]) -> [u8; MOST_MEN] {
     let first = u8x16::from_array(two.first);
@@ -254,6 +254,18 @@ impl Leasts {
         let short = cut_off_castled(&self.king_side, plies, rows, board);
         let long = cut_off_castled(&self.queen_side, plies, rows, board);
         men & short & long
+    }
+
+    // The need of travel.
+    pub(crate) fn need(&self) -> u16 {
+        let mut need = sum_of(self.free.first);
+        if let Some(castled) = &self.king_side {
+            need = need.min(sum_of(castled.least.first).saturating_add(1));
+        }
+        if let Some(castled) = &self.queen_side {
+            need = need.min(sum_of(castled.least.first).saturating_add(1));
+        }
+        need
     }
 
     /// The least distances without the man of this kind on a square.

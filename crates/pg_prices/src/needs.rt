@@ -1,7 +1,8 @@
 //! What the men of one colour of a position need to come onto the squares of a diagram: the need of
 //! travel and its price, pawns to promote, changes of file and their price.
 
-use crate::assignment::{Costs, MOST_MEN, assign, least_costs};
+use crate::assignment::{Costs, assign, least_costs};
+use crate::leasts::Leasts;
 use crate::lists::Lists;
 use crate::rows::Rows;
 use pg_board::{Board, Color, Kind, Man};
@@ -37,17 +38,6 @@ pub struct Needs {
     pub lists: u32,
 }
 
-// The numbers of the first targets, added up, at most 250.
-fn least_sum(least: &[u8; MOST_MEN], targets: usize) -> u8 {
-    let mut sum = 0u8;
-    for t in 0..MOST_MEN {
-        if t < targets {
-            sum = sum.saturating_add(least[t]);
-        }
-    }
-    sum.min(250)
-}
-
 // A number as a byte, at most 250, below those that stand for something else.
 fn small(value: u16) -> u8 {
     value.min(250) as u8
@@ -72,15 +62,7 @@ fn allows(rows: &Rows, rights: Rights, way: Option<Wing>) -> bool {
 
 /// The need of travel, the least number of plies by distances over the ways: 200 and more for none.
 pub fn need_by_rows(rows: &Rows, position: &Position) -> u8 {
-    let board = position.board();
-    let mut least = u8::MAX;
-    for way in WAYS {
-        if allows(rows, position.rights(), way) {
-            let sum = least_sum(&rows.least(&board, way), rows.targets());
-            least = least.min(sum.saturating_add(u8::from(way.is_some())));
-        }
-    }
-    least
+    small(Leasts::new(rows, &position.board(), position.rights()).need())
 }
 
 /// The value of a least assignment, the least over the ways, at most 250, and the prices of each way.

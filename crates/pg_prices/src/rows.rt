@@ -185,17 +185,6 @@ fn lower(least: &mut [u8; MOST_MEN], row: &[u8; MOST_MEN]) {
     }
 }
 
-// Lowers numbers to the costs of these men of a board.
-fn lower_to(least: &mut [u8; MOST_MEN], rows: &Vec<[u8; MOST_MEN]>, first: usize, men: SquareSet) {
-    let mut men = men;
-    for _ in 0..MOST_MEN {
-        let Some(square) = men.pop_first() else {
-            return;
-        };
-        lower(least, &row_of(rows, first, square));
-    }
-}
-
 // The king's home and where it castles to, and the rook's, by their indexes.
 fn castled(color: Color, wing: Wing) -> ((u8, u8), (u8, u8)) {
     let king = (king_home(color).index(), king_target(color, wing).index());
@@ -322,30 +311,6 @@ impl Rows {
         put_source(costs, number_of(all, king), &row);
         let row = row_at(&self.travel, place(Kind::Rook, rook_to));
         put_source(costs, number_of(all, rook), &row);
-    }
-
-    /// The least distance of any of the colour's men on a board to each target, with king and rook
-    /// counted on the squares that they castle to where there is a castling.
-    pub fn least(&self, board: &Board, way: Option<Wing>) -> [u8; MOST_MEN] {
-        let mut least = [UNREACHABLE; MOST_MEN];
-        let mut there = SquareSet::full();
-        if let Some(wing) = way {
-            let ((king, king_to), (rook, rook_to)) = castled(self.color, wing);
-            there = there - SquareSet::of_bits(1 << (king % 64) | 1 << (rook % 64));
-            lower(
-                &mut least,
-                &row_at(&self.travel, place(Kind::King, king_to)),
-            );
-            lower(
-                &mut least,
-                &row_at(&self.travel, place(Kind::Rook, rook_to)),
-            );
-        }
-        for kind in KINDS {
-            let men = board.squares_of(Man::new(self.color, kind));
-            lower_to(&mut least, &self.travel, first(kind), men & there);
-        }
-        least
     }
 
     /// How many files the colour's pawns on a board, in the order of their squares, have to change to

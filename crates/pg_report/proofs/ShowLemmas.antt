@@ -1,5 +1,5 @@
 -- Texts appended one after the other make the lines that show a diagram. Leads to the contract of `run_show`.
-use Rattle.std.proofs.Common.{◌≡◌, ◌⊎◌, inl, inr, ℕ, ◌%◌, ◌/◌, Bool, true, List, ◌++◌, Option, Some, Ok, subst, sym, refl}
+use Rattle.std.proofs.Common.{◌≡◌, ℕ, List, ◌++◌, Option, Some, subst, sym, refl}
 use Rattle.std.specs.Prelude.{codes}
 use Rattle.std.specs.Option.{option_map}
 use Rattle.std.proofs.KnownBytes.{Appends-trans}
@@ -9,19 +9,15 @@ use Rattle.pg_board.specs.Placement.{Placement}
 use Rattle.pg_board.specs.declared.man.Color.{Color}
 use Rattle.pg_board.specs.declared.man.Color.TheVariants.{White, Black}
 use Rattle.pg_captures.specs.Counting.{men, any_man}
-use Rattle.pg_fen.specs.Fields.{fields}
-use Rattle.pg_fen.specs.DiagramText.{diagram_of}
-use Rattle.pg_fen.specs.Lengths.{length_of, length_text}
+use Rattle.pg_fen.specs.Lengths.{length_text}
 use Rattle.pg_texts.specs.BoardText.{board_text}
-use Rattle.pg_report.specs.declared.fault.ShowFault.{ShowFault}
-use Rattle.pg_report.specs.declared.fault.ShowFault.TheVariants.{Memory, Write}
 use Rattle.pg_report.specs.declared.sides.Reason.{Reason}
 use Rattle.pg_report.specs.Sides.{own_plies, IsSideNeed}
 use Rattle.pg_report.specs.Expecting.{IsExpected, end_text, expected_text, range_text}
 use Rattle.pg_report.specs.declared.expecting.Expected.{Expected}
 use Rattle.pg_report.specs.Within.{AreKnown, name_of}
 use Rattle.pg_journeys.specs.declared.facts.Facts.{Facts as FactSets}
-use Rattle.pg_report.specs.Showing.{counted_text, men_text, captured_text, reason_text, spare_text, need_text, open_line, below_text, IsSideLine, IsShown, IsShowFault, IsShowWithinFault}
+use Rattle.pg_report.specs.Showing.{counted_text, men_text, captured_text, reason_text, spare_text, need_text, open_line, below_text, IsSideLine, IsShown}
 
 pub men_grow : (d : Placement) (c : Color) (n : ℕ) (name : List ℕ) (x y z : Option (List ℕ)) → name ≡ name_of c → n ≡ men c any_man d → Appends x y name → Appends y z (counted_text n (codes " man, captured ") (codes " men, captured ")) → Appends x z (men_text d c)
 men_grow d c n name x y z named counted first second = Appends-trans x y z (name_of c) _ (subst (Appends x y) named first) (subst (λ k. Appends y z (counted_text k (codes " man, captured ") (codes " men, captured "))) counted second)
@@ -64,12 +60,3 @@ shown d asked least facts expected v w x y z known is board (white, is_white, se
 -- the line of a colour that is this one
 pub side_of : (d : Placement) (c here : Color) (asked : Option ℕ) (x y : Option (List ℕ)) → here ≡ c → AddsSome (IsSideLine d here asked) x y → AddsSome (IsSideLine d c asked) x y
 side_of d c here asked x y is h = subst (λ k. AddsSome (IsSideLine d k asked) x y) is h
-
--- ---- refusals
-pub show_refused : {P : Type 0} (text : List ℕ) (d : Placement) (failed : Bool) (e : ShowFault) → diagram_of (fields text) ≡ Ok d → ((e ≡ Memory) × P) ⊎ ((e ≡ Write) × (failed ≡ true)) → IsShowFault text failed e
-show_refused text d failed e read (inl (is, same)) = subst (λ (x : ShowFault). IsShowFault text failed x) (sym is) (d, read)
-show_refused text d failed e read (inr (is, wrong)) = subst (λ (x : ShowFault). IsShowFault text failed x) (sym is) ((d, read), wrong)
-
-pub within_refused : {P : Type 0} (text length : List ℕ) (d : Placement) (n : ℕ) (failed : Bool) (e : ShowFault) → diagram_of (fields text) ≡ Ok d → length_of length ≡ Ok n → ((e ≡ Memory) × P) ⊎ ((e ≡ Write) × (failed ≡ true)) → IsShowWithinFault text length failed e
-within_refused text length d n failed e read long (inl (is, same)) = subst (λ (x : ShowFault). IsShowWithinFault text length failed x) (sym is) (d, n, read, long)
-within_refused text length d n failed e read long (inr (is, wrong)) = subst (λ (x : ShowFault). IsShowWithinFault text length failed x) (sym is) ((d, n, read, long), wrong)

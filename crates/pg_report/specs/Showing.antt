@@ -1,5 +1,5 @@
 -- What is said at once of a diagram: its board, what either colour has done, and the least length.
-use Rattle.std.specs.Prelude.{◌≡◌, ℕ, ◌-◌, eqb, nat_le, cond, Bool, true, List, ◌++◌, Option, Some, None, Ok, Err, codes}
+use Rattle.std.specs.Prelude.{◌≡◌, ℕ, ◌-◌, eqb, nat_le, cond, List, ◌++◌, Option, Some, None, codes}
 use Rattle.std.specs.Fmt.{decimal}
 use Rattle.std.specs.Option.{option_map}
 use Rattle.pg_board.specs.Placement.{Placement}
@@ -7,12 +7,8 @@ use Rattle.pg_board.specs.declared.man.Color.{Color}
 use Rattle.pg_board.specs.declared.man.Color.TheVariants.{White, Black}
 use Rattle.pg_captures.specs.Counting.{men, any_man}
 use Rattle.pg_captures.specs.Owed.{victims}
-use Rattle.pg_fen.specs.Fields.{fields}
-use Rattle.pg_fen.specs.DiagramText.{diagram_of}
-use Rattle.pg_fen.specs.Lengths.{length_of, length_text}
+use Rattle.pg_fen.specs.Lengths.{length_text}
 use Rattle.pg_texts.specs.BoardText.{board_text}
-use Rattle.pg_report.specs.declared.fault.ShowFault.{ShowFault}
-use Rattle.pg_report.specs.declared.fault.ShowFault.TheVariants.{Diagram, Length, Memory, Write}
 use Rattle.pg_report.specs.declared.sides.Reason.{Reason}
 use Rattle.pg_report.specs.declared.sides.Reason.TheVariants.{Captures, Promotions, PawnFiles, Travel, Pairs}
 use Rattle.pg_report.specs.Sides.{own_plies, IsSideNeed}
@@ -83,22 +79,3 @@ IsShown d asked least text =
     × IsSideLine d White asked white × IsSideLine d Black asked black × AreKnown d asked facts
     × IsExpected d asked facts least expected
     × (text ≡ board_text d ++ (white ++ (black ++ below_text asked facts least expected)))
-
--- the texts spell a diagram and a length
-abbrev pub IsAsked : List ℕ → List ℕ → Type 0
-IsAsked text length = (d : Placement) × (n : ℕ) × (diagram_of (fields text) ≡ Ok d) × (length_of length ≡ Ok n)
-
--- why nothing is shown, or not all: the text is refused as a diagram; else memory was refused, or the sink has failed
-abbrev pub IsShowFault : List ℕ → Bool → ShowFault → Type 0
-IsShowFault text failed (Diagram fault) = diagram_of (fields text) ≡ Err fault
-IsShowFault text failed (Length fault) = ⊥
-IsShowFault text failed Memory = (d : Placement) × (diagram_of (fields text) ≡ Ok d)
-IsShowFault text failed Write = ((d : Placement) × (diagram_of (fields text) ≡ Ok d)) × (failed ≡ true)
-
--- the same where a length is asked: after the diagram its text may be refused
-abbrev pub IsShowWithinFault : List ℕ → List ℕ → Bool → ShowFault → Type 0
-IsShowWithinFault text length failed (Diagram fault) = diagram_of (fields text) ≡ Err fault
-IsShowWithinFault text length failed (Length fault) =
-    ((d : Placement) × (diagram_of (fields text) ≡ Ok d)) × (length_of length ≡ Err fault)
-IsShowWithinFault text length failed Memory = IsAsked text length
-IsShowWithinFault text length failed Write = IsAsked text length × (failed ≡ true)

@@ -77,8 +77,6 @@ count_status_of (numbering.Count fault) = number_status fault
 count_status_of numbering.Write = 4
 
 abbrev pub show_status_of : ShowFault → ℕ
-show_status_of (showing.Diagram fault) = 2
-show_status_of (showing.Length fault) = 2
 show_status_of showing.Memory = 3
 show_status_of showing.Write = 4
 

@@ -11,22 +11,26 @@ use pg_captures::{Bound, ask};
 use pg_fen::{Diagram, Length};
 use pg_position::Position;
 use pg_prices::{Lists, Rows, pawn_lists, prices_of, travel_lists};
+use pg_travel::prices_exclude_by;
 use std::alloc::{AllocError, Global};
 
-// Prices of a colour at the initial array, of its travel and of its pawns. They are trusted for nothing.
+// Prices of a colour at the initial array, of its travel and of its pawns, which are trusted for nothing; and the rows
+// of the diagram, by which those of travel are tested.
 #[derive(Clone, Copy)]
-pub(crate) struct Offers {
+pub(crate) struct Offers<'a> {
     pub(crate) color: Color,
     pub(crate) travel: Lists,
     pub(crate) pawns: Lists,
+    pub(crate) tested_by: &'a pg_travel::Rows,
 }
 
 // The prices that least assignments give.
-pub(crate) fn offers_of(
+pub(crate) fn offers_of<'a>(
     alloc: Global,
     color: Color,
     diagram: &Diagram,
-) -> Result<Offers, AllocError>
+    tested_by: &'a pg_travel::Rows,
+) -> Result<Offers<'a>, AllocError>
     ensures { IfOk result (λ offers. offers.color ≡ color) }
 {
     let rows = Rows::new(alloc, color, diagram)?;
@@ -37,19 +41,25 @@ pub(crate) fn offers_of(
         color,
         travel,
         pawns,
+        tested_by,
     })
 }
 
 // Whether prices of a colour's travel exclude the games of so many plies.
-pub(crate) fn travel_excludes(diagram: &Diagram, plies: u8, color: Color, lists: &Lists) -> bool
-    ensures priced { IsTrue result → HasTravelPrices diagram.now plies color }
+pub(crate) fn travel_excludes(diagram: &Diagram, plies: u8, offers: &Offers) -> bool
+    ensures priced { IsTrue result → HasTravelPrices diagram.now plies offers.now.color }
     ensures barren { IsTrue result → Barren diagram.now array_state plies }
 {
-    match prices_of(lists.as_slice()) {
+    match prices_of(offers.travel.as_slice()) {
         None => false,
-        Some(prices) => {
-            pg_travel::prices_exclude(diagram, &Position::array(), plies, color, &prices)
-        }
+        Some(prices) => prices_exclude_by(
+            offers.tested_by,
+            diagram,
+            &Position::array(),
+            plies,
+            offers.color,
+            &prices,
+        ),
     }
 }
 
@@ -72,7 +82,7 @@ fn offers_exclude(diagram: &Diagram, plies: u8, offers: &Offers) -> bool
     ensures priced { IsTrue result → ArePriced diagram.now plies }
     ensures barren { IsTrue result → Barren diagram.now array_state plies }
 {
-    travel_excludes(diagram, plies, offers.color, &offers.travel)
+    travel_excludes(diagram, plies, offers)
         || pawns_exclude(diagram, plies, offers.color, &offers.pawns)
 }
 
@@ -144,7 +154,8 @@ pub fn shortest(
     ensures least { IfOk result (IsLeastLength
         (λ m. list_any (λ b. excluded b diagram.now array_state m) bounds.now) diagram.now) }
 {
-    let white = offers_of(alloc, Color::White, diagram)?;
-    let black = offers_of(alloc, Color::Black, diagram)?;
+    let rows = pg_travel::Rows::new(diagram);
+    let white = offers_of(alloc, Color::White, diagram, &rows)?;
+    let black = offers_of(alloc, Color::Black, diagram, &rows)?;
     Ok(first_open(bounds, diagram, &white, &black))
 }

@@ -19,7 +19,7 @@ pub use fault::{AnswerRunFault, ShowFault};
 pub use lengths::shortest;
 pub use naming::{problem_of, read_problem};
 pub use run::{run_check, run_listed};
-pub use showing::{run_show, run_show_within};
+pub use showing::run_show;
 pub use statuses::{
     answer_status, count_status, moves_status, search_status, show_status, status, upgrade_status,
     verdict_status,

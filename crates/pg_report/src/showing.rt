@@ -1,19 +1,15 @@
 //! What is said at once of a diagram, for the eye.
-ghost use Rattle.std.specs.Prelude.{◌≡◌, ◌≢◌, ◌++◌, ◌⊎◌, ℕ, Option, Some, None, IfErr, OnOk, Ok, codes, true, false};
+ghost use Rattle.std.specs.Prelude.{◌≡◌, ◌++◌, ◌⊎◌, ℕ, Option, IfErr, OnOk, codes, true, false};
 ghost use Rattle.std.specs.Option.{option_map};
 ghost use Rattle.std.specs.List.{list_any};
 ghost use Rattle.pg_certificate.specs.Pushing.{Adds, AddsSome, Pushes};
-ghost use Rattle.pg_board.specs.Placement.{Placement};
 ghost use Rattle.pg_position.specs.Array.{array_state};
 ghost use Rattle.pg_board.specs.declared.man.Color.TheVariants.{White, Black};
-ghost use Rattle.pg_fen.specs.Fields.{fields};
-ghost use Rattle.pg_fen.specs.DiagramText.{diagram_of};
-ghost use Rattle.pg_fen.specs.Lengths.{length_of};
 ghost use Rattle.pg_report.specs.Shortest.{IsLeastLength, NoneBelow};
 ghost use Rattle.pg_report.specs.Sides.{own_plies};
 ghost use Rattle.pg_report.specs.Showing.{counted_text, men_text, captured_text, reason_text, behind_text, spare_text};
 ghost use Rattle.pg_report.specs.Showing.{need_text, open_line, below_text};
-ghost use Rattle.pg_report.specs.Showing.{IsSideLine, IsShown, IsShowFault, IsShowWithinFault};
+ghost use Rattle.pg_report.specs.Showing.{IsSideLine, IsShown};
 ghost use Rattle.pg_report.specs.Expecting.{IsExpected, expected_text};
 ghost use Rattle.pg_report.specs.Within.{AreKnown, known_text};
 
@@ -28,6 +24,7 @@ use pg_certificate::{Refused, Sink};
 use pg_fen::text::digits;
 use pg_fen::{Diagram, Length};
 use pg_texts::write_board;
+use pg_travel::Rows;
 use std::alloc::{AllocError, Global};
 
 // Appends a number, and what is said of one or of another number.
@@ -221,9 +218,23 @@ fn write_shown<W: Sink>(
     write_below(below, out)
 }
 
-// Shows a diagram that was read, within a length if one is asked: one reckoning gives what the lines of both colours
-// and of the least length say.
-fn show<W: Sink>(
+/// Writes what is known at once of a diagram: its board, as `write_board` writes it; a line for white
+/// and one for black, with how many men it has, how many of the other colour's 16 men are gone, and how
+/// many plies of its own it needs at least from the initial array, with what shows that (the men that it has to
+/// capture, the moves of the nearest men, or those of its men pair by pair, by prices), or that 64 are not enough;
+/// and the length in moves such that no game of fewer moves ends on the diagram, as `shortest` gives it. Each line ends
+/// with a line feed. What finds these numbers takes memory from `alloc`, and nothing is written before.
+///
+/// With a length, behind what a colour needs stands how many of its plies of a game of that length are left over, or
+/// how many are short. Below these lines stands what the bound by journeys knows of the games of that length: a line a
+/// colour, with the squares on which its captures land, where they are eight or fewer, and its men who never move; no
+/// line where neither is known. Where the bound excludes these games, one line says so. Where nothing is known against
+/// them and neither colour has too few plies for its men, a last line says from how many to how many nodes a search by
+/// journeys may visit, by a rule of thumb, and where by `forecast` one without them visits ten times more.
+///
+/// # Errors
+/// `Memory` where a growth was refused, and then the sink is as it was; `Write` where the sink has failed.
+pub fn run_show<W: Sink>(
     alloc: Global,
     diagram: &Diagram,
     asked: Option<Length>,
@@ -237,11 +248,12 @@ fn show<W: Sink>(
         ⊎ ((e ≡ ShowFault.Write) × (W.has_failed out.new ≡ true))) }
     ensures runs { OnOk result ((W.has_failed out.old ≡ false) × (W.has_failed out.new ≡ false)) }
 {
-    let white = match offers_of(alloc, Color::White, diagram) {
+    let rows = Rows::new(diagram);
+    let white = match offers_of(alloc, Color::White, diagram, &rows) {
         Ok(white) => white,
         Err(AllocError) => return Err(ShowFault::Memory),
     };
-    let black = match offers_of(alloc, Color::Black, diagram) {
+    let black = match offers_of(alloc, Color::Black, diagram, &rows) {
         Ok(black) => black,
         Err(AllocError) => return Err(ShowFault::Memory),
     };
@@ -258,81 +270,5 @@ fn show<W: Sink>(
     match write_shown(diagram, &white, &black, &below, out) {
         Ok(()) => Ok(()),
         Err(Refused) => Err(ShowFault::Write),
-    }
-}
-
-/// Writes what is known at once of the diagram that a text spells (the placement field of FEN, or all
-/// six fields; the PGN standard, section 16.1): its board, as `write_board` writes it; a line for white
-/// and one for black, with how many men it has, how many of the other colour's 16 men are gone, and how
-/// many plies of its own it needs at least from the initial array, with what shows that (the men that it has to
-/// capture, the moves of the nearest men, or those of its men pair by pair, by prices), or that 64 are not enough;
-/// and the length in moves such that no game of fewer moves ends on the diagram, as `shortest` gives it. Each line ends
-/// with a line feed. What finds these numbers takes memory from `alloc`, and nothing is written before.
-///
-/// # Errors
-/// `Diagram` where the text is refused as a diagram, with that refusal; `Memory` where a growth was
-/// refused; `Write` where the sink has failed. With the first two the sink is as it was.
-pub fn run_show<W: Sink>(
-    alloc: Global,
-    diagram: &str,
-    bounds: &[Box<dyn Bound>],
-    out: &mut W,
-) -> Result<(), ShowFault>
-    ensures ok { OnOk result ((d : Placement) × (diagram_of (fields diagram.now) ≡ Ok d)
-        × ((least : Option ℕ) × NoneBelow d least
-        × IsLeastLength (λ m. list_any (λ b. excluded b d array_state m) bounds.now) d least
-        × AddsSome (IsShown d None least) (W.held out.old) (W.held out.new))) }
-    ensures err { IfErr result (λ e. IsShowFault diagram.now (W.has_failed out.new) e) }
-    ensures unwritten { IfErr result (λ e. e ≢ ShowFault.Write → out.new ≡ out.old) }
-    ensures runs { OnOk result ((W.has_failed out.old ≡ false) × (W.has_failed out.new ≡ false)) }
-{
-    let diagram = match Diagram::read(diagram) {
-        Ok(diagram) => diagram,
-        Err(fault) => return Err(ShowFault::Diagram(fault)),
-    };
-    match show(alloc, &diagram, None, bounds, out) {
-        Ok(()) => Ok(()),
-        Err(fault) => Err(fault),
-    }
-}
-
-/// The same with a length in moves, 64.0 at most, of which a text says how long it is: behind what a colour needs
-/// stands how many of its plies of a game of that length are left over, or how many are short. Below these lines stands
-/// what the bound by journeys knows of the games of that length: a line a colour, with the squares on which its
-/// captures land, where they are eight or fewer, and its men who never move; no line where neither is known. Where the
-/// bound excludes these games, one line says so. Where nothing is known against them and neither colour has too few
-/// plies for its men, a last line says from how many to how many nodes a search by journeys may visit, by a rule of
-/// thumb, and where by `forecast` one without them visits ten times more.
-///
-/// # Errors
-/// In this order: `Diagram` and `Length` where that text is refused, with that refusal; `Memory` where a growth was
-/// refused; `Write` where the sink has failed. With all but the last the sink is as it was.
-pub fn run_show_within<W: Sink>(
-    alloc: Global,
-    diagram: &str,
-    length: &str,
-    bounds: &[Box<dyn Bound>],
-    out: &mut W,
-) -> Result<(), ShowFault>
-    ensures ok { OnOk result ((d : Placement) × (n : ℕ) × (diagram_of (fields diagram.now) ≡ Ok d)
-        × (length_of length.now ≡ Ok n)
-        × ((least : Option ℕ) × NoneBelow d least
-        × IsLeastLength (λ m. list_any (λ b. excluded b d array_state m) bounds.now) d least
-        × AddsSome (IsShown d (Some n) least) (W.held out.old) (W.held out.new))) }
-    ensures err { IfErr result (λ e. IsShowWithinFault diagram.now length.now (W.has_failed out.new) e) }
-    ensures unwritten { IfErr result (λ e. e ≢ ShowFault.Write → out.new ≡ out.old) }
-    ensures runs { OnOk result ((W.has_failed out.old ≡ false) × (W.has_failed out.new ≡ false)) }
-{
-    let diagram = match Diagram::read(diagram) {
-        Ok(diagram) => diagram,
-        Err(fault) => return Err(ShowFault::Diagram(fault)),
-    };
-    let length = match Length::read(length) {
-        Ok(length) => length,
-        Err(fault) => return Err(ShowFault::Length(fault)),
-    };
-    match show(alloc, &diagram, Some(length), bounds, out) {
-        Ok(()) => Ok(()),
-        Err(fault) => Err(fault),
     }
 }

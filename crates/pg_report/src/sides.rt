@@ -10,7 +10,7 @@ ghost use Rattle.pg_report.specs.Sides.{Binds, IsOpenFor, IsSideNeed};
 
 use crate::lengths::{Offers, pawns_exclude, travel_excludes};
 use pg_board::Color;
-use pg_captures::{owed, pawns, plies_left, shortage};
+use pg_captures::{is_short, owed, plies_left};
 use pg_fen::Diagram;
 use pg_pawns::shift_need;
 use pg_position::Position;
@@ -47,10 +47,7 @@ fn captures_exclude(diagram: &Diagram, plies: u8, color: Color) -> bool
 fn promotions_exclude(diagram: &Diagram, color: Color) -> bool
     ensures { IsTrue result ↔ PromotionsFor diagram.now array_state.board color }
 {
-    let wanted = diagram.board();
-    let board = Position::array().board();
-    let needed = shortage(&wanted, &board, color) + u16::from(pawns(&wanted, color));
-    u16::from(pawns(&board, color)) < needed
+    is_short(&diagram.board(), &Position::array().board(), color)
 }
 
 // Whether a colour has fewer men to capture than its pawns have to change files, by lines between files.
@@ -86,7 +83,7 @@ fn reason_of(diagram: &Diagram, plies: u8, offers: &Offers) -> Option<Reason>
         Some(Reason::Travel)
     } else if pawns_exclude(diagram, plies, offers.color, &offers.pawns) {
         Some(Reason::PawnFiles)
-    } else if travel_excludes(diagram, plies, offers.color, &offers.travel) {
+    } else if travel_excludes(diagram, plies, offers) {
         Some(Reason::Pairs)
     } else {
         None

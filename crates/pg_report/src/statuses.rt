@@ -113,14 +113,12 @@ pub fn count_status(fault: &CountRunFault) -> u8
     }
 }
 
-/// The status where a diagram is not shown: 2 for a bad diagram or length, 3 for want of memory, 4 for a write
-/// fault.
+/// The status where a diagram is not shown: 3 for want of memory, 4 for a write fault.
 pub fn show_status(fault: &ShowFault) -> u8
     ensures value { result ≡ show_status_of fault.now }
     ensures fails { 0 < result }
 {
     match fault {
-        ShowFault::Diagram(_) | ShowFault::Length(_) => 2,
         ShowFault::Memory => 3,
         ShowFault::Write => 4,
     }

@@ -1,6 +1,4 @@
 //! The ends of games: the leaves that are on the diagram.
-ghost use Rattle.std.specs.Prelude.{◌≡◌, ℕ, Bool, false, OnOk};
-ghost use Rattle.pg_searcher.specs.Refusals.{RefusesTruly};
 
 use crate::fault::SearchFault;
 use crate::machine::{Findings, Frame, Output, Question};
@@ -38,9 +36,7 @@ pub(crate) fn end(
     findings: &mut Findings,
     before: &Option<Move>,
     last: &Option<Move>,
-) -> Result<(), SearchFault>
-    ensures { (failed : Bool) → RefusesTruly question.now.plies failed result }
-{
+) -> Result<(), SearchFault> {
     findings.fertile = true;
     if question.tree < question.plies {
         return Err(SearchFault::Shorter(question.tree));
@@ -152,9 +148,7 @@ pub(crate) fn leaves(
     findings: &mut Findings,
     before: &Option<Move>,
     position: &Position,
-) -> Result<(), SearchFault>
-    ensures { (failed : Bool) → RefusesTruly question.now.plies failed result }
-{
+) -> Result<(), SearchFault> {
     match leaf(question.diagram, position) {
         Some(m) => end(question, frames, findings, before, &Some(m)),
         None => Ok(()),
@@ -162,12 +156,8 @@ pub(crate) fn leaves(
 }
 
 // Visits a node with one ply left and writes its record.
-pub(crate) fn last_node<W: Sink>(output: &mut Output, sink: &mut W) -> Result<(), SearchFault>
-    requires runs { output.old.writer.failed ≡ false }
-    ensures runs { OnOk result (output.new.writer.failed ≡ false) }
-    ensures says { (plies : ℕ) → RefusesTruly plies (W.has_failed sink.new) result }
-{
-    if output.visit() {
+pub(crate) fn last_node<W: Sink>(output: &mut Output, sink: &mut W) -> Result<(), SearchFault> {
+    if output.budget.visit() {
         output.expand(false, sink)
     } else {
         Err(SearchFault::Budget)

@@ -1,10 +1,10 @@
 //! The search for a certificate.
-ghost use Rattle.std.specs.Prelude.{◌≡◌, ◌≤◌, false};
+ghost use Rattle.std.specs.Prelude.{◌≡◌, ◌≤◌};
 ghost use Rattle.pg_searcher.specs.Refusals.{RefusesTruly};
 
 use crate::fault::SearchFault;
 use crate::judge::{AskedJourneys, Judge};
-use crate::machine::{Findings, Frames, Machine, Question, Recorder};
+use crate::machine::{Findings, Frames, Machine, Question, Recorder, written};
 use crate::progress::SearchProgress;
 use crate::walk::tree_of;
 use pg_certificate::{Header, Sink};
@@ -34,29 +34,18 @@ fn write<W: Sink, P: SearchProgress>(
     watch: &mut P,
 ) -> Result<(), SearchFault>
     requires limit { plies ≤ 128 }
-    requires runs { machine.old.recorder.output.writer.failed ≡ false }
-    ensures { RefusesTruly plies (W.has_failed sink.new) result }
 {
     let header = header(diagram, plies);
-    match machine.recorder.output.writer.header(&header, sink) {
-        Ok(()) => {}
-        Err(_) => return Err(SearchFault::Write),
-    }
+    written(machine.recorder.output.writer.header(&header, sink))?;
     for tree in 0..=plies {
         let question = Question {
             diagram,
             plies,
             tree,
         };
-        match tree_of(&question, frames, machine, sink, watch) {
-            Ok(()) => {}
-            Err(fault) => return Err(fault),
-        }
+        tree_of(&question, frames, machine, sink, watch)?;
     }
-    match machine.recorder.output.writer.finish(sink) {
-        Ok(()) => Ok(()),
-        Err(_) => Err(SearchFault::Write),
-    }
+    written(machine.recorder.output.writer.finish(sink))
 }
 
 // How far a search goes: to games of so many plies, over so many nodes at most; and whether it cuts by journeys too.
@@ -65,6 +54,20 @@ struct Reach {
     length: Length,
     max_nodes: u64,
     by_journeys: bool,
+}
+
+// What a search that gives up says. A write that is refused leaves the sink failed, and a tree is shorter where it has
+// fewer plies than the last; that they say so truly is tested here once, so that no call below has to promise it.
+fn refused<W: Sink>(fault: SearchFault, plies: u8, sink: &W) -> Result<Games, SearchFault>
+    ensures { RefusesTruly plies (W.has_failed sink.now) result }
+{
+    match fault {
+        SearchFault::Write if sink.failed() => Err(SearchFault::Write),
+        SearchFault::Shorter(fewer) if fewer < plies => Err(SearchFault::Shorter(fewer)),
+        SearchFault::TooManyGames => Err(SearchFault::TooManyGames),
+        SearchFault::Memory => Err(SearchFault::Memory),
+        _ => Err(SearchFault::Budget),
+    }
 }
 
 // What a search comes to.
@@ -95,7 +98,7 @@ fn searched<W: Sink, P: SearchProgress>(
     let plies = reach.length.plies();
     match write(diagram, plies, &mut frames, &mut machine, sink, watch) {
         Ok(()) => {}
-        Err(fault) => return Err(fault),
+        Err(fault) => return refused(fault, plies, sink),
     }
     let Machine { findings, .. } = machine;
     let Findings { games, .. } = findings;

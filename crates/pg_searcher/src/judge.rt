@@ -66,10 +66,10 @@ pub(crate) struct Means {
 // What judges the plain moves of a colour at a node that no cut excludes: the colour, its numbers after such a move,
 // and whether captures exclude then.
 #[derive(Clone, Copy)]
-pub(crate) struct Reply {
+pub(crate) struct PlainTest {
     color: Color,
     means: Means,
-    is_owing: bool,
+    cut_by_captures: bool,
 }
 
 // Both colours, from a colour and the other one.
@@ -317,13 +317,13 @@ impl Judge {
     }
 
     // What judges the plain moves of a colour at a node, after which so many plies are left.
-    pub(crate) fn reply(&self, color: Color, sides: &Sides, left: u8) -> Reply {
+    pub(crate) fn plain_test(&self, color: Color, sides: &Sides, left: u8) -> PlainTest {
         let other = color.other();
         let means = self.means(color, sides.of(other).men, other, left);
-        Reply {
+        PlainTest {
             color,
             means,
-            is_owing: captures_exclude(means),
+            cut_by_captures: captures_exclude(means),
         }
     }
 
@@ -331,14 +331,14 @@ impl Judge {
     // excludes. That is what `quick` judges: the other colour has the men and the plies that it had before the move,
     // when no cut excluded it.
     #[inline(always)]
-    pub(crate) fn needs_after(&self, reply: &Reply, key: u64) -> Option<Needs> {
-        if reply.is_owing {
+    pub(crate) fn needs_after(&self, test: &PlainTest, key: u64) -> Option<Needs> {
+        if test.cut_by_captures {
             return None;
         }
-        let Some(needs) = self.known(reply.color).get(key) else {
+        let Some(needs) = self.known(test.color).get(key) else {
             return Some(MISSING);
         };
-        if needs.need != UNKNOWN && excludes(reply.means, &needs) {
+        if needs.need != UNKNOWN && excludes(test.means, &needs) {
             return None;
         }
         Some(needs)

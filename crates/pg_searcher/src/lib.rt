@@ -3,6 +3,7 @@
 //! been checked.
 #![tactic(auto)]
 
+mod budget;
 mod ends;
 mod expected;
 mod fault;

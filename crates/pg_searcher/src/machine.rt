@@ -1,15 +1,13 @@
 //! What the search holds.
-ghost use Rattle.std.specs.Prelude.{◌≡◌, ℕ, false, OnOk};
-ghost use Rattle.pg_searcher.specs.Refusals.{RefusesTruly};
 
+use crate::budget::Budget;
 use crate::fault::SearchFault;
 use crate::judge::{AskedJourneys, CutBy, Judge};
-use crate::known::MISSING;
 use crate::outlook::Outlook;
-use crate::sides::{Side, Sides};
+use crate::sides::Sides;
 use arrayvec::ArrayVec;
 use pg_certificate::format::MOST_NAMED;
-use pg_certificate::{Record, RecordWriter, Sink};
+use pg_certificate::{Record, RecordWriter, Sink, WriteFault};
 use pg_fen::Diagram;
 use pg_moves::LegalMoves;
 use pg_position::Position;
@@ -37,26 +35,11 @@ pub(crate) struct Frame {
     pub(crate) fertile: bool,
 }
 
-// Both colours where nothing is known.
-fn no_sides() -> Sides {
-    let none = Side {
-        key: 0,
-        needs: MISSING,
-        men: 0,
-        pawns: 0,
-        ways: 0,
-    };
-    Sides {
-        white: none,
-        black: none,
-    }
-}
-
 impl Default for Frame {
     fn default() -> Frame {
         Frame {
             moves: LegalMoves::new(&Position::array()),
-            outlook: Outlook::of(&no_sides(), 0),
+            outlook: Outlook::of(&Sides::none(), 0),
             key: 0,
             named: false,
             fertile: false,
@@ -117,82 +100,33 @@ impl Names {
 }
 
 // The certificate so far: the writer of its records, the named nodes, which it may refer to, how many nodes may
-// still be visited; the bound by journeys, where it is asked of each node before it opens;
-// and the node that opened last: handed back by each call between the one that opens it and the one that
-// makes its frame, it would be copied at each, also where none has opened.
+// still be visited; and the bound by journeys, where it is asked of each node before it opens.
 #[derive(Drop)]
 pub(crate) struct Output {
     pub(crate) writer: RecordWriter,
     pub(crate) names: Names,
-    pub(crate) nodes: u64,
+    pub(crate) budget: Budget,
     pub(crate) journeys: Option<AskedJourneys>,
-    pub(crate) opened: Opened,
+}
+
+// What the writer answered, as a search says it.
+#[inline(always)]
+pub(crate) fn written(answer: Result<(), WriteFault>) -> Result<(), SearchFault> {
+    match answer {
+        Ok(()) => Ok(()),
+        Err(_) => Err(SearchFault::Write),
+    }
 }
 
 impl Output {
-    // Of a certificate of which nothing is written, with so many nodes that may be visited. Where journeys are handed
-    // in, nodes are cut by them.
-    pub(crate) fn new(alloc: Global, nodes: u64, journeys: Option<AskedJourneys>) -> Output
-        ensures { result.writer.failed ≡ false }
-    {
-        Output {
-            writer: RecordWriter::new(),
-            names: Names::new(alloc),
-            nodes,
-            journeys,
-            opened: Opened {
-                position: Position::array(),
-                sides: no_sides(),
-                key: 0,
-                named: false,
-            },
-        }
-    }
-
-    // Counts a node, and answers whether it may be visited.
-    pub(crate) fn visit(&mut self) -> bool
-        ensures writer { self.new.writer ≡ self.old.writer }
-    {
-        if self.nodes == 0 {
-            return false;
-        }
-        self.nodes -= 1;
-        true
-    }
-
-    // Counts so many nodes, and answers whether all of them may be visited; else none is counted.
-    pub(crate) fn visit_all(&mut self, count: u64) -> bool
-        ensures writer { self.new.writer ≡ self.old.writer }
-    {
-        if self.nodes < count {
-            return false;
-        }
-        self.nodes -= count;
-        true
-    }
-
     // Writes a record.
-    pub(crate) fn put<W: Sink>(&mut self, node: &Record, sink: &mut W) -> Result<(), SearchFault>
-        requires runs { self.old.writer.failed ≡ false }
-        ensures runs { OnOk result (self.new.writer.failed ≡ false) }
-        ensures says { (plies : ℕ) → RefusesTruly plies (W.has_failed sink.new) result }
-    {
-        match self.writer.put_record(node, sink) {
-            Ok(()) => Ok(()),
-            Err(_) => Err(SearchFault::Write),
-        }
+    pub(crate) fn put<W: Sink>(&mut self, node: &Record, sink: &mut W) -> Result<(), SearchFault> {
+        written(self.writer.put_record(node, sink))
     }
 
     // Writes that a node is expanded, with a name or without.
-    pub(crate) fn expand<W: Sink>(&mut self, named: bool, sink: &mut W) -> Result<(), SearchFault>
-        requires runs { self.old.writer.failed ≡ false }
-        ensures runs { OnOk result (self.new.writer.failed ≡ false) }
-        ensures says { (plies : ℕ) → RefusesTruly plies (W.has_failed sink.new) result }
-    {
-        match self.writer.put_expansion(named, sink) {
-            Ok(()) => Ok(()),
-            Err(_) => Err(SearchFault::Write),
-        }
+    pub(crate) fn expand<W: Sink>(&mut self, named: bool, sink: &mut W) -> Result<(), SearchFault> {
+        written(self.writer.put_expansion(named, sink))
     }
 
     // Writes so many expansions without a name.
@@ -200,31 +134,17 @@ impl Output {
         &mut self,
         count: u64,
         sink: &mut W,
-    ) -> Result<(), SearchFault>
-        requires runs { self.old.writer.failed ≡ false }
-        ensures runs { OnOk result (self.new.writer.failed ≡ false) }
-        ensures says { (plies : ℕ) → RefusesTruly plies (W.has_failed sink.new) result }
-    {
+    ) -> Result<(), SearchFault> {
         for _ in 0..count {
-            match self.expand(false, sink) {
-                Ok(()) => {}
-                Err(fault) => return Err(fault),
-            }
+            self.expand(false, sink)?;
         }
         Ok(())
     }
 
     // Writes a cut by a bound.
     #[inline(always)]
-    pub(crate) fn cut<W: Sink>(&mut self, bound: CutBy, sink: &mut W) -> Result<(), SearchFault>
-        requires runs { self.old.writer.failed ≡ false }
-        ensures runs { OnOk result (self.new.writer.failed ≡ false) }
-        ensures says { (plies : ℕ) → RefusesTruly plies (W.has_failed sink.new) result }
-    {
-        match self.writer.put_cut(bound.code(), sink) {
-            Ok(()) => Ok(()),
-            Err(_) => Err(SearchFault::Write),
-        }
+    pub(crate) fn cut<W: Sink>(&mut self, bound: CutBy, sink: &mut W) -> Result<(), SearchFault> {
+        written(self.writer.put_cut(bound.code(), sink))
     }
 
     // Writes so many cuts by a bound.
@@ -233,38 +153,27 @@ impl Output {
         bound: CutBy,
         count: u8,
         sink: &mut W,
-    ) -> Result<(), SearchFault>
-        requires runs { self.old.writer.failed ≡ false }
-        ensures runs { OnOk result (self.new.writer.failed ≡ false) }
-        ensures says { (plies : ℕ) → RefusesTruly plies (W.has_failed sink.new) result }
-    {
+    ) -> Result<(), SearchFault> {
         for _ in 0..count {
-            match self.cut(bound, sink) {
-                Ok(()) => {}
-                Err(fault) => return Err(fault),
-            }
+            self.cut(bound, sink)?;
         }
         Ok(())
     }
 
     // Writes a reference to a closed node by its number.
-    pub(crate) fn refer<W: Sink>(&mut self, number: u32, sink: &mut W) -> Result<(), SearchFault>
-        requires runs { self.old.writer.failed ≡ false }
-        ensures runs { OnOk result (self.new.writer.failed ≡ false) }
-        ensures says { (plies : ℕ) → RefusesTruly plies (W.has_failed sink.new) result }
-    {
-        match self.writer.put_reference(number, sink) {
-            Ok(()) => Ok(()),
-            Err(_) => Err(SearchFault::Write),
-        }
+    pub(crate) fn refer<W: Sink>(&mut self, number: u32, sink: &mut W) -> Result<(), SearchFault> {
+        written(self.writer.put_reference(number, sink))
     }
 }
 
-// What chooses the record of each node, and the certificate to which it goes.
+// What chooses the record of each node, the certificate to which it goes, and the node that opened last, which each
+// `true` that is handed back speaks of: handed back itself by each call between the one that opens it and the one that
+// makes its frame, it would be copied at each, also where none has opened.
 #[derive(Drop)]
 pub(crate) struct Recorder {
     pub(crate) judge: Judge,
     pub(crate) output: Output,
+    pub(crate) opened: Opened,
 }
 
 impl Recorder {
@@ -275,12 +184,21 @@ impl Recorder {
         judge: Judge,
         nodes: u64,
         journeys: Option<AskedJourneys>,
-    ) -> Recorder
-        ensures { result.output.writer.failed ≡ false }
-    {
+    ) -> Recorder {
         Recorder {
             judge,
-            output: Output::new(alloc, nodes, journeys),
+            output: Output {
+                writer: RecordWriter::new(),
+                names: Names::new(alloc),
+                budget: Budget { nodes },
+                journeys,
+            },
+            opened: Opened {
+                position: Position::array(),
+                sides: Sides::none(),
+                key: 0,
+                named: false,
+            },
         }
     }
 }

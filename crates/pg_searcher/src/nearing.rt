@@ -50,7 +50,7 @@ fn in_front(pawn: Man, from: Square) -> SquareSet {
 }
 
 // Where a man may go, if not to fewer squares: a pawn goes forward whatever is in its way.
-pub(crate) fn within(position: &Position, man: Man, from: Square) -> SquareSet {
+pub(crate) fn pseudo_moves(position: &Position, man: Man, from: Square) -> SquareSet {
     let board = position.board();
     let reached = attacks_from(&board, man, from) - board.squares_of_color(man.color);
     match man.kind {
@@ -63,7 +63,7 @@ pub(crate) fn within(position: &Position, man: Man, from: Square) -> SquareSet {
 // Where a man may go by a move after which another one may lead to a board, and maybe more. What he moves to stands
 // there in the end, or a man that takes him: only a pawn that is taken en passant leaves his square empty.
 pub(crate) fn goes(goal: &Board, position: &Position, man: Man, from: Square) -> SquareSet {
-    let squares = within(position, man, from);
+    let squares = pseudo_moves(position, man, from);
     match man.kind {
         Kind::Pawn => squares,
         _ => squares & goal.occupied(),

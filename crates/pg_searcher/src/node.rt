@@ -1,13 +1,11 @@
 //! The record of a node: chosen, and written.
-ghost use Rattle.std.specs.Prelude.{◌≡◌, ℕ, false, OnOk};
 ghost use Rattle.pg_position.specs.Step.{IsLegal};
-ghost use Rattle.pg_searcher.specs.Refusals.{RefusesTruly};
 
 use crate::fault::SearchFault;
 use crate::judge::{CutBy, Cutting, Judge, is_cut_by_journeys};
 use crate::machine::{Opened, Output, Question, Recorder};
 use crate::outlook::{Outlook, PlainMove};
-use crate::sides::{Sides, changes_of, plain_change};
+use crate::sides::{Sides, changes_of, lifted};
 use pg_board::{Color, Square};
 use pg_certificate::{Record, Sink};
 use pg_fen::Diagram;
@@ -36,58 +34,39 @@ fn priced(code: u8, color: Color, prices: &Prices) -> Record {
     }
 }
 
-// A cut by the prices of a colour's pawns.
-fn pawns_record(
-    judge: &mut Judge,
-    color: Color,
-    position: &Position,
-) -> Result<Option<Record>, AllocError> {
-    match judge.pawn_prices(color, position)? {
-        Some(prices) => Ok(Some(priced(PawnFiles::CODE, color, &prices))),
-        None => Ok(None),
-    }
+// Prices that exclude: those of a colour's pawns, or of its travel.
+#[derive(Clone, Copy)]
+enum PricesOf {
+    Pawns(Color),
+    Travel(Color),
 }
 
-// A cut by the prices of a colour's travel.
-fn travel_record(
-    judge: &mut Judge,
-    color: Color,
-    position: &Position,
-    sides: &Sides,
-) -> Result<Option<Record>, AllocError> {
-    match judge.travel_prices(color, position, sides.of(color))? {
-        Some(prices) => Ok(Some(priced(Travel::CODE, color, &prices))),
-        None => Ok(None),
-    }
-}
-
-// The cut by prices that is the verdict; none where that is another.
+// The cut by these prices of a node, where there are price lists.
 fn priced_record(
     judge: &mut Judge,
     position: &Position,
     sides: &Sides,
-    verdict: Cutting,
+    prices: PricesOf,
 ) -> Result<Option<Record>, AllocError> {
-    match verdict {
-        Cutting::Pawns(color) => pawns_record(judge, color, position),
-        Cutting::Travel(color) => travel_record(judge, color, position, sides),
-        Cutting::Cut(_) | Cutting::Stays | Cutting::Unknown => Ok(None),
+    match prices {
+        PricesOf::Pawns(color) => match judge.pawn_prices(color, position)? {
+            Some(lists) => Ok(Some(priced(PawnFiles::CODE, color, &lists))),
+            None => Ok(None),
+        },
+        PricesOf::Travel(color) => match judge.travel_prices(color, position, sides.of(color))? {
+            Some(lists) => Ok(Some(priced(Travel::CODE, color, &lists))),
+            None => Ok(None),
+        },
     }
 }
 
 // Writes a reference to the closed node with a key, and answers whether there is one.
-fn refer<W: Sink>(output: &mut Output, sink: &mut W, key: u64) -> Result<bool, SearchFault>
-    requires runs { output.old.writer.failed ≡ false }
-    ensures runs { OnOk result (output.new.writer.failed ≡ false) }
-    ensures says { (plies : ℕ) → RefusesTruly plies (W.has_failed sink.new) result }
-{
+fn refer<W: Sink>(output: &mut Output, sink: &mut W, key: u64) -> Result<bool, SearchFault> {
     let Some(number) = output.names.find(key) else {
         return Ok(false);
     };
-    match output.refer(number, sink) {
-        Ok(()) => Ok(true),
-        Err(fault) => Err(fault),
-    }
+    output.refer(number, sink)?;
+    Ok(true)
 }
 
 // The key of a node, and how many plies are left there.
@@ -99,79 +78,62 @@ struct Keyed {
 
 // A node is open from now on, with a name where there are names: it is the one that opened last.
 fn open<W: Sink>(
-    output: &mut Output,
+    recorder: &mut Recorder,
     sink: &mut W,
     position: &Position,
     sides: &Sides,
     key: u64,
-) -> Result<bool, SearchFault>
-    requires runs { output.old.writer.failed ≡ false }
-    ensures runs { OnOk result (output.new.writer.failed ≡ false) }
-    ensures says { (plies : ℕ) → RefusesTruly plies (W.has_failed sink.new) result }
-{
-    let named = output.names.open();
-    output.opened = Opened {
+) -> Result<bool, SearchFault> {
+    let named = recorder.output.names.open();
+    recorder.opened = Opened {
         position: *position,
         sides: *sides,
         key,
         named,
     };
-    match output.expand(named, sink) {
-        Ok(()) => Ok(true),
-        Err(fault) => Err(fault),
-    }
+    recorder.output.expand(named, sink)?;
+    Ok(true)
 }
 
 // A node to which nothing refers, and that no other cut excludes, is cut by journeys where they are asked and exclude
 // it; otherwise it is open from now on. Journeys are asked of the position and not of the key, which has the passed
 // square only where a capture there is legal.
 fn open_or_cut<W: Sink>(
-    output: &mut Output,
+    recorder: &mut Recorder,
     sink: &mut W,
     position: &Position,
     sides: &Sides,
     node: Keyed,
-) -> Result<bool, SearchFault>
-    requires runs { output.old.writer.failed ≡ false }
-    ensures runs { OnOk result (output.new.writer.failed ≡ false) }
-    ensures says { (plies : ℕ) → RefusesTruly plies (W.has_failed sink.new) result }
-{
-    if !is_cut_by_journeys(&mut output.journeys, position, node.left) {
-        return open(output, sink, position, sides, node.key);
+) -> Result<bool, SearchFault> {
+    if !is_cut_by_journeys(&mut recorder.output.journeys, position, node.left) {
+        return open(recorder, sink, position, sides, node.key);
     }
-    match output.cut(CutBy::Journeys, sink) {
-        Ok(()) => Ok(false),
-        Err(fault) => Err(fault),
-    }
+    recorder.output.cut(CutBy::Journeys, sink)?;
+    Ok(false)
 }
 
 // A node that no cut by other bounds or by prices excludes, with so many plies left, at least two: a reference where
 // one of the same future has closed barren; otherwise it is open from now on, unless it is cut by journeys. The answer
 // is whether it is open, here and below.
 fn stay<W: Sink>(
-    output: &mut Output,
+    recorder: &mut Recorder,
     sink: &mut W,
     position: &Position,
     sides: &Sides,
     left: u8,
-) -> Result<bool, SearchFault>
-    requires runs { output.old.writer.failed ≡ false }
-    ensures runs { OnOk result (output.new.writer.failed ≡ false) }
-    ensures says { (plies : ℕ) → RefusesTruly plies (W.has_failed sink.new) result }
-{
+) -> Result<bool, SearchFault> {
     let passed = position.effective_passed();
     let key = key_of(sides, position.side(), passed, left);
-    match refer(output, sink, key) {
-        Ok(true) => Ok(false),
-        Ok(false) => open_or_cut(output, sink, position, sides, Keyed { key, left }),
-        Err(fault) => Err(fault),
+    if refer(&mut recorder.output, sink, key)? {
+        return Ok(false);
     }
+    open_or_cut(recorder, sink, position, sides, Keyed { key, left })
 }
 
 // The node after a legal move, as `stay`.
 #[inline(never)]
 fn stay_there<W: Sink>(
-    output: &mut Output,
+    recorder: &mut Recorder,
     sink: &mut W,
     position: &Position,
     m: &Move,
@@ -179,17 +141,14 @@ fn stay_there<W: Sink>(
     left: u8,
 ) -> Result<bool, SearchFault>
     requires legal { IsLegal position.now m.now }
-    requires runs { output.old.writer.failed ≡ false }
-    ensures runs { OnOk result (output.new.writer.failed ≡ false) }
-    ensures says { (plies : ℕ) → RefusesTruly plies (W.has_failed sink.new) result }
 {
-    stay(output, sink, &position.after(m), sides, left)
+    stay(recorder, sink, &position.after(m), sides, left)
 }
 
 // The node after a legal move to which nothing refers, as `open_or_cut`.
 #[inline(never)]
 fn open_there<W: Sink>(
-    output: &mut Output,
+    recorder: &mut Recorder,
     sink: &mut W,
     position: &Position,
     m: &Move,
@@ -197,16 +156,13 @@ fn open_there<W: Sink>(
     node: Keyed,
 ) -> Result<bool, SearchFault>
     requires legal { IsLegal position.now m.now }
-    requires runs { output.old.writer.failed ≡ false }
-    ensures runs { OnOk result (output.new.writer.failed ≡ false) }
-    ensures says { (plies : ℕ) → RefusesTruly plies (W.has_failed sink.new) result }
 {
-    open_or_cut(output, sink, &position.after(m), sides, node)
+    open_or_cut(recorder, sink, &position.after(m), sides, node)
 }
 
 // The node after a legal move, as `stay`. Its position is not made where a reference is written.
 fn stay_after<W: Sink>(
-    output: &mut Output,
+    recorder: &mut Recorder,
     sink: &mut W,
     position: &Position,
     m: &Move,
@@ -214,19 +170,15 @@ fn stay_after<W: Sink>(
     left: u8,
 ) -> Result<bool, SearchFault>
     requires legal { IsLegal position.now m.now }
-    requires runs { output.old.writer.failed ≡ false }
-    ensures runs { OnOk result (output.new.writer.failed ≡ false) }
-    ensures says { (plies : ℕ) → RefusesTruly plies (W.has_failed sink.new) result }
 {
     if may_pass(m) {
-        return stay_there(output, sink, position, m, sides, left);
+        return stay_there(recorder, sink, position, m, sides, left);
     }
     let key = key_of(sides, position.side().other(), None, left);
-    match refer(output, sink, key) {
-        Ok(true) => Ok(false),
-        Ok(false) => open_there(output, sink, position, m, sides, Keyed { key, left }),
-        Err(fault) => Err(fault),
+    if refer(&mut recorder.output, sink, key)? {
+        return Ok(false);
     }
+    open_there(recorder, sink, position, m, sides, Keyed { key, left })
 }
 
 // Writes the record of a node that prices exclude, with so many plies left, at least two. Where there are no price
@@ -237,19 +189,15 @@ fn put_priced<W: Sink>(
     sink: &mut W,
     position: &Position,
     sides: &Sides,
-    verdict: Cutting,
+    prices: PricesOf,
     left: u8,
-) -> Result<bool, SearchFault>
-    requires runs { recorder.old.output.writer.failed ≡ false }
-    ensures runs { OnOk result (recorder.new.output.writer.failed ≡ false) }
-    ensures says { (plies : ℕ) → RefusesTruly plies (W.has_failed sink.new) result }
-{
-    match priced_record(&mut recorder.judge, position, sides, verdict) {
-        Ok(None) => stay(&mut recorder.output, sink, position, sides, left),
-        Ok(Some(record)) => match recorder.output.put(&record, sink) {
-            Ok(()) => Ok(false),
-            Err(fault) => Err(fault),
-        },
+) -> Result<bool, SearchFault> {
+    match priced_record(&mut recorder.judge, position, sides, prices) {
+        Ok(None) => stay(recorder, sink, position, sides, left),
+        Ok(Some(record)) => {
+            recorder.output.put(&record, sink)?;
+            Ok(false)
+        }
         Err(_) => Err(SearchFault::Memory),
     }
 }
@@ -262,19 +210,21 @@ fn put_verdict<W: Sink>(
     sides: &Sides,
     verdict: Cutting,
     left: u8,
-) -> Result<bool, SearchFault>
-    requires runs { recorder.old.output.writer.failed ≡ false }
-    ensures runs { OnOk result (recorder.new.output.writer.failed ≡ false) }
-    ensures says { (plies : ℕ) → RefusesTruly plies (W.has_failed sink.new) result }
-{
+) -> Result<bool, SearchFault> {
     match verdict {
-        Cutting::Cut(bound) => match recorder.output.cut(bound, sink) {
-            Ok(()) => Ok(false),
-            Err(fault) => Err(fault),
-        },
-        Cutting::Pawns(_) => put_priced(recorder, sink, position, sides, verdict, left),
-        Cutting::Travel(_) => put_priced(recorder, sink, position, sides, verdict, left),
-        _ => stay(&mut recorder.output, sink, position, sides, left),
+        Cutting::Cut(bound) => {
+            recorder.output.cut(bound, sink)?;
+            Ok(false)
+        }
+        Cutting::Pawns(color) => {
+            let prices = PricesOf::Pawns(color);
+            put_priced(recorder, sink, position, sides, prices, left)
+        }
+        Cutting::Travel(color) => {
+            let prices = PricesOf::Travel(color);
+            put_priced(recorder, sink, position, sides, prices, left)
+        }
+        _ => stay(recorder, sink, position, sides, left),
     }
 }
 
@@ -287,11 +237,7 @@ pub(crate) fn enter<W: Sink>(
     position: &Position,
     known: Option<Sides>,
     left: u8,
-) -> Result<bool, SearchFault>
-    requires runs { recorder.old.output.writer.failed ≡ false }
-    ensures runs { OnOk result (recorder.new.output.writer.failed ≡ false) }
-    ensures says { (plies : ℕ) → RefusesTruly plies (W.has_failed sink.new) result }
-{
+) -> Result<bool, SearchFault> {
     match recorder
         .judge
         .enter(question.diagram, position, known, left)
@@ -309,18 +255,12 @@ fn put_kept<W: Sink>(
     color: Color,
     sides: &Sides,
     sink: &mut W,
-) -> Result<bool, SearchFault>
-    requires runs { output.old.writer.failed ≡ false }
-    ensures runs { OnOk result (output.new.writer.failed ≡ false) }
-    ensures says { (plies : ℕ) → RefusesTruly plies (W.has_failed sink.new) result }
-{
+) -> Result<bool, SearchFault> {
     let Some(prices) = judge.kept_prices(color, sides.of(color).key) else {
         return Ok(false);
     };
-    match output.put(&priced(Travel::CODE, color, &prices), sink) {
-        Ok(()) => Ok(true),
-        Err(fault) => Err(fault),
-    }
+    output.put(&priced(Travel::CODE, color, &prices), sink)?;
+    Ok(true)
 }
 
 // Writes the record of a node where a bound excludes it, or prices do that are kept, and answers whether it
@@ -331,16 +271,12 @@ fn put_judged<W: Sink>(
     verdict: Cutting,
     sides: &Sides,
     sink: &mut W,
-) -> Result<bool, SearchFault>
-    requires runs { output.old.writer.failed ≡ false }
-    ensures runs { OnOk result (output.new.writer.failed ≡ false) }
-    ensures says { (plies : ℕ) → RefusesTruly plies (W.has_failed sink.new) result }
-{
+) -> Result<bool, SearchFault> {
     match verdict {
-        Cutting::Cut(bound) => match output.cut(bound, sink) {
-            Ok(()) => Ok(true),
-            Err(fault) => Err(fault),
-        },
+        Cutting::Cut(bound) => {
+            output.cut(bound, sink)?;
+            Ok(true)
+        }
         Cutting::Travel(color) => put_kept(judge, output, color, sides, sink),
         _ => Ok(false),
     }
@@ -365,7 +301,8 @@ fn judge_before(
 ) -> Option<Cutting> {
     let side = position.side();
     if let Some(plain) = &uncut.plain {
-        let change = plain_change(position.rights(), plain.man, &uncut.m);
+        let change = lifted(position.rights(), plain.man, uncut.m.from);
+        let change = change.with_man(plain.man, uncut.m.to);
         return Some(judge.after_plain(side, sides, &change, plain.need, outlook.means));
     }
     match changes_of(position, &uncut.m) {
@@ -385,9 +322,6 @@ pub(crate) fn child<W: Sink>(
     outlook: &Outlook,
 ) -> Result<bool, SearchFault>
     requires legal { IsLegal position.now uncut.now.m }
-    requires runs { recorder.old.output.writer.failed ≡ false }
-    ensures runs { OnOk result (recorder.new.output.writer.failed ≡ false) }
-    ensures says { (plies : ℕ) → RefusesTruly plies (W.has_failed sink.new) result }
 {
     let mut sides = outlook.sides;
     let Some(verdict) = judge_before(&recorder.judge, position, uncut, outlook, &mut sides) else {
@@ -395,21 +329,11 @@ pub(crate) fn child<W: Sink>(
         return enter(question, recorder, sink, &next, None, outlook.left);
     };
     if verdict == Cutting::Stays {
-        return stay_after(
-            &mut recorder.output,
-            sink,
-            position,
-            &uncut.m,
-            &sides,
-            outlook.left,
-        );
+        return stay_after(recorder, sink, position, &uncut.m, &sides, outlook.left);
     }
-    match put_judged(&recorder.judge, &mut recorder.output, verdict, &sides, sink) {
-        Ok(true) => Ok(false),
-        Ok(false) => {
-            let next = position.after(&uncut.m);
-            enter(question, recorder, sink, &next, Some(sides), outlook.left)
-        }
-        Err(fault) => Err(fault),
+    if put_judged(&recorder.judge, &mut recorder.output, verdict, &sides, sink)? {
+        return Ok(false);
     }
+    let next = position.after(&uncut.m);
+    enter(question, recorder, sink, &next, Some(sides), outlook.left)
 }

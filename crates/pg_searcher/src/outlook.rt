@@ -18,7 +18,7 @@ pub(crate) struct Outlook {
     pub(crate) bound: CutBy,
     leasts: Leasts,
     occupied: SquareSet,
-    cut_off: SquareSet,
+    men_too_far: SquareSet,
     kings: SquareSet,
 }
 
@@ -29,7 +29,7 @@ pub(crate) struct Mover {
     rest: Rest,
     from: u8,
     man: Man,
-    is_cut_off: bool,
+    is_too_far: bool,
 }
 
 // A plain move, which takes no man and is no castling, capture en passant or promotion: the man that moves, and
@@ -55,7 +55,7 @@ impl Mover {
             rest: Rest::none(),
             from: 64,
             man: Man::new(Color::White, Kind::Pawn),
-            is_cut_off: false,
+            is_too_far: false,
         }
     }
 }
@@ -70,7 +70,7 @@ impl Outlook {
             bound: CutBy::Travel,
             leasts: Leasts::none(),
             occupied: SquareSet::full(),
-            cut_off: SquareSet::empty(),
+            men_too_far: SquareSet::empty(),
             kings: SquareSet::empty(),
         }
     }
@@ -92,7 +92,7 @@ impl Outlook {
             bound: CutBy::Travel,
             leasts,
             occupied: board.occupied(),
-            cut_off: leasts.cut_off(rows, &board, means.plies),
+            men_too_far: leasts.cut_off(rows, &board, means.plies),
             kings: board.squares_of(Man::new(position.side(), Kind::King)),
         }
     }
@@ -107,7 +107,7 @@ impl Outlook {
             bound: CutBy::Captures,
             leasts: Leasts::none(),
             occupied: board.occupied(),
-            cut_off: SquareSet::full(),
+            men_too_far: SquareSet::full(),
             kings: board.squares_of(Man::new(position.side(), Kind::King)),
         }
     }
@@ -116,7 +116,7 @@ impl Outlook {
     // capture en passant.
     #[inline(always)]
     pub(crate) fn cuts_all(&self, from: Square, targets: SquareSet) -> bool {
-        (self.cut_off - self.kings).contains(from) && !targets.meets(self.occupied)
+        (self.men_too_far - self.kings).contains(from) && !targets.meets(self.occupied)
     }
 
     // The man on a square is judged from now on.
@@ -124,8 +124,8 @@ impl Outlook {
         if let Some(man) = position.board().get(from) {
             mover.man = man;
             mover.from = from.index();
-            mover.is_cut_off = self.cut_off.contains(from);
-            if !mover.is_cut_off {
+            mover.is_too_far = self.men_too_far.contains(from);
+            if !mover.is_too_far {
                 mover.rest = self.leasts.without(rows, man.kind, from);
             }
         }
@@ -149,7 +149,7 @@ impl Outlook {
         if is_special(mover.man, None, m) {
             return Plain::No;
         }
-        if mover.is_cut_off {
+        if mover.is_too_far {
             return Plain::Cut(self.bound);
         }
         let man = mover.man;

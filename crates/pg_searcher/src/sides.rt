@@ -1,5 +1,6 @@
 //! What is known of either colour at a node, and how a move changes it.
 
+use crate::known::MISSING;
 use pg_board::{Board, Color, Kind, Man, Square, SquareSet};
 use pg_position::{Move, Position, Rights, Wing, castling_homes, king_home, rook_home};
 use pg_prices::{Needs, color_key, man_key, right_key};
@@ -30,6 +31,21 @@ pub struct Sides {
 }
 
 impl Sides {
+    // Both colours where nothing is known.
+    pub(crate) fn none() -> Sides {
+        let none = Side {
+            key: 0,
+            needs: MISSING,
+            men: 0,
+            pawns: 0,
+            ways: 0,
+        };
+        Sides {
+            white: none,
+            black: none,
+        }
+    }
+
     /// What is known of a colour.
     pub fn of(&self, color: Color) -> &Side {
         match color {
@@ -110,7 +126,7 @@ impl Change {
     // What is changed where the man that was lifted is put on a square.
     pub(crate) fn with_man(&self, man: Man, square: Square) -> Change {
         Change {
-            key: self.key ^ man_key(man, square.index() % 64),
+            key: self.key ^ man_key(man, square.index()),
             men: self.men,
             pawns: self.pawns,
             ways: self.ways,
@@ -128,7 +144,7 @@ fn homes(color: Color, wing: Wing) -> SquareSet {
     SquareSet::single(king_home(color)) | SquareSet::single(rook_home(color, wing))
 }
 
-// The rights of a colour that are lost where squares are left or reached: their keys, and how many.
+// The rights of a colour that are lost where men leave squares: their keys, and how many.
 fn lost(rights: Rights, color: Color, squares: SquareSet) -> (u64, u8) {
     let mut key = 0u64;
     let mut count = 0u8;
@@ -144,21 +160,15 @@ fn lost(rights: Rights, color: Color, squares: SquareSet) -> (u64, u8) {
     (key, count)
 }
 
-// What a move changes of a man's colour, which moves or is taken.
-fn change_of(rights: Rights, man: Man, key: u64, squares: SquareSet, taken: bool) -> Change {
-    let (lost_key, ways) = lost(rights, man.color, squares);
+// What changes of a man's colour where he leaves a square, by a move of his or taken.
+fn left_by(rights: Rights, man: Man, square: Square, taken: bool) -> Change {
+    let (lost_key, ways) = lost(rights, man.color, SquareSet::single(square));
     Change {
-        key: key ^ lost_key,
+        key: man_key(man, square.index()) ^ lost_key,
         men: u8::from(taken),
         pawns: u8::from(taken && man.kind == Kind::Pawn),
         ways,
     }
-}
-
-// What a move changes of the colour of a man that it takes.
-fn taken_change(rights: Rights, man: Man, m: &Move) -> Change {
-    let key = man_key(man, m.to.index() % 64);
-    change_of(rights, man, key, SquareSet::single(m.to), true)
 }
 
 // Whether a move changes more than the squares that it leaves and reaches, or the man that moves:
@@ -171,19 +181,10 @@ pub(crate) fn is_special(man: Man, taken: Option<Man>, m: &Move) -> bool {
     }
 }
 
-// What a plain move of a man changes of its colour.
-pub(crate) fn plain_change(rights: Rights, man: Man, m: &Move) -> Change {
-    let (from, to) = (m.from.index() % 64, m.to.index() % 64);
-    let squares = SquareSet::single(m.from) | SquareSet::single(m.to);
-    let key = man_key(man, from) ^ man_key(man, to);
-    change_of(rights, man, key, squares, false)
-}
-
 // What changes of a man's colour where he is lifted from a square. With him put on another square it is what a plain
-// move of his changes: there is no man, so a right that is held is not lost by him coming there.
+// move of his changes: there is no man of his colour, so a right that is held is not lost by him coming there.
 pub(crate) fn lifted(rights: Rights, man: Man, from: Square) -> Change {
-    let key = man_key(man, from.index() % 64);
-    change_of(rights, man, key, SquareSet::single(from), false)
+    left_by(rights, man, from, false)
 }
 
 /// What a legal move changes; none where it is castling, a capture en passant or a promotion.
@@ -198,11 +199,11 @@ pub fn changes_of(position: &Position, m: &Move) -> Option<Changes> {
     }
     let rights = position.rights();
     let other = match taken {
-        Some(other) => Some(taken_change(rights, other, m)),
+        Some(other) => Some(left_by(rights, other, m.to, true)),
         None => None,
     };
     Some(Changes {
-        own: plain_change(rights, man, m),
+        own: lifted(rights, man, m.from).with_man(man, m.to),
         other,
     })
 }

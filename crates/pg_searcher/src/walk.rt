@@ -1,7 +1,6 @@
 //! The search through the trees of all lengths, with a stack of open nodes.
-ghost use Rattle.std.specs.Prelude.{◌≡◌, ℕ, ◌+◌, ◌<◌, ◌≤◌, Bool, false, OnOk, IfOk, IfSome};
+ghost use Rattle.std.specs.Prelude.{◌≡◌, ◌+◌, ◌<◌, ◌≤◌, OnOk, IfOk, IfSome};
 ghost use Rattle.pg_position.specs.Step.{IsLegal};
-ghost use Rattle.pg_searcher.specs.Refusals.{RefusesTruly};
 
 use crate::ends::{end, last_node, leaves};
 use crate::fault::SearchFault;
@@ -36,9 +35,7 @@ fn frame_of(judge: &Judge, opened: &Opened, left: u8) -> Frame {
 }
 
 // A node closes. Whether a game below it ends on the diagram is told from now on.
-fn close(top: &Frame, names: &mut Names, findings: &mut Findings) -> Result<(), SearchFault>
-    ensures { (plies : ℕ) (failed : Bool) → RefusesTruly plies failed result }
-{
+fn close(top: &Frame, names: &mut Names, findings: &mut Findings) -> Result<(), SearchFault> {
     findings.fertile = findings.fertile || top.fertile;
     if !top.named {
         return Ok(());
@@ -51,10 +48,7 @@ fn close(top: &Frame, names: &mut Names, findings: &mut Findings) -> Result<(), 
 
 // The topmost node closes.
 fn close_top(frames: &Frames, machine: &mut Machine) -> Result<(), SearchFault>
-    requires runs { machine.old.recorder.output.writer.failed ≡ false }
     ensures open { machine.new.open ≤ machine.old.open }
-    ensures runs { machine.new.recorder.output.writer.failed ≡ false }
-    ensures says { (plies : ℕ) (failed : Bool) → RefusesTruly plies failed result }
 {
     machine.open = machine.open.saturating_sub(1);
     let names = &mut machine.recorder.output.names;
@@ -65,7 +59,7 @@ fn close_top(frames: &Frames, machine: &mut Machine) -> Result<(), SearchFault>
 }
 
 // The nodes after the further moves of the man that moved last, with one ply left, are visited all at once, where he
-// stood off these squares.
+// stood off these squares and so many may be visited; else they are played one by one.
 fn expand_rest<W: Sink>(
     squares: SquareSet,
     moves: &mut LegalMoves,
@@ -73,10 +67,7 @@ fn expand_rest<W: Sink>(
     output: &mut Output,
     sink: &mut W,
 ) -> Result<(), SearchFault>
-    requires runs { output.old.writer.failed ≡ false }
-    ensures runs { OnOk result (output.new.writer.failed ≡ false) }
     ensures same { moves.new.position ≡ moves.old.position }
-    ensures says { (plies : ℕ) → RefusesTruly plies (W.has_failed sink.new) result }
 {
     if squares.contains(m.from) {
         return Ok(());
@@ -85,7 +76,7 @@ fn expand_rest<W: Sink>(
         return Ok(());
     };
     let count = u64::from(rest.len());
-    if !output.visit_all(count) {
+    if !output.budget.visit_all(count) {
         return Ok(());
     }
     moves.skip_rest(rest);
@@ -99,22 +90,16 @@ fn expand_all<W: Sink>(
     position: &Position,
     output: &mut Output,
     sink: &mut W,
-) -> Result<bool, SearchFault>
-    requires runs { output.old.writer.failed ≡ false }
-    ensures runs { OnOk result (output.new.writer.failed ≡ false) }
-    ensures says { (plies : ℕ) → RefusesTruly plies (W.has_failed sink.new) result }
-{
+) -> Result<bool, SearchFault> {
     if may_lead(diagram, position) {
         return Ok(false);
     }
     let count = count_legal(position);
-    if !output.visit_all(count) {
+    if !output.budget.visit_all(count) {
         return Ok(false);
     }
-    match output.expansions(count, sink) {
-        Ok(()) => Ok(true),
-        Err(fault) => Err(fault),
-    }
+    output.expansions(count, sink)?;
+    Ok(true)
 }
 
 // The leaf on the diagram below the node after a move of a man on one of these squares, with one ply left.
@@ -127,7 +112,6 @@ fn end_after(
     m: &Move,
 ) -> Result<(), SearchFault>
     requires legal { IsLegal position.now m.now }
-    ensures { (failed : Bool) → RefusesTruly question.now.plies failed result }
 {
     if squares.contains(m.from) && may_be_near(question.diagram, position, m) {
         leaves(question, frames, findings, &Some(*m), &position.after(m))
@@ -145,29 +129,16 @@ fn play_each<W: Sink>(
     findings: &mut Findings,
     output: &mut Output,
     sink: &mut W,
-) -> Result<(), SearchFault>
-    requires runs { output.old.writer.failed ≡ false }
-    ensures runs { OnOk result (output.new.writer.failed ≡ false) }
-    ensures says { RefusesTruly question.now.plies (W.has_failed sink.new) result }
-{
+) -> Result<(), SearchFault> {
     let squares = position.board().differing(&question.diagram.board());
     let mut moves = LegalMoves::new(position);
     for _ in 0..u16::MAX {
         let Some(m) = moves.next() else {
             return Ok(());
         };
-        match last_node(output, sink) {
-            Ok(()) => {}
-            Err(fault) => return Err(fault),
-        }
-        match end_after(question, frames, findings, position, squares, &m) {
-            Ok(()) => {}
-            Err(fault) => return Err(fault),
-        }
-        match expand_rest(squares, &mut moves, &m, output, sink) {
-            Ok(()) => {}
-            Err(fault) => return Err(fault),
-        }
+        last_node(output, sink)?;
+        end_after(question, frames, findings, position, squares, &m)?;
+        expand_rest(squares, &mut moves, &m, output, sink)?;
     }
     Err(SearchFault::Budget)
 }
@@ -179,20 +150,15 @@ fn play_last_two<W: Sink>(
     findings: &mut Findings,
     output: &mut Output,
     sink: &mut W,
-) -> Result<(), SearchFault>
-    requires runs { output.old.writer.failed ≡ false }
-    ensures runs { OnOk result (output.new.writer.failed ≡ false) }
-    ensures says { RefusesTruly question.now.plies (W.has_failed sink.new) result }
-{
+) -> Result<(), SearchFault> {
     let Some((top, above)) = frames.split_last() else {
         return Ok(());
     };
     let position = top.moves.position();
-    match expand_all(question.diagram, &position, output, sink) {
-        Ok(true) => Ok(()),
-        Ok(false) => play_each(question, &position, above, findings, output, sink),
-        Err(fault) => Err(fault),
+    if expand_all(question.diagram, &position, output, sink)? {
+        return Ok(());
     }
+    play_each(question, &position, above, findings, output, sink)
 }
 
 // The move that was handed out last and all further moves of its man are cut at once, where a bound excludes after each
@@ -205,23 +171,18 @@ fn cut_man<W: Sink>(
     output: &mut Output,
     sink: &mut W,
 ) -> Result<bool, SearchFault>
-    requires runs { output.old.writer.failed ≡ false }
-    ensures runs { OnOk result (output.new.writer.failed ≡ false) }
     ensures same { moves.new.position ≡ moves.old.position }
-    ensures says { (plies : ℕ) → RefusesTruly plies (W.has_failed sink.new) result }
 {
     let Some(rest) = moves.rest_of_man() else {
         return Ok(false);
     };
     let targets = rest | SquareSet::single(m.to);
-    if !outlook.cuts_all(m.from, targets) || !output.visit_all(u64::from(targets.len())) {
+    if !outlook.cuts_all(m.from, targets) || !output.budget.visit_all(u64::from(targets.len())) {
         return Ok(false);
     }
     moves.skip_rest(rest);
-    match output.cuts(outlook.bound, targets.len(), sink) {
-        Ok(()) => Ok(true),
-        Err(fault) => Err(fault),
-    }
+    output.cuts(outlook.bound, targets.len(), sink)?;
+    Ok(true)
 }
 
 // The moves of a node are played up to the first that no bound excludes by what is known of the node, which is the
@@ -234,11 +195,8 @@ fn next_uncut<W: Sink>(
     output: &mut Output,
     sink: &mut W,
 ) -> Result<Option<Uncut>, SearchFault>
-    requires runs { output.old.writer.failed ≡ false }
-    ensures runs { OnOk result (output.new.writer.failed ≡ false) }
     ensures same { moves.new.position ≡ moves.old.position }
     ensures legal { IfOk result (λ uncut. IfSome uncut (λ u. IsLegal moves.old.position u.m)) }
-    ensures says { (plies : ℕ) → RefusesTruly plies (W.has_failed sink.new) result }
 {
     let position = moves.position();
     let rows = judge.rows(position.side());
@@ -251,7 +209,7 @@ fn next_uncut<W: Sink>(
             Ok(false) => {}
             Err(fault) => return Err(fault),
         }
-        if !output.visit() {
+        if !output.budget.visit() {
             return Err(SearchFault::Budget);
         }
         match outlook.plain(rows, &position, mover, &m) {
@@ -277,11 +235,7 @@ fn next_opened<W: Sink>(
     top: &mut Frame,
     recorder: &mut Recorder,
     sink: &mut W,
-) -> Result<bool, SearchFault>
-    requires runs { recorder.old.output.writer.failed ≡ false }
-    ensures runs { OnOk result (recorder.new.output.writer.failed ≡ false) }
-    ensures says { RefusesTruly question.now.plies (W.has_failed sink.new) result }
-{
+) -> Result<bool, SearchFault> {
     let position = top.moves.position();
     let mut mover = Mover::none();
     for _ in 0..u16::MAX {
@@ -316,11 +270,7 @@ fn next_opened_at<W: Sink>(
     fertile: bool,
     recorder: &mut Recorder,
     sink: &mut W,
-) -> Result<bool, SearchFault>
-    requires runs { recorder.old.output.writer.failed ≡ false }
-    ensures runs { OnOk result (recorder.new.output.writer.failed ≡ false) }
-    ensures says { RefusesTruly question.now.plies (W.has_failed sink.new) result }
-{
+) -> Result<bool, SearchFault> {
     match frames.get_mut(at) {
         Some(top) => {
             top.fertile = top.fertile || fertile;
@@ -340,18 +290,15 @@ fn play_until_opened<W: Sink>(
     sink: &mut W,
 ) -> Result<(), SearchFault>
     requires room { machine.old.open < 128 }
-    requires runs { machine.old.recorder.output.writer.failed ≡ false }
     ensures depth { OnOk result (machine.new.open ≤ machine.old.open + 1) }
-    ensures runs { OnOk result (machine.new.recorder.output.writer.failed ≡ false) }
-    ensures says { RefusesTruly question.now.plies (W.has_failed sink.new) result }
 {
     let at = usize::from(machine.open).saturating_sub(1);
     let fertile = machine.findings.fertile;
     machine.findings.fertile = false;
     match next_opened_at(question, frames, at, fertile, &mut machine.recorder, sink) {
         Ok(true) => {
-            let opened = &machine.recorder.output.opened;
-            let frame = frame_of(&machine.recorder.judge, opened, left);
+            let recorder = &machine.recorder;
+            let frame = frame_of(&recorder.judge, &recorder.opened, left);
             put_frame(frames, machine.open, frame);
             machine.open += 1;
             Ok(())
@@ -367,17 +314,11 @@ fn short_tree<W: Sink>(
     findings: &mut Findings,
     output: &mut Output,
     sink: &mut W,
-) -> Result<(), SearchFault>
-    requires runs { output.old.writer.failed ≡ false }
-    ensures runs { OnOk result (output.new.writer.failed ≡ false) }
-    ensures says { RefusesTruly question.now.plies (W.has_failed sink.new) result }
-{
+) -> Result<(), SearchFault> {
     let array = Position::array();
     if question.tree > 0 {
-        return match last_node(output, sink) {
-            Ok(()) => leaves(question, &[], findings, &None, &array),
-            Err(fault) => Err(fault),
-        };
+        last_node(output, sink)?;
+        return leaves(question, &[], findings, &None, &array);
     }
     if question.diagram.matches(&array) {
         end(question, &[], findings, &None, &None)
@@ -391,19 +332,15 @@ fn enter_root<W: Sink>(
     question: &Question,
     recorder: &mut Recorder,
     sink: &mut W,
-) -> Result<Option<Frame>, SearchFault>
-    requires runs { recorder.old.output.writer.failed ≡ false }
-    ensures runs { OnOk result (recorder.new.output.writer.failed ≡ false) }
-    ensures says { RefusesTruly question.now.plies (W.has_failed sink.new) result }
-{
-    if !recorder.output.visit() {
+) -> Result<Option<Frame>, SearchFault> {
+    if !recorder.output.budget.visit() {
         return Err(SearchFault::Budget);
     }
     let left = question.tree;
-    match enter(question, recorder, sink, &Position::array(), None, left) {
-        Ok(false) => Ok(None),
-        Ok(true) => Ok(Some(frame_of(&recorder.judge, &recorder.output.opened, left))),
-        Err(fault) => Err(fault),
+    if enter(question, recorder, sink, &Position::array(), None, left)? {
+        Ok(Some(frame_of(&recorder.judge, &recorder.opened, left)))
+    } else {
+        Ok(None)
     }
 }
 
@@ -416,10 +353,7 @@ fn turn<W: Sink>(
 ) -> Result<(), SearchFault>
     requires limit { question.now.tree ≤ 128 }
     requires depth { machine.old.open ≤ question.now.tree }
-    requires runs { machine.old.recorder.output.writer.failed ≡ false }
     ensures depth { OnOk result (machine.new.open ≤ question.now.tree) }
-    ensures runs { OnOk result (machine.new.recorder.output.writer.failed ≡ false) }
-    ensures says { RefusesTruly question.now.plies (W.has_failed sink.new) result }
 {
     let left = question.tree - machine.open;
     if left >= 2 {
@@ -457,9 +391,6 @@ pub(crate) fn tree_of<W: Sink, P: SearchProgress>(
     watch: &mut P,
 ) -> Result<(), SearchFault>
     requires limit { question.now.tree ≤ 128 }
-    requires runs { machine.old.recorder.output.writer.failed ≡ false }
-    ensures runs { OnOk result (machine.new.recorder.output.writer.failed ≡ false) }
-    ensures says { RefusesTruly question.now.plies (W.has_failed sink.new) result }
 {
     machine.open = 0;
     machine.findings.fertile = false;
@@ -481,11 +412,8 @@ pub(crate) fn tree_of<W: Sink, P: SearchProgress>(
     for _ in 0..u64::MAX {
         let answer = turn(question, frames, machine, sink);
         known = tell(&machine.findings.games, known, watch);
-        match answer {
-            Ok(()) => {}
-            Err(fault) => return Err(fault),
-        }
-        watch.reached(question.tree, machine.recorder.output.nodes);
+        answer?;
+        watch.reached(question.tree, machine.recorder.output.budget.nodes);
         if machine.open == 0 {
             return Ok(());
         }

@@ -2,7 +2,7 @@
 
 use crate::names::{put_all, put_things};
 use crate::numbers::Node;
-use crate::sentences::{Sentence, first_reason};
+use crate::sentences::{Sentence, first_of_four};
 use crate::tally::Tally;
 use std::fmt::Write;
 
@@ -77,7 +77,10 @@ pub fn put_expanded(left: u8, tally: &Tally, reason: &Option<Sentence>, text: &m
 pub fn expanded(node: &Node, tally: &Tally) -> Sentence {
     let mut text = Sentence::new();
     let reason = if node.left == 1 && tally.lead == 0 {
-        first_reason(node)
+        match first_of_four(node) {
+            Some(grounds) => Some(grounds.text),
+            None => None,
+        }
     } else {
         None
     };

@@ -3,7 +3,7 @@
 use pg_board::{Board, Color, Kind, Man, Square, SquareSet};
 use pg_fen::Diagram;
 use pg_position::{Position, Wing, king_crossed, king_home, king_target, rook_home};
-use pg_travel::distance;
+use pg_travel::{Ways, distance};
 
 // No man of a kind comes from a square.
 const NONE: u8 = 255;
@@ -32,6 +32,8 @@ pub struct Distances {
     goal: Board,
     white: Rows,
     black: Rows,
+    // By which price lists of travel are tested, where they were met.
+    tested_by: Option<pg_travel::Rows>,
 }
 
 // For each kind the squares whose rows are written.
@@ -44,15 +46,6 @@ pub struct GrowingDistances {
     distances: Distances,
     white: Known,
     black: Known,
-}
-
-// What a colour needs in each way, in which it can come to its squares: without castling, and by castling as the rights
-// that it holds allow, if that is less.
-#[derive(Clone, Copy)]
-pub(crate) struct Ways {
-    pub(crate) free: Option<u16>,
-    pub(crate) short: Option<u16>,
-    pub(crate) long: Option<u16>,
 }
 
 // What a colour needs, beside what it has: no more than that; more than any number, and the first man of the diagram
@@ -210,15 +203,6 @@ fn value(row: &Row, charge: u16) -> Option<u16> {
     if most == NONE { None } else { Some(sum) }
 }
 
-// The lesser of two numbers that may be missing.
-fn least(a: Option<u16>, b: Option<u16>) -> Option<u16> {
-    match (a, b) {
-        (Some(a), Some(b)) => Some(a.min(b)),
-        (Some(a), None) => Some(a),
-        (None, b) => b,
-    }
-}
-
 // Whether a number that may be missing is less than another one, which is more than any where it is missing.
 fn is_less(a: Option<u16>, b: Option<u16>) -> bool {
     match (a, b) {
@@ -236,13 +220,6 @@ fn is_within(need: Option<u16>, plies: u8) -> bool {
     }
 }
 
-impl Ways {
-    // The need: the least value of a way.
-    pub(crate) fn need(&self) -> Option<u16> {
-        least(self.free, least(self.short, self.long))
-    }
-}
-
 impl Distances {
     /// The distances to the men of a diagram.
     pub fn new(diagram: &Diagram) -> Distances {
@@ -250,6 +227,7 @@ impl Distances {
         let mut distances = Distances::unfilled(goal);
         fill_all(Color::White, &goal, &mut distances.white);
         fill_all(Color::Black, &goal, &mut distances.black);
+        distances.tested_by = Some(pg_travel::Rows::new(diagram));
         distances
     }
 
@@ -260,11 +238,17 @@ impl Distances {
             goal,
             white: [[0; 16]; 384],
             black: [[0; 16]; 384],
+            tested_by: None,
         }
     }
 
-    // Whether they serve for a colour and a diagram: they are of this one, and have all men of the colour.
-    pub(crate) fn serve(&self, diagram: &Diagram, color: Color) -> bool {
+    // The rows by which price lists of travel are tested, if they were made.
+    pub(crate) fn tested_by(&self) -> &Option<pg_travel::Rows> {
+        &self.tested_by
+    }
+
+    // Whether they are of this diagram, and have all men of the colour.
+    pub(crate) fn has_all_men_of(&self, diagram: &Diagram, color: Color) -> bool {
         self.goal == diagram.board() && self.goal.squares_of_color(color).len() <= 16
     }
 
@@ -386,6 +370,13 @@ impl GrowingDistances {
             &mut self.distances.black,
             &mut self.black,
         );
+    }
+
+    // The rows by which price lists of travel are tested are made, where they are not yet.
+    pub(crate) fn meet_prices(&mut self, diagram: &Diagram) {
+        if self.distances.tested_by.is_none() {
+            self.distances.tested_by = Some(pg_travel::Rows::new(diagram));
+        }
     }
 
     // The distances, of which those of the men of a position that was met are written.

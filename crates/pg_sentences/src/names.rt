@@ -96,8 +96,8 @@ fn file_name(square: Square) -> &'static str {
     }
 }
 
-// Appends a man by its kind and square, as `man_name` names him.
-pub(crate) fn put_man(text: &mut Sentence, kind: Kind, square: Square) {
+// Appends a man by its kind and square, as in `the knight on g8`.
+pub(crate) fn put_man<const CAP: usize>(text: &mut ArrayString<CAP>, kind: Kind, square: Square) {
     let (file, rank) = (file_name(square), digit(u64::from(square.rank())));
     put_all(text, &["the ", kind_name(kind), " on ", file, rank]);
 }
@@ -107,13 +107,10 @@ pub(crate) fn put_square(text: &mut Sentence, square: Square) {
     put_all(text, &[file_name(square), digit(u64::from(square.rank()))]);
 }
 
-// A man by its kind and square, as in `the knight on g8`.
+// A man by its kind and square.
 pub(crate) fn man_name(kind: Kind, square: Square) -> Phrase {
     let mut name = Phrase::new();
-    let file = char::from(b'a' + (square.file().saturating_sub(1) % 8));
-    put_all(&mut name, &["the ", kind_name(kind), " on "]);
-    let _ = name.try_push(file);
-    let _ = name.try_push(char::from(b'0' + square.rank() % 10));
+    put_man(&mut name, kind, square);
     name
 }
 

@@ -9,7 +9,7 @@ use pg_board::{Board, Color, Kind, Man, Square, SquareSet};
 use pg_captures::{owed, price_sum};
 use pg_pawns::PawnFiles;
 use pg_position::{Rights, Wing, king_crossed, king_home, king_target, rook_home};
-use pg_travel::{Prices, Travel, distance};
+use pg_travel::{Prices, Rows, Travel, distance, prices_exclude, prices_exclude_by};
 use std::fmt::Write;
 
 // How many of the dearest men are named.
@@ -361,9 +361,23 @@ fn pawn_prices_of(node: &Node, color: Color, prices: &Prices) -> Option<Sentence
     Some(text)
 }
 
+// Whether prices of travel exclude, by rows where they are at hand.
+fn travel_excludes(rows: &Option<Rows>, node: &Node, color: Color, prices: &Prices) -> bool {
+    let (diagram, position) = (node.diagram, node.position);
+    match rows {
+        Some(rows) => prices_exclude_by(rows, diagram, position, node.left, color, prices),
+        None => prices_exclude(diagram, position, node.left, color, prices),
+    }
+}
+
 // Why the prices of travel exclude; none where they do not.
-fn travel_prices_of(node: &Node, color: Color, prices: &Prices) -> Option<Sentence> {
-    if !pg_travel::prices_exclude(node.diagram, node.position, node.left, color, prices) {
+fn travel_prices_of(
+    rows: &Option<Rows>,
+    node: &Node,
+    color: Color,
+    prices: &Prices,
+) -> Option<Sentence> {
+    if !travel_excludes(rows, node, color, prices) {
         return None;
     }
     let (here, goal) = (node.position.board(), node.diagram.board());
@@ -392,6 +406,7 @@ fn travel_prices_of(node: &Node, color: Color, prices: &Prices) -> Option<Senten
 
 // Why prices of this code exclude; none where they do not.
 pub(crate) fn reason_of_prices(
+    rows: &Option<Rows>,
     node: &Node,
     code: u8,
     color: Color,
@@ -399,7 +414,7 @@ pub(crate) fn reason_of_prices(
 ) -> Option<Sentence> {
     match code {
         PawnFiles::CODE => pawn_prices_of(node, color, prices),
-        Travel::CODE => travel_prices_of(node, color, prices),
+        Travel::CODE => travel_prices_of(rows, node, color, prices),
         _ => None,
     }
 }

@@ -116,16 +116,8 @@ fn reason(node: &Node, code: u8) -> Option<Sentence> {
     }
 }
 
-// Why the first bound that excludes a node does; none where no bound is seen to.
-pub(crate) fn first_reason(node: &Node) -> Option<Sentence> {
-    match first_of_four(node) {
-        Some(reason) => Some(reason.text),
-        None => None,
-    }
-}
-
-// The same with the code of that bound.
-fn first_of_four(node: &Node) -> Option<Grounds> {
+// Why the first bound that excludes a node does, with its code; none where no bound is seen to.
+pub(crate) fn first_of_four(node: &Node) -> Option<Grounds> {
     let mut text = Sentence::new();
     match write_first(&None, node, &mut text) {
         Some(code) => Some(Grounds { code, text }),
@@ -154,7 +146,7 @@ fn recorded(node: &Node, record: &Record) -> Sentence {
             code,
             color,
             prices,
-        } => excluded(*code, reason_of_prices(node, *code, *color, prices)),
+        } => excluded(*code, reason_of_prices(&None, node, *code, *color, prices)),
         Record::Ref(_) | Record::Expand { .. } => said("a reference to no closed node"),
     }
 }
@@ -204,7 +196,7 @@ pub fn reason_of_cut(
             code,
             color,
             prices,
-        } => Some(with_code(*code, reason_of_prices(&node, *code, *color, prices))),
+        } => Some(with_code(*code, reason_of_prices(&None, &node, *code, *color, prices))),
         Record::Ref(_) | Record::Expand { .. } => None,
     }
 }
@@ -225,7 +217,8 @@ pub fn put_reason_of_cut(
             Some(*code)
         }
         Bare::Priced { code, color } => {
-            if let Some(words) = reason_of_prices(node, *code, *color, prices) {
+            let words = reason_of_prices(distances.tested_by(), node, *code, *color, prices);
+            if let Some(words) = words {
                 *text = words;
             }
             Some(*code)
@@ -251,7 +244,7 @@ pub fn put_reason_of_bounds(distances: &Distances, node: &Node, text: &mut Sente
 }
 
 impl GrowingDistances {
-    /// Writes what `put_reason_of_cut` writes. Only a cut by travel asks for distances.
+    /// Writes what `put_reason_of_cut` writes. Only a cut by travel asks for distances, and one by its prices for rows.
     pub fn put_reason_of_cut(
         &mut self,
         node: &Node,
@@ -261,6 +254,15 @@ impl GrowingDistances {
     ) -> Option<u8> {
         if matches!(said, Bare::Cut(Travel::CODE)) {
             self.meet(node.position);
+        }
+        if matches!(
+            said,
+            Bare::Priced {
+                code: Travel::CODE,
+                ..
+            }
+        ) {
+            self.meet_prices(node.diagram);
         }
         put_reason_of_cut(self.known(), node, said, prices, text)
     }

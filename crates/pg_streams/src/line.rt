@@ -21,7 +21,8 @@ const CLEAR: &str = "\r\x1b[K";
 // A line has so many characters at most.
 pub(crate) const WIDTH: usize = 48;
 
-/// The line of a terminal on which runs say how far they are, as all see it that write there. The cursor stands below it.
+/// The line of a terminal on which runs say how far they are, as all see it that write there. The cursor stands below
+/// it.
 #[derive(Drop)]
 pub struct Terminal {
     /// Whether somebody looks at it, and it can take a line away.
@@ -40,8 +41,8 @@ impl Terminal {
     }
 
     // Shows a text in the place of the last one, and goes below it. A terminal that is narrower cuts it off: it is told
-    // not to wrap (`ESC [ ? 7 l`, ECMA-48 and DEC), so one line is all that has to be taken away. All of that is printed
-    // at once, so that a run which is interrupted leaves a whole line and the cursor below it.
+    // not to wrap (`ESC [ ? 7 l`, ECMA-48 and DEC), so one line is all that has to be taken away. All of that is
+    // printed at once, so that a run which is interrupted leaves a whole line and the cursor below it.
     fn show<R: Eprint>(&self, rt: &R, text: &str) {
         let up = if self.shown.replace(true) { UP } else { "" };
         let _ = eprint!(rt; "{up}{CLEAR}\x1b[?7l{text}\x1b[?7h\n");

@@ -21,9 +21,9 @@ use Rattle.pg_position.specs.Squares.{king_home, rook_home, king_crossed, king_t
 use Rattle.pg_captures.specs.Owed.{plies_left}
 use Rattle.pg_travel.specs.Origins.{charge, counted}
 use Rattle.pg_travel.specs.inner.Formulas.{distance_of}
-use Rattle.pg_travel.specs.Needs.{NeedIs, TravelTest}
+use Rattle.pg_travel.specs.Needs.{NeedIs, TravelTest, ValueIs, HeldBeside, lesser}
 use Rattle.pg_travel.specs.lemmas.NeedLemmas.{test_fails}
-use Rattle.pg_travel.specs.inner.Costs.{reach_of, nearest, cost, ValueIs, SumIs, HeldBeside, most_of, lesser}
+use Rattle.pg_travel.specs.inner.Costs.{reach_of, nearest, cost, SumIs, most_of}
 use Rattle.pg_travel.specs.lemmas.Pawns.{some_by_steps}
 use Rattle.pg_travel.specs.lemmas.Values.{sum_is_value, cost_home, cost_man, counted_low}
 use Rattle.pg_travel.specs.Decided.{sum_of}

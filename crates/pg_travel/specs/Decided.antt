@@ -12,9 +12,9 @@ use Rattle.pg_position.specs.Position.{holds}
 use Rattle.pg_captures.specs.Owed.{plies_left}
 use Rattle.pg_travel.specs.Origins.{charge}
 use Rattle.pg_board.specs.Tally.{total}
-use Rattle.pg_travel.specs.Needs.{NeedIs, TravelTest, TravelHolds}
+use Rattle.pg_travel.specs.Needs.{NeedIs, TravelTest, TravelHolds, ValueIs, HeldIs, lesser}
 use Rattle.pg_travel.specs.inner.Formulas.{least_of}
-use Rattle.pg_travel.specs.inner.Costs.{reach_of, nearest, cost_of, cost, ValueIs, SumIs, HeldIs, lesser}
+use Rattle.pg_travel.specs.inner.Costs.{reach_of, nearest, cost_of, cost, SumIs}
 use Rattle.pg_travel.specs.lemmas.Values.{sum_is_value}
 use Rattle.pg_travel.specs.lemmas.Least.{need_is, test_none, test_some, held_by_value}
 

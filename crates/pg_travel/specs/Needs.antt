@@ -1,5 +1,5 @@
 -- Distances of an origin map, and the need of a colour.
-use Rattle.std.specs.Prelude.{◌≡◌, ℕ, ◌+◌, ◌<◌, ◌≤◌, Option, Some, None, List, length, ◌⊎◌}
+use Rattle.std.specs.Prelude.{◌≡◌, ℕ, ◌+◌, ◌<◌, ◌≤◌, min, Option, Some, None, List, length, ◌⊎◌}
 use Rattle.pg_board.specs.declared.man.Color.{Color}
 use Rattle.pg_board.specs.declared.man.Kind.{Kind}
 use Rattle.pg_position.specs.declared.rights.Wing.{Wing}
@@ -33,6 +33,25 @@ abbrev pub IsValue : Placement → State → Color → Option Wing → ℕ → T
 IsValue d p c way v =
     (least : ℕ → ℕ) × ((j : Kind) (t : ℕ) → t < 64 → Stands d c j t → IsLeast (Comes p c way j t) (least t))
     × (v ≡ charge way + sum_over c any_man d least)
+
+-- the value of a way, if it has one
+abbrev pub ValueIs : Placement → State → Color → Option Wing → Option ℕ → Type 0
+ValueIs d p c way None = (v : ℕ) → ¬ IsValue d p c way v
+ValueIs d p c way (Some v) = IsValue d p c way v
+
+-- the same of a way of c in p, if it is one
+abbrev pub HeldIs : Placement → State → Color → Option Wing → Option ℕ → Type 0
+HeldIs d p c way None = (v : ℕ) → IsWayOf p c way → ¬ IsValue d p c way v
+HeldIs d p c way (Some v) = IsWayOf p c way × IsValue d p c way v
+
+abbrev pub lesser : Option ℕ → Option ℕ → Option ℕ
+lesser None b = b
+lesser (Some x) None = Some x
+lesser (Some x) (Some y) = Some (min x y)
+
+-- r is as good beside the best so far as the value of castling by a right of c in p, if it is held
+abbrev pub HeldBeside : Placement → State → Color → Wing → Option ℕ → Option ℕ → Type 0
+HeldBeside d p c w best r = (o : Option ℕ) × HeldIs d p c (Some w) o × (lesser best r ≡ lesser best o)
 
 -- v is the value of a way of c
 abbrev pub HasValue : Placement → State → Color → ℕ → Type 0

@@ -13,13 +13,12 @@ ghost use Rattle.pg_travel.specs.Needs.{TravelTest};
 ghost use Rattle.pg_travel.specs.inner.AfterMove.{MayCastle, IsTold, AreMoved, KeepsRights, IsMoved, AreToCome};
 ghost use Rattle.pg_travel.specs.inner.AfterMove.{NonePays};
 ghost use Rattle.pg_travel.specs.inner.LeastRows.{IsBelow};
-ghost use Rattle.pg_travel.specs.inner.Within.{PaysIs, CastledIs, CostsEach};
+ghost use Rattle.pg_travel.specs.inner.Within.{CastledIs};
 
-use crate::castling::charge;
-use crate::least_rows::{castled, cost_by, lowered_by};
+use crate::least_rows::{castled, cost_by, lowered_by_all, too_many};
 use crate::misplaced::castled_squares;
 use crate::rows::Rows;
-use pg_board::{Board, Color, Kind, Man, SquareSet};
+use pg_board::{Board, Color, Kind, SquareSet};
 use pg_captures::plies_left;
 use pg_fen::Diagram;
 use pg_position::{Move, Position, Wing, king_home, king_target};
@@ -61,18 +60,8 @@ fn to_come_after(goal: &Board, board: &Board, color: Color, m: &Move) -> SquareS
     }
 }
 
-// Whether castling costs more than so many plies by the men that are to come: a ply for each but those whom
-// castling may bring.
-#[inline(always)]
-fn too_many(come: SquareSet, color: Color, right: Wing, plies: u16) -> bool
-    ensures { IsTrue result → (q : State) (d : Placement) → AreToCome q.board d color come
-        → PaysIs q d color (Some right) plies false }
-{
-    let sure = come - castled_squares(color, right);
-    charge(Some(right)) + u16::from(sure.len()) > plies
-}
-
-// The same of castling by a right, and whether that is not held.
+// Whether so many plies do not pay for castling by a right, by the men that are to come: a ply for each but those whom
+// castling may bring. And whether the right is not held.
 #[inline(always)]
 fn too_many_castled(
     position: &Position,
@@ -85,7 +74,8 @@ fn too_many_castled(
         → AreToCome q.board d color come → CastledIs q d color right plies false }
 {
     if position.rights().holds(color, right) {
-        too_many(come, color, right, plies)
+        let sure = come - castled_squares(color, right);
+        too_many(sure, Some(right), plies)
     } else {
         true
     }
@@ -123,12 +113,7 @@ fn row_after(rows: &Rows, board: &Board, color: Color, kind: Kind, m: &Move) -> 
     m.to.index();
     let off = SquareSet::single(m.from);
     let arrived = rows.of(color, kind, m.to);
-    let pawns = lowered_by(rows, board, Man::new(color, Kind::Pawn), off, arrived);
-    let knights = lowered_by(rows, board, Man::new(color, Kind::Knight), off, pawns);
-    let bishops = lowered_by(rows, board, Man::new(color, Kind::Bishop), off, knights);
-    let rooks = lowered_by(rows, board, Man::new(color, Kind::Rook), off, bishops);
-    let queens = lowered_by(rows, board, Man::new(color, Kind::Queen), off, rooks);
-    lowered_by(rows, board, Man::new(color, Kind::King), off, queens)
+    lowered_by_all(rows, board, color, off, arrived)
 }
 
 // Whether castling by a right is not paid for, by such distances, or the right is not held.

@@ -1,6 +1,7 @@
 //! The need of a way by rows: the least distances to all men of a diagram at once.
 ghost use Rattle.std.specs.Prelude.{◌≡◌, ℕ, ◌<◌, ◌≤◌, ◌↔◌, IsTrue, get_or, Some, None, false};
-ghost use Rattle.pg_board.specs.Placement.{get};
+ghost use Rattle.pg_board.specs.Placement.{Placement, get};
+ghost use Rattle.pg_board.specs.declared.man.Color.{Color as AColor};
 ghost use Rattle.pg_board.specs.SquareSets.{IsSetOf};
 ghost use Rattle.pg_board.specs.Tally.{total};
 ghost use Rattle.pg_captures.specs.Counting.{men, any_man};
@@ -9,7 +10,7 @@ ghost use Rattle.pg_position.specs.declared.state.State.{State};
 ghost use Rattle.pg_travel.specs.Needs.{TravelTest};
 ghost use Rattle.pg_travel.specs.inner.LeastRows.{AreLesser, IsLowered, IsHomeOf, IsOff, StandsOff, IsLeastFrom};
 ghost use Rattle.pg_travel.specs.inner.LeastRows.{IsFree, IsAway, IsLeastRow, IsCastled, row_cost};
-ghost use Rattle.pg_travel.specs.inner.Within.{PaysIs, CastledIs};
+ghost use Rattle.pg_travel.specs.inner.Within.{CostsEach, PaysIs, CastledIs};
 
 use crate::castling::{charge, counted};
 use crate::needs::same_side;
@@ -54,13 +55,7 @@ fn homes(color: Color) -> SquareSet
 
 // Lowered by the rows of each such man that stands off these squares.
 #[inline(always)]
-pub(crate) fn lowered_by(
-    rows: &Rows,
-    board: &Board,
-    man: Man,
-    off: SquareSet,
-    least: [u8; 16],
-) -> [u8; 16]
+fn lowered_by(rows: &Rows, board: &Board, man: Man, off: SquareSet, least: [u8; 16]) -> [u8; 16]
     ensures { IsLowered rows.now board.now man.color None (StandsOff board.now man off) least result }
 {
     let mut own = board.squares_of(man) - off;
@@ -72,18 +67,31 @@ pub(crate) fn lowered_by(
     lowest
 }
 
-// The least distances from the men off these squares, counted where they stand.
+// Lowered by the rows of each man of the colour that stands off these squares.
 #[inline(always)]
-fn least_off(rows: &Rows, board: &Board, color: Color, off: SquareSet) -> [u8; 16]
-    ensures { IsLeastFrom rows.now board.now color (IsOff off) result }
+pub(crate) fn lowered_by_all(
+    rows: &Rows,
+    board: &Board,
+    color: Color,
+    off: SquareSet,
+    start: [u8; 16],
+) -> [u8; 16]
+    ensures { IsLowered rows.now board.now color None (IsOff off) start result }
 {
-    let none = unreached(rows.men(color));
-    let pawns = lowered_by(rows, board, Man::new(color, Kind::Pawn), off, none);
+    let pawns = lowered_by(rows, board, Man::new(color, Kind::Pawn), off, start);
     let knights = lowered_by(rows, board, Man::new(color, Kind::Knight), off, pawns);
     let bishops = lowered_by(rows, board, Man::new(color, Kind::Bishop), off, knights);
     let rooks = lowered_by(rows, board, Man::new(color, Kind::Rook), off, bishops);
     let queens = lowered_by(rows, board, Man::new(color, Kind::Queen), off, rooks);
     lowered_by(rows, board, Man::new(color, Kind::King), off, queens)
+}
+
+// The least distances from the men off these squares, counted where they stand.
+#[inline(always)]
+fn least_off(rows: &Rows, board: &Board, color: Color, off: SquareSet) -> [u8; 16]
+    ensures { IsLeastFrom rows.now board.now color (IsOff off) result }
+{
+    lowered_by_all(rows, board, color, off, unreached(rows.men(color)))
 }
 
 // The least distances from all men where they stand: those by the way without castling.
@@ -176,22 +184,24 @@ fn pays(
     cost_by(way, least(rows, board, color, way, away)) <= plies
 }
 
-// Whether the men that are sure to cost a ply each are more than so many plies pay for, by a way.
+// Whether so many plies do not pay for a way, where the men on these squares cost one each.
 #[inline(always)]
-fn too_many(rows: &Rows, position: &Position, color: Color, way: Option<Wing>, plies: u16) -> bool
-    ensures { IsTrue result → PaysIs position.now rows.now color way plies false }
+pub(crate) fn too_many(sure: SquareSet, way: Option<Wing>, plies: u16) -> bool
+    ensures { IsTrue result → (p : State) (d : Placement) (c : AColor) → CostsEach p.board d c way sure
+        → PaysIs p d c way plies false }
 {
-    let sure = rows.sure_to_cost(&position.board(), color, way);
     charge(way) + u16::from(sure.len()) > plies
 }
 
-// The same of castling by a right, and whether that is not held.
+// Whether they do not pay for castling by a right, by the men that are sure to cost one each, and whether that is
+// not held.
 #[inline(always)]
 fn too_many_castled(rows: &Rows, position: &Position, color: Color, right: Wing, plies: u16) -> bool
     ensures { IsTrue result → CastledIs position.now rows.now color right plies false }
 {
     if position.rights().holds(color, right) {
-        too_many(rows, position, color, Some(right), plies)
+        let sure = rows.sure_to_cost(&position.board(), color, Some(right));
+        too_many(sure, Some(right), plies)
     } else {
         true
     }
@@ -253,7 +263,8 @@ fn far_off(rows: &Rows, position: &Position, color: Color, plies: u16) -> bool
     ensures short { IsTrue result → CastledIs position.now rows.now color KingSide plies false }
     ensures long { IsTrue result → CastledIs position.now rows.now color QueenSide plies false }
 {
-    too_many(rows, position, color, None, plies)
+    let sure = rows.sure_to_cost(&position.board(), color, None);
+    too_many(sure, None, plies)
         && too_many_castled(rows, position, color, Wing::KingSide, plies)
         && too_many_castled(rows, position, color, Wing::QueenSide, plies)
 }

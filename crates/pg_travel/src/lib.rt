@@ -16,13 +16,12 @@ mod price_cuts;
 mod promotion_table;
 mod rows;
 mod sources;
-mod targets;
 mod travel;
 mod travel_by_rows;
 
 pub use distances::distance;
 pub use laws::{origins_law, travel_law};
-pub use needs::need;
+pub use needs::{Ways, need};
 pub use price_cuts::{prices_exclude, prices_exclude_by};
 pub use rows::Rows;
 pub use travel::Travel;

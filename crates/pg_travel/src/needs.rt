@@ -1,15 +1,15 @@
-//! The value of a way, the need of a colour and the test of the bound.
+//! The values of a colour's ways, its need and the test of the bound.
 ghost use Rattle.std.specs.Prelude.{◌≡◌, ℕ, ◌+◌, ◌*◌, ◌<◌, ◌≤◌, ◌↔◌, ◌/◌, ◌%◌, min, IsTrue, true, Some, None};
 ghost use Rattle.pg_board.specs.Bits.{has};
 ghost use Rattle.pg_board.specs.Placement.{get};
 ghost use Rattle.pg_board.specs.Tally.{one};
 ghost use Rattle.pg_board.specs.Men.{color_eq};
+ghost use Rattle.pg_position.specs.declared.rights.Wing.TheVariants.{KingSide, QueenSide};
 ghost use Rattle.pg_captures.specs.Owed.{plies_left};
 ghost use Rattle.pg_travel.specs.Origins.{counted, charge};
 ghost use Rattle.pg_travel.specs.inner.Formulas.{least_of};
-ghost use Rattle.pg_travel.specs.inner.Costs.{BeyondFar, nearest_man, nearest, cost_of, cost, ValueIs, SumIs};
-ghost use Rattle.pg_travel.specs.inner.Costs.{HeldBeside, most_of, lesser};
-ghost use Rattle.pg_travel.specs.Needs.{NeedIs, TravelTest};
+ghost use Rattle.pg_travel.specs.inner.Costs.{BeyondFar, nearest_man, nearest, cost_of, cost, most_of};
+ghost use Rattle.pg_travel.specs.Needs.{ValueIs, lesser, HeldBeside, NeedIs, TravelTest};
 ghost use Rattle.pg_travel.specs.inner.Within.{SumWithin, PaysIs, CastledIs};
 
 use crate::bands::{Band, promoting, whole_board};
@@ -118,13 +118,6 @@ fn beyond_sure(sure: SquareSet, t: Square, n: u8) -> u8
 // No way costs more: its charge is 1 at most, and a man on each square 63 at most.
 const MOST_VALUE: u16 = 1 + 64 * 63;
 
-// The charge of a way and what all men of the diagram cost; none where one has no man to come.
-fn total(board: &Board, goal: &Board, color: Color, way: Option<Wing>) -> Option<u16>
-    ensures { SumIs board.now goal.now color way result }
-{
-    total_within(board, goal, color, way, MOST_VALUE)
-}
-
 // The charge of a way and what all men of the diagram cost; none where that is above the limit, or
 // where one has no man to come. Each man that is sure to cost a ply is counted with one from the
 // start, so that the sum is soon above a low limit.
@@ -156,14 +149,6 @@ fn total_within(
         from = t.index() + 1;
     }
     Some(total)
-}
-
-// The value of a way; none where some man of the diagram has no man that can come to it.
-#[tactic(auto, using(crate::specs::lemmas::Values::sum_is_value))]
-fn value(position: &Position, diagram: &Diagram, color: Color, way: Option<Wing>) -> Option<u16>
-    ensures { ValueIs diagram.now position.now color way result }
-{
-    total(&position.board(), &diagram.board(), color, way)
 }
 
 // The most that a value may be which is no greater than the best so far.
@@ -207,6 +192,42 @@ fn lesser(a: Option<u16>, b: Option<u16>) -> Option<u16>
     }
 }
 
+/// The values of a colour's ways. The value of a way is 1 for castling, and for each of the colour's men
+/// of the diagram the distance of its nearest man, where a castling way counts the king and the rook on
+/// the squares that they castle to.
+#[derive(Clone, Copy)]
+pub struct Ways {
+    /// Without castling. None where a man of the diagram has no man that can come to it.
+    pub free: Option<u16>,
+    /// By castling king side. None too where the right is not held, and where it is above `free`.
+    pub short: Option<u16>,
+    /// By castling queen side. None too where the right is not held, and where it is above one of the others.
+    pub long: Option<u16>,
+}
+
+impl Ways {
+    /// From the position to the diagram.
+    pub fn new(color: Color, diagram: &Diagram, position: &Position) -> Ways
+        ensures free { ValueIs diagram.now position.now color None result.free }
+        ensures short { HeldBeside diagram.now position.now color KingSide result.free result.short }
+        ensures long { HeldBeside diagram.now position.now color QueenSide (lesser result.free result.short)
+            result.long }
+    {
+        let free = total_within(&position.board(), &diagram.board(), color, None, MOST_VALUE);
+        let short = castled_value(position, diagram, color, Wing::KingSide, free);
+        let better = lesser(free, short);
+        let long = castled_value(position, diagram, color, Wing::QueenSide, better);
+        Ways { free, short, long }
+    }
+
+    /// The least of them.
+    pub fn need(&self) -> Option<u16>
+        ensures { result ≡ lesser (lesser self.now.free self.now.short) self.now.long }
+    {
+        lesser(lesser(self.free, self.short), self.long)
+    }
+}
+
 /// The need of a colour: how many plies of its own it needs at least, by distances, to bring its men
 /// from the position onto the squares of the diagram. It is the least value of its ways, none where
 /// no way has one. A way is no castling, or castling by a right that the position holds; its value
@@ -215,11 +236,7 @@ fn lesser(a: Option<u16>, b: Option<u16>) -> Option<u16>
 pub fn need(color: Color, diagram: &Diagram, position: &Position) -> Option<u16>
     ensures { NeedIs diagram.now position.now color result }
 {
-    let free = value(position, diagram, color, None);
-    let short = castled_value(position, diagram, color, Wing::KingSide, free);
-    let better = lesser(free, short);
-    let long = castled_value(position, diagram, color, Wing::QueenSide, better);
-    lesser(better, long)
+    Ways::new(color, diagram, position).need()
 }
 
 // Whether so many plies pay for a way.

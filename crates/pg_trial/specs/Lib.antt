@@ -1,4 +1,3 @@
-pub mod Readers
 pub mod MenTest
 pub mod Codes
 pub mod Certificates

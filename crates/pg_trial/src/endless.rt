@@ -1,7 +1,4 @@
 //! A reader that never ends.
-ghost use Rattle.std.specs.Prelude.{◌≡◌, All, IsOkAnd, length, replicate};
-ghost use Rattle.std.specs.Io.{ReadsAtMost};
-ghost use Rattle.std.specs.Io.KnownBytes.{ReadConsumes};
 
 use std::io;
 use std::io::Read;
@@ -13,25 +10,14 @@ pub struct Endless {
 }
 
 impl Endless {
-    ghost use Rattle.pg_trial.specs.Readers.{byte_of};
-
     /// A reader of this byte.
-    pub fn new(byte: u8) -> Endless
-        ensures { byte_of result ≡ byte }
-    {
+    pub fn new(byte: u8) -> Endless {
         Endless { byte }
     }
 }
 
 impl Read for Endless {
-    ghost use Rattle.pg_trial.specs.Readers.{byte_of};
-
-    fn read(&mut self, buffer: &mut [u8]) -> io::Result<usize>
-        ensures bound { ReadsAtMost result buffer.new }
-        ensures full { IsOkAnd result (λ n. n ≡ length buffer.new) }
-        ensures given { buffer.new ≡ replicate (length buffer.old) (byte_of self.old) }
-        ensures same { byte_of self.new ≡ byte_of self.old }
-    {
+    fn read(&mut self, buffer: &mut [u8]) -> io::Result<usize> {
         buffer.fill(self.byte);
         Ok(buffer.len())
     }

@@ -1,7 +1,6 @@
-//! What other crates are tried with, for tests alone. Readers and writers of std: of one byte a
-//! call, failing at a call, endless, taking nothing, counting; their contracts say which bytes they give and
-//! take and which call fails, and not that a call which is passed on succeeds. Two bounds: by the
-//! numbers of men, and one that never excludes. And certificates, byte by byte.
+//! What other crates are tried with, for tests alone. Readers and writers of std: of one byte a call, failing at a
+//! call, endless, taking nothing, counting; of these nothing is proved but what std asks of each reader and writer. Two
+//! bounds: by the numbers of men, and one that never excludes. And certificates, byte by byte.
 #![tactic(auto)]
 
 mod certificates;

@@ -22,7 +22,7 @@ use crate::shared::{
 };
 use pg_certificate::format::MOST_NAMED;
 use pg_cooks::{
-    Asked, CookAnswer, CooksRunFault, LedLimits, Standing, run_cooks as find_cooks,
+    CookAnswer, CooksFault, CooksRunFault, LedLimits, Standing, run_cooks as find_cooks,
     run_games as test_games,
 };
 use pg_journeys::Journeys;
@@ -152,15 +152,32 @@ fn answer<R: Abort + AllocGlobal, S: Source, W: Sink>(
     ))
 }
 
+// A problem, and a list of games for it.
+#[derive(Drop)]
+struct Listed {
+    problem: Problem,
+    games: Games,
+}
+
+// What the texts of a diagram, a length and a list spell; or which of them is refused, and why.
+fn listed_by(alloc: Global, texts: [&str; 3]) -> Result<Listed, RunFault> {
+    let [diagram, length, games] = texts;
+    let problem = match Problem::read(diagram, length) {
+        Ok(problem) => problem,
+        Err(fault) => return Err(fault),
+    };
+    match read_games(alloc, games) {
+        Ok(games) => Ok(Listed { problem, games }),
+        Err(fault) => Err(RunFault::Games(fault)),
+    }
+}
+
 // What is answered to a list of games by itself.
 fn games<R: Abort + AllocGlobal, W: Sink>(rt: &R, texts: [&str; 3], out: &mut W) -> Said {
-    let [diagram, length, games] = texts;
-    let asked = Asked {
-        diagram,
-        length,
-        games,
-    };
-    told(&test_games(rt.alloc(), &asked, out))
+    match listed_by(rt.alloc(), texts) {
+        Ok(listed) => told(&test_games(&listed.problem, &listed.games, out)),
+        Err(fault) => words(&format_args!("{fault:?}: {fault}")),
+    }
 }
 
 // What is found beside a list of games, in one word.
@@ -170,19 +187,36 @@ fn cooks<R: Abort + AllocGlobal, W: Sink>(
     limits: LedLimits,
     out: &mut W,
 ) -> Said {
-    let [diagram, length, games] = texts;
-    let asked = Asked {
-        diagram,
-        length,
-        games,
+    let Listed { problem, games } = match listed_by(rt.alloc(), texts) {
+        Ok(listed) => listed,
+        Err(fault) => return words(&format_args!("{fault:?}: {fault}")),
     };
-    match find_cooks(rt.alloc(), &asked, limits, &mut Unwatched, out) {
+    match find_cooks(rt.alloc(), &problem, &games, limits, &mut Unwatched, out) {
         Ok(CookAnswer::Cook(_)) => words(&"Cook"),
         Ok(CookAnswer::Shorter(_)) => words(&"Shorter"),
         Ok(CookAnswer::NotFound { .. }) => words(&"NotFound"),
-        Err(CooksRunFault::Run(fault)) => words(&format_args!("{fault:?}: {fault}")),
+        Err(CooksRunFault::Cooks(fault)) => words(&format_args!("{fault:?}: {fault}")),
         Err(fault) => words(&format_args!("{fault:?}: {fault}")),
     }
+}
+
+// What is shown of a diagram, and of a length where one is asked.
+fn show<R: Abort + AllocGlobal, W: Sink>(
+    rt: &R,
+    diagram: &str,
+    length: Option<&str>,
+    out: &mut W,
+) -> Said {
+    let problem = match Problem::read(diagram, length.unwrap_or("0.0")) {
+        Ok(problem) => problem,
+        Err(fault) => return words(&format_args!("{fault:?}: {fault}")),
+    };
+    let asked = match length {
+        Some(_) => Some(problem.length),
+        None => None,
+    };
+    let bounds = five_bounds(rt);
+    told(&run_show(rt.alloc(), &problem.diagram, asked, &bounds, out))
 }
 
 // Limits of so many nodes, and so many foreign moves: three where it is not told.
@@ -215,7 +249,7 @@ fn obey<R: Abort + AllocGlobal, S: Source, W: Sink>(
         "count" => told(&run_count(rt.alloc(), text, plies, out)),
         "games" => games(rt, [text, number, list], out),
         "moves" => told(&run_moves(rt.alloc(), text, out)),
-        "show" => told(&run_show(rt.alloc(), text, &five_bounds(rt), out)),
+        "show" => show(rt, text, None, out),
         "cooks" => cooks(
             rt,
             [text, number, list],
@@ -223,7 +257,7 @@ fn obey<R: Abort + AllocGlobal, S: Source, W: Sink>(
             out,
         ),
         "report" => report(rt, [text, number, list], out),
-        "within" => told(&run_show_within(rt.alloc(), text, number, &five_bounds(rt), out)),
+        "within" => show(rt, text, Some(number), out),
         "upgrade" => told(&upgrade(source, out, limit)),
         _ => check(rt, [text, number, list], limit, source, out),
     }

@@ -1,12 +1,12 @@
 //! What a led search holds.
 
+use crate::budget::Budget;
 use crate::judge::{AskedJourneys, Judge};
-use crate::known::MISSING;
 use crate::led::answer::Game;
 use crate::led::barren::Barren;
 use crate::led::familiar::Familiar;
 use crate::led::trials::Trials;
-use crate::sides::{Side, Sides};
+use crate::sides::Sides;
 use arrayvec::ArrayVec;
 use pg_fen::Diagram;
 use pg_moves::LegalMoves;
@@ -15,13 +15,13 @@ use pg_san::Games;
 
 // What is searched for: games to a diagram that are not in a list. A move that is not familiar is foreign.
 #[derive(Drop)]
-pub(crate) struct Question<'a> {
+pub(crate) struct LedQuestion<'a> {
     pub(crate) diagram: &'a Diagram,
     pub(crate) games: &'a Games,
     pub(crate) familiar: &'a Familiar,
 }
 
-impl Question<'_> {
+impl LedQuestion<'_> {
     // The move that leads at a ply, counted from 0: that of the first listed game.
     pub(crate) fn lead(&self, ply: usize) -> Option<Move> {
         match self.games.game(0) {
@@ -79,18 +79,7 @@ impl Open {
 
 impl Default for Open {
     fn default() -> Open {
-        let none = Side {
-            key: 0,
-            needs: MISSING,
-            men: 0,
-            pawns: 0,
-            ways: 0,
-        };
-        let sides = Sides {
-            white: none,
-            black: none,
-        };
-        Open::new(&Position::array(), &sides, 0, 0)
+        Open::new(&Position::array(), &Sides::none(), 0, 0)
     }
 }
 
@@ -108,28 +97,8 @@ pub(crate) enum Halt {
 pub(crate) struct Sieve {
     pub(crate) judge: Judge,
     pub(crate) barren: Barren,
-    pub(crate) nodes: u64,
+    pub(crate) budget: Budget,
     pub(crate) journeys: Option<AskedJourneys>,
-}
-
-impl Sieve {
-    // Counts a node, and answers whether it may be visited.
-    pub(crate) fn visit(&mut self) -> bool {
-        if self.nodes == 0 {
-            return false;
-        }
-        self.nodes -= 1;
-        true
-    }
-
-    // Counts so many nodes, and answers whether all of them may be visited; else none is counted.
-    pub(crate) fn visit_all(&mut self, count: u64) -> bool {
-        if self.nodes < count {
-            return false;
-        }
-        self.nodes -= count;
-        true
-    }
 }
 
 // The open nodes, the topmost last.
@@ -139,7 +108,7 @@ pub(crate) type Frames = ArrayVec<Open, 128>;
 // found. The open nodes stand apart: here they would be moved with it, and each move of so large a list takes room of
 // its own on the stack.
 #[derive(Drop)]
-pub(crate) struct Machine {
+pub(crate) struct LedMachine {
     pub(crate) sieve: Sieve,
     pub(crate) refused: bool,
     pub(crate) game: Game,

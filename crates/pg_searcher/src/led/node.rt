@@ -4,7 +4,7 @@ ghost use Rattle.pg_position.specs.Step.{IsLegal};
 
 use crate::judge::{Cutting, Judge, is_cut_by_journeys};
 use crate::led::barren::ANY;
-use crate::led::machine::{Halt, Open, Question, Sieve};
+use crate::led::machine::{Halt, LedQuestion, Open, Sieve};
 use crate::led::order::Due;
 use crate::led::plain::Scene;
 use crate::sides::{Side, Sides, changes_of};
@@ -23,14 +23,14 @@ pub(crate) enum Entry {
 
 // How many plies are left at a node, and how many foreign moves may come.
 #[derive(Clone, Copy)]
-pub(crate) struct Means {
+pub(crate) struct Allowance {
     pub(crate) left: u8,
     pub(crate) foreign: u8,
 }
 
 // A legal move that is not known to be cut, and its colour after it, where it is plain.
 #[derive(Clone, Copy)]
-pub(crate) struct Uncut {
+pub(crate) struct LedUncut {
     pub(crate) due: Due,
     pub(crate) own: Option<Side>,
 }
@@ -46,45 +46,50 @@ fn is_cut(verdict: Cutting) -> bool {
 // A node that no cut by other bounds or by prices excludes: barren where one of the same future was, with as many
 // foreign moves, or where journeys exclude, if they are asked. They are asked of the position and not of the key, which
 // has the passed square only where a capture there is legal.
-fn stay(sieve: &mut Sieve, position: &Position, sides: &Sides, means: Means) -> Entry {
+fn stay(sieve: &mut Sieve, position: &Position, sides: &Sides, allowance: Allowance) -> Entry {
     let key = node_key(
         sides.white.key,
         sides.black.key,
         position.side(),
         position.effective_passed(),
-        means.left,
+        allowance.left,
     );
     match sieve.barren.get(key) {
         Some(ANY) => return Entry::Barren,
-        Some(foreign) if foreign >= means.foreign => return Entry::Refused,
+        Some(foreign) if foreign >= allowance.foreign => return Entry::Refused,
         _ => {}
     }
-    if is_cut_by_journeys(&mut sieve.journeys, position, means.left) {
+    if is_cut_by_journeys(&mut sieve.journeys, position, allowance.left) {
         return Entry::Barren;
     }
-    Entry::Opens(Open::new(position, sides, key, means.foreign))
+    Entry::Opens(Open::new(position, sides, key, allowance.foreign))
 }
 
 // Judges a node with at least two plies left, of which so much is known.
 pub(crate) fn enter(
-    question: &Question,
+    question: &LedQuestion,
     sieve: &mut Sieve,
     position: &Position,
     known: Option<Sides>,
-    means: Means,
+    allowance: Allowance,
 ) -> Result<Entry, AllocError> {
     let diagram = question.diagram;
-    let (verdict, sides) = sieve.judge.enter(diagram, position, known, means.left)?;
+    let (verdict, sides) = sieve.judge.enter(diagram, position, known, allowance.left)?;
     if is_cut(verdict) {
         Ok(Entry::Barren)
     } else {
-        Ok(stay(sieve, position, &sides, means))
+        Ok(stay(sieve, position, &sides, allowance))
     }
 }
 
 // What is known of both colours after a move that no cut excludes, or nothing; none where a cut excludes.
 #[inline(always)]
-fn known_after(judge: &Judge, scene: &Scene, top: &Open, uncut: &Uncut) -> Option<Option<Sides>> {
+fn known_after(
+    judge: &Judge,
+    scene: &Scene,
+    top: &Open,
+    uncut: &LedUncut,
+) -> Option<Option<Sides>> {
     let color = scene.position.side();
     let mut sides = top.sides;
     if let Some(own) = &uncut.own {
@@ -104,11 +109,11 @@ fn known_after(judge: &Judge, scene: &Scene, top: &Open, uncut: &Uncut) -> Optio
 
 // The node after a legal move of an open one, which was visited: the node where it opens.
 pub(crate) fn child(
-    question: &Question,
+    question: &LedQuestion,
     sieve: &mut Sieve,
     top: &mut Open,
     scene: &Scene,
-    uncut: &Uncut,
+    uncut: &LedUncut,
 ) -> Result<Option<Open>, Halt>
     requires legal { IsLegal scene.now.position uncut.now.due.m }
     ensures moves { top.new.moves ≡ top.old.moves }
@@ -121,12 +126,12 @@ pub(crate) fn child(
         top.refused = true;
         return Ok(None);
     }
-    let means = Means {
+    let allowance = Allowance {
         left: scene.left,
         foreign: top.foreign.saturating_sub(u8::from(due.is_foreign)),
     };
     let next = scene.position.after(&due.m);
-    match enter(question, sieve, &next, known, means) {
+    match enter(question, sieve, &next, known, allowance) {
         Ok(Entry::Barren) => Ok(None),
         Ok(Entry::Refused) => {
             top.refused = true;

@@ -3,8 +3,8 @@ ghost use Rattle.std.specs.Prelude.{◌≡◌, IfSome};
 ghost use Rattle.pg_position.specs.Step.{IsLegal};
 
 use crate::led::familiar::Familiar;
-use crate::led::machine::{Open, Phase, Question};
-use crate::led::plain::{Mover, Scene};
+use crate::led::machine::{LedQuestion, Open, Phase};
+use crate::led::plain::{LedMover, Scene};
 use crate::led::trials::Trials;
 use pg_moves::LegalMoves;
 use pg_position::{Move, Position};
@@ -17,7 +17,7 @@ pub(crate) struct Due {
 }
 
 // The move that leads at a ply, where it is legal and familiar.
-fn lead_of(question: &Question, position: &Position, ply: usize) -> Option<Move>
+fn lead_of(question: &LedQuestion, position: &Position, ply: usize) -> Option<Move>
     ensures { IfSome result (λ m. IsLegal position.now m) }
 {
     let Some(m) = question.lead(ply) else {
@@ -41,7 +41,7 @@ fn next_of(
     familiar: &Familiar,
     moves: &mut LegalMoves,
     scene: &Scene,
-    mover: &mut Mover,
+    mover: &mut LedMover,
     is_familiar: bool,
     but: &Option<Move>,
 ) -> Option<Move>
@@ -64,9 +64,9 @@ fn next_of(
 // The next familiar move of an open node that is not the one that leads. Where few men leave their squares in games
 // these few are tried, else all moves are gone through.
 fn next_familiar(
-    question: &Question,
+    question: &LedQuestion,
     scene: &Scene,
-    mover: &mut Mover,
+    mover: &mut LedMover,
     top: &mut Open,
 ) -> Option<Move>
     requires { top.old.moves.position ≡ scene.now.position }
@@ -88,7 +88,12 @@ fn next_familiar(
 }
 
 // The node opens for its familiar moves. The one that leads comes first, where it is legal and familiar.
-fn begin(question: &Question, scene: &Scene, mover: &mut Mover, top: &mut Open) -> Option<Move>
+fn begin(
+    question: &LedQuestion,
+    scene: &Scene,
+    mover: &mut LedMover,
+    top: &mut Open,
+) -> Option<Move>
     ensures legal { IfSome result (λ m. IsLegal scene.now.position m) }
     ensures same { top.new.moves ≡ top.old.moves }
 {
@@ -111,9 +116,9 @@ fn begin(question: &Question, scene: &Scene, mover: &mut Mover, top: &mut Open) 
 
 // The next move of an open node.
 pub(crate) fn next_due(
-    question: &Question,
+    question: &LedQuestion,
     scene: &Scene,
-    mover: &mut Mover,
+    mover: &mut LedMover,
     top: &mut Open,
 ) -> Option<Due>
     requires { top.old.moves.position ≡ scene.now.position }

@@ -1,7 +1,7 @@
 //! The plain moves of an open node, judged before they are made.
 ghost use Rattle.std.specs.Prelude.{◌≡◌};
 
-use crate::judge::{Judge, Reply};
+use crate::judge::{Judge, PlainTest};
 use crate::led::familiar::Familiar;
 use crate::sides::{Change, Side, Sides, is_special, lifted};
 use pg_board::{Color, Kind, Man, Square, SquareSet};
@@ -16,13 +16,13 @@ pub(crate) struct Scene {
     pub(crate) left: u8,
     occupied: SquareSet,
     own: Side,
-    reply: Reply,
+    plain_test: PlainTest,
 }
 
 // The man of a node whose moves are judged: what changes where he is lifted, and where he goes by familiar moves
 // that are no promotions. At first none, on the square 64.
 #[derive(Clone, Copy)]
-pub(crate) struct Mover {
+pub(crate) struct LedMover {
     lifted: Change,
     familiar: SquareSet,
     from: u8,
@@ -31,16 +31,16 @@ pub(crate) struct Mover {
 
 // What is known of a move: it is not plain; or it is, and a cut excludes, or none does, and this is its colour then.
 #[derive(Clone, Copy)]
-pub(crate) enum Plain {
+pub(crate) enum LedPlain {
     No,
     Cut,
     Stays(Side),
 }
 
-impl Mover {
+impl LedMover {
     // No man yet.
-    pub(crate) fn none() -> Mover {
-        Mover {
+    pub(crate) fn none() -> LedMover {
+        LedMover {
             lifted: Change::none(),
             familiar: SquareSet::empty(),
             from: 64,
@@ -91,20 +91,20 @@ impl Scene {
             left,
             occupied: position.board().occupied(),
             own: *sides.of(color),
-            reply: judge.reply(color, sides, left),
+            plain_test: judge.plain_test(color, sides, left),
         }
     }
 
     // What is known of a legal move of the man that is judged.
     #[inline(always)]
-    pub(crate) fn plain(&self, judge: &Judge, mover: &Mover, m: &Move) -> Plain {
+    pub(crate) fn plain(&self, judge: &Judge, mover: &LedMover, m: &Move) -> LedPlain {
         if self.occupied.contains(m.to) || is_special(mover.man, None, m) {
-            return Plain::No;
+            return LedPlain::No;
         }
         let change = mover.lifted.with_man(mover.man, m.to);
-        match judge.needs_after(&self.reply, change.key_after(&self.own)) {
-            Some(needs) => Plain::Stays(change.applied(&self.own, needs)),
-            None => Plain::Cut,
+        match judge.needs_after(&self.plain_test, change.key_after(&self.own)) {
+            Some(needs) => LedPlain::Stays(change.applied(&self.own, needs)),
+            None => LedPlain::Cut,
         }
     }
 }

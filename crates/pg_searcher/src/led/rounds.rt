@@ -1,10 +1,11 @@
 //! The rounds of a led search.
 
+use crate::budget::Budget;
 use crate::judge::{AskedJourneys, Judge};
 use crate::led::answer::{Game, Led, LedEnd, LedFault, LedLimits, LedProgress};
 use crate::led::barren::Barren;
 use crate::led::familiar::Familiar;
-use crate::led::machine::{Frames, Halt, Machine, Question, Sieve};
+use crate::led::machine::{Frames, Halt, LedMachine, LedQuestion, Sieve};
 use crate::led::walk::tree;
 use pg_fen::{Diagram, Length};
 use pg_san::Games;
@@ -12,9 +13,9 @@ use std::alloc::{AllocError, Global};
 
 // The games with at most so many foreign moves: those of the stated length, then those of fewer plies.
 fn round<P: LedProgress>(
-    question: &Question,
+    question: &LedQuestion,
     frames: &mut Frames,
-    machine: &mut Machine,
+    machine: &mut LedMachine,
     length: Length,
     foreign: u8,
     watch: &mut P,
@@ -36,9 +37,9 @@ struct Ran {
 
 // The rounds with no foreign move, with one, and so on, up to the first in which none was refused.
 fn rounds<P: LedProgress>(
-    question: &Question,
+    question: &LedQuestion,
     frames: &mut Frames,
-    machine: &mut Machine,
+    machine: &mut LedMachine,
     length: Length,
     most: u8,
     watch: &mut P,
@@ -70,14 +71,14 @@ fn machine_of(
     diagram: &Diagram,
     nodes: u64,
     by_journeys: bool,
-) -> Result<Machine, AllocError> {
+) -> Result<LedMachine, AllocError> {
     let sieve = Sieve {
         judge: Judge::new(alloc, diagram)?,
         barren: Barren::new(alloc),
-        nodes,
+        budget: Budget { nodes },
         journeys: AskedJourneys::new(alloc, diagram, by_journeys)?,
     };
-    Ok(Machine {
+    Ok(LedMachine {
         sieve,
         refused: false,
         game: Game::new(),
@@ -167,7 +168,7 @@ fn led<P: LedProgress>(
     let Ok(mut machine) = machine_of(alloc, diagram, limits.max_nodes, reach.by_journeys) else {
         return Err(LedFault::Memory);
     };
-    let question = Question {
+    let question = LedQuestion {
         diagram,
         games,
         familiar: &familiar,
@@ -175,9 +176,9 @@ fn led<P: LedProgress>(
     let most = limits.foreign.unwrap_or(length.plies());
     let mut frames = Frames::new();
     let ran = rounds(&question, &mut frames, &mut machine, length, most, watch);
-    let Machine { sieve, game, .. } = machine;
+    let LedMachine { sieve, game, .. } = machine;
     let foreign = ran.foreign;
-    let nodes = limits.max_nodes.saturating_sub(sieve.nodes);
+    let nodes = limits.max_nodes.saturating_sub(sieve.budget.nodes);
     let end = match ran.end {
         Ok(end) => end,
         Err(Halt::Budget) => LedEnd::Nodes,

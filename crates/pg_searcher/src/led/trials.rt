@@ -3,7 +3,7 @@ ghost use Rattle.std.specs.Prelude.{IfSome};
 ghost use Rattle.pg_position.specs.Step.{IsLegal};
 
 use crate::led::familiar::Familiar;
-use crate::nearing::within;
+use crate::nearing::pseudo_moves;
 use pg_board::{Kind, Square, SquareSet};
 use pg_position::{Move, Position};
 
@@ -61,10 +61,10 @@ impl Trials {
         let row = familiar.row(man, from);
         self.from = from;
         self.promotion = None;
-        self.targets = row & within(position, man, from);
+        self.targets = row & pseudo_moves(position, man, from);
         if man.kind == Kind::Pawn && row.is_empty() {
             self.promotion = Some(Kind::Knight);
-            self.targets = familiar.promotions(man, from) & within(position, man, from);
+            self.targets = familiar.promotions(man, from) & pseudo_moves(position, man, from);
         }
     }
 

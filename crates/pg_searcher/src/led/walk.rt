@@ -5,11 +5,11 @@ ghost use Rattle.pg_position.specs.Step.{IsLegal};
 use crate::ends::leaf;
 use crate::led::answer::{Game, LedProgress};
 use crate::led::barren::ANY;
-use crate::led::last::{end, end_after, end_near};
-use crate::led::machine::{Frames, Halt, Machine, Open, Question, Sieve};
-use crate::led::node::{Entry, Means, Uncut, child, enter};
+use crate::led::last::{LastTwo, end};
+use crate::led::machine::{Frames, Halt, LedMachine, LedQuestion, Open, Sieve};
+use crate::led::node::{Allowance, Entry, LedUncut, child, enter};
 use crate::led::order::next_due;
-use crate::led::plain::{Mover, Plain, Scene};
+use crate::led::plain::{LedMover, LedPlain, Scene};
 use pg_moves::count_legal;
 use pg_position::Position;
 
@@ -17,7 +17,7 @@ use pg_position::Position;
 // 65,535 moves, and no run takes 2^64 - 1 turns.
 
 // A node with so many plies left closes. One below which no listed game lies is entered among the barren ones.
-fn close(top: &Open, frames: &mut Frames, machine: &mut Machine, left: u8) -> Result<(), Halt>
+fn close(top: &Open, frames: &mut Frames, machine: &mut LedMachine, left: u8) -> Result<(), Halt>
     ensures { length frames.new.items ≡ length frames.old.items }
 {
     if let Some(parent) = frames.last_mut() {
@@ -37,22 +37,20 @@ fn close(top: &Open, frames: &mut Frames, machine: &mut Machine, left: u8) -> Re
 
 // The moves of a node with two plies left are played one by one, up to the end of the budget.
 fn play_each(
-    question: &Question,
+    node: &LastTwo,
     top: &mut Open,
-    frames: &[Open],
     sieve: &mut Sieve,
     found: &mut Game,
 ) -> Result<(), Halt> {
-    let position = top.moves.position();
-    let squares = position.board().differing(&question.diagram.board());
+    let squares = node.position.board().differing(&node.diagram.board());
     for _ in 0..u16::MAX {
         let Some(m) = top.moves.next() else {
             return Ok(());
         };
-        if !sieve.visit() {
+        if !sieve.budget.visit() {
             return Err(Halt::Budget);
         }
-        if squares.contains(m.from) && end_after(question, frames, found, &position, &m)? {
+        if squares.contains(m.from) && node.end_after(found, &m)? {
             top.fertile = true;
         }
     }
@@ -62,17 +60,22 @@ fn play_each(
 // The moves of a node with two plies left are played, familiar or not. Where all of them may be visited they are
 // counted, and those few are played after which a further one may lead to the diagram.
 fn play_last_two(
-    question: &Question,
+    question: &LedQuestion,
     top: &mut Open,
     frames: &[Open],
     sieve: &mut Sieve,
     found: &mut Game,
 ) -> Result<(), Halt> {
-    let position = top.moves.position();
-    if !sieve.visit_all(count_legal(&position)) {
-        return play_each(question, top, frames, sieve, found);
+    let node = LastTwo {
+        diagram: question.diagram,
+        games: question.games,
+        frames,
+        position: top.moves.position(),
+    };
+    if !sieve.budget.visit_all(count_legal(&node.position)) {
+        return play_each(&node, top, sieve, found);
     }
-    if end_near(question, frames, found, &position)? {
+    if node.end_near(found)? {
         top.fertile = true;
     }
     Ok(())
@@ -81,12 +84,12 @@ fn play_last_two(
 // The moves of a node are played up to the first that no cut is known to exclude by what is known of the node, which
 // is the answer; none where there is no such move. The node after it is visited.
 fn next_uncut(
-    question: &Question,
+    question: &LedQuestion,
     scene: &Scene,
-    mover: &mut Mover,
+    mover: &mut LedMover,
     top: &mut Open,
     sieve: &mut Sieve,
-) -> Result<Option<Uncut>, Halt>
+) -> Result<Option<LedUncut>, Halt>
     requires { top.old.moves.position ≡ scene.now.position }
     ensures legal { IfOk result (λ uncut. IfSome uncut (λ u. IsLegal scene.now.position u.due.m)) }
     ensures same { top.new.moves.position ≡ scene.now.position }
@@ -95,18 +98,18 @@ fn next_uncut(
         let Some(due) = next_due(question, scene, mover, top) else {
             return Ok(None);
         };
-        if !sieve.visit() {
+        if !sieve.budget.visit() {
             return Err(Halt::Budget);
         }
         match scene.plain(&sieve.judge, mover, &due.m) {
-            Plain::Cut => {}
-            Plain::Stays(own) => {
-                return Ok(Some(Uncut {
+            LedPlain::Cut => {}
+            LedPlain::Stays(own) => {
+                return Ok(Some(LedUncut {
                     due,
                     own: Some(own),
                 }));
             }
-            Plain::No => return Ok(Some(Uncut { due, own: None })),
+            LedPlain::No => return Ok(Some(LedUncut { due, own: None })),
         }
     }
     Err(Halt::Budget)
@@ -115,14 +118,14 @@ fn next_uncut(
 // The moves of a node at a ply are played up to the first that leads to a node that opens, with so many plies
 // left, which is the answer; none where there is no such move.
 fn next_opened(
-    question: &Question,
+    question: &LedQuestion,
     top: &mut Open,
     sieve: &mut Sieve,
     ply: usize,
     left: u8,
 ) -> Result<Option<Open>, Halt> {
     let scene = Scene::new(&sieve.judge, &top.moves.position(), &top.sides, ply, left);
-    let mut mover = Mover::none();
+    let mut mover = LedMover::none();
     for _ in 0..u16::MAX {
         match next_uncut(question, &scene, &mut mover, top, sieve) {
             Ok(Some(uncut)) => match child(question, sieve, top, &scene, &uncut) {
@@ -139,9 +142,9 @@ fn next_opened(
 
 // The moves of a node are played until a node opens, with so many plies left; where none does the node closes.
 fn play_until_opened(
-    question: &Question,
+    question: &LedQuestion,
     frames: &mut Frames,
-    machine: &mut Machine,
+    machine: &mut LedMachine,
     top: Open,
     left: u8,
 ) -> Result<(), Halt>
@@ -163,9 +166,9 @@ fn play_until_opened(
 
 // One turn: moves of the topmost node are played.
 fn turn(
-    question: &Question,
+    question: &LedQuestion,
     frames: &mut Frames,
-    machine: &mut Machine,
+    machine: &mut LedMachine,
     top: Open,
     plies: u8,
 ) -> Result<(), Halt>
@@ -192,19 +195,19 @@ fn turn(
 
 // The initial array is entered, for games of so many plies, at least two: the first open node, if it opens.
 fn enter_root(
-    question: &Question,
+    question: &LedQuestion,
     sieve: &mut Sieve,
     plies: u8,
     foreign: u8,
 ) -> Result<Option<Open>, Halt> {
-    if !sieve.visit() {
+    if !sieve.budget.visit() {
         return Err(Halt::Budget);
     }
-    let means = Means {
+    let allowance = Allowance {
         left: plies,
         foreign,
     };
-    match enter(question, sieve, &Position::array(), None, means) {
+    match enter(question, sieve, &Position::array(), None, allowance) {
         Ok(Entry::Opens(opened)) => Ok(Some(opened)),
         Ok(_) => Ok(None),
         Err(_) => Err(Halt::Memory),
@@ -212,16 +215,16 @@ fn enter_root(
 }
 
 // The games of no ply, or of one.
-fn short_tree(question: &Question, found: &mut Game, plies: u8) -> Result<(), Halt> {
+fn short_tree(question: &LedQuestion, found: &mut Game, plies: u8) -> Result<(), Halt> {
     let array = Position::array();
     if plies > 0 {
         return match leaf(question.diagram, &array) {
-            Some(m) => end(question, &[], found, &None, &Some(m)),
+            Some(m) => end(question.games, &[], found, &None, &Some(m)),
             None => Ok(()),
         };
     }
     if question.diagram.matches(&array) {
-        end(question, &[], found, &None, &None)
+        end(question.games, &[], found, &None, &None)
     } else {
         Ok(())
     }
@@ -229,9 +232,9 @@ fn short_tree(question: &Question, found: &mut Game, plies: u8) -> Result<(), Ha
 
 // All games of so many plies, with at most so many foreign moves.
 pub(crate) fn tree<P: LedProgress>(
-    question: &Question,
+    question: &LedQuestion,
     frames: &mut Frames,
-    machine: &mut Machine,
+    machine: &mut LedMachine,
     plies: u8,
     foreign: u8,
     watch: &mut P,
@@ -250,7 +253,7 @@ pub(crate) fn tree<P: LedProgress>(
             return Ok(());
         };
         turn(question, frames, machine, top, plies)?;
-        watch.reached(foreign, plies, machine.sieve.nodes);
+        watch.reached(foreign, plies, machine.sieve.budget.nodes);
         if !watch.goes_on() {
             return Err(Halt::Budget);
         }

@@ -1,5 +1,5 @@
 -- The value of a way as a number.
-use Rattle.std.specs.Prelude.{◌≡◌, ℕ, ◌+◌, ◌<◌, ◌≤◌, ◌⊎◌, min, cond, Option, Some, None}
+use Rattle.std.specs.Prelude.{◌≡◌, ℕ, ◌+◌, ◌<◌, ◌≤◌, ◌⊎◌, cond, Option, Some, None}
 use Rattle.pg_board.specs.declared.man.Color.{Color}
 use Rattle.pg_board.specs.declared.man.Kind.{Kind}
 use Rattle.pg_position.specs.declared.rights.Wing.{Wing}
@@ -7,10 +7,10 @@ use Rattle.pg_board.specs.declared.man.Man.{Man}
 use Rattle.pg_board.specs.Men.{color_eq, is_man}
 use Rattle.pg_board.specs.Placement.{Placement, get}
 use Rattle.pg_position.specs.declared.state.State.{State}
-use Rattle.pg_travel.specs.Origins.{IsWayOf, counted, charge}
+use Rattle.pg_travel.specs.Origins.{counted, charge}
 use Rattle.pg_board.specs.Tally.{total}
 use Rattle.pg_travel.specs.inner.Formulas.{least_of, distance_of}
-use Rattle.pg_travel.specs.Needs.{IsValue}
+use Rattle.pg_travel.specs.Needs.{ValueIs}
 
 -- from the man on o, counted where the way counts it; 64 where none of c stands there or there is no walk
 abbrev pub reach_of : Color → Option Wing → Kind → ℕ → ℕ → Option Man → ℕ
@@ -41,10 +41,6 @@ cost_of b c way t (Some m) = cond (color_eq c m.color) (nearest b c way m.kind t
 unfoldable pub cost : Placement → Placement → Color → Option Wing → ℕ → ℕ
 cost b d c way t = cost_of b c way t (get d t)
 
-abbrev pub ValueIs : Placement → State → Color → Option Wing → Option ℕ → Type 0
-ValueIs d p c way None = (v : ℕ) → ¬ IsValue d p c way v
-ValueIs d p c way (Some v) = IsValue d p c way v
-
 abbrev pub SumIs : Placement → Placement → Color → Option Wing → Option ℕ → Type 0
 SumIs b d c way None = (t : ℕ) × (t < 64) × (cost b d c way t ≡ 64)
 SumIs b d c way (Some v) = ((t : ℕ) → t < 64 → cost b d c way t < 64) × (v ≡ charge way + total (cost b d c way) 64)
@@ -52,21 +48,7 @@ SumIs b d c way (Some v) = ((t : ℕ) → t < 64 → cost b d c way t < 64) × (
 abbrev pub SumLaw : Type 0
 SumLaw = (p : State) (d : Placement) (c : Color) (way : Option Wing) (o : Option ℕ) → SumIs p.board d c way o → ValueIs d p c way o
 
--- the value of a way of c in p, if it is one
-abbrev pub HeldIs : Placement → State → Color → Option Wing → Option ℕ → Type 0
-HeldIs d p c way None = (v : ℕ) → IsWayOf p c way → ¬ IsValue d p c way v
-HeldIs d p c way (Some v) = IsWayOf p c way × IsValue d p c way v
-
-abbrev pub lesser : Option ℕ → Option ℕ → Option ℕ
-lesser None b = b
-lesser (Some x) None = Some x
-lesser (Some x) (Some y) = Some (min x y)
-
 -- the most that a value may be beside the best so far: no value is above 64 walks of 63 steps and a charge
 abbrev pub most_of : Option ℕ → ℕ
 most_of None = 4033
 most_of (Some n) = n
-
--- r is as good beside the best so far as the value of a way of c in p, if it is one
-abbrev pub HeldBeside : Placement → State → Color → Wing → Option ℕ → Option ℕ → Type 0
-HeldBeside d p c w best r = (o : Option ℕ) × HeldIs d p c (Some w) o × (lesser best r ≡ lesser best o)

@@ -6,8 +6,8 @@ use Rattle.pg_board.specs.Placement.{Placement}
 use Rattle.pg_position.specs.declared.rights.Wing.{Wing}
 use Rattle.pg_position.specs.declared.state.State.{State}
 use Rattle.pg_travel.specs.Origins.{IsWayOf}
-use Rattle.pg_travel.specs.Needs.{IsValue}
-use Rattle.pg_travel.specs.inner.Costs.{cost, SumIs, ValueIs, HeldIs}
+use Rattle.pg_travel.specs.Needs.{IsValue, ValueIs, HeldIs}
+use Rattle.pg_travel.specs.inner.Costs.{cost, SumIs}
 
 -- off the set no man of d costs anything
 unfoldable pub CostsOnly : Placement → Placement → Color → Option Wing → ℕ → Type 0

@@ -10,8 +10,7 @@ use Rattle.pg_position.specs.Position.{holds}
 use Rattle.pg_travel.specs.Walks.{IsLeast}
 use Rattle.pg_captures.specs.Owed.{plies_left}
 use Rattle.pg_travel.specs.Origins.{IsWayOf}
-use Rattle.pg_travel.specs.Needs.{HasValue, IsValue, TravelTest, NeedIs}
-use Rattle.pg_travel.specs.inner.Costs.{ValueIs, HeldIs, lesser}
+use Rattle.pg_travel.specs.Needs.{HasValue, IsValue, TravelTest, NeedIs, ValueIs, HeldIs, lesser}
 use Rattle.pg_travel.specs.lemmas.NeedLemmas.{one_value, test_fails}
 
 abbrev Best : (ℕ → Type 0) → Option ℕ → Type 0

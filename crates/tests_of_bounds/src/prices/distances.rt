@@ -6,6 +6,7 @@ use pg_captures::{Bound, Promotions};
 use pg_moves::legal_moves;
 use pg_pawns::shift_need;
 use pg_position::{Move, Rights};
+use pg_travel::prices_exclude_by;
 use std::alloc::Global;
 
 // The position after so many moves by chance, and the next state of the chance.
@@ -47,8 +48,9 @@ fn travel_is_priced(rows: &Rows, diagram: &Diagram, position: &Position, need: u
     };
     let fewer = value.saturating_sub(1).min(64) * 2;
     let color = rows.color();
-    let beyond = pg_travel::prices_exclude(diagram, position, fewer, color, &prices);
-    let within = pg_travel::prices_exclude(diagram, position, value.min(64) * 2, color, &prices);
+    let by = pg_travel::Rows::new(diagram);
+    let beyond = prices_exclude_by(&by, diagram, position, fewer, color, &prices);
+    let within = prices_exclude_by(&by, diagram, position, value.min(64) * 2, color, &prices);
     value >= need.min(65) && beyond == (value > 0) && within == (value > 64)
 }
 

@@ -39,7 +39,7 @@ fn other_games_of_every_kind(rt: HostRuntime) {
 const SHORTER: &str =
     "cooks | after-e4-e5 | 2.0 | 1. e3 e6 2. e4 e5 => Shorter => diagram rnbqkbnr/pppp1ppp/8/4p3/4P3/8/PPPP1PPP/RNBQKBNR$length 2.0$games 1$1. e3 e6 2. e4 e5$a game of 3 plies$1. e3 e5 2. e4$not sound$
 cooks | after-e4-e5 | 1.5 | 1. e3 e5 2. e4 => Shorter => diagram rnbqkbnr/pppp1ppp/8/4p3/4P3/8/PPPP1PPP/RNBQKBNR$length 1.5$games 1$1. e3 e5 2. e4$a game of 2 plies$1. e4 e5$not sound$
-cooks | after-e4 | 1.5 | 1. e3 Nf6 2. e4 => Check(Listed(NotReaching(0))): game 1 does not end on the diagram";
+cooks | after-e4 | 1.5 | 1. e3 Nf6 2. e4 => Listed(NotReaching(0)): game 1 does not end on the diagram";
 
 #[test]
 fn shorter_games_or_none(rt: HostRuntime) {
@@ -68,8 +68,8 @@ fn no_games(rt: HostRuntime) {
 const REFUSED: &str = "cooks | 8/8 | 1. |  => Diagram(Rank): bad rank
 cooks | after-e4-e5 | 1. |  => Length(Shape): bad length
 cooks | after-e4-e5 | 1.0 | 1. e4 e4 => Games(At { line: 1, ply: 2, cause: NoSuchMove }): line 1, ply 2: no such legal move
-cooks | after-e4-e5 | 1.0 | 1. e4 e6 => Check(Listed(NotReaching(0))): game 1 does not end on the diagram
-cooks | after-e4-e5 | 1.0 | 1. e4 => Check(Listed(WrongLength(0))): game 1 does not have the stated length
+cooks | after-e4-e5 | 1.0 | 1. e4 e6 => Listed(NotReaching(0)): game 1 does not end on the diagram
+cooks | after-e4-e5 | 1.0 | 1. e4 => Listed(WrongLength(0)): game 1 does not have the stated length
 cooks | after-e4-e5 | 1.0 | $ => NoGame: no game to go by";
 
 #[test]
@@ -87,44 +87,49 @@ fn writes_of_cooks_that_fail(rt: HostRuntime) {
     );
 }
 
+// What texts spell, or none where memory was refused.
+fn listed_if_granted<R: Abort + AllocGlobal>(rt: &R, texts: [&str; 3]) -> Option<Listed> {
+    match listed_by(rt.alloc(), texts) {
+        Ok(listed) => Some(listed),
+        Err(fault) => {
+            assert!(rt; fault == RunFault::Games(GamesFault::Memory));
+            None
+        }
+    }
+}
+
 // Passes too where `rt try --test --fail-alloc N` refuses the N-th growth.
 #[test]
 fn refused_growths_of_cooks(rt: HostRuntime) {
     for _ in 0..9u8 {
         let mut out = ToWrite::new(Vec::new(rt.alloc()));
-        let asked = Asked {
-            diagram: AFTER_E4_E5,
-            length: "1.0",
-            games: "1. e4 e5",
-        };
         let limits = LedLimits {
             max_nodes: 100,
             foreign: None,
         };
-        match find_cooks(rt.alloc(), &asked, limits, &mut Unwatched, &mut out) {
+        let Some(listed) = listed_if_granted(&rt, [AFTER_E4_E5, "1.0", "1. e4 e5"]) else {
+            return;
+        };
+        let (problem, games) = (&listed.problem, &listed.games);
+        match find_cooks(rt.alloc(), problem, games, limits, &mut Unwatched, &mut out) {
             Ok(answer) => assert!(rt; matches!(answer, CookAnswer::NotFound { .. })),
             Err(fault) => {
-                let text = RunFault::Games(GamesFault::Memory);
-                let told = fault == CooksRunFault::Memory || fault == CooksRunFault::Run(text);
-                assert!(rt; told || fault == CooksRunFault::Run(RunFault::Write));
+                let is_memory = fault == CooksRunFault::Cooks(CooksFault::Memory);
+                assert!(rt; is_memory || fault == CooksRunFault::Write);
             }
         }
     }
 }
 
 // What is found beside one order of moves, and how many bytes were written.
-fn beside_one_order(alloc: Global) -> (Result<CookAnswer, CooksRunFault>, usize) {
+fn beside_one_order(alloc: Global, listed: &Listed) -> (Result<CookAnswer, CooksRunFault>, usize) {
     let mut out = ToWrite::new(Counted::new());
-    let asked = Asked {
-        diagram: named("two-orders"),
-        length: "1.5",
-        games: "1. e3 e6 2. d3",
-    };
     let limits = LedLimits {
         max_nodes: 1_000,
         foreign: None,
     };
-    let answer = find_cooks(alloc, &asked, limits, &mut Unwatched, &mut out);
+    let (problem, games) = (&listed.problem, &listed.games);
+    let answer = find_cooks(alloc, problem, games, limits, &mut Unwatched, &mut out);
     (answer, out.into_inner().bytes())
 }
 
@@ -133,13 +138,16 @@ fn beside_one_order(alloc: Global) -> (Result<CookAnswer, CooksRunFault>, usize)
 #[test]
 fn refused_growths_of_a_game_that_is_found(rt: HostRuntime) {
     for _ in 0..9u8 {
-        let (answer, bytes) = beside_one_order(rt.alloc());
+        let texts = [named("two-orders"), "1.5", "1. e3 e6 2. d3"];
+        let Some(listed) = listed_if_granted(&rt, texts) else {
+            return;
+        };
+        let (answer, bytes) = beside_one_order(rt.alloc(), &listed);
         match answer {
             Ok(CookAnswer::Cook(_)) => assert_eq!(rt; bytes, 128),
             Ok(_) => panic!(rt; "another answer"),
             Err(fault) => {
-                let text = CooksRunFault::Run(RunFault::Games(GamesFault::Memory));
-                assert!(rt; fault == CooksRunFault::Memory || fault == text);
+                assert!(rt; fault == CooksRunFault::Cooks(CooksFault::Memory));
                 assert_eq!(rt; bytes, 0);
             }
         }

@@ -168,15 +168,14 @@ fn check_told<E: Display>(rt: &impl Abort, status: u8, fault: &E, line: Option<&
     assert_eq!(rt; Some(said.as_str()), line);
 }
 
-// The four commands tell of a text that is no diagram or no position alike, by the text that `pg_fen` gives.
+// The commands tell of a text that is no diagram or no position alike, by the text that `pg_fen` gives.
 fn check_cause(rt: &impl Abort, cause: FenFault) {
     let wanted = words(&format_args!("2 {cause}"));
     let line = Some(wanted.as_str());
     let (run, moves) = (RunFault::Diagram(cause), MovesFault::Position(cause));
-    let (shown, count) = (ShowFault::Diagram(cause), CountRunFault::Position(cause));
+    let count = CountRunFault::Position(cause);
     check_told(rt, status(&run), &run, line);
     check_told(rt, moves_status(&moves), &moves, line);
-    check_told(rt, show_status(&shown), &shown, line);
     check_told(rt, count_status(&count), &count, line);
 }
 

@@ -118,7 +118,8 @@ fn refused_growths_of_moves(rt: HostRuntime) {
 fn refused_growths_of_a_diagram(rt: HostRuntime) {
     for _ in 0..9u8 {
         let mut out = ToWrite::new(Counted::new());
-        let answer = run_show(rt.alloc(), AFTER_E4_E5, &[], &mut out);
+        let diagram = diagram_of(&rt, AFTER_E4_E5);
+        let answer = run_show(rt.alloc(), &diagram, None, &[], &mut out);
         check_told(&rt, answer, out, 284, ShowFault::Memory);
     }
 }

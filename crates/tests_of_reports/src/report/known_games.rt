@@ -64,16 +64,12 @@ fn writes_of_games_that_fail(rt: HostRuntime) {
 fn refused_growths_of_a_list(rt: HostRuntime) {
     for _ in 0..9u8 {
         let mut out = ToWrite::new(Vec::new(rt.alloc()));
-        let asked = Asked {
-            diagram: AFTER_E4_E5,
-            length: "1.0",
-            games: "1. e4 e5",
-        };
-        match test_games(rt.alloc(), &asked, &mut out) {
-            Ok(standing) => assert!(rt; standing == Standing::AtLeastOne),
-            Err(fault) => {
-                assert!(rt; matches!(fault, RunFault::Games(GamesFault::Memory) | RunFault::Write));
-            }
+        match listed_by(rt.alloc(), [AFTER_E4_E5, "1.0", "1. e4 e5"]) {
+            Ok(listed) => match test_games(&listed.problem, &listed.games, &mut out) {
+                Ok(standing) => assert!(rt; standing == Standing::AtLeastOne),
+                Err(fault) => assert!(rt; fault == RunFault::Write),
+            },
+            Err(fault) => assert!(rt; fault == RunFault::Games(GamesFault::Memory)),
         }
     }
 }

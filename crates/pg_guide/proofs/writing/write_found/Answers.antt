@@ -1,5 +1,5 @@
 use Rattle.std.proofs.Common.{refl, sym, ◌∙◌}
-use Rattle.pg_guide.proofs.WhyLemmas.{grows_none, grows_more}
+use Rattle.pg_certificate.proofs.GrowingLemmas.{grows_none, grows_more}
 use Rattle.pg_guide.proofs.writing.write_found.Goals as goal
 
 pub loop-plies-init : goal.loop-plies-init

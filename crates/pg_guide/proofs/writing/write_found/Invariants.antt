@@ -1,5 +1,5 @@
 use Rattle.std.proofs.Common.{◌≡◌}
-use Rattle.pg_guide.specs.Why.{Grows}
+use Rattle.pg_certificate.specs.Pushing.{Grows}
 use Rattle.pg_guide.proofs.writing.write_found.Given as goal
 
 -- the lines so far were appended

@@ -1,8 +1,7 @@
-use Rattle.pg_moves.proofs.ShiftLemmas.{home_white, home_black}
+use Rattle.std.proofs.Common.{◌≡◌, ℕ, subst}
+use Rattle.pg_board.specs.Squares.{rank}
+use Rattle.pg_board.specs.SquareSets.{IsSetOf}
 use Rattle.pg_moves.proofs.pawns.home.Goals as goal
 
-pub returns-in-White : goal.returns-in-White
-returns-in-White c = rw c.of_bits.ensures (home_white c.args.color c.in-White.is)
-
-pub returns-in-Black : goal.returns-in-Black
-returns-in-Black c = rw c.of_bits-in-Black.ensures (home_black c.args.color c.in-Black.is)
+pub returns : goal.returns
+returns c = subst (λ (r : ℕ). IsSetOf c.of_rank.result (λ q. rank q ≡ r)) c.home_rank.ensures.value c.of_rank.ensures

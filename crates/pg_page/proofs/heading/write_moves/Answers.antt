@@ -15,7 +15,7 @@ unreachable-requires g c =
     absurd (c.in-Err.ensures.err.1 q legal)
 
 pub move_text-requires : goal.move_text-requires
-move_text-requires g c = (c.in-Ok.next, (c.in-Ok.ensures.ok c.in-Ok.next).0 refl)
+move_text-requires g c = (c.in-Ok.ensures.ok c.in-Ok.next).0 refl
 
 pub loop-m-preserved : goal.loop-m-preserved
 loop-m-preserved g c = record {

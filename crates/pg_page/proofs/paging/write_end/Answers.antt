@@ -2,8 +2,8 @@ use Rattle.std.proofs.Common.{rules}
 use Rattle.std.specs.Prelude.{codes}
 use Rattle.std.specs.Io.KnownBytes.{Appends}
 use Rattle.pg_texts.proofs.OutcomeLemmas.{on_ok}
-use Rattle.pg_page.specs.Growing.{Grows}
-use Rattle.pg_page.proofs.GrowingLemmas.{grows_more}
+use Rattle.pg_certificate.specs.Pushing.{Grows}
+use Rattle.pg_certificate.proofs.GrowingLemmas.{grows_more}
 use Rattle.pg_page.proofs.paging.write_end.Goals as goal
 
 pub returns : goal.returns

@@ -1,6 +1,6 @@
-use Rattle.std.proofs.Common.{◌≡◌, false}
+use Rattle.std.proofs.Common.{◌≡◌}
 use Rattle.pg_searcher.proofs.walk.next_uncut.Given as goal
 
--- the node stays the same, and the writer has not refused
+-- the node stays the same
 abbrev pub invariant-loop : goal.invariant-loop
-invariant-loop g l = (l.moves.position ≡ l.position) × (l.output.writer.failed ≡ false)
+invariant-loop g l = l.moves.position ≡ l.position

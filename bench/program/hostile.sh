@@ -1,0 +1,569 @@
+#!/usr/bin/env bash
+# The built program in bad company: words that are no text, streams that are closed or full, pipes that never end, files
+# that are not to be written, a full disk, a terminal. Each run is to end with the status and the text that are written
+# here, and to leave each file as it was. Quiet where all is so; else prints each difference, and ends with status 1.
+# PG may name the program.
+. "$(dirname "$(readlink -f "$0")")/begin.sh"
+array=rnbqkbnr/pppppppp/8/8/8/8/PPPPPPPP/RNBQKBNR
+first=rnbqkbnr/pppppppp/8/8/4P3/8/PPPP1PPP/RNBQKBNR
+open=rnbqkbnr/pppp1ppp/8/4p3/4P3/8/PPPP1PPP/RNBQKBNR
+queen=rnb1kbnr/ppp1pppp/8/3q4/8/8/PPPP1PPP/RNBQKBNR
+orders=rnbqkbnr/pppp1ppp/4p3/8/8/3PP3/PPP2PPP/RNBQKBNR
+unreachable=rnbqkbnr/pppppppp/8/8/8/3P4/PPPP1PPP/RNBQKBNR
+schweig=r1bqkbnr/ppp2ppp/3p4/8/8/8/PPPPPPPP/R1BQKBNR
+cooked=rnbqkbnr/p1pppppp/8/8/8/3QP3/PPP2PPP/RNB1K1NR
+stalemate=5bnr/4p1pq/4Qpkr/7p/7P/4P3/PPPP1PP1/RNB1KBNR
+position="$array w KQkq - 0 1"
+files=$work/files
+mkdir "$files" && cd "$files" || exit 1
+"$pg" search "$queen" 2.0 good.pgc >report || exit 1
+sed -n 4p report >games
+echo UEdDMQAkUzZCEREREQAAAAAAAAAAAAAAAAAAAACZmZmZrNu+yg== | base64 -d >old.pgc # version 1, the array in no move
+echo UEdDMYAkUzZCEREQEQAQAAAAAAAAAAAAAAAAAACZmZmZrNu+yg== | base64 -d >long.pgc # a header alone, 64.0
+: >empty
+cp -r "$files" "$work/before"
+
+# Runs the shell command $3 in the folder with the files: it is to end with status $1, and to say $2 on standard error; and to
+# print $4, where that is given.
+expect() {
+  local status
+  (eval "$3") >"$work/out" 2>"$work/err"
+  status=$?
+  if [ "$status" != "$1" ] || [ "$(cat "$work/err")" != "$2" ] || [ "${4-$(cat "$work/out")}" != "$(cat "$work/out")" ] ||
+    ! diff -r "$work/before" "$files" >"$work/changed"; then
+    { echo "$3"; echo "    status $status for $1; said and printed:"; sed 's/^/    /' "$work/err" "$work/out" "$work/changed"; } >&2
+    wrong=1
+    rm -rf "${files:?}"/* && cp -r "$work"/before/* "$files"
+  fi
+}
+
+# The first 37 bytes of a certificate of version 1 for the diagram $1 and $2 plies: two squares a byte, from a1, the first one low.
+header() {
+  local ranks rank row number square codes=.PNBRQK..pnbrqk low high bytes=
+  IFS=/ read -ra ranks <<<"$1"
+  for rank in 7 6 5 4 3 2 1 0; do
+    row=${ranks[rank]}
+    for number in 1 2 3 4 5 6 7 8; do row=${row//$number/$(printf "%${number}s" | tr ' ' .)}; done
+    for square in 0 2 4 6; do
+      low=${codes%%"${row:square:1}"*} high=${codes%%"${row:square+1:1}"*}
+      bytes+=$(printf '\\x%02x' $((${#low} + 16 * ${#high})))
+    done
+  done
+  printf "PGC1\\x$(printf %02x "$2")$bytes"
+}
+
+# So many bytes 1, each an expansion.
+ones() { head -c "$1" /dev/zero | tr '\0' '\1'; }
+
+# Words.
+expect 2 'pg: a word of the command line is not UTF-8' '"$pg" moves $'"'\\xe9'"
+expect 2 'pg: a word of the command line is not UTF-8' '"$pg" search $first 0.5 $'"'caf\\xe9.pgc'"
+expect 4 'pg: cannot open a\u{1b}[31mb\n\u{9b}é' '"$pg" check $first 0.5 $'"'a\\e[31mb\\n\\xc2\\x9b\\xc3\\xa9'"
+expect 4 'pg: cannot open ' '"$pg" search $first 0.5 ""'
+while read -r status words; do
+  expect "$status" '' "\"\$pg\" $words </dev/null 2>/dev/null"
+done <<END
+2
+2 play
+2 moves
+2 moves 8/8
+2 count $array 256
+2 count $array -1
+2 games $array
+2 cooks $array 0
+2 cooks $array 0 list --foreign 256
+2 games $array 0 list --journeys
+2 check $array 0 list list --journeys=yes
+2 cooks $array 0 list --nodes -1
+2 judge
+2 judge list more
+2 judge list --nodes -1
+2 judge list --certificates
+2 check $array 0
+2 check $array 0 none none --records 0
+2 check $array 0 none none more
+2 answer
+2 answer $array 0 none
+2 answer none --records 0
+2 search $array 0 none --nodes 18446744073709551616
+2 search 8/8 0 none
+2 search $array 64.5 none
+2 why none
+2 page
+2 page none more
+2 page none --records 0
+2 page none --nodes -1
+4 check $array 0 none none --records=18446744073709551615
+4 check 8/8 64.5 none
+4 answer none --records=18446744073709551615 --journeys
+4 why none -
+4 page none --nodes=18446744073709551615
+4 search $array 0 none/none --nodes=0
+4 search $array 0 none/
+0 --help
+0 check --help
+0 answer --help
+0 cooks --help
+0 judge --help
+0 games --help
+0 why --help
+0 page --help
+0 --version
+END
+
+# Checks of certificates of expansions alone, with lists of games whose backslashes are read.
+{ header "$open" 2; ones 22; } >"$work/open.pgc"
+{ header "$open" 1; ones 1; } >"$work/short.pgc"
+header "$array" 0 >"$work/none.pgc"
+{ header "$orders" 3; ones 443; } >"$work/orders.pgc"
+head -c -1 "$work/orders.pgc" >"$work/cut.pgc"
+{ header "$orders" 3; ones 444; } >"$work/long.pgc"
+declare -A reports=(
+  [nothing]=
+  [sound]="diagram $open"$'\nlength 1.0\ngames 1\n1. e4 e5\nsound'
+  [array]="diagram $array"$'\nlength 0.0\ngames 1\n-\nsound'
+  [cooked]="diagram $orders"$'\nlength 1.5\ngames 2\n1. d3 e6 2. e3\n1. e3 e6 2. d3\ncooked'
+  [none]="diagram $open"$'\nlength 0.5\ngames 0\nno game'
+)
+while IFS='|' read -r status words list said printed; do
+  printf -- "$list" >"$work/list"
+  expect "$status" "${said:+pg: $said}" "\"\$pg\" check $words ../list" "${reports[${printed:-nothing}]}"
+done <<END
+0|$open 1.0 ../open.pgc --records 22|1. e4 e5\n||sound
+1|$open 1.0 ../open.pgc --records 21|1. e4 e5\n|record limit reached|
+1|$open 1.0 ../open.pgc --records 22||unlisted game: 1. e4 e5|
+1|$open 1.0 ../open.pgc --records 22|1. e4 d5\n|game 1 does not end on the diagram|
+2|$open 1.0 ../open.pgc --records 22|1. e4 e4\n|line 1, ply 2: no such legal move|
+2|$open 1.0 ../open.pgc --records 22|\xff|games are not UTF-8|
+2|$open 1. ../open.pgc --records 22|1. e4 e5\n|bad length|
+1|$open 1.5 ../open.pgc --records 22||certificate for another length|
+1|$orders 1.5 ../orders.pgc|1. e3 e6 2. d3\n1. d3 e6 2. e3\n||cooked
+1|$open 0.5 ../short.pgc|||none
+0|$array 0 ../none.pgc|-||array
+1|$orders 1.5 ../orders.pgc|1. d3 e6 2. e3|unlisted game: 1. e3 e6 2. d3|
+1|$orders 1.5 ../orders.pgc|1. e3 e6 2. d3|unlisted game: 1. d3 e6 2. e3|
+1|$orders 1.5 ../long.pgc|1. e3 e6 2. d3\n1. d3 e6 2. e3|bytes after the certificate|
+1|$orders 1.5 ../cut.pgc|1. e3 e6 2. d3\n1. d3 e6 2. e3|truncated certificate|
+1|$orders 1.5 ../orders.pgc|1. e3 e6|game 1 does not have the stated length|
+2|$orders 1.5 ../orders.pgc|1. e3 e6 2. e3|line 1, ply 3: no such legal move|
+2|$array 0 ../none.pgc|e4\0|line 1, ply 1: not a move|
+2|$array 0 ../none.pgc|\0|line 1, ply 1: not a move|
+2|$array 0 ../none.pgc|e4\re5|line 1, ply 1: not a move|
+2|$array 0 ../none.pgc|\xef\xbb\xbfe4|line 1, ply 1: not a move|
+2|$array 0 ../none.pgc|\xc2\xa0e4|line 1, ply 1: not a move|
+2|$array 0 ../none.pgc|\xe2\x99\x98f3|line 1, ply 1: not a move|
+2|$array 0 ../none.pgc|Sf\xc3\xa9|line 1, ply 1: not a move|
+2|$array 0 ../none.pgc|e4 \xc3|games are not UTF-8|
+2|$array 0 ../none.pgc|\xed\xa0\x80|games are not UTF-8|
+END
+
+# The same of certificates by themselves. A header may name no problem: a number that is no man's, no king, more than 64.0 moves.
+{ header "$array" 0 | head -c 21; printf '\7'; header "$array" 0 | tail -c 15; } >"$work/nobody.pgc"
+header "${array/K/Q}" 0 >"$work/kingless.pgc"
+header "$array" 129 >"$work/longer.pgc"
+while IFS='|' read -r status words said printed; do
+  expect "$status" "${said:+pg: $said}" "\"\$pg\" answer $words" "${reports[${printed:-nothing}]}"
+done <<END
+0|../open.pgc --records 22||sound
+0|../none.pgc||array
+1|../orders.pgc||cooked
+1|../short.pgc||none
+1|../open.pgc --records 21|record limit reached|
+1|../long.pgc|bytes after the certificate|
+1|../cut.pgc|truncated certificate|
+1|empty|truncated certificate|
+1|report|not a certificate|
+1|long.pgc|truncated certificate|
+1|../nobody.pgc|certificate for no problem|
+1|../kingless.pgc|certificate for no problem|
+1|../longer.pgc|certificate for no problem|
+END
+many() { head -c "$1" /dev/zero | tr '\0' "$2"; }
+expect 2 'pg: line 2: repeated game' 'yes e4 | head -n 4097 | "$pg" check $array 0 ../none.pgc'
+expect 2 'pg: line 1, ply 1: not a move' '(many 1000000 1; echo e4) | "$pg" check $array 0 ../none.pgc'
+expect 1 'pg: game 1 does not have the stated length' '(many 1000000 1; many 1000000 .; echo e4) | "$pg" check $array 0 ../none.pgc'
+
+# Problems of a file that are judged: bad lines are told and skipped.
+row() { printf '%s\t' "${@:1:5}"; echo "$6"; }
+orders_row=$(row orders 1.5 cooked - 'search, 63 nodes' '2 games: 1. d3 e6 2. e3; 1. e3 e6 2. d3')
+array_row=$(row array 0.0 sound solves 'search, 0 nodes' -)
+while IFS='|' read -r status list said printed; do
+  printf -- "$list" >"$work/list"
+  expect "$status" "${said:+pg: $said}" '"$pg" judge ../list' "$printed"
+  expect "$status" "${said:+pg: $said}" '"$pg" judge - <../list' "$printed"
+done <<END
+0|||
+0|# nothing\n\n \t\n||
+0|array $array 0 -||$array_row
+0|\tarray  $array\t0 -\r\n||$array_row
+1|orders $orders 1.5\n||$orders_row
+2|.array $array 0\n|line 1: bad name|
+2|a/b $array 0\n|line 1: bad name|
+2|array\n|line 1: a name, a diagram and a length are wanted|
+2|array 8/8 0\n|line 1: bad rank|
+2|array $array 0,5\n|line 1: bad length|
+2|array $array 0 \xff\n|line 1: not UTF-8|
+2|array $array 1 1. e4 e4\n|line 1: ply 2: no such legal move|
+2|array $array 0 -\narray $array 0 -\n|line 2: this name stands above|$array_row
+END
+printf 'orders %s 1.5\n' $orders >"$work/list"
+expect 1 '' '"$pg" judge ../list --nodes 0' "$(row orders 1.5 'not settled' - 'search, 0 nodes' '0 games met; limit reached')"
+expect 4 'pg: cannot open none' '"$pg" judge none' ''
+expect 4 'pg: cannot open none' '"$pg" judge ../list --certificates none' ''
+expect 4 'pg: cannot open .' '"$pg" judge .' ''
+expect 4 'pg: read fault' '"$pg" judge - <&-' ''
+expect 4 'pg: write fault' '"$pg" judge ../list >/dev/full' ''
+for minutes in '' x 1. .5 1,5 -1 1e3; do expect 2 'pg: bad number of minutes' '"$pg" judge ../list --minutes='"'$minutes'" ''; done
+expect 2 'pg: bad number of minutes' '"$pg" search $array 0 new.pgc --minutes=x' ''
+expect 1 'pg: node limit reached' '"$pg" search $schweig 4.0 new.pgc --minutes 0' ''
+expect 0 '' '"$pg" search $array 0 new.pgc --minutes 0.5 --nodes 1 >/dev/null; rm new.pgc' ''
+
+# Certificates in a folder: one is put there, checked in place of a search, told where it is refused, and replaced.
+mkdir "$work/proofs"
+standing_row=$(row orders 1.5 cooked - 'certificate, 63 records' '2 games: 1. d3 e6 2. e3; 1. e3 e6 2. d3')
+replaced_row=$(row orders 1.5 cooked - 'search, 63 nodes, old certificate refused' '2 games: 1. d3 e6 2. e3; 1. e3 e6 2. d3')
+expect 1 '' '"$pg" judge ../list --certificates ../proofs' "$orders_row"
+expect 1 '' '"$pg" judge ../list --certificates ../proofs --nodes 0' "$standing_row"
+for wrong_one in good.pgc empty report; do
+  cp "$wrong_one" "$work/proofs/orders.pgc"
+  expect 1 '' '"$pg" judge ../list --certificates ../proofs --nodes 0' \
+    "$(row orders 1.5 'not settled' - 'search, 0 nodes, old certificate refused' '0 games met; limit reached')"
+  cmp -s "$wrong_one" "$work/proofs/orders.pgc" || { echo "a certificate that was not replaced has changed" >&2; wrong=1; }
+  expect 1 '' '"$pg" judge ../list --certificates ../proofs' "$replaced_row"
+  expect 1 '' '"$pg" judge ../list --certificates ../proofs' "$standing_row"
+done
+[ "$(ls -A "$work/proofs")" = orders.pgc ] || { echo "drafts are left" >&2; wrong=1; }
+
+# What lists show by themselves, and what is found beside them.
+while IFS='|' read -r status words list said printed; do
+  printf -- "$list" >"$work/list"
+  expect "$status" "${said:+pg: $said}" "\"\$pg\" $words" "$(printf -- "$printed")"
+done <<END
+0|games $open 1.0 ../list|1. e4 e5||diagram $open\nlength 1.0\ngames 1\n1. e4 e5\nat least one game
+0|games $open 1.0 <../list|||diagram $open\nlength 1.0\ngames 0\nno game given
+1|games $orders 1.5 ../list|1. e3 e6 2. d3\n1. d3 e6 2. e3||diagram $orders\nlength 1.5\ngames 2\n1. d3 e6 2. e3\n1. e3 e6 2. d3\nnot sound
+1|games $open 1.0 ../list|1. e4 e6|game 1 does not end on the diagram|
+2|games $open 1. ../list|1. e4 e6|bad length|
+2|games $open 1.0 ../list|\xff|games are not UTF-8|
+4|games $open 1.0 none||cannot open none|
+1|cooks $orders 1.5 ../list|1. e3 e6 2. d3||diagram $orders\nlength 1.5\ngames 1\n1. e3 e6 2. d3\nanother game\n1. d3 e6 2. e3\nnot sound
+0|cooks $orders 1.5 ../list --nodes 0|1. e3 e6 2. d3||diagram $orders\nlength 1.5\ngames 1\n1. e3 e6 2. d3\nnone found: node limit reached
+0|cooks $first 0.5 ../list|1. e4||diagram $first\nlength 0.5\ngames 1\n1. e4\nnone: the search went through all games
+1|cooks $orders 1.5 ../list|1. e3 e6 2. d3\n1. d3 e6 2. e3||diagram $orders\nlength 1.5\ngames 2\n1. d3 e6 2. e3\n1. e3 e6 2. d3\nnone: the search went through all games\nnot sound
+1|cooks $open 1.0 ../list|1. e4|game 1 does not have the stated length|
+2|cooks $open 1.0 ../list|\n|no game to go by|
+2|cooks $open 1.0 ../list|1. e4 e4|line 1, ply 2: no such legal move|
+4|cooks $open 1.0 none||cannot open none|
+END
+
+# Lines that are explained by such certificates.
+{ header "$open" 2; ones 21; } >"$work/cut.pgc"
+{ header "$open" 2; ones 23; } >"$work/long.pgc"
+{ header "$open" 2; printf '\1\3\0\0\0\0'; } >"$work/reference.pgc"
+open_line='at the start: 1 of 20 moves leads on; cut 19 by travel; 1 game below
+after 1. e4: 1 of 20 moves ends on the diagram
+the certificate is right'
+expect 0 '' '"$pg" why ../open.pgc "1. e4" --records 22' "$open_line"
+expect 1 'pg: reference to no closed node' '"$pg" why ../reference.pgc - --records 22' ''
+expect 1 'pg: truncated certificate' '"$pg" why ../cut.pgc - --records 22' ''
+expect 1 'pg: bytes after the certificate' '"$pg" why ../long.pgc - --records 22' ''
+expect 2 'pg: not one line of moves' '"$pg" why ../open.pgc "" --records 22' ''
+expect 2 'pg: line 1, ply 1: no such legal move' '"$pg" why ../open.pgc e5 --records 22' ''
+expect 2 'pg: line 1, ply 1: not a move' '"$pg" why ../open.pgc "- e4" --records 22' ''
+
+# More games than a list holds, of five pawn moves of each side in any order. What stands behind them is judged too, where a cut is wrong.
+five=rnbqkbnr/5ppp/ppppp3/8/8/PPPPP3/5PPP/RNBQKBNR
+{ header "$five" 10; python3 "$top/bench/many-games.py"; } >"$work/five.pgc"
+for command in 'why ../five.pgc -' 'page ../five.pgc' 'answer ../five.pgc'; do
+  expect 1 'pg: cut 4 does not exclude' "\"\$pg\" $command" ''
+done
+expect 1 'pg: unlisted game: 1. a3 a6 2. b3 b6 3. c3 c6 4. d3 d6 5. e3 e6' '"$pg" check $five 5.0 ../five.pgc /dev/null' ''
+
+# Pages of such certificates: whole, or not begun.
+whole=$'<!DOCTYPE html>\n</html>'
+expect 0 '' '"$pg" page ../open.pgc --records 22 | sed -n "1p;\$p"' "$whole"
+expect 0 '' '"$pg" page ../open.pgc --nodes 0 | sed -n "1p;\$p"' "$whole"
+expect 0 '' '"$pg" page ../short.pgc | grep -c "No game.</strong> No game of 0.5 moves"' 1
+expect 1 'pg: record limit reached' '"$pg" page ../open.pgc --records 21' ''
+expect 1 'pg: reference to no closed node' '"$pg" page ../reference.pgc' ''
+expect 1 'pg: truncated certificate' '"$pg" page ../cut.pgc' ''
+expect 1 'pg: truncated certificate' '"$pg" page empty' ''
+expect 1 'pg: not a certificate' '"$pg" page report' ''
+expect 1 'pg: bytes after the certificate' '"$pg" page ../long.pgc' ''
+
+# What is known of a diagram at once.
+expect 2 'pg: bad length' '"$pg" show $array 1.2' ''
+expect 2 'pg: bad rank' '"$pg" show 8/8 1.2' ''
+
+# Copies, and what is not copied.
+{ header "$array" 4; printf '\1\5\2\1\3\1\1\1\1\2\4\1'; } >"$work/old.pgc"
+expect 0 '' '"$pg" upgrade ../old.pgc ../two --records 6 && head -c 4 ../two && tail -c +5 ../two | cmp - <(tail -c +5 ../old.pgc)' \
+  $'records 6\nPGC2'
+while IFS='|' read -r records limit said; do
+  { header "$array" 4; printf "$records"; } >"$work/old.pgc"
+  expect 1 "pg: $said" '"$pg" upgrade ../old.pgc new.pgc --records '"$limit" ''
+done <<'END'
+\1\2\4|1|record limit reached
+\1\2|9|truncated certificate
+\1\6|9|unknown record byte 6
+END
+echo 'not a certificate, though it is long enough' >"$work/old.pgc"
+expect 1 'pg: not a certificate of version 1' '"$pg" upgrade ../old.pgc new.pgc' ''
+
+# Searches that find the array at once, in the place of another file, and searches that give up.
+echo old >"$work/found.pgc"
+expect 0 '' '"$pg" search $array 0 ../found.pgc && wc -c <../found.pgc' "${reports[array]}"$'\n37'
+expect 4 'pg: cannot open ../found.pgc' '"$pg" check $array 0.0 ../found.pgc ../found.pgc' ''
+expect 1 'pg: unlisted game: -' '"$pg" check $array 0.0 ../found.pgc /dev/null' ''
+echo - >"$work/list"
+expect 1 'pg: truncated certificate' '"$pg" check $array 0 empty ../list' ''
+while IFS='|' read -r status diagram length nodes said; do
+  for name in good.pgc new.pgc; do
+    expect "$status" "pg: $said" "\"\$pg\" search $diagram $length $name --nodes=$nodes" ''
+  done
+done <<END
+1|$open|1.0|0|node limit reached
+1|$array|1.0|1000|a game of 0 plies reaches the diagram
+1|$array|2.0|1000|a game of 0 plies reaches the diagram
+1|$first|1.0|1000|a game of 1 plies reaches the diagram
+2|8/8|1.0|1000|bad rank
+2|$array|64.5|1000|length above 64.0
+2|$array|''|1000|bad length
+END
+
+# Streams that are closed or full.
+expect 4 'pg: read fault' '"$pg" check $queen 2.0 games <&-'
+expect 4 'pg: read fault' '"$pg" check $queen 2.0 good.pgc <&-'
+expect 4 'pg: read fault' '"$pg" check $queen 2.0 good.pgc <.'
+for folder in 'check $queen 2.0 . games' 'check $queen 2.0 good.pgc .' 'games $queen 2.0 .' 'cooks $queen 2.0 .' 'upgrade . new.pgc'; do
+  expect 4 'pg: cannot open .' "\"\$pg\" $folder"
+done
+expect 4 'pg: cannot open .' '"$pg" answer .'
+expect 4 'pg: cannot open /dev/stdin' 'cat good.pgc | "$pg" answer /dev/stdin'
+expect 4 'pg: cannot open .' '"$pg" why . -'
+expect 4 'pg: cannot open /dev/stdin' 'cat good.pgc | "$pg" why /dev/stdin -'
+expect 4 'pg: cannot open .' '"$pg" page .'
+expect 4 'pg: cannot open /dev/stdin' 'cat good.pgc | "$pg" page /dev/stdin'
+for full in '>&-' '>/dev/full'; do
+  expect 4 'pg: write fault' '"$pg" moves "$position" '"$full"
+  expect 4 'pg: write fault' '"$pg" count "$position" 2 '"$full"
+  expect 4 'pg: write fault' '"$pg" check $queen 2.0 good.pgc games '"$full"
+  expect 4 'pg: write fault' '"$pg" answer good.pgc '"$full"
+  expect 4 'pg: write fault' '"$pg" search $queen 2.0 good.pgc '"$full"
+  expect 4 'pg: write fault' '"$pg" why good.pgc - '"$full"
+  expect 4 'pg: write fault' '"$pg" page good.pgc '"$full"
+  expect 4 'pg: write fault' '"$pg" upgrade old.pgc new.pgc '"$full"
+  expect 4 'pg: write fault' '"$pg" --help '"$full"
+done
+expect 1 '' '"$pg" search $queen 2.0 good.pgc --nodes 3 2>&-'
+expect 1 '' '"$pg" search $queen 2.0 new.pgc --nodes 3 <&- >&- 2>&-'
+expect 0 '' '"$pg" check $queen 2.0 good.pgc games <&- 2>&- | cmp - report'
+expect 0 '' '"$pg" answer good.pgc <&- 2>&- | cmp - report'
+expect 0 '' '"$pg" page good.pgc <&- 2>&- | cmp - <("$pg" page good.pgc)'
+
+# Standard input by its name.
+expect 0 '' 'cat games | "$pg" check $queen 2.0 good.pgc - | cmp - report'
+expect 0 '' 'cat good.pgc | "$pg" check $queen 2.0 - games | cmp - report'
+expect 0 '' '"$pg" check $queen 2.0 - games <good.pgc | cmp - report'
+expect 0 '' 'cat games | "$pg" games $queen 2.0 - | tail -n 1' 'at least one game'
+expect 0 '' '"$pg" cooks $queen 2.0 - --nodes 0 <games | tail -n 1' 'none found: node limit reached'
+expect 0 '' 'cat old.pgc | "$pg" upgrade - ../two' 'records 0'
+expect 0 '' '"$pg" why - - <good.pgc | tail -n 1' 'the certificate is right'
+for both in 'check $queen 2.0 - - <good.pgc' 'check $queen 2.0 - <good.pgc' 'check $queen 2.0 - games <games' 'check $queen 2.0 games - <games'; do
+  said=-
+  [ "${both#*0 games}" = "$both" ] || said=games
+  expect 4 "pg: cannot open $said" "\"\$pg\" $both"
+done
+expect 4 'pg: cannot open -' 'cat good.pgc | "$pg" why - -'
+expect 4 'pg: cannot open -' '"$pg" search $queen 2.0 new.pgc --games -' ''
+expect 4 'pg: read fault' '"$pg" check $queen 2.0 good.pgc - <&-'
+
+# Pipes that never end. A certificate is a header, and then bytes for ever.
+expect 4 'pg: read fault' 'yes "" | "$pg" check $queen 2.0 good.pgc'
+expect 2 'pg: games are not UTF-8' 'head -c 16777216 /dev/zero | tr "\0" "\377" | "$pg" check $queen 2.0 good.pgc'
+expect 4 'pg: read fault' 'head -c 16777217 /dev/zero | tr "\0" "\n" | "$pg" check $queen 2.0 good.pgc'
+expect 1 'pg: unlisted game: 1. e4 d5 2. exd5 Qxd5' 'head -c 16777216 /dev/zero | tr "\0" "\n" | "$pg" check $queen 2.0 good.pgc'
+endless() { head -c 37 "$1"; yes x | tr -d '\n' | tr x "$2"; }
+expect 1 'pg: record limit reached' '"$pg" check $queen 2.0 <(endless good.pgc "\1") games --records 1000'
+expect 1 'pg: record limit reached' '"$pg" check $unreachable 64.0 <(endless long.pgc "\1") empty --records 1000'
+expect 1 'pg: record limit reached' '"$pg" check $unreachable 64.0 <(endless long.pgc "\5") empty --records 1000'
+expect 1 'pg: too many named nodes' '"$pg" check $unreachable 64.0 <(endless long.pgc "\5") empty'
+expect 1 'pg: unknown record byte 6' '"$pg" check $unreachable 64.0 <(endless long.pgc "\6") empty'
+expect 1 'pg: bytes after the certificate' '"$pg" check $queen 2.0 <(cat good.pgc; endless good.pgc "\1") games'
+expect 1 'pg: bytes after the certificate' '"$pg" check $first 0.5 <(header $first 1; yes x | tr -d "\n" | tr x "\1") <(echo e4)'
+expect 1 'pg: record limit reached' '"$pg" upgrade <(endless old.pgc "\1") new.pgc --records 1000'
+
+# Files that are not to be written, and one that is two at once.
+mkfifo "$work/fifo"
+ln -s nothing "$work/dead"
+for name in - /dev/stdout /dev/null /dev/full . / "$work/fifo" "$work/dead" none/new.pgc none/ "''"; do
+  expect 4 "pg: cannot open ${name#"''"}" '"$pg" search $queen 2.0 '"$name"
+  expect 4 "pg: cannot open ${name#"''"}" '"$pg" upgrade old.pgc '"$name"
+done
+expect 4 'pg: cannot open good.pgc' '"$pg" search $queen 2.0 good.pgc >>good.pgc'
+expect 4 'pg: cannot open /dev/stdout' '"$pg" search $queen 2.0 /dev/stdout >>good.pgc'
+expect 4 'pg: cannot open ./old.pgc' '"$pg" upgrade old.pgc ./old.pgc'
+expect 4 'pg: cannot open good.pgc' '"$pg" check $queen 2.0 good.pgc good.pgc'
+expect 4 'pg: cannot open none' '"$pg" check $queen 2.0 none games'
+expect 4 'pg: cannot open none' '"$pg" check $queen 2.0 good.pgc none'
+expect 4 'pg: cannot open none' '"$pg" upgrade none new.pgc'
+expect 4 'pg: cannot open none' '"$pg" upgrade none old.pgc'
+expect 4 'pg: cannot open none' '"$pg" answer none'
+expect 4 "pg: cannot open $work/fifo" '"$pg" answer "$work/fifo"'
+expect 4 'pg: cannot open none' '"$pg" why none -'
+expect 4 "pg: cannot open $work/fifo" '"$pg" why "$work/fifo" -'
+expect 4 'pg: cannot open none' '"$pg" page none'
+expect 4 "pg: cannot open $work/fifo" '"$pg" page "$work/fifo"'
+
+# Drafts that killed runs have left: the next number is taken, and with a thousand of them there is no search. Rights are kept, and no
+# setuid or setgid bit. A name of 255 bytes has a draft too.
+mkdir "$work/drafts"
+echo old >"$work/drafts/c.pgc" && chmod 6751 "$work/drafts/c.pgc" && echo left >"$work/drafts/.c.pgc.pg-part-0"
+expect 0 '' '"$pg" search $array 0 ../drafts/c.pgc >/dev/null; stat -c %a ../drafts/c.pgc; cat ../drafts/.c.pgc.pg-part-0' $'751\nleft'
+(cd "$work/drafts" && seq -f '.c.pgc.pg-part-%g' 0 999 | xargs touch)
+expect 4 'pg: cannot open ../drafts/c.pgc' '"$pg" search $array 0 ../drafts/c.pgc'
+long=$(printf '%0255d' 0)
+expect 0 '' '"$pg" search $array 0 ../drafts/$long >/dev/null; wc -c <../drafts/$long' 37
+
+# Runs that end without an answer, and a full disk: files may not grow past 1,024 bytes.
+expect 1 'pg: node limit reached' '"$pg" search $queen 2.0 good.pgc --nodes 3'
+expect 1 'pg: a game of 4 plies reaches the diagram' '"$pg" search $queen 3.0 good.pgc'
+# The games that a search met are kept: by one that gives up, by one that has a report, and nowhere else.
+expect 1 'pg: node limit reached' '"$pg" search $cooked 3.5 new.pgc --nodes 8312 --games ../met' ''
+expect 1 '' '"$pg" games $cooked 3.5 ../met | tail -n 1; exit "${PIPESTATUS[0]}"' 'not sound'
+expect 0 '' '"$pg" search $queen 2.0 ../new.pgc --games ../kept | cmp - report && cmp ../kept games' ''
+expect 4 'pg: write fault' '"$pg" search $queen 2.0 new.pgc --games games >/dev/full' ''
+# A list stays where no game was met, with no draft beside it; and neither draft stands at the place of the other file.
+mkdir "$work/apart" && echo mine >"$work/apart/mine"
+expect 1 'pg: node limit reached' '"$pg" search $queen 2.0 ../apart/c --games ../apart/mine --nodes 3' ''
+expect 0 '' 'cat ../apart/mine; ls -A ../apart' $'mine\nmine'
+expect 0 '' '"$pg" search $queen 2.0 ../apart/.G.pg-part-0 --games ../apart/G | cmp - report && cmp ../apart/G games' ''
+expect 0 '' '"$pg" search $queen 2.0 ../apart/G --games ../apart/.G.pg-part-0 | cmp - report && cmp ../apart/G good.pgc' ''
+expect 0 '' 'cmp ../apart/.G.pg-part-0 games; ls -A ../apart' $'.G.pg-part-0\nG\nmine'
+expect 4 'pg: cannot open new.pgc' '"$pg" search $queen 2.0 new.pgc --games new.pgc' ''
+expect 4 'pg: cannot open no/list' '"$pg" search $queen 2.0 new.pgc --games no/list' ''
+expect 4 'pg: write fault' 'trap "" XFSZ; ulimit -f 1; "$pg" search $schweig 4.0 good.pgc'
+expect 4 'pg: write fault' 'trap "" XFSZ; ulimit -f 1; "$pg" page good.pgc >../page.html'
+expect 1 'pg: not a certificate of version 1' '"$pg" upgrade old.pgc ../two >/dev/null; "$pg" upgrade ../two good.pgc'
+{ header "$array" 4; ones 2000; } >"$work/old.pgc"
+expect 4 'pg: write fault' 'trap "" XFSZ; ulimit -f 1; "$pg" upgrade ../old.pgc new.pgc'
+
+# Cuts by journeys are written, and taken, where the words say so; without such cuts the word changes nothing.
+echo '1. Nc3 d6 2. Nd5 Nd7 3. Nxe7 Ndf6 4. Nxg8 Nxg8' >"$work/knights"
+expect 0 '' '"$pg" search $schweig 4.0 ../journeys.pgc --journeys | tail -n 1' sound
+expect 0 '' '"$pg" check $schweig 4.0 ../journeys.pgc ../knights --journeys | tail -n 1' sound
+expect 0 '' '"$pg" answer ../journeys.pgc --journeys | tail -n 1' sound
+expect 0 '' '"$pg" page ../journeys.pgc --journeys | tail -n 1' '</html>'
+expect 0 '' '"$pg" why ../journeys.pgc - --journeys | tail -n 1' 'the certificate is right'
+expect 1 'pg: unknown bound 5' '"$pg" check $schweig 4.0 ../journeys.pgc ../knights' ''
+expect 1 'pg: unknown bound 5' '"$pg" answer ../journeys.pgc' ''
+expect 1 'pg: unknown bound 5' '"$pg" page ../journeys.pgc' ''
+expect 1 'pg: unknown bound 5' '"$pg" why ../journeys.pgc - >/dev/null'
+expect 0 '' '"$pg" check $queen 2.0 good.pgc games --journeys | cmp - report'
+expect 0 '' '"$pg" answer good.pgc --journeys | cmp - report'
+
+# With the least stack that the README names.
+expect 0 '' 'ulimit -s 512; "$pg" search $schweig 4.0 ../journeys.pgc --journeys | tail -n 1' sound
+expect 0 '' 'ulimit -s 512; "$pg" search $queen 2.0 good.pgc | cmp - report && "$pg" check $queen 2.0 good.pgc games | cmp - report && "$pg" answer good.pgc | cmp - report'
+expect 0 '' 'ulimit -s 512; "$pg" page good.pgc | cmp - <("$pg" page good.pgc)'
+expect 0 '' 'ulimit -s 512; "$pg" why good.pgc "e4 d5" >/dev/null && "$pg" count "$position" 3 >/dev/null && "$pg" moves "$position" >/dev/null && "$pg" show $queen >/dev/null && "$pg" upgrade old.pgc ../two >/dev/null'
+
+# The same with a long list: the 576 games of four pawn moves of each side in any order, which are 20,736 bytes.
+four=rnbqkbnr/4pppp/pppp4/8/8/PPPP4/4PPPP/RNBQKBNR
+"$pg" search "$four" 4.0 "$work/four.pgc" >"$work/four"
+"$pg" page "$work/four.pgc" >"$work/four.html"
+sed '1,3d;$d' "$work/four" >"$work/four.games"
+[ "$(wc -lc <"$work/four.games" | xargs)" = '576 20736' ] && [ "$(sed -n '3p;$p' "$work/four")" = $'games 576\ncooked' ] &&
+  grep -q '</html>' "$work/four.html" || { echo "not the 576 games of four pawn moves of each side" >&2; wrong=1; }
+report=$(cat "$work/four")
+expect 0 '' 'ulimit -s 512; "$pg" search $four 4.0 ../again --games ../met; [ $? = 1 ] && cmp ../again ../four.pgc && cmp ../met ../four.games' "$report"
+expect 1 '' 'ulimit -s 512; "$pg" check $four 4.0 ../four.pgc ../four.games' "$report"
+expect 1 '' 'ulimit -s 512; "$pg" answer ../four.pgc' "$report"
+expect 1 '' 'ulimit -s 512; "$pg" games $four 4.0 ../four.games' "${report/%cooked/not sound}"
+expect 1 '' 'ulimit -s 512; "$pg" cooks $four 4.0 ../four.games --nodes 0' "${report/%cooked/none found: node limit reached$'\n'not sound}"
+expect 0 '' 'ulimit -s 512; "$pg" page ../four.pgc | cmp - ../four.html'
+expect 1 'pg: unlisted game: 1. a3 a6 2. b3 b6 3. c3 c6 4. d3 d6' 'ulimit -s 512; sed 1d ../four.games | "$pg" check $four 4.0 ../four.pgc' ''
+
+# On a terminal: a bad diagram is told before the list is typed, and else how it is typed.
+if command -v script >/dev/null; then
+  on_terminal() { script -qec "$1" /dev/null </dev/null | tr -d '\r'; }
+  on_terminal "'$pg' check 8/8 2.0 good.pgc" >"$work/said"
+  grep -qx 'pg: bad rank' "$work/said" || { echo "a bad diagram is not told before the list" >&2; wrong=1; }
+  on_terminal "'$pg' why ../reference.pgc -" >"$work/said"
+  [ "$(grep -cx '\(pg: \)\?reference to no closed node' "$work/said")" = 1 ] || { echo "a refused explanation does not tell its fault once" >&2; wrong=1; }
+  on_terminal "'$pg' check $open 2.0 good.pgc" >"$work/said"
+  grep -q 'pg: type the games, one a line; end with Ctrl-D' "$work/said" || { echo "not told how to type a list" >&2; wrong=1; }
+
+  # The command $1 on a terminal is to say the lines behind it, and nothing else.
+  says() {
+    on_terminal "$1" >"$work/said"
+    shift
+    printf '%s\n' "$@" | diff - "$work/said" >&2 || wrong=1
+  }
+  says "'$pg' show 8/8" 'pg: bad rank' 'pg: 2 ranks; a board has 8'
+  says "'$pg' show ${array/pppppppp/ppppppp}" 'pg: bad rank' 'pg: rank 7 is 7 squares wide, not 8'
+  says "'$pg' show ${array/pppppppp/pppdpppp} 4.0" 'pg: bad letter in the placement' "pg: 'd' in rank 7; men are KQRBNP and kqrbnp"
+  says "'$pg' search ${array/rnbq/rnbk} 4.0 new.pgc" 'pg: each side must have one king' 'pg: white has 1, black 2'
+  says "'$pg' count '$array w' 4" 'pg: wrong number of fields' 'pg: fields: 2; a diagram has 1, a FEN 6'
+  says "'$pg' moves $position" "error: unexpected argument 'w' found" '' 'Usage: pg_cli moves <FEN>' '' "For more information, try '--help'." \
+    'pg: quote the FEN: it is one word'
+  echo '1. e4 e5 2. Nf9' >../misspelt
+  says "'$pg' check $open 2.0 good.pgc ../misspelt" 'pg: line 1, ply 3: not a move' 'pg: the word is "Nf9"; legal there: Nf3, Nc3, Qf3'
+  says "'$pg' games $open 2.0 ../misspelt" 'pg: line 1, ply 3: not a move' 'pg: the word is "Nf9"; legal there: Nf3, Nc3, Qf3'
+  says "cat ../misspelt | '$pg' games $open 2.0" 'pg: line 1, ply 3: not a move'
+  says "'$pg' why good.pgc 'e4 Qd6'" 'pg: line 1, ply 2: no such legal move' 'pg: the word is "Qd6"; legal there: d6, b6, c6'
+  says "'$pg' check $queen 2.0 . games" 'pg: cannot open .' 'pg: it is no plain file'
+  says "'$pg' search $queen 2.0 -" 'pg: cannot open -' 'pg: it is standard input, which is not written'
+  printf 'e4 e5\n\ne4 e6\n' >../misfit
+  says "'$pg' games $open 1.0 ../misfit" 'pg: game 2 does not end on the diagram' \
+    'pg: line 3: it ends on rnbqkbnr/pppp1ppp/4p3/8/4P3/8/PPPP1PPP/RNBQKBNR' \
+    'pg: e5: empty there, black pawn on the diagram' 'pg: e6: black pawn there, empty on the diagram'
+  says "'$pg' cooks $queen 1.0 ../misfit" 'pg: game 1 does not end on the diagram' \
+    'pg: line 1: it ends on rnbqkbnr/pppp1ppp/8/4p3/4P3/8/PPPP1PPP/RNBQKBNR' 'pg: e4: white pawn there, empty on the diagram' \
+    'pg: d5: empty there, black queen on the diagram' 'pg: e5: black pawn there, empty on the diagram' \
+    'pg: d7: black pawn there, empty on the diagram' 'pg: squares that differ too: 2'
+  says "'$pg' check $open 7.5 good.pgc ../misfit" 'pg: game 1 does not have the stated length' \
+    'pg: line 1: it has 1.0 moves, 7.5 are wanted'
+  says "cat ../misfit | '$pg' games $open 1.0" 'pg: game 2 does not end on the diagram'
+  printf '1. e4 e5\nd4\ne2-e4 e7e5\n' >../twice
+  says "'$pg' games $open 1.0 - <../twice" 'pg: line 3: repeated game' 'pg: line 1 is the same game'
+  printf 'e4 e5\nNf3 \351' >../latin
+  says "'$pg' games $open 1.0 ../latin" 'pg: games are not UTF-8' 'pg: the first bad byte is byte 5 of line 2'
+  says "'$pg' games $open 2,0 ../misfit" 'pg: bad length' 'pg: a length is in moves, as 2.0 or 2.5' 'pg: try the length 2.0'
+  says "'$pg' show $open '8 plies'" 'pg: bad length' 'pg: a length is in moves, as 2.0 or 2.5' 'pg: try the length 4.0'
+  says "'$pg' search $open 4... new.pgc" 'pg: bad length' 'pg: a length is in moves, as 2.0 or 2.5' 'pg: try the length 4.0'
+  says "'$pg' search $open soon new.pgc" 'pg: bad length' 'pg: a length is in moves, as 2.0 or 2.5'
+  says "'$pg' check $queen 2.0 nothing games" 'pg: cannot open nothing' 'pg: No such file or directory (os error 2)'
+  says "'$pg' check $queen 2.0 games games" 'pg: cannot open games' 'pg: another word names this file'
+  says "'$pg' search $queen 2.0 new.pgc --games ./new.pgc" 'pg: cannot open ./new.pgc' 'pg: another word names this file'
+  gzip -c good.pgc >../packed
+  says "'$pg' check $queen 2.0 ../packed games" 'pg: not a certificate' 'pg: it looks packed by gzip; unpack it, or let `pg check` read it from a pipe'
+  says "'$pg' answer ../packed" 'pg: not a certificate' 'pg: it looks packed by gzip; unpack it, or let `pg check` read it from a pipe'
+  says "'$pg' answer nothing" 'pg: cannot open nothing' 'pg: No such file or directory (os error 2)'
+  says "'$pg' answer ../journeys.pgc" 'pg: unknown bound 5' 'pg: bound 5 is that by journeys: say --journeys'
+  says "'$pg' check $schweig 4.0 ../journeys.pgc ../knights" 'pg: unknown bound 5' 'pg: bound 5 is that by journeys: say --journeys'
+  says "'$pg' search $queen 3.0 new.pgc" 'pg: a game of 4 plies reaches the diagram' 'pg: try the length 2.0'
+  says "'$pg' search $cooked 3.5 new.pgc --nodes 8312" 'pg: node limit reached' 'pg: 8307 nodes, tree 3.5 of 3.5' 'pg: 2 games known: not sound' \
+    'pg: --journeys reaches further' 'pg: try `pg cooks` with a game, `pg show DIAGRAM LENGTH` for a forecast, or more --nodes'
+
+  # A page of a long certificate that is refused shows how far its check is, takes that away, and prints nothing.
+  { cat long.pgc; ones 24000000; } >../many.pgc
+  script -qec "'$pg' page ../many.pgc >../page.html" /dev/null </dev/null | tr -d '\n' | tr '\r' '\n' >"$work/said"
+  grep -q 'bytes [0-9]*% of file' "$work/said" || { echo "a long page does not show how far it is" >&2; wrong=1; }
+  [ "$(tail -n 1 "$work/said")" = $'\e[Kpg: truncated certificate' ] && [ ! -s ../page.html ] || { echo "a refused page leaves something" >&2; wrong=1; }
+
+  # A long search on 10 columns: what it shows does not wrap, has the tree, the share and the nodes to expect, and is taken away.
+  script -qec "stty cols 10; '$pg' search $stalemate 9.5 new.pgc --nodes 30000000" /dev/null </dev/null >"$work/said"
+  wraps=$'\e\\[?7h' cuts=$'\e\\[?7l' up=$'\e\\[A' clears=$'\r\e\\[K'
+  grep -q "${clears}${cuts}[0-9.]* [0-9]*k [0-9]*% of limit\(, tree ~[0-9]*[kMG]\)\?${wraps}" "$work/said" || { echo "a long search does not show how far it is" >&2; wrong=1; }
+  tr -d '\n' <"$work/said" | grep -q "$wraps"$'\r'"$up${clears}pg: node limit reached" || { echo "the line of a search is not taken away" >&2; wrong=1; }
+  on_terminal "TERM=dumb '$pg' search $stalemate 9.5 new.pgc --nodes 30000000" >"$work/said"
+  grep -q $'\e' "$work/said" && { echo "a dumb terminal gets escape sequences" >&2; wrong=1; }
+
+  # A long search that is interrupted leaves a whole line, and the cursor below it.
+  for seconds in 1.2 1.6 2.1; do
+    script -qec "timeout --foreground -s INT $seconds '$pg' search $stalemate 9.5 ../interrupted --nodes 3000000000" /dev/null </dev/null >"$work/said"
+    [ "$(tail -c 7 "$work/said"; echo .)" = $'\e[?7h\r\n.' ] || { echo "an interrupted search does not leave a whole line" >&2; wrong=1; }
+  done
+fi
+exit "$wrong"
