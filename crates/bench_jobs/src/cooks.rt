@@ -7,8 +7,9 @@ use crate::fault::Fault;
 use crate::games::{Game, Manner, play};
 use crate::settled::{Came, settle};
 use crate::texts::put_line;
-use pg_cooks::{Asked, CookAnswer, LedLimits, run_cooks};
-use pg_report::{Length, ToWrite, Unwatched};
+use pg_cooks::{CookAnswer, LedLimits, run_cooks};
+use pg_report::{Length, Problem, ToWrite, Unwatched};
+use pg_san::read_games;
 use std::alloc::Global;
 
 // How many nodes the searches visit at most: the one that settles, and the one that is led.
@@ -45,20 +46,18 @@ fn problem(alloc: Global, game: &Game, digest: &mut Digest) -> anyhow::Result<u6
     let Some(length) = game.length() else {
         return Err(Fault::NoAnswer("length"))?;
     };
-    let games = known(alloc, game, length, digest)?;
-    let diagram = game.diagram().write();
-    let length = length.write();
-    let asked = Asked {
-        diagram: diagram.as_str(),
-        length: length.as_str(),
-        games: games.as_str(),
+    let text = known(alloc, game, length, digest)?;
+    let Ok(games) = read_games(alloc, text.as_str()) else {
+        return Err(Fault::NoAnswer("list"))?;
     };
+    let diagram = game.diagram();
+    let problem = Problem { diagram, length };
     let limits = LedLimits {
         max_nodes: MOST_LED,
         foreign: None,
     };
     let mut out = ToWrite::new(Vec::new(alloc));
-    let answer = run_cooks(alloc, &asked, limits, &mut Unwatched, &mut out);
+    let answer = run_cooks(alloc, &problem, &games, limits, &mut Unwatched, &mut out);
     digest.text(out.into_inner().as_slice());
     match answer {
         Ok(CookAnswer::NotFound { nodes, .. }) => {

@@ -8,9 +8,10 @@ use crate::fault::Fault;
 use crate::games::any_move;
 use crate::texts::put_line;
 use pg_board::Square;
-use pg_cooks::{Asked, run_games};
+use pg_cooks::run_games;
 use pg_position::{Move, Position};
-use pg_report::{Diagram, Length, ToWrite};
+use pg_report::{Diagram, Length, Problem, ToWrite};
+use pg_san::read_games;
 use std::alloc::Global;
 
 // So many pawns of each colour advance, in so many orders.
@@ -161,15 +162,12 @@ pub(crate) fn run(
         let Some(length) = Length::from_plies(list.plies) else {
             return Err(Fault::NoAnswer("length"))?;
         };
-        let diagram = Diagram::of(&list.end).write();
-        let length = length.write();
-        let asked = Asked {
-            diagram: diagram.as_str(),
-            length: length.as_str(),
-            games: list.text.as_str(),
+        let diagram = Diagram::of(&list.end);
+        let Ok(games) = read_games(alloc, list.text.as_str()) else {
+            return Err(Fault::NoAnswer("list"))?;
         };
         let mut out = ToWrite::new(Vec::new(alloc));
-        if run_games(alloc, &asked, &mut out).is_err() {
+        if run_games(&Problem { diagram, length }, &games, &mut out).is_err() {
             return Err(Fault::NoAnswer("games"))?;
         }
         digest.text(out.into_inner().as_slice());
