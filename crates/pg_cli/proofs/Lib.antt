@@ -1,7 +1,6 @@
-pub mod AnswerLemmas
-pub mod CauseLemmas
 pub mod CommandLemmas
 pub mod KnowingLemmas
 pub mod ShowLemmas
+pub mod StatusLemmas
+pub mod WordLemmas
 pub mod WrittenLemmas
-mod JudgeLemmas

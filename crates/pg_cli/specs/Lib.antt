@@ -1,7 +1,5 @@
 pub mod Answers
-pub mod Causes
 pub mod Knowing
-pub mod Reasons
 pub mod Refusals
+pub mod Runs
 pub mod Words
-pub mod Written

@@ -1,8 +1,9 @@
--- The status with which the program ends where a command has no answer.
+-- The refusal that a fault of a file is, and the status with which the program ends where a command has no answer.
 use Rattle.std.specs.Prelude.{ℕ}
 use Rattle.pg_files.specs.declared.faults.FileFault.{FileFault}
 use Rattle.pg_files.specs.declared.faults.FileFault.TheVariants as file
 use Rattle.pg_report.specs.Statuses.{answer_status_of, status_of, search_status_of, show_status_of, moves_status_of, count_status_of, upgrade_status_of}
+use Rattle.pg_cli.specs.declared.refusals.Named.{Named}
 use Rattle.pg_cli.specs.declared.refusals.Refusal.{Refusal}
 use Rattle.pg_cli.specs.declared.refusals.Refusal.TheVariants.{Words, Minutes, Open, Line, NoGame, NotUtf8, Read, Write, Memory, Show, Moves, Count, Search, GaveUp, Upgrade, Check, Answer}
 
@@ -27,9 +28,9 @@ refusal_status (Upgrade fault) = upgrade_status_of fault
 refusal_status (Check fault) = status_of fault
 refusal_status (Answer fault) = answer_status_of fault
 
--- 3 for want of memory, 4 for a file that is not opened, created, read or written
-abbrev pub file_status : FileFault → ℕ
-file_status file.Memory = 3
-file_status (file.Open obstacle) = 4
-file_status file.Read = 4
-file_status file.Write = 4
+-- the refusal that a fault of the file is which this word names
+abbrev pub file_refusal : FileFault → Named → Refusal
+file_refusal (file.Open obstacle) name = Open name obstacle
+file_refusal file.Read name = Read
+file_refusal file.Write name = Write
+file_refusal file.Memory name = Memory

@@ -1,6 +1,7 @@
 -- What the words of a command spell, and what its status says of that.
-use Rattle.std.specs.Prelude.{◌≡◌, ◌⊎◌, ℕ, ◌<◌, List, [], Ok, Option, Some, None, IfSome, codes, option_map, unwrap_or}
-use Rattle.clap.specs.Words.{Row, Text, first_of, subcommand_name_of, subcommand_rows_of}
+use Rattle.std.specs.Prelude.{◌≡◌, ◌⊎◌, ℕ, ◌<◌, ◌≤◌, ◌^◌, List, [], Ok, Option, Some, None, IfSome, codes, option_map, unwrap_or}
+use Rattle.std.specs.Str.Parse.{IsNumeral, digits_value, without_leading_plus}
+use Rattle.clap.specs.Words.{Row, Text, first_of, one_of, subcommand_name_of, subcommand_rows_of}
 use Rattle.clap.specs.declared.parser.matches.ArgMatches.{ArgMatches}
 use Rattle.pg_board.specs.Placement.{Placement}
 use Rattle.pg_position.specs.declared.moves.Move.{Move}
@@ -17,6 +18,25 @@ use Rattle.pg_cli.specs.Knowing.{AreUnsound, AreTested, AreFollowed}
 -- the text of the word with this name; no text where there is none
 abbrev pub spelled : Text → List Row → List ℕ
 spelled name rows = unwrap_or (first_of name rows) []
+
+-- the words DIAGRAM and LENGTH spell the diagram d and a length of n plies
+abbrev pub IsSpelled : List Row → Placement → ℕ → Type 0
+IsSpelled rows d n = (diagram_of (fields (spelled (codes "DIAGRAM") rows)) ≡ Ok d)
+    × (length_of (spelled (codes "LENGTH") rows) ≡ Ok n)
+
+-- the number that a word spells, where it fits so many bits, or the usual one where there is no such word
+abbrev pub IsNumber : ℕ → Option Text → ℕ → ℕ → Type 0
+IsNumber bits None usual n = n ≡ usual
+IsNumber bits (Some text) usual n =
+    IsNumeral 10 (without_leading_plus text) → digits_value 10 (without_leading_plus text) < 2 ^ bits
+    → n ≡ digits_value 10 (without_leading_plus text)
+
+-- so it is of as many plies as the words ask for, and by as many records as they allow
+abbrev pub OfPlies : List Row → (ℕ → Type 0) → Type 0
+OfPlies rows Is = (n : ℕ) × IsNumber 8 (one_of (codes "PLIES") rows) 255 n × Is n
+
+abbrev pub ByRecords : List Row → (ℕ → Type 0) → Type 0
+ByRecords rows Is = (n : ℕ) × IsNumber 64 (one_of (codes "records") rows) 100000000 n × Is n
 
 -- what a status of `pg check` says: the words DIAGRAM and LENGTH and some text of games
 -- spell a diagram, a length and a list, and the list is the exact answer, with this status
@@ -48,9 +68,13 @@ abbrev pub IsFollowed : List Row → ℕ → Type 0
 IsFollowed rows status = (status ≡ 1 → AreUnsound (spelled (codes "DIAGRAM") rows) (spelled (codes "LENGTH") rows))
     × ((games : List ℕ) × AreFollowed (spelled (codes "DIAGRAM") rows) (spelled (codes "LENGTH") rows) games status)
 
--- what a status of `pg moves` or `pg count` says: the word FEN spells a position, and the status is 0
+-- what a status of `pg moves` says: the word FEN spells a position, and the status is 0
 abbrev pub HasPosition : List Row → ℕ → Type 0
 HasPosition rows status = ((p : State) × SpellsPosition (spelled (codes "FEN") rows) p) × (status ≡ 0)
+
+-- what a status of `pg count` says: the same, and PLIES spells no more than 8
+abbrev pub HasFewPlies : List Row → ℕ → Type 0
+HasFewPlies rows status = HasPosition rows status × OfPlies rows (λ plies. plies ≤ 8)
 
 -- a length is asked where this word is there, and it is the one that the word spells
 abbrev pub IsAsked : Option Text → Option ℕ → Type 0
@@ -96,7 +120,7 @@ name_of Upgrade = codes "upgrade"
 abbrev pub says : (Placement → ℕ → Type 0) → Command → List Row → ℕ → Type 0
 says Names Show rows status = HasDiagram rows status
 says Names Moves rows status = HasPosition rows status
-says Names Count rows status = HasPosition rows status
+says Names Count rows status = HasFewPlies rows status
 says Names Games rows status = IsTested rows status
 says Names Cooks rows status = IsFollowed rows status
 says Names Check rows status = IsChecked rows status

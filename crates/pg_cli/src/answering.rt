@@ -3,16 +3,18 @@
 ghost use Rattle.std.specs.Prelude.{◌≡◌, IfOk, IfErr, IfSome};
 ghost use Rattle.pg_checker.specs.Cuts.{any_rules_by, rules_by};
 ghost use Rattle.pg_checker.specs.Terms.{terms};
-ghost use Rattle.pg_report.specs.Naming.{Begins, IsNamed};
+ghost use Rattle.clap.specs.Words.{found_of, rows_of};
+ghost use Rattle.pg_report.specs.Naming.{Begins, IsNamed, IsUnnamed};
+ghost use Rattle.pg_report.specs.declared.fault.AnswerRunFault.{AnswerRunFault};
 ghost use Rattle.pg_report.specs.Run.{failures};
 ghost use Rattle.pg_streams.specs.Buffer.{sink_of};
 ghost use Rattle.pg_cli.specs.Answers.{HasAnswer, IsAnsweredBySome, IsHandedAnswer, IsNamedIn};
-ghost use Rattle.pg_cli.specs.Causes.{IsAnswerCause, IsCertificateCause};
-ghost use Rattle.pg_cli.specs.Reasons.{IsAnswerRefusal, IsHeaderRefusal};
+ghost use Rattle.pg_cli.specs.Runs.{IsAnswerRefusal};
+ghost use Rattle.pg_cli.specs.Words.{ByRecords};
 
-use crate::checking::{RECORDS, finished};
+use crate::checking::finished;
 use crate::refusals::{Named, Refusal};
-use crate::spelling::text_of;
+use crate::spelling::{records_of, text_of};
 use clap::ArgMatches;
 use pg_certificate::format::MOST_NAMED;
 use pg_files::{open_plain, size_of};
@@ -32,25 +34,26 @@ use std::rt::Runtime;
 //
 // # Errors
 // `Answer` with the fault of the run, or `Check` with `Write` where the rest of the report is refused.
-pub(crate) fn answer_from<S: Source, W: Sink>(
+pub(crate) fn answer_on<S: Source, W: Sink>(
     alloc: Global,
+    words: &ArgMatches<'_>,
     problem: &Problem,
     bounds: &[Box<dyn Bound>],
     source: &mut S,
     out: &mut Gathered<W>,
-    records: u64,
 ) -> Result<u8, Refusal>
     ensures headline { IfOk result (λ status. HasAnswer problem.now.diagram problem.now.length status) }
-    ensures report { IfOk result (λ status. IsHandedAnswer
+    ensures report { IfOk result (λ status. ByRecords (rows_of (found_of words.now)) (λ records. IsHandedAnswer
         (terms (rules_by code_of excluded bounds.now) records MOST_NAMED (S.left source.old))
         problem.now.diagram problem.now.length
-        (⟦<Gathered<W> as Sink>⟧.held out.old) (W.held (sink_of out.new)) status) }
-    ensures err { IfErr result (λ refusal. IsAnswerRefusal
+        (⟦<Gathered<W> as Sink>⟧.held out.old) (W.held (sink_of out.new)) status)) }
+    ensures err { IfErr result (λ refusal. ByRecords (rows_of (found_of words.now)) (λ records. IsAnswerRefusal
         (terms (rules_by code_of excluded bounds.now) records MOST_NAMED (S.left source.old))
         (terms (any_rules_by code_of excluded bounds.now) records MOST_NAMED (S.left source.old))
         problem.now.diagram problem.now.length
-        (failures (S.has_failed source.new) (⟦<Gathered<W> as Sink>⟧.has_failed out.new)) refusal) }
+        (failures (S.has_failed source.new) (⟦<Gathered<W> as Sink>⟧.has_failed out.new)) refusal)) }
 {
+    let records = records_of(words);
     match run_answer(alloc, problem, bounds, source, out, records, MOST_NAMED) {
         Ok(verdict) => finished(verdict_status(verdict), out),
         Err(fault) => Err(Refusal::Answer(fault)),
@@ -60,7 +63,8 @@ pub(crate) fn answer_from<S: Source, W: Sink>(
 // The problem that the header at the front of a source names.
 fn problem_from<S: Source>(source: &mut S) -> Result<Problem, Refusal>
     ensures named { IfOk result (λ p. IfSome (S.left source.old) (Begins (λ h. IsNamed h p.diagram p.length))) }
-    ensures err { IfErr result (λ refusal. IsHeaderRefusal refusal) }
+    ensures err { IfErr result (λ refusal. (fault : AnswerRunFault) × (refusal ≡ Refusal.Answer fault)
+        × IsUnnamed (S.left source.old) (S.has_failed source.new) fault) }
 {
     match read_problem(source) {
         Ok(problem) => Ok(problem),
@@ -70,14 +74,10 @@ fn problem_from<S: Source>(source: &mut S) -> Result<Problem, Refusal>
 
 // The problem that the header of a file names. The file is at its start then.
 fn problem_in<F: Read + Seek>(file: &mut F) -> Result<Problem, Refusal>
-    ensures named { IfOk result (λ p. IfSome (F.remaining file.old) (Begins (λ h. IsNamed h p.diagram p.length))) }
-    ensures err { IfErr result (λ refusal. IsHeaderRefusal refusal) }
+    ensures { IfOk result (λ p. IfSome (F.remaining file.old) (Begins (λ h. IsNamed h p.diagram p.length))) }
 {
     let mut source = FromRead::new(&mut *file);
-    let problem = match problem_from(&mut source) {
-        Ok(problem) => problem,
-        Err(refusal) => return Err(refusal),
-    };
+    let problem = problem_from(&mut source)?;
     match file.seek(SeekFrom::Start(0)) {
         Ok(_) => Ok(problem),
         Err(_) => Err(Refusal::Read),
@@ -93,8 +93,7 @@ pub(crate) fn certificate_of<R: Runtime + AllocGlobal>(
     rt: &R,
     name: &str,
 ) -> Result<(R::File, Problem), Refusal>
-    ensures named { IfOk result (λ found. IsNamedIn R.File.remaining found.1.diagram found.1.length) }
-    ensures err { IfErr result (λ refusal. IsCertificateCause refusal) }
+    ensures { IfOk result (λ found. IsNamedIn R.File.remaining found.1.diagram found.1.length) }
 {
     let mut file = match open_plain(rt, name) {
         Ok(file) => file,
@@ -124,19 +123,15 @@ pub(crate) fn answer<R: Runtime + AllocGlobal>(
     bounds: &[Box<dyn Bound>],
     screen: bool,
 ) -> Result<u8, Refusal>
-    ensures headline { IfOk result (λ status. IsAnsweredBySome (IsNamedIn R.File.remaining) status) }
-    ensures err { IfErr result (λ refusal. IsAnswerCause (rules_by code_of excluded bounds.now) refusal) }
+    ensures { IfOk result (λ status. IsAnsweredBySome (IsNamedIn R.File.remaining) status) }
 {
     let name = text_of(words, "CERT");
-    let (certificate, problem) = match certificate_of(rt, name) {
-        Ok(found) => found,
-        Err(refusal) => return Err(refusal),
-    };
-    let records = words.get_one::<u64>("records").unwrap_or(RECORDS);
+    let found = certificate_of(rt, name)?;
+    let (certificate, problem) = found;
     let terminal = Terminal::new(screen);
     let mut source = Passing::new(rt, &terminal, certificate, size_of(rt, name));
     let mut out = Gathered::new(Cleared::new(ToWrite::new(io::writer(rt)), rt, &terminal));
-    let answer = answer_from(rt.alloc(), &problem, bounds, &mut source, &mut out, records);
+    let answer = answer_on(rt.alloc(), words, &problem, bounds, &mut source, &mut out);
     source.end();
     answer
 }

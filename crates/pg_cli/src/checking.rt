@@ -1,6 +1,6 @@
 //! `pg check`: a certificate is checked for a diagram, a length and a list of games.
 
-ghost use Rattle.std.specs.Prelude.{◌≡◌, true, IfOk, IfErr, OnOk};
+ghost use Rattle.std.specs.Prelude.{◌≡◌, true, codes, IfOk, IfErr, OnOk};
 ghost use Rattle.std.specs.Io.KnownBytes.{Keeps};
 ghost use Rattle.pg_checker.specs.Cuts.{rules_by};
 ghost use Rattle.pg_checker.specs.Terms.{terms};
@@ -10,14 +10,12 @@ ghost use Rattle.pg_report.specs.Run.{failures};
 ghost use Rattle.pg_streams.specs.Buffer.{IsHandedOn, sink_of};
 ghost use Rattle.pg_texts.specs.Report.{IsReport};
 ghost use Rattle.pg_cli.specs.Answers.{AreAnswered};
-ghost use Rattle.pg_cli.specs.Causes.{IsCheckCause, IsListCause, IsOtherListCause};
-ghost use Rattle.pg_cli.specs.Reasons.{IsCheckRefusal};
-ghost use Rattle.pg_cli.specs.Words.{IsChecked};
-ghost use Rattle.pg_cli.specs.Written.{AddsOf};
+ghost use Rattle.pg_cli.specs.Runs.{AddsOf, IsCheckRefusal};
+ghost use Rattle.pg_cli.specs.Words.{ByRecords, IsChecked, spelled};
 
 use crate::refusals::{Named, Refusal};
 use crate::screen::Screen;
-use crate::spelling::{problem_in, text_of};
+use crate::spelling::{problem_in, records_of, text_of};
 use clap::ArgMatches;
 use pg_certificate::format::MOST_NAMED;
 use pg_files::{INPUT, Obstacle, is_input, lead_to_one, list, open, size_of};
@@ -26,17 +24,6 @@ use pg_streams::{Cleared, Gathered, Passing, Terminal};
 use std::alloc::Global;
 use std::rt::Runtime;
 use std::{io, str};
-
-// So many records are read at most, where the words do not say it.
-pub(crate) const RECORDS: u64 = 100_000_000;
-
-// What is asked: the texts of a diagram and of a length, and the bytes of a list of games.
-#[derive(Clone, Copy)]
-pub(crate) struct Asked<'a> {
-    pub(crate) diagram: &'a str,
-    pub(crate) length: &'a str,
-    pub(crate) games: &'a [u8],
-}
 
 // The status that a report has, once the report is wholly handed on.
 //
@@ -61,37 +48,32 @@ pub(crate) fn finished<W: Sink>(status: u8, out: &mut Gathered<W>) -> Result<u8,
 //
 // # Errors
 // `NotUtf8` where the list is not UTF-8, else `Check` with the fault of the check.
-pub(crate) fn check_from<S: Source, W: Sink>(
+pub(crate) fn check_on<S: Source, W: Sink>(
     alloc: Global,
-    asked: &Asked<'_>,
+    words: &ArgMatches<'_>,
     bounds: &[Box<dyn Bound>],
+    list: &[u8],
     source: &mut S,
     out: &mut Gathered<W>,
-    records: u64,
 ) -> Result<u8, Refusal>
-    ensures headline { IfOk result (λ status. AreAnswered asked.now.diagram.now asked.now.length.now
-        asked.now.games.now status) }
-    ensures report { OnOk result (AddsOf IsReport asked.now
+    ensures headline { IfOk result (λ status. AreAnswered (spelled (codes "DIAGRAM") (rows_of (found_of words.now)))
+        (spelled (codes "LENGTH") (rows_of (found_of words.now))) list.now status) }
+    ensures report { OnOk result (AddsOf IsReport (rows_of (found_of words.now)) list.now
         (⟦<Gathered<W> as Sink>⟧.held out.old) (W.held (sink_of out.new))) }
-    ensures err { IfErr result (λ refusal. IsCheckRefusal
+    ensures err { IfErr result (λ refusal. ByRecords (rows_of (found_of words.now)) (λ records. IsCheckRefusal
+        (rows_of (found_of words.now)) list.now
         (terms (rules_by code_of excluded bounds.now) records MOST_NAMED (S.left source.old))
-        asked.now
-        (failures (S.has_failed source.new) (⟦<Gathered<W> as Sink>⟧.has_failed out.new)) refusal) }
+        (failures (S.has_failed source.new) (⟦<Gathered<W> as Sink>⟧.has_failed out.new)) refusal)) }
 {
-    let games = match str::from_utf8(asked.games) {
+    let records = records_of(words);
+    let diagram = text_of(words, "DIAGRAM");
+    let length = text_of(words, "LENGTH");
+    let games = match str::from_utf8(list) {
         Ok(games) => games,
         Err(_) => return Err(Refusal::NotUtf8),
     };
     match run_check(
-        alloc,
-        asked.diagram,
-        asked.length,
-        games,
-        bounds,
-        source,
-        out,
-        records,
-        MOST_NAMED,
+        alloc, diagram, length, games, bounds, source, out, records, MOST_NAMED,
     ) {
         Ok(verdict) => finished(verdict_status(verdict), out),
         Err(fault) => Err(Refusal::Check(fault)),
@@ -104,9 +86,7 @@ pub(crate) fn games_of<R: Runtime + AllocGlobal>(
     rt: &R,
     words: &ArgMatches<'_>,
     screen: Screen,
-) -> Result<Vec<u8>, Refusal>
-    ensures err { IfErr result (λ refusal. IsListCause (rows_of (found_of words.now)) refusal) }
-{
+) -> Result<Vec<u8>, Refusal> {
     let name = words.get_str("GAMES").unwrap_or(INPUT);
     if is_input(name) && screen.input {
         match problem_in(words) {
@@ -129,9 +109,7 @@ fn other_games_of<R: Runtime + AllocGlobal>(
     rt: &R,
     words: &ArgMatches<'_>,
     screen: Screen,
-) -> Result<Vec<u8>, Refusal>
-    ensures err { IfErr result (λ refusal. IsOtherListCause (rows_of (found_of words.now)) refusal) }
-{
+) -> Result<Vec<u8>, Refusal> {
     let certificate = text_of(words, "CERT");
     if let Some(name) = words.get_str("GAMES") {
         if lead_to_one(rt, certificate, name) {
@@ -154,31 +132,19 @@ pub(crate) fn check<R: Runtime + AllocGlobal>(
     bounds: &[Box<dyn Bound>],
     screen: Screen,
 ) -> Result<u8, Refusal>
-    ensures headline { IfOk result (λ status. IsChecked (rows_of (found_of words.now)) status) }
-    ensures err { IfErr result (λ refusal. IsCheckCause (rules_by code_of excluded bounds.now)
-        (rows_of (found_of words.now)) refusal) }
+    ensures { IfOk result (λ status. IsChecked (rows_of (found_of words.now)) status) }
 {
     let name = text_of(words, "CERT");
     let certificate = match open(rt, name) {
         Ok(certificate) => certificate,
         Err(fault) => return Err(Refusal::of_file(fault, Named::Certificate)),
     };
-    let games = match other_games_of(rt, words, screen) {
-        Ok(games) => games,
-        Err(refusal) => return Err(refusal),
-    };
-    let diagram = text_of(words, "DIAGRAM");
-    let length = text_of(words, "LENGTH");
-    let asked = Asked {
-        diagram,
-        length,
-        games: games.as_slice(),
-    };
-    let records = words.get_one::<u64>("records").unwrap_or(RECORDS);
+    let games = other_games_of(rt, words, screen)?;
     let terminal = Terminal::new(screen.lines);
     let mut source = Passing::new(rt, &terminal, certificate, size_of(rt, name));
     let mut out = Gathered::new(Cleared::new(ToWrite::new(io::writer(rt)), rt, &terminal));
-    let answer = check_from(rt.alloc(), &asked, bounds, &mut source, &mut out, records);
+    let list = games.as_slice();
+    let answer = check_on(rt.alloc(), words, bounds, list, &mut source, &mut out);
     source.end();
     answer
 }

@@ -1,19 +1,18 @@
 //! `pg why`: a certificate explains a line of moves.
-ghost use Rattle.std.specs.Prelude.{◌≡◌, IfOk, IfErr, OnOk};
+ghost use Rattle.std.specs.Prelude.{◌≡◌, codes, IfOk, IfErr, OnOk};
 ghost use Rattle.pg_checker.specs.Cuts.{any_rules_by, rules_by};
 ghost use Rattle.pg_checker.specs.Terms.{terms};
 ghost use Rattle.clap.specs.Words.{found_of, rows_of};
 ghost use Rattle.pg_guide.specs.Why.{failures};
 ghost use Rattle.pg_streams.specs.Buffer.{IsHandedOn};
 ghost use Rattle.pg_cli.specs.Answers.{HasList, IsNamedIn};
-ghost use Rattle.pg_cli.specs.Causes.{IsWhyCause};
-ghost use Rattle.pg_cli.specs.Reasons.{IsWhyRefusal, why_refusal};
-ghost use Rattle.pg_cli.specs.Words.{IsExplained};
+ghost use Rattle.pg_cli.specs.Runs.{IsWhyRefusal, why_refusal};
+ghost use Rattle.pg_cli.specs.Words.{ByRecords, IsExplained, spelled};
 
 use crate::answering::certificate_of;
-use crate::checking::{RECORDS, finished};
+use crate::checking::finished;
 use crate::refusals::{DONE, Refusal};
-use crate::spelling::text_of;
+use crate::spelling::{records_of, text_of};
 use clap::ArgMatches;
 use pg_certificate::format::MOST_NAMED;
 use pg_files::size_of;
@@ -23,14 +22,6 @@ use pg_streams::{Cleared, Gathered, Passing, Terminal};
 use std::alloc::Global;
 use std::io;
 use std::rt::Runtime;
-
-// What is asked: the problem of a certificate, the text of a line of moves, and how many records are read at most.
-#[derive(Clone, Copy)]
-pub(crate) struct Asked<'a> {
-    pub(crate) problem: &'a Problem,
-    pub(crate) moves: &'a str,
-    pub(crate) records: u64,
-}
 
 // Why a line is not explained, as a refusal.
 fn refusal_of(fault: WhyFault) -> Refusal
@@ -51,27 +42,26 @@ fn refusal_of(fault: WhyFault) -> Refusal
 // # Errors
 // `Check` with `Games` where the moves are refused, and `Line` where they are not one game; `Answer` where the
 // certificate does not give its games; `Memory`; and `Check` with `Write` where writing is refused.
-pub(crate) fn why_from<S: Source, W: Sink>(
+pub(crate) fn why_on<S: Source, W: Sink>(
     alloc: Global,
-    asked: &Asked<'_>,
+    words: &ArgMatches<'_>,
+    problem: &Problem,
     bounds: &[Box<dyn Bound>],
     source: &mut S,
     out: &mut Gathered<W>,
 ) -> Result<u8, Refusal>
-    ensures right { OnOk result (HasList asked.now.problem.now.diagram asked.now.problem.now.length) }
+    ensures right { OnOk result (HasList problem.now.diagram problem.now.length) }
     ensures zero { IfOk result (λ status. status ≡ 0) }
     ensures handed { OnOk result (IsHandedOn out.new) }
-    ensures err { IfErr result (λ refusal. IsWhyRefusal asked.now.moves.now
-        (terms (rules_by code_of excluded bounds.now) asked.now.records MOST_NAMED (S.left source.old))
-        (terms (any_rules_by code_of excluded bounds.now) asked.now.records MOST_NAMED (S.left source.old))
-        asked.now.problem.now.diagram asked.now.problem.now.length
-        (failures (S.has_failed source.new) (⟦<Gathered<W> as Sink>⟧.has_failed out.new)) refusal) }
+    ensures err { IfErr result (λ refusal. ByRecords (rows_of (found_of words.now)) (λ records. IsWhyRefusal
+        (spelled (codes "MOVES") (rows_of (found_of words.now)))
+        (terms (rules_by code_of excluded bounds.now) records MOST_NAMED (S.left source.old))
+        (terms (any_rules_by code_of excluded bounds.now) records MOST_NAMED (S.left source.old))
+        problem.now.diagram problem.now.length
+        (failures (S.has_failed source.new) (⟦<Gathered<W> as Sink>⟧.has_failed out.new)) refusal)) }
 {
-    let Asked {
-        problem,
-        moves,
-        records,
-    } = *asked;
+    let moves = text_of(words, "MOVES");
+    let records = records_of(words);
     match explain(
         alloc, problem, moves, bounds, source, out, records, MOST_NAMED,
     ) {
@@ -89,26 +79,15 @@ pub(crate) fn why<R: Runtime + AllocGlobal>(
     bounds: &[Box<dyn Bound>],
     screen: bool,
 ) -> Result<u8, Refusal>
-    ensures headline { IfOk result (λ status. IsExplained (IsNamedIn R.File.remaining) status) }
-    ensures err { IfErr result (λ refusal. IsWhyCause (rules_by code_of excluded bounds.now)
-        (rows_of (found_of words.now)) refusal) }
+    ensures { IfOk result (λ status. IsExplained (IsNamedIn R.File.remaining) status) }
 {
     let name = text_of(words, "CERT");
-    let (certificate, problem) = match certificate_of(rt, name) {
-        Ok(found) => found,
-        Err(refusal) => return Err(refusal),
-    };
-    let moves = text_of(words, "MOVES");
-    let records = words.get_one::<u64>("records").unwrap_or(RECORDS);
-    let asked = Asked {
-        problem: &problem,
-        moves,
-        records,
-    };
+    let found = certificate_of(rt, name)?;
+    let (certificate, problem) = found;
     let terminal = Terminal::new(screen);
     let mut source = Passing::new(rt, &terminal, certificate, size_of(rt, name));
     let mut out = Gathered::new(Cleared::new(ToWrite::new(io::writer(rt)), rt, &terminal));
-    let answer = why_from(rt.alloc(), &asked, bounds, &mut source, &mut out);
+    let answer = why_on(rt.alloc(), words, &problem, bounds, &mut source, &mut out);
     source.end();
     answer
 }

@@ -1,10 +1,9 @@
 //! `pg judge`: the problems of a file are judged one after the other, and each has a row as soon as it is known.
 
-ghost use Rattle.std.specs.Prelude.{◌≡◌, ◌<◌, ℕ, All, IfOk, IfErr};
+ghost use Rattle.std.specs.Prelude.{◌≡◌, ◌<◌, ℕ, All, IfOk};
 ghost use Rattle.pg_board.specs.Placement.{Placement};
 ghost use Rattle.pg_san.specs.GameText.{lines};
 ghost use Rattle.pg_judge.specs.Ruling.{IsFinding, IsSound, IsSoundLine};
-ghost use Rattle.pg_cli.specs.Causes.{IsJudgeCause, IsOfFile};
 
 use crate::limits::{Reach, reach_of};
 use crate::refusals::{Named, Refusal};
@@ -24,7 +23,6 @@ use pg_pawns::PawnFiles;
 use pg_san::{GamesFault, next_line};
 use pg_streams::{Cleared, Deadline, Gathered, JudgeLine, Terminal};
 use pg_travel::{Rows, TravelByRows};
-use std::alloc::AllocError;
 use std::collections::BTreeSet;
 use std::fmt::Display;
 use std::fs::OpenFile;
@@ -156,8 +154,7 @@ fn judge_to<R: Runtime + AllocGlobal, P: JudgeProgress>(
     path: &str,
     watch: &mut P,
 ) -> Result<Ruling, Refusal>
-    ensures headline { IfOk result (λ r. IsFinding entry.now.problem.diagram entry.now.problem.length r.finding) }
-    ensures err { IfErr result (λ refusal. IsOfFile Named.Folder refusal) }
+    ensures { IfOk result (λ r. IsFinding entry.now.problem.diagram entry.now.problem.length r.finding) }
 {
     let draft = match begin(rt, path) {
         Ok(draft) => draft,
@@ -184,9 +181,8 @@ fn judge_by<R: Runtime + AllocGlobal, P: JudgeProgress>(
     asked: &Asked<'_>,
     watch: &mut P,
 ) -> Result<Judged, Refusal>
-    ensures headline { IfOk result (λ j. IsFinding entry.now.problem.diagram entry.now.problem.length
+    ensures { IfOk result (λ j. IsFinding entry.now.problem.diagram entry.now.problem.length
         j.ruling.finding) }
-    ensures err { IfErr result (λ refusal. IsOfFile Named.Folder refusal) }
 {
     let limits = Limits {
         max_nodes: asked.reach.nodes,
@@ -212,25 +208,19 @@ fn judge_by<R: Runtime + AllocGlobal, P: JudgeProgress>(
         }
         Err(refused) => refused,
     };
-    match judge_to(rt, entry, bounds, limits, path.as_str(), watch) {
-        Ok(ruling) => Ok(Judged { ruling, refused }),
-        Err(refusal) => Err(refusal),
-    }
+    let ruling = judge_to(rt, entry, bounds, limits, path.as_str(), watch)?;
+    Ok(Judged { ruling, refused })
 }
 
 // Judges a problem by the five bounds.
-//
-// # Errors
-// `AllocError` where a growth was refused before.
 fn judge_entry<R: Runtime + AllocGlobal, P: JudgeProgress>(
     rt: &R,
     entry: &Entry<'_>,
     asked: &Asked<'_>,
     watch: &mut P,
-) -> Result<Result<Judged, Refusal>, AllocError>
-    ensures headline { IfOk result (λ r. IfOk r (λ j. IsFinding entry.now.problem.diagram entry.now.problem.length
-        j.ruling.finding)) }
-    ensures err { IfOk result (λ r. IfErr r (λ refusal. IsOfFile Named.Folder refusal)) }
+) -> Result<Judged, Refusal>
+    ensures { IfOk result (λ j. IsFinding entry.now.problem.diagram entry.now.problem.length
+        j.ruling.finding) }
 {
     let captures = Box::new(rt.alloc(), Captures)?;
     let promotions = Box::new(rt.alloc(), Promotions)?;
@@ -240,7 +230,7 @@ fn judge_entry<R: Runtime + AllocGlobal, P: JudgeProgress>(
     let remembering = JourneysByMemory::new(rt.alloc(), &entry.problem.diagram)?;
     let journeys = Box::new(rt.alloc(), remembering)?;
     let bounds: [Box<dyn Bound>; 5] = [captures, promotions, pawn_files, travel, journeys];
-    Ok(judge_by(rt, entry, &bounds, asked, watch))
+    judge_by(rt, entry, &bounds, asked, watch)
 }
 
 // The status of a ruling: 0 only where the problem is sound.
@@ -272,17 +262,12 @@ fn judge_and_tell<R: Runtime + AllocGlobal, W: Sink>(
 ) -> Result<u8, Refusal>
     ensures headline { IfOk result (λ s. s ≡ 0 → IsSound entry.now.problem.diagram entry.now.problem.length) }
     ensures few { IfOk result (λ s. s < 3) }
-    ensures err { IfErr result (λ refusal. IsOfFile Named.Folder refusal) }
 {
     let mut watch = Watch {
         line: JudgeLine::new(rt, terminal, place.number, place.count),
         deadline: Deadline::new(rt, asked.reach.milliseconds),
     };
-    let judged = match judge_entry(rt, entry, asked, &mut watch) {
-        Ok(Ok(judged)) => judged,
-        Ok(Err(refusal)) => return Err(refusal),
-        Err(AllocError) => return Err(Refusal::Memory),
-    };
+    let judged = judge_entry(rt, entry, asked, &mut watch)?;
     watch.line.end();
     if write_row(entry, &judged.ruling, judged.refused, out).is_err() || out.flush().is_err() {
         return Err(Refusal::Write);
@@ -309,7 +294,6 @@ fn judge_line<'t, R: Runtime + AllocGlobal, W: Sink>(
 ) -> Result<u8, Refusal>
     ensures headline { IfOk result (λ s. s ≡ 0 → IsSoundLine line.now) }
     ensures few { IfOk result (λ s. s < 3) }
-    ensures err { IfErr result (λ refusal. IsOfFile Named.Folder refusal) }
 {
     seen.lines = seen.lines.saturating_add(1);
     let entry = match read_entry(rt.alloc(), line) {
@@ -367,7 +351,6 @@ fn judge_all<R: Runtime + AllocGlobal, W: Sink>(
 ) -> Result<u8, Refusal>
     ensures headline { IfOk result (λ s. s ≡ 0 → All IsSoundLine (lines text.now)) }
     ensures few { IfOk result (λ s. s < 3) }
-    ensures err { IfErr result (λ refusal. IsOfFile Named.Folder refusal) }
 {
     let mut seen = Seen {
         lines: 0,
@@ -382,18 +365,17 @@ fn judge_all<R: Runtime + AllocGlobal, W: Sink>(
     while let Some(left) = rest {
         let (line, after) = next_line(left);
         rest = after;
-        match judge_line(rt, line, asked, &mut seen, terminal, out) {
-            Ok(status) => worst = worse(worst, status),
-            Err(refusal) => return Err(refusal),
-        }
+        let status = judge_line(rt, line, asked, &mut seen, terminal, out)?;
+        worst = worse(worst, status);
     }
     Ok(worst)
 }
 
 // The bytes of the list of problems: of a file, or of standard input where its name is a hyphen.
-fn problems_of<R: Runtime + AllocGlobal>(rt: &R, words: &ArgMatches<'_>) -> Result<Vec<u8>, Refusal>
-    ensures { IfErr result (λ refusal. IsOfFile Named.Problems refusal) }
-{
+fn problems_of<R: Runtime + AllocGlobal>(
+    rt: &R,
+    words: &ArgMatches<'_>,
+) -> Result<Vec<u8>, Refusal> {
     match list(rt, text_of(words, "PROBLEMS")) {
         Ok(text) => Ok(text),
         Err(fault) => Err(Refusal::of_file(fault, Named::Problems)),
@@ -408,13 +390,9 @@ pub(crate) fn judge<R: Runtime + AllocGlobal>(
     words: &ArgMatches<'_>,
     screen: Screen,
 ) -> Result<u8, Refusal>
-    ensures few { IfOk result (λ status. status < 3) }
-    ensures err { IfErr result (λ refusal. IsJudgeCause refusal) }
+    ensures { IfOk result (λ status. status < 3) }
 {
-    let text = match problems_of(rt, words) {
-        Ok(text) => text,
-        Err(refusal) => return Err(refusal),
-    };
+    let text = problems_of(rt, words)?;
     let asked = Asked {
         reach: reach_of(words, NODES),
         by_journeys: say_journeys(words),

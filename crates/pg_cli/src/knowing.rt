@@ -5,11 +5,9 @@ ghost use Rattle.pg_certificate.specs.Pushing.{AddsSome};
 ghost use Rattle.pg_cooks.specs.Standing.{IsGamesReport};
 ghost use Rattle.pg_cooks.specs.Unsound.{IsUnsound};
 ghost use Rattle.pg_streams.specs.Buffer.{sink_of};
-ghost use Rattle.pg_cli.specs.Causes.{AreListed, IsCooksCause, IsGamesCause, IsOfList};
 ghost use Rattle.pg_cli.specs.Knowing.{IsFollowedWith, IsTestedWith, answer_status, standing_status};
-ghost use Rattle.pg_cli.specs.Reasons.{IsCooksRefusal, IsGamesRefusal, cooks_refusal};
+ghost use Rattle.pg_cli.specs.Runs.{AreListed, HasCooksReport, IsCooksRefusal, IsGamesRefusal, IsOfList, cooks_refusal};
 ghost use Rattle.pg_cli.specs.Words.{IsFollowed, IsTested};
-ghost use Rattle.pg_cli.specs.Written.{HasCooksReport};
 
 use crate::checking::{finished, games_of};
 use crate::limits::reach_of;
@@ -157,17 +155,10 @@ pub(crate) fn games<R: Runtime + AllocGlobal>(
     words: &ArgMatches<'_>,
     screen: Screen,
 ) -> Result<u8, Refusal>
-    ensures headline { IfOk result (λ status. IsTested (rows_of (found_of words.now)) status) }
-    ensures err { IfErr result (λ refusal. IsGamesCause (rows_of (found_of words.now)) refusal) }
+    ensures { IfOk result (λ status. IsTested (rows_of (found_of words.now)) status) }
 {
-    let list = match games_of(rt, words, screen) {
-        Ok(list) => list,
-        Err(refusal) => return Err(refusal),
-    };
-    let listed = match listed_in(rt.alloc(), words, list.as_slice()) {
-        Ok(listed) => listed,
-        Err(refusal) => return Err(refusal),
-    };
+    let list = games_of(rt, words, screen)?;
+    let listed = listed_in(rt.alloc(), words, list.as_slice())?;
     let mut out = Gathered::new(ToWrite::new(io::writer(rt)));
     games_from(&listed.problem, &listed.games, &mut out)
 }
@@ -180,17 +171,10 @@ pub(crate) fn cooks<R: Runtime + AllocGlobal>(
     words: &ArgMatches<'_>,
     screen: Screen,
 ) -> Result<u8, Refusal>
-    ensures headline { IfOk result (λ status. IsFollowed (rows_of (found_of words.now)) status) }
-    ensures err { IfErr result (λ refusal. IsCooksCause (rows_of (found_of words.now)) refusal) }
+    ensures { IfOk result (λ status. IsFollowed (rows_of (found_of words.now)) status) }
 {
-    let list = match games_of(rt, words, screen) {
-        Ok(list) => list,
-        Err(refusal) => return Err(refusal),
-    };
-    let listed = match listed_in(rt.alloc(), words, list.as_slice()) {
-        Ok(listed) => listed,
-        Err(refusal) => return Err(refusal),
-    };
+    let list = games_of(rt, words, screen)?;
+    let listed = listed_in(rt.alloc(), words, list.as_slice())?;
     let reach = reach_of(words, NODES);
     let limits = LedLimits {
         max_nodes: reach.nodes,

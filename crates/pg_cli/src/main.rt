@@ -6,11 +6,9 @@
 //! behind `check`, `answer`, `search`, `judge`, `why` and `page`, `--minutes M` behind `cooks`, `search` and `judge`.
 #![tactic(auto)]
 
-ghost use Rattle.std.specs.Prelude.{◌≡◌, ◌↔◌, List, IsTrue, IfOk, IfErr};
+ghost use Rattle.std.specs.Prelude.{◌≡◌, ◌↔◌, List, IsTrue, IfOk};
 ghost use Rattle.clap.specs.Words.{Row, Text, found_of, rows_of};
-ghost use Rattle.pg_checker.specs.Cuts.{rules_by};
 ghost use Rattle.pg_cli.specs.Answers.{IsNamedIn};
-ghost use Rattle.pg_cli.specs.Causes.{Ends, IsCause, Rules, causes};
 ghost use Rattle.pg_cli.specs.Words.{GoesByJourneys, IsStatus, IsSubcommand, says};
 
 mod answering;
@@ -45,7 +43,6 @@ use pg_journeys::{Journeys, JourneysByMemory};
 use pg_report::{Bound, Captures, PawnFiles, Promotions, Travel};
 use pg_travel::{Rows, TravelByRows};
 use pg_words::pg;
-use std::alloc::AllocError;
 use std::fs::File;
 use std::io::IsTerminal;
 use std::process::ExitCode;
@@ -63,10 +60,8 @@ fn perform<R: Runtime + AllocGlobal>(
     bounds: &[Box<dyn Bound>],
     screen: Screen,
 ) -> Result<u8, Refusal>
-    ensures headline { IfOk result (λ status.
+    ensures { IfOk result (λ status.
         says (IsNamedIn R.File.remaining) command (rows_of (found_of words.now)) status) }
-    ensures err { IfErr result (λ refusal. causes (rules_by code_of excluded bounds.now) command
-        (rows_of (found_of words.now)) refusal) }
 {
     match command {
         Command::Show => positions::show(rt, words, bounds),
@@ -91,8 +86,7 @@ fn carry_out<R: Runtime + AllocGlobal>(
     bounds: &[Box<dyn Bound>],
     screen: Screen,
 ) -> Result<u8, Refusal>
-    ensures headline { IfOk result (λ status. IsStatus (IsNamedIn R.File.remaining) words.now status) }
-    ensures err { IfErr result (λ refusal. IsCause (rules_by code_of excluded bounds.now) words.now refusal) }
+    ensures { IfOk result (λ status. IsStatus (IsNamedIn R.File.remaining) words.now status) }
 {
     let Some((name, inner)) = words.subcommand() else {
         return Ok(BAD_INPUT);
@@ -122,8 +116,7 @@ fn lend<R: Runtime + AllocGlobal>(
     bounds: &[Box<dyn Bound>],
     screen: Screen,
 ) -> u8
-    ensures done { result ≡ 0 → IsStatus (IsNamedIn R.File.remaining) words.now 0 }
-    ensures ends { Ends (IsNamedIn R.File.remaining) (rules_by code_of excluded bounds.now) words.now result }
+    ensures { result ≡ 0 → IsStatus (IsNamedIn R.File.remaining) words.now 0 }
 {
     match carry_out(rt, words, bounds, screen) {
         Ok(status) => status,
@@ -166,15 +159,17 @@ fn goes_by_journeys(words: &ArgMatches<'_>) -> bool
 // Does what the words of a command say, with the bounds in the order of their codes, and gives the status.
 //
 // # Errors
-// `AllocError` where a growth was refused before.
+// `Minutes` where their number of minutes is none, and `Memory` where a growth was refused before.
 fn run<R: Runtime + AllocGlobal>(
     rt: &R,
     words: &ArgMatches<'_>,
     screen: Screen,
-) -> Result<u8, AllocError>
-    ensures done { IfOk result (λ status. status ≡ 0 → IsStatus (IsNamedIn R.File.remaining) words.now 0) }
-    ensures ends { IfOk result (λ status. (rules : Rules) × Ends (IsNamedIn R.File.remaining) rules words.now status) }
+) -> Result<u8, Refusal>
+    ensures { IfOk result (λ status. status ≡ 0 → IsStatus (IsNamedIn R.File.remaining) words.now 0) }
 {
+    if !are_minutes(words) {
+        return Err(Refusal::Minutes);
+    }
     let captures = Box::new(rt.alloc(), Captures)?;
     let promotions = Box::new(rt.alloc(), Promotions)?;
     let pawn_files = Box::new(rt.alloc(), PawnFiles)?;
@@ -201,21 +196,6 @@ fn run<R: Runtime + AllocGlobal>(
     Ok(lend(rt, words, bounds.as_slice(), screen))
 }
 
-// Does what the words of a command say, where a number of minutes among them is one, and gives the status.
-fn tried<R: Runtime + AllocGlobal>(
-    rt: &R,
-    words: &ArgMatches<'_>,
-    screen: Screen,
-) -> Result<u8, Refusal> {
-    if !are_minutes(words) {
-        return Err(Refusal::Minutes);
-    }
-    match run(rt, words, screen) {
-        Ok(status) => Ok(status),
-        Err(AllocError) => Err(Refusal::Memory),
-    }
-}
-
 // Says why the words are no command, or the help that they ask for, and gives the status.
 fn explain<R: Runtime + AllocGlobal>(rt: &R, error: &clap::Error) -> u8 {
     if error.kind() == ErrorKind::OutOfMemory {
@@ -237,7 +217,7 @@ fn obey<R: Runtime + AllocGlobal>(rt: &R, words: &[String], screen: Screen) -> u
         return refuse(rt, &Refusal::Memory, NO_FILE);
     };
     match command.try_get_matches_from(words) {
-        Ok(matches) => match tried(rt, &matches, screen) {
+        Ok(matches) => match run(rt, &matches, screen) {
             Ok(status) => status,
             Err(refusal) => refuse(rt, &refusal, NO_FILE),
         },

@@ -2,17 +2,17 @@
 ghost use Rattle.std.specs.Prelude.{◌≡◌, IfOk, IfErr, OnOk};
 ghost use Rattle.pg_checker.specs.Cuts.{any_rules_by, rules_by};
 ghost use Rattle.pg_checker.specs.Terms.{terms};
+ghost use Rattle.clap.specs.Words.{found_of, rows_of};
 ghost use Rattle.pg_page.specs.Page.{failures};
 ghost use Rattle.pg_streams.specs.Buffer.{IsHandedOn};
 ghost use Rattle.pg_cli.specs.Answers.{HasList, IsNamedIn};
-ghost use Rattle.pg_cli.specs.Causes.{IsPageCause};
-ghost use Rattle.pg_cli.specs.Reasons.{IsPageRefusal, page_refusal};
-ghost use Rattle.pg_cli.specs.Words.{IsExplained};
+ghost use Rattle.pg_cli.specs.Runs.{IsPageRefusal, page_refusal};
+ghost use Rattle.pg_cli.specs.Words.{ByRecords, IsExplained};
 
 use crate::answering::certificate_of;
-use crate::checking::{RECORDS, finished};
+use crate::checking::finished;
 use crate::refusals::{DONE, Refusal};
-use crate::spelling::text_of;
+use crate::spelling::{records_of, text_of};
 use clap::ArgMatches;
 use pg_certificate::format::MOST_NAMED;
 use pg_files::size_of;
@@ -25,14 +25,6 @@ use std::rt::Runtime;
 
 // So many expanded nodes are told at most, where the words do not say it.
 const NODES: u64 = 20_000;
-
-// What is asked: the problem of a certificate, how many expanded nodes are told at most, and how many records are read.
-#[derive(Clone, Copy)]
-pub(crate) struct Asked<'a> {
-    pub(crate) problem: &'a Problem,
-    pub(crate) nodes: u64,
-    pub(crate) records: u64,
-}
 
 // Why there is no page, as a refusal.
 fn refusal_of(fault: PageFault) -> Refusal
@@ -50,27 +42,25 @@ fn refusal_of(fault: PageFault) -> Refusal
 //
 // # Errors
 // `Answer` where the certificate does not give its games; `Memory`; and `Check` with `Write` where writing is refused.
-pub(crate) fn page_from<S: Source, W: Sink>(
+pub(crate) fn page_on<S: Source, W: Sink>(
     alloc: Global,
-    asked: &Asked<'_>,
+    words: &ArgMatches<'_>,
+    problem: &Problem,
     bounds: &[Box<dyn Bound>],
     source: &mut S,
     out: &mut Gathered<W>,
 ) -> Result<u8, Refusal>
-    ensures right { OnOk result (HasList asked.now.problem.now.diagram asked.now.problem.now.length) }
+    ensures right { OnOk result (HasList problem.now.diagram problem.now.length) }
     ensures zero { IfOk result (λ status. status ≡ 0) }
     ensures handed { OnOk result (IsHandedOn out.new) }
-    ensures err { IfErr result (λ refusal. IsPageRefusal
-        (terms (rules_by code_of excluded bounds.now) asked.now.records MOST_NAMED (S.left source.old))
-        (terms (any_rules_by code_of excluded bounds.now) asked.now.records MOST_NAMED (S.left source.old))
-        asked.now.problem.now.diagram asked.now.problem.now.length
-        (failures (S.has_failed source.new) (⟦<Gathered<W> as Sink>⟧.has_failed out.new)) refusal) }
+    ensures err { IfErr result (λ refusal. ByRecords (rows_of (found_of words.now)) (λ records. IsPageRefusal
+        (terms (rules_by code_of excluded bounds.now) records MOST_NAMED (S.left source.old))
+        (terms (any_rules_by code_of excluded bounds.now) records MOST_NAMED (S.left source.old))
+        problem.now.diagram problem.now.length
+        (failures (S.has_failed source.new) (⟦<Gathered<W> as Sink>⟧.has_failed out.new)) refusal)) }
 {
-    let Asked {
-        problem,
-        nodes,
-        records,
-    } = *asked;
+    let nodes = words.get_one::<u64>("nodes").unwrap_or(NODES);
+    let records = records_of(words);
     match show(
         alloc, problem, nodes, bounds, source, out, records, MOST_NAMED,
     ) {
@@ -88,25 +78,15 @@ pub(crate) fn page<R: Runtime + AllocGlobal>(
     bounds: &[Box<dyn Bound>],
     screen: bool,
 ) -> Result<u8, Refusal>
-    ensures headline { IfOk result (λ status. IsExplained (IsNamedIn R.File.remaining) status) }
-    ensures err { IfErr result (λ refusal. IsPageCause (rules_by code_of excluded bounds.now) refusal) }
+    ensures { IfOk result (λ status. IsExplained (IsNamedIn R.File.remaining) status) }
 {
     let name = text_of(words, "CERT");
-    let (certificate, problem) = match certificate_of(rt, name) {
-        Ok(found) => found,
-        Err(refusal) => return Err(refusal),
-    };
-    let records = words.get_one::<u64>("records").unwrap_or(RECORDS);
-    let nodes = words.get_one::<u64>("nodes").unwrap_or(NODES);
-    let asked = Asked {
-        problem: &problem,
-        nodes,
-        records,
-    };
+    let found = certificate_of(rt, name)?;
+    let (certificate, problem) = found;
     let terminal = Terminal::new(screen);
     let mut source = Passing::new(rt, &terminal, certificate, size_of(rt, name));
     let mut out = Gathered::new(Cleared::new(ToWrite::new(io::writer(rt)), rt, &terminal));
-    let answer = page_from(rt.alloc(), &asked, bounds, &mut source, &mut out);
+    let answer = page_on(rt.alloc(), words, &problem, bounds, &mut source, &mut out);
     source.end();
     answer
 }

@@ -1,7 +1,6 @@
 //! Why a command ends without its answer, what the program says then, and its status.
 ghost use Rattle.std.specs.Prelude.{◌≡◌, ◌<◌, false, true};
-ghost use Rattle.pg_cli.specs.Causes.{IsOfFile, file_refusal};
-ghost use Rattle.pg_cli.specs.Refusals.{refusal_status, file_status};
+ghost use Rattle.pg_cli.specs.Refusals.{file_refusal, refusal_status};
 
 use pg_files::{FileFault, FileName, Obstacle};
 use pg_report::{
@@ -10,6 +9,7 @@ use pg_report::{
     status, upgrade_status, write_movetext,
 };
 use pg_streams::Gathered;
+use std::alloc::{AllocError, AllocFailed};
 use std::fmt::Write;
 use std::io::Eprint;
 use std::str;
@@ -132,9 +132,7 @@ pub(crate) enum Refusal {
 impl Refusal {
     // Why the file that a word names is not read or written.
     pub(crate) fn of_file(fault: FileFault, named: Named) -> Refusal
-        ensures value { result ≡ file_refusal fault named }
-        ensures file { IsOfFile named result }
-        ensures status { refusal_status result ≡ file_status fault }
+        ensures { result ≡ file_refusal fault named }
     {
         match fault {
             FileFault::Open(obstacle) => Refusal::Open(named, obstacle),
@@ -163,6 +161,18 @@ impl Refusal {
             Refusal::Check(fault) => status(fault),
             Refusal::Answer(fault) => answer_status(fault),
         }
+    }
+}
+
+impl From<AllocError> for Refusal {
+    fn from(_fault: AllocError) -> Refusal {
+        Refusal::Memory
+    }
+}
+
+impl<T: Drop> From<AllocFailed<T>> for Refusal {
+    fn from(_fault: AllocFailed<T>) -> Refusal {
+        Refusal::Memory
     }
 }
 

@@ -1,24 +1,22 @@
 //! `pg search`: a certificate is searched for and written, and then checked.
 
-ghost use Rattle.std.specs.Prelude.{◌≡◌, ◌≤◌, ◌⊎◌, List, IfNone, IfOk, IfErr, OnOk};
+ghost use Rattle.std.specs.Prelude.{◌≡◌, ◌≤◌, List, None, codes, IfNone, IfOk, IfErr, OnOk};
 ghost use Rattle.pg_checker.specs.Cuts.{rules_by};
 ghost use Rattle.pg_checker.specs.Terms.{terms};
 ghost use Rattle.pg_position.specs.declared.moves.Move.{Move};
 ghost use Rattle.pg_certificate.specs.Pushing.{AddsSome};
 ghost use Rattle.pg_streams.specs.Buffer.{sink_of};
 ghost use Rattle.pg_texts.specs.Report.{IsReport};
-ghost use Rattle.clap.specs.Words.{found_of, rows_of};
+ghost use Rattle.clap.specs.Words.{first_of, found_of, rows_of};
 ghost use Rattle.pg_report.specs.Run.{failures};
 ghost use Rattle.pg_cli.specs.Answers.{IsAnswered};
-ghost use Rattle.pg_cli.specs.Causes.{AreMet, IsGivenUp, IsOfDrafts, IsOfFile, IsSearchCause, IsSearchRefusal, Rules};
-ghost use Rattle.pg_cli.specs.Causes.{WantsList, WantsNoList, search_refusal};
-ghost use Rattle.pg_cli.specs.Reasons.{IsFoundRefusal};
+ghost use Rattle.pg_cli.specs.Runs.{AreMet, IsFoundRefusal, IsGivenUp, IsSearchRefusal, search_refusal};
 ghost use Rattle.pg_cli.specs.Words.{IsSearched};
 
-use crate::checking::{RECORDS, finished};
+use crate::checking::finished;
 use crate::limits::{Reach, reach_of};
 use crate::refusals::{Known, Named, Refusal};
-use crate::spelling::{problem_in, text_of};
+use crate::spelling::{RECORDS, problem_in, text_of};
 use clap::ArgMatches;
 use pg_certificate::format::MOST_NAMED;
 use pg_cooks::{standing_on, write_solutions};
@@ -90,8 +88,7 @@ pub(crate) fn search_to<R: Runtime + AllocGlobal, W: Write + Drop>(
 ) -> Result<Searched, Refusal>
     ensures found { IfOk result (λ searched. IfErr searched.found (λ fault. IsGivenUp problem.now.length fault)) }
     ensures met { IfOk result (λ searched. AreMet problem.now.diagram problem.now.length searched.known) }
-    ensures err { (rules : Rules) → IfErr result (λ refusal.
-        IsSearchRefusal rules problem.now.diagram problem.now.length refusal) }
+    ensures err { IfErr result (λ refusal. IsSearchRefusal problem.now.diagram problem.now.length refusal) }
 {
     let mut sink = ToWrite::new(certificate);
     let nodes = reach.nodes;
@@ -145,8 +142,7 @@ fn write_list<F: Write>(
     games: &Games,
     list: &mut Option<Draft<F>>,
 ) -> Result<(), Refusal>
-    ensures err { (rules : Rules) → IfErr result (λ refusal.
-        IsSearchRefusal rules problem.now.diagram problem.now.length refusal) }
+    ensures { IfErr result (λ refusal. IsSearchRefusal problem.now.diagram problem.now.length refusal) }
 {
     let Some(list) = list else {
         return Ok(());
@@ -233,8 +229,7 @@ where
         × IsAnswered problem.now.diagram problem.now.length games status
         × AddsSome (IsReport problem.now.diagram problem.now.length games)
         (⟦<Gathered<W> as Sink>⟧.held out.old) (W.held (sink_of out.new))) }
-    ensures err { IfErr result (λ refusal. IsSearchRefusal (rules_by code_of excluded bounds.now)
-        problem.now.diagram problem.now.length refusal) }
+    ensures err { IfErr result (λ refusal. IsSearchRefusal problem.now.diagram problem.now.length refusal) }
 {
     let certificate = &mut drafts.certificate.file;
     let searched = match search_to(rt, problem, bounds, certificate, reach, terminal) {
@@ -273,9 +268,7 @@ where
 fn begin_certificate<R: Runtime + AllocGlobal>(
     rt: &R,
     words: &ArgMatches<'_>,
-) -> Result<Draft<R::File>, Refusal>
-    ensures err { IfErr result (λ refusal. IsOfFile Named.Certificate refusal) }
-{
+) -> Result<Draft<R::File>, Refusal> {
     let name = text_of(words, "CERT");
     let begun = match words.get_str("games") {
         Some(list) => begin_apart(rt, name, list),
@@ -292,8 +285,8 @@ fn begin_list<R: Runtime + AllocGlobal>(
     rt: &R,
     words: &ArgMatches<'_>,
 ) -> Result<Option<Draft<R::File>>, Refusal>
-    ensures begun { IfOk result (λ list. IfNone list (WantsNoList (rows_of (found_of words.now)))) }
-    ensures err { IfErr result (λ refusal. IsOfFile Named.Kept refusal × WantsList (rows_of (found_of words.now))) }
+    ensures { IfOk result (λ list. IfNone list
+        (first_of (codes "games") (rows_of (found_of words.now)) ≡ None)) }
 {
     let path = match words.get_str("games") {
         Some(path) => path,
@@ -313,13 +306,8 @@ fn begin_list<R: Runtime + AllocGlobal>(
 fn begin_both<R: Runtime + AllocGlobal>(
     rt: &R,
     words: &ArgMatches<'_>,
-) -> Result<Drafts<R::File>, Refusal>
-    ensures err { IfErr result (λ refusal. IsOfDrafts refusal) }
-{
-    let certificate = match begin_certificate(rt, words) {
-        Ok(draft) => draft,
-        Err(refusal) => return Err(refusal),
-    };
+) -> Result<Drafts<R::File>, Refusal> {
+    let certificate = begin_certificate(rt, words)?;
     match begin_list(rt, words) {
         Ok(list) => Ok(Drafts { certificate, list }),
         Err(refusal) => {
@@ -330,9 +318,7 @@ fn begin_both<R: Runtime + AllocGlobal>(
 }
 
 // Puts the list in its place, where one is wanted.
-fn put_list<R: Runtime + AllocGlobal>(rt: &R, list: Option<Draft<R::File>>) -> Result<(), Refusal>
-    ensures err { IfErr result (λ refusal. IsOfFile Named.Kept refusal) }
-{
+fn put_list<R: Runtime + AllocGlobal>(rt: &R, list: Option<Draft<R::File>>) -> Result<(), Refusal> {
     let Some(list) = list else {
         return Ok(());
     };
@@ -343,9 +329,7 @@ fn put_list<R: Runtime + AllocGlobal>(rt: &R, list: Option<Draft<R::File>>) -> R
 }
 
 // Puts both files in their places, after a report.
-fn put_both<R: Runtime + AllocGlobal>(rt: &R, drafts: Drafts<R::File>) -> Result<(), Refusal>
-    ensures err { IfErr result (λ refusal. IsOfDrafts refusal) }
-{
+fn put_both<R: Runtime + AllocGlobal>(rt: &R, drafts: Drafts<R::File>) -> Result<(), Refusal> {
     let Drafts { certificate, list } = drafts;
     match certificate.put(rt) {
         Ok(()) => put_list(rt, list),
@@ -368,9 +352,11 @@ fn has_games(refusal: &Refusal) -> bool {
 
 // Ends a search that has no report: the certificate is taken away, and the list put in its place where the search gave
 // up and has games for it.
-fn end_both<R: Runtime + AllocGlobal>(rt: &R, drafts: Drafts<R::File>, refusal: Refusal) -> Refusal
-    ensures { (result ≡ refusal) ⊎ IsOfFile Named.Kept result }
-{
+fn end_both<R: Runtime + AllocGlobal>(
+    rt: &R,
+    drafts: Drafts<R::File>,
+    refusal: Refusal,
+) -> Refusal {
     let Drafts { certificate, list } = drafts;
     certificate.discard(rt);
     if has_games(&refusal) {
@@ -395,23 +381,18 @@ fn search_for<R: Runtime + AllocGlobal>(
     bounds: &[Box<dyn Bound>],
     screen: bool,
 ) -> Result<u8, Refusal>
-    ensures headline { IfOk result (λ status. (games : List (List Move))
+    ensures { IfOk result (λ status. (games : List (List Move))
         × IsAnswered problem.now.diagram problem.now.length games status) }
-    ensures err { IfErr result (λ refusal. IsOfDrafts refusal ⊎ IsSearchRefusal (rules_by code_of excluded bounds.now)
-        problem.now.diagram problem.now.length refusal) }
 {
     let reach = reach_of(words, NODES);
-    let mut drafts = match begin_both(rt, words) {
-        Ok(drafts) => drafts,
-        Err(refusal) => return Err(refusal),
-    };
+    let mut drafts = begin_both(rt, words)?;
     let terminal = Terminal::new(screen);
     let mut out = Gathered::new(Cleared::new(ToWrite::new(io::writer(rt)), rt, &terminal));
     match search_in(rt, problem, bounds, &mut drafts, &terminal, &mut out, reach) {
-        Ok(status) => match put_both(rt, drafts) {
-            Ok(()) => Ok(status),
-            Err(refusal) => Err(refusal),
-        },
+        Ok(status) => {
+            put_both(rt, drafts)?;
+            Ok(status)
+        }
         Err(refusal) => Err(end_both(rt, drafts, refusal)),
     }
 }
@@ -425,12 +406,8 @@ pub(crate) fn search<R: Runtime + AllocGlobal>(
     bounds: &[Box<dyn Bound>],
     screen: bool,
 ) -> Result<u8, Refusal>
-    ensures headline { IfOk result (λ status. IsSearched (rows_of (found_of words.now)) status) }
-    ensures err { IfErr result (λ refusal. IsSearchCause (rules_by code_of excluded bounds.now)
-        (rows_of (found_of words.now)) refusal) }
+    ensures { IfOk result (λ status. IsSearched (rows_of (found_of words.now)) status) }
 {
-    match problem_in(words) {
-        Ok(problem) => search_for(rt, words, &problem, bounds, screen),
-        Err(refusal) => Err(refusal),
-    }
+    let problem = problem_in(words)?;
+    search_for(rt, words, &problem, bounds, screen)
 }

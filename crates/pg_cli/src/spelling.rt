@@ -1,8 +1,8 @@
 //! What the words of a command spell, as `clap` has read them.
 ghost use Rattle.std.specs.Prelude.{◌≡◌, ◌↔◌, IsTrue, Some, IfOk, IfErr, codes};
-ghost use Rattle.clap.specs.Words.{first_of, found_of, rows_of};
-ghost use Rattle.pg_cli.specs.Causes.{IsOfProblem, IsSpelled};
-ghost use Rattle.pg_cli.specs.Words.{spelled};
+ghost use Rattle.clap.specs.Words.{first_of, found_of, one_of, rows_of};
+ghost use Rattle.pg_cli.specs.Runs.{IsOfProblem};
+ghost use Rattle.pg_cli.specs.Words.{IsNumber, IsSpelled, spelled};
 
 use crate::refusals::Refusal;
 use clap::ArgMatches;
@@ -15,6 +15,29 @@ pub(crate) fn text_of<'a>(words: &ArgMatches<'a>, name: &str) -> &'a str
     match words.get_str(name) {
         Some(text) => text,
         None => "",
+    }
+}
+
+// So many records are read at most, where the words do not say it.
+pub(crate) const RECORDS: u64 = 100_000_000;
+
+// So many records of a certificate are read at most, as the words say it.
+pub(crate) fn records_of(words: &ArgMatches<'_>) -> u64
+    ensures { IsNumber 64 (one_of (codes "records") (rows_of (found_of words.now))) 100000000 result }
+{
+    match words.get_one::<u64>("records") {
+        Some(records) => records,
+        None => RECORDS,
+    }
+}
+
+// Of so many plies games are counted, as the words say it.
+pub(crate) fn plies_of(words: &ArgMatches<'_>) -> u8
+    ensures { IsNumber 8 (one_of (codes "PLIES") (rows_of (found_of words.now))) 255 result }
+{
+    match words.get_one::<u8>("PLIES") {
+        Some(plies) => plies,
+        None => u8::MAX,
     }
 }
 

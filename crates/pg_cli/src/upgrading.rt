@@ -1,15 +1,14 @@
 //! `pg upgrade`: a certificate of version 1 is copied as one of version 2.
-ghost use Rattle.std.specs.Prelude.{◌≡◌, ◌≤◌, ℕ, List, Bool, IfOk, IfErr, OnOk, OnErr, true};
+ghost use Rattle.std.specs.Prelude.{◌≡◌, ◌≤◌, ℕ, List, IfOk, IfErr, OnOk, OnErr, true};
+ghost use Rattle.clap.specs.Words.{found_of, rows_of};
 ghost use Rattle.std.specs.Io.KnownBytes.{Appends, Consumes, IsAtEnd};
 ghost use Rattle.pg_streams.specs.Buffer.{sink_of};
 ghost use Rattle.pg_texts.specs.Upgrade.{IsUpgraded};
-ghost use Rattle.pg_cli.specs.Causes.{IsUpgradeCause};
-ghost use Rattle.pg_cli.specs.Reasons.{IsUpgradeRefusal};
-ghost use Rattle.pg_cli.specs.Written.{copied_text};
+ghost use Rattle.pg_cli.specs.Runs.{IsUpgradeRefusal, copied_text};
+ghost use Rattle.pg_cli.specs.Words.{ByRecords};
 
-use crate::checking::RECORDS;
 use crate::refusals::{DONE, Named, Refusal};
-use crate::spelling::text_of;
+use crate::spelling::{records_of, text_of};
 use clap::ArgMatches;
 use pg_fen::text::digits;
 use pg_files::{Obstacle, begin, lead_to_one, open, size_of};
@@ -31,27 +30,28 @@ fn write_count<W: Sink>(count: u64, out: &mut Gathered<W>) -> Result<(), Refused
     out.flush()
 }
 
-// Copies the certificate that a source gives to a sink, and prints how many records it has: no more
-// than `records`, which is the answer. The sink has the whole copy then, and the number is handed on.
+// Copies the certificate that a source gives to a sink, and prints how many records it has, no more than the words
+// allow: the answer. The sink has the whole copy then, and the number is handed on.
 //
 // # Errors
 // `Upgrade` with the fault of the copying, or with `Write` where the number is not printed.
-pub(crate) fn upgrade_to<S: Source, W: Sink, O: Sink>(
+pub(crate) fn upgrade_on<S: Source, W: Sink, O: Sink>(
+    words: &ArgMatches<'_>,
     source: &mut S,
     new: &mut W,
     out: &mut Gathered<O>,
-    records: u64,
 ) -> Result<u64, Refusal>
     ensures copied { IfOk result (λ n. (text : List ℕ) × (copy : List ℕ) × IsUpgraded text copy n
         × Consumes (S.left source.old) (S.left source.new) text × Appends (W.held new.old) (W.held new.new) copy) }
     ensures end { OnOk result (IsAtEnd (S.left source.new)) }
-    ensures few { IfOk result (λ n. n ≤ records) }
+    ensures few { IfOk result (λ n. ByRecords (rows_of (found_of words.now)) (λ records. n ≤ records)) }
     ensures told { IfOk result (λ n. Appends (⟦<Gathered<O> as Sink>⟧.held out.old) (O.held (sink_of out.new))
         (copied_text n)) }
-    ensures err { IfErr result (λ refusal. IsUpgradeRefusal records (S.left source.old) (S.has_failed source.new)
-        (W.has_failed new.new) (⟦<Gathered<O> as Sink>⟧.has_failed out.new) refusal) }
+    ensures err { IfErr result (λ refusal. ByRecords (rows_of (found_of words.now)) (λ records. IsUpgradeRefusal records
+        (S.left source.old) (S.has_failed source.new)
+        (W.has_failed new.new) (⟦<Gathered<O> as Sink>⟧.has_failed out.new) refusal)) }
 {
-    let count = match upgrade_from(source, new, records) {
+    let count = match upgrade_from(source, new, records_of(words)) {
         Ok(count) => count,
         Err(fault) => return Err(Refusal::Upgrade(fault)),
     };
@@ -63,22 +63,12 @@ pub(crate) fn upgrade_to<S: Source, W: Sink, O: Sink>(
 
 // The same with a file as the sink; what that holds then is not said.
 fn upgrade_file<S: Source, F: Write + Drop, O: Sink>(
+    words: &ArgMatches<'_>,
     source: &mut S,
     file: F,
     out: &mut Gathered<O>,
-    records: u64,
-) -> Result<u64, Refusal>
-    ensures copied { IfOk result (λ n. (text : List ℕ) × (copy : List ℕ) × IsUpgraded text copy n
-        × Consumes (S.left source.old) (S.left source.new) text) }
-    ensures end { OnOk result (IsAtEnd (S.left source.new)) }
-    ensures few { IfOk result (λ n. n ≤ records) }
-    ensures told { IfOk result (λ n. Appends (⟦<Gathered<O> as Sink>⟧.held out.old) (O.held (sink_of out.new))
-        (copied_text n)) }
-    ensures err { IfErr result (λ refusal. (failed : Bool) × IsUpgradeRefusal records (S.left source.old)
-        (S.has_failed source.new) failed (⟦<Gathered<O> as Sink>⟧.has_failed out.new) refusal) }
-{
-    let mut new = ToWrite::new(file);
-    upgrade_to(source, &mut new, out, records)
+) -> Result<u64, Refusal> {
+    upgrade_on(words, source, &mut ToWrite::new(file), out)
 }
 
 // `pg upgrade`: the copy is written beside its place, and put there once the number of its records
@@ -89,8 +79,7 @@ pub(crate) fn upgrade<R: Runtime + AllocGlobal>(
     words: &ArgMatches<'_>,
     screen: bool,
 ) -> Result<u8, Refusal>
-    ensures zero { IfOk result (λ status. status ≡ 0) }
-    ensures err { IfErr result (λ refusal. IsUpgradeCause refusal) }
+    ensures { IfOk result (λ status. status ≡ 0) }
 {
     let old = text_of(words, "OLD");
     let new = text_of(words, "NEW");
@@ -101,7 +90,6 @@ pub(crate) fn upgrade<R: Runtime + AllocGlobal>(
     if lead_to_one(rt, old, new) {
         return Err(Refusal::Open(Named::New, Obstacle::NamedTwice));
     }
-    let records = words.get_one::<u64>("records").unwrap_or(RECORDS);
     let mut draft = match begin(rt, new) {
         Ok(draft) => draft,
         Err(fault) => return Err(Refusal::of_file(fault, Named::New)),
@@ -109,16 +97,14 @@ pub(crate) fn upgrade<R: Runtime + AllocGlobal>(
     let terminal = Terminal::new(screen);
     let mut source = Passing::new(rt, &terminal, source, size_of(rt, old));
     let mut out = Gathered::new(Cleared::new(ToWrite::new(io::writer(rt)), rt, &terminal));
-    let answer = upgrade_file(&mut source, &mut draft.file, &mut out, records);
+    let answer = upgrade_file(words, &mut source, &mut draft.file, &mut out);
     source.end();
-    match answer {
-        Ok(_) => match draft.put(rt) {
-            Ok(()) => Ok(DONE),
-            Err(fault) => Err(Refusal::of_file(fault, Named::New)),
-        },
-        Err(refusal) => {
-            draft.discard(rt);
-            Err(refusal)
-        }
+    if let Err(refusal) = answer {
+        draft.discard(rt);
+        return Err(refusal);
+    }
+    match draft.put(rt) {
+        Ok(()) => Ok(DONE),
+        Err(fault) => Err(Refusal::of_file(fault, Named::New)),
     }
 }

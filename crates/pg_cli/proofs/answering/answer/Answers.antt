@@ -1,16 +1,7 @@
-use Rattle.pg_checker.specs.Cuts.{any_rules_by, rules_by}
-use Rattle.pg_checker.specs.Terms.{terms}
-use Rattle.pg_cli.specs.Answers.{IsNamedIn}
-use Rattle.pg_cli.proofs.AnswerLemmas.{answer_means}
-use Rattle.pg_cli.proofs.CauseLemmas.{answer_caused}
+use Rattle.pg_cli.proofs.StatusLemmas.{tells}
 use Rattle.pg_cli.proofs.answering.answer.Goals as goal
 
 pub returns : goal.returns
 returns g c =
-    let t = terms (rules_by (λ b. (goal.Bound-dyn g (b.vtable, b.value)).code_of b.value) (λ b. (goal.Bound-dyn g (b.vtable, b.value)).excluded b.value) c.args.bounds.now) c.unwrap_or-records.result 4194304 _ in
-    let any = terms (any_rules_by (λ b. (goal.Bound-dyn g (b.vtable, b.value)).code_of b.value) (λ b. (goal.Bound-dyn g (b.vtable, b.value)).excluded b.value) c.args.bounds.now) c.unwrap_or-records.result 4194304 _ in
-    let p = c.in-Ok.found.1 in
-    record {
-      headline = answer_means (IsNamedIn g.R.File.Read.remaining) p.diagram p.length c.answer_from-answer.result c.in-Ok.ensures.named c.answer_from-answer.ensures.headline;
-      err = answer_caused p.diagram p.length t any _ c.answer_from-answer.result c.answer_from-answer.ensures.err;
-    }
+    let p = c.in_ok-found.found.1 in
+    tells c.answer_on-answer.result _ _ c.answer_on-answer.ensures.headline (λ s h. (p.diagram, p.length, c.in_ok-found.ensures, h))

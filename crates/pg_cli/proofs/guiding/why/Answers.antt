@@ -1,17 +1,8 @@
-use Rattle.clap.specs.Words.{found_of, rows_of}
-use Rattle.pg_checker.specs.Cuts.{any_rules_by, rules_by}
-use Rattle.pg_checker.specs.Terms.{terms}
-use Rattle.pg_cli.specs.Answers.{IsNamedIn}
-use Rattle.pg_cli.proofs.AnswerLemmas.{why_means}
-use Rattle.pg_cli.proofs.CauseLemmas.{why_caused}
+use Rattle.std.proofs.Common.{refl}
+use Rattle.pg_cli.proofs.StatusLemmas.{has_on}
 use Rattle.pg_cli.proofs.guiding.why.Goals as goal
 
 pub returns : goal.returns
 returns g c =
-    let t = terms (rules_by (λ b. (goal.Bound-dyn g (b.vtable, b.value)).code_of b.value) (λ b. (goal.Bound-dyn g (b.vtable, b.value)).excluded b.value) c.args.bounds.now) c.unwrap_or-records.result 4194304 _ in
-    let any = terms (any_rules_by (λ b. (goal.Bound-dyn g (b.vtable, b.value)).code_of b.value) (λ b. (goal.Bound-dyn g (b.vtable, b.value)).excluded b.value) c.args.bounds.now) c.unwrap_or-records.result 4194304 _ in
-    let p = c.in-Ok.found.1 in
-    record {
-      headline = why_means (IsNamedIn g.R.File.Read.remaining) p.diagram p.length c.why_from-answer.result c.in-Ok.ensures.named c.why_from-answer.ensures.right c.why_from-answer.ensures.zero;
-      err = why_caused (rows_of (found_of c.args.words.now)) c.text_of-moves.result.now p.diagram p.length t any _ c.why_from-answer.result c.text_of-moves.ensures c.why_from-answer.ensures.err;
-    }
+    let p = c.in_ok-found.found.1 in
+    has_on c.why_on-answer.result 0 _ _ c.why_on-answer.ensures.zero c.why_on-answer.ensures.right (λ h. ((p.diagram, p.length, c.in_ok-found.ensures, h), refl))

@@ -1,4 +1,4 @@
-use Rattle.std.proofs.Common.{◌≡◌, ◌<◌, ◌∷◌, ap, sym, subst, ◌∙◌, arith}
+use Rattle.std.proofs.Common.{◌≡◌, ◌∷◌, ap, sym, subst, ◌∙◌, arith}
 use Rattle.std.specs.Prelude.{All, List, ℕ}
 use Rattle.std.proofs.lemmas.List.Elements.{All-cons, All-nil}
 use Rattle.pg_san.specs.TextLeft.{lines_left}
@@ -14,8 +14,8 @@ loop-rest-preserved g c =
     record {
       sound = λ zero left. c.loop-rest.invariant.sound (c.worse-worst.ensures.none zero).0
           (subst (λ (x : List (List ℕ)). All IsSoundLine x) (sym cut)
-          (All-cons IsSoundLine c.next_line.result.0.now (lines_left c.next_line.result.1) (c.in-Ok.ensures.headline (c.worse-worst.ensures.none zero).1) left));
-      few = c.worse-worst.ensures.few c.loop-rest.invariant.few c.in-Ok.ensures.few;
+          (All-cons IsSoundLine c.next_line.result.0.now (lines_left c.next_line.result.1) (c.in_ok-status.ensures.headline (c.worse-worst.ensures.none zero).1) left));
+      few = c.worse-worst.ensures.few c.loop-rest.invariant.few c.in_ok-status.ensures.few;
     }
 
 pub returns-clause-headline : goal.returns-clause-headline

@@ -1,21 +1,11 @@
-use Rattle.std.proofs.Common.{inl, inr}
-use Rattle.clap.specs.Words.{found_of, rows_of}
-use Rattle.pg_cli.specs.Reasons.{IsCooksRefusal}
-use Rattle.pg_cli.proofs.CauseLemmas.{listed_caused}
-use Rattle.pg_cli.proofs.KnowingLemmas.{cooks_mean}
+use Rattle.pg_cli.proofs.StatusLemmas.{both_tell}
 use Rattle.pg_cli.proofs.knowing.cooks.Goals as goal
-
-pub returns-in-Err-listed_in-clause-err : goal.returns-in-Err-listed_in-clause-err
-returns-in-Err-listed_in-clause-err g c = inr (c.as_slice.result.now, inl c.in-Err-listed_in.ensures.err)
 
 pub returns : goal.returns
 returns g c =
-    let rows = rows_of (found_of c.args.words.now) in
-    let text = c.as_slice.result.now in
-    let d = c.in-Ok-listed_in.listed.problem.diagram in
-    let n = c.in-Ok-listed_in.listed.problem.length in
-    let list = c.in-Ok-listed_in.listed.games in
-    record {
-      headline = cooks_mean rows text d n list c.cooks_from-answer.result c.in-Ok-listed_in.ensures.ok c.cooks_from-answer.ensures.headline c.cooks_from-answer.ensures.status;
-      err = listed_caused IsCooksRefusal rows text d n list _ c.cooks_from-answer.result c.in-Ok-listed_in.ensures.ok c.cooks_from-answer.ensures.err;
-    }
+    let l = c.in_ok-listed.listed in
+    let d = l.problem.diagram in
+    let n = l.problem.length in
+    let w = c.in_ok-listed.ensures.ok in
+    both_tell c.cooks_from-answer.result _ _ _ c.cooks_from-answer.ensures.headline c.cooks_from-answer.ensures.status
+    (λ s h k. (λ one. (d, n, w.diagram_is, w.length_is, h one), (c.as_slice.result.now, (d, n, l.games, w, k))))

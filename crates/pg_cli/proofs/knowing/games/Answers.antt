@@ -1,21 +1,15 @@
-use Rattle.std.proofs.Common.{inl, inr}
-use Rattle.clap.specs.Words.{found_of, rows_of}
-use Rattle.pg_cli.specs.Reasons.{IsGamesRefusal}
-use Rattle.pg_cli.proofs.CauseLemmas.{listed_caused}
-use Rattle.pg_cli.proofs.KnowingLemmas.{games_mean}
+use Rattle.std.proofs.Common.{◌∙◌, sym}
+use Rattle.pg_cli.proofs.KnowingLemmas.{shown}
+use Rattle.pg_cli.proofs.StatusLemmas.{tells}
 use Rattle.pg_cli.proofs.knowing.games.Goals as goal
-
-pub returns-in-Err-listed_in-clause-err : goal.returns-in-Err-listed_in-clause-err
-returns-in-Err-listed_in-clause-err g c = inr (c.as_slice.result.now, inl c.in-Err-listed_in.ensures.err)
 
 pub returns : goal.returns
 returns g c =
-    let rows = rows_of (found_of c.args.words.now) in
-    let text = c.as_slice.result.now in
-    let d = c.in-Ok-listed_in.listed.problem.diagram in
-    let n = c.in-Ok-listed_in.listed.problem.length in
-    let list = c.in-Ok-listed_in.listed.games in
-    record {
-      headline = games_mean rows text d n list c.games_from.result c.in-Ok-listed_in.ensures.ok c.games_from.ensures.status;
-      err = listed_caused IsGamesRefusal rows text d n list _ c.games_from.result c.in-Ok-listed_in.ensures.ok c.games_from.ensures.err;
-    }
+    let l = c.in_ok-listed.listed in
+    let d = l.problem.diagram in
+    let n = l.problem.length in
+    let w = c.in_ok-listed.ensures.ok in
+    tells c.games_from.result _ _ c.games_from.ensures.status (λ s k. (
+      λ one. (d, n, w.diagram_is, w.length_is, shown d n l.games k.1.0 k.0 k.1.1 (sym k.1.2 ∙ one)),
+      (c.as_slice.result.now, (d, n, l.games, w, k)),
+    ))

@@ -1,7 +1,7 @@
 use Rattle.std.proofs.Common.{inl, inr, refl, subst, List, ℕ}
 use Rattle.clap.specs.Words.{found_of, rows_of}
 use Rattle.pg_san.specs.Listing.{IsTextFault}
-use Rattle.pg_cli.proofs.CauseLemmas.{listed}
+use Rattle.pg_cli.proofs.WordLemmas.{listed}
 use Rattle.pg_cli.proofs.knowing.listed_in.Goals as goal
 
 pub returns-in-Err-clause-err : goal.returns-in-Err-clause-err

@@ -1,11 +1,8 @@
 use Rattle.pg_checker.specs.Cuts.{rules_by}
 use Rattle.pg_checker.specs.Terms.{terms}
-use Rattle.pg_cli.proofs.CauseLemmas.{unanswered}
+use Rattle.pg_cli.proofs.WordLemmas.{unfound}
 use Rattle.pg_cli.proofs.searching.search_in.Goals as goal
 
-pub returns-in-Err-clause-err : goal.returns-in-Err-clause-err
-returns-in-Err-clause-err g c = c.in-Err.ensures.err _
-
 pub returns-clause-err : goal.returns-clause-err
-returns-clause-err g c = unanswered c.args.problem.now.diagram c.args.problem.now.length _
+returns-clause-err g c = unfound c.args.problem.now.diagram c.args.problem.now.length _
     (terms (rules_by (λ b. (goal.Bound-dyn g (b.vtable, b.value)).code_of b.value) (λ b. (goal.Bound-dyn g (b.vtable, b.value)).excluded b.value) c.args.bounds.now) c.records_for-records.result 4194304 _) _ c.check_found-answer.result c.check_found-answer.ensures.err

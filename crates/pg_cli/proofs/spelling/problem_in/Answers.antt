@@ -1,5 +1,5 @@
 use Rattle.clap.specs.Words.{found_of, rows_of}
-use Rattle.pg_cli.proofs.CauseLemmas.{is_spelled, no_problem}
+use Rattle.pg_cli.proofs.WordLemmas.{is_spelled, no_problem}
 use Rattle.pg_cli.proofs.spelling.problem_in.Goals as goal
 
 pub returns-in-Ok-clause-spelled : goal.returns-in-Ok-clause-spelled

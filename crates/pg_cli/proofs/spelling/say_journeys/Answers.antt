@@ -1,6 +1,6 @@
 use Rattle.std.proofs.Common.{codes, rules}
 use Rattle.clap.specs.Words.{found_of}
-use Rattle.pg_cli.proofs.AnswerLemmas.{flag_told, flag_missing}
+use Rattle.pg_cli.proofs.WordLemmas.{flag_told, flag_missing}
 use Rattle.pg_cli.proofs.spelling.say_journeys.Goals as goal
 
 pub returns-in-Some : goal.returns-in-Some

@@ -1,5 +1,5 @@
 use Rattle.clap.specs.Words.{found_of}
-use Rattle.pg_cli.proofs.AnswerLemmas.{word_given, word_missing}
+use Rattle.pg_cli.proofs.WordLemmas.{word_given, word_missing}
 use Rattle.pg_cli.proofs.spelling.text_of.Goals as goal
 
 pub returns-in-Some : goal.returns-in-Some

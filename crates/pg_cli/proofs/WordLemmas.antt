@@ -1,0 +1,119 @@
+-- What texts and words spell, as `clap` gives them; and why a search has no report.
+use Rattle.std.proofs.Common.{◌≡◌, ◌∙◌, ◌↔◌, ℕ, Bool, List, [], refl, subst, sym, ap, codes}
+use Rattle.std.specs.Prelude.{IsTrue, false, true, Option, Some, None, Result, Ok, Err, IfErr, unwrap_or}
+use Rattle.std.specs.Str.Parse.{ParsesUnsigned}
+use Rattle.clap.specs.Words.{ReadsOne, Row, Text, first_of, first_value, rows_of}
+use Rattle.clap.specs.declared.parser.matches.Found.{Found}
+use Rattle.clap.proofs.WalkLemmas.{first_value-rows}
+use Rattle.pg_board.specs.Placement.{Placement}
+use Rattle.pg_position.specs.declared.moves.Move.{Move}
+use Rattle.pg_fen.specs.Fields.{fields}
+use Rattle.pg_fen.specs.DiagramText.{diagram_of}
+use Rattle.pg_fen.specs.Lengths.{length_of}
+use Rattle.pg_searcher.specs.declared.fault.SearchFault.{SearchFault}
+use Rattle.pg_searcher.specs.declared.fault.SearchFault.TheVariants as search
+use Rattle.pg_san.specs.Listing.{IsListing}
+use Rattle.pg_checker.specs.ProblemText.{IsProblemFault}
+use Rattle.pg_checker.specs.Terms.{Terms}
+use Rattle.pg_checker.specs.declared.fault.RunFault.{RunFault}
+use Rattle.pg_report.specs.Run.{AreSpelled, Failures, IsRunFault}
+use Rattle.pg_cli.specs.Runs.{AreListed, AreMet, IsCheckRefusal, IsFoundRefusal, IsGivenUp, IsSearchRefusal, search_refusal}
+use Rattle.pg_cli.specs.Words.{spelled, IsNumber, IsSpelled}
+use Rattle.pg_cli.specs.declared.refusals.Known.{Known}
+use Rattle.pg_cli.specs.declared.refusals.Refusal.{Refusal}
+use Rattle.pg_cli.specs.declared.refusals.Refusal.TheVariants.{Check}
+
+-- two texts that are no problem are the words DIAGRAM and LENGTH
+pub no_problem : (rows : List Row) (diagram length : List ℕ) (fault : RunFault) → diagram ≡ spelled (codes "DIAGRAM") rows
+    → length ≡ spelled (codes "LENGTH") rows → IsProblemFault diagram length fault
+    → IsProblemFault (spelled (codes "DIAGRAM") rows) (spelled (codes "LENGTH") rows) fault
+no_problem rows diagram length fault e f h =
+    subst (λ (x : List ℕ). IsProblemFault x (spelled (codes "LENGTH") rows) fault) e (subst (λ (y : List ℕ). IsProblemFault diagram y fault) f h)
+
+-- what a text is read as, the word that it is, is read as
+pub is_read : {A : Type 0} (read : List ℕ → A) (text word : List ℕ) (r : A) → text ≡ word → r ≡ read text → read word ≡ r
+is_read read text word r e h = ap read (sym e) ∙ sym h
+
+pub is_spelled : (rows : List Row) (diagram length : List ℕ) (d : Placement) (n : ℕ) → diagram ≡ spelled (codes "DIAGRAM") rows
+    → length ≡ spelled (codes "LENGTH") rows → diagram_of (fields diagram) ≡ Ok d → length_of length ≡ Ok n → IsSpelled rows d n
+is_spelled rows diagram length d n e f g h = (ap (λ (x : List ℕ). diagram_of (fields x)) (sym e) ∙ g, ap (λ (x : List ℕ). length_of x) (sym f) ∙ h)
+
+-- a text of games, by the bytes that are given
+pub listed : (rows : List Row) (text given : List ℕ) (d : Placement) (n : ℕ) (list : List (List Move)) → text ≡ given
+    → IsSpelled rows d n → IsListing text list → AreListed rows given d n list
+listed rows text given d n list e w h =
+    record { diagram_is = w.0; length_is = w.1; games_are = subst (λ (t : List ℕ). IsListing t list) e h }
+
+-- the texts of a diagram, of a length and of games, by the words and the bytes that they are
+pub are_listed : (rows : List Row) (diagram length games given : List ℕ) (d : Placement) (n : ℕ) (list : List (List Move))
+    → diagram ≡ spelled (codes "DIAGRAM") rows → length ≡ spelled (codes "LENGTH") rows → games ≡ given
+    → AreSpelled diagram length games d n list → AreListed rows given d n list
+are_listed rows diagram length games given d n list e f g h =
+    subst (λ (x : List ℕ). AreSpelled x (spelled (codes "LENGTH") rows) given d n list) e
+    (subst (λ (y : List ℕ). AreSpelled diagram y given d n list) f
+    (subst (λ (z : List ℕ). AreSpelled diagram length z d n list) g h))
+
+-- the words and the bytes are refused for the reason for which those texts are
+pub texts_refused : (t : Terms) (rows : List Row) (diagram length games given : List ℕ) (failed : Failures) (fault : RunFault)
+    → diagram ≡ spelled (codes "DIAGRAM") rows → length ≡ spelled (codes "LENGTH") rows → games ≡ given
+    → IsRunFault (record { diagram = diagram; length = length; games = games }) t failed fault
+    → IsCheckRefusal rows given t failed (Check fault)
+texts_refused t rows diagram length games given failed fault e f g h =
+    subst (λ (x : List ℕ). IsRunFault (record { diagram = x; length = spelled (codes "LENGTH") rows; games = given }) t failed fault) e
+    (subst (λ (y : List ℕ). IsRunFault (record { diagram = diagram; length = y; games = given }) t failed fault) f
+    (subst (λ (z : List ℕ). IsRunFault (record { diagram = diagram; length = length; games = z }) t failed fault) g h))
+
+-- the text of a word, from what `clap` gives for its name
+pub word_given : (f : Found) (name : Text) (text : List ℕ) → Some text ≡ first_value f name → text ≡ spelled name (rows_of f)
+word_given f name text e = ap (λ (x : Option (List ℕ)). unwrap_or x []) (e ∙ first_value-rows f name)
+
+pub word_missing : (f : Found) (name : Text) → None ≡ first_value f name → [] ≡ spelled name (rows_of f)
+word_missing f name e = ap (λ (x : Option (List ℕ)). unwrap_or x []) (e ∙ first_value-rows f name)
+
+-- the number that `clap` gives for a word is the one that the word spells
+pub number_given : {E : Type 0} (bits usual : ℕ) (gives : List ℕ → Result ℕ E → Type 0) (word : Option Text) (n : ℕ)
+    → ((text : List ℕ) (r : Result ℕ E) → gives text r → ParsesUnsigned bits 10 text r)
+    → (word ≡ None → Some n ≡ None) → ((text : List ℕ) → word ≡ Some text → ReadsOne gives text (Some n))
+    → IsNumber bits word usual n
+number_given bits usual gives None n parses none read = absurd (let z : Some n ≡ None = none refl in cc)
+number_given bits usual gives (Some text) n parses none read = λ numeral fits. (parses text (Ok n) (read text refl)).1
+
+pub number_missing : {E : Type 0} (bits usual : ℕ) (gives : List ℕ → Result ℕ E → Type 0) (word : Option Text)
+    → ((text : List ℕ) (r : Result ℕ E) → gives text r → ParsesUnsigned bits 10 text r)
+    → ((text : List ℕ) → word ≡ Some text → ReadsOne gives text None)
+    → IsNumber bits word usual usual
+number_missing bits usual gives None parses read = refl
+number_missing bits usual gives (Some text) parses read = λ numeral fits.
+    let r = read text refl in absurd (parses text (Err r.0) r.1 (numeral, fits))
+
+-- the text of a word that may be missing, from what `clap` gives for its name
+pub word_or_none : (f : Found) (name : Text) (text : Option (List ℕ)) → text ≡ first_value f name → text ≡ first_of name (rows_of f)
+word_or_none f name text e = e ∙ first_value-rows f name
+
+-- a word that stands there, and whether it is the wanted one
+pub flag_told : (f : Found) (name text wanted : Text) (b : Bool) → Some text ≡ first_value f name → (IsTrue b ↔ (text ≡ wanted))
+    → IsTrue b ↔ (first_of name (rows_of f) ≡ Some wanted)
+flag_told f name text wanted b e h =
+    let same : Some text ≡ first_of name (rows_of f) = word_or_none f name (Some text) e in
+    (λ t. sym same ∙ ap (λ (x : Text). Some x) (h.0 t), λ g. h.1 (let z : Some text ≡ Some wanted = same ∙ g in cc))
+
+-- a word that is missing is not the wanted one
+pub flag_missing : (f : Found) (name wanted : Text) → None ≡ first_value f name → IsTrue false ↔ (first_of name (rows_of f) ≡ Some wanted)
+flag_missing f name wanted e =
+    (λ h. absurd (let z : false ≡ true = h in cc), λ g. absurd (let z : None ≡ Some wanted = word_or_none f name None e ∙ g in cc))
+
+-- a search that gives up has no report
+pub given_up : (d : Placement) (n : ℕ) (fault : SearchFault) (known : Known) → IsGivenUp n fault → AreMet d n known
+    → IsSearchRefusal d n (search_refusal fault known)
+given_up d n search.Budget known h k = (tt, k)
+given_up d n (search.Shorter fewer) known h k = (h, k)
+given_up d n search.TooManyGames known h k = (tt, k)
+given_up d n search.Write known h k = tt
+given_up d n search.Memory known h k = tt
+
+-- and so it is where the check of what it wrote does not say yes
+pub unfound : (d : Placement) (n : ℕ) (list : List (List Move)) (t : Terms) (failed : Failures) (result : Result ℕ Refusal)
+    → IfErr result (λ r. IsFoundRefusal d n list t failed r) → IfErr result (λ r. IsSearchRefusal d n r)
+unfound d n list t failed (Ok s) h = tt
+unfound d n list t failed (Err (Check fault)) h = tt
+unfound d n list t failed (Err r) h = absurd h

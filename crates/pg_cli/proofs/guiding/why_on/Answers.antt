@@ -1,0 +1,32 @@
+use Rattle.std.proofs.Common.{refl, subst, List, ℕ}
+use Rattle.pg_checker.specs.Cuts.{any_rules_by, rules_by}
+use Rattle.pg_checker.specs.Terms.{terms}
+use Rattle.pg_report.specs.Run.{failures}
+use Rattle.pg_guide.specs.Why.{IsOneLine, IsWhyFault}
+use Rattle.pg_guide.specs.declared.fault.WhyFault.TheVariants.{Write}
+use Rattle.pg_cli.proofs.StatusLemmas.{on_ok, unwritten}
+use Rattle.pg_cli.proofs.guiding.why_on.Goals as goal
+
+pub returns-in-Ok : goal.returns-in-Ok
+returns-in-Ok g c =
+    let h = c.in-Ok.ensures.right in
+    record {
+      right = on_ok c.finished.result _ _ c.finished.ensures.all (λ all. (h.0.games, h.1));
+      zero = c.finished.ensures.ok;
+      handed = c.finished.ensures.all;
+      err = unwritten c.finished.result _ _ c.finished.ensures.err (λ failed. (c.records_of-records.result, c.records_of-records.ensures, (Write, refl, (subst (λ (x : List ℕ). IsOneLine x) c.text_of-moves.ensures c.in-Ok.ensures.line, h, failed))));
+    }
+
+pub returns-in-Err-clause-err : goal.returns-in-Err-clause-err
+returns-in-Err-clause-err g c =
+    let t = terms (rules_by (λ b. (goal.Bound-dyn g (b.vtable, b.value)).code_of b.value) (λ b. (goal.Bound-dyn g (b.vtable, b.value)).excluded b.value) c.args.bounds.now) c.records_of-records.result 4194304 (g.S.Source.left c.args.source.now) in
+    let any = terms (any_rules_by (λ b. (goal.Bound-dyn g (b.vtable, b.value)).code_of b.value) (λ b. (goal.Bound-dyn g (b.vtable, b.value)).excluded b.value) c.args.bounds.now) c.records_of-records.result 4194304 (g.S.Source.left c.args.source.now) in
+    let failed = failures (g.S.Source.has_failed c.why.new.source) (g.W.Sink.has_failed c.why.new.out.inner) in (
+      c.records_of-records.result,
+      c.records_of-records.ensures,
+      (
+        c.in-Err.fault,
+        c.refusal_of.ensures,
+        subst (λ (x : List ℕ). IsWhyFault x t any c.args.problem.now.diagram c.args.problem.now.length failed c.in-Err.fault) c.text_of-moves.ensures c.in-Err.ensures.err,
+      ),
+    )

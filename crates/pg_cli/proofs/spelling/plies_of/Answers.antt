@@ -1,0 +1,20 @@
+use Rattle.std.proofs.Common.{◌∙◌}
+use Rattle.std.specs.Prelude.{codes}
+use Rattle.std.specs.Str.Parse.{ParsesUnsigned, ExplainsUnsignedError, HasUnsignedDigitsIfOk}
+use Rattle.clap.specs.Words.{found_of, one_of, rows_of}
+use Rattle.clap.proofs.WalkLemmas.{one_text-rows}
+use Rattle.pg_cli.proofs.WordLemmas.{number_given, number_missing}
+use Rattle.pg_cli.proofs.spelling.plies_of.Goals as goal
+
+pub returns-in-Some : goal.returns-in-Some
+returns-in-Some c =
+    let f = found_of c.args.words.now in
+    let same = one_text-rows f (codes "PLIES") in
+    number_given 8 255 (λ bs r. ParsesUnsigned 8 10 bs r × ExplainsUnsignedError 10 bs r × HasUnsignedDigitsIfOk bs r) (one_of (codes "PLIES") (rows_of f)) c.in-Some.plies (λ text r g. g.0)
+    (λ e. c.in-Some.ensures.none (same ∙ e)) (λ text e. c.in-Some.ensures.value text (same ∙ e))
+
+pub returns-in-None : goal.returns-in-None
+returns-in-None c =
+    let f = found_of c.args.words.now in
+    let same = one_text-rows f (codes "PLIES") in
+    number_missing 8 255 (λ bs r. ParsesUnsigned 8 10 bs r × ExplainsUnsignedError 10 bs r × HasUnsignedDigitsIfOk bs r) (one_of (codes "PLIES") (rows_of f)) (λ text r g. g.0) (λ text e. c.in-None.ensures.value text (same ∙ e))
