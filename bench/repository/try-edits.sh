@@ -1,33 +1,66 @@
 #!/usr/bin/env bash
-# Tries all wrong edits of crates by the kit's own command: the edits of more-edits/CRATE are laid beside those of crates/CRATE/must-fail
-# in a copy of the crates, outside the repository, and `rt must-fail CRATE..` is run there. Its lines are handed on, and its status: 0 only
-# where each edit was refused, 1 where one was NOT REFUSED, is a BAD EDIT or was NOT TRIED. It begins with what `rt check` keeps in
-# any checkout of this machine, and what was tried before is tried again only where something changed that it stands on.
+# Tries all wrong edits of crates by the kit's own command. For each crate, in a copy of the crates outside the
+# repository, the edits of more-edits/CRATE are laid beside those of crates/CRATE/must-fail, those of other crates
+# are left out, and `rt ci CRATE` is run. It works on as many crates side by side as RT_JOBS says, or as there are
+# processors and memory for, with one job each, and hands on the lines of a crate's edits when they are all tried.
+# The status is 0 only where each edit was refused: it is 1 where one was NOT REFUSED, is a BAD EDIT or was NOT TRIED,
+# or where a crate is not proved. What `rt ci` proved and tried on this machine before is done again only where
+# something changed that it stands on. (A kit that keeps nothing proves all below a crate for each crate.)
 #
 #   bench/repository/try-edits.sh CRATE..   all edits of these crates
 #   bench/repository/try-edits.sh           all edits of all crates
-#   bench/repository/try-edits.sh --test    whether ./gate --edits tells a wrong body from one that is right, and from what is no edit, on a small crate
+#   bench/repository/try-edits.sh --test    whether ./gate --edits tells a wrong body from one that is right, and from
+#                                           what is no edit, on a small crate
 set -u
 cd "$(dirname "$(readlink -f "$0")")/../.." || exit 2
-work=$(mktemp -d) && trap 'rm -rf "$work"' EXIT || exit 2
 
-# Copies what the crates are made of, but not what was built of them, and lays each crate's edits in one folder.
-copy() {
-  local folder crate
-  tar -c --exclude=out HANDLES crates crates.txt | tar -x -C "$work" || return
-  for folder in more-edits/*/; do
-    crate=$work/crates/$(basename "$folder")
-    mkdir -p "$crate/must-fail" && cp "$folder"* "$crate/must-fail/" || return
-  done
+edits() { find "more-edits/$1" "crates/$1/must-fail" -name '*.edit' 2>/dev/null; }
+
+# How many lines the crate $1 and those that it names have.
+lines() {
+  local name
+  for name in "$1" $(sed -n "s/^$1://p" crates.txt); do
+    find "crates/$name" -path '*/out' -prune -o \( -name '*.rt' -o -name '*.antt' \) -exec cat {} + 2>/dev/null
+  done | wc -l
+}
+
+# The crates that have edits, those first that may take longest.
+with_edits() {
+  local crate many
+  while IFS=: read -r crate _; do
+    many=$(edits "$crate" | wc -l)
+    [ "$many" = 0 ] || echo "$((many * $(lines "$crate"))) $crate"
+  done <crates.txt | sort -n -r | cut -d' ' -f2
+}
+
+# How many crates may be at work: RT_JOBS, or one for each processor, or for each 5 GB of memory that are free.
+at_once() {
+  awk -v processors="$(nproc)" -v most="${RT_JOBS-}" '
+    /^MemAvailable:/ && !most { most = int($2 / 5000000); if (most > processors) most = processors }
+    END { print (most < 1 ? 1 : most) }' /proc/meminfo
+}
+
+# Tries the edits of the crate $1 in the folder $2, which it makes and removes.
+try() {
+  local said status
+  grep -q "^$1:" crates.txt || { echo "try-edits: there is no crate $1" >&2; return 1; }
+  mkdir -p "$2/.git" && tar -c --exclude=out --exclude=must-fail HANDLES crates crates.txt | tar -x -C "$2" &&
+    mkdir "$2/crates/$1/must-fail" && edits "$1" | xargs -r cp -t "$2/crates/$1/must-fail" || return
+  said=$(cd "$2" && RT_JOBS=1 rt ci "$1" 2>&1)
+  status=$?
+  rm -rf "$2"
+  grep '^rt: must-fail \|^rt: .* must-fail edits' <<<"$said"
+  ! grep -Eq '^rt: must-fail .*: (NOT REFUSED|BAD EDIT|NOT TRIED)' <<<"$said" || return
+  [ "$status" = 0 ] || { tail -n 60 <<<"$said" >&2; return 1; }
 }
 
 # Writes the edit $1 of the small crate, which puts the text $3 into the place of $2.
 write() { printf 'file: src/prices.rt\nold: %s\nnew: %s\n' "$2" "$3" >"$work/more-edits/$small/$1.edit"; }
 
-# Has ./gate try the edits of the small crate in a repository of that crate alone, and holds the status to $1 and the lines to the
-# beginnings of lines that follow.
+# Has ./gate try the edits of the small crate in a repository of that crate alone, and holds the status to $1 and the
+# lines to the beginnings of lines that follow.
 expect() {
-  local said status line
+  local said status line wrong=
   said=$("$work/gate" --edits "$small" 2>&1)
   status=$?
   [ "$status" = "$1" ] || wrong="status $status for $1"
@@ -36,10 +69,16 @@ expect() {
   [ -z "$wrong" ] || { printf 'try-edits: %s\n%s\n' "$wrong" "$said" >&2; exit 1; }
 }
 
-small=pg_price_lists wrong=
+if [ "${1-}" = --one ]; then
+  try "$2" "$3/$2"
+  exit
+fi
+work=$(mktemp -d) && chmod 711 "$work" && trap 'rm -rf "$work"' EXIT || exit 2
+small=pg_price_lists
 if [ "$*" = --test ]; then
-  mkdir -p "$work/bench/repository" "$work/crates/$small" "$work/more-edits/$small" && cp gate HANDLES "$work" && cp bench/repository/try-edits.sh "$work/bench/repository" &&
-    cp -R crates/$small/{src,specs,proofs} "$work/crates/$small" && echo "$small:" >"$work/crates.txt" || exit 2
+  mkdir -p "$work"/{bench/repository,crates/$small,more-edits/$small} && cp gate HANDLES "$work" &&
+    cp bench/repository/try-edits.sh "$work/bench/repository" && echo "$small:" >"$work/crates.txt" &&
+    cp -R crates/$small/{src,specs,proofs} "$work/crates/$small" || exit 2
   write wrong '&self.second.v[..self.targets]' '&self.first.v[..self.targets]'
   write same 'ways: 1,' 'ways: 2 - 1,'
   write absent 'self.ways = 4;' 'self.ways = 3;'
@@ -53,6 +92,5 @@ if [ "$*" = --test ]; then
   expect 1 'wrong.edit: BAD EDIT: '
   exit
 fi
-copy || exit 2
-cd "$work" || exit 2
-rt must-fail "$@"
+[ $# != 0 ] || set -- $(with_edits)
+printf '%s\n' "$@" | xargs -P "$(at_once)" -I{} bash bench/repository/try-edits.sh --one {} "$work" || exit 1

@@ -73,12 +73,17 @@ fn is_cut(
 // A pawn came from the e-file to d3: one capture, and White owes none. The pawn of d2 pays one, d2 and d3 get
 // one each.
 const E_PAWN: &str =
-    "rnbqkbnr/pppppppp/8/8/8/3P4/PPPP1PPP/RNBQKBNR | rnbqkbnr/pppppppp/8/8/8/8/PPPPPPPP/RNBQKBNR w KQkq - 0 1 | White 0 0 0 1 0 0 0 0 : 0 0 0 1 0 0 0 1 => yes
-rnbqkbnr/pppppppp/8/8/8/3P4/PPPP1PPP/RNBQKBNR | rnbqkbnr/pppppppp/8/8/8/8/PPPPPPPP/RNBQKBNR w KQkq - 0 1 | Black 0 0 0 1 0 0 0 0 : 0 0 0 1 0 0 0 1 => no
-rnbqkbnr/pppppppp/8/8/8/3P4/PPPP1PPP/RNBQKBNR | rnbqkbnr/pppppppp/8/8/8/8/PPPPPPPP/RNBQKBNR w KQkq - 0 1 | White 0 0 0 1 0 0 0 1 : 0 0 0 1 0 0 0 0 => no
+    "rnbqkbnr/pppppppp/8/8/8/3P4/PPPP1PPP/RNBQKBNR | rnbqkbnr/pppppppp/8/8/8/8/PPPPPPPP/RNBQKBNR w KQkq - 0 1 | \
+    White 0 0 0 1 0 0 0 0 : 0 0 0 1 0 0 0 1 => yes
+rnbqkbnr/pppppppp/8/8/8/3P4/PPPP1PPP/RNBQKBNR | rnbqkbnr/pppppppp/8/8/8/8/PPPPPPPP/RNBQKBNR w KQkq - 0 1 | \
+    Black 0 0 0 1 0 0 0 0 : 0 0 0 1 0 0 0 1 => no
+rnbqkbnr/pppppppp/8/8/8/3P4/PPPP1PPP/RNBQKBNR | rnbqkbnr/pppppppp/8/8/8/8/PPPPPPPP/RNBQKBNR w KQkq - 0 1 | \
+    White 0 0 0 1 0 0 0 1 : 0 0 0 1 0 0 0 0 => no
 rnbqkbnr/pppppppp/8/8/8/3P4/PPPP1PPP/RNBQKBNR | rnbqkbnr/pppppppp/8/8/8/8/PPPPPPPP/RNBQKBNR w KQkq - 0 1 | White 0*8 : 0 0 0 1 0 0 0 1 => no
-rnbqkbnr/pppppppp/8/8/8/3P4/PPPP1PPP/RNBQKBNR | rnbqkbnr/pppppppp/8/8/8/8/PPPPPPPP/RNBQKBNR w KQkq - 0 1 | White 0 0 0 1 0 0 0 1 : 0 0 0 1 0 0 0 1 => no
-rnbqkbnr/pppppppp/8/8/8/3P4/PPPP1PPP/RNBQKBNR | rnbqkbnr/pppppppp/8/8/8/8/PPPPPPPP/RNBQKBNR w KQkq - 0 1 | White 0 0 0 1 0 0 0 0 : 0 0 0 1 0 0 0 2 => no
+rnbqkbnr/pppppppp/8/8/8/3P4/PPPP1PPP/RNBQKBNR | rnbqkbnr/pppppppp/8/8/8/8/PPPPPPPP/RNBQKBNR w KQkq - 0 1 | \
+    White 0 0 0 1 0 0 0 1 : 0 0 0 1 0 0 0 1 => no
+rnbqkbnr/pppppppp/8/8/8/3P4/PPPP1PPP/RNBQKBNR | rnbqkbnr/pppppppp/8/8/8/8/PPPPPPPP/RNBQKBNR w KQkq - 0 1 | \
+    White 0 0 0 1 0 0 0 0 : 0 0 0 1 0 0 0 2 => no
 rnbqkbnr/pppppppp/8/8/8/3P4/PPPP1PPP/RNBQKBNR | rnbqkbnr/pppppppp/8/8/8/8/PPPPPPPP/RNBQKBNR w KQkq - 0 1 | White 0*8 : 0*8 => no
 rnbqkbnr/pppppppp/8/8/8/3P4/PPPP1PPP/RNBQKBNR | rnbqkbnr/pppppppp/8/8/8/8/PPPPPPPP/RNBQKBNR w KQkq - 0 1 | White 0*8 : 255*8 => no
 rnbqkbnr/pppppppp/8/8/8/3P4/PPPP1PPP/RNBQKBNR | rnbqkbnr/pppppppp/8/8/8/8/PPPPPPPP/RNBQKBNR w KQkq - 0 1 | White 255*8 : 255*8 => no";
@@ -89,23 +94,32 @@ fn prices_of_the_e_pawn(rt: HostRuntime) {
 }
 
 const OTHER_PAWNS: &str =
-    "rnbqkbnr/pppppppp/8/8/8/3P4/PPPP1PPP/RNBQKBNR | rnbqkbnr/pppppppp/8/8/8/8/PPPPPPPP/RNBQKBNR w KQkq - 0 1 | White 0 0 0 1 0 0 0 0 : 255*0 => no
+    "rnbqkbnr/pppppppp/8/8/8/3P4/PPPP1PPP/RNBQKBNR | rnbqkbnr/pppppppp/8/8/8/8/PPPPPPPP/RNBQKBNR w KQkq - 0 1 | \
+    White 0 0 0 1 0 0 0 0 : 255*0 => no
 rnbqkbnr/pppppppp/8/8/8/3P4/PPPP1PPP/RNBQKBNR | rnbqkbnr/pppppppp/8/8/8/8/PPPPPPPP/RNBQKBNR w KQkq - 0 1 | White 0*0 : 0 0 0 1 0 0 0 1 => no
 rnbqkbnr/pppppppp/8/8/8/3P4/PPPP1PPP/RNBQKBNR | rnbqkbnr/pppppppp/8/8/8/8/PPPPPPPP/RNBQKBNR w KQkq - 0 1 | White 0*0 : 255*0 => no
-rnbqkbnr/pppppppp/8/8/8/3P4/PPPP1PPP/RNBQKBNR | rnbqkbnr/pppppppp/8/8/8/8/PPPPPPPP/RNBQKBNR w KQkq - 0 1 | White 0 0 0 1 0 0 0 0 : 255*7 => no
+rnbqkbnr/pppppppp/8/8/8/3P4/PPPP1PPP/RNBQKBNR | rnbqkbnr/pppppppp/8/8/8/8/PPPPPPPP/RNBQKBNR w KQkq - 0 1 | \
+    White 0 0 0 1 0 0 0 0 : 255*7 => no
 rnbqkbnr/pppppppp/8/8/8/3P4/PPPP1PPP/RNBQKBNR | rnbqkbnr/pppppppp/8/8/8/8/PPPPPPPP/RNBQKBNR w KQkq - 0 1 | White 0*7 : 0 0 0 1 0 0 0 1 => no
 rnbqkbnr/pppppppp/8/8/8/3P4/PPPP1PPP/RNBQKBNR | rnbqkbnr/pppppppp/8/8/8/8/PPPPPPPP/RNBQKBNR w KQkq - 0 1 | White 0*7 : 255*7 => no
-rnbqkbnr/pppppppp/8/8/8/3P4/PPPP1PPP/RNBQKBNR | rnbqkbnr/pppppppp/8/8/8/8/PPPPPPPP/RNBQKBNR w KQkq - 0 1 | White 0 0 0 1 0 0 0 0 : 255*9 => no
+rnbqkbnr/pppppppp/8/8/8/3P4/PPPP1PPP/RNBQKBNR | rnbqkbnr/pppppppp/8/8/8/8/PPPPPPPP/RNBQKBNR w KQkq - 0 1 | \
+    White 0 0 0 1 0 0 0 0 : 255*9 => no
 rnbqkbnr/pppppppp/8/8/8/3P4/PPPP1PPP/RNBQKBNR | rnbqkbnr/pppppppp/8/8/8/8/PPPPPPPP/RNBQKBNR w KQkq - 0 1 | White 0*9 : 0 0 0 1 0 0 0 1 => no
 rnbqkbnr/pppppppp/8/8/8/3P4/PPPP1PPP/RNBQKBNR | rnbqkbnr/pppppppp/8/8/8/8/PPPPPPPP/RNBQKBNR w KQkq - 0 1 | White 0*9 : 255*9 => no
-rnbqkbnr/pppppppp/8/8/8/3P4/PPPP1PPP/RNBQKBNR | rnbqkbnr/pppppppp/8/8/8/8/PPPPPPPP/RNBQKBNR w KQkq - 0 1 | White 0 0 0 1 0 0 0 0 : 255*63 => no
-rnbqkbnr/pppppppp/8/8/8/3P4/PPPP1PPP/RNBQKBNR | rnbqkbnr/pppppppp/8/8/8/8/PPPPPPPP/RNBQKBNR w KQkq - 0 1 | White 0*63 : 0 0 0 1 0 0 0 1 => no
+rnbqkbnr/pppppppp/8/8/8/3P4/PPPP1PPP/RNBQKBNR | rnbqkbnr/pppppppp/8/8/8/8/PPPPPPPP/RNBQKBNR w KQkq - 0 1 | \
+    White 0 0 0 1 0 0 0 0 : 255*63 => no
+rnbqkbnr/pppppppp/8/8/8/3P4/PPPP1PPP/RNBQKBNR | rnbqkbnr/pppppppp/8/8/8/8/PPPPPPPP/RNBQKBNR w KQkq - 0 1 | \
+    White 0*63 : 0 0 0 1 0 0 0 1 => no
 rnbqkbnr/pppppppp/8/8/8/3P4/PPPP1PPP/RNBQKBNR | rnbqkbnr/pppppppp/8/8/8/8/PPPPPPPP/RNBQKBNR w KQkq - 0 1 | White 0*63 : 255*63 => no
-rnbqkbnr/pppppppp/8/8/8/3P4/PPPP1PPP/RNBQKBNR | rnbqkbnr/pppppppp/8/8/8/8/PPPPPPPP/RNBQKBNR w KQkq - 0 1 | White 0 0 0 1 0 0 0 0 : 255*64 => no
-rnbqkbnr/pppppppp/8/8/8/3P4/PPPP1PPP/RNBQKBNR | rnbqkbnr/pppppppp/8/8/8/8/PPPPPPPP/RNBQKBNR w KQkq - 0 1 | White 0*64 : 0 0 0 1 0 0 0 1 => no
+rnbqkbnr/pppppppp/8/8/8/3P4/PPPP1PPP/RNBQKBNR | rnbqkbnr/pppppppp/8/8/8/8/PPPPPPPP/RNBQKBNR w KQkq - 0 1 | \
+    White 0 0 0 1 0 0 0 0 : 255*64 => no
+rnbqkbnr/pppppppp/8/8/8/3P4/PPPP1PPP/RNBQKBNR | rnbqkbnr/pppppppp/8/8/8/8/PPPPPPPP/RNBQKBNR w KQkq - 0 1 | \
+    White 0*64 : 0 0 0 1 0 0 0 1 => no
 rnbqkbnr/pppppppp/8/8/8/3P4/PPPP1PPP/RNBQKBNR | rnbqkbnr/pppppppp/8/8/8/8/PPPPPPPP/RNBQKBNR w KQkq - 0 1 | White 0*64 : 255*64 => no
-rnbqkbnr/pppppppp/8/8/8/3P4/PPPP1PPP/RNBQKBNR | rnbqkbnr/pppppppp/8/8/8/8/PPPPPPPP/RNBQKBNR w KQkq - 0 1 | White 0 0 0 1 0 0 0 0 : 255*65 => no
-rnbqkbnr/pppppppp/8/8/8/3P4/PPPP1PPP/RNBQKBNR | rnbqkbnr/pppppppp/8/8/8/8/PPPPPPPP/RNBQKBNR w KQkq - 0 1 | White 0*65 : 0 0 0 1 0 0 0 1 => no
+rnbqkbnr/pppppppp/8/8/8/3P4/PPPP1PPP/RNBQKBNR | rnbqkbnr/pppppppp/8/8/8/8/PPPPPPPP/RNBQKBNR w KQkq - 0 1 | \
+    White 0 0 0 1 0 0 0 0 : 255*65 => no
+rnbqkbnr/pppppppp/8/8/8/3P4/PPPP1PPP/RNBQKBNR | rnbqkbnr/pppppppp/8/8/8/8/PPPPPPPP/RNBQKBNR w KQkq - 0 1 | \
+    White 0*65 : 0 0 0 1 0 0 0 1 => no
 rnbqkbnr/pppppppp/8/8/8/3P4/PPPP1PPP/RNBQKBNR | rnbqkbnr/pppppppp/8/8/8/8/PPPPPPPP/RNBQKBNR w KQkq - 0 1 | White 0*65 : 255*65 => no";
 
 #[test]

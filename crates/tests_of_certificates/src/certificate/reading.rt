@@ -148,7 +148,8 @@ record*4 |  | 01 05 0204 03 => Expand { named: false };Expand { named: true };Cu
 record*4 |  | 01 05 0204 0300 => Expand { named: false };Expand { named: true };Cut(4);!Truncated;
 record*4 |  | 01 05 0204 030001 => Expand { named: false };Expand { named: true };Cut(4);!Truncated;
 record*4 |  | 01 05 0204 03000102 => Expand { named: false };Expand { named: true };Cut(4);!Truncated;
-bare*4 end |  | 01 05 0204 0300010203 => Expand { named: false } [7] [8, 9];Expand { named: true } [7] [8, 9];Cut(4) [7] [8, 9];Ref(66051) [7] [8, 9];end;
+bare*4 end |  | 01 05 0204 0300010203 => \
+    Expand { named: false } [7] [8, 9];Expand { named: true } [7] [8, 9];Cut(4) [7] [8, 9];Ref(66051) [7] [8, 9];end;
 bare*2 |  | 0004000101010203 => !UnknownRecord(0) [7] [8, 9];
 bare*2 |  | 0404000101010203 => !UnknownRecord(4) [7] [8, 9];
 bare*2 |  | 0604000101010203 => !UnknownRecord(6) [7] [8, 9];

@@ -80,7 +80,8 @@ fn castling(rt: HostRuntime) {
 
 // A captured rook ends its right, and so do rooks that have come back.
 const ROOKS: &str = "4k3/8/8/8/8/8/6b1/R3K2R b KQ - 0 1 | g2h1 => 4k3/8/8/8/8/8/8/R3K2b w Q - 0 1
-rnbqkbnr/pppppppp/8/8/8/8/PPPPPPPP/RNBQKBNR w KQkq - 0 1 | g1f3 g8f6 h1g1 h8g8 g1h1 g8h8 f3g1 f6g8 => rnbqkbnr/pppppppp/8/8/8/8/PPPPPPPP/RNBQKBNR w Qq - 0 1";
+rnbqkbnr/pppppppp/8/8/8/8/PPPPPPPP/RNBQKBNR w KQkq - 0 1 | g1f3 g8f6 h1g1 h8g8 g1h1 g8h8 f3g1 f6g8 => \
+    rnbqkbnr/pppppppp/8/8/8/8/PPPPPPPP/RNBQKBNR w Qq - 0 1";
 
 #[test]
 fn rooks_that_end_rights(rt: HostRuntime) {
@@ -89,7 +90,8 @@ fn rooks_that_end_rights(rt: HostRuntime) {
 
 const PASSED: &str =
     "rnbqkbnr/pppppppp/8/8/8/8/PPPPPPPP/RNBQKBNR w KQkq - 0 1 | e2e4 => rnbqkbnr/pppppppp/8/8/4P3/8/PPPP1PPP/RNBQKBNR b KQkq e3 0 1
-rnbqkbnr/pppppppp/8/8/8/8/PPPPPPPP/RNBQKBNR w KQkq - 0 1 | e2e4 a7a6 e4e5 d7d5 e5d6 => rnbqkbnr/1pp1pppp/p2P4/8/8/8/PPPP1PPP/RNBQKBNR b KQkq - 0 1";
+rnbqkbnr/pppppppp/8/8/8/8/PPPPPPPP/RNBQKBNR w KQkq - 0 1 | e2e4 a7a6 e4e5 d7d5 e5d6 => \
+    rnbqkbnr/1pp1pppp/p2P4/8/8/8/PPPP1PPP/RNBQKBNR b KQkq - 0 1";
 
 // A capture in passing that comes too late, and one that would leave the king in check.
 const REFUSED_IN_PASSING: &str =
