@@ -1,11 +1,11 @@
 #!/usr/bin/env bash
-# Tries all wrong edits of crates by the kit's own command. For each crate, in a copy of the crates outside the
-# repository, the edits of more-edits/CRATE are laid beside those of crates/CRATE/must-fail, those of other crates
-# are left out, and `rt ci CRATE` is run. It works on as many crates side by side as RT_JOBS says, or as there are
-# processors and memory for, with one job each, and hands on the lines of a crate's edits when they are all tried.
-# The status is 0 only where each edit was refused: it is 1 where one was NOT REFUSED, is a BAD EDIT or was NOT TRIED,
-# or where a crate is not proved. What `rt ci` proved and tried on this machine before is done again only where
-# something changed that it stands on. (A kit that keeps nothing proves all below a crate for each crate.)
+# Tries all wrong edits of crates by the kit's own command. Each crate is copied with those below it to the top of a
+# repository of their own, with the crate's edits of must-fail and of more-edits and no others, and `rt ci` is run
+# there. It works on as many crates side by side as RT_JOBS says, or as there are processors and memory for, with one
+# job each, and hands on the lines of a crate's edits when they are all tried. The status is 0 only where each edit was
+# refused: it is 1 where one was NOT REFUSED, is a BAD EDIT or was NOT TRIED, or where a crate is not proved. What
+# `rt ci` proved and tried on this machine before is done again only where something changed that it stands on. (A kit
+# that keeps nothing proves all below a crate for each crate.)
 #
 #   bench/repository/try-edits.sh CRATE..   all edits of these crates
 #   bench/repository/try-edits.sh           all edits of all crates
@@ -16,11 +16,17 @@ cd "$(dirname "$(readlink -f "$0")")/../.." || exit 2
 
 edits() { find "more-edits/$1" "crates/$1/must-fail" -name '*.edit' 2>/dev/null; }
 
-# How many lines the crate $1 and those that it names have.
+# The lines of crates.txt, from the last to the first, of the crate $1 and of those on which it stands, each of which
+# has its line above it.
+needed() {
+  tac crates.txt | awk -F: -v crate="$1" '
+    $1 == crate || $1 in used { print; n = split($2, words, " "); for (i = 1; i <= n; i++) used[words[i]] }'
+}
+
+# How many lines the crate $1 has, and those below it.
 lines() {
-  local name
-  for name in "$1" $(sed -n "s/^$1://p" crates.txt); do
-    find "crates/$name" -path '*/out' -prune -o \( -name '*.rt' -o -name '*.antt' \) -exec cat {} + 2>/dev/null
+  needed "$1" | while IFS=: read -r name _; do
+    find "crates/$name" -path '*/out' -prune -o \( -name '*.rt' -o -name '*.antt' \) -exec cat {} +
   done | wc -l
 }
 
@@ -44,9 +50,10 @@ at_once() {
 try() {
   local said status
   grep -q "^$1:" crates.txt || { echo "try-edits: there is no crate $1" >&2; return 1; }
-  mkdir -p "$2/.git" && tar -c --exclude=out --exclude=must-fail HANDLES crates crates.txt | tar -x -C "$2" &&
+  mkdir -p "$2/.git" && needed "$1" | tac >"$2/crates.txt" || return
+  sed 's|\(.*\):.*|crates/\1|' "$2/crates.txt" | tar -c --exclude=out --exclude=must-fail -T - HANDLES | tar -x -C "$2" &&
     mkdir "$2/crates/$1/must-fail" && edits "$1" | xargs -r cp -t "$2/crates/$1/must-fail" || return
-  said=$(cd "$2" && RT_JOBS=1 rt ci "$1" 2>&1)
+  said=$(cd "$2" && RT_JOBS=1 rt ci 2>&1)
   status=$?
   rm -rf "$2"
   grep '^rt: must-fail \|^rt: .* must-fail edits' <<<"$said"
