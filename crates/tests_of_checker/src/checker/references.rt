@@ -11,11 +11,16 @@ use pg_trial::named_expansions;
 // number 1; behind three cuts; to a node of other plies; and below the node itself, which is open and has no
 // number.
 const SHUFFLED: &str =
-    "pawn-on-d3 | 2.5 |  |  | 1 | 1 pawn-on-d3 2.5 | 05 0203*3 01 0203*2 01 0203*18 01 0203*17 01 0203*4 0300000000 0203*39 | 213 => 89 1
-pawn-on-d3 | 2.5 |  |  | 0 | 1 pawn-on-d3 2.5 | 05 0203*3 01 0203*2 01 0203*18 01 0203*17 01 0203*4 0300000000 0203*39 => TooManyNamed
-pawn-on-d3 | 2.5 |  |  | 9 | 1 pawn-on-d3 2.5 | 01 0203*3 01 0203*2 01 0203*18 01 0203*17 01 0203*4 0300000000 0203*39 => RefUnknown
-pawn-on-d3 | 2.5 |  |  | 9 | 1 pawn-on-d3 2.5 | 05 0203*3 01 0203*2 01 0203*18 01 0203*17 01 0203*4 0300000001 0203*39 => RefUnknown
-pawn-on-d3 | 2.5 |  |  | 9 | 1 pawn-on-d3 2.5 | 05 0203*3 01 0203*2 01 0203*18 01 0203*17 01 0203*3 0300000000 0203*39 => RefDiffers
+    "pawn-on-d3 | 2.5 |  |  | 1 | 1 pawn-on-d3 2.5 | \
+    05 0203*3 01 0203*2 01 0203*18 01 0203*17 01 0203*4 0300000000 0203*39 | 213 => 89 1
+pawn-on-d3 | 2.5 |  |  | 0 | 1 pawn-on-d3 2.5 | \
+    05 0203*3 01 0203*2 01 0203*18 01 0203*17 01 0203*4 0300000000 0203*39 => TooManyNamed
+pawn-on-d3 | 2.5 |  |  | 9 | 1 pawn-on-d3 2.5 | \
+    01 0203*3 01 0203*2 01 0203*18 01 0203*17 01 0203*4 0300000000 0203*39 => RefUnknown
+pawn-on-d3 | 2.5 |  |  | 9 | 1 pawn-on-d3 2.5 | \
+    05 0203*3 01 0203*2 01 0203*18 01 0203*17 01 0203*4 0300000001 0203*39 => RefUnknown
+pawn-on-d3 | 2.5 |  |  | 9 | 1 pawn-on-d3 2.5 | \
+    05 0203*3 01 0203*2 01 0203*18 01 0203*17 01 0203*3 0300000000 0203*39 => RefDiffers
 pawn-on-d3 | 1.0 |  |  | 9 | 1 pawn-on-d3 1.0 | 05 0300000000 => RefDiffers
 pawn-on-d3 | 1.0 |  |  | 9 | 1 pawn-on-d3 1.0 | 0203 05 0300000000 => RefUnknown";
 
@@ -117,8 +122,12 @@ fn numbers_go_on_from_tree_to_tree(rt: HostRuntime) {
 // All nodes are expanded but for 122 cuts in the tree of length 3, which bring the reference after 1. c3 a5 2.
 // Na3, to the node after 1. Na3 a5 2. c3, to the last two bytes of the buffer, of 4,096.
 const ACROSS: &str =
-    "recaptured | 2.0 | 1. e4 d5 2. exd5 Qxd5 |  | 1 | 1 recaptured 2.0 | 01*23 01 0201*20 01 0201*20 01 0201*20 01 0201*20 01 0201*20 01 0201*20 01 0201*2 01*299 05 01*3483 0300000000 01*5830 | 9929 => 9766 1
-recaptured | 2.0 | 1. e4 d5 2. exd5 Qxd5 |  | 1 | 1 recaptured 2.0 | 01*23 01 0201*20 01 0201*20 01 0201*20 01 0201*20 01 0201*20 01 0201*20 01 0201*2 01*299 05 01*3483 0300000001 01*5830 => RefUnknown";
+    "recaptured | 2.0 | 1. e4 d5 2. exd5 Qxd5 |  | 1 | 1 recaptured 2.0 | \
+    01*23 01 0201*20 01 0201*20 01 0201*20 01 0201*20 01 0201*20 01 0201*20 01 0201*2 01*299 05 01*3483 0300000000 \
+    01*5830 | 9929 => 9766 1
+recaptured | 2.0 | 1. e4 d5 2. exd5 Qxd5 |  | 1 | 1 recaptured 2.0 | \
+    01*23 01 0201*20 01 0201*20 01 0201*20 01 0201*20 01 0201*20 01 0201*20 01 0201*2 01*299 05 01*3483 0300000001 \
+    01*5830 => RefUnknown";
 
 #[test]
 fn a_reference_across_the_end_of_the_buffer(rt: HostRuntime) {
@@ -252,7 +261,8 @@ pub(super) fn check_marked<R: Abort + AllocGlobal>(rt: &R, row: &str) {
 
 // A node with a game below is fertile. Passed squares tell positions apart.
 const MARKED: &str =
-    "four-pawns | 2.0 | 1. d3 d6 2. e3 e6/1. d3 e6 2. e3 d6/1. e3 d6 2. d3 e6/1. e3 e6 2. d3 d6 | 1 | 1. d3 d6 2. e3 | 1. e3 d6 2. d3 => RefFertile
+    "four-pawns | 2.0 | 1. d3 d6 2. e3 e6/1. d3 e6 2. e3 d6/1. e3 d6 2. d3 e6/1. e3 e6 2. d3 d6 | 1 | \
+    1. d3 d6 2. e3 | 1. e3 d6 2. d3 => RefFertile
 pawn-on-d4 | 1.5 | 1. d4 e6 2. e3/1. e3 e6 2. d4 | 1 | 1. d4 e6 | 1. e3 e6 => RefDiffers
 pawn-on-d3 | 2.0 |  | 1 | 1. d4 e6 2. e3 | 1. e3 e6 2. d4 => RefDiffers
 pawn-on-d3 | 2.0 |  | 1 | 1. d3 e6 2. e3 | 1. e3 e6 2. d3 => 1";

@@ -7,12 +7,25 @@ use pg_report::search;
 
 // Expanded nodes, and then the leaf of no ply.
 const EXPANDED: &str =
-    "after-e4-e5 | 1 | - | # after-e4-e5 1.0 | 01*22 => () => at the start: 1 of 20 moves leads on; cut 19 by travel; 1 game below$the certificate is right$
-after-e4-e5 | 1 | d4 | # after-e4-e5 1.0 | 01*22 => () => at the start: 1 of 20 moves leads on; cut 19 by travel; 1 game below$after 1. d4: none of 20 moves ends on the diagram: no man of white's can come to be the pawn on d2 (travel)$the certificate is right$
-after-e4-e5 | 1 | 1.e4 | # after-e4-e5 1.0 | 01*22 => () => at the start: 1 of 20 moves leads on; cut 19 by travel; 1 game below$after 1. e4: 1 of 20 moves ends on the diagram$the certificate is right$
-after-e4-e5 | 1 | e4 e5 | # after-e4-e5 1.0 | 01*22 => () => at the start: 1 of 20 moves leads on; cut 19 by travel; 1 game below$after 1. e4: 1 of 20 moves ends on the diagram$after 1. e4 e5: a solution$the certificate is right$
-after-e4-e5 | 1 | e4 d5 | # after-e4-e5 1.0 | 01*22 => () => at the start: 1 of 20 moves leads on; cut 19 by travel; 1 game below$after 1. e4: 1 of 20 moves ends on the diagram$after 1. e4 d5: does not end on the diagram$the certificate is right$
-after-e4-e5 | 1 | e2e4 e7e5 Ng1-f3 | # after-e4-e5 1.0 | 01*22 => () => at the start: 1 of 20 moves leads on; cut 19 by travel; 1 game below$after 1. e4: 1 of 20 moves ends on the diagram$after 1. e4 e5: a solution; the line goes on$the certificate is right$
+    "after-e4-e5 | 1 | - | # after-e4-e5 1.0 | 01*22 => () => \
+    at the start: 1 of 20 moves leads on; cut 19 by travel; 1 game below$the certificate is right$
+after-e4-e5 | 1 | d4 | # after-e4-e5 1.0 | 01*22 => () => \
+    at the start: 1 of 20 moves leads on; cut 19 by travel; 1 game below$\
+    after 1. d4: none of 20 moves ends on the diagram: no man of white's can come to be the pawn on d2 (travel)$\
+    the certificate is right$
+after-e4-e5 | 1 | 1.e4 | # after-e4-e5 1.0 | 01*22 => () => \
+    at the start: 1 of 20 moves leads on; cut 19 by travel; 1 game below$\
+    after 1. e4: 1 of 20 moves ends on the diagram$the certificate is right$
+after-e4-e5 | 1 | e4 e5 | # after-e4-e5 1.0 | 01*22 => () => \
+    at the start: 1 of 20 moves leads on; cut 19 by travel; 1 game below$\
+    after 1. e4: 1 of 20 moves ends on the diagram$after 1. e4 e5: a solution$the certificate is right$
+after-e4-e5 | 1 | e4 d5 | # after-e4-e5 1.0 | 01*22 => () => \
+    at the start: 1 of 20 moves leads on; cut 19 by travel; 1 game below$\
+    after 1. e4: 1 of 20 moves ends on the diagram$after 1. e4 d5: does not end on the diagram$the certificate is right$
+after-e4-e5 | 1 | e2e4 e7e5 Ng1-f3 | # after-e4-e5 1.0 | 01*22 => () => \
+    at the start: 1 of 20 moves leads on; cut 19 by travel; 1 game below$\
+    after 1. e4: 1 of 20 moves ends on the diagram$after 1. e4 e5: a solution; the line goes on$\
+    the certificate is right$
 array | 0 | - | # array 0 |  => () => at the start: a solution$the certificate is right$
 array | 0 | e4 | # array 0 |  => () => at the start: a solution; the line goes on$the certificate is right$";
 
@@ -31,10 +44,24 @@ fn expanded_nodes_and_leaves(rt: HostRuntime) {
 }
 
 const REFERENCES: &str =
-    "shut-in | 2.5 | h3 a6 a3 => at the start: 2 of 20 moves lead on; cut 18 by travel; no game below$after 1. h3: 2 of 20 moves lead on; cut 18 by travel; no game below$after 1. h3 a6: none of 19 moves leads on; cut 18 by travel, 1 by reference; no game below$after 1. h3 a6 2. a3: as after 1. a3 a6 2. h3, below which no game ends on the diagram$the certificate is right$
-shut-in | 2.5 | h3 a6 a3 h6 => at the start: 2 of 20 moves lead on; cut 18 by travel; no game below$after 1. h3: 2 of 20 moves lead on; cut 18 by travel; no game below$after 1. h3 a6: none of 19 moves leads on; cut 18 by travel, 1 by reference; no game below$after 1. h3 a6 2. a3: as after 1. a3 a6 2. h3, below which no game ends on the diagram; the line goes on$the certificate is right$
-shut-in | 2.5 | a3 a6 h3 h6 Rh2 => at the start: 2 of 20 moves lead on; cut 18 by travel; no game below$after 1. a3: 2 of 20 moves lead on; cut 18 by travel; no game below$after 1. a3 a6: 1 of 19 moves leads on; cut 18 by travel; no game below$after 1. a3 a6 2. h3: none of 19 moves leads on; cut 18 by travel; 1 played out; no game below$after 1. a3 a6 2. h3 h6: none of 18 moves ends on the diagram$after 1. a3 a6 2. h3 h6 3. Rh2: does not end on the diagram$the certificate is right$
-shut-in | 2.5 | e4 e5 => at the start: 2 of 20 moves lead on; cut 18 by travel; no game below$after 1. e4: excluded: no man of white's can come to be the pawn on e2 (travel); the line goes on$the certificate is right$";
+    "shut-in | 2.5 | h3 a6 a3 => at the start: 2 of 20 moves lead on; cut 18 by travel; no game below$\
+    after 1. h3: 2 of 20 moves lead on; cut 18 by travel; no game below$\
+    after 1. h3 a6: none of 19 moves leads on; cut 18 by travel, 1 by reference; no game below$\
+    after 1. h3 a6 2. a3: as after 1. a3 a6 2. h3, below which no game ends on the diagram$the certificate is right$
+shut-in | 2.5 | h3 a6 a3 h6 => at the start: 2 of 20 moves lead on; cut 18 by travel; no game below$\
+    after 1. h3: 2 of 20 moves lead on; cut 18 by travel; no game below$\
+    after 1. h3 a6: none of 19 moves leads on; cut 18 by travel, 1 by reference; no game below$\
+    after 1. h3 a6 2. a3: as after 1. a3 a6 2. h3, below which no game ends on the diagram; the line goes on$\
+    the certificate is right$
+shut-in | 2.5 | a3 a6 h3 h6 Rh2 => at the start: 2 of 20 moves lead on; cut 18 by travel; no game below$\
+    after 1. a3: 2 of 20 moves lead on; cut 18 by travel; no game below$\
+    after 1. a3 a6: 1 of 19 moves leads on; cut 18 by travel; no game below$\
+    after 1. a3 a6 2. h3: none of 19 moves leads on; cut 18 by travel; 1 played out; no game below$\
+    after 1. a3 a6 2. h3 h6: none of 18 moves ends on the diagram$\
+    after 1. a3 a6 2. h3 h6 3. Rh2: does not end on the diagram$the certificate is right$
+shut-in | 2.5 | e4 e5 => at the start: 2 of 20 moves lead on; cut 18 by travel; no game below$\
+    after 1. e4: excluded: no man of white's can come to be the pawn on e2 (travel); the line goes on$\
+    the certificate is right$";
 
 // The certificate that a search writes, which finds no game.
 fn searched<R: Abort + AllocGlobal>(rt: &R, diagram: &str, length: &str) -> Vec<u8> {

@@ -9,8 +9,10 @@ const TEXTS: &str =
     "after-e4-e5 | 1.0 |  | 1 after-e4-e5 1.0 | 01*22 => Moves: not one line of moves
 after-e4-e5 | 1.0 |  $\t | 1 after-e4-e5 1.0 | 01*22 => Moves: not one line of moves
 after-e4-e5 | 1.0 | e4$d4 | 1 after-e4-e5 1.0 | 01*22 => Moves: not one line of moves
-after-e4-e5 | 1.0 | e4 e5 Ke3 | 1 after-e4-e5 1.0 | 01*22 => Games(At { line: 1, ply: 3, cause: NoSuchMove }): line 1, ply 3: no such legal move
-after-e4-e5 | 1.0 | 1. e4, e5 | 1 after-e4-e5 1.0 | 01*22 => Games(At { line: 1, ply: 1, cause: Shape }): line 1, ply 1: not a move";
+after-e4-e5 | 1.0 | e4 e5 Ke3 | 1 after-e4-e5 1.0 | 01*22 => \
+    Games(At { line: 1, ply: 3, cause: NoSuchMove }): line 1, ply 3: no such legal move
+after-e4-e5 | 1.0 | 1. e4, e5 | 1 after-e4-e5 1.0 | 01*22 => \
+    Games(At { line: 1, ply: 1, cause: Shape }): line 1, ply 1: not a move";
 
 #[test]
 fn texts_that_are_refused(rt: HostRuntime) {
@@ -25,7 +27,8 @@ after-e4 | 0.5 | - | 2 after-e4 0.5 | 0203 => Answer(Check(CutFails(3))): cut 3 
 after-e4 | 0.5 | - | 2 after-e4 0.5 | 0204 => Answer(Check(CutFails(4))): cut 4 does not exclude
 after-e4 | 0.5 | - | 2 after-e4 0.5 | 0205 | journeys => Answer(Check(CutFails(5))): cut 5 does not exclude
 after-e4 | 0.5 | - | 2 after-e4 0.5 | 0205 => Answer(Check(UnknownBound(5))): unknown bound 5
-rnbqkbnr/pppppppp/8/8/8/2N2N2/PPPPPPPP/R1BQKB1R | 0.5 | - | 2 rnbqkbnr/pppppppp/8/8/8/2N2N2/PPPPPPPP/R1BQKB1R 0.5 | 0205 => Answer(Check(UnknownBound(5))): unknown bound 5
+rnbqkbnr/pppppppp/8/8/8/2N2N2/PPPPPPPP/R1BQKB1R | 0.5 | - | 2 rnbqkbnr/pppppppp/8/8/8/2N2N2/PPPPPPPP/R1BQKB1R 0.5 | \
+    0205 => Answer(Check(UnknownBound(5))): unknown bound 5
 after-e4 | 0.5 | d4 | 2 after-e4 0.5 | 0209 => Answer(Check(UnknownBound(9))): unknown bound 9
 after-e4 | 0.5 | - | 2 after-e4 0.5 | 060400010000 => Answer(Check(CutFails(4))): cut 4 does not exclude";
 
@@ -37,8 +40,10 @@ fn cuts_that_do_not_hold(rt: HostRuntime) {
 // To no node; and after Na3 to the root of the tree of one ply.
 const REFERENCES: &str =
     "after-e4 | 0.5 | - | 2 after-e4 0.5 | 0300000007 => Answer(Check(RefUnknown)): reference to no closed node
-after-e4-e5 | 1.0 | Na3 | 2 after-e4-e5 1.0 | 0501 0300000000 01*19 => Answer(Check(RefDiffers)): reference to another position
-after-e4 | 1.0 | Na3 | 2 after-e4 1.0 | 0501 0300000000 01*19 => Answer(Check(Shorter(1))): a game of 1 plies reaches the diagram";
+after-e4-e5 | 1.0 | Na3 | 2 after-e4-e5 1.0 | 0501 0300000000 01*19 => \
+    Answer(Check(RefDiffers)): reference to another position
+after-e4 | 1.0 | Na3 | 2 after-e4 1.0 | 0501 0300000000 01*19 => \
+    Answer(Check(Shorter(1))): a game of 1 plies reaches the diagram";
 
 #[test]
 fn references_that_do_not_hold(rt: HostRuntime) {

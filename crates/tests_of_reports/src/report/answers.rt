@@ -45,16 +45,22 @@ fn refusals_without_a_list(rt: HostRuntime) {
 // A header of the array in 64.0, and in half a move more; with a number that is no man's; with another king, and
 // without one; with a pawn on the first rank. Then certificates for another length and another diagram.
 const HEADERS: &str =
-    "answer |  |  |  |  |  | 50474331 80 24533642 11111111 00*16 99999999 acdbbeca => Answer(Check(Shorter(0))): a game of 0 plies reaches the diagram
+    "answer |  |  |  |  |  | 50474331 80 24533642 11111111 00*16 99999999 acdbbeca => \
+    Answer(Check(Shorter(0))): a game of 0 plies reaches the diagram
 answer |  |  |  |  |  | 50474331 81 24533642 11111111 00*16 99999999 acdbbeca => NoProblem: certificate for no problem
-answer |  |  |  |  |  | 50474331 00 24533642 11111111 00*15 07 99999999 acdbbeca => NoProblem: certificate for no problem
-answer |  |  |  |  |  | 50474331 00 24533642 11111111 00*15 80 99999999 acdbbeca => NoProblem: certificate for no problem
-answer |  |  |  |  |  | 50474331 00 24533642 11111111 00*15 f0 99999999 acdbbeca => NoProblem: certificate for no problem
-answer |  |  |  |  |  | 50474331 00 24533642 11111111 00*15 06 99999999 acdbbeca => NoProblem: certificate for no problem
+answer |  |  |  |  |  | 50474331 00 24533642 11111111 00*15 07 99999999 acdbbeca => \
+    NoProblem: certificate for no problem
+answer |  |  |  |  |  | 50474331 00 24533642 11111111 00*15 80 99999999 acdbbeca => \
+    NoProblem: certificate for no problem
+answer |  |  |  |  |  | 50474331 00 24533642 11111111 00*15 f0 99999999 acdbbeca => \
+    NoProblem: certificate for no problem
+answer |  |  |  |  |  | 50474331 00 24533642 11111111 00*15 06 99999999 acdbbeca => \
+    NoProblem: certificate for no problem
 answer |  |  |  |  |  | 50474331 00 24533642 11111111 00*16 99999999 acdbb0ca => NoProblem: certificate for no problem
 answer |  |  |  |  |  | 50474331 00 24533611 11111111 00*16 99999999 acdbbeca => NoProblem: certificate for no problem
 answer-to | after-e4 | 1.0 |  |  | 1 after-e4 0.5 | 01 => Answer(Check(OtherLength)): certificate for another length
-answer-to | after-e4-e5 | 0.5 |  |  | 1 after-e4 0.5 | 01 => Answer(Check(OtherDiagram)): certificate for another diagram";
+answer-to | after-e4-e5 | 0.5 |  |  | 1 after-e4 0.5 | 01 => \
+    Answer(Check(OtherDiagram)): certificate for another diagram";
 
 #[test]
 fn headers(rt: HostRuntime) {
@@ -62,7 +68,8 @@ fn headers(rt: HostRuntime) {
 }
 
 const OPEN_GAME: &str =
-    "answer |  |  |  |  | 1 after-e4-e5 1.0 | 0204 01 0204*13 01 0204*6 => Sound => diagram rnbqkbnr/pppp1ppp/8/4p3/4P3/8/PPPP1PPP/RNBQKBNR$length 1.0$games 1$1. e4 e5$sound$";
+    "answer |  |  |  |  | 1 after-e4-e5 1.0 | 0204 01 0204*13 01 0204*6 => Sound => \
+    diagram rnbqkbnr/pppp1ppp/8/4p3/4P3/8/PPPP1PPP/RNBQKBNR$length 1.0$games 1$1. e4 e5$sound$";
 
 // Each read of one byte fails in turn: it is not tried again, and nothing is written.
 #[test]

@@ -22,7 +22,8 @@ const REFUSED: &str = "count | start | 9 => Count(TooDeep): more than 8 plies
 count | mated | 255 => Count(TooDeep): more than 8 plies
 count |  | 9 => Position(Fields): wrong number of fields
 count | 4k3/8/8/8/8/8/8/4K3 w KK - 0 1 | 1 => Position(Rights): bad castling rights
-count | 4k3/8/8/8/8/8/8/4K3 w K - 0 1 | 0 => Position(Invalid(Rights)): impossible position: a castling right without its king and rook at home";
+count | 4k3/8/8/8/8/8/8/4K3 w K - 0 1 | 0 => \
+    Position(Invalid(Rights)): impossible position: a castling right without its king and rook at home";
 
 #[test]
 fn counts_that_are_refused(rt: HostRuntime) {

@@ -8,7 +8,8 @@ moves | mated => ()
 moves |  => Position(Fields): wrong number of fields
 moves | 4k3/8/8/8/8/8/8/4K3 => Position(Fields): wrong number of fields
 moves | 4k3/8/8/8/8/8/8/4K3 x - - 0 1 => Position(Side): bad side to move
-moves | 4k3/8/8/8/8/8/8/4R1K1 w - - 0 1 => Position(Invalid(Check)): impossible position: the side that is not to move is in check";
+moves | 4k3/8/8/8/8/8/8/4R1K1 w - - 0 1 => \
+    Position(Invalid(Check)): impossible position: the side that is not to move is in check";
 
 #[test]
 fn moves_of_positions(rt: HostRuntime) {

@@ -66,8 +66,10 @@ fn movetexts_end_at_an_illegal_move(rt: HostRuntime) {
 
 const REPORTS: &str =
     "report | array | 0 | - => Sound => diagram rnbqkbnr/pppppppp/8/8/8/8/PPPPPPPP/RNBQKBNR$length 0.0$games 1$-$sound$
-report | two-orders | 1.5 | 1. e3 e6 2. d3$1. d3 e6 2. e3$ => Cooked => diagram rnbqkbnr/pppp1ppp/4p3/8/8/3PP3/PPP2PPP/RNBQKBNR$length 1.5$games 2$1. d3 e6 2. e3$1. e3 e6 2. d3$cooked$
-report | two-orders | 02 |  => NoGame => diagram rnbqkbnr/pppp1ppp/4p3/8/8/3PP3/PPP2PPP/RNBQKBNR$length 2.0$games 0$no game$";
+report | two-orders | 1.5 | 1. e3 e6 2. d3$1. d3 e6 2. e3$ => Cooked => \
+    diagram rnbqkbnr/pppp1ppp/4p3/8/8/3PP3/PPP2PPP/RNBQKBNR$length 1.5$games 2$1. d3 e6 2. e3$1. e3 e6 2. d3$cooked$
+report | two-orders | 02 |  => NoGame => \
+    diagram rnbqkbnr/pppp1ppp/4p3/8/8/3PP3/PPP2PPP/RNBQKBNR$length 2.0$games 0$no game$";
 
 #[test]
 fn reports(rt: HostRuntime) {

@@ -47,7 +47,8 @@ fn longest_prices_are_whole(rt: HostRuntime) {
     let mut said = ended(&node(&diagram, &position), &Ending::Said(record));
     assert_eq!(rt;
         said.as_str(),
-        "excluded: white has 128 moves left, and white's men need 15556 moves at least, counted pair by pair: the bishop on a1 255, \
+        "excluded: white has 128 moves left, and white's men need 15556 moves at least, counted pair by pair: the \
+            bishop on a1 255, \
          the bishop on b1 255, the bishop on c1 255, others 15045, castling 1, less 255"
     );
     // What `pg why` may say behind it has room too.
@@ -74,7 +75,9 @@ fn longest_counts_are_whole(rt: HostRuntime) {
     let said = expanded(&node(&diagram, &position), &tally);
     assert_eq!(rt;
         said.as_str(),
-        "65535 of 65535 moves lead on; cut 65535 by captures, 65535 by promotions, 65535 by pawn files, 65535 by travel, \
-         65535 by journeys, 65535 by other bounds, 65535 by reference; 65535 played out; 18446744073709551615 games below"
+        "65535 of 65535 moves lead on; cut 65535 by captures, 65535 by promotions, 65535 by pawn files, 65535 by \
+            travel, \
+         65535 by journeys, 65535 by other bounds, 65535 by reference; 65535 played out; 18446744073709551615 games \
+             below"
     );
 }

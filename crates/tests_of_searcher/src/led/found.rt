@@ -7,9 +7,13 @@ use super::*;
 // promotions of either colour, captures en passant; a first move that is foreign; a pawn's two squares in place of one,
 // Black's and White's, so that the first foreign move is theirs; and a game that is shorter.
 const LEADS: &str =
-    "1. e3 a5 2. Qh5 Ra6 3. Qxa5 h5 4. h4 Rah6 5. Qxc7 f6 6. Qxd7+ Kf7 7. Qxb7 Qd3 8. Qxb8 Qh7 9. Qxc8 Kg6 10. Qe6 | 1000 | 0 => 19 plies
-1. c4 d5 2. Qb3 Bh3 3. gxh3 f5 4. Qxb7 Kf7 5. Qxa7 Kg6 6. f3 c5 7. Qxe7 Rxa2 8. Kf2 Rxb2 9. Qxg7+ Kh5 10. Qxg8 Rxb1 11. Rxb1 Kh4 12. Qxh8 h5 13. Qh6 Bxh6 14. Rxb8 Be3+ 15. dxe3 Qxb8+ 16. Kg2 Qf4 17. exf4 d4 18. Be3 dxe3 | 1000 | 0 => 36 plies
-1. e4 e5 2. Nf3 d6 3. d4 Bg4 4. dxe5 Bxf3 5. Qxf3 dxe5 6. Bc4 Nf6 7. Qb3 Qe7 8. Nc3 c6 9. Bg5 b5 10. Nxb5 cxb5 11. Bxb5+ Nbd7 12. O-O-O Rd8 13. Rxd7 Rxd7 14. Rd1 Qe6 15. Bxd7+ Nxd7 16. Qb8+ Nxb8 17. Rd8# | 1000 | 0 => 33 plies
+    "1. e3 a5 2. Qh5 Ra6 3. Qxa5 h5 4. h4 Rah6 5. Qxc7 f6 6. Qxd7+ Kf7 7. Qxb7 Qd3 8. Qxb8 Qh7 9. Qxc8 Kg6 10. Qe6 | \
+    1000 | 0 => 19 plies
+1. c4 d5 2. Qb3 Bh3 3. gxh3 f5 4. Qxb7 Kf7 5. Qxa7 Kg6 6. f3 c5 7. Qxe7 Rxa2 8. Kf2 Rxb2 9. Qxg7+ Kh5 10. Qxg8 Rxb1 \
+    11. Rxb1 Kh4 12. Qxh8 h5 13. Qh6 Bxh6 14. Rxb8 Be3+ 15. dxe3 Qxb8+ 16. Kg2 Qf4 17. exf4 d4 18. Be3 dxe3 | 1000 | \
+    0 => 36 plies
+1. e4 e5 2. Nf3 d6 3. d4 Bg4 4. dxe5 Bxf3 5. Qxf3 dxe5 6. Bc4 Nf6 7. Qb3 Qe7 8. Nc3 c6 9. Bg5 b5 10. Nxb5 cxb5 11. \
+    Bxb5+ Nbd7 12. O-O-O Rd8 13. Rxd7 Rxd7 14. Rd1 Qe6 15. Bxd7+ Nxd7 16. Qb8+ Nxb8 17. Rd8# | 1000 | 0 => 33 plies
 1. f3 e5 2. g4 Qh4# | 1000 | 0 => 4 plies
 1. e4 a6 2. e5 d5 3. exd6 | 1000 => 5 plies
 1. e4 d5 2. exd5 a6 3. d6 | 1000 => 5 plies
@@ -23,8 +27,10 @@ const LEADS: &str =
 1. a3 h5 2. b3 h4 3. c3 h3 4. d3 hxg2 5. e3 gxh1=N | 1000 | 0 => 10 plies
 1. e4 f5 2. exf5 e6 3. fxe6 a5 4. exd7+ | 20000 | 0 => none with 0
 1. e4 f5 2. exf5 e6 3. fxe6 a5 4. exd7+ | 20000 | 1 => 7 plies
-1. d3 f5 2. e4 fxe4 3. Qe2 exd3 4. cxd3/1. e4 f5 2. Qe2 fxe4 3. d3 exd3 4. cxd3/1. e4 f5 2. d3 fxe4 3. Qe2 exd3 4. cxd3 | 20000 | 0 => none with 0
-1. d3 f5 2. e4 fxe4 3. Qe2 exd3 4. cxd3/1. e4 f5 2. Qe2 fxe4 3. d3 exd3 4. cxd3/1. e4 f5 2. d3 fxe4 3. Qe2 exd3 4. cxd3 | 20000 | 1 => 7 plies
+1. d3 f5 2. e4 fxe4 3. Qe2 exd3 4. cxd3/1. e4 f5 2. Qe2 fxe4 3. d3 exd3 4. cxd3/1. e4 f5 2. d3 fxe4 3. Qe2 exd3 4. \
+    cxd3 | 20000 | 0 => none with 0
+1. d3 f5 2. e4 fxe4 3. Qe2 exd3 4. cxd3/1. e4 f5 2. Qe2 fxe4 3. d3 exd3 4. cxd3/1. e4 f5 2. d3 fxe4 3. Qe2 exd3 4. \
+    cxd3 | 20000 | 1 => 7 plies
 1. e4 e6 2. Bb5 Ke7 3. Bxd7 c6 4. Be8 Kxe8 | 20000 => 6 plies";
 
 #[test]
@@ -47,7 +53,8 @@ const SOUND: &str = "1. e4 g6 2. Ba6 Nxa6 3. Nf3 Nb8 4. O-O
 1. e3 h5 2. Bc4 h4 3. Bxf7+ Kxf7 4. Ne2 Ke6 5. O-O Kd5 6. Nec3+ Kc4 7. d3+
 1. b4 c5 2. bxc5 Qb6 3. cxb6 h5 4. bxa7 b5 5. axb8=R Ra3 6. Rxb5 Ba6 7. Rc5 Bb5
 1. d4 Nf6 2. Qd2 Nh5 3. Qh6 gxh6 4. b4 Bg7 5. b5 O-O 6. b6 Re8 7. bxa7 b6 8. axb8=N Ra4 9. Nxd7 Rb4
-1. d4 Nf6 2. Qd2 Nh5 3. Qh6 gxh6 4. b4 Bg7 5. b5 O-O 6. b6 Re8 7. bxa7 b6 8. axb8=N Ra4 9. Nxd7 Rc4 10. Nc5 Bf5 11. e3 Qa8 12. Be2 Qa3";
+1. d4 Nf6 2. Qd2 Nh5 3. Qh6 gxh6 4. b4 Bg7 5. b5 O-O 6. b6 Re8 7. bxa7 b6 8. axb8=N Ra4 9. Nxd7 Rc4 10. Nc5 Bf5 11. \
+    e3 Qa8 12. Be2 Qa3";
 
 // Whether a search of so many nodes goes through all games with three foreign moves at most, or through all games
 // before that, and meets none.

@@ -57,7 +57,8 @@ fn how_a_led_search_ends(rt: HostRuntime) {
 // parts the lines.
 const LISTS: &str = "1. f3 e5 2. g4 Qh4#/1. g4 e5 2. f3 Qh4#
 1. e4 a6 2. e5 d5 3. exd6/1. e4 a6 2. e5 d6 3. exd6/1. e4 d5 2. exd5 a6 3. d6/1. e4 d6 2. e5 a6 3. exd6
-1. e4 Nf6 2. Qe2 Nxe4 3. f3 Ng3 4. Qxe7+ Qxe7+ 5. Kf2 Nxh1#/1. e4 Nf6 2. f3 Nxe4 3. Qe2 Ng3 4. Qxe7+ Qxe7+ 5. Kf2 Nxh1#/1. f3 Nf6 2. e4 Nxe4 3. Qe2 Ng3 4. Qxe7+ Qxe7+ 5. Kf2 Nxh1#
+1. e4 Nf6 2. Qe2 Nxe4 3. f3 Ng3 4. Qxe7+ Qxe7+ 5. Kf2 Nxh1#/1. e4 Nf6 2. f3 Nxe4 3. Qe2 Ng3 4. Qxe7+ Qxe7+ 5. Kf2 \
+    Nxh1#/1. f3 Nf6 2. e4 Nxe4 3. Qe2 Ng3 4. Qxe7+ Qxe7+ 5. Kf2 Nxh1#
 1. e3 b5 2. Bc4 bxc4 3. d3 cxd3 4. Qxd3/1. e3 b5 2. Bc4 bxc4 3. d4 cxd3 4. Qxd3";
 
 // Whether another game is found with these in the list.

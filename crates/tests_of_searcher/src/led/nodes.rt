@@ -70,8 +70,10 @@ const VISITED: &str =
 1. h4 d5 2. h5 Nd7 3. h6 Ndf6 4. hxg7 Kd7 5. Rh6 Ne8 6. gxf8=N# | 766 | 2 => none with 1 766
 1. a4 h5 2. a5 h4 3. a6 h3 4. axb7 hxg2 5. bxa8=N gxh1=N 6. Nb6 Ng3 | 693 | 2 => none with 2 693
 1. a4 h5 2. a5 h4 3. a6 h3 4. axb7 hxg2 5. bxa8=N gxh1=N 6. Nb6 Ng3 | 692 | 2 => none with 1 692
-1. a4 h5 2. a5 h4 3. a6 h3 4. axb7 hxg2 5. bxa8=N gxh1=N 6. Nb6 Ng3/1. a4 h5 2. a5 h4 3. a6 h3 4. axb7 hxg2 5. bxa8=Q gxh1=Q 6. Qb7 Qg2 | 695 | 2 => none with 2 695
-1. a4 h5 2. a5 h4 3. a6 h3 4. axb7 hxg2 5. bxa8=N gxh1=N 6. Nb6 Ng3/1. a4 h5 2. a5 h4 3. a6 h3 4. axb7 hxg2 5. bxa8=Q gxh1=Q 6. Qb7 Qg2 | 50 | 0 => none with 0 50
+1. a4 h5 2. a5 h4 3. a6 h3 4. axb7 hxg2 5. bxa8=N gxh1=N 6. Nb6 Ng3/1. a4 h5 2. a5 h4 3. a6 h3 4. axb7 hxg2 5. bxa8=Q \
+    gxh1=Q 6. Qb7 Qg2 | 695 | 2 => none with 2 695
+1. a4 h5 2. a5 h4 3. a6 h3 4. axb7 hxg2 5. bxa8=N gxh1=N 6. Nb6 Ng3/1. a4 h5 2. a5 h4 3. a6 h3 4. axb7 hxg2 5. bxa8=Q \
+    gxh1=Q 6. Qb7 Qg2 | 50 | 0 => none with 0 50
 1. e3 h5 2. Bc4 h4 3. Bxf7+ Kxf7 4. Ne2 Ke6 5. O-O Kd5 6. Nec3+ Kc4 7. d3+ | 4487 | 2 => none with 2 4487
 1. e3 h5 2. Bc4 h4 3. Bxf7+ Kxf7 4. Ne2 Ke6 5. O-O Kd5 6. Nec3+ Kc4 7. d3+ | 4486 | 2 => none with 1 4486
 1. a4 b5 2. axb5 a6 3. bxa6 c6 4. a7 c5 5. axb8=B d6 | 20000 | 0 => 10 plies
@@ -92,15 +94,24 @@ const VISITED: &str =
 1. a3 a6 2. b3 b6 3. c3 c6 4. d3 d6 5. e3 e6 6. f3 f6 7. g3 g6 | 20000 | 0 => 14 plies
 1. a3 a6 2. b3 b6 3. c3 c6 4. d3 d6 5. e3 e6 6. f3 f6 7. g3 g6 | 51 | 0 => 14 plies
 1. a3 a6 2. b3 b6 3. c3 c6 4. d3 d6 5. e3 e6 6. f3 f6 7. g3 g6 | 50 | 0 => none met 50
-1. a4 h5 2. a5 h4 3. a6 h3 4. axb7 hxg2 5. bxa8=N gxh1=N 6. Nb6 Ng3/1. a4 h5 2. a5 h4 3. a6 h3 4. axb7 hxg2 5. bxa8=B gxh1=B 6. Bb7 Bg2 | 20000 | 0 => none with 0 50
-1. a4 h5 2. a5 h4 3. a6 h3 4. axb7 hxg2 5. bxa8=N gxh1=N 6. Nb6 Ng3/1. a4 h5 2. a5 h4 3. a6 h3 4. axb7 hxg2 5. bxa8=B gxh1=B 6. Bb7 Bg2 | 20000 | 1 => none with 1 323
-1. a4 h5 2. a5 h4 3. a6 h3 4. axb7 hxg2 5. bxa8=N gxh1=N 6. Nb6 Ng3/1. a4 h5 2. a5 h4 3. a6 h3 4. axb7 hxg2 5. bxa8=R gxh1=R 6. R8xa7 R1xh2 | 20000 | 0 => none with 0 50
-1. a4 h5 2. a5 h4 3. a6 h3 4. axb7 hxg2 5. bxa8=N gxh1=N 6. Nb6 Ng3/1. a4 h5 2. a5 h4 3. a6 h3 4. axb7 hxg2 5. bxa8=R gxh1=R 6. R8xa7 R1xh2 | 20000 | 1 => none with 1 323
-1. a4 h5 2. a5 h4 3. a6 h3 4. axb7 hxg2 5. bxa8=N gxh1=N 6. Nb6 Ng3/1. a4 h5 2. a5 h4 3. a6 h3 4. axb7 hxg2 5. bxa8=B gxh1=B 6. Bb7 Bg2/1. a4 h5 2. a5 h4 3. a6 h3 4. axb7 hxg2 5. bxa8=R gxh1=R 6. R8xa7 R1xh2 | 20000 | 1 => none with 1 325
-1. a4 h5 2. a5 h4 3. a6 h3 4. axb7 hxg2 5. bxa8=B gxh1=B 6. Bb7 Bg2/1. a4 h5 2. a5 h4 3. a6 h3 4. axb7 hxg2 5. bxa8=R gxh1=R 6. R8xa7 R1xh2 | 20000 | 0 => none with 0 55
+1. a4 h5 2. a5 h4 3. a6 h3 4. axb7 hxg2 5. bxa8=N gxh1=N 6. Nb6 Ng3/1. a4 h5 2. a5 h4 3. a6 h3 4. axb7 hxg2 5. bxa8=B \
+    gxh1=B 6. Bb7 Bg2 | 20000 | 0 => none with 0 50
+1. a4 h5 2. a5 h4 3. a6 h3 4. axb7 hxg2 5. bxa8=N gxh1=N 6. Nb6 Ng3/1. a4 h5 2. a5 h4 3. a6 h3 4. axb7 hxg2 5. bxa8=B \
+    gxh1=B 6. Bb7 Bg2 | 20000 | 1 => none with 1 323
+1. a4 h5 2. a5 h4 3. a6 h3 4. axb7 hxg2 5. bxa8=N gxh1=N 6. Nb6 Ng3/1. a4 h5 2. a5 h4 3. a6 h3 4. axb7 hxg2 5. bxa8=R \
+    gxh1=R 6. R8xa7 R1xh2 | 20000 | 0 => none with 0 50
+1. a4 h5 2. a5 h4 3. a6 h3 4. axb7 hxg2 5. bxa8=N gxh1=N 6. Nb6 Ng3/1. a4 h5 2. a5 h4 3. a6 h3 4. axb7 hxg2 5. bxa8=R \
+    gxh1=R 6. R8xa7 R1xh2 | 20000 | 1 => none with 1 323
+1. a4 h5 2. a5 h4 3. a6 h3 4. axb7 hxg2 5. bxa8=N gxh1=N 6. Nb6 Ng3/1. a4 h5 2. a5 h4 3. a6 h3 4. axb7 hxg2 5. bxa8=B \
+    gxh1=B 6. Bb7 Bg2/1. a4 h5 2. a5 h4 3. a6 h3 4. axb7 hxg2 5. bxa8=R gxh1=R 6. R8xa7 R1xh2 | 20000 | 1 => \
+    none with 1 325
+1. a4 h5 2. a5 h4 3. a6 h3 4. axb7 hxg2 5. bxa8=B gxh1=B 6. Bb7 Bg2/1. a4 h5 2. a5 h4 3. a6 h3 4. axb7 hxg2 5. bxa8=R \
+    gxh1=R 6. R8xa7 R1xh2 | 20000 | 0 => none with 0 55
 1. Nf3 Nf6 2. g3 g6 3. Bg2 Bg7 4. O-O O-O 5. d3 d6 6. Nc3 Nc6 7. Bf4 Bf5 8. Qd2 Qd7 | 30000 | 0 => 16 plies
-1. d4 Nf6 2. Qd2 Nh5 3. Qh6 gxh6 4. b4 Bg7 5. b5 O-O 6. b6 Re8 7. bxa7 b6 8. axb8=N Ra4 9. Nxd7 Rc4 10. Nc5 Bf5 11. e3 Qa8 12. Be2 Qa3 | 7033 | 1 => none with 1 7033
-1. d4 Nf6 2. Qd2 Nh5 3. Qh6 gxh6 4. b4 Bg7 5. b5 O-O 6. b6 Re8 7. bxa7 b6 8. axb8=N Ra4 9. Nxd7 Rc4 10. Nc5 Bf5 11. e3 Qa8 12. Be2 Qa3 | 7032 | 1 => none with 0 7032
+1. d4 Nf6 2. Qd2 Nh5 3. Qh6 gxh6 4. b4 Bg7 5. b5 O-O 6. b6 Re8 7. bxa7 b6 8. axb8=N Ra4 9. Nxd7 Rc4 10. Nc5 Bf5 11. \
+    e3 Qa8 12. Be2 Qa3 | 7033 | 1 => none with 1 7033
+1. d4 Nf6 2. Qd2 Nh5 3. Qh6 gxh6 4. b4 Bg7 5. b5 O-O 6. b6 Re8 7. bxa7 b6 8. axb8=N Ra4 9. Nxd7 Rc4 10. Nc5 Bf5 11. \
+    e3 Qa8 12. Be2 Qa3 | 7032 | 1 => none with 0 7032
 1. a4 h5 2. a5 h4 3. a6 h3 4. axb7 hxg2 5. bxa8=N gxh1=N | 270 | 1 => none with 1 270
 1. a4 h5 2. a5 h4 3. a6 h3 4. axb7 hxg2 5. bxa8=N gxh1=N | 269 | 1 => none with 0 269";
 
@@ -189,8 +200,10 @@ const ASTRAY: &str =
     "1. h3 g6 2. e4 d5 3. c4 h5 4. cxd5 h4 5. f4 c5 | 1. h3 g5 | 643 | 2 => none with 2 643 202
 1. h3 g6 2. e4 d5 3. c4 h5 4. cxd5 h4 5. f4 c5 | 1. h3 g5 | 642 | 2 => none with 1 642 202
 1. h3 g6 2. e4 d5 3. c4 h5 4. cxd5 h4 5. f4 c5 | 1. h3 g5 | 500 | 2 => none with 1 500 161
-1. g3 b5 2. b4 f6 3. d4 e6 4. Nf3 f5 5. e4 f4 | 1. g3 b5 2. b4 g5/1. g3 b5 2. c3 h6 3. h4 c6 | 511 | 1 => none with 1 511 138
-1. g3 b5 2. b4 f6 3. d4 e6 4. Nf3 f5 5. e4 f4 | 1. g3 b5 2. b4 g5/1. g3 b5 2. c3 h6 3. h4 c6 | 510 | 1 => none with 0 510 138";
+1. g3 b5 2. b4 f6 3. d4 e6 4. Nf3 f5 5. e4 f4 | 1. g3 b5 2. b4 g5/1. g3 b5 2. c3 h6 3. h4 c6 | 511 | 1 => \
+    none with 1 511 138
+1. g3 b5 2. b4 f6 3. d4 e6 4. Nf3 f5 5. e4 f4 | 1. g3 b5 2. b4 g5/1. g3 b5 2. c3 h6 3. h4 c6 | 510 | 1 => \
+    none with 0 510 138";
 
 #[test]
 fn what_pawns_exclude_is_not_refused(rt: HostRuntime) {

@@ -8,7 +8,8 @@ after-e4 | 0.5 | 1. e4
 after-e4-e5 | 1.0 | 1. e4 e5
 rnbqkbnr/pppp1ppp/4p3/8/8/3PP3/PPP2PPP/RNBQKBNR | 1.5 | 1. d3 e6 2. e3/1. e3 e6 2. d3
 after-e4-e5 | 0.5
-rnbqkbnr/1pp1pppp/p2P4/8/8/8/PPPP1PPP/RNBQKBNR | 2.5 | 1. e4 a6 2. e5 d5 3. exd6/1. e4 a6 2. e5 d6 3. exd6/1. e4 d5 2. exd5 a6 3. d6/1. e4 d6 2. e5 a6 3. exd6
+rnbqkbnr/1pp1pppp/p2P4/8/8/8/PPPP1PPP/RNBQKBNR | 2.5 | \
+    1. e4 a6 2. e5 d5 3. exd6/1. e4 a6 2. e5 d6 3. exd6/1. e4 d5 2. exd5 a6 3. d6/1. e4 d6 2. e5 a6 3. exd6
 rnb1kbnr/ppp1pppp/8/3q4/8/8/PPPP1PPP/RNBQKBNR | 2.0 | 1. e4 d5 2. exd5 Qxd5
 rnb1kbnr/pppp1ppp/8/4p3/6Pq/5P2/PPPPP2P/RNBQKBNR | 2.0 | 1. f3 e5 2. g4 Qh4#/1. g4 e5 2. f3 Qh4#";
 
