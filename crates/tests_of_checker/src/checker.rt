@@ -7,6 +7,7 @@ mod faults;
 mod references;
 mod version2;
 
+use crate::shared::{append, halves};
 use arrayvec::ArrayString;
 use pg_captures::{Bound, Captures, Promotions};
 use pg_certificate::{FromRead, Source};
@@ -64,11 +65,6 @@ fn games_of<R: Abort + AllocGlobal>(rt: &R, text: &str) -> Games {
     read_games(rt.alloc(), text.as_str()).expect(rt, text.as_str())
 }
 
-// What stands before a mark, and what behind it.
-fn halves<'a>(rt: &impl Abort, text: &'a str, mark: &str) -> (&'a str, &'a str) {
-    text.split_once(mark).expect(rt, text)
-}
-
 // The field of a case with this number from 0, between bars; empty where the case has fewer.
 fn field<'a>(case: &'a str, number: usize) -> &'a str {
     case.split(" | ").nth(number).unwrap_or("")
@@ -102,21 +98,6 @@ fn told(answer: &Result<Proved, Fault>) -> Said {
 // Whether the answer is yes: it begins with a number.
 fn is_yes(said: &Said) -> bool {
     matches!(said.as_str().bytes().next(), Some(b'0'..=b'9'))
-}
-
-// The bytes that a text spells: words of at most eight bytes, two digits a byte, and behind a star how many
-// times they stand there, as in `01 0204*13`.
-fn append<R: Abort>(rt: &R, bytes: &mut Vec<u8>, text: &str) {
-    for word in text.split_whitespace() {
-        let (digits, times) = word.split_once('*').unwrap_or((word, "1"));
-        let number = u64::from_str_radix(digits, 16).expect(rt, word);
-        let times = times.parse::<u32>().expect(rt, word);
-        let unused = 8usize.saturating_sub(digits.len() / 2);
-        for _ in 0..times {
-            let piece = &number.to_be_bytes()[unused..];
-            bytes.extend_from_slice(piece).expect(rt, "memory");
-        }
-    }
 }
 
 // The header that has the version, the diagram and the length in this text; none where that is empty.

@@ -17,7 +17,7 @@ mod shown_diagrams;
 mod upgrades;
 
 use crate::shared::{
-    MANY, Said, add, boxed, certificate, diagram_of, field, four_bounds, halves, length_of,
+    MANY, Said, certificate, diagram_of, field, five_bounds, four_bounds, halves, length_of,
     lines_of, named, text_of, told, words,
 };
 use pg_certificate::format::MOST_NAMED;
@@ -25,7 +25,6 @@ use pg_cooks::{
     CookAnswer, CooksFault, CooksRunFault, LedLimits, Standing, run_cooks as find_cooks,
     run_games as test_games,
 };
-use pg_journeys::Journeys;
 use pg_position::Move;
 use pg_report::*;
 use pg_san::read_games;
@@ -81,13 +80,6 @@ fn lacking<R: Abort + AllocGlobal>(rt: &R, game: &[Move]) -> Said {
     write_movetext(game, &mut out).expect(rt, "written");
     let text = out.into_inner();
     words(&format_args!("lacks {}", text_of(rt, text.as_slice())))
-}
-
-// The four bounds, and that by journeys.
-fn five_bounds<R: Abort + AllocGlobal>(rt: &R) -> Vec<Box<dyn Bound>> {
-    let mut bounds = four_bounds(rt);
-    add(rt, &mut bounds, boxed(rt, Journeys));
-    bounds
 }
 
 // What is answered with the four bounds.

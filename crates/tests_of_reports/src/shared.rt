@@ -151,11 +151,17 @@ pub(crate) fn four_bounds<R: Abort + AllocGlobal>(rt: &R) -> Vec<Box<dyn Bound>>
     bounds
 }
 
-// These four, and behind them the bound by journeys if this word asks for it.
-pub(crate) fn bounds_for<R: Abort + AllocGlobal>(rt: &R, word: &str) -> Vec<Box<dyn Bound>> {
+// These four, and behind them the bound by journeys.
+pub(crate) fn five_bounds<R: Abort + AllocGlobal>(rt: &R) -> Vec<Box<dyn Bound>> {
     let mut bounds = four_bounds(rt);
-    if word == "journeys" {
-        add(rt, &mut bounds, boxed(rt, Journeys));
-    }
+    add(rt, &mut bounds, boxed(rt, Journeys));
     bounds
+}
+
+// The five bounds where this word asks for journeys, else four.
+pub(crate) fn bounds_for<R: Abort + AllocGlobal>(rt: &R, word: &str) -> Vec<Box<dyn Bound>> {
+    if word == "journeys" {
+        return five_bounds(rt);
+    }
+    four_bounds(rt)
 }

@@ -10,8 +10,7 @@ use pg_trial::named_expansions;
 // to a position with a reference to number 0 behind four cuts. Then with no name allowed; without a name; to
 // number 1; behind three cuts; to a node of other plies; and below the node itself, which is open and has no
 // number.
-const SHUFFLED: &str =
-    "pawn-on-d3 | 2.5 |  |  | 1 | 1 pawn-on-d3 2.5 | \
+const SHUFFLED: &str = "pawn-on-d3 | 2.5 |  |  | 1 | 1 pawn-on-d3 2.5 | \
     05 0203*3 01 0203*2 01 0203*18 01 0203*17 01 0203*4 0300000000 0203*39 | 213 => 89 1
 pawn-on-d3 | 2.5 |  |  | 0 | 1 pawn-on-d3 2.5 | \
     05 0203*3 01 0203*2 01 0203*18 01 0203*17 01 0203*4 0300000000 0203*39 => TooManyNamed
@@ -121,8 +120,7 @@ fn numbers_go_on_from_tree_to_tree(rt: HostRuntime) {
 
 // All nodes are expanded but for 122 cuts in the tree of length 3, which bring the reference after 1. c3 a5 2.
 // Na3, to the node after 1. Na3 a5 2. c3, to the last two bytes of the buffer, of 4,096.
-const ACROSS: &str =
-    "recaptured | 2.0 | 1. e4 d5 2. exd5 Qxd5 |  | 1 | 1 recaptured 2.0 | \
+const ACROSS: &str = "recaptured | 2.0 | 1. e4 d5 2. exd5 Qxd5 |  | 1 | 1 recaptured 2.0 | \
     01*23 01 0201*20 01 0201*20 01 0201*20 01 0201*20 01 0201*20 01 0201*20 01 0201*2 01*299 05 01*3483 0300000000 \
     01*5830 | 9929 => 9766 1
 recaptured | 2.0 | 1. e4 d5 2. exd5 Qxd5 |  | 1 | 1 recaptured 2.0 | \

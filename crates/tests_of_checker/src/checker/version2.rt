@@ -9,8 +9,7 @@ use std::io::Read;
 // pawn on d3: the sources a2 to h2, of which d2 pays one, and the targets a2, b2, c2, d2, f2, g2, h2 and d3, of
 // which d2 and d3 get one. Then the first of them with another last price; of Black's; of another bound; of one
 // without prices, in both versions.
-const PAWN_FILES: &str =
-    "pawn-on-d3 | 2.0 |  | 4 | 0 | 2 pawn-on-d3 2.0 | \
+const PAWN_FILES: &str = "pawn-on-d3 | 2.0 |  | 4 | 0 | 2 pawn-on-d3 2.0 | \
     060300010808 00*3 01 00*7 01 00*3 01 060300010808 00*3 01 00*7 01 00*3 01 060300010808 00*3 01 00*7 01 00*3 01 \
     060300010808 00*3 01 00*7 01 00*3 01 | 125 => 4 0
 pawn-on-d3 | 2.0 |  | 3 | 0 | 2 pawn-on-d3 2.0 | \
@@ -43,8 +42,7 @@ fn prices_of_pawn_files(rt: HostRuntime) {
 
 // The open game, where the first cut is by three price lists, by one and by two: Black owes the move of a pawn
 // to e5, and has no ply.
-const TRAVEL: &str =
-    "after-e4-e5 | 1.0 | 1. e4 e5 | 22 | 0 | 2 after-e4-e5 1.0 | \
+const TRAVEL: &str = "after-e4-e5 | 1.0 | 1. e4 e5 | 22 | 0 | 2 after-e4-e5 1.0 | \
     060401031010 00*16 01 00*31 01 00*31 01 00*15 01 0204*13 01 0204*6 | 179 => 22 0
 after-e4-e5 | 1.0 | 1. e4 e5 | 21 | 0 | 2 after-e4-e5 1.0 | \
     060401031010 00*16 01 00*31 01 00*31 01 00*15 01 0204*13 01 0204*6 => Budget
@@ -60,8 +58,7 @@ fn prices_of_travel(rt: HostRuntime) {
 
 // A number that is out of range is unknown, also where the bytes end behind it: the colour, the ways, the
 // sources and the targets. A bound without prices is known after those, and before the lists.
-const OUT_OF_RANGE: &str =
-    "after-e4-e5 | 1.0 | 1. e4 e5 |  | 0 | 2 after-e4-e5 1.0 | \
+const OUT_OF_RANGE: &str = "after-e4-e5 | 1.0 | 1. e4 e5 |  | 0 | 2 after-e4-e5 1.0 | \
     060402031010 00*16 01 00*31 01 00*31 01 00*15 01 0204*13 01 0204*6 => UnknownRecord(2)
 after-e4-e5 | 1.0 | 1. e4 e5 |  | 0 | 2 after-e4-e5 1.0 | 060402 => UnknownRecord(2)
 after-e4-e5 | 1.0 | 1. e4 e5 |  | 0 | 2 after-e4-e5 1.0 | \
@@ -87,8 +84,7 @@ fn numbers_of_prices_out_of_range(rt: HostRuntime) {
     check_table(&rt, OUT_OF_RANGE);
 }
 
-const PRICED: &str =
-    "after-e4-e5 | 1.0 | 1. e4 e5 |  | 9 | 2 after-e4-e5 1.0 | \
+const PRICED: &str = "after-e4-e5 | 1.0 | 1. e4 e5 |  | 9 | 2 after-e4-e5 1.0 | \
     060401031010 00*16 01 00*31 01 00*31 01 00*15 01 0204*13 01 0204*6 | 179";
 
 const PLAIN: &str =
@@ -138,8 +134,7 @@ fn endless_prices(rt: HostRuntime) {
 }
 
 // The same knight shuffle, in version 2.
-const SHUFFLED: &str =
-    "pawn-on-d3 | 2.5 |  |  | 1 | 2 pawn-on-d3 2.5 | \
+const SHUFFLED: &str = "pawn-on-d3 | 2.5 |  |  | 1 | 2 pawn-on-d3 2.5 | \
     05 0203*3 01 0203*2 01 0203*18 01 0203*17 01 0203*4 0300000000 0203*39 => 89 1
 pawn-on-d3 | 2.5 |  |  | 0 | 2 pawn-on-d3 2.5 | \
     05 0203*3 01 0203*2 01 0203*18 01 0203*17 01 0203*4 0300000000 0203*39 => TooManyNamed

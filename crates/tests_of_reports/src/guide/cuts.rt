@@ -74,8 +74,7 @@ fn cuts_by_journeys(rt: HostRuntime) {
 }
 
 // Nf3 and e5, where all first moves but Nf3 are cut by journeys; and the lines of three of them.
-const CHILDREN: &str =
-    "rnbqkbnr/pppp1ppp/8/4p3/8/5N2/PPPPPPPP/RNBQKB1R | 1.0 | - | \
+const CHILDREN: &str = "rnbqkbnr/pppp1ppp/8/4p3/8/5N2/PPPPPPPP/RNBQKB1R | 1.0 | - | \
     2 rnbqkbnr/pppp1ppp/8/4p3/8/5N2/PPPPPPPP/RNBQKB1R 1.0 | 0204 01 0205*2 01 0205*17 | journeys => () => \
     at the start: 1 of 20 moves leads on; cut 19 by journeys; 1 game below$the certificate is right$
 rnbqkbnr/pppp1ppp/8/4p3/8/5N2/PPPPPPPP/RNBQKB1R | 1.0 | Na3 | 2 rnbqkbnr/pppp1ppp/8/4p3/8/5N2/PPPPPPPP/RNBQKB1R 1.0 | \

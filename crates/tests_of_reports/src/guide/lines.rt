@@ -6,8 +6,7 @@ use pg_position::{Move, Position};
 use pg_report::search;
 
 // Expanded nodes, and then the leaf of no ply.
-const EXPANDED: &str =
-    "after-e4-e5 | 1 | - | # after-e4-e5 1.0 | 01*22 => () => \
+const EXPANDED: &str = "after-e4-e5 | 1 | - | # after-e4-e5 1.0 | 01*22 => () => \
     at the start: 1 of 20 moves leads on; cut 19 by travel; 1 game below$the certificate is right$
 after-e4-e5 | 1 | d4 | # after-e4-e5 1.0 | 01*22 => () => \
     at the start: 1 of 20 moves leads on; cut 19 by travel; 1 game below$\

@@ -5,8 +5,7 @@ use super::*;
 // Of e4 in one ply, whole and not told; cut where the diagram is out of reach, and where castling is of use; of e4 e5,
 // where a node with one ply left is the last one that is told, and where the moves below it are; and the array in no
 // ply.
-const TREES: &str =
-    "after-e4 | 0.5 | 9 | 2 after-e4 0.5 | 01 => \
+const TREES: &str = "after-e4 | 0.5 | 9 | 2 after-e4 0.5 | 01 => \
     /0$,$;no expanded node$/1$($BQNa3,$BSNc3,$GVNf3,$GXNh3,$IQa3,$IYa4,$JRb3,$JZb4,$KSc3,$Kac4,$LTd3,$Lbd4,$MUe3,$\
     Mce4*$NVf3,$Ndf4,$OWg3,$Oeg4,$PXh3,$Pfh4,$) 1 of 20 moves ends on the diagram$;1 expanded node$
 after-e4 | 0.5 | 0 | 2 after-e4 0.5 | 01 => \

@@ -4,8 +4,7 @@ use super::*;
 use pg_trial::Counted;
 
 // Another order of moves; a capture in passing where the list has none; a game of Black's kind.
-const COOKS: &str =
-    "cooks | two-orders | 1.5 | 1. e3 e6 2. d3 => Cook => \
+const COOKS: &str = "cooks | two-orders | 1.5 | 1. e3 e6 2. d3 => Cook => \
     diagram rnbqkbnr/pppp1ppp/4p3/8/8/3PP3/PPP2PPP/RNBQKBNR$length 1.5$games 1$1. e3 e6 2. d3$another game$\
     1. d3 e6 2. e3$not sound$
 cooks | fools-mate | 2.0 | 1. f3 e5 2. g4 Qh4# => Cook => \
@@ -82,8 +81,7 @@ fn other_games_of_every_kind(rt: HostRuntime) {
 
 // The only game of two moves leads to a shorter one that White ends, and that to one that Black ends; a game that ends
 // elsewhere leads to none.
-const SHORTER: &str =
-    "cooks | after-e4-e5 | 2.0 | 1. e3 e6 2. e4 e5 => Shorter => \
+const SHORTER: &str = "cooks | after-e4-e5 | 2.0 | 1. e3 e6 2. e4 e5 => Shorter => \
     diagram rnbqkbnr/pppp1ppp/8/4p3/4P3/8/PPPP1PPP/RNBQKBNR$length 2.0$games 1$1. e3 e6 2. e4 e5$a game of 3 plies$\
     1. e3 e5 2. e4$not sound$
 cooks | after-e4-e5 | 1.5 | 1. e3 e5 2. e4 => Shorter => \

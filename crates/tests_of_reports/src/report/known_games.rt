@@ -3,8 +3,7 @@
 use super::*;
 
 // No game, one, and two, not in order; no move. The last move is Black's and White's, and a capture in passing.
-const KNOWN: &str =
-    "games | after-e4-e5 | 1.0 |  => NoneGiven => \
+const KNOWN: &str = "games | after-e4-e5 | 1.0 |  => NoneGiven => \
     diagram rnbqkbnr/pppp1ppp/8/4p3/4P3/8/PPPP1PPP/RNBQKBNR$length 1.0$games 0$no game given$
 games | after-e4-e5 | 1.0 | 1. e4 e5 => AtLeastOne => \
     diagram rnbqkbnr/pppp1ppp/8/4p3/4P3/8/PPPP1PPP/RNBQKBNR$length 1.0$games 1$1. e4 e5$at least one game$

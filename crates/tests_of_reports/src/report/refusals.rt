@@ -3,8 +3,7 @@
 use super::*;
 
 // The list lacks a game.
-const LACKING: &str =
-    "check | two-orders | 1.5 | 1. d3 e6 2. e3 |  | 1 two-orders 1.5 | \
+const LACKING: &str = "check | two-orders | 1.5 | 1. d3 e6 2. e3 |  | 1 two-orders 1.5 | \
     0204*2 01 0204*10 01 0204*9 01 0204*11 01 0204*9 01 0204*17 => lacks 1. e3 e6 2. d3
 check | two-orders | 1.5 | 1. e3 e6 2. d3 |  | 1 two-orders 1.5 | \
     0204*2 01 0204*10 01 0204*9 01 0204*11 01 0204*9 01 0204*17 => lacks 1. d3 e6 2. e3
@@ -17,8 +16,7 @@ fn games_left_out(rt: HostRuntime) {
 }
 
 // The passed square lapses after a ply, a result is no move, and a game stands once.
-const NO_LISTS: &str =
-    "check | en-passant | 2.5 | 1. e4 d5 2. e5 a6 3. exd6 => \
+const NO_LISTS: &str = "check | en-passant | 2.5 | 1. e4 d5 2. e5 a6 3. exd6 => \
     Games(At { line: 1, ply: 5, cause: NoSuchMove }): line 1, ply 5: no such legal move
 check | en-passant | 2.5 | 1. e4 a6 2. e5 d5 3. exd6 * => \
     Games(At { line: 1, ply: 6, cause: Shape }): line 1, ply 6: not a move
@@ -30,8 +28,7 @@ fn lists_that_are_refused(rt: HostRuntime) {
     check_table(&rt, NO_LISTS);
 }
 
-const NO_SOLUTIONS: &str =
-    "check | after-e4-e5 | 1.0 | 1. e4 e5 2. d4$1. e4 e5 => \
+const NO_SOLUTIONS: &str = "check | after-e4-e5 | 1.0 | 1. e4 e5 2. d4$1. e4 e5 => \
     Check(Listed(WrongLength(1))): game 2 does not have the stated length
 check | after-e4-e5 | 1.0 | 1. e4 e5$1. d4 d5 => Check(Listed(NotReaching(0))): game 1 does not end on the diagram
 check | after-e4-e5 | 1.0 | 1. e4 e5$1. e4 e6 => Check(Listed(NotReaching(1))): game 2 does not end on the diagram";
@@ -78,8 +75,7 @@ fn certificates_that_are_refused(rt: HostRuntime) {
 }
 
 // The header is that of another problem.
-const OTHER: &str =
-    "check | after-e4-e5 | 1.0 | 1. e4 e5 | 22 | 1 after-e4-e5 1.5 | 0204 => \
+const OTHER: &str = "check | after-e4-e5 | 1.0 | 1. e4 e5 | 22 | 1 after-e4-e5 1.5 | 0204 => \
     Check(OtherLength): certificate for another length
 check | after-e4-e5 | 1.0 | 1. e4 e5 | 22 | 1 fools-mate 1.0 | 0204 => \
     Check(OtherDiagram): certificate for another diagram

@@ -4,8 +4,7 @@ use super::*;
 
 // No choice: in no ply and in one. Cuts by travel; the games of the second list are out of order. No game, by a
 // cut and by an expansion. Expansions alone.
-pub(super) const RUNS: &str =
-    "check | array | 0 | - |  | 1 array 0 |  | 37 => Sound => \
+pub(super) const RUNS: &str = "check | array | 0 | - |  | 1 array 0 |  | 37 => Sound => \
     diagram rnbqkbnr/pppppppp/8/8/8/8/PPPPPPPP/RNBQKBNR$length 0.0$games 1$-$sound$
 check | after-e4 | 0.5 | e4 |  | 1 after-e4 0.5 | 01 => Sound => \
     diagram rnbqkbnr/pppppppp/8/8/4P3/8/PPPP1PPP/RNBQKBNR$length 0.5$games 1$1. e4$sound$

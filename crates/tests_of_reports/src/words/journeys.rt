@@ -14,8 +14,7 @@ use std::process::Abort;
 // moves, with one capture, with all the moves captures, and beside a man, some men and men who are not told who must be
 // captured; who comes nowhere; whom nobody captures; ways of which none is enough by both measures; and where the bound
 // does not exclude.
-const WORDS: &str =
-    "array | rnbqkbnr/pppppppp/8/8/4P3/8/PPPP1PPP/RNBQKBNR b KQkq e3 0 1 | 255 => \
+const WORDS: &str = "array | rnbqkbnr/pppppppp/8/8/4P3/8/PPPP1PPP/RNBQKBNR b KQkq e3 0 1 | 255 => \
     the pawn on e2 of the diagram has left its square (journeys)
 rnbqkbnr/p2pp2p/5p2/1Bp3p1/4P1P1/8/PPPP1P1P/RNBQK1NR | \
     rnbqkbnr/ppp1pppp/8/3p4/8/6P1/PPPPPP1P/RNBQKBNR w KQkq d6 0 1 | 4 => \

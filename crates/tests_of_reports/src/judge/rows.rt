@@ -1,10 +1,7 @@
 //! Rows of problems that are judged.
 
-use crate::shared::ruled;
-use pg_judge::*;
+use super::*;
 use pg_moves::Unwatched;
-use std::io::Cursor;
-use std::process::Abort;
 
 // The rows of problems, a line each, judged within limits.
 fn rows_of<R: Abort + AllocGlobal>(rt: &R, problems: &str, limits: Limits) -> String {

@@ -1,8 +1,7 @@
 //! Lines that spell no problem.
 
+use super::*;
 use crate::shared::halves;
-use pg_judge::*;
-use std::process::Abort;
 
 // What a line is refused for; `skipped` where it spells no problem and is none.
 fn check_line<R: Abort + AllocGlobal>(rt: &R, line: &[u8], wanted: &str) {

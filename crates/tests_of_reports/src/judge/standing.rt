@@ -1,11 +1,8 @@
 //! Certificates that stand there already.
 
-use crate::shared::{entry_of, five_bounds, row_of, ruled};
+use super::*;
 use pg_certificate::FromRead;
-use pg_judge::*;
 use pg_moves::Unwatched;
-use std::io::Cursor;
-use std::process::Abort;
 
 const LIMITS: Limits = Limits {
     max_nodes: 1000,

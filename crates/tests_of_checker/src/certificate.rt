@@ -4,6 +4,7 @@ mod prices;
 mod reading;
 mod writing;
 
+use crate::shared::{append, halves};
 use pg_certificate::*;
 use std::fmt::{Display, Write};
 use std::process::Abort;
@@ -11,21 +12,6 @@ use std::test::*;
 
 // A header of the array in 0 plies, behind its magic.
 const ARRAY: &str = "00 24533642 11*4 00*16 99*4 acdbbeca";
-
-// Appends the bytes that a text spells: words of at most eight bytes, two digits a byte, and behind a star how
-// many times they stand there, as in `01 0204*13`.
-fn append<R: Abort>(rt: &R, bytes: &mut Vec<u8>, text: &str) {
-    for word in text.split_whitespace() {
-        let (digits, times) = word.split_once('*').unwrap_or((word, "1"));
-        let number = u64::from_str_radix(digits, 16).expect(rt, word);
-        let times = times.parse::<u32>().expect(rt, word);
-        let unused = 8usize.saturating_sub(digits.len() / 2);
-        for _ in 0..times {
-            let piece = &number.to_be_bytes()[unused..];
-            bytes.extend_from_slice(piece).expect(rt, "memory");
-        }
-    }
-}
 
 // The bytes of a header of the array of this version, if it is told, and of records.
 fn spelled<R: Abort + AllocGlobal>(rt: &R, version: &str, records: &str) -> Vec<u8> {
@@ -45,11 +31,6 @@ fn spelled<R: Abort + AllocGlobal>(rt: &R, version: &str, records: &str) -> Vec<
 // What a value says, or the arguments of a format.
 fn words<R: Abort + AllocGlobal>(rt: &R, text: &impl Display) -> String {
     format!(in rt.alloc(); "{text}").expect(rt, "memory")
-}
-
-// What stands before a mark, and what behind it.
-fn halves<'a>(rt: &impl Abort, text: &'a str, mark: &str) -> (&'a str, &'a str) {
-    text.split_once(mark).expect(rt, text)
 }
 
 static READ_FAULTS: [ReadFault; 7] = [

@@ -1,11 +1,8 @@
 //! The limits of searches that follow one another.
 
-use crate::shared::ruled;
+use super::*;
 use arrayvec::ArrayString;
-use pg_judge::*;
 use std::fmt::Write;
-use std::io::Cursor;
-use std::process::Abort;
 
 // Writes down each search that begins, and ends it at the first node that it tells of; so the next one follows.
 #[derive(Drop)]

@@ -1,8 +1,0 @@
-//! Tests of what no contract of `pg_trial` and `pg_certificate` says. They stand apart, since a crate
-//! that has tests is proved twice, without them and with them.
-#![tactic(auto)]
-
-#[cfg(test)]
-mod certificate;
-#[cfg(test)]
-mod trial;

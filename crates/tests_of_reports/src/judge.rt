@@ -1,0 +1,59 @@
+//! Lines that are judged, and their rows: what the tests share.
+ghost use Rattle.pg_judge.specs.Ruling.{IsFinding};
+
+mod faults;
+mod growing;
+mod rows;
+mod standing;
+
+use crate::shared::{five_bounds, text_of};
+use pg_certificate::ToWrite;
+use pg_judge::*;
+use std::io::Cursor;
+use std::process::Abort;
+
+// The problem that a line spells.
+fn entry_of<'a, R: Abort + AllocGlobal>(rt: &R, line: &'a str) -> Entry<'a> {
+    match read_entry(rt.alloc(), line.as_bytes()) {
+        Ok(Some(entry)) => entry,
+        _ => panic!(rt; "{line}"),
+    }
+}
+
+// The row of a ruling, as a text in which bars stand for tabs.
+fn row_of<R: Abort + AllocGlobal>(
+    rt: &R,
+    entry: &Entry<'_>,
+    ruling: &Ruling,
+    refused: bool,
+) -> String
+    requires { IsFinding entry.now.problem.diagram entry.now.problem.length ruling.now.finding }
+{
+    let mut out = ToWrite::new(Vec::new(rt.alloc()));
+    assert!(rt; write_row(entry, ruling, refused, &mut out).is_ok());
+    let bytes = out.into_inner();
+    text_of(rt, bytes.as_slice())
+        .replace(rt.alloc(), '\t', "|")
+        .expect(rt, "memory")
+}
+
+// Judges a problem within limits, and tells a watch.
+fn ruled<R: Abort + AllocGlobal, P: JudgeProgress>(
+    rt: &R,
+    line: &str,
+    limits: Limits,
+    scratch: &mut Cursor<Vec<u8>>,
+    watch: &mut P,
+) -> String {
+    let entry = entry_of(rt, line);
+    let bounds = five_bounds(rt);
+    let ruling = judge(
+        rt.alloc(),
+        &entry,
+        bounds.as_slice(),
+        limits,
+        scratch,
+        watch,
+    );
+    row_of(rt, &entry, &ruling, false)
+}
