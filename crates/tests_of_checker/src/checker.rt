@@ -7,7 +7,7 @@ mod faults;
 mod references;
 mod version2;
 
-use crate::shared::{append, halves};
+use crate::shared::{append, field, halves};
 use arrayvec::ArrayString;
 use pg_captures::{Bound, Captures, Promotions};
 use pg_certificate::{FromRead, Source};
@@ -63,11 +63,6 @@ fn length_of(rt: &impl Abort, text: &str) -> Length {
 fn games_of<R: Abort + AllocGlobal>(rt: &R, text: &str) -> Games {
     let text = text.replace(rt.alloc(), '/', "\n").expect(rt, text);
     read_games(rt.alloc(), text.as_str()).expect(rt, text.as_str())
-}
-
-// The field of a case with this number from 0, between bars; empty where the case has fewer.
-fn field<'a>(case: &'a str, number: usize) -> &'a str {
-    case.split(" | ").nth(number).unwrap_or("")
 }
 
 // What a value says, or the arguments of a format.

@@ -13,13 +13,14 @@ fn copy(rt: &impl Abort, bytes: &[u8], sink: &mut impl Sink) {
     let mut reader = RecordReader::new();
     let mut writer = RecordWriter::new();
     let header = reader.header(&mut source).expect(rt, "a header");
-    assert_eq!(rt; (header.version, writer.header(&header, sink)), (2, Ok(())));
+    assert_eq!(rt; header.version, 2);
+    assert!(rt; writer.header(&header, sink).is_ok());
     for _ in 0..5u8 {
         let record = reader.next_record(&mut source).expect(rt, "a record");
-        assert_eq!(rt; writer.put_record(&record, sink), Ok(()));
+        assert!(rt; writer.put_record(&record, sink).is_ok());
     }
-    assert_eq!(rt; reader.end(&mut source), Ok(()));
-    assert_eq!(rt; writer.finish(sink), Ok(()));
+    assert!(rt; reader.end(&mut source).is_ok());
+    assert!(rt; writer.finish(sink).is_ok());
 }
 
 #[test]
