@@ -1,10 +1,12 @@
 //! The time that a run has, and the line of a judge.
 
+use crate::shared::{number, word};
 use pg_moves::Unwatched;
 use pg_searcher::SearchProgress;
 use pg_streams::{Deadline, Timed, judge_line, milliseconds_of};
 use std::cell::Cell;
 use std::io;
+use std::process::Abort;
 use std::time::{Clock, Duration};
 
 // A clock that is set by hand.
@@ -23,26 +25,38 @@ impl Clock for Watch {
     }
 }
 
+// Minutes, and how many milliseconds they are.
+const MINUTES: &str = "0 0
+5 300000
+0.5 30000
+1.25 75000
+0.000016 0
+0.000017 1
+2.5000009 150000
+307445734561825 18446744073709500000";
+
+// Texts that are no minutes.
+const NO_MINUTES: &str = "
+.5
+5.
+-1
+1,5
+307445734561826
+18446744073709551616";
+
+// A text is so many minutes.
+fn check_minutes(rt: &impl Abort, row: &str) {
+    let found = milliseconds_of(word(row, 0)).expect(rt, row);
+    assert_eq!(rt; found, number(rt, word(row, 1)), "{row}");
+}
+
 #[test]
 fn minutes(rt: HostRuntime) {
-    for (text, wanted) in [
-        ("0", Some(0)),
-        ("5", Some(300_000)),
-        ("0.5", Some(30_000)),
-        ("1.25", Some(75_000)),
-        ("0.000016", Some(0)),
-        ("0.000017", Some(1)),
-        ("2.5000009", Some(150_000)),
-        ("", None),
-        (".5", None),
-        ("5.", None),
-        ("-1", None),
-        ("1,5", None),
-        ("307445734561825", Some(18_446_744_073_709_500_000)),
-        ("307445734561826", None),
-        ("18446744073709551616", None),
-    ] {
-        assert_eq!(rt; milliseconds_of(text), wanted, "{text}");
+    for row in MINUTES.lines() {
+        check_minutes(&rt, row);
+    }
+    for text in NO_MINUTES.lines() {
+        assert!(rt; milliseconds_of(text).is_none(), "{text}");
     }
 }
 
@@ -64,10 +78,8 @@ fn searches_that_end_in_time(rt: HostRuntime) {
     clock.millis.set(1000);
     let last = SearchProgress::goes_on(&mut watch);
     let mut endless = Deadline::new(&clock, None);
-    assert_eq!(rt;
-        (first, more, last, endless.is_over()),
-        (true, 1023, false, false)
-    );
+    assert!(rt; first && !last && !endless.is_over());
+    assert_eq!(rt; more, 1023);
 }
 
 #[test]

@@ -1,19 +1,21 @@
 //! Bytes that are gathered before they are written.
 
 use crate::shared::repeated;
-use pg_certificate::{Refused, Sink, ToWrite};
+use pg_certificate::{Sink, ToWrite};
 use pg_streams::Gathered;
 use pg_trial::{FailsAt, OneByte};
 use std::io;
 use std::io::Write;
 use std::process::Abort;
 
-// Ten thousand bytes in pieces of seven.
-fn push_pieces<W: Sink>(out: &mut Gathered<W>) -> Result<(), Refused> {
+// Ten thousand bytes in pieces of seven, and whether none was refused.
+fn push_pieces<W: Sink>(out: &mut Gathered<W>) -> bool {
     for _ in 0..1428u16 {
-        out.push(b"1. e4 e")?;
+        if out.push(b"1. e4 e").is_err() {
+            return false;
+        }
     }
-    out.push(b"5..\n")
+    out.push(b"5..\n").is_ok()
 }
 
 // What is written in one piece and another, to a writer that fails at one write, or at none.
@@ -21,13 +23,12 @@ fn check_pieces<R: Abort + AllocGlobal>(rt: &R, at: u64, bytes: &mut Vec<u8>) {
     let mut writer = FailsAt::new(bytes, at, io::ErrorKind::Interrupted);
     let mut out = Gathered::new(ToWrite::new(&mut writer));
     let pushed = push_pieces(&mut out);
-    if pushed.is_err() {
-        assert_eq!(rt; out.push(b""), Err(Refused));
-        assert_eq!(rt; out.push(b"more"), Err(Refused));
+    if !pushed {
+        assert!(rt; out.push(b"").is_err());
+        assert!(rt; out.push(b"more").is_err());
     }
-    let finished = out.finish().is_ok();
-    assert_eq!(rt; finished, at == 3);
-    assert_eq!(rt; pushed.is_ok(), at >= 2);
+    assert_eq!(rt; out.finish().is_ok(), at == 3);
+    assert_eq!(rt; pushed, at >= 2);
     assert_eq!(rt; writer.calls(), at.saturating_add(1).min(3));
 }
 
@@ -49,7 +50,7 @@ fn short_pieces_are_few_writes(rt: HostRuntime) {
 fn gathered<R: Abort + AllocGlobal>(rt: &R, pieces: [&[u8]; 3]) -> Vec<u8> {
     let mut out = Gathered::new(ToWrite::new(Vec::new(rt.alloc())));
     for piece in pieces {
-        assert_eq!(rt; out.push(piece), Ok(()));
+        assert!(rt; out.push(piece).is_ok());
     }
     let Ok(sink) = out.finish() else {
         panic!(rt; "a sink");
@@ -94,7 +95,8 @@ fn check_slow_write<R: Abort + AllocGlobal>(rt: &R, call: usize) {
     let mut out = Vec::new(rt.alloc());
     let failing = FailsAt::new(&mut out, call as u64, io::ErrorKind::WriteZero);
     assert_eq!(rt; is_written(OneByte::new(failing)), call == REPORT.len());
-    assert_eq!(rt; Some(out.as_slice()), REPORT.get(..call));
+    let front = REPORT.get(..call).unwrap_or(b"");
+    assert!(rt; out.as_slice() == front);
 }
 
 // A report is one write; each write that fails is told, and one byte a call gives the same.

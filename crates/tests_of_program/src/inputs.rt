@@ -53,7 +53,7 @@ fn obstacles(rt: HostRuntime) {
         };
         let said = to_text(&rt, obstacle);
         assert_eq!(rt; said.as_str(), wanted);
-        assert_eq!(rt; first_bytes(&rt, path), [0; 6]);
+        assert!(rt; first_bytes(&rt, path) == [0; 6]);
     }
 }
 

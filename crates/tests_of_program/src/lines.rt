@@ -1,6 +1,6 @@
 //! The line on the terminal that says how far a run is.
 
-use crate::shared::repeated;
+use crate::shared::{number, repeated, word};
 use pg_certificate::{Sink, Source, ToWrite};
 use pg_moves::CountProgress;
 use pg_searcher::SearchProgress;
@@ -46,51 +46,50 @@ impl Eprint for Desk {
 // One read of a source for a byte, which gives so many.
 fn check_pull<S: Source>(rt: &impl Abort, source: &mut S, wanted: usize) {
     let mut buffer = [0u8; 1];
-    assert_eq!(rt; source.pull(&mut buffer), Ok(wanted));
+    assert_eq!(rt; source.pull(&mut buffer).expect(rt, "a read"), wanted);
 }
 
-// How often something was printed when a source was pulled at each of these times, and at its end.
-fn prints<R: Abort + AllocGlobal>(rt: &R, times: &[u64], screen: bool) -> (u32, u32) {
-    let desk = Desk {
-        millis: Cell::new(5000),
-        prints: Cell::new(0),
-    };
-    let bytes = repeated(rt, 1, times.len());
+// So much was printed up to now, and nothing without a screen.
+fn check_prints(rt: &impl Abort, desk: &Desk, screen: bool, wanted: &str) {
+    let wanted = if screen { number(rt, wanted) } else { 0 };
+    assert_eq!(rt; u64::from(desk.prints.get()), wanted);
+}
+
+// A source is pulled at three times, and at its end: how often something was printed before the end, and with it.
+const PULLS: &str = "0 1 999 0 0
+0 1000 1001 1 2
+1000 1499 1500 2 3
+1000 1500 2000 3 4";
+
+fn check_pulls<R: Abort + AllocGlobal>(rt: &R, row: &str, screen: bool) {
+    let desk = desk_at(5000);
+    let bytes = repeated(rt, 1, 3);
     let terminal = Terminal::new(screen);
     let mut source = Passing::new(&desk, &terminal, bytes.as_slice(), None);
-    for time in times {
+    for place in 0..3usize {
+        let time = number(rt, word(row, place));
         desk.millis.set(time.saturating_add(5000));
         check_pull(rt, &mut source, 1);
     }
-    let shown = desk.prints.get();
+    check_prints(rt, &desk, screen, word(row, 3));
     check_pull(rt, &mut source, 0);
     source.end();
-    let all = desk.prints.get();
-    (shown, all)
-}
-
-// So often with a screen, and never without one.
-fn check_prints<R: Abort + AllocGlobal>(rt: &R, times: [u64; 3], wanted: (u32, u32)) {
-    assert_eq!(rt; prints(rt, &times, true), wanted);
-    assert_eq!(rt; prints(rt, &times, false), (0, 0));
+    check_prints(rt, &desk, screen, word(row, 4));
 }
 
 // A line after one second, then each half second, and it is taken away once.
 #[test]
 fn lines_that_are_shown(rt: HostRuntime) {
-    check_prints(&rt, [0, 1, 999], (0, 0));
-    check_prints(&rt, [0, 1000, 1001], (1, 2));
-    check_prints(&rt, [1000, 1499, 1500], (2, 3));
-    check_prints(&rt, [1000, 1500, 2000], (3, 4));
+    for row in PULLS.lines() {
+        check_pulls(&rt, row, true);
+        check_pulls(&rt, row, false);
+    }
 }
 
 // A read that fails after others is a fault of the watched source, and each later one is.
 #[test]
 fn watched_reads_that_fail(rt: HostRuntime) {
-    let desk = Desk {
-        millis: Cell::new(5000),
-        prints: Cell::new(0),
-    };
+    let desk = desk_at(5000);
     let terminal = Terminal::new(false);
     let bytes = repeated(&rt, 1, 8);
     let pieces = FailsAt::new(OneByte::new(bytes.as_slice()), 2, ErrorKind::Other);
@@ -103,24 +102,14 @@ fn watched_reads_that_fail(rt: HostRuntime) {
     source.end();
 }
 
-// A number of a table.
-fn number(rt: &impl Abort, text: &str) -> u64 {
-    let Ok(number) = text.parse::<u64>() else {
-        panic!(rt; "{text}");
-    };
-    number
+// The number of a row that has this place from 0 before `: `.
+fn at(rt: &impl Abort, row: &str, place: usize) -> u64 {
+    number(rt, word(row, place).trim_end_matches(':'))
 }
 
-// The numbers of a line before `: `, and what stands behind it.
-fn row<'a>(rt: &impl Abort, line: &'a str) -> ([u64; 3], &'a str) {
-    let Some((numbers, wanted)) = line.split_once(": ") else {
-        panic!(rt; "{line}");
-    };
-    let mut found = [0; 3];
-    for (place, text) in found.iter_mut().zip(numbers.split(' ')) {
-        *place = number(rt, text);
-    }
-    (found, wanted)
+// The same, as a number of plies or of moves.
+fn few_at(rt: &impl Abort, row: &str, place: usize) -> u8 {
+    u8::try_from(at(rt, row, place)).expect(rt, row)
 }
 
 // Bytes and the size of their file, where it is known, and what is shown.
@@ -150,49 +139,43 @@ const LED: &str = "0 0 0: +0 0.0 0
 3 37 1234567: +3 18.5 1234k
 255 128 18446744073709551615: +255 64.0 18446P";
 
-// What is shown is never wider than 48 columns.
-fn check_shown(rt: &impl Abort, shown: &str, wanted: &str) {
+// What is shown is what stands behind `: `, and never wider than 48 columns.
+fn check_shown(rt: &impl Abort, shown: &str, row: &str) {
+    let (_, wanted) = row.split_once(": ").expect(rt, row);
     assert_eq!(rt; shown, wanted);
-    assert!(rt; shown.len() <= 48, "{wanted}");
+    assert!(rt; shown.len() <= 48, "{row}");
 }
 
 #[test]
 fn lines_that_fit(rt: HostRuntime) {
-    for line in CHECKS.lines() {
-        let (numbers, wanted) = line.split_once(": ").expect(&rt, line);
-        let (bytes, size) = numbers.split_once(' ').expect(&rt, line);
-        let shown = line_of(number(&rt, bytes), size.parse().ok());
-        check_shown(&rt, shown.as_str(), wanted);
+    for row in CHECKS.lines() {
+        let size = word(row, 1).trim_end_matches(':').parse().ok();
+        check_shown(&rt, line_of(at(&rt, row, 0), size).as_str(), row);
     }
 }
 
 #[test]
 fn lines_of_counts(rt: HostRuntime) {
-    for line in COUNTS.lines() {
-        let ([games, _, _], wanted) = row(&rt, line);
-        check_shown(&rt, count_line(games).as_str(), wanted);
+    for row in COUNTS.lines() {
+        check_shown(&rt, count_line(at(&rt, row, 0)).as_str(), row);
     }
 }
 
 #[test]
 fn lines_of_searches(rt: HostRuntime) {
-    for line in SEARCHES.lines() {
-        let ([plies, nodes, limit], wanted) = row(&rt, line);
-        let plies = u8::try_from(plies).expect(&rt, line);
-        let (numbers, _) = line.split_once(": ").expect(&rt, line);
-        let expected = numbers.split(' ').nth(3).and_then(|n| n.parse().ok());
+    for row in SEARCHES.lines() {
+        let (plies, nodes, limit) = (few_at(&rt, row, 0), at(&rt, row, 1), at(&rt, row, 2));
+        let expected = word(row, 3).trim_end_matches(':').parse().ok();
         let shown = search_line(plies, nodes, limit, expected);
-        check_shown(&rt, shown.as_str(), wanted);
+        check_shown(&rt, shown.as_str(), row);
     }
 }
 
 #[test]
 fn lines_of_led_searches(rt: HostRuntime) {
-    for line in LED.lines() {
-        let ([foreign, plies, nodes], wanted) = row(&rt, line);
-        let foreign = u8::try_from(foreign).expect(&rt, line);
-        let plies = u8::try_from(plies).expect(&rt, line);
-        check_shown(&rt, led_line(foreign, plies, nodes).as_str(), wanted);
+    for row in LED.lines() {
+        let shown = led_line(few_at(&rt, row, 0), few_at(&rt, row, 1), at(&rt, row, 2));
+        check_shown(&rt, shown.as_str(), row);
     }
 }
 
@@ -204,40 +187,46 @@ fn desk_at(millis: u64) -> Desk {
     }
 }
 
-// After a second the line of a count is shown, and taken away once; without a screen nothing is.
-#[test]
-fn counts_that_are_shown(rt: HostRuntime) {
-    for (screen, wanted) in [(true, (1, 2)), (false, (0, 0))] {
-        let desk = desk_at(7);
-        let terminal = Terminal::new(screen);
-        let mut line = CountLine::new(&desk, &terminal);
-        line.counted(20);
-        desk.millis.set(1007);
-        line.counted(400);
-        let shown = desk.prints.get();
-        line.end();
-        line.end();
-        assert_eq!(rt; (shown, desk.prints.get()), wanted);
-    }
+// A line of a count is shown after a second, and taken away once.
+fn check_count(rt: &impl Abort, screen: bool) {
+    let desk = desk_at(7);
+    let terminal = Terminal::new(screen);
+    let mut line = CountLine::new(&desk, &terminal);
+    line.counted(20);
+    desk.millis.set(1007);
+    line.counted(400);
+    check_prints(rt, &desk, screen, "1");
+    line.end();
+    line.end();
+    check_prints(rt, &desk, screen, "2");
 }
 
-// The clock is asked once in 1,024 turns.
+#[test]
+fn counts_that_are_shown(rt: HostRuntime) {
+    check_count(&rt, true);
+    check_count(&rt, false);
+}
+
+// The clock is asked once in 1,024 turns of a search.
+fn check_search(rt: &impl Abort, screen: bool) {
+    let desk = desk_at(7);
+    let terminal = Terminal::new(screen);
+    let mut line = SearchLine::new(&desk, &terminal, 5000);
+    desk.millis.set(1007);
+    for left in 0..1023u64 {
+        line.reached(8, left);
+    }
+    check_prints(rt, &desk, screen, "0");
+    line.reached(8, 1);
+    check_prints(rt, &desk, screen, "1");
+    line.end();
+    check_prints(rt, &desk, screen, "2");
+}
+
 #[test]
 fn searches_that_are_shown(rt: HostRuntime) {
-    for (screen, wanted) in [(true, (0, 1, 2)), (false, (0, 0, 0))] {
-        let desk = desk_at(7);
-        let terminal = Terminal::new(screen);
-        let mut line = SearchLine::new(&desk, &terminal, 5000);
-        desk.millis.set(1007);
-        for left in 0..1023u64 {
-            line.reached(8, left);
-        }
-        let before = desk.prints.get();
-        line.reached(8, 1);
-        let shown = desk.prints.get();
-        line.end();
-        assert_eq!(rt; (before, shown, desk.prints.get()), wanted);
-    }
+    check_search(&rt, true);
+    check_search(&rt, false);
 }
 
 // What is shown is taken away before a report begins, once, and by who writes it.
@@ -249,11 +238,10 @@ fn lines_before_reports(rt: HostRuntime) {
     desk.millis.set(1007);
     line.counted(20);
     let mut out = Cleared::new(ToWrite::new(Vec::new(rt.alloc())), &desk, &terminal);
-    let shown = desk.prints.get();
-    let before = out.push(b"a");
-    let cleared = desk.prints.get();
-    let after = out.push(b"b");
+    check_prints(&rt, &desk, true, "1");
+    assert!(rt; out.push(b"a").is_ok());
+    check_prints(&rt, &desk, true, "2");
+    assert!(rt; out.push(b"b").is_ok());
     line.end();
-    assert_eq!(rt; (shown, cleared, desk.prints.get()), (1, 2, 2));
-    assert_eq!(rt; (before, after), (Ok(()), Ok(())));
+    check_prints(&rt, &desk, true, "2");
 }

@@ -1,8 +1,10 @@
 //! What is wrong with a list of games or a length, as it is said on a terminal.
 
+use crate::shared::{size, word};
 use pg_board::{Board, Square};
 use pg_fen::Diagram;
 use pg_hints::{Place, bad_byte, line_like, line_of, meant_by, misfit_of, name_of};
+use pg_position::Move;
 use pg_san::read_games;
 use std::process::Abort;
 
@@ -16,14 +18,12 @@ const GAMES: &str = "0 5 0 rnbqkbnr/pppppppp/8/8/8/8/PPPPPPPP/RNBQKBNR
 
 // A game of a list with no repeated game.
 fn check_listed<R: Abort + AllocGlobal>(rt: &R, list: &str, row: &str) {
-    let mut fields = row.split(' ');
-    let mut number = || fields.next().unwrap_or("").parse::<usize>();
-    let (at, line, plies) = (number(), number(), number());
-    let found = misfit_of(rt.alloc(), list, at.expect(rt, row)).expect(rt, row);
+    let at = size(rt, word(row, 0));
+    let found = misfit_of(rt.alloc(), list, at).expect(rt, row);
     let found = found.expect(rt, row);
-    assert_eq!(rt; found.line, line.expect(rt, row));
-    assert_eq!(rt; found.plies, plies.expect(rt, row));
-    assert!(rt; row.ends_with(found.end.write().as_str()), "{row}");
+    assert_eq!(rt; found.line, size(rt, word(row, 1)));
+    assert_eq!(rt; found.plies, size(rt, word(row, 2)));
+    assert_eq!(rt; found.end.write().as_str(), word(row, 3));
 }
 
 #[test]
@@ -38,27 +38,52 @@ fn games_that_do_not_fit(rt: HostRuntime) {
     assert!(rt; matches!(misfit_of(rt.alloc(), LIST, 0), Ok(None)));
 }
 
-// The line of a game in the list, and the first line that is like a line of it.
+// The line of a game in a list, or 0.
+fn check_line<R: Abort + AllocGlobal>(rt: &R, list: &str, game: &[Move], wanted: usize) {
+    let found = line_of(rt.alloc(), list, game).expect(rt, list);
+    assert_eq!(rt; found.unwrap_or(0), wanted);
+}
+
+// A line of the list, and the first line that is like it, or 0.
+const LIKE: &str = "0 0
+1 1
+2 0
+3 3
+4 1
+5 5
+6 0";
+
+// The first line of the list that is like one of it.
+fn check_like<R: Abort + AllocGlobal>(rt: &R, row: &str) {
+    let found = line_like(rt.alloc(), LIST, size(rt, word(row, 0))).expect(rt, row);
+    assert_eq!(rt; found.unwrap_or(0), size(rt, word(row, 1)), "{row}");
+}
+
 #[test]
 fn games_that_are_repeated(rt: HostRuntime) {
     let games = read_games(rt.alloc(), "e4 e5").expect(&rt, LIST);
     let game = games.game(0).unwrap_or(&[]);
-    assert_eq!(rt; line_of(rt.alloc(), LIST, game), Ok(Some(1)));
-    assert_eq!(rt; line_of(rt.alloc(), "d4", game), Ok(None));
-    let like = [0, 1, 2, 3, 4, 5, 6].map(|line| line_like(rt.alloc(), LIST, line).expect(
-        &rt, LIST,
-    ));
-    let wanted = [None, Some(1), None, Some(3), Some(1), Some(5), None];
-    assert_eq!(rt; like, wanted);
+    check_line(&rt, LIST, game, 1);
+    check_line(&rt, "d4", game, 0);
+    for row in LIKE.lines() {
+        check_like(&rt, row);
+    }
+}
+
+// The first byte that is no text stands in this line, as so many of it; both are 0 where all is text.
+fn check_bytes(rt: &impl Abort, bytes: &[u8], line: usize, byte: usize) {
+    let none = Place { line: 0, byte: 0 };
+    let place = bad_byte(bytes).unwrap_or(none);
+    assert_eq!(rt; place.line, line);
+    assert_eq!(rt; place.byte, byte);
 }
 
 #[test]
 fn bytes_that_are_no_text(rt: HostRuntime) {
-    let place = |line, byte| Some(Place { line, byte });
-    assert_eq!(rt; bad_byte(b"e4 e5"), None);
-    assert_eq!(rt; bad_byte(b"\xff"), place(1, 1));
-    assert_eq!(rt; bad_byte(b"e4\n\ne4 \xe9"), place(3, 4));
-    assert_eq!(rt; bad_byte(b"\xc2\xa0e4\n\xc3"), place(2, 1));
+    check_bytes(&rt, b"e4 e5", 0, 0);
+    check_bytes(&rt, b"\xff", 1, 1);
+    check_bytes(&rt, b"e4\n\ne4 \xe9", 3, 4);
+    check_bytes(&rt, b"\xc2\xa0e4\n\xc3", 2, 1);
 }
 
 // Texts that are no length, and what is meant.
@@ -92,33 +117,32 @@ fn lengths_that_are_meant(rt: HostRuntime) {
     }
 }
 
+// What stands on a square of the array, which its index says.
+const MEN: &str = "0: white rook
+1: white knight
+2: white bishop
+3: white queen
+4: white king
+8: white pawn
+16: empty
+48: black pawn
+56: black rook
+57: black knight
+58: black bishop
+59: black queen
+60: black king";
+
+fn check_name(rt: &impl Abort, board: &Board, row: &str) {
+    let (index, wanted) = row.split_once(": ").expect(rt, row);
+    let square = Square::from_index(index.parse().expect(rt, row)).expect(rt, row);
+    assert_eq!(rt; name_of(board.get(square)), wanted);
+}
+
 #[test]
 fn men_by_their_names(rt: HostRuntime) {
     let diagram = Diagram::read("rnbqkbnr/pppppppp/8/8/8/8/PPPPPPPP/RNBQKBNR").expect(&rt, "");
     let board = diagram.board();
-    let names = [0, 1, 2, 3, 4, 8, 16, 48, 56, 57, 58, 59, 60].map(|q| name_on(&board, q));
-    let wanted = [
-        "white rook",
-        "white knight",
-        "white bishop",
-        "white queen",
-        "white king",
-        "white pawn",
-        "empty",
-        "black pawn",
-        "black rook",
-        "black knight",
-        "black bishop",
-        "black queen",
-        "black king",
-    ];
-    assert_eq!(rt; names, wanted);
-}
-
-// What stands on the square with an index.
-fn name_on(board: &Board, index: u8) -> &'static str {
-    match Square::from_index(index) {
-        Some(square) => name_of(board.get(square)),
-        None => "",
+    for row in MEN.lines() {
+        check_name(&rt, &board, row);
     }
 }

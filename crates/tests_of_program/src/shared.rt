@@ -10,3 +10,18 @@ pub(crate) fn repeated<R: Abort + AllocGlobal>(rt: &R, byte: u8, times: usize) -
     }
     bytes
 }
+
+// The word of a row with this place from 0, between spaces; empty where the row has fewer.
+pub(crate) fn word<'a>(row: &'a str, place: usize) -> &'a str {
+    row.split(' ').nth(place).unwrap_or("")
+}
+
+// The number that a text is.
+pub(crate) fn number(rt: &impl Abort, text: &str) -> u64 {
+    text.parse().expect(rt, text)
+}
+
+// The same, as a size.
+pub(crate) fn size(rt: &impl Abort, text: &str) -> usize {
+    text.parse().expect(rt, text)
+}
