@@ -56,19 +56,19 @@ writing went on after a fault
 the source or the sink has failed";
 
 // A fault reads so.
-fn tells<R: Abort + AllocGlobal>(rt: &R, fault: &impl Display, text: Option<&str>) {
+fn tells<R: Abort + AllocGlobal>(rt: &R, fault: &impl Display, text: &str) {
     let told = words(rt, fault);
-    assert_eq!(rt; Some(told.as_str()), text);
+    assert_eq!(rt; told.as_str(), text);
 }
 
 #[test]
 fn faults_have_their_texts(rt: HostRuntime) {
     let mut lines = TEXTS.lines();
     for fault in &READ_FAULTS {
-        tells(&rt, fault, lines.next());
+        tells(&rt, fault, lines.next().unwrap_or(""));
     }
-    tells(&rt, &WriteFault::Write, lines.next());
-    tells(&rt, &WriteFault::Failed, lines.next());
-    tells(&rt, &Refused, lines.next());
-    assert_eq!(rt; lines.next(), None);
+    tells(&rt, &WriteFault::Write, lines.next().unwrap_or(""));
+    tells(&rt, &WriteFault::Failed, lines.next().unwrap_or(""));
+    tells(&rt, &Refused, lines.next().unwrap_or(""));
+    assert!(rt; lines.next().is_none());
 }

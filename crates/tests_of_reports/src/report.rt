@@ -316,7 +316,7 @@ fn bytes_of<R: Abort + AllocGlobal>(rt: &R, asked: &str) -> Vec<u8> {
     let length = field(asked, 7);
     let bytes = certificate(rt, header, records);
     if !length.is_empty() {
-        assert_eq!(rt; length.parse().ok(), Some(bytes.len()), "{asked}");
+        assert_eq!(rt; words(&bytes.len()).as_str(), length, "{asked}");
     }
     bytes
 }

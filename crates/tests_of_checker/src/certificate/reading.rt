@@ -312,8 +312,8 @@ fn fails_once<R: Abort + AllocGlobal>(rt: &R, calls: &str, bytes: &[u8], at: u64
     let said = answers(rt, calls, &mut source);
     assert!(rt; said.as_str().ends_with("!Read;"), "{said}");
     assert!(rt; source.failed());
-    assert_eq!(rt; source.pull(&mut [0; 9]), Err(Refused));
-    assert_eq!(rt; source.into_inner().calls().checked_sub(1), Some(at));
+    assert!(rt; source.pull(&mut [0; 9]).is_err());
+    assert_eq!(rt; source.into_inner().calls(), at.saturating_add(1));
 }
 
 #[test]
@@ -347,6 +347,6 @@ fn an_endless_reader_is_read_on(rt: HostRuntime) {
 fn what_was_not_pulled_is_handed_back(rt: HostRuntime) {
     let bytes = [1, 5, 2, 4, 3, 0, 1, 2, 3];
     let mut source = FromRead::new(bytes.as_slice());
-    assert_eq!(rt; source.pull(&mut [0; 4]), Ok(4));
-    assert_eq!(rt; source.into_inner(), &bytes[4..]);
+    assert!(rt; matches!(source.pull(&mut [0; 4]), Ok(4)));
+    assert!(rt; source.into_inner() == &bytes[4..]);
 }

@@ -34,15 +34,16 @@ fn array_header() -> Header
     }
 }
 
+fn has_failed(answer: Result<(), WriteFault>) -> bool {
+    matches!(answer, Err(WriteFault::Failed))
+}
+
 // Every call answers Failed.
 fn stays_failed(rt: &impl Abort, sink: &mut impl Sink, writer: &mut RecordWriter) {
     for _ in 0..2u8 {
-        let answers = [
-            writer.header(&array_header(), sink),
-            writer.put_record(&Record::Cut(4), sink),
-            writer.finish(sink),
-        ];
-        assert_eq!(rt; answers, [Err(WriteFault::Failed); 3]);
+        assert!(rt; has_failed(writer.header(&array_header(), sink)));
+        assert!(rt; has_failed(writer.put_record(&Record::Cut(4), sink)));
+        assert!(rt; has_failed(writer.finish(sink)));
     }
 }
 
@@ -70,7 +71,7 @@ fn write_all(rt: &impl Abort, sink: &mut impl Sink, times: u64) -> Result<(), Wr
 #[test]
 fn each_record_is_written(rt: HostRuntime) {
     let mut sink = ToWrite::new(Vec::new(rt.alloc()));
-    assert_eq!(rt; write_all(&rt, &mut sink, 1), Ok(()));
+    assert!(rt; write_all(&rt, &mut sink, 1).is_ok());
     let wanted = spelled(&rt, "1", "01 05 0204 0300010203");
     assert_eq!(rt; sink.into_inner().as_slice(), wanted.as_slice());
 }
@@ -88,7 +89,7 @@ fn check_read<R: Abort + AllocGlobal, S: Source>(rt: &R, source: &mut S, times: 
 #[test]
 fn what_was_written_is_read(rt: HostRuntime) {
     let mut sink = ToWrite::new(OneByte::new(Vec::new(rt.alloc())));
-    assert_eq!(rt; write_all(&rt, &mut sink, 2_000), Ok(()));
+    assert!(rt; write_all(&rt, &mut sink, 2_000).is_ok());
     let bytes = sink.into_inner().into_inner();
     assert_eq!(rt; bytes.len(), 37 + 9 * 2_000);
     check_read(&rt, &mut FromRead::new(bytes.as_slice()), 2_000);
@@ -97,7 +98,7 @@ fn what_was_written_is_read(rt: HostRuntime) {
 #[test]
 fn a_file_is_written_and_read(rt: HostRuntime) -> Result<(), Fail> {
     let mut sink = ToWrite::new(File::create(&rt, "records.pgc")?);
-    assert_eq!(rt; write_all(&rt, &mut sink, 1_000), Ok(()));
+    assert!(rt; write_all(&rt, &mut sink, 1_000).is_ok());
     let _ = sink.into_inner();
     let mut source = FromRead::new(File::open(&rt, "records.pgc")?);
     check_read(&rt, &mut source, 1_000);
@@ -105,20 +106,24 @@ fn a_file_is_written_and_read(rt: HostRuntime) -> Result<(), Fail> {
     Ok(())
 }
 
+fn is_refused(answer: Result<(), WriteFault>) -> bool {
+    matches!(answer, Err(WriteFault::Write))
+}
+
 // The write of a byte with this number fails, and no write comes after it.
 fn fails_once<R: Abort + AllocGlobal>(rt: &R, at: u64, kind: ErrorKind) {
     let pieces = OneByte::new(Vec::new(rt.alloc()));
     let mut sink = ToWrite::new(FailsAt::new(pieces, at, kind));
-    assert_eq!(rt; write_all(rt, &mut sink, 1), Err(WriteFault::Write));
+    assert!(rt; is_refused(write_all(rt, &mut sink, 1)));
     assert!(rt; sink.failed());
-    assert_eq!(rt; sink.push(&[1]), Err(Refused));
-    assert_eq!(rt; sink.into_inner().calls().checked_sub(1), Some(at));
+    assert!(rt; sink.push(&[1]).is_err());
+    assert_eq!(rt; sink.into_inner().calls(), at.saturating_add(1));
 }
 
 // The write of a full buffer with this number fails.
 fn fails_full<R: Abort + AllocGlobal>(rt: &R, at: u64, kind: ErrorKind) {
     let mut sink = ToWrite::new(FailsAt::new(Vec::new(rt.alloc()), at, kind));
-    assert_eq!(rt; write_all(rt, &mut sink, 1_000), Err(WriteFault::Write));
+    assert!(rt; is_refused(write_all(rt, &mut sink, 1_000)));
 }
 
 #[test]
@@ -136,6 +141,6 @@ fn a_failed_write_is_not_tried_again(rt: HostRuntime) {
 #[test]
 fn a_writer_that_takes_nothing_has_failed(rt: HostRuntime) {
     let mut sink = ToWrite::new(TakesNothing);
-    assert_eq!(rt; write_all(&rt, &mut sink, 1), Err(WriteFault::Write));
+    assert!(rt; is_refused(write_all(&rt, &mut sink, 1)));
     assert!(rt; sink.failed());
 }

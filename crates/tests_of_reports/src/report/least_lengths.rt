@@ -70,7 +70,8 @@ fn after<R: Abort + AllocGlobal>(rt: &R, plies: u8) -> Vec<Position> {
 // The least length of each position after so many plies is just that.
 fn check_all<R: Abort + AllocGlobal>(rt: &R, plies: u8) {
     for position in &after(rt, plies) {
-        assert_eq!(rt; least(rt, &Diagram::of(position)), Some(plies));
+        let found = least(rt, &Diagram::of(position)).expect(rt, "a length");
+        assert_eq!(rt; found, plies);
     }
 }
 
@@ -113,7 +114,8 @@ fn least_lengths_after_three_plies(rt: HostRuntime) {
         all = all.saturating_add(1);
         exact = exact.saturating_add(u32::from(is_exact));
     }
-    assert_eq!(rt; (all, exact), (8902, 8822));
+    assert_eq!(rt; all, 8902);
+    assert_eq!(rt; exact, 8822);
 }
 
 // The least number of plies by prices alone, and with the four bounds; and that of a game.

@@ -53,9 +53,9 @@ fn check_right<R: Abort + AllocGlobal>(rt: &R, row: &str, records: &str) {
 // The open game and the two orders.
 #[test]
 fn upgraded_certificates_are_right(rt: HostRuntime) {
-    for (row, records) in RUNS.lines().skip(2).zip(["22", "63"]) {
-        check_right(&rt, row, records);
-    }
+    let mut rows = RUNS.lines().skip(2);
+    check_right(&rt, rows.next().expect(&rt, RUNS), "22");
+    check_right(&rt, rows.next().expect(&rt, RUNS), "63");
 }
 
 // What is no header: too few bytes, other bytes, and another version. What is no record, or half of one. A limit
