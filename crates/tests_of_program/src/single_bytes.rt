@@ -1,7 +1,7 @@
 //! Bytes that go out one by one in one call.
 
 use crate::shared::repeated;
-use pg_certificate::{Sink, ToWrite};
+use pg_certificate::{Refused, Sink, ToWrite};
 use pg_streams::Gathered;
 use pg_trial::FailsAt;
 use std::io;
@@ -31,14 +31,12 @@ impl Write for Pieces {
     }
 }
 
-// Pushes of one byte each, and whether none was refused.
-fn push_singly<W: Sink>(bytes: &[u8], out: &mut W) -> bool {
+// Pushes of one byte each.
+fn push_singly<W: Sink>(bytes: &[u8], out: &mut W) -> Result<(), Refused> {
     for byte in bytes {
-        if out.push(&[*byte]).is_err() {
-            return false;
-        }
+        out.push(&[*byte])?;
     }
-    true
+    Ok(())
 }
 
 // What one try has: a text that is pushed first, the bytes that go out one by one behind it, and the write that fails.
@@ -49,34 +47,34 @@ struct Asked<'a> {
     at: u64,
 }
 
-// What is refused of the pushes of one try: a digit for the bytes that go out one by one, and one for a last text.
-fn pushed<W: Sink>(asked: &Asked<'_>, is_single: bool, out: &mut W) -> u8 {
+// What the pushes of one try answer, and whether nothing was refused to the end.
+type Answers = (Result<(), Refused>, Result<(), Refused>, bool);
+
+// What the pushes of one try answer: of the bytes one by one, and of a last text.
+fn pushed<W: Sink>(
+    asked: &Asked<'_>,
+    is_single: bool,
+    out: &mut W,
+) -> (Result<(), Refused>, Result<(), Refused>) {
     let _ = out.push(asked.before);
     let each = if is_single {
         push_singly(asked.bytes, out)
     } else {
-        out.push_each(asked.bytes).is_ok()
+        out.push_each(asked.bytes)
     };
-    let after = out.push(b"end").is_ok();
-    match (each, after) {
-        (true, true) => 0,
-        (true, false) => 10,
-        (false, true) => 100,
-        (false, false) => 110,
-    }
+    (each, out.push(b"end"))
 }
 
-// One try, over a sink that gathers or over one that hands each push on as it comes; a last digit says whether
-// something was refused to the end.
-fn try_of(asked: &Asked<'_>, is_gathered: bool, is_single: bool, pieces: &mut Pieces) -> u8 {
+// One try, over a sink that gathers or over one that hands each push on as it comes.
+fn try_of(asked: &Asked<'_>, is_gathered: bool, is_single: bool, pieces: &mut Pieces) -> Answers {
     let mut sink = ToWrite::new(FailsAt::new(pieces, asked.at, ErrorKind::Other));
     if is_gathered {
         let mut out = Gathered::new(sink);
-        let refused = pushed(asked, is_single, &mut out);
-        refused.saturating_add(u8::from(out.finish().is_err()))
+        let (each, after) = pushed(asked, is_single, &mut out);
+        (each, after, out.finish().is_ok())
     } else {
-        let refused = pushed(asked, is_single, &mut sink);
-        refused.saturating_add(u8::from(sink.failed()))
+        let (each, after) = pushed(asked, is_single, &mut sink);
+        (each, after, !sink.failed())
     }
 }
 
@@ -89,13 +87,10 @@ fn check_pieces<R: Abort + AllocGlobal>(rt: &R, asked: &Asked<'_>, is_gathered: 
         bytes: Vec::new(rt.alloc()),
     };
     let wanted = try_of(asked, is_gathered, true, &mut single);
-    let refused = try_of(asked, is_gathered, false, &mut each);
-    let (before, count) = (asked.before.len(), asked.bytes.len());
-    assert!(rt; refused == wanted, "{count} bytes behind {before}");
-    assert!(rt;
-        each.bytes.as_slice() == single.bytes.as_slice(),
-        "{count} bytes behind {before}"
-    );
+    let answers = try_of(asked, is_gathered, false, &mut each);
+    let place = (asked.before.len(), asked.bytes.len(), asked.at);
+    assert!(rt; answers == wanted, "{place:?}");
+    assert!(rt; each.bytes == single.bytes, "{place:?}");
 }
 
 // The same where each of the first writes fails, or none does.
@@ -147,16 +142,20 @@ fn a_full_piece(rt: HostRuntime) {
         bytes: b"yz",
         at: 9,
     };
-    assert_eq!(rt; try_of(&asked, true, false, &mut pieces), 0);
+    assert_eq!(rt;
+        try_of(&asked, true, false, &mut pieces),
+        (Ok(()), Ok(()), true)
+    );
     assert_eq!(rt; pieces.bytes.len(), 4102);
     assert!(rt; pieces.bytes.as_slice().ends_with(b"xxy|zend|"));
 }
 
 // A sink that failed refuses each byte, and no byte is no push.
 fn check_failed<W: Sink>(rt: &impl Abort, out: &mut W) {
-    assert!(rt; out.push_each(b"some").is_err() && out.failed());
-    assert!(rt; out.push_each(b"").is_ok());
-    assert!(rt; out.push_each(b"a").is_err());
+    assert_eq!(rt; out.push_each(b"some"), Err(Refused));
+    assert!(rt; out.failed());
+    assert_eq!(rt; out.push_each(b""), Ok(()));
+    assert_eq!(rt; out.push_each(b"a"), Err(Refused));
 }
 
 #[test]
@@ -166,6 +165,6 @@ fn no_bytes_are_no_push(rt: HostRuntime) {
     check_failed(&rt, &mut ToWrite::new(writer));
     let writer = FailsAt::new(Vec::new(rt.alloc()), 0, ErrorKind::Other);
     let mut out = Gathered::new(ToWrite::new(writer));
-    assert!(rt; out.push(text.as_slice()).is_ok());
+    assert_eq!(rt; out.push(text.as_slice()), Ok(()));
     check_failed(&rt, &mut out);
 }
