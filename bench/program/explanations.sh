@@ -15,10 +15,11 @@ explain() {
   wrong=1
 }
 
-# Makes of the certificate $1 one of the other version; fails where there is none: it has prices, or references that version 1 refuses.
+# Makes of the certificate $1 one of the other version; fails where there is none: it has prices, or references that
+# version 1 refuses.
 other_version() {
   case $(head -c 4 "$1") in
-    PGC1) "$pg" upgrade "$1" "$work/other.pgc" >/dev/null ;;
+    PGC1) "$pg" upgrade "$1" "$work/other.pgc" >/dev/null || { echo "$1: not upgraded" >&2; wrong=1; return 1; } ;;
     PGC2)
       { printf PGC1; tail -c +5 "$1"; } >"$work/other.pgc"
       "$pg" why "$work/other.pgc" - >/dev/null 2>&1
@@ -26,6 +27,7 @@ other_version() {
   esac
 }
 
+others=0
 while IFS='|' read -r name moves wanted; do
   certificate=$top/examples/$name/certificate.pgc
   explain "$name" "$moves" "$certificate"
@@ -35,6 +37,7 @@ while IFS='|' read -r name moves wanted; do
   }
   cp "$work/said" "$work/first"
   other_version "$certificate" || continue
+  others=$((others + 1))
   explain "$name" "$moves" "$work/other.pgc"
   diff "$work/first" "$work/said" >&2 || wrong=1
 done <<'END'
@@ -71,6 +74,8 @@ two-knights|a4 h5 a5 h4 a6 h3 axb7 hxg2 bxa8=N gxh1=N Nb6 Nf6|after 1. a4 h5 2. 
 bishop-on-d3|e3|after 1. e3: excluded: no man of black's can come to be the pawn on h6 (journeys)
 bishop-on-d3|d4 d5|after 1. d4 d5: excluded: white has 13 moves left, 3 of them captures, and needs 11 quiet moves: black captures on 13 squares alone (journeys)
 END
+
+[ "$others" -ge 12 ] || { echo "only $others lines were explained by the other version" >&2; wrong=1; }
 
 # Explains the start by the certificate in $work of the example $1, which is to be refused by the fault $2, with nothing said before.
 refuse() {
