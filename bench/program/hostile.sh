@@ -59,57 +59,94 @@ ones() { head -c "$1" /dev/zero | tr '\0' '\1'; }
 expect 2 'pg: a word of the command line is not UTF-8' '"$pg" moves $'"'\\xe9'"
 expect 2 'pg: a word of the command line is not UTF-8' '"$pg" search $first 0.5 $'"'caf\\xe9.pgc'"
 expect 4 'pg: cannot open a\u{1b}[31mb\n\u{9b}é' '"$pg" check $first 0.5 $'"'a\\e[31mb\\n\\xc2\\x9b\\xc3\\xa9'"
-expect 4 'pg: cannot open ' '"$pg" search $first 0.5 ""'
-while read -r status words; do
-  expect "$status" '' "\"\$pg\" $words </dev/null 2>/dev/null"
+
+# With the words behind $2 `pg` is to end with status $1, to print nothing, and to say on standard error, its lines in
+# one, what begins with $2.
+refused() {
+  "$pg" "${@:3}" >"$work/out" 2>"$work/err" </dev/null
+  [ "$?" = "$1" ] && [ ! -s "$work/out" ] && [[ $(tr -s ' \n' ' ' <"$work/err") == "$2"* ]] &&
+    diff -r "$work/before" "$files" ||
+    { echo "pg ${*:3}: not status $1 and '$2'" >&2; sed 's/^/    /' "$work/err" >&2; wrong=1; }
+}
+lacks='error: the following required arguments were not provided:'
+most=18446744073709551615 more=18446744073709551616
+while IFS='|' read -r status said words; do
+  # shellcheck disable=SC2086
+  refused "$status" "$said" $words
 done <<END
-2
-2 play
-2 moves
-2 moves 8/8
-2 count $array 256
-2 count $array -1
-2 games $array
-2 cooks $array 0
-2 cooks $array 0 list --foreign 256
-2 games $array 0 list --journeys
-2 check $array 0 list list --journeys=yes
-2 cooks $array 0 list --nodes -1
-2 judge
-2 judge list more
-2 judge list --nodes -1
-2 judge list --certificates
-2 check $array 0
-2 check $array 0 none none --records 0
-2 check $array 0 none none more
-2 answer
-2 answer $array 0 none
-2 answer none --records 0
-2 search $array 0 none --nodes 18446744073709551616
-2 search 8/8 0 none
-2 search $array 64.5 none
-2 why none
-2 page
-2 page none more
-2 page none --records 0
-2 page none --nodes -1
-4 check $array 0 none none --records=18446744073709551615
-4 check 8/8 64.5 none
-4 answer none --records=18446744073709551615 --journeys
-4 why none -
-4 page none --nodes=18446744073709551615
-4 search $array 0 none/none --nodes=0
-4 search $array 0 none/
-0 --help
-0 check --help
-0 answer --help
-0 cooks --help
-0 judge --help
-0 games --help
-0 why --help
-0 page --help
-0 --version
+2|Checks shortest proof games:|
+2|error: unrecognized subcommand 'play'|play
+2|$lacks <FEN>|moves
+2|pg: wrong number of fields|moves 8/8
+2|error: invalid value '256' for '<PLIES>': 256 is not in 0..=255|count $array 256
+2|error: unexpected argument '-1' found|count $array -1
+2|$lacks <LENGTH>|games $array
+2|$lacks <GAMES>|cooks $array 0
+2|error: invalid value '256' for '--foreign <D>': 256 is not in 0..=255|cooks $array 0 list --foreign 256
+2|error: unexpected argument '--journeys' found|games $array 0 list --journeys
+2|error: unexpected value 'yes' for '--journeys' found|check $array 0 list list --journeys=yes
+2|error: unexpected argument '-1' found|cooks $array 0 list --nodes -1
+2|$lacks <PROBLEMS>|judge
+2|error: unexpected argument 'more' found|judge list more
+2|error: unexpected argument '-1' found|judge list --nodes -1
+2|error: a value is required for '--certificates <FOLDER>'|judge list --certificates
+2|error: a value is required for '--bytes <N>'|judge list --bytes
+2|error: unexpected value 'yes' for '--replace' found|judge list --replace=yes
+2|$lacks <CERT>|check $array 0
+2|error: invalid value '0' for '--records <N>': 0 is not in 1..|check $array 0 none none --records 0
+2|error: unexpected argument 'more' found|check $array 0 none none more
+2|$lacks <CERT>|answer
+2|error: unexpected argument '0' found|answer $array 0 none
+2|error: invalid value '0' for '--records <N>': 0 is not in 1..|answer none --records 0
+2|error: invalid value '$more' for '--nodes <N>': number too large|search $array 0 none --nodes $more
+2|error: invalid value '$more' for '--bytes <N>': number too large|search $array 0 none --bytes $more
+2|error: unexpected argument '--replace' found|search $array 0 none --replace
+2|pg: bad rank|search 8/8 0 none
+2|pg: length above 64.0|search $array 64.5 none
+2|$lacks <MOVES>|why none
+2|$lacks <CERT>|page
+2|error: unexpected argument 'more' found|page none more
+2|error: invalid value '0' for '--records <N>': 0 is not in 1..|page none --records 0
+2|error: unexpected argument '-1' found|page none --nodes -1
+4|pg: cannot open none|check $array 0 none none --records=$most
+4|pg: cannot open none|check 8/8 64.5 none
+4|pg: cannot open none|answer none --records=$most --journeys
+4|pg: cannot open none|why none -
+4|pg: cannot open none|page none --nodes=$most
+4|pg: cannot open none/none|search $array 0 none/none --nodes=0
+4|pg: cannot open none/|search $array 0 none/
 END
+for command in '' check answer cooks judge games why page; do
+  expect 0 '' "\"\$pg\" $command --help | grep -c '^Usage: '" 1
+done
+expect 0 '' '"$pg" --version | grep -c "^pg [0-9.]*$"' 1
+
+# A word that names a file or a folder and is empty is refused by its name, before anything is opened.
+while read -r name words; do
+  expect 4 "pg: cannot open $name: the word is empty" "\"\$pg\" $words" ''
+done <<END
+CERT check $queen 2.0 '' games
+CERT check $queen 2.0 '' none
+CERT answer ''
+CERT search $queen 2.0 ''
+CERT search $queen 2.0 '' --games ../none
+CERT why '' -
+CERT page ''
+GAMES check $queen 2.0 good.pgc ''
+GAMES check $queen 2.0 none ''
+GAMES games $queen 2.0 ''
+GAMES cooks $queen 2.0 ''
+--games search $queen 2.0 ../none --games ''
+--games search $queen 2.0 ../none --games=
+OLD upgrade '' ../none
+NEW upgrade old.pgc ''
+NEW upgrade none ''
+PROBLEMS judge ''
+PROBLEMS judge '' --certificates ../none
+--certificates judge games --certificates '' --nodes 0
+--certificates judge none --certificates= --nodes 0
+END
+[ ! -e "$work/none" ] || { echo "an empty word leaves a file" >&2; wrong=1; }
 
 # Checks of certificates of expansions alone, with lists of games whose backslashes are read.
 { header "$open" 2; ones 22; } >"$work/open.pgc"
@@ -209,7 +246,6 @@ END
 printf 'orders %s 1.5\n' $orders >"$work/list"
 expect 1 '' '"$pg" judge ../list --nodes 0' "$(row orders 1.5 'not settled' - 'search, 0 nodes' '0 games met; limit reached')"
 expect 4 'pg: cannot open none' '"$pg" judge none' ''
-expect 4 'pg: cannot open none' '"$pg" judge ../list --certificates none' ''
 expect 4 'pg: cannot open .' '"$pg" judge .' ''
 expect 4 'pg: read fault' '"$pg" judge - <&-' ''
 expect 4 'pg: write fault' '"$pg" judge ../list >/dev/full' ''
@@ -396,9 +432,9 @@ expect 1 'pg: record limit reached' '"$pg" upgrade <(endless old.pgc "\1") new.p
 # Files that are not to be written, and one that is two at once.
 mkfifo "$work/fifo"
 ln -s nothing "$work/dead"
-for name in - /dev/stdout /dev/null /dev/full . / "$work/fifo" "$work/dead" none/new.pgc none/ "''"; do
-  expect 4 "pg: cannot open ${name#"''"}" '"$pg" search $queen 2.0 '"$name"
-  expect 4 "pg: cannot open ${name#"''"}" '"$pg" upgrade old.pgc '"$name"
+for name in - /dev/stdout /dev/null /dev/full . / "$work/fifo" "$work/dead" none/new.pgc none/; do
+  expect 4 "pg: cannot open $name" '"$pg" search $queen 2.0 '"$name"
+  expect 4 "pg: cannot open $name" '"$pg" upgrade old.pgc '"$name"
 done
 expect 4 'pg: cannot open good.pgc' '"$pg" search $queen 2.0 good.pgc >>good.pgc'
 expect 4 'pg: cannot open /dev/stdout' '"$pg" search $queen 2.0 /dev/stdout >>good.pgc'
@@ -425,8 +461,16 @@ expect 4 'pg: cannot open ../drafts/c.pgc' '"$pg" search $array 0 ../drafts/c.pg
 long=$(printf '%0255d' 0)
 expect 0 '' '"$pg" search $array 0 ../drafts/$long >/dev/null; wc -c <../drafts/$long' 37
 
-# Runs that end without an answer, and a full disk: files may not grow past 1,024 bytes.
+# Runs that end without an answer, a certificate that may not grow so long, and a full disk: files may not grow past
+# 1,024 bytes.
 expect 1 'pg: node limit reached' '"$pg" search $queen 2.0 good.pgc --nodes 3'
+size=$(stat -c %s good.pgc)
+expect 0 '' '"$pg" search $queen 2.0 good.pgc --bytes $size | cmp - report' ''
+for bytes in 0 36 37 100 $((size - 1)); do
+  expect 1 'pg: certificate limit reached' '"$pg" search $queen 2.0 good.pgc --bytes $bytes' ''
+  expect 1 'pg: certificate limit reached' '"$pg" search $queen 2.0 new.pgc --bytes $bytes' ''
+done
+expect 1 'pg: certificate limit reached' '"$pg" search $schweig 4.0 new.pgc --journeys --bytes 5000' ''
 expect 1 'pg: a game of 4 plies reaches the diagram' '"$pg" search $queen 3.0 good.pgc'
 # The games that a search met are kept: by one that gives up, by one that has a report, and nowhere else.
 expect 1 'pg: node limit reached' '"$pg" search $cooked 3.5 new.pgc --nodes 8312 --games ../met' ''
@@ -462,27 +506,67 @@ expect 1 'pg: unknown bound 5' '"$pg" why ../journeys.pgc - >/dev/null'
 expect 0 '' '"$pg" check $queen 2.0 good.pgc games --journeys | cmp - report'
 expect 0 '' '"$pg" answer good.pgc --journeys | cmp - report'
 
-# With the least stack that the README names.
-expect 0 '' 'ulimit -s 512; "$pg" search $schweig 4.0 ../journeys.pgc --journeys | tail -n 1' sound
-expect 0 '' 'ulimit -s 512; "$pg" search $queen 2.0 good.pgc | cmp - report && "$pg" check $queen 2.0 good.pgc games | cmp - report && "$pg" answer good.pgc | cmp - report'
-expect 0 '' 'ulimit -s 512; "$pg" page good.pgc | cmp - <("$pg" page good.pgc)'
-expect 0 '' 'ulimit -s 512; "$pg" why good.pgc "e4 d5" >/dev/null && "$pg" count "$position" 3 >/dev/null && "$pg" moves "$position" >/dev/null && "$pg" show $queen >/dev/null && "$pg" upgrade old.pgc ../two >/dev/null'
-
-# The same with a long list: the 576 games of four pawn moves of each side in any order, which are 20,736 bytes.
-four=rnbqkbnr/4pppp/pppp4/8/8/PPPP4/4PPPP/RNBQKBNR
-"$pg" search "$four" 4.0 "$work/four.pgc" >"$work/four"
-"$pg" page "$work/four.pgc" >"$work/four.html"
-sed '1,3d;$d' "$work/four" >"$work/four.games"
-[ "$(wc -lc <"$work/four.games" | xargs)" = '576 20736' ] && [ "$(sed -n '3p;$p' "$work/four")" = $'games 576\ncooked' ] &&
-  grep -q '</html>' "$work/four.html" || { echo "not the 576 games of four pawn moves of each side" >&2; wrong=1; }
-report=$(cat "$work/four")
-expect 0 '' 'ulimit -s 512; "$pg" search $four 4.0 ../again --games ../met; [ $? = 1 ] && cmp ../again ../four.pgc && cmp ../met ../four.games' "$report"
-expect 1 '' 'ulimit -s 512; "$pg" check $four 4.0 ../four.pgc ../four.games' "$report"
-expect 1 '' 'ulimit -s 512; "$pg" answer ../four.pgc' "$report"
-expect 1 '' 'ulimit -s 512; "$pg" games $four 4.0 ../four.games' "${report/%cooked/not sound}"
-expect 1 '' 'ulimit -s 512; "$pg" cooks $four 4.0 ../four.games --nodes 0' "${report/%cooked/none found: node limit reached$'\n'not sound}"
-expect 0 '' 'ulimit -s 512; "$pg" page ../four.pgc | cmp - ../four.html'
-expect 1 'pg: unlisted game: 1. a3 a6 2. b3 b6 3. c3 c6 4. d3 d6' 'ulimit -s 512; sed 1d ../four.games | "$pg" check $four 4.0 ../four.pgc' ''
+# With the words behind $1 `pg` ends with the status $1 and prints something; and with the least stack that the README
+# names it ends so too, and prints and says the same.
+small() {
+  local status
+  "$pg" "${@:2}" >"$work/ample" 2>"$work/ample-said" </dev/null
+  status=$?
+  [ "$status" = "$1" ] && [ -s "$work/ample" ] ||
+    { echo "pg ${*:2}: status $status for $1, or nothing printed" >&2; wrong=1; }
+  (ulimit -s 400; "$pg" "${@:2}" >"$work/out" 2>"$work/err" </dev/null)
+  [ "$?" = "$1" ] && cmp -s "$work/ample" "$work/out" && cmp -s "$work/ample-said" "$work/err" ||
+    { echo "pg ${*:2}: another end with 400 KB of stack" >&2; head -n 3 "$work/out" "$work/err" >&2; wrong=1; }
+}
+four=rnbqkbnr/4pppp/pppp4/8/8/PPPP4/4PPPP/RNBQKBNR # 576 games of four pawn moves of each side, in any order
+"$pg" search "$four" 4.0 ../four.pgc >../four
+sed '1,3d;$d' ../four >../four.games
+[ "$(wc -lc <../four.games | xargs)" = '576 20736' ] && [ "$(sed -n '3p;$p' ../four)" = $'games 576\ncooked' ] ||
+  { echo "not the 576 games of four pawn moves of each side" >&2; wrong=1; }
+mapfile -t twelve <"$top/examples/twelve-moves/problem"
+mapfile -t fifteen <"$top/examples/two-knights/problem"
+twelve_proof=$top/examples/twelve-moves/certificate.pgc fifteen_proof=$top/examples/two-knights/certificate.pgc
+fifteen_game=$(sed -n 4p "$top/examples/two-knights/report")
+printf '%s\n' "twelve ${twelve[*]}" "fifteen ${fifteen[*]} $fifteen_game" "four $four 4.0 $(head -n 1 ../four.games)" \
+  "none $unreachable 64.0" "hard $stalemate 9.5" >../large
+mkdir ../proofs/large
+cp "$twelve_proof" ../proofs/large/twelve.pgc
+cp "$fifteen_proof" ../proofs/large/fifteen.pgc
+"$pg" judge ../large --nodes 100000 --journeys --certificates ../proofs/large >/dev/null
+small 1 search "$four" 4.0 ../again --games ../met
+expect 0 '' 'cmp ../again ../four.pgc && cmp ../met ../four.games' ''
+small 0 search "$schweig" 4.0 ../again --journeys
+expect 0 '' 'cmp ../again ../journeys.pgc' ''
+small 1 search "$unreachable" 64.0 ../again
+small 0 check "${twelve[@]}" "$twelve_proof" "$top/examples/twelve-moves/games"
+small 0 check "${fifteen[@]}" "$fifteen_proof" "$top/examples/two-knights/games" --journeys
+small 1 check "$four" 4.0 ../four.pgc ../four.games
+small 0 answer "$twelve_proof"
+small 0 answer "$fifteen_proof" --journeys
+small 1 answer ../four.pgc
+small 0 page "$twelve_proof"
+small 0 page "$fifteen_proof" --journeys --nodes 100000
+small 0 page ../four.pgc
+small 0 page ../again
+small 0 why "$fifteen_proof" "$fifteen_game" --journeys
+small 0 why ../four.pgc "$(tail -n 1 ../four.games)"
+small 1 games "$four" 4.0 ../four.games
+small 1 cooks "$four" 4.0 ../four.games --nodes 100000
+small 0 cooks "${fifteen[@]}" "$top/examples/two-knights/games" --nodes 100000
+small 1 judge ../large --nodes 100000
+small 1 judge ../large --nodes 100000 --journeys
+small 1 judge ../large --nodes 100000 --journeys --certificates ../proofs/large
+small 0 upgrade "$top/examples/schweig/certificate.pgc" ../again
+small 0 count "$position" 4
+small 0 moves 'R6R/3Q4/1Q4Q1/4Q3/2Q4Q/Q4Q2/pp1Q4/kBNN1KB1 w - - 0 1'
+small 0 show "${fifteen[@]}"
+small 0 --help
+expect 0 '' 'ulimit -s 400; "$pg" judge ../large --nodes 100000 --journeys --certificates ../proofs/new | cut -f 3' \
+  $'sound\nsound\nnot sound\nno game\ncooked'
+expect 1 'pg: unlisted game: 1. a3 a6 2. b3 b6 3. c3 c6 4. d3 d6' \
+  'ulimit -s 400; sed 1d ../four.games | "$pg" check $four 4.0 ../four.pgc' ''
+expect 1 'pg: node limit reached' 'ulimit -s 400; "$pg" search $stalemate 9.5 new.pgc --nodes 100000' ''
+expect 1 'pg: node limit reached' 'ulimit -s 400; "$pg" search $stalemate 9.5 new.pgc --nodes 1000 --journeys' ''
 
 # On a terminal: a bad diagram is told before the list is typed, and else how it is typed.
 if command -v script >/dev/null; then
