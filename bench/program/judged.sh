@@ -150,7 +150,8 @@ printf '%s\n' "orders $orders 1.5" "after $array 0" >list
 "$pg" search "$orders" 1.0 length.pgc >/dev/null
 "$pg" search "$array" 0 diagram.pgc >/dev/null
 echo none >none.pgc
-[ "$(wc -c <right.pgc) $(wc -c <length.pgc) $(wc -c <diagram.pgc)" = '119 40 37' ] || fail 'the certificates are not made'
+[ "$(wc -c <right.pgc) $(wc -c <length.pgc) $(wc -c <diagram.pgc)" = '119 40 37' ] ||
+  fail 'the certificates are not made'
 
 # FOLDER is made where it is not there, with those that it stands in.
 searched='search, 63 nodes'
@@ -216,10 +217,13 @@ wait "$run"
   [ "$(ls -A F)" = schweig.pgc ] || fail 'a folder that comes into the place' error rows
 
 # Limits: of bytes, with which nothing is left, and of time, which ends the check of a certificate too.
-size=$(wc -c <right.pgc)
+echo 'short rnbqkbnr/pppp1ppp/8/4p3/4P3/8/PPPP1PPP/RNBQKBNR 1.0' >short
+row=$(printf 'short\t1.0\tnot settled\t-\tsearch, 22 nodes\t1 game met; none below 1.0; certificate limit reached')
 F ''
-judges kept 1 '' "$(found @@BYTES@@)" --bytes $((size - 1))
-judges changed 1 '' "$(found "$searched")" --bytes "$size"
+expect 1 '' "$row" short --certificates F --bytes 58
+[ -z "$(ls -A F)" ] || fail '--bytes 58: it leaves something'
+expect 0 '' "${row%not settled*}"$'sound\t-\tsearch, 22 nodes\t1. e4 e5' short --certificates F --bytes 59
+[ "$(wc -c <F/short.pgc)" = 59 ] || fail '--bytes 59: no certificate'
 F 'cp "$schweig_proof" schweig.pgc'
 row=$(printf 'schweig\t4.0\tnot settled\t-\tcertificate, time is over\t0 games met; limit reached')
 expect 1 '' "$row" slow --certificates F --minutes 0
