@@ -210,8 +210,8 @@ echo "schweig ${schweig[*]}" >slow
 F ''
 "$pg" judge slow --certificates F >rows 2>error &
 run=$!
-until [ -e F/.schweig.pgc.pg-part-0 ] || ! kill -0 "$run" 2>/dev/null; do sleep 0.01; done
-mkdir F/schweig.pgc
+until [ -e F/.schweig.pgc.pg-part-0 ] || ! kill -0 "$run" 2>/dev/null; do :; done
+kill -STOP "$run" && mkdir F/schweig.pgc && kill -CONT "$run"
 wait "$run"
 [ "$? $(cat error)" = '2 pg: line 1: cannot open F/schweig.pgc: Is a directory (os error 21)' ] && [ ! -s rows ] &&
   [ "$(ls -A F)" = schweig.pgc ] || fail 'a folder that comes into the place' error rows
