@@ -1,5 +1,5 @@
-//! Files: lists that are read whole, files that are written beside their place, folders that are made, and names as they
-//! are shown.
+//! Files: lists that are read whole, files that are written beside their place, folders that are made, and names as
+//! they are shown.
 #![tactic(auto)]
 
 mod faults;

@@ -1,5 +1,5 @@
-//! What the program's streams go through: a buffer over a sink, a limit of bytes over a writer, the line on the terminal
-//! that says how far a run is, the end of its time, and the games that a search meets.
+//! What the program's streams go through: a buffer over a sink, a limit of bytes over a writer, the line on the
+//! terminal that says how far a run is, the end of its time, and the games that a search meets.
 #![tactic(auto)]
 
 mod deadline;

@@ -8,8 +8,8 @@ use crate::room::Room;
 use std::io;
 use std::io::{ErrorKind, Write};
 
-/// Hands writes on to a writer, so many bytes at most. A write that would pass that is refused whole, as `FileTooLarge`,
-/// and each write after it. What that writer does not take, or refuses itself, takes no room.
+/// Hands writes on to a writer, so many bytes at most. A write that would pass that is refused whole, by an error of the
+/// kind `FileTooLarge`, and so is each write after it. What the writer below does not take has no part in the count.
 #[derive(Drop)]
 pub struct Limited<W> {
     inner: W,
