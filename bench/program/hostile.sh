@@ -78,6 +78,8 @@ done <<END
 2 judge
 2 judge list more
 2 judge list --nodes -1
+2 judge list --bytes -1
+2 judge list --replace=yes
 2 judge list --certificates
 2 check $array 0
 2 check $array 0 none none --records 0
@@ -86,6 +88,8 @@ done <<END
 2 answer $array 0 none
 2 answer none --records 0
 2 search $array 0 none --nodes 18446744073709551616
+2 search $array 0 none --bytes 18446744073709551616
+2 search $array 0 none --replace
 2 search 8/8 0 none
 2 search $array 64.5 none
 2 why none
