@@ -20,6 +20,9 @@ impl<'a, T: Source, R: Clock> Until<'a, T, R> {
     pub fn new(inner: T, deadline: Deadline<'a, R>) -> Until<'a, T, R>
         ensures inner { source_of result ≡ inner }
         ensures over { is_ended result ≡ has_ended deadline.entry }
+        ensures left { ⟦<Until<'a, T, R> as Source>⟧.left result ≡ T.left inner }
+        ensures runs { ⟦<Until<'a, T, R> as Source>⟧.has_failed result
+            ≡ T.has_failed inner || has_ended deadline.entry }
     {
         Until { inner, deadline }
     }
@@ -33,7 +36,8 @@ impl<'a, T: Source, R: Clock> Until<'a, T, R> {
 
     /// The source, after all that was pulled.
     pub fn into_inner(self) -> T
-        ensures { result ≡ source_of self.entry }
+        ensures inner { result ≡ source_of self.entry }
+        ensures left { T.left result ≡ ⟦<Until<'a, T, R> as Source>⟧.left self.entry }
     {
         let Until { inner, deadline: _ } = self;
         inner
