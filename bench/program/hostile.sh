@@ -91,6 +91,7 @@ done <<END
 2|error: unexpected argument '-1' found|judge list --nodes -1
 2|error: a value is required for '--certificates <FOLDER>'|judge list --certificates
 2|error: a value is required for '--bytes <N>'|judge list --bytes
+2|error: unexpected argument '-1' found|judge list --bytes -1
 2|error: unexpected value 'yes' for '--replace' found|judge list --replace=yes
 2|$lacks <CERT>|check $array 0
 2|error: invalid value '0' for '--records <N>': 0 is not in 1..|check $array 0 none none --records 0
@@ -260,7 +261,8 @@ standing_row=$(row orders 1.5 cooked - 'certificate, 63 records' '2 games: 1. d3
 replaced_row=$(row orders 1.5 cooked - 'search, 63 nodes, old certificate refused' '2 games: 1. d3 e6 2. e3; 1. e3 e6 2. d3')
 expect 1 '' '"$pg" judge ../list --certificates ../proofs' "$orders_row"
 expect 1 '' '"$pg" judge ../list --certificates ../proofs --nodes 0' "$standing_row"
-for wrong_one in good.pgc empty report; do
+head -c -1 "$work/proofs/orders.pgc" >"$work/cut"
+for wrong_one in "$work/cut" empty report; do
   cp "$wrong_one" "$work/proofs/orders.pgc"
   expect 1 '' '"$pg" judge ../list --certificates ../proofs --nodes 0' \
     "$(row orders 1.5 'not settled' - 'search, 0 nodes, old certificate refused' '0 games met; limit reached')"

@@ -63,16 +63,19 @@ complete -c pg -n '__pg_is answer' -s h -l help -d 'Print help'
 complete -c pg -n '__pg_is_at answer 1 --records' -F
 complete -c pg -n '__pg_is search' -l nodes -x -d 'Gives up before more nodes are visited [default: 1000000]'
 complete -c pg -n '__pg_is search' -l minutes -x -d 'Gives up after so many minutes, as 5 or 0.5'
+complete -c pg -n '__pg_is search' -l bytes -x -d 'Gives up before CERT is longer [default: 4000000000]'
 complete -c pg -n '__pg_is search' -l games -r -F -d 'Keeps the games that it met, if any, also if it gives up'
 complete -c pg -n '__pg_is search' -l journeys -d 'Cuts by the bound by journeys too: far fewer nodes'
 complete -c pg -n '__pg_is search' -s h -l help -d 'Print help'
-complete -c pg -n '__pg_is_at search 3 --nodes --minutes --games' -F
+complete -c pg -n '__pg_is_at search 3 --nodes --minutes --bytes --games' -F
 complete -c pg -n '__pg_is judge' -l certificates -r -F -d 'Keeps each certificate as FOLDER/NAME.pgc'
+complete -c pg -n '__pg_is judge' -l replace -d 'Replaces certificates of other problems too'
 complete -c pg -n '__pg_is judge' -l nodes -x -d 'The last limit of a search [default: 100000000]'
 complete -c pg -n '__pg_is judge' -l minutes -x -d 'Gives up a problem after M, as 5 or 0.5'
+complete -c pg -n '__pg_is judge' -l bytes -x -d 'Most bytes of a certificate [default: 4000000000]'
 complete -c pg -n '__pg_is judge' -l journeys -d 'Cuts by journeys too, where a search gives up'
 complete -c pg -n '__pg_is judge' -s h -l help -d 'Print help'
-complete -c pg -n '__pg_is_at judge 1 --certificates --nodes --minutes' -F
+complete -c pg -n '__pg_is_at judge 1 --certificates --nodes --minutes --bytes' -F
 complete -c pg -n '__pg_is why' -l records -x -d 'Refuses a certificate of more records [default: 100000000]'
 complete -c pg -n '__pg_is why' -l journeys -d 'Takes cuts by the bound by journeys too'
 complete -c pg -n '__pg_is why' -s h -l help -d 'Print help'

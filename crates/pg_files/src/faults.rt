@@ -7,7 +7,7 @@ use std::fmt;
 use std::fmt::{Display, Formatter};
 use std::io::Error;
 
-/// What stands in the way of a file that cannot be opened, created or put in its place.
+/// What stands in the way of a file that cannot be opened, created or put in its place, or of a folder.
 #[derive(Clone, Copy, Debug, PartialEq, Eq)]
 pub enum Obstacle {
     /// The system refused it, by the error of this number (`errno`).
@@ -18,6 +18,10 @@ pub enum Obstacle {
     NoName,
     /// It is no plain file: a folder, a pipe, a socket or a device.
     NotPlain,
+    /// It is a symbolic link, where none is followed.
+    Link,
+    /// It is no folder, where one is wanted.
+    NoFolder,
     /// It is `-`, standard input, where a file is to be written.
     Input,
     /// The program prints to it.
@@ -47,6 +51,8 @@ impl Display for Obstacle {
             Obstacle::Unknown => f.write_str("the system gives no reason"),
             Obstacle::NoName => f.write_str("it is no name of a file"),
             Obstacle::NotPlain => f.write_str("it is no plain file"),
+            Obstacle::Link => f.write_str("it is a link, which is not followed"),
+            Obstacle::NoFolder => f.write_str("it is no folder"),
             Obstacle::Input => f.write_str("it is standard input, which is not written"),
             Obstacle::PrintedTo => f.write_str("the program prints to it"),
             Obstacle::NamedTwice => f.write_str("another word names this file"),

@@ -6,16 +6,16 @@ ghost use Rattle.std.specs.Fs.{permissions_mode};
 ghost use Rattle.std.specs.Io.{StartsWith};
 ghost use Rattle.pg_files.specs.Drafts.{HasPlainRights, IsNew, name_of_draft, place_of_draft};
 ghost use Rattle.pg_files.specs.Paths.{HasNoSlash, IsDraftPath, IsFolder};
-ghost use Rattle.pg_files.specs.Faults.{IsNotBegun, IsNotPut};
+ghost use Rattle.pg_files.specs.Faults.{IsNotBegun, IsNotBegunHere, IsNotPut};
 
 use crate::faults::{FileFault, Obstacle};
 use crate::names::{is_input, path_of};
 use std::alloc::Global;
-use std::fs;
 use std::fs::{File, Metadata, OpenFile, Permissions};
 use std::io::ErrorKind;
 use std::os::unix::fs::{MetadataExt, PermissionsExt};
 use std::rt::Files;
+use std::{fs, io};
 
 // So many names are tried for a file beside its place.
 const NAMES: u32 = 1000;
@@ -82,48 +82,99 @@ fn rights_of(file: &Metadata) -> Permissions
     Permissions::from_mode(file.permissions().mode() & RIGHTS)
 }
 
-// The place of a file that is there already: the plain file to which the name leads, if it may be
-// written and is not where the program prints.
-fn place_of_old<R: Files + AllocGlobal>(rt: &R, name: &str) -> Result<Place, FileFault>
-    ensures old { IfOk result (λ place. IfSome place.permissions (λ rights. permissions_mode rights ≤ 0o777)) }
-    ensures there { IfOk result (λ place. IsSome place.permissions) }
+// What is done with a symbolic link that stands where a file is to be written.
+#[derive(Clone, Copy, PartialEq, Eq)]
+enum Links {
+    Followed,
+    Refused,
+}
+
+// What stands under a name: what a link there leads to, where it is followed, else the link itself.
+fn look_at<R: Files>(rt: &R, name: &str, links: Links) -> io::Result<Metadata> {
+    match links {
+        Links::Followed => fs::metadata(rt, name),
+        Links::Refused => fs::symlink_metadata(rt, name),
+    }
+}
+
+// Whether what stands there may be written in place of the file, or what is in the way: only a plain file may, where
+// the program does not print.
+fn may_be_replaced<R: Files>(rt: &R, name: &str, old: &Metadata) -> Result<(), FileFault>
     ensures fault { IfErr result IsNotBegun }
 {
-    let old = match fs::metadata(rt, name) {
-        Ok(old) => old,
-        Err(fault) => return Err(FileFault::Open(Obstacle::of(&fault))),
-    };
     if !old.is_file() {
         return Err(FileFault::Open(Obstacle::NotPlain));
     }
-    if is_printed_to(rt, &old) {
+    if is_printed_to(rt, old) {
         return Err(FileFault::Open(Obstacle::PrintedTo));
     }
-    if let Err(fault) = File::options().write(true).open(rt, name) {
-        return Err(FileFault::Open(Obstacle::of(&fault)));
+    match File::options().write(true).open(rt, name) {
+        Ok(_) => Ok(()),
+        Err(fault) => Err(FileFault::Open(Obstacle::of(&fault))),
+    }
+}
+
+// The path under which a file that is there already is replaced: where links are followed, that of the file to which
+// the name leads; else the name, so that what is put there replaces even a link that somebody makes meanwhile.
+fn path_of_old<R: Files + AllocGlobal>(
+    rt: &R,
+    name: &str,
+    links: Links,
+) -> Result<String, FileFault>
+    ensures here { links ≡ Links.Refused → IfOk result (λ path. string_bytes path ≡ name.now) }
+    ensures fault { IfErr result IsNotBegun }
+{
+    if links == Links::Refused {
+        return copied(rt.alloc(), name);
     }
     match fs::canonicalize(rt, name) {
-        Ok(path) => Ok(Place {
-            path: copied(rt.alloc(), path.as_str())?,
-            permissions: Some(rights_of(&old)),
-        }),
+        Ok(path) => copied(rt.alloc(), path.as_str()),
         Err(fault) if fault.kind() == ErrorKind::OutOfMemory => Err(FileFault::Memory),
         Err(fault) => Err(FileFault::Open(Obstacle::of(&fault))),
     }
 }
 
+// The place of a file that is there already: the plain file to which the name leads, if it may be
+// written and is not where the program prints.
+fn place_of_old<R: Files + AllocGlobal>(
+    rt: &R,
+    name: &str,
+    links: Links,
+) -> Result<Place, FileFault>
+    ensures old { IfOk result (λ place. IfSome place.permissions (λ rights. permissions_mode rights ≤ 0o777)) }
+    ensures there { IfOk result (λ place. IsSome place.permissions) }
+    ensures here { links ≡ Links.Refused → IfOk result (λ place. string_bytes place.path ≡ name.now) }
+    ensures followed { links ≡ Links.Followed → IfErr result IsNotBegun }
+    ensures fault { IfErr result IsNotBegunHere }
+{
+    let old = match look_at(rt, name, links) {
+        Ok(old) => old,
+        Err(fault) => return Err(FileFault::Open(Obstacle::of(&fault))),
+    };
+    if links == Links::Refused && old.is_symlink() {
+        return Err(FileFault::Open(Obstacle::Link));
+    }
+    may_be_replaced(rt, name, &old)?;
+    Ok(Place {
+        path: path_of_old(rt, name, links)?,
+        permissions: Some(rights_of(&old)),
+    })
+}
+
 // The place of a file with this name.
-fn place_of<R: Files + AllocGlobal>(rt: &R, name: &str) -> Result<Place, FileFault>
+fn place_of<R: Files + AllocGlobal>(rt: &R, name: &str, links: Links) -> Result<Place, FileFault>
     ensures new { IfOk result (λ place. IsNone place.permissions → string_bytes place.path ≡ name.now) }
     ensures rights { IfOk result (λ place. IfSome place.permissions (λ rights. permissions_mode rights ≤ 0o777)) }
     ensures input { name.now ≡ codes "-" → IsErrAnd result (λ fault. fault ≡ FileFault.Open Obstacle.Input) }
-    ensures fault { IfErr result IsNotBegun }
+    ensures here { links ≡ Links.Refused → IfOk result (λ place. string_bytes place.path ≡ name.now) }
+    ensures followed { links ≡ Links.Followed → IfErr result IsNotBegun }
+    ensures fault { IfErr result IsNotBegunHere }
 {
     if is_input(name) {
         return Err(FileFault::Open(Obstacle::Input));
     }
     match fs::symlink_metadata(rt, name) {
-        Ok(_) => place_of_old(rt, name),
+        Ok(_) => place_of_old(rt, name, links),
         Err(fault) if fault.kind() == ErrorKind::NotFound => {
             if name.is_empty() || name.ends_with('/') {
                 return Err(FileFault::Open(Obstacle::NoName));
@@ -269,8 +320,25 @@ pub fn begin_apart<R: Files + AllocGlobal>(
     ensures input { name.now ≡ codes "-" → IsErrAnd result (λ fault. fault ≡ FileFault.Open Obstacle.Input) }
     ensures fault { IfErr result IsNotBegun }
 {
-    let place = place_of(rt, name)?;
+    let place = place_of(rt, name, Links::Followed)?;
     make_beside(rt, place, other)
+}
+
+/// Begins a file of this name likewise, at the very path: a symbolic link that stands there, also one that leads to
+/// nothing, is refused and never followed. So what is put there is under this name, and no file elsewhere is written.
+/// Links above it, in the name of its folder, are followed.
+///
+/// # Errors
+/// Those of `begin`, and `Open` with `Link`.
+pub fn begin_here<R: Files + AllocGlobal>(rt: &R, path: &str) -> Result<Draft<R::File>, FileFault>
+    ensures here { IfOk result (λ draft. place_of_draft draft ≡ path.now) }
+    ensures name { IfOk result (λ draft. IsDraftPath path.now (name_of_draft draft)) }
+    ensures rights { IfOk result HasPlainRights }
+    ensures input { path.now ≡ codes "-" → IsErrAnd result (λ fault. fault ≡ FileFault.Open Obstacle.Input) }
+    ensures fault { IfErr result IsNotBegunHere }
+{
+    let place = place_of(rt, path, Links::Refused)?;
+    make_beside(rt, place, "")
 }
 
 impl<F: OpenFile + Drop> Draft<F> {

@@ -1,1 +1,3 @@
 pub mod Buffer
+pub mod Ending
+pub mod Room

@@ -1,4 +1,6 @@
 //! A run that ends when its time is over.
+ghost use Rattle.std.specs.Prelude.{◌≡◌, false, IsTrue};
+ghost use Rattle.pg_streams.specs.Ending.{has_ended};
 
 use pg_position::Move;
 use pg_searcher::{LedProgress, SearchProgress};
@@ -52,7 +54,9 @@ pub struct Deadline<'a, R> {
 
 impl<'a, R: Clock> Deadline<'a, R> {
     /// Of a run that begins now and has so many milliseconds, or any number of them.
-    pub fn new(rt: &'a R, milliseconds: Option<u64>) -> Deadline<'a, R> {
+    pub fn new(rt: &'a R, milliseconds: Option<u64>) -> Deadline<'a, R>
+        ensures { has_ended result ≡ false }
+    {
         Deadline {
             rt,
             began: match milliseconds {
@@ -76,13 +80,34 @@ impl<'a, R: Clock> Deadline<'a, R> {
         }
     }
 
-    /// Whether the time is over, by the clock at the first turn and at each 1,024th from then on. Once it is over it
-    /// stays so.
-    pub fn is_over(&mut self) -> bool {
-        if !self.is_over && self.began.is_some() && self.turns % TURNS == 0 {
+    /// Whether the time is over, by the clock. Once it is over it stays so.
+    pub fn is_over_now(&mut self) -> bool
+        ensures told { result ≡ has_ended self.new }
+        ensures stays { IsTrue (has_ended self.old) → IsTrue result }
+    {
+        if !self.is_over {
             self.is_over = self.has_passed();
         }
+        self.is_over
+    }
+
+    /// Whether the time is over, by the clock at the first turn and at each 1,024th from then on. Once it is over it
+    /// stays so.
+    pub fn is_over(&mut self) -> bool
+        ensures told { result ≡ has_ended self.new }
+        ensures stays { IsTrue (has_ended self.old) → IsTrue result }
+    {
+        if self.turns % TURNS == 0 {
+            let _ = self.is_over_now();
+        }
         self.turns = self.turns.wrapping_add(1);
+        self.is_over
+    }
+
+    // Whether the time was over when the clock was last asked.
+    pub(crate) fn has_ended(&self) -> bool
+        ensures { result ≡ has_ended self.now }
+    {
         self.is_over
     }
 }

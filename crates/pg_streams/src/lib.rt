@@ -1,4 +1,4 @@
-//! What the program's streams go through: a buffer over a sink, the line on the
+//! What the program's streams go through: a buffer over a sink, a limit of bytes over a writer, the line on the
 //! terminal that says how far a run is, the end of its time, and the games that a search meets.
 #![tactic(auto)]
 
@@ -7,16 +7,22 @@ mod gathered;
 mod judged;
 mod kept;
 mod led;
+mod limited;
 mod line;
 mod progress;
+mod room;
 mod runs;
 mod trees;
+mod until;
 
 pub use deadline::{Deadline, Timed, milliseconds_of};
 pub use gathered::Gathered;
 pub use judged::{JudgeLine, judge_line};
 pub use kept::Kept;
 pub use led::{LedLine, led_line};
+pub use limited::Limited;
 pub use line::{Cleared, Terminal};
 pub use progress::{Passing, line_of};
+pub use room::Room;
 pub use runs::{CountLine, SearchLine, count_line, search_line};
+pub use until::Until;

@@ -58,7 +58,8 @@ const JUDGE_EXAMPLE: &str =
 game; `#` begins a comment. Each problem has a row, with tabs between its
 columns: name, length, verdict, what the author's game is, by what, the games.
 With `--certificates` each proof goes to FOLDER/NAME.pgc, and one that stands
-there is checked in place of a search, so that a run can be gone on with.
+there is checked in place of a search, so that a run can be gone on with. One of
+another problem stays, but with `--replace`; `--bytes` says how long one may be.
 
 Example:
   echo 'two rnbqkbnr/pppp1ppp/4p3/8/8/3PP3/PPP2PPP/RNBQKBNR 1.5' >problems
@@ -268,6 +269,19 @@ const MINUTES_JUDGED: Word = Word {
     help: "Gives up a problem after M, as 5 or 0.5",
 };
 
+const BYTES: Word = Word {
+    name: "bytes",
+    kind: Kind::Limit("N", "4000000000", 0),
+    help: "Gives up before CERT is longer",
+};
+
+// The bytes of `pg judge`.
+const BYTES_JUDGED: Word = Word {
+    name: "bytes",
+    kind: Kind::Limit("N", "4000000000", 0),
+    help: "Most bytes of a certificate",
+};
+
 const PROBLEMS: Word = Word {
     name: "PROBLEMS",
     kind: Kind::Line,
@@ -278,6 +292,13 @@ const FOLDER: Word = Word {
     name: "certificates",
     kind: Kind::Named("FOLDER"),
     help: "Keeps each certificate as FOLDER/NAME.pgc",
+};
+
+// Certificates of other problems that stand where those of `pg judge` are put.
+const REPLACED: Word = Word {
+    name: "replace",
+    kind: Kind::Flag,
+    help: "Replaces certificates of other problems too",
 };
 
 const FOREIGN: Word = Word {
@@ -375,6 +396,7 @@ const COMMANDS: [Entry; 12] = [
             CERTIFICATE_WRITTEN,
             NODES,
             MINUTES,
+            BYTES,
             GAMES_KEPT,
             JOURNEYS,
         ],
@@ -386,8 +408,10 @@ const COMMANDS: [Entry; 12] = [
         words: &[
             PROBLEMS,
             FOLDER,
+            REPLACED,
             NODES_JUDGED,
             MINUTES_JUDGED,
+            BYTES_JUDGED,
             JOURNEYS_JUDGED,
         ],
     },

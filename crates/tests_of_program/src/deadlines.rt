@@ -1,11 +1,14 @@
 //! The time that a run has, and the line of a judge.
 
 use crate::shared::{number, word};
+use pg_certificate::{FromRead, Source};
 use pg_moves::Unwatched;
 use pg_searcher::SearchProgress;
-use pg_streams::{Deadline, Timed, judge_line, milliseconds_of};
+use pg_streams::{Deadline, Timed, Until, judge_line, milliseconds_of};
+use pg_trial::FailsAt;
 use std::cell::Cell;
 use std::io;
+use std::io::ErrorKind;
 use std::process::Abort;
 use std::time::{Clock, Duration};
 
@@ -80,6 +83,46 @@ fn searches_that_end_in_time(rt: HostRuntime) {
     let mut endless = Deadline::new(&clock, None);
     assert!(rt; first && !last && !endless.is_over());
     assert_eq!(rt; more, 1023);
+}
+
+// Pulls once at a time, and tells how many bytes came; 9 where that was refused.
+fn pulled_at<S: Source>(source: &mut S, clock: &Watch, millis: u64) -> usize {
+    clock.millis.set(millis);
+    let mut buffer = [0u8; 2];
+    source.pull(&mut buffer).unwrap_or(9)
+}
+
+// The clock is asked at each pull. What is over stays so, and leaves the source below as it was.
+#[test]
+fn sources_that_end_in_time(rt: HostRuntime) {
+    let clock = Watch {
+        millis: Cell::new(1000),
+    };
+    let text = FromRead::new(b"12345".as_slice());
+    let mut source = Until::new(text, Deadline::new(&clock, Some(500)));
+    assert_eq!(rt; pulled_at(&mut source, &clock, 1000), 2);
+    assert_eq!(rt; pulled_at(&mut source, &clock, 1499), 2);
+    assert!(rt; !source.is_over() && !source.failed());
+    assert_eq!(rt; pulled_at(&mut source, &clock, 1500), 9);
+    assert_eq!(rt; pulled_at(&mut source, &clock, 1000), 9);
+    assert!(rt; source.is_over() && source.failed());
+    let mut endless = Until::new(source.into_inner(), Deadline::new(&clock, None));
+    assert_eq!(rt; pulled_at(&mut endless, &clock, 9_000_000), 1);
+    assert_eq!(rt; pulled_at(&mut endless, &clock, 9_000_000), 0);
+    assert!(rt; !endless.is_over());
+}
+
+// A source that fails by itself has not come to the end of its time.
+#[test]
+fn sources_that_fail_in_time(rt: HostRuntime) {
+    let clock = Watch {
+        millis: Cell::new(1000),
+    };
+    let failing = FailsAt::new(b"12345".as_slice(), 1, ErrorKind::Other);
+    let mut source = Until::new(FromRead::new(failing), Deadline::new(&clock, Some(500)));
+    assert_eq!(rt; pulled_at(&mut source, &clock, 1000), 2);
+    assert_eq!(rt; pulled_at(&mut source, &clock, 1000), 9);
+    assert!(rt; source.failed() && !source.is_over());
 }
 
 #[test]

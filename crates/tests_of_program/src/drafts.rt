@@ -1,6 +1,7 @@
 //! Files that are written beside their place, and put there when they are whole.
 
-use pg_files::{FileFault, begin, begin_apart, lead_to_one, stand_at_one};
+use crate::shared::to_text;
+use pg_files::{FileFault, begin, begin_apart, begin_here, lead_to_one, make_folder, stand_at_one};
 use std::io::Write;
 use std::os::unix::fs::{PermissionsExt, symlink};
 use std::process::Abort;
@@ -192,5 +193,82 @@ fn drafts_stand_apart(rt: HostRuntime) {
     let other = path_in(&rt, inner.as_str(), ".list.pg-part-0");
     check_apart(&rt, path.as_str(), other.as_str());
     check_count(&rt, folder.as_str(), 2);
+    remove(&rt, folder.as_str());
+}
+
+// That no draft is begun at a path, and what is said of that.
+fn check_not_begun_here<R: Runtime + Abort + AllocGlobal>(rt: &R, path: &str, wanted: &str) {
+    let Err(FileFault::Open(obstacle)) = begin_here(rt, path) else {
+        panic!(rt; "{path}");
+    };
+    assert_eq!(rt; to_text(rt, obstacle).as_str(), wanted);
+}
+
+// That a draft is begun at a path, and put there.
+fn check_begun_here<R: Runtime + Abort + AllocGlobal>(rt: &R, path: &str) {
+    let Ok(mut draft) = begin_here(rt, path) else {
+        panic!(rt; "a draft");
+    };
+    assert!(rt; draft.file.write_all(b"new").is_ok());
+    assert!(rt; draft.put(rt).is_ok());
+    check_file(rt, path, b"new");
+}
+
+const LINK: &str = "it is a link, which is not followed";
+
+// A link that stands at the path is not followed, wherever it leads; one in the name of the folder is.
+#[test]
+fn drafts_at_their_very_path(rt: HostRuntime) {
+    let folder = folder(&rt, process::id(rt.process()), "here");
+    let inner = path_in(&rt, folder.as_str(), "inner");
+    link(&rt, ".", inner.as_str());
+    let name = path_in(&rt, folder.as_str(), "link");
+    link(&rt, "file", name.as_str());
+    check_not_begun_here(&rt, name.as_str(), LINK);
+    check_not_begun_here(&rt, inner.as_str(), LINK);
+    check_not_begun_here(&rt, folder.as_str(), "it is no plain file");
+    let file = path_in(&rt, inner.as_str(), "file");
+    check_begun_here(&rt, file.as_str());
+    write(&rt, file.as_str(), b"old");
+    check_not_begun_here(&rt, name.as_str(), LINK);
+    check_file(&rt, name.as_str(), b"old");
+    check_begun_here(&rt, file.as_str());
+    check_count(&rt, folder.as_str(), 3);
+    remove(&rt, folder.as_str());
+}
+
+// That no folder is made, and what is said of that.
+fn check_not_made<R: Runtime + Abort + AllocGlobal>(rt: &R, path: &str, wanted: &str) {
+    let Err(FileFault::Open(obstacle)) = make_folder(rt, path) else {
+        panic!(rt; "{path}");
+    };
+    assert_eq!(rt; to_text(rt, obstacle).as_str(), wanted);
+}
+
+// That a folder is there, with so many names in it.
+fn check_made<R: Runtime + Abort + AllocGlobal>(rt: &R, path: &str, wanted: usize) {
+    assert!(rt; make_folder(rt, path).is_ok(), "{path}");
+    check_count(rt, path, wanted);
+}
+
+// A folder is made with those above it; where one is already nothing is done.
+#[test]
+fn folders_that_are_made(rt: HostRuntime) {
+    let folder = folder(&rt, process::id(rt.process()), "folders");
+    let below = path_in(&rt, folder.as_str(), "one/two/three");
+    check_made(&rt, below.as_str(), 0);
+    let name = path_in(&rt, folder.as_str(), "link");
+    link(&rt, "one", name.as_str());
+    check_made(&rt, name.as_str(), 1);
+    let dead = path_in(&rt, below.as_str(), "dead");
+    link(&rt, "nothing", dead.as_str());
+    check_not_made(&rt, dead.as_str(), "it is no folder");
+    let file = path_in(&rt, below.as_str(), "file");
+    write(&rt, file.as_str(), b"old");
+    check_not_made(&rt, file.as_str(), "it is no folder");
+    check_made(&rt, below.as_str(), 2);
+    let inner = path_in(&rt, file.as_str(), "inner");
+    check_not_made(&rt, inner.as_str(), "Not a directory (os error 20)");
+    check_not_made(&rt, "", "it is no name of a file");
     remove(&rt, folder.as_str());
 }

@@ -1,6 +1,6 @@
 //! Lists of games, read whole.
 
-use crate::shared::repeated;
+use crate::shared::{repeated, to_text};
 use pg_files::{FileFault, MOST_BYTES, Obstacle, first_bytes, list, open_plain, read_all};
 use pg_trial::{Endless, FailsAt};
 use std::io;
@@ -19,14 +19,6 @@ fn whole<R: Abort + AllocGlobal, C: Read>(rt: &R, reader: &mut C) -> Vec<u8> {
         panic!(rt; "a list");
     };
     bytes
-}
-
-// What an obstacle says.
-fn to_text<R: Abort + AllocGlobal>(rt: &R, obstacle: Obstacle) -> String {
-    let Ok(text) = obstacle.to_string(rt.alloc()) else {
-        panic!(rt; "memory");
-    };
-    text
 }
 
 #[test]

@@ -13,6 +13,8 @@ mod hints;
 #[cfg(test)]
 mod inputs;
 #[cfg(test)]
+mod limits;
+#[cfg(test)]
 mod lines;
 #[cfg(test)]
 mod mistakes;

@@ -1,5 +1,6 @@
 //! What the tests of files and of streams share.
 
+use pg_files::Obstacle;
 use std::process::Abort;
 
 // So many times a byte.
@@ -24,4 +25,12 @@ pub(crate) fn number(rt: &impl Abort, text: &str) -> u64 {
 // The same, as a size.
 pub(crate) fn size(rt: &impl Abort, text: &str) -> usize {
     text.parse().expect(rt, text)
+}
+
+// What an obstacle says.
+pub(crate) fn to_text<R: Abort + AllocGlobal>(rt: &R, obstacle: Obstacle) -> String {
+    let Ok(text) = obstacle.to_string(rt.alloc()) else {
+        panic!(rt; "memory");
+    };
+    text
 }
