@@ -106,7 +106,7 @@ read_page() {
 plies() { sed 's/[0-9]*\.//g' <<<"$1" | wc -w; }
 
 # What `pg why` says at the end of the moves $1.
-why() { "$pg" why "$certificate" "${1:--}" | tail -n 2 | head -n 1; }
+why() { "$pg" why "$certificate" "${1:--}" "${words[@]}" | tail -n 2 | head -n 1; }
 
 # Compares the place after the moves $1, where the board is $2 and the words are $3.
 compare_place() {
@@ -164,18 +164,19 @@ compare() {
 # How many plies the length of the problem is.
 plies_of_length() { awk '{ print 2 * $1 }' <<<"$length"; }
 
+# What the command $1 of a page prints last, in a folder where CERT is the certificate.
+last_of() { (cd "$work" && cp "$certificate" CERT && ln -sf "$pg" pg && PATH="$work:$PATH" bash -c "$1" 2>&1 </dev/null) | tail -n 1; }
+
 # Asks what the page says to ask.
-ask() {
-  (cd "$work" && cp "$certificate" CERT && ln -sf "$pg" pg && PATH="$work:$PATH" bash -c "$1" 2>&1 </dev/null) | tail -n 1 | grep -qx 'the certificate is right' ||
-    fail "what the page says to ask is no answer: $1"
-}
+ask() { [ "$(last_of "$1")" = 'the certificate is right' ] || fail "what the page says to ask is no answer: $1"; }
 
 # Takes the example $1, and writes its page of $2 nodes at most.
 take() {
   local lines
   mapfile -t lines <"$top/examples/$1/problem"
-  name=$1 diagram=${lines[0]} length=${lines[1]} certificate=$top/examples/$1/certificate.pgc
-  "$pg" page "$certificate" --nodes "$2" >"$work/page.html" || fail "pg page ends with status $?"
+  name=$1 diagram=${lines[0]} length=${lines[1]} certificate=$top/examples/$1/certificate.pgc words=()
+  [ ! -f "$top/examples/$1/words" ] || read -ra words <"$top/examples/$1/words"
+  "$pg" page "$certificate" --nodes "$2" "${words[@]}" >"$work/page.html" || fail "pg page ends with status $?"
   ! grep -Eiq "https?:|@import|src *=|url\((['\"]?)[^#'\"]|href *= *['\"]?[^#'\" ]" "$work/page.html" || fail "the page loads something"
 }
 
@@ -195,6 +196,14 @@ name='many records' diagram=2bqr1k1/2p1ppbp/1pp4p/7n/r2P3P/8/P1P1PPP1/RNB1KBNR
 "$pg" page "$work/many.pgc" --nodes 0 >"$work/page.html" || fail "pg page ends with status $?"
 grep -q 'What was checked: a certificate of 1131833 records with [0-9][0-9]* named nodes' "$work/page.html" ||
   fail "the page has another number of records: $(grep -o 'What was checked: .*records' "$work/page.html")"
+
+# A page names the command that checks its certificate, with the word that this wants: with a browser and without one, it has the
+# verdict of the report.
+for name in schweig bishop-on-d3; do
+  take "$name" 100
+  command=$(sed -n 's|.*<code>\(pg answer CERT.*\)</code>.*|\1|p' "$work/page.html")
+  [ "$(last_of "$command")" = "$(tail -n 1 "$top/examples/$name/report")" ] || fail "what the page says to run has another answer: $command"
+done
 
 for browser in ${CHROMIUM-} chromium chromium-browser google-chrome ''; do ! command -v "$browser" >/dev/null || break; done
 [ -n "$browser" ] || not_tried 'there is no Chromium'
@@ -219,6 +228,7 @@ schweig|100|Sound||game 1;first;play;line 5;asks|after 1. Nc3 d6 2. Nd5 Nd7: not
 four-games|20000|Cooked||reads;game 4;first;play;game 1;first;play;back;rows KQkq d6;address 1.e4 d5;last|after 1. e4 a6 2. e5 d5 3. exd6: a solution|0
 castling|20000|Sound||reads;game 1;first;play;back;next;press ArrowLeft;rows KQkq -|after 1. e4 g6 2. Ba6 Nxa6 3. Nf3 Nb8: 1 of 26 moves ends on the diagram|0
 castling-long|20000|Sound||reads;game 1;first;play|after 1. d3 c6 2. Bf4 Qa5+ 3. Nd2 Qxd2+ 4. Qxd2 f6 5. O-O-O: a solution|0
+bishop-on-d3|1|Sound||reads;game 1;line 5;asks|after 1. d4 Nf6 2. Qd2 Nh5: not told on this page|1
 roessler|20000|Sound||reads;game 1;first;play;address 1.h4 d5 2.h5 Nd7 3.h6;rows KQkq -;move Nxh6|after 1. h4 d5 2. h5 Nd7 3. h6 Nxh6: excluded: black has captured 1 man too many|0
 END_OF_READERS
 [ "$places" -ge 80 ] && [ "$rows" -ge 150 ] || { echo "only $places places and $rows moves were compared" >&2; wrong=1; }

@@ -4,7 +4,7 @@ ghost use Rattle.pg_certificate.specs.Pushing.{Grows, MayPush, Pushes};
 ghost use Rattle.pg_checker.specs.Answering.{HasAnswer, failures};
 ghost use Rattle.pg_checker.specs.Cuts.{any_rules_by, rules_by};
 ghost use Rattle.pg_checker.specs.Terms.{terms};
-ghost use Rattle.pg_page.specs.Page.{AddsHead, IsPageFault, IsShowingFault, IsShown};
+ghost use Rattle.pg_page.specs.Page.{AddsHead, has_journeys, IsPageFault, IsShowingFault, IsShown};
 
 use crate::fault::PageFault;
 use crate::heading::write_head;
@@ -20,6 +20,33 @@ use pg_sentences::phrases::{
 use pg_sentences::untold;
 use std::alloc::Global;
 
+// The code of the bound by journeys.
+const JOURNEYS: u8 = 5;
+
+// The code by which a certificate names a bound.
+fn code_of_box(bound: &Box<dyn Bound>) -> u8
+    ensures { result ≡ code_of bound.now }
+{
+    bound.code()
+}
+
+// Whether the bound by journeys is among these.
+fn has_journeys(bounds: &[Box<dyn Bound>]) -> bool
+    ensures { result ≡ has_journeys code_of bounds.now }
+{
+    for bound in bounds {
+        if code_of_box(bound) == JOURNEYS {
+            return true;
+        }
+    }
+    false
+}
+
+// The word behind a command, where its check is to go by journeys.
+fn word_for(by_journeys: bool) -> &'static str {
+    if by_journeys { " --journeys" } else { "" }
+}
+
 // Appends texts.
 fn write_all<W: Sink>(texts: &[&str], out: &mut W) -> Result<(), Refused>
     ensures { MayPush W.held W.has_failed Grows out.old out.new result }
@@ -30,15 +57,18 @@ fn write_all<W: Sink>(texts: &[&str], out: &mut W) -> Result<(), Refused>
     Ok(())
 }
 
-// Appends what stands between the games and the trees, with the words that the script puts beside what these say.
-fn write_viewer<W: Sink>(out: &mut W) -> Result<(), Refused>
+// Appends what stands between the games and the trees: the command that checks the certificate, and the words that the
+// script puts beside what the trees say.
+fn write_viewer<W: Sink>(by_journeys: bool, out: &mut W) -> Result<(), Refused>
     ensures { MayPush W.held W.has_failed Grows out.old out.new result }
 {
+    let word = word_for(by_journeys);
     let untold = untold(0);
     write_all(
         &[
             VIEWER,
-            "<div id=\"phrases\" hidden data-start=\"",
+            word,
+            "</code>.</p>\n<div id=\"phrases\" hidden data-start=\"",
             AT_THE_START,
             "\" data-after=\"",
             AFTER,
@@ -73,10 +103,15 @@ fn write_end<W: Sink>(out: &mut W) -> Result<(), Refused>
 }
 
 // Appends what stands below the games.
-fn write_proof<W: Sink>(problem: &Problem, log: &Log, out: &mut W) -> Result<(), Refused>
+fn write_proof<W: Sink>(
+    problem: &Problem,
+    by_journeys: bool,
+    log: &Log,
+    out: &mut W,
+) -> Result<(), Refused>
     ensures { Pushes W.held W.has_failed Grows out.old out.new result }
 {
-    write_viewer(out)?;
+    write_viewer(by_journeys, out)?;
     tell(&problem.diagram, log, out)?;
     write_end(out)
 }
@@ -84,22 +119,29 @@ fn write_proof<W: Sink>(problem: &Problem, log: &Log, out: &mut W) -> Result<(),
 // Writes the page of a problem and its answer, with what was met of the trees. Not inlined: what it needs of the stack
 // would lie below the check too.
 #[inline(never)]
-fn show<W: Sink>(problem: &Problem, answer: &Answer, log: &Log, out: &mut W) -> Result<(), Refused>
+fn show<W: Sink>(
+    problem: &Problem,
+    by_journeys: bool,
+    answer: &Answer,
+    log: &Log,
+    out: &mut W,
+) -> Result<(), Refused>
     ensures { Pushes W.held W.has_failed
-        (AddsHead problem.now.diagram problem.now.length answer.now) out.old out.new result }
+        (AddsHead problem.now.diagram problem.now.length by_journeys answer.now) out.old out.new result }
 {
-    write_head(problem, answer, out)?;
-    write_proof(problem, log, out)
+    write_head(problem, by_journeys, answer, out)?;
+    write_proof(problem, by_journeys, log, out)
 }
 
 // Writes the page of a problem and its answer, with what was met of the trees, where there was room for that.
 fn write_page<W: Sink>(
     problem: &Problem,
+    by_journeys: bool,
     answer: &Answer,
     log: &mut Log,
     out: &mut W,
 ) -> Result<(), PageFault>
-    ensures head { OnOk result (AddsHead problem.now.diagram problem.now.length answer.now
+    ensures head { OnOk result (AddsHead problem.now.diagram problem.now.length by_journeys answer.now
         (W.held out.old) (W.held out.new)) }
     ensures runs { OnOk result (W.has_failed out.new ≡ false) }
     ensures err { IfErr result (IsShowingFault (W.has_failed out.new)) }
@@ -108,7 +150,7 @@ fn write_page<W: Sink>(
     if log.is_lost {
         return Err(PageFault::Memory);
     }
-    match show(problem, answer, log, out) {
+    match show(problem, by_journeys, answer, log, out) {
         Ok(()) => Ok(()),
         Err(Refused) => Err(PageFault::Write),
     }
@@ -117,8 +159,9 @@ fn write_page<W: Sink>(
 /// Checks a certificate of a problem, and writes a page that shows it: one file of HTML, which needs nothing else, with
 /// at most so many expanded nodes of the tree of the stated length, and of the shorter ones together. docs/FORMATS.md
 /// says what stands there. Ok means that some list of games is the exact answer to the problem, that the certificate
-/// proves it, and that the page begins with the head of just that answer: the diagram, the verdict, what was checked,
-/// and each game. No clause speaks of what follows. Nothing is written before the check has said yes.
+/// proves it, and that the page begins with the head of just that answer: the diagram, the word `--journeys` where the
+/// bound by journeys is among those handed in, the verdict, what was checked, and each game. No clause speaks of what
+/// follows. Nothing is written before the check has said yes.
 ///
 /// The certificate is read once, as `answer` reads it. The games, the named nodes and the lines of the trees take their
 /// room from `alloc`; nothing else takes memory.
@@ -141,7 +184,8 @@ pub fn page<R: Source, W: Sink>(
         problem.now.diagram problem.now.length) }
     ensures head { OnOk result (IsShown
         (terms (rules_by code_of excluded bounds.now) max_records max_named (R.left source.old))
-        problem.now.diagram problem.now.length (W.held out.old) (W.held out.new)) }
+        problem.now.diagram problem.now.length (has_journeys code_of bounds.now)
+        (W.held out.old) (W.held out.new)) }
     ensures silent { (W.held out.new ≡ W.held out.old) ⊎ HasAnswer
         (terms (rules_by code_of excluded bounds.now) max_records max_named (R.left source.old))
         problem.now.diagram problem.now.length }
@@ -164,7 +208,8 @@ pub fn page<R: Source, W: Sink>(
         max_named,
     ) {
         Ok(answer) => {
-            match write_page(problem, &answer, &mut log, out) {
+            let by_journeys = has_journeys(bounds);
+            match write_page(problem, by_journeys, &answer, &mut log, out) {
                 Ok(()) => Ok(()),
                 Err(fault) => Err(fault),
             }

@@ -1,7 +1,7 @@
 //! The part of the page that shows the proof: what stands there, and the script that fills it. The script plays the
 //! moves that it is given on a board and never judges whether a move is legal.
 
-// What the script fills.
+// What the script fills, and below it the command that checks the certificate, up to the word that this takes.
 pub(crate) const VIEWER: &str = "<h2>The proof</h2>
 <p class='hint'>Choose a move to go on. The arrow keys do the same: left is back, right goes on along the chosen \
 game, or else by the first move that leads on. The address of this page keeps the moves so far, so a line can be \
@@ -19,8 +19,7 @@ title='to the end of the game'>&#187;</button></div>
 <ul id='shorter'></ul>
 <p class='small'>The verdict is proved: <code>pg</code> writes a page only where its proved check of the certificate \
 has said yes. The explanations on this page are not proved; they are the words of <code>pg why</code>, from the same \
-certificate. Who wants to be sure runs <code>pg check</code>.</p>
-";
+certificate. Who wants to be sure runs <code>pg answer CERT";
 
 // The script. It folds the lines of the trees (docs/FORMATS.md) into nodes, and shows the one at which the reader
 // stands. What is said of a node it has from these lines and from the element `phrases`.
@@ -248,7 +247,8 @@ pub(crate) const SCRIPT: &str = "'use strict';
   // ---- What is shown.
 
   function question() {
-    return \"pg why CERT '\" + (path.length ? movetext(sansOf(path), ' ') : '-') + \"'\";
+    var said = \"pg why CERT '\" + (path.length ? movetext(sansOf(path), ' ') : '-') + \"'\";
+    return problem.word ? said + ' ' + problem.word : said;
   }
 
   function showLine() {

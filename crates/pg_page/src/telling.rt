@@ -3,6 +3,7 @@
 ghost use Rattle.std.specs.Prelude.{◌≡◌, ◌++◌, codes};
 ghost use Rattle.pg_certificate.specs.Pushing.{Adds, Grows, MayPush, Pushes};
 ghost use Rattle.pg_page.specs.Escaping.{escaped};
+ghost use Rattle.pg_page.specs.Lines.{leaf_mark};
 
 use crate::floors::Tree;
 use crate::lines::{MoveText, move_text, write_escaped};
@@ -135,7 +136,9 @@ fn count_child(told: &mut Told, said: &Bare) {
 }
 
 // What stands behind the move of a leaf: whether it leads to the diagram.
-fn leaf_mark(hit: bool) -> &'static str {
+fn leaf_mark(hit: bool) -> &'static str
+    ensures { result.now ≡ leaf_mark hit }
+{
     if hit { "*" } else { "," }
 }
 

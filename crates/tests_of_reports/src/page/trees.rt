@@ -63,6 +63,11 @@ two-orders | 1.5 | 9 | 1 two-orders 1.5 | 01*443 => \
 two-orders | 1.5 | 9 | 1 two-orders 1.5 | 01*443 => <li><span data-moves=\"LTd3 0se6 MUe3 \">1. d3 e6 2. e3</span></li>
 after-e4 | 0.5 | 9 | 2 after-e4 0.5 | 01 => data-start=\"at the start\" data-after=\"after \"
 after-e4 | 0.5 | 9 | 2 after-e4 0.5 | 01 => data-excluded=\"excluded: \"
+after-e4 | 0.5 | 9 | 2 after-e4 0.5 | 01 => Who wants to be sure runs <code>pg answer CERT</code>.
+rnbqkbnr/pppppppp/8/8/8/2N2N2/PPPPPPPP/R1BQKB1R | 0.5 | 9 | 2 rnbqkbnr/pppppppp/8/8/8/2N2N2/PPPPPPPP/R1BQKB1R 0.5 | \
+    0205 | journeys => data-length=\"0.5\" data-plies=\"1\" data-word=\"--journeys\">
+rnbqkbnr/pppppppp/8/8/8/2N2N2/PPPPPPPP/R1BQKB1R | 0.5 | 9 | 2 rnbqkbnr/pppppppp/8/8/8/2N2N2/PPPPPPPP/R1BQKB1R 0.5 | \
+    0205 | journeys => Who wants to be sure runs <code>pg answer CERT --journeys</code>.
 after-e4 | 0.5 | 9 | 2 after-e4 0.5 | 01 => data-untold=\"expanded, with no game below\"
 array | 0.0 | 9 | 1 array 0.0 |  => <li><span data-moves=\"\">-</span></li>";
 

@@ -1,7 +1,9 @@
-use Rattle.std.proofs.Common.{inr}
+use Rattle.std.proofs.Common.{inr, subst}
+use Rattle.std.specs.Prelude.{Bool}
 use Rattle.pg_checker.specs.Cuts.{any_rules_by, rules_by}
 use Rattle.pg_checker.specs.Terms.{terms}
 use Rattle.pg_checker.specs.Answering.{failures}
+use Rattle.pg_page.specs.Page.{AddsHead}
 use Rattle.pg_page.proofs.PageLemmas.{unshown}
 use Rattle.pg_page.proofs.paging.page.Goals as goal
 
@@ -12,7 +14,12 @@ pub returns-in-Ok-write_page-clause-right : goal.returns-in-Ok-write_page-clause
 returns-in-Ok-write_page-clause-right g c = (c.in-Ok.answer, c.in-Ok.ensures.headline, c.in-Ok.ensures.accepted)
 
 pub returns-in-Ok-write_page-clause-head : goal.returns-in-Ok-write_page-clause-head
-returns-in-Ok-write_page-clause-head g c = (c.in-Ok.answer, c.in-Ok.ensures.headline, c.in-Ok.ensures.accepted, c.in-Ok-write_page.ensures.head)
+returns-in-Ok-write_page-clause-head g c = (
+  c.in-Ok.answer,
+  c.in-Ok.ensures.headline,
+  c.in-Ok.ensures.accepted,
+  subst (λ (b : Bool). AddsHead c.args.problem.now.diagram c.args.problem.now.length b c.in-Ok.answer (g.W.Sink.held c.args.out.now) (g.W.Sink.held c.write_page.new.out)) c.has_journeys-by_journeys.ensures c.in-Ok-write_page.ensures.head,
+)
 
 pub returns-in-Ok-write_page-clause-silent : goal.returns-in-Ok-write_page-clause-silent
 returns-in-Ok-write_page-clause-silent g c = inr (c.in-Ok.answer, c.in-Ok.ensures.headline, c.in-Ok.ensures.accepted)
